@@ -1,0 +1,21 @@
+//! What BPF programs mean, as RFC 9669 defines it: the types of registers, instructions and values,
+//! and, as definitions in `specs/`, what an instruction does to registers, stack and maps, steps
+//! and runs of a program, and what a host may answer.
+//!
+//! Everything above speaks of programs by these words. Nothing here reads bytes or runs anything:
+//! `scx_isa` reads programs, and `scx_vm` runs them.
+#![tactic(auto)]
+
+mod callbacks;
+mod instructions;
+mod laws;
+mod outside;
+mod registers;
+mod values;
+
+pub use callbacks::Callback;
+pub use instructions::{Insn, Operand, Operation, Width};
+pub use laws::run_has_one_outcome;
+pub use outside::{Field, Helper, TaskId};
+pub use registers::Register;
+pub use values::{Place, Pointer, Value};

@@ -1,0 +1,30 @@
+use crate::outside::TaskId;
+
+/// Where a pointer points.
+#[derive(Clone, Copy, Debug, PartialEq, Eq)]
+pub enum Pointer {
+    /// A place of the stack, 0 to 512; 512 is its top, past the last byte.
+    Stack(u16),
+    Task(TaskId),
+    Map(u8),
+    /// An element of a map: the map, the byte within the element, and the element's index.
+    Element(u8, u16, u32),
+}
+
+/// What a register holds.
+#[derive(Clone, Copy, Debug, PartialEq, Eq)]
+pub enum Value {
+    /// Nothing yet: reading it has no meaning.
+    Unset,
+    Number(u64),
+    Pointer(Pointer),
+}
+
+/// What one byte of the stack holds.
+#[derive(Clone, Copy, Debug, PartialEq, Eq)]
+pub enum Place {
+    Unwritten,
+    Byte(u8),
+    /// A part of a stored pointer, 0 to 7.
+    Part(Pointer, u8),
+}
