@@ -1,0 +1,8 @@
+pub mod Slots
+pub mod Opcodes
+pub mod Spelling
+pub mod Faults
+pub mod Reading
+pub mod FirstFault
+pub mod Flow
+pub mod Laws

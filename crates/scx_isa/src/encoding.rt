@@ -1,0 +1,54 @@
+ghost use Rattle.std.specs.Prelude.{◌≡◌, ◌++◌, ◌≤◌, false, length, IfOk, OnOk};
+ghost use Rattle.std.specs.List.{flat_map};
+ghost use Rattle.std.specs.Option.{ForSome};
+ghost use Rattle.scx_isa.specs.Slots.{slot_bytes};
+ghost use Rattle.scx_isa.specs.Spelling.{HasFields, IsProgram, Spells, insn_slots, place_slots, spelling};
+
+use crate::program::Program;
+use crate::slots::{SLOT_BYTES, push_slot};
+use crate::spelling::{first_slot_of, second_slot_of};
+use scx_semantics::Insn;
+use std::alloc::{AllocError, Global};
+
+/// Writes the slots of an instruction at the end.
+fn push_insn(out: &mut Vec<u8>, insn: &Insn) -> Result<(), AllocError>
+    requires { HasFields insn.now }
+    ensures { OnOk result (out.new.items ≡ out.old.items ++ flat_map slot_bytes (insn_slots insn.now)) }
+{
+    push_slot(out, &first_slot_of(insn))?;
+    if let Some(half) = second_slot_of(insn) {
+        push_slot(out, &half)?;
+    }
+    Ok(())
+}
+
+/// Writes the slots of what stands at a slot; a second half is written with its first.
+fn push_place(out: &mut Vec<u8>, place: &Option<Insn>) -> Result<(), AllocError>
+    requires { ForSome place.now HasFields }
+    ensures { OnOk result (out.new.items ≡ out.old.items ++ flat_map slot_bytes (place_slots place.now)) }
+{
+    match place {
+        Some(insn) => push_insn(out, insn),
+        None => Ok(()),
+    }
+}
+
+/// The bytes of the places of a program.
+fn write(alloc: Global, places: &[Option<Insn>]) -> Result<Vec<u8>, AllocError>
+    requires { IsProgram places.now }
+    ensures { IfOk result (λ bytes. bytes.items ≡ spelling places.now) }
+{
+    let mut bytes = Vec::with_capacity(alloc, SLOT_BYTES * places.len())?;
+    for place in places {
+        push_place(&mut bytes, place)?;
+    }
+    Ok(bytes)
+}
+
+/// The bytes that spell the program (RFC 9669, section 3). `decode` gives it back from them, and from
+/// no other bytes.
+pub fn encode(alloc: Global, program: &Program) -> Result<Vec<u8>, AllocError>
+    ensures { IfOk result (λ bytes. Spells bytes.items program.now) }
+{
+    write(alloc, program.places())
+}

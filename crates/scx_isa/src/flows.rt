@@ -1,0 +1,66 @@
+ghost use Rattle.std.specs.Prelude.{◌≡◌, ◌<◌, ◌≤◌, OnOk, IfErr};
+ghost use Rattle.scx_semantics.specs.Code.{at};
+ghost use Rattle.scx_isa.specs.Flow.{jump_fault, end_fault, place_fault, Flows, IsFirstFlowFault, StaysInControl};
+
+use crate::faults::{FlowError, FlowFault};
+use crate::program::{MAX_SLOTS, Program};
+use scx_semantics::Insn;
+
+/// Asks whether every jump goes forward to an instruction of the program, and whether control can't
+/// fall off its end. All instructions are looked at, also those that nothing leads to; the first
+/// faulty one is refused, with the first of its faults.
+pub fn flow(program: &Program) -> Result<(), FlowError>
+    ensures accepted { OnOk result (Flows program.now) }
+    ensures controlled { OnOk result (StaysInControl program.now) }
+    ensures refused { IfErr result (λ error. IsFirstFlowFault program.now error.fault error.slot) }
+{
+    for slot in 0..program.slots() {
+        if let Some(fault) = fault_at(program, slot) {
+            return Err(FlowError { fault, slot });
+        }
+    }
+    Ok(())
+}
+
+/// The fault of the instruction at a slot, if one begins there.
+fn fault_at(program: &Program, slot: usize) -> Option<FlowFault>
+    requires { slot < MAX_SLOTS }
+    ensures { result ≡ place_fault program.now slot (at program.now slot) }
+{
+    let insn = program.at(slot)?;
+    let behind = slot + insn.size();
+    match insn {
+        Insn::Binary(..) | Insn::Constant(..) => fault_of_end(program, behind),
+        Insn::Goto(offset) => fault_of_jump(program, behind, offset),
+        Insn::Exit => None,
+    }
+}
+
+/// The fault of an instruction that goes on to that slot.
+fn fault_of_end(program: &Program, slot: usize) -> Option<FlowFault>
+    ensures { result ≡ end_fault program.now slot }
+{
+    if slot == program.slots() {
+        Some(FlowFault::FallsOff)
+    } else {
+        None
+    }
+}
+
+/// The fault of a jump of that distance, counted from the slot behind it.
+fn fault_of_jump(program: &Program, behind: usize, offset: i16) -> Option<FlowFault>
+    requires { behind ≤ MAX_SLOTS }
+    ensures { result ≡ jump_fault program.now behind offset }
+{
+    if offset < 0 {
+        return Some(FlowFault::BackJump);
+    }
+    let target = behind + offset as usize;
+    if target >= program.slots() {
+        Some(FlowFault::OutOfProgram)
+    } else if program.at(target).is_none() {
+        Some(FlowFault::IntoWide)
+    } else {
+        None
+    }
+}

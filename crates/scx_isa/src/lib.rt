@@ -1,0 +1,31 @@
+//! BPF programs in bytes (RFC 9669, sections 3 to 5).
+//!
+//! `decode` reads the program that bytes spell, or names the first fault and its slot. It alone makes
+//! a `Program`. `encode` gives back the one list of bytes that spells it. `flow` asks whether its
+//! jumps go forward, to instructions, and whether control can't fall off its end.
+//!
+//! The types of instructions and what programs mean stand in `scx_semantics`; the types are passed on
+//! here.
+#![tactic(auto)]
+
+mod decoding;
+mod encoding;
+mod faults;
+mod flows;
+mod forms;
+mod laws;
+mod program;
+mod reading;
+mod slots;
+mod spelling;
+
+pub use decoding::decode;
+pub use encoding::encode;
+pub use faults::{DecodeError, DecodeFault, Exclusion, FlowError, FlowFault};
+pub use flows::flow;
+pub use laws::spelling_is_one_to_one;
+pub use program::{MAX_SLOTS, Program};
+pub use scx_semantics::{
+    Callback, Field, Helper, Insn, Operand, Operation, Place, Pointer, Register, TaskId, Value,
+    Width,
+};

@@ -1,0 +1,84 @@
+ghost use Rattle.std.specs.Prelude.{◌≡◌, ◌≤◌, length, count_by, is_some};
+ghost use Rattle.scx_semantics.specs.Code.{at, instruction_count};
+ghost use Rattle.scx_isa.specs.Spelling.{IsProgram};
+
+use scx_semantics::Insn;
+use std::marker::Model;
+
+/// The most slots that a program may have.
+pub const MAX_SLOTS: usize = 4096;
+
+/// A program of 1 to 4096 slots, which `decode` alone makes.
+///
+/// In a contract it is the list of its slots: the instruction that begins at each, or none in the
+/// second half of a wide one.
+#[derive(Debug, Drop)]
+pub struct Program {
+    code: Vec<Option<Insn>>,
+    instructions: usize,
+}
+
+impl Model for Program {
+    ghost use Rattle.std.specs.Prelude.{◌≡◌};
+    ghost use Rattle.scx_semantics.specs.Code.{Code, instruction_count};
+    ghost use Rattle.scx_isa.specs.Spelling.{IsProgram};
+
+    ghost Value = { Code };
+
+    ghost view = { λ p. p.code.items };
+
+    ghost invariant = { λ p. IsProgram p.code.items × (p.instructions ≡ instruction_count p.code.items) };
+}
+
+impl Program {
+    #[tactic(auto, using(crate::proofs::Codes::count_is))]
+    pub(crate) fn new(code: Vec<Option<Insn>>) -> Program
+        requires { IsProgram code.items }
+        ensures { result ≡ code.items }
+    {
+        let instructions = count(&code);
+        Program { code, instructions }
+    }
+
+    /// What stands at each slot.
+    pub(crate) fn places(&self) -> &[Option<Insn>]
+        ensures places { result.now ≡ self.now }
+        ensures program { IsProgram self.now }
+    {
+        &self.code
+    }
+
+    /// How many slots it has; a wide instruction takes two.
+    pub fn slots(&self) -> usize
+        ensures slots { result ≡ length self.now }
+        ensures within { result ≤ MAX_SLOTS }
+        ensures program { IsProgram self.now }
+    {
+        self.code.len()
+    }
+
+    /// How many instructions it has.
+    pub fn instructions(&self) -> usize
+        ensures { result ≡ instruction_count self.now }
+    {
+        self.instructions
+    }
+
+    /// The instruction that begins at the slot; `None` in a second half and past the end.
+    pub fn at(&self, slot: usize) -> Option<Insn>
+        ensures { result ≡ at self.now slot }
+    {
+        if slot < self.code.len() {
+            self.code[slot]
+        } else {
+            None
+        }
+    }
+}
+
+/// How many instructions stand in the slots.
+fn count(code: &[Option<Insn>]) -> usize
+    ensures { result ≡ count_by is_some code.now }
+{
+    code.iter().filter(|place| place.is_some()).count()
+}
