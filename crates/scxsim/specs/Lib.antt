@@ -1,0 +1,5 @@
+pub mod Output
+pub mod Refusals
+pub mod Outcome
+pub mod Lines
+pub mod Exec

@@ -1,0 +1,97 @@
+//! The program `scxsim`, which runs BPF programs. Its words are read by `words`, a command's work
+//! is in a file of its name, as `exec`, and what ends a command is in `finish`.
+#![tactic(auto)]
+
+ghost use Rattle.std.specs.Prelude.{◌≡◌, ◌⊎◌};
+ghost use Rattle.std.specs.Io.KnownBytes.{Appends};
+ghost use Rattle.scxsim.specs.Output.{HasFailed};
+
+mod counted;
+mod exec;
+mod fault;
+mod file;
+mod finish;
+mod lines;
+mod out;
+#[cfg(test)]
+mod program_tests;
+mod status;
+#[cfg(test)]
+mod tests;
+mod words;
+
+use clap::error::ErrorKind as WordsErrorKind;
+use counted::Counted;
+use fault::{Fault, Refusal};
+use file::read_file;
+use out::{Out, write_all};
+use status::{FAILED, USAGE};
+use std::alloc::Global;
+use std::io::ErrorKind;
+use std::process::ExitCode;
+use std::rt::{Env, Files};
+use std::{env, io};
+
+const NO_MEMORY: Result<bool, Fault> = Err(Fault::Refused(Refusal::NoMemory));
+
+fn main(rt: HostRuntime) -> ExitCode {
+    let mut out = Counted::new(io::writer(&rt));
+    ExitCode::from(run(&rt, &mut out))
+}
+
+/// Does what the process's words ask for, and answers its status.
+fn run<R: AllocGlobal + Env + Files, W: Out>(rt: &R, out: &mut W) -> u8 {
+    match words_of(rt) {
+        Ok(words) => run_words(rt, words.as_slice(), out),
+        Err(error) if error.kind() == ErrorKind::OutOfMemory => finish::finish(NO_MEMORY, out),
+        Err(_) => write_usage("error: a word is not UTF-8\n", out),
+    }
+}
+
+fn words_of<R: AllocGlobal + Env>(rt: &R) -> io::Result<Vec<String>> {
+    Ok(env::args(rt)?.collect(rt.alloc())?)
+}
+
+fn run_words<R: AllocGlobal + Files, W: Out>(rt: &R, words: &[String], out: &mut W) -> u8 {
+    match words::program_path(rt.alloc(), words) {
+        Ok(Some(path)) => exec_file(rt, path, out),
+        Ok(None) => USAGE,
+        Err(error) if error.kind() == WordsErrorKind::OutOfMemory => finish::finish(NO_MEMORY, out),
+        Err(error) => explain_usage(rt.alloc(), &error, out),
+    }
+}
+
+/// Runs the program in a file.
+fn exec_file<R: AllocGlobal + Files, W: Out>(rt: &R, path: &str, out: &mut W) -> u8 {
+    match read_file(rt, path) {
+        Ok(bytes) => {
+            let outcome = exec::exec(rt.alloc(), bytes.as_slice(), out);
+            finish::finish(outcome, out)
+        }
+        Err(error) if error.kind() == ErrorKind::OutOfMemory => finish::finish(NO_MEMORY, out),
+        Err(_) => {
+            let _ = lines::write_unread(path, out);
+            FAILED
+        }
+    }
+}
+
+/// Writes why `clap` refused the words, or the help that they ask for.
+fn explain_usage<W: Out>(alloc: Global, error: &clap::Error, out: &mut W) -> u8 {
+    match error.to_string(alloc) {
+        Ok(text) => write_usage(text.as_str(), out),
+        Err(_) => finish::finish(NO_MEMORY, out),
+    }
+}
+
+fn write_usage<W: Out>(text: &str, out: &mut W) -> u8
+    ensures status { (result ≡ USAGE) ⊎ (result ≡ FAILED) }
+    ensures written { result ≡ USAGE → Appends (W.contents out.old) (W.contents out.new) text.now }
+    ensures failed { result ≡ FAILED
+        → HasFailed (W.failure_count out.old) (W.failure_count out.new) }
+{
+    match write_all(out, text.as_bytes()) {
+        Ok(()) => USAGE,
+        Err(_) => FAILED,
+    }
+}

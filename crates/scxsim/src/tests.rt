@@ -1,0 +1,303 @@
+use crate::counted::Counted;
+use crate::exec::exec;
+use crate::fault::{Fault, Refusal};
+use crate::file::FILE_LIMIT;
+use crate::finish::finish;
+use crate::lines::write_unread;
+use crate::out::Out;
+use crate::words::program_path;
+use scx_isa::{DecodeFault, Exclusion, FlowFault};
+use std::alloc::{AllocError, Global};
+use std::io;
+use std::io::{ErrorKind, Write};
+use std::process::Abort;
+use std::test::Fail;
+
+const EXIT: u64 = 0x9500_0000_0000_0000;
+
+/// A writer over memory that takes at most `most` bytes a call, and fails at the call `fails_at`,
+/// counted from 0: by an error, or by taking nothing.
+#[derive(Drop)]
+struct Memory {
+    bytes: Vec<u8>,
+    most: usize,
+    calls: usize,
+    fails_at: usize,
+    fails_by_zero: bool,
+}
+
+impl Memory {
+    fn new(alloc: Global) -> Self {
+        Memory::failing(alloc, usize::MAX, usize::MAX, false)
+    }
+
+    fn failing(alloc: Global, most: usize, fails_at: usize, fails_by_zero: bool) -> Self {
+        Memory {
+            bytes: Vec::new(alloc),
+            most,
+            calls: 0,
+            fails_at,
+            fails_by_zero,
+        }
+    }
+}
+
+impl Write for Memory {
+    fn write(&mut self, buf: &[u8]) -> io::Result<usize> {
+        let call = self.calls;
+        self.calls = call.saturating_add(1);
+        if call == self.fails_at {
+            return if self.fails_by_zero {
+                Ok(0)
+            } else {
+                Err(io::Error::from(ErrorKind::Other))
+            };
+        }
+        let count = buf.len().min(self.most);
+        self.bytes.extend_from_slice(&buf[..count])?;
+        Ok(count)
+    }
+
+    fn flush(&mut self) -> io::Result<()> {
+        Ok(())
+    }
+}
+
+/// The bytes of slots, each written as a number with the slot's first byte at the left.
+fn bytes_of(alloc: Global, slots: &[u64]) -> Result<Vec<u8>, AllocError> {
+    let mut bytes = Vec::new(alloc);
+    for slot in slots {
+        bytes.extend_from_slice(slot.to_be_bytes().as_slice())?;
+    }
+    Ok(bytes)
+}
+
+fn run<W: Out>(alloc: Global, bytes: &[u8], out: &mut W) -> u8 {
+    let outcome = exec(alloc, bytes, out);
+    finish(outcome, out)
+}
+
+/// Runs the bytes, and compares the line and the status.
+fn expect<R: AllocGlobal + Abort>(rt: &R, bytes: &[u8], line: &str, status: u8) {
+    let mut memory = Memory::new(rt.alloc());
+    let found = run(rt.alloc(), bytes, &mut Counted::new(&mut memory));
+    assert_eq!(rt; memory.bytes.as_slice(), line.as_bytes());
+    assert_eq!(rt; found, status, "{line}");
+}
+
+fn expect_slots<R: AllocGlobal + Abort>(
+    rt: &R,
+    slots: &[u64],
+    line: &str,
+    status: u8,
+) -> Result<(), Fail> {
+    let bytes = bytes_of(rt.alloc(), slots)?;
+    expect(rt, bytes.as_slice(), line, status);
+    Ok(())
+}
+
+#[test]
+fn answers(rt: HostRuntime) -> Result<(), Fail> {
+    let zero = [0xb700_0000_0000_0000, EXIT];
+    expect_slots(&rt, &zero, "r0 = 0 in 2 steps\n", 0)?;
+    let divided = [
+        0xb700_0000_0700_0000,
+        0xb701_0000_0000_0000,
+        0x3f10_0000_0000_0000,
+        EXIT,
+    ];
+    expect_slots(&rt, &divided, "r0 = 0 in 4 steps\n", 0)?;
+    let remainder = [
+        0xb700_0000_0700_0000,
+        0xb701_0000_0000_0000,
+        0x9f10_0000_0000_0000,
+        EXIT,
+    ];
+    expect_slots(&rt, &remainder, "r0 = 7 in 4 steps\n", 0)?;
+    let wrapped = [0xb700_0000_ffff_ffff, 0x0400_0000_0100_0000, EXIT];
+    expect_slots(&rt, &wrapped, "r0 = 0 in 3 steps\n", 0)?;
+    let jumped = [
+        0x0500_0100_0000_0000,
+        0xb700_0000_0100_0000,
+        0xb700_0000_0200_0000,
+        EXIT,
+    ];
+    expect_slots(&rt, &jumped, "r0 = 2 in 3 steps\n", 0)
+}
+
+#[test]
+fn gets_stuck(rt: HostRuntime) -> Result<(), Fail> {
+    expect_slots(&rt, &[EXIT], "stuck at 0\n", 1)
+}
+
+#[test]
+fn refuses_bytes(rt: HostRuntime) -> Result<(), Fail> {
+    expect(&rt, &[], "refused: decode 1 Empty at 0\n", 1);
+    let short = bytes_of(rt.alloc(), &[0xb700_0000_0000_0000, EXIT])?;
+    assert_eq!(rt; short.len(), 16);
+    expect(
+        &rt,
+        &short.as_slice()[..12],
+        "refused: decode 3 NotWholeSlots at 1\n",
+        1,
+    );
+    let later = [0xbf00_0000_0000_0000, EXIT];
+    expect_slots(
+        &rt,
+        &later,
+        "refused: decode 5 NotInProfile(later) at 0\n",
+        1,
+    )
+}
+
+#[test]
+fn refuses_flow(rt: HostRuntime) -> Result<(), Fail> {
+    let back = [0x0500_ffff_0000_0000, EXIT];
+    expect_slots(&rt, &back, "refused: verify 1 BackJump at 0\n", 1)?;
+    let end = [0xb700_0000_0000_0000];
+    expect_slots(&rt, &end, "refused: verify 4 FallsOff at 0\n", 1)?;
+    let past = [0x0500_0000_0000_0000];
+    expect_slots(&rt, &past, "refused: verify 2 OutOfProgram at 0\n", 1)
+}
+
+/// A program of that many slots, whose last is an exit.
+fn long_program(alloc: Global, slots: usize) -> Result<Vec<u8>, AllocError> {
+    let mut bytes = Vec::new(alloc);
+    for slot in 0..slots {
+        let next: u64 = if slot + 1 < slots {
+            0xb700_0000_0000_0000
+        } else {
+            EXIT
+        };
+        bytes.extend_from_slice(next.to_be_bytes().as_slice())?;
+    }
+    Ok(bytes)
+}
+
+#[test]
+fn limits_slots(rt: HostRuntime) -> Result<(), Fail> {
+    let longest = long_program(rt.alloc(), 4096)?;
+    expect(&rt, longest.as_slice(), "r0 = 0 in 4096 steps\n", 0);
+    let too_long = long_program(rt.alloc(), 4097)?;
+    expect(
+        &rt,
+        too_long.as_slice(),
+        "refused: decode 2 TooLong at 4096\n",
+        1,
+    );
+    Ok(())
+}
+
+#[test]
+fn limits_files(rt: HostRuntime) -> Result<(), Fail> {
+    let largest = vec![in rt.alloc(); 0u8; FILE_LIMIT]?;
+    expect(
+        &rt,
+        largest.as_slice(),
+        "refused: decode 2 TooLong at 4096\n",
+        1,
+    );
+    let too_large = vec![in rt.alloc(); 0u8; FILE_LIMIT + 1]?;
+    expect(&rt, too_large.as_slice(), "refused: too large\n", 1);
+    Ok(())
+}
+
+#[test]
+fn writes_byte_by_byte(rt: HostRuntime) -> Result<(), Fail> {
+    let bytes = bytes_of(rt.alloc(), &[0xb700_0000_0000_0000, EXIT])?;
+    let mut memory = Memory::failing(rt.alloc(), 1, usize::MAX, false);
+    assert_eq!(rt;
+        run(rt.alloc(), bytes.as_slice(), &mut Counted::new(&mut memory)),
+        0
+    );
+    assert_eq!(rt; memory.bytes.as_slice(), b"r0 = 0 in 2 steps\n".as_slice());
+    Ok(())
+}
+
+#[test]
+fn stops_at_a_failed_write(rt: HostRuntime) -> Result<(), Fail> {
+    let runs = bytes_of(rt.alloc(), &[0xb700_0000_0000_0000, EXIT])?;
+    let lines: [(&[u8], &str); 2] = [
+        (runs.as_slice(), "r0 = 0 in 2 steps\n"),
+        (&[], "refused: decode 1 Empty at 0\n"),
+    ];
+    for (bytes, line) in lines {
+        for fails_at in 0..line.len() {
+            for fails_by_zero in [false, true] {
+                let mut memory = Memory::failing(rt.alloc(), 1, fails_at, fails_by_zero);
+                let mut out = Counted::new(&mut memory);
+                assert_eq!(rt; run(rt.alloc(), bytes, &mut out), 3, "{line} at {fails_at}");
+                assert_eq!(rt; out.failures(), 1);
+                assert_eq!(rt; memory.bytes.as_slice(), &line.as_bytes()[..fails_at]);
+            }
+        }
+    }
+    Ok(())
+}
+
+#[test]
+fn finishes(rt: HostRuntime) {
+    let local_call = DecodeFault::NotInProfile(Exclusion::LocalCall);
+    let decode = Refusal::Decode {
+        fault: local_call,
+        slot: 4095,
+    };
+    let verify = Refusal::Verify {
+        fault: FlowFault::IntoWide,
+        slot: 0,
+    };
+    let ends = [
+        (Ok(true), "", 0),
+        (Ok(false), "", 1),
+        (Err(Fault::WriteFailed), "", 3),
+        (
+            Err(Fault::Refused(Refusal::TooLarge)),
+            "refused: too large\n",
+            1,
+        ),
+        (
+            Err(Fault::Refused(Refusal::NoMemory)),
+            "refused: no memory\n",
+            1,
+        ),
+        (
+            Err(Fault::Refused(decode)),
+            "refused: decode 5 NotInProfile(local call) at 4095\n",
+            1,
+        ),
+        (
+            Err(Fault::Refused(verify)),
+            "refused: verify 3 IntoWide at 0\n",
+            1,
+        ),
+    ];
+    for (outcome, line, status) in ends {
+        let mut memory = Memory::new(rt.alloc());
+        assert_eq!(rt;
+            finish(outcome, &mut Counted::new(&mut memory)),
+            status,
+            "{line}"
+        );
+        assert_eq!(rt; memory.bytes.as_slice(), line.as_bytes());
+    }
+}
+
+#[test]
+fn reports_an_unread_file(rt: HostRuntime) -> Result<(), Fail> {
+    let mut memory = Memory::new(rt.alloc());
+    write_unread("some/file.bin", &mut Counted::new(&mut memory))?;
+    assert_eq!(rt;
+        memory.bytes.as_slice(),
+        b"failed: reading some/file.bin\n".as_slice()
+    );
+    Ok(())
+}
+
+#[test]
+fn reads_words(rt: HostRuntime) -> Result<(), Fail> {
+    let asked = ["scxsim", "exec", "some/file.bin"];
+    assert_eq!(rt; program_path(rt.alloc(), &asked)?, Some("some/file.bin"));
+    let unfinished = ["scxsim", "exec"];
+    assert!(rt; program_path(rt.alloc(), &unfinished).is_err());
+    Ok(())
+}
