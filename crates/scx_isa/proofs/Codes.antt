@@ -17,7 +17,7 @@ use Rattle.std.proofs.lemmas.List.Recursion.{is_count_by}
 use Rattle.scx_semantics.specs.Code.{Code, is_wide, instruction_count}
 use Rattle.scx_isa.specs.Spelling.{first_slot, second_slot, insn_slots, place_slots, code_slots, spelling, HasFields, IsInsn, IsCode}
 use Rattle.scx_isa.specs.Reading.{first, placed, insn_at, half_at, place_at, due_after, read_slots}
-use Rattle.scx_isa.proofs.Insns.{bind_ok, is_same, same_is, HalfFits, Reads, insn_is_spelled, Follows, insn_is_read, first_is_slot, second_is_slot}
+use Rattle.scx_isa.proofs.Insns.{bind_ok, done, ok_is, is_same, same_is, HalfFits, Reads, insn_is_spelled, Follows, insn_is_read, first_is_slot, second_is_slot}
 
 pub wide_is : (i : Insn) → is_wide i ≡ is_some (second_slot i)
 wide_is (insn.Binary w o d x) = refl
@@ -28,12 +28,6 @@ wide_is insn.Exit = refl
 placed_ok : {A : Type 0} (k : ℕ) (r : Result A DecodeFault) (x : A) → placed k r ≡ Ok x → r ≡ Ok x
 placed_ok k (Ok y) x e = let same : y ≡ x = cc in ap (λ z. Ok z) same
 placed_ok k (Err d) x e = absurd (cc)
-
-abbrev done : {A E : Type 0} → A → Result A E
-done x = Ok x
-
-ok_is : {A E : Type 0} (x y : A) → done {E = E} x ≡ done y → x ≡ y
-ok_is x y e = cc
 
 -- instructions are counted as the places that hold one
 pub count_is : (code : Code) → instruction_count code ≡ count_by is_some code

@@ -38,10 +38,10 @@ pub ok_or_ok : {A E : Type 0} (o : Option A) (d : E) (x : A) → ok_or o d ≡ O
 ok_or_ok (Some y) d x e = let same : y ≡ x = cc in ap (λ z. Some z) same
 ok_or_ok None d x e = absurd (cc)
 
-abbrev done : {A E : Type 0} → A → Result A E
+abbrev pub done : {A E : Type 0} → A → Result A E
 done x = Ok x
 
-ok_is : {A E : Type 0} (x y : A) → done {E = E} x ≡ done y → x ≡ y
+pub ok_is : {A E : Type 0} (x y : A) → done {E = E} x ≡ done y → x ≡ y
 ok_is x y e = cc
 
 -- both tests hold

@@ -3,7 +3,8 @@
 -- so far stand in `forms_read`. The other opcodes of the profile, which is the conformance groups
 -- base32, base64, divmul32 and divmul64 (section 2.4), are refused by the name `later`, and what the
 -- profile leaves out by a name of its own.
-use Rattle.std.specs.Prelude.{ℕ, ◌+◌, ◌*◌, ◌/◌, ◌%◌, Bool, false, ◌&&◌, ◌||◌, not, nat_eq, nat_le, List, [], ◌∷◌, Option, Some, None, Result, ok_or, unwrap_or, if◌then◌else◌}
+use Rattle.std.specs.Prelude.{ℕ, ◌+◌, ◌*◌, ◌/◌, ◌%◌, Bool, ◌&&◌, ◌||◌, not, nat_eq, nat_le, List, [], ◌∷◌, Option, Some, None, Result, ok_or, unwrap_or, if◌then◌else◌}
+use Rattle.std.specs.List.{list_any}
 use Rattle.scx_semantics.specs.declared.instructions.Insn.{Insn}
 use Rattle.scx_semantics.specs.declared.instructions.Insn.TheVariants as insn
 use Rattle.scx_semantics.specs.declared.instructions.Width.{Width}
@@ -79,8 +80,7 @@ form_among [] n = None
 form_among (f ∷ fs) n = if nat_eq n (opcode f) then Some f else form_among fs n
 
 abbrev pub among : List ℕ → ℕ → Bool
-among [] n = false
-among (m ∷ ms) n = nat_eq n m || among ms n
+among ns n = list_any (λ m. nat_eq n m) ns
 
 -- the value that stands in a table's row for the number
 abbrev pub look_up : {A : Type 0} → List (ℕ × A) → ℕ → Option A

@@ -1,5 +1,5 @@
 ghost use Rattle.std.specs.Prelude.{◌≡◌, None, ◌*◌, ◌/◌, ◌%◌, length, IfOk, IfErr, Ok};
-ghost use Rattle.scx_isa.specs.Slots.{slots_in};
+ghost use Rattle.scx_isa.specs.Slots.{slots_in, front_slot};
 ghost use Rattle.scx_semantics.specs.Code.{Code};
 ghost use Rattle.scx_isa.specs.Spelling.{Spells};
 ghost use Rattle.scx_isa.specs.FirstFault.{IsRefusal};
@@ -8,7 +8,7 @@ ghost use Rattle.scx_isa.specs.Reading.{Gives, placed, place_at, read_slots, rea
 use crate::faults::{DecodeError, DecodeFault};
 use crate::program::{MAX_SLOTS, Program};
 use crate::reading::{due_behind, place_of};
-use crate::slots::{SLOT_BYTES, Slot, first_of, slot_of};
+use crate::slots::{SLOT_BYTES, Slot, slot_of};
 use scx_semantics::Insn;
 use std::alloc::Global;
 
@@ -17,16 +17,13 @@ fn place_at_number(
     number: usize,
     due: Option<Slot>,
     slot: &Slot,
-    next: Option<Slot>,
+    behind: &[u8],
 ) -> Result<Option<Insn>, DecodeError>
-    ensures { Gives (λ place. place) result (placed number (place_at due slot.now next)) }
+    ensures { Gives (λ place. place) result (placed number (place_at due slot.now (front_slot behind.now))) }
 {
-    match place_of(due, slot, next) {
+    match place_of(due, slot, behind) {
         Ok(place) => Ok(place),
-        Err(fault) => Err(DecodeError::Refused {
-            fault,
-            slot: number,
-        }),
+        Err(fault) => refused(fault, number),
     }
 }
 
@@ -41,7 +38,7 @@ fn read(alloc: Global, bytes: &[u8]) -> Result<Vec<Option<Insn>>, DecodeError>
     let mut due = None;
     for number in 0..slots {
         let (_, behind) = rest.split_at(SLOT_BYTES);
-        let place = place_at_number(number, due, &slot_of(rest), first_of(behind))?;
+        let place = place_at_number(number, due, &slot_of(rest), behind)?;
         due = due_behind(&place);
         code.push(place)?;
         rest = behind;

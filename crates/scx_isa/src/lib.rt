@@ -26,6 +26,6 @@ pub use flows::flow;
 pub use laws::spelling_is_one_to_one;
 pub use program::{MAX_SLOTS, Program};
 pub use scx_semantics::{
-    Callback, Field, Helper, Insn, Operand, Operation, Place, Pointer, Register, TaskId, Value,
+    Callback, Field, Helper, Insn, Operand, Operation, Pointer, Register, StackByte, TaskId, Value,
     Width,
 };

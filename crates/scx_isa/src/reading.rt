@@ -1,24 +1,21 @@
 ghost use Rattle.std.specs.Prelude.{◌≡◌, ok_or};
 ghost use Rattle.scx_semantics.specs.Registers.{register_at};
+ghost use Rattle.scx_isa.specs.Slots.{front_slot};
 ghost use Rattle.scx_isa.specs.Reading.{operation_at, operand_at, built, whole, insn_at, half_at, place_at, due_after};
 
 use crate::faults::DecodeFault;
 use crate::forms::{Form, Source, form_at};
-use crate::slots::Slot;
+use crate::slots::{Slot, first_of};
 use crate::spelling::{first_slot_of, second_slot_of};
 use scx_semantics::{Insn, Operand, Operation, Register};
 
 /// What stands at a slot: the second half that is due there, or an instruction.
-pub fn place_of(
-    due: Option<Slot>,
-    slot: &Slot,
-    next: Option<Slot>,
-) -> Result<Option<Insn>, DecodeFault>
-    ensures { result ≡ place_at due slot.now next }
+pub fn place_of(due: Option<Slot>, slot: &Slot, behind: &[u8]) -> Result<Option<Insn>, DecodeFault>
+    ensures { result ≡ place_at due slot.now (front_slot behind.now) }
 {
     match due {
         Some(due) => check_half(slot, &due),
-        None => Ok(Some(insn_of(slot, next)?)),
+        None => Ok(Some(insn_of(slot, behind)?)),
     }
 }
 
@@ -29,13 +26,13 @@ pub fn due_behind(place: &Option<Insn>) -> Option<Slot>
     second_slot_of(place.as_ref()?)
 }
 
-/// The instruction that begins at a slot, with the slot behind it, if any.
-fn insn_of(slot: &Slot, next: Option<Slot>) -> Result<Insn, DecodeFault>
-    ensures { result ≡ insn_at slot.now next }
+/// The instruction that begins at a slot, with the bytes behind it.
+fn insn_of(slot: &Slot, behind: &[u8]) -> Result<Insn, DecodeFault>
+    ensures { result ≡ insn_at slot.now (front_slot behind.now) }
 {
     let form = form_at(slot.opcode, slot.source)?;
-    let insn = build(form, slot, next)?;
-    checked(slot, next, insn)
+    let insn = build(form, slot, behind)?;
+    checked(slot, behind, insn)
 }
 
 /// Refuses a slot that isn't the second half that is due.
@@ -50,21 +47,21 @@ fn check_half(slot: &Slot, due: &Slot) -> Result<Option<Insn>, DecodeFault>
 }
 
 /// The instruction, if nothing stands in the slot that it doesn't use and its second half is there.
-fn checked(slot: &Slot, next: Option<Slot>, insn: Insn) -> Result<Insn, DecodeFault>
-    ensures { result ≡ whole slot.now next insn }
+fn checked(slot: &Slot, behind: &[u8], insn: Insn) -> Result<Insn, DecodeFault>
+    ensures { result ≡ whole slot.now (front_slot behind.now) insn }
 {
     if *slot != first_slot_of(&insn) {
         return Err(DecodeFault::UnusedField);
     }
-    if second_slot_of(&insn).is_some() && next.is_none() {
+    if second_slot_of(&insn).is_some() && first_of(behind).is_none() {
         return Err(DecodeFault::HalfWide);
     }
     Ok(insn)
 }
 
 /// The instruction of a form with a slot's fields.
-fn build(form: Form, slot: &Slot, next: Option<Slot>) -> Result<Insn, DecodeFault>
-    ensures { result ≡ built form slot.now next }
+fn build(form: Form, slot: &Slot, behind: &[u8]) -> Result<Insn, DecodeFault>
+    ensures { result ≡ built form slot.now (front_slot behind.now) }
 {
     match form {
         Form::Binary(width, operation, source) => {
@@ -75,7 +72,7 @@ fn build(form: Form, slot: &Slot, next: Option<Slot>) -> Result<Insn, DecodeFaul
         }
         Form::Constant => {
             let destination = register(slot.destination)?;
-            let high = next.map_or(0, |half| half.immediate);
+            let high = first_of(behind).map_or(0, |half| half.immediate);
             Ok(Insn::Constant(
                 destination,
                 slot.immediate.cast_signed(),

@@ -3,25 +3,25 @@ use Rattle.std.proofs.Common.{◌≡◌, ℕ, zero, suc, refl, sym, ap, ◌∙�
 use Rattle.scx_semantics.specs.declared.callbacks.Callback.{Callback}
 use Rattle.scx_semantics.specs.Code.{Code}
 use Rattle.scx_semantics.specs.Machine.{Machine, start}
-use Rattle.scx_semantics.specs.Steps.{Outcome, Trapped, Goes, Asks, Ends, step}
+use Rattle.scx_semantics.specs.Steps.{Outcome, Stuck, Goes, Asks, Ends, step}
 use Rattle.scx_semantics.specs.Runs.{LeadsTo, Leads, silent}
 use Rattle.scx_semantics.specs.Laws.{OneEnd, OneStuck, EndsOrGetsStuck}
 
 -- no step leads on
 abbrev IsFinal : Outcome → Type 0
-IsFinal Trapped = Unit {0}
+IsFinal Stuck = Unit {0}
 IsFinal (Goes t m) = ⊥
 IsFinal (Asks q t go) = ⊥
 IsFinal (Ends n) = Unit {0}
 
 final_stays : (o : Outcome) (t : ℕ) (k : Machine) → IsFinal o → LeadsTo silent o tt t k tt → ⊥
-final_stays Trapped t k f l = l
+final_stays Stuck t k f l = l
 final_stays (Goes s m) t k f l = f
 final_stays (Asks q s go) t k f l = f
 final_stays (Ends n) t k f l = l
 
 one_step : (o : Outcome) (t t' : ℕ) (k k' : Machine) → LeadsTo silent o tt t k tt → LeadsTo silent o tt t' k' tt → (t ≡ t') × (k ≡ k')
-one_step Trapped t t' k k' l l' = absurd l
+one_step Stuck t t' k k' l l' = absurd l
 one_step (Goes s m) t t' k k' l l' = (l.0 ∙ sym l'.0, l.1 ∙ sym l'.1)
 one_step (Asks q s go) t t' k k' l l' = absurd l.1
 one_step (Ends n) t t' k k' l l' = absurd l
@@ -58,8 +58,8 @@ one_end c code (suc n) (suc n') s m t t' k k' l f l' f' =
 ends_final : (o : Outcome) (n : ℕ) → o ≡ Ends n → IsFinal o
 ends_final o n e = rw e tt
 
-trapped_final : (o : Outcome) → o ≡ Trapped → IsFinal o
-trapped_final o e = rw e tt
+stuck_final : (o : Outcome) → o ≡ Stuck → IsFinal o
+stuck_final o e = rw e tt
 
 same_answer : (n n' : ℕ) → Ends n ≡ Ends n' → n ≡ n'
 same_answer n n' e = cc
@@ -73,12 +73,12 @@ ends_once c code a maps answer answer' steps steps' left left' r r' =
 
 pub stuck_once : OneStuck
 stuck_once c code a maps slot slot' steps steps' g g' =
-    let same = one_end c code steps steps' 0 (start a maps) slot slot' g.state g'.state g.leads (trapped_final _ g.stuck) g'.leads (trapped_final _ g'.stuck) in
+    let same = one_end c code steps steps' 0 (start a maps) slot slot' g.state g'.state g.leads (stuck_final _ g.stuck) g'.leads (stuck_final _ g'.stuck) in
     (same.slot, same.steps)
 
 pub not_both : EndsOrGetsStuck
 not_both c code a maps answer steps slot steps' left r g =
-    let same = one_end c code r.before steps' 0 (start a maps) r.slot slot r.state g.state r.leads (ends_final _ _ r.ends) g.leads (trapped_final _ g.stuck) in
+    let same = one_end c code r.before steps' 0 (start a maps) r.slot slot r.state g.state r.leads (ends_final _ _ r.ends) g.leads (stuck_final _ g.stuck) in
     let here : step c code r.slot r.state ≡ step c code slot g.state = ap (λ s. step c code s r.state) same.slot ∙ ap (λ k. step c code slot k) same.state in
-    let bad : Ends answer ≡ Trapped = sym r.ends ∙ here ∙ g.stuck in
+    let bad : Ends answer ≡ Stuck = sym r.ends ∙ here ∙ g.stuck in
     absurd (cc)

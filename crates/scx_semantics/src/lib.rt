@@ -18,4 +18,4 @@ pub use instructions::{Insn, Operand, Operation, Width};
 pub use laws::run_has_one_outcome;
 pub use outside::{Field, Helper, TaskId};
 pub use registers::Register;
-pub use values::{Place, Pointer, Value};
+pub use values::{Pointer, StackByte, Value};

@@ -1,7 +1,7 @@
 ghost use Rattle.std.specs.Prelude.{◌≡◌, ◌<◌};
 ghost use Rattle.scx_semantics.specs.Registers.{number, register_at};
 
-/// A register (RFC 9669, section 3.1). `R10` is the frame pointer, which no instruction may write
+/// A register (RFC 9669, section 3.1). r10 is the frame pointer, which no instruction may write
 /// (abi.rst of the kernel's BPF documents).
 #[derive(Clone, Copy, Debug, PartialEq, Eq)]
 pub enum Register {

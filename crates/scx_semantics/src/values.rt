@@ -3,7 +3,7 @@ use crate::outside::TaskId;
 /// Where a pointer points.
 #[derive(Clone, Copy, Debug, PartialEq, Eq)]
 pub enum Pointer {
-    /// A place of the stack, 0 to 512; 512 is its top, past the last byte.
+    /// A byte of the stack, 0 to 512; 512 is its top, past the last one.
     Stack(u16),
     Task(TaskId),
     Map(u8),
@@ -22,7 +22,7 @@ pub enum Value {
 
 /// What one byte of the stack holds.
 #[derive(Clone, Copy, Debug, PartialEq, Eq)]
-pub enum Place {
+pub enum StackByte {
     Unwritten,
     Byte(u8),
     /// A part of a stored pointer, 0 to 7.

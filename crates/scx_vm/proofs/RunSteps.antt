@@ -4,7 +4,7 @@ use Rattle.scx_semantics.specs.declared.callbacks.Callback.{Callback}
 use Rattle.scx_semantics.specs.declared.instructions.Insn.{Insn}
 use Rattle.scx_semantics.specs.Code.{Code, at, instructions_from}
 use Rattle.scx_semantics.specs.Machine.{Machine}
-use Rattle.scx_semantics.specs.Steps.{Trapped, Ends, step}
+use Rattle.scx_semantics.specs.Steps.{Stuck, Ends, step}
 use Rattle.scx_isa.proofs.Counts.{one_left}
 use Rattle.scx_semantics.specs.Runs.{Outside, Leads, LeadsTo}
 
@@ -19,5 +19,5 @@ pub one_left_at_end : (c : Callback) (code : Code) (s : ℕ) (m : Machine) (answ
 one_left_at_end c code s m answer e = go (at code s) refl
   where
     go : (o : Option Insn) → at code s ≡ o → 0 < instructions_from code s
-    go None h = let bad : Trapped ≡ Ends answer = rw h at e in absurd (cc)
+    go None h = let bad : Stuck ≡ Ends answer = rw h at e in absurd (cc)
     go (Some i) h = one_left code s i h

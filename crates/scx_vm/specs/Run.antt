@@ -15,7 +15,7 @@ use Rattle.scx_vm.specs.declared.run.Ran.TheVariants as ran
 
 -- where a step leads, by what the interpreter says of it and the state that it leaves
 abbrev pub outcome_of : Outcome → Machine → steps.Outcome
-outcome_of outcome.Stuck m = steps.Trapped
+outcome_of outcome.Stuck m = steps.Stuck
 outcome_of (outcome.At slot) m = steps.Goes slot m
 outcome_of (outcome.Ended answer) m = steps.Ends answer
 
