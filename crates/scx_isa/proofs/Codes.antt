@@ -7,23 +7,24 @@ use Rattle.std.specs.List.{flat_map}
 use Rattle.std.proofs.lemmas.List.{take_more, append-nil}
 use Rattle.std.proofs.lemmas.Grind.{flat_map-append}
 use Rattle.std.proofs.Common.{get_or, take}
-use Rattle.scx_isa.specs.declared.slots.Slot.{Slot}
+use Rattle.scx_encoding.specs.declared.slots.Slot.{Slot}
 use Rattle.scx_semantics.specs.declared.instructions.Insn.{Insn}
 use Rattle.scx_semantics.specs.declared.instructions.Insn.TheVariants as insn
-use Rattle.scx_isa.specs.declared.faults.DecodeFault.{DecodeFault}
-use Rattle.scx_isa.specs.declared.faults.DecodeFault.TheVariants.{UnusedField}
-use Rattle.scx_isa.specs.Slots.{IsSlot, same_slot, slot_bytes}
+use Rattle.scx_encoding.specs.declared.faults.DecodeFault.{DecodeFault}
+use Rattle.scx_encoding.specs.declared.faults.DecodeFault.TheVariants.{UnusedField}
+use Rattle.scx_encoding.specs.Slots.{IsSlot, same_slot, slot_bytes}
 use Rattle.std.proofs.lemmas.List.Recursion.{is_count_by}
 use Rattle.scx_semantics.specs.Code.{Code, is_wide, instruction_count}
-use Rattle.scx_isa.specs.Spelling.{first_slot, second_slot, insn_slots, place_slots, code_slots, spelling, HasFields, IsInsn, IsCode}
-use Rattle.scx_isa.specs.Reading.{first, placed, insn_at, half_at, place_at, due_after, read_slots}
-use Rattle.scx_isa.proofs.Insns.{bind_ok, done, ok_is, is_same, same_is, HalfFits, Reads, insn_is_spelled, Follows, insn_is_read, first_is_slot, second_is_slot}
+use Rattle.scx_encoding.specs.Spelling.{first_slot, second_slot, insn_slots, IsInsn}
+use Rattle.scx_isa.specs.Spelling.{place_slots, code_slots, spelling, IsCode}
+use Rattle.scx_encoding.specs.Reading.{insn_at, half_at, place_at, due_after}
+use Rattle.scx_isa.specs.Reading.{first, placed, read_slots}
+use Rattle.scx_encoding.proofs.Insns.{bind_ok, done, ok_is, is_same, same_is, HalfFits, Reads, insn_is_spelled, Follows, insn_is_read, first_is_slot, second_is_slot}
 
 pub wide_is : (i : Insn) → is_wide i ≡ is_some (second_slot i)
-wide_is (insn.Binary w o d x) = refl
 wide_is (insn.Constant d low high) = refl
-wide_is (insn.Goto offset) = refl
-wide_is insn.Exit = refl
+wide_is (insn.MapReference d k) = refl
+wide_is i = refl
 
 placed_ok : {A : Type 0} (k : ℕ) (r : Result A DecodeFault) (x : A) → placed k r ≡ Ok x → r ≡ Ok x
 placed_ok k (Ok y) x e = let same : y ≡ x = cc in ap (λ z. Ok z) same
@@ -138,7 +139,7 @@ code_is_spelled k (Some due) (s ∷ slots) code fits room e =
 
 -- ---- what is spelled
 
-slots_fit_insn : (i : Insn) (rest : List Slot) → HasFields i → AllByRecursion IsSlot rest → AllByRecursion IsSlot (insn_slots i ++ rest)
+slots_fit_insn : (i : Insn) (rest : List Slot) → IsInsn i → AllByRecursion IsSlot rest → AllByRecursion IsSlot (insn_slots i ++ rest)
 slots_fit_insn i rest h all = (first_is_slot i h, go (second_slot i) (second_is_slot i h))
   where
     go : (t : Option Slot) → HalfFits t → AllByRecursion IsSlot (option_to_list t ++ rest)
@@ -150,7 +151,7 @@ code_slots_fit false [] h = tt
 code_slots_fit true [] h = absurd h
 code_slots_fit false (None ∷ code) h = absurd h
 code_slots_fit true (None ∷ code) h = code_slots_fit false code h
-code_slots_fit false (Some i ∷ code) h = slots_fit_insn i (code_slots code) h.0.fields (code_slots_fit (is_wide i) code h.1)
+code_slots_fit false (Some i ∷ code) h = slots_fit_insn i (code_slots code) h.0 (code_slots_fit (is_wide i) code h.1)
 code_slots_fit true (Some i ∷ code) h = absurd h
 
 follows_first : (t : Option Slot) (slots : List Slot) → Follows t (first (option_to_list t ++ slots))
@@ -184,12 +185,12 @@ length-code_slots (Some due) (Some i ∷ code) h = absurd h
 
 -- ---- a program's places, one by one
 
-pub place_fits : (b : Bool) (code : Code) (k : ℕ) → IsCode b code → ForSome (get_or code k None) HasFields
+pub place_fits : (b : Bool) (code : Code) (k : ℕ) → IsCode b code → ForSome (get_or code k None) IsInsn
 place_fits b [] k h = λ i e. absurd (cc)
 place_fits true (None ∷ code) zero h = λ i e. absurd (cc)
 place_fits true (None ∷ code) (suc k) h = place_fits false code k h
 place_fits false (None ∷ code) k h = absurd h
-place_fits false (Some i ∷ code) zero h = λ j e. let same : i ≡ j = cc in subst HasFields same h.0.fields
+place_fits false (Some i ∷ code) zero h = λ j e. let same : i ≡ j = cc in subst IsInsn same h.0
 place_fits false (Some i ∷ code) (suc k) h = place_fits (is_wide i) code k h.1
 place_fits true (Some i ∷ code) k h = absurd h
 

@@ -4,19 +4,21 @@ use Rattle.std.specs.Option.{option_to_list}
 use Rattle.std.specs.List.{AllByRecursion}
 use Rattle.std.proofs.lemmas.List.{append-nil}
 use Rattle.std.proofs.lemmas.Bool.{eqb-true, ltb-true, ltb-false}
-use Rattle.scx_isa.specs.declared.slots.Slot.{Slot}
+use Rattle.scx_encoding.specs.declared.slots.Slot.{Slot}
 use Rattle.scx_semantics.specs.declared.instructions.Insn.{Insn}
-use Rattle.scx_isa.specs.declared.faults.DecodeFault.{DecodeFault}
-use Rattle.scx_isa.specs.declared.faults.DecodeFault.TheVariants.{Empty, TooLong, NotWholeSlots}
+use Rattle.scx_encoding.specs.declared.faults.DecodeFault.{DecodeFault}
+use Rattle.scx_encoding.specs.declared.faults.DecodeFault.TheVariants.{Empty, TooLong, NotWholeSlots}
 use Rattle.scx_isa.specs.declared.faults.DecodeError.{DecodeError}
 use Rattle.scx_isa.specs.declared.faults.DecodeError.TheVariants as errors
 use Rattle.scx_semantics.specs.Code.{Code}
-use Rattle.scx_isa.specs.Slots.{slots_in, IsSlot}
-use Rattle.scx_isa.specs.Spelling.{first_slot, second_slot, code_slots, max_slots, IsInsn, IsCode}
-use Rattle.scx_isa.specs.Reading.{◌>>=◌, Gives, first, place_at, due_after, read_slots, read_program}
+use Rattle.scx_encoding.specs.Slots.{slots_in, IsSlot}
+use Rattle.scx_encoding.specs.Spelling.{first_slot, second_slot, IsInsn}
+use Rattle.scx_isa.specs.Spelling.{code_slots, max_slots, IsCode}
+use Rattle.scx_encoding.specs.Reading.{◌>>=◌, place_at, due_after}
+use Rattle.scx_isa.specs.Reading.{Gives, first, read_slots, read_program}
 use Rattle.scx_isa.specs.FirstFault.{due_place, FailsAt, IsFirstFault, No_byte, Cut_slot, Too_long, At_slot, IsRefusal}
-use Rattle.scx_isa.proofs.Bytes.{IsBytes, slots_fit}
-use Rattle.scx_isa.proofs.Insns.{insn_is_spelled}
+use Rattle.scx_encoding.proofs.Bytes.{IsBytes, slots_fit}
+use Rattle.scx_encoding.proofs.Insns.{insn_is_spelled}
 use Rattle.scx_isa.proofs.Codes.{wide_is, first_fits, half_reads, HasRoom, room_behind, place_reads}
 
 -- the same from the k-th slot on, with a second half due there

@@ -1,5 +1,3 @@
-mod Bytes
-mod Insns
 mod Codes
 pub mod Counts
 mod Control

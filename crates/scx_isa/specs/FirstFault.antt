@@ -3,15 +3,16 @@
 -- The faults of a slot are those of `Reading`.
 use Rattle.std.specs.Prelude.{ℕ, ◌/◌, ◌%◌, ◌≡◌, ◌<◌, ◌≤◌, ⊤, false, List, [], ◌∷◌, ◌++◌, length, take, drop, Option, Some, None, Err}
 use Rattle.std.specs.Option.{option_to_list}
-use Rattle.scx_isa.specs.declared.slots.Slot.{Slot}
-use Rattle.scx_isa.specs.declared.faults.DecodeFault.{DecodeFault}
-use Rattle.scx_isa.specs.declared.faults.DecodeFault.TheVariants.{Empty, TooLong, NotWholeSlots}
+use Rattle.scx_encoding.specs.declared.slots.Slot.{Slot}
+use Rattle.scx_encoding.specs.declared.faults.DecodeFault.{DecodeFault}
+use Rattle.scx_encoding.specs.declared.faults.DecodeFault.TheVariants.{Empty, TooLong, NotWholeSlots}
 use Rattle.scx_isa.specs.declared.faults.DecodeError.{DecodeError}
 use Rattle.scx_isa.specs.declared.faults.DecodeError.TheVariants as errors
 use Rattle.scx_semantics.specs.Code.{Code}
-use Rattle.scx_isa.specs.Slots.{slots_in}
+use Rattle.scx_encoding.specs.Slots.{slots_in}
 use Rattle.scx_isa.specs.Spelling.{IsCode, code_slots, max_slots}
-use Rattle.scx_isa.specs.Reading.{first, place_at}
+use Rattle.scx_encoding.specs.Reading.{place_at}
+use Rattle.scx_isa.specs.Reading.{first}
 
 -- the place of a second half that is due
 abbrev pub due_place : Option Slot → Code

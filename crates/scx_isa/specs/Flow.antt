@@ -3,7 +3,7 @@
 -- doesn't fall off the end. They are looked for in that order, over all instructions.
 use Rattle.std.specs.Prelude.{ℕ, ◌+◌, ◌≡◌, ◌<◌, ℤ, pos, negsuc, nat_eq, nat_le, is_none, length, Option, Some, None, IsSome, if◌then◌else◌}
 use Rattle.scx_semantics.specs.declared.instructions.Insn.{Insn}
-use Rattle.scx_semantics.specs.declared.instructions.Insn.TheVariants.{Binary, Constant, Goto, Exit}
+use Rattle.scx_semantics.specs.declared.instructions.Insn.TheVariants.{JumpIf, Goto, GotoLong, Exit}
 use Rattle.scx_isa.specs.declared.faults.FlowFault.{FlowFault}
 use Rattle.scx_isa.specs.declared.faults.FlowFault.TheVariants.{BackJump, OutOfProgram, IntoWide, FallsOff}
 use Rattle.scx_semantics.specs.Code.{Code, at, size, instruction_count}
@@ -25,12 +25,18 @@ jump_fault code s (negsuc n) = Some BackJump
 abbrev pub end_fault : Code → ℕ → Option FlowFault
 end_fault code s = if nat_eq s (length code) then Some FallsOff else None
 
+-- the first of two faults
+abbrev pub first_fault : Option FlowFault → Option FlowFault → Option FlowFault
+first_fault None g = g
+first_fault (Some f) g = Some f
+
 -- the first fault of an instruction that has that slot behind it
 abbrev pub insn_fault : Code → ℕ → Insn → Option FlowFault
-insn_fault code s (Binary w o d x) = end_fault code s
-insn_fault code s (Constant d low high) = end_fault code s
+insn_fault code s (JumpIf w c r offset x) = first_fault (jump_fault code s offset) (end_fault code s)
 insn_fault code s (Goto offset) = jump_fault code s offset
+insn_fault code s (GotoLong offset) = jump_fault code s offset
 insn_fault code s Exit = None
+insn_fault code s i = end_fault code s
 
 -- the first fault of the instruction at a slot
 abbrev pub flow_fault : Code → ℕ → Insn → Option FlowFault

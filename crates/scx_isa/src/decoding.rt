@@ -1,14 +1,14 @@
 ghost use Rattle.std.specs.Prelude.{◌≡◌, None, ◌*◌, ◌/◌, ◌%◌, length, IfOk, IfErr, Ok};
-ghost use Rattle.scx_isa.specs.Slots.{slots_in, front_slot};
+ghost use Rattle.scx_encoding.specs.Slots.{slots_in, front_slot};
 ghost use Rattle.scx_semantics.specs.Code.{Code};
 ghost use Rattle.scx_isa.specs.Spelling.{Spells};
 ghost use Rattle.scx_isa.specs.FirstFault.{IsRefusal};
-ghost use Rattle.scx_isa.specs.Reading.{Gives, placed, place_at, read_slots, read_program};
+ghost use Rattle.scx_encoding.specs.Reading.{place_at};
+ghost use Rattle.scx_isa.specs.Reading.{Gives, placed, read_slots, read_program};
 
-use crate::faults::{DecodeError, DecodeFault};
+use crate::faults::DecodeError;
 use crate::program::{MAX_SLOTS, Program};
-use crate::reading::{due_behind, place_of};
-use crate::slots::{SLOT_BYTES, Slot, slot_of};
+use scx_encoding::{DecodeFault, SLOT_BYTES, Slot, due_behind, place_of, slot_of};
 use scx_semantics::Insn;
 use std::alloc::Global;
 

@@ -1,18 +1,18 @@
 ghost use Rattle.std.specs.Prelude.{◌≡◌, ◌++◌, ◌≤◌, false, length, IfOk, OnOk};
 ghost use Rattle.std.specs.List.{flat_map};
 ghost use Rattle.std.specs.Option.{ForSome};
-ghost use Rattle.scx_isa.specs.Slots.{slot_bytes};
-ghost use Rattle.scx_isa.specs.Spelling.{HasFields, IsProgram, Spells, insn_slots, place_slots, spelling};
+ghost use Rattle.scx_encoding.specs.Slots.{slot_bytes};
+ghost use Rattle.scx_encoding.specs.Spelling.{IsInsn, insn_slots};
+ghost use Rattle.scx_isa.specs.Spelling.{IsProgram, Spells, place_slots, spelling};
 
 use crate::program::Program;
-use crate::slots::{SLOT_BYTES, push_slot};
-use crate::spelling::{first_slot_of, second_slot_of};
+use scx_encoding::{SLOT_BYTES, first_slot_of, push_slot, second_slot_of};
 use scx_semantics::Insn;
 use std::alloc::{AllocError, Global};
 
 /// Writes the slots of an instruction at the end.
 fn push_insn(out: &mut Vec<u8>, insn: &Insn) -> Result<(), AllocError>
-    requires { HasFields insn.now }
+    requires { IsInsn insn.now }
     ensures { OnOk result (out.new.items ≡ out.old.items ++ flat_map slot_bytes (insn_slots insn.now)) }
 {
     push_slot(out, &first_slot_of(insn))?;
@@ -24,7 +24,7 @@ fn push_insn(out: &mut Vec<u8>, insn: &Insn) -> Result<(), AllocError>
 
 /// Writes the slots of what stands at a slot; a second half is written with its first.
 fn push_place(out: &mut Vec<u8>, place: &Option<Insn>) -> Result<(), AllocError>
-    requires { ForSome place.now HasFields }
+    requires { ForSome place.now IsInsn }
     ensures { OnOk result (out.new.items ≡ out.old.items ++ flat_map slot_bytes (place_slots place.now)) }
 {
     match place {

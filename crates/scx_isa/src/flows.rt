@@ -30,9 +30,12 @@ fn fault_at(program: &Program, slot: usize) -> Option<FlowFault>
     let insn = program.at(slot)?;
     let behind = slot + insn.size();
     match insn {
-        Insn::Binary(..) | Insn::Constant(..) => fault_of_end(program, behind),
-        Insn::Goto(offset) => fault_of_jump(program, behind, offset),
+        // Where its target is in the program, there is an instruction behind it too.
+        Insn::JumpIf(_, _, _, offset, _) => fault_of_jump(program, behind, i32::from(offset)),
+        Insn::Goto(offset) => fault_of_jump(program, behind, i32::from(offset)),
+        Insn::GotoLong(offset) => fault_of_jump(program, behind, offset),
         Insn::Exit => None,
+        _ => fault_of_end(program, behind),
     }
 }
 
@@ -48,7 +51,7 @@ fn fault_of_end(program: &Program, slot: usize) -> Option<FlowFault>
 }
 
 /// The fault of a jump of that distance, counted from the slot behind it.
-fn fault_of_jump(program: &Program, behind: usize, offset: i16) -> Option<FlowFault>
+fn fault_of_jump(program: &Program, behind: usize, offset: i32) -> Option<FlowFault>
     requires { behind ≤ MAX_SLOTS }
     ensures { result ≡ jump_fault program.now behind offset }
 {

@@ -4,28 +4,25 @@
 //! a `Program`. `encode` gives back the one list of bytes that spells it. `flow` asks whether its
 //! jumps go forward, to instructions, and whether control can't fall off its end.
 //!
-//! The types of instructions and what programs mean stand in `scx_semantics`; the types are passed on
-//! here.
+//! The types of instructions and what programs mean stand in `scx_semantics`, and the encoding of one
+//! instruction in `scx_encoding`; their types are passed on here.
 #![tactic(auto)]
 
 mod decoding;
 mod encoding;
 mod faults;
 mod flows;
-mod forms;
 mod laws;
 mod program;
-mod reading;
-mod slots;
-mod spelling;
 
 pub use decoding::decode;
 pub use encoding::encode;
-pub use faults::{DecodeError, DecodeFault, Exclusion, FlowError, FlowFault};
+pub use faults::{DecodeError, FlowError, FlowFault};
 pub use flows::flow;
 pub use laws::spelling_is_one_to_one;
 pub use program::{MAX_SLOTS, Program};
+pub use scx_encoding::{DecodeFault, Exclusion};
 pub use scx_semantics::{
-    Callback, Field, Helper, Insn, Operand, Operation, Pointer, Register, StackByte, TaskId, Value,
-    Width,
+    Access, Callback, Comparison, Extension, Field, Helper, Insn, Operand, Operation, Order,
+    OrderWidth, Pointer, Register, Size, StackByte, TaskId, Value, Width,
 };

@@ -76,9 +76,9 @@ impl Program {
     }
 }
 
-/// How many instructions stand in the slots.
-fn count(code: &[Option<Insn>]) -> usize
-    ensures { result ≡ count_by is_some code.now }
+/// How many places hold something.
+fn count<T: Drop>(places: &[Option<T>]) -> usize
+    ensures { result ≡ count_by is_some places.now }
 {
-    code.iter().filter(|place| place.is_some()).count()
+    places.iter().filter(|place| place.is_some()).count()
 }

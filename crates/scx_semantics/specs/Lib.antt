@@ -1,6 +1,7 @@
 pub mod Registers
 pub mod Code
 pub mod Arithmetic
+pub mod Memory
 pub mod Machine
 pub mod Meaning
 pub mod Steps

@@ -1,29 +1,7 @@
 ghost use Rattle.std.specs.Prelude.{◌≡◌};
 
+use crate::operations::{Access, Comparison, Extension, Operation, Order, OrderWidth, Size, Width};
 use crate::registers::Register;
-
-/// How many bits of its operands arithmetic takes: class ALU or class ALU64.
-#[derive(Clone, Copy, Debug, PartialEq, Eq)]
-pub enum Width {
-    /// The low 32 bits. The upper half of the result is 0.
-    Bits32,
-    Bits64,
-}
-
-/// What arithmetic does with the destination and the operand (RFC 9669, section 4.1).
-#[derive(Clone, Copy, Debug, PartialEq, Eq)]
-pub enum Operation {
-    Add,
-    /// Unsigned. By zero it gives 0.
-    Divide,
-    /// Signed, cut towards zero. By zero it gives 0.
-    SignedDivide,
-    /// The unsigned remainder. By zero it leaves the destination.
-    Modulo,
-    /// The remainder of the signed division. By zero it leaves the destination.
-    SignedModulo,
-    Move,
-}
 
 /// The second operand: an immediate (source bit K) or a register (source bit X).
 #[derive(Clone, Copy, Debug, PartialEq, Eq)]
@@ -32,14 +10,34 @@ pub enum Operand {
     Register(Register),
 }
 
-/// An instruction. The first register of a case is its destination, and a jump's distance counts
-/// slots from the next instruction.
+/// An instruction of the conformance groups base32, base64, divmul32 and divmul64 (RFC 9669).
+///
+/// The first register of a case is its destination, or what a jump compares. A jump's distance
+/// counts slots from the next instruction, and an address is a register plus an offset in bytes.
 #[derive(Clone, Copy, Debug, PartialEq, Eq)]
 pub enum Insn {
     Binary(Width, Operation, Register, Operand),
+    /// The two's complement negative.
+    Negate(Width, Register),
+    /// Copies the low bits of the second register, extended with their sign.
+    SignExtend(Extension, Register, Register),
+    /// Puts the low bytes of the register in another order.
+    Reorder(Order, OrderWidth, Register),
     /// Loads a 64-bit constant, given by its low and its high half. It takes two slots.
     Constant(Register, i32, i32),
+    /// Loads a reference to the map of that number. It takes two slots.
+    MapReference(Register, i32),
+    /// Loads from the address that the second register and the offset give.
+    Load(Access, Register, Register, i16),
+    /// Stores the operand to the address that the register and the offset give.
+    Store(Size, Register, i16, Operand),
+    /// Jumps where the comparison of the register with the operand holds.
+    JumpIf(Width, Comparison, Register, i16, Operand),
     Goto(i16),
+    /// The jump whose distance has 32 bits.
+    GotoLong(i32),
+    /// Calls the helper of that number.
+    Call(i32),
     Exit,
 }
 
@@ -51,8 +49,8 @@ impl Insn {
         ensures { result ≡ size self }
     {
         match self {
-            Insn::Constant(..) => 2,
-            Insn::Binary(..) | Insn::Goto(_) | Insn::Exit => 1,
+            Insn::Constant(..) | Insn::MapReference(..) => 2,
+            _ => 1,
         }
     }
 }

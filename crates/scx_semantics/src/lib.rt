@@ -9,13 +9,15 @@
 mod callbacks;
 mod instructions;
 mod laws;
+mod operations;
 mod outside;
 mod registers;
 mod values;
 
 pub use callbacks::Callback;
-pub use instructions::{Insn, Operand, Operation, Width};
+pub use instructions::{Insn, Operand};
 pub use laws::run_has_one_outcome;
+pub use operations::{Access, Comparison, Extension, Operation, Order, OrderWidth, Size, Width};
 pub use outside::{Field, Helper, TaskId};
 pub use registers::Register;
 pub use values::{Pointer, StackByte, Value};

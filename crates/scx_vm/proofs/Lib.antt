@@ -1,2 +1,5 @@
 pub mod Forward
 pub mod RunSteps
+pub mod Lists
+pub mod StackReads
+pub mod StackWrites

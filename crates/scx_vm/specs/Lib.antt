@@ -1,3 +1,4 @@
+pub mod Stack
 pub mod State
 pub mod Execute
 pub mod Run

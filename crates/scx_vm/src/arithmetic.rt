@@ -1,8 +1,8 @@
 ghost use Rattle.std.specs.Prelude.{◌≡◌, ◌%◌, ◌^◌};
-ghost use Rattle.scx_semantics.specs.Arithmetic.{compute, operate, low, immediate, constant};
-ghost use Rattle.scx_semantics.specs.declared.instructions.Width.TheVariants.{Bits32, Bits64};
+ghost use Rattle.scx_semantics.specs.Arithmetic.{compute, operate, low, negated, extended, kept, swapped, reordered, immediate, constant, compares, holds};
+ghost use Rattle.scx_semantics.specs.declared.operations.Width.TheVariants.{Bits32, Bits64};
 
-use scx_isa::{Operation, Width};
+use scx_isa::{Comparison, Extension, Operation, Order, OrderWidth, Width};
 
 /// What the operation of that width makes of the destination `a` and the operand `b`
 /// (RFC 9669, section 4.1). At 32 bits the upper half of the result is 0.
@@ -16,18 +16,26 @@ pub fn compute(width: Width, operation: Operation, a: u64, b: u64) -> u64
 }
 
 /// A quotient by zero is 0, and a remainder by zero the dividend. The least number divided by -1 is
-/// the least number again.
+/// the least number again. The count of a shift is taken modulo 64.
 fn operate64(operation: Operation, a: u64, b: u64) -> u64
     ensures { result ≡ operate Bits64 operation a b }
 {
     match operation {
         Operation::Add => a.wrapping_add(b),
+        Operation::Subtract => a.wrapping_sub(b),
+        Operation::Multiply => a.wrapping_mul(b),
         Operation::Divide => a.checked_div(b).unwrap_or(0),
         Operation::SignedDivide if b == 0 => 0,
         Operation::SignedDivide => a
             .cast_signed()
             .wrapping_div(b.cast_signed())
             .cast_unsigned(),
+        Operation::Or => a | b,
+        Operation::And => a & b,
+        Operation::Xor => a ^ b,
+        Operation::ShiftLeft => a << (b % 64),
+        Operation::ShiftRight => a >> (b % 64),
+        Operation::ShiftRightSigned => (a.cast_signed() >> (b % 64)).cast_unsigned(),
         Operation::Modulo => a.checked_rem(b).unwrap_or(a),
         Operation::SignedModulo if b == 0 => a,
         Operation::SignedModulo => a
@@ -38,18 +46,26 @@ fn operate64(operation: Operation, a: u64, b: u64) -> u64
     }
 }
 
-/// The same on numbers of 32 bits.
+/// The same on numbers of 32 bits, where the count of a shift is taken modulo 32.
 fn operate32(operation: Operation, a: u32, b: u32) -> u32
     ensures { result ≡ operate Bits32 operation a b }
 {
     match operation {
         Operation::Add => a.wrapping_add(b),
+        Operation::Subtract => a.wrapping_sub(b),
+        Operation::Multiply => a.wrapping_mul(b),
         Operation::Divide => a.checked_div(b).unwrap_or(0),
         Operation::SignedDivide if b == 0 => 0,
         Operation::SignedDivide => a
             .cast_signed()
             .wrapping_div(b.cast_signed())
             .cast_unsigned(),
+        Operation::Or => a | b,
+        Operation::And => a & b,
+        Operation::Xor => a ^ b,
+        Operation::ShiftLeft => a << (b % 32),
+        Operation::ShiftRight => a >> (b % 32),
+        Operation::ShiftRightSigned => (a.cast_signed() >> (b % 32)).cast_unsigned(),
         Operation::Modulo => a.checked_rem(b).unwrap_or(a),
         Operation::SignedModulo if b == 0 => a,
         Operation::SignedModulo => a
@@ -57,6 +73,111 @@ fn operate32(operation: Operation, a: u32, b: u32) -> u32
             .wrapping_rem(b.cast_signed())
             .cast_unsigned(),
         Operation::Move => b,
+    }
+}
+
+/// The two's complement negative (RFC 9669, section 4.1).
+pub fn negated(width: Width, n: u64) -> u64
+    ensures { result ≡ negated width n }
+{
+    match width {
+        Width::Bits32 => u64::from(low_half(n).wrapping_neg()),
+        Width::Bits64 => n.wrapping_neg(),
+    }
+}
+
+/// The low bits, extended with their sign (RFC 9669, section 4.1).
+pub fn extended(extension: Extension, n: u64) -> u64
+    ensures { result ≡ extended extension n }
+{
+    match extension {
+        Extension::Low8To32 => u64::from(i32::from(low_byte(n).cast_signed()).cast_unsigned()),
+        Extension::Low16To32 => u64::from(i32::from(low_two_bytes(
+            n,
+        ).cast_signed()).cast_unsigned()),
+        Extension::Low8To64 => i64::from(low_byte(n).cast_signed()).cast_unsigned(),
+        Extension::Low16To64 => i64::from(low_two_bytes(n).cast_signed()).cast_unsigned(),
+        Extension::Low32To64 => i64::from(low_half(n).cast_signed()).cast_unsigned(),
+    }
+}
+
+/// The low bytes in another order (RFC 9669, section 4.2). The host is little-endian.
+pub fn reordered(order: Order, width: OrderWidth, n: u64) -> u64
+    ensures { result ≡ reordered order width n }
+{
+    match order {
+        Order::Little => kept(width, n),
+        Order::Big | Order::Swapped => swapped(width, n),
+    }
+}
+
+/// The low bits that a change of byte order keeps.
+fn kept(width: OrderWidth, n: u64) -> u64
+    ensures { result ≡ kept width n }
+{
+    match width {
+        OrderWidth::Bits16 => u64::from(low_two_bytes(n)),
+        OrderWidth::Bits32 => u64::from(low_half(n)),
+        OrderWidth::Bits64 => n,
+    }
+}
+
+/// The low bytes, with the first one last.
+fn swapped(width: OrderWidth, n: u64) -> u64
+    ensures { result ≡ swapped width (kept width n) }
+{
+    match width {
+        OrderWidth::Bits16 => u64::from(low_two_bytes(n).swap_bytes()),
+        OrderWidth::Bits32 => u64::from(low_half(n).swap_bytes()),
+        OrderWidth::Bits64 => n.swap_bytes(),
+    }
+}
+
+/// Whether the comparison of that width holds of `a` and `b` (RFC 9669, section 4.3).
+pub fn compares(width: Width, comparison: Comparison, a: u64, b: u64) -> bool
+    ensures { result ≡ compares width comparison a b }
+{
+    match width {
+        Width::Bits32 => holds32(comparison, low_half(a), low_half(b)),
+        Width::Bits64 => holds64(comparison, a, b),
+    }
+}
+
+/// Whether the comparison holds of all 64 bits.
+fn holds64(comparison: Comparison, a: u64, b: u64) -> bool
+    ensures { result ≡ holds Bits64 comparison a b }
+{
+    match comparison {
+        Comparison::Equal => a == b,
+        Comparison::Greater => a > b,
+        Comparison::GreaterOrEqual => a >= b,
+        Comparison::AnyBit => a & b != 0,
+        Comparison::NotEqual => a != b,
+        Comparison::SignedGreater => a.cast_signed() > b.cast_signed(),
+        Comparison::SignedGreaterOrEqual => a.cast_signed() >= b.cast_signed(),
+        Comparison::Less => a < b,
+        Comparison::LessOrEqual => a <= b,
+        Comparison::SignedLess => a.cast_signed() < b.cast_signed(),
+        Comparison::SignedLessOrEqual => a.cast_signed() <= b.cast_signed(),
+    }
+}
+
+/// The same of numbers of 32 bits.
+fn holds32(comparison: Comparison, a: u32, b: u32) -> bool
+    ensures { result ≡ holds Bits32 comparison a b }
+{
+    match comparison {
+        Comparison::Equal => a == b,
+        Comparison::Greater => a > b,
+        Comparison::GreaterOrEqual => a >= b,
+        Comparison::AnyBit => a & b != 0,
+        Comparison::NotEqual => a != b,
+        Comparison::SignedGreater => a.cast_signed() > b.cast_signed(),
+        Comparison::SignedGreaterOrEqual => a.cast_signed() >= b.cast_signed(),
+        Comparison::Less => a < b,
+        Comparison::LessOrEqual => a <= b,
+        Comparison::SignedLess => a.cast_signed() < b.cast_signed(),
+        Comparison::SignedLessOrEqual => a.cast_signed() <= b.cast_signed(),
     }
 }
 
@@ -71,10 +192,24 @@ pub fn low(width: Width, n: u64) -> u64
 }
 
 /// The low 32 bits.
-fn low_half(n: u64) -> u32
+pub fn low_half(n: u64) -> u32
     ensures { result ≡ n % 2 ^ 32 }
 {
     (n & 0xffff_ffff) as u32
+}
+
+/// The low 16 bits.
+pub fn low_two_bytes(n: u64) -> u16
+    ensures { result ≡ n % 2 ^ 16 }
+{
+    (n & 0xffff) as u16
+}
+
+/// The low 8 bits.
+pub fn low_byte(n: u64) -> u8
+    ensures { result ≡ n % 2 ^ 8 }
+{
+    (n & 0xff) as u8
 }
 
 /// An immediate as an operand of that width, extended with its sign.

@@ -26,8 +26,10 @@ pub enum Ran {
     /// It came to an `exit` with a number in r0.
     Done(Done),
     /// It came to this slot, counted from 0, where no instruction begins or the one there has no
-    /// meaning in the state that the run had come to: it reads an unset register, computes with a
-    /// pointer or moves the low half of one, writes r10, or exits with no number in r0.
+    /// meaning in the state that the run had come to. It reads an unset register or bytes of the
+    /// stack that hold neither a number nor one pointer, writes r10, computes with or compares a
+    /// pointer in a way that has no meaning, leaves the stack, loads or stores out of line, calls
+    /// a helper, names a map, or exits with no number in r0.
     Stuck(usize),
 }
 
@@ -86,12 +88,14 @@ fn step(program: &Program, slot: usize, core: &mut Core) -> Outcome
 }
 
 /// How many slots a jump skips; 0 where the instruction is none.
-fn distance(insn: Insn) -> i16
+fn distance(insn: Insn) -> i32
     ensures { result ≡ distance insn }
 {
     match insn {
-        Insn::Goto(distance) => distance,
-        Insn::Binary(..) | Insn::Constant(..) | Insn::Exit => 0,
+        Insn::JumpIf(_, _, _, distance, _) => i32::from(distance),
+        Insn::Goto(distance) => i32::from(distance),
+        Insn::GotoLong(distance) => distance,
+        _ => 0,
     }
 }
 

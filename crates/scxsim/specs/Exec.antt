@@ -1,7 +1,7 @@
 -- What `exec` finds in the bytes of a file: how the program that they spell runs, or why they are
 -- refused.
 use Rattle.std.specs.Prelude.{ℕ, ◌<◌, ◌≤◌, List, length}
-use Rattle.scx_isa.specs.declared.faults.DecodeFault.{DecodeFault}
+use Rattle.scx_encoding.specs.declared.faults.DecodeFault.{DecodeFault}
 use Rattle.scx_isa.specs.declared.faults.FlowFault.{FlowFault}
 use Rattle.scx_semantics.specs.Code.{Code}
 use Rattle.scx_isa.specs.Spelling.{Spells}

@@ -1,6 +1,7 @@
 -- The lines that the commands write, each with the line feed that ends it.
 use Rattle.std.specs.Prelude.{ℕ, List, ◌++◌, codes, decimal}
-use Rattle.scx_isa.specs.Faults.{decode_number, decode_name, flow_number, flow_name}
+use Rattle.scx_encoding.specs.Faults.{decode_number, decode_name}
+use Rattle.scx_isa.specs.Faults.{flow_number, flow_name}
 use Rattle.scx_vm.specs.declared.run.Ran.{Ran}
 use Rattle.scx_vm.specs.declared.run.Ran.TheVariants.{Done, Stuck}
 use Rattle.scxsim.specs.declared.fault.Refusal.{Refusal}

@@ -98,36 +98,167 @@ fn expect_slots<R: AllocGlobal + Abort>(
 
 #[test]
 fn answers(rt: HostRuntime) -> Result<(), Fail> {
-    let zero = [0xb700_0000_0000_0000, EXIT];
-    expect_slots(&rt, &zero, "r0 = 0 in 2 steps\n", 0)?;
-    let divided = [
-        0xb700_0000_0700_0000,
-        0xb701_0000_0000_0000,
-        0x3f10_0000_0000_0000,
-        EXIT,
-    ];
-    expect_slots(&rt, &divided, "r0 = 0 in 4 steps\n", 0)?;
-    let remainder = [
-        0xb700_0000_0700_0000,
-        0xb701_0000_0000_0000,
-        0x9f10_0000_0000_0000,
-        EXIT,
-    ];
-    expect_slots(&rt, &remainder, "r0 = 7 in 4 steps\n", 0)?;
-    let wrapped = [0xb700_0000_ffff_ffff, 0x0400_0000_0100_0000, EXIT];
-    expect_slots(&rt, &wrapped, "r0 = 0 in 3 steps\n", 0)?;
-    let jumped = [
-        0x0500_0100_0000_0000,
-        0xb700_0000_0100_0000,
-        0xb700_0000_0200_0000,
-        EXIT,
-    ];
-    expect_slots(&rt, &jumped, "r0 = 2 in 3 steps\n", 0)
+    expect_slots(
+        &rt,
+        &[0xb700_0000_0000_0000, EXIT],
+        "r0 = 0 in 2 steps\n",
+        0,
+    )?;
+    // r0 = 7, divided by r1 = 0, and the remainder of it.
+    expect_slots(
+        &rt,
+        &[
+            0xb700_0000_0700_0000,
+            0xb701_0000_0000_0000,
+            0x3f10_0000_0000_0000,
+            EXIT,
+        ],
+        "r0 = 0 in 4 steps\n",
+        0,
+    )?;
+    expect_slots(
+        &rt,
+        &[
+            0xb700_0000_0700_0000,
+            0xb701_0000_0000_0000,
+            0x9f10_0000_0000_0000,
+            EXIT,
+        ],
+        "r0 = 7 in 4 steps\n",
+        0,
+    )?;
+    // w0 += 1 from 2^64 - 1.
+    expect_slots(
+        &rt,
+        &[0xb700_0000_ffff_ffff, 0x0400_0000_0100_0000, EXIT],
+        "r0 = 0 in 3 steps\n",
+        0,
+    )?;
+    expect_slots(
+        &rt,
+        &[
+            0x0500_0100_0000_0000,
+            0xb700_0000_0100_0000,
+            0xb700_0000_0200_0000,
+            EXIT,
+        ],
+        "r0 = 2 in 3 steps\n",
+        0,
+    )?;
+    Ok(())
+}
+
+#[test]
+fn divides_signed(rt: HostRuntime) -> Result<(), Fail> {
+    // The least number divided by -1, and the remainder of it.
+    expect_slots(
+        &rt,
+        &[
+            0x1800_0000_0000_0000,
+            0x0000_0000_0000_0080,
+            0x3700_0100_ffff_ffff,
+            EXIT,
+        ],
+        "r0 = 9223372036854775808 in 3 steps\n",
+        0,
+    )?;
+    expect_slots(
+        &rt,
+        &[
+            0x1800_0000_0000_0000,
+            0x0000_0000_0000_0080,
+            0x9700_0100_ffff_ffff,
+            EXIT,
+        ],
+        "r0 = 0 in 3 steps\n",
+        0,
+    )?;
+    Ok(())
+}
+
+#[test]
+fn orders_and_extends(rt: HostRuntime) -> Result<(), Fail> {
+    // r0 = be16 258; r0 = (s8)255.
+    expect_slots(
+        &rt,
+        &[0xb700_0000_0201_0000, 0xdc00_0000_1000_0000, EXIT],
+        "r0 = 513 in 3 steps\n",
+        0,
+    )?;
+    expect_slots(
+        &rt,
+        &[0xb701_0000_ff00_0000, 0xbf10_0800_0000_0000, EXIT],
+        "r0 = 18446744073709551615 in 3 steps\n",
+        0,
+    )?;
+    Ok(())
+}
+
+#[test]
+fn uses_the_stack(rt: HostRuntime) -> Result<(), Fail> {
+    // 5 stored at r10 - 8, and loaded.
+    expect_slots(
+        &rt,
+        &[0x7a0a_f8ff_0500_0000, 0x79a0_f8ff_0000_0000, EXIT],
+        "r0 = 5 in 3 steps\n",
+        0,
+    )?;
+    // r10 stored there, loaded, and used as an address.
+    expect_slots(
+        &rt,
+        &[
+            0x7baa_f8ff_0000_0000,
+            0x79a1_f8ff_0000_0000,
+            0x7a01_f0ff_0700_0000,
+            0x79a0_f0ff_0000_0000,
+            EXIT,
+        ],
+        "r0 = 7 in 5 steps\n",
+        0,
+    )?;
+    Ok(())
 }
 
 #[test]
 fn gets_stuck(rt: HostRuntime) -> Result<(), Fail> {
-    expect_slots(&rt, &[EXIT], "stuck at 0\n", 1)
+    expect_slots(&rt, &[EXIT], "stuck at 0\n", 1)?;
+    expect_slots(&rt, &[0x0500_0000_0000_0000, EXIT], "stuck at 1\n", 1)?;
+    // A load of what wasn't written, and one below the stack.
+    expect_slots(&rt, &[0x79a0_f8ff_0000_0000, EXIT], "stuck at 0\n", 1)?;
+    expect_slots(&rt, &[0x79a0_f8fd_0000_0000, EXIT], "stuck at 0\n", 1)?;
+    // A load of what was written on another way only.
+    expect_slots(
+        &rt,
+        &[
+            0xb701_0000_0100_0000,
+            0x1501_0100_0100_0000,
+            0x7a0a_f8ff_0500_0000,
+            0x79a0_f8ff_0000_0000,
+            EXIT,
+        ],
+        "stuck at 3\n",
+        1,
+    )?;
+    // A load of a pointer half written over.
+    expect_slots(
+        &rt,
+        &[
+            0x7baa_f8ff_0000_0000,
+            0x620a_f8ff_0000_0000,
+            0x79a0_f8ff_0000_0000,
+            EXIT,
+        ],
+        "stuck at 2\n",
+        1,
+    )?;
+    Ok(())
+}
+
+/// What has no map and no helper: a load of a reference to map 0, and a call of helper 5.
+#[test]
+fn has_no_maps_and_helpers(rt: HostRuntime) -> Result<(), Fail> {
+    expect_slots(&rt, &[0x1850_0000_0000_0000, 0, EXIT], "stuck at 0\n", 1)?;
+    expect_slots(&rt, &[0x8500_0000_0500_0000, EXIT], "stuck at 0\n", 1)
 }
 
 #[test]
@@ -141,17 +272,41 @@ fn refuses_bytes(rt: HostRuntime) -> Result<(), Fail> {
         "refused: decode 3 NotWholeSlots at 1\n",
         1,
     );
-    let later = [0xbf00_0000_0000_0000, EXIT];
     expect_slots(
         &rt,
-        &later,
-        "refused: decode 5 NotInProfile(later) at 0\n",
+        &[0x1800_0000_0000_0000],
+        "refused: decode 8 HalfWide at 0\n",
         1,
-    )
+    )?;
+    expect_slots(
+        &rt,
+        &[0xdb00_0000_0000_0000, EXIT],
+        "refused: decode 5 NotInProfile(atomic64) at 0\n",
+        1,
+    )?;
+    expect_slots(
+        &rt,
+        &[0x8510_0000_ffff_ffff, EXIT],
+        "refused: decode 5 NotInProfile(local call) at 0\n",
+        1,
+    )?;
+    expect_slots(
+        &rt,
+        &[0x9500_0000_0100_0000],
+        "refused: decode 7 UnusedField at 0\n",
+        1,
+    )?;
+    Ok(())
 }
 
 #[test]
 fn refuses_flow(rt: HostRuntime) -> Result<(), Fail> {
+    expect_slots(
+        &rt,
+        &[0x0500_0100_0000_0000, 0x1800_0000_0000_0000, 0, EXIT],
+        "refused: verify 3 IntoWide at 0\n",
+        1,
+    )?;
     let back = [0x0500_ffff_0000_0000, EXIT];
     expect_slots(&rt, &back, "refused: verify 1 BackJump at 0\n", 1)?;
     let end = [0xb700_0000_0000_0000];

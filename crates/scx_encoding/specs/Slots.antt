@@ -2,7 +2,7 @@
 -- destination in the low four bits, the offset in 16 bits and the immediate in 32, low byte first.
 use Rattle.std.specs.Prelude.{ℕ, zero, suc, ◌+◌, ◌*◌, ◌/◌, ◌%◌, ◌<◌, ◌^◌, Bool, ◌&&◌, nat_eq, nat_lt, List, [], ◌∷◌, ◌++◌, length, slice_index, drop, Option, Some, None, if◌then◌else◌}
 use Rattle.byteorder.specs.Endian.{little_number, little_bytes}
-use Rattle.scx_isa.specs.declared.slots.Slot.{Slot}
+use Rattle.scx_encoding.specs.declared.slots.Slot.{Slot}
 
 abbrev pub slot_bytes : Slot → List ℕ
 slot_bytes s = s.opcode ∷ (s.destination + 16 * s.source) ∷ (little_bytes 2 s.offset ++ little_bytes 4 s.immediate)

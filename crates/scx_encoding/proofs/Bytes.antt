@@ -5,8 +5,8 @@ use Rattle.std.proofs.lemmas.List.{get_or-drop}
 use Rattle.std.proofs.lemmas.Nat.{le_bytes_2, le_bytes_4}
 use Rattle.byteorder.specs.Endian.{little_number, little_bytes}
 use Rattle.byteorder.specs.Numbers.{little_number-reads_back}
-use Rattle.scx_isa.specs.declared.slots.Slot.{Slot}
-use Rattle.scx_isa.specs.Slots.{slot_bytes, slot_at, slots_in, IsSlot}
+use Rattle.scx_encoding.specs.declared.slots.Slot.{Slot}
+use Rattle.scx_encoding.specs.Slots.{slot_bytes, slot_at, slots_in, IsSlot}
 
 abbrev pub IsBytes : List ℕ → Type 0
 IsBytes bytes = (i : ℕ) → get_or bytes i 0 < 256

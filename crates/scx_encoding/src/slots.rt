@@ -1,5 +1,5 @@
 ghost use Rattle.std.specs.Prelude.{◌≡◌, ◌+◌, ◌*◌, ◌≤◌, ◌<◌, ◌++◌, length, OnOk};
-ghost use Rattle.scx_isa.specs.Slots.{slot_at, front_slot, slot_bytes, IsSlot};
+ghost use Rattle.scx_encoding.specs.Slots.{slot_at, front_slot, slot_bytes, IsSlot};
 
 use byteorder::{ByteOrder, LittleEndian};
 use std::alloc::AllocError;

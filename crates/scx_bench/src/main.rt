@@ -1,0 +1,93 @@
+//! The program `scx_bench`, which does one piece of work on a file of raw slots over and over, so that
+//! `bench/slots.py` can time it: `scx_bench decode|encode|run FILE TIMES`. It prints a number that
+//! depends on all of the work.
+#![tactic(auto)]
+
+use scx_isa::{Program, decode, encode, flow};
+use scx_vm::{Ran, try_run};
+use std::alloc::Global;
+use std::fs::File;
+use std::io::{Read, Write};
+use std::process::ExitCode;
+use std::rt::{Env, Files};
+use std::{env, io};
+
+/// What the work comes to; `None` where it can't be done.
+type Sum = Option<u64>;
+
+fn main(rt: HostRuntime) -> ExitCode {
+    let Some(sum) = bench(&rt) else {
+        return ExitCode::FAILURE;
+    };
+    match writeln!(io::writer(&rt), "{sum}") {
+        Ok(()) => ExitCode::SUCCESS,
+        Err(_) => ExitCode::FAILURE,
+    }
+}
+
+/// Does the work that the process's words name.
+fn bench<R: AllocGlobal + Env + Files>(rt: &R) -> Sum {
+    let words: Vec<String> = env::args(rt).ok()?.collect(rt.alloc()).ok()?;
+    let [_, work, path, times] = words.as_slice() else {
+        return None;
+    };
+    let times = times.as_str().parse::<u64>().ok()?;
+    let bytes = read(rt, path.as_str())?;
+    match work.as_str() {
+        "decode" => decodes(rt.alloc(), bytes.as_slice(), times),
+        "encode" => encodes(rt.alloc(), bytes.as_slice(), times),
+        "run" => runs(rt.alloc(), bytes.as_slice(), times),
+        _ => None,
+    }
+}
+
+fn read<R: AllocGlobal + Files>(rt: &R, path: &str) -> Option<Vec<u8>> {
+    let mut bytes = Vec::new(rt.alloc());
+    File::open(rt, path).ok()?.read_to_end(&mut bytes).ok()?;
+    Some(bytes)
+}
+
+fn decodes(alloc: Global, bytes: &[u8], times: u64) -> Sum {
+    let mut sum = 0u64;
+    for _ in 0..times {
+        let program = decode(alloc, bytes).ok()?;
+        sum = sum.wrapping_add(program.instructions() as u64);
+    }
+    Some(sum)
+}
+
+fn encodes(alloc: Global, bytes: &[u8], times: u64) -> Sum {
+    let program = decode(alloc, bytes).ok()?;
+    let mut sum = 0u64;
+    for _ in 0..times {
+        let bytes = encode(alloc, &program).ok()?;
+        sum = sum.wrapping_add(bytes.len() as u64);
+    }
+    Some(sum)
+}
+
+fn runs(alloc: Global, bytes: &[u8], times: u64) -> Sum {
+    let program = decode(alloc, bytes).ok()?;
+    let again = decode(alloc, bytes).ok()?;
+    flow(&program).ok()?;
+    flow(&again).ok()?;
+    let mut sum = 0u64;
+    for time in 0..times {
+        // Two programs in turn, so that no run can be taken for the one before.
+        let ran = if time % 2 == 0 {
+            try_run(&program)
+        } else {
+            try_run(&again)
+        };
+        sum = sum.wrapping_add(answer(ran));
+    }
+    Some(sum)
+}
+
+/// A number that depends on how a run ended.
+fn answer(ran: Ran) -> u64 {
+    match ran {
+        Ran::Done(done) => done.r0,
+        Ran::Stuck(slot) => slot as u64,
+    }
+}

@@ -1,0 +1,137 @@
+-- Reading an instruction from its slots, or its first fault. The opcode is looked at first, then the
+-- registers, then the offset where the form lists its values, then the width of a byte order; then the
+-- slot has to be the one that spells the instruction, or a field that it doesn't use isn't 0; then a wide
+-- one needs a second slot.
+use Rattle.std.specs.Prelude.{ℕ, ℤ, ◌&&◌, nat_eq, is_none, List, [], ◌∷◌, Option, Some, None, Result, Ok, Err, ok_or, option_map, if◌then◌else◌}
+use Rattle.std.specs.Int.{w16, w32, cast_signed}
+use Rattle.scx_encoding.specs.declared.slots.Slot.{Slot}
+use Rattle.scx_semantics.specs.declared.instructions.Insn.{Insn}
+use Rattle.scx_semantics.specs.declared.instructions.Insn.TheVariants as insn
+use Rattle.scx_semantics.specs.declared.instructions.Operand.{Operand}
+use Rattle.scx_semantics.specs.declared.instructions.Operand.TheVariants as operand
+use Rattle.scx_semantics.specs.declared.operations.Width.{Width}
+use Rattle.scx_semantics.specs.declared.operations.Width.TheVariants.{Bits32, Bits64}
+use Rattle.scx_semantics.specs.declared.operations.Operation.{Operation}
+use Rattle.scx_semantics.specs.declared.operations.Operation.TheVariants.{Divide, SignedDivide, Modulo, SignedModulo, Move}
+use Rattle.scx_semantics.specs.declared.operations.Extension.{Extension}
+use Rattle.scx_semantics.specs.declared.operations.Extension.TheVariants.{Low8To32, Low16To32, Low8To64, Low16To64, Low32To64}
+use Rattle.scx_semantics.specs.declared.operations.OrderWidth.{OrderWidth}
+use Rattle.scx_semantics.specs.declared.operations.OrderWidth.TheVariants as order
+use Rattle.scx_semantics.specs.declared.registers.Register.{Register}
+use Rattle.scx_encoding.specs.declared.forms.Source.{Source}
+use Rattle.scx_encoding.specs.declared.forms.Source.TheVariants as source
+use Rattle.scx_encoding.specs.declared.forms.Form.{Form}
+use Rattle.scx_encoding.specs.declared.forms.Form.TheVariants.{Binary, Negate, Reorder, Constant, MapReference, Load, Store, JumpIf, Goto, GotoLong, Call, Exit}
+use Rattle.scx_encoding.specs.declared.faults.DecodeFault.{DecodeFault}
+use Rattle.scx_encoding.specs.declared.faults.DecodeFault.TheVariants.{BadRegister, UnusedField, HalfWide, BadOffset, BadWidth}
+use Rattle.scx_semantics.specs.Registers.{register_at}
+use Rattle.scx_encoding.specs.Slots.{same_slot}
+use Rattle.scx_encoding.specs.Opcodes.{coded, form_of}
+use Rattle.scx_semantics.specs.Code.{is_wide}
+use Rattle.scx_encoding.specs.Spelling.{extension_offset, order_bits, first_slot, second_slot}
+
+infixl 10 ◌>>=◌
+abbrev pub ◌>>=◌ : {A B E : Type 0} → Result A E → (A → Result B E) → Result B E
+(Ok x) >>= f = f x
+(Err e) >>= f = Err e
+
+abbrev pub register : ℕ → Result Register DecodeFault
+register n = ok_or (register_at n) BadRegister
+
+abbrev pub operand_at : Source → Slot → Result Operand DecodeFault
+operand_at source.Immediate s = Ok (operand.Immediate (cast_signed w32 s.immediate))
+operand_at source.Register s = do
+  r ← register s.source
+  Ok (operand.Register r)
+
+-- the sign-extending moves of a width
+abbrev pub extensions : Width → List Extension
+extensions Bits32 = Low8To32 ∷ Low16To32 ∷ []
+extensions Bits64 = Low8To64 ∷ Low16To64 ∷ Low32To64 ∷ []
+
+-- the sign-extending move that the offset chooses, of a register alone
+abbrev pub extension_at : Width → Register → Operand → ℕ → Option Insn
+extension_at w d (operand.Immediate k) n = None
+extension_at w d (operand.Register r) n = option_map (λ e. insn.SignExtend e d r) (coded extension_offset (extensions w) n)
+
+-- the arithmetic that the offset chooses; none where the form doesn't list the offset
+abbrev pub binary_at : Width → Operation → Register → Operand → ℕ → Option Insn
+binary_at w Divide d x n = if nat_eq n 0 then Some (insn.Binary w Divide d x) else (if nat_eq n 1 then Some (insn.Binary w SignedDivide d x) else None)
+binary_at w Modulo d x n = if nat_eq n 0 then Some (insn.Binary w Modulo d x) else (if nat_eq n 1 then Some (insn.Binary w SignedModulo d x) else None)
+binary_at w Move d x n = if nat_eq n 0 then Some (insn.Binary w Move d x) else extension_at w d x n
+binary_at w o d x n = Some (insn.Binary w o d x)
+
+abbrev pub order_widths : List OrderWidth
+order_widths = order.Bits16 ∷ order.Bits32 ∷ order.Bits64 ∷ []
+
+-- the immediate of the second half, which has its fault later where it is missing
+abbrev pub high_half : Option Slot → ℕ
+high_half None = 0
+high_half (Some t) = t.immediate
+
+abbrev pub number_at : Slot → ℤ
+number_at s = cast_signed w32 s.immediate
+
+abbrev pub offset_at : Slot → ℤ
+offset_at s = cast_signed w16 s.offset
+
+-- the instruction of that form with the fields of a slot
+abbrev pub built : Form → Slot → Option Slot → Result Insn DecodeFault
+built (Binary w o x) s next = do
+  d ← register s.destination
+  y ← operand_at x s
+  ok_or (binary_at w o d y s.offset) BadOffset
+built (Negate w) s next = do
+  d ← register s.destination
+  Ok (insn.Negate w d)
+built (Reorder o) s next = do
+  d ← register s.destination
+  w ← ok_or (coded order_bits order_widths s.immediate) BadWidth
+  Ok (insn.Reorder o w d)
+built Constant s next = do
+  d ← register s.destination
+  Ok (insn.Constant d (number_at s) (cast_signed w32 (high_half next)))
+built MapReference s next = do
+  d ← register s.destination
+  Ok (insn.MapReference d (number_at s))
+built (Load a) s next = do
+  d ← register s.destination
+  r ← register s.source
+  Ok (insn.Load a d r (offset_at s))
+built (Store z x) s next = do
+  r ← register s.destination
+  y ← operand_at x s
+  Ok (insn.Store z r (offset_at s) y)
+built (JumpIf w c x) s next = do
+  r ← register s.destination
+  y ← operand_at x s
+  Ok (insn.JumpIf w c r (offset_at s) y)
+built Goto s next = Ok (insn.Goto (offset_at s))
+built GotoLong s next = Ok (insn.GotoLong (number_at s))
+built Call s next = Ok (insn.Call (number_at s))
+built Exit s next = Ok insn.Exit
+
+-- what the slot and the one behind it, if any, make of an instruction
+abbrev pub whole : Slot → Option Slot → Insn → Result Insn DecodeFault
+whole s next i = if same_slot s (first_slot i) then (if is_wide i && is_none next then Err HalfWide else Ok i) else Err UnusedField
+
+-- the instruction that begins at a slot, with the slot behind it, if any
+abbrev pub insn_at : Slot → Option Slot → Result Insn DecodeFault
+insn_at s next = do
+  f ← form_of s.opcode s.source
+  i ← built f s next
+  whole s next i
+
+-- whether the slot is the second half that is due
+abbrev pub half_at : Slot → Slot → Result (Option Insn) DecodeFault
+half_at s due = if same_slot s due then Ok None else Err UnusedField
+
+-- What stands at a slot: the second half that is due there, or an instruction.
+abbrev pub place_at : Option Slot → Slot → Option Slot → Result (Option Insn) DecodeFault
+place_at None s next = insn_at s next >>= λ i. Ok (Some i)
+place_at (Some due) s next = half_at s due
+
+-- the second half that is due behind a slot
+abbrev pub due_after : Option Insn → Option Slot
+due_after None = None
+due_after (Some i) = second_slot i

@@ -1,0 +1,84 @@
+ghost use Rattle.std.specs.Prelude.{◌≡◌};
+ghost use Rattle.scx_encoding.specs.Opcodes.{form, base, source_of, extension_width};
+
+use scx_semantics::{Access, Comparison, Extension, Insn, Operand, Operation, Order, Size, Width};
+
+/// Which of its two operands an instruction takes: source bit K or X.
+#[derive(Clone, Copy)]
+pub enum Source {
+    Immediate,
+    Register,
+}
+
+/// An instruction without its operands: what the opcode says of it. The offset tells signed from
+/// unsigned division, and a sign-extending move from a move.
+#[derive(Clone, Copy)]
+pub enum Form {
+    Binary(Width, Operation, Source),
+    Negate(Width),
+    Reorder(Order),
+    Constant,
+    MapReference,
+    Load(Access),
+    Store(Size, Source),
+    JumpIf(Width, Comparison, Source),
+    Goto,
+    GotoLong,
+    Call,
+    Exit,
+}
+
+/// The form of an instruction.
+pub fn form_of_insn(insn: &Insn) -> Form
+    ensures { result ≡ form insn.now }
+{
+    match *insn {
+        Insn::Binary(width, operation, _, operand) => {
+            Form::Binary(width, base_of(operation), kind_of(operand))
+        }
+        Insn::Negate(width, _) => Form::Negate(width),
+        Insn::SignExtend(extension, ..) => {
+            Form::Binary(width_of(extension), Operation::Move, Source::Register)
+        }
+        Insn::Reorder(order, ..) => Form::Reorder(order),
+        Insn::Constant(..) => Form::Constant,
+        Insn::MapReference(..) => Form::MapReference,
+        Insn::Load(access, ..) => Form::Load(access),
+        Insn::Store(size, _, _, operand) => Form::Store(size, kind_of(operand)),
+        Insn::JumpIf(width, comparison, _, _, operand) => {
+            Form::JumpIf(width, comparison, kind_of(operand))
+        }
+        Insn::Goto(_) => Form::Goto,
+        Insn::GotoLong(_) => Form::GotoLong,
+        Insn::Call(_) => Form::Call,
+        Insn::Exit => Form::Exit,
+    }
+}
+
+fn kind_of(operand: Operand) -> Source
+    ensures { result ≡ source_of operand }
+{
+    match operand {
+        Operand::Immediate(_) => Source::Immediate,
+        Operand::Register(_) => Source::Register,
+    }
+}
+
+fn base_of(operation: Operation) -> Operation
+    ensures { result ≡ base operation }
+{
+    match operation {
+        Operation::SignedDivide => Operation::Divide,
+        Operation::SignedModulo => Operation::Modulo,
+        other => other,
+    }
+}
+
+fn width_of(extension: Extension) -> Width
+    ensures { result ≡ extension_width extension }
+{
+    match extension {
+        Extension::Low8To32 | Extension::Low16To32 => Width::Bits32,
+        Extension::Low8To64 | Extension::Low16To64 | Extension::Low32To64 => Width::Bits64,
+    }
+}

@@ -1,0 +1,136 @@
+ghost use Rattle.std.specs.Prelude.{◌≡◌, ◌≤◌};
+
+/// How many bits of its operands an instruction takes: class ALU or JMP32, or class ALU64 or JMP.
+#[derive(Clone, Copy, Debug, PartialEq, Eq)]
+pub enum Width {
+    /// The low 32 bits. The upper half of an arithmetic result is 0.
+    Bits32,
+    Bits64,
+}
+
+/// What arithmetic does with the destination and the operand (RFC 9669, section 4.1).
+#[derive(Clone, Copy, Debug, PartialEq, Eq)]
+pub enum Operation {
+    Add,
+    Subtract,
+    Multiply,
+    /// Unsigned. By zero it gives 0.
+    Divide,
+    /// Signed, cut towards zero. By zero it gives 0.
+    SignedDivide,
+    Or,
+    And,
+    Xor,
+    /// The count of a shift is taken modulo the width.
+    ShiftLeft,
+    ShiftRight,
+    /// Copies of the sign bit come in from the left.
+    ShiftRightSigned,
+    /// The unsigned remainder. By zero it leaves the destination.
+    Modulo,
+    /// The remainder of the signed division. By zero it leaves the destination.
+    SignedModulo,
+    Move,
+}
+
+/// A move that extends the low bits with their sign: how many, and to what width.
+#[derive(Clone, Copy, Debug, PartialEq, Eq)]
+pub enum Extension {
+    Low8To32,
+    Low16To32,
+    Low8To64,
+    Low16To64,
+    Low32To64,
+}
+
+/// The byte order that an instruction brings about (RFC 9669, section 4.2). The host is
+/// little-endian.
+#[derive(Clone, Copy, Debug, PartialEq, Eq)]
+pub enum Order {
+    Little,
+    Big,
+    /// The bytes are swapped, whatever the host.
+    Swapped,
+}
+
+/// How many low bits a change of byte order keeps.
+#[derive(Clone, Copy, Debug, PartialEq, Eq)]
+pub enum OrderWidth {
+    Bits16,
+    Bits32,
+    Bits64,
+}
+
+/// How many bytes of memory an instruction reads or writes (RFC 9669, section 5).
+#[derive(Clone, Copy, Debug, PartialEq, Eq)]
+pub enum Size {
+    Byte,
+    /// 2 bytes.
+    HalfWord,
+    /// 4 bytes.
+    Word,
+    /// 8 bytes.
+    DoubleWord,
+}
+
+/// How a load reads: so many bytes, with zeros above them or with their sign.
+#[derive(Clone, Copy, Debug, PartialEq, Eq)]
+pub enum Access {
+    Byte,
+    HalfWord,
+    Word,
+    DoubleWord,
+    SignedByte,
+    SignedHalfWord,
+    SignedWord,
+}
+
+/// When a conditional jump is taken (RFC 9669, section 4.3).
+#[derive(Clone, Copy, Debug, PartialEq, Eq)]
+pub enum Comparison {
+    Equal,
+    Greater,
+    GreaterOrEqual,
+    /// Some bit is set in both.
+    AnyBit,
+    NotEqual,
+    SignedGreater,
+    SignedGreaterOrEqual,
+    Less,
+    LessOrEqual,
+    SignedLess,
+    SignedLessOrEqual,
+}
+
+impl Size {
+    ghost use Rattle.scx_semantics.specs.Memory.{size_bytes};
+
+    /// How many bytes it is.
+    pub fn bytes(self) -> u16
+        ensures bytes { result ≡ size_bytes self }
+        ensures most { result ≤ 8 }
+    {
+        match self {
+            Size::Byte => 1,
+            Size::HalfWord => 2,
+            Size::Word => 4,
+            Size::DoubleWord => 8,
+        }
+    }
+}
+
+impl Access {
+    ghost use Rattle.scx_semantics.specs.Memory.{access_size};
+
+    /// How many bytes it reads.
+    pub fn size(self) -> Size
+        ensures { result ≡ access_size self }
+    {
+        match self {
+            Access::Byte | Access::SignedByte => Size::Byte,
+            Access::HalfWord | Access::SignedHalfWord => Size::HalfWord,
+            Access::Word | Access::SignedWord => Size::Word,
+            Access::DoubleWord => Size::DoubleWord,
+        }
+    }
+}
