@@ -1,0 +1,9 @@
+pub mod Limits
+pub mod Refusals
+pub mod Sameness
+pub mod Contents
+pub mod Numbers
+pub mod Places
+pub mod Layout
+pub mod Lending
+pub mod Laws

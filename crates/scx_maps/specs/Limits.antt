@@ -1,0 +1,31 @@
+-- Shapes of array maps and their limits: a map has 1 to 65536 entries, each a value of 1 to 4096
+-- bytes; there are at most 16 maps, and their values take at most 16,777,216 bytes together.
+use Rattle.std.specs.Prelude.{ℕ, ◌*◌, ◌≤◌, List, length, sum_by, All}
+use Rattle.scx_maps.specs.declared.shape.Shape.{Shape}
+use Rattle.scx_maps.specs.declared.shape.TheConstants.{MAX_ENTRIES, MAX_VALUE_SIZE}
+use Rattle.scx_maps.specs.declared.defs.TheConstants.{MAX_MAPS, MAX_BYTES}
+
+-- how many bytes the values of a map take
+abbrev pub byte_count : Shape → ℕ
+byte_count s = s.entries * s.value_size
+
+-- how many bytes the values of all maps take
+abbrev pub total_bytes : List Shape → ℕ
+total_bytes shapes = sum_by byte_count shapes
+
+pub record HasEntries (s : Shape) : Type 0 where
+  pub some : 1 ≤ s.entries
+  pub within : s.entries ≤ MAX_ENTRIES
+
+pub record HasValueSize (s : Shape) : Type 0 where
+  pub some : 1 ≤ s.value_size
+  pub within : s.value_size ≤ MAX_VALUE_SIZE
+
+pub record IsWithinLimits (s : Shape) : Type 0 where
+  pub entries : HasEntries s
+  pub value_size : HasValueSize s
+
+pub record AreWithinLimits (shapes : List Shape) : Type 0 where
+  pub count : length shapes ≤ MAX_MAPS
+  pub each : All IsWithinLimits shapes
+  pub total : total_bytes shapes ≤ MAX_BYTES

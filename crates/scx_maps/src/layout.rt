@@ -1,0 +1,83 @@
+ghost use Rattle.std.specs.Prelude.{◌≡◌, ◌≤◌, ◌<◌, ◌+◌, length};
+ghost use Rattle.scx_maps.specs.Limits.{AreWithinLimits, total_bytes};
+ghost use Rattle.scx_maps.specs.Layout.{shape_at, place_of};
+
+use crate::defs::{MAX_MAPS, MapDefs};
+use crate::shape::Shape;
+use std::marker::Model;
+
+/// Where each map stands in one block of bytes.
+///
+/// In a contract it is the list of the shapes.
+#[derive(Debug, Drop)]
+pub struct Layout {
+    defs: MapDefs,
+    /// The byte at which each map begins.
+    starts: [usize; MAX_MAPS],
+    /// How many bytes all maps take.
+    bytes: usize,
+}
+
+impl Model for Layout {
+    ghost use Rattle.std.specs.Prelude.{List};
+    ghost use Rattle.scx_maps.specs.declared.shape.Shape.{Shape};
+    ghost use Rattle.scx_maps.specs.Layout.{IsLaidOut};
+
+    ghost Value = { List Shape };
+
+    ghost view = { λ l. l.defs };
+
+    ghost invariant = { λ l. IsLaidOut l.defs l.starts l.bytes };
+}
+
+impl Layout {
+    pub fn new(defs: &MapDefs) -> Layout
+        ensures { result ≡ defs.now }
+    {
+        let mut starts = [0; MAX_MAPS];
+        let mut bytes = 0;
+        for (map, shape) in defs.shapes().iter().enumerate() {
+            starts[map] = bytes;
+            bytes += shape.bytes();
+        }
+        Layout {
+            defs: *defs,
+            starts,
+            bytes,
+        }
+    }
+
+    /// How many bytes all maps take.
+    pub fn bytes(&self) -> usize
+        ensures bytes { result ≡ total_bytes self.now }
+        ensures limits { AreWithinLimits self.now }
+    {
+        self.bytes
+    }
+
+    /// How many maps there are.
+    pub fn count(&self) -> usize
+        ensures { result ≡ length self.now }
+    {
+        self.defs.count()
+    }
+
+    pub fn shape(&self, map: u8) -> Shape
+        requires { map < length self.now }
+        ensures { result ≡ shape_at self.now map }
+    {
+        self.defs.shapes()[usize::from(map)]
+    }
+
+    /// The byte at which an entry begins.
+    pub fn place(&self, map: u8, index: u32) -> usize
+        requires map { map < length self.now }
+        requires index { index < (shape_at self.now map).entries }
+        ensures place { result ≡ place_of self.now map index }
+        ensures within { result + (shape_at self.now map).value_size ≤ total_bytes self.now }
+        ensures limits { AreWithinLimits self.now }
+    {
+        let shape = self.shape(map);
+        self.starts[usize::from(map)] + index as usize * shape.value_size as usize
+    }
+}

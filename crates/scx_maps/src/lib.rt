@@ -1,0 +1,24 @@
+//! Array maps of BPF programs (RFC 9669, section 5.4.1): a map is a fixed number of entries, numbered
+//! from 0, each a value of a fixed number of bytes.
+//!
+//! `MapDefs` is the list of the shapes of a policy's maps, within this host's limits. `Maps` holds
+//! their values. In contracts it is the list of maps, each the list of its entries, each the list of
+//! its bytes; a call reads or changes one place of it. All values stand in one block, which
+//! `Maps::new` alone takes; each other call takes constant time.
+#![tactic(auto)]
+
+mod bad_shape;
+mod defs;
+mod layout;
+mod maps;
+mod numbers;
+mod shape;
+mod size;
+#[cfg(test)]
+mod tests;
+
+pub use bad_shape::BadShape;
+pub use defs::{MAX_BYTES, MAX_MAPS, MapDefs};
+pub use maps::Maps;
+pub use shape::{MAX_ENTRIES, MAX_VALUE_SIZE, Shape};
+pub use size::Size;

@@ -1,0 +1,110 @@
+ghost use Rattle.std.specs.Prelude.{◌≡◌, ℕ, ◌≤◌, ◌<◌, ◌+◌, ◌↔◌, List, length, IsTrue, IfOk};
+ghost use Rattle.std.specs.Borrow.{sem};
+ghost use Rattle.scx_maps.specs.Contents.{entries_of, value_of, with_value, zeros, lengths_of, HasShapes};
+ghost use Rattle.scx_maps.specs.Numbers.{bytes_of, number_at, with_number};
+ghost use Rattle.scx_maps.specs.Lending.{LendsValue, given_back};
+
+use crate::defs::MapDefs;
+use crate::layout::Layout;
+use crate::numbers::{read_number, write_number};
+use crate::size::Size;
+use std::alloc::{AllocError, Global};
+use std::marker::Model;
+
+/// The values of a policy's maps. Maps and entries are numbered from 0.
+///
+/// In a contract it is the list of the maps, each the list of its entries, each the list of its
+/// bytes.
+#[derive(Debug, Drop)]
+pub struct Maps {
+    layout: Layout,
+    block: Vec<u8>,
+}
+
+impl Model for Maps {
+    ghost use Rattle.std.specs.Prelude.{ℕ, List};
+    ghost use Rattle.scx_maps.specs.Layout.{contents_in, IsBlockOf};
+
+    ghost Value = { List (List (List ℕ)) };
+
+    ghost view = { λ m. contents_in m.layout m.block.items };
+
+    ghost invariant = { λ m. IsBlockOf m.layout m.block.items };
+}
+
+impl Maps {
+    /// Maps of the given shapes, all bytes 0.
+    pub fn new(alloc: Global, defs: &MapDefs) -> Result<Maps, AllocError>
+        ensures zeros { IfOk result (λ maps. maps ≡ zeros defs.now) }
+        ensures shapes { IfOk result (λ maps. HasShapes defs.now maps) }
+    {
+        let layout = Layout::new(defs);
+        let block = vec![in alloc; 0; layout.bytes()]?;
+        Ok(Maps { layout, block })
+    }
+
+    /// How many maps there are.
+    pub fn count(&self) -> usize
+        ensures { result ≡ length self.now }
+    {
+        self.layout.count()
+    }
+
+    /// Whether the map has an entry of this key.
+    pub fn lookup(&self, map: u8, key: u32) -> bool
+        requires { map < length self.now }
+        ensures { IsTrue result ↔ (key < length (entries_of self.now map)) }
+    {
+        key < self.layout.shape(map).entries
+    }
+
+    /// The bytes of an entry.
+    pub fn value(&self, map: u8, index: u32) -> &[u8]
+        requires map { map < length self.now }
+        requires index { index < length (entries_of self.now map) }
+        ensures { result.now ≡ value_of self.now map index }
+    {
+        let start = self.layout.place(map, index);
+        let size = self.layout.shape(map).value_size as usize;
+        &self.block[start..start + size]
+    }
+
+    /// The bytes of an entry, for writing. What the slice holds when it is given back, with its length
+    /// as it was, is what the entry then has; nothing else changes.
+    pub fn value_mut(&mut self, map: u8, index: u32) -> &mut [u8]
+        requires map { map < length self.old }
+        requires index { index < length (entries_of self.old map) }
+        ensures* writes_back { sem 𝓛 (LendsValue self.entry map index result) }
+        ensures value { result.now ≡ value_of self.old map index }
+        ensures changes { (bytes : List ℕ) → length bytes ≡ length result.now
+            → given_back self.old map index bytes ≡ with_value self.old map index bytes }
+        ensures shapes { (bytes : List ℕ) → length bytes ≡ length result.now
+            → lengths_of (with_value self.old map index bytes) ≡ lengths_of self.old }
+    {
+        let start = self.layout.place(map, index);
+        let size = self.layout.shape(map).value_size as usize;
+        self.block.slice_mut(start..start + size)
+    }
+
+    /// The number in an entry at a byte, low byte first.
+    pub fn load(&self, map: u8, index: u32, offset: u16, size: Size) -> u64
+        requires map { map < length self.now }
+        requires index { index < length (entries_of self.now map) }
+        requires offset { offset + bytes_of size ≤ length (value_of self.now map index) }
+        ensures { result ≡ number_at (value_of self.now map index) offset size }
+    {
+        read_number(self.value(map, index), offset, size)
+    }
+
+    /// Writes the lowest bytes of a number into an entry at a byte, low byte first.
+    pub fn store(&mut self, map: u8, index: u32, offset: u16, size: Size, number: u64)
+        requires map { map < length self.old }
+        requires index { index < length (entries_of self.old map) }
+        requires offset { offset + bytes_of size ≤ length (value_of self.old map index) }
+        ensures stored { let value = value_of self.old map index in
+            self.new ≡ with_value self.old map index (with_number value offset size number) }
+        ensures shapes { lengths_of self.new ≡ lengths_of self.old }
+    {
+        write_number(self.value_mut(map, index), offset, size, number);
+    }
+}
