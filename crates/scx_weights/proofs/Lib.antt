@@ -1,0 +1,9 @@
+pub mod Counting
+pub mod Paths
+pub mod Slots
+pub mod Reweighed
+pub mod Activity
+pub mod Admitted
+pub mod Shares
+pub mod Exactness
+pub mod Ways

@@ -1,0 +1,6 @@
+pub mod Counting
+pub mod Hierarchy
+pub mod Weights
+pub mod Refusals
+pub mod Laws
+pub mod RunningSums

@@ -1,0 +1,23 @@
+//! Shares of processor time by `cpu.weight` (Linux Documentation/admin-guide/cgroup-v2.rst).
+//!
+//! A `Tree` holds groups with weights, the group of each task, and which tasks are active. `weight_of`
+//! answers a task's share, computed exactly from the whole tree as it is now. Sums that are kept up
+//! along the way to the top make every call but `new` cost at most three levels, however many groups
+//! and tasks there are.
+#![tactic(auto)]
+
+mod admission;
+mod error;
+mod group;
+mod laws;
+mod share;
+mod sums;
+mod tree;
+
+pub use error::TreeError;
+pub use group::{Group, MAX_DEPTH, MAX_GROUPS, MAX_TASKS, MAX_WEIGHT};
+pub use laws::ways_reach_top;
+pub use tree::Tree;
+
+#[cfg(test)]
+mod tests;

@@ -1,0 +1,164 @@
+ghost use Rattle.std.specs.Prelude.{◌≡◌, ◌<◌, ◌≤◌, true, false, length, IfOk, IfErr, OnOk, OnErr};
+
+use crate::admission::{first_fault, is_bad_weight};
+use crate::error::TreeError;
+use crate::group::{Group, MAX_GROUPS, MAX_TASKS};
+use crate::share::weight_in;
+use crate::sums::Sums;
+use std::alloc::Global;
+use std::marker::Model;
+
+/// Groups with weights, tasks in them, and which tasks are active.
+///
+/// Groups and tasks go by their places in the lists that the tree was made of. In a contract a tree is
+/// those two lists and whether each task is active.
+#[derive(Debug, Drop)]
+pub struct Tree {
+    groups: Vec<Group>,
+    homes: Vec<u32>,
+    active: Vec<bool>,
+    sums: Sums,
+}
+
+impl Model for Tree {
+    ghost use Rattle.scx_weights.specs.Hierarchy.{Hierarchy};
+    ghost use Rattle.scx_weights.specs.RunningSums.{IsKept};
+
+    ghost Value = { Hierarchy };
+
+    ghost view = { λ t. record { groups = t.groups.items; homes = t.homes.items; active = t.active.items } };
+
+    ghost invariant = { λ t.
+        IsKept
+        (record { groups = t.groups.items; homes = t.homes.items; active = t.active.items })
+        t.sums.tasks.items t.sums.weights.items };
+}
+
+impl Tree {
+    ghost use Rattle.scx_weights.specs.Hierarchy.{home_of, is_active_task, with_task, with_weight, idle};
+    ghost use Rattle.scx_weights.specs.Weights.{active_tasks, task_weight};
+    ghost use Rattle.scx_weights.specs.Refusals.{max_tasks, first_fault, weight_fault, Names};
+
+    /// A tree of these groups, and of tasks in the groups that `tasks` names; no task is active.
+    ///
+    /// A parent stands earlier in the list than its children. Memory is taken here alone.
+    pub fn new(alloc: Global, groups: &[Group], tasks: &[u32]) -> Result<Tree, TreeError>
+        ensures made { IfOk result (λ tree. tree ≡ idle groups.now tasks.now) }
+        ensures valid { OnOk result (first_fault groups.now tasks.now ≡ None) }
+        // Want of memory comes only where the lists have no fault.
+        ensures refused { IfErr result (Names (first_fault groups.now tasks.now)) }
+    {
+        if let Some(fault) = first_fault(groups, tasks) {
+            return Err(fault);
+        }
+        Ok(Tree {
+            groups: Vec::from_slice(alloc, groups)?,
+            homes: Vec::from_slice(alloc, tasks)?,
+            active: vec![in alloc; false; tasks.len()]?,
+            sums: Sums::new(alloc, groups.len())?,
+        })
+    }
+
+    /// How many groups there are, 1 to 256.
+    pub fn groups(&self) -> u32
+        ensures groups { result ≡ length self.now.groups }
+        ensures some { 0 < result }
+        ensures few { result ≤ MAX_GROUPS }
+    {
+        self.groups.len() as u32
+    }
+
+    /// How many tasks there are, 1 to 1024.
+    pub fn tasks(&self) -> u32
+        ensures tasks { result ≡ length self.now.homes }
+        ensures some { 0 < result }
+        ensures few { result ≤ MAX_TASKS }
+    {
+        self.homes.len() as u32
+    }
+
+    /// The number of the task's group.
+    pub fn group_of(&self, task: u32) -> u32
+        requires { task < length self.now.homes }
+        ensures group { result ≡ home_of self.now task }
+        ensures known { result < length self.now.groups }
+    {
+        self.homes[task as usize]
+    }
+
+    pub fn is_active(&self, task: u32) -> bool
+        requires { task < length self.now.homes }
+        ensures { result ≡ is_active_task self.now task }
+    {
+        self.active[task as usize]
+    }
+
+    /// Sets the weight of a group.
+    pub fn set_weight(&mut self, group: u32, weight: u32) -> Result<(), TreeError>
+        ensures set { OnOk result (self.new ≡ with_weight self.old group weight) }
+        ensures valid { OnOk result (weight_fault self.old group weight ≡ None) }
+        ensures refused { IfErr result (λ error. weight_fault self.old group weight ≡ Some error) }
+        ensures kept { OnErr result (self.new ≡ self.old) }
+    {
+        if self.groups.len() <= group as usize {
+            return Err(TreeError::UnknownGroup);
+        }
+        if is_bad_weight(weight) {
+            return Err(TreeError::OutOfRange);
+        }
+        self.sums.reweigh(&self.groups, group, weight);
+        self.groups[group as usize].weight = weight;
+        Ok(())
+    }
+
+    /// The task is active from now on; nothing changes if it is already.
+    pub fn activate(&mut self, task: u32)
+        requires { task < length self.old.homes }
+        ensures { self.new ≡ with_task self.old task true }
+    {
+        let active = &mut self.active[task as usize];
+        if !*active {
+            *active = true;
+            self.sums.raise(&self.groups, self.homes[task as usize]);
+        }
+    }
+
+    /// The task is not active from now on; nothing changes if it isn't now.
+    pub fn deactivate(&mut self, task: u32)
+        requires { task < length self.old.homes }
+        ensures { self.new ≡ with_task self.old task false }
+    {
+        let active = &mut self.active[task as usize];
+        if *active {
+            *active = false;
+            self.sums.lower(&self.groups, self.homes[task as usize]);
+        }
+    }
+
+    /// The task's share of processor time, itself counted as active, in parts of 10000: rounded down,
+    /// but at least 1. `cpu.weight` of cgroup-v2.rst makes the shares.
+    pub fn weight_of(&self, task: u32) -> u32
+        requires { task < length self.now.homes }
+        ensures weight { result ≡ task_weight self.now task }
+        ensures least { 1 ≤ result }
+        ensures greatest { result ≤ 10000 }
+    {
+        let tasks = self.active_beside(task);
+        weight_in(&self.groups, &self.sums, self.homes[task as usize], tasks)
+    }
+
+    /// How many active tasks the task's group has, the task itself counted as active.
+    fn active_beside(&self, task: u32) -> u32
+        requires { task < length self.now.homes }
+        ensures tasks { result ≡ active_tasks (with_task self.now task true) (home_of self.now task) }
+        ensures some { 1 ≤ result }
+        ensures few { result ≤ max_tasks }
+    {
+        let tasks = self.sums.tasks_in(self.homes[task as usize]);
+        if self.active[task as usize] {
+            tasks
+        } else {
+            tasks + 1
+        }
+    }
+}
