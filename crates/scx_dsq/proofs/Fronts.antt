@@ -1,0 +1,164 @@
+-- The front of a queue and what else is asked of it, from the row that lists it.
+use Rattle.std.proofs.Common.{◌≡◌, ◌≢◌, ℕ, zero, suc, ◌+◌, ◌<◌, Bool, true, false, ◌==◌, not, List, [], ◌∷◌, length, get_or, Contains, count_by, Option, Some, None, IfSome, IfNone, cond, refl, sym, ap, ◌∙◌, subst, arith, ◌⊎◌, inl, inr}
+use Rattle.std.specs.List.{list_any, list_all}
+use Rattle.std.proofs.lemmas.Bool.{both_ways, eq-eqb, eqb-true, and_from, and_parts, not-true, cases_eq, cases_Bool, false_from_ne_true}
+use Rattle.std.proofs.lemmas.List.{get_or_default}
+use Rattle.std.proofs.lemmas.List.Sums.{list_all-from_AllPass, sum_by-cons}
+use Rattle.std.proofs.lemmas.List.Folds.{list_all_at, list_any_at, list_any_none}
+use Rattle.scx_dsq.specs.declared.places.Rank.{Rank}
+use Rattle.scx_dsq.specs.declared.places.Rank.TheVariants.{Fifo, Vtime}
+use Rattle.scx_dsq.specs.declared.places.Place.{Place}
+use Rattle.scx_dsq.specs.declared.lines.Entry.{Entry}
+use Rattle.scx_dsq.specs.Places.{same_sort, is_before}
+use Rattle.scx_dsq.specs.Queues.{QueueState, place_at, is_in, Waits, IsFront, is_ahead, is_first, front_of, len_of}
+use Rattle.scx_dsq.specs.Calls.{clashes}
+use Rattle.scx_dsq.specs.Laws.{HasOneSort}
+use Rattle.scx_dsq.specs.Lines.{first_task, first_clashes}
+use Rattle.scx_dsq.specs.Kept.{Lists}
+use Rattle.scx_dsq.proofs.Orders.{before-asym}
+use Rattle.scx_dsq.proofs.Edits.{position_is, no_position}
+use Rattle.scx_dsq.proofs.Standing.{waits_below, same_place}
+
+-- nobody waits in the queue
+abbrev pub NobodyIn : QueueState → ℕ → Type 0
+NobodyIn s id = (t : ℕ) (p : Place) → Waits s id t p → ⊥
+
+pub nobody_listed : (s : QueueState) (id : ℕ) → Lists s.places id [] → NobodyIn s id
+nobody_listed s id h t p w = let found = h.all t p w.0 w.1 in absurd (omega (arith, found.1))
+
+pub first_is_front : (s : QueueState) (id : ℕ) (e : Entry) (es : List Entry) → Lists s.places id (e ∷ es) → IsFront s id e.task
+first_is_front s id e es h = record {
+  place = e.place;
+  waits = h.there 0 e (omega arith);
+  first = λ u other n w. go u other n (h.all u other w.0 w.1);
+}
+  where
+    go : (u : ℕ) (other : Place) → u ≢ e.task → Contains (e ∷ es) (record { task = u; place = other }) → is_before e.place other ≡ true
+    go u other n (zero, lt, same) = absurd (n (sym (ap (λ (x : Entry). x.task) same)))
+    go u other n (suc k, lt, same) =
+        subst (λ (x : Entry). is_before e.place x.place ≡ true) same (h.ordered 0 (suc k) (record { task = u; place = other }) (omega arith) lt)
+
+-- ---- the front as it is computed
+
+behind_front : (s : QueueState) (id t : ℕ) (f : IsFront s id t) (k : ℕ) (o : Option Place) → place_at s.places k ≡ o → is_ahead id f.place o ≡ false
+behind_front s id t f k None e = refl
+behind_front s id t f k (Some q) e = false_from_ne_true _ (λ h. let parts = and_parts (q.queue == id) (is_before q f.place) h in go (cases_eq k t) (eqb-true q.queue id parts.0) parts.1)
+  where
+    go : (k ≡ t) ⊎ (k ≡ t → ⊥) → q.queue ≡ id → is_before q f.place ≡ true → ⊥
+    go (inl same) here h =
+        let one : f.place ≡ q = same_place s.places t f.place q f.waits.0 (subst (λ v. place_at s.places v ≡ Some q) same e) in
+        let itself : is_before q q ≡ true = subst (λ v. is_before q v ≡ true) one h in
+        both_ways (is_before q q) (before-asym q q itself) itself
+    go (inr n) here h =
+        both_ways (is_before q f.place) (before-asym f.place q (f.first k q n (e, here))) h
+
+not_first : (s : QueueState) (id t : ℕ) (f : IsFront s id t) (k : ℕ) (o : Option Place) → k ≢ t → place_at s.places k ≡ o → is_first s.places id o ≡ false
+not_first s id t f k None n e = refl
+not_first s id t f k (Some q) n e = go (cases_Bool (q.queue == id))
+  where
+    go : ((q.queue == id) ≡ true) ⊎ ((q.queue == id) ≡ false) → is_first s.places id (Some q) ≡ false
+    go (inr out) = rw out refl
+    go (inl here) =
+        let before : is_before f.place q ≡ true = f.first k q n (e, eqb-true q.queue id here) in
+        let ahead : is_ahead id q (place_at s.places t) ≡ true = rw (f.waits.0, eq-eqb f.place.queue id f.waits.1, before) refl in
+        let all : list_all (λ o. not (is_ahead id q o)) s.places ≡ false =
+        list_all_at (λ o. not (is_ahead id q o)) s.places t None (waits_below s.places t f.place f.waits.0) (rw ahead refl) in
+        rw (here, all) refl
+
+pub front_is : (s : QueueState) (id t : ℕ) → IsFront s id t → front_of s id ≡ Some t
+unfolding front_of
+front_is s id t f =
+    position_is (is_first s.places id) s.places t None (waits_below s.places t f.place f.waits.0) passes (λ k n. not_first s id t f k (place_at s.places k) n refl)
+  where
+    passes : is_first s.places id (place_at s.places t) ≡ true
+    passes =
+        rw f.waits.0 (and_from (f.place.queue == id) _ (eq-eqb f.place.queue id f.waits.1)
+        (list_all-from_AllPass (λ o. not (is_ahead id f.place o)) s.places (λ k d lt. rw (behind_front s id t f k (get_or s.places k d) (get_or_default s.places k None d lt)) refl)))
+
+pub no_front : (s : QueueState) (id : ℕ) → NobodyIn s id → front_of s id ≡ None
+unfolding front_of
+no_front s id nobody = no_position (is_first s.places id) s.places (λ k d lt. go k (get_or s.places k d) (get_or_default s.places k None d lt))
+  where
+    go : (k : ℕ) (o : Option Place) → place_at s.places k ≡ o → is_first s.places id o ≡ false
+    go k None e = refl
+    go k (Some q) e = false_from_ne_true _ (λ h. nobody k q (e, eqb-true q.queue id (and_parts (q.queue == id) _ h).0))
+
+-- a queue has one front
+pub front_once : (s : QueueState) (id t u : ℕ) → IsFront s id t → IsFront s id u → t ≡ u
+front_once s id t u f g = go (cases_eq t u)
+  where
+    go : (t ≡ u) ⊎ (t ≡ u → ⊥) → t ≡ u
+    go (inl same) = same
+    go (inr n) =
+        let a : is_before f.place g.place ≡ true = f.first u g.place (λ e. n (sym e)) g.waits in
+        let b : is_before g.place f.place ≡ true = g.first t f.place n f.waits in
+        absurd (both_ways (is_before g.place f.place) (before-asym f.place g.place a) b)
+
+-- what a row's first says of the queue
+pub row_front : (s : QueueState) (id : ℕ) (es : List Entry) → Lists s.places id es → first_task es ≡ front_of s id
+row_front s id [] h = sym (no_front s id (nobody_listed s id h))
+row_front s id (e ∷ es) h = sym (front_is s id e.task (first_is_front s id e es h))
+
+pub row_first : (s : QueueState) (id : ℕ) (es : List Entry) → Lists s.places id es → IfSome (first_task es) (IsFront s id)
+row_first s id [] h = tt
+row_first s id (e ∷ es) h = first_is_front s id e es h
+
+pub row_empty : (s : QueueState) (id : ℕ) (es : List Entry) → Lists s.places id es → IfNone (first_task es) (NobodyIn s id)
+row_empty s id [] h = nobody_listed s id h
+row_empty s id (e ∷ es) h = tt
+
+-- ---- counting
+
+count_none : {X : Type 0} (p : X → Bool) (xs : List X) → ((k : ℕ) (d : X) → k < length xs → p (get_or xs k d) ≡ false) → count_by p xs ≡ 0
+count_none p [] out = refl
+count_none p (x ∷ xs) out =
+    let here : p x ≡ false = out 0 x (omega arith) in
+    let rest = count_none p xs (λ k d lt. out (suc k) d (omega arith)) in
+    let e : count_by p (x ∷ xs) ≡ cond (p x) 1 0 + count_by p xs = sum_by-cons (λ y. cond (p y) 1 0) x xs in
+    e ∙ rw (here, rest) refl
+
+pub nobody_counts : (s : QueueState) (id : ℕ) → NobodyIn s id → len_of s id ≡ 0
+nobody_counts s id nobody = count_none (is_in id) s.places (λ k d lt. go k (get_or s.places k d) (get_or_default s.places k None d lt))
+  where
+    go : (k : ℕ) (o : Option Place) → place_at s.places k ≡ o → is_in id o ≡ false
+    go k None e = refl
+    go k (Some q) e = false_from_ne_true _ (λ h. nobody k q (e, eqb-true q.queue id h))
+
+-- ---- sorts
+
+same_sort-trans : (a b c : Rank) → same_sort a b ≡ true → same_sort b c ≡ true → same_sort a c ≡ true
+same_sort-trans Fifo Fifo c h k = k
+same_sort-trans Fifo (Vtime x) c h k = absurd (cc)
+same_sort-trans (Vtime x) Fifo c h k = absurd (cc)
+same_sort-trans (Vtime x) (Vtime y) Fifo h k = absurd (cc)
+same_sort-trans (Vtime x) (Vtime y) (Vtime z) h k = refl
+
+pub row_clashes : (s : QueueState) (id : ℕ) (rank : Rank) (es : List Entry) → HasOneSort s → Lists s.places id es → first_clashes rank es ≡ list_any (clashes id rank) s.places
+row_clashes s id rank [] sorts h =
+    sym (list_any_none (clashes id rank) s.places (λ k d lt. go k (get_or s.places k d) (get_or_default s.places k None d lt)))
+  where
+    go : (k : ℕ) (o : Option Place) → place_at s.places k ≡ o → clashes id rank o ≡ false
+    go k None e = refl
+    go k (Some q) e = false_from_ne_true _ (λ c. nobody_listed s id h k q (e, eqb-true q.queue id (and_parts (q.queue == id) _ c).0))
+row_clashes s id rank (x ∷ es) sorts h = by_sort (cases_Bool (same_sort x.place.rank rank))
+  where
+    there : place_at s.places x.task ≡ Some x.place
+    there = (h.there 0 x (omega arith)).0
+
+    here : x.place.queue ≡ id
+    here = (h.there 0 x (omega arith)).1
+
+    go : same_sort x.place.rank rank ≡ true → (k : ℕ) (o : Option Place) → place_at s.places k ≡ o → clashes id rank o ≡ false
+    go fits k None e = refl
+    go fits k (Some q) e = false_from_ne_true _ (λ c.
+        let parts = and_parts (q.queue == id) (not (same_sort q.rank rank)) c in
+        let queue : q.queue ≡ x.place.queue = eqb-true q.queue id parts.0 ∙ sym here in
+        let one : same_sort q.rank rank ≡ true = same_sort-trans q.rank x.place.rank rank (sorts k x.task q x.place e there queue) fits in
+        both_ways (same_sort q.rank rank) (not-true (same_sort q.rank rank) parts.1) one)
+
+    by_sort : (same_sort x.place.rank rank ≡ true) ⊎ (same_sort x.place.rank rank ≡ false) → not (same_sort x.place.rank rank) ≡ list_any (clashes id rank) s.places
+    by_sort (inl fits) =
+        rw fits (sym (list_any_none (clashes id rank) s.places (λ k d lt. go fits k (get_or s.places k d) (get_or_default s.places k None d lt))))
+    by_sort (inr other) =
+        let clash : clashes id rank (place_at s.places x.task) ≡ true = rw (there, eq-eqb x.place.queue id here, other) refl in
+        rw other (sym (list_any_at (clashes id rank) s.places x.task None (waits_below s.places x.task x.place there) clash))

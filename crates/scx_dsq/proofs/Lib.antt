@@ -1,0 +1,10 @@
+pub mod Orders
+pub mod Edits
+pub mod Standing
+pub mod Rows
+pub mod Fronts
+pub mod Sound
+pub mod Keeping
+pub mod Counted
+pub mod Replies
+pub mod Histories

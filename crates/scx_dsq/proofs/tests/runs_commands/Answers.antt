@@ -1,0 +1,11 @@
+use Rattle.std.proofs.Common.{◌<◌, arith}
+use Rattle.std.proofs.lemmas.List.Elements.{All-from_recursion}
+use Rattle.scx_dsq.specs.Queues.{task_count}
+use Rattle.scx_dsq.specs.Commands.{KnowsTask}
+use Rattle.scx_dsq.proofs.tests.runs_commands.Goals as goal
+
+pub run-requires-clause-tasks : goal.run-requires-clause-tasks
+run-requires-clause-tasks g c =
+    let zero_known : 0 < task_count c.in_ok-queues.queues = omega (arith, c.in_ok-queues.ensures.tasks) in
+    let one_known : 1 < task_count c.in_ok-queues.queues = omega (arith, c.in_ok-queues.ensures.tasks) in
+    All-from_recursion (KnowsTask c.in_ok-queues.queues) _ (tt, (one_known, (zero_known, (tt, (one_known, (tt, tt))))))

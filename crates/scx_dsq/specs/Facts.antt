@@ -1,0 +1,152 @@
+-- Facts about the definitions, for crates above: what a call leaves as it was, and in how many queues
+-- a task waits.
+use Rattle.std.proofs.Common.{◌≡◌, ℕ, ◌+◌, ◌<◌, ◌≤◌, Bool, true, false, ◌==◌, ◌⊎◌, inl, inr, not, if◌then◌else◌, is_none, length, set, Option, Some, None, is_some, refl, arith}
+use Rattle.std.specs.List.{list_any}
+use Rattle.std.proofs.lemmas.Bool.{cases_eq, cases_lt, eq-eqb, ne_eqb}
+use Rattle.std.proofs.lemmas.List.{length-set, get_or-set_same, get_or-set_other, get_or_past, set_past}
+use Rattle.std.proofs.lemmas.List.Quantifiers.{position-Some}
+use Rattle.scx_dsq.specs.declared.places.Rank.{Rank}
+use Rattle.scx_dsq.specs.declared.places.Place.{Place}
+use Rattle.scx_dsq.specs.declared.errors.QueueError.{QueueError}
+use Rattle.scx_dsq.specs.declared.errors.QueueError.TheVariants.{NoSuchQueue, AlreadyThere, Mixed}
+use Rattle.scx_dsq.specs.Queues.{Places, QueueState, exists, task_count, place_at, place_of, is_first, front_of}
+use Rattle.scx_dsq.specs.Calls.{clashes, create_refusal, with_queue, created, push_refusal, pushed, with_task, without, without_task, removed, next_place}
+use Rattle.scx_dsq.specs.Laws.{one_if, standing, PushAddsOne, PopTakesOne, RemovalTakesOne, OthersChangeNone}
+
+-- ---- what a call leaves as it was
+
+pub tasks_created : (s : QueueState) (id : ℕ) → task_count (created s id) ≡ task_count s
+tasks_created s id = go (is_none (create_refusal s id))
+  where
+    go : (b : Bool) → task_count (if b then with_queue s id else s) ≡ task_count s
+    go true = refl
+    go false = refl
+
+pub tasks_pushed : (s : QueueState) (id t : ℕ) (rank : Rank) → task_count (pushed s id t rank) ≡ task_count s
+tasks_pushed s id t rank = go (is_none (push_refusal s id t rank))
+  where
+    go : (b : Bool) → task_count (if b then with_task s id t rank else s) ≡ task_count s
+    go true = length-set s.places t (Some (next_place s id rank))
+    go false = refl
+
+pub tasks_without : (s : QueueState) (o : Option ℕ) → task_count (without s o) ≡ task_count s
+tasks_without s None = refl
+tasks_without s (Some t) = length-set {A = Option Place} s.places t None
+
+pub tasks_removed : (s : QueueState) (t : ℕ) → task_count (removed s t) ≡ task_count s
+tasks_removed s t = go (is_some (place_of s t))
+  where
+    go : (b : Bool) → task_count (if b then without_task s t else s) ≡ task_count s
+    go true = length-set {A = Option Place} s.places t None
+    go false = refl
+
+pub ids_pushed : (s : QueueState) (id t : ℕ) (rank : Rank) → (pushed s id t rank).ids ≡ s.ids
+ids_pushed s id t rank = go (is_none (push_refusal s id t rank))
+  where
+    go : (b : Bool) → (if b then with_task s id t rank else s).ids ≡ s.ids
+    go true = refl
+    go false = refl
+
+pub ids_without : (s : QueueState) (o : Option ℕ) → (without s o).ids ≡ s.ids
+ids_without s None = refl
+ids_without s (Some t) = refl
+
+pub ids_removed : (s : QueueState) (t : ℕ) → (removed s t).ids ≡ s.ids
+ids_removed s t = go (is_some (place_of s t))
+  where
+    go : (b : Bool) → (if b then without_task s t else s).ids ≡ s.ids
+    go true = refl
+    go false = refl
+
+pub pushes_created : (s : QueueState) (id : ℕ) → (created s id).pushes ≡ s.pushes
+pushes_created s id = go (is_none (create_refusal s id))
+  where
+    go : (b : Bool) → (if b then with_queue s id else s).pushes ≡ s.pushes
+    go true = refl
+    go false = refl
+
+pub pushes_pushed : (s : QueueState) (id t : ℕ) (rank : Rank) → (pushed s id t rank).pushes ≤ s.pushes + 1
+pushes_pushed s id t rank = go (is_none (push_refusal s id t rank))
+  where
+    go : (b : Bool) → (if b then with_task s id t rank else s).pushes ≤ s.pushes + 1
+    go true = omega arith
+    go false = omega arith
+
+pub pushes_without : (s : QueueState) (o : Option ℕ) → (without s o).pushes ≡ s.pushes
+pushes_without s None = refl
+pushes_without s (Some t) = refl
+
+pub pushes_removed : (s : QueueState) (t : ℕ) → (removed s t).pushes ≡ s.pushes
+pushes_removed s t = go (is_some (place_of s t))
+  where
+    go : (b : Bool) → (if b then without_task s t else s).pushes ≡ s.pushes
+    go true = refl
+    go false = refl
+
+-- ---- who waits
+
+-- a push is accepted for a task that waits nowhere
+pub free_from : (s : QueueState) (id t : ℕ) (rank : Rank) → push_refusal s id t rank ≡ None → place_of s t ≡ None
+free_from s id t rank e = go (exists s id) (place_of s t) e
+  where
+    go : (b : Bool) (o : Option Place) → (if not b then Some NoSuchQueue else (if is_some o then Some AlreadyThere else (if list_any (clashes id rank) s.places then Some Mixed else None))) ≡ None → o ≡ None
+    go false o e = absurd (cc)
+    go true None e = refl
+    go true (Some p) e = absurd (cc)
+
+-- the front waits in the queue
+pub front_waits : (s : QueueState) (id t : ℕ) → front_of s id ≡ Some t → is_some (place_of s t) ≡ true
+unfolding front_of
+front_waits s id t e = go (place_of s t) (position-Some (is_first s.places id) s.places t None e).1
+  where
+    go : (o : Option Place) → is_first s.places id o ≡ true → is_some o ≡ true
+    go None h = h
+    go (Some p) h = refl
+
+-- ---- in how many queues a task waits
+
+pub standing_pushed : PushAddsOne
+standing_pushed s id t u rank within accepted = rw accepted (go (cases_eq u t))
+  where
+    new : Option Place
+    new = Some (next_place s id rank)
+
+    go : (u ≡ t) ⊎ (u ≡ t → ⊥) → one_if (is_some (place_at (set s.places t new) u)) ≡ standing s u + one_if (u == t)
+    go (inl e) = rw (e, get_or-set_same s.places t new None within, free_from s id t rank accepted, eq-eqb t t refl) (omega arith)
+    go (inr n) = rw (get_or-set_other s.places t u new None n, ne_eqb u t n) (omega arith)
+
+nowhere_after : (places : Places) (t : ℕ) → place_at (set places t None) t ≡ None
+nowhere_after places t = go (cases_lt t (length places))
+  where
+    go : (t < length places) ⊎ (length places ≤ t) → place_at (set places t None) t ≡ None
+    go (inl within) = get_or-set_same {A = Option Place} places t None None within
+    go (inr past) = rw (set_past {X = Option Place} places t None past) (get_or_past {X = Option Place} places t None past)
+
+standing_without : (s : QueueState) (t u : ℕ) → is_some (place_of s t) ≡ true → standing (without_task s t) u + one_if (u == t) ≡ standing s u
+standing_without s t u waits = go (cases_eq u t)
+  where
+    go : (u ≡ t) ⊎ (u ≡ t → ⊥) → one_if (is_some (place_at (set s.places t None) u)) + one_if (u == t) ≡ standing s u
+    go (inl e) = rw (e, nowhere_after s.places t, eq-eqb t t refl, waits) (omega arith)
+    go (inr n) = rw (get_or-set_other {A = Option Place} s.places t u None None n, ne_eqb u t n) (omega arith)
+
+pub standing_popped : PopTakesOne
+standing_popped s id t u front = rw front (standing_without s t u (front_waits s id t front))
+
+pub standing_removed : RemovalTakesOne
+standing_removed s t u waits = rw waits (standing_without s t u waits)
+
+pub others_change_none : OthersChangeNone
+others_change_none = record {
+  refused = λ s id t rank e. refused s id t rank (push_refusal s id t rank) refl e;
+  nobody = λ s id e. rw e refl;
+  absent = λ s t e. rw e refl;
+  queue = λ s id t. created_same s id t (is_none (create_refusal s id));
+}
+  where
+    refused : (s : QueueState) (id t : ℕ) (rank : Rank) (o : Option QueueError) → push_refusal s id t rank ≡ o → is_some o ≡ true → pushed s id t rank ≡ s
+    refused s id t rank None e h = absurd (cc)
+    refused s id t rank (Some x) e h = rw e refl
+
+    created_same : (s : QueueState) (id t : ℕ) (b : Bool) → standing (if b then with_queue s id else s) t ≡ standing s t
+    created_same s id t true = refl
+    created_same s id t false = refl

@@ -1,0 +1,22 @@
+//! Dispatch queues, where tasks wait between waking and running (Linux,
+//! Documentation/scheduler/sched-ext.rst, "Dispatch Queues").
+//!
+//! A queue has an id and is either FIFO or ordered by virtual time. `Queues` holds all of them, and
+//! each task waits in at most one. All memory is taken by `Queues::new`: no later call takes any.
+//!
+//! `run` carries out a list of commands, one call each.
+#![tactic(auto)]
+
+mod commands;
+mod errors;
+mod laws;
+mod lines;
+mod places;
+mod queues;
+#[cfg(test)]
+mod tests;
+
+pub use commands::{Command, Reply, answer, run};
+pub use errors::QueueError;
+pub use laws::{appearances_are_conserved, fronts_are_unique, runs_are_conserved};
+pub use queues::Queues;
