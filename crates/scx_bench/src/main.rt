@@ -1,9 +1,10 @@
-//! The program `scx_bench`, which does one piece of work on a file of raw slots over and over, so that
-//! `bench/slots.py` can time it: `scx_bench decode|encode|run FILE TIMES`. It prints a number that
-//! depends on all of the work.
+//! The program `scx_bench`, which does one piece of work over and over, so that `bench/figures.py` can
+//! time it: `scx_bench decode|encode|run FILE TIMES` on a file of raw slots, and `scx_bench maps - TIMES`
+//! on an array map. It prints a number that depends on all of the work.
 #![tactic(auto)]
 
-use scx_isa::{Program, decode, encode, flow};
+use scx_isa::{decode, encode, flow};
+use scx_maps::{MapDefs, Maps, Shape, Size};
 use scx_vm::{Ran, try_run};
 use std::alloc::Global;
 use std::fs::File;
@@ -32,6 +33,9 @@ fn bench<R: AllocGlobal + Env + Files>(rt: &R) -> Sum {
         return None;
     };
     let times = times.as_str().parse::<u64>().ok()?;
+    if work.as_str() == "maps" {
+        return counts(rt.alloc(), times);
+    }
     let bytes = read(rt, path.as_str())?;
     match work.as_str() {
         "decode" => decodes(rt.alloc(), bytes.as_slice(), times),
@@ -90,4 +94,30 @@ fn answer(ran: Ran) -> u64 {
         Ran::Done(done) => done.r0,
         Ran::Stuck(slot) => slot as u64,
     }
+}
+
+/// Adds 1 to a number of some entry of a map, over and over.
+fn counts(alloc: Global, times: u64) -> Sum {
+    let shapes = [Shape {
+        entries: 4096,
+        value_size: 64,
+    }];
+    let defs = MapDefs::new(&shapes).ok()?;
+    let mut maps = Maps::new(alloc, &defs).ok()?;
+    let mut sum = 0u64;
+    for time in 0..times {
+        let index = (time.wrapping_mul(40503) % 4096) as u32;
+        sum = sum.wrapping_add(count(&mut maps, index)?);
+    }
+    Some(sum)
+}
+
+/// The number at byte 8 of an entry of map 0, to which 1 is added, if there is one.
+fn count(maps: &mut Maps, index: u32) -> Sum {
+    if maps.count() == 0 || !maps.lookup(0, index) || maps.value(0, index).len() < 16 {
+        return None;
+    }
+    let number = maps.load(0, index, 8, Size::Eight);
+    maps.store(0, index, 8, Size::Eight, number.wrapping_add(1));
+    Some(number)
 }

@@ -1,5 +1,5 @@
 -- What a run's commands and replies tell, by one command after another.
-use Rattle.std.proofs.Common.{◌≡◌, ℕ, ◌+◌, ◌<◌, Bool, true, false, ◌==◌, ◌&&◌, cond, List, [], ◌∷◌, Option, Some, None, is_some, is_ok, All, count_by, refl, sym, ◌∙◌, arith, subst}
+use Rattle.std.proofs.Common.{◌≡◌, ℕ, ◌+◌, ◌<◌, Bool, ◌==◌, ◌&&◌, cond, List, [], ◌∷◌, Option, Some, None, is_some, is_ok, count_by, refl, arith}
 use Rattle.std.proofs.lemmas.List.Elements.{All-head, All-tail, All-weaker}
 use Rattle.std.proofs.lemmas.List.Sums.{sum_by-cons}
 use Rattle.scx_dsq.specs.declared.places.Rank.{Rank}
@@ -8,12 +8,11 @@ use Rattle.scx_dsq.specs.declared.places.Place.{Place}
 use Rattle.scx_dsq.specs.declared.errors.QueueError.{QueueError}
 use Rattle.scx_dsq.specs.declared.commands.Command.{Command}
 use Rattle.scx_dsq.specs.declared.commands.Command.TheVariants as command
-use Rattle.scx_dsq.specs.declared.commands.Reply.{Reply}
 use Rattle.scx_dsq.specs.declared.commands.Reply.TheVariants as reply
 use Rattle.scx_dsq.specs.Queues.{QueueState, task_count, place_of, front_of}
 use Rattle.scx_dsq.specs.Calls.{refused_or_done, push_refusal, pushed, removed, popped}
 use Rattle.scx_dsq.specs.Laws.{one_if, standing}
-use Rattle.scx_dsq.specs.Commands.{KnowsTask, reply_to, after, replies, state_after}
+use Rattle.scx_dsq.specs.Commands.{KnowsTask, reply_to, after}
 use Rattle.scx_dsq.specs.Runs.{is_push, adds, takes, was_task, exchanges, RunsConserve, RunsCountPushes}
 use Rattle.scx_dsq.specs.Facts.{standing_pushed, standing_popped, standing_removed, others_change_none, tasks_created, tasks_pushed, tasks_without, tasks_removed, pushes_created, pushes_without, pushes_removed}
 

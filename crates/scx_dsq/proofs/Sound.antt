@@ -1,8 +1,8 @@
 -- Each call keeps the laws of the queues.
-use Rattle.std.proofs.Common.{◌≡◌, ◌≢◌, ℕ, ◌+◌, ◌<◌, ◌≤◌, true, false, ◌==◌, [], ◌∷◌, length, get_or, replicate, Option, Some, None, refl, sym, ap, ◌∙◌, subst, arith, ◌⊎◌, inl, inr}
+use Rattle.std.proofs.Common.{◌≡◌, ◌≢◌, ℕ, ◌+◌, ◌<◌, true, false, ◌==◌, [], ◌∷◌, length, get_or, Some, None, refl, sym, ap, ◌∙◌, subst, arith, ◌⊎◌, inl, inr}
 use Rattle.std.specs.List.{list_any}
-use Rattle.std.proofs.lemmas.Bool.{both_ways, eq-eqb, or_left, cases_lt, cases_Bool}
-use Rattle.std.proofs.lemmas.List.{get_or_past, get_or-replicate, length-replicate, length_push}
+use Rattle.std.proofs.lemmas.Bool.{both_ways, eq-eqb, or_left, cases_Bool}
+use Rattle.std.proofs.lemmas.List.{length_push}
 use Rattle.std.proofs.lemmas.List.Quantifiers.{all_pairs_push}
 use Rattle.std.proofs.lemmas.List.Folds.{list_any_at, list_any-append}
 use Rattle.scx_dsq.specs.declared.places.Rank.{Rank}
@@ -11,7 +11,7 @@ use Rattle.scx_dsq.specs.declared.places.Place.{Place}
 use Rattle.scx_dsq.specs.Places.{same_sort}
 use Rattle.scx_dsq.specs.Queues.{QueueState, exists, place_at, place_of}
 use Rattle.scx_dsq.specs.Laws.{IsSound}
-use Rattle.scx_dsq.specs.Calls.{clashes, with_queue, with_task, without_task, next_place, empty}
+use Rattle.scx_dsq.specs.Calls.{clashes, with_queue, with_task, without_task, next_place}
 use Rattle.scx_dsq.proofs.Standing.{Changed, this, other, changed, waits_below}
 
 -- ---- a queue more

@@ -1,6 +1,6 @@
 -- What a whole run's commands and replies tell: where tasks wait at its end, and how many pushes were
 -- accepted.
-use Rattle.std.specs.Prelude.{◌≡◌, ℕ, ◌+◌, Bool, true, false, ◌==◌, ◌&&◌, List, Option, Some, None, is_ok, All, count_by, zip}
+use Rattle.std.specs.Prelude.{◌≡◌, ℕ, ◌+◌, Bool, false, ◌==◌, ◌&&◌, List, Some, None, is_ok, All, count_by, zip}
 use Rattle.scx_dsq.specs.declared.commands.Command.{Command}
 use Rattle.scx_dsq.specs.declared.commands.Command.TheVariants as command
 use Rattle.scx_dsq.specs.declared.commands.Reply.{Reply}

@@ -1,6 +1,5 @@
-use Rattle.std.proofs.Common.{length, ap, ◌∙◌, ◌≡◌}
-use Rattle.scx_maps.specs.Contents.{lengths_of, value_of}
-use Rattle.scx_maps.specs.Numbers.{with_number}
+use Rattle.std.proofs.Common.{length, ap, ◌∙◌}
+use Rattle.scx_maps.specs.Contents.{lengths_of}
 use Rattle.scx_maps.proofs.Written.{length-with_number}
 use Rattle.scx_maps.proofs.maps.Maps.store.Goals as goal
 

@@ -1,11 +1,12 @@
 #!/usr/bin/env python3
-"""How many slots a second are decoded, encoded and run, beside plain Rust that does the same work.
+"""How many slots a second are decoded, encoded and run, and how many numbers of an array map are
+loaded and stored, beside plain Rust that does the same work.
 
 Straight-line, branching and stack-heavy programs of 40, 400 and 4000 slots are worked on by the
 program of crates/scx_bench and by bench/plain.rs, in turn. A figure is the best of five runs, of which
 the start of the process is taken off. The ratio is our time to that of plain Rust. Needs rustc.
 
-  bench/slots.py [PATH_OF_scx_bench]     (default: builds it)
+  bench/figures.py [PATH_OF_scx_bench]     (default: builds it)
 """
 import os
 import subprocess
@@ -44,7 +45,7 @@ PROGRAMS = {
 }
 SIZES = [40, 400, 4000]
 WORKS = ["decode", "encode", "run"]
-SLOTS = 20_000_000  # worked on for one figure
+UNITS = 20_000_000  # slots or numbers worked on for one figure
 
 
 def program(slots, body):
@@ -69,7 +70,7 @@ def build():
 
 
 def compare(binaries, work, path, slots):
-    times = SLOTS // slots
+    times = UNITS // slots
     best, start = [9e9, 9e9], [9e9, 9e9]
     for _ in range(5):
         sums = []
@@ -88,7 +89,7 @@ def main():
         plain = os.path.join(folder, "plain")
         source = os.path.join(TOP, "bench", "plain.rs")
         subprocess.run(["rustc", "-O", "--edition", "2021", "-o", plain, source], check=True)
-        print("%-8s %-10s %6s %15s %15s %7s" % ("work", "program", "slots", "scxsim slots/s", "plain slots/s", "ratio"))
+        print("%-8s %-10s %6s %15s %15s %7s" % ("work", "program", "slots", "scxsim a second", "plain a second", "ratio"))
         for work in WORKS:
             for name, body in PROGRAMS.items():
                 for slots in SIZES:
@@ -97,6 +98,8 @@ def main():
                         file.write(program(slots, body))
                     a, b = compare([ours, plain], work, path, slots)
                     print("%-8s %-10s %6d %15.0f %15.0f %7.2f" % (work, name, slots, a, b, b / a))
+        a, b = compare([ours, plain], "maps", "-", 1)
+        print("%-8s %-10s %6s %15.0f %15.0f %7.2f" % ("maps", "add one", "", a, b, b / a))
 
 
 main()
