@@ -1,0 +1,222 @@
+-- The join of two kinds, of two cells, and of two states is the least that covers both.
+use Rattle.std.proofs.Common.{◌≡◌, ℕ, ◌<◌, ◌≤◌, ◌⊎◌, inl, inr, [], length, arith, Bool, true, false, ◌&&◌, nat_eq, List, refl, sym, ◌∙◌}
+use Rattle.std.proofs.lemmas.Bool.{eqb-true, eq-eqb, and_parts, and_from, both_ways, cases_lt}
+use Rattle.std.proofs.lemmas.List.{get_or_past}
+use Rattle.scx_abs.specs.declared.kinds.Kind.{Kind}
+use Rattle.scx_abs.specs.declared.kinds.Kind.TheVariants.{Unusable, Num, Stack, Elem, ElemOrNull, Task, TaskOrNull, MapRef}
+use Rattle.scx_abs.specs.declared.kinds.Cell.{Cell}
+use Rattle.scx_abs.specs.declared.kinds.Cell.TheVariants.{Bytes, Pointer}
+use Rattle.scx_abs.specs.declared.states.AbsState.{AbsState}
+use Rattle.scx_abs.specs.Kinds.{CoversKind, kind_if, join_kind}
+use Rattle.scx_abs.specs.Cells.{is_written, no_bytes, common, IsPartOf, IsUnusable, CoversPointer, CoversCell, pointer_cell, join_pointers, join_cell}
+use Rattle.scx_abs.specs.States.{IsLeastCover, kind_at, cell_at}
+use Rattle.scx_abs.proofs.Orders.{each_byte_at, cell_itself}
+
+-- ---- kinds
+
+if_covers : (b : Bool) (k j : Kind) → (b ≡ true → CoversKind k j) → CoversKind (kind_if b k) j
+if_covers true k j h = h refl
+if_covers false k j h = tt
+
+two_tests : (m n o p : ℕ) → (nat_eq m n && nat_eq o p) ≡ true → (m ≡ n) × (o ≡ p)
+two_tests m n o p e =
+    let parts = and_parts (nat_eq m n) (nat_eq o p) e in
+    (eqb-true m n parts.0, eqb-true o p parts.1)
+
+pub kind_covers_first : (j k : Kind) → CoversKind (join_kind j k) j
+kind_covers_first Num Num = tt
+kind_covers_first (Stack o) (Stack p) = if_covers (nat_eq o p) (Stack o) (Stack o) (λ e. refl)
+kind_covers_first (Elem m o) (Elem n p) = if_covers (nat_eq m n && nat_eq o p) (Elem m o) (Elem m o) (λ e. (refl, refl))
+kind_covers_first (Elem m o) (ElemOrNull n) =
+    if_covers (nat_eq m n && nat_eq o 0) (ElemOrNull n) (Elem m o) (λ e. let t = two_tests m n o 0 e in (sym t.0, t.1))
+kind_covers_first (ElemOrNull m) (Elem n o) = if_covers (nat_eq m n && nat_eq o 0) (ElemOrNull m) (ElemOrNull m) (λ e. refl)
+kind_covers_first (ElemOrNull m) (ElemOrNull n) = if_covers (nat_eq m n) (ElemOrNull m) (ElemOrNull m) (λ e. refl)
+kind_covers_first Task Task = tt
+kind_covers_first Task TaskOrNull = tt
+kind_covers_first TaskOrNull Task = tt
+kind_covers_first TaskOrNull TaskOrNull = tt
+kind_covers_first (MapRef m) (MapRef n) = if_covers (nat_eq m n) (MapRef m) (MapRef m) (λ e. refl)
+kind_covers_first j k = tt
+
+pub kind_covers_second : (j k : Kind) → CoversKind (join_kind j k) k
+kind_covers_second Num Num = tt
+kind_covers_second (Stack o) (Stack p) = if_covers (nat_eq o p) (Stack o) (Stack p) (λ e. eqb-true o p e)
+kind_covers_second (Elem m o) (Elem n p) = if_covers (nat_eq m n && nat_eq o p) (Elem m o) (Elem n p) (λ e. two_tests m n o p e)
+kind_covers_second (Elem m o) (ElemOrNull n) = if_covers (nat_eq m n && nat_eq o 0) (ElemOrNull n) (ElemOrNull n) (λ e. refl)
+kind_covers_second (ElemOrNull m) (Elem n o) =
+    if_covers (nat_eq m n && nat_eq o 0) (ElemOrNull m) (Elem n o) (λ e. let t = two_tests m n o 0 e in (t.0, t.1))
+kind_covers_second (ElemOrNull m) (ElemOrNull n) = if_covers (nat_eq m n) (ElemOrNull m) (ElemOrNull n) (λ e. eqb-true m n e)
+kind_covers_second Task Task = tt
+kind_covers_second Task TaskOrNull = tt
+kind_covers_second TaskOrNull Task = tt
+kind_covers_second TaskOrNull TaskOrNull = tt
+kind_covers_second (MapRef m) (MapRef n) = if_covers (nat_eq m n) (MapRef m) (MapRef n) (λ e. eqb-true m n e)
+kind_covers_second j k = tt
+
+-- where the test holds
+if_least : (b : Bool) (l k : Kind) → b ≡ true → CoversKind l k → CoversKind l (kind_if b k)
+if_least true l k e h = h
+if_least false l k e h = absurd (cc)
+
+both_equal : (m n o p : ℕ) → m ≡ n → o ≡ p → (nat_eq m n && nat_eq o p) ≡ true
+both_equal m n o p e f = and_from (nat_eq m n) (nat_eq o p) (eq-eqb m n e) (eq-eqb o p f)
+
+pub kind_least : (l j k : Kind) → CoversKind l j → CoversKind l k → CoversKind l (join_kind j k)
+kind_least Unusable j k g h = tt
+kind_least Num Num Num g h = tt
+kind_least (Stack o) (Stack p) (Stack q) g h = if_least (nat_eq p q) (Stack o) (Stack p) (eq-eqb p q (sym g ∙ h)) g
+kind_least (Elem m o) (Elem n p) (Elem l q) g h =
+    if_least (nat_eq n l && nat_eq p q) (Elem m o) (Elem n p) (both_equal n l p q (sym g.0 ∙ h.0) (sym g.1 ∙ h.1)) g
+kind_least (ElemOrNull m) (Elem n o) (Elem l p) g h =
+    if_least (nat_eq n l && nat_eq o p) (ElemOrNull m) (Elem n o) (both_equal n l o p (sym g.0 ∙ h.0) (g.1 ∙ sym h.1)) g
+kind_least (ElemOrNull m) (Elem n o) (ElemOrNull l) g h =
+    if_least (nat_eq n l && nat_eq o 0) (ElemOrNull m) (ElemOrNull l) (both_equal n l o 0 (sym g.0 ∙ h) g.1) h
+kind_least (ElemOrNull m) (ElemOrNull n) (Elem l o) g h =
+    if_least (nat_eq n l && nat_eq o 0) (ElemOrNull m) (ElemOrNull n) (both_equal n l o 0 (sym g ∙ h.0) h.1) g
+kind_least (ElemOrNull m) (ElemOrNull n) (ElemOrNull l) g h = if_least (nat_eq n l) (ElemOrNull m) (ElemOrNull n) (eq-eqb n l (sym g ∙ h)) g
+kind_least Task Task Task g h = tt
+kind_least TaskOrNull Task Task g h = tt
+kind_least TaskOrNull Task TaskOrNull g h = tt
+kind_least TaskOrNull TaskOrNull Task g h = tt
+kind_least TaskOrNull TaskOrNull TaskOrNull g h = tt
+kind_least (MapRef m) (MapRef n) (MapRef l) g h = if_least (nat_eq n l) (MapRef m) (MapRef n) (eq-eqb n l (sym g ∙ h)) g
+kind_least l j k g h = absurd (assumption (g, h))
+
+-- ---- stored pointers
+
+pointer_cell_covers : (l j : Kind) → CoversKind l j → CoversCell (pointer_cell l) (Pointer j)
+pointer_cell_covers Unusable j h = λ i lt w. w
+pointer_cell_covers l j h = h
+
+pointers_cover_first : (j k : Kind) → CoversCell (join_pointers j k) (Pointer j)
+pointers_cover_first Unusable Unusable = tt
+pointers_cover_first j k = pointer_cell_covers (join_kind j k) j (kind_covers_first j k)
+
+pointers_cover_second : (j k : Kind) → CoversCell (join_pointers j k) (Pointer k)
+pointers_cover_second Unusable Unusable = tt
+pointers_cover_second j k = pointer_cell_covers (join_kind j k) k (kind_covers_second j k)
+
+nothing_covers : (b : List Bool) (l : Kind) → IsPartOf b no_bytes → CoversCell (Bytes b) (pointer_cell l)
+nothing_covers b Unusable h = h
+nothing_covers b l h = h
+
+bytes_least : (b : List Bool) (j k : Kind) → IsPartOf b no_bytes → CoversCell (Bytes b) (join_pointers j k)
+bytes_least b Unusable Unusable h = h
+bytes_least b j k h = nothing_covers b (join_kind j k) h
+
+pointer_least : (l k : Kind) → (IsUnusable l → ⊥) → CoversKind l k → CoversCell (Pointer l) (pointer_cell k)
+pointer_least Unusable k u h = absurd (u tt)
+pointer_least l Unusable u h = absurd h
+pointer_least l k u h = h
+
+pointers_least : (l j k : Kind) → CoversPointer l j → CoversPointer l k → CoversCell (Pointer l) (join_pointers j k)
+pointers_least Unusable Unusable Unusable g h = tt
+pointers_least Unusable j k g h = absurd (assumption (g, h))
+pointers_least l Unusable Unusable g h = absurd g
+pointers_least l j k g h = pointer_least l (join_kind j k) (λ u. u) (kind_least l j k g h)
+
+-- ---- cells
+
+common_first : (a b : List Bool) → IsPartOf (common a b) a
+common_first a b j lt w = (and_parts (is_written a j) (is_written b j) (sym (each_byte_at (λ j. is_written a j && is_written b j) j lt) ∙ w)).0
+
+common_second : (a b : List Bool) → IsPartOf (common a b) b
+common_second a b j lt w = (and_parts (is_written a j) (is_written b j) (sym (each_byte_at (λ j. is_written a j && is_written b j) j lt) ∙ w)).1
+
+common_least : (c a b : List Bool) → IsPartOf c a → IsPartOf c b → IsPartOf c (common a b)
+common_least c a b g h j lt w =
+    each_byte_at (λ j. is_written a j && is_written b j) j lt ∙ and_from (is_written a j) (is_written b j) (g j lt w) (h j lt w)
+
+none_part : (a : List Bool) → IsPartOf no_bytes a
+none_part a j lt w = absurd (both_ways (is_written no_bytes j) (each_byte_at (λ j. false) j lt) w)
+
+cell_covers_first : (a b : Cell) → CoversCell (join_cell a b) a
+cell_covers_first (Bytes a) (Bytes b) = common_first a b
+cell_covers_first (Pointer j) (Pointer k) = pointers_cover_first j k
+cell_covers_first (Bytes a) (Pointer k) = none_part a
+cell_covers_first (Pointer j) (Bytes b) = λ i lt w. w
+
+cell_covers_second : (a b : Cell) → CoversCell (join_cell a b) b
+cell_covers_second (Bytes a) (Bytes b) = common_second a b
+cell_covers_second (Pointer j) (Pointer k) = pointers_cover_second j k
+cell_covers_second (Bytes a) (Pointer k) = λ i lt w. w
+cell_covers_second (Pointer j) (Bytes b) = none_part b
+
+cell_least : (c a b : Cell) → CoversCell c a → CoversCell c b → CoversCell c (join_cell a b)
+cell_least (Bytes c) (Bytes a) (Bytes b) g h = common_least c a b g h
+cell_least (Bytes c) (Bytes a) (Pointer k) g h = h
+cell_least (Bytes c) (Pointer j) (Bytes b) g h = g
+cell_least (Bytes c) (Pointer j) (Pointer k) g h = bytes_least c j k g
+cell_least (Pointer l) (Bytes a) b g h = absurd g
+cell_least (Pointer l) (Pointer j) (Bytes b) g h = absurd h
+cell_least (Pointer l) (Pointer j) (Pointer k) g h = pointers_least l j k g h
+
+-- the least cell that covers two
+record IsLeastCell (joined a b : Cell) : Type 0 where
+  covers_first : CoversCell joined a
+  covers_second : CoversCell joined b
+  least : (c : Cell) → CoversCell c a → CoversCell c b → CoversCell c joined
+
+join_cell_least : (joined a b : Cell) → joined ≡ join_cell a b → IsLeastCell joined a b
+join_cell_least joined a b e = record {
+  covers_first = rw e (cell_covers_first a b);
+  covers_second = rw e (cell_covers_second a b);
+  least = λ c g h. rw e (cell_least c a b g h);
+}
+
+-- past the stack
+same_cell_least : (joined a b d : Cell) → joined ≡ d → a ≡ d → b ≡ d → IsLeastCell joined a b
+same_cell_least joined a b d e f g = record {
+  covers_first = rw (e, f) (cell_itself d);
+  covers_second = rw (e, g) (cell_itself d);
+  least = λ c h i. rw (e, ← f) h;
+}
+
+-- ---- states
+
+-- as many kinds and cells as there are registers and cells
+pub record IsWhole (a : AbsState) : Type 0 where
+  pub registers : length a.registers ≡ 11
+  pub cells : length a.cells ≡ 64
+
+-- a state of the joins of all kinds and cells
+pub is_join : (joined a b : AbsState) → IsWhole joined → IsWhole a → IsWhole b
+    → ((r : ℕ) → r < 11 → kind_at joined r ≡ join_kind (kind_at a r) (kind_at b r))
+    → ((c : ℕ) → c < 64 → cell_at joined c ≡ join_cell (cell_at a c) (cell_at b c)) → IsLeastCover joined a b
+is_join joined a b whole whole_a whole_b kinds cells = record {
+  covers_first = record {
+    registers = λ r. rw (kind r) (kind_covers_first (kind_at a r) (kind_at b r));
+    cells = λ c. (cell c).covers_first;
+  };
+  covers_second = record {
+    registers = λ r. rw (kind r) (kind_covers_second (kind_at a r) (kind_at b r));
+    cells = λ c. (cell c).covers_second;
+  };
+  least = λ s g h. record {
+    registers = λ r. rw (kind r) (kind_least (kind_at s r) (kind_at a r) (kind_at b r) (g.registers r) (h.registers r));
+    cells = λ c. (cell c).least (cell_at s c) (g.cells c) (h.cells c);
+  };
+}
+  where
+    nothing : (i j k : Kind) → i ≡ Unusable → j ≡ Unusable → k ≡ Unusable → i ≡ join_kind j k
+    nothing i j k e f g = rw (g, f, e) refl
+
+    kind_within : (r : ℕ) → (r < 11) ⊎ (11 ≤ r) → kind_at joined r ≡ join_kind (kind_at a r) (kind_at b r)
+    kind_within r (inl lt) = kinds r lt
+    kind_within r (inr le) =
+        nothing (kind_at joined r) (kind_at a r) (kind_at b r)
+        (get_or_past joined.registers r Unusable (omega (arith, whole.registers))) (get_or_past a.registers r Unusable (omega (arith, whole_a.registers)))
+        (get_or_past b.registers r Unusable (omega (arith, whole_b.registers)))
+
+    kind : (r : ℕ) → kind_at joined r ≡ join_kind (kind_at a r) (kind_at b r)
+    kind r = kind_within r (cases_lt r 11)
+
+    cell_within : (c : ℕ) → (c < 64) ⊎ (64 ≤ c) → IsLeastCell (cell_at joined c) (cell_at a c) (cell_at b c)
+    cell_within c (inl lt) = join_cell_least (cell_at joined c) (cell_at a c) (cell_at b c) (cells c lt)
+    cell_within c (inr le) =
+        same_cell_least (cell_at joined c) (cell_at a c) (cell_at b c) (Bytes [])
+        (get_or_past joined.cells c (Bytes []) (omega (arith, whole.cells))) (get_or_past a.cells c (Bytes []) (omega (arith, whole_a.cells)))
+        (get_or_past b.cells c (Bytes []) (omega (arith, whole_b.cells)))
+
+    cell : (c : ℕ) → IsLeastCell (cell_at joined c) (cell_at a c) (cell_at b c)
+    cell c = cell_within c (cases_lt c 64)

@@ -1,0 +1,38 @@
+-- The order on kinds: what covers a kind says no more than it. A kind is covered by itself and by
+-- Unusable, which says nothing; a pointer that isn't null, also by the kind that may be null. The join
+-- of two kinds is the least that covers both, which is Unusable where nothing else does.
+use Rattle.std.specs.Prelude.{◌≡◌, Bool, ◌&&◌, nat_eq, if◌then◌else◌}
+use Rattle.scx_abs.specs.declared.kinds.Kind.{Kind}
+use Rattle.scx_abs.specs.declared.kinds.Kind.TheVariants.{Unusable, Num, Stack, Elem, ElemOrNull, Task, TaskOrNull, MapRef}
+
+-- the first covers the second
+abbrev pub CoversKind : Kind → Kind → Type 0
+CoversKind Unusable k = Unit {0}
+CoversKind Num Num = Unit {0}
+CoversKind (Stack o) (Stack p) = o ≡ p
+CoversKind (Elem m o) (Elem n p) = (m ≡ n) × (o ≡ p)
+CoversKind (ElemOrNull m) (ElemOrNull n) = m ≡ n
+CoversKind (ElemOrNull m) (Elem n o) = (m ≡ n) × (o ≡ 0)
+CoversKind Task Task = Unit {0}
+CoversKind TaskOrNull TaskOrNull = Unit {0}
+CoversKind TaskOrNull Task = Unit {0}
+CoversKind (MapRef m) (MapRef n) = m ≡ n
+CoversKind j k = ⊥
+
+-- the kind, where the test holds
+abbrev pub kind_if : Bool → Kind → Kind
+kind_if b k = if b then k else Unusable
+
+abbrev pub join_kind : Kind → Kind → Kind
+join_kind Num Num = Num
+join_kind (Stack o) (Stack p) = kind_if (nat_eq o p) (Stack o)
+join_kind (Elem m o) (Elem n p) = kind_if (nat_eq m n && nat_eq o p) (Elem m o)
+join_kind (Elem m o) (ElemOrNull n) = kind_if (nat_eq m n && nat_eq o 0) (ElemOrNull n)
+join_kind (ElemOrNull m) (Elem n o) = kind_if (nat_eq m n && nat_eq o 0) (ElemOrNull m)
+join_kind (ElemOrNull m) (ElemOrNull n) = kind_if (nat_eq m n) (ElemOrNull m)
+join_kind Task Task = Task
+join_kind Task TaskOrNull = TaskOrNull
+join_kind TaskOrNull Task = TaskOrNull
+join_kind TaskOrNull TaskOrNull = TaskOrNull
+join_kind (MapRef m) (MapRef n) = kind_if (nat_eq m n) (MapRef m)
+join_kind j k = Unusable

@@ -1,0 +1,67 @@
+-- Abstract states: a kind for each register and a cell for each eight bytes of the stack. They are
+-- ordered register by register and cell by cell.
+use Rattle.std.specs.Prelude.{ℕ, [], set, replicate, slice_index_or}
+use Rattle.scx_semantics.specs.declared.callbacks.Callback.{Callback}
+use Rattle.scx_semantics.specs.declared.callbacks.Callback.TheVariants as callback
+use Rattle.scx_semantics.specs.Memory.{stack_size}
+use Rattle.scx_abs.specs.declared.kinds.Kind.{Kind}
+use Rattle.scx_abs.specs.declared.kinds.Kind.TheVariants.{Unusable, Num, Stack, Task, TaskOrNull}
+use Rattle.scx_abs.specs.declared.kinds.Cell.{Cell}
+use Rattle.scx_abs.specs.declared.kinds.Cell.TheVariants.{Bytes}
+use Rattle.scx_abs.specs.declared.states.AbsState.{AbsState}
+use Rattle.scx_abs.specs.Kinds.{CoversKind}
+use Rattle.scx_abs.specs.Cells.{CoversCell, no_bytes}
+
+-- the kind of a register, by its number
+abbrev pub kind_at : AbsState → ℕ → Kind
+kind_at a r = slice_index_or a.registers r Unusable
+
+-- the cell of that number, which holds the eight bytes from eight times its number on
+abbrev pub cell_at : AbsState → ℕ → Cell
+cell_at a c = slice_index_or a.cells c (Bytes [])
+
+abbrev pub with_kind : AbsState → ℕ → Kind → AbsState
+with_kind a r k = record { registers = set a.registers r k; cells = a.cells }
+
+abbrev pub with_cell : AbsState → ℕ → Cell → AbsState
+with_cell a c cell = record { registers = a.registers; cells = set a.cells c cell }
+
+-- the first covers the second
+pub record CoversState (b a : AbsState) : Type 0 where
+  pub registers : (r : ℕ) → CoversKind (kind_at b r) (kind_at a r)
+  pub cells : (c : ℕ) → CoversCell (cell_at b c) (cell_at a c)
+
+-- it covers both, and whatever covers both covers it
+pub record IsLeastCover (joined first second : AbsState) : Type 0 where
+  pub covers_first : CoversState joined first
+  pub covers_second : CoversState joined second
+  pub least : (a : AbsState) → CoversState a first → CoversState a second → CoversState a joined
+
+-- ---- start
+
+-- the kinds of a callback's arguments, in r1 to r3
+pub record ArgumentKinds : Type 0 where
+  pub first : Kind
+  pub second : Kind
+  pub third : Kind
+
+abbrev pub argument_kinds : Callback → ArgumentKinds
+argument_kinds callback.Plain = record { first = Unusable; second = Unusable; third = Unusable }
+argument_kinds callback.Init = record { first = Unusable; second = Unusable; third = Unusable }
+argument_kinds callback.Enable = record { first = Task; second = Unusable; third = Unusable }
+argument_kinds callback.SelectCpu = record { first = Task; second = Num; third = Num }
+argument_kinds callback.Enqueue = record { first = Task; second = Num; third = Unusable }
+argument_kinds callback.Dispatch = record { first = Num; second = TaskOrNull; third = Unusable }
+argument_kinds callback.Running = record { first = Task; second = Unusable; third = Unusable }
+argument_kinds callback.Stopping = record { first = Task; second = Num; third = Unusable }
+
+-- The state in which a callback begins: its arguments in r1 to r3, the top of the stack in r10, and
+-- nothing else.
+abbrev pub start_kinds : ArgumentKinds → AbsState
+start_kinds a = record {
+  registers = set (set (set (set (replicate 11 Unusable) 1 a.first) 2 a.second) 3 a.third) 10 (Stack stack_size);
+  cells = replicate 64 (Bytes no_bytes);
+}
+
+abbrev pub start_of : Callback → AbsState
+start_of c = start_kinds (argument_kinds c)

@@ -1,0 +1,103 @@
+ghost use Rattle.std.specs.Prelude.{◌≡◌};
+ghost use Rattle.scx_semantics.specs.Registers.{number};
+ghost use Rattle.scx_abs.specs.Rules.{null_test, if_null, if_not_null, tested, compared, jump_rule};
+
+use crate::arithmetic::{operand_kind, usable};
+use crate::faults::Why;
+use crate::kinds::Kind;
+use crate::rules::Next;
+use crate::states::AbsState;
+use scx_isa::{Comparison, Operand, Register, Width};
+
+/// What flows on from a conditional jump.
+pub(crate) fn jump(
+    state: &AbsState,
+    width: Width,
+    comparison: Comparison,
+    register: Register,
+    operand: Operand,
+) -> Result<Next, Why>
+    ensures { result ≡ jump_rule state.now width comparison register operand }
+{
+    let kind = usable(state.kind(register))?;
+    let other = operand_kind(state, operand)?;
+    compared(
+        state,
+        register,
+        null_test(width, comparison, operand),
+        kind,
+        other,
+    )
+}
+
+/// Whether a comparison is a test for 0, and whether it jumps where it finds 0.
+fn null_test(width: Width, comparison: Comparison, operand: Operand) -> Option<bool>
+    ensures { result ≡ null_test width comparison operand }
+{
+    match (width, comparison, operand) {
+        (Width::Bits64, Comparison::Equal, Operand::Immediate(0)) => Some(true),
+        (Width::Bits64, Comparison::NotEqual, Operand::Immediate(0)) => Some(false),
+        _ => None,
+    }
+}
+
+/// What flows on from a comparison of these kinds: two numbers are followed both ways, and a pointer
+/// is only tested for 0.
+fn compared(
+    state: &AbsState,
+    register: Register,
+    test: Option<bool>,
+    kind: Kind,
+    other: Kind,
+) -> Result<Next, Why>
+    ensures { result ≡ compared state.now (number register) test kind other }
+{
+    match (kind, other) {
+        (Kind::Num, Kind::Num) => Ok(Next {
+            on: Some(*state),
+            jump: Some(*state),
+        }),
+        (Kind::Num, _) => Err(Why::PointerCompare),
+        _ => tested(state, register, kind, test),
+    }
+}
+
+/// What flows on from a test for 0 of a pointer of that kind.
+fn tested(state: &AbsState, register: Register, kind: Kind, test: Option<bool>) -> Result<Next, Why>
+    ensures { result ≡ tested state.now (number register) kind test }
+{
+    let null = if_null(state, register, kind);
+    let pointer = Some(if_not_null(state, register, kind));
+    match test {
+        Some(true) => Ok(Next {
+            on: pointer,
+            jump: null,
+        }),
+        Some(false) => Ok(Next {
+            on: null,
+            jump: pointer,
+        }),
+        None => Err(Why::PointerCompare),
+    }
+}
+
+/// The state where a register of that kind was found to be 0, which a pointer that isn't null never is.
+fn if_null(state: &AbsState, register: Register, kind: Kind) -> Option<AbsState>
+    ensures { result ≡ if_null state.now (number register) kind }
+{
+    match kind {
+        Kind::ElemOrNull(_) | Kind::TaskOrNull => Some(state.with_kind(register, Kind::Num)),
+        _ => None,
+    }
+}
+
+/// The state where it was found not to be.
+fn if_not_null(state: &AbsState, register: Register, kind: Kind) -> AbsState
+    ensures { result ≡ if_not_null state.now (number register) kind }
+{
+    match kind {
+        Kind::ElemOrNull(map) => state.with_kind(register, Kind::Elem(map, 0)),
+        Kind::TaskOrNull => state.with_kind(register, Kind::Task),
+        _ => *state,
+    }
+}

@@ -1,0 +1,137 @@
+ghost use Rattle.std.specs.Prelude.{◌≡◌, ◌+◌, ◌≤◌};
+ghost use Rattle.scx_abs.specs.Kinds.{join_kind};
+ghost use Rattle.scx_abs.specs.Cells.{common, marked, join_pointers, join_cell, pointer_cell};
+ghost use Rattle.scx_abs.specs.Rules.{all_written, written_in};
+
+/// How many bytes a cell stands for.
+pub const CELL_BYTES: usize = 8;
+
+/// What is known of a register's value.
+#[derive(Clone, Copy, Debug, PartialEq, Eq)]
+pub enum Kind {
+    /// Nothing: it may not be read.
+    Unusable,
+    /// A number.
+    Num,
+    /// A pointer to that byte of the stack, 0 to 512; 512 is its top, past the last one.
+    Stack(u16),
+    /// A pointer into an element of that map, to that byte of it.
+    Elem(u8, u16),
+    /// A pointer to the first byte of an element of that map, or 0.
+    ElemOrNull(u8),
+    /// A pointer to a task.
+    Task,
+    /// A pointer to a task, or 0.
+    TaskOrNull,
+    /// A reference to that map.
+    MapRef(u8),
+}
+
+/// What is known of eight aligned bytes of the stack.
+#[derive(Clone, Copy, Debug, PartialEq, Eq)]
+pub enum Cell {
+    /// To which of the bytes a number was written, from the lowest on.
+    Bytes([bool; CELL_BYTES]),
+    /// All eight are those of a pointer of that kind, which is never `Unusable`.
+    Pointer(Kind),
+}
+
+impl Kind {
+    /// The least kind that covers both.
+    pub(crate) fn join(self, other: Kind) -> Kind
+        ensures { result ≡ join_kind self other }
+    {
+        match (self, other) {
+            (Kind::Num, Kind::Num) => Kind::Num,
+            (Kind::Stack(o), Kind::Stack(p)) if o == p => self,
+            (Kind::Elem(m, o), Kind::Elem(n, p)) if m == n && o == p => self,
+            (Kind::Elem(m, 0), Kind::ElemOrNull(n)) if m == n => other,
+            (Kind::ElemOrNull(m), Kind::Elem(n, 0)) if m == n => self,
+            (Kind::ElemOrNull(m), Kind::ElemOrNull(n)) if m == n => self,
+            (Kind::Task, Kind::Task) => Kind::Task,
+            (Kind::Task | Kind::TaskOrNull, Kind::Task | Kind::TaskOrNull) => Kind::TaskOrNull,
+            (Kind::MapRef(m), Kind::MapRef(n)) if m == n => self,
+            _ => Kind::Unusable,
+        }
+    }
+}
+
+impl Cell {
+    /// The least cell that covers both.
+    pub(crate) fn join(self, other: Cell) -> Cell
+        ensures { result ≡ join_cell self other }
+    {
+        match (self, other) {
+            (Cell::Bytes(first), Cell::Bytes(second)) => Cell::Bytes(common(first, second)),
+            (Cell::Pointer(first), Cell::Pointer(second)) => join_pointers(first, second),
+            _ => Cell::Bytes([false; CELL_BYTES]),
+        }
+    }
+
+    /// To which of its bytes a number was written.
+    pub(crate) fn written(self) -> [bool; CELL_BYTES]
+        ensures { result ≡ written_in self }
+    {
+        match self {
+            Cell::Bytes(set) => set,
+            Cell::Pointer(_) => [false; CELL_BYTES],
+        }
+    }
+}
+
+/// The cell of two stored pointers. No state that a rule gives has one of kind `Unusable`; a cell
+/// with one covers itself all the same.
+fn join_pointers(first: Kind, second: Kind) -> Cell
+    ensures { result ≡ join_pointers first second }
+{
+    match (first, second) {
+        (Kind::Unusable, Kind::Unusable) => Cell::Pointer(Kind::Unusable),
+        _ => pointer_cell(first.join(second)),
+    }
+}
+
+/// The cell of a stored pointer of that kind, or of eight bytes of which nothing is known.
+fn pointer_cell(kind: Kind) -> Cell
+    ensures { result ≡ pointer_cell kind }
+{
+    match kind {
+        Kind::Unusable => Cell::Bytes([false; CELL_BYTES]),
+        _ => Cell::Pointer(kind),
+    }
+}
+
+/// The bytes that are in both sets.
+fn common(first: [bool; CELL_BYTES], second: [bool; CELL_BYTES]) -> [bool; CELL_BYTES]
+    ensures { result ≡ common first second }
+{
+    let mut common = [false; CELL_BYTES];
+    for byte in 0..CELL_BYTES {
+        common[byte] = first[byte] && second[byte];
+    }
+    common
+}
+
+/// The set with so many bytes from one on.
+pub(crate) fn marked(set: [bool; CELL_BYTES], first: usize, count: usize) -> [bool; CELL_BYTES]
+    requires { first + count ≤ CELL_BYTES }
+    ensures { result ≡ marked set first count }
+{
+    let mut marked = set;
+    for byte in first..first + count {
+        marked[byte] = true;
+    }
+    marked
+}
+
+/// Whether so many bytes from one on are in the set.
+pub(crate) fn all_written(set: [bool; CELL_BYTES], first: usize, count: usize) -> bool
+    requires { first + count ≤ CELL_BYTES }
+    ensures { result ≡ all_written set first count }
+{
+    for byte in first..first + count {
+        if !set[byte] {
+            return false;
+        }
+    }
+    true
+}

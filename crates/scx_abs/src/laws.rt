@@ -1,0 +1,12 @@
+ghost use Rattle.scx_abs.specs.Laws.{RulesAreSound, StartIsSound, CoversMore, CoversItself, CoversThrough};
+
+/// The rules against what instructions mean: where the checks pass no state that is stood for is
+/// stuck, and what it leads to is stood for by what flows on. The function does nothing: its
+/// contract is the law.
+pub fn rules_are_sound()
+    ensures rules { RulesAreSound }
+    ensures start { StartIsSound }
+    ensures covers { CoversMore }
+    ensures reflexive { CoversItself }
+    ensures transitive { CoversThrough }
+{}

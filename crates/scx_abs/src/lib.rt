@@ -1,0 +1,22 @@
+//! What a verifier knows of a program's state before it runs: kinds of registers, cells of the stack,
+//! and what each instruction makes of them.
+//!
+//! `start` gives the state in which a callback begins, `transfer` what flows on from an instruction,
+//! or the first of its checks that fails, and `join` the least state that covers two. The rules are
+//! sound: `rules_are_sound` says that where the checks pass no state that is stood for is stuck.
+#![tactic(auto)]
+
+mod arithmetic;
+mod faults;
+mod jumps;
+mod kinds;
+mod laws;
+mod memory;
+mod rules;
+mod states;
+
+pub use faults::Why;
+pub use kinds::{CELL_BYTES, Cell, Kind};
+pub use laws::rules_are_sound;
+pub use rules::{Context, Next, transfer};
+pub use states::{AbsState, CELLS, REGISTERS, join, start};

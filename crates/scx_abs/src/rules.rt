@@ -1,0 +1,111 @@
+ghost use Rattle.std.specs.Prelude.{◌≡◌};
+ghost use Rattle.scx_semantics.specs.Registers.{number};
+ghost use Rattle.scx_semantics.specs.Meaning.{answers};
+ghost use Rattle.scx_abs.specs.Rules.{goes_on, sets, end_rule, rule};
+
+use crate::arithmetic::{binary_kind, number_kind};
+use crate::faults::Why;
+use crate::jumps::jump;
+use crate::kinds::Kind;
+use crate::memory::{load_kind, store};
+use crate::states::AbsState;
+use scx_isa::{Callback, Insn, Register};
+
+/// What a rule needs to know apart from the state and the instruction.
+#[derive(Clone, Copy, Debug, PartialEq, Eq)]
+pub struct Context {
+    /// What the program is run as.
+    pub callback: Callback,
+}
+
+/// What flows on from an instruction.
+#[derive(Clone, Copy, Debug, PartialEq, Eq)]
+pub struct Next {
+    /// To the next instruction, if control may go there.
+    pub on: Option<AbsState>,
+    /// To the jump's target, if control may go there.
+    pub jump: Option<AbsState>,
+}
+
+/// What flows on from an instruction in the state, or why it is refused: the first of its checks that
+/// fails. A register that is written is checked first, then the registers that are read, the
+/// destination before the source, then the address, and then the value that is stored.
+pub fn transfer(state: &AbsState, insn: &Insn, context: &Context) -> Result<Next, Why>
+    ensures { result ≡ rule context.now.callback insn.now state.now }
+{
+    match *insn {
+        Insn::Binary(width, operation, destination, operand) => {
+            sets(
+                state,
+                destination,
+                binary_kind(state, width, operation, destination, operand),
+            )
+        }
+        Insn::Negate(_, destination) | Insn::Reorder(_, _, destination) => {
+            sets(state, destination, number_kind(state.kind(destination)))
+        }
+        Insn::SignExtend(_, destination, source) => {
+            sets(state, destination, number_kind(state.kind(source)))
+        }
+        Insn::Constant(destination, ..) => sets(state, destination, Ok(Kind::Num)),
+        // There are no maps yet.
+        Insn::MapReference(destination, _) => sets(state, destination, Err(Why::UnknownMap)),
+        Insn::Load(access, destination, base, offset) => {
+            sets(state, destination, load_kind(state, access, base, offset))
+        }
+        Insn::Store(size, base, offset, operand) => store(state, size, base, offset, operand),
+        Insn::JumpIf(width, comparison, register, _, operand) => {
+            jump(state, width, comparison, register, operand)
+        }
+        Insn::Goto(_) | Insn::GotoLong(_) => Ok(Next {
+            on: None,
+            jump: Some(*state),
+        }),
+        // There are no helpers yet.
+        Insn::Call(_) => Err(Why::UnknownHelper),
+        Insn::Exit => end(state, context.callback),
+    }
+}
+
+/// What flows on where nothing but the next instruction follows.
+pub(crate) fn goes_on(state: AbsState) -> Result<Next, Why>
+    ensures { result ≡ goes_on state }
+{
+    Ok(Next {
+        on: Some(state),
+        jump: None,
+    })
+}
+
+/// What flows on where the register gets a kind. That r10 is written goes before what is wrong with
+/// the kind.
+fn sets(state: &AbsState, register: Register, kind: Result<Kind, Why>) -> Result<Next, Why>
+    ensures { result ≡ sets state.now (number register) kind }
+{
+    if register == Register::R10 {
+        return Err(Why::WritesFrame);
+    }
+    goes_on(state.with_kind(register, kind?))
+}
+
+/// The end of the program, at which the callbacks that answer a number have one in r0.
+fn end(state: &AbsState, callback: Callback) -> Result<Next, Why>
+    ensures { result ≡ rule callback Insn.Exit state.now }
+{
+    if answers(callback) && state.kind(Register::R0) != Kind::Num {
+        return Err(Why::BadReturn);
+    }
+    Ok(Next {
+        on: None,
+        jump: None,
+    })
+}
+
+fn answers(callback: Callback) -> bool
+    ensures { result ≡ answers callback }
+{
+    matches!(
+        callback,
+        Callback::Plain | Callback::Init | Callback::SelectCpu
+    )
+}

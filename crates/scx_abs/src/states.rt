@@ -1,0 +1,144 @@
+ghost use Rattle.std.specs.Prelude.{◌≡◌, ◌<◌, ℕ, slice_index_or, []};
+ghost use Rattle.scx_semantics.specs.Registers.{number};
+ghost use Rattle.scx_abs.specs.declared.kinds.Kind.TheVariants.{Unusable};
+ghost use Rattle.scx_abs.specs.declared.kinds.Cell.TheVariants.{Bytes};
+ghost use Rattle.scx_abs.specs.Kinds.{join_kind};
+ghost use Rattle.scx_abs.specs.Cells.{join_cell};
+ghost use Rattle.scx_abs.specs.States.{IsLeastCover, argument_kinds, start_of};
+
+use crate::kinds::{CELL_BYTES, Cell, Kind};
+use scx_isa::{Callback, Register};
+
+/// How many registers there are, r0 to r10 (RFC 9669, section 3.1).
+pub const REGISTERS: usize = 11;
+
+/// How many cells of eight bytes the stack has.
+pub const CELLS: usize = 64;
+
+/// The top of the stack, the place past its last byte, to which r10 points.
+pub(crate) const STACK_TOP: u16 = 512;
+
+/// What is known of registers and stack before an instruction.
+#[derive(Clone, Copy, Debug, PartialEq, Eq)]
+pub struct AbsState {
+    /// The kinds of r0 to r10.
+    pub registers: [Kind; REGISTERS],
+    /// What is known of each eight bytes of the stack, from the lowest on.
+    pub cells: [Cell; CELLS],
+}
+
+impl AbsState {
+    ghost use Rattle.scx_abs.specs.States.{kind_at, cell_at, with_kind, with_cell};
+
+    /// The kind of a register.
+    pub(crate) fn kind(&self, register: Register) -> Kind
+        ensures { result ≡ kind_at self.now (number register) }
+    {
+        self.registers[register.number() as usize]
+    }
+
+    /// The cell of that number.
+    pub(crate) fn cell(&self, cell: usize) -> Cell
+        requires { cell < CELLS }
+        ensures { result ≡ cell_at self.now cell }
+    {
+        self.cells[cell]
+    }
+
+    /// The state where the register has that kind.
+    pub(crate) fn with_kind(&self, register: Register, kind: Kind) -> AbsState
+        ensures { result ≡ with_kind self.now (number register) kind }
+    {
+        let mut state = *self;
+        state.registers[register.number() as usize] = kind;
+        state
+    }
+
+    /// The state with another cell of that number.
+    pub(crate) fn with_cell(&self, number: usize, cell: Cell) -> AbsState
+        requires { number < CELLS }
+        ensures { result ≡ with_cell self.now number cell }
+    {
+        let mut state = *self;
+        state.cells[number] = cell;
+        state
+    }
+}
+
+/// The kinds of a callback's arguments, in r1 to r3 (sched-ext.rst, in this project's order).
+fn argument_kinds(callback: Callback) -> (Kind, Kind, Kind)
+    ensures first { result.0 ≡ (argument_kinds callback).first }
+    ensures second { result.1 ≡ (argument_kinds callback).second }
+    ensures third { result.2 ≡ (argument_kinds callback).third }
+{
+    match callback {
+        Callback::Plain | Callback::Init => (Kind::Unusable, Kind::Unusable, Kind::Unusable),
+        Callback::Enable | Callback::Running => (Kind::Task, Kind::Unusable, Kind::Unusable),
+        Callback::SelectCpu => (Kind::Task, Kind::Num, Kind::Num),
+        Callback::Enqueue | Callback::Stopping => (Kind::Task, Kind::Num, Kind::Unusable),
+        Callback::Dispatch => (Kind::Num, Kind::TaskOrNull, Kind::Unusable),
+    }
+}
+
+/// The state in which a callback begins: its arguments in r1 to r3, the top of the stack in r10, and
+/// nothing else.
+pub fn start(callback: Callback) -> AbsState
+    ensures { result ≡ start_of callback }
+{
+    let (first, second, third) = argument_kinds(callback);
+    let mut registers = [Kind::Unusable; REGISTERS];
+    registers[1] = first;
+    registers[2] = second;
+    registers[3] = third;
+    registers[10] = Kind::Stack(STACK_TOP);
+    AbsState {
+        registers,
+        cells: [Cell::Bytes([false; CELL_BYTES]); CELLS],
+    }
+}
+
+/// The least state that covers both: register by register and cell by cell.
+pub fn join(first: &AbsState, second: &AbsState) -> AbsState
+    ensures { IsLeastCover result first.now second.now }
+{
+    AbsState {
+        registers: join_registers(&first.registers, &second.registers),
+        cells: join_cells(&first.cells, &second.cells),
+    }
+}
+
+/// The least kind that covers those of a register in both.
+fn joined_kind(first: &[Kind; REGISTERS], second: &[Kind; REGISTERS], register: usize) -> Kind
+    requires { register < REGISTERS }
+    ensures { result ≡ join_kind (slice_index_or first.now register Unusable) (slice_index_or second.now register Unusable) }
+{
+    first[register].join(second[register])
+}
+
+fn join_registers(first: &[Kind; REGISTERS], second: &[Kind; REGISTERS]) -> [Kind; REGISTERS]
+    ensures { (r : ℕ) → r < REGISTERS → slice_index_or result r Unusable ≡ join_kind (slice_index_or first.now r Unusable) (slice_index_or second.now r Unusable) }
+{
+    let mut joined = *first;
+    for register in 0..REGISTERS {
+        joined[register] = joined_kind(first, second, register);
+    }
+    joined
+}
+
+/// The least cell that covers those of a number in both.
+fn joined_cell(first: &[Cell; CELLS], second: &[Cell; CELLS], cell: usize) -> Cell
+    requires { cell < CELLS }
+    ensures { result ≡ join_cell (slice_index_or first.now cell (Bytes [])) (slice_index_or second.now cell (Bytes [])) }
+{
+    first[cell].join(second[cell])
+}
+
+fn join_cells(first: &[Cell; CELLS], second: &[Cell; CELLS]) -> [Cell; CELLS]
+    ensures { (c : ℕ) → c < CELLS → slice_index_or result c (Bytes []) ≡ join_cell (slice_index_or first.now c (Bytes [])) (slice_index_or second.now c (Bytes [])) }
+{
+    let mut joined = *first;
+    for cell in 0..CELLS {
+        joined[cell] = joined_cell(first, second, cell);
+    }
+    joined
+}
