@@ -1,0 +1,43 @@
+-- The second pass, as a loop goes from entry to entry.
+use Rattle.std.proofs.Common.{◌≡◌, ℕ, ◌+◌, ◌<◌, ◌≤◌, List, [], ◌∷◌, ◌++◌, length, map, drop, get_or, Result, Ok, Err, refl, sym, ap, ◌∙◌, append_assoc}
+use Rattle.std.proofs.lemmas.List.{drop_more, drop_all, append-nil}
+use Rattle.scx_semantics.specs.declared.instructions.Insn.{Insn}
+use Rattle.scx_asm.specs.declared.faults.AsmFault.{AsmFault}
+use Rattle.scx_asm.specs.declared.layout.Entry.{Entry}
+use Rattle.scx_text.specs.Items.{line_of}
+use Rattle.scx_asm.specs.Resolving.{Labels, resolved}
+use Rattle.scx_asm.specs.Layout.{◌>>=◌, draft_of, located}
+use Rattle.scx_asm.specs.Reading.{built}
+
+-- the instructions that were resolved, and the entries that are left
+abbrev pub with_front : List Insn → Result (List Insn) (AsmFault × ℕ) → Result (List Insn) (AsmFault × ℕ)
+with_front front r = r >>= λ is. Ok (front ++ is)
+
+abbrev pub left : Labels → List Entry → ℕ → List Insn → Result (List Insn) (AsmFault × ℕ)
+left labels entries i front = with_front front (built labels (map draft_of (drop i entries)))
+
+regroup : (front : List Insn) (i : Insn) (r : Result (List Insn) (AsmFault × ℕ)) → with_front front (r >>= λ is. Ok (i ∷ is)) ≡ with_front (front ++ i ∷ []) r
+regroup front i (Ok is) = ap (λ (x : List Insn). Ok x) (simp append_assoc)
+regroup front i (Err e) = refl
+
+pub goes_on : (labels : Labels) (entries : List Entry) (k : ℕ) (d : Entry) (front : List Insn) (i : Insn) (total : Result (List Insn) (AsmFault × ℕ)) → k < length entries
+    → resolved labels (get_or entries k d).slot (line_of (get_or entries k d).item) ≡ Ok i
+    → left labels entries k front ≡ total → left labels entries (k + 1) (front ++ i ∷ []) ≡ total
+unfolding built
+goes_on labels entries k d front i total lt e so_far =
+    let one : left labels entries k front ≡ left labels entries (k + 1) (front ++ i ∷ []) = rw (drop_more entries k d lt, e) (regroup front i (built labels (map draft_of (drop (k + 1) entries)))) in
+    sym one ∙ so_far
+
+pub ends : (labels : Labels) (entries : List Entry) (k : ℕ) (d : Entry) (front : List Insn) (fault : AsmFault) (total : Result (List Insn) (AsmFault × ℕ)) → k < length entries
+    → resolved labels (get_or entries k d).slot (line_of (get_or entries k d).item) ≡ Err fault
+    → left labels entries k front ≡ total → total ≡ Err (fault, (get_or entries k d).line)
+unfolding built
+ends labels entries k d front fault total lt e so_far =
+    let one : left labels entries k front ≡ Err (fault, (get_or entries k d).line) = rw (drop_more entries k d lt, e) refl in
+    sym so_far ∙ one
+
+pub is_done : (labels : Labels) (entries : List Entry) (k : ℕ) (front : List Insn) (total : Result (List Insn) (AsmFault × ℕ)) → length entries ≤ k → left labels entries k front ≡ total → total ≡ Ok front
+unfolding built
+is_done labels entries k front total le so_far =
+    let one : left labels entries k front ≡ Ok front = rw (drop_all k entries le) (ap (λ (x : List Insn). Ok x) (append-nil front)) in
+    sym so_far ∙ one

@@ -1,0 +1,6 @@
+pub mod Faults
+pub mod Resolving
+pub mod Layout
+pub mod Plans
+pub mod Reading
+pub mod Printing

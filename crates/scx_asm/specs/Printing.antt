@@ -1,0 +1,13 @@
+-- The canonical text of a program: that of its instructions in order, each with a line feed behind it.
+use Rattle.std.specs.Prelude.{ℕ, List, [], ◌++◌, codes, Option, Some, None}
+use Rattle.std.specs.List.{flat_map}
+use Rattle.scx_semantics.specs.declared.instructions.Insn.{Insn}
+use Rattle.scx_semantics.specs.Code.{Code}
+use Rattle.scx_text.specs.Canonical.{insn_text}
+
+abbrev pub place_text : Option Insn → List ℕ
+place_text None = []
+place_text (Some i) = insn_text i ++ codes "\n"
+
+abbrev pub program_text : Code → List ℕ
+program_text code = flat_map place_text code

@@ -1,0 +1,36 @@
+-- The program that a text stands for, or its first fault: the first pass lays the text out, and the second
+-- one resolves instruction by instruction. A text without an instruction is faulty at its first line.
+use Rattle.std.specs.Prelude.{ℕ, nat_eq, Bool, List, [], ◌∷◌, Option, Some, None, Result, Ok, Err, if◌then◌else◌}
+use Rattle.std.specs.List.{flat_map}
+use Rattle.std.specs.Str.Lines.{lines}
+use Rattle.scx_semantics.specs.declared.instructions.Insn.{Insn}
+use Rattle.scx_semantics.specs.Code.{Code, is_wide}
+use Rattle.scx_asm.specs.declared.faults.AsmFault.{AsmFault}
+use Rattle.scx_asm.specs.declared.faults.AsmFault.TheVariants.{Syntax}
+use Rattle.scx_asm.specs.Resolving.{Labels, resolved}
+use Rattle.scx_asm.specs.Layout.{◌>>=◌, Draft, Plan, nothing, located, planned}
+
+-- the instructions of drafts, or the first fault of one
+unfoldable pub built : Labels → List Draft → Result (List Insn) (AsmFault × ℕ)
+built labels [] = Ok []
+built labels (d ∷ ds) = do
+  i ← located d.line (resolved labels d.slot d.says)
+  is ← built labels ds
+  Ok (i ∷ is)
+
+abbrev pub finished : Plan → Result (List Insn) (AsmFault × ℕ)
+finished p = if nat_eq p.slots 0 then Err (Syntax, 1) else built p.labels p.drafts
+
+-- the instructions that a text stands for
+abbrev pub read_insns : List ℕ → Result (List Insn) (AsmFault × ℕ)
+read_insns text = planned 1 nothing (lines text) >>= finished
+
+-- the slots of an instruction, and those of a program
+abbrev pub insn_places : Insn → Code
+insn_places i = if is_wide i then (Some i ∷ None ∷ []) else (Some i ∷ [])
+
+abbrev pub code_of : List Insn → Code
+code_of is = flat_map insn_places is
+
+abbrev pub read_text : List ℕ → Result Code (AsmFault × ℕ)
+read_text text = read_insns text >>= λ is. Ok (code_of is)

@@ -1,0 +1,123 @@
+-- The instruction that a line stands for: its numbers have to fit their fields (RFC 9669, section 3), and
+-- a label stands for the distance to its slot from the slot behind the jump.
+use Rattle.std.specs.Prelude.{ℕ, ◌+◌, ◌-◌, ◌/◌, ◌%◌, ◌^◌, ℤ, pos, negsuc, neg_ℤ, ◌-ℤ◌, Bool, true, nat_lt, is_some, List, [], ◌∷◌, Option, Some, None, Result, Ok, Err, ok_or, if◌then◌else◌}
+use Rattle.std.specs.Str.{bytes_eq}
+use Rattle.std.specs.Int.{w32, cast_signed}
+use Rattle.scx_semantics.specs.declared.instructions.Insn.{Insn}
+use Rattle.scx_semantics.specs.declared.instructions.Insn.TheVariants as insn
+use Rattle.scx_semantics.specs.declared.instructions.Operand.{Operand}
+use Rattle.scx_semantics.specs.declared.instructions.Operand.TheVariants as operand
+use Rattle.scx_text.specs.declared.items.Literal.{Literal}
+use Rattle.scx_text.specs.declared.items.Argument.{Argument}
+use Rattle.scx_text.specs.declared.items.Argument.TheVariants as argument
+use Rattle.scx_text.specs.declared.items.Statement.{Statement}
+use Rattle.scx_text.specs.declared.items.Statement.TheVariants as statement
+use Rattle.scx_text.specs.declared.items.Jump.{Jump}
+use Rattle.scx_text.specs.declared.items.Jump.TheVariants as jump
+use Rattle.scx_text.specs.Options.{◌>>=◌, either}
+use Rattle.scx_text.specs.Items.{Destination, Label, Distance, Line, Blank, Place_of, Says, Jumps}
+use Rattle.scx_asm.specs.declared.faults.AsmFault.{AsmFault}
+use Rattle.scx_asm.specs.declared.faults.AsmFault.TheVariants.{UnknownLabel, OutOfRange}
+
+-- ---- numbers in their fields
+
+-- a number as it is written, in 32 bits, signed
+abbrev pub immediate : Literal → Option ℤ
+immediate n = do
+  m ← n.magnitude
+  if n.is_negative then (if nat_lt (2 ^ 31) m then None else Some (neg_ℤ (pos m))) else (if nat_lt m (2 ^ 31) then Some (pos m) else None)
+
+-- a distance or an offset in 16 bits, signed
+abbrev pub short : ℤ → Option ℤ
+short (pos n) = if nat_lt n (2 ^ 15) then Some (pos n) else None
+short (negsuc n) = if nat_lt n (2 ^ 15) then Some (negsuc n) else None
+
+-- 32 bits, signed
+abbrev pub wide : ℤ → Option ℤ
+wide (pos n) = if nat_lt n (2 ^ 31) then Some (pos n) else None
+wide (negsuc n) = if nat_lt n (2 ^ 31) then Some (negsuc n) else None
+
+-- a number as it is written, in 64 bits, signed or unsigned, as bits
+abbrev pub long : Literal → Option ℕ
+long n = do
+  m ← n.magnitude
+  if n.is_negative then (if nat_lt (2 ^ 63) m then None else Some ((2 ^ 64 - m) % 2 ^ 64)) else (if nat_lt m (2 ^ 64) then Some m else None)
+
+-- ---- lines without a label
+
+abbrev pub operand_of : Argument → Option Operand
+operand_of (argument.Register r) = Some (operand.Register r)
+operand_of (argument.Number n) = immediate n >>= λ k. Some (operand.Immediate k)
+
+abbrev pub insn_of : Statement → Option Insn
+insn_of (statement.Binary w o d x) = operand_of x >>= λ y. Some (insn.Binary w o d y)
+insn_of (statement.Negate w d) = Some (insn.Negate w d)
+insn_of (statement.SignExtend e d r) = Some (insn.SignExtend e d r)
+insn_of (statement.Reorder o w d) = Some (insn.Reorder o w d)
+insn_of (statement.Constant d n) = long n >>= λ b. Some (insn.Constant d (cast_signed w32 (b % 2 ^ 32)) (cast_signed w32 (b / 2 ^ 32)))
+insn_of (statement.MapReference d n) = immediate n >>= λ k. Some (insn.MapReference d k)
+insn_of (statement.Load a d r n) = do
+  k ← immediate n
+  o ← short k
+  Some (insn.Load a d r o)
+insn_of (statement.Store s r n x) = do
+  k ← immediate n
+  o ← short k
+  y ← operand_of x
+  Some (insn.Store s r o y)
+insn_of (statement.Call n) = immediate n >>= λ k. Some (insn.Call k)
+insn_of statement.Exit = Some insn.Exit
+
+-- the jump of that distance
+abbrev pub jump_of : Jump → ℤ → Option Insn
+jump_of (jump.If w c r x) z = do
+  o ← short z
+  y ← operand_of x
+  Some (insn.JumpIf w c r o y)
+jump_of jump.Goto z = short z >>= λ o. Some (insn.Goto o)
+jump_of jump.GotoLong z = wide z >>= λ o. Some (insn.GotoLong o)
+
+abbrev pub distant : Jump → Literal → Option Insn
+distant j n = immediate n >>= jump_of j
+
+-- whether the numbers that the line writes fit their fields
+abbrev pub fits : Line → Bool
+fits (Says s) = is_some (insn_of s)
+fits (Jumps j (Distance n)) = is_some (distant j n)
+fits (Jumps j (Label l)) = is_some (jump_of j (pos 0))
+fits l = true
+
+-- the slots that the line's instruction takes
+abbrev pub slots : Line → ℕ
+slots Blank = 0
+slots (Place_of l) = 0
+slots (Says (statement.Constant d n)) = 2
+slots (Says (statement.MapReference d n)) = 2
+slots l = 1
+
+-- ---- labels
+
+-- the labels of a text, each with the slot that it names
+abbrev pub Labels : Type 0
+Labels = List (List ℕ × ℕ)
+
+unfoldable pub find : List ℕ → Labels → Option ℕ
+find l [] = None
+find l (e ∷ es) = if bytes_eq l e.0 then Some e.1 else find l es
+
+-- the distance from the slot behind a jump
+abbrev pub distance : ℕ → ℕ → ℤ
+distance slot target = pos target -ℤ pos (slot + 1)
+
+abbrev pub ranged : Option Insn → Result Insn AsmFault
+ranged i = ok_or i OutOfRange
+
+abbrev pub to_label : Labels → ℕ → Jump → List ℕ → Result Insn AsmFault
+to_label labels slot j l = either (find l labels) (λ target. ranged (jump_of j (distance slot target))) (Err UnknownLabel)
+
+-- the instruction that the line stands for at a slot; a line without one is out of range
+abbrev pub resolved : Labels → ℕ → Line → Result Insn AsmFault
+resolved labels slot (Says s) = ranged (insn_of s)
+resolved labels slot (Jumps j (Distance n)) = ranged (distant j n)
+resolved labels slot (Jumps j (Label l)) = to_label labels slot j l
+resolved labels slot l = Err OutOfRange

@@ -1,0 +1,136 @@
+ghost use Rattle.std.specs.Prelude.{◌≡◌, ◌<◌, map, length, IfOk, get_or};
+ghost use Rattle.std.specs.Str.Lines.{lines};
+ghost use Rattle.scx_encoding.specs.Slots.{slot_bytes};
+ghost use Rattle.scx_encoding.specs.Spelling.{insn_slots, IsInsn};
+ghost use Rattle.scx_isa.specs.Spelling.{IsProgram, spelling};
+ghost use Rattle.scx_text.specs.Items.{line_of};
+ghost use Rattle.scx_asm.specs.Resolving.{resolved, to_label};
+ghost use Rattle.scx_asm.specs.Layout.{Gives, draft_of};
+ghost use Rattle.scx_asm.specs.Plans.{table, plan_of};
+ghost use Rattle.scx_asm.specs.Reading.{built, finished, code_of, read_insns, read_text};
+ghost use Rattle.std.specs.Prelude.{◌++◌, OnOk};
+ghost use Rattle.std.specs.List.{flat_map, AllByRecursion};
+
+use crate::faults::{AsmError, AsmFault};
+use crate::layout::{Entry, Layout, lay_out, refused, slot_of};
+use crate::resolving::{jumped_so_far, jumped_to, said};
+use indexmap::IndexMap;
+use scx_encoding::{first_slot_of, push_slot, second_slot_of};
+use scx_isa::{DecodeError, Insn, Program, decode};
+use scx_text::{Item, Jump, Target};
+use std::alloc::{AllocError, Global};
+
+/// The jump to a label, or its fault.
+fn jumped_to_label<'a>(
+    labels: &IndexMap<&'a [u8], u16>,
+    slot: u16,
+    jump: Jump,
+    label: &'a [u8],
+) -> Result<Insn, AsmFault>
+    ensures { result ≡ to_label (table labels.now.entries) slot jump label.now }
+{
+    match slot_of(labels, label) {
+        Some(target) => jumped_to(target, slot, jump),
+        None => Err(AsmFault::UnknownLabel),
+    }
+}
+
+/// The instruction that an entry stands for, or its fault.
+fn insn_at<'a>(labels: &IndexMap<&'a [u8], u16>, entry: &Entry<'a>) -> Result<Insn, AsmFault>
+    ensures { result ≡ resolved (table labels.now.entries) entry.now.slot (line_of entry.now.item) }
+{
+    match entry.item {
+        Item::Statement(statement) => said(statement),
+        Item::Jump(jump, Target::Distance(distance)) => jumped_so_far(jump, distance),
+        Item::Jump(jump, Target::Label(label)) => jumped_to_label(labels, entry.slot, jump, label),
+        Item::Blank | Item::Label(_) => Err(AsmFault::OutOfRange),
+    }
+}
+
+/// The second pass: the instructions of all entries.
+fn resolve(alloc: Global, layout: &Layout<'_>) -> Result<Vec<Insn>, AsmError>
+    ensures { Gives (λ insns. insns.items) result (built (table layout.now.labels.entries) (map draft_of layout.now.entries.items)) }
+{
+    let mut insns = Vec::with_capacity(alloc, layout.entries.len())?;
+    for entry in &layout.entries {
+        match insn_at(&layout.labels, entry) {
+            Ok(insn) => insns.push(insn)?,
+            Err(fault) => return refused(fault, entry.line),
+        }
+    }
+    Ok(insns)
+}
+
+/// The second pass, if the first one found an instruction.
+fn finish(alloc: Global, layout: &Layout<'_>) -> Result<Vec<Insn>, AsmError>
+    ensures { Gives (λ insns. insns.items) result (finished (plan_of layout.now)) }
+{
+    if layout.slots == 0 {
+        return refused(AsmFault::Syntax, 1);
+    }
+    resolve(alloc, layout)
+}
+
+/// The instructions that the text stands for.
+#[tactic(auto, using(crate::proofs::Written::fails_first))]
+fn instructions(alloc: Global, text: &str) -> Result<Vec<Insn>, AsmError>
+    ensures { Gives (λ insns. insns.items) result (read_insns text.now) }
+{
+    match lay_out(alloc, text) {
+        Ok(layout) => finish(alloc, &layout),
+        Err(error) => Err(error),
+    }
+}
+
+/// Writes the slots of an instruction at the end.
+fn push_insn(out: &mut Vec<u8>, insn: &Insn) -> Result<(), AllocError>
+    requires { IsInsn insn.now }
+    ensures { OnOk result (out.new.items ≡ out.old.items ++ flat_map slot_bytes (insn_slots insn.now)) }
+{
+    push_slot(out, &first_slot_of(insn))?;
+    if let Some(half) = second_slot_of(insn) {
+        push_slot(out, &half)?;
+    }
+    Ok(())
+}
+
+/// The bytes that spell the instructions.
+fn bytes_of(alloc: Global, insns: &[Insn]) -> Result<Vec<u8>, AllocError>
+    requires { AllByRecursion IsInsn insns.now }
+    ensures { IfOk result (λ bytes. bytes.items ≡ spelling (code_of insns.now)) }
+{
+    let mut bytes = Vec::new(alloc);
+    for insn in insns {
+        push_insn(&mut bytes, insn)?;
+    }
+    Ok(bytes)
+}
+
+/// The program of these instructions. They are written as slots and decoded, which wants nothing but
+/// memory.
+fn program_of(alloc: Global, insns: &[Insn]) -> Result<Program, AsmError>
+    requires insns { AllByRecursion IsInsn insns.now }
+    requires program { IsProgram (code_of insns.now) }
+    ensures { Gives (λ program. program) result (Ok (code_of insns.now)) }
+{
+    let bytes = bytes_of(alloc, insns)?;
+    match decode(alloc, &bytes) {
+        Ok(program) => Ok(program),
+        Err(DecodeError::OutOfMemory) => Err(AsmError::OutOfMemory),
+        Err(DecodeError::Refused { .. }) => unreachable!(),
+    }
+}
+
+/// Reads the program that the text stands for.
+///
+/// The first faulty line is refused: by a first pass over all lines, which looks for all faults but
+/// those of labels that jumps go to, and then by a second one, which looks for those.
+#[tactic(auto, using(crate::proofs::Written::fails_on))]
+pub fn assemble(alloc: Global, text: &str) -> Result<Program, AsmError>
+    ensures exact { Gives (λ program. program) result (read_text text.now) }
+{
+    match instructions(alloc, text) {
+        Ok(insns) => program_of(alloc, &insns),
+        Err(error) => Err(error),
+    }
+}

@@ -1,0 +1,22 @@
+ghost use Rattle.std.specs.Prelude.{◌≡◌, IfOk};
+ghost use Rattle.std.specs.String.{string_bytes};
+ghost use Rattle.scx_asm.specs.Printing.{program_text};
+
+use scx_isa::Program;
+use scx_text::Canonical;
+use std::alloc::{AllocError, Global};
+use std::fmt::Write;
+
+/// The canonical text of the program.
+pub fn disassemble(alloc: Global, program: &Program) -> Result<String, AllocError>
+    ensures { IfOk result (λ text. string_bytes text ≡ program_text program.now) }
+{
+    let mut text = String::new(alloc);
+    for slot in 0..program.slots() {
+        if let Some(insn) = program.at(slot) {
+            let canonical = Canonical(insn);
+            writeln!(text, "{canonical}")?;
+        }
+    }
+    Ok(text)
+}

@@ -1,0 +1,137 @@
+ghost use Rattle.std.specs.Prelude.{◌≡◌, option_map, length, map, IfOk, Err};
+ghost use Rattle.std.specs.Str.Lines.{lines};
+ghost use Rattle.scx_text.specs.Items.{line_of, read_line};
+ghost use Rattle.scx_asm.specs.declared.faults.AsmError.TheVariants.{Refused};
+ghost use Rattle.scx_asm.specs.Layout.{Gives, located, nothing, with_label, with_draft, with_line, with_text, planned};
+ghost use Rattle.scx_asm.specs.Plans.{table, plan_of};
+ghost use Rattle.scx_asm.specs.Resolving.{find};
+
+use crate::faults::{AsmError, AsmFault};
+use crate::resolving::{fits, slots_of};
+use indexmap::IndexMap;
+use scx_text::{Item, item_of, tokens};
+use std::alloc::{AllocError, Global};
+
+/// The most slots that a program may have, as `scx_isa` limits them.
+const MOST_SLOTS: u16 = 4096;
+
+/// An instruction with its numbers as they are written.
+#[derive(Clone, Copy)]
+pub struct Entry<'a> {
+    pub line: usize,
+    pub slot: u16,
+    pub item: Item<'a>,
+}
+
+/// What is known of a text.
+#[derive(Drop)]
+pub struct Layout<'a> {
+    pub slots: u16,
+    /// The slot that each label names.
+    pub labels: IndexMap<&'a [u8], u16>,
+    pub entries: Vec<Entry<'a>>,
+}
+
+pub(crate) fn refused<T: Drop>(fault: AsmFault, line: usize) -> Result<T, AsmError>
+    ensures { result ≡ Err (Refused fault line) }
+{
+    Err(AsmError::Refused { fault, line })
+}
+
+/// What the line says; `None` where it isn't of the language.
+fn read<'a>(alloc: Global, line: &'a [u8]) -> Result<Option<Item<'a>>, AllocError>
+    ensures { IfOk result (λ item. option_map line_of item ≡ read_line line.now) }
+{
+    match tokens(alloc, line)? {
+        Some(tokens) => Ok(item_of(&tokens)),
+        None => Ok(None),
+    }
+}
+
+/// The slot that the label names.
+#[tactic(auto, using(crate::proofs::Tables::find_is))]
+pub(crate) fn slot_of<'a>(labels: &IndexMap<&'a [u8], u16>, label: &'a [u8]) -> Option<u16>
+    ensures { result ≡ find label.now (table labels.now.entries) }
+{
+    labels.get(label).copied()
+}
+
+fn push_label<'a>(layout: &mut Layout<'a>, number: usize, label: &'a [u8]) -> Result<(), AsmError>
+    ensures { Gives (λ _. plan_of layout.new) result (located number (with_label (plan_of layout.old) label.now)) }
+{
+    if slot_of(&layout.labels, label).is_some() {
+        return refused(AsmFault::TwiceLabel, number);
+    }
+    layout.labels.insert(label, layout.slots)?;
+    Ok(())
+}
+
+fn push_entry<'a>(layout: &mut Layout<'a>, number: usize, item: Item<'a>) -> Result<(), AsmError>
+    ensures { Gives (λ _. plan_of layout.new) result (located number (with_draft number (plan_of layout.old) (line_of item.entry))) }
+{
+    if !fits(&item) {
+        return refused(AsmFault::OutOfRange, number);
+    }
+    let size = slots_of(&item);
+    if layout.slots > MOST_SLOTS - size {
+        return refused(AsmFault::TooLong, number);
+    }
+    let entry = Entry {
+        line: number,
+        slot: layout.slots,
+        item,
+    };
+    layout.entries.push(entry)?;
+    layout.slots += size;
+    Ok(())
+}
+
+fn push_item<'a>(layout: &mut Layout<'a>, number: usize, item: Item<'a>) -> Result<(), AsmError>
+    ensures { Gives (λ _. plan_of layout.new) result (located number (with_line number (plan_of layout.old) (line_of item.entry))) }
+{
+    match item {
+        Item::Blank => Ok(()),
+        Item::Label(label) => push_label(layout, number, label),
+        Item::Statement(_) | Item::Jump(..) => push_entry(layout, number, item),
+    }
+}
+
+fn push_line<'a>(
+    alloc: Global,
+    layout: &mut Layout<'a>,
+    number: usize,
+    line: &'a [u8],
+) -> Result<(), AsmError>
+    ensures { Gives (λ _. plan_of layout.new) result (located number (with_text number (plan_of layout.old) line.now)) }
+{
+    match read(alloc, line)? {
+        Some(item) => push_item(layout, number, item),
+        None => refused(AsmFault::Syntax, number),
+    }
+}
+
+fn lines_of<'a>(alloc: Global, text: &'a str) -> Result<Vec<&'a str>, AllocError>
+    ensures { IfOk result (λ found. map (λ l. l.now) found.items ≡ lines text.now) }
+{
+    text.lines().collect(alloc)
+}
+
+/// The first pass: the instructions with their slots, and the labels.
+pub(crate) fn lay_out<'a>(alloc: Global, text: &'a str) -> Result<Layout<'a>, AsmError>
+    ensures { Gives (λ layout. plan_of layout) result (planned 1 nothing (lines text.now)) }
+{
+    let lines = lines_of(alloc, text)?;
+    let mut layout = Layout {
+        slots: 0,
+        labels: IndexMap::new(alloc),
+        entries: Vec::new(alloc),
+    };
+    for index in 0..lines.len() {
+        let line = lines[index].as_bytes();
+        match push_line(alloc, &mut layout, index + 1, line) {
+            Ok(()) => {}
+            Err(error) => return Err(error),
+        }
+    }
+    Ok(layout)
+}

@@ -1,0 +1,18 @@
+//! An assembler and a disassembler for BPF programs, in the dialect that clang and llvm-objdump print.
+//!
+//! `assemble` reads a text line by line: a first pass lays out the instructions and notes the labels, a
+//! second one puts distances in their places. What it gives was written as slots and decoded.
+//! `disassemble` gives the canonical text, which `assemble` reads as the same program.
+#![tactic(auto)]
+
+mod assembling;
+mod disassembling;
+mod faults;
+mod layout;
+mod resolving;
+#[cfg(test)]
+mod tests;
+
+pub use assembling::assemble;
+pub use disassembling::disassemble;
+pub use faults::{AsmError, AsmFault};

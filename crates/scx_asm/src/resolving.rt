@@ -1,0 +1,179 @@
+ghost use Rattle.std.specs.Prelude.{◌≡◌, ◌+◌, ◌<◌, ◌≤◌, ◌^◌, ok_or};
+ghost use Rattle.scx_text.specs.Items.{line_of};
+ghost use Rattle.scx_text.specs.declared.items.Statement.TheVariants.{Constant};
+ghost use Rattle.scx_asm.specs.Resolving.{immediate, short, long, operand_of, insn_of, jump_of, distant, fits, slots, distance, ranged};
+
+use crate::faults::AsmFault;
+use scx_isa::{Insn, Operand, Register};
+use scx_text::{Argument, Item, Jump, Literal, Statement, Target};
+
+/// The number, if it fits 32 bits with its sign.
+fn immediate_of(number: Literal) -> Option<i32>
+    ensures { result ≡ immediate number }
+{
+    let magnitude = number.magnitude?;
+    if number.is_negative {
+        if magnitude > 1 << 31 {
+            None
+        } else {
+            Some((-(magnitude as i64)) as i32)
+        }
+    } else if magnitude < 1 << 31 {
+        Some(magnitude as i32)
+    } else {
+        None
+    }
+}
+
+fn short_of(number: i32) -> Option<i16>
+    ensures { result ≡ short number }
+{
+    i16::try_from(number).ok()
+}
+
+/// The number, if it is one of 64 bits with or without a sign, as bits.
+#[tactic(auto, using(crate::proofs::Fitting::long_is))]
+fn long_of(number: Literal) -> Option<u64>
+    ensures { result ≡ long number }
+{
+    let magnitude = number.magnitude?;
+    if number.is_negative {
+        if magnitude > 1 << 63 {
+            None
+        } else {
+            Some(magnitude.wrapping_neg())
+        }
+    } else {
+        Some(magnitude)
+    }
+}
+
+fn operand_of(argument: Argument) -> Option<Operand>
+    ensures { result ≡ operand_of argument }
+{
+    match argument {
+        Argument::Register(register) => Some(Operand::Register(register)),
+        Argument::Number(number) => Some(Operand::Immediate(immediate_of(number)?)),
+    }
+}
+
+fn constant_of(register: Register, number: Literal) -> Option<Insn>
+    ensures { result ≡ insn_of (Constant register number) }
+{
+    let bits = long_of(number)?;
+    let low = (bits % (1 << 32)) as u32;
+    let high = (bits / (1 << 32)) as u32;
+    Some(Insn::Constant(register, low.cast_signed(), high.cast_signed()))
+}
+
+/// The instruction that a statement stands for, if its numbers fit.
+fn insn_of(statement: Statement) -> Option<Insn>
+    ensures { result ≡ insn_of statement }
+{
+    match statement {
+        Statement::Binary(width, operation, register, argument) => {
+            let operand = operand_of(argument)?;
+            Some(Insn::Binary(width, operation, register, operand))
+        }
+        Statement::Negate(width, register) => Some(Insn::Negate(width, register)),
+        Statement::SignExtend(extension, register, source) => {
+            Some(Insn::SignExtend(extension, register, source))
+        }
+        Statement::Reorder(order, width, register) => Some(Insn::Reorder(order, width, register)),
+        Statement::Constant(register, number) => constant_of(register, number),
+        Statement::MapReference(register, map) => {
+            Some(Insn::MapReference(register, immediate_of(map)?))
+        }
+        Statement::Load(access, register, base, offset) => {
+            let offset = short_of(immediate_of(offset)?)?;
+            Some(Insn::Load(access, register, base, offset))
+        }
+        Statement::Store(size, base, offset, argument) => {
+            let offset = short_of(immediate_of(offset)?)?;
+            Some(Insn::Store(size, base, offset, operand_of(argument)?))
+        }
+        Statement::Call(helper) => Some(Insn::Call(immediate_of(helper)?)),
+        Statement::Exit => Some(Insn::Exit),
+    }
+}
+
+/// The jump of that distance, if its numbers fit.
+#[tactic(auto, using(crate::proofs::Fitting::wide_is))]
+pub(crate) fn jump_of(jump: Jump, distance: i32) -> Option<Insn>
+    ensures { result ≡ jump_of jump distance }
+{
+    match jump {
+        Jump::If(width, comparison, register, argument) => {
+            let offset = short_of(distance)?;
+            let operand = operand_of(argument)?;
+            Some(Insn::JumpIf(width, comparison, register, offset, operand))
+        }
+        Jump::Goto => Some(Insn::Goto(short_of(distance)?)),
+        Jump::GotoLong => Some(Insn::GotoLong(distance)),
+    }
+}
+
+fn distant(jump: Jump, distance: Literal) -> Option<Insn>
+    ensures { result ≡ distant jump distance }
+{
+    jump_of(jump, immediate_of(distance)?)
+}
+
+/// Whether the numbers that the line writes fit their fields.
+pub(crate) fn fits(item: &Item<'_>) -> bool
+    ensures { result ≡ fits (line_of item.now) }
+{
+    match *item {
+        Item::Blank | Item::Label(_) => true,
+        Item::Statement(statement) => insn_of(statement).is_some(),
+        Item::Jump(jump, Target::Distance(distance)) => distant(jump, distance).is_some(),
+        Item::Jump(jump, Target::Label(_)) => jump_of(jump, 0).is_some(),
+    }
+}
+
+/// How many slots the line's instruction takes.
+pub(crate) fn slots_of(item: &Item<'_>) -> u16
+    ensures slots { result ≡ slots (line_of item.now) }
+    ensures most { result ≤ 2 }
+{
+    match *item {
+        Item::Blank | Item::Label(_) => 0,
+        Item::Statement(Statement::Constant(..) | Statement::MapReference(..)) => 2,
+        Item::Statement(_) | Item::Jump(..) => 1,
+    }
+}
+
+/// The distance from the slot behind a jump.
+fn distance_to(target: u16, slot: u16) -> i32
+    ensures { result ≡ distance slot target }
+{
+    i32::from(target) - i32::from(slot) - 1
+}
+
+/// The jump to a slot, or its fault.
+pub(crate) fn jumped_to(target: u16, slot: u16, jump: Jump) -> Result<Insn, AsmFault>
+    ensures { result ≡ ranged (jump_of jump (distance slot target)) }
+{
+    jumped(jump, distance_to(target, slot))
+}
+
+/// The instruction of a statement, or its fault.
+pub(crate) fn said(statement: Statement) -> Result<Insn, AsmFault>
+    ensures { result ≡ ranged (insn_of statement) }
+{
+    insn_of(statement).ok_or(AsmFault::OutOfRange)
+}
+
+/// The jump of that distance, or its fault.
+pub(crate) fn jumped(jump: Jump, distance: i32) -> Result<Insn, AsmFault>
+    ensures { result ≡ ranged (jump_of jump distance) }
+{
+    jump_of(jump, distance).ok_or(AsmFault::OutOfRange)
+}
+
+/// The jump of a distance that is written, or its fault.
+pub(crate) fn jumped_so_far(jump: Jump, distance: Literal) -> Result<Insn, AsmFault>
+    ensures { result ≡ ranged (distant jump distance) }
+{
+    distant(jump, distance).ok_or(AsmFault::OutOfRange)
+}

@@ -1,0 +1,6 @@
+pub mod Search
+pub mod Runs
+pub mod Numerals
+pub mod TokenBounds
+pub mod Lexing
+pub mod Names

@@ -1,0 +1,46 @@
+-- The canonical text of an instruction: single spaces, decimal numbers, and every offset and distance with
+-- its sign.
+use Rattle.std.specs.Prelude.{ℕ, suc, ℤ, pos, negsuc, List, ◌++◌, codes}
+use Rattle.std.specs.Fmt.{decimal, signed_decimal}
+use Rattle.scx_semantics.specs.declared.operations.Width.{Width}
+use Rattle.scx_semantics.specs.declared.operations.Width.TheVariants.{Bits64}
+use Rattle.scx_semantics.specs.declared.registers.Register.{Register}
+use Rattle.scx_semantics.specs.declared.instructions.Operand.{Operand}
+use Rattle.scx_semantics.specs.declared.instructions.Operand.TheVariants as operand
+use Rattle.scx_semantics.specs.declared.instructions.Insn.{Insn}
+use Rattle.scx_semantics.specs.declared.instructions.Insn.TheVariants as insn
+use Rattle.scx_semantics.specs.Arithmetic.{constant}
+use Rattle.scx_text.specs.declared.symbols.Symbol.TheVariants.{Assign, Compare}
+use Rattle.scx_text.specs.Symbols.{spelled}
+use Rattle.scx_text.specs.Names.{register_text, access_text, stored_access, extension_width, extension_access, order_text}
+
+abbrev pub operand_text : Width → Operand → List ℕ
+operand_text w (operand.Immediate k) = signed_decimal k
+operand_text w (operand.Register r) = register_text w r
+
+-- the sign of an offset is a token of its own
+abbrev pub offset_text : ℤ → List ℕ
+offset_text (pos n) = codes "+ " ++ decimal n
+offset_text (negsuc n) = codes "- " ++ decimal (suc n)
+
+abbrev pub distance_text : ℤ → List ℕ
+distance_text (pos n) = codes "+" ++ decimal n
+distance_text (negsuc n) = codes "-" ++ decimal (suc n)
+
+abbrev pub place_text : List ℕ → Register → ℤ → List ℕ
+place_text access r o = codes "*(" ++ access ++ codes " *)(" ++ register_text Bits64 r ++ codes " " ++ offset_text o ++ codes ")"
+
+abbrev pub insn_text : Insn → List ℕ
+insn_text (insn.Binary w o d x) = register_text w d ++ codes " " ++ spelled (Assign o) ++ codes " " ++ operand_text w x
+insn_text (insn.Negate w d) = register_text w d ++ codes " = -" ++ register_text w d
+insn_text (insn.SignExtend e d r) = register_text (extension_width e) d ++ codes " = (" ++ access_text (extension_access e) ++ codes ")" ++ register_text (extension_width e) r
+insn_text (insn.Reorder o w d) = register_text Bits64 d ++ codes " = " ++ order_text (o, w) ++ codes " " ++ register_text Bits64 d
+insn_text (insn.Constant d low high) = register_text Bits64 d ++ codes " = " ++ decimal (constant low high) ++ codes " ll"
+insn_text (insn.MapReference d k) = register_text Bits64 d ++ codes " = map " ++ signed_decimal k
+insn_text (insn.Load a d r o) = register_text Bits64 d ++ codes " = " ++ place_text (access_text a) r o
+insn_text (insn.Store s r o x) = place_text (access_text (stored_access s)) r o ++ codes " = " ++ operand_text Bits64 x
+insn_text (insn.JumpIf w c r o x) = codes "if " ++ register_text w r ++ codes " " ++ spelled (Compare c) ++ codes " " ++ operand_text w x ++ codes " goto " ++ distance_text o
+insn_text (insn.Goto o) = codes "goto " ++ distance_text o
+insn_text (insn.GotoLong o) = codes "gotol " ++ distance_text o
+insn_text (insn.Call k) = codes "call " ++ signed_decimal k
+insn_text insn.Exit = codes "exit"

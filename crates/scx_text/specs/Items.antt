@@ -1,0 +1,266 @@
+-- What a line says: an instruction, a label, or nothing. Numbers stand as they are written, so that a
+-- line's form is judged before any number's range.
+use Rattle.std.specs.Prelude.{ℕ, nat_eq, Bool, true, false, List, [], ◌∷◌, codes, Option, Some, None, if◌then◌else◌}
+use Rattle.std.specs.Str.{bytes_eq}
+use Rattle.scx_semantics.specs.declared.operations.Width.{Width}
+use Rattle.scx_semantics.specs.declared.operations.Width.TheVariants.{Bits32, Bits64}
+use Rattle.scx_semantics.specs.declared.operations.Operation.{Operation}
+use Rattle.scx_semantics.specs.declared.operations.Operation.TheVariants.{Move}
+use Rattle.scx_semantics.specs.declared.operations.Comparison.{Comparison}
+use Rattle.scx_semantics.specs.declared.operations.Access.{Access}
+use Rattle.scx_semantics.specs.declared.registers.Register.{Register}
+use Rattle.scx_semantics.specs.Registers.{number}
+use Rattle.scx_text.specs.declared.symbols.Symbol.TheVariants.{Assign, Compare, Plus, Minus, Star, Opening, Closing, Colon}
+use Rattle.scx_text.specs.declared.items.Literal.{Literal}
+use Rattle.scx_text.specs.declared.items.Argument.{Argument}
+use Rattle.scx_text.specs.declared.items.Argument.TheVariants as argument
+use Rattle.scx_text.specs.declared.items.Statement.{Statement}
+use Rattle.scx_text.specs.declared.items.Statement.TheVariants as statement
+use Rattle.scx_text.specs.declared.items.Jump.{Jump}
+use Rattle.scx_text.specs.declared.items.Jump.TheVariants as jump
+use Rattle.scx_text.specs.declared.items.Target.{Target}
+use Rattle.scx_text.specs.declared.items.Target.TheVariants as target
+use Rattle.scx_text.specs.declared.items.Item.{Item}
+use Rattle.scx_text.specs.declared.items.Item.TheVariants as item
+use Rattle.scx_text.specs.declared.items.Place.{Place}
+use Rattle.scx_text.specs.Options.{◌>>=◌, either}
+use Rattle.scx_text.specs.Tokens.{Lexeme, Word, Number, Mark, tokens}
+use Rattle.scx_text.specs.Names.{register_named, register_in, access_named, stored_size, extension_of, order_named}
+
+-- where a jump goes: to a label, or so many slots on or back from the next instruction
+pub data Destination : Type 0 where
+  Label : List ℕ → Destination
+  Distance : Literal → Destination
+
+-- what a line says, wherever its label lies
+pub data Line : Type 0 where
+  Blank : Line
+  Place_of : List ℕ → Line
+  Says : Statement → Line
+  Jumps : Jump → Destination → Line
+
+abbrev pub destination_of : Target → Destination
+destination_of (target.Label l) = Label l.now
+destination_of (target.Distance n) = Distance n
+
+abbrev pub line_of : Item → Line
+line_of item.Blank = Blank
+line_of (item.Label l) = Place_of l.now
+line_of (item.Statement s) = Says s
+line_of (item.Jump j t) = Jumps j (destination_of t)
+
+-- ---- what the front of a line says, and what stands behind it
+
+abbrev pub Read : Type 0 → Type 0
+Read A = Option (A × List Lexeme)
+
+abbrev pub written : Bool → Option ℕ → Literal
+written is_negative magnitude = record { is_negative = is_negative; magnitude = magnitude }
+
+-- a number; its sign stands directly before it
+abbrev pub read_literal : List Lexeme → Read Literal
+read_literal (Mark Minus ∷ Number true n ∷ ts) = Some (written true n, ts)
+read_literal (Number touches n ∷ ts) = Some (written false n, ts)
+read_literal ts = None
+
+-- what is added to an address; the sign is a token of its own
+abbrev pub read_offset : List Lexeme → Read Literal
+read_offset (Mark Plus ∷ Number touches n ∷ ts) = Some (written false n, ts)
+read_offset (Mark Minus ∷ Number touches n ∷ ts) = Some (written true n, ts)
+read_offset ts = None
+
+abbrev pub read_destination : List Lexeme → Read Destination
+read_destination (Word l ∷ ts) = Some (Label l, ts)
+read_destination (Mark Plus ∷ Number true n ∷ ts) = Some (Distance (written false n), ts)
+read_destination (Mark Minus ∷ Number true n ∷ ts) = Some (Distance (written true n), ts)
+read_destination ts = None
+
+abbrev pub read_word : List Lexeme → Read (List ℕ)
+read_word (Word w ∷ ts) = Some (w, ts)
+read_word ts = None
+
+-- a register of that width
+abbrev pub read_register : Width → List Lexeme → Read Register
+read_register w (Word name ∷ ts) = register_in w name >>= λ r. Some (r, ts)
+read_register w ts = None
+
+-- the second operand
+abbrev pub read_argument : Width → List Lexeme → Read Argument
+read_argument w (Word name ∷ ts) = register_in w name >>= λ r. Some (argument.Register r, ts)
+read_argument w ts = read_literal ts >>= λ n. Some (argument.Number n.0, n.1)
+
+abbrev pub read_comparison : List Lexeme → Read Comparison
+read_comparison (Mark (Compare c) ∷ ts) = Some (c, ts)
+read_comparison ts = None
+
+abbrev pub star : List Lexeme → Option (List Lexeme)
+star (Mark Star ∷ ts) = Some ts
+star ts = None
+
+abbrev pub opening : List Lexeme → Option (List Lexeme)
+opening (Mark Opening ∷ ts) = Some ts
+opening ts = None
+
+abbrev pub closing : List Lexeme → Option (List Lexeme)
+closing (Mark Closing ∷ ts) = Some ts
+closing ts = None
+
+-- what is read in parentheses as memory is named
+abbrev pub read_access : List Lexeme → Read Access
+read_access (Word name ∷ ts) = access_named name >>= λ a. Some (a, ts)
+read_access ts = None
+
+-- the sum of a register and an offset
+abbrev pub read_address : List Lexeme → Read (Register × Literal)
+read_address ts = do
+  inner ← opening ts
+  base ← read_register Bits64 inner
+  o ← read_offset base.1
+  rest ← closing o.1
+  Some ((base.0, o.0), rest)
+
+-- memory, behind the star that it begins with
+abbrev pub read_place : List Lexeme → Read Place
+read_place ts = do
+  inner ← opening ts
+  a ← read_access inner
+  behind ← star a.1
+  closed ← closing behind
+  r ← read_address closed
+  Some (record { access = a.0; base = r.0.0; offset = r.0.1 }, r.1)
+
+-- ---- whole lines
+
+-- nothing stands behind it
+abbrev pub end : List Lexeme → Line → Option Line
+end [] l = Some l
+end ts l = None
+
+abbrev pub same : Register → Register → Bool
+same r s = nat_eq (number r) (number s)
+
+-- `rD = rS`
+abbrev pub copied : Width → Register → Register → List Lexeme → Option Line
+copied w d r ts = end ts (Says (statement.Binary w Move d (argument.Register r)))
+
+-- `rD = -rD`
+abbrev pub negated : Width → Register → List ℕ → List Lexeme → Option Line
+negated w d name ts = do
+  r ← register_in w name
+  if same r d then end ts (Says (statement.Negate w d)) else None
+
+-- `rD = (s8)rS`, behind the parenthesis
+abbrev pub extended : Width → Register → List Lexeme → Option Line
+extended w d ts = do
+  a ← read_access ts
+  e ← extension_of w a.0
+  closed ← closing a.1
+  r ← read_register w closed
+  end r.1 (Says (statement.SignExtend e d r.0))
+
+-- `rD = *(u8 *)(rS + O)`, behind the star
+abbrev pub loaded : Width → Register → List Lexeme → Option Line
+loaded Bits32 d ts = None
+loaded Bits64 d ts = do
+  p ← read_place ts
+  end p.1 (Says (statement.Load p.0.access d p.0.base p.0.offset))
+
+-- `rD = N` and `rD = N ll`
+abbrev pub constant : Width → Register → Literal → List Lexeme → Option Line
+constant Bits64 d n (Word name ∷ ts) = if bytes_eq name (codes "ll") then end ts (Says (statement.Constant d n)) else None
+constant w d n ts = end ts (Says (statement.Binary w Move d (argument.Number n)))
+
+-- `rD = le16 rD`
+abbrev pub reordered : Register → List ℕ → List Lexeme → Option Line
+reordered d name ts = do
+  o ← order_named name
+  r ← read_register Bits64 ts
+  if same r.0 d then end r.1 (Says (statement.Reorder o.0 o.1 d)) else None
+
+-- `rD = map N`
+abbrev pub mapped : Register → List Lexeme → Option Line
+mapped d ts = read_literal ts >>= λ n. end n.1 (Says (statement.MapReference d n.0))
+
+-- a word behind `rD =` that is no register of that width
+abbrev pub special : Width → Register → List ℕ → List Lexeme → Option Line
+special Bits32 d name ts = None
+special Bits64 d name ts = if bytes_eq name (codes "map") then mapped d ts else reordered d name ts
+
+-- what stands behind `rD =`, if it is no word
+abbrev pub computed : Width → Register → List Lexeme → Option Line
+computed w d (Mark Minus ∷ Word name ∷ ts) = negated w d name ts
+computed w d (Mark Opening ∷ ts) = extended w d ts
+computed w d (Mark Star ∷ ts) = loaded w d ts
+computed w d ts = read_literal ts >>= λ n. constant w d n.0 n.1
+
+-- what stands behind `rD =`
+abbrev pub given : Width → Register → List Lexeme → Option Line
+given w d (Word name ∷ ts) = either (register_in w name) (λ r. copied w d r ts) (special w d name ts)
+given w d ts = computed w d ts
+
+-- `rD op= rS` and `rD op= N`
+abbrev pub operated : Width → Operation → Register → List Lexeme → Option Line
+operated w o d ts = read_argument w ts >>= λ x. end x.1 (Says (statement.Binary w o d x.0))
+
+-- what stands behind the register that a line begins with
+abbrev pub assigned : Width → Register → List Lexeme → Option Line
+assigned w d (Mark (Assign Move) ∷ ts) = given w d ts
+assigned w d (Mark (Assign o) ∷ ts) = operated w o d ts
+assigned w d ts = None
+
+-- the operand behind `=`
+abbrev pub read_given : List Lexeme → Read Argument
+read_given (Mark (Assign Move) ∷ ts) = read_argument Bits64 ts
+read_given ts = None
+
+-- `*(u8 *)(rD + O) = rS`, behind the star
+abbrev pub stored : List Lexeme → Option Line
+stored ts = do
+  p ← read_place ts
+  s ← stored_size p.0.access
+  x ← read_given p.1
+  end x.1 (Says (statement.Store s p.0.base p.0.offset x.0))
+
+-- `goto T` behind a condition
+abbrev pub read_goto : List Lexeme → Read Destination
+read_goto (Word name ∷ ts) = if bytes_eq name (codes "goto") then read_destination ts else None
+read_goto ts = None
+
+-- `if rD C rS goto T`, behind the `if`
+abbrev pub condition : List Lexeme → Option Line
+condition ts = do
+  name ← read_word ts
+  r ← register_named name.0
+  c ← read_comparison name.1
+  x ← read_argument r.0 c.1
+  t ← read_goto x.1
+  end t.1 (Jumps (jump.If r.0 c.0 r.1 x.0) t.0)
+
+abbrev pub jumped : Jump → List Lexeme → Option Line
+jumped j ts = read_destination ts >>= λ t. end t.1 (Jumps j t.0)
+
+abbrev pub called : List Lexeme → Option Line
+called ts = read_literal ts >>= λ n. end n.1 (Says (statement.Call n.0))
+
+-- a line that begins with another word than a register
+abbrev pub keyword : List ℕ → List Lexeme → Option Line
+keyword name ts =
+    if bytes_eq name (codes "if") then condition ts
+    else (if bytes_eq name (codes "goto") then jumped jump.Goto ts
+    else (if bytes_eq name (codes "gotol") then jumped jump.GotoLong ts
+    else (if bytes_eq name (codes "call") then called ts
+    else (if bytes_eq name (codes "exit") then end ts (Says statement.Exit) else None))))
+
+abbrev pub statement_of : List ℕ → List Lexeme → Option Line
+statement_of name ts = either (register_named name) (λ r. assigned r.0 r.1 ts) (keyword name ts)
+
+abbrev pub item_of : List Lexeme → Option Line
+item_of [] = Some Blank
+item_of (Word l ∷ Mark Colon ∷ ts) = end ts (Place_of l)
+item_of (Word name ∷ ts) = statement_of name ts
+item_of (Mark Star ∷ ts) = stored ts
+item_of ts = None
+
+-- what a line says, or nothing where it isn't of the language
+abbrev pub read_line : List ℕ → Option Line
+read_line text = tokens text >>= item_of

@@ -1,0 +1,6 @@
+pub mod Options
+pub mod Symbols
+pub mod Tokens
+pub mod Names
+pub mod Items
+pub mod Canonical

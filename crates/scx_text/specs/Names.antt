@@ -1,0 +1,136 @@
+-- The names of registers, of what memory is read as, and of byte orders.
+use Rattle.std.specs.Prelude.{ℕ, ◌-◌, nat_eq, ◌&&◌, List, [], ◌∷◌, ◌++◌, codes, Option, Some, None, if◌then◌else◌}
+use Rattle.std.specs.Char.{is_ascii_digit}
+use Rattle.std.specs.Str.{bytes_eq}
+use Rattle.std.specs.Fmt.{decimal}
+use Rattle.scx_semantics.specs.declared.operations.Width.{Width}
+use Rattle.scx_semantics.specs.declared.operations.Width.TheVariants.{Bits32, Bits64}
+use Rattle.scx_semantics.specs.declared.operations.Access.{Access}
+use Rattle.scx_semantics.specs.declared.operations.Access.TheVariants as access
+use Rattle.scx_semantics.specs.declared.operations.Size.{Size}
+use Rattle.scx_semantics.specs.declared.operations.Size.TheVariants as size
+use Rattle.scx_semantics.specs.declared.operations.Extension.{Extension}
+use Rattle.scx_semantics.specs.declared.operations.Extension.TheVariants.{Low8To32, Low16To32, Low8To64, Low16To64, Low32To64}
+use Rattle.scx_semantics.specs.declared.operations.Order.{Order}
+use Rattle.scx_semantics.specs.declared.operations.Order.TheVariants.{Little, Big, Swapped}
+use Rattle.scx_semantics.specs.declared.operations.OrderWidth.{OrderWidth}
+use Rattle.scx_semantics.specs.declared.operations.OrderWidth.TheVariants as order
+use Rattle.scx_semantics.specs.declared.registers.Register.{Register}
+use Rattle.scx_semantics.specs.declared.registers.Register.TheVariants.{R10}
+use Rattle.scx_semantics.specs.Registers.{number, register_at}
+use Rattle.scx_text.specs.Options.{◌>>=◌}
+
+-- what has that name in a list
+unfoldable pub named : {A : Type 0} → (A → List ℕ) → List A → List ℕ → Option A
+named text [] name = None
+named text (x ∷ xs) name = if bytes_eq name (text x) then Some x else named text xs name
+
+-- ---- registers: r0 to r10, and w0 to w10 for their low halves
+
+abbrev pub width_text : Width → List ℕ
+width_text Bits64 = codes "r"
+width_text Bits32 = codes "w"
+
+abbrev pub register_text : Width → Register → List ℕ
+register_text w r = width_text w ++ decimal (number r)
+
+abbrev pub width_named : ℕ → Option Width
+width_named b = if nat_eq b 114 then Some Bits64 else (if nat_eq b 119 then Some Bits32 else None)
+
+abbrev pub register_numbered : List ℕ → Option Register
+register_numbered (d ∷ []) = if is_ascii_digit d then register_at (d - 48) else None
+register_numbered (a ∷ b ∷ []) = if nat_eq a 49 && nat_eq b 48 then Some R10 else None
+register_numbered digits = None
+
+abbrev pub register_named : List ℕ → Option (Width × Register)
+register_named [] = None
+register_named (b ∷ digits) = do
+  w ← width_named b
+  r ← register_numbered digits
+  Some (w, r)
+
+-- the register of that name, if it has that width
+abbrev pub of_width : Width → Width × Register → Option Register
+of_width Bits32 (Bits32, r) = Some r
+of_width Bits64 (Bits64, r) = Some r
+of_width w x = None
+
+abbrev pub register_in : Width → List ℕ → Option Register
+register_in w name = register_named name >>= of_width w
+
+-- ---- memory
+
+abbrev pub access_text : Access → List ℕ
+access_text access.Byte = codes "u8"
+access_text access.HalfWord = codes "u16"
+access_text access.Word = codes "u32"
+access_text access.DoubleWord = codes "u64"
+access_text access.SignedByte = codes "s8"
+access_text access.SignedHalfWord = codes "s16"
+access_text access.SignedWord = codes "s32"
+
+abbrev pub accesses : List Access
+accesses = access.Byte ∷ access.HalfWord ∷ access.Word ∷ access.DoubleWord ∷ access.SignedByte ∷ access.SignedHalfWord ∷ access.SignedWord ∷ []
+
+abbrev pub access_named : List ℕ → Option Access
+access_named name = named access_text accesses name
+
+-- a store has no sign
+abbrev pub stored_size : Access → Option Size
+stored_size access.Byte = Some size.Byte
+stored_size access.HalfWord = Some size.HalfWord
+stored_size access.Word = Some size.Word
+stored_size access.DoubleWord = Some size.DoubleWord
+stored_size a = None
+
+abbrev pub stored_access : Size → Access
+stored_access size.Byte = access.Byte
+stored_access size.HalfWord = access.HalfWord
+stored_access size.Word = access.Word
+stored_access size.DoubleWord = access.DoubleWord
+
+-- a move that extends the sign names what it takes as memory is named
+abbrev pub extension_of : Width → Access → Option Extension
+extension_of Bits32 access.SignedByte = Some Low8To32
+extension_of Bits32 access.SignedHalfWord = Some Low16To32
+extension_of Bits64 access.SignedByte = Some Low8To64
+extension_of Bits64 access.SignedHalfWord = Some Low16To64
+extension_of Bits64 access.SignedWord = Some Low32To64
+extension_of w a = None
+
+abbrev pub extension_width : Extension → Width
+extension_width Low8To32 = Bits32
+extension_width Low16To32 = Bits32
+extension_width Low8To64 = Bits64
+extension_width Low16To64 = Bits64
+extension_width Low32To64 = Bits64
+
+abbrev pub extension_access : Extension → Access
+extension_access Low8To32 = access.SignedByte
+extension_access Low16To32 = access.SignedHalfWord
+extension_access Low8To64 = access.SignedByte
+extension_access Low16To64 = access.SignedHalfWord
+extension_access Low32To64 = access.SignedWord
+
+-- ---- byte orders
+
+abbrev pub order_text : Order × OrderWidth → List ℕ
+order_text (Little, order.Bits16) = codes "le16"
+order_text (Little, order.Bits32) = codes "le32"
+order_text (Little, order.Bits64) = codes "le64"
+order_text (Big, order.Bits16) = codes "be16"
+order_text (Big, order.Bits32) = codes "be32"
+order_text (Big, order.Bits64) = codes "be64"
+order_text (Swapped, order.Bits16) = codes "bswap16"
+order_text (Swapped, order.Bits32) = codes "bswap32"
+order_text (Swapped, order.Bits64) = codes "bswap64"
+
+abbrev pub orders : List (Order × OrderWidth)
+orders =
+    (Little, order.Bits16) ∷ (Little, order.Bits32) ∷ (Little, order.Bits64)
+    ∷ (Big, order.Bits16) ∷ (Big, order.Bits32) ∷ (Big, order.Bits64)
+    ∷ (Swapped, order.Bits16) ∷ (Swapped, order.Bits32) ∷ (Swapped, order.Bits64)
+    ∷ []
+
+abbrev pub order_named : List ℕ → Option (Order × OrderWidth)
+order_named name = named order_text orders name

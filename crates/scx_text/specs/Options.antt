@@ -1,0 +1,12 @@
+-- What follows a value that is there; none follows where there is none.
+use Rattle.std.specs.Prelude.{Option, Some, None}
+
+infixl 10 ◌>>=◌
+abbrev pub ◌>>=◌ : {A B : Type 0} → Option A → (A → Option B) → Option B
+(Some x) >>= f = f x
+None >>= f = None
+
+-- what follows a value, or else what stands in its place
+abbrev pub either : {A B : Type 0} → Option A → (A → B) → B → B
+either (Some x) f other = f x
+either None f other = other

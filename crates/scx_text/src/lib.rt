@@ -1,0 +1,17 @@
+//! The text of BPF instructions, in the dialect that clang and llvm-objdump print: tokens, the items that
+//! lines hold, and the canonical text of an instruction.
+#![tactic(auto)]
+
+mod items;
+mod lexer;
+mod operands;
+mod printing;
+mod statements;
+mod symbols;
+mod words;
+
+pub use items::{Argument, Item, Jump, Literal, Statement, Target};
+pub use lexer::{Token, tokens};
+pub use printing::Canonical;
+pub use statements::item_of;
+pub use symbols::Symbol;

@@ -1,0 +1,306 @@
+ghost use Rattle.std.specs.Prelude.{◌≡◌, option_map};
+ghost use Rattle.scx_text.specs.Tokens.{lexemes};
+ghost use Rattle.scx_text.specs.Options.{either};
+ghost use Rattle.scx_text.specs.Names.{register_in};
+ghost use Rattle.scx_text.specs.declared.items.Statement.TheVariants.{Binary};
+ghost use Rattle.scx_semantics.specs.declared.operations.Operation.TheVariants.{Move};
+ghost use Rattle.scx_text.specs.Items.{Says, line_of, copied, negated, extended, loaded, constant, reordered, mapped, special, computed, given, operated, assigned, stored, condition, jumped, called, keyword, statement_of, item_of, end, same};
+
+use crate::items::{Argument, Item, Jump, Literal, Statement};
+use crate::lexer::Token;
+use crate::operands::{
+    behind_closing, read_access, read_argument, read_comparison, read_given, read_goto,
+    read_literal, read_place, read_register, read_target, read_word,
+};
+use crate::symbols::Symbol;
+use crate::words::{extension_of, order_named, register_in, register_named, stored_size};
+use scx_semantics::{Operation, Register, Width};
+
+/// The item, if no token is left behind it.
+fn end<'a>(tokens: &[Token<'_>], item: Item<'a>) -> Option<Item<'a>>
+    ensures { option_map line_of result ≡ end (lexemes tokens.now) (line_of item.entry) }
+{
+    match tokens {
+        [] => Some(item),
+        _ => None,
+    }
+}
+
+fn says<'a>(statement: Statement, tokens: &[Token<'a>]) -> Option<Item<'a>>
+    ensures { option_map line_of result ≡ end (lexemes tokens.now) (Says statement) }
+{
+    end(tokens, Item::Statement(statement))
+}
+
+fn same(left: Register, right: Register) -> bool
+    ensures { result ≡ same left right }
+{
+    left.number() == right.number()
+}
+
+/// `rD = -rD`.
+fn negated<'a>(
+    width: Width,
+    register: Register,
+    name: &[u8],
+    tokens: &[Token<'a>],
+) -> Option<Item<'a>>
+    ensures { option_map line_of result ≡ negated width register name.now (lexemes tokens.now) }
+{
+    if same(register_in(width, name)?, register) {
+        says(Statement::Negate(width, register), tokens)
+    } else {
+        None
+    }
+}
+
+/// `rD = (s8)rS`, behind the parenthesis.
+fn extended<'a>(width: Width, register: Register, tokens: &[Token<'a>]) -> Option<Item<'a>>
+    ensures { option_map line_of result ≡ extended width register (lexemes tokens.now) }
+{
+    let (access, rest) = read_access(tokens)?;
+    let extension = extension_of(width, access)?;
+    let (source, rest) = read_register(width, behind_closing(rest)?)?;
+    says(Statement::SignExtend(extension, register, source), rest)
+}
+
+/// `rD = *(u8 *)(rS + O)`, behind the star.
+fn loaded<'a>(width: Width, register: Register, tokens: &[Token<'a>]) -> Option<Item<'a>>
+    ensures { option_map line_of result ≡ loaded width register (lexemes tokens.now) }
+{
+    match width {
+        Width::Bits32 => None,
+        Width::Bits64 => {
+            let (place, rest) = read_place(tokens)?;
+            let load = Statement::Load(place.access, register, place.base, place.offset);
+            says(load, rest)
+        }
+    }
+}
+
+/// `rD = N` and `rD = N ll`.
+fn constant<'a>(
+    width: Width,
+    register: Register,
+    number: Literal,
+    tokens: &[Token<'a>],
+) -> Option<Item<'a>>
+    ensures { option_map line_of result ≡ constant width register number (lexemes tokens.now) }
+{
+    match (width, tokens) {
+        (Width::Bits64, [Token::Word(name), rest @ ..]) => {
+            if *name == b"ll".as_slice() {
+                says(Statement::Constant(register, number), rest)
+            } else {
+                None
+            }
+        }
+        _ => moved(width, register, Argument::Number(number), tokens),
+    }
+}
+
+fn moved<'a>(
+    width: Width,
+    register: Register,
+    argument: Argument,
+    tokens: &[Token<'a>],
+) -> Option<Item<'a>>
+    ensures { option_map line_of result ≡ end (lexemes tokens.now) (Says (Binary width Move register argument)) }
+{
+    let statement = Statement::Binary(width, Operation::Move, register, argument);
+    says(statement, tokens)
+}
+
+/// `rD = le16 rD`.
+fn reordered<'a>(register: Register, name: &[u8], tokens: &[Token<'a>]) -> Option<Item<'a>>
+    ensures { option_map line_of result ≡ reordered register name.now (lexemes tokens.now) }
+{
+    let (order, width) = order_named(name)?;
+    let (source, rest) = read_register(Width::Bits64, tokens)?;
+    if same(source, register) {
+        says(Statement::Reorder(order, width, register), rest)
+    } else {
+        None
+    }
+}
+
+/// `rD = map N`.
+fn mapped<'a>(register: Register, tokens: &[Token<'a>]) -> Option<Item<'a>>
+    ensures { option_map line_of result ≡ mapped register (lexemes tokens.now) }
+{
+    let (map, rest) = read_literal(tokens)?;
+    says(Statement::MapReference(register, map), rest)
+}
+
+/// A word behind `rD =` that names no register of that width.
+fn special<'a>(
+    width: Width,
+    register: Register,
+    name: &[u8],
+    tokens: &[Token<'a>],
+) -> Option<Item<'a>>
+    ensures { option_map line_of result ≡ special width register name.now (lexemes tokens.now) }
+{
+    match width {
+        Width::Bits32 => None,
+        Width::Bits64 => {
+            if name == b"map".as_slice() {
+                mapped(register, tokens)
+            } else {
+                reordered(register, name, tokens)
+            }
+        }
+    }
+}
+
+/// A word behind `rD =`.
+fn named<'a>(
+    width: Width,
+    register: Register,
+    name: &[u8],
+    tokens: &[Token<'a>],
+) -> Option<Item<'a>>
+    ensures { option_map line_of result ≡ either (register_in width name.now) (λ r. copied width register r (lexemes tokens.now)) (special width register name.now (lexemes tokens.now)) }
+{
+    match register_in(width, name) {
+        Some(source) => moved(width, register, Argument::Register(source), tokens),
+        None => special(width, register, name, tokens),
+    }
+}
+
+/// What stands behind `rD =`.
+fn given<'a>(width: Width, register: Register, tokens: &[Token<'a>]) -> Option<Item<'a>>
+    ensures { option_map line_of result ≡ given width register (lexemes tokens.now) }
+{
+    match tokens {
+        [Token::Word(name), rest @ ..] => named(width, register, name, rest),
+        _ => computed(width, register, tokens),
+    }
+}
+
+/// What stands behind `rD =`, if it is no word.
+fn computed<'a>(width: Width, register: Register, tokens: &[Token<'a>]) -> Option<Item<'a>>
+    ensures { option_map line_of result ≡ computed width register (lexemes tokens.now) }
+{
+    match tokens {
+        [Token::Mark(Symbol::Minus), Token::Word(name), rest @ ..] => negated(
+            width, register, name, rest,
+        ),
+        [Token::Mark(Symbol::Opening), rest @ ..] => extended(width, register, rest),
+        [Token::Mark(Symbol::Star), rest @ ..] => loaded(width, register, rest),
+        _ => {
+            let (number, rest) = read_literal(tokens)?;
+            constant(width, register, number, rest)
+        }
+    }
+}
+
+fn operated<'a>(
+    width: Width,
+    operation: Operation,
+    register: Register,
+    tokens: &[Token<'a>],
+) -> Option<Item<'a>>
+    ensures { option_map line_of result ≡ operated width operation register (lexemes tokens.now) }
+{
+    let (argument, rest) = read_argument(width, tokens)?;
+    says(
+        Statement::Binary(width, operation, register, argument),
+        rest,
+    )
+}
+
+/// What stands behind the register that a line begins with.
+fn assigned<'a>(width: Width, register: Register, tokens: &[Token<'a>]) -> Option<Item<'a>>
+    ensures { option_map line_of result ≡ assigned width register (lexemes tokens.now) }
+{
+    match tokens {
+        [Token::Mark(Symbol::Assign(Operation::Move)), rest @ ..] => given(width, register, rest),
+        [Token::Mark(Symbol::Assign(operation)), rest @ ..] => {
+            operated(width, *operation, register, rest)
+        }
+        _ => None,
+    }
+}
+
+/// `*(u8 *)(rD + O) = rS`, behind the star.
+fn stored<'a>(tokens: &[Token<'a>]) -> Option<Item<'a>>
+    ensures { option_map line_of result ≡ stored (lexemes tokens.now) }
+{
+    let (place, rest) = read_place(tokens)?;
+    let size = stored_size(place.access)?;
+    let (argument, rest) = read_given(rest)?;
+    let store = Statement::Store(size, place.base, place.offset, argument);
+    says(store, rest)
+}
+
+/// `if rD C rS goto T`, behind the `if`.
+fn condition<'a>(tokens: &[Token<'a>]) -> Option<Item<'a>>
+    ensures { option_map line_of result ≡ condition (lexemes tokens.now) }
+{
+    let (name, rest) = read_word(tokens)?;
+    let (width, register) = register_named(name)?;
+    let (comparison, rest) = read_comparison(rest)?;
+    let (argument, rest) = read_argument(width, rest)?;
+    let (target, rest) = read_goto(rest)?;
+    let jump = Jump::If(width, comparison, register, argument);
+    end(rest, Item::Jump(jump, target))
+}
+
+fn jumped<'a>(jump: Jump, tokens: &[Token<'a>]) -> Option<Item<'a>>
+    ensures { option_map line_of result ≡ jumped jump (lexemes tokens.now) }
+{
+    let (target, rest) = read_target(tokens)?;
+    end(rest, Item::Jump(jump, target))
+}
+
+fn called<'a>(tokens: &[Token<'a>]) -> Option<Item<'a>>
+    ensures { option_map line_of result ≡ called (lexemes tokens.now) }
+{
+    let (helper, rest) = read_literal(tokens)?;
+    says(Statement::Call(helper), rest)
+}
+
+/// A line that begins with another word than a register.
+fn keyword<'a>(name: &[u8], tokens: &[Token<'a>]) -> Option<Item<'a>>
+    ensures { option_map line_of result ≡ keyword name.now (lexemes tokens.now) }
+{
+    if name == b"if".as_slice() {
+        condition(tokens)
+    } else if name == b"goto".as_slice() {
+        jumped(Jump::Goto, tokens)
+    } else if name == b"gotol".as_slice() {
+        jumped(Jump::GotoLong, tokens)
+    } else if name == b"call".as_slice() {
+        called(tokens)
+    } else if name == b"exit".as_slice() {
+        says(Statement::Exit, tokens)
+    } else {
+        None
+    }
+}
+
+fn statement_of<'a>(name: &[u8], tokens: &[Token<'a>]) -> Option<Item<'a>>
+    ensures { option_map line_of result ≡ statement_of name.now (lexemes tokens.now) }
+{
+    match register_named(name) {
+        Some((width, register)) => assigned(width, register, tokens),
+        None => keyword(name, tokens),
+    }
+}
+
+/// What the line with these tokens says; `None` where it isn't of the language.
+pub fn item_of<'a>(tokens: &[Token<'a>]) -> Option<Item<'a>>
+    ensures { option_map line_of result ≡ item_of (lexemes tokens.now) }
+{
+    match tokens {
+        [] => Some(Item::Blank),
+        [Token::Word(label), Token::Mark(Symbol::Colon), rest @ ..] => end(
+            rest,
+            Item::Label(label),
+        ),
+        [Token::Word(name), rest @ ..] => statement_of(name, rest),
+        [Token::Mark(Symbol::Star), rest @ ..] => stored(rest),
+        _ => None,
+    }
+}

@@ -1,0 +1,178 @@
+ghost use Rattle.std.specs.Prelude.{◌≡◌};
+ghost use Rattle.scx_text.specs.Names.{access_text, accesses, access_named, width_named, register_numbered, register_named, register_in, stored_size, stored_access, extension_of, extension_width, extension_access, order_text, orders, order_named};
+
+use scx_semantics::{Access, Extension, Order, OrderWidth, Register, Size, Width};
+
+const ACCESSES: [Access; 7] = [
+    Access::Byte,
+    Access::HalfWord,
+    Access::Word,
+    Access::DoubleWord,
+    Access::SignedByte,
+    Access::SignedHalfWord,
+    Access::SignedWord,
+];
+
+const ORDERS: [(Order, OrderWidth); 9] = [
+    (Order::Little, OrderWidth::Bits16),
+    (Order::Little, OrderWidth::Bits32),
+    (Order::Little, OrderWidth::Bits64),
+    (Order::Big, OrderWidth::Bits16),
+    (Order::Big, OrderWidth::Bits32),
+    (Order::Big, OrderWidth::Bits64),
+    (Order::Swapped, OrderWidth::Bits16),
+    (Order::Swapped, OrderWidth::Bits32),
+    (Order::Swapped, OrderWidth::Bits64),
+];
+
+fn width_named(letter: u8) -> Option<Width>
+    ensures { result ≡ width_named letter }
+{
+    match letter {
+        b'r' => Some(Width::Bits64),
+        b'w' => Some(Width::Bits32),
+        _ => None,
+    }
+}
+
+fn register_numbered(digits: &[u8]) -> Option<Register>
+    ensures { result ≡ register_numbered digits.now }
+{
+    match *digits {
+        [digit] if digit.is_ascii_digit() => Register::new(digit - b'0'),
+        [b'1', b'0'] => Some(Register::R10),
+        _ => None,
+    }
+}
+
+/// The register of that name, with the width that its first letter says.
+pub(crate) fn register_named(name: &[u8]) -> Option<(Width, Register)>
+    ensures { result ≡ register_named name.now }
+{
+    match name {
+        [letter, digits @ ..] => Some((width_named(*letter)?, register_numbered(digits)?)),
+        [] => None,
+    }
+}
+
+/// The register of that name, if it has that width.
+pub(crate) fn register_in(width: Width, name: &[u8]) -> Option<Register>
+    ensures { result ≡ register_in width name.now }
+{
+    match (width, register_named(name)?) {
+        (Width::Bits32, (Width::Bits32, register)) | (Width::Bits64, (Width::Bits64, register)) =>
+            Some(register),
+        _ => None,
+    }
+}
+
+pub(crate) fn access_text(access: Access) -> &'static str
+    ensures { result.now ≡ access_text access }
+{
+    match access {
+        Access::Byte => "u8",
+        Access::HalfWord => "u16",
+        Access::Word => "u32",
+        Access::DoubleWord => "u64",
+        Access::SignedByte => "s8",
+        Access::SignedHalfWord => "s16",
+        Access::SignedWord => "s32",
+    }
+}
+
+#[tactic(auto, using(crate::proofs::Names::named_here, crate::proofs::Names::named_later, crate::proofs::Names::named_none))]
+pub(crate) fn access_named(name: &[u8]) -> Option<Access>
+    ensures { result ≡ access_named name.now }
+{
+    for access in ACCESSES {
+        if name == access_text(access).as_bytes() {
+            return Some(access);
+        }
+    }
+    None
+}
+
+/// The size of a store; it has no sign.
+pub(crate) fn stored_size(access: Access) -> Option<Size>
+    ensures { result ≡ stored_size access }
+{
+    match access {
+        Access::Byte => Some(Size::Byte),
+        Access::HalfWord => Some(Size::HalfWord),
+        Access::Word => Some(Size::Word),
+        Access::DoubleWord => Some(Size::DoubleWord),
+        Access::SignedByte | Access::SignedHalfWord | Access::SignedWord => None,
+    }
+}
+
+pub(crate) fn stored_access(size: Size) -> Access
+    ensures { result ≡ stored_access size }
+{
+    match size {
+        Size::Byte => Access::Byte,
+        Size::HalfWord => Access::HalfWord,
+        Size::Word => Access::Word,
+        Size::DoubleWord => Access::DoubleWord,
+    }
+}
+
+/// The move that extends what is named as memory is named.
+pub(crate) fn extension_of(width: Width, access: Access) -> Option<Extension>
+    ensures { result ≡ extension_of width access }
+{
+    match (width, access) {
+        (Width::Bits32, Access::SignedByte) => Some(Extension::Low8To32),
+        (Width::Bits32, Access::SignedHalfWord) => Some(Extension::Low16To32),
+        (Width::Bits64, Access::SignedByte) => Some(Extension::Low8To64),
+        (Width::Bits64, Access::SignedHalfWord) => Some(Extension::Low16To64),
+        (Width::Bits64, Access::SignedWord) => Some(Extension::Low32To64),
+        _ => None,
+    }
+}
+
+pub(crate) fn extension_width(extension: Extension) -> Width
+    ensures { result ≡ extension_width extension }
+{
+    match extension {
+        Extension::Low8To32 | Extension::Low16To32 => Width::Bits32,
+        Extension::Low8To64 | Extension::Low16To64 | Extension::Low32To64 => Width::Bits64,
+    }
+}
+
+pub(crate) fn extension_access(extension: Extension) -> Access
+    ensures { result ≡ extension_access extension }
+{
+    match extension {
+        Extension::Low8To32 | Extension::Low8To64 => Access::SignedByte,
+        Extension::Low16To32 | Extension::Low16To64 => Access::SignedHalfWord,
+        Extension::Low32To64 => Access::SignedWord,
+    }
+}
+
+pub(crate) fn order_text(order: (Order, OrderWidth)) -> &'static str
+    ensures { result.now ≡ order_text order }
+{
+    match order {
+        (Order::Little, OrderWidth::Bits16) => "le16",
+        (Order::Little, OrderWidth::Bits32) => "le32",
+        (Order::Little, OrderWidth::Bits64) => "le64",
+        (Order::Big, OrderWidth::Bits16) => "be16",
+        (Order::Big, OrderWidth::Bits32) => "be32",
+        (Order::Big, OrderWidth::Bits64) => "be64",
+        (Order::Swapped, OrderWidth::Bits16) => "bswap16",
+        (Order::Swapped, OrderWidth::Bits32) => "bswap32",
+        (Order::Swapped, OrderWidth::Bits64) => "bswap64",
+    }
+}
+
+#[tactic(auto, using(crate::proofs::Names::named_here, crate::proofs::Names::named_later, crate::proofs::Names::named_none))]
+pub(crate) fn order_named(name: &[u8]) -> Option<(Order, OrderWidth)>
+    ensures { result ≡ order_named name.now }
+{
+    for order in ORDERS {
+        if name == order_text(order).as_bytes() {
+            return Some(order);
+        }
+    }
+    None
+}
