@@ -11,7 +11,7 @@ use Rattle.scx_vm.specs.Run.{RunsAlone, GetsStuckAlone}
 use Rattle.scx_vm.specs.declared.run.Ran.{Ran}
 use Rattle.scx_vm.specs.declared.run.Ran.TheVariants.{Done, Stuck}
 use Rattle.scxsim.specs.declared.fault.Refusal.{Refusal}
-use Rattle.scxsim.specs.declared.fault.Refusal.TheVariants.{TooLarge, NoMemory, Decode, Verify}
+use Rattle.scxsim.specs.declared.fault.Refusal.TheVariants.{TooLarge, NotUtf8, NoMemory, Decode, Verify, Assemble}
 use Rattle.scxsim.specs.declared.file.TheConstants.{FILE_LIMIT}
 
 -- the program, run alone, ends so
@@ -43,3 +43,5 @@ IsCause bytes TooLarge = FILE_LIMIT < length bytes
 IsCause bytes NoMemory = length bytes ≤ FILE_LIMIT
 IsCause bytes (Decode fault slot) = (length bytes ≤ FILE_LIMIT) × HasDecodeFault bytes fault slot
 IsCause bytes (Verify fault slot) = (length bytes ≤ FILE_LIMIT) × HasFlowFault bytes fault slot
+IsCause bytes NotUtf8 = ⊥
+IsCause bytes (Assemble fault line) = ⊥

@@ -3,3 +3,4 @@ pub mod Refusals
 pub mod Outcome
 pub mod Lines
 pub mod Exec
+pub mod Text

@@ -47,12 +47,16 @@ pub fn refusal_line(refusal: Refusal) -> Line
 {
     match refusal {
         Refusal::TooLarge => whole_line("refused: too large\n"),
+        Refusal::NotUtf8 => whole_line("refused: not UTF-8\n"),
         Refusal::NoMemory => whole_line("refused: no memory\n"),
         Refusal::Decode { fault, slot } => {
             cause_line("refused: decode ", fault.number(), fault.name(), slot)
         }
         Refusal::Verify { fault, slot } => {
             cause_line("refused: verify ", fault.number(), fault.name(), slot)
+        }
+        Refusal::Assemble { fault, line } => {
+            cause_line("refused: asm ", fault.number(), fault.name(), line)
         }
     }
 }

@@ -1,12 +1,15 @@
-//! The program `scxsim`, which runs BPF programs. Its words are read by `words`, a command's work
-//! is in a file of its name, as `exec`, and what ends a command is in `finish`.
+//! The program `scxsim`, which runs, assembles and disassembles BPF programs. Its words are read by
+//! `words`, a command's work is in a file of its name, as `exec`, and what ends a command is in
+//! `finish`.
 #![tactic(auto)]
 
 ghost use Rattle.std.specs.Prelude.{◌≡◌, ◌⊎◌};
 ghost use Rattle.std.specs.Io.KnownBytes.{Appends};
 ghost use Rattle.scxsim.specs.Output.{HasFailed};
 
+mod asm;
 mod counted;
+mod dis;
 mod exec;
 mod fault;
 mod file;
@@ -18,6 +21,9 @@ mod program_tests;
 mod status;
 #[cfg(test)]
 mod tests;
+mod text;
+#[cfg(test)]
+mod text_tests;
 mod words;
 
 use clap::error::ErrorKind as WordsErrorKind;
@@ -31,6 +37,7 @@ use std::io::ErrorKind;
 use std::process::ExitCode;
 use std::rt::{Env, Files};
 use std::{env, io};
+use words::{Request, Work};
 
 const NO_MEMORY: Result<bool, Fault> = Err(Fault::Refused(Refusal::NoMemory));
 
@@ -53,26 +60,35 @@ fn words_of<R: AllocGlobal + Env>(rt: &R) -> io::Result<Vec<String>> {
 }
 
 fn run_words<R: AllocGlobal + Files, W: Out>(rt: &R, words: &[String], out: &mut W) -> u8 {
-    match words::program_path(rt.alloc(), words) {
-        Ok(Some(path)) => exec_file(rt, path, out),
+    match words::read_words(rt.alloc(), words) {
+        Ok(Some(request)) => do_request(rt, request, out),
         Ok(None) => USAGE,
         Err(error) if error.kind() == WordsErrorKind::OutOfMemory => finish::finish(NO_MEMORY, out),
         Err(error) => explain_usage(rt.alloc(), &error, out),
     }
 }
 
-/// Runs the program in a file.
-fn exec_file<R: AllocGlobal + Files, W: Out>(rt: &R, path: &str, out: &mut W) -> u8 {
-    match read_file(rt, path) {
+/// Does a command's work with its file.
+fn do_request<R: AllocGlobal + Files, W: Out>(rt: &R, request: Request<'_>, out: &mut W) -> u8 {
+    match read_file(rt, request.path) {
         Ok(bytes) => {
-            let outcome = exec::exec(rt.alloc(), bytes.as_slice(), out);
+            let outcome = do_work(rt.alloc(), request.work, bytes.as_slice(), out);
             finish::finish(outcome, out)
         }
         Err(error) if error.kind() == ErrorKind::OutOfMemory => finish::finish(NO_MEMORY, out),
         Err(_) => {
-            let _ = lines::write_unread(path, out);
+            let _ = lines::write_unread(request.path, out);
             FAILED
         }
+    }
+}
+
+/// Does a command's work with the bytes of its file.
+fn do_work<W: Out>(alloc: Global, work: Work, bytes: &[u8], out: &mut W) -> Result<bool, Fault> {
+    match work {
+        Work::Exec => exec::exec(alloc, bytes, out),
+        Work::Asm => asm::asm(alloc, bytes, out),
+        Work::Dis => dis::dis(alloc, bytes, out),
     }
 }
 

@@ -5,7 +5,7 @@ use crate::file::FILE_LIMIT;
 use crate::finish::finish;
 use crate::lines::write_unread;
 use crate::out::Out;
-use crate::words::program_path;
+use crate::words::{Request, Work, read_words};
 use scx_isa::{DecodeFault, Exclusion, FlowFault};
 use std::alloc::{AllocError, Global};
 use std::io;
@@ -13,13 +13,13 @@ use std::io::{ErrorKind, Write};
 use std::process::Abort;
 use std::test::Fail;
 
-const EXIT: u64 = 0x9500_0000_0000_0000;
+pub const EXIT: u64 = 0x9500_0000_0000_0000;
 
 /// A writer over memory that takes at most `most` bytes a call, and fails at the call `fails_at`,
 /// counted from 0: by an error, or by taking nothing.
 #[derive(Drop)]
-struct Memory {
-    bytes: Vec<u8>,
+pub struct Memory {
+    pub bytes: Vec<u8>,
     most: usize,
     calls: usize,
     fails_at: usize,
@@ -27,7 +27,7 @@ struct Memory {
 }
 
 impl Memory {
-    fn new(alloc: Global) -> Self {
+    pub fn new(alloc: Global) -> Self {
         Memory::failing(alloc, usize::MAX, usize::MAX, false)
     }
 
@@ -64,7 +64,7 @@ impl Write for Memory {
 }
 
 /// The bytes of slots, each written as a number with the slot's first byte at the left.
-fn bytes_of(alloc: Global, slots: &[u64]) -> Result<Vec<u8>, AllocError> {
+pub fn bytes_of(alloc: Global, slots: &[u64]) -> Result<Vec<u8>, AllocError> {
     let mut bytes = Vec::new(alloc);
     for slot in slots {
         bytes.extend_from_slice(slot.to_be_bytes().as_slice())?;
@@ -449,10 +449,19 @@ fn reports_an_unread_file(rt: HostRuntime) -> Result<(), Fail> {
 }
 
 #[test]
-fn reads_words(rt: HostRuntime) -> Result<(), Fail> {
-    let asked = ["scxsim", "exec", "some/file.bin"];
-    assert_eq!(rt; program_path(rt.alloc(), &asked)?, Some("some/file.bin"));
+fn understands_words(rt: HostRuntime) -> Result<(), Fail> {
+    let commands = [("exec", Work::Exec), ("asm", Work::Asm), ("dis", Work::Dis)];
+    for (name, wanted) in commands {
+        let asked = ["scxsim", name, "some/file.bin"];
+        match read_words(rt.alloc(), &asked)? {
+            Some(Request { work, path }) => {
+                assert_eq!(rt; work, wanted);
+                assert_eq!(rt; path, "some/file.bin");
+            }
+            None => assert!(rt; false),
+        }
+    }
     let unfinished = ["scxsim", "exec"];
-    assert!(rt; program_path(rt.alloc(), &unfinished).is_err());
+    assert!(rt; read_words(rt.alloc(), &unfinished).is_err());
     Ok(())
 }
