@@ -43,6 +43,12 @@ fn refuses<R: AllocGlobal + Abort>(rt: &R, text: &str, line: &str) {
     expect(rt, Work::Asm, text.as_bytes(), line.as_bytes(), 1);
 }
 
+/// Assembles the line to that slot, and disassembles the slot to the line.
+fn both_ways<R: AllocGlobal + Abort>(rt: &R, line: &str, slot: u64) -> Result<(), Fail> {
+    assembles(rt, line, &[slot])?;
+    disassembles(rt, &[slot], line)
+}
+
 #[test]
 fn turns_text_into_slots(rt: HostRuntime) -> Result<(), Fail> {
     let jump = [0x0500_0100_0000_0000, 0xb700_0000_0100_0000, EXIT];
@@ -51,19 +57,9 @@ fn turns_text_into_slots(rt: HostRuntime) -> Result<(), Fail> {
     assembles(&rt, "a:\ngoto a\nexit", &[0x0500_ffff_0000_0000, EXIT])?;
     let wide = [0x1800_0000_0000_0080, 0, EXIT];
     assembles(&rt, "r0 = 2147483648 ll\nexit", &wide)?;
-    let lines = [
-        ("if w1 s> -5 goto +0", 0x6601_0000_fbff_ffff),
-        ("r1 = *(s16 *)(r2 - 6)", 0x8921_faff_0000_0000),
-        ("*(u32 *)(r10 - 4) = 0", 0x620a_fcff_0000_0000),
-    ];
-    for (line, slot) in lines {
-        assembles(&rt, line, &[slot])?;
-        let bytes = bytes_of(rt.alloc(), &[slot])?;
-        let (text, status) = output(&rt, Work::Dis, bytes.as_slice());
-        assert_eq!(rt; text.as_slice().strip_suffix(b"\n"), Some(line.as_bytes()));
-        assert_eq!(rt; status, 0);
-    }
-    Ok(())
+    both_ways(&rt, "if w1 s> -5 goto +0\n", 0x6601_0000_fbff_ffff)?;
+    both_ways(&rt, "r1 = *(s16 *)(r2 - 6)\n", 0x8921_faff_0000_0000)?;
+    both_ways(&rt, "*(u32 *)(r10 - 4) = 0\n", 0x620a_fcff_0000_0000)
 }
 
 #[test]
@@ -86,20 +82,16 @@ fn refuses_what_is_no_text(rt: HostRuntime) -> Result<(), Fail> {
     let wrong = b"\xff\xfe".as_slice();
     assert_eq!(rt; text(wrong), Err(Fault::Refused(Refusal::NotUtf8)));
     expect(&rt, Work::Asm, wrong, b"refused: not UTF-8\n", 1);
+    let cut = b"refused: decode 3 NotWholeSlots at 1\n";
+    expect(&rt, Work::Dis, b"goto nowhere", cut, 1);
     let large = vec![in rt.alloc(); b'#'; FILE_LIMIT + 1]?;
+    let too_large = b"refused: too large\n";
     assert_eq!(rt;
         text(large.as_slice()),
         Err(Fault::Refused(Refusal::TooLarge))
     );
-    expect(&rt, Work::Asm, large.as_slice(), b"refused: too large\n", 1);
-    expect(&rt, Work::Dis, large.as_slice(), b"refused: too large\n", 1);
-    expect(
-        &rt,
-        Work::Dis,
-        &large.as_slice()[..12],
-        b"refused: decode 3 NotWholeSlots at 1\n",
-        1,
-    );
+    expect(&rt, Work::Asm, large.as_slice(), too_large, 1);
+    expect(&rt, Work::Dis, large.as_slice(), too_large, 1);
     Ok(())
 }
 
