@@ -1,29 +1,32 @@
 -- The law of outcomes, which is the contract of a public function without a body of its own.
 use Rattle.std.specs.Prelude.{ℕ, ◌≡◌}
+use Rattle.scx_semantics.specs.declared.values.Value.{Value}
 use Rattle.scx_semantics.specs.declared.callbacks.Callback.{Callback}
 use Rattle.scx_semantics.specs.Code.{Code}
-use Rattle.scx_semantics.specs.Machine.{Maps, Arguments}
-use Rattle.scx_semantics.specs.Runs.{Runs, GetsStuck, silent}
+use Rattle.scx_semantics.specs.Elements.{Maps}
+use Rattle.scx_semantics.specs.Machine.{Arguments}
+use Rattle.scx_semantics.specs.Effects.{Query}
+use Rattle.scx_semantics.specs.Runs.{graph, Runs, GetsStuck}
 
--- Without an outside a run has one outcome: two runs to the end agree, two runs that get stuck agree,
--- and where one run ends none gets stuck.
-abbrev pub OneEnd : Type 0
-OneEnd =
-    (c : Callback) (code : Code) (a : Arguments) (maps : Maps) (answer answer' steps steps' : ℕ) (left left' : Maps)
-    → Runs silent c code a maps tt answer steps left tt
-    → Runs silent c code a maps tt answer' steps' left' tt
-    → (answer ≡ answer') × (steps ≡ steps') × (left ≡ left')
+-- Where the outside answers each query in one way a run has one outcome: two runs to the end agree, two
+-- runs that get stuck agree, and where one run ends none gets stuck.
+abbrev pub OneEnd : Type 0 → Type 0
+OneEnd W =
+    (answer-of : W → Query → Value) (after : W → Query → W) (c : Callback) (code : Code) (a : Arguments) (maps : Maps) (w : W) (answer answer' steps steps' : ℕ) (left left' : Maps) (v v' : W)
+    → Runs (graph answer-of after) c code a maps w answer steps left v
+    → Runs (graph answer-of after) c code a maps w answer' steps' left' v'
+    → (answer ≡ answer') × (steps ≡ steps') × (left ≡ left') × (v ≡ v')
 
-abbrev pub OneStuck : Type 0
-OneStuck =
-    (c : Callback) (code : Code) (a : Arguments) (maps : Maps) (slot slot' steps steps' : ℕ)
-    → GetsStuck silent c code a maps tt slot steps
-    → GetsStuck silent c code a maps tt slot' steps'
-    → (slot ≡ slot') × (steps ≡ steps')
+abbrev pub OneStuck : Type 0 → Type 0
+OneStuck W =
+    (answer-of : W → Query → Value) (after : W → Query → W) (c : Callback) (code : Code) (a : Arguments) (maps : Maps) (w : W) (slot slot' steps steps' : ℕ) (left left' : Maps) (v v' : W)
+    → GetsStuck (graph answer-of after) c code a maps w slot steps left v
+    → GetsStuck (graph answer-of after) c code a maps w slot' steps' left' v'
+    → (slot ≡ slot') × (steps ≡ steps') × (left ≡ left') × (v ≡ v')
 
-abbrev pub EndsOrGetsStuck : Type 0
-EndsOrGetsStuck =
-    (c : Callback) (code : Code) (a : Arguments) (maps : Maps) (answer steps slot steps' : ℕ) (left : Maps)
-    → Runs silent c code a maps tt answer steps left tt
-    → GetsStuck silent c code a maps tt slot steps'
+abbrev pub EndsOrGetsStuck : Type 0 → Type 0
+EndsOrGetsStuck W =
+    (answer-of : W → Query → Value) (after : W → Query → W) (c : Callback) (code : Code) (a : Arguments) (maps : Maps) (w : W) (answer steps slot steps' : ℕ) (left left' : Maps) (v v' : W)
+    → Runs (graph answer-of after) c code a maps w answer steps left v
+    → GetsStuck (graph answer-of after) c code a maps w slot steps' left' v'
     → ⊥

@@ -2,7 +2,12 @@ pub mod Registers
 pub mod Code
 pub mod Arithmetic
 pub mod Memory
+pub mod Outside
+pub mod Elements
+pub mod Places
 pub mod Machine
+pub mod Effects
+pub mod Calls
 pub mod Meaning
 pub mod Steps
 pub mod Runs

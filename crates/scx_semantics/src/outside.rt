@@ -1,3 +1,11 @@
+ghost use Rattle.std.specs.Prelude.{◌≡◌, ◌<◌, slice_get};
+ghost use Rattle.scx_semantics.specs.Arithmetic.{shifted};
+ghost use Rattle.scx_semantics.specs.Memory.{size_bytes};
+ghost use Rattle.scx_semantics.specs.Outside.{field_at, is_writable, helper_at, parameters, is_allowed};
+
+use crate::callbacks::Callback;
+use crate::operations::Size;
+
 /// A task of the machine, numbered from 0.
 #[derive(Clone, Copy, Debug, PartialEq, Eq)]
 pub struct TaskId(pub u16);
@@ -29,4 +37,105 @@ pub enum Helper {
     CpuIdle,
     TaskByPid,
     DsqNrQueued,
+}
+
+/// What a helper takes in a register.
+#[derive(Clone, Copy, Debug, PartialEq, Eq)]
+pub enum Parameter {
+    /// A reference to a map.
+    Map,
+    /// A pointer to the four bytes of a map's key.
+    Key,
+    /// A pointer to a task.
+    Task,
+    Number,
+}
+
+impl Field {
+    /// The field that an access of that size takes whole, at an offset in bytes from the beginning of
+    /// the task's record.
+    pub fn at(offset: i16, size: Size) -> Option<Field>
+        ensures { result ≡ field_at (size_bytes size) (shifted 0 offset) }
+    {
+        match (offset, size) {
+            (0, Size::Word) => Some(Field::Pid),
+            (4, Size::Word) => Some(Field::Weight),
+            (8, Size::DoubleWord) => Some(Field::Slice),
+            (16, Size::DoubleWord) => Some(Field::DsqVtime),
+            (24, Size::Word) => Some(Field::PrevCpu),
+            (28, Size::Word) => Some(Field::Group),
+            (32, Size::DoubleWord) => Some(Field::RunNs),
+            _ => None,
+        }
+    }
+
+    /// Whether a program may store to it.
+    pub fn is_writable(self) -> bool
+        ensures { result ≡ is_writable self }
+    {
+        matches!(self, Field::Slice | Field::DsqVtime)
+    }
+}
+
+impl Helper {
+    /// The helper of that number.
+    pub fn new(number: i32) -> Option<Helper>
+        ensures { result ≡ helper_at number }
+    {
+        match number {
+            1 => Some(Helper::MapLookupElem),
+            5 => Some(Helper::KtimeGetNs),
+            1001 => Some(Helper::CreateDsq),
+            1002 => Some(Helper::DsqInsert),
+            1004 => Some(Helper::DsqMoveToLocal),
+            1008 => Some(Helper::DsqNrQueued),
+            _ => None,
+        }
+    }
+
+    /// What it takes as its argument of that number, from 0 for r1 on; `None` past the last one.
+    pub fn parameter(self, argument: usize) -> Option<Parameter>
+        ensures { result ≡ slice_get (parameters self) argument }
+    {
+        match (self, argument) {
+            (Helper::MapLookupElem, 0) => Some(Parameter::Map),
+            (Helper::MapLookupElem, 1) => Some(Parameter::Key),
+            (Helper::DsqInsert | Helper::DsqInsertVtime | Helper::SelectCpuDfl, 0) => {
+                Some(Parameter::Task)
+            }
+            (Helper::DsqInsert, 1..=3) | (Helper::DsqInsertVtime, 1..=4) => Some(Parameter::Number),
+            (
+                Helper::CreateDsq
+                | Helper::DsqMoveToLocal
+                | Helper::CpuIdle
+                | Helper::TaskByPid
+                | Helper::DsqNrQueued,
+                0,
+            ) => Some(Parameter::Number),
+            _ => None,
+        }
+    }
+
+    /// Whether a program may call it when it is run as that callback.
+    pub fn is_allowed(self, callback: Callback) -> bool
+        ensures { result ≡ is_allowed self callback }
+    {
+        match (self, callback) {
+            (_, Callback::Plain) => false,
+            (
+                Helper::MapLookupElem
+                | Helper::KtimeGetNs
+                | Helper::TaskByPid
+                | Helper::DsqNrQueued,
+                _,
+            ) => true,
+            (Helper::CreateDsq, _) => callback == Callback::Init,
+            (Helper::DsqMoveToLocal, _) => callback == Callback::Dispatch,
+            (Helper::CpuIdle, Callback::Dispatch) => true,
+            (
+                Helper::DsqInsert | Helper::DsqInsertVtime | Helper::SelectCpuDfl | Helper::CpuIdle,
+                _,
+            ) => matches!(callback, Callback::SelectCpu | Callback::Enqueue),
+        }
+    }
 }
