@@ -11,7 +11,7 @@ use Rattle.scx_semantics.specs.declared.values.StackByte.TheVariants as byte
 use Rattle.scx_semantics.specs.declared.operations.Size.{Size}
 use Rattle.scx_semantics.specs.declared.operations.Size.TheVariants as size
 use Rattle.scx_semantics.specs.declared.operations.Access.TheVariants as access
-use Rattle.scx_semantics.specs.Machine.{Maps}
+use Rattle.scx_semantics.specs.Elements.{Maps}
 use Rattle.scx_semantics.specs.Memory.{Stack, bytes_at, write, number_bytes, number_in, pointer_in, same_pointer, parts, value_in, number_or_pointer, value_bytes, size_bytes}
 use Rattle.scx_abs.specs.declared.kinds.Kind.{Kind}
 use Rattle.scx_abs.specs.declared.kinds.Kind.TheVariants.{Unusable, Num, ElemOrNull, TaskOrNull}
@@ -19,7 +19,7 @@ use Rattle.scx_abs.specs.declared.kinds.Cell.{Cell}
 use Rattle.scx_abs.specs.declared.kinds.Cell.TheVariants.{Bytes, Pointer}
 use Rattle.scx_abs.specs.Cells.{is_written, marked}
 use Rattle.scx_abs.specs.Stands.{Stands, IsByte, CellStands}
-use Rattle.scx_abs.specs.Rules.{all_written, written_in}
+use Rattle.scx_abs.specs.Cells.{all_written, written_in}
 use Rattle.scx_abs.proofs.Orders.{each_byte_at, none_written}
 
 -- ---- reading

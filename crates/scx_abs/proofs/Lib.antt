@@ -3,4 +3,5 @@ pub mod Orders
 mod Joins
 mod Bytes
 mod Sets
+mod Parameters
 pub mod Sound

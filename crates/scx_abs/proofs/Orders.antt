@@ -4,7 +4,7 @@ use Rattle.std.proofs.Common.{◌≡◌, ℕ, zero, suc, arith, ◌*◌, ◌<◌
 use Rattle.scx_semantics.specs.declared.values.Value.{Value}
 use Rattle.scx_semantics.specs.declared.values.Value.TheVariants as value
 use Rattle.scx_semantics.specs.declared.values.Pointer.TheVariants as pointer
-use Rattle.scx_semantics.specs.Machine.{Maps}
+use Rattle.scx_semantics.specs.Elements.{Maps}
 use Rattle.scx_semantics.specs.Memory as memory
 use Rattle.scx_abs.specs.declared.kinds.Kind.{Kind}
 use Rattle.scx_abs.specs.declared.kinds.Kind.TheVariants.{Unusable, Num, Stack, Elem, ElemOrNull, Task, TaskOrNull, MapRef}
@@ -119,7 +119,8 @@ covers_through c b a g h = record {
 }
 
 pub covers_more : CoversMore
-covers_more b a m g h = record {
+covers_more shapes b a m g h = record {
   registers = λ r. kind_stands m.maps (kind_at b r) (kind_at a r) (m.registers r) (g.registers r) (h.registers r);
   cells = λ c. cell_stands m.maps (cell_at b c) (cell_at a c) m.stack (8 * c) (g.cells c) (h.cells c);
+  maps = h.maps;
 }

@@ -1,7 +1,7 @@
 -- The order on cells. A cell that knows more written bytes is covered by one that knows fewer; a stored
 -- pointer by one of a kind that covers its kind, but isn't Unusable, and by a cell that knows nothing.
 -- A stored pointer is never Unusable: that case stands here only so that each cell covers itself.
-use Rattle.std.specs.Prelude.{ℕ, ◌+◌, ◌<◌, Bool, false, ◌&&◌, ◌||◌, nat_le, nat_lt, List, [], ◌∷◌, slice_index_or, IsTrue}
+use Rattle.std.specs.Prelude.{ℕ, zero, suc, ◌+◌, ◌<◌, Bool, true, false, ◌&&◌, ◌||◌, nat_le, nat_lt, List, [], ◌∷◌, slice_index_or, IsTrue}
 use Rattle.scx_abs.specs.declared.kinds.Kind.{Kind}
 use Rattle.scx_abs.specs.declared.kinds.Kind.TheVariants.{Unusable}
 use Rattle.scx_abs.specs.declared.kinds.Cell.{Cell}
@@ -26,6 +26,16 @@ common a b = each_byte (λ j. is_written a j && is_written b j)
 -- the set with so many bytes from one on
 abbrev pub marked : List Bool → ℕ → ℕ → List Bool
 marked set first count = each_byte (λ j. is_written set j || (nat_le first j && nat_lt j (first + count)))
+
+-- so many bytes from one on are known to be written
+abbrev pub all_written : List Bool → ℕ → ℕ → Bool
+all_written set j zero = true
+all_written set j (suc n) = is_written set j && all_written set (j + 1) n
+
+-- the bytes of a cell that are known to hold numbers
+abbrev pub written_in : Cell → List Bool
+written_in (Bytes set) = set
+written_in (Pointer k) = no_bytes
 
 -- ---- order
 

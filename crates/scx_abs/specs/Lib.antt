@@ -4,5 +4,8 @@ pub mod States
 pub mod Arguments
 pub mod Stands
 pub mod Faults
+pub mod Areas
+pub mod Checks
+pub mod Calls
 pub mod Rules
 pub mod Laws

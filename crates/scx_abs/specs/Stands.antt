@@ -1,14 +1,17 @@
 -- What an abstract state stands for: the states of a running program whose registers and stack fit it.
-use Rattle.std.specs.Prelude.{ℕ, ◌+◌, ◌*◌, ◌≡◌, ◌<◌, Some, [], length, slice_index_or, IsTrue}
+use Rattle.std.specs.Prelude.{ℕ, ◌+◌, ◌*◌, ◌≡◌, ◌<◌, List, Some, length, IsTrue}
 use Rattle.scx_semantics.specs.declared.values.Value.{Value}
 use Rattle.scx_semantics.specs.declared.values.Value.TheVariants as value
 use Rattle.scx_semantics.specs.declared.values.Pointer.TheVariants as pointer
 use Rattle.scx_semantics.specs.declared.values.StackByte.{StackByte}
 use Rattle.scx_semantics.specs.declared.values.StackByte.TheVariants as byte
 use Rattle.scx_semantics.specs.declared.operations.Size.TheVariants.{DoubleWord}
-use Rattle.scx_semantics.specs.Machine.{Machine, Maps}
+use Rattle.scx_semantics.specs.Elements.{Maps, elements}
+use Rattle.scx_semantics.specs.Machine.{Machine}
 use Rattle.scx_semantics.specs.Memory as memory
 use Rattle.scx_semantics.specs.Memory.{bytes_at, value_bytes}
+use Rattle.scx_maps.specs.declared.shape.Shape.{Shape}
+use Rattle.scx_maps.specs.Contents.{HasShapes}
 use Rattle.scx_abs.specs.declared.kinds.Kind.{Kind}
 use Rattle.scx_abs.specs.declared.kinds.Kind.TheVariants.{Unusable, Num, Stack, Elem, ElemOrNull, Task, TaskOrNull, MapRef}
 use Rattle.scx_abs.specs.declared.kinds.Cell.{Cell}
@@ -19,7 +22,7 @@ use Rattle.scx_abs.specs.States.{kind_at, cell_at}
 
 -- the map has an element of that index
 abbrev pub HasElement : Maps → ℕ → ℕ → Type 0
-HasElement maps m i = i < length (slice_index_or maps m [])
+HasElement maps m i = i < length (elements maps m)
 
 -- the kind stands for the value
 abbrev pub Stands : Maps → Kind → Value → Type 0
@@ -32,7 +35,7 @@ Stands maps (ElemOrNull m) (value.Pointer (pointer.Element n p i)) = (m ≡ n) �
 Stands maps Task (value.Pointer (pointer.Task t)) = Unit {0}
 Stands maps TaskOrNull (value.Number n) = n ≡ 0
 Stands maps TaskOrNull (value.Pointer (pointer.Task t)) = Unit {0}
-Stands maps (MapRef m) (value.Pointer (pointer.Map n)) = m ≡ n
+Stands maps (MapRef m) (value.Pointer (pointer.Map n)) = (m ≡ n) × (n < length maps)
 Stands maps k v = ⊥
 
 -- a number was written to the byte
@@ -47,7 +50,8 @@ abbrev pub CellStands : Maps → Cell → memory.Stack → ℕ → Type 0
 CellStands maps (Bytes set) stack at = (j : ℕ) → j < 8 → IsTrue (is_written set j) → IsByte (stack (at + j))
 CellStands maps (Pointer k) stack at = (v : Value) × Stands maps k v × (value_bytes DoubleWord v ≡ Some (bytes_at stack at 8))
 
--- the abstract state stands for the state
-pub record IsMember (a : AbsState) (m : Machine) : Type 0 where
+-- the abstract state stands for the state of a program with maps of these shapes
+pub record IsMember (shapes : List Shape) (a : AbsState) (m : Machine) : Type 0 where
   pub registers : (r : ℕ) → Stands m.maps (kind_at a r) (m.registers r)
   pub cells : (c : ℕ) → CellStands m.maps (cell_at a c) m.stack (8 * c)
+  pub maps : HasShapes shapes m.maps

@@ -1,12 +1,14 @@
 ghost use Rattle.std.specs.Prelude.{◌≡◌, Some};
 ghost use Rattle.scx_semantics.specs.Registers.{number};
-ghost use Rattle.scx_semantics.specs.Arithmetic.{shifted};
-ghost use Rattle.scx_abs.specs.Rules.{usable, operand_kind, pointer_distance, stack_kind, moved_by, moved_kind, arithmetic_kind, combined_kind, binary_kind, number_kind};
+ghost use Rattle.scx_abs.specs.Checks.{usable, operand_kind};
+ghost use Rattle.scx_abs.specs.Rules.{pointer_distance, moved_by, moved_kind, arithmetic_kind, combined_kind, binary_kind, number_kind, map_kind};
 
 use crate::faults::Why;
 use crate::kinds::Kind;
+use crate::places::{element_size, place_within, shifted};
 use crate::states::{AbsState, STACK_TOP};
 use scx_isa::{Operand, Operation, Register, Width};
+use scx_maps::MapDefs;
 
 /// The kind of a register that is read.
 pub(crate) fn usable(kind: Kind) -> Result<Kind, Why>
@@ -46,12 +48,13 @@ pub(crate) fn binary_kind(
     operation: Operation,
     destination: Register,
     operand: Operand,
+    defs: &MapDefs,
 ) -> Result<Kind, Why>
-    ensures { result ≡ binary_kind state.now width operation destination operand }
+    ensures { result ≡ binary_kind defs.now state.now width operation destination operand }
 {
     match operation {
         Operation::Move => moved_kind(width, operand_kind(state, operand)?),
-        _ => combined_kind(state, width, operation, destination, operand),
+        _ => combined_kind(state, width, operation, destination, operand, defs),
     }
 }
 
@@ -73,12 +76,13 @@ fn combined_kind(
     operation: Operation,
     destination: Register,
     operand: Operand,
+    defs: &MapDefs,
 ) -> Result<Kind, Why>
-    ensures { result ≡ combined_kind state.now width operation destination operand }
+    ensures { result ≡ combined_kind defs.now state.now width operation destination operand }
 {
     let kind = usable(state.kind(destination))?;
     let other = operand_kind(state, operand)?;
-    arithmetic_kind(width, operation, operand, kind, other)
+    arithmetic_kind(width, operation, operand, kind, other, defs)
 }
 
 /// The kind that an operation makes of these two.
@@ -88,17 +92,17 @@ fn arithmetic_kind(
     operand: Operand,
     kind: Kind,
     other: Kind,
+    defs: &MapDefs,
 ) -> Result<Kind, Why>
-    ensures { result ≡ arithmetic_kind width operation operand kind other }
+    ensures { result ≡ arithmetic_kind defs.now width operation operand kind other }
 {
     match (kind, other) {
         (Kind::Num, Kind::Num) => Ok(Kind::Num),
-        (Kind::Stack(at), _) => moved_by(at, pointer_distance(width, operation, operand)),
-        _ => Err(Why::PointerArithmetic),
+        _ => moved_by(kind, pointer_distance(width, operation, operand), defs),
     }
 }
 
-/// How far an operation moves a pointer into the stack, in bytes.
+/// How far an operation moves a pointer, in bytes.
 fn pointer_distance(width: Width, operation: Operation, operand: Operand) -> Option<i64>
     ensures { result ≡ pointer_distance width operation operand }
 {
@@ -109,34 +113,29 @@ fn pointer_distance(width: Width, operation: Operation, operand: Operand) -> Opt
     }
 }
 
-/// The kind of a pointer that is moved so far, from that place of the stack.
-fn moved_by(at: u16, distance: Option<i64>) -> Result<Kind, Why>
-    ensures { result ≡ moved_by at distance }
+/// The kind of a pointer that is moved so far.
+fn moved_by(kind: Kind, distance: Option<i64>, defs: &MapDefs) -> Result<Kind, Why>
+    ensures { result ≡ moved_by defs.now kind distance }
 {
-    match distance {
-        Some(distance) => stack_kind(shifted(at, distance)),
-        None => Err(Why::PointerArithmetic),
+    match (kind, distance) {
+        (Kind::Stack(at), Some(distance)) => {
+            let to = place_within(STACK_TOP, shifted(at, distance))?;
+            Ok(Kind::Stack(to))
+        }
+        (Kind::Elem(map, at), Some(distance)) => {
+            let to = place_within(element_size(defs, map), shifted(at, distance))?;
+            Ok(Kind::Elem(map, to))
+        }
+        _ => Err(Why::PointerArithmetic),
     }
 }
 
-/// A pointer to that place, if it is one of the stack or its top.
-fn stack_kind(at: Option<u64>) -> Result<Kind, Why>
-    ensures { result ≡ stack_kind at }
+/// The kind of a reference to the map of that number.
+pub(crate) fn map_kind(map: i32, defs: &MapDefs) -> Result<Kind, Why>
+    ensures { result ≡ map_kind defs.now map }
 {
-    match at {
-        Some(at) if at <= u64::from(STACK_TOP) => Ok(Kind::Stack(at as u16)),
-        _ => Err(Why::OutOfBounds),
-    }
-}
-
-/// The place that far on, or back; `None` below 0.
-pub(crate) fn shifted(at: u16, distance: i64) -> Option<u64>
-    ensures { result ≡ shifted at distance }
-{
-    let length = distance.unsigned_abs();
-    if distance < 0 {
-        u64::from(at).checked_sub(length)
-    } else {
-        Some(u64::from(at) + length)
+    match usize::try_from(map) {
+        Ok(map) if map < defs.count() => Ok(Kind::MapRef(map as u8)),
+        _ => Err(Why::UnknownMap),
     }
 }

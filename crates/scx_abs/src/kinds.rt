@@ -1,7 +1,7 @@
 ghost use Rattle.std.specs.Prelude.{◌≡◌, ◌+◌, ◌≤◌};
 ghost use Rattle.scx_abs.specs.Kinds.{join_kind};
 ghost use Rattle.scx_abs.specs.Cells.{common, marked, join_pointers, join_cell, pointer_cell};
-ghost use Rattle.scx_abs.specs.Rules.{all_written, written_in};
+ghost use Rattle.scx_abs.specs.Cells.{all_written, written_in};
 
 /// How many bytes a cell stands for.
 pub const CELL_BYTES: usize = 8;

@@ -7,11 +7,13 @@
 #![tactic(auto)]
 
 mod arithmetic;
+mod calls;
 mod faults;
 mod jumps;
 mod kinds;
 mod laws;
 mod memory;
+mod places;
 mod rules;
 mod states;
 

@@ -1,14 +1,29 @@
-ghost use Rattle.std.specs.Prelude.{◌≡◌, ◌+◌, ◌/◌, ◌%◌, ◌<◌, ◌≤◌, IfOk};
+ghost use Rattle.std.specs.Prelude.{◌≡◌, ◌+◌, ◌≤◌, IfOk};
 ghost use Rattle.scx_semantics.specs.Registers.{number};
 ghost use Rattle.scx_semantics.specs.Memory.{size_bytes, access_size};
-ghost use Rattle.scx_abs.specs.Rules.{place_for, place_of, loaded_kind, load_kind, stored_cell, store_rule};
+ghost use Rattle.scx_semantics.specs.Meaning.{is_plain};
+ghost use Rattle.scx_abs.specs.Areas.{IsRoom};
+ghost use Rattle.scx_abs.specs.Rules.{area_of, field_area, loaded_kind, kind_in, load_kind, stored_cell, number_stored, stored_in, store_rule};
 
-use crate::arithmetic::{operand_kind, shifted, usable};
+use crate::arithmetic::{operand_kind, usable};
 use crate::faults::Why;
 use crate::kinds::{CELL_BYTES, Cell, Kind, all_written, marked};
+use crate::places::{element_size, place_for, shifted};
 use crate::rules::{Next, goes_on};
 use crate::states::{AbsState, STACK_TOP};
-use scx_isa::{Access, Operand, Register, Size};
+use scx_isa::{Access, Field, Operand, Register, Size};
+use scx_maps::MapDefs;
+
+/// The memory that an address means.
+#[derive(Clone, Copy, Debug, PartialEq, Eq)]
+pub(crate) enum Area {
+    /// The byte of the stack.
+    OnStack(u16),
+    /// An element of a map.
+    InElement,
+    /// The field of a task's record.
+    InTask(Field),
+}
 
 /// The kind that a load gives.
 pub(crate) fn load_kind(
@@ -16,12 +31,13 @@ pub(crate) fn load_kind(
     access: Access,
     base: Register,
     offset: i16,
+    defs: &MapDefs,
 ) -> Result<Kind, Why>
-    ensures { result ≡ load_kind state.now access base offset }
+    ensures { result ≡ load_kind defs.now state.now access base offset }
 {
     let base = usable(state.kind(base))?;
-    let at = place_of(base, offset, access.size())?;
-    loaded_kind(state.cell(at / CELL_BYTES), access, at % CELL_BYTES)
+    let area = area_of(base, offset, access.size(), defs)?;
+    kind_in(state, access, area)
 }
 
 /// What flows on from a store. The registers are checked first, then the address, then what is stored.
@@ -31,49 +47,101 @@ pub(crate) fn store(
     base: Register,
     offset: i16,
     operand: Operand,
+    defs: &MapDefs,
 ) -> Result<Next, Why>
-    ensures { result ≡ store_rule state.now size base offset operand }
+    ensures { result ≡ store_rule defs.now state.now size base offset operand }
 {
     let base = usable(state.kind(base))?;
     let kind = operand_kind(state, operand)?;
-    let at = place_of(base, offset, size)?;
-    let cell = stored_cell(state.cell(at / CELL_BYTES), size, at % CELL_BYTES, kind)?;
-    goes_on(state.with_cell(at / CELL_BYTES, cell))
+    let area = area_of(base, offset, size, defs)?;
+    stored_in(state, size, kind, area)
 }
 
-/// The place in the stack that an address means, for an access of that size.
-#[tactic(auto, using(crate::proofs::Bytes::fits_cell))]
-fn place_of(base: Kind, offset: i16, size: Size) -> Result<usize, Why>
-    ensures place { result ≡ place_of base offset (size_bytes size) }
-    ensures in_stack { IfOk result (λ at. at / CELL_BYTES < 64) }
-    ensures in_cell { IfOk result (λ at. at % CELL_BYTES + size_bytes size ≤ CELL_BYTES) }
+/// The memory that an address means, for an access of that size.
+fn area_of(base: Kind, offset: i16, size: Size, defs: &MapDefs) -> Result<Area, Why>
+    ensures area { result ≡ area_of defs.now base offset (size_bytes size) }
+    ensures room { IfOk result (IsRoom (size_bytes size)) }
 {
+    let distance = i64::from(offset);
     match base {
-        Kind::Stack(o) => place_for(size, shifted(o, i64::from(offset))),
-        Kind::Num | Kind::MapRef(_) | Kind::Elem(..) => Err(Why::OutOfBounds),
+        Kind::Stack(at) => {
+            let at = place_for(STACK_TOP, size, shifted(at, distance))?;
+            Ok(Area::OnStack(at))
+        }
+        Kind::Elem(map, at) => {
+            place_for(element_size(defs, map), size, shifted(at, distance))?;
+            Ok(Area::InElement)
+        }
+        Kind::Task => field_area(Field::at(offset, size)),
+        Kind::Num | Kind::MapRef(_) => Err(Why::OutOfBounds),
         Kind::ElemOrNull(_) | Kind::TaskOrNull => Err(Why::NullNotTested),
-        Kind::Task => Err(Why::TaskField),
         Kind::Unusable => Err(Why::UnusableRegister),
     }
 }
 
-/// The place, if an access of that size lies in the stack there and is aligned.
-#[tactic(auto, using(crate::proofs::Bytes::fits_cell))]
-fn place_for(size: Size, at: Option<u64>) -> Result<usize, Why>
-    ensures place { result ≡ place_for (size_bytes size) at }
-    ensures in_stack { IfOk result (λ at. at / CELL_BYTES < 64) }
-    ensures in_cell { IfOk result (λ at. at % CELL_BYTES + size_bytes size ≤ CELL_BYTES) }
+/// A field of a task, if an access takes one whole.
+fn field_area(field: Option<Field>) -> Result<Area, Why>
+    ensures area { result ≡ field_area field }
+    ensures room { IfOk result (IsRoom 0) }
 {
-    let bytes = u64::from(size.bytes());
-    match at {
-        Some(at) if at <= u64::from(STACK_TOP) - bytes => {
-            if at % bytes == 0 {
-                Ok(at as usize)
-            } else {
-                Err(Why::Misaligned)
-            }
+    match field {
+        Some(field) => Ok(Area::InTask(field)),
+        None => Err(Why::TaskField),
+    }
+}
+
+/// The kind that a load from there gives.
+#[tactic(auto, using(crate::proofs::Bytes::fits_cell))]
+fn kind_in(state: &AbsState, access: Access, area: Area) -> Result<Kind, Why>
+    requires { IsRoom (size_bytes (access_size access)) area }
+    ensures { result ≡ kind_in state.now access area }
+{
+    match area {
+        Area::OnStack(at) => {
+            let at = usize::from(at);
+            loaded_kind(state.cell(at / CELL_BYTES), access, at % CELL_BYTES)
         }
-        _ => Err(Why::OutOfBounds),
+        Area::InElement => Ok(Kind::Num),
+        Area::InTask(_) if is_plain(access) => Ok(Kind::Num),
+        Area::InTask(_) => Err(Why::TaskField),
+    }
+}
+
+/// Whether a load reads without a sign.
+fn is_plain(access: Access) -> bool
+    ensures { result ≡ is_plain access }
+{
+    !matches!(
+        access,
+        Access::SignedByte | Access::SignedHalfWord | Access::SignedWord
+    )
+}
+
+/// What flows on from a store there.
+#[tactic(auto, using(crate::proofs::Bytes::fits_cell))]
+fn stored_in(state: &AbsState, size: Size, kind: Kind, area: Area) -> Result<Next, Why>
+    requires { IsRoom (size_bytes size) area }
+    ensures { result ≡ stored_in state.now size kind area }
+{
+    match area {
+        Area::OnStack(at) => {
+            let at = usize::from(at);
+            let cell = stored_cell(state.cell(at / CELL_BYTES), size, at % CELL_BYTES, kind)?;
+            goes_on(state.with_cell(at / CELL_BYTES, cell))
+        }
+        Area::InElement => number_stored(state, kind),
+        Area::InTask(field) if field.is_writable() => number_stored(state, kind),
+        Area::InTask(_) => Err(Why::TaskField),
+    }
+}
+
+/// What flows on from a store that takes numbers alone.
+fn number_stored(state: &AbsState, kind: Kind) -> Result<Next, Why>
+    ensures { result ≡ number_stored state.now kind }
+{
+    match kind {
+        Kind::Num => goes_on(*state),
+        _ => Err(Why::PointerStore),
     }
 }
 

@@ -1,21 +1,25 @@
 ghost use Rattle.std.specs.Prelude.{◌≡◌};
 ghost use Rattle.scx_semantics.specs.Registers.{number};
-ghost use Rattle.scx_semantics.specs.Meaning.{answers};
-ghost use Rattle.scx_abs.specs.Rules.{goes_on, sets, end_rule, rule};
+ghost use Rattle.scx_abs.specs.Checks.{goes_on, sets};
+ghost use Rattle.scx_abs.specs.Rules.{rule};
 
-use crate::arithmetic::{binary_kind, number_kind};
+use crate::arithmetic::{binary_kind, map_kind, number_kind};
+use crate::calls::call;
 use crate::faults::Why;
 use crate::jumps::jump;
 use crate::kinds::Kind;
 use crate::memory::{load_kind, store};
 use crate::states::AbsState;
 use scx_isa::{Callback, Insn, Register};
+use scx_maps::MapDefs;
 
 /// What a rule needs to know apart from the state and the instruction.
-#[derive(Clone, Copy, Debug, PartialEq, Eq)]
+#[derive(Clone, Copy, Debug)]
 pub struct Context {
     /// What the program is run as.
     pub callback: Callback,
+    /// The shapes of the maps that it is run with.
+    pub defs: MapDefs,
 }
 
 /// What flows on from an instruction.
@@ -31,14 +35,14 @@ pub struct Next {
 /// fails. A register that is written is checked first, then the registers that are read, the
 /// destination before the source, then the address, and then the value that is stored.
 pub fn transfer(state: &AbsState, insn: &Insn, context: &Context) -> Result<Next, Why>
-    ensures { result ≡ rule context.now.callback insn.now state.now }
+    ensures { result ≡ rule context.now.defs context.now.callback insn.now state.now }
 {
     match *insn {
         Insn::Binary(width, operation, destination, operand) => {
             sets(
                 state,
                 destination,
-                binary_kind(state, width, operation, destination, operand),
+                binary_kind(state, width, operation, destination, operand, &context.defs),
             )
         }
         Insn::Negate(_, destination) | Insn::Reorder(_, _, destination) => {
@@ -48,12 +52,19 @@ pub fn transfer(state: &AbsState, insn: &Insn, context: &Context) -> Result<Next
             sets(state, destination, number_kind(state.kind(source)))
         }
         Insn::Constant(destination, ..) => sets(state, destination, Ok(Kind::Num)),
-        // There are no maps yet.
-        Insn::MapReference(destination, _) => sets(state, destination, Err(Why::UnknownMap)),
-        Insn::Load(access, destination, base, offset) => {
-            sets(state, destination, load_kind(state, access, base, offset))
+        Insn::MapReference(destination, map) => {
+            sets(state, destination, map_kind(map, &context.defs))
         }
-        Insn::Store(size, base, offset, operand) => store(state, size, base, offset, operand),
+        Insn::Load(access, destination, base, offset) => {
+            sets(
+                state,
+                destination,
+                load_kind(state, access, base, offset, &context.defs),
+            )
+        }
+        Insn::Store(size, base, offset, operand) => {
+            store(state, size, base, offset, operand, &context.defs)
+        }
         Insn::JumpIf(width, comparison, register, _, operand) => {
             jump(state, width, comparison, register, operand)
         }
@@ -61,9 +72,8 @@ pub fn transfer(state: &AbsState, insn: &Insn, context: &Context) -> Result<Next
             on: None,
             jump: Some(*state),
         }),
-        // There are no helpers yet.
-        Insn::Call(_) => Err(Why::UnknownHelper),
-        Insn::Exit => end(state, context.callback),
+        Insn::Call(number) => call(state, number, context),
+        Insn::Exit => end(state, context),
     }
 }
 
@@ -89,23 +99,14 @@ fn sets(state: &AbsState, register: Register, kind: Result<Kind, Why>) -> Result
 }
 
 /// The end of the program, at which the callbacks that answer a number have one in r0.
-fn end(state: &AbsState, callback: Callback) -> Result<Next, Why>
-    ensures { result ≡ rule callback Insn.Exit state.now }
+fn end(state: &AbsState, context: &Context) -> Result<Next, Why>
+    ensures { result ≡ rule context.now.defs context.now.callback Insn.Exit state.now }
 {
-    if answers(callback) && state.kind(Register::R0) != Kind::Num {
+    if context.callback.answers() && state.kind(Register::R0) != Kind::Num {
         return Err(Why::BadReturn);
     }
     Ok(Next {
         on: None,
         jump: None,
     })
-}
-
-fn answers(callback: Callback) -> bool
-    ensures { result ≡ answers callback }
-{
-    matches!(
-        callback,
-        Callback::Plain | Callback::Init | Callback::SelectCpu
-    )
 }

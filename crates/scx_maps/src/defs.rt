@@ -1,7 +1,8 @@
-ghost use Rattle.std.specs.Prelude.{◌≡◌, ◌≤◌, ◌↔◌, length, slice_get, All, IsOk, IsTrue, IfOk, IfErr, OnOk};
+ghost use Rattle.std.specs.Prelude.{◌≡◌, ◌≤◌, ◌↔◌, length, slice_get, All, IsOk, IsTrue, IfOk, IfErr, IfSome, OnOk};
 ghost use Rattle.std.proofs.Common.{rules};
 ghost use Rattle.std.specs.Cmp.Lexicographic.{lists_per, lists_equiv};
 ghost use Rattle.std.specs.Cmp.Rules.{comparing};
+ghost use Rattle.scx_maps.specs.declared.shape.TheConstants.{MAX_VALUE_SIZE};
 ghost use Rattle.scx_maps.specs.Limits.{AreWithinLimits, IsWithinLimits, total_bytes};
 ghost use Rattle.scx_maps.specs.Refusals.{Breaks};
 ghost use Rattle.scx_maps.specs.Sameness.{same_shapes};
@@ -77,6 +78,7 @@ impl MapDefs {
     pub fn shape(&self, map: u8) -> Option<Shape>
         ensures shape { result ≡ slice_get self.now map }
         ensures limits { AreWithinLimits self.now }
+        ensures value_size { IfSome result (λ shape. shape.value_size ≤ MAX_VALUE_SIZE) }
     {
         self.shapes().get(usize::from(map)).copied()
     }

@@ -18,6 +18,6 @@ pub use callbacks::Callback;
 pub use instructions::{Insn, Operand};
 pub use laws::run_has_one_outcome;
 pub use operations::{Access, Comparison, Extension, Operation, Order, OrderWidth, Size, Width};
-pub use outside::{Field, Helper, Parameter, TaskId};
+pub use outside::{Field, Helper, MAX_ARGUMENTS, Parameter, TaskId};
 pub use registers::Register;
 pub use values::{Pointer, StackByte, Value};

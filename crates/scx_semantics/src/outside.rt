@@ -1,4 +1,5 @@
-ghost use Rattle.std.specs.Prelude.{◌≡◌, ◌<◌, slice_get};
+ghost use Rattle.std.specs.Prelude.{◌≡◌, ◌<◌, IfSome, slice_get};
+ghost use Rattle.scx_semantics.specs.declared.outside.TheConstants.{MAX_ARGUMENTS};
 ghost use Rattle.scx_semantics.specs.Arithmetic.{shifted};
 ghost use Rattle.scx_semantics.specs.Memory.{size_bytes};
 ghost use Rattle.scx_semantics.specs.Outside.{field_at, is_writable, helper_at, parameters, is_allowed};
@@ -38,6 +39,9 @@ pub enum Helper {
     TaskByPid,
     DsqNrQueued,
 }
+
+/// The most arguments that a helper takes, in r1 to r5.
+pub const MAX_ARGUMENTS: usize = 5;
 
 /// What a helper takes in a register.
 #[derive(Clone, Copy, Debug, PartialEq, Eq)]
@@ -95,7 +99,8 @@ impl Helper {
 
     /// What it takes as its argument of that number, from 0 for r1 on; `None` past the last one.
     pub fn parameter(self, argument: usize) -> Option<Parameter>
-        ensures { result ≡ slice_get (parameters self) argument }
+        ensures parameter { result ≡ slice_get (parameters self) argument }
+        ensures most { IfSome result (λ parameter. argument < MAX_ARGUMENTS) }
     {
         match (self, argument) {
             (Helper::MapLookupElem, 0) => Some(Parameter::Map),

@@ -1,5 +1,5 @@
 use Rattle.std.proofs.Common.{◌≡◌, ◌+◌, ◌-◌}
-use Rattle.scx_abs.specs.Rules.{all_written}
+use Rattle.scx_abs.specs.Cells.{all_written}
 use Rattle.scx_abs.proofs.kinds.all_written.Given as goal
 
 abbrev pub invariant-loop-byte : goal.invariant-loop-byte

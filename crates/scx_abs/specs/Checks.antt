@@ -1,0 +1,65 @@
+-- Checks, one behind another: the first that fails is the refusal, and those behind it aren't looked at.
+use Rattle.std.specs.Prelude.{ℕ, ◌+◌, ◌%◌, nat_eq, nat_le, List, Option, Some, None, slice_get, Result, Ok, Err, if◌then◌else◌}
+use Rattle.scx_semantics.specs.declared.instructions.Operand.{Operand}
+use Rattle.scx_semantics.specs.declared.instructions.Operand.TheVariants as operand
+use Rattle.scx_semantics.specs.Registers.{number}
+use Rattle.scx_maps.specs.declared.shape.Shape.{Shape}
+use Rattle.scx_abs.specs.declared.faults.Why.{Why}
+use Rattle.scx_abs.specs.declared.faults.Why.TheVariants.{UnusableRegister, WritesFrame, OutOfBounds, Misaligned}
+use Rattle.scx_abs.specs.declared.kinds.Kind.{Kind}
+use Rattle.scx_abs.specs.declared.kinds.Kind.TheVariants.{Unusable, Num}
+use Rattle.scx_abs.specs.declared.states.AbsState.{AbsState}
+use Rattle.scx_abs.specs.declared.rules.Next.{Next}
+use Rattle.scx_abs.specs.States.{kind_at, with_kind}
+
+-- one check behind another
+infixl 10 ◌>>=◌
+abbrev pub ◌>>=◌ : {A B : Type 0} → Result A Why → (A → Result B Why) → Result B Why
+(Ok x) >>= f = f x
+(Err why) >>= f = Err why
+
+-- ---- what flows on
+
+abbrev pub flows : Option AbsState → Option AbsState → Next
+flows on jump = record { on = on; jump = jump }
+
+-- to the next instruction alone
+abbrev pub goes_on : AbsState → Result Next Why
+goes_on a = Ok (flows (Some a) None)
+
+-- ---- registers
+
+-- a kind that may be read
+abbrev pub usable : Kind → Result Kind Why
+usable Unusable = Err UnusableRegister
+usable k = Ok k
+
+abbrev pub operand_kind : AbsState → Operand → Result Kind Why
+operand_kind a (operand.Immediate k) = Ok Num
+operand_kind a (operand.Register r) = usable (kind_at a (number r))
+
+-- a register gets a kind; r10 gets none
+abbrev pub sets : AbsState → ℕ → Result Kind Why → Result Next Why
+sets a r (Err why) = if nat_eq r 10 then Err WritesFrame else Err why
+sets a r (Ok k) = if nat_eq r 10 then Err WritesFrame else goes_on (with_kind a r k)
+
+-- ---- places
+
+-- how many bytes the elements of a map have; those of a map that isn't there have none
+abbrev pub size_of : Option Shape → ℕ
+size_of None = 0
+size_of (Some s) = s.value_size
+
+abbrev pub element_size : List Shape → ℕ → ℕ
+element_size shapes m = size_of (slice_get shapes m)
+
+-- the place, if it lies in so many bytes of memory or is the one behind the last
+abbrev pub place_within : ℕ → Option ℕ → Result ℕ Why
+place_within size None = Err OutOfBounds
+place_within size (Some at) = if nat_le at size then Ok at else Err OutOfBounds
+
+-- the place, if n bytes from it on lie in so many bytes of memory and it is a multiple of n
+abbrev pub place_for : ℕ → ℕ → Option ℕ → Result ℕ Why
+place_for size n None = Err OutOfBounds
+place_for size n (Some at) =
+    if nat_le (at + n) size then if nat_eq (at % n) 0 then Ok at else Err Misaligned else Err OutOfBounds

@@ -1,0 +1,167 @@
+ghost use Rattle.std.specs.Prelude.{◌≡◌, ◌+◌, ◌≤◌, drop};
+ghost use Rattle.scx_semantics.specs.Outside.{parameters, helper_at};
+ghost use Rattle.scx_abs.specs.Calls.{key_in, key_check, task_check, map_check, number_check, takes, argument_check, arguments_check, without_arguments, after_call, element_of, answer_kind, call_allowed, call_rule};
+ghost use Rattle.scx_abs.specs.States.{kind_at};
+
+use crate::faults::Why;
+use crate::kinds::{CELL_BYTES, Cell, Kind, all_written};
+use crate::places::{element_size, place_for};
+use crate::rules::{Context, Next, goes_on};
+use crate::states::{AbsState, STACK_TOP};
+use scx_isa::{Helper, Parameter, Register, Size};
+use scx_maps::MapDefs;
+
+/// What flows on from a call: the helper is there, then it may be called here, then each argument is
+/// what it takes.
+pub(crate) fn call(state: &AbsState, number: i32, context: &Context) -> Result<Next, Why>
+    ensures { result ≡ call_rule context.now.defs context.now.callback (helper_at number) state.now }
+{
+    let Some(helper) = Helper::new(number) else {
+        return Err(Why::UnknownHelper);
+    };
+    if !helper.is_allowed(context.callback) {
+        return Err(Why::HelperNotHere);
+    }
+    call_allowed(state, helper, &context.defs)
+}
+
+/// What flows on from the call of a helper that may be called.
+fn call_allowed(state: &AbsState, helper: Helper, defs: &MapDefs) -> Result<Next, Why>
+    ensures { result ≡ call_allowed defs.now helper state.now }
+{
+    check_arguments(state, helper, 0, defs)?;
+    goes_on(after_call(
+        state,
+        answer_kind(helper, state.kind(Register::R1)),
+    ))
+}
+
+/// Checks the arguments of a helper from that one on, counted from 0.
+fn check_arguments(
+    state: &AbsState,
+    helper: Helper,
+    argument: usize,
+    defs: &MapDefs,
+) -> Result<(), Why>
+    ensures { result ≡ arguments_check defs.now state.now (drop argument (parameters helper)) (argument + 1) }
+{
+    let Some(parameter) = helper.parameter(argument) else {
+        return Ok(());
+    };
+    check_argument(state, parameter, state.registers[argument + 1], defs)?;
+    check_arguments(state, helper, argument + 1, defs)
+}
+
+/// Checks one argument.
+fn check_argument(
+    state: &AbsState,
+    parameter: Parameter,
+    kind: Kind,
+    defs: &MapDefs,
+) -> Result<(), Why>
+    ensures { result ≡ argument_check defs.now state.now parameter kind }
+{
+    if kind == Kind::Unusable {
+        return Err(Why::UnusableRegister);
+    }
+    match parameter {
+        Parameter::Map => check_map(kind),
+        Parameter::Key => check_key(state, kind, defs),
+        Parameter::Task => check_task(kind),
+        Parameter::Number => check_number(kind),
+    }
+}
+
+fn check_map(kind: Kind) -> Result<(), Why>
+    ensures { result ≡ map_check kind }
+{
+    match kind {
+        Kind::MapRef(_) => Ok(()),
+        _ => Err(Why::BadArgument),
+    }
+}
+
+fn check_task(kind: Kind) -> Result<(), Why>
+    ensures { result ≡ task_check kind }
+{
+    match kind {
+        Kind::Task => Ok(()),
+        Kind::TaskOrNull => Err(Why::NullNotTested),
+        _ => Err(Why::BadArgument),
+    }
+}
+
+fn check_number(kind: Kind) -> Result<(), Why>
+    ensures { result ≡ number_check kind }
+{
+    match kind {
+        Kind::Num => Ok(()),
+        _ => Err(Why::BadArgument),
+    }
+}
+
+/// A key is four bytes of the stack or of an element.
+#[tactic(auto, using(crate::proofs::Bytes::fits_cell))]
+fn check_key(state: &AbsState, kind: Kind, defs: &MapDefs) -> Result<(), Why>
+    ensures { result ≡ key_check defs.now state.now kind }
+{
+    match kind {
+        Kind::Stack(at) => {
+            let at = usize::from(place_for(STACK_TOP, Size::Word, Some(u64::from(at)))?);
+            key_in(state.cell(at / CELL_BYTES), at % CELL_BYTES)
+        }
+        Kind::Elem(map, at) => {
+            place_for(element_size(defs, map), Size::Word, Some(u64::from(at)))?;
+            Ok(())
+        }
+        Kind::ElemOrNull(_) => Err(Why::NullNotTested),
+        _ => Err(Why::BadArgument),
+    }
+}
+
+/// Four bytes of a cell, from one on, are known to hold numbers.
+fn key_in(cell: Cell, byte: usize) -> Result<(), Why>
+    requires { byte + 4 ≤ CELL_BYTES }
+    ensures { result ≡ key_in cell byte }
+{
+    if all_written(cell.written(), byte, 4) {
+        Ok(())
+    } else {
+        Err(Why::UnwrittenStack)
+    }
+}
+
+/// The state after a call that answered a value of that kind.
+fn after_call(state: &AbsState, answer: Kind) -> AbsState
+    ensures { result ≡ after_call state.now answer }
+{
+    let mut after = *state;
+    after.registers[1] = Kind::Unusable;
+    after.registers[2] = Kind::Unusable;
+    after.registers[3] = Kind::Unusable;
+    after.registers[4] = Kind::Unusable;
+    after.registers[5] = Kind::Unusable;
+    after.registers[0] = answer;
+    after
+}
+
+/// The kind of a helper's answer, by that of its first argument.
+fn answer_kind(helper: Helper, first: Kind) -> Kind
+    ensures { result ≡ answer_kind helper first }
+{
+    match helper {
+        Helper::MapLookupElem => element_of(first),
+        Helper::TaskByPid => Kind::TaskOrNull,
+        _ => Kind::Num,
+    }
+}
+
+/// An element of the map, or 0.
+fn element_of(map: Kind) -> Kind
+    ensures { result ≡ element_of map }
+{
+    match map {
+        Kind::MapRef(map) => Kind::ElemOrNull(map),
+        _ => Kind::Unusable,
+    }
+}

@@ -1,0 +1,54 @@
+ghost use Rattle.std.specs.Prelude.{◌≡◌, ◌≤◌, IfOk};
+ghost use Rattle.scx_semantics.specs.Arithmetic.{shifted};
+ghost use Rattle.scx_semantics.specs.Memory.{size_bytes};
+ghost use Rattle.scx_abs.specs.Areas.{IsPlace};
+ghost use Rattle.scx_abs.specs.Checks.{element_size, place_within, place_for};
+
+use crate::faults::Why;
+use scx_isa::Size;
+use scx_maps::MapDefs;
+
+/// How many bytes the elements of a map have; none where the map isn't there.
+pub(crate) fn element_size(defs: &MapDefs, map: u8) -> u16
+    ensures { result ≡ element_size defs.now map }
+{
+    match defs.shape(map) {
+        Some(shape) => shape.value_size as u16,
+        None => 0,
+    }
+}
+
+/// The place that far on, or back; `None` below 0.
+pub(crate) fn shifted(at: u16, distance: i64) -> Option<u64>
+    ensures { result ≡ shifted at distance }
+{
+    let length = distance.unsigned_abs();
+    if distance < 0 {
+        u64::from(at).checked_sub(length)
+    } else {
+        Some(u64::from(at) + length)
+    }
+}
+
+/// The place, if it lies in so many bytes of memory or is the one behind the last.
+pub(crate) fn place_within(bytes: u16, at: Option<u64>) -> Result<u16, Why>
+    ensures { result ≡ place_within bytes at }
+{
+    match at {
+        Some(at) if at <= u64::from(bytes) => Ok(at as u16),
+        _ => Err(Why::OutOfBounds),
+    }
+}
+
+/// The place, if an access of that size there lies in so many bytes of memory and is aligned.
+pub(crate) fn place_for(bytes: u16, size: Size, at: Option<u64>) -> Result<u16, Why>
+    ensures place { result ≡ place_for bytes (size_bytes size) at }
+    ensures room { IfOk result (IsPlace bytes (size_bytes size)) }
+{
+    let step = u64::from(size.bytes());
+    match (at, u64::from(bytes).checked_sub(step)) {
+        (Some(at), Some(last)) if at <= last && at % step == 0 => Ok(at as u16),
+        (Some(at), Some(last)) if at <= last => Err(Why::Misaligned),
+        _ => Err(Why::OutOfBounds),
+    }
+}
