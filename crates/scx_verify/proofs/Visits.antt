@@ -3,7 +3,7 @@ use Rattle.std.proofs.Common.{◌≡◌, ℕ, zero, suc, ◌+◌, ◌<◌, ◌�
 use Rattle.std.proofs.lemmas.Bool.{cases_eq}
 use Rattle.std.proofs.lemmas.List.{length-set, length-replicate, get_or-set_same, get_or-set_other, get_or_read}
 use Rattle.scx_semantics.specs.declared.instructions.Insn.{Insn}
-use Rattle.scx_semantics.specs.declared.callbacks.Callback.{Callback}
+use Rattle.scx_abs.specs.declared.rules.Context.{Context}
 use Rattle.scx_semantics.specs.Code.{Code, at, size}
 use Rattle.scx_semantics.specs.Steps.{target}
 use Rattle.scx_isa.specs.Flow.{Flows}
@@ -30,7 +30,7 @@ sent_forward : (code : Code) (s t : ℕ) (i : Insn) (next : Next) (a : AbsState)
 sent_forward code s t i next a l (inl h) = omega (arith, h.1, size-positive i)
 sent_forward code s t i next a l (inr h) = omega (arith, same_slot l.slot t (sym l.is ∙ h.1), l.forward)
 
-flows_forward : (c : Callback) (code : Code) (states : States) (s t : ℕ) (a : AbsState) → Flows code → FlowsTo c code states s t a → s < t
+flows_forward : (c : Context) (code : Code) (states : States) (s t : ℕ) (a : AbsState) → Flows code → FlowsTo c code states s t a → s < t
 flows_forward c code states s t a flows f = sent_forward code s t f.insn f.next a (lands code s f.insn (flows s f.insn f.there)) f.sent
 
 -- ---- before the first slot
@@ -43,16 +43,16 @@ blank zero t = refl
 blank (suc n) zero = refl
 blank (suc n) (suc t) = blank n t
 
-first_least : (c : Callback) (code : Code) (states : States) (t : ℕ) → (t ≡ 0) ⊎ (t ≡ 0 → ⊥) → (t ≡ 0 → states t ≡ Some (start_of c)) → ((t ≡ 0 → ⊥) → states t ≡ None)
+first_least : (c : Context) (code : Code) (states : States) (t : ℕ) → (t ≡ 0) ⊎ (t ≡ 0 → ⊥) → (t ≡ 0 → states t ≡ Some (start_of c.callback)) → ((t ≡ 0 → ⊥) → states t ≡ None)
     → IsLeast (states t) (Arrives c code states 0 t)
 first_least c code states t (inl e) some none = subst (λ o. IsLeast o (Arrives c code states 0 t)) (sym (some e)) (record {
   covers = covers;
-  least = λ y h. h (start_of c) (inl (e, refl));
-  some = (start_of c, inl (e, refl));
+  least = λ y h. h (start_of c.callback) (inl (e, refl));
+  some = (start_of c.callback, inl (e, refl));
 })
   where
-    covers : (a : AbsState) → Arrives c code states 0 t a → CoversState (start_of c) a
-    covers a (inl h) = rw h.1 (covers_itself (start_of c))
+    covers : (a : AbsState) → Arrives c code states 0 t a → CoversState (start_of c.callback) a
+    covers a (inl h) = rw h.1 (covers_itself (start_of c.callback))
     covers a (inr h) = absurd (omega (arith, h.1))
 first_least c code states t (inr n) some none = subst (λ o. IsLeast o (Arrives c code states 0 t)) (sym (none n)) nothing
   where
@@ -60,22 +60,22 @@ first_least c code states t (inr n) some none = subst (λ o. IsLeast o (Arrives 
     nothing a (inl h) = n h.0
     nothing a (inr h) = omega (arith, h.1)
 
-pub visited_none : (c : Callback) (code : Code) (slots : ℕ) → 0 < slots → slots ≡ length code → IsVisited c code 0 (set (replicate slots no_state) 0 (Some (start_of c)))
+pub visited_none : (c : Context) (code : Code) (slots : ℕ) → 0 < slots → slots ≡ length code → IsVisited c code 0 (set (replicate slots no_state) 0 (Some (start_of c.callback)))
 visited_none c code slots some e =
     let none : List (Option AbsState) = replicate slots no_state in
-    let states : List (Option AbsState) = set none 0 (Some (start_of c)) in
+    let states : List (Option AbsState) = set none 0 (Some (start_of c.callback)) in
     let long : length none ≡ slots = length-replicate slots no_state in
     record {
-      long = length-set none 0 (Some (start_of c)) ∙ long ∙ e;
+      long = length-set none 0 (Some (start_of c.callback)) ∙ long ∙ e;
       least = λ t. first_least c code (states_of states) t (cases_eq t 0)
-          (λ z. ap (λ i. slice_index_or states i no_state) z ∙ get_or-set_same none 0 (Some (start_of c)) no_state (omega (arith, long, some)))
-          (λ n. get_or-set_other none 0 t (Some (start_of c)) no_state n ∙ blank slots t);
+          (λ z. ap (λ i. slice_index_or states i no_state) z ∙ get_or-set_same none 0 (Some (start_of c.callback)) no_state (omega (arith, long, some)))
+          (λ n. get_or-set_other none 0 t (Some (start_of c.callback)) no_state n ∙ blank slots t);
       passes = λ s i a lt there here. absurd (omega (arith, lt));
     }
 
 -- ---- one slot on, where nothing flows from the slot
 
-arrives_skip : (c : Callback) (code : Code) (states : States) (s t : ℕ) (a : AbsState) → ((b : AbsState) → FlowsTo c code states s t b → ⊥) → Arrives c code states (s + 1) t a → Arrives c code states s t a
+arrives_skip : (c : Context) (code : Code) (states : States) (s t : ℕ) (a : AbsState) → ((b : AbsState) → FlowsTo c code states s t b → ⊥) → Arrives c code states (s + 1) t a → Arrives c code states s t a
 arrives_skip c code states s t a none (inl h) = inl h
 arrives_skip c code states s t a none (inr h) = go (cases_eq h.0 s)
   where
@@ -83,19 +83,19 @@ arrives_skip c code states s t a none (inr h) = go (cases_eq h.0 s)
     go (inl e) = absurd (none a (subst (λ v. FlowsTo c code states v t a) e h.2))
     go (inr n) = inr (h.0, omega (arith, h.1, n), h.2)
 
-arrives_later : (c : Callback) (code : Code) (states : States) (s t : ℕ) (a : AbsState) → Arrives c code states s t a → Arrives c code states (s + 1) t a
+arrives_later : (c : Context) (code : Code) (states : States) (s t : ℕ) (a : AbsState) → Arrives c code states s t a → Arrives c code states (s + 1) t a
 arrives_later c code states s t a (inl h) = inl h
 arrives_later c code states s t a (inr h) = inr (h.0, omega (arith, h.1), h.2)
 
-passes_skip : (c : Callback) (code : Code) (states : States) (s : ℕ) → PassesBefore c code states s → ((i : Insn) (a : AbsState) → at code s ≡ Some i → states s ≡ Some a → (next : Next) × (rule c i a ≡ Ok next))
+passes_skip : (c : Context) (code : Code) (states : States) (s : ℕ) → PassesBefore c code states s → ((i : Insn) (a : AbsState) → at code s ≡ Some i → states s ≡ Some a → (next : Next) × (rule c.defs c.callback i a ≡ Ok next))
     → PassesBefore c code states (s + 1)
 passes_skip c code states s before now v i a lt there here = go (cases_eq v s)
   where
-    go : (v ≡ s) ⊎ (v ≡ s → ⊥) → (next : Next) × (rule c i a ≡ Ok next)
+    go : (v ≡ s) ⊎ (v ≡ s → ⊥) → (next : Next) × (rule c.defs c.callback i a ≡ Ok next)
     go (inl e) = now i a (rw e at there) (rw e at here)
     go (inr n) = before v i a (omega (arith, lt, n)) there here
 
-pub visited_skip : (c : Callback) (code : Code) (s : ℕ) (states : List (Option AbsState)) → IsVisited c code s states → ((i : Insn) (a : AbsState) → at code s ≡ Some i → states_of states s ≡ Some a → ⊥)
+pub visited_skip : (c : Context) (code : Code) (s : ℕ) (states : List (Option AbsState)) → IsVisited c code s states → ((i : Insn) (a : AbsState) → at code s ≡ Some i → states_of states s ≡ Some a → ⊥)
     → IsVisited c code (s + 1) states
 visited_skip c code s states h none = record {
   long = h.long;
@@ -124,27 +124,27 @@ same_next : (n k : Next) → ok n ≡ ok k → n ≡ k
 same_next n k e = cc
 
 -- what an instruction at the slot lets flow on
-record Sends (c : Callback) (code : Code) (states : States) (s : ℕ) (i : Insn) (a : AbsState) (next : Next) : Type 0 where
+record Sends (c : Context) (code : Code) (states : States) (s : ℕ) (i : Insn) (a : AbsState) (next : Next) : Type 0 where
   there : at code s ≡ Some i
   here : states s ≡ Some a
-  passes : rule c i a ≡ ok next
+  passes : rule c.defs c.callback i a ≡ ok next
 
-flows_sent : (c : Callback) (code : Code) (states : States) (s v t : ℕ) (i : Insn) (a b : AbsState) (next : Next) → Sends c code states s i a next → v ≡ s → FlowsTo c code states v t b → IsSent s i next t b
+flows_sent : (c : Context) (code : Code) (states : States) (s v t : ℕ) (i : Insn) (a b : AbsState) (next : Next) → Sends c code states s i a next → v ≡ s → FlowsTo c code states v t b → IsSent s i next t b
 flows_sent c code states s v t i a b next sends e f =
     let insn : f.insn ≡ i = same_insn f.insn i (sym f.there ∙ ap (λ u. at code u) e ∙ sends.there) in
     let state : f.state ≡ a = same_state f.state a (sym f.here ∙ ap states e ∙ sends.here) in
-    let out : f.next ≡ next = same_next f.next next (sym f.passes ∙ ap (λ j. rule c j f.state) insn ∙ ap (λ d. rule c i d) state ∙ sends.passes) in
+    let out : f.next ≡ next = same_next f.next next (sym f.passes ∙ ap (λ j. rule c.defs c.callback j f.state) insn ∙ ap (λ d. rule c.defs c.callback i d) state ∙ sends.passes) in
     sent_same s v t i f.insn next f.next b e insn out f.sent
 
 -- the same instruction in states that are the same there
-flows_same : (c : Callback) (code : Code) (states other : States) (v t : ℕ) (a : AbsState) → other v ≡ states v → FlowsTo c code states v t a → FlowsTo c code other v t a
+flows_same : (c : Context) (code : Code) (states other : States) (v t : ℕ) (a : AbsState) → other v ≡ states v → FlowsTo c code states v t a → FlowsTo c code other v t a
 flows_same c code states other v t a e f = record { insn = f.insn; state = f.state; next = f.next; there = f.there; here = e ∙ f.here; passes = f.passes; sent = f.sent }
 
 -- what arrives once both are sent
-abbrev Sent : Callback → Code → States → ℕ → Insn → Next → ℕ → ℕ → AbsState → Type 0
+abbrev Sent : Context → Code → States → ℕ → Insn → Next → ℕ → ℕ → AbsState → Type 0
 Sent c code states s i next target u b = (Arrives c code states s u b ⊎ ((next.on ≡ Some b) × (u ≡ s + size i))) ⊎ ((next.jump ≡ Some b) × (u ≡ target))
 
-module _ (c : Callback) (code : Code) (states other : States) (s : ℕ) (i : Insn) (a : AbsState) (next : Next) (to : ℕ) where
+module _ (c : Context) (code : Code) (states other : States) (s : ℕ) (i : Insn) (a : AbsState) (next : Next) (to : ℕ) where
   sent_arrives : Sends c code states s i a next → target s i ≡ Some to → ((v : ℕ) → v ≤ s → other v ≡ states v) → (u : ℕ) (b : AbsState) → Sent c code states s i next to u b → Arrives c code other (s + 1) u b
   sent_arrives sends is same u b (inl (inl (inl h))) = inl h
   sent_arrives sends is same u b (inl (inl (inr h))) = inr (h.0, omega (arith, h.1), flows_same c code states other h.0 u b (same h.0 (omega (arith, h.1))) h.2)
@@ -169,8 +169,8 @@ module _ (c : Callback) (code : Code) (states other : States) (s : ℕ) (i : Ins
           let old = flows_same c code other states h.0 u b (sym (same h.0 (omega (arith, h.1)))) h.2 in
           inl (inl (inr (h.0, omega (arith, h.1, n), old)))
 
-pub visited_more : (c : Callback) (code : Code) (s : ℕ) (states between after : List (Option AbsState)) (i : Insn) (a : AbsState) (next : Next) (to : ℕ)
-    → IsProgram code → Flows code → IsVisited c code s states → at code s ≡ Some i → states_of states s ≡ Some a → rule c i a ≡ Ok next → target s i ≡ Some to
+pub visited_more : (c : Context) (code : Code) (s : ℕ) (states between after : List (Option AbsState)) (i : Insn) (a : AbsState) (next : Next) (to : ℕ)
+    → IsProgram code → Flows code → IsVisited c code s states → at code s ≡ Some i → states_of states s ≡ Some a → rule c.defs c.callback i a ≡ Ok next → target s i ≡ Some to
     → IsGiven states (s + size i) next.on between → IsGiven between to next.jump after → IsVisited c code (s + 1) after
 visited_more c code s states between after i a next to program flow h there here passes is on jump =
     let faultless = flow s i there in
@@ -191,13 +191,13 @@ visited_more c code s states between after i a next to program flow h there here
           (λ b p. arrives_sent c code (states_of states) (states_of after) s i a next to sends is same u b p) (second u);
       passes = passes_skip c code (states_of after) s
           (λ v j b lt t k. h.passes v j b lt t (sym (same v (omega (arith, lt))) ∙ k))
-          (λ j b t k. (next, ap (λ d. rule c j d) (same_state b a (sym k ∙ same s (omega arith) ∙ here)) ∙ ap (λ e. rule c e a) (same_insn j i (sym t ∙ there)) ∙ passes));
+          (λ j b t k. (next, ap (λ d. rule c.defs c.callback j d) (same_state b a (sym k ∙ same s (omega arith) ∙ here)) ∙ ap (λ e. rule c.defs c.callback e a) (same_insn j i (sym t ∙ there)) ∙ passes));
     }
 
 -- ---- a refusal
 
-pub visited_refuses : (c : Callback) (code : Code) (s : ℕ) (states : List (Option AbsState)) (i : Insn) (a : AbsState) (why : Why) → Flows code → IsVisited c code s states
-    → at code s ≡ Some i → states_of states s ≡ Some a → rule c i a ≡ Err why → IsFirstRefusal c code why s
+pub visited_refuses : (c : Context) (code : Code) (s : ℕ) (states : List (Option AbsState)) (i : Insn) (a : AbsState) (why : Why) → Flows code → IsVisited c code s states
+    → at code s ≡ Some i → states_of states s ≡ Some a → rule c.defs c.callback i a ≡ Err why → IsFirstRefusal c code why s
 visited_refuses c code s states i a why flow h there here fails = record {
   states = states_of states;
   forward = λ t le. least_same (states_of states t) (Arrives c code (states_of states) s t) (Arrives c code (states_of states) t t) (λ b p. nearer t b p) (λ b p. farther t le b p) (h.least t);
@@ -239,17 +239,17 @@ least_covers : (o : Option AbsState) (P : AbsState → Type 0) (a : AbsState) �
 least_covers None P a h p = absurd (h a p)
 least_covers (Some x) P a h p = h.covers a p
 
-pub visited_all : (c : Callback) (code : Code) (n : ℕ) (states : List (Option AbsState)) → Flows code → length code ≤ n → IsVisited c code n states → IsTyped c code
+pub visited_all : (c : Context) (code : Code) (n : ℕ) (states : List (Option AbsState)) → Flows code → length code ≤ n → IsVisited c code n states → IsTyped c code
 visited_all c code n states flow all h = record {
   flows = flow;
   states = states_of states;
   typing = record {
-    start = least_covers (states_of states 0) (Arrives c code (states_of states) n 0) (start_of c) (h.least 0) (inl (refl, refl));
+    start = least_covers (states_of states 0) (Arrives c code (states_of states) n 0) (start_of c.callback) (h.least 0) (inl (refl, refl));
     insns = λ s i a there here. passes s i a there here;
   };
 }
   where
-    covered : (s t : ℕ) (i : Insn) (a b : AbsState) (next : Next) → at code s ≡ Some i → states_of states s ≡ Some a → rule c i a ≡ Ok next → IsSent s i next t b → CoversSome (states_of states t) b
+    covered : (s t : ℕ) (i : Insn) (a b : AbsState) (next : Next) → at code s ≡ Some i → states_of states s ≡ Some a → rule c.defs c.callback i a ≡ Ok next → IsSent s i next t b → CoversSome (states_of states t) b
     covered s t i a b next there here e sent =
         least_covers (states_of states t) (Arrives c code (states_of states) n t) b (h.least t)
         (inr (s, omega (arith, at_within code s i there, all), record { insn = i; state = a; next = next; there = there; here = here; passes = e; sent = sent }))

@@ -1,7 +1,7 @@
 -- One pass over the slots in order, as far as it has come: the states that it keeps are the least that
 -- cover all that flows there from the slots that it has visited.
 use Rattle.std.specs.Prelude.{ℕ, ◌≡◌, List, length, set, slice_index_or, Option, Some, None}
-use Rattle.scx_semantics.specs.declared.callbacks.Callback.{Callback}
+use Rattle.scx_abs.specs.declared.rules.Context.{Context}
 use Rattle.scx_semantics.specs.Code.{Code}
 use Rattle.scx_abs.specs.declared.states.AbsState.{AbsState}
 use Rattle.scx_abs.specs.States.{IsLeastCover}
@@ -13,7 +13,7 @@ abbrev pub states_of : List (Option AbsState) → States
 states_of states s = slice_index_or states s None
 
 -- the slots before the n-th were visited
-pub record IsVisited (c : Callback) (code : Code) (n : ℕ) (states : List (Option AbsState)) : Type 0 where
+pub record IsVisited (c : Context) (code : Code) (n : ℕ) (states : List (Option AbsState)) : Type 0 where
   pub long : length states ≡ length code
   pub least : (t : ℕ) → IsLeast (states_of states t) (Arrives c code (states_of states) n t)
   pub passes : PassesBefore c code (states_of states) n

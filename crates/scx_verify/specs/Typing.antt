@@ -1,9 +1,11 @@
 -- Typings of a program: an abstract state, or none, for each slot, such that the first one covers the
 -- state in which the callback begins, each instruction with a state passes all of its checks, and what
 -- flows on from it is covered where it goes.
-use Rattle.std.specs.Prelude.{ℕ, ◌+◌, ◌≡◌, Option, Some, None, Ok}
+use Rattle.std.specs.Prelude.{ℕ, ◌+◌, ◌≡◌, List, Option, Some, None, Ok}
 use Rattle.scx_semantics.specs.declared.instructions.Insn.{Insn}
 use Rattle.scx_semantics.specs.declared.callbacks.Callback.{Callback}
+use Rattle.scx_maps.specs.declared.shape.Shape.{Shape}
+use Rattle.scx_abs.specs.declared.rules.Context.{Context}
 use Rattle.scx_semantics.specs.Code.{Code, at, size}
 use Rattle.scx_semantics.specs.Steps.{target}
 use Rattle.scx_isa.specs.Flow.{Flows}
@@ -31,22 +33,26 @@ pub record CoversNext (states : States) (s : ℕ) (i : Insn) (next : Next) : Typ
   pub jump : (a : AbsState) → next.jump ≡ Some a → CoversAt states (target s i) a
 
 -- what flows on from an instruction whose checks all pass is covered
-pub record Passes (c : Callback) (states : States) (s : ℕ) (i : Insn) (a : AbsState) : Type 0 where
+pub record Passes (c : Context) (states : States) (s : ℕ) (i : Insn) (a : AbsState) : Type 0 where
   pub next : Next
-  pub passes : rule c i a ≡ Ok next
+  pub passes : rule c.defs c.callback i a ≡ Ok next
   pub covered : CoversNext states s i next
 
-pub record IsTyping (c : Callback) (code : Code) (states : States) : Type 0 where
-  pub start : CoversSome (states 0) (start_of c)
+pub record IsTyping (c : Context) (code : Code) (states : States) : Type 0 where
+  pub start : CoversSome (states 0) (start_of c.callback)
   pub insns : (s : ℕ) (i : Insn) (a : AbsState) → at code s ≡ Some i → states s ≡ Some a → Passes c states s i a
 
 -- the program's flow has no fault, and it has a typing
-pub record IsTyped (c : Callback) (code : Code) : Type 0 where
+pub record IsTyped (c : Context) (code : Code) : Type 0 where
   pub flows : Flows code
   pub states : States
   pub typing : IsTyping c code states
 
--- a verified program as contracts see it: its slots, and what it is run as
+-- what a program is run as, and the shapes of its maps
+abbrev pub context : Callback → List Shape → Context
+context callback shapes = record { callback = callback; defs = shapes }
+
+-- a verified program as contracts see it: its slots, what it is run as, and the shapes of its maps
 pub record VerifiedProgram : Type 0 where
   pub code : Code
-  pub callback : Callback
+  pub context : Context

@@ -1,22 +1,25 @@
 ghost use Rattle.std.specs.Prelude.{◌≡◌, IfOk, OnOk, IfErr};
 ghost use Rattle.scx_semantics.specs.Code.{instruction_count};
-ghost use Rattle.scx_verify.specs.Typing.{IsTyped};
+ghost use Rattle.scx_verify.specs.Typing.{IsTyped, context};
 ghost use Rattle.scx_verify.specs.Safe.{IsSafe};
 ghost use Rattle.scx_verify.specs.Faults.{IsRefusal};
 
 use crate::faults::VerifyError;
 use crate::pass::pass;
+use scx_abs::Context;
 use scx_isa::{Callback, Program, flow};
+use scx_maps::MapDefs;
 use std::alloc::Global;
 use std::marker::Model;
 
-/// A program that `verify` accepted, which alone makes one: it is safe as that callback.
+/// A program that `verify` accepted, which alone makes one: it is safe as that callback, with maps of
+/// those shapes.
 ///
-/// In a contract it is the list of the program's slots and the callback.
+/// In a contract it is the list of the program's slots, the callback and the shapes.
 #[derive(Debug, Drop)]
 pub struct Verified {
     program: Program,
-    callback: Callback,
+    context: Context,
 }
 
 impl Model for Verified {
@@ -25,17 +28,24 @@ impl Model for Verified {
 
     ghost Value = { VerifiedProgram };
 
-    ghost view = { λ v. record { code = v.program; callback = v.callback } };
+    ghost view = { λ v. record { code = v.program; context = v.context } };
 
-    ghost invariant = { λ v. IsTyped v.callback v.program × IsSafe v.callback v.program };
+    ghost invariant = { λ v. IsTyped v.context v.program × IsSafe v.context v.program };
 }
 
 impl Verified {
     /// What the program was verified for.
     pub fn callback(&self) -> Callback
-        ensures { result ≡ self.now.callback }
+        ensures { result ≡ self.now.context.callback }
     {
-        self.callback
+        self.context.callback
+    }
+
+    /// The shapes of the maps that it was verified for.
+    pub fn defs(&self) -> &MapDefs
+        ensures { result.now ≡ self.now.context.defs }
+    {
+        &self.context.defs
     }
 
     /// How many instructions it has, which is as many steps as a run of it takes at most.
@@ -48,28 +58,38 @@ impl Verified {
     /// The program itself.
     pub fn program(&self) -> &Program
         ensures program { result.now ≡ self.now.code }
-        ensures typed { IsTyped self.now.callback self.now.code }
-        ensures safe { IsSafe self.now.callback self.now.code }
+        ensures typed { IsTyped self.now.context self.now.code }
+        ensures safe { IsSafe self.now.context self.now.code }
     {
         &self.program
     }
 }
 
-/// Verifies a program for a callback: asks `flow`, and then goes over the slots once, in order.
+/// Verifies a program for a callback and maps of these shapes: asks `flow`, and then goes over the
+/// slots once, in order.
 ///
 /// The first faulty instruction is refused, with the first of its checks that fails. An instruction
 /// that nothing leads to is looked at by `flow` alone.
-pub fn verify(alloc: Global, program: Program, callback: Callback) -> Result<Verified, VerifyError>
-    // What is accepted is that program, for that callback.
+pub fn verify(
+    alloc: Global,
+    program: Program,
+    callback: Callback,
+    defs: &MapDefs,
+) -> Result<Verified, VerifyError>
+    // What is accepted is that program, for that callback and those maps.
     ensures program { IfOk result (λ verified. verified.code ≡ program) }
-    ensures callback { IfOk result (λ verified. verified.callback ≡ callback) }
+    ensures context { IfOk result (λ verified. verified.context ≡ context callback defs.now) }
     // It has a typing, and so it is safe.
-    ensures typed { OnOk result (IsTyped callback program) }
-    ensures safe { OnOk result (IsSafe callback program) }
+    ensures typed { OnOk result (IsTyped (context callback defs.now) program) }
+    ensures safe { OnOk result (IsSafe (context callback defs.now) program) }
     // What is refused has that fault first, at that slot.
-    ensures refused { IfErr result (IsRefusal callback program) }
+    ensures refused { IfErr result (IsRefusal (context callback defs.now) program) }
 {
+    let context = Context {
+        callback,
+        defs: *defs,
+    };
     flow(&program)?;
-    pass(alloc, &program, callback)?;
-    Ok(Verified { program, callback })
+    pass(alloc, &program, &context)?;
+    Ok(Verified { program, context })
 }

@@ -1,5 +1,6 @@
 use crate::verify;
 use scx_isa::{Callback, decode};
+use scx_maps::MapDefs;
 use std::alloc::{AllocError, Global};
 use std::process::Abort;
 use std::test::Fail;
@@ -31,7 +32,7 @@ fn bytes_of(alloc: Global, slots: &[u64]) -> Result<Vec<u8>, AllocError> {
     Ok(bytes)
 }
 
-/// Verifies the slots for the callback, and compares the verdict.
+/// Verifies the slots for the callback, with no maps, and compares the verdict.
 fn expect_as<R: AllocGlobal + Abort>(
     rt: &R,
     callback: Callback,
@@ -40,7 +41,8 @@ fn expect_as<R: AllocGlobal + Abort>(
 ) -> Result<(), Fail> {
     let bytes = bytes_of(rt.alloc(), slots)?;
     let program = decode(rt.alloc(), bytes.as_slice()).expect(rt, "the slots spell a program");
-    let found = match verify(rt.alloc(), program, callback) {
+    let defs = MapDefs::new(&[]).expect(rt, "no maps are within the limits");
+    let found = match verify(rt.alloc(), program, callback, &defs) {
         Ok(verified) => format!(in rt.alloc(); "ok {}", verified.instructions())?,
         Err(error) => format!(in rt.alloc(); "{error}")?,
     };
@@ -161,10 +163,12 @@ fn checks_jumps(rt: HostRuntime) -> Result<(), Fail> {
 }
 
 #[test]
-fn knows_no_helpers_and_no_maps(rt: HostRuntime) -> Result<(), Fail> {
-    // call 1
+fn knows_no_maps_without_shapes(rt: HostRuntime) -> Result<(), Fail> {
+    // call 1, which a plain program may not call, and call 77, which isn't there
     let call = [0x8500_0000_0100_0000, EXIT];
-    expect(&rt, &call, "verify 15 UnknownHelper at 0")?;
+    expect(&rt, &call, "verify 16 HelperNotHere at 0")?;
+    let unknown = [0x8500_0000_4d00_0000, EXIT];
+    expect(&rt, &unknown, "verify 15 UnknownHelper at 0")?;
     // r1 = map 0, and r10 = map 0
     let map = [0x1851_0000_0000_0000, 0, EXIT];
     expect(&rt, &map, "verify 19 UnknownMap at 0")?;
