@@ -4,3 +4,4 @@ pub mod Layout
 pub mod Plans
 pub mod Reading
 pub mod Printing
+pub mod Laws

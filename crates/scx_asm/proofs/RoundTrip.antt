@@ -1,0 +1,94 @@
+-- The canonical text of a program is read as that program.
+use Rattle.std.proofs.Common.{◌≡◌, ◌⊎◌, inl, inr, ℕ, suc, ◌+◌, ◌<◌, ◌≤◌, Bool, true, false, nat_eq, List, [], ◌∷◌, ◌++◌, length, map, Option, Some, None, Result, Ok, Err, refl, sym, ap, subst, ◌∙◌, append_assoc, arith}
+use Rattle.std.proofs.lemmas.Bool.{ne_eqb}
+use Rattle.std.specs.List.{AllByRecursion}
+use Rattle.std.specs.Str.Lines.{lines}
+use Rattle.scx_semantics.specs.declared.instructions.Insn.{Insn}
+use Rattle.scx_semantics.specs.Code.{Code, is_wide, size}
+use Rattle.scx_encoding.specs.Spelling.{IsInsn}
+use Rattle.scx_isa.specs.Spelling.{IsCode, IsProgram, max_slots}
+use Rattle.scx_text.specs.Canonical.{insn_text}
+use Rattle.scx_asm.specs.declared.faults.AsmFault.{AsmFault}
+use Rattle.scx_asm.specs.declared.faults.AsmError.{AsmError}
+use Rattle.scx_asm.specs.declared.faults.AsmError.TheVariants.{Refused, OutOfMemory}
+use Rattle.scx_asm.specs.Layout.{◌>>=◌, Plan, nothing, planned, Gives}
+use Rattle.scx_asm.specs.Reading.{built, finished, read_insns, read_text, insn_places, code_of}
+use Rattle.scx_asm.specs.Printing.{place_text, program_text}
+use Rattle.scx_asm.proofs.MeaningBack.{sizes, drafts_of, planned_as, built_as}
+use Rattle.scx_asm.proofs.LinesBack.{lines_text, lines_again}
+
+insns_of : Code → List Insn
+insns_of [] = []
+insns_of (None ∷ code) = insns_of code
+insns_of (Some i ∷ code) = i ∷ insns_of code
+
+text_again : (code : Code) → program_text code ≡ lines_text (insns_of code)
+unfolding insns_of
+text_again [] = refl
+text_again (None ∷ code) = text_again code
+text_again (Some i ∷ code) = ap (λ (x : List ℕ). place_text (Some i) ++ x) (text_again code)
+
+abbrev due : Bool → Code
+due true = None ∷ []
+due false = []
+
+code_again : (b : Bool) (code : Code) → IsCode b code → code ≡ due b ++ code_of (insns_of code)
+unfolding insns_of
+code_again false [] h = refl
+code_again true [] h = absurd h
+code_again false (None ∷ code) h = absurd h
+code_again true (Some i ∷ code) h = absurd h
+code_again true (None ∷ code) h = ap (λ (x : Code). None ∷ x) (code_again false code h)
+code_again false (Some i ∷ code) h = go (is_wide i) refl (code_again (is_wide i) code h.1)
+  where
+    go : (b : Bool) → is_wide i ≡ b → code ≡ due (is_wide i) ++ code_of (insns_of code) → Some i ∷ code ≡ code_of (i ∷ insns_of code)
+    go true w e = let rest : code ≡ None ∷ code_of (insns_of code) = rw w at e in rw w (ap (λ (x : Code). Some i ∷ x) rest)
+    go false w e = let rest : code ≡ code_of (insns_of code) = rw w at e in rw w (ap (λ (x : Code). Some i ∷ x) rest)
+
+all_fit : (b : Bool) (code : Code) → IsCode b code → AllByRecursion IsInsn (insns_of code)
+unfolding insns_of
+all_fit false [] h = tt
+all_fit true [] h = absurd h
+all_fit false (None ∷ code) h = absurd h
+all_fit true (Some i ∷ code) h = absurd h
+all_fit true (None ∷ code) h = all_fit false code h
+all_fit false (Some i ∷ code) h = (h.0, all_fit (is_wide i) code h.1)
+
+places_are : (i : Insn) (is : List Insn) → length (code_of (i ∷ is)) ≡ size i + length (code_of is)
+places_are i is = go (is_wide i) refl
+  where
+    go : (b : Bool) → is_wide i ≡ b → length (code_of (i ∷ is)) ≡ size i + length (code_of is)
+    go true w = rw w (omega arith)
+    go false w = rw w (omega arith)
+
+sizes_are : (is : List Insn) → length (code_of is) ≡ sizes is
+sizes_are [] = refl
+sizes_are (i ∷ is) = omega (arith, places_are i is, sizes_are is)
+
+finished_as : (is : List Insn) → AllByRecursion IsInsn is → 0 < sizes is → finished (record { slots = 0 + sizes is; labels = []; drafts = [] ++ drafts_of 1 0 is }) ≡ Ok is
+finished_as is h some =
+    let nonzero : nat_eq (0 + sizes is) 0 ≡ false = ne_eqb (0 + sizes is) 0 (λ e. omega arith) in
+    rw nonzero (built_as [] 1 0 is h)
+
+insns_again : (is : List Insn) → AllByRecursion IsInsn is → 0 < sizes is → sizes is ≤ max_slots → read_insns (lines_text is) ≡ Ok is
+insns_again is h some le =
+    let laid = planned_as 1 0 [] [] is h (omega arith) in
+    rw (lines_again is h, laid) (finished_as is h some)
+
+pub reads_back : (code : Code) → IsProgram code → read_text (program_text code) ≡ Ok code
+reads_back code h =
+    let is = insns_of code in
+    let fit = all_fit false code h.insns in
+    let same : code ≡ code_of is = code_again false code h.insns in
+    let total : length code ≡ sizes is = ap length same ∙ sizes_are is in
+    let read = insns_again is fit (omega (arith, total, h.some)) (omega (arith, total, h.fits)) in
+    rw (text_again code, read) (ap (λ (x : Code). Ok x) (sym same))
+
+-- an answer that gives what was read
+given : (code : Code) (answer : Result Code AsmError) (read : Result Code (AsmFault × ℕ)) → read ≡ Ok code → Gives (λ program. program) answer read → (answer ≡ Ok code) ⊎ (answer ≡ Err OutOfMemory)
+given code (Ok program) read e h = let same : program ≡ code = cc in inl (ap (λ (x : Code). Ok x) same)
+given code (Err (Refused fault line)) read e h = absurd (cc)
+given code (Err OutOfMemory) read e h = inr refl
+
+pub assembles_back : (code : Code) (answer : Result Code AsmError) → IsProgram code → Gives (λ program. program) answer (read_text (program_text code)) → (answer ≡ Ok code) ⊎ (answer ≡ Err OutOfMemory)
+assembles_back code answer h gives = given code answer (read_text (program_text code)) (reads_back code h) gives

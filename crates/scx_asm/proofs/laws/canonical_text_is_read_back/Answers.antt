@@ -1,0 +1,8 @@
+use Rattle.scx_asm.proofs.RoundTrip.{reads_back, assembles_back}
+use Rattle.scx_asm.proofs.laws.canonical_text_is_read_back.Goals as goal
+
+pub returns-clause-read : goal.returns-clause-read
+returns-clause-read c = reads_back
+
+pub returns-clause-assembled : goal.returns-clause-assembled
+returns-clause-assembled c = assembles_back

@@ -1,0 +1,8 @@
+ghost use Rattle.scx_asm.specs.Laws.{ReadsBack, AssemblesBack};
+
+/// What `disassemble` writes is read as the same program, and assembled to it where memory is found.
+/// The function does nothing: its contract is the law.
+pub fn canonical_text_is_read_back()
+    ensures read { ReadsBack }
+    ensures assembled { AssemblesBack }
+{}
