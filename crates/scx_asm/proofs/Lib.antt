@@ -11,3 +11,4 @@ pub mod ItemsBack
 pub mod LinesBack
 pub mod MeaningBack
 pub mod RoundTrip
+pub mod Standing
