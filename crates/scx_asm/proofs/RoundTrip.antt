@@ -1,20 +1,26 @@
 -- The canonical text of a program is read as that program.
 use Rattle.std.proofs.Common.{◌≡◌, ◌⊎◌, inl, inr, ℕ, suc, ◌+◌, ◌<◌, ◌≤◌, Bool, true, false, nat_eq, List, [], ◌∷◌, ◌++◌, length, map, Option, Some, None, Result, Ok, Err, refl, sym, ap, subst, ◌∙◌, append_assoc, arith}
 use Rattle.std.proofs.lemmas.Bool.{ne_eqb}
-use Rattle.std.specs.List.{AllByRecursion}
+use Rattle.std.specs.List.{AllByRecursion, IsDistinct}
+use Rattle.std.specs.Str.{bytes_eq}
 use Rattle.std.specs.Str.Lines.{lines}
 use Rattle.scx_semantics.specs.declared.instructions.Insn.{Insn}
 use Rattle.scx_semantics.specs.Code.{Code, is_wide, size}
 use Rattle.scx_encoding.specs.Spelling.{IsInsn}
 use Rattle.scx_isa.specs.Spelling.{IsCode, IsProgram, max_slots}
 use Rattle.scx_text.specs.Canonical.{insn_text}
+use Rattle.scx_text.specs.Items.{read_line}
+use Rattle.scx_asm.specs.Resolving.{Labels}
+use Rattle.scx_asm.specs.Standing.{definitions, names, StandsFor}
 use Rattle.scx_asm.specs.declared.faults.AsmFault.{AsmFault}
 use Rattle.scx_asm.specs.declared.faults.AsmError.{AsmError}
 use Rattle.scx_asm.specs.declared.faults.AsmError.TheVariants.{Refused, OutOfMemory}
 use Rattle.scx_asm.specs.Layout.{◌>>=◌, Plan, nothing, planned, Gives}
 use Rattle.scx_asm.specs.Reading.{built, finished, read_insns, read_text, insn_places, code_of}
 use Rattle.scx_asm.specs.Printing.{place_text, program_text}
-use Rattle.scx_asm.proofs.MeaningBack.{sizes, drafts_of, planned_as, built_as}
+use Rattle.scx_asm.proofs.ItemsBack.{line_as}
+use Rattle.scx_asm.proofs.MeaningBack.{defines_none, all_said, all_read}
+use Rattle.scx_asm.proofs.Standing.{read_as}
 use Rattle.scx_asm.proofs.LinesBack.{lines_text, lines_again}
 
 insns_of : Code → List Insn
@@ -54,35 +60,26 @@ all_fit true (Some i ∷ code) h = absurd h
 all_fit true (None ∷ code) h = all_fit false code h
 all_fit false (Some i ∷ code) h = (h.0, all_fit (is_wide i) code h.1)
 
-places_are : (i : Insn) (is : List Insn) → length (code_of (i ∷ is)) ≡ size i + length (code_of is)
-places_are i is = go (is_wide i) refl
-  where
-    go : (b : Bool) → is_wide i ≡ b → length (code_of (i ∷ is)) ≡ size i + length (code_of is)
-    go true w = rw w (omega arith)
-    go false w = rw w (omega arith)
-
-sizes_are : (is : List Insn) → length (code_of is) ≡ sizes is
-sizes_are [] = refl
-sizes_are (i ∷ is) = omega (arith, places_are i is, sizes_are is)
-
-finished_as : (is : List Insn) → AllByRecursion IsInsn is → 0 < sizes is → finished (record { slots = 0 + sizes is; labels = []; drafts = [] ++ drafts_of 1 0 is }) ≡ Ok is
-finished_as is h some =
-    let nonzero : nat_eq (0 + sizes is) 0 ≡ false = ne_eqb (0 + sizes is) 0 (λ e. omega arith) in
-    rw nonzero (built_as [] 1 0 is h)
-
-insns_again : (is : List Insn) → AllByRecursion IsInsn is → 0 < sizes is → sizes is ≤ max_slots → read_insns (lines_text is) ≡ Ok is
-insns_again is h some le =
-    let laid = planned_as 1 0 [] [] is h (omega arith) in
-    rw (lines_again is h, laid) (finished_as is h some)
-
-pub reads_back : (code : Code) → IsProgram code → read_text (program_text code) ≡ Ok code
-reads_back code h =
+-- the canonical text of a program stands for it
+stands : (code : Code) → IsProgram code → StandsFor (lines_text (insns_of code)) code
+unfolding IsDistinct
+stands code h =
     let is = insns_of code in
     let fit = all_fit false code h.insns in
-    let same : code ≡ code_of is = code_again false code h.insns in
-    let total : length code ≡ sizes is = ap length same ∙ sizes_are is in
-    let read = insns_again is fit (omega (arith, total, h.some)) (omega (arith, total, h.fits)) in
-    rw (text_again code, read) (ap (λ (x : Code). Ok x) (sym same))
+    let none : definitions 0 (map line_as is) ≡ [] = defines_none 0 is fit in
+    record {
+      says = map line_as is;
+      insns = is;
+      read = ap (λ (texts : List (List ℕ)). map read_line texts) (lines_again is fit) ∙ all_read is fit;
+      once = subst (λ (es : Labels). IsDistinct bytes_eq (names es)) (sym none) tt;
+      said = all_said (definitions 0 (map line_as is)) 0 is fit;
+      program = code_again false code h.insns;
+      some = h.some;
+      fits = h.fits;
+    }
+
+pub reads_back : (code : Code) → IsProgram code → read_text (program_text code) ≡ Ok code
+reads_back code h = rw (text_again code) (read_as (lines_text (insns_of code)) code (stands code h))
 
 -- an answer that gives what was read
 given : (code : Code) (answer : Result Code AsmError) (read : Result Code (AsmFault × ℕ)) → read ≡ Ok code → Gives (λ program. program) answer read → (answer ≡ Ok code) ⊎ (answer ≡ Err OutOfMemory)

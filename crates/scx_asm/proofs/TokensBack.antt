@@ -167,6 +167,9 @@ symbol_read near s (b ∷ bs) e =
 digit_apart : (d k : ℕ) → IsInRange 48 57 d → (48 ≤ k → k ≤ 57 → ⊥) → nat_eq k d ≡ false
 digit_apart d k h far = ne_eqb k d (λ e. far (omega (arith, h.0)) (omega (arith, h.1)))
 
+abbrev no_symbol : Option Symbol
+no_symbol = None
+
 digit_no_symbol : (d : ℕ) (rest : List ℕ) → IsInRange 48 57 d → symbol_at (d ∷ rest) ≡ None
 unfolding first_of
 digit_no_symbol d rest h =
@@ -188,7 +191,7 @@ digit_no_symbol d rest h =
     let e40 : nat_eq 40 d ≡ false = ne_eqb 40 d (λ e. omega arith) in
     let e41 : nat_eq 41 d ≡ false = ne_eqb 41 d (λ e. omega arith) in
     let e58 : nat_eq 58 d ≡ false = ne_eqb 58 d (λ e. omega arith) in
-    simp (e115, e60, e62, e43, e45, e42, e47, e124, e38, e94, e37, e61, e33, e40, e41, e58) refl
+    simp (e115, e60, e62, e43, e45, e42, e47, e124, e38, e94, e37, e61, e33, e40, e41, e58) (refl {a = no_symbol})
 
 is_digit : (d : ℕ) → IsInRange 48 57 d → is_ascii_digit d ≡ true
 is_digit d h = let low = h.0 in let high = h.1 in grind (arith, nat_tests)
