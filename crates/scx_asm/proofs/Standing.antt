@@ -18,10 +18,12 @@ use Rattle.scx_text.specs.Items.{Destination, Label, Distance, Line, Blank, Plac
 use Rattle.scx_asm.specs.declared.faults.AsmFault.{AsmFault}
 use Rattle.scx_asm.specs.declared.faults.AsmFault.TheVariants.{Syntax, UnknownLabel, TwiceLabel, OutOfRange, TooLong}
 use Rattle.scx_asm.specs.Resolving.{operand_of, short, insn_of, jump_of, distant, distance, fits, slots, ranged, Labels, find, to_label, resolved}
-use Rattle.scx_asm.specs.Layout.{◌>>=◌, Draft, Plan, nothing, located, with_label, with_draft, with_line, with_text, planned}
+use Rattle.scx_asm.specs.declared.faults.AsmError.{AsmError}
+use Rattle.scx_asm.specs.declared.faults.AsmError.TheVariants.{Refused, OutOfMemory}
+use Rattle.scx_asm.specs.Layout.{◌>>=◌, Draft, Plan, nothing, located, with_label, with_draft, with_line, with_text, planned, Gives, Fails}
 use Rattle.scx_asm.specs.Reading.{built, finished, read_insns, read_text, insn_places, code_of}
-use Rattle.scx_asm.specs.Standing.{defined, definitions, names, IsSaid, AreSaid, StandsFor}
-use Rattle.scx_asm.specs.Laws.{IsRight}
+use Rattle.scx_asm.specs.Standing.{defined, definitions, names, IsSaid, AreSaid, StandsFor, Answers}
+use Rattle.scx_asm.proofs.Written.{fails_on}
 use Rattle.scx_asm.proofs.Fitting.{bind_some, bind_ok, located_ok, ranged_ok, line_fits, assembled}
 
 -- ---- labels
@@ -426,15 +428,18 @@ read_was text code e =
       fits = subst (λ (code : Code). length code ≤ max_slots) same fine.fits;
     }
 
-pub reads_what_stands : (text : List ℕ) → IsRight text (read_text text)
-reads_what_stands text = go (read_text text) refl
+-- what gives what was read answers for the text
+pub answers : (text : List ℕ) (answer : Result Code AsmError) → Gives (λ program. program) answer (read_text text) → Answers text answer
+answers text (Ok code) e = read_was text code e
+answers text (Err (Refused fault line)) e = λ code h. none (sym e ∙ read_as text code h)
   where
-    go : (r : Result Code (AsmFault × ℕ)) → read_text text ≡ r → IsRight text r
-    go (Ok code) e = (read_was text code e, λ other h. only other code (sym (read_as text other h) ∙ e))
-      where
-        only : (a b : Code) → code_is a ≡ code_is b → a ≡ b
-        only a b e = cc
-    go (Err fault) e = λ code h. none (sym e ∙ read_as text code h)
-      where
-        none : {f : AsmFault × ℕ} {c : Code} → Err f ≡ code_is c → ⊥
-        none e = cc
+    none : {f : AsmFault × ℕ} {c : Code} → Err f ≡ code_is c → ⊥
+    none e = cc
+answers text (Err OutOfMemory) e = tt
+
+-- the same for the two ways in which the passes end
+pub answers_of : (text : List ℕ) (is : List Insn) (answer : Result Code AsmError) → read_insns text ≡ Ok is → Gives (λ program. program) answer (Ok (code_of is)) → Answers text answer
+answers_of text is answer e gives = answers text answer (rw e gives)
+
+pub refusal_of : (text : List ℕ) (error : AsmError) → Fails error (read_insns text) → Answers text (Err error)
+refusal_of text error fails = answers text (Err error) (fails_on error (read_insns text) fails)

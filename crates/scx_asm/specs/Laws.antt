@@ -2,7 +2,6 @@
 use Rattle.std.specs.Prelude.{◌≡◌, ℕ, List, ◌⊎◌, Result, Ok, Err}
 use Rattle.scx_semantics.specs.Code.{Code}
 use Rattle.scx_isa.specs.Spelling.{IsProgram}
-use Rattle.scx_asm.specs.declared.faults.AsmFault.{AsmFault}
 use Rattle.scx_asm.specs.declared.faults.AsmError.{AsmError}
 use Rattle.scx_asm.specs.declared.faults.AsmError.TheVariants.{OutOfMemory}
 use Rattle.scx_asm.specs.Layout.{Gives}
@@ -19,10 +18,6 @@ abbrev pub AssemblesBack : Type 0
 AssemblesBack =
     (code : Code) (answer : Result Code AsmError) → IsProgram code → Gives (λ program. program) answer (read_text (program_text code)) → (answer ≡ Ok code) ⊎ (answer ≡ Err OutOfMemory)
 
--- What is read is the one program that the text stands for; a text that is refused stands for none.
-abbrev pub IsRight : List ℕ → Result Code (AsmFault × ℕ) → Type 0
-IsRight text (Ok code) = StandsFor text code × ((other : Code) → StandsFor text other → other ≡ code)
-IsRight text (Err fault) = (code : Code) → StandsFor text code → ⊥
-
+-- The program that a text stands for is read, so it stands for no other.
 abbrev pub ReadsWhatStands : Type 0
-ReadsWhatStands = (text : List ℕ) → IsRight text (read_text text)
+ReadsWhatStands = (text : List ℕ) (code : Code) → StandsFor text code → read_text text ≡ Ok code

@@ -17,4 +17,4 @@ mod tests;
 pub use assembling::assemble;
 pub use disassembling::disassemble;
 pub use faults::{AsmError, AsmFault};
-pub use laws::{canonical_text_is_read_back, text_is_read_as_it_stands};
+pub use laws::canonical_text_is_read_back;
