@@ -1,6 +1,7 @@
 -- A text is read as the program that it stands for, and stands for the program that it is read as.
-use Rattle.std.proofs.Common.{◌≡◌, ℕ, zero, suc, ◌+◌, ◌<◌, ◌≤◌, ℤ, pos, Bool, true, false, nat_eq, nat_lt, is_some, List, [], ◌∷◌, ◌++◌, length, map, slice_index_or, Option, Some, None, Result, Ok, Err, ◌⊎◌, inl, inr, refl, sym, ap, subst, ◌∙◌, append_assoc, arith}
-use Rattle.std.proofs.lemmas.Bool.{ltb-false, le-ltb, ne_eqb, eqb-false}
+use Rattle.std.proofs.Common.{◌≡◌, ℕ, zero, suc, ◌+◌, ◌<◌, ◌≤◌, ℤ, pos, negsuc, ◌-ℤ◌, ◌^◌, ◌-◌, Bool, true, false, nat_eq, nat_lt, is_some, List, [], ◌∷◌, ◌++◌, length, map, slice_index_or, Option, Some, None, Result, Ok, Err, ◌⊎◌, inl, inr, refl, sym, ap, subst, ◌∙◌, append_assoc, arith}
+use Rattle.std.proofs.lemmas.Bool.{ltb-true, lt-ltb, ltb-false, le-ltb, ne_eqb, eqb-false}
+use Rattle.std.proofs.lemmas.Int.{ints}
 use Rattle.std.proofs.lemmas.List.{append-nil}
 use Rattle.std.proofs.lemmas.List.Elements.{Contains-append_cases, Contains-append_left, Contains-append_right}
 use Rattle.std.proofs.lemmas.Slice.Eq.{bytes_eq-Decides}
@@ -8,7 +9,10 @@ use Rattle.std.specs.List.{Contains, IsDistinct, AllByRecursion}
 use Rattle.std.specs.Str.{bytes_eq}
 use Rattle.std.specs.Str.Lines.{lines}
 use Rattle.scx_semantics.specs.declared.instructions.Insn.{Insn}
+use Rattle.scx_semantics.specs.declared.instructions.Insn.TheVariants as insn
+use Rattle.scx_semantics.specs.Arithmetic.{shifted}
 use Rattle.scx_semantics.specs.Code.{Code, is_wide, size}
+use Rattle.scx_semantics.specs.Steps.{target}
 use Rattle.scx_isa.specs.Spelling.{max_slots}
 use Rattle.scx_text.specs.declared.items.Statement.{Statement}
 use Rattle.scx_text.specs.declared.items.Jump.{Jump}
@@ -17,12 +21,12 @@ use Rattle.scx_text.specs.Options.{either}
 use Rattle.scx_text.specs.Items.{Destination, Label, Distance, Line, Blank, Place_of, Says, Jumps, read_line}
 use Rattle.scx_asm.specs.declared.faults.AsmFault.{AsmFault}
 use Rattle.scx_asm.specs.declared.faults.AsmFault.TheVariants.{Syntax, UnknownLabel, TwiceLabel, OutOfRange, TooLong}
-use Rattle.scx_asm.specs.Resolving.{operand_of, short, insn_of, jump_of, distant, distance, fits, slots, ranged, Labels, find, to_label, resolved}
+use Rattle.scx_asm.specs.Resolving.{operand_of, short, wide, insn_of, jump_of, distant, distance, fits, slots, ranged, Labels, find, to_label, resolved}
 use Rattle.scx_asm.specs.declared.faults.AsmError.{AsmError}
 use Rattle.scx_asm.specs.declared.faults.AsmError.TheVariants.{Refused, OutOfMemory}
 use Rattle.scx_asm.specs.Layout.{◌>>=◌, Draft, Plan, nothing, located, with_label, with_draft, with_line, with_text, planned, Gives, Fails}
 use Rattle.scx_asm.specs.Reading.{built, finished, read_insns, read_text, insn_places, code_of}
-use Rattle.scx_asm.specs.Standing.{defined, definitions, names, IsSaid, AreSaid, StandsFor, Answers}
+use Rattle.scx_asm.specs.Standing.{defined, definitions, names, IsJump, IsSaid, AreSaid, StandsFor, Answers}
 use Rattle.scx_asm.proofs.Written.{fails_on}
 use Rattle.scx_asm.proofs.Fitting.{bind_some, bind_ok, located_ok, ranged_ok, line_fits, assembled}
 
@@ -239,6 +243,84 @@ planned_was n p q (text ∷ texts) e d =
 
 -- ---- what lines say
 
+abbrev no_number : Option ℤ
+no_number = None
+
+short_is : (z o : ℤ) → short z ≡ Some o → o ≡ z
+short_is (pos n) o e = go (nat_lt n (2 ^ 15)) refl
+  where
+    go : (b : Bool) → nat_lt n (2 ^ 15) ≡ b → o ≡ pos n
+    go true t = let one : Some (pos n) ≡ Some o = rw t at e in let same : pos n ≡ o = cc in sym same
+    go false t = let bad : no_number ≡ Some o = rw t at e in absurd (cc)
+short_is (negsuc n) o e = go (nat_lt n (2 ^ 15)) refl
+  where
+    go : (b : Bool) → nat_lt n (2 ^ 15) ≡ b → o ≡ negsuc n
+    go true t = let one : Some (negsuc n) ≡ Some o = rw t at e in let same : negsuc n ≡ o = cc in sym same
+    go false t = let bad : no_number ≡ Some o = rw t at e in absurd (cc)
+
+long_is : (z o : ℤ) → wide z ≡ Some o → o ≡ z
+long_is (pos n) o e = go (nat_lt n (2 ^ 31)) refl
+  where
+    go : (b : Bool) → nat_lt n (2 ^ 31) ≡ b → o ≡ pos n
+    go true t = let one : Some (pos n) ≡ Some o = rw t at e in let same : pos n ≡ o = cc in sym same
+    go false t = let bad : no_number ≡ Some o = rw t at e in absurd (cc)
+long_is (negsuc n) o e = go (nat_lt n (2 ^ 31)) refl
+  where
+    go : (b : Bool) → nat_lt n (2 ^ 31) ≡ b → o ≡ negsuc n
+    go true t = let one : Some (negsuc n) ≡ Some o = rw t at e in let same : negsuc n ≡ o = cc in sym same
+    go false t = let bad : no_number ≡ Some o = rw t at e in absurd (cc)
+
+-- the slot behind a jump is the next, and the target lies its distance from there
+abbrev Lands : ℕ → ℤ → Insn → Type 0
+Lands s z i = target s i ≡ shifted (s + 1) z
+
+lands : (s : ℕ) (j : Jump) (z : ℤ) (i : Insn) → jump_of j z ≡ Some i → Lands s z i
+lands s (jump.If w c r x) z i e =
+    let o = bind_some (short z) _ i e in
+    let y = bind_some (operand_of x) _ i o.2 in
+    let same : insn.JumpIf w c r o.0 y.0 ≡ i = cc in
+    subst (λ (i : Insn). Lands s z i) same (ap (λ (z : ℤ). shifted (s + 1) z) (short_is z o.0 o.1))
+lands s jump.Goto z i e =
+    let o = bind_some (short z) _ i e in
+    let same : insn.Goto o.0 ≡ i = cc in
+    subst (λ (i : Insn). Lands s z i) same (ap (λ (z : ℤ). shifted (s + 1) z) (short_is z o.0 o.1))
+lands s jump.GotoLong z i e =
+    let o = bind_some (wide z) _ i e in
+    let same : insn.GotoLong o.0 ≡ i = cc in
+    subst (λ (i : Insn). Lands s z i) same (ap (λ (z : ℤ). shifted (s + 1) z) (long_is z o.0 o.1))
+
+shifted_from : (n t : ℕ) (z : ℤ) → shifted n z ≡ Some t → z ≡ pos t -ℤ pos n
+shifted_from n t (pos k) e =
+    let sum : n + k ≡ t = cc in
+    omega (arith, ints)
+shifted_from n t (negsuc k) e = go (nat_lt k n) refl
+  where
+    go : (b : Bool) → nat_lt k n ≡ b → negsuc k ≡ pos t -ℤ pos n
+    go true h =
+        let one : Some (n - suc k) ≡ Some t = rw h at e in
+        let difference : n - suc k ≡ t = cc in
+        let below = ltb-true _ _ h in
+        omega (arith, ints)
+    go false h = let bad : no_slot ≡ Some t = rw h at e in absurd (cc)
+
+shifted_to : (n t : ℕ) (z : ℤ) → z ≡ pos t -ℤ pos n → shifted n z ≡ Some t
+shifted_to n t (pos k) e =
+    let sum : n + k ≡ t = omega (arith, ints) in
+    ap (λ (t : ℕ). Some t) sum
+shifted_to n t (negsuc k) e =
+    let below : k < n = omega (arith, ints) in
+    let difference : n - suc k ≡ t = omega (arith, ints) in
+    rw (lt-ltb _ _ below) (ap (λ (t : ℕ). Some t) difference)
+
+-- a jump has a slot as its target exactly if its distance is that to the slot
+jump_to : (s t : ℕ) (j : Jump) (i : Insn) → target s i ≡ Some t → IsJump j i → jump_of j (distance s t) ≡ Some i
+jump_to s t j i there h =
+    let same : h.0 ≡ distance s t = shifted_from (s + 1) t h.0 (sym (lands s j h.0 i h.1) ∙ there) in
+    subst (λ (z : ℤ). jump_of j z ≡ Some i) same h.1
+
+goes_to : (s t : ℕ) (j : Jump) (i : Insn) → jump_of j (distance s t) ≡ Some i → target s i ≡ Some t
+goes_to s t j i e = lands s j (distance s t) i e ∙ shifted_to (s + 1) t (distance s t) refl
+
 -- numbers that fit beside one distance fit beside none
 jump_placed : (j : Jump) (z : ℤ) (i : Insn) → jump_of j z ≡ Some i → is_some (jump_of j (pos 0)) ≡ true
 jump_placed (jump.If w c r x) z i e =
@@ -251,14 +333,14 @@ jump_placed jump.GotoLong z i e = refl
 said_fits : (labels : Labels) (s : ℕ) (l : Line) (i : Insn) → IsSaid labels s l i → fits l ≡ true
 said_fits labels s (Says x) i h = ap (λ (r : Option Insn). is_some r) h
 said_fits labels s (Jumps j (Distance n)) i h = ap (λ (r : Option Insn). is_some r) h
-said_fits labels s (Jumps j (Label l)) i h = jump_placed j (distance s h.0) i h.2
+said_fits labels s (Jumps j (Label l)) i h = jump_placed j h.3.0 i h.3.1
 said_fits labels s Blank i h = refl
 said_fits labels s (Place_of l) i h = refl
 
 resolved_as : (labels : Labels) (s : ℕ) (l : Line) (i : Insn) → IsDistinct bytes_eq (names labels) → IsSaid labels s l i → resolved labels s l ≡ Ok i
 resolved_as labels s (Says x) i d h = ap (λ (r : Option Insn). ranged r) h
 resolved_as labels s (Jumps j (Distance n)) i d h = ap (λ (r : Option Insn). ranged r) h
-resolved_as labels s (Jumps j (Label l)) i d h = rw (found l h.0 labels d h.1) (ap (λ (r : Option Insn). ranged r) h.2)
+resolved_as labels s (Jumps j (Label l)) i d h = rw (found l h.0 labels d h.1) (ap (λ (r : Option Insn). ranged r) (jump_to s h.0 j i h.2 h.3))
 resolved_as labels s Blank i d h = absurd h
 resolved_as labels s (Place_of l) i d h = absurd h
 
@@ -269,7 +351,9 @@ resolved_was labels s (Jumps j (Label l)) i e = go (find l labels) refl e
   where
     go : (r : Option ℕ) → find l labels ≡ r → either r (λ target. ranged (jump_of j (distance s target))) (Err UnknownLabel) ≡ Ok i → IsSaid labels s (Jumps j (Label l)) i
     go None f e = absurd (cc)
-    go (Some t) f e = (t, there l t labels f, ranged_ok _ i e)
+    go (Some t) f e =
+        let jump = ranged_ok (jump_of j (distance s t)) i e in
+        (t, there l t labels f, goes_to s t j i jump, (distance s t, jump))
 resolved_was labels s Blank i e = absurd (cc)
 resolved_was labels s (Place_of l) i e = absurd (cc)
 

@@ -1,17 +1,19 @@
 -- What it means that a text stands for a program, whatever reads it: each of its lines is of the language,
--- no label is defined twice, each instruction is the one that its line says, and a label stands for the
--- distance to the slot that it names.
-use Rattle.std.specs.Prelude.{◌≡◌, ℕ, ◌+◌, ◌<◌, ◌≤◌, List, [], ◌∷◌, ◌++◌, map, length, Some, Result, Ok, Err}
+-- no label is defined twice, each instruction is the one that its line says, and a jump to a label has the
+-- label's slot as its target.
+use Rattle.std.specs.Prelude.{◌≡◌, ℕ, ◌+◌, ◌<◌, ◌≤◌, ℤ, List, [], ◌∷◌, ◌++◌, map, length, Some, Result, Ok, Err}
 use Rattle.std.specs.List.{Contains, IsDistinct}
 use Rattle.std.specs.Str.{bytes_eq}
 use Rattle.std.specs.Str.Lines.{lines}
 use Rattle.scx_semantics.specs.declared.instructions.Insn.{Insn}
 use Rattle.scx_semantics.specs.Code.{Code}
+use Rattle.scx_semantics.specs.Steps.{target}
 use Rattle.scx_isa.specs.Spelling.{max_slots}
+use Rattle.scx_text.specs.declared.items.Jump.{Jump}
 use Rattle.scx_text.specs.Items.{Destination, Label, Distance, Line, Blank, Place_of, Says, Jumps, read_line}
 use Rattle.scx_asm.specs.declared.faults.AsmError.{AsmError}
 use Rattle.scx_asm.specs.declared.faults.AsmError.TheVariants.{Refused, OutOfMemory}
-use Rattle.scx_asm.specs.Resolving.{insn_of, jump_of, distant, distance, slots, Labels}
+use Rattle.scx_asm.specs.Resolving.{insn_of, jump_of, distant, slots, Labels}
 use Rattle.scx_asm.specs.Reading.{code_of}
 
 -- the label that a line defines at a slot
@@ -27,11 +29,16 @@ definitions s (l ∷ ls) = defined s l ++ definitions (s + slots l) ls
 abbrev pub names : Labels → List (List ℕ)
 names labels = map (λ e. e.0) labels
 
--- the instruction is the one that the line says at a slot, where labels stand for slots
+-- the instruction is that jump, of some distance
+abbrev pub IsJump : Jump → Insn → Type 0
+IsJump j i = (z : ℤ) × (jump_of j z ≡ Some i)
+
+-- the instruction is the one that the line says at a slot; one that goes to a label has the label's slot as
+-- its target
 abbrev pub IsSaid : Labels → ℕ → Line → Insn → Type 0
 IsSaid labels s (Says x) i = insn_of x ≡ Some i
 IsSaid labels s (Jumps j (Distance n)) i = distant j n ≡ Some i
-IsSaid labels s (Jumps j (Label l)) i = (target : ℕ) × Contains labels (l, target) × (jump_of j (distance s target) ≡ Some i)
+IsSaid labels s (Jumps j (Label l)) i = (t : ℕ) × Contains labels (l, t) × (target s i ≡ Some t) × IsJump j i
 IsSaid labels s l i = ⊥
 
 -- the lines from a slot on say the instructions in order, and nothing else
