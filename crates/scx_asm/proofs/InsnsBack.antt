@@ -1,12 +1,12 @@
 -- The tokens of the canonical text of each instruction.
-use Rattle.std.proofs.Common.{◌≡◌, ℕ, zero, suc, ◌+◌, ◌*◌, ◌^◌, ◌<◌, ◌≤◌, ℤ, pos, negsuc, Bool, true, false, codes, List, [], ◌∷◌, ◌++◌, length, Option, Some, None, FitsSigned, refl, sym, ap, subst, ◌∙◌, append_assoc, arith}
+use Rattle.std.proofs.Common.{◌≡◌, ℕ, suc, ◌^◌, ◌<◌, ℤ, pos, negsuc, Bool, true, false, codes, List, [], ◌∷◌, ◌++◌, Some, FitsSigned, refl, sym, subst, ◌∙◌, append_assoc, arith}
 use Rattle.std.proofs.lemmas.List.{append-nil}
 use Rattle.std.proofs.lemmas.Int.{ints}
 use Rattle.std.proofs.Math.Facts.{Fits-of_z}
 use Rattle.std.specs.Fmt.{decimal, signed_decimal}
 use Rattle.std.specs.Int.{w16, w32, cast_unsigned}
 use Rattle.scx_semantics.specs.declared.operations.Width.{Width}
-use Rattle.scx_semantics.specs.declared.operations.Width.TheVariants.{Bits32, Bits64}
+use Rattle.scx_semantics.specs.declared.operations.Width.TheVariants.{Bits64}
 use Rattle.scx_semantics.specs.declared.registers.Register.{Register}
 use Rattle.scx_semantics.specs.declared.instructions.Operand.{Operand}
 use Rattle.scx_semantics.specs.declared.instructions.Operand.TheVariants as operand
@@ -18,7 +18,7 @@ use Rattle.scx_text.specs.declared.symbols.Symbol.{Symbol}
 use Rattle.scx_text.specs.declared.symbols.Symbol.TheVariants.{Assign, Compare, Plus, Minus, Star, Opening, Closing}
 use Rattle.scx_semantics.specs.declared.operations.Operation.TheVariants.{Move}
 use Rattle.scx_text.specs.Symbols.{spelled}
-use Rattle.scx_text.specs.Names.{width_text, register_text, access_text, stored_access, extension_width, extension_access, order_text}
+use Rattle.scx_text.specs.Names.{register_text, access_text, stored_access, extension_width, extension_access, order_text}
 use Rattle.scx_text.specs.Tokens.{Lexeme, Word, Number, Mark, followed_by, tokens_from, tokens}
 use Rattle.scx_text.specs.Canonical.{operand_text, offset_text, distance_text, place_text, insn_text}
 use Rattle.scx_asm.proofs.TokensBack.{ends_symbol, ends_word, symbol_read, number_read, name_read, digits_end_symbol, IsName}
@@ -137,7 +137,7 @@ place near a r o text ts is fits e h =
     let sized = name true a (32 ∷ (spelled Star ++ (spelled Closing ++ (spelled Opening ++ (register_text Bits64 r ++ (32 ∷ (offset_text o ++ (spelled Closing ++ text)))))))) _ is refl (gap true _ _ star) in
     let inner = mark true Opening (a ++ (32 ∷ (spelled Star ++ (spelled Closing ++ (spelled Opening ++ (register_text Bits64 r ++ (32 ∷ (offset_text o ++ (spelled Closing ++ text))))))))) _ (is.front _) sized in
     same_text near _ (spelled Star ++ (spelled Opening ++ (a ++ (32 ∷ (spelled Star ++ (spelled Closing ++ (spelled Opening ++ (register_text Bits64 r ++ (32 ∷ (offset_text o ++ (spelled Closing ++ text))))))))))) _ (place_grouped a (register_text Bits64 r) (offset_text o) text)
-        (mark near Star (spelled Opening ++ (a ++ (32 ∷ (spelled Star ++ (spelled Closing ++ (spelled Opening ++ (register_text Bits64 r ++ (32 ∷ (offset_text o ++ (spelled Closing ++ text)))))))))) _ refl inner)
+    (mark near Star (spelled Opening ++ (a ++ (32 ∷ (spelled Star ++ (spelled Closing ++ (spelled Opening ++ (register_text Bits64 r ++ (32 ∷ (offset_text o ++ (spelled Closing ++ text)))))))))) _ refl inner)
 
 -- ---- whole lines
 
@@ -200,8 +200,8 @@ insn_gives (insn.Negate w d) h = same_text false _ _ _ (by_minus (register_text 
     (assigned w d _ _ (mark false Minus (register_text w d ++ []) _ ((name_register w d).front []) (name true (register_text w d) [] [] (name_register w d) refl (nothing true))))
 insn_gives (insn.SignExtend e d r) h = same_text false _ _ _ (by_extension (register_text (extension_width e) d) (access_text (extension_access e)) (register_text (extension_width e) r))
     (assigned (extension_width e) d _ _ (mark false Opening (access_text (extension_access e) ++ (spelled Closing ++ (register_text (extension_width e) r ++ []))) _ ((name_access (extension_access e)).front _)
-        (name true (access_text (extension_access e)) (spelled Closing ++ (register_text (extension_width e) r ++ [])) _ (name_access (extension_access e)) refl
-            (mark true Closing (register_text (extension_width e) r ++ []) _ ((name_register (extension_width e) r).front []) (name true (register_text (extension_width e) r) [] [] (name_register (extension_width e) r) refl (nothing true))))))
+    (name true (access_text (extension_access e)) (spelled Closing ++ (register_text (extension_width e) r ++ [])) _ (name_access (extension_access e)) refl
+    (mark true Closing (register_text (extension_width e) r ++ []) _ ((name_register (extension_width e) r).front []) (name true (register_text (extension_width e) r) [] [] (name_register (extension_width e) r) refl (nothing true))))))
 insn_gives (insn.Reorder o w d) h = same_text false _ _ _ (by_order (register_text Bits64 d) (order_text (o, w)) (register_text Bits64 d))
     (assigned Bits64 d _ _ (name false (order_text (o, w)) (32 ∷ (register_text Bits64 d ++ [])) _ (name_order o w) refl (gap true _ _ (name false (register_text Bits64 d) [] [] (name_register Bits64 d) refl (nothing true)))))
 insn_gives (insn.Constant d low high) h = same_text false _ _ _ (by_constant (register_text Bits64 d) (decimal (constant low high)))
@@ -212,11 +212,11 @@ insn_gives (insn.Load a d r o) h = same_text false _ _ _ (by_equals (register_te
     (assigned Bits64 d _ _ (place false (access_text a) r o [] [] (name_access a) (small16 o h) refl (nothing true)))
 insn_gives (insn.Store s r o x) h = same_text false _ _ _ (by_equals (place_text (access_text (stored_access s)) r o) (operand_text Bits64 x))
     (place false (access_text (stored_access s)) r o (32 ∷ (equals ++ (32 ∷ (operand_text Bits64 x ++ [])))) _ (name_access (stored_access s)) (small16 o h.0) refl
-        (gap true _ _ (mark false (Assign Move) (32 ∷ (operand_text Bits64 x ++ [])) _ refl (gap true _ _ (given false Bits64 x [] [] h.1 refl (nothing true))))))
+    (gap true _ _ (mark false (Assign Move) (32 ∷ (operand_text Bits64 x ++ [])) _ refl (gap true _ _ (given false Bits64 x [] [] h.1 refl (nothing true))))))
 insn_gives (insn.JumpIf w c r o x) h = same_text false _ _ _ (by_condition (register_text w r) (spelled (Compare c)) (operand_text w x) (distance_text o))
     (name false (codes "if") _ _ name_if refl (gap true _ _ (name false (register_text w r) _ _ (name_register w r) refl
-        (gap true _ _ (mark false (Compare c) (32 ∷ (operand_text w x ++ (32 ∷ (codes "goto" ++ (32 ∷ (distance_text o ++ [])))))) _ refl
-            (gap true _ _ (given false w x (32 ∷ (codes "goto" ++ (32 ∷ (distance_text o ++ [])))) _ h.1 refl (gap true _ _ (name false (codes "goto") (32 ∷ (distance_text o ++ [])) _ name_goto refl (gap true _ _ (distance false o (small16 o h.0))))))))))))
+    (gap true _ _ (mark false (Compare c) (32 ∷ (operand_text w x ++ (32 ∷ (codes "goto" ++ (32 ∷ (distance_text o ++ [])))))) _ refl
+    (gap true _ _ (given false w x (32 ∷ (codes "goto" ++ (32 ∷ (distance_text o ++ [])))) _ h.1 refl (gap true _ _ (name false (codes "goto") (32 ∷ (distance_text o ++ [])) _ name_goto refl (gap true _ _ (distance false o (small16 o h.0))))))))))))
 insn_gives (insn.Goto o) h = same_text false _ (codes "goto" ++ (32 ∷ (distance_text o ++ []))) _ (sym (append-nil (codes "goto " ++ distance_text o))) (name false (codes "goto") (32 ∷ (distance_text o ++ [])) _ name_goto refl (gap true _ _ (distance false o (small16 o h))))
 insn_gives (insn.GotoLong o) h = same_text false _ (codes "gotol" ++ (32 ∷ (distance_text o ++ []))) _ (sym (append-nil (codes "gotol " ++ distance_text o))) (name false (codes "gotol") (32 ∷ (distance_text o ++ [])) _ name_gotol refl (gap true _ _ (distance false o (small32 o h))))
 insn_gives (insn.Call k) h = same_text false _ (codes "call" ++ (32 ∷ (signed_decimal k ++ []))) _ (sym (append-nil (codes "call " ++ signed_decimal k))) (name false (codes "call") (32 ∷ (signed_decimal k ++ [])) _ name_call refl (gap true _ _ (signed false k [] [] (small32 k h) refl (nothing true))))

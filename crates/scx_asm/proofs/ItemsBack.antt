@@ -1,5 +1,5 @@
 -- What the tokens of the canonical text say: the instruction with its numbers written out.
-use Rattle.std.proofs.Common.{◌≡◌, ℕ, suc, ℤ, pos, negsuc, Bool, true, false, nat_eq, codes, List, [], ◌∷◌, Option, Some, None, refl, sym, ap, ◌∙◌}
+use Rattle.std.proofs.Common.{◌≡◌, suc, ℤ, pos, negsuc, Bool, true, false, codes, List, [], ◌∷◌, Some, refl, ◌∙◌}
 use Rattle.scx_semantics.specs.declared.operations.Width.{Width}
 use Rattle.scx_semantics.specs.declared.operations.Width.TheVariants.{Bits32, Bits64}
 use Rattle.scx_semantics.specs.declared.operations.Operation.{Operation}
@@ -26,14 +26,12 @@ use Rattle.scx_text.specs.declared.items.Literal.{Literal}
 use Rattle.scx_text.specs.declared.items.Argument.{Argument}
 use Rattle.scx_text.specs.declared.items.Argument.TheVariants as argument
 use Rattle.scx_text.specs.declared.items.Statement.TheVariants as statement
-use Rattle.scx_text.specs.declared.items.Jump.{Jump}
 use Rattle.scx_text.specs.declared.items.Jump.TheVariants as jump
-use Rattle.scx_text.specs.declared.items.Place.{Place}
-use Rattle.scx_text.specs.declared.symbols.Symbol.TheVariants.{Assign, Compare, Plus, Minus, Star, Opening, Closing}
+use Rattle.scx_text.specs.declared.symbols.Symbol.TheVariants.{Assign, Minus, Star, Opening, Closing}
 use Rattle.scx_text.specs.Names.{named, register_text, register_in, access_text, stored_access, stored_size, extension_of, extension_width, extension_access, order_text}
 use Rattle.scx_text.specs.Tokens.{Lexeme, Word, Number, Mark}
-use Rattle.scx_text.specs.Items.{Destination, Distance, Line, Says, Jumps, Read, written, read_literal, read_offset, read_destination, read_argument, read_place, same, end, given, assigned, jumped, item_of, read_line}
-use Rattle.scx_asm.proofs.NamesBack.{register_again, access_again, order_again}
+use Rattle.scx_text.specs.Items.{Distance, Line, Says, Jumps, written, read_literal, read_offset, read_destination, read_argument, read_place, same, assigned, item_of, read_line}
+use Rattle.scx_asm.proofs.NamesBack.{register_again, access_again}
 use Rattle.scx_asm.proofs.InsnsBack.{signed_tokens, distance_tokens, offset_tokens, operand_tokens, place_tokens, insn_tokens, insn_read}
 
 -- ---- the instruction, as a line says it

@@ -1,5 +1,5 @@
 -- The canonical text of a program has one line for each instruction: no byte of it ends a line early.
-use Rattle.std.proofs.Common.{◌≡◌, ℕ, zero, suc, ◌+◌, ◌-◌, ◌^◌, ◌<◌, ◌≤◌, ℤ, pos, negsuc, Bool, true, false, ◌&&◌, nat_eq, nat_lt, codes, List, [], ◌∷◌, ◌++◌, length, map, slice_index, refl, sym, ap, ◌∙◌, append_assoc, arith, lit<}
+use Rattle.std.proofs.Common.{◌≡◌, ℕ, zero, suc, ◌-◌, ◌^◌, ◌<◌, ℤ, pos, negsuc, Bool, true, false, ◌&&◌, nat_eq, nat_lt, codes, List, [], ◌∷◌, ◌++◌, length, map, slice_index, refl, ap, ◌∙◌, append_assoc, arith, lit<}
 use Rattle.std.proofs.lemmas.Bool.{ltb-true, lt-ltb, ne_eqb}
 use Rattle.std.proofs.lemmas.Fmt.{decimal_is_IsNumeral}
 use Rattle.std.proofs.lemmas.Str.Parse.{tells_digits}
@@ -157,7 +157,7 @@ both5 a b c d e x y z u v = both (a ++ b ++ c ++ d) e (both4 a b c d x y z u) v
 plain_place : (a : List ℕ) (r : Register) (o : ℤ) → plain a ≡ true → Small o → plain (place_text a r o) ≡ true
 plain_place a r o x h =
     both3 (codes "*(" ++ a ++ codes " *)(" ++ register_text Bits64 r ++ codes " ") (offset_text o) (codes ")")
-        (both5 (codes "*(") a (codes " *)(") (register_text Bits64 r) (codes " ") refl x refl (plain_register Bits64 r) refl) (plain_offset o h) refl
+    (both5 (codes "*(") a (codes " *)(") (register_text Bits64 r) (codes " ") refl x refl (plain_register Bits64 r) refl) (plain_offset o h) refl
 
 pub plain_insn : (i : Insn) → IsInsn i → plain (insn_text i) ≡ true
 plain_insn (insn.Binary w o d x) h = both5 (register_text w d) (codes " ") (spelled (Assign o)) (codes " ") (operand_text w x) (plain_register w d) refl (plain_spelled (Assign o)) refl (plain_operand w x h)
@@ -170,7 +170,7 @@ plain_insn (insn.Load a d r o) h = both3 (register_text Bits64 d) (codes " = ") 
 plain_insn (insn.Store s r o x) h = both3 (place_text (access_text (stored_access s)) r o) (codes " = ") (operand_text Bits64 x) (plain_place (access_text (stored_access s)) r o (plain_access (stored_access s)) (small16 o h.0)) refl (plain_operand Bits64 x h.1)
 plain_insn (insn.JumpIf w c r o x) h =
     both4 (codes "if " ++ register_text w r ++ codes " " ++ spelled (Compare c) ++ codes " ") (operand_text w x) (codes " goto ") (distance_text o)
-        (both5 (codes "if ") (register_text w r) (codes " ") (spelled (Compare c)) (codes " ") refl (plain_register w r) refl (plain_spelled (Compare c)) refl) (plain_operand w x h.1) refl (plain_distance o (small16 o h.0))
+    (both5 (codes "if ") (register_text w r) (codes " ") (spelled (Compare c)) (codes " ") refl (plain_register w r) refl (plain_spelled (Compare c)) refl) (plain_operand w x h.1) refl (plain_distance o (small16 o h.0))
 plain_insn (insn.Goto o) h = both (codes "goto ") (distance_text o) refl (plain_distance o (small16 o h))
 plain_insn (insn.GotoLong o) h = both (codes "gotol ") (distance_text o) refl (plain_distance o (small32 o h))
 plain_insn (insn.Call k) h = both (codes "call ") (signed_decimal k) refl (plain_signed k (small32 k h))

@@ -1,8 +1,7 @@
 -- An instruction whose numbers are written out stands for itself.
-use Rattle.std.proofs.Common.{◌≡◌, ℕ, zero, suc, ◌+◌, ◌*◌, ◌/◌, ◌%◌, ◌^◌, ◌<◌, ◌≤◌, ℤ, pos, negsuc, Bool, true, false, nat_lt, is_some, List, [], ◌∷◌, ◌++◌, map, length, Option, Some, None, Result, Ok, Err, FitsSigned, refl, sym, ap, subst, ◌∙◌, append_assoc, arith}
+use Rattle.std.proofs.Common.{◌≡◌, ℕ, suc, ◌+◌, ◌/◌, ◌%◌, ◌^◌, ◌<◌, ◌≤◌, ℤ, pos, negsuc, List, [], ◌∷◌, map, Some, FitsSigned, refl, arith}
 use Rattle.std.proofs.lemmas.Bool.{lt-ltb, le-ltb}
 use Rattle.std.proofs.lemmas.Int.{ints}
-use Rattle.std.proofs.lemmas.List.{append-nil}
 use Rattle.std.proofs.Math.Facts.{Fits-of_z, to_z-of_z}
 use Rattle.std.specs.Int.{w16, w32, cast_signed, cast_unsigned}
 use Rattle.std.specs.List.{AllByRecursion}
@@ -11,16 +10,13 @@ use Rattle.scx_semantics.specs.declared.instructions.Operand.TheVariants as oper
 use Rattle.scx_semantics.specs.declared.instructions.Insn.{Insn}
 use Rattle.scx_semantics.specs.declared.instructions.Insn.TheVariants as insn
 use Rattle.scx_semantics.specs.Arithmetic as arithmetic
-use Rattle.scx_semantics.specs.Code.{size}
 use Rattle.scx_encoding.specs.Spelling.{IsOperand, IsInsn}
-use Rattle.scx_isa.specs.Spelling.{max_slots}
 use Rattle.scx_text.specs.declared.items.Literal.{Literal}
 use Rattle.scx_text.specs.declared.items.Statement.{Statement}
 use Rattle.scx_text.specs.declared.items.Jump.{Jump}
 use Rattle.scx_text.specs.Canonical.{insn_text}
-use Rattle.scx_text.specs.Items.{Destination, Distance, Line, Says, Jumps, written, read_line}
-use Rattle.scx_asm.specs.declared.faults.AsmFault.{AsmFault}
-use Rattle.scx_asm.specs.Resolving.{immediate, short, wide, long, operand_of, insn_of, jump_of, distant, fits, slots, Labels, resolved}
+use Rattle.scx_text.specs.Items.{Distance, Line, Says, Jumps, read_line}
+use Rattle.scx_asm.specs.Resolving.{immediate, short, operand_of, insn_of, distant, slots, Labels}
 use Rattle.scx_asm.specs.Standing.{defined, definitions, AreSaid}
 use Rattle.scx_asm.proofs.Fitting.{wide_is}
 use Rattle.scx_asm.proofs.ItemsBack.{literal_as, argument_as, line_as, insn_line}

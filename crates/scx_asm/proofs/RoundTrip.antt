@@ -1,22 +1,19 @@
 -- The canonical text of a program is read as that program.
-use Rattle.std.proofs.Common.{◌≡◌, ◌⊎◌, inl, inr, ℕ, suc, ◌+◌, ◌<◌, ◌≤◌, Bool, true, false, nat_eq, List, [], ◌∷◌, ◌++◌, length, map, Option, Some, None, Result, Ok, Err, refl, sym, ap, subst, ◌∙◌, append_assoc, arith}
-use Rattle.std.proofs.lemmas.Bool.{ne_eqb}
+use Rattle.std.proofs.Common.{◌≡◌, ◌⊎◌, inl, inr, ℕ, Bool, true, false, List, [], ◌∷◌, ◌++◌, map, Some, None, Result, Ok, Err, refl, sym, ap, subst, ◌∙◌}
 use Rattle.std.specs.List.{AllByRecursion, IsDistinct}
 use Rattle.std.specs.Str.{bytes_eq}
-use Rattle.std.specs.Str.Lines.{lines}
 use Rattle.scx_semantics.specs.declared.instructions.Insn.{Insn}
-use Rattle.scx_semantics.specs.Code.{Code, is_wide, size}
+use Rattle.scx_semantics.specs.Code.{Code, is_wide}
 use Rattle.scx_encoding.specs.Spelling.{IsInsn}
-use Rattle.scx_isa.specs.Spelling.{IsCode, IsProgram, max_slots}
-use Rattle.scx_text.specs.Canonical.{insn_text}
+use Rattle.scx_isa.specs.Spelling.{IsCode, IsProgram}
 use Rattle.scx_text.specs.Items.{read_line}
 use Rattle.scx_asm.specs.Resolving.{Labels}
 use Rattle.scx_asm.specs.Standing.{definitions, names, StandsFor}
 use Rattle.scx_asm.specs.declared.faults.AsmFault.{AsmFault}
 use Rattle.scx_asm.specs.declared.faults.AsmError.{AsmError}
 use Rattle.scx_asm.specs.declared.faults.AsmError.TheVariants.{Refused, OutOfMemory}
-use Rattle.scx_asm.specs.Layout.{◌>>=◌, Plan, nothing, planned, Gives}
-use Rattle.scx_asm.specs.Reading.{built, finished, read_insns, read_text, insn_places, code_of}
+use Rattle.scx_asm.specs.Layout.{Gives}
+use Rattle.scx_asm.specs.Reading.{read_text, code_of}
 use Rattle.scx_asm.specs.Printing.{place_text, program_text}
 use Rattle.scx_asm.proofs.ItemsBack.{line_as}
 use Rattle.scx_asm.proofs.MeaningBack.{defines_none, all_said, all_read}

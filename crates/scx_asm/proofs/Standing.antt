@@ -1,6 +1,6 @@
 -- A text is read as the program that it stands for, and stands for the program that it is read as.
 use Rattle.std.proofs.Common.{◌≡◌, ℕ, zero, suc, ◌+◌, ◌<◌, ◌≤◌, ℤ, pos, negsuc, ◌-ℤ◌, ◌^◌, ◌-◌, Bool, true, false, nat_eq, nat_lt, is_some, List, [], ◌∷◌, ◌++◌, length, map, slice_index_or, Option, Some, None, Result, Ok, Err, ◌⊎◌, inl, inr, refl, sym, ap, subst, ◌∙◌, append_assoc, arith}
-use Rattle.std.proofs.lemmas.Bool.{ltb-true, lt-ltb, ltb-false, le-ltb, ne_eqb, eqb-false}
+use Rattle.std.proofs.lemmas.Bool.{ltb-true, lt-ltb, le-ltb, ne_eqb}
 use Rattle.std.proofs.lemmas.Int.{ints}
 use Rattle.std.proofs.lemmas.List.{append-nil}
 use Rattle.std.proofs.lemmas.List.Elements.{Contains-append_cases, Contains-append_left, Contains-append_right}
@@ -14,18 +14,17 @@ use Rattle.scx_semantics.specs.Arithmetic.{shifted}
 use Rattle.scx_semantics.specs.Code.{Code, is_wide, size}
 use Rattle.scx_semantics.specs.Steps.{target}
 use Rattle.scx_isa.specs.Spelling.{max_slots}
-use Rattle.scx_text.specs.declared.items.Statement.{Statement}
 use Rattle.scx_text.specs.declared.items.Jump.{Jump}
 use Rattle.scx_text.specs.declared.items.Jump.TheVariants as jump
 use Rattle.scx_text.specs.Options.{either}
-use Rattle.scx_text.specs.Items.{Destination, Label, Distance, Line, Blank, Place_of, Says, Jumps, read_line}
+use Rattle.scx_text.specs.Items.{Label, Distance, Line, Blank, Place_of, Says, Jumps, read_line}
 use Rattle.scx_asm.specs.declared.faults.AsmFault.{AsmFault}
 use Rattle.scx_asm.specs.declared.faults.AsmFault.TheVariants.{Syntax, UnknownLabel, TwiceLabel, OutOfRange, TooLong}
-use Rattle.scx_asm.specs.Resolving.{operand_of, short, wide, insn_of, jump_of, distant, distance, fits, slots, ranged, Labels, find, to_label, resolved}
+use Rattle.scx_asm.specs.Resolving.{operand_of, short, wide, jump_of, distant, distance, fits, slots, ranged, Labels, find, resolved}
 use Rattle.scx_asm.specs.declared.faults.AsmError.{AsmError}
 use Rattle.scx_asm.specs.declared.faults.AsmError.TheVariants.{Refused, OutOfMemory}
 use Rattle.scx_asm.specs.Layout.{◌>>=◌, Draft, Plan, nothing, located, with_label, with_draft, with_line, with_text, planned, Gives, Fails}
-use Rattle.scx_asm.specs.Reading.{built, finished, read_insns, read_text, insn_places, code_of}
+use Rattle.scx_asm.specs.Reading.{built, finished, read_insns, read_text, code_of}
 use Rattle.scx_asm.specs.Standing.{defined, definitions, names, IsJump, IsSaid, AreSaid, StandsFor, Answers}
 use Rattle.scx_asm.proofs.Written.{fails_on}
 use Rattle.scx_asm.proofs.Fitting.{bind_some, bind_ok, located_ok, ranged_ok, line_fits, assembled}
@@ -84,6 +83,7 @@ found l t (x ∷ es) d c = go (Contains-append_cases (x ∷ []) es (l, t) c) (λ
   where
     here : find l ((l, t) ∷ es) ≡ Some t
     here = rw (same_bytes l) refl
+
     go : Contains (x ∷ []) (l, t) ⊎ Contains es (l, t) → (Contains es (l, t) → find l es ≡ Some t) → find l (x ∷ es) ≡ Some t
     go (inl w) behind = subst (λ (y : List ℕ × ℕ). find l (y ∷ es) ≡ Some t) (sym (alone x (l, t) w)) here
     go (inr w) behind = rw (apart l x.0 (apart_from x.0 es (l, t) d.0 w)) (behind w)
@@ -479,6 +479,7 @@ finish_was p is e = go (nat_eq p.slots 0) refl
   where
     empty : Result (List Insn) (AsmFault × ℕ)
     empty = Err (Syntax, 1)
+
     go : (b : Bool) → nat_eq p.slots 0 ≡ b → built p.labels p.drafts ≡ Ok is
     go true t = let bad : Err (Syntax, 1) ≡ insns_are is = rw t at e in absurd (cc)
     go false t = rw t at e

@@ -1,24 +1,22 @@
 -- The canonical text is read back token by token: each symbol, word and number ends where what stands behind
 -- it can't go on with it.
-use Rattle.std.proofs.Common.{◌≡◌, ℕ, zero, suc, ◌+◌, ◌-◌, ◌^◌, ◌<◌, ◌≤◌, Bool, true, false, not, ◌&&◌, nat_eq, List, [], ◌∷◌, ◌++◌, length, take, drop, Option, Some, None, refl, sym, ap, subst, ◌∙◌, arith, lit<}
+use Rattle.std.proofs.Common.{◌≡◌, ℕ, suc, ◌+◌, ◌-◌, ◌^◌, ◌<◌, ◌≤◌, Bool, true, false, not, ◌&&◌, nat_eq, List, [], ◌∷◌, ◌++◌, length, take, Option, Some, None, refl, ap, subst, ◌∙◌, arith}
 use Rattle.std.proofs.lemmas.Bool.Decides.{nat_tests}
 use Rattle.std.proofs.lemmas.Bool.{eqb-true, ne_eqb, lt-ltb}
-use Rattle.std.proofs.lemmas.Fmt.{decimal_is_IsNumeral, decimal_digit, decimal_step}
+use Rattle.std.proofs.lemmas.Fmt.{decimal_is_IsNumeral}
 use Rattle.std.proofs.lemmas.Str.Parse.{tells_digits}
 use Rattle.std.proofs.Math.Seq.{drop-append_seam, take-append_seam}
 use Rattle.std.specs.Char.{is_ascii_digit, is_ascii_alphabetic}
 use Rattle.std.specs.Fmt.{decimal}
 use Rattle.std.specs.Int.{IsInRange}
-use Rattle.std.specs.List.{flat_map}
 use Rattle.std.specs.Str.Parse.{AllDigits, digits_value}
 use Rattle.scx_semantics.specs.declared.operations.Operation.TheVariants.{Add, Subtract, Multiply, Divide, SignedDivide, Or, And, Xor, ShiftLeft, ShiftRight, ShiftRightSigned, Modulo, SignedModulo, Move}
 use Rattle.scx_semantics.specs.declared.operations.Comparison.TheVariants.{Equal, Greater, GreaterOrEqual, AnyBit, NotEqual, SignedGreater, SignedGreaterOrEqual, Less, LessOrEqual, SignedLess, SignedLessOrEqual}
 use Rattle.scx_text.specs.declared.symbols.Symbol.{Symbol}
 use Rattle.scx_text.specs.declared.symbols.Symbol.TheVariants.{Assign, Compare, Plus, Minus, Star, Opening, Closing, Colon}
 use Rattle.scx_text.specs.declared.lexer.Class.TheVariants as class
-use Rattle.scx_text.specs.Options.{either}
-use Rattle.scx_text.specs.Symbols.{spelled, first_of, symbols, symbol_at}
-use Rattle.scx_text.specs.Tokens.{Lexeme, Word, Number, Mark, is_blank, is_word, run, bounded, is_hexadecimal, number_at, word_or_number, token_at, followed_by, tokens_from}
+use Rattle.scx_text.specs.Symbols.{spelled, first_of, symbol_at}
+use Rattle.scx_text.specs.Tokens.{Lexeme, Word, Number, Mark, is_blank, is_word, run, bounded, is_hexadecimal, number_at, token_at, followed_by, tokens_from}
 use Rattle.scx_text.proofs.Search.{spelled_positive}
 use Rattle.scx_text.proofs.Lexing.{passed}
 
@@ -81,7 +79,7 @@ token_read near [] rest t some e = absurd (omega arith)
 token_read near (b ∷ bs) rest t some e =
     let steps : length (b ∷ bs) - 1 ≡ length bs = omega arith in
     let behind : tokens_from true (length (b ∷ bs) - 1) (bs ++ rest) ≡ tokens_from true 0 rest =
-        rw (steps, passed true (length bs) (bs ++ rest), drop-append_seam bs rest) refl in
+    rw (steps, passed true (length bs) (bs ++ rest), drop-append_seam bs rest) refl in
     rw (unmarked near b (bs ++ rest) (t, length (b ∷ bs)) e, dark near b (bs ++ rest) (t, length (b ∷ bs)) e, e) (ap (λ (x : Option (List Lexeme)). followed_by t x) behind)
 
 -- ---- symbols
@@ -254,10 +252,10 @@ number_token near n (d ∷ ds) rest some h v fits e =
     let number : bounded (digits_value 10 (take (length (d ∷ ds)) (d ∷ (ds ++ rest)))) ≡ Some n = ap (λ (x : List ℕ). bounded (digits_value 10 x)) taken ∙ value in
     let plus : 0 + length (d ∷ ds) ≡ length (d ∷ ds) = omega arith in
     let decimal_here : number_at near (d ∷ (ds ++ rest)) ≡ numbered near (bounded (digits_value 10 (take (run class.Decimal (d ∷ (ds ++ rest))) (d ∷ (ds ++ rest))))) (0 + run class.Decimal (d ∷ (ds ++ rest))) =
-        rw (no_hexadecimal d ds rest parts.1 e) refl in
+    rw (no_hexadecimal d ds rest parts.1 e) refl in
     let counted = ap (λ (k : ℕ). numbered near (bounded (digits_value 10 (take k (d ∷ (ds ++ rest))))) (0 + k)) runs in
     let read : number_at near (d ∷ (ds ++ rest)) ≡ numbered near (Some n) (length (d ∷ ds)) =
-        decimal_here ∙ (counted ∙ (ap (λ (x : Option ℕ). numbered near x (0 + length (d ∷ ds))) number ∙ ap (λ (k : ℕ). numbered near (Some n) k) plus)) in
+    decimal_here ∙ (counted ∙ (ap (λ (x : Option ℕ). numbered near x (0 + length (d ∷ ds))) number ∙ ap (λ (k : ℕ). numbered near (Some n) k) plus)) in
     rw (digit_no_symbol d (ds ++ rest) parts.0, no_letter d parts.0, is_digit d parts.0) (ap (λ (x : Lexeme × ℕ). Some x) read)
 
 pub number_read : (near : Bool) (n : ℕ) (rest : List ℕ) → n < 2 ^ 64 → ends_word rest ≡ true → tokens_from near 0 (decimal n ++ rest) ≡ followed_by (Number near (Some n)) (tokens_from true 0 rest)

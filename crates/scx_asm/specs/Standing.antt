@@ -10,7 +10,7 @@ use Rattle.scx_semantics.specs.Code.{Code}
 use Rattle.scx_semantics.specs.Steps.{target}
 use Rattle.scx_isa.specs.Spelling.{max_slots}
 use Rattle.scx_text.specs.declared.items.Jump.{Jump}
-use Rattle.scx_text.specs.Items.{Destination, Label, Distance, Line, Blank, Place_of, Says, Jumps, read_line}
+use Rattle.scx_text.specs.Items.{Label, Distance, Line, Blank, Place_of, Says, Jumps, read_line}
 use Rattle.scx_asm.specs.declared.faults.AsmError.{AsmError}
 use Rattle.scx_asm.specs.declared.faults.AsmError.TheVariants.{Refused, OutOfMemory}
 use Rattle.scx_asm.specs.Resolving.{insn_of, jump_of, distant, slots, Labels}

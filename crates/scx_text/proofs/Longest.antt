@@ -1,5 +1,5 @@
 -- The table of symbols stands by falling length, so the first symbol that fits is the longest one.
-use Rattle.std.proofs.Common.{◌≡◌, ℕ, ◌<◌, ◌≤◌, Bool, true, false, ◌&&◌, nat_eq, nat_le, List, [], ◌∷◌, length, Option, Some, None, ◌⊎◌, inl, inr, refl, sym, ap, subst, ◌∙◌, arith}
+use Rattle.std.proofs.Common.{◌≡◌, ℕ, ◌≤◌, Bool, true, false, ◌&&◌, nat_eq, nat_le, List, [], ◌∷◌, length, Option, Some, None, ◌⊎◌, inl, inr, refl, sym, ap, subst, ◌∙◌, arith}
 use Rattle.std.proofs.lemmas.Bool.{leb-true}
 use Rattle.std.specs.List.{starts_with}
 use Rattle.scx_semantics.specs.declared.operations.Operation.TheVariants.{Add, Subtract, Multiply, Divide, SignedDivide, Or, And, Xor, ShiftLeft, ShiftRight, ShiftRightSigned, Modulo, SignedModulo, Move}
@@ -82,6 +82,7 @@ first_is_longest n (x ∷ xs) text s t h m e fits =
     behind : falling (length (spelled x)) xs ≡ true → (t ≡ x) ⊎ Among t xs → length (spelled t) ≤ length (spelled x)
     behind f (inl q) = omega (arith, ap (λ (s : Symbol). length (spelled s)) q)
     behind f (inr q) = within (length (spelled x)) xs t f q
+
     go : falling (length (spelled x)) xs ≡ true → (b : Bool) → starts_with nat_eq text (spelled x) ≡ b → (t ≡ x) ⊎ Among t xs → (Among t xs → first_of xs text ≡ Some s → length (spelled t) ≤ length (spelled s)) → length (spelled t) ≤ length (spelled s)
     go f true y m later =
         let one : Some x ≡ Some s = rw y at e in

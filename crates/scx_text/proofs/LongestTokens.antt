@@ -1,6 +1,6 @@
 -- The token that is read is the longest with which the text begins: a symbol begins with no digit, and goes on
 -- from a letter with a byte that no word has.
-use Rattle.std.proofs.Common.{◌≡◌, ℕ, zero, suc, ◌+◌, ◌<◌, ◌≤◌, Bool, true, false, ◌&&◌, nat_eq, codes, List, [], ◌∷◌, ◌++◌, length, length-take, take, drop, slice_index, Option, Some, None, ◌⊎◌, inl, inr, refl, sym, ap, subst, ◌∙◌, arith, lit<}
+use Rattle.std.proofs.Common.{◌≡◌, ℕ, suc, ◌+◌, ◌<◌, ◌≤◌, Bool, true, false, ◌&&◌, nat_eq, codes, List, [], ◌∷◌, ◌++◌, length, length-take, take, drop, slice_index, Option, Some, None, ◌⊎◌, inl, inr, refl, sym, ap, subst, ◌∙◌, arith, lit<}
 use Rattle.std.proofs.lemmas.Bool.{eqb-true}
 use Rattle.std.proofs.lemmas.Bool.Decides.{nat_tests}
 use Rattle.std.proofs.lemmas.List.{take-append-drop}
@@ -17,9 +17,9 @@ use Rattle.scx_text.specs.declared.symbols.Symbol.TheVariants.{Assign, Compare, 
 use Rattle.scx_text.specs.declared.lexer.Class.{Class}
 use Rattle.scx_text.specs.declared.lexer.Class.TheVariants as class
 use Rattle.scx_text.specs.Options.{either}
-use Rattle.scx_text.specs.Symbols.{spelled, symbols, first_of, symbol_at}
+use Rattle.scx_text.specs.Symbols.{spelled, symbols, symbol_at}
 use Rattle.scx_text.specs.Tokens.{Lexeme, Word, Number, Mark, is_word, is_in, run, bounded, is_hexadecimal, digits_at, number_at, word_at, word_or_number, token_at}
-use Rattle.scx_text.specs.Laws.{AllIn, IsWord, IsNumeral, IsHexadecimal, IsToken, IsLongest}
+use Rattle.scx_text.specs.Laws.{AllIn, IsWord, IsToken, IsLongest}
 use Rattle.scx_text.proofs.Search.{spelled_positive, found, symbol_within}
 use Rattle.scx_text.proofs.Longest.{longest, no_begin}
 
@@ -126,10 +126,13 @@ marked near text s e = (symbol_within text s e, sym same, least)
   where
     n : ℕ
     n = length (spelled s)
+
     same : spelled s ≡ take n text
     same = (bytes_eq-Decides (spelled s) (take n text)).0 (found symbols text s e)
+
     split : text ≡ spelled s ++ drop n text
     split = sym (take-append-drop n text) ∙ ap (λ (x : List ℕ). x ++ drop n text) (sym same)
+
     least : (t : Lexeme) (front rest : List ℕ) → text ≡ front ++ rest → IsToken t front → length front ≤ n
     least (Mark u) front rest h is =
         let e1 : text ≡ spelled u ++ rest = h ∙ ap (λ (x : List ℕ). x ++ rest) is in
@@ -221,8 +224,10 @@ marked_of text e = go text (eqb-true _ _ q.0) (eqb-true _ _ q.1) p.1
   where
     p : (nat_eq (slice_index text 0) 48 && nat_eq (slice_index text 1) 120 ≡ true) × (is_ascii_hexdigit (slice_index text 2) ≡ true)
     p = both (nat_eq (slice_index text 0) 48 && nat_eq (slice_index text 1) 120) (is_ascii_hexdigit (slice_index text 2)) e
+
     q : (nat_eq (slice_index text 0) 48 ≡ true) × (nat_eq (slice_index text 1) 120 ≡ true)
     q = both (nat_eq (slice_index text 0) 48) (nat_eq (slice_index text 1) 120) p.0
+
     go : (text : List ℕ) → slice_index text 0 ≡ 48 → slice_index text 1 ≡ 120 → is_ascii_hexdigit (slice_index text 2) ≡ true → Marked text
     go [] x y z = absurd (omega (arith, x))
     go (b ∷ []) x y z = absurd (omega (arith, y))
@@ -239,6 +244,7 @@ hexadecimal near ds k e none some = rw e (within, inr (take (run class.Hexadecim
   where
     within : suc (suc (run class.Hexadecimal ds)) ≤ length (48 ∷ 120 ∷ ds)
     within = omega (arith, run_most class.Hexadecimal ds)
+
     least : (t : Lexeme) (front rest : List ℕ) → 48 ∷ 120 ∷ ds ≡ front ++ rest → IsToken t front → length front ≤ suc (suc (run class.Hexadecimal ds))
     least (Mark u) front rest h is = absurd (unmarked (48 ∷ 120 ∷ ds) u front rest none h is)
     least (Word w) front rest h is = no (sym (word_first 48 (120 ∷ ds) front rest h is.1))
