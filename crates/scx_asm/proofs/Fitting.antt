@@ -1,6 +1,6 @@
 -- What the passes give is a program: its instructions fit their fields, and take as many slots as were
 -- planned.
-use Rattle.std.proofs.Common.{◌≡◌, ℕ, zero, suc, ◌+◌, ◌-◌, ◌/◌, ◌%◌, ◌^◌, ◌<◌, ◌≤◌, ℤ, pos, negsuc, neg_ℤ, Bool, true, false, nat_eq, nat_lt, is_some, List, [], ◌∷◌, ◌++◌, length, Option, Some, None, Result, Ok, Err, FitsSigned, refl, sym, ap, subst, ◌∙◌, arith}
+use Rattle.std.proofs.Common.{◌≡◌, ℕ, zero, suc, ◌+◌, ◌-◌, ◌/◌, ◌%◌, ◌^◌, ◌<◌, ◌≤◌, ℤ, pos, negsuc, neg_ℤ, Bool, true, false, nat_eq, nat_lt, is_some, List, [], ◌∷◌, ◌++◌, length, Option, Some, None, Result, Ok, Err, FitsSigned, refl, ap, subst, arith}
 use Rattle.std.proofs.lemmas.Bool.{ltb-true, ltb-false, lt-ltb, eqb-false}
 use Rattle.std.proofs.lemmas.Int.{ints}
 use Rattle.std.proofs.Math.Facts.{sfits_to_z}
@@ -8,7 +8,6 @@ use Rattle.std.specs.Int.{w16, w32, cast_signed}
 use Rattle.std.specs.List.{AllByRecursion}
 use Rattle.std.specs.Str.Lines.{lines}
 use Rattle.scx_semantics.specs.declared.instructions.Insn.{Insn}
-use Rattle.scx_semantics.specs.declared.instructions.Insn.TheVariants as insn
 use Rattle.scx_semantics.specs.declared.instructions.Operand.{Operand}
 use Rattle.scx_semantics.specs.declared.instructions.Operand.TheVariants as operand
 use Rattle.scx_semantics.specs.Code.{is_wide, size}
@@ -22,28 +21,28 @@ use Rattle.scx_text.specs.declared.items.Statement.TheVariants as statement
 use Rattle.scx_text.specs.declared.items.Jump.{Jump}
 use Rattle.scx_text.specs.declared.items.Jump.TheVariants as jump
 use Rattle.scx_text.specs.Options.{either, ◌>>=◌ as ◌>>-◌}
-use Rattle.scx_text.specs.Items.{Destination, Label, Distance, Line, Blank, Place_of, Says, Jumps, read_line}
+use Rattle.scx_text.specs.Items.{Label, Distance, Line, Blank, Place_of, Says, Jumps, read_line}
 use Rattle.scx_asm.specs.declared.faults.AsmFault.{AsmFault}
 use Rattle.scx_asm.specs.declared.faults.AsmFault.TheVariants.{Syntax, UnknownLabel, TwiceLabel, OutOfRange, TooLong}
-use Rattle.scx_asm.specs.Resolving.{immediate, short, wide, long, operand_of, insn_of, jump_of, distant, fits, slots, Labels, find, distance, ranged, to_label, resolved}
+use Rattle.scx_asm.specs.Resolving.{immediate, short, wide, long, operand_of, insn_of, jump_of, distant, fits, slots, Labels, find, distance, ranged, resolved}
 use Rattle.scx_asm.specs.Layout.{◌>>=◌, Draft, Plan, nothing, located, with_label, with_draft, with_line, with_text, planned}
-use Rattle.scx_asm.specs.Reading.{built, finished, read_insns, insn_places, code_of}
+use Rattle.scx_asm.specs.Reading.{built, finished, read_insns, code_of}
 
 -- ---- what follows a value
 
-bind_some : {A B : Type 0} (m : Option A) (f : A → Option B) (y : B) → (m >>- f) ≡ Some y → (x : A) × (m ≡ Some x) × (f x ≡ Some y)
+pub bind_some : {A B : Type 0} (m : Option A) (f : A → Option B) (y : B) → (m >>- f) ≡ Some y → (x : A) × (m ≡ Some x) × (f x ≡ Some y)
 bind_some (Some x) f y e = (x, refl, e)
 bind_some None f y e = absurd (cc)
 
-bind_ok : {A B E : Type 0} (m : Result A E) (f : A → Result B E) (y : B) → (m >>= f) ≡ Ok y → (x : A) × (m ≡ Ok x) × (f x ≡ Ok y)
+pub bind_ok : {A B E : Type 0} (m : Result A E) (f : A → Result B E) (y : B) → (m >>= f) ≡ Ok y → (x : A) × (m ≡ Ok x) × (f x ≡ Ok y)
 bind_ok (Ok x) f y e = (x, refl, e)
 bind_ok (Err d) f y e = absurd (cc)
 
-located_ok : {A : Type 0} (n : ℕ) (r : Result A AsmFault) (x : A) → located n r ≡ Ok x → r ≡ Ok x
+pub located_ok : {A : Type 0} (n : ℕ) (r : Result A AsmFault) (x : A) → located n r ≡ Ok x → r ≡ Ok x
 located_ok n (Ok y) x e = let same : y ≡ x = cc in ap (λ z. Ok z) same
 located_ok n (Err d) x e = absurd (cc)
 
-ranged_ok : (m : Option Insn) (i : Insn) → ranged m ≡ Ok i → m ≡ Some i
+pub ranged_ok : (m : Option Insn) (i : Insn) → ranged m ≡ Ok i → m ≡ Some i
 ranged_ok (Some j) i e = let same : j ≡ i = cc in ap (λ z. Some z) same
 ranged_ok None i e = absurd (cc)
 
@@ -183,7 +182,7 @@ label_fits : (r : Option ℕ) (slot : ℕ) (j : Jump) (i : Insn) → either r (�
 label_fits None slot j i e = absurd (cc)
 label_fits (Some target) slot j i e = jump_fits j (distance slot target) i (ranged_ok _ i e)
 
-line_fits : (labels : Labels) (slot : ℕ) (l : Line) (i : Insn) → resolved labels slot l ≡ Ok i → IsInsn i × (size i ≡ slots l)
+pub line_fits : (labels : Labels) (slot : ℕ) (l : Line) (i : Insn) → resolved labels slot l ≡ Ok i → IsInsn i × (size i ≡ slots l)
 line_fits labels slot (Says s) i e = insn_fits s i (ranged_ok _ i e)
 line_fits labels slot (Jumps j (Distance n)) i e =
     let k = bind_some (immediate n) _ i (ranged_ok (distant j n) i e) in

@@ -4,3 +4,11 @@ pub mod Building
 pub mod Fitting
 pub mod Written
 pub mod Printed
+pub mod TokensBack
+pub mod NamesBack
+pub mod InsnsBack
+pub mod ItemsBack
+pub mod LinesBack
+pub mod MeaningBack
+pub mod RoundTrip
+pub mod Standing

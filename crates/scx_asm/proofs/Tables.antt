@@ -1,12 +1,11 @@
 -- Labels in a table: what is found there, and one label more.
-use Rattle.std.proofs.Common.{◌≡◌, ℕ, Bool, true, false, cond, List, [], ◌∷◌, ◌++◌, map, is_some, Option, Some, None, Ok, Err, Bor, refl, ap, ◌∙◌, sym}
+use Rattle.std.proofs.Common.{◌≡◌, ℕ, true, false, cond, List, [], ◌∷◌, ◌++◌, is_some, Option, Some, None, Ok, Err, Bor, refl, ap}
 use Rattle.std.proofs.lemmas.List.{map-append}
 use Rattle.std.specs.Str.{bytes_eq}
 use Rattle.std.specs.Map.{lookup}
-use Rattle.scx_asm.specs.declared.faults.AsmFault.{AsmFault}
 use Rattle.scx_asm.specs.declared.faults.AsmFault.TheVariants.{TwiceLabel}
 use Rattle.scx_asm.specs.Resolving.{find}
-use Rattle.scx_asm.specs.Layout.{Draft, Plan, located, with_label}
+use Rattle.scx_asm.specs.Layout.{Draft, located, with_label}
 use Rattle.scx_asm.specs.Plans.{table}
 
 pub find_is : (l : Bor (List ℕ)) (es : List (Bor (List ℕ) × ℕ)) → find l.now (table es) ≡ lookup (λ (k : Bor (List ℕ)). bytes_eq l.now k.now) es

@@ -1,6 +1,6 @@
 -- The first pass over a text: line by line the instructions get their slots and the labels theirs, up to
 -- the first faulty line. Of several faults of one line the one with the least number is reported.
-use Rattle.std.specs.Prelude.{◌≡◌, ℕ, suc, ◌+◌, Bool, nat_lt, is_some, List, [], ◌∷◌, ◌++◌, map, Result, Ok, Err, if◌then◌else◌}
+use Rattle.std.specs.Prelude.{◌≡◌, ℕ, suc, ◌+◌, nat_lt, is_some, List, [], ◌∷◌, ◌++◌, Result, Ok, Err, if◌then◌else◌}
 use Rattle.scx_isa.specs.Spelling.{max_slots}
 use Rattle.scx_text.specs.Options.{either}
 use Rattle.scx_text.specs.Items.{Line, Blank, Place_of, line_of, read_line}

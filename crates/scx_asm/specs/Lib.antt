@@ -4,3 +4,5 @@ pub mod Layout
 pub mod Plans
 pub mod Reading
 pub mod Printing
+pub mod Standing
+pub mod Laws

@@ -1,6 +1,6 @@
 -- The instruction that a line stands for: its numbers have to fit their fields (RFC 9669, section 3), and
 -- a label stands for the distance to its slot from the slot behind the jump.
-use Rattle.std.specs.Prelude.{ℕ, ◌+◌, ◌-◌, ◌/◌, ◌%◌, ◌^◌, ℤ, pos, negsuc, neg_ℤ, ◌-ℤ◌, Bool, true, nat_lt, is_some, List, [], ◌∷◌, Option, Some, None, Result, Ok, Err, ok_or, if◌then◌else◌}
+use Rattle.std.specs.Prelude.{ℕ, ◌+◌, ◌-◌, ◌/◌, ◌%◌, ◌^◌, ℤ, pos, negsuc, neg_ℤ, ◌-ℤ◌, Bool, true, nat_lt, is_some, List, [], ◌∷◌, Option, Some, None, Result, Err, ok_or, if◌then◌else◌}
 use Rattle.std.specs.Str.{bytes_eq}
 use Rattle.std.specs.Int.{w32, cast_signed}
 use Rattle.scx_semantics.specs.declared.instructions.Insn.{Insn}
@@ -15,7 +15,7 @@ use Rattle.scx_text.specs.declared.items.Statement.TheVariants as statement
 use Rattle.scx_text.specs.declared.items.Jump.{Jump}
 use Rattle.scx_text.specs.declared.items.Jump.TheVariants as jump
 use Rattle.scx_text.specs.Options.{◌>>=◌, either}
-use Rattle.scx_text.specs.Items.{Destination, Label, Distance, Line, Blank, Place_of, Says, Jumps}
+use Rattle.scx_text.specs.Items.{Label, Distance, Line, Blank, Place_of, Says, Jumps}
 use Rattle.scx_asm.specs.declared.faults.AsmFault.{AsmFault}
 use Rattle.scx_asm.specs.declared.faults.AsmFault.TheVariants.{UnknownLabel, OutOfRange}
 

@@ -8,6 +8,7 @@ ghost use Rattle.scx_asm.specs.Resolving.{resolved, to_label};
 ghost use Rattle.scx_asm.specs.Layout.{Gives, draft_of};
 ghost use Rattle.scx_asm.specs.Plans.{table, plan_of};
 ghost use Rattle.scx_asm.specs.Reading.{built, finished, code_of, read_insns, read_text};
+ghost use Rattle.scx_asm.specs.Standing.{Answers};
 ghost use Rattle.std.specs.Prelude.{◌++◌, OnOk};
 ghost use Rattle.std.specs.List.{flat_map, AllByRecursion};
 
@@ -128,6 +129,7 @@ fn program_of(alloc: Global, insns: &[Insn]) -> Result<Program, AsmError>
 #[tactic(auto, using(crate::proofs::Written::fails_on))]
 pub fn assemble(alloc: Global, text: &str) -> Result<Program, AsmError>
     ensures exact { Gives (λ program. program) result (read_text text.now) }
+    ensures stands { Answers text.now result }
 {
     match instructions(alloc, text) {
         Ok(insns) => program_of(alloc, &insns),

@@ -8,6 +8,7 @@
 mod assembling;
 mod disassembling;
 mod faults;
+mod laws;
 mod layout;
 mod resolving;
 #[cfg(test)]
@@ -16,3 +17,4 @@ mod tests;
 pub use assembling::assemble;
 pub use disassembling::disassemble;
 pub use faults::{AsmError, AsmFault};
+pub use laws::canonical_text_is_read_back;

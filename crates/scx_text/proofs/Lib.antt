@@ -4,3 +4,5 @@ pub mod Numerals
 pub mod TokenBounds
 pub mod Lexing
 pub mod Names
+pub mod Longest
+pub mod LongestTokens

@@ -1,5 +1,5 @@
 -- The search for a symbol, as a loop goes over the table.
-use Rattle.std.proofs.Common.{◌≡◌, ℕ, ◌+◌, ◌<◌, ◌≤◌, Bool, true, false, nat_eq, lit<, List, [], ◌∷◌, length, take, drop, get_or, sym, ap, length-take, Option, Some, None, refl, arith}
+use Rattle.std.proofs.Common.{◌≡◌, ℕ, ◌+◌, ◌<◌, ◌≤◌, Bool, true, false, nat_eq, lit<, List, [], ◌∷◌, length, take, drop, get_or, ap, length-take, Some, None, refl, arith}
 use Rattle.std.specs.List.{starts_with}
 use Rattle.std.proofs.lemmas.List.{drop_more, drop_all}
 use Rattle.scx_semantics.specs.declared.operations.Operation.TheVariants.{Add, Subtract, Multiply, Divide, SignedDivide, Or, And, Xor, ShiftLeft, ShiftRight, ShiftRightSigned, Modulo, SignedModulo, Move}

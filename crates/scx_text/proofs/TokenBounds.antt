@@ -1,8 +1,6 @@
 -- A token has at least one byte.
-use Rattle.std.proofs.Common.{◌≡◌, ℕ, suc, ◌+◌, ◌<◌, ◌≤◌, Bool, true, false, List, [], ◌∷◌, length, slice_index, Option, Some, None, option_map, IfSome, refl, sym, ap, subst, ◌∙◌, arith}
+use Rattle.std.proofs.Common.{◌≡◌, ℕ, ◌<◌, ◌≤◌, Bool, true, false, List, [], ◌∷◌, length, Option, Some, None, option_map, IfSome, refl, sym, subst, arith}
 use Rattle.std.specs.Char.{is_ascii_digit, is_ascii_alphabetic}
-use Rattle.scx_text.specs.declared.lexer.Class.{Class}
-use Rattle.scx_text.specs.declared.lexer.Class.TheVariants as class
 use Rattle.scx_text.specs.declared.lexer.Token.{Token}
 use Rattle.scx_text.specs.Tokens.{Lexeme, lexeme, run, is_hexadecimal, number_at, word_at, word_or_number}
 

@@ -4,3 +4,4 @@ pub mod Tokens
 pub mod Names
 pub mod Items
 pub mod Canonical
+pub mod Laws

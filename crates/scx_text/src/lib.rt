@@ -3,6 +3,7 @@
 #![tactic(auto)]
 
 mod items;
+mod laws;
 mod lexer;
 mod operands;
 mod printing;
@@ -11,6 +12,7 @@ mod symbols;
 mod words;
 
 pub use items::{Argument, Item, Jump, Literal, Statement, Target};
+pub use laws::longest_token_is_read;
 pub use lexer::{Token, tokens};
 pub use printing::Canonical;
 pub use statements::item_of;

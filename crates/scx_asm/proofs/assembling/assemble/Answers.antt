@@ -1,4 +1,5 @@
 use Rattle.scx_asm.proofs.Fitting.{assembled}
+use Rattle.scx_asm.proofs.Standing.{answers_of, refusal_of}
 use Rattle.scx_asm.proofs.assembling.assemble.Goals as goal
 
 pub program_of-requires-clause-insns : goal.program_of-requires-clause-insns
@@ -6,3 +7,9 @@ program_of-requires-clause-insns c = rw c.deref.ensures.value (assembled c.args.
 
 pub program_of-requires-clause-program : goal.program_of-requires-clause-program
 program_of-requires-clause-program c = rw c.deref.ensures.value (assembled c.args.text.now c.in-Ok.insns.items c.in-Ok.ensures).program
+
+pub returns-in-Ok-clause-stands : goal.returns-in-Ok-clause-stands
+returns-in-Ok-clause-stands c = answers_of c.args.text.now c.in-Ok.insns.items c.program_of.result c.in-Ok.ensures (rw (← c.deref.ensures.value) c.program_of.ensures)
+
+pub returns-in-Err-clause-stands : goal.returns-in-Err-clause-stands
+returns-in-Err-clause-stands c = refusal_of c.args.text.now c.in-Err.error c.in-Err.ensures

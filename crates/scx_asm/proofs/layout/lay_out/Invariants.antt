@@ -1,4 +1,4 @@
-use Rattle.std.proofs.Common.{◌≡◌, map}
+use Rattle.std.proofs.Common.{◌≡◌}
 use Rattle.std.specs.Str.Lines.{lines}
 use Rattle.scx_asm.specs.Layout.{nothing, planned}
 use Rattle.scx_asm.specs.Plans.{plan_of}

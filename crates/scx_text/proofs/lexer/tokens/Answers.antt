@@ -1,5 +1,5 @@
-use Rattle.std.proofs.Common.{rules, ◌≡◌, ◌<◌, nat_eq, false, length, slice_index, Some, None, sym}
-use Rattle.scx_text.specs.Tokens.{lexeme, lexemes, is_blank, token_at, tokens}
+use Rattle.std.proofs.Common.{rules, ◌≡◌, ◌<◌, nat_eq, false, length, slice_index, sym}
+use Rattle.scx_text.specs.Tokens.{lexemes, is_blank, tokens}
 use Rattle.scx_text.proofs.Lexing.{after_one, no_token}
 use Rattle.scx_text.proofs.lexer.tokens.Goals as goal
 

@@ -1,0 +1,530 @@
+-- A text is read as the program that it stands for, and stands for the program that it is read as.
+use Rattle.std.proofs.Common.{◌≡◌, ℕ, zero, suc, ◌+◌, ◌<◌, ◌≤◌, ℤ, pos, negsuc, ◌-ℤ◌, ◌^◌, ◌-◌, Bool, true, false, nat_eq, nat_lt, is_some, List, [], ◌∷◌, ◌++◌, length, map, slice_index_or, Option, Some, None, Result, Ok, Err, ◌⊎◌, inl, inr, refl, sym, ap, subst, ◌∙◌, append_assoc, arith}
+use Rattle.std.proofs.lemmas.Bool.{ltb-true, lt-ltb, le-ltb, ne_eqb}
+use Rattle.std.proofs.lemmas.Int.{ints}
+use Rattle.std.proofs.lemmas.List.{append-nil}
+use Rattle.std.proofs.lemmas.List.Elements.{Contains-append_cases, Contains-append_left, Contains-append_right}
+use Rattle.std.proofs.lemmas.Slice.Eq.{bytes_eq-Decides}
+use Rattle.std.specs.List.{Contains, IsDistinct, AllByRecursion}
+use Rattle.std.specs.Str.{bytes_eq}
+use Rattle.std.specs.Str.Lines.{lines}
+use Rattle.scx_semantics.specs.declared.instructions.Insn.{Insn}
+use Rattle.scx_semantics.specs.declared.instructions.Insn.TheVariants as insn
+use Rattle.scx_semantics.specs.Arithmetic.{shifted}
+use Rattle.scx_semantics.specs.Code.{Code, is_wide, size}
+use Rattle.scx_semantics.specs.Steps.{target}
+use Rattle.scx_isa.specs.Spelling.{max_slots}
+use Rattle.scx_text.specs.declared.items.Jump.{Jump}
+use Rattle.scx_text.specs.declared.items.Jump.TheVariants as jump
+use Rattle.scx_text.specs.Options.{either}
+use Rattle.scx_text.specs.Items.{Label, Distance, Line, Blank, Place_of, Says, Jumps, read_line}
+use Rattle.scx_asm.specs.declared.faults.AsmFault.{AsmFault}
+use Rattle.scx_asm.specs.declared.faults.AsmFault.TheVariants.{Syntax, UnknownLabel, TwiceLabel, OutOfRange, TooLong}
+use Rattle.scx_asm.specs.Resolving.{operand_of, short, wide, jump_of, distant, distance, fits, slots, ranged, Labels, find, resolved}
+use Rattle.scx_asm.specs.declared.faults.AsmError.{AsmError}
+use Rattle.scx_asm.specs.declared.faults.AsmError.TheVariants.{Refused, OutOfMemory}
+use Rattle.scx_asm.specs.Layout.{◌>>=◌, Draft, Plan, nothing, located, with_label, with_draft, with_line, with_text, planned, Gives, Fails}
+use Rattle.scx_asm.specs.Reading.{built, finished, read_insns, read_text, code_of}
+use Rattle.scx_asm.specs.Standing.{defined, definitions, names, IsJump, IsSaid, AreSaid, StandsFor, Answers}
+use Rattle.scx_asm.proofs.Written.{fails_on}
+use Rattle.scx_asm.proofs.Fitting.{bind_some, bind_ok, located_ok, ranged_ok, line_fits, assembled}
+
+-- ---- labels
+
+same_bytes : (l : List ℕ) → bytes_eq l l ≡ true
+same_bytes l = (bytes_eq-Decides l l).1 refl
+
+-- what is found is defined
+there : (l : List ℕ) (t : ℕ) (es : Labels) → find l es ≡ Some t → Contains es (l, t)
+unfolding find
+there l t [] e = absurd (cc)
+there l t (x ∷ es) e = go (bytes_eq l x.0) refl (λ h. there l t es h)
+  where
+    go : (b : Bool) → bytes_eq l x.0 ≡ b → (find l es ≡ Some t → Contains es (l, t)) → Contains (x ∷ es) (l, t)
+    go true h behind =
+        let one : Some x.1 ≡ Some t = rw h at e in
+        let slot : x.1 ≡ t = cc in
+        let name : l ≡ x.0 = (bytes_eq-Decides l x.0).0 h in
+        let same : x ≡ (l, t) = ap (λ (s : ℕ). (x.0, s)) slot ∙ ap (λ (n : List ℕ). (n, t)) (sym name) in
+        Contains-append_left (x ∷ []) es (l, t) (0, omega arith, same)
+    go false h behind = Contains-append_right (x ∷ []) es (l, t) (behind (rw h at e))
+
+alone : (x y : List ℕ × ℕ) → Contains (x ∷ []) y → x ≡ y
+alone x y c = go c.0 c.1 c.2
+  where
+    go : (k : ℕ) → k < 1 → slice_index_or (x ∷ []) k y ≡ y → x ≡ y
+    go zero lt e = e
+    go (suc k) lt e = absurd (omega arith)
+
+apart : (l m : List ℕ) → bytes_eq m l ≡ false → bytes_eq l m ≡ false
+apart l m h = go (bytes_eq l m) refl
+  where
+    go : (b : Bool) → bytes_eq l m ≡ b → bytes_eq l m ≡ false
+    go false e = e
+    go true e =
+        let same : l ≡ m = (bytes_eq-Decides l m).0 e in
+        let bad : true ≡ false = sym ((bytes_eq-Decides m l).1 (sym same)) ∙ h in
+        absurd (cc)
+
+-- a name that differs from all differs from each
+apart_from : (m : List ℕ) (es : Labels) (x : List ℕ × ℕ) → AllByRecursion (λ y. bytes_eq m y ≡ false) (names es) → Contains es x → bytes_eq m x.0 ≡ false
+apart_from m [] x h c = absurd (omega (arith, c.1))
+apart_from m (e ∷ es) x h c = go (Contains-append_cases (e ∷ []) es x c) (λ w. apart_from m es x h.1 w)
+  where
+    go : Contains (e ∷ []) x ⊎ Contains es x → (Contains es x → bytes_eq m x.0 ≡ false) → bytes_eq m x.0 ≡ false
+    go (inl w) behind = subst (λ (y : List ℕ × ℕ). bytes_eq m y.0 ≡ false) (alone e x w) h.0
+    go (inr w) behind = behind w
+
+-- a label that is defined once is found
+found : (l : List ℕ) (t : ℕ) (es : Labels) → IsDistinct bytes_eq (names es) → Contains es (l, t) → find l es ≡ Some t
+unfolding find IsDistinct
+found l t [] d c = absurd (omega (arith, c.1))
+found l t (x ∷ es) d c = go (Contains-append_cases (x ∷ []) es (l, t) c) (λ w. found l t es d.1 w)
+  where
+    here : find l ((l, t) ∷ es) ≡ Some t
+    here = rw (same_bytes l) refl
+
+    go : Contains (x ∷ []) (l, t) ⊎ Contains es (l, t) → (Contains es (l, t) → find l es ≡ Some t) → find l (x ∷ es) ≡ Some t
+    go (inl w) behind = subst (λ (y : List ℕ × ℕ). find l (y ∷ es) ≡ Some t) (sym (alone x (l, t) w)) here
+    go (inr w) behind = rw (apart l x.0 (apart_from x.0 es (l, t) d.0 w)) (behind w)
+
+apart_later : (m : List ℕ) (es rest : Labels) (x : List ℕ × ℕ) → AllByRecursion (λ y. bytes_eq m y ≡ false) (names (es ++ x ∷ rest)) → bytes_eq m x.0 ≡ false
+apart_later m [] rest x h = h.0
+apart_later m (y ∷ es) rest x h = apart_later m es rest x h.1
+
+-- a label that is defined once isn't found among those before it
+new : (es rest : Labels) (x : List ℕ × ℕ) → IsDistinct bytes_eq (names (es ++ x ∷ rest)) → find x.0 es ≡ None
+unfolding find IsDistinct
+new [] rest x d = refl
+new (y ∷ es) rest x d = rw (apart x.0 y.0 (apart_later y.0 es rest x d.0)) (new es rest x d.1)
+
+apart_more : (m : List ℕ) (es : Labels) (x : List ℕ × ℕ) → AllByRecursion (λ y. bytes_eq m y ≡ false) (names es) → bytes_eq m x.0 ≡ false → AllByRecursion (λ y. bytes_eq m y ≡ false) (names (es ++ x ∷ []))
+apart_more m [] x h e = (e, tt)
+apart_more m (y ∷ es) x h e = (h.0, apart_more m es x h.1 e)
+
+abbrev no_slot : Option ℕ
+no_slot = None
+
+-- with a label that isn't found they stay distinct
+once_more : (es : Labels) (x : List ℕ × ℕ) → IsDistinct bytes_eq (names es) → find x.0 es ≡ None → IsDistinct bytes_eq (names (es ++ x ∷ []))
+unfolding find IsDistinct
+once_more [] x d e = (tt, tt)
+once_more (y ∷ es) x d e = go (bytes_eq x.0 y.0) refl (λ h. once_more es x d.1 h)
+  where
+    go : (b : Bool) → bytes_eq x.0 y.0 ≡ b → (find x.0 es ≡ None → IsDistinct bytes_eq (names (es ++ x ∷ []))) → IsDistinct bytes_eq (names (y ∷ (es ++ x ∷ [])))
+    go true h behind = let bad : Some y.1 ≡ no_slot = rw h at e in absurd (cc)
+    go false h behind = (apart_more y.0 es x d.0 (apart y.0 x.0 h), behind (rw h at e))
+
+-- ---- plans
+
+abbrev slots_of : List Line → ℕ
+slots_of [] = 0
+slots_of (l ∷ ls) = slots l + slots_of ls
+
+abbrev drafted : ℕ → ℕ → Line → List Draft
+drafted n s Blank = []
+drafted n s (Place_of l) = []
+drafted n s l = record { line = n; slot = s; says = l } ∷ []
+
+abbrev drafts : ℕ → ℕ → List Line → List Draft
+drafts n s [] = []
+drafts n s (l ∷ ls) = drafted n s l ++ drafts (suc n) (s + slots l) ls
+
+-- the plan with one line more, and with lines more from the n-th on
+abbrev after_one : ℕ → Plan → Line → Plan
+after_one n p l = record { slots = p.slots + slots l; labels = p.labels ++ defined p.slots l; drafts = p.drafts ++ drafted n p.slots l }
+
+abbrev after : ℕ → Plan → List Line → Plan
+after n p ls = record { slots = p.slots + slots_of ls; labels = p.labels ++ definitions p.slots ls; drafts = p.drafts ++ drafts n p.slots ls }
+
+abbrev plan : ℕ → Labels → List Draft → Plan
+plan s a d = record { slots = s; labels = a; drafts = d }
+
+same_plan : (s t : ℕ) (a b : Labels) (c d : List Draft) → s ≡ t → a ≡ b → c ≡ d → plan s a c ≡ plan t b d
+same_plan s t a b c d x y z = ap (λ (s : ℕ). plan s a c) x ∙ (ap (λ (a : Labels). plan t a c) y ∙ ap (λ (c : List Draft). plan t b c) z)
+
+plus_none : (s : ℕ) → s + 0 ≡ s
+plus_none s = omega arith
+
+unchanged : (p : Plan) → plan (p.slots + 0) (p.labels ++ []) (p.drafts ++ []) ≡ p
+unchanged p = same_plan _ _ _ _ _ _ (plus_none p.slots) (append-nil p.labels) (append-nil p.drafts)
+
+after_more : (n : ℕ) (p : Plan) (l : Line) (ls : List Line) → after (suc n) (after_one n p l) ls ≡ after n p (l ∷ ls)
+after_more n p l ls = same_plan _ _ _ _ _ _ (omega arith) (append_assoc p.labels (defined p.slots l) (definitions (p.slots + slots l) ls)) (append_assoc p.drafts (drafted n p.slots l) (drafts (suc n) (p.slots + slots l) ls))
+
+-- ---- the first pass over one line
+
+abbrev done : Plan → Result Plan AsmFault
+done p = Ok p
+
+abbrev refused : AsmFault → Result Plan AsmFault
+refused f = Err f
+
+line_as : (n : ℕ) (p : Plan) (rest : Labels) (l : Line) → IsDistinct bytes_eq (names (p.labels ++ (defined p.slots l ++ rest))) → fits l ≡ true → p.slots + slots l ≤ max_slots → with_line n p l ≡ done (after_one n p l)
+line_as n p rest Blank d fit le = ap done (sym (unchanged p))
+line_as n p rest (Place_of l) d fit le = rw (new p.labels rest (l, p.slots) d) (ap done (same_plan _ _ _ _ _ _ (sym (plus_none p.slots)) refl (sym (append-nil p.drafts))))
+line_as n p rest (Says s) d fit le = rw (fit, le-ltb _ _ le) (ap done (same_plan _ _ _ _ _ _ refl (sym (append-nil p.labels)) refl))
+line_as n p rest (Jumps j t) d fit le = rw (fit, le-ltb _ _ le) (ap done (same_plan _ _ _ _ _ _ refl (sym (append-nil p.labels)) refl))
+
+record Added (n : ℕ) (p q : Plan) (l : Line) : Type 0 where
+  pub is : after_one n p l ≡ q
+  pub once : IsDistinct bytes_eq (names q.labels)
+
+label_was : (n : ℕ) (p q : Plan) (l : List ℕ) → with_label p l ≡ Ok q → IsDistinct bytes_eq (names p.labels) → Added n p q (Place_of l)
+label_was n p q l e d = go (find l p.labels) refl
+  where
+    go : (r : Option ℕ) → find l p.labels ≡ r → Added n p q (Place_of l)
+    go (Some t) h = let bad : refused TwiceLabel ≡ Ok q = rw h at e in absurd (cc)
+    go None h =
+        let more : Plan = plan p.slots (p.labels ++ (l, p.slots) ∷ []) p.drafts in
+        let one : done more ≡ Ok q = rw h at e in
+        let same : more ≡ q = cc in
+        record {
+          is = same_plan _ _ _ _ _ _ (plus_none p.slots) refl (append-nil p.drafts) ∙ same;
+          once = subst (λ (q : Plan). IsDistinct bytes_eq (names q.labels)) same (once_more p.labels (l, p.slots) d h);
+        }
+
+draft_was : (n : ℕ) (p q : Plan) (l : Line) → with_draft n p l ≡ Ok q → plan (p.slots + slots l) p.labels (p.drafts ++ record { line = n; slot = p.slots; says = l } ∷ []) ≡ q
+draft_was n p q l e = go (fits l) (nat_lt max_slots (p.slots + slots l)) refl refl
+  where
+    go : (a b : Bool) → fits l ≡ a → nat_lt max_slots (p.slots + slots l) ≡ b → plan (p.slots + slots l) p.labels (p.drafts ++ record { line = n; slot = p.slots; says = l } ∷ []) ≡ q
+    go false b x y = let bad : refused OutOfRange ≡ Ok q = rw x at e in absurd (cc)
+    go true true x y = let bad : refused TooLong ≡ Ok q = rw (x, y) at e in absurd (cc)
+    go true false x y =
+        let one : done (plan (p.slots + slots l) p.labels (p.drafts ++ record { line = n; slot = p.slots; says = l } ∷ [])) ≡ Ok q = rw (x, y) at e in
+        cc
+
+-- an instruction changes no label
+drafted_was : (n : ℕ) (p q : Plan) (l : Line) (k : ℕ) (ds : List Draft) → plan k p.labels ds ≡ q → after_one n p l ≡ plan k (p.labels ++ []) ds → IsDistinct bytes_eq (names p.labels) → Added n p q l
+drafted_was n p q l k ds e a d = record {
+  is = a ∙ (same_plan _ _ _ _ _ _ refl (append-nil p.labels) refl ∙ e);
+  once = subst (λ (q : Plan). IsDistinct bytes_eq (names q.labels)) e d;
+}
+
+line_was : (n : ℕ) (p q : Plan) (l : Line) → with_line n p l ≡ Ok q → IsDistinct bytes_eq (names p.labels) → Added n p q l
+line_was n p q Blank e d =
+    let same : p ≡ q = cc in
+    record { is = unchanged p ∙ same; once = subst (λ (q : Plan). IsDistinct bytes_eq (names q.labels)) same d }
+line_was n p q (Place_of l) e d = label_was n p q l e d
+line_was n p q (Says s) e d = drafted_was n p q (Says s) _ _ (draft_was n p q (Says s) e) refl d
+line_was n p q (Jumps j t) e d = drafted_was n p q (Jumps j t) _ _ (draft_was n p q (Jumps j t) e) refl d
+
+text_was : (n : ℕ) (p q : Plan) (r : Option Line) → either r (with_line n p) (Err Syntax) ≡ Ok q → (l : Line) × (r ≡ Some l) × (with_line n p l ≡ Ok q)
+text_was n p q None e = absurd (cc)
+text_was n p q (Some l) e = (l, refl, e)
+
+-- ---- the first pass over lines
+
+abbrev planned_is : Plan → Result Plan (AsmFault × ℕ)
+planned_is p = Ok p
+
+pub record Planned (n : ℕ) (p q : Plan) (texts : List (List ℕ)) : Type 0 where
+  pub says : List Line
+  pub read : map read_line texts ≡ map Some says
+  pub is : after n p says ≡ q
+  pub once : IsDistinct bytes_eq (names q.labels)
+
+pub planned_was : (n : ℕ) (p q : Plan) (texts : List (List ℕ)) → planned n p texts ≡ Ok q → IsDistinct bytes_eq (names p.labels) → Planned n p q texts
+unfolding planned
+planned_was n p q [] e d =
+    let same : p ≡ q = cc in
+    record { says = []; read = refl; is = unchanged p ∙ same; once = subst (λ (q : Plan). IsDistinct bytes_eq (names q.labels)) same d }
+planned_was n p q (text ∷ texts) e d =
+    let next = bind_ok (located n (with_text n p text)) _ q e in
+    let line = text_was n p next.0 (read_line text) (located_ok n _ next.0 next.1) in
+    let one = line_was n p next.0 line.0 line.2 d in
+    let rest = planned_was (suc n) next.0 q texts next.2 one.once in
+    record {
+      says = line.0 ∷ rest.says;
+      read = ap (λ (x : Option Line). x ∷ map read_line texts) line.1 ∙ ap (λ (xs : List (Option Line)). Some line.0 ∷ xs) rest.read;
+      is = sym (after_more n p line.0 rest.says) ∙ (ap (λ (p : Plan). after (suc n) p rest.says) one.is ∙ rest.is);
+      once = rest.once;
+    }
+
+-- ---- what lines say
+
+abbrev no_number : Option ℤ
+no_number = None
+
+short_is : (z o : ℤ) → short z ≡ Some o → o ≡ z
+short_is (pos n) o e = go (nat_lt n (2 ^ 15)) refl
+  where
+    go : (b : Bool) → nat_lt n (2 ^ 15) ≡ b → o ≡ pos n
+    go true t = let one : Some (pos n) ≡ Some o = rw t at e in let same : pos n ≡ o = cc in sym same
+    go false t = let bad : no_number ≡ Some o = rw t at e in absurd (cc)
+short_is (negsuc n) o e = go (nat_lt n (2 ^ 15)) refl
+  where
+    go : (b : Bool) → nat_lt n (2 ^ 15) ≡ b → o ≡ negsuc n
+    go true t = let one : Some (negsuc n) ≡ Some o = rw t at e in let same : negsuc n ≡ o = cc in sym same
+    go false t = let bad : no_number ≡ Some o = rw t at e in absurd (cc)
+
+long_is : (z o : ℤ) → wide z ≡ Some o → o ≡ z
+long_is (pos n) o e = go (nat_lt n (2 ^ 31)) refl
+  where
+    go : (b : Bool) → nat_lt n (2 ^ 31) ≡ b → o ≡ pos n
+    go true t = let one : Some (pos n) ≡ Some o = rw t at e in let same : pos n ≡ o = cc in sym same
+    go false t = let bad : no_number ≡ Some o = rw t at e in absurd (cc)
+long_is (negsuc n) o e = go (nat_lt n (2 ^ 31)) refl
+  where
+    go : (b : Bool) → nat_lt n (2 ^ 31) ≡ b → o ≡ negsuc n
+    go true t = let one : Some (negsuc n) ≡ Some o = rw t at e in let same : negsuc n ≡ o = cc in sym same
+    go false t = let bad : no_number ≡ Some o = rw t at e in absurd (cc)
+
+-- the slot behind a jump is the next, and the target lies its distance from there
+abbrev Lands : ℕ → ℤ → Insn → Type 0
+Lands s z i = target s i ≡ shifted (s + 1) z
+
+lands : (s : ℕ) (j : Jump) (z : ℤ) (i : Insn) → jump_of j z ≡ Some i → Lands s z i
+lands s (jump.If w c r x) z i e =
+    let o = bind_some (short z) _ i e in
+    let y = bind_some (operand_of x) _ i o.2 in
+    let same : insn.JumpIf w c r o.0 y.0 ≡ i = cc in
+    subst (λ (i : Insn). Lands s z i) same (ap (λ (z : ℤ). shifted (s + 1) z) (short_is z o.0 o.1))
+lands s jump.Goto z i e =
+    let o = bind_some (short z) _ i e in
+    let same : insn.Goto o.0 ≡ i = cc in
+    subst (λ (i : Insn). Lands s z i) same (ap (λ (z : ℤ). shifted (s + 1) z) (short_is z o.0 o.1))
+lands s jump.GotoLong z i e =
+    let o = bind_some (wide z) _ i e in
+    let same : insn.GotoLong o.0 ≡ i = cc in
+    subst (λ (i : Insn). Lands s z i) same (ap (λ (z : ℤ). shifted (s + 1) z) (long_is z o.0 o.1))
+
+shifted_from : (n t : ℕ) (z : ℤ) → shifted n z ≡ Some t → z ≡ pos t -ℤ pos n
+shifted_from n t (pos k) e =
+    let sum : n + k ≡ t = cc in
+    omega (arith, ints)
+shifted_from n t (negsuc k) e = go (nat_lt k n) refl
+  where
+    go : (b : Bool) → nat_lt k n ≡ b → negsuc k ≡ pos t -ℤ pos n
+    go true h =
+        let one : Some (n - suc k) ≡ Some t = rw h at e in
+        let difference : n - suc k ≡ t = cc in
+        let below = ltb-true _ _ h in
+        omega (arith, ints)
+    go false h = let bad : no_slot ≡ Some t = rw h at e in absurd (cc)
+
+shifted_to : (n t : ℕ) (z : ℤ) → z ≡ pos t -ℤ pos n → shifted n z ≡ Some t
+shifted_to n t (pos k) e =
+    let sum : n + k ≡ t = omega (arith, ints) in
+    ap (λ (t : ℕ). Some t) sum
+shifted_to n t (negsuc k) e =
+    let below : k < n = omega (arith, ints) in
+    let difference : n - suc k ≡ t = omega (arith, ints) in
+    rw (lt-ltb _ _ below) (ap (λ (t : ℕ). Some t) difference)
+
+-- a jump has a slot as its target exactly if its distance is that to the slot
+jump_to : (s t : ℕ) (j : Jump) (i : Insn) → target s i ≡ Some t → IsJump j i → jump_of j (distance s t) ≡ Some i
+jump_to s t j i there h =
+    let same : h.0 ≡ distance s t = shifted_from (s + 1) t h.0 (sym (lands s j h.0 i h.1) ∙ there) in
+    subst (λ (z : ℤ). jump_of j z ≡ Some i) same h.1
+
+goes_to : (s t : ℕ) (j : Jump) (i : Insn) → jump_of j (distance s t) ≡ Some i → target s i ≡ Some t
+goes_to s t j i e = lands s j (distance s t) i e ∙ shifted_to (s + 1) t (distance s t) refl
+
+-- numbers that fit beside one distance fit beside none
+jump_placed : (j : Jump) (z : ℤ) (i : Insn) → jump_of j z ≡ Some i → is_some (jump_of j (pos 0)) ≡ true
+jump_placed (jump.If w c r x) z i e =
+    let o = bind_some (short z) _ i e in
+    let y = bind_some (operand_of x) _ i o.2 in
+    rw y.1 refl
+jump_placed jump.Goto z i e = refl
+jump_placed jump.GotoLong z i e = refl
+
+said_fits : (labels : Labels) (s : ℕ) (l : Line) (i : Insn) → IsSaid labels s l i → fits l ≡ true
+said_fits labels s (Says x) i h = ap (λ (r : Option Insn). is_some r) h
+said_fits labels s (Jumps j (Distance n)) i h = ap (λ (r : Option Insn). is_some r) h
+said_fits labels s (Jumps j (Label l)) i h = jump_placed j h.3.0 i h.3.1
+said_fits labels s Blank i h = refl
+said_fits labels s (Place_of l) i h = refl
+
+resolved_as : (labels : Labels) (s : ℕ) (l : Line) (i : Insn) → IsDistinct bytes_eq (names labels) → IsSaid labels s l i → resolved labels s l ≡ Ok i
+resolved_as labels s (Says x) i d h = ap (λ (r : Option Insn). ranged r) h
+resolved_as labels s (Jumps j (Distance n)) i d h = ap (λ (r : Option Insn). ranged r) h
+resolved_as labels s (Jumps j (Label l)) i d h = rw (found l h.0 labels d h.1) (ap (λ (r : Option Insn). ranged r) (jump_to s h.0 j i h.2 h.3))
+resolved_as labels s Blank i d h = absurd h
+resolved_as labels s (Place_of l) i d h = absurd h
+
+resolved_was : (labels : Labels) (s : ℕ) (l : Line) (i : Insn) → resolved labels s l ≡ Ok i → IsSaid labels s l i
+resolved_was labels s (Says x) i e = ranged_ok _ i e
+resolved_was labels s (Jumps j (Distance n)) i e = ranged_ok (distant j n) i e
+resolved_was labels s (Jumps j (Label l)) i e = go (find l labels) refl e
+  where
+    go : (r : Option ℕ) → find l labels ≡ r → either r (λ target. ranged (jump_of j (distance s target))) (Err UnknownLabel) ≡ Ok i → IsSaid labels s (Jumps j (Label l)) i
+    go None f e = absurd (cc)
+    go (Some t) f e =
+        let jump = ranged_ok (jump_of j (distance s t)) i e in
+        (t, there l t labels f, goes_to s t j i jump, (distance s t, jump))
+resolved_was labels s Blank i e = absurd (cc)
+resolved_was labels s (Place_of l) i e = absurd (cc)
+
+record Left (labels : Labels) (s : ℕ) (l : Line) (ls : List Line) : Type 0 where
+  pub fit : fits l ≡ true
+  pub insns : List Insn
+  pub rest : AreSaid labels (s + slots l) ls insns
+
+nothing_more : (labels : Labels) (s : ℕ) (ls : List Line) (is : List Insn) → AreSaid labels s ls is → AreSaid labels (s + 0) ls is
+nothing_more labels s ls is h = subst (λ (k : ℕ). AreSaid labels k ls is) (sym (plus_none s)) h
+
+left : (labels : Labels) (s : ℕ) (l : Line) (ls : List Line) (is : List Insn) → AreSaid labels s (l ∷ ls) is → Left labels s l ls
+left labels s Blank ls is h = record { fit = refl; insns = is; rest = nothing_more labels s ls is h }
+left labels s (Place_of l) ls is h = record { fit = refl; insns = is; rest = nothing_more labels s ls is h }
+left labels s (Says x) ls [] h = absurd h
+left labels s (Says x) ls (i ∷ is) h = record { fit = said_fits labels s (Says x) i h.0; insns = is; rest = h.1 }
+left labels s (Jumps j t) ls [] h = absurd h
+left labels s (Jumps j t) ls (i ∷ is) h = record { fit = said_fits labels s (Jumps j t) i h.0; insns = is; rest = h.1 }
+
+planned_as : (n : ℕ) (p : Plan) (texts : List (List ℕ)) (ls : List Line) (labels : Labels) (is : List Insn) → map read_line texts ≡ map Some ls → IsDistinct bytes_eq (names (p.labels ++ definitions p.slots ls)) → AreSaid labels p.slots ls is → p.slots + slots_of ls ≤ max_slots
+    → planned n p texts ≡ planned_is (after n p ls)
+unfolding planned
+planned_as n p [] [] labels is e d h le = ap planned_is (sym (unchanged p))
+planned_as n p [] (l ∷ ls) labels is e d h le = absurd (cc)
+planned_as n p (text ∷ texts) [] labels is e d h le = absurd (cc)
+planned_as n p (text ∷ texts) (l ∷ ls) labels is e d h le =
+    let first : read_line text ≡ Some l = cc in
+    let others : map read_line texts ≡ map Some ls = cc in
+    let k = left labels p.slots l ls is h in
+    let one : with_line n p l ≡ done (after_one n p l) = line_as n p (definitions (p.slots + slots l) ls) l d k.fit (omega arith) in
+    let once = subst (λ (es : Labels). IsDistinct bytes_eq (names es)) (sym (append_assoc p.labels (defined p.slots l) (definitions (p.slots + slots l) ls))) d in
+    let more = planned_as (suc n) (after_one n p l) texts ls labels k.insns others once k.rest (omega arith) in
+    go first one more
+  where
+    go : read_line text ≡ Some l → with_line n p l ≡ done (after_one n p l) → planned (suc n) (after_one n p l) texts ≡ planned_is (after (suc n) (after_one n p l) ls) → (located n (with_text n p text) >>= λ q. planned (suc n) q texts) ≡ planned_is (after n p (l ∷ ls))
+    go first one more = rw (first, one) (more ∙ ap planned_is (after_more n p l ls))
+
+-- ---- the second pass
+
+build : (labels : Labels) (d : Draft) (ds : List Draft) (i : Insn) (is : List Insn) → resolved labels d.slot d.says ≡ Ok i → built labels ds ≡ Ok is → built labels (d ∷ ds) ≡ Ok (i ∷ is)
+unfolding built
+build labels d ds i is e f = rw (e, f) refl
+
+built_as : (labels : Labels) (n s : ℕ) (ls : List Line) (is : List Insn) → IsDistinct bytes_eq (names labels) → AreSaid labels s ls is → built labels (drafts n s ls) ≡ Ok is
+unfolding built
+built_as labels n s [] [] d h = refl
+built_as labels n s [] (i ∷ is) d h = absurd h
+built_as labels n s (Blank ∷ ls) is d h = built_as labels (suc n) (s + 0) ls is d (nothing_more labels s ls is h)
+built_as labels n s (Place_of l ∷ ls) is d h = built_as labels (suc n) (s + 0) ls is d (nothing_more labels s ls is h)
+built_as labels n s (Says x ∷ ls) [] d h = absurd h
+built_as labels n s (Says x ∷ ls) (i ∷ is) d h = build labels (record { line = n; slot = s; says = Says x }) (drafts (suc n) (s + slots (Says x)) ls) i is (resolved_as labels s (Says x) i d h.0) (built_as labels (suc n) (s + slots (Says x)) ls is d h.1)
+built_as labels n s (Jumps j t ∷ ls) [] d h = absurd h
+built_as labels n s (Jumps j t ∷ ls) (i ∷ is) d h = build labels (record { line = n; slot = s; says = Jumps j t }) (drafts (suc n) (s + slots (Jumps j t)) ls) i is (resolved_as labels s (Jumps j t) i d h.0) (built_as labels (suc n) (s + slots (Jumps j t)) ls is d h.1)
+
+record Built (labels : Labels) (d : Draft) (ds : List Draft) (is : List Insn) : Type 0 where
+  pub first : Insn
+  pub others : List Insn
+  pub one : resolved labels d.slot d.says ≡ Ok first
+  pub rest : built labels ds ≡ Ok others
+  pub both : first ∷ others ≡ is
+
+build_was : (labels : Labels) (d : Draft) (ds : List Draft) (is : List Insn) → built labels (d ∷ ds) ≡ Ok is → Built labels d ds is
+unfolding built
+build_was labels d ds is e =
+    let i = bind_ok (located d.line (resolved labels d.slot d.says)) _ is e in
+    let rest = bind_ok (built labels ds) _ is i.2 in
+    let same : i.0 ∷ rest.0 ≡ is = cc in
+    record { first = i.0; others = rest.0; one = located_ok d.line _ i.0 i.1; rest = rest.1; both = same }
+
+nothing_less : (labels : Labels) (s : ℕ) (ls : List Line) (is : List Insn) → AreSaid labels (s + 0) ls is → AreSaid labels s ls is
+nothing_less labels s ls is h = subst (λ (k : ℕ). AreSaid labels k ls is) (plus_none s) h
+
+built_was : (labels : Labels) (n s : ℕ) (ls : List Line) (is : List Insn) → built labels (drafts n s ls) ≡ Ok is → AreSaid labels s ls is
+unfolding built
+built_was labels n s [] is e = let same : [] ≡ is = cc in subst (λ (is : List Insn). AreSaid labels s [] is) same tt
+built_was labels n s (Blank ∷ ls) is e = nothing_less labels s ls is (built_was labels (suc n) (s + 0) ls is e)
+built_was labels n s (Place_of l ∷ ls) is e = nothing_less labels s ls is (built_was labels (suc n) (s + 0) ls is e)
+built_was labels n s (Says x ∷ ls) is e =
+    let b = build_was labels (record { line = n; slot = s; says = Says x }) (drafts (suc n) (s + slots (Says x)) ls) is e in
+    subst (λ (is : List Insn). AreSaid labels s (Says x ∷ ls) is) b.both (resolved_was labels s (Says x) b.first b.one, built_was labels (suc n) (s + slots (Says x)) ls b.others b.rest)
+built_was labels n s (Jumps j t ∷ ls) is e =
+    let b = build_was labels (record { line = n; slot = s; says = Jumps j t }) (drafts (suc n) (s + slots (Jumps j t)) ls) is e in
+    subst (λ (is : List Insn). AreSaid labels s (Jumps j t ∷ ls) is) b.both (resolved_was labels s (Jumps j t) b.first b.one, built_was labels (suc n) (s + slots (Jumps j t)) ls b.others b.rest)
+
+-- ---- how long the program is
+
+more_places : (i : Insn) (is : List Insn) → length (code_of (i ∷ is)) ≡ size i + length (code_of is)
+more_places i is = go (is_wide i) refl
+  where
+    go : (b : Bool) → is_wide i ≡ b → length (code_of (i ∷ is)) ≡ size i + length (code_of is)
+    go true w = rw w (omega arith)
+    go false w = rw w (omega arith)
+
+slots_are : (labels : Labels) (s : ℕ) (ls : List Line) (is : List Insn) → IsDistinct bytes_eq (names labels) → AreSaid labels s ls is → length (code_of is) ≡ slots_of ls
+slots_are labels s [] [] d h = refl
+slots_are labels s [] (i ∷ is) d h = absurd h
+slots_are labels s (Blank ∷ ls) is d h = omega (arith, slots_are labels s ls is d h)
+slots_are labels s (Place_of l ∷ ls) is d h = omega (arith, slots_are labels s ls is d h)
+slots_are labels s (Says x ∷ ls) [] d h = absurd h
+slots_are labels s (Says x ∷ ls) (i ∷ is) d h =
+    let one = (line_fits labels s (Says x) i (resolved_as labels s (Says x) i d h.0)).1 in
+    omega (arith, more_places i is, one, slots_are labels (s + slots (Says x)) ls is d h.1)
+slots_are labels s (Jumps j t ∷ ls) [] d h = absurd h
+slots_are labels s (Jumps j t ∷ ls) (i ∷ is) d h =
+    let one = (line_fits labels s (Jumps j t) i (resolved_as labels s (Jumps j t) i d h.0)).1 in
+    omega (arith, more_places i is, one, slots_are labels (s + slots (Jumps j t)) ls is d h.1)
+
+-- ---- both passes
+
+abbrev insns_are : List Insn → Result (List Insn) (AsmFault × ℕ)
+insns_are is = Ok is
+
+abbrev code_is : Code → Result Code (AsmFault × ℕ)
+code_is code = Ok code
+
+finish : (p : Plan) (is : List Insn) → 0 < p.slots → built p.labels p.drafts ≡ Ok is → finished p ≡ Ok is
+finish p is some e =
+    let nonzero : nat_eq p.slots 0 ≡ false = ne_eqb p.slots 0 (λ e. omega arith) in
+    rw nonzero e
+
+finish_was : (p : Plan) (is : List Insn) → finished p ≡ Ok is → built p.labels p.drafts ≡ Ok is
+finish_was p is e = go (nat_eq p.slots 0) refl
+  where
+    empty : Result (List Insn) (AsmFault × ℕ)
+    empty = Err (Syntax, 1)
+
+    go : (b : Bool) → nat_eq p.slots 0 ≡ b → built p.labels p.drafts ≡ Ok is
+    go true t = let bad : Err (Syntax, 1) ≡ insns_are is = rw t at e in absurd (cc)
+    go false t = rw t at e
+
+pub read_as : (text : List ℕ) (code : Code) → StandsFor text code → read_text text ≡ Ok code
+read_as text code h =
+    let labels = definitions 0 h.says in
+    let total : length code ≡ slots_of h.says = ap length h.program ∙ slots_are labels 0 h.says h.insns h.once h.said in
+    let laid = planned_as 1 nothing (lines text) h.says labels h.insns h.read h.once h.said (omega (arith, total, h.fits)) in
+    let insns = finish (after 1 nothing h.says) h.insns (omega (arith, total, h.some)) (built_as labels 1 0 h.says h.insns h.once h.said) in
+    rw (laid, insns) (ap code_is (sym h.program))
+
+pub read_was : (text : List ℕ) (code : Code) → read_text text ≡ Ok code → StandsFor text code
+unfolding IsDistinct
+read_was text code e =
+    let insns = bind_ok (read_insns text) _ code e in
+    let plans = bind_ok (planned 1 nothing (lines text)) _ insns.0 insns.1 in
+    let same : code_of insns.0 ≡ code = cc in
+    let laid = planned_was 1 nothing plans.0 (lines text) plans.1 tt in
+    let fine = (assembled text insns.0 insns.1).program in
+    let once : IsDistinct bytes_eq (names (definitions 0 laid.says)) = subst (λ (p : Plan). IsDistinct bytes_eq (names p.labels)) (sym laid.is) laid.once in
+    let one : built (definitions 0 laid.says) (drafts 1 0 laid.says) ≡ Ok insns.0 = finish_was (after 1 nothing laid.says) insns.0 (subst (λ (p : Plan). finished p ≡ Ok insns.0) (sym laid.is) plans.2) in
+    record {
+      says = laid.says;
+      insns = insns.0;
+      read = laid.read;
+      once = once;
+      said = built_was (definitions 0 laid.says) 1 0 laid.says insns.0 one;
+      program = sym same;
+      some = subst (λ (code : Code). 0 < length code) same fine.some;
+      fits = subst (λ (code : Code). length code ≤ max_slots) same fine.fits;
+    }
+
+-- what gives what was read answers for the text
+pub answers : (text : List ℕ) (answer : Result Code AsmError) → Gives (λ program. program) answer (read_text text) → Answers text answer
+answers text (Ok code) e = read_was text code e
+answers text (Err (Refused fault line)) e = λ code h. none (sym e ∙ read_as text code h)
+  where
+    none : {f : AsmFault × ℕ} {c : Code} → Err f ≡ code_is c → ⊥
+    none e = cc
+answers text (Err OutOfMemory) e = tt
+
+-- the same for the two ways in which the passes end
+pub answers_of : (text : List ℕ) (is : List Insn) (answer : Result Code AsmError) → read_insns text ≡ Ok is → Gives (λ program. program) answer (Ok (code_of is)) → Answers text answer
+answers_of text is answer e gives = answers text answer (rw e gives)
+
+pub refusal_of : (text : List ℕ) (error : AsmError) → Fails error (read_insns text) → Answers text (Err error)
+refusal_of text error fails = answers text (Err error) (fails_on error (read_insns text) fails)

@@ -1,0 +1,12 @@
+use Rattle.scx_asm.proofs.RoundTrip.{reads_back, assembles_back}
+use Rattle.scx_asm.proofs.Standing.{read_as}
+use Rattle.scx_asm.proofs.laws.canonical_text_is_read_back.Goals as goal
+
+pub returns-clause-read : goal.returns-clause-read
+returns-clause-read c = reads_back
+
+pub returns-clause-assembled : goal.returns-clause-assembled
+returns-clause-assembled c = assembles_back
+
+pub returns-clause-stands : goal.returns-clause-stands
+returns-clause-stands c = read_as
