@@ -1,5 +1,6 @@
-ghost use Rattle.std.specs.Prelude.{◌≡◌, ◌<◌, ◌≤◌, OnOk, IfErr};
+ghost use Rattle.std.specs.Prelude.{◌≡◌, ◌<◌, ◌≤◌, ◌≤ℤ◌, pos, Some, OnOk, IfErr};
 ghost use Rattle.scx_semantics.specs.Code.{at};
+ghost use Rattle.scx_semantics.specs.Steps.{distance, target};
 ghost use Rattle.scx_isa.specs.Flow.{jump_fault, end_fault, place_fault, Flows, IsFirstFlowFault, StaysInControl};
 
 use crate::faults::{FlowError, FlowFault};
@@ -20,6 +21,28 @@ pub fn flow(program: &Program) -> Result<(), FlowError>
         }
     }
     Ok(())
+}
+
+/// The slot that the instruction at this one jumps to; the next one's where it is no jump.
+pub fn target(slot: usize, insn: Insn) -> usize
+    requires in_range { slot < MAX_SLOTS }
+    requires forward { pos 0 ≤ℤ distance insn }
+    ensures target { target slot insn ≡ Some result }
+    ensures forward { slot < result }
+{
+    slot + insn.size() + distance(insn) as usize
+}
+
+/// How many slots a jump skips; 0 where the instruction is none.
+fn distance(insn: Insn) -> i32
+    ensures { result ≡ distance insn }
+{
+    match insn {
+        Insn::JumpIf(_, _, _, offset, _) => i32::from(offset),
+        Insn::Goto(offset) => i32::from(offset),
+        Insn::GotoLong(offset) => offset,
+        _ => 0,
+    }
 }
 
 /// The fault of the instruction at a slot, if one begins there.

@@ -18,7 +18,7 @@ mod program;
 pub use decoding::decode;
 pub use encoding::encode;
 pub use faults::{DecodeError, FlowError, FlowFault};
-pub use flows::flow;
+pub use flows::{flow, target};
 pub use laws::spelling_is_one_to_one;
 pub use program::{MAX_SLOTS, Program};
 pub use scx_encoding::{DecodeFault, Exclusion};
