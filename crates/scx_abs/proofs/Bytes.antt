@@ -17,9 +17,8 @@ use Rattle.scx_abs.specs.declared.kinds.Kind.{Kind}
 use Rattle.scx_abs.specs.declared.kinds.Kind.TheVariants.{Unusable, Num, ElemOrNull, TaskOrNull}
 use Rattle.scx_abs.specs.declared.kinds.Cell.{Cell}
 use Rattle.scx_abs.specs.declared.kinds.Cell.TheVariants.{Bytes, Pointer}
-use Rattle.scx_abs.specs.Cells.{is_written, marked}
+use Rattle.scx_abs.specs.Cells.{is_written, marked, all_written, written_in}
 use Rattle.scx_abs.specs.Stands.{Stands, IsByte, CellStands}
-use Rattle.scx_abs.specs.Cells.{all_written, written_in}
 use Rattle.scx_abs.proofs.Orders.{each_byte_at, none_written}
 
 -- ---- reading

@@ -2,8 +2,7 @@
 use Rattle.std.proofs.Common.{◌≡◌, ℕ, suc, ◌+◌, ◌-◌, ◌<◌, ◌≤◌, ◌⊎◌, inl, inr, Bool, true, false, ◌&&◌, ◌||◌, nat_le, nat_lt, List, length, set, refl, sym, ap, ◌∙◌, arith}
 use Rattle.std.proofs.lemmas.Bool.{cases_eq, cases_lt, lt-ltb, le-ltb, le-leb, lt-leb, and_right, and_from, or_right}
 use Rattle.std.proofs.lemmas.List.{ext_get_or, get_or-set_same, get_or-set_other}
-use Rattle.scx_abs.specs.Cells.{is_written, each_byte}
-use Rattle.scx_abs.specs.Cells.{all_written}
+use Rattle.scx_abs.specs.Cells.{is_written, each_byte, all_written}
 use Rattle.scx_abs.proofs.Orders.{each_byte_at}
 
 -- eight answers, one by one

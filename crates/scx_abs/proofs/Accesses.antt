@@ -1,0 +1,238 @@
+-- Loads and stores: the place that an address means, and what is read and written there.
+use Rattle.std.proofs.Common.{◌≡◌, ℕ, ◌+◌, ◌*◌, ◌/◌, ◌%◌, ◌<◌, ◌≤◌, ℤ, Bool, true, false, ◌&&◌, List, [], length, Option, Some, None, Result, Ok, Err, if◌then◌else◌, refl, sym, ap, ◌∙◌, arith}
+use Rattle.scx_semantics.specs.declared.instructions.Operand.{Operand}
+use Rattle.scx_semantics.specs.declared.operations.Width.TheVariants.{Bits64}
+use Rattle.scx_semantics.specs.declared.operations.Size.{Size}
+use Rattle.scx_semantics.specs.declared.operations.Size.TheVariants as size
+use Rattle.scx_semantics.specs.declared.operations.Access.{Access}
+use Rattle.scx_semantics.specs.declared.operations.Access.TheVariants as access
+use Rattle.scx_semantics.specs.declared.outside.Field.{Field}
+use Rattle.scx_semantics.specs.declared.outside.TaskId.{TaskId}
+use Rattle.scx_semantics.specs.declared.values.Value.{Value}
+use Rattle.scx_semantics.specs.declared.values.Value.TheVariants as value
+use Rattle.scx_semantics.specs.declared.values.Pointer.TheVariants as pointer
+use Rattle.scx_semantics.specs.declared.values.StackByte.{StackByte}
+use Rattle.scx_semantics.specs.declared.registers.Register.{Register}
+use Rattle.scx_semantics.specs.Registers.{number}
+use Rattle.scx_semantics.specs.Arithmetic.{shifted}
+use Rattle.scx_semantics.specs.Memory.{Stack, stack_size, room_at, bytes_at, write, number_bytes, number_in, parts, value_in, value_bytes, load, store, read_as, size_bytes, access_size}
+use Rattle.scx_semantics.specs.Outside.{field_at, field_width, is_writable}
+use Rattle.scx_semantics.specs.Elements.{Maps, element, number_at, with_element, with_number}
+use Rattle.scx_semantics.specs.Places as place
+use Rattle.scx_semantics.specs.Places.{Place, on_stack, in_element, in_task, address}
+use Rattle.scx_semantics.specs.Machine.{Machine, with_stack, with_maps}
+use Rattle.scx_semantics.specs.Effects as effect
+use Rattle.scx_semantics.specs.Effects.{keep, keep_answer}
+use Rattle.scx_semantics.specs.Meaning.{operand_value, is_plain, loaded, stored}
+use Rattle.scx_semantics.specs.Runs.{IsNumberBelow, Fits}
+use Rattle.scx_maps.specs.declared.shape.Shape.{Shape}
+use Rattle.scx_maps.specs.Contents.{HasShapes}
+use Rattle.scx_abs.specs.declared.faults.Why.{Why}
+use Rattle.scx_abs.specs.declared.faults.Why.TheVariants.{UnwrittenStack, TaskField}
+use Rattle.scx_abs.specs.declared.kinds.Kind.{Kind}
+use Rattle.scx_abs.specs.declared.kinds.Kind.TheVariants as kind
+use Rattle.scx_abs.specs.declared.kinds.Kind.TheVariants.{Unusable, Num, Elem, Task}
+use Rattle.scx_abs.specs.declared.kinds.Cell.{Cell}
+use Rattle.scx_abs.specs.declared.kinds.Cell.TheVariants.{Bytes, Pointer}
+use Rattle.scx_abs.specs.declared.states.AbsState.{AbsState}
+use Rattle.scx_abs.specs.declared.memory.Area.{Area}
+use Rattle.scx_abs.specs.declared.memory.Area.TheVariants.{OnStack, InElement, InTask}
+use Rattle.scx_abs.specs.Cells.{marked, all_written, written_in}
+use Rattle.scx_abs.specs.States.{kind_at, cell_at, with_cell}
+use Rattle.scx_abs.specs.Stands.{HasElement, Stands, CellStands, IsMember}
+use Rattle.scx_abs.specs.Checks.{◌>>=◌, goes_on, usable, operand_kind, sets, place_for}
+use Rattle.scx_abs.specs.Rules.{area_of, field_area, loaded_kind, kind_in, load_kind, stored_cell, number_stored, stored_in, store_rule}
+use Rattle.scx_abs.specs.Laws.{IsSoundFor}
+use Rattle.scx_abs.proofs.Lists.{set_each}
+use Rattle.scx_abs.proofs.Bytes as bytes
+use Rattle.scx_abs.proofs.Bytes.{bytes_read, written_at, reads_back, length-number_bytes, length-value_bytes, cell_apart, pointer_stored, fits_cell}
+use Rattle.scx_abs.proofs.Registers.{Gives, set_sound, answer_sound, refused_sound, IsUsable, usable_allows, operand_allows, checked}
+use Rattle.scx_abs.proofs.Elements.{place_cases, element_sized, with_number-lengths, maps_member}
+
+-- ---- places
+
+-- the memory that a rule finds is that of the place, for so many bytes
+abbrev pub Means : Maps → ℕ → Area → Place → Type 0
+Means maps n (OnStack at) (place.OnStack to) = (at ≡ to) × (at % n ≡ 0)
+Means maps n InElement (place.InElement m i at) = HasElement maps m i × (at + n ≤ length (element maps m i))
+Means maps n (InTask f) (place.InTask t g) = f ≡ g
+Means maps n area to = ⊥
+
+abbrev pub Finds : Maps → ℕ → Result Area Why → Place → Type 0
+Finds maps n (Err why) to = Unit {0}
+Finds maps n (Ok area) to = Means maps n area to
+
+stack_found : (maps : Maps) (n : ℕ) (t : Option ℕ) → Finds maps n (place_for stack_size n t >>= λ at. Ok (OnStack at)) (on_stack (room_at stack_size n t))
+stack_found maps n t =
+    place_cases stack_size n t (λ r o. Finds maps n (r >>= λ at. Ok (OnStack at)) (on_stack o)) (λ why o. tt) (λ at inside aligned. (refl, aligned))
+
+element_found : (maps : Maps) (m i size n : ℕ) (t : Option ℕ) → HasElement maps m i → length (element maps m i) ≡ size
+    → Finds maps n (place_for size n t >>= λ at. Ok InElement) (in_element m i (room_at (length (element maps m i)) n t))
+element_found maps m i size n t there long =
+    rw (← long) (place_cases (length (element maps m i)) n t (λ r o. Finds maps n (r >>= λ at. Ok InElement) (in_element m i o)) (λ why o. tt) (λ at inside aligned. (there, inside)))
+
+field_found : (maps : Maps) (n : ℕ) (t : TaskId) (f : Option Field) → Finds maps n (field_area f) (in_task t f)
+field_found maps n t None = tt
+field_found maps n t (Some f) = refl
+
+area_found : (shapes : List Shape) (maps : Maps) (k : Kind) (v : Value) (offset : ℤ) (n : ℕ) → HasShapes shapes maps → Stands maps k v
+    → Finds maps n (area_of shapes k offset n) (address maps v offset n)
+area_found shapes maps (kind.Stack o) (value.Pointer (pointer.Stack p)) offset n shaped h = rw h (stack_found maps n (shifted p offset))
+area_found shapes maps (kind.Stack o) v offset n shaped h = absurd h
+area_found shapes maps (Elem m o) (value.Pointer (pointer.Element k p i)) offset n shaped h =
+    rw (h.0, h.1) (element_found maps k i _ n (shifted p offset) h.2 (element_sized shapes maps k i shaped h.2))
+area_found shapes maps (Elem m o) v offset n shaped h = absurd h
+area_found shapes maps Task (value.Pointer (pointer.Task t)) offset n shaped h = field_found maps n t (field_at n (shifted 0 offset))
+area_found shapes maps Task v offset n shaped h = absurd h
+area_found shapes maps k v offset n shaped h = tt
+
+-- what holds of every refusal, and of each place that both find, holds of both
+area_cases : {B : Type 0} (maps : Maps) (n : ℕ) (r : Result Area Why) (to : Place) (f : Area → Result B Why) (P : Result B Why → Type 0) → ((why : Why) → P (Err why))
+    → Finds maps n r to → ((area : Area) → Means maps n area to → P (f area)) → P (r >>= f)
+area_cases maps n (Err why) to f P none h ok = none why
+area_cases maps n (Ok area) to f P none h ok = ok area h
+
+-- ---- loads
+
+-- the bytes of a cell that are known to be written hold a number
+pub number_read : (maps : Maps) (set : List Bool) (stack : Stack) (at n : ℕ) → CellStands maps (Bytes set) stack (8 * (at / 8)) → at % 8 + n ≤ 8 → all_written set (at % 8) n ≡ true
+    → (x : ℕ) × (number_in (bytes_at stack at n) ≡ Some x)
+number_read maps set stack at n h fits e =
+    bytes_read stack at n
+    (λ i lt. let place : at + i ≡ 8 * (at / 8) + (at % 8 + i) = omega arith in
+    rw place (h (at % 8 + i) (omega arith) (written_at set (at % 8) n i e lt)))
+
+loads : (maps : Maps) (cell : Cell) (stack : Stack) (a : Access) (at : ℕ) → CellStands maps cell stack (8 * (at / 8)) → at % 8 + size_bytes (access_size a) ≤ 8
+    → Gives maps (loaded_kind cell a (at % 8)) (load stack a at)
+loads maps (Bytes set) stack a at h fits = go (all_written set (at % 8) (size_bytes (access_size a))) refl
+  where
+    go : (b : Bool) → all_written set (at % 8) (size_bytes (access_size a)) ≡ b → Gives maps (if b then Ok Num else Err UnwrittenStack) (load stack a at)
+    go true e = let read = number_read maps set stack at (size_bytes (access_size a)) h fits e in rw read.1 tt
+    go false e = tt
+loads maps (Pointer k) stack access.DoubleWord at h fits =
+    let place : 8 * (at / 8) ≡ at = omega arith in
+    let read = reads_back maps k h.0 h.1 (bytes_at stack (8 * (at / 8)) 8) h.2 in
+    let is : value_in access.DoubleWord (bytes_at stack at 8) ≡ Some read.value = ap (λ i. value_in access.DoubleWord (bytes_at stack i 8)) (sym place) ∙ read.is in
+    rw is read.stands
+loads maps (Pointer k) stack a at h fits = tt
+
+pub number_fits : (maps : Maps) (limit : ℕ) (v : Value) → IsNumberBelow limit v → Stands maps Num v
+number_fits maps limit (value.Number n) h = tt
+number_fits maps limit v h = absurd h
+
+field_loaded : (shapes : List Shape) (a : AbsState) (m : Machine) (r : ℕ) (access : Access) (t : TaskId) (f : Field) → IsMember shapes a m
+    → IsSoundFor shapes (sets a r (kind_in a access (InTask f))) (loaded m r access (place.InTask t f))
+field_loaded shapes a m r access t f h =
+    elim (is_plain access) as (λ b. IsSoundFor shapes (sets a r (if b then Ok Num else Err TaskField)) (if b then keep_answer m r (effect.Load t f) else effect.Stuck))
+    [ true ↦ answer_sound shapes a m r Num (effect.Load t f) h (λ v fits. number_fits m.maps _ v fits) | false ↦ refused_sound shapes a r TaskField effect.Stuck ]
+
+load_in : (shapes : List Shape) (a : AbsState) (m : Machine) (r : ℕ) (access : Access) (area : Area) (to : Place) → IsMember shapes a m
+    → Means m.maps (size_bytes (access_size access)) area to → IsSoundFor shapes (sets a r (kind_in a access area)) (loaded m r access to)
+load_in shapes a m r access (OnStack at) (place.OnStack to) h g =
+    rw (← g.0) (set_sound shapes a m r (loaded_kind (cell_at a (at / 8)) access (at % 8)) (load m.stack access at) h
+    (loads m.maps (cell_at a (at / 8)) m.stack access at (h.cells (at / 8)) (fits_cell (access_size access) at g.1)))
+load_in shapes a m r access (OnStack at) to h g = absurd g
+load_in shapes a m r access InElement (place.InElement k i at) h g =
+    set_sound shapes a m r (Ok Num) (Some (value.Number (read_as access (number_at (element m.maps k i) at (size_bytes (access_size access)))))) h tt
+load_in shapes a m r access InElement to h g = absurd g
+load_in shapes a m r access (InTask f) (place.InTask t e) h g = field_loaded shapes a m r access t e h
+load_in shapes a m r access (InTask f) to h g = absurd g
+
+pub load_sound : (shapes : List Shape) (a : AbsState) (m : Machine) (access : Access) (d r : Register) (offset : ℤ) → IsMember shapes a m
+    → IsSoundFor shapes (sets a (number d) (load_kind shapes a access r offset)) (loaded m (number d) access (address m.maps (m.registers (number r)) offset (size_bytes (access_size access))))
+load_sound shapes a m access d r offset h =
+    let n = size_bytes (access_size access) in
+    let to = address m.maps (m.registers (number r)) offset n in
+    checked m.maps (usable (kind_at a (number r))) (m.registers (number r))
+    (λ base. area_of shapes base offset n >>= λ area. kind_in a access area)
+    (λ res. IsSoundFor shapes (sets a (number d) res) (loaded m (number d) access to)) (λ why. refused_sound shapes a (number d) why (loaded m (number d) access to))
+    (usable_allows m.maps (kind_at a (number r)) (m.registers (number r)) (h.registers (number r)))
+    (λ base ub hb. area_cases m.maps n (area_of shapes base offset n) to (λ area. kind_in a access area)
+    (λ res. IsSoundFor shapes (sets a (number d) res) (loaded m (number d) access to)) (λ why. refused_sound shapes a (number d) why (loaded m (number d) access to))
+    (area_found shapes m.maps base (m.registers (number r)) offset n h.maps hb)
+    (λ area means. load_in shapes a m (number d) access area to h means))
+
+-- ---- stores
+
+cell_member : (shapes : List Shape) (a : AbsState) (m : Machine) (c : ℕ) (cell : Cell) (stack : Stack) → IsMember shapes a m → CellStands m.maps cell stack (8 * c)
+    → ((i : ℕ) → (i ≡ c → ⊥) → CellStands m.maps (cell_at a i) stack (8 * i)) → IsMember shapes (with_cell a c cell) (with_stack m stack)
+cell_member shapes a m c cell stack h new old = record {
+  registers = h.registers;
+  cells = set_each (λ i d. CellStands m.maps d stack (8 * i)) a.cells (Bytes []) c cell (λ i j lt w. absurd (cc)) new old;
+  maps = h.maps;
+}
+
+after_number : (shapes : List Shape) (a : AbsState) (m : Machine) (s : Size) (at n : ℕ) → IsMember shapes a m → at % 8 + size_bytes s ≤ 8
+    → IsMember shapes (with_cell a (at / 8) (Bytes (marked (written_in (cell_at a (at / 8))) (at % 8) (size_bytes s)))) (with_stack m (write m.stack at (number_bytes (size_bytes s) n)))
+after_number shapes a m s at n h fits =
+    let place : at ≡ 8 * (at / 8) + at % 8 = omega arith in
+    let long : length (number_bytes (size_bytes s) n) ≡ size_bytes s = length-number_bytes (size_bytes s) n in
+    cell_member shapes a m (at / 8) (Bytes (marked (written_in (cell_at a (at / 8))) (at % 8) (size_bytes s))) (write m.stack at (number_bytes (size_bytes s) n)) h
+    (bytes.number_stored m.maps (cell_at a (at / 8)) m.stack at (at / 8) (at % 8) (size_bytes s) n place (h.cells (at / 8)))
+    (λ i other. cell_apart m.maps (cell_at a i) m.stack at (number_bytes (size_bytes s) n) i other (omega arith) (h.cells i))
+
+after_pointer : (shapes : List Shape) (a : AbsState) (m : Machine) (at : ℕ) (k : Kind) (v : Value) (bytes : List StackByte) → IsMember shapes a m → at % 8 + 8 ≤ 8 → Stands m.maps k v
+    → value_bytes size.DoubleWord v ≡ Some bytes → IsMember shapes (with_cell a (at / 8) (Pointer k)) (with_stack m (write m.stack at bytes))
+after_pointer shapes a m at k v bytes h fits g b =
+    let place : at ≡ 8 * (at / 8) = omega arith in
+    let long : length bytes ≡ 8 = length-value_bytes size.DoubleWord v bytes b in
+    cell_member shapes a m (at / 8) (Pointer k) (write m.stack at bytes) h
+    (pointer_stored m.maps k v m.stack at (at / 8) bytes place g b)
+    (λ i other. cell_apart m.maps (cell_at a i) m.stack at bytes i other (omega arith) (h.cells i))
+
+stack_stored : (shapes : List Shape) (a : AbsState) (m : Machine) (s : Size) (at : ℕ) (k : Kind) (v : Value) → IsMember shapes a m → at % 8 + size_bytes s ≤ 8 → IsUsable k → Stands m.maps k v
+    → IsSoundFor shapes (stored_in a s k (OnStack at)) (stored m s v (place.OnStack at))
+stack_stored shapes a m s at Num (value.Number n) h fits u g = after_number shapes a m s at n h fits
+stack_stored shapes a m s at Num v h fits u g = absurd g
+stack_stored shapes a m size.DoubleWord at Unusable v h fits u g = absurd u
+stack_stored shapes a m size.DoubleWord at k (value.Number n) h fits u g = after_pointer shapes a m at k (value.Number n) (number_bytes 8 n) h fits g refl
+stack_stored shapes a m size.DoubleWord at k (value.Pointer p) h fits u g = after_pointer shapes a m at k (value.Pointer p) (parts p) h fits g refl
+stack_stored shapes a m size.DoubleWord at k value.Unset h fits u g = absurd g
+stack_stored shapes a m s at k v h fits u g = tt
+
+element_stored : (shapes : List Shape) (a : AbsState) (m : Machine) (s : Size) (e i at : ℕ) (k : Kind) (v : Value) → IsMember shapes a m → HasElement m.maps e i
+    → at + size_bytes s ≤ length (element m.maps e i) → Stands m.maps k v → IsSoundFor shapes (number_stored a k) (stored m s v (place.InElement e i at))
+element_stored shapes a m s e i at Num (value.Number n) h there room g =
+    maps_member shapes a m (with_element m.maps e i (with_number (element m.maps e i) at (size_bytes s) n)) h (with_number-lengths m.maps e i at (size_bytes s) n there room)
+element_stored shapes a m s e i at Num v h there room g = absurd g
+element_stored shapes a m s e i at k v h there room g = tt
+
+field_stored : (shapes : List Shape) (a : AbsState) (m : Machine) (s : Size) (t : TaskId) (f : Field) (k : Kind) (v : Value) → IsMember shapes a m → Stands m.maps k v
+    → IsSoundFor shapes (stored_in a s k (InTask f)) (stored m s v (place.InTask t f))
+field_stored shapes a m s t f Num (value.Number n) h g =
+    elim (is_writable f) as (λ b. IsSoundFor shapes (if b then goes_on a else Err TaskField) (if b then effect.Ask (effect.Store t f n) (λ v. m) else effect.Stuck))
+    [ true ↦ λ v fits. h | false ↦ tt ]
+field_stored shapes a m s t f Num v h g = absurd g
+field_stored shapes a m s t f k v h g = refused (is_writable f)
+  where
+    refused : (b : Bool) → IsSoundFor shapes (if b then number_stored a k else Err TaskField) (stored m s v (place.InTask t f))
+    refused true = tt
+    refused false = tt
+
+store_in : (shapes : List Shape) (a : AbsState) (m : Machine) (s : Size) (k : Kind) (v : Value) (area : Area) (to : Place) → IsMember shapes a m → IsUsable k → Stands m.maps k v
+    → Means m.maps (size_bytes s) area to → IsSoundFor shapes (stored_in a s k area) (stored m s v to)
+store_in shapes a m s k v (OnStack at) (place.OnStack to) h u g means = rw (← means.0) (stack_stored shapes a m s at k v h (fits_cell s at means.1) u g)
+store_in shapes a m s k v (OnStack at) to h u g means = absurd means
+store_in shapes a m s k v InElement (place.InElement e i at) h u g means = element_stored shapes a m s e i at k v h means.0 means.1 g
+store_in shapes a m s k v InElement to h u g means = absurd means
+store_in shapes a m s k v (InTask f) (place.InTask t e) h u g means = rw means (field_stored shapes a m s t e k v h g)
+store_in shapes a m s k v (InTask f) to h u g means = absurd means
+
+pub store_sound : (shapes : List Shape) (a : AbsState) (m : Machine) (s : Size) (r : Register) (offset : ℤ) (x : Operand) → IsMember shapes a m
+    → IsSoundFor shapes (store_rule shapes a s r offset x) (stored m s (operand_value m Bits64 x) (address m.maps (m.registers (number r)) offset (size_bytes s)))
+store_sound shapes a m s r offset x h =
+    let n = size_bytes s in
+    let v = operand_value m Bits64 x in
+    let to = address m.maps (m.registers (number r)) offset n in
+    checked m.maps (usable (kind_at a (number r))) (m.registers (number r))
+    (λ base. operand_kind a x >>= λ k. area_of shapes base offset n >>= λ area. stored_in a s k area)
+    (λ res. IsSoundFor shapes res (stored m s v to)) (λ why. tt)
+    (usable_allows m.maps (kind_at a (number r)) (m.registers (number r)) (h.registers (number r)))
+    (λ base ub hb. checked m.maps (operand_kind a x) v
+    (λ k. area_of shapes base offset n >>= λ area. stored_in a s k area)
+    (λ res. IsSoundFor shapes res (stored m s v to)) (λ why. tt)
+    (operand_allows shapes a m Bits64 x h)
+    (λ k uk hk. area_cases m.maps n (area_of shapes base offset n) to (λ area. stored_in a s k area)
+    (λ res. IsSoundFor shapes res (stored m s v to)) (λ why. tt)
+    (area_found shapes m.maps base (m.registers (number r)) offset n h.maps hb)
+    (λ area means. store_in shapes a m s k v area to h uk hk means)))

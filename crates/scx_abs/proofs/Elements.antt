@@ -1,0 +1,139 @@
+-- Places in the memory of maps: what shapes say of elements, the checks of a place, and the state
+-- after a store to an element.
+use Rattle.std.proofs.Common.{◌≡◌, ℕ, zero, suc, ◌+◌, ◌-◌, ◌*◌, ◌%◌, ◌<◌, ◌≤◌, ◌⊎◌, inl, inr, Bool, true, false, ◌&&◌, nat_eq, nat_le, List, [], ◌∷◌, ◌++◌, length, map, take, drop, slice_index_or, slice_get, Option, Some, None, Result, Ok, Err, if◌then◌else◌, refl, sym, ap, ◌∙◌, subst, arith}
+use Rattle.std.specs.Int.{bytes_low_first}
+use Rattle.std.proofs.lemmas.Bool.{eqb-true, leb-true}
+use Rattle.std.proofs.lemmas.List.{length-map, length-append, length-take-le, length-drop}
+use Rattle.std.proofs.lemmas.Option.{slice_get_within}
+use Rattle.scx_semantics.specs.declared.values.Value.{Value}
+use Rattle.scx_semantics.specs.declared.values.Value.TheVariants as value
+use Rattle.scx_semantics.specs.declared.values.Pointer.TheVariants as pointer
+use Rattle.scx_semantics.specs.Memory.{Stack, within, room_at}
+use Rattle.scx_semantics.specs.Elements.{Maps, elements, element, with_element, with_number}
+use Rattle.scx_semantics.specs.Machine.{Machine, with_maps}
+use Rattle.scx_maps.specs.declared.shape.Shape.{Shape}
+use Rattle.scx_maps.specs.Contents.{lengths, lengths_of, HasShapes}
+use Rattle.scx_maps.specs.Laws.{length-entries-shaped, length-value-shaped, length-shaped, lengths_of-with_value}
+use Rattle.scx_abs.specs.declared.faults.Why.{Why}
+use Rattle.scx_abs.specs.declared.faults.Why.TheVariants.{OutOfBounds, Misaligned}
+use Rattle.scx_abs.specs.declared.kinds.Kind.{Kind}
+use Rattle.scx_abs.specs.declared.kinds.Kind.TheVariants.{Unusable, Num, Elem, ElemOrNull, Task, TaskOrNull, MapRef}
+use Rattle.scx_abs.specs.declared.kinds.Kind.TheVariants as kind
+use Rattle.scx_abs.specs.declared.kinds.Cell.{Cell}
+use Rattle.scx_abs.specs.declared.kinds.Cell.TheVariants.{Bytes, Pointer}
+use Rattle.scx_abs.specs.declared.states.AbsState.{AbsState}
+use Rattle.scx_abs.specs.States.{kind_at, cell_at}
+use Rattle.scx_abs.specs.Stands.{HasElement, Stands, CellStands, IsMember}
+use Rattle.scx_abs.specs.Checks.{size_of, element_size, place_within, place_for}
+
+-- ---- checks of a place
+
+-- what holds of every refusal, and of each place that both allow, holds of both
+pub within_cases : (size : ℕ) (t : Option ℕ) (P : Result ℕ Why → Option ℕ → Type 0) → ((why : Why) (o : Option ℕ) → P (Err why) o)
+    → ((at : ℕ) → P (Ok at) (Some at)) → P (place_within size t) (within size t)
+within_cases size None P none ok = none OutOfBounds None
+within_cases size (Some at) P none ok =
+    elim (nat_le at size) as (λ b. P (if b then Ok at else Err OutOfBounds) (if b then Some at else None)) [ true ↦ ok at | false ↦ none OutOfBounds None ]
+
+pub place_cases : (size n : ℕ) (t : Option ℕ) (P : Result ℕ Why → Option ℕ → Type 0) → ((why : Why) (o : Option ℕ) → P (Err why) o)
+    → ((at : ℕ) → at + n ≤ size → at % n ≡ 0 → P (Ok at) (Some at)) → P (place_for size n t) (room_at size n t)
+place_cases size n None P none ok = none OutOfBounds None
+place_cases size n (Some at) P none ok = go (nat_le (at + n) size) (nat_eq (at % n) 0) refl refl
+  where
+    go : (a b : Bool) → nat_le (at + n) size ≡ a → nat_eq (at % n) 0 ≡ b
+        → P (if a then if b then Ok at else Err Misaligned else Err OutOfBounds) (if a && b then Some at else None)
+    go true true d e = ok at (leb-true (at + n) size d) (eqb-true (at % n) 0 e)
+    go true false d e = none Misaligned None
+    go false b d e = none OutOfBounds None
+
+-- ---- elements
+
+-- only a map that is there has elements
+pub map_there : (maps : Maps) (m i : ℕ) → HasElement maps m i → m < length maps
+map_there [] m i h = absurd (omega (arith, h))
+map_there (x ∷ maps) zero i h = omega arith
+map_there (x ∷ maps) (suc m) i h = let rest = map_there maps m i h in omega arith
+
+no_shape : (shapes : List Shape) (m : ℕ) → m < length shapes → slice_get shapes m ≡ None → ⊥
+no_shape [] m lt e = omega (arith, lt)
+no_shape (s ∷ shapes) zero lt e = absurd (cc)
+no_shape (s ∷ shapes) (suc m) lt e = no_shape shapes m (omega arith) e
+
+-- an element has as many bytes as the shape of its map says
+pub element_sized : (shapes : List Shape) (maps : Maps) (m i : ℕ) → HasShapes shapes maps → HasElement maps m i → length (element maps m i) ≡ element_size shapes m
+element_sized shapes maps m i shaped h = go (slice_get shapes m) refl
+  where
+    go : (o : Option Shape) → slice_get shapes m ≡ o → length (element maps m i) ≡ size_of o
+    go None e =
+        let there = map_there maps m i h in
+        let long = length-shaped shapes maps shaped in
+        absurd (no_shape shapes m (omega arith) e)
+    go (Some s) e =
+        let count = length-entries-shaped shapes maps m s shaped e in
+        length-value-shaped shapes maps m i s shaped e (omega (arith, h, count))
+
+-- ---- a store to an element
+
+length-low_bytes : (i n x : ℕ) → length (bytes_low_first i n x) ≡ n
+length-low_bytes i zero x = refl
+length-low_bytes i (suc n) x = ap suc (length-low_bytes (suc i) n x)
+
+length-with_number : (bytes : List ℕ) (at n x : ℕ) → at + n ≤ length bytes → length (with_number bytes at n x) ≡ length bytes
+length-with_number bytes at n x h =
+    let first = length-take-le at bytes (omega arith) in
+    let middle = length-low_bytes 0 n x in
+    let last = length-drop (at + n) bytes in
+    let before = length-append (take at bytes) (bytes_low_first 0 n x) in
+    length-append (take at bytes ++ bytes_low_first 0 n x) (drop (at + n) bytes) ∙ omega (arith, first, middle, last, before)
+
+pub with_number-lengths : (maps : Maps) (m i at n x : ℕ) → HasElement maps m i → at + n ≤ length (element maps m i)
+    → lengths_of (with_element maps m i (with_number (element maps m i) at n x)) ≡ lengths_of maps
+with_number-lengths maps m i at n x there room =
+    lengths_of-with_value maps m i (with_number (element maps m i) at n x) (map_there maps m i there) there (length-with_number (element maps m i) at n x room)
+
+-- ---- maps with as many elements of as many bytes
+
+count_of : (maps : Maps) (m : ℕ) → length (slice_index_or (lengths_of maps) m []) ≡ length (elements maps m)
+count_of [] m = refl
+count_of (x ∷ maps) zero = length-map x (λ (v : List ℕ). length v)
+count_of (x ∷ maps) (suc m) = count_of maps m
+
+same_elements : (maps other : Maps) (m : ℕ) → lengths_of other ≡ lengths_of maps → length (elements other m) ≡ length (elements maps m)
+same_elements maps other m e = sym (count_of other m) ∙ ap (λ ks. length (slice_index_or ks m [])) e ∙ count_of maps m
+
+same_count : (maps other : Maps) → lengths_of other ≡ lengths_of maps → length other ≡ length maps
+same_count maps other e = sym (length-map other lengths) ∙ ap (λ (ks : List (List ℕ)). length ks) e ∙ length-map maps lengths
+
+-- kinds stand for the same values
+pub stands_still : (maps other : Maps) (k : Kind) (v : Value) → lengths_of other ≡ lengths_of maps → Stands maps k v → Stands other k v
+stands_still maps other Unusable v e h = tt
+stands_still maps other Num (value.Number n) e h = tt
+stands_still maps other (kind.Stack o) (value.Pointer (pointer.Stack p)) e h = h
+stands_still maps other (Elem m o) (value.Pointer (pointer.Element n p i)) e h =
+    let same = same_elements maps other n e in
+    let there = h.2 in
+    (h.0, h.1, omega arith)
+stands_still maps other (ElemOrNull m) (value.Number n) e h = h
+stands_still maps other (ElemOrNull m) (value.Pointer (pointer.Element n p i)) e h =
+    let same = same_elements maps other n e in
+    let there = h.2 in
+    (h.0, h.1, omega arith)
+stands_still maps other Task (value.Pointer (pointer.Task t)) e h = tt
+stands_still maps other TaskOrNull (value.Number n) e h = h
+stands_still maps other TaskOrNull (value.Pointer (pointer.Task t)) e h = tt
+stands_still maps other (MapRef m) (value.Pointer (pointer.Map n)) e h =
+    let same = same_count maps other e in
+    let there = h.1 in
+    (h.0, omega arith)
+stands_still maps other k v e h = absurd h
+
+cell_still : (maps other : Maps) (cell : Cell) (stack : Stack) (at : ℕ) → lengths_of other ≡ lengths_of maps → CellStands maps cell stack at → CellStands other cell stack at
+cell_still maps other (Bytes set) stack at e h = h
+cell_still maps other (Pointer k) stack at e h = (h.0, stands_still maps other k h.0 e h.1, h.2)
+
+pub maps_member : (shapes : List Shape) (a : AbsState) (m : Machine) (other : Maps) → IsMember shapes a m → lengths_of other ≡ lengths_of m.maps → IsMember shapes a (with_maps m other)
+maps_member shapes a m other h e = record {
+  registers = λ r. stands_still m.maps other (kind_at a r) (m.registers r) e (h.registers r);
+  cells = λ c. cell_still m.maps other (cell_at a c) m.stack (8 * c) e (h.cells c);
+  maps = e ∙ h.maps;
+}

@@ -1,0 +1,123 @@
+-- Arithmetic on kinds against arithmetic on values that they stand for.
+use Rattle.std.proofs.Common.{◌≡◌, ℕ, ◌<◌, ℤ, pos, negsuc, Bool, true, false, nat_lt, List, length, Option, Some, None, Result, Ok, Err, option_map, if◌then◌else◌, refl, sym}
+use Rattle.std.proofs.lemmas.Bool.{ltb-true}
+use Rattle.scx_semantics.specs.declared.instructions.Operand.{Operand}
+use Rattle.scx_semantics.specs.declared.instructions.Operand.TheVariants as operand
+use Rattle.scx_semantics.specs.declared.operations.Width.{Width}
+use Rattle.scx_semantics.specs.declared.operations.Width.TheVariants.{Bits32, Bits64}
+use Rattle.scx_semantics.specs.declared.operations.Operation.{Operation}
+use Rattle.scx_semantics.specs.declared.operations.Operation.TheVariants.{Add, Subtract, Move}
+use Rattle.scx_semantics.specs.declared.values.Value.{Value}
+use Rattle.scx_semantics.specs.declared.values.Value.TheVariants as value
+use Rattle.scx_semantics.specs.declared.values.Pointer as pointers
+use Rattle.scx_semantics.specs.declared.values.Pointer.TheVariants as pointer
+use Rattle.scx_semantics.specs.declared.registers.Register.{Register}
+use Rattle.scx_semantics.specs.Registers.{number}
+use Rattle.scx_semantics.specs.Arithmetic.{shifted}
+use Rattle.scx_semantics.specs.Memory.{stack_size, within}
+use Rattle.scx_semantics.specs.Elements.{Maps, element}
+use Rattle.scx_semantics.specs.Machine.{Machine}
+use Rattle.scx_semantics.specs.Meaning.{operand_value, moved, combined, arithmetic, binary, pointer_step, pointer_moved, on_number, map_reference}
+use Rattle.scx_maps.specs.declared.shape.Shape.{Shape}
+use Rattle.scx_maps.specs.Contents.{HasShapes}
+use Rattle.scx_maps.specs.Laws.{length-shaped}
+use Rattle.scx_abs.specs.declared.faults.Why.{Why}
+use Rattle.scx_abs.specs.declared.faults.Why.TheVariants.{UnknownMap}
+use Rattle.scx_abs.specs.declared.kinds.Kind.{Kind}
+use Rattle.scx_abs.specs.declared.kinds.Kind.TheVariants as kind
+use Rattle.scx_abs.specs.declared.kinds.Kind.TheVariants.{Unusable, Num, Elem, MapRef}
+use Rattle.scx_abs.specs.declared.states.AbsState.{AbsState}
+use Rattle.scx_abs.specs.States.{kind_at}
+use Rattle.scx_abs.specs.Stands.{HasElement, Stands, IsMember}
+use Rattle.scx_abs.specs.Checks.{◌>>=◌, usable, operand_kind, place_within}
+use Rattle.scx_abs.specs.Rules.{pointer_distance, moved_by, moved_kind, arithmetic_kind, combined_kind, binary_kind, number_kind, map_kind}
+use Rattle.scx_abs.proofs.Registers.{Gives, IsUsable, usable_allows, operand_allows, checked}
+use Rattle.scx_abs.proofs.Elements.{within_cases, element_sized}
+
+moved_gives : (maps : Maps) (w : Width) (k : Kind) (v : Value) → IsUsable k → Stands maps k v → Gives maps (moved_kind w k) (moved w v)
+moved_gives maps Bits64 k (value.Number n) u h = h
+moved_gives maps Bits64 k (value.Pointer p) u h = h
+moved_gives maps Bits64 Unusable value.Unset u h = absurd u
+moved_gives maps Bits64 k value.Unset u h = absurd h
+moved_gives maps Bits32 Num (value.Number n) u h = tt
+moved_gives maps Bits32 Num v u h = absurd h
+moved_gives maps Bits32 k v u h = tt
+
+pub number_gives : (maps : Maps) (f : ℕ → ℕ) (k : Kind) (v : Value) → Stands maps k v → Gives maps (number_kind k) (on_number f v)
+number_gives maps f Num (value.Number n) h = tt
+number_gives maps f Num v h = absurd h
+number_gives maps f k v h = tt
+
+combined_gives : (maps : Maps) (w : Width) (o : Operation) (a : ℕ) (v : Value) → Stands maps Num v → Gives maps (Ok Num) (combined w o a v)
+combined_gives maps w o a (value.Number n) h = tt
+combined_gives maps w o a v h = absurd h
+
+-- ---- pointers
+
+same_distance : (w : Width) (o : Operation) (x : Operand) → pointer_distance w o x ≡ pointer_step w o x
+same_distance Bits64 Add (operand.Immediate k) = refl
+same_distance Bits64 Subtract (operand.Immediate k) = refl
+same_distance w o x = refl
+
+stack_moved : (maps : Maps) (t : Option ℕ)
+    → Gives maps (place_within stack_size t >>= λ to. Ok (kind.Stack to)) (option_map (λ to. value.Pointer (pointer.Stack to)) (within stack_size t))
+stack_moved maps t =
+    within_cases stack_size t (λ r o. Gives maps (r >>= λ to. Ok (kind.Stack to)) (option_map (λ to. value.Pointer (pointer.Stack to)) o))
+    (λ why o. tt) (λ to. refl)
+
+element_moved : (maps : Maps) (m i size : ℕ) (t : Option ℕ) → HasElement maps m i → length (element maps m i) ≡ size
+    → Gives maps (place_within size t >>= λ to. Ok (Elem m to)) (option_map (λ to. value.Pointer (pointer.Element m to i)) (within (length (element maps m i)) t))
+element_moved maps m i size t there long =
+    rw (← long) (within_cases (length (element maps m i)) t (λ r o. Gives maps (r >>= λ to. Ok (Elem m to)) (option_map (λ to. value.Pointer (pointer.Element m to i)) o))
+    (λ why o. tt) (λ to. (refl, refl, there)))
+
+moved_by_gives : (shapes : List Shape) (maps : Maps) (k : Kind) (p : pointers.Pointer) (d : Option ℤ) → HasShapes shapes maps → Stands maps k (value.Pointer p)
+    → Gives maps (moved_by shapes k d) (pointer_moved maps p d)
+moved_by_gives shapes maps (kind.Stack o) (pointer.Stack p) (Some d) shaped h = rw h (stack_moved maps (shifted p d))
+moved_by_gives shapes maps (kind.Stack o) p (Some d) shaped h = absurd h
+moved_by_gives shapes maps (Elem m o) (pointer.Element n p i) (Some d) shaped h =
+    rw (h.0, h.1) (element_moved maps n i _ (shifted p d) h.2 (element_sized shapes maps n i shaped h.2))
+moved_by_gives shapes maps (Elem m o) p (Some d) shaped h = absurd h
+moved_by_gives shapes maps k p d shaped h = tt
+
+-- ---- all operations
+
+arithmetic_gives : (shapes : List Shape) (m : Machine) (w : Width) (o : Operation) (x : Operand) (j k : Kind) (old : Value) → HasShapes shapes m.maps → Stands m.maps j old
+    → Stands m.maps k (operand_value m w x) → Gives m.maps (arithmetic_kind shapes w o x j k) (arithmetic m w o old x)
+arithmetic_gives shapes m w o x Num Num (value.Number a) s h g = combined_gives m.maps w o a (operand_value m w x) g
+arithmetic_gives shapes m w o x Num Num old s h g = absurd h
+arithmetic_gives shapes m w o x (kind.Stack p) k (value.Pointer q) s h g =
+    rw (← same_distance w o x) (moved_by_gives shapes m.maps (kind.Stack p) q (pointer_distance w o x) s h)
+arithmetic_gives shapes m w o x (kind.Stack p) k old s h g = absurd h
+arithmetic_gives shapes m w o x (Elem n p) k (value.Pointer q) s h g =
+    rw (← same_distance w o x) (moved_by_gives shapes m.maps (Elem n p) q (pointer_distance w o x) s h)
+arithmetic_gives shapes m w o x (Elem n p) k old s h g = absurd h
+arithmetic_gives shapes m w o x j k old s h g = tt
+
+combined_kind_gives : (shapes : List Shape) (a : AbsState) (m : Machine) (w : Width) (o : Operation) (d : Register) (x : Operand) → IsMember shapes a m
+    → Gives m.maps (combined_kind shapes a w o d x) (arithmetic m w o (m.registers (number d)) x)
+combined_kind_gives shapes a m w o d x h =
+    checked m.maps (usable (kind_at a (number d))) (m.registers (number d)) (λ j. operand_kind a x >>= λ k. arithmetic_kind shapes w o x j k)
+    (λ r. Gives m.maps r (arithmetic m w o (m.registers (number d)) x)) (λ why. tt)
+    (usable_allows m.maps (kind_at a (number d)) (m.registers (number d)) (h.registers (number d)))
+    (λ j uj hj. checked m.maps (operand_kind a x) (operand_value m w x) (λ k. arithmetic_kind shapes w o x j k)
+    (λ r. Gives m.maps r (arithmetic m w o (m.registers (number d)) x)) (λ why. tt) (operand_allows shapes a m w x h)
+    (λ k uk hk. arithmetic_gives shapes m w o x j k (m.registers (number d)) h.maps hj hk))
+
+pub binary_gives : (shapes : List Shape) (a : AbsState) (m : Machine) (w : Width) (o : Operation) (d : Register) (x : Operand) → IsMember shapes a m
+    → Gives m.maps (binary_kind shapes a w o d x) (binary m w o (m.registers (number d)) x)
+binary_gives shapes a m w Move d x h =
+    checked m.maps (operand_kind a x) (operand_value m w x) (λ k. moved_kind w k) (λ r. Gives m.maps r (moved w (operand_value m w x))) (λ why. tt) (operand_allows shapes a m w x h)
+    (λ k uk hk. moved_gives m.maps w k (operand_value m w x) uk hk)
+binary_gives shapes a m w o d x h = combined_kind_gives shapes a m w o d x h
+
+-- ---- references to maps
+
+map_there : (maps : Maps) (k : ℕ) (b : Bool) → nat_lt k (length maps) ≡ b
+    → Gives maps (if b then Ok (MapRef k) else Err UnknownMap) (if b then Some (value.Pointer (pointer.Map k)) else None)
+map_there maps k true e = (refl, ltb-true k (length maps) e)
+map_there maps k false e = tt
+
+pub map_gives : (shapes : List Shape) (maps : Maps) (k : ℤ) → HasShapes shapes maps → Gives maps (map_kind shapes k) (map_reference maps k)
+map_gives shapes maps (pos k) shaped = rw (← length-shaped shapes maps shaped) (map_there maps k (nat_lt k (length maps)) refl)
+map_gives shapes maps (negsuc k) shaped = tt

@@ -1,0 +1,96 @@
+-- Registers: what a check of one gives against its value, and the state after a register is written.
+use Rattle.std.proofs.Common.{◌≡◌, ℕ, Bool, true, false, nat_eq, List, Option, Some, None, Result, Ok, Err, if◌then◌else◌, refl}
+use Rattle.std.proofs.lemmas.Bool.{eq-eqb, ne_eqb}
+use Rattle.scx_semantics.specs.declared.instructions.Operand.{Operand}
+use Rattle.scx_semantics.specs.declared.instructions.Operand.TheVariants as operand
+use Rattle.scx_semantics.specs.declared.operations.Width.{Width}
+use Rattle.scx_semantics.specs.declared.values.Value.{Value}
+use Rattle.scx_semantics.specs.Registers.{number}
+use Rattle.scx_semantics.specs.Elements.{Maps}
+use Rattle.scx_semantics.specs.Machine.{Machine, put, with_register}
+use Rattle.scx_semantics.specs.Effects as effect
+use Rattle.scx_semantics.specs.Effects.{Query, Effect, keep, keep_answer}
+use Rattle.scx_semantics.specs.Meaning.{operand_value}
+use Rattle.scx_semantics.specs.Runs.{Fits}
+use Rattle.scx_maps.specs.declared.shape.Shape.{Shape}
+use Rattle.scx_abs.specs.declared.faults.Why.{Why}
+use Rattle.scx_abs.specs.declared.faults.Why.TheVariants.{WritesFrame}
+use Rattle.scx_abs.specs.declared.kinds.Kind.{Kind}
+use Rattle.scx_abs.specs.declared.kinds.Kind.TheVariants.{Unusable}
+use Rattle.scx_abs.specs.declared.states.AbsState.{AbsState}
+use Rattle.scx_abs.specs.States.{kind_at, with_kind}
+use Rattle.scx_abs.specs.Stands.{Stands, IsMember}
+use Rattle.scx_abs.specs.Checks.{◌>>=◌, goes_on, usable, operand_kind, sets}
+use Rattle.scx_abs.specs.Laws.{IsSoundFor}
+use Rattle.scx_abs.proofs.Lists.{set_each}
+
+-- ---- registers that are written
+
+-- what a rule gives for a register against the value that is put there
+abbrev pub Gives : Maps → Result Kind Why → Option Value → Type 0
+Gives maps (Err why) o = Unit {0}
+Gives maps (Ok k) None = ⊥
+Gives maps (Ok k) (Some v) = Stands maps k v
+
+pub kind_member : (shapes : List Shape) (a : AbsState) (m : Machine) (r : ℕ) (k : Kind) (v : Value) → IsMember shapes a m → Stands m.maps k v
+    → IsMember shapes (with_kind a r k) (with_register m r v)
+kind_member shapes a m r k v h g = record {
+  registers = set_each (λ j d. Stands m.maps d (put m.registers r v j)) a.registers Unusable r k
+      (λ j. tt)
+      (let here : nat_eq r r ≡ true = eq-eqb r r refl in rw here g)
+      (λ j n. let other : nat_eq j r ≡ false = ne_eqb j r n in rw other (h.registers j));
+  cells = h.cells;
+  maps = h.maps;
+}
+
+-- the same value, of which more is known
+pub refined : (shapes : List Shape) (a : AbsState) (m : Machine) (r : ℕ) (k : Kind) → IsMember shapes a m → Stands m.maps k (m.registers r) → IsMember shapes (with_kind a r k) m
+refined shapes a m r k h g = record {
+  registers = set_each (λ j d. Stands m.maps d (m.registers j)) a.registers Unusable r k (λ j. tt) g (λ j n. h.registers j);
+  cells = h.cells;
+  maps = h.maps;
+}
+
+-- nothing is claimed of what is refused
+pub refused_sound : (shapes : List Shape) (a : AbsState) (r : ℕ) (why : Why) (e : Effect) → IsSoundFor shapes (sets a r (Err why)) e
+refused_sound shapes a r why e = elim (nat_eq r 10) as (λ b. IsSoundFor shapes (if b then Err WritesFrame else Err why) e) [ true ↦ tt | false ↦ tt ]
+
+pub set_sound : (shapes : List Shape) (a : AbsState) (m : Machine) (r : ℕ) (k : Result Kind Why) (o : Option Value) → IsMember shapes a m → Gives m.maps k o
+    → IsSoundFor shapes (sets a r k) (keep m r o)
+set_sound shapes a m r (Err why) o h g = refused_sound shapes a r why (keep m r o)
+set_sound shapes a m r (Ok k) None h g = absurd g
+set_sound shapes a m r (Ok k) (Some v) h g =
+    elim (nat_eq r 10) as (λ b. IsSoundFor shapes (if b then Err WritesFrame else goes_on (with_kind a r k)) (if b then effect.Stuck else effect.Next (with_register m r v)))
+    [ true ↦ tt | false ↦ kind_member shapes a m r k v h g ]
+
+-- the same of the host's answers
+pub answer_sound : (shapes : List Shape) (a : AbsState) (m : Machine) (r : ℕ) (k : Kind) (q : Query) → IsMember shapes a m → ((v : Value) → Fits q v → Stands m.maps k v)
+    → IsSoundFor shapes (sets a r (Ok k)) (keep_answer m r q)
+answer_sound shapes a m r k q h g =
+    elim (nat_eq r 10) as (λ b. IsSoundFor shapes (if b then Err WritesFrame else goes_on (with_kind a r k)) (if b then effect.Stuck else effect.Ask q (λ v. with_register m r v)))
+    [ true ↦ tt | false ↦ λ v fits. kind_member shapes a m r k v h (g v fits) ]
+
+-- ---- registers that are read
+
+abbrev pub IsUsable : Kind → Type 0
+IsUsable Unusable = ⊥
+IsUsable k = Unit {0}
+
+-- what a check of a register gives against its value
+abbrev pub Allows : Maps → Result Kind Why → Value → Type 0
+Allows maps (Err why) v = Unit {0}
+Allows maps (Ok k) v = IsUsable k × Stands maps k v
+
+pub usable_allows : (maps : Maps) (k : Kind) (v : Value) → Stands maps k v → Allows maps (usable k) v
+usable_allows maps Unusable v h = tt
+usable_allows maps k v h = (tt, h)
+
+pub operand_allows : (shapes : List Shape) (a : AbsState) (m : Machine) (w : Width) (x : Operand) → IsMember shapes a m → Allows m.maps (operand_kind a x) (operand_value m w x)
+operand_allows shapes a m w (operand.Immediate k) h = (tt, tt)
+operand_allows shapes a m w (operand.Register r) h = usable_allows m.maps (kind_at a (number r)) (m.registers (number r)) (h.registers (number r))
+
+-- what holds of every refusal, and behind the check, holds of both
+pub checked : {B : Type 0} (maps : Maps) (r : Result Kind Why) (v : Value) (f : Kind → Result B Why) (P : Result B Why → Type 0)
+    → ((why : Why) → P (Err why)) → Allows maps r v → ((k : Kind) → IsUsable k → Stands maps k v → P (f k)) → P (r >>= f)
+checked maps (Err why) v f P none h ok = none why
+checked maps (Ok k) v f P none h ok = ok k h.0 h.1
