@@ -1,5 +1,5 @@
 -- Loads and stores: the place that an address means, and what is read and written there.
-use Rattle.std.proofs.Common.{◌≡◌, ℕ, ◌+◌, ◌*◌, ◌/◌, ◌%◌, ◌<◌, ◌≤◌, ℤ, Bool, true, false, ◌&&◌, List, [], length, Option, Some, None, Result, Ok, Err, if◌then◌else◌, refl, sym, ap, ◌∙◌, arith}
+use Rattle.std.proofs.Common.{◌≡◌, ℕ, ◌+◌, ◌*◌, ◌/◌, ◌%◌, ◌≤◌, ℤ, Bool, true, false, List, [], length, Option, Some, None, Result, Ok, Err, if◌then◌else◌, refl, sym, ap, ◌∙◌, arith}
 use Rattle.scx_semantics.specs.declared.instructions.Operand.{Operand}
 use Rattle.scx_semantics.specs.declared.operations.Width.TheVariants.{Bits64}
 use Rattle.scx_semantics.specs.declared.operations.Size.{Size}
@@ -15,16 +15,16 @@ use Rattle.scx_semantics.specs.declared.values.StackByte.{StackByte}
 use Rattle.scx_semantics.specs.declared.registers.Register.{Register}
 use Rattle.scx_semantics.specs.Registers.{number}
 use Rattle.scx_semantics.specs.Arithmetic.{shifted}
-use Rattle.scx_semantics.specs.Memory.{Stack, stack_size, room_at, bytes_at, write, number_bytes, number_in, parts, value_in, value_bytes, load, store, read_as, size_bytes, access_size}
-use Rattle.scx_semantics.specs.Outside.{field_at, field_width, is_writable}
+use Rattle.scx_semantics.specs.Memory.{Stack, stack_size, room_at, bytes_at, write, number_bytes, number_in, parts, value_in, value_bytes, load, read_as, size_bytes, access_size}
+use Rattle.scx_semantics.specs.Outside.{field_at, is_writable}
 use Rattle.scx_semantics.specs.Elements.{Maps, element, number_at, with_element, with_number}
 use Rattle.scx_semantics.specs.Places as place
 use Rattle.scx_semantics.specs.Places.{Place, on_stack, in_element, in_task, address}
-use Rattle.scx_semantics.specs.Machine.{Machine, with_stack, with_maps}
+use Rattle.scx_semantics.specs.Machine.{Machine, with_stack}
 use Rattle.scx_semantics.specs.Effects as effect
 use Rattle.scx_semantics.specs.Effects.{keep, keep_answer}
 use Rattle.scx_semantics.specs.Meaning.{operand_value, is_plain, loaded, stored}
-use Rattle.scx_semantics.specs.Runs.{IsNumberBelow, Fits}
+use Rattle.scx_semantics.specs.Runs.{IsNumberBelow}
 use Rattle.scx_maps.specs.declared.shape.Shape.{Shape}
 use Rattle.scx_maps.specs.Contents.{HasShapes}
 use Rattle.scx_abs.specs.declared.faults.Why.{Why}
@@ -41,7 +41,7 @@ use Rattle.scx_abs.specs.Cells.{marked, all_written, written_in}
 use Rattle.scx_abs.specs.States.{kind_at, cell_at, with_cell}
 use Rattle.scx_abs.specs.Stands.{HasElement, Stands, CellStands, IsMember}
 use Rattle.scx_abs.specs.Checks.{◌>>=◌, goes_on, usable, operand_kind, sets, place_for}
-use Rattle.scx_abs.specs.Rules.{area_of, field_area, loaded_kind, kind_in, load_kind, stored_cell, number_stored, stored_in, store_rule}
+use Rattle.scx_abs.specs.Rules.{area_of, field_area, loaded_kind, kind_in, load_kind, number_stored, stored_in, store_rule}
 use Rattle.scx_abs.specs.Laws.{IsSoundFor}
 use Rattle.scx_abs.proofs.Lists.{set_each}
 use Rattle.scx_abs.proofs.Bytes as bytes

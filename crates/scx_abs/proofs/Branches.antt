@@ -1,10 +1,10 @@
 -- Comparisons: two numbers go both ways, and a test for 0 tells on each side what a pointer is.
-use Rattle.std.proofs.Common.{◌≡◌, ℕ, ℤ, pos, negsuc, unsigned_abs, Bool, true, false, not, nat_eq, List, Some, None, Result, Ok, Err, if◌then◌else◌, refl, sym, ◌∙◌, arith}
+use Rattle.std.proofs.Common.{◌≡◌, ℕ, ℤ, pos, negsuc, unsigned_abs, Bool, true, false, not, nat_eq, List, Some, None, Ok, if◌then◌else◌, refl, sym, ◌∙◌, arith}
 use Rattle.std.proofs.lemmas.Bool.{eqb-true, eq-eqb}
 use Rattle.scx_semantics.specs.declared.instructions.Operand.{Operand}
 use Rattle.scx_semantics.specs.declared.instructions.Operand.TheVariants as operand
 use Rattle.scx_semantics.specs.declared.operations.Width.{Width}
-use Rattle.scx_semantics.specs.declared.operations.Width.TheVariants.{Bits32, Bits64}
+use Rattle.scx_semantics.specs.declared.operations.Width.TheVariants.{Bits64}
 use Rattle.scx_semantics.specs.declared.operations.Comparison.{Comparison}
 use Rattle.scx_semantics.specs.declared.operations.Comparison.TheVariants.{Equal, NotEqual}
 use Rattle.scx_semantics.specs.declared.values.Value.{Value}

@@ -1,5 +1,5 @@
 -- Helper calls: what the checks pass the helper takes, and the state after a call.
-use Rattle.std.proofs.Common.{◌≡◌, ℕ, zero, suc, ◌+◌, ◌*◌, ◌/◌, ◌%◌, ◌^◌, ◌<◌, ◌≤◌, ℤ, pos, Bool, true, false, ◌&&◌, nat_eq, nat_lt, nat_le, List, [], ◌∷◌, length, Option, Some, None, is_some, Result, Ok, Err, if◌then◌else◌, refl, sym, ap, ◌∙◌, arith}
+use Rattle.std.proofs.Common.{◌≡◌, ℕ, ◌+◌, ◌*◌, ◌/◌, ◌%◌, ◌≤◌, Bool, true, false, ◌&&◌, nat_lt, List, [], ◌∷◌, length, Option, Some, None, is_some, Result, Ok, Err, if◌then◌else◌, refl, ◌∙◌, arith}
 use Rattle.std.proofs.lemmas.Bool.{and_parts, and_from, lt-ltb, ltb-true}
 use Rattle.scx_semantics.specs.declared.operations.Access.TheVariants as access
 use Rattle.scx_semantics.specs.declared.callbacks.Callback.{Callback}
@@ -10,7 +10,7 @@ use Rattle.scx_semantics.specs.declared.outside.Parameter.TheVariants as paramet
 use Rattle.scx_semantics.specs.declared.values.Value.{Value}
 use Rattle.scx_semantics.specs.declared.values.Value.TheVariants as value
 use Rattle.scx_semantics.specs.declared.values.Pointer.TheVariants as pointer
-use Rattle.scx_semantics.specs.Memory.{Stack, stack_size, room_at, bytes_at, number_in, pointer_in, number_or_pointer, load}
+use Rattle.scx_semantics.specs.Memory.{Stack, stack_size, room_at, load}
 use Rattle.scx_semantics.specs.Outside.{parameters, is_allowed}
 use Rattle.scx_semantics.specs.Elements.{Maps, elements, element}
 use Rattle.scx_semantics.specs.Places as place
@@ -19,7 +19,7 @@ use Rattle.scx_semantics.specs.Machine.{Machine, with_register}
 use Rattle.scx_semantics.specs.Effects as effect
 use Rattle.scx_semantics.specs.Calls as meaning
 use Rattle.scx_semantics.specs.Calls.{number_of, key_at, key, takes_all, arguments, found, looked_up, called, call_helper}
-use Rattle.scx_semantics.specs.Runs.{IsNumberBelow, IsTaskOrNull, Fits}
+use Rattle.scx_semantics.specs.Runs.{IsTaskOrNull}
 use Rattle.scx_maps.specs.declared.shape.Shape.{Shape}
 use Rattle.scx_abs.specs.declared.faults.Why.{Why}
 use Rattle.scx_abs.specs.declared.faults.Why.TheVariants.{UnwrittenStack, HelperNotHere}
@@ -31,14 +31,14 @@ use Rattle.scx_abs.specs.declared.kinds.Cell.TheVariants.{Bytes, Pointer}
 use Rattle.scx_abs.specs.declared.states.AbsState.{AbsState}
 use Rattle.scx_abs.specs.Cells.{no_bytes, all_written, written_in}
 use Rattle.scx_abs.specs.States.{kind_at, cell_at, with_kind}
-use Rattle.scx_abs.specs.Stands.{HasElement, Stands, CellStands, IsMember}
+use Rattle.scx_abs.specs.Stands.{Stands, CellStands, IsMember}
 use Rattle.scx_abs.specs.Checks.{◌>>=◌, goes_on, place_for}
 use Rattle.scx_abs.specs.Calls as rules
 use Rattle.scx_abs.specs.Calls.{key_in, key_check, argument_check, arguments_check, element_of, answer_kind, call_allowed, call_rule}
 use Rattle.scx_abs.specs.Laws.{IsSoundFor}
 use Rattle.scx_abs.proofs.Orders.{none_written}
-use Rattle.scx_abs.proofs.Bytes.{written_at, fits_cell}
-use Rattle.scx_abs.proofs.Registers.{IsUsable, kind_member}
+use Rattle.scx_abs.proofs.Bytes.{written_at}
+use Rattle.scx_abs.proofs.Registers.{kind_member}
 use Rattle.scx_abs.proofs.Elements.{place_cases, element_sized}
 use Rattle.scx_abs.proofs.Accesses.{number_read, number_fits}
 

@@ -1,5 +1,5 @@
 -- Arithmetic on kinds against arithmetic on values that they stand for.
-use Rattle.std.proofs.Common.{◌≡◌, ℕ, ◌<◌, ℤ, pos, negsuc, Bool, true, false, nat_lt, List, length, Option, Some, None, Result, Ok, Err, option_map, if◌then◌else◌, refl, sym}
+use Rattle.std.proofs.Common.{◌≡◌, ℕ, ℤ, pos, negsuc, Bool, true, false, nat_lt, List, length, Option, Some, None, Ok, Err, option_map, if◌then◌else◌, refl}
 use Rattle.std.proofs.lemmas.Bool.{ltb-true}
 use Rattle.scx_semantics.specs.declared.instructions.Operand.{Operand}
 use Rattle.scx_semantics.specs.declared.instructions.Operand.TheVariants as operand
@@ -21,7 +21,6 @@ use Rattle.scx_semantics.specs.Meaning.{operand_value, moved, combined, arithmet
 use Rattle.scx_maps.specs.declared.shape.Shape.{Shape}
 use Rattle.scx_maps.specs.Contents.{HasShapes}
 use Rattle.scx_maps.specs.Laws.{length-shaped}
-use Rattle.scx_abs.specs.declared.faults.Why.{Why}
 use Rattle.scx_abs.specs.declared.faults.Why.TheVariants.{UnknownMap}
 use Rattle.scx_abs.specs.declared.kinds.Kind.{Kind}
 use Rattle.scx_abs.specs.declared.kinds.Kind.TheVariants as kind

@@ -1,5 +1,5 @@
 -- Each rule against what its instruction means, and the state in which a callback begins.
-use Rattle.std.proofs.Common.{Bool, true, false, List, Some, None, Ok, if◌then◌else◌}
+use Rattle.std.proofs.Common.{true, false, List, Some, None, Ok, if◌then◌else◌}
 use Rattle.scx_semantics.specs.declared.instructions.Insn.TheVariants as insn
 use Rattle.scx_semantics.specs.declared.values.Value.{Value}
 use Rattle.scx_semantics.specs.declared.values.Value.TheVariants as value

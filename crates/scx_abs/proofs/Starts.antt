@@ -1,5 +1,5 @@
 -- The state in which a callback begins stands for all in which it may begin.
-use Rattle.std.proofs.Common.{◌≡◌, ℕ, zero, suc, ◌*◌, [], replicate, slice_index_or, refl}
+use Rattle.std.proofs.Common.{ℕ, zero, suc, ◌*◌, [], replicate, slice_index_or, refl}
 use Rattle.scx_semantics.specs.declared.callbacks.Callback.{Callback}
 use Rattle.scx_semantics.specs.declared.callbacks.Callback.TheVariants as callback
 use Rattle.scx_semantics.specs.declared.values.Value.{Value}

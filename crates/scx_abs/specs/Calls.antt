@@ -1,7 +1,6 @@
 -- The rule of helper calls: the helper is there, then it may be called in this callback, then each
 -- argument from r1 on is what it takes. After a call r0 has the answer's kind, and r1 to r5 are unusable.
-use Rattle.std.specs.Prelude.{ℕ, ◌+◌, ◌/◌, ◌%◌, pos, List, [], ◌∷◌, Option, Some, None, Result, Ok, Err, if◌then◌else◌}
-use Rattle.scx_semantics.specs.declared.operations.Access.TheVariants.{Word}
+use Rattle.std.specs.Prelude.{ℕ, ◌+◌, ◌/◌, ◌%◌, List, [], ◌∷◌, Option, Some, None, Result, Ok, Err, if◌then◌else◌}
 use Rattle.scx_semantics.specs.declared.callbacks.Callback.{Callback}
 use Rattle.scx_semantics.specs.declared.outside.Helper.{Helper}
 use Rattle.scx_semantics.specs.declared.outside.Helper.TheVariants as helper

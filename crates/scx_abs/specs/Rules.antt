@@ -2,7 +2,7 @@
 -- flows on from it. A check that fails gives its refusal, and the checks behind it aren't looked at. A
 -- register that is written is looked at first, then the registers that are read, the destination before
 -- the source, then the address, and then the value that is stored.
-use Rattle.std.specs.Prelude.{ℕ, ◌+◌, ◌/◌, ◌%◌, ℤ, pos, neg_ℤ, unsigned_abs, zero, suc, Bool, ◌&&◌, true, false, nat_eq, nat_lt, List, length, Option, Some, None, Result, Ok, Err, if◌then◌else◌}
+use Rattle.std.specs.Prelude.{ℕ, ◌/◌, ◌%◌, ℤ, pos, neg_ℤ, unsigned_abs, Bool, true, false, nat_eq, nat_lt, List, length, Option, Some, None, Result, Ok, Err, if◌then◌else◌}
 use Rattle.scx_semantics.specs.declared.instructions.Insn.{Insn}
 use Rattle.scx_semantics.specs.declared.instructions.Insn.TheVariants as insn
 use Rattle.scx_semantics.specs.declared.instructions.Operand.{Operand}

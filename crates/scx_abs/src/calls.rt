@@ -30,10 +30,7 @@ fn call_allowed(state: &AbsState, helper: Helper, defs: &MapDefs) -> Result<Next
     ensures { result ≡ call_allowed defs.now helper state.now }
 {
     check_arguments(state, helper, 0, defs)?;
-    goes_on(after_call(
-        state,
-        answer_kind(helper, state.kind(Register::R1)),
-    ))
+    goes_on(after_call(state, answer_kind(helper, state.kind(Register::R1))))
 }
 
 /// Checks the arguments of a helper from that one on, counted from 0.
