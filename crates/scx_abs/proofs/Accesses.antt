@@ -52,13 +52,14 @@ use Rattle.scx_abs.proofs.Elements.{place_cases, element_sized, with_number-leng
 -- ---- places
 
 -- the memory that a rule finds is that of the place, for so many bytes
-abbrev pub Means : Maps → ℕ → Area → Place → Type 0
+abbrev Means : Maps → ℕ → Area → Place → Type 0
 Means maps n (OnStack at) (place.OnStack to) = (at ≡ to) × (at % n ≡ 0)
 Means maps n InElement (place.InElement m i at) = HasElement maps m i × (at + n ≤ length (element maps m i))
 Means maps n (InTask f) (place.InTask t g) = f ≡ g
 Means maps n area to = ⊥
 
-abbrev pub Finds : Maps → ℕ → Result Area Why → Place → Type 0
+-- a rule's area against the place of the address
+abbrev Finds : Maps → ℕ → Result Area Why → Place → Type 0
 Finds maps n (Err why) to = Unit {0}
 Finds maps n (Ok area) to = Means maps n area to
 

@@ -1,8 +1,9 @@
--- Places in the memory of maps: what shapes say of elements, the checks of a place, and the state
--- after a store to an element.
-use Rattle.std.proofs.Common.{◌≡◌, ℕ, zero, suc, ◌+◌, ◌*◌, ◌%◌, ◌<◌, ◌≤◌, Bool, true, false, ◌&&◌, nat_eq, nat_le, List, [], ◌∷◌, ◌++◌, length, take, drop, slice_index_or, slice_get, Option, Some, None, Result, Ok, Err, if◌then◌else◌, refl, sym, ap, ◌∙◌, arith}
+-- Elements of maps: the checks of a place, what shapes say of an element, and the state after a store to
+-- one.
+use Rattle.std.proofs.Common.{◌≡◌, ℕ, zero, suc, ◌+◌, ◌*◌, ◌%◌, ◌<◌, ◌≤◌, ◌⊎◌, inl, inr, Bool, true, false, ◌&&◌, nat_eq, nat_le, List, [], ◌∷◌, ◌++◌, length, take, drop, slice_index_or, slice_get, Option, Some, None, Result, Ok, Err, if◌then◌else◌, refl, sym, ap, ◌∙◌, arith}
 use Rattle.std.specs.Int.{bytes_low_first}
 use Rattle.std.proofs.lemmas.Bool.{eqb-true, leb-true}
+use Rattle.std.proofs.lemmas.Option.{slice_get_cases}
 use Rattle.std.proofs.lemmas.List.{length-map, length-append, length-take-le, length-drop}
 use Rattle.scx_semantics.specs.declared.values.Value.{Value}
 use Rattle.scx_semantics.specs.declared.values.Value.TheVariants as value
@@ -48,28 +49,24 @@ place_cases size n (Some at) P none ok = go (nat_le (at + n) size) (nat_eq (at %
 -- ---- elements
 
 -- only a map that is there has elements
-pub map_there : (maps : Maps) (m i : ℕ) → HasElement maps m i → m < length maps
+map_there : (maps : Maps) (m i : ℕ) → HasElement maps m i → m < length maps
 map_there [] m i h = absurd (omega (arith, h))
 map_there (x ∷ maps) zero i h = omega arith
 map_there (x ∷ maps) (suc m) i h = let rest = map_there maps m i h in omega arith
 
-no_shape : (shapes : List Shape) (m : ℕ) → m < length shapes → slice_get shapes m ≡ None → ⊥
-no_shape [] m lt e = omega (arith, lt)
-no_shape (s ∷ shapes) zero lt e = absurd (cc)
-no_shape (s ∷ shapes) (suc m) lt e = no_shape shapes m (omega arith) e
-
 -- an element has as many bytes as the shape of its map says
 pub element_sized : (shapes : List Shape) (maps : Maps) (m i : ℕ) → HasShapes shapes maps → HasElement maps m i → length (element maps m i) ≡ element_size shapes m
-element_sized shapes maps m i shaped h = go (slice_get shapes m) refl
+element_sized shapes maps m i shaped h = go (slice_get_cases shapes m).1
   where
-    go : (o : Option Shape) → slice_get shapes m ≡ o → length (element maps m i) ≡ size_of o
-    go None e =
+    go : ((s : Shape) × (m < length shapes) × (slice_get shapes m ≡ Some s) × (slice_index_or shapes m s ≡ s)) ⊎ ((length shapes ≤ m) × (slice_get shapes m ≡ None))
+        → length (element maps m i) ≡ size_of (slice_get shapes m)
+    go (inl shape) =
+        let count = length-entries-shaped shapes maps m shape.0 shaped shape.2 in
+        rw (shape.2) (length-value-shaped shapes maps m i shape.0 shaped shape.2 (omega (arith, h, count)))
+    go (inr past) =
         let there = map_there maps m i h in
         let long = length-shaped shapes maps shaped in
-        absurd (no_shape shapes m (omega arith) e)
-    go (Some s) e =
-        let count = length-entries-shaped shapes maps m s shaped e in
-        length-value-shaped shapes maps m i s shaped e (omega (arith, h, count))
+        absurd (omega (arith, past.0))
 
 -- ---- a store to an element
 
@@ -104,7 +101,7 @@ same_count : (maps other : Maps) → lengths_of other ≡ lengths_of maps → le
 same_count maps other e = sym (length-map other lengths) ∙ ap (λ (ks : List (List ℕ)). length ks) e ∙ length-map maps lengths
 
 -- kinds stand for the same values
-pub stands_still : (maps other : Maps) (k : Kind) (v : Value) → lengths_of other ≡ lengths_of maps → Stands maps k v → Stands other k v
+stands_still : (maps other : Maps) (k : Kind) (v : Value) → lengths_of other ≡ lengths_of maps → Stands maps k v → Stands other k v
 stands_still maps other Unusable v e h = tt
 stands_still maps other Num (value.Number n) e h = tt
 stands_still maps other (kind.Stack o) (value.Pointer (pointer.Stack p)) e h = h

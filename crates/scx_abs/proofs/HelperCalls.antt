@@ -45,7 +45,7 @@ use Rattle.scx_abs.proofs.Accesses.{number_read, number_fits}
 -- ---- arguments
 
 -- what a check passes a helper takes
-abbrev pub Passes : Result (Unit {0}) Why → Bool → Type 0
+abbrev Passes : Result (Unit {0}) Why → Bool → Type 0
 Passes (Err why) b = Unit {0}
 Passes (Ok fine) b = b ≡ true
 
