@@ -3,3 +3,4 @@ pub mod RunSteps
 pub mod Lists
 pub mod StackReads
 pub mod StackWrites
+pub mod Effects
