@@ -1,22 +1,28 @@
-ghost use Rattle.std.specs.Prelude.{◌≡◌, IsTrue};
+ghost use Rattle.std.specs.Prelude.{◌≡◌, ◌≤◌};
 ghost use Rattle.scx_maps.specs.Contents.{lengths_of};
 ghost use Rattle.scx_maps.specs.Numbers.{bytes_of};
+ghost use Rattle.scx_semantics.specs.Elements.{Maps};
+ghost use Rattle.scx_semantics.specs.Machine.{Machine};
 ghost use Rattle.scx_semantics.specs.Memory.{size_bytes, access_size};
-ghost use Rattle.scx_semantics.specs.Meaning.{is_plain, loaded, stored, number_stored, pointer_stored};
+ghost use Rattle.scx_semantics.specs.Meaning.{is_plain, loaded, stored};
+ghost use Rattle.scx_semantics.specs.Places as places;
 ghost use Rattle.scx_semantics.specs.Registers.{number};
-ghost use Rattle.scx_vm.specs.State.{seen, held};
+ghost use Rattle.scx_semantics.specs.declared.operations.Size as Sizes;
+ghost use Rattle.scx_vm.specs.declared.state.Core.{Core};
+ghost use Rattle.scx_vm.specs.State.{seen};
 ghost use Rattle.scx_vm.specs.Host.{host};
-ghost use Rattle.scx_vm.specs.Places.{place_of, Lies};
+ghost use Rattle.scx_vm.specs.Places.{place_of, Lies, LiesOnStack, LiesInElement};
 ghost use Rattle.scx_vm.specs.Execute.{ComesTo, effect_of};
 
 use crate::effect::Effect;
 use crate::env::Env;
 use crate::memory::{Place, element_number};
 use crate::state::Core;
-use scx_isa::{Access, Field, Pointer, Register, Size, TaskId, Value};
+use scx_isa::{Access, Field, Register, Size, TaskId, Value};
 use scx_maps::Maps;
 
 /// Loads from a place.
+#[tactic(auto, using(crate::proofs::Effects::comes_to))]
 pub fn load<E: Env>(
     core: &mut Core,
     destination: Register,
@@ -51,7 +57,7 @@ fn load_field<E: Env>(
     field: Field,
     env: &E,
 ) -> Effect
-    ensures { (maps : Maps) → ComesTo (host E.answer E.after_call E.number E.after_store) (loaded (seen core.old maps) (number destination) access (InTask task field)) maps env.now result (seen core.new maps) env.now }
+    ensures { (maps : Maps) → ComesTo (host E.answer E.after_call E.number E.after_store) (loaded (seen core.old maps) (number destination) access (places.InTask task field)) maps env.now result (seen core.new maps) env.now }
 {
     if !is_plain(access) || destination == Register::R10 {
         return Effect::Stuck;
@@ -72,6 +78,7 @@ fn is_plain(access: Access) -> bool
 }
 
 /// Stores a value at a place.
+#[tactic(auto, using(crate::proofs::Effects::comes_to))]
 pub fn store<E: Env>(
     core: &mut Core,
     size: Size,
@@ -86,67 +93,66 @@ pub fn store<E: Env>(
     ensures room { E.room env.old ≤ E.room env.new }
     ensures spent { E.spent env.new ≤ E.spent env.old }
 {
-    match value {
-        Value::Number(n) => store_number(core, size, n, place, maps, env),
-        Value::Pointer(pointer) => store_pointer(core, size, pointer, place),
-        Value::Unset => Effect::Stuck,
+    match place {
+        Place::Nowhere => Effect::Stuck,
+        Place::OnStack(at) => store_on_stack(core, size, value, at),
+        Place::InElement(map, index, at) => store_in_element(maps, map, index, at, size, value),
+        Place::InTask(task, field) => store_field(env, task, field, value),
     }
 }
 
-/// Stores the low bytes of a number at a place.
-fn store_number<E: Env>(
-    core: &mut Core,
-    size: Size,
-    n: u64,
-    place: Place,
-    maps: &mut Maps,
-    env: &mut E,
-) -> Effect
-    requires { Lies maps.old (size_bytes size) place }
-    ensures effect { ComesTo (host E.answer E.after_call E.number E.after_store) (number_stored (seen core.old maps.old) size n (place_of place)) maps.old env.old result (seen core.new maps.new) env.new }
-    ensures shapes { lengths_of maps.new ≡ lengths_of maps.old }
-    ensures room { E.room env.old ≤ E.room env.new }
-    ensures spent { E.spent env.new ≤ E.spent env.old }
+/// Stores a value on the stack.
+fn store_on_stack(core: &mut Core, size: Size, value: Value, at: u16) -> Effect
+    requires { LiesOnStack at (size_bytes size) }
+    ensures { (maps : Maps) → stored (seen core.old maps) size value (places.OnStack at) ≡ effect_of result (seen core.new maps) }
 {
-    match place {
-        Place::Nowhere => Effect::Stuck,
-        Place::OnStack(at) => {
-            core.stack.store_number(size, usize::from(at), n);
-            Effect::Next
+    match (size, value) {
+        (_, Value::Number(n)) => core.stack.store_number(size, usize::from(at), n),
+        (Size::DoubleWord, Value::Pointer(pointer)) => {
+            core.stack.store_pointer(usize::from(at), pointer);
         }
-        Place::InElement(map, index, at) => {
+        _ => return Effect::Stuck,
+    }
+    Effect::Next
+}
+
+/// Stores a value in an element, which has to be a number.
+fn store_in_element(
+    maps: &mut Maps,
+    map: u8,
+    index: u32,
+    at: u16,
+    size: Size,
+    value: Value,
+) -> Effect
+    requires { LiesInElement maps.old map index at (size_bytes size) }
+    ensures effect { (core : Core) → stored (seen core maps.old) size value (places.InElement map index at) ≡ effect_of result (seen core maps.new) }
+    ensures shapes { lengths_of maps.new ≡ lengths_of maps.old }
+{
+    match value {
+        Value::Number(n) => {
             maps.store(map, index, at, map_size(size), n);
             Effect::Next
         }
-        Place::InTask(task, field) => store_field(env, task, field, n),
+        Value::Pointer(_) | Value::Unset => Effect::Stuck,
     }
 }
 
-/// Stores a number to a field of a task.
-fn store_field<E: Env>(env: &mut E, task: TaskId, field: Field, n: u64) -> Effect
-    ensures effect { (m : Machine) (size : Size) → ComesTo (host E.answer E.after_call E.number E.after_store) (number_stored m size n (InTask task field)) m.maps env.old result m env.new }
+/// Stores a value to a field of a task, which has to be a number, and the field one that may be
+/// written.
+fn store_field<E: Env>(env: &mut E, task: TaskId, field: Field, value: Value) -> Effect
+    ensures effect { (m : Machine) (size : Sizes.Size) → ComesTo (host E.answer E.after_call E.number E.after_store) (stored m size value (places.InTask task field)) m.maps env.old result m env.new }
     ensures room { E.room env.old ≤ E.room env.new }
     ensures spent { E.spent env.new ≤ E.spent env.old }
 {
+    let Value::Number(n) = value else {
+        return Effect::Stuck;
+    };
     if !field.is_writable() {
         return Effect::Stuck;
     }
     env.store(task, field, n);
     Effect::Next
-}
-
-/// Stores a pointer at a place, which is eight bytes of the stack.
-fn store_pointer(core: &mut Core, size: Size, pointer: Pointer, place: Place) -> Effect
-    requires { (maps : Maps) → Lies maps (size_bytes size) place }
-    ensures { (maps : Maps) → pointer_stored (seen core.old maps) size pointer (place_of place) ≡ effect_of result (seen core.new maps) }
-{
-    match (size, place) {
-        (Size::DoubleWord, Place::OnStack(at)) => {
-            core.stack.store_pointer(usize::from(at), pointer);
-            Effect::Next
-        }
-        _ => Effect::Stuck,
-    }
 }
 
 /// A size as maps have it.

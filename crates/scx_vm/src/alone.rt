@@ -8,7 +8,7 @@ ghost use Rattle.scx_vm.specs.declared.arguments.Answer.TheVariants.{Number};
 use crate::arguments::{Answer, Argument, Arguments};
 use crate::env::Env;
 use crate::run::{Ran, try_run};
-use scx_isa::{Callback, Field, Helper, MAX_SLOTS, Program, TaskId};
+use scx_isa::{Callback, Field, Helper, Program, TaskId};
 use scx_maps::Maps;
 use std::alloc::Global;
 use std::marker::Model;
@@ -32,7 +32,7 @@ impl Env for Nobody {
 
     ghost after_store = { λ w t f n. w };
 
-    ghost room = { λ w. MAX_SLOTS };
+    ghost room = { λ w. 4096 };
 
     ghost spent = { λ w. 0 };
 

@@ -21,6 +21,7 @@ use scx_isa::{Callback, Helper, Pointer, Register, Size, Value};
 use scx_maps::Maps;
 
 /// Calls the helper of that number (RFC 9669, section 4.3.1).
+#[tactic(auto, using(crate::proofs::Effects::comes_to))]
 pub fn call<E: Env>(
     core: &mut Core,
     number: i32,
