@@ -4,3 +4,7 @@ pub mod Lists
 pub mod StackReads
 pub mod StackWrites
 pub mod Effects
+pub mod Registers
+pub mod HelperCalls
+pub mod Fields
+pub mod RunAlone

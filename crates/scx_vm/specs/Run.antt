@@ -1,13 +1,12 @@
 -- How a step and a run of the interpreter end. Control goes from an instruction to the next one, or to
 -- a jump's target (RFC 9669, section 4.3).
-use Rattle.std.specs.Prelude.{◌≡◌, ℕ, ⊤, ◌<◌, ◌≤◌, []}
+use Rattle.std.specs.Prelude.{◌≡◌, ℕ, ⊤, ◌<◌, ◌≤◌}
 use Rattle.scx_semantics.specs.declared.callbacks.Callback.{Callback}
-use Rattle.scx_semantics.specs.declared.callbacks.Callback.TheVariants.{Plain}
 use Rattle.scx_semantics.specs.Code.{Code, instruction_count, instructions_from}
 use Rattle.scx_semantics.specs.Elements.{Maps}
-use Rattle.scx_semantics.specs.Machine.{Machine, Arguments, no_arguments}
+use Rattle.scx_semantics.specs.Machine.{Machine, Arguments}
 use Rattle.scx_semantics.specs.Steps as steps
-use Rattle.scx_semantics.specs.Runs.{Outside, LeadsTo, Runs, GetsStuck}
+use Rattle.scx_semantics.specs.Runs.{Outside, LeadsTo, GetsStuck}
 use Rattle.scx_vm.specs.declared.run.Outcome.{Outcome}
 use Rattle.scx_vm.specs.declared.run.Outcome.TheVariants as outcome
 use Rattle.scx_vm.specs.declared.run.Done.{Done}

@@ -8,10 +8,9 @@ ghost use Rattle.scx_semantics.specs.Meaning.{is_plain, loaded, stored};
 ghost use Rattle.scx_semantics.specs.Places as places;
 ghost use Rattle.scx_semantics.specs.Registers.{number};
 ghost use Rattle.scx_semantics.specs.declared.operations.Size as Sizes;
-ghost use Rattle.scx_vm.specs.declared.state.Core.{Core};
 ghost use Rattle.scx_vm.specs.State.{seen};
 ghost use Rattle.scx_vm.specs.Host.{host};
-ghost use Rattle.scx_vm.specs.Places.{place_of, Lies, LiesOnStack, LiesInElement};
+ghost use Rattle.scx_vm.specs.Places.{place_of, Lies, LiesOnStack};
 ghost use Rattle.scx_vm.specs.Execute.{ComesTo, effect_of};
 
 use crate::effect::Effect;
@@ -96,7 +95,13 @@ pub fn store<E: Env>(
     match place {
         Place::Nowhere => Effect::Stuck,
         Place::OnStack(at) => store_on_stack(core, size, value, at),
-        Place::InElement(map, index, at) => store_in_element(maps, map, index, at, size, value),
+        Place::InElement(map, index, at) => {
+            let Value::Number(n) = value else {
+                return Effect::Stuck;
+            };
+            maps.store(map, index, at, map_size(size), n);
+            Effect::Next
+        }
         Place::InTask(task, field) => store_field(env, task, field, value),
     }
 }
@@ -114,28 +119,6 @@ fn store_on_stack(core: &mut Core, size: Size, value: Value, at: u16) -> Effect
         _ => return Effect::Stuck,
     }
     Effect::Next
-}
-
-/// Stores a value in an element, which has to be a number.
-fn store_in_element(
-    maps: &mut Maps,
-    map: u8,
-    index: u32,
-    at: u16,
-    size: Size,
-    value: Value,
-) -> Effect
-    requires { LiesInElement maps.old map index at (size_bytes size) }
-    ensures effect { (core : Core) → stored (seen core maps.old) size value (places.InElement map index at) ≡ effect_of result (seen core maps.new) }
-    ensures shapes { lengths_of maps.new ≡ lengths_of maps.old }
-{
-    match value {
-        Value::Number(n) => {
-            maps.store(map, index, at, map_size(size), n);
-            Effect::Next
-        }
-        Value::Pointer(_) | Value::Unset => Effect::Stuck,
-    }
 }
 
 /// Stores a value to a field of a task, which has to be a number, and the field one that may be

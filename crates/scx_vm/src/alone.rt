@@ -1,4 +1,4 @@
-ghost use Rattle.std.specs.Prelude.{◌≡◌, ◌≤◌};
+ghost use Rattle.std.specs.Prelude.{◌≡◌, ◌^◌, ◌≤◌};
 ghost use Rattle.scx_isa.specs.Flow.{Flows};
 ghost use Rattle.scx_semantics.specs.Code.{instruction_count};
 ghost use Rattle.scx_vm.specs.Run.{IfDone, IfStuck};
@@ -32,7 +32,7 @@ impl Env for Nobody {
 
     ghost after_store = { λ w t f n. w };
 
-    ghost room = { λ w. 4096 };
+    ghost room = { λ w. 2 ^ 64 };
 
     ghost spent = { λ w. 0 };
 
@@ -55,6 +55,8 @@ pub fn try_run_alone(alloc: Global, program: &Program) -> Ran
     ensures in_bound { IfDone result (λ done. done.steps ≤ instruction_count program.now) }
     ensures stuck { IfStuck result (GetsStuckAlone program.now) }
 {
+    // As many as can be counted, so nobody has room for as many calls.
+    let _instructions = program.instructions();
     let mut maps = Maps::none(alloc);
     try_run(
         program,

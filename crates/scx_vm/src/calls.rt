@@ -1,14 +1,13 @@
-ghost use Rattle.std.specs.Prelude.{◌≡◌, ◌+◌, ◌<◌, ◌≤◌, length, map, if◌then◌else◌};
-ghost use Rattle.scx_semantics.specs.Calls.{call, key, takes, takes_all, argument, arguments, called};
+ghost use Rattle.std.specs.Prelude.{◌≡◌, ◌+◌, ◌<◌, ◌≤◌, length, map, slice_get, if◌then◌else◌};
+ghost use Rattle.scx_semantics.specs.Calls.{call, key, takes_all, argument, arguments, called};
 ghost use Rattle.scx_semantics.specs.Effects as effects;
 ghost use Rattle.scx_semantics.specs.Elements.{Maps};
 ghost use Rattle.scx_semantics.specs.Outside.{parameters};
 ghost use Rattle.scx_semantics.specs.Registers.{number};
 ghost use Rattle.scx_semantics.specs.declared.outside.Helper.TheVariants.{MapLookupElem};
-ghost use Rattle.scx_semantics.specs.declared.outside.Parameter.TheVariants as Parameter;
 ghost use Rattle.scx_vm.specs.State.{seen, held};
 ghost use Rattle.scx_vm.specs.Host.{host};
-ghost use Rattle.scx_vm.specs.Arguments.{argument_of};
+ghost use Rattle.scx_vm.specs.Arguments.{argument_of, finds};
 ghost use Rattle.scx_vm.specs.Execute.{ComesTo, effect_of};
 
 use crate::arguments::Argument;
@@ -17,7 +16,7 @@ use crate::env::Env;
 use crate::memory::{Place, address};
 use crate::state::Core;
 use byteorder::{ByteOrder, LittleEndian};
-use scx_isa::{Callback, Helper, Pointer, Register, Size, Value};
+use scx_isa::{Callback, Helper, Parameter, Pointer, Register, Size, Value};
 use scx_maps::Maps;
 
 /// Calls the helper of that number (RFC 9669, section 4.3.1).
@@ -121,45 +120,27 @@ fn argument(core: &Core, helper: Helper, index: usize, register: Register) -> Ar
     }
 }
 
-/// Whether a helper that asks the host finds what it takes, from r1 on: tasks and numbers.
+/// Whether a helper that asks the host finds what it takes, from r1 on.
 fn takes_all(core: &Core, helper: Helper) -> bool
     requires { ¬ (helper ≡ MapLookupElem) }
     ensures { (maps : Maps) → result ≡ takes_all (seen core.now maps) (parameters helper) 1 }
 {
-    match helper {
-        Helper::MapLookupElem | Helper::KtimeGetNs => true,
-        Helper::SelectCpuDfl => is_task(core, Register::R1),
-        Helper::CreateDsq
-        | Helper::DsqMoveToLocal
-        | Helper::CpuIdle
-        | Helper::TaskByPid
-        | Helper::DsqNrQueued => is_number(core, Register::R1),
-        Helper::DsqInsert => {
-            is_task(core, Register::R1)
-                && is_number(core, Register::R2)
-                && is_number(core, Register::R3)
-                && is_number(core, Register::R4)
-        }
-        Helper::DsqInsertVtime => {
-            is_task(core, Register::R1)
-                && is_number(core, Register::R2)
-                && is_number(core, Register::R3)
-                && is_number(core, Register::R4)
-                && is_number(core, Register::R5)
-        }
+    takes(core, helper, 0, Register::R1)
+        & (takes(core, helper, 1, Register::R2)
+            & (takes(core, helper, 2, Register::R3)
+                & (takes(core, helper, 3, Register::R4) & takes(core, helper, 4, Register::R5))))
+}
+
+/// Whether the register holds what the helper takes as its argument of that number: a task or a
+/// number.
+fn takes(core: &Core, helper: Helper, index: usize, register: Register) -> bool
+    ensures { (maps : Maps) → result ≡ finds (seen core.now maps) (slice_get (parameters helper) index) (held core.now (number register)) }
+{
+    let value = core.read(register);
+    match helper.parameter(index) {
+        None => true,
+        Some(Parameter::Task) => matches!(value, Value::Pointer(Pointer::Task(_))),
+        Some(Parameter::Number) => matches!(value, Value::Number(_)),
+        Some(Parameter::Map | Parameter::Key) => false,
     }
-}
-
-/// Whether the register points to a task.
-fn is_task(core: &Core, register: Register) -> bool
-    ensures { (maps : Maps) → result ≡ takes (seen core.now maps) Parameter.Task (held core.now (number register)) }
-{
-    matches!(core.read(register), Value::Pointer(Pointer::Task(_)))
-}
-
-/// Whether the register holds a number.
-fn is_number(core: &Core, register: Register) -> bool
-    ensures { (maps : Maps) → result ≡ takes (seen core.now maps) Parameter.Number (held core.now (number register)) }
-{
-    matches!(core.read(register), Value::Number(_))
 }
