@@ -1,4 +1,4 @@
-ghost use Rattle.std.specs.Prelude.{◌≡◌, ◌≤◌, ◌↔◌, length, slice_get, All, IsOk, IsTrue, IfOk, IfErr, IfSome, OnOk};
+ghost use Rattle.std.specs.Prelude.{◌≡◌, ◌≤◌, ◌↔◌, [], length, slice_get, All, IsOk, IsTrue, IfOk, IfErr, IfSome, OnOk};
 ghost use Rattle.std.proofs.Common.{rules};
 ghost use Rattle.std.specs.Cmp.Lexicographic.{lists_per, lists_equiv};
 ghost use Rattle.std.specs.Cmp.Rules.{comparing};
@@ -64,6 +64,13 @@ impl MapDefs {
             return Err(BadShape::TooLarge);
         }
         Ok(filled_up(shapes))
+    }
+
+    /// No shape at all.
+    pub(crate) fn none() -> MapDefs
+        ensures { result ≡ [] }
+    {
+        filled_up(&[])
     }
 
     /// How many maps there are.

@@ -1,4 +1,4 @@
-ghost use Rattle.std.specs.Prelude.{◌≡◌, ◌≤◌, ◌<◌, ◌+◌, length};
+ghost use Rattle.std.specs.Prelude.{◌≡◌, ◌≤◌, ◌<◌, ◌+◌, [], length};
 ghost use Rattle.scx_maps.specs.Limits.{AreWithinLimits, total_bytes};
 ghost use Rattle.scx_maps.specs.Layout.{shape_at, place_of};
 
@@ -47,6 +47,13 @@ impl Layout {
         }
     }
 
+    /// The layout of no maps.
+    pub fn none() -> Layout
+        ensures { result ≡ [] }
+    {
+        Layout::new(&MapDefs::none())
+    }
+
     /// How many bytes all maps take.
     pub fn bytes(&self) -> usize
         ensures bytes { result ≡ total_bytes self.now }
@@ -57,7 +64,8 @@ impl Layout {
 
     /// How many maps there are.
     pub fn count(&self) -> usize
-        ensures { result ≡ length self.now }
+        ensures count { result ≡ length self.now }
+        ensures limits { AreWithinLimits self.now }
     {
         self.defs.count()
     }
@@ -67,6 +75,14 @@ impl Layout {
         ensures { result ≡ shape_at self.now map }
     {
         self.defs.shapes()[usize::from(map)]
+    }
+
+    /// How many bytes each entry of a map has.
+    pub fn value_size(&self, map: u8) -> u16
+        requires { map < length self.now }
+        ensures { result ≡ (shape_at self.now map).value_size }
+    {
+        self.defs.shapes()[usize::from(map)].value_size as u16
     }
 
     /// The byte at which an entry begins.

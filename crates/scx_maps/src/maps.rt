@@ -1,10 +1,10 @@
-ghost use Rattle.std.specs.Prelude.{◌≡◌, ℕ, ◌≤◌, ◌<◌, ◌+◌, ◌↔◌, List, length, IsTrue, IfOk};
+ghost use Rattle.std.specs.Prelude.{◌≡◌, ℕ, ◌≤◌, ◌<◌, ◌+◌, ◌↔◌, List, [], length, IsTrue, IfOk};
 ghost use Rattle.std.specs.Borrow.{sem};
 ghost use Rattle.scx_maps.specs.Contents.{entries_of, value_of, with_value, zeros, lengths_of, HasShapes};
 ghost use Rattle.scx_maps.specs.Numbers.{bytes_of, number_at, with_number};
 ghost use Rattle.scx_maps.specs.Lending.{LendsValue, given_back};
 
-use crate::defs::MapDefs;
+use crate::defs::{MAX_MAPS, MapDefs};
 use crate::layout::Layout;
 use crate::numbers::{read_number, write_number};
 use crate::size::Size;
@@ -43,9 +43,20 @@ impl Maps {
         Ok(Maps { layout, block })
     }
 
+    /// No maps at all, which takes no memory.
+    pub fn none(alloc: Global) -> Maps
+        ensures { result ≡ [] }
+    {
+        Maps {
+            layout: Layout::none(),
+            block: Vec::new(alloc),
+        }
+    }
+
     /// How many maps there are.
     pub fn count(&self) -> usize
-        ensures { result ≡ length self.now }
+        ensures count { result ≡ length self.now }
+        ensures most { length self.now ≤ MAX_MAPS }
     {
         self.layout.count()
     }
@@ -56,6 +67,19 @@ impl Maps {
         ensures { IsTrue result ↔ (key < length (entries_of self.now map)) }
     {
         key < self.layout.shape(map).entries
+    }
+
+    /// How many bytes an entry has; 0 where there is no such entry.
+    pub fn value_size(&self, map: u8, index: u32) -> u16
+        ensures size { result ≡ length (value_of self.now map index) }
+        ensures is_there { 0 < result
+            → (map < length self.now) × (index < length (entries_of self.now map)) }
+    {
+        if usize::from(map) < self.count() && self.lookup(map, index) {
+            self.layout.value_size(map)
+        } else {
+            0
+        }
     }
 
     /// The bytes of an entry.

@@ -3,3 +3,8 @@ pub mod RunSteps
 pub mod Lists
 pub mod StackReads
 pub mod StackWrites
+pub mod Effects
+pub mod Registers
+pub mod HelperCalls
+pub mod Fields
+pub mod RunAlone

@@ -1,4 +1,8 @@
 pub mod Stack
 pub mod State
+pub mod Arguments
+pub mod Host
+pub mod Places
 pub mod Execute
 pub mod Run
+pub mod Alone

@@ -1,23 +1,23 @@
--- How a step and a run of the interpreter end. It runs a program alone: as a plain program, with no
--- arguments and no maps, and with nothing that answers a query. Control goes from an instruction to
--- the next one, or to a jump's target (RFC 9669, section 4.3).
-use Rattle.std.specs.Prelude.{ℕ, ⊤, ◌<◌, ◌≤◌, []}
-use Rattle.scx_semantics.specs.declared.callbacks.Callback.TheVariants.{Plain}
+-- How a step and a run of the interpreter end. Control goes from an instruction to the next one, or to
+-- a jump's target (RFC 9669, section 4.3).
+use Rattle.std.specs.Prelude.{◌≡◌, ℕ, ⊤, ◌<◌, ◌≤◌}
+use Rattle.scx_semantics.specs.declared.callbacks.Callback.{Callback}
 use Rattle.scx_semantics.specs.Code.{Code, instruction_count, instructions_from}
-use Rattle.scx_semantics.specs.Machine.{Machine, no_arguments}
+use Rattle.scx_semantics.specs.Elements.{Maps}
+use Rattle.scx_semantics.specs.Machine.{Machine, Arguments}
 use Rattle.scx_semantics.specs.Steps as steps
-use Rattle.scx_semantics.specs.Runs.{silent, Runs, GetsStuck}
+use Rattle.scx_semantics.specs.Runs.{Outside, LeadsTo, GetsStuck}
 use Rattle.scx_vm.specs.declared.run.Outcome.{Outcome}
 use Rattle.scx_vm.specs.declared.run.Outcome.TheVariants as outcome
 use Rattle.scx_vm.specs.declared.run.Done.{Done}
 use Rattle.scx_vm.specs.declared.run.Ran.{Ran}
 use Rattle.scx_vm.specs.declared.run.Ran.TheVariants as ran
 
--- where a step leads, by what the interpreter says of it and the state that it leaves
-abbrev pub outcome_of : Outcome → Machine → steps.Outcome
-outcome_of outcome.Stuck m = steps.Stuck
-outcome_of (outcome.At slot) m = steps.Goes slot m
-outcome_of (outcome.Ended answer) m = steps.Ends answer
+-- a step with these maps and this outside comes to what the interpreter says
+abbrev pub StepsTo : {W : Type 0} → Outside W → steps.Outcome → Maps → W → Outcome → Machine → W → Type 0
+StepsTo O e maps w outcome.Stuck m w' = (e ≡ steps.Stuck) × (m.maps ≡ maps) × (w' ≡ w)
+StepsTo O e maps w (outcome.At slot) m w' = LeadsTo O e w slot m w'
+StepsTo O e maps w (outcome.Ended answer) m w' = (e ≡ steps.Ends answer) × (m.maps ≡ maps) × (w' ≡ w)
 
 -- the step from that slot leads to where fewer are left
 abbrev pub LeadsNearer : Code → ℕ → Outcome → Type 0
@@ -33,12 +33,8 @@ abbrev pub IfStuck : Ran → (ℕ → Type 0) → Type 0
 IfStuck (ran.Done done) P = ⊤
 IfStuck (ran.Stuck slot) P = P slot
 
--- the program, run alone, ends with that answer after that many steps
-abbrev pub RunsAlone : Code → Done → Type 0
-RunsAlone code done = Runs silent Plain code no_arguments [] tt done.r0 done.steps [] tt
-
--- the program, run alone, gets stuck at the slot, after no more steps than it has instructions
-pub record GetsStuckAlone (code : Code) (slot : ℕ) : Type 0 where
+-- a run gets stuck at the slot, after no more steps than the program has instructions
+pub record GetsStuckAt {W : Type 0} (O : Outside W) (c : Callback) (code : Code) (a : Arguments) (maps : Maps) (w : W) (slot : ℕ) (maps' : Maps) (w' : W) : Type 0 where
   pub steps : ℕ
-  pub stuck : GetsStuck silent Plain code no_arguments [] tt slot steps
+  pub stuck : GetsStuck O c code a maps w slot steps maps' w'
   pub in_bound : steps ≤ instruction_count code

@@ -1,20 +1,26 @@
-ghost use Rattle.std.specs.Prelude.{◌≡◌, ◌<◌, ◌≤◌, ◌≤ℤ◌, pos, length};
-ghost use Rattle.scx_semantics.specs.Code.{instruction_count};
+ghost use Rattle.std.specs.Prelude.{◌≡◌, ◌+◌, ◌<◌, ◌≤◌, ◌≤ℤ◌, pos, length};
 ghost use Rattle.scx_isa.specs.Flow.{Flows};
+ghost use Rattle.scx_maps.specs.Contents.{lengths_of};
+ghost use Rattle.scx_semantics.specs.Code.{instruction_count, instructions_from};
+ghost use Rattle.scx_semantics.specs.Runs.{Runs};
 ghost use Rattle.scx_semantics.specs.Steps.{step, distance, target};
-ghost use Rattle.scx_semantics.specs.declared.callbacks.Callback.TheVariants.{Plain};
+ghost use Rattle.scx_vm.specs.Arguments.{given};
+ghost use Rattle.scx_vm.specs.Host.{host};
+ghost use Rattle.scx_vm.specs.Run.{StepsTo, LeadsNearer, IfDone, IfStuck, GetsStuckAt};
 ghost use Rattle.scx_vm.specs.State.{seen};
-ghost use Rattle.scx_vm.specs.Run.{outcome_of, LeadsNearer};
-ghost use Rattle.scx_vm.specs.Run.{IfDone, IfStuck, RunsAlone, GetsStuckAlone};
 
-use crate::execute::{Effect, execute};
+use crate::arguments::Arguments;
+use crate::effect::Effect;
+use crate::env::Env;
+use crate::execute::execute;
 use crate::state::Core;
-use scx_isa::{Insn, MAX_SLOTS, Program};
+use scx_isa::{Callback, Insn, MAX_SLOTS, Program};
+use scx_maps::Maps;
 
 /// The end of a run at an `exit` (RFC 9669, section 4.3).
 #[derive(Clone, Copy, Debug, PartialEq, Eq)]
 pub struct Done {
-    /// The number that r0 held.
+    /// The number that r0 held; 0 where the callback answers none.
     pub r0: u64,
     /// How many instructions were done, the `exit` included: at least 1.
     pub steps: usize,
@@ -23,13 +29,14 @@ pub struct Done {
 /// How a run ended.
 #[derive(Clone, Copy, Debug, PartialEq, Eq)]
 pub enum Ran {
-    /// It came to an `exit` with a number in r0.
+    /// It came to an `exit`, with a number in r0 where the callback answers one.
     Done(Done),
     /// It came to this slot, counted from 0, where no instruction begins or the one there has no
     /// meaning in the state that the run had come to. It reads an unset register or bytes of the
     /// stack that hold neither a number nor one pointer, writes r10, computes with or compares a
-    /// pointer in a way that has no meaning, leaves the stack, loads or stores out of line, calls
-    /// a helper, names a map, or exits with no number in r0.
+    /// pointer in a way that has no meaning, loads or stores out of bounds or out of line or what
+    /// is not a field of a task, names a map that isn't there, calls a helper that isn't there, may
+    /// not be called or doesn't find what it takes, or exits with no number in r0.
     Stuck(usize),
 }
 
@@ -44,19 +51,29 @@ enum Outcome {
     Ended(u64),
 }
 
-/// Runs a program that `flow` accepts, with no arguments, no maps and no helpers (RFC 9669).
+/// Runs a program that `flow` accepts, as that callback (RFC 9669).
 ///
 /// Its jumps go forward, so it does each instruction at most once.
-pub fn try_run(program: &Program) -> Ran
-    requires { Flows program.now }
-    ensures done { IfDone result (RunsAlone program.now) }
+pub fn try_run<E: Env>(
+    program: &Program,
+    callback: Callback,
+    arguments: Arguments,
+    maps: &mut Maps,
+    env: &mut E,
+) -> Ran
+    requires flows { Flows program.now }
+    requires room { instruction_count program.now ≤ E.room env.old }
+    ensures done { IfDone result (λ done. Runs (host E.answer E.after_call E.number E.after_store) callback program.now (given arguments) maps.old env.old done.r0 done.steps maps.new env.new) }
     ensures in_bound { IfDone result (λ done. done.steps ≤ instruction_count program.now) }
-    ensures stuck { IfStuck result (GetsStuckAlone program.now) }
+    ensures stuck { IfStuck result (λ slot. GetsStuckAt (host E.answer E.after_call E.number E.after_store) callback program.now (given arguments) maps.old env.old slot maps.new env.new) }
+    ensures shapes { lengths_of maps.new ≡ lengths_of maps.old }
+    ensures room { E.room env.old ≤ E.room env.new + instruction_count program.now }
+    ensures spent { E.spent env.new ≤ E.spent env.old + instruction_count program.now }
 {
-    let mut core = Core::start();
+    let mut core = Core::start(arguments);
     let mut slot = 0;
     for steps in 0..program.slots() {
-        match step(program, slot, &mut core) {
+        match step(program, slot, callback, &mut core, maps, env) {
             Outcome::Stuck => return Ran::Stuck(slot),
             Outcome::At(next) => slot = next,
             Outcome::Ended(r0) => return Ran::Done(Done {
@@ -70,16 +87,27 @@ pub fn try_run(program: &Program) -> Ran
 }
 
 /// Does the instruction at the slot, if one begins there.
-fn step(program: &Program, slot: usize, core: &mut Core) -> Outcome
+fn step<E: Env>(
+    program: &Program,
+    slot: usize,
+    callback: Callback,
+    core: &mut Core,
+    maps: &mut Maps,
+    env: &mut E,
+) -> Outcome
     requires flows { Flows program.now }
     requires short { length program.now ≤ MAX_SLOTS }
-    ensures step { step Plain program.now slot (seen core.old) ≡ outcome_of result (seen core.new) }
+    requires room { instructions_from program.now slot ≤ E.room env.old }
+    ensures step { StepsTo (host E.answer E.after_call E.number E.after_store) (step callback program.now slot (seen core.old maps.old)) maps.old env.old result (seen core.new maps.new) env.new }
     ensures nearer { LeadsNearer program.now slot result }
+    ensures shapes { lengths_of maps.new ≡ lengths_of maps.old }
+    ensures room { E.room env.old ≤ E.room env.new + 1 }
+    ensures spent { E.spent env.new ≤ E.spent env.old + 1 }
 {
     let Some(insn) = program.at(slot) else {
         return Outcome::Stuck;
     };
-    match execute(core, insn) {
+    match execute(core, insn, callback, maps, env) {
         Effect::Stuck => Outcome::Stuck,
         Effect::Next => Outcome::At(slot + insn.size()),
         Effect::Jumped => Outcome::At(target(slot, insn)),

@@ -81,7 +81,7 @@ impl Stack {
     }
 
     /// The number in the four bytes there, if one was written to each.
-    fn word(&self, at: usize) -> Option<u32>
+    pub fn word(&self, at: usize) -> Option<u32>
         requires { at + 4 ≤ 512 }
         ensures { result ≡ number_in (bytes_at (seen_stack self.now) at 4) }
     {
