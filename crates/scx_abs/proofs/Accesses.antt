@@ -24,7 +24,6 @@ use Rattle.scx_semantics.specs.Machine.{Machine, with_stack}
 use Rattle.scx_semantics.specs.Effects as effect
 use Rattle.scx_semantics.specs.Effects.{keep, keep_answer}
 use Rattle.scx_semantics.specs.Meaning.{operand_value, is_plain, loaded, stored}
-use Rattle.scx_semantics.specs.Runs.{IsNumberBelow}
 use Rattle.scx_maps.specs.declared.shape.Shape.{Shape}
 use Rattle.scx_maps.specs.Contents.{HasShapes}
 use Rattle.scx_abs.specs.declared.faults.Why.{Why}
@@ -46,7 +45,7 @@ use Rattle.scx_abs.specs.Laws.{IsSoundFor}
 use Rattle.scx_abs.proofs.Lists.{set_each}
 use Rattle.scx_abs.proofs.Bytes as bytes
 use Rattle.scx_abs.proofs.Bytes.{bytes_read, written_at, reads_back, length-number_bytes, length-value_bytes, cell_apart, pointer_stored, fits_cell}
-use Rattle.scx_abs.proofs.Registers.{Gives, set_sound, answer_sound, refused_sound, IsUsable, usable_allows, operand_allows, checked}
+use Rattle.scx_abs.proofs.Registers.{Gives, set_sound, answer_sound, refused_sound, number_answer, IsUsable, usable_allows, operand_allows, checked}
 use Rattle.scx_abs.proofs.Elements.{place_cases, element_sized, with_number-lengths, maps_member}
 
 -- ---- places
@@ -117,15 +116,11 @@ loads maps (Pointer k) stack access.DoubleWord at h fits =
     rw is read.stands
 loads maps (Pointer k) stack a at h fits = tt
 
-pub number_fits : (maps : Maps) (limit : ℕ) (v : Value) → IsNumberBelow limit v → Stands maps Num v
-number_fits maps limit (value.Number n) h = tt
-number_fits maps limit v h = absurd h
-
 field_loaded : (shapes : List Shape) (a : AbsState) (m : Machine) (r : ℕ) (access : Access) (t : TaskId) (f : Field) → IsMember shapes a m
     → IsSoundFor shapes (sets a r (kind_in a access (InTask f))) (loaded m r access (place.InTask t f))
 field_loaded shapes a m r access t f h =
     elim (is_plain access) as (λ b. IsSoundFor shapes (sets a r (if b then Ok Num else Err TaskField)) (if b then keep_answer m r (effect.Load t f) else effect.Stuck))
-    [ true ↦ answer_sound shapes a m r Num (effect.Load t f) h (λ v fits. number_fits m.maps _ v fits) | false ↦ refused_sound shapes a r TaskField effect.Stuck ]
+    [ true ↦ answer_sound shapes a m r Num (effect.Load t f) h (λ v fits. number_answer m.maps _ v fits) | false ↦ refused_sound shapes a r TaskField effect.Stuck ]
 
 load_in : (shapes : List Shape) (a : AbsState) (m : Machine) (r : ℕ) (access : Access) (area : Area) (to : Place) → IsMember shapes a m
     → Means m.maps (size_bytes (access_size access)) area to → IsSoundFor shapes (sets a r (kind_in a access area)) (loaded m r access to)

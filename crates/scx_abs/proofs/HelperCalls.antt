@@ -19,7 +19,6 @@ use Rattle.scx_semantics.specs.Machine.{Machine, with_register}
 use Rattle.scx_semantics.specs.Effects as effect
 use Rattle.scx_semantics.specs.Calls as meaning
 use Rattle.scx_semantics.specs.Calls.{number_of, key_at, key, takes_all, arguments, found, looked_up, called, call_helper}
-use Rattle.scx_semantics.specs.Runs.{IsTaskOrNull}
 use Rattle.scx_maps.specs.declared.shape.Shape.{Shape}
 use Rattle.scx_abs.specs.declared.faults.Why.{Why}
 use Rattle.scx_abs.specs.declared.faults.Why.TheVariants.{UnwrittenStack, HelperNotHere}
@@ -38,9 +37,9 @@ use Rattle.scx_abs.specs.Calls.{key_in, key_check, argument_check, arguments_che
 use Rattle.scx_abs.specs.Laws.{IsSoundFor}
 use Rattle.scx_abs.proofs.Orders.{none_written}
 use Rattle.scx_abs.proofs.Bytes.{written_at}
-use Rattle.scx_abs.proofs.Registers.{kind_member}
+use Rattle.scx_abs.proofs.Registers.{kind_member, number_answer, task_or_null_fits}
 use Rattle.scx_abs.proofs.Elements.{place_cases, element_sized}
-use Rattle.scx_abs.proofs.Accesses.{number_read, number_fits}
+use Rattle.scx_abs.proofs.Accesses.{number_read}
 
 -- ---- arguments
 
@@ -158,19 +157,14 @@ look_up_sound shapes a m k v key h g t s = absurd (cc)
 
 -- ---- calls
 
-task_or_null : (maps : Maps) (v : Value) → IsTaskOrNull v → Stands maps TaskOrNull v
-task_or_null maps (value.Number n) h = h
-task_or_null maps (value.Pointer (pointer.Task t)) h = tt
-task_or_null maps v h = absurd h
-
 called_sound : (shapes : List Shape) (h : Helper) (a : AbsState) (m : Machine) → IsMember shapes a m → takes_all m (parameters h) 1 ≡ true
     → IsSoundFor shapes (goes_on (rules.after_call a (answer_kind h (kind_at a 1)))) (called m h)
 called_sound shapes helper.MapLookupElem a m g t =
     let map = and_parts (meaning.takes m parameter.Map (m.registers 1)) (meaning.takes m parameter.Key (m.registers 2) && true) t in
     let second = and_parts (is_some (key m (m.registers 2))) true map.1 in
     look_up_sound shapes a m (kind_at a 1) (m.registers 1) (key m (m.registers 2)) g (g.registers 1) map.0 second.0
-called_sound shapes helper.TaskByPid a m g t = λ v fits. after_member shapes a m TaskOrNull v g (task_or_null m.maps v fits)
-called_sound shapes h a m g t = λ v fits. after_member shapes a m Num v g (number_fits m.maps _ v fits)
+called_sound shapes helper.TaskByPid a m g t = λ v fits. after_member shapes a m TaskOrNull v g (task_or_null_fits m.maps v fits)
+called_sound shapes h a m g t = λ v fits. after_member shapes a m Num v g (number_answer m.maps _ v fits)
 
 allowed_sound : (shapes : List Shape) (h : Helper) (a : AbsState) (m : Machine) (r : Result (Unit {0}) Why) (b : Bool) → IsMember shapes a m → Passes r b → takes_all m (parameters h) 1 ≡ b
     → IsSoundFor shapes (r >>= λ fine. goes_on (rules.after_call a (answer_kind h (kind_at a 1)))) (if b then called m h else effect.Stuck)

@@ -5,18 +5,20 @@ use Rattle.scx_semantics.specs.declared.instructions.Operand.{Operand}
 use Rattle.scx_semantics.specs.declared.instructions.Operand.TheVariants as operand
 use Rattle.scx_semantics.specs.declared.operations.Width.{Width}
 use Rattle.scx_semantics.specs.declared.values.Value.{Value}
+use Rattle.scx_semantics.specs.declared.values.Value.TheVariants as value
+use Rattle.scx_semantics.specs.declared.values.Pointer.TheVariants as pointer
 use Rattle.scx_semantics.specs.Registers.{number}
 use Rattle.scx_semantics.specs.Elements.{Maps}
 use Rattle.scx_semantics.specs.Machine.{Machine, put, with_register}
 use Rattle.scx_semantics.specs.Effects as effect
 use Rattle.scx_semantics.specs.Effects.{Query, Effect, keep, keep_answer}
 use Rattle.scx_semantics.specs.Meaning.{operand_value}
-use Rattle.scx_semantics.specs.Runs.{Fits}
+use Rattle.scx_semantics.specs.Runs.{IsNumberBelow, IsTaskOrNull, Fits}
 use Rattle.scx_maps.specs.declared.shape.Shape.{Shape}
 use Rattle.scx_abs.specs.declared.faults.Why.{Why}
 use Rattle.scx_abs.specs.declared.faults.Why.TheVariants.{WritesFrame}
 use Rattle.scx_abs.specs.declared.kinds.Kind.{Kind}
-use Rattle.scx_abs.specs.declared.kinds.Kind.TheVariants.{Unusable}
+use Rattle.scx_abs.specs.declared.kinds.Kind.TheVariants.{Unusable, Num, TaskOrNull}
 use Rattle.scx_abs.specs.declared.states.AbsState.{AbsState}
 use Rattle.scx_abs.specs.States.{kind_at, with_kind}
 use Rattle.scx_abs.specs.Stands.{Stands, IsMember}
@@ -69,6 +71,16 @@ pub answer_sound : (shapes : List Shape) (a : AbsState) (m : Machine) (r : ℕ) 
 answer_sound shapes a m r k q h g =
     elim (nat_eq r 10) as (λ b. IsSoundFor shapes (if b then Err WritesFrame else goes_on (with_kind a r k)) (if b then effect.Stuck else effect.Ask q (λ v. with_register m r v)))
     [ true ↦ tt | false ↦ λ v fits. kind_member shapes a m r k v h (g v fits) ]
+
+-- what may be answered
+pub number_answer : (maps : Maps) (limit : ℕ) (v : Value) → IsNumberBelow limit v → Stands maps Num v
+number_answer maps limit (value.Number n) h = tt
+number_answer maps limit v h = absurd h
+
+pub task_or_null_fits : (maps : Maps) (v : Value) → IsTaskOrNull v → Stands maps TaskOrNull v
+task_or_null_fits maps (value.Number n) h = h
+task_or_null_fits maps (value.Pointer (pointer.Task t)) h = tt
+task_or_null_fits maps v h = absurd h
 
 -- ---- registers that are read
 

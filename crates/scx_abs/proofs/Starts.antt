@@ -8,8 +8,7 @@ use Rattle.scx_semantics.specs.declared.values.Pointer.TheVariants as pointer
 use Rattle.scx_semantics.specs.Memory.{Stack}
 use Rattle.scx_semantics.specs.Elements.{Maps}
 use Rattle.scx_semantics.specs.Machine.{Arguments, start, start_registers}
-use Rattle.scx_semantics.specs.Runs.{IsTaskOrNull}
-use Rattle.scx_abs.specs.declared.kinds.Kind.TheVariants.{Num, Task, TaskOrNull}
+use Rattle.scx_abs.specs.declared.kinds.Kind.TheVariants.{Num, Task}
 use Rattle.scx_abs.specs.declared.kinds.Cell.TheVariants.{Bytes}
 use Rattle.scx_abs.specs.Cells.{no_bytes}
 use Rattle.scx_abs.specs.States.{kind_at, ArgumentKinds, argument_kinds, start_kinds}
@@ -17,6 +16,7 @@ use Rattle.scx_abs.specs.Arguments.{FitsCallback, IsNumber, IsTask}
 use Rattle.scx_abs.specs.Stands.{Stands, CellStands}
 use Rattle.scx_abs.specs.Laws.{StartIsSound}
 use Rattle.scx_abs.proofs.Orders.{none_written}
+use Rattle.scx_abs.proofs.Registers.{task_or_null_fits}
 
 blank : (maps : Maps) (n c : ℕ) (stack : Stack) (at : ℕ) → CellStands maps (slice_index_or (replicate n (Bytes no_bytes)) c (Bytes [])) stack at
 blank maps zero c stack at = λ j lt w. absurd (cc)
@@ -45,11 +45,6 @@ number_fits maps v h = absurd h
 task_fits : (maps : Maps) (v : Value) → IsTask v → Stands maps Task v
 task_fits maps (value.Pointer (pointer.Task t)) h = tt
 task_fits maps v h = absurd h
-
-task_or_null_fits : (maps : Maps) (v : Value) → IsTaskOrNull v → Stands maps TaskOrNull v
-task_or_null_fits maps (value.Number n) h = h
-task_or_null_fits maps (value.Pointer (pointer.Task t)) h = tt
-task_or_null_fits maps v h = absurd h
 
 -- the kinds of a callback's arguments stand for them
 record Fit (maps : Maps) (k : ArgumentKinds) (a : Arguments) : Type 0 where
