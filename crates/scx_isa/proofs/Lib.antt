@@ -1,6 +1,6 @@
 mod Codes
 pub mod Counts
-mod Control
+pub mod Control
 mod FirstFaults
 mod Programs
 mod Loop

@@ -1,0 +1,4 @@
+mod Least
+mod Targets
+mod Visits
+mod Safe

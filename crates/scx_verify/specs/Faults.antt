@@ -1,0 +1,30 @@
+-- What a refusal says of a program, and the numbers and names of refusals: those of its flow, 1 to 4,
+-- then those of the checks, 5 to 19, then want of memory, which says nothing of it.
+use Rattle.std.specs.Prelude.{ℕ, List, codes, ⊤}
+use Rattle.scx_semantics.specs.declared.callbacks.Callback.{Callback}
+use Rattle.scx_semantics.specs.Code.{Code}
+use Rattle.scx_isa.specs.Faults.{flow_number, flow_name}
+use Rattle.scx_isa.specs.Flow.{Flows, IsFirstFlowFault}
+use Rattle.scx_abs.specs.Faults.{why_number, why_name}
+use Rattle.scx_verify.specs.declared.faults.Fault.{Fault}
+use Rattle.scx_verify.specs.declared.faults.Fault.TheVariants.{Flow, Rule, NoMemory}
+use Rattle.scx_verify.specs.declared.faults.VerifyError.{VerifyError}
+use Rattle.scx_verify.specs.Forward.{IsFirstRefusal}
+
+abbrev pub fault_number : Fault → ℕ
+fault_number (Flow fault) = flow_number fault
+fault_number (Rule why) = why_number why
+fault_number NoMemory = 20
+
+abbrev pub fault_name : Fault → List ℕ
+fault_name (Flow fault) = flow_name fault
+fault_name (Rule why) = why_name why
+fault_name NoMemory = codes "NoMemory"
+
+abbrev pub IsReason : Callback → Code → Fault → ℕ → Type 0
+IsReason c code (Flow fault) slot = IsFirstFlowFault code fault slot
+IsReason c code (Rule why) slot = Flows code × IsFirstRefusal c code why slot
+IsReason c code NoMemory slot = ⊤
+
+abbrev pub IsRefusal : Callback → Code → VerifyError → Type 0
+IsRefusal c code error = IsReason c code error.fault error.slot

@@ -1,0 +1,52 @@
+-- Typings of a program: an abstract state, or none, for each slot, such that the first one covers the
+-- state in which the callback begins, each instruction with a state passes all of its checks, and what
+-- flows on from it is covered where it goes.
+use Rattle.std.specs.Prelude.{ℕ, ◌+◌, ◌≡◌, Option, Some, None, Ok}
+use Rattle.scx_semantics.specs.declared.instructions.Insn.{Insn}
+use Rattle.scx_semantics.specs.declared.callbacks.Callback.{Callback}
+use Rattle.scx_semantics.specs.Code.{Code, at, size}
+use Rattle.scx_semantics.specs.Steps.{target}
+use Rattle.scx_isa.specs.Flow.{Flows}
+use Rattle.scx_abs.specs.declared.states.AbsState.{AbsState}
+use Rattle.scx_abs.specs.declared.rules.Next.{Next}
+use Rattle.scx_abs.specs.States.{CoversState, start_of}
+use Rattle.scx_abs.specs.Rules.{rule}
+
+abbrev pub States : Type 0
+States = ℕ → Option AbsState
+
+-- there is a state, and it covers that one
+abbrev pub CoversSome : Option AbsState → AbsState → Type 0
+CoversSome None a = ⊥
+CoversSome (Some b) a = CoversState b a
+
+-- the same at a slot, if there is one
+abbrev pub CoversAt : States → Option ℕ → AbsState → Type 0
+CoversAt states None a = ⊥
+CoversAt states (Some t) a = CoversSome (states t) a
+
+-- what flows on from the instruction at a slot is covered where it goes
+pub record CoversNext (states : States) (s : ℕ) (i : Insn) (next : Next) : Type 0 where
+  pub on : (a : AbsState) → next.on ≡ Some a → CoversSome (states (s + size i)) a
+  pub jump : (a : AbsState) → next.jump ≡ Some a → CoversAt states (target s i) a
+
+-- what flows on from an instruction whose checks all pass is covered
+pub record Passes (c : Callback) (states : States) (s : ℕ) (i : Insn) (a : AbsState) : Type 0 where
+  pub next : Next
+  pub passes : rule c i a ≡ Ok next
+  pub covered : CoversNext states s i next
+
+pub record IsTyping (c : Callback) (code : Code) (states : States) : Type 0 where
+  pub start : CoversSome (states 0) (start_of c)
+  pub insns : (s : ℕ) (i : Insn) (a : AbsState) → at code s ≡ Some i → states s ≡ Some a → Passes c states s i a
+
+-- the program's flow has no fault, and it has a typing
+pub record IsTyped (c : Callback) (code : Code) : Type 0 where
+  pub flows : Flows code
+  pub states : States
+  pub typing : IsTyping c code states
+
+-- a verified program as contracts see it: its slots, and what it is run as
+pub record VerifiedProgram : Type 0 where
+  pub code : Code
+  pub callback : Callback

@@ -1,0 +1,17 @@
+//! The verifier: whether a program is safe to run, asked before it runs.
+//!
+//! `verify` asks `flow` first, and then goes over the slots once, in order. It keeps for each slot the
+//! least abstract state that covers all that flows to it, and refuses the program at the first slot
+//! where a check fails. What it accepts is a `Verified`, which no run can get stuck in.
+#![tactic(auto)]
+
+mod faults;
+mod laws;
+mod pass;
+mod programs;
+#[cfg(test)]
+mod tests;
+
+pub use faults::{Fault, VerifyError};
+pub use laws::typed_is_safe;
+pub use programs::{Verified, verify};
