@@ -1,12 +1,15 @@
 #!/usr/bin/env python3
-"""How many slots a second are decoded, encoded and run, and how many numbers of an array map are
-loaded and stored, beside plain Rust that does the same work.
+"""How many slots a second are decoded, encoded, run, assembled, disassembled and verified, and how many
+numbers of an array map are loaded and stored, beside plain Rust that does the same work.
 
 Straight-line, branching and stack-heavy programs of 40, 400 and 4000 slots are worked on by the
-program of crates/scx_bench and by bench/plain.rs, in turn. A figure is the best of five runs, of which
-the start of the process is taken off. The ratio is our time to that of plain Rust. Needs rustc.
+program of crates/scx_bench and by bench/plain.rs, in turn; for `asm` their text, in which jumps go to
+labels. Verified are programs of 4096 slots, once, 10 and 100 times: straight-line code, a ladder of 1023
+diamonds (two sides of one slot each that meet again), and stores all over the stack. A figure is the best
+of some runs, of which the start of the process is taken off; from a verification also the decoding,
+since each takes a program of its own. The ratio is our time to that of plain Rust. Needs rustc.
 
-  bench/figures.py [PATH_OF_scx_bench]     (default: builds it)
+  bench/figures.py [--only WORK] [PATH_OF_scx_bench]     (default: all work; builds scx_bench)
 """
 import os
 import subprocess
@@ -15,43 +18,60 @@ import tempfile
 import time
 
 TOP = os.path.dirname(os.path.dirname(os.path.abspath(__file__)))
-EXIT = "9500000000000000"
-START = ["b700000007000000", "b701000003000000"]  # r0 = 7, r1 = 3
+EXIT = [("9500000000000000", "exit")]
+START = [("b700000007000000", "r0 = 7"), ("b701000003000000", "r1 = 3")]
 PROGRAMS = {
     "straight": [
-        "0700000003000000",  # r0 += 3
-        "2400000005000000",  # w0 *= 5
-        "af10000000000000",  # r0 ^= r1
-        "6700000007000000",  # r0 <<= 7
-        "c700000003000000",  # r0 s>>= 3
-        "bf01000000000000",  # r1 = r0
+        ("0700000003000000", "r0 += 3"),
+        ("2400000005000000", "w0 *= 5"),
+        ("af10000000000000", "r0 ^= r1"),
+        ("6700000007000000", "r0 <<= 7"),
+        ("c700000003000000", "r0 s>>= 3"),
+        ("bf01000000000000", "r1 = r0"),
     ],
     "branching": [
-        "1500010007000000",  # if r0 == 7 goto +1
-        "b700000009000000",  # r0 = 9, never done
-        "a501010003000000",  # if r1 < 3 goto +1
-        "b701000003000000",  # r1 = 3
-        "0500000000000000",  # goto +0
-        "b700000007000000",  # r0 = 7
+        ("1500010007000000", "if r0 == 7 goto a{0}"),
+        ("b700000009000000", "r0 = 9\na{0}:"),  # never done
+        ("a501010003000000", "if r1 < 3 goto b{0}"),
+        ("b701000003000000", "r1 = 3\nb{0}:"),
+        ("0500000000000000", "goto c{0}\nc{0}:"),
+        ("b700000007000000", "r0 = 7"),
     ],
     "stack": [
-        "7b0af8ff00000000",  # *(u64 *)(r10 - 8) = r0
-        "79a1f8ff00000000",  # r1 = *(u64 *)(r10 - 8)
-        "631af0ff00000000",  # *(u32 *)(r10 - 16) = r1
-        "61a0f0ff00000000",  # r0 = *(u32 *)(r10 - 16)
-        "7a0ae8ff05000000",  # *(u64 *)(r10 - 24) = 5
-        "79a2e8ff00000000",  # r2 = *(u64 *)(r10 - 24)
+        ("7b0af8ff00000000", "*(u64 *)(r10 - 8) = r0"),
+        ("79a1f8ff00000000", "r1 = *(u64 *)(r10 - 8)"),
+        ("631af0ff00000000", "*(u32 *)(r10 - 16) = r1"),
+        ("61a0f0ff00000000", "r0 = *(u32 *)(r10 - 16)"),
+        ("7a0ae8ff05000000", "*(u64 *)(r10 - 24) = 5"),
+        ("79a2e8ff00000000", "r2 = *(u64 *)(r10 - 24)"),
+    ],
+}
+VERIFIED = {
+    "straight": PROGRAMS["straight"],
+    "ladder": [
+        ("1500020007000000", "if r0 == 7 goto a{0}"),
+        ("7a0af8ff01000000", "*(u64 *)(r10 - 8) = 1"),
+        ("0500010000000000", "goto b{0}\na{0}:"),
+        ("b702000002000000", "r2 = 2\nb{0}:"),
+    ],
+    "stores": [
+        ("7b0a%s00000000" % (-place).to_bytes(2, "little", signed=True).hex(), "*(u64 *)(r10 - %d) = r0" % place)
+        for place in range(8, 513, 8)
     ],
 }
 SIZES = [40, 400, 4000]
-WORKS = ["decode", "encode", "run"]
-UNITS = 20_000_000  # slots or numbers worked on for one figure
+MOST = 4096  # slots of a program
+TIMES = [1, 10, 100]
+UNITS = {"decode": 20_000_000, "encode": 20_000_000, "run": 20_000_000, "asm": 1_000_000, "dis": 2_000_000}
 
 
 def program(slots, body):
     """The start values, the body over and over, moves of r0 for what is left, and an exit."""
     times, left = divmod(slots - len(START) - 1, len(body))
-    return bytes.fromhex("".join(START + times * body + left * START[:1] + [EXIT]))
+    parts = [START] + times * [body] + left * [START[:1]] + [EXIT]
+    spelled = "".join(slot for part in parts for slot, _ in part)
+    text = "".join(line.format(n) + "\n" for n, part in enumerate(parts) for _, line in part)
+    return bytes.fromhex(spelled), text.encode()
 
 
 def seconds(binary, work, path, times):
@@ -62,44 +82,69 @@ def seconds(binary, work, path, times):
 
 def build():
     with tempfile.NamedTemporaryFile() as file:
-        file.write(bytes.fromhex(EXIT))
+        file.write(bytes.fromhex(EXIT[0][0]))
         file.flush()
         folder = os.path.join(TOP, "crates", "scx_bench")
         subprocess.run(["rt", "run", "--", "decode", file.name, "1"], cwd=folder, check=True, capture_output=True)
         return os.path.join(folder, "out", "scx_bench")
 
 
-def compare(binaries, work, path, slots):
-    times = UNITS // slots
+def compare(binaries, path, work, before, runs):
+    """How many seconds each takes for the work, a word and a number, without what is done before."""
     best, start = [9e9, 9e9], [9e9, 9e9]
-    for _ in range(5):
+    for _ in range(runs):
         sums = []
         for i, binary in enumerate(binaries):
-            start[i] = min(start[i], seconds(binary, work, path, 1)[0])
-            taken, total = seconds(binary, work, path, times)
+            start[i] = min(start[i], seconds(binary, before[0], path, before[1])[0])
+            taken, total = seconds(binary, work[0], path, work[1])
             best[i] = min(best[i], taken)
             sums.append(total)
         assert sums[0] == sums[1], (work, path, sums)
-    return [times * slots / (best[i] - start[i]) for i in (0, 1)]
+    return [best[i] - start[i] for i in (0, 1)]
+
+
+def show(work, name, slots, units, taken):
+    a, b = taken
+    print("%-8s %-10s %6s %15.0f %15.0f %7.2f" % (work, name, slots, units / a, units / b, a / b), flush=True)
+
+
+def measure(work, binaries, path):
+    for name, body in PROGRAMS.items():
+        for slots in SIZES:
+            spelled, text = program(slots, body)
+            with open(path, "wb") as file:
+                file.write(text if work == "asm" else spelled)
+            times = UNITS[work] // slots
+            show(work, name, slots, times * slots, compare(binaries, path, (work, times), (work, 1), 5))
+
+
+def measure_verify(binaries, path):
+    for name, body in VERIFIED.items():
+        with open(path, "wb") as file:
+            file.write(program(MOST, body)[0])
+        for times in TIMES:
+            taken = compare(binaries, path, ("verify", times), ("decode", times), 10)
+            show("verify", name, times * MOST, times * MOST, taken)
 
 
 def main():
-    ours = sys.argv[1] if len(sys.argv) > 1 else build()
+    words = sys.argv[1:]
+    only = words[1] if words[:1] == ["--only"] else None
+    words = words[2:] if only else words
+    ours = words[0] if words else build()
     with tempfile.TemporaryDirectory() as folder:
-        plain = os.path.join(folder, "plain")
+        plain, path = os.path.join(folder, "plain"), os.path.join(folder, "program")
         source = os.path.join(TOP, "bench", "plain.rs")
         subprocess.run(["rustc", "-O", "--edition", "2021", "-o", plain, source], check=True)
         print("%-8s %-10s %6s %15s %15s %7s" % ("work", "program", "slots", "scxsim a second", "plain a second", "ratio"))
-        for work in WORKS:
-            for name, body in PROGRAMS.items():
-                for slots in SIZES:
-                    path = os.path.join(folder, "program.bin")
-                    with open(path, "wb") as file:
-                        file.write(program(slots, body))
-                    a, b = compare([ours, plain], work, path, slots)
-                    print("%-8s %-10s %6d %15.0f %15.0f %7.2f" % (work, name, slots, a, b, b / a))
-        a, b = compare([ours, plain], "maps", "-", 1)
-        print("%-8s %-10s %6s %15.0f %15.0f %7.2f" % ("maps", "add one", "", a, b, b / a))
+        for work in UNITS:
+            if only in (None, work):
+                measure(work, [ours, plain], path)
+        if only in (None, "verify"):
+            measure_verify([ours, plain], path)
+        if only in (None, "maps"):
+            times = 20_000_000
+            show("maps", "add one", "", times, compare([ours, plain], "-", ("maps", times), ("maps", 1), 5))
 
 
 main()

@@ -1,17 +1,20 @@
 //! The program `scx_bench`, which does one piece of work over and over, so that `bench/figures.py` can
-//! time it: `scx_bench decode|encode|run FILE TIMES` on a file of raw slots, and `scx_bench maps - TIMES`
-//! on an array map. It prints a number that depends on all of the work.
+//! time it: `scx_bench decode|encode|run|verify|dis FILE TIMES` on a file of raw slots, `scx_bench asm
+//! FILE TIMES` on a text, and `scx_bench maps - TIMES` on an array map. It prints a number that depends
+//! on all of the work.
 #![tactic(auto)]
 
-use scx_isa::{decode, encode, flow};
+use scx_asm::{assemble, disassemble};
+use scx_isa::{Callback, Program, decode, encode, flow};
 use scx_maps::{MapDefs, Maps, Shape, Size};
+use scx_verify::verify;
 use scx_vm::{Ran, try_run};
 use std::alloc::Global;
 use std::fs::File;
 use std::io::{Read, Write};
 use std::process::ExitCode;
 use std::rt::{Env, Files};
-use std::{env, io};
+use std::{env, io, str};
 
 /// What the work comes to; `None` where it can't be done.
 type Sum = Option<u64>;
@@ -41,6 +44,9 @@ fn bench<R: AllocGlobal + Env + Files>(rt: &R) -> Sum {
         "decode" => decodes(rt.alloc(), bytes.as_slice(), times),
         "encode" => encodes(rt.alloc(), bytes.as_slice(), times),
         "run" => runs(rt.alloc(), bytes.as_slice(), times),
+        "verify" => verifies(rt.alloc(), bytes.as_slice(), times),
+        "asm" => assembles(rt.alloc(), bytes.as_slice(), times),
+        "dis" => disassembles(rt.alloc(), bytes.as_slice(), times),
         _ => None,
     }
 }
@@ -94,6 +100,44 @@ fn answer(ran: Ran) -> u64 {
         Ran::Done(done) => done.r0,
         Ran::Stuck(slot) => slot as u64,
     }
+}
+
+/// Verifies the program that the bytes spell. Each time it is decoded anew, since `verify` takes it.
+fn verifies(alloc: Global, bytes: &[u8], times: u64) -> Sum {
+    let mut sum = 0u64;
+    for _ in 0..times {
+        let program = decode(alloc, bytes).ok()?;
+        sum = sum.wrapping_add(verdict(alloc, program));
+    }
+    Some(sum)
+}
+
+/// A number that depends on what is said of a program.
+fn verdict(alloc: Global, program: Program) -> u64 {
+    match verify(alloc, program, Callback::Plain) {
+        Ok(verified) => verified.instructions() as u64,
+        Err(error) => error.slot as u64,
+    }
+}
+
+fn assembles(alloc: Global, bytes: &[u8], times: u64) -> Sum {
+    let text = str::from_utf8(bytes).ok()?;
+    let mut sum = 0u64;
+    for _ in 0..times {
+        let program = assemble(alloc, text).ok()?;
+        sum = sum.wrapping_add(program.instructions() as u64);
+    }
+    Some(sum)
+}
+
+fn disassembles(alloc: Global, bytes: &[u8], times: u64) -> Sum {
+    let program = decode(alloc, bytes).ok()?;
+    let mut sum = 0u64;
+    for _ in 0..times {
+        let text = disassemble(alloc, &program).ok()?;
+        sum = sum.wrapping_add(text.len() as u64);
+    }
+    Some(sum)
 }
 
 /// Adds 1 to a number of some entry of a map, over and over.

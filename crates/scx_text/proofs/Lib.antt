@@ -1,4 +1,5 @@
 pub mod Search
+pub mod Firsts
 pub mod Runs
 pub mod Numerals
 pub mod TokenBounds

@@ -1,6 +1,6 @@
 ghost use Rattle.std.specs.Prelude.{◌≡◌};
 ghost use Rattle.scx_text.specs.declared.symbols.Symbol.TheVariants.{Assign, Compare};
-ghost use Rattle.scx_text.specs.Symbols.{spelled, symbols, symbol_at};
+ghost use Rattle.scx_text.specs.Symbols.{spelled, first_of, symbol_at};
 
 use scx_semantics::{Comparison, Operation};
 
@@ -18,39 +18,50 @@ pub enum Symbol {
     Colon,
 }
 
-/// All symbols, the longer ones first.
-const SYMBOLS: [Symbol; 31] = [
+/// The symbols that begin with an `s`, the longer ones first.
+const SIGNED: [Symbol; 7] = [
     Symbol::Assign(Operation::ShiftRightSigned),
     Symbol::Assign(Operation::SignedDivide),
     Symbol::Assign(Operation::SignedModulo),
-    Symbol::Assign(Operation::ShiftLeft),
-    Symbol::Assign(Operation::ShiftRight),
     Symbol::Compare(Comparison::SignedGreaterOrEqual),
     Symbol::Compare(Comparison::SignedLessOrEqual),
-    Symbol::Assign(Operation::Add),
-    Symbol::Assign(Operation::Subtract),
-    Symbol::Assign(Operation::Multiply),
-    Symbol::Assign(Operation::Divide),
-    Symbol::Assign(Operation::Or),
-    Symbol::Assign(Operation::And),
-    Symbol::Assign(Operation::Xor),
-    Symbol::Assign(Operation::Modulo),
-    Symbol::Compare(Comparison::Equal),
-    Symbol::Compare(Comparison::NotEqual),
-    Symbol::Compare(Comparison::GreaterOrEqual),
-    Symbol::Compare(Comparison::LessOrEqual),
     Symbol::Compare(Comparison::SignedGreater),
     Symbol::Compare(Comparison::SignedLess),
-    Symbol::Assign(Operation::Move),
-    Symbol::Compare(Comparison::Greater),
+];
+
+/// Those that begin with `<`.
+const LESS: [Symbol; 3] = [
+    Symbol::Assign(Operation::ShiftLeft),
+    Symbol::Compare(Comparison::LessOrEqual),
     Symbol::Compare(Comparison::Less),
+];
+
+/// Those that begin with `>`.
+const GREATER: [Symbol; 3] = [
+    Symbol::Assign(Operation::ShiftRight),
+    Symbol::Compare(Comparison::GreaterOrEqual),
+    Symbol::Compare(Comparison::Greater),
+];
+
+/// Those that begin with `=`.
+const EQUAL: [Symbol; 2] = [
+    Symbol::Compare(Comparison::Equal),
+    Symbol::Assign(Operation::Move),
+];
+
+/// Those that begin with `+`.
+const PLUS: [Symbol; 2] = [Symbol::Assign(Operation::Add), Symbol::Plus];
+
+/// Those that begin with `-`.
+const MINUS: [Symbol; 2] = [Symbol::Assign(Operation::Subtract), Symbol::Minus];
+
+/// Those that begin with `*`.
+const STAR: [Symbol; 2] = [Symbol::Assign(Operation::Multiply), Symbol::Star];
+
+/// Those that begin with `&`.
+const AND: [Symbol; 2] = [
+    Symbol::Assign(Operation::And),
     Symbol::Compare(Comparison::AnyBit),
-    Symbol::Plus,
-    Symbol::Minus,
-    Symbol::Star,
-    Symbol::Opening,
-    Symbol::Closing,
-    Symbol::Colon,
 ];
 
 impl Symbol {
@@ -110,15 +121,40 @@ fn comparison_text(comparison: Comparison) -> &'static str
     }
 }
 
-/// The longest symbol with which the text begins.
+/// The first of the symbols with which the text begins.
 #[tactic(auto, using(crate::proofs::Search::first_here, crate::proofs::Search::first_later, crate::proofs::Search::first_none))]
-pub(crate) fn symbol_at(text: &[u8]) -> Option<Symbol>
-    ensures { result ≡ symbol_at text.now }
+fn first_of(symbols: &[Symbol], text: &[u8]) -> Option<Symbol>
+    ensures { result ≡ first_of symbols.now text.now }
 {
-    for symbol in SYMBOLS {
+    for &symbol in symbols {
         if text.starts_with(symbol.text().as_bytes()) {
             return Some(symbol);
         }
     }
     None
+}
+
+/// The longest symbol with which the text begins.
+pub(crate) fn symbol_at(text: &[u8]) -> Option<Symbol>
+    ensures { result ≡ symbol_at text.now }
+{
+    match text {
+        [b's', ..] => first_of(&SIGNED, text),
+        [b'<', ..] => first_of(&LESS, text),
+        [b'>', ..] => first_of(&GREATER, text),
+        [b'=', ..] => first_of(&EQUAL, text),
+        [b'+', ..] => first_of(&PLUS, text),
+        [b'-', ..] => first_of(&MINUS, text),
+        [b'*', ..] => first_of(&STAR, text),
+        [b'&', ..] => first_of(&AND, text),
+        [b'/', ..] => first_of(&[Symbol::Assign(Operation::Divide)], text),
+        [b'%', ..] => first_of(&[Symbol::Assign(Operation::Modulo)], text),
+        [b'|', ..] => first_of(&[Symbol::Assign(Operation::Or)], text),
+        [b'^', ..] => first_of(&[Symbol::Assign(Operation::Xor)], text),
+        [b'!', ..] => first_of(&[Symbol::Compare(Comparison::NotEqual)], text),
+        [b'(', ..] => Some(Symbol::Opening),
+        [b')', ..] => Some(Symbol::Closing),
+        [b':', ..] => Some(Symbol::Colon),
+        _ => None,
+    }
 }
