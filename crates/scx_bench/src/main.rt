@@ -3,9 +3,12 @@
 //! on an array map. It prints a number that depends on all of the work.
 #![tactic(auto)]
 
+#[cfg(test)]
+mod tests;
+
 use scx_isa::{decode, encode, flow};
 use scx_maps::{MapDefs, Maps, Shape, Size};
-use scx_vm::{Ran, try_run};
+use scx_vm::{Ran, try_run_alone};
 use std::alloc::Global;
 use std::fs::File;
 use std::io::{Read, Write};
@@ -79,9 +82,9 @@ fn runs(alloc: Global, bytes: &[u8], times: u64) -> Sum {
     for time in 0..times {
         // Two programs in turn, so that no run can be taken for the one before.
         let ran = if time % 2 == 0 {
-            try_run(&program)
+            try_run_alone(alloc, &program)
         } else {
-            try_run(&again)
+            try_run_alone(alloc, &again)
         };
         sum = sum.wrapping_add(answer(ran));
     }
