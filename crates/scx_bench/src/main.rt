@@ -8,7 +8,7 @@ use scx_asm::{assemble, disassemble};
 use scx_isa::{Callback, Program, decode, encode, flow};
 use scx_maps::{MapDefs, Maps, Shape, Size};
 use scx_verify::verify;
-use scx_vm::{Ran, try_run};
+use scx_vm::{Ran, try_run_alone};
 use std::alloc::Global;
 use std::fs::File;
 use std::io::{Read, Write};
@@ -85,9 +85,9 @@ fn runs(alloc: Global, bytes: &[u8], times: u64) -> Sum {
     for time in 0..times {
         // Two programs in turn, so that no run can be taken for the one before.
         let ran = if time % 2 == 0 {
-            try_run(&program)
+            try_run_alone(alloc, &program)
         } else {
-            try_run(&again)
+            try_run_alone(alloc, &again)
         };
         sum = sum.wrapping_add(answer(ran));
     }
@@ -104,17 +104,18 @@ fn answer(ran: Ran) -> u64 {
 
 /// Verifies the program that the bytes spell. Each time it is decoded anew, since `verify` takes it.
 fn verifies(alloc: Global, bytes: &[u8], times: u64) -> Sum {
+    let defs = MapDefs::new(&[]).ok()?;
     let mut sum = 0u64;
     for _ in 0..times {
         let program = decode(alloc, bytes).ok()?;
-        sum = sum.wrapping_add(verdict(alloc, program));
+        sum = sum.wrapping_add(verdict(alloc, program, Callback::Plain, &defs));
     }
     Some(sum)
 }
 
 /// A number that depends on what is said of a program.
-fn verdict(alloc: Global, program: Program) -> u64 {
-    match verify(alloc, program, Callback::Plain) {
+fn verdict(alloc: Global, program: Program, callback: Callback, defs: &MapDefs) -> u64 {
+    match verify(alloc, program, callback, defs) {
         Ok(verified) => verified.instructions() as u64,
         Err(error) => error.slot as u64,
     }

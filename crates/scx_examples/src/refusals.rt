@@ -1,5 +1,6 @@
 //! A smallest program for each refusal, and what comes close to it.
 
+use crate::simple::{DISPATCH, ENABLE, ENQUEUE, INIT, RUNNING, STOPPING};
 use crate::verdicts::expect;
 use scx_isa::Callback;
 use std::process::Abort;
@@ -231,5 +232,33 @@ fn keeps_to_an_element(rt: HostRuntime) -> Result<(), Fail> {
         &rt,
         "if r0 == 0 goto +1\n*(u64 *)(r0 + 0) = r10\n",
         "verify 13 PointerStore at 7",
+    )
+}
+
+#[test]
+fn accepts_scx_simple(rt: HostRuntime) -> Result<(), Fail> {
+    expect(&rt, Callback::Init, INIT, "ok 3")?;
+    expect(&rt, Callback::Enable, ENABLE, "ok 10")?;
+    expect(&rt, Callback::Enqueue, ENQUEUE, "ok 5")?;
+    expect(&rt, Callback::Dispatch, DISPATCH, "ok 3")?;
+    expect(&rt, Callback::Running, RUNNING, "ok 14")?;
+    expect(&rt, Callback::Stopping, STOPPING, "ok 10")
+}
+
+#[test]
+fn knows_what_each_callback_is_given(rt: HostRuntime) -> Result<(), Fail> {
+    let second = "r0 = r2\nexit";
+    expect(
+        &rt,
+        Callback::Running,
+        second,
+        "verify 5 UnusableRegister at 0",
+    )?;
+    expect(&rt, Callback::Stopping, second, "ok 2")?;
+    expect(
+        &rt,
+        Callback::Enqueue,
+        "call 5\nr0 = r1\nexit",
+        "verify 5 UnusableRegister at 1",
     )
 }

@@ -7,7 +7,7 @@ use Rattle.scx_semantics.specs.Code.{Code}
 use Rattle.scx_isa.specs.Spelling.{Spells}
 use Rattle.scx_isa.specs.FirstFault.{IsFirstFault}
 use Rattle.scx_isa.specs.Flow.{Flows, IsFirstFlowFault}
-use Rattle.scx_vm.specs.Run.{RunsAlone, GetsStuckAlone}
+use Rattle.scx_vm.specs.Alone.{RunsAlone, GetsStuckAlone}
 use Rattle.scx_vm.specs.declared.run.Ran.{Ran}
 use Rattle.scx_vm.specs.declared.run.Ran.TheVariants.{Done, Stuck}
 use Rattle.scxsim.specs.declared.fault.Refusal.{Refusal}

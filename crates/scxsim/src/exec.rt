@@ -11,7 +11,7 @@ use crate::file::FILE_LIMIT;
 use crate::lines::{done_line, stuck_line};
 use crate::out::{Out, write_all};
 use scx_isa::{decode, flow};
-use scx_vm::{Ran, try_run};
+use scx_vm::{Ran, try_run_alone};
 use std::alloc::Global;
 
 /// Runs the program that `bytes` spell, and writes the line that says how the run ended.
@@ -63,5 +63,5 @@ fn run(alloc: Global, bytes: &[u8]) -> Result<Ran, Refusal>
     }
     let program = decode(alloc, bytes)?;
     flow(&program)?;
-    Ok(try_run(&program))
+    Ok(try_run_alone(alloc, &program))
 }
