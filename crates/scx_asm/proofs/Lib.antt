@@ -12,3 +12,4 @@ pub mod LinesBack
 pub mod MeaningBack
 pub mod RoundTrip
 pub mod Standing
+pub mod FirstFaults

@@ -21,12 +21,10 @@ use Rattle.scx_text.specs.Items.{Label, Distance, Line, Blank, Place_of, Says, J
 use Rattle.scx_asm.specs.declared.faults.AsmFault.{AsmFault}
 use Rattle.scx_asm.specs.declared.faults.AsmFault.TheVariants.{Syntax, UnknownLabel, TwiceLabel, OutOfRange, TooLong}
 use Rattle.scx_asm.specs.Resolving.{operand_of, short, wide, jump_of, distant, distance, fits, slots, ranged, Labels, find, resolved}
-use Rattle.scx_asm.specs.declared.faults.AsmError.{AsmError}
-use Rattle.scx_asm.specs.declared.faults.AsmError.TheVariants.{Refused, OutOfMemory}
-use Rattle.scx_asm.specs.Layout.{◌>>=◌, Draft, Plan, nothing, located, with_label, with_draft, with_line, with_text, planned, Gives, Fails}
+use Rattle.scx_asm.specs.Layout.{◌>>=◌, Draft, Plan, nothing, located, with_label, with_draft, with_line, with_text, planned}
 use Rattle.scx_asm.specs.Reading.{built, finished, read_insns, read_text, code_of}
-use Rattle.scx_asm.specs.Standing.{defined, definitions, names, IsJump, IsSaid, AreSaid, StandsFor, Answers}
-use Rattle.scx_asm.proofs.Written.{fails_on}
+use Rattle.scx_asm.specs.FirstFault.{slots_of}
+use Rattle.scx_asm.specs.Standing.{defined, definitions, names, IsJump, IsSaid, AreSaid, StandsFor}
 use Rattle.scx_asm.proofs.Fitting.{bind_some, bind_ok, located_ok, ranged_ok, line_fits, assembled}
 
 -- ---- labels
@@ -35,7 +33,7 @@ same_bytes : (l : List ℕ) → bytes_eq l l ≡ true
 same_bytes l = (bytes_eq-Decides l l).1 refl
 
 -- what is found is defined
-there : (l : List ℕ) (t : ℕ) (es : Labels) → find l es ≡ Some t → Contains es (l, t)
+pub there : (l : List ℕ) (t : ℕ) (es : Labels) → find l es ≡ Some t → Contains es (l, t)
 unfolding find
 there l t [] e = absurd (cc)
 there l t (x ∷ es) e = go (bytes_eq l x.0) refl (λ h. there l t es h)
@@ -76,7 +74,7 @@ apart_from m (e ∷ es) x h c = go (Contains-append_cases (e ∷ []) es x c) (λ
     go (inr w) behind = behind w
 
 -- a label that is defined once is found
-found : (l : List ℕ) (t : ℕ) (es : Labels) → IsDistinct bytes_eq (names es) → Contains es (l, t) → find l es ≡ Some t
+pub found : (l : List ℕ) (t : ℕ) (es : Labels) → IsDistinct bytes_eq (names es) → Contains es (l, t) → find l es ≡ Some t
 unfolding find IsDistinct
 found l t [] d c = absurd (omega (arith, c.1))
 found l t (x ∷ es) d c = go (Contains-append_cases (x ∷ []) es (l, t) c) (λ w. found l t es d.1 w)
@@ -117,24 +115,20 @@ once_more (y ∷ es) x d e = go (bytes_eq x.0 y.0) refl (λ h. once_more es x d.
 
 -- ---- plans
 
-abbrev slots_of : List Line → ℕ
-slots_of [] = 0
-slots_of (l ∷ ls) = slots l + slots_of ls
-
 abbrev drafted : ℕ → ℕ → Line → List Draft
 drafted n s Blank = []
 drafted n s (Place_of l) = []
 drafted n s l = record { line = n; slot = s; says = l } ∷ []
 
-abbrev drafts : ℕ → ℕ → List Line → List Draft
+abbrev pub drafts : ℕ → ℕ → List Line → List Draft
 drafts n s [] = []
 drafts n s (l ∷ ls) = drafted n s l ++ drafts (suc n) (s + slots l) ls
 
 -- the plan with one line more, and with lines more from the n-th on
-abbrev after_one : ℕ → Plan → Line → Plan
+abbrev pub after_one : ℕ → Plan → Line → Plan
 after_one n p l = record { slots = p.slots + slots l; labels = p.labels ++ defined p.slots l; drafts = p.drafts ++ drafted n p.slots l }
 
-abbrev after : ℕ → Plan → List Line → Plan
+abbrev pub after : ℕ → Plan → List Line → Plan
 after n p ls = record { slots = p.slots + slots_of ls; labels = p.labels ++ definitions p.slots ls; drafts = p.drafts ++ drafts n p.slots ls }
 
 abbrev plan : ℕ → Labels → List Draft → Plan
@@ -143,7 +137,7 @@ plan s a d = record { slots = s; labels = a; drafts = d }
 same_plan : (s t : ℕ) (a b : Labels) (c d : List Draft) → s ≡ t → a ≡ b → c ≡ d → plan s a c ≡ plan t b d
 same_plan s t a b c d x y z = ap (λ (s : ℕ). plan s a c) x ∙ (ap (λ (a : Labels). plan t a c) y ∙ ap (λ (c : List Draft). plan t b c) z)
 
-plus_none : (s : ℕ) → s + 0 ≡ s
+pub plus_none : (s : ℕ) → s + 0 ≡ s
 plus_none s = omega arith
 
 unchanged : (p : Plan) → plan (p.slots + 0) (p.labels ++ []) (p.drafts ++ []) ≡ p
@@ -166,7 +160,7 @@ line_as n p rest (Place_of l) d fit le = rw (new p.labels rest (l, p.slots) d) (
 line_as n p rest (Says s) d fit le = rw (fit, le-ltb _ _ le) (ap done (same_plan _ _ _ _ _ _ refl (sym (append-nil p.labels)) refl))
 line_as n p rest (Jumps j t) d fit le = rw (fit, le-ltb _ _ le) (ap done (same_plan _ _ _ _ _ _ refl (sym (append-nil p.labels)) refl))
 
-record Added (n : ℕ) (p q : Plan) (l : Line) : Type 0 where
+pub record Added (n : ℕ) (p q : Plan) (l : Line) : Type 0 where
   pub is : after_one n p l ≡ q
   pub once : IsDistinct bytes_eq (names q.labels)
 
@@ -201,7 +195,7 @@ drafted_was n p q l k ds e a d = record {
   once = subst (λ (q : Plan). IsDistinct bytes_eq (names q.labels)) e d;
 }
 
-line_was : (n : ℕ) (p q : Plan) (l : Line) → with_line n p l ≡ Ok q → IsDistinct bytes_eq (names p.labels) → Added n p q l
+pub line_was : (n : ℕ) (p q : Plan) (l : Line) → with_line n p l ≡ Ok q → IsDistinct bytes_eq (names p.labels) → Added n p q l
 line_was n p q Blank e d =
     let same : p ≡ q = cc in
     record { is = unchanged p ∙ same; once = subst (λ (q : Plan). IsDistinct bytes_eq (names q.labels)) same d }
@@ -209,7 +203,7 @@ line_was n p q (Place_of l) e d = label_was n p q l e d
 line_was n p q (Says s) e d = drafted_was n p q (Says s) _ _ (draft_was n p q (Says s) e) refl d
 line_was n p q (Jumps j t) e d = drafted_was n p q (Jumps j t) _ _ (draft_was n p q (Jumps j t) e) refl d
 
-text_was : (n : ℕ) (p q : Plan) (r : Option Line) → either r (with_line n p) (Err Syntax) ≡ Ok q → (l : Line) × (r ≡ Some l) × (with_line n p l ≡ Ok q)
+pub text_was : (n : ℕ) (p q : Plan) (r : Option Line) → either r (with_line n p) (Err Syntax) ≡ Ok q → (l : Line) × (r ≡ Some l) × (with_line n p l ≡ Ok q)
 text_was n p q None e = absurd (cc)
 text_was n p q (Some l) e = (l, refl, e)
 
@@ -313,7 +307,7 @@ shifted_to n t (negsuc k) e =
     rw (lt-ltb _ _ below) (ap (λ (t : ℕ). Some t) difference)
 
 -- a jump has a slot as its target exactly if its distance is that to the slot
-jump_to : (s t : ℕ) (j : Jump) (i : Insn) → target s i ≡ Some t → IsJump j i → jump_of j (distance s t) ≡ Some i
+pub jump_to : (s t : ℕ) (j : Jump) (i : Insn) → target s i ≡ Some t → IsJump j i → jump_of j (distance s t) ≡ Some i
 jump_to s t j i there h =
     let same : h.0 ≡ distance s t = shifted_from (s + 1) t h.0 (sym (lands s j h.0 i h.1) ∙ there) in
     subst (λ (z : ℤ). jump_of j z ≡ Some i) same h.1
@@ -344,7 +338,7 @@ resolved_as labels s (Jumps j (Label l)) i d h = rw (found l h.0 labels d h.1) (
 resolved_as labels s Blank i d h = absurd h
 resolved_as labels s (Place_of l) i d h = absurd h
 
-resolved_was : (labels : Labels) (s : ℕ) (l : Line) (i : Insn) → resolved labels s l ≡ Ok i → IsSaid labels s l i
+pub resolved_was : (labels : Labels) (s : ℕ) (l : Line) (i : Insn) → resolved labels s l ≡ Ok i → IsSaid labels s l i
 resolved_was labels s (Says x) i e = ranged_ok _ i e
 resolved_was labels s (Jumps j (Distance n)) i e = ranged_ok (distant j n) i e
 resolved_was labels s (Jumps j (Label l)) i e = go (find l labels) refl e
@@ -423,7 +417,7 @@ build_was labels d ds is e =
     let same : i.0 ∷ rest.0 ≡ is = cc in
     record { first = i.0; others = rest.0; one = located_ok d.line _ i.0 i.1; rest = rest.1; both = same }
 
-nothing_less : (labels : Labels) (s : ℕ) (ls : List Line) (is : List Insn) → AreSaid labels (s + 0) ls is → AreSaid labels s ls is
+pub nothing_less : (labels : Labels) (s : ℕ) (ls : List Line) (is : List Insn) → AreSaid labels (s + 0) ls is → AreSaid labels s ls is
 nothing_less labels s ls is h = subst (λ (k : ℕ). AreSaid labels k ls is) (plus_none s) h
 
 built_was : (labels : Labels) (n s : ℕ) (ls : List Line) (is : List Insn) → built labels (drafts n s ls) ≡ Ok is → AreSaid labels s ls is
@@ -512,19 +506,3 @@ read_was text code e =
       some = subst (λ (code : Code). 0 < length code) same fine.some;
       fits = subst (λ (code : Code). length code ≤ max_slots) same fine.fits;
     }
-
--- what gives what was read answers for the text
-pub answers : (text : List ℕ) (answer : Result Code AsmError) → Gives (λ program. program) answer (read_text text) → Answers text answer
-answers text (Ok code) e = read_was text code e
-answers text (Err (Refused fault line)) e = λ code h. none (sym e ∙ read_as text code h)
-  where
-    none : {f : AsmFault × ℕ} {c : Code} → Err f ≡ code_is c → ⊥
-    none e = cc
-answers text (Err OutOfMemory) e = tt
-
--- the same for the two ways in which the passes end
-pub answers_of : (text : List ℕ) (is : List Insn) (answer : Result Code AsmError) → read_insns text ≡ Ok is → Gives (λ program. program) answer (Ok (code_of is)) → Answers text answer
-answers_of text is answer e gives = answers text answer (rw e gives)
-
-pub refusal_of : (text : List ℕ) (error : AsmError) → Fails error (read_insns text) → Answers text (Err error)
-refusal_of text error fails = answers text (Err error) (fails_on error (read_insns text) fails)

@@ -5,4 +5,5 @@ pub mod Plans
 pub mod Reading
 pub mod Printing
 pub mod Standing
+pub mod FirstFault
 pub mod Laws

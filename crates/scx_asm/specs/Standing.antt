@@ -1,7 +1,7 @@
 -- What it means that a text stands for a program, whatever reads it: each of its lines is of the language,
 -- no label is defined twice, each instruction is the one that its line says, and a jump to a label has the
 -- label's slot as its target.
-use Rattle.std.specs.Prelude.{◌≡◌, ℕ, ◌+◌, ◌<◌, ◌≤◌, ℤ, List, [], ◌∷◌, ◌++◌, map, length, Some, Result, Ok, Err}
+use Rattle.std.specs.Prelude.{◌≡◌, ℕ, ◌+◌, ◌<◌, ◌≤◌, ℤ, List, [], ◌∷◌, ◌++◌, map, length, Some}
 use Rattle.std.specs.List.{Contains, IsDistinct}
 use Rattle.std.specs.Str.{bytes_eq}
 use Rattle.std.specs.Str.Lines.{lines}
@@ -11,8 +11,6 @@ use Rattle.scx_semantics.specs.Steps.{target}
 use Rattle.scx_isa.specs.Spelling.{max_slots}
 use Rattle.scx_text.specs.declared.items.Jump.{Jump}
 use Rattle.scx_text.specs.Items.{Label, Distance, Line, Blank, Place_of, Says, Jumps, read_line}
-use Rattle.scx_asm.specs.declared.faults.AsmError.{AsmError}
-use Rattle.scx_asm.specs.declared.faults.AsmError.TheVariants.{Refused, OutOfMemory}
 use Rattle.scx_asm.specs.Resolving.{insn_of, jump_of, distant, slots, Labels}
 use Rattle.scx_asm.specs.Reading.{code_of}
 
@@ -60,9 +58,3 @@ pub record StandsFor (text : List ℕ) (code : Code) : Type 0 where
   pub program : code ≡ code_of insns
   pub some : 0 < length code
   pub fits : length code ≤ max_slots
-
--- What an answer says of the text: that it stands for the program, or for none where it is refused.
-abbrev pub Answers : List ℕ → Result Code AsmError → Type 0
-Answers text (Ok code) = StandsFor text code
-Answers text (Err (Refused fault line)) = (code : Code) → StandsFor text code → ⊥
-Answers text (Err OutOfMemory) = Unit {0}

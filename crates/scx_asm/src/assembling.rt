@@ -8,7 +8,7 @@ ghost use Rattle.scx_asm.specs.Resolving.{resolved, to_label};
 ghost use Rattle.scx_asm.specs.Layout.{Gives, draft_of};
 ghost use Rattle.scx_asm.specs.Plans.{table, plan_of};
 ghost use Rattle.scx_asm.specs.Reading.{built, finished, code_of, read_insns, read_text};
-ghost use Rattle.scx_asm.specs.Standing.{Answers};
+ghost use Rattle.scx_asm.specs.FirstFault.{Answers};
 ghost use Rattle.std.specs.Prelude.{◌++◌, OnOk};
 ghost use Rattle.std.specs.List.{flat_map, AllByRecursion};
 

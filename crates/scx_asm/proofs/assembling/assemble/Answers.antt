@@ -1,5 +1,5 @@
 use Rattle.scx_asm.proofs.Fitting.{assembled}
-use Rattle.scx_asm.proofs.Standing.{answers_of, refusal_of}
+use Rattle.scx_asm.proofs.FirstFaults.{answers_of, refusal_of}
 use Rattle.scx_asm.proofs.assembling.assemble.Goals as goal
 
 pub program_of-requires-clause-insns : goal.program_of-requires-clause-insns
