@@ -5,17 +5,18 @@ numbers of an array map are loaded and stored, beside plain Rust that does the s
 Straight-line, branching and stack-heavy programs of 40, 400 and 4000 slots are worked on by the
 program of crates/scx_bench and by bench/plain.rs, in turn; for `asm` their text, in which jumps go to
 labels. Verified are programs of 4096 slots, once, 10 and 100 times: straight-line code, a ladder of 1023
-diamonds (two sides of one slot each that meet again), and stores all over the stack. A figure is the best
-of some runs, of which the start of the process is taken off; from a verification also the decoding,
-since each takes a program of its own. The ratio is our time to that of plain Rust. Needs rustc.
+diamonds (two sides of one slot each that meet again), and stores all over the stack. A figure is of the
+processor time of the best of some runs, of which the start of the process is taken off; from a
+verification also the decoding, since each takes a program of its own. The ratio is our time to that of
+plain Rust. Needs rustc.
 
   bench/figures.py [--only WORK] [PATH_OF_scx_bench]     (default: all work; builds scx_bench)
 """
 import os
+import resource
 import subprocess
 import sys
 import tempfile
-import time
 
 TOP = os.path.dirname(os.path.dirname(os.path.abspath(__file__)))
 EXIT = [("9500000000000000", "exit")]
@@ -62,7 +63,7 @@ VERIFIED = {
 SIZES = [40, 400, 4000]
 MOST = 4096  # slots of a program
 TIMES = [1, 10, 100]
-UNITS = {"decode": 20_000_000, "encode": 20_000_000, "run": 20_000_000, "asm": 1_000_000, "dis": 2_000_000}
+UNITS = {"decode": 10_000_000, "encode": 10_000_000, "run": 20_000_000, "asm": 1_000_000, "dis": 2_000_000}
 
 
 def program(slots, body):
@@ -74,10 +75,16 @@ def program(slots, body):
     return bytes.fromhex(spelled), text.encode()
 
 
+def spent():
+    """The processor time of all processes that ended so far."""
+    usage = resource.getrusage(resource.RUSAGE_CHILDREN)
+    return usage.ru_utime + usage.ru_stime
+
+
 def seconds(binary, work, path, times):
-    start = time.perf_counter()
+    start = spent()
     run = subprocess.run([binary, work, path, str(times)], capture_output=True, text=True, check=True)
-    return time.perf_counter() - start, run.stdout
+    return spent() - start, run.stdout
 
 
 def build():
