@@ -72,11 +72,12 @@ impl Env for Host {
     }
 
     fn load(&self, _task: TaskId, field: Field) -> u64 {
+        let (slice, vtime) = (self.slice, self.vtime);
         match field {
             Field::Pid => 7,
             Field::Weight => u64::from(self.weight),
-            Field::Slice => self.slice,
-            Field::DsqVtime => self.vtime,
+            Field::Slice => slice,
+            Field::DsqVtime => vtime,
             Field::PrevCpu => 0,
             Field::Group => 0,
             Field::RunNs => 0,
