@@ -20,6 +20,7 @@ use scx_isa::{Callback, Helper, Parameter, Pointer, Register, Size, Value};
 use scx_maps::Maps;
 
 /// Calls the helper of that number (RFC 9669, section 4.3.1).
+#[inline(never)]
 #[tactic(auto, using(crate::proofs::Effects::comes_to))]
 pub fn call<E: Env>(
     core: &mut Core,

@@ -23,6 +23,7 @@ pub enum Place {
 }
 
 /// The place that an address means, for so many bytes.
+#[inline(always)]
 pub fn address(maps: &Maps, base: Value, offset: i16, size: Size) -> Place
     ensures place { address maps.now base offset (size_bytes size) ≡ place_of result }
     ensures lies { Lies maps.now (size_bytes size) result }
