@@ -7,10 +7,10 @@ ghost use Rattle.scx_semantics.specs.Registers.{number};
 ghost use Rattle.scx_vm.specs.State.{seen, held};
 ghost use Rattle.scx_vm.specs.Execute.{effect_of};
 
-use crate::arithmetic as numbers;
 use crate::effect::Effect;
 use crate::state::Core;
 use crate::values::operand_value;
+use scx_arithmetic as numbers;
 use scx_isa::{Comparison, Operand, Register, Value, Width};
 
 /// What a comparison finds; `None` where it has no meaning.

@@ -8,8 +8,7 @@
 //! than there are instructions. `try_run_alone` runs a plain program with no policy around it.
 //!
 //! A step reads one instruction and takes constant time, a load or store included; nothing is
-//! allocated. The layers, from below: arithmetic on numbers (`arithmetic`), the 512 bytes of stack
-//! (`stack`), registers and stack (`state`), operands and pointers (`values`), comparisons (`jumps`),
+//! allocated. The layers, from below: the 512 bytes of stack (`stack`), registers and stack (`state`), operands and pointers (`values`), comparisons (`jumps`),
 //! addresses (`memory`), loads and stores (`access`), helper calls (`calls`), one instruction
 //! (`execute`), slots and the run (`run`).
 #![tactic(auto)]
@@ -17,7 +16,6 @@
 mod access;
 mod alone;
 mod arguments;
-mod arithmetic;
 mod calls;
 mod effect;
 mod env;

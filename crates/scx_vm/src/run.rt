@@ -1,9 +1,9 @@
-ghost use Rattle.std.specs.Prelude.{◌≡◌, ◌+◌, ◌<◌, ◌≤◌, ◌≤ℤ◌, pos, length};
+ghost use Rattle.std.specs.Prelude.{◌≡◌, ◌+◌, ◌≤◌, length};
 ghost use Rattle.scx_isa.specs.Flow.{Flows};
 ghost use Rattle.scx_maps.specs.Contents.{lengths_of};
 ghost use Rattle.scx_semantics.specs.Code.{instruction_count, instructions_from};
 ghost use Rattle.scx_semantics.specs.Runs.{Runs};
-ghost use Rattle.scx_semantics.specs.Steps.{step, distance, target};
+ghost use Rattle.scx_semantics.specs.Steps.{step};
 ghost use Rattle.scx_vm.specs.Arguments.{given};
 ghost use Rattle.scx_vm.specs.Host.{host};
 ghost use Rattle.scx_vm.specs.Run.{StepsTo, LeadsNearer, IfDone, IfStuck, GetsStuckAt};
@@ -14,7 +14,7 @@ use crate::effect::Effect;
 use crate::env::Env;
 use crate::execute::execute;
 use crate::state::Core;
-use scx_isa::{Callback, Insn, MAX_SLOTS, Program};
+use scx_isa::{Callback, MAX_SLOTS, Program, target};
 use scx_maps::Maps;
 
 /// The end of a run at an `exit` (RFC 9669, section 4.3).
@@ -113,26 +113,4 @@ fn step<E: Env>(
         Effect::Jumped => Outcome::At(target(slot, insn)),
         Effect::Ended(answer) => Outcome::Ended(answer),
     }
-}
-
-/// How many slots a jump skips; 0 where the instruction is none.
-fn distance(insn: Insn) -> i32
-    ensures { result ≡ distance insn }
-{
-    match insn {
-        Insn::JumpIf(_, _, _, distance, _) => i32::from(distance),
-        Insn::Goto(distance) => i32::from(distance),
-        Insn::GotoLong(distance) => distance,
-        _ => 0,
-    }
-}
-
-/// The slot that the instruction at this one jumps to.
-fn target(slot: usize, insn: Insn) -> usize
-    requires in_range { slot < MAX_SLOTS }
-    requires forward { pos 0 ≤ℤ distance insn }
-    ensures target { target slot insn ≡ Some result }
-    ensures forward { slot < result }
-{
-    slot + insn.size() + distance(insn) as usize
 }

@@ -3,8 +3,8 @@ ghost use Rattle.scx_semantics.specs.Memory.{load, write, bytes_at, number_in, p
 ghost use Rattle.scx_semantics.specs.declared.operations.Access.TheVariants as Access;
 ghost use Rattle.scx_semantics.specs.declared.values.StackByte.TheVariants.{Unwritten};
 
-use crate::arithmetic::{low_byte, low_half, low_two_bytes};
 use byteorder::{ByteOrder, LittleEndian};
+use scx_arithmetic::{low_byte, low_half, low_two_bytes};
 use scx_isa::{Access, Pointer, Size, Value};
 
 /// The top of the stack, the place past its last byte.

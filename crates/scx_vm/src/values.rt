@@ -6,13 +6,11 @@ ghost use Rattle.scx_semantics.specs.Elements.{Maps};
 ghost use Rattle.scx_semantics.specs.Registers.{number};
 ghost use Rattle.scx_vm.specs.State.{seen, held};
 
-use crate::arithmetic as numbers;
 use crate::memory::shifted;
 use crate::stack::STACK_TOP;
 use crate::state::Core;
-use scx_isa::{
-    Extension, Operand, Operation, Order, OrderWidth, Pointer, Register, Value, Width,
-};
+use scx_arithmetic as numbers;
+use scx_isa::{Extension, Operand, Operation, Order, OrderWidth, Pointer, Register, Value, Width};
 use scx_maps::Maps;
 
 /// An operand as an instruction of that width takes it.
@@ -38,7 +36,14 @@ pub fn binary(
 {
     match operation {
         Operation::Move => moved(width, operand_value(core, width, operand)),
-        _ => arithmetic(core, maps, width, operation, core.read(destination), operand),
+        _ => arithmetic(
+            core,
+            maps,
+            width,
+            operation,
+            core.read(destination),
+            operand,
+        ),
     }
 }
 

@@ -2,7 +2,7 @@ ghost use Rattle.std.specs.Prelude.{◌≡◌, ◌%◌, ◌^◌};
 ghost use Rattle.scx_semantics.specs.Arithmetic.{compute, operate, low, negated, extended, kept, swapped, reordered, immediate, constant, compares, holds};
 ghost use Rattle.scx_semantics.specs.declared.operations.Width.TheVariants.{Bits32, Bits64};
 
-use scx_isa::{Comparison, Extension, Operation, Order, OrderWidth, Width};
+use scx_semantics::{Comparison, Extension, Operation, Order, OrderWidth, Width};
 
 /// What the operation of that width makes of the destination `a` and the operand `b`
 /// (RFC 9669, section 4.1). At 32 bits the upper half of the result is 0.
