@@ -38,11 +38,13 @@ impl Env for OneTask {
     }
 
     fn load(&self, _task: TaskId, field: Field) -> u64 {
+        let slice = self.slice;
+        let vtime = self.vtime;
         match field {
             Field::Pid => 7,
             Field::Weight => u64::from(self.weight),
-            Field::Slice => self.slice,
-            Field::DsqVtime => self.vtime,
+            Field::Slice => slice,
+            Field::DsqVtime => vtime,
             Field::PrevCpu => 0,
             Field::Group => 0,
             Field::RunNs => 0,
