@@ -104,7 +104,6 @@ fn pointer_step(width: Width, operation: Operation, operand: Operand) -> Option<
 }
 
 /// The pointer that far on. It stays in the stack or the element, whose end is a place too.
-#[inline(never)]
 fn pointer_moved(maps: &Maps, pointer: Pointer, step: i64) -> Option<Value>
     requires low { neg_ℤ (pos (2 ^ 31)) ≤ℤ step }
     requires high { step ≤ℤ pos (2 ^ 31) }
