@@ -13,7 +13,7 @@ const CLOCK: [Shape; 1] = [Shape {
 
 /// Verifies a program for a callback, with one map of one value of eight bytes, and compares the
 /// verdict.
-pub fn expect<R: AllocGlobal + Abort>(
+pub(crate) fn expect<R: AllocGlobal + Abort>(
     rt: &R,
     callback: Callback,
     text: &str,
