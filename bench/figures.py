@@ -1,14 +1,17 @@
 #!/usr/bin/env python3
-"""How many slots a second are decoded, encoded, run, assembled, disassembled and verified, and how many
-numbers of an array map are loaded and stored, beside plain Rust that does the same work.
+"""How many slots a second are decoded, encoded, run, assembled, disassembled and verified, how many
+numbers of an array map are loaded and stored, and how many callbacks are verified and run, beside plain
+Rust that does the same work.
 
 Straight-line, branching and stack-heavy programs of 40, 400 and 4000 slots are worked on by the
 program of crates/scx_bench and by bench/plain.rs, in turn; for `asm` their text, in which jumps go to
 labels. Verified are programs of 4096 slots, once, 10 and 100 times: straight-line code, a ladder of 1023
 diamonds (two sides of one slot each that meet again), and stores all over the stack. A figure is of the
 processor time of the best of some runs, of which the start of the process is taken off; from a
-verification also the decoding, since each takes a program of its own. The ratio is our time to that of
-plain Rust. Needs rustc.
+verification also the decoding, since each takes a program of its own. The callbacks are the six of
+scx_simple with one map of one value, each in its turn; to verify one counts as decoding it and verifying
+it, and to run one as a run over a host of one task. The ratio is our time to that of plain Rust. Needs
+rustc.
 
   bench/figures.py [--only WORK] [PATH_OF_scx_bench]     (default: all work; builds scx_bench)
 """
@@ -63,6 +66,8 @@ VERIFIED = {
 SIZES = [40, 400, 4000]
 MOST = 4096  # slots of a program
 TIMES = [1, 10, 100]
+CALLBACKS = 6
+CALLBACK_TIMES = {"verify_callbacks": 100_000, "run_callbacks": 2_000_000}
 UNITS = {"decode": 10_000_000, "encode": 10_000_000, "run": 20_000_000, "asm": 1_000_000, "dis": 2_000_000}
 
 
@@ -134,6 +139,12 @@ def measure_verify(binaries, path):
             show("verify", name, times * MOST, times * MOST, taken)
 
 
+def measure_callbacks(binaries):
+    for work, times in CALLBACK_TIMES.items():
+        taken = compare(binaries, "-", (work, times), (work, 1), 5)
+        show("callback", work.split("_")[0], "", CALLBACKS * times, taken)
+
+
 def main():
     words = sys.argv[1:]
     only = words[1] if words[:1] == ["--only"] else None
@@ -152,6 +163,8 @@ def main():
         if only in (None, "maps"):
             times = 20_000_000
             show("maps", "add one", "", times, compare([ours, plain], "-", ("maps", times), ("maps", 1), 5))
+        if only in (None, "callbacks"):
+            measure_callbacks([ours, plain])
 
 
 main()

@@ -1,5 +1,5 @@
 //! A plain assembler and disassembler, of the forms that the figures use: arithmetic, moves, loads,
-//! stores, jumps to labels or distances, and exit.
+//! stores, jumps to labels or distances, and exit; assembled are also references to maps and calls.
 
 use crate::{Insn, Insn::*, Operand};
 use std::collections::HashMap;
@@ -160,6 +160,7 @@ fn assigned(name: &str, sign: &str, rest: &[&str]) -> Option<Insn> {
                 let (base, offset) = address(base, sign, digits)?;
                 Some(Load { size, signed, destination, base, offset })
             }
+            ["map", digits] if wide => Some(MapReference { destination, map: number(false, digits)?.try_into().ok()? }),
             _ => Some(Binary { wide, operation: 11, signed: false, destination, operand: operand(wide, rest)? }),
         };
     }
@@ -170,6 +171,7 @@ fn assigned(name: &str, sign: &str, rest: &[&str]) -> Option<Insn> {
 fn instruction<'a>(tokens: &[&'a str]) -> Option<(Insn, Target<'a>)> {
     match tokens {
         ["exit"] => Some((Exit, Target::None)),
+        ["call", digits] => Some((Call(number(false, digits)?.try_into().ok()?), Target::None)),
         ["goto", rest @ ..] => Some((Goto(0), target(rest)?)),
         ["gotol", rest @ ..] => Some((GotoLong(0), target(rest)?)),
         ["if", left, sign, rest @ ..] => jump(left, sign, rest),
@@ -198,7 +200,7 @@ fn with_distance(insn: Insn, distance: i64) -> Option<Insn> {
 /// The program that the text stands for.
 pub fn assemble(text: &str) -> Option<Vec<Option<Insn>>> {
     let mut labels = HashMap::new();
-    let mut drafts = Vec::new();
+    let mut drafts: Vec<Option<(Insn, Target)>> = Vec::new();
     let mut found = Vec::new();
     for line in text.lines() {
         tokens(line, &mut found)?;
@@ -209,14 +211,24 @@ pub fn assemble(text: &str) -> Option<Vec<Option<Insn>>> {
                     return None;
                 }
             }
-            _ => drafts.push(instruction(&found)?),
+            _ => {
+                let draft = instruction(&found)?;
+                drafts.push(Some(draft));
+                if matches!(draft.0, MapReference { .. }) {
+                    drafts.push(None);
+                }
+            }
         }
     }
     if drafts.is_empty() || drafts.len() > 4096 {
         return None;
     }
     let mut code = Vec::with_capacity(drafts.len());
-    for (slot, &(insn, target)) in drafts.iter().enumerate() {
+    for (slot, &draft) in drafts.iter().enumerate() {
+        let Some((insn, target)) = draft else {
+            code.push(None);
+            continue;
+        };
         let distance = match target {
             Target::None => 0,
             Target::Label(label) => *labels.get(label)? as i64 - slot as i64 - 1,

@@ -1,13 +1,19 @@
-//! A plain verifier of programs without maps and helpers: numbers, pointers into the stack, and cells of
-//! eight bytes of it. One pass over the slots keeps what is known before each.
+//! A plain verifier: kinds of registers, and cells of eight bytes of the stack. One pass over the slots
+//! keeps what is known before each.
 
-use crate::{Insn, Insn::*, Operand};
+use crate::plain_callbacks::{Callback, Field, Helper, Parameter};
+use crate::{Insn, Insn::*, Operand, slots_of};
 
 #[derive(Clone, Copy, PartialEq)]
 enum Kind {
     Unusable,
     Num,
     Stack(u16),
+    Elem(u8, u16),
+    ElemOrNull(u8),
+    Task,
+    TaskOrNull,
+    MapRef(u8),
 }
 use Kind::*;
 
@@ -15,7 +21,7 @@ use Kind::*;
 enum Cell {
     /// To which bytes a number was written.
     Bytes(u8),
-    Pointer(u16),
+    Pointer(Kind),
 }
 
 #[derive(Clone, Copy)]
@@ -31,27 +37,71 @@ pub enum Why {
     UnwrittenStack,
     OutOfBounds,
     Misaligned,
+    NullNotTested,
     PointerArithmetic,
     PointerCompare,
     PointerStore,
+    TaskField,
+    UnknownHelper,
+    HelperNotHere,
+    BadArgument,
     BadReturn,
+    UnknownMap,
+}
+
+/// For what a program is verified: the callback, and how many bytes the values of each map have.
+#[derive(Clone, Copy)]
+struct Context<'a> {
+    callback: Callback,
+    sizes: &'a [u16],
+}
+
+enum Place {
+    OnStack(usize),
+    InElement,
+    InTask(Field),
+}
+use Place::*;
+
+/// Which ways control goes on: not, on, to the target, or both, where one register may become known.
+enum Ways {
+    End,
+    On,
+    Jump,
+    Both,
+    /// The register, its kind where it isn't 0, and whether the jump is taken where it is 0.
+    Test(u8, Kind, bool),
 }
 
 fn join_kind(a: Kind, b: Kind) -> Kind {
-    if a == b { a } else { Unusable }
+    match (a, b) {
+        _ if a == b => a,
+        (Elem(m, 0), ElemOrNull(n)) | (ElemOrNull(m), Elem(n, 0)) if m == n => ElemOrNull(m),
+        (Task, TaskOrNull) | (TaskOrNull, Task) => TaskOrNull,
+        _ => Unusable,
+    }
 }
 
 fn join_cell(a: Cell, b: Cell) -> Cell {
     match (a, b) {
         (Cell::Bytes(a), Cell::Bytes(b)) => Cell::Bytes(a & b),
-        (Cell::Pointer(o), Cell::Pointer(p)) if o == p => a,
+        (Cell::Pointer(a), Cell::Pointer(b)) => match join_kind(a, b) {
+            Unusable => Cell::Bytes(0),
+            kind => Cell::Pointer(kind),
+        },
         _ => Cell::Bytes(0),
     }
 }
 
 impl State {
-    fn start() -> State {
+    fn start(callback: Callback) -> State {
         let mut registers = [Unusable; 11];
+        [registers[1], registers[2]] = match callback {
+            Callback::Plain | Callback::Init => [Unusable, Unusable],
+            Callback::Enable | Callback::Running => [Task, Unusable],
+            Callback::Enqueue | Callback::Stopping => [Task, Num],
+            Callback::Dispatch => [Num, TaskOrNull],
+        };
         registers[10] = Stack(512);
         State { registers, cells: [Cell::Bytes(0); 64] }
     }
@@ -94,7 +144,7 @@ impl State {
         Ok(())
     }
 
-    fn binary(&self, wide: bool, operation: u8, destination: u8, operand: Operand) -> Result<Kind, Why> {
+    fn binary(&self, wide: bool, operation: u8, destination: u8, operand: Operand, sizes: &[u16]) -> Result<Kind, Why> {
         if operation == 11 {
             let kind = self.operand(operand)?;
             return if wide || kind == Num { Ok(kind) } else { Err(Why::PointerArithmetic) };
@@ -103,87 +153,159 @@ impl State {
         let other = self.operand(operand)?;
         match (kind, other) {
             (Num, Num) => Ok(Num),
-            (Stack(at), _) => match (wide, operation, operand) {
-                (true, 0, Operand::Immediate(k)) => moved(at, i64::from(k)),
-                (true, 1, Operand::Immediate(k)) => moved(at, -i64::from(k)),
+            (pointer, _) => match (wide, operation, operand) {
+                (true, 0, Operand::Immediate(k)) => moved(pointer, i64::from(k), sizes),
+                (true, 1, Operand::Immediate(k)) => moved(pointer, -i64::from(k), sizes),
                 _ => Err(Why::PointerArithmetic),
             },
-            _ => Err(Why::PointerArithmetic),
         }
     }
 
-    fn load(&self, size: u8, signed: bool, base: u8, offset: i16) -> Result<Kind, Why> {
-        let at = place(self.usable(base)?, offset, size)?;
-        match self.cells[at / 8] {
-            Cell::Bytes(set) if set & mask(at, size) == mask(at, size) => Ok(Num),
-            Cell::Pointer(to) if size == 8 && !signed => Ok(Stack(to)),
-            _ => Err(Why::UnwrittenStack),
+    fn load(&self, size: u8, signed: bool, base: u8, offset: i16, sizes: &[u16]) -> Result<Kind, Why> {
+        match place(self.usable(base)?, offset, size, sizes)? {
+            OnStack(at) => match self.cells[at / 8] {
+                Cell::Bytes(set) if set & mask(at, size) == mask(at, size) => Ok(Num),
+                Cell::Pointer(kind) if size == 8 && !signed => Ok(kind),
+                _ => Err(Why::UnwrittenStack),
+            },
+            InElement => Ok(Num),
+            InTask(_) if signed => Err(Why::TaskField),
+            InTask(_) => Ok(Num),
         }
     }
 
-    fn store(&mut self, size: u8, base: u8, offset: i16, operand: Operand) -> Result<(), Why> {
+    fn store(&mut self, size: u8, base: u8, offset: i16, operand: Operand, sizes: &[u16]) -> Result<(), Why> {
         let base = self.usable(base)?;
         let kind = self.operand(operand)?;
-        let at = place(base, offset, size)?;
+        let at = match place(base, offset, size, sizes)? {
+            OnStack(at) => at,
+            InTask(field) if !field.is_writable() => return Err(Why::TaskField),
+            InElement | InTask(_) => return if kind == Num { Ok(()) } else { Err(Why::PointerStore) },
+        };
         let cell = &mut self.cells[at / 8];
         *cell = match (kind, *cell) {
             (Num, Cell::Bytes(set)) => Cell::Bytes(set | mask(at, size)),
             (Num, Cell::Pointer(_)) => Cell::Bytes(mask(at, size)),
-            (Stack(to), _) if size == 8 => Cell::Pointer(to),
+            _ if size == 8 => Cell::Pointer(kind),
             _ => return Err(Why::PointerStore),
         };
         Ok(())
     }
 
-    /// Whether control goes on, and whether it jumps, after a comparison.
-    fn compare(&self, wide: bool, comparison: u8, register: u8, operand: Operand) -> Result<(bool, bool), Why> {
+    fn compare(&self, wide: bool, comparison: u8, register: u8, operand: Operand) -> Result<Ways, Why> {
         let kind = self.usable(register)?;
         let other = self.operand(operand)?;
-        match (kind, other) {
-            (Num, Num) => Ok((true, true)),
-            (Num, _) => Err(Why::PointerCompare),
-            _ => match (wide, comparison, operand) {
-                (true, 1, Operand::Immediate(0)) => Ok((true, false)),
-                (true, 5, Operand::Immediate(0)) => Ok((false, true)),
-                _ => Err(Why::PointerCompare),
+        if kind == Num {
+            return if other == Num { Ok(Ways::Both) } else { Err(Why::PointerCompare) };
+        }
+        let jumps = match (wide, comparison, operand) {
+            (true, 1, Operand::Immediate(0)) => true,
+            (true, 5, Operand::Immediate(0)) => false,
+            _ => return Err(Why::PointerCompare),
+        };
+        Ok(match kind {
+            ElemOrNull(map) => Ways::Test(register, Elem(map, 0), jumps),
+            TaskOrNull => Ways::Test(register, Task, jumps),
+            _ if jumps => Ways::On,
+            _ => Ways::Jump,
+        })
+    }
+
+    fn call(&mut self, number: i32, context: Context) -> Result<(), Why> {
+        let helper = Helper::new(number).ok_or(Why::UnknownHelper)?;
+        if !helper.is_allowed(context.callback) {
+            return Err(Why::HelperNotHere);
+        }
+        for (index, parameter) in helper.parameters().iter().enumerate() {
+            self.argument(*parameter, self.registers[index + 1], context.sizes)?;
+        }
+        let answer = match (helper, self.registers[1]) {
+            (Helper::MapLookupElem, MapRef(map)) => ElemOrNull(map),
+            _ => Num,
+        };
+        self.registers[1..6].fill(Unusable);
+        self.registers[0] = answer;
+        Ok(())
+    }
+
+    fn argument(&self, parameter: Parameter, kind: Kind, sizes: &[u16]) -> Result<(), Why> {
+        match (parameter, kind) {
+            (_, Unusable) => Err(Why::UnusableRegister),
+            (Parameter::Map, MapRef(_)) | (Parameter::Task, Task) | (Parameter::Number, Num) => Ok(()),
+            (Parameter::Task, TaskOrNull) | (Parameter::Key, ElemOrNull(_)) => Err(Why::NullNotTested),
+            (Parameter::Key, Stack(_) | Elem(..)) => match place(kind, 0, 4, sizes)? {
+                OnStack(at) => match self.cells[at / 8] {
+                    Cell::Bytes(set) if set & mask(at, 4) == mask(at, 4) => Ok(()),
+                    _ => Err(Why::UnwrittenStack),
+                },
+                _ => Ok(()),
             },
+            _ => Err(Why::BadArgument),
         }
     }
 
-    /// Checks an instruction and changes the state; whether control goes on, and whether it jumps.
-    fn pass(&mut self, insn: Insn) -> Result<(bool, bool), Why> {
+    /// Checks an instruction and changes the state; which ways control goes on.
+    fn pass(&mut self, insn: Insn, context: Context) -> Result<Ways, Why> {
+        let sizes = context.sizes;
         match insn {
             Binary { wide, operation, destination, operand, .. } => {
-                self.set(destination, self.binary(wide, operation, destination, operand))?;
+                self.set(destination, self.binary(wide, operation, destination, operand, sizes))?;
             }
             Negate { register, .. } | Reorder { register, .. } => self.set(register, self.number(register))?,
             Extend { destination, source, .. } => self.set(destination, self.number(source))?,
             Constant { destination, .. } => self.set(destination, Ok(Num))?,
+            MapReference { destination, map } => self.set(destination, map_kind(map, sizes))?,
             Load { size, signed, destination, base, offset } => {
-                self.set(destination, self.load(size, signed, base, offset))?;
+                self.set(destination, self.load(size, signed, base, offset, sizes))?;
             }
-            Store { size, base, offset, operand } => self.store(size, base, offset, operand)?,
+            Store { size, base, offset, operand } => self.store(size, base, offset, operand, sizes)?,
+            Call(number) => self.call(number, context)?,
             Jump { wide, comparison, register, operand, .. } => {
                 return self.compare(wide, comparison, register, operand);
             }
-            Goto(_) | GotoLong(_) => return Ok((false, true)),
-            Exit if self.registers[0] == Num => return Ok((false, false)),
+            Goto(_) | GotoLong(_) => return Ok(Ways::Jump),
+            Exit if !context.callback.answers() || self.registers[0] == Num => return Ok(Ways::End),
             Exit => return Err(Why::BadReturn),
         }
-        Ok((true, false))
+        Ok(Ways::On)
     }
 }
 
-fn moved(at: u16, k: i64) -> Result<Kind, Why> {
+fn within(bytes: u16, at: u16, k: i64) -> Result<u16, Why> {
     let to = i64::from(at) + k;
-    if (0..=512).contains(&to) { Ok(Stack(to as u16)) } else { Err(Why::OutOfBounds) }
+    if (0..=i64::from(bytes)).contains(&to) { Ok(to as u16) } else { Err(Why::OutOfBounds) }
 }
 
-fn place(base: Kind, offset: i16, size: u8) -> Result<usize, Why> {
-    let Stack(at) = base else { return Err(Why::OutOfBounds) };
+fn moved(pointer: Kind, k: i64, sizes: &[u16]) -> Result<Kind, Why> {
+    match pointer {
+        Stack(at) => Ok(Stack(within(512, at, k)?)),
+        Elem(map, at) => Ok(Elem(map, within(sizes[usize::from(map)], at, k)?)),
+        _ => Err(Why::PointerArithmetic),
+    }
+}
+
+fn map_kind(map: i32, sizes: &[u16]) -> Result<Kind, Why> {
+    match usize::try_from(map) {
+        Ok(map) if map < sizes.len() => Ok(MapRef(map as u8)),
+        _ => Err(Why::UnknownMap),
+    }
+}
+
+/// The place that an address means.
+fn place(base: Kind, offset: i16, size: u8, sizes: &[u16]) -> Result<Place, Why> {
+    match base {
+        Stack(at) => Ok(OnStack(room_at(512, at, offset, size)?)),
+        Elem(map, at) => room_at(sizes[usize::from(map)], at, offset, size).map(|_| InElement),
+        Task => Field::at(offset, size).map(InTask).ok_or(Why::TaskField),
+        ElemOrNull(_) | TaskOrNull => Err(Why::NullNotTested),
+        _ => Err(Why::OutOfBounds),
+    }
+}
+
+fn room_at(bytes: u16, at: u16, offset: i16, size: u8) -> Result<usize, Why> {
     let at = usize::try_from(i32::from(at) + i32::from(offset)).map_err(|_| Why::OutOfBounds)?;
     let size = usize::from(size);
-    if at + size > 512 {
+    if at + size > usize::from(bytes) {
         Err(Why::OutOfBounds)
     } else if at % size != 0 {
         Err(Why::Misaligned)
@@ -212,19 +334,31 @@ fn give(place: &mut Option<State>, state: &State) {
     }
 }
 
-/// Whether a program whose control goes forward is safe, or the first check that fails, and its slot.
-pub fn verify(code: &[Option<Insn>]) -> Result<(), (Why, usize)> {
+/// Whether a program whose control goes forward is safe as that callback, with maps whose values have
+/// so many bytes; or the first check that fails, and its slot.
+pub fn verify(code: &[Option<Insn>], callback: Callback, sizes: &[u16]) -> Result<(), (Why, usize)> {
+    let context = Context { callback, sizes };
     let mut states = vec![None; code.len()];
-    states[0] = Some(State::start());
+    states[0] = Some(State::start(callback));
     for slot in 0..code.len() {
         let (Some(insn), Some(mut state)) = (code[slot], states[slot]) else { continue };
-        let (on, jump) = state.pass(insn).map_err(|why| (why, slot))?;
-        if on {
-            let next = if matches!(insn, Constant { .. }) { slot + 2 } else { slot + 1 };
-            give(&mut states[next], &state);
-        }
-        if jump {
-            give(&mut states[target(slot, insn)], &state);
+        let ways = state.pass(insn, context).map_err(|why| (why, slot))?;
+        let (next, far) = (slot + slots_of(insn), target(slot, insn));
+        match ways {
+            Ways::End => {}
+            Ways::On => give(&mut states[next], &state),
+            Ways::Jump => give(&mut states[far], &state),
+            Ways::Both => {
+                give(&mut states[next], &state);
+                give(&mut states[far], &state);
+            }
+            Ways::Test(register, pointer, jumps) => {
+                let mut other = state;
+                state.registers[usize::from(register)] = if jumps { pointer } else { Num };
+                other.registers[usize::from(register)] = if jumps { Num } else { pointer };
+                give(&mut states[next], &state);
+                give(&mut states[far], &other);
+            }
         }
     }
     Ok(())

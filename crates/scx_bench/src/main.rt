@@ -1,9 +1,13 @@
 //! The program `scx_bench`, which does one piece of work over and over, so that `bench/figures.py` can
 //! time it: `scx_bench decode|encode|run|verify|dis FILE TIMES` on a file of raw slots, `scx_bench asm
-//! FILE TIMES` on a text, and `scx_bench maps - TIMES` on an array map. It prints a number that depends
-//! on all of the work.
+//! FILE TIMES` on a text, `scx_bench maps - TIMES` on an array map, and `scx_bench
+//! verify_callbacks|run_callbacks - TIMES` on the callbacks of scx_simple. It prints a number that
+//! depends on all of the work.
 #![tactic(auto)]
 
+mod callbacks;
+
+use crate::callbacks::{run_callbacks, verify_callbacks};
 use scx_asm::{assemble, disassemble};
 use scx_isa::{Callback, Program, decode, encode, flow};
 use scx_maps::{MapDefs, Maps, Shape, Size};
@@ -36,11 +40,18 @@ fn bench<R: AllocGlobal + Env + Files>(rt: &R) -> Sum {
         return None;
     };
     let times = times.as_str().parse::<u64>().ok()?;
-    if work.as_str() == "maps" {
-        return counts(rt.alloc(), times);
-    }
-    let bytes = read(rt, path.as_str())?;
     match work.as_str() {
+        "maps" => counts(rt.alloc(), times),
+        "verify_callbacks" => verify_callbacks(rt.alloc(), times),
+        "run_callbacks" => run_callbacks(rt.alloc(), times),
+        _ => on_file(rt, work.as_str(), path.as_str(), times),
+    }
+}
+
+/// Does the work that the word names on a file.
+fn on_file<R: AllocGlobal + Files>(rt: &R, work: &str, path: &str, times: u64) -> Sum {
+    let bytes = read(rt, path)?;
+    match work {
         "decode" => decodes(rt.alloc(), bytes.as_slice(), times),
         "encode" => encodes(rt.alloc(), bytes.as_slice(), times),
         "run" => runs(rt.alloc(), bytes.as_slice(), times),
