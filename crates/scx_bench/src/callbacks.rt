@@ -26,7 +26,7 @@ const CLOCK: [Shape; 1] = [Shape {
 }];
 
 /// Verifies each callback so many times.
-pub fn verify_callbacks(alloc: Global, times: u64) -> Sum {
+pub(crate) fn verify_callbacks(alloc: Global, times: u64) -> Sum {
     let mut sum = 0u64;
     for (callback, text) in CALLBACKS {
         sum = sum.wrapping_add(verify_one(alloc, callback, text, times)?);
@@ -48,7 +48,7 @@ fn verify_one(alloc: Global, callback: Callback, text: &str, times: u64) -> Sum 
 }
 
 /// Runs each callback so many times.
-pub fn run_callbacks(alloc: Global, times: u64) -> Sum {
+pub(crate) fn run_callbacks(alloc: Global, times: u64) -> Sum {
     let mut sum = 0u64;
     for (callback, text) in CALLBACKS {
         sum = sum.wrapping_add(run_one(alloc, callback, text, times)?);
