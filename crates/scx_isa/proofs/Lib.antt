@@ -2,5 +2,5 @@ mod Codes
 pub mod Counts
 pub mod Control
 mod FirstFaults
-mod Programs
+pub mod Programs
 mod Loop
