@@ -13,8 +13,6 @@ mod laws;
 mod lines;
 mod places;
 mod queues;
-#[cfg(test)]
-mod tests;
 
 pub use commands::{Command, Reply, answer, run};
 pub use errors::QueueError;

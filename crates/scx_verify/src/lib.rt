@@ -9,8 +9,6 @@ mod faults;
 mod laws;
 mod pass;
 mod programs;
-#[cfg(test)]
-mod tests;
 
 pub use faults::{Fault, VerifyError};
 pub use laws::typed_is_safe;
