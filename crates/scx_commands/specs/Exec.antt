@@ -1,10 +1,9 @@
 -- What `exec` finds in the bytes of a file: how the program that they spell runs, or why they are
 -- refused.
 use Rattle.std.specs.Prelude.{ℕ, ◌<◌, ◌≤◌, List, length}
-use Rattle.scx_encoding.specs.declared.faults.DecodeFault.{DecodeFault}
 use Rattle.scx_isa.specs.declared.faults.FlowFault.{FlowFault}
 use Rattle.scx_semantics.specs.Code.{Code}
-use Rattle.scx_isa.specs.Spelling.{Spells}
+use Rattle.scx_isa.specs.Spelling.{HasProgramLength, Spells}
 use Rattle.scx_isa.specs.FirstFault.{IsFirstFault}
 use Rattle.scx_isa.specs.Flow.{Flows, IsFirstFlowFault}
 use Rattle.scx_vm.specs.Alone.{RunsAlone, GetsStuckAlone}
@@ -26,22 +25,17 @@ pub record HasRun (bytes : List ℕ) (ran : Ran) : Type 0 where
   pub flows : Flows code
   pub run : RunsTo code ran
 
--- the bytes spell no program, and this is the first fault in them
-pub record HasDecodeFault (bytes : List ℕ) (fault : DecodeFault) (slot : ℕ) : Type 0 where
-  pub unspelled : (code : Code) → ¬ Spells bytes code
-  pub first : IsFirstFault bytes fault slot
-
 -- the bytes spell a program, and this is the first fault of its flow
 pub record HasFlowFault (bytes : List ℕ) (fault : FlowFault) (slot : ℕ) : Type 0 where
   pub code : Code
   pub spelled : Spells bytes code
   pub first : IsFirstFlowFault code fault slot
 
--- The bytes are refused for that cause. Memory is asked for only where they are not too large.
+-- The bytes are refused for that cause. Memory is asked for only where they are as many as a program has.
 abbrev pub IsCause : List ℕ → Refusal → Type 0
 IsCause bytes TooLarge = FILE_LIMIT < length bytes
-IsCause bytes NoMemory = length bytes ≤ FILE_LIMIT
-IsCause bytes (Decode fault slot) = (length bytes ≤ FILE_LIMIT) × HasDecodeFault bytes fault slot
+IsCause bytes NoMemory = HasProgramLength bytes
+IsCause bytes (Decode fault slot) = (length bytes ≤ FILE_LIMIT) × IsFirstFault bytes fault slot
 IsCause bytes (Verify fault slot) = (length bytes ≤ FILE_LIMIT) × HasFlowFault bytes fault slot
 IsCause bytes NotUtf8 = ⊥
 IsCause bytes (Assemble fault line) = ⊥

@@ -1,8 +1,9 @@
-ghost use Rattle.std.specs.Prelude.{◌≡◌, ℕ, List, true, Err, IfOk, IfErr, OnOk};
+ghost use Rattle.std.specs.Prelude.{◌≡◌, ℕ, ◌<◌, List, length, true, Err, IfOk, IfErr, OnOk};
 ghost use Rattle.std.specs.Io.KnownBytes.{Appends};
+ghost use Rattle.scx_commands.specs.declared.file.TheConstants.{FILE_LIMIT};
 ghost use Rattle.scx_commands.specs.Output.{HasFailed, AppendsBeginning};
 ghost use Rattle.scx_commands.specs.Outcome.{IfRefused, IsRefused};
-ghost use Rattle.scx_commands.specs.Text.{IsAssembled, IsAsmCause, IsAssemblyCause};
+ghost use Rattle.scx_commands.specs.Text.{IsText, IsAssembled, IsAsmCause};
 
 use crate::fault::{Fault, Refusal};
 use crate::out::{Out, write_all};
@@ -23,6 +24,8 @@ pub fn asm<W: Out>(alloc: Global, bytes: &[u8], out: &mut W) -> Result<bool, Fau
 
     // A refusal has its cause in the bytes, and comes before any byte is written.
     ensures refused { IfRefused result (IsAsmCause bytes.now) }
+    ensures too_large { FILE_LIMIT < length bytes.now
+        → result ≡ Err (Fault.Refused Refusal.TooLarge) }
     ensures quiet { IsRefused result → out.new ≡ out.old }
 
     // The slots are cut off where writing fails.
@@ -39,8 +42,9 @@ pub fn asm<W: Out>(alloc: Global, bytes: &[u8], out: &mut W) -> Result<bool, Fau
 
 /// The raw slots of the program that a text stands for.
 fn slots_of(alloc: Global, text: &str) -> Result<Vec<u8>, Refusal>
+    requires { IsText text.now }
     ensures assembled { IfOk result (λ slots. IsAssembled text.now slots.items) }
-    ensures refused { IfErr result (IsAssemblyCause text.now) }
+    ensures refused { IfErr result (IsAsmCause text.now) }
 {
     let program = assemble(alloc, text)?;
     Ok(encode(alloc, &program)?)

@@ -40,6 +40,7 @@ pub fn dis<W: Out>(alloc: Global, bytes: &[u8], out: &mut W) -> Result<bool, Fau
 }
 
 /// The canonical text of the program that `bytes` spell.
+#[tactic(auto, using(scx_isa::proofs::Programs::program_has_length))]
 fn text_of(alloc: Global, bytes: &[u8]) -> Result<String, Refusal>
     ensures disassembled { IfOk result (λ text. IsDisassembled bytes.now (string_bytes text)) }
     ensures refused { IfErr result (IsDisCause bytes.now) }
