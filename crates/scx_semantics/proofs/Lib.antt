@@ -1,1 +1,3 @@
 mod Outcomes
+pub mod Numbers
+pub mod Bytes
