@@ -36,6 +36,7 @@ use Rattle.scx_abs.specs.declared.kinds.Cell.TheVariants.{Bytes, Pointer}
 use Rattle.scx_abs.specs.declared.states.AbsState.{AbsState}
 use Rattle.scx_abs.specs.declared.memory.Area.{Area}
 use Rattle.scx_abs.specs.declared.memory.Area.TheVariants.{OnStack, InElement, InTask}
+use Rattle.scx_abs.specs.Kinds.{IsUsable}
 use Rattle.scx_abs.specs.Cells.{marked, all_written, written_in}
 use Rattle.scx_abs.specs.States.{kind_at, cell_at, with_cell}
 use Rattle.scx_abs.specs.Stands.{HasElement, Stands, CellStands, IsMember}
@@ -45,7 +46,7 @@ use Rattle.scx_abs.specs.Laws.{IsSoundFor}
 use Rattle.scx_abs.proofs.Lists.{set_each}
 use Rattle.scx_abs.proofs.Bytes as bytes
 use Rattle.scx_abs.proofs.Bytes.{bytes_read, written_at, reads_back, length-number_bytes, length-value_bytes, cell_apart, pointer_stored, fits_cell}
-use Rattle.scx_abs.proofs.Registers.{Gives, set_sound, answer_sound, refused_sound, number_answer, IsUsable, usable_allows, operand_allows, checked}
+use Rattle.scx_abs.proofs.Registers.{Gives, set_sound, answer_sound, refused_sound, number_answer, usable_allows, operand_allows, checked}
 use Rattle.scx_abs.proofs.Elements.{place_cases, element_sized, with_number-lengths, maps_member}
 
 -- ---- places

@@ -22,13 +22,14 @@ use Rattle.scx_maps.specs.declared.shape.Shape.{Shape}
 use Rattle.scx_abs.specs.declared.kinds.Kind.{Kind}
 use Rattle.scx_abs.specs.declared.kinds.Kind.TheVariants.{Unusable, Num, Elem, ElemOrNull, Task, TaskOrNull}
 use Rattle.scx_abs.specs.declared.states.AbsState.{AbsState}
+use Rattle.scx_abs.specs.Kinds.{IsUsable}
 use Rattle.scx_abs.specs.States.{kind_at}
 use Rattle.scx_abs.specs.Stands.{Stands, IsMember}
 use Rattle.scx_abs.specs.Checks.{◌>>=◌, flows, usable, operand_kind}
 use Rattle.scx_abs.specs.Rules as rules
 use Rattle.scx_abs.specs.Rules.{null_test, if_null, if_not_null, tested, jump_rule}
 use Rattle.scx_abs.specs.Laws.{Receives, IsSoundFor}
-use Rattle.scx_abs.proofs.Registers.{IsUsable, usable_allows, operand_allows, checked, refined}
+use Rattle.scx_abs.proofs.Registers.{usable_allows, operand_allows, checked, refined}
 
 both_ways : (shapes : List Shape) (a : AbsState) (m : Machine) (b : Bool) → IsMember shapes a m → IsSoundFor shapes (Ok (flows (Some a) (Some a))) (branch m (Some b))
 both_ways shapes a m true h = h

@@ -20,6 +20,7 @@ use Rattle.scx_abs.specs.declared.faults.Why.TheVariants.{WritesFrame}
 use Rattle.scx_abs.specs.declared.kinds.Kind.{Kind}
 use Rattle.scx_abs.specs.declared.kinds.Kind.TheVariants.{Unusable, Num, TaskOrNull}
 use Rattle.scx_abs.specs.declared.states.AbsState.{AbsState}
+use Rattle.scx_abs.specs.Kinds.{IsUsable}
 use Rattle.scx_abs.specs.States.{kind_at, with_kind}
 use Rattle.scx_abs.specs.Stands.{Stands, IsMember}
 use Rattle.scx_abs.specs.Checks.{◌>>=◌, goes_on, usable, operand_kind, sets}
@@ -83,10 +84,6 @@ task_or_null_fits maps (value.Pointer (pointer.Task t)) h = tt
 task_or_null_fits maps v h = absurd h
 
 -- ---- registers that are read
-
-abbrev pub IsUsable : Kind → Type 0
-IsUsable Unusable = ⊥
-IsUsable k = Unit {0}
 
 -- what a check of a register gives against its value
 abbrev pub Allows : Maps → Result Kind Why → Value → Type 0
