@@ -10,6 +10,7 @@ use Rattle.scx_semantics.specs.Effects as effect
 use Rattle.scx_semantics.specs.Effects.{Effect}
 use Rattle.scx_semantics.specs.Meaning.{act}
 use Rattle.scx_semantics.specs.Runs.{Fits}
+use Rattle.scx_encoding.specs.Spelling.{IsInsn}
 use Rattle.scx_maps.specs.declared.shape.Shape.{Shape}
 use Rattle.scx_maps.specs.Contents.{HasShapes}
 use Rattle.scx_abs.specs.declared.faults.Why.{Why}
@@ -39,11 +40,12 @@ IsSoundFor shapes (Err why) e = Unit {0}
 IsSoundFor shapes (Ok next) e = FlowsIn shapes next e
 
 -- Where the checks of an instruction pass, no state that is stood for is stuck, and what it leads to is
--- stood for by what flows on, whatever the host answers, as long as it fits.
+-- stood for by what flows on, whatever the host answers, as long as it fits. The instruction's numbers
+-- fit their fields.
 abbrev pub RulesAreSound : Type 0
 RulesAreSound =
     (shapes : List Shape) (c : Callback) (i : Insn) (a : AbsState) (m : Machine)
-    → IsMember shapes a m → IsSoundFor shapes (rule shapes c i a) (act c i m)
+    → IsInsn i → IsMember shapes a m → IsSoundFor shapes (rule shapes c i a) (act c i m)
 
 -- A callback's start state stands for all states in which it may begin.
 abbrev pub StartIsSound : Type 0
