@@ -8,3 +8,4 @@ pub mod Keeping
 pub mod Counted
 pub mod Replies
 pub mod Histories
+pub mod Known

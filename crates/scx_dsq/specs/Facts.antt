@@ -103,6 +103,11 @@ front_waits s id t e = go (place_of s t) (position-Some (is_first s.places id) s
     go None h = h
     go (Some p) h = refl
 
+-- the front is a task that there is
+pub front_is_known : (s : QueueState) (id t : ℕ) → front_of s id ≡ Some t → t < task_count s
+unfolding front_of
+front_is_known s id t e = (position-Some (is_first s.places id) s.places t None e).0
+
 -- ---- in how many queues a task waits
 
 pub standing_pushed : PushAddsOne

@@ -3,6 +3,7 @@ use Rattle.scx_dsq.specs.Queues.{exists}
 use Rattle.scx_dsq.specs.Kept.{state_of}
 use Rattle.scx_dsq.proofs.Fronts.{no_front, row_front, row_first, row_empty}
 use Rattle.scx_dsq.proofs.Keeping.{list_at, nobody_elsewhere}
+use Rattle.scx_dsq.proofs.Known.{known_if}
 use Rattle.scx_dsq.proofs.queues.Queues.front.Goals as goal
 
 pub returns-in-Some-clause-answer : goal.returns-in-Some-clause-answer
@@ -29,3 +30,6 @@ pub returns-in-None-clause-empty : goal.returns-in-None-clause-empty
 returns-in-None-clause-empty c =
     let out : exists (state_of c.self.inside) c.args.id ≡ false = rw (← c.deref.ensures.value) (sym c.in-None.ensures.found) in
     rw (← c.self.view_is) (nobody_elsewhere (state_of c.self.inside) c.args.id c.self.invariant.sound out)
+
+pub returns-in-Some-clause-known : goal.returns-in-Some-clause-known
+returns-in-Some-clause-known c = known_if c.args.self.now c.args.id c.front.result (returns-in-Some-clause-answer c)
