@@ -2,5 +2,5 @@ pub mod Codes
 pub mod Counts
 pub mod Control
 mod FirstFaults
-mod Programs
+pub mod Programs
 mod Loop
