@@ -1,5 +1,5 @@
 -- The join of two kinds, of two cells, and of two states is the least that covers both.
-use Rattle.std.proofs.Common.{◌≡◌, ℕ, ◌<◌, ◌≤◌, ◌⊎◌, inl, inr, [], length, arith, Bool, true, false, ◌&&◌, nat_eq, List, refl, sym, ◌∙◌}
+use Rattle.std.proofs.Common.{◌≡◌, ℕ, ◌<◌, ◌≤◌, ◌⊎◌, inl, inr, [], arith, Bool, true, false, ◌&&◌, nat_eq, List, refl, sym, ◌∙◌}
 use Rattle.std.proofs.lemmas.Bool.{eqb-true, eq-eqb, and_parts, and_from, both_ways, cases_lt}
 use Rattle.std.proofs.lemmas.List.{get_or_past}
 use Rattle.scx_abs.specs.declared.kinds.Kind.{Kind}
@@ -9,7 +9,7 @@ use Rattle.scx_abs.specs.declared.kinds.Cell.TheVariants.{Bytes, Pointer}
 use Rattle.scx_abs.specs.declared.states.AbsState.{AbsState}
 use Rattle.scx_abs.specs.Kinds.{CoversKind, kind_if, join_kind}
 use Rattle.scx_abs.specs.Cells.{is_written, no_bytes, common, IsPartOf, IsUnusable, CoversPointer, CoversCell, pointer_cell, join_pointers, join_cell}
-use Rattle.scx_abs.specs.States.{IsLeastCover, kind_at, cell_at}
+use Rattle.scx_abs.specs.States.{IsLeastCover, IsWhole, kind_at, cell_at}
 use Rattle.scx_abs.proofs.Orders.{each_byte_at, cell_itself}
 
 -- ---- kinds
@@ -173,11 +173,6 @@ same_cell_least joined a b d e f g = record {
 }
 
 -- ---- states
-
--- as many kinds and cells as there are registers and cells
-pub record IsWhole (a : AbsState) : Type 0 where
-  pub registers : length a.registers ≡ 11
-  pub cells : length a.cells ≡ 64
 
 -- a state of the joins of all kinds and cells
 pub is_join : (joined a b : AbsState) → IsWhole joined → IsWhole a → IsWhole b

@@ -19,6 +19,11 @@ CoversKind TaskOrNull Task = Unit {0}
 CoversKind (MapRef m) (MapRef n) = m ≡ n
 CoversKind j k = ⊥
 
+-- it may be read
+abbrev pub IsUsable : Kind → Type 0
+IsUsable Unusable = ⊥
+IsUsable k = Unit {0}
+
 -- the kind, where the test holds
 abbrev pub kind_if : Bool → Kind → Kind
 kind_if b k = if b then k else Unusable

@@ -1,4 +1,5 @@
-ghost use Rattle.scx_abs.specs.Laws.{RulesAreSound, StartIsSound, CoversMore, CoversItself, CoversThrough};
+ghost use Rattle.scx_abs.specs.Laws.{RulesAreSound, StartIsSound, CoversMore, CoversItself, CoversThrough, CoversBothWays};
+ghost use Rattle.scx_abs.specs.Laws.{StartIsProper, RulesKeepProper};
 
 /// The rules against what instructions mean: where the checks pass no state that is stood for is
 /// stuck, and what it leads to is stood for by what flows on. The function does nothing: its
@@ -9,4 +10,12 @@ pub fn rules_are_sound()
     ensures covers { CoversMore }
     ensures reflexive { CoversItself }
     ensures transitive { CoversThrough }
+    ensures antisymmetric { CoversBothWays }
+{}
+
+/// A callback begins in a proper state, and what flows on from one is proper. The function does
+/// nothing: its contract is the law.
+pub fn states_are_proper()
+    ensures start { StartIsProper }
+    ensures rules { RulesKeepProper }
 {}

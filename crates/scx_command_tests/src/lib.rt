@@ -5,6 +5,8 @@
 #[cfg(test)]
 mod executing;
 #[cfg(test)]
+mod hints;
+#[cfg(test)]
 mod memory;
 #[cfg(test)]
 mod texts;

@@ -133,13 +133,16 @@ same_sort-trans (Vtime x) Fifo c h k = absurd (cc)
 same_sort-trans (Vtime x) (Vtime y) Fifo h k = absurd (cc)
 same_sort-trans (Vtime x) (Vtime y) (Vtime z) h k = refl
 
-pub row_clashes : (s : QueueState) (id : ℕ) (rank : Rank) (es : List Entry) → HasOneSort s → Lists s.places id es → first_clashes rank es ≡ list_any (clashes id rank) s.places
-row_clashes s id rank [] sorts h =
-    sym (list_any_none (clashes id rank) s.places (λ k d lt. go k (get_or s.places k d) (get_or_default s.places k None d lt)))
+pub nobody_clashes : (s : QueueState) (id : ℕ) (rank : Rank) → NobodyIn s id → list_any (clashes id rank) s.places ≡ false
+nobody_clashes s id rank nobody =
+    list_any_none (clashes id rank) s.places (λ k d lt. go k (get_or s.places k d) (get_or_default s.places k None d lt))
   where
     go : (k : ℕ) (o : Option Place) → place_at s.places k ≡ o → clashes id rank o ≡ false
     go k None e = refl
-    go k (Some q) e = false_from_ne_true _ (λ c. nobody_listed s id h k q (e, eqb-true q.queue id (and_parts (q.queue == id) _ c).0))
+    go k (Some q) e = false_from_ne_true _ (λ c. nobody k q (e, eqb-true q.queue id (and_parts (q.queue == id) _ c).0))
+
+pub row_clashes : (s : QueueState) (id : ℕ) (rank : Rank) (es : List Entry) → HasOneSort s → Lists s.places id es → first_clashes rank es ≡ list_any (clashes id rank) s.places
+row_clashes s id rank [] sorts h = sym (nobody_clashes s id rank (nobody_listed s id h))
 row_clashes s id rank (x ∷ es) sorts h = by_sort (cases_Bool (same_sort x.place.rank rank))
   where
     there : place_at s.places x.task ≡ Some x.place

@@ -1,6 +1,6 @@
 -- Facts about the definitions, for crates above: what a call leaves as it was, and in how many queues
 -- a task waits.
-use Rattle.std.proofs.Common.{◌≡◌, ℕ, ◌+◌, ◌<◌, ◌≤◌, Bool, true, false, ◌==◌, ◌⊎◌, inl, inr, not, if◌then◌else◌, is_none, length, set, Option, Some, None, is_some, refl, arith}
+use Rattle.std.proofs.Common.{◌≡◌, ℕ, ◌+◌, ◌<◌, ◌≤◌, Bool, true, false, ◌==◌, ◌⊎◌, inl, inr, not, if◌then◌else◌, is_none, length, set, Option, Some, None, is_some, IfSome, refl, sym, ap, arith}
 use Rattle.std.specs.List.{list_any}
 use Rattle.std.proofs.lemmas.Bool.{cases_eq, cases_lt, eq-eqb, ne_eqb}
 use Rattle.std.proofs.lemmas.List.{length-set, get_or-set_same, get_or-set_other, get_or_past, set_past}
@@ -102,6 +102,18 @@ front_waits s id t e = go (place_of s t) (position-Some (is_first s.places id) s
     go : (o : Option Place) → is_first s.places id o ≡ true → is_some o ≡ true
     go None h = h
     go (Some p) h = refl
+
+-- and is a task that there is
+pub front_is_known : (s : QueueState) (id : ℕ) (o : Option ℕ) → o ≡ front_of s id → IfSome o (λ t. t < task_count s)
+front_is_known s id None e = tt
+front_is_known s id (Some t) e = go (cases_lt t (task_count s))
+  where
+    go : (t < task_count s) ⊎ (task_count s ≤ t) → t < task_count s
+    go (inl within) = within
+    go (inr past) =
+        let waits = front_waits s id t (sym e) in
+        let none : place_of s t ≡ None = get_or_past {X = Option Place} s.places t None past in
+        absurd (cc (ap is_some none))
 
 -- ---- in how many queues a task waits
 

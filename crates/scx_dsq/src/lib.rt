@@ -17,4 +17,5 @@ mod queues;
 pub use commands::{Command, Reply, answer, run};
 pub use errors::QueueError;
 pub use laws::{appearances_are_conserved, fronts_are_unique, runs_are_conserved};
+pub use places::Rank;
 pub use queues::Queues;

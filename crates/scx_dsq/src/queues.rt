@@ -2,8 +2,8 @@ ghost use Rattle.std.specs.Prelude.{◌≡◌, ℕ, ◌+◌, ◌^◌, ◌<◌, �
 ghost use Rattle.std.specs.List.{list_any};
 ghost use Rattle.scx_dsq.specs.declared.places.Place.{Place};
 ghost use Rattle.scx_dsq.specs.declared.places.Rank.TheVariants.{Fifo, Vtime};
-ghost use Rattle.scx_dsq.specs.Queues.{Waits, IsFront, task_count, place_of, queue_of, len_of, front_of};
-ghost use Rattle.scx_dsq.specs.Calls.{refused_or_done, create_refusal, created, push_refusal, pushed, removed, popped, empty};
+ghost use Rattle.scx_dsq.specs.Queues.{Waits, IsFront, exists, task_count, place_of, queue_of, len_of, front_of};
+ghost use Rattle.scx_dsq.specs.Calls.{refused_or_done, create_refusal, created, clashes, push_refusal, pushed, removed, popped, empty};
 ghost use Rattle.scx_dsq.specs.Laws.{HasOneOfEach, WaitsInAQueue, HasOneSort, IsStamped, HasOwnStamps, StandsInSoMany};
 
 use crate::errors::QueueError;
@@ -135,9 +135,27 @@ impl Queues {
         Ok(())
     }
 
+    /// Whether a queue has the id.
+    pub fn has(&self, id: u64) -> bool
+        ensures { result ≡ exists self.now id }
+    {
+        find(&self.live, id).is_some()
+    }
+
+    /// Whether tasks wait in the queue that were put there in the other way.
+    pub fn would_mix(&self, id: u64, rank: Rank) -> bool
+        ensures { result ≡ list_any (clashes id rank) self.now.places }
+    {
+        match find(&self.live, id) {
+            Some(index) => self.live[index].line.clashes(rank),
+            None => false,
+        }
+    }
+
     /// The task that leaves the queue next; none if the queue is empty or isn't there.
     pub fn front(&self, id: u64) -> Option<u32>
         ensures answer { result ≡ front_of self.now id }
+        ensures known { IfSome result (λ t. t < task_count self.now) }
         ensures first { IfSome result (IsFront self.now id) }
         ensures empty { IfNone result ((t : ℕ) (p : Place) → ¬ Waits self.now id t p) }
     {
@@ -151,6 +169,7 @@ impl Queues {
     #[tactic(auto, using(crate::specs::Facts::tasks_without, crate::specs::Facts::pushes_without))]
     pub fn pop(&mut self, id: u64) -> Option<u32>
         ensures answer { result ≡ front_of self.old id }
+        ensures known { IfSome result (λ t. t < task_count self.old) }
         ensures first { IfSome result (IsFront self.old id) }
         ensures state { self.new ≡ popped self.old id }
         ensures tasks { task_count self.new ≡ task_count self.old }

@@ -1,4 +1,4 @@
-mod Codes
+pub mod Codes
 pub mod Counts
 pub mod Control
 mod FirstFaults

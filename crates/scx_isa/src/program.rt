@@ -58,8 +58,10 @@ impl Program {
     }
 
     /// How many instructions it has.
+    #[tactic(auto, using(crate::proofs::Counts::counts))]
     pub fn instructions(&self) -> usize
-        ensures { result ≡ instruction_count self.now }
+        ensures count { result ≡ instruction_count self.now }
+        ensures most { result ≤ MAX_SLOTS }
     {
         self.instructions
     }

@@ -1,1 +1,4 @@
 mod Outcomes
+pub mod Numbers
+pub mod Bytes
+pub mod CarryingOver

@@ -1,4 +1,4 @@
--- The law of outcomes, which is the contract of a public function without a body of its own.
+-- Laws of runs, each the contract of a public function without a body of its own.
 use Rattle.std.specs.Prelude.{ℕ, ◌≡◌}
 use Rattle.scx_semantics.specs.declared.values.Value.{Value}
 use Rattle.scx_semantics.specs.declared.callbacks.Callback.{Callback}
@@ -6,7 +6,7 @@ use Rattle.scx_semantics.specs.Code.{Code}
 use Rattle.scx_semantics.specs.Elements.{Maps}
 use Rattle.scx_semantics.specs.Machine.{Arguments}
 use Rattle.scx_semantics.specs.Effects.{Query}
-use Rattle.scx_semantics.specs.Runs.{graph, Runs, GetsStuck}
+use Rattle.scx_semantics.specs.Runs.{Outside, graph, AllowsAs, Runs, GetsStuck}
 
 -- Where the outside answers each query in one way a run has one outcome: two runs to the end agree, two
 -- runs that get stuck agree, and where one run ends none gets stuck.
@@ -30,3 +30,15 @@ EndsOrGetsStuck W =
     → Runs (graph answer-of after) c code a maps w answer steps left v
     → GetsStuck (graph answer-of after) c code a maps w slot steps' left' v'
     → ⊥
+
+-- Where a second outside allows what the first does, of its states seen through a function, a run over
+-- the first is one over the second.
+abbrev pub EndCarriesOver : {W V : Type 0} → Outside W → Outside V → Type 0
+EndCarriesOver {W} {V} O P =
+    (seen : W → V) (c : Callback) (code : Code) (a : Arguments) (maps : Maps) (w : W) (answer steps : ℕ) (left : Maps) (w' : W)
+    → AllowsAs O P seen → Runs O c code a maps w answer steps left w' → Runs P c code a maps (seen w) answer steps left (seen w')
+
+abbrev pub StuckCarriesOver : {W V : Type 0} → Outside W → Outside V → Type 0
+StuckCarriesOver {W} {V} O P =
+    (seen : W → V) (c : Callback) (code : Code) (a : Arguments) (maps : Maps) (w : W) (slot steps : ℕ) (left : Maps) (w' : W)
+    → AllowsAs O P seen → GetsStuck O c code a maps w slot steps left w' → GetsStuck P c code a maps (seen w) slot steps left (seen w')

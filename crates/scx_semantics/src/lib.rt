@@ -16,7 +16,7 @@ mod values;
 
 pub use callbacks::Callback;
 pub use instructions::{Insn, Operand};
-pub use laws::run_has_one_outcome;
+pub use laws::{Responder, run_carries_over, run_has_one_outcome};
 pub use operations::{Access, Comparison, Extension, Operation, Order, OrderWidth, Size, Width};
 pub use outside::{Field, Helper, MAX_ARGUMENTS, Parameter, TaskId};
 pub use registers::Register;

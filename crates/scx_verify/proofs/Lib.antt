@@ -2,3 +2,4 @@ mod Least
 mod Targets
 mod Visits
 mod Safe
+mod Agreement

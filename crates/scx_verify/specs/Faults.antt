@@ -1,6 +1,7 @@
 -- What a refusal says of a program, and the numbers and names of refusals: those of its flow, 1 to 4,
--- then those of the checks, 5 to 19, then want of memory, which says nothing of it.
-use Rattle.std.specs.Prelude.{ℕ, List, codes, ⊤}
+-- then those of the checks, 5 to 19, then want of memory, which says nothing of it but that its flow
+-- has no fault, since memory is only asked for then.
+use Rattle.std.specs.Prelude.{◌≡◌, ℕ, List, codes}
 use Rattle.scx_abs.specs.declared.rules.Context.{Context}
 use Rattle.scx_semantics.specs.Code.{Code}
 use Rattle.scx_isa.specs.Faults.{flow_number, flow_name}
@@ -24,7 +25,7 @@ fault_name NoMemory = codes "NoMemory"
 abbrev pub IsReason : Context → Code → Fault → ℕ → Type 0
 IsReason c code (Flow fault) slot = IsFirstFlowFault code fault slot
 IsReason c code (Rule why) slot = Flows code × IsFirstRefusal c code why slot
-IsReason c code NoMemory slot = ⊤
+IsReason c code NoMemory slot = Flows code × (slot ≡ 0)
 
 abbrev pub IsRefusal : Context → Code → VerifyError → Type 0
 IsRefusal c code error = IsReason c code error.fault error.slot

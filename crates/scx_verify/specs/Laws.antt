@@ -1,10 +1,29 @@
--- The law of typings, which is the contract of a public function without a body of its own.
+-- The laws of typings and of refusals, which are the contracts of public functions without bodies of
+-- their own.
+use Rattle.std.specs.Prelude.{◌≡◌, ◌≢◌, ℕ}
 use Rattle.scx_abs.specs.declared.rules.Context.{Context}
 use Rattle.scx_semantics.specs.Code.{Code}
 use Rattle.scx_isa.specs.Spelling.{IsProgram}
+use Rattle.scx_abs.specs.declared.faults.Why.{Why}
+use Rattle.scx_verify.specs.declared.faults.Fault.{Fault}
+use Rattle.scx_verify.specs.declared.faults.Fault.TheVariants.{NoMemory}
 use Rattle.scx_verify.specs.Typing.{IsTyped}
+use Rattle.scx_verify.specs.Forward.{IsFirstRefusal}
 use Rattle.scx_verify.specs.Safe.{IsSafe}
+use Rattle.scx_verify.specs.Faults.{IsReason}
 
 -- Every program with a typing is safe.
 abbrev pub TypedIsSafe : Type 0
 TypedIsSafe = (c : Context) (code : Code) → IsProgram code → IsTyped c code → IsSafe c code
+
+-- Two first refusals of a program are one.
+abbrev pub FirstRefusalsAgree : Type 0
+FirstRefusalsAgree =
+    (c : Context) (code : Code) (v w : Why) (s t : ℕ)
+    → IsFirstRefusal c code v s → IsFirstRefusal c code w t → (v ≡ w) × (s ≡ t)
+
+-- Two refusals of a program are one, where both say something of it.
+abbrev pub RefusalsAgree : Type 0
+RefusalsAgree =
+    (c : Context) (code : Code) (f g : Fault) (s t : ℕ)
+    → f ≢ NoMemory → g ≢ NoMemory → IsReason c code f s → IsReason c code g t → (f ≡ g) × (s ≡ t)

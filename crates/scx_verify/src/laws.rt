@@ -1,7 +1,14 @@
-ghost use Rattle.scx_verify.specs.Laws.{TypedIsSafe};
+ghost use Rattle.scx_verify.specs.Laws.{TypedIsSafe, FirstRefusalsAgree, RefusalsAgree};
 
-/// Every program with a typing is safe: no run of it is ever stuck, and none takes more steps than it
-/// has instructions. The function does nothing: its contract is the law.
+/// Every program with a typing is safe: no run of it is ever stuck, none takes more steps than it has
+/// instructions, and its maps keep their shapes. The function does nothing: its contract is the law.
 pub fn typed_is_safe()
     ensures { TypedIsSafe }
+{}
+
+/// A program has one refusal at most: two that say something of it agree in fault and slot. The
+/// function does nothing: its contract is the law.
+pub fn refusals_agree()
+    ensures first { FirstRefusalsAgree }
+    ensures all { RefusalsAgree }
 {}

@@ -1,4 +1,4 @@
-ghost use Rattle.std.specs.Prelude.{◌≡◌, IfOk, OnOk, IfErr};
+ghost use Rattle.std.specs.Prelude.{◌≡◌, ◌≤◌, IfOk, OnOk, IfErr};
 ghost use Rattle.scx_semantics.specs.Code.{instruction_count};
 ghost use Rattle.scx_verify.specs.Typing.{IsTyped, context};
 ghost use Rattle.scx_verify.specs.Safe.{IsSafe};
@@ -7,7 +7,7 @@ ghost use Rattle.scx_verify.specs.Faults.{IsRefusal};
 use crate::faults::VerifyError;
 use crate::pass::pass;
 use scx_abs::Context;
-use scx_isa::{Callback, Program, flow};
+use scx_isa::{Callback, MAX_SLOTS, Program, flow};
 use scx_maps::MapDefs;
 use std::alloc::Global;
 use std::marker::Model;
@@ -50,7 +50,8 @@ impl Verified {
 
     /// How many instructions it has, which is as many steps as a run of it takes at most.
     pub fn instructions(&self) -> usize
-        ensures { result ≡ instruction_count self.now.code }
+        ensures count { result ≡ instruction_count self.now.code }
+        ensures most { result ≤ MAX_SLOTS }
     {
         self.program.instructions()
     }

@@ -2,10 +2,11 @@ ghost use Rattle.std.specs.Prelude.{◌≡◌, ℕ, ◌+◌, ◌*◌, ◌^◌, �
 ghost use Rattle.scx_semantics.specs.declared.outside.TaskId.{TaskId};
 ghost use Rattle.scx_semantics.specs.declared.outside.Field.{Field};
 ghost use Rattle.scx_semantics.specs.declared.outside.Helper.{Helper};
+ghost use Rattle.scx_semantics.specs.declared.outside.Helper.TheVariants.{MapLookupElem};
 ghost use Rattle.scx_semantics.specs.Outside.{field_width, is_writable};
 ghost use Rattle.scx_vm.specs.declared.arguments.Argument.{Argument};
 ghost use Rattle.scx_vm.specs.declared.arguments.Answer.{Answer};
-ghost use Rattle.scx_vm.specs.Host.{AnswerFits};
+ghost use Rattle.scx_vm.specs.Host.{AreTaken, AnswerFits};
 
 use crate::arguments::{Answer, Argument};
 use scx_isa::{Field, Helper, TaskId};
@@ -34,7 +35,9 @@ pub trait Env {
     /// Calls a helper, other than the look-up of a map's element, with r1 to r5. Those that it
     /// doesn't take are unset; the others are what it takes.
     fn call(&mut self, helper: Helper, arguments: &[Argument; 5]) -> Answer
-        requires { 0 < room self.old }
+        requires room { 0 < room self.old }
+        requires is_asked { ¬ (helper ≡ MapLookupElem) }
+        requires taken { AreTaken helper arguments.now }
         ensures answer { result ≡ answer self.old helper arguments.now }
         ensures after { self.new ≡ after_call self.old helper arguments.now }
         ensures fits { AnswerFits helper result }

@@ -71,6 +71,7 @@ impl Tree {
     /// How many tasks there are, 1 to 1024.
     pub fn tasks(&self) -> u32
         ensures tasks { result ≡ length self.now.homes }
+        ensures flags { length self.now.active ≡ length self.now.homes }
         ensures some { 0 < result }
         ensures few { result ≤ MAX_TASKS }
     {

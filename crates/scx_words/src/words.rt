@@ -2,6 +2,10 @@ use clap::{Arg, Command, Error};
 use std::alloc::{AllocError, Global};
 use std::convert::AsStr;
 
+const SLOTS: &str = "A file of BPF instructions, in slots of 8 bytes, low byte first";
+
+const TEXT: &str = "A file of assembler text, as docs/ASSEMBLY.md has it";
+
 /// What a command does with its file.
 #[derive(Clone, Copy, Debug, PartialEq, Eq)]
 pub enum Work {
@@ -19,6 +23,10 @@ pub struct Request<'a> {
 
 /// What the words ask for. `clap` refuses words that name no command and no file, so there is a
 /// request wherever it accepts the words.
+///
+/// # Errors
+///
+/// The words are no command with its file, or ask for help, or memory ran out.
 pub fn read_words<'a, S: AsStr>(
     alloc: Global,
     words: &'a [S],
@@ -41,25 +49,44 @@ pub fn read_words<'a, S: AsStr>(
 
 /// The commands and their words.
 fn scxsim<'a>(alloc: Global) -> Result<Command<'a>, AllocError> {
-    let slots = "A file of raw BPF instruction slots";
-    let exec = "Runs a program that is given nothing, and prints what it answers";
-    let asm = "Turns assembler text into raw slots";
-    let dis = "Turns raw slots into assembler text";
     Command::new(alloc, "scxsim")
-        .about("Runs BPF programs as a scheduling policy host would")
+        .about(
+            "Runs, assembles and disassembles BPF programs, as a host of CPU scheduling policies would.",
+        )
+        .after_help(
+            "A refused file is one line on standard output, with status 1. docs/REFUSALS.md explains each.",
+        )
         .subcommand_required(true)
-        .subcommand(command(alloc, "exec", exec, slots)?)?
-        .subcommand(command(alloc, "asm", asm, "A file of assembler text")?)?
-        .subcommand(command(alloc, "dis", dis, slots)?)
+        .arg_required_else_help(true)
+        .subcommand(exec(alloc)?)?
+        .subcommand(asm(alloc)?)?
+        .subcommand(dis(alloc)?)
 }
 
-/// A command with a file.
-fn command<'a>(
-    alloc: Global,
-    name: &'a str,
-    about: &'a str,
-    file: &'a str,
-) -> Result<Command<'a>, AllocError> {
-    let file = Arg::new(alloc, "FILE").required(true).help(file);
-    Command::new(alloc, name).about(about).arg(file)
+fn exec<'a>(alloc: Global) -> Result<Command<'a>, AllocError> {
+    let slots = Arg::new(alloc, "FILE").required(true).help(SLOTS);
+    Command::new(alloc, "exec")
+        .about(
+            "Reads raw slots, runs them as a program that is given nothing, and prints its answer",
+        )
+        .after_help("Example: scxsim exec examples/modulo.bin\nprints:  r0 = 7 in 4 steps")
+        .arg(slots)
+}
+
+fn asm<'a>(alloc: Global) -> Result<Command<'a>, AllocError> {
+    let text = Arg::new(alloc, "FILE").required(true).help(TEXT);
+    Command::new(alloc, "asm")
+        .about("Reads assembler text, and writes its raw slots")
+        .after_help(
+            "Example: scxsim asm examples/root.asm > root.new && mv root.new root.bin\nwrites:  200 bytes, which scxsim exec root.bin runs",
+        )
+        .arg(text)
+}
+
+fn dis<'a>(alloc: Global) -> Result<Command<'a>, AllocError> {
+    let slots = Arg::new(alloc, "FILE").required(true).help(SLOTS);
+    Command::new(alloc, "dis")
+        .about("Reads raw slots, and writes their assembler text")
+        .after_help("Example: scxsim dis examples/zero.bin\nwrites:  r0 = 0\n         exit")
+        .arg(slots)
 }

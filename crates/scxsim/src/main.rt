@@ -8,7 +8,9 @@ ghost use Rattle.scx_commands.specs.Output.{HasFailed};
 
 use clap::error::ErrorKind as WordsErrorKind;
 pub use scx_commands::{Counted, Failed, Fault, Out, Refusal, asm, dis, exec, finish, text};
-use scx_commands::{FAILED, USAGE, read_file, write_all, write_unread};
+use scx_commands::{
+    FAILED, USAGE, hint_of_slots, hint_of_text, read_file, write_all, write_unread,
+};
 use scx_words::{Request, Work, read_words};
 use std::alloc::Global;
 use std::io::ErrorKind;
@@ -24,7 +26,7 @@ fn main(rt: HostRuntime) -> ExitCode {
 }
 
 /// Does what the process's words ask for, and answers its status.
-fn run<R: AllocGlobal + Env + Files, W: Out>(rt: &R, out: &mut W) -> u8 {
+fn run<R: AllocGlobal + Env + Files + Eprint, W: Out>(rt: &R, out: &mut W) -> u8 {
     match words_of(rt) {
         Ok(words) => run_words(rt, words.as_slice(), out),
         Err(error) if error.kind() == ErrorKind::OutOfMemory => finish(NO_MEMORY, out),
@@ -36,7 +38,7 @@ fn words_of<R: AllocGlobal + Env>(rt: &R) -> io::Result<Vec<String>> {
     Ok(env::args(rt)?.collect(rt.alloc())?)
 }
 
-fn run_words<R: AllocGlobal + Files, W: Out>(rt: &R, words: &[String], out: &mut W) -> u8 {
+fn run_words<R: AllocGlobal + Files + Eprint, W: Out>(rt: &R, words: &[String], out: &mut W) -> u8 {
     match read_words(rt.alloc(), words) {
         Ok(Some(request)) => do_request(rt, request, out),
         Ok(None) => USAGE,
@@ -46,11 +48,19 @@ fn run_words<R: AllocGlobal + Files, W: Out>(rt: &R, words: &[String], out: &mut
 }
 
 /// Does a command's work with its file.
-fn do_request<R: AllocGlobal + Files, W: Out>(rt: &R, request: Request<'_>, out: &mut W) -> u8 {
+fn do_request<R: AllocGlobal + Files + Eprint, W: Out>(
+    rt: &R,
+    request: Request<'_>,
+    out: &mut W,
+) -> u8 {
     match read_file(rt, request.path) {
         Ok(bytes) => {
             let outcome = do_work(rt.alloc(), request.work, bytes.as_slice(), out);
-            finish(outcome, out)
+            let status = finish(outcome, out);
+            if matches!(outcome, Err(Fault::Refused(_))) {
+                give_hint(rt, request.work, bytes.as_slice());
+            }
+            status
         }
         Err(error) if error.kind() == ErrorKind::OutOfMemory => finish(NO_MEMORY, out),
         Err(_) => {
@@ -66,6 +76,17 @@ fn do_work<W: Out>(alloc: Global, work: Work, bytes: &[u8], out: &mut W) -> Resu
         Work::Exec => exec(alloc, bytes, out),
         Work::Asm => asm(alloc, bytes, out),
         Work::Dis => dis(alloc, bytes, out),
+    }
+}
+
+/// Says on standard error what a refused file seems to be. Whether that can be written doesn't matter.
+fn give_hint<R: Eprint>(rt: &R, work: Work, bytes: &[u8]) {
+    let hint = match work {
+        Work::Exec | Work::Dis => hint_of_slots(bytes),
+        Work::Asm => hint_of_text(bytes),
+    };
+    if let Some(hint) = hint {
+        let _ = eprintln!(rt; "hint: {}", hint.advice());
     }
 }
 
