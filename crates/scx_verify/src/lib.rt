@@ -13,5 +13,5 @@ mod programs;
 mod tests;
 
 pub use faults::{Fault, VerifyError};
-pub use laws::{refusals_agree, typed_is_safe};
+pub use laws::{refusals_agree, refusals_are_justified, typed_is_safe};
 pub use programs::{Verified, verify};
