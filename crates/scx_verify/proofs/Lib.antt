@@ -3,3 +3,4 @@ mod Targets
 mod Visits
 mod Safe
 mod Agreement
+mod Justified

@@ -11,5 +11,5 @@ mod pass;
 mod programs;
 
 pub use faults::{Fault, VerifyError};
-pub use laws::{refusals_agree, typed_is_safe};
+pub use laws::{refusals_agree, refusals_are_justified, typed_is_safe};
 pub use programs::{Verified, verify};

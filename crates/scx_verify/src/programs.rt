@@ -2,7 +2,7 @@ ghost use Rattle.std.specs.Prelude.{◌≡◌, ◌≤◌, IfOk, OnOk, IfErr};
 ghost use Rattle.scx_semantics.specs.Code.{instruction_count};
 ghost use Rattle.scx_verify.specs.Typing.{IsTyped, context};
 ghost use Rattle.scx_verify.specs.Safe.{IsSafe};
-ghost use Rattle.scx_verify.specs.Faults.{IsRefusal};
+ghost use Rattle.scx_verify.specs.Faults.{IsRefusal, IsJustified};
 
 use crate::faults::VerifyError;
 use crate::pass::pass;
@@ -85,6 +85,8 @@ pub fn verify(
     ensures safe { OnOk result (IsSafe (context callback defs.now) program) }
     // What is refused has that fault first, at that slot.
     ensures refused { IfErr result (IsRefusal (context callback defs.now) program) }
+    // And it has no typing, unless memory ran out.
+    ensures justified { IfErr result (IsJustified (context callback defs.now) program) }
 {
     let context = Context {
         callback,
