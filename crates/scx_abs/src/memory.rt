@@ -15,7 +15,7 @@ use scx_isa::{Access, Field, Operand, Register, Size};
 use scx_maps::MapDefs;
 
 /// The memory that an address means.
-#[derive(Clone, Copy, Debug, PartialEq, Eq)]
+#[derive(Clone, Copy)]
 pub(crate) enum Area {
     /// The byte of the stack.
     OnStack(u16),

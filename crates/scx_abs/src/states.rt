@@ -19,7 +19,7 @@ pub const CELLS: usize = 64;
 pub(crate) const STACK_TOP: u16 = 512;
 
 /// What is known of registers and stack before an instruction.
-#[derive(Clone, Copy, Debug, PartialEq, Eq)]
+#[derive(Clone, Copy)]
 pub struct AbsState {
     /// The kinds of r0 to r10.
     pub registers: [Kind; REGISTERS],

@@ -3,6 +3,7 @@
 use crate::memory::Memory;
 use scx_commands::{Counted, FILE_LIMIT, Fault, Refusal, asm, dis, finish, text};
 use scx_examples::{EXIT, bytes_of};
+use std::alloc::{AllocError, Global};
 use std::process::Abort;
 use std::test::Fail;
 
@@ -98,6 +99,36 @@ fn refuses_what_is_no_text(rt: HostRuntime) -> Result<(), Fail> {
     );
     expect(&rt, Work::Asm, large.as_slice(), too_large, 1);
     expect(&rt, Work::Dis, large.as_slice(), too_large, 1);
+    Ok(())
+}
+
+/// A text of that many bytes: lines of comments, and a short program behind them.
+fn commented_program(alloc: Global, length: usize) -> Result<Vec<u8>, AllocError> {
+    let program = b"\nr0 = 1\nexit\n".as_slice();
+    let mut text = vec![in alloc; b'#'; length.saturating_sub(program.len())]?;
+    for (place, byte) in text.iter_mut().enumerate() {
+        if place % 64 == 63 {
+            *byte = b'\n';
+        }
+    }
+    text.extend_from_slice(program)?;
+    Ok(text)
+}
+
+#[test]
+fn limits_texts(rt: HostRuntime) -> Result<(), Fail> {
+    let largest = commented_program(rt.alloc(), FILE_LIMIT)?;
+    assert_eq!(rt; largest.len(), FILE_LIMIT);
+    let slots = bytes_of(rt.alloc(), &[0xb700_0000_0100_0000, EXIT])?;
+    expect(&rt, Work::Asm, largest.as_slice(), slots.as_slice(), 0);
+    let too_large = commented_program(rt.alloc(), FILE_LIMIT + 1)?;
+    expect(
+        &rt,
+        Work::Asm,
+        too_large.as_slice(),
+        b"refused: too large\n",
+        1,
+    );
     Ok(())
 }
 

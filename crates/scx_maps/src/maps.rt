@@ -16,7 +16,7 @@ use std::marker::Model;
 ///
 /// In a contract it is the list of the maps, each the list of its entries, each the list of its
 /// bytes.
-#[derive(Debug, Drop)]
+#[derive(Drop)]
 pub struct Maps {
     layout: Layout,
     block: Vec<u8>,

@@ -89,15 +89,20 @@ fn reads_and_writes(rt: HostRuntime) -> Result<(), Fail> {
     let program = decode(rt.alloc(), &PROGRAM)?;
     assert_eq!(rt; program.slots(), 6);
     assert_eq!(rt; program.instructions(), 6);
-    let modulo = Insn::Binary(
-        Width::Bits64,
-        Operation::SignedModulo,
-        Register::R0,
-        Operand::Register(Register::R1),
+    let modulo = program.at(2);
+    assert!(rt;
+        matches!(
+            modulo,
+            Some(Insn::Binary(
+                Width::Bits64,
+                Operation::SignedModulo,
+                Register::R0,
+                Operand::Register(Register::R1),
+            ))
+        )
     );
-    assert_eq!(rt; program.at(2), Some(modulo));
-    assert_eq!(rt; program.at(4), Some(Insn::Goto(0)));
-    assert_eq!(rt; program.at(6), None);
+    assert!(rt; matches!(program.at(4), Some(Insn::Goto(0))));
+    assert!(rt; program.at(6).is_none());
     let bytes = encode(rt.alloc(), &program)?;
     assert_eq!(rt; bytes.as_slice(), PROGRAM.as_slice());
     Ok(())
@@ -245,7 +250,7 @@ fn knows_second_slots(rt: HostRuntime) {
                 assert_eq!(rt; wanted, None);
                 assert_eq!(rt; program.slots(), 2);
                 assert_eq!(rt; program.instructions(), 1);
-                assert_eq!(rt; program.at(1), None);
+                assert!(rt; program.at(1).is_none());
             }
             Err(DecodeError::Refused { fault, slot }) => {
                 assert_eq!(rt; fault, DecodeFault::UnusedField);

@@ -16,7 +16,7 @@ use std::marker::Model;
 /// those shapes.
 ///
 /// In a contract it is the list of the program's slots, the callback and the shapes.
-#[derive(Debug, Drop)]
+#[derive(Drop)]
 pub struct Verified {
     program: Program,
     context: Context,

@@ -12,7 +12,7 @@ use std::marker::Model;
 ///
 /// Groups and tasks go by their places in the lists that the tree was made of. In a contract a tree is
 /// those two lists and whether each task is active.
-#[derive(Debug, Drop)]
+#[derive(Drop)]
 pub struct Tree {
     groups: Vec<Group>,
     homes: Vec<u32>,

@@ -10,7 +10,7 @@ pub struct Insert {
 }
 
 /// The callback at hand, and what it did.
-#[derive(Clone, Copy, Debug, PartialEq, Eq)]
+#[derive(Clone, Copy)]
 pub struct Call {
     pub callback: Callback,
     /// The task at hand.
