@@ -1,6 +1,16 @@
 -- The laws of typings and of refusals, which are the contracts of public functions without bodies of
 -- their own.
-use Rattle.std.specs.Prelude.{◌≡◌, ◌≢◌, ℕ}
+use Rattle.std.specs.Prelude.{◌≡◌, ◌≢◌, ℕ, List, Ok}
+use Rattle.scx_semantics.specs.declared.callbacks.Callback.{Callback}
+use Rattle.scx_semantics.specs.declared.instructions.Insn.{Insn}
+use Rattle.scx_semantics.specs.Machine.{Machine}
+use Rattle.scx_maps.specs.declared.shape.Shape.{Shape}
+use Rattle.scx_abs.specs.declared.states.AbsState.{AbsState}
+use Rattle.scx_abs.specs.declared.rules.Next.{Next}
+use Rattle.scx_abs.specs.Stands.{IsMember}
+use Rattle.scx_abs.specs.Rules.{rule}
+use Rattle.scx_plain.specs.Chosen.{chosen}
+use Rattle.scx_verify.specs.Translation.{op_of}
 use Rattle.scx_abs.specs.declared.rules.Context.{Context}
 use Rattle.scx_semantics.specs.Code.{Code}
 use Rattle.scx_isa.specs.Spelling.{IsProgram}
@@ -27,3 +37,10 @@ abbrev pub RefusalsAgree : Type 0
 RefusalsAgree =
     (c : Context) (code : Code) (f g : Fault) (s t : ℕ)
     → f ≢ NoMemory → g ≢ NoMemory → IsReason c code f s → IsReason c code g t → (f ≡ g) × (s ≡ t)
+
+-- Where the checks of an instruction pass, its operation is the one that every state calls for that the
+-- abstract state stands for.
+abbrev pub TypingChooses : Type 0
+TypingChooses =
+    (shapes : List Shape) (c : Callback) (t : ℕ) (i : Insn) (a : AbsState) (m : Machine) (next : Next)
+    → IsMember shapes a m → rule shapes c i a ≡ Ok next → op_of shapes c t i a ≡ chosen c m t i

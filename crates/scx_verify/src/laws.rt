@@ -1,4 +1,5 @@
 ghost use Rattle.scx_verify.specs.Laws.{TypedIsSafe, FirstRefusalsAgree, RefusalsAgree};
+ghost use Rattle.scx_verify.specs.Laws.{TypingChooses};
 
 /// Every program with a typing is safe: no run of it is ever stuck, none takes more steps than it has
 /// instructions, and its maps keep their shapes. The function does nothing: its contract is the law.
@@ -11,4 +12,10 @@ pub fn typed_is_safe()
 pub fn refusals_agree()
     ensures first { FirstRefusalsAgree }
     ensures all { RefusalsAgree }
+{}
+
+/// The operation that a typing gives an instruction is the one that each of its states calls for. The
+/// function does nothing: its contract is the law.
+pub fn typing_chooses()
+    ensures { TypingChooses }
 {}
