@@ -54,14 +54,14 @@ use Rattle.scx_abs.proofs.Elements.{place_cases, element_sized, with_number-leng
 -- ---- places
 
 -- the memory that a rule finds is that of the place, for so many bytes
-abbrev Means : Maps → ℕ → Area → Place → Type 0
+abbrev pub Means : Maps → ℕ → Area → Place → Type 0
 Means maps n (OnStack at) (place.OnStack to) = (at ≡ to) × (at % n ≡ 0)
 Means maps n InElement (place.InElement m i at) = HasElement maps m i × (at + n ≤ length (element maps m i))
 Means maps n (InTask f) (place.InTask t g) = f ≡ g
 Means maps n area to = ⊥
 
 -- a rule's area against the place of the address
-abbrev Finds : Maps → ℕ → Result Area Why → Place → Type 0
+abbrev pub Finds : Maps → ℕ → Result Area Why → Place → Type 0
 Finds maps n (Err why) to = Unit {0}
 Finds maps n (Ok area) to = Means maps n area to
 
@@ -78,7 +78,7 @@ field_found : (maps : Maps) (n : ℕ) (t : TaskId) (f : Option Field) → Finds 
 field_found maps n t None = tt
 field_found maps n t (Some f) = refl
 
-area_found : (shapes : List Shape) (maps : Maps) (k : Kind) (v : Value) (offset : ℤ) (n : ℕ) → HasShapes shapes maps → Stands maps k v
+pub area_found : (shapes : List Shape) (maps : Maps) (k : Kind) (v : Value) (offset : ℤ) (n : ℕ) → HasShapes shapes maps → Stands maps k v
     → Finds maps n (area_of shapes k offset n) (address maps v offset n)
 area_found shapes maps (kind.Stack o) (value.Pointer (pointer.Stack p)) offset n shaped h = rw h (stack_found maps n (shifted p offset))
 area_found shapes maps (kind.Stack o) v offset n shaped h = absurd h

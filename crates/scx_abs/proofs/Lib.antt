@@ -8,7 +8,7 @@ mod Parameters
 mod Registers
 mod Elements
 mod Operations
-mod Accesses
+pub mod Accesses
 mod Branches
 mod HelperCalls
 mod Starts

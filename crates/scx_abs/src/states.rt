@@ -31,7 +31,7 @@ impl AbsState {
     ghost use Rattle.scx_abs.specs.States.{kind_at, cell_at, with_kind, with_cell};
 
     /// The kind of a register.
-    pub(crate) fn kind(&self, register: Register) -> Kind
+    pub fn kind(&self, register: Register) -> Kind
         ensures { result ≡ kind_at self.now (number register) }
     {
         self.registers[register.number() as usize]

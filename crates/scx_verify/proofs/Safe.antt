@@ -12,6 +12,7 @@ use Rattle.scx_semantics.specs.Meaning.{act}
 use Rattle.scx_semantics.specs.Steps.{Stuck, Goes, located, goes, step, target}
 use Rattle.scx_semantics.specs.Runs.{LeadsTo, Leads, any_answer}
 use Rattle.scx_isa.specs.Spelling.{IsProgram}
+use Rattle.scx_isa.specs.Flow.{Flows}
 use Rattle.scx_isa.proofs.Codes.{place_fits}
 use Rattle.scx_isa.proofs.Control.{keeps_control}
 use Rattle.scx_maps.specs.declared.shape.Shape.{Shape}
@@ -29,12 +30,12 @@ use Rattle.scx_verify.specs.Typing.{States, CoversAt, CoversNext, IsTyping, IsTy
 use Rattle.scx_verify.specs.Laws.{TypedIsSafe}
 
 -- the slot's abstract state stands for the state
-record IsAt (shapes : List Shape) (states : States) (s : ℕ) (m : Machine) : Type 0 where
-  state : AbsState
-  here : states s ≡ Some state
-  member : IsMember shapes state m
+pub record IsAt (shapes : List Shape) (states : States) (s : ℕ) (m : Machine) : Type 0 where
+  pub state : AbsState
+  pub here : states s ≡ Some state
+  pub member : IsMember shapes state m
 
-covered_at : (shapes : List Shape) (states : States) (t : ℕ) (a : AbsState) (m : Machine) → CoversSome (states t) a → IsMember shapes a m → IsAt shapes states t m
+pub covered_at : (shapes : List Shape) (states : States) (t : ℕ) (a : AbsState) (m : Machine) → CoversSome (states t) a → IsMember shapes a m → IsAt shapes states t m
 covered_at shapes states t a m h g = go (states t) refl h
   where
     go : (o : Option AbsState) → states t ≡ o → CoversSome o a → IsAt shapes states t m
@@ -80,7 +81,7 @@ effect_at shapes states s t i next (effect.Ended n) k c f l = absurd l
 goes_stuck : (t : ℕ) (m : Machine) → Goes t m ≡ Stuck → ⊥
 goes_stuck t m e = absurd (cc)
 
-effect_goes : (shapes : List Shape) (states : States) (s : ℕ) (i : Insn) (next : Next) (e : Effect) → CoversNext states s i next → FlowsIn shapes next e → located s i e ≡ Stuck → ⊥
+pub effect_goes : (shapes : List Shape) (states : States) (s : ℕ) (i : Insn) (next : Next) (e : Effect) → CoversNext states s i next → FlowsIn shapes next e → located s i e ≡ Stuck → ⊥
 effect_goes shapes states s i next effect.Stuck c f h = f
 effect_goes shapes states s i next (effect.Next m) c f h = goes_stuck (s + size i) m h
 effect_goes shapes states s i next (effect.Jumped m) c f h =
@@ -90,11 +91,11 @@ effect_goes shapes states s i next (effect.Ask q go) c f h = absurd (cc)
 effect_goes shapes states s i next (effect.Ended n) c f h = absurd (cc)
 
 -- the instruction there passes its checks, and what it does flows on
-flows_in : (c : Context) (code : Code) (s : ℕ) (i : Insn) (a : AbsState) (m : Machine) (next : Next) → IsProgram code → at code s ≡ Some i → IsMember c.defs a m → rule c.defs c.callback i a ≡ Ok next
+pub flows_in : (c : Context) (code : Code) (s : ℕ) (i : Insn) (a : AbsState) (m : Machine) (next : Next) → IsProgram code → at code s ≡ Some i → IsMember c.defs a m → rule c.defs c.callback i a ≡ Ok next
     → FlowsIn c.defs next (act c.callback i m)
 flows_in c code s i a m next program there h e = rw e at (rules_sound c.defs c.callback i a m (place_fits false code s program.insns i there) h)
 
-step_at : (c : Context) (code : Code) (states : States) (s t : ℕ) (m k : Machine) → IsProgram code → IsTyping c code states → IsAt c.defs states s m → LeadsTo any_answer (step c.callback code s m) tt t k tt → IsAt c.defs states t k
+pub step_at : (c : Context) (code : Code) (states : States) (s t : ℕ) (m k : Machine) → IsProgram code → IsTyping c code states → IsAt c.defs states s m → LeadsTo any_answer (step c.callback code s m) tt t k tt → IsAt c.defs states t k
 step_at c code states s t m k program typing here l = go (at code s) refl
   where
     go : (o : Option Insn) → at code s ≡ o → IsAt c.defs states t k
@@ -122,6 +123,9 @@ reached : (c : Context) (code : Code) (program : IsProgram code) (typed : IsType
 reached c code program typed a maps n s m shaped fits l =
     let first = covered_at c.defs typed.states 0 (start_of c.callback) (start a maps) typed.typing.start (start_sound c.defs c.callback a maps shaped fits) in
     steps_at c code typed.states n 0 s (start a maps) m program typed.typing first l
+
+abbrev pub typed_by : (c : Context) (code : Code) (states : States) → Flows code → IsTyping c code states → IsTyped c code
+typed_by c code states flows typing = record { flows = flows; states = states; typing = typing }
 
 pub typed_safe : TypedIsSafe
 typed_safe c code program typed = record {

@@ -17,7 +17,7 @@ use Rattle.scx_abs.specs.Rules.{rule}
 use Rattle.scx_abs.specs.Laws.{FlowsProper}
 use Rattle.scx_abs.proofs.Orders.{covers_itself}
 use Rattle.scx_abs.proofs.Proper.{start_proper, rule_proper}
-use Rattle.scx_verify.specs.Typing.{States, Passes, IsTyped}
+use Rattle.scx_verify.specs.Typing.{States, Passes, IsTyped, IsTyping}
 use Rattle.scx_verify.specs.Forward.{IsSent, FlowsTo, Arrives, IsLeast, PassesBefore, IsFirstRefusal}
 use Rattle.scx_verify.specs.Pass.{states_of, IsVisited, IsGiven}
 use Rattle.scx_verify.proofs.Least.{least_same, given_least, given_apart, given_long}
@@ -251,14 +251,10 @@ least_covers : (o : Option AbsState) (P : AbsState → Type 0) (a : AbsState) �
 least_covers None P a h p = absurd (h a p)
 least_covers (Some x) P a h p = h.covers a p
 
-pub visited_all : (c : Context) (code : Code) (n : ℕ) (states : List (Option AbsState)) → Flows code → length code ≤ n → IsVisited c code n states → IsTyped c code
-visited_all c code n states flow all h = record {
-  flows = flow;
-  states = states_of states;
-  typing = record {
-    start = least_covers (states_of states 0) (Arrives c code (states_of states) n 0) (start_of c.callback) (h.least 0) (inl (refl, refl));
-    insns = λ s i a there here. passes s i a there here;
-  };
+pub visited_typing : (c : Context) (code : Code) (n : ℕ) (states : List (Option AbsState)) → Flows code → length code ≤ n → IsVisited c code n states → IsTyping c code (states_of states)
+visited_typing c code n states flow all h = record {
+  start = least_covers (states_of states 0) (Arrives c code (states_of states) n 0) (start_of c.callback) (h.least 0) (inl (refl, refl));
+  insns = λ s i a there here. passes s i a there here;
 }
   where
     covered : (s t : ℕ) (i : Insn) (a b : AbsState) (next : Next) → at code s ≡ Some i → states_of states s ≡ Some a → rule c.defs c.callback i a ≡ Ok next → IsSent s i next t b → CoversSome (states_of states t) b

@@ -1,6 +1,16 @@
 -- The laws of typings and of refusals, which are the contracts of public functions without bodies of
 -- their own.
-use Rattle.std.specs.Prelude.{◌≡◌, ◌≢◌, ◌≤◌, ℕ, Some}
+use Rattle.std.specs.Prelude.{◌≡◌, ◌≢◌, ◌≤◌, ℕ, List, Some, Ok}
+use Rattle.scx_semantics.specs.declared.callbacks.Callback.{Callback}
+use Rattle.scx_semantics.specs.declared.instructions.Insn.{Insn}
+use Rattle.scx_semantics.specs.Machine.{Machine}
+use Rattle.scx_maps.specs.declared.shape.Shape.{Shape}
+use Rattle.scx_abs.specs.declared.states.AbsState.{AbsState}
+use Rattle.scx_abs.specs.declared.rules.Next.{Next}
+use Rattle.scx_abs.specs.Stands.{IsMember}
+use Rattle.scx_abs.specs.Rules.{rule}
+use Rattle.scx_plain.specs.Chosen.{chosen}
+use Rattle.scx_verify.specs.Translation.{op_of}
 use Rattle.scx_abs.specs.declared.rules.Context.{Context}
 use Rattle.scx_semantics.specs.Code.{Code}
 use Rattle.scx_isa.specs.Spelling.{IsProgram}
@@ -42,3 +52,10 @@ abbrev pub RefusalsAreJustified : Type 0
 RefusalsAreJustified =
     (c : Context) (code : Code) (f : Fault) (s : ℕ)
     → f ≢ NoMemory → IsReason c code f s → IsTyped c code → ⊥
+
+-- Where the checks of an instruction pass, its operation is the one that every state calls for that the
+-- abstract state stands for.
+abbrev pub TypingChooses : Type 0
+TypingChooses =
+    (shapes : List Shape) (c : Callback) (t : ℕ) (i : Insn) (a : AbsState) (m : Machine) (next : Next)
+    → IsMember shapes a m → rule shapes c i a ≡ Ok next → op_of shapes c t i a ≡ chosen c m t i

@@ -1,5 +1,5 @@
 ghost use Rattle.scx_verify.specs.Laws.{TypedIsSafe, FirstRefusalsAgree, RefusalsAgree};
-ghost use Rattle.scx_verify.specs.Laws.{TypingsCoverForward, RefusalsAreJustified};
+ghost use Rattle.scx_verify.specs.Laws.{TypingsCoverForward, RefusalsAreJustified, TypingChooses};
 
 /// Every program with a typing is safe: no run of it is ever stuck, none takes more steps than it has
 /// instructions, and its maps keep their shapes. The function does nothing: its contract is the law.
@@ -20,4 +20,10 @@ pub fn refusals_agree()
 pub fn refusals_are_justified()
     ensures forward { TypingsCoverForward }
     ensures justified { RefusalsAreJustified }
+{}
+
+/// The operation that a typing gives an instruction is the one that each of its states calls for. The
+/// function does nothing: its contract is the law.
+pub fn typing_chooses()
+    ensures { TypingChooses }
 {}
