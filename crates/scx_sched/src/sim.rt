@@ -99,6 +99,20 @@ impl Sim {
         self.machine.world().clock()
     }
 
+    /// How many tasks there are; their numbers are below it.
+    pub fn tasks(&self) -> u16
+        ensures { result ≡ length self.now.state.world.tasks }
+    {
+        self.machine.world().tasks()
+    }
+
+    /// How many processors there are; their numbers are below it.
+    pub fn cpus(&self) -> u32
+        ensures { result ≡ length self.now.state.world.cpus }
+    {
+        self.machine.world().cpus()
+    }
+
     pub fn place(&self, task: u16) -> Place
         requires { task < length self.now.state.world.tasks }
         ensures { result ≡ place self.now.state.world task }
