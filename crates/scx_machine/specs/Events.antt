@@ -1,5 +1,5 @@
 -- Events: which are accepted, and what each one does.
-use Rattle.std.specs.Prelude.{ℕ, Bool, true, false, ◌||◌, ◌==◌, nat_lt, [], ◌∷◌, length, if◌then◌else◌, Option, Some, None, Result, Ok, Err}
+use Rattle.std.specs.Prelude.{ℕ, Bool, true, false, ◌||◌, ◌==◌, nat_lt, [], ◌∷◌, length, if◌then◌else◌, Option, Some, None}
 use Rattle.scx_semantics.specs.declared.callbacks.Callback.TheVariants as callback
 use Rattle.scx_world.specs.declared.notes.What.TheVariants as note
 use Rattle.scx_world.specs.World.{task_at, is_runnable, running, cpu_of, is_idle, default_choice, said}
@@ -74,16 +74,3 @@ happened s (Sleep t) = sleep s t
 happened s (Tick c) = tick s c
 happened s Clock = stays (with_world s (later s.world))
 happened s (SetWeight g x) = record { state = with_world s (reweighed s.world g x); notes = said s.world (note.Weight g x) ∷ [] }
-
--- ---- a step: the event, or nothing at all where it is refused
-
-abbrev pub step_if : Option Refused → State → Event → Stepped
-step_if None s e = happened s e
-step_if (Some r) s e = stays s
-
-unfoldable pub step : State → Event → Stepped
-step s e = step_if (refusal s e) s e
-
-abbrev pub answer_of : Option Refused → Result (Unit {0}) Refused
-answer_of None = Ok tt
-answer_of (Some r) = Err r

@@ -2,7 +2,7 @@ ghost use Rattle.std.specs.Prelude.{◌≡◌, ℕ, ◌+◌, ◌<◌, ◌≤◌,
 ghost use Rattle.scx_world.specs.World.{task_at};
 ghost use Rattle.scx_machine.specs.Notes.{Takes};
 ghost use Rattle.scx_machine.specs.declared.events.Event.TheVariants.{Wake, Sleep, SetWeight};
-ghost use Rattle.scx_machine.specs.Events.{is_bad_weight, refusal, target, put_and_run, wake, sleep_from_cpu, sleep, count_down, tick, happened, step, answer_of};
+ghost use Rattle.scx_machine.specs.Events.{is_bad_weight, refusal, target, put_and_run, wake, sleep_from_cpu, sleep, count_down, tick, happened};
 
 use crate::callbacks::task_and_number;
 use crate::machine::Machine;
@@ -205,9 +205,9 @@ impl Machine {
         }
     }
 
-    /// Does what the event does.
+    /// Does what an event does that is accepted.
     #[tactic(auto, using(crate::proofs::Taking::takings))]
-    fn event<S: Sink>(&mut self, event: Event, sink: &mut S)
+    pub fn event<S: Sink>(&mut self, event: Event, sink: &mut S)
         requires accepted { refusal self.old event ≡ None }
         requires early { self.old.world.clock < 2 ^ 32 }
         requires runs { (t : ℕ) → (task_at self.old.world t).run_ns < 2 ^ 63 }
@@ -226,23 +226,5 @@ impl Machine {
                 sink.take(self.world.note(What::Weight(group, weight)));
             }
         }
-    }
-
-    /// One step. An event that isn't accepted changes nothing, and notes nothing.
-    #[tactic(auto, unfolding(crate::specs::Events::step), using(crate::proofs::Taking::takings))]
-    pub fn step<S: Sink>(&mut self, event: Event, sink: &mut S) -> Result<(), Refused>
-        requires early { self.old.world.clock < 2 ^ 32 }
-        requires runs { (t : ℕ) → (task_at self.old.world t).run_ns < 2 ^ 63 }
-        requires few { self.old.world.queues.pushes + 2 ^ 18 ≤ 2 ^ 63 }
-        ensures answer { result ≡ answer_of (refusal self.old event) }
-        ensures state { self.new ≡ (step self.old event).state }
-        ensures few { self.new.world.queues.pushes ≤ self.old.world.queues.pushes + 2 ^ 18 }
-        ensures notes { Takes S.takes sink.old (step self.old event).notes sink.new }
-    {
-        if let Some(refused) = self.refusal(event) {
-            return Err(refused);
-        }
-        self.event(event, sink);
-        Ok(())
     }
 }

@@ -47,6 +47,7 @@ impl Machine {
         ensures shape { OnOk result (is_bad_shape tree cpus ≡ false) }
         ensures made { IfOk result (λ machine. started policy tree cpus ≡ Ok machine) }
         ensures few { IfOk result (λ machine. machine.world.queues.pushes ≤ 2 ^ 23) }
+        ensures flags { OnOk result (length tree.active ≡ length tree.homes) }
         ensures refused { IfErr result (IsRefusal policy tree cpus) }
     {
         if is_bad_shape(&tree, cpus) {
@@ -64,6 +65,7 @@ impl Machine {
         requires { cpus ≤ 64 }
         ensures blank { IfOk result (λ machine. machine ≡ blank policy tree cpus) }
         ensures few { IfOk result (λ machine. machine.world.queues.pushes ≡ 0) }
+        ensures flags { OnOk result (length tree.active ≡ length tree.homes) }
     {
         let maps = Maps::new(alloc, policy.defs())?;
         let world = World::new(alloc, tree, cpus)?;

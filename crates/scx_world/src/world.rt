@@ -1,4 +1,4 @@
-ghost use Rattle.std.specs.Prelude.{◌≡◌, ◌+◌, ◌≤◌, ◌<◌, nat_lt, length, None, is_none, position, IfSome, IfOk};
+ghost use Rattle.std.specs.Prelude.{◌≡◌, ◌+◌, ◌≤◌, ◌<◌, nat_lt, length, None, is_none, position, IfSome, IfOk, OnOk};
 ghost use Rattle.scx_dsq.specs.Queues.{queue_of, task_count};
 ghost use Rattle.scx_world.specs.First.{with_locals, first_queues, first_world};
 ghost use Rattle.scx_world.specs.Helpers.{pointed};
@@ -48,6 +48,7 @@ impl World {
         requires { cpus ≤ 64 }
         ensures world { IfOk result (λ world. world ≡ first_world tree cpus) }
         ensures few { IfOk result (λ world. world.queues.pushes ≡ 0) }
+        ensures flags { OnOk result (length tree.active ≡ length tree.homes) }
     {
         let count = tree.tasks() as usize;
         Ok(World {
