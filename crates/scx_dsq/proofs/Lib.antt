@@ -8,3 +8,7 @@ pub mod Keeping
 pub mod Counted
 pub mod Replies
 pub mod Histories
+pub mod LinkReads
+pub mod Threads
+pub mod ThreadsWith
+pub mod ThreadsWithout

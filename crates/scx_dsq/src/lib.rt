@@ -11,6 +11,7 @@ mod commands;
 mod errors;
 mod laws;
 mod lines;
+mod links;
 mod places;
 mod queues;
 #[cfg(test)]
