@@ -4,6 +4,8 @@ pub mod Standing
 pub mod Rows
 pub mod Fronts
 pub mod Sound
+pub mod Forms
+pub mod FormChanges
 pub mod Keeping
 pub mod Counted
 pub mod Replies

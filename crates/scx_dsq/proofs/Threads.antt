@@ -1,16 +1,14 @@
 -- Who is first, last and next in a FIFO queue: each is one task that there is, and the same in places that
 -- differ only elsewhere. So are the links.
-use Rattle.std.proofs.Common.{◌≡◌, ◌≢◌, ℕ, ◌+◌, ◌-◌, ◌<◌, ◌≤◌, List, length, set, count_by, Option, Some, None, MatchOption, refl, sym, ap, ◌∙◌, subst, arith, ◌⊎◌, inl, inr}
+use Rattle.std.proofs.Common.{◌≡◌, ◌≢◌, ℕ, ◌≤◌, List, length, count_by, Option, Some, None, MatchOption, sym, ap, ◌∙◌, arith, ◌⊎◌, inl, inr}
 use Rattle.std.proofs.lemmas.Bool.{cases_eq}
-use Rattle.std.proofs.lemmas.List.{get_or-set_same}
-use Rattle.scx_dsq.specs.declared.places.Rank.TheVariants.{Fifo}
 use Rattle.scx_dsq.specs.declared.places.Place.{Place}
 use Rattle.scx_dsq.specs.declared.links.Link.{Link}
 use Rattle.scx_dsq.specs.declared.links.Ends.{Ends}
 use Rattle.scx_dsq.specs.Queues.{Places, place_at, is_in}
-use Rattle.scx_dsq.specs.Links.{link_at, or_else, instead, links_appended, ends_appended, links_unlinked, ends_unlinked, In, NobodyIsIn, IsFirst, IsLast, IsNext, IsThreaded}
-use Rattle.scx_dsq.proofs.Standing.{Changed, this, other, changed, unchanged, waits_below, same_place, is_in_from, count-set}
-use Rattle.scx_dsq.proofs.LinkReads.{IsWithin, appended_others, appended_ahead, appended_behind, appended_ahead-other, appended_behind-last, unlinked_ahead, unlinked_behind, unlinked_ahead-other, unlinked_behind-other}
+use Rattle.scx_dsq.specs.Links.{link_at, In, NobodyIsIn, IsFirst, IsLast, IsNext, IsThreaded}
+use Rattle.scx_dsq.proofs.Standing.{waits_below, same_place}
+use Rattle.scx_dsq.proofs.LinkReads.{IsWithin}
 
 -- each place has its own stamp
 abbrev pub AreDistinct : Places → Type 0

@@ -1,15 +1,14 @@
 -- The links of a FIFO queue lead through those who wait there after one was put at its end.
-use Rattle.std.proofs.Common.{◌≡◌, ◌≢◌, ℕ, ◌+◌, ◌-◌, ◌<◌, ◌≤◌, List, length, set, count_by, Option, Some, None, MatchOption, refl, sym, ap, ◌∙◌, subst, arith, ◌⊎◌, inl, inr}
-use Rattle.std.proofs.lemmas.Bool.{cases_eq}
+use Rattle.std.proofs.Common.{◌≡◌, ◌≢◌, ℕ, ◌+◌, ◌<◌, ◌≤◌, List, length, set, count_by, Option, Some, None, MatchOption, sym, ap, ◌∙◌, subst, arith, ◌⊎◌, inl, inr}
 use Rattle.std.proofs.lemmas.List.{get_or-set_same}
 use Rattle.scx_dsq.specs.declared.places.Rank.TheVariants.{Fifo}
 use Rattle.scx_dsq.specs.declared.places.Place.{Place}
 use Rattle.scx_dsq.specs.declared.links.Link.{Link}
 use Rattle.scx_dsq.specs.declared.links.Ends.{Ends}
 use Rattle.scx_dsq.specs.Queues.{Places, place_at, is_in}
-use Rattle.scx_dsq.specs.Links.{link_at, or_else, instead, links_appended, ends_appended, links_unlinked, ends_unlinked, In, NobodyIsIn, IsFirst, IsLast, IsNext, IsThreaded}
-use Rattle.scx_dsq.proofs.Standing.{Changed, this, other, changed, unchanged, waits_below, same_place, is_in_from, count-set}
-use Rattle.scx_dsq.proofs.LinkReads.{IsWithin, appended_others, appended_ahead, appended_behind, appended_ahead-other, appended_behind-last, unlinked_ahead, unlinked_behind, unlinked_ahead-other, unlinked_behind-other}
+use Rattle.scx_dsq.specs.Links.{link_at, or_else, links_appended, ends_appended, In, NobodyIsIn, IsFirst, IsLast, IsNext, IsThreaded}
+use Rattle.scx_dsq.proofs.Standing.{Changed, this, other, changed, unchanged, is_in_from, count-set}
+use Rattle.scx_dsq.proofs.LinkReads.{IsWithin, appended_others, appended_ahead, appended_behind, appended_ahead-other, appended_behind-last}
 use Rattle.scx_dsq.proofs.Threads.{AreDistinct, is_some_of, last_within, one_last}
 
 module _ (places : Places) (id t : ℕ) (new : Place) (here : new.queue ≡ id) (free : place_at places t ≡ None) (within : t < length places) (late : (u : ℕ) (p : Place) → place_at places u ≡ Some p → p.stamp < new.stamp) where
@@ -126,4 +125,3 @@ module _ (places : Places) (id t : ℕ) (new : Place) (here : new.queue ≡ id) 
       count = one_more;
       sort = λ u p w. sort_after u p w.1 (changed places t (Some new) u p w.0);
     }
-

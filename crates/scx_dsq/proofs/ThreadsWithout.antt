@@ -1,15 +1,12 @@
 -- The links of a FIFO queue lead through those who wait there after one was taken out.
-use Rattle.std.proofs.Common.{◌≡◌, ◌≢◌, ℕ, ◌+◌, ◌-◌, ◌<◌, ◌≤◌, List, length, set, count_by, Option, Some, None, MatchOption, refl, sym, ap, ◌∙◌, subst, arith, ◌⊎◌, inl, inr}
-use Rattle.std.proofs.lemmas.Bool.{cases_eq}
-use Rattle.std.proofs.lemmas.List.{get_or-set_same}
-use Rattle.scx_dsq.specs.declared.places.Rank.TheVariants.{Fifo}
+use Rattle.std.proofs.Common.{◌≡◌, ◌≢◌, ℕ, ◌+◌, ◌≤◌, List, length, set, count_by, Option, Some, None, MatchOption, refl, sym, ap, subst, arith, ◌⊎◌, inl, inr}
 use Rattle.scx_dsq.specs.declared.places.Place.{Place}
 use Rattle.scx_dsq.specs.declared.links.Link.{Link}
 use Rattle.scx_dsq.specs.declared.links.Ends.{Ends}
 use Rattle.scx_dsq.specs.Queues.{Places, place_at, is_in}
-use Rattle.scx_dsq.specs.Links.{link_at, or_else, instead, links_appended, ends_appended, links_unlinked, ends_unlinked, In, NobodyIsIn, IsFirst, IsLast, IsNext, IsThreaded}
-use Rattle.scx_dsq.proofs.Standing.{Changed, this, other, changed, unchanged, waits_below, same_place, is_in_from, count-set}
-use Rattle.scx_dsq.proofs.LinkReads.{IsWithin, appended_others, appended_ahead, appended_behind, appended_ahead-other, appended_behind-last, unlinked_ahead, unlinked_behind, unlinked_ahead-other, unlinked_behind-other}
+use Rattle.scx_dsq.specs.Links.{link_at, instead, links_unlinked, ends_unlinked, In, NobodyIsIn, IsFirst, IsLast, IsNext, IsThreaded}
+use Rattle.scx_dsq.proofs.Standing.{Changed, this, other, changed, unchanged, waits_below, is_in_from, count-set}
+use Rattle.scx_dsq.proofs.LinkReads.{IsWithin, unlinked_ahead, unlinked_behind, unlinked_ahead-other, unlinked_behind-other}
 use Rattle.scx_dsq.proofs.Threads.{AreDistinct, one_stamp, is_some_of, ahead_within, behind_within, one_ahead, one_behind}
 
 module _ (places : Places) (id t : ℕ) (p : Place) (here : In places id t p) (distinct : AreDistinct places) where
@@ -204,4 +201,3 @@ module _ (places : Places) (id t : ℕ) (p : Place) (here : In places id t p) (d
       count = let less = one_less in omega arith;
       sort = λ u q w. h.sort u q (before u q w).1;
     }
-

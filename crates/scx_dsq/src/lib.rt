@@ -13,6 +13,7 @@ mod laws;
 mod lines;
 mod links;
 mod places;
+mod queue;
 mod queues;
 #[cfg(test)]
 mod tests;
