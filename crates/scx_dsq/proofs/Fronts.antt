@@ -95,10 +95,6 @@ front_once s id t u f g = go (cases_eq t u)
         absurd (both_ways (is_before g.place f.place) (before-asym f.place g.place a) b)
 
 -- what a row's first says of the queue
-pub row_front : (s : QueueState) (id : ℕ) (es : List Entry) → Lists s.places id es → first_task es ≡ front_of s id
-row_front s id [] h = sym (no_front s id (nobody_listed s id h))
-row_front s id (e ∷ es) h = sym (front_is s id e.task (first_is_front s id e es h))
-
 pub row_first : (s : QueueState) (id : ℕ) (es : List Entry) → Lists s.places id es → IfSome (first_task es) (IsFront s id)
 row_first s id [] h = tt
 row_first s id (e ∷ es) h = first_is_front s id e es h

@@ -4,7 +4,13 @@ pub mod Standing
 pub mod Rows
 pub mod Fronts
 pub mod Sound
+pub mod Forms
+pub mod FormChanges
 pub mod Keeping
 pub mod Counted
 pub mod Replies
 pub mod Histories
+pub mod LinkReads
+pub mod Threads
+pub mod ThreadsWith
+pub mod ThreadsWithout

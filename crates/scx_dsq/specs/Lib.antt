@@ -7,4 +7,5 @@ pub mod Commands
 pub mod Runs
 pub mod Facts
 pub mod Lines
+pub mod Links
 pub mod Kept

@@ -11,7 +11,9 @@ mod commands;
 mod errors;
 mod laws;
 mod lines;
+mod links;
 mod places;
+mod queue;
 mod queues;
 
 pub use commands::{Command, Reply, answer, run};

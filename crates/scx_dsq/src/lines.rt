@@ -1,7 +1,7 @@
 ghost use Rattle.std.specs.Prelude.{◌≡◌, ◌<◌, ◌≤◌, [], length, IfOk};
-ghost use Rattle.scx_dsq.specs.Lines.{first_task, first_clashes, IsOrdered, spot, spot_of, with_entry, without_entry};
+ghost use Rattle.scx_dsq.specs.Lines.{first_task, IsOrdered, spot, spot_of, with_entry, without_entry};
 
-use crate::places::{Place, Rank};
+use crate::places::Place;
 use std::alloc::{AllocError, Global};
 use std::marker::Model;
 
@@ -48,16 +48,6 @@ impl Line {
         match self.entries.first() {
             Some(entry) => Some(entry.task),
             None => None,
-        }
-    }
-
-    /// Whether tasks wait there that were put in the other way.
-    pub fn clashes(&self, rank: Rank) -> bool
-        ensures { result ≡ first_clashes rank self.now.entries }
-    {
-        match self.entries.first() {
-            Some(entry) => !entry.place.rank.is_same_sort(rank),
-            None => false,
         }
     }
 

@@ -1,5 +1,5 @@
 ghost use Rattle.std.specs.Prelude.{◌≡◌};
-ghost use Rattle.scx_dsq.specs.Places.{key_of, same_sort, is_before};
+ghost use Rattle.scx_dsq.specs.Places.{key_of, is_before};
 
 /// How a task was put into a queue: at its end, or by a virtual time.
 #[derive(Clone, Copy, Debug, PartialEq, Eq)]
@@ -24,17 +24,6 @@ impl Rank {
         match self {
             Rank::Fifo => 0,
             Rank::Vtime(key) => key,
-        }
-    }
-
-    /// Whether a queue may hold both.
-    pub fn is_same_sort(self, other: Rank) -> bool
-        ensures { result ≡ same_sort self other }
-    {
-        match (self, other) {
-            (Rank::Fifo, Rank::Fifo) => true,
-            (Rank::Vtime(_), Rank::Vtime(_)) => true,
-            _ => false,
         }
     }
 }

@@ -8,16 +8,11 @@ ghost use Rattle.scx_dsq.specs.Laws.{HasOneOfEach, WaitsInAQueue, HasOneSort, Is
 
 use crate::errors::QueueError;
 use crate::lines::{Entry, Line};
+use crate::links::{Ends, Link};
 use crate::places::{Place, Rank};
+use crate::queue::{Queue, enter, leave};
 use std::alloc::{AllocError, Global};
 use std::marker::Model;
-
-/// A queue that was created.
-#[derive(Debug, Drop)]
-struct Queue {
-    id: u64,
-    line: Line,
-}
 
 /// Dispatch queues, and where each task waits.
 ///
@@ -26,8 +21,11 @@ struct Queue {
 #[derive(Debug, Drop)]
 pub struct Queues {
     live: Vec<Queue>,
+    /// Empty lines for queues to come.
     spare: Vec<Line>,
     places: Vec<Option<Place>>,
+    /// At each task's number, whom it waits beside in a FIFO queue.
+    links: Vec<Link>,
     pushes: u64,
 }
 
@@ -54,6 +52,7 @@ impl Queues {
             live: Vec::with_capacity(alloc, queues)?,
             spare: spare_lines(alloc, queues, tasks)?,
             places: vec![in alloc; None; tasks]?,
+            links: vec![in alloc; Link::NONE; tasks]?,
             pushes: 0,
         })
     }
@@ -73,7 +72,11 @@ impl Queues {
         let Some(line) = self.spare.pop() else {
             return Err(QueueError::TooManyQueues);
         };
-        self.live.push_reserved(Queue { id, line });
+        self.live.push_reserved(Queue {
+            id,
+            ends: Ends::NONE,
+            line,
+        });
         Ok(())
     }
 
@@ -121,7 +124,7 @@ impl Queues {
         if self.places[task as usize].is_some() {
             return Err(QueueError::AlreadyThere);
         }
-        if self.live[index].line.clashes(rank) {
+        if self.live[index].clashes(rank) {
             return Err(QueueError::Mixed);
         }
         let place = Place {
@@ -129,7 +132,11 @@ impl Queues {
             rank,
             stamp: self.pushes,
         };
-        self.live[index].line.insert(Entry { task, place });
+        enter(
+            &mut self.links,
+            &mut self.live[index],
+            Entry { task, place },
+        );
         self.places[task as usize] = Some(place);
         self.pushes += 1;
         Ok(())
@@ -147,7 +154,7 @@ impl Queues {
         ensures { result ≡ list_any (clashes id rank) self.now.places }
     {
         match find(&self.live, id) {
-            Some(index) => self.live[index].line.clashes(rank),
+            Some(index) => self.live[index].clashes(rank),
             None => false,
         }
     }
@@ -160,7 +167,7 @@ impl Queues {
         ensures empty { IfNone result ((t : ℕ) (p : Place) → ¬ Waits self.now id t p) }
     {
         match find(&self.live, id) {
-            Some(index) => self.live[index].line.front(),
+            Some(index) => self.live[index].front(),
             None => None,
         }
     }
@@ -195,7 +202,7 @@ impl Queues {
         let Some(index) = find(&self.live, place.queue) else {
             unreachable!()
         };
-        self.live[index].line.remove(task);
+        leave(&mut self.links, &mut self.live[index], task, place.rank);
         self.places[task as usize] = None;
         true
     }
@@ -205,7 +212,7 @@ impl Queues {
         ensures { result ≡ len_of self.now id }
     {
         match find(&self.live, id) {
-            Some(index) => self.live[index].line.len(),
+            Some(index) => self.live[index].len(),
             None => 0,
         }
     }

@@ -1,5 +1,5 @@
 use Rattle.std.proofs.Common.{◌∙◌, sym, ap, arith}
-use Rattle.scx_dsq.specs.declared.queues.Queue.{Queue}
+use Rattle.scx_dsq.specs.declared.queue.Queue.{Queue}
 use Rattle.scx_dsq.proofs.Keeping.{id_found, id_missing}
 use Rattle.scx_dsq.proofs.queues.find.Goals as goal
 

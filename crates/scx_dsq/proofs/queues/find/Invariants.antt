@@ -1,5 +1,5 @@
 use Rattle.std.proofs.Common.{◌≡◌, ◌<◌, ℕ, false, ◌==◌, get_or}
-use Rattle.scx_dsq.specs.declared.queues.Queue.{Queue}
+use Rattle.scx_dsq.specs.declared.queue.Queue.{Queue}
 use Rattle.scx_dsq.proofs.queues.find.Given as goal
 
 abbrev pub invariant-loop-index : goal.invariant-loop-index

@@ -7,4 +7,4 @@ use Rattle.scx_dsq.proofs.queues.Queues.create.Goals as goal
 pub invariant_of-self-2 : goal.invariant_of-self-2
 invariant_of-self-2 c =
     let out : exists (state_of c.self.inside) c.args.id ≡ false = rw (← c.deref.ensures.value) (sym c.find.ensures.found ∙ sym c.if-is_some.ensures) in
-    created_keeps c.self.inside _ c.args.id c.in-Some.line c.self.invariant out c.in-Some.ensures.items c.push_reserved.ensures.items c.push_reserved.ensures.capacity refl refl
+    created_keeps c.self.inside _ c.args.id c.in-Some.line c.self.invariant out c.in-Some.ensures.items c.push_reserved.ensures.items c.push_reserved.ensures.capacity refl refl refl

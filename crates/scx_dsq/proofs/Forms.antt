@@ -1,0 +1,131 @@
+-- A queue in either form: what it answers, and that it keeps its tasks after a change there or elsewhere.
+use Rattle.std.proofs.Common.{◌≡◌, ◌≢◌, ℕ, ◌<◌, ◌≤◌, true, false, ◌==◌, not, List, [], ◌∷◌, length, get_or, Option, Some, None, is_some, IfSome, IfNone, MatchOption, refl, sym, ◌∙◌, arith, if◌then◌else◌}
+use Rattle.std.specs.List.{list_any}
+use Rattle.std.proofs.lemmas.Bool.{both_ways, eq-eqb, eqb-true, and_parts, not-true, false_from_ne_true}
+use Rattle.std.proofs.lemmas.List.{get_or_default}
+use Rattle.std.proofs.lemmas.List.Folds.{list_any_at, list_any_none}
+use Rattle.std.proofs.lemmas.List.Elements.{All-nil}
+use Rattle.scx_dsq.specs.declared.places.Rank.{Rank}
+use Rattle.scx_dsq.specs.declared.places.Rank.TheVariants.{Fifo, Vtime}
+use Rattle.scx_dsq.specs.declared.places.Place.{Place}
+use Rattle.scx_dsq.specs.declared.lines.Entry.{Entry}
+use Rattle.scx_dsq.specs.declared.links.Link.{Link}
+use Rattle.scx_dsq.specs.declared.queue.Queue.{Queue}
+use Rattle.scx_dsq.specs.Places.{same_sort, is_before}
+use Rattle.scx_dsq.specs.Queues.{QueueState, place_at, Waits, IsFront, front_of, len_of}
+use Rattle.scx_dsq.specs.Calls.{clashes}
+use Rattle.scx_dsq.specs.Laws.{HasOneSort, HasOwnStamps}
+use Rattle.scx_dsq.specs.Lines.{first_task, first_clashes}
+use Rattle.scx_dsq.specs.Links.{no_ends, or_else, In, NobodyIsIn, IsFirst, IsThreaded}
+use Rattle.scx_dsq.specs.Kept.{Lists, IsByVtime, IsOfOneSort, by_links, by_row, front_in, len_in, mixes}
+use Rattle.scx_dsq.proofs.Standing.{waits_below}
+use Rattle.scx_dsq.proofs.Orders.{before_from}
+use Rattle.scx_dsq.proofs.Fronts.{NobodyIn, nobody_counts, nobody_clashes, front_is, no_front, row_first, row_empty, row_clashes}
+
+-- ---- an empty queue
+
+pub threaded_empty : (s : QueueState) (links : List Link) (id : ℕ) → NobodyIn s id → IsThreaded s.places links id no_ends
+threaded_empty s links id nobody = record {
+  first = nobody;
+  last = nobody;
+  ahead = λ t p w. absurd (nobody t p w);
+  behind = λ t p w. absurd (nobody t p w);
+  count = sym (nobody_counts s id nobody);
+  sort = λ t p w. absurd (nobody t p w);
+}
+
+pub listed_empty : (s : QueueState) (id : ℕ) → NobodyIn s id → Lists s.places id []
+listed_empty s id nobody = record {
+  there = All-nil _;
+  all = λ t p e q. absurd (nobody t p (e, q));
+  count = sym (nobody_counts s id nobody);
+  ordered = λ a b d lt within. absurd (omega arith);
+}
+
+-- ---- the front
+
+first_is_front : (s : QueueState) (id f : ℕ) → HasOwnStamps s → ((t : ℕ) (p : Place) → In s.places id t p → p.rank ≡ Fifo) → IsFirst s.places id f → IsFront s id f
+first_is_front s id f stamps sort h = record {
+  place = h.place;
+  waits = h.waits;
+  first = λ u other n w. go u other n w (h.first u other w) (sort f h.place h.waits) (sort u other w);
+}
+  where
+    go : (u : ℕ) (other : Place) → u ≢ f → Waits s id u other → h.place.stamp ≤ other.stamp → h.place.rank ≡ Fifo → other.rank ≡ Fifo → is_before h.place other ≡ true
+    go u other n w le a b =
+        let apart = stamps u f other h.place n w.0 h.waits.0 in
+        let lt : h.place.stamp < other.stamp = omega arith in
+        before_from h.place other (record { keys = rw (a, b) (omega arith); stamps = λ e. lt })
+
+pub form_front : (s : QueueState) (links : List Link) (q : Queue) → HasOwnStamps s → IsOfOneSort s.places links q → MatchOption (front_in q) (NobodyIn s q.id) (IsFront s q.id)
+form_front s links q stamps (by_links h empty) = go q.ends.first q.line.entries empty h.first
+  where
+    go : (o : Option ℕ) (es : List Entry) → es ≡ [] → MatchOption o (NobodyIsIn s.places q.id) (IsFirst s.places q.id) → MatchOption (or_else o (first_task es)) (NobodyIn s q.id) (IsFront s q.id)
+    go None es e nobody = rw e nobody
+    go (Some f) es e k = first_is_front s q.id f stamps h.sort k
+form_front s links q stamps (by_row h sort none) = rw none (go q.line.entries h)
+  where
+    go : (es : List Entry) → Lists s.places q.id es → MatchOption (first_task es) (NobodyIn s q.id) (IsFront s q.id)
+    go [] l = row_empty s q.id [] l
+    go (e ∷ es) l = row_first s q.id (e ∷ es) l
+
+pub front_answer : (s : QueueState) (id : ℕ) (o : Option ℕ) → MatchOption o (NobodyIn s id) (IsFront s id) → o ≡ front_of s id
+front_answer s id None nobody = sym (no_front s id nobody)
+front_answer s id (Some t) f = sym (front_is s id t f)
+
+pub front_first : (s : QueueState) (id : ℕ) (o : Option ℕ) → MatchOption o (NobodyIn s id) (IsFront s id) → IfSome o (IsFront s id)
+front_first s id None nobody = tt
+front_first s id (Some t) f = f
+
+pub front_none : (s : QueueState) (id : ℕ) (o : Option ℕ) → MatchOption o (NobodyIn s id) (IsFront s id) → IfNone o (NobodyIn s id)
+front_none s id None nobody = nobody
+front_none s id (Some t) f = tt
+
+-- ---- how many
+
+pub form_len : (s : QueueState) (links : List Link) (q : Queue) → IsOfOneSort s.places links q → len_in q ≡ len_of s q.id
+form_len s links q (by_links h empty) = go q.ends.first q.line.entries empty h.first
+  where
+    go : (o : Option ℕ) (es : List Entry) → es ≡ [] → MatchOption o (NobodyIsIn s.places q.id) (IsFirst s.places q.id) → (if is_some o then q.ends.count else length es) ≡ len_of s q.id
+    go None es e nobody = rw e (sym (nobody_counts s q.id nobody))
+    go (Some f) es e k = h.count
+form_len s links q (by_row h sort none) = rw none h.count
+
+-- ---- whether a task would mix sorts
+
+sorted_out : (s : QueueState) (id : ℕ) (rank : Rank) → ((t : ℕ) (p : Place) → Waits s id t p → same_sort p.rank rank ≡ true) → list_any (clashes id rank) s.places ≡ false
+sorted_out s id rank fits = list_any_none (clashes id rank) s.places (λ k d lt. go k (get_or s.places k d) (get_or_default s.places k None d lt))
+  where
+    go : (k : ℕ) (o : Option Place) → place_at s.places k ≡ o → clashes id rank o ≡ false
+    go k None e = refl
+    go k (Some q) e = false_from_ne_true _ (λ c.
+        let parts = and_parts (q.queue == id) (not (same_sort q.rank rank)) c in
+        both_ways (same_sort q.rank rank) (not-true (same_sort q.rank rank) parts.1) (fits k q (e, eqb-true q.queue id parts.0)))
+
+clash_at : (s : QueueState) (id t : ℕ) (p : Place) (rank : Rank) → Waits s id t p → same_sort p.rank rank ≡ false → list_any (clashes id rank) s.places ≡ true
+clash_at s id t p rank w unlike =
+    let clash : clashes id rank (place_at s.places t) ≡ true = rw (w.0, eq-eqb p.queue id w.1, unlike) refl in
+    list_any_at (clashes id rank) s.places t None (waits_below s.places t p w.0) clash
+
+row_mixes : (s : QueueState) (id : ℕ) (rank : Rank) (es : List Entry) → IsByVtime s.places id → Lists s.places id es → mixes rank (record { id = id; ends = no_ends; line = record { room = 0; entries = es } }) ≡ first_clashes rank es
+row_mixes s id Fifo [] sort h = refl
+row_mixes s id Fifo (e ∷ es) sort h = let there = h.there 0 e (omega arith) in rw (sort e.task e.place there) refl
+row_mixes s id (Vtime k) [] sort h = refl
+row_mixes s id (Vtime k) (e ∷ es) sort h = let there = h.there 0 e (omega arith) in go e.place.rank (sort e.task e.place there)
+  where
+    go : (r : Rank) → same_sort r Fifo ≡ false → false ≡ not (same_sort r (Vtime k))
+    go Fifo unlike = absurd (cc)
+    go (Vtime l) unlike = refl
+
+pub form_clash : (s : QueueState) (rank : Rank) (links : List Link) (q : Queue) → HasOneSort s → IsOfOneSort s.places links q → mixes rank q ≡ list_any (clashes q.id rank) s.places
+form_clash s Fifo links q sorts (by_links h empty) = rw empty (sym (sorted_out s q.id Fifo (λ t p w. rw (h.sort t p w) refl)))
+form_clash s (Vtime k) links q sorts (by_links h empty) = go q.ends.first h.first
+  where
+    go : (o : Option ℕ) → MatchOption o (NobodyIsIn s.places q.id) (IsFirst s.places q.id) → is_some o ≡ list_any (clashes q.id (Vtime k)) s.places
+    go None nobody = sym (nobody_clashes s q.id (Vtime k) nobody)
+    go (Some f) first = sym (clash_at s q.id f first.place (Vtime k) first.waits (rw (h.sort f first.place first.waits) refl))
+form_clash s rank links q sorts (by_row h sort none) = go rank ∙ row_clashes s q.id rank q.line.entries sorts h
+  where
+    go : (rank : Rank) → mixes rank q ≡ first_clashes rank q.line.entries
+    go Fifo = row_mixes s q.id Fifo q.line.entries sort h
+    go (Vtime k) = rw none (row_mixes s q.id (Vtime k) q.line.entries sort h)

@@ -1,0 +1,116 @@
+-- What stands at each task's link after a change of links.
+use Rattle.std.proofs.Common.{◌≡◌, ◌≢◌, ℕ, ◌<◌, List, length, set, Option, Some, None, MatchOption, refl, sym, ap, subst, ◌∙◌, ◌⊎◌, inl, inr}
+use Rattle.std.proofs.lemmas.Bool.{cases_eq}
+use Rattle.std.proofs.lemmas.List.{get_or-set_same, get_or-set_other, length-set}
+use Rattle.scx_dsq.specs.declared.links.Link.{Link}
+use Rattle.scx_dsq.specs.declared.links.Ends.{Ends}
+use Rattle.scx_dsq.specs.Links.{no_link, link_at, with_ahead, with_behind, links_appended, links_unlinked}
+
+abbrev pub IsWithin : ℕ → Option ℕ → Type 0
+IsWithin n o = MatchOption o (Unit {0}) (λ t. t < n)
+
+pub length-with_ahead : (links : List Link) (o x : Option ℕ) → length (with_ahead links o x) ≡ length links
+length-with_ahead links None x = refl
+length-with_ahead links (Some t) x = length-set links t (record { ahead = x; behind = (link_at links t).behind })
+
+pub length-with_behind : (links : List Link) (o x : Option ℕ) → length (with_behind links o x) ≡ length links
+length-with_behind links None x = refl
+length-with_behind links (Some t) x = length-set links t (record { ahead = (link_at links t).ahead; behind = x })
+
+-- ---- one change
+
+ahead_here : (links : List Link) (t : ℕ) (x : Option ℕ) → t < length links → (link_at (with_ahead links (Some t) x) t).ahead ≡ x
+ahead_here links t x within = ap (λ (l : Link). l.ahead) (get_or-set_same links t (record { ahead = x; behind = (link_at links t).behind }) no_link within)
+
+behind_here : (links : List Link) (t : ℕ) (x : Option ℕ) → t < length links → (link_at (with_behind links (Some t) x) t).behind ≡ x
+behind_here links t x within = ap (λ (l : Link). l.behind) (get_or-set_same links t (record { ahead = (link_at links t).ahead; behind = x }) no_link within)
+
+some_other : (t u : ℕ) → Some t ≢ Some u → u ≢ t
+some_other t u n e = n (ap Some (sym e))
+
+ahead_kept : (links : List Link) (o x : Option ℕ) (u : ℕ) → o ≢ Some u → link_at (with_ahead links o x) u ≡ link_at links u
+ahead_kept links None x u n = refl
+ahead_kept links (Some t) x u n = get_or-set_other links t u (record { ahead = x; behind = (link_at links t).behind }) no_link (some_other t u n)
+
+behind_kept : (links : List Link) (o x : Option ℕ) (u : ℕ) → o ≢ Some u → link_at (with_behind links o x) u ≡ link_at links u
+behind_kept links None x u n = refl
+behind_kept links (Some t) x u n = get_or-set_other links t u (record { ahead = (link_at links t).ahead; behind = x }) no_link (some_other t u n)
+
+-- the other half of a link stays
+behind_stays : (links : List Link) (o x : Option ℕ) (u : ℕ) → IsWithin (length links) o → (link_at (with_ahead links o x) u).behind ≡ (link_at links u).behind
+behind_stays links None x u within = refl
+behind_stays links (Some t) x u within = go (cases_eq u t)
+  where
+    go : (u ≡ t) ⊎ (u ≡ t → ⊥) → (link_at (with_ahead links (Some t) x) u).behind ≡ (link_at links u).behind
+    go (inl e) = rw e (ap (λ (l : Link). l.behind) (get_or-set_same links t (record { ahead = x; behind = (link_at links t).behind }) no_link within))
+    go (inr n) = ap (λ (l : Link). l.behind) (get_or-set_other links t u (record { ahead = x; behind = (link_at links t).behind }) no_link n)
+
+ahead_stays : (links : List Link) (o x : Option ℕ) (u : ℕ) → IsWithin (length links) o → (link_at (with_behind links o x) u).ahead ≡ (link_at links u).ahead
+ahead_stays links None x u within = refl
+ahead_stays links (Some t) x u within = go (cases_eq u t)
+  where
+    go : (u ≡ t) ⊎ (u ≡ t → ⊥) → (link_at (with_behind links (Some t) x) u).ahead ≡ (link_at links u).ahead
+    go (inl e) = rw e (ap (λ (l : Link). l.ahead) (get_or-set_same links t (record { ahead = (link_at links t).ahead; behind = x }) no_link within))
+    go (inr n) = ap (λ (l : Link). l.ahead) (get_or-set_other links t u (record { ahead = (link_at links t).ahead; behind = x }) no_link n)
+
+-- ---- a task put at the end
+
+module _ (links : List Link) (ends : Ends) (t : ℕ) (within : t < length links) (last : IsWithin (length links) ends.last) where
+  abbrev new : Link
+  new = record { ahead = ends.last; behind = None }
+
+  long : length (set links t new) ≡ length links
+  long = length-set links t new
+
+  still : IsWithin (length (set links t new)) ends.last
+  still = subst (λ n. IsWithin n ends.last) (sym long) last
+
+  pub appended_others : (u : ℕ) → u ≢ t → ends.last ≢ Some u → link_at (links_appended links ends t) u ≡ link_at links u
+  appended_others u n m = behind_kept (set links t new) ends.last (Some t) u m ∙ get_or-set_other links t u new no_link n
+
+  pub appended_ahead : (link_at (links_appended links ends t) t).ahead ≡ ends.last
+  appended_ahead = ahead_stays (set links t new) ends.last (Some t) t still ∙ ap (λ (l : Link). l.ahead) (get_or-set_same links t new no_link within)
+
+  pub appended_behind : ends.last ≢ Some t → (link_at (links_appended links ends t) t).behind ≡ None
+  appended_behind n = ap (λ (l : Link). l.behind) (behind_kept (set links t new) ends.last (Some t) t n ∙ get_or-set_same links t new no_link within)
+
+  pub appended_ahead-other : (u : ℕ) → u ≢ t → (link_at (links_appended links ends t) u).ahead ≡ (link_at links u).ahead
+  appended_ahead-other u n = ahead_stays (set links t new) ends.last (Some t) u still ∙ ap (λ (l : Link). l.ahead) (get_or-set_other links t u new no_link n)
+
+  pub appended_behind-last : (u : ℕ) → ends.last ≡ Some u → (link_at (links_appended links ends t) u).behind ≡ Some t
+  appended_behind-last u e =
+      subst (λ o. (link_at (with_behind (set links t new) o (Some t)) u).behind ≡ Some t) (sym e)
+      (behind_here (set links t new) u (Some t) (subst (IsWithin (length (set links t new))) e still))
+
+-- ---- a task taken out
+
+module _ (links : List Link) (t : ℕ) (ahead : IsWithin (length links) (link_at links t).ahead) (behind : IsWithin (length links) (link_at links t).behind) where
+  abbrev a : Option ℕ
+  a = (link_at links t).ahead
+
+  abbrev b : Option ℕ
+  b = (link_at links t).behind
+
+  abbrev middle : List Link
+  middle = with_ahead links b a
+
+  ahead_still : IsWithin (length middle) a
+  ahead_still = subst (λ n. IsWithin n a) (sym (length-with_ahead links b a)) ahead
+
+  pub unlinked_others : (u : ℕ) → a ≢ Some u → b ≢ Some u → link_at (links_unlinked links t) u ≡ link_at links u
+  unlinked_others u n m = behind_kept middle a b u n ∙ ahead_kept links b a u m
+
+  pub unlinked_ahead : (u : ℕ) → b ≡ Some u → (link_at (links_unlinked links t) u).ahead ≡ a
+  unlinked_ahead u e =
+      ahead_stays middle a b u ahead_still
+      ∙ subst (λ o. (link_at (with_ahead links o a) u).ahead ≡ a) (sym e) (ahead_here links u a (subst (IsWithin (length links)) e behind))
+
+  pub unlinked_behind : (u : ℕ) → a ≡ Some u → (link_at (links_unlinked links t) u).behind ≡ b
+  unlinked_behind u e =
+      subst (λ o. (link_at (with_behind middle o b) u).behind ≡ b) (sym e) (behind_here middle u b (subst (IsWithin (length middle)) e ahead_still))
+
+  pub unlinked_ahead-other : (u : ℕ) → b ≢ Some u → (link_at (links_unlinked links t) u).ahead ≡ (link_at links u).ahead
+  unlinked_ahead-other u m = ahead_stays middle a b u ahead_still ∙ ap (λ (l : Link). l.ahead) (ahead_kept links b a u m)
+
+  pub unlinked_behind-other : (u : ℕ) → a ≢ Some u → (link_at (links_unlinked links t) u).behind ≡ (link_at links u).behind
+  unlinked_behind-other u n = ap (λ (l : Link). l.behind) (behind_kept middle a b u n) ∙ behind_stays links b a u behind

@@ -1,0 +1,94 @@
+-- FIFO queues as lists threaded through one array, which has at a task's number whom the task waits right
+-- behind, and who waits right behind it. No public clause cites it.
+use Rattle.std.specs.Prelude.{◌≡◌, ℕ, ◌+◌, ◌-◌, ◌<◌, ◌≤◌, ◌⊎◌, List, slice_index_or, slice_set, Option, Some, None, MatchOption, count_by}
+use Rattle.scx_dsq.specs.declared.places.Rank.TheVariants.{Fifo}
+use Rattle.scx_dsq.specs.declared.places.Place.{Place}
+use Rattle.scx_dsq.specs.declared.links.Link.{Link}
+use Rattle.scx_dsq.specs.declared.links.Ends.{Ends}
+use Rattle.scx_dsq.specs.Queues.{Places, place_at, is_in}
+
+abbrev pub no_link : Link
+no_link = record { ahead = None; behind = None }
+
+abbrev pub no_ends : Ends
+no_ends = record { first = None; last = None; count = 0 }
+
+abbrev pub link_at : List Link → ℕ → Link
+link_at links t = slice_index_or links t no_link
+
+-- ---- changes
+
+-- the links with another task ahead of one, if there is one
+abbrev pub with_ahead : List Link → Option ℕ → Option ℕ → List Link
+with_ahead links None ahead = links
+with_ahead links (Some t) ahead = slice_set links t (record { ahead = ahead; behind = (link_at links t).behind })
+
+-- the same of the task behind it
+abbrev pub with_behind : List Link → Option ℕ → Option ℕ → List Link
+with_behind links None behind = links
+with_behind links (Some t) behind = slice_set links t (record { ahead = (link_at links t).ahead; behind = behind })
+
+abbrev pub or_else : Option ℕ → Option ℕ → Option ℕ
+or_else None other = other
+or_else (Some t) other = Some t
+
+-- one of two, by whether there is a task
+abbrev pub instead : Option ℕ → Option ℕ → Option ℕ → Option ℕ
+instead None if_not if_so = if_not
+instead (Some t) if_not if_so = if_so
+
+-- a task put at the end
+abbrev pub links_appended : List Link → Ends → ℕ → List Link
+links_appended links ends t = with_behind (slice_set links t (record { ahead = ends.last; behind = None })) ends.last (Some t)
+
+abbrev pub ends_appended : Ends → ℕ → Ends
+ends_appended ends t = record { first = or_else ends.first (Some t); last = Some t; count = ends.count + 1 }
+
+-- a task taken out: those beside it are linked to each other
+abbrev pub links_unlinked : List Link → ℕ → List Link
+links_unlinked links t =
+    with_behind (with_ahead links (link_at links t).behind (link_at links t).ahead) (link_at links t).ahead (link_at links t).behind
+
+abbrev pub ends_unlinked : List Link → Ends → ℕ → Ends
+ends_unlinked links ends t = record {
+  first = instead (link_at links t).ahead (link_at links t).behind ends.first;
+  last = instead (link_at links t).behind (link_at links t).ahead ends.last;
+  count = ends.count - 1;
+}
+
+-- ---- what the links mean
+
+-- the task waits in the queue, at the place
+abbrev pub In : Places → ℕ → ℕ → Place → Type 0
+In places id t p = (place_at places t ≡ Some p) × (p.queue ≡ id)
+
+abbrev pub NobodyIsIn : Places → ℕ → Type 0
+NobodyIsIn places id = (t : ℕ) (p : Place) → In places id t p → ⊥
+
+pub record IsFirst (places : Places) (id t : ℕ) : Type 0 where
+  pub place : Place
+  pub waits : In places id t place
+  pub first : (u : ℕ) (q : Place) → In places id u q → place.stamp ≤ q.stamp
+
+pub record IsLast (places : Places) (id t : ℕ) : Type 0 where
+  pub place : Place
+  pub waits : In places id t place
+  pub last : (u : ℕ) (q : Place) → In places id u q → q.stamp ≤ place.stamp
+
+-- the second task waits right behind the first
+pub record IsNext (places : Places) (id t u : ℕ) : Type 0 where
+  pub place : Place
+  pub place_behind : Place
+  pub waits : In places id t place
+  pub waits_behind : In places id u place_behind
+  pub before : place.stamp < place_behind.stamp
+  pub none_between : (v : ℕ) (q : Place) → In places id v q → (q.stamp ≤ place.stamp) ⊎ (place_behind.stamp ≤ q.stamp)
+
+-- links and ends of a queue lead through the tasks that wait there, all of them in FIFO order
+pub record IsThreaded (places : Places) (links : List Link) (id : ℕ) (ends : Ends) : Type 0 where
+  pub first : MatchOption ends.first (NobodyIsIn places id) (IsFirst places id)
+  pub last : MatchOption ends.last (NobodyIsIn places id) (IsLast places id)
+  pub ahead : (t : ℕ) (p : Place) → In places id t p → MatchOption (link_at links t).ahead (IsFirst places id t) (λ u. IsNext places id u t)
+  pub behind : (t : ℕ) (p : Place) → In places id t p → MatchOption (link_at links t).behind (IsLast places id t) (IsNext places id t)
+  pub count : ends.count ≡ count_by (is_in id) places
+  pub sort : (t : ℕ) (p : Place) → In places id t p → p.rank ≡ Fifo
