@@ -8,7 +8,7 @@ use std::marker::Model;
 use thiserror::Error;
 
 /// The programs of a policy. Each may be absent.
-#[derive(Debug, Drop)]
+#[derive(Drop)]
 pub struct Callbacks {
     pub init: Option<Verified>,
     pub enable: Option<Verified>,
@@ -31,7 +31,7 @@ pub enum BadPolicy {
 
 /// A scheduling policy: its programs, each verified for its place and for maps of these shapes, and how
 /// long a task may wait.
-#[derive(Debug, Drop)]
+#[derive(Drop)]
 pub struct Policy {
     defs: MapDefs,
     timeout_ms: u32,
