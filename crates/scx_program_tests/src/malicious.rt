@@ -139,3 +139,11 @@ fn joins_a_pointer_and_a_number(rt: HostRuntime) -> Result<(), Fail> {
     let unread = "r6 = r10\nif r2 == 0 goto j\nr6 = 0\nj:\nr0 = 0\nexit";
     expect(&rt, enqueue, unread, "ok 5")
 }
+
+/// A program that no run of gets stuck, and that is refused, since both sides of a comparison are
+/// followed.
+#[test]
+fn refuses_a_safe_program(rt: HostRuntime) -> Result<(), Fail> {
+    let skips = "r1 = 1\nif r1 != 1 goto +1\n*(u64 *)(r10 - 8) = 5\nr0 = *(u64 *)(r10 - 8)\nexit";
+    expect(&rt, Callback::Plain, skips, "verify 7 UnwrittenStack at 3")
+}
