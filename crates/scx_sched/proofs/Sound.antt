@@ -87,14 +87,14 @@ module _ (hand : Option ℕ) (on : List (Option ℕ)) (n : ℕ) where
 
 -- from one queue to another
 left_place : (s : QueueState) (q t : ℕ) → front_of s q ≡ Some t → place_of (popped s q) t ≡ None
-left_place s q t e = rw e (get_or-set_same {A = Option Place} s.places t None None (front_is_known s q t e))
+left_place s q t e = rw e (get_or-set_same {A = Option Place} s.places t None None (front_is_known s q (Some t) (sym e)))
 
 sound_brought : (hand : Option ℕ) (on : List (Option ℕ)) (n : ℕ) (w : WorldState) (o : Option ℕ) (q r : ℕ) → front_of w.queues q ≡ o → exists w.queues r ≡ true → same_sort Fifo (sort_of r) ≡ true
     → IsSound hand on n w → (t : ℕ) → o ≡ Some t → IsSound hand on n (with_queues w (pushed (popped w.queues q) r t Fifo))
 sound_brought hand on n w o q r front there fits h t e =
     let s = w.queues in
     let is : front_of s q ≡ Some t = front ∙ e in
-    let known : t < task_count s = front_is_known s q t is in
+    let known : t < task_count s = front_is_known s q (Some t) (sym is) in
     let ok : push_refusal (popped s q) r t Fifo ≡ None = is_accepted (popped s q) t r Fifo (left_place s q t is) (stay_without s (front_of s q) r there) fits (sorted_popped s q h.sorted) in
     let known' : t < task_count (popped s q) = rw (tasks_without s (front_of s q)) known in
     sound_queues hand on n w (pushed (popped s q) r t Fifo) (λ x g. stay_pushed (popped s q) r t Fifo x (stay_without s (front_of s q) x g))
