@@ -13,3 +13,9 @@ mod Branches
 mod HelperCalls
 mod Starts
 pub mod Sound
+mod MonotoneRegisters
+mod MonotoneOperations
+mod MonotoneAccesses
+mod MonotoneBranches
+mod MonotoneCalls
+pub mod MonotoneRules

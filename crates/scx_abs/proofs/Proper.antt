@@ -67,7 +67,7 @@ join_proper joined a b whole p q cells = record {
 
 -- ---- registers and cells
 
-kind_proper : (a : AbsState) (r : ℕ) (k : Kind) → IsProper a → IsProper (with_kind a r k)
+pub kind_proper : (a : AbsState) (r : ℕ) (k : Kind) → IsProper a → IsProper (with_kind a r k)
 kind_proper a r k p = record {
   whole = record { registers = length-set a.registers r k ∙ p.whole.registers; cells = p.whole.cells };
   cells = p.cells;

@@ -1,6 +1,6 @@
 -- Abstract states: a kind for each register and a cell for each eight bytes of the stack. They are
 -- ordered register by register and cell by cell.
-use Rattle.std.specs.Prelude.{◌≡◌, ℕ, [], length, set, replicate, slice_index_or, All}
+use Rattle.std.specs.Prelude.{◌≡◌, ℕ, [], length, set, replicate, slice_index_or, Option, Some, None, All}
 use Rattle.scx_semantics.specs.declared.callbacks.Callback.{Callback}
 use Rattle.scx_semantics.specs.declared.callbacks.Callback.TheVariants as callback
 use Rattle.scx_semantics.specs.Memory.{stack_size}
@@ -31,11 +31,10 @@ pub record CoversState (b a : AbsState) : Type 0 where
   pub registers : (r : ℕ) → CoversKind (kind_at b r) (kind_at a r)
   pub cells : (c : ℕ) → CoversCell (cell_at b c) (cell_at a c)
 
--- it covers both, and whatever covers both covers it
-pub record IsLeastCover (joined first second : AbsState) : Type 0 where
-  pub covers_first : CoversState joined first
-  pub covers_second : CoversState joined second
-  pub least : (a : AbsState) → CoversState a first → CoversState a second → CoversState a joined
+-- there is a state, and it covers that one
+abbrev pub CoversSome : Option AbsState → AbsState → Type 0
+CoversSome None a = ⊥
+CoversSome (Some b) a = CoversState b a
 
 -- ---- proper states
 

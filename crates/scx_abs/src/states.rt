@@ -2,9 +2,9 @@ ghost use Rattle.std.specs.Prelude.{◌≡◌, ◌<◌, ℕ, slice_index_or, []}
 ghost use Rattle.scx_semantics.specs.Registers.{number};
 ghost use Rattle.scx_abs.specs.declared.kinds.Kind.TheVariants.{Unusable};
 ghost use Rattle.scx_abs.specs.declared.kinds.Cell.TheVariants.{Bytes};
-ghost use Rattle.scx_abs.specs.Kinds.{join_kind};
+ghost use Rattle.scx_abs.specs.Kinds.{IsLeastCover, join_kind};
 ghost use Rattle.scx_abs.specs.Cells.{join_cell};
-ghost use Rattle.scx_abs.specs.States.{IsLeastCover, IsProper, argument_kinds, start_of};
+ghost use Rattle.scx_abs.specs.States.{CoversState, IsProper, argument_kinds, start_of};
 
 use crate::kinds::{CELL_BYTES, Cell, Kind};
 use scx_isa::{Callback, Register};
@@ -99,7 +99,7 @@ pub fn start(callback: Callback) -> AbsState
 
 /// The least state that covers both: register by register and cell by cell.
 pub fn join(first: &AbsState, second: &AbsState) -> AbsState
-    ensures least { IsLeastCover result first.now second.now }
+    ensures least { IsLeastCover CoversState result first.now second.now }
     ensures proper { IsProper first.now → IsProper second.now → IsProper result }
 {
     AbsState {

@@ -90,7 +90,7 @@ first_refusals_agree c code v w s t r k = go (cases_lt s t) (cases_lt t s)
 no_fault : (o : Option FlowFault) (f : FlowFault) → o ≡ None → o ≡ Some f → ⊥
 no_fault o f e g = let bad : None ≡ Some f = sym e ∙ g in absurd (cc)
 
-flows_faultless : (code : Code) (f : FlowFault) (s : ℕ) → Flows code → IsFirstFlowFault code f s → ⊥
+pub flows_faultless : (code : Code) (f : FlowFault) (s : ℕ) → Flows code → IsFirstFlowFault code f s → ⊥
 flows_faultless code f s flows r = no_fault (flow_fault code s r.insn) f (flows s r.insn r.there) r.fails
 
 same_fault : (o : Option FlowFault) (f g : FlowFault) → o ≡ Some f → o ≡ Some g → f ≡ g

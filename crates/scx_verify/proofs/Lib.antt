@@ -3,6 +3,7 @@ pub mod Targets
 mod Visits
 pub mod Safe
 mod Agreement
+mod Justified
 pub mod Choices
 pub mod Positions
 mod Pushes

@@ -19,14 +19,14 @@ use Rattle.scx_maps.specs.declared.shape.Shape.{Shape}
 use Rattle.scx_maps.specs.Contents.{HasShapes}
 use Rattle.scx_abs.specs.declared.states.AbsState.{AbsState}
 use Rattle.scx_abs.specs.declared.rules.Next.{Next}
-use Rattle.scx_abs.specs.States.{start_of}
+use Rattle.scx_abs.specs.States.{CoversSome, start_of}
 use Rattle.scx_abs.specs.Arguments.{FitsCallback}
 use Rattle.scx_abs.specs.Stands.{IsMember}
 use Rattle.scx_abs.specs.Rules.{rule}
 use Rattle.scx_abs.specs.Laws.{Receives, FlowsIn}
 use Rattle.scx_abs.proofs.Orders.{covers_more}
 use Rattle.scx_abs.proofs.Sound.{rules_sound, start_sound}
-use Rattle.scx_verify.specs.Typing.{States, CoversSome, CoversAt, CoversNext, IsTyping, IsTyped}
+use Rattle.scx_verify.specs.Typing.{States, CoversAt, CoversNext, IsTyping, IsTyped}
 use Rattle.scx_verify.specs.Laws.{TypedIsSafe}
 
 -- the slot's abstract state stands for the state

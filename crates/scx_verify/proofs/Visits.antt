@@ -12,12 +12,12 @@ use Rattle.scx_isa.proofs.Counts.{at_within, size-positive}
 use Rattle.scx_abs.specs.declared.faults.Why.{Why}
 use Rattle.scx_abs.specs.declared.states.AbsState.{AbsState}
 use Rattle.scx_abs.specs.declared.rules.Next.{Next}
-use Rattle.scx_abs.specs.States.{CoversState, IsProper, start_of}
+use Rattle.scx_abs.specs.States.{CoversState, CoversSome, IsProper, start_of}
 use Rattle.scx_abs.specs.Rules.{rule}
 use Rattle.scx_abs.specs.Laws.{FlowsProper}
 use Rattle.scx_abs.proofs.Orders.{covers_itself}
 use Rattle.scx_abs.proofs.Proper.{start_proper, rule_proper}
-use Rattle.scx_verify.specs.Typing.{States, CoversSome, Passes, IsTyping}
+use Rattle.scx_verify.specs.Typing.{States, Passes, IsTyping}
 use Rattle.scx_verify.specs.Forward.{IsSent, FlowsTo, Arrives, IsLeast, PassesBefore, IsFirstRefusal}
 use Rattle.scx_verify.specs.Pass.{states_of, IsVisited, IsGiven}
 use Rattle.scx_verify.proofs.Least.{least_same, given_least, given_apart, given_long}
@@ -173,7 +173,7 @@ module _ (c : Context) (code : Code) (states other : States) (s : ℕ) (i : Insn
           inl (inl (inr (h.0, omega (arith, h.1, n), old)))
 
 -- what is kept for a slot is proper, and so is what flows on from there
-kept_proper : (o : Option AbsState) (a : AbsState) (P : AbsState → Type 0) → o ≡ Some a → IsLeast o P → IsProper a
+pub kept_proper : (o : Option AbsState) (a : AbsState) (P : AbsState → Type 0) → o ≡ Some a → IsLeast o P → IsProper a
 kept_proper None a P e h = absurd (cc)
 kept_proper (Some x) a P e h = subst IsProper (same_state x a e) h.proper
 

@@ -50,11 +50,15 @@ abbrev pub PassesBefore : Context → Code → States → ℕ → Type 0
 PassesBefore c code states n =
     (s : ℕ) (i : Insn) (a : AbsState) → s < n → at code s ≡ Some i → states s ≡ Some a → (next : Next) × (rule c.defs c.callback i a ≡ Ok next)
 
+-- these are the forward states up to that slot
+abbrev pub AreForward : Context → Code → States → ℕ → Type 0
+AreForward c code states slot = (t : ℕ) → t ≤ slot → IsLeast (states t) (Arrives c code states t t)
+
 -- The instruction at the slot is the first whose forward state fails a check, and the first check that
 -- it fails gives that refusal.
 pub record IsFirstRefusal (c : Context) (code : Code) (why : Why) (slot : ℕ) : Type 0 where
   pub states : States
-  pub forward : (t : ℕ) → t ≤ slot → IsLeast (states t) (Arrives c code states t t)
+  pub forward : AreForward c code states slot
   pub earlier : PassesBefore c code states slot
   pub insn : Insn
   pub state : AbsState

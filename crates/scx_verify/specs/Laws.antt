@@ -1,11 +1,10 @@
 -- The laws of typings and of refusals, which are the contracts of public functions without bodies of
 -- their own.
-use Rattle.std.specs.Prelude.{◌≡◌, ◌≢◌, ℕ, List, Ok}
+use Rattle.std.specs.Prelude.{◌≡◌, ◌≢◌, ◌≤◌, ℕ, List, Some, Ok}
 use Rattle.scx_semantics.specs.declared.callbacks.Callback.{Callback}
 use Rattle.scx_semantics.specs.declared.instructions.Insn.{Insn}
 use Rattle.scx_semantics.specs.Machine.{Machine}
 use Rattle.scx_maps.specs.declared.shape.Shape.{Shape}
-use Rattle.scx_abs.specs.declared.states.AbsState.{AbsState}
 use Rattle.scx_abs.specs.declared.rules.Next.{Next}
 use Rattle.scx_abs.specs.Stands.{IsMember}
 use Rattle.scx_abs.specs.Rules.{rule}
@@ -17,8 +16,10 @@ use Rattle.scx_isa.specs.Spelling.{IsProgram}
 use Rattle.scx_abs.specs.declared.faults.Why.{Why}
 use Rattle.scx_verify.specs.declared.faults.Fault.{Fault}
 use Rattle.scx_verify.specs.declared.faults.Fault.TheVariants.{NoMemory}
-use Rattle.scx_verify.specs.Typing.{IsTyped}
-use Rattle.scx_verify.specs.Forward.{IsFirstRefusal}
+use Rattle.scx_abs.specs.declared.states.AbsState.{AbsState}
+use Rattle.scx_abs.specs.States.{CoversSome}
+use Rattle.scx_verify.specs.Typing.{States, IsTyping, IsTyped}
+use Rattle.scx_verify.specs.Forward.{AreForward, IsFirstRefusal}
 use Rattle.scx_verify.specs.Safe.{IsSafe}
 use Rattle.scx_verify.specs.Faults.{IsReason}
 
@@ -37,6 +38,19 @@ abbrev pub RefusalsAgree : Type 0
 RefusalsAgree =
     (c : Context) (code : Code) (f g : Fault) (s t : ℕ)
     → f ≢ NoMemory → g ≢ NoMemory → IsReason c code f s → IsReason c code g t → (f ≡ g) × (s ≡ t)
+
+-- Every typing covers the forward states.
+abbrev pub TypingsCoverForward : Type 0
+TypingsCoverForward =
+    (c : Context) (code : Code) (states typed : States) (slot : ℕ)
+    → AreForward c code states slot → IsTyping c code typed
+    → (t : ℕ) (a : AbsState) → t ≤ slot → states t ≡ Some a → CoversSome (typed t) a
+
+-- A program that is refused has no typing, unless memory ran out.
+abbrev pub RefusalsAreJustified : Type 0
+RefusalsAreJustified =
+    (c : Context) (code : Code) (f : Fault) (s : ℕ)
+    → f ≢ NoMemory → IsReason c code f s → IsTyped c code → ⊥
 
 -- Where the checks of an instruction pass, its operation is the one that every state calls for that the
 -- abstract state stands for.

@@ -1,4 +1,5 @@
 ghost use Rattle.scx_verify.specs.Laws.{TypedIsSafe, FirstRefusalsAgree, RefusalsAgree};
+ghost use Rattle.scx_verify.specs.Laws.{TypingsCoverForward, RefusalsAreJustified};
 ghost use Rattle.scx_verify.specs.Laws.{TypingChooses};
 
 /// Every program with a typing is safe: no run of it is ever stuck, none takes more steps than it has
@@ -12,6 +13,14 @@ pub fn typed_is_safe()
 pub fn refusals_agree()
     ensures first { FirstRefusalsAgree }
     ensures all { RefusalsAgree }
+{}
+
+/// A program that is refused has no typing, unless memory ran out: every typing covers the forward
+/// states, and what passes in a state passes in each that it covers. The function does nothing: its
+/// contract is the law.
+pub fn refusals_are_justified()
+    ensures forward { TypingsCoverForward }
+    ensures justified { RefusalsAreJustified }
 {}
 
 /// The operation that a typing gives an instruction is the one that each of its states calls for. The

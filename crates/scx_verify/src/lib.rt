@@ -12,5 +12,5 @@ mod programs;
 mod translate;
 
 pub use faults::{Fault, VerifyError};
-pub use laws::{refusals_agree, typed_is_safe, typing_chooses};
+pub use laws::{refusals_agree, refusals_are_justified, typed_is_safe, typing_chooses};
 pub use programs::{Verified, verify};

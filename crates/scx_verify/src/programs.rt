@@ -4,7 +4,7 @@ ghost use Rattle.scx_verify.specs.Typing.{IsTyped, context};
 ghost use Rattle.scx_verify.specs.Safe.{IsSafe};
 ghost use Rattle.scx_maps.specs.Limits.{AreWithinLimits};
 ghost use Rattle.scx_verify.specs.Operations.{IsReady};
-ghost use Rattle.scx_verify.specs.Faults.{IsRefusal};
+ghost use Rattle.scx_verify.specs.Faults.{IsRefusal, IsJustified};
 
 use crate::faults::VerifyError;
 use crate::pass::pass;
@@ -101,6 +101,8 @@ pub fn verify(
     ensures safe { OnOk result (IsSafe (context callback defs.now) program) }
     // What is refused has that fault first, at that slot.
     ensures refused { IfErr result (IsRefusal (context callback defs.now) program) }
+    // And it has no typing, unless memory ran out.
+    ensures justified { IfErr result (IsJustified (context callback defs.now) program) }
 {
     let context = Context {
         callback,

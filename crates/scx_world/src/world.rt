@@ -46,7 +46,8 @@ impl World {
     /// Nobody runs, and nobody waits. All memory is taken here.
     pub fn new(alloc: Global, tree: Tree, cpus: usize) -> Result<World, AllocError>
         requires { cpus ≤ 64 }
-        ensures { IfOk result (λ world. world ≡ first_world tree cpus) }
+        ensures world { IfOk result (λ world. world ≡ first_world tree cpus) }
+        ensures few { IfOk result (λ world. world.queues.pushes ≡ 0) }
     {
         let count = tree.tasks() as usize;
         Ok(World {
@@ -277,6 +278,7 @@ fn own_queues(alloc: Global, cpus: usize, tasks: usize) -> Result<Queues, AllocE
     requires { cpus ≤ 64 }
     ensures queues { IfOk result (λ queues. queues ≡ first_queues cpus tasks) }
     ensures tasks { IfOk result (λ queues. task_count queues ≡ tasks) }
+    ensures few { IfOk result (λ queues. queues.pushes ≡ 0) }
 {
     let mut queues = Queues::new(alloc, 19 + cpus, tasks)?;
     let _global = queues.create(GLOBAL);
@@ -291,6 +293,7 @@ fn add_locals(queues: &mut Queues, cpus: usize)
     requires { cpus ≤ 64 }
     ensures queues { queues.new ≡ with_locals cpus queues.old }
     ensures tasks { task_count queues.new ≡ task_count queues.old }
+    ensures few { queues.new.pushes ≡ queues.old.pushes }
 {
     for cpu in 0..cpus {
         let _made = queues.create(LOCAL_ON + cpu as u64);

@@ -1,5 +1,7 @@
+use Rattle.std.proofs.Common.{rules}
 use Rattle.scx_verify.specs.Pass.{states_of}
 use Rattle.scx_verify.proofs.Safe.{typed_by, typed_safe}
+use Rattle.scx_verify.proofs.Justified.{refusal_justified}
 use Rattle.scx_verify.proofs.programs.verify.Goals as goal
 
 pub invariant_of-result : goal.invariant_of-result
@@ -11,3 +13,6 @@ invariant_of-result c =
 pub returns-clause-safe : goal.returns-clause-safe
 returns-clause-safe c =
     typed_safe _ _ c.in_ok-states.ensures.program (typed_by _ _ (states_of c.in_ok-states.states.items) c.in_ok-flow.ensures.accepted c.in_ok-states.ensures.typing)
+
+pub returns-in_err-states-clause-justified : goal.returns-in_err-states-clause-justified
+returns-in_err-states-clause-justified c = search (rules, refusal_justified)
