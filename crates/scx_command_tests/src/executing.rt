@@ -4,6 +4,7 @@ use crate::memory::Memory;
 use scx_commands::{Counted, FILE_LIMIT, Fault, Out, Refusal, exec, finish, write_unread};
 use scx_examples::{EXIT, bytes_of};
 use scx_isa::{DecodeFault, Exclusion, FlowFault};
+use scx_verify as verifier;
 use std::alloc::{AllocError, Global};
 use std::process::Abort;
 use std::test::Fail;
@@ -156,12 +157,72 @@ fn uses_the_stack(rt: HostRuntime) -> Result<(), Fail> {
 }
 
 #[test]
-fn gets_stuck(rt: HostRuntime) -> Result<(), Fail> {
-    expect_slots(&rt, &[EXIT], "stuck at 0\n", 1)?;
-    expect_slots(&rt, &[0x0500_0000_0000_0000, EXIT], "stuck at 1\n", 1)?;
-    // A load of what wasn't written, and one below the stack.
-    expect_slots(&rt, &[0x79a0_f8ff_0000_0000, EXIT], "stuck at 0\n", 1)?;
-    expect_slots(&rt, &[0x79a0_f8fd_0000_0000, EXIT], "stuck at 0\n", 1)?;
+fn refuses_unsafe_programs(rt: HostRuntime) -> Result<(), Fail> {
+    // No answer in r0.
+    expect_slots(&rt, &[EXIT], "refused: verify 18 BadReturn at 0\n", 1)?;
+    expect_slots(
+        &rt,
+        &[0x0500_0000_0000_0000, EXIT],
+        "refused: verify 18 BadReturn at 1\n",
+        1,
+    )?;
+    // A read of an unset register, and a write to r10.
+    expect_slots(
+        &rt,
+        &[0xbf50_0000_0000_0000, EXIT],
+        "refused: verify 5 UnusableRegister at 0\n",
+        1,
+    )?;
+    expect_slots(
+        &rt,
+        &[0xb70a_0000_0000_0000, EXIT],
+        "refused: verify 6 WritesFrame at 0\n",
+        1,
+    )?;
+    // r10, multiplied, and compared with 1.
+    expect_slots(
+        &rt,
+        &[0xbfa1_0000_0000_0000, 0x2701_0000_0200_0000, EXIT],
+        "refused: verify 11 PointerArithmetic at 1\n",
+        1,
+    )?;
+    expect_slots(
+        &rt,
+        &[0x150a_0000_0100_0000, EXIT],
+        "refused: verify 12 PointerCompare at 0\n",
+        1,
+    )?;
+    Ok(())
+}
+
+#[test]
+fn refuses_unsafe_memory(rt: HostRuntime) -> Result<(), Fail> {
+    // A load of what wasn't written, one below the stack, and one out of line.
+    expect_slots(
+        &rt,
+        &[0x79a0_f8ff_0000_0000, EXIT],
+        "refused: verify 7 UnwrittenStack at 0\n",
+        1,
+    )?;
+    expect_slots(
+        &rt,
+        &[0x79a0_f8fd_0000_0000, EXIT],
+        "refused: verify 8 OutOfBounds at 0\n",
+        1,
+    )?;
+    expect_slots(
+        &rt,
+        &[0x7a0a_f4ff_0500_0000, EXIT],
+        "refused: verify 9 Misaligned at 0\n",
+        1,
+    )?;
+    // Half of r10, stored.
+    expect_slots(
+        &rt,
+        &[0x63aa_fcff_0000_0000, EXIT],
+        "refused: verify 13 PointerStore at 0\n",
+        1,
+    )?;
     // A load of what was written on another way only.
     expect_slots(
         &rt,
@@ -172,7 +233,7 @@ fn gets_stuck(rt: HostRuntime) -> Result<(), Fail> {
             0x79a0_f8ff_0000_0000,
             EXIT,
         ],
-        "stuck at 3\n",
+        "refused: verify 7 UnwrittenStack at 3\n",
         1,
     )?;
     // A load of a pointer half written over.
@@ -184,17 +245,49 @@ fn gets_stuck(rt: HostRuntime) -> Result<(), Fail> {
             0x79a0_f8ff_0000_0000,
             EXIT,
         ],
-        "stuck at 2\n",
+        "refused: verify 7 UnwrittenStack at 2\n",
         1,
     )?;
     Ok(())
 }
 
-/// What has no map and no helper: a load of a reference to map 0, and a call of helper 5.
+/// What has no map and no helper: a load of a reference to map 0, and calls of helpers 5 and 2.
 #[test]
 fn has_no_maps_and_helpers(rt: HostRuntime) -> Result<(), Fail> {
-    expect_slots(&rt, &[0x1850_0000_0000_0000, 0, EXIT], "stuck at 0\n", 1)?;
-    expect_slots(&rt, &[0x8500_0000_0500_0000, EXIT], "stuck at 0\n", 1)
+    expect_slots(
+        &rt,
+        &[0x1850_0000_0000_0000, 0, EXIT],
+        "refused: verify 19 UnknownMap at 0\n",
+        1,
+    )?;
+    expect_slots(
+        &rt,
+        &[0x8500_0000_0500_0000, EXIT],
+        "refused: verify 16 HelperNotHere at 0\n",
+        1,
+    )?;
+    expect_slots(
+        &rt,
+        &[0x8500_0000_0200_0000, EXIT],
+        "refused: verify 15 UnknownHelper at 0\n",
+        1,
+    )
+}
+
+/// What nothing leads to is not looked at.
+#[test]
+fn passes_over_what_is_not_reached(rt: HostRuntime) -> Result<(), Fail> {
+    expect_slots(
+        &rt,
+        &[
+            0x0500_0100_0000_0000,
+            0xbf50_0000_0000_0000,
+            0xb700_0000_0000_0000,
+            EXIT,
+        ],
+        "r0 = 0 in 3 steps\n",
+        0,
+    )
 }
 
 #[test]
@@ -334,12 +427,11 @@ fn finishes(rt: HostRuntime) {
         slot: 4095,
     };
     let verify = Refusal::Verify {
-        fault: FlowFault::IntoWide,
+        fault: verifier::Fault::Flow(FlowFault::IntoWide),
         slot: 0,
     };
     let ends = [
-        (Ok(true), "", 0),
-        (Ok(false), "", 1),
+        (Ok(()), "", 0),
         (Err(Fault::WriteFailed), "", 3),
         (
             Err(Fault::Refused(Refusal::TooLarge)),

@@ -1,4 +1,4 @@
-ghost use Rattle.std.specs.Prelude.{◌≡◌, ℕ, ◌<◌, length, true, false, Ok, Err, IfOk, IfErr, OnOk};
+ghost use Rattle.std.specs.Prelude.{◌≡◌, ℕ, ◌<◌, length, Err, IfOk, IfErr, OnOk};
 ghost use Rattle.std.specs.Io.KnownBytes.{Appends};
 ghost use Rattle.scx_vm.specs.declared.run.Done.{Done};
 ghost use Rattle.scx_commands.specs.Output.{HasFailed, AppendsBeginning};
@@ -8,24 +8,24 @@ ghost use Rattle.scx_commands.specs.Lines as lines;
 
 use crate::fault::{Fault, Refusal};
 use crate::file::FILE_LIMIT;
-use crate::lines::{done_line, stuck_line};
+use crate::lines::done_line;
 use crate::out::{Out, write_all};
-use scx_isa::{decode, flow};
-use scx_vm::{Ran, try_run_alone};
+use scx_isa::{Callback, decode};
+use scx_maps::MapDefs;
+use scx_run::run_alone;
+use scx_verify::verify;
+use scx_vm::Done;
 use std::alloc::Global;
 
-/// Runs the program that `bytes` spell, and writes the line that says how the run ended.
-///
-/// The answer says whether the run ended by `exit`; otherwise it got stuck.
+/// Verifies the program that `bytes` spell as a plain one with no maps, runs it, and writes the line
+/// that says what it answered.
 ///
 /// # Errors
 ///
 /// The bytes are refused, and then nothing is written, or writing the line fails.
-pub fn exec<W: Out>(alloc: Global, bytes: &[u8], out: &mut W) -> Result<bool, Fault>
-    ensures done { result ≡ Ok true → (done : Done) × HasRun bytes.now (Ran.Done done)
-        × Appends (W.contents out.old) (W.contents out.new) (lines.done_line done.r0 done.steps) }
-    ensures stuck { result ≡ Ok false → (slot : ℕ) × HasRun bytes.now (Ran.Stuck slot)
-        × Appends (W.contents out.old) (W.contents out.new) (lines.stuck_line slot) }
+pub fn exec<W: Out>(alloc: Global, bytes: &[u8], out: &mut W) -> Result<(), Fault>
+    ensures done { OnOk result ((done : Done) × HasRun bytes.now done
+        × Appends (W.contents out.old) (W.contents out.new) (lines.done_line done.r0 done.steps)) }
     ensures unfailed { OnOk result (W.failure_count out.new ≡ W.failure_count out.old) }
 
     // A refusal has its cause in the bytes, and comes before any byte is written.
@@ -35,26 +35,20 @@ pub fn exec<W: Out>(alloc: Global, bytes: &[u8], out: &mut W) -> Result<bool, Fa
     ensures quiet { IsRefused result → out.new ≡ out.old }
 
     // The line of the run is cut off where writing fails.
-    ensures cut { result ≡ Err Fault.WriteFailed → (ran : Ran) × HasRun bytes.now ran
-        × AppendsBeginning (W.contents out.old) (W.contents out.new) (lines.ran_line ran) }
+    ensures cut { result ≡ Err Fault.WriteFailed → (done : Done) × HasRun bytes.now done
+        × AppendsBeginning (W.contents out.old) (W.contents out.new) (lines.done_line done.r0 done.steps) }
     ensures counted { result ≡ Err Fault.WriteFailed
         → HasFailed (W.failure_count out.old) (W.failure_count out.new) }
 {
-    match run(alloc, bytes)? {
-        Ran::Done(done) => {
-            write_all(out, done_line(done.r0, done.steps).as_str().as_bytes())?;
-            Ok(true)
-        }
-        Ran::Stuck(slot) => {
-            write_all(out, stuck_line(slot).as_str().as_bytes())?;
-            Ok(false)
-        }
-    }
+    let done = run(alloc, bytes)?;
+    write_all(out, done_line(done.r0, done.steps).as_str().as_bytes())?;
+    Ok(())
 }
 
 /// How the program that `bytes` spell runs.
-fn run(alloc: Global, bytes: &[u8]) -> Result<Ran, Refusal>
-    ensures ran { IfOk result (HasRun bytes.now) }
+#[tactic(auto, using(scx_isa::proofs::Programs::program_has_length))]
+fn run(alloc: Global, bytes: &[u8]) -> Result<Done, Refusal>
+    ensures done { IfOk result (HasRun bytes.now) }
     ensures refused { IfErr result (IsCause bytes.now) }
     ensures too_large { FILE_LIMIT < length bytes.now → result ≡ Err Refusal.TooLarge }
 {
@@ -62,6 +56,6 @@ fn run(alloc: Global, bytes: &[u8]) -> Result<Ran, Refusal>
         return Err(Refusal::TooLarge);
     }
     let program = decode(alloc, bytes)?;
-    flow(&program)?;
-    Ok(try_run_alone(alloc, &program))
+    let verified = verify(alloc, program, Callback::Plain, &MapDefs::none())?;
+    Ok(run_alone(alloc, &verified))
 }

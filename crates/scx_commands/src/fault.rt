@@ -1,11 +1,12 @@
 ghost use Rattle.std.specs.Prelude.{◌≡◌};
-ghost use Rattle.scx_commands.specs.Refusals.{decode_refusal, flow_refusal, asm_refusal};
+ghost use Rattle.scx_commands.specs.Refusals.{decode_refusal, verify_refusal, asm_refusal};
 ghost use Rattle.scx_commands.specs.declared.fault.Refusal.TheVariants.{NoMemory};
 ghost use Rattle.scx_commands.specs.declared.fault.Fault.TheVariants.{Refused, WriteFailed};
 
 use crate::out::Failed;
 use scx_asm::{AsmError, AsmFault};
-use scx_isa::{DecodeError, DecodeFault, FlowError, FlowFault};
+use scx_isa::{DecodeError, DecodeFault};
+use scx_verify::{self as verifier, VerifyError};
 use std::alloc::AllocError;
 use thiserror::Error;
 
@@ -20,8 +21,8 @@ pub enum Refusal {
     NoMemory,
     #[error("slot {slot} is no instruction")]
     Decode { fault: DecodeFault, slot: usize },
-    #[error("control goes wrong at slot {slot}")]
-    Verify { fault: FlowFault, slot: usize },
+    #[error("the program is unsafe at slot {slot}")]
+    Verify { fault: verifier::Fault, slot: usize },
     #[error("line {line} is wrong")]
     Assemble { fault: AsmFault, line: usize },
 }
@@ -46,12 +47,15 @@ impl From<DecodeError> for Refusal {
     }
 }
 
-impl From<FlowError> for Refusal {
-    ghost from_gives = { λ error refusal. refusal ≡ flow_refusal error };
+impl From<VerifyError> for Refusal {
+    ghost from_gives = { λ error refusal. refusal ≡ verify_refusal error };
 
-    fn from(error: FlowError) -> Self {
-        let FlowError { fault, slot } = error;
-        Refusal::Verify { fault, slot }
+    fn from(error: VerifyError) -> Self {
+        let VerifyError { fault, slot } = error;
+        match fault {
+            verifier::Fault::NoMemory => Refusal::NoMemory,
+            fault => Refusal::Verify { fault, slot },
+        }
     }
 }
 

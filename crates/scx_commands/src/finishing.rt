@@ -1,4 +1,4 @@
-ghost use Rattle.std.specs.Prelude.{◌≡◌, ◌⊎◌, Bool, true, false, Ok, Err, Result, OnOk};
+ghost use Rattle.std.specs.Prelude.{◌≡◌, ◌⊎◌, Err, OnOk};
 ghost use Rattle.std.specs.Io.KnownBytes.{Appends};
 ghost use Rattle.scx_commands.specs.Output.{HasFailed, AppendsBeginning};
 ghost use Rattle.scx_commands.specs.Lines.{refusal_line as refusal_text};
@@ -10,9 +10,8 @@ use crate::out::{Out, write_all};
 use crate::status::{DONE, FAILED, REFUSED};
 
 /// Ends a command: writes the line of a refusal, and answers the status of the process.
-pub fn finish<W: Out>(outcome: Result<bool, Fault>, out: &mut W) -> u8
-    ensures done { outcome ≡ Ok true → result ≡ DONE }
-    ensures stuck { outcome ≡ Ok false → result ≡ REFUSED }
+pub fn finish<W: Out>(outcome: Result<(), Fault>, out: &mut W) -> u8
+    ensures done { OnOk outcome (result ≡ DONE) }
     ensures failed { outcome ≡ Err Fault.WriteFailed → result ≡ FAILED }
     ensures quiet { ¬ IsRefused outcome → out.new ≡ out.old }
 
@@ -28,8 +27,7 @@ pub fn finish<W: Out>(outcome: Result<bool, Fault>, out: &mut W) -> u8
         → HasFailed (W.failure_count out.old) (W.failure_count out.new)) }
 {
     match outcome {
-        Ok(true) => DONE,
-        Ok(false) => REFUSED,
+        Ok(()) => DONE,
         Err(Fault::Refused(refusal)) => {
             let line = refusal_line(refusal);
             match write_all(out, line.as_str().as_bytes()) {

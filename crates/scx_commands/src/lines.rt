@@ -29,18 +29,6 @@ pub fn done_line(r0: u64, steps: usize) -> Line
     line
 }
 
-/// The line of a run that could not go on at a slot.
-pub fn stuck_line(slot: usize) -> Line
-    ensures { result.bytes ≡ lines.stuck_line slot }
-{
-    let mut digits = Buffer::new();
-    let mut line = Line::new();
-    line.push_str("stuck at ");
-    line.push_str(digits.format(slot));
-    line.push_str("\n");
-    line
-}
-
 /// The line of a refused input.
 pub fn refusal_line(refusal: Refusal) -> Line
     ensures { result.bytes ≡ lines.refusal_line refusal }

@@ -67,7 +67,7 @@ impl MapDefs {
     }
 
     /// No shape at all.
-    pub(crate) fn none() -> MapDefs
+    pub fn none() -> MapDefs
         ensures { result ≡ [] }
     {
         filled_up(&[])

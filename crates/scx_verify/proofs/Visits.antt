@@ -17,7 +17,7 @@ use Rattle.scx_abs.specs.Rules.{rule}
 use Rattle.scx_abs.specs.Laws.{FlowsProper}
 use Rattle.scx_abs.proofs.Orders.{covers_itself}
 use Rattle.scx_abs.proofs.Proper.{start_proper, rule_proper}
-use Rattle.scx_verify.specs.Typing.{States, Passes, IsTyped, IsTyping}
+use Rattle.scx_verify.specs.Typing.{States, Passes, IsTyping}
 use Rattle.scx_verify.specs.Forward.{IsSent, FlowsTo, Arrives, IsLeast, PassesBefore, IsFirstRefusal}
 use Rattle.scx_verify.specs.Pass.{states_of, IsVisited, IsGiven}
 use Rattle.scx_verify.proofs.Least.{least_same, given_least, given_apart, given_long}

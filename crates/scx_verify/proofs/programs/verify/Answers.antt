@@ -2,6 +2,7 @@ use Rattle.std.proofs.Common.{rules}
 use Rattle.scx_verify.specs.Pass.{states_of}
 use Rattle.scx_verify.proofs.Justified.{refusal_justified}
 use Rattle.scx_verify.proofs.Safe.{typed_by, typed_safe}
+use Rattle.scx_verify.proofs.Justified.{refusal_justified}
 use Rattle.scx_verify.proofs.programs.verify.Goals as goal
 
 pub invariant_of-result : goal.invariant_of-result
