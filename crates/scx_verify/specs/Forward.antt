@@ -1,5 +1,5 @@
--- The forward states of a program whose jumps go forward: that of a slot is the least abstract state
--- that covers all that flows to it from the slots before it, a proper one, and none where nothing does.
+-- The forward states of a program whose jumps go forward: that of a slot is the least abstract state, a
+-- proper one, that covers all that flows to it from the slots before it, and none where nothing does.
 -- To the first slot flows the state in which the callback begins. They are defined up to the first
 -- instruction at which a check fails, which is the one that is refused.
 use Rattle.std.specs.Prelude.{ℕ, ◌+◌, ◌<◌, ◌≤◌, ◌≡◌, ◌⊎◌, Option, Some, None, Ok, Err}
