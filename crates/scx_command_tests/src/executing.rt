@@ -431,7 +431,8 @@ fn finishes(rt: HostRuntime) {
         slot: 0,
     };
     let ends = [
-        (Ok(()), "", 0),
+        (Ok(true), "", 0),
+        (Ok(false), "", 1),
         (Err(Fault::WriteFailed), "", 3),
         (
             Err(Fault::Refused(Refusal::TooLarge)),

@@ -1,4 +1,4 @@
-ghost use Rattle.std.specs.Prelude.{◌≡◌, ℕ, ◌<◌, List, length, Err, IfOk, IfErr, OnOk};
+ghost use Rattle.std.specs.Prelude.{◌≡◌, ℕ, ◌<◌, List, length, true, Err, IfOk, IfErr, OnOk};
 ghost use Rattle.std.specs.Io.KnownBytes.{Appends};
 ghost use Rattle.scx_commands.specs.declared.file.TheConstants.{FILE_LIMIT};
 ghost use Rattle.scx_commands.specs.Output.{HasFailed, AppendsBeginning};
@@ -12,13 +12,13 @@ use scx_asm::assemble;
 use scx_isa::encode;
 use std::alloc::Global;
 
-/// Writes the raw slots of the program that the text in `bytes` stands for.
+/// Writes the raw slots of the program that the text in `bytes` stands for. The answer is true.
 ///
 /// # Errors
 ///
 /// The bytes are refused, and then nothing is written, or writing the slots fails.
-pub fn asm<W: Out>(alloc: Global, bytes: &[u8], out: &mut W) -> Result<(), Fault>
-    ensures done { OnOk result ((slots : List ℕ) × IsAssembled bytes.now slots
+pub fn asm<W: Out>(alloc: Global, bytes: &[u8], out: &mut W) -> Result<bool, Fault>
+    ensures done { IfOk result (λ answer. (answer ≡ true) × (slots : List ℕ) × IsAssembled bytes.now slots
         × Appends (W.contents out.old) (W.contents out.new) slots) }
     ensures unfailed { OnOk result (W.failure_count out.new ≡ W.failure_count out.old) }
 
@@ -37,7 +37,7 @@ pub fn asm<W: Out>(alloc: Global, bytes: &[u8], out: &mut W) -> Result<(), Fault
     let text = text(bytes)?;
     let slots = slots_of(alloc, text)?;
     write_all(out, slots.as_slice())?;
-    Ok(())
+    Ok(true)
 }
 
 /// The raw slots of the program that a text stands for.

@@ -1,4 +1,4 @@
-ghost use Rattle.std.specs.Prelude.{◌≡◌, ℕ, ◌<◌, List, length, Err, IfOk, IfErr, OnOk};
+ghost use Rattle.std.specs.Prelude.{◌≡◌, ℕ, ◌<◌, List, length, true, Err, IfOk, IfErr, OnOk};
 ghost use Rattle.std.specs.Io.KnownBytes.{Appends};
 ghost use Rattle.std.specs.String.{string_bytes};
 ghost use Rattle.scx_commands.specs.Output.{HasFailed, AppendsBeginning};
@@ -12,13 +12,13 @@ use scx_asm::disassemble;
 use scx_isa::decode;
 use std::alloc::Global;
 
-/// Writes the canonical text of the program that `bytes` spell.
+/// Writes the canonical text of the program that `bytes` spell. The answer is true.
 ///
 /// # Errors
 ///
 /// The bytes are refused, and then nothing is written, or writing the text fails.
-pub fn dis<W: Out>(alloc: Global, bytes: &[u8], out: &mut W) -> Result<(), Fault>
-    ensures done { OnOk result ((text : List ℕ) × IsDisassembled bytes.now text
+pub fn dis<W: Out>(alloc: Global, bytes: &[u8], out: &mut W) -> Result<bool, Fault>
+    ensures done { IfOk result (λ answer. (answer ≡ true) × (text : List ℕ) × IsDisassembled bytes.now text
         × Appends (W.contents out.old) (W.contents out.new) text) }
     ensures unfailed { OnOk result (W.failure_count out.new ≡ W.failure_count out.old) }
 
@@ -36,7 +36,7 @@ pub fn dis<W: Out>(alloc: Global, bytes: &[u8], out: &mut W) -> Result<(), Fault
 {
     let text = text_of(alloc, bytes)?;
     write_all(out, text.as_str().as_bytes())?;
-    Ok(())
+    Ok(true)
 }
 
 /// The canonical text of the program that `bytes` spell.

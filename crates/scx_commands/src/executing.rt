@@ -1,4 +1,4 @@
-ghost use Rattle.std.specs.Prelude.{◌≡◌, ℕ, ◌<◌, length, Err, IfOk, IfErr, OnOk};
+ghost use Rattle.std.specs.Prelude.{◌≡◌, ℕ, ◌<◌, length, true, Err, IfOk, IfErr, OnOk};
 ghost use Rattle.std.specs.Io.KnownBytes.{Appends};
 ghost use Rattle.scx_vm.specs.declared.run.Done.{Done};
 ghost use Rattle.scx_commands.specs.Output.{HasFailed, AppendsBeginning};
@@ -18,13 +18,13 @@ use scx_vm::Done;
 use std::alloc::Global;
 
 /// Verifies the program that `bytes` spell as a plain one with no maps, runs it, and writes the line
-/// that says what it answered.
+/// that says what it answered. The answer is true.
 ///
 /// # Errors
 ///
 /// The bytes are refused, and then nothing is written, or writing the line fails.
-pub fn exec<W: Out>(alloc: Global, bytes: &[u8], out: &mut W) -> Result<(), Fault>
-    ensures done { OnOk result ((done : Done) × HasRun bytes.now done
+pub fn exec<W: Out>(alloc: Global, bytes: &[u8], out: &mut W) -> Result<bool, Fault>
+    ensures done { IfOk result (λ answer. (answer ≡ true) × (done : Done) × HasRun bytes.now done
         × Appends (W.contents out.old) (W.contents out.new) (lines.done_line done.r0 done.steps)) }
     ensures unfailed { OnOk result (W.failure_count out.new ≡ W.failure_count out.old) }
 
@@ -42,7 +42,7 @@ pub fn exec<W: Out>(alloc: Global, bytes: &[u8], out: &mut W) -> Result<(), Faul
 {
     let done = run(alloc, bytes)?;
     write_all(out, done_line(done.r0, done.steps).as_str().as_bytes())?;
-    Ok(())
+    Ok(true)
 }
 
 /// How the program that `bytes` spell runs.

@@ -1,4 +1,4 @@
-ghost use Rattle.std.specs.Prelude.{◌≡◌, ◌⊎◌, Err, OnOk};
+ghost use Rattle.std.specs.Prelude.{◌≡◌, ◌⊎◌, Bool, true, false, Ok, Err, Result, OnOk};
 ghost use Rattle.std.specs.Io.KnownBytes.{Appends};
 ghost use Rattle.scx_commands.specs.Output.{HasFailed, AppendsBeginning};
 ghost use Rattle.scx_commands.specs.Lines.{refusal_line as refusal_text};
@@ -9,9 +9,11 @@ use crate::lines::refusal_line;
 use crate::out::{Out, write_all};
 use crate::status::{DONE, FAILED, REFUSED};
 
-/// Ends a command: writes the line of a refusal, and answers the status of the process.
-pub fn finish<W: Out>(outcome: Result<(), Fault>, out: &mut W) -> u8
-    ensures done { OnOk outcome (result ≡ DONE) }
+/// Ends a command: writes the line of a refusal, and answers the status of the process. `Ok(false)` is
+/// the outcome of a command that wrote what it refused itself.
+pub fn finish<W: Out>(outcome: Result<bool, Fault>, out: &mut W) -> u8
+    ensures done { outcome ≡ Ok true → result ≡ DONE }
+    ensures done_in_part { outcome ≡ Ok false → result ≡ REFUSED }
     ensures failed { outcome ≡ Err Fault.WriteFailed → result ≡ FAILED }
     ensures quiet { ¬ IsRefused outcome → out.new ≡ out.old }
 
@@ -27,7 +29,8 @@ pub fn finish<W: Out>(outcome: Result<(), Fault>, out: &mut W) -> u8
         → HasFailed (W.failure_count out.old) (W.failure_count out.new)) }
 {
     match outcome {
-        Ok(()) => DONE,
+        Ok(true) => DONE,
+        Ok(false) => REFUSED,
         Err(Fault::Refused(refusal)) => {
             let line = refusal_line(refusal);
             match write_all(out, line.as_str().as_bytes()) {

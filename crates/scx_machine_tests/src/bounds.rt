@@ -42,7 +42,7 @@ fn as_much_as_there_may_be(rt: HostRuntime) -> Result<(), Fail> {
 }
 
 #[test]
-fn seventeen_queues_are_too_many(rt: HostRuntime) -> Result<(), Fail> {
+fn sixteen_queues_are_fine(rt: HostRuntime) -> Result<(), Fail> {
     let mut text = String::new(rt.alloc());
     for queue in 0..16_u32 {
         let line = format!(in rt.alloc(); "r1 = {queue}\ncall 1001\n")?;

@@ -115,7 +115,7 @@ module _ (n e : ℕ) where
   -- ---- tick
 
   -- who runs is a task that there is
-  known_running : (w : WorldState) (c t : ℕ) → c < length w.cpus → get_or w.cpus c None ≡ Some t → IsFineNow n e w → t < n
+  pub known_running : (w : WorldState) (c t : ℕ) → c < length w.cpus → get_or w.cpus c None ≡ Some t → IsFineNow n e w → t < n
   known_running w c t l at h = go (cases_lt t n)
     where
       one : one_if (is_this t (get_or w.cpus c None)) ≡ 1
@@ -138,10 +138,10 @@ module _ (n e : ℕ) where
       keeps_if (λ (r : Stepped). IsFineNow n e r.state.world) ((task_at v.world t).slice == 0) (cycle v c (Some t) true) (stays v) (fine_cycle v c (Some t) true l at h) h
 
 -- one more event was accepted
-one_more : (n e : ℕ) (w : WorldState) → IsFineNow n e w → IsFineNow n (e + 1) w
+pub one_more : (n e : ℕ) (w : WorldState) → IsFineNow n e w → IsFineNow n (e + 1) w
 one_more n e w h = record { sound = h.sound; clock = omega (arith, h.clock); runs = λ t. omega (arith, h.runs t) }
 
-fine_ticked : (n e : ℕ) (w : WorldState) (t : ℕ) → IsFineNow n e w → IsFineNow n (e + 1) (ticked w t)
+pub fine_ticked : (n e : ℕ) (w : WorldState) (t : ℕ) → IsFineNow n e w → IsFineNow n (e + 1) (ticked w t)
 fine_ticked n e w t h =
     let more = one_more n e w h in
     fine_of n (e + 1) None w.cpus (ticked w t) (sound_ticked w.cpus n w t h.sound) (range_task (e + 1) w t (ran_a_tick (task_at w t)) (omega (arith, h.runs t)) (more.clock, more.runs))

@@ -5,3 +5,7 @@ pub mod Fine
 pub mod Events
 pub mod First
 pub mod Valid
+pub mod Firsts
+pub mod Lengths
+pub mod Leaving
+pub mod Idle

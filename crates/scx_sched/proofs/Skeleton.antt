@@ -55,13 +55,13 @@ module _ (n : ℕ) (I : Option ℕ → List (Option ℕ) → WorldState → Type
     unfolding fill
     keeps_fill s q c l h = k.filled on s.world q c l h
 
-    keeps_dispatched : (s : State) (c : ℕ) (p : Option ℕ) → c < length on → I None on s.world → I None on (dispatched s c p).state.world
+    pub keeps_dispatched : (s : State) (c : ℕ) (p : Option ℕ) → c < length on → I None on s.world → I None on (dispatched s c p).state.world
     unfolding dispatched
     keeps_dispatched s c p l h =
         let r = call_back s callback.Dispatch (cpu_and_task c p) 0 c in
         keeps_fill r.state global c l (keeps_call_back None on s callback.Dispatch (cpu_and_task c p) 0 c l h)
 
-    keeps_tries : (m : ℕ) (s : State) (c : ℕ) (p : Option ℕ) → c < length on → I None on s.world → I None on (tries m s c p).state.world
+    pub keeps_tries : (m : ℕ) (s : State) (c : ℕ) (p : Option ℕ) → c < length on → I None on s.world → I None on (tries m s c p).state.world
     unfolding tries
     keeps_tries zero s c p l h = h
     keeps_tries (suc m) s c p l h =
@@ -88,10 +88,10 @@ module _ (n : ℕ) (I : Option ℕ → List (Option ℕ) → WorldState → Type
   keeps_rest on s c None ran h = (on, h)
   keeps_rest on s c (Some t) ran h = (on, k.kept on s.world t h)
 
-  abbrev Left : ℕ → WorldState → Type 0
+  abbrev pub Left : ℕ → WorldState → Type 0
   Left c w = (on : List (Option ℕ)) × I None on w × (c < length on) × (get_or on c None ≡ None)
 
-  keeps_leave : (on : List (Option ℕ)) (s : State) (c : ℕ) (p : Option ℕ) → c < length on → IsKnown n p → get_or on c None ≡ p → I None on s.world → Left c (leave s c p).state.world
+  pub keeps_leave : (on : List (Option ℕ)) (s : State) (c : ℕ) (p : Option ℕ) → c < length on → IsKnown n p → get_or on c None ≡ p → I None on s.world → Left c (leave s c p).state.world
   unfolding leave
   keeps_leave on s c None l known runs h = (on, h, l, runs)
   keeps_leave on s c (Some t) l known runs h =

@@ -86,7 +86,7 @@ module _ (hand : Option ℕ) (on : List (Option ℕ)) (n : ℕ) where
   sound_created w q h = sound_queues w (created w.queues q) (stay_created w.queues q) (keeps_if IsSorted (is_none (create_refusal w.queues q)) (with_queue w.queues q) w.queues h.sorted h.sorted) (tasks_created w.queues q) (λ u. others_change_none.queue w.queues q u) h
 
 -- from one queue to another
-left_place : (s : QueueState) (q t : ℕ) → front_of s q ≡ Some t → place_of (popped s q) t ≡ None
+pub left_place : (s : QueueState) (q t : ℕ) → front_of s q ≡ Some t → place_of (popped s q) t ≡ None
 left_place s q t e = rw e (get_or-set_same {A = Option Place} s.places t None None (front_is_known s q (Some t) (sym e)))
 
 sound_brought : (hand : Option ℕ) (on : List (Option ℕ)) (n : ℕ) (w : WorldState) (o : Option ℕ) (q r : ℕ) → front_of w.queues q ≡ o → exists w.queues r ≡ true → same_sort Fifo (sort_of r) ≡ true

@@ -4,3 +4,4 @@ pub mod Ranges
 pub mod Sim
 pub mod Laws
 pub mod Places
+pub mod Left

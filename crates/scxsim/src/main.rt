@@ -18,7 +18,7 @@ use std::process::ExitCode;
 use std::rt::{Env, Files};
 use std::{env, io};
 
-const NO_MEMORY: Result<(), Fault> = Err(Fault::Refused(Refusal::NoMemory));
+const NO_MEMORY: Result<bool, Fault> = Err(Fault::Refused(Refusal::NoMemory));
 
 fn main(rt: HostRuntime) -> ExitCode {
     let mut out = Counted::new(io::writer(&rt));
@@ -71,7 +71,7 @@ fn do_request<R: AllocGlobal + Files + Eprint, W: Out>(
 }
 
 /// Does a command's work with the bytes of its file.
-fn do_work<W: Out>(alloc: Global, work: Work, bytes: &[u8], out: &mut W) -> Result<(), Fault> {
+fn do_work<W: Out>(alloc: Global, work: Work, bytes: &[u8], out: &mut W) -> Result<bool, Fault> {
     match work {
         Work::Exec => exec(alloc, bytes, out),
         Work::Asm => asm(alloc, bytes, out),
