@@ -1,7 +1,7 @@
-/// A run that ended by `exit`.
+/// A command that did all.
 pub const DONE: u8 = 0;
 
-/// A run that got stuck, and an input that was refused.
+/// An input that was refused.
 pub const REFUSED: u8 = 1;
 
 /// Words that name no command, and a request for help.
