@@ -76,7 +76,7 @@ module _ (n e : ℕ) (c : ℕ) where
       go false x None f empty = f
       go false x (Some t) f empty =
           let s' = popped w.queues q in
-          let known : t < task_count s' = rw (tasks_without w.queues (front_of w.queues q)) (front_is_known w.queues q t f) in
+          let known : t < task_count s' = rw (tasks_without w.queues (front_of w.queues q)) (front_is_known w.queues q (Some t) (sym f)) in
           let there = stay_without w.queues (front_of w.queues q) (local_on c) (h.sound.queues.locals c l) in
           let ok = is_accepted s' t (local_on c) Fifo (left_place w.queues q t f) there (local_sort c) (sorted_popped w.queues q h.sound.sorted) in
           absurd (omega (arith, empty, len_entered s' (local_on c) t Fifo known ok))

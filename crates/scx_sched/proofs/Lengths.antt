@@ -61,6 +61,6 @@ len_popped_other s q id other = go (front_of s q) refl
     go : (o : Option ℕ) → front_of s q ≡ o → len_of (without s o) id ≡ len_of s id
     go None e = refl
     go (Some t) e =
-        let l : t < length s.places = front_is_known s q t e in
+        let l : t < length s.places = front_is_known s q (Some t) (sym e) in
         let out : one_if (is_in id (place_of s t)) ≡ 0 = rw (elsewhere (place_of s t) (front_is_in s q t e)) refl in
         omega (arith, len_set s id t None l, out)
