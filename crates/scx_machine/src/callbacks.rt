@@ -1,61 +1,62 @@
-ghost use Rattle.std.specs.Prelude.{◌≡◌, ◌+◌, ◌≤◌, ◌^◌, [], option_map};
+ghost use Rattle.std.specs.Prelude.{◌≡◌, ◌+◌, ◌≤◌, ◌^◌, [], Some};
+ghost use Rattle.scx_maps.specs.Contents.{HasShapes};
+ghost use Rattle.scx_abs.specs.Arguments.{FitsCallback};
+ghost use Rattle.scx_semantics.specs.declared.callbacks.Callback.TheVariants.{Enable, Enqueue, Dispatch, Running, Stopping};
 ghost use Rattle.scx_semantics.specs.Endings.{run_of};
 ghost use Rattle.scx_vm.specs.Arguments.{given};
 ghost use Rattle.scx_vm.specs.Host.{answer_to, after_query};
-ghost use Rattle.scx_vm.specs.Outcome.{answer_of};
 ghost use Rattle.scx_world.specs.World.{quiet};
 ghost use Rattle.scx_world.specs.Helpers.{helper_answer, helper_after, world_number, world_stored};
 ghost use Rattle.scx_machine.specs.Notes.{Takes};
+ghost use Rattle.scx_machine.specs.Policy.{program_of};
 ghost use Rattle.scx_machine.specs.Callbacks.{called, call_back, one_task, task_and_number, task_or_0, cpu_and_task};
 
 use crate::machine::Machine;
+use crate::policy::Policy;
 use crate::sink::Sink;
 use scx_isa::Callback;
 use scx_maps::Maps;
+use scx_run::run;
 use scx_verify::Verified;
-use scx_vm::{Argument, Arguments, Ran, try_run};
+use scx_vm::{Argument, Arguments};
 use scx_world::World;
 
-/// Runs a callback, and answers what its program does; `None` where that gets stuck. One that is absent
-/// answers 0.
+/// Runs a callback of the policy, and answers what its program does. One that is absent answers 0.
 #[tactic(auto, unfolding(crate::specs::Callbacks::called))]
 pub(crate) fn run_callback(
-    program: Option<&Verified>,
+    policy: &Policy,
     callback: Callback,
     arguments: Arguments,
     maps: &mut Maps,
     world: &mut World,
-) -> Option<u64>
+) -> u64
+    requires shapes { HasShapes policy.now.shapes maps.old }
+    requires arguments { FitsCallback callback (given arguments) }
     requires quiet { world.old.notes ≡ [] }
     requires few { world.old.queues.pushes + 4096 ≤ 2 ^ 63 }
-    ensures ended { record { answer = result; maps = maps.new; outside = world.new } ≡ called (option_map (λ p. p.now) program.entry) callback arguments maps.old world.old }
+    ensures ended { record { answer = Some result; maps = maps.new; outside = world.new } ≡ called (program_of policy.now callback) callback arguments maps.old world.old }
+    ensures shapes { HasShapes policy.now.shapes maps.new }
     ensures few { world.new.queues.pushes ≤ world.old.queues.pushes + 4096 }
 {
-    let Some(program) = program else {
-        return Some(0);
-    };
-    match run_program(program, callback, arguments, maps, world) {
-        Ran::Done(done) => Some(done.r0),
-        Ran::Stuck(_) => None,
+    match policy.program(callback) {
+        Some(program) => run_program(program, arguments, maps, world),
+        None => 0,
     }
 }
 
-/// Runs a program as a callback.
-fn run_program(
-    program: &Verified,
-    callback: Callback,
-    arguments: Arguments,
-    maps: &mut Maps,
-    world: &mut World,
-) -> Ran
+/// Runs a program as the callback that it was verified for.
+fn run_program(program: &Verified, arguments: Arguments, maps: &mut Maps, world: &mut World) -> u64
+    requires shapes { HasShapes program.now.context.defs maps.old }
+    requires arguments { FitsCallback program.now.context.callback (given arguments) }
     requires quiet { world.old.notes ≡ [] }
     requires few { world.old.queues.pushes + 4096 ≤ 2 ^ 63 }
-    ensures ended { record { answer = answer_of result; maps = maps.new; outside = world.new }
-        ≡ run_of (answer_to helper_answer world_number) (after_query helper_after world_stored) callback program.now.code (given arguments) maps.old world.old }
+    ensures ended { record { answer = Some result; maps = maps.new; outside = world.new }
+        ≡ run_of (answer_to helper_answer world_number) (after_query helper_after world_stored) program.now.context.callback program.now.code (given arguments) maps.old world.old }
+    ensures shapes { HasShapes program.now.context.defs maps.new }
     ensures few { world.new.queues.pushes ≤ world.old.queues.pushes + 4096 }
 {
     let _short = program.instructions();
-    try_run(program.program(), callback, arguments, maps, world)
+    run(program, arguments, maps, world).r0
 }
 
 /// Hands the notes that wait to the sink.
@@ -72,7 +73,9 @@ fn flush<S: Sink>(world: &mut World, sink: &mut S)
 
 /// A task, for a callback that takes no more.
 pub(crate) fn one_task(task: u16) -> Arguments
-    ensures { result ≡ one_task task }
+    ensures task { result ≡ one_task task }
+    ensures enable { FitsCallback Enable (given result) }
+    ensures running { FitsCallback Running (given result) }
 {
     Arguments {
         first: World::pointer(task),
@@ -83,7 +86,9 @@ pub(crate) fn one_task(task: u16) -> Arguments
 
 /// A task and a number.
 pub(crate) fn task_and_number(task: u16, number: u64) -> Arguments
-    ensures { result ≡ task_and_number task number }
+    ensures both { result ≡ task_and_number task number }
+    ensures enqueue { FitsCallback Enqueue (given result) }
+    ensures stopping { FitsCallback Stopping (given result) }
 {
     Arguments {
         first: World::pointer(task),
@@ -103,7 +108,8 @@ fn task_or_0(task: Option<u16>) -> Argument
 
 /// A processor, and the task before or 0.
 pub(crate) fn cpu_and_task(cpu: u32, before: Option<u16>) -> Arguments
-    ensures { result ≡ cpu_and_task cpu before }
+    ensures both { result ≡ cpu_and_task cpu before }
+    ensures dispatch { FitsCallback Dispatch (given result) }
 {
     Arguments {
         first: Argument::Number(u64::from(cpu)),
@@ -123,6 +129,7 @@ impl Machine {
         cpu: u32,
         sink: &mut S,
     )
+        requires arguments { FitsCallback callback (given arguments) }
         requires few { self.old.world.queues.pushes + 4096 ≤ 2 ^ 63 }
         ensures state { self.new ≡ (call_back self.old callback arguments task cpu).state }
         ensures few { self.new.world.queues.pushes ≤ self.old.world.queues.pushes + 4096 }
@@ -130,7 +137,7 @@ impl Machine {
     {
         self.world.begin(callback, task, cpu);
         run_callback(
-            self.policy.program(callback),
+            &self.policy,
             callback,
             arguments,
             &mut self.maps,

@@ -15,11 +15,15 @@ pub struct Machine {
 }
 
 impl Model for Machine {
+    ghost use Rattle.scx_maps.specs.Contents.{HasShapes};
     ghost use Rattle.scx_machine.specs.Steps.{State};
 
     ghost Value = { State };
 
     ghost view = { λ m. record { policy = m.policy; maps = m.maps; world = m.world } };
+
+    // The maps keep the shapes that the policy's programs were verified for.
+    ghost invariant = { λ m. HasShapes m.policy.shapes m.maps };
 }
 
 impl Machine {

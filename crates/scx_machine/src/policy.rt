@@ -39,11 +39,13 @@ pub struct Policy {
 }
 
 impl Model for Policy {
-    ghost use Rattle.scx_machine.specs.Policy.{PolicyState};
+    ghost use Rattle.scx_machine.specs.Policy.{PolicyState, AreAs, HaveMaps};
 
     ghost Value = { PolicyState };
 
     ghost view = { λ p. record { shapes = p.defs; timeout_ms = p.timeout_ms; callbacks = p.callbacks } };
+
+    ghost invariant = { λ p. AreAs p.callbacks × HaveMaps p.defs p.callbacks };
 }
 
 impl Policy {
@@ -80,7 +82,9 @@ impl Policy {
 
     /// The program of a callback.
     pub(crate) fn program(&self, callback: Callback) -> Option<&Verified>
-        ensures { option_map (λ p. p.now) result ≡ program_of self.now callback }
+        ensures program { option_map (λ p. p.now) result ≡ program_of self.now callback }
+        ensures callback { IsAs callback (program_of self.now callback) }
+        ensures maps { HasMaps self.now.shapes (program_of self.now callback) }
     {
         match callback {
             Callback::Init => self.callbacks.init.as_ref(),

@@ -97,7 +97,7 @@ impl Machine {
     {
         self.world.begin(Callback::Init, 0, 0);
         let answer = run_callback(
-            self.policy.program(Callback::Init),
+            &self.policy,
             Callback::Init,
             Arguments::NONE,
             &mut self.maps,
@@ -106,9 +106,6 @@ impl Machine {
         if self.world.first_fault().is_some() {
             return Err(FAULT_ANSWER);
         }
-        let Some(answer) = answer else {
-            return Err(FAULT_ANSWER);
-        };
         if answer != 0 {
             return Err(answer.cast_signed());
         }
@@ -142,14 +139,14 @@ impl Machine {
         ensures few { self.new.world.queues.pushes ≤ self.old.world.queues.pushes + 4096 }
     {
         self.world.begin(Callback::Enable, task, 0);
-        let answer = run_callback(
-            self.policy.program(Callback::Enable),
+        run_callback(
+            &self.policy,
             Callback::Enable,
             one_task(task),
             &mut self.maps,
             &mut self.world,
         );
-        if self.world.first_fault().is_some() || answer.is_none() {
+        if self.world.first_fault().is_some() {
             return Err(FAULT_ANSWER);
         }
         self.world.quiet();

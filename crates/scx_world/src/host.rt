@@ -31,7 +31,7 @@ impl Env for World {
             ),
             Helper::DsqMoveToLocal => self.move_to_local(first),
             Helper::DsqNrQueued => self.queued(first),
-            // `try_run` looks up elements itself; the others aren't there yet.
+            // A run looks up elements itself; the others aren't there yet.
             Helper::MapLookupElem
             | Helper::DsqInsertVtime
             | Helper::SelectCpuDfl
