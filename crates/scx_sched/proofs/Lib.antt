@@ -2,6 +2,7 @@ pub mod Entering
 pub mod Sound
 pub mod Skeleton
 pub mod Fine
+pub mod Pushes
 pub mod Events
 pub mod First
 pub mod Valid

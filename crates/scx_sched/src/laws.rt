@@ -1,4 +1,4 @@
-ghost use Rattle.scx_sched.specs.Laws.{StepKeepsFine, TickLeavesNothing};
+ghost use Rattle.scx_sched.specs.Laws.{StepKeepsFine, TickLeavesNothing, StepsKeepFine, NoPushIsRefused};
 
 /// An accepted event keeps each task in its one place. The function does nothing: its contract is the
 /// law.
@@ -10,4 +10,12 @@ pub fn events_keep_places()
 /// contract is the law.
 pub fn nothing_is_left_behind()
     ensures { TickLeavesNothing }
+{}
+
+/// No push of the machine is ever refused: each small step of an event keeps what holds inside of it,
+/// and where that holds, the queue takes the task. The function does nothing: its contract is the law.
+#[tactic(auto, using(crate::proofs::Fine::fine_steps, crate::proofs::Pushes::is_push_accepted))]
+pub fn no_push_is_refused()
+    ensures kept { StepsKeepFine }
+    ensures accepted { NoPushIsRefused }
 {}
