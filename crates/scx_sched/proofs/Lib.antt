@@ -10,3 +10,4 @@ pub mod Firsts
 pub mod Lengths
 pub mod Leaving
 pub mod Idle
+pub mod Helping

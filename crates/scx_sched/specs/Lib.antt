@@ -6,3 +6,5 @@ pub mod Sim
 pub mod Laws
 pub mod Places
 pub mod Left
+pub mod HelperRules
+pub mod RuleLaws

@@ -1,4 +1,5 @@
 ghost use Rattle.scx_sched.specs.Laws.{StepKeepsFine, TickLeavesNothing, StepsKeepFine, NoPushIsRefused};
+ghost use Rattle.scx_sched.specs.RuleLaws.{RulesAllowHelpers, RulesAllowHelpersOnly};
 
 /// An accepted event keeps each task in its one place. The function does nothing: its contract is the
 /// law.
@@ -18,4 +19,11 @@ pub fn nothing_is_left_behind()
 pub fn no_push_is_refused()
     ensures kept { StepsKeepFine }
     ensures accepted { NoPushIsRefused }
+{}
+
+/// What a helper answers, and what it makes of the world, is what the rules of helpers allow, and the
+/// only thing that they allow. The function does nothing: its contract is the law.
+pub fn rules_allow_helpers()
+    ensures allowed { RulesAllowHelpers }
+    ensures only { RulesAllowHelpersOnly }
 {}
