@@ -11,3 +11,5 @@ pub mod Lengths
 pub mod Leaving
 pub mod Idle
 pub mod Helping
+pub mod Cycling
+pub mod Happening

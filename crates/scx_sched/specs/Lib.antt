@@ -7,4 +7,6 @@ pub mod Laws
 pub mod Places
 pub mod Left
 pub mod HelperRules
+pub mod CycleRules
+pub mod EventRules
 pub mod RuleLaws

@@ -1,5 +1,5 @@
 ghost use Rattle.scx_sched.specs.Laws.{StepKeepsFine, TickLeavesNothing, StepsKeepFine, NoPushIsRefused};
-ghost use Rattle.scx_sched.specs.RuleLaws.{RulesAllowHelpers, RulesAllowHelpersOnly};
+ghost use Rattle.scx_sched.specs.RuleLaws.{RulesAllowHelpers, RulesAllowHelpersOnly, RulesAllowCycles, RulesAllowCyclesOnly, RulesAllowEvents, RulesAllowEventsOnly};
 
 /// An accepted event keeps each task in its one place. The function does nothing: its contract is the
 /// law.
@@ -26,4 +26,18 @@ pub fn no_push_is_refused()
 pub fn rules_allow_helpers()
     ensures allowed { RulesAllowHelpers }
     ensures only { RulesAllowHelpersOnly }
+{}
+
+/// A scheduling cycle is what the rules of cycles allow, and the only thing that they allow. The function
+/// does nothing: its contract is the law.
+pub fn rules_allow_cycles()
+    ensures allowed { RulesAllowCycles }
+    ensures only { RulesAllowCyclesOnly }
+{}
+
+/// What an event does, and what it notes, is what the rules of events allow, and the only thing that they
+/// allow. The function does nothing: its contract is the law.
+pub fn rules_allow_events()
+    ensures allowed { RulesAllowEvents }
+    ensures only { RulesAllowEventsOnly }
 {}
