@@ -12,6 +12,7 @@ use Rattle.scx_machine.specs.Events.{target, put_and_run, wake, sleep_from_cpu, 
 use Rattle.scx_sched.specs.CycleRules.{silent, stopping_called}
 use Rattle.scx_sched.specs.EventRules.{awake, Wakes, Idle_target, Busy_target, Sleeps, From_queue, From_cpu, Ticks, Nobody_runs, Runs_on, Runs_out}
 use Rattle.scx_sched.specs.RuleLaws.{RulesAllowEvents, RulesAllowEventsOnly}
+use Rattle.scx_sched.proofs.Choosing.{is_choice, only_choice}
 use Rattle.scx_sched.proofs.Cycling.{puts, only_puts, cycles, only_cycles}
 
 -- ---- wake
@@ -27,8 +28,8 @@ wakes s t = go (is_idle x.state.world c) refl
     x = put (awake s t) t c 1
 
     go : (b : Bool) → is_idle x.state.world c ≡ b → Wakes s t (after (said s.world (note.Wake t) ∷ []) (if b then joined x (cycle x.state c None false) else x))
-    go true e = Idle_target x (cycle x.state c None false) (puts (awake s t) t c 1) e (cycles x.state c None false) refl
-    go false e = Busy_target x (puts (awake s t) t c 1) e refl
+    go true e = Idle_target c x (cycle x.state c None false) (is_choice (awake s t).world t) (puts (awake s t) t c 1) e (cycles x.state c None false) refl
+    go false e = Busy_target c x (is_choice (awake s t).world t) (puts (awake s t) t c 1) e refl
 
 abbrev wake_note : State → ℕ → Stepped → Stepped
 wake_note s t r = after (said s.world (note.Wake t) ∷ []) r
@@ -43,11 +44,18 @@ wake_busy : (s : State) (t : ℕ) (x : Stepped) → x ≡ put (awake s t) t (tar
 unfolding wake put_and_run
 wake_busy s t x e idle = let i = subst (λ (y : Stepped). is_idle y.state.world (target (awake s t) t) ≡ false) e idle in rw i (ap (λ y. wake_note s t y) (sym e))
 
+-- the same of any choice
+wake_idle_at : (s : State) (t c : ℕ) → c ≡ target (awake s t) t → (x : Stepped) → x ≡ put (awake s t) t c 1 → is_idle x.state.world c ≡ true → wake s t ≡ wake_note s t (joined x (cycle x.state c None false))
+wake_idle_at s t c e = subst (λ d. (x : Stepped) → x ≡ put (awake s t) t d 1 → is_idle x.state.world d ≡ true → wake s t ≡ wake_note s t (joined x (cycle x.state d None false))) (sym e) (wake_idle s t)
+
+wake_busy_at : (s : State) (t c : ℕ) → c ≡ target (awake s t) t → (x : Stepped) → x ≡ put (awake s t) t c 1 → is_idle x.state.world c ≡ false → wake s t ≡ wake_note s t x
+wake_busy_at s t c e = subst (λ d. (x : Stepped) → x ≡ put (awake s t) t d 1 → is_idle x.state.world d ≡ false → wake s t ≡ wake_note s t x) (sym e) (wake_busy s t)
+
 only_wakes : (s : State) (t : ℕ) (r : Stepped) → Wakes s t r → r ≡ wake s t
-only_wakes s t r (Idle_target x found h i y k) =
-    let c = target (awake s t) t in
-    k ∙ ap (λ z. wake_note s t (joined x z)) (only_cycles x.state c None false found y) ∙ sym (wake_idle s t x (only_puts (awake s t) t c 1 x h) i)
-only_wakes s t r (Busy_target x h i k) = k ∙ sym (wake_busy s t x (only_puts (awake s t) t (target (awake s t) t) 1 x h) i)
+only_wakes s t r (Idle_target c x found ch h i y k) =
+    k ∙ ap (λ z. wake_note s t (joined x z)) (only_cycles x.state c None false found y)
+    ∙ sym (wake_idle_at s t c (only_choice (awake s t).world t c ch) x (only_puts (awake s t) t c 1 x h) i)
+only_wakes s t r (Busy_target c x ch h i k) = k ∙ sym (wake_busy_at s t c (only_choice (awake s t).world t c ch) x (only_puts (awake s t) t c 1 x h) i)
 
 -- ---- sleep
 

@@ -13,3 +13,5 @@ pub mod Idle
 pub mod Helping
 pub mod Cycling
 pub mod Happening
+pub mod Calling
+pub mod Choosing

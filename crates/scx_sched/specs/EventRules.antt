@@ -1,22 +1,28 @@
 -- What an accepted event does, by cases, over the steps of a cycle.
 use Rattle.std.specs.Prelude.{◌≡◌, ℕ, ◌<◌, true, false, [], ◌∷◌, Some, None}
 use Rattle.scx_world.specs.declared.notes.What.TheVariants as note
-use Rattle.scx_world.specs.World.{task_at, running, cpu_of, is_idle, said}
+use Rattle.scx_world.specs.World.{WorldState, task_at, running, cpu_of, is_idle, said}
 use Rattle.scx_world.specs.Tasks.{woken, asleep, gone, ticked, later, reweighed}
 use Rattle.scx_machine.specs.declared.events.Event.{Event}
 use Rattle.scx_machine.specs.declared.events.Event.TheVariants.{Wake, Sleep, Tick, Clock, SetWeight}
 use Rattle.scx_machine.specs.Steps.{State, Stepped, with_world, after, joined}
-use Rattle.scx_machine.specs.Events.{target}
 use Rattle.scx_sched.specs.CycleRules.{noting, silent, stopping_called, Puts, Cycles}
 
 abbrev pub awake : State → ℕ → State
 awake s t = with_world s (woken s.world t)
 
+-- the processor for which a task is put that wakes: where it ran last if that is idle, else the lowest
+-- idle one, else where it ran last
+pub data IsChoice (w : WorldState) (t c : ℕ) : Type 0 where
+  Last_ran : is_idle w (task_at w t).prev_cpu ≡ true → c ≡ (task_at w t).prev_cpu → IsChoice w t c
+  Lowest : is_idle w (task_at w t).prev_cpu ≡ false → is_idle w c ≡ true → ((d : ℕ) → d < c → is_idle w d ≡ false) → IsChoice w t c
+  None_idle : ((d : ℕ) → is_idle w d ≡ false) → c ≡ (task_at w t).prev_cpu → IsChoice w t c
+
 -- the task is runnable, and is put for its target, which looks for a task if it is idle
 pub data Wakes (s : State) (t : ℕ) (r : Stepped) : Type 0 where
-  Idle_target : (put found : Stepped) → Puts (awake s t) t (target (awake s t) t) 1 put → is_idle put.state.world (target (awake s t) t) ≡ true → Cycles put.state (target (awake s t) t) None false found
+  Idle_target : (c : ℕ) (put found : Stepped) → IsChoice (awake s t).world t c → Puts (awake s t) t c 1 put → is_idle put.state.world c ≡ true → Cycles put.state c None false found
       → r ≡ after (said s.world (note.Wake t) ∷ []) (joined put found) → Wakes s t r
-  Busy_target : (put : Stepped) → Puts (awake s t) t (target (awake s t) t) 1 put → is_idle put.state.world (target (awake s t) t) ≡ false
+  Busy_target : (c : ℕ) (put : Stepped) → IsChoice (awake s t).world t c → Puts (awake s t) t c 1 put → is_idle put.state.world c ≡ false
       → r ≡ after (said s.world (note.Wake t) ∷ []) put → Wakes s t r
 
 -- the task leaves its queue, or its processor, which looks for another task

@@ -1,5 +1,5 @@
 ghost use Rattle.scx_sched.specs.Laws.{StepKeepsFine, TickLeavesNothing, StepsKeepFine, NoPushIsRefused};
-ghost use Rattle.scx_sched.specs.RuleLaws.{RulesAllowHelpers, RulesAllowHelpersOnly, RulesAllowCycles, RulesAllowCyclesOnly, RulesAllowEvents, RulesAllowEventsOnly};
+ghost use Rattle.scx_sched.specs.RuleLaws.{RulesAllowHelpers, RulesAllowHelpersOnly, RulesAllowCallbacksOnly, RulesAllowCycles, RulesAllowCyclesOnly, RulesAllowEvents, RulesAllowEventsOnly};
 
 /// An accepted event keeps each task in its one place. The function does nothing: its contract is the
 /// law.
@@ -26,6 +26,12 @@ pub fn no_push_is_refused()
 pub fn rules_allow_helpers()
     ensures allowed { RulesAllowHelpers }
     ensures only { RulesAllowHelpersOnly }
+{}
+
+/// What the rules of callbacks allow a callback to leave is what the machine goes on from. The function
+/// does nothing: its contract is the law.
+pub fn rules_allow_callbacks()
+    ensures { RulesAllowCallbacksOnly }
 {}
 
 /// A scheduling cycle is what the rules of cycles allow, and the only thing that they allow. The function
