@@ -16,9 +16,13 @@ use Rattle.scx_world.specs.Tasks.{local_len, brought, started_at, ticked}
 use Rattle.scx_machine.specs.Steps.{State, Stepped, with_world, stays, joined}
 use Rattle.scx_machine.specs.Callbacks.{call_back, one_task, cpu_and_task}
 use Rattle.scx_machine.specs.Cycle.{has_local, fill, dispatched, asks_again, tries, leave, started_if, start as run_front, pick, rest, pick_or_rest, ask, cycle}
-use Rattle.scx_machine.specs.Events.{count_down, tick_of, tick}
+use Rattle.scx_machine.specs.declared.events.Event.{Event}
+use Rattle.scx_machine.specs.declared.events.Event.TheVariants.{Wake, Sleep, Tick, Clock, SetWeight}
+use Rattle.scx_machine.specs.declared.events.Refused.TheVariants.{UnknownCpu}
+use Rattle.scx_machine.specs.Events.{count_down, tick_of, tick, happened}
 use Rattle.scx_sched.specs.Ranges.{IsFine}
-use Rattle.scx_sched.specs.Left.{LeavesNothing}
+use Rattle.scx_sched.specs.Left.{LeavesNothing, LeavesNothingIdle}
+use Rattle.scx_sched.specs.Sim.{refusal, IsValid}
 use Rattle.scx_sched.proofs.Entering.{keeps_if, is_accepted, sorted_popped, stay_without, local_sort}
 use Rattle.scx_sched.proofs.Sound.{left_place}
 use Rattle.scx_sched.proofs.Skeleton.{IsKnown, keeps_call_back, keeps_fill, keeps_dispatched, keeps_tries, keeps_leave}
@@ -27,6 +31,7 @@ use Rattle.scx_sched.proofs.Events.{known_running, fine_ticked}
 use Rattle.scx_sched.proofs.Firsts.{no_front_is_empty}
 use Rattle.scx_sched.proofs.Lengths.{len_set}
 use Rattle.scx_sched.proofs.Leaving.{local_leave}
+use Rattle.scx_sched.proofs.Valid.{accepted}
 
 -- an accepted push makes its queue longer
 len_entered : (s : QueueState) (q t : ℕ) (r : Rank) → t < task_count s → push_refusal s q t r ≡ None → len_of (pushed s q t r) q ≡ len_of s q + 1
@@ -154,3 +159,15 @@ tick_leaves n e s c l h idle = go (running s.world c) refl (idle_is_none (tick s
         keeps_if (λ (r : Stepped). LeavesIfIdle c r.state.world) ((task_at v.world t).slice == 0) (cycle v c (Some t) true) (stays v)
         (cycle_leaves n (e + 1) c s.world.cpus v (Some t) true l (known_running n e s.world c t l at h) at (fine_ticked n e s.world t h))
         (busy c v.world (rw at refl))
+
+-- the same of an accepted event
+pub step_leaves : (s : State) (n : ℕ) (v : Event) → refusal (record { state = s; events = n }) v ≡ None → IsValid s n → LeavesNothingIdle v (happened s v).state.world
+step_leaves s n (Tick c) e h = tick_leaves (length s.world.tasks) n s c (known (nat_lt c (length s.world.cpus)) refl (accepted (record { state = s; events = n }) (Tick c) e).taken) h.fine
+  where
+    known : (b : Bool) → nat_lt c (length s.world.cpus) ≡ b → (if b then None else Some UnknownCpu) ≡ None → c < length s.world.cpus
+    known true x y = grind (arith, nat_tests, x)
+    known false x y = absurd (cc)
+step_leaves s n (Wake t) e h = tt
+step_leaves s n (Sleep t) e h = tt
+step_leaves s n Clock e h = tt
+step_leaves s n (SetWeight g x) e h = tt

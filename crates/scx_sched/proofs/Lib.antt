@@ -2,6 +2,7 @@ pub mod Entering
 pub mod Sound
 pub mod Skeleton
 pub mod Fine
+pub mod Pushes
 pub mod Events
 pub mod First
 pub mod Valid
@@ -9,3 +10,8 @@ pub mod Firsts
 pub mod Lengths
 pub mod Leaving
 pub mod Idle
+pub mod Helping
+pub mod Cycling
+pub mod Happening
+pub mod Calling
+pub mod Choosing

@@ -224,7 +224,7 @@ module _ (on : List (Option ℕ)) (n : ℕ) where
   sound_entered : (w : WorldState) (t q k : ℕ) → t < n → IsTarget w.queues q → IsSound (Some t) on n w → IsSound None on n (entered w t q k)
   sound_entered w t q k within there h = rw (inside w t within h.tasks) (sound_enters w t q Fifo (given_slice (task_at w t) k) (slice_home (task_at w t) k) within there.0 there.1 h)
 
-  queue_for_is_there : (s : QueueState) (p : Option VerifiedProgram) (c : ℕ) (o : Option Insert) → HasQueues s (length on) → GoesSomewhere s c o → IsTarget s (queue_for p c o)
+  pub queue_for_is_there : (s : QueueState) (p : Option VerifiedProgram) (c : ℕ) (o : Option Insert) → HasQueues s (length on) → GoesSomewhere s c o → IsTarget s (queue_for p c o)
   queue_for_is_there s None c o h g = (h.global, refl)
   queue_for_is_there s (Some p) c None h g = (h.held, refl)
   queue_for_is_there s (Some p) c (Some i) h g = g

@@ -26,11 +26,11 @@ valid_first p tree cpus t shape flags e few =
       fine = fine_with (length tree.homes) 0 t.world (subst (λ on. IsFine (length tree.homes) 0 None on t.world) (sym h.sound.cpus) h);
     }
 
-record IsAccepted (s : SimState) (v : Event) : Type 0 where
-  not_over : (s.events == max_events) ≡ false
-  taken : machine.refusal s.state v ≡ None
+pub record IsAccepted (s : SimState) (v : Event) : Type 0 where
+  pub not_over : (s.events == max_events) ≡ false
+  pub taken : machine.refusal s.state v ≡ None
 
-accepted : (s : SimState) (v : Event) → refusal s v ≡ None → IsAccepted s v
+pub accepted : (s : SimState) (v : Event) → refusal s v ≡ None → IsAccepted s v
 accepted s v e = go (s.events == max_events) refl e
   where
     go : (b : Bool) → (s.events == max_events) ≡ b → (if b then Some RunOver else machine.refusal s.state v) ≡ None → IsAccepted s v

@@ -6,6 +6,8 @@ use Rattle.scx_world.specs.World.{is_idle}
 use Rattle.scx_machine.specs.Events.{refusal, happened, tick}
 use Rattle.scx_sched.specs.Left.{LeavesNothing}
 use Rattle.scx_sched.specs.Ranges.{IsFine}
+use Rattle.scx_sched.specs.Kept.{IsKeptBySteps}
+use Rattle.scx_sched.specs.Accepted.{IsPushAccepted}
 
 -- an accepted event keeps each task in its place, and lets numbers grow no more than one event may
 abbrev pub StepKeepsFine : Type 0
@@ -18,3 +20,11 @@ abbrev pub TickLeavesNothing : Type 0
 TickLeavesNothing =
     (n e : ℕ) (s : State) (c : ℕ) → c < length s.world.cpus → IsFine n e None s.world.cpus s.world
     → is_idle (tick s c).state.world c ≡ true → LeavesNothing (tick s c).state.world c
+
+-- each small step that an event is made of keeps what holds inside of it
+abbrev pub StepsKeepFine : Type 0
+StepsKeepFine = (n e : ℕ) → IsKeptBySteps n (IsFine n e)
+
+-- and where that holds, no push is refused
+abbrev pub NoPushIsRefused : Type 0
+NoPushIsRefused = (n e : ℕ) → IsPushAccepted n e

@@ -1,7 +1,13 @@
 pub mod Once
 pub mod Kept
 pub mod Ranges
+pub mod Accepted
 pub mod Sim
 pub mod Laws
 pub mod Places
 pub mod Left
+pub mod HelperRules
+pub mod CallbackRules
+pub mod CycleRules
+pub mod EventRules
+pub mod RuleLaws

@@ -1,7 +1,8 @@
-ghost use Rattle.std.specs.Prelude.{◌≡◌, ◌<◌, ◌≤◌, length, None, IfOk, IfErr, OnErr};
+ghost use Rattle.std.specs.Prelude.{◌≡◌, ◌<◌, ◌≤◌, length, None, IfOk, IfErr, OnOk, OnErr};
 ghost use Rattle.scx_world.specs.World.{task_at, running};
 ghost use Rattle.scx_machine.specs.Notes.{Takes};
 ghost use Rattle.scx_machine.specs.Start.{started, IsRefusal};
+ghost use Rattle.scx_sched.specs.Left.{LeavesNothingIdle};
 ghost use Rattle.scx_sched.specs.Once.{IsOnce};
 ghost use Rattle.scx_sched.specs.Places.{place, wait};
 ghost use Rattle.scx_sched.specs.Sim.{max_events, refusal, answer_of, stepped, notes_of, IsFirst};
@@ -59,13 +60,14 @@ impl Sim {
     }
 
     /// One event, with all that it causes. One that isn't accepted changes nothing, and has no notes.
-    #[tactic(auto, using(crate::proofs::Valid::valid_step))]
+    #[tactic(auto, using(crate::proofs::Valid::valid_step, crate::proofs::Idle::step_leaves))]
     pub fn step<S: Sink>(&mut self, event: Event, sink: &mut S) -> Result<(), Refused>
         ensures answer { result ≡ answer_of (refusal self.old event) }
         ensures state { self.new ≡ stepped self.old event }
         ensures refused { OnErr result (self.new ≡ self.old) }
         ensures notes { Takes S.takes sink.old (notes_of self.old event) sink.new }
         ensures once { IsOnce None self.new.state.world }
+        ensures idle { OnOk result (LeavesNothingIdle event self.new.state.world) }
     {
         if let Some(refused) = self.refusal(event) {
             return Err(refused);

@@ -1,11 +1,17 @@
 -- What the fields of a world mean, and what always holds of them.
-use Rattle.std.specs.Prelude.{◌≡◌, ◌^◌, ◌≤◌, length, vec_capacity}
+use Rattle.std.specs.Prelude.{◌≡◌, ℕ, ◌^◌, ◌<◌, ◌≤◌, List, length, Option, None, is_some, slice_index_or, vec_capacity}
+use Rattle.std.specs.Int.{bit_at}
+use Rattle.scx_dsq.specs.Laws.{one_if}
 use Rattle.scx_dsq.specs.Queues.{task_count}
 use Rattle.scx_world.specs.declared.world.World.TheInside.{Inside}
 use Rattle.scx_world.specs.World.{WorldState}
 
 abbrev pub state_of : Inside → WorldState
 state_of w = record { clock = w.clock; tasks = w.tasks.items; cpus = w.cpus.items; queues = w.queues; tree = w.tree; call = w.call; notes = w.notes.items }
+
+-- these bits are set where a task runs, one bit a processor
+abbrev pub AreBusy : ℕ → List (Option ℕ) → Type 0
+AreBusy bits cpus = (c : ℕ) → c < length cpus → bit_at bits c ≡ one_if (is_some (slice_index_or cpus c None))
 
 -- there is room for the notes of a callback, each part knows of as many tasks, and the clock in
 -- nanoseconds is a number of 64 bits
@@ -16,4 +22,5 @@ pub record IsKept (w : Inside) : Type 0 where
   pub weighed : length w.tree.homes ≡ length w.tasks.items
   pub few_tasks : length w.tasks.items ≤ 1024
   pub few_cpus : length w.cpus.items ≤ 64
+  pub busy : AreBusy w.busy w.cpus.items
   pub early : w.clock ≤ 2 ^ 32

@@ -1,4 +1,6 @@
-ghost use Rattle.std.specs.Prelude.{◌≡◌, ◌+◌, ◌≤◌, ◌<◌, nat_lt, length, None, is_none, position, IfSome, IfOk, OnOk};
+ghost use Rattle.std.specs.Prelude.{◌≡◌, ◌≢◌, ℕ, ◌+◌, ◌≤◌, ◌<◌, nat_lt, length, None, is_none, position, IfSome, IfOk, OnOk};
+ghost use Rattle.std.specs.Int.{bit_at};
+ghost use Rattle.scx_dsq.specs.Laws.{one_if};
 ghost use Rattle.scx_dsq.specs.Queues.{queue_of, task_count};
 ghost use Rattle.scx_world.specs.First.{with_locals, first_queues, first_world};
 ghost use Rattle.scx_world.specs.Helpers.{pointed};
@@ -25,6 +27,8 @@ pub struct World {
     pub(crate) tasks: Vec<Task>,
     /// The task that runs on each processor.
     pub(crate) cpus: Vec<Option<u16>>,
+    /// The processors on which a task runs, one bit each.
+    pub(crate) busy: u64,
     pub(crate) queues: Queues,
     pub(crate) tree: Tree,
     pub(crate) call: Call,
@@ -44,6 +48,7 @@ impl Model for World {
 
 impl World {
     /// Nobody runs, and nobody waits. All memory is taken here.
+    #[tactic(auto, using(crate::proofs::Busy::none_busy))]
     pub fn new(alloc: Global, tree: Tree, cpus: usize) -> Result<World, AllocError>
         requires { cpus ≤ 64 }
         ensures world { IfOk result (λ world. world ≡ first_world tree cpus) }
@@ -55,6 +60,7 @@ impl World {
             clock: 0,
             tasks: vec![in alloc; Task::NEW; count]?,
             cpus: vec![in alloc; None; cpus]?,
+            busy: 0,
             queues: own_queues(alloc, cpus, count)?,
             tree,
             call: Call::NONE,
@@ -156,11 +162,13 @@ impl World {
         }
     }
 
+    #[tactic(auto, using(crate::proofs::Busy::busy_set))]
     pub(crate) fn set_cpu(&mut self, cpu: u32, task: Option<u16>)
         ensures { self.new ≡ with_cpu self.old cpu task }
     {
         if (cpu as usize) < self.cpus.len() {
             self.cpus[cpu as usize] = task;
+            self.busy = with_bit(self.busy, cpu, task.is_some());
         }
     }
 
@@ -188,9 +196,21 @@ impl World {
         if self.is_idle(prev) {
             return prev;
         }
-        match first_idle(&self.cpus) {
-            Some(cpu) => cpu as u32,
+        match self.first_idle() {
+            Some(cpu) => cpu,
             None => prev,
+        }
+    }
+
+    /// The lowest processor on which nothing runs.
+    fn first_idle(&self) -> Option<u32>
+        ensures { result ≡ position is_none self.now.cpus }
+    {
+        let cpu = (!self.busy).trailing_zeros();
+        if (cpu as usize) < self.cpus.len() {
+            Some(cpu)
+        } else {
+            None
         }
     }
 
@@ -301,12 +321,18 @@ fn add_locals(queues: &mut Queues, cpus: usize)
     }
 }
 
-/// The lowest processor on which nothing runs.
-fn first_idle(cpus: &[Option<u16>]) -> Option<usize>
-    ensures place { result ≡ position is_none cpus.now }
-    ensures within { IfSome result (λ i. i < length cpus.now) }
+/// The bits with that one set or cleared.
+#[tactic(auto, using(crate::proofs::Busy::set_here, crate::proofs::Busy::set_others, crate::proofs::Busy::cleared_here, crate::proofs::Busy::cleared_others))]
+fn with_bit(bits: u64, place: u32, set: bool) -> u64
+    requires { place < 64 }
+    ensures here { bit_at result place ≡ one_if set }
+    ensures others { (i : ℕ) → i < 64 → i ≢ place → bit_at result i ≡ bit_at bits i }
 {
-    cpus.iter().position(|on| on.is_none())
+    if set {
+        bits | 1 << place
+    } else {
+        bits & !(1 << place)
+    }
 }
 
 /// The lowest processor on which the task runs.
