@@ -1,12 +1,17 @@
 //! The callbacks of scx_simple, with one map of one value of eight bytes: each is verified, or run, as
 //! often as is wanted.
 
+ghost use Rattle.scx_abs.specs.Arguments.{FitsCallback};
+ghost use Rattle.scx_vm.specs.Arguments as values;
+
 use crate::{Sum, verdict};
 use scx_asm::assemble;
 use scx_examples::{DISPATCH, ENABLE, ENQUEUE, INIT, OneTask, RUNNING, STOPPING};
-use scx_isa::{Callback, TaskId, decode, encode, flow};
+use scx_isa::{Callback, TaskId, decode, encode};
 use scx_maps::{MapDefs, Maps, Shape};
-use scx_vm::{Argument, Arguments, Ran, try_run};
+use scx_run::run;
+use scx_verify::{Verified, verify};
+use scx_vm::{Argument, Arguments};
 use std::alloc::Global;
 
 /// The callbacks, with their texts.
@@ -56,19 +61,25 @@ pub(crate) fn run_callbacks(alloc: Global, times: u64) -> Sum {
     Some(sum)
 }
 
-/// Runs a callback over a host and a map of its own, which keep what a run leaves.
+/// Runs a callback so many times.
 fn run_one(alloc: Global, callback: Callback, text: &str, times: u64) -> Sum {
     let defs = MapDefs::new(&CLOCK).ok()?;
-    let mut maps = Maps::new(alloc, &defs).ok()?;
-    let mut host = host();
     let program = assemble(alloc, text).ok()?;
-    flow(&program).ok()?;
+    let verified = verify(alloc, program, callback, &defs).ok()?;
+    run_times(alloc, &verified, times)
+}
+
+/// Runs a program so many times, over maps and a host of its own, which keep what a run leaves.
+fn run_times(alloc: Global, verified: &Verified, times: u64) -> Sum {
+    let mut maps = Maps::new(alloc, verified.defs()).ok()?;
+    let mut host = host();
+    let arguments = given(verified.callback());
     // The host has room for as many calls as can be counted.
-    let _instructions = program.instructions();
+    let _instructions = verified.instructions();
     let mut sum = 0u64;
     for _ in 0..times {
-        let ran = try_run(&program, callback, given(callback), &mut maps, &mut host);
-        sum = sum.wrapping_add(steps(ran)).wrapping_add(host.vtime);
+        let done = run(verified, arguments, &mut maps, &mut host);
+        sum = sum.wrapping_add(done.steps as u64).wrapping_add(host.vtime);
     }
     Some(sum)
 }
@@ -84,7 +95,9 @@ fn host() -> OneTask {
 }
 
 /// What a callback is given.
-fn given(callback: Callback) -> Arguments {
+fn given(callback: Callback) -> Arguments
+    ensures { FitsCallback callback (values.given result) }
+{
     let first = match callback {
         Callback::Init => return Arguments::NONE,
         Callback::Dispatch => Argument::Number(0),
@@ -93,14 +106,6 @@ fn given(callback: Callback) -> Arguments {
     Arguments {
         first,
         second: Argument::Number(0),
-        third: Argument::Unset,
-    }
-}
-
-/// How many steps a run took, or the slot where it got stuck.
-fn steps(ran: Ran) -> u64 {
-    match ran {
-        Ran::Done(done) => done.steps as u64,
-        Ran::Stuck(slot) => slot as u64,
+        third: Argument::Number(0),
     }
 }

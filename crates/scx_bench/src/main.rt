@@ -7,12 +7,16 @@
 
 mod callbacks;
 
+ghost use Rattle.std.specs.Prelude.{◌≡◌, [], IfSome};
+ghost use Rattle.scx_semantics.specs.declared.callbacks.Callback.TheVariants.{Plain};
+ghost use Rattle.scx_verify.specs.Typing.{context};
+
 use crate::callbacks::{run_callbacks, verify_callbacks};
 use scx_asm::{assemble, disassemble};
-use scx_isa::{Callback, Program, decode, encode, flow};
+use scx_isa::{Callback, Program, decode, encode};
 use scx_maps::{MapDefs, Maps, Shape, Size};
-use scx_verify::{Fault, verify};
-use scx_vm::{Ran, try_run_alone};
+use scx_run::run_alone;
+use scx_verify::{Fault, Verified, verify};
 use std::alloc::Global;
 use std::fs::File;
 use std::io::{Read, Write};
@@ -88,29 +92,27 @@ fn encodes(alloc: Global, bytes: &[u8], times: u64) -> Sum {
 }
 
 fn runs(alloc: Global, bytes: &[u8], times: u64) -> Sum {
-    let program = decode(alloc, bytes).ok()?;
-    let again = decode(alloc, bytes).ok()?;
-    flow(&program).ok()?;
-    flow(&again).ok()?;
+    let program = accepted(alloc, bytes)?;
+    let again = accepted(alloc, bytes)?;
     let mut sum = 0u64;
     for time in 0..times {
         // Two programs in turn, so that no run can be taken for the one before.
-        let ran = if time % 2 == 0 {
-            try_run_alone(alloc, &program)
+        let done = if time % 2 == 0 {
+            run_alone(alloc, &program)
         } else {
-            try_run_alone(alloc, &again)
+            run_alone(alloc, &again)
         };
-        sum = sum.wrapping_add(answer(ran));
+        sum = sum.wrapping_add(done.r0);
     }
     Some(sum)
 }
 
-/// A number that depends on how a run ended.
-fn answer(ran: Ran) -> u64 {
-    match ran {
-        Ran::Done(done) => done.r0,
-        Ran::Stuck(slot) => slot as u64,
-    }
+/// The program that the bytes spell, if it is accepted as a plain one.
+fn accepted(alloc: Global, bytes: &[u8]) -> Option<Verified>
+    ensures { IfSome result (λ verified. verified.context ≡ context Plain []) }
+{
+    let program = decode(alloc, bytes).ok()?;
+    verify(alloc, program, Callback::Plain, &MapDefs::none()).ok()
 }
 
 /// Verifies the program that the bytes spell. Each time it is decoded anew, since `verify` takes it.

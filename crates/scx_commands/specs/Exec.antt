@@ -10,7 +10,7 @@ use Rattle.scx_verify.specs.declared.faults.Fault as verifier
 use Rattle.scx_verify.specs.Typing.{context, IsTyped}
 use Rattle.scx_verify.specs.Faults.{IsReason}
 use Rattle.scx_vm.specs.Alone.{RunsAlone}
-use Rattle.scx_vm.specs.declared.run.Done.{Done}
+use Rattle.scx_vm.specs.declared.ending.Done.{Done}
 use Rattle.scx_commands.specs.declared.fault.Refusal.{Refusal}
 use Rattle.scx_commands.specs.declared.fault.Refusal.TheVariants.{TooLarge, NotUtf8, NoMemory, Decode, Verify, Assemble}
 use Rattle.scx_commands.specs.declared.file.TheConstants.{FILE_LIMIT}

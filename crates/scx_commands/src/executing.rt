@@ -1,6 +1,6 @@
 ghost use Rattle.std.specs.Prelude.{◌≡◌, ℕ, ◌<◌, length, true, Err, IfOk, IfErr, OnOk};
 ghost use Rattle.std.specs.Io.KnownBytes.{Appends};
-ghost use Rattle.scx_vm.specs.declared.run.Done.{Done};
+ghost use Rattle.scx_vm.specs.declared.ending.Done.{Done};
 ghost use Rattle.scx_commands.specs.Output.{HasFailed, AppendsBeginning};
 ghost use Rattle.scx_commands.specs.Outcome.{IfRefused, IsRefused};
 ghost use Rattle.scx_commands.specs.Exec.{HasRun, IsCause};

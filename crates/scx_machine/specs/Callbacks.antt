@@ -1,31 +1,57 @@
 -- A callback is run, and what follows it.
-use Rattle.std.specs.Prelude.{ℕ, Option, Some, None}
+use Rattle.std.specs.Prelude.{ℕ, ⊤, ◌≤◌, List, [], ◌∷◌, Option, Some, None}
 use Rattle.scx_semantics.specs.declared.callbacks.Callback.{Callback}
 use Rattle.scx_semantics.specs.Elements.{Maps}
+use Rattle.scx_semantics.specs.Code.{instruction_count}
 use Rattle.scx_semantics.specs.Endings.{Ending, run_of}
+use Rattle.scx_semantics.specs.Runs.{Runs}
 use Rattle.scx_verify.specs.Typing.{VerifiedProgram}
 use Rattle.scx_vm.specs.declared.arguments.Argument.{Argument}
 use Rattle.scx_vm.specs.declared.arguments.Argument.TheVariants.{Unset, Number}
 use Rattle.scx_vm.specs.declared.arguments.Arguments.{Arguments}
 use Rattle.scx_vm.specs.Arguments.{given}
-use Rattle.scx_vm.specs.Host.{answer_to, after_query}
+use Rattle.scx_vm.specs.Host.{host, answer_to, after_query}
 use Rattle.scx_world.specs.World.{WorldState, begun, quiet}
 use Rattle.scx_world.specs.Helpers.{pointed, helper_answer, helper_after, world_number, world_stored}
 use Rattle.scx_machine.specs.Policy.{PolicyState, program_of}
-use Rattle.scx_machine.specs.Steps.{State, Stepped}
+use Rattle.scx_machine.specs.Steps.{State, CallMade, Stepped}
 
 -- the program is run with the world as its outside; one that is absent does nothing, and answers 0
 unfoldable pub called : Option VerifiedProgram → Callback → Arguments → Maps → WorldState → Ending WorldState
 called None b a maps w = record { answer = Some 0; maps = maps; outside = w }
 called (Some p) b a maps w = run_of (answer_to helper_answer world_number) (after_query helper_after world_stored) b p.code (given a) maps w
 
--- what follows a callback: its notes are handed on
-abbrev pub ended : PolicyState → Ending WorldState → Stepped
-ended p e = record { state = record { policy = p; maps = e.maps; world = quiet e.outside }; notes = e.outside.notes }
+-- what a callback leaves, when its notes are handed on
+abbrev pub ended : PolicyState → Ending WorldState → State
+ended p e = record { policy = p; maps = e.maps; world = quiet e.outside }
+
+-- a program that is absent isn't called
+abbrev pub calls_of : Option VerifiedProgram → Arguments → Maps → WorldState → List CallMade
+calls_of None a maps w = []
+calls_of (Some p) a maps w = record { program = p; arguments = a; maps = maps; world = w } ∷ []
 
 -- a callback of the policy, with that task and processor at hand
 unfoldable pub call_back : State → Callback → Arguments → ℕ → ℕ → Stepped
-call_back s b a t c = ended s.policy (called (program_of s.policy b) b a s.maps (begun s.world b t c))
+call_back s b a t c =
+    let p = program_of s.policy b in
+    let w = begun s.world b t c in
+    let e = called p b a s.maps w in
+    record { state = ended s.policy e; notes = e.outside.notes; calls = calls_of p a s.maps w }
+
+-- a callback that is called is never stuck: it comes to an answer, in no more steps than its program has
+-- instructions
+pub record IsAnswered (c : CallMade) : Type 0 where
+  pub answer : ℕ
+  pub steps : ℕ
+  pub maps : Maps
+  pub world : WorldState
+  pub run : Runs (host helper_answer helper_after world_number world_stored) c.program.context.callback c.program.code (given c.arguments) c.maps c.world answer steps maps world
+  pub in_bound : steps ≤ instruction_count c.program.code
+
+-- the same of each
+abbrev pub AreAnswered : List CallMade → Type 0
+AreAnswered [] = ⊤
+AreAnswered (c ∷ cs) = IsAnswered c × AreAnswered cs
 
 -- ---- what callbacks are given
 

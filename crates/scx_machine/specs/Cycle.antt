@@ -21,7 +21,7 @@ move_note w (Some t) c = said w (Move t c) ∷ []
 
 -- where the local queue is empty, the front of another comes to it
 unfoldable pub fill : State → ℕ → ℕ → Stepped
-fill s q c = record { state = with_world s (filled s.world q c); notes = move_note s.world (fill_front s.world q c) c }
+fill s q c = record { state = with_world s (filled s.world q c); notes = move_note s.world (fill_front s.world q c) c; calls = [] }
 
 -- ---- dispatch
 
@@ -70,7 +70,7 @@ idle_note w (Some t) ran c = []
 
 -- nobody comes: the task before stays, or the processor is idle
 unfoldable pub rest : State → ℕ → Option ℕ → Bool → Stepped
-rest s c p ran = record { state = with_world s (kept s.world p); notes = idle_note s.world p ran c }
+rest s c p ran = record { state = with_world s (kept s.world p); notes = idle_note s.world p ran c; calls = [] }
 
 unfoldable pub pick_or_rest : State → ℕ → Option ℕ → Bool → Stepped
 pick_or_rest s c p ran = if has_local s c then pick s c p else rest s c p ran

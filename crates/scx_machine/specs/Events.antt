@@ -73,4 +73,4 @@ happened s (Wake t) = wake s t
 happened s (Sleep t) = sleep s t
 happened s (Tick c) = tick s c
 happened s Clock = stays (with_world s (later s.world))
-happened s (SetWeight g x) = record { state = with_world s (reweighed s.world g x); notes = said s.world (note.Weight g x) ∷ [] }
+happened s (SetWeight g x) = record { state = with_world s (reweighed s.world g x); notes = said s.world (note.Weight g x) ∷ []; calls = [] }

@@ -29,7 +29,7 @@ slice_for (Some p) (Some i) = i.slice
 unfoldable pub placed : State → ℕ → Stepped
 placed s t =
     let q = queue_for s.policy.callbacks.enqueue s.world.call.cpu s.world.call.insert in
-    record { state = with_world s (entered s.world t q (slice_for s.policy.callbacks.enqueue s.world.call.insert)); notes = said s.world (Insert t q) ∷ [] }
+    record { state = with_world s (entered s.world t q (slice_for s.policy.callbacks.enqueue s.world.call.insert)); notes = said s.world (Insert t q) ∷ []; calls = [] }
 
 unfoldable pub put : State → ℕ → ℕ → ℕ → Stepped
 put s t c flags =

@@ -44,7 +44,7 @@ ok_unless (Some n) s = Err n
 
 -- after init
 unfoldable pub initialized : State → Result State ℤ
-initialized s = ok_unless (bad_answer (init_ending s).outside.call.fault (init_ending s).answer) (ended s.policy (init_ending s)).state
+initialized s = ok_unless (bad_answer (init_ending s).outside.call.fault (init_ending s).answer) (ended s.policy (init_ending s))
 
 -- ---- enable of each task
 
@@ -56,7 +56,7 @@ abbrev pub has_failed : Ending WorldState → Bool
 has_failed e = is_some e.outside.call.fault || is_none e.answer
 
 unfoldable pub enable : State → ℕ → Option State
-enable s t = if has_failed (enable_ending s t) then None else Some (ended s.policy (enable_ending s t)).state
+enable s t = if has_failed (enable_ending s t) then None else Some (ended s.policy (enable_ending s t))
 
 abbrev pub then_enable : Option State → ℕ → Option State
 then_enable None t = None

@@ -1,6 +1,8 @@
--- The state of the machine, and what a step of it leaves and notes.
+-- The state of the machine, and what a step of it leaves, notes and calls.
 use Rattle.std.specs.Prelude.{List, [], ◌++◌}
 use Rattle.scx_semantics.specs.Elements.{Maps}
+use Rattle.scx_verify.specs.Typing.{VerifiedProgram}
+use Rattle.scx_vm.specs.declared.arguments.Arguments.{Arguments}
 use Rattle.scx_world.specs.declared.notes.Note.{Note}
 use Rattle.scx_world.specs.World.{WorldState}
 use Rattle.scx_machine.specs.Policy.{PolicyState}
@@ -10,20 +12,28 @@ pub record State : Type 0 where
   pub maps : Maps
   pub world : WorldState
 
+-- a callback that is called: its program, what it is given, and the maps and the world as it begins
+pub record CallMade : Type 0 where
+  pub program : VerifiedProgram
+  pub arguments : Arguments
+  pub maps : Maps
+  pub world : WorldState
+
 pub record Stepped : Type 0 where
   pub state : State
   pub notes : List Note
+  pub calls : List CallMade
 
 abbrev pub with_world : State → WorldState → State
 with_world s w = record { policy = s.policy; maps = s.maps; world = w }
 
 abbrev pub stays : State → Stepped
-stays s = record { state = s; notes = [] }
+stays s = record { state = s; notes = []; calls = [] }
 
 -- a step with notes in front
 abbrev pub after : List Note → Stepped → Stepped
-after ns r = record { state = r.state; notes = ns ++ r.notes }
+after ns r = record { state = r.state; notes = ns ++ r.notes; calls = r.calls }
 
 -- one step after another, the second one from where the first one leads
 abbrev pub joined : Stepped → Stepped → Stepped
-joined a r = record { state = r.state; notes = a.notes ++ r.notes }
+joined a r = record { state = r.state; notes = a.notes ++ r.notes; calls = a.calls ++ r.calls }

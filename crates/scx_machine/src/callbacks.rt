@@ -9,7 +9,7 @@ ghost use Rattle.scx_world.specs.World.{quiet};
 ghost use Rattle.scx_world.specs.Helpers.{helper_answer, helper_after, world_number, world_stored};
 ghost use Rattle.scx_machine.specs.Notes.{Takes};
 ghost use Rattle.scx_machine.specs.Policy.{program_of};
-ghost use Rattle.scx_machine.specs.Callbacks.{called, call_back, one_task, task_and_number, task_or_0, cpu_and_task};
+ghost use Rattle.scx_machine.specs.Callbacks.{called, call_back, calls_of, IsAnswered, AreAnswered, one_task, task_and_number, task_or_0, cpu_and_task};
 
 use crate::machine::Machine;
 use crate::policy::Policy;
@@ -35,6 +35,7 @@ pub(crate) fn run_callback(
     requires quiet { world.old.notes ≡ [] }
     requires few { world.old.queues.pushes + 4096 ≤ 2 ^ 63 }
     ensures ended { record { answer = Some result; maps = maps.new; outside = world.new } ≡ called (program_of policy.now callback) callback arguments maps.old world.old }
+    ensures answered { AreAnswered (calls_of (program_of policy.now callback) arguments maps.old world.old) }
     ensures shapes { HasShapes policy.now.shapes maps.new }
     ensures few { world.new.queues.pushes ≤ world.old.queues.pushes + 4096 }
 {
@@ -52,6 +53,7 @@ fn run_program(program: &Verified, arguments: Arguments, maps: &mut Maps, world:
     requires few { world.old.queues.pushes + 4096 ≤ 2 ^ 63 }
     ensures ended { record { answer = Some result; maps = maps.new; outside = world.new }
         ≡ run_of (answer_to helper_answer world_number) (after_query helper_after world_stored) program.now.context.callback program.now.code (given arguments) maps.old world.old }
+    ensures answered { IsAnswered (record { program = program.now; arguments = arguments; maps = maps.old; world = world.old }) }
     ensures shapes { HasShapes program.now.context.defs maps.new }
     ensures few { world.new.queues.pushes ≤ world.old.queues.pushes + 4096 }
 {
@@ -134,6 +136,7 @@ impl Machine {
         ensures state { self.new ≡ (call_back self.old callback arguments task cpu).state }
         ensures few { self.new.world.queues.pushes ≤ self.old.world.queues.pushes + 4096 }
         ensures notes { Takes S.takes sink.old (call_back self.old callback arguments task cpu).notes sink.new }
+        ensures answered { AreAnswered (call_back self.old callback arguments task cpu).calls }
     {
         self.world.begin(callback, task, cpu);
         run_callback(

@@ -1,5 +1,6 @@
 ghost use Rattle.std.specs.Prelude.{◌≡◌, ◌+◌, ◌*◌, ◌≤◌, ◌^◌};
 ghost use Rattle.scx_machine.specs.Notes.{Takes};
+ghost use Rattle.scx_machine.specs.Callbacks.{AreAnswered};
 ghost use Rattle.scx_machine.specs.Cycle.{fill, dispatched, tries, leave, start, pick, rest, pick_or_rest, ask, cycle};
 
 use crate::callbacks::{cpu_and_task, one_task, task_and_number};
@@ -16,6 +17,7 @@ impl Machine {
         ensures state { self.new ≡ (fill self.old queue cpu).state }
         ensures few { self.new.world.queues.pushes ≤ self.old.world.queues.pushes + 1 }
         ensures notes { Takes S.takes sink.old (fill self.old queue cpu).notes sink.new }
+        ensures answered { AreAnswered (fill self.old queue cpu).calls }
     {
         if let Some(task) = self.world.fill(queue, cpu) {
             sink.take(self.world.note(What::Move(task, cpu)));
@@ -29,6 +31,7 @@ impl Machine {
         ensures state { self.new ≡ (dispatched self.old cpu before).state }
         ensures few { self.new.world.queues.pushes ≤ self.old.world.queues.pushes + 4097 }
         ensures notes { Takes S.takes sink.old (dispatched self.old cpu before).notes sink.new }
+        ensures answered { AreAnswered (dispatched self.old cpu before).calls }
     {
         self.call_back(Callback::Dispatch, cpu_and_task(cpu, before), 0, cpu, sink);
         self.fill(GLOBAL, cpu, sink);
@@ -41,6 +44,7 @@ impl Machine {
         ensures state { self.new ≡ (tries left self.old cpu before).state }
         ensures few { self.new.world.queues.pushes ≤ self.old.world.queues.pushes + 4097 * left }
         ensures notes { Takes S.takes sink.old (tries left self.old cpu before).notes sink.new }
+        ensures answered { AreAnswered (tries left self.old cpu before).calls }
     {
         if left == 0 {
             return;
@@ -58,6 +62,7 @@ impl Machine {
         ensures state { self.new ≡ (leave self.old cpu before).state }
         ensures few { self.new.world.queues.pushes ≤ self.old.world.queues.pushes + 8193 }
         ensures notes { Takes S.takes sink.old (leave self.old cpu before).notes sink.new }
+        ensures answered { AreAnswered (leave self.old cpu before).calls }
     {
         if let Some(task) = before {
             sink.take(self.world.note(What::Stop(task, cpu)));
@@ -80,6 +85,7 @@ impl Machine {
         ensures state { self.new ≡ (start self.old cpu).state }
         ensures few { self.new.world.queues.pushes ≤ self.old.world.queues.pushes + 4096 }
         ensures notes { Takes S.takes sink.old (start self.old cpu).notes sink.new }
+        ensures answered { AreAnswered (start self.old cpu).calls }
     {
         if let Some(task) = self.world.start(cpu) {
             sink.take(self.world.note(What::Run(task, cpu)));
@@ -94,6 +100,7 @@ impl Machine {
         ensures state { self.new ≡ (pick self.old cpu before).state }
         ensures few { self.new.world.queues.pushes ≤ self.old.world.queues.pushes + 12289 }
         ensures notes { Takes S.takes sink.old (pick self.old cpu before).notes sink.new }
+        ensures answered { AreAnswered (pick self.old cpu before).calls }
     {
         self.leave(cpu, before, sink);
         self.start(cpu, sink);
@@ -106,6 +113,7 @@ impl Machine {
         ensures state { self.new ≡ (rest self.old cpu before ran).state }
         ensures few { self.new.world.queues.pushes ≤ self.old.world.queues.pushes + 0 }
         ensures notes { Takes S.takes sink.old (rest self.old cpu before ran).notes sink.new }
+        ensures answered { AreAnswered (rest self.old cpu before ran).calls }
     {
         if before.is_none() && ran {
             sink.take(self.world.note(What::Idle(cpu)));
@@ -120,6 +128,7 @@ impl Machine {
         ensures state { self.new ≡ (pick_or_rest self.old cpu before ran).state }
         ensures few { self.new.world.queues.pushes ≤ self.old.world.queues.pushes + 12289 }
         ensures notes { Takes S.takes sink.old (pick_or_rest self.old cpu before ran).notes sink.new }
+        ensures answered { AreAnswered (pick_or_rest self.old cpu before ran).calls }
     {
         if self.has_local(cpu) {
             self.pick(cpu, before, sink);
@@ -135,6 +144,7 @@ impl Machine {
         ensures state { self.new ≡ (ask self.old cpu before ran).state }
         ensures few { self.new.world.queues.pushes ≤ self.old.world.queues.pushes + 143393 }
         ensures notes { Takes S.takes sink.old (ask self.old cpu before ran).notes sink.new }
+        ensures answered { AreAnswered (ask self.old cpu before ran).calls }
     {
         self.tries(32, cpu, before, sink);
         self.pick_or_rest(cpu, before, ran, sink);
@@ -148,6 +158,7 @@ impl Machine {
         ensures state { self.new ≡ (cycle self.old cpu before ran).state }
         ensures few { self.new.world.queues.pushes ≤ self.old.world.queues.pushes + 143394 }
         ensures notes { Takes S.takes sink.old (cycle self.old cpu before ran).notes sink.new }
+        ensures answered { AreAnswered (cycle self.old cpu before ran).calls }
     {
         self.fill(GLOBAL, cpu, sink);
         if self.has_local(cpu) {

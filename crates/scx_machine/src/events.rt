@@ -1,6 +1,7 @@
 ghost use Rattle.std.specs.Prelude.{◌≡◌, ℕ, ◌+◌, ◌<◌, ◌≤◌, ◌^◌, length, None};
 ghost use Rattle.scx_world.specs.World.{task_at};
 ghost use Rattle.scx_machine.specs.Notes.{Takes};
+ghost use Rattle.scx_machine.specs.Callbacks.{AreAnswered};
 ghost use Rattle.scx_machine.specs.declared.events.Event.TheVariants.{Wake, Sleep, SetWeight};
 ghost use Rattle.scx_machine.specs.Events.{is_bad_weight, refusal, target, put_and_run, wake, sleep_from_cpu, sleep, count_down, tick, happened};
 
@@ -114,6 +115,7 @@ impl Machine {
         ensures state { self.new ≡ (put_and_run self.old task cpu).state }
         ensures few { self.new.world.queues.pushes ≤ self.old.world.queues.pushes + 147491 }
         ensures notes { Takes S.takes sink.old (put_and_run self.old task cpu).notes sink.new }
+        ensures answered { AreAnswered (put_and_run self.old task cpu).calls }
     {
         self.put(task, cpu, 1, sink);
         if self.world.is_idle(cpu) {
@@ -129,6 +131,7 @@ impl Machine {
         ensures state { self.new ≡ (wake self.old task).state }
         ensures few { self.new.world.queues.pushes ≤ self.old.world.queues.pushes + 147491 }
         ensures notes { Takes S.takes sink.old (wake self.old task).notes sink.new }
+        ensures answered { AreAnswered (wake self.old task).calls }
     {
         sink.take(self.world.note(What::Wake(task)));
         self.world.wake(task);
@@ -143,6 +146,7 @@ impl Machine {
         ensures state { self.new ≡ (sleep_from_cpu self.old task cpu).state }
         ensures few { self.new.world.queues.pushes ≤ self.old.world.queues.pushes + 147490 }
         ensures notes { Takes S.takes sink.old (sleep_from_cpu self.old task cpu).notes sink.new }
+        ensures answered { AreAnswered (sleep_from_cpu self.old task cpu).calls }
     {
         sink.take(self.world.note(What::Stop(task, cpu)));
         self.world.stop(cpu, task);
@@ -164,6 +168,7 @@ impl Machine {
         ensures state { self.new ≡ (sleep self.old task).state }
         ensures few { self.new.world.queues.pushes ≤ self.old.world.queues.pushes + 147490 }
         ensures notes { Takes S.takes sink.old (sleep self.old task).notes sink.new }
+        ensures answered { AreAnswered (sleep self.old task).calls }
     {
         sink.take(self.world.note(What::Sleep(task)));
         match self.world.cpu_of(task) {
@@ -183,6 +188,7 @@ impl Machine {
         ensures state { self.new ≡ (count_down self.old cpu task).state }
         ensures few { self.new.world.queues.pushes ≤ self.old.world.queues.pushes + 143394 }
         ensures notes { Takes S.takes sink.old (count_down self.old cpu task).notes sink.new }
+        ensures answered { AreAnswered (count_down self.old cpu task).calls }
     {
         self.world.run_tick(task);
         if self.world.task(task).slice == 0 {
@@ -198,6 +204,7 @@ impl Machine {
         ensures state { self.new ≡ (tick self.old cpu).state }
         ensures few { self.new.world.queues.pushes ≤ self.old.world.queues.pushes + 143394 }
         ensures notes { Takes S.takes sink.old (tick self.old cpu).notes sink.new }
+        ensures answered { AreAnswered (tick self.old cpu).calls }
     {
         match self.world.running(cpu) {
             Some(task) => self.count_down(cpu, task, sink),
@@ -215,6 +222,7 @@ impl Machine {
         ensures state { self.new ≡ (happened self.old event).state }
         ensures few { self.new.world.queues.pushes ≤ self.old.world.queues.pushes + 2 ^ 18 }
         ensures notes { Takes S.takes sink.old (happened self.old event).notes sink.new }
+        ensures answered { AreAnswered (happened self.old event).calls }
     {
         match event {
             Event::Wake(task) => self.wake(task, sink),

@@ -1,5 +1,6 @@
 ghost use Rattle.std.specs.Prelude.{◌≡◌, ◌+◌, ◌≤◌, ◌^◌};
 ghost use Rattle.scx_machine.specs.Notes.{Takes};
+ghost use Rattle.scx_machine.specs.Callbacks.{AreAnswered};
 ghost use Rattle.scx_machine.specs.Put.{resolved, queue_for, slice_for, placed, put};
 
 use crate::callbacks::task_and_number;
@@ -51,6 +52,7 @@ impl Machine {
         ensures state { self.new ≡ (placed self.old task).state }
         ensures few { self.new.world.queues.pushes ≤ self.old.world.queues.pushes + 1 }
         ensures notes { Takes S.takes sink.old (placed self.old task).notes sink.new }
+        ensures answered { AreAnswered (placed self.old task).calls }
     {
         let queue = self.queue_for();
         let slice = self.slice_for();
@@ -65,6 +67,7 @@ impl Machine {
         ensures state { self.new ≡ (put self.old task cpu flags).state }
         ensures few { self.new.world.queues.pushes ≤ self.old.world.queues.pushes + 4097 }
         ensures notes { Takes S.takes sink.old (put self.old task cpu flags).notes sink.new }
+        ensures answered { AreAnswered (put self.old task cpu flags).calls }
     {
         self.call_back(
             Callback::Enqueue,

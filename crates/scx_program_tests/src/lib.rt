@@ -5,6 +5,8 @@
 #[cfg(test)]
 mod assembling;
 #[cfg(test)]
+mod both_machines;
+#[cfg(test)]
 mod malicious;
 #[cfg(test)]
 mod programs;

@@ -194,11 +194,11 @@ module _ (n : ℕ) (on : List (Option ℕ)) (some : 0 < length on) where
   unfolding initialized
   fine_initialized s t e h = go (bad_answer (init_ending s).outside.call.fault (init_ending s).answer) e
     where
-      after : IsFine n 0 None on (ended s.policy (init_ending s)).state.world
+      after : IsFine n 0 None on (ended s.policy (init_ending s)).world
       after = (fine_steps n 0).quiet None on (init_ending s).outside
           (keeps_called n (IsFine n 0) (fine_steps n 0) None on (program_of s.policy callback.Init) callback.Init no_arguments s.maps (begun s.world callback.Init 0 0) ((fine_steps n 0).begun None on s.world callback.Init 0 0 some h))
 
-      go : (o : Option ℤ) → ok_unless o (ended s.policy (init_ending s)).state ≡ Ok t → IsFine n 0 None on t.world
+      go : (o : Option ℤ) → ok_unless o (ended s.policy (init_ending s)) ≡ Ok t → IsFine n 0 None on t.world
       go None e = subst (λ (x : State). IsFine n 0 None on x.world) (same_ok _ _ e) after
       go (Some k) e = absurd (cc)
 
@@ -206,11 +206,11 @@ module _ (n : ℕ) (on : List (Option ℕ)) (some : 0 < length on) where
   unfolding enable
   fine_enabled_one s t k e h = go (has_failed (enable_ending s k)) e
     where
-      after : IsFine n 0 None on (ended s.policy (enable_ending s k)).state.world
+      after : IsFine n 0 None on (ended s.policy (enable_ending s k)).world
       after = (fine_steps n 0).quiet None on (enable_ending s k).outside
           (keeps_called n (IsFine n 0) (fine_steps n 0) None on (program_of s.policy callback.Enable) callback.Enable (one_task k) s.maps (begun s.world callback.Enable k 0) ((fine_steps n 0).begun None on s.world callback.Enable k 0 some h))
 
-      go : (b : Bool) → (if b then None else Some (ended s.policy (enable_ending s k)).state) ≡ Some t → IsFine n 0 None on t.world
+      go : (b : Bool) → (if b then None else Some (ended s.policy (enable_ending s k))) ≡ Some t → IsFine n 0 None on t.world
       go true e = absurd (cc)
       go false e = subst (λ (x : State). IsFine n 0 None on x.world) (same_some _ _ e) after
 

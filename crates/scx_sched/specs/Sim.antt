@@ -6,7 +6,7 @@ use Rattle.scx_machine.specs.declared.events.Refused.{Refused}
 use Rattle.scx_machine.specs.declared.events.Refused.TheVariants.{RunOver}
 use Rattle.scx_weights.specs.Hierarchy.{Hierarchy}
 use Rattle.scx_machine.specs.Policy.{PolicyState}
-use Rattle.scx_machine.specs.Steps.{State}
+use Rattle.scx_machine.specs.Steps.{State, CallMade}
 use Rattle.scx_machine.specs.Start.{started}
 use Rattle.scx_machine.specs.Events as machine
 use Rattle.scx_sched.specs.Ranges.{IsFine}
@@ -37,6 +37,14 @@ notes_if (Some r) s e = []
 -- its notes; one that is refused has none
 abbrev pub notes_of : SimState → Event → List Note
 notes_of s e = notes_if (refusal s e) s e
+
+abbrev pub calls_if : Option Refused → SimState → Event → List CallMade
+calls_if None s e = (machine.happened s.state e).calls
+calls_if (Some r) s e = []
+
+-- the callbacks that it calls
+abbrev pub calls_of : SimState → Event → List CallMade
+calls_of s e = calls_if (refusal s e) s e
 
 abbrev pub answer_of : Option Refused → Result (Unit {0}) Refused
 answer_of None = Ok tt

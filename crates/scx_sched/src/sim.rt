@@ -1,11 +1,12 @@
 ghost use Rattle.std.specs.Prelude.{◌≡◌, ◌<◌, ◌≤◌, length, None, IfOk, IfErr, OnOk, OnErr};
 ghost use Rattle.scx_world.specs.World.{task_at, running};
 ghost use Rattle.scx_machine.specs.Notes.{Takes};
+ghost use Rattle.scx_machine.specs.Callbacks.{AreAnswered};
 ghost use Rattle.scx_machine.specs.Start.{started, IsRefusal};
 ghost use Rattle.scx_sched.specs.Left.{LeavesNothingIdle};
 ghost use Rattle.scx_sched.specs.Once.{IsOnce};
 ghost use Rattle.scx_sched.specs.Places.{place, wait};
-ghost use Rattle.scx_sched.specs.Sim.{max_events, refusal, answer_of, stepped, notes_of, IsFirst};
+ghost use Rattle.scx_sched.specs.Sim.{max_events, refusal, answer_of, stepped, notes_of, calls_of, IsFirst};
 
 use crate::places::{Place, place_in};
 use scx_machine::{Event, Machine, NewError, Policy, Refused, Sink};
@@ -66,6 +67,7 @@ impl Sim {
         ensures state { self.new ≡ stepped self.old event }
         ensures refused { OnErr result (self.new ≡ self.old) }
         ensures notes { Takes S.takes sink.old (notes_of self.old event) sink.new }
+        ensures answered { AreAnswered (calls_of self.old event) }
         ensures once { IsOnce None self.new.state.world }
         ensures idle { OnOk result (LeavesNothingIdle event self.new.state.world) }
     {

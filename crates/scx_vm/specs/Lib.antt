@@ -1,9 +1,3 @@
-pub mod Stack
-pub mod State
 pub mod Arguments
 pub mod Host
-pub mod Places
-pub mod Execute
-pub mod Run
-pub mod Outcome
 pub mod Alone

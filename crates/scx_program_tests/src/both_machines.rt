@@ -1,0 +1,225 @@
+//! Verified programs, run in operations and by the machine with tags.
+
+ghost use Rattle.std.specs.Prelude.{◌≡◌, IfSome};
+ghost use Rattle.scx_semantics.specs.declared.callbacks.Callback.TheVariants.{SelectCpu};
+ghost use Rattle.scx_verify.specs.Typing.{context};
+
+use scx_asm::assemble;
+use scx_examples::OneTask;
+use scx_isa::{Callback, Program, TaskId};
+use scx_maps::{MapDefs, Maps, Shape};
+use scx_run::run;
+use scx_tagged::{Ran, try_run};
+use scx_verify::{Verified, verify};
+use scx_vm::{Argument, Arguments, Done};
+use std::alloc::{AllocError, Global};
+use std::process::Abort;
+use std::test::Fail;
+
+/// How many programs are compared, and how many are tried at most.
+const COMPARED: u32 = 20_000;
+
+const TRIED: u32 = 400_000;
+
+/// The map of all programs: four values of eight bytes.
+const SHAPES: [Shape; 1] = [Shape {
+    entries: 4,
+    value_size: 8,
+}];
+
+/// A run's answer and length, and what it left.
+#[derive(Drop)]
+struct Left {
+    done: Done,
+    maps: Maps,
+    host: OneTask,
+}
+
+fn idle_host() -> OneTask {
+    OneTask {
+        weight: 50,
+        slice: 5_000_000,
+        vtime: 1000,
+        called: None,
+        given: [Argument::Unset; 5],
+    }
+}
+
+const GIVEN: Arguments = Arguments {
+    first: Argument::Task(TaskId(3)),
+    second: Argument::Number(2),
+    third: Argument::Number(0),
+};
+
+/// Verifies a program as `select_cpu`, which is given a task and two numbers, and answers one.
+fn verified(alloc: Global, program: Program, defs: &MapDefs) -> Option<Verified>
+    ensures { IfSome result (λ verified. verified.context ≡ context SelectCpu defs.now) }
+{
+    verify(alloc, program, Callback::SelectCpu, defs).ok()
+}
+
+fn run_plain(alloc: Global, verified: &Verified, defs: &MapDefs) -> Option<Left>
+    requires { verified.now.context ≡ context SelectCpu defs.now }
+{
+    let mut maps = Maps::new(alloc, defs).ok()?;
+    let mut host = idle_host();
+    let _instructions = verified.instructions();
+    let done = run(verified, GIVEN, &mut maps, &mut host);
+    Some(Left { done, maps, host })
+}
+
+fn run_tagged(alloc: Global, verified: &Verified, defs: &MapDefs) -> Option<Left> {
+    let mut maps = Maps::new(alloc, defs).ok()?;
+    let mut host = idle_host();
+    let _instructions = verified.instructions();
+    match try_run(
+        verified.program(),
+        Callback::SelectCpu,
+        GIVEN,
+        &mut maps,
+        &mut host,
+    ) {
+        Ran::Done(done) => Some(Left { done, maps, host }),
+        Ran::Stuck(_) => None,
+    }
+}
+
+/// Whether both runs left the same.
+fn are_same(plain: &Left, tagged: &Left) -> bool {
+    plain.done == tagged.done
+        && plain.maps.bytes() == tagged.maps.bytes()
+        && plain.host.called == tagged.host.called
+        && plain.host.given == tagged.host.given
+        && plain.host.slice == tagged.host.slice
+        && plain.host.vtime == tagged.host.vtime
+}
+
+/// What random programs are made of. The first six make numbers and a pointer to the task of the
+/// registers.
+const LINES: [&str; 40] = [
+    "r0 = 7\n",
+    "r2 = -5\n",
+    "r3 = 70000\n",
+    "r4 = 1\n",
+    "r5 = 0x80000000 ll\n",
+    "r6 = r1\n",
+    "r0 += r2\n",
+    "r2 *= r3\n",
+    "r3 -= 9\n",
+    "w4 ^= w2\n",
+    "r5 >>= 3\n",
+    "r0 s/= r2\n",
+    "w3 s%= -7\n",
+    "r2 = -r2\n",
+    "r4 = (s8)r3\n",
+    "r5 = be32 r5\n",
+    "r3 = r0\n",
+    "if r0 > r2 goto +1\n",
+    "if w3 s< -4 goto +2\n",
+    "if r4 & 6 goto +1\n",
+    "goto +1\n",
+    "*(u64 *)(r10 - 8) = r2\n",
+    "*(u32 *)(r10 - 16) = r3\n",
+    "*(u8 *)(r10 - 12) = 200\n",
+    "*(u64 *)(r10 - 16) = 4\n",
+    "*(u64 *)(r10 - 24) = r6\n",
+    "r0 = *(u64 *)(r10 - 8)\n",
+    "r2 = *(s32 *)(r10 - 16)\n",
+    "r3 = *(u16 *)(r10 - 16)\n",
+    "r6 = *(u64 *)(r10 - 24)\n",
+    "r4 = *(u32 *)(r6 + 4)\n",
+    "*(u64 *)(r6 + 8) = r3\n",
+    "r5 = *(u64 *)(r6 + 16)\n",
+    "*(u32 *)(r10 - 28) = 2\nr2 = r10\nr2 += -28\nr1 = map 0\ncall 1\nr2 = 3\nr3 = 4\nr4 = 5\nr5 = 6\nif r0 == 0 goto +3\n*(u64 *)(r0 + 0) = 11\nr3 = *(u64 *)(r0 + 0)\nr0 = 1\n",
+    "*(u32 *)(r10 - 28) = 9\nr2 = r10\nr2 += -28\nr1 = map 0\ncall 1\nr2 = 3\nr3 = 4\nr4 = 5\nr5 = 6\nif r0 == 0 goto +2\n*(u32 *)(r0 + 4) = 12\nr0 = 1\n",
+    "*(u32 *)(r10 - 28) = 1\nr2 = r10\nr2 += -28\nr1 = map 0\ncall 1\n*(u64 *)(r10 - 40) = r0\nr0 = *(u64 *)(r10 - 40)\nr2 = 3\nr3 = 4\nr4 = 5\nr5 = 6\nif r0 == 0 goto +3\nr7 = *(u64 *)(r10 - 40)\n*(u16 *)(r7 + 2) = r3\nr0 = *(u64 *)(r7 + 0)\n",
+    "call 5\nr2 = 3\nr3 = 4\nr4 = 5\nr5 = 6\n",
+    "r1 = 0\ncall 1008\nr2 = 3\nr3 = 4\nr4 = 5\nr5 = 6\n",
+    "r2 <<= 40\n",
+    "w0 = w2\n",
+];
+
+/// Random numbers by a linear congruential generator.
+#[derive(Drop)]
+struct Random(u64);
+
+impl Random {
+    fn next(&mut self) -> u64 {
+        self.0 = self
+            .0
+            .wrapping_mul(6_364_136_223_846_793_005)
+            .wrapping_add(1_442_695_040_888_963_407);
+        self.0.wrapping_shr(33)
+    }
+}
+
+/// The text of a random program.
+fn random_text(alloc: Global, random: &mut Random) -> Result<String, AllocError> {
+    let mut text = String::new(alloc);
+    for line in &LINES[..6] {
+        text.push_str(line)?;
+    }
+    let lines = 4 + random.next() % 24;
+    for _ in 0..lines {
+        let line = (random.next() % 40) as usize;
+        text.push_str(LINES[line])?;
+    }
+    text.push_str("r0 = r2\nexit\n")?;
+    Ok(text)
+}
+
+/// Whether a random program, if it is accepted, leaves the same on both machines.
+fn compare(alloc: Global, random: &mut Random, defs: &MapDefs) -> Option<bool> {
+    let text = random_text(alloc, random).ok()?;
+    let program = assemble(alloc, text.as_str()).ok()?;
+    let verified = verified(alloc, program, defs)?;
+    let plain = run_plain(alloc, &verified, defs)?;
+    let tagged = run_tagged(alloc, &verified, defs)?;
+    Some(are_same(&plain, &tagged))
+}
+
+#[test]
+fn random_programs_leave_the_same(rt: HostRuntime) {
+    let defs = MapDefs::new(&SHAPES).expect(&rt, "the map is within the limits");
+    let mut random = Random(1);
+    let mut compared = 0u32;
+    for _ in 0..TRIED {
+        if compared < COMPARED {
+            if let Some(same) = compare(rt.alloc(), &mut random, &defs) {
+                assert!(&rt; same);
+                compared = compared.wrapping_add(1);
+            }
+        }
+    }
+    assert_eq!(rt; compared, COMPARED);
+}
+
+/// What the program of a text leaves on both machines: its answer and steps, and the first number of
+/// the map.
+fn expect<R: AllocGlobal + Abort>(rt: &R, text: &str, wanted: &str) -> Result<(), Fail> {
+    let defs = MapDefs::new(&SHAPES).expect(rt, "the map is within the limits");
+    let program = assemble(rt.alloc(), text).expect(rt, "the text is a program");
+    let verified = verified(rt.alloc(), program, &defs).expect(rt, "the program is accepted");
+    let plain = run_plain(rt.alloc(), &verified, &defs).expect(rt, "there is memory");
+    let tagged = run_tagged(rt.alloc(), &verified, &defs).expect(rt, "it isn't stuck");
+    assert!(rt; are_same(&plain, &tagged));
+    let found = format!(in rt.alloc(); "{} in {} steps", plain.done.r0, plain.done.steps)?;
+    assert_eq!(rt; found.as_str(), wanted);
+    Ok(())
+}
+
+#[test]
+fn pointers_are_kept_on_the_stack(rt: HostRuntime) -> Result<(), Fail> {
+    // An element, written through a pointer that was stored and loaded.
+    expect(
+        &rt,
+        "*(u32 *)(r10 - 4) = 0\nr2 = r10\nr2 += -4\nr1 = map 0\ncall 1\nif r0 == 0 goto +4\n*(u64 *)(r10 - 16) = r0\nr3 = *(u64 *)(r10 - 16)\n*(u64 *)(r3 + 0) = 77\nr0 = *(u64 *)(r0 + 0)\nr0 = 5\nexit\n",
+        "5 in 12 steps",
+    )?;
+    // A look-up that finds nothing, stored as it is, loaded and tested.
+    expect(
+        &rt,
+        "*(u32 *)(r10 - 4) = 4\nr2 = r10\nr2 += -4\nr1 = map 0\ncall 1\n*(u64 *)(r10 - 16) = r0\nr3 = *(u64 *)(r10 - 16)\nif r3 != 0 goto +2\nr0 = 8\nexit\nr0 = 9\nexit\n",
+        "8 in 10 steps",
+    )
+}

@@ -1,0 +1,9 @@
+pub mod Forward
+pub mod RunSteps
+pub mod Lists
+pub mod StackReads
+pub mod StackWrites
+pub mod Effects
+pub mod Registers
+pub mod HelperCalls
+pub mod Fields

@@ -1,0 +1,7 @@
+pub mod Stack
+pub mod State
+pub mod Arguments
+pub mod Places
+pub mod Execute
+pub mod Run
+pub mod Outcome

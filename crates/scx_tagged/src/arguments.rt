@@ -1,0 +1,38 @@
+ghost use Rattle.std.specs.Prelude.{◌≡◌};
+ghost use Rattle.scx_vm.specs.Arguments.{argument_value, argument_of, answer_value};
+
+use scx_isa::{Pointer, Value};
+use scx_vm::{Answer, Argument};
+
+/// The value that a register holds of it.
+pub fn argument_value(argument: Argument) -> Value
+    ensures { result ≡ argument_value argument }
+{
+    match argument {
+        Argument::Unset => Value::Unset,
+        Argument::Number(n) => Value::Number(n),
+        Argument::Task(task) => Value::Pointer(Pointer::Task(task)),
+    }
+}
+
+/// A register's value as a host is given it.
+pub fn argument_of(value: Value) -> Argument
+    ensures { result ≡ argument_of value }
+{
+    match value {
+        Value::Number(n) => Argument::Number(n),
+        Value::Pointer(Pointer::Task(task)) => Argument::Task(task),
+        Value::Pointer(Pointer::Stack(_) | Pointer::Map(_) | Pointer::Element(..)) | Value::Unset =>
+            Argument::Unset,
+    }
+}
+
+/// The value that r0 holds of it.
+pub fn answer_value(answer: Answer) -> Value
+    ensures { result ≡ answer_value answer }
+{
+    match answer {
+        Answer::Number(n) => Value::Number(n),
+        Answer::Task(task) => Value::Pointer(Pointer::Task(task)),
+    }
+}

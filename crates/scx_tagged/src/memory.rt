@@ -1,0 +1,107 @@
+ghost use Rattle.std.specs.Prelude.{◌≡◌, ℕ, ◌+◌, ◌%◌, ◌^◌, ◌≤◌, ◌≤ℤ◌, pos, neg_ℤ, IfSome, length};
+ghost use Rattle.byteorder.specs.Endian.{little_number};
+ghost use Rattle.scx_semantics.specs.Arithmetic.{shifted};
+ghost use Rattle.scx_semantics.specs.Elements.{element, number_at};
+ghost use Rattle.scx_semantics.specs.Memory.{room_at, size_bytes, access_size, read_as};
+ghost use Rattle.scx_semantics.specs.Places.{address};
+ghost use Rattle.scx_tagged.specs.Places.{place_of, Lies, LiesInElement};
+
+use crate::stack::STACK_TOP;
+use byteorder::{ByteOrder, LittleEndian};
+use scx_isa::{Access, Field, Pointer, Size, TaskId, Value};
+use scx_maps::Maps;
+
+/// The place that an address means.
+#[derive(Clone, Copy)]
+pub enum Place {
+    Nowhere,
+    /// The byte of the stack.
+    OnStack(u16),
+    /// The map, the element's index, and the byte within the element.
+    InElement(u8, u32, u16),
+    InTask(TaskId, Field),
+}
+
+/// The place that an address means, for so many bytes.
+#[inline(always)]
+pub fn address(maps: &Maps, base: Value, offset: i16, size: Size) -> Place
+    ensures place { address maps.now base offset (size_bytes size) ≡ place_of result }
+    ensures lies { Lies maps.now (size_bytes size) result }
+{
+    match base {
+        Value::Pointer(Pointer::Stack(at)) => match room_at(STACK_TOP, size, at, offset) {
+            Some(at) => Place::OnStack(at),
+            None => Place::Nowhere,
+        },
+        Value::Pointer(Pointer::Element(map, at, index)) => {
+            match room_at(maps.value_size(map, index), size, at, offset) {
+                Some(at) => Place::InElement(map, index, at),
+                None => Place::Nowhere,
+            }
+        }
+        Value::Pointer(Pointer::Task(task)) => match Field::at(offset, size) {
+            Some(field) => Place::InTask(task, field),
+            None => Place::Nowhere,
+        },
+        Value::Pointer(Pointer::Map(_)) | Value::Number(_) | Value::Unset => Place::Nowhere,
+    }
+}
+
+/// The place that far from another, if that many bytes from it on lie in so much memory and it is a
+/// multiple of them.
+fn room_at(limit: u16, size: Size, at: u16, offset: i16) -> Option<u16>
+    ensures place { result ≡ room_at limit (size_bytes size) (shifted at offset) }
+    ensures within { IfSome result (λ to. to + size_bytes size ≤ limit) }
+    ensures aligned { IfSome result (λ to. to % size_bytes size ≡ 0) }
+{
+    let to = shifted(at, i64::from(offset))?;
+    let bytes = u64::from(size.bytes());
+    if to + bytes <= u64::from(limit) && to % bytes == 0 {
+        Some(to as u16)
+    } else {
+        None
+    }
+}
+
+/// The number that far on, or back; `None` below 0.
+pub fn shifted(n: u16, distance: i64) -> Option<u64>
+    requires low { neg_ℤ (pos (2 ^ 31)) ≤ℤ distance }
+    requires high { distance ≤ℤ pos (2 ^ 31) }
+    ensures shifted { result ≡ shifted n distance }
+    ensures small { IfSome result (λ to. to ≤ 2 ^ 32) }
+{
+    let place = i64::from(n) + distance;
+    if place < 0 {
+        None
+    } else {
+        Some(place.cast_unsigned())
+    }
+}
+
+/// What a load reads in an element of a map.
+pub fn element_number(maps: &Maps, map: u8, index: u32, at: u16, access: Access) -> u64
+    requires { LiesInElement maps.now map index at (size_bytes (access_size access)) }
+    ensures { result ≡ read_as access (number_at (element maps.now map index) at (size_bytes (access_size access))) }
+{
+    first_number(&maps.value(map, index)[usize::from(at)..], access)
+}
+
+/// What a load makes of the first bytes.
+fn first_number(bytes: &[u8], access: Access) -> u64
+    requires { size_bytes (access_size access) ≤ length bytes.now }
+    ensures { result ≡ read_as access (little_number (size_bytes (access_size access)) bytes.now) }
+{
+    match access {
+        Access::Byte => u64::from(bytes[0]),
+        Access::HalfWord => u64::from(LittleEndian::read_u16(bytes)),
+        Access::Word => u64::from(LittleEndian::read_u32(bytes)),
+        Access::DoubleWord => LittleEndian::read_u64(bytes),
+        Access::SignedByte => i64::from(bytes[0].cast_signed()).cast_unsigned(),
+        Access::SignedHalfWord => {
+            i64::from(LittleEndian::read_u16(bytes).cast_signed()).cast_unsigned()
+        }
+        Access::SignedWord => {
+            i64::from(LittleEndian::read_u32(bytes).cast_signed()).cast_unsigned()
+        }
+    }
+}

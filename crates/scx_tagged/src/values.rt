@@ -1,0 +1,178 @@
+ghost use Rattle.std.specs.Prelude.{◌≡◌, ◌^◌, ◌≤◌, ◌≤ℤ◌, pos, neg_ℤ, IfSome, Some, ◌<◌, length};
+ghost use Rattle.scx_semantics.specs.Meaning.{operand_value, on_number, binary, moved, combined, arithmetic, pointer_step, pointer_moved, map_reference};
+ghost use Rattle.scx_semantics.specs.Arithmetic.{negated, extended, reordered, shifted};
+ghost use Rattle.scx_semantics.specs.Memory.{within};
+ghost use Rattle.scx_semantics.specs.Elements.{Maps};
+ghost use Rattle.scx_semantics.specs.Registers.{number};
+ghost use Rattle.scx_tagged.specs.State.{seen, held};
+
+use crate::memory::shifted;
+use crate::stack::STACK_TOP;
+use crate::state::Core;
+use scx_arithmetic as numbers;
+use scx_isa::{Extension, Operand, Operation, Order, OrderWidth, Pointer, Register, Value, Width};
+use scx_maps::Maps;
+
+/// An operand as an instruction of that width takes it.
+pub fn operand_value(core: &Core, width: Width, operand: Operand) -> Value
+    ensures { (maps : Maps) → result ≡ operand_value (seen core.now maps) width operand }
+{
+    match operand {
+        Operand::Immediate(k) => Value::Number(numbers::immediate(width, k)),
+        Operand::Register(register) => core.read(register),
+    }
+}
+
+/// What an operation leaves in its destination; `None` where it has no meaning.
+pub fn binary(
+    core: &Core,
+    maps: &Maps,
+    width: Width,
+    operation: Operation,
+    destination: Register,
+    operand: Operand,
+) -> Option<Value>
+    ensures { result ≡ binary (seen core.now maps.now) width operation (held core.now (number destination)) operand }
+{
+    match operation {
+        Operation::Move => moved(width, operand_value(core, width, operand)),
+        _ => arithmetic(
+            core,
+            maps,
+            width,
+            operation,
+            core.read(destination),
+            operand,
+        ),
+    }
+}
+
+/// What a move copies: a number, and at 64 bits a pointer too.
+fn moved(width: Width, value: Value) -> Option<Value>
+    ensures { result ≡ moved width value }
+{
+    match (width, value) {
+        (_, Value::Number(n)) => Some(Value::Number(numbers::low(width, n))),
+        (Width::Bits64, Value::Pointer(pointer)) => Some(Value::Pointer(pointer)),
+        (Width::Bits32, Value::Pointer(_)) | (_, Value::Unset) => None,
+    }
+}
+
+/// What other arithmetic makes of the destination, which holds `old`.
+fn arithmetic(
+    core: &Core,
+    maps: &Maps,
+    width: Width,
+    operation: Operation,
+    old: Value,
+    operand: Operand,
+) -> Option<Value>
+    ensures { result ≡ arithmetic (seen core.now maps.now) width operation old operand }
+{
+    match old {
+        Value::Number(a) => combined(width, operation, a, operand_value(core, width, operand)),
+        Value::Pointer(pointer) => pointer_moved(
+            maps,
+            pointer,
+            pointer_step(width, operation, operand)?,
+        ),
+        Value::Unset => None,
+    }
+}
+
+/// What arithmetic makes of a number and an operand.
+fn combined(width: Width, operation: Operation, a: u64, operand: Value) -> Option<Value>
+    ensures { result ≡ combined width operation a operand }
+{
+    match operand {
+        Value::Number(b) => Some(Value::Number(numbers::compute(width, operation, a, b))),
+        Value::Pointer(_) | Value::Unset => None,
+    }
+}
+
+/// How far an operation moves a pointer, in bytes.
+fn pointer_step(width: Width, operation: Operation, operand: Operand) -> Option<i64>
+    ensures step { result ≡ pointer_step width operation operand }
+    ensures low { IfSome result (λ step. neg_ℤ (pos (2 ^ 31)) ≤ℤ step) }
+    ensures high { IfSome result (λ step. step ≤ℤ pos (2 ^ 31)) }
+{
+    match (width, operation, operand) {
+        (Width::Bits64, Operation::Add, Operand::Immediate(k)) => Some(i64::from(k)),
+        (Width::Bits64, Operation::Subtract, Operand::Immediate(k)) => Some(-i64::from(k)),
+        _ => None,
+    }
+}
+
+/// The pointer that far on. It stays in the stack or the element, whose end is a place too.
+fn pointer_moved(maps: &Maps, pointer: Pointer, step: i64) -> Option<Value>
+    requires low { neg_ℤ (pos (2 ^ 31)) ≤ℤ step }
+    requires high { step ≤ℤ pos (2 ^ 31) }
+    ensures { result ≡ pointer_moved maps.now pointer (Some step) }
+{
+    match pointer {
+        Pointer::Stack(at) => {
+            let to = within(STACK_TOP, at, step)?;
+            Some(Value::Pointer(Pointer::Stack(to)))
+        }
+        Pointer::Element(map, at, index) => {
+            let to = within(maps.value_size(map, index), at, step)?;
+            Some(Value::Pointer(Pointer::Element(map, to, index)))
+        }
+        Pointer::Task(_) | Pointer::Map(_) => None,
+    }
+}
+
+/// The place that far on, if it lies in so much memory or is its end.
+fn within(size: u16, at: u16, step: i64) -> Option<u16>
+    requires low { neg_ℤ (pos (2 ^ 31)) ≤ℤ step }
+    requires high { step ≤ℤ pos (2 ^ 31) }
+    ensures { result ≡ within size (shifted at step) }
+{
+    let to = shifted(at, step)?;
+    if to <= u64::from(size) {
+        Some(to as u16)
+    } else {
+        None
+    }
+}
+
+/// The two's complement negative of a number.
+pub fn negated(width: Width, value: Value) -> Option<Value>
+    ensures { result ≡ on_number (negated width) value }
+{
+    match value {
+        Value::Number(n) => Some(Value::Number(numbers::negated(width, n))),
+        Value::Pointer(_) | Value::Unset => None,
+    }
+}
+
+/// The low bits of a number, extended with their sign.
+pub fn extended(extension: Extension, value: Value) -> Option<Value>
+    ensures { result ≡ on_number (extended extension) value }
+{
+    match value {
+        Value::Number(n) => Some(Value::Number(numbers::extended(extension, n))),
+        Value::Pointer(_) | Value::Unset => None,
+    }
+}
+
+/// The low bytes of a number in another order.
+pub fn reordered(order: Order, width: OrderWidth, value: Value) -> Option<Value>
+    ensures { result ≡ on_number (reordered order width) value }
+{
+    match value {
+        Value::Number(n) => Some(Value::Number(numbers::reordered(order, width, n))),
+        Value::Pointer(_) | Value::Unset => None,
+    }
+}
+
+/// A reference to the map of that number, if there is one.
+pub fn map_reference(maps: &Maps, number: i32) -> Option<Value>
+    ensures { result ≡ map_reference maps.now number }
+{
+    if number < 0 || number as usize >= maps.count() {
+        None
+    } else {
+        Some(Value::Pointer(Pointer::Map(number as u8)))
+    }
+}
