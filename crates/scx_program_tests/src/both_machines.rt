@@ -6,7 +6,7 @@ ghost use Rattle.scx_verify.specs.Typing.{context};
 
 use scx_asm::assemble;
 use scx_examples::OneTask;
-use scx_isa::{Callback, Program, TaskId};
+use scx_isa::{Callback, TaskId, flow};
 use scx_maps::{MapDefs, Maps, Shape};
 use scx_run::run;
 use scx_tagged::{Ran, try_run};
@@ -51,10 +51,11 @@ const GIVEN: Arguments = Arguments {
     third: Argument::Number(0),
 };
 
-/// Verifies a program as `select_cpu`, which is given a task and two numbers, and answers one.
-fn verified(alloc: Global, program: Program, defs: &MapDefs) -> Option<Verified>
+/// Verifies the program of a text as `select_cpu`, which is given a task and two numbers, and answers one.
+fn verified(alloc: Global, text: &str, defs: &MapDefs) -> Option<Verified>
     ensures { IfSome result (λ verified. verified.context ≡ context SelectCpu defs.now) }
 {
+    let program = assemble(alloc, text).ok()?;
     verify(alloc, program, Callback::SelectCpu, defs).ok()
 }
 
@@ -68,17 +69,13 @@ fn run_plain(alloc: Global, verified: &Verified, defs: &MapDefs) -> Option<Left>
     Some(Left { done, maps, host })
 }
 
-fn run_tagged(alloc: Global, verified: &Verified, defs: &MapDefs) -> Option<Left> {
+fn run_tagged(alloc: Global, text: &str, defs: &MapDefs) -> Option<Left> {
+    let program = assemble(alloc, text).ok()?;
+    flow(&program).ok()?;
     let mut maps = Maps::new(alloc, defs).ok()?;
     let mut host = idle_host();
-    let _instructions = verified.instructions();
-    match try_run(
-        verified.program(),
-        Callback::SelectCpu,
-        GIVEN,
-        &mut maps,
-        &mut host,
-    ) {
+    let _instructions = program.instructions();
+    match try_run(&program, Callback::SelectCpu, GIVEN, &mut maps, &mut host) {
         Ran::Done(done) => Some(Left { done, maps, host }),
         Ran::Stuck(_) => None,
     }
@@ -171,10 +168,13 @@ fn random_text(alloc: Global, random: &mut Random) -> Result<String, AllocError>
 /// Whether a random program, if it is accepted, leaves the same on both machines.
 fn compare(alloc: Global, random: &mut Random, defs: &MapDefs) -> Option<bool> {
     let text = random_text(alloc, random).ok()?;
-    let program = assemble(alloc, text.as_str()).ok()?;
-    let verified = verified(alloc, program, defs)?;
-    let plain = run_plain(alloc, &verified, defs)?;
-    let tagged = run_tagged(alloc, &verified, defs)?;
+    let verified = verified(alloc, text.as_str(), defs)?;
+    let Some(plain) = run_plain(alloc, &verified, defs) else {
+        return Some(false);
+    };
+    let Some(tagged) = run_tagged(alloc, text.as_str(), defs) else {
+        return Some(false);
+    };
     Some(are_same(&plain, &tagged))
 }
 
@@ -194,14 +194,12 @@ fn random_programs_leave_the_same(rt: HostRuntime) {
     assert_eq!(rt; compared, COMPARED);
 }
 
-/// What the program of a text leaves on both machines: its answer and steps, and the first number of
-/// the map.
+/// Runs the program of a text on both machines, which leave the same, and compares its answer and steps.
 fn expect<R: AllocGlobal + Abort>(rt: &R, text: &str, wanted: &str) -> Result<(), Fail> {
     let defs = MapDefs::new(&SHAPES).expect(rt, "the map is within the limits");
-    let program = assemble(rt.alloc(), text).expect(rt, "the text is a program");
-    let verified = verified(rt.alloc(), program, &defs).expect(rt, "the program is accepted");
+    let verified = verified(rt.alloc(), text, &defs).expect(rt, "the program is accepted");
     let plain = run_plain(rt.alloc(), &verified, &defs).expect(rt, "there is memory");
-    let tagged = run_tagged(rt.alloc(), &verified, &defs).expect(rt, "it isn't stuck");
+    let tagged = run_tagged(rt.alloc(), text, &defs).expect(rt, "it isn't stuck");
     assert!(rt; are_same(&plain, &tagged));
     let found = format!(in rt.alloc(); "{} in {} steps", plain.done.r0, plain.done.steps)?;
     assert_eq!(rt; found.as_str(), wanted);

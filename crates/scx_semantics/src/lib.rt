@@ -3,7 +3,7 @@
 //! and runs of a program, and what a host may answer.
 //!
 //! Everything above speaks of programs by these words. Nothing here reads bytes or runs anything:
-//! `scx_isa` reads programs, and `scx_vm` runs them.
+//! `scx_isa` reads programs, and `scx_run` runs them.
 #![tactic(auto)]
 
 mod callbacks;

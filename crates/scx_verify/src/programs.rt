@@ -71,15 +71,6 @@ impl Verified {
         let _count = self.context.defs.count();
         &self.ops
     }
-
-    /// The program itself.
-    pub fn program(&self) -> &Program
-        ensures program { result.now ≡ self.now.code }
-        ensures typed { IsTyped self.now.context self.now.code }
-        ensures safe { IsSafe self.now.context self.now.code }
-    {
-        &self.program
-    }
 }
 
 /// Verifies a program for a callback and maps of these shapes: asks `flow`, and then goes over the
