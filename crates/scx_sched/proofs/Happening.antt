@@ -1,15 +1,19 @@
 -- What an event does is allowed, and nothing else is.
-use Rattle.std.proofs.Common.{◌≡◌, ℕ, ◌<◌, Bool, true, false, ◌⊎◌, inl, inr, if◌then◌else◌, [], ◌∷◌, Option, Some, None, refl, sym, ◌∙◌, ap, subst, arith}
+use Rattle.std.proofs.Common.{◌≡◌, ℕ, ◌<◌, Bool, true, false, ◌⊎◌, inl, inr, if◌then◌else◌, [], ◌∷◌, Option, Some, None, refl, sym, ◌∙◌, ap, subst, arith, length, nat_lt, nat_le}
 use Rattle.std.proofs.lemmas.Bool.{cases_eq, eq-eqb, ne_eqb}
+use Rattle.std.proofs.lemmas.Bool.Decides.{nat_tests}
+use Rattle.scx_weights.specs.Hierarchy.{Hierarchy, with_weight}
+use Rattle.scx_weights.specs.Refusals.{weight_fault}
 use Rattle.scx_world.specs.declared.notes.What.TheVariants as note
-use Rattle.scx_world.specs.World.{task_at, running, cpu_of, is_idle, said}
-use Rattle.scx_world.specs.Tasks.{asleep, ticked}
+use Rattle.scx_world.specs.World.{with_tree, task_at, running, cpu_of, is_idle, said}
+use Rattle.scx_world.specs.Tasks.{asleep, ticked, reweighed}
 use Rattle.scx_machine.specs.declared.events.Event.TheVariants.{Wake, Sleep, Tick, Clock, SetWeight}
 use Rattle.scx_machine.specs.Steps.{State, Stepped, with_world, after, joined}
 use Rattle.scx_machine.specs.Put.{put}
 use Rattle.scx_machine.specs.Cycle.{cycle}
-use Rattle.scx_machine.specs.Events.{target, put_and_run, wake, sleep_from_cpu, sleep_from, sleep, count_down, tick_of, tick}
-use Rattle.scx_sched.specs.CycleRules.{silent, stopping_called}
+use Rattle.scx_machine.specs.declared.events.Refused.TheVariants.{UnknownGroup, BadWeight}
+use Rattle.scx_machine.specs.Events.{is_bad_weight, refusal, target, put_and_run, wake, sleep_from_cpu, sleep_from, sleep, count_down, tick_of, tick}
+use Rattle.scx_sched.specs.CycleRules.{noting, silent, stopping_called}
 use Rattle.scx_sched.specs.EventRules.{awake, Wakes, Idle_target, Busy_target, Sleeps, From_queue, From_cpu, Ticks, Nobody_runs, Runs_on, Runs_out}
 use Rattle.scx_sched.specs.RuleLaws.{RulesAllowEvents, RulesAllowEventsOnly}
 use Rattle.scx_sched.proofs.Choosing.{is_choice, only_choice}
@@ -104,18 +108,32 @@ only_ticks s c r (Nobody_runs e y) = rw e (only_cycles s c None false r y)
 only_ticks s c r (Runs_on t e l k) = rw e (k ∙ sym (count_on s c t l))
 only_ticks s c r (Runs_out t e z y) = rw e (only_cycles (with_world s (ticked s.world t)) c (Some t) true r y ∙ sym (count_out s c t z))
 
+-- ---- weights
+
+-- the weight of an accepted event can be set
+no_weight_fault : (t : Hierarchy) (g x : ℕ) → (if nat_lt g (length t.groups) then (if is_bad_weight x then Some BadWeight else None) else Some UnknownGroup) ≡ None → weight_fault t g x ≡ None
+no_weight_fault t g x e = go (nat_lt g (length t.groups)) (is_bad_weight x) refl refl e
+  where
+    go : (a b : Bool) → nat_lt g (length t.groups) ≡ a → is_bad_weight x ≡ b → (if a then (if b then Some BadWeight else None) else Some UnknownGroup) ≡ None → weight_fault t g x ≡ None
+    go true false y z f = let known : nat_le (length t.groups) g ≡ false = grind (arith, nat_tests, y) in rw (known, z) refl
+    go true true y z f = absurd (cc)
+    go false b y z f = absurd (cc)
+
+reweighed_is : (s : State) (g x : ℕ) → refusal s (SetWeight g x) ≡ None → reweighed s.world g x ≡ with_tree s.world (with_weight s.world.tree g x)
+reweighed_is s g x e = rw (no_weight_fault s.world.tree g x e) refl
+
 -- ---- all events
 
 pub happens : RulesAllowEvents
-happens s (Wake t) = wakes s t
-happens s (Sleep t) = sleeps s t
-happens s (Tick c) = ticks s c
-happens s Clock = refl
-happens s (SetWeight g x) = refl
+happens s (Wake t) e = wakes s t
+happens s (Sleep t) e = sleeps s t
+happens s (Tick c) e = ticks s c
+happens s Clock e = refl
+happens s (SetWeight g x) e = ap (λ w. noting s w (note.Weight g x)) (reweighed_is s g x e)
 
 pub only_happens : RulesAllowEventsOnly
-only_happens s (Wake t) r h = only_wakes s t r h
-only_happens s (Sleep t) r h = only_sleeps s t r h
-only_happens s (Tick c) r h = only_ticks s c r h
-only_happens s Clock r h = h
-only_happens s (SetWeight g x) r h = h
+only_happens s (Wake t) r e h = only_wakes s t r h
+only_happens s (Sleep t) r e h = only_sleeps s t r h
+only_happens s (Tick c) r e h = only_ticks s c r h
+only_happens s Clock r e h = h
+only_happens s (SetWeight g x) r e h = h ∙ ap (λ w. noting s w (note.Weight g x)) (sym (reweighed_is s g x e))

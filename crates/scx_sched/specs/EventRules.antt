@@ -1,8 +1,9 @@
 -- What an accepted event does, by cases, over the steps of a cycle.
 use Rattle.std.specs.Prelude.{◌≡◌, ℕ, ◌<◌, true, false, [], ◌∷◌, Some, None}
+use Rattle.scx_weights.specs.Hierarchy.{with_weight}
 use Rattle.scx_world.specs.declared.notes.What.TheVariants as note
-use Rattle.scx_world.specs.World.{WorldState, task_at, running, cpu_of, is_idle, said}
-use Rattle.scx_world.specs.Tasks.{woken, asleep, gone, ticked, later, reweighed}
+use Rattle.scx_world.specs.World.{WorldState, with_tree, task_at, running, cpu_of, is_idle, said}
+use Rattle.scx_world.specs.Tasks.{woken, asleep, gone, ticked, later}
 use Rattle.scx_machine.specs.declared.events.Event.{Event}
 use Rattle.scx_machine.specs.declared.events.Event.TheVariants.{Wake, Sleep, Tick, Clock, SetWeight}
 use Rattle.scx_machine.specs.Steps.{State, Stepped, with_world, after, joined}
@@ -43,4 +44,4 @@ Happens s (Wake t) r = Wakes s t r
 Happens s (Sleep t) r = Sleeps s t r
 Happens s (Tick c) r = Ticks s c r
 Happens s Clock r = r ≡ silent s (later s.world)
-Happens s (SetWeight g x) r = r ≡ noting s (reweighed s.world g x) (note.Weight g x)
+Happens s (SetWeight g x) r = r ≡ noting s (with_tree s.world (with_weight s.world.tree g x)) (note.Weight g x)

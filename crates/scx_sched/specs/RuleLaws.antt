@@ -1,5 +1,5 @@
 -- What the machine computes is what the rules allow, and the only thing that they allow.
-use Rattle.std.specs.Prelude.{◌≡◌, ℕ, Bool, List, Option}
+use Rattle.std.specs.Prelude.{◌≡◌, ℕ, Bool, List, Option, None}
 use Rattle.scx_semantics.specs.declared.callbacks.Callback.{Callback}
 use Rattle.scx_semantics.specs.declared.outside.Helper.{Helper}
 use Rattle.scx_vm.specs.declared.arguments.Argument.{Argument}
@@ -11,7 +11,7 @@ use Rattle.scx_machine.specs.declared.events.Event.{Event}
 use Rattle.scx_machine.specs.Steps.{State, Stepped}
 use Rattle.scx_machine.specs.Callbacks.{call_back}
 use Rattle.scx_machine.specs.Cycle.{cycle}
-use Rattle.scx_machine.specs.Events.{happened}
+use Rattle.scx_machine.specs.Events.{refusal, happened}
 use Rattle.scx_sched.specs.HelperRules.{IsEffect, IsOfWorld}
 use Rattle.scx_sched.specs.CallbackRules.{CallsBack}
 use Rattle.scx_sched.specs.CycleRules.{Cycles}
@@ -37,9 +37,9 @@ RulesAllowCycles = (s : State) (c : ℕ) (p : Option ℕ) (ran : Bool) → Cycle
 abbrev pub RulesAllowCyclesOnly : Type 0
 RulesAllowCyclesOnly = (s : State) (c : ℕ) (p : Option ℕ) (ran : Bool) (r : Stepped) → Cycles s c p ran r → r ≡ cycle s c p ran
 
--- an event
+-- an accepted event
 abbrev pub RulesAllowEvents : Type 0
-RulesAllowEvents = (s : State) (v : Event) → Happens s v (happened s v)
+RulesAllowEvents = (s : State) (v : Event) → refusal s v ≡ None → Happens s v (happened s v)
 
 abbrev pub RulesAllowEventsOnly : Type 0
-RulesAllowEventsOnly = (s : State) (v : Event) (r : Stepped) → Happens s v r → r ≡ happened s v
+RulesAllowEventsOnly = (s : State) (v : Event) (r : Stepped) → refusal s v ≡ None → Happens s v r → r ≡ happened s v
