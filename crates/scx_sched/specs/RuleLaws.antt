@@ -26,7 +26,7 @@ RulesAllowHelpersOnly =
     (w : WorldState) (h : Helper) (a : List Argument) (x : Answer) (v : WorldState) → IsEffect w h a x v
     → (x ≡ helper_answer w h a) × (v ≡ helper_after w h a)
 
--- a callback; that its run comes to an end, an exit or a slot at which it is stuck, is what `try_run` ensures
+-- a callback; that its run comes to an end, an exit or a slot at which it is stuck, is what `run` ensures
 abbrev pub RulesAllowCallbacksOnly : Type 0
 RulesAllowCallbacksOnly = (s : State) (b : Callback) (a : Arguments) (t c : ℕ) (r : Stepped) → CallsBack s b a t c r → r ≡ call_back s b a t c
 
