@@ -117,6 +117,13 @@ impl Field {
     }
 }
 
+/// What answers a program's helper calls, and keeps the fields of its tasks.
+pub trait Host {
+    fn call(&mut self, helper: Helper, given: [Value; 5]) -> u64;
+    fn load(&self, task: u16, field: Field) -> u64;
+    fn store(&mut self, task: u16, field: Field, number: u64);
+}
+
 /// A host of one task, which answers 0 to each helper call and keeps the last one.
 pub struct OneTask {
     weight: u32,
@@ -130,13 +137,15 @@ impl OneTask {
     pub fn new() -> OneTask {
         OneTask { weight: 50, slice: 5_000_000, vtime: 1000, called: None, given: [Value::Unset; 5] }
     }
+}
 
-    pub fn call(&mut self, helper: Helper, given: [Value; 5]) -> u64 {
+impl Host for OneTask {
+    fn call(&mut self, helper: Helper, given: [Value; 5]) -> u64 {
         (self.called, self.given) = (Some(helper), given);
         0
     }
 
-    pub fn load(&self, field: Field) -> u64 {
+    fn load(&self, _task: u16, field: Field) -> u64 {
         match field {
             Field::Pid => 7,
             Field::Weight => u64::from(self.weight),
@@ -146,7 +155,7 @@ impl OneTask {
         }
     }
 
-    pub fn store(&mut self, field: Field, number: u64) {
+    fn store(&mut self, _task: u16, field: Field, number: u64) {
         match field {
             Field::Slice => self.slice = number,
             Field::DsqVtime => self.vtime = number,
@@ -156,7 +165,7 @@ impl OneTask {
 }
 
 /// The text of that name.
-fn text(name: &str) -> &'static str {
+pub fn text(name: &str) -> &'static str {
     let start = format!("pub const {name}: &str = \"");
     let from = TEXTS.find(&start).expect("the text") + start.len();
     &TEXTS[from..from + TEXTS[from..].find('"').expect("its end")]
