@@ -1,5 +1,5 @@
 ghost use Rattle.std.specs.Prelude.{◌≡◌, ◌<◌, ◌≤◌, length, None, IfOk, IfErr, OnOk, OnErr};
-ghost use Rattle.scx_world.specs.World.{task_at, running};
+ghost use Rattle.scx_world.specs.World.{task_at, is_runnable, running};
 ghost use Rattle.scx_machine.specs.Notes.{Takes};
 ghost use Rattle.scx_machine.specs.Callbacks.{AreAnswered};
 ghost use Rattle.scx_machine.specs.Start.{started, IsRefusal};
@@ -123,6 +123,14 @@ impl Sim {
     {
         let world = self.machine.world();
         place_in(world.cpu_of(task), world.queue_of(task))
+    }
+
+    /// Whether the task has work to do: it runs or waits.
+    pub fn is_runnable(&self, task: u16) -> bool
+        requires { task < length self.now.state.world.tasks }
+        ensures { result ≡ is_runnable self.now.state.world task }
+    {
+        self.machine.world().is_runnable(task)
     }
 
     /// The task that runs on the processor.
