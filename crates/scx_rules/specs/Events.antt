@@ -7,7 +7,7 @@ use Rattle.scx_world.specs.Tasks.{woken, asleep, gone, ticked, later}
 use Rattle.scx_machine.specs.declared.events.Event.{Event}
 use Rattle.scx_machine.specs.declared.events.Event.TheVariants.{Wake, Sleep, Tick, Clock, SetWeight}
 use Rattle.scx_machine.specs.Steps.{State, Stepped, with_world, after, joined}
-use Rattle.scx_sched.specs.CycleRules.{noting, silent, stopping_called, Puts, Cycles}
+use Rattle.scx_rules.specs.Cycles.{noting, silent, stopping_called, Puts, Cycles}
 
 abbrev pub awake : State → ℕ → State
 awake s t = with_world s (woken s.world t)

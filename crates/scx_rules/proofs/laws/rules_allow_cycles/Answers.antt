@@ -1,5 +1,5 @@
-use Rattle.scx_sched.proofs.Cycling.{cycles, only_cycles}
-use Rattle.scx_sched.proofs.laws.rules_allow_cycles.Goals as goal
+use Rattle.scx_rules.proofs.Cycling.{cycles, only_cycles}
+use Rattle.scx_rules.proofs.laws.rules_allow_cycles.Goals as goal
 
 pub returns-clause-allowed : goal.returns-clause-allowed
 returns-clause-allowed c = cycles

@@ -1,5 +1,5 @@
-use Rattle.scx_sched.proofs.Helping.{helper_allowed, only_helper}
-use Rattle.scx_sched.proofs.laws.rules_allow_helpers.Goals as goal
+use Rattle.scx_rules.proofs.Helping.{helper_allowed, only_helper}
+use Rattle.scx_rules.proofs.laws.rules_allow_helpers.Goals as goal
 
 pub returns-clause-allowed : goal.returns-clause-allowed
 returns-clause-allowed c = helper_allowed

@@ -1,5 +1,5 @@
-use Rattle.scx_sched.proofs.Happening.{happens, only_happens}
-use Rattle.scx_sched.proofs.laws.rules_allow_events.Goals as goal
+use Rattle.scx_rules.proofs.Happening.{happens, only_happens}
+use Rattle.scx_rules.proofs.laws.rules_allow_events.Goals as goal
 
 pub returns-clause-allowed : goal.returns-clause-allowed
 returns-clause-allowed c = happens

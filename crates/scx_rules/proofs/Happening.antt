@@ -13,11 +13,11 @@ use Rattle.scx_machine.specs.Put.{put}
 use Rattle.scx_machine.specs.Cycle.{cycle}
 use Rattle.scx_machine.specs.declared.events.Refused.TheVariants.{UnknownGroup, BadWeight}
 use Rattle.scx_machine.specs.Events.{is_bad_weight, refusal, target, put_and_run, wake, sleep_from_cpu, sleep_from, sleep, count_down, tick_of, tick}
-use Rattle.scx_sched.specs.CycleRules.{noting, silent, stopping_called}
-use Rattle.scx_sched.specs.EventRules.{awake, Wakes, Idle_target, Busy_target, Sleeps, From_queue, From_cpu, Ticks, Nobody_runs, Runs_on, Runs_out}
-use Rattle.scx_sched.specs.RuleLaws.{RulesAllowEvents, RulesAllowEventsOnly}
-use Rattle.scx_sched.proofs.Choosing.{is_choice, only_choice}
-use Rattle.scx_sched.proofs.Cycling.{puts, only_puts, cycles, only_cycles}
+use Rattle.scx_rules.specs.Cycles.{noting, silent, stopping_called}
+use Rattle.scx_rules.specs.Events.{awake, Wakes, Idle_target, Busy_target, Sleeps, From_queue, From_cpu, Ticks, Nobody_runs, Runs_on, Runs_out}
+use Rattle.scx_rules.specs.Laws.{RulesAllowEvents, RulesAllowEventsOnly}
+use Rattle.scx_rules.proofs.Choosing.{is_choice, only_choice}
+use Rattle.scx_rules.proofs.Cycling.{puts, only_puts, cycles, only_cycles}
 
 -- ---- wake
 

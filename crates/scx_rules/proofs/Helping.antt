@@ -18,8 +18,8 @@ use Rattle.scx_world.specs.declared.faults.Fault.TheVariants.{NoSuchQueue, Canno
 use Rattle.scx_world.specs.Ids.{policy_end, global, local, local_on}
 use Rattle.scx_world.specs.World.{WorldState, with_queues}
 use Rattle.scx_world.specs.Helpers.{invalid, faulted, given_number, given_task, is_there, can_create, is_at_hand, is_enqueue, is_dispatch, may_insert, queue_fault, insert_fault, inserted, invalid_if, can_move, moved, one_if_some, helper_answer, helper_after}
-use Rattle.scx_sched.specs.HelperRules.{IsPolicyQueue, IsDestination, Own, Global, Local, Local_on, NamesNoCpu, CanCreate, MayInsert, MayMove, JudgesInsert, Judges, Moves, Front, Empty, IsEffect, Done, Wrong, Time, Create, Insert_here, Move_here, Length}
-use Rattle.scx_sched.specs.RuleLaws.{RulesAllowHelpers, RulesAllowHelpersOnly}
+use Rattle.scx_rules.specs.Helpers.{IsPolicyQueue, IsDestination, Own, Global, Local, Local_on, NamesNoCpu, CanCreate, MayInsert, MayMove, JudgesInsert, Judges, Moves, Front, Empty, IsEffect, Done, Wrong, Time, Create, Insert_here, Move_here, Length}
+use Rattle.scx_rules.specs.Laws.{RulesAllowHelpers, RulesAllowHelpersOnly}
 
 -- ---- tests of Booleans as facts
 

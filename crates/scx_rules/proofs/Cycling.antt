@@ -12,12 +12,12 @@ use Rattle.scx_world.specs.Tasks.{local_len, entered, brought}
 use Rattle.scx_machine.specs.Steps.{State, Stepped, with_world, stays, after, joined}
 use Rattle.scx_machine.specs.Put.{queue_for, slice_for, placed, put}
 use Rattle.scx_machine.specs.Cycle.{move_note, fill, dispatched, tries, leave, started_if, start, pick, rest, pick_or_rest, ask, cycle}
-use Rattle.scx_sched.specs.CycleRules.{enqueue_called, dispatch_called, stopping_called, Enters, Default, Held, Inserted, Puts, Fills, Has_local, No_other, Moves, Dispatches, Asks, Enough, Came, Nothing_moved, Again, Leaves, Nobody, Stops, Starts, Empty, Front, Picks, Rests, Keeps, Idles, Was_idle, Ends, Picked, Rested, Cycles, Filled, Asked}
+use Rattle.scx_rules.specs.Cycles.{enqueue_called, dispatch_called, stopping_called, Enters, Default, Held, Inserted, Puts, Fills, Has_local, No_other, Moves, Dispatches, Asks, Enough, Came, Nothing_moved, Again, Leaves, Nobody, Stops, Starts, Empty, Front, Picks, Rests, Keeps, Idles, Was_idle, Ends, Picked, Rested, Cycles, Filled, Asked}
 
 -- ---- put
 
 abbrev placed_as : State → ℕ → Option VerifiedProgram → Option insert.Insert → Stepped
-placed_as s t p i = record { state = with_world s (entered s.world t (queue_for p s.world.call.cpu i) (slice_for p i)); notes = said s.world (note.Insert t (queue_for p s.world.call.cpu i)) ∷ [] }
+placed_as s t p i = record { state = with_world s (entered s.world t (queue_for p s.world.call.cpu i) (slice_for p i)); notes = said s.world (note.Insert t (queue_for p s.world.call.cpu i)) ∷ []; calls = [] }
 
 enters : (s : State) (t : ℕ) → Enters s t (placed s t)
 unfolding placed
@@ -55,7 +55,7 @@ unfolding fill
 fills s c = go (cases_lt 0 (local_len s.world c)) (front_of s.world.queues global) refl
   where
     go : (0 < local_len s.world c) ⊎ (local_len s.world c ≤ 0) → (o : Option ℕ) → front_of s.world.queues global ≡ o
-        → Fills s c (record { state = with_world s (brought (if nat_lt 0 (local_len s.world c) then None else o) s.world global c); notes = move_note s.world (if nat_lt 0 (local_len s.world c) then None else o) c })
+        → Fills s c (record { state = with_world s (brought (if nat_lt 0 (local_len s.world c) then None else o) s.world global c); notes = move_note s.world (if nat_lt 0 (local_len s.world c) then None else o) c; calls = [] })
     go (inl l) o e = rw (some_is (local_len s.world c) l) (Has_local l refl)
     go (inr l) None e = let z : local_len s.world c ≡ 0 = omega (arith, l) in rw (none_is (local_len s.world c) z) (No_other z e refl)
     go (inr l) (Some t) e = let z : local_len s.world c ≡ 0 = omega (arith, l) in rw (none_is (local_len s.world c) z) (Moves t z e refl)

@@ -19,11 +19,11 @@ use Rattle.scx_machine.specs.Put.{resolved}
 
 -- to that world, with one note of it
 abbrev pub noting : State → WorldState → What → Stepped
-noting s w x = record { state = with_world s w; notes = said s.world x ∷ [] }
+noting s w x = record { state = with_world s w; notes = said s.world x ∷ []; calls = [] }
 
 -- to that world, with no note
 abbrev pub silent : State → WorldState → Stepped
-silent s w = record { state = with_world s w; notes = [] }
+silent s w = record { state = with_world s w; notes = []; calls = [] }
 
 -- ---- callbacks at their places
 

@@ -6,7 +6,7 @@ use Rattle.std.proofs.lemmas.Bool.Decides.{nat_tests}
 use Rattle.std.proofs.lemmas.List.Quantifiers.{position-Some}
 use Rattle.std.proofs.lemmas.List.Sums.{fails_before_first}
 use Rattle.scx_world.specs.World.{WorldState, task_at, is_idle, or_else, default_choice}
-use Rattle.scx_sched.specs.EventRules.{IsChoice, Last_ran, Lowest, None_idle}
+use Rattle.scx_rules.specs.Events.{IsChoice, Last_ran, Lowest, None_idle}
 
 and_false : (a : Bool) → (a && false) ≡ false
 and_false true = refl
