@@ -127,12 +127,11 @@ impl Sim {
         place_in(world.cpu_of(task), world.queue_of(task))
     }
 
-    /// Whether the task has work to do: it runs or waits.
+    /// Whether the task has work to do: it runs or waits. One that isn't there has none.
     pub fn is_runnable(&self, task: u16) -> bool
-        requires { task < length self.now.state.world.tasks }
         ensures { result ≡ is_runnable self.now.state.world task }
     {
-        self.machine.world().is_runnable(task)
+        task < self.tasks() && self.machine.world().is_runnable(task)
     }
 
     /// The task that runs on the processor.
