@@ -1,5 +1,5 @@
 ghost use Rattle.std.specs.Prelude.{◌≡◌, ◌<◌, ◌≤◌, length, None, IfOk, IfErr, OnOk, OnErr};
-ghost use Rattle.scx_world.specs.World.{task_at, running};
+ghost use Rattle.scx_world.specs.World.{task_at, is_runnable, running};
 ghost use Rattle.scx_machine.specs.Notes.{Takes};
 ghost use Rattle.scx_machine.specs.Callbacks.{AreAnswered};
 ghost use Rattle.scx_machine.specs.Start.{IsRefusal, start_calls, AreAnsweredBefore};
@@ -125,6 +125,13 @@ impl Sim {
     {
         let world = self.machine.world();
         place_in(world.cpu_of(task), world.queue_of(task))
+    }
+
+    /// Whether the task has work to do: it runs or waits. One that isn't there has none.
+    pub fn is_runnable(&self, task: u16) -> bool
+        ensures { result ≡ is_runnable self.now.state.world task }
+    {
+        task < self.tasks() && self.machine.world().is_runnable(task)
     }
 
     /// The task that runs on the processor.
