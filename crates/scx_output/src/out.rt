@@ -1,6 +1,6 @@
 ghost use Rattle.std.specs.Prelude.{◌≡◌, ℕ, ◌-◌, ◌^◌, ◌<◌, ◌≤◌, List, length, Option, None, IsErr, IfOk, OnOk, OnErr};
 ghost use Rattle.std.specs.Io.KnownBytes.{Appends, WriteAppends};
-ghost use Rattle.scx_commands.specs.Output.{IsFailure, HasFailed, AppendsBeginning};
+ghost use Rattle.scx_output.specs.Output.{IsFailure, HasFailed, AppendsBeginning};
 
 use thiserror::Error;
 

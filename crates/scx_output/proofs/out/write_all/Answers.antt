@@ -1,8 +1,8 @@
 use Rattle.std.proofs.Common.{arith, length, ◌≤◌, ◌-◌, length-drop}
 use Rattle.std.proofs.lemmas.Grind.{common_steps}
 use Rattle.std.proofs.lemmas.List.{take_rest}
-use Rattle.scx_commands.proofs.Growth.{grows_on}
-use Rattle.scx_commands.proofs.out.write_all.Goals as goal
+use Rattle.scx_output.proofs.Growth.{grows_on}
+use Rattle.scx_output.proofs.out.write_all.Goals as goal
 
 -- the bytes that this write took come right after those of the writes before it
 pub loop-done-preserved : goal.loop-done-preserved
