@@ -1,7 +1,7 @@
 //! The callbacks of scx_simple in plain Rust: what they are given, helpers and fields of tasks, a host of
 //! one task, and the work of `verify_callbacks` and `run_callbacks`.
 
-use crate::{ArrayMap, Value, decode, encode, flow, plain_text, plain_verify, run_callback};
+use crate::{ArrayMap, Value, decode, encode, flow, plain_ops, plain_text, plain_verify, run_callback};
 use std::hint::black_box;
 
 /// The texts of the callbacks, each as `pub const NAME: &str = "TEXT";`.
@@ -205,6 +205,21 @@ pub fn run_callbacks(times: u64) -> u64 {
         for _ in 0..times {
             let ran = run_callback(black_box(&code), callback, given(callback), &mut maps, black_box(&mut host));
             let steps = ran.map_or_else(|slot| slot, |(_, steps)| steps);
+            sum = sum.wrapping_add(steps as u64).wrapping_add(host.vtime);
+        }
+    }
+    sum
+}
+
+/// The same of callbacks that are decoded once.
+pub fn run_predecoded(times: u64) -> u64 {
+    let mut sum = 0u64;
+    for (callback, name) in CALLBACKS {
+        let code = plain_text::assemble(text(name)).expect("a program");
+        let ops = plain_ops::predecode(&code, callback, &[8]).expect("an accepted program");
+        let (mut maps, mut host) = ([ArrayMap::new(1, 8)], OneTask::new());
+        for _ in 0..times {
+            let (_, steps) = plain_ops::run(black_box(&ops), given(callback), &mut maps, black_box(&mut host));
             sum = sum.wrapping_add(steps as u64).wrapping_add(host.vtime);
         }
     }
