@@ -189,7 +189,8 @@ def main():
         plain, path = os.path.join(folder, "plain"), os.path.join(folder, "program")
         source = os.path.join(TOP, "bench", "plain.rs")
         subprocess.run(["rustc", "-O", "--edition", "2021", "-o", plain, source], check=True)
-        print("%-8s %-10s %6s %15s %15s %7s" % ("work", "program", "slots", "scxsim a second", "plain a second", "ratio"))
+        if only != "run":
+            print("%-8s %-10s %6s %15s %15s %7s" % ("work", "program", "slots", "scxsim a second", "plain a second", "ratio"))
         for work in UNITS:
             if only in (None, work):
                 measure(work, [ours, plain], path)
