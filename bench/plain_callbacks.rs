@@ -4,8 +4,10 @@
 use crate::{ArrayMap, Value, decode, encode, flow, plain_ops, plain_text, plain_verify, run_callback};
 use std::hint::black_box;
 
-/// The texts of the callbacks, each as `pub const NAME: &str = "TEXT";`.
-const TEXTS: &str = include_str!("../crates/scx_examples/src/simple.rt");
+/// The texts of the callbacks, and that of the program that counts, each as `pub const NAME: &str =
+/// "TEXT";`.
+const TEXTS: &str =
+    concat!(include_str!("../crates/scx_examples/src/simple.rt"), include_str!("../crates/scx_bench/src/callbacks.rt"));
 
 #[derive(Clone, Copy, PartialEq)]
 pub enum Callback {
@@ -197,31 +199,43 @@ fn given(callback: Callback) -> [Value; 2] {
 }
 
 pub fn run_callbacks(times: u64) -> u64 {
+    CALLBACKS.iter().fold(0, |sum, (callback, name)| sum.wrapping_add(run_one(*callback, name, times)))
+}
+
+pub fn run_counting(times: u64) -> u64 {
+    run_one(Init, "COUNTING", times)
+}
+
+fn run_one(callback: Callback, name: &str, times: u64) -> u64 {
+    let code = plain_text::assemble(text(name)).expect("a program");
+    assert!(flow(&code), "control that goes forward");
+    let (mut maps, mut host) = ([ArrayMap::new(1, 8)], OneTask::new());
     let mut sum = 0u64;
-    for (callback, name) in CALLBACKS {
-        let code = plain_text::assemble(text(name)).expect("a program");
-        assert!(flow(&code), "control that goes forward");
-        let (mut maps, mut host) = ([ArrayMap::new(1, 8)], OneTask::new());
-        for _ in 0..times {
-            let ran = run_callback(black_box(&code), callback, given(callback), &mut maps, black_box(&mut host));
-            let steps = ran.map_or_else(|slot| slot, |(_, steps)| steps);
-            sum = sum.wrapping_add(steps as u64).wrapping_add(host.vtime);
-        }
+    for _ in 0..times {
+        let ran = run_callback(black_box(&code), callback, given(callback), &mut maps, black_box(&mut host));
+        let steps = ran.map_or_else(|slot| slot, |(_, steps)| steps);
+        sum = sum.wrapping_add(steps as u64).wrapping_add(host.vtime);
     }
     sum
 }
 
 /// The same of callbacks that are decoded once.
 pub fn run_predecoded(times: u64) -> u64 {
+    CALLBACKS.iter().fold(0, |sum, (callback, name)| sum.wrapping_add(run_predecoded_one(*callback, name, times)))
+}
+
+pub fn run_predecoded_counting(times: u64) -> u64 {
+    run_predecoded_one(Init, "COUNTING", times)
+}
+
+fn run_predecoded_one(callback: Callback, name: &str, times: u64) -> u64 {
+    let code = plain_text::assemble(text(name)).expect("a program");
+    let ops = plain_ops::predecode(&code, callback, &[8]).expect("an accepted program");
+    let (mut maps, mut host) = ([ArrayMap::new(1, 8)], OneTask::new());
     let mut sum = 0u64;
-    for (callback, name) in CALLBACKS {
-        let code = plain_text::assemble(text(name)).expect("a program");
-        let ops = plain_ops::predecode(&code, callback, &[8]).expect("an accepted program");
-        let (mut maps, mut host) = ([ArrayMap::new(1, 8)], OneTask::new());
-        for _ in 0..times {
-            let (_, steps) = plain_ops::run(black_box(&ops), given(callback), &mut maps, black_box(&mut host));
-            sum = sum.wrapping_add(steps as u64).wrapping_add(host.vtime);
-        }
+    for _ in 0..times {
+        let (_, steps) = plain_ops::run(black_box(&ops), given(callback), &mut maps, black_box(&mut host));
+        sum = sum.wrapping_add(steps as u64).wrapping_add(host.vtime);
     }
     sum
 }
