@@ -14,3 +14,4 @@ pub mod LinkReads
 pub mod Threads
 pub mod ThreadsWith
 pub mod ThreadsWithout
+pub mod Heaps

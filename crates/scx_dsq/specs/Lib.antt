@@ -8,4 +8,5 @@ pub mod Runs
 pub mod Facts
 pub mod Lines
 pub mod Links
+pub mod Heaps
 pub mod Kept

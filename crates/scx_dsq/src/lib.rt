@@ -9,12 +9,15 @@
 
 mod commands;
 mod errors;
+mod heap;
 mod laws;
 mod lines;
 mod links;
 mod places;
+mod priority;
 mod queue;
 mod queues;
+mod steps;
 #[cfg(test)]
 mod tests;
 

@@ -1,0 +1,161 @@
+-- Rising in a heap: each exchange leaves one place less where the order may fail, and halves the way up.
+use Rattle.std.proofs.Common.{◌≡◌, ◌≢◌, ℕ, suc, ◌+◌, ◌-◌, ◌*◌, ◌/◌, ◌^◌, ◌<◌, ◌≤◌, Bool, true, false, List, length, slice_index_or, refl, sym, ap, ◌∙◌, subst, arith, ◌⊎◌, inl, inr}
+use Rattle.std.proofs.Math.Nat.{mul-le-mul_left, pow-succ'}
+use Rattle.std.specs.List.{SwappedAt}
+use Rattle.std.proofs.lemmas.Bool.{both_ways, false_from_ne_true, cases_eq, cases_lt}
+use Rattle.std.proofs.lemmas.List.{get_or_default}
+use Rattle.scx_dsq.specs.declared.places.Rank.TheVariants.{Vtime}
+use Rattle.scx_dsq.specs.declared.places.Place.{Place}
+use Rattle.scx_dsq.specs.declared.priority.Priority.{Priority}
+use Rattle.scx_dsq.specs.declared.heap.Item.{Item}
+use Rattle.scx_dsq.specs.Heaps.{comes_before, parent, IsBehind, IsHeap, IsHeapBut}
+use Rattle.scx_dsq.proofs.Orders.{Below, before_from, before-asym, before-trans}
+
+-- ---- the order
+
+as_place : Priority → Place
+as_place p = record { queue = 0; rank = Vtime p.key; stamp = p.stamp }
+
+asym : (p q : Priority) → comes_before p q ≡ true → comes_before q p ≡ false
+unfolding as_place
+asym p q h = before-asym (as_place p) (as_place q) h
+
+trans : (p q r : Priority) → comes_before p q ≡ true → comes_before q r ≡ true → comes_before p r ≡ true
+unfolding as_place
+trans p q r h k = before-trans (as_place p) (as_place q) (as_place r) h k
+
+-- what the test says where it fails
+not_before : (p q : Priority) → comes_before p q ≡ false → Below q.key q.stamp p.key (p.stamp + 1)
+unfolding as_place
+not_before p q h = record { keys = keys (cases_lt p.key q.key); stamps = λ e. stamps e (cases_lt p.stamp q.stamp) }
+  where
+    keys : (p.key < q.key) ⊎ (q.key ≤ p.key) → q.key ≤ p.key
+    keys (inl lt) = absurd (both_ways _ h (before_from (as_place p) (as_place q) (record { keys = omega arith; stamps = λ e. absurd (omega arith) })))
+    keys (inr le) = le
+
+    stamps : q.key ≡ p.key → (p.stamp < q.stamp) ⊎ (q.stamp ≤ p.stamp) → q.stamp < p.stamp + 1
+    stamps e (inl lt) = absurd (both_ways _ h (before_from (as_place p) (as_place q) (record { keys = omega arith; stamps = λ f. lt })))
+    stamps e (inr le) = omega arith
+
+same_priority : (p r : Priority) → r.key ≡ p.key → r.stamp ≡ p.stamp → p ≡ r
+same_priority p r e f = rw (e, f) refl
+
+itself : (x : Priority) → comes_before x x ≡ false
+itself x = false_from_ne_true _ (λ t. both_ways _ (asym x x t) t)
+
+-- who leaves before none that leaves before none
+not-trans : (p q r : Priority) → comes_before p q ≡ false → comes_before q r ≡ false → comes_before p r ≡ false
+unfolding as_place
+not-trans p q r h k = false_from_ne_true _ (λ t. both_ways _ (reversed (cases_eq r.key p.key)) t)
+  where
+    first : Below q.key q.stamp p.key (p.stamp + 1)
+    first = not_before p q h
+
+    second : Below r.key r.stamp q.key (q.stamp + 1)
+    second = not_before q r k
+
+    reversed : (r.key ≡ p.key) ⊎ (r.key ≡ p.key → ⊥) → comes_before p r ≡ false
+    reversed (inl e) =
+        let a = first.keys in
+        let b = second.keys in
+        let c = first.stamps (omega arith) in
+        let d = second.stamps (omega arith) in
+        go (cases_eq r.stamp p.stamp)
+      where
+        go : (r.stamp ≡ p.stamp) ⊎ (r.stamp ≡ p.stamp → ⊥) → comes_before p r ≡ false
+        go (inl same) = false_from_ne_true _ (λ t. both_ways _ (subst (λ x. comes_before p x ≡ false) (same_priority p r e same) (itself p)) t)
+        go (inr n) =
+            let a = first.keys in
+            let b = second.keys in
+            let c = first.stamps (omega arith) in
+            let d = second.stamps (omega arith) in
+            before-asym (as_place r) (as_place p) (before_from (as_place r) (as_place p) (record { keys = omega arith; stamps = λ f. omega arith }))
+    reversed (inr n) =
+        let a = first.keys in
+        let b = second.keys in
+        before-asym (as_place r) (as_place p) (before_from (as_place r) (as_place p) (record { keys = omega arith; stamps = λ f. absurd (n f) }))
+
+-- ---- the cost
+
+pub climbs : (n at start : ℕ) → 0 < at → 2 ^ n * (at + 1) ≤ start + 1 → 2 ^ (suc n) * (parent at + 1) ≤ start + 1
+climbs n at start up h =
+    let half : 2 * (parent at + 1) ≤ at + 1 = omega arith in
+    let more = mul-le-mul_left (2 ^ n) half in
+    rw (pow-succ' 2 n) (omega (arith, more, h))
+
+pub stops : (n at start : ℕ) → 0 < at → 2 ^ n * (at + 1) ≤ start + 1 → 2 ^ (suc n) ≤ start + 1
+stops n at start up h =
+    let two : 2 ≤ at + 1 = omega arith in
+    let more = mul-le-mul_left (2 ^ n) two in
+    rw (pow-succ' 2 n) (omega (arith, more, h))
+
+-- ---- the heap
+
+-- what was read by one default is read by all
+pub read_by_all : (items : List Item) (k j : ℕ) (x y : Item) (b : Bool) → k < length items → j < length items → comes_before (slice_index_or items k x).priority (slice_index_or items j y).priority ≡ b
+    → (d e : Item) → comes_before (slice_index_or items k d).priority (slice_index_or items j e).priority ≡ b
+read_by_all items k j x y b p q h d e = rw (get_or_default items k d x p, get_or_default items j e y q) h
+
+module _ (items new : List Item) (at : ℕ) (up : 0 < at) (within : at < length items) (long : length new ≡ length items) (swapped : SwappedAt items new at (parent at))
+    (early : (d e : Item) → comes_before (slice_index_or items at d).priority (slice_index_or items (parent at) e).priority ≡ true) (h : IsHeapBut items at) where
+  at_of : (d : Item) → slice_index_or new at d ≡ slice_index_or items (parent at) d
+  at_of = swapped.0
+
+  up_of : (d : Item) → slice_index_or new (parent at) d ≡ slice_index_or items at d
+  up_of = swapped.1
+
+  rest_of : (k : ℕ) (d : Item) → k ≢ at → k ≢ parent at → slice_index_or new k d ≡ slice_index_or items k d
+  rest_of = swapped.2
+
+  below : parent at < at
+  below = omega arith
+
+  others : (k : ℕ) → 0 < k → k < length new → k ≢ parent at → IsBehind new k (parent k)
+  others k some lt n d e = go (cases_eq k at)
+    where
+      go : (k ≡ at) ⊎ (k ≡ at → ⊥) → comes_before (slice_index_or new k d).priority (slice_index_or new (parent k) e).priority ≡ false
+      go (inl same) = rw (same, at_of d, up_of e) (asym (slice_index_or items at e).priority (slice_index_or items (parent at) d).priority (early e d))
+      go (inr m) = by (cases_eq (parent k) at) (cases_eq (parent k) (parent at))
+        where
+          here : slice_index_or new k d ≡ slice_index_or items k d
+          here = rest_of k d m n
+
+          old : (x : Item) → comes_before (slice_index_or items k d).priority (slice_index_or items (parent k) x).priority ≡ false
+          old x = h.others k some (omega (arith, lt, long)) m d x
+
+          by : (parent k ≡ at) ⊎ (parent k ≡ at → ⊥) → (parent k ≡ parent at) ⊎ (parent k ≡ parent at → ⊥) → comes_before (slice_index_or new k d).priority (slice_index_or new (parent k) e).priority ≡ false
+          by (inl child) s = rw (here, child, at_of e) (h.behind k some (omega (arith, lt, long)) child up d e)
+          by (inr o) (inl sibling) =
+              let not_up : comes_before (slice_index_or items k d).priority (slice_index_or items (parent at) e).priority ≡ false = subst (λ j. comes_before (slice_index_or items k d).priority (slice_index_or items j e).priority ≡ false) sibling (old e) in
+              rw (here, sibling, up_of e) (false_from_ne_true _ (λ t. both_ways _ not_up (trans (slice_index_or items k d).priority (slice_index_or items at e).priority (slice_index_or items (parent at) e).priority t (early e e))))
+          by (inr o) (inr other) = rw (here, rest_of (parent k) e o other) (old e)
+
+  behind : (k : ℕ) → 0 < k → k < length new → parent k ≡ parent at → 0 < parent at → IsBehind new k (parent (parent at))
+  behind k some lt child top d e = go (cases_eq k at)
+    where
+      far : slice_index_or new (parent (parent at)) e ≡ slice_index_or items (parent (parent at)) e
+      far = rest_of (parent (parent at)) e (λ x. absurd (omega arith)) (λ x. absurd (omega arith))
+
+      grand : (x : Item) → comes_before (slice_index_or items (parent at) x).priority (slice_index_or items (parent (parent at)) e).priority ≡ false
+      grand x = h.others (parent at) top (omega arith) (λ y. absurd (omega arith)) x e
+
+      go : (k ≡ at) ⊎ (k ≡ at → ⊥) → comes_before (slice_index_or new k d).priority (slice_index_or new (parent (parent at)) e).priority ≡ false
+      go (inl same) = rw (same, at_of d, far) (grand d)
+      go (inr m) =
+          let here = rest_of k d m (λ x. absurd (omega arith)) in
+          let old : comes_before (slice_index_or items k d).priority (slice_index_or items (parent at) d).priority ≡ false =
+              subst (λ j. comes_before (slice_index_or items k d).priority (slice_index_or items j d).priority ≡ false) child (h.others k some (omega (arith, lt, long)) m d d) in
+          rw (here, far) (not-trans (slice_index_or items k d).priority (slice_index_or items (parent at) d).priority (slice_index_or items (parent (parent at)) e).priority old (grand d))
+
+  pub exchanged : IsHeapBut new (parent at)
+  exchanged = record { others = others; behind = behind }
+
+pub heap_at_root : (items : List Item) → IsHeapBut items 0 → IsHeap items
+heap_at_root items h k some lt = h.others k some lt (λ e. absurd (omega arith))
+
+pub heap_here : (items : List Item) (at : ℕ) → IsHeapBut items at → ((d e : Item) → comes_before (slice_index_or items at d).priority (slice_index_or items (parent at) e).priority ≡ false) → IsHeap items
+heap_here items at h late k some lt = go (cases_eq k at)
+  where
+    go : (k ≡ at) ⊎ (k ≡ at → ⊥) → IsBehind items k (parent k)
+    go (inl same) = subst (λ j. IsBehind items j (parent j)) (sym same) late
+    go (inr n) = h.others k some lt n
