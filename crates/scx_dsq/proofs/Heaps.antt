@@ -1,6 +1,6 @@
 -- Rising in a heap: each exchange leaves one place less where the order may fail, and halves the way up.
 use Rattle.std.proofs.Common.{◌≡◌, ◌≢◌, ℕ, suc, ◌+◌, ◌-◌, ◌*◌, ◌/◌, ◌^◌, ◌<◌, ◌≤◌, Bool, true, false, List, length, slice_index_or, refl, sym, ap, ◌∙◌, subst, arith, ◌⊎◌, inl, inr}
-use Rattle.std.proofs.Math.Nat.{mul-le-mul_left, pow-succ'}
+use Rattle.std.proofs.Math.Nat.{mul_assoc, mul_comm, mul-le-mul, mul-le-mul_left, mul-le-mul_right, pow-succ', pow-le-pow_right}
 use Rattle.std.specs.List.{SwappedAt}
 use Rattle.std.proofs.lemmas.Bool.{both_ways, false_from_ne_true, cases_eq, cases_lt}
 use Rattle.std.proofs.lemmas.List.{get_or_default}
@@ -8,7 +8,7 @@ use Rattle.scx_dsq.specs.declared.places.Rank.TheVariants.{Vtime}
 use Rattle.scx_dsq.specs.declared.places.Place.{Place}
 use Rattle.scx_dsq.specs.declared.priority.Priority.{Priority}
 use Rattle.scx_dsq.specs.declared.heap.Item.{Item}
-use Rattle.scx_dsq.specs.Heaps.{comes_before, parent, IsBehind, IsHeap, IsHeapBut}
+use Rattle.scx_dsq.specs.Heaps.{comes_before, parent, IsBehind, IsHeap, IsHeapBut, IsHeapAbove, IsFirstChild}
 use Rattle.scx_dsq.proofs.Orders.{Below, before_from, before-asym, before-trans}
 
 -- ---- the order
@@ -89,6 +89,25 @@ stops n at start up h =
     let more = mul-le-mul_left (2 ^ n) two in
     rw (pow-succ' 2 n) (omega (arith, more, h))
 
+squares : (a c : ℕ) → 2 * a ≤ c → 2 * (2 * (a * a)) ≤ c * c
+squares a c h =
+    let big = mul-le-mul h h in
+    let same : 2 * a * (2 * a) ≡ 2 * (2 * (a * a)) = mul_assoc 2 a (2 * a) ∙ ap (λ x. 2 * x) (sym (mul_assoc a 2 a) ∙ ap (λ x. x * a) (mul_comm a 2) ∙ mul_assoc 2 a a) in
+    omega (arith, big, same)
+
+-- two more steps at most, where the place is at least doubled
+pub sinks : (n m s a c : ℕ) → m ≤ n + 2 → 2 ^ n * s ≤ a * a → 2 * a ≤ c → 2 ^ m * s ≤ c * c
+sinks n m s a c few h twice =
+    let fewer : m ≤ suc (suc n) = omega arith in
+    let powers : 2 ^ m ≤ 2 * (2 * 2 ^ n) = rw (← pow-succ' 2 n, ← pow-succ' 2 (suc n)) (pow-le-pow_right two fewer) in
+    let more : 2 ^ m * s ≤ 2 * (2 * 2 ^ n) * s = mul-le-mul_right s powers in
+    let same : 2 * (2 * 2 ^ n) * s ≡ 2 * (2 * (2 ^ n * s)) = mul_assoc 2 (2 * 2 ^ n) s ∙ ap (λ x. 2 * x) (mul_assoc 2 (2 ^ n) s) in
+    let big = squares a c twice in
+    omega (arith, more, same, big, h)
+  where
+    two : 0 < 2
+    two = omega arith
+
 -- ---- the heap
 
 -- what was read by one default is read by all
@@ -144,7 +163,7 @@ module _ (items new : List Item) (at : ℕ) (up : 0 < at) (within : at < length 
       go (inr m) =
           let here = rest_of k d m (λ x. absurd (omega arith)) in
           let old : comes_before (slice_index_or items k d).priority (slice_index_or items (parent at) d).priority ≡ false =
-              subst (λ j. comes_before (slice_index_or items k d).priority (slice_index_or items j d).priority ≡ false) child (h.others k some (omega (arith, lt, long)) m d d) in
+          subst (λ j. comes_before (slice_index_or items k d).priority (slice_index_or items j d).priority ≡ false) child (h.others k some (omega (arith, lt, long)) m d d) in
           rw (here, far) (not-trans (slice_index_or items k d).priority (slice_index_or items (parent at) d).priority (slice_index_or items (parent (parent at)) e).priority old (grand d))
 
   pub exchanged : IsHeapBut new (parent at)
@@ -159,3 +178,57 @@ heap_here items at h late k some lt = go (cases_eq k at)
     go : (k ≡ at) ⊎ (k ≡ at → ⊥) → IsBehind items k (parent k)
     go (inl same) = subst (λ j. IsBehind items j (parent j)) (sym same) late
     go (inr n) = h.others k some lt n
+
+-- ---- sinking
+
+module _ (items new : List Item) (at c : ℕ) (h : IsHeapAbove items at) (child : IsFirstChild items at c) (long : length new ≡ length items) (swapped : SwappedAt items new c at)
+    (early : (d e : Item) → comes_before (slice_index_or items c d).priority (slice_index_or items at e).priority ≡ true) where
+  under : at < c
+  under = let is = child.of in let some = child.positive in omega arith
+
+  child_of : (d : Item) → slice_index_or new c d ≡ slice_index_or items at d
+  child_of = swapped.0
+
+  parent_of : (d : Item) → slice_index_or new at d ≡ slice_index_or items c d
+  parent_of = swapped.1
+
+  kept : (k : ℕ) (d : Item) → k ≢ c → k ≢ at → slice_index_or new k d ≡ slice_index_or items k d
+  kept = swapped.2
+
+  sunk_others : (k : ℕ) → 0 < k → k < length new → parent k ≢ c → IsBehind new k (parent k)
+  sunk_others k some lt n d e = go (cases_eq k at) (cases_eq k c)
+    where
+      inside : k < length items
+      inside = omega (arith, lt, long)
+
+      go : (k ≡ at) ⊎ (k ≡ at → ⊥) → (k ≡ c) ⊎ (k ≡ c → ⊥) → comes_before (slice_index_or new k d).priority (slice_index_or new (parent k) e).priority ≡ false
+      go (inl same) t =
+          let far = kept (parent at) e (λ x. absurd (let y = under in omega arith)) (λ x. absurd (omega arith)) in
+          rw (same, parent_of d, far) (h.above c child.positive child.inside child.of (omega arith) d e)
+      go (inr m) (inl same) =
+          rw (same, child.of, child_of d, parent_of e) (asym (slice_index_or items c e).priority (slice_index_or items at d).priority (early e d))
+      go (inr m) (inr o) = by (cases_eq (parent k) at)
+        where
+          by : (parent k ≡ at) ⊎ (parent k ≡ at → ⊥) → comes_before (slice_index_or new k d).priority (slice_index_or new (parent k) e).priority ≡ false
+          by (inl is) = rw (kept k d o m, is, parent_of e) (child.first k some inside is d e)
+          by (inr isnt) = rw (kept k d o m, kept (parent k) e n isnt) (h.others k some inside isnt d e)
+
+  sunk_above : (k : ℕ) → 0 < k → k < length new → parent k ≡ c → 0 < c → IsBehind new k (parent c)
+  sunk_above k some lt is pos d e =
+      let x = under in
+      let old = h.others k some (omega (arith, lt, long)) (λ y. absurd (omega arith)) d e in
+      let to_child : comes_before (slice_index_or items k d).priority (slice_index_or items c e).priority ≡ false = subst (λ j. comes_before (slice_index_or items k d).priority (slice_index_or items j e).priority ≡ false) is old in
+      rw (child.of, kept k d (λ y. absurd (omega arith)) (λ y. absurd (omega arith)), parent_of e) to_child
+
+  pub sunk : IsHeapAbove new c
+  sunk = record { others = sunk_others; above = sunk_above }
+
+pub heap_at_leaf : (items : List Item) (at : ℕ) → IsHeapAbove items at → length items ≤ 2 * at + 1 → IsHeap items
+heap_at_leaf items at h past k some lt = h.others k some lt (λ e. absurd (omega arith))
+
+pub heap_above : (items : List Item) (at c : ℕ) → IsHeapAbove items at → IsFirstChild items at c → ((d e : Item) → comes_before (slice_index_or items c d).priority (slice_index_or items at e).priority ≡ false) → IsHeap items
+heap_above items at c h child late k some lt d e = go (cases_eq (parent k) at)
+  where
+    go : (parent k ≡ at) ⊎ (parent k ≡ at → ⊥) → comes_before (slice_index_or items k d).priority (slice_index_or items (parent k) e).priority ≡ false
+    go (inl is) = rw is (not-trans (slice_index_or items k d).priority (slice_index_or items c d).priority (slice_index_or items at e).priority (child.first k some lt is d d) (late d e))
+    go (inr isnt) = h.others k some lt isnt d e

@@ -22,3 +22,15 @@ IsHeap items = (k : ℕ) → 0 < k → k < length items → IsBehind items k (pa
 pub record IsHeapBut (items : List Item) (at : ℕ) : Type 0 where
   pub others : (k : ℕ) → 0 < k → k < length items → k ≢ at → IsBehind items k (parent k)
   pub behind : (k : ℕ) → 0 < k → k < length items → parent k ≡ at → 0 < at → IsBehind items k (parent at)
+
+-- a heap but for those right behind one place, which may leave before it, but not before its parent
+pub record IsHeapAbove (items : List Item) (at : ℕ) : Type 0 where
+  pub others : (k : ℕ) → 0 < k → k < length items → parent k ≢ at → IsBehind items k (parent k)
+  pub above : (k : ℕ) → 0 < k → k < length items → parent k ≡ at → 0 < at → IsBehind items k (parent at)
+
+-- a child before which the other child of its parent doesn't leave
+pub record IsFirstChild (items : List Item) (at child : ℕ) : Type 0 where
+  pub positive : 0 < child
+  pub inside : child < length items
+  pub of : parent child ≡ at
+  pub first : (k : ℕ) → 0 < k → k < length items → parent k ≡ at → IsBehind items k child

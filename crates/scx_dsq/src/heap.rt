@@ -1,6 +1,6 @@
-ghost use Rattle.std.specs.Prelude.{◌≡◌, ◌+◌, ◌-◌, ◌^◌, ◌<◌, ◌≤◌, length};
+ghost use Rattle.std.specs.Prelude.{◌≡◌, ◌+◌, ◌-◌, ◌*◌, ◌^◌, ◌<◌, ◌≤◌, length, IfSome, IfNone};
 ghost use Rattle.std.specs.List.Sorted.{IsPermutation};
-ghost use Rattle.scx_dsq.specs.Heaps.{IsHeap, IsHeapBut};
+ghost use Rattle.scx_dsq.specs.Heaps.{IsHeap, IsHeapBut, IsHeapAbove, IsFirstChild};
 
 use crate::priority::Priority;
 use crate::steps::Steps;
@@ -30,5 +30,47 @@ pub fn rise<L: Ledger>(items: &mut [Item], start: usize, steps: &mut Steps<L>)
         }
         items.swap(at, up);
         at = up;
+    }
+}
+
+/// Lets the item at a place sink until none behind it leaves before it.
+pub fn sink<L: Ledger>(items: &mut [Item], start: usize, steps: &mut Steps<L>)
+    requires within { start < length items.old }
+    requires few { length items.old < 2 ^ 32 }
+    requires heap { IsHeapAbove items.old start }
+    ensures heap { IsHeap items.new }
+    ensures same { IsPermutation items.old items.new }
+    ensures cost { 2 ^ (steps.new - steps.old) * ((start + 1) * (start + 1)) ≤ length items.old * length items.old }
+    ensures more { steps.old ≤ steps.new }
+{
+    let mut at = start;
+    while let Some(child) = first_child(items, at, steps) {
+        if !items[child].priority.is_before(items[at].priority, steps) {
+            break;
+        }
+        items.swap(child, at);
+        at = child;
+    }
+}
+
+/// Which of those right behind a place leaves first.
+fn first_child<L: Ledger>(items: &[Item], at: usize, steps: &mut Steps<L>) -> Option<usize>
+    requires within { at < length items.now }
+    requires few { length items.now < 2 ^ 32 }
+    ensures child { IfSome result (IsFirstChild items.now at) }
+    ensures none { IfNone result (length items.now ≤ 2 * at + 1) }
+    ensures cost { IfSome result (λ c. steps.new ≤ steps.old + 1) }
+    ensures free { IfNone result (steps.new ≡ steps.old) }
+    ensures more { steps.old ≤ steps.new }
+{
+    let left = 2 * at + 1;
+    let right = left + 1;
+    if left >= items.len() {
+        return None;
+    }
+    if right < items.len() && items[right].priority.is_before(items[left].priority, steps) {
+        Some(right)
+    } else {
+        Some(left)
     }
 }

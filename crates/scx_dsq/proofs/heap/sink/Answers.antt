@@ -1,0 +1,44 @@
+use Rattle.std.proofs.Common.{◌≡◌, ◌+◌, ◌-◌, ◌*◌, ◌^◌, ◌<◌, ◌≤◌, length, true, false, sym, ◌∙◌, arith}
+use Rattle.std.proofs.Math.Nat.{mul-le-mul}
+use Rattle.std.proofs.lemmas.List.Sorted.{IsPermutation-trans}
+use Rattle.scx_dsq.specs.Heaps.{parent, IsFirstChild}
+use Rattle.scx_dsq.proofs.Heaps.{read_by_all, sinks, sunk, heap_above}
+use Rattle.scx_dsq.proofs.heap.sink.Goals as goal
+
+pub loop-child-preserved : goal.loop-child-preserved
+loop-child-preserved g c =
+    let inv = c.loop-child.invariant in
+    let child : IsFirstChild c.loop-child.items c.loop-child.at c.in-Some.child = c.in-Some.ensures.child in
+    let early = read_by_all c.loop-child.items c.in-Some.child c.loop-child.at _ _ true child.inside inv.inside (sym c.is_before.ensures.answer ∙ c.if-not-is_before.false) in
+    let few : c.is_before.new.steps - c.args.steps.now ≤ c.loop-child.steps - c.args.steps.now + 2 = let more = inv.more in omega (arith, c.is_before.ensures.counted, c.in-Some.ensures.cost) in
+    let twice : 2 * (c.loop-child.at + 1) ≤ c.in-Some.child + 1 = let of = child.of in let some = child.positive in omega arith in
+    record {
+      inside = let inside = child.inside in omega (arith, c.swap.ensures.len);
+      heap = sunk c.loop-child.items c.swap.new.self c.loop-child.at c.in-Some.child inv.heap child c.swap.ensures.len c.swap.ensures.by_index early;
+      same = IsPermutation-trans _ _ _ inv.same c.swap.ensures.permutation;
+      more = let more = inv.more in omega (arith, c.is_before.ensures.counted, c.in-Some.ensures.more);
+      cost = sinks (c.loop-child.steps - c.args.steps.now) _ _ (c.loop-child.at + 1) (c.in-Some.child + 1) few inv.cost twice;
+    }
+
+pub returns-then-not-is_before-clause-heap : goal.returns-then-not-is_before-clause-heap
+returns-then-not-is_before-clause-heap g c =
+    let inv = c.loop-child.invariant in
+    let child : IsFirstChild c.loop-child.items c.loop-child.at c.in-Some.child = c.in-Some.ensures.child in
+    heap_above c.loop-child.items c.loop-child.at c.in-Some.child inv.heap child
+    (read_by_all c.loop-child.items c.in-Some.child c.loop-child.at _ _ false child.inside inv.inside (sym c.is_before.ensures.answer ∙ c.if-not-is_before.true))
+
+pub returns-then-not-is_before-clause-cost : goal.returns-then-not-is_before-clause-cost
+returns-then-not-is_before-clause-cost g c =
+    let inv = c.loop-child.invariant in
+    let child : IsFirstChild c.loop-child.items c.loop-child.at c.in-Some.child = c.in-Some.ensures.child in
+    let few : c.is_before.new.steps - c.args.steps.now ≤ c.loop-child.steps - c.args.steps.now + 2 = let more = inv.more in omega (arith, c.is_before.ensures.counted, c.in-Some.ensures.cost) in
+    let twice : 2 * (c.loop-child.at + 1) ≤ length c.args.items.now = let of = child.of in let some = child.positive in let inside = child.inside in omega (arith, c.loop-child.auto.items) in
+    sinks (c.loop-child.steps - c.args.steps.now) _ _ (c.loop-child.at + 1) (length c.args.items.now) few inv.cost twice
+
+pub returns-in_default-clause-cost : goal.returns-in_default-clause-cost
+returns-in_default-clause-cost g c =
+    let inv = c.loop-child.invariant in
+    let within : c.loop-child.at + 1 ≤ length c.args.items.now = let inside = inv.inside in omega (arith, c.loop-child.auto.items) in
+    let same : c.first_child.new.steps ≡ c.loop-child.steps = c.in_default.ensures.free in
+    let big = mul-le-mul within within in
+    rw same (omega (arith, inv.cost, big))
