@@ -1,14 +1,15 @@
 -- Rising in a heap: each exchange leaves one place less where the order may fail, and halves the way up.
-use Rattle.std.proofs.Common.{◌≡◌, ◌≢◌, ℕ, suc, ◌+◌, ◌-◌, ◌*◌, ◌/◌, ◌^◌, ◌<◌, ◌≤◌, Bool, true, false, List, length, slice_index_or, refl, sym, ap, ◌∙◌, subst, arith, ◌⊎◌, inl, inr}
-use Rattle.std.proofs.Math.Nat.{mul_assoc, mul_comm, mul-le-mul, mul-le-mul_left, mul-le-mul_right, pow-succ', pow-le-pow_right}
-use Rattle.std.specs.List.{SwappedAt}
-use Rattle.std.proofs.lemmas.Bool.{both_ways, false_from_ne_true, cases_eq, cases_lt}
+use Rattle.std.proofs.Common.{◌≡◌, ◌≢◌, ℕ, suc, ◌+◌, ◌-◌, ◌*◌, ◌/◌, ◌^◌, ◌<◌, ◌≤◌, Bool, true, false, ◌==◌, List, [], ◌∷◌, length, slice_index_or, refl, sym, ap, ◌∙◌, subst, arith, ◌⊎◌, inl, inr}
+use Rattle.std.proofs.Math.Nat.{mul_assoc, mul-le-mul_left, pow-succ'}
+use Rattle.std.specs.List.{SwappedAt, list_any}
+use Rattle.std.proofs.lemmas.List.Folds.{list_any_at}
+use Rattle.std.proofs.lemmas.Bool.{both_ways, eq-eqb, or_parts, false_from_ne_true, cases_eq, cases_lt}
 use Rattle.std.proofs.lemmas.List.{get_or_default}
 use Rattle.scx_dsq.specs.declared.places.Rank.TheVariants.{Vtime}
 use Rattle.scx_dsq.specs.declared.places.Place.{Place}
 use Rattle.scx_dsq.specs.declared.priority.Priority.{Priority}
 use Rattle.scx_dsq.specs.declared.heap.Item.{Item}
-use Rattle.scx_dsq.specs.Heaps.{comes_before, parent, IsBehind, IsHeap, IsHeapBut, IsHeapAbove, IsFirstChild}
+use Rattle.scx_dsq.specs.Heaps.{comes_before, parent, IsBehind, IsHeap, IsHeapBut, IsHeapAbove, IsFirstChild, Sank}
 use Rattle.scx_dsq.proofs.Orders.{Below, before_from, before-asym, before-trans}
 
 -- ---- the order
@@ -89,24 +90,64 @@ stops n at start up h =
     let more = mul-le-mul_left (2 ^ n) two in
     rw (pow-succ' 2 n) (omega (arith, more, h))
 
-squares : (a c : ℕ) → 2 * a ≤ c → 2 * (2 * (a * a)) ≤ c * c
-squares a c h =
-    let big = mul-le-mul h h in
-    let same : 2 * a * (2 * a) ≡ 2 * (2 * (a * a)) = mul_assoc 2 a (2 * a) ∙ ap (λ x. 2 * x) (sym (mul_assoc a 2 a) ∙ ap (λ x. x * a) (mul_comm a 2) ∙ mul_assoc 2 a a) in
-    omega (arith, big, same)
+list_any_here : (t : ℕ) (ts : List ℕ) → list_any (λ p. p == t) (t ∷ ts) ≡ true
+list_any_here t ts = list_any_at (λ p. p == t) (t ∷ ts) 0 0 (omega arith) (eq-eqb t t refl)
 
--- two more steps at most, where the place is at least doubled
-pub sinks : (n m s a c : ℕ) → m ≤ n + 2 → 2 ^ n * s ≤ a * a → 2 * a ≤ c → 2 ^ m * s ≤ c * c
-sinks n m s a c few h twice =
-    let fewer : m ≤ suc (suc n) = omega arith in
-    let powers : 2 ^ m ≤ 2 * (2 * 2 ^ n) = rw (← pow-succ' 2 n, ← pow-succ' 2 (suc n)) (pow-le-pow_right two fewer) in
-    let more : 2 ^ m * s ≤ 2 * (2 * 2 ^ n) * s = mul-le-mul_right s powers in
-    let same : 2 * (2 * 2 ^ n) * s ≡ 2 * (2 * (2 ^ n * s)) = mul_assoc 2 (2 * 2 ^ n) s ∙ ap (λ x. 2 * x) (mul_assoc 2 (2 ^ n) s) in
-    let big = squares a c twice in
-    omega (arith, more, same, big, h)
-  where
-    two : 0 < 2
-    two = omega arith
+not_there : (k t : ℕ) (ts : List ℕ) → list_any (λ p. p == k) (t ∷ ts) ≡ false → (k ≢ t) × (list_any (λ p. p == k) ts ≡ false)
+not_there k t ts out =
+    let parts = or_parts (t == k) (list_any (λ p. p == k) ts) out in
+    ((λ e. both_ways (t == k) parts.0 (eq-eqb t k (sym e))), parts.1)
+
+-- one level further down, by two steps at most
+deeper : (n start at child : ℕ) → 2 ^ n * (start + 1) ≤ at + 1 → 2 * (at + 1) ≤ child → 2 ^ suc n * (start + 1) ≤ child
+deeper n start at child h twice =
+    let same : 2 ^ suc n * (start + 1) ≡ 2 * (2 ^ n * (start + 1)) = ap (λ x. x * (start + 1)) (pow-succ' 2 n) ∙ mul_assoc 2 (2 ^ n) (start + 1) in
+    omega (arith, same, h, twice)
+
+-- how far the item has come, and that its place is among those that have changed
+pub record Sinks (old now : List Item) (start at steps : ℕ) : Type 0 where
+  pub path : Sank old now start (at + 1) steps
+  pub here : list_any (λ p. p == at) path.places ≡ true
+
+pub sinks_none : (old : List Item) (start : ℕ) → Sinks old old start start 0
+sinks_none old start = record {
+  path = record { levels = 0; depth = omega arith; cost = omega arith; places = start ∷ []; few = omega arith; differs = λ k d out. refl };
+  here = list_any_here start [];
+}
+
+pub sinks_more : (old now new : List Item) (start at child n m : ℕ) → Sinks old now start at n → m ≤ n + 2 → 2 * (at + 1) ≤ child + 1 → SwappedAt now new child at → Sinks old new start child m
+sinks_more old now new start at child n m h few twice swapped = record {
+  path = record {
+    levels = suc h.path.levels;
+    depth = deeper h.path.levels start at (child + 1) h.path.depth twice;
+    cost = let cost = h.path.cost in omega arith;
+    places = child ∷ h.path.places;
+    few = let few = h.path.few in omega arith;
+    differs = λ k d out. let apart = not_there k child h.path.places out in
+        swapped.2 k d apart.0 (λ e. both_ways _ apart.1 (subst (λ j. list_any (λ p. p == j) h.path.places ≡ true) (sym e) h.here)) ∙ h.path.differs k d apart.1;
+  };
+  here = list_any_here child h.path.places;
+}
+
+pub sank : (old now : List Item) (start at child n m : ℕ) → Sinks old now start at n → m ≤ n + 2 → 2 * (at + 1) ≤ child → Sank old now start child m
+sank old now start at child n m h few twice = record {
+  levels = suc h.path.levels;
+  depth = deeper h.path.levels start at child h.path.depth twice;
+  cost = let cost = h.path.cost in omega arith;
+  places = h.path.places;
+  few = let few = h.path.few in omega arith;
+  differs = h.path.differs;
+}
+
+pub sank_here : (old now : List Item) (start at within n : ℕ) → Sinks old now start at n → at < within → Sank old now start within n
+sank_here old now start at within n h lt = record {
+  levels = h.path.levels;
+  depth = let depth = h.path.depth in omega arith;
+  cost = h.path.cost;
+  places = h.path.places;
+  few = h.path.few;
+  differs = h.path.differs;
+}
 
 -- ---- the heap
 

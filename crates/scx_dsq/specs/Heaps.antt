@@ -1,6 +1,7 @@
 -- Queues by virtual time as heaps in an array (Williams, Algorithm 232): no task leaves before the one at
 -- its parent's place.
-use Rattle.std.specs.Prelude.{◌≡◌, ◌≢◌, ℕ, ◌-◌, ◌/◌, ◌<◌, Bool, false, ◌==◌, ◌&&◌, ◌||◌, nat_lt, List, length, slice_index_or}
+use Rattle.std.specs.Prelude.{◌≡◌, ◌≢◌, ℕ, ◌+◌, ◌-◌, ◌*◌, ◌/◌, ◌^◌, ◌<◌, ◌≤◌, Bool, false, ◌==◌, ◌&&◌, ◌||◌, nat_lt, List, length, slice_index_or}
+use Rattle.std.specs.List.{list_any}
 use Rattle.scx_dsq.specs.declared.priority.Priority.{Priority}
 use Rattle.scx_dsq.specs.declared.heap.Item.{Item}
 
@@ -34,3 +35,19 @@ pub record IsFirstChild (items : List Item) (at child : ℕ) : Type 0 where
   pub inside : child < length items
   pub of : parent child ≡ at
   pub first : (k : ℕ) → 0 < k → k < length items → parent k ≡ at → IsBehind items k child
+
+-- ---- what a move in the heap costs
+
+-- only these places hold other items
+abbrev pub DiffersAt : List ℕ → List Item → List Item → Type 0
+DiffersAt places old new = (k : ℕ) (d : Item) → list_any (λ p. p == k) places ≡ false → slice_index_or new k d ≡ slice_index_or old k d
+
+-- down so many levels from a place to one within the array: two comparisons a level at most, and one
+-- place more than levels has changed
+pub record Sank (old new : List Item) (start within steps : ℕ) : Type 0 where
+  pub levels : ℕ
+  pub depth : 2 ^ levels * (start + 1) ≤ within
+  pub cost : steps ≤ 2 * levels
+  pub places : List ℕ
+  pub few : length places ≤ levels + 1
+  pub differs : DiffersAt places old new

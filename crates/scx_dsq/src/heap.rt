@@ -1,6 +1,6 @@
 ghost use Rattle.std.specs.Prelude.{◌≡◌, ◌+◌, ◌-◌, ◌*◌, ◌^◌, ◌<◌, ◌≤◌, length, IfSome, IfNone};
 ghost use Rattle.std.specs.List.Sorted.{IsPermutation};
-ghost use Rattle.scx_dsq.specs.Heaps.{IsHeap, IsHeapBut, IsHeapAbove, IsFirstChild};
+ghost use Rattle.scx_dsq.specs.Heaps.{IsHeap, IsHeapBut, IsHeapAbove, IsFirstChild, Sank};
 
 use crate::priority::Priority;
 use crate::steps::Steps;
@@ -40,7 +40,7 @@ pub fn sink<L: Ledger>(items: &mut [Item], start: usize, steps: &mut Steps<L>)
     requires heap { IsHeapAbove items.old start }
     ensures heap { IsHeap items.new }
     ensures same { IsPermutation items.old items.new }
-    ensures cost { 2 ^ (steps.new - steps.old) * ((start + 1) * (start + 1)) ≤ length items.old * length items.old }
+    ensures cost { Sank items.old items.new start (length items.old) (steps.new - steps.old) }
     ensures more { steps.old ≤ steps.new }
 {
     let mut at = start;

@@ -1,8 +1,7 @@
-use Rattle.std.proofs.Common.{◌≡◌, ◌+◌, ◌-◌, ◌*◌, ◌^◌, ◌<◌, ◌≤◌, length, true, false, sym, ◌∙◌, arith}
-use Rattle.std.proofs.Math.Nat.{mul-le-mul}
+use Rattle.std.proofs.Common.{◌≡◌, ◌+◌, ◌-◌, ◌*◌, ◌^◌, ◌<◌, ◌≤◌, length, true, false, sym, ◌∙◌, rules, arith}
 use Rattle.std.proofs.lemmas.List.Sorted.{IsPermutation-trans}
 use Rattle.scx_dsq.specs.Heaps.{parent, IsFirstChild}
-use Rattle.scx_dsq.proofs.Heaps.{read_by_all, sinks, sunk, heap_above}
+use Rattle.scx_dsq.proofs.Heaps.{read_by_all, sinks_none, sinks_more, sank, sank_here, sunk, heap_above}
 use Rattle.scx_dsq.proofs.heap.sink.Goals as goal
 
 pub loop-child-preserved : goal.loop-child-preserved
@@ -17,7 +16,7 @@ loop-child-preserved g c =
       heap = sunk c.loop-child.items c.swap.new.self c.loop-child.at c.in-Some.child inv.heap child c.swap.ensures.len c.swap.ensures.by_index early;
       same = IsPermutation-trans _ _ _ inv.same c.swap.ensures.permutation;
       more = let more = inv.more in omega (arith, c.is_before.ensures.counted, c.in-Some.ensures.more);
-      cost = sinks (c.loop-child.steps - c.args.steps.now) _ _ (c.loop-child.at + 1) (c.in-Some.child + 1) few inv.cost twice;
+      cost = sinks_more c.args.items.now c.loop-child.items c.swap.new.self c.args.start c.loop-child.at c.in-Some.child _ _ inv.cost few twice c.swap.ensures.by_index;
     }
 
 pub returns-then-not-is_before-clause-heap : goal.returns-then-not-is_before-clause-heap
@@ -33,12 +32,20 @@ returns-then-not-is_before-clause-cost g c =
     let child : IsFirstChild c.loop-child.items c.loop-child.at c.in-Some.child = c.in-Some.ensures.child in
     let few : c.is_before.new.steps - c.args.steps.now ≤ c.loop-child.steps - c.args.steps.now + 2 = let more = inv.more in omega (arith, c.is_before.ensures.counted, c.in-Some.ensures.cost) in
     let twice : 2 * (c.loop-child.at + 1) ≤ length c.args.items.now = let of = child.of in let some = child.positive in let inside = child.inside in omega (arith, c.loop-child.auto.items) in
-    sinks (c.loop-child.steps - c.args.steps.now) _ _ (c.loop-child.at + 1) (length c.args.items.now) few inv.cost twice
+    sank c.args.items.now c.loop-child.items c.args.start c.loop-child.at (length c.args.items.now) _ _ inv.cost few twice
 
 pub returns-in_default-clause-cost : goal.returns-in_default-clause-cost
 returns-in_default-clause-cost g c =
     let inv = c.loop-child.invariant in
-    let within : c.loop-child.at + 1 ≤ length c.args.items.now = let inside = inv.inside in omega (arith, c.loop-child.auto.items) in
+    let within : c.loop-child.at < length c.args.items.now = let inside = inv.inside in omega (arith, c.loop-child.auto.items) in
     let same : c.first_child.new.steps ≡ c.loop-child.steps = c.in_default.ensures.free in
-    let big = mul-le-mul within within in
-    rw same (omega (arith, inv.cost, big))
+    rw same (sank_here c.args.items.now c.loop-child.items c.args.start c.loop-child.at (length c.args.items.now) _ inv.cost within)
+
+pub loop-child-init : goal.loop-child-init
+loop-child-init g c = record {
+  inside = c.requires.within;
+  heap = c.requires.heap;
+  same = search rules;
+  more = omega arith;
+  cost = let none : c.args.steps.now - c.args.steps.now ≡ 0 = omega arith in rw none (sinks_none c.args.items.now c.args.start);
+}

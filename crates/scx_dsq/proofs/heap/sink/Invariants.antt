@@ -2,17 +2,18 @@ use Rattle.std.proofs.Common.{ℕ, ◌+◌, ◌-◌, ◌*◌, ◌^◌, ◌≤◌
 use Rattle.std.specs.List.Sorted.{IsPermutation}
 use Rattle.scx_dsq.specs.declared.heap.Item.{Item}
 use Rattle.scx_dsq.specs.Heaps.{IsHeapAbove}
+use Rattle.scx_dsq.proofs.Heaps.{Sinks}
 use Rattle.scx_dsq.proofs.heap.sink.Given as goal
 
-pub record Sinks (items now : List Item) (start at before steps : ℕ) : Type 0 where
+pub record Keeps (items now : List Item) (start at before steps : ℕ) : Type 0 where
   pub inside : at < length now
   pub heap : IsHeapAbove now at
   pub same : IsPermutation items now
   pub more : before ≤ steps
-  pub cost : 2 ^ (steps - before) * ((start + 1) * (start + 1)) ≤ (at + 1) * (at + 1)
+  pub cost : Sinks items now start at (steps - before)
 
 abbrev pub invariant-loop-child : goal.invariant-loop-child
-invariant-loop-child g l = Sinks l.initial.items l.items l.start l.at l.initial.steps l.steps
+invariant-loop-child g l = Keeps l.initial.items l.items l.start l.at l.initial.steps l.steps
 
 abbrev pub decreases-loop-child : goal.decreases-loop-child
 decreases-loop-child g l = length l.initial.items - l.at
