@@ -9,7 +9,7 @@ use Rattle.scx_dsq.specs.declared.places.Rank.TheVariants.{Vtime}
 use Rattle.scx_dsq.specs.declared.places.Place.{Place}
 use Rattle.scx_dsq.specs.declared.priority.Priority.{Priority}
 use Rattle.scx_dsq.specs.declared.heap.Item.{Item}
-use Rattle.scx_dsq.specs.Heaps.{comes_before, parent, IsBehind, IsHeap, IsHeapBut, IsHeapAbove, IsFirstChild, Sank}
+use Rattle.scx_dsq.specs.Heaps.{comes_before, parent, IsBehind, IsHeap, IsHeapBut, IsHeapAbove, IsFirstChild, DiffersAt, Rose, Sank}
 use Rattle.scx_dsq.proofs.Orders.{Below, before_from, before-asym, before-trans}
 
 -- ---- the order
@@ -78,18 +78,6 @@ not-trans p q r h k = false_from_ne_true _ (λ t. both_ways _ (reversed (cases_e
 
 -- ---- the cost
 
-pub climbs : (n at start : ℕ) → 0 < at → 2 ^ n * (at + 1) ≤ start + 1 → 2 ^ (suc n) * (parent at + 1) ≤ start + 1
-climbs n at start up h =
-    let half : 2 * (parent at + 1) ≤ at + 1 = omega arith in
-    let more = mul-le-mul_left (2 ^ n) half in
-    rw (pow-succ' 2 n) (omega (arith, more, h))
-
-pub stops : (n at start : ℕ) → 0 < at → 2 ^ n * (at + 1) ≤ start + 1 → 2 ^ (suc n) ≤ start + 1
-stops n at start up h =
-    let two : 2 ≤ at + 1 = omega arith in
-    let more = mul-le-mul_left (2 ^ n) two in
-    rw (pow-succ' 2 n) (omega (arith, more, h))
-
 list_any_here : (t : ℕ) (ts : List ℕ) → list_any (λ p. p == t) (t ∷ ts) ≡ true
 list_any_here t ts = list_any_at (λ p. p == t) (t ∷ ts) 0 0 (omega arith) (eq-eqb t t refl)
 
@@ -103,6 +91,57 @@ deeper : (n start at child : ℕ) → 2 ^ n * (start + 1) ≤ at + 1 → 2 * (at
 deeper n start at child h twice =
     let same : 2 ^ suc n * (start + 1) ≡ 2 * (2 ^ n * (start + 1)) = ap (λ x. x * (start + 1)) (pow-succ' 2 n) ∙ mul_assoc 2 (2 ^ n) (start + 1) in
     omega (arith, same, h, twice)
+
+-- one level further up
+higher : (n start at : ℕ) → 0 < at → 2 ^ n * (at + 1) ≤ start + 1 → 2 ^ suc n * (parent at + 1) ≤ start + 1
+higher n start at up h =
+    let half : 2 * (parent at + 1) ≤ at + 1 = omega arith in
+    let more = mul-le-mul_left (2 ^ n) half in
+    rw (pow-succ' 2 n) (omega (arith, more, h))
+
+whole : (n start at : ℕ) → 2 ^ n * (at + 1) ≤ start + 1 → 2 ^ n ≤ start + 1
+whole n start at h = let more = mul-le-mul_left (2 ^ n) (one_at at) in omega (arith, more, h)
+  where
+    one_at : (k : ℕ) → 1 ≤ k + 1
+    one_at k = omega arith
+
+-- how far the item has come up, and that its place is among those that have changed
+pub record Rises (old now : List Item) (start at steps : ℕ) : Type 0 where
+  pub levels : ℕ
+  pub depth : 2 ^ levels * (at + 1) ≤ start + 1
+  pub cost : steps ≤ levels
+  pub places : List ℕ
+  pub few : length places ≤ levels + 1
+  pub differs : DiffersAt places old now
+  pub here : list_any (λ p. p == at) places ≡ true
+
+pub rises_none : (old : List Item) (start : ℕ) → Rises old old start start 0
+rises_none old start = record { levels = 0; depth = omega arith; cost = omega arith; places = start ∷ []; few = omega arith; differs = λ k d out. refl; here = list_any_here start [] }
+
+pub rises_more : (old now new : List Item) (start at n m : ℕ) → Rises old now start at n → m ≤ n + 1 → 0 < at → SwappedAt now new at (parent at) → Rises old new start (parent at) m
+rises_more old now new start at n m h few up swapped = record {
+  levels = suc h.levels;
+  depth = higher h.levels start at up h.depth;
+  cost = let cost = h.cost in omega arith;
+  places = parent at ∷ h.places;
+  few = let few = h.few in omega arith;
+  differs = λ k d out. let apart = not_there k (parent at) h.places out in
+      swapped.2 k d (λ e. both_ways _ apart.1 (subst (λ j. list_any (λ p. p == j) h.places ≡ true) (sym e) h.here)) apart.0 ∙ h.differs k d apart.1;
+  here = list_any_here (parent at) h.places;
+}
+
+pub rose : (old now : List Item) (start at n m : ℕ) → Rises old now start at n → m ≤ n + 1 → 0 < at → Rose old now start m
+rose old now start at n m h few up = record {
+  levels = suc h.levels;
+  depth = whole (suc h.levels) start (parent at) (higher h.levels start at up h.depth);
+  cost = let cost = h.cost in omega arith;
+  places = h.places;
+  few = let few = h.few in omega arith;
+  differs = h.differs;
+}
+
+pub rose_here : (old now : List Item) (start at n : ℕ) → Rises old now start at n → Rose old now start n
+rose_here old now start at n h = record { levels = h.levels; depth = whole h.levels start at h.depth; cost = h.cost; places = h.places; few = h.few; differs = h.differs }
 
 -- how far the item has come, and that its place is among those that have changed
 pub record Sinks (old now : List Item) (start at steps : ℕ) : Type 0 where

@@ -51,3 +51,13 @@ pub record Sank (old new : List Item) (start within steps : ℕ) : Type 0 where
   pub places : List ℕ
   pub few : length places ≤ levels + 1
   pub differs : DiffersAt places old new
+
+-- up so many levels from a place: one comparison a level at most, and one place more than levels has
+-- changed
+pub record Rose (old new : List Item) (start steps : ℕ) : Type 0 where
+  pub levels : ℕ
+  pub depth : 2 ^ levels ≤ start + 1
+  pub cost : steps ≤ levels
+  pub places : List ℕ
+  pub few : length places ≤ levels + 1
+  pub differs : DiffersAt places old new

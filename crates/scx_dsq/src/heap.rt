@@ -1,6 +1,6 @@
 ghost use Rattle.std.specs.Prelude.{◌≡◌, ◌+◌, ◌-◌, ◌*◌, ◌^◌, ◌<◌, ◌≤◌, length, IfSome, IfNone};
 ghost use Rattle.std.specs.List.Sorted.{IsPermutation};
-ghost use Rattle.scx_dsq.specs.Heaps.{IsHeap, IsHeapBut, IsHeapAbove, IsFirstChild, Sank};
+ghost use Rattle.scx_dsq.specs.Heaps.{IsHeap, IsHeapBut, IsHeapAbove, IsFirstChild, Rose, Sank};
 
 use crate::priority::Priority;
 use crate::steps::Steps;
@@ -19,7 +19,7 @@ pub fn rise<L: Ledger>(items: &mut [Item], start: usize, steps: &mut Steps<L>)
     requires heap { IsHeapBut items.old start }
     ensures heap { IsHeap items.new }
     ensures same { IsPermutation items.old items.new }
-    ensures cost { 2 ^ (steps.new - steps.old) ≤ start + 1 }
+    ensures cost { Rose items.old items.new start (steps.new - steps.old) }
     ensures more { steps.old ≤ steps.new }
 {
     let mut at = start;
