@@ -15,3 +15,4 @@ pub mod Threads
 pub mod ThreadsWith
 pub mod ThreadsWithout
 pub mod Heaps
+pub mod Spots

@@ -36,6 +36,11 @@ pub record IsFirstChild (items : List Item) (at child : ℕ) : Type 0 where
   pub of : parent child ≡ at
   pub first : (k : ℕ) → 0 < k → k < length items → parent k ≡ at → IsBehind items k child
 
+-- at each task's number stands its place in the array
+abbrev pub HasSpots : List Item → List ℕ → Type 0
+HasSpots items spots =
+    (k : ℕ) (d : Item) (e : ℕ) → k < length items → ((slice_index_or items k d).task < length spots) × (slice_index_or spots (slice_index_or items k d).task e ≡ k)
+
 -- ---- what a move in the heap costs
 
 -- only these places hold other items

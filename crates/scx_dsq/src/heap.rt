@@ -1,6 +1,7 @@
 ghost use Rattle.std.specs.Prelude.{◌≡◌, ◌+◌, ◌-◌, ◌*◌, ◌^◌, ◌<◌, ◌≤◌, length, IfSome, IfNone};
+ghost use Rattle.std.specs.List.{SwappedAt};
 ghost use Rattle.std.specs.List.Sorted.{IsPermutation};
-ghost use Rattle.scx_dsq.specs.Heaps.{IsHeap, IsHeapBut, IsHeapAbove, IsFirstChild, Rose, Sank};
+ghost use Rattle.scx_dsq.specs.Heaps.{IsHeap, IsHeapBut, IsHeapAbove, IsFirstChild, Rose, Sank, HasSpots};
 
 use crate::priority::Priority;
 use crate::steps::Steps;
@@ -51,6 +52,22 @@ pub fn sink<L: Ledger>(items: &mut [Item], start: usize, steps: &mut Steps<L>)
         items.swap(child, at);
         at = child;
     }
+}
+
+/// Exchanges two items, and with them their tasks' spots.
+pub fn exchange(items: &mut [Item], spots: &mut [u32], i: usize, j: usize)
+    requires first { i < length items.old }
+    requires second { j < length items.old }
+    requires few { length items.old < 2 ^ 32 }
+    requires spots { HasSpots items.old spots.old }
+    ensures spots { HasSpots items.new spots.new }
+    ensures same { IsPermutation items.old items.new }
+    ensures swapped { SwappedAt items.old items.new i j }
+    ensures long { length spots.new ≡ length spots.old }
+{
+    items.swap(i, j);
+    spots[items[i].task as usize] = i as u32;
+    spots[items[j].task as usize] = j as u32;
 }
 
 /// Which of those right behind a place leaves first.
