@@ -48,16 +48,18 @@ module _ (items new : List Item) (spots : List ℕ) (i j : ℕ) (z : Item) (firs
   at_second e = (within_after two two_within, get_or-set_same (set spots one i) two j e two_still)
 
   at_first : (e : ℕ) → i ≢ j → Stands i e one
-  at_first e n =
-      (within_after one one_within,
-      get_or-set_other (set spots one i) two one j e (λ s. n (own i j z z first second (sym (two_is z) ∙ sym s ∙ one_is z))) ∙ get_or-set_same spots one i e one_within)
+  at_first e n = (
+    within_after one one_within,
+    get_or-set_other (set spots one i) two one j e (λ s. n (own i j z z first second (sym (two_is z) ∙ sym s ∙ one_is z))) ∙ get_or-set_same spots one i e one_within,
+  )
 
   elsewhere : (k : ℕ) (d : Item) (e : ℕ) → k < length items → k ≢ i → k ≢ j → Stands k e (slice_index_or items k d).task
   elsewhere k d e lt n m =
-      let old = h k d e lt in
-      (within_after _ old.0,
-      get_or-set_other (set spots one i) two (slice_index_or items k d).task j e (λ s. n (own k i d z lt first (s ∙ two_is z)))
-      ∙ get_or-set_other spots one (slice_index_or items k d).task i e (λ s. m (own k j d z lt second (s ∙ one_is z))) ∙ old.1)
+      let old = h k d e lt in (
+        within_after _ old.0,
+        get_or-set_other (set spots one i) two (slice_index_or items k d).task j e (λ s. n (own k i d z lt first (s ∙ two_is z)))
+            ∙ get_or-set_other spots one (slice_index_or items k d).task i e (λ s. m (own k j d z lt second (s ∙ one_is z))) ∙ old.1,
+      )
 
   pub spots_after : HasSpots new after
   spots_after k d e lt = go (cases_eq k j) (cases_eq k i)

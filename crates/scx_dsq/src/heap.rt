@@ -15,10 +15,13 @@ pub struct Item {
 }
 
 /// Lets the item at a place rise until no item leaves before its parent.
-pub fn rise<L: Ledger>(items: &mut [Item], start: usize, steps: &mut Steps<L>)
+pub fn rise<L: Ledger>(items: &mut [Item], spots: &mut [u32], start: usize, steps: &mut Steps<L>)
     requires within { start < length items.old }
+    requires few { length items.old < 2 ^ 32 }
+    requires spots { HasSpots items.old spots.old }
     requires heap { IsHeapBut items.old start }
     ensures heap { IsHeap items.new }
+    ensures spots { HasSpots items.new spots.new }
     ensures same { IsPermutation items.old items.new }
     ensures cost { Rose items.old items.new start (steps.new - steps.old) }
     ensures more { steps.old ≤ steps.new }
@@ -29,17 +32,19 @@ pub fn rise<L: Ledger>(items: &mut [Item], start: usize, steps: &mut Steps<L>)
         if !items[at].priority.is_before(items[up].priority, steps) {
             break;
         }
-        items.swap(at, up);
+        exchange(items, spots, at, up);
         at = up;
     }
 }
 
 /// Lets the item at a place sink until none behind it leaves before it.
-pub fn sink<L: Ledger>(items: &mut [Item], start: usize, steps: &mut Steps<L>)
+pub fn sink<L: Ledger>(items: &mut [Item], spots: &mut [u32], start: usize, steps: &mut Steps<L>)
     requires within { start < length items.old }
     requires few { length items.old < 2 ^ 32 }
+    requires spots { HasSpots items.old spots.old }
     requires heap { IsHeapAbove items.old start }
     ensures heap { IsHeap items.new }
+    ensures spots { HasSpots items.new spots.new }
     ensures same { IsPermutation items.old items.new }
     ensures cost { Sank items.old items.new start (length items.old) (steps.new - steps.old) }
     ensures more { steps.old ≤ steps.new }
@@ -49,7 +54,7 @@ pub fn sink<L: Ledger>(items: &mut [Item], start: usize, steps: &mut Steps<L>)
         if !items[child].priority.is_before(items[at].priority, steps) {
             break;
         }
-        items.swap(child, at);
+        exchange(items, spots, child, at);
         at = child;
     }
 }

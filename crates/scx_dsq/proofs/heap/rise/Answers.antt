@@ -6,6 +6,7 @@ use Rattle.scx_dsq.proofs.heap.rise.Goals as goal
 
 pub loop-at-init : goal.loop-at-init
 loop-at-init g c = record {
+  spots_kept = c.requires.spots;
   inside = c.requires.within;
   heap = c.requires.heap;
   same = search rules;
@@ -21,11 +22,12 @@ loop-at-preserved g c =
     let early = read_by_all c.loop-at.items c.loop-at.at (parent c.loop-at.at) _ _ true inv.inside above (sym c.is_before.ensures.answer ∙ c.if-not-is_before.false) in
     let few : c.is_before.new.steps - c.args.steps.now ≤ c.loop-at.steps - c.args.steps.now + 1 = let more = inv.more in omega (arith, c.is_before.ensures.counted) in
     record {
-      inside = omega (arith, above, c.swap.ensures.len);
-      heap = exchanged c.loop-at.items c.swap.new.self c.loop-at.at up inv.inside c.swap.ensures.len c.swap.ensures.by_index early inv.heap;
-      same = IsPermutation-trans _ _ _ inv.same c.swap.ensures.permutation;
+      spots_kept = c.exchange.ensures.spots;
+      inside = omega (arith, above, c.exchange.auto.items);
+      heap = exchanged c.loop-at.items c.exchange.new.items c.loop-at.at up inv.inside c.exchange.auto.items c.exchange.ensures.swapped early inv.heap;
+      same = IsPermutation-trans _ _ _ inv.same c.exchange.ensures.same;
       more = let more = inv.more in omega (arith, c.is_before.ensures.counted);
-      cost = rises_more c.args.items.now c.loop-at.items c.swap.new.self c.args.start c.loop-at.at _ _ inv.cost few up c.swap.ensures.by_index;
+      cost = rises_more c.args.items.now c.loop-at.items c.exchange.new.items c.args.start c.loop-at.at _ _ inv.cost few up c.exchange.ensures.swapped;
     }
 
 pub returns-then-not-is_before-clause-cost : goal.returns-then-not-is_before-clause-cost

@@ -12,11 +12,12 @@ loop-child-preserved g c =
     let few : c.is_before.new.steps - c.args.steps.now ≤ c.loop-child.steps - c.args.steps.now + 2 = let more = inv.more in omega (arith, c.is_before.ensures.counted, c.in-Some.ensures.cost) in
     let twice : 2 * (c.loop-child.at + 1) ≤ c.in-Some.child + 1 = let of = child.of in let some = child.positive in omega arith in
     record {
-      inside = let inside = child.inside in omega (arith, c.swap.ensures.len);
-      heap = sunk c.loop-child.items c.swap.new.self c.loop-child.at c.in-Some.child inv.heap child c.swap.ensures.len c.swap.ensures.by_index early;
-      same = IsPermutation-trans _ _ _ inv.same c.swap.ensures.permutation;
+      spots_kept = c.exchange.ensures.spots;
+      inside = let inside = child.inside in omega (arith, c.exchange.auto.items);
+      heap = sunk c.loop-child.items c.exchange.new.items c.loop-child.at c.in-Some.child inv.heap child c.exchange.auto.items c.exchange.ensures.swapped early;
+      same = IsPermutation-trans _ _ _ inv.same c.exchange.ensures.same;
       more = let more = inv.more in omega (arith, c.is_before.ensures.counted, c.in-Some.ensures.more);
-      cost = sinks_more c.args.items.now c.loop-child.items c.swap.new.self c.args.start c.loop-child.at c.in-Some.child _ _ inv.cost few twice c.swap.ensures.by_index;
+      cost = sinks_more c.args.items.now c.loop-child.items c.exchange.new.items c.args.start c.loop-child.at c.in-Some.child _ _ inv.cost few twice c.exchange.ensures.swapped;
     }
 
 pub returns-then-not-is_before-clause-heap : goal.returns-then-not-is_before-clause-heap
@@ -43,6 +44,7 @@ returns-in_default-clause-cost g c =
 
 pub loop-child-init : goal.loop-child-init
 loop-child-init g c = record {
+  spots_kept = c.requires.spots;
   inside = c.requires.within;
   heap = c.requires.heap;
   same = search rules;
