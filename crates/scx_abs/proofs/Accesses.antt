@@ -1,5 +1,5 @@
 -- Loads and stores: the place that an address means, and what is read and written there.
-use Rattle.std.proofs.Common.{◌≡◌, ℕ, ◌+◌, ◌*◌, ◌/◌, ◌%◌, ◌≤◌, ℤ, Bool, true, false, List, [], length, Option, Some, None, Result, Ok, Err, if◌then◌else◌, refl, sym, ap, ◌∙◌, arith}
+use Rattle.std.proofs.Common.{◌≡◌, ℕ, ◌+◌, ◌*◌, ◌/◌, ◌%◌, ◌<◌, ◌≤◌, ℤ, Bool, true, false, List, [], length, Option, Some, None, Result, Ok, Err, if◌then◌else◌, refl, sym, ap, ◌∙◌, arith}
 use Rattle.scx_semantics.specs.declared.instructions.Operand.{Operand}
 use Rattle.scx_semantics.specs.declared.operations.Width.TheVariants.{Bits64}
 use Rattle.scx_semantics.specs.declared.operations.Size.{Size}
@@ -15,7 +15,7 @@ use Rattle.scx_semantics.specs.declared.values.StackByte.{StackByte}
 use Rattle.scx_semantics.specs.declared.registers.Register.{Register}
 use Rattle.scx_semantics.specs.Registers.{number}
 use Rattle.scx_semantics.specs.Arithmetic.{shifted}
-use Rattle.scx_semantics.specs.Memory.{Stack, stack_size, room_at, bytes_at, write, number_bytes, number_in, parts, value_in, value_bytes, load, read_as, size_bytes, access_size}
+use Rattle.scx_semantics.specs.Memory.{Stack, stack_size, room_at, bytes_at, write, number_bytes, parts, value_in, value_bytes, load, read_as, size_bytes, access_size}
 use Rattle.scx_semantics.specs.Outside.{field_at, is_writable}
 use Rattle.scx_semantics.specs.Elements.{Maps, element, number_at, with_element, with_number}
 use Rattle.scx_semantics.specs.Places as place
@@ -24,6 +24,8 @@ use Rattle.scx_semantics.specs.Machine.{Machine, with_stack}
 use Rattle.scx_semantics.specs.Effects as effect
 use Rattle.scx_semantics.specs.Effects.{keep, keep_answer}
 use Rattle.scx_semantics.specs.Meaning.{operand_value, is_plain, loaded, stored}
+use Rattle.scx_semantics.proofs.Bytes.{bytes_at_below, read_as_below, number_at_below, with_number_bytes, with_element_bytes}
+use Rattle.scx_encoding.specs.Spelling.{IsOperand}
 use Rattle.scx_maps.specs.declared.shape.Shape.{Shape}
 use Rattle.scx_maps.specs.Contents.{HasShapes}
 use Rattle.scx_abs.specs.declared.faults.Why.{Why}
@@ -36,29 +38,30 @@ use Rattle.scx_abs.specs.declared.kinds.Cell.TheVariants.{Bytes, Pointer}
 use Rattle.scx_abs.specs.declared.states.AbsState.{AbsState}
 use Rattle.scx_abs.specs.declared.memory.Area.{Area}
 use Rattle.scx_abs.specs.declared.memory.Area.TheVariants.{OnStack, InElement, InTask}
+use Rattle.scx_abs.specs.Kinds.{IsUsable}
 use Rattle.scx_abs.specs.Cells.{marked, all_written, written_in}
 use Rattle.scx_abs.specs.States.{kind_at, cell_at, with_cell}
-use Rattle.scx_abs.specs.Stands.{HasElement, Stands, CellStands, IsMember}
+use Rattle.scx_abs.specs.Stands.{HasElement, Stands, IsByte, CellStands, IsMember}
 use Rattle.scx_abs.specs.Checks.{◌>>=◌, goes_on, usable, operand_kind, sets, place_for}
 use Rattle.scx_abs.specs.Rules.{area_of, field_area, loaded_kind, kind_in, load_kind, number_stored, stored_in, store_rule}
 use Rattle.scx_abs.specs.Laws.{IsSoundFor}
 use Rattle.scx_abs.proofs.Lists.{set_each}
 use Rattle.scx_abs.proofs.Bytes as bytes
-use Rattle.scx_abs.proofs.Bytes.{bytes_read, written_at, reads_back, length-number_bytes, length-value_bytes, cell_apart, pointer_stored, fits_cell}
-use Rattle.scx_abs.proofs.Registers.{Gives, set_sound, answer_sound, refused_sound, number_answer, IsUsable, usable_allows, operand_allows, checked}
+use Rattle.scx_abs.proofs.Bytes.{bytes_read, byte_small, written_at, reads_back, length-number_bytes, length-value_bytes, cell_apart, pointer_stored, fits_cell}
+use Rattle.scx_abs.proofs.Registers.{Gives, set_sound, answer_sound, refused_sound, field_stands, usable_allows, operand_allows, checked}
 use Rattle.scx_abs.proofs.Elements.{place_cases, element_sized, with_number-lengths, maps_member}
 
 -- ---- places
 
 -- the memory that a rule finds is that of the place, for so many bytes
-abbrev Means : Maps → ℕ → Area → Place → Type 0
+abbrev pub Means : Maps → ℕ → Area → Place → Type 0
 Means maps n (OnStack at) (place.OnStack to) = (at ≡ to) × (at % n ≡ 0)
 Means maps n InElement (place.InElement m i at) = HasElement maps m i × (at + n ≤ length (element maps m i))
 Means maps n (InTask f) (place.InTask t g) = f ≡ g
 Means maps n area to = ⊥
 
 -- a rule's area against the place of the address
-abbrev Finds : Maps → ℕ → Result Area Why → Place → Type 0
+abbrev pub Finds : Maps → ℕ → Result Area Why → Place → Type 0
 Finds maps n (Err why) to = Unit {0}
 Finds maps n (Ok area) to = Means maps n area to
 
@@ -75,7 +78,7 @@ field_found : (maps : Maps) (n : ℕ) (t : TaskId) (f : Option Field) → Finds 
 field_found maps n t None = tt
 field_found maps n t (Some f) = refl
 
-area_found : (shapes : List Shape) (maps : Maps) (k : Kind) (v : Value) (offset : ℤ) (n : ℕ) → HasShapes shapes maps → Stands maps k v
+pub area_found : (shapes : List Shape) (maps : Maps) (k : Kind) (v : Value) (offset : ℤ) (n : ℕ) → HasShapes shapes maps → Stands maps k v
     → Finds maps n (area_of shapes k offset n) (address maps v offset n)
 area_found shapes maps (kind.Stack o) (value.Pointer (pointer.Stack p)) offset n shaped h = rw h (stack_found maps n (shifted p offset))
 area_found shapes maps (kind.Stack o) v offset n shaped h = absurd h
@@ -94,20 +97,23 @@ area_cases maps n (Ok area) to f P none h ok = ok area h
 
 -- ---- loads
 
--- the bytes of a cell that are known to be written hold a number
-pub number_read : (maps : Maps) (set : List Bool) (stack : Stack) (at n : ℕ) → CellStands maps (Bytes set) stack (8 * (at / 8)) → at % 8 + n ≤ 8 → all_written set (at % 8) n ≡ true
-    → (x : ℕ) × (number_in (bytes_at stack at n) ≡ Some x)
-number_read maps set stack at n h fits e =
-    bytes_read stack at n
-    (λ i lt. let place : at + i ≡ 8 * (at / 8) + (at % 8 + i) = omega arith in
-    rw place (h (at % 8 + i) (omega arith) (written_at set (at % 8) n i e lt)))
+-- numbers were written to the bytes of a cell that are known to be written
+pub bytes_stand : (maps : Maps) (set : List Bool) (stack : Stack) (at n : ℕ) → CellStands maps (Bytes set) stack (8 * (at / 8)) → at % 8 + n ≤ 8 → all_written set (at % 8) n ≡ true
+    → (i : ℕ) → i < n → IsByte (stack (at + i))
+bytes_stand maps set stack at n h fits e i lt =
+    let place : at + i ≡ 8 * (at / 8) + (at % 8 + i) = omega arith in
+    rw place (h (at % 8 + i) (omega arith) (written_at set (at % 8) n i e lt))
 
 loads : (maps : Maps) (cell : Cell) (stack : Stack) (a : Access) (at : ℕ) → CellStands maps cell stack (8 * (at / 8)) → at % 8 + size_bytes (access_size a) ≤ 8
     → Gives maps (loaded_kind cell a (at % 8)) (load stack a at)
 loads maps (Bytes set) stack a at h fits = go (all_written set (at % 8) (size_bytes (access_size a))) refl
   where
     go : (b : Bool) → all_written set (at % 8) (size_bytes (access_size a)) ≡ b → Gives maps (if b then Ok Num else Err UnwrittenStack) (load stack a at)
-    go true e = let read = number_read maps set stack at (size_bytes (access_size a)) h fits e in rw read.1 tt
+    go true e =
+        let here = bytes_stand maps set stack at (size_bytes (access_size a)) h fits e in
+        let read = bytes_read stack at (size_bytes (access_size a)) here in
+        let small = bytes_at_below stack (access_size a) at read.0 (λ i lt. byte_small (stack (at + i)) (here i lt)) read.1 in
+        rw read.1 (read_as_below a read.0 small)
     go false e = tt
 loads maps (Pointer k) stack access.DoubleWord at h fits =
     let place : 8 * (at / 8) ≡ at = omega arith in
@@ -120,7 +126,7 @@ field_loaded : (shapes : List Shape) (a : AbsState) (m : Machine) (r : ℕ) (acc
     → IsSoundFor shapes (sets a r (kind_in a access (InTask f))) (loaded m r access (place.InTask t f))
 field_loaded shapes a m r access t f h =
     elim (is_plain access) as (λ b. IsSoundFor shapes (sets a r (if b then Ok Num else Err TaskField)) (if b then keep_answer m r (effect.Load t f) else effect.Stuck))
-    [ true ↦ answer_sound shapes a m r Num (effect.Load t f) h (λ v fits. number_answer m.maps _ v fits) | false ↦ refused_sound shapes a r TaskField effect.Stuck ]
+    [ true ↦ answer_sound shapes a m r Num (effect.Load t f) h (λ v fits. field_stands m.maps t f v fits) | false ↦ refused_sound shapes a r TaskField effect.Stuck ]
 
 load_in : (shapes : List Shape) (a : AbsState) (m : Machine) (r : ℕ) (access : Access) (area : Area) (to : Place) → IsMember shapes a m
     → Means m.maps (size_bytes (access_size access)) area to → IsSoundFor shapes (sets a r (kind_in a access area)) (loaded m r access to)
@@ -129,7 +135,8 @@ load_in shapes a m r access (OnStack at) (place.OnStack to) h g =
     (loads m.maps (cell_at a (at / 8)) m.stack access at (h.cells (at / 8)) (fits_cell (access_size access) at g.1)))
 load_in shapes a m r access (OnStack at) to h g = absurd g
 load_in shapes a m r access InElement (place.InElement k i at) h g =
-    set_sound shapes a m r (Ok Num) (Some (value.Number (read_as access (number_at (element m.maps k i) at (size_bytes (access_size access)))))) h tt
+    set_sound shapes a m r (Ok Num) (Some (value.Number (read_as access (number_at (element m.maps k i) at (size_bytes (access_size access)))))) h
+    (read_as_below access (number_at (element m.maps k i) at (size_bytes (access_size access))) (number_at_below (element m.maps k i) at (access_size access) (h.maps.bytes k i)))
 load_in shapes a m r access InElement to h g = absurd g
 load_in shapes a m r access (InTask f) (place.InTask t e) h g = field_loaded shapes a m r access t e h
 load_in shapes a m r access (InTask f) to h g = absurd g
@@ -189,7 +196,9 @@ stack_stored shapes a m s at k v h fits u g = tt
 element_stored : (shapes : List Shape) (a : AbsState) (m : Machine) (s : Size) (e i at : ℕ) (k : Kind) (v : Value) → IsMember shapes a m → HasElement m.maps e i
     → at + size_bytes s ≤ length (element m.maps e i) → Stands m.maps k v → IsSoundFor shapes (number_stored a k) (stored m s v (place.InElement e i at))
 element_stored shapes a m s e i at Num (value.Number n) h there room g =
-    maps_member shapes a m (with_element m.maps e i (with_number (element m.maps e i) at (size_bytes s) n)) h (with_number-lengths m.maps e i at (size_bytes s) n there room)
+    let bytes = with_number (element m.maps e i) at (size_bytes s) n in
+    maps_member shapes a m (with_element m.maps e i bytes) h (with_number-lengths m.maps e i at (size_bytes s) n there room)
+    (with_element_bytes m.maps e i bytes h.maps.bytes (with_number_bytes (element m.maps e i) at (size_bytes s) n (h.maps.bytes e i)))
 element_stored shapes a m s e i at Num v h there room g = absurd g
 element_stored shapes a m s e i at k v h there room g = tt
 
@@ -214,9 +223,9 @@ store_in shapes a m s k v InElement to h u g means = absurd means
 store_in shapes a m s k v (InTask f) (place.InTask t e) h u g means = rw means (field_stored shapes a m s t e k v h g)
 store_in shapes a m s k v (InTask f) to h u g means = absurd means
 
-pub store_sound : (shapes : List Shape) (a : AbsState) (m : Machine) (s : Size) (r : Register) (offset : ℤ) (x : Operand) → IsMember shapes a m
+pub store_sound : (shapes : List Shape) (a : AbsState) (m : Machine) (s : Size) (r : Register) (offset : ℤ) (x : Operand) → IsOperand x → IsMember shapes a m
     → IsSoundFor shapes (store_rule shapes a s r offset x) (stored m s (operand_value m Bits64 x) (address m.maps (m.registers (number r)) offset (size_bytes s)))
-store_sound shapes a m s r offset x h =
+store_sound shapes a m s r offset x fits h =
     let n = size_bytes s in
     let v = operand_value m Bits64 x in
     let to = address m.maps (m.registers (number r)) offset n in
@@ -227,7 +236,7 @@ store_sound shapes a m s r offset x h =
     (λ base ub hb. checked m.maps (operand_kind a x) v
     (λ k. area_of shapes base offset n >>= λ area. stored_in a s k area)
     (λ res. IsSoundFor shapes res (stored m s v to)) (λ why. tt)
-    (operand_allows shapes a m Bits64 x h)
+    (operand_allows shapes a m Bits64 x fits h)
     (λ k uk hk. area_cases m.maps n (area_of shapes base offset n) to (λ area. stored_in a s k area)
     (λ res. IsSoundFor shapes res (stored m s v to)) (λ why. tt)
     (area_found shapes m.maps base (m.registers (number r)) offset n h.maps hb)

@@ -18,17 +18,19 @@ use Rattle.scx_semantics.specs.Elements.{Maps}
 use Rattle.scx_semantics.specs.Machine.{Machine}
 use Rattle.scx_semantics.specs.Effects.{branch}
 use Rattle.scx_semantics.specs.Meaning.{operand_value, numbers_compared, compared}
+use Rattle.scx_encoding.specs.Spelling.{IsOperand}
 use Rattle.scx_maps.specs.declared.shape.Shape.{Shape}
 use Rattle.scx_abs.specs.declared.kinds.Kind.{Kind}
 use Rattle.scx_abs.specs.declared.kinds.Kind.TheVariants.{Unusable, Num, Elem, ElemOrNull, Task, TaskOrNull}
 use Rattle.scx_abs.specs.declared.states.AbsState.{AbsState}
+use Rattle.scx_abs.specs.Kinds.{IsUsable}
 use Rattle.scx_abs.specs.States.{kind_at}
 use Rattle.scx_abs.specs.Stands.{Stands, IsMember}
 use Rattle.scx_abs.specs.Checks.{◌>>=◌, flows, usable, operand_kind}
 use Rattle.scx_abs.specs.Rules as rules
 use Rattle.scx_abs.specs.Rules.{null_test, if_null, if_not_null, tested, jump_rule}
 use Rattle.scx_abs.specs.Laws.{Receives, IsSoundFor}
-use Rattle.scx_abs.proofs.Registers.{IsUsable, usable_allows, operand_allows, checked, refined}
+use Rattle.scx_abs.proofs.Registers.{usable_allows, operand_allows, checked, refined}
 
 both_ways : (shapes : List Shape) (a : AbsState) (m : Machine) (b : Bool) → IsMember shapes a m → IsSoundFor shapes (Ok (flows (Some a) (Some a))) (branch m (Some b))
 both_ways shapes a m true h = h
@@ -53,8 +55,8 @@ is_null maps Num n u h = absurd u
 is_null maps j n u h = absurd h
 
 null_side : (shapes : List Shape) (a : AbsState) (m : Machine) (r : ℕ) (j : Kind) (n : ℕ) → IsMember shapes a m → IsPointerKind j → m.registers r ≡ value.Number n → Stands m.maps j (value.Number n) → Receives shapes (if_null a r j) m
-null_side shapes a m r (ElemOrNull i) n h u e g = refined shapes a m r Num h (rw e tt)
-null_side shapes a m r TaskOrNull n h u e g = refined shapes a m r Num h (rw e tt)
+null_side shapes a m r (ElemOrNull i) n h u e g = refined shapes a m r Num h (rw e (omega (arith, g)))
+null_side shapes a m r TaskOrNull n h u e g = refined shapes a m r Num h (rw e (omega (arith, g)))
 null_side shapes a m r Unusable n h u e g = absurd u
 null_side shapes a m r Num n h u e g = absurd u
 null_side shapes a m r j n h u e g = absurd g
@@ -120,12 +122,12 @@ compare_sound shapes a m r w c x Num k v h u e g f = tt
 compare_sound shapes a m r w c x Unusable k v h u e g f = absurd u
 compare_sound shapes a m r w c x j k v h u e g f = test_sound shapes a m r w c x j v h tt e g
 
-pub jump_sound : (shapes : List Shape) (a : AbsState) (m : Machine) (w : Width) (c : Comparison) (r : Register) (x : Operand) → IsMember shapes a m
+pub jump_sound : (shapes : List Shape) (a : AbsState) (m : Machine) (w : Width) (c : Comparison) (r : Register) (x : Operand) → IsOperand x → IsMember shapes a m
     → IsSoundFor shapes (jump_rule a w c r x) (branch m (compared m w c (m.registers (number r)) x))
-jump_sound shapes a m w c r x h =
+jump_sound shapes a m w c r x fits h =
     checked m.maps (usable (kind_at a (number r))) (m.registers (number r)) (λ j. operand_kind a x >>= λ k. rules.compared a (number r) (null_test w c x) j k)
     (λ res. IsSoundFor shapes res (branch m (compared m w c (m.registers (number r)) x))) (λ why. tt)
     (usable_allows m.maps (kind_at a (number r)) (m.registers (number r)) (h.registers (number r)))
     (λ j uj hj. checked m.maps (operand_kind a x) (operand_value m w x) (λ k. rules.compared a (number r) (null_test w c x) j k)
-    (λ res. IsSoundFor shapes res (branch m (compared m w c (m.registers (number r)) x))) (λ why. tt) (operand_allows shapes a m w x h)
+    (λ res. IsSoundFor shapes res (branch m (compared m w c (m.registers (number r)) x))) (λ why. tt) (operand_allows shapes a m w x fits h)
     (λ k uk hk. compare_sound shapes a m (number r) w c x j k (m.registers (number r)) h uj refl hj hk))

@@ -1,6 +1,6 @@
 -- Bytes of the stack, read and written: what a load reads of bytes that were written, what a store
 -- leaves of the others, and that what is stored is read back.
-use Rattle.std.proofs.Common.{◌≡◌, ℕ, zero, suc, ◌+◌, ◌*◌, ◌/◌, ◌%◌, ◌<◌, ◌≤◌, Bool, true, false, ◌&&◌, ◌||◌, nat_eq, nat_le, nat_lt, List, [], ◌∷◌, length, Option, Some, option_map, if◌then◌else◌, ◌⊎◌, inl, inr, refl, sym, ap, ◌∙◌, arith}
+use Rattle.std.proofs.Common.{◌≡◌, ℕ, zero, suc, ◌+◌, ◌*◌, ◌/◌, ◌%◌, ◌^◌, ◌<◌, ◌≤◌, Bool, true, false, ◌&&◌, ◌||◌, nat_eq, nat_le, nat_lt, List, [], ◌∷◌, length, Option, Some, option_map, if◌then◌else◌, ◌⊎◌, inl, inr, refl, sym, ap, ◌∙◌, arith}
 use Rattle.std.proofs.lemmas.Bool.{eqb-false, eq-eqb, ne_eqb, and_parts, or_cases, leb-true, ltb-true}
 use Rattle.scx_semantics.specs.declared.values.Value.{Value}
 use Rattle.scx_semantics.specs.declared.values.Value.TheVariants as value
@@ -13,6 +13,7 @@ use Rattle.scx_semantics.specs.declared.operations.Size.TheVariants as size
 use Rattle.scx_semantics.specs.declared.operations.Access.TheVariants as access
 use Rattle.scx_semantics.specs.Elements.{Maps}
 use Rattle.scx_semantics.specs.Memory.{Stack, bytes_at, write, number_bytes, number_in, pointer_in, same_pointer, parts, value_in, number_or_pointer, value_bytes, size_bytes}
+use Rattle.scx_semantics.proofs.Bytes.{IsSmall, number_bytes_below}
 use Rattle.scx_abs.specs.declared.kinds.Kind.{Kind}
 use Rattle.scx_abs.specs.declared.kinds.Kind.TheVariants.{Unusable, Num, ElemOrNull, TaskOrNull}
 use Rattle.scx_abs.specs.declared.kinds.Cell.{Cell}
@@ -35,6 +36,11 @@ bytes_read stack at (suc n) h =
     let here : at + 0 ≡ at = omega arith in
     let rest = bytes_read stack (at + 1) n (λ i lt. let on : at + 1 + i ≡ at + suc i = omega arith in rw on (h (suc i) (omega arith))) in
     one_more (stack at) (bytes_at stack (at + 1) n) rest.0 (rw here at (h 0 (omega arith))) rest.1
+
+pub byte_small : (b : StackByte) → IsByte b → IsSmall b
+byte_small (byte.Byte b) h = h
+byte_small byte.Unwritten h = absurd h
+byte_small (byte.Part p j) h = absurd h
 
 pub written_at : (set : List Bool) (j n i : ℕ) → all_written set j n ≡ true → i < n → is_written set (j + i) ≡ true
 written_at set j zero i e lt = absurd (omega arith)
@@ -66,7 +72,7 @@ number_written stack at (suc n) x k h = go (nat_eq k at) refl (number_written st
 
     go : (b : Bool) → nat_eq k at ≡ b → (IsByte (stack k) ⊎ ((at + 1 ≤ k) × (k < at + 1 + n)) → IsByte (write stack (at + 1) (number_bytes n (x / 256)) k))
         → IsByte (if b then byte.Byte (x % 256) else write stack (at + 1) (number_bytes n (x / 256)) k)
-    go true e later = tt
+    go true e later = omega arith
     go false e later = later (rest h (eqb-false k at e))
 
 -- two stacks that agree on some bytes
@@ -108,13 +114,13 @@ number_read (suc k) n =
     let rest = number_read k (n / 256) in
     (n % 256 + 256 * rest.0, ap (option_map (λ m. n % 256 + 256 * m)) rest.1, λ e. let none = rest.2 (omega arith) in omega arith)
 
--- a kind that stands for a number stands for another one, if that is 0 where the first is
-number_stands : (maps : Maps) (k : Kind) (n x : ℕ) → Stands maps k (value.Number n) → (n ≡ 0 → x ≡ 0) → Stands maps k (value.Number x)
-number_stands maps Unusable n x h z = tt
-number_stands maps Num n x h z = tt
-number_stands maps (ElemOrNull m) n x h z = z h
-number_stands maps TaskOrNull n x h z = z h
-number_stands maps k n x h z = absurd h
+-- a kind that stands for a number stands for another one below 2 ^ 64, if that is 0 where the first is
+number_stands : (maps : Maps) (k : Kind) (n x : ℕ) → Stands maps k (value.Number n) → (n ≡ 0 → x ≡ 0) → x < 2 ^ 64 → Stands maps k (value.Number x)
+number_stands maps Unusable n x h z small = tt
+number_stands maps Num n x h z small = small
+number_stands maps (ElemOrNull m) n x h z small = z h
+number_stands maps TaskOrNull n x h z small = z h
+number_stands maps k n x h z small = absurd h
 
 -- a value that a kind stands for
 pub record Read (maps : Maps) (k : Kind) (o : Option Value) : Type 0 where
@@ -129,7 +135,7 @@ reads_back maps k (value.Number n) h bytes e =
     record {
       value = value.Number read.0;
       is = rw (← number) (ap (λ o. number_or_pointer access.DoubleWord o (pointer_in (number_bytes 8 n))) read.1);
-      stands = number_stands maps k n read.0 h read.2;
+      stands = number_stands maps k n read.0 h read.2 (number_bytes_below size.DoubleWord n read.0 read.1);
     }
 reads_back maps k (value.Pointer p) h bytes e =
     let pointer : parts p ≡ bytes = cc in

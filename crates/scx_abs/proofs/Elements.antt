@@ -12,7 +12,7 @@ use Rattle.scx_semantics.specs.Memory.{Stack, within, room_at}
 use Rattle.scx_semantics.specs.Elements.{Maps, elements, element, with_element, with_number}
 use Rattle.scx_semantics.specs.Machine.{Machine, with_maps}
 use Rattle.scx_maps.specs.declared.shape.Shape.{Shape}
-use Rattle.scx_maps.specs.Contents.{lengths, lengths_of, HasShapes}
+use Rattle.scx_maps.specs.Contents.{lengths, lengths_of, HoldBytes, HasShapes}
 use Rattle.scx_maps.specs.Laws.{length-entries-shaped, length-value-shaped, length-shaped, lengths_of-with_value}
 use Rattle.scx_abs.specs.declared.faults.Why.{Why}
 use Rattle.scx_abs.specs.declared.faults.Why.TheVariants.{OutOfBounds, Misaligned}
@@ -103,7 +103,7 @@ same_count maps other e = sym (length-map other lengths) ∙ ap (λ (ks : List (
 -- kinds stand for the same values
 stands_still : (maps other : Maps) (k : Kind) (v : Value) → lengths_of other ≡ lengths_of maps → Stands maps k v → Stands other k v
 stands_still maps other Unusable v e h = tt
-stands_still maps other Num (value.Number n) e h = tt
+stands_still maps other Num (value.Number n) e h = h
 stands_still maps other (kind.Stack o) (value.Pointer (pointer.Stack p)) e h = h
 stands_still maps other (Elem m o) (value.Pointer (pointer.Element n p i)) e h =
     let same = same_elements maps other n e in
@@ -127,9 +127,9 @@ cell_still : (maps other : Maps) (cell : Cell) (stack : Stack) (at : ℕ) → le
 cell_still maps other (Bytes set) stack at e h = h
 cell_still maps other (Pointer k) stack at e h = (h.0, stands_still maps other k h.0 e h.1, h.2)
 
-pub maps_member : (shapes : List Shape) (a : AbsState) (m : Machine) (other : Maps) → IsMember shapes a m → lengths_of other ≡ lengths_of m.maps → IsMember shapes a (with_maps m other)
-maps_member shapes a m other h e = record {
+pub maps_member : (shapes : List Shape) (a : AbsState) (m : Machine) (other : Maps) → IsMember shapes a m → lengths_of other ≡ lengths_of m.maps → HoldBytes other → IsMember shapes a (with_maps m other)
+maps_member shapes a m other h e bytes = record {
   registers = λ r. stands_still m.maps other (kind_at a r) (m.registers r) e (h.registers r);
   cells = λ c. cell_still m.maps other (cell_at a c) m.stack (8 * c) e (h.cells c);
-  maps = e ∙ h.maps;
+  maps = record { lengths = e ∙ h.maps.lengths; bytes = bytes };
 }

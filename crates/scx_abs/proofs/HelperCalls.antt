@@ -36,10 +36,10 @@ use Rattle.scx_abs.specs.Calls as rules
 use Rattle.scx_abs.specs.Calls.{key_in, key_check, argument_check, arguments_check, element_of, answer_kind, call_allowed, call_rule}
 use Rattle.scx_abs.specs.Laws.{IsSoundFor}
 use Rattle.scx_abs.proofs.Orders.{none_written}
-use Rattle.scx_abs.proofs.Bytes.{written_at}
-use Rattle.scx_abs.proofs.Registers.{kind_member, number_answer, task_or_null_fits}
+use Rattle.scx_abs.proofs.Bytes.{bytes_read, written_at}
+use Rattle.scx_abs.proofs.Registers.{kind_member, number_stands, task_or_null_fits}
 use Rattle.scx_abs.proofs.Elements.{place_cases, element_sized}
-use Rattle.scx_abs.proofs.Accesses.{number_read}
+use Rattle.scx_abs.proofs.Accesses.{bytes_stand}
 
 -- ---- arguments
 
@@ -51,7 +51,7 @@ Passes (Ok fine) b = b ≡ true
 -- four bytes of the stack, all known to be written, are a key
 word_read : (maps : Maps) (cell : Cell) (stack : Stack) (at : ℕ) → CellStands maps cell stack (8 * (at / 8)) → at % 8 + 4 ≤ 8 → all_written (written_in cell) (at % 8) 4 ≡ true
     → is_some (number_of (load stack access.Word at)) ≡ true
-word_read maps (Bytes set) stack at h fits e = let read = number_read maps set stack at 4 h fits e in rw read.1 refl
+word_read maps (Bytes set) stack at h fits e = let read = bytes_read stack at 4 (bytes_stand maps set stack at 4 h fits e) in rw read.1 refl
 word_read maps (Pointer k) stack at h fits e = absurd (none_written (at % 8 + 0) (omega arith) (written_at no_bytes (at % 8) 4 0 e (omega arith)))
 
 stack_key : (shapes : List Shape) (a : AbsState) (m : Machine) (at : ℕ) → IsMember shapes a m → at % 4 ≡ 0
@@ -164,7 +164,7 @@ called_sound shapes helper.MapLookupElem a m g t =
     let second = and_parts (is_some (key m (m.registers 2))) true map.1 in
     look_up_sound shapes a m (kind_at a 1) (m.registers 1) (key m (m.registers 2)) g (g.registers 1) map.0 second.0
 called_sound shapes helper.TaskByPid a m g t = λ v fits. after_member shapes a m TaskOrNull v g (task_or_null_fits m.maps v fits)
-called_sound shapes h a m g t = λ v fits. after_member shapes a m Num v g (number_answer m.maps _ v fits)
+called_sound shapes h a m g t = λ v fits. after_member shapes a m Num v g (number_stands m.maps v fits)
 
 allowed_sound : (shapes : List Shape) (h : Helper) (a : AbsState) (m : Machine) (r : Result (Unit {0}) Why) (b : Bool) → IsMember shapes a m → Passes r b → takes_all m (parameters h) 1 ≡ b
     → IsSoundFor shapes (r >>= λ fine. goes_on (rules.after_call a (answer_kind h (kind_at a 1)))) (if b then called m h else effect.Stuck)

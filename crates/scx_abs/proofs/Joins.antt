@@ -1,5 +1,5 @@
 -- The join of two kinds, of two cells, and of two states is the least that covers both.
-use Rattle.std.proofs.Common.{◌≡◌, ℕ, ◌<◌, ◌≤◌, ◌⊎◌, inl, inr, [], length, arith, Bool, true, false, ◌&&◌, nat_eq, List, refl, sym, ◌∙◌}
+use Rattle.std.proofs.Common.{◌≡◌, ℕ, ◌<◌, ◌≤◌, ◌⊎◌, inl, inr, [], arith, Bool, true, false, ◌&&◌, nat_eq, List, refl, sym, ◌∙◌}
 use Rattle.std.proofs.lemmas.Bool.{eqb-true, eq-eqb, and_parts, and_from, both_ways, cases_lt}
 use Rattle.std.proofs.lemmas.List.{get_or_past}
 use Rattle.scx_abs.specs.declared.kinds.Kind.{Kind}
@@ -7,10 +7,11 @@ use Rattle.scx_abs.specs.declared.kinds.Kind.TheVariants.{Unusable, Num, Stack, 
 use Rattle.scx_abs.specs.declared.kinds.Cell.{Cell}
 use Rattle.scx_abs.specs.declared.kinds.Cell.TheVariants.{Bytes, Pointer}
 use Rattle.scx_abs.specs.declared.states.AbsState.{AbsState}
-use Rattle.scx_abs.specs.Kinds.{CoversKind, kind_if, join_kind}
+use Rattle.scx_abs.specs.Kinds.{IsLeastCover, CoversKind, kind_if, join_kind}
 use Rattle.scx_abs.specs.Cells.{is_written, no_bytes, common, IsPartOf, IsUnusable, CoversPointer, CoversCell, pointer_cell, join_pointers, join_cell}
-use Rattle.scx_abs.specs.States.{IsLeastCover, kind_at, cell_at}
-use Rattle.scx_abs.proofs.Orders.{each_byte_at, cell_itself}
+use Rattle.scx_abs.specs.States.{CoversState, IsWhole, kind_at, cell_at}
+use Rattle.scx_abs.specs.Monotone.{JoinOfKindsIsLeast, JoinOfCellsIsLeast, JoinsAreMonotone}
+use Rattle.scx_abs.proofs.Orders.{each_byte_at, cell_itself, covers_through}
 
 -- ---- kinds
 
@@ -82,6 +83,9 @@ kind_least TaskOrNull TaskOrNull TaskOrNull g h = tt
 kind_least (MapRef m) (MapRef n) (MapRef l) g h = if_least (nat_eq n l) (MapRef m) (MapRef n) (eq-eqb n l (sym g ∙ h)) g
 kind_least l j k g h = absurd (assumption (g, h))
 
+pub kinds_least : JoinOfKindsIsLeast
+kinds_least j k = record { covers_first = kind_covers_first j k; covers_second = kind_covers_second j k; least = λ l g h. kind_least l j k g h }
+
 -- ---- stored pointers
 
 pointer_cell_covers : (l j : Kind) → CoversKind l j → CoversCell (pointer_cell l) (Pointer j)
@@ -151,21 +155,18 @@ cell_least (Pointer l) (Bytes a) b g h = absurd g
 cell_least (Pointer l) (Pointer j) (Bytes b) g h = absurd h
 cell_least (Pointer l) (Pointer j) (Pointer k) g h = pointers_least l j k g h
 
--- the least cell that covers two
-record IsLeastCell (joined a b : Cell) : Type 0 where
-  covers_first : CoversCell joined a
-  covers_second : CoversCell joined b
-  least : (c : Cell) → CoversCell c a → CoversCell c b → CoversCell c joined
-
-join_cell_least : (joined a b : Cell) → joined ≡ join_cell a b → IsLeastCell joined a b
+join_cell_least : (joined a b : Cell) → joined ≡ join_cell a b → IsLeastCover CoversCell joined a b
 join_cell_least joined a b e = record {
   covers_first = rw e (cell_covers_first a b);
   covers_second = rw e (cell_covers_second a b);
   least = λ c g h. rw e (cell_least c a b g h);
 }
 
+pub cells_least : JoinOfCellsIsLeast
+cells_least a b = join_cell_least (join_cell a b) a b refl
+
 -- past the stack
-same_cell_least : (joined a b d : Cell) → joined ≡ d → a ≡ d → b ≡ d → IsLeastCell joined a b
+same_cell_least : (joined a b d : Cell) → joined ≡ d → a ≡ d → b ≡ d → IsLeastCover CoversCell joined a b
 same_cell_least joined a b d e f g = record {
   covers_first = rw (e, f) (cell_itself d);
   covers_second = rw (e, g) (cell_itself d);
@@ -174,15 +175,10 @@ same_cell_least joined a b d e f g = record {
 
 -- ---- states
 
--- as many kinds and cells as there are registers and cells
-pub record IsWhole (a : AbsState) : Type 0 where
-  pub registers : length a.registers ≡ 11
-  pub cells : length a.cells ≡ 64
-
 -- a state of the joins of all kinds and cells
 pub is_join : (joined a b : AbsState) → IsWhole joined → IsWhole a → IsWhole b
     → ((r : ℕ) → r < 11 → kind_at joined r ≡ join_kind (kind_at a r) (kind_at b r))
-    → ((c : ℕ) → c < 64 → cell_at joined c ≡ join_cell (cell_at a c) (cell_at b c)) → IsLeastCover joined a b
+    → ((c : ℕ) → c < 64 → cell_at joined c ≡ join_cell (cell_at a c) (cell_at b c)) → IsLeastCover CoversState joined a b
 is_join joined a b whole whole_a whole_b kinds cells = record {
   covers_first = record {
     registers = λ r. rw (kind r) (kind_covers_first (kind_at a r) (kind_at b r));
@@ -211,12 +207,15 @@ is_join joined a b whole whole_a whole_b kinds cells = record {
     kind : (r : ℕ) → kind_at joined r ≡ join_kind (kind_at a r) (kind_at b r)
     kind r = kind_within r (cases_lt r 11)
 
-    cell_within : (c : ℕ) → (c < 64) ⊎ (64 ≤ c) → IsLeastCell (cell_at joined c) (cell_at a c) (cell_at b c)
+    cell_within : (c : ℕ) → (c < 64) ⊎ (64 ≤ c) → IsLeastCover CoversCell (cell_at joined c) (cell_at a c) (cell_at b c)
     cell_within c (inl lt) = join_cell_least (cell_at joined c) (cell_at a c) (cell_at b c) (cells c lt)
     cell_within c (inr le) =
         same_cell_least (cell_at joined c) (cell_at a c) (cell_at b c) (Bytes [])
         (get_or_past joined.cells c (Bytes []) (omega (arith, whole.cells))) (get_or_past a.cells c (Bytes []) (omega (arith, whole_a.cells)))
         (get_or_past b.cells c (Bytes []) (omega (arith, whole_b.cells)))
 
-    cell : (c : ℕ) → IsLeastCell (cell_at joined c) (cell_at a c) (cell_at b c)
+    cell : (c : ℕ) → IsLeastCover CoversCell (cell_at joined c) (cell_at a c) (cell_at b c)
     cell c = cell_within c (cases_lt c 64)
+
+pub joins_monotone : JoinsAreMonotone
+joins_monotone x y a b c d p q g h = q.least x (covers_through x a c p.covers_first g) (covers_through x b d p.covers_second h)

@@ -1,14 +1,21 @@
 mod Lists
 pub mod Orders
 mod Joins
+pub mod Proper
 mod Bytes
 mod Sets
 mod Parameters
 mod Registers
 mod Elements
 mod Operations
-mod Accesses
+pub mod Accesses
 mod Branches
 mod HelperCalls
 mod Starts
 pub mod Sound
+mod MonotoneRegisters
+mod MonotoneOperations
+mod MonotoneAccesses
+mod MonotoneBranches
+mod MonotoneCalls
+pub mod MonotoneRules

@@ -1,5 +1,5 @@
 -- Arithmetic on kinds against arithmetic on values that they stand for.
-use Rattle.std.proofs.Common.{◌≡◌, ℕ, ℤ, pos, negsuc, Bool, true, false, nat_lt, List, length, Option, Some, None, Ok, Err, option_map, if◌then◌else◌, refl}
+use Rattle.std.proofs.Common.{◌≡◌, ℕ, ◌^◌, ◌<◌, ℤ, pos, negsuc, Bool, true, false, nat_lt, List, length, Option, Some, None, Ok, Err, option_map, if◌then◌else◌, refl}
 use Rattle.std.proofs.lemmas.Bool.{ltb-true}
 use Rattle.scx_semantics.specs.declared.instructions.Operand.{Operand}
 use Rattle.scx_semantics.specs.declared.instructions.Operand.TheVariants as operand
@@ -18,6 +18,8 @@ use Rattle.scx_semantics.specs.Memory.{stack_size, within}
 use Rattle.scx_semantics.specs.Elements.{Maps, element}
 use Rattle.scx_semantics.specs.Machine.{Machine}
 use Rattle.scx_semantics.specs.Meaning.{operand_value, moved, combined, arithmetic, binary, pointer_step, pointer_moved, on_number, map_reference}
+use Rattle.scx_semantics.proofs.Numbers.{low_below, compute_below}
+use Rattle.scx_encoding.specs.Spelling.{IsOperand}
 use Rattle.scx_maps.specs.declared.shape.Shape.{Shape}
 use Rattle.scx_maps.specs.Contents.{HasShapes}
 use Rattle.scx_maps.specs.Laws.{length-shaped}
@@ -26,11 +28,12 @@ use Rattle.scx_abs.specs.declared.kinds.Kind.{Kind}
 use Rattle.scx_abs.specs.declared.kinds.Kind.TheVariants as kind
 use Rattle.scx_abs.specs.declared.kinds.Kind.TheVariants.{Unusable, Num, Elem, MapRef}
 use Rattle.scx_abs.specs.declared.states.AbsState.{AbsState}
+use Rattle.scx_abs.specs.Kinds.{IsUsable}
 use Rattle.scx_abs.specs.States.{kind_at}
 use Rattle.scx_abs.specs.Stands.{HasElement, Stands, IsMember}
 use Rattle.scx_abs.specs.Checks.{◌>>=◌, usable, operand_kind, place_within}
 use Rattle.scx_abs.specs.Rules.{pointer_distance, moved_by, moved_kind, arithmetic_kind, combined_kind, binary_kind, number_kind, map_kind}
-use Rattle.scx_abs.proofs.Registers.{Gives, IsUsable, usable_allows, operand_allows, checked}
+use Rattle.scx_abs.proofs.Registers.{Gives, usable_allows, operand_allows, checked}
 use Rattle.scx_abs.proofs.Elements.{within_cases, element_sized}
 
 moved_gives : (maps : Maps) (w : Width) (k : Kind) (v : Value) → IsUsable k → Stands maps k v → Gives maps (moved_kind w k) (moved w v)
@@ -38,18 +41,18 @@ moved_gives maps Bits64 k (value.Number n) u h = h
 moved_gives maps Bits64 k (value.Pointer p) u h = h
 moved_gives maps Bits64 Unusable value.Unset u h = absurd u
 moved_gives maps Bits64 k value.Unset u h = absurd h
-moved_gives maps Bits32 Num (value.Number n) u h = tt
+moved_gives maps Bits32 Num (value.Number n) u h = low_below Bits32 n h
 moved_gives maps Bits32 Num v u h = absurd h
 moved_gives maps Bits32 k v u h = tt
 
-pub number_gives : (maps : Maps) (f : ℕ → ℕ) (k : Kind) (v : Value) → Stands maps k v → Gives maps (number_kind k) (on_number f v)
-number_gives maps f Num (value.Number n) h = tt
-number_gives maps f Num v h = absurd h
-number_gives maps f k v h = tt
+pub number_gives : (maps : Maps) (f : ℕ → ℕ) (k : Kind) (v : Value) → ((n : ℕ) → n < 2 ^ 64 → f n < 2 ^ 64) → Stands maps k v → Gives maps (number_kind k) (on_number f v)
+number_gives maps f Num (value.Number n) below h = below n h
+number_gives maps f Num v below h = absurd h
+number_gives maps f k v below h = tt
 
-combined_gives : (maps : Maps) (w : Width) (o : Operation) (a : ℕ) (v : Value) → Stands maps Num v → Gives maps (Ok Num) (combined w o a v)
-combined_gives maps w o a (value.Number n) h = tt
-combined_gives maps w o a v h = absurd h
+combined_gives : (maps : Maps) (w : Width) (o : Operation) (a : ℕ) (v : Value) → a < 2 ^ 64 → Stands maps Num v → Gives maps (Ok Num) (combined w o a v)
+combined_gives maps w o a (value.Number b) g h = compute_below w o a b g h
+combined_gives maps w o a v g h = absurd h
 
 -- ---- pointers
 
@@ -83,7 +86,7 @@ moved_by_gives shapes maps k p d shaped h = tt
 
 arithmetic_gives : (shapes : List Shape) (m : Machine) (w : Width) (o : Operation) (x : Operand) (j k : Kind) (old : Value) → HasShapes shapes m.maps → Stands m.maps j old
     → Stands m.maps k (operand_value m w x) → Gives m.maps (arithmetic_kind shapes w o x j k) (arithmetic m w o old x)
-arithmetic_gives shapes m w o x Num Num (value.Number a) s h g = combined_gives m.maps w o a (operand_value m w x) g
+arithmetic_gives shapes m w o x Num Num (value.Number a) s h g = combined_gives m.maps w o a (operand_value m w x) h g
 arithmetic_gives shapes m w o x Num Num old s h g = absurd h
 arithmetic_gives shapes m w o x (kind.Stack p) k (value.Pointer q) s h g =
     rw (← same_distance w o x) (moved_by_gives shapes m.maps (kind.Stack p) q (pointer_distance w o x) s h)
@@ -93,22 +96,22 @@ arithmetic_gives shapes m w o x (Elem n p) k (value.Pointer q) s h g =
 arithmetic_gives shapes m w o x (Elem n p) k old s h g = absurd h
 arithmetic_gives shapes m w o x j k old s h g = tt
 
-combined_kind_gives : (shapes : List Shape) (a : AbsState) (m : Machine) (w : Width) (o : Operation) (d : Register) (x : Operand) → IsMember shapes a m
+combined_kind_gives : (shapes : List Shape) (a : AbsState) (m : Machine) (w : Width) (o : Operation) (d : Register) (x : Operand) → IsOperand x → IsMember shapes a m
     → Gives m.maps (combined_kind shapes a w o d x) (arithmetic m w o (m.registers (number d)) x)
-combined_kind_gives shapes a m w o d x h =
+combined_kind_gives shapes a m w o d x fits h =
     checked m.maps (usable (kind_at a (number d))) (m.registers (number d)) (λ j. operand_kind a x >>= λ k. arithmetic_kind shapes w o x j k)
     (λ r. Gives m.maps r (arithmetic m w o (m.registers (number d)) x)) (λ why. tt)
     (usable_allows m.maps (kind_at a (number d)) (m.registers (number d)) (h.registers (number d)))
     (λ j uj hj. checked m.maps (operand_kind a x) (operand_value m w x) (λ k. arithmetic_kind shapes w o x j k)
-    (λ r. Gives m.maps r (arithmetic m w o (m.registers (number d)) x)) (λ why. tt) (operand_allows shapes a m w x h)
+    (λ r. Gives m.maps r (arithmetic m w o (m.registers (number d)) x)) (λ why. tt) (operand_allows shapes a m w x fits h)
     (λ k uk hk. arithmetic_gives shapes m w o x j k (m.registers (number d)) h.maps hj hk))
 
-pub binary_gives : (shapes : List Shape) (a : AbsState) (m : Machine) (w : Width) (o : Operation) (d : Register) (x : Operand) → IsMember shapes a m
+pub binary_gives : (shapes : List Shape) (a : AbsState) (m : Machine) (w : Width) (o : Operation) (d : Register) (x : Operand) → IsOperand x → IsMember shapes a m
     → Gives m.maps (binary_kind shapes a w o d x) (binary m w o (m.registers (number d)) x)
-binary_gives shapes a m w Move d x h =
-    checked m.maps (operand_kind a x) (operand_value m w x) (λ k. moved_kind w k) (λ r. Gives m.maps r (moved w (operand_value m w x))) (λ why. tt) (operand_allows shapes a m w x h)
+binary_gives shapes a m w Move d x fits h =
+    checked m.maps (operand_kind a x) (operand_value m w x) (λ k. moved_kind w k) (λ r. Gives m.maps r (moved w (operand_value m w x))) (λ why. tt) (operand_allows shapes a m w x fits h)
     (λ k uk hk. moved_gives m.maps w k (operand_value m w x) uk hk)
-binary_gives shapes a m w o d x h = combined_kind_gives shapes a m w o d x h
+binary_gives shapes a m w o d x fits h = combined_kind_gives shapes a m w o d x fits h
 
 -- ---- references to maps
 

@@ -1,5 +1,5 @@
 -- Registers: what a check of one gives against its value, and the state after a register is written.
-use Rattle.std.proofs.Common.{◌≡◌, ℕ, true, false, nat_eq, List, Option, Some, None, Result, Ok, Err, if◌then◌else◌, refl}
+use Rattle.std.proofs.Common.{◌≡◌, ℕ, ◌^◌, true, false, nat_eq, List, Option, Some, None, Result, Ok, Err, if◌then◌else◌, refl}
 use Rattle.std.proofs.lemmas.Bool.{eq-eqb, ne_eqb}
 use Rattle.scx_semantics.specs.declared.instructions.Operand.{Operand}
 use Rattle.scx_semantics.specs.declared.instructions.Operand.TheVariants as operand
@@ -7,19 +7,24 @@ use Rattle.scx_semantics.specs.declared.operations.Width.{Width}
 use Rattle.scx_semantics.specs.declared.values.Value.{Value}
 use Rattle.scx_semantics.specs.declared.values.Value.TheVariants as value
 use Rattle.scx_semantics.specs.declared.values.Pointer.TheVariants as pointer
+use Rattle.scx_semantics.specs.declared.outside.Field.{Field}
+use Rattle.scx_semantics.specs.declared.outside.TaskId.{TaskId}
 use Rattle.scx_semantics.specs.Registers.{number}
 use Rattle.scx_semantics.specs.Elements.{Maps}
 use Rattle.scx_semantics.specs.Machine.{Machine, put, with_register}
 use Rattle.scx_semantics.specs.Effects as effect
-use Rattle.scx_semantics.specs.Effects.{Query, Effect, keep, keep_answer}
+use Rattle.scx_semantics.specs.Effects.{Query, Load, Effect, keep, keep_answer}
 use Rattle.scx_semantics.specs.Meaning.{operand_value}
 use Rattle.scx_semantics.specs.Runs.{IsNumberBelow, IsTaskOrNull, Fits}
+use Rattle.scx_semantics.proofs.Numbers.{immediate_below, field_below}
+use Rattle.scx_encoding.specs.Spelling.{IsOperand}
 use Rattle.scx_maps.specs.declared.shape.Shape.{Shape}
 use Rattle.scx_abs.specs.declared.faults.Why.{Why}
 use Rattle.scx_abs.specs.declared.faults.Why.TheVariants.{WritesFrame}
 use Rattle.scx_abs.specs.declared.kinds.Kind.{Kind}
 use Rattle.scx_abs.specs.declared.kinds.Kind.TheVariants.{Unusable, Num, TaskOrNull}
 use Rattle.scx_abs.specs.declared.states.AbsState.{AbsState}
+use Rattle.scx_abs.specs.Kinds.{IsUsable}
 use Rattle.scx_abs.specs.States.{kind_at, with_kind}
 use Rattle.scx_abs.specs.Stands.{Stands, IsMember}
 use Rattle.scx_abs.specs.Checks.{◌>>=◌, goes_on, usable, operand_kind, sets}
@@ -73,9 +78,13 @@ answer_sound shapes a m r k q h g =
     [ true ↦ tt | false ↦ λ v fits. kind_member shapes a m r k v h (g v fits) ]
 
 -- what may be answered
-pub number_answer : (maps : Maps) (limit : ℕ) (v : Value) → IsNumberBelow limit v → Stands maps Num v
-number_answer maps limit (value.Number n) h = tt
-number_answer maps limit v h = absurd h
+pub number_stands : (maps : Maps) (v : Value) → IsNumberBelow (2 ^ 64) v → Stands maps Num v
+number_stands maps (value.Number n) h = h
+number_stands maps v h = absurd h
+
+pub field_stands : (maps : Maps) (t : TaskId) (f : Field) (v : Value) → Fits (Load t f) v → Stands maps Num v
+field_stands maps t f (value.Number n) h = field_below t f n h
+field_stands maps t f v h = absurd h
 
 pub task_or_null_fits : (maps : Maps) (v : Value) → IsTaskOrNull v → Stands maps TaskOrNull v
 task_or_null_fits maps (value.Number n) h = h
@@ -83,10 +92,6 @@ task_or_null_fits maps (value.Pointer (pointer.Task t)) h = tt
 task_or_null_fits maps v h = absurd h
 
 -- ---- registers that are read
-
-abbrev pub IsUsable : Kind → Type 0
-IsUsable Unusable = ⊥
-IsUsable k = Unit {0}
 
 -- what a check of a register gives against its value
 abbrev pub Allows : Maps → Result Kind Why → Value → Type 0
@@ -97,9 +102,9 @@ pub usable_allows : (maps : Maps) (k : Kind) (v : Value) → Stands maps k v →
 usable_allows maps Unusable v h = tt
 usable_allows maps k v h = (tt, h)
 
-pub operand_allows : (shapes : List Shape) (a : AbsState) (m : Machine) (w : Width) (x : Operand) → IsMember shapes a m → Allows m.maps (operand_kind a x) (operand_value m w x)
-operand_allows shapes a m w (operand.Immediate k) h = (tt, tt)
-operand_allows shapes a m w (operand.Register r) h = usable_allows m.maps (kind_at a (number r)) (m.registers (number r)) (h.registers (number r))
+pub operand_allows : (shapes : List Shape) (a : AbsState) (m : Machine) (w : Width) (x : Operand) → IsOperand x → IsMember shapes a m → Allows m.maps (operand_kind a x) (operand_value m w x)
+operand_allows shapes a m w (operand.Immediate k) fits h = (tt, immediate_below w k fits)
+operand_allows shapes a m w (operand.Register r) fits h = usable_allows m.maps (kind_at a (number r)) (m.registers (number r)) (h.registers (number r))
 
 -- what holds of every refusal, and behind the check, holds of both
 pub checked : {B : Type 0} (maps : Maps) (r : Result Kind Why) (v : Value) (f : Kind → Result B Why) (P : Result B Why → Type 0)

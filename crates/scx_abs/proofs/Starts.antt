@@ -8,15 +8,15 @@ use Rattle.scx_semantics.specs.declared.values.Pointer.TheVariants as pointer
 use Rattle.scx_semantics.specs.Memory.{Stack}
 use Rattle.scx_semantics.specs.Elements.{Maps}
 use Rattle.scx_semantics.specs.Machine.{Arguments, start, start_registers}
-use Rattle.scx_abs.specs.declared.kinds.Kind.TheVariants.{Num, Task}
+use Rattle.scx_abs.specs.declared.kinds.Kind.TheVariants.{Task}
 use Rattle.scx_abs.specs.declared.kinds.Cell.TheVariants.{Bytes}
 use Rattle.scx_abs.specs.Cells.{no_bytes}
 use Rattle.scx_abs.specs.States.{kind_at, ArgumentKinds, argument_kinds, start_kinds}
-use Rattle.scx_abs.specs.Arguments.{FitsCallback, IsNumber, IsTask}
+use Rattle.scx_abs.specs.Arguments.{FitsCallback, IsTask}
 use Rattle.scx_abs.specs.Stands.{Stands, CellStands}
 use Rattle.scx_abs.specs.Laws.{StartIsSound}
 use Rattle.scx_abs.proofs.Orders.{none_written}
-use Rattle.scx_abs.proofs.Registers.{task_or_null_fits}
+use Rattle.scx_abs.proofs.Registers.{number_stands, task_or_null_fits}
 
 blank : (maps : Maps) (n c : ℕ) (stack : Stack) (at : ℕ) → CellStands maps (slice_index_or (replicate n (Bytes no_bytes)) c (Bytes [])) stack at
 blank maps zero c stack at = λ j lt w. absurd (cc)
@@ -38,10 +38,6 @@ start_stands maps k a f g h (suc (suc (suc (suc (suc (suc (suc (suc (suc zero)))
 start_stands maps k a f g h (suc (suc (suc (suc (suc (suc (suc (suc (suc (suc zero)))))))))) = refl
 start_stands maps k a f g h (suc (suc (suc (suc (suc (suc (suc (suc (suc (suc (suc r))))))))))) = tt
 
-number_fits : (maps : Maps) (v : Value) → IsNumber v → Stands maps Num v
-number_fits maps (value.Number n) h = tt
-number_fits maps v h = absurd h
-
 task_fits : (maps : Maps) (v : Value) → IsTask v → Stands maps Task v
 task_fits maps (value.Pointer (pointer.Task t)) h = tt
 task_fits maps v h = absurd h
@@ -56,11 +52,11 @@ arguments_fit : (c : Callback) (maps : Maps) (a : Arguments) → FitsCallback c 
 arguments_fit callback.Plain maps a h = record { first = tt; second = tt; third = tt }
 arguments_fit callback.Init maps a h = record { first = tt; second = tt; third = tt }
 arguments_fit callback.Enable maps a h = record { first = task_fits maps a.first h; second = tt; third = tt }
-arguments_fit callback.SelectCpu maps a h = record { first = task_fits maps a.first h.0; second = number_fits maps a.second h.1; third = number_fits maps a.third h.2 }
-arguments_fit callback.Enqueue maps a h = record { first = task_fits maps a.first h.0; second = number_fits maps a.second h.1; third = tt }
-arguments_fit callback.Dispatch maps a h = record { first = number_fits maps a.first h.0; second = task_or_null_fits maps a.second h.1; third = tt }
+arguments_fit callback.SelectCpu maps a h = record { first = task_fits maps a.first h.0; second = number_stands maps a.second h.1; third = number_stands maps a.third h.2 }
+arguments_fit callback.Enqueue maps a h = record { first = task_fits maps a.first h.0; second = number_stands maps a.second h.1; third = tt }
+arguments_fit callback.Dispatch maps a h = record { first = number_stands maps a.first h.0; second = task_or_null_fits maps a.second h.1; third = tt }
 arguments_fit callback.Running maps a h = record { first = task_fits maps a.first h; second = tt; third = tt }
-arguments_fit callback.Stopping maps a h = record { first = task_fits maps a.first h.0; second = number_fits maps a.second h.1; third = tt }
+arguments_fit callback.Stopping maps a h = record { first = task_fits maps a.first h.0; second = number_stands maps a.second h.1; third = tt }
 
 pub begins_sound : StartIsSound
 begins_sound shapes c a maps shaped fits =

@@ -1,12 +1,12 @@
 -- The order on cells. A cell that knows more written bytes is covered by one that knows fewer; a stored
 -- pointer by one of a kind that covers its kind, but isn't Unusable, and by a cell that knows nothing.
 -- A stored pointer is never Unusable: that case stands here only so that each cell covers itself.
-use Rattle.std.specs.Prelude.{ℕ, zero, suc, ◌+◌, ◌<◌, Bool, true, false, ◌&&◌, ◌||◌, nat_le, nat_lt, List, [], ◌∷◌, slice_index_or, IsTrue}
+use Rattle.std.specs.Prelude.{◌≡◌, ℕ, zero, suc, ◌+◌, ◌<◌, Bool, true, false, ◌&&◌, ◌||◌, nat_le, nat_lt, List, [], ◌∷◌, length, slice_index_or, IsTrue}
 use Rattle.scx_abs.specs.declared.kinds.Kind.{Kind}
 use Rattle.scx_abs.specs.declared.kinds.Kind.TheVariants.{Unusable}
 use Rattle.scx_abs.specs.declared.kinds.Cell.{Cell}
 use Rattle.scx_abs.specs.declared.kinds.Cell.TheVariants.{Bytes, Pointer}
-use Rattle.scx_abs.specs.Kinds.{CoversKind, join_kind}
+use Rattle.scx_abs.specs.Kinds.{CoversKind, IsUsable, join_kind}
 
 -- whether the byte of that number is known to be written
 abbrev pub is_written : List Bool → ℕ → Bool
@@ -57,6 +57,14 @@ CoversCell (Bytes b) (Bytes a) = IsPartOf b a
 CoversCell (Bytes b) (Pointer k) = IsPartOf b no_bytes
 CoversCell (Pointer j) (Pointer k) = CoversPointer j k
 CoversCell (Pointer j) (Bytes a) = ⊥
+
+-- ---- proper cells
+
+-- it says of each of the eight bytes whether it is known to be written, or it holds a pointer that may
+-- be read
+abbrev pub IsProperCell : Cell → Type 0
+IsProperCell (Bytes set) = length set ≡ 8
+IsProperCell (Pointer k) = IsUsable k
 
 -- ---- join
 

@@ -5,6 +5,12 @@ use Rattle.std.specs.Prelude.{◌≡◌, Bool, ◌&&◌, nat_eq, if◌then◌els
 use Rattle.scx_abs.specs.declared.kinds.Kind.{Kind}
 use Rattle.scx_abs.specs.declared.kinds.Kind.TheVariants.{Unusable, Num, Stack, Elem, ElemOrNull, Task, TaskOrNull, MapRef}
 
+-- in an order, the first covers the other two, and whatever covers both covers it
+pub record IsLeastCover {A : Type 0} (Covers : A → A → Type 0) (joined first second : A) : Type 0 where
+  pub covers_first : Covers joined first
+  pub covers_second : Covers joined second
+  pub least : (x : A) → Covers x first → Covers x second → Covers x joined
+
 -- the first covers the second
 abbrev pub CoversKind : Kind → Kind → Type 0
 CoversKind Unusable k = Unit {0}
@@ -18,6 +24,11 @@ CoversKind TaskOrNull TaskOrNull = Unit {0}
 CoversKind TaskOrNull Task = Unit {0}
 CoversKind (MapRef m) (MapRef n) = m ≡ n
 CoversKind j k = ⊥
+
+-- it may be read
+abbrev pub IsUsable : Kind → Type 0
+IsUsable Unusable = ⊥
+IsUsable k = Unit {0}
 
 -- the kind, where the test holds
 abbrev pub kind_if : Bool → Kind → Kind

@@ -1,6 +1,6 @@
--- The law of rules, which is the contract of a public function without a body of its own: the rule of
--- an instruction against its meaning.
-use Rattle.std.specs.Prelude.{List, Option, Some, None, Result, Ok, Err}
+-- The laws of rules and of the order, which are the contracts of public functions without bodies of
+-- their own: the rule of an instruction against its meaning, and that states stay proper.
+use Rattle.std.specs.Prelude.{◌≡◌, List, Option, Some, None, Result, Ok, Err, IfSome, IfOk}
 use Rattle.scx_semantics.specs.declared.instructions.Insn.{Insn}
 use Rattle.scx_semantics.specs.declared.values.Value.{Value}
 use Rattle.scx_semantics.specs.declared.callbacks.Callback.{Callback}
@@ -10,12 +10,13 @@ use Rattle.scx_semantics.specs.Effects as effect
 use Rattle.scx_semantics.specs.Effects.{Effect}
 use Rattle.scx_semantics.specs.Meaning.{act}
 use Rattle.scx_semantics.specs.Runs.{Fits}
+use Rattle.scx_encoding.specs.Spelling.{IsInsn}
 use Rattle.scx_maps.specs.declared.shape.Shape.{Shape}
 use Rattle.scx_maps.specs.Contents.{HasShapes}
 use Rattle.scx_abs.specs.declared.faults.Why.{Why}
 use Rattle.scx_abs.specs.declared.states.AbsState.{AbsState}
 use Rattle.scx_abs.specs.declared.rules.Next.{Next}
-use Rattle.scx_abs.specs.States.{CoversState, start_of}
+use Rattle.scx_abs.specs.States.{CoversState, IsProper, start_of}
 use Rattle.scx_abs.specs.Arguments.{FitsCallback}
 use Rattle.scx_abs.specs.Stands.{IsMember}
 use Rattle.scx_abs.specs.Rules.{rule}
@@ -39,11 +40,12 @@ IsSoundFor shapes (Err why) e = Unit {0}
 IsSoundFor shapes (Ok next) e = FlowsIn shapes next e
 
 -- Where the checks of an instruction pass, no state that is stood for is stuck, and what it leads to is
--- stood for by what flows on, whatever the host answers, as long as it fits.
+-- stood for by what flows on, whatever the host answers, as long as it fits. The instruction's numbers
+-- fit their fields.
 abbrev pub RulesAreSound : Type 0
 RulesAreSound =
     (shapes : List Shape) (c : Callback) (i : Insn) (a : AbsState) (m : Machine)
-    → IsMember shapes a m → IsSoundFor shapes (rule shapes c i a) (act c i m)
+    → IsInsn i → IsMember shapes a m → IsSoundFor shapes (rule shapes c i a) (act c i m)
 
 -- A callback's start state stands for all states in which it may begin.
 abbrev pub StartIsSound : Type 0
@@ -61,3 +63,23 @@ CoversItself = (a : AbsState) → CoversState a a
 
 abbrev pub CoversThrough : Type 0
 CoversThrough = (c b a : AbsState) → CoversState c b → CoversState b a → CoversState c a
+
+-- Proper states that cover each other are one.
+abbrev pub CoversBothWays : Type 0
+CoversBothWays = (a b : AbsState) → IsProper a → IsProper b → CoversState a b → CoversState b a → a ≡ b
+
+-- ---- proper states
+
+-- A callback begins in a proper state.
+abbrev pub StartIsProper : Type 0
+StartIsProper = (c : Callback) → IsProper (start_of c)
+
+-- what flows on is proper
+abbrev pub FlowsProper : Next → Type 0
+FlowsProper next = IfSome next.on IsProper × IfSome next.jump IsProper
+
+-- What flows on from an instruction in a proper state is proper.
+abbrev pub RulesKeepProper : Type 0
+RulesKeepProper =
+    (shapes : List Shape) (c : Callback) (i : Insn) (a : AbsState)
+    → IsProper a → IfOk (rule shapes c i a) FlowsProper

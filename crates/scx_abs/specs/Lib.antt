@@ -9,3 +9,4 @@ pub mod Checks
 pub mod Calls
 pub mod Rules
 pub mod Laws
+pub mod Monotone

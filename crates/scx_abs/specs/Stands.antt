@@ -1,5 +1,6 @@
 -- What an abstract state stands for: the states of a running program whose registers and stack fit it.
-use Rattle.std.specs.Prelude.{ℕ, ◌+◌, ◌*◌, ◌≡◌, ◌<◌, List, Some, length, IsTrue}
+-- Numbers in registers are below 2 ^ 64, and bytes below 256.
+use Rattle.std.specs.Prelude.{ℕ, ◌+◌, ◌*◌, ◌^◌, ◌≡◌, ◌<◌, List, Some, length, IsTrue}
 use Rattle.scx_semantics.specs.declared.values.Value.{Value}
 use Rattle.scx_semantics.specs.declared.values.Value.TheVariants as value
 use Rattle.scx_semantics.specs.declared.values.Pointer.TheVariants as pointer
@@ -27,7 +28,7 @@ HasElement maps m i = i < length (elements maps m)
 -- the kind stands for the value
 abbrev pub Stands : Maps → Kind → Value → Type 0
 Stands maps Unusable v = Unit {0}
-Stands maps Num (value.Number n) = Unit {0}
+Stands maps Num (value.Number n) = n < 2 ^ 64
 Stands maps (Stack o) (value.Pointer (pointer.Stack p)) = o ≡ p
 Stands maps (Elem m o) (value.Pointer (pointer.Element n p i)) = (m ≡ n) × (o ≡ p) × HasElement maps n i
 Stands maps (ElemOrNull m) (value.Number n) = n ≡ 0
@@ -40,7 +41,7 @@ Stands maps k v = ⊥
 
 -- a number was written to the byte
 abbrev pub IsByte : StackByte → Type 0
-IsByte (byte.Byte b) = Unit {0}
+IsByte (byte.Byte b) = b < 256
 IsByte byte.Unwritten = ⊥
 IsByte (byte.Part p j) = ⊥
 

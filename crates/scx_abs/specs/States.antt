@@ -1,6 +1,6 @@
 -- Abstract states: a kind for each register and a cell for each eight bytes of the stack. They are
 -- ordered register by register and cell by cell.
-use Rattle.std.specs.Prelude.{ℕ, [], set, replicate, slice_index_or}
+use Rattle.std.specs.Prelude.{◌≡◌, ℕ, [], length, set, replicate, slice_index_or, Option, Some, None, All}
 use Rattle.scx_semantics.specs.declared.callbacks.Callback.{Callback}
 use Rattle.scx_semantics.specs.declared.callbacks.Callback.TheVariants as callback
 use Rattle.scx_semantics.specs.Memory.{stack_size}
@@ -10,7 +10,7 @@ use Rattle.scx_abs.specs.declared.kinds.Cell.{Cell}
 use Rattle.scx_abs.specs.declared.kinds.Cell.TheVariants.{Bytes}
 use Rattle.scx_abs.specs.declared.states.AbsState.{AbsState}
 use Rattle.scx_abs.specs.Kinds.{CoversKind}
-use Rattle.scx_abs.specs.Cells.{CoversCell, no_bytes}
+use Rattle.scx_abs.specs.Cells.{CoversCell, IsProperCell, no_bytes}
 
 -- the kind of a register, by its number
 abbrev pub kind_at : AbsState → ℕ → Kind
@@ -31,11 +31,24 @@ pub record CoversState (b a : AbsState) : Type 0 where
   pub registers : (r : ℕ) → CoversKind (kind_at b r) (kind_at a r)
   pub cells : (c : ℕ) → CoversCell (cell_at b c) (cell_at a c)
 
--- it covers both, and whatever covers both covers it
-pub record IsLeastCover (joined first second : AbsState) : Type 0 where
-  pub covers_first : CoversState joined first
-  pub covers_second : CoversState joined second
-  pub least : (a : AbsState) → CoversState a first → CoversState a second → CoversState a joined
+-- there is a state, and it covers that one
+abbrev pub CoversSome : Option AbsState → AbsState → Type 0
+CoversSome None a = ⊥
+CoversSome (Some b) a = CoversState b a
+
+-- ---- proper states
+
+-- as many kinds and cells as there are registers and cells
+pub record IsWhole (a : AbsState) : Type 0 where
+  pub registers : length a.registers ≡ 11
+  pub cells : length a.cells ≡ 64
+
+-- A state as rules and joins make them, whole and of proper cells. Lists in a definition may have any
+-- length, and a state with too few cells would forget every store; so what is said of least states is
+-- said of proper ones.
+pub record IsProper (a : AbsState) : Type 0 where
+  pub whole : IsWhole a
+  pub cells : All IsProperCell a.cells
 
 -- ---- start
 

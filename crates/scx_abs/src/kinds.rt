@@ -7,7 +7,7 @@ ghost use Rattle.scx_abs.specs.Cells.{all_written, written_in};
 pub const CELL_BYTES: usize = 8;
 
 /// What is known of a register's value.
-#[derive(Clone, Copy, Debug, PartialEq, Eq)]
+#[derive(Clone, Copy, PartialEq, Eq)]
 pub enum Kind {
     /// Nothing: it may not be read.
     Unusable,
@@ -28,7 +28,7 @@ pub enum Kind {
 }
 
 /// What is known of eight aligned bytes of the stack.
-#[derive(Clone, Copy, Debug, PartialEq, Eq)]
+#[derive(Clone, Copy)]
 pub enum Cell {
     /// To which of the bytes a number was written, from the lowest on.
     Bytes([bool; CELL_BYTES]),

@@ -1,4 +1,6 @@
-ghost use Rattle.scx_abs.specs.Laws.{RulesAreSound, StartIsSound, CoversMore, CoversItself, CoversThrough};
+ghost use Rattle.scx_abs.specs.Laws.{RulesAreSound, StartIsSound, CoversMore, CoversItself, CoversThrough, CoversBothWays};
+ghost use Rattle.scx_abs.specs.Laws.{StartIsProper, RulesKeepProper};
+ghost use Rattle.scx_abs.specs.Monotone.{RulesAreMonotone, JoinOfKindsIsLeast, JoinOfCellsIsLeast, JoinsAreMonotone};
 
 /// The rules against what instructions mean: where the checks pass no state that is stood for is
 /// stuck, and what it leads to is stood for by what flows on. The function does nothing: its
@@ -9,4 +11,26 @@ pub fn rules_are_sound()
     ensures covers { CoversMore }
     ensures reflexive { CoversItself }
     ensures transitive { CoversThrough }
+    ensures antisymmetric { CoversBothWays }
+{}
+
+/// A callback begins in a proper state, and what flows on from one is proper. The function does
+/// nothing: its contract is the law.
+pub fn states_are_proper()
+    ensures start { StartIsProper }
+    ensures rules { RulesKeepProper }
+{}
+
+/// What passes in a state passes in each proper state that it covers, and what flows on is covered
+/// too: no check is stronger where more is known. The function does nothing: its contract is the law.
+pub fn rules_are_monotone()
+    ensures { RulesAreMonotone }
+{}
+
+/// The join of two kinds or cells is the least that covers both, and joins of states grow with them.
+/// The function does nothing: its contract is the law.
+pub fn joins_are_least()
+    ensures kinds { JoinOfKindsIsLeast }
+    ensures cells { JoinOfCellsIsLeast }
+    ensures monotone { JoinsAreMonotone }
 {}

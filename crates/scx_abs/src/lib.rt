@@ -19,6 +19,7 @@ mod states;
 
 pub use faults::Why;
 pub use kinds::{CELL_BYTES, Cell, Kind};
-pub use laws::rules_are_sound;
+pub use laws::{joins_are_least, rules_are_monotone, rules_are_sound, states_are_proper};
+pub use memory::{Area, area_of};
 pub use rules::{Context, Next, transfer};
 pub use states::{AbsState, CELLS, REGISTERS, join, start};

@@ -15,8 +15,8 @@ use scx_isa::{Access, Field, Operand, Register, Size};
 use scx_maps::MapDefs;
 
 /// The memory that an address means.
-#[derive(Clone, Copy, Debug, PartialEq, Eq)]
-pub(crate) enum Area {
+#[derive(Clone, Copy)]
+pub enum Area {
     /// The byte of the stack.
     OnStack(u16),
     /// An element of a map.
@@ -58,7 +58,7 @@ pub(crate) fn store(
 }
 
 /// The memory that an address means, for an access of that size.
-fn area_of(base: Kind, offset: i16, size: Size, defs: &MapDefs) -> Result<Area, Why>
+pub fn area_of(base: Kind, offset: i16, size: Size, defs: &MapDefs) -> Result<Area, Why>
     ensures area { result ≡ area_of defs.now base offset (size_bytes size) }
     ensures room { IfOk result (IsRoom (size_bytes size)) }
 {

@@ -14,7 +14,7 @@ use scx_isa::{Callback, Insn, Register};
 use scx_maps::MapDefs;
 
 /// What a rule needs to know apart from the state and the instruction.
-#[derive(Clone, Copy, Debug)]
+#[derive(Clone, Copy)]
 pub struct Context {
     /// What the program is run as.
     pub callback: Callback,
@@ -23,7 +23,7 @@ pub struct Context {
 }
 
 /// What flows on from an instruction.
-#[derive(Clone, Copy, Debug, PartialEq, Eq)]
+#[derive(Clone, Copy)]
 pub struct Next {
     /// To the next instruction, if control may go there.
     pub on: Option<AbsState>,

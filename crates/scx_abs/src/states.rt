@@ -2,9 +2,9 @@ ghost use Rattle.std.specs.Prelude.{◌≡◌, ◌<◌, ℕ, slice_index_or, []}
 ghost use Rattle.scx_semantics.specs.Registers.{number};
 ghost use Rattle.scx_abs.specs.declared.kinds.Kind.TheVariants.{Unusable};
 ghost use Rattle.scx_abs.specs.declared.kinds.Cell.TheVariants.{Bytes};
-ghost use Rattle.scx_abs.specs.Kinds.{join_kind};
+ghost use Rattle.scx_abs.specs.Kinds.{IsLeastCover, join_kind};
 ghost use Rattle.scx_abs.specs.Cells.{join_cell};
-ghost use Rattle.scx_abs.specs.States.{IsLeastCover, argument_kinds, start_of};
+ghost use Rattle.scx_abs.specs.States.{CoversState, IsProper, argument_kinds, start_of};
 
 use crate::kinds::{CELL_BYTES, Cell, Kind};
 use scx_isa::{Callback, Register};
@@ -19,7 +19,7 @@ pub const CELLS: usize = 64;
 pub(crate) const STACK_TOP: u16 = 512;
 
 /// What is known of registers and stack before an instruction.
-#[derive(Clone, Copy, Debug, PartialEq, Eq)]
+#[derive(Clone, Copy)]
 pub struct AbsState {
     /// The kinds of r0 to r10.
     pub registers: [Kind; REGISTERS],
@@ -31,7 +31,7 @@ impl AbsState {
     ghost use Rattle.scx_abs.specs.States.{kind_at, cell_at, with_kind, with_cell};
 
     /// The kind of a register.
-    pub(crate) fn kind(&self, register: Register) -> Kind
+    pub fn kind(&self, register: Register) -> Kind
         ensures { result ≡ kind_at self.now (number register) }
     {
         self.registers[register.number() as usize]
@@ -99,7 +99,8 @@ pub fn start(callback: Callback) -> AbsState
 
 /// The least state that covers both: register by register and cell by cell.
 pub fn join(first: &AbsState, second: &AbsState) -> AbsState
-    ensures { IsLeastCover result first.now second.now }
+    ensures least { IsLeastCover CoversState result first.now second.now }
+    ensures proper { IsProper first.now → IsProper second.now → IsProper result }
 {
     AbsState {
         registers: join_registers(&first.registers, &second.registers),

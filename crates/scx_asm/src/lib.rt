@@ -11,8 +11,6 @@ mod faults;
 mod laws;
 mod layout;
 mod resolving;
-#[cfg(test)]
-mod tests;
 
 pub use assembling::assemble;
 pub use disassembling::disassemble;

@@ -42,7 +42,7 @@ fn verify_one(alloc: Global, callback: Callback, text: &str, times: u64) -> Sum 
     let mut sum = 0u64;
     for _ in 0..times {
         let program = decode(alloc, bytes.as_slice()).ok()?;
-        sum = sum.wrapping_add(verdict(alloc, program, callback, &defs));
+        sum = sum.wrapping_add(verdict(alloc, program, callback, &defs)?);
     }
     Some(sum)
 }

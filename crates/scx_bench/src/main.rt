@@ -11,7 +11,7 @@ use crate::callbacks::{run_callbacks, verify_callbacks};
 use scx_asm::{assemble, disassemble};
 use scx_isa::{Callback, Program, decode, encode, flow};
 use scx_maps::{MapDefs, Maps, Shape, Size};
-use scx_verify::verify;
+use scx_verify::{Fault, verify};
 use scx_vm::{Ran, try_run_alone};
 use std::alloc::Global;
 use std::fs::File;
@@ -119,16 +119,17 @@ fn verifies(alloc: Global, bytes: &[u8], times: u64) -> Sum {
     let mut sum = 0u64;
     for _ in 0..times {
         let program = decode(alloc, bytes).ok()?;
-        sum = sum.wrapping_add(verdict(alloc, program, Callback::Plain, &defs));
+        sum = sum.wrapping_add(verdict(alloc, program, Callback::Plain, &defs)?);
     }
     Some(sum)
 }
 
 /// A number that depends on what is said of a program.
-fn verdict(alloc: Global, program: Program, callback: Callback, defs: &MapDefs) -> u64 {
+fn verdict(alloc: Global, program: Program, callback: Callback, defs: &MapDefs) -> Sum {
     match verify(alloc, program, callback, defs) {
-        Ok(verified) => verified.instructions() as u64,
-        Err(error) => error.slot as u64,
+        Ok(verified) => Some(verified.instructions() as u64),
+        Err(error) if matches!(error.fault, Fault::NoMemory) => None,
+        Err(error) => Some(error.slot as u64),
     }
 }
 

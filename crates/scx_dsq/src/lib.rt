@@ -18,8 +18,6 @@ mod priority;
 mod queue;
 mod queues;
 mod steps;
-#[cfg(test)]
-mod tests;
 
 pub use commands::{Command, Reply, answer, run};
 pub use errors::QueueError;

@@ -8,7 +8,7 @@ use std::alloc::AllocError;
 pub const SLOT_BYTES: usize = 8;
 
 /// The fields of one slot (RFC 9669, section 3), each as its bits.
-#[derive(Clone, Copy, Debug, PartialEq, Eq)]
+#[derive(Clone, Copy, PartialEq, Eq)]
 pub struct Slot {
     pub opcode: u8,
     /// The low four bits of the second byte.

@@ -1,16 +1,11 @@
-//! Worked examples: the callbacks of scx_simple as text, a host of one task, what `verify` says of
-//! programs, and what their runs do. Each program of docs/VERIFIER.md stands in the tests, with its
-//! verdict.
+//! Worked examples that tests and benchmarks share: the callbacks of scx_simple as text, a host of one
+//! task, and programs written as the numbers of their slots.
 #![tactic(auto)]
 
 mod one_task;
-#[cfg(test)]
-mod refusals;
-#[cfg(test)]
-mod runs;
 mod simple;
-#[cfg(test)]
-mod verdicts;
+mod slots;
 
 pub use one_task::OneTask;
 pub use simple::{DISPATCH, ENABLE, ENQUEUE, INIT, RUNNING, STOPPING};
+pub use slots::{EXIT, bytes_of};

@@ -40,11 +40,11 @@ count_is code = is_count_by instruction_count is_some refl (λ place code. more 
 
 -- ---- what is read
 
-pub first_fits : (slots : List Slot) → AllByRecursion IsSlot slots → HalfFits (first slots)
+first_fits : (slots : List Slot) → AllByRecursion IsSlot slots → HalfFits (first slots)
 first_fits [] h = tt
 first_fits (s ∷ slots) h = h.0
 
-pub half_reads : (s due : Slot) (p : Option Insn) → half_at s due ≡ Ok p → (s ≡ due) × (p ≡ None)
+half_reads : (s due : Slot) (p : Option Insn) → half_at s due ≡ Ok p → (s ≡ due) × (p ≡ None)
 half_reads s due p e = go (same_slot s due) refl
   where
     go : (b : Bool) → same_slot s due ≡ b → (s ≡ due) × (p ≡ None)
@@ -52,11 +52,11 @@ half_reads s due p e = go (same_slot s due) refl
     go false t = let bad : Err UnusedField ≡ Ok p = rw t at e in absurd (cc)
 
 -- where a second half is due there is a slot for it
-abbrev pub HasRoom : Option Slot → List Slot → Type 0
+abbrev HasRoom : Option Slot → List Slot → Type 0
 HasRoom None slots = Unit {0}
 HasRoom (Some due) slots = is_none (first slots) ≡ false
 
-pub room_behind : (t : Option Slot) (slots : List Slot) → (is_some t ≡ true → is_none (first slots) ≡ false) → HasRoom t slots
+room_behind : (t : Option Slot) (slots : List Slot) → (is_some t ≡ true → is_none (first slots) ≡ false) → HasRoom t slots
 room_behind None slots h = tt
 room_behind (Some due) slots h = h refl
 
@@ -90,12 +90,12 @@ splits k due s slots code e =
     record { place = p.0; rest = q.0; read = placed_ok k _ _ p.1; goes = q.1; whole = ok_is _ _ q.2 }
 
 -- a place without a second half due is an instruction that was read
-pub record IsRead (s : Slot) (next : Option Slot) (p : Option Insn) : Type 0 where
-  pub insn : Insn
-  pub read : insn_at s next ≡ Ok insn
-  pub place : Some insn ≡ p
+record IsRead (s : Slot) (next : Option Slot) (p : Option Insn) : Type 0 where
+  insn : Insn
+  read : insn_at s next ≡ Ok insn
+  place : Some insn ≡ p
 
-pub place_reads : (s : Slot) (next : Option Slot) (p : Option Insn) → place_at None s next ≡ Ok p → IsRead s next p
+place_reads : (s : Slot) (next : Option Slot) (p : Option Insn) → place_at None s next ≡ Ok p → IsRead s next p
 place_reads s next p e =
     let r = bind_ok (insn_at s next) _ p e in
     record { insn = r.0; read = r.1; place = ok_is _ _ r.2 }
@@ -154,7 +154,7 @@ code_slots_fit true (None ∷ code) h = code_slots_fit false code h
 code_slots_fit false (Some i ∷ code) h = slots_fit_insn i (code_slots code) h.0 (code_slots_fit (is_wide i) code h.1)
 code_slots_fit true (Some i ∷ code) h = absurd h
 
-follows_first : (t : Option Slot) (slots : List Slot) → Follows t (first (option_to_list t ++ slots))
+pub follows_first : (t : Option Slot) (slots : List Slot) → Follows t (first (option_to_list t ++ slots))
 follows_first None slots = tt
 follows_first (Some t) slots = refl
 

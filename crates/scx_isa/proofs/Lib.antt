@@ -1,6 +1,6 @@
-mod Codes
+pub mod Codes
 pub mod Counts
 pub mod Control
 mod FirstFaults
-mod Programs
+pub mod Programs
 mod Loop

@@ -9,7 +9,7 @@ use Rattle.scx_encoding.specs.declared.faults.DecodeFault.{DecodeFault}
 use Rattle.scx_encoding.specs.declared.faults.DecodeFault.TheVariants.{Empty, TooLong, NotWholeSlots}
 use Rattle.scx_encoding.specs.Slots.{slot_bytes, slots_in}
 use Rattle.scx_semantics.specs.Code.{Code}
-use Rattle.scx_isa.specs.Spelling.{code_slots, spelling, max_slots, IsProgram, Spells}
+use Rattle.scx_isa.specs.Spelling.{code_slots, spelling, max_slots, IsProgram, HasProgramLength, Spells}
 use Rattle.scx_isa.specs.Reading.{Gives, read_slots, read_program}
 use Rattle.scx_encoding.proofs.Bytes.{IsBytes, slots_spelled, slots_fit, slots_again, length-slots}
 use Rattle.scx_isa.proofs.Codes.{code_is_spelled, code_slots_fit, code_is_read, length-code_slots}
@@ -20,9 +20,7 @@ length-slots_in (suc n) bytes = ap suc (length-slots_in n _)
 
 -- what the tests of the length let through
 pub record HasLength (bytes : List ℕ) (code : Code) : Type 0 where
-  pub some : 0 < length bytes
-  pub whole : length bytes % 8 ≡ 0
-  pub fits : length bytes / 8 ≤ max_slots
+  pub long : HasProgramLength bytes
   pub read : read_slots 0 None (slots_in (length bytes / 8) bytes) ≡ Ok code
 
 abbrev failed : DecodeFault × ℕ → Result Code (DecodeFault × ℕ)
@@ -38,9 +36,7 @@ lengths bytes code e = go (nat_eq (length bytes) 0) (nat_lt 0 (length bytes % 8)
     go false false false x y z =
         let nonzero = eqb-false _ _ x in
         record {
-          some = omega arith;
-          whole = omega (arith, ltb-false _ _ y);
-          fits = ltb-false _ _ z;
+          long = record { some = omega arith; whole = omega (arith, ltb-false _ _ y); fits = ltb-false _ _ z };
           read = rw (x, y, z) at e;
         }
 
@@ -48,27 +44,45 @@ pub program_is_spelled : (bytes : List ℕ) (code : Code) → IsBytes bytes → 
 program_is_spelled bytes code fits e =
     let has = lengths bytes code e in
     let n = length bytes / 8 in
-    let long : length bytes ≡ 8 * n = omega (arith, has.whole) in
+    let long : length bytes ≡ 8 * n = omega (arith, has.long.whole) in
     let holds = code_is_spelled 0 None (slots_in n bytes) code (slots_fit n bytes fits) tt has.read in
     let count : length code ≡ n = sym (length-code_slots None code holds.insns) ∙ ap length (sym holds.spelled) ∙ length-slots_in n bytes in
     let bytes_are : bytes ≡ spelling code = sym (slots_spelled n bytes long fits) ∙ ap (λ (slots : List Slot). flat_map slot_bytes slots) holds.spelled in
     record {
-      program = record { insns = holds.insns; some = omega (arith, has.some, count, long); fits = omega (arith, has.fits, count) };
+      program = record { insns = holds.insns; some = omega (arith, has.long.some, count, long); fits = omega (arith, has.long.fits, count) };
       spelled = bytes_are;
     }
+
+spelling_length : (code : Code) → IsProgram code → length (spelling code) ≡ 8 * length code
+spelling_length code h =
+    let slots = length-code_slots None code h.insns in
+    let bytes = length-slots (code_slots code) in
+    omega (arith, slots, bytes)
+
+pub program_has_length : (bytes : List ℕ) (code : Code) → Spells bytes code → HasProgramLength bytes
+program_has_length bytes code h =
+    let some : 0 < length code = h.program.some in
+    let fits : length code ≤ max_slots = h.program.fits in
+    let long : length bytes ≡ 8 * length code = rw h.spelled (spelling_length code h.program) in
+    record { some = omega arith; whole = omega arith; fits = omega arith }
+
+-- bytes of a program's length are read slot by slot
+pub slots_are_read : (bytes : List ℕ) → HasProgramLength bytes → read_program bytes ≡ read_slots 0 None (slots_in (length bytes / 8) bytes)
+slots_are_read bytes long =
+    let some : 0 < length bytes = long.some in
+    let nonzero : nat_eq (length bytes) 0 ≡ false = ne_eqb _ _ (omega arith) in
+    let whole : nat_lt 0 (length bytes % 8) ≡ false = rw long.whole refl in
+    let fits : nat_lt max_slots (length bytes / 8) ≡ false = le-ltb _ _ long.fits in
+    rw (nonzero, whole, fits) refl
 
 pub spelling_is_read : (code : Code) → IsProgram code → read_program (spelling code) ≡ Ok code
 spelling_is_read code h =
     let slots = length-code_slots None code h.insns in
-    let bytes = length-slots (code_slots code) in
-    let long : length (spelling code) ≡ 8 * length code = omega (arith, slots, bytes) in
+    let long = spelling_length code h in
     let count : length (spelling code) / 8 ≡ length code = omega (arith, long) in
-    let nonempty : nat_eq (length (spelling code)) 0 ≡ false = ne_eqb _ _ (omega (arith, h.some, long)) in
-    let rest : length (spelling code) % 8 ≡ 0 = omega (arith, long) in
-    let whole : nat_lt 0 (length (spelling code) % 8) ≡ false = rw rest refl in
-    let fits : nat_lt max_slots (length (spelling code) / 8) ≡ false = le-ltb _ _ (omega (arith, h.fits, count)) in
     let same : slots_in (length code) (spelling code) ≡ code_slots code = rw (← slots) (slots_again (code_slots code) (code_slots_fit false code h.insns)) in
-    rw (nonempty, whole, fits, count, same) (code_is_read 0 None code h.insns)
+    slots_are_read (spelling code) (program_has_length (spelling code) code (record { program = h; spelled = refl }))
+    ∙ rw (count, same) (code_is_read 0 None code h.insns)
 
 pub program_is_read : (bytes : List ℕ) (code : Code) → Spells bytes code → read_program bytes ≡ Ok code
 program_is_read bytes code h = rw h.spelled (spelling_is_read code h.program)

@@ -1,8 +1,11 @@
--- The laws of spelling, which are the contract of a public function without a body of its own.
+-- The laws of spelling and of faults, which are the contracts of public functions without a body of their
+-- own.
 use Rattle.std.specs.Prelude.{ℕ, ◌≡◌, List, Ok}
+use Rattle.scx_encoding.specs.declared.faults.DecodeFault.{DecodeFault}
 use Rattle.scx_semantics.specs.Code.{Code}
 use Rattle.scx_isa.specs.Spelling.{spelling, IsProgram, Spells}
 use Rattle.scx_isa.specs.Reading.{read_program}
+use Rattle.scx_isa.specs.FirstFault.{IsFirstFault}
 
 -- the spelling of a program is read as that program
 abbrev pub ReadsBack : Type 0
@@ -15,3 +18,11 @@ OneSpelling = (bytes others : List ℕ) (code : Code) → Spells bytes code → 
 -- no bytes spell two programs
 abbrev pub OneProgram : Type 0
 OneProgram = (bytes : List ℕ) (code other : Code) → Spells bytes code → Spells bytes other → code ≡ other
+
+-- no bytes have two first faults, nor one at two slots
+abbrev pub OneFirstFault : Type 0
+OneFirstFault = (bytes : List ℕ) (fault other : DecodeFault) (slot place : ℕ) → IsFirstFault bytes fault slot → IsFirstFault bytes other place → (fault ≡ other) × (slot ≡ place)
+
+-- bytes with a first fault spell no program
+abbrev pub FaultyBytesSpellNothing : Type 0
+FaultyBytesSpellNothing = (bytes : List ℕ) (fault : DecodeFault) (slot : ℕ) (code : Code) → IsFirstFault bytes fault slot → ¬ Spells bytes code

@@ -1,6 +1,6 @@
 -- Programs and their spelling (RFC 9669, section 3): the slots of a program are those of its
 -- instructions in order, and its bytes are those of its slots.
-use Rattle.std.specs.Prelude.{ℕ, ◌≡◌, ◌<◌, ◌≤◌, Bool, true, false, List, [], ◌∷◌, length, Option, Some, None}
+use Rattle.std.specs.Prelude.{ℕ, ◌/◌, ◌%◌, ◌≡◌, ◌<◌, ◌≤◌, Bool, true, false, List, [], ◌∷◌, length, Option, Some, None}
 use Rattle.std.specs.List.{flat_map}
 use Rattle.scx_encoding.specs.declared.slots.Slot.{Slot}
 use Rattle.scx_semantics.specs.declared.instructions.Insn.{Insn}
@@ -38,6 +38,12 @@ pub record IsProgram (code : Code) : Type 0 where
   pub insns : IsCode false code
   pub some : 0 < length code
   pub fits : length code ≤ max_slots
+
+-- the bytes are as many as a program has: whole slots, 1 to 4096 of them
+pub record HasProgramLength (bytes : List ℕ) : Type 0 where
+  pub some : 0 < length bytes
+  pub whole : length bytes % 8 ≡ 0
+  pub fits : length bytes / 8 ≤ max_slots
 
 -- the bytes spell the program
 pub record Spells (bytes : List ℕ) (code : Code) : Type 0 where

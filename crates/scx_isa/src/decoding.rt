@@ -1,7 +1,7 @@
 ghost use Rattle.std.specs.Prelude.{◌≡◌, None, ◌*◌, ◌/◌, ◌%◌, length, IfOk, IfErr, Ok};
 ghost use Rattle.scx_encoding.specs.Slots.{slots_in, front_slot};
 ghost use Rattle.scx_semantics.specs.Code.{Code};
-ghost use Rattle.scx_isa.specs.Spelling.{Spells};
+ghost use Rattle.scx_isa.specs.Spelling.{Spells, HasProgramLength};
 ghost use Rattle.scx_isa.specs.FirstFault.{IsRefusal};
 ghost use Rattle.scx_encoding.specs.Reading.{place_at};
 ghost use Rattle.scx_isa.specs.Reading.{Gives, placed, read_slots, read_program};
@@ -48,7 +48,8 @@ fn read(alloc: Global, bytes: &[u8]) -> Result<Vec<Option<Insn>>, DecodeError>
 
 /// What stands at each slot of a program, or the first fault.
 fn read_all(alloc: Global, bytes: &[u8]) -> Result<Vec<Option<Insn>>, DecodeError>
-    ensures { Gives (λ code. code.items) result (read_program bytes.now) }
+    ensures exact { Gives (λ code. code.items) result (read_program bytes.now) }
+    ensures memory { result ≡ Err DecodeError.OutOfMemory → HasProgramLength bytes.now }
 {
     let slots = bytes.len() / SLOT_BYTES;
     if bytes.is_empty() {
@@ -71,7 +72,8 @@ fn refused<T: Drop>(fault: DecodeFault, slot: usize) -> Result<T, DecodeError>
 
 /// The program that the bytes spell, or the first fault.
 fn program_of(alloc: Global, bytes: &[u8]) -> Result<Program, DecodeError>
-    ensures { Gives (λ program. program) result (read_program bytes.now) }
+    ensures exact { Gives (λ program. program) result (read_program bytes.now) }
+    ensures memory { result ≡ Err DecodeError.OutOfMemory → HasProgramLength bytes.now }
 {
     let code = read_all(alloc, bytes)?;
     Ok(Program::new(code))
@@ -86,7 +88,8 @@ pub fn decode(alloc: Global, bytes: &[u8]) -> Result<Program, DecodeError>
     ensures decoded { IfOk result (λ program. Spells bytes.now program) }
     // What the bytes spell is decoded, unless memory runs out.
     ensures spelled { (code : Code) → Spells bytes.now code → Gives (λ program. program) result (Ok code) }
-    // What is refused has that fault first, at that slot.
+    // What is refused has that fault first, at that slot. Memory runs out only where the bytes are as
+    // many as a program has.
     ensures refused { IfErr result (IsRefusal bytes.now) }
     // Which answer it is, by reading from the first slot on.
     ensures exact { Gives (λ program. program) result (read_program bytes.now) }

@@ -19,7 +19,7 @@ pub use decoding::decode;
 pub use encoding::encode;
 pub use faults::{DecodeError, FlowError, FlowFault};
 pub use flows::{flow, target};
-pub use laws::spelling_is_one_to_one;
+pub use laws::{first_fault_is_unique, spelling_is_one_to_one};
 pub use program::{MAX_SLOTS, Program};
 pub use scx_encoding::{DecodeFault, Exclusion};
 pub use scx_semantics::{

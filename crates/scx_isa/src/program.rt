@@ -12,7 +12,7 @@ pub const MAX_SLOTS: usize = 4096;
 ///
 /// In a contract it is the list of its slots: the instruction that begins at each, or none in the
 /// second half of a wide one.
-#[derive(Debug, Drop)]
+#[derive(Drop)]
 pub struct Program {
     code: Vec<Option<Insn>>,
     instructions: usize,
@@ -58,8 +58,10 @@ impl Program {
     }
 
     /// How many instructions it has.
+    #[tactic(auto, using(crate::proofs::Counts::counts))]
     pub fn instructions(&self) -> usize
-        ensures { result ≡ instruction_count self.now }
+        ensures count { result ≡ instruction_count self.now }
+        ensures most { result ≤ MAX_SLOTS }
     {
         self.instructions
     }

@@ -6,3 +6,4 @@ pub mod Written
 pub mod Shapes
 pub mod Bounds
 pub mod Same
+pub mod ByPlace

@@ -1,6 +1,6 @@
 -- What array maps hold (Linux, Documentation/bpf/map_array.rst): a map is the list of its entries, and
 -- an entry the list of its bytes.
-use Rattle.std.specs.Prelude.{◌≡◌, ℕ, List, [], length, map, replicate, slice_set, slice_index_or}
+use Rattle.std.specs.Prelude.{◌≡◌, ℕ, ◌<◌, List, [], length, map, replicate, slice_set, slice_index_or, All}
 use Rattle.scx_maps.specs.declared.shape.Shape.{Shape}
 
 abbrev pub Contents : Type 0
@@ -30,6 +30,11 @@ lengths entries = map (λ (value : List ℕ). length value) entries
 abbrev pub lengths_of : Contents → List (List ℕ)
 lengths_of maps = map lengths maps
 
--- each map has as many entries as its shape says, each of the shape's value size
-abbrev pub HasShapes : List Shape → Contents → Type 0
-HasShapes shapes maps = lengths_of maps ≡ map (λ (s : Shape). replicate s.entries s.value_size) shapes
+-- each number that they hold is a byte
+abbrev pub HoldBytes : Contents → Type 0
+HoldBytes maps = (m index : ℕ) → All (λ b. b < 256) (value_of maps m index)
+
+-- each map has as many entries as its shape says, each of as many bytes as the shape's value size
+pub record HasShapes (shapes : List Shape) (maps : Contents) : Type 0 where
+  pub lengths : lengths_of maps ≡ map (λ (s : Shape). replicate s.entries s.value_size) shapes
+  pub bytes : HoldBytes maps

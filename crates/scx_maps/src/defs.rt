@@ -25,7 +25,7 @@ const EMPTY_PLACE: Shape = Shape {
 /// The shapes of a policy's maps, numbered from 0, within the limits.
 ///
 /// In a contract it is the list of the shapes.
-#[derive(Clone, Copy, Debug)]
+#[derive(Clone, Copy)]
 pub struct MapDefs {
     shapes: [Shape; MAX_MAPS],
     count: usize,
@@ -67,7 +67,7 @@ impl MapDefs {
     }
 
     /// No shape at all.
-    pub(crate) fn none() -> MapDefs
+    pub fn none() -> MapDefs
         ensures { result ≡ [] }
     {
         filled_up(&[])

@@ -9,7 +9,7 @@ use std::marker::Model;
 /// Where each map stands in one block of bytes.
 ///
 /// In a contract it is the list of the shapes.
-#[derive(Debug, Drop)]
+#[derive(Drop)]
 pub struct Layout {
     defs: MapDefs,
     /// The byte at which each map begins.

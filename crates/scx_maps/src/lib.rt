@@ -14,8 +14,6 @@ mod maps;
 mod numbers;
 mod shape;
 mod size;
-#[cfg(test)]
-mod tests;
 
 pub use bad_shape::BadShape;
 pub use defs::{MAX_BYTES, MAX_MAPS, MapDefs};

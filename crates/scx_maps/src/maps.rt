@@ -2,9 +2,10 @@ ghost use Rattle.std.specs.Prelude.{◌≡◌, ℕ, ◌≤◌, ◌<◌, ◌+◌,
 ghost use Rattle.std.specs.Borrow.{sem};
 ghost use Rattle.scx_maps.specs.Contents.{entries_of, value_of, with_value, zeros, lengths_of, HasShapes};
 ghost use Rattle.scx_maps.specs.Numbers.{bytes_of, number_at, with_number};
-ghost use Rattle.scx_maps.specs.Lending.{LendsValue, given_back};
+ghost use Rattle.scx_maps.specs.Lending.{LendsValue, given_back, shapes_of, all_bytes};
+ghost use Rattle.scx_maps.specs.Layout.{contents_in, place_of};
 
-use crate::defs::{MAX_MAPS, MapDefs};
+use crate::defs::{MAX_BYTES, MAX_MAPS, MapDefs};
 use crate::layout::Layout;
 use crate::numbers::{read_number, write_number};
 use crate::size::Size;
@@ -15,7 +16,7 @@ use std::marker::Model;
 ///
 /// In a contract it is the list of the maps, each the list of its entries, each the list of its
 /// bytes.
-#[derive(Debug, Drop)]
+#[derive(Drop)]
 pub struct Maps {
     layout: Layout,
     block: Vec<u8>,
@@ -117,7 +118,7 @@ impl Maps {
         requires offset { offset + bytes_of size ≤ length (value_of self.now map index) }
         ensures { result ≡ number_at (value_of self.now map index) offset size }
     {
-        read_number(self.value(map, index), offset, size)
+        read_number(self.value(map, index), offset as usize, size)
     }
 
     /// Writes the lowest bytes of a number into an entry at a byte, low byte first.
@@ -129,6 +130,31 @@ impl Maps {
             self.new ≡ with_value self.old map index (with_number value offset size number) }
         ensures shapes { lengths_of self.new ≡ lengths_of self.old }
     {
-        write_number(self.value_mut(map, index), offset, size, number);
+        write_number(self.value_mut(map, index), offset as usize, size, number);
+    }
+
+    /// The byte at which an entry begins, among the bytes of all maps.
+    pub fn place(&self, map: u8, index: u32) -> usize
+        requires map { map < length self.now }
+        requires index { index < length (entries_of self.now map) }
+        ensures place { result ≡ place_of (shapes_of self.now) map index }
+        ensures small { result ≤ MAX_BYTES }
+    {
+        self.layout.place(map, index)
+    }
+
+    /// The bytes of all maps, one entry after the other.
+    pub fn bytes(&self) -> &[u8]
+        ensures { result.now ≡ all_bytes self.now }
+    {
+        &self.block
+    }
+
+    /// Writes the lowest bytes of a number from a byte of all maps on, low byte first.
+    pub fn store_at(&mut self, place: usize, size: Size, number: u64)
+        requires { place + bytes_of size ≤ length (all_bytes self.old) }
+        ensures { self.new ≡ contents_in (shapes_of self.old) (with_number (all_bytes self.old) place size number) }
+    {
+        write_number(&mut self.block, place, size, number);
     }
 }

@@ -33,17 +33,17 @@ fn write_first(bytes: &mut [u8], size: Size, number: u64)
 }
 
 /// The number that stands in a value at an offset.
-pub fn read_number(value: &[u8], offset: u16, size: Size) -> u64
+pub fn read_number(value: &[u8], offset: usize, size: Size) -> u64
     requires { offset + bytes_of size ≤ length value.now }
     ensures { result ≡ number_at value.now offset size }
 {
-    first_number(&value[usize::from(offset)..], size)
+    first_number(&value[offset..], size)
 }
 
 /// Writes a number into a value at an offset.
-pub fn write_number(value: &mut [u8], offset: u16, size: Size, number: u64)
+pub fn write_number(value: &mut [u8], offset: usize, size: Size, number: u64)
     requires { offset + bytes_of size ≤ length value.old }
     ensures { value.new ≡ with_number value.old offset size number }
 {
-    write_first(&mut value[usize::from(offset)..], size, number);
+    write_first(&mut value[offset..], size, number);
 }

@@ -11,4 +11,5 @@ pub mod Calls
 pub mod Meaning
 pub mod Steps
 pub mod Runs
+pub mod Endings
 pub mod Laws

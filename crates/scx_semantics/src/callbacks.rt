@@ -3,7 +3,7 @@ ghost use Rattle.scx_semantics.specs.Outside.{answers};
 
 /// What a program is run as: a callback of a scheduling policy (sched-ext.rst), or a plain program
 /// with no policy around it.
-#[derive(Clone, Copy, Debug, PartialEq, Eq)]
+#[derive(Clone, Copy, PartialEq, Eq)]
 pub enum Callback {
     Plain,
     Init,

@@ -4,7 +4,7 @@ use crate::operations::{Access, Comparison, Extension, Operation, Order, OrderWi
 use crate::registers::Register;
 
 /// The second operand: an immediate (source bit K) or a register (source bit X).
-#[derive(Clone, Copy, Debug, PartialEq, Eq)]
+#[derive(Clone, Copy)]
 pub enum Operand {
     Immediate(i32),
     Register(Register),
@@ -14,7 +14,7 @@ pub enum Operand {
 ///
 /// The first register of a case is its destination, or what a jump compares. A jump's distance
 /// counts slots from the next instruction, and an address is a register plus an offset in bytes.
-#[derive(Clone, Copy, Debug, PartialEq, Eq)]
+#[derive(Clone, Copy)]
 pub enum Insn {
     Binary(Width, Operation, Register, Operand),
     /// The two's complement negative.

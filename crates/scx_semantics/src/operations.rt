@@ -1,7 +1,7 @@
 ghost use Rattle.std.specs.Prelude.{◌≡◌, ◌≤◌};
 
 /// How many bits of its operands an instruction takes: class ALU or JMP32, or class ALU64 or JMP.
-#[derive(Clone, Copy, Debug, PartialEq, Eq)]
+#[derive(Clone, Copy)]
 pub enum Width {
     /// The low 32 bits. The upper half of an arithmetic result is 0.
     Bits32,
@@ -9,7 +9,7 @@ pub enum Width {
 }
 
 /// What arithmetic does with the destination and the operand (RFC 9669, section 4.1).
-#[derive(Clone, Copy, Debug, PartialEq, Eq)]
+#[derive(Clone, Copy)]
 pub enum Operation {
     Add,
     Subtract,
@@ -34,7 +34,7 @@ pub enum Operation {
 }
 
 /// A move that extends the low bits with their sign: how many, and to what width.
-#[derive(Clone, Copy, Debug, PartialEq, Eq)]
+#[derive(Clone, Copy)]
 pub enum Extension {
     Low8To32,
     Low16To32,
@@ -45,7 +45,7 @@ pub enum Extension {
 
 /// The byte order that an instruction brings about (RFC 9669, section 4.2). The host is
 /// little-endian.
-#[derive(Clone, Copy, Debug, PartialEq, Eq)]
+#[derive(Clone, Copy)]
 pub enum Order {
     Little,
     Big,
@@ -54,7 +54,7 @@ pub enum Order {
 }
 
 /// How many low bits a change of byte order keeps.
-#[derive(Clone, Copy, Debug, PartialEq, Eq)]
+#[derive(Clone, Copy)]
 pub enum OrderWidth {
     Bits16,
     Bits32,
@@ -62,7 +62,7 @@ pub enum OrderWidth {
 }
 
 /// How many bytes of memory an instruction reads or writes (RFC 9669, section 5).
-#[derive(Clone, Copy, Debug, PartialEq, Eq)]
+#[derive(Clone, Copy)]
 pub enum Size {
     Byte,
     /// 2 bytes.
@@ -74,7 +74,7 @@ pub enum Size {
 }
 
 /// How a load reads: so many bytes, with zeros above them or with their sign.
-#[derive(Clone, Copy, Debug, PartialEq, Eq)]
+#[derive(Clone, Copy)]
 pub enum Access {
     Byte,
     HalfWord,
@@ -86,7 +86,7 @@ pub enum Access {
 }
 
 /// When a conditional jump is taken (RFC 9669, section 4.3).
-#[derive(Clone, Copy, Debug, PartialEq, Eq)]
+#[derive(Clone, Copy)]
 pub enum Comparison {
     Equal,
     Greater,

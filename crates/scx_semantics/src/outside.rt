@@ -12,7 +12,7 @@ use crate::operations::Size;
 pub struct TaskId(pub u16);
 
 /// A field of a task's record, which a program loads and stores whole.
-#[derive(Clone, Copy, Debug, PartialEq, Eq)]
+#[derive(Clone, Copy, PartialEq, Eq)]
 pub enum Field {
     Pid,
     Weight,
@@ -26,7 +26,7 @@ pub enum Field {
 }
 
 /// A function of the host that a program may call.
-#[derive(Clone, Copy, Debug, PartialEq, Eq)]
+#[derive(Clone, Copy, PartialEq, Eq)]
 pub enum Helper {
     MapLookupElem,
     KtimeGetNs,
@@ -44,7 +44,7 @@ pub enum Helper {
 pub const MAX_ARGUMENTS: usize = 5;
 
 /// What a helper takes in a register.
-#[derive(Clone, Copy, Debug, PartialEq, Eq)]
+#[derive(Clone, Copy)]
 pub enum Parameter {
     /// A reference to a map.
     Map,

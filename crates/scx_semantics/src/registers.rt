@@ -3,7 +3,7 @@ ghost use Rattle.scx_semantics.specs.Registers.{number, register_at};
 
 /// A register (RFC 9669, section 3.1). r10 is the frame pointer, which no instruction may write
 /// (abi.rst of the kernel's BPF documents).
-#[derive(Clone, Copy, Debug, PartialEq, Eq)]
+#[derive(Clone, Copy, PartialEq, Eq)]
 pub enum Register {
     R0,
     R1,

@@ -1,7 +1,7 @@
 use crate::outside::TaskId;
 
 /// Where a pointer points.
-#[derive(Clone, Copy, Debug, PartialEq, Eq)]
+#[derive(Clone, Copy)]
 pub enum Pointer {
     /// A byte of the stack, 0 to 512; 512 is its top, past the last one.
     Stack(u16),
@@ -12,7 +12,7 @@ pub enum Pointer {
 }
 
 /// What a register holds.
-#[derive(Clone, Copy, Debug, PartialEq, Eq)]
+#[derive(Clone, Copy)]
 pub enum Value {
     /// Nothing yet: reading it has no meaning.
     Unset,
@@ -21,7 +21,7 @@ pub enum Value {
 }
 
 /// What one byte of the stack holds.
-#[derive(Clone, Copy, Debug, PartialEq, Eq)]
+#[derive(Clone, Copy)]
 pub enum StackByte {
     Unwritten,
     Byte(u8),

@@ -1,4 +1,12 @@
 mod Least
-mod Targets
+pub mod Targets
 mod Visits
-mod Safe
+pub mod Safe
+mod Agreement
+mod Justified
+pub mod Choices
+pub mod Positions
+mod Pushes
+mod Building
+pub mod Following
+pub mod Underway

@@ -11,28 +11,31 @@ use Rattle.scx_semantics.specs.Effects.{Effect}
 use Rattle.scx_semantics.specs.Meaning.{act}
 use Rattle.scx_semantics.specs.Steps.{Stuck, Goes, located, goes, step, target}
 use Rattle.scx_semantics.specs.Runs.{LeadsTo, Leads, any_answer}
+use Rattle.scx_isa.specs.Spelling.{IsProgram}
+use Rattle.scx_isa.specs.Flow.{Flows}
+use Rattle.scx_isa.proofs.Codes.{place_fits}
 use Rattle.scx_isa.proofs.Control.{keeps_control}
 use Rattle.scx_maps.specs.declared.shape.Shape.{Shape}
 use Rattle.scx_maps.specs.Contents.{HasShapes}
 use Rattle.scx_abs.specs.declared.states.AbsState.{AbsState}
 use Rattle.scx_abs.specs.declared.rules.Next.{Next}
-use Rattle.scx_abs.specs.States.{start_of}
+use Rattle.scx_abs.specs.States.{CoversSome, start_of}
 use Rattle.scx_abs.specs.Arguments.{FitsCallback}
 use Rattle.scx_abs.specs.Stands.{IsMember}
 use Rattle.scx_abs.specs.Rules.{rule}
 use Rattle.scx_abs.specs.Laws.{Receives, FlowsIn}
 use Rattle.scx_abs.proofs.Orders.{covers_more}
 use Rattle.scx_abs.proofs.Sound.{rules_sound, start_sound}
-use Rattle.scx_verify.specs.Typing.{States, CoversSome, CoversAt, CoversNext, IsTyping, IsTyped}
+use Rattle.scx_verify.specs.Typing.{States, CoversAt, CoversNext, IsTyping, IsTyped}
 use Rattle.scx_verify.specs.Laws.{TypedIsSafe}
 
 -- the slot's abstract state stands for the state
-record IsAt (shapes : List Shape) (states : States) (s : ℕ) (m : Machine) : Type 0 where
-  state : AbsState
-  here : states s ≡ Some state
-  member : IsMember shapes state m
+pub record IsAt (shapes : List Shape) (states : States) (s : ℕ) (m : Machine) : Type 0 where
+  pub state : AbsState
+  pub here : states s ≡ Some state
+  pub member : IsMember shapes state m
 
-covered_at : (shapes : List Shape) (states : States) (t : ℕ) (a : AbsState) (m : Machine) → CoversSome (states t) a → IsMember shapes a m → IsAt shapes states t m
+pub covered_at : (shapes : List Shape) (states : States) (t : ℕ) (a : AbsState) (m : Machine) → CoversSome (states t) a → IsMember shapes a m → IsAt shapes states t m
 covered_at shapes states t a m h g = go (states t) refl h
   where
     go : (o : Option AbsState) → states t ≡ o → CoversSome o a → IsAt shapes states t m
@@ -78,7 +81,7 @@ effect_at shapes states s t i next (effect.Ended n) k c f l = absurd l
 goes_stuck : (t : ℕ) (m : Machine) → Goes t m ≡ Stuck → ⊥
 goes_stuck t m e = absurd (cc)
 
-effect_goes : (shapes : List Shape) (states : States) (s : ℕ) (i : Insn) (next : Next) (e : Effect) → CoversNext states s i next → FlowsIn shapes next e → located s i e ≡ Stuck → ⊥
+pub effect_goes : (shapes : List Shape) (states : States) (s : ℕ) (i : Insn) (next : Next) (e : Effect) → CoversNext states s i next → FlowsIn shapes next e → located s i e ≡ Stuck → ⊥
 effect_goes shapes states s i next effect.Stuck c f h = f
 effect_goes shapes states s i next (effect.Next m) c f h = goes_stuck (s + size i) m h
 effect_goes shapes states s i next (effect.Jumped m) c f h =
@@ -88,39 +91,45 @@ effect_goes shapes states s i next (effect.Ask q go) c f h = absurd (cc)
 effect_goes shapes states s i next (effect.Ended n) c f h = absurd (cc)
 
 -- the instruction there passes its checks, and what it does flows on
-flows_in : (c : Context) (i : Insn) (a : AbsState) (m : Machine) (next : Next) → IsMember c.defs a m → rule c.defs c.callback i a ≡ Ok next → FlowsIn c.defs next (act c.callback i m)
-flows_in c i a m next h e = rw e at (rules_sound c.defs c.callback i a m h)
+pub flows_in : (c : Context) (code : Code) (s : ℕ) (i : Insn) (a : AbsState) (m : Machine) (next : Next) → IsProgram code → at code s ≡ Some i → IsMember c.defs a m → rule c.defs c.callback i a ≡ Ok next
+    → FlowsIn c.defs next (act c.callback i m)
+flows_in c code s i a m next program there h e = rw e at (rules_sound c.defs c.callback i a m (place_fits false code s program.insns i there) h)
 
-step_at : (c : Context) (code : Code) (states : States) (s t : ℕ) (m k : Machine) → IsTyping c code states → IsAt c.defs states s m → LeadsTo any_answer (step c.callback code s m) tt t k tt → IsAt c.defs states t k
-step_at c code states s t m k typing here l = go (at code s) refl
+pub step_at : (c : Context) (code : Code) (states : States) (s t : ℕ) (m k : Machine) → IsProgram code → IsTyping c code states → IsAt c.defs states s m → LeadsTo any_answer (step c.callback code s m) tt t k tt → IsAt c.defs states t k
+step_at c code states s t m k program typing here l = go (at code s) refl
   where
     go : (o : Option Insn) → at code s ≡ o → IsAt c.defs states t k
     go None e = absurd (rw e at l)
     go (Some i) e =
         let passes = typing.insns s i here.state e here.here in
-        effect_at c.defs states s t i passes.next (act c.callback i m) k passes.covered (flows_in c i here.state m passes.next here.member passes.passes) (rw e at l)
+        effect_at c.defs states s t i passes.next (act c.callback i m) k passes.covered (flows_in c code s i here.state m passes.next program e here.member passes.passes) (rw e at l)
 
-steps_at : (c : Context) (code : Code) (states : States) (n s t : ℕ) (m k : Machine) → IsTyping c code states → IsAt c.defs states s m → Leads any_answer c.callback code n s m tt t k tt → IsAt c.defs states t k
-steps_at c code states zero s t m k typing here l = rw (l.0, l.1) here
-steps_at c code states (suc n) s t m k typing here l = steps_at c code states n l.0 t l.1 k typing (step_at c code states s l.0 m l.1 typing here l.3) l.4
+steps_at : (c : Context) (code : Code) (states : States) (n s t : ℕ) (m k : Machine) → IsProgram code → IsTyping c code states → IsAt c.defs states s m → Leads any_answer c.callback code n s m tt t k tt → IsAt c.defs states t k
+steps_at c code states zero s t m k program typing here l = rw (l.0, l.1) here
+steps_at c code states (suc n) s t m k program typing here l = steps_at c code states n l.0 t l.1 k program typing (step_at c code states s l.0 m l.1 program typing here l.3) l.4
 
-goes_on : (c : Context) (code : Code) (states : States) (s : ℕ) (m : Machine) → IsTyping c code states → IsAt c.defs states s m → IsSome (at code s) → step c.callback code s m ≡ Stuck → ⊥
-goes_on c code states s m typing here some stuck = go (at code s) refl
+goes_on : (c : Context) (code : Code) (states : States) (s : ℕ) (m : Machine) → IsProgram code → IsTyping c code states → IsAt c.defs states s m → IsSome (at code s) → step c.callback code s m ≡ Stuck → ⊥
+goes_on c code states s m program typing here some stuck = go (at code s) refl
   where
     go : (o : Option Insn) → at code s ≡ o → ⊥
     go None e = let bad : false ≡ true = rw e at some in absurd (cc)
     go (Some i) e =
         let passes = typing.insns s i here.state e here.here in
-        effect_goes c.defs states s i passes.next (act c.callback i m) passes.covered (flows_in c i here.state m passes.next here.member passes.passes) (rw e at stuck)
+        effect_goes c.defs states s i passes.next (act c.callback i m) passes.covered (flows_in c code s i here.state m passes.next program e here.member passes.passes) (rw e at stuck)
 
 -- wherever a run stands
-reached : (c : Context) (code : Code) (typed : IsTyped c code) (a : Arguments) (maps : Maps) (n s : ℕ) (m : Machine) → HasShapes c.defs maps → FitsCallback c.callback a → Leads any_answer c.callback code n 0 (start a maps) tt s m tt → IsAt c.defs typed.states s m
-reached c code typed a maps n s m shaped fits l =
+reached : (c : Context) (code : Code) (program : IsProgram code) (typed : IsTyped c code) (a : Arguments) (maps : Maps) (n s : ℕ) (m : Machine) → HasShapes c.defs maps → FitsCallback c.callback a
+    → Leads any_answer c.callback code n 0 (start a maps) tt s m tt → IsAt c.defs typed.states s m
+reached c code program typed a maps n s m shaped fits l =
     let first = covered_at c.defs typed.states 0 (start_of c.callback) (start a maps) typed.typing.start (start_sound c.defs c.callback a maps shaped fits) in
-    steps_at c code typed.states n 0 s (start a maps) m typed.typing first l
+    steps_at c code typed.states n 0 s (start a maps) m program typed.typing first l
+
+abbrev pub typed_by : (c : Context) (code : Code) (states : States) → Flows code → IsTyping c code states → IsTyped c code
+typed_by c code states flows typing = record { flows = flows; states = states; typing = typing }
 
 pub typed_safe : TypedIsSafe
 typed_safe c code program typed = record {
-  never_stuck = λ a maps shaped fits n s m l. goes_on c code typed.states s m typed.typing (reached c code typed a maps n s m shaped fits l) ((keeps_control code program typed.flows c.callback (start a maps) n s m l).0);
+  never_stuck = λ a maps shaped fits n s m l. goes_on c code typed.states s m program typed.typing (reached c code program typed a maps n s m shaped fits l) ((keeps_control code program typed.flows c.callback (start a maps) n s m l).0);
   bounded = λ a maps shaped fits n s m l. (keeps_control code program typed.flows c.callback (start a maps) n s m l).1;
+  keeps_shapes = λ a maps shaped fits n s m l. (reached c code program typed a maps n s m shaped fits l).member.maps;
 }

@@ -1,5 +1,5 @@
 -- The pass, slot by slot: what is kept stays least, and in the end it is a typing.
-use Rattle.std.proofs.Common.{◌≡◌, ℕ, zero, suc, ◌+◌, ◌<◌, ◌≤◌, ◌⊎◌, inl, inr, List, length, set, replicate, slice_index_or, Option, Some, None, OnSome, Result, Ok, Err, refl, sym, ap, ◌∙◌, subst, arith}
+use Rattle.std.proofs.Common.{◌≡◌, ℕ, zero, suc, ◌+◌, ◌<◌, ◌≤◌, ◌⊎◌, inl, inr, List, length, set, replicate, slice_index_or, Option, Some, None, OnSome, Result, Ok, Err, IfOk, refl, sym, ap, ◌∙◌, subst, arith}
 use Rattle.std.proofs.lemmas.Bool.{cases_eq}
 use Rattle.std.proofs.lemmas.List.{length-set, length-replicate, get_or-set_same, get_or-set_other, get_or_read}
 use Rattle.scx_semantics.specs.declared.instructions.Insn.{Insn}
@@ -12,10 +12,12 @@ use Rattle.scx_isa.proofs.Counts.{at_within, size-positive}
 use Rattle.scx_abs.specs.declared.faults.Why.{Why}
 use Rattle.scx_abs.specs.declared.states.AbsState.{AbsState}
 use Rattle.scx_abs.specs.declared.rules.Next.{Next}
-use Rattle.scx_abs.specs.States.{CoversState, start_of}
+use Rattle.scx_abs.specs.States.{CoversState, CoversSome, IsProper, start_of}
 use Rattle.scx_abs.specs.Rules.{rule}
+use Rattle.scx_abs.specs.Laws.{FlowsProper}
 use Rattle.scx_abs.proofs.Orders.{covers_itself}
-use Rattle.scx_verify.specs.Typing.{States, CoversSome, Passes, IsTyped}
+use Rattle.scx_abs.proofs.Proper.{start_proper, rule_proper}
+use Rattle.scx_verify.specs.Typing.{States, Passes, IsTyping}
 use Rattle.scx_verify.specs.Forward.{IsSent, FlowsTo, Arrives, IsLeast, PassesBefore, IsFirstRefusal}
 use Rattle.scx_verify.specs.Pass.{states_of, IsVisited, IsGiven}
 use Rattle.scx_verify.proofs.Least.{least_same, given_least, given_apart, given_long}
@@ -46,6 +48,7 @@ blank (suc n) (suc t) = blank n t
 first_least : (c : Context) (code : Code) (states : States) (t : ℕ) → (t ≡ 0) ⊎ (t ≡ 0 → ⊥) → (t ≡ 0 → states t ≡ Some (start_of c.callback)) → ((t ≡ 0 → ⊥) → states t ≡ None)
     → IsLeast (states t) (Arrives c code states 0 t)
 first_least c code states t (inl e) some none = subst (λ o. IsLeast o (Arrives c code states 0 t)) (sym (some e)) (record {
+  proper = start_proper c.callback;
   covers = covers;
   least = λ y h. h (start_of c.callback) (inl (e, refl));
   some = (start_of c.callback, inl (e, refl));
@@ -137,7 +140,7 @@ flows_sent c code states s v t i a b next sends e f =
     sent_same s v t i f.insn next f.next b e insn out f.sent
 
 -- the same instruction in states that are the same there
-flows_same : (c : Context) (code : Code) (states other : States) (v t : ℕ) (a : AbsState) → other v ≡ states v → FlowsTo c code states v t a → FlowsTo c code other v t a
+pub flows_same : (c : Context) (code : Code) (states other : States) (v t : ℕ) (a : AbsState) → other v ≡ states v → FlowsTo c code states v t a → FlowsTo c code other v t a
 flows_same c code states other v t a e f = record { insn = f.insn; state = f.state; next = f.next; there = f.there; here = e ∙ f.here; passes = f.passes; sent = f.sent }
 
 -- what arrives once both are sent
@@ -169,6 +172,14 @@ module _ (c : Context) (code : Code) (states other : States) (s : ℕ) (i : Insn
           let old = flows_same c code other states h.0 u b (sym (same h.0 (omega (arith, h.1)))) h.2 in
           inl (inl (inr (h.0, omega (arith, h.1, n), old)))
 
+-- what is kept for a slot is proper, and so is what flows on from there
+pub kept_proper : (o : Option AbsState) (a : AbsState) (P : AbsState → Type 0) → o ≡ Some a → IsLeast o P → IsProper a
+kept_proper None a P e h = absurd (cc)
+kept_proper (Some x) a P e h = subst IsProper (same_state x a e) h.proper
+
+sent_proper : (c : Context) (i : Insn) (a : AbsState) (next : Next) → IsProper a → rule c.defs c.callback i a ≡ Ok next → FlowsProper next
+sent_proper c i a next p e = subst (λ (r : Result Next Why). IfOk r FlowsProper) e (rule_proper c.defs c.callback i a p)
+
 pub visited_more : (c : Context) (code : Code) (s : ℕ) (states between after : List (Option AbsState)) (i : Insn) (a : AbsState) (next : Next) (to : ℕ)
     → IsProgram code → Flows code → IsVisited c code s states → at code s ≡ Some i → states_of states s ≡ Some a → rule c.defs c.callback i a ≡ Ok next → target s i ≡ Some to
     → IsGiven states (s + size i) next.on between → IsGiven between to next.jump after → IsVisited c code (s + 1) after
@@ -179,11 +190,12 @@ visited_more c code s states between after i a next to program flow h there here
     let positive = size-positive i in
     let long : length between ≡ length states = given_long states (s + size i) next.on between on in
     let same : (v : ℕ) → v ≤ s → states_of after v ≡ states_of states v = λ v le. given_apart between to next.jump after jump v (λ e. omega (arith, e, le, forward)) ∙ given_apart states (s + size i) next.on between on v (λ e. omega (arith, e, le, positive)) in
+    let proper : FlowsProper next = sent_proper c i a next (kept_proper (states_of states s) a (Arrives c code (states_of states) s s) here (h.least s)) passes in
     let sends : Sends c code (states_of states) s i a next = record { there = there; here = here; passes = passes } in
     let first = given_least states (s + size i) next.on between (λ u b. Arrives c code (states_of states) s u b)
-    (λ b e. omega (arith, on_within c code s i a b next program faultless there passes e, h.long)) h.least on in
+    (λ b e. omega (arith, on_within c code s i a b next program faultless there passes e, h.long)) proper.0 h.least on in
     let second = given_least between to next.jump after (λ u b. Arrives c code (states_of states) s u b ⊎ ((next.on ≡ Some b) × (u ≡ s + size i)))
-    (λ b e. omega (arith, jump_within c code s to i a b next program faultless there passes e is, h.long, long)) first jump in
+    (λ b e. omega (arith, jump_within c code s to i a b next program faultless there passes e is, h.long, long)) proper.1 first jump in
     record {
       long = given_long between to next.jump after jump ∙ long ∙ h.long;
       least = λ u. least_same (states_of after u) (Sent c code (states_of states) s i next to u) (Arrives c code (states_of after) (s + 1) u)
@@ -239,14 +251,10 @@ least_covers : (o : Option AbsState) (P : AbsState → Type 0) (a : AbsState) �
 least_covers None P a h p = absurd (h a p)
 least_covers (Some x) P a h p = h.covers a p
 
-pub visited_all : (c : Context) (code : Code) (n : ℕ) (states : List (Option AbsState)) → Flows code → length code ≤ n → IsVisited c code n states → IsTyped c code
-visited_all c code n states flow all h = record {
-  flows = flow;
-  states = states_of states;
-  typing = record {
-    start = least_covers (states_of states 0) (Arrives c code (states_of states) n 0) (start_of c.callback) (h.least 0) (inl (refl, refl));
-    insns = λ s i a there here. passes s i a there here;
-  };
+pub visited_typing : (c : Context) (code : Code) (n : ℕ) (states : List (Option AbsState)) → Flows code → length code ≤ n → IsVisited c code n states → IsTyping c code (states_of states)
+visited_typing c code n states flow all h = record {
+  start = least_covers (states_of states 0) (Arrives c code (states_of states) n 0) (start_of c.callback) (h.least 0) (inl (refl, refl));
+  insns = λ s i a there here. passes s i a there here;
 }
   where
     covered : (s t : ℕ) (i : Insn) (a b : AbsState) (next : Next) → at code s ≡ Some i → states_of states s ≡ Some a → rule c.defs c.callback i a ≡ Ok next → IsSent s i next t b → CoversSome (states_of states t) b

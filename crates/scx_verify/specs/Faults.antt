@@ -1,6 +1,7 @@
 -- What a refusal says of a program, and the numbers and names of refusals: those of its flow, 1 to 4,
--- then those of the checks, 5 to 19, then want of memory, which says nothing of it.
-use Rattle.std.specs.Prelude.{ℕ, List, codes, ⊤}
+-- then those of the checks, 5 to 19, then want of memory, which says nothing of it but that its flow
+-- has no fault, since memory is only asked for then.
+use Rattle.std.specs.Prelude.{◌≡◌, ◌≢◌, ℕ, List, codes}
 use Rattle.scx_abs.specs.declared.rules.Context.{Context}
 use Rattle.scx_semantics.specs.Code.{Code}
 use Rattle.scx_isa.specs.Faults.{flow_number, flow_name}
@@ -9,6 +10,7 @@ use Rattle.scx_abs.specs.Faults.{why_number, why_name}
 use Rattle.scx_verify.specs.declared.faults.Fault.{Fault}
 use Rattle.scx_verify.specs.declared.faults.Fault.TheVariants.{Flow, Rule, NoMemory}
 use Rattle.scx_verify.specs.declared.faults.VerifyError.{VerifyError}
+use Rattle.scx_verify.specs.Typing.{IsTyped}
 use Rattle.scx_verify.specs.Forward.{IsFirstRefusal}
 
 abbrev pub fault_number : Fault → ℕ
@@ -24,7 +26,11 @@ fault_name NoMemory = codes "NoMemory"
 abbrev pub IsReason : Context → Code → Fault → ℕ → Type 0
 IsReason c code (Flow fault) slot = IsFirstFlowFault code fault slot
 IsReason c code (Rule why) slot = Flows code × IsFirstRefusal c code why slot
-IsReason c code NoMemory slot = ⊤
+IsReason c code NoMemory slot = Flows code × (slot ≡ 0)
 
 abbrev pub IsRefusal : Context → Code → VerifyError → Type 0
 IsRefusal c code error = IsReason c code error.fault error.slot
+
+-- what is refused for another cause than memory has no typing
+abbrev pub IsJustified : Context → Code → VerifyError → Type 0
+IsJustified c code error = error.fault ≢ NoMemory → IsTyped c code → ⊥

@@ -1,7 +1,7 @@
--- The forward states of a program whose jumps go forward: that of a slot is the least abstract state
--- that covers all that flows to it from the slots before it, and none where nothing does. To the first
--- slot flows the state in which the callback begins. They are defined up to the first instruction at
--- which a check fails, which is the one that is refused.
+-- The forward states of a program whose jumps go forward: that of a slot is the least abstract state, a
+-- proper one, that covers all that flows to it from the slots before it, and none where nothing does.
+-- To the first slot flows the state in which the callback begins. They are defined up to the first
+-- instruction at which a check fails, which is the one that is refused.
 use Rattle.std.specs.Prelude.{ℕ, ◌+◌, ◌<◌, ◌≤◌, ◌≡◌, ◌⊎◌, Option, Some, None, Ok, Err}
 use Rattle.scx_semantics.specs.declared.instructions.Insn.{Insn}
 use Rattle.scx_abs.specs.declared.rules.Context.{Context}
@@ -10,7 +10,7 @@ use Rattle.scx_semantics.specs.Steps.{target}
 use Rattle.scx_abs.specs.declared.faults.Why.{Why}
 use Rattle.scx_abs.specs.declared.states.AbsState.{AbsState}
 use Rattle.scx_abs.specs.declared.rules.Next.{Next}
-use Rattle.scx_abs.specs.States.{CoversState, start_of}
+use Rattle.scx_abs.specs.States.{CoversState, IsProper, start_of}
 use Rattle.scx_abs.specs.Rules.{rule}
 use Rattle.scx_verify.specs.Typing.{States}
 
@@ -32,8 +32,10 @@ pub record FlowsTo (c : Context) (code : Code) (states : States) (s t : ℕ) (a 
 abbrev pub Arrives : Context → Code → States → ℕ → ℕ → AbsState → Type 0
 Arrives c code states n t a = ((t ≡ 0) × (a ≡ start_of c.callback)) ⊎ ((s : ℕ) × (s < n) × FlowsTo c code states s t a)
 
--- the least state that covers all of these, of which there are some
+-- The least state that covers all of these, of which there are some. It is proper, and so there is no
+-- second one; it is the least of all states, proper or not.
 pub record IsLeastOf (x : AbsState) (P : AbsState → Type 0) : Type 0 where
+  pub proper : IsProper x
   pub covers : (a : AbsState) → P a → CoversState x a
   pub least : (y : AbsState) → ((a : AbsState) → P a → CoversState y a) → CoversState y x
   pub some : (a : AbsState) × P a
@@ -48,11 +50,15 @@ abbrev pub PassesBefore : Context → Code → States → ℕ → Type 0
 PassesBefore c code states n =
     (s : ℕ) (i : Insn) (a : AbsState) → s < n → at code s ≡ Some i → states s ≡ Some a → (next : Next) × (rule c.defs c.callback i a ≡ Ok next)
 
+-- these are the forward states up to that slot
+abbrev pub AreForward : Context → Code → States → ℕ → Type 0
+AreForward c code states slot = (t : ℕ) → t ≤ slot → IsLeast (states t) (Arrives c code states t t)
+
 -- The instruction at the slot is the first whose forward state fails a check, and the first check that
 -- it fails gives that refusal.
 pub record IsFirstRefusal (c : Context) (code : Code) (why : Why) (slot : ℕ) : Type 0 where
   pub states : States
-  pub forward : (t : ℕ) → t ≤ slot → IsLeast (states t) (Arrives c code states t t)
+  pub forward : AreForward c code states slot
   pub earlier : PassesBefore c code states slot
   pub insn : Insn
   pub state : AbsState

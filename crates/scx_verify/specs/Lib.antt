@@ -3,4 +3,6 @@ pub mod Forward
 pub mod Safe
 pub mod Faults
 pub mod Pass
+pub mod Translation
+pub mod Operations
 pub mod Laws

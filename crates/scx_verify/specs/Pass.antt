@@ -4,7 +4,8 @@ use Rattle.std.specs.Prelude.{ℕ, ◌≡◌, List, length, set, slice_index_or,
 use Rattle.scx_abs.specs.declared.rules.Context.{Context}
 use Rattle.scx_semantics.specs.Code.{Code}
 use Rattle.scx_abs.specs.declared.states.AbsState.{AbsState}
-use Rattle.scx_abs.specs.States.{IsLeastCover}
+use Rattle.scx_abs.specs.Kinds.{IsLeastCover}
+use Rattle.scx_abs.specs.States.{CoversState, IsProper}
 use Rattle.scx_verify.specs.Typing.{States}
 use Rattle.scx_verify.specs.Forward.{Arrives, IsLeast, PassesBefore}
 
@@ -21,7 +22,7 @@ pub record IsVisited (c : Context) (code : Code) (n : ℕ) (states : List (Optio
 -- what is kept where a state comes to another one, or to none
 abbrev pub IsMerged : Option AbsState → AbsState → AbsState → Type 0
 IsMerged None a x = x ≡ a
-IsMerged (Some b) a x = IsLeastCover x b a
+IsMerged (Some b) a x = IsLeastCover CoversState x b a × (IsProper b → IsProper a → IsProper x)
 
 -- a state, if there is one, came to the slot
 abbrev pub IsGiven : List (Option AbsState) → ℕ → Option AbsState → List (Option AbsState) → Type 0

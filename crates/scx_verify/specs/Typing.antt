@@ -11,18 +11,13 @@ use Rattle.scx_semantics.specs.Steps.{target}
 use Rattle.scx_isa.specs.Flow.{Flows}
 use Rattle.scx_abs.specs.declared.states.AbsState.{AbsState}
 use Rattle.scx_abs.specs.declared.rules.Next.{Next}
-use Rattle.scx_abs.specs.States.{CoversState, start_of}
+use Rattle.scx_abs.specs.States.{CoversSome, start_of}
 use Rattle.scx_abs.specs.Rules.{rule}
 
 abbrev pub States : Type 0
 States = ℕ → Option AbsState
 
--- there is a state, and it covers that one
-abbrev pub CoversSome : Option AbsState → AbsState → Type 0
-CoversSome None a = ⊥
-CoversSome (Some b) a = CoversState b a
-
--- the same at a slot, if there is one
+-- there is a slot, it has a state, and that covers the other one
 abbrev pub CoversAt : States → Option ℕ → AbsState → Type 0
 CoversAt states None a = ⊥
 CoversAt states (Some t) a = CoversSome (states t) a

@@ -9,9 +9,8 @@ mod faults;
 mod laws;
 mod pass;
 mod programs;
-#[cfg(test)]
-mod tests;
+mod translate;
 
 pub use faults::{Fault, VerifyError};
-pub use laws::typed_is_safe;
+pub use laws::{refusals_agree, refusals_are_justified, typed_is_safe, typing_chooses};
 pub use programs::{Verified, verify};

@@ -1,14 +1,18 @@
-ghost use Rattle.std.specs.Prelude.{◌≡◌, IfOk, OnOk, IfErr};
+ghost use Rattle.std.specs.Prelude.{◌≡◌, ◌≤◌, IfOk, OnOk, IfErr};
 ghost use Rattle.scx_semantics.specs.Code.{instruction_count};
 ghost use Rattle.scx_verify.specs.Typing.{IsTyped, context};
 ghost use Rattle.scx_verify.specs.Safe.{IsSafe};
-ghost use Rattle.scx_verify.specs.Faults.{IsRefusal};
+ghost use Rattle.scx_maps.specs.Limits.{AreWithinLimits};
+ghost use Rattle.scx_verify.specs.Operations.{IsReady};
+ghost use Rattle.scx_verify.specs.Faults.{IsRefusal, IsJustified};
 
 use crate::faults::VerifyError;
 use crate::pass::pass;
+use crate::translate::translate;
 use scx_abs::Context;
-use scx_isa::{Callback, Program, flow};
+use scx_isa::{Callback, MAX_SLOTS, Program, flow};
 use scx_maps::MapDefs;
+use scx_plain::Op;
 use std::alloc::Global;
 use std::marker::Model;
 
@@ -16,21 +20,23 @@ use std::marker::Model;
 /// those shapes.
 ///
 /// In a contract it is the list of the program's slots, the callback and the shapes.
-#[derive(Debug, Drop)]
+#[derive(Drop)]
 pub struct Verified {
+    ops: Vec<Op>,
     program: Program,
     context: Context,
 }
 
 impl Model for Verified {
-    ghost use Rattle.scx_verify.specs.Typing.{IsTyped, VerifiedProgram};
+    ghost use Rattle.scx_verify.specs.Typing.{VerifiedProgram};
+    ghost use Rattle.scx_verify.specs.Operations.{IsReady};
     ghost use Rattle.scx_verify.specs.Safe.{IsSafe};
 
     ghost Value = { VerifiedProgram };
 
     ghost view = { λ v. record { code = v.program; context = v.context } };
 
-    ghost invariant = { λ v. IsTyped v.context v.program × IsSafe v.context v.program };
+    ghost invariant = { λ v. IsReady v.context v.program v.ops.items × IsSafe v.context v.program };
 }
 
 impl Verified {
@@ -50,9 +56,20 @@ impl Verified {
 
     /// How many instructions it has, which is as many steps as a run of it takes at most.
     pub fn instructions(&self) -> usize
-        ensures { result ≡ instruction_count self.now.code }
+        ensures count { result ≡ instruction_count self.now.code }
+        ensures most { result ≤ MAX_SLOTS }
     {
         self.program.instructions()
+    }
+
+    /// Its operations, one for each instruction.
+    pub fn code(&self) -> &[Op]
+        ensures ready { IsReady self.now.context self.now.code result.now }
+        ensures safe { IsSafe self.now.context self.now.code }
+        ensures limits { AreWithinLimits self.now.context.defs }
+    {
+        let _count = self.context.defs.count();
+        &self.ops
     }
 
     /// The program itself.
@@ -84,12 +101,19 @@ pub fn verify(
     ensures safe { OnOk result (IsSafe (context callback defs.now) program) }
     // What is refused has that fault first, at that slot.
     ensures refused { IfErr result (IsRefusal (context callback defs.now) program) }
+    // And it has no typing, unless memory ran out.
+    ensures justified { IfErr result (IsJustified (context callback defs.now) program) }
 {
     let context = Context {
         callback,
         defs: *defs,
     };
     flow(&program)?;
-    pass(alloc, &program, &context)?;
-    Ok(Verified { program, context })
+    let states = pass(alloc, &program, &context)?;
+    let ops = translate(alloc, &program, &context, &states)?;
+    Ok(Verified {
+        ops,
+        program,
+        context,
+    })
 }

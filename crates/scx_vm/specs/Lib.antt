@@ -5,4 +5,5 @@ pub mod Host
 pub mod Places
 pub mod Execute
 pub mod Run
+pub mod Outcome
 pub mod Alone

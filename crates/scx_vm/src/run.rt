@@ -2,10 +2,12 @@ ghost use Rattle.std.specs.Prelude.{◌≡◌, ◌+◌, ◌≤◌, length};
 ghost use Rattle.scx_isa.specs.Flow.{Flows};
 ghost use Rattle.scx_maps.specs.Contents.{lengths_of};
 ghost use Rattle.scx_semantics.specs.Code.{instruction_count, instructions_from};
+ghost use Rattle.scx_semantics.specs.Endings.{run_of};
 ghost use Rattle.scx_semantics.specs.Runs.{Runs};
 ghost use Rattle.scx_semantics.specs.Steps.{step};
 ghost use Rattle.scx_vm.specs.Arguments.{given};
-ghost use Rattle.scx_vm.specs.Host.{host};
+ghost use Rattle.scx_vm.specs.Host.{host, answer_to, after_query};
+ghost use Rattle.scx_vm.specs.Outcome.{answer_of};
 ghost use Rattle.scx_vm.specs.Run.{StepsTo, LeadsNearer, IfDone, IfStuck, GetsStuckAt};
 ghost use Rattle.scx_vm.specs.State.{seen};
 
@@ -55,6 +57,28 @@ enum Outcome {
 ///
 /// Its jumps go forward, so it does each instruction at most once.
 pub fn try_run<E: Env>(
+    program: &Program,
+    callback: Callback,
+    arguments: Arguments,
+    maps: &mut Maps,
+    env: &mut E,
+) -> Ran
+    requires flows { Flows program.now }
+    requires room { instruction_count program.now ≤ E.room env.old }
+    ensures done { IfDone result (λ done. Runs (host E.answer E.after_call E.number E.after_store) callback program.now (given arguments) maps.old env.old done.r0 done.steps maps.new env.new) }
+    ensures in_bound { IfDone result (λ done. done.steps ≤ instruction_count program.now) }
+    ensures stuck { IfStuck result (λ slot. GetsStuckAt (host E.answer E.after_call E.number E.after_store) callback program.now (given arguments) maps.old env.old slot maps.new env.new) }
+    ensures exact { record { answer = answer_of result; maps = maps.new; outside = env.new }
+        ≡ run_of (answer_to E.answer E.number) (after_query E.after_call E.after_store) callback program.now (given arguments) maps.old env.old }
+    ensures shapes { lengths_of maps.new ≡ lengths_of maps.old }
+    ensures room { E.room env.old ≤ E.room env.new + instruction_count program.now }
+    ensures spent { E.spent env.new ≤ E.spent env.old + instruction_count program.now }
+{
+    walk(program, callback, arguments, maps, env)
+}
+
+/// Does its steps, one after another.
+fn walk<E: Env>(
     program: &Program,
     callback: Callback,
     arguments: Arguments,

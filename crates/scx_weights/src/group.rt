@@ -14,7 +14,7 @@ pub const MAX_DEPTH: usize = 3;
 pub const MAX_WEIGHT: u32 = 10_000;
 
 /// A group of tasks, or of groups.
-#[derive(Clone, Copy, Debug, PartialEq, Eq)]
+#[derive(Clone, Copy)]
 pub struct Group {
     /// The number of its parent in the list of groups; none at the top.
     pub parent: Option<u32>,

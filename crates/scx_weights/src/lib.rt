@@ -18,6 +18,3 @@ pub use error::TreeError;
 pub use group::{Group, MAX_DEPTH, MAX_GROUPS, MAX_TASKS, MAX_WEIGHT};
 pub use laws::ways_reach_top;
 pub use tree::Tree;
-
-#[cfg(test)]
-mod tests;

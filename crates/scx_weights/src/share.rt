@@ -12,7 +12,7 @@ use crate::sums::Sums;
 const SCALE: u128 = 10_000;
 
 /// A part of a whole.
-#[derive(Clone, Copy, Debug)]
+#[derive(Clone, Copy)]
 struct Share {
     part: u128,
     whole: u128,

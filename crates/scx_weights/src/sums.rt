@@ -8,7 +8,7 @@ use crate::group::{Group, MAX_DEPTH, parent_of};
 use std::alloc::{AllocError, Global};
 
 /// Sums over the active tasks and groups of a tree.
-#[derive(Debug, Drop)]
+#[derive(Drop)]
 pub(crate) struct Sums {
     /// For each group how many tasks in it or below it are active.
     tasks: Vec<u32>,

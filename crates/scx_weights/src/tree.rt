@@ -12,7 +12,7 @@ use std::marker::Model;
 ///
 /// Groups and tasks go by their places in the lists that the tree was made of. In a contract a tree is
 /// those two lists and whether each task is active.
-#[derive(Debug, Drop)]
+#[derive(Drop)]
 pub struct Tree {
     groups: Vec<Group>,
     homes: Vec<u32>,
@@ -71,6 +71,7 @@ impl Tree {
     /// How many tasks there are, 1 to 1024.
     pub fn tasks(&self) -> u32
         ensures tasks { result ≡ length self.now.homes }
+        ensures flags { length self.now.active ≡ length self.now.homes }
         ensures some { 0 < result }
         ensures few { result ≤ MAX_TASKS }
     {

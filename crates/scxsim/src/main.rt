@@ -1,43 +1,22 @@
 //! The program `scxsim`, which runs, assembles and disassembles BPF programs. Its words are read by
-//! `words`, a command's work is in a file of its name, as `exec`, and what ends a command is in
-//! `finish`.
+//! `scx_words`; what the commands do stands in `scx_commands`, whose calls are passed on here.
 #![tactic(auto)]
 
 ghost use Rattle.std.specs.Prelude.{◌≡◌, ◌⊎◌};
 ghost use Rattle.std.specs.Io.KnownBytes.{Appends};
-ghost use Rattle.scxsim.specs.Output.{HasFailed};
-
-mod asm;
-mod counted;
-mod dis;
-mod exec;
-mod fault;
-mod file;
-mod finish;
-mod lines;
-mod out;
-#[cfg(test)]
-mod program_tests;
-mod status;
-#[cfg(test)]
-mod tests;
-mod text;
-#[cfg(test)]
-mod text_tests;
-mod words;
+ghost use Rattle.scx_commands.specs.Output.{HasFailed};
 
 use clap::error::ErrorKind as WordsErrorKind;
-use counted::Counted;
-use fault::{Fault, Refusal};
-use file::read_file;
-use out::{Out, write_all};
-use status::{FAILED, USAGE};
+pub use scx_commands::{Counted, Failed, Fault, Out, Refusal, asm, dis, exec, finish, text};
+use scx_commands::{
+    FAILED, USAGE, hint_of_slots, hint_of_text, read_file, write_all, write_unread,
+};
+use scx_words::{Request, Work, read_words};
 use std::alloc::Global;
 use std::io::ErrorKind;
 use std::process::ExitCode;
 use std::rt::{Env, Files};
 use std::{env, io};
-use words::{Request, Work};
 
 const NO_MEMORY: Result<bool, Fault> = Err(Fault::Refused(Refusal::NoMemory));
 
@@ -47,10 +26,10 @@ fn main(rt: HostRuntime) -> ExitCode {
 }
 
 /// Does what the process's words ask for, and answers its status.
-fn run<R: AllocGlobal + Env + Files, W: Out>(rt: &R, out: &mut W) -> u8 {
+fn run<R: AllocGlobal + Env + Files + Eprint, W: Out>(rt: &R, out: &mut W) -> u8 {
     match words_of(rt) {
         Ok(words) => run_words(rt, words.as_slice(), out),
-        Err(error) if error.kind() == ErrorKind::OutOfMemory => finish::finish(NO_MEMORY, out),
+        Err(error) if error.kind() == ErrorKind::OutOfMemory => finish(NO_MEMORY, out),
         Err(_) => write_usage("error: a word is not UTF-8\n", out),
     }
 }
@@ -59,25 +38,33 @@ fn words_of<R: AllocGlobal + Env>(rt: &R) -> io::Result<Vec<String>> {
     Ok(env::args(rt)?.collect(rt.alloc())?)
 }
 
-fn run_words<R: AllocGlobal + Files, W: Out>(rt: &R, words: &[String], out: &mut W) -> u8 {
-    match words::read_words(rt.alloc(), words) {
+fn run_words<R: AllocGlobal + Files + Eprint, W: Out>(rt: &R, words: &[String], out: &mut W) -> u8 {
+    match read_words(rt.alloc(), words) {
         Ok(Some(request)) => do_request(rt, request, out),
         Ok(None) => USAGE,
-        Err(error) if error.kind() == WordsErrorKind::OutOfMemory => finish::finish(NO_MEMORY, out),
+        Err(error) if error.kind() == WordsErrorKind::OutOfMemory => finish(NO_MEMORY, out),
         Err(error) => explain_usage(rt.alloc(), &error, out),
     }
 }
 
 /// Does a command's work with its file.
-fn do_request<R: AllocGlobal + Files, W: Out>(rt: &R, request: Request<'_>, out: &mut W) -> u8 {
+fn do_request<R: AllocGlobal + Files + Eprint, W: Out>(
+    rt: &R,
+    request: Request<'_>,
+    out: &mut W,
+) -> u8 {
     match read_file(rt, request.path) {
         Ok(bytes) => {
             let outcome = do_work(rt.alloc(), request.work, bytes.as_slice(), out);
-            finish::finish(outcome, out)
+            let status = finish(outcome, out);
+            if matches!(outcome, Err(Fault::Refused(_))) {
+                give_hint(rt, request.work, bytes.as_slice());
+            }
+            status
         }
-        Err(error) if error.kind() == ErrorKind::OutOfMemory => finish::finish(NO_MEMORY, out),
+        Err(error) if error.kind() == ErrorKind::OutOfMemory => finish(NO_MEMORY, out),
         Err(_) => {
-            let _ = lines::write_unread(request.path, out);
+            let _ = write_unread(request.path, out);
             FAILED
         }
     }
@@ -86,9 +73,20 @@ fn do_request<R: AllocGlobal + Files, W: Out>(rt: &R, request: Request<'_>, out:
 /// Does a command's work with the bytes of its file.
 fn do_work<W: Out>(alloc: Global, work: Work, bytes: &[u8], out: &mut W) -> Result<bool, Fault> {
     match work {
-        Work::Exec => exec::exec(alloc, bytes, out),
-        Work::Asm => asm::asm(alloc, bytes, out),
-        Work::Dis => dis::dis(alloc, bytes, out),
+        Work::Exec => exec(alloc, bytes, out),
+        Work::Asm => asm(alloc, bytes, out),
+        Work::Dis => dis(alloc, bytes, out),
+    }
+}
+
+/// Says on standard error what a refused file seems to be. Whether that can be written doesn't matter.
+fn give_hint<R: Eprint>(rt: &R, work: Work, bytes: &[u8]) {
+    let hint = match work {
+        Work::Exec | Work::Dis => hint_of_slots(bytes),
+        Work::Asm => hint_of_text(bytes),
+    };
+    if let Some(hint) = hint {
+        let _ = eprintln!(rt; "hint: {}", hint.advice());
     }
 }
 
@@ -96,7 +94,7 @@ fn do_work<W: Out>(alloc: Global, work: Work, bytes: &[u8], out: &mut W) -> Resu
 fn explain_usage<W: Out>(alloc: Global, error: &clap::Error, out: &mut W) -> u8 {
     match error.to_string(alloc) {
         Ok(text) => write_usage(text.as_str(), out),
-        Err(_) => finish::finish(NO_MEMORY, out),
+        Err(_) => finish(NO_MEMORY, out),
     }
 }
 

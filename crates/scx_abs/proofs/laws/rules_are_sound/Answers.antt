@@ -1,4 +1,5 @@
 use Rattle.scx_abs.proofs.Orders.{covers_itself, covers_through, covers_more}
+use Rattle.scx_abs.proofs.Proper.{same_state}
 use Rattle.scx_abs.proofs.Sound.{rules_sound, start_sound}
 use Rattle.scx_abs.proofs.laws.rules_are_sound.Goals as goal
 
@@ -16,3 +17,6 @@ returns-clause-reflexive c = covers_itself
 
 pub returns-clause-transitive : goal.returns-clause-transitive
 returns-clause-transitive c = covers_through
+
+pub returns-clause-antisymmetric : goal.returns-clause-antisymmetric
+returns-clause-antisymmetric c = same_state

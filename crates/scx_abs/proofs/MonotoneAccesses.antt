@@ -1,0 +1,193 @@
+-- Loads and stores in a state and in one that it covers.
+use Rattle.std.proofs.Common.{◌≡◌, ℕ, zero, suc, ◌+◌, ◌/◌, ◌%◌, ◌<◌, ◌≤◌, ◌⊎◌, inl, inr, ℤ, Bool, true, false, ◌&&◌, ◌||◌, nat_le, nat_lt, List, Option, Some, None, Result, Ok, Err, if◌then◌else◌, refl, sym, ap, ◌∙◌, arith}
+use Rattle.std.proofs.lemmas.Bool.{and_parts, and_from, or_cases, or_right}
+use Rattle.scx_semantics.specs.declared.instructions.Operand.{Operand}
+use Rattle.scx_semantics.specs.declared.operations.Size.{Size}
+use Rattle.scx_semantics.specs.declared.operations.Size.TheVariants as size
+use Rattle.scx_semantics.specs.declared.operations.Access.{Access}
+use Rattle.scx_semantics.specs.declared.operations.Access.TheVariants as access
+use Rattle.scx_semantics.specs.declared.registers.Register.{Register}
+use Rattle.scx_semantics.specs.Registers.{number}
+use Rattle.scx_semantics.specs.Arithmetic.{shifted}
+use Rattle.scx_semantics.specs.Memory.{size_bytes, access_size, stack_size}
+use Rattle.scx_semantics.specs.declared.outside.Field.{Field}
+use Rattle.scx_semantics.specs.Outside.{is_writable, field_at}
+use Rattle.scx_semantics.specs.Meaning.{is_plain}
+use Rattle.scx_maps.specs.declared.shape.Shape.{Shape}
+use Rattle.scx_abs.specs.declared.faults.Why.{Why}
+use Rattle.scx_abs.specs.declared.faults.Why.TheVariants.{UnwrittenStack, TaskField}
+use Rattle.scx_abs.specs.declared.kinds.Kind.{Kind}
+use Rattle.scx_abs.specs.declared.kinds.Kind.TheVariants as kind
+use Rattle.scx_abs.specs.declared.kinds.Kind.TheVariants.{Unusable, Num, Elem, Task}
+use Rattle.scx_abs.specs.declared.kinds.Cell.{Cell}
+use Rattle.scx_abs.specs.declared.kinds.Cell.TheVariants.{Bytes, Pointer}
+use Rattle.scx_abs.specs.declared.states.AbsState.{AbsState}
+use Rattle.scx_abs.specs.declared.memory.Area.{Area}
+use Rattle.scx_abs.specs.declared.memory.Area.TheVariants.{OnStack, InElement, InTask}
+use Rattle.scx_abs.specs.Kinds.{CoversKind}
+use Rattle.scx_abs.specs.Cells.{is_written, no_bytes, marked, all_written, written_in, IsPartOf, CoversPointer, CoversCell}
+use Rattle.scx_abs.specs.States.{CoversState, IsProper, kind_at, cell_at, with_cell}
+use Rattle.scx_abs.specs.Areas.{IsPlace, IsRoom}
+use Rattle.scx_abs.specs.Checks.{◌>>=◌, goes_on, usable, operand_kind, element_size, place_for}
+use Rattle.scx_abs.specs.Rules.{field_area, area_of, loaded_kind, kind_in, load_kind, stored_cell, number_stored, stored_in, store_rule}
+use Rattle.scx_abs.specs.Monotone.{PassesToo, CoversFlows}
+use Rattle.scx_abs.proofs.Orders.{each_byte_at, none_written}
+use Rattle.scx_abs.proofs.Elements.{place_cases}
+use Rattle.scx_abs.proofs.Bytes.{fits_cell}
+use Rattle.scx_abs.proofs.MonotoneRegisters.{passes_then, with_cell_covers, on_monotone, CoversUsable, usable_monotone, operand_monotone}
+
+-- ---- places
+
+-- one place, with room for so many bytes
+abbrev pub SamePlace : ℕ → ℕ → ℕ → ℕ → Type 0
+SamePlace size n x y = (x ≡ y) × IsPlace size n y
+
+abbrev SameArea : ℕ → Area → Area → Type 0
+SameArea n x y = (x ≡ y) × IsRoom n y
+
+pub place_monotone : (size n : ℕ) (t : Option ℕ) → PassesToo (SamePlace size n) (place_for size n t) (place_for size n t)
+place_monotone size n t =
+    place_cases size n t (λ r o. PassesToo (SamePlace size n) r r) (λ why o. tt) (λ at inside aligned. (refl, record { inside = inside; aligned = aligned }))
+
+stack_monotone : (n : ℕ) (t : Option ℕ) → PassesToo (SameArea n) (place_for stack_size n t >>= λ at. Ok (OnStack at)) (place_for stack_size n t >>= λ at. Ok (OnStack at))
+stack_monotone n t =
+    passes_then (SamePlace stack_size n) (SameArea n) (place_for stack_size n t) (place_for stack_size n t) (λ at. Ok (OnStack at)) (λ at. Ok (OnStack at)) (place_monotone stack_size n t)
+    (λ x y h. (ap OnStack h.0, h.1))
+
+element_monotone : (size n : ℕ) (t : Option ℕ) → PassesToo (SameArea n) (place_for size n t >>= λ at. Ok InElement) (place_for size n t >>= λ at. Ok InElement)
+element_monotone size n t =
+    passes_then (SamePlace size n) (SameArea n) (place_for size n t) (place_for size n t) (λ at. Ok InElement) (λ at. Ok InElement) (place_monotone size n t) (λ x y h. (refl, tt))
+
+field_monotone : (n : ℕ) (f : Option Field) → PassesToo (SameArea n) (field_area f) (field_area f)
+field_monotone n None = tt
+field_monotone n (Some f) = (refl, tt)
+
+area_monotone : (shapes : List Shape) (j k : Kind) (offset : ℤ) (n : ℕ) → CoversKind j k → PassesToo (SameArea n) (area_of shapes j offset n) (area_of shapes k offset n)
+area_monotone shapes (kind.Stack o) (kind.Stack p) offset n h = rw h (stack_monotone n (shifted p offset))
+area_monotone shapes (kind.Stack o) k offset n h = absurd h
+area_monotone shapes (Elem m o) (Elem q p) offset n h = rw (h.0, h.1) (element_monotone (element_size shapes q) n (shifted p offset))
+area_monotone shapes (Elem m o) k offset n h = absurd h
+area_monotone shapes Task Task offset n h = field_monotone n (field_at n (shifted 0 offset))
+area_monotone shapes Task k offset n h = absurd h
+area_monotone shapes j k offset n h = tt
+
+-- ---- loads
+
+size-positive : (s : Size) → 1 ≤ size_bytes s
+size-positive size.Byte = omega arith
+size-positive size.HalfWord = omega arith
+size-positive size.Word = omega arith
+size-positive size.DoubleWord = omega arith
+
+all_part : (b a : List Bool) (j n : ℕ) → j + n ≤ 8 → IsPartOf b a → all_written b j n ≡ true → all_written a j n ≡ true
+all_part b a j zero le h e = refl
+all_part b a j (suc n) le h e =
+    let parts = and_parts (is_written b j) (all_written b (j + 1) n) e in
+    and_from (is_written a j) (all_written a (j + 1) n) (h j (omega (arith, le)) parts.0) (all_part b a (j + 1) n (omega (arith, le)) h parts.1)
+
+none_part : (b : List Bool) (j n : ℕ) → j + n ≤ 8 → 1 ≤ n → IsPartOf b no_bytes → all_written b j n ≡ true → ⊥
+none_part b j zero le some h e = omega (arith, some)
+none_part b j (suc n) le some h e =
+    let lt : j < 8 = omega (arith, le) in
+    none_written j lt (h j lt ((and_parts (is_written b j) (all_written b (j + 1) n) e).0))
+
+-- bytes that are all written in the one are in the other
+pub read_monotone : {A : Type 0} (R : A → A → Type 0) (x : A) (b a : List Bool) (j n : ℕ) → R x x → j + n ≤ 8 → IsPartOf b a
+    → PassesToo R (if all_written b j n then Ok x else Err UnwrittenStack) (if all_written a j n then Ok x else Err UnwrittenStack)
+read_monotone R x b a j n same le h = go (all_written b j n) refl
+  where
+    go : (t : Bool) → all_written b j n ≡ t → PassesToo R (if t then Ok x else Err UnwrittenStack) (if all_written a j n then Ok x else Err UnwrittenStack)
+    go true e = rw (all_part b a j n le h e) same
+    go false e = tt
+
+read_nothing : (b : List Bool) (j n : ℕ) (r : Result Kind Why) → j + n ≤ 8 → 1 ≤ n → IsPartOf b no_bytes → PassesToo CoversKind (if all_written b j n then Ok Num else Err UnwrittenStack) r
+read_nothing b j n r le some h = go (all_written b j n) refl
+  where
+    go : (t : Bool) → all_written b j n ≡ t → PassesToo CoversKind (if t then Ok Num else Err UnwrittenStack) r
+    go true e = absurd (none_part b j n le some h e)
+    go false e = tt
+
+pointer_covers : (j k : Kind) → CoversPointer j k → CoversKind j k
+pointer_covers Unusable k h = tt
+pointer_covers j k h = h
+
+loaded_monotone : (x y : Cell) (a : Access) (j : ℕ) → j + size_bytes (access_size a) ≤ 8 → CoversCell x y → PassesToo CoversKind (loaded_kind x a j) (loaded_kind y a j)
+loaded_monotone (Bytes s) (Bytes t) a j le h = read_monotone CoversKind Num s t j (size_bytes (access_size a)) tt le h
+loaded_monotone (Bytes s) (Pointer k) a j le h = read_nothing s j (size_bytes (access_size a)) (loaded_kind (Pointer k) a j) le (size-positive (access_size a)) h
+loaded_monotone (Pointer k) (Bytes t) a j le h = absurd h
+loaded_monotone (Pointer k) (Pointer l) access.DoubleWord j le h = pointer_covers k l h
+loaded_monotone (Pointer k) (Pointer l) a j le h = tt
+
+kind_in_monotone : (b a : AbsState) (access : Access) (x y : Area) → CoversState b a → SameArea (size_bytes (access_size access)) x y → PassesToo CoversKind (kind_in b access x) (kind_in a access y)
+kind_in_monotone b a access x (OnStack at) h g =
+    rw g.0 (loaded_monotone (cell_at b (at / 8)) (cell_at a (at / 8)) access (at % 8) (fits_cell (access_size access) at g.1.aligned) (h.cells (at / 8)))
+kind_in_monotone b a access x InElement h g = rw g.0 tt
+kind_in_monotone b a access x (InTask f) h g =
+    rw g.0 (elim (is_plain access) as (λ t. PassesToo CoversKind (if t then Ok Num else Err TaskField) (if t then Ok Num else Err TaskField)) [ true ↦ tt | false ↦ tt ])
+
+pub load_monotone : (shapes : List Shape) (b a : AbsState) (access : Access) (r : Register) (offset : ℤ) → CoversState b a
+    → PassesToo CoversKind (load_kind shapes b access r offset) (load_kind shapes a access r offset)
+load_monotone shapes b a access r offset h =
+    let n = size_bytes (access_size access) in
+    passes_then CoversUsable CoversKind (usable (kind_at b (number r))) (usable (kind_at a (number r)))
+    (λ j. area_of shapes j offset n >>= λ x. kind_in b access x) (λ j. area_of shapes j offset n >>= λ x. kind_in a access x)
+    (usable_monotone (kind_at b (number r)) (kind_at a (number r)) (h.registers (number r)))
+    (λ j k g. passes_then (SameArea n) CoversKind (area_of shapes j offset n) (area_of shapes k offset n) (λ x. kind_in b access x) (λ x. kind_in a access x)
+    (area_monotone shapes j k offset n g.1) (λ x y f. kind_in_monotone b a access x y h f))
+
+-- ---- stores
+
+pub written_covers : (x y : Cell) → CoversCell x y → IsPartOf (written_in x) (written_in y)
+written_covers (Bytes s) (Bytes t) h = h
+written_covers (Bytes s) (Pointer k) h = h
+written_covers (Pointer j) (Pointer k) h = λ i lt w. w
+written_covers (Pointer j) (Bytes t) h = absurd h
+
+marked_part : (b a : List Bool) (j n : ℕ) → IsPartOf b a → IsPartOf (marked b j n) (marked a j n)
+marked_part b a j n h i lt w =
+    let old : (is_written b i || (nat_le j i && nat_lt i (j + n))) ≡ true = sym (each_byte_at (λ i. is_written b i || (nat_le j i && nat_lt i (j + n))) i lt) ∙ w in
+    each_byte_at (λ i. is_written a i || (nat_le j i && nat_lt i (j + n))) i lt ∙ go (or_cases (is_written b i) (nat_le j i && nat_lt i (j + n)) old)
+  where
+    go : (is_written b i ≡ true) ⊎ ((nat_le j i && nat_lt i (j + n)) ≡ true) → (is_written a i || (nat_le j i && nat_lt i (j + n))) ≡ true
+    go (inl e) = rw (h i lt e) refl
+    go (inr e) = or_right (is_written a i) (nat_le j i && nat_lt i (j + n)) e
+
+stored_cell_monotone : (x y : Cell) (s : Size) (i : ℕ) (j k : Kind) → CoversCell x y → CoversUsable j k → PassesToo CoversCell (stored_cell x s i j) (stored_cell y s i k)
+stored_cell_monotone x y s i Num Num h g = marked_part (written_in x) (written_in y) i (size_bytes s) (written_covers x y h)
+stored_cell_monotone x y s i Num k h g = absurd g.1
+stored_cell_monotone x y size.DoubleWord i Unusable k h g = absurd g.0
+stored_cell_monotone x y size.DoubleWord i j Num h g = absurd g.1
+stored_cell_monotone x y size.DoubleWord i j k h g = g.1
+stored_cell_monotone x y s i j k h g = tt
+
+number_stored_monotone : (b a : AbsState) (j k : Kind) → CoversState b a → CoversKind j k → PassesToo CoversFlows (number_stored b j) (number_stored a k)
+number_stored_monotone b a Num Num h g = on_monotone b a h
+number_stored_monotone b a Num k h g = absurd g
+number_stored_monotone b a j k h g = tt
+
+cell-below : (s : Size) (at : ℕ) → IsPlace stack_size (size_bytes s) at → at / 8 < 64
+cell-below s at p = let some = size-positive s in let room = p.inside in omega (arith, some, room)
+
+stored_monotone : (b a : AbsState) (s : Size) (j k : Kind) (x y : Area) → IsProper a → CoversState b a → CoversUsable j k → SameArea (size_bytes s) x y
+    → PassesToo CoversFlows (stored_in b s j x) (stored_in a s k y)
+stored_monotone b a s j k x (OnStack at) p h g f =
+    rw f.0 (passes_then CoversCell CoversFlows (stored_cell (cell_at b (at / 8)) s (at % 8) j) (stored_cell (cell_at a (at / 8)) s (at % 8) k)
+    (λ c. goes_on (with_cell b (at / 8) c)) (λ c. goes_on (with_cell a (at / 8) c))
+    (stored_cell_monotone (cell_at b (at / 8)) (cell_at a (at / 8)) s (at % 8) j k (h.cells (at / 8)) g)
+    (λ c d e. on_monotone (with_cell b (at / 8) c) (with_cell a (at / 8) d) (with_cell_covers b a (at / 8) c d (cell-below s at f.1) p h e)))
+stored_monotone b a s j k x InElement p h g f = rw f.0 (number_stored_monotone b a j k h g.1)
+stored_monotone b a s j k x (InTask t) p h g f =
+    rw f.0 (elim (is_writable t) as (λ v. PassesToo CoversFlows (if v then number_stored b j else Err TaskField) (if v then number_stored a k else Err TaskField))
+    [ true ↦ number_stored_monotone b a j k h g.1 | false ↦ tt ])
+
+pub store_monotone : (shapes : List Shape) (b a : AbsState) (s : Size) (r : Register) (offset : ℤ) (x : Operand) → IsProper a → CoversState b a
+    → PassesToo CoversFlows (store_rule shapes b s r offset x) (store_rule shapes a s r offset x)
+store_monotone shapes b a s r offset x p h =
+    let n = size_bytes s in
+    passes_then CoversUsable CoversFlows (usable (kind_at b (number r))) (usable (kind_at a (number r)))
+    (λ j. operand_kind b x >>= λ k. area_of shapes j offset n >>= λ t. stored_in b s k t) (λ j. operand_kind a x >>= λ k. area_of shapes j offset n >>= λ t. stored_in a s k t)
+    (usable_monotone (kind_at b (number r)) (kind_at a (number r)) (h.registers (number r)))
+    (λ j k g. passes_then CoversUsable CoversFlows (operand_kind b x) (operand_kind a x)
+    (λ l. area_of shapes j offset n >>= λ t. stored_in b s l t) (λ l. area_of shapes k offset n >>= λ t. stored_in a s l t) (operand_monotone b a x h)
+    (λ l m f. passes_then (SameArea n) CoversFlows (area_of shapes j offset n) (area_of shapes k offset n) (λ t. stored_in b s l t) (λ t. stored_in a s m t)
+    (area_monotone shapes j k offset n g.1) (λ t u e. stored_monotone b a s l m t u p h f e)))

@@ -1,0 +1,14 @@
+//! Tests of the program's commands: what they write, to outputs that take all, little or nothing, and
+//! the words that name them.
+#![tactic(auto)]
+
+#[cfg(test)]
+mod executing;
+#[cfg(test)]
+mod hints;
+#[cfg(test)]
+mod memory;
+#[cfg(test)]
+mod texts;
+#[cfg(test)]
+mod words;

@@ -1,0 +1,369 @@
+//! Tests of texts: of `asm` and `dis`, and of `text`.
+
+use crate::memory::Memory;
+use scx_commands::{Counted, FILE_LIMIT, Fault, Refusal, asm, dis, finish, text};
+use scx_examples::{EXIT, bytes_of};
+use std::alloc::{AllocError, Global};
+use std::process::Abort;
+use std::test::Fail;
+
+/// A command that has to do with texts.
+#[derive(Clone, Copy)]
+enum Work {
+    Asm,
+    Dis,
+}
+
+/// Does the work with the bytes, and answers the output and the status.
+fn output<R: AllocGlobal>(rt: &R, work: Work, bytes: &[u8]) -> (Vec<u8>, u8) {
+    let mut memory = Memory::new(rt.alloc());
+    let mut out = Counted::new(&mut memory);
+    let outcome = match work {
+        Work::Asm => asm(rt.alloc(), bytes, &mut out),
+        Work::Dis => dis(rt.alloc(), bytes, &mut out),
+    };
+    let status = finish(outcome, &mut out);
+    (memory.bytes, status)
+}
+
+fn expect<R: AllocGlobal + Abort>(rt: &R, work: Work, bytes: &[u8], wanted: &[u8], status: u8) {
+    let (found, ended) = output(rt, work, bytes);
+    assert_eq!(rt; found.as_slice(), wanted);
+    assert_eq!(rt; ended, status);
+}
+
+/// Assembles the text, and compares the slots.
+fn assembles<R: AllocGlobal + Abort>(rt: &R, text: &str, slots: &[u64]) -> Result<(), Fail> {
+    let wanted = bytes_of(rt.alloc(), slots)?;
+    expect(rt, Work::Asm, text.as_bytes(), wanted.as_slice(), 0);
+    Ok(())
+}
+
+/// Disassembles the slots, and compares the text.
+fn disassembles<R: AllocGlobal + Abort>(rt: &R, slots: &[u64], text: &str) -> Result<(), Fail> {
+    let bytes = bytes_of(rt.alloc(), slots)?;
+    expect(rt, Work::Dis, bytes.as_slice(), text.as_bytes(), 0);
+    Ok(())
+}
+
+fn refuses<R: AllocGlobal + Abort>(rt: &R, text: &str, line: &str) {
+    expect(rt, Work::Asm, text.as_bytes(), line.as_bytes(), 1);
+}
+
+/// Assembles the line to that slot, and disassembles the slot to the line.
+fn both_ways<R: AllocGlobal + Abort>(rt: &R, line: &str, slot: u64) -> Result<(), Fail> {
+    assembles(rt, line, &[slot])?;
+    disassembles(rt, &[slot], line)
+}
+
+#[test]
+fn turns_text_into_slots(rt: HostRuntime) -> Result<(), Fail> {
+    let jump = [0x0500_0100_0000_0000, 0xb700_0000_0100_0000, EXIT];
+    assembles(&rt, "goto end\nr0 = 1\nend:\nexit", &jump)?;
+    disassembles(&rt, &jump, "goto +1\nr0 = 1\nexit\n")?;
+    assembles(&rt, "a:\ngoto a\nexit", &[0x0500_ffff_0000_0000, EXIT])?;
+    let wide = [0x1800_0000_0000_0080, 0, EXIT];
+    assembles(&rt, "r0 = 2147483648 ll\nexit", &wide)?;
+    both_ways(&rt, "if w1 s> -5 goto +0\n", 0x6601_0000_fbff_ffff)?;
+    both_ways(&rt, "r1 = *(s16 *)(r2 - 6)\n", 0x8921_faff_0000_0000)?;
+    both_ways(&rt, "*(u32 *)(r10 - 4) = 0\n", 0x620a_fcff_0000_0000)
+}
+
+#[test]
+fn refuses_texts(rt: HostRuntime) {
+    let refused = [
+        ("goto end\nexit", "refused: asm 2 UnknownLabel at 1\n"),
+        ("goto end\nr0 =", "refused: asm 1 Syntax at 2\n"),
+        ("a:\na:\nexit", "refused: asm 3 TwiceLabel at 2\n"),
+        ("r0 = 2147483648\nexit", "refused: asm 4 OutOfRange at 1\n"),
+        ("r0 = -r1\nexit", "refused: asm 1 Syntax at 1\n"),
+        ("", "refused: asm 1 Syntax at 1\n"),
+    ];
+    for (text, line) in refused {
+        refuses(&rt, text, line);
+    }
+}
+
+#[test]
+fn refuses_what_is_no_text(rt: HostRuntime) -> Result<(), Fail> {
+    let wrong = b"\xff\xfe".as_slice();
+    assert_eq!(rt; text(wrong), Err(Fault::Refused(Refusal::NotUtf8)));
+    expect(&rt, Work::Asm, wrong, b"refused: not UTF-8\n", 1);
+    let cut = b"refused: decode 3 NotWholeSlots at 1\n";
+    expect(&rt, Work::Dis, b"goto nowhere", cut, 1);
+    let large = vec![in rt.alloc(); b'#'; FILE_LIMIT + 1]?;
+    let too_large = b"refused: too large\n";
+    assert_eq!(rt;
+        text(large.as_slice()),
+        Err(Fault::Refused(Refusal::TooLarge))
+    );
+    expect(&rt, Work::Asm, large.as_slice(), too_large, 1);
+    expect(&rt, Work::Dis, large.as_slice(), too_large, 1);
+    Ok(())
+}
+
+/// A text of that many bytes: lines of comments, and a short program behind them.
+fn commented_program(alloc: Global, length: usize) -> Result<Vec<u8>, AllocError> {
+    let program = b"\nr0 = 1\nexit\n".as_slice();
+    let mut text = vec![in alloc; b'#'; length.saturating_sub(program.len())]?;
+    for (place, byte) in text.iter_mut().enumerate() {
+        if place % 64 == 63 {
+            *byte = b'\n';
+        }
+    }
+    text.extend_from_slice(program)?;
+    Ok(text)
+}
+
+#[test]
+fn limits_texts(rt: HostRuntime) -> Result<(), Fail> {
+    let largest = commented_program(rt.alloc(), FILE_LIMIT)?;
+    assert_eq!(rt; largest.len(), FILE_LIMIT);
+    let slots = bytes_of(rt.alloc(), &[0xb700_0000_0100_0000, EXIT])?;
+    expect(&rt, Work::Asm, largest.as_slice(), slots.as_slice(), 0);
+    let too_large = commented_program(rt.alloc(), FILE_LIMIT + 1)?;
+    expect(
+        &rt,
+        Work::Asm,
+        too_large.as_slice(),
+        b"refused: too large\n",
+        1,
+    );
+    Ok(())
+}
+
+/// Assembles a callback to these slots, and their canonical text to the same ones.
+fn round_trip<R: AllocGlobal + Abort>(rt: &R, text: &str, slots: &[u64]) -> Result<(), Fail> {
+    assembles(rt, text, slots)?;
+    let bytes = bytes_of(rt.alloc(), slots)?;
+    let (canonical, status) = output(rt, Work::Dis, bytes.as_slice());
+    assert_eq!(rt; status, 0);
+    expect(rt, Work::Asm, canonical.as_slice(), bytes.as_slice(), 0);
+    Ok(())
+}
+
+// The callbacks of the kernel's example policy scx_simple, with the slots that LLVM's assembler gives them
+// (a reference to map 0 being its load of a constant, with source field 5).
+
+#[test]
+fn creates_the_queue(rt: HostRuntime) -> Result<(), Fail> {
+    let text = "\
+        r1 = 0\n\
+        call 1001\n\
+        exit\n";
+    let slots = [0xb701_0000_0000_0000, 0x8500_0000_e903_0000, EXIT];
+    round_trip(&rt, text, &slots)
+}
+
+#[test]
+fn selects_a_processor(rt: HostRuntime) -> Result<(), Fail> {
+    let text = "\
+        r6 = r1\n\
+        call 1005\n\
+        r7 = r0\n\
+        r1 = r0\n\
+        call 1006\n\
+        if r0 == 0 goto out\n\
+        r1 = r6\n\
+        r2 = 9223372036854775810 ll\n\
+        r3 = 20000000\n\
+        r4 = 0\n\
+        call 1002\n\
+        out:\n\
+        r0 = r7\n\
+        exit\n";
+    let slots = [
+        0xbf16_0000_0000_0000,
+        0x8500_0000_ed03_0000,
+        0xbf07_0000_0000_0000,
+        0xbf01_0000_0000_0000,
+        0x8500_0000_ee03_0000,
+        0x1500_0600_0000_0000,
+        0xbf61_0000_0000_0000,
+        0x1802_0000_0200_0000,
+        0x0000_0000_0000_0080,
+        0xb703_0000_002d_3101,
+        0xb704_0000_0000_0000,
+        0x8500_0000_ea03_0000,
+        0xbf70_0000_0000_0000,
+        EXIT,
+    ];
+    round_trip(&rt, text, &slots)
+}
+
+#[test]
+fn enqueues_in_order(rt: HostRuntime) -> Result<(), Fail> {
+    let text = "\
+        r4 = r2\n\
+        r2 = 0\n\
+        r3 = 20000000\n\
+        call 1002\n\
+        exit\n";
+    let slots = [
+        0xbf24_0000_0000_0000,
+        0xb702_0000_0000_0000,
+        0xb703_0000_002d_3101,
+        0x8500_0000_ea03_0000,
+        EXIT,
+    ];
+    round_trip(&rt, text, &slots)
+}
+
+#[test]
+fn enqueues_by_virtual_time(rt: HostRuntime) -> Result<(), Fail> {
+    let text = "\
+        r6 = r1\n\
+        r7 = r2\n\
+        *(u32 *)(r10 - 4) = 0\n\
+        r2 = r10\n\
+        r2 += -4\n\
+        r1 = map 0\n\
+        call 1\n\
+        if r0 == 0 goto out\n\
+        r1 = *(u64 *)(r0 + 0)\n\
+        r1 += -20000000\n\
+        r4 = *(u64 *)(r6 + 16)\n\
+        r2 = r4\n\
+        r2 -= r1\n\
+        if r2 s>= 0 goto put\n\
+        r4 = r1\n\
+        put:\n\
+        r1 = r6\n\
+        r2 = 0\n\
+        r3 = 20000000\n\
+        r5 = r7\n\
+        call 1003\n\
+        out:\n\
+        exit\n";
+    let slots = [
+        0xbf16_0000_0000_0000,
+        0xbf27_0000_0000_0000,
+        0x620a_fcff_0000_0000,
+        0xbfa2_0000_0000_0000,
+        0x0702_0000_fcff_ffff,
+        0x1851_0000_0000_0000,
+        0,
+        0x8500_0000_0100_0000,
+        0x1500_0c00_0000_0000,
+        0x7901_0000_0000_0000,
+        0x0701_0000_00d3_cefe,
+        0x7964_1000_0000_0000,
+        0xbf42_0000_0000_0000,
+        0x1f12_0000_0000_0000,
+        0x7502_0100_0000_0000,
+        0xbf14_0000_0000_0000,
+        0xbf61_0000_0000_0000,
+        0xb702_0000_0000_0000,
+        0xb703_0000_002d_3101,
+        0xbf75_0000_0000_0000,
+        0x8500_0000_eb03_0000,
+        EXIT,
+    ];
+    round_trip(&rt, text, &slots)
+}
+
+#[test]
+fn dispatches(rt: HostRuntime) -> Result<(), Fail> {
+    let text = "\
+        r1 = 0\n\
+        call 1004\n\
+        exit\n";
+    let slots = [0xb701_0000_0000_0000, 0x8500_0000_ec03_0000, EXIT];
+    round_trip(&rt, text, &slots)
+}
+
+#[test]
+fn runs(rt: HostRuntime) -> Result<(), Fail> {
+    let text = "\
+        r6 = r1\n\
+        *(u32 *)(r10 - 4) = 0\n\
+        r2 = r10\n\
+        r2 += -4\n\
+        r1 = map 0\n\
+        call 1\n\
+        if r0 == 0 goto out\n\
+        r1 = *(u64 *)(r0 + 0)\n\
+        r2 = *(u64 *)(r6 + 16)\n\
+        r3 = r1\n\
+        r3 -= r2\n\
+        if r3 s>= 0 goto out\n\
+        *(u64 *)(r0 + 0) = r2\n\
+        out:\n\
+        exit\n";
+    let slots = [
+        0xbf16_0000_0000_0000,
+        0x620a_fcff_0000_0000,
+        0xbfa2_0000_0000_0000,
+        0x0702_0000_fcff_ffff,
+        0x1851_0000_0000_0000,
+        0,
+        0x8500_0000_0100_0000,
+        0x1500_0600_0000_0000,
+        0x7901_0000_0000_0000,
+        0x7962_1000_0000_0000,
+        0xbf13_0000_0000_0000,
+        0x1f23_0000_0000_0000,
+        0x7503_0100_0000_0000,
+        0x7b20_0000_0000_0000,
+        EXIT,
+    ];
+    round_trip(&rt, text, &slots)
+}
+
+#[test]
+fn stops(rt: HostRuntime) -> Result<(), Fail> {
+    let text = "\
+        r2 = 20000000\n\
+        r3 = *(u64 *)(r1 + 8)\n\
+        r2 -= r3\n\
+        r2 *= 100\n\
+        r3 = *(u32 *)(r1 + 4)\n\
+        r2 /= r3\n\
+        r3 = *(u64 *)(r1 + 16)\n\
+        r3 += r2\n\
+        *(u64 *)(r1 + 16) = r3\n\
+        exit\n";
+    let slots = [
+        0xb702_0000_002d_3101,
+        0x7913_0800_0000_0000,
+        0x1f32_0000_0000_0000,
+        0x2702_0000_6400_0000,
+        0x6113_0400_0000_0000,
+        0x3f32_0000_0000_0000,
+        0x7913_1000_0000_0000,
+        0x0f23_0000_0000_0000,
+        0x7b31_1000_0000_0000,
+        EXIT,
+    ];
+    round_trip(&rt, text, &slots)
+}
+
+#[test]
+fn enables(rt: HostRuntime) -> Result<(), Fail> {
+    let text = "\
+        r6 = r1\n\
+        *(u32 *)(r10 - 4) = 0\n\
+        r2 = r10\n\
+        r2 += -4\n\
+        r1 = map 0\n\
+        call 1\n\
+        if r0 == 0 goto out\n\
+        r1 = *(u64 *)(r0 + 0)\n\
+        *(u64 *)(r6 + 16) = r1\n\
+        out:\n\
+        exit\n";
+    let slots = [
+        0xbf16_0000_0000_0000,
+        0x620a_fcff_0000_0000,
+        0xbfa2_0000_0000_0000,
+        0x0702_0000_fcff_ffff,
+        0x1851_0000_0000_0000,
+        0,
+        0x8500_0000_0100_0000,
+        0x1500_0200_0000_0000,
+        0x7901_0000_0000_0000,
+        0x7b16_1000_0000_0000,
+        EXIT,
+    ];
+    round_trip(&rt, text, &slots)
+}

@@ -1,0 +1,64 @@
+/// What the bytes of a refused file seem to be, where a person may have meant something else.
+#[derive(Clone, Copy, Debug, PartialEq, Eq)]
+pub enum Hint {
+    /// An ELF object, as compilers write.
+    Object,
+    /// Assembler text, where slots are wanted.
+    Text,
+    /// Slots, where a text is wanted.
+    Slots,
+    /// A text that begins with the byte-order mark of UTF-8.
+    ByteOrderMark,
+    /// A text of two bytes a character.
+    Utf16,
+}
+
+impl Hint {
+    /// What to do, as one line without its line feed.
+    pub fn advice(self) -> &'static str {
+        match self {
+            Hint::Object => {
+                "this is an ELF object: cut out its code with llvm-objcopy -O binary --only-section=.text OBJECT SLOTS"
+            }
+            Hint::Text => "this is a text: scxsim asm makes slots of it",
+            Hint::Slots =>
+                "this is no text: scxsim exec runs slots, and scxsim dis turns them into text",
+            Hint::ByteOrderMark =>
+                "this text begins with a byte-order mark: save it as UTF-8 without one",
+            Hint::Utf16 => "this text is UTF-16: save it as UTF-8",
+        }
+    }
+}
+
+/// What a refused file of slots may have been meant as.
+pub fn hint_of_slots(bytes: &[u8]) -> Option<Hint> {
+    if bytes.starts_with(b"\x7fELF") {
+        return Some(Hint::Object);
+    }
+    if !bytes.is_empty() && bytes.iter().all(|&byte| is_of_text(byte)) {
+        return Some(Hint::Text);
+    }
+    None
+}
+
+/// What a refused file of text may have been meant as.
+pub fn hint_of_text(bytes: &[u8]) -> Option<Hint> {
+    if bytes.starts_with(b"\x7fELF") {
+        return Some(Hint::Object);
+    }
+    if bytes.starts_with(b"\xef\xbb\xbf") {
+        return Some(Hint::ByteOrderMark);
+    }
+    if bytes.starts_with(b"\xff\xfe") || bytes.starts_with(b"\xfe\xff") {
+        return Some(Hint::Utf16);
+    }
+    if bytes.contains(&0) {
+        return Some(Hint::Slots);
+    }
+    None
+}
+
+/// Whether a text of ASCII may have the byte.
+fn is_of_text(byte: u8) -> bool {
+    matches!(byte, b'\t' | b'\n' | b'\r' | b' '..=b'~')
+}

@@ -1,0 +1,9 @@
+//! Tests of the libraries that a host is made of: dispatch queues, the weight tree and array maps.
+#![tactic(auto)]
+
+#[cfg(test)]
+mod maps;
+#[cfg(test)]
+mod queues;
+#[cfg(test)]
+mod weights;

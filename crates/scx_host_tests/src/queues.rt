@@ -1,0 +1,393 @@
+ghost use Rattle.std.specs.Prelude.{IsTrue};
+ghost use Rattle.scx_dsq.specs.Commands.{KnowsTask};
+
+use scx_dsq::{Command, QueueError, Queues, Reply, answer, run};
+use std::alloc::{AllocError, Global};
+use std::process::Abort;
+use std::test::Fail;
+
+const DONE: Reply = Reply::Done(Ok(()));
+
+/// Whether the task that a command names is one that there is.
+fn is_known(queues: &Queues, command: Command) -> bool
+    ensures { IsTrue result → KnowsTask queues.now command }
+{
+    match command {
+        Command::PushFifo { queue: _, task }
+        | Command::PushVtime {
+            queue: _,
+            task,
+            key: _,
+        }
+        | Command::Remove { task }
+        | Command::QueueOf { task } => (task as usize) < queues.tasks(),
+        _ => true,
+    }
+}
+
+/// Carries out a command whose task is one that there is.
+fn ask(rt: &impl Abort, queues: &mut Queues, command: Command) -> Reply {
+    let known = is_known(queues, command);
+    assert!(rt; known);
+    let pushes = queues.pushes();
+    assert!(rt; pushes < 1 << 62);
+    answer(queues, command)
+}
+
+/// Carries out commands one by one, and compares their replies.
+fn expect(rt: &impl Abort, queues: &mut Queues, rows: &[(Command, Reply)]) {
+    for &(command, reply) in rows {
+        assert_eq!(rt; ask(rt, queues, command), reply, "{command:?}");
+    }
+}
+
+fn refused(error: QueueError) -> Reply {
+    Reply::Done(Err(error))
+}
+
+fn create(queue: u64) -> Command {
+    Command::Create { queue }
+}
+
+fn push_fifo(queue: u64, task: u32) -> Command {
+    Command::PushFifo { queue, task }
+}
+
+fn push_vtime(queue: u64, task: u32, key: u64) -> Command {
+    Command::PushVtime { queue, task, key }
+}
+
+fn pop(queue: u64) -> Command {
+    Command::Pop { queue }
+}
+
+fn front(queue: u64) -> Command {
+    Command::Front { queue }
+}
+
+fn len(queue: u64) -> Command {
+    Command::Len { queue }
+}
+
+fn remove(task: u32) -> Command {
+    Command::Remove { task }
+}
+
+fn queue_of(task: u32) -> Command {
+    Command::QueueOf { task }
+}
+
+#[test]
+fn numbers_its_errors(rt: HostRuntime) {
+    let errors = [
+        (QueueError::NoSuchQueue, 1, "NoSuchQueue"),
+        (QueueError::AlreadyThere, 2, "AlreadyThere"),
+        (QueueError::Mixed, 3, "Mixed"),
+        (QueueError::TooManyQueues, 4, "TooManyQueues"),
+    ];
+    for (error, number, name) in errors {
+        assert_eq!(rt; error.number(), number);
+        assert_eq!(rt; error.name(), name);
+    }
+}
+
+#[test]
+fn orders_by_key_and_then_by_stamp(rt: HostRuntime) -> Result<(), Fail> {
+    let mut queues = Queues::new(rt.alloc(), 1, 5)?;
+    expect(
+        &rt,
+        &mut queues,
+        &[
+            (create(3), DONE),
+            (push_vtime(3, 2, 5), DONE),
+            (push_vtime(3, 1, 5), DONE),
+            (push_vtime(3, 3, u64::MAX), DONE),
+            (push_vtime(3, 4, 0), DONE),
+            (push_fifo(3, 0), refused(QueueError::Mixed)),
+            (len(3), Reply::Len(4)),
+            (Command::Pushes, Reply::Pushes(4)),
+            (pop(3), Reply::Task(Some(4))),
+            (pop(3), Reply::Task(Some(2))),
+            (pop(3), Reply::Task(Some(1))),
+            (front(3), Reply::Task(Some(3))),
+            (pop(3), Reply::Task(Some(3))),
+            (pop(3), Reply::Task(None)),
+            (push_fifo(3, 0), DONE),
+        ],
+    );
+    Ok(())
+}
+
+#[test]
+fn keeps_two_queues(rt: HostRuntime) -> Result<(), Fail> {
+    let mut queues = Queues::new(rt.alloc(), 2, 5)?;
+    expect(
+        &rt,
+        &mut queues,
+        &[
+            (create(7), DONE),
+            (create(8), DONE),
+            (create(7), refused(QueueError::AlreadyThere)),
+            (create(9), refused(QueueError::TooManyQueues)),
+            (push_fifo(9, 0), refused(QueueError::NoSuchQueue)),
+            (push_fifo(7, 1), DONE),
+            (push_fifo(7, 2), DONE),
+            (push_fifo(7, 3), DONE),
+            (remove(2), Reply::Removed(true)),
+            (remove(2), Reply::Removed(false)),
+            (queue_of(2), Reply::Queue(None)),
+            (push_vtime(8, 1, 0), refused(QueueError::AlreadyThere)),
+            (queue_of(1), Reply::Queue(Some(7))),
+            (pop(7), Reply::Task(Some(1))),
+            (pop(7), Reply::Task(Some(3))),
+            (pop(7), Reply::Task(None)),
+            (queue_of(1), Reply::Queue(None)),
+            (push_vtime(7, 2, 9), DONE),
+        ],
+    );
+    Ok(())
+}
+
+#[test]
+fn refuses_for_the_first_cause(rt: HostRuntime) -> Result<(), Fail> {
+    let mut queues = Queues::new(rt.alloc(), 2, 4)?;
+    expect(
+        &rt,
+        &mut queues,
+        &[
+            (push_fifo(1, 0), refused(QueueError::NoSuchQueue)),
+            (push_vtime(1, 0, 7), refused(QueueError::NoSuchQueue)),
+            (pop(1), Reply::Task(None)),
+            (front(1), Reply::Task(None)),
+            (len(1), Reply::Len(0)),
+            (create(1), DONE),
+            (create(u64::MAX), DONE),
+            // Full, and there already.
+            (create(1), refused(QueueError::AlreadyThere)),
+            (create(2), refused(QueueError::TooManyQueues)),
+            (push_fifo(1, 0), DONE),
+            (push_vtime(u64::MAX, 1, 7), DONE),
+            // No such queue, and the task waits.
+            (push_fifo(2, 0), refused(QueueError::NoSuchQueue)),
+            // The task waits, and in a queue of the other sort.
+            (push_vtime(1, 0, 7), refused(QueueError::AlreadyThere)),
+            (push_fifo(u64::MAX, 0), refused(QueueError::AlreadyThere)),
+            (push_vtime(1, 2, 7), refused(QueueError::Mixed)),
+            (push_fifo(u64::MAX, 2), refused(QueueError::Mixed)),
+            // Nothing has changed, and no refused push was counted.
+            (Command::Pushes, Reply::Pushes(2)),
+            (len(1), Reply::Len(1)),
+            (len(u64::MAX), Reply::Len(1)),
+            (queue_of(2), Reply::Queue(None)),
+            // An empty queue takes either sort.
+            (remove(0), Reply::Removed(true)),
+            (push_vtime(1, 2, 7), DONE),
+            (pop(u64::MAX), Reply::Task(Some(1))),
+            (push_fifo(u64::MAX, 1), DONE),
+        ],
+    );
+    Ok(())
+}
+
+#[test]
+fn has_no_room_at_all(rt: HostRuntime) -> Result<(), Fail> {
+    let mut queues = Queues::new(rt.alloc(), 0, 0)?;
+    expect(
+        &rt,
+        &mut queues,
+        &[
+            (create(0), refused(QueueError::TooManyQueues)),
+            (pop(0), Reply::Task(None)),
+            (len(0), Reply::Len(0)),
+        ],
+    );
+    Ok(())
+}
+
+#[test]
+fn runs_commands(rt: HostRuntime) -> Result<(), Fail> {
+    let mut queues = Queues::new(rt.alloc(), 1, 2)?;
+    let commands = [
+        Command::Create { queue: 5 },
+        Command::PushFifo { queue: 5, task: 1 },
+        Command::PushFifo { queue: 5, task: 0 },
+        Command::Pop { queue: 5 },
+        Command::Remove { task: 1 },
+        Command::Pushes,
+    ];
+    let replies = run(rt.alloc(), &mut queues, &commands)?;
+    let wanted = [
+        DONE,
+        DONE,
+        DONE,
+        Reply::Task(Some(1)),
+        Reply::Removed(false),
+        Reply::Pushes(2),
+    ];
+    assert_eq!(rt; replies.as_slice(), wanted.as_slice());
+    Ok(())
+}
+
+/// A task that waits, in the plain list.
+#[derive(Clone, Copy)]
+struct Waiting {
+    queue: u64,
+    by_vtime: bool,
+    key: u64,
+    stamp: u64,
+    task: u32,
+}
+
+/// The same queues as a plain list of those who wait, in no order.
+#[derive(Drop)]
+struct Plain {
+    room: usize,
+    queues: Vec<u64>,
+    waiting: Vec<Waiting>,
+    pushes: u64,
+}
+
+impl Plain {
+    fn create(&mut self, queue: u64) -> Result<Reply, AllocError> {
+        if self.queues.contains(&queue) {
+            return Ok(refused(QueueError::AlreadyThere));
+        }
+        if self.queues.len() >= self.room {
+            return Ok(refused(QueueError::TooManyQueues));
+        }
+        self.queues.push(queue)?;
+        Ok(DONE)
+    }
+
+    fn push(
+        &mut self,
+        queue: u64,
+        task: u32,
+        by_vtime: bool,
+        key: u64,
+    ) -> Result<Reply, AllocError> {
+        if !self.queues.contains(&queue) {
+            return Ok(refused(QueueError::NoSuchQueue));
+        }
+        if self.waiting.iter().any(|w| w.task == task) {
+            return Ok(refused(QueueError::AlreadyThere));
+        }
+        if self
+            .waiting
+            .iter()
+            .any(|w| w.queue == queue && w.by_vtime != by_vtime)
+        {
+            return Ok(refused(QueueError::Mixed));
+        }
+        self.waiting.push(Waiting {
+            queue,
+            by_vtime,
+            key,
+            stamp: self.pushes,
+            task,
+        })?;
+        self.pushes = self.pushes.wrapping_add(1);
+        Ok(DONE)
+    }
+
+    fn front(&self, queue: u64) -> Option<u32> {
+        let mut best: Option<Waiting> = None;
+        for waiting in self.waiting.as_slice() {
+            let first = match best {
+                Some(other) => (waiting.key, waiting.stamp) < (other.key, other.stamp),
+                None => true,
+            };
+            if waiting.queue == queue && first {
+                best = Some(*waiting);
+            }
+        }
+        best.map(|waiting| waiting.task)
+    }
+
+    fn remove(&mut self, task: u32) -> bool {
+        let before = self.waiting.len();
+        self.waiting.retain(|w| w.task != task);
+        self.waiting.len() < before
+    }
+
+    fn answer(&mut self, command: Command) -> Result<Reply, AllocError> {
+        Ok(match command {
+            Command::Create { queue } => self.create(queue)?,
+            Command::PushFifo { queue, task } => self.push(queue, task, false, 0)?,
+            Command::PushVtime { queue, task, key } => self.push(queue, task, true, key)?,
+            Command::Front { queue } => Reply::Task(self.front(queue)),
+            Command::Pop { queue } => {
+                let front = self.front(queue);
+                if let Some(task) = front {
+                    self.remove(task);
+                }
+                Reply::Task(front)
+            }
+            Command::Remove { task } => Reply::Removed(self.remove(task)),
+            Command::Len { queue } => {
+                Reply::Len(self.waiting.iter().filter(|w| w.queue == queue).count())
+            }
+            Command::QueueOf { task } => Reply::Queue(
+                self.waiting
+                    .iter()
+                    .find(|w| w.task == task)
+                    .map(|w| w.queue),
+            ),
+            Command::Pushes => Reply::Pushes(self.pushes),
+        })
+    }
+}
+
+/// The next number of a fixed walk (Marsaglia's xorshift).
+fn next(state: &mut u64) -> u64 {
+    let mut x = *state;
+    x ^= x.wrapping_shl(13);
+    x ^= x >> 7;
+    x ^= x.wrapping_shl(17);
+    *state = x;
+    x
+}
+
+/// A command of the walk: few queues, few keys, and more pushes than pops.
+fn command_of(number: u64) -> Command {
+    let queue = (number >> 8) % 5;
+    let task = ((number >> 16) % 40) as u32;
+    let keys = [0, 1, 2, 1 << 63, u64::MAX];
+    let key = keys[((number >> 24) % 5) as usize];
+    match number % 16 {
+        0 => create(queue),
+        1..=4 => push_fifo(queue, task),
+        5..=9 => push_vtime(queue, task, key),
+        10..=11 => pop(queue),
+        12 => remove(task),
+        13 => front(queue),
+        14 => len(queue),
+        _ => queue_of(task),
+    }
+}
+
+#[test]
+fn agrees_with_a_plain_list(rt: HostRuntime) -> Result<(), Fail> {
+    let mut queues = Queues::new(rt.alloc(), 4, 40)?;
+    let mut plain = Plain {
+        room: 4,
+        queues: Vec::new(rt.alloc()),
+        waiting: Vec::new(rt.alloc()),
+        pushes: 0,
+    };
+    let mut state = 0x9e37_79b9_7f4a_7c15;
+    for step in 0..5000 {
+        let command = command_of(next(&mut state));
+        let wanted = plain.answer(command)?;
+        assert_eq!(rt;
+            ask(&rt, &mut queues, command),
+            wanted,
+            "step {step}: {command:?}"
+        );
+        assert_eq!(rt;
+            ask(&rt, &mut queues, Command::Pushes),
+            Reply::Pushes(plain.pushes)
+        );
+    }
+    Ok(())
+}

@@ -1,0 +1,345 @@
+use scx_weights::{Group, Tree, TreeError};
+use std::alloc::{AllocError, Global};
+use std::process::Abort;
+use std::test::Fail;
+
+fn top(weight: u32) -> Group {
+    Group {
+        parent: None,
+        weight,
+    }
+}
+
+fn under(parent: u32, weight: u32) -> Group {
+    Group {
+        parent: Some(parent),
+        weight,
+    }
+}
+
+fn activate(rt: &impl Abort, tree: &mut Tree, task: u32) {
+    assert!(rt; task < tree.tasks());
+    tree.activate(task);
+}
+
+fn deactivate(rt: &impl Abort, tree: &mut Tree, task: u32) {
+    assert!(rt; task < tree.tasks());
+    tree.deactivate(task);
+}
+
+fn is_active(rt: &impl Abort, tree: &Tree, task: u32) -> bool {
+    assert!(rt; task < tree.tasks());
+    tree.is_active(task)
+}
+
+fn weight_of(rt: &impl Abort, tree: &Tree, task: u32) -> u32 {
+    assert!(rt; task < tree.tasks());
+    tree.weight_of(task)
+}
+
+fn group_of(rt: &impl Abort, tree: &Tree, task: u32) -> u32 {
+    assert!(rt; task < tree.tasks());
+    tree.group_of(task)
+}
+
+/// Compares the weights of all tasks.
+fn check_weights(rt: &impl Abort, tree: &Tree, weights: &[u32]) {
+    assert_eq!(rt; tree.tasks() as usize, weights.len());
+    for (task, weight) in weights.iter().enumerate() {
+        assert_eq!(rt; weight_of(rt, tree, task as u32), *weight, "of task {task}");
+    }
+}
+
+/// A tree all of whose tasks are active.
+fn awake(
+    rt: &impl Abort,
+    alloc: Global,
+    groups: &[Group],
+    tasks: &[u32],
+) -> Result<Tree, TreeError> {
+    let mut tree = Tree::new(alloc, groups, tasks)?;
+    for task in 0..tree.tasks() {
+        activate(rt, &mut tree, task);
+    }
+    Ok(tree)
+}
+
+#[test]
+fn tasks_of_two_groups(rt: HostRuntime) -> Result<(), Fail> {
+    let mut tree = awake(&rt, rt.alloc(), &[top(100), top(300)], &[0, 0, 1])?;
+    assert_eq!(&rt; (tree.groups(), tree.tasks()), (2, 3));
+    check_weights(&rt, &tree, &[1250, 1250, 7500]);
+    deactivate(&rt, &mut tree, 2);
+    check_weights(&rt, &tree, &[5000, 5000, 7500]);
+    activate(&rt, &mut tree, 2);
+    tree.set_weight(0, 300)?;
+    check_weights(&rt, &tree, &[2500, 2500, 5000]);
+    Ok(())
+}
+
+#[test]
+fn groups_below_a_group(rt: HostRuntime) -> Result<(), Fail> {
+    let groups = [top(100), under(0, 100), under(0, 300), top(100)];
+    let tree = awake(&rt, rt.alloc(), &groups, &[1, 2, 3])?;
+    check_weights(&rt, &tree, &[1250, 3750, 5000]);
+    let groups = [top(1), top(10_000)];
+    let tree = awake(&rt, rt.alloc(), &groups, &[0, 1])?;
+    check_weights(&rt, &tree, &[1, 9999]);
+    let tree = awake(&rt, rt.alloc(), &[top(7)], &[0, 0, 0])?;
+    check_weights(&rt, &tree, &[3333, 3333, 3333]);
+    // One third of three quarters; rounded down at each level it would be 2499.
+    let groups = [top(1), top(2), under(0, 3), under(0, 1)];
+    let tree = awake(&rt, rt.alloc(), &groups, &[1, 2, 3])?;
+    check_weights(&rt, &tree, &[6666, 2500, 833]);
+    // Three levels: 1 / 2 * 1 / 3 * 1 / 7 and 1 / 2 * 1 / 3 * 6 / 7.
+    let groups = [
+        top(1),
+        top(1),
+        under(0, 1),
+        under(0, 2),
+        under(2, 1),
+        under(2, 6),
+    ];
+    let tree = awake(&rt, rt.alloc(), &groups, &[1, 3, 4, 5])?;
+    check_weights(&rt, &tree, &[5000, 3333, 238, 1428]);
+    Ok(())
+}
+
+/// A task that sleeps weighs what it would if it were active.
+#[test]
+fn sleeping_tasks(rt: HostRuntime) -> Result<(), Fail> {
+    let groups = [top(100), under(0, 100), under(0, 300), top(100)];
+    let mut tree = Tree::new(rt.alloc(), &groups, &[1, 2, 3, 3])?;
+    check_weights(&rt, &tree, &[10_000, 10_000, 10_000, 10_000]);
+    activate(&rt, &mut tree, 1);
+    activate(&rt, &mut tree, 1);
+    check_weights(&rt, &tree, &[2500, 10_000, 5000, 5000]);
+    activate(&rt, &mut tree, 3);
+    check_weights(&rt, &tree, &[1250, 5000, 2500, 5000]);
+    deactivate(&rt, &mut tree, 1);
+    deactivate(&rt, &mut tree, 1);
+    deactivate(&rt, &mut tree, 0);
+    check_weights(&rt, &tree, &[5000, 5000, 5000, 10_000]);
+    assert_eq!(&rt; is_active(&rt, &tree, 3), true);
+    assert_eq!(&rt; is_active(&rt, &tree, 1), false);
+    assert_eq!(&rt; group_of(&rt, &tree, 3), 3);
+    Ok(())
+}
+
+fn refusal(alloc: Global, groups: &[Group], tasks: &[u32]) -> Option<TreeError> {
+    Tree::new(alloc, groups, tasks).err()
+}
+
+/// Lists that make no tree, with what is wrong with them.
+#[test]
+fn refused_trees(rt: HostRuntime) {
+    let chain = [top(1), under(0, 1), under(1, 1), under(2, 1)];
+    let rows: [(&[Group], &[u32], TreeError); 15] = [
+        (&[top(1)], &[1], TreeError::UnknownGroup),
+        (&[under(0, 1)], &[0], TreeError::UnknownGroup),
+        (&[under(1, 1), top(1)], &[0], TreeError::UnknownGroup),
+        (&[under(7, 1)], &[0], TreeError::UnknownGroup),
+        (&[], &[0], TreeError::UnknownGroup),
+        (&[], &[], TreeError::OutOfRange),
+        (&[top(1)], &[], TreeError::OutOfRange),
+        (&[top(0)], &[0], TreeError::OutOfRange),
+        (&[top(1), top(10_001)], &[0], TreeError::OutOfRange),
+        (&chain, &[3], TreeError::TooDeep),
+        (&chain[..3], &[2, 1], TreeError::NotLeaf),
+        // Of several faults the first in the order of the numbers.
+        (&[top(0)], &[5], TreeError::UnknownGroup),
+        (&[top(1), under(0, 0)], &[0], TreeError::OutOfRange),
+        (
+            &[top(0), under(0, 1), under(1, 1), under(2, 1)],
+            &[3],
+            TreeError::OutOfRange,
+        ),
+        (&chain, &[0], TreeError::TooDeep),
+    ];
+    for (number, (groups, tasks, error)) in rows.iter().enumerate() {
+        assert_eq!(&rt;
+            refusal(rt.alloc(), groups, tasks),
+            Some(*error),
+            "row {number}"
+        );
+    }
+}
+
+/// Numbers of groups and of tasks at their limits and past them.
+#[test]
+fn counts(rt: HostRuntime) -> Result<(), Fail> {
+    let alloc = rt.alloc();
+    let groups = vec![in alloc; top(10_000); 257]?;
+    let tasks = vec![in alloc; 0; 1025]?;
+    assert_eq!(&rt; refusal(alloc, &groups[..256], &tasks[..1024]), None);
+    assert_eq!(&rt;
+        refusal(alloc, &groups, &tasks[..1]),
+        Some(TreeError::OutOfRange)
+    );
+    assert_eq!(&rt;
+        refusal(alloc, &groups[..1], &tasks),
+        Some(TreeError::OutOfRange)
+    );
+    Ok(())
+}
+
+#[test]
+fn refused_weights(rt: HostRuntime) -> Result<(), Fail> {
+    let mut tree = awake(&rt, rt.alloc(), &[top(100), top(300)], &[0, 1])?;
+    assert_eq!(&rt; tree.set_weight(2, 100), Err(TreeError::UnknownGroup));
+    assert_eq!(&rt; tree.set_weight(2, 0), Err(TreeError::UnknownGroup));
+    assert_eq!(&rt; tree.set_weight(0, 0), Err(TreeError::OutOfRange));
+    assert_eq!(&rt; tree.set_weight(0, 10_001), Err(TreeError::OutOfRange));
+    check_weights(&rt, &tree, &[2500, 7500]);
+    assert_eq!(&rt; tree.set_weight(0, 10_000), Ok(()));
+    assert_eq!(&rt; tree.set_weight(1, 1), Ok(()));
+    check_weights(&rt, &tree, &[9999, 1]);
+    Ok(())
+}
+
+/// The lists of a tree, from which each weight is computed anew.
+#[derive(Drop)]
+struct Plain {
+    groups: Vec<Group>,
+    homes: Vec<u32>,
+    active: Vec<bool>,
+}
+
+impl Plain {
+    fn group(&self, group: u32) -> Group {
+        self.groups.get(group as usize).copied().unwrap_or(top(1))
+    }
+
+    /// Which groups have an active task in them or below them, that task counted.
+    fn active_groups(&self, alloc: Global, task: usize) -> Result<Vec<bool>, AllocError> {
+        let mut marks = vec![in alloc; false; self.groups.len()]?;
+        for (number, home) in self.homes.iter().enumerate() {
+            if number == task || self.active.get(number) == Some(&true) {
+                let mut at = Some(*home);
+                for _ in 0..10 {
+                    if let Some(group) = at {
+                        if let Some(mark) = marks.get_mut(group as usize) {
+                            *mark = true;
+                        }
+                        at = self.group(group).parent;
+                    }
+                }
+            }
+        }
+        Ok(marks)
+    }
+
+    /// The weights of the marked groups under that parent.
+    fn weights_under(&self, marks: &[bool], parent: Option<u32>) -> u128 {
+        let mut sum = 0u128;
+        for (number, group) in self.groups.iter().enumerate() {
+            if group.parent == parent && marks.get(number) == Some(&true) {
+                sum = sum.saturating_add(u128::from(group.weight));
+            }
+        }
+        sum
+    }
+
+    fn weight_of(&self, alloc: Global, task: usize) -> Result<u32, AllocError> {
+        let marks = self.active_groups(alloc, task)?;
+        let home = self.homes.get(task).copied().unwrap_or(0);
+        let mut whole = 0u128;
+        for (number, other) in self.homes.iter().enumerate() {
+            if *other == home && (number == task || self.active.get(number) == Some(&true)) {
+                whole = whole.saturating_add(1);
+            }
+        }
+        let mut part = 10_000u128;
+        let mut at = Some(home);
+        for _ in 0..10 {
+            if let Some(group) = at {
+                let Group { parent, weight } = self.group(group);
+                part = part.saturating_mul(u128::from(weight));
+                whole = whole.saturating_mul(self.weights_under(&marks, parent));
+                at = parent;
+            }
+        }
+        let weight = part.checked_div(whole).unwrap_or(0).max(1);
+        Ok(u32::try_from(weight).unwrap_or(0))
+    }
+}
+
+/// Numbers that look random (the generator of Knuth's MMIX).
+#[derive(Drop)]
+struct Numbers {
+    state: u64,
+}
+
+impl Numbers {
+    fn below(&mut self, limit: u32) -> u32 {
+        self.state = self
+            .state
+            .wrapping_mul(6_364_136_223_846_793_005)
+            .wrapping_add(1_442_695_040_888_963_407);
+        let number = (self.state >> 33) as u32;
+        number.checked_rem(limit).unwrap_or(0)
+    }
+}
+
+/// 16 groups at the top, 48 below the first 12 of them, 192 below the first 40 of those.
+fn large(alloc: Global, numbers: &mut Numbers) -> Result<Plain, AllocError> {
+    let mut groups = Vec::new(alloc);
+    for group in 0..256u32 {
+        let weight = numbers.below(10_000).saturating_add(1);
+        groups.push(match group {
+            0..16 => top(weight),
+            16..64 => under(group % 12, weight),
+            _ => under(16u32.saturating_add(group % 40), weight),
+        })?;
+    }
+    let mut homes = Vec::new(alloc);
+    for _ in 0..1024 {
+        let leaf = numbers.below(204);
+        homes.push(leaf.saturating_add(if leaf < 4 { 12 } else { 52 }))?;
+    }
+    let active = vec![in alloc; false; 1024]?;
+    Ok(Plain {
+        groups,
+        homes,
+        active,
+    })
+}
+
+/// Changes one task and one weight, in the tree and in the plain lists.
+fn change(rt: &impl Abort, numbers: &mut Numbers, tree: &mut Tree, plain: &mut Plain) {
+    let task = numbers.below(1024);
+    let on = numbers.below(1000) < 600;
+    if on {
+        activate(rt, tree, task);
+    } else {
+        deactivate(rt, tree, task);
+    }
+    if let Some(active) = plain.active.get_mut(task as usize) {
+        *active = on;
+    }
+    let group = numbers.below(256);
+    let weight = numbers.below(10_000).saturating_add(1);
+    assert!(rt; tree.set_weight(group, weight).is_ok());
+    if let Some(group) = plain.groups.get_mut(group as usize) {
+        group.weight = weight;
+    }
+}
+
+#[test]
+fn random_walk(rt: HostRuntime) -> Result<(), Fail> {
+    let alloc = rt.alloc();
+    let mut numbers = Numbers { state: 1 };
+    let mut plain = large(alloc, &mut numbers)?;
+    let mut tree = Tree::new(alloc, &plain.groups, &plain.homes)?;
+    for step in 0..1500 {
+        change(&rt, &mut numbers, &mut tree, &mut plain);
+        let task = numbers.below(1024);
+        let want = plain.weight_of(alloc, task as usize)?;
+        assert_eq!(&rt;
+            weight_of(&rt, &tree, task),
+            want,
+            "of task {task} after step {step}"
+        );
+    }
+    Ok(())
+}

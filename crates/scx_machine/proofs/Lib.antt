@@ -1,0 +1,4 @@
+pub mod Taking
+pub mod Tries
+pub mod Active
+pub mod Enabling

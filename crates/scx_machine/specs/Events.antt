@@ -1,0 +1,76 @@
+-- Events: which are accepted, and what each one does.
+use Rattle.std.specs.Prelude.{ℕ, Bool, true, false, ◌||◌, ◌==◌, nat_lt, [], ◌∷◌, length, if◌then◌else◌, Option, Some, None}
+use Rattle.scx_semantics.specs.declared.callbacks.Callback.TheVariants as callback
+use Rattle.scx_world.specs.declared.notes.What.TheVariants as note
+use Rattle.scx_world.specs.World.{task_at, is_runnable, running, cpu_of, is_idle, default_choice, said}
+use Rattle.scx_world.specs.Tasks.{woken, asleep, gone, stopped, ticked, later, reweighed}
+use Rattle.scx_machine.specs.declared.events.Event.{Event}
+use Rattle.scx_machine.specs.declared.events.Event.TheVariants.{Wake, Sleep, Tick, Clock, SetWeight}
+use Rattle.scx_machine.specs.declared.events.Refused.{Refused}
+use Rattle.scx_machine.specs.declared.events.Refused.TheVariants.{AlreadyRunnable, NotRunnable, UnknownTask, UnknownCpu, UnknownGroup, BadWeight}
+use Rattle.scx_machine.specs.Steps.{State, Stepped, with_world, stays, after, joined}
+use Rattle.scx_machine.specs.Callbacks.{call_back, task_and_number}
+use Rattle.scx_machine.specs.Put.{put}
+use Rattle.scx_machine.specs.Cycle.{cycle}
+
+-- ---- refusals
+
+abbrev pub is_bad_weight : ℕ → Bool
+is_bad_weight x = nat_lt x 1 || nat_lt 10000 x
+
+abbrev pub refusal : State → Event → Option Refused
+refusal s (Wake t) = if nat_lt t (length s.world.tasks) then (if is_runnable s.world t then Some AlreadyRunnable else None) else Some UnknownTask
+refusal s (Sleep t) = if nat_lt t (length s.world.tasks) then (if is_runnable s.world t then None else Some NotRunnable) else Some UnknownTask
+refusal s (Tick c) = if nat_lt c (length s.world.cpus) then None else Some UnknownCpu
+refusal s Clock = None
+refusal s (SetWeight g x) = if nat_lt g (length s.world.tree.groups) then (if is_bad_weight x then Some BadWeight else None) else Some UnknownGroup
+
+-- ---- what each event does
+
+-- the processor for which a task that wakes is put
+abbrev pub target : State → ℕ → ℕ
+target s t = default_choice s.world t
+
+-- the task is put, and a target that is idle looks for a task
+unfoldable pub put_and_run : State → ℕ → ℕ → Stepped
+put_and_run s t c =
+    let r = put s t c 1 in
+    if is_idle r.state.world c then joined r (cycle r.state c None false) else r
+
+unfoldable pub wake : State → ℕ → Stepped
+wake s t =
+    let w = with_world s (woken s.world t) in
+    after (said s.world (note.Wake t) ∷ []) (put_and_run w t (target w t))
+
+-- a task that runs leaves its processor, which looks for another
+unfoldable pub sleep_from_cpu : State → ℕ → ℕ → Stepped
+sleep_from_cpu s t c =
+    let r = call_back (with_world s (stopped s.world c t)) callback.Stopping (task_and_number t 0) t c in
+    after (said s.world (note.Stop t c) ∷ []) (joined r (cycle (with_world r.state (asleep r.state.world t)) c None true))
+
+abbrev pub sleep_from : Option ℕ → State → ℕ → Stepped
+sleep_from None s t = stays (with_world s (asleep (gone s.world t) t))
+sleep_from (Some c) s t = sleep_from_cpu s t c
+
+unfoldable pub sleep : State → ℕ → Stepped
+sleep s t = after (said s.world (note.Sleep t) ∷ []) (sleep_from (cpu_of s.world t) s t)
+
+-- a task whose slice has run out may be replaced
+unfoldable pub count_down : State → ℕ → ℕ → Stepped
+count_down s c t =
+    let v = with_world s (ticked s.world t) in
+    if (task_at v.world t).slice == 0 then cycle v c (Some t) true else stays v
+
+abbrev pub tick_of : Option ℕ → State → ℕ → Stepped
+tick_of None s c = cycle s c None false
+tick_of (Some t) s c = count_down s c t
+
+unfoldable pub tick : State → ℕ → Stepped
+tick s c = tick_of (running s.world c) s c
+
+abbrev pub happened : State → Event → Stepped
+happened s (Wake t) = wake s t
+happened s (Sleep t) = sleep s t
+happened s (Tick c) = tick s c
+happened s Clock = stays (with_world s (later s.world))
+happened s (SetWeight g x) = record { state = with_world s (reweighed s.world g x); notes = said s.world (note.Weight g x) ∷ [] }

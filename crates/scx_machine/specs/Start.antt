@@ -1,0 +1,87 @@
+-- The first state: after init, and enable of each task.
+use Rattle.std.specs.Prelude.{◌≡◌, ℕ, zero, suc, ℤ, negsuc, Bool, true, false, ◌||◌, ◌==◌, nat_lt, length, if◌then◌else◌, Option, Some, None, is_some, is_none, Result, Ok, Err}
+use Rattle.std.specs.Int.{w64, cast_signed}
+use Rattle.scx_maps.specs.Contents.{zeros}
+use Rattle.scx_weights.specs.Hierarchy.{Hierarchy, is_active_task}
+use Rattle.scx_weights.specs.Counting.{any_below}
+use Rattle.scx_semantics.specs.declared.callbacks.Callback.TheVariants as callback
+use Rattle.scx_semantics.specs.Endings.{Ending}
+use Rattle.scx_world.specs.declared.faults.Fault.{Fault}
+use Rattle.scx_world.specs.World.{WorldState, begun}
+use Rattle.scx_world.specs.First.{first_world}
+use Rattle.scx_machine.specs.declared.start.NewError.{NewError}
+use Rattle.scx_machine.specs.declared.start.NewError.TheVariants.{InitFailed, BadShape, OutOfMemory}
+use Rattle.scx_machine.specs.Policy.{PolicyState, program_of}
+use Rattle.scx_machine.specs.Steps.{State}
+use Rattle.scx_machine.specs.Callbacks.{called, ended, no_arguments, one_task}
+
+-- the number of processors is out of range, or a task is active
+abbrev pub is_bad_shape : Hierarchy → ℕ → Bool
+is_bad_shape tree cpus = nat_lt cpus 1 || (nat_lt 64 cpus || any_below (length tree.homes) (λ t. is_active_task tree t))
+
+-- before any callback
+abbrev pub blank : PolicyState → Hierarchy → ℕ → State
+blank p tree cpus = record { policy = p; maps = zeros p.shapes; world = first_world tree cpus }
+
+-- ---- init
+
+-- what stands for a fault: Linux's EINVAL
+abbrev pub fault_answer : ℤ
+fault_answer = negsuc 21
+
+abbrev pub init_ending : State → Ending WorldState
+init_ending s = called (program_of s.policy callback.Init) callback.Init no_arguments s.maps (begun s.world callback.Init 0 0)
+
+-- the answer with which the machine can't begin; a fault goes before an answer
+abbrev pub bad_answer : Option Fault → Option ℕ → Option ℤ
+bad_answer (Some f) a = Some fault_answer
+bad_answer None None = Some fault_answer
+bad_answer None (Some n) = if n == 0 then None else Some (cast_signed w64 n)
+
+abbrev pub ok_unless : Option ℤ → State → Result State ℤ
+ok_unless None s = Ok s
+ok_unless (Some n) s = Err n
+
+-- after init
+unfoldable pub initialized : State → Result State ℤ
+initialized s = ok_unless (bad_answer (init_ending s).outside.call.fault (init_ending s).answer) (ended s.policy (init_ending s)).state
+
+-- ---- enable of each task
+
+abbrev pub enable_ending : State → ℕ → Ending WorldState
+enable_ending s t = called (program_of s.policy callback.Enable) callback.Enable (one_task t) s.maps (begun s.world callback.Enable t 0)
+
+-- a fault, or a callback that got stuck
+abbrev pub has_failed : Ending WorldState → Bool
+has_failed e = is_some e.outside.call.fault || is_none e.answer
+
+unfoldable pub enable : State → ℕ → Option State
+enable s t = if has_failed (enable_ending s t) then None else Some (ended s.policy (enable_ending s t)).state
+
+abbrev pub then_enable : Option State → ℕ → Option State
+then_enable None t = None
+then_enable (Some s) t = enable s t
+
+-- after enable of the first tasks; none where one has failed
+abbrev pub enabled : ℕ → State → Option State
+enabled zero s = Some s
+enabled (suc n) s = then_enable (enabled n s) n
+
+-- ---- all of it
+
+abbrev pub ok_if : Option State → Result State ℤ
+ok_if None = Err fault_answer
+ok_if (Some s) = Ok s
+
+abbrev pub all_enabled : Result State ℤ → Result State ℤ
+all_enabled (Err n) = Err n
+all_enabled (Ok s) = ok_if (enabled (length s.world.tasks) s)
+
+abbrev pub started : PolicyState → Hierarchy → ℕ → Result State ℤ
+started p tree cpus = all_enabled (initialized (blank p tree cpus))
+
+-- memory is taken after the shape was looked at, and before a callback runs
+abbrev pub IsRefusal : PolicyState → Hierarchy → ℕ → NewError → Type 0
+IsRefusal p tree cpus BadShape = is_bad_shape tree cpus ≡ true
+IsRefusal p tree cpus OutOfMemory = is_bad_shape tree cpus ≡ false
+IsRefusal p tree cpus (InitFailed n) = (is_bad_shape tree cpus ≡ false) × (started p tree cpus ≡ Err n)

@@ -1,0 +1,159 @@
+ghost use Rattle.std.specs.Prelude.{◌≡◌, ◌+◌, ◌*◌, ◌≤◌, ◌^◌};
+ghost use Rattle.scx_machine.specs.Notes.{Takes};
+ghost use Rattle.scx_machine.specs.Cycle.{fill, dispatched, tries, leave, start, pick, rest, pick_or_rest, ask, cycle};
+
+use crate::callbacks::{cpu_and_task, one_task, task_and_number};
+use crate::machine::Machine;
+use crate::sink::Sink;
+use scx_isa::Callback;
+use scx_world::{GLOBAL, What};
+
+impl Machine {
+    /// Where the local queue is empty, the front of another comes to it.
+    #[tactic(auto, unfolding(crate::specs::Cycle::fill), using(crate::proofs::Taking::takings))]
+    fn fill<S: Sink>(&mut self, queue: u64, cpu: u32, sink: &mut S)
+        requires few { self.old.world.queues.pushes + 1 ≤ 2 ^ 63 }
+        ensures state { self.new ≡ (fill self.old queue cpu).state }
+        ensures few { self.new.world.queues.pushes ≤ self.old.world.queues.pushes + 1 }
+        ensures notes { Takes S.takes sink.old (fill self.old queue cpu).notes sink.new }
+    {
+        if let Some(task) = self.world.fill(queue, cpu) {
+            sink.take(self.world.note(What::Move(task, cpu)));
+        }
+    }
+
+    /// Asks dispatch once, and then the queue of all processors.
+    #[tactic(auto, unfolding(crate::specs::Cycle::dispatched), using(crate::proofs::Taking::takings))]
+    fn dispatch<S: Sink>(&mut self, cpu: u32, before: Option<u16>, sink: &mut S)
+        requires few { self.old.world.queues.pushes + 4097 ≤ 2 ^ 63 }
+        ensures state { self.new ≡ (dispatched self.old cpu before).state }
+        ensures few { self.new.world.queues.pushes ≤ self.old.world.queues.pushes + 4097 }
+        ensures notes { Takes S.takes sink.old (dispatched self.old cpu before).notes sink.new }
+    {
+        self.call_back(Callback::Dispatch, cpu_and_task(cpu, before), 0, cpu, sink);
+        self.fill(GLOBAL, cpu, sink);
+    }
+
+    /// Asks dispatch, at most so many times.
+    #[tactic(auto, using(crate::proofs::Taking::takings, crate::proofs::Tries::tries_steps))]
+    fn tries<S: Sink>(&mut self, left: u32, cpu: u32, before: Option<u16>, sink: &mut S)
+        requires few { self.old.world.queues.pushes + 4097 * left ≤ 2 ^ 63 }
+        ensures state { self.new ≡ (tries left self.old cpu before).state }
+        ensures few { self.new.world.queues.pushes ≤ self.old.world.queues.pushes + 4097 * left }
+        ensures notes { Takes S.takes sink.old (tries left self.old cpu before).notes sink.new }
+    {
+        if left == 0 {
+            return;
+        }
+        self.dispatch(cpu, before, sink);
+        if self.asks_again(cpu) {
+            self.tries(left - 1, cpu, before, sink);
+        }
+    }
+
+    /// The task before leaves the processor, and is put.
+    #[tactic(auto, unfolding(crate::specs::Cycle::leave), using(crate::proofs::Taking::takings))]
+    fn leave<S: Sink>(&mut self, cpu: u32, before: Option<u16>, sink: &mut S)
+        requires few { self.old.world.queues.pushes + 8193 ≤ 2 ^ 63 }
+        ensures state { self.new ≡ (leave self.old cpu before).state }
+        ensures few { self.new.world.queues.pushes ≤ self.old.world.queues.pushes + 8193 }
+        ensures notes { Takes S.takes sink.old (leave self.old cpu before).notes sink.new }
+    {
+        if let Some(task) = before {
+            sink.take(self.world.note(What::Stop(task, cpu)));
+            self.world.stop(cpu, task);
+            self.call_back(
+                Callback::Stopping,
+                task_and_number(task, 1),
+                task,
+                cpu,
+                sink,
+            );
+            self.put(task, cpu, 0, sink);
+        }
+    }
+
+    /// The front of the local queue runs.
+    #[tactic(auto, unfolding(crate::specs::Cycle::start), using(crate::proofs::Taking::takings))]
+    fn start<S: Sink>(&mut self, cpu: u32, sink: &mut S)
+        requires few { self.old.world.queues.pushes + 4096 ≤ 2 ^ 63 }
+        ensures state { self.new ≡ (start self.old cpu).state }
+        ensures few { self.new.world.queues.pushes ≤ self.old.world.queues.pushes + 4096 }
+        ensures notes { Takes S.takes sink.old (start self.old cpu).notes sink.new }
+    {
+        if let Some(task) = self.world.start(cpu) {
+            sink.take(self.world.note(What::Run(task, cpu)));
+            self.call_back(Callback::Running, one_task(task), task, cpu, sink);
+        }
+    }
+
+    /// The front of the local queue runs in the place of the task before.
+    #[tactic(auto, unfolding(crate::specs::Cycle::pick), using(crate::proofs::Taking::takings))]
+    fn pick<S: Sink>(&mut self, cpu: u32, before: Option<u16>, sink: &mut S)
+        requires few { self.old.world.queues.pushes + 12289 ≤ 2 ^ 63 }
+        ensures state { self.new ≡ (pick self.old cpu before).state }
+        ensures few { self.new.world.queues.pushes ≤ self.old.world.queues.pushes + 12289 }
+        ensures notes { Takes S.takes sink.old (pick self.old cpu before).notes sink.new }
+    {
+        self.leave(cpu, before, sink);
+        self.start(cpu, sink);
+    }
+
+    /// Nobody comes: the task before stays, or the processor is idle.
+    #[tactic(auto, unfolding(crate::specs::Cycle::rest), using(crate::proofs::Taking::takings))]
+    fn rest<S: Sink>(&mut self, cpu: u32, before: Option<u16>, ran: bool, sink: &mut S)
+        requires few { self.old.world.queues.pushes + 0 ≤ 2 ^ 63 }
+        ensures state { self.new ≡ (rest self.old cpu before ran).state }
+        ensures few { self.new.world.queues.pushes ≤ self.old.world.queues.pushes + 0 }
+        ensures notes { Takes S.takes sink.old (rest self.old cpu before ran).notes sink.new }
+    {
+        if before.is_none() && ran {
+            sink.take(self.world.note(What::Idle(cpu)));
+        }
+        self.world.keep(before);
+    }
+
+    /// Runs the front of the local queue, if there is one.
+    #[tactic(auto, unfolding(crate::specs::Cycle::pick_or_rest), using(crate::proofs::Taking::takings))]
+    fn pick_or_rest<S: Sink>(&mut self, cpu: u32, before: Option<u16>, ran: bool, sink: &mut S)
+        requires few { self.old.world.queues.pushes + 12289 ≤ 2 ^ 63 }
+        ensures state { self.new ≡ (pick_or_rest self.old cpu before ran).state }
+        ensures few { self.new.world.queues.pushes ≤ self.old.world.queues.pushes + 12289 }
+        ensures notes { Takes S.takes sink.old (pick_or_rest self.old cpu before ran).notes sink.new }
+    {
+        if self.has_local(cpu) {
+            self.pick(cpu, before, sink);
+        } else {
+            self.rest(cpu, before, ran, sink);
+        }
+    }
+
+    /// Asks dispatch for a task.
+    #[tactic(auto, unfolding(crate::specs::Cycle::ask), using(crate::proofs::Taking::takings))]
+    fn ask<S: Sink>(&mut self, cpu: u32, before: Option<u16>, ran: bool, sink: &mut S)
+        requires few { self.old.world.queues.pushes + 143393 ≤ 2 ^ 63 }
+        ensures state { self.new ≡ (ask self.old cpu before ran).state }
+        ensures few { self.new.world.queues.pushes ≤ self.old.world.queues.pushes + 143393 }
+        ensures notes { Takes S.takes sink.old (ask self.old cpu before ran).notes sink.new }
+    {
+        self.tries(32, cpu, before, sink);
+        self.pick_or_rest(cpu, before, ran, sink);
+    }
+
+    /// A processor on which that task ran and may stay, or none, looks for the one that it runs next.
+    /// `ran` says whether any ran there as the event began.
+    #[tactic(auto, unfolding(crate::specs::Cycle::cycle), using(crate::proofs::Taking::takings))]
+    pub(crate) fn cycle<S: Sink>(&mut self, cpu: u32, before: Option<u16>, ran: bool, sink: &mut S)
+        requires few { self.old.world.queues.pushes + 143394 ≤ 2 ^ 63 }
+        ensures state { self.new ≡ (cycle self.old cpu before ran).state }
+        ensures few { self.new.world.queues.pushes ≤ self.old.world.queues.pushes + 143394 }
+        ensures notes { Takes S.takes sink.old (cycle self.old cpu before ran).notes sink.new }
+    {
+        self.fill(GLOBAL, cpu, sink);
+        if self.has_local(cpu) {
+            self.pick(cpu, before, sink);
+        } else {
+            self.ask(cpu, before, ran, sink);
+        }
+    }
+}

@@ -1,0 +1,230 @@
+ghost use Rattle.std.specs.Prelude.{◌≡◌, ℕ, ◌+◌, ◌<◌, ◌≤◌, ◌^◌, length, None};
+ghost use Rattle.scx_world.specs.World.{task_at};
+ghost use Rattle.scx_machine.specs.Notes.{Takes};
+ghost use Rattle.scx_machine.specs.declared.events.Event.TheVariants.{Wake, Sleep, SetWeight};
+ghost use Rattle.scx_machine.specs.Events.{is_bad_weight, refusal, target, put_and_run, wake, sleep_from_cpu, sleep, count_down, tick, happened};
+
+use crate::callbacks::task_and_number;
+use crate::machine::Machine;
+use crate::sink::Sink;
+use scx_isa::Callback;
+use scx_world::What;
+use thiserror::Error;
+
+/// What happens to the machine. Tasks, processors and groups go by their numbers.
+#[derive(Clone, Copy, Debug, PartialEq, Eq)]
+pub enum Event {
+    /// A task has work to do.
+    Wake(u16),
+    /// A task has none left.
+    Sleep(u16),
+    /// A processor ran for a millisecond.
+    Tick(u32),
+    /// The clock grows by a millisecond.
+    Clock,
+    /// A group has that weight from now on.
+    SetWeight(u32, u32),
+}
+
+/// Why an event isn't accepted. Nothing has changed, and nothing was noted.
+#[derive(Clone, Copy, Debug, PartialEq, Eq, Error)]
+pub enum Refused {
+    #[error("the task is runnable already")]
+    AlreadyRunnable,
+    #[error("the task isn't runnable")]
+    NotRunnable,
+    #[error("there is no such task")]
+    UnknownTask,
+    #[error("there is no such processor")]
+    UnknownCpu,
+    #[error("there is no such group")]
+    UnknownGroup,
+    #[error("a weight is one of 1 to 10000")]
+    BadWeight,
+    #[error("as many events were accepted as may be")]
+    RunOver,
+}
+
+fn is_bad_weight(weight: u32) -> bool
+    ensures { result ≡ is_bad_weight weight }
+{
+    weight < 1 || weight > 10_000
+}
+
+impl Machine {
+    /// Why the event isn't accepted.
+    pub fn refusal(&self, event: Event) -> Option<Refused>
+        ensures { result ≡ refusal self.now event }
+    {
+        match event {
+            Event::Wake(task) => self.wake_refusal(task),
+            Event::Sleep(task) => self.sleep_refusal(task),
+            Event::Tick(cpu) => {
+                if cpu < self.world.cpus() {
+                    None
+                } else {
+                    Some(Refused::UnknownCpu)
+                }
+            }
+            Event::Clock => None,
+            Event::SetWeight(group, weight) => self.weight_refusal(group, weight),
+        }
+    }
+
+    fn wake_refusal(&self, task: u16) -> Option<Refused>
+        ensures { result ≡ refusal self.now (Wake task) }
+    {
+        if !self.world.has_task(task) {
+            Some(Refused::UnknownTask)
+        } else if self.world.is_runnable(task) {
+            Some(Refused::AlreadyRunnable)
+        } else {
+            None
+        }
+    }
+
+    fn sleep_refusal(&self, task: u16) -> Option<Refused>
+        ensures { result ≡ refusal self.now (Sleep task) }
+    {
+        if !self.world.has_task(task) {
+            Some(Refused::UnknownTask)
+        } else if self.world.is_runnable(task) {
+            None
+        } else {
+            Some(Refused::NotRunnable)
+        }
+    }
+
+    fn weight_refusal(&self, group: u32, weight: u32) -> Option<Refused>
+        ensures { result ≡ refusal self.now (SetWeight group weight) }
+    {
+        if group >= self.world.groups() {
+            Some(Refused::UnknownGroup)
+        } else if is_bad_weight(weight) {
+            Some(Refused::BadWeight)
+        } else {
+            None
+        }
+    }
+
+    /// Puts a task that woke, and lets its target run if that is idle.
+    #[tactic(auto, unfolding(crate::specs::Events::put_and_run), using(crate::proofs::Taking::takings))]
+    fn put_and_run<S: Sink>(&mut self, task: u16, cpu: u32, sink: &mut S)
+        requires few { self.old.world.queues.pushes + 147491 ≤ 2 ^ 63 }
+        ensures state { self.new ≡ (put_and_run self.old task cpu).state }
+        ensures few { self.new.world.queues.pushes ≤ self.old.world.queues.pushes + 147491 }
+        ensures notes { Takes S.takes sink.old (put_and_run self.old task cpu).notes sink.new }
+    {
+        self.put(task, cpu, 1, sink);
+        if self.world.is_idle(cpu) {
+            self.cycle(cpu, None, false, sink);
+        }
+    }
+
+    /// A task wakes.
+    #[tactic(auto, unfolding(crate::specs::Events::wake), using(crate::proofs::Taking::takings))]
+    fn wake<S: Sink>(&mut self, task: u16, sink: &mut S)
+        requires known { task < length self.old.world.tasks }
+        requires few { self.old.world.queues.pushes + 147491 ≤ 2 ^ 63 }
+        ensures state { self.new ≡ (wake self.old task).state }
+        ensures few { self.new.world.queues.pushes ≤ self.old.world.queues.pushes + 147491 }
+        ensures notes { Takes S.takes sink.old (wake self.old task).notes sink.new }
+    {
+        sink.take(self.world.note(What::Wake(task)));
+        self.world.wake(task);
+        let cpu = self.world.default_choice(task);
+        self.put_and_run(task, cpu, sink);
+    }
+
+    /// A task that runs goes to sleep.
+    #[tactic(auto, unfolding(crate::specs::Events::sleep_from_cpu), using(crate::proofs::Taking::takings))]
+    fn sleep_from_cpu<S: Sink>(&mut self, task: u16, cpu: u32, sink: &mut S)
+        requires few { self.old.world.queues.pushes + 147490 ≤ 2 ^ 63 }
+        ensures state { self.new ≡ (sleep_from_cpu self.old task cpu).state }
+        ensures few { self.new.world.queues.pushes ≤ self.old.world.queues.pushes + 147490 }
+        ensures notes { Takes S.takes sink.old (sleep_from_cpu self.old task cpu).notes sink.new }
+    {
+        sink.take(self.world.note(What::Stop(task, cpu)));
+        self.world.stop(cpu, task);
+        self.call_back(
+            Callback::Stopping,
+            task_and_number(task, 0),
+            task,
+            cpu,
+            sink,
+        );
+        self.world.sleep(task);
+        self.cycle(cpu, None, true, sink);
+    }
+
+    /// A task goes to sleep.
+    #[tactic(auto, unfolding(crate::specs::Events::sleep), using(crate::proofs::Taking::takings))]
+    fn sleep<S: Sink>(&mut self, task: u16, sink: &mut S)
+        requires few { self.old.world.queues.pushes + 147490 ≤ 2 ^ 63 }
+        ensures state { self.new ≡ (sleep self.old task).state }
+        ensures few { self.new.world.queues.pushes ≤ self.old.world.queues.pushes + 147490 }
+        ensures notes { Takes S.takes sink.old (sleep self.old task).notes sink.new }
+    {
+        sink.take(self.world.note(What::Sleep(task)));
+        match self.world.cpu_of(task) {
+            Some(cpu) => self.sleep_from_cpu(task, cpu, sink),
+            None => {
+                self.world.leave_queue(task);
+                self.world.sleep(task);
+            }
+        }
+    }
+
+    /// A task has run for a millisecond.
+    #[tactic(auto, unfolding(crate::specs::Events::count_down), using(crate::proofs::Taking::takings))]
+    fn count_down<S: Sink>(&mut self, cpu: u32, task: u16, sink: &mut S)
+        requires early { (task_at self.old.world task).run_ns < 2 ^ 63 }
+        requires few { self.old.world.queues.pushes + 143394 ≤ 2 ^ 63 }
+        ensures state { self.new ≡ (count_down self.old cpu task).state }
+        ensures few { self.new.world.queues.pushes ≤ self.old.world.queues.pushes + 143394 }
+        ensures notes { Takes S.takes sink.old (count_down self.old cpu task).notes sink.new }
+    {
+        self.world.run_tick(task);
+        if self.world.task(task).slice == 0 {
+            self.cycle(cpu, Some(task), true, sink);
+        }
+    }
+
+    /// A processor ran for a millisecond.
+    #[tactic(auto, unfolding(crate::specs::Events::tick), using(crate::proofs::Taking::takings))]
+    fn tick<S: Sink>(&mut self, cpu: u32, sink: &mut S)
+        requires early { (t : ℕ) → (task_at self.old.world t).run_ns < 2 ^ 63 }
+        requires few { self.old.world.queues.pushes + 143394 ≤ 2 ^ 63 }
+        ensures state { self.new ≡ (tick self.old cpu).state }
+        ensures few { self.new.world.queues.pushes ≤ self.old.world.queues.pushes + 143394 }
+        ensures notes { Takes S.takes sink.old (tick self.old cpu).notes sink.new }
+    {
+        match self.world.running(cpu) {
+            Some(task) => self.count_down(cpu, task, sink),
+            None => self.cycle(cpu, None, false, sink),
+        }
+    }
+
+    /// Does what an event does that is accepted.
+    #[tactic(auto, using(crate::proofs::Taking::takings))]
+    pub fn event<S: Sink>(&mut self, event: Event, sink: &mut S)
+        requires accepted { refusal self.old event ≡ None }
+        requires early { self.old.world.clock < 2 ^ 32 }
+        requires runs { (t : ℕ) → (task_at self.old.world t).run_ns < 2 ^ 63 }
+        requires few { self.old.world.queues.pushes + 2 ^ 18 ≤ 2 ^ 63 }
+        ensures state { self.new ≡ (happened self.old event).state }
+        ensures few { self.new.world.queues.pushes ≤ self.old.world.queues.pushes + 2 ^ 18 }
+        ensures notes { Takes S.takes sink.old (happened self.old event).notes sink.new }
+    {
+        match event {
+            Event::Wake(task) => self.wake(task, sink),
+            Event::Sleep(task) => self.sleep(task, sink),
+            Event::Tick(cpu) => self.tick(cpu, sink),
+            Event::Clock => self.world.advance(),
+            Event::SetWeight(group, weight) => {
+                self.world.set_weight(group, weight);
+                sink.take(self.world.note(What::Weight(group, weight)));
+            }
+        }
+    }
+}

@@ -1,0 +1,21 @@
+//! The machine: events, and what callbacks, queues and processors make of them.
+//!
+//! An event is one step. In it tasks wake, wait, move, run and stop, callbacks of the policy run, and
+//! each change is a note, which goes to a sink. A step is a function of the machine before it, and
+//! takes no memory.
+#![tactic(auto)]
+
+mod callbacks;
+mod cycle;
+mod events;
+mod machine;
+mod policy;
+mod put;
+mod sink;
+mod start;
+
+pub use events::{Event, Refused};
+pub use machine::Machine;
+pub use policy::{BadPolicy, Callbacks, Policy};
+pub use sink::Sink;
+pub use start::NewError;

@@ -1,0 +1,137 @@
+ghost use Rattle.std.specs.Prelude.{◌≡◌, ◌↔◌, option_map, IsTrue, IfOk, OnOk, IfErr};
+ghost use Rattle.scx_machine.specs.Policy.{IsTimeout, IsAs, HasMaps, AreAs, HaveMaps, IsFault, program_of, policy_of};
+
+use scx_isa::Callback;
+use scx_maps::MapDefs;
+use scx_verify::Verified;
+use std::marker::Model;
+use thiserror::Error;
+
+/// The programs of a policy. Each may be absent.
+#[derive(Drop)]
+pub struct Callbacks {
+    pub init: Option<Verified>,
+    pub enable: Option<Verified>,
+    pub enqueue: Option<Verified>,
+    pub dispatch: Option<Verified>,
+    pub running: Option<Verified>,
+    pub stopping: Option<Verified>,
+}
+
+/// Why programs don't make a policy. Of several causes the least number is answered.
+#[derive(Clone, Copy, Debug, PartialEq, Eq, Error)]
+pub enum BadPolicy {
+    #[error("the timeout isn't one of 1 to 30000 milliseconds")]
+    BadTimeout,
+    #[error("a program was verified for another callback")]
+    OtherCallback,
+    #[error("a program was verified for other maps")]
+    OtherMaps,
+}
+
+/// A scheduling policy: its programs, each verified for its place and for maps of these shapes, and how
+/// long a task may wait.
+#[derive(Drop)]
+pub struct Policy {
+    defs: MapDefs,
+    timeout_ms: u32,
+    callbacks: Callbacks,
+}
+
+impl Model for Policy {
+    ghost use Rattle.scx_machine.specs.Policy.{PolicyState};
+
+    ghost Value = { PolicyState };
+
+    ghost view = { λ p. record { shapes = p.defs; timeout_ms = p.timeout_ms; callbacks = p.callbacks } };
+}
+
+impl Policy {
+    /// A policy of these programs.
+    pub fn new(defs: MapDefs, timeout_ms: u32, callbacks: Callbacks) -> Result<Policy, BadPolicy>
+        ensures made { IfOk result (λ policy. policy ≡ policy_of defs timeout_ms callbacks) }
+        ensures timeout { OnOk result (IsTimeout timeout_ms) }
+        ensures programs { OnOk result (AreAs callbacks) }
+        ensures maps { OnOk result (HaveMaps defs callbacks) }
+        ensures refused { IfErr result (IsFault defs timeout_ms callbacks) }
+    {
+        if timeout_ms < 1 || timeout_ms > 30_000 {
+            return Err(BadPolicy::BadTimeout);
+        }
+        if !are_as(&callbacks) {
+            return Err(BadPolicy::OtherCallback);
+        }
+        if !have_maps(&callbacks, &defs) {
+            return Err(BadPolicy::OtherMaps);
+        }
+        Ok(Policy {
+            defs,
+            timeout_ms,
+            callbacks,
+        })
+    }
+
+    /// The shapes of its maps.
+    pub fn defs(&self) -> &MapDefs
+        ensures { result.now ≡ self.now.shapes }
+    {
+        &self.defs
+    }
+
+    /// The program of a callback.
+    pub(crate) fn program(&self, callback: Callback) -> Option<&Verified>
+        ensures { option_map (λ p. p.now) result ≡ program_of self.now callback }
+    {
+        match callback {
+            Callback::Init => self.callbacks.init.as_ref(),
+            Callback::Enable => self.callbacks.enable.as_ref(),
+            Callback::Enqueue => self.callbacks.enqueue.as_ref(),
+            Callback::Dispatch => self.callbacks.dispatch.as_ref(),
+            Callback::Running => self.callbacks.running.as_ref(),
+            Callback::Stopping => self.callbacks.stopping.as_ref(),
+            Callback::Plain | Callback::SelectCpu => None,
+        }
+    }
+}
+
+/// Whether each program was verified as the callback in whose place it stands.
+fn are_as(callbacks: &Callbacks) -> bool
+    ensures { IsTrue result ↔ AreAs callbacks.now }
+{
+    is_as(&callbacks.init, Callback::Init)
+        && is_as(&callbacks.enable, Callback::Enable)
+        && is_as(&callbacks.enqueue, Callback::Enqueue)
+        && is_as(&callbacks.dispatch, Callback::Dispatch)
+        && is_as(&callbacks.running, Callback::Running)
+        && is_as(&callbacks.stopping, Callback::Stopping)
+}
+
+fn is_as(program: &Option<Verified>, callback: Callback) -> bool
+    ensures { IsTrue result ↔ IsAs callback program.now }
+{
+    match program {
+        Some(program) => program.callback() == callback,
+        None => true,
+    }
+}
+
+/// Whether each program was verified for these maps.
+fn have_maps(callbacks: &Callbacks, defs: &MapDefs) -> bool
+    ensures { IsTrue result ↔ HaveMaps defs.now callbacks.now }
+{
+    has_maps(&callbacks.init, defs)
+        && has_maps(&callbacks.enable, defs)
+        && has_maps(&callbacks.enqueue, defs)
+        && has_maps(&callbacks.dispatch, defs)
+        && has_maps(&callbacks.running, defs)
+        && has_maps(&callbacks.stopping, defs)
+}
+
+fn has_maps(program: &Option<Verified>, defs: &MapDefs) -> bool
+    ensures { IsTrue result ↔ HasMaps defs.now program.now }
+{
+    match program {
+        Some(program) => *program.defs() == *defs,
+        None => true,
+    }
+}

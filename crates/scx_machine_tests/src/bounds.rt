@@ -1,0 +1,113 @@
+//! As much as there may be, and policies that do nothing or name what they may not.
+
+use crate::policies::{INIT, NONE, defs, machine, policy, program, two_milliseconds};
+use crate::recorder::Recorder;
+use scx_isa::Callback;
+use scx_sched::{Callbacks, Event, Place, Policy, Sim};
+use scx_weights::{Group, Tree};
+use std::process::Abort;
+use std::test::Fail;
+
+fn place(rt: &impl Abort, sim: &Sim, task: u16) -> Place {
+    let known = task < sim.tasks();
+    assert!(rt; known);
+    sim.place(task)
+}
+
+#[test]
+fn as_much_as_there_may_be(rt: HostRuntime) -> Result<(), Fail> {
+    let mut groups = Vec::new(rt.alloc());
+    for _ in 0..256 {
+        groups.push(Group {
+            parent: None,
+            weight: 100,
+        })?;
+    }
+    let mut tasks = Vec::new(rt.alloc());
+    for task in 0..1024_u32 {
+        tasks.push(task % 256)?;
+    }
+    let tree = Tree::new(rt.alloc(), &groups, &tasks)?;
+    let mut sim = Sim::new(rt.alloc(), two_milliseconds(&rt), tree, 64)?;
+    let mut recorder = Recorder::new(rt.alloc(), 100_000);
+    for task in 0..1024_u16 {
+        assert_eq!(rt; sim.step(Event::Wake(task), &mut recorder), Ok(()));
+    }
+    for cpu in 0..64_u32 {
+        assert_eq!(rt; sim.step(Event::Tick(cpu), &mut recorder), Ok(()));
+    }
+    assert_eq!(rt; place(&rt, &sim, 63), Place::Cpu(63));
+    assert_eq!(rt; place(&rt, &sim, 64), Place::Policy(0));
+    Ok(())
+}
+
+#[test]
+fn sixteen_queues_are_fine(rt: HostRuntime) -> Result<(), Fail> {
+    let mut text = String::new(rt.alloc());
+    for queue in 0..16_u32 {
+        let line = format!(in rt.alloc(); "r1 = {queue}\ncall 1001\n")?;
+        text.push_str(line.as_str())?;
+    }
+    text.push_str("r0 = 0\nexit")?;
+    let callbacks = Callbacks {
+        init: program(&rt, Callback::Init, text.as_str()),
+        ..NONE
+    };
+    let _sixteen = machine(&rt, policy(&rt, callbacks), 1);
+    Ok(())
+}
+
+/// A task that wakes is held: its enqueue has a fault.
+fn is_held<R: AllocGlobal + Abort>(rt: &R, queue: &str, flags: &str) -> bool {
+    let text = format!(in rt.alloc();
+        "r4 = {flags}\nr2 = {queue} ll\nr3 = 0\ncall 1002\nexit"
+    ).expect(rt, "there is memory");
+    let callbacks = Callbacks {
+        init: program(rt, Callback::Init, INIT),
+        enqueue: program(rt, Callback::Enqueue, text.as_str()),
+        ..NONE
+    };
+    let mut sim = machine(rt, policy(rt, callbacks), 1);
+    let mut recorder = Recorder::new(rt.alloc(), 100);
+    assert_eq!(rt; sim.step(Event::Wake(0), &mut recorder), Ok(()));
+    place(rt, &sim, 0) == Place::Held
+}
+
+#[test]
+fn inserts(rt: HostRuntime) -> Result<(), Fail> {
+    // Queue 0, GLOBAL, LOCAL and the local queue of processor 0.
+    assert!(rt; !is_held(&rt, "0", "0"));
+    assert!(rt; !is_held(&rt, "9223372036854775809", "1"));
+    assert!(rt; !is_held(&rt, "9223372036854775810", "0"));
+    assert!(rt; !is_held(&rt, "13835058055282163712", "0"));
+    // An unknown flag, no such queue, HELD, BUILTIN, processor 1, and bits in the middle.
+    assert!(rt; is_held(&rt, "0", "2"));
+    assert!(rt; is_held(&rt, "1", "0"));
+    assert!(rt; is_held(&rt, "9223372036854775808", "0"));
+    assert!(rt; is_held(&rt, "9223372036854775811", "0"));
+    assert!(rt; is_held(&rt, "9223372036854775812", "0"));
+    assert!(rt; is_held(&rt, "13835058055282163713", "0"));
+    assert!(rt; is_held(&rt, "13835058059577131008", "0"));
+    Ok(())
+}
+
+#[test]
+fn callbacks_that_do_nothing(rt: HostRuntime) -> Result<(), Fail> {
+    let callbacks = Callbacks {
+        init: program(&rt, Callback::Init, "r0 = 0\nexit"),
+        enable: program(&rt, Callback::Enable, "exit"),
+        enqueue: program(&rt, Callback::Enqueue, "exit"),
+        dispatch: program(&rt, Callback::Dispatch, "exit"),
+        running: program(&rt, Callback::Running, "exit"),
+        stopping: program(&rt, Callback::Stopping, "exit"),
+    };
+    let policy = Policy::new(defs(&rt), 1, callbacks).expect(&rt, "each is for its place");
+    let mut sim = machine(&rt, policy, 2);
+    let mut recorder = Recorder::new(rt.alloc(), 100);
+    for event in [Event::Wake(0), Event::Tick(1), Event::Clock, Event::Tick(0)] {
+        assert_eq!(rt; sim.step(event, &mut recorder), Ok(()));
+    }
+    assert_eq!(rt; place(&rt, &sim, 0), Place::Held);
+    assert_eq!(rt; recorder.notes.len(), 2);
+    Ok(())
+}

@@ -1,0 +1,13 @@
+//! Tests of the machine: events, and the notes that they give.
+#![tactic(auto)]
+
+#[cfg(test)]
+mod bounds;
+#[cfg(test)]
+mod policies;
+#[cfg(test)]
+mod recorder;
+#[cfg(test)]
+mod refusals;
+#[cfg(test)]
+mod rows;

@@ -1,0 +1,216 @@
+//! Tests of texts as programs: of `assemble` and `disassemble`.
+
+use scx_asm::{AsmError, AsmFault, assemble, disassemble};
+use scx_examples::{EXIT, bytes_of};
+use scx_isa::{decode, encode};
+use std::alloc::{AllocError, Global};
+use std::process::Abort;
+use std::test::Fail;
+
+/// The text stands for the program with these slots.
+fn expect_slots<R: AllocGlobal + Abort>(rt: &R, text: &str, slots: &[u64]) -> Result<(), Fail> {
+    let program = assemble(rt.alloc(), text)?;
+    let bytes = encode(rt.alloc(), &program)?;
+    let wanted = bytes_of(rt.alloc(), slots)?;
+    assert_eq!(rt; bytes.as_slice(), wanted.as_slice(), "{text}");
+    Ok(())
+}
+
+/// The text is the canonical one of the program with these slots.
+fn expect_text<R: AllocGlobal + Abort>(rt: &R, slots: &[u64], text: &str) -> Result<(), Fail> {
+    let bytes = bytes_of(rt.alloc(), slots)?;
+    let program = decode(rt.alloc(), &bytes)?;
+    let found = disassemble(rt.alloc(), &program)?;
+    assert_eq!(rt; found.as_str(), text);
+    Ok(())
+}
+
+/// The line stands for these slots, and is their canonical text.
+fn expect_line<R: AllocGlobal + Abort>(rt: &R, line: &str, slots: &[u64]) -> Result<(), Fail> {
+    expect_slots(rt, line, slots)?;
+    let text = format!(in rt.alloc(); "{line}\n")?;
+    expect_text(rt, slots, text.as_str())
+}
+
+fn expect_fault<R: AllocGlobal + Abort>(rt: &R, text: &str, fault: AsmFault, line: usize) {
+    let found = match assemble(rt.alloc(), text) {
+        Ok(_) => None,
+        Err(error) => Some(error),
+    };
+    assert_eq!(rt; found, Some(AsmError::Refused { fault, line }), "{text}");
+}
+
+#[test]
+fn arithmetic(rt: HostRuntime) -> Result<(), Fail> {
+    expect_line(&rt, "r1 += r2", &[0x0f21_0000_0000_0000])?;
+    expect_line(&rt, "r1 += -4", &[0x0701_0000_fcff_ffff])?;
+    expect_line(&rt, "w3 -= 1", &[0x1403_0000_0100_0000])?;
+    expect_line(&rt, "r4 *= r5", &[0x2f54_0000_0000_0000])?;
+    expect_line(&rt, "r6 /= 3", &[0x3706_0000_0300_0000])?;
+    expect_line(&rt, "w7 s/= w8", &[0x3c87_0100_0000_0000])?;
+    expect_line(&rt, "r9 |= 255", &[0x4709_0000_ff00_0000])?;
+    expect_line(&rt, "r0 &= r10", &[0x5fa0_0000_0000_0000])?;
+    expect_line(&rt, "r1 <<= 3", &[0x6701_0000_0300_0000])?;
+    expect_line(&rt, "r1 >>= 3", &[0x7701_0000_0300_0000])?;
+    expect_line(&rt, "w1 s>>= w2", &[0xcc21_0000_0000_0000])?;
+    expect_line(&rt, "r1 %= r2", &[0x9f21_0000_0000_0000])?;
+    expect_line(&rt, "r1 s%= 7", &[0x9701_0100_0700_0000])?;
+    expect_line(&rt, "r1 ^= -2147483648", &[0xa701_0000_0000_0080])?;
+    expect_line(&rt, "r1 = r2", &[0xbf21_0000_0000_0000])?;
+    expect_line(&rt, "w1 = -5", &[0xb401_0000_fbff_ffff])?;
+    expect_line(&rt, "r1 = (s32)r2", &[0xbf21_2000_0000_0000])?;
+    expect_line(&rt, "w1 = (s16)w2", &[0xbc21_1000_0000_0000])?;
+    expect_line(&rt, "r1 = -r1", &[0x8701_0000_0000_0000])?;
+    expect_line(&rt, "w1 = -w1", &[0x8401_0000_0000_0000])?;
+    expect_line(&rt, "r1 = le16 r1", &[0xd401_0000_1000_0000])?;
+    expect_line(&rt, "r1 = be32 r1", &[0xdc01_0000_2000_0000])?;
+    expect_line(&rt, "r1 = bswap64 r1", &[0xd701_0000_4000_0000])
+}
+
+#[test]
+fn memory(rt: HostRuntime) -> Result<(), Fail> {
+    let wide = [0x1801_0000_f0de_bc9a, 0x0000_0000_7856_3412];
+    expect_line(&rt, "r1 = 1311768467463790320 ll", &wide)?;
+    expect_line(&rt, "r1 = map 3", &[0x1851_0000_0300_0000, 0])?;
+    expect_line(&rt, "r1 = *(u8 *)(r2 + 1)", &[0x7121_0100_0000_0000])?;
+    expect_line(&rt, "r1 = *(s16 *)(r2 - 6)", &[0x8921_faff_0000_0000])?;
+    expect_line(&rt, "r1 = *(u64 *)(r10 - 32768)", &[0x79a1_0080_0000_0000])?;
+    expect_line(&rt, "*(u32 *)(r10 - 4) = 0", &[0x620a_fcff_0000_0000])?;
+    expect_line(&rt, "*(u16 *)(r1 + 2) = r2", &[0x6b21_0200_0000_0000])
+}
+
+#[test]
+fn jumps(rt: HostRuntime) -> Result<(), Fail> {
+    expect_line(&rt, "if r1 == r2 goto +1", &[0x1d21_0100_0000_0000])?;
+    expect_line(&rt, "if w1 s> -5 goto +0", &[0x6601_0000_fbff_ffff])?;
+    expect_line(&rt, "if r1 & 8 goto -2", &[0x4501_feff_0800_0000])?;
+    expect_line(&rt, "if w1 s<= w2 goto +3", &[0xde21_0300_0000_0000])?;
+    expect_line(&rt, "goto +32767", &[0x0500_ff7f_0000_0000])?;
+    expect_line(&rt, "gotol -1", &[0x0600_0000_ffff_ffff])?;
+    expect_line(&rt, "call 1001", &[0x8500_0000_e903_0000])?;
+    expect_line(&rt, "exit", &[EXIT])
+}
+
+#[test]
+fn labels(rt: HostRuntime) -> Result<(), Fail> {
+    let over = [0x0500_0100_0000_0000, 0xb700_0000_0100_0000, EXIT];
+    expect_slots(&rt, "goto end\nr0 = 1\nend:\nexit", &over)?;
+    expect_text(&rt, &over, "goto +1\nr0 = 1\nexit\n")?;
+    // A wide instruction takes two slots.
+    let wide = [0x0500_0200_0000_0000, 0x1800_0000_0000_0080, 0, EXIT];
+    expect_slots(&rt, "goto end\nr0 = 2147483648 ll\nend:\nexit\n", &wide)?;
+    expect_slots(&rt, "a:\ngoto a\nexit", &[0x0500_ffff_0000_0000, EXIT])?;
+    // Any word can be a label, also past the last instruction.
+    expect_slots(&rt, "exit:\ngoto exit", &[0x0500_ffff_0000_0000])?;
+    expect_slots(&rt, "if r0 == 0 goto r0\nr0 :", &[0x1500_0000_0000_0000])
+}
+
+#[test]
+fn spellings(rt: HostRuntime) -> Result<(), Fail> {
+    expect_slots(&rt, "\t r1+=-0x4#!\n\nexit", &[0x0701_0000_fcff_ffff, EXIT])?;
+    expect_slots(&rt, "r1 = - r1", &[0x8701_0000_0000_0000])?;
+    expect_slots(&rt, "r1 s>>=007", &[0xc701_0000_0700_0000])?;
+    let all_bits = [0x1801_0000_ffff_ffff, 0x0000_0000_ffff_ffff];
+    expect_slots(&rt, "r1 = 0xFFFFffffFFFFffffll", &all_bits)?;
+    expect_slots(&rt, "r1 = -1 ll", &all_bits)?;
+    let least = [0x1801_0000_0000_0000, 0x0000_0000_0000_0080];
+    expect_slots(&rt, "r1 = -9223372036854775808 ll", &least)?;
+    expect_slots(&rt, "r1 = *( u8*)( r2+1 )", &[0x7121_0100_0000_0000])?;
+    expect_slots(&rt, "r1 = *(u8 *)(r2 -1)", &[0x7121_ffff_0000_0000])?;
+    expect_slots(&rt, "goto +0x5\r\n", &[0x0500_0500_0000_0000])?;
+    expect_slots(&rt, "exit # \r é", &[EXIT])
+}
+
+/// Texts of one faulty line, and the fault.
+const FAULTY: [(&str, AsmFault); 41] = [
+    ("", AsmFault::Syntax),
+    ("# only a comment", AsmFault::Syntax),
+    ("a:", AsmFault::Syntax),
+    ("r0 =", AsmFault::Syntax),
+    ("r0 = -r1", AsmFault::Syntax),
+    ("r0 = - 5", AsmFault::Syntax),
+    ("r0 = +5", AsmFault::Syntax),
+    ("r0 = 0X10", AsmFault::Syntax),
+    ("r0 = 0x", AsmFault::Syntax),
+    ("r11 = 0", AsmFault::Syntax),
+    ("r01 = 0", AsmFault::Syntax),
+    ("r1 += w1", AsmFault::Syntax),
+    ("w1 = 1 ll", AsmFault::Syntax),
+    ("w1 = (s32)w2", AsmFault::Syntax),
+    ("w1 = le16 w1", AsmFault::Syntax),
+    ("r1 = le16 r2", AsmFault::Syntax),
+    ("r1 = le8 r1", AsmFault::Syntax),
+    ("*(s8 *)(r1 + 0) = 1", AsmFault::Syntax),
+    ("r1 = *(u8 *)(r2 + -1)", AsmFault::Syntax),
+    ("r1 = *(u8 *)(r2)", AsmFault::Syntax),
+    ("r1 > > = 1", AsmFault::Syntax),
+    ("r1 s >>= 1", AsmFault::Syntax),
+    ("r1s>>=1", AsmFault::Syntax),
+    ("goto + 1", AsmFault::Syntax),
+    ("goto 1", AsmFault::Syntax),
+    ("_a: exit", AsmFault::Syntax),
+    ("a: exit", AsmFault::Syntax),
+    ("exit exit", AsmFault::Syntax),
+    ("exit é", AsmFault::Syntax),
+    ("exit \r", AsmFault::Syntax),
+    ("exit\r# \n", AsmFault::Syntax),
+    ("exit ;", AsmFault::Syntax),
+    ("r0 = 2147483648 map", AsmFault::Syntax),
+    ("goto end", AsmFault::UnknownLabel),
+    ("r0 = 2147483648", AsmFault::OutOfRange),
+    ("r0 = -2147483649", AsmFault::OutOfRange),
+    ("r0 = 18446744073709551616 ll", AsmFault::OutOfRange),
+    ("r0 = -9223372036854775809 ll", AsmFault::OutOfRange),
+    ("r1 = *(u8 *)(r2 + 32768)", AsmFault::OutOfRange),
+    ("goto -32769", AsmFault::OutOfRange),
+    ("if r1 == 4294967295 goto end", AsmFault::OutOfRange),
+];
+
+#[test]
+fn faults_of_lines(rt: HostRuntime) -> Result<(), Fail> {
+    for (text, fault) in FAULTY {
+        expect_fault(&rt, text, fault, 1);
+    }
+    Ok(())
+}
+
+#[test]
+fn faults_of_texts(rt: HostRuntime) -> Result<(), Fail> {
+    expect_fault(&rt, "goto end\nexit", AsmFault::UnknownLabel, 1);
+    expect_fault(&rt, "goto end\nr0 =", AsmFault::Syntax, 2);
+    expect_fault(&rt, "a:\na:\nexit", AsmFault::TwiceLabel, 2);
+    expect_fault(&rt, "r0 = 2147483648\nexit", AsmFault::OutOfRange, 1);
+    expect_fault(&rt, "\n\n", AsmFault::Syntax, 1);
+    expect_fault(&rt, "\n# é\n\u{e9}\n", AsmFault::Syntax, 3);
+    let error = AsmError::Refused {
+        fault: AsmFault::UnknownLabel,
+        line: 7,
+    };
+    let text = format!(in rt.alloc(); "{error}")?;
+    assert_eq!(rt; text.as_str(), "asm 2 UnknownLabel at 7");
+    Ok(())
+}
+
+/// The text that many times.
+fn repeated(alloc: Global, text: &str, times: usize) -> Result<String, AllocError> {
+    let mut all = String::new(alloc);
+    for _ in 0..times {
+        all.push_str(text)?;
+    }
+    Ok(all)
+}
+
+#[test]
+fn long_texts(rt: HostRuntime) -> Result<(), Fail> {
+    let comment = repeated(rt.alloc(), "#", 1_048_576)?;
+    expect_fault(&rt, comment.as_str(), AsmFault::Syntax, 1);
+    let numeral = repeated(rt.alloc(), "1", 100_000)?;
+    let line = format!(in rt.alloc(); "exit\nr0 = {numeral}")?;
+    expect_fault(&rt, line.as_str(), AsmFault::OutOfRange, 2);
+    let most = repeated(rt.alloc(), "exit\n", 4096)?;
+    let program = assemble(rt.alloc(), most.as_str())?;
+    assert_eq!(rt; program.slots(), 4096);
+    let more = repeated(rt.alloc(), "exit\n", 4097)?;
+    expect_fault(&rt, more.as_str(), AsmFault::TooLong, 4097);
+    Ok(())
+}

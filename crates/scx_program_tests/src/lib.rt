@@ -1,0 +1,18 @@
+//! Tests of programs: read from bytes and texts, verified, and run. Each program of docs/VERIFIER.md
+//! stands here with its verdict.
+#![tactic(auto)]
+
+#[cfg(test)]
+mod assembling;
+#[cfg(test)]
+mod malicious;
+#[cfg(test)]
+mod programs;
+#[cfg(test)]
+mod refusals;
+#[cfg(test)]
+mod runs;
+#[cfg(test)]
+mod verdicts;
+#[cfg(test)]
+mod verifying;

@@ -1,0 +1,149 @@
+//! Bytes that nobody meant as a program: callbacks of scx_simple cut short or with a byte changed, and
+//! bytes from a fixed generator. Whatever they are, they get an answer, and what is decoded is encoded
+//! to the same bytes.
+
+use crate::verdicts::expect;
+use scx_asm::assemble;
+use scx_examples::{DISPATCH, ENABLE, ENQUEUE, INIT, RUNNING, STOPPING};
+use scx_isa::{Callback, decode, encode, flow};
+use scx_maps::{MapDefs, Shape};
+use scx_verify::verify;
+use std::alloc::{AllocError, Global};
+use std::process::Abort;
+use std::test::Fail;
+
+const CALLBACKS: [(&str, Callback); 6] = [
+    (INIT, Callback::Init),
+    (ENABLE, Callback::Enable),
+    (ENQUEUE, Callback::Enqueue),
+    (DISPATCH, Callback::Dispatch),
+    (RUNNING, Callback::Running),
+    (STOPPING, Callback::Stopping),
+];
+
+/// The bytes of a callback.
+fn code_of(alloc: Global, text: &str) -> Option<Vec<u8>> {
+    let program = assemble(alloc, text).ok()?;
+    encode(alloc, &program).ok()
+}
+
+/// Takes the bytes through `decode`, `encode`, `flow` and `verify`. The answer is whether they are an
+/// accepted program; none where what was decoded isn't encoded to the same bytes.
+fn judge(alloc: Global, defs: &MapDefs, bytes: &[u8], callback: Callback) -> Option<bool> {
+    let Ok(program) = decode(alloc, bytes) else {
+        return Some(false);
+    };
+    let again = encode(alloc, &program).ok()?;
+    if again.as_slice() != bytes {
+        return None;
+    }
+    let flows = flow(&program).is_ok();
+    let accepted = verify(alloc, program, callback, defs).is_ok();
+    Some(flows && accepted)
+}
+
+fn defs<R: Abort>(rt: &R) -> MapDefs {
+    let clock = [Shape {
+        entries: 1,
+        value_size: 8,
+    }];
+    MapDefs::new(&clock).expect(rt, "the shapes are within the limits")
+}
+
+#[test]
+fn judges_beginnings(rt: HostRuntime) {
+    let defs = defs(&rt);
+    for (text, callback) in CALLBACKS {
+        let code = code_of(rt.alloc(), text).expect(&rt, "the text stands for a program");
+        for length in 0..code.len() {
+            let accepted = judge(rt.alloc(), &defs, &code.as_slice()[..length], callback);
+            // Control falls off each cut program.
+            assert_eq!(rt; accepted, Some(false), "{length} bytes");
+        }
+        let whole = judge(rt.alloc(), &defs, code.as_slice(), callback);
+        assert_eq!(rt; whole, Some(true));
+    }
+}
+
+/// Each program that has another value in one byte gets an answer.
+fn change_each_byte<R: AllocGlobal + Abort>(rt: &R, text: &str, callback: Callback) {
+    let defs = defs(rt);
+    let mut code = code_of(rt.alloc(), text).expect(rt, "the text stands for a program");
+    for place in 0..code.len() {
+        let meant = code.as_slice()[place];
+        for value in 0..=255u8 {
+            code[place] = value;
+            let judged = judge(rt.alloc(), &defs, code.as_slice(), callback);
+            assert!(rt; judged.is_some(), "byte {place} is {value}");
+        }
+        code[place] = meant;
+    }
+}
+
+#[test]
+fn judges_changed_bytes(rt: HostRuntime) {
+    for (text, callback) in CALLBACKS {
+        change_each_byte(&rt, text, callback);
+    }
+}
+
+/// The next number of a fixed walk (Marsaglia's xorshift).
+fn next(state: &mut u64) -> u64 {
+    let mut x = *state;
+    x ^= x.wrapping_shl(13);
+    x ^= x >> 7;
+    x ^= x.wrapping_shl(17);
+    *state = x;
+    x
+}
+
+/// Up to 15 slots and a part of one. Opcodes of the profile come often, and small registers and offsets.
+fn bytes_of_walk(alloc: Global, state: &mut u64) -> Result<Vec<u8>, AllocError> {
+    let opcodes = [
+        0xb7u8, 0xbf, 0x07, 0x0f, 0x7b, 0x79, 0x15, 0x55, 0x05, 0x85, 0x18, 0x95,
+    ];
+    let mut bytes = Vec::new(alloc);
+    let length = next(state) % 124;
+    for place in 0..length {
+        let number = next(state);
+        let byte = match place % 8 {
+            _ if number % 16 == 0 => (number >> 32 & 0xff) as u8,
+            0 => opcodes[((number >> 16) % 12) as usize],
+            1 => ((number >> 16) % 11) as u8,
+            2 => ((number >> 16) % 3) as u8,
+            _ => 0,
+        };
+        bytes.push(byte)?;
+    }
+    Ok(bytes)
+}
+
+#[test]
+fn judges_any_bytes(rt: HostRuntime) -> Result<(), Fail> {
+    let defs = defs(&rt);
+    let mut state = 0x9e37_79b9_7f4a_7c15;
+    for walk in 0..10_000 {
+        let bytes = bytes_of_walk(rt.alloc(), &mut state)?;
+        let judged = judge(rt.alloc(), &defs, bytes.as_slice(), Callback::Plain);
+        assert!(rt; judged.is_some(), "walk {walk}");
+    }
+    Ok(())
+}
+
+/// Two kinds that differ are joined to what can't be read, which is no fault unless it is read.
+#[test]
+fn joins_a_pointer_and_a_number(rt: HostRuntime) -> Result<(), Fail> {
+    let enqueue = Callback::Enqueue;
+    let read = "r6 = r10\nif r2 == 0 goto j\nr6 = 0\nj:\nr0 = r6\nexit";
+    expect(&rt, enqueue, read, "verify 5 UnusableRegister at 3")?;
+    let unread = "r6 = r10\nif r2 == 0 goto j\nr6 = 0\nj:\nr0 = 0\nexit";
+    expect(&rt, enqueue, unread, "ok 5")
+}
+
+/// A program that no run of gets stuck, and that is refused, since both sides of a comparison are
+/// followed.
+#[test]
+fn refuses_a_safe_program(rt: HostRuntime) -> Result<(), Fail> {
+    let skips = "r1 = 1\nif r1 != 1 goto +1\n*(u64 *)(r10 - 8) = 5\nr0 = *(u64 *)(r10 - 8)\nexit";
+    expect(&rt, Callback::Plain, skips, "verify 7 UnwrittenStack at 3")
+}

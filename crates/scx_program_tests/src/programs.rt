@@ -1,0 +1,306 @@
+//! Tests of programs and their bytes: of `scx_isa`'s public calls.
+
+use scx_isa::{
+    DecodeError, DecodeFault, Exclusion, Insn, Operand, Operation, Register, Width, decode, encode,
+};
+use std::mem::size_of;
+use std::process::Abort;
+use std::test::Fail;
+
+/// `r0 = 7`, `r1 = -2`, `r0 s%= r1`, `w0 += 1`, `goto +0`, `exit`.
+const PROGRAM: [u8; 48] = [
+    0xb7, 0, 0, 0, 7, 0, 0, 0, //
+    0xb7, 1, 0, 0, 0xfe, 0xff, 0xff, 0xff, //
+    0x9f, 0x10, 1, 0, 0, 0, 0, 0, //
+    0x04, 0, 0, 0, 1, 0, 0, 0, //
+    0x05, 0, 0, 0, 0, 0, 0, 0, //
+    0x95, 0, 0, 0, 0, 0, 0, 0,
+];
+
+/// What becomes of each opcode with all fields 0, 16 a row: `r` is read, `h` wants a second slot, `w` a
+/// width, `a`, `A` and `p` are refused as an atomic instruction of 32 or 64 bits and as a packet
+/// access, and `.` as unknown. After the tables of RFC 9669, sections 4 and 5.
+const OPCODES: [&str; 16] = [
+    "....rrrr....r..r",
+    "....rrrrh...rrrr",
+    "p...rrrrp...rrrr",
+    "p...rrrr....rrrr",
+    "p...rrrrp...rrrr",
+    "p...rrrr....rrrr",
+    ".rrrrrrr.rrrrrrr",
+    ".rrrrrrr.rrrrrrr",
+    ".r..rr.r.r......",
+    ".r..rr.r....r..r",
+    "....rrrr....rrrr",
+    "....rrrr....rrrr",
+    "...arrrr....rrrr",
+    "....wrrw...Awrr.",
+    "................",
+    "................",
+];
+
+/// Opcodes and the fields that they use: destination, source, offset, immediate. A `/` stands for an
+/// offset that is a choice, and a `w` for an immediate that is a width. After RFC 9669, sections 4
+/// and 5.
+const FIELDS: [(&str, &str); 13] = [
+    (
+        "04 14 24 44 54 64 74 a4 c4 07 17 27 47 57 67 77 a7 c7",
+        "di",
+    ),
+    (
+        "0c 1c 2c 4c 5c 6c 7c ac cc 0f 1f 2f 4f 5f 6f 7f af cf",
+        "ds",
+    ),
+    ("34 94 b4 37 97 b7", "d/i"),
+    ("3c 9c bc 3f 9f bf", "ds/"),
+    ("84 87", "d"),
+    ("d4 dc d7", "dw"),
+    (
+        "15 25 35 45 55 65 75 a5 b5 c5 d5 16 26 36 46 56 66 76 a6 b6 c6 d6",
+        "doi",
+    ),
+    (
+        "1d 2d 3d 4d 5d 6d 7d ad bd cd dd 1e 2e 3e 4e 5e 6e 7e ae be ce de",
+        "dso",
+    ),
+    ("61 69 71 79 81 89 91 63 6b 73 7b", "dso"),
+    ("62 6a 72 7a", "doi"),
+    ("05", "o"),
+    ("06", "i"),
+    ("95", ""),
+];
+
+/// Opcodes whose offset is a choice, and the offsets that they list.
+const OFFSETS: [(&str, &[u16]); 5] = [
+    ("34 3c 94 9c 37 3f 97 9f", &[0, 1]),
+    ("b4", &[0]),
+    ("b7", &[0]),
+    ("bc", &[0, 8, 16]),
+    ("bf", &[0, 8, 16, 32]),
+];
+
+#[test]
+fn keeps_instructions_small(rt: HostRuntime) {
+    assert!(rt; size_of::<Insn>() <= 16);
+}
+
+#[test]
+fn reads_and_writes(rt: HostRuntime) -> Result<(), Fail> {
+    let program = decode(rt.alloc(), &PROGRAM)?;
+    assert_eq!(rt; program.slots(), 6);
+    assert_eq!(rt; program.instructions(), 6);
+    let modulo = program.at(2);
+    assert!(rt;
+        matches!(
+            modulo,
+            Some(Insn::Binary(
+                Width::Bits64,
+                Operation::SignedModulo,
+                Register::R0,
+                Operand::Register(Register::R1),
+            ))
+        )
+    );
+    assert!(rt; matches!(program.at(4), Some(Insn::Goto(0))));
+    assert!(rt; program.at(6).is_none());
+    let bytes = encode(rt.alloc(), &program)?;
+    assert_eq!(rt; bytes.as_slice(), PROGRAM.as_slice());
+    Ok(())
+}
+
+/// What becomes of one slot.
+fn fate<R: AllocGlobal + Abort>(rt: &R, slot: &[u8]) -> char {
+    match decode(rt.alloc(), slot) {
+        Ok(_) => 'r',
+        Err(DecodeError::Refused { fault, slot: _ }) => match fault {
+            DecodeFault::HalfWide => 'h',
+            DecodeFault::BadWidth => 'w',
+            DecodeFault::NotInProfile(Exclusion::Atomic32) => 'a',
+            DecodeFault::NotInProfile(Exclusion::Atomic64) => 'A',
+            DecodeFault::NotInProfile(Exclusion::Packet) => 'p',
+            DecodeFault::UnknownOpcode => '.',
+            _ => '?',
+        },
+        Err(DecodeError::OutOfMemory) => '!',
+    }
+}
+
+#[test]
+fn knows_every_opcode(rt: HostRuntime) {
+    let mut opcode: u8 = 0;
+    for row in OPCODES {
+        for wanted in row.chars() {
+            let found = fate(&rt, &[opcode, 0, 0, 0, 0, 0, 0, 0]);
+            assert_eq!(rt; found, wanted, "opcode {opcode:02x}");
+            opcode = opcode.wrapping_add(1);
+        }
+    }
+}
+
+/// The fault of one slot, if it has one.
+fn fault<R: AllocGlobal + Abort>(rt: &R, slot: &[u8]) -> Option<DecodeFault> {
+    match decode(rt.alloc(), slot) {
+        Err(DecodeError::Refused { fault, slot: _ }) => Some(fault),
+        _ => None,
+    }
+}
+
+/// Expects a slot with these fields to be refused so.
+fn expect_fault<R: AllocGlobal + Abort>(rt: &R, slot: [u8; 8], wanted: Option<DecodeFault>) {
+    assert_eq!(rt; fault(rt, &slot), wanted, "{slot:?}");
+}
+
+/// The fault of a field with a wrong value, where the field is used and where it isn't.
+fn fault_of_field(used: bool, fault: DecodeFault) -> Option<DecodeFault> {
+    if used {
+        Some(fault)
+    } else {
+        Some(DecodeFault::UnusedField)
+    }
+}
+
+/// Tries each field of an opcode with a value that is wrong where the field isn't used, or for a
+/// register wrong in any case.
+fn try_fields<R: AllocGlobal + Abort>(rt: &R, code: u8, uses: &str) {
+    let width: u8 = if uses.contains('w') { 32 } else { 0 };
+    expect_fault(rt, [code, 0, 0, 0, width, 0, 0, 0], None);
+    let destination = fault_of_field(uses.contains('d'), DecodeFault::BadRegister);
+    expect_fault(rt, [code, 0x0b, 0, 0, width, 0, 0, 0], destination);
+    let source = fault_of_field(uses.contains('s'), DecodeFault::BadRegister);
+    expect_fault(rt, [code, 0xb0, 0, 0, width, 0, 0, 0], source);
+    if !uses.contains('o') {
+        let offset = fault_of_field(uses.contains('/'), DecodeFault::BadOffset);
+        expect_fault(rt, [code, 0, 2, 0, width, 0, 0, 0], offset);
+        expect_fault(rt, [code, 0, 0, 1, width, 0, 0, 0], offset);
+    }
+    if !uses.contains('i') {
+        let immediate = fault_of_field(uses.contains('w'), DecodeFault::BadWidth);
+        expect_fault(rt, [code, 0, 0, 0, 1, 0, 0, 0], immediate);
+        expect_fault(rt, [code, 0, 0, 0, 0, 0, 0, 0x80], immediate);
+    }
+}
+
+/// The number of two hexadecimal digits.
+fn code_of<R: Abort>(rt: &R, digits: &str) -> u8 {
+    match u8::from_str_radix(digits, 16) {
+        Ok(code) => code,
+        Err(_) => rt.abort(),
+    }
+}
+
+#[test]
+fn knows_every_field(rt: HostRuntime) {
+    for (codes, uses) in FIELDS {
+        for digits in codes.split(' ') {
+            try_fields(&rt, code_of(&rt, digits), uses);
+        }
+    }
+}
+
+#[test]
+fn knows_every_choice(rt: HostRuntime) {
+    for (codes, listed) in OFFSETS {
+        for digits in codes.split(' ') {
+            let code = code_of(&rt, digits);
+            for offset in [0u8, 1, 2, 7, 8, 9, 16, 32, 64, 255] {
+                let wanted = if listed.contains(&u16::from(offset)) {
+                    None
+                } else {
+                    Some(DecodeFault::BadOffset)
+                };
+                expect_fault(&rt, [code, 0, offset, 0, 0, 0, 0, 0], wanted);
+            }
+        }
+    }
+}
+
+#[test]
+fn knows_every_width(rt: HostRuntime) {
+    for code in [0xd4u8, 0xdc, 0xd7] {
+        for width in [0u8, 8, 16, 17, 32, 48, 64, 128] {
+            let wanted = if matches!(width, 16 | 32 | 64) {
+                None
+            } else {
+                Some(DecodeFault::BadWidth)
+            };
+            expect_fault(&rt, [code, 0, 0, 0, width, 0, 0, 0], wanted);
+        }
+    }
+}
+
+/// A wide instruction's second slot holds an immediate alone, and behind a map reference nothing.
+#[test]
+fn knows_second_slots(rt: HostRuntime) {
+    let refused = [
+        // Source field, offset; first and last byte of the second slot; the fault's slot.
+        (0x00u8, 1u8, 0u8, 0u8, Some(0usize)),
+        (0x00, 0, 1, 0, Some(1)),
+        (0x00, 0, 0, 1, None),
+        (0x50, 1, 1, 1, Some(0)),
+        (0x50, 0, 1, 0, Some(1)),
+        (0x50, 0, 0, 1, Some(1)),
+        (0x50, 0, 0, 0, None),
+    ];
+    for (source, offset, first, last, wanted) in refused {
+        let bytes = [
+            0x18, source, offset, 0, 9, 0, 0, 0, first, 0, 0, 0, 0, 0, 0, last,
+        ];
+        match decode(rt.alloc(), &bytes) {
+            Ok(program) => {
+                assert_eq!(rt; wanted, None);
+                assert_eq!(rt; program.slots(), 2);
+                assert_eq!(rt; program.instructions(), 1);
+                assert!(rt; program.at(1).is_none());
+            }
+            Err(DecodeError::Refused { fault, slot }) => {
+                assert_eq!(rt; fault, DecodeFault::UnusedField);
+                assert_eq!(rt; Some(slot), wanted);
+            }
+            Err(DecodeError::OutOfMemory) => assert!(rt; false),
+        }
+    }
+}
+
+#[test]
+fn names_faults(rt: HostRuntime) {
+    let refused = [
+        // A register above 10, before a bad offset, before an unused field.
+        ([0xb7, 0x0b, 2, 0, 0, 0, 0, 0], DecodeFault::BadRegister),
+        ([0x3f, 0xb0, 2, 0, 1, 0, 0, 0], DecodeFault::BadRegister),
+        ([0x3f, 0x10, 2, 0, 1, 0, 0, 0], DecodeFault::BadOffset),
+        ([0xb7, 0x00, 8, 0, 0, 0, 0, 0], DecodeFault::BadOffset),
+        ([0x3f, 0x10, 1, 0, 1, 0, 0, 0], DecodeFault::UnusedField),
+        ([0x04, 0x10, 0, 0, 0, 0, 0, 0], DecodeFault::UnusedField),
+        ([0x04, 0x00, 1, 0, 0, 0, 0, 0], DecodeFault::UnusedField),
+        ([0x05, 0x01, 0, 0, 0, 0, 0, 0], DecodeFault::UnusedField),
+        ([0x95, 0x00, 0, 0, 1, 0, 0, 0], DecodeFault::UnusedField),
+        // The source field is a part of the opcode of calls and of constants.
+        (
+            [0x85, 0x10, 0, 0, 0, 0, 0, 0],
+            DecodeFault::NotInProfile(Exclusion::LocalCall),
+        ),
+        (
+            [0x85, 0x20, 0, 0, 0, 0, 0, 0],
+            DecodeFault::NotInProfile(Exclusion::BtfCall),
+        ),
+        ([0x85, 0x30, 0, 0, 0, 0, 0, 0], DecodeFault::UnknownOpcode),
+        (
+            [0x18, 0x10, 0, 0, 0, 0, 0, 0],
+            DecodeFault::NotInProfile(Exclusion::MapByFd),
+        ),
+        (
+            [0x18, 0x60, 0, 0, 0, 0, 0, 0],
+            DecodeFault::NotInProfile(Exclusion::MapValueByIndex),
+        ),
+        ([0x18, 0x70, 0, 0, 0, 0, 0, 0], DecodeFault::UnknownOpcode),
+    ];
+    for (slot, fault) in refused {
+        match decode(rt.alloc(), &slot) {
+            Err(DecodeError::Refused { fault: found, slot }) => {
+                assert_eq!(rt; found, fault);
+                assert_eq!(rt; slot, 0);
+            }
+            _ => assert!(rt; false, "{slot:?} is read"),
+        }
+    }
+}

@@ -1,0 +1,264 @@
+//! A smallest program for each refusal, and what comes close to it.
+
+use crate::verdicts::expect;
+use scx_examples::{DISPATCH, ENABLE, ENQUEUE, INIT, RUNNING, STOPPING};
+use scx_isa::Callback;
+use std::process::Abort;
+use std::test::Fail;
+
+/// Looks up element 0 of map 0, by a key on the stack.
+const LOOKUP: &str = "*(u32 *)(r10 - 4) = 0\nr2 = r10\nr2 += -4\nr1 = map 0\ncall 1\n";
+
+#[test]
+fn refuses_jumps(rt: HostRuntime) -> Result<(), Fail> {
+    let plain = Callback::Plain;
+    expect(&rt, plain, "goto -1\nexit", "verify 1 BackJump at 0")?;
+    expect(&rt, plain, "goto +1\nexit", "verify 2 OutOfProgram at 0")?;
+    expect(
+        &rt,
+        plain,
+        "goto +1\nr0 = 0 ll\nexit",
+        "verify 3 IntoWide at 0",
+    )?;
+    expect(&rt, plain, "r0 = 0", "verify 4 FallsOff at 0")
+}
+
+#[test]
+fn refuses_registers_and_memory(rt: HostRuntime) -> Result<(), Fail> {
+    let plain = Callback::Plain;
+    expect(
+        &rt,
+        plain,
+        "r0 = r1\nexit",
+        "verify 5 UnusableRegister at 0",
+    )?;
+    expect(&rt, plain, "r10 = 0\nexit", "verify 6 WritesFrame at 0")?;
+    expect(
+        &rt,
+        plain,
+        "r0 = *(u64 *)(r10 - 8)\nexit",
+        "verify 7 UnwrittenStack at 0",
+    )?;
+    expect(
+        &rt,
+        plain,
+        "*(u64 *)(r10 + 0) = 0\nexit",
+        "verify 8 OutOfBounds at 0",
+    )?;
+    expect(
+        &rt,
+        plain,
+        "*(u64 *)(r10 - 12) = 0\nexit",
+        "verify 9 Misaligned at 0",
+    )
+}
+
+#[test]
+fn refuses_uses_of_pointers(rt: HostRuntime) -> Result<(), Fail> {
+    let plain = Callback::Plain;
+    let dispatch = Callback::Dispatch;
+    expect(
+        &rt,
+        dispatch,
+        "r0 = *(u32 *)(r2 + 0)\nexit",
+        "verify 10 NullNotTested at 0",
+    )?;
+    expect(
+        &rt,
+        plain,
+        "r1 = r10\nr1 *= 2\nexit",
+        "verify 11 PointerArithmetic at 1",
+    )?;
+    expect(
+        &rt,
+        plain,
+        "if r10 == 1 goto +0\nexit",
+        "verify 12 PointerCompare at 0",
+    )?;
+    expect(
+        &rt,
+        plain,
+        "*(u32 *)(r10 - 4) = r10\nexit",
+        "verify 13 PointerStore at 0",
+    )
+}
+
+#[test]
+fn refuses_fields_that_are_none(rt: HostRuntime) -> Result<(), Fail> {
+    let running = Callback::Running;
+    let half = "r0 = *(u32 *)(r1 + 8)\nexit";
+    expect(&rt, running, half, "verify 14 TaskField at 0")?;
+    expect(&rt, running, "r0 = *(u64 *)(r1 + 8)\nexit", "ok 2")?;
+    let signed = "r0 = *(s32 *)(r1 + 0)\nexit";
+    expect(&rt, running, signed, "verify 14 TaskField at 0")?;
+    let read_only = "*(u32 *)(r1 + 4) = 1\nexit";
+    expect(&rt, running, read_only, "verify 14 TaskField at 0")?;
+    let pointer = "*(u64 *)(r1 + 8) = r1\nexit";
+    expect(&rt, running, pointer, "verify 13 PointerStore at 0")?;
+    expect(&rt, running, "*(u64 *)(r1 + 8) = 1\nexit", "ok 2")
+}
+
+#[test]
+fn refuses_calls(rt: HostRuntime) -> Result<(), Fail> {
+    let running = Callback::Running;
+    expect(
+        &rt,
+        running,
+        "call 77\nexit",
+        "verify 15 UnknownHelper at 0",
+    )?;
+    let elsewhere = "r1 = 0\ncall 1004\nexit";
+    expect(&rt, running, elsewhere, "verify 16 HelperNotHere at 1")?;
+    expect(&rt, Callback::Dispatch, elsewhere, "ok 3")?;
+    expect(
+        &rt,
+        Callback::Enqueue,
+        "r1 = 0\nr3 = 0\nr4 = 0\ncall 1002\nexit",
+        "verify 17 BadArgument at 3",
+    )?;
+    expect(
+        &rt,
+        Callback::Enqueue,
+        "r3 = 0\nr4 = 0\nr1 = r5\ncall 1002\nexit",
+        "verify 5 UnusableRegister at 2",
+    )?;
+    expect(
+        &rt,
+        Callback::Dispatch,
+        "r1 = r2\ncall 1008\nexit",
+        "verify 17 BadArgument at 1",
+    )
+}
+
+#[test]
+fn refuses_answers_and_maps(rt: HostRuntime) -> Result<(), Fail> {
+    expect(&rt, Callback::Plain, "exit", "verify 18 BadReturn at 0")?;
+    expect(
+        &rt,
+        Callback::Init,
+        "r0 = r10\nexit",
+        "verify 18 BadReturn at 1",
+    )?;
+    expect(&rt, Callback::Enqueue, "goto +0\nexit", "ok 2")?;
+    let running = Callback::Running;
+    expect(
+        &rt,
+        running,
+        "r1 = map 1\nexit",
+        "verify 19 UnknownMap at 0",
+    )?;
+    expect(
+        &rt,
+        running,
+        "r1 = map -1\nexit",
+        "verify 19 UnknownMap at 0",
+    )?;
+    expect(&rt, running, "r1 = map 0\nexit", "ok 2")
+}
+
+#[test]
+fn checks_keys(rt: HostRuntime) -> Result<(), Fail> {
+    let running = Callback::Running;
+    let unwritten = "r2 = r10\nr2 += -4\nr1 = map 0\ncall 1\nexit";
+    expect(&rt, running, unwritten, "verify 7 UnwrittenStack at 4")?;
+    let half = "*(u16 *)(r10 - 4) = 0\nr2 = r10\nr2 += -4\nr1 = map 0\ncall 1\nexit";
+    expect(&rt, running, half, "verify 7 UnwrittenStack at 5")?;
+    let crooked = "r2 = r10\nr2 += -6\nr1 = map 0\ncall 1\nexit";
+    expect(&rt, running, crooked, "verify 9 Misaligned at 4")?;
+    let above = "r2 = r10\nr1 = map 0\ncall 1\nexit";
+    expect(&rt, running, above, "verify 8 OutOfBounds at 3")?;
+    let number = "r2 = 0\nr1 = map 0\ncall 1\nexit";
+    expect(&rt, running, number, "verify 17 BadArgument at 3")?;
+    let no_map = "*(u32 *)(r10 - 4) = 0\nr2 = r10\nr2 += -4\nr1 = 0\ncall 1\nexit";
+    expect(&rt, running, no_map, "verify 17 BadArgument at 4")
+}
+
+/// Verifies as running what looks up an element and then goes on so.
+fn expect_behind<R: AllocGlobal + Abort>(rt: &R, rest: &str, verdict: &str) -> Result<(), Fail> {
+    let text = format!(in rt.alloc(); "{LOOKUP}{rest}exit")?;
+    expect(rt, Callback::Running, text.as_str(), verdict)
+}
+
+#[test]
+fn wants_null_tested(rt: HostRuntime) -> Result<(), Fail> {
+    expect_behind(
+        &rt,
+        "r0 = *(u64 *)(r0 + 0)\n",
+        "verify 10 NullNotTested at 6",
+    )?;
+    // The test says nothing of a copy.
+    expect_behind(
+        &rt,
+        "r6 = r0\nif r0 == 0 goto +1\nr1 = *(u64 *)(r6 + 0)\n",
+        "verify 10 NullNotTested at 8",
+    )?;
+    // Nor of the side where 0 was found.
+    expect_behind(
+        &rt,
+        "if r0 != 0 goto +1\nr1 = *(u64 *)(r0 + 0)\n",
+        "verify 8 OutOfBounds at 7",
+    )?;
+    expect_behind(
+        &rt,
+        "if r0 == 0 goto +1\nexit\nr1 = *(u64 *)(r0 + 0)\n",
+        "verify 8 OutOfBounds at 8",
+    )?;
+    expect_behind(&rt, "if r0 == 0 goto +1\nr1 = *(u64 *)(r0 + 0)\n", "ok 8")
+}
+
+#[test]
+fn keeps_to_an_element(rt: HostRuntime) -> Result<(), Fail> {
+    expect_behind(
+        &rt,
+        "if r0 == 0 goto +1\nr1 = *(u64 *)(r0 + 8)\n",
+        "verify 8 OutOfBounds at 7",
+    )?;
+    expect_behind(
+        &rt,
+        "if r0 == 0 goto +1\nr1 = *(u32 *)(r0 + 2)\n",
+        "verify 9 Misaligned at 7",
+    )?;
+    expect_behind(
+        &rt,
+        "if r0 == 0 goto +1\nr0 += 9\n",
+        "verify 8 OutOfBounds at 7",
+    )?;
+    expect_behind(
+        &rt,
+        "if r0 == 0 goto +2\nr0 += 4\n*(u32 *)(r0 + 0) = 1\n",
+        "ok 9",
+    )?;
+    expect_behind(
+        &rt,
+        "if r0 == 0 goto +1\n*(u64 *)(r0 + 0) = r10\n",
+        "verify 13 PointerStore at 7",
+    )
+}
+
+#[test]
+fn accepts_scx_simple(rt: HostRuntime) -> Result<(), Fail> {
+    expect(&rt, Callback::Init, INIT, "ok 3")?;
+    expect(&rt, Callback::Enable, ENABLE, "ok 10")?;
+    expect(&rt, Callback::Enqueue, ENQUEUE, "ok 5")?;
+    expect(&rt, Callback::Dispatch, DISPATCH, "ok 3")?;
+    expect(&rt, Callback::Running, RUNNING, "ok 14")?;
+    expect(&rt, Callback::Stopping, STOPPING, "ok 10")
+}
+
+#[test]
+fn knows_what_each_callback_is_given(rt: HostRuntime) -> Result<(), Fail> {
+    let second = "r0 = r2\nexit";
+    expect(
+        &rt,
+        Callback::Running,
+        second,
+        "verify 5 UnusableRegister at 0",
+    )?;
+    expect(&rt, Callback::Stopping, second, "ok 2")?;
+    expect(
+        &rt,
+        Callback::Enqueue,
+        "call 5\nr0 = r1\nexit",
+        "verify 5 UnusableRegister at 1",
+    )
+}

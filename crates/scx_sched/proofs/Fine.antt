@@ -1,0 +1,112 @@
+-- What holds between two events is kept by each small step of a world.
+use Rattle.std.proofs.Common.{◌≡◌, ℕ, ◌*◌, ◌<◌, ◌≤◌, ◌⊎◌, inl, inr, nat_lt, ◌==◌, List, length, set, get_or, map, Option, Some, None, refl}
+use Rattle.std.proofs.lemmas.Bool.{cases_eq, cases_lt}
+use Rattle.std.proofs.lemmas.List.{get_or-set_same, get_or-set_other, set_past}
+use Rattle.scx_dsq.specs.Queues.{front_of}
+use Rattle.scx_dsq.specs.Calls.{created}
+use Rattle.scx_semantics.specs.declared.outside.Field.{Field}
+use Rattle.scx_semantics.specs.declared.outside.Field.TheVariants.{Pid, Weight, Slice, DsqVtime, PrevCpu, Group, RunNs}
+use Rattle.scx_semantics.specs.declared.outside.Helper.{Helper}
+use Rattle.scx_semantics.specs.declared.outside.Helper.TheVariants.{MapLookupElem, KtimeGetNs, CreateDsq, DsqInsert, DsqInsertVtime, DsqMoveToLocal, SelectCpuDfl, CpuIdle, TaskByPid, DsqNrQueued}
+use Rattle.scx_semantics.specs.Effects.{Query, Call, Load, Store}
+use Rattle.scx_vm.specs.Arguments.{argument_of}
+use Rattle.scx_vm.specs.Host.{after_query}
+use Rattle.scx_vm.specs.declared.arguments.Argument.{Argument}
+use Rattle.scx_world.specs.declared.task.Task.{Task}
+use Rattle.scx_world.specs.declared.faults.Fault.{Fault}
+use Rattle.scx_world.specs.declared.faults.Fault.TheVariants.{NoSuchQueue, CannotCreate}
+use Rattle.scx_world.specs.World.{WorldState, with_queues, with_task, task_at, no_task}
+use Rattle.scx_world.specs.Tasks.{given_slice, entered, brought, fill_front, renewed}
+use Rattle.scx_world.specs.Helpers.{is_there, can_create, faulted, insert_fault, inserted, can_move, moved, given_number, given_task, helper_after, stored_in, world_stored}
+use Rattle.scx_machine.specs.Put.{queue_for, slice_for}
+use Rattle.scx_sched.specs.Once.{IsSound}
+use Rattle.scx_sched.specs.Ranges.{IsFine}
+use Rattle.scx_sched.specs.Kept.{IsKeptBySteps}
+use Rattle.scx_sched.proofs.Entering.{keeps_if}
+use Rattle.scx_sched.proofs.Sound.{sound_query, sound_begun, sound_quiet, sound_placed, sound_filled, sound_stopped, sound_started, sound_kept, sound_asleep}
+
+-- the clock and run times are in range
+abbrev pub IsRange : ℕ → WorldState → Type 0
+IsRange e w = (w.clock ≤ e) × ((t : ℕ) → (task_at w t).run_ns ≤ 1000000 * e)
+
+pub range_of : (n e : ℕ) (hand : Option ℕ) (on : List (Option ℕ)) (w : WorldState) → IsFine n e hand on w → IsRange e w
+range_of n e hand on w h = (h.clock, h.runs)
+
+pub fine_of : (n e : ℕ) (hand : Option ℕ) (on : List (Option ℕ)) (w : WorldState) → IsSound hand on n w → IsRange e w → IsFine n e hand on w
+fine_of n e hand on w s r = record { sound = s; clock = r.0; runs = r.1 }
+
+runs_set : (tasks : List Task) (t : ℕ) (x : Task) (k : ℕ) → x.run_ns ≤ k → ((u : ℕ) → (get_or tasks u no_task).run_ns ≤ k) → (u : ℕ) → (get_or (set tasks t x) u no_task).run_ns ≤ k
+runs_set tasks t x k new old u = go (cases_eq u t) (cases_lt t (length tasks))
+  where
+    go : (u ≡ t) ⊎ (u ≡ t → ⊥) → (t < length tasks) ⊎ (length tasks ≤ t) → (get_or (set tasks t x) u no_task).run_ns ≤ k
+    go (inl e) (inl within) = rw (e, get_or-set_same tasks t x no_task within) new
+    go (inl e) (inr past) = rw (set_past tasks t x past) (old u)
+    go (inr d) l = rw (get_or-set_other tasks t u x no_task d) (old u)
+
+module _ (e : ℕ) where
+  pub range_task : (w : WorldState) (t : ℕ) (x : Task) → x.run_ns ≤ 1000000 * e → IsRange e w → IsRange e (with_task w t x)
+  range_task w t x new r = (r.0, runs_set w.tasks t x (1000000 * e) new r.1)
+
+  -- a task that has run as long
+  range_same : (w : WorldState) (t : ℕ) (x : Task) → x.run_ns ≡ (task_at w t).run_ns → IsRange e w → IsRange e (with_task w t x)
+  range_same w t x same r = range_task w t x (rw same (r.1 t)) r
+
+  stored_run : (x : Task) (f : Field) (k : ℕ) → (stored_in x f k).run_ns ≡ x.run_ns
+  stored_run x Pid k = refl
+  stored_run x Weight k = refl
+  stored_run x Slice k = refl
+  stored_run x DsqVtime k = refl
+  stored_run x PrevCpu k = refl
+  stored_run x Group k = refl
+  stored_run x RunNs k = refl
+
+  range_inserted : (w : WorldState) (o : Option Fault) (q k : ℕ) → IsRange e w → IsRange e (inserted w o q k)
+  range_inserted w None q k r = r
+  range_inserted w (Some f) q k r = r
+
+  range_moved : (w : WorldState) (o : Option ℕ) (q : ℕ) → IsRange e w → IsRange e (moved w o q)
+  range_moved w None q r = r
+  range_moved w (Some t) q r = r
+
+  range_brought : (o : Option ℕ) (w : WorldState) (q c : ℕ) → IsRange e w → IsRange e (brought o w q c)
+  range_brought None w q c r = r
+  range_brought (Some t) w q c r = r
+
+  range_helper : (w : WorldState) (f : Helper) (a : List Argument) → IsRange e w → IsRange e (helper_after w f a)
+  range_helper w CreateDsq a r = keeps_if (IsRange e) (can_create w (given_number a 0)) (with_queues w (created w.queues (given_number a 0))) (faulted w CannotCreate) r r
+  range_helper w DsqInsert a r = range_inserted w (insert_fault w (given_task a 0) (given_number a 1) (given_number a 3)) (given_number a 1) (given_number a 2) r
+  range_helper w DsqMoveToLocal a r = keeps_if (IsRange e) (can_move w (given_number a 0)) (moved w (front_of w.queues (given_number a 0)) (given_number a 0)) (faulted w NoSuchQueue) (range_moved w (front_of w.queues (given_number a 0)) (given_number a 0) r) r
+  range_helper w DsqNrQueued a r = keeps_if (IsRange e) (is_there w (given_number a 0)) w (faulted w NoSuchQueue) r r
+  range_helper w KtimeGetNs a r = r
+  range_helper w MapLookupElem a r = r
+  range_helper w DsqInsertVtime a r = r
+  range_helper w SelectCpuDfl a r = r
+  range_helper w CpuIdle a r = r
+  range_helper w TaskByPid a r = r
+
+  range_query : (w : WorldState) (q : Query) → IsRange e w → IsRange e (after_query helper_after world_stored w q)
+  range_query w (Call f a) r = range_helper w f (map argument_of a) r
+  range_query w (Load t f) r = r
+  range_query w (Store t f k) r = range_same w t.0 (stored_in (task_at w t.0) f k) (stored_run (task_at w t.0) f k) r
+
+  slice_run : (x : Task) (k : ℕ) → (given_slice x k).run_ns ≡ x.run_ns
+  slice_run x k = keeps_if (λ (y : Task). y.run_ns ≡ x.run_ns) (k == 0) x _ refl refl
+
+  renewed_run : (x : Task) → (renewed x).run_ns ≡ x.run_ns
+  renewed_run x = keeps_if (λ (y : Task). y.run_ns ≡ x.run_ns) (x.slice == 0) _ x refl refl
+
+  range_entered : (w : WorldState) (t q k : ℕ) → IsRange e w → IsRange e (entered w t q k)
+  range_entered w t q k r = keeps_if (IsRange e) (nat_lt t (length w.tasks)) _ w (range_same w t (given_slice (task_at w t) k) (slice_run (task_at w t) k) r) r
+
+pub fine_steps : (n e : ℕ) → IsKeptBySteps n (IsFine n e)
+fine_steps n e = record {
+  query = λ hand on w q h. fine_of n e hand on _ (sound_query hand on n w q h.sound) (range_query e w q (range_of n e hand on w h));
+  begun = λ hand on w b t c l h. fine_of n e hand on _ (sound_begun hand on n w b t c l h.sound) (h.clock, h.runs);
+  quiet = λ hand on w h. fine_of n e hand on _ (sound_quiet hand on n w h.sound) (h.clock, h.runs);
+  entered = λ on w p t l h. fine_of n e None on _ (sound_placed on n w p t l h.sound) (range_entered e w t (queue_for p w.call.cpu w.call.insert) (slice_for p w.call.insert) (h.clock, h.runs));
+  filled = λ on w q c l h. fine_of n e None on _ (sound_filled on n w q c l h.sound) (range_brought e (fill_front w q c) w q c (h.clock, h.runs));
+  stopped = λ on w c t l within runs h. fine_of n e (Some t) (set on c None) _ (sound_stopped on n w c t l within runs h.sound) (range_same e w t _ refl (h.clock, h.runs));
+  started = λ on w c t l free front h. fine_of n e None (set on c (Some t)) _ (sound_started on n w c t l free front h.sound) (range_same e w t _ refl (h.clock, h.runs));
+  kept = λ on w t h. fine_of n e None on _ (sound_kept on n w t h.sound) (range_same e w t (renewed (task_at w t)) (renewed_run e (task_at w t)) (h.clock, h.runs));
+  asleep = λ on w t l h. fine_of n e None on _ (sound_asleep on n w t l h.sound) (keeps_if (IsRange e) (nat_lt t (length w.tasks)) _ w (h.clock, h.runs) (h.clock, h.runs));
+}

@@ -1,0 +1,238 @@
+-- The first state: the machine's own queues are made, nobody runs or waits, and callbacks keep it so.
+use Rattle.std.proofs.Common.{◌≡◌, ℕ, zero, suc, ◌+◌, ◌<◌, ◌≤◌, Bool, true, false, ◌==◌, ◌||◌, nat_lt, if◌then◌else◌, ◌⊎◌, inl, inr, List, [], ◌∷◌, length, get_or, nat_le, Option, Some, None, Result, Ok, Err, ℤ, subst, refl, ◌∙◌, ap, arith, is_none, length-append, replicate}
+use Rattle.std.proofs.lemmas.Bool.{cases_eq, cases_lt, eq-eqb, ne_eqb}
+use Rattle.std.proofs.lemmas.Bool.Decides.{nat_tests}
+use Rattle.std.proofs.lemmas.List.Folds.{list_any-append}
+use Rattle.scx_dsq.specs.Queues.{QueueState, exists}
+use Rattle.scx_dsq.specs.Calls.{created, create_refusal, with_queue, empty}
+use Rattle.scx_world.specs.Ids.{global, held, builtin, local_on}
+use Rattle.std.proofs.lemmas.List.{length-replicate, get_or-replicate, get_or_past}
+use Rattle.std.proofs.lemmas.List.Folds.{sum_by-replicate}
+use Rattle.scx_dsq.specs.Queues.{place_at, place_of}
+use Rattle.scx_dsq.specs.declared.places.Place.{Place}
+use Rattle.scx_dsq.specs.Laws.{one_if}
+use Rattle.scx_semantics.specs.declared.callbacks.Callback.TheVariants as callback
+use Rattle.scx_weights.specs.Hierarchy.{Hierarchy, is_active_task}
+use Rattle.scx_weights.specs.Counting.{any_below}
+use Rattle.scx_world.specs.World.{no_task, is_this, begun}
+use Rattle.scx_world.specs.First.{new_task, first_world}
+use Rattle.scx_machine.specs.Policy.{PolicyState, program_of}
+use Rattle.scx_machine.specs.Steps.{State}
+use Rattle.scx_machine.specs.Callbacks.{ended, no_arguments, one_task}
+use Rattle.scx_machine.specs.Start.{is_bad_shape, blank, init_ending, bad_answer, ok_unless, initialized, enable_ending, has_failed, enable, then_enable, enabled, ok_if, all_enabled, started}
+use Rattle.scx_sched.specs.Once.{runs, HasQueues}
+use Rattle.scx_sched.specs.Ranges.{IsFine}
+use Rattle.scx_sched.proofs.Entering.{keeps_if}
+use Rattle.scx_sched.proofs.Skeleton.{keeps_called}
+use Rattle.scx_sched.proofs.Fine.{fine_steps}
+use Rattle.scx_world.specs.First.{with_locals, own_queues, first_queues}
+
+or_false : (b : Bool) → (b || false) ≡ b
+or_false true = refl
+or_false false = refl
+
+or_true : (b : Bool) → (b || true) ≡ true
+or_true true = refl
+or_true false = refl
+
+-- what exists in a queue list with one more
+exists_with : (s : QueueState) (q r : ℕ) → exists (with_queue s q) r ≡ (exists s r || (q == r))
+exists_with s q r = list_any-append (λ other. other == r) s.ids (q ∷ []) ∙ ap (λ b. exists s r || b) (one (q == r))
+  where
+    one : (b : Bool) → (b || false) ≡ b
+    one b = or_false b
+
+-- a new id with room is taken
+is_made : (s : QueueState) (q : ℕ) → exists s q ≡ false → length s.ids < s.room → created s q ≡ with_queue s q
+is_made s q new room = let free : nat_le s.room (length s.ids) ≡ false = grind (arith, nat_tests, room) in rw (new, free) refl
+
+-- after so many local queues
+pub record HasLocals (n : ℕ) (s t : QueueState) : Type 0 where
+  pub count : length t.ids ≡ length s.ids + n
+  pub room : t.room ≡ s.room
+  pub stay : (r : ℕ) → exists s r ≡ true → exists t r ≡ true
+  pub made : (c : ℕ) → c < n → exists t (local_on c) ≡ true
+  pub later : (c : ℕ) → n ≤ c → exists t (local_on c) ≡ false
+
+one_more : (n : ℕ) (s t : QueueState) → length s.ids + suc n ≤ s.room → HasLocals n s t → HasLocals (suc n) s (created t (local_on n))
+one_more n s t room h = rw made record {
+  count = length-append t.ids (local_on n ∷ []) ∙ omega (arith, h.count);
+  room = h.room;
+  stay = λ r e. rw (exists_with t (local_on n) r, h.stay r e) refl;
+  made = λ c l. here c l (cases_eq c n);
+  later = λ c l. rw (exists_with t (local_on n) (local_on c), h.later c (omega (arith, l)), ne_eqb (local_on n) (local_on c) (λ e. omega (arith, e, l))) refl;
+}
+  where
+    made : created t (local_on n) ≡ with_queue t (local_on n)
+    made = is_made t (local_on n) (h.later n (omega arith)) (omega (arith, h.count, h.room, room))
+
+    here : (c : ℕ) → c < suc n → (c ≡ n) ⊎ (c ≡ n → ⊥) → exists (with_queue t (local_on n)) (local_on c) ≡ true
+    here c l (inl e) = rw (e, exists_with t (local_on n) (local_on n), eq-eqb (local_on n) (local_on n) refl) (or_true (exists t (local_on n)))
+    here c l (inr d) = rw (exists_with t (local_on n) (local_on c), h.made c (omega (arith, l, d))) refl
+
+locals : (n : ℕ) (s : QueueState) → ((c : ℕ) → exists s (local_on c) ≡ false) → length s.ids + n ≤ s.room → HasLocals n s (with_locals n s)
+locals zero s none room = record { count = omega arith; room = refl; stay = λ r e. e; made = λ c l. absurd (omega (arith, l)); later = λ c l. none c }
+locals (suc n) s none room = one_more n s (with_locals n s) room (locals n s none (omega (arith, room)))
+
+own : (cpus tasks : ℕ) → own_queues cpus tasks ≡ record { room = 19 + cpus; ids = global ∷ held ∷ builtin ∷ []; places = replicate tasks None; pushes = 0 }
+own cpus tasks =
+    let a = is_made (empty (19 + cpus) tasks) global refl (omega arith) in
+    rw (
+      a,
+      is_made (with_queue (empty (19 + cpus) tasks) global) held refl (omega arith),
+      is_made (with_queue (with_queue (empty (19 + cpus) tasks) global) held) builtin refl (omega arith),
+    ) refl
+
+pub first_has_queues : (cpus tasks : ℕ) → HasQueues (first_queues cpus tasks) cpus
+first_has_queues cpus tasks = rw (own cpus tasks) record {
+  global = l.stay global refl;
+  held = l.stay held refl;
+  builtin = l.stay builtin refl;
+  locals = λ c k. l.made c k;
+}
+  where
+    s : QueueState
+    s = record { room = 19 + cpus; ids = global ∷ held ∷ builtin ∷ []; places = replicate tasks None; pushes = 0 }
+
+    none : (c : ℕ) → exists s (local_on c) ≡ false
+    none c = rw (ne_eqb global (local_on c) (λ e. omega (arith, e)), ne_eqb held (local_on c) (λ e. omega (arith, e)), ne_eqb builtin (local_on c) (λ e. omega (arith, e))) refl
+
+    l : HasLocals cpus s (with_locals cpus s)
+    l = locals cpus s none (omega arith)
+
+-- ---- nobody waits, runs or is active
+
+places_created : (s : QueueState) (q : ℕ) → (created s q).places ≡ s.places
+places_created s q = keeps_if (λ (t : QueueState). t.places ≡ s.places) (is_none (create_refusal s q)) (with_queue s q) s refl refl
+
+locals_places : (n : ℕ) (s : QueueState) → (with_locals n s).places ≡ s.places
+locals_places zero s = refl
+locals_places (suc n) s = places_created (with_locals n s) (local_on n) ∙ locals_places n s
+
+first_places : (cpus tasks : ℕ) → (first_queues cpus tasks).places ≡ replicate tasks None
+first_places cpus tasks = locals_places cpus (own_queues cpus tasks) ∙ ap (λ (s : QueueState). s.places) (own cpus tasks)
+
+nowhere : (cpus tasks t : ℕ) → place_of (first_queues cpus tasks) t ≡ None
+nowhere cpus tasks t = rw (first_places cpus tasks) (go (cases_lt t tasks))
+  where
+    go : (t < tasks) ⊎ (tasks ≤ t) → place_at (replicate tasks None) t ≡ None
+    go (inl l) = get_or-replicate {A = Option Place} tasks t None None l
+    go (inr past) = get_or_past {X = Option Place} (replicate tasks None) t None (rw (length-replicate {A = Option Place} tasks None) past)
+
+nobody_runs : (cpus t : ℕ) → runs (replicate cpus None) t ≡ 0
+nobody_runs cpus t = sum_by-replicate (λ o. one_if (is_this t o)) cpus None ∙ omega arith
+
+at_home : (n t : ℕ) → (get_or (replicate n new_task) t no_task).prev_cpu ≡ 0
+at_home n t = go (cases_lt t n)
+  where
+    go : (t < n) ⊎ (n ≤ t) → (get_or (replicate n new_task) t no_task).prev_cpu ≡ 0
+    go (inl l) = rw (get_or-replicate n t new_task no_task l) refl
+    go (inr past) = rw (get_or_past (replicate n new_task) t no_task (rw (length-replicate n new_task) past)) refl
+
+never_ran : (n t : ℕ) → (get_or (replicate n new_task) t no_task).run_ns ≡ 0
+never_ran n t = go (cases_lt t n)
+  where
+    go : (t < n) ⊎ (n ≤ t) → (get_or (replicate n new_task) t no_task).run_ns ≡ 0
+    go (inl l) = rw (get_or-replicate n t new_task no_task l) refl
+    go (inr past) = rw (get_or_past (replicate n new_task) t no_task (rw (length-replicate n new_task) past)) refl
+
+none_below : (n t : ℕ) (test : ℕ → Bool) → any_below n test ≡ false → t < n → test t ≡ false
+none_below zero t test none l = absurd (omega (arith, l))
+none_below (suc n) t test none l = go (any_below n test) (test n) refl refl none (cases_eq t n) (λ e d. none_below n t test e (omega (arith, l, d)))
+  where
+    go : (a b : Bool) → any_below n test ≡ a → test n ≡ b → (a || b) ≡ false → (t ≡ n) ⊎ (t ≡ n → ⊥) → (any_below n test ≡ false → (t ≡ n → ⊥) → test t ≡ false) → test t ≡ false
+    go false false x y z (inl is) f = rw is y
+    go false false x y z (inr d) f = f x d
+    go true b x y z c f = absurd (cc)
+    go false true x y z c f = absurd (cc)
+
+pub record HasShape (tree : Hierarchy) (cpus : ℕ) : Type 0 where
+  pub some : 0 < cpus
+  pub asleep : any_below (length tree.homes) (λ t. is_active_task tree t) ≡ false
+
+has_shape : (tree : Hierarchy) (cpus : ℕ) → is_bad_shape tree cpus ≡ false → HasShape tree cpus
+has_shape tree cpus e = go (nat_lt cpus 1) (nat_lt 64 cpus) (any_below (length tree.homes) (λ t. is_active_task tree t)) refl refl e
+  where
+    go : (a b c : Bool) → nat_lt cpus 1 ≡ a → any_below (length tree.homes) (λ t. is_active_task tree t) ≡ c → (a || (b || c)) ≡ false → HasShape tree cpus
+    go false false false x y z = record { some = grind (arith, nat_tests, x); asleep = y }
+    go false false true x y z = absurd (cc)
+    go false true c x y z = absurd (cc)
+    go true b c x y z = absurd (cc)
+
+first_is_fine : (tree : Hierarchy) (cpus : ℕ) → HasShape tree cpus → length tree.active ≡ length tree.homes → IsFine (length tree.homes) 0 None (replicate cpus None) (first_world tree cpus)
+first_is_fine tree cpus shape flags = record {
+  sound = record {
+    cpus = refl;
+    tasks = length-replicate (length tree.homes) new_task;
+    even = rw (first_places cpus (length tree.homes)) (length-replicate {A = Option Place} (length tree.homes) None);
+    flags = flags;
+    homes = λ t. rw (at_home (length tree.homes) t, length-replicate {A = Option ℕ} cpus None) shape.some;
+    queues = rw (length-replicate {A = Option ℕ} cpus None) (first_has_queues cpus (length tree.homes));
+    sorted = λ t. rw (nowhere cpus (length tree.homes) t) refl;
+    once = λ t. rw (nobody_runs cpus t, nowhere cpus (length tree.homes) t, sleeps t (cases_lt t (length tree.homes))) refl;
+    here = rw (length-replicate {A = Option ℕ} cpus None) shape.some;
+    goes = tt;
+  };
+  clock = omega arith;
+  runs = λ t. rw (never_ran (length tree.homes) t) (omega arith);
+}
+  where
+    sleeps : (t : ℕ) → (t < length tree.homes) ⊎ (length tree.homes ≤ t) → is_active_task tree t ≡ false
+    sleeps t (inl l) = none_below (length tree.homes) t (λ u. is_active_task tree u) shape.asleep l
+    sleeps t (inr past) = get_or_past tree.active t false (rw flags past)
+
+-- ---- init and enable
+
+same_ok : (a b : State) → ◌≡◌ {A = Result State ℤ} (Ok a) (Ok b) → a ≡ b
+same_ok a b e = cc
+
+same_some : (a b : State) → Some a ≡ Some b → a ≡ b
+same_some a b e = cc
+
+module _ (n : ℕ) (on : List (Option ℕ)) (some : 0 < length on) where
+  fine_initialized : (s t : State) → initialized s ≡ Ok t → IsFine n 0 None on s.world → IsFine n 0 None on t.world
+  unfolding initialized
+  fine_initialized s t e h = go (bad_answer (init_ending s).outside.call.fault (init_ending s).answer) e
+    where
+      after : IsFine n 0 None on (ended s.policy (init_ending s)).state.world
+      after = (fine_steps n 0).quiet None on (init_ending s).outside
+          (keeps_called n (IsFine n 0) (fine_steps n 0) None on (program_of s.policy callback.Init) callback.Init no_arguments s.maps (begun s.world callback.Init 0 0) ((fine_steps n 0).begun None on s.world callback.Init 0 0 some h))
+
+      go : (o : Option ℤ) → ok_unless o (ended s.policy (init_ending s)).state ≡ Ok t → IsFine n 0 None on t.world
+      go None e = subst (λ (x : State). IsFine n 0 None on x.world) (same_ok _ _ e) after
+      go (Some k) e = absurd (cc)
+
+  fine_enabled_one : (s t : State) (k : ℕ) → enable s k ≡ Some t → IsFine n 0 None on s.world → IsFine n 0 None on t.world
+  unfolding enable
+  fine_enabled_one s t k e h = go (has_failed (enable_ending s k)) e
+    where
+      after : IsFine n 0 None on (ended s.policy (enable_ending s k)).state.world
+      after = (fine_steps n 0).quiet None on (enable_ending s k).outside
+          (keeps_called n (IsFine n 0) (fine_steps n 0) None on (program_of s.policy callback.Enable) callback.Enable (one_task k) s.maps (begun s.world callback.Enable k 0) ((fine_steps n 0).begun None on s.world callback.Enable k 0 some h))
+
+      go : (b : Bool) → (if b then None else Some (ended s.policy (enable_ending s k)).state) ≡ Some t → IsFine n 0 None on t.world
+      go true e = absurd (cc)
+      go false e = subst (λ (x : State). IsFine n 0 None on x.world) (same_some _ _ e) after
+
+  fine_enabled : (m : ℕ) (s t : State) → enabled m s ≡ Some t → IsFine n 0 None on s.world → IsFine n 0 None on t.world
+  fine_enabled zero s t e h = subst (λ (x : State). IsFine n 0 None on x.world) (same_some _ _ e) h
+  fine_enabled (suc m) s t e h = go (enabled m s) (λ u x. fine_enabled m s u x h) refl e
+    where
+      go : (o : Option State) → ((u : State) → enabled m s ≡ Some u → IsFine n 0 None on u.world) → enabled m s ≡ o → then_enable o m ≡ Some t → IsFine n 0 None on t.world
+      go None f x e = absurd (cc)
+      go (Some u) f x e = fine_enabled_one u t m e (f u x)
+
+  fine_all : (r : Result State ℤ) (t : State) → all_enabled r ≡ Ok t → ((s : State) → r ≡ Ok s → IsFine n 0 None on s.world) → IsFine n 0 None on t.world
+  fine_all (Err k) t e f = absurd (cc)
+  fine_all (Ok s) t e f = go (enabled (length s.world.tasks) s) refl e
+    where
+      go : (o : Option State) → enabled (length s.world.tasks) s ≡ o → ok_if o ≡ Ok t → IsFine n 0 None on t.world
+      go None x e = absurd (cc)
+      go (Some u) x e = subst (λ (y : State). IsFine n 0 None on y.world) (same_ok _ _ e) (fine_enabled (length s.world.tasks) s u x (f s refl))
+
+pub fine_started : (p : PolicyState) (tree : Hierarchy) (cpus : ℕ) (t : State) → is_bad_shape tree cpus ≡ false → length tree.active ≡ length tree.homes → started p tree cpus ≡ Ok t → IsFine (length tree.homes) 0 None (replicate cpus None) t.world
+fine_started p tree cpus t shape flags e =
+    let h = has_shape tree cpus shape in
+    let some : 0 < length {A = Option ℕ} (replicate cpus None) = rw (length-replicate {A = Option ℕ} cpus None) h.some in
+    fine_all (length tree.homes) (replicate cpus None) some (initialized (blank p tree cpus)) t e
+    (λ s x. fine_initialized (length tree.homes) (replicate cpus None) some (blank p tree cpus) s x (first_is_fine tree cpus h flags))

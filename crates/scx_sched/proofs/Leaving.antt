@@ -1,0 +1,98 @@
+-- A processor is idle only where no task is left behind for it.
+use Rattle.std.proofs.Common.{◌≡◌, ℕ, suc, ◌<◌, Bool, true, false, ◌&&◌, nat_lt, if◌then◌else◌, List, length, map, Option, Some, None, refl, arith}
+use Rattle.std.proofs.lemmas.Bool.Decides.{nat_tests}
+use Rattle.scx_dsq.specs.Queues.{front_of}
+use Rattle.scx_dsq.specs.Calls.{created, popped}
+use Rattle.scx_dsq.specs.declared.places.Rank.TheVariants.{Fifo}
+use Rattle.scx_semantics.specs.declared.callbacks.Callback.{Callback}
+use Rattle.scx_semantics.specs.declared.callbacks.Callback.TheVariants as callback
+use Rattle.scx_semantics.specs.declared.outside.Helper.{Helper}
+use Rattle.scx_semantics.specs.declared.outside.Helper.TheVariants.{MapLookupElem, KtimeGetNs, CreateDsq, DsqInsert, DsqInsertVtime, DsqMoveToLocal, SelectCpuDfl, CpuIdle, TaskByPid, DsqNrQueued}
+use Rattle.scx_semantics.specs.Code.{instruction_count}
+use Rattle.scx_semantics.specs.Effects.{Query, Call, Load, Store}
+use Rattle.scx_semantics.specs.Elements.{Maps}
+use Rattle.scx_semantics.specs.Endings.{run_of, run_keeps}
+use Rattle.scx_semantics.specs.Machine as start
+use Rattle.scx_verify.specs.Typing.{VerifiedProgram}
+use Rattle.scx_vm.specs.Arguments.{given, argument_of}
+use Rattle.scx_vm.specs.declared.arguments.Argument.{Argument}
+use Rattle.scx_vm.specs.declared.arguments.Arguments.{Arguments}
+use Rattle.scx_vm.specs.Host.{answer_to, after_query}
+use Rattle.scx_world.specs.declared.faults.Fault.{Fault}
+use Rattle.scx_world.specs.declared.faults.Fault.TheVariants.{NoSuchQueue, CannotCreate}
+use Rattle.scx_world.specs.Ids.{policy_end, local_on}
+use Rattle.scx_world.specs.World.{WorldState, with_queues, begun}
+use Rattle.scx_world.specs.Tasks.{local_len, entered, stopped}
+use Rattle.scx_world.specs.Helpers.{helper_answer, helper_after, world_number, world_stored, is_there, can_create, is_dispatch, faulted, insert_fault, inserted, moved, given_number, given_task}
+use Rattle.scx_machine.specs.Policy.{program_of}
+use Rattle.scx_machine.specs.Steps.{State, with_world}
+use Rattle.scx_machine.specs.Callbacks.{called, call_back, task_and_number}
+use Rattle.scx_machine.specs.Put.{placed, put, queue_for, slice_for}
+use Rattle.scx_machine.specs.Cycle.{leave}
+use Rattle.scx_sched.proofs.Entering.{keeps_if}
+use Rattle.scx_sched.proofs.Lengths.{len_pushed, len_created, len_popped_other}
+
+-- somebody waits for that processor
+abbrev HasLocal : ℕ → WorldState → Type 0
+HasLocal c w = 0 < local_len w c
+
+module _ (c : ℕ) where
+  local_inserted : (w : WorldState) (o : Option Fault) (q k : ℕ) → HasLocal c w → HasLocal c (inserted w o q k)
+  local_inserted w None q k h = h
+  local_inserted w (Some f) q k h = h
+
+  local_moved : (w : WorldState) (o : Option ℕ) (q : ℕ) → q < policy_end → HasLocal c w → HasLocal c (moved w o q)
+  local_moved w None q l h = h
+  local_moved w (Some t) q l h =
+      omega (arith, h, len_popped_other w.queues q (local_on c) (λ e. omega (arith, e, l)), len_pushed (popped w.queues q) (local_on w.call.cpu) (local_on c) t Fifo)
+
+  local_move : (w : WorldState) (q : ℕ) → HasLocal c w → (a b d : Bool) → nat_lt q policy_end ≡ b → HasLocal c (if a && (b && d) then moved w (front_of w.queues q) q else faulted w NoSuchQueue)
+  local_move w q h true true true e = let l : q < policy_end = grind (arith, nat_tests, e) in local_moved w (front_of w.queues q) q l h
+  local_move w q h true true false e = h
+  local_move w q h true false d e = h
+  local_move w q h false b d e = h
+
+  local_helper : (w : WorldState) (f : Helper) (a : List Argument) → HasLocal c w → HasLocal c (helper_after w f a)
+  local_helper w CreateDsq a h = keeps_if (HasLocal c) (can_create w (given_number a 0)) (with_queues w (created w.queues (given_number a 0))) (faulted w CannotCreate) (rw (len_created w.queues (given_number a 0) (local_on c)) h) h
+  local_helper w DsqInsert a h = local_inserted w (insert_fault w (given_task a 0) (given_number a 1) (given_number a 3)) (given_number a 1) (given_number a 2) h
+  local_helper w DsqMoveToLocal a h = local_move w (given_number a 0) h (is_dispatch w.call.callback) (nat_lt (given_number a 0) policy_end) _ refl
+  local_helper w DsqNrQueued a h = keeps_if (HasLocal c) (is_there w (given_number a 0)) w (faulted w NoSuchQueue) h h
+  local_helper w KtimeGetNs a h = h
+  local_helper w MapLookupElem a h = h
+  local_helper w DsqInsertVtime a h = h
+  local_helper w SelectCpuDfl a h = h
+  local_helper w CpuIdle a h = h
+  local_helper w TaskByPid a h = h
+
+  local_query : (w : WorldState) (q : Query) → HasLocal c w → HasLocal c (after_query helper_after world_stored w q)
+  local_query w (Call f a) h = local_helper w f (map argument_of a) h
+  local_query w (Load t f) h = h
+  local_query w (Store t f k) h = h
+
+  local_called : (p : Option VerifiedProgram) (b : Callback) (a : Arguments) (maps : Maps) (w : WorldState) → HasLocal c w → HasLocal c (called p b a maps w).outside
+  unfolding called run_of
+  local_called None b a maps w h = h
+  local_called (Some p) b a maps w h =
+      run_keeps (answer_to helper_answer world_number) (after_query helper_after world_stored) (HasLocal c) local_query b p.code (suc (instruction_count p.code)) 0 (start.start (given a) maps) w h
+
+  pub local_call_back : (s : State) (b : Callback) (a : Arguments) (t d : ℕ) → HasLocal c s.world → HasLocal c (call_back s b a t d).state.world
+  unfolding call_back
+  local_call_back s b a t d h = local_called (program_of s.policy b) b a s.maps (begun s.world b t d) h
+
+  local_entered : (w : WorldState) (t q k : ℕ) → HasLocal c w → HasLocal c (entered w t q k)
+  local_entered w t q k h = keeps_if (HasLocal c) (nat_lt t (length w.tasks)) _ w (omega (arith, h, len_pushed w.queues q (local_on c) t Fifo)) h
+
+  local_put : (s : State) (t d flags : ℕ) → HasLocal c s.world → HasLocal c (put s t d flags).state.world
+  unfolding put placed
+  local_put s t d flags h =
+      let r = call_back s callback.Enqueue (task_and_number t flags) t d in
+      let w = r.state.world in
+      local_entered w t (queue_for r.state.policy.callbacks.enqueue w.call.cpu w.call.insert) (slice_for r.state.policy.callbacks.enqueue w.call.insert) (local_call_back s callback.Enqueue (task_and_number t flags) t d h)
+
+  -- the task before leaves, and those who wait for the processor stay
+  pub local_leave : (s : State) (d : ℕ) (p : Option ℕ) → HasLocal c s.world → HasLocal c (leave s d p).state.world
+  unfolding leave
+  local_leave s d None h = h
+  local_leave s d (Some t) h =
+      let r = call_back (with_world s (stopped s.world d t)) callback.Stopping (task_and_number t 1) t d in
+      local_put r.state t d 0 (local_call_back (with_world s (stopped s.world d t)) callback.Stopping (task_and_number t 1) t d h)

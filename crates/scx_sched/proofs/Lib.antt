@@ -1,0 +1,11 @@
+pub mod Entering
+pub mod Sound
+pub mod Skeleton
+pub mod Fine
+pub mod Events
+pub mod First
+pub mod Valid
+pub mod Firsts
+pub mod Lengths
+pub mod Leaving
+pub mod Idle

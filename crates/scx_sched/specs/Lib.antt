@@ -1,0 +1,7 @@
+pub mod Once
+pub mod Kept
+pub mod Ranges
+pub mod Sim
+pub mod Laws
+pub mod Places
+pub mod Left

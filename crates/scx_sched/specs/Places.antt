@@ -1,0 +1,28 @@
+-- What the accessors of the machine answer.
+use Rattle.std.specs.Prelude.{ℕ, ◌==◌, ◌-◌, ◌%◌, ◌^◌, nat_lt, if◌then◌else◌, Option, Some, None}
+use Rattle.scx_dsq.specs.Queues.{queue_of}
+use Rattle.scx_world.specs.Ids.{policy_end, global, held, builtin}
+use Rattle.scx_world.specs.World.{WorldState, task_at, waits, cpu_of}
+use Rattle.scx_sched.specs.declared.places.Place.{Place}
+use Rattle.scx_sched.specs.declared.places.Place.TheVariants.{Asleep, Cpu, Policy, Global, Local, Held, Builtin}
+
+-- the queue of that id; in the low 32 bits of a local queue's stands the processor
+abbrev pub queue_place : ℕ → Place
+queue_place q =
+    if nat_lt q policy_end then Policy q
+    else (if q == global then Global
+    else (if q == held then Held
+    else (if q == builtin then Builtin else Local (q % 2 ^ 32))))
+
+-- on a processor, in a queue, or in neither place
+abbrev pub place_in : Option ℕ → Option ℕ → Place
+place_in (Some c) q = Cpu c
+place_in None (Some q) = queue_place q
+place_in None None = Asleep
+
+abbrev pub place : WorldState → ℕ → Place
+place w t = place_in (cpu_of w t) (queue_of w.queues t)
+
+-- how long the task has waited, in milliseconds; 0 where it isn't waiting
+abbrev pub wait : WorldState → ℕ → ℕ
+wait w t = if waits w t then w.clock - (task_at w t).since else 0

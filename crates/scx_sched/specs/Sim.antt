@@ -1,0 +1,53 @@
+-- The machine between two events, with the number of those that it accepted.
+use Rattle.std.specs.Prelude.{◌≡◌, ℕ, ◌==◌, ◌+◌, ◌*◌, ◌≤◌, ◌^◌, List, [], length, Option, Some, None, Result, Ok, Err, if◌then◌else◌}
+use Rattle.scx_world.specs.declared.notes.Note.{Note}
+use Rattle.scx_machine.specs.declared.events.Event.{Event}
+use Rattle.scx_machine.specs.declared.events.Refused.{Refused}
+use Rattle.scx_machine.specs.declared.events.Refused.TheVariants.{RunOver}
+use Rattle.scx_weights.specs.Hierarchy.{Hierarchy}
+use Rattle.scx_machine.specs.Policy.{PolicyState}
+use Rattle.scx_machine.specs.Steps.{State}
+use Rattle.scx_machine.specs.Start.{started}
+use Rattle.scx_machine.specs.Events as machine
+use Rattle.scx_sched.specs.Ranges.{IsFine}
+
+pub record SimState : Type 0 where
+  pub state : State
+  pub events : ℕ
+
+-- how many events are accepted at most
+abbrev pub max_events : ℕ
+max_events = 2 ^ 32
+
+abbrev pub refusal : SimState → Event → Option Refused
+refusal s e = if s.events == max_events then Some RunOver else machine.refusal s.state e
+
+abbrev pub stepped_if : Option Refused → SimState → Event → SimState
+stepped_if None s e = record { state = (machine.happened s.state e).state; events = s.events + 1 }
+stepped_if (Some r) s e = s
+
+-- the state after an event; one that is refused changes nothing
+abbrev pub stepped : SimState → Event → SimState
+stepped s e = stepped_if (refusal s e) s e
+
+abbrev pub notes_if : Option Refused → SimState → Event → List Note
+notes_if None s e = (machine.happened s.state e).notes
+notes_if (Some r) s e = []
+
+-- its notes; one that is refused has none
+abbrev pub notes_of : SimState → Event → List Note
+notes_of s e = notes_if (refusal s e) s e
+
+abbrev pub answer_of : Option Refused → Result (Unit {0}) Refused
+answer_of None = Ok tt
+answer_of (Some r) = Err r
+
+-- the machine of a policy, before any event
+abbrev pub IsFirst : PolicyState → Hierarchy → ℕ → SimState → Type 0
+IsFirst p tree cpus s = (started p tree cpus ≡ Ok s.state) × (s.events ≡ 0)
+
+-- what holds between two events
+pub record IsValid (state : State) (events : ℕ) : Type 0 where
+  pub over : events ≤ max_events
+  pub pushes : state.world.queues.pushes ≤ 2 ^ 23 + 2 ^ 18 * events
+  pub fine : IsFine (length state.world.tasks) events None state.world.cpus state.world

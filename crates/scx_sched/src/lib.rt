@@ -1,0 +1,16 @@
+//! The scheduler: a machine of simulated processors and tasks that a policy of BPF programs schedules, in
+//! the manner of Linux sched_ext (Documentation/scheduler/sched-ext.rst).
+//!
+//! `Sim::step` is given an event, and does all that it causes; what happened goes to a `Sink` as notes.
+//! Between two events each runnable task is in one place, on a processor or in a queue.
+#![tactic(auto)]
+
+mod laws;
+mod places;
+mod sim;
+
+pub use laws::{events_keep_places, nothing_is_left_behind};
+pub use places::Place;
+pub use scx_machine::{BadPolicy, Callbacks, Event, NewError, Policy, Refused, Sink};
+pub use scx_world::{Note, What};
+pub use sim::{MAX_EVENTS, Sim};

@@ -1,0 +1,168 @@
+ghost use Rattle.std.specs.Prelude.{◌≡◌, ◌<◌, ◌≤◌, length, None, IfOk, IfErr, OnErr};
+ghost use Rattle.scx_world.specs.World.{task_at, running};
+ghost use Rattle.scx_machine.specs.Notes.{Takes};
+ghost use Rattle.scx_machine.specs.Start.{started, IsRefusal};
+ghost use Rattle.scx_sched.specs.Once.{IsOnce};
+ghost use Rattle.scx_sched.specs.Places.{place, wait};
+ghost use Rattle.scx_sched.specs.Sim.{max_events, refusal, answer_of, stepped, notes_of, IsFirst};
+
+use crate::places::{Place, place_in};
+use scx_machine::{Event, Machine, NewError, Policy, Refused, Sink};
+use scx_weights::Tree;
+use std::alloc::Global;
+use std::marker::Model;
+
+/// How many events a machine accepts at most.
+pub const MAX_EVENTS: u64 = 1 << 32;
+
+/// A machine between two events.
+///
+/// In a contract it is the machine's state, and how many events it accepted.
+#[derive(Drop)]
+pub struct Sim {
+    machine: Machine,
+    events: u64,
+}
+
+impl Model for Sim {
+    ghost use Rattle.scx_sched.specs.Sim.{SimState, IsValid};
+
+    ghost Value = { SimState };
+
+    ghost view = { λ s. record { state = s.machine; events = s.events } };
+
+    ghost invariant = { λ s. IsValid s.machine s.events };
+}
+
+impl Sim {
+    /// The machine of a policy, with these groups and tasks, all asleep, and so many processors.
+    ///
+    /// `BadShape` is looked at first, then all memory is taken, and then init runs, and enable of each
+    /// task.
+    #[tactic(auto, using(crate::proofs::Valid::valid_first))]
+    pub fn new(alloc: Global, policy: Policy, tree: Tree, cpus: u32) -> Result<Sim, NewError>
+        ensures first { IfOk result (IsFirst policy tree cpus) }
+        ensures refused { IfErr result (IsRefusal policy tree cpus) }
+    {
+        let machine = Machine::new(alloc, policy, tree, cpus as usize)?;
+        Ok(Sim { machine, events: 0 })
+    }
+
+    /// Why the event isn't accepted.
+    fn refusal(&self, event: Event) -> Option<Refused>
+        ensures { result ≡ refusal self.now event }
+    {
+        if self.events == MAX_EVENTS {
+            return Some(Refused::RunOver);
+        }
+        self.machine.refusal(event)
+    }
+
+    /// One event, with all that it causes. One that isn't accepted changes nothing, and has no notes.
+    #[tactic(auto, using(crate::proofs::Valid::valid_step))]
+    pub fn step<S: Sink>(&mut self, event: Event, sink: &mut S) -> Result<(), Refused>
+        ensures answer { result ≡ answer_of (refusal self.old event) }
+        ensures state { self.new ≡ stepped self.old event }
+        ensures refused { OnErr result (self.new ≡ self.old) }
+        ensures notes { Takes S.takes sink.old (notes_of self.old event) sink.new }
+        ensures once { IsOnce None self.new.state.world }
+    {
+        if let Some(refused) = self.refusal(event) {
+            return Err(refused);
+        }
+        self.machine.event(event, sink);
+        self.events += 1;
+        Ok(())
+    }
+
+    /// What holds between two events: each runnable task is in one place, and no other task anywhere.
+    /// The function does nothing: its contract is the law.
+    pub fn is_sound(&self)
+        ensures { IsOnce None self.now.state.world }
+    {
+        let _events = self.events;
+    }
+
+    /// How many events were accepted.
+    pub fn events(&self) -> u64
+        ensures events { result ≡ self.now.events }
+        ensures most { result ≤ MAX_EVENTS }
+    {
+        let events = self.events;
+        events
+    }
+
+    /// In milliseconds.
+    pub fn clock(&self) -> u64
+        ensures { result ≡ self.now.state.world.clock }
+    {
+        self.machine.world().clock()
+    }
+
+    /// How many tasks there are; their numbers are below it.
+    pub fn tasks(&self) -> u16
+        ensures { result ≡ length self.now.state.world.tasks }
+    {
+        self.machine.world().tasks()
+    }
+
+    /// How many processors there are; their numbers are below it.
+    pub fn cpus(&self) -> u32
+        ensures { result ≡ length self.now.state.world.cpus }
+    {
+        self.machine.world().cpus()
+    }
+
+    pub fn place(&self, task: u16) -> Place
+        requires { task < length self.now.state.world.tasks }
+        ensures { result ≡ place self.now.state.world task }
+    {
+        let world = self.machine.world();
+        place_in(world.cpu_of(task), world.queue_of(task))
+    }
+
+    /// The task that runs on the processor.
+    pub fn running(&self, cpu: u32) -> Option<u16>
+        requires { cpu < length self.now.state.world.cpus }
+        ensures { result ≡ running self.now.state.world cpu }
+    {
+        self.machine.world().running(cpu)
+    }
+
+    /// How long the task has run, in nanoseconds.
+    pub fn run_ns(&self, task: u16) -> u64
+        requires { task < length self.now.state.world.tasks }
+        ensures { result ≡ (task_at self.now.state.world task).run_ns }
+    {
+        self.machine.world().task(task).run_ns
+    }
+
+    /// What is left of the task's slice, in nanoseconds.
+    pub fn slice(&self, task: u16) -> u64
+        requires { task < length self.now.state.world.tasks }
+        ensures { result ≡ (task_at self.now.state.world task).slice }
+    {
+        self.machine.world().task(task).slice
+    }
+
+    /// The task's virtual time.
+    pub fn vtime(&self, task: u16) -> u64
+        requires { task < length self.now.state.world.tasks }
+        ensures { result ≡ (task_at self.now.state.world task).vtime }
+    {
+        self.machine.world().task(task).vtime
+    }
+
+    /// How long the task has waited, in milliseconds; 0 where it isn't waiting.
+    pub fn wait(&self, task: u16) -> u64
+        requires { task < length self.now.state.world.tasks }
+        ensures { result ≡ wait self.now.state.world task }
+    {
+        let world = self.machine.world();
+        if world.waits(task) {
+            world.clock().saturating_sub(world.task(task).since)
+        } else {
+            0
+        }
+    }
+}

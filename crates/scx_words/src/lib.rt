@@ -1,0 +1,6 @@
+//! The words that the program `scxsim` is given: its commands, read by `clap`.
+#![tactic(auto)]
+
+mod words;
+
+pub use words::{Request, Work, read_words};

@@ -1,0 +1,35 @@
+-- The first world: nobody runs or waits, and the machine's own queues are there.
+use Rattle.std.specs.Prelude.{ℕ, zero, suc, ◌+◌, [], length, replicate, None}
+use Rattle.scx_dsq.specs.Queues.{QueueState}
+use Rattle.scx_dsq.specs.Calls.{created, empty}
+use Rattle.scx_weights.specs.Hierarchy.{Hierarchy}
+use Rattle.scx_world.specs.declared.task.Task.{Task}
+use Rattle.scx_world.specs.Ids.{global, held, builtin, local_on}
+use Rattle.scx_world.specs.World.{WorldState, no_call}
+use Rattle.scx_world.specs.Tasks.{default_slice}
+
+-- a local queue for each processor
+abbrev pub with_locals : ℕ → QueueState → QueueState
+with_locals zero s = s
+with_locals (suc n) s = created (with_locals n s) (local_on n)
+
+-- there is room for 16 queues of the policy
+abbrev pub own_queues : ℕ → ℕ → QueueState
+own_queues cpus tasks = created (created (created (empty (19 + cpus) tasks) global) held) builtin
+
+abbrev pub first_queues : ℕ → ℕ → QueueState
+first_queues cpus tasks = with_locals cpus (own_queues cpus tasks)
+
+abbrev pub new_task : Task
+new_task = record { since = 0; slice = default_slice; vtime = 0; prev_cpu = 0; run_ns = 0 }
+
+abbrev pub first_world : Hierarchy → ℕ → WorldState
+first_world tree cpus = record {
+  clock = 0;
+  tasks = replicate (length tree.homes) new_task;
+  cpus = replicate cpus None;
+  queues = first_queues cpus (length tree.homes);
+  tree = tree;
+  call = no_call;
+  notes = [];
+}

@@ -1,0 +1,221 @@
+-- What each helper answers, and what it makes of the world. A call with a fault answers that it is
+-- invalid, and changes nothing but that the fault is kept, if it is the first one of the callback.
+use Rattle.std.specs.Prelude.{ℕ, Bool, true, false, ◌&&◌, ◌==◌, nat_lt, ◌+◌, ◌-◌, ◌*◌, ◌^◌, min, List, length, if◌then◌else◌, Option, Some, None, is_none, slice_index_or}
+use Rattle.scx_dsq.specs.Queues.{exists, front_of, len_of}
+use Rattle.scx_dsq.specs.Calls.{create_refusal, created, pushed, popped}
+use Rattle.scx_dsq.specs.declared.places.Rank.TheVariants.{Fifo}
+use Rattle.scx_weights.specs.Hierarchy.{home_of}
+use Rattle.scx_weights.specs.Weights.{task_weight}
+use Rattle.scx_semantics.specs.declared.callbacks.Callback.{Callback}
+use Rattle.scx_semantics.specs.declared.callbacks.Callback.TheVariants as callback
+use Rattle.scx_semantics.specs.declared.outside.Helper.{Helper}
+use Rattle.scx_semantics.specs.declared.outside.Helper.TheVariants.{MapLookupElem, KtimeGetNs, CreateDsq, DsqInsert, DsqInsertVtime, DsqMoveToLocal, SelectCpuDfl, CpuIdle, TaskByPid, DsqNrQueued}
+use Rattle.scx_semantics.specs.declared.outside.TaskId.{TaskId}
+use Rattle.scx_semantics.specs.declared.outside.Field.{Field}
+use Rattle.scx_semantics.specs.declared.outside.Field.TheVariants.{Pid, Weight, Slice, DsqVtime, PrevCpu, Group, RunNs}
+use Rattle.scx_vm.specs.declared.arguments.Argument.{Argument}
+use Rattle.scx_vm.specs.declared.arguments.Argument.TheVariants as argument
+use Rattle.scx_vm.specs.declared.arguments.Answer.{Answer}
+use Rattle.scx_vm.specs.declared.arguments.Answer.TheVariants as answer
+use Rattle.scx_world.specs.declared.task.Task.{Task}
+use Rattle.scx_world.specs.declared.faults.Fault.{Fault}
+use Rattle.scx_world.specs.declared.faults.Fault.TheVariants.{NoSuchQueue, CannotInsert, NoSuchCpu, UnknownFlag, CannotCreate}
+use Rattle.scx_world.specs.declared.notes.What.TheVariants.{Move}
+use Rattle.scx_world.specs.Ids.{policy_end, global, local, local_on}
+use Rattle.scx_world.specs.World.{WorldState, with_queues, with_call, task_at, with_task, noted}
+use Rattle.scx_world.specs.Tasks.{with_slice, with_vtime}
+
+-- -22 as a number of 64 bits
+abbrev pub invalid : ℕ
+invalid = 0xffff_ffff_ffff_ffea
+
+-- ---- arguments
+
+abbrev pub number_of : Argument → ℕ
+number_of argument.Unset = 0
+number_of (argument.Number n) = n
+number_of (argument.Task t) = 0
+
+abbrev pub task_of : Argument → Option ℕ
+task_of argument.Unset = None
+task_of (argument.Number n) = None
+task_of (argument.Task t) = Some t.0
+
+abbrev pub given_number : List Argument → ℕ → ℕ
+given_number a i = number_of (slice_index_or a i argument.Unset)
+
+abbrev pub given_task : List Argument → ℕ → Option ℕ
+given_task a i = task_of (slice_index_or a i argument.Unset)
+
+-- a task as a program is given it
+abbrev pub pointed : ℕ → Argument
+pointed t = argument.Task (record { 0 = t })
+
+-- ---- faults
+
+-- the first fault of a callback counts
+abbrev pub first_fault : Option Fault → Fault → Option Fault
+first_fault None f = Some f
+first_fault (Some first) f = Some first
+
+abbrev pub faulted : WorldState → Fault → WorldState
+faulted w f = with_call w (record { callback = w.call.callback; task = w.call.task; cpu = w.call.cpu; insert = w.call.insert; has_moved = w.call.has_moved; fault = first_fault w.call.fault f })
+
+abbrev pub invalid_if : Option Fault → ℕ
+invalid_if None = 0
+invalid_if (Some f) = invalid
+
+-- ---- queues
+
+-- a queue of the policy
+abbrev pub is_there : WorldState → ℕ → Bool
+is_there w q = nat_lt q policy_end && exists w.queues q
+
+abbrev pub can_create : WorldState → ℕ → Bool
+can_create w q = nat_lt q policy_end && is_none (create_refusal w.queues q)
+
+abbrev pub after_create : WorldState → ℕ → WorldState
+after_create w q = if can_create w q then with_queues w (created w.queues q) else faulted w CannotCreate
+
+abbrev pub create_answer : WorldState → ℕ → ℕ
+create_answer w q = if can_create w q then 0 else invalid
+
+abbrev pub after_queued : WorldState → ℕ → WorldState
+after_queued w q = if is_there w q then w else faulted w NoSuchQueue
+
+abbrev pub queued_answer : WorldState → ℕ → ℕ
+queued_answer w q = if is_there w q then len_of w.queues q else invalid
+
+-- ---- inserts
+
+abbrev pub is_at_hand : WorldState → Option ℕ → Bool
+is_at_hand w None = false
+is_at_hand w (Some t) = t == w.call.task
+
+abbrev pub is_enqueue : Callback → Bool
+is_enqueue callback.Enqueue = true
+is_enqueue b = false
+
+abbrev pub is_dispatch : Callback → Bool
+is_dispatch callback.Dispatch = true
+is_dispatch b = false
+
+-- the task at hand, in enqueue, and once
+abbrev pub may_insert : WorldState → Option ℕ → Bool
+may_insert w t = is_enqueue w.call.callback && is_none w.call.insert && is_at_hand w t
+
+-- Where a task may be put: GLOBAL, LOCAL, the local queue of a processor, a queue of the policy. In the low
+-- 32 bits of the id of a local queue stands the processor.
+abbrev pub queue_fault : WorldState → ℕ → Option Fault
+queue_fault w q =
+    if nat_lt q policy_end then (if exists w.queues q then None else Some NoSuchQueue)
+    else (if (q == global) then None
+    else (if (q == local) then None
+    else (if nat_lt q (local_on 0) then Some NoSuchQueue
+    else (if nat_lt q (local_on (length w.cpus)) then None
+    else (if nat_lt q (local_on 0x1_0000_0000) then Some NoSuchCpu else Some NoSuchQueue)))))
+
+abbrev pub insert_fault : WorldState → Option ℕ → ℕ → ℕ → Option Fault
+insert_fault w t q flags =
+    if may_insert w t then (if nat_lt 1 flags then Some UnknownFlag else queue_fault w q) else Some CannotInsert
+
+-- the insert is kept until the callback ends
+abbrev pub inserted : WorldState → Option Fault → ℕ → ℕ → WorldState
+inserted w None q n = with_call w (record { callback = w.call.callback; task = w.call.task; cpu = w.call.cpu; insert = Some (record { queue = q; slice = n }); has_moved = w.call.has_moved; fault = w.call.fault })
+inserted w (Some f) q n = faulted w f
+
+abbrev pub after_insert : WorldState → Option ℕ → ℕ → ℕ → ℕ → WorldState
+after_insert w t q n flags = inserted w (insert_fault w t q flags) q n
+
+abbrev pub insert_answer : WorldState → Option ℕ → ℕ → ℕ → ℕ
+insert_answer w t q flags = invalid_if (insert_fault w t q flags)
+
+-- ---- moves
+
+abbrev pub one_if_some : Option ℕ → ℕ
+one_if_some None = 0
+one_if_some (Some t) = 1
+
+abbrev pub can_move : WorldState → ℕ → Bool
+can_move w q = is_dispatch w.call.callback && is_there w q
+
+-- the front of a queue goes to the local queue of the processor at hand
+abbrev pub moved : WorldState → Option ℕ → ℕ → WorldState
+moved w None q = w
+moved w (Some t) q =
+    noted
+    (with_call (with_queues w (pushed (popped w.queues q) (local_on w.call.cpu) t Fifo))
+    (record { callback = w.call.callback; task = w.call.task; cpu = w.call.cpu; insert = w.call.insert; has_moved = true; fault = w.call.fault }))
+    (Move t w.call.cpu)
+
+abbrev pub after_move : WorldState → ℕ → WorldState
+after_move w q = if can_move w q then moved w (front_of w.queues q) q else faulted w NoSuchQueue
+
+abbrev pub move_answer : WorldState → ℕ → ℕ
+move_answer w q = if can_move w q then one_if_some (front_of w.queues q) else invalid
+
+-- ---- all helpers; those that there aren't yet answer 0
+
+abbrev pub helper_answer : WorldState → Helper → List Argument → Answer
+helper_answer w KtimeGetNs a = answer.Number (w.clock * 1000000)
+helper_answer w CreateDsq a = answer.Number (create_answer w (given_number a 0))
+helper_answer w DsqInsert a = answer.Number (insert_answer w (given_task a 0) (given_number a 1) (given_number a 3))
+helper_answer w DsqMoveToLocal a = answer.Number (move_answer w (given_number a 0))
+helper_answer w DsqNrQueued a = answer.Number (queued_answer w (given_number a 0))
+helper_answer w MapLookupElem a = answer.Number 0
+helper_answer w DsqInsertVtime a = answer.Number 0
+helper_answer w SelectCpuDfl a = answer.Number 0
+helper_answer w CpuIdle a = answer.Number 0
+helper_answer w TaskByPid a = answer.Number 0
+
+abbrev pub helper_after : WorldState → Helper → List Argument → WorldState
+helper_after w CreateDsq a = after_create w (given_number a 0)
+helper_after w DsqInsert a = after_insert w (given_task a 0) (given_number a 1) (given_number a 2) (given_number a 3)
+helper_after w DsqMoveToLocal a = after_move w (given_number a 0)
+helper_after w DsqNrQueued a = after_queued w (given_number a 0)
+helper_after w KtimeGetNs a = w
+helper_after w MapLookupElem a = w
+helper_after w DsqInsertVtime a = w
+helper_after w SelectCpuDfl a = w
+helper_after w CpuIdle a = w
+helper_after w TaskByPid a = w
+
+-- ---- the record of a task
+
+abbrev pub weight_at : WorldState → ℕ → ℕ
+weight_at w t = if nat_lt t (length w.tasks) then task_weight w.tree t else 0
+
+abbrev pub group_at : WorldState → ℕ → ℕ
+group_at w t = if nat_lt t (length w.tasks) then home_of w.tree t else 0
+
+abbrev pub field_of : WorldState → ℕ → Field → ℕ
+field_of w t Pid = t + 1
+field_of w t Weight = weight_at w t
+field_of w t Slice = (task_at w t).slice
+field_of w t DsqVtime = (task_at w t).vtime
+field_of w t PrevCpu = (task_at w t).prev_cpu
+field_of w t Group = group_at w t
+field_of w t RunNs = (task_at w t).run_ns
+
+abbrev pub stored_in : Task → Field → ℕ → Task
+stored_in x Slice n = with_slice x n
+stored_in x DsqVtime n = with_vtime x n
+stored_in x Pid n = x
+stored_in x Weight n = x
+stored_in x PrevCpu n = x
+stored_in x Group n = x
+stored_in x RunNs n = x
+
+abbrev pub world_number : WorldState → TaskId → Field → ℕ
+world_number w t f = field_of w t.0 f
+
+abbrev pub world_stored : WorldState → TaskId → Field → ℕ → WorldState
+world_stored w t f n = with_task w t.0 (stored_in (task_at w t.0) f n)
+
+-- ---- budgets: for how many calls there is room, and what they may spend
+
+abbrev pub room_of : WorldState → ℕ
+room_of w = min (4096 - length w.notes) (2 ^ 63 - w.queues.pushes)
+
+abbrev pub spent_of : WorldState → ℕ
+spent_of w = w.queues.pushes

@@ -1,0 +1,24 @@
+-- Ids of queues (sched-ext.rst, "Dispatch Queues"). A policy's own are below the end.
+use Rattle.std.specs.Prelude.{ℕ, ◌+◌}
+
+abbrev pub policy_end : ℕ
+policy_end = 0x8000_0000_0000_0000
+
+-- the queue of all processors
+abbrev pub global : ℕ
+global = 0x8000_0000_0000_0001
+
+-- a name for the local queue of the processor at hand, and no queue
+abbrev pub local : ℕ
+local = 0x8000_0000_0000_0002
+
+-- the machine's own: of tasks that a policy put nowhere, and of the built-in scheduler
+abbrev pub held : ℕ
+held = 0x8000_0000_0000_0003
+
+abbrev pub builtin : ℕ
+builtin = 0x8000_0000_0000_0004
+
+-- the local queue of a processor
+abbrev pub local_on : ℕ → ℕ
+local_on c = 0xc000_0000_0000_0000 + c

@@ -1,0 +1,19 @@
+-- What the fields of a world mean, and what always holds of them.
+use Rattle.std.specs.Prelude.{◌≡◌, ◌^◌, ◌≤◌, length, vec_capacity}
+use Rattle.scx_dsq.specs.Queues.{task_count}
+use Rattle.scx_world.specs.declared.world.World.TheInside.{Inside}
+use Rattle.scx_world.specs.World.{WorldState}
+
+abbrev pub state_of : Inside → WorldState
+state_of w = record { clock = w.clock; tasks = w.tasks.items; cpus = w.cpus.items; queues = w.queues; tree = w.tree; call = w.call; notes = w.notes.items }
+
+-- there is room for the notes of a callback, each part knows of as many tasks, and the clock in
+-- nanoseconds is a number of 64 bits
+pub record IsKept (w : Inside) : Type 0 where
+  pub notes : 4096 ≤ vec_capacity w.notes
+  pub few_notes : length w.notes.items ≤ 4096
+  pub queued : task_count w.queues ≡ length w.tasks.items
+  pub weighed : length w.tree.homes ≡ length w.tasks.items
+  pub few_tasks : length w.tasks.items ≤ 1024
+  pub few_cpus : length w.cpus.items ≤ 64
+  pub early : w.clock ≤ 2 ^ 32

@@ -1,0 +1,109 @@
+-- What an event does to tasks, one step at a time.
+use Rattle.std.specs.Prelude.{ℕ, true, false, ◌==◌, nat_lt, ◌+◌, ◌-◌, length, if◌then◌else◌, Option, Some, None, is_none}
+use Rattle.scx_dsq.specs.Queues.{front_of, len_of}
+use Rattle.scx_dsq.specs.Calls.{pushed, popped, removed}
+use Rattle.scx_dsq.specs.declared.places.Rank.TheVariants.{Fifo}
+use Rattle.scx_weights.specs.Hierarchy as tree
+use Rattle.scx_weights.specs.Refusals.{weight_fault}
+use Rattle.scx_world.specs.declared.task.Task.{Task}
+use Rattle.scx_world.specs.Ids.{local_on}
+use Rattle.scx_world.specs.World.{WorldState, with_clock, with_queues, with_tree, task_at, with_task, with_cpu}
+
+-- ---- one field of a task changed
+
+abbrev pub with_since : Task → ℕ → Task
+with_since x n = record { since = n; slice = x.slice; vtime = x.vtime; prev_cpu = x.prev_cpu; run_ns = x.run_ns }
+
+abbrev pub with_slice : Task → ℕ → Task
+with_slice x n = record { since = x.since; slice = n; vtime = x.vtime; prev_cpu = x.prev_cpu; run_ns = x.run_ns }
+
+abbrev pub with_vtime : Task → ℕ → Task
+with_vtime x n = record { since = x.since; slice = x.slice; vtime = n; prev_cpu = x.prev_cpu; run_ns = x.run_ns }
+
+abbrev pub with_prev_cpu : Task → ℕ → Task
+with_prev_cpu x n = record { since = x.since; slice = x.slice; vtime = x.vtime; prev_cpu = n; run_ns = x.run_ns }
+
+-- ---- waking, sleeping, waiting
+
+-- a task that wakes waits from now on
+abbrev pub woken : WorldState → ℕ → WorldState
+woken w t = with_tree (with_task w t (with_since (task_at w t) w.clock)) (tree.with_task w.tree t true)
+
+abbrev pub asleep : WorldState → ℕ → WorldState
+asleep w t = if nat_lt t (length w.tasks) then with_tree w (tree.with_task w.tree t false) else w
+
+-- the task leaves the queue in which it waits
+abbrev pub gone : WorldState → ℕ → WorldState
+gone w t = with_queues w (removed w.queues t)
+
+abbrev pub default_slice : ℕ
+default_slice = 20000000
+
+-- a slice of 0 keeps the one that there is
+abbrev pub given_slice : Task → ℕ → Task
+given_slice x n = if n == 0 then x else with_slice x n
+
+-- a task goes into a queue, behind those that are there
+abbrev pub entered : WorldState → ℕ → ℕ → ℕ → WorldState
+entered w t q n = if nat_lt t (length w.tasks) then with_queues (with_task w t (given_slice (task_at w t) n)) (pushed w.queues q t Fifo) else w
+
+-- ---- local queues
+
+abbrev pub local_len : WorldState → ℕ → ℕ
+local_len w c = len_of w.queues (local_on c)
+
+-- the front of a queue goes to a local queue
+abbrev pub brought : Option ℕ → WorldState → ℕ → ℕ → WorldState
+brought None w q c = w
+brought (Some t) w q c = with_queues w (pushed (popped w.queues q) (local_on c) t Fifo)
+
+-- the task that comes to the local queue, where that is empty
+abbrev pub fill_front : WorldState → ℕ → ℕ → Option ℕ
+fill_front w q c = if nat_lt 0 (local_len w c) then None else front_of w.queues q
+
+abbrev pub filled : WorldState → ℕ → ℕ → WorldState
+filled w q c = brought (fill_front w q c) w q c
+
+-- ---- on and off processors
+
+-- a task leaves its processor, and waits from now on
+abbrev pub stopped : WorldState → ℕ → ℕ → WorldState
+stopped w c t = with_cpu (with_task w t (with_since (task_at w t) w.clock)) c None
+
+abbrev pub started_at : Option ℕ → WorldState → ℕ → WorldState
+started_at None w c = w
+started_at (Some t) w c = with_cpu (with_task (with_queues w (popped w.queues (local_on c))) t (with_prev_cpu (task_at w t) c)) c (Some t)
+
+-- the front of the local queue runs
+abbrev pub started : WorldState → ℕ → WorldState
+started w c = started_at (front_of w.queues (local_on c)) w c
+
+abbrev pub renewed : Task → Task
+renewed x = if x.slice == 0 then with_slice x default_slice else x
+
+-- the task before keeps the processor, with a slice
+abbrev pub kept : WorldState → Option ℕ → WorldState
+kept w None = w
+kept w (Some t) = with_task w t (renewed (task_at w t))
+
+-- ---- time and weights
+
+abbrev pub tick_ns : ℕ
+tick_ns = 1000000
+
+-- a slice of 2^64 - 1 isn't counted down
+abbrev pub counted_down : ℕ → ℕ
+counted_down n = if n == 0xffff_ffff_ffff_ffff then n else n - tick_ns
+
+abbrev pub ran_a_tick : Task → Task
+ran_a_tick x = record { since = x.since; slice = counted_down x.slice; vtime = x.vtime; prev_cpu = x.prev_cpu; run_ns = x.run_ns + tick_ns }
+
+abbrev pub ticked : WorldState → ℕ → WorldState
+ticked w t = with_task w t (ran_a_tick (task_at w t))
+
+abbrev pub later : WorldState → WorldState
+later w = with_clock w (w.clock + 1)
+
+-- a weight that can't be set changes nothing
+abbrev pub reweighed : WorldState → ℕ → ℕ → WorldState
+reweighed w g x = if is_none (weight_fault w.tree g x) then with_tree w (tree.with_weight w.tree g x) else w

@@ -1,0 +1,109 @@
+-- The world that a policy's programs see and change, and its parts.
+use Rattle.std.specs.Prelude.{ℕ, Bool, false, ◌==◌, ◌&&◌, nat_lt, List, [], ◌∷◌, ◌++◌, length, if◌then◌else◌, Option, Some, None, is_none, is_some, slice_index_or, slice_set, position}
+use Rattle.scx_dsq.specs.Queues.{QueueState, place_of}
+use Rattle.scx_weights.specs.Hierarchy.{Hierarchy, is_active_task}
+use Rattle.scx_semantics.specs.declared.callbacks.Callback.{Callback}
+use Rattle.scx_semantics.specs.declared.callbacks.Callback.TheVariants as callback
+use Rattle.scx_world.specs.declared.notes.Note.{Note}
+use Rattle.scx_world.specs.declared.notes.What.{What}
+use Rattle.scx_world.specs.declared.task.Task.{Task}
+use Rattle.scx_world.specs.declared.call.Call.{Call}
+
+pub record WorldState : Type 0 where
+  pub clock : ℕ
+  pub tasks : List Task
+  pub cpus : List (Option ℕ)  -- the task that runs on each processor
+  pub queues : QueueState
+  pub tree : Hierarchy
+  pub call : Call  -- the callback at hand
+  pub notes : List Note  -- what it noted
+
+-- ---- one part changed
+
+abbrev pub with_clock : WorldState → ℕ → WorldState
+with_clock w x = record { clock = x; tasks = w.tasks; cpus = w.cpus; queues = w.queues; tree = w.tree; call = w.call; notes = w.notes }
+
+abbrev pub with_tasks : WorldState → List Task → WorldState
+with_tasks w x = record { clock = w.clock; tasks = x; cpus = w.cpus; queues = w.queues; tree = w.tree; call = w.call; notes = w.notes }
+
+abbrev pub with_cpus : WorldState → List (Option ℕ) → WorldState
+with_cpus w x = record { clock = w.clock; tasks = w.tasks; cpus = x; queues = w.queues; tree = w.tree; call = w.call; notes = w.notes }
+
+abbrev pub with_queues : WorldState → QueueState → WorldState
+with_queues w x = record { clock = w.clock; tasks = w.tasks; cpus = w.cpus; queues = x; tree = w.tree; call = w.call; notes = w.notes }
+
+abbrev pub with_tree : WorldState → Hierarchy → WorldState
+with_tree w x = record { clock = w.clock; tasks = w.tasks; cpus = w.cpus; queues = w.queues; tree = x; call = w.call; notes = w.notes }
+
+abbrev pub with_call : WorldState → Call → WorldState
+with_call w x = record { clock = w.clock; tasks = w.tasks; cpus = w.cpus; queues = w.queues; tree = w.tree; call = x; notes = w.notes }
+
+abbrev pub with_notes : WorldState → List Note → WorldState
+with_notes w x = record { clock = w.clock; tasks = w.tasks; cpus = w.cpus; queues = w.queues; tree = w.tree; call = w.call; notes = x }
+
+-- ---- tasks and processors
+
+-- where there is no task all is 0
+abbrev pub no_task : Task
+no_task = record { since = 0; slice = 0; vtime = 0; prev_cpu = 0; run_ns = 0 }
+
+abbrev pub task_at : WorldState → ℕ → Task
+task_at w t = slice_index_or w.tasks t no_task
+
+-- past the end nothing is changed
+abbrev pub with_task : WorldState → ℕ → Task → WorldState
+with_task w t x = with_tasks w (slice_set w.tasks t x)
+
+abbrev pub is_runnable : WorldState → ℕ → Bool
+is_runnable w t = is_active_task w.tree t
+
+-- the task waits in a queue
+abbrev pub waits : WorldState → ℕ → Bool
+waits w t = is_some (place_of w.queues t)
+
+-- the task that runs on a processor
+abbrev pub running : WorldState → ℕ → Option ℕ
+running w c = slice_index_or w.cpus c None
+
+abbrev pub with_cpu : WorldState → ℕ → Option ℕ → WorldState
+with_cpu w c o = with_cpus w (slice_set w.cpus c o)
+
+abbrev pub is_this : ℕ → Option ℕ → Bool
+is_this t None = false
+is_this t (Some u) = t == u
+
+-- the processor on which the task runs
+abbrev pub cpu_of : WorldState → ℕ → Option ℕ
+cpu_of w t = position (is_this t) w.cpus
+
+abbrev pub is_idle : WorldState → ℕ → Bool
+is_idle w c = nat_lt c (length w.cpus) && is_none (running w c)
+
+abbrev pub or_else : Option ℕ → ℕ → ℕ
+or_else None d = d
+or_else (Some c) d = c
+
+-- the processor on which the task ran last if it is idle, else the lowest idle one, else that one
+abbrev pub default_choice : WorldState → ℕ → ℕ
+default_choice w t =
+    let prev = (task_at w t).prev_cpu in
+    if is_idle w prev then prev else or_else (position is_none w.cpus) prev
+
+-- ---- the callback at hand
+
+abbrev pub no_call : Call
+no_call = record { callback = callback.Plain; task = 0; cpu = 0; insert = None; has_moved = false; fault = None }
+
+abbrev pub quiet : WorldState → WorldState
+quiet w = with_notes w []
+
+-- a callback begins, with that task and processor at hand
+abbrev pub begun : WorldState → Callback → ℕ → ℕ → WorldState
+begun w b t c = with_call (quiet w) (record { callback = b; task = t; cpu = c; insert = None; has_moved = false; fault = None })
+
+-- what is noted now
+abbrev pub said : WorldState → What → Note
+said w x = record { clock = w.clock; what = x }
+
+abbrev pub noted : WorldState → What → WorldState
+noted w x = with_notes w (w.notes ++ said w x ∷ [])

@@ -1,0 +1,24 @@
+/// A policy's own queues have ids below this (sched-ext.rst, "Dispatch Queues"; the ids are those of
+/// Linux's include/linux/sched/ext.h).
+pub const POLICY_END: u64 = 0x8000_0000_0000_0000;
+
+/// The queue of all processors.
+pub const GLOBAL: u64 = 0x8000_0000_0000_0001;
+
+/// No queue, but a name for the local queue of the processor at hand.
+pub const LOCAL: u64 = 0x8000_0000_0000_0002;
+
+/// The machine's own queue of the tasks that a policy took and put nowhere. A policy can't name it.
+pub const HELD: u64 = 0x8000_0000_0000_0003;
+
+/// The machine's own queue of the built-in scheduler. A policy can't name it.
+pub const BUILTIN: u64 = 0x8000_0000_0000_0004;
+
+/// The local queue of processor 0; those of the others follow.
+pub const LOCAL_ON: u64 = 0xc000_0000_0000_0000;
+
+/// What lies between the first and the last id that may be read as a local queue.
+pub(crate) const LOCAL_IDS: u64 = 0x1_0000_0000;
+
+/// What a helper answers that was given something wrong: -22, Linux's EINVAL.
+pub(crate) const INVALID: u64 = 0xffff_ffff_ffff_ffea;

@@ -1,0 +1,22 @@
+/// One thing that happened, and at which clock.
+#[derive(Clone, Copy, Debug, PartialEq, Eq)]
+pub struct Note {
+    pub clock: u64,
+    pub what: What,
+}
+
+/// Tasks, processors and groups go by their numbers, queues by their ids.
+#[derive(Clone, Copy, Debug, PartialEq, Eq)]
+pub enum What {
+    Wake(u16),
+    Sleep(u16),
+    /// A task comes to wait in that queue.
+    Insert(u16, u64),
+    /// A task goes from another queue to the local queue of that processor.
+    Move(u16, u32),
+    Run(u16, u32),
+    Stop(u16, u32),
+    Idle(u32),
+    /// A group has that weight from now on.
+    Weight(u32, u32),
+}

@@ -1,0 +1,150 @@
+ghost use Rattle.std.specs.Prelude.{◌≡◌, ◌+◌, ◌^◌, ◌<◌, ◌≤◌, length};
+ghost use Rattle.scx_dsq.specs.Queues.{front_of};
+ghost use Rattle.scx_world.specs.Ids.{local_on};
+ghost use Rattle.scx_world.specs.World.{task_at};
+ghost use Rattle.scx_world.specs.Tasks.{woken, asleep, gone, entered, local_len, fill_front, filled, stopped, started, kept, ticked, later, reweighed};
+
+use crate::ids::LOCAL_ON;
+use crate::task::DEFAULT_SLICE;
+use crate::world::World;
+
+/// What an event does to the world, one step at a time.
+impl World {
+    /// The task is runnable, and waits from now on.
+    pub fn wake(&mut self, task: u16)
+        requires { task < length self.old.tasks }
+        ensures world { self.new ≡ woken self.old task }
+        ensures few { self.new.queues.pushes ≡ self.old.queues.pushes }
+    {
+        let mut facts = self.task(task);
+        facts.since = self.clock;
+        self.set_task(task, facts);
+        self.tree.activate(u32::from(task));
+    }
+
+    /// The task isn't runnable.
+    pub fn sleep(&mut self, task: u16)
+        ensures world { self.new ≡ asleep self.old task }
+        ensures few { self.new.queues.pushes ≡ self.old.queues.pushes }
+    {
+        if (task as usize) < self.tasks.len() {
+            self.tree.deactivate(u32::from(task));
+        }
+    }
+
+    /// The task leaves the queue in which it waits.
+    pub fn leave_queue(&mut self, task: u16)
+        ensures world { self.new ≡ gone self.old task }
+        ensures few { self.new.queues.pushes ≡ self.old.queues.pushes }
+    {
+        if (task as usize) < self.queues.tasks() {
+            self.queues.remove(u32::from(task));
+        }
+    }
+
+    /// The task goes into a queue, behind those that are there. A slice of 0 keeps the one that it has.
+    pub fn enter(&mut self, task: u16, queue: u64, slice: u64)
+        requires few { self.old.queues.pushes < 2 ^ 63 }
+        ensures world { self.new ≡ entered self.old task queue slice }
+        ensures few { self.new.queues.pushes ≤ self.old.queues.pushes + 1 }
+    {
+        if (task as usize) < self.tasks.len() {
+            let mut facts = self.task(task);
+            if slice != 0 {
+                facts.slice = slice;
+            }
+            self.set_task(task, facts);
+            let _refused = self.queues.push_fifo(queue, u32::from(task));
+        }
+    }
+
+    /// How many tasks wait in the local queue of the processor.
+    pub fn local_len(&self, cpu: u32) -> usize
+        ensures { result ≡ local_len self.now cpu }
+    {
+        self.queues.len(LOCAL_ON + u64::from(cpu))
+    }
+
+    /// Where the local queue is empty the front of another comes to it, and is answered.
+    pub fn fill(&mut self, queue: u64, cpu: u32) -> Option<u16>
+        requires few { self.old.queues.pushes < 2 ^ 63 }
+        ensures answer { result ≡ fill_front self.old queue cpu }
+        ensures world { self.new ≡ filled self.old queue cpu }
+        ensures few { self.new.queues.pushes ≤ self.old.queues.pushes + 1 }
+    {
+        if self.local_len(cpu) > 0 {
+            return None;
+        }
+        let task = self.queues.pop(queue)?;
+        let _refused = self.queues.push_fifo(LOCAL_ON + u64::from(cpu), task);
+        Some(task as u16)
+    }
+
+    /// The task leaves its processor, and waits from now on.
+    pub fn stop(&mut self, cpu: u32, task: u16)
+        ensures world { self.new ≡ stopped self.old cpu task }
+        ensures few { self.new.queues.pushes ≡ self.old.queues.pushes }
+    {
+        let mut facts = self.task(task);
+        facts.since = self.clock;
+        self.set_task(task, facts);
+        self.set_cpu(cpu, None);
+    }
+
+    /// The front of the local queue runs, and is answered.
+    pub fn start(&mut self, cpu: u32) -> Option<u16>
+        ensures answer { result ≡ front_of self.old.queues (local_on cpu) }
+        ensures world { self.new ≡ started self.old cpu }
+        ensures few { self.new.queues.pushes ≡ self.old.queues.pushes }
+    {
+        let task = self.queues.pop(LOCAL_ON + u64::from(cpu))? as u16;
+        let mut facts = self.task(task);
+        facts.prev_cpu = cpu;
+        self.set_task(task, facts);
+        self.set_cpu(cpu, Some(task));
+        Some(task)
+    }
+
+    /// The task before, if there is one, keeps the processor, and where it has no slice gets one.
+    pub fn keep(&mut self, before: Option<u16>)
+        ensures world { self.new ≡ kept self.old before }
+        ensures few { self.new.queues.pushes ≡ self.old.queues.pushes }
+    {
+        if let Some(task) = before {
+            let mut facts = self.task(task);
+            if facts.slice == 0 {
+                facts.slice = DEFAULT_SLICE;
+            }
+            self.set_task(task, facts);
+        }
+    }
+
+    /// The task has run for a millisecond.
+    pub fn run_tick(&mut self, task: u16)
+        requires { (task_at self.old task).run_ns < 2 ^ 63 }
+        ensures world { self.new ≡ ticked self.old task }
+        ensures few { self.new.queues.pushes ≡ self.old.queues.pushes }
+    {
+        let mut facts = self.task(task);
+        if facts.slice != u64::MAX {
+            facts.slice = facts.slice.saturating_sub(1_000_000);
+        }
+        facts.run_ns += 1_000_000;
+        self.set_task(task, facts);
+    }
+
+    /// The clock grows by a millisecond.
+    pub fn advance(&mut self)
+        requires { self.old.clock < 2 ^ 32 }
+        ensures { self.new ≡ later self.old }
+    {
+        self.clock += 1;
+    }
+
+    /// Sets the weight of a group, if there is such a group and weight.
+    pub fn set_weight(&mut self, group: u32, weight: u32)
+        ensures { self.new ≡ reweighed self.old group weight }
+    {
+        let _refused = self.tree.set_weight(group, weight);
+    }
+}

@@ -1,0 +1,35 @@
+/// The slice of a task at the start, and where nothing else is said, in nanoseconds.
+pub const DEFAULT_SLICE: u64 = 20_000_000;
+
+/// The record of a task.
+#[derive(Clone, Copy, Debug, PartialEq, Eq)]
+pub struct Task {
+    /// The clock at which its wait began: at which it woke or was stopped last.
+    pub since: u64,
+    /// What is left of its slice, in nanoseconds; 2^64 - 1 never ends.
+    pub slice: u64,
+    pub vtime: u64,
+    /// The processor on which it ran last.
+    pub prev_cpu: u32,
+    /// How long it has run, in nanoseconds.
+    pub run_ns: u64,
+}
+
+impl Task {
+    pub(crate) const NEW: Task = Task {
+        since: 0,
+        slice: DEFAULT_SLICE,
+        vtime: 0,
+        prev_cpu: 0,
+        run_ns: 0,
+    };
+
+    /// What is read where there is no task.
+    pub(crate) const NONE: Task = Task {
+        since: 0,
+        slice: 0,
+        vtime: 0,
+        prev_cpu: 0,
+        run_ns: 0,
+    };
+}

@@ -1,0 +1,321 @@
+ghost use Rattle.std.specs.Prelude.{◌≡◌, ◌+◌, ◌≤◌, ◌<◌, nat_lt, length, None, is_none, position, IfSome, IfOk, OnOk};
+ghost use Rattle.scx_dsq.specs.Queues.{queue_of, task_count};
+ghost use Rattle.scx_world.specs.First.{with_locals, first_queues, first_world};
+ghost use Rattle.scx_world.specs.Helpers.{pointed};
+ghost use Rattle.scx_world.specs.World.{task_at, with_task, is_runnable, waits, running, with_cpu, is_this, cpu_of, is_idle, default_choice, begun, quiet, said};
+
+use crate::call::{Call, Insert};
+use crate::faults::Fault;
+use crate::ids::{BUILTIN, GLOBAL, HELD, LOCAL_ON};
+use crate::notes::{Note, What};
+use crate::task::Task;
+use scx_dsq::Queues;
+use scx_isa::{Callback, TaskId};
+use scx_vm::Argument;
+use scx_weights::Tree;
+use std::alloc::{AllocError, Global};
+use std::marker::Model;
+
+/// The clock, tasks, processors, queues and weights, with the callback at hand and what it noted.
+///
+/// Tasks, processors and groups are numbered from 0.
+#[derive(Drop)]
+pub struct World {
+    pub(crate) clock: u64,
+    pub(crate) tasks: Vec<Task>,
+    /// The task that runs on each processor.
+    pub(crate) cpus: Vec<Option<u16>>,
+    pub(crate) queues: Queues,
+    pub(crate) tree: Tree,
+    pub(crate) call: Call,
+    pub(crate) notes: Vec<Note>,
+}
+
+impl Model for World {
+    ghost use Rattle.scx_world.specs.World.{WorldState};
+    ghost use Rattle.scx_world.specs.Kept.{state_of, IsKept};
+
+    ghost Value = { WorldState };
+
+    ghost view = { state_of };
+
+    ghost invariant = { IsKept };
+}
+
+impl World {
+    /// Nobody runs, and nobody waits. All memory is taken here.
+    pub fn new(alloc: Global, tree: Tree, cpus: usize) -> Result<World, AllocError>
+        requires { cpus ≤ 64 }
+        ensures world { IfOk result (λ world. world ≡ first_world tree cpus) }
+        ensures few { IfOk result (λ world. world.queues.pushes ≡ 0) }
+        ensures flags { OnOk result (length tree.active ≡ length tree.homes) }
+    {
+        let count = tree.tasks() as usize;
+        Ok(World {
+            clock: 0,
+            tasks: vec![in alloc; Task::NEW; count]?,
+            cpus: vec![in alloc; None; cpus]?,
+            queues: own_queues(alloc, cpus, count)?,
+            tree,
+            call: Call::NONE,
+            notes: Vec::with_capacity(alloc, 4096)?,
+        })
+    }
+
+    pub fn clock(&self) -> u64
+        ensures { result ≡ self.now.clock }
+    {
+        let clock = self.clock;
+        clock
+    }
+
+    // ---- tasks
+
+    /// How many tasks there are.
+    pub fn tasks(&self) -> u16
+        ensures tasks { result ≡ length self.now.tasks }
+        ensures few { result ≤ 1024 }
+    {
+        self.tasks.len() as u16
+    }
+
+    pub fn has_task(&self, task: u16) -> bool
+        ensures { result ≡ nat_lt task (length self.now.tasks) }
+    {
+        (task as usize) < self.tasks.len()
+    }
+
+    /// The record of a task; all is 0 where there is none.
+    pub fn task(&self, task: u16) -> Task
+        ensures { result ≡ task_at self.now task }
+    {
+        if (task as usize) < self.tasks.len() {
+            self.tasks[task as usize]
+        } else {
+            Task::NONE
+        }
+    }
+
+    pub(crate) fn set_task(&mut self, task: u16, facts: Task)
+        ensures { self.new ≡ with_task self.old task facts }
+    {
+        if (task as usize) < self.tasks.len() {
+            self.tasks[task as usize] = facts;
+        }
+    }
+
+    pub fn is_runnable(&self, task: u16) -> bool
+        requires { task < length self.now.tasks }
+        ensures { result ≡ is_runnable self.now task }
+    {
+        self.tree.is_active(u32::from(task))
+    }
+
+    /// The queue in which the task waits.
+    pub fn queue_of(&self, task: u16) -> Option<u64>
+        ensures { result ≡ queue_of self.now.queues task }
+    {
+        if (task as usize) < self.queues.tasks() {
+            self.queues.queue_of(u32::from(task))
+        } else {
+            None
+        }
+    }
+
+    pub fn waits(&self, task: u16) -> bool
+        ensures { result ≡ waits self.now task }
+    {
+        self.queue_of(task).is_some()
+    }
+
+    /// A task as a program is given it.
+    pub fn pointer(task: u16) -> Argument
+        ensures { result ≡ pointed task }
+    {
+        Argument::Task(TaskId(task))
+    }
+
+    // ---- processors
+
+    /// How many processors there are.
+    pub fn cpus(&self) -> u32
+        ensures cpus { result ≡ length self.now.cpus }
+        ensures few { result ≤ 64 }
+    {
+        self.cpus.len() as u32
+    }
+
+    /// The task that runs on the processor.
+    pub fn running(&self, cpu: u32) -> Option<u16>
+        ensures { result ≡ running self.now cpu }
+    {
+        if (cpu as usize) < self.cpus.len() {
+            self.cpus[cpu as usize]
+        } else {
+            None
+        }
+    }
+
+    pub(crate) fn set_cpu(&mut self, cpu: u32, task: Option<u16>)
+        ensures { self.new ≡ with_cpu self.old cpu task }
+    {
+        if (cpu as usize) < self.cpus.len() {
+            self.cpus[cpu as usize] = task;
+        }
+    }
+
+    /// The processor on which the task runs.
+    pub fn cpu_of(&self, task: u16) -> Option<u32>
+        ensures { result ≡ cpu_of self.now task }
+    {
+        match cpu_of(&self.cpus, task) {
+            Some(cpu) => Some(cpu as u32),
+            None => None,
+        }
+    }
+
+    pub fn is_idle(&self, cpu: u32) -> bool
+        ensures { result ≡ is_idle self.now cpu }
+    {
+        (cpu as usize) < self.cpus.len() && self.cpus[cpu as usize].is_none()
+    }
+
+    /// The processor on which the task ran last if it is idle, else the lowest idle one, else that one.
+    pub fn default_choice(&self, task: u16) -> u32
+        ensures { result ≡ default_choice self.now task }
+    {
+        let prev = self.task(task).prev_cpu;
+        if self.is_idle(prev) {
+            return prev;
+        }
+        match first_idle(&self.cpus) {
+            Some(cpu) => cpu as u32,
+            None => prev,
+        }
+    }
+
+    // ---- weights
+
+    /// How many groups there are.
+    pub fn groups(&self) -> u32
+        ensures { result ≡ length self.now.tree.groups }
+    {
+        self.tree.groups()
+    }
+
+    // ---- the callback at hand
+
+    /// A callback begins, with that task and processor at hand.
+    pub fn begin(&mut self, callback: Callback, task: u16, cpu: u32)
+        ensures { self.new ≡ begun self.old callback task cpu }
+    {
+        self.notes.clear();
+        self.call = Call {
+            callback,
+            task,
+            cpu,
+            insert: None,
+            has_moved: false,
+            fault: None,
+        };
+    }
+
+    /// Forgets the notes.
+    pub fn quiet(&mut self)
+        ensures { self.new ≡ quiet self.old }
+    {
+        self.notes.clear();
+    }
+
+    /// What the callback at hand noted.
+    pub fn notes(&self) -> &[Note]
+        ensures { result.now ≡ self.now.notes }
+    {
+        &self.notes
+    }
+
+    /// That, at this clock.
+    pub fn note(&self, what: What) -> Note
+        ensures { result ≡ said self.now what }
+    {
+        Note {
+            clock: self.clock,
+            what,
+        }
+    }
+
+    /// The processor whose local queue LOCAL means.
+    pub fn cpu_at_hand(&self) -> u32
+        ensures { result ≡ self.now.call.cpu }
+    {
+        let cpu = self.call.cpu;
+        cpu
+    }
+
+    /// Where the callback wants the task at hand to wait.
+    pub fn insert(&self) -> Option<Insert>
+        ensures { result ≡ self.now.call.insert }
+    {
+        self.call.insert
+    }
+
+    /// Whether the callback moved a task to a local queue.
+    pub fn has_moved(&self) -> bool
+        ensures { result ≡ self.now.call.has_moved }
+    {
+        self.call.has_moved
+    }
+
+    /// The first fault of the callback.
+    pub fn first_fault(&self) -> Option<Fault>
+        ensures { result ≡ self.now.call.fault }
+    {
+        self.call.fault
+    }
+}
+
+/// The machine's own queues.
+fn own_queues(alloc: Global, cpus: usize, tasks: usize) -> Result<Queues, AllocError>
+    requires { cpus ≤ 64 }
+    ensures queues { IfOk result (λ queues. queues ≡ first_queues cpus tasks) }
+    ensures tasks { IfOk result (λ queues. task_count queues ≡ tasks) }
+    ensures few { IfOk result (λ queues. queues.pushes ≡ 0) }
+{
+    let mut queues = Queues::new(alloc, 19 + cpus, tasks)?;
+    let _global = queues.create(GLOBAL);
+    let _held = queues.create(HELD);
+    let _builtin = queues.create(BUILTIN);
+    add_locals(&mut queues, cpus);
+    Ok(queues)
+}
+
+/// A local queue for each processor.
+fn add_locals(queues: &mut Queues, cpus: usize)
+    requires { cpus ≤ 64 }
+    ensures queues { queues.new ≡ with_locals cpus queues.old }
+    ensures tasks { task_count queues.new ≡ task_count queues.old }
+    ensures few { queues.new.pushes ≡ queues.old.pushes }
+{
+    for cpu in 0..cpus {
+        let _made = queues.create(LOCAL_ON + cpu as u64);
+    }
+}
+
+/// The lowest processor on which nothing runs.
+fn first_idle(cpus: &[Option<u16>]) -> Option<usize>
+    ensures place { result ≡ position is_none cpus.now }
+    ensures within { IfSome result (λ i. i < length cpus.now) }
+{
+    cpus.iter().position(|on| on.is_none())
+}
+
+/// The lowest processor on which the task runs.
+fn cpu_of(cpus: &[Option<u16>], task: u16) -> Option<usize>
+    ensures place { result ≡ position (is_this task) cpus.now }
+    ensures within { IfSome result (λ i. i < length cpus.now) }
+{
+    cpus.iter().position(|on| match on {
+        Some(other) => task == *other,
+        None => false,
+    })
+}
