@@ -1,10 +1,13 @@
--- Each task's spot after two items were exchanged.
-use Rattle.std.proofs.Common.{◌≡◌, ◌≢◌, ℕ, ◌<◌, List, length, set, slice_index_or, refl, sym, ap, ◌∙◌, subst, arith, ◌⊎◌, inl, inr}
+-- Each task's spot after two items were exchanged, and those of tasks that aren't there.
+use Rattle.std.proofs.Common.{◌≡◌, ◌≢◌, ℕ, ◌<◌, ◌==◌, List, length, set, slice_index_or, refl, sym, ap, ◌∙◌, subst, arith, ◌⊎◌, inl, inr}
 use Rattle.std.specs.List.{SwappedAt}
-use Rattle.std.proofs.lemmas.Bool.{cases_eq}
+use Rattle.std.specs.List.Sorted.{IsPermutation}
+use Rattle.std.proofs.lemmas.Bool.{cases_eq, both_ways, eq-eqb}
+use Rattle.std.proofs.lemmas.List.Folds.{list_any_at}
+use Rattle.std.proofs.lemmas.List.Sorted.{list_any-IsPermutation}
 use Rattle.std.proofs.lemmas.List.{get_or_default, get_or-set_same, get_or-set_other, length-set}
 use Rattle.scx_dsq.specs.declared.heap.Item.{Item}
-use Rattle.scx_dsq.specs.Heaps.{HasSpots}
+use Rattle.scx_dsq.specs.Heaps.{HasSpots, IsAbsent, KeepsOthers}
 
 module _ (items new : List Item) (spots : List ℕ) (i j : ℕ) (z : Item) (first : i < length items) (second : j < length items) (h : HasSpots items spots) (swapped : SwappedAt items new i j)
     (long : length new ≡ length items) where
@@ -31,6 +34,9 @@ module _ (items new : List Item) (spots : List ℕ) (i j : ℕ) (z : Item) (firs
 
   pub two_still : two < length (set spots one i)
   two_still = subst (λ n. two < n) (sym (length-set spots one i)) two_within
+
+  apart_from : (t k : ℕ) → k < length items → IsAbsent items t → t ≢ (slice_index_or items k z).task
+  apart_from t k lt out e = both_ways _ out (list_any_at (λ (x : Item). x.task == t) items k z lt (eq-eqb (slice_index_or items k z).task t (sym e)))
 
   own : (k l : ℕ) (x y : Item) → k < length items → l < length items → (slice_index_or items k x).task ≡ (slice_index_or items l y).task → k ≡ l
   own k l x y p q e = sym (h k x 0 p).1 ∙ ap (λ t. slice_index_or spots t 0) e ∙ (h l y 0 q).1
@@ -73,3 +79,19 @@ module _ (items new : List Item) (spots : List ℕ) (i j : ℕ) (z : Item) (firs
           (subst (Stands i e) (one_is d ∙ sym (ap (λ (x : Item). x.task) (swapped.0 d))) (at_first e (λ s. n (same ∙ s))))
       go (inr n) (inr m) =
           subst (Stands k e) (sym (ap (λ (x : Item). x.task) (swapped.2 k d m n))) (elsewhere k d e (subst (λ n. k < n) long lt) m n)
+
+  pub others_after : KeepsOthers items spots after
+  others_after = record {
+    long = same_length;
+    same = λ t e out. get_or-set_other (set spots one i) two t j e (λ s. apart_from t i first out (s ∙ two_is z))
+            ∙ get_or-set_other spots one t i e (λ s. apart_from t j second out (s ∙ one_is z));
+  }
+
+pub keeps_none : (items : List Item) (spots : List ℕ) → KeepsOthers items spots spots
+keeps_none items spots = record { long = refl; same = λ t e out. refl }
+
+pub keeps_more : (items now : List Item) (first second third : List ℕ) → IsPermutation items now → KeepsOthers items first second → KeepsOthers now second third → KeepsOthers items first third
+keeps_more items now first second third moved h more = record {
+  long = more.long ∙ h.long;
+  same = λ t e out. more.same t e (sym (list_any-IsPermutation (λ (x : Item). x.task == t) items now moved) ∙ out) ∙ h.same t e out;
+}

@@ -41,6 +41,15 @@ abbrev pub HasSpots : List Item → List ℕ → Type 0
 HasSpots items spots =
     (k : ℕ) (d : Item) (e : ℕ) → k < length items → ((slice_index_or items k d).task < length spots) × (slice_index_or spots (slice_index_or items k d).task e ≡ k)
 
+-- the task isn't in the array
+abbrev pub IsAbsent : List Item → ℕ → Type 0
+IsAbsent items t = list_any (λ x. x.task == t) items ≡ false
+
+-- the spots of tasks that aren't in the array stay as they were
+pub record KeepsOthers (items : List Item) (old new : List ℕ) : Type 0 where
+  pub long : length new ≡ length old
+  pub same : (t e : ℕ) → IsAbsent items t → slice_index_or new t e ≡ slice_index_or old t e
+
 -- ---- what a move in the heap costs
 
 -- only these places hold other items

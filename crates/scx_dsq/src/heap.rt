@@ -1,7 +1,7 @@
 ghost use Rattle.std.specs.Prelude.{◌≡◌, ◌+◌, ◌-◌, ◌*◌, ◌^◌, ◌<◌, ◌≤◌, length, IfSome, IfNone};
 ghost use Rattle.std.specs.List.{SwappedAt};
 ghost use Rattle.std.specs.List.Sorted.{IsPermutation};
-ghost use Rattle.scx_dsq.specs.Heaps.{IsHeap, IsHeapBut, IsHeapAbove, IsFirstChild, Rose, Sank, HasSpots};
+ghost use Rattle.scx_dsq.specs.Heaps.{IsHeap, IsHeapBut, IsHeapAbove, IsFirstChild, Rose, Sank, HasSpots, KeepsOthers};
 
 use crate::priority::Priority;
 use crate::steps::Steps;
@@ -22,6 +22,7 @@ pub fn rise<L: Ledger>(items: &mut [Item], spots: &mut [u32], start: usize, step
     requires heap { IsHeapBut items.old start }
     ensures heap { IsHeap items.new }
     ensures spots { HasSpots items.new spots.new }
+    ensures others { KeepsOthers items.old spots.old spots.new }
     ensures same { IsPermutation items.old items.new }
     ensures cost { Rose items.old items.new start (steps.new - steps.old) }
     ensures more { steps.old ≤ steps.new }
@@ -45,6 +46,7 @@ pub fn sink<L: Ledger>(items: &mut [Item], spots: &mut [u32], start: usize, step
     requires heap { IsHeapAbove items.old start }
     ensures heap { IsHeap items.new }
     ensures spots { HasSpots items.new spots.new }
+    ensures others { KeepsOthers items.old spots.old spots.new }
     ensures same { IsPermutation items.old items.new }
     ensures cost { Sank items.old items.new start (length items.old) (steps.new - steps.old) }
     ensures more { steps.old ≤ steps.new }
@@ -68,7 +70,7 @@ pub fn exchange(items: &mut [Item], spots: &mut [u32], i: usize, j: usize)
     ensures spots { HasSpots items.new spots.new }
     ensures same { IsPermutation items.old items.new }
     ensures swapped { SwappedAt items.old items.new i j }
-    ensures long { length spots.new ≡ length spots.old }
+    ensures others { KeepsOthers items.old spots.old spots.new }
 {
     items.swap(i, j);
     spots[items[i].task as usize] = i as u32;

@@ -2,11 +2,13 @@ use Rattle.std.proofs.Common.{◌≡◌, ◌+◌, ◌-◌, ◌<◌, ◌≤◌, l
 use Rattle.std.proofs.lemmas.List.Sorted.{IsPermutation-trans}
 use Rattle.scx_dsq.specs.Heaps.{parent}
 use Rattle.scx_dsq.proofs.Heaps.{rises_none, rises_more, rose, rose_here, read_by_all, exchanged}
+use Rattle.scx_dsq.proofs.Spots.{keeps_none, keeps_more}
 use Rattle.scx_dsq.proofs.heap.rise.Goals as goal
 
 pub loop-at-init : goal.loop-at-init
 loop-at-init g c = record {
   spots_kept = c.requires.spots;
+  others = keeps_none c.args.items.now c.args.spots.now;
   inside = c.requires.within;
   heap = c.requires.heap;
   same = search rules;
@@ -23,6 +25,7 @@ loop-at-preserved g c =
     let few : c.is_before.new.steps - c.args.steps.now ≤ c.loop-at.steps - c.args.steps.now + 1 = let more = inv.more in omega (arith, c.is_before.ensures.counted) in
     record {
       spots_kept = c.exchange.ensures.spots;
+      others = keeps_more c.args.items.now c.loop-at.items c.args.spots.now c.loop-at.spots c.exchange.new.spots inv.same inv.others c.exchange.ensures.others;
       inside = omega (arith, above, c.exchange.auto.items);
       heap = exchanged c.loop-at.items c.exchange.new.items c.loop-at.at up inv.inside c.exchange.auto.items c.exchange.ensures.swapped early inv.heap;
       same = IsPermutation-trans _ _ _ inv.same c.exchange.ensures.same;

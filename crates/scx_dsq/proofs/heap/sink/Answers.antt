@@ -2,6 +2,7 @@ use Rattle.std.proofs.Common.{◌≡◌, ◌+◌, ◌-◌, ◌*◌, ◌^◌, ◌
 use Rattle.std.proofs.lemmas.List.Sorted.{IsPermutation-trans}
 use Rattle.scx_dsq.specs.Heaps.{parent, IsFirstChild}
 use Rattle.scx_dsq.proofs.Heaps.{read_by_all, sinks_none, sinks_more, sank, sank_here, sunk, heap_above}
+use Rattle.scx_dsq.proofs.Spots.{keeps_none, keeps_more}
 use Rattle.scx_dsq.proofs.heap.sink.Goals as goal
 
 pub loop-child-preserved : goal.loop-child-preserved
@@ -13,6 +14,7 @@ loop-child-preserved g c =
     let twice : 2 * (c.loop-child.at + 1) ≤ c.in-Some.child + 1 = let of = child.of in let some = child.positive in omega arith in
     record {
       spots_kept = c.exchange.ensures.spots;
+      others = keeps_more c.args.items.now c.loop-child.items c.args.spots.now c.loop-child.spots c.exchange.new.spots inv.same inv.others c.exchange.ensures.others;
       inside = let inside = child.inside in omega (arith, c.exchange.auto.items);
       heap = sunk c.loop-child.items c.exchange.new.items c.loop-child.at c.in-Some.child inv.heap child c.exchange.auto.items c.exchange.ensures.swapped early;
       same = IsPermutation-trans _ _ _ inv.same c.exchange.ensures.same;
@@ -45,6 +47,7 @@ returns-in_default-clause-cost g c =
 pub loop-child-init : goal.loop-child-init
 loop-child-init g c = record {
   spots_kept = c.requires.spots;
+  others = keeps_none c.args.items.now c.args.spots.now;
   inside = c.requires.within;
   heap = c.requires.heap;
   same = search rules;
