@@ -17,11 +17,11 @@ use Rattle.scx_dsq.proofs.Orders.{Below, before_from, before-asym, before-trans}
 as_place : Priority → Place
 as_place p = record { queue = 0; rank = Vtime p.key; stamp = p.stamp }
 
-asym : (p q : Priority) → comes_before p q ≡ true → comes_before q p ≡ false
+pub asym : (p q : Priority) → comes_before p q ≡ true → comes_before q p ≡ false
 unfolding as_place
 asym p q h = before-asym (as_place p) (as_place q) h
 
-trans : (p q r : Priority) → comes_before p q ≡ true → comes_before q r ≡ true → comes_before p r ≡ true
+pub trans : (p q r : Priority) → comes_before p q ≡ true → comes_before q r ≡ true → comes_before p r ≡ true
 unfolding as_place
 trans p q r h k = before-trans (as_place p) (as_place q) (as_place r) h k
 
@@ -45,7 +45,7 @@ itself : (x : Priority) → comes_before x x ≡ false
 itself x = false_from_ne_true _ (λ t. both_ways _ (asym x x t) t)
 
 -- who leaves before none that leaves before none
-not-trans : (p q r : Priority) → comes_before p q ≡ false → comes_before q r ≡ false → comes_before p r ≡ false
+pub not-trans : (p q r : Priority) → comes_before p q ≡ false → comes_before q r ≡ false → comes_before p r ≡ false
 unfolding as_place
 not-trans p q r h k = false_from_ne_true _ (λ t. both_ways _ (reversed (cases_eq r.key p.key)) t)
   where
@@ -81,7 +81,7 @@ not-trans p q r h k = false_from_ne_true _ (λ t. both_ways _ (reversed (cases_e
 list_any_here : (t : ℕ) (ts : List ℕ) → list_any (λ p. p == t) (t ∷ ts) ≡ true
 list_any_here t ts = list_any_at (λ p. p == t) (t ∷ ts) 0 0 (omega arith) (eq-eqb t t refl)
 
-not_there : (k t : ℕ) (ts : List ℕ) → list_any (λ p. p == k) (t ∷ ts) ≡ false → (k ≢ t) × (list_any (λ p. p == k) ts ≡ false)
+pub not_there : (k t : ℕ) (ts : List ℕ) → list_any (λ p. p == k) (t ∷ ts) ≡ false → (k ≢ t) × (list_any (λ p. p == k) ts ≡ false)
 not_there k t ts out =
     let parts = or_parts (t == k) (list_any (λ p. p == k) ts) out in
     ((λ e. both_ways (t == k) parts.0 (eq-eqb t k (sym e))), parts.1)

@@ -16,3 +16,4 @@ pub mod ThreadsWith
 pub mod ThreadsWithout
 pub mod Heaps
 pub mod Spots
+pub mod HeapEdits

@@ -1,9 +1,17 @@
 -- Queues by virtual time as heaps in an array (Williams, Algorithm 232): no task leaves before the one at
 -- its parent's place.
-use Rattle.std.specs.Prelude.{◌≡◌, ◌≢◌, ℕ, ◌+◌, ◌-◌, ◌*◌, ◌/◌, ◌^◌, ◌<◌, ◌≤◌, Bool, false, ◌==◌, ◌&&◌, ◌||◌, nat_lt, List, length, slice_index_or}
+use Rattle.std.specs.Prelude.{◌≡◌, ◌≢◌, ℕ, ◌+◌, ◌-◌, ◌*◌, ◌/◌, ◌^◌, ◌<◌, ◌≤◌, Bool, false, ◌==◌, ◌&&◌, ◌||◌, true, nat_lt, List, [], ◌∷◌, length, slice_index_or, Option, Some, None}
 use Rattle.std.specs.List.{list_any}
 use Rattle.scx_dsq.specs.declared.priority.Priority.{Priority}
 use Rattle.scx_dsq.specs.declared.heap.Item.{Item}
+
+pub record HeapState : Type 0 where
+  pub room : ℕ  -- how many items it has memory for
+  pub items : List Item
+
+abbrev pub first_item : List Item → Option ℕ
+first_item [] = None
+first_item (x ∷ xs) = Some x.task
 
 -- by key, then by stamp
 abbrev pub comes_before : Priority → Priority → Bool
@@ -15,6 +23,10 @@ parent k = (k - 1) / 2
 -- the task at the first place doesn't leave before the one at the second
 abbrev pub IsBehind : List Item → ℕ → ℕ → Type 0
 IsBehind items k j = (d e : Item) → comes_before (slice_index_or items k d).priority (slice_index_or items j e).priority ≡ false
+
+-- and here it does
+abbrev pub Leads : List Item → ℕ → ℕ → Type 0
+Leads items k j = (d e : Item) → comes_before (slice_index_or items k d).priority (slice_index_or items j e).priority ≡ true
 
 abbrev pub IsHeap : List Item → Type 0
 IsHeap items = (k : ℕ) → 0 < k → k < length items → IsBehind items k (parent k)
@@ -29,6 +41,12 @@ pub record IsHeapAbove (items : List Item) (at : ℕ) : Type 0 where
   pub others : (k : ℕ) → 0 < k → k < length items → parent k ≢ at → IsBehind items k (parent k)
   pub above : (k : ℕ) → 0 < k → k < length items → parent k ≡ at → 0 < at → IsBehind items k (parent at)
 
+-- a heap but for one place, which may leave before its parent, or after those right behind it; these don't
+-- leave before that parent
+pub record IsHeapAround (items : List Item) (at : ℕ) : Type 0 where
+  pub others : (k : ℕ) → 0 < k → k < length items → k ≢ at → parent k ≢ at → IsBehind items k (parent k)
+  pub above : (k : ℕ) → 0 < k → k < length items → parent k ≡ at → 0 < at → IsBehind items k (parent at)
+
 -- a child before which the other child of its parent doesn't leave
 pub record IsFirstChild (items : List Item) (at child : ℕ) : Type 0 where
   pub positive : 0 < child
@@ -40,6 +58,11 @@ pub record IsFirstChild (items : List Item) (at child : ℕ) : Type 0 where
 abbrev pub HasSpots : List Item → List ℕ → Type 0
 HasSpots items spots =
     (k : ℕ) (d : Item) (e : ℕ) → k < length items → ((slice_index_or items k d).task < length spots) × (slice_index_or spots (slice_index_or items k d).task e ≡ k)
+
+pub record IsIn (items : List Item) (t : ℕ) : Type 0 where
+  pub place : ℕ
+  pub inside : place < length items
+  pub there : (d : Item) → (slice_index_or items place d).task ≡ t
 
 -- the task isn't in the array
 abbrev pub IsAbsent : List Item → ℕ → Type 0
@@ -75,3 +98,24 @@ pub record Rose (old new : List Item) (start steps : ℕ) : Type 0 where
   pub places : List ℕ
   pub few : length places ≤ levels + 1
   pub differs : DiffersAt places old new
+
+-- up or down so many levels, after one comparison that tells which
+pub record Settled (old new : List Item) (steps : ℕ) : Type 0 where
+  pub levels : ℕ
+  pub depth : 2 ^ levels ≤ length old
+  pub cost : steps ≤ 2 * levels + 1
+  pub places : List ℕ
+  pub few : length places ≤ levels + 1
+  pub differs : DiffersAt places old new
+
+-- all but so many places hold the same; one that only one of the arrays has counts
+pub record DiffersAtMost (old new : List Item) (most : ℕ) : Type 0 where
+  pub places : List ℕ
+  pub few : length places ≤ most
+  pub differs : DiffersAt places old new
+
+-- where the number of items that there were and one more has so many binary digits at most, twice as many
+-- comparisons and changed places at most
+pub record IsCheap (old new : List Item) (steps : ℕ) : Type 0 where
+  pub comparisons : (digits : ℕ) → length old + 1 < 2 ^ digits → steps ≤ 2 * digits
+  pub changes : (digits : ℕ) → length old + 1 < 2 ^ digits → DiffersAtMost old new (2 * digits)

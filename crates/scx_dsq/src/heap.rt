@@ -1,10 +1,12 @@
-ghost use Rattle.std.specs.Prelude.{◌≡◌, ◌+◌, ◌-◌, ◌*◌, ◌^◌, ◌<◌, ◌≤◌, length, IfSome, IfNone};
+ghost use Rattle.std.specs.Prelude.{◌≡◌, ◌+◌, ◌-◌, ◌*◌, ◌^◌, ◌<◌, ◌≤◌, [], ◌∷◌, ◌++◌, length, true, false, IfSome, IfNone, IfOk};
 ghost use Rattle.std.specs.List.{SwappedAt};
 ghost use Rattle.std.specs.List.Sorted.{IsPermutation};
-ghost use Rattle.scx_dsq.specs.Heaps.{IsHeap, IsHeapBut, IsHeapAbove, IsFirstChild, Rose, Sank, HasSpots, KeepsOthers};
+ghost use Rattle.scx_dsq.specs.Heaps.{parent, IsBehind, Leads, IsHeap, IsHeapBut, IsHeapAbove, IsHeapAround, IsFirstChild, Rose, Sank, Settled, IsCheap, HasSpots, IsAbsent, IsIn, KeepsOthers, first_item};
 
 use crate::priority::Priority;
 use crate::steps::Steps;
+use std::alloc::{AllocError, Global};
+use std::marker::Model;
 use std::sync::ledger::Ledger;
 
 /// A task that waits by virtual time.
@@ -12,6 +14,129 @@ use std::sync::ledger::Ledger;
 pub struct Item {
     pub task: u32,
     pub priority: Priority,
+}
+
+/// The tasks of one queue by virtual time. It never takes more memory than it was made with.
+#[derive(Debug, Drop)]
+pub struct Heap {
+    items: Vec<Item>,
+}
+
+impl Model for Heap {
+    ghost use Rattle.std.specs.Prelude.{vec_capacity};
+    ghost use Rattle.scx_dsq.specs.Heaps.{HeapState};
+
+    ghost Value = { HeapState };
+
+    ghost view = { λ h. record { room = vec_capacity h.items; items = h.items.items } };
+}
+
+impl Heap {
+    pub fn new(alloc: Global, room: usize) -> Result<Heap, AllocError>
+        ensures { IfOk result (λ heap. heap ≡ record { room = room; items = [] }) }
+    {
+        Ok(Heap {
+            items: Vec::with_capacity(alloc, room)?,
+        })
+    }
+
+    pub fn len(&self) -> usize
+        ensures { result ≡ length self.now.items }
+    {
+        self.items.len()
+    }
+
+    pub fn front(&self) -> Option<u32>
+        ensures { result ≡ first_item self.now.items }
+    {
+        match self.items.first() {
+            Some(item) => Some(item.task),
+            None => None,
+        }
+    }
+
+    /// Puts an item into the heap, whose task isn't there.
+    pub fn insert<L: Ledger>(&mut self, spots: &mut [u32], item: Item, steps: &mut Steps<L>)
+        requires room { length self.old.items < self.old.room }
+        requires few { length self.old.items + 1 < 2 ^ 32 }
+        requires task { item.task < length spots.old }
+        requires absent { IsAbsent self.old.items item.task }
+        requires spots { HasSpots self.old.items spots.old }
+        requires heap { IsHeap self.old.items }
+        ensures heap { IsHeap self.new.items }
+        ensures spots { HasSpots self.new.items spots.new }
+        ensures others { KeepsOthers (self.old.items ++ item ∷ []) spots.old spots.new }
+        ensures same { IsPermutation (self.old.items ++ item ∷ []) self.new.items }
+        ensures room { self.new.room ≡ self.old.room }
+        ensures cost { IsCheap self.old.items self.new.items (steps.new - steps.old) }
+        ensures more { steps.old ≤ steps.new }
+    {
+        let last = self.items.len();
+        spots[item.task as usize] = last as u32;
+        self.items.push_reserved(item);
+        rise(&mut self.items, spots, last, steps);
+    }
+
+    /// Takes out a task that is there, and answers its item.
+    pub fn remove<L: Ledger>(
+        &mut self,
+        spots: &mut [u32],
+        task: u32,
+        steps: &mut Steps<L>,
+    ) -> Item
+        requires task { IsIn self.old.items task }
+        requires few { length self.old.items < 2 ^ 32 }
+        requires spots { HasSpots self.old.items spots.old }
+        requires heap { IsHeap self.old.items }
+        ensures task { result.task ≡ task }
+        ensures heap { IsHeap self.new.items }
+        ensures spots { HasSpots self.new.items spots.new }
+        ensures others { KeepsOthers self.old.items spots.old spots.new }
+        ensures same { IsPermutation self.old.items (result ∷ self.new.items) }
+        ensures room { self.new.room ≡ self.old.room }
+        ensures cost { IsCheap self.old.items self.new.items (steps.new - steps.old) }
+        ensures more { steps.old ≤ steps.new }
+    {
+        let at = spots[task as usize] as usize;
+        let item = self.items.swap_remove(at);
+        if at < self.items.len() {
+            spots[self.items[at].task as usize] = at as u32;
+            settle(&mut self.items, spots, at, steps);
+        }
+        item
+    }
+}
+
+/// Lets the item at a place go where it belongs, up or down.
+fn settle<L: Ledger>(items: &mut [Item], spots: &mut [u32], at: usize, steps: &mut Steps<L>)
+    requires within { at < length items.old }
+    requires few { length items.old < 2 ^ 32 }
+    requires spots { HasSpots items.old spots.old }
+    requires heap { IsHeapAround items.old at }
+    ensures heap { IsHeap items.new }
+    ensures spots { HasSpots items.new spots.new }
+    ensures others { KeepsOthers items.old spots.old spots.new }
+    ensures same { IsPermutation items.old items.new }
+    ensures cost { Settled items.old items.new (steps.new - steps.old) }
+    ensures more { steps.old ≤ steps.new }
+{
+    if leads(items, at, steps) {
+        rise(items, spots, at, steps);
+    } else {
+        sink(items, spots, at, steps);
+    }
+}
+
+/// Whether the item at a place leaves before its parent.
+fn leads<L: Ledger>(items: &[Item], at: usize, steps: &mut Steps<L>) -> bool
+    requires within { at < length items.now }
+    ensures parent { result ≡ true → 0 < at }
+    ensures leads { result ≡ true → Leads items.now at (parent at) }
+    ensures behind { result ≡ false → 0 < at → IsBehind items.now at (parent at) }
+    ensures cost { steps.new ≤ steps.old + 1 }
+    ensures more { steps.old ≤ steps.new }
+{
+    at > 0 && items[at].priority.is_before(items[(at - 1) / 2].priority, steps)
 }
 
 /// Lets the item at a place rise until no item leaves before its parent.
