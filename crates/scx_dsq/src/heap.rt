@@ -1,4 +1,4 @@
-ghost use Rattle.std.specs.Prelude.{◌≡◌, ◌+◌, ◌-◌, ◌*◌, ◌^◌, ◌<◌, ◌≤◌, [], ◌∷◌, ◌++◌, length, true, false, IfSome, IfNone, IfOk};
+ghost use Rattle.std.specs.Prelude.{◌≡◌, ◌+◌, ◌-◌, ◌*◌, ◌<◌, ◌≤◌, [], ◌∷◌, ◌++◌, length, true, false, IfSome, IfNone, IfOk};
 ghost use Rattle.std.specs.List.{SwappedAt};
 ghost use Rattle.std.specs.List.Sorted.{IsPermutation};
 ghost use Rattle.scx_dsq.specs.Heaps.{parent, IsBehind, Leads, IsHeap, IsHeapBut, IsHeapAbove, IsHeapAround, IsFirstChild, Rose, Sank, Settled, IsCheap, HasSpots, IsAbsent, IsIn, KeepsOthers, first_item};
@@ -56,9 +56,8 @@ impl Heap {
     }
 
     /// Puts an item into the heap, whose task isn't there.
-    pub fn insert<L: Ledger>(&mut self, spots: &mut [u32], item: Item, steps: &mut Steps<L>)
+    pub fn insert<L: Ledger>(&mut self, spots: &mut [usize], item: Item, steps: &mut Steps<L>)
         requires room { length self.old.items < self.old.room }
-        requires few { length self.old.items + 1 < 2 ^ 32 }
         requires task { item.task < length spots.old }
         requires absent { IsAbsent self.old.items item.task }
         requires spots { HasSpots self.old.items spots.old }
@@ -72,7 +71,7 @@ impl Heap {
         ensures more { steps.old ≤ steps.new }
     {
         let last = self.items.len();
-        spots[item.task as usize] = last as u32;
+        spots[item.task as usize] = last;
         self.items.push_reserved(item);
         rise(&mut self.items, spots, last, steps);
     }
@@ -80,12 +79,11 @@ impl Heap {
     /// Takes out a task that is there, and answers its item.
     pub fn remove<L: Ledger>(
         &mut self,
-        spots: &mut [u32],
+        spots: &mut [usize],
         task: u32,
         steps: &mut Steps<L>,
     ) -> Item
         requires task { IsIn self.old.items task }
-        requires few { length self.old.items < 2 ^ 32 }
         requires spots { HasSpots self.old.items spots.old }
         requires heap { IsHeap self.old.items }
         ensures task { result.task ≡ task }
@@ -97,10 +95,10 @@ impl Heap {
         ensures cost { IsCheap self.old.items self.new.items (steps.new - steps.old) }
         ensures more { steps.old ≤ steps.new }
     {
-        let at = spots[task as usize] as usize;
+        let at = spots[task as usize];
         let item = self.items.swap_remove(at);
         if at < self.items.len() {
-            spots[self.items[at].task as usize] = at as u32;
+            spots[self.items[at].task as usize] = at;
             settle(&mut self.items, spots, at, steps);
         }
         item
@@ -108,9 +106,8 @@ impl Heap {
 }
 
 /// Lets the item at a place go where it belongs, up or down.
-fn settle<L: Ledger>(items: &mut [Item], spots: &mut [u32], at: usize, steps: &mut Steps<L>)
+fn settle<L: Ledger>(items: &mut [Item], spots: &mut [usize], at: usize, steps: &mut Steps<L>)
     requires within { at < length items.old }
-    requires few { length items.old < 2 ^ 32 }
     requires spots { HasSpots items.old spots.old }
     requires heap { IsHeapAround items.old at }
     ensures heap { IsHeap items.new }
@@ -140,9 +137,8 @@ fn leads<L: Ledger>(items: &[Item], at: usize, steps: &mut Steps<L>) -> bool
 }
 
 /// Lets the item at a place rise until no item leaves before its parent.
-pub fn rise<L: Ledger>(items: &mut [Item], spots: &mut [u32], start: usize, steps: &mut Steps<L>)
+pub fn rise<L: Ledger>(items: &mut [Item], spots: &mut [usize], start: usize, steps: &mut Steps<L>)
     requires within { start < length items.old }
-    requires few { length items.old < 2 ^ 32 }
     requires spots { HasSpots items.old spots.old }
     requires heap { IsHeapBut items.old start }
     ensures heap { IsHeap items.new }
@@ -164,9 +160,8 @@ pub fn rise<L: Ledger>(items: &mut [Item], spots: &mut [u32], start: usize, step
 }
 
 /// Lets the item at a place sink until none behind it leaves before it.
-pub fn sink<L: Ledger>(items: &mut [Item], spots: &mut [u32], start: usize, steps: &mut Steps<L>)
+pub fn sink<L: Ledger>(items: &mut [Item], spots: &mut [usize], start: usize, steps: &mut Steps<L>)
     requires within { start < length items.old }
-    requires few { length items.old < 2 ^ 32 }
     requires spots { HasSpots items.old spots.old }
     requires heap { IsHeapAbove items.old start }
     ensures heap { IsHeap items.new }
@@ -187,10 +182,9 @@ pub fn sink<L: Ledger>(items: &mut [Item], spots: &mut [u32], start: usize, step
 }
 
 /// Exchanges two items, and with them their tasks' spots.
-pub fn exchange(items: &mut [Item], spots: &mut [u32], i: usize, j: usize)
+pub fn exchange(items: &mut [Item], spots: &mut [usize], i: usize, j: usize)
     requires first { i < length items.old }
     requires second { j < length items.old }
-    requires few { length items.old < 2 ^ 32 }
     requires spots { HasSpots items.old spots.old }
     ensures spots { HasSpots items.new spots.new }
     ensures same { IsPermutation items.old items.new }
@@ -198,14 +192,13 @@ pub fn exchange(items: &mut [Item], spots: &mut [u32], i: usize, j: usize)
     ensures others { KeepsOthers items.old spots.old spots.new }
 {
     items.swap(i, j);
-    spots[items[i].task as usize] = i as u32;
-    spots[items[j].task as usize] = j as u32;
+    spots[items[i].task as usize] = i;
+    spots[items[j].task as usize] = j;
 }
 
 /// Which of those right behind a place leaves first.
 fn first_child<L: Ledger>(items: &[Item], at: usize, steps: &mut Steps<L>) -> Option<usize>
     requires within { at < length items.now }
-    requires few { length items.now < 2 ^ 32 }
     ensures child { IfSome result (IsFirstChild items.now at) }
     ensures none { IfNone result (length items.now ≤ 2 * at + 1) }
     ensures cost { IfSome result (λ c. steps.new ≤ steps.old + 1) }
