@@ -4,9 +4,9 @@ use Rattle.std.specs.List.{list_any, swap_remove}
 use Rattle.std.specs.List.Sorted.{IsPermutation}
 use Rattle.std.proofs.Math.Pow.{pow_mono}
 use Rattle.std.proofs.Math.Seq.{take-append_seam}
-use Rattle.std.proofs.lemmas.Bool.{both_ways, eq-eqb, or_parts, false_from_ne_true, cases_eq, cases_lt}
+use Rattle.std.proofs.lemmas.Bool.{both_ways, eq-eqb, ne_eqb, or_parts, false_from_ne_true, cases_eq, cases_lt}
 use Rattle.std.proofs.lemmas.List.{get_or_default, get_or_past, get_or_push, get_or_append_left, get_or-take, length-take-le, get_or-set_same, get_or-set_other, length-set, length_push}
-use Rattle.std.proofs.lemmas.List.Folds.{list_any_at}
+use Rattle.std.proofs.lemmas.List.Folds.{list_any_at, list_any_none}
 use Rattle.std.proofs.lemmas.List.Sorted.{list_any-IsPermutation, IsPermutation-swap_remove}
 use Rattle.scx_dsq.specs.declared.heap.Item.{Item}
 use Rattle.scx_dsq.specs.Heaps.{comes_before, parent, IsBehind, Leads, IsHeap, IsHeapBut, IsHeapAbove, IsHeapAround, Rose, Sank, Settled, IsCheap, HasSpots, IsAbsent, IsIn, KeepsOthers}
@@ -19,7 +19,7 @@ fewer levels digits n deep lt = go (cases_lt levels digits)
     go (inl is) = is
     go (inr le) = let more = pow_mono le in absurd (omega (arith, more, deep, lt))
 
-absent_is_apart : (items : List Item) (t k : ℕ) (d : Item) → k < length items → IsAbsent items t → (slice_index_or items k d).task ≢ t
+pub absent_is_apart : (items : List Item) (t k : ℕ) (d : Item) → k < length items → IsAbsent items t → (slice_index_or items k d).task ≢ t
 absent_is_apart items t k d lt out e = both_ways _ out (list_any_at (λ (x : Item). x.task == t) items k d lt (eq-eqb (slice_index_or items k d).task t e))
 
 -- what a vector holds after its lent slice was changed
@@ -222,6 +222,20 @@ module _ (items now : List Item) (at : ℕ) (taken : Taken items now at) where
   pub spots_taken : (spots : List ℕ) → length now ≤ at → HasSpots items spots → HasSpots now spots
   spots_taken spots past h k d e lt = rw (kept k d (λ s. absurd (omega (arith, s, past, lt))) (omega (arith, lt, long))) (h k d e (omega (arith, lt, long)))
 
+  pub gone : (spots : List ℕ) (t : ℕ) → HasSpots items spots → slice_index_or spots t 0 ≡ at → IsAbsent now t
+  gone spots t h here = list_any_none (λ (x : Item). x.task == t) now (λ k d lt. ne_eqb (slice_index_or now k d).task t (λ e. go k d lt e (cases_eq k at)))
+    where
+      go : (k : ℕ) (d : Item) → k < length now → (slice_index_or now k d).task ≡ t → (k ≡ at) ⊎ (k ≡ at → ⊥) → ⊥
+      go k d lt e (inl same) =
+          let end : (slice_index_or items (length items - 1) d).task ≡ t = ap (λ (x : Item). x.task) (sym (moved d (omega (arith, same, lt, long)))) ∙ subst (λ j. (slice_index_or now j d).task ≡ t) same e in
+          let spot = (h (length items - 1) d 0 (omega (arith, inside))).1 in
+          let at_end : at ≡ length items - 1 = sym here ∙ ap (λ u. slice_index_or spots u 0) (sym end) ∙ spot in
+          absurd (omega (arith, at_end, same, lt, long))
+      go k d lt e (inr n) =
+          let old : (slice_index_or items k d).task ≡ t = ap (λ (x : Item). x.task) (sym (kept k d n (omega (arith, lt, long)))) ∙ e in
+          let spot = (h k d 0 (omega (arith, lt, long))).1 in
+          n (sym spot ∙ ap (λ u. slice_index_or spots u 0) old ∙ here)
+
   kept_but_two : (k : ℕ) (d : Item) → k ≢ at → k ≢ length items - 1 → slice_index_or now k d ≡ slice_index_or items k d
   kept_but_two k d n m = go (cases_lt (k + 1) (length items))
     where
@@ -255,6 +269,9 @@ module _ (items now : List Item) (at : ℕ) (taken : Taken items now at) where
       differs = λ k d out. let apart = not_there k at [] out in kept_but_two k d apart.0 (λ s. apart.0 (omega (arith, s, past, inside, long)));
     };
   }
+
+pub still_gone : (now new : List Item) (t : ℕ) → IsPermutation now new → IsAbsent now t → IsAbsent new t
+still_gone now new t moved out = sym (list_any-IsPermutation (λ (x : Item). x.task == t) now new moved) ∙ out
 
 pub keeps_taken : (items now : List Item) (x : Item) (first second third : List ℕ) → IsPermutation items (x ∷ now) → KeepsOthers items first second → KeepsOthers now second third → KeepsOthers items first third
 keeps_taken items now x first second third moved h more = record {

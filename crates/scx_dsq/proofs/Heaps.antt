@@ -26,7 +26,7 @@ unfolding as_place
 trans p q r h k = before-trans (as_place p) (as_place q) (as_place r) h k
 
 -- what the test says where it fails
-not_before : (p q : Priority) → comes_before p q ≡ false → Below q.key q.stamp p.key (p.stamp + 1)
+pub not_before : (p q : Priority) → comes_before p q ≡ false → Below q.key q.stamp p.key (p.stamp + 1)
 unfolding as_place
 not_before p q h = record { keys = keys (cases_lt p.key q.key); stamps = λ e. stamps e (cases_lt p.stamp q.stamp) }
   where
@@ -41,7 +41,7 @@ not_before p q h = record { keys = keys (cases_lt p.key q.key); stamps = λ e. s
 same_priority : (p r : Priority) → r.key ≡ p.key → r.stamp ≡ p.stamp → p ≡ r
 same_priority p r e f = rw (e, f) refl
 
-itself : (x : Priority) → comes_before x x ≡ false
+pub itself : (x : Priority) → comes_before x x ≡ false
 itself x = false_from_ne_true _ (λ t. both_ways _ (asym x x t) t)
 
 -- who leaves before none that leaves before none

@@ -17,3 +17,4 @@ pub mod ThreadsWithout
 pub mod Heaps
 pub mod Spots
 pub mod HeapEdits
+pub mod Holdings

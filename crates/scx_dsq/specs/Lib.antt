@@ -9,4 +9,5 @@ pub mod Facts
 pub mod Lines
 pub mod Links
 pub mod Heaps
+pub mod Holdings
 pub mod Kept

@@ -91,6 +91,7 @@ impl Heap {
         ensures spots { HasSpots self.new.items spots.new }
         ensures others { KeepsOthers self.old.items spots.old spots.new }
         ensures same { IsPermutation self.old.items (result ∷ self.new.items) }
+        ensures gone { IsAbsent self.new.items task }
         ensures room { self.new.room ≡ self.old.room }
         ensures cost { IsCheap self.old.items self.new.items (steps.new - steps.old) }
         ensures more { steps.old ≤ steps.new }

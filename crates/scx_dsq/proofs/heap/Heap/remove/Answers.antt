@@ -4,7 +4,7 @@ use Rattle.std.proofs.lemmas.List.{get_or_default}
 use Rattle.std.proofs.lemmas.List.Sorted.{IsPermutation-trans, IsPermutation-cons, IsPermutation-swap_remove}
 use Rattle.scx_dsq.specs.declared.heap.Item.{Item}
 use Rattle.scx_dsq.specs.Heaps.{HasSpots}
-use Rattle.scx_dsq.proofs.HeapEdits.{task_within, spot_within, taken_out, permuted, heap_taken, spots_moved, keeps_moved, spots_taken, keeps_taken, cheap_settled, cheap_taken, written_back}
+use Rattle.scx_dsq.proofs.HeapEdits.{gone, still_gone, task_within, spot_within, taken_out, permuted, heap_taken, spots_moved, keeps_moved, spots_taken, keeps_taken, cheap_settled, cheap_taken, written_back}
 use Rattle.scx_dsq.proofs.heap.Heap.remove.Goals as goal
 
 pub bounds-spots-task : goal.bounds-spots-task
@@ -85,3 +85,18 @@ returns-else-at-len-clause-cost g c =
     let taken = taken_out c.self.inside.items.items c.swap_remove-item.new.self.items (slice_index_or c.args.spots.now c.args.task 0) c.swap_remove-item.result inside c.swap_remove-item.ensures.items in
     let past : length c.swap_remove-item.new.self.items ≤ slice_index_or c.args.spots.now c.args.task 0 = search rules in
     rw (← c.self.view_is) (cheap_taken c.self.inside.items.items c.swap_remove-item.new.self.items (slice_index_or c.args.spots.now c.args.task 0) taken _ (omega arith) past)
+
+pub returns-then-at-len-clause-gone : goal.returns-then-at-len-clause-gone
+returns-then-at-len-clause-gone g c =
+    let inside : slice_index_or c.args.spots.now c.args.task 0 < length c.self.inside.items.items = rw (← c.self.view_is) at (spot_within c.args.self.now.items c.args.spots.now c.args.task c.requires.spots c.requires.task) in
+    let taken = taken_out c.self.inside.items.items c.swap_remove-item.new.self.items (slice_index_or c.args.spots.now c.args.task 0) c.swap_remove-item.result inside c.swap_remove-item.ensures.items in
+    let out = gone c.self.inside.items.items c.swap_remove-item.new.self.items (slice_index_or c.args.spots.now c.args.task 0) taken c.args.spots.now c.args.task (rw (← c.self.view_is) at c.requires.spots) refl in
+    let whole = written_back c.swap_remove-item.new.self.len c.settle.new.items c.swap_remove-item.new.self.items (omega (arith, c.settle.auto.items, c.deref_mut.ensures.len)) in
+    let after : IsPermutation c.swap_remove-item.new.self.items c.settle.new.items = rw c.deref_mut.ensures.value at c.settle.ensures.same in
+    rw whole (still_gone c.swap_remove-item.new.self.items c.settle.new.items c.args.task after out)
+
+pub returns-else-at-len-clause-gone : goal.returns-else-at-len-clause-gone
+returns-else-at-len-clause-gone g c =
+    let inside : slice_index_or c.args.spots.now c.args.task 0 < length c.self.inside.items.items = rw (← c.self.view_is) at (spot_within c.args.self.now.items c.args.spots.now c.args.task c.requires.spots c.requires.task) in
+    let taken = taken_out c.self.inside.items.items c.swap_remove-item.new.self.items (slice_index_or c.args.spots.now c.args.task 0) c.swap_remove-item.result inside c.swap_remove-item.ensures.items in
+    gone c.self.inside.items.items c.swap_remove-item.new.self.items (slice_index_or c.args.spots.now c.args.task 0) taken c.args.spots.now c.args.task (rw (← c.self.view_is) at c.requires.spots) refl
