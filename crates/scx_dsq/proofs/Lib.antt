@@ -8,8 +8,6 @@ pub mod Forms
 pub mod FormChanges
 pub mod Keeping
 pub mod Counted
-pub mod Replies
-pub mod Histories
 pub mod LinkReads
 pub mod Threads
 pub mod ThreadsWith

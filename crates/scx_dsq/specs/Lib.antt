@@ -3,8 +3,6 @@ pub mod Queues
 pub mod Errors
 pub mod Calls
 pub mod Laws
-pub mod Commands
-pub mod Runs
 pub mod Facts
 pub mod Lines
 pub mod Links

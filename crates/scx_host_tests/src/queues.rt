@@ -1,37 +1,65 @@
-ghost use Rattle.std.specs.Prelude.{IsTrue};
-ghost use Rattle.scx_dsq.specs.Commands.{KnowsTask};
-
-use scx_dsq::{Command, QueueError, Queues, Reply, answer, run};
+use scx_dsq::{QueueError, Queues};
 use std::alloc::{AllocError, Global};
 use std::process::Abort;
 use std::test::Fail;
 
-const DONE: Reply = Reply::Done(Ok(()));
-
-/// Whether the task that a command names is one that there is.
-fn is_known(queues: &Queues, command: Command) -> bool
-    ensures { IsTrue result → KnowsTask queues.now command }
-{
-    match command {
-        Command::PushFifo { queue: _, task }
-        | Command::PushVtime {
-            queue: _,
-            task,
-            key: _,
-        }
-        | Command::Remove { task }
-        | Command::QueueOf { task } => (task as usize) < queues.tasks(),
-        _ => true,
-    }
+/// A call of `Queues`.
+#[derive(Clone, Copy, Debug)]
+enum Command {
+    Create { queue: u64 },
+    PushFifo { queue: u64, task: u32 },
+    PushVtime { queue: u64, task: u32, key: u64 },
+    Front { queue: u64 },
+    Pop { queue: u64 },
+    Remove { task: u32 },
+    Len { queue: u64 },
+    QueueOf { task: u32 },
+    Pushes,
 }
 
-/// Carries out a command whose task is one that there is.
+/// What it answered.
+#[derive(Clone, Copy, Debug, PartialEq, Eq)]
+enum Reply {
+    /// Of `Create`, `PushFifo` and `PushVtime`.
+    Done(Result<(), QueueError>),
+    /// Of `Front` and `Pop`.
+    Task(Option<u32>),
+    Removed(bool),
+    Len(usize),
+    Queue(Option<u64>),
+    Pushes(u64),
+}
+
+const DONE: Reply = Reply::Done(Ok(()));
+
+/// Makes the call, whose task is one that there is.
 fn ask(rt: &impl Abort, queues: &mut Queues, command: Command) -> Reply {
-    let known = is_known(queues, command);
-    assert!(rt; known);
+    let tasks = queues.tasks();
     let pushes = queues.pushes();
     assert!(rt; pushes < 1 << 62);
-    answer(queues, command)
+    match command {
+        Command::Create { queue } => Reply::Done(queues.create(queue)),
+        Command::PushFifo { queue, task } => {
+            assert!(rt; (task as usize) < tasks);
+            Reply::Done(queues.push_fifo(queue, task))
+        }
+        Command::PushVtime { queue, task, key } => {
+            assert!(rt; (task as usize) < tasks);
+            Reply::Done(queues.push_vtime(queue, task, key))
+        }
+        Command::Front { queue } => Reply::Task(queues.front(queue)),
+        Command::Pop { queue } => Reply::Task(queues.pop(queue)),
+        Command::Remove { task } => {
+            assert!(rt; (task as usize) < tasks);
+            Reply::Removed(queues.remove(task))
+        }
+        Command::Len { queue } => Reply::Len(queues.len(queue)),
+        Command::QueueOf { task } => {
+            assert!(rt; (task as usize) < tasks);
+            Reply::Queue(queues.queue_of(task))
+        }
+        Command::Pushes => Reply::Pushes(queues.pushes()),
+    }
 }
 
 /// Carries out commands one by one, and compares their replies.
@@ -201,30 +229,6 @@ fn has_no_room_at_all(rt: HostRuntime) -> Result<(), Fail> {
             (len(0), Reply::Len(0)),
         ],
     );
-    Ok(())
-}
-
-#[test]
-fn runs_commands(rt: HostRuntime) -> Result<(), Fail> {
-    let mut queues = Queues::new(rt.alloc(), 1, 2)?;
-    let commands = [
-        Command::Create { queue: 5 },
-        Command::PushFifo { queue: 5, task: 1 },
-        Command::PushFifo { queue: 5, task: 0 },
-        Command::Pop { queue: 5 },
-        Command::Remove { task: 1 },
-        Command::Pushes,
-    ];
-    let replies = run(rt.alloc(), &mut queues, &commands)?;
-    let wanted = [
-        DONE,
-        DONE,
-        DONE,
-        Reply::Task(Some(1)),
-        Reply::Removed(false),
-        Reply::Pushes(2),
-    ];
-    assert_eq!(rt; replies.as_slice(), wanted.as_slice());
     Ok(())
 }
 
