@@ -2,10 +2,10 @@
 use Rattle.std.proofs.Common.{◌≡◌, ◌≢◌, ℕ, zero, suc, ◌+◌, ◌-◌, ◌/◌, ◌<◌, ◌≤◌, true, false, ◌==◌, ◌⊎◌, inl, inr, List, [], ◌∷◌, ◌++◌, length, set, slice_index_or, All, Contains, count_by, Option, Some, None, MatchOption, if◌then◌else◌, refl, sym, ap, ◌∙◌, subst, arith}
 use Rattle.std.specs.List.{list_any}
 use Rattle.std.specs.List.Sorted.{IsPermutation}
-use Rattle.std.proofs.lemmas.Bool.{both_ways, eq-eqb, ne_eqb, cases_eq}
+use Rattle.std.proofs.lemmas.Bool.{both_ways, eq-eqb, ne_eqb, or_from, cases_eq}
 use Rattle.std.proofs.lemmas.List.{get_or_default, get_or-set_same, length_push, length-set}
 use Rattle.std.proofs.lemmas.List.Elements.{All-weaker, All-append, All-cons, All-nil, Contains-append_left, Contains-append_right}
-use Rattle.std.proofs.lemmas.List.Folds.{list_any_none}
+use Rattle.std.proofs.lemmas.List.Folds.{list_any_none, list_any-append}
 use Rattle.std.proofs.lemmas.List.Sorted.{All-permutation, Contains-permutation, length_permutation}
 use Rattle.scx_dsq.specs.declared.places.Place.{Place}
 use Rattle.scx_dsq.specs.declared.places.Rank.TheVariants.{Fifo}
@@ -15,7 +15,7 @@ use Rattle.scx_dsq.specs.Places.{is_before, same_sort}
 use Rattle.scx_dsq.specs.Queues.{Places, QueueState, place_at, is_in, Waits, IsFront}
 use Rattle.scx_dsq.specs.Laws.{HasOwnStamps}
 use Rattle.scx_dsq.specs.Links.{In}
-use Rattle.scx_dsq.specs.Heaps.{comes_before, parent, IsBehind, IsHeap, IsAbsent, IsIn, first_item}
+use Rattle.scx_dsq.specs.Heaps.{comes_before, parent, IsBehind, IsHeap, HasSpots, IsAbsent, IsIn, KeepsOthers, first_item}
 use Rattle.scx_dsq.specs.Holdings.{place_for, Holds}
 use Rattle.scx_dsq.proofs.Heaps.{itself, not_before, not-trans}
 use Rattle.scx_dsq.proofs.HeapEdits.{absent_is_apart}
@@ -151,6 +151,31 @@ holds_without places id items new x within moved gone h = record {
         let g : count_by (is_in id) (set places x.task None) + 1 ≡ count_by (is_in id) places + 0 = rw (here, is_in_from id (place_for id x.priority) refl) at f in
         let long : length (x ∷ new) ≡ length items = length_permutation items (x ∷ new) moved in
         omega (arith, g, h.count, long)
+
+-- ---- the spots of other queues
+
+-- a change that keeps the spots of tasks that aren't in one array keeps those of another
+pub spots_elsewhere : (items busy : List Item) (old new : List ℕ) → All (λ y. IsAbsent busy y.task) items → KeepsOthers busy old new → HasSpots items old → HasSpots items new
+spots_elsewhere items busy old new out keeps h k d e lt =
+    let stands = h k d e lt in
+    (subst (λ n. (slice_index_or items k d).task < n) (sym keeps.long) stands.0, keeps.same (slice_index_or items k d).task e (out k d lt) ∙ stands.1)
+
+-- no task is held by two queues
+pub holds_apart : (places : Places) (id other_id : ℕ) (items others : List Item) → id ≢ other_id → Holds places id items → Holds places other_id others → All (λ y. IsAbsent items y.task) others
+holds_apart places id other_id items others n h k j d lt =
+    holds_absent places id items (slice_index_or others j d).task (subst (λ o. is_in id o ≡ false) (sym (k.there j d lt)) (ne_eqb other_id id (λ e. n (sym e)))) h
+
+-- nor by another than the one that a task enters
+pub holds_apart_with : (places : Places) (id other_id : ℕ) (items others : List Item) (x : Item) → id ≢ other_id → place_at places x.task ≡ None → Holds places id items → Holds places other_id others
+    → All (λ y. IsAbsent (items ++ x ∷ []) y.task) others
+holds_apart_with places id other_id items others x n free h k j d lt =
+    let t = (slice_index_or others j d).task in
+    let out : IsAbsent items t = holds_apart places id other_id items others n h k j d lt in
+    let apart : (x.task == t) ≡ false = ne_eqb x.task t (λ e. waits (subst (λ u. place_at places u ≡ None) e free) (k.there j d lt)) in
+    list_any-append (λ (y : Item). y.task == t) items (x ∷ []) ∙ or_from (list_any (λ (y : Item). y.task == t) items) (list_any (λ (y : Item). y.task == t) (x ∷ [])) out (or_from (x.task == t) false apart refl)
+  where
+    waits : {o : Option Place} {p : Place} → o ≡ None → o ≡ Some p → ⊥
+    waits e f = absurd (cc)
 
 -- ---- the front
 
