@@ -1,5 +1,5 @@
 -- An item put into a heap, or taken out.
-use Rattle.std.proofs.Common.{◌≡◌, ◌≢◌, ℕ, ◌+◌, ◌-◌, ◌*◌, ◌/◌, ◌^◌, ◌<◌, ◌≤◌, ◌==◌, ◌||◌, true, false, List, [], ◌∷◌, ◌++◌, length, set, take, drop, slice_index_or, refl, sym, ap, ◌∙◌, subst, arith, ◌⊎◌, inl, inr}
+use Rattle.std.proofs.Common.{◌≡◌, ◌≢◌, ℕ, ◌+◌, ◌-◌, ◌*◌, ◌^◌, ◌<◌, ◌≤◌, ◌==◌, false, List, [], ◌∷◌, ◌++◌, length, set, take, drop, slice_index_or, refl, sym, ap, ◌∙◌, subst, arith, ◌⊎◌, inl, inr}
 use Rattle.std.specs.List.{list_any, swap_remove}
 use Rattle.std.specs.List.Sorted.{IsPermutation}
 use Rattle.std.proofs.Math.Pow.{pow_mono}
@@ -10,7 +10,7 @@ use Rattle.std.proofs.lemmas.List.Folds.{list_any_at, list_any_none}
 use Rattle.std.proofs.lemmas.List.Sorted.{list_any-IsPermutation, IsPermutation-swap_remove}
 use Rattle.scx_dsq.specs.declared.heap.Item.{Item}
 use Rattle.scx_dsq.specs.Heaps.{comes_before, parent, IsBehind, Leads, IsHeap, IsHeapBut, IsHeapAbove, IsHeapAround, Rose, Sank, Settled, IsCheap, HasSpots, IsAbsent, IsIn, KeepsOthers}
-use Rattle.scx_dsq.proofs.Heaps.{asym, trans, not-trans, not_there}
+use Rattle.scx_dsq.proofs.Heaps.{trans, not-trans, not_there}
 
 fewer : (levels digits n : ℕ) → 2 ^ levels ≤ n → n < 2 ^ digits → levels < digits
 fewer levels digits n deep lt = go (cases_lt levels digits)
@@ -37,7 +37,7 @@ heap_to_rise items at h leads up = record {
     go : (k : ℕ) → 0 < k → k < length items → k ≢ at → (d e : Item) → (parent k ≡ at) ⊎ (parent k ≡ at → ⊥) → comes_before (slice_index_or items k d).priority (slice_index_or items (parent k) e).priority ≡ false
     go k some lt n d e (inl is) =
         rw is (false_from_ne_true _ (λ t. both_ways _ (h.above k some lt is up d e)
-                  (trans (slice_index_or items k d).priority (slice_index_or items at e).priority (slice_index_or items (parent at) e).priority t (leads e e))))
+        (trans (slice_index_or items k d).priority (slice_index_or items at e).priority (slice_index_or items (parent at) e).priority t (leads e e))))
     go k some lt n d e (inr m) = h.others k some lt n m d e
 
 pub heap_to_sink : (items : List Item) (at : ℕ) → IsHeapAround items at → (0 < at → IsBehind items at (parent at)) → IsHeapAbove items at

@@ -1,15 +1,14 @@
 -- A heap holds its queue, whatever task's place changes, and its first item is the queue's front.
-use Rattle.std.proofs.Common.{◌≡◌, ◌≢◌, ℕ, zero, suc, ◌+◌, ◌-◌, ◌/◌, ◌<◌, ◌≤◌, true, false, ◌==◌, ◌⊎◌, inl, inr, List, [], ◌∷◌, ◌++◌, length, set, slice_index_or, All, Contains, count_by, Option, Some, None, MatchOption, if◌then◌else◌, refl, sym, ap, ◌∙◌, subst, arith}
+use Rattle.std.proofs.Common.{◌≡◌, ◌≢◌, ℕ, zero, suc, ◌+◌, ◌<◌, ◌≤◌, true, false, ◌==◌, ◌⊎◌, inl, inr, List, [], ◌∷◌, ◌++◌, length, set, slice_index_or, All, Contains, count_by, Option, Some, None, MatchOption, if◌then◌else◌, refl, sym, ap, ◌∙◌, subst, arith}
 use Rattle.std.specs.List.{list_any}
 use Rattle.std.specs.List.Sorted.{IsPermutation}
-use Rattle.std.proofs.lemmas.Bool.{both_ways, eq-eqb, ne_eqb, or_from, cases_eq}
-use Rattle.std.proofs.lemmas.List.{get_or_default, get_or-set_same, length_push, length-set}
+use Rattle.std.proofs.lemmas.Bool.{both_ways, ne_eqb, or_from, cases_eq}
+use Rattle.std.proofs.lemmas.List.{get_or_default, get_or-set_same, length_push}
 use Rattle.std.proofs.lemmas.List.Elements.{All-weaker, All-append, All-cons, All-nil, Contains-append_left, Contains-append_right}
 use Rattle.std.proofs.lemmas.List.Folds.{list_any_none, list_any-append}
 use Rattle.std.proofs.lemmas.List.Sorted.{All-permutation, Contains-permutation, length_permutation}
 use Rattle.scx_dsq.specs.declared.places.Place.{Place}
 use Rattle.scx_dsq.specs.declared.places.Rank.TheVariants.{Fifo}
-use Rattle.scx_dsq.specs.declared.priority.Priority.{Priority}
 use Rattle.scx_dsq.specs.declared.heap.Item.{Item}
 use Rattle.scx_dsq.specs.Places.{is_before, same_sort}
 use Rattle.scx_dsq.specs.Queues.{Places, QueueState, place_at, is_in, Waits, IsFront}

@@ -1,5 +1,5 @@
 -- Each task's spot after two items were exchanged, and those of tasks that aren't there.
-use Rattle.std.proofs.Common.{◌≡◌, ◌≢◌, ℕ, ◌<◌, ◌==◌, List, length, set, slice_index_or, refl, sym, ap, ◌∙◌, subst, arith, ◌⊎◌, inl, inr}
+use Rattle.std.proofs.Common.{◌≡◌, ◌≢◌, ℕ, ◌<◌, ◌==◌, List, length, set, slice_index_or, refl, sym, ap, ◌∙◌, subst, ◌⊎◌, inl, inr}
 use Rattle.std.specs.List.{SwappedAt}
 use Rattle.std.specs.List.Sorted.{IsPermutation}
 use Rattle.std.proofs.lemmas.Bool.{cases_eq, both_ways, eq-eqb}
@@ -84,7 +84,7 @@ module _ (items new : List Item) (spots : List ℕ) (i j : ℕ) (z : Item) (firs
   others_after = record {
     long = same_length;
     same = λ t e out. get_or-set_other (set spots one i) two t j e (λ s. apart_from t i first out (s ∙ two_is z))
-            ∙ get_or-set_other spots one t i e (λ s. apart_from t j second out (s ∙ one_is z));
+        ∙ get_or-set_other spots one t i e (λ s. apart_from t j second out (s ∙ one_is z));
   }
 
 pub keeps_none : (items : List Item) (spots : List ℕ) → KeepsOthers items spots spots

@@ -134,7 +134,10 @@ fn leads<L: Ledger>(items: &[Item], at: usize, steps: &mut Steps<L>) -> bool
     ensures cost { steps.new ≤ steps.old + 1 }
     ensures more { steps.old ≤ steps.new }
 {
-    at > 0 && items[at].priority.is_before(items[(at - 1) / 2].priority, steps)
+    at > 0
+        && items[at]
+            .priority
+            .is_before(items[(at - 1) / 2].priority, steps)
 }
 
 /// Lets the item at a place rise until no item leaves before its parent.

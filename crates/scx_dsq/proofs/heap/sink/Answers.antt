@@ -1,6 +1,6 @@
-use Rattle.std.proofs.Common.{◌≡◌, ◌+◌, ◌-◌, ◌*◌, ◌^◌, ◌<◌, ◌≤◌, length, true, false, sym, ◌∙◌, rules, arith}
+use Rattle.std.proofs.Common.{◌≡◌, ◌+◌, ◌-◌, ◌*◌, ◌<◌, ◌≤◌, length, true, false, sym, ◌∙◌, rules, arith}
 use Rattle.std.proofs.lemmas.List.Sorted.{IsPermutation-trans}
-use Rattle.scx_dsq.specs.Heaps.{parent, IsFirstChild}
+use Rattle.scx_dsq.specs.Heaps.{IsFirstChild}
 use Rattle.scx_dsq.proofs.Heaps.{read_by_all, sinks_none, sinks_more, sank, sank_here, sunk, heap_above}
 use Rattle.scx_dsq.proofs.Spots.{keeps_none, keeps_more}
 use Rattle.scx_dsq.proofs.heap.sink.Goals as goal

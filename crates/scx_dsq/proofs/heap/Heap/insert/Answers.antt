@@ -1,6 +1,6 @@
-use Rattle.std.proofs.Common.{◌≡◌, ◌+◌, ◌-◌, ◌<◌, ◌≤◌, [], ◌∷◌, ◌++◌, length, ap, rules, arith, sym, ◌∙◌}
+use Rattle.std.proofs.Common.{◌≡◌, [], ◌∷◌, ◌++◌, length, ap, rules, arith, sym, ◌∙◌}
 use Rattle.scx_dsq.specs.Heaps.{HeapState}
-use Rattle.scx_dsq.proofs.HeapEdits.{heap_pushed, spots_pushed, keeps_pushed, cheap_pushed, written_back}
+use Rattle.scx_dsq.proofs.HeapEdits.{heap_pushed, spots_pushed, cheap_pushed, written_back}
 use Rattle.scx_dsq.proofs.heap.Heap.insert.Goals as goal
 
 pub rise-requires-clause-spots : goal.rise-requires-clause-spots
