@@ -8,9 +8,11 @@ pub mod Forms
 pub mod FormChanges
 pub mod Keeping
 pub mod Counted
-pub mod Replies
-pub mod Histories
 pub mod LinkReads
 pub mod Threads
 pub mod ThreadsWith
 pub mod ThreadsWithout
+pub mod Heaps
+pub mod Spots
+pub mod HeapEdits
+pub mod Holdings
