@@ -4,8 +4,8 @@ pub mod Errors
 pub mod Calls
 pub mod Laws
 pub mod Facts
-pub mod Lines
 pub mod Links
 pub mod Heaps
+pub mod Arrays
 pub mod Holdings
 pub mod Kept

@@ -8,7 +8,6 @@
 mod errors;
 mod heap;
 mod laws;
-mod lines;
 mod links;
 mod places;
 mod priority;
@@ -20,3 +19,4 @@ pub use errors::QueueError;
 pub use laws::{appearances_are_conserved, fronts_are_unique};
 pub use places::Rank;
 pub use queues::Queues;
+pub use steps::Steps;

@@ -1,6 +1,10 @@
-use scx_dsq::{QueueError, Queues};
+ghost use Rattle.std.specs.Prelude.{◌≡◌, ◌<◌};
+
+use scx_dsq::{QueueError, Queues, Steps};
 use std::alloc::{AllocError, Global};
+use std::marker::Brand;
 use std::process::Abort;
+use std::sync::ledger::{Blank, Ledger};
 use std::test::Fail;
 
 /// A call of `Queues`.
@@ -33,7 +37,21 @@ enum Reply {
 const DONE: Reply = Reply::Done(Ok(()));
 
 /// Makes the call, whose task is one that there is.
-fn ask(rt: &impl Abort, queues: &mut Queues, command: Command) -> Reply {
+fn ask<R: Abort>(rt: &R, queues: &mut Queues, command: Command) -> Reply {
+    ask_counted::<Brand, R>(rt, queues, command, Blank::new(1))
+}
+
+fn ask_counted<L: Ledger, R: Abort>(
+    rt: &R,
+    queues: &mut Queues,
+    command: Command,
+    blank: Blank,
+) -> Reply
+    requires name { blank.name ≡ L.name }
+    requires parts { blank.parts ≡ L.parts }
+    requires some { 0 < blank.parts }
+{
+    let mut steps = Steps::<L>::new(blank);
     let tasks = queues.tasks();
     let pushes = queues.pushes();
     assert!(rt; pushes < 1 << 62);
@@ -45,13 +63,13 @@ fn ask(rt: &impl Abort, queues: &mut Queues, command: Command) -> Reply {
         }
         Command::PushVtime { queue, task, key } => {
             assert!(rt; (task as usize) < tasks);
-            Reply::Done(queues.push_vtime(queue, task, key))
+            Reply::Done(queues.push_vtime(queue, task, key, &mut steps))
         }
         Command::Front { queue } => Reply::Task(queues.front(queue)),
-        Command::Pop { queue } => Reply::Task(queues.pop(queue)),
+        Command::Pop { queue } => Reply::Task(queues.pop(queue, &mut steps)),
         Command::Remove { task } => {
             assert!(rt; (task as usize) < tasks);
-            Reply::Removed(queues.remove(task))
+            Reply::Removed(queues.remove(task, &mut steps))
         }
         Command::Len { queue } => Reply::Len(queues.len(queue)),
         Command::QueueOf { task } => {
