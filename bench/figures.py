@@ -1,7 +1,7 @@
 #!/usr/bin/env python3
 """How many slots a second are decoded, encoded, run, assembled, disassembled and verified, how many
-numbers of an array map are loaded and stored, and how many callbacks are verified and run, beside plain
-Rust that does the same work.
+numbers of an array map are loaded and stored, how many callbacks are verified and run, and how many
+events a machine does, beside plain Rust that does the same work.
 
 Straight-line, branching and stack-heavy programs of 40, 400 and 4000 slots are worked on by the
 program of crates/scx_bench and by bench/plain.rs, in turn; for `asm` their text, in which jumps go to
@@ -10,8 +10,10 @@ diamonds (two sides of one slot each that meet again), and stores all over the s
 processor time of the best of some runs, of which the start of the process is taken off; from a
 verification also the decoding, since each takes a program of its own. The callbacks are the six of
 scx_simple with one map of one value, each in its turn; to verify one counts as decoding it and verifying
-it, and to run one as a run over a host of one task. The ratio is our time to that of plain Rust. Needs
-rustc.
+it, and to run one as a run over a host of one task. A machine has all its tasks runnable, and its
+processors and the clock tick in turn: under a policy of one queue and slices of 2 ms, and under the
+callbacks of scx_simple. Its events are counted, and beside them the callbacks that they call. The ratio
+is our time to that of plain Rust. Needs rustc.
 
   bench/figures.py [--only WORK] [PATH_OF_scx_bench]     (default: all work; builds scx_bench)
 """
@@ -68,6 +70,10 @@ MOST = 4096  # slots of a program
 TIMES = [1, 10, 100]
 CALLBACKS = 6
 CALLBACK_TIMES = {"verify_callbacks": 100_000, "run_callbacks": 2_000_000}
+SHAPES = {"small": (1, 2), "middle": (8, 64), "large": (64, 1024)}
+ROUNDS = {"small": 2_000_000, "middle": 400_000, "large": 50_000}
+# how many ticks of a processor pass from one switch to the next, and how many callbacks that takes
+POLICIES = {"two_ms": (2, 2), "simple": (20, 4)}
 UNITS = {"decode": 10_000_000, "encode": 10_000_000, "run": 20_000_000, "asm": 1_000_000, "dis": 2_000_000}
 
 
@@ -117,7 +123,7 @@ def compare(binaries, path, work, before, runs):
 
 def show(work, name, slots, units, taken):
     a, b = taken
-    print("%-8s %-10s %6s %15.0f %15.0f %7.2f" % (work, name, slots, units / a, units / b, a / b), flush=True)
+    print("%-8s %-14s %6s %15.0f %15.0f %7.2f" % (work, name, slots, units / a, units / b, a / b), flush=True)
 
 
 def measure(work, binaries, path):
@@ -145,6 +151,17 @@ def measure_callbacks(binaries):
         show("callback", work.split("_")[0], "", CALLBACKS * times, taken)
 
 
+def measure_machines(binaries):
+    """Rows of events, and of callbacks, a second."""
+    for policy, (ticks, callbacks) in POLICIES.items():
+        for shape, (cpus, tasks) in SHAPES.items():
+            rounds = ROUNDS[shape]
+            taken = compare(binaries, shape, (policy, rounds), (policy, 1), 5)
+            name = "%s %s" % (policy, shape)
+            show("events", name, tasks, rounds * (cpus + 1), taken)
+            show("calls", name, tasks, rounds * cpus // ticks * callbacks, taken)
+
+
 def main():
     words = sys.argv[1:]
     only = words[1] if words[:1] == ["--only"] else None
@@ -154,7 +171,7 @@ def main():
         plain, path = os.path.join(folder, "plain"), os.path.join(folder, "program")
         source = os.path.join(TOP, "bench", "plain.rs")
         subprocess.run(["rustc", "-O", "--edition", "2021", "-o", plain, source], check=True)
-        print("%-8s %-10s %6s %15s %15s %7s" % ("work", "program", "slots", "scxsim a second", "plain a second", "ratio"))
+        print("%-8s %-14s %6s %15s %15s %7s" % ("work", "program", "size", "scxsim a second", "plain a second", "ratio"))
         for work in UNITS:
             if only in (None, work):
                 measure(work, [ours, plain], path)
@@ -165,6 +182,8 @@ def main():
             show("maps", "add one", "", times, compare([ours, plain], "-", ("maps", times), ("maps", 1), 5))
         if only in (None, "callbacks"):
             measure_callbacks([ours, plain])
+        if only in (None, "machines"):
+            measure_machines([ours, plain])
 
 
 main()

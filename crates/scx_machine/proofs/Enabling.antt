@@ -1,8 +1,10 @@
 -- Tasks are enabled one after another.
-use Rattle.std.proofs.Common.{◌≡◌, ℕ, zero, suc, ◌+◌, ◌<◌, ◌≤◌, ◌⊎◌, ◌∙◌, inl, inr, Some, None, refl, arith, add-one, subst}
+use Rattle.std.proofs.Common.{◌≡◌, ℕ, zero, suc, ◌+◌, ◌<◌, ◌≤◌, ◌⊎◌, ◌∙◌, inl, inr, List, ◌++◌, Option, Some, None, refl, sym, arith, add-one, subst}
 use Rattle.std.proofs.lemmas.Bool.{cases_eq}
-use Rattle.scx_machine.specs.Steps.{State}
-use Rattle.scx_machine.specs.Start.{enable, then_enable, enabled}
+use Rattle.scx_machine.specs.Steps.{State, CallMade}
+use Rattle.scx_machine.specs.Callbacks.{AreAnswered}
+use Rattle.scx_machine.specs.Start.{enable, then_enable, enabled, enable_calls, calls_below}
+use Rattle.scx_machine.proofs.Taking.{answered_append}
 
 pub enabled_next : (n : ℕ) (s : State) → enabled (n + 1) s ≡ then_enable (enabled n s) n
 enabled_next n s = rw add-one refl
@@ -20,3 +22,23 @@ enabled_none (suc n) k s l e = go (cases_eq k (suc n)) (λ d. enabled_none n k s
 -- the next one fails
 pub enabled_fails : (n k : ℕ) (s t : State) → k < n → enabled k s ≡ Some t → enable t k ≡ None → enabled n s ≡ None
 enabled_fails n k s t l e f = enabled_none n (k + 1) s (omega (arith, l)) (enabled_next k s ∙ rw e f)
+
+-- ---- their callbacks are answered
+
+pub answered_next : (n : ℕ) (s t : State) → enabled n s ≡ Some t → AreAnswered (calls_below n s) → AreAnswered (enable_calls (Some t) n) → AreAnswered (calls_below (n + 1) s)
+answered_next n s t e before next = rw add-one (answered_append (calls_below n s) (enable_calls (enabled n s) n) before (subst (λ o. AreAnswered (enable_calls o n)) (sym e) next))
+
+-- after one that failed no more are called
+pub answered_none : (n k : ℕ) (s : State) → k ≤ n → enabled k s ≡ None → AreAnswered (calls_below k s) → AreAnswered (calls_below n s)
+answered_none zero zero s l e h = h
+answered_none zero (suc k) s l e h = absurd (omega (arith, l))
+answered_none (suc n) k s l e h = go (cases_eq k (suc n)) (λ d. answered_none n k s (omega (arith, l, d)) e h)
+  where
+    go : (k ≡ suc n) ⊎ (k ≡ suc n → ⊥) → ((k ≡ suc n → ⊥) → AreAnswered (calls_below n s)) → AreAnswered (calls_below n s ++ enable_calls (enabled n s) n)
+    go (inl is) f = subst (λ m. AreAnswered (calls_below m s)) is h
+    go (inr d) f =
+        let none = enabled_none n k s (omega (arith, l, d)) e in
+        answered_append (calls_below n s) (enable_calls (enabled n s) n) (f d) (subst (λ o. AreAnswered (enable_calls o n)) (sym none) tt)
+
+pub answered_fails : (n k : ℕ) (s t : State) → k < n → enabled k s ≡ Some t → enable t k ≡ None → AreAnswered (calls_below k s) → AreAnswered (enable_calls (Some t) k) → AreAnswered (calls_below n s)
+answered_fails n k s t l e f before next = answered_none n (k + 1) s (omega (arith, l)) (enabled_next k s ∙ rw e f) (answered_next k s t e before next)

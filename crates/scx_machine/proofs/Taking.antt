@@ -15,12 +15,12 @@ Takes-append takes s t u (x ∷ xs) ys p q = (p.0, p.1, Takes-append takes p.0 t
 pub Takes-one : {S : Type 0} (takes : S → Note → S → Type 0) (s t u : S) (xs : List Note) (n : Note) → Takes takes s xs t → takes t n u → Takes takes s (xs ++ n ∷ []) u
 Takes-one takes s t u xs n p q = Takes-append takes s t u xs (n ∷ []) p (u, q, refl)
 
-pub answered-append : (xs ys : List CallMade) → AreAnswered xs → AreAnswered ys → AreAnswered (xs ++ ys)
-answered-append [] ys p q = q
-answered-append (x ∷ xs) ys p q = (p.0, answered-append xs ys p.1 q)
+pub answered_append : (xs ys : List CallMade) → AreAnswered xs → AreAnswered ys → AreAnswered (xs ++ ys)
+answered_append [] ys p q = q
+answered_append (x ∷ xs) ys p q = (p.0, answered_append xs ys p.1 q)
 
 -- of two steps together: their notes are taken in two goes, and the calls of both are answered
-pub ruleset takings = (Takes-append, Takes-one, answered-append)
+pub ruleset takings = (Takes-append, Takes-one, answered_append)
 
 -- the next note of a list
 pub Takes-next : {S : Type 0} (takes : S → Note → S → Type 0) (s t u : S) (xs : List Note) (i : ℕ) (d : Note) → i < length xs → Takes takes s (take i xs) t → takes t (get_or xs i d) u → Takes takes s (take (i + 1) xs) u

@@ -1,5 +1,5 @@
 -- The first state: after init, and enable of each task.
-use Rattle.std.specs.Prelude.{◌≡◌, ℕ, zero, suc, ℤ, negsuc, Bool, true, false, ◌||◌, ◌==◌, nat_lt, length, if◌then◌else◌, Option, Some, None, is_some, is_none, Result, Ok, Err}
+use Rattle.std.specs.Prelude.{◌≡◌, ℕ, ⊤, zero, suc, ℤ, negsuc, Bool, true, false, ◌||◌, ◌==◌, nat_lt, List, [], ◌++◌, length, if◌then◌else◌, Option, Some, None, is_some, is_none, Result, Ok, Err}
 use Rattle.std.specs.Int.{w64, cast_signed}
 use Rattle.scx_maps.specs.Contents.{zeros}
 use Rattle.scx_weights.specs.Hierarchy.{Hierarchy, is_active_task}
@@ -12,8 +12,8 @@ use Rattle.scx_world.specs.First.{first_world}
 use Rattle.scx_machine.specs.declared.start.NewError.{NewError}
 use Rattle.scx_machine.specs.declared.start.NewError.TheVariants.{InitFailed, BadShape, OutOfMemory}
 use Rattle.scx_machine.specs.Policy.{PolicyState, program_of}
-use Rattle.scx_machine.specs.Steps.{State}
-use Rattle.scx_machine.specs.Callbacks.{called, ended, no_arguments, one_task}
+use Rattle.scx_machine.specs.Steps.{State, CallMade}
+use Rattle.scx_machine.specs.Callbacks.{called, calls_of, ended, AreAnswered, no_arguments, one_task}
 
 -- the number of processors is out of range, or a task is active
 abbrev pub is_bad_shape : Hierarchy → ℕ → Bool
@@ -85,3 +85,30 @@ abbrev pub IsRefusal : PolicyState → Hierarchy → ℕ → NewError → Type 0
 IsRefusal p tree cpus BadShape = is_bad_shape tree cpus ≡ true
 IsRefusal p tree cpus OutOfMemory = is_bad_shape tree cpus ≡ false
 IsRefusal p tree cpus (InitFailed n) = (is_bad_shape tree cpus ≡ false) × (started p tree cpus ≡ Err n)
+
+-- ---- the callbacks that are called: none after one that fails
+
+abbrev pub init_calls : State → List CallMade
+init_calls s = calls_of (program_of s.policy callback.Init) no_arguments s.maps (begun s.world callback.Init 0 0)
+
+abbrev pub enable_calls : Option State → ℕ → List CallMade
+enable_calls None t = []
+enable_calls (Some s) t = calls_of (program_of s.policy callback.Enable) (one_task t) s.maps (begun s.world callback.Enable t 0)
+
+-- of the first tasks
+abbrev pub calls_below : ℕ → State → List CallMade
+calls_below zero s = []
+calls_below (suc n) s = calls_below n s ++ enable_calls (enabled n s) n
+
+abbrev pub calls_after_init : Result State ℤ → List CallMade
+calls_after_init (Err n) = []
+calls_after_init (Ok s) = calls_below (length s.world.tasks) s
+
+abbrev pub start_calls : PolicyState → Hierarchy → ℕ → List CallMade
+start_calls p tree cpus = init_calls (blank p tree cpus) ++ calls_after_init (initialized (blank p tree cpus))
+
+-- before a callback runs nothing is said
+abbrev pub AreAnsweredBefore : PolicyState → Hierarchy → ℕ → NewError → Type 0
+AreAnsweredBefore p tree cpus BadShape = ⊤
+AreAnsweredBefore p tree cpus OutOfMemory = ⊤
+AreAnsweredBefore p tree cpus (InitFailed n) = AreAnswered (start_calls p tree cpus)

@@ -1,8 +1,9 @@
-ghost use Rattle.std.specs.Prelude.{◌≡◌, ◌+◌, ◌≤◌, ◌<◌, ◌^◌, true, false, Some, None, Ok, Err, length, IfOk, IfErr, OnOk, OnErr};
+ghost use Rattle.std.specs.Prelude.{◌≡◌, ◌+◌, ◌≤◌, ◌<◌, ◌^◌, ◌++◌, true, false, Some, None, Ok, Err, length, IfOk, IfErr, OnOk, OnErr};
 ghost use Rattle.scx_weights.specs.Counting.{any_below};
 ghost use Rattle.scx_weights.specs.Hierarchy.{is_active_task};
 ghost use Rattle.scx_machine.specs.declared.start.NewError.TheVariants.{OutOfMemory};
-ghost use Rattle.scx_machine.specs.Start.{is_bad_shape, blank, fault_answer, initialized, enable, enabled, all_enabled, started, IsRefusal};
+ghost use Rattle.scx_machine.specs.Callbacks.{AreAnswered};
+ghost use Rattle.scx_machine.specs.Start.{is_bad_shape, blank, fault_answer, initialized, enable, enabled, all_enabled, started, IsRefusal, init_calls, enable_calls, calls_below, calls_after_init, start_calls, AreAnsweredBefore};
 
 use crate::callbacks::{one_task, run_callback};
 use crate::machine::Machine;
@@ -49,6 +50,8 @@ impl Machine {
         ensures few { IfOk result (λ machine. machine.world.queues.pushes ≤ 2 ^ 23) }
         ensures flags { OnOk result (length tree.active ≡ length tree.homes) }
         ensures refused { IfErr result (IsRefusal policy tree cpus) }
+        ensures answered { OnOk result (AreAnswered (start_calls policy tree cpus)) }
+        ensures answered_before { IfErr result (AreAnsweredBefore policy tree cpus) }
     {
         if is_bad_shape(&tree, cpus) {
             return Err(NewError::BadShape);
@@ -77,11 +80,13 @@ impl Machine {
     }
 
     /// Runs init, and enable of each task; where one fails, answers the number that stands for it.
+    #[tactic(auto, using(crate::proofs::Taking::answered_append))]
     fn begin(&mut self) -> Result<(), i64>
         requires { self.old.world.queues.pushes ≡ 0 }
         ensures done { OnOk result (all_enabled (initialized self.old) ≡ Ok self.new) }
         ensures failed { IfErr result (λ answer. all_enabled (initialized self.old) ≡ Err answer) }
         ensures few { self.new.world.queues.pushes ≤ 2 ^ 23 }
+        ensures answered { AreAnswered (init_calls self.old ++ calls_after_init (initialized self.old)) }
     {
         self.initialize()?;
         self.enable_all()
@@ -94,6 +99,7 @@ impl Machine {
         ensures done { OnOk result (initialized self.old ≡ Ok self.new) }
         ensures failed { IfErr result (λ answer. initialized self.old ≡ Err answer) }
         ensures few { self.new.world.queues.pushes ≤ self.old.world.queues.pushes + 4096 }
+        ensures answered { AreAnswered (init_calls self.old) }
     {
         self.world.begin(Callback::Init, 0, 0);
         let answer = run_callback(
@@ -114,12 +120,14 @@ impl Machine {
     }
 
     /// Runs enable of each task, by number.
+    #[tactic(auto, using(crate::proofs::Enabling::answered_next))]
     fn enable_all(&mut self) -> Result<(), i64>
         requires few { self.old.world.queues.pushes + 2 ^ 22 ≤ 2 ^ 63 }
         ensures done { OnOk result (enabled (length self.old.world.tasks) self.old ≡ Some self.new) }
         ensures failed { OnErr result (enabled (length self.old.world.tasks) self.old ≡ None) }
         ensures answer { IfErr result (λ answer. answer ≡ fault_answer) }
         ensures few { self.new.world.queues.pushes ≤ self.old.world.queues.pushes + 2 ^ 22 }
+        ensures answered { AreAnswered (calls_below (length self.old.world.tasks) self.old) }
     {
         for task in 0..self.world.tasks() {
             if let Err(answer) = self.enable(task) {
@@ -137,6 +145,7 @@ impl Machine {
         ensures failed { OnErr result (enable self.old task ≡ None) }
         ensures answer { IfErr result (λ answer. answer ≡ fault_answer) }
         ensures few { self.new.world.queues.pushes ≤ self.old.world.queues.pushes + 4096 }
+        ensures answered { AreAnswered (enable_calls (Some self.old) task) }
     {
         self.world.begin(Callback::Enable, task, 0);
         run_callback(

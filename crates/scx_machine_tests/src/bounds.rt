@@ -1,9 +1,9 @@
 //! As much as there may be, and policies that do nothing or name what they may not.
 
-use crate::policies::{INIT, NONE, defs, machine, policy, program, two_milliseconds};
+use crate::policies::{ENQUEUE, INIT, NONE, defs, machine, policy, program, tree, two_milliseconds};
 use crate::recorder::Recorder;
 use scx_isa::Callback;
-use scx_sched::{Callbacks, Event, Place, Policy, Sim};
+use scx_sched::{Callbacks, Event, NewError, Place, Policy, Sim};
 use scx_weights::{Group, Tree};
 use std::process::Abort;
 use std::test::Fail;
@@ -41,19 +41,28 @@ fn as_much_as_there_may_be(rt: HostRuntime) -> Result<(), Fail> {
     Ok(())
 }
 
-#[test]
-fn sixteen_queues_are_fine(rt: HostRuntime) -> Result<(), Fail> {
+/// The answer with which a machine can't begin whose init creates so many queues.
+fn init_failure<R: AllocGlobal + Abort>(rt: &R, queues: u32) -> Result<Option<i64>, Fail> {
     let mut text = String::new(rt.alloc());
-    for queue in 0..16_u32 {
+    for queue in 0..queues {
         let line = format!(in rt.alloc(); "r1 = {queue}\ncall 1001\n")?;
         text.push_str(line.as_str())?;
     }
     text.push_str("r0 = 0\nexit")?;
     let callbacks = Callbacks {
-        init: program(&rt, Callback::Init, text.as_str()),
+        init: program(rt, Callback::Init, text.as_str()),
         ..NONE
     };
-    let _sixteen = machine(&rt, policy(&rt, callbacks), 1);
+    match Sim::new(rt.alloc(), policy(rt, callbacks), tree(rt, &[0]), 1) {
+        Err(NewError::InitFailed(answer)) => Ok(Some(answer)),
+        _ => Ok(None),
+    }
+}
+
+#[test]
+fn sixteen_queues_are_fine(rt: HostRuntime) -> Result<(), Fail> {
+    assert_eq!(rt; init_failure(&rt, 16)?, None);
+    assert_eq!(rt; init_failure(&rt, 17)?, Some(-22));
     Ok(())
 }
 
@@ -88,6 +97,43 @@ fn inserts(rt: HostRuntime) -> Result<(), Fail> {
     assert!(rt; is_held(&rt, "9223372036854775812", "0"));
     assert!(rt; is_held(&rt, "13835058055282163713", "0"));
     assert!(rt; is_held(&rt, "13835058059577131008", "0"));
+    Ok(())
+}
+
+/// Where a task is once dispatch has tried to move it from that queue.
+fn place_after_move<R: AllocGlobal + Abort>(rt: &R, enqueue: &str, queue: &str) -> Place {
+    let text = format!(in rt.alloc(); "r1 = {queue} ll\ncall 1004\nexit")
+        .expect(rt, "there is memory");
+    let callbacks = Callbacks {
+        init: program(rt, Callback::Init, INIT),
+        enqueue: program(rt, Callback::Enqueue, enqueue),
+        dispatch: program(rt, Callback::Dispatch, text.as_str()),
+        ..NONE
+    };
+    let mut sim = machine(rt, policy(rt, callbacks), 2);
+    let mut recorder = Recorder::new(rt.alloc(), 100);
+    assert_eq!(rt; sim.step(Event::Wake(0), &mut recorder), Ok(()));
+    place(rt, &sim, 0)
+}
+
+#[test]
+fn moves(rt: HostRuntime) -> Result<(), Fail> {
+    assert_eq!(rt; place_after_move(&rt, ENQUEUE, "0"), Place::Cpu(0));
+    // No such queue, the first id that isn't a policy's, GLOBAL, LOCAL, HELD, BUILTIN, and the local
+    // queues of processors 0 and 1.
+    for queue in [
+        "1",
+        "9223372036854775808",
+        "9223372036854775809",
+        "9223372036854775810",
+        "9223372036854775811",
+        "9223372036854775812",
+        "13835058055282163712",
+        "13835058055282163713",
+    ] {
+        assert_eq!(rt; place_after_move(&rt, ENQUEUE, queue), Place::Policy(0));
+        assert_eq!(rt; place_after_move(&rt, "exit", queue), Place::Held);
+    }
     Ok(())
 }
 

@@ -10,8 +10,3 @@ pub mod Firsts
 pub mod Lengths
 pub mod Leaving
 pub mod Idle
-pub mod Helping
-pub mod Cycling
-pub mod Happening
-pub mod Calling
-pub mod Choosing

@@ -6,8 +6,3 @@ pub mod Sim
 pub mod Laws
 pub mod Places
 pub mod Left
-pub mod HelperRules
-pub mod CallbackRules
-pub mod CycleRules
-pub mod EventRules
-pub mod RuleLaws

@@ -9,9 +9,7 @@ mod laws;
 mod places;
 mod sim;
 
-pub use laws::{
-    events_keep_places, no_push_is_refused, nothing_is_left_behind, rules_allow_helpers,
-};
+pub use laws::{events_keep_places, no_push_is_refused, nothing_is_left_behind};
 pub use places::Place;
 pub use scx_machine::{BadPolicy, Callbacks, Event, NewError, Policy, Refused, Sink};
 pub use scx_world::{Note, What};

@@ -1,8 +1,8 @@
 ghost use Rattle.std.specs.Prelude.{◌≡◌, ◌<◌, ◌≤◌, length, None, IfOk, IfErr, OnOk, OnErr};
-ghost use Rattle.scx_world.specs.World.{task_at, running};
+ghost use Rattle.scx_world.specs.World.{task_at, is_runnable, running};
 ghost use Rattle.scx_machine.specs.Notes.{Takes};
 ghost use Rattle.scx_machine.specs.Callbacks.{AreAnswered};
-ghost use Rattle.scx_machine.specs.Start.{started, IsRefusal};
+ghost use Rattle.scx_machine.specs.Start.{IsRefusal, start_calls, AreAnsweredBefore};
 ghost use Rattle.scx_sched.specs.Left.{LeavesNothingIdle};
 ghost use Rattle.scx_sched.specs.Once.{IsOnce};
 ghost use Rattle.scx_sched.specs.Places.{place, wait};
@@ -45,6 +45,8 @@ impl Sim {
     pub fn new(alloc: Global, policy: Policy, tree: Tree, cpus: u32) -> Result<Sim, NewError>
         ensures first { IfOk result (IsFirst policy tree cpus) }
         ensures refused { IfErr result (IsRefusal policy tree cpus) }
+        ensures answered { OnOk result (AreAnswered (start_calls policy tree cpus)) }
+        ensures answered_before { IfErr result (AreAnsweredBefore policy tree cpus) }
     {
         let machine = Machine::new(alloc, policy, tree, cpus as usize)?;
         Ok(Sim { machine, events: 0 })
@@ -123,6 +125,13 @@ impl Sim {
     {
         let world = self.machine.world();
         place_in(world.cpu_of(task), world.queue_of(task))
+    }
+
+    /// Whether the task has work to do: it runs or waits. One that isn't there has none.
+    pub fn is_runnable(&self, task: u16) -> bool
+        ensures { result ≡ is_runnable self.now.state.world task }
+    {
+        task < self.tasks() && self.machine.world().is_runnable(task)
     }
 
     /// The task that runs on the processor.

@@ -1,0 +1,212 @@
+-- A scheduling cycle leaves the tree of groups and tasks, and how many tasks and processors there are.
+use Rattle.std.proofs.Common.{◌≡◌, ℕ, zero, suc, Bool, true, false, nat_lt, cond, List, length, map, Option, Some, None, Result, Ok, Err, ℤ, refl, ◌∙◌, subst}
+use Rattle.std.proofs.lemmas.List.{length-set, length-replicate}
+use Rattle.scx_dsq.specs.Queues.{front_of}
+use Rattle.scx_dsq.specs.Calls.{created}
+use Rattle.scx_semantics.specs.declared.callbacks.Callback.{Callback}
+use Rattle.scx_semantics.specs.declared.callbacks.Callback.TheVariants as callback
+use Rattle.scx_semantics.specs.declared.outside.Helper.{Helper}
+use Rattle.scx_semantics.specs.declared.outside.Helper.TheVariants.{MapLookupElem, KtimeGetNs, CreateDsq, DsqInsert, DsqInsertVtime, DsqMoveToLocal, SelectCpuDfl, CpuIdle, TaskByPid, DsqNrQueued}
+use Rattle.scx_semantics.specs.Code.{instruction_count}
+use Rattle.scx_semantics.specs.Effects.{Query, Call, Load, Store}
+use Rattle.scx_semantics.specs.Elements.{Maps}
+use Rattle.scx_semantics.specs.Endings.{run_of, run_keeps}
+use Rattle.scx_semantics.specs.Machine as start
+use Rattle.scx_verify.specs.Typing.{VerifiedProgram}
+use Rattle.scx_vm.specs.Arguments.{given, argument_of}
+use Rattle.scx_vm.specs.declared.arguments.Argument.{Argument}
+use Rattle.scx_vm.specs.declared.arguments.Arguments.{Arguments}
+use Rattle.scx_vm.specs.Host.{answer_to, after_query}
+use Rattle.scx_weights.specs.Hierarchy.{Hierarchy}
+use Rattle.scx_world.specs.declared.task.Task.{Task}
+use Rattle.scx_world.specs.declared.faults.Fault.{Fault}
+use Rattle.scx_world.specs.declared.faults.Fault.TheVariants.{NoSuchQueue, CannotCreate}
+use Rattle.scx_world.specs.Ids.{global, local_on}
+use Rattle.scx_world.specs.World.{WorldState, with_queues, with_task, task_at, begun}
+use Rattle.scx_world.specs.Tasks.{entered, brought, fill_front, stopped, started_at}
+use Rattle.scx_world.specs.Helpers.{is_there, can_create, faulted, insert_fault, inserted, can_move, moved, given_number, given_task, helper_answer, helper_after, world_number, stored_in, world_stored}
+use Rattle.scx_machine.specs.Policy.{PolicyState, program_of}
+use Rattle.scx_machine.specs.Steps.{State, Stepped, joined, with_world}
+use Rattle.scx_machine.specs.Callbacks.{called, call_back, ended, no_arguments, one_task, task_and_number, cpu_and_task}
+use Rattle.scx_machine.specs.Put.{placed, put}
+use Rattle.scx_machine.specs.Cycle.{has_local, fill, dispatched, asks_again, tries, leave, started_if, start as run_front, pick, rest, pick_or_rest, ask, cycle}
+use Rattle.scx_machine.specs.Start.{blank, init_ending, bad_answer, ok_unless, initialized, enable_ending, has_failed, enable, then_enable, enabled, ok_if, all_enabled, started}
+
+pub keeps_if : {A : Type 0} (P : A → Type 0) (b : Bool) (x y : A) → P x → P y → P (cond b x y)
+keeps_if P true x y p q = p
+keeps_if P false x y p q = q
+
+-- that tree, and so many tasks and processors
+abbrev pub IsLike : Hierarchy → ℕ → ℕ → WorldState → Type 0
+IsLike tree n c w = (w.tree ≡ tree) × (length w.tasks ≡ n) × (length w.cpus ≡ c)
+
+module _ (h : Hierarchy) (n c : ℕ) where
+  -- ---- small steps
+
+  like_task : (w : WorldState) (t : ℕ) (x : Task) → IsLike h n c w → IsLike h n c (with_task w t x)
+  like_task w t x i = (i.0, length-set w.tasks t x ∙ i.1, i.2)
+
+  like_inserted : (w : WorldState) (o : Option Fault) (q k : ℕ) → IsLike h n c w → IsLike h n c (inserted w o q k)
+  like_inserted w None q k i = i
+  like_inserted w (Some f) q k i = i
+
+  like_moved : (w : WorldState) (o : Option ℕ) (q : ℕ) → IsLike h n c w → IsLike h n c (moved w o q)
+  like_moved w None q i = i
+  like_moved w (Some t) q i = i
+
+  like_brought : (o : Option ℕ) (w : WorldState) (q d : ℕ) → IsLike h n c w → IsLike h n c (brought o w q d)
+  like_brought None w q d i = i
+  like_brought (Some t) w q d i = i
+
+  like_helper : (w : WorldState) (f : Helper) (a : List Argument) → IsLike h n c w → IsLike h n c (helper_after w f a)
+  like_helper w CreateDsq a i = keeps_if (IsLike h n c) (can_create w (given_number a 0)) (with_queues w (created w.queues (given_number a 0))) (faulted w CannotCreate) i i
+  like_helper w DsqInsert a i = like_inserted w (insert_fault w (given_task a 0) (given_number a 1) (given_number a 3)) (given_number a 1) (given_number a 2) i
+  like_helper w DsqMoveToLocal a i = keeps_if (IsLike h n c) (can_move w (given_number a 0)) (moved w (front_of w.queues (given_number a 0)) (given_number a 0)) (faulted w NoSuchQueue) (like_moved w (front_of w.queues (given_number a 0)) (given_number a 0) i) i
+  like_helper w DsqNrQueued a i = keeps_if (IsLike h n c) (is_there w (given_number a 0)) w (faulted w NoSuchQueue) i i
+  like_helper w KtimeGetNs a i = i
+  like_helper w MapLookupElem a i = i
+  like_helper w DsqInsertVtime a i = i
+  like_helper w SelectCpuDfl a i = i
+  like_helper w CpuIdle a i = i
+  like_helper w TaskByPid a i = i
+
+  like_query : (w : WorldState) (q : Query) → IsLike h n c w → IsLike h n c (after_query helper_after world_stored w q)
+  like_query w (Call f a) i = like_helper w f (map argument_of a) i
+  like_query w (Load t f) i = i
+  like_query w (Store t f k) i = like_task w t.0 (stored_in (task_at w t.0) f k) i
+
+  like_entered : (w : WorldState) (t q k : ℕ) → IsLike h n c w → IsLike h n c (entered w t q k)
+  like_entered w t q k i = keeps_if (IsLike h n c) (nat_lt t (length w.tasks)) _ w (like_task w t _ i) i
+
+  like_stopped : (w : WorldState) (d t : ℕ) → IsLike h n c w → IsLike h n c (stopped w d t)
+  like_stopped w d t i = (i.0, length-set w.tasks t _ ∙ i.1, length-set w.cpus d None ∙ i.2)
+
+  like_started : (w : WorldState) (d t : ℕ) → IsLike h n c w → IsLike h n c (started_at (Some t) w d)
+  like_started w d t i = (i.0, length-set w.tasks t _ ∙ i.1, length-set w.cpus d (Some t) ∙ i.2)
+
+  -- ---- callbacks
+
+  like_called : (p : Option VerifiedProgram) (b : Callback) (a : Arguments) (maps : Maps) (w : WorldState) → IsLike h n c w → IsLike h n c (called p b a maps w).outside
+  unfolding called run_of
+  like_called None b a maps w i = i
+  like_called (Some p) b a maps w i =
+      run_keeps (answer_to helper_answer world_number) (after_query helper_after world_stored) (IsLike h n c) like_query b p.code (suc (instruction_count p.code)) 0 (start.start (given a) maps) w i
+
+  pub like_call_back : (s : State) (b : Callback) (a : Arguments) (t d : ℕ) → IsLike h n c s.world → IsLike h n c (call_back s b a t d).state.world
+  unfolding call_back
+  like_call_back s b a t d i = like_called (program_of s.policy b) b a s.maps (begun s.world b t d) i
+
+  -- ---- a cycle
+
+  pub like_put : (s : State) (t d flags : ℕ) → IsLike h n c s.world → IsLike h n c (put s t d flags).state.world
+  unfolding put placed
+  like_put s t d flags i =
+      let r = call_back s callback.Enqueue (task_and_number t flags) t d in
+      like_entered r.state.world t _ _ (like_call_back s callback.Enqueue (task_and_number t flags) t d i)
+
+  like_fill : (s : State) (q d : ℕ) → IsLike h n c s.world → IsLike h n c (fill s q d).state.world
+  unfolding fill
+  like_fill s q d i = like_brought (fill_front s.world q d) s.world q d i
+
+  like_dispatched : (s : State) (d : ℕ) (p : Option ℕ) → IsLike h n c s.world → IsLike h n c (dispatched s d p).state.world
+  unfolding dispatched
+  like_dispatched s d p i = like_fill (call_back s callback.Dispatch (cpu_and_task d p) 0 d).state global d (like_call_back s callback.Dispatch (cpu_and_task d p) 0 d i)
+
+  like_tries : (m : ℕ) (s : State) (d : ℕ) (p : Option ℕ) → IsLike h n c s.world → IsLike h n c (tries m s d p).state.world
+  unfolding tries
+  like_tries zero s d p i = i
+  like_tries (suc m) s d p i =
+      let r = dispatched s d p in
+      let x = like_dispatched s d p i in
+      keeps_if (λ (r : Stepped). IsLike h n c r.state.world) (asks_again r.state d) (joined r (tries m r.state d p)) r (like_tries m r.state d p x) x
+
+  like_start : (s : State) (d : ℕ) → IsLike h n c s.world → IsLike h n c (run_front s d).state.world
+  unfolding run_front
+  like_start s d i = go (front_of s.world.queues (local_on d))
+    where
+      go : (o : Option ℕ) → IsLike h n c (started_if o s d).state.world
+      go None = i
+      go (Some t) = like_call_back (with_world s (started_at (Some t) s.world d)) callback.Running (one_task t) t d (like_started s.world d t i)
+
+  like_rest : (s : State) (d : ℕ) (p : Option ℕ) (ran : Bool) → IsLike h n c s.world → IsLike h n c (rest s d p ran).state.world
+  unfolding rest
+  like_rest s d None ran i = i
+  like_rest s d (Some t) ran i = like_task s.world t _ i
+
+  like_leave : (s : State) (d : ℕ) (p : Option ℕ) → IsLike h n c s.world → IsLike h n c (leave s d p).state.world
+  unfolding leave
+  like_leave s d None i = i
+  like_leave s d (Some t) i =
+      let r = call_back (with_world s (stopped s.world d t)) callback.Stopping (task_and_number t 1) t d in
+      like_put r.state t d 0 (like_call_back (with_world s (stopped s.world d t)) callback.Stopping (task_and_number t 1) t d (like_stopped s.world d t i))
+
+  like_pick : (s : State) (d : ℕ) (p : Option ℕ) → IsLike h n c s.world → IsLike h n c (pick s d p).state.world
+  unfolding pick
+  like_pick s d p i = like_start (leave s d p).state d (like_leave s d p i)
+
+  like_pick_or_rest : (s : State) (d : ℕ) (p : Option ℕ) (ran : Bool) → IsLike h n c s.world → IsLike h n c (pick_or_rest s d p ran).state.world
+  unfolding pick_or_rest
+  like_pick_or_rest s d p ran i = keeps_if (λ (r : Stepped). IsLike h n c r.state.world) (has_local s d) (pick s d p) (rest s d p ran) (like_pick s d p i) (like_rest s d p ran i)
+
+  like_ask : (s : State) (d : ℕ) (p : Option ℕ) (ran : Bool) → IsLike h n c s.world → IsLike h n c (ask s d p ran).state.world
+  unfolding ask
+  like_ask s d p ran i = like_pick_or_rest (tries 32 s d p).state d p ran (like_tries 32 s d p i)
+
+  pub like_cycle : (s : State) (d : ℕ) (p : Option ℕ) (ran : Bool) → IsLike h n c s.world → IsLike h n c (cycle s d p ran).state.world
+  unfolding cycle
+  like_cycle s d p ran i =
+      let f = fill s global d in
+      let x : IsLike h n c f.state.world = like_fill s global d i in
+      keeps_if (λ (r : Stepped). IsLike h n c r.state.world) (has_local f.state d) (pick f.state d p) (ask f.state d p ran) (like_pick f.state d p x) (like_ask f.state d p ran x)
+
+  -- ---- init and enable
+
+  same_ok : (a b : State) → ◌≡◌ {A = Result State ℤ} (Ok a) (Ok b) → a ≡ b
+  same_ok a b e = cc
+
+  same_some : (a b : State) → Some a ≡ Some b → a ≡ b
+  same_some a b e = cc
+
+  like_initialized : (s t : State) → initialized s ≡ Ok t → IsLike h n c s.world → IsLike h n c t.world
+  unfolding initialized
+  like_initialized s t e i = go (bad_answer (init_ending s).outside.call.fault (init_ending s).answer) e
+    where
+      after : IsLike h n c (ended s.policy (init_ending s)).world
+      after = like_called (program_of s.policy callback.Init) callback.Init no_arguments s.maps (begun s.world callback.Init 0 0) i
+
+      go : (o : Option ℤ) → ok_unless o (ended s.policy (init_ending s)) ≡ Ok t → IsLike h n c t.world
+      go None e = subst (λ (x : State). IsLike h n c x.world) (same_ok _ _ e) after
+      go (Some k) e = absurd (cc)
+
+  like_enabled_one : (s t : State) (k : ℕ) → enable s k ≡ Some t → IsLike h n c s.world → IsLike h n c t.world
+  unfolding enable
+  like_enabled_one s t k e i = go (has_failed (enable_ending s k)) e
+    where
+      after : IsLike h n c (ended s.policy (enable_ending s k)).world
+      after = like_called (program_of s.policy callback.Enable) callback.Enable (one_task k) s.maps (begun s.world callback.Enable k 0) i
+
+      go : (b : Bool) → cond b None (Some (ended s.policy (enable_ending s k))) ≡ Some t → IsLike h n c t.world
+      go true e = absurd (cc)
+      go false e = subst (λ (x : State). IsLike h n c x.world) (same_some _ _ e) after
+
+  like_enabled : (m : ℕ) (s t : State) → enabled m s ≡ Some t → IsLike h n c s.world → IsLike h n c t.world
+  like_enabled zero s t e i = subst (λ (x : State). IsLike h n c x.world) (same_some _ _ e) i
+  like_enabled (suc m) s t e i = go (enabled m s) (λ u x. like_enabled m s u x i) e
+    where
+      go : (o : Option State) → ((u : State) → o ≡ Some u → IsLike h n c u.world) → then_enable o m ≡ Some t → IsLike h n c t.world
+      go None f e = absurd (cc)
+      go (Some u) f e = like_enabled_one u t m e (f u refl)
+
+  like_all : (r : Result State ℤ) (t : State) → all_enabled r ≡ Ok t → ((s : State) → r ≡ Ok s → IsLike h n c s.world) → IsLike h n c t.world
+  like_all (Err k) t e f = absurd (cc)
+  like_all (Ok s) t e f = go (enabled (length s.world.tasks) s) refl e
+    where
+      go : (o : Option State) → enabled (length s.world.tasks) s ≡ o → ok_if o ≡ Ok t → IsLike h n c t.world
+      go None x e = absurd (cc)
+      go (Some u) x e = subst (λ (y : State). IsLike h n c y.world) (same_ok _ _ e) (like_enabled (length s.world.tasks) s u x (f s refl))
+
+-- the first world has the tree, and a task and a processor for each
+pub like_first : (p : PolicyState) (h : Hierarchy) (cpus : ℕ) (t : State) → started p h cpus ≡ Ok t → IsLike h (length h.homes) cpus t.world
+like_first p h cpus t e =
+    like_all h (length h.homes) cpus (initialized (blank p h cpus)) t e
+    (λ s x. like_initialized h (length h.homes) cpus (blank p h cpus) s x (refl, length-replicate (length h.homes) _, length-replicate {A = Option ℕ} cpus None))

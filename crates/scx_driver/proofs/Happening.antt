@@ -1,0 +1,69 @@
+-- What an event leaves of the tree, and of how many tasks and processors there are.
+use Rattle.std.proofs.Common.{◌≡◌, ℕ, ◌<◌, Bool, true, false, ◌==◌, length, Option, Some, None, ◌∙◌, ap, arith}
+use Rattle.std.proofs.lemmas.Bool.{lt-ltb}
+use Rattle.std.proofs.lemmas.List.{length-set, get_or-set_other}
+use Rattle.scx_semantics.specs.declared.callbacks.Callback.TheVariants as callback
+use Rattle.scx_weights.specs.Hierarchy.{Hierarchy, is_active_task, with_weight}
+use Rattle.scx_weights.specs.Hierarchy as tree
+use Rattle.scx_world.specs.World.{WorldState, running, cpu_of, is_idle, task_at}
+use Rattle.scx_world.specs.Tasks.{woken, asleep, gone, stopped, ran_a_tick, ticked}
+use Rattle.scx_machine.specs.Steps.{State, Stepped, with_world, stays, joined}
+use Rattle.scx_machine.specs.Callbacks.{call_back, task_and_number}
+use Rattle.scx_machine.specs.Put.{put}
+use Rattle.scx_machine.specs.Cycle.{cycle}
+use Rattle.scx_machine.specs.Events.{target, put_and_run, wake, sleep_from_cpu, sleep_from, sleep, count_down, tick_of, tick}
+use Rattle.scx_driver.proofs.Alike.{keeps_if, IsLike, like_call_back, like_put, like_cycle}
+
+like_put_and_run : (h : Hierarchy) (n c : ℕ) (s : State) (t d : ℕ) → IsLike h n c s.world → IsLike h n c (put_and_run s t d).state.world
+unfolding put_and_run
+like_put_and_run h n c s t d i =
+    let r = put s t d 1 in
+    let x = like_put h n c s t d 1 i in
+    keeps_if (λ (r : Stepped). IsLike h n c r.state.world) (is_idle r.state.world d) (joined r (cycle r.state d None false)) r (like_cycle h n c r.state d None false x) x
+
+module _ (h : Hierarchy) (n c : ℕ) where
+  -- a tick changes neither
+  like_count_down : (s : State) (d t : ℕ) → IsLike h n c s.world → IsLike h n c (count_down s d t).state.world
+  unfolding count_down
+  like_count_down s d t i =
+      let v = with_world s (ticked s.world t) in
+      let x : IsLike h n c v.world = (i.0, length-set s.world.tasks t (ran_a_tick (task_at s.world t)) ∙ i.1, i.2) in
+      keeps_if (λ (r : Stepped). IsLike h n c r.state.world) ((task_at v.world t).slice == 0) (cycle v d (Some t) true) (stays v) (like_cycle h n c v d (Some t) true x) x
+
+  pub like_tick : (s : State) (d : ℕ) → IsLike h n c s.world → IsLike h n c (tick s d).state.world
+  unfolding tick
+  like_tick s d i = go (running s.world d)
+    where
+      go : (o : Option ℕ) → IsLike h n c (tick_of o s d).state.world
+      go None = like_cycle h n c s d None false i
+      go (Some t) = like_count_down s d t i
+
+  -- a task that wakes is active
+  pub like_wake : (s : State) (t : ℕ) → IsLike h n c s.world → IsLike (tree.with_task h t true) n c (wake s t).state.world
+  unfolding wake
+  like_wake s t i =
+      let w = with_world s (woken s.world t) in
+      like_put_and_run (tree.with_task h t true) n c w t (target w t) (ap (λ x. tree.with_task x t true) i.0, length-set s.world.tasks t _ ∙ i.1, i.2)
+
+  -- a task that sleeps isn't
+  like_asleep : (w : WorldState) (t : ℕ) → t < n → IsLike h n c w → IsLike (tree.with_task h t false) n c (asleep w t)
+  like_asleep w t l i = rw (lt-ltb t (length w.tasks) (omega (arith, l, i.1))) (ap (λ x. tree.with_task x t false) i.0, i.1, i.2)
+
+  like_sleep_from_cpu : (s : State) (t d : ℕ) → t < n → IsLike h n c s.world → IsLike (tree.with_task h t false) n c (sleep_from_cpu s t d).state.world
+  unfolding sleep_from_cpu
+  like_sleep_from_cpu s t d l i =
+      let r = call_back (with_world s (stopped s.world d t)) callback.Stopping (task_and_number t 0) t d in
+      let x : IsLike h n c r.state.world = like_call_back h n c (with_world s (stopped s.world d t)) callback.Stopping (task_and_number t 0) t d (i.0, length-set s.world.tasks t _ ∙ i.1, length-set s.world.cpus d None ∙ i.2) in
+      like_cycle (tree.with_task h t false) n c (with_world r.state (asleep r.state.world t)) d None true (like_asleep r.state.world t l x)
+
+  pub like_sleep : (s : State) (t : ℕ) → t < n → IsLike h n c s.world → IsLike (tree.with_task h t false) n c (sleep s t).state.world
+  unfolding sleep
+  like_sleep s t l i = go (cpu_of s.world t)
+    where
+      go : (o : Option ℕ) → IsLike (tree.with_task h t false) n c (sleep_from o s t).state.world
+      go None = like_asleep (gone s.world t) t l i
+      go (Some d) = like_sleep_from_cpu s t d l i
+
+-- whether other tasks are active stays
+pub others_stay : (h : Hierarchy) (t u : ℕ) (on : Bool) → (u ≡ t → ⊥) → is_active_task (tree.with_task h t on) u ≡ is_active_task h u
+others_stay h t u on d = get_or-set_other h.active t u on false d

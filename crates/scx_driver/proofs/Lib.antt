@@ -1,0 +1,6 @@
+pub mod Below
+pub mod Alike
+pub mod Happening
+pub mod Accepting
+pub mod Law
+pub mod Remaining

@@ -1,0 +1,5 @@
+pub mod Runs
+pub mod Blocks
+pub mod Events
+pub mod Driver
+pub mod Laws

@@ -1,0 +1,183 @@
+ghost use Rattle.std.specs.Prelude.{◌≡◌, ◌∷◌, [], not, map, false, IfOk, IfSome, IfNone};
+ghost use Rattle.scx_sched.specs.Sim.{SimState, stepped};
+ghost use Rattle.scx_workloads.specs.declared.workload.Timing.{Timing};
+ghost use Rattle.scx_driver.specs.Events.{workload_events};
+
+use crate::blocks::{add_changes, add_sleeps, add_ticks, add_wakes};
+use scx_sched::{Event, Sim};
+use scx_workloads::{Change, Timing, Workload};
+use std::alloc::{AllocError, Global};
+use std::marker::Model;
+
+/// A block of the events of a millisecond.
+#[derive(Clone, Copy)]
+pub enum Phase {
+    Changes,
+    Wakes,
+    Ticks,
+    Sleeps,
+    Clock,
+}
+
+/// How many events a block has at most.
+const MAX_BLOCK: usize = 1024;
+
+/// The events of a workload, one after another.
+///
+/// In a contract it is the events of the block at hand that are still to come, the blocks behind it, and
+/// what is remembered of tasks.
+#[derive(Drop)]
+pub struct Driver {
+    cpus: u32,
+    timings: Vec<Timing>,
+    changes: Vec<Change>,
+    /// The block that comes next, in the millisecond `clock`.
+    phase: Phase,
+    clock: u32,
+    /// How many milliseconds haven't begun.
+    left: u32,
+    /// When each task wakes.
+    due: Vec<u32>,
+    /// How long each task had run when it woke last, in nanoseconds.
+    ran: Vec<u64>,
+    /// The events of the block at hand.
+    events: Vec<Event>,
+    /// How many of them were answered.
+    taken: usize,
+}
+
+impl Model for Driver {
+    ghost use Rattle.scx_driver.specs.Driver.{DriverState, state_of, IsKept};
+
+    ghost Value = { DriverState };
+
+    ghost view = { state_of };
+
+    ghost invariant = { IsKept };
+}
+
+impl Driver {
+    ghost use Rattle.scx_driver.specs.Driver.{remaining, is_empty, with_pending, begun};
+
+    /// All events of the workload are still to come, for a machine in any state. All memory is taken
+    /// here.
+    pub fn new(alloc: Global, workload: &Workload) -> Result<Driver, AllocError>
+        ensures { IfOk result (λ driver. (s : SimState) → remaining driver s ≡ workload_events workload.now s) }
+    {
+        workload.is_whole();
+        let timings = Vec::from_slice(alloc, workload.timings())?;
+        let due = starts(alloc, workload.timings())?;
+        let ran = vec![in alloc; 0; timings.len()]?;
+        Ok(Driver {
+            cpus: workload.cpus(),
+            timings,
+            changes: Vec::from_slice(alloc, workload.changes())?,
+            phase: Phase::Changes,
+            clock: 0,
+            left: workload.ms(),
+            due,
+            ran,
+            events: Vec::with_capacity(alloc, MAX_BLOCK)?,
+            taken: 0,
+        })
+    }
+
+    /// The event that comes next, for a machine that took exactly the events before it; none at the end.
+    #[tactic(auto, using(crate::proofs::Remaining::remaining_begun, crate::proofs::Remaining::remaining_taken, crate::proofs::Remaining::remaining_over, crate::proofs::Remaining::fewer_blocks))]
+    pub fn next(&mut self, sim: &Sim) -> Option<Event>
+        ensures next { IfSome result (λ event. remaining self.old sim.now ≡ event ∷ remaining self.new (stepped sim.now event)) }
+        ensures end { IfNone result (remaining self.old sim.now ≡ []) }
+        ensures over { IfNone result (remaining self.new sim.now ≡ []) }
+    {
+        while self.is_spent() {
+            if !self.begin(sim) {
+                return None;
+            }
+        }
+        Some(self.take())
+    }
+
+    /// Whether all events of the block at hand were answered.
+    fn is_spent(&self) -> bool
+        ensures { result ≡ is_empty self.now.pending }
+    {
+        self.taken == self.events.len()
+    }
+
+    /// The next event of the block at hand.
+    fn take(&mut self) -> Event
+        requires { is_empty self.old.pending ≡ false }
+        ensures { self.old ≡ with_pending self.new (result ∷ self.new.pending) }
+    {
+        let event = self.events[self.taken];
+        self.taken += 1;
+        event
+    }
+
+    /// Whether a block comes next.
+    #[tactic(auto, using(crate::proofs::Remaining::some_blocks))]
+    fn has_block(&self) -> bool
+        ensures { result ≡ not (is_empty self.now.blocks) }
+    {
+        match self.phase {
+            Phase::Changes => 0 < self.left,
+            Phase::Wakes | Phase::Ticks | Phase::Sleeps | Phase::Clock => true,
+        }
+    }
+
+    /// The next block begins; answers whether there is one.
+    #[tactic(auto, using(crate::proofs::Remaining::begun_changes))]
+    fn begin(&mut self, sim: &Sim) -> bool
+        ensures more { result ≡ not (is_empty self.old.blocks) }
+        ensures begun { self.new ≡ begun self.old sim.now }
+    {
+        if !self.has_block() {
+            return false;
+        }
+        self.events.clear();
+        self.taken = 0;
+        match self.phase {
+            Phase::Changes => {
+                self.left -= 1;
+                add_changes(&self.changes, self.clock, &mut self.events);
+                self.phase = Phase::Wakes;
+            }
+            Phase::Wakes => {
+                add_wakes(&self.due, &mut self.ran, self.clock, sim, &mut self.events);
+                self.phase = Phase::Ticks;
+            }
+            Phase::Ticks => {
+                add_ticks(self.cpus, &mut self.events);
+                self.phase = Phase::Sleeps;
+            }
+            Phase::Sleeps => {
+                add_sleeps(
+                    &self.timings,
+                    &mut self.due,
+                    &self.ran,
+                    self.clock,
+                    sim,
+                    &mut self.events,
+                );
+                self.phase = Phase::Clock;
+            }
+            Phase::Clock => {
+                self.events.push_reserved(Event::Clock);
+                self.clock += 1;
+                self.phase = Phase::Changes;
+            }
+        }
+        true
+    }
+}
+
+/// When each task wakes first.
+fn starts(alloc: Global, timings: &[Timing]) -> Result<Vec<u32>, AllocError>
+    ensures { IfOk result (λ due. due.items ≡ map (λ (t : Timing). t.start) timings.now) }
+{
+    let mut due = Vec::with_capacity(alloc, timings.len())?;
+    for timing in timings {
+        due.push_reserved(timing.start);
+    }
+    Ok(due)
+}

@@ -1,0 +1,5 @@
+pub mod Faults
+pub mod Names
+pub mod Paths
+pub mod Values
+pub mod Unknown

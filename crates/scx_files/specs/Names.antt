@@ -1,0 +1,20 @@
+-- Names of policies, groups and tasks: 1 to 16 characters of `a` to `z`, `0` to `9` and `_`, with a
+-- letter first. They are this project's own.
+use Rattle.std.specs.Prelude.{ℕ, Bool, true, false, ◌&&◌, ◌||◌, ◌==◌, nat_le, List, [], ◌∷◌, length}
+
+abbrev pub is_letter : ℕ → Bool
+is_letter b = nat_le 97 b && nat_le b 122
+
+abbrev pub is_name_byte : ℕ → Bool
+is_name_byte b = is_letter b || (nat_le 48 b && nat_le b 57) || (b == 95)
+
+abbrev pub are_name_bytes : List ℕ → Bool
+are_name_bytes [] = true
+are_name_bytes (b ∷ bytes) = is_name_byte b && are_name_bytes bytes
+
+abbrev pub begins_with_letter : List ℕ → Bool
+begins_with_letter [] = false
+begins_with_letter (b ∷ bytes) = is_letter b
+
+abbrev pub is_name : List ℕ → Bool
+is_name text = nat_le (length text) 16 && begins_with_letter text && are_name_bytes text

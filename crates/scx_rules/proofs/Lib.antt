@@ -1,0 +1,7 @@
+pub mod Helping
+pub mod Calling
+pub mod Cycling
+pub mod Choosing
+pub mod Happening
+pub mod Refusing
+pub mod Starting

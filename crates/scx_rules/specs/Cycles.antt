@@ -1,0 +1,123 @@
+-- The scheduling cycle, by cases and with its steps named (sched-ext.rst, "Scheduling Cycle"): a task is
+-- put, the local queue is filled, the front of it is picked, dispatch is asked. A callback of the policy is
+-- given by the run of its program.
+use Rattle.std.specs.Prelude.{◌≡◌, ℕ, suc, ◌<◌, Bool, true, false, [], ◌∷◌, Option, Some, None}
+use Rattle.scx_dsq.specs.Queues.{front_of}
+use Rattle.scx_dsq.specs.Calls.{pushed, popped}
+use Rattle.scx_dsq.specs.declared.places.Rank.TheVariants.{Fifo}
+use Rattle.scx_semantics.specs.declared.callbacks.Callback.TheVariants as callback
+use Rattle.scx_verify.specs.Typing.{VerifiedProgram}
+use Rattle.scx_world.specs.declared.call.Insert as insert
+use Rattle.scx_world.specs.declared.notes.What.{What}
+use Rattle.scx_world.specs.declared.notes.What.TheVariants as note
+use Rattle.scx_world.specs.Ids.{global, held, local_on}
+use Rattle.scx_world.specs.World.{WorldState, with_queues, said}
+use Rattle.scx_world.specs.Tasks.{local_len, entered, stopped, started_at, kept, default_slice}
+use Rattle.scx_machine.specs.Steps.{State, Stepped, with_world, stays, after, joined}
+use Rattle.scx_machine.specs.Callbacks.{call_back, one_task, task_and_number, cpu_and_task}
+use Rattle.scx_machine.specs.Put.{resolved}
+
+-- to that world, with one note of it
+abbrev pub noting : State → WorldState → What → Stepped
+noting s w x = record { state = with_world s w; notes = said s.world x ∷ []; calls = [] }
+
+-- to that world, with no note
+abbrev pub silent : State → WorldState → Stepped
+silent s w = record { state = with_world s w; notes = []; calls = [] }
+
+-- ---- callbacks at their places
+
+abbrev pub enqueue_called : State → ℕ → ℕ → ℕ → Stepped
+enqueue_called s t c flags = call_back s callback.Enqueue (task_and_number t flags) t c
+
+abbrev pub dispatch_called : State → ℕ → Option ℕ → Stepped
+dispatch_called s c p = call_back s callback.Dispatch (cpu_and_task c p) 0 c
+
+-- once the task has left its processor; the number says whether it stays runnable
+abbrev pub stopping_called : State → ℕ → ℕ → ℕ → Stepped
+stopping_called s c t runnable = call_back (with_world s (stopped s.world c t)) callback.Stopping (task_and_number t runnable) t c
+
+-- once the task has come to its processor
+abbrev pub running_called : State → ℕ → ℕ → Stepped
+running_called s c t = call_back (with_world s (started_at (Some t) s.world c)) callback.Running (one_task t) t c
+
+-- ---- put
+
+abbrev pub entering : State → ℕ → ℕ → ℕ → Stepped
+entering s t q slice = noting s (entered s.world t q slice) (note.Insert t q)
+
+-- after enqueue the task comes to wait: where the callback said, held where it said nothing, and for any
+-- processor where there is no such callback
+pub data Enters (s : State) (t : ℕ) (r : Stepped) : Type 0 where
+  Default : s.policy.callbacks.enqueue ≡ None → r ≡ entering s t global default_slice → Enters s t r
+  Held : (p : VerifiedProgram) → s.policy.callbacks.enqueue ≡ Some p → s.world.call.insert ≡ None → r ≡ entering s t held 0 → Enters s t r
+  Inserted : (p : VerifiedProgram) (i : insert.Insert) → s.policy.callbacks.enqueue ≡ Some p → s.world.call.insert ≡ Some i → r ≡ entering s t (resolved s.world.call.cpu i.queue) i.slice → Enters s t r
+
+pub record Puts (s : State) (t c flags : ℕ) (r : Stepped) : Type 0 where
+  pub put : Stepped
+  pub enters : Enters (enqueue_called s t c flags).state t put
+  pub all : r ≡ joined (enqueue_called s t c flags) put
+
+-- ---- fill
+
+-- where the local queue is empty, the front of the queue of all processors comes to it
+pub data Fills (s : State) (c : ℕ) (r : Stepped) : Type 0 where
+  Has_local : 0 < local_len s.world c → r ≡ stays s → Fills s c r
+  No_other : local_len s.world c ≡ 0 → front_of s.world.queues global ≡ None → r ≡ stays s → Fills s c r
+  Moves : (t : ℕ) → local_len s.world c ≡ 0 → front_of s.world.queues global ≡ Some t
+      → r ≡ noting s (with_queues s.world (pushed (popped s.world.queues global) (local_on c) t Fifo)) (note.Move t c) → Fills s c r
+
+-- ---- dispatch
+
+-- a call of dispatch, and then the queue of all processors
+pub record Dispatches (s : State) (c : ℕ) (p : Option ℕ) (r : Stepped) : Type 0 where
+  pub filled : Stepped
+  pub fills : Fills (dispatch_called s c p).state c filled
+  pub all : r ≡ joined (dispatch_called s c p) filled
+
+-- so many calls at most: one more where the local queue is still empty and the last call moved a task
+pub data Asks : ℕ → State → ℕ → Option ℕ → Stepped → Type 0 where
+  Enough : (s : State) (c : ℕ) (p : Option ℕ) (r : Stepped) → r ≡ stays s → Asks 0 s c p r
+  Came : (n : ℕ) (s : State) (c : ℕ) (p : Option ℕ) (r : Stepped) → Dispatches s c p r → 0 < local_len r.state.world c → Asks (suc n) s c p r
+  Nothing_moved : (n : ℕ) (s : State) (c : ℕ) (p : Option ℕ) (r : Stepped) → Dispatches s c p r → local_len r.state.world c ≡ 0 → r.state.world.call.has_moved ≡ false → Asks (suc n) s c p r
+  Again : (n : ℕ) (s : State) (c : ℕ) (p : Option ℕ) (d more r : Stepped) → Dispatches s c p d → local_len d.state.world c ≡ 0 → d.state.world.call.has_moved ≡ true
+      → Asks n d.state c p more → r ≡ joined d more → Asks (suc n) s c p r
+
+-- ---- pick
+
+-- the task before leaves the processor, and is put
+pub data Leaves (s : State) (c : ℕ) (p : Option ℕ) (r : Stepped) : Type 0 where
+  Nobody : p ≡ None → r ≡ stays s → Leaves s c p r
+  Stops : (t : ℕ) (put : Stepped) → p ≡ Some t → Puts (stopping_called s c t 1).state t c 0 put
+      → r ≡ after (said s.world (note.Stop t c) ∷ []) (joined (stopping_called s c t 1) put) → Leaves s c p r
+
+-- the front of the local queue runs
+pub data Starts (s : State) (c : ℕ) (r : Stepped) : Type 0 where
+  Empty : front_of s.world.queues (local_on c) ≡ None → r ≡ stays s → Starts s c r
+  Front : (t : ℕ) → front_of s.world.queues (local_on c) ≡ Some t → r ≡ after (said s.world (note.Run t c) ∷ []) (running_called s c t) → Starts s c r
+
+pub record Picks (s : State) (c : ℕ) (p : Option ℕ) (r : Stepped) : Type 0 where
+  pub left : Stepped
+  pub leaves : Leaves s c p left
+  pub started : Stepped
+  pub starts : Starts left.state c started
+  pub all : r ≡ joined left started
+
+-- ---- cycle
+
+-- nobody came: the task before keeps the processor, or it is idle, which is noted where a task ran there as
+-- the event began
+pub data Rests (s : State) (c : ℕ) : Option ℕ → Bool → Stepped → Type 0 where
+  Keeps : (t : ℕ) (ran : Bool) (r : Stepped) → r ≡ silent s (kept s.world (Some t)) → Rests s c (Some t) ran r
+  Idles : (r : Stepped) → r ≡ noting s s.world (note.Idle c) → Rests s c None true r
+  Was_idle : (r : Stepped) → r ≡ stays s → Rests s c None false r
+
+pub data Ends (s : State) (c : ℕ) (p : Option ℕ) (ran : Bool) (r : Stepped) : Type 0 where
+  Picked : 0 < local_len s.world c → Picks s c p r → Ends s c p ran r
+  Rested : local_len s.world c ≡ 0 → Rests s c p ran r → Ends s c p ran r
+
+-- of a processor on which that task ran and may stay, or none
+pub data Cycles (s : State) (c : ℕ) (p : Option ℕ) (ran : Bool) (r : Stepped) : Type 0 where
+  Filled : (filled picked : Stepped) → Fills s c filled → 0 < local_len filled.state.world c → Picks filled.state c p picked → r ≡ joined filled picked → Cycles s c p ran r
+  Asked : (filled asked ended : Stepped) → Fills s c filled → local_len filled.state.world c ≡ 0 → Asks 32 filled.state c p asked → Ends asked.state c p ran ended
+      → r ≡ joined filled (joined asked ended) → Cycles s c p ran r

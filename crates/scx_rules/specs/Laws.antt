@@ -1,0 +1,78 @@
+-- What the machine computes is what the rules allow, and the only thing that they allow.
+use Rattle.std.specs.Prelude.{◌≡◌, ℕ, ℤ, Bool, true, List, Option, Some, None, Result}
+use Rattle.scx_semantics.specs.declared.callbacks.Callback.{Callback}
+use Rattle.scx_semantics.specs.declared.outside.Helper.{Helper}
+use Rattle.scx_vm.specs.declared.arguments.Argument.{Argument}
+use Rattle.scx_vm.specs.declared.arguments.Answer.{Answer}
+use Rattle.scx_vm.specs.declared.arguments.Arguments.{Arguments}
+use Rattle.scx_weights.specs.Hierarchy.{Hierarchy}
+use Rattle.scx_world.specs.World.{WorldState}
+use Rattle.scx_world.specs.Helpers.{helper_answer, helper_after}
+use Rattle.scx_machine.specs.declared.events.Event.{Event}
+use Rattle.scx_machine.specs.declared.events.Refused.{Refused}
+use Rattle.scx_machine.specs.Steps.{State, Stepped}
+use Rattle.scx_machine.specs.Policy.{PolicyState, program_of, IsAs, AreAs}
+use Rattle.scx_machine.specs.Callbacks.{call_back, AreAnswered}
+use Rattle.scx_machine.specs.Cycle.{cycle}
+use Rattle.scx_machine.specs.Events.{refusal, happened}
+use Rattle.scx_machine.specs.Start.{is_bad_shape, started, start_calls}
+use Rattle.scx_rules.specs.Helpers.{IsEffect, IsOfWorld}
+use Rattle.scx_rules.specs.Callbacks.{CallsBack}
+use Rattle.scx_rules.specs.Cycles.{Cycles}
+use Rattle.scx_rules.specs.Events.{Happens}
+use Rattle.scx_rules.specs.Refusals.{Refuses}
+use Rattle.scx_rules.specs.Starts.{HasBadShape, Begins}
+
+-- what a helper answers and leaves
+abbrev pub RulesAllowHelpers : Type 0
+RulesAllowHelpers = (w : WorldState) (h : Helper) (a : List Argument) → IsOfWorld h → IsEffect w h a (helper_answer w h a) (helper_after w h a)
+
+abbrev pub RulesAllowHelpersOnly : Type 0
+RulesAllowHelpersOnly =
+    (w : WorldState) (h : Helper) (a : List Argument) (x : Answer) (v : WorldState) → IsEffect w h a x v
+    → (x ≡ helper_answer w h a) × (v ≡ helper_after w h a)
+
+-- a callback of which the program was verified as that callback and comes to an answer, as each does that
+-- an event calls
+abbrev pub RulesAllowCallbacks : Type 0
+RulesAllowCallbacks =
+    (s : State) (b : Callback) (a : Arguments) (t c : ℕ) → IsAs b (program_of s.policy b) → AreAnswered (call_back s b a t c).calls → CallsBack s b a t c (call_back s b a t c)
+
+abbrev pub RulesAllowCallbacksOnly : Type 0
+RulesAllowCallbacksOnly = (s : State) (b : Callback) (a : Arguments) (t c : ℕ) (r : Stepped) → CallsBack s b a t c r → r ≡ call_back s b a t c
+
+-- a cycle
+abbrev pub RulesAllowCycles : Type 0
+RulesAllowCycles = (s : State) (c : ℕ) (p : Option ℕ) (ran : Bool) → Cycles s c p ran (cycle s c p ran)
+
+abbrev pub RulesAllowCyclesOnly : Type 0
+RulesAllowCyclesOnly = (s : State) (c : ℕ) (p : Option ℕ) (ran : Bool) (r : Stepped) → Cycles s c p ran r → r ≡ cycle s c p ran
+
+-- an accepted event
+abbrev pub RulesAllowEvents : Type 0
+RulesAllowEvents = (s : State) (v : Event) → refusal s v ≡ None → Happens s v (happened s v)
+
+abbrev pub RulesAllowEventsOnly : Type 0
+RulesAllowEventsOnly = (s : State) (v : Event) (r : Stepped) → refusal s v ≡ None → Happens s v r → r ≡ happened s v
+
+-- a refusal
+abbrev pub RulesRefuseEvents : Type 0
+RulesRefuseEvents = (s : State) (v : Event) (r : Refused) → refusal s v ≡ Some r → Refuses s v r
+
+abbrev pub RulesRefuseEventsOnly : Type 0
+RulesRefuseEventsOnly = (s : State) (v : Event) (r : Refused) → Refuses s v r → refusal s v ≡ Some r
+
+-- a start, of a policy of which each program was verified as its callback and comes to an answer, as each
+-- does that is called
+abbrev pub RulesAllowStarts : Type 0
+RulesAllowStarts = (p : PolicyState) (tree : Hierarchy) (cpus : ℕ) → AreAs p.callbacks → AreAnswered (start_calls p tree cpus) → Begins p tree cpus (started p tree cpus)
+
+abbrev pub RulesAllowStartsOnly : Type 0
+RulesAllowStartsOnly = (p : PolicyState) (tree : Hierarchy) (cpus : ℕ) (r : Result State ℤ) → Begins p tree cpus r → r ≡ started p tree cpus
+
+-- and of what no machine is made
+abbrev pub RulesRefuseShapes : Type 0
+RulesRefuseShapes = (tree : Hierarchy) (cpus : ℕ) → is_bad_shape tree cpus ≡ true → HasBadShape tree cpus
+
+abbrev pub RulesRefuseShapesOnly : Type 0
+RulesRefuseShapesOnly = (tree : Hierarchy) (cpus : ℕ) → HasBadShape tree cpus → is_bad_shape tree cpus ≡ true

@@ -1,0 +1,7 @@
+pub mod Helpers
+pub mod Callbacks
+pub mod Cycles
+pub mod Events
+pub mod Refusals
+pub mod Starts
+pub mod Laws

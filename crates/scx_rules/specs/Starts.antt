@@ -1,0 +1,59 @@
+-- How a machine begins, by cases: init runs, and then enable of each task, by number.
+use Rattle.std.specs.Prelude.{◌≡◌, ℕ, suc, ℤ, ◌<◌, true, length, Option, Some, None, Result, Ok, Err}
+use Rattle.std.specs.Int.{w64, cast_signed}
+use Rattle.scx_weights.specs.Hierarchy.{Hierarchy, is_active_task}
+use Rattle.scx_semantics.specs.declared.callbacks.Callback.TheVariants as callback
+use Rattle.scx_semantics.specs.Endings.{Ending}
+use Rattle.scx_world.specs.declared.faults.Fault.{Fault}
+use Rattle.scx_world.specs.World.{WorldState, begun}
+use Rattle.scx_machine.specs.Policy.{PolicyState, program_of}
+use Rattle.scx_machine.specs.Steps.{State}
+use Rattle.scx_machine.specs.Callbacks.{ended, no_arguments, one_task}
+use Rattle.scx_machine.specs.Start.{blank, fault_answer}
+use Rattle.scx_rules.specs.Callbacks.{EndsAs}
+
+-- there must be 1 to 64 processors, and every task asleep
+pub data HasBadShape (tree : Hierarchy) (cpus : ℕ) : Type 0 where
+  No_cpu : cpus ≡ 0 → HasBadShape tree cpus
+  Many_cpus : 64 < cpus → HasBadShape tree cpus
+  Active : (t : ℕ) → t < length tree.homes → is_active_task tree t ≡ true → HasBadShape tree cpus
+
+-- ---- init
+
+-- a fault goes before an answer, and any answer but 0 ends it
+pub data Judged (s : State) (e : Ending WorldState) (r : Result State ℤ) : Type 0 where
+  Faults : (f : Fault) → e.outside.call.fault ≡ Some f → r ≡ Err fault_answer → Judged s e r
+  Stuck : e.outside.call.fault ≡ None → e.answer ≡ None → r ≡ Err fault_answer → Judged s e r
+  Refuses : (n : ℕ) → e.outside.call.fault ≡ None → e.answer ≡ Some n → 0 < n → r ≡ Err (cast_signed w64 n) → Judged s e r
+  Accepts : e.outside.call.fault ≡ None → e.answer ≡ Some 0 → r ≡ Ok (ended s.policy e) → Judged s e r
+
+pub record Initializes (s : State) (r : Result State ℤ) : Type 0 where
+  pub ending : Ending WorldState
+  pub ends : EndsAs (program_of s.policy callback.Init) callback.Init no_arguments s.maps (begun s.world callback.Init 0 0) ending
+  pub judged : Judged s ending r
+
+-- ---- enable
+
+-- what it answers says nothing
+pub data Passes (s : State) (e : Ending WorldState) (r : Option State) : Type 0 where
+  Has_fault : (f : Fault) → e.outside.call.fault ≡ Some f → r ≡ None → Passes s e r
+  Is_stuck : e.outside.call.fault ≡ None → e.answer ≡ None → r ≡ None → Passes s e r
+  Answers : (n : ℕ) → e.outside.call.fault ≡ None → e.answer ≡ Some n → r ≡ Some (ended s.policy e) → Passes s e r
+
+pub record Enables (s : State) (t : ℕ) (r : Option State) : Type 0 where
+  pub ending : Ending WorldState
+  pub ends : EndsAs (program_of s.policy callback.Enable) callback.Enable (one_task t) s.maps (begun s.world callback.Enable t 0) ending
+  pub passes : Passes s ending r
+
+-- of the first tasks; none after one that fails
+pub data EnablesAll : ℕ → State → Option State → Type 0 where
+  Nobody : (s : State) (r : Option State) → r ≡ Some s → EnablesAll 0 s r
+  Failed : (n : ℕ) (s : State) (r : Option State) → EnablesAll n s None → r ≡ None → EnablesAll (suc n) s r
+  Next : (n : ℕ) (s u : State) (r : Option State) → EnablesAll n s (Some u) → Enables u n r → EnablesAll (suc n) s r
+
+-- ---- both
+
+pub data Begins (p : PolicyState) (tree : Hierarchy) (cpus : ℕ) (r : Result State ℤ) : Type 0 where
+  Init_fails : (n : ℤ) → Initializes (blank p tree cpus) (Err n) → r ≡ Err n → Begins p tree cpus r
+  Enable_fails : (s : State) → Initializes (blank p tree cpus) (Ok s) → EnablesAll (length s.world.tasks) s None → r ≡ Err fault_answer → Begins p tree cpus r
+  Succeeds : (s u : State) → Initializes (blank p tree cpus) (Ok s) → EnablesAll (length s.world.tasks) s (Some u) → r ≡ Ok u → Begins p tree cpus r

@@ -1,0 +1,13 @@
+//! The machine's rules by cases, in the words of the field, for a reader who wants to know what a machine
+//! does without reading how it is computed: of helpers, callbacks, cycles, events and starts.
+//!
+//! The functions here do nothing: each has a law as its contract, that what the machine computes is what
+//! the rules allow, and the only thing that they allow.
+#![tactic(auto)]
+
+mod laws;
+
+pub use laws::{
+    rules_allow_callbacks, rules_allow_cycles, rules_allow_events, rules_allow_helpers,
+    rules_allow_starts, rules_refuse_events,
+};

@@ -1,0 +1,4 @@
+pub mod Lines
+pub mod Writing
+pub mod Tracing
+pub mod Runs

@@ -1,0 +1,2 @@
+pub mod Workload
+pub mod Kept
