@@ -1,6 +1,6 @@
 use Rattle.std.proofs.Common.{◌∙◌, sym, ap, arith}
 use Rattle.scx_dsq.specs.declared.queue.Queue.{Queue}
-use Rattle.scx_dsq.proofs.Keeping.{id_found, id_missing}
+use Rattle.scx_dsq.proofs.Makings.{id_found, id_missing}
 use Rattle.scx_dsq.proofs.queues.find.Goals as goal
 
 pub returns-then-queue-id-clause-found : goal.returns-then-queue-id-clause-found
