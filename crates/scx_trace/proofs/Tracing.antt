@@ -5,6 +5,7 @@ use Rattle.std.proofs.Math.Seq.{take-append-add}
 use Rattle.std.specs.Io.KnownBytes.{Appends}
 use Rattle.scx_output.specs.Output.{HasFailed, AppendsBeginning}
 use Rattle.scx_output.proofs.Growth.{grows_by_none, grows_twice}
+use Rattle.scx_trace.proofs.Beginnings.{beginning_of_more, beginning_behind}
 use Rattle.scx_world.specs.declared.notes.Note.{Note}
 use Rattle.scx_machine.specs.Notes.{Takes}
 use Rattle.scx_trace.specs.Lines.{NameLists, note_line, note_lines}
@@ -14,18 +15,6 @@ use Rattle.scx_sched.specs.Sim.{SimState}
 use Rattle.scx_trace.specs.Runs.{stepped_all, notes_of_all, GoesThrough}
 use Rattle.scx_trace.specs.Tracing.{TakesLine}
 use Rattle.scx_trace.proofs.Going.{notes_of_all-append}
-
--- a beginning of a text is a beginning of a longer one
-beginning_of_more : (a b : Option (List ℕ)) (xs ys : List ℕ) → AppendsBeginning a b xs → AppendsBeginning a b (xs ++ ys)
-beginning_of_more a b xs ys (count, few, grown) =
-    let P : List ℕ → Type 0 = λ z. Appends a b z in
-    (count, omega (arith, length-append xs ys, few), subst P (sym (take-append-le count xs ys (omega (arith, few)))) grown)
-
--- a text, and then a beginning of another
-beginning_behind : (a b c : Option (List ℕ)) (xs ys : List ℕ) → Appends a b xs → AppendsBeginning b c ys → AppendsBeginning a c (xs ++ ys)
-beginning_behind a b c xs ys first (count, few, grown) =
-    let P : List ℕ → Type 0 = λ z. Appends a c z in
-    (length xs + count, omega (arith, length-append xs ys, few), subst P (sym (take-append-add xs ys count)) (grows_twice a b c xs (take count ys) first grown))
 
 nothing_after : (f : Bool) (s : Seen) → s.failed ≡ f → WrittenAfter f s [] s
 nothing_after true s e = refl
