@@ -17,4 +17,3 @@ pub beginning_behind : (a b c : Option (List ℕ)) (xs ys : List ℕ) → Append
 beginning_behind a b c xs ys first (count, few, grown) =
     let P : List ℕ → Type 0 = λ z. Appends a c z in
     (length xs + count, omega (arith, length-append xs ys, few), subst P (sym (take-append-add xs ys count)) (grows_twice a b c xs (take count ys) first grown))
-

@@ -1,6 +1,6 @@
 -- How much of a report was written.
-use Rattle.std.proofs.Common.{◌≡◌, ℕ, ◌+◌, ◌<◌, ◌≤◌, List, [], ◌∷◌, ◌++◌, length, take, drop, get_or, sum, refl, sym, ap, ◌∙◌, append_assoc, subst, Option, arith}
-use Rattle.std.proofs.lemmas.List.{take_more, take-append-drop, drop_more, append-nil, length-take-le, take_all}
+use Rattle.std.proofs.Common.{◌≡◌, ℕ, ◌+◌, ◌<◌, ◌≤◌, List, [], ◌∷◌, ◌++◌, length, take, drop, get_or, sum, sym, ap, ◌∙◌, append_assoc, subst, Option, arith}
+use Rattle.std.proofs.lemmas.List.{take_more, take-append-drop, append-nil, length-take-le, take_all}
 use Rattle.std.specs.Io.KnownBytes.{Appends}
 use Rattle.scx_output.specs.Output.{AppendsBeginning}
 use Rattle.scx_output.proofs.Growth.{grows_twice}

@@ -1,9 +1,7 @@
-use Rattle.std.proofs.Common.{◌≡◌, ◌<◌, ◌≤◌, length, rules, arith}
+use Rattle.std.proofs.Common.{◌<◌, ◌≤◌, length, rules, arith}
 use Rattle.std.proofs.lemmas.List.{length-map}
-use Rattle.scx_output.specs.Output.{AppendsBeginning}
-use Rattle.scx_trace.specs.Lines.{task_name}
-use Rattle.scx_trace.specs.Report.{times, ran_ms, task_line, last_lines}
-use Rattle.scx_trace.proofs.Reporting.{written_more, written_all, cut_at_end, cut_in_line}
+use Rattle.scx_trace.specs.Report.{times, ran_ms}
+use Rattle.scx_trace.proofs.Reporting.{written_more, cut_at_end, cut_in_line}
 use Rattle.scx_trace.proofs.report.write_report.Goals as goal
 
 pub returns-in_err-write_line-clause-err : goal.returns-in_err-write_line-clause-err
