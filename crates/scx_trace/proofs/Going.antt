@@ -36,7 +36,7 @@ pub gone_further : {S : Type 0} (takes : S → Note → S → Type 0) (events re
 gone_further {S} takes events rest later s t u a b c e gone next state notes =
     let done = gone.done ++ e ∷ [] in
     let noted : notes_of_all s done ≡ notes_of_all s gone.done ++ notes_of t e =
-        notes_of_all-append s gone.done (e ∷ []) ∙ ap (λ ns. notes_of_all s gone.done ++ ns) (append-nil (notes_of (stepped_all s gone.done) e) ∙ ap (λ x. notes_of x e) (sym gone.state)) in
+    notes_of_all-append s gone.done (e ∷ []) ∙ ap (λ ns. notes_of_all s gone.done ++ ns) (append-nil (notes_of (stepped_all s gone.done) e) ∙ ap (λ x. notes_of x e) (sym gone.state)) in
     let P : List Note → Type 0 = λ ns. Takes takes a ns c in
     record {
       done = done;

@@ -1,2 +1,4 @@
-pub mod Tracing
+pub mod Beginnings
 pub mod Going
+pub mod Tracing
+pub mod Reporting

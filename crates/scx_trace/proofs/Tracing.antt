@@ -1,10 +1,9 @@
 -- What is left of an output after many lines.
-use Rattle.std.proofs.Common.{◌≡◌, ℕ, ◌+◌, Bool, true, false, List, [], ◌∷◌, ◌++◌, length, take, Option, refl, sym, ap, subst, ◌∙◌, append_assoc, arith}
-use Rattle.std.proofs.lemmas.List.{append-nil, take-append-le, length-append}
-use Rattle.std.proofs.Math.Seq.{take-append-add}
-use Rattle.std.specs.Io.KnownBytes.{Appends}
-use Rattle.scx_output.specs.Output.{HasFailed, AppendsBeginning}
+use Rattle.std.proofs.Common.{◌≡◌, ℕ, Bool, true, false, List, [], ◌∷◌, ◌++◌, refl, sym, ap, subst, ◌∙◌, append_assoc}
+use Rattle.std.proofs.lemmas.List.{append-nil}
+use Rattle.scx_output.specs.Output.{HasFailed}
 use Rattle.scx_output.proofs.Growth.{grows_by_none, grows_twice}
+use Rattle.scx_trace.proofs.Beginnings.{beginning_of_more, beginning_behind}
 use Rattle.scx_world.specs.declared.notes.Note.{Note}
 use Rattle.scx_machine.specs.Notes.{Takes}
 use Rattle.scx_trace.specs.Lines.{NameLists, note_line, note_lines}
@@ -14,18 +13,6 @@ use Rattle.scx_sched.specs.Sim.{SimState}
 use Rattle.scx_trace.specs.Runs.{stepped_all, notes_of_all, GoesThrough}
 use Rattle.scx_trace.specs.Tracing.{TakesLine}
 use Rattle.scx_trace.proofs.Going.{notes_of_all-append}
-
--- a beginning of a text is a beginning of a longer one
-beginning_of_more : (a b : Option (List ℕ)) (xs ys : List ℕ) → AppendsBeginning a b xs → AppendsBeginning a b (xs ++ ys)
-beginning_of_more a b xs ys (count, few, grown) =
-    let P : List ℕ → Type 0 = λ z. Appends a b z in
-    (count, omega (arith, length-append xs ys, few), subst P (sym (take-append-le count xs ys (omega (arith, few)))) grown)
-
--- a text, and then a beginning of another
-beginning_behind : (a b c : Option (List ℕ)) (xs ys : List ℕ) → Appends a b xs → AppendsBeginning b c ys → AppendsBeginning a c (xs ++ ys)
-beginning_behind a b c xs ys first (count, few, grown) =
-    let P : List ℕ → Type 0 = λ z. Appends a c z in
-    (length xs + count, omega (arith, length-append xs ys, few), subst P (sym (take-append-add xs ys count)) (grows_twice a b c xs (take count ys) first grown))
 
 nothing_after : (f : Bool) (s : Seen) → s.failed ≡ f → WrittenAfter f s [] s
 nothing_after true s e = refl
@@ -75,9 +62,11 @@ takes_lines output names seen [] s t same =
     (ap output same, ap names same, subst P (sym (ap seen same)) (written_nothing (seen s)))
 takes_lines output names seen (n ∷ ns) s t (u, (stays, one_output, one_names, line), rest) =
     let behind = takes_lines output names seen ns u t rest in
-    let P : NameLists → Type 0 = λ x. Written (seen u) (note_lines x ns) (seen t) in
-    (behind.0 ∙ one_output, behind.1 ∙ one_names,
-     written_twice (seen s) (seen u) (seen t) (note_line (names s) n) (note_lines (names s) ns) line (subst P one_names behind.2))
+    let P : NameLists → Type 0 = λ x. Written (seen u) (note_lines x ns) (seen t) in (
+      behind.0 ∙ one_output,
+      behind.1 ∙ one_names,
+      written_twice (seen s) (seen u) (seen t) (note_line (names s) n) (note_lines (names s) ns) line (subst P one_names behind.2),
+    )
 
 note_lines-append : (x : NameLists) (ns ms : List Note) → note_lines x (ns ++ ms) ≡ note_lines x ns ++ note_lines x ms
 note_lines-append x [] ms = refl
@@ -99,9 +88,11 @@ run_is_written output names seen f events s t a b fresh is ran =
     let lines = takes_lines output names seen (notes_of_all s ran.done) a b ran.notes in
     let later = notes_of_all (stepped_all s ran.done) ran.rest in
     let text : note_lines x (notes_of_all s events) ≡ note_lines x (notes_of_all s ran.done) ++ note_lines x later =
-        ap (λ es. note_lines x (notes_of_all s es)) ran.whole ∙ ap (note_lines x) (notes_of_all-append s ran.done ran.rest) ∙ note_lines-append x (notes_of_all s ran.done) later in
+    ap (λ es. note_lines x (notes_of_all s es)) ran.whole ∙ ap (note_lines x) (notes_of_all-append s ran.done ran.rest) ∙ note_lines-append x (notes_of_all s ran.done) later in
     let P : Bool → Type 0 = λ f. WrittenAfter f (seen a) (note_lines x (notes_of_all s ran.done)) (seen b) in
     let Q : Bool → Type 0 = λ f. WrittenUpTo f (seen a) (note_lines x (notes_of_all s ran.done)) (seen b) in
-    let R : List ℕ → Type 0 = λ text. WrittenUpTo f (seen a) text (seen b) in
-    (lines.0, subst R (sym text) (whole_or_cut f (seen a) (seen b) (note_lines x (notes_of_all s ran.done)) (note_lines x later)
-        (λ going. ap (λ es. note_lines x (notes_of_all (stepped_all s ran.done) es)) (ran.all (is ∙ going))) (subst Q is (subst P fresh lines.2))))
+    let R : List ℕ → Type 0 = λ text. WrittenUpTo f (seen a) text (seen b) in (
+      lines.0,
+      subst R (sym text) (whole_or_cut f (seen a) (seen b) (note_lines x (notes_of_all s ran.done)) (note_lines x later)
+          (λ going. ap (λ es. note_lines x (notes_of_all (stepped_all s ran.done) es)) (ran.all (is ∙ going))) (subst Q is (subst P fresh lines.2))),
+    )

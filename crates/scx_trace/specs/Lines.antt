@@ -28,19 +28,45 @@ queue_text q =
     else (if q == held then codes "held"
     else (if q == builtin then codes "builtin" else codes "local " ++ decimal (q % 2 ^ 32))))
 
-abbrev pub words : NameLists → What → List ℕ
-words x (Wake t) = codes "wake " ++ task_name x t
-words x (Sleep t) = codes "sleep " ++ task_name x t
-words x (Insert t q) = codes "insert " ++ task_name x t ++ codes " " ++ queue_text q
-words x (Move t c) = codes "move " ++ task_name x t ++ codes " local " ++ decimal c
-words x (Run t c) = codes "run " ++ task_name x t ++ codes " cpu " ++ decimal c
-words x (Stop t c) = codes "stop " ++ task_name x t ++ codes " cpu " ++ decimal c
-words x (Idle c) = codes "idle cpu " ++ decimal c
-words x (Weight g w) = codes "weight " ++ group_name x g ++ codes " " ++ decimal w
+abbrev pub verb : What → List ℕ
+verb (Wake t) = codes "wake "
+verb (Sleep t) = codes "sleep "
+verb (Insert t q) = codes "insert "
+verb (Move t c) = codes "move "
+verb (Run t c) = codes "run "
+verb (Stop t c) = codes "stop "
+verb (Idle c) = codes "idle cpu "
+verb (Weight g w) = codes "weight "
+
+-- the task or the group that it is about
+abbrev pub subject : NameLists → What → List ℕ
+subject x (Wake t) = task_name x t
+subject x (Sleep t) = task_name x t
+subject x (Insert t q) = task_name x t
+subject x (Move t c) = task_name x t
+subject x (Run t c) = task_name x t
+subject x (Stop t c) = task_name x t
+subject x (Idle c) = []
+subject x (Weight g w) = group_name x g
+
+-- where to, or how much
+abbrev pub object : What → List ℕ
+object (Wake t) = []
+object (Sleep t) = []
+object (Insert t q) = codes " " ++ queue_text q
+object (Move t c) = codes " local " ++ decimal c
+object (Run t c) = codes " cpu " ++ decimal c
+object (Stop t c) = codes " cpu " ++ decimal c
+object (Idle c) = decimal c
+object (Weight g w) = codes " " ++ decimal w
+
+-- the clock, one space, and the verb
+abbrev pub start : Note → List ℕ
+start n = decimal n.clock ++ codes " " ++ verb n.what
 
 -- the clock, one space, the words, and a line feed
 abbrev pub note_line : NameLists → Note → List ℕ
-note_line x n = decimal n.clock ++ codes " " ++ words x n.what ++ codes "\n"
+note_line x n = start n ++ subject x n.what ++ (object n.what ++ codes "\n")
 
 -- a line each
 abbrev pub note_lines : NameLists → List Note → List ℕ

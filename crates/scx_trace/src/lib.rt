@@ -5,11 +5,13 @@
 mod events;
 mod lines;
 mod names;
+mod report;
 mod run;
 mod silence;
 mod trace;
 
 pub use events::Events;
 pub use names::Names;
+pub use report::write_report;
 pub use run::{run_silently, write_run};
 pub use trace::Trace;

@@ -1,101 +1,147 @@
-ghost use Rattle.std.specs.Prelude.{◌≡◌, ◌+◌, ◌≤◌, ◌++◌, length, codes, decimal};
+ghost use Rattle.std.specs.Prelude.{◌≡◌, ℕ, ◌+◌, ◌≤◌, ◌++◌, length, codes, decimal, OnOk, OnErr};
+ghost use Rattle.std.specs.Io.KnownBytes.{Appends};
 ghost use Rattle.arrayvec.specs.ArrayString.{array_string_len};
+ghost use Rattle.scx_output.specs.Output.{HasFailed, AppendsBeginning};
 ghost use Rattle.scx_trace.specs.Lines as lines;
+ghost use Rattle.scx_trace.specs.Lines.{note_line as line_of};
 
 use crate::names::Names;
 use arrayvec::ArrayString;
 use itoa::Buffer;
+use scx_output::{Failed, Out, write_all};
 use scx_world::{BUILTIN, GLOBAL, HELD, Note, POLICY_END, What};
 
-/// How many bytes the longest line takes, and some more.
-const LINE_CAPACITY: usize = 96;
+/// How many bytes the longest part of a line takes, and some more.
+const PART_CAPACITY: usize = 64;
 
-/// The text of one line, its line feed included. It takes no memory from the allocator.
-pub(crate) type Line = ArrayString<LINE_CAPACITY>;
+/// What stands before a name or behind it. It takes no memory from the allocator.
+pub(crate) type Part = ArrayString<PART_CAPACITY>;
 
-/// The line of a note.
-pub(crate) fn note_line<N: Names>(names: &N, note: Note) -> Line
-    ensures { result.bytes ≡ lines.note_line (N.lists names.now) note }
+/// Writes the line of a note.
+pub(crate) fn write_note<N: Names, W: Out>(names: &N, note: Note, out: &mut W) -> Result<(), Failed>
+    ensures ok { OnOk result (Appends (W.contents out.old) (W.contents out.new) (line_of (N.lists names.now) note)) }
+    ensures ok_failures { OnOk result (W.failure_count out.new ≡ W.failure_count out.old) }
+    ensures err { OnErr result (AppendsBeginning (W.contents out.old) (W.contents out.new) (line_of (N.lists names.now) note)) }
+    ensures err_failures { OnErr result (HasFailed (W.failure_count out.old) (W.failure_count out.new)) }
 {
-    let mut digits = Buffer::new();
-    let mut line = Line::new();
-    line.push_str(digits.format(note.clock));
-    line.push_str(" ");
-    push_words(&mut line, names, note.what);
-    line.push_str("\n");
-    line
+    let start = start(note);
+    let end = end(note.what);
+    write_line(start.as_str(), name(names, note.what), end.as_str(), out)
 }
 
-fn push_words<N: Names>(line: &mut Line, names: &N, what: What)
-    requires { array_string_len line.old ≤ 21 }
-    ensures bytes { line.new.bytes ≡ line.old.bytes ++ lines.words (N.lists names.now) what }
-    ensures len { array_string_len line.new ≤ 80 }
+/// Writes a line: what stands before the name, the name, and what stands behind it.
+pub(crate) fn write_line<W: Out>(
+    start: &str,
+    name: &str,
+    end: &str,
+    out: &mut W,
+) -> Result<(), Failed>
+    ensures ok { OnOk result (Appends (W.contents out.old) (W.contents out.new) (start.now ++ name.now ++ end.now)) }
+    ensures ok_failures { OnOk result (W.failure_count out.new ≡ W.failure_count out.old) }
+    ensures err { OnErr result (AppendsBeginning (W.contents out.old) (W.contents out.new) (start.now ++ name.now ++ end.now)) }
+    ensures err_failures { OnErr result (HasFailed (W.failure_count out.old) (W.failure_count out.new)) }
+{
+    write_all(out, start.as_bytes())?;
+    write_all(out, name.as_bytes())?;
+    write_all(out, end.as_bytes())?;
+    Ok(())
+}
+
+/// The name in a note, if there is one.
+fn name<N: Names>(names: &N, what: What) -> &str
+    ensures { result.now ≡ lines.subject (N.lists names.now) what }
 {
     match what {
-        What::Wake(task) => push_two(line, "wake ", names.task(task)),
-        What::Sleep(task) => push_two(line, "sleep ", names.task(task)),
-        What::Insert(task, queue) => {
-            push_two(line, "insert ", names.task(task));
-            push_queue(line, queue);
-        }
-        What::Move(task, cpu) => push_numbered(line, "move ", names.task(task), " local ", cpu),
-        What::Run(task, cpu) => push_numbered(line, "run ", names.task(task), " cpu ", cpu),
-        What::Stop(task, cpu) => push_numbered(line, "stop ", names.task(task), " cpu ", cpu),
-        What::Idle(cpu) => push_numbered(line, "idle", "", " cpu ", cpu),
-        What::Weight(group, weight) => {
-            push_numbered(line, "weight ", names.group(group), " ", weight)
-        }
+        What::Wake(task) => names.task(task),
+        What::Sleep(task) => names.task(task),
+        What::Insert(task, _) => names.task(task),
+        What::Move(task, _) => names.task(task),
+        What::Run(task, _) => names.task(task),
+        What::Stop(task, _) => names.task(task),
+        What::Idle(_) => "",
+        What::Weight(group, _) => names.group(group),
     }
 }
 
-/// A word and a name.
-fn push_two(line: &mut Line, word: &str, name: &str)
-    requires room { array_string_len line.old + length word.now + length name.now ≤ 50 }
-    ensures bytes { line.new.bytes ≡ line.old.bytes ++ (word.now ++ name.now) }
-    ensures len { array_string_len line.new ≡ array_string_len line.old + length word.now + length name.now }
-{
-    line.push_str(word);
-    line.push_str(name);
-}
-
-/// A word, a name, and a number behind another word.
-fn push_numbered(line: &mut Line, word: &str, name: &str, before: &str, number: u32)
-    requires room { array_string_len line.old + length word.now + length name.now + length before.now ≤ 60 }
-    ensures bytes { line.new.bytes ≡ line.old.bytes ++ (word.now ++ name.now ++ before.now ++ decimal number) }
-    ensures len { array_string_len line.new ≤ 80 }
+/// What stands before the name.
+fn start(note: Note) -> Part
+    ensures { result.bytes ≡ lines.start note }
 {
     let mut digits = Buffer::new();
-    line.push_str(word);
-    line.push_str(name);
-    line.push_str(before);
-    line.push_str(digits.format(number));
+    let mut start = Part::new();
+    start.push_str(digits.format(note.clock));
+    start.push_str(" ");
+    start.push_str(verb(note.what));
+    start
 }
 
-/// The queue of that id, behind a space.
-fn push_queue(line: &mut Line, queue: u64)
-    requires { array_string_len line.old ≤ 50 }
-    ensures bytes { line.new.bytes ≡ line.old.bytes ++ (codes " " ++ lines.queue_text queue) }
-    ensures len { array_string_len line.new ≤ 80 }
+fn verb(what: What) -> &'static str
+    ensures verb { result.now ≡ lines.verb what }
+    ensures short { length result.now ≤ 10 }
+{
+    match what {
+        What::Wake(_) => "wake ",
+        What::Sleep(_) => "sleep ",
+        What::Insert(_, _) => "insert ",
+        What::Move(_, _) => "move ",
+        What::Run(_, _) => "run ",
+        What::Stop(_, _) => "stop ",
+        What::Idle(_) => "idle cpu ",
+        What::Weight(_, _) => "weight ",
+    }
+}
+
+/// What stands behind the name, with the line feed.
+fn end(what: What) -> Part
+    ensures { result.bytes ≡ lines.object what ++ codes "\n" }
+{
+    match what {
+        What::Wake(_) => whole_part("\n"),
+        What::Sleep(_) => whole_part("\n"),
+        What::Insert(_, queue) => place(queue),
+        What::Move(_, cpu) => numbered(" local ", u64::from(cpu)),
+        What::Run(_, cpu) => numbered(" cpu ", u64::from(cpu)),
+        What::Stop(_, cpu) => numbered(" cpu ", u64::from(cpu)),
+        What::Idle(cpu) => numbered("", u64::from(cpu)),
+        What::Weight(_, weight) => numbered(" ", u64::from(weight)),
+    }
+}
+
+/// A space, the queue of that id, and a line feed.
+fn place(queue: u64) -> Part
+    ensures { result.bytes ≡ codes " " ++ lines.queue_text queue ++ codes "\n" }
 {
     if queue < POLICY_END {
-        push_place(line, " queue ", queue);
+        numbered(" queue ", queue)
     } else if queue == GLOBAL {
-        line.push_str(" global");
+        whole_part(" global\n")
     } else if queue == HELD {
-        line.push_str(" held");
+        whole_part(" held\n")
     } else if queue == BUILTIN {
-        line.push_str(" builtin");
+        whole_part(" builtin\n")
     } else {
-        push_place(line, " local ", queue % 0x1_0000_0000);
+        numbered(" local ", queue % 0x1_0000_0000)
     }
 }
 
-fn push_place(line: &mut Line, word: &str, number: u64)
-    requires room { array_string_len line.old + length word.now ≤ 60 }
-    ensures bytes { line.new.bytes ≡ line.old.bytes ++ (word.now ++ decimal number) }
-    ensures len { array_string_len line.new ≤ 80 }
+fn whole_part(text: &str) -> Part
+    requires { length text.now ≤ PART_CAPACITY }
+    ensures { result.bytes ≡ text.now }
+{
+    let mut part = Part::new();
+    part.push_str(text);
+    part
+}
+
+/// A word, a number and a line feed.
+fn numbered(word: &str, number: u64) -> Part
+    requires { length word.now ≤ 10 }
+    ensures { result.bytes ≡ word.now ++ decimal number ++ codes "\n" }
 {
     let mut digits = Buffer::new();
-    line.push_str(word);
-    line.push_str(digits.format(number));
+    let mut part = Part::new();
+    part.push_str(word);
+    part.push_str(digits.format(number));
+    part.push_str("\n");
+    part
 }

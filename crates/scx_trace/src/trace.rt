@@ -1,10 +1,10 @@
 ghost use Rattle.std.specs.Prelude.{◌≡◌, true, false};
 ghost use Rattle.scx_trace.specs.Tracing.{TakesLine};
 
-use crate::lines::note_line;
+use crate::lines::write_note;
 use crate::names::Names;
 use scx_machine::Sink;
-use scx_output::{Out, write_all};
+use scx_output::Out;
 use scx_world::Note;
 
 /// Writes a line for each note, up to the first write that fails.
@@ -42,8 +42,7 @@ impl<N: Names, W: Out> Sink for Trace<'_, N, W> {
         if self.failed {
             return;
         }
-        let line = note_line(self.names, note);
-        if write_all(self.out, line.as_str().as_bytes()).is_err() {
+        if write_note(self.names, note, self.out).is_err() {
             self.failed = true;
         }
     }
