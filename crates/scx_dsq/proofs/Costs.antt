@@ -2,7 +2,7 @@
 use Rattle.std.proofs.Common.{◌≡◌, ◌≢◌, ℕ, zero, suc, ◌-◌, ◌<◌, ◌≤◌, true, false, ◌==◌, ◌⊎◌, inl, inr, List, [], ◌∷◌, length, get_or, set, slice_index_or, Some, None, IfSome, refl, sym, ap, ◌∙◌, subst, arith}
 use Rattle.std.specs.List.{position_or_len}
 use Rattle.std.proofs.lemmas.Bool.{eq-eqb, eqb-true, ne_eqb, cases_lt}
-use Rattle.std.proofs.lemmas.List.{get_or-set_same, get_or-set_other, length-set, length-map}
+use Rattle.std.proofs.lemmas.List.{get_or-set_same, get_or-set_other, length-set, length-map, get_or_past, get_or_default}
 use Rattle.std.proofs.lemmas.List.Sums.{position_or_len_is, passes_at_first}
 use Rattle.scx_dsq.specs.declared.places.Rank.{Rank}
 use Rattle.scx_dsq.specs.declared.places.Rank.TheVariants.{Fifo, Vtime}
@@ -14,7 +14,9 @@ use Rattle.scx_dsq.specs.Places.{same_sort}
 use Rattle.scx_dsq.specs.Queues.{Places, Waits, IsFront, place_of, queue_of}
 use Rattle.scx_dsq.specs.Heaps.{DiffersAtMost, IsCheap}
 use Rattle.scx_dsq.specs.Arrays.{QueuesValue, array_of, IsPaid}
-use Rattle.scx_dsq.specs.Kept.{ids_of, arrays_of, state_of, value_of, IsKept}
+use Rattle.scx_dsq.specs.Holdings.{Holds, HasArrays}
+use Rattle.scx_dsq.specs.Links.{no_ends}
+use Rattle.scx_dsq.specs.Kept.{ids_of, arrays_of, IsOfOneSort, by_links, by_heap, state_of, value_of, IsKept}
 use Rattle.scx_dsq.proofs.Keeping.{id_at}
 
 -- ---- nothing changes
@@ -50,6 +52,29 @@ place_is i k q h lt read =
 pub array_is : (i : Inside) (k : ℕ) (q : Queue) → IsKept i → k < length i.live.items → q ≡ get_or i.live.items k q → array_of (value_of i) q.id ≡ q.heap.items
 array_is i k q h lt read =
     ap (λ m. get_or (arrays_of i.live.items) m []) (place_is i k q h lt read) ∙ array_at i.live.items k q lt ∙ sym (ap (λ (x : Queue). x.heap.items) read)
+
+-- each array has nobody, or those who wait in its queue
+pub arrays_held : (i : Inside) → IsKept i → HasArrays (value_of i)
+arrays_held i h id = by (cases_lt place (length (ids_of i.live.items)))
+  where
+    place : ℕ
+    place = position_or_len (λ other. other == id) (ids_of i.live.items)
+
+    any : Queue
+    any = record { id = id; ends = no_ends; heap = record { room = 0; items = [] } }
+
+    form : (q : Queue) → array_of (value_of i) id ≡ q.heap.items → q.id ≡ id → IsOfOneSort i.places.items i.links.items q → (array_of (value_of i) id ≡ []) ⊎ Holds i.places.items id (array_of (value_of i) id)
+    form q same is (by_links f empty) = inl (same ∙ empty)
+    form q same is (by_heap held none) = inr (subst (λ items. Holds i.places.items id items) (sym same) (subst (λ v. Holds i.places.items v q.heap.items) is held))
+
+    by : (place < length (ids_of i.live.items)) ⊎ (length (ids_of i.live.items) ≤ place) → (array_of (value_of i) id ≡ []) ⊎ Holds i.places.items id (array_of (value_of i) id)
+    by (inr past) = inl (get_or_past (arrays_of i.live.items) place [] (omega (arith, past, length-map i.live.items (λ (x : Queue). x.id), length-map i.live.items (λ (x : Queue). x.heap.items))))
+    by (inl lt) =
+        let inside : place < length i.live.items = omega (arith, lt, length-map i.live.items (λ (x : Queue). x.id)) in
+        let q = get_or i.live.items place any in
+        let read : q ≡ get_or i.live.items place q = get_or_default i.live.items place any q inside in
+        let is : q.id ≡ id = sym (id_at i.live.items place any) ∙ eqb-true _ id (passes_at_first (λ other. other == id) (ids_of i.live.items) any.id lt) in
+        form q (array_at i.live.items place any inside) is (h.live place any inside).tasks
 
 -- ---- one queue changes
 

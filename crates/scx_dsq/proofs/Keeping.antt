@@ -48,6 +48,7 @@ apart i h j k q n in_j in_k same = go (cases_order j k)
 -- one queue, one task's place, the links and the spots are other ones, and the rest is as before
 pub record IsChanged (i j : Inside) (k t : ℕ) (new : Queue) (place : Option Place) (linked : List Link) (stood : List ℕ) (count : ℕ) : Type 0 where
   pub live : j.live.items ≡ set i.live.items k new
+  pub order : j.order ≡ i.order
   pub capacity : vec_capacity j.live ≡ vec_capacity i.live
   pub spare : j.spare ≡ i.spare
   pub places : j.places.items ≡ set i.places.items t place
@@ -57,10 +58,13 @@ pub record IsChanged (i j : Inside) (k t : ℕ) (new : Queue) (place : Option Pl
 
 module _ (i j : Inside) (k t : ℕ) (q queue : Queue) (place : Option Place) (links : List Link) (spots : List ℕ) (pushes : ℕ) (in_live : k < length i.live.items) (read : q ≡ get_or i.live.items k q) (id : queue.id ≡ q.id)
     (c : IsChanged i j k t queue place links spots pushes) where
+  same_ids : ids_of j.live.items ≡ ids_of i.live.items
+  same_ids = ap ids_of c.live ∙ ids_set i.live.items k queue (λ d. ap (λ (x : Queue). x.id) (get_or_default i.live.items k d q in_live ∙ sym read) ∙ sym id)
+
   pub changed_state : state_of j ≡ record { room = (state_of i).room; ids = (state_of i).ids; places = set i.places.items t place; pushes = pushes }
   changed_state =
       same_state _ _ _ _ _ _ _ _ (omega (arith, ap (λ (qs : List Queue). length qs) c.live, length-set i.live.items k queue, ap (λ v. length v.items) c.spare))
-      (ap ids_of c.live ∙ ids_set i.live.items k queue (λ d. ap (λ (x : Queue). x.id) (get_or_default i.live.items k d q in_live ∙ sym read) ∙ sym id)) c.places c.pushes
+      same_ids c.places c.pushes
 
   pub changed_arrays : arrays_of j.live.items ≡ set (arrays_of i.live.items) k queue.heap.items
   changed_arrays = ap arrays_of c.live ∙ map-set (λ (x : Queue). x.heap.items) i.live.items k queue
@@ -75,8 +79,10 @@ module _ (i j : Inside) (k t : ℕ) (q queue : Queue) (place : Option Place) (li
   changed_keeps h in_places long as_long only agree elsewhere keeps sound = record {
     sound = subst IsSound (sym changed_state) sound;
     live = rw (c.places, c.links, c.spots, c.live) (λ m d lt. row_of m d (omega (arith, lt, length-set i.live.items k queue)) (cases_eq m k));
+    order = rw (same_ids, c.order) h.order;
     spare = rw (c.places, c.spare) (All-weaker (IsSpare i.places.items) (IsSpare (set i.places.items t place)) (λ r w. (w.0, omega (arith, w.1, length-set i.places.items t place))) i.spare.items h.spare);
     room = omega (arith, h.room, c.capacity, ap (λ (qs : List Queue). length qs) c.live, length-set i.live.items k queue, ap (λ v. length v.items) c.spare);
+    orders = omega (arith, h.orders, ap (λ v. vec_capacity v) c.order, ap (λ v. length v.items) c.order, ap (λ v. length v.items) c.spare);
     links = omega (arith, h.links, long, ap (λ (xs : List Link). length xs) c.links, ap (λ (xs : List (Option Place)). length xs) c.places, length-set i.places.items t place);
     spots = omega (arith, h.spots, as_long, ap (λ (xs : List ℕ). length xs) c.spots, ap (λ (xs : List (Option Place)). length xs) c.places, length-set i.places.items t place);
   }

@@ -9,6 +9,7 @@ pub mod QueueReads
 pub mod Keeping
 pub mod Pushes
 pub mod Removals
+pub mod Ordering
 pub mod Makings
 pub mod Costs
 pub mod Counted

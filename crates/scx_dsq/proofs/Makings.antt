@@ -1,10 +1,7 @@
 -- The first queues, and a queue more.
-use Rattle.std.proofs.Common.{◌≡◌, ℕ, zero, suc, ◌+◌, ◌<◌, ◌≤◌, true, false, ◌==◌, List, [], ◌∷◌, ◌++◌, length, get_or, All, Option, Some, None, vec_capacity, replicate, refl, sym, ap, ◌∙◌, subst, arith}
-use Rattle.std.specs.List.{list_any}
-use Rattle.std.proofs.lemmas.Bool.{or_from, eq-eqb}
+use Rattle.std.proofs.Common.{◌≡◌, ℕ, zero, suc, ◌+◌, ◌<◌, ◌≤◌, false, List, [], ◌∷◌, ◌++◌, length, get_or, insert, All, Option, Some, None, vec_capacity, replicate, refl, sym, ap, ◌∙◌, subst, arith}
 use Rattle.std.proofs.lemmas.List.{length_push, length-replicate, length-map, map-append}
 use Rattle.std.proofs.lemmas.List.Elements.{All-append, All-cons, All-nil, All-pop}
-use Rattle.std.proofs.lemmas.List.Folds.{list_any_at}
 use Rattle.scx_dsq.specs.declared.places.Place.{Place}
 use Rattle.scx_dsq.specs.declared.links.Link.{Link}
 use Rattle.scx_dsq.specs.declared.queue.Queue.{Queue}
@@ -19,7 +16,10 @@ use Rattle.scx_dsq.proofs.Fronts.{NobodyIn}
 use Rattle.scx_dsq.proofs.Holdings.{holds_empty}
 use Rattle.scx_dsq.proofs.Sound.{sound_with_queue}
 use Rattle.scx_dsq.proofs.QueueReads.{nobody_elsewhere}
-use Rattle.scx_dsq.proofs.Keeping.{id_at, same_state}
+use Rattle.std.proofs.lemmas.List.Edits.{length-insert}
+use Rattle.scx_dsq.specs.Order.{IsOrder, IsGap}
+use Rattle.scx_dsq.proofs.Keeping.{same_state}
+use Rattle.scx_dsq.proofs.Ordering.{missing, order_with}
 
 heap_of_none : IsHeap []
 heap_of_none k some lt = absurd (omega arith)
@@ -29,20 +29,25 @@ no_spots spots k d e lt = absurd (omega arith)
 
 -- ---- a queue more
 
-pub created_keeps : (i j : Inside) (id : ℕ) (heap : HeapState) → IsKept i → exists (state_of i) id ≡ false
+pub created_keeps : (i j : Inside) (id gap : ℕ) (heap : HeapState) → IsKept i → IsGap (ids_of i.live.items) i.order.items id gap → j.order.items ≡ insert i.order.items gap (length i.live.items) → vec_capacity i.order ≤ vec_capacity j.order
     → i.spare.items ≡ j.spare.items ++ heap ∷ [] → j.live.items ≡ i.live.items ++ record { id = id; ends = no_ends; heap = heap } ∷ [] → vec_capacity j.live ≡ vec_capacity i.live → j.places ≡ i.places → j.links ≡ i.links → j.spots ≡ i.spots → j.pushes ≡ i.pushes
     → IsKept j
-created_keeps i j id heap h new spare live capacity places links spots pushes = record {
+created_keeps i j id gap heap h g order order_capacity spare live capacity places links spots pushes = record {
   sound = subst IsSound (sym (same_state _ _ _ _ _ _ _ _ same_room same_ids same_places pushes)) (sound_with_queue (state_of i) id new (omega (arith, fewer, length-map i.live.items (λ (q : Queue). q.id))) h.sound);
   live = rw (places, links, spots, live) (All-append (Keeps i.places.items i.links.items i.spots.items) i.live.items _ h.live (All-cons (Keeps i.places.items i.links.items i.spots.items) queue [] here (All-nil _)));
+  order = rw (same_ids, order) (subst (λ n. IsOrder (ids_of i.live.items ++ id ∷ []) (insert i.order.items gap n)) (length-map i.live.items (λ (q : Queue). q.id)) (order_with (ids_of i.live.items) i.order.items id gap h.order g));
   spare = subst (λ ps. All (IsSpare ps) j.spare.items) (sym same_places) heaps.0;
   room = omega (arith, h.room, capacity, same_room);
+  orders = omega (arith, h.orders, order_capacity, fewer, ap length order, length-insert i.order.items gap (length i.live.items) g.within);
   links = ap (λ v. length v.items) links ∙ h.links ∙ sym (ap (λ v. length v.items) places);
   spots = ap (λ v. length v.items) spots ∙ h.spots ∙ sym (ap (λ v. length v.items) places);
 }
   where
     queue : Queue
     queue = record { id = id; ends = no_ends; heap = heap }
+
+    new : exists (state_of i) id ≡ false
+    new = missing (ids_of i.live.items) i.order.items id gap h.order g
 
     same_places : j.places.items ≡ i.places.items
     same_places = ap (λ v. v.items) places
@@ -83,8 +88,8 @@ created_arrays i live id heap h spare popped is =
 -- ---- no queue yet
 
 pub new_keeps : (i : Inside) (tasks : ℕ) → i.live.items ≡ [] → All (λ heap. heap ≡ record { room = tasks; items = [] }) i.spare.items → i.places.items ≡ replicate tasks None
-    → length i.links.items ≡ tasks → length i.spots.items ≡ tasks → length i.spare.items ≤ vec_capacity i.live → IsKept i
-new_keeps i tasks live spare places links spots room = record {
+    → length i.links.items ≡ tasks → length i.spots.items ≡ tasks → length i.spare.items ≤ vec_capacity i.live → i.order.items ≡ [] → length i.spare.items ≤ vec_capacity i.order → IsKept i
+new_keeps i tasks live spare places links spots room order order_room = record {
   sound = record {
     queues = record { distinct = rw live (λ a b d lt within. absurd (omega arith)); within = rw live (omega arith) };
     homes = λ t p e. absurd (nowhere t p e);
@@ -93,8 +98,10 @@ new_keeps i tasks live spare places links spots room = record {
     stamps = λ t u p q n e f. absurd (nowhere t p e);
   };
   live = rw live (All-nil _);
+  order = rw (live, order) (record { within = All-nil _; ascending = λ a b d lt inside. absurd (omega arith); all = λ m lt. absurd (omega arith) });
   spare = λ k d lt. let heap = spare k d lt in rw heap (refl, omega (arith, long));
   room = let none : length i.live.items ≡ 0 = ap (λ (qs : List Queue). length qs) live in omega arith;
+  orders = let none : length i.order.items ≡ 0 = ap (λ (xs : List ℕ). length xs) order in omega arith;
   links = omega (arith, links, long);
   spots = omega (arith, spots, long);
 }
@@ -112,16 +119,3 @@ new_keeps i tasks live spare places links spots room = record {
         none_there zero k = refl
         none_there (suc n) zero = refl
         none_there (suc n) (suc k) = none_there n k
-
--- ---- finding a queue
-
-pub id_found : (live : List Queue) (id k : ℕ) (d : Queue) → k < length live → (get_or live k d).id ≡ id → list_any (λ other. other == id) (ids_of live) ≡ true
-id_found live id k d lt e =
-    list_any_at (λ other. other == id) (ids_of live) k d.id (omega (arith, length-map live (λ (q : Queue). q.id)))
-    (eq-eqb _ id (id_at live k d ∙ e))
-
-pub id_missing : (live : List Queue) (id : ℕ) → ((k : ℕ) (d : Queue) → k < length live → ((get_or live k d).id == id) ≡ false) → list_any (λ other. other == id) (ids_of live) ≡ false
-id_missing [] id none = refl
-id_missing (q ∷ live) id none =
-    let here : (q.id == id) ≡ false = none 0 q (omega arith) in
-    or_from (q.id == id) _ here (id_missing live id (λ k d lt. none (suc k) d (omega arith)))

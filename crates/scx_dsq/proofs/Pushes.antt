@@ -68,6 +68,7 @@ module _ (i j : Inside) (k id t : ℕ) (q : Queue) (h : IsKept i) (within : t < 
 pub entered_fifo : (i : Inside) (k id t : ℕ) (q new : Queue) (links linked : List Link) → links ≡ i.links.items → new ≡ appended q t → linked ≡ links_appended links q.ends t
     → IsChanged i (record {
       live = with_item i.live k new;
+      order = i.order;
       spare = i.spare;
       places = with_item i.places t (Some (next_place (state_of i) id Fifo));
       links = with_items i.links linked;
@@ -77,6 +78,7 @@ pub entered_fifo : (i : Inside) (k id t : ℕ) (q new : Queue) (links linked : L
 entered_fifo i k id t q new links linked same is are = record {
   live = ap (λ x. set i.live.items k x) is;
   capacity = refl;
+  order = refl;
   spare = refl;
   places = refl;
   links = with_items_is i.links linked long ∙ after;
@@ -152,6 +154,7 @@ module _ (i j : Inside) (k id : ℕ) (x : Item) (q new : Queue) (stood : List �
 pub entered_vtime : (i : Inside) (k id : ℕ) (x : Item) (q new : Queue) (spots stood : List ℕ) → spots ≡ i.spots.items → Inserted spots q x stood new
     → IsChanged i (record {
       live = with_item i.live k new;
+      order = i.order;
       spare = i.spare;
       places = with_item i.places x.task (Some (next_place (state_of i) id (Vtime x.priority.key)));
       links = i.links;
@@ -161,6 +164,7 @@ pub entered_vtime : (i : Inside) (k id : ℕ) (x : Item) (q new : Queue) (spots 
 entered_vtime i k id x q new spots stood same e = record {
   live = refl;
   capacity = refl;
+  order = refl;
   spare = refl;
   places = refl;
   links = refl;

@@ -17,6 +17,7 @@ use Rattle.scx_dsq.specs.Links.{no_ends, link_at, or_else, links_appended, ends_
 use Rattle.scx_dsq.specs.Heaps.{HeapState, IsHeap, HasSpots, IsAbsent, IsIn, KeepsOthers, first_item}
 use Rattle.scx_dsq.specs.Holdings.{Holds}
 use Rattle.scx_dsq.specs.Arrays.{QueuesValue}
+use Rattle.scx_dsq.specs.Order.{IsOrder}
 
 abbrev pub ids_of : List Queue → List ℕ
 ids_of live = map (λ q. q.id) live
@@ -161,7 +162,9 @@ value_of i = record { state = state_of i; arrays = arrays_of i.live.items }
 pub record IsKept (i : Inside) : Type 0 where
   pub sound : IsSound (state_of i)
   pub live : All (Keeps i.places.items i.links.items i.spots.items) i.live.items
+  pub order : IsOrder (ids_of i.live.items) i.order.items
   pub spare : All (IsSpare i.places.items) i.spare.items
   pub room : length i.live.items + length i.spare.items ≤ vec_capacity i.live
+  pub orders : length i.order.items + length i.spare.items ≤ vec_capacity i.order
   pub links : length i.links.items ≡ length i.places.items
   pub spots : length i.spots.items ≡ length i.places.items

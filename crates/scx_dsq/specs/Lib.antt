@@ -7,5 +7,6 @@ pub mod Facts
 pub mod Links
 pub mod Heaps
 pub mod Arrays
+pub mod Order
 pub mod Holdings
 pub mod Kept

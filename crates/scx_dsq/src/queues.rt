@@ -1,4 +1,4 @@
-ghost use Rattle.std.specs.Prelude.{◌≡◌, ◌≢◌, ℕ, ◌+◌, ◌-◌, ◌^◌, ◌<◌, ◌≤◌, ◌==◌, [], ◌∷◌, ◌++◌, map, length, true, false, is_some, slice_index_or, All, HoldsAt, IsSome, IfSome, IfNone, IfOk, IfErr, OnOk, OnErr};
+ghost use Rattle.std.specs.Prelude.{◌≡◌, ◌≢◌, ℕ, ◌+◌, ◌-◌, ◌^◌, ◌<◌, ◌≤◌, ◌==◌, [], ◌∷◌, ◌++◌, map, length, true, false, is_some, is_ok, slice_index_or, All, HoldsAt, IsSome, IfSome, IfNone, IfOk, IfErr, OnOk, OnErr};
 ghost use Rattle.std.specs.List.{list_any};
 ghost use Rattle.scx_dsq.specs.declared.places.Place.{Place};
 ghost use Rattle.scx_dsq.specs.declared.places.Rank.TheVariants.{Fifo, Vtime};
@@ -6,6 +6,8 @@ ghost use Rattle.scx_dsq.specs.Queues.{Waits, IsFront, exists, task_count, place
 ghost use Rattle.scx_dsq.specs.Calls.{refused_or_done, create_refusal, created, clashes, push_refusal, pushed, removed, popped, empty};
 ghost use Rattle.scx_dsq.specs.Laws.{HasOneOfEach, WaitsInAQueue, HasOneSort, IsStamped, HasOwnStamps, StandsInSoMany};
 ghost use Rattle.scx_dsq.specs.Arrays.{IsPaid};
+ghost use Rattle.scx_dsq.specs.Holdings.{HasArrays};
+ghost use Rattle.scx_dsq.specs.Order.{IsOrder, IsGap};
 ghost use Rattle.scx_dsq.specs.Kept.{ids_of, IsAdmitted, IsRefused};
 
 use crate::errors::QueueError;
@@ -27,6 +29,8 @@ use std::sync::ledger::Ledger;
 #[derive(Debug, Drop)]
 pub struct Queues {
     live: Vec<Queue>,
+    /// Where the queues stand in `live`, those of lesser ids first.
+    order: Vec<usize>,
     /// Empty heaps for queues to come.
     spare: Vec<Heap>,
     places: Vec<Option<Place>>,
@@ -59,6 +63,7 @@ impl Queues {
     {
         Ok(Queues {
             live: Vec::with_capacity(alloc, queues)?,
+            order: Vec::with_capacity(alloc, queues)?,
             spare: spare_heaps(alloc, queues, tasks)?,
             places: vec![in alloc; None; tasks]?,
             links: vec![in alloc; Link::NONE; tasks]?,
@@ -77,12 +82,16 @@ impl Queues {
         ensures tasks { task_count self.new.state ≡ task_count self.old.state }
         ensures pushes { self.new.state.pushes ≡ self.old.state.pushes }
     {
-        if find(&self.live, id).is_some() {
+        let Err(gap) = search(&self.live, &self.order, id) else {
             return Err(QueueError::AlreadyThere);
-        }
+        };
         let Some(heap) = self.spare.pop() else {
             return Err(QueueError::TooManyQueues);
         };
+        match self.order.insert(gap, self.live.len()) {
+            Ok(()) => (),
+            Err(_) => unreachable!(),
+        }
         self.live.push_reserved(Queue {
             id,
             ends: Ends::NONE,
@@ -104,7 +113,7 @@ impl Queues {
         ensures tasks { task_count self.new.state ≡ task_count self.old.state }
         ensures pushes { self.new.state.pushes ≤ self.old.state.pushes + 1 }
     {
-        let index = admit(&self.live, &self.places, id, task, Rank::Fifo)?;
+        let index = admit(&self.live, &self.order, &self.places, id, task, Rank::Fifo)?;
         append_to(&mut self.links, &mut self.live[index], task);
         self.places[task as usize] = Some(Place {
             queue: id,
@@ -138,7 +147,14 @@ impl Queues {
         ensures pushes { self.new.state.pushes ≤ self.old.state.pushes + 1 }
     {
         let stamp = self.pushes;
-        let index = admit(&self.live, &self.places, id, task, Rank::Vtime(key))?;
+        let index = admit(
+            &self.live,
+            &self.order,
+            &self.places,
+            id,
+            task,
+            Rank::Vtime(key),
+        )?;
         let item = Item {
             task,
             priority: Priority::new(key, stamp),
@@ -157,14 +173,14 @@ impl Queues {
     pub fn has(&self, id: u64) -> bool
         ensures { result ≡ exists self.now.state id }
     {
-        find(&self.live, id).is_some()
+        find(&self.live, &self.order, id).is_some()
     }
 
     /// Whether tasks wait in the queue that were put there in the other way.
     pub fn would_mix(&self, id: u64, rank: Rank) -> bool
         ensures { result ≡ list_any (clashes id rank) self.now.state.places }
     {
-        match find(&self.live, id) {
+        match find(&self.live, &self.order, id) {
             Some(index) => self.live[index].clashes(rank),
             None => false,
         }
@@ -177,7 +193,7 @@ impl Queues {
         ensures first { IfSome result (IsFront self.now.state id) }
         ensures empty { IfNone result ((t : ℕ) (p : Place) → ¬ Waits self.now.state id t p) }
     {
-        match find(&self.live, id) {
+        match find(&self.live, &self.order, id) {
             Some(index) => self.live[index].front(),
             None => None,
         }
@@ -218,7 +234,7 @@ impl Queues {
         let Some(place) = self.places[task as usize] else {
             return false;
         };
-        let Some(index) = find(&self.live, place.queue) else {
+        let Some(index) = find(&self.live, &self.order, place.queue) else {
             unreachable!()
         };
         leave(
@@ -237,7 +253,7 @@ impl Queues {
     pub fn len(&self, id: u64) -> usize
         ensures { result ≡ len_of self.now.state id }
     {
-        match find(&self.live, id) {
+        match find(&self.live, &self.order, id) {
             Some(index) => self.live[index].len(),
             None => 0,
         }
@@ -269,6 +285,7 @@ impl Queues {
         ensures stamped { IsStamped self.now.state }
         ensures stamps { HasOwnStamps self.now.state }
         ensures standing { StandsInSoMany self.now.state }
+        ensures arrays { HasArrays self.now }
     {
         let _live = &self.live;
     }
@@ -284,16 +301,18 @@ impl Queues {
 /// Where the queue stands into which the task may go by that rank, or the first refusal.
 fn admit(
     live: &[Queue],
+    order: &[usize],
     places: &[Option<Place>],
     id: u64,
     task: u32,
     rank: Rank,
 ) -> Result<usize, QueueError>
-    requires { task < length places.now }
+    requires task { task < length places.now }
+    requires order { IsOrder (ids_of live.now) order.now }
     ensures admitted { IfOk result (λ k. IsAdmitted live.now places.now k id task rank) }
     ensures refused { IfErr result (IsRefused live.now places.now id task rank) }
 {
-    let Some(index) = find(live, id) else {
+    let Some(index) = find(live, order, id) else {
         return Err(QueueError::NoSuchQueue);
     };
     if places[task as usize].is_some() {
@@ -306,16 +325,39 @@ fn admit(
 }
 
 /// Where the queue of that id stands.
-fn find(live: &[Queue], id: u64) -> Option<usize>
+fn find(live: &[Queue], order: &[usize], id: u64) -> Option<usize>
+    requires { IsOrder (ids_of live.now) order.now }
     ensures found { is_some result ≡ list_any (λ other. other == id) (ids_of live.now) }
     ensures at { IfSome result (λ i. (i < length live.now) × HoldsAt (λ q. q.id ≡ id) live.now i) }
 {
-    for (index, queue) in live.iter().enumerate() {
-        if queue.id == id {
-            return Some(index);
+    match search(live, order, id) {
+        Ok(place) => Some(order[place]),
+        Err(_) => None,
+    }
+}
+
+/// Where the order names the queue of that id, or else where it would.
+fn search(live: &[Queue], order: &[usize], id: u64) -> Result<usize, usize>
+    requires { IsOrder (ids_of live.now) order.now }
+    ensures found { IfOk result (λ k. (k < length order.now) × HoldsAt (λ a. slice_index_or (ids_of live.now) a 0 ≡ id) order.now k) }
+    ensures missing { IfErr result (IsGap (ids_of live.now) order.now id) }
+    ensures named { is_ok result ≡ list_any (λ other. other == id) (ids_of live.now) }
+{
+    let mut low = 0;
+    let mut high = order.len();
+    while low < high {
+        let middle = low + (high - low) / 2;
+        let other = live[order[middle]].id;
+        if other == id {
+            return Ok(middle);
+        }
+        if other < id {
+            low = middle + 1;
+        } else {
+            high = middle;
         }
     }
-    None
+    Err(low)
 }
 
 /// Empty heaps for queues to come.

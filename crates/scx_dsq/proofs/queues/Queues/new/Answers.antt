@@ -8,4 +8,5 @@ invariant_of-result c =
     let links : length c.in_ok-vec-2.field-0.items ≡ c.args.tasks = search rules in
     let spots : length c.in_ok-vec-3.field-0.items ≡ c.args.tasks = search rules in
     let room : length c.in_ok-spare_heaps.field-0.items ≤ vec_capacity c.in_ok-with_capacity.field-0 = search rules in
-    new_keeps _ c.args.tasks c.in_ok-with_capacity.ensures.items c.in_ok-spare_heaps.ensures.empty places links spots room
+    let orders : length c.in_ok-spare_heaps.field-0.items ≤ vec_capacity c.in_ok-with_capacity-2.field-0 = search rules in
+    new_keeps _ c.args.tasks c.in_ok-with_capacity.ensures.items c.in_ok-spare_heaps.ensures.empty places links spots room c.in_ok-with_capacity-2.ensures.items orders
