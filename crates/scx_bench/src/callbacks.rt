@@ -9,7 +9,7 @@ use scx_asm::assemble;
 use scx_examples::{DISPATCH, ENABLE, ENQUEUE, INIT, OneTask, RUNNING, STOPPING};
 use scx_isa::{Callback, TaskId, decode, encode};
 use scx_maps::{MapDefs, Maps, Shape};
-use scx_run::run;
+use scx_run::{Core, run_on};
 use scx_verify::{Verified, verify};
 use scx_vm::{Argument, Arguments};
 use std::alloc::Global;
@@ -114,12 +114,13 @@ fn run_one(alloc: Global, callback: Callback, text: &str, times: u64) -> Sum {
 fn run_times(alloc: Global, verified: &Verified, times: u64) -> Sum {
     let mut maps = Maps::new(alloc, verified.defs()).ok()?;
     let mut host = host();
+    let mut core = Core::new();
     let arguments = given(verified.callback());
     // The host has room for as many calls as can be counted.
     let _instructions = verified.instructions();
     let mut sum = 0u64;
     for _ in 0..times {
-        let done = run(verified, arguments, &mut maps, &mut host);
+        let done = run_on(&mut core, verified, arguments, &mut maps, &mut host);
         sum = sum.wrapping_add(done.steps as u64).wrapping_add(host.vtime);
     }
     Some(sum)
