@@ -6,10 +6,10 @@ ghost use Rattle.scx_commands.specs.Outcome.{IfRefused, IsRefused};
 ghost use Rattle.scx_commands.specs.Text.{IsText, IsAssembled, IsAsmCause};
 
 use crate::fault::{Fault, Refusal};
-use scx_output::{Out, write_all};
 use crate::texts::text;
 use scx_asm::assemble;
 use scx_isa::encode;
+use scx_output::{Out, write_all};
 use std::alloc::Global;
 
 /// Writes the raw slots of the program that the text in `bytes` stands for. The answer is true.

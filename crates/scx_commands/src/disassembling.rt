@@ -7,9 +7,9 @@ ghost use Rattle.scx_commands.specs.Text.{IsDisassembled, IsDisCause};
 
 use crate::fault::{Fault, Refusal};
 use crate::file::FILE_LIMIT;
-use scx_output::{Out, write_all};
 use scx_asm::disassemble;
 use scx_isa::decode;
+use scx_output::{Out, write_all};
 use std::alloc::Global;
 
 /// Writes the canonical text of the program that `bytes` spell. The answer is true.

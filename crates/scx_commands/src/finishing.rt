@@ -6,8 +6,8 @@ ghost use Rattle.scx_commands.specs.Outcome.{IfRefused, IsRefused};
 
 use crate::fault::Fault;
 use crate::lines::refusal_line;
-use scx_output::{Out, write_all};
 use crate::status::{DONE, FAILED, REFUSED};
+use scx_output::{Out, write_all};
 
 /// Ends a command: writes the line of a refusal, and answers the status of the process. `Ok(false)` is
 /// the outcome of a command that wrote what it refused itself.

@@ -5,9 +5,9 @@ ghost use Rattle.scx_output.specs.Output.{HasFailed};
 ghost use Rattle.scx_commands.specs.Lines as lines;
 
 use crate::fault::Refusal;
-use scx_output::{Failed, Out, write_all};
 use arrayvec::ArrayString;
 use itoa::Buffer;
+use scx_output::{Failed, Out, write_all};
 
 /// How many bytes the longest line takes.
 const LINE_CAPACITY: usize = 128;

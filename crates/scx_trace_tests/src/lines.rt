@@ -1,0 +1,58 @@
+//! The line of each note.
+
+use crate::feed::{Memory, TwoTasks};
+use scx_output::Counted;
+use scx_sched::{Note, Sink, What};
+use scx_trace::Trace;
+use std::process::Abort;
+
+fn expect<R: AllocGlobal + Abort>(rt: &R, clock: u64, what: What, line: &str) {
+    let mut memory = Memory::new(rt.alloc(), usize::MAX);
+    let mut out = Counted::new(&mut memory);
+    let mut trace = Trace::new(&TwoTasks, &mut out);
+    trace.take(Note { clock, what });
+    assert!(rt; !trace.failed());
+    assert_eq!(rt; memory.bytes.as_slice(), line.as_bytes());
+}
+
+#[test]
+fn notes_have_lines(rt: HostRuntime) {
+    expect(&rt, 0, What::Wake(0), "0 wake a\n");
+    expect(&rt, 1, What::Sleep(1), "1 sleep b\n");
+    expect(&rt, 0, What::Insert(0, 0), "0 insert a queue 0\n");
+    expect(
+        &rt,
+        u64::MAX,
+        What::Insert(1, 0x7fff_ffff_ffff_ffff),
+        "18446744073709551615 insert b queue 9223372036854775807\n",
+    );
+    expect(
+        &rt,
+        5,
+        What::Insert(0, 0x8000_0000_0000_0001),
+        "5 insert a global\n",
+    );
+    expect(
+        &rt,
+        5,
+        What::Insert(0, 0x8000_0000_0000_0003),
+        "5 insert a held\n",
+    );
+    expect(
+        &rt,
+        5,
+        What::Insert(0, 0x8000_0000_0000_0004),
+        "5 insert a builtin\n",
+    );
+    expect(
+        &rt,
+        5,
+        What::Insert(0, 0xc000_0000_0000_003f),
+        "5 insert a local 63\n",
+    );
+    expect(&rt, 1, What::Move(1, 0), "1 move b local 0\n");
+    expect(&rt, 1, What::Run(1, 0), "1 run b cpu 0\n");
+    expect(&rt, 1, What::Stop(0, 0), "1 stop a cpu 0\n");
+    expect(&rt, 1, What::Idle(0), "1 idle cpu 0\n");
+    expect(&rt, 1, What::Weight(0, 200), "1 weight g 200\n");
+}
