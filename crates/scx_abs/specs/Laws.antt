@@ -1,7 +1,9 @@
 -- The laws of rules and of the order, which are the contracts of public functions without bodies of
 -- their own: the rule of an instruction against its meaning, and that states stay proper.
-use Rattle.std.specs.Prelude.{◌≡◌, List, Option, Some, None, Result, Ok, Err, IfSome, IfOk}
+use Rattle.std.specs.Prelude.{◌≡◌, Bool, true, false, IsTrue, List, Option, Some, None, is_some, Result, Ok, Err, IfSome, IfOk}
+use Rattle.std.specs.Bool.{IsFalse}
 use Rattle.scx_semantics.specs.declared.instructions.Insn.{Insn}
+use Rattle.scx_semantics.specs.declared.instructions.Insn.TheVariants as insn
 use Rattle.scx_semantics.specs.declared.values.Value.{Value}
 use Rattle.scx_semantics.specs.declared.callbacks.Callback.{Callback}
 use Rattle.scx_semantics.specs.Elements.{Maps}
@@ -19,7 +21,7 @@ use Rattle.scx_abs.specs.declared.rules.Next.{Next}
 use Rattle.scx_abs.specs.States.{CoversState, IsProper, start_of}
 use Rattle.scx_abs.specs.Arguments.{FitsCallback}
 use Rattle.scx_abs.specs.Stands.{IsMember}
-use Rattle.scx_abs.specs.Rules.{rule}
+use Rattle.scx_abs.specs.Rules.{null_test, rule}
 
 -- a state flows there, and stands for this one
 abbrev pub Receives : List Shape → Option AbsState → Machine → Type 0
@@ -46,6 +48,24 @@ abbrev pub RulesAreSound : Type 0
 RulesAreSound =
     (shapes : List Shape) (c : Callback) (i : Insn) (a : AbsState) (m : Machine)
     → IsInsn i → IsMember shapes a m → IsSoundFor shapes (rule shapes c i a) (act c i m)
+
+-- whether it is a call of a helper, or a jump that tests a register for 0
+abbrev pub is_call_or_null_test : Insn → Bool
+is_call_or_null_test (insn.Call k) = true
+is_call_or_null_test (insn.JumpIf w k r offset x) = is_some (null_test w k x)
+is_call_or_null_test i = false
+
+-- The same of all instructions but those.
+abbrev pub PlainRulesAreSound : Type 0
+PlainRulesAreSound =
+    (shapes : List Shape) (c : Callback) (i : Insn) (a : AbsState) (m : Machine)
+    → IsFalse (is_call_or_null_test i) → IsInsn i → IsMember shapes a m → IsSoundFor shapes (rule shapes c i a) (act c i m)
+
+-- The same of those.
+abbrev pub CallsAndNullTestsAreSound : Type 0
+CallsAndNullTestsAreSound =
+    (shapes : List Shape) (c : Callback) (i : Insn) (a : AbsState) (m : Machine)
+    → IsTrue (is_call_or_null_test i) → IsInsn i → IsMember shapes a m → IsSoundFor shapes (rule shapes c i a) (act c i m)
 
 -- A callback's start state stands for all states in which it may begin.
 abbrev pub StartIsSound : Type 0

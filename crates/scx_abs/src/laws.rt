@@ -1,4 +1,5 @@
 ghost use Rattle.scx_abs.specs.Laws.{RulesAreSound, StartIsSound, CoversMore, CoversItself, CoversThrough, CoversBothWays};
+ghost use Rattle.scx_abs.specs.Laws.{PlainRulesAreSound, CallsAndNullTestsAreSound};
 ghost use Rattle.scx_abs.specs.Laws.{StartIsProper, RulesKeepProper};
 ghost use Rattle.scx_abs.specs.Monotone.{RulesAreMonotone, JoinOfKindsIsLeast, JoinOfCellsIsLeast, JoinsAreMonotone};
 
@@ -12,6 +13,18 @@ pub fn rules_are_sound()
     ensures reflexive { CoversItself }
     ensures transitive { CoversThrough }
     ensures antisymmetric { CoversBothWays }
+{}
+
+/// What `rules_are_sound` says of the rules, for all instructions but calls of helpers and jumps that
+/// test a register for 0. The function does nothing: its contract is the law.
+pub fn plain_rules_are_sound()
+    ensures { PlainRulesAreSound }
+{}
+
+/// The same for calls of helpers and jumps that test a register for 0. The function does nothing: its
+/// contract is the law.
+pub fn calls_and_null_tests_are_sound()
+    ensures { CallsAndNullTestsAreSound }
 {}
 
 /// A callback begins in a proper state, and what flows on from one is proper. The function does

@@ -4,6 +4,8 @@
 //! `start` gives the state in which a callback begins, `transfer` what flows on from an instruction,
 //! or the first of its checks that fails, and `join` the least state that covers two. The rules are
 //! sound: `rules_are_sound` says that where the checks pass no state that is stood for is stuck.
+//! `calls_and_null_tests_are_sound` says so of calls of helpers and of tests for null, and
+//! `plain_rules_are_sound` of all other instructions.
 #![tactic(auto)]
 
 mod arithmetic;
@@ -19,7 +21,10 @@ mod states;
 
 pub use faults::Why;
 pub use kinds::{CELL_BYTES, Cell, Kind};
-pub use laws::{joins_are_least, rules_are_monotone, rules_are_sound, states_are_proper};
+pub use laws::{
+    calls_and_null_tests_are_sound, joins_are_least, plain_rules_are_sound, rules_are_monotone,
+    rules_are_sound, states_are_proper,
+};
 pub use memory::{Area, area_of};
 pub use rules::{Context, Next, transfer};
 pub use states::{AbsState, CELLS, REGISTERS, join, start};
