@@ -1,7 +1,8 @@
 #!/usr/bin/env python3
 """How many slots a second are decoded, encoded, assembled, disassembled and verified, how many numbers of
-an array map are loaded and stored, how many callbacks are verified, how many events a machine does, and
-how many instructions a run takes, beside plain Rust that does the same work.
+an array map are loaded and stored, how many pushes, pops and removals a queue takes, how many callbacks
+are verified, how many events a machine does, and how many instructions a run takes, beside plain Rust that
+does the same work.
 
 Straight-line, branching and stack-heavy programs of 40, 400 and 4000 slots are worked on by the
 program of crates/scx_bench and by bench/plain.rs, in turn; for `asm` their text, in which jumps go to
@@ -74,6 +75,9 @@ VERIFIED = {
 SIZES = [40, 400, 4000]
 MOST = 4096  # slots of a program
 TIMES = [1, 10, 100]
+TASKS = [1, 16, 256, 1024]
+CALLS = 4  # of a queue: a pop, a removal and two pushes
+QUEUE_TIMES = {"queues_fifo": 10_000_000, "queues_vtime": 2_000_000}
 CALLBACKS = 6
 CALLBACK_TIMES = 100_000
 COUNTING_STEPS = 32  # instructions that the program that counts in a map does
@@ -152,6 +156,13 @@ def measure_verify(binaries, path):
             show("verify", name, times * MOST, times * MOST, taken)
 
 
+def measure_queues(binaries):
+    for work, times in QUEUE_TIMES.items():
+        for tasks in TASKS:
+            taken = compare(binaries, str(tasks), (work, times), (work, 1), 5)
+            show("queues", work.split("_")[1], tasks, CALLS * times, taken)
+
+
 def instructions(binary, work, path):
     """How many instructions of the processor one more piece of the work takes."""
     counts = []
@@ -216,6 +227,8 @@ def main():
         if only in (None, "maps"):
             times = 20_000_000
             show("maps", "add one", "", times, compare([ours, plain], "-", ("maps", times), ("maps", 1), 5))
+        if only in (None, "queues"):
+            measure_queues([ours, plain])
         if only in (None, "callbacks"):
             times = CALLBACK_TIMES
             taken = compare([ours, plain], "-", ("verify_callbacks", times), ("verify_callbacks", 1), 5)

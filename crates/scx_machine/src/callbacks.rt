@@ -16,7 +16,7 @@ use crate::policy::Policy;
 use crate::sink::Sink;
 use scx_isa::Callback;
 use scx_maps::Maps;
-use scx_run::run;
+use scx_run::{Core, run_on};
 use scx_verify::Verified;
 use scx_vm::{Argument, Arguments};
 use scx_world::World;
@@ -24,6 +24,7 @@ use scx_world::World;
 /// Runs a callback of the policy, and answers what its program does. One that is absent answers 0.
 #[tactic(auto, unfolding(crate::specs::Callbacks::called))]
 pub(crate) fn run_callback(
+    core: &mut Core,
     policy: &Policy,
     callback: Callback,
     arguments: Arguments,
@@ -40,13 +41,19 @@ pub(crate) fn run_callback(
     ensures few { world.new.queues.pushes ≤ world.old.queues.pushes + 4096 }
 {
     match policy.program(callback) {
-        Some(program) => run_program(program, arguments, maps, world),
+        Some(program) => run_program(core, program, arguments, maps, world),
         None => 0,
     }
 }
 
 /// Runs a program as the callback that it was verified for.
-fn run_program(program: &Verified, arguments: Arguments, maps: &mut Maps, world: &mut World) -> u64
+fn run_program(
+    core: &mut Core,
+    program: &Verified,
+    arguments: Arguments,
+    maps: &mut Maps,
+    world: &mut World,
+) -> u64
     requires shapes { HasShapes program.now.context.defs maps.old }
     requires arguments { FitsCallback program.now.context.callback (given arguments) }
     requires quiet { world.old.notes ≡ [] }
@@ -58,7 +65,7 @@ fn run_program(program: &Verified, arguments: Arguments, maps: &mut Maps, world:
     ensures few { world.new.queues.pushes ≤ world.old.queues.pushes + 4096 }
 {
     let _short = program.instructions();
-    run(program, arguments, maps, world).r0
+    run_on(core, program, arguments, maps, world).r0
 }
 
 /// Hands the notes that wait to the sink.
@@ -140,6 +147,7 @@ impl Machine {
     {
         self.world.begin(callback, task, cpu);
         run_callback(
+            &mut self.core,
             &self.policy,
             callback,
             arguments,

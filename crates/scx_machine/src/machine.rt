@@ -3,6 +3,7 @@ ghost use Rattle.scx_machine.specs.Cycle.{has_local, asks_again};
 
 use crate::policy::Policy;
 use scx_maps::Maps;
+use scx_run::Core;
 use scx_world::World;
 use std::marker::Model;
 
@@ -12,6 +13,8 @@ pub struct Machine {
     pub(crate) policy: Policy,
     pub(crate) maps: Maps,
     pub(crate) world: World,
+    /// What programs run on, one after another.
+    pub(crate) core: Core,
 }
 
 impl Model for Machine {

@@ -10,6 +10,7 @@ use crate::machine::Machine;
 use crate::policy::Policy;
 use scx_isa::Callback;
 use scx_maps::Maps;
+use scx_run::Core;
 use scx_vm::Arguments;
 use scx_weights::Tree;
 use scx_world::World;
@@ -76,6 +77,7 @@ impl Machine {
             policy,
             maps,
             world,
+            core: Core::new(),
         })
     }
 
@@ -103,6 +105,7 @@ impl Machine {
     {
         self.world.begin(Callback::Init, 0, 0);
         let answer = run_callback(
+            &mut self.core,
             &self.policy,
             Callback::Init,
             Arguments::NONE,
@@ -149,6 +152,7 @@ impl Machine {
     {
         self.world.begin(Callback::Enable, task, 0);
         run_callback(
+            &mut self.core,
             &self.policy,
             Callback::Enable,
             one_task(task),
