@@ -1,0 +1,7 @@
+//! Tests of policy and workload files, and of the events of a workload.
+#![tactic(auto)]
+
+#[cfg(test)]
+mod driver;
+#[cfg(test)]
+mod workloads;
