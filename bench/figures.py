@@ -1,7 +1,7 @@
 #!/usr/bin/env python3
-"""How many slots a second are decoded, encoded, run, assembled, disassembled and verified, how many
-numbers of an array map are loaded and stored, and how many callbacks are verified and run, beside plain
-Rust that does the same work.
+"""How many slots a second are decoded, encoded, assembled, disassembled and verified, how many numbers of
+an array map are loaded and stored, how many callbacks are verified, how many events a machine does, and
+how many instructions a run takes, beside plain Rust that does the same work.
 
 Straight-line, branching and stack-heavy programs of 40, 400 and 4000 slots are worked on by the
 program of crates/scx_bench and by bench/plain.rs, in turn; for `asm` their text, in which jumps go to
@@ -10,12 +10,20 @@ diamonds (two sides of one slot each that meet again), and stores all over the s
 processor time of the best of some runs, of which the start of the process is taken off; from a
 verification also the decoding, since each takes a program of its own. The callbacks are the six of
 scx_simple with one map of one value, each in its turn; to verify one counts as decoding it and verifying
-it, and to run one as a run over a host of one task. The ratio is our time to that of plain Rust. Needs
-rustc.
+it, and to run one as a run over a host of one task. A machine has all its tasks runnable, and its
+processors and the clock tick in turn: under a policy of one queue and slices of 2 ms, and under the
+callbacks of scx_simple. Its events are counted, and beside them the callbacks that they call. The ratio
+is our time to that of plain Rust. Needs rustc.
+
+Runs are short, so their figures are instructions of the processor, counted by callgrind: for each
+instruction of the program that is done, or for each callback. Beside ours stand two interpreters in plain
+Rust, one with a tag on each value, which tests all that could go wrong, and one over programs that were
+decoded once and that tests nothing. Needs valgrind too.
 
   bench/figures.py [--only WORK] [PATH_OF_scx_bench]     (default: all work; builds scx_bench)
 """
 import os
+import re
 import resource
 import subprocess
 import sys
@@ -67,8 +75,13 @@ SIZES = [40, 400, 4000]
 MOST = 4096  # slots of a program
 TIMES = [1, 10, 100]
 CALLBACKS = 6
-CALLBACK_TIMES = {"verify_callbacks": 100_000, "run_callbacks": 2_000_000}
-UNITS = {"decode": 10_000_000, "encode": 10_000_000, "run": 20_000_000, "asm": 1_000_000, "dis": 2_000_000}
+CALLBACK_TIMES = 100_000
+COUNTING_STEPS = 32  # instructions that the program that counts in a map does
+SHAPES = {"small": (1, 2), "middle": (8, 64), "large": (64, 1024)}
+ROUNDS = {"small": 2_000_000, "middle": 400_000, "large": 50_000}
+# how many ticks of a processor pass from one switch to the next, and how many callbacks that takes
+POLICIES = {"two_ms": (2, 2), "simple": (20, 4)}
+UNITS = {"decode": 10_000_000, "encode": 10_000_000, "asm": 1_000_000, "dis": 2_000_000}
 
 
 def program(slots, body):
@@ -117,7 +130,7 @@ def compare(binaries, path, work, before, runs):
 
 def show(work, name, slots, units, taken):
     a, b = taken
-    print("%-8s %-10s %6s %15.0f %15.0f %7.2f" % (work, name, slots, units / a, units / b, a / b), flush=True)
+    print("%-8s %-14s %6s %15.0f %15.0f %7.2f" % (work, name, slots, units / a, units / b, a / b), flush=True)
 
 
 def measure(work, binaries, path):
@@ -139,10 +152,49 @@ def measure_verify(binaries, path):
             show("verify", name, times * MOST, times * MOST, taken)
 
 
-def measure_callbacks(binaries):
-    for work, times in CALLBACK_TIMES.items():
-        taken = compare(binaries, "-", (work, times), (work, 1), 5)
-        show("callback", work.split("_")[0], "", CALLBACKS * times, taken)
+def instructions(binary, work, path):
+    """How many instructions of the processor one more piece of the work takes."""
+    counts = []
+    for times in (1, 101):
+        command = ["valgrind", "--tool=callgrind", "--callgrind-out-file=/dev/null", binary, work, path, str(times)]
+        run = subprocess.run(command, capture_output=True, text=True, check=True)
+        counts.append(int(re.search(r"Collected : (\d+)", run.stderr)[1]))
+    return (counts[1] - counts[0]) / 100
+
+
+def show_run(work, name, slots, binaries, words, path, units):
+    """`words` name the work to us, to the interpreter with tags and to the one of predecoded programs."""
+    ours, tagged, predecoded = (
+        instructions(binaries[min(i, 1)], word, path) / units for i, word in enumerate(words)
+    )
+    figures = (ours, tagged, predecoded, ours / tagged, ours / predecoded)
+    print("%-8s %-10s %6s %12.1f %12.1f %12.1f %8.2f %8.2f" % (work, name, slots, *figures), flush=True)
+
+
+def measure_run(binaries, path):
+    print("%-8s %-10s %6s %12s %12s %12s %8s %8s" % ("work", "program", "slots", "scxsim", "tagged", "predecoded", "ratio", "ratio"))
+    for name, body in PROGRAMS.items():
+        for slots in SIZES:
+            with open(path, "wb") as file:
+                file.write(program(slots, body)[0])
+            line = subprocess.run([binaries[1], "exec", path], capture_output=True, text=True, check=True).stdout
+            steps = int(re.search(r"in (\d+) steps", line)[1])
+            show_run("run", name, slots, binaries, ("run", "run", "predecoded"), path, steps)
+    words = ("run_counting", "run_counting", "predecoded_counting")
+    show_run("run", "map", "", binaries, words, "-", COUNTING_STEPS)
+    words = ("run_callbacks", "run_callbacks", "predecoded_callbacks")
+    show_run("callback", "run", "", binaries, words, "-", CALLBACKS)
+
+
+def measure_machines(binaries):
+    """Rows of events, and of callbacks, a second."""
+    for policy, (ticks, callbacks) in POLICIES.items():
+        for shape, (cpus, tasks) in SHAPES.items():
+            rounds = ROUNDS[shape]
+            taken = compare(binaries, shape, (policy, rounds), (policy, 1), 5)
+            name = "%s %s" % (policy, shape)
+            show("events", name, tasks, rounds * (cpus + 1), taken)
+            show("calls", name, tasks, rounds * cpus // ticks * callbacks, taken)
 
 
 def main():
@@ -154,7 +206,8 @@ def main():
         plain, path = os.path.join(folder, "plain"), os.path.join(folder, "program")
         source = os.path.join(TOP, "bench", "plain.rs")
         subprocess.run(["rustc", "-O", "--edition", "2021", "-o", plain, source], check=True)
-        print("%-8s %-10s %6s %15s %15s %7s" % ("work", "program", "slots", "scxsim a second", "plain a second", "ratio"))
+        if only != "run":
+            print("%-8s %-14s %6s %15s %15s %7s" % ("work", "program", "size", "scxsim a second", "plain a second", "ratio"))
         for work in UNITS:
             if only in (None, work):
                 measure(work, [ours, plain], path)
@@ -164,7 +217,13 @@ def main():
             times = 20_000_000
             show("maps", "add one", "", times, compare([ours, plain], "-", ("maps", times), ("maps", 1), 5))
         if only in (None, "callbacks"):
-            measure_callbacks([ours, plain])
+            times = CALLBACK_TIMES
+            taken = compare([ours, plain], "-", ("verify_callbacks", times), ("verify_callbacks", 1), 5)
+            show("callback", "verify", "", CALLBACKS * times, taken)
+        if only in (None, "machines"):
+            measure_machines([ours, plain])
+        if only in (None, "run"):
+            measure_run([ours, plain], path)
 
 
 main()

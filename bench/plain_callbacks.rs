@@ -1,11 +1,13 @@
 //! The callbacks of scx_simple in plain Rust: what they are given, helpers and fields of tasks, a host of
 //! one task, and the work of `verify_callbacks` and `run_callbacks`.
 
-use crate::{ArrayMap, Value, decode, encode, flow, plain_text, plain_verify, run_callback};
+use crate::{ArrayMap, Value, decode, encode, flow, plain_ops, plain_text, plain_verify, run_callback};
 use std::hint::black_box;
 
-/// The texts of the callbacks, each as `pub const NAME: &str = "TEXT";`.
-const TEXTS: &str = include_str!("../crates/scx_examples/src/simple.rt");
+/// The texts of the callbacks, and that of the program that counts, each as `pub const NAME: &str =
+/// "TEXT";`.
+const TEXTS: &str =
+    concat!(include_str!("../crates/scx_examples/src/simple.rt"), include_str!("../crates/scx_bench/src/callbacks.rt"));
 
 #[derive(Clone, Copy, PartialEq)]
 pub enum Callback {
@@ -117,6 +119,13 @@ impl Field {
     }
 }
 
+/// What answers a program's helper calls, and keeps the fields of its tasks.
+pub trait Host {
+    fn call(&mut self, helper: Helper, given: [Value; 5]) -> u64;
+    fn load(&self, task: u16, field: Field) -> u64;
+    fn store(&mut self, task: u16, field: Field, number: u64);
+}
+
 /// A host of one task, which answers 0 to each helper call and keeps the last one.
 pub struct OneTask {
     weight: u32,
@@ -130,13 +139,15 @@ impl OneTask {
     pub fn new() -> OneTask {
         OneTask { weight: 50, slice: 5_000_000, vtime: 1000, called: None, given: [Value::Unset; 5] }
     }
+}
 
-    pub fn call(&mut self, helper: Helper, given: [Value; 5]) -> u64 {
+impl Host for OneTask {
+    fn call(&mut self, helper: Helper, given: [Value; 5]) -> u64 {
         (self.called, self.given) = (Some(helper), given);
         0
     }
 
-    pub fn load(&self, field: Field) -> u64 {
+    fn load(&self, _task: u16, field: Field) -> u64 {
         match field {
             Field::Pid => 7,
             Field::Weight => u64::from(self.weight),
@@ -146,7 +157,7 @@ impl OneTask {
         }
     }
 
-    pub fn store(&mut self, field: Field, number: u64) {
+    fn store(&mut self, _task: u16, field: Field, number: u64) {
         match field {
             Field::Slice => self.slice = number,
             Field::DsqVtime => self.vtime = number,
@@ -156,7 +167,7 @@ impl OneTask {
 }
 
 /// The text of that name.
-fn text(name: &str) -> &'static str {
+pub fn text(name: &str) -> &'static str {
     let start = format!("pub const {name}: &str = \"");
     let from = TEXTS.find(&start).expect("the text") + start.len();
     &TEXTS[from..from + TEXTS[from..].find('"').expect("its end")]
@@ -188,16 +199,43 @@ fn given(callback: Callback) -> [Value; 2] {
 }
 
 pub fn run_callbacks(times: u64) -> u64 {
+    CALLBACKS.iter().fold(0, |sum, (callback, name)| sum.wrapping_add(run_one(*callback, name, times)))
+}
+
+pub fn run_counting(times: u64) -> u64 {
+    run_one(Init, "COUNTING", times)
+}
+
+fn run_one(callback: Callback, name: &str, times: u64) -> u64 {
+    let code = plain_text::assemble(text(name)).expect("a program");
+    assert!(flow(&code), "control that goes forward");
+    let (mut maps, mut host) = ([ArrayMap::new(1, 8)], OneTask::new());
     let mut sum = 0u64;
-    for (callback, name) in CALLBACKS {
-        let code = plain_text::assemble(text(name)).expect("a program");
-        assert!(flow(&code), "control that goes forward");
-        let (mut maps, mut host) = ([ArrayMap::new(1, 8)], OneTask::new());
-        for _ in 0..times {
-            let ran = run_callback(black_box(&code), callback, given(callback), &mut maps, black_box(&mut host));
-            let steps = ran.map_or_else(|slot| slot, |(_, steps)| steps);
-            sum = sum.wrapping_add(steps as u64).wrapping_add(host.vtime);
-        }
+    for _ in 0..times {
+        let ran = run_callback(black_box(&code), callback, given(callback), &mut maps, black_box(&mut host));
+        let steps = ran.map_or_else(|slot| slot, |(_, steps)| steps);
+        sum = sum.wrapping_add(steps as u64).wrapping_add(host.vtime);
+    }
+    sum
+}
+
+/// The same of callbacks that are decoded once.
+pub fn run_predecoded(times: u64) -> u64 {
+    CALLBACKS.iter().fold(0, |sum, (callback, name)| sum.wrapping_add(run_predecoded_one(*callback, name, times)))
+}
+
+pub fn run_predecoded_counting(times: u64) -> u64 {
+    run_predecoded_one(Init, "COUNTING", times)
+}
+
+fn run_predecoded_one(callback: Callback, name: &str, times: u64) -> u64 {
+    let code = plain_text::assemble(text(name)).expect("a program");
+    let ops = plain_ops::predecode(&code, callback, &[8]).expect("an accepted program");
+    let (mut maps, mut host) = ([ArrayMap::new(1, 8)], OneTask::new());
+    let mut sum = 0u64;
+    for _ in 0..times {
+        let (_, steps) = plain_ops::run(black_box(&ops), given(callback), &mut maps, black_box(&mut host));
+        sum = sum.wrapping_add(steps as u64).wrapping_add(host.vtime);
     }
     sum
 }

@@ -56,12 +56,14 @@ struct Context<'a> {
     sizes: &'a [u16],
 }
 
-enum Place {
+/// Which memory an access takes.
+#[derive(Clone, Copy)]
+pub enum Area {
     OnStack(usize),
     InElement,
     InTask(Field),
 }
-use Place::*;
+use Area::*;
 
 /// Which ways control goes on: not, on, to the target, or both, where one register may become known.
 enum Ways {
@@ -292,7 +294,7 @@ fn map_kind(map: i32, sizes: &[u16]) -> Result<Kind, Why> {
 }
 
 /// The place that an address means.
-fn place(base: Kind, offset: i16, size: u8, sizes: &[u16]) -> Result<Place, Why> {
+fn place(base: Kind, offset: i16, size: u8, sizes: &[u16]) -> Result<Area, Why> {
     match base {
         Stack(at) => Ok(OnStack(room_at(512, at, offset, size)?)),
         Elem(map, at) => room_at(sizes[usize::from(map)], at, offset, size).map(|_| InElement),
@@ -337,6 +339,24 @@ fn give(place: &mut Option<State>, state: &State) {
 /// Whether a program whose control goes forward is safe as that callback, with maps whose values have
 /// so many bytes; or the first check that fails, and its slot.
 pub fn verify(code: &[Option<Insn>], callback: Callback, sizes: &[u16]) -> Result<(), (Why, usize)> {
+    states(code, callback, sizes).map(|_| ())
+}
+
+/// Which memory the access at each slot takes, where there is one that control comes to.
+pub fn areas(code: &[Option<Insn>], callback: Callback, sizes: &[u16]) -> Result<Vec<Option<Area>>, (Why, usize)> {
+    let states = states(code, callback, sizes)?;
+    Ok(code.iter().zip(&states).map(|(insn, state)| {
+        let kind = |register: u8| Some(state.as_ref()?.registers[usize::from(register)]);
+        match *insn {
+            Some(Load { size, base, offset, .. } | Store { size, base, offset, .. }) => place(kind(base)?, offset, size, sizes).ok(),
+            Some(Call(1)) => place(kind(2)?, 0, 4, sizes).ok(),
+            _ => None,
+        }
+    }).collect())
+}
+
+/// What is known before each slot that control comes to.
+fn states(code: &[Option<Insn>], callback: Callback, sizes: &[u16]) -> Result<Vec<Option<State>>, (Why, usize)> {
     let context = Context { callback, sizes };
     let mut states = vec![None; code.len()];
     states[0] = Some(State::start(callback));
@@ -361,5 +381,5 @@ pub fn verify(code: &[Option<Insn>], callback: Callback, sizes: &[u16]) -> Resul
             }
         }
     }
-    Ok(())
+    Ok(states)
 }

@@ -1,5 +1,5 @@
-//! The callbacks of scx_simple, with one map of one value of eight bytes: each is verified, or run, as
-//! often as is wanted.
+//! The callbacks of scx_simple and a program that counts, with one map of one value of eight bytes: each
+//! is verified, or run, as often as is wanted.
 
 ghost use Rattle.scx_abs.specs.Arguments.{FitsCallback};
 ghost use Rattle.scx_vm.specs.Arguments as values;
@@ -9,7 +9,7 @@ use scx_asm::assemble;
 use scx_examples::{DISPATCH, ENABLE, ENQUEUE, INIT, OneTask, RUNNING, STOPPING};
 use scx_isa::{Callback, TaskId, decode, encode};
 use scx_maps::{MapDefs, Maps, Shape};
-use scx_run::run;
+use scx_run::{Core, run_on};
 use scx_verify::{Verified, verify};
 use scx_vm::{Argument, Arguments};
 use std::alloc::Global;
@@ -23,6 +23,42 @@ const CALLBACKS: [(Callback, &str); 6] = [
     (Callback::Running, RUNNING),
     (Callback::Stopping, STOPPING),
 ];
+
+/// Adds to the value of map 0, eight times.
+pub const COUNTING: &str = "*(u32 *)(r10 - 4) = 0
+r2 = r10
+r2 += -4
+r1 = map 0
+call 1
+if r0 == 0 goto out
+r1 = *(u64 *)(r0 + 0)
+r1 += 1
+*(u64 *)(r0 + 0) = r1
+r1 = *(u64 *)(r0 + 0)
+r1 += 2
+*(u64 *)(r0 + 0) = r1
+r1 = *(u64 *)(r0 + 0)
+r1 += 3
+*(u64 *)(r0 + 0) = r1
+r1 = *(u64 *)(r0 + 0)
+r1 += 4
+*(u64 *)(r0 + 0) = r1
+r1 = *(u64 *)(r0 + 0)
+r1 += 5
+*(u64 *)(r0 + 0) = r1
+r1 = *(u64 *)(r0 + 0)
+r1 += 6
+*(u64 *)(r0 + 0) = r1
+r1 = *(u64 *)(r0 + 0)
+r1 += 7
+*(u64 *)(r0 + 0) = r1
+r1 = *(u64 *)(r0 + 0)
+r1 += 8
+*(u64 *)(r0 + 0) = r1
+out:
+r0 = 0
+exit
+";
 
 /// One map of one value of eight bytes.
 const CLOCK: [Shape; 1] = [Shape {
@@ -61,6 +97,11 @@ pub(crate) fn run_callbacks(alloc: Global, times: u64) -> Sum {
     Some(sum)
 }
 
+/// Runs the program that counts so many times.
+pub(crate) fn run_counting(alloc: Global, times: u64) -> Sum {
+    run_one(alloc, Callback::Init, COUNTING, times)
+}
+
 /// Runs a callback so many times.
 fn run_one(alloc: Global, callback: Callback, text: &str, times: u64) -> Sum {
     let defs = MapDefs::new(&CLOCK).ok()?;
@@ -73,12 +114,13 @@ fn run_one(alloc: Global, callback: Callback, text: &str, times: u64) -> Sum {
 fn run_times(alloc: Global, verified: &Verified, times: u64) -> Sum {
     let mut maps = Maps::new(alloc, verified.defs()).ok()?;
     let mut host = host();
+    let mut core = Core::new();
     let arguments = given(verified.callback());
     // The host has room for as many calls as can be counted.
     let _instructions = verified.instructions();
     let mut sum = 0u64;
     for _ in 0..times {
-        let done = run(verified, arguments, &mut maps, &mut host);
+        let done = run_on(&mut core, verified, arguments, &mut maps, &mut host);
         sum = sum.wrapping_add(done.steps as u64).wrapping_add(host.vtime);
     }
     Some(sum)

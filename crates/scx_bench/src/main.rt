@@ -1,17 +1,20 @@
 //! The program `scx_bench`, which does one piece of work over and over, so that `bench/figures.py` can
 //! time it: `scx_bench decode|encode|run|verify|dis FILE TIMES` on a file of raw slots, `scx_bench asm
-//! FILE TIMES` on a text, `scx_bench maps - TIMES` on an array map, and `scx_bench
-//! verify_callbacks|run_callbacks - TIMES` on the callbacks of scx_simple. It prints a number that
-//! depends on all of the work.
+//! FILE TIMES` on a text, `scx_bench maps - TIMES` on an array map, `scx_bench
+//! verify_callbacks|run_callbacks - TIMES` on the callbacks of scx_simple, `scx_bench run_counting - TIMES`
+//! on a program that counts in a map, and `scx_bench two_ms|simple SHAPE TIMES` on a machine, its shape
+//! being small, middle or large. It prints a number that depends on all of the work.
 #![tactic(auto)]
 
 mod callbacks;
+mod machine;
 
 ghost use Rattle.std.specs.Prelude.{◌≡◌, [], IfSome};
 ghost use Rattle.scx_semantics.specs.declared.callbacks.Callback.TheVariants.{Plain};
 ghost use Rattle.scx_verify.specs.Typing.{context};
 
-use crate::callbacks::{run_callbacks, verify_callbacks};
+use crate::callbacks::{run_callbacks, run_counting, verify_callbacks};
+use crate::machine::events;
 use scx_asm::{assemble, disassemble};
 use scx_isa::{Callback, Program, decode, encode};
 use scx_maps::{MapDefs, Maps, Shape, Size};
@@ -48,6 +51,8 @@ fn bench<R: AllocGlobal + Env + Files>(rt: &R) -> Sum {
         "maps" => counts(rt.alloc(), times),
         "verify_callbacks" => verify_callbacks(rt.alloc(), times),
         "run_callbacks" => run_callbacks(rt.alloc(), times),
+        "run_counting" => run_counting(rt.alloc(), times),
+        "two_ms" | "simple" => events(rt.alloc(), work.as_str(), path.as_str(), times),
         _ => on_file(rt, work.as_str(), path.as_str(), times),
     }
 }

@@ -1,4 +1,3 @@
-pub mod Output
 pub mod Refusals
 pub mod Outcome
 pub mod Lines

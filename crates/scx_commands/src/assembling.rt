@@ -1,12 +1,12 @@
 ghost use Rattle.std.specs.Prelude.{◌≡◌, ℕ, ◌<◌, List, length, true, Err, IfOk, IfErr, OnOk};
 ghost use Rattle.std.specs.Io.KnownBytes.{Appends};
 ghost use Rattle.scx_commands.specs.declared.file.TheConstants.{FILE_LIMIT};
-ghost use Rattle.scx_commands.specs.Output.{HasFailed, AppendsBeginning};
+ghost use Rattle.scx_output.specs.Output.{HasFailed, AppendsBeginning};
 ghost use Rattle.scx_commands.specs.Outcome.{IfRefused, IsRefused};
 ghost use Rattle.scx_commands.specs.Text.{IsText, IsAssembled, IsAsmCause};
 
 use crate::fault::{Fault, Refusal};
-use crate::out::{Out, write_all};
+use scx_output::{Out, write_all};
 use crate::texts::text;
 use scx_asm::assemble;
 use scx_isa::encode;

@@ -1,13 +1,13 @@
 ghost use Rattle.std.specs.Prelude.{◌≡◌, ℕ, ◌<◌, List, length, true, Err, IfOk, IfErr, OnOk};
 ghost use Rattle.std.specs.Io.KnownBytes.{Appends};
 ghost use Rattle.std.specs.String.{string_bytes};
-ghost use Rattle.scx_commands.specs.Output.{HasFailed, AppendsBeginning};
+ghost use Rattle.scx_output.specs.Output.{HasFailed, AppendsBeginning};
 ghost use Rattle.scx_commands.specs.Outcome.{IfRefused, IsRefused};
 ghost use Rattle.scx_commands.specs.Text.{IsDisassembled, IsDisCause};
 
 use crate::fault::{Fault, Refusal};
 use crate::file::FILE_LIMIT;
-use crate::out::{Out, write_all};
+use scx_output::{Out, write_all};
 use scx_asm::disassemble;
 use scx_isa::decode;
 use std::alloc::Global;

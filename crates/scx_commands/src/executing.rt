@@ -1,7 +1,7 @@
 ghost use Rattle.std.specs.Prelude.{◌≡◌, ℕ, ◌<◌, length, true, Err, IfOk, IfErr, OnOk};
 ghost use Rattle.std.specs.Io.KnownBytes.{Appends};
 ghost use Rattle.scx_vm.specs.declared.ending.Done.{Done};
-ghost use Rattle.scx_commands.specs.Output.{HasFailed, AppendsBeginning};
+ghost use Rattle.scx_output.specs.Output.{HasFailed, AppendsBeginning};
 ghost use Rattle.scx_commands.specs.Outcome.{IfRefused, IsRefused};
 ghost use Rattle.scx_commands.specs.Exec.{HasRun, IsCause};
 ghost use Rattle.scx_commands.specs.Lines as lines;
@@ -9,7 +9,7 @@ ghost use Rattle.scx_commands.specs.Lines as lines;
 use crate::fault::{Fault, Refusal};
 use crate::file::FILE_LIMIT;
 use crate::lines::done_line;
-use crate::out::{Out, write_all};
+use scx_output::{Out, write_all};
 use scx_isa::{Callback, decode};
 use scx_maps::MapDefs;
 use scx_run::run_alone;

@@ -3,7 +3,7 @@ ghost use Rattle.scx_commands.specs.Refusals.{decode_refusal, verify_refusal, as
 ghost use Rattle.scx_commands.specs.declared.fault.Refusal.TheVariants.{NoMemory};
 ghost use Rattle.scx_commands.specs.declared.fault.Fault.TheVariants.{Refused, WriteFailed};
 
-use crate::out::Failed;
+use scx_output::Failed;
 use scx_asm::{AsmError, AsmFault};
 use scx_isa::{DecodeError, DecodeFault};
 use scx_verify::{self as verifier, VerifyError};

@@ -1,12 +1,12 @@
 ghost use Rattle.std.specs.Prelude.{◌≡◌, ◌⊎◌, Bool, true, false, Ok, Err, Result, OnOk};
 ghost use Rattle.std.specs.Io.KnownBytes.{Appends};
-ghost use Rattle.scx_commands.specs.Output.{HasFailed, AppendsBeginning};
+ghost use Rattle.scx_output.specs.Output.{HasFailed, AppendsBeginning};
 ghost use Rattle.scx_commands.specs.Lines.{refusal_line as refusal_text};
 ghost use Rattle.scx_commands.specs.Outcome.{IfRefused, IsRefused};
 
 use crate::fault::Fault;
 use crate::lines::refusal_line;
-use crate::out::{Out, write_all};
+use scx_output::{Out, write_all};
 use crate::status::{DONE, FAILED, REFUSED};
 
 /// Ends a command: writes the line of a refusal, and answers the status of the process. `Ok(false)` is

@@ -3,7 +3,6 @@
 #![tactic(auto)]
 
 mod assembling;
-mod counted;
 mod disassembling;
 mod executing;
 mod fault;
@@ -11,12 +10,10 @@ mod file;
 mod finishing;
 mod hints;
 mod lines;
-mod out;
 mod status;
 mod texts;
 
 pub use assembling::asm;
-pub use counted::Counted;
 pub use disassembling::dis;
 pub use executing::exec;
 pub use fault::{Fault, Refusal};
@@ -24,6 +21,6 @@ pub use file::{FILE_LIMIT, read_file};
 pub use finishing::finish;
 pub use hints::{Hint, hint_of_slots, hint_of_text};
 pub use lines::write_unread;
-pub use out::{Failed, Out, write_all};
+pub use scx_output::{Counted, Failed, Out, write_all};
 pub use status::{DONE, FAILED, REFUSED, USAGE};
 pub use texts::text;

@@ -1,11 +1,11 @@
 ghost use Rattle.std.specs.Prelude.{◌≡◌, ◌+◌, ◌≤◌, ◌++◌, length, codes, decimal, OnOk, OnErr};
 ghost use Rattle.std.specs.Io.KnownBytes.{Appends};
 ghost use Rattle.arrayvec.specs.ArrayString.{array_string_len};
-ghost use Rattle.scx_commands.specs.Output.{HasFailed};
+ghost use Rattle.scx_output.specs.Output.{HasFailed};
 ghost use Rattle.scx_commands.specs.Lines as lines;
 
 use crate::fault::Refusal;
-use crate::out::{Failed, Out, write_all};
+use scx_output::{Failed, Out, write_all};
 use arrayvec::ArrayString;
 use itoa::Buffer;
 

@@ -4,23 +4,24 @@ use Rattle.std.specs.List.{list_any}
 use Rattle.std.proofs.lemmas.Bool.{both_ways, eq-eqb, eqb-true, and_parts, not-true, false_from_ne_true}
 use Rattle.std.proofs.lemmas.List.{get_or_default}
 use Rattle.std.proofs.lemmas.List.Folds.{list_any_at, list_any_none}
-use Rattle.std.proofs.lemmas.List.Elements.{All-nil}
 use Rattle.scx_dsq.specs.declared.places.Rank.{Rank}
 use Rattle.scx_dsq.specs.declared.places.Rank.TheVariants.{Fifo, Vtime}
 use Rattle.scx_dsq.specs.declared.places.Place.{Place}
-use Rattle.scx_dsq.specs.declared.lines.Entry.{Entry}
+use Rattle.scx_dsq.specs.declared.heap.Item.{Item}
 use Rattle.scx_dsq.specs.declared.links.Link.{Link}
 use Rattle.scx_dsq.specs.declared.queue.Queue.{Queue}
 use Rattle.scx_dsq.specs.Places.{same_sort, is_before}
 use Rattle.scx_dsq.specs.Queues.{QueueState, place_at, Waits, IsFront, front_of, len_of}
 use Rattle.scx_dsq.specs.Calls.{clashes}
-use Rattle.scx_dsq.specs.Laws.{HasOneSort, HasOwnStamps}
-use Rattle.scx_dsq.specs.Lines.{first_task, first_clashes}
+use Rattle.scx_dsq.specs.Laws.{HasOwnStamps}
+use Rattle.scx_dsq.specs.Heaps.{IsHeap, first_item}
+use Rattle.scx_dsq.specs.Holdings.{Holds, place_for}
 use Rattle.scx_dsq.specs.Links.{no_ends, or_else, In, NobodyIsIn, IsFirst, IsThreaded}
-use Rattle.scx_dsq.specs.Kept.{Lists, IsByVtime, IsOfOneSort, by_links, by_row, front_in, len_in, mixes}
+use Rattle.scx_dsq.specs.Kept.{IsOfOneSort, by_links, by_heap, front_in, len_in, mixes}
 use Rattle.scx_dsq.proofs.Standing.{waits_below}
 use Rattle.scx_dsq.proofs.Orders.{before_from}
-use Rattle.scx_dsq.proofs.Fronts.{NobodyIn, nobody_counts, nobody_clashes, front_is, no_front, row_first, row_empty, row_clashes}
+use Rattle.scx_dsq.proofs.Fronts.{NobodyIn, nobody_counts, nobody_clashes, front_is, no_front}
+use Rattle.scx_dsq.proofs.Holdings.{holds_front, holds_vtime}
 
 -- ---- an empty queue
 
@@ -32,14 +33,6 @@ threaded_empty s links id nobody = record {
   behind = λ t p w. absurd (nobody t p w);
   count = sym (nobody_counts s id nobody);
   sort = λ t p w. absurd (nobody t p w);
-}
-
-pub listed_empty : (s : QueueState) (id : ℕ) → NobodyIn s id → Lists s.places id []
-listed_empty s id nobody = record {
-  there = All-nil _;
-  all = λ t p e q. absurd (nobody t p (e, q));
-  count = sym (nobody_counts s id nobody);
-  ordered = λ a b d lt within. absurd (omega arith);
 }
 
 -- ---- the front
@@ -57,17 +50,13 @@ first_is_front s id f stamps sort h = record {
         let lt : h.place.stamp < other.stamp = omega arith in
         before_from h.place other (record { keys = rw (a, b) (omega arith); stamps = λ e. lt })
 
-pub form_front : (s : QueueState) (links : List Link) (q : Queue) → HasOwnStamps s → IsOfOneSort s.places links q → MatchOption (front_in q) (NobodyIn s q.id) (IsFront s q.id)
-form_front s links q stamps (by_links h empty) = go q.ends.first q.line.entries empty h.first
+pub form_front : (s : QueueState) (links : List Link) (q : Queue) → HasOwnStamps s → IsHeap q.heap.items → IsOfOneSort s.places links q → MatchOption (front_in q) (NobodyIn s q.id) (IsFront s q.id)
+form_front s links q stamps heap (by_links h empty) = go q.ends.first q.heap.items empty h.first
   where
-    go : (o : Option ℕ) (es : List Entry) → es ≡ [] → MatchOption o (NobodyIsIn s.places q.id) (IsFirst s.places q.id) → MatchOption (or_else o (first_task es)) (NobodyIn s q.id) (IsFront s q.id)
-    go None es e nobody = rw e nobody
-    go (Some f) es e k = first_is_front s q.id f stamps h.sort k
-form_front s links q stamps (by_row h sort none) = rw none (go q.line.entries h)
-  where
-    go : (es : List Entry) → Lists s.places q.id es → MatchOption (first_task es) (NobodyIn s q.id) (IsFront s q.id)
-    go [] l = row_empty s q.id [] l
-    go (e ∷ es) l = row_first s q.id (e ∷ es) l
+    go : (o : Option ℕ) (items : List Item) → items ≡ [] → MatchOption o (NobodyIsIn s.places q.id) (IsFirst s.places q.id) → MatchOption (or_else o (first_item items)) (NobodyIn s q.id) (IsFront s q.id)
+    go None items e nobody = rw e nobody
+    go (Some f) items e k = first_is_front s q.id f stamps h.sort k
+form_front s links q stamps heap (by_heap h none) = rw none (holds_front s q.id q.heap.items stamps heap h)
 
 pub front_answer : (s : QueueState) (id : ℕ) (o : Option ℕ) → MatchOption o (NobodyIn s id) (IsFront s id) → o ≡ front_of s id
 front_answer s id None nobody = sym (no_front s id nobody)
@@ -84,12 +73,12 @@ front_none s id (Some t) f = tt
 -- ---- how many
 
 pub form_len : (s : QueueState) (links : List Link) (q : Queue) → IsOfOneSort s.places links q → len_in q ≡ len_of s q.id
-form_len s links q (by_links h empty) = go q.ends.first q.line.entries empty h.first
+form_len s links q (by_links h empty) = go q.ends.first q.heap.items empty h.first
   where
-    go : (o : Option ℕ) (es : List Entry) → es ≡ [] → MatchOption o (NobodyIsIn s.places q.id) (IsFirst s.places q.id) → (if is_some o then q.ends.count else length es) ≡ len_of s q.id
-    go None es e nobody = rw e (sym (nobody_counts s q.id nobody))
-    go (Some f) es e k = h.count
-form_len s links q (by_row h sort none) = rw none h.count
+    go : (o : Option ℕ) (items : List Item) → items ≡ [] → MatchOption o (NobodyIsIn s.places q.id) (IsFirst s.places q.id) → (if is_some o then q.ends.count else length items) ≡ len_of s q.id
+    go None items e nobody = rw e (sym (nobody_counts s q.id nobody))
+    go (Some f) items e k = h.count
+form_len s links q (by_heap h none) = rw none h.count
 
 -- ---- whether a task would mix sorts
 
@@ -107,25 +96,23 @@ clash_at s id t p rank w unlike =
     let clash : clashes id rank (place_at s.places t) ≡ true = rw (w.0, eq-eqb p.queue id w.1, unlike) refl in
     list_any_at (clashes id rank) s.places t None (waits_below s.places t p w.0) clash
 
-row_mixes : (s : QueueState) (id : ℕ) (rank : Rank) (es : List Entry) → IsByVtime s.places id → Lists s.places id es → mixes rank (record { id = id; ends = no_ends; line = record { room = 0; entries = es } }) ≡ first_clashes rank es
-row_mixes s id Fifo [] sort h = refl
-row_mixes s id Fifo (e ∷ es) sort h = let there = h.there 0 e (omega arith) in rw (sort e.task e.place there) refl
-row_mixes s id (Vtime k) [] sort h = refl
-row_mixes s id (Vtime k) (e ∷ es) sort h = let there = h.there 0 e (omega arith) in go e.place.rank (sort e.task e.place there)
-  where
-    go : (r : Rank) → same_sort r Fifo ≡ false → false ≡ not (same_sort r (Vtime k))
-    go Fifo unlike = absurd (cc)
-    go (Vtime l) unlike = refl
+-- who waits by virtual time may wait with others who do
+by_vtime : (r : Rank) (k : ℕ) → same_sort r Fifo ≡ false → same_sort r (Vtime k) ≡ true
+by_vtime Fifo k unlike = absurd (cc)
+by_vtime (Vtime l) k unlike = refl
 
-pub form_clash : (s : QueueState) (rank : Rank) (links : List Link) (q : Queue) → HasOneSort s → IsOfOneSort s.places links q → mixes rank q ≡ list_any (clashes q.id rank) s.places
-form_clash s Fifo links q sorts (by_links h empty) = rw empty (sym (sorted_out s q.id Fifo (λ t p w. rw (h.sort t p w) refl)))
-form_clash s (Vtime k) links q sorts (by_links h empty) = go q.ends.first h.first
+-- an array mixes with FIFO tasks if it isn't empty
+array_mixes : (s : QueueState) (id : ℕ) (items : List Item) → Holds s.places id items → is_some (first_item items) ≡ list_any (clashes id Fifo) s.places
+array_mixes s id [] h = sym (nobody_clashes s id Fifo (λ t p w. let is = h.all t p w in let inside = is.inside in absurd (omega arith)))
+array_mixes s id (x ∷ xs) h = sym (clash_at s id x.task (place_for id x.priority) Fifo (h.there 0 x (omega arith), refl) refl)
+
+pub form_clash : (s : QueueState) (rank : Rank) (links : List Link) (q : Queue) → IsOfOneSort s.places links q → mixes rank q ≡ list_any (clashes q.id rank) s.places
+form_clash s Fifo links q (by_links h empty) = rw empty (sym (sorted_out s q.id Fifo (λ t p w. rw (h.sort t p w) refl)))
+form_clash s (Vtime k) links q (by_links h empty) = go q.ends.first h.first
   where
     go : (o : Option ℕ) → MatchOption o (NobodyIsIn s.places q.id) (IsFirst s.places q.id) → is_some o ≡ list_any (clashes q.id (Vtime k)) s.places
     go None nobody = sym (nobody_clashes s q.id (Vtime k) nobody)
     go (Some f) first = sym (clash_at s q.id f first.place (Vtime k) first.waits (rw (h.sort f first.place first.waits) refl))
-form_clash s rank links q sorts (by_row h sort none) = go rank ∙ row_clashes s q.id rank q.line.entries sorts h
-  where
-    go : (rank : Rank) → mixes rank q ≡ first_clashes rank q.line.entries
-    go Fifo = row_mixes s q.id Fifo q.line.entries sort h
-    go (Vtime k) = rw none (row_mixes s q.id (Vtime k) q.line.entries sort h)
+form_clash s Fifo links q (by_heap h none) = array_mixes s q.id q.heap.items h
+form_clash s (Vtime k) links q (by_heap h none) =
+    rw none (sym (sorted_out s q.id (Vtime k) (λ t p w. by_vtime p.rank k (holds_vtime s.places q.id q.heap.items h t p w))))

@@ -1,4 +1,4 @@
--- The front of a queue and what else is asked of it, from the row that lists it.
+-- The front of a queue, and a queue in which nobody waits.
 use Rattle.std.proofs.Common.{◌≡◌, ◌≢◌, ℕ, zero, suc, ◌+◌, ◌<◌, Bool, true, false, ◌==◌, not, List, [], ◌∷◌, length, get_or, Contains, count_by, Option, Some, None, IfSome, IfNone, cond, refl, sym, ap, ◌∙◌, subst, arith, ◌⊎◌, inl, inr}
 use Rattle.std.specs.List.{list_any, list_all}
 use Rattle.std.proofs.lemmas.Bool.{both_ways, eq-eqb, eqb-true, and_from, and_parts, not-true, cases_eq, cases_Bool, false_from_ne_true}
@@ -8,35 +8,16 @@ use Rattle.std.proofs.lemmas.List.Folds.{list_all_at, list_any_at, list_any_none
 use Rattle.scx_dsq.specs.declared.places.Rank.{Rank}
 use Rattle.scx_dsq.specs.declared.places.Rank.TheVariants.{Fifo, Vtime}
 use Rattle.scx_dsq.specs.declared.places.Place.{Place}
-use Rattle.scx_dsq.specs.declared.lines.Entry.{Entry}
 use Rattle.scx_dsq.specs.Places.{same_sort, is_before}
 use Rattle.scx_dsq.specs.Queues.{QueueState, place_at, is_in, Waits, IsFront, is_ahead, is_first, front_of, len_of}
 use Rattle.scx_dsq.specs.Calls.{clashes}
-use Rattle.scx_dsq.specs.Laws.{HasOneSort}
-use Rattle.scx_dsq.specs.Lines.{first_task, first_clashes}
-use Rattle.scx_dsq.specs.Kept.{Lists}
 use Rattle.scx_dsq.proofs.Orders.{before-asym}
-use Rattle.scx_dsq.proofs.Edits.{position_is, no_position}
+use Rattle.scx_dsq.proofs.Positions.{position_is, no_position}
 use Rattle.scx_dsq.proofs.Standing.{waits_below, same_place}
 
 -- nobody waits in the queue
 abbrev pub NobodyIn : QueueState → ℕ → Type 0
 NobodyIn s id = (t : ℕ) (p : Place) → Waits s id t p → ⊥
-
-pub nobody_listed : (s : QueueState) (id : ℕ) → Lists s.places id [] → NobodyIn s id
-nobody_listed s id h t p w = let found = h.all t p w.0 w.1 in absurd (omega (arith, found.1))
-
-pub first_is_front : (s : QueueState) (id : ℕ) (e : Entry) (es : List Entry) → Lists s.places id (e ∷ es) → IsFront s id e.task
-first_is_front s id e es h = record {
-  place = e.place;
-  waits = h.there 0 e (omega arith);
-  first = λ u other n w. go u other n (h.all u other w.0 w.1);
-}
-  where
-    go : (u : ℕ) (other : Place) → u ≢ e.task → Contains (e ∷ es) (record { task = u; place = other }) → is_before e.place other ≡ true
-    go u other n (zero, lt, same) = absurd (n (sym (ap (λ (x : Entry). x.task) same)))
-    go u other n (suc k, lt, same) =
-        subst (λ (x : Entry). is_before e.place x.place ≡ true) same (h.ordered 0 (suc k) (record { task = u; place = other }) (omega arith) lt)
 
 -- ---- the front as it is computed
 
@@ -94,15 +75,6 @@ front_once s id t u f g = go (cases_eq t u)
         let b : is_before g.place f.place ≡ true = g.first t f.place n f.waits in
         absurd (both_ways (is_before g.place f.place) (before-asym f.place g.place a) b)
 
--- what a row's first says of the queue
-pub row_first : (s : QueueState) (id : ℕ) (es : List Entry) → Lists s.places id es → IfSome (first_task es) (IsFront s id)
-row_first s id [] h = tt
-row_first s id (e ∷ es) h = first_is_front s id e es h
-
-pub row_empty : (s : QueueState) (id : ℕ) (es : List Entry) → Lists s.places id es → IfNone (first_task es) (NobodyIn s id)
-row_empty s id [] h = nobody_listed s id h
-row_empty s id (e ∷ es) h = tt
-
 -- ---- counting
 
 count_none : {X : Type 0} (p : X → Bool) (xs : List X) → ((k : ℕ) (d : X) → k < length xs → p (get_or xs k d) ≡ false) → count_by p xs ≡ 0
@@ -122,13 +94,6 @@ nobody_counts s id nobody = count_none (is_in id) s.places (λ k d lt. go k (get
 
 -- ---- sorts
 
-same_sort-trans : (a b c : Rank) → same_sort a b ≡ true → same_sort b c ≡ true → same_sort a c ≡ true
-same_sort-trans Fifo Fifo c h k = k
-same_sort-trans Fifo (Vtime x) c h k = absurd (cc)
-same_sort-trans (Vtime x) Fifo c h k = absurd (cc)
-same_sort-trans (Vtime x) (Vtime y) Fifo h k = absurd (cc)
-same_sort-trans (Vtime x) (Vtime y) (Vtime z) h k = refl
-
 pub nobody_clashes : (s : QueueState) (id : ℕ) (rank : Rank) → NobodyIn s id → list_any (clashes id rank) s.places ≡ false
 nobody_clashes s id rank nobody =
     list_any_none (clashes id rank) s.places (λ k d lt. go k (get_or s.places k d) (get_or_default s.places k None d lt))
@@ -136,28 +101,3 @@ nobody_clashes s id rank nobody =
     go : (k : ℕ) (o : Option Place) → place_at s.places k ≡ o → clashes id rank o ≡ false
     go k None e = refl
     go k (Some q) e = false_from_ne_true _ (λ c. nobody k q (e, eqb-true q.queue id (and_parts (q.queue == id) _ c).0))
-
-pub row_clashes : (s : QueueState) (id : ℕ) (rank : Rank) (es : List Entry) → HasOneSort s → Lists s.places id es → first_clashes rank es ≡ list_any (clashes id rank) s.places
-row_clashes s id rank [] sorts h = sym (nobody_clashes s id rank (nobody_listed s id h))
-row_clashes s id rank (x ∷ es) sorts h = by_sort (cases_Bool (same_sort x.place.rank rank))
-  where
-    there : place_at s.places x.task ≡ Some x.place
-    there = (h.there 0 x (omega arith)).0
-
-    here : x.place.queue ≡ id
-    here = (h.there 0 x (omega arith)).1
-
-    go : same_sort x.place.rank rank ≡ true → (k : ℕ) (o : Option Place) → place_at s.places k ≡ o → clashes id rank o ≡ false
-    go fits k None e = refl
-    go fits k (Some q) e = false_from_ne_true _ (λ c.
-        let parts = and_parts (q.queue == id) (not (same_sort q.rank rank)) c in
-        let queue : q.queue ≡ x.place.queue = eqb-true q.queue id parts.0 ∙ sym here in
-        let one : same_sort q.rank rank ≡ true = same_sort-trans q.rank x.place.rank rank (sorts k x.task q x.place e there queue) fits in
-        both_ways (same_sort q.rank rank) (not-true (same_sort q.rank rank) parts.1) one)
-
-    by_sort : (same_sort x.place.rank rank ≡ true) ⊎ (same_sort x.place.rank rank ≡ false) → not (same_sort x.place.rank rank) ≡ list_any (clashes id rank) s.places
-    by_sort (inl fits) =
-        rw fits (sym (list_any_none (clashes id rank) s.places (λ k d lt. go fits k (get_or s.places k d) (get_or_default s.places k None d lt))))
-    by_sort (inr other) =
-        let clash : clashes id rank (place_at s.places x.task) ≡ true = rw (there, eq-eqb x.place.queue id here, other) refl in
-        rw other (sym (list_any_at (clashes id rank) s.places x.task None (waits_below s.places x.task x.place there) clash))

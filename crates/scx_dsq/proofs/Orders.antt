@@ -1,12 +1,8 @@
 -- The order of places: by key, then by stamp.
 use Rattle.std.proofs.Common.{◌≡◌, ℕ, ◌<◌, ◌≤◌, Bool, true, false, not, ◌⊎◌, inl, inr, nat_lt, ◌==◌, ◌&&◌, ◌||◌, List, length, get_or, arith, refl, sym}
 use Rattle.std.proofs.lemmas.Bool.{ltb-true, eqb-true, lt-ltb, eq-eqb, or_cases, and_parts, and_from, or_left, not-true, not-false, not_from_false, false_from_ne_true, both_ways, cases_eq, cases_lt}
-use Rattle.std.proofs.lemmas.List.Sums.{position_or_len_is}
-use Rattle.std.specs.List.Sorted.{IsPartitionedBy, IsPartitionPoint}
 use Rattle.scx_dsq.specs.declared.places.Place.{Place}
-use Rattle.scx_dsq.specs.declared.lines.Entry.{Entry}
 use Rattle.scx_dsq.specs.Places.{key_of, is_before}
-use Rattle.scx_dsq.specs.Lines.{IsOrdered, spot}
 
 -- what the test says of the numbers
 pub record Below (k s l t : ℕ) : Type 0 where
@@ -56,26 +52,3 @@ before-asym p q h =
         let early : s < t = a.stamps same in
         let late : t < s = b.stamps (sym same) in
         omega arith
-
--- of two places with other stamps one is before the other
-pub before_else : (p q : Place) → is_before p q ≡ false → q.stamp < p.stamp → is_before q p ≡ true
-before_else p q h late = go (cases_lt (key_of p.rank) (key_of q.rank))
-  where
-    go : (key_of p.rank < key_of q.rank) ⊎ (key_of q.rank ≤ key_of p.rank) → is_before q p ≡ true
-    go (inl lt) = absurd (both_ways _ h (before_from p q (record { keys = omega arith; stamps = λ e. absurd (omega arith) })))
-    go (inr le) = before_from q p (record { keys = le; stamps = λ e. late })
-
--- in an ordered row those that a place is not before stand first
-pub parted : (p : Place) (es : List Entry) → IsOrdered es → IsPartitionedBy (λ e. not (is_before p e.place)) es
-parted p es ordered = λ i j d le lt stays. go i j d le lt (not-true _ stays) (cases_eq i j)
-  where
-    go : (i j : ℕ) (d : Entry) → i ≤ j → j < length es → is_before p (get_or es j d).place ≡ false → (i ≡ j) ⊎ (i ≡ j → ⊥) → not (is_before p (get_or es i d).place) ≡ true
-    go i j d le lt stays (inl e) = rw (e, stays) refl
-    go i j d le lt stays (inr n) =
-        not_from_false _ (false_from_ne_true _ (λ h. both_ways _ stays (before-trans p (get_or es i d).place (get_or es j d).place h (ordered i j d (omega arith) lt))))
-
--- where that stops is the place's spot
-pub spot_is : (p : Place) (es : List Entry) (i : ℕ) → i ≤ length es → IsPartitionPoint (λ e. not (is_before p e.place) ≡ true) (λ e. not (is_before p e.place) ≡ false) es i → i ≡ spot p es
-spot_is p es i within point =
-    let d : Entry = record { task = 0; place = p } in
-    sym (position_or_len_is (λ e. is_before p e.place) es i d within (λ k lt. not-true _ (point.0 k d (omega arith) lt)) (λ lt. not-false _ (point.1 i d (omega arith) lt)))

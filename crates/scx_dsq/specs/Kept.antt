@@ -1,91 +1,152 @@
--- How the queues are kept: a queue in FIFO order by links from task to task, one by virtual time as a row,
--- which lists those who wait there in order; and empty rows for queues to come. No public clause cites it.
-use Rattle.std.specs.Prelude.{◌≡◌, ℕ, ◌+◌, ◌<◌, ◌≤◌, Bool, false, List, [], map, length, Option, Some, is_some, MatchOption, All, Contains, count_by, vec_capacity, if◌then◌else◌}
-use Rattle.scx_dsq.specs.declared.places.Place.{Place}
-use Rattle.scx_dsq.specs.declared.lines.Entry.{Entry}
+-- How the queues are kept: a queue in FIFO order by links from task to task, one by virtual time as a heap;
+-- and empty heaps for queues to come. No public clause cites it.
+use Rattle.std.specs.Prelude.{◌≡◌, ℕ, ◌+◌, ◌<◌, ◌≤◌, List, [], ◌∷◌, ◌++◌, map, length, Option, None, is_some, MatchOption, All, HoldsAt, vec_capacity, if◌then◌else◌, Bool, true, false, ◌==◌}
+use Rattle.std.specs.List.{list_any}
+use Rattle.std.specs.List.Sorted.{IsPermutation}
 use Rattle.scx_dsq.specs.declared.places.Rank.{Rank}
 use Rattle.scx_dsq.specs.declared.places.Rank.TheVariants.{Fifo, Vtime}
+use Rattle.scx_dsq.specs.declared.heap.Item.{Item}
 use Rattle.scx_dsq.specs.declared.links.Link.{Link}
 use Rattle.scx_dsq.specs.declared.queue.Queue.{Queue}
 use Rattle.scx_dsq.specs.declared.queues.Queues.TheInside.{Inside}
-use Rattle.scx_dsq.specs.Queues.{Places, QueueState, place_at, is_in}
+use Rattle.scx_dsq.specs.declared.errors.QueueError.{QueueError}
+use Rattle.scx_dsq.specs.declared.errors.QueueError.TheVariants.{NoSuchQueue, AlreadyThere, Mixed, TooManyQueues}
+use Rattle.scx_dsq.specs.Queues.{Places, QueueState, place_at}
 use Rattle.scx_dsq.specs.Laws.{IsSound}
-use Rattle.scx_dsq.specs.Places.{same_sort}
-use Rattle.scx_dsq.specs.Lines.{Row, IsOrdered, first_task, spot_of, with_entry, without_entry}
-use Rattle.scx_dsq.specs.Links.{no_ends, link_at, or_else, links_appended, ends_appended, links_unlinked, ends_unlinked, In, IsThreaded}
+use Rattle.scx_dsq.specs.Links.{no_ends, link_at, or_else, links_appended, ends_appended, links_unlinked, ends_unlinked, IsThreaded}
+use Rattle.scx_dsq.specs.Heaps.{HeapState, IsHeap, HasSpots, IsAbsent, IsIn, KeepsOthers, first_item}
+use Rattle.scx_dsq.specs.Holdings.{Holds}
+use Rattle.scx_dsq.specs.Arrays.{QueuesValue}
+use Rattle.scx_dsq.specs.Order.{IsOrder}
 
 abbrev pub ids_of : List Queue → List ℕ
 ids_of live = map (λ q. q.id) live
 
--- the entry says where its task waits, which is in that queue
-abbrev pub IsThere : Places → ℕ → Entry → Type 0
-IsThere places id e = (place_at places e.task ≡ Some e.place) × (e.place.queue ≡ id)
+abbrev pub arrays_of : List Queue → List (List Item)
+arrays_of live = map (λ q. q.heap.items) live
 
--- the entries are those who wait in the queue, in order
-pub record Lists (places : Places) (id : ℕ) (entries : List Entry) : Type 0 where
-  pub there : All (IsThere places id) entries
-  pub all : (t : ℕ) (p : Place) → place_at places t ≡ Some p → p.queue ≡ id → Contains entries (record { task = t; place = p })
-  pub count : length entries ≡ count_by (is_in id) places
-  pub ordered : IsOrdered entries
-
--- none of those who wait there does so in FIFO order
-abbrev pub IsByVtime : Places → ℕ → Type 0
-IsByVtime places id = (t : ℕ) (p : Place) → In places id t p → same_sort p.rank Fifo ≡ false
-
--- a queue has its tasks between its ends, or in its row; an empty one may be either
+-- a queue has its tasks between its ends, or in its heap; an empty one may be either
 pub data IsOfOneSort (places : Places) (links : List Link) (q : Queue) : Type 0 where
-  by_links : IsThreaded places links q.id q.ends → q.line.entries ≡ [] → IsOfOneSort places links q
-  by_row : Lists places q.id q.line.entries → IsByVtime places q.id → q.ends ≡ no_ends → IsOfOneSort places links q
+  by_links : IsThreaded places links q.id q.ends → q.heap.items ≡ [] → IsOfOneSort places links q
+  by_heap : Holds places q.id q.heap.items → q.ends ≡ no_ends → IsOfOneSort places links q
 
 -- and has room for all tasks that there are
-pub record Keeps (places : Places) (links : List Link) (q : Queue) : Type 0 where
+pub record Keeps (places : Places) (links : List Link) (spots : List ℕ) (q : Queue) : Type 0 where
   pub tasks : IsOfOneSort places links q
-  pub room : length places ≤ q.line.room
+  pub room : length places ≤ q.heap.room
+  pub heap : IsHeap q.heap.items
+  pub stand : HasSpots q.heap.items spots
 
 -- ---- what a queue answers
 
 abbrev pub front_in : Queue → Option ℕ
-front_in q = or_else q.ends.first (first_task q.line.entries)
+front_in q = or_else q.ends.first (first_item q.heap.items)
 
 abbrev pub len_in : Queue → ℕ
-len_in q = if is_some q.ends.first then q.ends.count else length q.line.entries
+len_in q = if is_some q.ends.first then q.ends.count else length q.heap.items
 
 abbrev pub mixes : Rank → Queue → Bool
-mixes Fifo q = is_some (first_task q.line.entries)
+mixes Fifo q = is_some (first_item q.heap.items)
 mixes (Vtime k) q = is_some q.ends.first
 
--- ---- a task that enters or leaves
+-- ---- whether a task may go into a queue
 
-abbrev pub CanEnter : Rank → List Link → Queue → Entry → Type 0
-CanEnter Fifo links q e = (e.task < length links) × MatchOption q.ends.last (Unit {0}) (λ t. t < length links) × (q.ends.count < length links)
-CanEnter (Vtime k) links q e = IsOrdered q.line.entries × (length q.line.entries < q.line.room)
+-- one stands at the place, takes tasks of that rank, and the task waits nowhere
+pub record IsAdmitted (live : List Queue) (places : Places) (k id t : ℕ) (rank : Rank) : Type 0 where
+  pub inside : k < length live
+  pub is : HoldsAt (λ q. q.id ≡ id) live k
+  pub there : list_any (λ other. other == id) (ids_of live) ≡ true
+  pub free : place_at places t ≡ None
+  pub fits : HoldsAt (λ q. mixes rank q ≡ false) live k
 
-abbrev pub queue_with : Rank → Queue → Entry → Queue
-queue_with Fifo q e = record { id = q.id; ends = ends_appended q.ends e.task; line = q.line }
-queue_with (Vtime k) q e = record { id = q.id; ends = q.ends; line = record { room = q.line.room; entries = with_entry q.line.entries e } }
+-- one has the id, and tasks that wait there in the other way
+pub record IsMixed (live : List Queue) (id : ℕ) (rank : Rank) : Type 0 where
+  pub place : ℕ
+  pub inside : place < length live
+  pub is : HoldsAt (λ q. q.id ≡ id) live place
+  pub mixed : HoldsAt (λ q. mixes rank q ≡ true) live place
 
-abbrev pub links_with : Rank → List Link → Queue → Entry → List Link
-links_with Fifo links q e = links_appended links q.ends e.task
-links_with (Vtime k) links q e = links
+abbrev pub IsRefused : List Queue → Places → ℕ → ℕ → Rank → QueueError → Type 0
+IsRefused live places id t rank NoSuchQueue = list_any (λ other. other == id) (ids_of live) ≡ false
+IsRefused live places id t rank AlreadyThere = (list_any (λ other. other == id) (ids_of live) ≡ true) × (is_some (place_at places t) ≡ true)
+IsRefused live places id t rank Mixed = (list_any (λ other. other == id) (ids_of live) ≡ true) × (place_at places t ≡ None) × IsMixed live id rank
+IsRefused live places id t rank TooManyQueues = ⊥
 
-abbrev pub CanLeave : Rank → List Link → Queue → ℕ → Type 0
-CanLeave Fifo links q t =
-    (t < length links) × MatchOption (link_at links t).ahead (Unit {0}) (λ u. u < length links)
-    × MatchOption (link_at links t).behind (Unit {0}) (λ u. u < length links) × (0 < q.ends.count)
-CanLeave (Vtime k) links q t = spot_of t q.line.entries < length q.line.entries
+-- ---- a task that enters
 
-abbrev pub queue_without : Rank → List Link → Queue → ℕ → Queue
-queue_without Fifo links q t = record { id = q.id; ends = ends_unlinked links q.ends t; line = q.line }
-queue_without (Vtime k) links q t = record { id = q.id; ends = q.ends; line = record { room = q.line.room; entries = without_entry q.line.entries t } }
+pub record CanAppend (links : List Link) (q : Queue) (t : ℕ) : Type 0 where
+  pub task : t < length links
+  pub last : MatchOption q.ends.last (Unit {0}) (λ u. u < length links)
+  pub count : q.ends.count < length links
 
-abbrev pub links_without : Rank → List Link → ℕ → List Link
-links_without Fifo links t = links_unlinked links t
-links_without (Vtime k) links t = links
+-- the queue with that task at its end
+abbrev pub appended : Queue → ℕ → Queue
+appended q t = record { id = q.id; ends = ends_appended q.ends t; heap = q.heap }
+
+pub record CanInsert (spots : List ℕ) (q : Queue) (x : Item) : Type 0 where
+  pub room : length q.heap.items < q.heap.room
+  pub task : x.task < length spots
+  pub absent : IsAbsent q.heap.items x.task
+  pub stand : HasSpots q.heap.items spots
+  pub heap : IsHeap q.heap.items
+
+-- the queue with that item in its heap
+pub record Inserted (spots : List ℕ) (q : Queue) (x : Item) (stood : List ℕ) (new : Queue) : Type 0 where
+  pub id : new.id ≡ q.id
+  pub ends : new.ends ≡ q.ends
+  pub room : new.heap.room ≡ q.heap.room
+  pub heap : IsHeap new.heap.items
+  pub stand : HasSpots new.heap.items stood
+  pub others : KeepsOthers (q.heap.items ++ x ∷ []) spots stood
+  pub same : IsPermutation (q.heap.items ++ x ∷ []) new.heap.items
+
+-- ---- a task that leaves
+
+pub record CanUnlink (links : List Link) (q : Queue) (t : ℕ) : Type 0 where
+  pub task : t < length links
+  pub ahead : MatchOption (link_at links t).ahead (Unit {0}) (λ u. u < length links)
+  pub behind : MatchOption (link_at links t).behind (Unit {0}) (λ u. u < length links)
+  pub count : 0 < q.ends.count
+
+abbrev pub unlinked : List Link → Queue → ℕ → Queue
+unlinked links q t = record { id = q.id; ends = ends_unlinked links q.ends t; heap = q.heap }
+
+pub record CanTakeOut (spots : List ℕ) (q : Queue) (t : ℕ) : Type 0 where
+  pub task : IsIn q.heap.items t
+  pub stand : HasSpots q.heap.items spots
+  pub heap : IsHeap q.heap.items
+
+abbrev pub CanLeave : Rank → List Link → List ℕ → Queue → ℕ → Type 0
+CanLeave Fifo links spots q t = CanUnlink links q t
+CanLeave (Vtime k) links spots q t = CanTakeOut spots q t
+
+pub record Unlinked (links : List Link) (spots : List ℕ) (q : Queue) (t : ℕ) (linked : List Link) (stood : List ℕ) (new : Queue) : Type 0 where
+  pub queue : new ≡ unlinked links q t
+  pub threads : linked ≡ links_unlinked links t
+  pub stays : stood ≡ spots
+
+-- the item of that task was taken out of the heap
+pub record TakenOut (links : List Link) (spots : List ℕ) (q : Queue) (t : ℕ) (linked : List Link) (stood : List ℕ) (new : Queue) : Type 0 where
+  pub item : Item
+  pub task : item.task ≡ t
+  pub id : new.id ≡ q.id
+  pub ends : new.ends ≡ q.ends
+  pub room : new.heap.room ≡ q.heap.room
+  pub heap : IsHeap new.heap.items
+  pub stand : HasSpots new.heap.items stood
+  pub others : KeepsOthers q.heap.items spots stood
+  pub same : IsPermutation q.heap.items (item ∷ new.heap.items)
+  pub gone : IsAbsent new.heap.items t
+  pub threads : linked ≡ links
+
+abbrev pub Left : Rank → List Link → List ℕ → Queue → ℕ → List Link → List ℕ → Queue → Type 0
+Left Fifo links spots q t linked stood new = Unlinked links spots q t linked stood new
+Left (Vtime k) links spots q t linked stood new = TakenOut links spots q t linked stood new
 
 -- ---- all of them
 
-abbrev pub IsSpare : Places → Row → Type 0
-IsSpare places row = (row.entries ≡ []) × (length places ≤ row.room)
+abbrev pub IsSpare : Places → HeapState → Type 0
+IsSpare places h = (h.items ≡ []) × (length places ≤ h.room)
 
 abbrev pub state_of : Inside → QueueState
 state_of i = record {
@@ -95,9 +156,15 @@ state_of i = record {
   pushes = i.pushes;
 }
 
+abbrev pub value_of : Inside → QueuesValue
+value_of i = record { state = state_of i; arrays = arrays_of i.live.items }
+
 pub record IsKept (i : Inside) : Type 0 where
   pub sound : IsSound (state_of i)
-  pub live : All (Keeps i.places.items i.links.items) i.live.items
+  pub live : All (Keeps i.places.items i.links.items i.spots.items) i.live.items
+  pub order : IsOrder (ids_of i.live.items) i.order.items
   pub spare : All (IsSpare i.places.items) i.spare.items
   pub room : length i.live.items + length i.spare.items ≤ vec_capacity i.live
+  pub orders : length i.order.items + length i.spare.items ≤ vec_capacity i.order
   pub links : length i.links.items ≡ length i.places.items
+  pub spots : length i.spots.items ≡ length i.places.items

@@ -3,9 +3,10 @@ pub mod Queues
 pub mod Errors
 pub mod Calls
 pub mod Laws
-pub mod Commands
-pub mod Runs
 pub mod Facts
-pub mod Lines
 pub mod Links
+pub mod Heaps
+pub mod Arrays
+pub mod Order
+pub mod Holdings
 pub mod Kept

@@ -1,5 +1,4 @@
 ghost use Rattle.scx_dsq.specs.Laws.{PushAddsOne, PopTakesOne, RemovalTakesOne, OthersChangeNone, HasOneFront, FrontIsFirst};
-ghost use Rattle.scx_dsq.specs.Runs.{RunsConserve, RunsCountPushes};
 
 /// Where a task waits is conserved: each accepted push adds one appearance of its task, each pop and
 /// each removal of a task that waits takes one, and nothing else changes any. The function does
@@ -9,14 +8,6 @@ pub fn appearances_are_conserved()
     ensures pop { PopTakesOne }
     ensures removal { RemovalTakesOne }
     ensures others { OthersChangeNone }
-{}
-
-/// Of a whole run of commands their replies tell where each task waits, as at first but for its accepted
-/// pushes, its pops and its removals, and how many stamps were given. The function does nothing: its
-/// contract is the law.
-pub fn runs_are_conserved()
-    ensures tasks { RunsConserve }
-    ensures pushes { RunsCountPushes }
 {}
 
 /// The front of a queue is the one task there that comes before all others. The function does nothing:

@@ -3,21 +3,20 @@
 //!
 //! A queue has an id and is either FIFO or ordered by virtual time. `Queues` holds all of them, and
 //! each task waits in at most one. All memory is taken by `Queues::new`: no later call takes any.
-//!
-//! `run` carries out a list of commands, one call each.
 #![tactic(auto)]
 
-mod commands;
 mod errors;
+mod heap;
 mod laws;
-mod lines;
 mod links;
 mod places;
+mod priority;
 mod queue;
 mod queues;
+mod steps;
 
-pub use commands::{Command, Reply, answer, run};
 pub use errors::QueueError;
-pub use laws::{appearances_are_conserved, fronts_are_unique, runs_are_conserved};
+pub use laws::{appearances_are_conserved, fronts_are_unique};
 pub use places::Rank;
 pub use queues::Queues;
+pub use steps::Steps;

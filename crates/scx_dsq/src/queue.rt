@@ -1,17 +1,22 @@
-ghost use Rattle.std.specs.Prelude.{◌≡◌};
-ghost use Rattle.scx_dsq.specs.Kept.{front_in, len_in, mixes, CanEnter, queue_with, links_with, CanLeave, queue_without, links_without};
+ghost use Rattle.std.specs.Prelude.{◌≡◌, ◌-◌, ◌≤◌};
+ghost use Rattle.scx_dsq.specs.declared.places.Rank.TheVariants.{Fifo};
+ghost use Rattle.scx_dsq.specs.Heaps.{IsCheap};
+ghost use Rattle.scx_dsq.specs.Kept.{front_in, len_in, mixes, CanAppend, appended, CanInsert, Inserted, CanLeave, Left};
+ghost use Rattle.scx_dsq.specs.Links.{links_appended};
 
-use crate::lines::{Entry, Line};
+use crate::heap::{Heap, Item};
 use crate::links::{Ends, Link, append, unlink};
 use crate::places::Rank;
+use crate::steps::Steps;
+use std::sync::ledger::Ledger;
 
 /// A queue that was created. Its tasks are threaded between its ends if they wait in FIFO order, and
-/// stand in its line if they wait by virtual time.
+/// stand in its heap if they wait by virtual time.
 #[derive(Debug, Drop)]
 pub struct Queue {
     pub id: u64,
     pub ends: Ends,
-    pub line: Line,
+    pub heap: Heap,
 }
 
 impl Queue {
@@ -20,7 +25,7 @@ impl Queue {
     {
         match self.ends.first {
             Some(task) => Some(task),
-            None => self.line.front(),
+            None => self.heap.front(),
         }
     }
 
@@ -29,7 +34,7 @@ impl Queue {
     {
         match self.ends.first {
             Some(_) => self.ends.count,
-            None => self.line.len(),
+            None => self.heap.len(),
         }
     }
 
@@ -38,32 +43,55 @@ impl Queue {
         ensures { result ≡ mixes rank self.now }
     {
         match rank {
-            Rank::Fifo => self.line.front().is_some(),
+            Rank::Fifo => self.heap.front().is_some(),
             Rank::Vtime(_) => self.ends.first.is_some(),
         }
     }
 }
 
-/// Puts a task into a queue, where its rank has it stand.
-pub fn enter(links: &mut [Link], queue: &mut Queue, entry: Entry)
-    requires { CanEnter entry.place.rank links.old queue.old entry }
-    ensures queue { queue.new ≡ queue_with entry.place.rank queue.old entry }
-    ensures links { links.new ≡ links_with entry.place.rank links.old queue.old entry }
+/// Puts a task at the end of a queue in FIFO order.
+pub fn append_to(links: &mut [Link], queue: &mut Queue, task: u32)
+    requires { CanAppend links.old queue.old task }
+    ensures queue { queue.new ≡ appended queue.old task }
+    ensures links { links.new ≡ links_appended links.old queue.old.ends task }
 {
-    match entry.place.rank {
-        Rank::Fifo => queue.ends = append(links, queue.ends, entry.task),
-        Rank::Vtime(_) => queue.line.insert(entry),
-    }
+    queue.ends = append(links, queue.ends, task);
+}
+
+/// Puts an item into the heap of a queue by virtual time.
+pub fn insert_into<L: Ledger>(
+    spots: &mut [usize],
+    queue: &mut Queue,
+    item: Item,
+    steps: &mut Steps<L>,
+)
+    requires { CanInsert spots.old queue.old item }
+    ensures entered { Inserted spots.old queue.old item spots.new queue.new }
+    ensures cost { IsCheap queue.old.heap.items queue.new.heap.items (steps.new - steps.old) }
+    ensures more { steps.old ≤ steps.new }
+{
+    queue.heap.insert(spots, item, steps);
 }
 
 /// Takes a task out of the queue where it waits by that rank.
-pub fn leave(links: &mut [Link], queue: &mut Queue, task: u32, rank: Rank)
-    requires { CanLeave rank links.old queue.old task }
-    ensures queue { queue.new ≡ queue_without rank links.old queue.old task }
-    ensures links { links.new ≡ links_without rank links.old task }
+pub fn leave<L: Ledger>(
+    links: &mut [Link],
+    spots: &mut [usize],
+    queue: &mut Queue,
+    task: u32,
+    rank: Rank,
+    steps: &mut Steps<L>,
+)
+    requires { CanLeave rank links.old spots.old queue.old task }
+    ensures left { Left rank links.old spots.old queue.old task links.new spots.new queue.new }
+    ensures cost { IsCheap queue.old.heap.items queue.new.heap.items (steps.new - steps.old) }
+    ensures fifo { rank ≡ Fifo → steps.new ≡ steps.old }
+    ensures more { steps.old ≤ steps.new }
 {
     match rank {
         Rank::Fifo => queue.ends = unlink(links, queue.ends, task),
-        Rank::Vtime(_) => queue.line.remove(task),
+        Rank::Vtime(_) => {
+            queue.heap.remove(spots, task, steps);
+        }
     }
 }

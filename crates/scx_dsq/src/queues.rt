@@ -1,42 +1,54 @@
-ghost use Rattle.std.specs.Prelude.{◌≡◌, ℕ, ◌+◌, ◌^◌, ◌<◌, ◌≤◌, ◌==◌, [], map, length, true, false, is_some, slice_index_or, All, HoldsAt, IsSome, IfSome, IfNone, IfOk, OnErr};
+ghost use Rattle.std.specs.Prelude.{◌≡◌, ◌≢◌, ℕ, ◌+◌, ◌-◌, ◌^◌, ◌<◌, ◌≤◌, ◌==◌, [], ◌∷◌, ◌++◌, map, length, true, false, is_some, is_ok, slice_index_or, All, HoldsAt, IsSome, IfSome, IfNone, IfOk, IfErr, OnOk, OnErr};
 ghost use Rattle.std.specs.List.{list_any};
 ghost use Rattle.scx_dsq.specs.declared.places.Place.{Place};
 ghost use Rattle.scx_dsq.specs.declared.places.Rank.TheVariants.{Fifo, Vtime};
 ghost use Rattle.scx_dsq.specs.Queues.{Waits, IsFront, exists, task_count, place_of, queue_of, len_of, front_of};
 ghost use Rattle.scx_dsq.specs.Calls.{refused_or_done, create_refusal, created, clashes, push_refusal, pushed, removed, popped, empty};
 ghost use Rattle.scx_dsq.specs.Laws.{HasOneOfEach, WaitsInAQueue, HasOneSort, IsStamped, HasOwnStamps, StandsInSoMany};
+ghost use Rattle.scx_dsq.specs.Arrays.{IsPaid};
+ghost use Rattle.scx_dsq.specs.Holdings.{HasArrays};
+ghost use Rattle.scx_dsq.specs.Order.{IsOrder, IsGap};
+ghost use Rattle.scx_dsq.specs.Kept.{ids_of, IsAdmitted, IsRefused};
 
 use crate::errors::QueueError;
-use crate::lines::{Entry, Line};
+use crate::heap::{Heap, Item};
 use crate::links::{Ends, Link};
 use crate::places::{Place, Rank};
-use crate::queue::{Queue, enter, leave};
+use crate::priority::Priority;
+use crate::queue::{Queue, append_to, insert_into, leave};
+use crate::steps::Steps;
 use std::alloc::{AllocError, Global};
 use std::marker::Model;
+use std::sync::ledger::Ledger;
 
 /// Dispatch queues, and where each task waits.
 ///
-/// In a contract it is how many queues there may be, the ids of those that were created, for each task
-/// its place or none, and how many pushes were accepted. Tasks are numbered from 0.
+/// In a contract it is two things. Its state is how many queues there may be, the ids of those that were
+/// created, for each task its place or none, and how many pushes were accepted. Beside it stand the arrays
+/// of the queues by virtual time. Tasks are numbered from 0.
 #[derive(Debug, Drop)]
 pub struct Queues {
     live: Vec<Queue>,
-    /// Empty lines for queues to come.
-    spare: Vec<Line>,
+    /// Where the queues stand in `live`, those of lesser ids first.
+    order: Vec<usize>,
+    /// Empty heaps for queues to come.
+    spare: Vec<Heap>,
     places: Vec<Option<Place>>,
     /// At each task's number, whom it waits beside in a FIFO queue.
     links: Vec<Link>,
+    /// At each task's number, where it stands in the array of a queue by virtual time.
+    spots: Vec<usize>,
     pushes: u64,
 }
 
 impl Model for Queues {
-    ghost use Rattle.scx_dsq.specs.Queues.{QueueState};
+    ghost use Rattle.scx_dsq.specs.Arrays.{QueuesValue};
 
-    ghost Value = { QueueState };
+    ghost Value = { QueuesValue };
 
-    ghost use Rattle.scx_dsq.specs.Kept.{state_of, IsKept};
+    ghost use Rattle.scx_dsq.specs.Kept.{value_of, IsKept};
 
-    ghost view = { state_of };
+    ghost view = { value_of };
 
     ghost invariant = { IsKept };
 }
@@ -45,14 +57,17 @@ impl Queues {
     /// Room for that many queues and for tasks of that many numbers; no queue is there yet. All memory
     /// is taken here.
     pub fn new(alloc: Global, queues: usize, tasks: usize) -> Result<Queues, AllocError>
-        ensures empty { IfOk result (λ made. made ≡ empty queues tasks) }
-        ensures tasks { IfOk result (λ made. task_count made ≡ tasks) }
+        ensures empty { IfOk result (λ made. made.state ≡ empty queues tasks) }
+        ensures tasks { IfOk result (λ made. task_count made.state ≡ tasks) }
+        ensures arrays { IfOk result (λ made. made.arrays ≡ []) }
     {
         Ok(Queues {
             live: Vec::with_capacity(alloc, queues)?,
-            spare: spare_lines(alloc, queues, tasks)?,
+            order: Vec::with_capacity(alloc, queues)?,
+            spare: spare_heaps(alloc, queues, tasks)?,
             places: vec![in alloc; None; tasks]?,
             links: vec![in alloc; Link::NONE; tasks]?,
+            spots: vec![in alloc; 0; tasks]?,
             pushes: 0,
         })
     }
@@ -60,22 +75,27 @@ impl Queues {
     /// Adds an empty queue: `AlreadyThere` if one has the id, else `TooManyQueues` if there is no room.
     #[tactic(auto, using(crate::specs::Facts::tasks_created, crate::specs::Facts::pushes_created))]
     pub fn create(&mut self, id: u64) -> Result<(), QueueError>
-        ensures answer { result ≡ refused_or_done (create_refusal self.old id) }
-        ensures state { self.new ≡ created self.old id }
+        ensures answer { result ≡ refused_or_done (create_refusal self.old.state id) }
+        ensures state { self.new.state ≡ created self.old.state id }
+        ensures arrays { OnOk result (self.new.arrays ≡ self.old.arrays ++ [] ∷ []) }
         ensures unchanged { OnErr result (self.new ≡ self.old) }
-        ensures tasks { task_count self.new ≡ task_count self.old }
-        ensures pushes { self.new.pushes ≡ self.old.pushes }
+        ensures tasks { task_count self.new.state ≡ task_count self.old.state }
+        ensures pushes { self.new.state.pushes ≡ self.old.state.pushes }
     {
-        if find(&self.live, id).is_some() {
+        let Err(gap) = search(&self.live, &self.order, id) else {
             return Err(QueueError::AlreadyThere);
-        }
-        let Some(line) = self.spare.pop() else {
+        };
+        let Some(heap) = self.spare.pop() else {
             return Err(QueueError::TooManyQueues);
         };
+        match self.order.insert(gap, self.live.len()) {
+            Ok(()) => (),
+            Err(_) => unreachable!(),
+        }
         self.live.push_reserved(Queue {
             id,
             ends: Ends::NONE,
-            line,
+            heap,
         });
         Ok(())
     }
@@ -84,76 +104,83 @@ impl Queues {
     /// queue, `Mixed` if tasks wait in this one by virtual time.
     #[tactic(auto, using(crate::specs::Facts::tasks_pushed, crate::specs::Facts::pushes_pushed))]
     pub fn push_fifo(&mut self, id: u64, task: u32) -> Result<(), QueueError>
-        requires task { task < task_count self.old }
-        requires few { self.old.pushes < 2 ^ 63 }
-        ensures answer { result ≡ refused_or_done (push_refusal self.old id task Fifo) }
-        ensures state { self.new ≡ pushed self.old id task Fifo }
+        requires task { task < task_count self.old.state }
+        requires few { self.old.state.pushes < 2 ^ 63 }
+        ensures answer { result ≡ refused_or_done (push_refusal self.old.state id task Fifo) }
+        ensures state { self.new.state ≡ pushed self.old.state id task Fifo }
+        ensures arrays { self.new.arrays ≡ self.old.arrays }
         ensures unchanged { OnErr result (self.new ≡ self.old) }
-        ensures tasks { task_count self.new ≡ task_count self.old }
-        ensures pushes { self.new.pushes ≤ self.old.pushes + 1 }
+        ensures tasks { task_count self.new.state ≡ task_count self.old.state }
+        ensures pushes { self.new.state.pushes ≤ self.old.state.pushes + 1 }
     {
-        self.push(id, task, Rank::Fifo)
+        let index = admit(&self.live, &self.order, &self.places, id, task, Rank::Fifo)?;
+        append_to(&mut self.links, &mut self.live[index], task);
+        self.places[task as usize] = Some(Place {
+            queue: id,
+            rank: Rank::Fifo,
+            stamp: self.pushes,
+        });
+        self.pushes += 1;
+        Ok(())
     }
 
     /// Puts a task into a queue by virtual time, behind those of the same key. Keys compare as unsigned
     /// numbers. `NoSuchQueue`, `AlreadyThere` if the task waits in any queue, `Mixed` if tasks wait in
-    /// this one in FIFO order.
+    /// this one in FIFO order. Comparisons are counted in `steps`.
     #[tactic(auto, using(crate::specs::Facts::tasks_pushed, crate::specs::Facts::pushes_pushed))]
-    pub fn push_vtime(&mut self, id: u64, task: u32, key: u64) -> Result<(), QueueError>
-        requires task { task < task_count self.old }
-        requires few { self.old.pushes < 2 ^ 63 }
-        ensures answer { result ≡ refused_or_done (push_refusal self.old id task (Vtime key)) }
-        ensures state { self.new ≡ pushed self.old id task (Vtime key) }
+    pub fn push_vtime<L: Ledger>(
+        &mut self,
+        id: u64,
+        task: u32,
+        key: u64,
+        steps: &mut Steps<L>,
+    ) -> Result<(), QueueError>
+        requires task { task < task_count self.old.state }
+        requires few { self.old.state.pushes < 2 ^ 63 }
+        ensures answer { result ≡ refused_or_done (push_refusal self.old.state id task (Vtime key)) }
+        ensures state { self.new.state ≡ pushed self.old.state id task (Vtime key) }
+        ensures cost { IsPaid self.old self.new id (steps.new - steps.old) }
         ensures unchanged { OnErr result (self.new ≡ self.old) }
-        ensures tasks { task_count self.new ≡ task_count self.old }
-        ensures pushes { self.new.pushes ≤ self.old.pushes + 1 }
+        ensures free { OnErr result (steps.new ≡ steps.old) }
+        ensures more { steps.old ≤ steps.new }
+        ensures tasks { task_count self.new.state ≡ task_count self.old.state }
+        ensures pushes { self.new.state.pushes ≤ self.old.state.pushes + 1 }
     {
-        self.push(id, task, Rank::Vtime(key))
-    }
-
-    /// Puts a task where its rank has it stand.
-    fn push(&mut self, id: u64, task: u32, rank: Rank) -> Result<(), QueueError>
-        requires task { task < task_count self.old }
-        requires few { self.old.pushes < 2 ^ 63 }
-        ensures answer { result ≡ refused_or_done (push_refusal self.old id task rank) }
-        ensures state { self.new ≡ pushed self.old id task rank }
-    {
-        let Some(index) = find(&self.live, id) else {
-            return Err(QueueError::NoSuchQueue);
+        let stamp = self.pushes;
+        let index = admit(
+            &self.live,
+            &self.order,
+            &self.places,
+            id,
+            task,
+            Rank::Vtime(key),
+        )?;
+        let item = Item {
+            task,
+            priority: Priority::new(key, stamp),
         };
-        if self.places[task as usize].is_some() {
-            return Err(QueueError::AlreadyThere);
-        }
-        if self.live[index].clashes(rank) {
-            return Err(QueueError::Mixed);
-        }
-        let place = Place {
+        insert_into(&mut self.spots, &mut self.live[index], item, steps);
+        self.places[task as usize] = Some(Place {
             queue: id,
-            rank,
-            stamp: self.pushes,
-        };
-        enter(
-            &mut self.links,
-            &mut self.live[index],
-            Entry { task, place },
-        );
-        self.places[task as usize] = Some(place);
-        self.pushes += 1;
+            rank: Rank::Vtime(key),
+            stamp,
+        });
+        self.pushes = stamp + 1;
         Ok(())
     }
 
     /// Whether a queue has the id.
     pub fn has(&self, id: u64) -> bool
-        ensures { result ≡ exists self.now id }
+        ensures { result ≡ exists self.now.state id }
     {
-        find(&self.live, id).is_some()
+        find(&self.live, &self.order, id).is_some()
     }
 
     /// Whether tasks wait in the queue that were put there in the other way.
     pub fn would_mix(&self, id: u64, rank: Rank) -> bool
-        ensures { result ≡ list_any (clashes id rank) self.now.places }
+        ensures { result ≡ list_any (clashes id rank) self.now.state.places }
     {
-        match find(&self.live, id) {
+        match find(&self.live, &self.order, id) {
             Some(index) => self.live[index].clashes(rank),
             None => false,
         }
@@ -161,57 +188,72 @@ impl Queues {
 
     /// The task that leaves the queue next; none if the queue is empty or isn't there.
     pub fn front(&self, id: u64) -> Option<u32>
-        ensures answer { result ≡ front_of self.now id }
-        ensures known { IfSome result (λ t. t < task_count self.now) }
-        ensures first { IfSome result (IsFront self.now id) }
-        ensures empty { IfNone result ((t : ℕ) (p : Place) → ¬ Waits self.now id t p) }
+        ensures answer { result ≡ front_of self.now.state id }
+        ensures known { IfSome result (λ t. t < task_count self.now.state) }
+        ensures first { IfSome result (IsFront self.now.state id) }
+        ensures empty { IfNone result ((t : ℕ) (p : Place) → ¬ Waits self.now.state id t p) }
     {
-        match find(&self.live, id) {
+        match find(&self.live, &self.order, id) {
             Some(index) => self.live[index].front(),
             None => None,
         }
     }
 
     /// Takes the front of the queue out and answers it; none if the queue is empty or isn't there.
+    /// Comparisons are counted in `steps`.
     #[tactic(auto, using(crate::specs::Facts::tasks_without, crate::specs::Facts::pushes_without))]
-    pub fn pop(&mut self, id: u64) -> Option<u32>
-        ensures answer { result ≡ front_of self.old id }
-        ensures known { IfSome result (λ t. t < task_count self.old) }
-        ensures first { IfSome result (IsFront self.old id) }
-        ensures state { self.new ≡ popped self.old id }
-        ensures tasks { task_count self.new ≡ task_count self.old }
-        ensures pushes { self.new.pushes ≡ self.old.pushes }
+    pub fn pop<L: Ledger>(&mut self, id: u64, steps: &mut Steps<L>) -> Option<u32>
+        ensures answer { result ≡ front_of self.old.state id }
+        ensures known { IfSome result (λ t. t < task_count self.old.state) }
+        ensures first { IfSome result (IsFront self.old.state id) }
+        ensures state { self.new.state ≡ popped self.old.state id }
+        ensures cost { IsPaid self.old self.new id (steps.new - steps.old) }
+        ensures more { steps.old ≤ steps.new }
+        ensures tasks { task_count self.new.state ≡ task_count self.old.state }
+        ensures pushes { self.new.state.pushes ≡ self.old.state.pushes }
     {
         let task = self.front(id)?;
-        self.remove(task);
+        self.remove(task, steps);
         Some(task)
     }
 
     /// Takes the task out of the queue in which it waits, and tells whether it waited in any.
+    /// Comparisons are counted in `steps`.
     #[tactic(auto, using(crate::specs::Facts::tasks_removed, crate::specs::Facts::pushes_removed))]
-    pub fn remove(&mut self, task: u32) -> bool
-        requires { task < task_count self.old }
-        ensures answer { result ≡ is_some (place_of self.old task) }
-        ensures state { self.new ≡ removed self.old task }
-        ensures tasks { task_count self.new ≡ task_count self.old }
-        ensures pushes { self.new.pushes ≡ self.old.pushes }
+    pub fn remove<L: Ledger>(&mut self, task: u32, steps: &mut Steps<L>) -> bool
+        requires { task < task_count self.old.state }
+        ensures answer { result ≡ is_some (place_of self.old.state task) }
+        ensures state { self.new.state ≡ removed self.old.state task }
+        ensures cost { IfSome (queue_of self.old.state task) (λ id. IsPaid self.old self.new id (steps.new - steps.old)) }
+        ensures unchanged { result ≡ false → self.new ≡ self.old }
+        ensures free { result ≡ false → steps.new ≡ steps.old }
+        ensures more { steps.old ≤ steps.new }
+        ensures tasks { task_count self.new.state ≡ task_count self.old.state }
+        ensures pushes { self.new.state.pushes ≡ self.old.state.pushes }
     {
         let Some(place) = self.places[task as usize] else {
             return false;
         };
-        let Some(index) = find(&self.live, place.queue) else {
+        let Some(index) = find(&self.live, &self.order, place.queue) else {
             unreachable!()
         };
-        leave(&mut self.links, &mut self.live[index], task, place.rank);
+        leave(
+            &mut self.links,
+            &mut self.spots,
+            &mut self.live[index],
+            task,
+            place.rank,
+            steps,
+        );
         self.places[task as usize] = None;
         true
     }
 
     /// How many tasks wait in the queue; 0 if it isn't there.
     pub fn len(&self, id: u64) -> usize
-        ensures { result ≡ len_of self.now id }
+        ensures { result ≡ len_of self.now.state id }
     {
-        match find(&self.live, id) {
+        match find(&self.live, &self.order, id) {
             Some(index) => self.live[index].len(),
             None => 0,
         }
@@ -219,8 +261,8 @@ impl Queues {
 
     /// The queue in which the task waits.
     pub fn queue_of(&self, task: u32) -> Option<u64>
-        requires { task < task_count self.now }
-        ensures { result ≡ queue_of self.now task }
+        requires { task < task_count self.now.state }
+        ensures { result ≡ queue_of self.now.state task }
     {
         match self.places[task as usize] {
             Some(place) => Some(place.queue),
@@ -230,52 +272,102 @@ impl Queues {
 
     /// How many tasks there are; their numbers are below it.
     pub fn tasks(&self) -> usize
-        ensures { result ≡ task_count self.now }
+        ensures { result ≡ task_count self.now.state }
     {
         self.places.len()
     }
 
     /// What holds after any calls. The function does nothing: its contract is the law.
     pub fn are_sound(&self)
-        ensures queues { HasOneOfEach self.now }
-        ensures homes { WaitsInAQueue self.now }
-        ensures sorts { HasOneSort self.now }
-        ensures stamped { IsStamped self.now }
-        ensures stamps { HasOwnStamps self.now }
-        ensures standing { StandsInSoMany self.now }
+        ensures queues { HasOneOfEach self.now.state }
+        ensures homes { WaitsInAQueue self.now.state }
+        ensures sorts { HasOneSort self.now.state }
+        ensures stamped { IsStamped self.now.state }
+        ensures stamps { HasOwnStamps self.now.state }
+        ensures standing { StandsInSoMany self.now.state }
+        ensures arrays { HasArrays self.now }
     {
         let _live = &self.live;
     }
 
     /// How many pushes were accepted.
     pub fn pushes(&self) -> u64
-        ensures { result ≡ self.now.pushes }
+        ensures { result ≡ self.now.state.pushes }
     {
         self.pushes
     }
 }
 
-/// Where the queue of that id stands.
-fn find(live: &[Queue], id: u64) -> Option<usize>
-    ensures found { is_some result ≡ list_any (λ other. other == id) (map (λ q. q.id) live.now) }
-    ensures at { IfSome result (λ i. (i < length live.now) × HoldsAt (λ q. q.id ≡ id) live.now i) }
+/// Where the queue stands into which the task may go by that rank, or the first refusal.
+fn admit(
+    live: &[Queue],
+    order: &[usize],
+    places: &[Option<Place>],
+    id: u64,
+    task: u32,
+    rank: Rank,
+) -> Result<usize, QueueError>
+    requires task { task < length places.now }
+    requires order { IsOrder (ids_of live.now) order.now }
+    ensures admitted { IfOk result (λ k. IsAdmitted live.now places.now k id task rank) }
+    ensures refused { IfErr result (IsRefused live.now places.now id task rank) }
 {
-    for (index, queue) in live.iter().enumerate() {
-        if queue.id == id {
-            return Some(index);
-        }
+    let Some(index) = find(live, order, id) else {
+        return Err(QueueError::NoSuchQueue);
+    };
+    if places[task as usize].is_some() {
+        return Err(QueueError::AlreadyThere);
     }
-    None
+    if live[index].clashes(rank) {
+        return Err(QueueError::Mixed);
+    }
+    Ok(index)
 }
 
-/// Empty lines for queues to come.
-fn spare_lines(alloc: Global, queues: usize, tasks: usize) -> Result<Vec<Line>, AllocError>
-    ensures lines { IfOk result (λ lines. length lines.items ≡ queues) }
-    ensures empty { IfOk result (λ lines. All (λ line. line ≡ record { room = tasks; entries = [] }) lines.items) }
+/// Where the queue of that id stands.
+fn find(live: &[Queue], order: &[usize], id: u64) -> Option<usize>
+    requires { IsOrder (ids_of live.now) order.now }
+    ensures found { is_some result ≡ list_any (λ other. other == id) (ids_of live.now) }
+    ensures at { IfSome result (λ i. (i < length live.now) × HoldsAt (λ q. q.id ≡ id) live.now i) }
 {
-    let mut lines = Vec::with_capacity(alloc, queues)?;
-    for _ in 0..queues {
-        lines.push(Line::new(alloc, tasks)?)?;
+    match search(live, order, id) {
+        Ok(place) => Some(order[place]),
+        Err(_) => None,
     }
-    Ok(lines)
+}
+
+/// Where the order names the queue of that id, or else where it would.
+fn search(live: &[Queue], order: &[usize], id: u64) -> Result<usize, usize>
+    requires { IsOrder (ids_of live.now) order.now }
+    ensures found { IfOk result (λ k. (k < length order.now) × HoldsAt (λ a. slice_index_or (ids_of live.now) a 0 ≡ id) order.now k) }
+    ensures missing { IfErr result (IsGap (ids_of live.now) order.now id) }
+    ensures named { is_ok result ≡ list_any (λ other. other == id) (ids_of live.now) }
+{
+    let mut low = 0;
+    let mut high = order.len();
+    while low < high {
+        let middle = low + (high - low) / 2;
+        let other = live[order[middle]].id;
+        if other == id {
+            return Ok(middle);
+        }
+        if other < id {
+            low = middle + 1;
+        } else {
+            high = middle;
+        }
+    }
+    Err(low)
+}
+
+/// Empty heaps for queues to come.
+fn spare_heaps(alloc: Global, queues: usize, tasks: usize) -> Result<Vec<Heap>, AllocError>
+    ensures heaps { IfOk result (λ heaps. length heaps.items ≡ queues) }
+    ensures empty { IfOk result (λ heaps. All (λ heap. heap ≡ record { room = tasks; items = [] }) heaps.items) }
+{
+    let mut heaps = Vec::with_capacity(alloc, queues)?;
+    for _ in 0..queues {
+        heaps.push(Heap::new(alloc, tasks)?)?;
+    }
+    Ok(heaps)
 }

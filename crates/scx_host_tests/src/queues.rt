@@ -1,37 +1,83 @@
-ghost use Rattle.std.specs.Prelude.{IsTrue};
-ghost use Rattle.scx_dsq.specs.Commands.{KnowsTask};
+ghost use Rattle.std.specs.Prelude.{◌≡◌, ◌<◌};
 
-use scx_dsq::{Command, QueueError, Queues, Reply, answer, run};
+use scx_dsq::{QueueError, Queues, Steps};
 use std::alloc::{AllocError, Global};
+use std::marker::Brand;
 use std::process::Abort;
+use std::sync::ledger::{Blank, Ledger};
 use std::test::Fail;
+
+/// A call of `Queues`.
+#[derive(Clone, Copy, Debug)]
+enum Command {
+    Create { queue: u64 },
+    PushFifo { queue: u64, task: u32 },
+    PushVtime { queue: u64, task: u32, key: u64 },
+    Front { queue: u64 },
+    Pop { queue: u64 },
+    Remove { task: u32 },
+    Len { queue: u64 },
+    QueueOf { task: u32 },
+    Pushes,
+}
+
+/// What it answered.
+#[derive(Clone, Copy, Debug, PartialEq, Eq)]
+enum Reply {
+    /// Of `Create`, `PushFifo` and `PushVtime`.
+    Done(Result<(), QueueError>),
+    /// Of `Front` and `Pop`.
+    Task(Option<u32>),
+    Removed(bool),
+    Len(usize),
+    Queue(Option<u64>),
+    Pushes(u64),
+}
 
 const DONE: Reply = Reply::Done(Ok(()));
 
-/// Whether the task that a command names is one that there is.
-fn is_known(queues: &Queues, command: Command) -> bool
-    ensures { IsTrue result → KnowsTask queues.now command }
-{
-    match command {
-        Command::PushFifo { queue: _, task }
-        | Command::PushVtime {
-            queue: _,
-            task,
-            key: _,
-        }
-        | Command::Remove { task }
-        | Command::QueueOf { task } => (task as usize) < queues.tasks(),
-        _ => true,
-    }
+/// Makes the call, whose task is one that there is.
+fn ask<R: Abort>(rt: &R, queues: &mut Queues, command: Command) -> Reply {
+    ask_counted::<Brand, R>(rt, queues, command, Blank::new(1))
 }
 
-/// Carries out a command whose task is one that there is.
-fn ask(rt: &impl Abort, queues: &mut Queues, command: Command) -> Reply {
-    let known = is_known(queues, command);
-    assert!(rt; known);
+fn ask_counted<L: Ledger, R: Abort>(
+    rt: &R,
+    queues: &mut Queues,
+    command: Command,
+    blank: Blank,
+) -> Reply
+    requires name { blank.name ≡ L.name }
+    requires parts { blank.parts ≡ L.parts }
+    requires some { 0 < blank.parts }
+{
+    let mut steps = Steps::<L>::new(blank);
+    let tasks = queues.tasks();
     let pushes = queues.pushes();
     assert!(rt; pushes < 1 << 62);
-    answer(queues, command)
+    match command {
+        Command::Create { queue } => Reply::Done(queues.create(queue)),
+        Command::PushFifo { queue, task } => {
+            assert!(rt; (task as usize) < tasks);
+            Reply::Done(queues.push_fifo(queue, task))
+        }
+        Command::PushVtime { queue, task, key } => {
+            assert!(rt; (task as usize) < tasks);
+            Reply::Done(queues.push_vtime(queue, task, key, &mut steps))
+        }
+        Command::Front { queue } => Reply::Task(queues.front(queue)),
+        Command::Pop { queue } => Reply::Task(queues.pop(queue, &mut steps)),
+        Command::Remove { task } => {
+            assert!(rt; (task as usize) < tasks);
+            Reply::Removed(queues.remove(task, &mut steps))
+        }
+        Command::Len { queue } => Reply::Len(queues.len(queue)),
+        Command::QueueOf { task } => {
+            assert!(rt; (task as usize) < tasks);
+            Reply::Queue(queues.queue_of(task))
+        }
+        Command::Pushes => Reply::Pushes(queues.pushes()),
+    }
 }
 
 /// Carries out commands one by one, and compares their replies.
@@ -204,110 +250,102 @@ fn has_no_room_at_all(rt: HostRuntime) -> Result<(), Fail> {
     Ok(())
 }
 
-#[test]
-fn runs_commands(rt: HostRuntime) -> Result<(), Fail> {
-    let mut queues = Queues::new(rt.alloc(), 1, 2)?;
-    let commands = [
-        Command::Create { queue: 5 },
-        Command::PushFifo { queue: 5, task: 1 },
-        Command::PushFifo { queue: 5, task: 0 },
-        Command::Pop { queue: 5 },
-        Command::Remove { task: 1 },
-        Command::Pushes,
-    ];
-    let replies = run(rt.alloc(), &mut queues, &commands)?;
-    let wanted = [
-        DONE,
-        DONE,
-        DONE,
-        Reply::Task(Some(1)),
-        Reply::Removed(false),
-        Reply::Pushes(2),
-    ];
-    assert_eq!(rt; replies.as_slice(), wanted.as_slice());
-    Ok(())
-}
-
-/// A task that waits, in the plain list.
+/// A task that waits, in a plain queue.
 #[derive(Clone, Copy)]
 struct Waiting {
-    queue: u64,
-    by_vtime: bool,
     key: u64,
-    stamp: u64,
     task: u32,
 }
 
-/// The same queues as a plain list of those who wait, in no order.
+/// A queue as a vector, the next to leave first.
+#[derive(Drop)]
+struct PlainQueue {
+    id: u64,
+    by_vtime: bool,
+    waiting: Vec<Waiting>,
+}
+
+/// The same queues as sorted vectors.
 #[derive(Drop)]
 struct Plain {
+    alloc: Global,
     room: usize,
-    queues: Vec<u64>,
-    waiting: Vec<Waiting>,
+    queues: Vec<PlainQueue>,
     pushes: u64,
 }
 
 impl Plain {
-    fn create(&mut self, queue: u64) -> Result<Reply, AllocError> {
-        if self.queues.contains(&queue) {
+    fn new(alloc: Global, room: usize) -> Plain {
+        Plain {
+            alloc,
+            room,
+            queues: Vec::new(alloc),
+            pushes: 0,
+        }
+    }
+
+    fn create(&mut self, id: u64) -> Result<Reply, AllocError> {
+        if self.queues.iter().any(|q| q.id == id) {
             return Ok(refused(QueueError::AlreadyThere));
         }
         if self.queues.len() >= self.room {
             return Ok(refused(QueueError::TooManyQueues));
         }
-        self.queues.push(queue)?;
+        self.queues.push(PlainQueue {
+            id,
+            by_vtime: false,
+            waiting: Vec::new(self.alloc),
+        })?;
         Ok(DONE)
     }
 
-    fn push(
-        &mut self,
-        queue: u64,
-        task: u32,
-        by_vtime: bool,
-        key: u64,
-    ) -> Result<Reply, AllocError> {
-        if !self.queues.contains(&queue) {
+    fn push(&mut self, id: u64, task: u32, by_vtime: bool, key: u64) -> Result<Reply, AllocError> {
+        let waits = self.queue_of(task).is_some();
+        let Some(index) = self.queues.iter().position(|q| q.id == id) else {
             return Ok(refused(QueueError::NoSuchQueue));
-        }
-        if self.waiting.iter().any(|w| w.task == task) {
+        };
+        if waits {
             return Ok(refused(QueueError::AlreadyThere));
         }
-        if self
-            .waiting
-            .iter()
-            .any(|w| w.queue == queue && w.by_vtime != by_vtime)
-        {
+        let queue = &mut self.queues[index];
+        if !queue.waiting.is_empty() && queue.by_vtime != by_vtime {
             return Ok(refused(QueueError::Mixed));
         }
-        self.waiting.push(Waiting {
-            queue,
-            by_vtime,
-            key,
-            stamp: self.pushes,
-            task,
-        })?;
+        queue.by_vtime = by_vtime;
+        let behind = queue.waiting.iter().filter(|w| w.key <= key).count();
+        queue.waiting.insert(behind, Waiting { key, task })?;
         self.pushes = self.pushes.wrapping_add(1);
         Ok(DONE)
     }
 
-    fn front(&self, queue: u64) -> Option<u32> {
-        let mut best: Option<Waiting> = None;
-        for waiting in self.waiting.as_slice() {
-            let first = match best {
-                Some(other) => (waiting.key, waiting.stamp) < (other.key, other.stamp),
-                None => true,
-            };
-            if waiting.queue == queue && first {
-                best = Some(*waiting);
+    fn front(&self, id: u64) -> Option<u32> {
+        let queue = self.queues.iter().find(|q| q.id == id)?;
+        let first = queue.waiting.first()?;
+        Some(first.task)
+    }
+
+    fn len(&self, id: u64) -> usize {
+        match self.queues.iter().find(|q| q.id == id) {
+            Some(queue) => queue.waiting.len(),
+            None => 0,
+        }
+    }
+
+    fn queue_of(&self, task: u32) -> Option<u64> {
+        for queue in self.queues.as_slice() {
+            if queue.waiting.iter().any(|w| w.task == task) {
+                return Some(queue.id);
             }
         }
-        best.map(|waiting| waiting.task)
+        None
     }
 
     fn remove(&mut self, task: u32) -> bool {
-        let before = self.waiting.len();
-        self.waiting.retain(|w| w.task != task);
-        self.waiting.len() < before
+        let waits = self.queue_of(task).is_some();
+        for queue in self.queues.as_mut_slice() {
+            queue.waiting.retain(|w| w.task != task);
+        }
+        waits
     }
 
     fn answer(&mut self, command: Command) -> Result<Reply, AllocError> {
@@ -324,15 +362,8 @@ impl Plain {
                 Reply::Task(front)
             }
             Command::Remove { task } => Reply::Removed(self.remove(task)),
-            Command::Len { queue } => {
-                Reply::Len(self.waiting.iter().filter(|w| w.queue == queue).count())
-            }
-            Command::QueueOf { task } => Reply::Queue(
-                self.waiting
-                    .iter()
-                    .find(|w| w.task == task)
-                    .map(|w| w.queue),
-            ),
+            Command::Len { queue } => Reply::Len(self.len(queue)),
+            Command::QueueOf { task } => Reply::Queue(self.queue_of(task)),
             Command::Pushes => Reply::Pushes(self.pushes),
         })
     }
@@ -348,12 +379,12 @@ fn next(state: &mut u64) -> u64 {
     x
 }
 
-/// A command of the walk: few queues, few keys, and more pushes than pops.
+/// A command of the walk: of 17 queues there is room for 16; few keys, and more pushes than pops.
 fn command_of(number: u64) -> Command {
-    let queue = (number >> 8) % 5;
-    let task = ((number >> 16) % 40) as u32;
+    let queue = (number >> 8) % 17;
+    let task = ((number >> 16) % 1024) as u32;
     let keys = [0, 1, 2, 1 << 63, u64::MAX];
-    let key = keys[((number >> 24) % 5) as usize];
+    let key = keys[((number >> 32) % 5) as usize];
     match number % 16 {
         0 => create(queue),
         1..=4 => push_fifo(queue, task),
@@ -366,28 +397,47 @@ fn command_of(number: u64) -> Command {
     }
 }
 
+/// Makes a call of both, and compares what they answer.
+fn compare(
+    rt: &impl Abort,
+    queues: &mut Queues,
+    plain: &mut Plain,
+    command: Command,
+) -> Result<(), AllocError> {
+    let wanted = plain.answer(command)?;
+    assert_eq!(rt; ask(rt, queues, command), wanted, "{command:?}");
+    Ok(())
+}
+
 #[test]
-fn agrees_with_a_plain_list(rt: HostRuntime) -> Result<(), Fail> {
-    let mut queues = Queues::new(rt.alloc(), 4, 40)?;
-    let mut plain = Plain {
-        room: 4,
-        queues: Vec::new(rt.alloc()),
-        waiting: Vec::new(rt.alloc()),
-        pushes: 0,
-    };
+fn agrees_with_sorted_vectors(rt: HostRuntime) -> Result<(), Fail> {
+    let mut queues = Queues::new(rt.alloc(), 16, 1024)?;
+    let mut plain = Plain::new(rt.alloc(), 16);
     let mut state = 0x9e37_79b9_7f4a_7c15;
-    for step in 0..5000 {
+    for _ in 0..10_000 {
         let command = command_of(next(&mut state));
-        let wanted = plain.answer(command)?;
-        assert_eq!(rt;
-            ask(&rt, &mut queues, command),
-            wanted,
-            "step {step}: {command:?}"
-        );
-        assert_eq!(rt;
-            ask(&rt, &mut queues, Command::Pushes),
-            Reply::Pushes(plain.pushes)
-        );
+        compare(&rt, &mut queues, &mut plain, command)?;
+        compare(&rt, &mut queues, &mut plain, Command::Pushes)?;
+    }
+    Ok(())
+}
+
+#[test]
+fn removes_from_the_middle_of_many(rt: HostRuntime) -> Result<(), Fail> {
+    let mut queues = Queues::new(rt.alloc(), 1, 1024)?;
+    let mut plain = Plain::new(rt.alloc(), 1);
+    compare(&rt, &mut queues, &mut plain, create(0))?;
+    let mut state = 0x9e37_79b9_7f4a_7c15;
+    for task in 0..1024 {
+        let command = push_vtime(0, task, next(&mut state) % 512);
+        compare(&rt, &mut queues, &mut plain, command)?;
+    }
+    for task in [512, 511, 700, 0, 1023] {
+        compare(&rt, &mut queues, &mut plain, remove(task))?;
+        compare(&rt, &mut queues, &mut plain, front(0))?;
+    }
+    for _ in 0..1020 {
+        compare(&rt, &mut queues, &mut plain, pop(0))?;
     }
     Ok(())
 }

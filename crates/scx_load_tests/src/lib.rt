@@ -4,4 +4,8 @@
 #[cfg(test)]
 mod driver;
 #[cfg(test)]
+mod faults;
+#[cfg(test)]
+mod policies;
+#[cfg(test)]
 mod workloads;

@@ -1,7 +1,7 @@
 -- Tasks are enabled one after another.
-use Rattle.std.proofs.Common.{◌≡◌, ℕ, zero, suc, ◌+◌, ◌<◌, ◌≤◌, ◌⊎◌, ◌∙◌, inl, inr, List, ◌++◌, Option, Some, None, refl, sym, arith, add-one, subst}
+use Rattle.std.proofs.Common.{◌≡◌, ℕ, zero, suc, ◌+◌, ◌<◌, ◌≤◌, ◌⊎◌, ◌∙◌, inl, inr, ◌++◌, Some, None, refl, sym, arith, add-one, subst}
 use Rattle.std.proofs.lemmas.Bool.{cases_eq}
-use Rattle.scx_machine.specs.Steps.{State, CallMade}
+use Rattle.scx_machine.specs.Steps.{State}
 use Rattle.scx_machine.specs.Callbacks.{AreAnswered}
 use Rattle.scx_machine.specs.Start.{enable, then_enable, enabled, enable_calls, calls_below}
 use Rattle.scx_machine.proofs.Taking.{answered_append}

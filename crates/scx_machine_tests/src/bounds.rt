@@ -1,6 +1,6 @@
 //! As much as there may be, and policies that do nothing or name what they may not.
 
-use crate::policies::{ENQUEUE, INIT, NONE, defs, machine, policy, program, tree, two_milliseconds};
+use crate::policies::{ENQUEUE, INIT, NONE, defs, machine, policy, program, tree};
 use crate::recorder::Recorder;
 use scx_isa::Callback;
 use scx_sched::{Callbacks, Event, NewError, Place, Policy, Sim};
@@ -14,8 +14,35 @@ fn place(rt: &impl Abort, sim: &Sim, task: u16) -> Place {
     sim.place(task)
 }
 
-#[test]
-fn as_much_as_there_may_be(rt: HostRuntime) -> Result<(), Fail> {
+/// Creates so many queues.
+fn creating<R: AllocGlobal + Abort>(rt: &R, queues: u32) -> String {
+    let mut text = String::new(rt.alloc());
+    for queue in 0..queues {
+        let line = format!(in rt.alloc(); "r1 = {queue}\ncall 1001\n").expect(
+            rt,
+            "there is memory",
+        );
+        text.push_str(line.as_str()).expect(rt, "there is memory");
+    }
+    text.push_str("r0 = 0\nexit").expect(rt, "there is memory");
+    text
+}
+
+/// Tasks wait in sixteen queues by number, and processors take turns at these.
+fn sixteen_queues<R: AllocGlobal + Abort>(rt: &R) -> Policy {
+    let enqueue =
+        "r4 = r2\nr2 = *(u32 *)(r1 + 0)\nr2 -= 1\nr2 &= 15\nr3 = 2000000\ncall 1002\nexit";
+    let callbacks = Callbacks {
+        init: program(rt, Callback::Init, creating(rt, 16).as_str()),
+        enqueue: program(rt, Callback::Enqueue, enqueue),
+        dispatch: program(rt, Callback::Dispatch, "r1 &= 15\ncall 1004\nexit"),
+        ..NONE
+    };
+    policy(rt, callbacks)
+}
+
+/// 1024 tasks in 256 groups.
+fn large_tree(rt: &impl AllocGlobal) -> Result<Tree, Fail> {
     let mut groups = Vec::new(rt.alloc());
     for _ in 0..256 {
         groups.push(Group {
@@ -27,42 +54,50 @@ fn as_much_as_there_may_be(rt: HostRuntime) -> Result<(), Fail> {
     for task in 0..1024_u32 {
         tasks.push(task % 256)?;
     }
-    let tree = Tree::new(rt.alloc(), &groups, &tasks)?;
-    let mut sim = Sim::new(rt.alloc(), two_milliseconds(&rt), tree, 64)?;
+    Ok(Tree::new(rt.alloc(), &groups, &tasks)?)
+}
+
+#[test]
+fn as_much_as_there_may_be(rt: HostRuntime) -> Result<(), Fail> {
+    let mut sim = Sim::new(rt.alloc(), sixteen_queues(&rt), large_tree(&rt)?, 64)?;
     let mut recorder = Recorder::new(rt.alloc(), 100_000);
     for task in 0..1024_u16 {
         assert_eq!(rt; sim.step(Event::Wake(task), &mut recorder), Ok(()));
     }
-    for cpu in 0..64_u32 {
-        assert_eq!(rt; sim.step(Event::Tick(cpu), &mut recorder), Ok(()));
-    }
     assert_eq!(rt; place(&rt, &sim, 63), Place::Cpu(63));
     assert_eq!(rt; place(&rt, &sim, 64), Place::Policy(0));
+    // A slice of 2 ms is over with the second tick of a processor.
+    for _ in 0..2 {
+        for cpu in 0..64_u32 {
+            assert_eq!(rt; sim.step(Event::Tick(cpu), &mut recorder), Ok(()));
+        }
+    }
+    assert_eq!(rt; place(&rt, &sim, 63), Place::Policy(15));
+    assert_eq!(rt; place(&rt, &sim, 64), Place::Cpu(0));
+    assert_eq!(rt; place(&rt, &sim, 127), Place::Cpu(63));
+    assert_eq!(rt; place(&rt, &sim, 128), Place::Policy(0));
+    assert_eq!(rt; place(&rt, &sim, 1023), Place::Policy(15));
+    // Two for each task that wakes, two for each that then runs, four where one follows another.
+    assert_eq!(rt; recorder.notes.len(), 2 * 1024 + 2 * 64 + 4 * 64);
     Ok(())
 }
 
 /// The answer with which a machine can't begin whose init creates so many queues.
-fn init_failure<R: AllocGlobal + Abort>(rt: &R, queues: u32) -> Result<Option<i64>, Fail> {
-    let mut text = String::new(rt.alloc());
-    for queue in 0..queues {
-        let line = format!(in rt.alloc(); "r1 = {queue}\ncall 1001\n")?;
-        text.push_str(line.as_str())?;
-    }
-    text.push_str("r0 = 0\nexit")?;
+fn init_failure<R: AllocGlobal + Abort>(rt: &R, queues: u32) -> Option<i64> {
     let callbacks = Callbacks {
-        init: program(rt, Callback::Init, text.as_str()),
+        init: program(rt, Callback::Init, creating(rt, queues).as_str()),
         ..NONE
     };
     match Sim::new(rt.alloc(), policy(rt, callbacks), tree(rt, &[0]), 1) {
-        Err(NewError::InitFailed(answer)) => Ok(Some(answer)),
-        _ => Ok(None),
+        Err(NewError::InitFailed(answer)) => Some(answer),
+        Ok(_) | Err(_) => None,
     }
 }
 
 #[test]
 fn sixteen_queues_are_fine(rt: HostRuntime) -> Result<(), Fail> {
-    assert_eq!(rt; init_failure(&rt, 16)?, None);
-    assert_eq!(rt; init_failure(&rt, 17)?, Some(-22));
+    assert_eq!(rt; init_failure(&rt, 16), None);
+    assert_eq!(rt; init_failure(&rt, 17), Some(-22));
     Ok(())
 }
 
@@ -102,8 +137,10 @@ fn inserts(rt: HostRuntime) -> Result<(), Fail> {
 
 /// Where a task is once dispatch has tried to move it from that queue.
 fn place_after_move<R: AllocGlobal + Abort>(rt: &R, enqueue: &str, queue: &str) -> Place {
-    let text = format!(in rt.alloc(); "r1 = {queue} ll\ncall 1004\nexit")
-        .expect(rt, "there is memory");
+    let text = format!(in rt.alloc(); "r1 = {queue} ll\ncall 1004\nexit").expect(
+        rt,
+        "there is memory",
+    );
     let callbacks = Callbacks {
         init: program(rt, Callback::Init, INIT),
         enqueue: program(rt, Callback::Enqueue, enqueue),

@@ -102,6 +102,17 @@ fn inits(rt: HostRuntime) -> Result<(), Fail> {
     Ok(())
 }
 
+#[test]
+fn a_fault_in_enable(rt: HostRuntime) -> Result<(), Fail> {
+    let callbacks = Callbacks {
+        enable: program(&rt, Callback::Enable, "r1 = 9\ncall 1008\nexit"),
+        ..NONE
+    };
+    let bad = bad_machine(&rt, policy(&rt, callbacks), tree(&rt, &[0]), 1);
+    assert_eq!(rt; bad, Some(NewError::InitFailed(-22)));
+    Ok(())
+}
+
 fn expect(rt: &impl Abort, sim: &mut Sim, recorder: &mut Recorder, event: Event, refused: Refused) {
     let events = sim.events();
     let notes = recorder.notes.len();

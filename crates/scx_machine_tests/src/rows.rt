@@ -68,15 +68,31 @@ fn two_tasks_take_turns(rt: HostRuntime) -> Result<(), Fail> {
     Ok(())
 }
 
+fn assert_same(rt: &impl Abort, one: &Sim, other: &Sim) {
+    assert_eq!(rt; one.clock(), other.clock());
+    assert_eq!(rt; one.events(), other.events());
+    for task in 0..2 {
+        let known = task < one.tasks() && task < other.tasks();
+        assert!(rt; known);
+        assert_eq!(rt; one.place(task), other.place(task));
+        assert_eq!(rt; one.run_ns(task), other.run_ns(task));
+        assert_eq!(rt; one.slice(task), other.slice(task));
+        assert_eq!(rt; one.vtime(task), other.vtime(task));
+        assert_eq!(rt; one.wait(task), other.wait(task));
+    }
+}
+
 #[test]
 fn a_sink_that_fails_changes_nothing_else(rt: HostRuntime) -> Result<(), Fail> {
+    let mut whole = machine(&rt, two_milliseconds(&rt), 1);
+    let mut all = Recorder::new(rt.alloc(), 100);
+    run(&rt, &mut whole, &mut all, &TWO_TASKS);
     for room in 0..14 {
         let mut sim = machine(&rt, two_milliseconds(&rt), 1);
         let mut recorder = Recorder::new(rt.alloc(), room);
         run(&rt, &mut sim, &mut recorder, &TWO_TASKS);
         assert_eq!(rt; recorder.notes.len(), room);
-        assert_eq!(rt; place(&rt, &sim, 0), Place::Cpu(0));
-        assert_eq!(rt; place(&rt, &sim, 1), Place::Policy(0));
+        assert_same(&rt, &sim, &whole);
     }
     Ok(())
 }
@@ -155,5 +171,10 @@ fn two_processors_share_three_tasks(rt: HostRuntime) -> Result<(), Fail> {
         note(1, What::Run(0, 1)),
     ];
     assert_eq!(rt; recorder.notes.as_slice(), wanted.as_slice());
+    for (task, run_ns) in [(0, 3_000_000), (1, 2_000_000), (2, 1_000_000)] {
+        let known = task < sim.tasks();
+        assert!(rt; known);
+        assert_eq!(rt; sim.run_ns(task), run_ns);
+    }
     Ok(())
 }

@@ -1,5 +1,5 @@
 -- What a run of a callback may leave is what is computed.
-use Rattle.std.proofs.Common.{◌≡◌, ℕ, Option, Some, None, refl, sym, ◌∙◌, ap, subst}
+use Rattle.std.proofs.Common.{◌≡◌, Option, Some, None, refl, sym, ◌∙◌, ap, subst}
 use Rattle.scx_semantics.specs.declared.callbacks.Callback.{Callback}
 use Rattle.scx_semantics.specs.Elements.{Maps}
 use Rattle.scx_semantics.specs.Endings.{Ending, run_of, run_is, stuck_is}
@@ -10,7 +10,7 @@ use Rattle.scx_vm.specs.Host.{answer_to, after_query}
 use Rattle.scx_world.specs.World.{WorldState, begun}
 use Rattle.scx_world.specs.Helpers.{helper_answer, helper_after, world_number, world_stored}
 use Rattle.scx_machine.specs.Policy.{program_of, IsAs}
-use Rattle.scx_machine.specs.Callbacks.{called, calls_of, call_back, IsAnswered, AreAnswered}
+use Rattle.scx_machine.specs.Callbacks.{called, calls_of, call_back, AreAnswered}
 use Rattle.scx_rules.specs.Callbacks.{EndsAs, Absent, Exits, Gets_stuck, leaving}
 use Rattle.scx_rules.specs.Laws.{RulesAllowCallbacks, RulesAllowCallbacksOnly}
 

@@ -1,19 +1,18 @@
 -- How a machine begins is what the rules allow, and nothing else is.
-use Rattle.std.proofs.Common.{◌≡◌, ℕ, zero, suc, ℤ, ◌+◌, ◌<◌, ◌≤◌, Bool, true, false, ◌==◌, ◌||◌, nat_lt, ◌⊎◌, inl, inr, length, List, [], ◌∷◌, ◌++◌, Option, Some, None, is_some, is_none, Result, Ok, Err, if◌then◌else◌, refl, sym, ◌∙◌, ap, subst, arith}
+use Rattle.std.proofs.Common.{◌≡◌, ℕ, zero, suc, ℤ, ◌+◌, ◌<◌, ◌≤◌, Bool, true, false, ◌||◌, nat_lt, ◌⊎◌, inl, inr, length, List, [], ◌∷◌, ◌++◌, Option, Some, None, is_some, is_none, Result, Ok, Err, if◌then◌else◌, refl, sym, ◌∙◌, ap, subst, arith}
 use Rattle.std.specs.Int.{w64, cast_signed}
 use Rattle.std.proofs.lemmas.Bool.{cases_eq, cases_lt, eq-eqb, ne_eqb}
 use Rattle.std.proofs.lemmas.Bool.Decides.{nat_tests}
 use Rattle.scx_weights.specs.Counting.{any_below}
-use Rattle.scx_weights.specs.Hierarchy.{Hierarchy, is_active_task}
+use Rattle.scx_weights.specs.Hierarchy.{is_active_task}
 use Rattle.scx_semantics.specs.declared.callbacks.Callback.TheVariants as callback
 use Rattle.scx_semantics.specs.Endings.{Ending}
 use Rattle.scx_world.specs.declared.faults.Fault.{Fault}
 use Rattle.scx_world.specs.World.{WorldState, begun}
 use Rattle.scx_machine.specs.Policy.{PolicyState, program_of, AreAs}
 use Rattle.scx_machine.specs.Steps.{State, CallMade}
-use Rattle.scx_machine.specs.Callbacks.{called, ended, AreAnswered, no_arguments, one_task}
-use Rattle.scx_machine.specs.Start.{is_bad_shape, blank, fault_answer, init_ending, bad_answer, ok_unless, initialized, enable_ending, has_failed, enable, then_enable, enabled, ok_if, all_enabled, started, init_calls, enable_calls, calls_below, calls_after_init, start_calls}
-use Rattle.scx_rules.specs.Callbacks.{EndsAs}
+use Rattle.scx_machine.specs.Callbacks.{ended, AreAnswered, no_arguments, one_task}
+use Rattle.scx_machine.specs.Start.{blank, init_ending, bad_answer, ok_unless, initialized, enable_ending, has_failed, enable, then_enable, enabled, ok_if, all_enabled, init_calls, enable_calls, calls_below, calls_after_init}
 use Rattle.scx_rules.specs.Starts.{HasBadShape, No_cpu, Many_cpus, Active, Judged, Faults, Stuck, Refuses, Accepts, Initializes, Passes, Has_fault, Is_stuck, Answers, Enables, EnablesAll, Nobody, Failed, Next, Begins, Init_fails, Enable_fails, Succeeds}
 use Rattle.scx_rules.specs.Laws.{RulesAllowStarts, RulesAllowStartsOnly, RulesRefuseShapes, RulesRefuseShapesOnly}
 use Rattle.scx_rules.proofs.Calling.{only_ends, ends_as}
@@ -109,7 +108,7 @@ unfolding initialized
 only_initializes s r h =
     only_judged s h.ending r h.judged
     ∙ ap (λ (e : Ending WorldState). ok_unless (bad_answer e.outside.call.fault e.answer) (ended s.policy e))
-      (only_ends (program_of s.policy callback.Init) callback.Init no_arguments s.maps (begun s.world callback.Init 0 0) h.ending h.ends)
+    (only_ends (program_of s.policy callback.Init) callback.Init no_arguments s.maps (begun s.world callback.Init 0 0) h.ending h.ends)
 
 -- ---- enable
 

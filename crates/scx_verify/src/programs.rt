@@ -12,7 +12,7 @@ use crate::translate::translate;
 use scx_abs::Context;
 use scx_isa::{Callback, MAX_SLOTS, Program, flow};
 use scx_maps::MapDefs;
-use scx_plain::Op;
+use scx_plain::Packed;
 use std::alloc::Global;
 use std::marker::Model;
 
@@ -22,7 +22,7 @@ use std::marker::Model;
 /// In a contract it is the list of the program's slots, the callback and the shapes.
 #[derive(Drop)]
 pub struct Verified {
-    ops: Vec<Op>,
+    ops: Vec<Packed>,
     program: Program,
     context: Context,
 }
@@ -63,7 +63,7 @@ impl Verified {
     }
 
     /// Its operations, one for each instruction.
-    pub fn code(&self) -> &[Op]
+    pub fn code(&self) -> &[Packed]
         ensures ready { IsReady self.now.context self.now.code result.now }
         ensures safe { IsSafe self.now.context self.now.code }
         ensures limits { AreWithinLimits self.now.context.defs }

@@ -7,7 +7,7 @@ use Rattle.scx_world.specs.declared.world.World.TheInside.{Inside}
 use Rattle.scx_world.specs.World.{WorldState}
 
 abbrev pub state_of : Inside → WorldState
-state_of w = record { clock = w.clock; tasks = w.tasks.items; cpus = w.cpus.items; queues = w.queues; tree = w.tree; call = w.call; notes = w.notes.items }
+state_of w = record { clock = w.clock; tasks = w.tasks.items; cpus = w.cpus.items; queues = w.queues.state; tree = w.tree; call = w.call; notes = w.notes.items }
 
 -- these bits are set where a task runs, one bit a processor
 abbrev pub AreBusy : ℕ → List (Option ℕ) → Type 0
@@ -18,7 +18,7 @@ AreBusy bits cpus = (c : ℕ) → c < length cpus → bit_at bits c ≡ one_if (
 pub record IsKept (w : Inside) : Type 0 where
   pub notes : 4096 ≤ vec_capacity w.notes
   pub few_notes : length w.notes.items ≤ 4096
-  pub queued : task_count w.queues ≡ length w.tasks.items
+  pub queued : task_count w.queues.state ≡ length w.tasks.items
   pub weighed : length w.tree.homes ≡ length w.tasks.items
   pub few_tasks : length w.tasks.items ≤ 1024
   pub few_cpus : length w.cpus.items ≤ 64

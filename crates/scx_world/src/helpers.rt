@@ -3,6 +3,7 @@ ghost use Rattle.scx_semantics.specs.Outside.{field_width};
 ghost use Rattle.scx_world.specs.Helpers.{invalid, faulted, is_there, create_answer, after_create, queued_answer, after_queued, may_insert, queue_fault, insert_fault, insert_answer, after_insert, move_answer, after_move, weight_at, group_at, field_of};
 
 use crate::call::Insert;
+use crate::counting;
 use crate::faults::Fault;
 use crate::ids::{GLOBAL, INVALID, LOCAL, LOCAL_IDS, LOCAL_ON, POLICY_END};
 use crate::notes::{Note, What};
@@ -132,7 +133,7 @@ impl World {
         if self.call.callback != Callback::Dispatch || !self.is_there(queue) {
             return self.fault(Fault::NoSuchQueue);
         }
-        let Some(task) = self.queues.pop(queue) else {
+        let Some(task) = counting::pop(&mut self.queues, queue) else {
             return 0;
         };
         let cpu = self.call.cpu;

@@ -5,6 +5,7 @@
 #![tactic(auto)]
 
 mod call;
+mod counting;
 mod faults;
 mod helpers;
 mod host;

@@ -4,6 +4,7 @@ ghost use Rattle.scx_world.specs.Ids.{local_on};
 ghost use Rattle.scx_world.specs.World.{task_at};
 ghost use Rattle.scx_world.specs.Tasks.{woken, asleep, gone, entered, local_len, fill_front, filled, stopped, started, kept, ticked, later, reweighed};
 
+use crate::counting;
 use crate::ids::LOCAL_ON;
 use crate::task::DEFAULT_SLICE;
 use crate::world::World;
@@ -38,7 +39,7 @@ impl World {
         ensures few { self.new.queues.pushes ≡ self.old.queues.pushes }
     {
         if (task as usize) < self.queues.tasks() {
-            self.queues.remove(u32::from(task));
+            counting::remove(&mut self.queues, u32::from(task));
         }
     }
 
@@ -75,7 +76,7 @@ impl World {
         if self.local_len(cpu) > 0 {
             return None;
         }
-        let task = self.queues.pop(queue)?;
+        let task = counting::pop(&mut self.queues, queue)?;
         let _refused = self.queues.push_fifo(LOCAL_ON + u64::from(cpu), task);
         Some(task as u16)
     }
@@ -97,7 +98,7 @@ impl World {
         ensures world { self.new ≡ started self.old cpu }
         ensures few { self.new.queues.pushes ≡ self.old.queues.pushes }
     {
-        let task = self.queues.pop(LOCAL_ON + u64::from(cpu))? as u16;
+        let task = counting::pop(&mut self.queues, LOCAL_ON + u64::from(cpu))? as u16;
         let mut facts = self.task(task);
         facts.prev_cpu = cpu;
         self.set_task(task, facts);

@@ -297,9 +297,9 @@ impl World {
 /// The machine's own queues.
 fn own_queues(alloc: Global, cpus: usize, tasks: usize) -> Result<Queues, AllocError>
     requires { cpus ≤ 64 }
-    ensures queues { IfOk result (λ queues. queues ≡ first_queues cpus tasks) }
-    ensures tasks { IfOk result (λ queues. task_count queues ≡ tasks) }
-    ensures few { IfOk result (λ queues. queues.pushes ≡ 0) }
+    ensures queues { IfOk result (λ queues. queues.state ≡ first_queues cpus tasks) }
+    ensures tasks { IfOk result (λ queues. task_count queues.state ≡ tasks) }
+    ensures few { IfOk result (λ queues. queues.state.pushes ≡ 0) }
 {
     let mut queues = Queues::new(alloc, 19 + cpus, tasks)?;
     let _global = queues.create(GLOBAL);
@@ -312,9 +312,9 @@ fn own_queues(alloc: Global, cpus: usize, tasks: usize) -> Result<Queues, AllocE
 /// A local queue for each processor.
 fn add_locals(queues: &mut Queues, cpus: usize)
     requires { cpus ≤ 64 }
-    ensures queues { queues.new ≡ with_locals cpus queues.old }
-    ensures tasks { task_count queues.new ≡ task_count queues.old }
-    ensures few { queues.new.pushes ≡ queues.old.pushes }
+    ensures queues { queues.new.state ≡ with_locals cpus queues.old.state }
+    ensures tasks { task_count queues.new.state ≡ task_count queues.old.state }
+    ensures few { queues.new.state.pushes ≡ queues.old.state.pushes }
 {
     for cpu in 0..cpus {
         let _made = queues.create(LOCAL_ON + cpu as u64);

@@ -4,7 +4,7 @@
 
 ghost use Rattle.std.specs.Prelude.{◌≡◌, ◌⊎◌};
 ghost use Rattle.std.specs.Io.KnownBytes.{Appends};
-ghost use Rattle.scx_commands.specs.Output.{HasFailed};
+ghost use Rattle.scx_output.specs.Output.{HasFailed};
 
 use clap::error::ErrorKind as WordsErrorKind;
 pub use scx_commands::{Counted, Failed, Fault, Out, Refusal, asm, dis, exec, finish, text};

@@ -1,4 +1,4 @@
-use Rattle.scx_commands.proofs.Growth.{grows_twice}
+use Rattle.scx_output.proofs.Growth.{grows_twice}
 use Rattle.scx_commands.proofs.lines.write_unread.Goals as goal
 
 -- the three parts of the line come one after the other

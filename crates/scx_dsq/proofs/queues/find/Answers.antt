@@ -1,11 +1,14 @@
-use Rattle.std.proofs.Common.{◌∙◌, sym, ap, arith}
-use Rattle.scx_dsq.specs.declared.queue.Queue.{Queue}
-use Rattle.scx_dsq.proofs.Keeping.{id_found, id_missing}
+use Rattle.std.proofs.Common.{sym, get_or}
+use Rattle.std.proofs.lemmas.List.{get_or_default}
+use Rattle.scx_dsq.specs.Kept.{ids_of}
+use Rattle.scx_dsq.proofs.Ordering.{missing, named, stands}
 use Rattle.scx_dsq.proofs.queues.find.Goals as goal
 
-pub returns-then-queue-id-clause-found : goal.returns-then-queue-id-clause-found
-returns-then-queue-id-clause-found c =
-    sym (id_found c.args.live.now c.args.id c.loop-index.index c.index-live-index.result (omega arith) (sym (ap (λ (q : Queue). q.id) c.index-live-index.is) ∙ c.if-queue-id.true))
+pub returns-in-Ok-clause-found : goal.returns-in-Ok-clause-found
+returns-in-Ok-clause-found c = sym (named (ids_of c.args.live.now) c.args.order.now c.args.id c.in-Ok.place c.requires c.in-Ok.ensures.found)
 
-pub returns-clause-found : goal.returns-clause-found
-returns-clause-found c = sym (id_missing c.args.live.now c.args.id (λ k d lt. c.loop-index.invariant k d (omega arith)))
+pub returns-in-Ok-clause-at : goal.returns-in-Ok-clause-at
+returns-in-Ok-clause-at c = stands c.args.live.now c.args.order.now c.args.id c.in-Ok.place (get_or c.args.order.now c.in-Ok.place 0) c.requires c.in-Ok.ensures.found (get_or_default c.args.order.now c.in-Ok.place 0 _ c.in-Ok.ensures.found.0)
+
+pub returns-in-Err-clause-found : goal.returns-in-Err-clause-found
+returns-in-Err-clause-found c = sym (missing (ids_of c.args.live.now) c.args.order.now c.args.id _ c.requires c.in-Err.ensures.missing)

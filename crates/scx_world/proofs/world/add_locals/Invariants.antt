@@ -5,7 +5,7 @@ use Rattle.scx_world.proofs.world.add_locals.Given as goal
 
 abbrev pub invariant-loop-cpu : goal.invariant-loop-cpu
 invariant-loop-cpu l = record {
-  queues : l.queues ≡ with_locals l.cpu l.fn.queues;
-  few : l.queues.pushes ≡ l.fn.queues.pushes;
-  tasks : task_count l.queues ≡ task_count l.fn.queues;
+  queues : l.queues.state ≡ with_locals l.cpu l.fn.queues.state;
+  few : l.queues.state.pushes ≡ l.fn.queues.state.pushes;
+  tasks : task_count l.queues.state ≡ task_count l.fn.queues.state;
 }

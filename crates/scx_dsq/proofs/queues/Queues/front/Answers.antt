@@ -4,7 +4,7 @@ use Rattle.scx_dsq.specs.Kept.{state_of}
 use Rattle.scx_dsq.specs.Facts.{front_is_known}
 use Rattle.scx_dsq.proofs.Fronts.{no_front}
 use Rattle.scx_dsq.proofs.Forms.{front_answer, front_first, front_none}
-use Rattle.scx_dsq.proofs.Keeping.{front_at, nobody_elsewhere}
+use Rattle.scx_dsq.proofs.QueueReads.{front_at, nobody_elsewhere}
 use Rattle.scx_dsq.proofs.queues.Queues.front.Goals as goal
 
 pub returns-in-Some-clause-answer : goal.returns-in-Some-clause-answer

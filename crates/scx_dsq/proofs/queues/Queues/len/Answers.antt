@@ -2,7 +2,7 @@ use Rattle.std.proofs.Common.{◌≡◌, false, sym, ◌∙◌}
 use Rattle.scx_dsq.specs.Queues.{exists}
 use Rattle.scx_dsq.specs.Kept.{state_of}
 use Rattle.scx_dsq.proofs.Fronts.{nobody_counts}
-use Rattle.scx_dsq.proofs.Keeping.{len_at, nobody_elsewhere}
+use Rattle.scx_dsq.proofs.QueueReads.{len_at, nobody_elsewhere}
 use Rattle.scx_dsq.proofs.queues.Queues.len.Goals as goal
 
 pub returns-in-Some : goal.returns-in-Some

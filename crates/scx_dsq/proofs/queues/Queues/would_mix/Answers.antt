@@ -2,7 +2,7 @@ use Rattle.std.proofs.Common.{◌≡◌, false, sym, ◌∙◌}
 use Rattle.scx_dsq.specs.Queues.{exists}
 use Rattle.scx_dsq.specs.Kept.{state_of}
 use Rattle.scx_dsq.proofs.Fronts.{nobody_clashes}
-use Rattle.scx_dsq.proofs.Keeping.{clash_read, queue_read, nobody_elsewhere}
+use Rattle.scx_dsq.proofs.QueueReads.{clash_read, queue_read, nobody_elsewhere}
 use Rattle.scx_dsq.proofs.queues.Queues.would_mix.Goals as goal
 
 pub returns-in-Some : goal.returns-in-Some

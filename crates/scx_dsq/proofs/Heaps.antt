@@ -1,0 +1,314 @@
+-- Rising in a heap: each exchange leaves one place less where the order may fail, and halves the way up.
+use Rattle.std.proofs.Common.{◌≡◌, ◌≢◌, ℕ, suc, ◌+◌, ◌*◌, ◌^◌, ◌<◌, ◌≤◌, Bool, true, false, ◌==◌, List, [], ◌∷◌, length, slice_index_or, refl, sym, ap, ◌∙◌, subst, arith, ◌⊎◌, inl, inr}
+use Rattle.std.proofs.Math.Nat.{mul_assoc, mul-le-mul_left, pow-succ'}
+use Rattle.std.specs.List.{SwappedAt, list_any}
+use Rattle.std.proofs.lemmas.List.Folds.{list_any_at}
+use Rattle.std.proofs.lemmas.Bool.{both_ways, eq-eqb, or_parts, false_from_ne_true, cases_eq, cases_lt}
+use Rattle.std.proofs.lemmas.List.{get_or_default}
+use Rattle.scx_dsq.specs.declared.places.Rank.TheVariants.{Vtime}
+use Rattle.scx_dsq.specs.declared.places.Place.{Place}
+use Rattle.scx_dsq.specs.declared.priority.Priority.{Priority}
+use Rattle.scx_dsq.specs.declared.heap.Item.{Item}
+use Rattle.scx_dsq.specs.Heaps.{comes_before, parent, IsBehind, IsHeap, IsHeapBut, IsHeapAbove, IsFirstChild, DiffersAt, Rose, Sank}
+use Rattle.scx_dsq.proofs.Orders.{Below, before_from, before-asym, before-trans}
+
+-- ---- the order
+
+as_place : Priority → Place
+as_place p = record { queue = 0; rank = Vtime p.key; stamp = p.stamp }
+
+pub asym : (p q : Priority) → comes_before p q ≡ true → comes_before q p ≡ false
+unfolding as_place
+asym p q h = before-asym (as_place p) (as_place q) h
+
+pub trans : (p q r : Priority) → comes_before p q ≡ true → comes_before q r ≡ true → comes_before p r ≡ true
+unfolding as_place
+trans p q r h k = before-trans (as_place p) (as_place q) (as_place r) h k
+
+-- what the test says where it fails
+pub not_before : (p q : Priority) → comes_before p q ≡ false → Below q.key q.stamp p.key (p.stamp + 1)
+unfolding as_place
+not_before p q h = record { keys = keys (cases_lt p.key q.key); stamps = λ e. stamps e (cases_lt p.stamp q.stamp) }
+  where
+    keys : (p.key < q.key) ⊎ (q.key ≤ p.key) → q.key ≤ p.key
+    keys (inl lt) = absurd (both_ways _ h (before_from (as_place p) (as_place q) (record { keys = omega arith; stamps = λ e. absurd (omega arith) })))
+    keys (inr le) = le
+
+    stamps : q.key ≡ p.key → (p.stamp < q.stamp) ⊎ (q.stamp ≤ p.stamp) → q.stamp < p.stamp + 1
+    stamps e (inl lt) = absurd (both_ways _ h (before_from (as_place p) (as_place q) (record { keys = omega arith; stamps = λ f. lt })))
+    stamps e (inr le) = omega arith
+
+same_priority : (p r : Priority) → r.key ≡ p.key → r.stamp ≡ p.stamp → p ≡ r
+same_priority p r e f = rw (e, f) refl
+
+pub itself : (x : Priority) → comes_before x x ≡ false
+itself x = false_from_ne_true _ (λ t. both_ways _ (asym x x t) t)
+
+-- who leaves before none that leaves before none
+pub not-trans : (p q r : Priority) → comes_before p q ≡ false → comes_before q r ≡ false → comes_before p r ≡ false
+unfolding as_place
+not-trans p q r h k = false_from_ne_true _ (λ t. both_ways _ (reversed (cases_eq r.key p.key)) t)
+  where
+    first : Below q.key q.stamp p.key (p.stamp + 1)
+    first = not_before p q h
+
+    second : Below r.key r.stamp q.key (q.stamp + 1)
+    second = not_before q r k
+
+    reversed : (r.key ≡ p.key) ⊎ (r.key ≡ p.key → ⊥) → comes_before p r ≡ false
+    reversed (inl e) =
+        let a = first.keys in
+        let b = second.keys in
+        let c = first.stamps (omega arith) in
+        let d = second.stamps (omega arith) in
+        go (cases_eq r.stamp p.stamp)
+      where
+        go : (r.stamp ≡ p.stamp) ⊎ (r.stamp ≡ p.stamp → ⊥) → comes_before p r ≡ false
+        go (inl same) = false_from_ne_true _ (λ t. both_ways _ (subst (λ x. comes_before p x ≡ false) (same_priority p r e same) (itself p)) t)
+        go (inr n) =
+            let a = first.keys in
+            let b = second.keys in
+            let c = first.stamps (omega arith) in
+            let d = second.stamps (omega arith) in
+            before-asym (as_place r) (as_place p) (before_from (as_place r) (as_place p) (record { keys = omega arith; stamps = λ f. omega arith }))
+    reversed (inr n) =
+        let a = first.keys in
+        let b = second.keys in
+        before-asym (as_place r) (as_place p) (before_from (as_place r) (as_place p) (record { keys = omega arith; stamps = λ f. absurd (n f) }))
+
+-- ---- the cost
+
+list_any_here : (t : ℕ) (ts : List ℕ) → list_any (λ p. p == t) (t ∷ ts) ≡ true
+list_any_here t ts = list_any_at (λ p. p == t) (t ∷ ts) 0 0 (omega arith) (eq-eqb t t refl)
+
+pub not_there : (k t : ℕ) (ts : List ℕ) → list_any (λ p. p == k) (t ∷ ts) ≡ false → (k ≢ t) × (list_any (λ p. p == k) ts ≡ false)
+not_there k t ts out =
+    let parts = or_parts (t == k) (list_any (λ p. p == k) ts) out in
+    ((λ e. both_ways (t == k) parts.0 (eq-eqb t k (sym e))), parts.1)
+
+-- one level further down, by two steps at most
+deeper : (n start at child : ℕ) → 2 ^ n * (start + 1) ≤ at + 1 → 2 * (at + 1) ≤ child → 2 ^ suc n * (start + 1) ≤ child
+deeper n start at child h twice =
+    let same : 2 ^ suc n * (start + 1) ≡ 2 * (2 ^ n * (start + 1)) = ap (λ x. x * (start + 1)) (pow-succ' 2 n) ∙ mul_assoc 2 (2 ^ n) (start + 1) in
+    omega (arith, same, h, twice)
+
+-- one level further up
+higher : (n start at : ℕ) → 0 < at → 2 ^ n * (at + 1) ≤ start + 1 → 2 ^ suc n * (parent at + 1) ≤ start + 1
+higher n start at up h =
+    let half : 2 * (parent at + 1) ≤ at + 1 = omega arith in
+    let more = mul-le-mul_left (2 ^ n) half in
+    rw (pow-succ' 2 n) (omega (arith, more, h))
+
+whole : (n start at : ℕ) → 2 ^ n * (at + 1) ≤ start + 1 → 2 ^ n ≤ start + 1
+whole n start at h = let more = mul-le-mul_left (2 ^ n) (one_at at) in omega (arith, more, h)
+  where
+    one_at : (k : ℕ) → 1 ≤ k + 1
+    one_at k = omega arith
+
+-- how far the item has come up, and that its place is among those that have changed
+pub record Rises (old now : List Item) (start at steps : ℕ) : Type 0 where
+  pub levels : ℕ
+  pub depth : 2 ^ levels * (at + 1) ≤ start + 1
+  pub cost : steps ≤ levels
+  pub places : List ℕ
+  pub few : length places ≤ levels + 1
+  pub differs : DiffersAt places old now
+  pub here : list_any (λ p. p == at) places ≡ true
+
+pub rises_none : (old : List Item) (start : ℕ) → Rises old old start start 0
+rises_none old start = record { levels = 0; depth = omega arith; cost = omega arith; places = start ∷ []; few = omega arith; differs = λ k d out. refl; here = list_any_here start [] }
+
+pub rises_more : (old now new : List Item) (start at n m : ℕ) → Rises old now start at n → m ≤ n + 1 → 0 < at → SwappedAt now new at (parent at) → Rises old new start (parent at) m
+rises_more old now new start at n m h few up swapped = record {
+  levels = suc h.levels;
+  depth = higher h.levels start at up h.depth;
+  cost = let cost = h.cost in omega arith;
+  places = parent at ∷ h.places;
+  few = let few = h.few in omega arith;
+  differs = λ k d out. let apart = not_there k (parent at) h.places out in
+      swapped.2 k d (λ e. both_ways _ apart.1 (subst (λ j. list_any (λ p. p == j) h.places ≡ true) (sym e) h.here)) apart.0 ∙ h.differs k d apart.1;
+  here = list_any_here (parent at) h.places;
+}
+
+pub rose : (old now : List Item) (start at n m : ℕ) → Rises old now start at n → m ≤ n + 1 → 0 < at → Rose old now start m
+rose old now start at n m h few up = record {
+  levels = suc h.levels;
+  depth = whole (suc h.levels) start (parent at) (higher h.levels start at up h.depth);
+  cost = let cost = h.cost in omega arith;
+  places = h.places;
+  few = let few = h.few in omega arith;
+  differs = h.differs;
+}
+
+pub rose_here : (old now : List Item) (start at n : ℕ) → Rises old now start at n → Rose old now start n
+rose_here old now start at n h = record { levels = h.levels; depth = whole h.levels start at h.depth; cost = h.cost; places = h.places; few = h.few; differs = h.differs }
+
+-- how far the item has come, and that its place is among those that have changed
+pub record Sinks (old now : List Item) (start at steps : ℕ) : Type 0 where
+  pub path : Sank old now start (at + 1) steps
+  pub here : list_any (λ p. p == at) path.places ≡ true
+
+pub sinks_none : (old : List Item) (start : ℕ) → Sinks old old start start 0
+sinks_none old start = record {
+  path = record { levels = 0; depth = omega arith; cost = omega arith; places = start ∷ []; few = omega arith; differs = λ k d out. refl };
+  here = list_any_here start [];
+}
+
+pub sinks_more : (old now new : List Item) (start at child n m : ℕ) → Sinks old now start at n → m ≤ n + 2 → 2 * (at + 1) ≤ child + 1 → SwappedAt now new child at → Sinks old new start child m
+sinks_more old now new start at child n m h few twice swapped = record {
+  path = record {
+    levels = suc h.path.levels;
+    depth = deeper h.path.levels start at (child + 1) h.path.depth twice;
+    cost = let cost = h.path.cost in omega arith;
+    places = child ∷ h.path.places;
+    few = let few = h.path.few in omega arith;
+    differs = λ k d out. let apart = not_there k child h.path.places out in
+        swapped.2 k d apart.0 (λ e. both_ways _ apart.1 (subst (λ j. list_any (λ p. p == j) h.path.places ≡ true) (sym e) h.here)) ∙ h.path.differs k d apart.1;
+  };
+  here = list_any_here child h.path.places;
+}
+
+pub sank : (old now : List Item) (start at child n m : ℕ) → Sinks old now start at n → m ≤ n + 2 → 2 * (at + 1) ≤ child → Sank old now start child m
+sank old now start at child n m h few twice = record {
+  levels = suc h.path.levels;
+  depth = deeper h.path.levels start at child h.path.depth twice;
+  cost = let cost = h.path.cost in omega arith;
+  places = h.path.places;
+  few = let few = h.path.few in omega arith;
+  differs = h.path.differs;
+}
+
+pub sank_here : (old now : List Item) (start at within n : ℕ) → Sinks old now start at n → at < within → Sank old now start within n
+sank_here old now start at within n h lt = record {
+  levels = h.path.levels;
+  depth = let depth = h.path.depth in omega arith;
+  cost = h.path.cost;
+  places = h.path.places;
+  few = h.path.few;
+  differs = h.path.differs;
+}
+
+-- ---- the heap
+
+-- what was read by one default is read by all
+pub read_by_all : (items : List Item) (k j : ℕ) (x y : Item) (b : Bool) → k < length items → j < length items → comes_before (slice_index_or items k x).priority (slice_index_or items j y).priority ≡ b
+    → (d e : Item) → comes_before (slice_index_or items k d).priority (slice_index_or items j e).priority ≡ b
+read_by_all items k j x y b p q h d e = rw (get_or_default items k d x p, get_or_default items j e y q) h
+
+module _ (items new : List Item) (at : ℕ) (up : 0 < at) (within : at < length items) (long : length new ≡ length items) (swapped : SwappedAt items new at (parent at))
+    (early : (d e : Item) → comes_before (slice_index_or items at d).priority (slice_index_or items (parent at) e).priority ≡ true) (h : IsHeapBut items at) where
+  at_of : (d : Item) → slice_index_or new at d ≡ slice_index_or items (parent at) d
+  at_of = swapped.0
+
+  up_of : (d : Item) → slice_index_or new (parent at) d ≡ slice_index_or items at d
+  up_of = swapped.1
+
+  rest_of : (k : ℕ) (d : Item) → k ≢ at → k ≢ parent at → slice_index_or new k d ≡ slice_index_or items k d
+  rest_of = swapped.2
+
+  below : parent at < at
+  below = omega arith
+
+  others : (k : ℕ) → 0 < k → k < length new → k ≢ parent at → IsBehind new k (parent k)
+  others k some lt n d e = go (cases_eq k at)
+    where
+      go : (k ≡ at) ⊎ (k ≡ at → ⊥) → comes_before (slice_index_or new k d).priority (slice_index_or new (parent k) e).priority ≡ false
+      go (inl same) = rw (same, at_of d, up_of e) (asym (slice_index_or items at e).priority (slice_index_or items (parent at) d).priority (early e d))
+      go (inr m) = by (cases_eq (parent k) at) (cases_eq (parent k) (parent at))
+        where
+          here : slice_index_or new k d ≡ slice_index_or items k d
+          here = rest_of k d m n
+
+          old : (x : Item) → comes_before (slice_index_or items k d).priority (slice_index_or items (parent k) x).priority ≡ false
+          old x = h.others k some (omega (arith, lt, long)) m d x
+
+          by : (parent k ≡ at) ⊎ (parent k ≡ at → ⊥) → (parent k ≡ parent at) ⊎ (parent k ≡ parent at → ⊥) → comes_before (slice_index_or new k d).priority (slice_index_or new (parent k) e).priority ≡ false
+          by (inl child) s = rw (here, child, at_of e) (h.behind k some (omega (arith, lt, long)) child up d e)
+          by (inr o) (inl sibling) =
+              let not_up : comes_before (slice_index_or items k d).priority (slice_index_or items (parent at) e).priority ≡ false = subst (λ j. comes_before (slice_index_or items k d).priority (slice_index_or items j e).priority ≡ false) sibling (old e) in
+              rw (here, sibling, up_of e) (false_from_ne_true _ (λ t. both_ways _ not_up (trans (slice_index_or items k d).priority (slice_index_or items at e).priority (slice_index_or items (parent at) e).priority t (early e e))))
+          by (inr o) (inr other) = rw (here, rest_of (parent k) e o other) (old e)
+
+  behind : (k : ℕ) → 0 < k → k < length new → parent k ≡ parent at → 0 < parent at → IsBehind new k (parent (parent at))
+  behind k some lt child top d e = go (cases_eq k at)
+    where
+      far : slice_index_or new (parent (parent at)) e ≡ slice_index_or items (parent (parent at)) e
+      far = rest_of (parent (parent at)) e (λ x. absurd (omega arith)) (λ x. absurd (omega arith))
+
+      grand : (x : Item) → comes_before (slice_index_or items (parent at) x).priority (slice_index_or items (parent (parent at)) e).priority ≡ false
+      grand x = h.others (parent at) top (omega arith) (λ y. absurd (omega arith)) x e
+
+      go : (k ≡ at) ⊎ (k ≡ at → ⊥) → comes_before (slice_index_or new k d).priority (slice_index_or new (parent (parent at)) e).priority ≡ false
+      go (inl same) = rw (same, at_of d, far) (grand d)
+      go (inr m) =
+          let here = rest_of k d m (λ x. absurd (omega arith)) in
+          let old : comes_before (slice_index_or items k d).priority (slice_index_or items (parent at) d).priority ≡ false =
+          subst (λ j. comes_before (slice_index_or items k d).priority (slice_index_or items j d).priority ≡ false) child (h.others k some (omega (arith, lt, long)) m d d) in
+          rw (here, far) (not-trans (slice_index_or items k d).priority (slice_index_or items (parent at) d).priority (slice_index_or items (parent (parent at)) e).priority old (grand d))
+
+  pub exchanged : IsHeapBut new (parent at)
+  exchanged = record { others = others; behind = behind }
+
+pub heap_at_root : (items : List Item) → IsHeapBut items 0 → IsHeap items
+heap_at_root items h k some lt = h.others k some lt (λ e. absurd (omega arith))
+
+pub heap_here : (items : List Item) (at : ℕ) → IsHeapBut items at → ((d e : Item) → comes_before (slice_index_or items at d).priority (slice_index_or items (parent at) e).priority ≡ false) → IsHeap items
+heap_here items at h late k some lt = go (cases_eq k at)
+  where
+    go : (k ≡ at) ⊎ (k ≡ at → ⊥) → IsBehind items k (parent k)
+    go (inl same) = subst (λ j. IsBehind items j (parent j)) (sym same) late
+    go (inr n) = h.others k some lt n
+
+-- ---- sinking
+
+module _ (items new : List Item) (at c : ℕ) (h : IsHeapAbove items at) (child : IsFirstChild items at c) (long : length new ≡ length items) (swapped : SwappedAt items new c at)
+    (early : (d e : Item) → comes_before (slice_index_or items c d).priority (slice_index_or items at e).priority ≡ true) where
+  under : at < c
+  under = let is = child.of in let some = child.positive in omega arith
+
+  child_of : (d : Item) → slice_index_or new c d ≡ slice_index_or items at d
+  child_of = swapped.0
+
+  parent_of : (d : Item) → slice_index_or new at d ≡ slice_index_or items c d
+  parent_of = swapped.1
+
+  kept : (k : ℕ) (d : Item) → k ≢ c → k ≢ at → slice_index_or new k d ≡ slice_index_or items k d
+  kept = swapped.2
+
+  sunk_others : (k : ℕ) → 0 < k → k < length new → parent k ≢ c → IsBehind new k (parent k)
+  sunk_others k some lt n d e = go (cases_eq k at) (cases_eq k c)
+    where
+      inside : k < length items
+      inside = omega (arith, lt, long)
+
+      go : (k ≡ at) ⊎ (k ≡ at → ⊥) → (k ≡ c) ⊎ (k ≡ c → ⊥) → comes_before (slice_index_or new k d).priority (slice_index_or new (parent k) e).priority ≡ false
+      go (inl same) t =
+          let far = kept (parent at) e (λ x. absurd (let y = under in omega arith)) (λ x. absurd (omega arith)) in
+          rw (same, parent_of d, far) (h.above c child.positive child.inside child.of (omega arith) d e)
+      go (inr m) (inl same) =
+          rw (same, child.of, child_of d, parent_of e) (asym (slice_index_or items c e).priority (slice_index_or items at d).priority (early e d))
+      go (inr m) (inr o) = by (cases_eq (parent k) at)
+        where
+          by : (parent k ≡ at) ⊎ (parent k ≡ at → ⊥) → comes_before (slice_index_or new k d).priority (slice_index_or new (parent k) e).priority ≡ false
+          by (inl is) = rw (kept k d o m, is, parent_of e) (child.first k some inside is d e)
+          by (inr isnt) = rw (kept k d o m, kept (parent k) e n isnt) (h.others k some inside isnt d e)
+
+  sunk_above : (k : ℕ) → 0 < k → k < length new → parent k ≡ c → 0 < c → IsBehind new k (parent c)
+  sunk_above k some lt is pos d e =
+      let x = under in
+      let old = h.others k some (omega (arith, lt, long)) (λ y. absurd (omega arith)) d e in
+      let to_child : comes_before (slice_index_or items k d).priority (slice_index_or items c e).priority ≡ false = subst (λ j. comes_before (slice_index_or items k d).priority (slice_index_or items j e).priority ≡ false) is old in
+      rw (child.of, kept k d (λ y. absurd (omega arith)) (λ y. absurd (omega arith)), parent_of e) to_child
+
+  pub sunk : IsHeapAbove new c
+  sunk = record { others = sunk_others; above = sunk_above }
+
+pub heap_at_leaf : (items : List Item) (at : ℕ) → IsHeapAbove items at → length items ≤ 2 * at + 1 → IsHeap items
+heap_at_leaf items at h past k some lt = h.others k some lt (λ e. absurd (omega arith))
+
+pub heap_above : (items : List Item) (at c : ℕ) → IsHeapAbove items at → IsFirstChild items at c → ((d e : Item) → comes_before (slice_index_or items c d).priority (slice_index_or items at e).priority ≡ false) → IsHeap items
+heap_above items at c h child late k some lt d e = go (cases_eq (parent k) at)
+  where
+    go : (parent k ≡ at) ⊎ (parent k ≡ at → ⊥) → comes_before (slice_index_or items k d).priority (slice_index_or items (parent k) e).priority ≡ false
+    go (inl is) = rw is (not-trans (slice_index_or items k d).priority (slice_index_or items c d).priority (slice_index_or items at e).priority (child.first k some lt is d d) (late d e))
+    go (inr isnt) = h.others k some lt isnt d e

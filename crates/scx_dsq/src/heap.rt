@@ -1,0 +1,222 @@
+ghost use Rattle.std.specs.Prelude.{◌≡◌, ◌+◌, ◌-◌, ◌*◌, ◌<◌, ◌≤◌, [], ◌∷◌, ◌++◌, length, true, false, IfSome, IfNone, IfOk};
+ghost use Rattle.std.specs.List.{SwappedAt};
+ghost use Rattle.std.specs.List.Sorted.{IsPermutation};
+ghost use Rattle.scx_dsq.specs.Heaps.{parent, IsBehind, Leads, IsHeap, IsHeapBut, IsHeapAbove, IsHeapAround, IsFirstChild, Rose, Sank, Settled, IsCheap, HasSpots, IsAbsent, IsIn, KeepsOthers, first_item};
+
+use crate::priority::Priority;
+use crate::steps::Steps;
+use std::alloc::{AllocError, Global};
+use std::marker::Model;
+use std::sync::ledger::Ledger;
+
+/// A task that waits by virtual time.
+#[derive(Clone, Copy, Debug)]
+pub struct Item {
+    pub task: u32,
+    pub priority: Priority,
+}
+
+/// The tasks of one queue by virtual time. It never takes more memory than it was made with.
+#[derive(Debug, Drop)]
+pub struct Heap {
+    items: Vec<Item>,
+}
+
+impl Model for Heap {
+    ghost use Rattle.std.specs.Prelude.{vec_capacity};
+    ghost use Rattle.scx_dsq.specs.Heaps.{HeapState};
+
+    ghost Value = { HeapState };
+
+    ghost view = { λ h. record { room = vec_capacity h.items; items = h.items.items } };
+}
+
+impl Heap {
+    pub fn new(alloc: Global, room: usize) -> Result<Heap, AllocError>
+        ensures { IfOk result (λ heap. heap ≡ record { room = room; items = [] }) }
+    {
+        Ok(Heap {
+            items: Vec::with_capacity(alloc, room)?,
+        })
+    }
+
+    pub fn len(&self) -> usize
+        ensures { result ≡ length self.now.items }
+    {
+        self.items.len()
+    }
+
+    pub fn front(&self) -> Option<u32>
+        ensures { result ≡ first_item self.now.items }
+    {
+        match self.items.first() {
+            Some(item) => Some(item.task),
+            None => None,
+        }
+    }
+
+    /// Puts an item into the heap, whose task isn't there.
+    pub fn insert<L: Ledger>(&mut self, spots: &mut [usize], item: Item, steps: &mut Steps<L>)
+        requires room { length self.old.items < self.old.room }
+        requires task { item.task < length spots.old }
+        requires absent { IsAbsent self.old.items item.task }
+        requires spots { HasSpots self.old.items spots.old }
+        requires heap { IsHeap self.old.items }
+        ensures heap { IsHeap self.new.items }
+        ensures spots { HasSpots self.new.items spots.new }
+        ensures others { KeepsOthers (self.old.items ++ item ∷ []) spots.old spots.new }
+        ensures same { IsPermutation (self.old.items ++ item ∷ []) self.new.items }
+        ensures room { self.new.room ≡ self.old.room }
+        ensures cost { IsCheap self.old.items self.new.items (steps.new - steps.old) }
+        ensures more { steps.old ≤ steps.new }
+    {
+        let last = self.items.len();
+        spots[item.task as usize] = last;
+        self.items.push_reserved(item);
+        rise(&mut self.items, spots, last, steps);
+    }
+
+    /// Takes out a task that is there, and answers its item.
+    pub fn remove<L: Ledger>(
+        &mut self,
+        spots: &mut [usize],
+        task: u32,
+        steps: &mut Steps<L>,
+    ) -> Item
+        requires task { IsIn self.old.items task }
+        requires spots { HasSpots self.old.items spots.old }
+        requires heap { IsHeap self.old.items }
+        ensures task { result.task ≡ task }
+        ensures heap { IsHeap self.new.items }
+        ensures spots { HasSpots self.new.items spots.new }
+        ensures others { KeepsOthers self.old.items spots.old spots.new }
+        ensures same { IsPermutation self.old.items (result ∷ self.new.items) }
+        ensures gone { IsAbsent self.new.items task }
+        ensures room { self.new.room ≡ self.old.room }
+        ensures cost { IsCheap self.old.items self.new.items (steps.new - steps.old) }
+        ensures more { steps.old ≤ steps.new }
+    {
+        let at = spots[task as usize];
+        let item = self.items.swap_remove(at);
+        if at < self.items.len() {
+            spots[self.items[at].task as usize] = at;
+            settle(&mut self.items, spots, at, steps);
+        }
+        item
+    }
+}
+
+/// Lets the item at a place go where it belongs, up or down.
+fn settle<L: Ledger>(items: &mut [Item], spots: &mut [usize], at: usize, steps: &mut Steps<L>)
+    requires within { at < length items.old }
+    requires spots { HasSpots items.old spots.old }
+    requires heap { IsHeapAround items.old at }
+    ensures heap { IsHeap items.new }
+    ensures spots { HasSpots items.new spots.new }
+    ensures others { KeepsOthers items.old spots.old spots.new }
+    ensures same { IsPermutation items.old items.new }
+    ensures cost { Settled items.old items.new (steps.new - steps.old) }
+    ensures more { steps.old ≤ steps.new }
+{
+    if leads(items, at, steps) {
+        rise(items, spots, at, steps);
+    } else {
+        sink(items, spots, at, steps);
+    }
+}
+
+/// Whether the item at a place leaves before its parent.
+fn leads<L: Ledger>(items: &[Item], at: usize, steps: &mut Steps<L>) -> bool
+    requires within { at < length items.now }
+    ensures parent { result ≡ true → 0 < at }
+    ensures leads { result ≡ true → Leads items.now at (parent at) }
+    ensures behind { result ≡ false → 0 < at → IsBehind items.now at (parent at) }
+    ensures cost { steps.new ≤ steps.old + 1 }
+    ensures more { steps.old ≤ steps.new }
+{
+    at > 0
+        && items[at]
+            .priority
+            .is_before(items[(at - 1) / 2].priority, steps)
+}
+
+/// Lets the item at a place rise until no item leaves before its parent.
+pub fn rise<L: Ledger>(items: &mut [Item], spots: &mut [usize], start: usize, steps: &mut Steps<L>)
+    requires within { start < length items.old }
+    requires spots { HasSpots items.old spots.old }
+    requires heap { IsHeapBut items.old start }
+    ensures heap { IsHeap items.new }
+    ensures spots { HasSpots items.new spots.new }
+    ensures others { KeepsOthers items.old spots.old spots.new }
+    ensures same { IsPermutation items.old items.new }
+    ensures cost { Rose items.old items.new start (steps.new - steps.old) }
+    ensures more { steps.old ≤ steps.new }
+{
+    let mut at = start;
+    while at > 0 {
+        let up = (at - 1) / 2;
+        if !items[at].priority.is_before(items[up].priority, steps) {
+            break;
+        }
+        exchange(items, spots, at, up);
+        at = up;
+    }
+}
+
+/// Lets the item at a place sink until none behind it leaves before it.
+pub fn sink<L: Ledger>(items: &mut [Item], spots: &mut [usize], start: usize, steps: &mut Steps<L>)
+    requires within { start < length items.old }
+    requires spots { HasSpots items.old spots.old }
+    requires heap { IsHeapAbove items.old start }
+    ensures heap { IsHeap items.new }
+    ensures spots { HasSpots items.new spots.new }
+    ensures others { KeepsOthers items.old spots.old spots.new }
+    ensures same { IsPermutation items.old items.new }
+    ensures cost { Sank items.old items.new start (length items.old) (steps.new - steps.old) }
+    ensures more { steps.old ≤ steps.new }
+{
+    let mut at = start;
+    while let Some(child) = first_child(items, at, steps) {
+        if !items[child].priority.is_before(items[at].priority, steps) {
+            break;
+        }
+        exchange(items, spots, child, at);
+        at = child;
+    }
+}
+
+/// Exchanges two items, and with them their tasks' spots.
+pub fn exchange(items: &mut [Item], spots: &mut [usize], i: usize, j: usize)
+    requires first { i < length items.old }
+    requires second { j < length items.old }
+    requires spots { HasSpots items.old spots.old }
+    ensures spots { HasSpots items.new spots.new }
+    ensures same { IsPermutation items.old items.new }
+    ensures swapped { SwappedAt items.old items.new i j }
+    ensures others { KeepsOthers items.old spots.old spots.new }
+{
+    items.swap(i, j);
+    spots[items[i].task as usize] = i;
+    spots[items[j].task as usize] = j;
+}
+
+/// Which of those right behind a place leaves first.
+fn first_child<L: Ledger>(items: &[Item], at: usize, steps: &mut Steps<L>) -> Option<usize>
+    requires within { at < length items.now }
+    ensures child { IfSome result (IsFirstChild items.now at) }
+    ensures none { IfNone result (length items.now ≤ 2 * at + 1) }
+    ensures cost { IfSome result (λ c. steps.new ≤ steps.old + 1) }
+    ensures free { IfNone result (steps.new ≡ steps.old) }
+    ensures more { steps.old ≤ steps.new }
+{
+    let left = 2 * at + 1;
+    let right = left + 1;
+    if left >= items.len() {
+        return None;
+    }
+    if right < items.len() && items[right].priority.is_before(items[left].priority, steps) {
+        Some(right)
+    } else {
+        Some(left)
+    }
+}

@@ -1,0 +1,72 @@
+-- What `build` makes of a policy file: the policy of its programs, each verified as its callback, or the
+-- first callback, in their order, whose program is refused.
+use Rattle.std.specs.Prelude.{◌≡◌, ◌≢◌, ℕ, ⊤, List, [], ◌∷◌, Option, Some, None, option_map, All}
+use Rattle.scx_maps.specs.declared.shape.Shape.{Shape}
+use Rattle.scx_semantics.specs.Code.{Code}
+use Rattle.scx_semantics.specs.declared.callbacks.Callback.{Callback}
+use Rattle.scx_semantics.specs.declared.callbacks.Callback.TheVariants as callback
+use Rattle.scx_verify.specs.declared.faults.Fault.{Fault}
+use Rattle.scx_verify.specs.declared.faults.Fault.TheVariants.{NoMemory}
+use Rattle.scx_verify.specs.Typing.{IsTyped, VerifiedProgram, context}
+use Rattle.scx_verify.specs.Faults.{IsRefusal}
+use Rattle.scx_machine.specs.Policy as machine
+use Rattle.scx_machine.specs.Policy.{PolicyState}
+use Rattle.scx_policies.specs.declared.building.BuildError.{BuildError}
+use Rattle.scx_policies.specs.declared.building.BuildError.TheVariants as errors
+use Rattle.scx_policies.specs.Policies.{PolicyFile, program_of}
+
+-- the program of a callback, if there is one, has a typing
+abbrev pub IsAccepted : List Shape → Option Code → Callback → Type 0
+IsAccepted shapes None b = ⊤
+IsAccepted shapes (Some code) b = IsTyped (context b shapes) code
+
+-- the program of a callback is refused for this fault, at this slot
+pub record IsRefusedFor (shapes : List Shape) (program : Option Code) (b : Callback) (fault : Fault) (slot : ℕ) : Type 0 where
+  pub code : Code
+  pub there : program ≡ Some code
+  pub refused : IsRefusal (context b shapes) code (record { fault = fault; slot = slot })
+  pub known : fault ≢ NoMemory
+
+-- the callbacks before this one, in the order in which programs are verified
+abbrev pub earlier : Callback → List Callback
+earlier callback.Init = []
+earlier callback.Enable = callback.Init ∷ []
+earlier callback.Enqueue = callback.Init ∷ callback.Enable ∷ []
+earlier callback.Dispatch = callback.Init ∷ callback.Enable ∷ callback.Enqueue ∷ []
+earlier callback.Running = callback.Init ∷ callback.Enable ∷ callback.Enqueue ∷ callback.Dispatch ∷ []
+earlier callback.Stopping = callback.Init ∷ callback.Enable ∷ callback.Enqueue ∷ callback.Dispatch ∷ callback.Running ∷ []
+earlier callback.Plain = []
+earlier callback.SelectCpu = []
+
+abbrev pub AreAccepted : PolicyFile → List Callback → Type 0
+AreAccepted text [] = ⊤
+AreAccepted text (b ∷ bs) = IsAccepted text.shapes (program_of text b) b × AreAccepted text bs
+
+-- the first callback whose program is refused; want of memory says nothing
+abbrev pub IsFirstRefused : PolicyFile → BuildError → Type 0
+IsFirstRefused text (errors.Refused b fault slot) = AreAccepted text (earlier b) × IsRefusedFor text.shapes (program_of text b) b fault slot
+IsFirstRefused text errors.NoMemory = ⊤
+
+-- the code of a verified program
+abbrev pub code_of : Option VerifiedProgram → Option Code
+code_of v = option_map (λ p. p.code) v
+
+-- the policy of these programs, which has them all, for these maps, with this timeout
+pub record IsBuilt (text : PolicyFile) (policy : PolicyState) : Type 0 where
+  pub shapes : policy.shapes ≡ text.shapes
+  pub timeout : policy.timeout_ms ≡ text.timeout_ms
+  pub programs : (b : Callback) → code_of (machine.program_of policy b) ≡ program_of text b
+  pub accepted : (b : Callback) → IsAccepted text.shapes (program_of text b) b
+
+-- ---- one callback
+
+-- what `verify` makes of the program of a callback
+pub record IsVerified (shapes : List Shape) (program : Option Code) (b : Callback) (v : Option VerifiedProgram) : Type 0 where
+  pub code : code_of v ≡ program
+  pub as_callback : machine.IsAs b v
+  pub for_maps : machine.HasMaps shapes v
+  pub accepted : IsAccepted shapes program b
+
+abbrev pub IsRefusedAs : List Shape → Option Code → Callback → BuildError → Type 0
+IsRefusedAs shapes program b (errors.Refused a fault slot) = (a ≡ b) × IsRefusedFor shapes program b fault slot
+IsRefusedAs shapes program b errors.NoMemory = ⊤

@@ -1,0 +1,5 @@
+pub mod Policies
+pub mod Maps
+pub mod Programs
+pub mod Reading
+pub mod Building

@@ -1,0 +1,80 @@
+-- The programs of a policy file: assembler texts in the table `code`, and pairs of hexadecimal digits in
+-- the table `slots`.
+use Rattle.std.specs.Prelude.{ℕ, Bool, ◌||◌, ◌==◌, List, [], ◌∷◌, Option, Some, None, Result, Ok, Err, codes, if◌then◌else◌}
+use Rattle.toml.specs.Data.{Data, Members}
+use Rattle.hex.specs.declared.error.FromHexError.{FromHexError}
+use Rattle.hex.specs.Hex.{decode_of}
+use Rattle.scx_encoding.specs.declared.faults.DecodeFault.{DecodeFault}
+use Rattle.scx_semantics.specs.Code.{Code}
+use Rattle.scx_isa.specs.Reading.{read_program}
+use Rattle.scx_asm.specs.declared.faults.AsmFault.{AsmFault}
+use Rattle.scx_asm.specs.Reading.{read_text}
+use Rattle.scx_files.specs.declared.fault.Cause.TheVariants as cause
+use Rattle.scx_files.specs.Faults.{Reading, refusal, ◌>>=◌}
+use Rattle.scx_files.specs.Values.{optional, text_of}
+use Rattle.scx_policies.specs.declared.policy_text.Programs.{Programs}
+
+-- ---- in `code`
+
+abbrev pub assembled : List ℕ → Result Code (AsmFault × ℕ) → Reading (Option Code)
+assembled path (Ok code) = Ok (Some code)
+assembled path (Err e) = refusal path (cause.Asm e.0 e.1)
+
+-- the program that the value at a path spells in assembler
+abbrev pub code_of : List ℕ → Data → Reading (Option Code)
+code_of path d = text_of path d >>= λ text. assembled path (read_text text)
+
+abbrev pub code_at : Members → List ℕ → Reading (Option Code)
+code_at ms key = optional code_of None (codes "code") key ms
+
+-- the programs of the table `code`, in the order of callbacks
+abbrev pub code_programs : Members → Reading Programs
+code_programs ms = do
+  init ← code_at ms (codes "init")
+  enable ← code_at ms (codes "enable")
+  enqueue ← code_at ms (codes "enqueue")
+  dispatch ← code_at ms (codes "dispatch")
+  running ← code_at ms (codes "running")
+  stopping ← code_at ms (codes "stopping")
+  Ok (record { init = init; enable = enable; enqueue = enqueue; dispatch = dispatch; running = running; stopping = stopping })
+
+-- ---- in `slots`
+
+-- space, tab, line feed and carriage return
+abbrev pub is_blank : ℕ → Bool
+is_blank b = (b == 32) || (b == 9) || (b == 10) || (b == 13)
+
+abbrev pub without_blanks : List ℕ → List ℕ
+without_blanks [] = []
+without_blanks (b ∷ bytes) = if is_blank b then without_blanks bytes else b ∷ without_blanks bytes
+
+abbrev pub decoded : List ℕ → Result Code (DecodeFault × ℕ) → Reading (Option Code)
+decoded path (Ok code) = Ok (Some code)
+decoded path (Err e) = refusal path (cause.Decode e.0 e.1)
+
+abbrev pub paired : List ℕ → Result (List ℕ) FromHexError → Reading (List ℕ)
+paired path (Ok bytes) = Ok bytes
+paired path (Err e) = refusal path cause.BadHex
+
+-- the program whose slots the text at a path spells
+abbrev pub spelled : List ℕ → List ℕ → Reading (Option Code)
+spelled path text = paired path (decode_of (without_blanks text)) >>= λ bytes. decoded path (read_program bytes)
+
+-- the same of the value at a path, where the callback has no program yet
+abbrev pub slots_of : Option Code → List ℕ → Data → Reading (Option Code)
+slots_of None path d = text_of path d >>= spelled path
+slots_of (Some code) path d = refusal path cause.Twice
+
+abbrev pub slots_at : Members → List ℕ → Option Code → Reading (Option Code)
+slots_at ms key code = optional (slots_of code) code (codes "slots") key ms
+
+-- the programs with those of the table `slots`, in the order of callbacks
+abbrev pub with_slots : Members → Programs → Reading Programs
+with_slots ms p = do
+  init ← slots_at ms (codes "init") p.init
+  enable ← slots_at ms (codes "enable") p.enable
+  enqueue ← slots_at ms (codes "enqueue") p.enqueue
+  dispatch ← slots_at ms (codes "dispatch") p.dispatch
+  running ← slots_at ms (codes "running") p.running
+  stopping ← slots_at ms (codes "stopping") p.stopping
+  Ok (record { init = init; enable = enable; enqueue = enqueue; dispatch = dispatch; running = running; stopping = stopping })

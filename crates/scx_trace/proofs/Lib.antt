@@ -1,0 +1,4 @@
+pub mod Beginnings
+pub mod Going
+pub mod Tracing
+pub mod Reporting

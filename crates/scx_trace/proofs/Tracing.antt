@@ -1,0 +1,98 @@
+-- What is left of an output after many lines.
+use Rattle.std.proofs.Common.{◌≡◌, ℕ, Bool, true, false, List, [], ◌∷◌, ◌++◌, refl, sym, ap, subst, ◌∙◌, append_assoc}
+use Rattle.std.proofs.lemmas.List.{append-nil}
+use Rattle.scx_output.specs.Output.{HasFailed}
+use Rattle.scx_output.proofs.Growth.{grows_by_none, grows_twice}
+use Rattle.scx_trace.proofs.Beginnings.{beginning_of_more, beginning_behind}
+use Rattle.scx_world.specs.declared.notes.Note.{Note}
+use Rattle.scx_machine.specs.Notes.{Takes}
+use Rattle.scx_trace.specs.Lines.{NameLists, note_line, note_lines}
+use Rattle.scx_trace.specs.Writing.{Seen, Written, WrittenAfter, WrittenUpTo}
+use Rattle.scx_machine.specs.declared.events.Event.{Event}
+use Rattle.scx_sched.specs.Sim.{SimState}
+use Rattle.scx_trace.specs.Runs.{stepped_all, notes_of_all, GoesThrough}
+use Rattle.scx_trace.specs.Tracing.{TakesLine}
+use Rattle.scx_trace.proofs.Going.{notes_of_all-append}
+
+nothing_after : (f : Bool) (s : Seen) → s.failed ≡ f → WrittenAfter f s [] s
+nothing_after true s e = refl
+nothing_after false s e =
+    let P : Bool → Type 0 = λ g. WrittenUpTo g s [] s in
+    subst P (sym e) (grows_by_none s.contents [], refl)
+
+-- no text at all
+written_nothing : (s : Seen) → Written s [] s
+written_nothing s = nothing_after s.failed s refl
+
+both_whole : (f : Bool) (s t u : Seen) (a b : List ℕ) → WrittenUpTo false s a t → WrittenUpTo f t b u → WrittenUpTo f s (a ++ b) u
+both_whole false s t u a b (grown, same) (then_grown, then_same) =
+    (grows_twice s.contents t.contents u.contents a b grown then_grown, then_same ∙ same)
+both_whole true s t u a b (grown, same) (then_cut, then_failed) =
+    let P : ℕ → Type 0 = λ n. HasFailed n u.failures in
+    (beginning_behind s.contents t.contents u.contents a b grown then_cut, subst P same then_failed)
+
+up_to_twice : (f : Bool) (s t u : Seen) (a b : List ℕ) → t.failed ≡ f → WrittenUpTo f s a t → Written t b u → WrittenUpTo u.failed s (a ++ b) u
+up_to_twice false s t u a b e first next =
+    let P : Bool → Type 0 = λ g. WrittenAfter g t b u in
+    both_whole u.failed s t u a b first (subst P e next)
+up_to_twice true s t u a b e (cut, failed) next =
+    let P : Bool → Type 0 = λ g. WrittenAfter g t b u in
+    let stays : u ≡ t = subst P e next in
+    let Q : Seen → Type 0 = λ x. WrittenUpTo x.failed s (a ++ b) x in
+    let R : Bool → Type 0 = λ g. WrittenUpTo g s (a ++ b) t in
+    subst Q (sym stays) (subst R (sym e) (beginning_of_more s.contents t.contents a b cut, failed))
+
+after_twice : (f : Bool) (s t u : Seen) (a b : List ℕ) → s.failed ≡ f → WrittenAfter f s a t → Written t b u → WrittenAfter f s (a ++ b) u
+after_twice true s t u a b e stays next =
+    let P : Bool → Type 0 = λ g. WrittenAfter g t b u in
+    let still : u ≡ t = subst P (ap (λ x. x.failed) stays ∙ e) next in
+    still ∙ stays
+after_twice false s t u a b e first next = up_to_twice t.failed s t u a b refl first next
+
+-- one text after another
+pub written_twice : (s t u : Seen) (a b : List ℕ) → Written s a t → Written t b u → Written s (a ++ b) u
+written_twice s t u a b first next = after_twice s.failed s t u a b refl first next
+
+-- the lines of many notes
+pub takes_lines : {S G : Type 0} (output : S → G) (names : S → NameLists) (seen : S → Seen) (notes : List Note) (s t : S)
+    → Takes (TakesLine output names seen) s notes t
+    → (output t ≡ output s) × (names t ≡ names s) × Written (seen s) (note_lines (names s) notes) (seen t)
+takes_lines output names seen [] s t same =
+    let P : Seen → Type 0 = λ x. Written (seen s) [] x in
+    (ap output same, ap names same, subst P (sym (ap seen same)) (written_nothing (seen s)))
+takes_lines output names seen (n ∷ ns) s t (u, (stays, one_output, one_names, line), rest) =
+    let behind = takes_lines output names seen ns u t rest in
+    let P : NameLists → Type 0 = λ x. Written (seen u) (note_lines x ns) (seen t) in (
+      behind.0 ∙ one_output,
+      behind.1 ∙ one_names,
+      written_twice (seen s) (seen u) (seen t) (note_line (names s) n) (note_lines (names s) ns) line (subst P one_names behind.2),
+    )
+
+note_lines-append : (x : NameLists) (ns ms : List Note) → note_lines x (ns ++ ms) ≡ note_lines x ns ++ note_lines x ms
+note_lines-append x [] ms = refl
+note_lines-append x (n ∷ ns) ms =
+    ap (λ text. note_line x n ++ text) (note_lines-append x ns ms) ∙ sym (append_assoc (note_line x n) (note_lines x ns) (note_lines x ms))
+
+whole_or_cut : (f : Bool) (s t : Seen) (a b : List ℕ) → (f ≡ false → b ≡ []) → WrittenUpTo f s a t → WrittenUpTo f s (a ++ b) t
+whole_or_cut false s t a b nothing written =
+    let P : List ℕ → Type 0 = λ text. WrittenUpTo false s text t in
+    subst P (sym (ap (λ z. a ++ z) (nothing refl) ∙ append-nil a)) written
+whole_or_cut true s t a b nothing (cut, failed) = (beginning_of_more s.contents t.contents a b cut, failed)
+
+-- a run that writes a line for each note
+pub run_is_written : {S G : Type 0} (output : S → G) (names : S → NameLists) (seen : S → Seen) (f : Bool) (events : List Event) (s t : SimState) (a b : S)
+    → (seen a).failed ≡ false → (seen b).failed ≡ f → GoesThrough (TakesLine output names seen) (λ x. (seen x).failed) events s a t b
+    → (output b ≡ output a) × WrittenUpTo f (seen a) (note_lines (names a) (notes_of_all s events)) (seen b)
+run_is_written output names seen f events s t a b fresh is ran =
+    let x = names a in
+    let lines = takes_lines output names seen (notes_of_all s ran.done) a b ran.notes in
+    let later = notes_of_all (stepped_all s ran.done) ran.rest in
+    let text : note_lines x (notes_of_all s events) ≡ note_lines x (notes_of_all s ran.done) ++ note_lines x later =
+    ap (λ es. note_lines x (notes_of_all s es)) ran.whole ∙ ap (note_lines x) (notes_of_all-append s ran.done ran.rest) ∙ note_lines-append x (notes_of_all s ran.done) later in
+    let P : Bool → Type 0 = λ f. WrittenAfter f (seen a) (note_lines x (notes_of_all s ran.done)) (seen b) in
+    let Q : Bool → Type 0 = λ f. WrittenUpTo f (seen a) (note_lines x (notes_of_all s ran.done)) (seen b) in
+    let R : List ℕ → Type 0 = λ text. WrittenUpTo f (seen a) text (seen b) in (
+      lines.0,
+      subst R (sym text) (whole_or_cut f (seen a) (seen b) (note_lines x (notes_of_all s ran.done)) (note_lines x later)
+          (λ going. ap (λ es. note_lines x (notes_of_all (stepped_all s ran.done) es)) (ran.all (is ∙ going))) (subst Q is (subst P fresh lines.2))),
+    )

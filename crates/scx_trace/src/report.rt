@@ -1,0 +1,93 @@
+ghost use Rattle.std.specs.Prelude.{◌≡◌, ◌+◌, ◌*◌, ◌<◌, ◌≤◌, ◌^◌, ◌++◌, length, slice_index, sum, codes, decimal, OnOk, OnErr};
+ghost use Rattle.std.specs.Io.KnownBytes.{Appends};
+ghost use Rattle.scx_output.specs.Output.{HasFailed, AppendsBeginning};
+ghost use Rattle.scx_trace.specs.Report.{times, share, last_lines as end_of, report};
+
+use crate::lines::{Part, write_line};
+use crate::names::Names;
+use itoa::Buffer;
+use scx_output::{Failed, Out, write_all};
+use scx_sched::Sim;
+
+/// A millisecond in nanoseconds.
+const MS: u64 = 1_000_000;
+
+/// Writes how long each task ran, and which part of all running that is.
+///
+/// # Errors
+///
+/// Writing failed. The text is cut off there.
+pub fn write_report<N: Names, W: Out>(sim: &Sim, names: &N, out: &mut W) -> Result<(), Failed>
+    ensures ok { OnOk result (Appends (W.contents out.old) (W.contents out.new)
+        (report (N.lists names.now) (times sim.now.state.world))) }
+    ensures ok_failures { OnOk result (W.failure_count out.new ≡ W.failure_count out.old) }
+    ensures err { OnErr result (AppendsBeginning (W.contents out.old) (W.contents out.new)
+        (report (N.lists names.now) (times sim.now.state.world))) }
+    ensures err_failures { OnErr result (HasFailed (W.failure_count out.old) (W.failure_count out.new)) }
+{
+    let total = total_ms(sim);
+    for task in 0..sim.tasks() {
+        let end = end_of_task(run_ms(sim, task), total);
+        write_line("task ", names.task(task), end.as_str(), out)?;
+    }
+    write_all(out, last_lines(total).as_str().as_bytes())?;
+    Ok(())
+}
+
+/// How long the task has run, in milliseconds.
+fn run_ms(sim: &Sim, task: u16) -> u64
+    requires { task < length sim.now.state.world.tasks }
+    ensures ms { result ≡ slice_index (times sim.now.state.world) task }
+    ensures most { result ≤ 2 ^ 45 }
+{
+    sim.run_ns(task) / MS
+}
+
+/// How long all tasks have run, in milliseconds.
+fn total_ms(sim: &Sim) -> u64
+    ensures { result ≡ sum (times sim.now.state.world) }
+{
+    let mut total = 0;
+    for task in 0..sim.tasks() {
+        total += run_ms(sim, task);
+    }
+    total
+}
+
+/// A part of all, in ten thousandths.
+fn share(ms: u64, total: u64) -> u64
+    requires { ms ≤ 2 ^ 45 }
+    ensures { result ≡ share ms total }
+{
+    if total == 0 {
+        return 0;
+    }
+    10_000 * ms / total
+}
+
+/// What stands behind a task's name.
+fn end_of_task(ms: u64, total: u64) -> Part
+    requires { ms ≤ 2 ^ 45 }
+    ensures { result.bytes ≡ codes " run " ++ decimal ms ++ codes " share " ++ decimal (share ms total) ++ codes "\n" }
+{
+    let mut digits = Buffer::new();
+    let mut end = Part::new();
+    end.push_str(" run ");
+    end.push_str(digits.format(ms));
+    end.push_str(" share ");
+    end.push_str(digits.format(share(ms, total)));
+    end.push_str("\n");
+    end
+}
+
+fn last_lines(total: u64) -> Part
+    ensures { result.bytes ≡ end_of total }
+{
+    let mut digits = Buffer::new();
+    let mut line = Part::new();
+    line.push_str("total ");
+    line.push_str(digits.format(total));
+    line.push_str("\n");
+    line.push_str("policy in force\n");
+    line
+}

@@ -1,0 +1,57 @@
+ghost use Rattle.std.specs.Prelude.{◌≡◌, ◌<◌, is_some, IfSome};
+ghost use Rattle.scx_dsq.specs.Queues.{task_count, place_of, front_of};
+ghost use Rattle.scx_dsq.specs.Calls.{popped, removed};
+
+use scx_dsq::{Queues, Steps};
+use std::marker::Brand;
+use std::sync::ledger::{Blank, Ledger};
+
+/// Takes the front of the queue out and answers it. Nobody asks for the comparisons.
+pub fn pop(queues: &mut Queues, id: u64) -> Option<u32>
+    ensures answer { result ≡ front_of queues.old.state id }
+    ensures known { IfSome result (λ t. t < task_count queues.old.state) }
+    ensures state { queues.new.state ≡ popped queues.old.state id }
+    ensures tasks { task_count queues.new.state ≡ task_count queues.old.state }
+    ensures pushes { queues.new.state.pushes ≡ queues.old.state.pushes }
+{
+    pop_counted::<Brand>(queues, id, Blank::new(1))
+}
+
+fn pop_counted<L: Ledger>(queues: &mut Queues, id: u64, blank: Blank) -> Option<u32>
+    requires name { blank.name ≡ L.name }
+    requires parts { blank.parts ≡ L.parts }
+    requires some { 0 < blank.parts }
+    ensures answer { result ≡ front_of queues.old.state id }
+    ensures known { IfSome result (λ t. t < task_count queues.old.state) }
+    ensures state { queues.new.state ≡ popped queues.old.state id }
+    ensures tasks { task_count queues.new.state ≡ task_count queues.old.state }
+    ensures pushes { queues.new.state.pushes ≡ queues.old.state.pushes }
+{
+    let mut steps = Steps::<L>::new(blank);
+    queues.pop(id, &mut steps)
+}
+
+/// Takes the task out of the queue in which it waits. Nobody asks for the comparisons.
+pub fn remove(queues: &mut Queues, task: u32) -> bool
+    requires { task < task_count queues.old.state }
+    ensures answer { result ≡ is_some (place_of queues.old.state task) }
+    ensures state { queues.new.state ≡ removed queues.old.state task }
+    ensures tasks { task_count queues.new.state ≡ task_count queues.old.state }
+    ensures pushes { queues.new.state.pushes ≡ queues.old.state.pushes }
+{
+    remove_counted::<Brand>(queues, task, Blank::new(1))
+}
+
+fn remove_counted<L: Ledger>(queues: &mut Queues, task: u32, blank: Blank) -> bool
+    requires task { task < task_count queues.old.state }
+    requires name { blank.name ≡ L.name }
+    requires parts { blank.parts ≡ L.parts }
+    requires some { 0 < blank.parts }
+    ensures answer { result ≡ is_some (place_of queues.old.state task) }
+    ensures state { queues.new.state ≡ removed queues.old.state task }
+    ensures tasks { task_count queues.new.state ≡ task_count queues.old.state }
+    ensures pushes { queues.new.state.pushes ≡ queues.old.state.pushes }
+{
+    let mut steps = Steps::<L>::new(blank);
+    queues.remove(task, &mut steps)
+}
