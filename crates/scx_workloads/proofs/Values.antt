@@ -1,5 +1,5 @@
 -- What is known of a number, an array or a name that was read.
-use Rattle.std.proofs.Common.{◌≡◌, ℕ, zero, suc, ◌+◌, ◌<◌, ◌≤◌, ℤ, pos, negsuc, Bool, true, false, ◌&&◌, ◌==◌, ◌⊎◌, inl, inr, nat_le, if◌then◌else◌, List, [], ◌∷◌, ◌++◌, length, get_or, map, Option, Some, None, Result, Ok, Err, refl, sym, ap, ◌∙◌, subst, arith}
+use Rattle.std.proofs.Common.{◌≡◌, ℕ, zero, suc, ◌+◌, ◌<◌, ◌≤◌, ℤ, pos, negsuc, Bool, true, false, ◌&&◌, ◌==◌, ◌⊎◌, inl, inr, nat_le, if◌then◌else◌, List, [], ◌∷◌, ◌++◌, length, get_or, map, Option, Some, None, Result, Ok, Err, IfOk, Bor, refl, sym, ap, ◌∙◌, subst, arith}
 use Rattle.std.proofs.lemmas.Bool.{cases_lt}
 use Rattle.std.proofs.lemmas.Bool.Decides.{nat_tests}
 use Rattle.std.proofs.lemmas.List.{length-append, length-map, get_or_append_left, get_or-append-add}
@@ -8,7 +8,8 @@ use Rattle.toml.specs.Data.{Data, string, integer, float, boolean, datetime, arr
 use Rattle.toml.specs.View.{items_view}
 use Rattle.toml.specs.declared.value.Value.{Value}
 use Rattle.scx_files.specs.declared.section.Limits.{Limits}
-use Rattle.scx_files.specs.Faults.{Reading, refusal, ◌>>=◌}
+use Rattle.scx_files.specs.Faults.{Reading, Gives, refusal, ◌>>=◌}
+use Rattle.scx_files.specs.declared.fault.LoadError.{LoadError}
 use Rattle.scx_files.specs.Paths.{below}
 use Rattle.scx_files.specs.Values.{found_or, required, optional, integer_of, within, elements_of, item_count}
 use Rattle.scx_files.specs.declared.fault.Cause.TheVariants as cause
@@ -93,6 +94,11 @@ few_elements most path key ms vs e = subst (λ k. k ≤ most) (count_of_view vs)
     go None e = subst (λ y. item_count y ≤ most) (same_items no_items (items_view vs) e) (omega arith)
     go (Some d) e = few_items most (below path key) d (items_view vs) e
 
+pub few_given : (most : ℕ) (path key : List ℕ) (ms : Members) (r : Result (Bor (List Value)) LoadError) → Gives (λ vs. items_view vs.now) r (optional (elements_of most) no_items path key ms)
+    → IfOk r (λ vs. length vs.now ≤ most)
+few_given most path key ms (Ok vs) g = few_elements most path key ms vs.now g
+few_given most path key ms (Err e) g = tt
+
 some_of_items : (path : List ℕ) (vs : List Value) → 1 ≤ length vs → some_of path (items_view vs) ≡ Ok (items_view vs)
 some_of_items path [] l = absurd (omega (arith, l))
 some_of_items path (v ∷ vs) l = refl
@@ -106,8 +112,9 @@ some_is_missing path (v ∷ vs) l = absurd (grind (arith, nat_tests, l))
 
 -- ---- unknown keys
 
-pub least_behind : (least : Option (List ℕ)) (ps qs : List (List ℕ)) → least_with least (ps ++ qs) ≡ least_with (least_with least ps) qs
-least_behind = least_with-append
+-- the least of what four looks at a file found, one after the other
+pub four_looks : (ps qs rs ss : List (List ℕ)) → least_with (least_with (least_with (least_with None ps) qs) rs) ss ≡ least_with None (ps ++ qs ++ rs ++ ss)
+four_looks ps qs rs ss = rw (least_with-append None (ps ++ qs ++ rs) ss, least_with-append None (ps ++ qs) rs, least_with-append None ps qs) refl
 
 -- ---- names
 

@@ -45,7 +45,6 @@ pub(crate) fn integer_or(
 }
 
 /// The elements of an array that may be absent, at most so many.
-#[tactic(auto, using(crate::proofs::Values::few_elements))]
 pub(crate) fn elements<'a>(
     alloc: Global,
     file: Section<'a>,

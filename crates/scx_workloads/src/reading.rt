@@ -38,7 +38,6 @@ pub fn read_workload(alloc: Global, text: &str) -> Result<Workload, LoadError>
 }
 
 /// Refuses the unknown key of the least path.
-#[tactic(auto, using(crate::proofs::Values::least_behind))]
 fn check_keys(alloc: Global, file: Section<'_>) -> Result<(), LoadError>
     requires { file.path.now ≡ [] }
     ensures { Gives (λ t. t) result (known_alone (unknown_keys (table_view file.entry.table.now))) }
