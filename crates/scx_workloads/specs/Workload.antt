@@ -1,6 +1,7 @@
 -- A workload: its groups and tasks, and what happens to them as time goes.
-use Rattle.std.specs.Prelude.{◌≡◌, ℕ, ◌<◌, ◌≤◌, List, length, slice_index_or}
+use Rattle.std.specs.Prelude.{◌≡◌, ℕ, ◌<◌, ◌≤◌, List, length, None, slice_index_or}
 use Rattle.scx_weights.specs.declared.group.Group.{Group}
+use Rattle.scx_weights.specs.Refusals.{first_fault}
 use Rattle.scx_workloads.specs.declared.workload.Timing.{Timing}
 use Rattle.scx_workloads.specs.declared.workload.Change.{Change}
 
@@ -39,6 +40,7 @@ pub record IsWorkload (w : WorkloadState) : Type 0 where
   pub few_cpus : w.cpus ≤ 64
   pub some_ms : 1 ≤ w.ms
   pub few_ms : w.ms ≤ max_ms
+  pub tree : first_fault w.groups w.homes ≡ None
   pub some_tasks : 1 ≤ length w.homes
   pub few_tasks : length w.homes ≤ 1024
   pub named_groups : length w.group_names ≡ length w.groups

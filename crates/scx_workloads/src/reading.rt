@@ -56,6 +56,7 @@ fn check_keys(alloc: Global, file: Section<'_>) -> Result<(), LoadError>
 }
 
 /// What the known keys of a file say.
+#[tactic(auto, using(crate::proofs::Forest::tree_is_right))]
 fn read_file(alloc: Global, file: Section<'_>) -> Result<Workload, LoadError>
     requires { file.path.now ≡ [] }
     ensures { Gives (λ workload. workload) result (workload_in (table_view file.entry.table.now)) }

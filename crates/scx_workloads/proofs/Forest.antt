@@ -96,7 +96,9 @@ module _ (groups : List Group) (x : Group) where
   parent_left k l = ap (λ (g : Group). g.parent) (get_or_append_left groups (x ∷ []) _ k l)
 
   parent_last : parent_of (groups ++ x ∷ []) (length groups) ≡ x.parent
-  parent_last = let e : length groups ≡ length groups + 0 = omega arith in rw e at (ap (λ (g : Group). g.parent) (get_or-append-add groups (x ∷ []) 0 (record { parent = None; weight = 0 })))
+  parent_last =
+      let last : length groups + 0 ≡ length groups = omega arith in
+      subst (λ k. parent_of (groups ++ x ∷ []) k ≡ x.parent) last (ap (λ (g : Group). g.parent) (get_or-append-add groups (x ∷ []) 0 (record { parent = None; weight = 0 })))
 
   above_left : has_late_parent groups ≡ false → (m : ℕ) (o : Option ℕ) → Within (length groups) o → above (groups ++ x ∷ []) m o ≡ above groups m o
   above_left late zero o w = refl
@@ -133,11 +135,11 @@ record IsForest (g : GroupList) : Type 0 where
 named_below : (names : List (List ℕ)) (path : List ℕ) (d : Data) (p : ℕ) → group_named names path d ≡ Ok p → p < length names
 named_below names path d p e =
     let x = parts (text_of path d) (λ text. found_or Ok (refusal path cause.NoSuchGroup) (place_of names text)) p e in
-    go (place_of names x.value) refl x.second
+    go x.value (place_of names x.value) refl x.second
   where
-    go : {text : List ℕ} (o : Option ℕ) → place_of names text ≡ o → found_or Ok (refusal path cause.NoSuchGroup) o ≡ Ok p → p < length names
-    go None f g = absurd (cc)
-    go {text} (Some k) f g = subst (λ i. i < length names) (same_ok k p g) (let l = place_below 0 names text k f in omega (arith, l))
+    go : (text : List ℕ) (o : Option ℕ) → place_of names text ≡ o → found_or Ok (refusal path cause.NoSuchGroup) o ≡ Ok p → p < length names
+    go text None f g = absurd (cc)
+    go text (Some k) f g = subst (λ i. i < length names) (same_ok k p g) (let l = place_below 0 names text k f in omega (arith, l))
 
 record IsParent (groups : List Group) (o : Option ℕ) : Type 0 where
   pub within : Within (length groups) o
