@@ -1,7 +1,11 @@
-//! Tests of policy and workload files.
+//! Tests of policy and workload files, and of the events of a workload.
 #![tactic(auto)]
 
+#[cfg(test)]
+mod driver;
 #[cfg(test)]
 mod faults;
 #[cfg(test)]
 mod policies;
+#[cfg(test)]
+mod workloads;

@@ -1,2 +1,3 @@
 pub mod Workload
+pub mod Reading
 pub mod Kept

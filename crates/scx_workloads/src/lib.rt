@@ -1,7 +1,14 @@
 //! Workloads: groups of tasks, when each task runs and sleeps, and how weights change.
+//!
+//! `read_workload` reads a file (TOML 1.1), or names its first fault and where it stands.
 #![tactic(auto)]
 
+mod elements;
+mod groups;
+mod reading;
+mod tasks;
 mod workload;
 
+pub use reading::read_workload;
 pub use scx_weights::Group;
 pub use workload::{Change, MAX_CHANGES, MAX_CPUS, MAX_MS, Timing, Workload};

@@ -37,14 +37,14 @@ pub struct Change {
 /// lists of bytes.
 #[derive(Drop)]
 pub struct Workload {
-    cpus: u32,
-    ms: u32,
-    groups: Vec<Group>,
-    group_names: Vec<String>,
-    homes: Vec<u32>,
-    task_names: Vec<String>,
-    timings: Vec<Timing>,
-    changes: Vec<Change>,
+    pub(crate) cpus: u32,
+    pub(crate) ms: u32,
+    pub(crate) groups: Vec<Group>,
+    pub(crate) group_names: Vec<String>,
+    pub(crate) homes: Vec<u32>,
+    pub(crate) task_names: Vec<String>,
+    pub(crate) timings: Vec<Timing>,
+    pub(crate) changes: Vec<Change>,
 }
 
 impl Model for Workload {

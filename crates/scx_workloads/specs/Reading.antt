@@ -1,0 +1,196 @@
+-- The reading of a workload file: unknown keys first, wherever they stand; then `cpus`, `ms`, the
+-- groups, the tasks and the changes of weights, each element by itself.
+use Rattle.std.specs.Prelude.{ℕ, ◌+◌, Bool, List, [], ◌∷◌, ◌++◌, Option, Some, None, is_some, Ok, codes, if◌then◌else◌, ⊤}
+use Rattle.std.specs.List.{list_any}
+use Rattle.std.specs.Str.{bytes_eq}
+use Rattle.toml.specs.Data.{Data, Items, no_items, item, Members}
+use Rattle.scx_files.specs.declared.fault.Cause.TheVariants as cause
+use Rattle.scx_files.specs.declared.section.Limits.{Limits}
+use Rattle.scx_files.specs.Faults.{Reading, refusal, ◌>>=◌}
+use Rattle.scx_files.specs.Paths.{below, element}
+use Rattle.scx_files.specs.Unknown.{known_alone, unknown, unknown_in_each}
+use Rattle.scx_files.specs.Values.{found_or, document, required, optional, table_of, text_of, name_of, integer_of, elements_of}
+use Rattle.scx_weights.specs.declared.group.Group.{Group}
+use Rattle.scx_weights.specs.Refusals.{above, is_parent}
+use Rattle.scx_workloads.specs.declared.workload.Timing.{Timing}
+use Rattle.scx_workloads.specs.declared.workload.Change.{Change}
+use Rattle.scx_workloads.specs.Workload.{WorkloadState}
+
+-- ---- limits
+
+abbrev pub cpu_limits : Limits
+cpu_limits = record { least = 1; most = 64 }
+
+abbrev pub length_limits : Limits
+length_limits = record { least = 1; most = 1000000 }
+
+abbrev pub time_limits : Limits
+time_limits = record { least = 0; most = 1000000 }
+
+abbrev pub weight_limits : Limits
+weight_limits = record { least = 1; most = 10000 }
+
+-- ---- arrays
+
+-- the elements from the n-th on, each read with what was read before it
+abbrev pub fold_from : {S : Type 0} → (S → ℕ → Data → Reading S) → S → ℕ → Items → Reading S
+fold_from read s n no_items = Ok s
+fold_from read s n (item d ds) = read s n d >>= λ t. fold_from read t (n + 1) ds
+
+-- an array that is absent or empty is missing
+abbrev pub some_of : List ℕ → Items → Reading Items
+some_of path no_items = refusal path cause.Missing
+some_of path (item d ds) = Ok (item d ds)
+
+abbrev pub some_elements : ℕ → List ℕ → Members → Reading Items
+some_elements most key ms = optional (elements_of most) no_items [] key ms >>= some_of key
+
+-- ---- names
+
+-- the place of the first such name from the i-th on
+abbrev pub place_from : ℕ → List (List ℕ) → List ℕ → Option ℕ
+place_from i [] name = None
+place_from i (n ∷ names) name = if bytes_eq n name then Some i else place_from (i + 1) names name
+
+abbrev pub place_of : List (List ℕ) → List ℕ → Option ℕ
+place_of names name = place_from 0 names name
+
+abbrev pub if_new : List (List ℕ) → List ℕ → List ℕ → Reading (List ℕ)
+if_new names path name = if is_some (place_of names name) then refusal path cause.Twice else Ok name
+
+-- the name of an element, which no element before it has
+abbrev pub new_name : List (List ℕ) → List ℕ → Members → Reading (List ℕ)
+new_name names path ms = required name_of path (codes "name") ms >>= if_new names (below path (codes "name"))
+
+-- the number of the group of that name
+abbrev pub group_named : List (List ℕ) → List ℕ → Data → Reading ℕ
+group_named names path d = text_of path d >>= λ text. found_or Ok (refusal path cause.NoSuchGroup) (place_of names text)
+
+-- ---- groups
+
+pub record GroupList : Type 0 where
+  pub names : List (List ℕ)
+  pub groups : List Group
+
+abbrev pub no_groups : GroupList
+no_groups = record { names = []; groups = [] }
+
+-- a group below that one would be the fourth of its line
+abbrev pub is_deep : List Group → ℕ → Bool
+is_deep groups parent = is_some (above groups 2 (Some parent))
+
+abbrev pub if_shallow : List Group → List ℕ → ℕ → Reading (Option ℕ)
+if_shallow groups path parent = if is_deep groups parent then refusal path cause.TooDeep else Ok (Some parent)
+
+abbrev pub parent_named : GroupList → List ℕ → Data → Reading (Option ℕ)
+parent_named g path d = group_named g.names path d >>= if_shallow g.groups path
+
+-- with one more group, which the table at a path says
+abbrev pub with_group : GroupList → List ℕ → Members → Reading GroupList
+with_group g path ms = do
+  name ← new_name g.names path ms
+  weight ← optional (integer_of weight_limits) 100 path (codes "weight") ms
+  parent ← optional (parent_named g) None path (codes "parent") ms
+  Ok (record { names = g.names ++ name ∷ []; groups = g.groups ++ (record { parent = parent; weight = weight }) ∷ [] })
+
+abbrev pub group_at : GroupList → ℕ → Data → Reading GroupList
+group_at g n d = table_of (element (codes "group") n) d >>= with_group g (element (codes "group") n)
+
+abbrev pub groups_in : Members → Reading GroupList
+groups_in ms = some_elements 256 (codes "group") ms >>= fold_from group_at no_groups 0
+
+-- ---- tasks
+
+pub record TaskList : Type 0 where
+  pub names : List (List ℕ)
+  pub homes : List ℕ
+  pub timings : List Timing
+
+abbrev pub no_tasks : TaskList
+no_tasks = record { names = []; homes = []; timings = [] }
+
+abbrev pub has_children : List Group → ℕ → Bool
+has_children groups g = list_any (λ (child : Group). is_parent g child.parent) groups
+
+abbrev pub if_leaf : List Group → List ℕ → ℕ → Reading ℕ
+if_leaf groups path g = if has_children groups g then refusal path cause.NotALeaf else Ok g
+
+abbrev pub leaf_named : GroupList → List ℕ → Data → Reading ℕ
+leaf_named g path d = group_named g.names path d >>= if_leaf g.groups path
+
+abbrev pub timing_in : List ℕ → Members → Reading Timing
+timing_in path ms = do
+  start ← optional (integer_of time_limits) 0 path (codes "start") ms
+  run ← optional (integer_of time_limits) 0 path (codes "run") ms
+  sleep ← optional (integer_of time_limits) 0 path (codes "sleep") ms
+  Ok (record { start = start; run = run; sleep = sleep })
+
+abbrev pub with_task : GroupList → TaskList → List ℕ → Members → Reading TaskList
+with_task g t path ms = do
+  name ← new_name t.names path ms
+  home ← required (leaf_named g) path (codes "group") ms
+  timing ← timing_in path ms
+  Ok (record { names = t.names ++ name ∷ []; homes = t.homes ++ home ∷ []; timings = t.timings ++ timing ∷ [] })
+
+abbrev pub task_at : GroupList → TaskList → ℕ → Data → Reading TaskList
+task_at g t n d = table_of (element (codes "task") n) d >>= with_task g t (element (codes "task") n)
+
+abbrev pub tasks_in : GroupList → Members → Reading TaskList
+tasks_in g ms = some_elements 1024 (codes "task") ms >>= fold_from (task_at g) no_tasks 0
+
+-- ---- changes
+
+abbrev pub change_in : GroupList → List ℕ → Members → Reading Change
+change_in g path ms = do
+  at ← required (integer_of time_limits) path (codes "at") ms
+  group ← required (group_named g.names) path (codes "group") ms
+  weight ← required (integer_of weight_limits) path (codes "weight") ms
+  Ok (record { at = at; group = group; weight = weight })
+
+abbrev pub change_from : GroupList → ℕ → Data → Reading Change
+change_from g n d = table_of (element (codes "change") n) d >>= change_in g (element (codes "change") n)
+
+abbrev pub with_change : GroupList → List Change → ℕ → Data → Reading (List Change)
+with_change g cs n d = change_from g n d >>= λ c. Ok (cs ++ c ∷ [])
+
+abbrev pub changes_in : GroupList → Members → Reading (List Change)
+changes_in g ms = optional (elements_of 1024) no_items [] (codes "change") ms >>= fold_from (with_change g) [] 0
+
+-- ---- the file
+
+abbrev pub file_keys : List (List ℕ)
+file_keys = codes "cpus" ∷ codes "ms" ∷ codes "group" ∷ codes "task" ∷ codes "change" ∷ []
+
+abbrev pub group_keys : List (List ℕ)
+group_keys = codes "name" ∷ codes "weight" ∷ codes "parent" ∷ []
+
+abbrev pub task_keys : List (List ℕ)
+task_keys = codes "name" ∷ codes "group" ∷ codes "start" ∷ codes "run" ∷ codes "sleep" ∷ []
+
+abbrev pub change_keys : List (List ℕ)
+change_keys = codes "at" ∷ codes "group" ∷ codes "weight" ∷ []
+
+-- the paths of all unknown keys of a file
+abbrev pub unknown_keys : Members → List (List ℕ)
+unknown_keys ms =
+    unknown file_keys [] ms
+    ++ unknown_in_each group_keys [] (codes "group") ms
+    ++ unknown_in_each task_keys [] (codes "task") ms
+    ++ unknown_in_each change_keys [] (codes "change") ms
+
+-- what the known keys of a file say
+abbrev pub workload_in : Members → Reading WorkloadState
+workload_in ms = do
+  cpus ← required (integer_of cpu_limits) [] (codes "cpus") ms
+  length ← required (integer_of length_limits) [] (codes "ms") ms
+  g ← groups_in ms
+  t ← tasks_in g ms
+  changes ← changes_in g ms
+  Ok (record { cpus = cpus; ms = length; groups = g.groups; group_names = g.names; homes = t.homes; task_names = t.names; timings = t.timings; changes = changes })
+
+abbrev pub workload_file : Members → Reading WorkloadState
+workload_file ms = known_alone (unknown_keys ms) >>= λ known. workload_in ms
+
+-- the workload that a text is
+abbrev pub workload_of : List ℕ → Reading WorkloadState
+workload_of text = document text >>= workload_file

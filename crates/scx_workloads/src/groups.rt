@@ -1,0 +1,227 @@
+//! The groups of a workload file.
+ghost use Rattle.std.specs.Prelude.{◌≡◌, ◌+◌, ◌<◌, ◌≤◌, ◌++◌, ◌∷◌, [], None, Some, codes, length, IfOk, IfErr};
+ghost use Rattle.toml.specs.View.{view, table_view, items_view};
+ghost use Rattle.scx_files.specs.declared.fault.LoadError.TheVariants.{NoMemory};
+ghost use Rattle.scx_files.specs.Faults.{Gives};
+ghost use Rattle.scx_files.specs.Paths.{below};
+ghost use Rattle.scx_files.specs.Values.{required, optional};
+ghost use Rattle.scx_weights.specs.Hierarchy.{parent_of};
+ghost use Rattle.scx_weights.specs.Refusals.{above, is_parent};
+ghost use Rattle.scx_workloads.specs.Reading.{new_name, is_deep, has_children, fold_from};
+ghost use Rattle.scx_workloads.specs.Kept.{texts};
+
+use crate::elements::{integer_or, place_of, some_elements};
+use scx_files::{Cause, Limits, LoadError, Section, element_path, refused};
+use scx_weights::{Group, MAX_GROUPS, MAX_WEIGHT};
+use std::alloc::Global;
+use std::marker::Model;
+use toml::Value;
+
+/// Weights of groups (Linux Documentation/admin-guide/cgroup-v2.rst, `cpu.weight`).
+pub(crate) const WEIGHT: Limits = Limits {
+    least: 1,
+    most: MAX_WEIGHT,
+};
+
+const DEFAULT_WEIGHT: u32 = 100;
+
+/// The groups that were read so far.
+#[derive(Drop)]
+pub struct Groups {
+    names: Vec<String>,
+    groups: Vec<Group>,
+}
+
+impl Model for Groups {
+    ghost use Rattle.scx_workloads.specs.Reading.{GroupList};
+    ghost use Rattle.scx_workloads.specs.Kept.{groups_of, AreGroups};
+
+    ghost Value = { GroupList };
+
+    ghost view = { groups_of };
+
+    ghost invariant = { AreGroups };
+}
+
+impl Groups {
+    ghost use Rattle.scx_workloads.specs.Reading.{no_groups, groups_in, group_at, with_group, group_named, parent_named, leaf_named};
+
+    /// The groups of a file.
+    pub(crate) fn read(alloc: Global, file: Section<'_>) -> Result<Groups, LoadError>
+        requires { file.path.now ≡ [] }
+        ensures { Gives (λ g. g) result (groups_in (table_view file.entry.table.now)) }
+    {
+        let values = some_elements(alloc, file, "group", MAX_GROUPS)?;
+        Groups::read_all(alloc, values)
+    }
+
+    #[tactic(auto, using(crate::proofs::Each::goes_on, crate::proofs::Each::ends, crate::proofs::Each::is_done))]
+    fn read_all(alloc: Global, values: &[Value]) -> Result<Groups, LoadError>
+        requires { length values.now ≤ 256 }
+        ensures { Gives (λ g. g) result (fold_from group_at no_groups 0 (items_view values.now)) }
+    {
+        let mut groups = Groups::none(alloc);
+        for (number, value) in values.iter().enumerate() {
+            groups = groups.with_element(alloc, number, value)?;
+        }
+        Ok(groups)
+    }
+
+    fn none(alloc: Global) -> Groups
+        ensures { result ≡ no_groups }
+    {
+        Groups {
+            names: Vec::new(alloc),
+            groups: Vec::new(alloc),
+        }
+    }
+
+    /// With one more group, which an element says.
+    fn with_element(self, alloc: Global, number: usize, value: &Value) -> Result<Groups, LoadError>
+        requires { length self.groups < 256 }
+        ensures groups { Gives (λ g. g) result (group_at self number (view value.now)) }
+        ensures count { IfOk result (λ g. length g.groups ≡ length self.groups + 1) }
+    {
+        let path = element_path(alloc, "group", number)?;
+        let section = Section::of(alloc, &path, value)?;
+        self.with_section(alloc, section)
+    }
+
+    fn with_section(self, alloc: Global, section: Section<'_>) -> Result<Groups, LoadError>
+        requires { length self.groups < 256 }
+        ensures groups { Gives (λ g. g) result (with_group self section.entry.path.now (table_view section.entry.table.now)) }
+        ensures count { IfOk result (λ g. length g.groups ≡ length self.groups + 1) }
+    {
+        let name = new_name(alloc, &self.names, section)?;
+        let weight = integer_or(alloc, section, "weight", WEIGHT, DEFAULT_WEIGHT)?;
+        let parent = self.parent(alloc, section)?;
+        self.with(alloc, name, Group { parent, weight })
+    }
+
+    fn with(self, alloc: Global, name: &str, group: Group) -> Result<Groups, LoadError>
+        requires { length self.groups < 256 }
+        ensures groups { IfOk result (λ g. g ≡ (record { names = self.names ++ name.now ∷ []; groups = self.groups ++ group ∷ [] })) }
+        ensures memory { IfErr result (λ e. e ≡ NoMemory) }
+    {
+        let Groups {
+            mut names,
+            mut groups,
+        } = self;
+        names.push(String::from_str(alloc, name)?)?;
+        groups.push(group)?;
+        Ok(Groups { names, groups })
+    }
+
+    /// The parent that an element names; it may have none. `NoSuchGroup` or `TooDeep`.
+    fn parent(&self, alloc: Global, section: Section<'_>) -> Result<Option<u32>, LoadError>
+        ensures { Gives (λ p. p) result (optional (parent_named self.now) None section.entry.path.now (codes "parent") (table_view section.entry.table.now)) }
+    {
+        match section.value("parent") {
+            Some(value) => {
+                let parent = self.named_by(alloc, section, "parent", value)?;
+                if is_deep(&self.groups, parent) {
+                    return refused(alloc, section.path, "parent", Cause::TooDeep);
+                }
+                Ok(Some(parent))
+            }
+            None => Ok(None),
+        }
+    }
+
+    /// The group that the value at a key names. `WrongType` or `NoSuchGroup`.
+    fn named_by(
+        &self,
+        alloc: Global,
+        section: Section<'_>,
+        key: &str,
+        value: &Value,
+    ) -> Result<u32, LoadError>
+        ensures number { Gives (λ n. n) result (group_named self.now.names (below section.entry.path.now key.now) (view value.now)) }
+        ensures known { IfOk result (λ n. n < length self.now.groups) }
+    {
+        let name = section.text_in(alloc, key, value)?;
+        match place_of(&self.names, name) {
+            Some(group) => Ok(group as u32),
+            None => refused(alloc, section.path, key, Cause::NoSuchGroup),
+        }
+    }
+
+    /// The group that an element names. `Missing`, `WrongType` or `NoSuchGroup`.
+    pub(crate) fn named(&self, alloc: Global, section: Section<'_>) -> Result<u32, LoadError>
+        ensures number { Gives (λ n. n) result (required (group_named self.now.names) section.entry.path.now (codes "group") (table_view section.entry.table.now)) }
+        ensures known { IfOk result (λ n. n < length self.now.groups) }
+    {
+        match section.value("group") {
+            Some(value) => self.named_by(alloc, section, "group", value),
+            None => refused(alloc, section.path, "group", Cause::Missing),
+        }
+    }
+
+    /// The group that a task names, which has no groups below it. `Missing`, `WrongType`, `NoSuchGroup`
+    /// or `NotALeaf`.
+    pub(crate) fn leaf(&self, alloc: Global, section: Section<'_>) -> Result<u32, LoadError>
+        ensures { Gives (λ n. n) result (required (leaf_named self.now) section.entry.path.now (codes "group") (table_view section.entry.table.now)) }
+    {
+        let group = self.named(alloc, section)?;
+        if has_children(&self.groups, group) {
+            return refused(alloc, section.path, "group", Cause::NotALeaf);
+        }
+        Ok(group)
+    }
+
+    pub(crate) fn into_parts(self) -> (Vec<Group>, Vec<String>)
+        ensures groups { result.0.items ≡ self.groups }
+        ensures names { texts result.1.items ≡ self.names }
+        ensures even { length self.names ≡ length self.groups }
+    {
+        (self.groups, self.names)
+    }
+}
+
+/// The name of an element, which none of these is. `Missing`, `WrongType`, `BadName` or `Twice`.
+pub(crate) fn new_name<'a>(
+    alloc: Global,
+    names: &[String],
+    section: Section<'a>,
+) -> Result<&'a str, LoadError>
+    ensures { Gives (λ t. t.now) result (new_name (texts names.now) section.entry.path.now (table_view section.entry.table.now)) }
+{
+    let name = section.name(alloc, "name")?;
+    if place_of(names, name).is_some() {
+        return refused(alloc, section.path, "name", Cause::Twice);
+    }
+    Ok(name)
+}
+
+fn parent_of(groups: &[Group], group: u32) -> Option<u32>
+    ensures { result ≡ parent_of groups.now group }
+{
+    groups.get(group as usize)?.parent
+}
+
+/// The group two levels above.
+fn two_above(groups: &[Group], group: u32) -> Option<u32>
+    ensures { result ≡ above groups.now 2 (Some group) }
+{
+    let parent = parent_of(groups, group)?;
+    parent_of(groups, parent)
+}
+
+/// Whether a group below this one would be too deep.
+fn is_deep(groups: &[Group], parent: u32) -> bool
+    ensures { result ≡ is_deep groups.now parent }
+{
+    two_above(groups, parent).is_some()
+}
+
+fn is_parent(group: u32, parent: Option<u32>) -> bool
+    ensures { result ≡ is_parent group parent }
+{
+    parent == Some(group)
+}
+
+fn has_children(groups: &[Group], group: u32) -> bool
+    ensures { result ≡ has_children groups.now group }
+{
+    groups.iter().any(|child| is_parent(group, child.parent))
+}
