@@ -10,6 +10,7 @@ use std::process::Abort;
 use std::test::Fail;
 
 /// A sink that keeps nothing.
+#[derive(Drop)]
 struct Nowhere;
 
 impl Sink for Nowhere {

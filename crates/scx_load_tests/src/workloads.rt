@@ -1,6 +1,7 @@
 //! Workload files: what they say, and their first faults.
 
-use scx_files::{Cause, LoadError};
+use crate::faults::is_at;
+use scx_files::Cause;
 use scx_workloads::read_workload;
 use std::process::Abort;
 use std::test::Fail;
@@ -11,19 +12,7 @@ const TASK: &str = "[[task]]\nname = \"a\"\ngroup = \"g\"\n";
 
 /// The file has that fault first.
 fn expect_fault<R: AllocGlobal + Abort>(rt: &R, text: &str, path: &str, cause: Cause) {
-    match read_workload(rt.alloc(), text) {
-        Err(
-            LoadError::At {
-                path: found,
-                cause: why,
-            },
-        ) => {
-            assert_eq!(rt; found.as_str(), path);
-            assert_eq!(rt; why, cause);
-        }
-        Ok(_) => panic!(rt; "no fault"),
-        Err(LoadError::NoMemory) => panic!(rt; "no memory"),
-    }
+    is_at(rt, read_workload(rt.alloc(), text), path, cause);
 }
 
 /// A file of one group and one task with these lines in front of them and behind them fails so.
@@ -64,7 +53,19 @@ weight = 1
     assert_eq!(rt; workload.cpus(), 64);
     assert_eq!(rt; workload.ms(), 1_000_000);
     assert_eq!(rt; workload.groups().len(), 2);
-    assert_eq!(rt; workload.tasks(), &[1]);
+    assert_eq!(rt; workload.tasks(), [1].as_slice());
+    assert_eq!(rt; workload.timings().len(), 1);
+    for timing in workload.timings() {
+        assert_eq!(rt; timing.start, 1);
+        assert_eq!(rt; timing.run, 2);
+        assert_eq!(rt; timing.sleep, 1_000_000);
+    }
+    assert_eq!(rt; workload.changes().len(), 1);
+    for change in workload.changes() {
+        assert_eq!(rt; change.at, 7);
+        assert_eq!(rt; change.group, 0);
+        assert_eq!(rt; change.weight, 1);
+    }
     Ok(())
 }
 
