@@ -91,7 +91,11 @@ impl Helper {
             5 => Some(Helper::KtimeGetNs),
             1001 => Some(Helper::CreateDsq),
             1002 => Some(Helper::DsqInsert),
+            1003 => Some(Helper::DsqInsertVtime),
             1004 => Some(Helper::DsqMoveToLocal),
+            1005 => Some(Helper::SelectCpuDfl),
+            1006 => Some(Helper::CpuIdle),
+            1007 => Some(Helper::TaskByPid),
             1008 => Some(Helper::DsqNrQueued),
             _ => None,
         }
@@ -136,11 +140,13 @@ impl Helper {
             ) => true,
             (Helper::CreateDsq, _) => callback == Callback::Init,
             (Helper::DsqMoveToLocal, _) => callback == Callback::Dispatch,
-            (Helper::CpuIdle, Callback::Dispatch) => true,
-            (
-                Helper::DsqInsert | Helper::DsqInsertVtime | Helper::SelectCpuDfl | Helper::CpuIdle,
-                _,
-            ) => matches!(callback, Callback::SelectCpu | Callback::Enqueue),
+            (Helper::SelectCpuDfl, _) => {
+                matches!(callback, Callback::SelectCpu | Callback::Enqueue)
+            }
+            (Helper::DsqInsert | Helper::DsqInsertVtime | Helper::CpuIdle, _) => matches!(
+                callback,
+                Callback::SelectCpu | Callback::Enqueue | Callback::Dispatch
+            ),
         }
     }
 }
