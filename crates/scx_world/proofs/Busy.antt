@@ -1,16 +1,17 @@
 -- The set of processors on which a task runs, as bits.
-use Rattle.std.proofs.Common.{◌≡◌, ◌≢◌, ℕ, ◌+◌, ◌-◌, ◌*◌, ◌%◌, ◌<◌, ◌≤◌, ◌^◌, true, false, nat_lt, ◌⊎◌, inl, inr, List, length, set, get_or, replicate, Option, Some, None, is_none, is_some, refl, subst, sym, ◌∙◌, ap, arith, position}
+use Rattle.std.proofs.Common.{◌≡◌, ◌≢◌, ℕ, zero, suc, ◌&&◌, not, Bool, ◌+◌, ◌-◌, ◌*◌, ◌%◌, ◌<◌, ◌≤◌, ◌^◌, true, false, nat_lt, ◌⊎◌, inl, inr, List, length, set, get_or, replicate, Option, Some, None, is_none, is_some, refl, subst, sym, ◌∙◌, ap, arith, position}
 use Rattle.std.specs.Int.{w64, bit_at, bit_not, trailing_zeros, trailing_ones}
 use Rattle.std.specs.Int.Bits.{bit_or, bit_and}
 use Rattle.std.specs.Int.Count.{count_trailing_zeros, trailing_of_zero}
 use Rattle.std.specs.List.{position_or_len}
-use Rattle.std.proofs.lemmas.Bool.{cases_eq, cases_lt, lt-ltb}
+use Rattle.std.proofs.lemmas.Bool.{cases_eq, cases_lt, eq-eqb, ne_eqb, lt-ltb}
 use Rattle.std.proofs.lemmas.Bool.Decides.{nat_tests}
 use Rattle.std.proofs.lemmas.List.{length-replicate, get_or-replicate, get_or-set_same, get_or-set_other, length-set}
 use Rattle.std.proofs.lemmas.List.Sums.{position_or_len_is}
 use Rattle.std.proofs.lemmas.Nat.Bits.{bit_at-zero, bit_at_ones, bit_at-trailing_ones, bit_at_set_same, bit_at_set_other, bit_at_clear_same, bit_at_clear_other}
 use Rattle.scx_dsq.specs.Laws.{one_if}
-use Rattle.scx_world.specs.Kept.{AreBusy}
+use Rattle.scx_world.specs.Kept.{AreBusy, AreTaken}
+use Rattle.scx_world.specs.World.{WorldState, running, is_this, is_idle, this_if, or_this, idle_below, first_idle}
 
 -- ---- one bit set or cleared
 
@@ -61,25 +62,66 @@ lowest_clear bits fits = go (cases_lt (bits + 1) (2 ^ 64))
         let end : trailing_ones w64 bits ≡ 64 = ap (λ n. count_trailing_zeros 64 (0xffff_ffff_ffff_ffff - n)) all ∙ trailing_of_zero 64 in
         record { most = omega (arith, end); clear = λ x. absurd (omega (arith, x, end)); below = λ i l. ap (λ n. bit_at n i) all ∙ bit_at_ones 64 i (omega (arith, l, end)) }
 
-is_free : (o : Option ℕ) → one_if (is_some o) ≡ 0 → is_none o ≡ true
-is_free None e = refl
-is_free (Some t) e = absurd (omega (arith, e))
+-- ---- processors that aren't idle
 
-is_taken : (o : Option ℕ) → one_if (is_some o) ≡ 1 → is_none o ≡ false
-is_taken (Some t) e = refl
-is_taken None e = absurd (omega (arith, e))
+known : (w : WorldState) (c : ℕ) → c < length w.cpus → is_idle w c ≡ (is_none (running w c) && not (is_this c w.cycling))
+known w c l = rw (lt-ltb c (length w.cpus) l) refl
 
-place_is : (bits i : ℕ) (cpus : List (Option ℕ)) → i ≤ length cpus → ((k : ℕ) → k < i → bit_at bits k ≡ 1) → (i < length cpus → bit_at bits i ≡ 0) → AreBusy bits cpus → position_or_len is_none cpus ≡ i
-place_is bits i cpus within below here h =
-    position_or_len_is is_none cpus i None within (λ k l. is_taken (get_or cpus k None) (sym (h k (omega (arith, l, within))) ∙ below k l)) (λ l. is_free (get_or cpus i None) (sym (h i l) ∙ here l))
+taken_if : (o : Option ℕ) (b : Bool) → b ≡ false → one_if (is_some o) ≡ one_if (not (is_none o && not b))
+taken_if None b e = rw e refl
+taken_if (Some t) b e = refl
 
-pub lowest_idle : (bits : ℕ) (cpus : List (Option ℕ)) → bits < 2 ^ 64 → length cpus ≤ 64 → AreBusy bits cpus → trailing_zeros w64 (bit_not w64 bits) < length cpus → position is_none cpus ≡ Some (trailing_zeros w64 (bit_not w64 bits))
-lowest_idle bits cpus fits few h l =
+taken_here : (a b : Bool) → b ≡ true → 1 ≡ one_if (not (a && not b))
+taken_here true b e = rw e refl
+taken_here false b e = refl
+
+pub taken_plain : (bits : ℕ) (w : WorldState) → AreBusy bits w.cpus → ((c : ℕ) → c < length w.cpus → is_this c w.cycling ≡ false) → AreTaken bits w
+taken_plain bits w h off c l = rw (known w c l) (h c l ∙ taken_if (get_or w.cpus c None) (is_this c w.cycling) (off c l))
+
+-- no cycle is under way
+pub taken_none : (bits : ℕ) (w : WorldState) → w.cycling ≡ None → AreBusy bits w.cpus → AreTaken bits w
+taken_none bits w e h = taken_plain bits w h (λ c l. rw e refl)
+
+-- or one on a processor that there isn't
+pub taken_past : (bits k : ℕ) (w : WorldState) → w.cycling ≡ Some k → length w.cpus ≤ k → AreBusy bits w.cpus → AreTaken bits w
+taken_past bits k w e past h = taken_plain bits w h (λ c l. rw e (ne_eqb c k (λ x. omega (arith, x, past, l))))
+
+pub taken_set : (bits bits' k : ℕ) (w : WorldState) → w.cycling ≡ Some k → length w.cpus ≤ 64 → bit_at bits' k ≡ 1 → ((i : ℕ) → i < 64 → i ≢ k → bit_at bits' i ≡ bit_at bits i) → AreBusy bits w.cpus → AreTaken bits' w
+taken_set bits bits' k w e few here others h c l = rw (known w c l) (go (cases_eq c k))
+  where
+    go : (c ≡ k) ⊎ (c ≡ k → ⊥) → bit_at bits' c ≡ one_if (not (is_none (running w c) && not (is_this c w.cycling)))
+    go (inl is) = ap (λ i. bit_at bits' i) is ∙ here ∙ taken_here (is_none (running w c)) (is_this c w.cycling) (rw e (eq-eqb c k is))
+    go (inr d) = others c (omega (arith, l, few)) d ∙ h c l ∙ taken_if (get_or w.cpus c None) (is_this c w.cycling) (rw e (ne_eqb c k d))
+
+-- ---- the lowest idle one
+
+is_free : (b : Bool) → one_if (not b) ≡ 0 → b ≡ true
+is_free true e = refl
+is_free false e = absurd (omega (arith, e))
+
+is_taken : (b : Bool) → one_if (not b) ≡ 1 → b ≡ false
+is_taken true e = absurd (omega (arith, e))
+is_taken false e = refl
+
+pub none_below : (n : ℕ) (w : WorldState) → ((k : ℕ) → k < n → is_idle w k ≡ false) → idle_below n w ≡ None
+none_below zero w all = refl
+none_below (suc n) w all = rw (none_below n w (λ k l. all k (omega (arith, l))), all n (omega arith)) refl
+
+pub one_below : (n i : ℕ) (w : WorldState) → i < n → is_idle w i ≡ true → ((k : ℕ) → k < i → is_idle w k ≡ false) → idle_below n w ≡ Some i
+one_below zero i w l idle all = absurd (omega (arith, l))
+one_below (suc n) i w l idle all = go (cases_eq i n) (λ d. one_below n i w (omega (arith, l, d)) idle all)
+  where
+    go : (i ≡ n) ⊎ (i ≡ n → ⊥) → ((i ≡ n → ⊥) → idle_below n w ≡ Some i) → or_this (idle_below n w) (this_if (is_idle w n) n) ≡ Some i
+    go (inl e) f = rw (← e, none_below i w all, idle) refl
+    go (inr d) f = rw (f d) refl
+
+pub lowest_idle : (bits : ℕ) (w : WorldState) → bits < 2 ^ 64 → length w.cpus ≤ 64 → AreTaken bits w → trailing_zeros w64 (bit_not w64 bits) < length w.cpus → first_idle w ≡ Some (trailing_zeros w64 (bit_not w64 bits))
+lowest_idle bits w fits few h l =
     let low = lowest_clear bits fits in
-    rw (place_is bits (trailing_ones w64 bits) cpus (omega (arith, l)) low.below (λ x. low.clear (omega (arith, x, few))) h, lt-ltb (trailing_ones w64 bits) (length cpus) l) refl
+    one_below (length w.cpus) (trailing_ones w64 bits) w l (is_free _ (sym (h (trailing_ones w64 bits) l) ∙ low.clear (omega (arith, l, few))))
+    (λ k m. is_taken _ (sym (h k (omega (arith, m, l))) ∙ low.below k m))
 
-pub none_idle : (bits : ℕ) (cpus : List (Option ℕ)) → bits < 2 ^ 64 → length cpus ≤ 64 → AreBusy bits cpus → length cpus ≤ trailing_zeros w64 (bit_not w64 bits) → position is_none cpus ≡ None
-none_idle bits cpus fits few h past =
+pub none_idle : (bits : ℕ) (w : WorldState) → bits < 2 ^ 64 → length w.cpus ≤ 64 → AreTaken bits w → length w.cpus ≤ trailing_zeros w64 (bit_not w64 bits) → first_idle w ≡ None
+none_idle bits w fits few h past =
     let low = lowest_clear bits fits in
-    let end : nat_lt (length cpus) (length cpus) ≡ false = grind (arith, nat_tests) in
-    rw (place_is bits (length cpus) cpus (omega arith) (λ k l. low.below k (omega (arith, l, past))) (λ x. absurd (omega (arith, x))) h, end) refl
+    none_below (length w.cpus) w (λ k l. is_taken _ (sym (h k l) ∙ low.below k (omega (arith, l, past))))

@@ -28,6 +28,7 @@ first_world tree cpus = record {
   clock = 0;
   tasks = replicate (length tree.homes) new_task;
   cpus = replicate cpus None;
+  cycling = None;
   queues = first_queues cpus (length tree.homes);
   tree = tree;
   call = no_call;

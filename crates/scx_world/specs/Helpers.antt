@@ -1,9 +1,12 @@
 -- What each helper answers, and what it makes of the world. A call with a fault answers that it is
 -- invalid, and changes nothing but that the fault is kept, if it is the first one of the callback.
-use Rattle.std.specs.Prelude.{ℕ, Bool, true, false, ◌&&◌, ◌==◌, nat_lt, ◌+◌, ◌-◌, ◌*◌, ◌^◌, min, List, length, if◌then◌else◌, Option, Some, None, is_none, slice_index_or}
-use Rattle.scx_dsq.specs.Queues.{exists, front_of, len_of}
-use Rattle.scx_dsq.specs.Calls.{create_refusal, created, pushed, popped}
-use Rattle.scx_dsq.specs.declared.places.Rank.TheVariants.{Fifo}
+use Rattle.std.specs.Prelude.{ℕ, Bool, true, false, ◌&&◌, ◌==◌, nat_lt, nat_le, ◌+◌, ◌-◌, ◌*◌, ◌^◌, min, List, length, if◌then◌else◌, Option, Some, None, is_none, slice_index_or}
+use Rattle.std.specs.List.{list_any}
+use Rattle.scx_dsq.specs.Queues.{exists, place_of, is_in, front_of, len_of}
+use Rattle.scx_dsq.specs.Calls.{create_refusal, created, clashes, pushed, popped}
+use Rattle.scx_dsq.specs.Laws.{one_if}
+use Rattle.scx_dsq.specs.declared.places.Rank.{Rank}
+use Rattle.scx_dsq.specs.declared.places.Rank.TheVariants.{Fifo, Vtime}
 use Rattle.scx_weights.specs.Hierarchy.{home_of}
 use Rattle.scx_weights.specs.Weights.{task_weight}
 use Rattle.scx_semantics.specs.declared.callbacks.Callback.{Callback}
@@ -19,11 +22,12 @@ use Rattle.scx_vm.specs.declared.arguments.Answer.{Answer}
 use Rattle.scx_vm.specs.declared.arguments.Answer.TheVariants as answer
 use Rattle.scx_world.specs.declared.task.Task.{Task}
 use Rattle.scx_world.specs.declared.faults.Fault.{Fault}
-use Rattle.scx_world.specs.declared.faults.Fault.TheVariants.{NoSuchQueue, CannotInsert, NoSuchCpu, UnknownFlag, CannotCreate}
-use Rattle.scx_world.specs.declared.notes.What.TheVariants.{Move}
-use Rattle.scx_world.specs.Ids.{policy_end, global, local, local_on}
-use Rattle.scx_world.specs.World.{WorldState, with_queues, with_call, task_at, with_task, noted}
-use Rattle.scx_world.specs.Tasks.{with_slice, with_vtime}
+use Rattle.scx_world.specs.declared.faults.Fault.TheVariants.{NoSuchQueue, CannotInsert, NoSuchCpu, UnknownFlag, CannotCreate, BuiltinVtime, Mixed}
+use Rattle.scx_world.specs.declared.call.Insert.{Insert}
+use Rattle.scx_world.specs.declared.notes.What.TheVariants as notes
+use Rattle.scx_world.specs.Ids.{policy_end, global, local, held, local_on}
+use Rattle.scx_world.specs.World.{WorldState, with_queues, with_call, task_at, with_task, is_idle, default_choice, noted}
+use Rattle.scx_world.specs.Tasks.{with_slice, with_vtime, gone, entered, for_cpu}
 
 -- -22 as a number of 64 bits
 abbrev pub invalid : ℕ
@@ -92,17 +96,24 @@ abbrev pub is_at_hand : WorldState → Option ℕ → Bool
 is_at_hand w None = false
 is_at_hand w (Some t) = t == w.call.task
 
-abbrev pub is_enqueue : Callback → Bool
-is_enqueue callback.Enqueue = true
-is_enqueue b = false
-
 abbrev pub is_dispatch : Callback → Bool
 is_dispatch callback.Dispatch = true
 is_dispatch b = false
 
--- the task at hand, in enqueue, and once
+-- the machine holds the task
+abbrev pub is_held : WorldState → Option ℕ → Bool
+is_held w None = false
+is_held w (Some t) = is_in held (place_of w.queues t)
+
+-- in select_cpu and enqueue the task at hand, and once; in dispatch a task that is held
+abbrev pub may_insert_in : Callback → WorldState → Option ℕ → Bool
+may_insert_in callback.SelectCpu w t = is_none w.call.insert && is_at_hand w t
+may_insert_in callback.Enqueue w t = is_none w.call.insert && is_at_hand w t
+may_insert_in callback.Dispatch w t = is_held w t
+may_insert_in b w t = false
+
 abbrev pub may_insert : WorldState → Option ℕ → Bool
-may_insert w t = is_enqueue w.call.callback && is_none w.call.insert && is_at_hand w t
+may_insert w t = may_insert_in w.call.callback w t
 
 -- Where a task may be put: GLOBAL, LOCAL, the local queue of a processor, a queue of the policy. In the low
 -- 32 bits of the id of a local queue stands the processor.
@@ -115,20 +126,54 @@ queue_fault w q =
     else (if nat_lt q (local_on (length w.cpus)) then None
     else (if nat_lt q (local_on 0x1_0000_0000) then Some NoSuchCpu else Some NoSuchQueue)))))
 
-abbrev pub insert_fault : WorldState → Option ℕ → ℕ → ℕ → Option Fault
-insert_fault w t q flags =
-    if may_insert w t then (if nat_lt 1 flags then Some UnknownFlag else queue_fault w q) else Some CannotInsert
+abbrev pub is_vtime : Rank → Bool
+is_vtime Fifo = false
+is_vtime (Vtime n) = true
+
+-- Into the machine's own queues tasks go in order of arrival alone, and into a queue of the policy as those
+-- went that wait there.
+abbrev pub rank_fault : WorldState → ℕ → Rank → Option Fault
+rank_fault w q r =
+    if is_vtime r && nat_le policy_end q then Some BuiltinVtime
+    else (if list_any (clashes q r) w.queues.places then Some Mixed else None)
+
+abbrev pub or_fault : Option Fault → Option Fault → Option Fault
+or_fault None o = o
+or_fault (Some f) o = Some f
+
+abbrev pub insert_fault : WorldState → Option ℕ → Insert → ℕ → Option Fault
+insert_fault w t i flags =
+    if may_insert w t then (if nat_lt 1 flags then Some UnknownFlag else or_fault (queue_fault w i.queue) (rank_fault w i.queue i.rank)) else Some CannotInsert
 
 -- the insert is kept until the callback ends
-abbrev pub inserted : WorldState → Option Fault → ℕ → ℕ → WorldState
-inserted w None q n = with_call w (record { callback = w.call.callback; task = w.call.task; cpu = w.call.cpu; insert = Some (record { queue = q; slice = n }); has_moved = w.call.has_moved; fault = w.call.fault })
-inserted w (Some f) q n = faulted w f
+abbrev pub with_insert : WorldState → Insert → WorldState
+with_insert w i = with_call w (record { callback = w.call.callback; task = w.call.task; cpu = w.call.cpu; insert = Some i; has_moved = w.call.has_moved; fault = w.call.fault })
 
-abbrev pub after_insert : WorldState → Option ℕ → ℕ → ℕ → ℕ → WorldState
-after_insert w t q n flags = inserted w (insert_fault w t q flags) q n
+-- the callback brought a task to a queue
+abbrev pub with_move : WorldState → WorldState
+with_move w = with_call w (record { callback = w.call.callback; task = w.call.task; cpu = w.call.cpu; insert = w.call.insert; has_moved = true; fault = w.call.fault })
 
-abbrev pub insert_answer : WorldState → Option ℕ → ℕ → ℕ → ℕ
-insert_answer w t q flags = invalid_if (insert_fault w t q flags)
+-- a held task goes at once to where the insert wants it
+abbrev pub released : WorldState → Option ℕ → Insert → WorldState
+released w None i = w
+released w (Some t) i = noted (with_move (entered (gone w t) t i)) (notes.Insert t i.queue)
+
+abbrev pub inserted : WorldState → Option Fault → Option ℕ → Insert → WorldState
+inserted w None t i = if is_dispatch w.call.callback then released w t (for_cpu w.call.cpu i) else with_insert w i
+inserted w (Some f) t i = faulted w f
+
+abbrev pub after_insert : WorldState → Option ℕ → Insert → ℕ → WorldState
+after_insert w t i flags = inserted w (insert_fault w t i flags) t i
+
+abbrev pub insert_answer : WorldState → Option ℕ → Insert → ℕ → ℕ
+insert_answer w t i flags = invalid_if (insert_fault w t i flags)
+
+-- what a call asks for: a queue, a slice, and by virtual time a key
+abbrev pub asked : List Argument → Insert
+asked a = record { queue = given_number a 1; slice = given_number a 2; rank = Fifo }
+
+abbrev pub asked_by_vtime : List Argument → Insert
+asked_by_vtime a = record { queue = given_number a 1; slice = given_number a 2; rank = Vtime (given_number a 3) }
 
 -- ---- moves
 
@@ -143,10 +188,7 @@ can_move w q = is_dispatch w.call.callback && is_there w q
 abbrev pub moved : WorldState → Option ℕ → ℕ → WorldState
 moved w None q = w
 moved w (Some t) q =
-    noted
-    (with_call (with_queues w (pushed (popped w.queues q) (local_on w.call.cpu) t Fifo))
-    (record { callback = w.call.callback; task = w.call.task; cpu = w.call.cpu; insert = w.call.insert; has_moved = true; fault = w.call.fault }))
-    (Move t w.call.cpu)
+    noted (with_move (with_queues w (pushed (popped w.queues q) (local_on w.call.cpu) t Fifo))) (notes.Move t w.call.cpu)
 
 abbrev pub after_move : WorldState → ℕ → WorldState
 after_move w q = if can_move w q then moved w (front_of w.queues q) q else faulted w NoSuchQueue
@@ -154,31 +196,50 @@ after_move w q = if can_move w q then moved w (front_of w.queues q) q else fault
 abbrev pub move_answer : WorldState → ℕ → ℕ
 move_answer w q = if can_move w q then one_if_some (front_of w.queues q) else invalid
 
--- ---- all helpers; those that there aren't yet answer 0
+-- ---- processors and tasks
+
+abbrev pub choice_answer : WorldState → Option ℕ → ℕ
+choice_answer w None = 0
+choice_answer w (Some t) = default_choice w t
+
+abbrev pub after_idle : WorldState → ℕ → WorldState
+after_idle w c = if nat_lt c (length w.cpus) then w else faulted w NoSuchCpu
+
+abbrev pub idle_answer : WorldState → ℕ → ℕ
+idle_answer w c = if nat_lt c (length w.cpus) then one_if (is_idle w c) else invalid
+
+-- pids count from 1
+abbrev pub is_pid : WorldState → ℕ → Bool
+is_pid w n = nat_lt 0 n && nat_le n (length w.tasks)
+
+abbrev pub pid_answer : WorldState → ℕ → Answer
+pid_answer w n = if is_pid w n then answer.Task (record { 0 = n - 1 }) else answer.Number 0
+
+-- ---- all helpers; elements of maps are looked up by the run itself
 
 abbrev pub helper_answer : WorldState → Helper → List Argument → Answer
 helper_answer w KtimeGetNs a = answer.Number (w.clock * 1000000)
 helper_answer w CreateDsq a = answer.Number (create_answer w (given_number a 0))
-helper_answer w DsqInsert a = answer.Number (insert_answer w (given_task a 0) (given_number a 1) (given_number a 3))
+helper_answer w DsqInsert a = answer.Number (insert_answer w (given_task a 0) (asked a) (given_number a 3))
+helper_answer w DsqInsertVtime a = answer.Number (insert_answer w (given_task a 0) (asked_by_vtime a) (given_number a 4))
 helper_answer w DsqMoveToLocal a = answer.Number (move_answer w (given_number a 0))
+helper_answer w SelectCpuDfl a = answer.Number (choice_answer w (given_task a 0))
+helper_answer w CpuIdle a = answer.Number (idle_answer w (given_number a 0))
+helper_answer w TaskByPid a = pid_answer w (given_number a 0)
 helper_answer w DsqNrQueued a = answer.Number (queued_answer w (given_number a 0))
 helper_answer w MapLookupElem a = answer.Number 0
-helper_answer w DsqInsertVtime a = answer.Number 0
-helper_answer w SelectCpuDfl a = answer.Number 0
-helper_answer w CpuIdle a = answer.Number 0
-helper_answer w TaskByPid a = answer.Number 0
 
 abbrev pub helper_after : WorldState → Helper → List Argument → WorldState
 helper_after w CreateDsq a = after_create w (given_number a 0)
-helper_after w DsqInsert a = after_insert w (given_task a 0) (given_number a 1) (given_number a 2) (given_number a 3)
+helper_after w DsqInsert a = after_insert w (given_task a 0) (asked a) (given_number a 3)
+helper_after w DsqInsertVtime a = after_insert w (given_task a 0) (asked_by_vtime a) (given_number a 4)
 helper_after w DsqMoveToLocal a = after_move w (given_number a 0)
+helper_after w CpuIdle a = after_idle w (given_number a 0)
 helper_after w DsqNrQueued a = after_queued w (given_number a 0)
 helper_after w KtimeGetNs a = w
-helper_after w MapLookupElem a = w
-helper_after w DsqInsertVtime a = w
 helper_after w SelectCpuDfl a = w
-helper_after w CpuIdle a = w
 helper_after w TaskByPid a = w
+helper_after w MapLookupElem a = w
 
 -- ---- the record of a task
 

@@ -1,17 +1,21 @@
 -- What the fields of a world mean, and what always holds of them.
-use Rattle.std.specs.Prelude.{◌≡◌, ℕ, ◌^◌, ◌<◌, ◌≤◌, List, length, Option, None, is_some, slice_index_or, vec_capacity}
+use Rattle.std.specs.Prelude.{◌≡◌, ℕ, ◌^◌, ◌<◌, ◌≤◌, not, List, length, Option, None, is_some, slice_index_or, vec_capacity}
 use Rattle.std.specs.Int.{bit_at}
 use Rattle.scx_dsq.specs.Laws.{one_if}
 use Rattle.scx_dsq.specs.Queues.{task_count}
 use Rattle.scx_world.specs.declared.world.World.TheInside.{Inside}
-use Rattle.scx_world.specs.World.{WorldState}
+use Rattle.scx_world.specs.World.{WorldState, is_idle}
 
 abbrev pub state_of : Inside → WorldState
-state_of w = record { clock = w.clock; tasks = w.tasks.items; cpus = w.cpus.items; queues = w.queues.state; tree = w.tree; call = w.call; notes = w.notes.items }
+state_of w = record { clock = w.clock; tasks = w.tasks.items; cpus = w.cpus.items; cycling = w.cycling; queues = w.queues.state; tree = w.tree; call = w.call; notes = w.notes.items }
 
 -- these bits are set where a task runs, one bit a processor
 abbrev pub AreBusy : ℕ → List (Option ℕ) → Type 0
 AreBusy bits cpus = (c : ℕ) → c < length cpus → bit_at bits c ≡ one_if (is_some (slice_index_or cpus c None))
+
+-- these bits are set where a processor isn't idle
+abbrev pub AreTaken : ℕ → WorldState → Type 0
+AreTaken bits w = (c : ℕ) → c < length w.cpus → bit_at bits c ≡ one_if (not (is_idle w c))
 
 -- there is room for the notes of a callback, each part knows of as many tasks, and the clock in
 -- nanoseconds is a number of 64 bits

@@ -2,11 +2,13 @@
 use Rattle.std.specs.Prelude.{ℕ, true, false, ◌==◌, nat_lt, ◌+◌, ◌-◌, length, if◌then◌else◌, Option, Some, None, is_none}
 use Rattle.scx_dsq.specs.Queues.{front_of, len_of}
 use Rattle.scx_dsq.specs.Calls.{pushed, popped, removed}
-use Rattle.scx_dsq.specs.declared.places.Rank.TheVariants.{Fifo}
+use Rattle.scx_dsq.specs.declared.places.Rank.{Rank}
+use Rattle.scx_dsq.specs.declared.places.Rank.TheVariants.{Fifo, Vtime}
 use Rattle.scx_weights.specs.Hierarchy as tree
 use Rattle.scx_weights.specs.Refusals.{weight_fault}
+use Rattle.scx_world.specs.declared.call.Insert.{Insert}
 use Rattle.scx_world.specs.declared.task.Task.{Task}
-use Rattle.scx_world.specs.Ids.{local_on}
+use Rattle.scx_world.specs.Ids.{global, local, held, local_on}
 use Rattle.scx_world.specs.World.{WorldState, with_clock, with_queues, with_tree, task_at, with_task, with_cpu}
 
 -- ---- one field of a task changed
@@ -43,9 +45,35 @@ default_slice = 20000000
 abbrev pub given_slice : Task → ℕ → Task
 given_slice x n = if n == 0 then x else with_slice x n
 
--- a task goes into a queue, behind those that are there
-abbrev pub entered : WorldState → ℕ → ℕ → ℕ → WorldState
-entered w t q n = if nat_lt t (length w.tasks) then with_queues (with_task w t (given_slice (task_at w t) n)) (pushed w.queues q t Fifo) else w
+-- by virtual time it has that one from then on
+abbrev pub given_vtime : Task → Rank → Task
+given_vtime x Fifo = x
+given_vtime x (Vtime n) = with_vtime x n
+
+-- what an insert makes of the record of its task
+abbrev pub given : Task → Insert → Task
+given x i = given_vtime (given_slice x i.slice) i.rank
+
+-- a task goes into a queue, as an insert wants it to
+abbrev pub entered : WorldState → ℕ → Insert → WorldState
+entered w t i = if nat_lt t (length w.tasks) then with_queues (with_task w t (given (task_at w t) i)) (pushed w.queues i.queue t i.rank) else w
+
+-- ---- inserts
+
+-- LOCAL is the local queue of the processor at hand
+abbrev pub resolved : ℕ → ℕ → ℕ
+resolved c q = if q == local then local_on c else q
+
+abbrev pub for_cpu : ℕ → Insert → Insert
+for_cpu c i = record { queue = resolved c i.queue; slice = i.slice; rank = i.rank }
+
+-- of a task that a policy took and put nowhere
+abbrev pub to_held : Insert
+to_held = record { queue = held; slice = 0; rank = Fifo }
+
+-- of a task that any processor may run
+abbrev pub to_global : Insert
+to_global = record { queue = global; slice = default_slice; rank = Fifo }
 
 -- ---- local queues
 

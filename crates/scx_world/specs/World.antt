@@ -1,5 +1,5 @@
 -- The world that a policy's programs see and change, and its parts.
-use Rattle.std.specs.Prelude.{ℕ, Bool, false, ◌==◌, ◌&&◌, nat_lt, List, [], ◌∷◌, ◌++◌, length, if◌then◌else◌, Option, Some, None, is_none, is_some, slice_index_or, slice_set, position}
+use Rattle.std.specs.Prelude.{ℕ, zero, suc, Bool, false, ◌==◌, ◌&&◌, not, nat_lt, List, [], ◌∷◌, ◌++◌, length, if◌then◌else◌, Option, Some, None, is_none, is_some, slice_index_or, slice_set, position}
 use Rattle.scx_dsq.specs.Queues.{QueueState, place_of}
 use Rattle.scx_weights.specs.Hierarchy.{Hierarchy, is_active_task}
 use Rattle.scx_semantics.specs.declared.callbacks.Callback.{Callback}
@@ -13,6 +13,7 @@ pub record WorldState : Type 0 where
   pub clock : ℕ
   pub tasks : List Task
   pub cpus : List (Option ℕ)  -- the task that runs on each processor
+  pub cycling : Option ℕ  -- the processor on which a scheduling cycle is under way
   pub queues : QueueState
   pub tree : Hierarchy
   pub call : Call  -- the callback at hand
@@ -21,25 +22,28 @@ pub record WorldState : Type 0 where
 -- ---- one part changed
 
 abbrev pub with_clock : WorldState → ℕ → WorldState
-with_clock w x = record { clock = x; tasks = w.tasks; cpus = w.cpus; queues = w.queues; tree = w.tree; call = w.call; notes = w.notes }
+with_clock w x = record { clock = x; tasks = w.tasks; cpus = w.cpus; cycling = w.cycling; queues = w.queues; tree = w.tree; call = w.call; notes = w.notes }
 
 abbrev pub with_tasks : WorldState → List Task → WorldState
-with_tasks w x = record { clock = w.clock; tasks = x; cpus = w.cpus; queues = w.queues; tree = w.tree; call = w.call; notes = w.notes }
+with_tasks w x = record { clock = w.clock; tasks = x; cpus = w.cpus; cycling = w.cycling; queues = w.queues; tree = w.tree; call = w.call; notes = w.notes }
 
 abbrev pub with_cpus : WorldState → List (Option ℕ) → WorldState
-with_cpus w x = record { clock = w.clock; tasks = w.tasks; cpus = x; queues = w.queues; tree = w.tree; call = w.call; notes = w.notes }
+with_cpus w x = record { clock = w.clock; tasks = w.tasks; cpus = x; cycling = w.cycling; queues = w.queues; tree = w.tree; call = w.call; notes = w.notes }
+
+abbrev pub with_cycling : WorldState → Option ℕ → WorldState
+with_cycling w x = record { clock = w.clock; tasks = w.tasks; cpus = w.cpus; cycling = x; queues = w.queues; tree = w.tree; call = w.call; notes = w.notes }
 
 abbrev pub with_queues : WorldState → QueueState → WorldState
-with_queues w x = record { clock = w.clock; tasks = w.tasks; cpus = w.cpus; queues = x; tree = w.tree; call = w.call; notes = w.notes }
+with_queues w x = record { clock = w.clock; tasks = w.tasks; cpus = w.cpus; cycling = w.cycling; queues = x; tree = w.tree; call = w.call; notes = w.notes }
 
 abbrev pub with_tree : WorldState → Hierarchy → WorldState
-with_tree w x = record { clock = w.clock; tasks = w.tasks; cpus = w.cpus; queues = w.queues; tree = x; call = w.call; notes = w.notes }
+with_tree w x = record { clock = w.clock; tasks = w.tasks; cpus = w.cpus; cycling = w.cycling; queues = w.queues; tree = x; call = w.call; notes = w.notes }
 
 abbrev pub with_call : WorldState → Call → WorldState
-with_call w x = record { clock = w.clock; tasks = w.tasks; cpus = w.cpus; queues = w.queues; tree = w.tree; call = x; notes = w.notes }
+with_call w x = record { clock = w.clock; tasks = w.tasks; cpus = w.cpus; cycling = w.cycling; queues = w.queues; tree = w.tree; call = x; notes = w.notes }
 
 abbrev pub with_notes : WorldState → List Note → WorldState
-with_notes w x = record { clock = w.clock; tasks = w.tasks; cpus = w.cpus; queues = w.queues; tree = w.tree; call = w.call; notes = x }
+with_notes w x = record { clock = w.clock; tasks = w.tasks; cpus = w.cpus; cycling = w.cycling; queues = w.queues; tree = w.tree; call = w.call; notes = x }
 
 -- ---- tasks and processors
 
@@ -76,8 +80,24 @@ is_this t (Some u) = t == u
 abbrev pub cpu_of : WorldState → ℕ → Option ℕ
 cpu_of w t = position (is_this t) w.cpus
 
+-- a processor is idle where no task runs and no cycle is under way
 abbrev pub is_idle : WorldState → ℕ → Bool
-is_idle w c = nat_lt c (length w.cpus) && is_none (running w c)
+is_idle w c = nat_lt c (length w.cpus) && is_none (running w c) && not (is_this c w.cycling)
+
+abbrev pub this_if : Bool → ℕ → Option ℕ
+this_if b c = if b then Some c else None
+
+abbrev pub or_this : Option ℕ → Option ℕ → Option ℕ
+or_this None o = o
+or_this (Some c) o = Some c
+
+-- the lowest idle one of the first so many processors
+abbrev pub idle_below : ℕ → WorldState → Option ℕ
+idle_below zero w = None
+idle_below (suc n) w = or_this (idle_below n w) (this_if (is_idle w n) n)
+
+abbrev pub first_idle : WorldState → Option ℕ
+first_idle w = idle_below (length w.cpus) w
 
 abbrev pub or_else : Option ℕ → ℕ → ℕ
 or_else None d = d
@@ -87,7 +107,7 @@ or_else (Some c) d = c
 abbrev pub default_choice : WorldState → ℕ → ℕ
 default_choice w t =
     let prev = (task_at w t).prev_cpu in
-    if is_idle w prev then prev else or_else (position is_none w.cpus) prev
+    if is_idle w prev then prev else or_else (first_idle w) prev
 
 -- ---- the callback at hand
 

@@ -1,12 +1,65 @@
+ghost use Rattle.std.specs.Prelude.{◌≡◌};
+ghost use Rattle.scx_world.specs.Tasks.{resolved, for_cpu, to_held, to_global};
+
 use crate::faults::Fault;
+use crate::ids::{GLOBAL, HELD, LOCAL, LOCAL_ON};
+use crate::task::DEFAULT_SLICE;
+use scx_dsq::Rank;
 use scx_isa::Callback;
 
-/// Where a callback wants the task at hand to wait.
+/// Where a callback wants a task to wait.
 #[derive(Clone, Copy, Debug, PartialEq, Eq)]
 pub struct Insert {
     pub queue: u64,
     /// Its slice from then on; 0 keeps the one that it has.
     pub slice: u64,
+    /// In order of arrival, or by the virtual time that it has from then on.
+    pub rank: Rank,
+}
+
+impl Insert {
+    /// Of a task that a policy took and put nowhere.
+    pub fn held() -> Insert
+        ensures { result ≡ to_held }
+    {
+        Insert {
+            queue: HELD,
+            slice: 0,
+            rank: Rank::Fifo,
+        }
+    }
+
+    /// Of a task that any processor may run.
+    pub fn global() -> Insert
+        ensures { result ≡ to_global }
+    {
+        Insert {
+            queue: GLOBAL,
+            slice: DEFAULT_SLICE,
+            rank: Rank::Fifo,
+        }
+    }
+
+    /// The same, where LOCAL is the local queue of that processor.
+    pub fn for_cpu(self, cpu: u32) -> Insert
+        ensures { result ≡ for_cpu cpu self }
+    {
+        Insert {
+            queue: resolved(cpu, self.queue),
+            slice: self.slice,
+            rank: self.rank,
+        }
+    }
+}
+
+fn resolved(cpu: u32, queue: u64) -> u64
+    ensures { result ≡ resolved cpu queue }
+{
+    if queue == LOCAL {
+        LOCAL_ON + u64::from(cpu)
+    } else {
+        queue
+    }
 }
 
 /// The callback at hand, and what it did.
@@ -18,7 +71,7 @@ pub struct Call {
     /// The processor whose local queue LOCAL means.
     pub cpu: u32,
     pub insert: Option<Insert>,
-    /// Whether it moved a task to a local queue.
+    /// Whether it moved a task to a local queue, or inserted one that was held.
     pub has_moved: bool,
     /// Its first fault.
     pub fault: Option<Fault>,

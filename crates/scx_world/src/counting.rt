@@ -1,10 +1,41 @@
-ghost use Rattle.std.specs.Prelude.{◌≡◌, ◌<◌, is_some, IfSome};
+ghost use Rattle.std.specs.Prelude.{◌≡◌, ◌+◌, ◌^◌, ◌<◌, ◌≤◌, is_some, IfSome};
 ghost use Rattle.scx_dsq.specs.Queues.{task_count, place_of, front_of};
-ghost use Rattle.scx_dsq.specs.Calls.{popped, removed};
+ghost use Rattle.scx_dsq.specs.declared.places.Rank.TheVariants.{Vtime};
+ghost use Rattle.scx_dsq.specs.Calls.{pushed, popped, removed};
 
-use scx_dsq::{Queues, Steps};
+use scx_dsq::{Queues, Rank, Steps};
 use std::marker::Brand;
 use std::sync::ledger::{Blank, Ledger};
+
+/// Puts a task into a queue, if it takes the task so. Nobody asks for the comparisons.
+pub fn push(queues: &mut Queues, id: u64, task: u32, rank: Rank)
+    requires task { task < task_count queues.old.state }
+    requires few { queues.old.state.pushes < 2 ^ 63 }
+    ensures state { queues.new.state ≡ pushed queues.old.state id task rank }
+    ensures tasks { task_count queues.new.state ≡ task_count queues.old.state }
+    ensures pushes { queues.new.state.pushes ≤ queues.old.state.pushes + 1 }
+{
+    match rank {
+        Rank::Fifo => {
+            let _refused = queues.push_fifo(id, task);
+        }
+        Rank::Vtime(key) => push_counted::<Brand>(queues, id, task, key, Blank::new(1)),
+    }
+}
+
+fn push_counted<L: Ledger>(queues: &mut Queues, id: u64, task: u32, key: u64, blank: Blank)
+    requires task { task < task_count queues.old.state }
+    requires few { queues.old.state.pushes < 2 ^ 63 }
+    requires name { blank.name ≡ L.name }
+    requires parts { blank.parts ≡ L.parts }
+    requires some { 0 < blank.parts }
+    ensures state { queues.new.state ≡ pushed queues.old.state id task (Vtime key) }
+    ensures tasks { task_count queues.new.state ≡ task_count queues.old.state }
+    ensures pushes { queues.new.state.pushes ≤ queues.old.state.pushes + 1 }
+{
+    let mut steps = Steps::<L>::new(blank);
+    let _refused = queues.push_vtime(id, task, key, &mut steps);
+}
 
 /// Takes the front of the queue out and answers it. Nobody asks for the comparisons.
 pub fn pop(queues: &mut Queues, id: u64) -> Option<u32>

@@ -10,4 +10,8 @@ pub enum Fault {
     UnknownFlag,
     /// The id is no policy's, a queue has it, or there is no room for another.
     CannotCreate,
+    /// By virtual time into one of the machine's own queues.
+    BuiltinVtime,
+    /// By virtual time where tasks wait in order of arrival, or the other way round.
+    Mixed,
 }

@@ -1,14 +1,16 @@
 ghost use Rattle.std.specs.Prelude.{◌≡◌, ◌+◌, ◌*◌, ◌^◌, ◌<◌, ◌≤◌, length};
 ghost use Rattle.scx_semantics.specs.Outside.{field_width};
-ghost use Rattle.scx_world.specs.Helpers.{invalid, faulted, is_there, create_answer, after_create, queued_answer, after_queued, may_insert, queue_fault, insert_fault, insert_answer, after_insert, move_answer, after_move, weight_at, group_at, field_of};
+ghost use Rattle.scx_world.specs.Helpers.{invalid, faulted, is_there, create_answer, after_create, queued_answer, after_queued, is_held, may_insert, queue_fault, rank_fault, insert_fault, insert_answer, after_insert, released, choice_answer, idle_answer, after_idle, pid_answer, move_answer, after_move, weight_at, group_at, field_of};
 
 use crate::call::Insert;
 use crate::counting;
 use crate::faults::Fault;
-use crate::ids::{GLOBAL, INVALID, LOCAL, LOCAL_IDS, LOCAL_ON, POLICY_END};
+use crate::ids::{GLOBAL, HELD, INVALID, LOCAL, LOCAL_IDS, LOCAL_ON, POLICY_END};
 use crate::notes::{Note, What};
 use crate::world::World;
-use scx_isa::{Callback, Field};
+use scx_dsq::Rank;
+use scx_isa::{Callback, Field, TaskId};
+use scx_vm::Answer;
 
 /// What each helper answers, and what it makes of the world.
 impl World {
@@ -56,13 +58,31 @@ impl World {
         }
     }
 
-    /// Whether it is the task at hand, in enqueue, and not inserted yet.
+    /// Whether the machine holds the task.
+    fn is_held(&self, task: Option<u16>) -> bool
+        ensures { result ≡ is_held self.now task }
+    {
+        match task {
+            Some(task) => self.queue_of(task) == Some(HELD),
+            None => false,
+        }
+    }
+
+    /// Whether it is the task at hand, and not inserted yet; in dispatch whether it is held.
     fn may_insert(&self, task: Option<u16>) -> bool
         ensures { result ≡ may_insert self.now task }
     {
-        self.call.callback == Callback::Enqueue
-            && self.call.insert.is_none()
-            && task == Some(self.call.task)
+        match self.call.callback {
+            Callback::SelectCpu | Callback::Enqueue => {
+                self.call.insert.is_none() && task == Some(self.call.task)
+            }
+            Callback::Dispatch => self.is_held(task),
+            Callback::Plain
+            | Callback::Init
+            | Callback::Enable
+            | Callback::Running
+            | Callback::Stopping => false,
+        }
     }
 
     /// Why no task may be put into that queue.
@@ -90,36 +110,72 @@ impl World {
         }
     }
 
-    fn insert_fault(&self, task: Option<u16>, queue: u64, flags: u64) -> Option<Fault>
-        ensures { result ≡ insert_fault self.now task queue flags }
+    /// Why no task may be put into that queue by that rank.
+    fn rank_fault(&self, queue: u64, rank: Rank) -> Option<Fault>
+        ensures { result ≡ rank_fault self.now queue rank }
     {
-        if !self.may_insert(task) {
-            Some(Fault::CannotInsert)
-        } else if flags > 1 {
-            Some(Fault::UnknownFlag)
+        if rank != Rank::Fifo && queue >= POLICY_END {
+            Some(Fault::BuiltinVtime)
+        } else if self.queues.would_mix(queue, rank) {
+            Some(Fault::Mixed)
         } else {
-            self.queue_fault(queue)
+            None
         }
     }
 
-    pub(crate) fn insert_here(
-        &mut self,
-        task: Option<u16>,
-        queue: u64,
-        slice: u64,
-        flags: u64,
-    ) -> u64
-        ensures answer { result ≡ insert_answer self.old task queue flags }
-        ensures world { self.new ≡ after_insert self.old task queue slice flags }
-        ensures few { self.new.queues.pushes ≡ self.old.queues.pushes }
+    fn insert_fault(&self, task: Option<u16>, insert: Insert, flags: u64) -> Option<Fault>
+        ensures { result ≡ insert_fault self.now task insert flags }
     {
-        match self.insert_fault(task, queue, flags) {
-            Some(fault) => self.fault(fault),
-            None => {
-                self.call.insert = Some(Insert { queue, slice });
-                0
-            }
+        if !self.may_insert(task) {
+            return Some(Fault::CannotInsert);
         }
+        if flags > 1 {
+            return Some(Fault::UnknownFlag);
+        }
+        match self.queue_fault(insert.queue) {
+            Some(fault) => Some(fault),
+            None => self.rank_fault(insert.queue, insert.rank),
+        }
+    }
+
+    /// Keeps the insert of the task at hand until the callback ends. In dispatch a held task goes at once.
+    pub(crate) fn insert_here(&mut self, task: Option<u16>, insert: Insert, flags: u64) -> u64
+        requires notes { length self.old.notes < 4096 }
+        requires few { self.old.queues.pushes < 2 ^ 63 }
+        ensures answer { result ≡ insert_answer self.old task insert flags }
+        ensures world { self.new ≡ after_insert self.old task insert flags }
+        ensures notes { length self.new.notes ≤ length self.old.notes + 1 }
+        ensures few { self.new.queues.pushes ≤ self.old.queues.pushes + 1 }
+    {
+        if let Some(fault) = self.insert_fault(task, insert, flags) {
+            return self.fault(fault);
+        }
+        if self.call.callback == Callback::Dispatch {
+            self.release(task, insert.for_cpu(self.call.cpu));
+        } else {
+            self.call.insert = Some(insert);
+        }
+        0
+    }
+
+    /// A held task goes to where the insert wants it.
+    fn release(&mut self, task: Option<u16>, insert: Insert)
+        requires notes { length self.old.notes < 4096 }
+        requires few { self.old.queues.pushes < 2 ^ 63 }
+        ensures world { self.new ≡ released self.old task insert }
+        ensures notes { length self.new.notes ≤ length self.old.notes + 1 }
+        ensures few { self.new.queues.pushes ≤ self.old.queues.pushes + 1 }
+    {
+        let Some(task) = task else {
+            return;
+        };
+        self.leave_queue(task);
+        self.enter(task, insert);
+        self.call.has_moved = true;
+        self.notes.push_reserved(Note {
+            clock: self.clock,
+            what: What::Insert(task, insert.queue),
+        });
     }
 
     pub(crate) fn move_to_local(&mut self, queue: u64) -> u64
@@ -144,6 +200,38 @@ impl World {
             what: What::Move(task as u16, cpu),
         });
         1
+    }
+
+    // ---- processors and tasks
+
+    pub(crate) fn choose(&self, task: Option<u16>) -> u64
+        ensures { result ≡ choice_answer self.now task }
+    {
+        match task {
+            Some(task) => u64::from(self.default_choice(task)),
+            None => 0,
+        }
+    }
+
+    pub(crate) fn ask_idle(&mut self, cpu: u64) -> u64
+        ensures answer { result ≡ idle_answer self.old cpu }
+        ensures world { self.new ≡ after_idle self.old cpu }
+        ensures few { self.new.queues.pushes ≡ self.old.queues.pushes }
+    {
+        if cpu >= self.cpus.len() as u64 {
+            return self.fault(Fault::NoSuchCpu);
+        }
+        u64::from(self.is_idle(cpu as u32))
+    }
+
+    pub(crate) fn task_by_pid(&self, pid: u64) -> Answer
+        ensures { result ≡ pid_answer self.now pid }
+    {
+        if pid > 0 && pid <= self.tasks.len() as u64 {
+            Answer::Task(TaskId((pid - 1) as u16))
+        } else {
+            Answer::Number(0)
+        }
     }
 
     // ---- the record of a task

@@ -1,7 +1,9 @@
 ghost use Rattle.std.specs.Prelude.{◌≡◌};
 ghost use Rattle.scx_world.specs.Helpers.{number_of, task_of, helper_answer, helper_after, world_number, world_stored, room_of, spent_of};
 
+use crate::call::Insert;
 use crate::world::World;
+use scx_dsq::Rank;
 use scx_isa::{Field, Helper, TaskId};
 use scx_vm::{Answer, Argument, Env};
 
@@ -20,24 +22,35 @@ impl Env for World {
 
     fn call(&mut self, helper: Helper, arguments: &[Argument; 5]) -> Answer {
         let first = given_number(arguments[0]);
-        Answer::Number(match helper {
-            Helper::KtimeGetNs => self.clock * 1_000_000,
-            Helper::CreateDsq => self.create(first),
-            Helper::DsqInsert => self.insert_here(
+        match helper {
+            Helper::KtimeGetNs => Answer::Number(self.clock * 1_000_000),
+            Helper::CreateDsq => Answer::Number(self.create(first)),
+            Helper::DsqInsert => Answer::Number(self.insert_here(
                 given_task(arguments[0]),
-                given_number(arguments[1]),
-                given_number(arguments[2]),
+                Insert {
+                    queue: given_number(arguments[1]),
+                    slice: given_number(arguments[2]),
+                    rank: Rank::Fifo,
+                },
                 given_number(arguments[3]),
-            ),
-            Helper::DsqMoveToLocal => self.move_to_local(first),
-            Helper::DsqNrQueued => self.queued(first),
-            // A run looks up elements itself; the others aren't there yet.
-            Helper::MapLookupElem
-            | Helper::DsqInsertVtime
-            | Helper::SelectCpuDfl
-            | Helper::CpuIdle
-            | Helper::TaskByPid => 0,
-        })
+            )),
+            Helper::DsqInsertVtime => Answer::Number(self.insert_here(
+                given_task(arguments[0]),
+                Insert {
+                    queue: given_number(arguments[1]),
+                    slice: given_number(arguments[2]),
+                    rank: Rank::Vtime(given_number(arguments[3])),
+                },
+                given_number(arguments[4]),
+            )),
+            Helper::DsqMoveToLocal => Answer::Number(self.move_to_local(first)),
+            Helper::SelectCpuDfl => Answer::Number(self.choose(given_task(arguments[0]))),
+            Helper::CpuIdle => Answer::Number(self.ask_idle(first)),
+            Helper::TaskByPid => self.task_by_pid(first),
+            Helper::DsqNrQueued => Answer::Number(self.queued(first)),
+            // A run looks up elements itself.
+            Helper::MapLookupElem => Answer::Number(0),
+        }
     }
 
     fn load(&self, task: TaskId, field: Field) -> u64 {

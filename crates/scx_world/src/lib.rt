@@ -19,5 +19,6 @@ pub use call::{Call, Insert};
 pub use faults::Fault;
 pub use ids::{BUILTIN, GLOBAL, HELD, LOCAL, LOCAL_ON, POLICY_END};
 pub use notes::{Note, What};
+pub use scx_dsq::Rank;
 pub use task::{DEFAULT_SLICE, Task};
 pub use world::World;

@@ -2,12 +2,14 @@ ghost use Rattle.std.specs.Prelude.{◌≡◌, ◌+◌, ◌^◌, ◌<◌, ◌≤
 ghost use Rattle.scx_dsq.specs.Queues.{front_of};
 ghost use Rattle.scx_world.specs.Ids.{local_on};
 ghost use Rattle.scx_world.specs.World.{task_at};
-ghost use Rattle.scx_world.specs.Tasks.{woken, asleep, gone, entered, local_len, fill_front, filled, stopped, started, kept, ticked, later, reweighed};
+ghost use Rattle.scx_world.specs.Tasks.{woken, asleep, gone, given, entered, local_len, fill_front, filled, stopped, started, kept, ticked, later, reweighed};
 
+use crate::call::Insert;
 use crate::counting;
 use crate::ids::LOCAL_ON;
-use crate::task::DEFAULT_SLICE;
+use crate::task::{DEFAULT_SLICE, Task};
 use crate::world::World;
+use scx_dsq::Rank;
 
 /// What an event does to the world, one step at a time.
 impl World {
@@ -43,19 +45,16 @@ impl World {
         }
     }
 
-    /// The task goes into a queue, behind those that are there. A slice of 0 keeps the one that it has.
-    pub fn enter(&mut self, task: u16, queue: u64, slice: u64)
+    /// The task goes into a queue, as the insert wants it to.
+    pub fn enter(&mut self, task: u16, insert: Insert)
         requires few { self.old.queues.pushes < 2 ^ 63 }
-        ensures world { self.new ≡ entered self.old task queue slice }
+        ensures world { self.new ≡ entered self.old task insert }
         ensures few { self.new.queues.pushes ≤ self.old.queues.pushes + 1 }
     {
         if (task as usize) < self.tasks.len() {
-            let mut facts = self.task(task);
-            if slice != 0 {
-                facts.slice = slice;
-            }
+            let facts = given(self.task(task), insert);
             self.set_task(task, facts);
-            let _refused = self.queues.push_fifo(queue, u32::from(task));
+            counting::push(&mut self.queues, insert.queue, u32::from(task), insert.rank);
         }
     }
 
@@ -148,4 +147,18 @@ impl World {
     {
         let _refused = self.tree.set_weight(group, weight);
     }
+}
+
+/// What an insert makes of the record of its task.
+fn given(task: Task, insert: Insert) -> Task
+    ensures { result ≡ given task insert }
+{
+    let mut given = task;
+    if insert.slice != 0 {
+        given.slice = insert.slice;
+    }
+    if let Rank::Vtime(key) = insert.rank {
+        given.vtime = key;
+    }
+    given
 }

@@ -1,10 +1,11 @@
-ghost use Rattle.std.specs.Prelude.{◌≡◌, ◌≢◌, ℕ, ◌+◌, ◌≤◌, ◌<◌, nat_lt, length, None, is_none, position, IfSome, IfOk, OnOk};
+ghost use Rattle.std.specs.Prelude.{◌≡◌, ◌≢◌, ℕ, ◌+◌, ◌≤◌, ◌<◌, nat_lt, length, position, IfSome, IfOk, OnOk};
 ghost use Rattle.std.specs.Int.{bit_at};
 ghost use Rattle.scx_dsq.specs.Laws.{one_if};
 ghost use Rattle.scx_dsq.specs.Queues.{queue_of, task_count};
 ghost use Rattle.scx_world.specs.First.{with_locals, first_queues, first_world};
 ghost use Rattle.scx_world.specs.Helpers.{pointed};
-ghost use Rattle.scx_world.specs.World.{task_at, with_task, is_runnable, waits, running, with_cpu, is_this, cpu_of, is_idle, default_choice, begun, quiet, said};
+ghost use Rattle.scx_world.specs.Kept.{AreTaken};
+ghost use Rattle.scx_world.specs.World.{task_at, with_task, is_runnable, waits, running, with_cpu, with_cycling, is_this, cpu_of, is_idle, first_idle, default_choice, begun, quiet, said};
 
 use crate::call::{Call, Insert};
 use crate::faults::Fault;
@@ -29,6 +30,8 @@ pub struct World {
     pub(crate) cpus: Vec<Option<u16>>,
     /// The processors on which a task runs, one bit each.
     pub(crate) busy: u64,
+    /// The processor on which a scheduling cycle is under way.
+    pub(crate) cycling: Option<u32>,
     pub(crate) queues: Queues,
     pub(crate) tree: Tree,
     pub(crate) call: Call,
@@ -61,6 +64,7 @@ impl World {
             tasks: vec![in alloc; Task::NEW; count]?,
             cpus: vec![in alloc; None; cpus]?,
             busy: 0,
+            cycling: None,
             queues: own_queues(alloc, cpus, count)?,
             tree,
             call: Call::NONE,
@@ -182,10 +186,21 @@ impl World {
         }
     }
 
+    /// A scheduling cycle begins on the processor; with none the one that is under way ends.
+    pub fn set_cycling(&mut self, cpu: Option<u32>)
+        ensures world { self.new ≡ with_cycling self.old cpu }
+        ensures few { self.new.queues.pushes ≡ self.old.queues.pushes }
+    {
+        self.cycling = cpu;
+    }
+
+    /// Whether no task runs on the processor, and no cycle is under way there.
     pub fn is_idle(&self, cpu: u32) -> bool
         ensures { result ≡ is_idle self.now cpu }
     {
-        (cpu as usize) < self.cpus.len() && self.cpus[cpu as usize].is_none()
+        (cpu as usize) < self.cpus.len()
+            && self.cpus[cpu as usize].is_none()
+            && self.cycling != Some(cpu)
     }
 
     /// The processor on which the task ran last if it is idle, else the lowest idle one, else that one.
@@ -202,15 +217,33 @@ impl World {
         }
     }
 
-    /// The lowest processor on which nothing runs.
+    /// The lowest processor that is idle.
+    #[tactic(auto, using(crate::proofs::Busy::lowest_idle, crate::proofs::Busy::none_idle))]
     fn first_idle(&self) -> Option<u32>
-        ensures { result ≡ position is_none self.now.cpus }
+        ensures { result ≡ first_idle self.now }
     {
-        let cpu = (!self.busy).trailing_zeros();
+        let cpu = (!self.taken()).trailing_zeros();
         if (cpu as usize) < self.cpus.len() {
             Some(cpu)
         } else {
             None
+        }
+    }
+
+    /// The processors that aren't idle, one bit each.
+    #[tactic(auto, using(crate::proofs::Busy::taken_none, crate::proofs::Busy::taken_past, crate::proofs::Busy::taken_set))]
+    fn taken(&self) -> u64
+        ensures { AreTaken result self.now }
+    {
+        match self.cycling {
+            Some(cpu) => {
+                if (cpu as usize) < self.cpus.len() {
+                    with_bit(self.busy, cpu, true)
+                } else {
+                    self.busy
+                }
+            }
+            None => self.busy,
         }
     }
 
