@@ -76,6 +76,7 @@ fn two_ms(alloc: Global) -> Option<Policy> {
     let callbacks = Callbacks {
         init: Some(program(alloc, Callback::Init, INIT, &defs)?),
         enable: None,
+        select_cpu: None,
         enqueue: Some(program(alloc, Callback::Enqueue, ENQUEUE_TWO_MS, &defs)?),
         dispatch: Some(program(alloc, Callback::Dispatch, DISPATCH, &defs)?),
         running: None,
@@ -94,6 +95,7 @@ fn simple(alloc: Global) -> Option<Policy> {
     let callbacks = Callbacks {
         init: Some(program(alloc, Callback::Init, INIT, &defs)?),
         enable: Some(program(alloc, Callback::Enable, ENABLE, &defs)?),
+        select_cpu: None,
         enqueue: Some(program(alloc, Callback::Enqueue, ENQUEUE, &defs)?),
         dispatch: Some(program(alloc, Callback::Dispatch, DISPATCH, &defs)?),
         running: Some(program(alloc, Callback::Running, RUNNING, &defs)?),

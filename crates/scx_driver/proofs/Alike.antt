@@ -18,18 +18,20 @@ use Rattle.scx_vm.specs.declared.arguments.Argument.{Argument}
 use Rattle.scx_vm.specs.declared.arguments.Arguments.{Arguments}
 use Rattle.scx_vm.specs.Host.{answer_to, after_query}
 use Rattle.scx_weights.specs.Hierarchy.{Hierarchy}
+use Rattle.scx_world.specs.declared.call.Insert.{Insert}
 use Rattle.scx_world.specs.declared.task.Task.{Task}
 use Rattle.scx_world.specs.declared.faults.Fault.{Fault}
-use Rattle.scx_world.specs.declared.faults.Fault.TheVariants.{NoSuchQueue, CannotCreate}
+use Rattle.scx_world.specs.declared.faults.Fault.TheVariants.{NoSuchQueue, NoSuchCpu, CannotCreate}
 use Rattle.scx_world.specs.Ids.{global, local_on}
 use Rattle.scx_world.specs.World.{WorldState, with_queues, with_task, task_at, begun}
-use Rattle.scx_world.specs.Tasks.{entered, brought, fill_front, stopped, started_at}
-use Rattle.scx_world.specs.Helpers.{is_there, can_create, faulted, insert_fault, inserted, can_move, moved, given_number, given_task, helper_answer, helper_after, world_number, stored_in, world_stored}
+use Rattle.scx_world.specs.Tasks.{gone, entered, for_cpu, brought, fill_front, stopped, started_at}
+use Rattle.scx_world.specs.Helpers.{is_there, can_create, faulted, is_dispatch, insert_fault, with_insert, released, inserted, asked, asked_by_vtime, can_move, moved, given_number, given_task, helper_answer, helper_after, world_number, stored_in, world_stored}
 use Rattle.scx_machine.specs.Policy.{PolicyState, program_of}
 use Rattle.scx_machine.specs.Steps.{State, Stepped, joined, with_world}
 use Rattle.scx_machine.specs.Callbacks.{called, call_back, ended, no_arguments, one_task, task_and_number, cpu_and_task}
-use Rattle.scx_machine.specs.Put.{placed, put}
-use Rattle.scx_machine.specs.Cycle.{has_local, fill, dispatched, asks_again, tries, leave, started_if, start as run_front, pick, rest, pick_or_rest, ask, cycle}
+use Rattle.scx_machine.specs.Put.{enters, wanted, put}
+use Rattle.scx_machine.specs.Events.{settled}
+use Rattle.scx_machine.specs.Cycle.{has_local, fill, dispatched, asks_again, tries, leave, started_if, start as run_front, pick, rest, pick_or_rest, ask, seek, cycling, cycle}
 use Rattle.scx_machine.specs.Start.{blank, init_ending, bad_answer, ok_unless, initialized, enable_ending, has_failed, enable, then_enable, enabled, ok_if, all_enabled, started}
 
 pub keeps_if : {A : Type 0} (P : A → Type 0) (b : Bool) (x y : A) → P x → P y → P (cond b x y)
@@ -46,9 +48,16 @@ module _ (h : Hierarchy) (n c : ℕ) where
   like_task : (w : WorldState) (t : ℕ) (x : Task) → IsLike h n c w → IsLike h n c (with_task w t x)
   like_task w t x i = (i.0, length-set w.tasks t x ∙ i.1, i.2)
 
-  like_inserted : (w : WorldState) (o : Option Fault) (q k : ℕ) → IsLike h n c w → IsLike h n c (inserted w o q k)
-  like_inserted w None q k i = i
-  like_inserted w (Some f) q k i = i
+  like_entered : (w : WorldState) (t : ℕ) (k : Insert) → IsLike h n c w → IsLike h n c (entered w t k)
+  like_entered w t k i = keeps_if (IsLike h n c) (nat_lt t (length w.tasks)) _ w (like_task w t _ i) i
+
+  like_released : (w : WorldState) (t : Option ℕ) (k : Insert) → IsLike h n c w → IsLike h n c (released w t k)
+  like_released w None k i = i
+  like_released w (Some t) k i = let x = like_entered (gone w t) t k i in (x.0, x.1, x.2)
+
+  like_inserted : (w : WorldState) (o : Option Fault) (t : Option ℕ) (k : Insert) → IsLike h n c w → IsLike h n c (inserted w o t k)
+  like_inserted w None t k i = keeps_if (IsLike h n c) (is_dispatch w.call.callback) (released w t (for_cpu w.call.cpu k)) (with_insert w k) (like_released w t (for_cpu w.call.cpu k) i) i
+  like_inserted w (Some f) t k i = i
 
   like_moved : (w : WorldState) (o : Option ℕ) (q : ℕ) → IsLike h n c w → IsLike h n c (moved w o q)
   like_moved w None q i = i
@@ -60,23 +69,20 @@ module _ (h : Hierarchy) (n c : ℕ) where
 
   like_helper : (w : WorldState) (f : Helper) (a : List Argument) → IsLike h n c w → IsLike h n c (helper_after w f a)
   like_helper w CreateDsq a i = keeps_if (IsLike h n c) (can_create w (given_number a 0)) (with_queues w (created w.queues (given_number a 0))) (faulted w CannotCreate) i i
-  like_helper w DsqInsert a i = like_inserted w (insert_fault w (given_task a 0) (given_number a 1) (given_number a 3)) (given_number a 1) (given_number a 2) i
+  like_helper w DsqInsert a i = like_inserted w (insert_fault w (given_task a 0) (asked a) (given_number a 3)) (given_task a 0) (asked a) i
+  like_helper w DsqInsertVtime a i = like_inserted w (insert_fault w (given_task a 0) (asked_by_vtime a) (given_number a 4)) (given_task a 0) (asked_by_vtime a) i
   like_helper w DsqMoveToLocal a i = keeps_if (IsLike h n c) (can_move w (given_number a 0)) (moved w (front_of w.queues (given_number a 0)) (given_number a 0)) (faulted w NoSuchQueue) (like_moved w (front_of w.queues (given_number a 0)) (given_number a 0) i) i
+  like_helper w CpuIdle a i = keeps_if (IsLike h n c) (nat_lt (given_number a 0) (length w.cpus)) w (faulted w NoSuchCpu) i i
   like_helper w DsqNrQueued a i = keeps_if (IsLike h n c) (is_there w (given_number a 0)) w (faulted w NoSuchQueue) i i
   like_helper w KtimeGetNs a i = i
   like_helper w MapLookupElem a i = i
-  like_helper w DsqInsertVtime a i = i
   like_helper w SelectCpuDfl a i = i
-  like_helper w CpuIdle a i = i
   like_helper w TaskByPid a i = i
 
   like_query : (w : WorldState) (q : Query) → IsLike h n c w → IsLike h n c (after_query helper_after world_stored w q)
   like_query w (Call f a) i = like_helper w f (map argument_of a) i
   like_query w (Load t f) i = i
   like_query w (Store t f k) i = like_task w t.0 (stored_in (task_at w t.0) f k) i
-
-  like_entered : (w : WorldState) (t q k : ℕ) → IsLike h n c w → IsLike h n c (entered w t q k)
-  like_entered w t q k i = keeps_if (IsLike h n c) (nat_lt t (length w.tasks)) _ w (like_task w t _ i) i
 
   like_stopped : (w : WorldState) (d t : ℕ) → IsLike h n c w → IsLike h n c (stopped w d t)
   like_stopped w d t i = (i.0, length-set w.tasks t _ ∙ i.1, length-set w.cpus d None ∙ i.2)
@@ -99,10 +105,15 @@ module _ (h : Hierarchy) (n c : ℕ) where
   -- ---- a cycle
 
   pub like_put : (s : State) (t d flags : ℕ) → IsLike h n c s.world → IsLike h n c (put s t d flags).state.world
-  unfolding put placed
+  unfolding put enters
   like_put s t d flags i =
       let r = call_back s callback.Enqueue (task_and_number t flags) t d in
-      like_entered r.state.world t _ _ (like_call_back s callback.Enqueue (task_and_number t flags) t d i)
+      like_entered r.state.world t (wanted r.state.policy.callbacks.enqueue d r.state.world.call.insert) (like_call_back s callback.Enqueue (task_and_number t flags) t d i)
+
+  pub like_settled : (o : Option Insert) (s : State) (t d : ℕ) → IsLike h n c s.world → IsLike h n c (settled o s t d).state.world
+  unfolding enters
+  like_settled None s t d i = like_put s t d 1 i
+  like_settled (Some k) s t d i = like_entered s.world t (for_cpu d k) i
 
   like_fill : (s : State) (q d : ℕ) → IsLike h n c s.world → IsLike h n c (fill s q d).state.world
   unfolding fill
@@ -152,12 +163,16 @@ module _ (h : Hierarchy) (n c : ℕ) where
   unfolding ask
   like_ask s d p ran i = like_pick_or_rest (tries 32 s d p).state d p ran (like_tries 32 s d p i)
 
-  pub like_cycle : (s : State) (d : ℕ) (p : Option ℕ) (ran : Bool) → IsLike h n c s.world → IsLike h n c (cycle s d p ran).state.world
-  unfolding cycle
-  like_cycle s d p ran i =
+  like_seek : (s : State) (d : ℕ) (p : Option ℕ) (ran : Bool) → IsLike h n c s.world → IsLike h n c (seek s d p ran).state.world
+  unfolding seek
+  like_seek s d p ran i =
       let f = fill s global d in
       let x : IsLike h n c f.state.world = like_fill s global d i in
       keeps_if (λ (r : Stepped). IsLike h n c r.state.world) (has_local f.state d) (pick f.state d p) (ask f.state d p ran) (like_pick f.state d p x) (like_ask f.state d p ran x)
+
+  pub like_cycle : (s : State) (d : ℕ) (p : Option ℕ) (ran : Bool) → IsLike h n c s.world → IsLike h n c (cycle s d p ran).state.world
+  unfolding cycle
+  like_cycle s d p ran i = let x = like_seek (cycling s (Some d)) d p ran (i.0, i.1, i.2) in (x.0, x.1, x.2)
 
   -- ---- init and enable
 

@@ -8,18 +8,24 @@ use Rattle.scx_weights.specs.Hierarchy as tree
 use Rattle.scx_world.specs.World.{WorldState, running, cpu_of, is_idle, task_at}
 use Rattle.scx_world.specs.Tasks.{woken, asleep, gone, stopped, ran_a_tick, ticked}
 use Rattle.scx_machine.specs.Steps.{State, Stepped, with_world, stays, joined}
-use Rattle.scx_machine.specs.Callbacks.{call_back, task_and_number}
-use Rattle.scx_machine.specs.Put.{put}
+use Rattle.scx_machine.specs.Callbacks.{call_back, answered_by, task_cpu_and_0, task_and_number}
 use Rattle.scx_machine.specs.Cycle.{cycle}
-use Rattle.scx_machine.specs.Events.{target, put_and_run, wake, sleep_from_cpu, sleep_from, sleep, count_down, tick_of, tick}
-use Rattle.scx_driver.proofs.Alike.{keeps_if, IsLike, like_call_back, like_put, like_cycle}
+use Rattle.scx_machine.specs.Events.{target, settled, settle, select, wake, sleep_from_cpu, sleep_from, sleep, count_down, tick_of, tick}
+use Rattle.scx_driver.proofs.Alike.{keeps_if, IsLike, like_call_back, like_settled, like_cycle}
 
-like_put_and_run : (h : Hierarchy) (n c : ℕ) (s : State) (t d : ℕ) → IsLike h n c s.world → IsLike h n c (put_and_run s t d).state.world
-unfolding put_and_run
-like_put_and_run h n c s t d i =
-    let r = put s t d 1 in
-    let x = like_put h n c s t d 1 i in
+like_settle : (h : Hierarchy) (n c : ℕ) (s : State) (t d : ℕ) → IsLike h n c s.world → IsLike h n c (settle s t d).state.world
+unfolding settle
+like_settle h n c s t d i =
+    let r = settled s.world.call.insert s t d in
+    let x = like_settled h n c s.world.call.insert s t d i in
     keeps_if (λ (r : Stepped). IsLike h n c r.state.world) (is_idle r.state.world d) (joined r (cycle r.state d None false)) r (like_cycle h n c r.state d None false x) x
+
+like_select : (h : Hierarchy) (n c : ℕ) (s : State) (t : ℕ) → IsLike h n c s.world → IsLike h n c (select s t).state.world
+unfolding select
+like_select h n c s t i =
+    let d = (task_at s.world t).prev_cpu in
+    let r = call_back s callback.SelectCpu (task_cpu_and_0 t d) t d in
+    like_settle h n c r.state t (target r.state.policy.callbacks.select_cpu r.state.world t (answered_by s callback.SelectCpu (task_cpu_and_0 t d) t d)) (like_call_back h n c s callback.SelectCpu (task_cpu_and_0 t d) t d i)
 
 module _ (h : Hierarchy) (n c : ℕ) where
   -- a tick changes neither
@@ -43,7 +49,7 @@ module _ (h : Hierarchy) (n c : ℕ) where
   unfolding wake
   like_wake s t i =
       let w = with_world s (woken s.world t) in
-      like_put_and_run (tree.with_task h t true) n c w t (target w t) (ap (λ x. tree.with_task x t true) i.0, length-set s.world.tasks t _ ∙ i.1, i.2)
+      like_select (tree.with_task h t true) n c w t (ap (λ x. tree.with_task x t true) i.0, length-set s.world.tasks t _ ∙ i.1, i.2)
 
   -- a task that sleeps isn't
   like_asleep : (w : WorldState) (t : ℕ) → t < n → IsLike h n c w → IsLike (tree.with_task h t false) n c (asleep w t)

@@ -7,5 +7,7 @@ mod simple;
 mod slots;
 
 pub use one_task::OneTask;
-pub use simple::{DISPATCH, ENABLE, ENQUEUE, INIT, RUNNING, STOPPING};
+pub use simple::{
+    DISPATCH, ENABLE, ENQUEUE, ENQUEUE_BY_VTIME, INIT, RUNNING, SELECT_CPU, STOPPING,
+};
 pub use slots::{EXIT, bytes_of};

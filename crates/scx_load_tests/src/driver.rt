@@ -32,6 +32,7 @@ fn machine<R: AllocGlobal + Abort>(rt: &R, workload: &Workload) -> Sim {
     let callbacks = Callbacks {
         init: None,
         enable: None,
+        select_cpu: None,
         enqueue: None,
         dispatch: None,
         running: None,

@@ -110,8 +110,8 @@ fn each_fault_has_its_path(rt: HostRuntime) -> Result<(), Fail> {
     refuses(&rt, "timeout = 5", "timeout", Cause::Unknown);
     refuses(
         &rt,
-        "[code]\nselect_cpu = 1",
-        "code.select_cpu",
+        "[code]\nplain = 1",
+        "code.plain",
         Cause::Unknown,
     );
     refuses(&rt, "[[map]]\nsize = 1", "map.0.size", Cause::Unknown);

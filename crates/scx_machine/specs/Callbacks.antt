@@ -38,6 +38,10 @@ call_back s b a t c =
     let e = called p b a s.maps w in
     record { state = ended s.policy e; notes = e.outside.notes; calls = calls_of p a s.maps w }
 
+-- what it answers, if it comes to an answer
+unfoldable pub answered_by : State → Callback → Arguments → ℕ → ℕ → Option ℕ
+answered_by s b a t c = (called (program_of s.policy b) b a s.maps (begun s.world b t c)).answer
+
 -- a callback that is called is never stuck: it comes to an answer, in no more steps than its program has
 -- instructions
 pub record IsAnswered (c : CallMade) : Type 0 where
@@ -60,6 +64,10 @@ no_arguments = record { first = Unset; second = Unset; third = Unset }
 
 abbrev pub one_task : ℕ → Arguments
 one_task t = record { first = pointed t; second = Unset; third = Unset }
+
+-- a task, the processor on which it ran last, and 0
+abbrev pub task_cpu_and_0 : ℕ → ℕ → Arguments
+task_cpu_and_0 t c = record { first = pointed t; second = Number c; third = Number 0 }
 
 -- a task and a number: the flags of enqueue, or whether the task stays runnable
 abbrev pub task_and_number : ℕ → ℕ → Arguments

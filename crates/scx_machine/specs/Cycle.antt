@@ -6,7 +6,7 @@ use Rattle.scx_semantics.specs.declared.callbacks.Callback.TheVariants as callba
 use Rattle.scx_world.specs.declared.notes.Note.{Note}
 use Rattle.scx_world.specs.declared.notes.What.TheVariants.{Move, Stop, Run, Idle}
 use Rattle.scx_world.specs.Ids.{global, local_on}
-use Rattle.scx_world.specs.World.{WorldState, said}
+use Rattle.scx_world.specs.World.{WorldState, with_cycling, said}
 use Rattle.scx_world.specs.Tasks.{local_len, fill_front, filled, stopped, started_at, kept}
 use Rattle.scx_machine.specs.Steps.{State, Stepped, with_world, stays, after, joined}
 use Rattle.scx_machine.specs.Callbacks.{call_back, one_task, task_and_number, cpu_and_task}
@@ -81,7 +81,17 @@ ask s c p ran = let d = tries 32 s c p in joined d (pick_or_rest d.state c p ran
 
 -- of a processor on which that task ran and may stay, or none; `ran` says whether any ran there as the
 -- event began
-unfoldable pub cycle : State → ℕ → Option ℕ → Bool → Stepped
-cycle s c p ran =
+unfoldable pub seek : State → ℕ → Option ℕ → Bool → Stepped
+seek s c p ran =
     let f = fill s global c in
     joined f (if has_local f.state c then pick f.state c p else ask f.state c p ran)
+
+-- the cycle begins or ends
+abbrev pub cycling : State → Option ℕ → State
+cycling s o = with_world s (with_cycling s.world o)
+
+-- all the while the cycle is under way
+unfoldable pub cycle : State → ℕ → Option ℕ → Bool → Stepped
+cycle s c p ran =
+    let r = seek (cycling s (Some c)) c p ran in
+    record { state = cycling r.state None; notes = r.notes; calls = r.calls }

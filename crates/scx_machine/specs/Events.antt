@@ -2,15 +2,17 @@
 use Rattle.std.specs.Prelude.{ℕ, Bool, true, false, ◌||◌, ◌==◌, nat_lt, [], ◌∷◌, length, if◌then◌else◌, Option, Some, None}
 use Rattle.scx_semantics.specs.declared.callbacks.Callback.TheVariants as callback
 use Rattle.scx_world.specs.declared.notes.What.TheVariants as note
-use Rattle.scx_world.specs.World.{task_at, is_runnable, running, cpu_of, is_idle, default_choice, said}
-use Rattle.scx_world.specs.Tasks.{woken, asleep, gone, stopped, ticked, later, reweighed}
+use Rattle.scx_verify.specs.Typing.{VerifiedProgram}
+use Rattle.scx_world.specs.declared.call.Insert.{Insert}
+use Rattle.scx_world.specs.World.{WorldState, task_at, is_runnable, running, cpu_of, is_idle, default_choice, said}
+use Rattle.scx_world.specs.Tasks.{for_cpu, woken, asleep, gone, stopped, ticked, later, reweighed}
 use Rattle.scx_machine.specs.declared.events.Event.{Event}
 use Rattle.scx_machine.specs.declared.events.Event.TheVariants.{Wake, Sleep, Tick, Clock, SetWeight}
 use Rattle.scx_machine.specs.declared.events.Refused.{Refused}
 use Rattle.scx_machine.specs.declared.events.Refused.TheVariants.{AlreadyRunnable, NotRunnable, UnknownTask, UnknownCpu, UnknownGroup, BadWeight}
 use Rattle.scx_machine.specs.Steps.{State, Stepped, with_world, stays, after, joined}
-use Rattle.scx_machine.specs.Callbacks.{call_back, task_and_number}
-use Rattle.scx_machine.specs.Put.{put}
+use Rattle.scx_machine.specs.Callbacks.{call_back, answered_by, task_cpu_and_0, task_and_number}
+use Rattle.scx_machine.specs.Put.{enters, put}
 use Rattle.scx_machine.specs.Cycle.{cycle}
 
 -- ---- refusals
@@ -27,20 +29,36 @@ refusal s (SetWeight g x) = if nat_lt g (length s.world.tree.groups) then (if is
 
 -- ---- what each event does
 
--- the processor for which a task that wakes is put
-abbrev pub target : State → ℕ → ℕ
-target s t = default_choice s.world t
+-- the processor that select_cpu answers, if there is such a one
+abbrev pub answered_cpu : WorldState → ℕ → Option ℕ → ℕ
+answered_cpu w t None = default_choice w t
+answered_cpu w t (Some n) = if nat_lt n (length w.cpus) then n else default_choice w t
 
--- the task is put, and a target that is idle looks for a task
-unfoldable pub put_and_run : State → ℕ → ℕ → Stepped
-put_and_run s t c =
-    let r = put s t c 1 in
+-- the processor for which a task that wakes is put
+abbrev pub target : Option VerifiedProgram → WorldState → ℕ → Option ℕ → ℕ
+target None w t a = default_choice w t
+target (Some p) w t a = answered_cpu w t a
+
+-- what select_cpu inserted is applied, where LOCAL is of the target; else the task is put
+abbrev pub settled : Option Insert → State → ℕ → ℕ → Stepped
+settled None s t c = put s t c 1
+settled (Some i) s t c = enters s t (for_cpu c i)
+
+-- and a target that is idle looks for a task
+unfoldable pub settle : State → ℕ → ℕ → Stepped
+settle s t c =
+    let r = settled s.world.call.insert s t c in
     if is_idle r.state.world c then joined r (cycle r.state c None false) else r
 
+-- select_cpu is asked, with the processor at hand on which the task ran last
+unfoldable pub select : State → ℕ → Stepped
+select s t =
+    let c = (task_at s.world t).prev_cpu in
+    let r = call_back s callback.SelectCpu (task_cpu_and_0 t c) t c in
+    joined r (settle r.state t (target r.state.policy.callbacks.select_cpu r.state.world t (answered_by s callback.SelectCpu (task_cpu_and_0 t c) t c)))
+
 unfoldable pub wake : State → ℕ → Stepped
-wake s t =
-    let w = with_world s (woken s.world t) in
-    after (said s.world (note.Wake t) ∷ []) (put_and_run w t (target w t))
+wake s t = after (said s.world (note.Wake t) ∷ []) (select (with_world s (woken s.world t)) t)
 
 -- a task that runs leaves its processor, which looks for another
 unfoldable pub sleep_from_cpu : State → ℕ → ℕ → Stepped

@@ -20,12 +20,12 @@ policy_of shapes timeout callbacks = record { shapes = shapes; timeout_ms = time
 abbrev pub program_of : PolicyState → Callback → Option VerifiedProgram
 program_of p callback.Init = p.callbacks.init
 program_of p callback.Enable = p.callbacks.enable
+program_of p callback.SelectCpu = p.callbacks.select_cpu
 program_of p callback.Enqueue = p.callbacks.enqueue
 program_of p callback.Dispatch = p.callbacks.dispatch
 program_of p callback.Running = p.callbacks.running
 program_of p callback.Stopping = p.callbacks.stopping
 program_of p callback.Plain = None
-program_of p callback.SelectCpu = None
 
 -- ---- what a policy may not be made of
 
@@ -40,6 +40,7 @@ IsAs b (Some p) = p.context.callback ≡ b
 pub record AreAs (c : Callbacks) : Type 0 where
   pub init : IsAs callback.Init c.init
   pub enable : IsAs callback.Enable c.enable
+  pub select_cpu : IsAs callback.SelectCpu c.select_cpu
   pub enqueue : IsAs callback.Enqueue c.enqueue
   pub dispatch : IsAs callback.Dispatch c.dispatch
   pub running : IsAs callback.Running c.running
@@ -53,6 +54,7 @@ HasMaps shapes (Some p) = p.context.defs ≡ shapes
 pub record HaveMaps (shapes : List Shape) (c : Callbacks) : Type 0 where
   pub init : HasMaps shapes c.init
   pub enable : HasMaps shapes c.enable
+  pub select_cpu : HasMaps shapes c.select_cpu
   pub enqueue : HasMaps shapes c.enqueue
   pub dispatch : HasMaps shapes c.dispatch
   pub running : HasMaps shapes c.running

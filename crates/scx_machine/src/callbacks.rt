@@ -1,7 +1,7 @@
 ghost use Rattle.std.specs.Prelude.{◌≡◌, ◌+◌, ◌≤◌, ◌^◌, [], Some};
 ghost use Rattle.scx_maps.specs.Contents.{HasShapes};
 ghost use Rattle.scx_abs.specs.Arguments.{FitsCallback};
-ghost use Rattle.scx_semantics.specs.declared.callbacks.Callback.TheVariants.{Enable, Enqueue, Dispatch, Running, Stopping};
+ghost use Rattle.scx_semantics.specs.declared.callbacks.Callback.TheVariants.{Enable, SelectCpu, Enqueue, Dispatch, Running, Stopping};
 ghost use Rattle.scx_semantics.specs.Endings.{run_of};
 ghost use Rattle.scx_vm.specs.Arguments.{given};
 ghost use Rattle.scx_vm.specs.Host.{answer_to, after_query};
@@ -9,7 +9,7 @@ ghost use Rattle.scx_world.specs.World.{quiet};
 ghost use Rattle.scx_world.specs.Helpers.{helper_answer, helper_after, world_number, world_stored};
 ghost use Rattle.scx_machine.specs.Notes.{Takes};
 ghost use Rattle.scx_machine.specs.Policy.{program_of};
-ghost use Rattle.scx_machine.specs.Callbacks.{called, call_back, calls_of, IsAnswered, AreAnswered, one_task, task_and_number, task_or_0, cpu_and_task};
+ghost use Rattle.scx_machine.specs.Callbacks.{called, call_back, answered_by, calls_of, IsAnswered, AreAnswered, one_task, task_cpu_and_0, task_and_number, task_or_0, cpu_and_task};
 
 use crate::machine::Machine;
 use crate::policy::Policy;
@@ -93,6 +93,18 @@ pub(crate) fn one_task(task: u16) -> Arguments
     }
 }
 
+/// A task, the processor on which it ran last, and 0.
+pub(crate) fn task_cpu_and_0(task: u16, cpu: u32) -> Arguments
+    ensures all { result ≡ task_cpu_and_0 task cpu }
+    ensures select_cpu { FitsCallback SelectCpu (given result) }
+{
+    Arguments {
+        first: World::pointer(task),
+        second: Argument::Number(u64::from(cpu)),
+        third: Argument::Number(0),
+    }
+}
+
 /// A task and a number.
 pub(crate) fn task_and_number(task: u16, number: u64) -> Arguments
     ensures both { result ≡ task_and_number task number }
@@ -128,8 +140,9 @@ pub(crate) fn cpu_and_task(cpu: u32, before: Option<u16>) -> Arguments
 }
 
 impl Machine {
-    /// Runs a callback of the policy, with that task and processor at hand.
-    #[tactic(auto, unfolding(crate::specs::Callbacks::call_back), using(crate::proofs::Taking::takings))]
+    /// Runs a callback of the policy, with that task and processor at hand, and answers what its program
+    /// does.
+    #[tactic(auto, unfolding(crate::specs::Callbacks::call_back, crate::specs::Callbacks::answered_by), using(crate::proofs::Taking::takings))]
     pub(crate) fn call_back<S: Sink>(
         &mut self,
         callback: Callback,
@@ -137,16 +150,17 @@ impl Machine {
         task: u16,
         cpu: u32,
         sink: &mut S,
-    )
+    ) -> u64
         requires arguments { FitsCallback callback (given arguments) }
         requires few { self.old.world.queues.pushes + 4096 ≤ 2 ^ 63 }
+        ensures answer { Some result ≡ answered_by self.old callback arguments task cpu }
         ensures state { self.new ≡ (call_back self.old callback arguments task cpu).state }
         ensures few { self.new.world.queues.pushes ≤ self.old.world.queues.pushes + 4096 }
         ensures notes { Takes S.takes sink.old (call_back self.old callback arguments task cpu).notes sink.new }
         ensures answered { AreAnswered (call_back self.old callback arguments task cpu).calls }
     {
         self.world.begin(callback, task, cpu);
-        run_callback(
+        let answer = run_callback(
             &mut self.core,
             &self.policy,
             callback,
@@ -155,5 +169,6 @@ impl Machine {
             &mut self.world,
         );
         flush(&mut self.world, sink);
+        answer
     }
 }

@@ -1,7 +1,7 @@
 ghost use Rattle.std.specs.Prelude.{◌≡◌, ◌+◌, ◌*◌, ◌≤◌, ◌^◌};
 ghost use Rattle.scx_machine.specs.Notes.{Takes};
 ghost use Rattle.scx_machine.specs.Callbacks.{AreAnswered};
-ghost use Rattle.scx_machine.specs.Cycle.{fill, dispatched, tries, leave, start, pick, rest, pick_or_rest, ask, cycle};
+ghost use Rattle.scx_machine.specs.Cycle.{fill, dispatched, tries, leave, start, pick, rest, pick_or_rest, ask, seek, cycle};
 
 use crate::callbacks::{cpu_and_task, one_task, task_and_number};
 use crate::machine::Machine;
@@ -150,8 +150,24 @@ impl Machine {
         self.pick_or_rest(cpu, before, ran, sink);
     }
 
-    /// A processor on which that task ran and may stay, or none, looks for the one that it runs next.
-    /// `ran` says whether any ran there as the event began.
+    /// A processor on which that task ran and may stay, or none, seeks the one that it runs next.
+    #[tactic(auto, unfolding(crate::specs::Cycle::seek), using(crate::proofs::Taking::takings))]
+    fn seek<S: Sink>(&mut self, cpu: u32, before: Option<u16>, ran: bool, sink: &mut S)
+        requires few { self.old.world.queues.pushes + 143394 ≤ 2 ^ 63 }
+        ensures state { self.new ≡ (seek self.old cpu before ran).state }
+        ensures few { self.new.world.queues.pushes ≤ self.old.world.queues.pushes + 143394 }
+        ensures notes { Takes S.takes sink.old (seek self.old cpu before ran).notes sink.new }
+        ensures answered { AreAnswered (seek self.old cpu before ran).calls }
+    {
+        self.fill(GLOBAL, cpu, sink);
+        if self.has_local(cpu) {
+            self.pick(cpu, before, sink);
+        } else {
+            self.ask(cpu, before, ran, sink);
+        }
+    }
+
+    /// A whole cycle. `ran` says whether a task ran there as the event began.
     #[tactic(auto, unfolding(crate::specs::Cycle::cycle), using(crate::proofs::Taking::takings))]
     pub(crate) fn cycle<S: Sink>(&mut self, cpu: u32, before: Option<u16>, ran: bool, sink: &mut S)
         requires few { self.old.world.queues.pushes + 143394 ≤ 2 ^ 63 }
@@ -160,11 +176,8 @@ impl Machine {
         ensures notes { Takes S.takes sink.old (cycle self.old cpu before ran).notes sink.new }
         ensures answered { AreAnswered (cycle self.old cpu before ran).calls }
     {
-        self.fill(GLOBAL, cpu, sink);
-        if self.has_local(cpu) {
-            self.pick(cpu, before, sink);
-        } else {
-            self.ask(cpu, before, ran, sink);
-        }
+        self.world.set_cycling(Some(cpu));
+        self.seek(cpu, before, ran, sink);
+        self.world.set_cycling(None);
     }
 }

@@ -1,11 +1,11 @@
-ghost use Rattle.std.specs.Prelude.{◌≡◌, ℕ, ◌+◌, ◌<◌, ◌≤◌, ◌^◌, length, None};
+ghost use Rattle.std.specs.Prelude.{◌≡◌, ℕ, ◌+◌, ◌<◌, ◌≤◌, ◌^◌, length, Some, None};
 ghost use Rattle.scx_world.specs.World.{task_at};
 ghost use Rattle.scx_machine.specs.Notes.{Takes};
 ghost use Rattle.scx_machine.specs.Callbacks.{AreAnswered};
 ghost use Rattle.scx_machine.specs.declared.events.Event.TheVariants.{Wake, Sleep, SetWeight};
-ghost use Rattle.scx_machine.specs.Events.{is_bad_weight, refusal, target, put_and_run, wake, sleep_from_cpu, sleep, count_down, tick, happened};
+ghost use Rattle.scx_machine.specs.Events.{is_bad_weight, refusal, target, settled, settle, select, wake, sleep_from_cpu, sleep, count_down, tick, happened};
 
-use crate::callbacks::task_and_number;
+use crate::callbacks::{task_and_number, task_cpu_and_0};
 use crate::machine::Machine;
 use crate::sink::Sink;
 use scx_isa::Callback;
@@ -108,35 +108,79 @@ impl Machine {
         }
     }
 
-    /// Puts a task that woke, and lets its target run if that is idle.
-    #[tactic(auto, unfolding(crate::specs::Events::put_and_run), using(crate::proofs::Taking::takings))]
-    fn put_and_run<S: Sink>(&mut self, task: u16, cpu: u32, sink: &mut S)
-        requires few { self.old.world.queues.pushes + 147491 ≤ 2 ^ 63 }
-        ensures state { self.new ≡ (put_and_run self.old task cpu).state }
-        ensures few { self.new.world.queues.pushes ≤ self.old.world.queues.pushes + 147491 }
-        ensures notes { Takes S.takes sink.old (put_and_run self.old task cpu).notes sink.new }
-        ensures answered { AreAnswered (put_and_run self.old task cpu).calls }
+    /// The processor for which a task that wakes is put, where select_cpu answered so.
+    fn target(&self, task: u16, answer: u64) -> u32
+        ensures { result ≡ target self.now.policy.callbacks.select_cpu self.now.world task (Some answer) }
     {
-        self.put(task, cpu, 1, sink);
+        if self.policy.program(Callback::SelectCpu).is_none() {
+            return self.world.default_choice(task);
+        }
+        if answer < u64::from(self.world.cpus()) {
+            answer as u32
+        } else {
+            self.world.default_choice(task)
+        }
+    }
+
+    /// Applies what select_cpu inserted, or puts the task.
+    #[tactic(auto, using(crate::proofs::Taking::takings))]
+    fn place<S: Sink>(&mut self, task: u16, cpu: u32, sink: &mut S)
+        requires few { self.old.world.queues.pushes + 4097 ≤ 2 ^ 63 }
+        ensures state { self.new ≡ (settled self.old.world.call.insert self.old task cpu).state }
+        ensures few { self.new.world.queues.pushes ≤ self.old.world.queues.pushes + 4097 }
+        ensures notes { Takes S.takes sink.old (settled self.old.world.call.insert self.old task cpu).notes sink.new }
+        ensures answered { AreAnswered (settled self.old.world.call.insert self.old task cpu).calls }
+    {
+        match self.world.insert() {
+            Some(insert) => self.enter(task, insert.for_cpu(cpu), sink),
+            None => self.put(task, cpu, 1, sink),
+        }
+    }
+
+    /// A task that woke comes to wait, and a target that is idle looks for a task.
+    #[tactic(auto, unfolding(crate::specs::Events::settle), using(crate::proofs::Taking::takings))]
+    fn settle<S: Sink>(&mut self, task: u16, cpu: u32, sink: &mut S)
+        requires few { self.old.world.queues.pushes + 147491 ≤ 2 ^ 63 }
+        ensures state { self.new ≡ (settle self.old task cpu).state }
+        ensures few { self.new.world.queues.pushes ≤ self.old.world.queues.pushes + 147491 }
+        ensures notes { Takes S.takes sink.old (settle self.old task cpu).notes sink.new }
+        ensures answered { AreAnswered (settle self.old task cpu).calls }
+    {
+        self.place(task, cpu, sink);
         if self.world.is_idle(cpu) {
             self.cycle(cpu, None, false, sink);
         }
+    }
+
+    /// Asks select_cpu for which processor the task is to be put.
+    #[tactic(auto, unfolding(crate::specs::Events::select), using(crate::proofs::Taking::takings))]
+    fn select<S: Sink>(&mut self, task: u16, sink: &mut S)
+        requires few { self.old.world.queues.pushes + 151587 ≤ 2 ^ 63 }
+        ensures state { self.new ≡ (select self.old task).state }
+        ensures few { self.new.world.queues.pushes ≤ self.old.world.queues.pushes + 151587 }
+        ensures notes { Takes S.takes sink.old (select self.old task).notes sink.new }
+        ensures answered { AreAnswered (select self.old task).calls }
+    {
+        let prev = self.world.task(task).prev_cpu;
+        let arguments = task_cpu_and_0(task, prev);
+        let answer = self.call_back(Callback::SelectCpu, arguments, task, prev, sink);
+        let cpu = self.target(task, answer);
+        self.settle(task, cpu, sink);
     }
 
     /// A task wakes.
     #[tactic(auto, unfolding(crate::specs::Events::wake), using(crate::proofs::Taking::takings))]
     fn wake<S: Sink>(&mut self, task: u16, sink: &mut S)
         requires known { task < length self.old.world.tasks }
-        requires few { self.old.world.queues.pushes + 147491 ≤ 2 ^ 63 }
+        requires few { self.old.world.queues.pushes + 151587 ≤ 2 ^ 63 }
         ensures state { self.new ≡ (wake self.old task).state }
-        ensures few { self.new.world.queues.pushes ≤ self.old.world.queues.pushes + 147491 }
+        ensures few { self.new.world.queues.pushes ≤ self.old.world.queues.pushes + 151587 }
         ensures notes { Takes S.takes sink.old (wake self.old task).notes sink.new }
         ensures answered { AreAnswered (wake self.old task).calls }
     {
         sink.take(self.world.note(What::Wake(task)));
         self.world.wake(task);
-        let cpu = self.world.default_choice(task);
-        self.put_and_run(task, cpu, sink);
+        self.select(task, sink);
     }
 
     /// A task that runs goes to sleep.

@@ -12,6 +12,7 @@ use thiserror::Error;
 pub struct Callbacks {
     pub init: Option<Verified>,
     pub enable: Option<Verified>,
+    pub select_cpu: Option<Verified>,
     pub enqueue: Option<Verified>,
     pub dispatch: Option<Verified>,
     pub running: Option<Verified>,
@@ -89,11 +90,12 @@ impl Policy {
         match callback {
             Callback::Init => self.callbacks.init.as_ref(),
             Callback::Enable => self.callbacks.enable.as_ref(),
+            Callback::SelectCpu => self.callbacks.select_cpu.as_ref(),
             Callback::Enqueue => self.callbacks.enqueue.as_ref(),
             Callback::Dispatch => self.callbacks.dispatch.as_ref(),
             Callback::Running => self.callbacks.running.as_ref(),
             Callback::Stopping => self.callbacks.stopping.as_ref(),
-            Callback::Plain | Callback::SelectCpu => None,
+            Callback::Plain => None,
         }
     }
 }
@@ -104,6 +106,7 @@ fn are_as(callbacks: &Callbacks) -> bool
 {
     is_as(&callbacks.init, Callback::Init)
         && is_as(&callbacks.enable, Callback::Enable)
+        && is_as(&callbacks.select_cpu, Callback::SelectCpu)
         && is_as(&callbacks.enqueue, Callback::Enqueue)
         && is_as(&callbacks.dispatch, Callback::Dispatch)
         && is_as(&callbacks.running, Callback::Running)
@@ -125,6 +128,7 @@ fn have_maps(callbacks: &Callbacks, defs: &MapDefs) -> bool
 {
     has_maps(&callbacks.init, defs)
         && has_maps(&callbacks.enable, defs)
+        && has_maps(&callbacks.select_cpu, defs)
         && has_maps(&callbacks.enqueue, defs)
         && has_maps(&callbacks.dispatch, defs)
         && has_maps(&callbacks.running, defs)

@@ -1,63 +1,39 @@
 ghost use Rattle.std.specs.Prelude.{◌≡◌, ◌+◌, ◌≤◌, ◌^◌};
 ghost use Rattle.scx_machine.specs.Notes.{Takes};
 ghost use Rattle.scx_machine.specs.Callbacks.{AreAnswered};
-ghost use Rattle.scx_machine.specs.Put.{resolved, queue_for, slice_for, placed, put};
+ghost use Rattle.scx_machine.specs.Put.{enters, wanted, put};
 
 use crate::callbacks::task_and_number;
 use crate::machine::Machine;
 use crate::sink::Sink;
 use scx_isa::Callback;
-use scx_world::{DEFAULT_SLICE, GLOBAL, HELD, LOCAL, LOCAL_ON, What};
-
-/// LOCAL is the local queue of the processor at hand.
-fn resolved(cpu: u32, queue: u64) -> u64
-    ensures { result ≡ resolved cpu queue }
-{
-    if queue == LOCAL {
-        LOCAL_ON + u64::from(cpu)
-    } else {
-        queue
-    }
-}
+use scx_world::{Insert, What};
 
 impl Machine {
-    fn queue_for(&self) -> u64
-        ensures { result ≡ queue_for self.now.policy.callbacks.enqueue self.now.world.call.cpu self.now.world.call.insert }
-    {
-        if self.policy.program(Callback::Enqueue).is_none() {
-            return GLOBAL;
-        }
-        match self.world.insert() {
-            Some(insert) => resolved(self.world.cpu_at_hand(), insert.queue),
-            None => HELD,
-        }
-    }
-
-    fn slice_for(&self) -> u64
-        ensures { result ≡ slice_for self.now.policy.callbacks.enqueue self.now.world.call.insert }
-    {
-        if self.policy.program(Callback::Enqueue).is_none() {
-            return DEFAULT_SLICE;
-        }
-        match self.world.insert() {
-            Some(insert) => insert.slice,
-            None => 0,
-        }
-    }
-
-    /// The task at hand comes to wait where enqueue wants it to.
-    #[tactic(auto, unfolding(crate::specs::Put::placed), using(crate::proofs::Taking::takings))]
-    fn place<S: Sink>(&mut self, task: u16, sink: &mut S)
+    /// The task comes to wait as the insert wants it to.
+    #[tactic(auto, unfolding(crate::specs::Put::enters), using(crate::proofs::Taking::takings))]
+    pub(crate) fn enter<S: Sink>(&mut self, task: u16, insert: Insert, sink: &mut S)
         requires few { self.old.world.queues.pushes + 1 ≤ 2 ^ 63 }
-        ensures state { self.new ≡ (placed self.old task).state }
+        ensures state { self.new ≡ (enters self.old task insert).state }
         ensures few { self.new.world.queues.pushes ≤ self.old.world.queues.pushes + 1 }
-        ensures notes { Takes S.takes sink.old (placed self.old task).notes sink.new }
-        ensures answered { AreAnswered (placed self.old task).calls }
+        ensures notes { Takes S.takes sink.old (enters self.old task insert).notes sink.new }
+        ensures answered { AreAnswered (enters self.old task insert).calls }
     {
-        let queue = self.queue_for();
-        let slice = self.slice_for();
-        sink.take(self.world.note(What::Insert(task, queue)));
-        self.world.enter(task, queue, slice);
+        sink.take(self.world.note(What::Insert(task, insert.queue)));
+        self.world.enter(task, insert);
+    }
+
+    /// Where enqueue wanted the task at hand to wait, for that processor.
+    fn wanted(&self, cpu: u32) -> Insert
+        ensures { result ≡ wanted self.now.policy.callbacks.enqueue cpu self.now.world.call.insert }
+    {
+        if self.policy.program(Callback::Enqueue).is_none() {
+            return Insert::global();
+        }
+        match self.world.insert() {
+            Some(insert) => insert.for_cpu(cpu),
+            None => Insert::held(),
+        }
     }
 
     /// Asks enqueue where the task is to wait, and puts it there.
@@ -76,6 +52,7 @@ impl Machine {
             cpu,
             sink,
         );
-        self.place(task, sink);
+        let insert = self.wanted(cpu);
+        self.enter(task, insert, sink);
     }
 }

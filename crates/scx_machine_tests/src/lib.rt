@@ -11,3 +11,5 @@ mod recorder;
 mod refusals;
 #[cfg(test)]
 mod rows;
+#[cfg(test)]
+mod selecting;

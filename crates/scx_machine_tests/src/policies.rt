@@ -21,6 +21,7 @@ pub(crate) const DISPATCH: &str = "r1 = 0\ncall 1004\nexit";
 pub(crate) const NONE: Callbacks = Callbacks {
     init: None,
     enable: None,
+    select_cpu: None,
     enqueue: None,
     dispatch: None,
     running: None,

@@ -31,12 +31,12 @@ pub record IsRefusedFor (shapes : List Shape) (program : Option Code) (b : Callb
 abbrev pub earlier : Callback → List Callback
 earlier callback.Init = []
 earlier callback.Enable = callback.Init ∷ []
-earlier callback.Enqueue = callback.Init ∷ callback.Enable ∷ []
-earlier callback.Dispatch = callback.Init ∷ callback.Enable ∷ callback.Enqueue ∷ []
-earlier callback.Running = callback.Init ∷ callback.Enable ∷ callback.Enqueue ∷ callback.Dispatch ∷ []
-earlier callback.Stopping = callback.Init ∷ callback.Enable ∷ callback.Enqueue ∷ callback.Dispatch ∷ callback.Running ∷ []
+earlier callback.SelectCpu = callback.Init ∷ callback.Enable ∷ []
+earlier callback.Enqueue = callback.Init ∷ callback.Enable ∷ callback.SelectCpu ∷ []
+earlier callback.Dispatch = callback.Init ∷ callback.Enable ∷ callback.SelectCpu ∷ callback.Enqueue ∷ []
+earlier callback.Running = callback.Init ∷ callback.Enable ∷ callback.SelectCpu ∷ callback.Enqueue ∷ callback.Dispatch ∷ []
+earlier callback.Stopping = callback.Init ∷ callback.Enable ∷ callback.SelectCpu ∷ callback.Enqueue ∷ callback.Dispatch ∷ callback.Running ∷ []
 earlier callback.Plain = []
-earlier callback.SelectCpu = []
 
 abbrev pub AreAccepted : PolicyFile → List Callback → Type 0
 AreAccepted text [] = ⊤

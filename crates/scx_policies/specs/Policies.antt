@@ -15,22 +15,22 @@ pub record PolicyFile : Type 0 where
 abbrev pub program_of : PolicyFile → Callback → Option Code
 program_of p callback.Init = p.programs.init
 program_of p callback.Enable = p.programs.enable
+program_of p callback.SelectCpu = p.programs.select_cpu
 program_of p callback.Enqueue = p.programs.enqueue
 program_of p callback.Dispatch = p.programs.dispatch
 program_of p callback.Running = p.programs.running
 program_of p callback.Stopping = p.programs.stopping
 program_of p callback.Plain = None
-program_of p callback.SelectCpu = None
 
 abbrev pub programs_without : Programs → Callback → Programs
-programs_without p callback.Init = record { init = None; enable = p.enable; enqueue = p.enqueue; dispatch = p.dispatch; running = p.running; stopping = p.stopping }
-programs_without p callback.Enable = record { init = p.init; enable = None; enqueue = p.enqueue; dispatch = p.dispatch; running = p.running; stopping = p.stopping }
-programs_without p callback.Enqueue = record { init = p.init; enable = p.enable; enqueue = None; dispatch = p.dispatch; running = p.running; stopping = p.stopping }
-programs_without p callback.Dispatch = record { init = p.init; enable = p.enable; enqueue = p.enqueue; dispatch = None; running = p.running; stopping = p.stopping }
-programs_without p callback.Running = record { init = p.init; enable = p.enable; enqueue = p.enqueue; dispatch = p.dispatch; running = None; stopping = p.stopping }
-programs_without p callback.Stopping = record { init = p.init; enable = p.enable; enqueue = p.enqueue; dispatch = p.dispatch; running = p.running; stopping = None }
+programs_without p callback.Init = record { init = None; enable = p.enable; select_cpu = p.select_cpu; enqueue = p.enqueue; dispatch = p.dispatch; running = p.running; stopping = p.stopping }
+programs_without p callback.Enable = record { init = p.init; enable = None; select_cpu = p.select_cpu; enqueue = p.enqueue; dispatch = p.dispatch; running = p.running; stopping = p.stopping }
+programs_without p callback.SelectCpu = record { init = p.init; enable = p.enable; select_cpu = None; enqueue = p.enqueue; dispatch = p.dispatch; running = p.running; stopping = p.stopping }
+programs_without p callback.Enqueue = record { init = p.init; enable = p.enable; select_cpu = p.select_cpu; enqueue = None; dispatch = p.dispatch; running = p.running; stopping = p.stopping }
+programs_without p callback.Dispatch = record { init = p.init; enable = p.enable; select_cpu = p.select_cpu; enqueue = p.enqueue; dispatch = None; running = p.running; stopping = p.stopping }
+programs_without p callback.Running = record { init = p.init; enable = p.enable; select_cpu = p.select_cpu; enqueue = p.enqueue; dispatch = p.dispatch; running = None; stopping = p.stopping }
+programs_without p callback.Stopping = record { init = p.init; enable = p.enable; select_cpu = p.select_cpu; enqueue = p.enqueue; dispatch = p.dispatch; running = p.running; stopping = None }
 programs_without p callback.Plain = p
-programs_without p callback.SelectCpu = p
 
 -- the same without the program of that callback
 abbrev pub without : PolicyFile → Callback → PolicyFile

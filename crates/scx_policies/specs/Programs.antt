@@ -32,11 +32,12 @@ abbrev pub code_programs : Members → Reading Programs
 code_programs ms = do
   init ← code_at ms (codes "init")
   enable ← code_at ms (codes "enable")
+  select_cpu ← code_at ms (codes "select_cpu")
   enqueue ← code_at ms (codes "enqueue")
   dispatch ← code_at ms (codes "dispatch")
   running ← code_at ms (codes "running")
   stopping ← code_at ms (codes "stopping")
-  Ok (record { init = init; enable = enable; enqueue = enqueue; dispatch = dispatch; running = running; stopping = stopping })
+  Ok (record { init = init; enable = enable; select_cpu = select_cpu; enqueue = enqueue; dispatch = dispatch; running = running; stopping = stopping })
 
 -- ---- in `slots`
 
@@ -73,8 +74,9 @@ abbrev pub with_slots : Members → Programs → Reading Programs
 with_slots ms p = do
   init ← slots_at ms (codes "init") p.init
   enable ← slots_at ms (codes "enable") p.enable
+  select_cpu ← slots_at ms (codes "select_cpu") p.select_cpu
   enqueue ← slots_at ms (codes "enqueue") p.enqueue
   dispatch ← slots_at ms (codes "dispatch") p.dispatch
   running ← slots_at ms (codes "running") p.running
   stopping ← slots_at ms (codes "stopping") p.stopping
-  Ok (record { init = init; enable = enable; enqueue = enqueue; dispatch = dispatch; running = running; stopping = stopping })
+  Ok (record { init = init; enable = enable; select_cpu = select_cpu; enqueue = enqueue; dispatch = dispatch; running = running; stopping = stopping })

@@ -18,7 +18,7 @@ abbrev pub map_keys : List (List ℕ)
 map_keys = codes "entries" ∷ codes "value_size" ∷ []
 
 abbrev pub callback_keys : List (List ℕ)
-callback_keys = codes "init" ∷ codes "enable" ∷ codes "enqueue" ∷ codes "dispatch" ∷ codes "running" ∷ codes "stopping" ∷ []
+callback_keys = codes "init" ∷ codes "enable" ∷ codes "select_cpu" ∷ codes "enqueue" ∷ codes "dispatch" ∷ codes "running" ∷ codes "stopping" ∷ []
 
 -- the paths of all unknown keys of a file
 abbrev pub unknown_keys : Members → List (List ℕ)

@@ -30,8 +30,8 @@ impl fmt::Debug for BuildError {
     }
 }
 
-/// Makes the policy of what was read. The programs are verified in the order init, enable, enqueue,
-/// dispatch, running, stopping.
+/// Makes the policy of what was read. The programs are verified in the order init, enable, select_cpu,
+/// enqueue, dispatch, running, stopping.
 pub fn build(alloc: Global, text: PolicyText) -> Result<Policy, BuildError>
     ensures built { IfOk result (IsBuilt text) }
     ensures refused { IfErr result (IsFirstRefused text) }
@@ -44,6 +44,7 @@ pub fn build(alloc: Global, text: PolicyText) -> Result<Policy, BuildError>
     let callbacks = Callbacks {
         init: verified(alloc, programs.init, Callback::Init, &defs)?,
         enable: verified(alloc, programs.enable, Callback::Enable, &defs)?,
+        select_cpu: verified(alloc, programs.select_cpu, Callback::SelectCpu, &defs)?,
         enqueue: verified(alloc, programs.enqueue, Callback::Enqueue, &defs)?,
         dispatch: verified(alloc, programs.dispatch, Callback::Dispatch, &defs)?,
         running: verified(alloc, programs.running, Callback::Running, &defs)?,

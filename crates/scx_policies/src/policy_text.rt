@@ -11,6 +11,7 @@ use std::marker::Model;
 pub struct Programs {
     pub init: Option<Program>,
     pub enable: Option<Program>,
+    pub select_cpu: Option<Program>,
     pub enqueue: Option<Program>,
     pub dispatch: Option<Program>,
     pub running: Option<Program>,
@@ -60,11 +61,12 @@ impl PolicyText {
         match callback {
             Callback::Init => self.programs.init.take(),
             Callback::Enable => self.programs.enable.take(),
+            Callback::SelectCpu => self.programs.select_cpu.take(),
             Callback::Enqueue => self.programs.enqueue.take(),
             Callback::Dispatch => self.programs.dispatch.take(),
             Callback::Running => self.programs.running.take(),
             Callback::Stopping => self.programs.stopping.take(),
-            Callback::Plain | Callback::SelectCpu => None,
+            Callback::Plain => None,
         }
     }
 }

@@ -20,6 +20,7 @@ pub(crate) fn read_code(alloc: Global, code: Section<'_>) -> Result<Programs, Lo
     Ok(Programs {
         init: code_at(alloc, code, "init")?,
         enable: code_at(alloc, code, "enable")?,
+        select_cpu: code_at(alloc, code, "select_cpu")?,
         enqueue: code_at(alloc, code, "enqueue")?,
         dispatch: code_at(alloc, code, "dispatch")?,
         running: code_at(alloc, code, "running")?,
@@ -39,6 +40,7 @@ pub(crate) fn read_slots(
     Ok(Programs {
         init: slots_at(alloc, slots, "init", programs.init)?,
         enable: slots_at(alloc, slots, "enable", programs.enable)?,
+        select_cpu: slots_at(alloc, slots, "select_cpu", programs.select_cpu)?,
         enqueue: slots_at(alloc, slots, "enqueue", programs.enqueue)?,
         dispatch: slots_at(alloc, slots, "dispatch", programs.dispatch)?,
         running: slots_at(alloc, slots, "running", programs.running)?,

@@ -24,7 +24,7 @@ const TIMEOUT: Limits = Limits {
 ///
 /// Unknown keys are faults before all others, the least path by bytes first. Then the order is the
 /// name, the timeout, each map, the programs in `code` and those in `slots`, both in the order init,
-/// enable, enqueue, dispatch, running, stopping.
+/// enable, select_cpu, enqueue, dispatch, running, stopping.
 pub fn read_policy(alloc: Global, text: &str) -> Result<PolicyText, LoadError>
     ensures { Gives (λ policy. policy) result (policy_text text.now) }
 {
@@ -40,7 +40,13 @@ fn check_keys(alloc: Global, file: Section<'_>) -> Result<(), LoadError>
     ensures { Gives (λ t. t) result (known_alone (unknown_keys (table_view file.entry.table.now))) }
 {
     let callbacks = [
-        "init", "enable", "enqueue", "dispatch", "running", "stopping",
+        "init",
+        "enable",
+        "select_cpu",
+        "enqueue",
+        "dispatch",
+        "running",
+        "stopping",
     ];
     let unknown = Unknown::none()
         .in_section(alloc, file, &["name", "timeout_ms", "map", "code", "slots"])?

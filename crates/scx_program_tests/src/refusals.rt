@@ -1,7 +1,9 @@
 //! A smallest program for each refusal, and what comes close to it.
 
 use crate::verdicts::expect;
-use scx_examples::{DISPATCH, ENABLE, ENQUEUE, INIT, RUNNING, STOPPING};
+use scx_examples::{
+    DISPATCH, ENABLE, ENQUEUE, ENQUEUE_BY_VTIME, INIT, RUNNING, SELECT_CPU, STOPPING,
+};
 use scx_isa::Callback;
 use std::process::Abort;
 use std::test::Fail;
@@ -239,10 +241,93 @@ fn keeps_to_an_element(rt: HostRuntime) -> Result<(), Fail> {
 fn accepts_scx_simple(rt: HostRuntime) -> Result<(), Fail> {
     expect(&rt, Callback::Init, INIT, "ok 3")?;
     expect(&rt, Callback::Enable, ENABLE, "ok 10")?;
+    expect(&rt, Callback::SelectCpu, SELECT_CPU, "ok 13")?;
     expect(&rt, Callback::Enqueue, ENQUEUE, "ok 5")?;
+    expect(&rt, Callback::Enqueue, ENQUEUE_BY_VTIME, "ok 21")?;
     expect(&rt, Callback::Dispatch, DISPATCH, "ok 3")?;
     expect(&rt, Callback::Running, RUNNING, "ok 14")?;
     expect(&rt, Callback::Stopping, STOPPING, "ok 10")
+}
+
+/// Takes the first task, and inserts it into the processor's own queue for two milliseconds.
+const RELEASE: &str = "r1 = 1
+call 1007
+if r0 == 0 goto out
+r1 = r0
+r2 = 9223372036854775810 ll
+r3 = 2000000
+r4 = 0
+call 1002
+out:
+exit
+";
+
+#[test]
+fn wants_looked_up_tasks_tested(rt: HostRuntime) -> Result<(), Fail> {
+    expect(&rt, Callback::Dispatch, RELEASE, "ok 9")?;
+    let running = Callback::Running;
+    expect(
+        &rt,
+        running,
+        "r1 = 1\ncall 1007\nr0 = *(u32 *)(r0 + 0)\nexit",
+        "verify 10 NullNotTested at 2",
+    )?;
+    // Nor is one handed on untested.
+    expect(
+        &rt,
+        Callback::Enqueue,
+        "r1 = 1\ncall 1007\nr1 = r0\ncall 1005\nexit",
+        "verify 10 NullNotTested at 3",
+    )?;
+    // The test counts for the tested register, on the side where there is a task.
+    expect(
+        &rt,
+        running,
+        "r1 = 1\ncall 1007\nr6 = r0\nif r0 == 0 goto +1\nr0 = *(u32 *)(r6 + 0)\nexit",
+        "verify 10 NullNotTested at 4",
+    )?;
+    expect(
+        &rt,
+        running,
+        "r1 = 1\ncall 1007\nif r0 == 0 goto +1\nr0 = *(u32 *)(r0 + 0)\nexit",
+        "ok 5",
+    )?;
+    expect(
+        &rt,
+        running,
+        "r1 = 1\ncall 1007\nif r0 != 0 goto +1\nr0 = *(u32 *)(r0 + 0)\nexit",
+        "verify 8 OutOfBounds at 3",
+    )
+}
+
+#[test]
+fn knows_where_helpers_may_be_called(rt: HostRuntime) -> Result<(), Fail> {
+    let choose = "call 1005\nexit";
+    expect(&rt, Callback::SelectCpu, choose, "ok 2")?;
+    expect(&rt, Callback::Enqueue, choose, "ok 2")?;
+    expect(
+        &rt,
+        Callback::Running,
+        choose,
+        "verify 16 HelperNotHere at 0",
+    )?;
+    let idle = "call 1006\nexit";
+    expect(&rt, Callback::Dispatch, idle, "ok 2")?;
+    expect(&rt, Callback::Enable, idle, "verify 16 HelperNotHere at 0")?;
+    let insert = "r1 = r2\nr2 = 0\nr3 = 0\nr4 = 0\nr5 = 0\ncall 1003\nexit";
+    expect(
+        &rt,
+        Callback::Dispatch,
+        insert,
+        "verify 10 NullNotTested at 5",
+    )?;
+    expect(
+        &rt,
+        Callback::Stopping,
+        insert,
+        "verify 16 HelperNotHere at 5",
+    )?;
+    expect(&rt, Callback::SelectCpu, "call 5\nr0 = r10\nexit", "verify 18 BadReturn at 2")
 }
 
 #[test]

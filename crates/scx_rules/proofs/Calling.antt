@@ -10,7 +10,7 @@ use Rattle.scx_vm.specs.Host.{answer_to, after_query}
 use Rattle.scx_world.specs.World.{WorldState, begun}
 use Rattle.scx_world.specs.Helpers.{helper_answer, helper_after, world_number, world_stored}
 use Rattle.scx_machine.specs.Policy.{program_of, IsAs}
-use Rattle.scx_machine.specs.Callbacks.{called, calls_of, call_back, AreAnswered}
+use Rattle.scx_machine.specs.Callbacks.{called, calls_of, call_back, answered_by, AreAnswered}
 use Rattle.scx_rules.specs.Callbacks.{EndsAs, Absent, Exits, Gets_stuck, leaving}
 use Rattle.scx_rules.specs.Laws.{RulesAllowCallbacks, RulesAllowCallbacksOnly}
 
@@ -39,10 +39,12 @@ ends_as (Some p) b a maps w fits (h, more) = subst (λ (e : Ending WorldState). 
     exits = Exits p h.answer h.steps h.maps h.world refl h.in_bound (rw (← fits) h.run) refl
 
 pub calls_back : RulesAllowCallbacks
-unfolding call_back
+unfolding call_back answered_by
 calls_back s b a t c fits all =
-    record { ending = called (program_of s.policy b) b a s.maps (begun s.world b t c); ends = ends_as (program_of s.policy b) b a s.maps (begun s.world b t c) fits all; all = refl }
+    record { ending = called (program_of s.policy b) b a s.maps (begun s.world b t c); ends = ends_as (program_of s.policy b) b a s.maps (begun s.world b t c) fits all; answers = refl; all = refl }
 
 pub only_calls : RulesAllowCallbacksOnly
-unfolding call_back
-only_calls s b a t c r h = h.all ∙ ap (λ e. leaving s b a (begun s.world b t c) e) (only_ends (program_of s.policy b) b a s.maps (begun s.world b t c) h.ending h.ends)
+unfolding call_back answered_by
+only_calls s b a t c x r h =
+    let e = only_ends (program_of s.policy b) b a s.maps (begun s.world b t c) h.ending h.ends in
+    (h.answers ∙ ap (λ (k : Ending WorldState). k.answer) e, h.all ∙ ap (λ k. leaving s b a (begun s.world b t c) k) e)

@@ -4,43 +4,44 @@ use Rattle.std.proofs.lemmas.Bool.Decides.{nat_tests}
 use Rattle.std.proofs.lemmas.Bool.{cases_eq, cases_lt, eq-eqb, ne_eqb}
 use Rattle.scx_dsq.specs.Queues.{front_of}
 use Rattle.scx_verify.specs.Typing.{VerifiedProgram}
-use Rattle.scx_world.specs.declared.call.Insert as insert
+use Rattle.scx_world.specs.declared.call.Insert.{Insert}
 use Rattle.scx_world.specs.declared.notes.What.TheVariants as note
 use Rattle.scx_world.specs.Ids.{global, local_on}
 use Rattle.scx_world.specs.World.{said}
-use Rattle.scx_world.specs.Tasks.{local_len, entered, brought}
+use Rattle.scx_world.specs.Tasks.{local_len, brought}
 use Rattle.scx_machine.specs.Steps.{State, Stepped, with_world, stays, after, joined}
-use Rattle.scx_machine.specs.Put.{queue_for, slice_for, placed, put}
-use Rattle.scx_machine.specs.Cycle.{move_note, fill, dispatched, tries, leave, started_if, start, pick, rest, pick_or_rest, ask, cycle}
-use Rattle.scx_rules.specs.Cycles.{enqueue_called, dispatch_called, stopping_called, Enters, Default, Held, Inserted, Puts, Fills, Has_local, No_other, Moves, Dispatches, Asks, Enough, Came, Nothing_moved, Again, Leaves, Nobody, Stops, Starts, Empty, Front, Picks, Rests, Keeps, Idles, Was_idle, Ends, Picked, Rested, Cycles, Filled, Asked}
+use Rattle.scx_machine.specs.Put.{enters, wanted, put}
+use Rattle.scx_machine.specs.Cycle.{move_note, fill, dispatched, tries, leave, started_if, start, pick, rest, pick_or_rest, ask, seek, cycling, cycle}
+use Rattle.scx_rules.specs.Cycles.{entering, enqueue_called, dispatch_called, stopping_called, Enters, Default, Held, Inserted, Puts, Fills, Has_local, No_other, Moves, Dispatches, Asks, Enough, Came, Nothing_moved, Again, Leaves, Nobody, Stops, Starts, Empty, Front, Picks, Rests, Keeps, Idles, Was_idle, Ends, Picked, Rested, Seeks, Filled, Asked, Cycles}
 
 -- ---- put
 
-abbrev placed_as : State → ℕ → Option VerifiedProgram → Option insert.Insert → Stepped
-placed_as s t p i = record { state = with_world s (entered s.world t (queue_for p s.world.call.cpu i) (slice_for p i)); notes = said s.world (note.Insert t (queue_for p s.world.call.cpu i)) ∷ []; calls = [] }
+abbrev placed_as : State → ℕ → ℕ → Option VerifiedProgram → Option Insert → Stepped
+placed_as s t c p i = entering s t (wanted p c i)
 
-enters : (s : State) (t : ℕ) → Enters s t (placed s t)
-unfolding placed
-enters s t = go s.policy.callbacks.enqueue refl s.world.call.insert refl
+abbrev placed : State → ℕ → ℕ → Stepped
+placed s t c = placed_as s t c s.policy.callbacks.enqueue s.world.call.insert
+
+comes : (s : State) (t c : ℕ) → Enters s t c (placed s t c)
+comes s t c = go s.policy.callbacks.enqueue refl s.world.call.insert refl
   where
-    go : (p : Option VerifiedProgram) → s.policy.callbacks.enqueue ≡ p → (i : Option insert.Insert) → s.world.call.insert ≡ i → Enters s t (placed_as s t p i)
+    go : (p : Option VerifiedProgram) → s.policy.callbacks.enqueue ≡ p → (i : Option Insert) → s.world.call.insert ≡ i → Enters s t c (placed_as s t c p i)
     go None e i x = Default e refl
     go (Some p) e None x = Held p e x refl
     go (Some p) e (Some i) x = Inserted p i e x refl
 
-only_enters : (s : State) (t : ℕ) (r : Stepped) → Enters s t r → r ≡ placed s t
-unfolding placed
-only_enters s t r (Default e k) = k ∙ ap (λ p. placed_as s t p s.world.call.insert) (sym e)
-only_enters s t r (Held p e x k) = k ∙ ap (λ i. placed_as s t (Some p) i) (sym x) ∙ ap (λ q. placed_as s t q s.world.call.insert) (sym e)
-only_enters s t r (Inserted p i e x k) = k ∙ ap (λ j. placed_as s t (Some p) j) (sym x) ∙ ap (λ q. placed_as s t q s.world.call.insert) (sym e)
+only_comes : (s : State) (t c : ℕ) (r : Stepped) → Enters s t c r → r ≡ placed s t c
+only_comes s t c r (Default e k) = k ∙ ap (λ p. placed_as s t c p s.world.call.insert) (sym e)
+only_comes s t c r (Held p e x k) = k ∙ ap (λ i. placed_as s t c (Some p) i) (sym x) ∙ ap (λ q. placed_as s t c q s.world.call.insert) (sym e)
+only_comes s t c r (Inserted p i e x k) = k ∙ ap (λ j. placed_as s t c (Some p) j) (sym x) ∙ ap (λ q. placed_as s t c q s.world.call.insert) (sym e)
 
 pub puts : (s : State) (t c flags : ℕ) → Puts s t c flags (put s t c flags)
-unfolding put
-puts s t c flags = record { put = placed (enqueue_called s t c flags).state t; enters = enters (enqueue_called s t c flags).state t; all = refl }
+unfolding put enters
+puts s t c flags = record { put = placed (enqueue_called s t c flags).state t c; enters = comes (enqueue_called s t c flags).state t c; all = refl }
 
 pub only_puts : (s : State) (t c flags : ℕ) (r : Stepped) → Puts s t c flags r → r ≡ put s t c flags
-unfolding put
-only_puts s t c flags r h = h.all ∙ ap (λ x. joined (enqueue_called s t c flags) x) (only_enters (enqueue_called s t c flags).state t h.put h.enters)
+unfolding put enters
+only_puts s t c flags r h = h.all ∙ ap (λ x. joined (enqueue_called s t c flags) x) (only_comes (enqueue_called s t c flags).state t c h.put h.enters)
 
 -- ---- fill
 
@@ -140,14 +141,14 @@ ends s c p ran = go (cases_eq (local_len s.world c) 0)
     go (inl z) = rw (eq-eqb (local_len s.world c) 0 z) (Rested z (rests s c p ran))
     go (inr x) = rw (ne_eqb (local_len s.world c) 0 x) (Picked (omega (arith, x)) (picks s c p))
 
-pub cycles : (s : State) (c : ℕ) (p : Option ℕ) (ran : Bool) → Cycles s c p ran (cycle s c p ran)
-unfolding cycle ask
-cycles s c p ran = go (cases_eq (local_len f.state.world c) 0)
+seeks : (s : State) (c : ℕ) (p : Option ℕ) (ran : Bool) → Seeks s c p ran (seek s c p ran)
+unfolding seek ask
+seeks s c p ran = go (cases_eq (local_len f.state.world c) 0)
   where
     f : Stepped
     f = fill s global c
 
-    go : (local_len f.state.world c ≡ 0) ⊎ (local_len f.state.world c ≡ 0 → ⊥) → Cycles s c p ran (joined f (if not (local_len f.state.world c == 0) then pick f.state c p else ask f.state c p ran))
+    go : (local_len f.state.world c ≡ 0) ⊎ (local_len f.state.world c ≡ 0 → ⊥) → Seeks s c p ran (joined f (if not (local_len f.state.world c == 0) then pick f.state c p else ask f.state c p ran))
     go (inl z) = rw (eq-eqb (local_len f.state.world c) 0 z)
         (Asked f (tries 32 f.state c p) (pick_or_rest (tries 32 f.state c p).state c p ran) (fills s c) z (asks 32 f.state c p) (ends (tries 32 f.state c p).state c p ran) refl)
     go (inr x) = rw (ne_eqb (local_len f.state.world c) 0 x) (Filled f (pick f.state c p) (fills s c) (omega (arith, x)) (picks f.state c p) refl)
@@ -195,23 +196,31 @@ unfolding pick_or_rest
 only_ends s c p ran r (Picked l h) = rw (ne_eqb (local_len s.world c) 0 (λ e. omega (arith, e, l))) (only_picks s c p r h)
 only_ends s c p ran r (Rested z h) = rw (eq-eqb (local_len s.world c) 0 z) (only_rests s c p ran r h)
 
-cycle_picks : (s : State) (c : ℕ) (p : Option ℕ) (ran : Bool) → 0 < local_len (fill s global c).state.world c → cycle s c p ran ≡ joined (fill s global c) (pick (fill s global c).state c p)
-unfolding cycle
-cycle_picks s c p ran l = rw (ne_eqb (local_len (fill s global c).state.world c) 0 (λ e. omega (arith, e, l))) refl
+seek_picks : (s : State) (c : ℕ) (p : Option ℕ) (ran : Bool) → 0 < local_len (fill s global c).state.world c → seek s c p ran ≡ joined (fill s global c) (pick (fill s global c).state c p)
+unfolding seek
+seek_picks s c p ran l = rw (ne_eqb (local_len (fill s global c).state.world c) 0 (λ e. omega (arith, e, l))) refl
 
 -- the rest of a cycle, once dispatch is asked
 abbrev asked_from : Stepped → ℕ → Option ℕ → Bool → Stepped
 asked_from f c p ran = joined f (joined (tries 32 f.state c p) (pick_or_rest (tries 32 f.state c p).state c p ran))
 
-cycle_asks : (s : State) (c : ℕ) (p : Option ℕ) (ran : Bool) → local_len (fill s global c).state.world c ≡ 0 → cycle s c p ran ≡ asked_from (fill s global c) c p ran
-unfolding cycle ask
-cycle_asks s c p ran z = rw (eq-eqb (local_len (fill s global c).state.world c) 0 z) refl
+seek_asks : (s : State) (c : ℕ) (p : Option ℕ) (ran : Bool) → local_len (fill s global c).state.world c ≡ 0 → seek s c p ran ≡ asked_from (fill s global c) c p ran
+unfolding seek ask
+seek_asks s c p ran z = rw (eq-eqb (local_len (fill s global c).state.world c) 0 z) refl
 
-pub only_cycles : (s : State) (c : ℕ) (p : Option ℕ) (ran : Bool) (r : Stepped) → Cycles s c p ran r → r ≡ cycle s c p ran
-only_cycles s c p ran r (Filled f x h l y k) =
+only_seeks : (s : State) (c : ℕ) (p : Option ℕ) (ran : Bool) (r : Stepped) → Seeks s c p ran r → r ≡ seek s c p ran
+only_seeks s c p ran r (Filled f x h l y k) =
     let e = only_fills s c f h in
-    k ∙ ap (λ z. joined f z) (only_picks f.state c p x y) ∙ ap (λ (g : Stepped). joined g (pick g.state c p)) e ∙ sym (cycle_picks s c p ran (subst (λ (g : Stepped). 0 < local_len g.state.world c) e l))
-only_cycles s c p ran r (Asked f a x h z b y k) =
+    k ∙ ap (λ z. joined f z) (only_picks f.state c p x y) ∙ ap (λ (g : Stepped). joined g (pick g.state c p)) e ∙ sym (seek_picks s c p ran (subst (λ (g : Stepped). 0 < local_len g.state.world c) e l))
+only_seeks s c p ran r (Asked f a x h z b y k) =
     let e = only_fills s c f h in
     k ∙ ap (λ u. joined f (joined a u)) (only_ends a.state c p ran x y) ∙ ap (λ (u : Stepped). joined f (joined u (pick_or_rest u.state c p ran))) (only_asks 32 f.state c p a b)
-    ∙ ap (λ (g : Stepped). asked_from g c p ran) e ∙ sym (cycle_asks s c p ran (subst (λ (g : Stepped). local_len g.state.world c ≡ 0) e z))
+    ∙ ap (λ (g : Stepped). asked_from g c p ran) e ∙ sym (seek_asks s c p ran (subst (λ (g : Stepped). local_len g.state.world c ≡ 0) e z))
+
+pub cycles : (s : State) (c : ℕ) (p : Option ℕ) (ran : Bool) → Cycles s c p ran (cycle s c p ran)
+unfolding cycle
+cycles s c p ran = record { found = seek (cycling s (Some c)) c p ran; seeks = seeks (cycling s (Some c)) c p ran; all = refl }
+
+pub only_cycles : (s : State) (c : ℕ) (p : Option ℕ) (ran : Bool) (r : Stepped) → Cycles s c p ran r → r ≡ cycle s c p ran
+unfolding cycle
+only_cycles s c p ran r h = h.all ∙ ap (λ (x : Stepped). record { state = cycling x.state None; notes = x.notes; calls = x.calls }) (only_seeks (cycling s (Some c)) c p ran h.found h.seeks)

@@ -1,6 +1,6 @@
 -- What an event does is allowed, and nothing else is.
-use Rattle.std.proofs.Common.{◌≡◌, ℕ, ◌<◌, Bool, true, false, ◌⊎◌, inl, inr, if◌then◌else◌, [], ◌∷◌, Option, Some, None, refl, sym, ◌∙◌, ap, subst, arith, length, nat_lt, nat_le}
-use Rattle.std.proofs.lemmas.Bool.{cases_eq, eq-eqb, ne_eqb}
+use Rattle.std.proofs.Common.{◌≡◌, ℕ, ◌<◌, ◌≤◌, Bool, true, false, ◌⊎◌, inl, inr, if◌then◌else◌, [], ◌∷◌, Option, Some, None, refl, sym, ◌∙◌, ap, subst, arith, length, nat_lt, nat_le}
+use Rattle.std.proofs.lemmas.Bool.{cases_eq, cases_lt, eq-eqb, ne_eqb}
 use Rattle.std.proofs.lemmas.Bool.Decides.{nat_tests}
 use Rattle.scx_weights.specs.Hierarchy.{Hierarchy, with_weight}
 use Rattle.scx_weights.specs.Refusals.{weight_fault}
@@ -9,57 +9,105 @@ use Rattle.scx_world.specs.World.{with_tree, task_at, running, cpu_of, is_idle, 
 use Rattle.scx_world.specs.Tasks.{asleep, ticked, reweighed}
 use Rattle.scx_machine.specs.declared.events.Event.TheVariants.{Wake, Sleep, Tick, Clock, SetWeight}
 use Rattle.scx_machine.specs.Steps.{State, Stepped, with_world, after, joined}
-use Rattle.scx_machine.specs.Put.{put}
+use Rattle.scx_machine.specs.Put.{enters}
 use Rattle.scx_machine.specs.Cycle.{cycle}
 use Rattle.scx_machine.specs.declared.events.Refused.TheVariants.{UnknownGroup, BadWeight}
-use Rattle.scx_machine.specs.Events.{is_bad_weight, refusal, target, put_and_run, wake, sleep_from_cpu, sleep_from, sleep, count_down, tick_of, tick}
+use Rattle.scx_machine.specs.Events.{is_bad_weight, refusal, answered_cpu, target, settled, settle, select, wake, sleep_from_cpu, sleep_from, sleep, count_down, tick_of, tick}
 use Rattle.scx_rules.specs.Cycles.{noting, silent, stopping_called}
-use Rattle.scx_rules.specs.Events.{awake, Wakes, Idle_target, Busy_target, Sleeps, From_queue, From_cpu, Ticks, Nobody_runs, Runs_on, Runs_out}
+use Rattle.scx_verify.specs.Typing.{VerifiedProgram}
+use Rattle.scx_world.specs.declared.call.Insert.{Insert}
+use Rattle.scx_rules.specs.Events.{awake, select_called, select_answered, IsTarget, No_callback, Named, No_such_cpu, No_answer, Settles, Was_inserted, Is_put, Wakes, Idle_target, Busy_target, Sleeps, From_queue, From_cpu, Ticks, Nobody_runs, Runs_on, Runs_out}
 use Rattle.scx_rules.specs.Laws.{RulesAllowEvents, RulesAllowEventsOnly}
 use Rattle.scx_rules.proofs.Choosing.{is_choice, only_choice}
 use Rattle.scx_rules.proofs.Cycling.{puts, only_puts, cycles, only_cycles}
 
 -- ---- wake
 
-wakes : (s : State) (t : ℕ) → Wakes s t (wake s t)
-unfolding wake put_and_run
-wakes s t = go (is_idle x.state.world c) refl
+settles : (s : State) (t c : ℕ) → Settles s t c (settled s.world.call.insert s t c)
+unfolding enters
+settles s t c = go s.world.call.insert refl
   where
-    c : ℕ
-    c = target (awake s t) t
+    go : (o : Option Insert) → s.world.call.insert ≡ o → Settles s t c (settled o s t c)
+    go None e = Is_put e (puts s t c 1)
+    go (Some i) e = Was_inserted i e refl
 
-    x : Stepped
-    x = put (awake s t) t c 1
+only_settles : (s : State) (t c : ℕ) (r : Stepped) → Settles s t c r → r ≡ settled s.world.call.insert s t c
+unfolding enters
+only_settles s t c r (Is_put e h) = only_puts s t c 1 r h ∙ ap (λ (o : Option Insert). settled o s t c) (sym e)
+only_settles s t c r (Was_inserted i e k) = k ∙ ap (λ (o : Option Insert). settled o s t c) (sym e)
 
-    go : (b : Bool) → is_idle x.state.world c ≡ b → Wakes s t (after (said s.world (note.Wake t) ∷ []) (if b then joined x (cycle x.state c None false) else x))
-    go true e = Idle_target c x (cycle x.state c None false) (is_choice (awake s t).world t) (puts (awake s t) t c 1) e (cycles x.state c None false) refl
-    go false e = Busy_target c x (is_choice (awake s t).world t) (puts (awake s t) t c 1) e refl
+abbrev target_of : State → ℕ → Option ℕ → ℕ
+target_of s t a = target s.policy.callbacks.select_cpu s.world t a
+
+below : (k n : ℕ) → k < n → nat_lt k n ≡ true
+below k n l = grind (arith, nat_tests, l)
+
+past : (k n : ℕ) → n ≤ k → nat_lt k n ≡ false
+past k n l = grind (arith, nat_tests, l)
+
+is_target : (s : State) (t : ℕ) (a : Option ℕ) → IsTarget s t a (target_of s t a)
+is_target s t a = go s.policy.callbacks.select_cpu refl a refl
+  where
+    at : (p : VerifiedProgram) (n : ℕ) → s.policy.callbacks.select_cpu ≡ Some p → a ≡ Some n → (n < length s.world.cpus) ⊎ (length s.world.cpus ≤ n) → IsTarget s t a (answered_cpu s.world t (Some n))
+    at p n e x (inl l) = rw (below n (length s.world.cpus) l) (Named p e x l)
+    at p n e x (inr l) = rw (past n (length s.world.cpus) l) (No_such_cpu p n e x l (is_choice s.world t))
+
+    go : (p : Option VerifiedProgram) → s.policy.callbacks.select_cpu ≡ p → (o : Option ℕ) → a ≡ o → IsTarget s t a (target p s.world t o)
+    go None e o x = No_callback e (is_choice s.world t)
+    go (Some p) e None x = No_answer p e x (is_choice s.world t)
+    go (Some p) e (Some n) x = at p n e x (cases_lt n (length s.world.cpus))
+
+only_target : (s : State) (t : ℕ) (a : Option ℕ) (c : ℕ) → IsTarget s t a c → c ≡ target_of s t a
+only_target s t a c (No_callback e h) = rw e (only_choice s.world t c h)
+only_target s t a c (Named p e x l) = rw (e, x, below c (length s.world.cpus) l) refl
+only_target s t a c (No_such_cpu p n e x l h) = rw (e, x, past n (length s.world.cpus) l) (only_choice s.world t c h)
+only_target s t a c (No_answer p e x h) = rw (e, x) (only_choice s.world t c h)
 
 abbrev wake_note : State → ℕ → Stepped → Stepped
 wake_note s t r = after (said s.world (note.Wake t) ∷ []) r
 
-wake_idle : (s : State) (t : ℕ) (x : Stepped) → x ≡ put (awake s t) t (target (awake s t) t) 1 → is_idle x.state.world (target (awake s t) t) ≡ true
-    → wake s t ≡ wake_note s t (joined x (cycle x.state (target (awake s t) t) None false))
-unfolding wake put_and_run
-wake_idle s t x e idle = let i = subst (λ (y : Stepped). is_idle y.state.world (target (awake s t) t) ≡ true) e idle in
-    rw i (ap (λ (y : Stepped). wake_note s t (joined y (cycle y.state (target (awake s t) t) None false))) (sym e))
+abbrev chosen : State → ℕ → ℕ
+chosen s t = target_of (select_called (awake s t) t).state t (select_answered (awake s t) t)
 
-wake_busy : (s : State) (t : ℕ) (x : Stepped) → x ≡ put (awake s t) t (target (awake s t) t) 1 → is_idle x.state.world (target (awake s t) t) ≡ false → wake s t ≡ wake_note s t x
-unfolding wake put_and_run
-wake_busy s t x e idle = let i = subst (λ (y : Stepped). is_idle y.state.world (target (awake s t) t) ≡ false) e idle in rw i (ap (λ y. wake_note s t y) (sym e))
+wakes : (s : State) (t : ℕ) → Wakes s t (wake s t)
+unfolding wake select settle
+wakes s t = go (is_idle x.state.world c) refl
+  where
+    r : Stepped
+    r = select_called (awake s t) t
 
--- the same of any choice
-wake_idle_at : (s : State) (t c : ℕ) → c ≡ target (awake s t) t → (x : Stepped) → x ≡ put (awake s t) t c 1 → is_idle x.state.world c ≡ true → wake s t ≡ wake_note s t (joined x (cycle x.state c None false))
-wake_idle_at s t c e = subst (λ d. (x : Stepped) → x ≡ put (awake s t) t d 1 → is_idle x.state.world d ≡ true → wake s t ≡ wake_note s t (joined x (cycle x.state d None false))) (sym e) (wake_idle s t)
+    c : ℕ
+    c = chosen s t
 
-wake_busy_at : (s : State) (t c : ℕ) → c ≡ target (awake s t) t → (x : Stepped) → x ≡ put (awake s t) t c 1 → is_idle x.state.world c ≡ false → wake s t ≡ wake_note s t x
-wake_busy_at s t c e = subst (λ d. (x : Stepped) → x ≡ put (awake s t) t d 1 → is_idle x.state.world d ≡ false → wake s t ≡ wake_note s t x) (sym e) (wake_busy s t)
+    x : Stepped
+    x = settled r.state.world.call.insert r.state t c
+
+    go : (b : Bool) → is_idle x.state.world c ≡ b → Wakes s t (wake_note s t (joined r (if b then joined x (cycle x.state c None false) else x)))
+    go true e = Idle_target c x (cycle x.state c None false) (is_target r.state t (select_answered (awake s t) t)) (settles r.state t c) e (cycles x.state c None false) refl
+    go false e = Busy_target c x (is_target r.state t (select_answered (awake s t) t)) (settles r.state t c) e refl
+
+wake_is : (s : State) (t : ℕ) → wake s t ≡ wake_note s t (joined (select_called (awake s t) t) (settle (select_called (awake s t) t).state t (chosen s t)))
+unfolding wake select
+wake_is s t = refl
+
+settle_idle : (s : State) (t c : ℕ) (x : Stepped) → x ≡ settled s.world.call.insert s t c → is_idle x.state.world c ≡ true → settle s t c ≡ joined x (cycle x.state c None false)
+unfolding settle
+settle_idle s t c x e idle = let i = subst (λ (y : Stepped). is_idle y.state.world c ≡ true) e idle in rw i (ap (λ (y : Stepped). joined y (cycle y.state c None false)) (sym e))
+
+settle_busy : (s : State) (t c : ℕ) (x : Stepped) → x ≡ settled s.world.call.insert s t c → is_idle x.state.world c ≡ false → settle s t c ≡ x
+unfolding settle
+settle_busy s t c x e idle = let i = subst (λ (y : Stepped). is_idle y.state.world c ≡ false) e idle in rw i (sym e)
 
 only_wakes : (s : State) (t : ℕ) (r : Stepped) → Wakes s t r → r ≡ wake s t
-only_wakes s t r (Idle_target c x found ch h i y k) =
-    k ∙ ap (λ z. wake_note s t (joined x z)) (only_cycles x.state c None false found y)
-    ∙ sym (wake_idle_at s t c (only_choice (awake s t).world t c ch) x (only_puts (awake s t) t c 1 x h) i)
-only_wakes s t r (Busy_target c x ch h i k) = k ∙ sym (wake_busy_at s t c (only_choice (awake s t).world t c ch) x (only_puts (awake s t) t c 1 x h) i)
+only_wakes s t r (Idle_target c x found tg st i y k) =
+    let v = select_called (awake s t) t in
+    k ∙ ap (λ z. wake_note s t (joined v (joined x z))) (only_cycles x.state c None false found y)
+    ∙ ap (λ z. wake_note s t (joined v z)) (sym (settle_idle v.state t c x (only_settles v.state t c x st) i))
+    ∙ ap (λ d. wake_note s t (joined v (settle v.state t d))) (only_target v.state t (select_answered (awake s t) t) c tg) ∙ sym (wake_is s t)
+only_wakes s t r (Busy_target c x tg st i k) =
+    let v = select_called (awake s t) t in
+    k ∙ ap (λ z. wake_note s t (joined v z)) (sym (settle_busy v.state t c x (only_settles v.state t c x st) i))
+    ∙ ap (λ d. wake_note s t (joined v (settle v.state t d))) (only_target v.state t (select_answered (awake s t) t) c tg) ∙ sym (wake_is s t)
 
 -- ---- sleep
 

@@ -32,8 +32,9 @@ pub data EndsAs (program : Option VerifiedProgram) (b : Callback) (a : Arguments
 abbrev pub leaving : State → Callback → Arguments → WorldState → Ending WorldState → Stepped
 leaving s b a w e = record { state = ended s.policy e; notes = e.outside.notes; calls = calls_of (program_of s.policy b) a s.maps w }
 
--- with that task and processor at hand
-pub record CallsBack (s : State) (b : Callback) (a : Arguments) (t c : ℕ) (r : Stepped) : Type 0 where
+-- with that task and processor at hand, it answers so, if it comes to an answer
+pub record CallsBack (s : State) (b : Callback) (a : Arguments) (t c : ℕ) (answer : Option ℕ) (r : Stepped) : Type 0 where
   pub ending : Ending WorldState
   pub ends : EndsAs (program_of s.policy b) b a s.maps (begun s.world b t c) ending
+  pub answers : answer ≡ ending.answer
   pub all : r ≡ leaving s b a (begun s.world b t c) ending

@@ -7,15 +7,15 @@ use Rattle.scx_dsq.specs.Calls.{pushed, popped}
 use Rattle.scx_dsq.specs.declared.places.Rank.TheVariants.{Fifo}
 use Rattle.scx_semantics.specs.declared.callbacks.Callback.TheVariants as callback
 use Rattle.scx_verify.specs.Typing.{VerifiedProgram}
-use Rattle.scx_world.specs.declared.call.Insert as insert
+use Rattle.scx_world.specs.declared.call.Insert.{Insert}
 use Rattle.scx_world.specs.declared.notes.What.{What}
 use Rattle.scx_world.specs.declared.notes.What.TheVariants as note
-use Rattle.scx_world.specs.Ids.{global, held, local_on}
+use Rattle.scx_world.specs.Ids.{global, local_on}
 use Rattle.scx_world.specs.World.{WorldState, with_queues, said}
-use Rattle.scx_world.specs.Tasks.{local_len, entered, stopped, started_at, kept, default_slice}
+use Rattle.scx_world.specs.Tasks.{local_len, entered, for_cpu, to_held, to_global, stopped, started_at, kept}
 use Rattle.scx_machine.specs.Steps.{State, Stepped, with_world, stays, after, joined}
 use Rattle.scx_machine.specs.Callbacks.{call_back, one_task, task_and_number, cpu_and_task}
-use Rattle.scx_machine.specs.Put.{resolved}
+use Rattle.scx_machine.specs.Cycle.{cycling}
 
 -- to that world, with one note of it
 abbrev pub noting : State → WorldState → What → Stepped
@@ -43,19 +43,19 @@ running_called s c t = call_back (with_world s (started_at (Some t) s.world c)) 
 
 -- ---- put
 
-abbrev pub entering : State → ℕ → ℕ → ℕ → Stepped
-entering s t q slice = noting s (entered s.world t q slice) (note.Insert t q)
+abbrev pub entering : State → ℕ → Insert → Stepped
+entering s t i = noting s (entered s.world t i) (note.Insert t i.queue)
 
--- after enqueue the task comes to wait: where the callback said, held where it said nothing, and for any
+-- after enqueue the task comes to wait: where the callback said, LOCAL being of that processor, held where it said nothing, and for any
 -- processor where there is no such callback
-pub data Enters (s : State) (t : ℕ) (r : Stepped) : Type 0 where
-  Default : s.policy.callbacks.enqueue ≡ None → r ≡ entering s t global default_slice → Enters s t r
-  Held : (p : VerifiedProgram) → s.policy.callbacks.enqueue ≡ Some p → s.world.call.insert ≡ None → r ≡ entering s t held 0 → Enters s t r
-  Inserted : (p : VerifiedProgram) (i : insert.Insert) → s.policy.callbacks.enqueue ≡ Some p → s.world.call.insert ≡ Some i → r ≡ entering s t (resolved s.world.call.cpu i.queue) i.slice → Enters s t r
+pub data Enters (s : State) (t c : ℕ) (r : Stepped) : Type 0 where
+  Default : s.policy.callbacks.enqueue ≡ None → r ≡ entering s t to_global → Enters s t c r
+  Held : (p : VerifiedProgram) → s.policy.callbacks.enqueue ≡ Some p → s.world.call.insert ≡ None → r ≡ entering s t to_held → Enters s t c r
+  Inserted : (p : VerifiedProgram) (i : Insert) → s.policy.callbacks.enqueue ≡ Some p → s.world.call.insert ≡ Some i → r ≡ entering s t (for_cpu c i) → Enters s t c r
 
 pub record Puts (s : State) (t c flags : ℕ) (r : Stepped) : Type 0 where
   pub put : Stepped
-  pub enters : Enters (enqueue_called s t c flags).state t put
+  pub enters : Enters (enqueue_called s t c flags).state t c put
   pub all : r ≡ joined (enqueue_called s t c flags) put
 
 -- ---- fill
@@ -117,7 +117,13 @@ pub data Ends (s : State) (c : ℕ) (p : Option ℕ) (ran : Bool) (r : Stepped) 
   Rested : local_len s.world c ≡ 0 → Rests s c p ran r → Ends s c p ran r
 
 -- of a processor on which that task ran and may stay, or none
-pub data Cycles (s : State) (c : ℕ) (p : Option ℕ) (ran : Bool) (r : Stepped) : Type 0 where
-  Filled : (filled picked : Stepped) → Fills s c filled → 0 < local_len filled.state.world c → Picks filled.state c p picked → r ≡ joined filled picked → Cycles s c p ran r
+pub data Seeks (s : State) (c : ℕ) (p : Option ℕ) (ran : Bool) (r : Stepped) : Type 0 where
+  Filled : (filled picked : Stepped) → Fills s c filled → 0 < local_len filled.state.world c → Picks filled.state c p picked → r ≡ joined filled picked → Seeks s c p ran r
   Asked : (filled asked ended : Stepped) → Fills s c filled → local_len filled.state.world c ≡ 0 → Asks 32 filled.state c p asked → Ends asked.state c p ran ended
-      → r ≡ joined filled (joined asked ended) → Cycles s c p ran r
+      → r ≡ joined filled (joined asked ended) → Seeks s c p ran r
+
+-- a cycle is under way from the first step to the last
+pub record Cycles (s : State) (c : ℕ) (p : Option ℕ) (ran : Bool) (r : Stepped) : Type 0 where
+  pub found : Stepped
+  pub seeks : Seeks (cycling s (Some c)) c p ran found
+  pub all : r ≡ record { state = cycling found.state None; notes = found.notes; calls = found.calls }

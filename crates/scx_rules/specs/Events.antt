@@ -1,30 +1,50 @@
 -- What an accepted event does, by cases, over the steps of a cycle.
-use Rattle.std.specs.Prelude.{◌≡◌, ℕ, ◌<◌, true, false, [], ◌∷◌, Some, None}
+use Rattle.std.specs.Prelude.{◌≡◌, ℕ, ◌<◌, ◌≤◌, true, false, [], ◌∷◌, length, Option, Some, None}
 use Rattle.scx_weights.specs.Hierarchy.{with_weight}
+use Rattle.scx_semantics.specs.declared.callbacks.Callback.TheVariants as callback
+use Rattle.scx_verify.specs.Typing.{VerifiedProgram}
+use Rattle.scx_world.specs.declared.call.Insert.{Insert}
 use Rattle.scx_world.specs.declared.notes.What.TheVariants as note
-use Rattle.scx_world.specs.World.{WorldState, with_tree, task_at, running, cpu_of, is_idle, said}
-use Rattle.scx_world.specs.Tasks.{woken, asleep, gone, ticked, later}
+use Rattle.scx_world.specs.World.{with_tree, task_at, running, cpu_of, is_idle, said}
+use Rattle.scx_world.specs.Tasks.{for_cpu, woken, asleep, gone, ticked, later}
 use Rattle.scx_machine.specs.declared.events.Event.{Event}
 use Rattle.scx_machine.specs.declared.events.Event.TheVariants.{Wake, Sleep, Tick, Clock, SetWeight}
 use Rattle.scx_machine.specs.Steps.{State, Stepped, with_world, after, joined}
-use Rattle.scx_rules.specs.Cycles.{noting, silent, stopping_called, Puts, Cycles}
+use Rattle.scx_machine.specs.Callbacks.{call_back, answered_by, task_cpu_and_0}
+use Rattle.scx_rules.specs.Helpers.{IsChoice}
+use Rattle.scx_rules.specs.Cycles.{noting, silent, entering, stopping_called, Puts, Cycles}
 
 abbrev pub awake : State → ℕ → State
 awake s t = with_world s (woken s.world t)
 
--- the processor for which a task is put that wakes: where it ran last if that is idle, else the lowest
--- idle one, else where it ran last
-pub data IsChoice (w : WorldState) (t c : ℕ) : Type 0 where
-  Last_ran : is_idle w (task_at w t).prev_cpu ≡ true → c ≡ (task_at w t).prev_cpu → IsChoice w t c
-  Lowest : is_idle w (task_at w t).prev_cpu ≡ false → is_idle w c ≡ true → ((d : ℕ) → d < c → is_idle w d ≡ false) → IsChoice w t c
-  None_idle : ((d : ℕ) → is_idle w d ≡ false) → c ≡ (task_at w t).prev_cpu → IsChoice w t c
+-- once the task is runnable; it is given the processor on which it ran last
+abbrev pub select_called : State → ℕ → Stepped
+select_called s t = call_back s callback.SelectCpu (task_cpu_and_0 t (task_at s.world t).prev_cpu) t (task_at s.world t).prev_cpu
 
--- the task is runnable, and is put for its target, which looks for a task if it is idle
+abbrev pub select_answered : State → ℕ → Option ℕ
+select_answered s t = answered_by s callback.SelectCpu (task_cpu_and_0 t (task_at s.world t).prev_cpu) t (task_at s.world t).prev_cpu
+
+-- after select_cpu, which answered so: the processor that it names, if there is such a one, else the default
+-- choice
+pub data IsTarget (s : State) (t : ℕ) (answer : Option ℕ) (c : ℕ) : Type 0 where
+  No_callback : s.policy.callbacks.select_cpu ≡ None → IsChoice s.world t c → IsTarget s t answer c
+  Named : (p : VerifiedProgram) → s.policy.callbacks.select_cpu ≡ Some p → answer ≡ Some c → c < length s.world.cpus → IsTarget s t answer c
+  No_such_cpu : (p : VerifiedProgram) (n : ℕ) → s.policy.callbacks.select_cpu ≡ Some p → answer ≡ Some n → length s.world.cpus ≤ n → IsChoice s.world t c → IsTarget s t answer c
+  No_answer : (p : VerifiedProgram) → s.policy.callbacks.select_cpu ≡ Some p → answer ≡ None → IsChoice s.world t c → IsTarget s t answer c
+
+-- what select_cpu inserted is applied, LOCAL being of the target; else the task is put
+pub data Settles (s : State) (t c : ℕ) (r : Stepped) : Type 0 where
+  Was_inserted : (i : Insert) → s.world.call.insert ≡ Some i → r ≡ entering s t (for_cpu c i) → Settles s t c r
+  Is_put : s.world.call.insert ≡ None → Puts s t c 1 r → Settles s t c r
+
+-- the task is runnable, and comes to wait for its target, which looks for a task if it is idle
 pub data Wakes (s : State) (t : ℕ) (r : Stepped) : Type 0 where
-  Idle_target : (c : ℕ) (put found : Stepped) → IsChoice (awake s t).world t c → Puts (awake s t) t c 1 put → is_idle put.state.world c ≡ true → Cycles put.state c None false found
-      → r ≡ after (said s.world (note.Wake t) ∷ []) (joined put found) → Wakes s t r
-  Busy_target : (c : ℕ) (put : Stepped) → IsChoice (awake s t).world t c → Puts (awake s t) t c 1 put → is_idle put.state.world c ≡ false
-      → r ≡ after (said s.world (note.Wake t) ∷ []) put → Wakes s t r
+  Idle_target : (c : ℕ) (settled found : Stepped) → IsTarget (select_called (awake s t) t).state t (select_answered (awake s t) t) c → Settles (select_called (awake s t) t).state t c settled
+      → is_idle settled.state.world c ≡ true → Cycles settled.state c None false found
+      → r ≡ after (said s.world (note.Wake t) ∷ []) (joined (select_called (awake s t) t) (joined settled found)) → Wakes s t r
+  Busy_target : (c : ℕ) (settled : Stepped) → IsTarget (select_called (awake s t) t).state t (select_answered (awake s t) t) c → Settles (select_called (awake s t) t).state t c settled
+      → is_idle settled.state.world c ≡ false
+      → r ≡ after (said s.world (note.Wake t) ∷ []) (joined (select_called (awake s t) t) settled) → Wakes s t r
 
 -- the task leaves its queue, or its processor, which looks for another task
 pub data Sleeps (s : State) (t : ℕ) (r : Stepped) : Type 0 where

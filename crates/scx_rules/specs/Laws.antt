@@ -2,6 +2,7 @@
 use Rattle.std.specs.Prelude.{◌≡◌, ℕ, ℤ, Bool, true, List, Option, Some, None, Result}
 use Rattle.scx_semantics.specs.declared.callbacks.Callback.{Callback}
 use Rattle.scx_semantics.specs.declared.outside.Helper.{Helper}
+use Rattle.scx_semantics.specs.declared.outside.Helper.TheVariants.{MapLookupElem}
 use Rattle.scx_vm.specs.declared.arguments.Argument.{Argument}
 use Rattle.scx_vm.specs.declared.arguments.Answer.{Answer}
 use Rattle.scx_vm.specs.declared.arguments.Arguments.{Arguments}
@@ -12,20 +13,20 @@ use Rattle.scx_machine.specs.declared.events.Event.{Event}
 use Rattle.scx_machine.specs.declared.events.Refused.{Refused}
 use Rattle.scx_machine.specs.Steps.{State, Stepped}
 use Rattle.scx_machine.specs.Policy.{PolicyState, program_of, IsAs, AreAs}
-use Rattle.scx_machine.specs.Callbacks.{call_back, AreAnswered}
+use Rattle.scx_machine.specs.Callbacks.{call_back, answered_by, AreAnswered}
 use Rattle.scx_machine.specs.Cycle.{cycle}
 use Rattle.scx_machine.specs.Events.{refusal, happened}
 use Rattle.scx_machine.specs.Start.{is_bad_shape, started, start_calls}
-use Rattle.scx_rules.specs.Helpers.{IsEffect, IsOfWorld}
+use Rattle.scx_rules.specs.Helpers.{IsEffect}
 use Rattle.scx_rules.specs.Callbacks.{CallsBack}
 use Rattle.scx_rules.specs.Cycles.{Cycles}
 use Rattle.scx_rules.specs.Events.{Happens}
 use Rattle.scx_rules.specs.Refusals.{Refuses}
 use Rattle.scx_rules.specs.Starts.{HasBadShape, Begins}
 
--- what a helper answers and leaves
+-- what a helper answers and leaves; elements of maps are looked up by the run itself
 abbrev pub RulesAllowHelpers : Type 0
-RulesAllowHelpers = (w : WorldState) (h : Helper) (a : List Argument) → IsOfWorld h → IsEffect w h a (helper_answer w h a) (helper_after w h a)
+RulesAllowHelpers = (w : WorldState) (h : Helper) (a : List Argument) → ¬ (h ≡ MapLookupElem) → IsEffect w h a (helper_answer w h a) (helper_after w h a)
 
 abbrev pub RulesAllowHelpersOnly : Type 0
 RulesAllowHelpersOnly =
@@ -36,10 +37,11 @@ RulesAllowHelpersOnly =
 -- an event calls
 abbrev pub RulesAllowCallbacks : Type 0
 RulesAllowCallbacks =
-    (s : State) (b : Callback) (a : Arguments) (t c : ℕ) → IsAs b (program_of s.policy b) → AreAnswered (call_back s b a t c).calls → CallsBack s b a t c (call_back s b a t c)
+    (s : State) (b : Callback) (a : Arguments) (t c : ℕ) → IsAs b (program_of s.policy b) → AreAnswered (call_back s b a t c).calls → CallsBack s b a t c (answered_by s b a t c) (call_back s b a t c)
 
 abbrev pub RulesAllowCallbacksOnly : Type 0
-RulesAllowCallbacksOnly = (s : State) (b : Callback) (a : Arguments) (t c : ℕ) (r : Stepped) → CallsBack s b a t c r → r ≡ call_back s b a t c
+RulesAllowCallbacksOnly =
+    (s : State) (b : Callback) (a : Arguments) (t c : ℕ) (answer : Option ℕ) (r : Stepped) → CallsBack s b a t c answer r → (answer ≡ answered_by s b a t c) × (r ≡ call_back s b a t c)
 
 -- a cycle
 abbrev pub RulesAllowCycles : Type 0

@@ -1,11 +1,11 @@
 -- Where a task may enter a queue: each push that the machine makes is accepted.
-use Rattle.std.proofs.Common.{◌≡◌, ℕ, ◌<◌, ◌≤◌, Bool, true, false, ◌==◌, nat_lt, ◌⊎◌, inl, inr, cond, if◌then◌else◌, [], ◌∷◌, length, set, Option, Some, None, is_some, is_none, refl, subst, arith}
+use Rattle.std.proofs.Common.{◌≡◌, ℕ, ◌<◌, ◌≤◌, Bool, true, false, ◌==◌, ◌||◌, nat_lt, ◌⊎◌, inl, inr, cond, if◌then◌else◌, [], ◌∷◌, length, set, Option, Some, None, is_some, is_none, refl, sym, ap, subst, arith}
 use Rattle.std.specs.List.{list_any}
 use Rattle.std.proofs.lemmas.Bool.{cases_eq, cases_lt, eq-eqb, ne_eqb}
 use Rattle.std.proofs.lemmas.Bool.Decides.{nat_tests}
-use Rattle.std.proofs.lemmas.List.{get_or-set_same, get_or-set_other, set_past}
+use Rattle.std.proofs.lemmas.List.{get_or-set_same, get_or-set_other, get_or_past, set_past}
 use Rattle.std.proofs.lemmas.List.Elements.{All-from_get_or}
-use Rattle.std.proofs.lemmas.List.Folds.{list_any-append, list_any_none}
+use Rattle.std.proofs.lemmas.List.Folds.{list_any-append, list_any_at, list_any_none}
 use Rattle.scx_dsq.specs.Queues.{Places, place_at, QueueState, exists, place_of, front_of}
 use Rattle.scx_dsq.specs.Calls.{clashes, push_refusal, pushed, popped, removed, without, with_queue, created, create_refusal, with_task as with_place, without_task, next_place}
 use Rattle.scx_dsq.specs.Places.{same_sort}
@@ -17,8 +17,8 @@ use Rattle.scx_dsq.specs.Facts.{ids_pushed, ids_without, ids_removed}
 use Rattle.scx_world.specs.declared.call.Insert.{Insert}
 use Rattle.scx_world.specs.Ids.{global, held, builtin, local_on, policy_end}
 use Rattle.scx_world.specs.World.{WorldState, is_runnable}
-use Rattle.scx_machine.specs.Put.{resolved}
-use Rattle.scx_sched.specs.Once.{IsOnce, HasQueues, sort_of, fits_sort, IsSorted, GoesSomewhere}
+use Rattle.scx_world.specs.Tasks.{resolved}
+use Rattle.scx_sched.specs.Once.{IsOnce, HasQueues, sort_of, fits_queue, fits_sort, IsSorted, IsAlike, IsOpen, GoesSomewhere}
 
 pub keeps_if : {A : Type 0} (P : A → Type 0) (b : Bool) (x y : A) → P x → P y → P (cond b x y)
 keeps_if P true x y p q = p
@@ -41,30 +41,47 @@ nowhere w t once = go (place_of w.queues t) (omega (arith, once t, one_le (is_ru
     go None e = refl
     go (Some p) e = absurd (omega (arith, e))
 
-pub fits_set : (places : Places) (t : ℕ) (o : Option Place) → fits_sort o ≡ true → ((u : ℕ) → fits_sort (place_at places u) ≡ true) → (u : ℕ) → fits_sort (place_at (set places t o) u) ≡ true
-fits_set places t o new old u = go (cases_eq u t) (cases_lt t (length places))
+-- what each place passes, and a new one too, each place passes
+pub each_set : (f : Option Place → Bool) (b : Bool) (places : Places) (t : ℕ) (o : Option Place) → f o ≡ b → ((u : ℕ) → f (place_at places u) ≡ b) → (u : ℕ) → f (place_at (set places t o) u) ≡ b
+each_set f b places t o new old u = go (cases_eq u t) (cases_lt t (length places))
   where
-    go : (u ≡ t) ⊎ (u ≡ t → ⊥) → (t < length places) ⊎ (length places ≤ t) → fits_sort (place_at (set places t o) u) ≡ true
+    go : (u ≡ t) ⊎ (u ≡ t → ⊥) → (t < length places) ⊎ (length places ≤ t) → f (place_at (set places t o) u) ≡ b
     go (inl e) (inl within) = rw (e, get_or-set_same places t o None within) new
     go (inl e) (inr past) = rw (set_past places t o past) (old u)
     go (inr n) l = rw (get_or-set_other places t u o None n) (old u)
 
-pub sorted_pushed : (s : QueueState) (q t : ℕ) (r : Rank) → same_sort r (sort_of q) ≡ true → IsSorted s → IsSorted (pushed s q t r)
+pub sorted_pushed : (s : QueueState) (q t : ℕ) (r : Rank) → fits_queue q r ≡ true → IsSorted s → IsSorted (pushed s q t r)
 sorted_pushed s q t r fits sorted = go (is_none (push_refusal s q t r))
   where
     go : (b : Bool) → IsSorted (if b then with_place s q t r else s)
-    go true = fits_set s.places t (Some (next_place s q r)) fits sorted
+    go true = each_set fits_sort true s.places t (Some (next_place s q r)) fits sorted
     go false = sorted
 
 pub sorted_without : (s : QueueState) (o : Option ℕ) → IsSorted s → IsSorted (without s o)
 sorted_without s None sorted = sorted
-sorted_without s (Some t) sorted = fits_set s.places t None refl sorted
+sorted_without s (Some t) sorted = each_set fits_sort true s.places t None refl sorted
 
 pub sorted_popped : (s : QueueState) (q : ℕ) → IsSorted s → IsSorted (popped s q)
 sorted_popped s q sorted = sorted_without s (front_of s q) sorted
 
 pub sorted_removed : (s : QueueState) (t : ℕ) → IsSorted s → IsSorted (removed s t)
-sorted_removed s t sorted = keeps_if IsSorted (is_some (place_of s t)) (without_task s t) s (fits_set s.places t None refl sorted) sorted
+sorted_removed s t sorted = keeps_if IsSorted (is_some (place_of s t)) (without_task s t) s (each_set fits_sort true s.places t None refl sorted) sorted
+
+-- ---- who waits in a queue was put there in one way
+
+alike_pushed : (s : QueueState) (q t : ℕ) (r : Rank) (q' : ℕ) (r' : Rank) → clashes q r (Some (next_place s q' r')) ≡ false → IsAlike s q r → IsAlike (pushed s q' t r') q r
+alike_pushed s q t r q' r' new old =
+    keeps_if (λ (x : QueueState). IsAlike x q r) (is_none (push_refusal s q' t r')) (with_place s q' t r') s (each_set (clashes q r) false s.places t (Some (next_place s q' r')) new old) old
+
+alike_without : (s : QueueState) (o : Option ℕ) (q : ℕ) (r : Rank) → IsAlike s q r → IsAlike (without s o) q r
+alike_without s None q r old = old
+alike_without s (Some t) q r old = each_set (clashes q r) false s.places t None refl old
+
+alike_removed : (s : QueueState) (t q : ℕ) (r : Rank) → IsAlike s q r → IsAlike (removed s t) q r
+alike_removed s t q r old = keeps_if (λ (x : QueueState). IsAlike x q r) (is_some (place_of s t)) (without_task s t) s (each_set (clashes q r) false s.places t None refl old) old
+
+alike_created : (s : QueueState) (q' q : ℕ) (r : Rank) → IsAlike s q r → IsAlike (created s q') q r
+alike_created s q' q r old = keeps_if (λ (x : QueueState). IsAlike x q r) (is_none (create_refusal s q')) (with_queue s q') s old old
 
 pub one_sort : (a b c : Rank) → same_sort a b ≡ true → same_sort c b ≡ true → same_sort a c ≡ true
 one_sort Fifo Fifo Fifo e f = refl
@@ -74,19 +91,51 @@ one_sort (Vtime j) Fifo c e f = absurd (cc)
 one_sort (Vtime j) (Vtime k) Fifo e f = f
 one_sort (Vtime j) (Vtime k) (Vtime l) e f = refl
 
-pub no_clash : (s : QueueState) (q : ℕ) (r : Rank) → same_sort r (sort_of q) ≡ true → IsSorted s → list_any (clashes q r) s.places ≡ false
-no_clash s q r fits sorted = list_any_none (clashes q r) s.places (All-from_get_or (λ o. clashes q r o ≡ false) s.places None (λ i l. one (place_of s i) (sorted i)))
+low_or : (q : ℕ) (b : Bool) → policy_end ≤ q → (nat_lt q policy_end || b) ≡ true → b ≡ true
+low_or q b past e = let no : nat_lt q policy_end ≡ false = grind (arith, nat_tests, past) in subst (λ x. (x || b) ≡ true) no e
+
+-- the machine's own queues hold those of their own sort
+pub own_alike : (s : QueueState) (q : ℕ) (r : Rank) → policy_end ≤ q → same_sort r (sort_of q) ≡ true → IsSorted s → IsAlike s q r
+own_alike s q r past fits sorted t = one (place_of s t) (sorted t)
   where
     at : (p : Place) → fits_sort (Some p) ≡ true → (p.queue ≡ q) ⊎ (p.queue ≡ q → ⊥) → clashes q r (Some p) ≡ false
-    at p f (inl e) = let same : same_sort p.rank (sort_of q) ≡ true = subst (λ x. same_sort p.rank (sort_of x) ≡ true) e f in rw (eq-eqb p.queue q e, one_sort p.rank (sort_of q) r same fits) refl
+    at p f (inl e) =
+        let same : same_sort p.rank (sort_of q) ≡ true = low_or q (same_sort p.rank (sort_of q)) past (subst (λ x. fits_queue x p.rank ≡ true) e f) in
+        rw (eq-eqb p.queue q e, one_sort p.rank (sort_of q) r same fits) refl
     at p f (inr n) = rw (ne_eqb p.queue q n) refl
 
     one : (o : Option Place) → fits_sort o ≡ true → clashes q r o ≡ false
     one None f = refl
     one (Some p) f = at p f (cases_eq p.queue q)
 
-pub is_accepted : (s : QueueState) (t q : ℕ) (r : Rank) → place_of s t ≡ None → exists s q ≡ true → same_sort r (sort_of q) ≡ true → IsSorted s → push_refusal s q t r ≡ None
-is_accepted s t q r free there fits sorted = rw (there, free, no_clash s q r fits sorted) refl
+fits_own : (q : ℕ) (r : Rank) → same_sort r (sort_of q) ≡ true → fits_queue q r ≡ true
+fits_own q r e = go (nat_lt q policy_end)
+  where
+    go : (b : Bool) → (b || same_sort r (sort_of q)) ≡ true
+    go true = refl
+    go false = e
+
+pub own_open : (s : QueueState) (q : ℕ) (r : Rank) → exists s q ≡ true → policy_end ≤ q → same_sort r (sort_of q) ≡ true → IsSorted s → IsOpen s q r
+own_open s q r there past fits sorted = record { there = there; fits = fits_own q r fits; alike = own_alike s q r past fits sorted }
+
+no_clash : (s : QueueState) (q : ℕ) (r : Rank) → IsAlike s q r → list_any (clashes q r) s.places ≡ false
+no_clash s q r alike = list_any_none (clashes q r) s.places (All-from_get_or (λ o. clashes q r o ≡ false) s.places None (λ i l. alike i))
+
+-- who would clash is seen
+pub alike_from : (s : QueueState) (q : ℕ) (r : Rank) → list_any (clashes q r) s.places ≡ false → IsAlike s q r
+alike_from s q r none t = go (cases_lt t (length s.places)) (clashes q r (place_of s t)) refl
+  where
+    both : (b : Bool) → b ≡ true → b ≡ false → ⊥
+    both true x y = absurd (cc)
+    both false x y = absurd (cc)
+
+    go : (t < length s.places) ⊎ (length s.places ≤ t) → (b : Bool) → clashes q r (place_of s t) ≡ b → clashes q r (place_of s t) ≡ false
+    go (inl l) true e = absurd (both (list_any (clashes q r) s.places) (list_any_at (clashes q r) s.places t None l e) none)
+    go (inl l) false e = e
+    go (inr past) b e = ap (λ o. clashes q r o) (get_or_past {X = Option Place} s.places t None past)
+
+pub is_accepted : (s : QueueState) (t q : ℕ) (r : Rank) → place_of s t ≡ None → IsOpen s q r → push_refusal s q t r ≡ None
+is_accepted s t q r free ready = rw (ready.there, free, no_clash s q r ready.alike) refl
 
 -- ---- queues that are there stay
 
@@ -108,14 +157,48 @@ stay_created s q r h = keeps_if (λ x. exists x r ≡ true) (is_none (create_ref
 pub queues_stay : (s s' : QueueState) (n : ℕ) → Stay s s' → HasQueues s n → HasQueues s' n
 queues_stay s s' n stay h = record { global = stay global h.global; held = stay held h.held; builtin = stay builtin h.builtin; locals = λ c l. stay (local_on c) (h.locals c l) }
 
-pub goes_on : (s s' : QueueState) (c : ℕ) (o : Option Insert) → Stay s s' → GoesSomewhere s c o → GoesSomewhere s' c o
-goes_on s s' c None stay g = tt
-goes_on s s' c (Some i) stay g = (stay (resolved c i.queue) g.0, g.1)
+-- ---- what takes a task takes it still
+
+pub open_without : (s : QueueState) (o : Option ℕ) (q : ℕ) (r : Rank) → IsOpen s q r → IsOpen (without s o) q r
+open_without s o q r h = record { there = stay_without s o q h.there; fits = h.fits; alike = alike_without s o q r h.alike }
+
+pub open_removed : (s : QueueState) (t q : ℕ) (r : Rank) → IsOpen s q r → IsOpen (removed s t) q r
+open_removed s t q r h = record { there = stay_removed s t q h.there; fits = h.fits; alike = alike_removed s t q r h.alike }
+
+pub open_created : (s : QueueState) (q' q : ℕ) (r : Rank) → IsOpen s q r → IsOpen (created s q') q r
+open_created s q' q r h = record { there = stay_created s q' q h.there; fits = h.fits; alike = alike_created s q' q r h.alike }
+
+open_pushed : (s : QueueState) (q' t : ℕ) (r' : Rank) (q : ℕ) (r : Rank) → clashes q r (Some (next_place s q' r')) ≡ false → IsOpen s q r → IsOpen (pushed s q' t r') q r
+open_pushed s q' t r' q r new h = record { there = stay_pushed s q' t r' q h.there; fits = h.fits; alike = alike_pushed s q t r q' r' new h.alike }
+
+-- a push into one of the machine's own queues
+pub open_own : (s : QueueState) (q' t : ℕ) (r' : Rank) (q : ℕ) (r : Rank) → policy_end ≤ q' → same_sort r' (sort_of q') ≡ true → IsOpen s q r → IsOpen (pushed s q' t r') q r
+open_own s q' t r' q r past fits h = open_pushed s q' t r' q r (go (cases_eq q' q)) h
+  where
+    go : (q' ≡ q) ⊎ (q' ≡ q → ⊥) → clashes q r (Some (next_place s q' r')) ≡ false
+    go (inl e) =
+        let own : same_sort r (sort_of q') ≡ true = low_or q' (same_sort r (sort_of q')) past (subst (λ x. fits_queue x r ≡ true) (sym e) h.fits) in
+        rw (eq-eqb q' q e, one_sort r' (sort_of q') r fits own) refl
+    go (inr n) = rw (ne_eqb q' q n) refl
+
+same_itself : (r : Rank) → same_sort r r ≡ true
+same_itself Fifo = refl
+same_itself (Vtime k) = refl
+
+-- or one in the same way
+pub open_same : (s : QueueState) (q' t q : ℕ) (r : Rank) → IsOpen s q r → IsOpen (pushed s q' t r) q r
+open_same s q' t q r h = open_pushed s q' t r q r (go (cases_eq q' q)) h
+  where
+    go : (q' ≡ q) ⊎ (q' ≡ q → ⊥) → clashes q r (Some (next_place s q' r)) ≡ false
+    go (inl e) = rw (eq-eqb q' q e, same_itself r) refl
+    go (inr n) = rw (ne_eqb q' q n) refl
+
+pub goes_on : (s s' : QueueState) (n : ℕ) (o : Option Insert) → ((q : ℕ) (r : Rank) → IsOpen s q r → IsOpen s' q r) → GoesSomewhere s n o → GoesSomewhere s' n o
+goes_on s s' n None f g = tt
+goes_on s s' n (Some i) f g = λ c l. f (resolved c i.queue) i.rank (g c l)
 
 pub local_sort : (c : ℕ) → same_sort Fifo (sort_of (local_on c)) ≡ true
 local_sort c = let e : (local_on c == builtin) ≡ false = ne_eqb (local_on c) builtin (λ x. omega (arith, x)) in rw e refl
 
-pub policy_sort : (q : ℕ) → nat_lt q policy_end ≡ true → same_sort Fifo (sort_of q) ≡ true
-policy_sort q l =
-    let low : q < policy_end = grind (arith, nat_tests, l) in
-    let e : (q == builtin) ≡ false = ne_eqb q builtin (λ x. omega (arith, x, low)) in rw e refl
+pub low_fits : (q : ℕ) (r : Rank) → nat_lt q policy_end ≡ true → fits_queue q r ≡ true
+low_fits q r l = rw l refl

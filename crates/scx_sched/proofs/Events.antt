@@ -1,5 +1,5 @@
 -- Each event keeps what holds between two events.
-use Rattle.std.proofs.Common.{◌≡◌, ℕ, ◌+◌, ◌<◌, ◌≤◌, Bool, true, false, ◌&&◌, ◌==◌, nat_lt, ◌⊎◌, inl, inr, if◌then◌else◌, List, length, set, get_or, Option, Some, None, is_none, refl, sym, ap, subst, arith, position}
+use Rattle.std.proofs.Common.{◌≡◌, ℕ, zero, suc, not, ◌+◌, ◌<◌, ◌≤◌, Bool, true, false, ◌&&◌, ◌==◌, nat_lt, ◌⊎◌, inl, inr, if◌then◌else◌, List, length, set, get_or, Option, Some, None, is_none, refl, sym, ap, subst, arith, position}
 use Rattle.std.proofs.lemmas.Bool.{cases_lt, eq-eqb}
 use Rattle.std.proofs.lemmas.Bool.Decides.{nat_tests}
 use Rattle.std.proofs.lemmas.List.{length-set, get_or-set_same, get_or_past}
@@ -9,21 +9,21 @@ use Rattle.scx_dsq.specs.Laws.{one_if}
 use Rattle.scx_semantics.specs.declared.callbacks.Callback.TheVariants as callback
 use Rattle.scx_weights.specs.Hierarchy.{with_weight}
 use Rattle.scx_weights.specs.Refusals.{weight_fault}
-use Rattle.scx_world.specs.World.{WorldState, with_tree, task_at, is_this, is_runnable, running, cpu_of, is_idle, or_else, default_choice}
+use Rattle.scx_verify.specs.Typing.{VerifiedProgram}
+use Rattle.scx_world.specs.World.{WorldState, with_tree, task_at, is_this, is_runnable, running, cpu_of, is_idle, this_if, or_this, idle_below, first_idle, or_else, default_choice}
 use Rattle.scx_world.specs.Tasks.{woken, asleep, gone, stopped, ran_a_tick, ticked, later, reweighed}
 use Rattle.scx_machine.specs.declared.events.Event.{Event}
 use Rattle.scx_machine.specs.declared.events.Event.TheVariants.{Wake, Sleep, Tick, Clock, SetWeight}
 use Rattle.scx_machine.specs.declared.events.Refused.TheVariants.{AlreadyRunnable, NotRunnable, UnknownTask, UnknownCpu}
 use Rattle.scx_machine.specs.Steps.{State, Stepped, with_world, stays, joined}
-use Rattle.scx_machine.specs.Callbacks.{call_back, task_and_number}
-use Rattle.scx_machine.specs.Put.{put}
+use Rattle.scx_machine.specs.Callbacks.{call_back, answered_by, task_cpu_and_0, task_and_number}
 use Rattle.scx_machine.specs.Cycle.{cycle}
-use Rattle.scx_machine.specs.Events.{refusal, target, put_and_run, wake, sleep_from_cpu, sleep_from, sleep, count_down, tick_of, tick, happened}
+use Rattle.scx_machine.specs.Events.{refusal, target, settled, settle, select, wake, sleep_from_cpu, sleep_from, sleep, count_down, tick_of, tick, happened}
 use Rattle.scx_sched.specs.Once.{runs, IsSound}
 use Rattle.scx_sched.specs.Ranges.{IsFine}
 use Rattle.scx_sched.proofs.Entering.{keeps_if}
 use Rattle.scx_sched.proofs.Sound.{sound_woken, sound_gone, sound_ticked, sound_later, sound_with_weight}
-use Rattle.scx_sched.proofs.Skeleton.{keeps_call_back, keeps_put, keeps_cycle}
+use Rattle.scx_sched.proofs.Skeleton.{keeps_call_back, keeps_settled, keeps_cycle}
 use Rattle.scx_sched.proofs.Fine.{range_task, fine_of, fine_steps}
 
 -- with nobody at hand
@@ -35,44 +35,82 @@ module _ (n e : ℕ) where
   now : (w : WorldState) → (on : List (Option ℕ)) × IsFine n e None on w → IsFineNow n e w
   now w (on, h) = subst (λ xs. IsFine n e None xs w) (sym h.sound.cpus) h
 
-  choice_is_there : (w : WorldState) (t : ℕ) → (task_at w t).prev_cpu < length w.cpus → default_choice w t < length w.cpus
-  choice_is_there w t home = go (is_idle w (task_at w t).prev_cpu) (position is_none w.cpus) refl
+  idle_is_there : (m : ℕ) (w : WorldState) (c : ℕ) → idle_below m w ≡ Some c → c < m
+  idle_is_there zero w c e = absurd (cc)
+  idle_is_there (suc m) w c e = go (idle_below m w) (λ x. idle_is_there m w c x) (is_idle w m) e
     where
-      go : (b : Bool) (o : Option ℕ) → position is_none w.cpus ≡ o → (if b then (task_at w t).prev_cpu else or_else o (task_at w t).prev_cpu) < length w.cpus
+      go : (o : Option ℕ) → (o ≡ Some c → c < m) → (b : Bool) → or_this o (this_if b m) ≡ Some c → c < suc m
+      go (Some d) f b x = omega (arith, f x)
+      go None f true x = let is : m ≡ c = ap (λ o. or_else o m) x in omega (arith, is)
+      go None f false x = absurd (cc)
+
+  choice_is_there : (w : WorldState) (t : ℕ) → (task_at w t).prev_cpu < length w.cpus → default_choice w t < length w.cpus
+  choice_is_there w t home = go (is_idle w (task_at w t).prev_cpu) (first_idle w) refl
+    where
+      go : (b : Bool) (o : Option ℕ) → first_idle w ≡ o → (if b then (task_at w t).prev_cpu else or_else o (task_at w t).prev_cpu) < length w.cpus
       go true o e = home
       go false None e = home
-      go false (Some c) e = (position-Some is_none w.cpus c None e).0
+      go false (Some c) e = idle_is_there (length w.cpus) w c e
+
+  target_is_there : (p : Option VerifiedProgram) (w : WorldState) (t : ℕ) (a : Option ℕ) → (task_at w t).prev_cpu < length w.cpus → target p w t a < length w.cpus
+  target_is_there None w t a home = choice_is_there w t home
+  target_is_there (Some p) w t None home = choice_is_there w t home
+  target_is_there (Some p) w t (Some c) home = go (nat_lt c (length w.cpus)) refl
+    where
+      go : (b : Bool) → nat_lt c (length w.cpus) ≡ b → (if b then c else default_choice w t) < length w.cpus
+      go true x = grind (arith, nat_tests, x)
+      go false x = choice_is_there w t home
 
   idle_is_free : (w : WorldState) (c : ℕ) → is_idle w c ≡ true → get_or w.cpus c None ≡ None
-  idle_is_free w c e = go (nat_lt c (length w.cpus)) (get_or w.cpus c None) e
+  idle_is_free w c e = go (nat_lt c (length w.cpus)) (get_or w.cpus c None) (not (is_this c w.cycling)) e
     where
-      go : (b : Bool) (o : Option ℕ) → (b && is_none o) ≡ true → o ≡ None
-      go true None e = refl
-      go true (Some t) e = absurd (cc)
-      go false o e = absurd (cc)
+      go : (b : Bool) (o : Option ℕ) (d : Bool) → (b && (is_none o && d)) ≡ true → o ≡ None
+      go true None d e = refl
+      go true (Some t) d e = absurd (cc)
+      go false o d e = absurd (cc)
 
   -- ---- wake
 
-  fine_put_and_run : (on : List (Option ℕ)) (s : State) (t c : ℕ) → t < n → c < length on → IsFine n e (Some t) on s.world → IsFineNow n e (put_and_run s t c).state.world
-  unfolding put_and_run
-  fine_put_and_run on s t c within l h = go (is_idle r.state.world c) refl
+  fine_settle : (on : List (Option ℕ)) (s : State) (t c : ℕ) → t < n → c < length on → IsFine n e (Some t) on s.world → IsFineNow n e (settle s t c).state.world
+  unfolding settle
+  fine_settle on s t c within l h = go (is_idle r.state.world c) refl
     where
       r : Stepped
-      r = put s t c 1
+      r = settled s.world.call.insert s t c
 
       put_now : IsFine n e None on r.state.world
-      put_now = keeps_put n (IsFine n e) (fine_steps n e) on s t c 1 within l h
+      put_now = keeps_settled n (IsFine n e) (fine_steps n e) on s.world.call.insert s t c refl within l h
 
       go : (b : Bool) → is_idle r.state.world c ≡ b → IsFineNow n e (if b then joined r (cycle r.state c None false) else r).state.world
       go true idle = now _ (keeps_cycle n (IsFine n e) (fine_steps n e) on r.state c None false l tt (subst (λ (xs : List (Option ℕ)). get_or xs c None ≡ None) put_now.sound.cpus (idle_is_free r.state.world c idle)) put_now)
       go false idle = now r.state.world (on, put_now)
+
+  fine_select : (on : List (Option ℕ)) (s : State) (t : ℕ) → t < n → IsFine n e (Some t) on s.world → IsFineNow n e (select s t).state.world
+  unfolding select
+  fine_select on s t within h = fine_settle on r.state t (target r.state.policy.callbacks.select_cpu r.state.world t a) within l x
+    where
+      c : ℕ
+      c = (task_at s.world t).prev_cpu
+
+      r : Stepped
+      r = call_back s callback.SelectCpu (task_cpu_and_0 t c) t c
+
+      a : Option ℕ
+      a = answered_by s callback.SelectCpu (task_cpu_and_0 t c) t c
+
+      x : IsFine n e (Some t) on r.state.world
+      x = keeps_call_back n (IsFine n e) (fine_steps n e) (Some t) on s callback.SelectCpu (task_cpu_and_0 t c) t c (h.sound.homes t) h
+
+      l : target r.state.policy.callbacks.select_cpu r.state.world t a < length on
+      l = subst (λ (xs : List (Option ℕ)). target r.state.policy.callbacks.select_cpu r.state.world t a < length xs) x.sound.cpus
+          (target_is_there r.state.policy.callbacks.select_cpu r.state.world t a (rw x.sound.cpus (x.sound.homes t)))
 
   fine_wake : (s : State) (t : ℕ) → t < n → is_runnable s.world t ≡ false → IsFineNow n e s.world → IsFineNow n e (wake s t).state.world
   unfolding wake
   fine_wake s t within resting h =
       let w = with_world s (woken s.world t) in
       let woke : IsSound (Some t) s.world.cpus n w.world = sound_woken s.world.cpus n s.world t within resting h.sound in
-      fine_put_and_run s.world.cpus w t (target w t) within (choice_is_there w.world t (woke.homes t)) (fine_of n e (Some t) s.world.cpus w.world woke (range_task e s.world t _ (h.runs t) (h.clock, h.runs)))
+      fine_select s.world.cpus w t within (fine_of n e (Some t) s.world.cpus w.world woke (range_task e s.world t _ (h.runs t) (h.clock, h.runs)))
 
   -- ---- sleep
 

@@ -1,9 +1,11 @@
 -- What holds between two events is kept by each small step of a world.
-use Rattle.std.proofs.Common.{◌≡◌, ℕ, ◌*◌, ◌<◌, ◌≤◌, ◌⊎◌, inl, inr, nat_lt, ◌==◌, List, length, set, get_or, map, Option, Some, None, refl}
+use Rattle.std.proofs.Common.{◌≡◌, ℕ, ◌*◌, ◌<◌, ◌≤◌, ◌⊎◌, inl, inr, nat_lt, ◌==◌, List, length, set, get_or, map, Option, Some, None, refl, ◌∙◌}
 use Rattle.std.proofs.lemmas.Bool.{cases_eq, cases_lt}
 use Rattle.std.proofs.lemmas.List.{get_or-set_same, get_or-set_other, set_past}
 use Rattle.scx_dsq.specs.Queues.{front_of}
 use Rattle.scx_dsq.specs.Calls.{created}
+use Rattle.scx_dsq.specs.declared.places.Rank.{Rank}
+use Rattle.scx_dsq.specs.declared.places.Rank.TheVariants.{Fifo, Vtime}
 use Rattle.scx_semantics.specs.declared.outside.Field.{Field}
 use Rattle.scx_semantics.specs.declared.outside.Field.TheVariants.{Pid, Weight, Slice, DsqVtime, PrevCpu, Group, RunNs}
 use Rattle.scx_semantics.specs.declared.outside.Helper.{Helper}
@@ -13,17 +15,17 @@ use Rattle.scx_vm.specs.Arguments.{argument_of}
 use Rattle.scx_vm.specs.Host.{after_query}
 use Rattle.scx_vm.specs.declared.arguments.Argument.{Argument}
 use Rattle.scx_world.specs.declared.task.Task.{Task}
+use Rattle.scx_world.specs.declared.call.Insert.{Insert}
 use Rattle.scx_world.specs.declared.faults.Fault.{Fault}
-use Rattle.scx_world.specs.declared.faults.Fault.TheVariants.{NoSuchQueue, CannotCreate}
+use Rattle.scx_world.specs.declared.faults.Fault.TheVariants.{NoSuchQueue, NoSuchCpu, CannotCreate}
 use Rattle.scx_world.specs.World.{WorldState, with_queues, with_task, task_at, no_task}
-use Rattle.scx_world.specs.Tasks.{given_slice, entered, brought, fill_front, renewed}
-use Rattle.scx_world.specs.Helpers.{is_there, can_create, faulted, insert_fault, inserted, can_move, moved, given_number, given_task, helper_after, stored_in, world_stored}
-use Rattle.scx_machine.specs.Put.{queue_for, slice_for}
+use Rattle.scx_world.specs.Tasks.{given_slice, given_vtime, given, gone, entered, for_cpu, brought, fill_front, renewed}
+use Rattle.scx_world.specs.Helpers.{is_there, can_create, faulted, is_dispatch, insert_fault, with_insert, released, inserted, asked, asked_by_vtime, can_move, moved, given_number, given_task, helper_after, stored_in, world_stored}
 use Rattle.scx_sched.specs.Once.{IsSound}
 use Rattle.scx_sched.specs.Ranges.{IsFine}
 use Rattle.scx_sched.specs.Kept.{IsKeptBySteps}
 use Rattle.scx_sched.proofs.Entering.{keeps_if}
-use Rattle.scx_sched.proofs.Sound.{sound_query, sound_begun, sound_quiet, sound_placed, sound_filled, sound_stopped, sound_started, sound_kept, sound_asleep}
+use Rattle.scx_sched.proofs.Sound.{sound_query, sound_begun, sound_quiet, sound_cycling, sound_entered, sound_filled, sound_stopped, sound_started, sound_kept, sound_asleep}
 
 -- the clock and run times are in range
 abbrev pub IsRange : ℕ → WorldState → Type 0
@@ -60,9 +62,23 @@ module _ (e : ℕ) where
   stored_run x Group k = refl
   stored_run x RunNs k = refl
 
-  range_inserted : (w : WorldState) (o : Option Fault) (q k : ℕ) → IsRange e w → IsRange e (inserted w o q k)
-  range_inserted w None q k r = r
-  range_inserted w (Some f) q k r = r
+  given_run : (x : Task) (i : Insert) → (given x i).run_ns ≡ x.run_ns
+  given_run x i = vtime i.rank ∙ keeps_if (λ (y : Task). y.run_ns ≡ x.run_ns) (i.slice == 0) x _ refl refl
+    where
+      vtime : (r : Rank) → (given_vtime (given_slice x i.slice) r).run_ns ≡ (given_slice x i.slice).run_ns
+      vtime Fifo = refl
+      vtime (Vtime k) = refl
+
+  range_entered : (w : WorldState) (t : ℕ) (i : Insert) → IsRange e w → IsRange e (entered w t i)
+  range_entered w t i r = keeps_if (IsRange e) (nat_lt t (length w.tasks)) _ w (range_same w t (given (task_at w t) i) (given_run (task_at w t) i) r) r
+
+  range_released : (w : WorldState) (t : Option ℕ) (i : Insert) → IsRange e w → IsRange e (released w t i)
+  range_released w None i r = r
+  range_released w (Some t) i r = let x = range_entered (gone w t) t i r in (x.0, x.1)
+
+  range_inserted : (w : WorldState) (o : Option Fault) (t : Option ℕ) (i : Insert) → IsRange e w → IsRange e (inserted w o t i)
+  range_inserted w None t i r = keeps_if (IsRange e) (is_dispatch w.call.callback) (released w t (for_cpu w.call.cpu i)) (with_insert w i) (range_released w t (for_cpu w.call.cpu i) r) r
+  range_inserted w (Some f) t i r = r
 
   range_moved : (w : WorldState) (o : Option ℕ) (q : ℕ) → IsRange e w → IsRange e (moved w o q)
   range_moved w None q r = r
@@ -74,14 +90,14 @@ module _ (e : ℕ) where
 
   range_helper : (w : WorldState) (f : Helper) (a : List Argument) → IsRange e w → IsRange e (helper_after w f a)
   range_helper w CreateDsq a r = keeps_if (IsRange e) (can_create w (given_number a 0)) (with_queues w (created w.queues (given_number a 0))) (faulted w CannotCreate) r r
-  range_helper w DsqInsert a r = range_inserted w (insert_fault w (given_task a 0) (given_number a 1) (given_number a 3)) (given_number a 1) (given_number a 2) r
+  range_helper w DsqInsert a r = range_inserted w (insert_fault w (given_task a 0) (asked a) (given_number a 3)) (given_task a 0) (asked a) r
+  range_helper w DsqInsertVtime a r = range_inserted w (insert_fault w (given_task a 0) (asked_by_vtime a) (given_number a 4)) (given_task a 0) (asked_by_vtime a) r
   range_helper w DsqMoveToLocal a r = keeps_if (IsRange e) (can_move w (given_number a 0)) (moved w (front_of w.queues (given_number a 0)) (given_number a 0)) (faulted w NoSuchQueue) (range_moved w (front_of w.queues (given_number a 0)) (given_number a 0) r) r
+  range_helper w CpuIdle a r = keeps_if (IsRange e) (nat_lt (given_number a 0) (length w.cpus)) w (faulted w NoSuchCpu) r r
   range_helper w DsqNrQueued a r = keeps_if (IsRange e) (is_there w (given_number a 0)) w (faulted w NoSuchQueue) r r
   range_helper w KtimeGetNs a r = r
   range_helper w MapLookupElem a r = r
-  range_helper w DsqInsertVtime a r = r
   range_helper w SelectCpuDfl a r = r
-  range_helper w CpuIdle a r = r
   range_helper w TaskByPid a r = r
 
   range_query : (w : WorldState) (q : Query) → IsRange e w → IsRange e (after_query helper_after world_stored w q)
@@ -89,21 +105,16 @@ module _ (e : ℕ) where
   range_query w (Load t f) r = r
   range_query w (Store t f k) r = range_same w t.0 (stored_in (task_at w t.0) f k) (stored_run (task_at w t.0) f k) r
 
-  slice_run : (x : Task) (k : ℕ) → (given_slice x k).run_ns ≡ x.run_ns
-  slice_run x k = keeps_if (λ (y : Task). y.run_ns ≡ x.run_ns) (k == 0) x _ refl refl
-
   renewed_run : (x : Task) → (renewed x).run_ns ≡ x.run_ns
   renewed_run x = keeps_if (λ (y : Task). y.run_ns ≡ x.run_ns) (x.slice == 0) _ x refl refl
-
-  range_entered : (w : WorldState) (t q k : ℕ) → IsRange e w → IsRange e (entered w t q k)
-  range_entered w t q k r = keeps_if (IsRange e) (nat_lt t (length w.tasks)) _ w (range_same w t (given_slice (task_at w t) k) (slice_run (task_at w t) k) r) r
 
 pub fine_steps : (n e : ℕ) → IsKeptBySteps n (IsFine n e)
 fine_steps n e = record {
   query = λ hand on w q h. fine_of n e hand on _ (sound_query hand on n w q h.sound) (range_query e w q (range_of n e hand on w h));
   begun = λ hand on w b t c l h. fine_of n e hand on _ (sound_begun hand on n w b t c l h.sound) (h.clock, h.runs);
   quiet = λ hand on w h. fine_of n e hand on _ (sound_quiet hand on n w h.sound) (h.clock, h.runs);
-  entered = λ on w p t l h. fine_of n e None on _ (sound_placed on n w p t l h.sound) (range_entered e w t (queue_for p w.call.cpu w.call.insert) (slice_for p w.call.insert) (h.clock, h.runs));
+  cycling = λ hand on w o h. fine_of n e hand on _ (sound_cycling hand on n w o h.sound) (h.clock, h.runs);
+  entered = λ on w t i l x h. fine_of n e None on _ (sound_entered on n w t i l x h.sound) (range_entered e w t i (h.clock, h.runs));
   filled = λ on w q c l h. fine_of n e None on _ (sound_filled on n w q c l h.sound) (range_brought e (fill_front w q c) w q c (h.clock, h.runs));
   stopped = λ on w c t l within runs h. fine_of n e (Some t) (set on c None) _ (sound_stopped on n w c t l within runs h.sound) (range_same e w t _ refl (h.clock, h.runs));
   started = λ on w c t l free front h. fine_of n e None (set on c (Some t)) _ (sound_started on n w c t l free front h.sound) (range_same e w t _ refl (h.clock, h.runs));

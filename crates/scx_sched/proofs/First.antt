@@ -172,6 +172,7 @@ first_is_fine tree cpus shape flags = record {
     once = λ t. rw (nobody_runs cpus t, nowhere cpus (length tree.homes) t, sleeps t (cases_lt t (length tree.homes))) refl;
     here = rw (length-replicate {A = Option ℕ} cpus None) shape.some;
     goes = tt;
+    at_once = λ e. refl;
   };
   clock = omega arith;
   runs = λ t. rw (never_ran (length tree.homes) t) (omega arith);

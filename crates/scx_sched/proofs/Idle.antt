@@ -1,5 +1,5 @@
 -- After a tick that leaves a processor idle, no task is left behind for it.
-use Rattle.std.proofs.Common.{◌≡◌, ℕ, zero, suc, ◌+◌, ◌<◌, Bool, true, false, ◌==◌, ◌&&◌, not, nat_lt, if◌then◌else◌, List, length, set, get_or, Option, Some, None, is_none, refl, sym, ◌∙◌, arith}
+use Rattle.std.proofs.Common.{◌≡◌, ℕ, zero, suc, ◌+◌, ◌<◌, Bool, true, false, ◌==◌, ◌&&◌, not, nat_lt, if◌then◌else◌, List, length, set, get_or, Option, Some, None, is_none, refl, sym, ap, ◌∙◌, arith}
 use Rattle.std.proofs.lemmas.Bool.{eq-eqb}
 use Rattle.std.proofs.lemmas.Bool.Decides.{nat_tests}
 use Rattle.std.proofs.lemmas.List.{length-set, get_or-set_same}
@@ -11,11 +11,11 @@ use Rattle.scx_dsq.specs.Laws.{one_if}
 use Rattle.scx_dsq.specs.Facts.{free_from, front_is_known, tasks_without}
 use Rattle.scx_semantics.specs.declared.callbacks.Callback.TheVariants as callback
 use Rattle.scx_world.specs.Ids.{global, local_on}
-use Rattle.scx_world.specs.World.{WorldState, task_at, running, is_idle}
+use Rattle.scx_world.specs.World.{WorldState, task_at, running}
 use Rattle.scx_world.specs.Tasks.{local_len, brought, started_at, ticked}
 use Rattle.scx_machine.specs.Steps.{State, Stepped, with_world, stays, joined}
 use Rattle.scx_machine.specs.Callbacks.{call_back, one_task, cpu_and_task}
-use Rattle.scx_machine.specs.Cycle.{has_local, fill, dispatched, asks_again, tries, leave, started_if, start as run_front, pick, rest, pick_or_rest, ask, cycle}
+use Rattle.scx_machine.specs.Cycle.{has_local, fill, dispatched, asks_again, tries, leave, started_if, start as run_front, pick, rest, pick_or_rest, ask, seek, cycling, cycle}
 use Rattle.scx_machine.specs.declared.events.Event.{Event}
 use Rattle.scx_machine.specs.declared.events.Event.TheVariants.{Wake, Sleep, Tick, Clock, SetWeight}
 use Rattle.scx_machine.specs.declared.events.Refused.TheVariants.{UnknownCpu}
@@ -23,7 +23,7 @@ use Rattle.scx_machine.specs.Events.{count_down, tick_of, tick, happened}
 use Rattle.scx_sched.specs.Ranges.{IsFine}
 use Rattle.scx_sched.specs.Left.{LeavesNothing, LeavesNothingIdle}
 use Rattle.scx_sched.specs.Sim.{refusal, IsValid}
-use Rattle.scx_sched.proofs.Entering.{keeps_if, is_accepted, sorted_popped, stay_without, local_sort}
+use Rattle.scx_sched.proofs.Entering.{keeps_if, own_open, is_accepted, sorted_popped, stay_without, local_sort}
 use Rattle.scx_sched.proofs.Sound.{left_place}
 use Rattle.scx_sched.proofs.Skeleton.{IsKnown, keeps_call_back, keeps_fill, keeps_dispatched, keeps_tries, keeps_leave}
 use Rattle.scx_sched.proofs.Fine.{fine_steps}
@@ -83,7 +83,7 @@ module _ (n e : ℕ) (c : ℕ) where
           let s' = popped w.queues q in
           let known : t < task_count s' = rw (tasks_without w.queues (front_of w.queues q)) (front_is_known w.queues q (Some t) (sym f)) in
           let there = stay_without w.queues (front_of w.queues q) (local_on c) (h.sound.queues.locals c l) in
-          let ok = is_accepted s' t (local_on c) Fifo (left_place w.queues q t f) there (local_sort c) (sorted_popped w.queues q h.sound.sorted) in
+          let ok = is_accepted s' t (local_on c) Fifo (left_place w.queues q t f) (own_open s' (local_on c) Fifo there (omega arith) (local_sort c) (sorted_popped w.queues q h.sound.sorted)) in
           absurd (omega (arith, empty, len_entered s' (local_on c) t Fifo known ok))
 
   dispatched_leaves : (on : List (Option ℕ)) (s : State) (p : Option ℕ) → c < length on → IsFine n e None on s.world → LeavesGlobal c (dispatched s c p).state.world
@@ -122,9 +122,9 @@ module _ (n e : ℕ) (c : ℕ) where
       go true x = busy c (pick s c p).state.world (pick_busy on s p l known runs h (some_local (local_len s.world c) (local_len s.world c == 0) refl x))
       go false x = rest_leaves s p ran (no_local (local_len s.world c) (local_len s.world c == 0) refl x) g
 
-  cycle_leaves : (on : List (Option ℕ)) (s : State) (p : Option ℕ) (ran : Bool) → c < length on → IsKnown n p → get_or on c None ≡ p → IsFine n e None on s.world → LeavesIfIdle c (cycle s c p ran).state.world
-  unfolding cycle ask
-  cycle_leaves on s p ran l known runs h = go (has_local f.state c) refl
+  seek_leaves : (on : List (Option ℕ)) (s : State) (p : Option ℕ) (ran : Bool) → c < length on → IsKnown n p → get_or on c None ≡ p → IsFine n e None on s.world → LeavesIfIdle c (seek s c p ran).state.world
+  unfolding seek ask
+  seek_leaves on s p ran l known runs h = go (has_local f.state c) refl
     where
       f : Stepped
       f = fill s global c
@@ -141,16 +141,15 @@ module _ (n e : ℕ) (c : ℕ) where
           let d = tries 32 f.state c p in
           pick_or_rest_leaves on d.state p ran l known runs (keeps_tries n (IsFine n e) (fine_steps n e) on 32 f.state c p l x) (tries_leave 32 on f.state p l x g)
 
-idle_is_none : (w : WorldState) (c : ℕ) → is_idle w c ≡ true → is_none (running w c) ≡ true
-idle_is_none w c e = go (nat_lt c (length w.cpus)) (is_none (running w c)) e
-  where
-    go : (a b : Bool) → (a && b) ≡ true → b ≡ true
-    go true b x = x
-    go false b x = absurd (cc)
+  cycle_leaves : (on : List (Option ℕ)) (s : State) (p : Option ℕ) (ran : Bool) → c < length on → IsKnown n p → get_or on c None ≡ p → IsFine n e None on s.world → LeavesIfIdle c (cycle s c p ran).state.world
+  unfolding cycle
+  cycle_leaves on s p ran l known runs h idle =
+      let x = seek_leaves on (cycling s (Some c)) p ran l known runs ((fine_steps n e).cycling None on s.world (Some c) h) idle in
+      record { local = x.local; global = x.global }
 
-pub tick_leaves : (n e : ℕ) (s : State) (c : ℕ) → c < length s.world.cpus → IsFine n e None s.world.cpus s.world → is_idle (tick s c).state.world c ≡ true → LeavesNothing (tick s c).state.world c
+pub tick_leaves : (n e : ℕ) (s : State) (c : ℕ) → c < length s.world.cpus → IsFine n e None s.world.cpus s.world → running (tick s c).state.world c ≡ None → LeavesNothing (tick s c).state.world c
 unfolding tick count_down
-tick_leaves n e s c l h idle = go (running s.world c) refl (idle_is_none (tick s c).state.world c idle)
+tick_leaves n e s c l h idle = go (running s.world c) refl (ap (λ o. is_none o) idle)
   where
     go : (o : Option ℕ) → running s.world c ≡ o → LeavesIfIdle c (tick_of o s c).state.world
     go None at = cycle_leaves n e c s.world.cpus s None false l tt at h

@@ -18,28 +18,42 @@ use Rattle.scx_vm.specs.Arguments.{given, argument_of}
 use Rattle.scx_vm.specs.declared.arguments.Argument.{Argument}
 use Rattle.scx_vm.specs.declared.arguments.Arguments.{Arguments}
 use Rattle.scx_vm.specs.Host.{answer_to, after_query}
+use Rattle.scx_world.specs.declared.call.Insert.{Insert}
 use Rattle.scx_world.specs.declared.faults.Fault.{Fault}
-use Rattle.scx_world.specs.declared.faults.Fault.TheVariants.{NoSuchQueue, CannotCreate}
-use Rattle.scx_world.specs.Ids.{policy_end, local_on}
+use Rattle.scx_world.specs.declared.faults.Fault.TheVariants.{NoSuchQueue, NoSuchCpu, CannotCreate}
+use Rattle.scx_world.specs.Ids.{policy_end, held, local_on}
 use Rattle.scx_world.specs.World.{WorldState, with_queues, begun}
-use Rattle.scx_world.specs.Tasks.{local_len, entered, stopped}
-use Rattle.scx_world.specs.Helpers.{helper_answer, helper_after, world_number, world_stored, is_there, can_create, is_dispatch, faulted, insert_fault, inserted, moved, given_number, given_task}
+use Rattle.scx_world.specs.Tasks.{local_len, gone, entered, for_cpu, stopped}
+use Rattle.scx_world.specs.Helpers.{helper_answer, helper_after, world_number, world_stored, is_there, can_create, is_dispatch, is_held, may_insert, faulted, insert_fault, with_insert, released, inserted, asked, asked_by_vtime, moved, given_number, given_task}
 use Rattle.scx_machine.specs.Policy.{program_of}
 use Rattle.scx_machine.specs.Steps.{State, with_world}
 use Rattle.scx_machine.specs.Callbacks.{called, call_back, task_and_number}
-use Rattle.scx_machine.specs.Put.{placed, put, queue_for, slice_for}
+use Rattle.scx_machine.specs.Put.{enters, wanted, put}
 use Rattle.scx_machine.specs.Cycle.{leave}
 use Rattle.scx_sched.proofs.Entering.{keeps_if}
-use Rattle.scx_sched.proofs.Lengths.{len_pushed, len_created, len_popped_other}
+use Rattle.scx_sched.proofs.Sound.{is_fit, held_in_dispatch}
+use Rattle.scx_sched.proofs.Lengths.{len_pushed, len_created, len_popped_other, len_removed_other}
 
 -- somebody waits for that processor
 abbrev HasLocal : ℕ → WorldState → Type 0
 HasLocal c w = 0 < local_len w c
 
 module _ (c : ℕ) where
-  local_inserted : (w : WorldState) (o : Option Fault) (q k : ℕ) → HasLocal c w → HasLocal c (inserted w o q k)
-  local_inserted w None q k h = h
-  local_inserted w (Some f) q k h = h
+  local_entered : (w : WorldState) (t : ℕ) (i : Insert) → HasLocal c w → HasLocal c (entered w t i)
+  local_entered w t i h = keeps_if (HasLocal c) (nat_lt t (length w.tasks)) _ w (omega (arith, h, len_pushed w.queues i.queue (local_on c) t i.rank)) h
+
+  -- who is held waits for no processor
+  local_released : (w : WorldState) (t : Option ℕ) (i : Insert) → is_held w t ≡ true → HasLocal c w → HasLocal c (released w t i)
+  local_released w None i e h = h
+  local_released w (Some t) i e h = local_entered (gone w t) t i (omega (arith, h, len_removed_other w.queues held (local_on c) t e (λ x. omega (arith, x))))
+
+  local_inserted : (w : WorldState) (o : Option Fault) (t : Option ℕ) (i : Insert) → (o ≡ None → may_insert w t ≡ true) → HasLocal c w → HasLocal c (inserted w o t i)
+  local_inserted w None t i may h = go (is_dispatch w.call.callback) refl
+    where
+      go : (b : Bool) → is_dispatch w.call.callback ≡ b → HasLocal c (if b then released w t (for_cpu w.call.cpu i) else with_insert w i)
+      go true x = local_released w t (for_cpu w.call.cpu i) (held_in_dispatch w t x (may refl)) h
+      go false x = h
+  local_inserted w (Some f) t i may h = h
 
   local_moved : (w : WorldState) (o : Option ℕ) (q : ℕ) → q < policy_end → HasLocal c w → HasLocal c (moved w o q)
   local_moved w None q l h = h
@@ -54,14 +68,14 @@ module _ (c : ℕ) where
 
   local_helper : (w : WorldState) (f : Helper) (a : List Argument) → HasLocal c w → HasLocal c (helper_after w f a)
   local_helper w CreateDsq a h = keeps_if (HasLocal c) (can_create w (given_number a 0)) (with_queues w (created w.queues (given_number a 0))) (faulted w CannotCreate) (rw (len_created w.queues (given_number a 0) (local_on c)) h) h
-  local_helper w DsqInsert a h = local_inserted w (insert_fault w (given_task a 0) (given_number a 1) (given_number a 3)) (given_number a 1) (given_number a 2) h
+  local_helper w DsqInsert a h = local_inserted w (insert_fault w (given_task a 0) (asked a) (given_number a 3)) (given_task a 0) (asked a) (λ e. (is_fit w (given_task a 0) (asked a) (given_number a 3) e).may) h
+  local_helper w DsqInsertVtime a h = local_inserted w (insert_fault w (given_task a 0) (asked_by_vtime a) (given_number a 4)) (given_task a 0) (asked_by_vtime a) (λ e. (is_fit w (given_task a 0) (asked_by_vtime a) (given_number a 4) e).may) h
   local_helper w DsqMoveToLocal a h = local_move w (given_number a 0) h (is_dispatch w.call.callback) (nat_lt (given_number a 0) policy_end) _ refl
+  local_helper w CpuIdle a h = keeps_if (HasLocal c) (nat_lt (given_number a 0) (length w.cpus)) w (faulted w NoSuchCpu) h h
   local_helper w DsqNrQueued a h = keeps_if (HasLocal c) (is_there w (given_number a 0)) w (faulted w NoSuchQueue) h h
   local_helper w KtimeGetNs a h = h
   local_helper w MapLookupElem a h = h
-  local_helper w DsqInsertVtime a h = h
   local_helper w SelectCpuDfl a h = h
-  local_helper w CpuIdle a h = h
   local_helper w TaskByPid a h = h
 
   local_query : (w : WorldState) (q : Query) → HasLocal c w → HasLocal c (after_query helper_after world_stored w q)
@@ -79,15 +93,11 @@ module _ (c : ℕ) where
   unfolding call_back
   local_call_back s b a t d h = local_called (program_of s.policy b) b a s.maps (begun s.world b t d) h
 
-  local_entered : (w : WorldState) (t q k : ℕ) → HasLocal c w → HasLocal c (entered w t q k)
-  local_entered w t q k h = keeps_if (HasLocal c) (nat_lt t (length w.tasks)) _ w (omega (arith, h, len_pushed w.queues q (local_on c) t Fifo)) h
-
   local_put : (s : State) (t d flags : ℕ) → HasLocal c s.world → HasLocal c (put s t d flags).state.world
-  unfolding put placed
+  unfolding put enters
   local_put s t d flags h =
       let r = call_back s callback.Enqueue (task_and_number t flags) t d in
-      let w = r.state.world in
-      local_entered w t (queue_for r.state.policy.callbacks.enqueue w.call.cpu w.call.insert) (slice_for r.state.policy.callbacks.enqueue w.call.insert) (local_call_back s callback.Enqueue (task_and_number t flags) t d h)
+      local_entered r.state.world t (wanted r.state.policy.callbacks.enqueue d r.state.world.call.insert) (local_call_back s callback.Enqueue (task_and_number t flags) t d h)
 
   -- the task before leaves, and those who wait for the processor stay
   pub local_leave : (s : State) (d : ℕ) (p : Option ℕ) → HasLocal c s.world → HasLocal c (leave s d p).state.world

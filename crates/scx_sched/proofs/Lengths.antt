@@ -1,5 +1,5 @@
 -- How pushes and pops change who waits in a queue: a task that waits there stays until it is its turn.
-use Rattle.std.proofs.Common.{◌≡◌, ℕ, ◌+◌, ◌<◌, ◌≤◌, Bool, true, false, ◌==◌, ◌&&◌, ◌⊎◌, inl, inr, if◌then◌else◌, length, set, Option, Some, None, is_none, refl, sym, ◌∙◌, arith, count_by}
+use Rattle.std.proofs.Common.{◌≡◌, ℕ, ◌+◌, ◌<◌, ◌≤◌, Bool, true, false, ◌==◌, ◌&&◌, ◌⊎◌, inl, inr, if◌then◌else◌, length, set, Option, Some, None, is_none, refl, sym, ap, ◌∙◌, arith, count_by}
 use Rattle.std.proofs.lemmas.Bool.{cases_lt, ne_eqb}
 use Rattle.std.proofs.lemmas.Bool.Decides.{nat_tests}
 use Rattle.std.proofs.lemmas.List.{set_past}
@@ -8,7 +8,7 @@ use Rattle.std.proofs.lemmas.List.Sums.{sum_by-set}
 use Rattle.scx_dsq.specs.declared.places.Place.{Place}
 use Rattle.scx_dsq.specs.declared.places.Rank.{Rank}
 use Rattle.scx_dsq.specs.Queues.{QueueState, place_of, is_in, is_first, len_of, front_of}
-use Rattle.scx_dsq.specs.Calls.{push_refusal, next_place, with_task, pushed, without, popped, created, create_refusal, with_queue}
+use Rattle.scx_dsq.specs.Calls.{push_refusal, next_place, with_task, pushed, without, popped, removed, created, create_refusal, with_queue}
 use Rattle.scx_dsq.specs.Laws.{one_if}
 use Rattle.scx_dsq.specs.Facts.{free_from, front_is_known}
 use Rattle.scx_sched.proofs.Entering.{keeps_if}
@@ -64,3 +64,17 @@ len_popped_other s q id other = go (front_of s q) refl
         let l : t < length s.places = front_is_known s q (Some t) (sym e) in
         let out : one_if (is_in id (place_of s t)) ≡ 0 = rw (elsewhere (place_of s t) (front_is_in s q t e)) refl in
         omega (arith, len_set s id t None l, out)
+
+-- nor does the removal of a task that waits in one
+pub len_removed_other : (s : QueueState) (q id t : ℕ) → is_in q (place_of s t) ≡ true → (q ≡ id → ⊥) → len_of (removed s t) id ≡ len_of s id
+len_removed_other s q id t inside other = go (cases_lt t (length s.places)) (place_of s t) refl inside
+  where
+    elsewhere : (p : Place) → (p.queue == q) ≡ true → (p.queue == id) ≡ false
+    elsewhere p x = let is : p.queue ≡ q = grind (arith, nat_tests, x) in ne_eqb p.queue id (λ y. other (sym is ∙ y))
+
+    go : (t < length s.places) ⊎ (length s.places ≤ t) → (o : Option Place) → place_of s t ≡ o → is_in q o ≡ true → len_of (removed s t) id ≡ len_of s id
+    go l None e x = absurd (cc)
+    go (inl l) (Some p) e x =
+        let out : one_if (is_in id (place_of s t)) ≡ 0 = rw (e, elsewhere p x) refl in
+        rw e (omega (arith, len_set s id t None l, out))
+    go (inr past) (Some p) e x = rw e (ap (λ places. count_by (is_in id) places) (set_past {X = Option Place} s.places t None past))

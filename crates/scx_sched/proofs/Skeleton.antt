@@ -14,20 +14,28 @@ use Rattle.scx_vm.specs.declared.arguments.Arguments.{Arguments}
 use Rattle.scx_vm.specs.Host.{answer_to, after_query}
 use Rattle.scx_world.specs.Ids.{global, local_on}
 use Rattle.scx_world.specs.World.{WorldState, begun}
-use Rattle.scx_world.specs.Tasks.{stopped}
+use Rattle.scx_world.specs.Tasks.{for_cpu, stopped}
 use Rattle.scx_world.specs.Helpers.{helper_answer, helper_after, world_number, world_stored}
 use Rattle.scx_machine.specs.Policy.{program_of}
 use Rattle.scx_machine.specs.Steps.{State, Stepped, joined, with_world}
 use Rattle.scx_machine.specs.Callbacks.{called, call_back, one_task, task_and_number, cpu_and_task}
-use Rattle.scx_machine.specs.Put.{placed, put}
-use Rattle.scx_machine.specs.Cycle.{has_local, fill, dispatched, asks_again, tries, leave, started_if, start as run_front, pick, rest, pick_or_rest, ask, cycle}
-use Rattle.scx_sched.specs.Kept.{IsKeptBySteps}
+use Rattle.scx_world.specs.declared.call.Insert.{Insert}
+use Rattle.scx_machine.specs.Put.{enters, wanted, put}
+use Rattle.scx_machine.specs.Cycle.{has_local, fill, dispatched, asks_again, tries, leave, started_if, start as run_front, pick, rest, pick_or_rest, ask, seek, cycling, cycle}
+use Rattle.scx_machine.specs.Events.{settled}
+use Rattle.scx_sched.specs.Kept.{IsKeptBySteps, IsWanted, For_any, Nowhere, Inserted}
 use Rattle.scx_sched.proofs.Entering.{keeps_if}
 
 -- the task before, if there is one, is a task that there is
 abbrev pub IsKnown : ℕ → Option ℕ → Type 0
 IsKnown n None = Unit {0}
 IsKnown n (Some t) = t < n
+
+-- enqueue puts a task where it may go
+is_wanted : (cpus : ℕ) (w : WorldState) (p : Option VerifiedProgram) (c : ℕ) (o : Option Insert) → c < cpus → w.call.insert ≡ o → IsWanted cpus w (wanted p c o)
+is_wanted cpus w None c o l e = For_any refl
+is_wanted cpus w (Some p) c None l e = Nowhere refl
+is_wanted cpus w (Some p) c (Some i) l e = Inserted c i l e refl
 
 module _ (n : ℕ) (I : Option ℕ → List (Option ℕ) → WorldState → Type 0) (k : IsKeptBySteps n I) where
   -- with somebody at hand or nobody, and the same on the processors
@@ -46,10 +54,17 @@ module _ (n : ℕ) (I : Option ℕ → List (Option ℕ) → WorldState → Type
 
   module _ (on : List (Option ℕ)) where
     pub keeps_put : (s : State) (t c flags : ℕ) → t < n → c < length on → I (Some t) on s.world → I None on (put s t c flags).state.world
-    unfolding put placed
+    unfolding put enters
     keeps_put s t c flags within l h =
         let r = call_back s callback.Enqueue (task_and_number t flags) t c in
-        k.entered on r.state.world r.state.policy.callbacks.enqueue t within (keeps_call_back (Some t) on s callback.Enqueue (task_and_number t flags) t c l h)
+        let p = r.state.policy.callbacks.enqueue in
+        let o = r.state.world.call.insert in
+        k.entered on r.state.world t (wanted p c o) within (is_wanted (length on) r.state.world p c o l refl) (keeps_call_back (Some t) on s callback.Enqueue (task_and_number t flags) t c l h)
+
+    pub keeps_settled : (o : Option Insert) (s : State) (t c : ℕ) → s.world.call.insert ≡ o → t < n → c < length on → I (Some t) on s.world → I None on (settled o s t c).state.world
+    unfolding enters
+    keeps_settled None s t c e within l h = keeps_put s t c 1 within l h
+    keeps_settled (Some i) s t c e within l h = k.entered on s.world t (for_cpu c i) within (Inserted c i l e refl) h
 
     pub keeps_fill : (s : State) (q c : ℕ) → c < length on → I None on s.world → I None on (fill s q c).state.world
     unfolding fill
@@ -114,9 +129,15 @@ module _ (n : ℕ) (I : Option ℕ → List (Option ℕ) → WorldState → Type
   unfolding ask
   keeps_ask on s c p ran l known runs h = keeps_pick_or_rest on (tries 32 s c p).state c p ran l known runs (keeps_tries on 32 s c p l h)
 
-  pub keeps_cycle : (on : List (Option ℕ)) (s : State) (c : ℕ) (p : Option ℕ) (ran : Bool) → c < length on → IsKnown n p → get_or on c None ≡ p → I None on s.world → Some-on (cycle s c p ran).state.world
-  unfolding cycle
-  keeps_cycle on s c p ran l known runs h =
+  keeps_seek : (on : List (Option ℕ)) (s : State) (c : ℕ) (p : Option ℕ) (ran : Bool) → c < length on → IsKnown n p → get_or on c None ≡ p → I None on s.world → Some-on (seek s c p ran).state.world
+  unfolding seek
+  keeps_seek on s c p ran l known runs h =
       let f = fill s global c in
       let x : I None on f.state.world = keeps_fill on s global c l h in
       keeps_if (λ (r : Stepped). Some-on r.state.world) (has_local f.state c) (pick f.state c p) (ask f.state c p ran) (keeps_pick on f.state c p l known runs x) (keeps_ask on f.state c p ran l known runs x)
+
+  pub keeps_cycle : (on : List (Option ℕ)) (s : State) (c : ℕ) (p : Option ℕ) (ran : Bool) → c < length on → IsKnown n p → get_or on c None ≡ p → I None on s.world → Some-on (cycle s c p ran).state.world
+  unfolding cycle
+  keeps_cycle on s c p ran l known runs h =
+      let x = keeps_seek on (cycling s (Some c)) c p ran l known runs (k.cycling None on s.world (Some c) h) in
+      (x.0, k.cycling None x.0 (seek (cycling s (Some c)) c p ran).state.world None x.1)

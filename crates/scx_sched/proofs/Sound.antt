@@ -1,42 +1,42 @@
 -- What each small step of a world keeps of "exactly once", and of what it rests on.
-use Rattle.std.proofs.Common.{◌≡◌, ℕ, suc, ◌+◌, ◌-◌, ◌<◌, ◌≤◌, Bool, true, false, ◌==◌, nat_lt, ◌⊎◌, inl, inr, cond, if◌then◌else◌, List, [], ◌∷◌, length, set, get_or, map, Option, Some, None, is_some, is_none, refl, sym, ◌∙◌, ap, subst, arith, position}
+use Rattle.std.proofs.Common.{◌≡◌, ℕ, suc, ◌+◌, ◌-◌, ◌<◌, ◌≤◌, Bool, true, false, ◌==◌, nat_lt, nat_le, ◌&&◌, ◌⊎◌, inl, inr, cond, if◌then◌else◌, List, [], ◌∷◌, length, set, get_or, map, Option, Some, None, is_some, is_none, refl, sym, ◌∙◌, ap, subst, arith, position}
 use Rattle.std.proofs.lemmas.Bool.{cases_eq, cases_lt, eq-eqb, ne_eqb, lt-ltb}
 use Rattle.std.proofs.lemmas.Bool.Decides.{nat_tests}
-use Rattle.std.proofs.lemmas.List.{length-set, get_or-set_same, get_or-set_other, set_past}
-use Rattle.std.specs.List.{position_or_len}
+use Rattle.std.proofs.lemmas.List.{length-set, get_or-set_same, get_or-set_other, get_or_past, set_past}
+use Rattle.std.specs.List.{list_any, position_or_len}
 use Rattle.std.proofs.lemmas.List.Sums.{sum_by-cons}
 use Rattle.std.proofs.lemmas.List.Sums.{sum_by-set, fails_before_first}
-use Rattle.scx_dsq.specs.Queues.{QueueState, exists, task_count, place_of, front_of}
-use Rattle.scx_dsq.specs.Calls.{push_refusal, pushed, popped, removed, with_queue, created, create_refusal}
+use Rattle.scx_dsq.specs.Queues.{QueueState, exists, task_count, place_of, is_in, front_of}
+use Rattle.scx_dsq.specs.Calls.{clashes, push_refusal, pushed, popped, removed, with_queue, created, create_refusal}
 use Rattle.scx_dsq.specs.Places.{same_sort}
 use Rattle.scx_dsq.specs.declared.places.Rank.{Rank}
-use Rattle.scx_dsq.specs.declared.places.Rank.TheVariants.{Fifo}
+use Rattle.scx_dsq.specs.declared.places.Rank.TheVariants.{Fifo, Vtime}
 use Rattle.scx_dsq.specs.declared.places.Place.{Place}
 use Rattle.scx_dsq.specs.Laws.{one_if, standing}
 use Rattle.scx_dsq.specs.Facts.{front_is_known, standing_pushed, standing_popped, standing_removed, tasks_pushed, tasks_without, tasks_removed, tasks_created, others_change_none}
 use Rattle.scx_weights.specs.Hierarchy as tree
 use Rattle.scx_semantics.specs.declared.callbacks.Callback.{Callback}
+use Rattle.scx_semantics.specs.declared.callbacks.Callback.TheVariants as callback
 use Rattle.scx_semantics.specs.declared.outside.Field.{Field}
 use Rattle.scx_semantics.specs.declared.outside.Field.TheVariants.{Pid, Weight, Slice, DsqVtime, PrevCpu, Group, RunNs}
 use Rattle.scx_semantics.specs.declared.outside.Helper.{Helper}
 use Rattle.scx_semantics.specs.declared.outside.Helper.TheVariants.{MapLookupElem, KtimeGetNs, CreateDsq, DsqInsert, DsqInsertVtime, DsqMoveToLocal, SelectCpuDfl, CpuIdle, TaskByPid, DsqNrQueued}
 use Rattle.scx_semantics.specs.Effects.{Query, Call, Load, Store}
-use Rattle.scx_verify.specs.Typing.{VerifiedProgram}
 use Rattle.scx_vm.specs.Arguments.{argument_of}
 use Rattle.scx_vm.specs.Host.{after_query}
 use Rattle.scx_vm.specs.declared.arguments.Argument.{Argument}
 use Rattle.scx_world.specs.declared.task.Task.{Task}
 use Rattle.scx_world.specs.declared.call.Insert.{Insert}
-use Rattle.scx_world.specs.declared.call.Call.{Call as Now}
+use Rattle.scx_world.specs.declared.notes.What.{What}
 use Rattle.scx_world.specs.declared.faults.Fault.{Fault}
-use Rattle.scx_world.specs.declared.faults.Fault.TheVariants.{NoSuchQueue, CannotInsert, NoSuchCpu, UnknownFlag, CannotCreate}
-use Rattle.scx_world.specs.Ids.{global, local, local_on, policy_end}
-use Rattle.scx_world.specs.World.{WorldState, with_queues, with_tree, with_call, with_task, task_at, no_task, is_this, is_runnable, cpu_of, quiet, begun}
-use Rattle.scx_world.specs.Tasks.{woken, asleep, gone, given_slice, entered, brought, fill_front, filled, local_len, stopped, started_at, renewed, kept, ran_a_tick, ticked, later}
-use Rattle.scx_world.specs.Helpers.{is_there, can_create, faulted, may_insert, queue_fault, insert_fault, inserted, can_move, moved, given_number, given_task, helper_after, stored_in, world_stored}
-use Rattle.scx_machine.specs.Put.{resolved, queue_for, slice_for}
-use Rattle.scx_sched.specs.Once.{runs, appearances, IsOnce, HasQueues, sort_of, IsSorted, IsSound, GoesSomewhere}
-use Rattle.scx_sched.proofs.Entering.{keeps_if, nowhere, sorted_pushed, sorted_popped, sorted_removed, is_accepted, Stay, stay_pushed, stay_without, stay_removed, stay_created, queues_stay, goes_on, local_sort, policy_sort}
+use Rattle.scx_world.specs.declared.faults.Fault.TheVariants.{NoSuchQueue, CannotInsert, NoSuchCpu, UnknownFlag, CannotCreate, BuiltinVtime, Mixed}
+use Rattle.scx_world.specs.Ids.{global, local, held, local_on, policy_end}
+use Rattle.scx_world.specs.World.{WorldState, with_queues, with_tree, with_cycling, with_task, task_at, no_task, is_this, is_runnable, cpu_of, quiet, begun, noted}
+use Rattle.scx_world.specs.Tasks.{woken, asleep, gone, given_slice, given_vtime, given, entered, resolved, for_cpu, to_held, to_global, brought, fill_front, filled, local_len, stopped, started_at, renewed, kept, ran_a_tick, ticked, later}
+use Rattle.scx_world.specs.Helpers.{is_there, can_create, faulted, is_dispatch, is_held, may_insert_in, may_insert, queue_fault, is_vtime, rank_fault, or_fault, insert_fault, with_insert, with_move, released, inserted, asked, asked_by_vtime, can_move, moved, given_number, given_task, helper_after, stored_in, world_stored}
+use Rattle.scx_sched.specs.Once.{runs, appearances, IsOnce, HasQueues, sort_of, IsSorted, IsAlike, IsOpen, IsSound, GoesSomewhere}
+use Rattle.scx_sched.specs.Kept.{IsWanted, For_any, Nowhere, Inserted}
+use Rattle.scx_sched.proofs.Entering.{keeps_if, nowhere, sorted_pushed, sorted_popped, sorted_removed, own_open, alike_from, is_accepted, Stay, stay_pushed, stay_without, stay_removed, stay_created, queues_stay, open_without, open_removed, open_created, open_own, open_same, goes_on, local_sort, low_fits}
 
 -- ---- changes of queues, tasks and the callback at hand
 
@@ -59,8 +59,9 @@ stored_home x RunNs n = refl
 
 module _ (hand : Option ℕ) (on : List (Option ℕ)) (n : ℕ) where
   -- other queues, in which each task stands as often
-  sound_queues : (w : WorldState) (s : QueueState) → Stay w.queues s → IsSorted s → task_count s ≡ task_count w.queues → ((u : ℕ) → standing s u ≡ standing w.queues u) → IsSound hand on n w → IsSound hand on n (with_queues w s)
-  sound_queues w s stay sorted even same h = record {
+  sound_queues : (w : WorldState) (s : QueueState) → Stay w.queues s → IsSorted s → task_count s ≡ task_count w.queues → ((u : ℕ) → standing s u ≡ standing w.queues u) → GoesSomewhere s (length on) w.call.insert
+      → IsSound hand on n w → IsSound hand on n (with_queues w s)
+  sound_queues w s stay sorted even same goes h = record {
     cpus = h.cpus;
     tasks = h.tasks;
     even = even ∙ h.even;
@@ -70,116 +71,216 @@ module _ (hand : Option ℕ) (on : List (Option ℕ)) (n : ℕ) where
     sorted = sorted;
     once = λ u. omega (arith, same u, h.once u);
     here = h.here;
-    goes = goes_on w.queues s w.call.cpu w.call.insert stay h.goes;
+    goes = goes;
+    at_once = h.at_once;
   }
 
   sound_task : (w : WorldState) (t : ℕ) (x : Task) → x.prev_cpu ≡ (task_at w t).prev_cpu → IsSound hand on n w → IsSound hand on n (with_task w t x)
-  sound_task w t x home h = record { cpus = h.cpus; tasks = length-set w.tasks t x ∙ h.tasks; even = h.even; flags = h.flags; homes = homes_set w.tasks t x (length on) (rw home (h.homes t)) h.homes; queues = h.queues; sorted = h.sorted; once = h.once; here = h.here; goes = h.goes }
-
-  sound_call : (w : WorldState) (x : Now) → x.cpu < length on → GoesSomewhere w.queues x.cpu x.insert → IsSound hand on n w → IsSound hand on n (with_call w x)
-  sound_call w x here goes h = record { cpus = h.cpus; tasks = h.tasks; even = h.even; flags = h.flags; homes = h.homes; queues = h.queues; sorted = h.sorted; once = h.once; here = here; goes = goes }
+  sound_task w t x home h = record { cpus = h.cpus; tasks = length-set w.tasks t x ∙ h.tasks; even = h.even; flags = h.flags; homes = homes_set w.tasks t x (length on) (rw home (h.homes t)) h.homes; queues = h.queues; sorted = h.sorted; once = h.once; here = h.here; goes = h.goes; at_once = h.at_once }
 
   pub sound_quiet : (w : WorldState) → IsSound hand on n w → IsSound hand on n (quiet w)
-  sound_quiet w h = record { cpus = h.cpus; tasks = h.tasks; even = h.even; flags = h.flags; homes = h.homes; queues = h.queues; sorted = h.sorted; once = h.once; here = h.here; goes = h.goes }
+  sound_quiet w h = record { cpus = h.cpus; tasks = h.tasks; even = h.even; flags = h.flags; homes = h.homes; queues = h.queues; sorted = h.sorted; once = h.once; here = h.here; goes = h.goes; at_once = h.at_once }
+
+  pub sound_cycling : (w : WorldState) (o : Option ℕ) → IsSound hand on n w → IsSound hand on n (with_cycling w o)
+  sound_cycling w o h = record { cpus = h.cpus; tasks = h.tasks; even = h.even; flags = h.flags; homes = h.homes; queues = h.queues; sorted = h.sorted; once = h.once; here = h.here; goes = h.goes; at_once = h.at_once }
 
   sound_created : (w : WorldState) (q : ℕ) → IsSound hand on n w → IsSound hand on n (with_queues w (created w.queues q))
-  sound_created w q h = sound_queues w (created w.queues q) (stay_created w.queues q) (keeps_if IsSorted (is_none (create_refusal w.queues q)) (with_queue w.queues q) w.queues h.sorted h.sorted) (tasks_created w.queues q) (λ u. others_change_none.queue w.queues q u) h
+  sound_created w q h =
+      sound_queues w (created w.queues q) (stay_created w.queues q) (keeps_if IsSorted (is_none (create_refusal w.queues q)) (with_queue w.queues q) w.queues h.sorted h.sorted) (tasks_created w.queues q) (λ u. others_change_none.queue w.queues q u)
+      (goes_on w.queues (created w.queues q) (length on) w.call.insert (λ x r o. open_created w.queues q x r o) h.goes) h
 
 -- from one queue to another
 pub left_place : (s : QueueState) (q t : ℕ) → front_of s q ≡ Some t → place_of (popped s q) t ≡ None
 left_place s q t e = rw e (get_or-set_same {A = Option Place} s.places t None None (front_is_known s q (Some t) (sym e)))
 
-sound_brought : (hand : Option ℕ) (on : List (Option ℕ)) (n : ℕ) (w : WorldState) (o : Option ℕ) (q r : ℕ) → front_of w.queues q ≡ o → exists w.queues r ≡ true → same_sort Fifo (sort_of r) ≡ true
+sound_brought : (hand : Option ℕ) (on : List (Option ℕ)) (n : ℕ) (w : WorldState) (o : Option ℕ) (q r : ℕ) → front_of w.queues q ≡ o → exists w.queues r ≡ true → policy_end ≤ r → same_sort Fifo (sort_of r) ≡ true
     → IsSound hand on n w → (t : ℕ) → o ≡ Some t → IsSound hand on n (with_queues w (pushed (popped w.queues q) r t Fifo))
-sound_brought hand on n w o q r front there fits h t e =
+sound_brought hand on n w o q r front there own fits h t e =
     let s = w.queues in
     let is : front_of s q ≡ Some t = front ∙ e in
     let known : t < task_count s = front_is_known s q (Some t) (sym is) in
-    let ok : push_refusal (popped s q) r t Fifo ≡ None = is_accepted (popped s q) t r Fifo (left_place s q t is) (stay_without s (front_of s q) r there) fits (sorted_popped s q h.sorted) in
+    let ready : IsOpen (popped s q) r Fifo = own_open (popped s q) r Fifo (stay_without s (front_of s q) r there) own fits (sorted_popped s q h.sorted) in
+    let ok : push_refusal (popped s q) r t Fifo ≡ None = is_accepted (popped s q) t r Fifo (left_place s q t is) ready in
     let known' : t < task_count (popped s q) = rw (tasks_without s (front_of s q)) known in
     sound_queues hand on n w (pushed (popped s q) r t Fifo) (λ x g. stay_pushed (popped s q) r t Fifo x (stay_without s (front_of s q) x g))
-    (sorted_pushed (popped s q) r t Fifo fits (sorted_popped s q h.sorted)) (tasks_pushed (popped s q) r t Fifo ∙ tasks_without s (front_of s q))
-    (λ u. omega (arith, standing_pushed (popped s q) r t u Fifo known' ok, standing_popped s q t u is)) h
+    (sorted_pushed (popped s q) r t Fifo ready.fits (sorted_popped s q h.sorted)) (tasks_pushed (popped s q) r t Fifo ∙ tasks_without s (front_of s q))
+    (λ u. omega (arith, standing_pushed (popped s q) r t u Fifo known' ok, standing_popped s q t u is))
+    (goes_on s (pushed (popped s q) r t Fifo) (length on) w.call.insert (λ x k o. open_own (popped s q) r t Fifo x k own fits (open_without s (front_of s q) x k o)) h.goes) h
 
 -- ---- helpers
 
--- there is such a queue, in order of arrival
-abbrev IsTarget : QueueState → ℕ → Type 0
-IsTarget s r = (exists s r ≡ true) × (same_sort Fifo (sort_of r) ≡ true)
-
-local_is_there : (s : QueueState) (n q : ℕ) → HasQueues s n → local_on 0 ≤ q → q < local_on n → IsTarget s q
-local_is_there s n q h low high =
+local_is_open : (s : QueueState) (n q : ℕ) → HasQueues s n → IsSorted s → local_on 0 ≤ q → q < local_on n → IsOpen s q Fifo
+local_is_open s n q h sorted low high =
     let is : local_on (q - local_on 0) ≡ q = omega (arith, low) in
-    subst (λ x. IsTarget s x) is (h.locals (q - local_on 0) (omega (arith, low, high)), local_sort (q - local_on 0))
+    subst (λ x. IsOpen s x Fifo) is (own_open s (local_on (q - local_on 0)) Fifo (h.locals (q - local_on 0) (omega (arith, low, high))) (omega arith) (local_sort (q - local_on 0)) sorted)
 
-target_is_there : (w : WorldState) (q : ℕ) → HasQueues w.queues (length w.cpus) → w.call.cpu < length w.cpus → queue_fault w q ≡ None → IsTarget w.queues (resolved w.call.cpu q)
-target_is_there w q h here e = go (nat_lt q policy_end) (exists w.queues q) (q == global) (q == local) (nat_lt q (local_on 0)) (nat_lt q (local_on (length w.cpus))) refl refl refl refl refl refl e
+abbrev fault_of : WorldState → ℕ → (a b g l m k : Bool) → Option Fault
+fault_of w q a b g l m k =
+    if a then (if b then None else Some NoSuchQueue)
+    else (if g then None
+    else (if l then None
+    else (if m then Some NoSuchQueue
+    else (if k then None
+    else (if nat_lt q (local_on 0x1_0000_0000) then Some NoSuchCpu else Some NoSuchQueue)))))
+
+-- what a callback may name takes a task so
+open_at : (w : WorldState) (q c : ℕ) (r : Rank) → HasQueues w.queues (length w.cpus) → IsSorted w.queues → c < length w.cpus → queue_fault w q ≡ None → (policy_end ≤ q → r ≡ Fifo) → IsAlike w.queues q r → IsOpen w.queues (resolved c q) r
+open_at w q c r h sorted here e fifo alike = go (nat_lt q policy_end) (exists w.queues q) (q == global) (q == local) (nat_lt q (local_on 0)) (nat_lt q (local_on (length w.cpus))) refl refl refl refl refl refl e
   where
     go : (a b g l m k : Bool) → nat_lt q policy_end ≡ a → exists w.queues q ≡ b → (q == global) ≡ g → (q == local) ≡ l → nat_lt q (local_on 0) ≡ m → nat_lt q (local_on (length w.cpus)) ≡ k
-        → (if a then (if b then None else Some NoSuchQueue)
-        else (if g then None
-        else (if l then None
-        else (if m then Some NoSuchQueue
-        else (if k then None
-        else (if nat_lt q (local_on 0x1_0000_0000) then Some NoSuchCpu else Some NoSuchQueue)))))) ≡ None → IsTarget w.queues (resolved w.call.cpu q)
+        → fault_of w q a b g l m k ≡ None → IsOpen w.queues (resolved c q) r
     go true true g l m k ea eb eg el em ek e =
         let low : q < policy_end = grind (arith, nat_tests, ea) in
-        rw (ne_eqb q local (λ x. omega (arith, x, low))) (eb, policy_sort q ea)
+        rw (ne_eqb q local (λ x. omega (arith, x, low))) record { there = eb; fits = low_fits q r ea; alike = alike }
     go true false g l m k ea eb eg el em ek e = absurd (cc)
     go false b true l m k ea eb eg el em ek e =
         let is : global ≡ q = grind (arith, nat_tests, eg) in
-        subst (λ x. IsTarget w.queues (resolved w.call.cpu x)) is (h.global, refl)
-    go false b false true m k ea eb eg el em ek e = rw el (h.locals w.call.cpu here, local_sort w.call.cpu)
+        rw (fifo (omega (arith, is))) (subst (λ x. IsOpen w.queues (resolved c x) Fifo) is (own_open w.queues global Fifo h.global (omega arith) refl sorted))
+    go false b false true m k ea eb eg el em ek e =
+        let is : local ≡ q = grind (arith, nat_tests, el) in
+        rw (fifo (omega (arith, is)), el) (own_open w.queues (local_on c) Fifo (h.locals c here) (omega arith) (local_sort c) sorted)
     go false b false false true k ea eb eg el em ek e = absurd (cc)
     go false b false false false true ea eb eg el em ek e =
         let low : local_on 0 ≤ q = grind (arith, nat_tests, em) in
         let high : q < local_on (length w.cpus) = grind (arith, nat_tests, ek) in
-        rw el (local_is_there w.queues (length w.cpus) q h low high)
+        rw (fifo (omega (arith, low)), el) (local_is_open w.queues (length w.cpus) q h sorted low high)
     go false b false false false false ea eb eg el em ek e = more (nat_lt q (local_on 0x1_0000_0000)) e
       where
-        more : (x : Bool) → (if x then Some NoSuchCpu else Some NoSuchQueue) ≡ None → IsTarget w.queues (resolved w.call.cpu q)
+        more : (x : Bool) → (if x then Some NoSuchCpu else Some NoSuchQueue) ≡ None → IsOpen w.queues (resolved c q) r
         more true e = absurd (cc)
         more false e = absurd (cc)
 
-no_queue_fault : (w : WorldState) (t : Option ℕ) (q flags : ℕ) → insert_fault w t q flags ≡ None → queue_fault w q ≡ None
-no_queue_fault w t q flags e = go (may_insert w t) (nat_lt 1 flags) e
+-- an insert without a fault
+pub record IsFit (w : WorldState) (t : Option ℕ) (i : Insert) : Type 0 where
+  pub may : may_insert w t ≡ true
+  pub queue : queue_fault w i.queue ≡ None
+  pub rank : rank_fault w i.queue i.rank ≡ None
+
+pub is_fit : (w : WorldState) (t : Option ℕ) (i : Insert) (flags : ℕ) → insert_fault w t i flags ≡ None → IsFit w t i
+is_fit w t i flags e = go (may_insert w t) (nat_lt 1 flags) (queue_fault w i.queue) refl refl e
   where
-    go : (a b : Bool) → (if a then (if b then Some UnknownFlag else queue_fault w q) else Some CannotInsert) ≡ None → queue_fault w q ≡ None
-    go true true e = absurd (cc)
-    go true false e = e
-    go false b e = absurd (cc)
+    go : (a b : Bool) (o : Option Fault) → may_insert w t ≡ a → queue_fault w i.queue ≡ o → (if a then (if b then Some UnknownFlag else or_fault o (rank_fault w i.queue i.rank)) else Some CannotInsert) ≡ None → IsFit w t i
+    go true true o x y e = absurd (cc)
+    go true false None x y e = record { may = x; queue = y; rank = e }
+    go true false (Some f) x y e = absurd (cc)
+    go false b o x y e = absurd (cc)
+
+rank_alike : (w : WorldState) (q : ℕ) (r : Rank) → rank_fault w q r ≡ None → (policy_end ≤ q → r ≡ Fifo) × IsAlike w.queues q r
+rank_alike w q r e = go (is_vtime r && nat_le policy_end q) (list_any (clashes q r) w.queues.places) refl refl e
+  where
+    fifo : (k : Rank) (b : Bool) → b ≡ true → (is_vtime k && b) ≡ false → k ≡ Fifo
+    fifo Fifo b x y = refl
+    fifo (Vtime n) true x y = absurd (cc)
+    fifo (Vtime n) false x y = absurd (cc)
+
+    go : (a b : Bool) → (is_vtime r && nat_le policy_end q) ≡ a → list_any (clashes q r) w.queues.places ≡ b → (if a then Some BuiltinVtime else (if b then Some Mixed else None)) ≡ None → (policy_end ≤ q → r ≡ Fifo) × IsAlike w.queues q r
+    go true b x y e = absurd (cc)
+    go false true x y e = absurd (cc)
+    go false false x y e = (λ past. fifo r (nat_le policy_end q) (grind (arith, nat_tests, past)) x, alike_from w.queues q r y)
+
+pub fit_open : (on : List (Option ℕ)) (hand : Option ℕ) (n : ℕ) (w : WorldState) (t : Option ℕ) (i : Insert) (c : ℕ) → c < length on → IsFit w t i → IsSound hand on n w → IsOpen w.queues (resolved c i.queue) i.rank
+fit_open on hand n w t i c l fit h =
+    let all : HasQueues w.queues (length w.cpus) = rw h.cpus h.queues in
+    let here : c < length w.cpus = rw h.cpus l in
+    let x = rank_alike w i.queue i.rank fit.rank in
+    open_at w i.queue c i.rank all h.sorted here fit.queue x.0 x.1
+
+-- who is held waits, and is a task that there is
+pub record IsHeld (w : WorldState) (t : ℕ) : Type 0 where
+  pub waits : is_some (place_of w.queues t) ≡ true
+  pub known : t < task_count w.queues
+  pub free : place_of (removed w.queues t) t ≡ None
+
+pub held_waits : (w : WorldState) (t : ℕ) → is_held w (Some t) ≡ true → IsHeld w t
+held_waits w t e = go (cases_lt t (length w.queues.places)) (place_of w.queues t) refl e
+  where
+    go : (t < length w.queues.places) ⊎ (length w.queues.places ≤ t) → (o : Option Place) → place_of w.queues t ≡ o → is_in held o ≡ true → IsHeld w t
+    go l None x y = absurd (cc)
+    go (inl l) (Some p) x y = record { waits = rw x refl; known = l; free = rw x (get_or-set_same {A = Option Place} w.queues.places t None None l) }
+    go (inr past) (Some p) x y = let none : place_of w.queues t ≡ None = get_or_past {X = Option Place} w.queues.places t None past in absurd (cc (sym x ∙ none))
+
+pub held_in_dispatch : (w : WorldState) (t : Option ℕ) → is_dispatch w.call.callback ≡ true → may_insert w t ≡ true → is_held w t ≡ true
+held_in_dispatch w t = go w.call.callback
+  where
+    go : (b : Callback) → is_dispatch b ≡ true → may_insert_in b w t ≡ true → is_held w t ≡ true
+    go callback.Dispatch x y = y
+    go callback.SelectCpu x y = absurd (cc)
+    go callback.Enqueue x y = absurd (cc)
+    go callback.Plain x y = absurd (cc)
+    go callback.Init x y = absurd (cc)
+    go callback.Enable x y = absurd (cc)
+    go callback.Running x y = absurd (cc)
+    go callback.Stopping x y = absurd (cc)
+
+given_home : (x : Task) (i : Insert) → (given x i).prev_cpu ≡ x.prev_cpu
+given_home x i = vtime i.rank ∙ keeps_if (λ (y : Task). y.prev_cpu ≡ x.prev_cpu) (i.slice == 0) x _ refl refl
+  where
+    vtime : (r : Rank) → (given_vtime (given_slice x i.slice) r).prev_cpu ≡ (given_slice x i.slice).prev_cpu
+    vtime Fifo = refl
+    vtime (Vtime k) = refl
+
+inside : (n : ℕ) (w : WorldState) (t : ℕ) → t < n → length w.tasks ≡ n → nat_lt t (length w.tasks) ≡ true
+inside n w t within e = let l : t < length w.tasks = rw e within in grind (arith, nat_tests, l)
 
 module _ (hand : Option ℕ) (on : List (Option ℕ)) (n : ℕ) where
   sound_faulted : (w : WorldState) (f : Fault) → IsSound hand on n w → IsSound hand on n (faulted w f)
-  sound_faulted w f h = record { cpus = h.cpus; tasks = h.tasks; even = h.even; flags = h.flags; homes = h.homes; queues = h.queues; sorted = h.sorted; once = h.once; here = h.here; goes = h.goes }
+  sound_faulted w f h = record { cpus = h.cpus; tasks = h.tasks; even = h.even; flags = h.flags; homes = h.homes; queues = h.queues; sorted = h.sorted; once = h.once; here = h.here; goes = h.goes; at_once = h.at_once }
 
-  sound_inserted : (w : WorldState) (o : Option Fault) (q k : ℕ) → (o ≡ None → queue_fault w q ≡ None) → IsSound hand on n w → IsSound hand on n (inserted w o q k)
-  sound_inserted w None q k fine h = record { cpus = h.cpus; tasks = h.tasks; even = h.even; flags = h.flags; homes = h.homes; queues = h.queues; sorted = h.sorted; once = h.once; here = h.here; goes = target_is_there w q all here (fine refl) }
+  -- a held task goes from one queue to another
+  sound_released : (w : WorldState) (t : ℕ) (q : ℕ) (i : Insert) → w.call.insert ≡ None → IsHeld w t → IsOpen w.queues q i.rank → IsSound hand on n w → IsSound hand on n (entered (gone w t) t (record { queue = q; slice = i.slice; rank = i.rank }))
+  sound_released w t q i none held-here ready h = rw (inside n w t (subst (λ k. t < k) h.even held-here.known) h.tasks) sound_task hand on n (with_queues w s') t (given (task_at w t) (record { queue = q; slice = i.slice; rank = i.rank })) (given_home (task_at w t) i) moved-now
     where
-      all : HasQueues w.queues (length w.cpus)
-      all = rw h.cpus h.queues
+      s : QueueState
+      s = removed w.queues t
 
-      here : w.call.cpu < length w.cpus
-      here = rw h.cpus h.here
-  sound_inserted w (Some f) q k fine h = sound_faulted w f h
+      s' : QueueState
+      s' = pushed s q t i.rank
+
+      ready' : IsOpen s q i.rank
+      ready' = open_removed w.queues t q i.rank ready
+
+      ok : push_refusal s q t i.rank ≡ None
+      ok = is_accepted s t q i.rank held-here.free ready'
+
+      known' : t < task_count s
+      known' = rw (tasks_removed w.queues t) held-here.known
+
+      moved-now : IsSound hand on n (with_queues w s')
+      moved-now =
+          sound_queues hand on n w s' (λ x g. stay_pushed s q t i.rank x (stay_removed w.queues t x g)) (sorted_pushed s q t i.rank ready'.fits (sorted_removed w.queues t h.sorted)) (tasks_pushed s q t i.rank ∙ tasks_removed w.queues t)
+          (λ u. omega (arith, standing_pushed s q t u i.rank known' ok, standing_removed w.queues t u held-here.waits)) (subst (λ o. GoesSomewhere s' (length on) o) (sym none) tt) h
+
+  -- what isn't of queues or tasks
+  sound_moving : (w : WorldState) (x : What) → IsSound hand on n w → IsSound hand on n (noted (with_move w) x)
+  sound_moving w x h = record { cpus = h.cpus; tasks = h.tasks; even = h.even; flags = h.flags; homes = h.homes; queues = h.queues; sorted = h.sorted; once = h.once; here = h.here; goes = h.goes; at_once = h.at_once }
+
+  sound_inserted : (w : WorldState) (o : Option Fault) (t : Option ℕ) (i : Insert) → (o ≡ None → IsFit w t i) → IsSound hand on n w → IsSound hand on n (inserted w o t i)
+  sound_inserted w None t i fine h = go (is_dispatch w.call.callback) refl t (fine refl)
+    where
+      go : (b : Bool) → is_dispatch w.call.callback ≡ b → (u : Option ℕ) → IsFit w u i → IsSound hand on n (if b then released w u (for_cpu w.call.cpu i) else with_insert w i)
+      go true x None fit = h
+      go true x (Some u) fit =
+          sound_moving (entered (gone w u) u (for_cpu w.call.cpu i)) _
+          (sound_released w u (resolved w.call.cpu i.queue) i (h.at_once x) (held_waits w u (held_in_dispatch w (Some u) x fit.may)) (fit_open on hand n w (Some u) i w.call.cpu h.here fit h) h)
+      go false x u fit = record { cpus = h.cpus; tasks = h.tasks; even = h.even; flags = h.flags; homes = h.homes; queues = h.queues; sorted = h.sorted; once = h.once; here = h.here; goes = λ c l. fit_open on hand n w u i c l fit h; at_once = λ y. absurd (cc (sym x ∙ y)) }
+  sound_inserted w (Some f) t i fine h = sound_faulted w f h
 
   sound_moved : (w : WorldState) (o : Option ℕ) (q : ℕ) → front_of w.queues q ≡ o → IsSound hand on n w → IsSound hand on n (moved w o q)
   sound_moved w None q e h = h
   sound_moved w (Some t) q e h =
-      let b = sound_brought hand on n w (Some t) q (local_on w.call.cpu) e (h.queues.locals w.call.cpu h.here) (local_sort w.call.cpu) h t refl in
-      record { cpus = b.cpus; tasks = b.tasks; even = b.even; flags = b.flags; homes = b.homes; queues = b.queues; sorted = b.sorted; once = b.once; here = b.here; goes = b.goes }
+      sound_moving (with_queues w (pushed (popped w.queues q) (local_on w.call.cpu) t Fifo)) _ (sound_brought hand on n w (Some t) q (local_on w.call.cpu) e (h.queues.locals w.call.cpu h.here) (omega arith) (local_sort w.call.cpu) h t refl)
 
   sound_helper : (w : WorldState) (f : Helper) (a : List Argument) → IsSound hand on n w → IsSound hand on n (helper_after w f a)
   sound_helper w CreateDsq a h = keeps_if (IsSound hand on n) (can_create w (given_number a 0)) (with_queues w (created w.queues (given_number a 0))) (faulted w CannotCreate) (sound_created hand on n w (given_number a 0) h) (sound_faulted w CannotCreate h)
-  sound_helper w DsqInsert a h = sound_inserted w (insert_fault w (given_task a 0) (given_number a 1) (given_number a 3)) (given_number a 1) (given_number a 2) (λ e. no_queue_fault w (given_task a 0) (given_number a 1) (given_number a 3) e) h
+  sound_helper w DsqInsert a h = sound_inserted w (insert_fault w (given_task a 0) (asked a) (given_number a 3)) (given_task a 0) (asked a) (λ e. is_fit w (given_task a 0) (asked a) (given_number a 3) e) h
+  sound_helper w DsqInsertVtime a h = sound_inserted w (insert_fault w (given_task a 0) (asked_by_vtime a) (given_number a 4)) (given_task a 0) (asked_by_vtime a) (λ e. is_fit w (given_task a 0) (asked_by_vtime a) (given_number a 4) e) h
   sound_helper w DsqMoveToLocal a h = keeps_if (IsSound hand on n) (can_move w (given_number a 0)) (moved w (front_of w.queues (given_number a 0)) (given_number a 0)) (faulted w NoSuchQueue) (sound_moved w (front_of w.queues (given_number a 0)) (given_number a 0) refl h) (sound_faulted w NoSuchQueue h)
+  sound_helper w CpuIdle a h = keeps_if (IsSound hand on n) (nat_lt (given_number a 0) (length w.cpus)) w (faulted w NoSuchCpu) h (sound_faulted w NoSuchCpu h)
   sound_helper w DsqNrQueued a h = keeps_if (IsSound hand on n) (is_there w (given_number a 0)) w (faulted w NoSuchQueue) h (sound_faulted w NoSuchQueue h)
   sound_helper w KtimeGetNs a h = h
-  sound_helper w MapLookupElem a h = h
-  sound_helper w DsqInsertVtime a h = h
   sound_helper w SelectCpuDfl a h = h
-  sound_helper w CpuIdle a h = h
   sound_helper w TaskByPid a h = h
+  sound_helper w MapLookupElem a h = h
 
   pub sound_query : (w : WorldState) (q : Query) → IsSound hand on n w → IsSound hand on n (after_query helper_after world_stored w q)
   sound_query w (Call f a) h = sound_helper w f (map argument_of a) h
@@ -187,50 +288,63 @@ module _ (hand : Option ℕ) (on : List (Option ℕ)) (n : ℕ) where
   sound_query w (Store t f k) h = sound_task hand on n w t.0 (stored_in (task_at w t.0) f k) (stored_home (task_at w t.0) f k) h
 
   pub sound_begun : (w : WorldState) (b : Callback) (t c : ℕ) → c < length on → IsSound hand on n w → IsSound hand on n (begun w b t c)
-  sound_begun w b t c l h = record { cpus = h.cpus; tasks = h.tasks; even = h.even; flags = h.flags; homes = h.homes; queues = h.queues; sorted = h.sorted; once = h.once; here = l; goes = tt }
+  sound_begun w b t c l h = record { cpus = h.cpus; tasks = h.tasks; even = h.even; flags = h.flags; homes = h.homes; queues = h.queues; sorted = h.sorted; once = h.once; here = l; goes = tt; at_once = λ e. refl }
 
 -- ---- the task at hand comes to wait
 
 once_pushed : (w : WorldState) (t q : ℕ) (r : Rank) → t < task_count w.queues → push_refusal w.queues q t r ≡ None → IsOnce (Some t) w → IsOnce None (with_queues w (pushed w.queues q t r))
 once_pushed w t q r within ok once u = omega (arith, once u, standing_pushed w.queues q t u r within ok)
 
-slice_home : (x : Task) (k : ℕ) → (given_slice x k).prev_cpu ≡ x.prev_cpu
-slice_home x k = keeps_if (λ (y : Task). y.prev_cpu ≡ x.prev_cpu) (k == 0) x _ refl refl
-
 renewed_home : (x : Task) → (renewed x).prev_cpu ≡ x.prev_cpu
 renewed_home x = keeps_if (λ (y : Task). y.prev_cpu ≡ x.prev_cpu) (x.slice == 0) _ x refl refl
 
 module _ (on : List (Option ℕ)) (n : ℕ) where
-  sound_enters : (w : WorldState) (t q : ℕ) (r : Rank) (x : Task) → x.prev_cpu ≡ (task_at w t).prev_cpu → t < n → exists w.queues q ≡ true → same_sort r (sort_of q) ≡ true → IsSound (Some t) on n w → IsSound None on n (with_queues (with_task w t x) (pushed w.queues q t r))
-  sound_enters w t q r x home within there fits h =
+  sound_enters : (w : WorldState) (t : ℕ) (i : Insert) → t < n → IsOpen w.queues i.queue i.rank → GoesSomewhere (pushed w.queues i.queue t i.rank) (length on) w.call.insert → IsSound (Some t) on n w → IsSound None on n (entered w t i)
+  sound_enters w t i within ready goes h =
+      let q = i.queue in
+      let r = i.rank in
+      let x = given (task_at w t) i in
       let known : t < task_count w.queues = rw h.even within in
-      let ok : push_refusal w.queues q t r ≡ None = is_accepted w.queues t q r (nowhere w t h.once) there fits h.sorted in
-      record {
+      let ok : push_refusal w.queues q t r ≡ None = is_accepted w.queues t q r (nowhere w t h.once) ready in
+      rw (inside n w t within h.tasks) record {
         cpus = h.cpus;
         tasks = length-set w.tasks t x ∙ h.tasks;
         even = tasks_pushed w.queues q t r ∙ h.even;
         flags = h.flags;
-        homes = homes_set w.tasks t x (length on) (rw home (h.homes t)) h.homes;
+        homes = homes_set w.tasks t x (length on) (rw (given_home (task_at w t) i) (h.homes t)) h.homes;
         queues = queues_stay w.queues (pushed w.queues q t r) (length on) (stay_pushed w.queues q t r) h.queues;
-        sorted = sorted_pushed w.queues q t r fits h.sorted;
+        sorted = sorted_pushed w.queues q t r ready.fits h.sorted;
         once = once_pushed w t q r known ok h.once;
         here = h.here;
-        goes = goes_on w.queues (pushed w.queues q t r) w.call.cpu w.call.insert (stay_pushed w.queues q t r) h.goes;
+        goes = goes;
+        at_once = h.at_once;
       }
 
-  inside : (w : WorldState) (t : ℕ) → t < n → length w.tasks ≡ n → nat_lt t (length w.tasks) ≡ true
-  inside w t within e = let l : t < length w.tasks = rw e within in grind (arith, nat_tests, l)
+  -- into one of the machine's own queues
+  sound_enters_own : (w : WorldState) (t : ℕ) (i : Insert) → t < n → exists w.queues i.queue ≡ true → policy_end ≤ i.queue → same_sort i.rank (sort_of i.queue) ≡ true → IsSound (Some t) on n w → IsSound None on n (entered w t i)
+  sound_enters_own w t i within there own fits h =
+      sound_enters w t i within (own_open w.queues i.queue i.rank there own fits h.sorted)
+      (goes_on w.queues (pushed w.queues i.queue t i.rank) (length on) w.call.insert (λ x k o. open_own w.queues i.queue t i.rank x k own fits o) h.goes) h
 
-  sound_entered : (w : WorldState) (t q k : ℕ) → t < n → IsTarget w.queues q → IsSound (Some t) on n w → IsSound None on n (entered w t q k)
-  sound_entered w t q k within there h = rw (inside w t within h.tasks) (sound_enters w t q Fifo (given_slice (task_at w t) k) (slice_home (task_at w t) k) within there.0 there.1 h)
+  -- where a callback said
+  pub said_open : (w : WorldState) (c : ℕ) (said : Insert) → c < length on → w.call.insert ≡ Some said → GoesSomewhere w.queues (length on) w.call.insert → IsOpen w.queues (resolved c said.queue) said.rank
+  said_open w c said l e goes = subst (λ (o : Option Insert). GoesSomewhere w.queues (length on) o) e goes c l
 
-  pub queue_for_is_there : (s : QueueState) (p : Option VerifiedProgram) (c : ℕ) (o : Option Insert) → HasQueues s (length on) → GoesSomewhere s c o → IsTarget s (queue_for p c o)
-  queue_for_is_there s None c o h g = (h.global, refl)
-  queue_for_is_there s (Some p) c None h g = (h.held, refl)
-  queue_for_is_there s (Some p) c (Some i) h g = g
+  sound_enters_said : (w : WorldState) (t c : ℕ) (said : Insert) → t < n → c < length on → w.call.insert ≡ Some said → IsSound (Some t) on n w → IsSound None on n (entered w t (for_cpu c said))
+  sound_enters_said w t c said within l e h =
+      sound_enters w t (for_cpu c said) within (said_open w c said l e h.goes)
+      (subst (λ (o : Option Insert). GoesSomewhere (pushed w.queues (resolved c said.queue) t said.rank) (length on) o) (sym e)
+      (λ d m. open_same w.queues (resolved c said.queue) t (resolved d said.queue) said.rank (said_open w d said m e h.goes))) h
 
-  pub sound_placed : (w : WorldState) (p : Option VerifiedProgram) (t : ℕ) → t < n → IsSound (Some t) on n w → IsSound None on n (entered w t (queue_for p w.call.cpu w.call.insert) (slice_for p w.call.insert))
-  sound_placed w p t within h = sound_entered w t (queue_for p w.call.cpu w.call.insert) (slice_for p w.call.insert) within (queue_for_is_there w.queues p w.call.cpu w.call.insert h.queues h.goes) h
+  pub wanted_open : (w : WorldState) (i : Insert) (hand : Option ℕ) → IsWanted (length on) w i → IsSound hand on n w → IsOpen w.queues i.queue i.rank
+  wanted_open w i hand (For_any e) h = rw e (own_open w.queues global Fifo h.queues.global (omega arith) refl h.sorted)
+  wanted_open w i hand (Nowhere e) h = rw e (own_open w.queues held Fifo h.queues.held (omega arith) refl h.sorted)
+  wanted_open w i hand (Inserted c said l x e) h = rw e (said_open w c said l x h.goes)
+
+  pub sound_entered : (w : WorldState) (t : ℕ) (i : Insert) → t < n → IsWanted (length on) w i → IsSound (Some t) on n w → IsSound None on n (entered w t i)
+  sound_entered w t i within (For_any e) h = rw e (sound_enters_own w t to_global within h.queues.global (omega arith) refl h)
+  sound_entered w t i within (Nowhere e) h = rw e (sound_enters_own w t to_held within h.queues.held (omega arith) refl h)
+  sound_entered w t i within (Inserted c said l x e) h = rw e (sound_enters_said w t c said within l x h)
 
   pub sound_filled : (w : WorldState) (q c : ℕ) → c < length on → IsSound None on n w → IsSound None on n (filled w q c)
   sound_filled w q c l h = go (fill_front w q c) (λ t e. front t (nat_lt 0 (local_len w c)) e)
@@ -241,7 +355,7 @@ module _ (on : List (Option ℕ)) (n : ℕ) where
 
       go : (o : Option ℕ) → ((t : ℕ) → o ≡ Some t → front_of w.queues q ≡ Some t) → IsSound None on n (brought o w q c)
       go None f = h
-      go (Some t) f = sound_brought None on n w (Some t) q (local_on c) (f t refl) (h.queues.locals c l) (local_sort c) h t refl
+      go (Some t) f = sound_brought None on n w (Some t) q (local_on c) (f t refl) (h.queues.locals c l) (omega arith) (local_sort c) h t refl
 
   pub sound_kept : (w : WorldState) (t : ℕ) → IsSound None on n w → IsSound None on n (kept w (Some t))
   sound_kept w t h = sound_task None on n w t (renewed (task_at w t)) (renewed_home (task_at w t)) h
@@ -250,10 +364,10 @@ module _ (on : List (Option ℕ)) (n : ℕ) where
   sound_ticked w t h = sound_task None on n w t (ran_a_tick (task_at w t)) refl h
 
   pub sound_later : (w : WorldState) → IsSound None on n w → IsSound None on n (later w)
-  sound_later w h = record { cpus = h.cpus; tasks = h.tasks; even = h.even; flags = h.flags; homes = h.homes; queues = h.queues; sorted = h.sorted; once = h.once; here = h.here; goes = h.goes }
+  sound_later w h = record { cpus = h.cpus; tasks = h.tasks; even = h.even; flags = h.flags; homes = h.homes; queues = h.queues; sorted = h.sorted; once = h.once; here = h.here; goes = h.goes; at_once = h.at_once }
 
   pub sound_with_weight : (w : WorldState) (g x : ℕ) → IsSound None on n w → IsSound None on n (with_tree w (tree.with_weight w.tree g x))
-  sound_with_weight w g x h = record { cpus = h.cpus; tasks = h.tasks; even = h.even; flags = h.flags; homes = h.homes; queues = h.queues; sorted = h.sorted; once = h.once; here = h.here; goes = h.goes }
+  sound_with_weight w g x h = record { cpus = h.cpus; tasks = h.tasks; even = h.even; flags = h.flags; homes = h.homes; queues = h.queues; sorted = h.sorted; once = h.once; here = h.here; goes = h.goes; at_once = h.at_once }
 
   -- who leaves its processor is in no place
   pub sound_stopped : (w : WorldState) (c t : ℕ) → c < length on → t < n → get_or on c None ≡ Some t → IsSound None on n w → IsSound (Some t) (set on c None) n (stopped w c t)
@@ -267,7 +381,8 @@ module _ (on : List (Option ℕ)) (n : ℕ) where
     sorted = h.sorted;
     once = λ u. omega (arith, h.once u, here u, sum_by-set (λ o. one_if (is_this u o)) w.cpus c None None l');
     here = rw (length-set on c None) h.here;
-    goes = h.goes;
+    goes = subst (λ k. GoesSomewhere w.queues k w.call.insert) (sym (length-set on c None)) h.goes;
+    at_once = h.at_once;
   }
     where
       l' : c < length w.cpus
@@ -288,7 +403,8 @@ module _ (on : List (Option ℕ)) (n : ℕ) where
     sorted = sorted_popped w.queues (local_on c) h.sorted;
     once = λ u. omega (arith, h.once u, ap (λ o. one_if (is_this u o)) free', sum_by-set (λ o. one_if (is_this u o)) w.cpus c (Some t) None l', standing_popped w.queues (local_on c) t u e);
     here = rw same h.here;
-    goes = goes_on w.queues (popped w.queues (local_on c)) w.call.cpu w.call.insert (stay_without w.queues (front_of w.queues (local_on c))) h.goes;
+    goes = subst (λ k. GoesSomewhere (popped w.queues (local_on c)) k w.call.insert) (sym same) (goes_on w.queues (popped w.queues (local_on c)) (length on) w.call.insert (λ x k o. open_without w.queues (front_of w.queues (local_on c)) x k o) h.goes);
+    at_once = h.at_once;
   }
     where
       same : length (set on c (Some t)) ≡ length on
@@ -339,6 +455,7 @@ module _ (on : List (Option ℕ)) (n : ℕ) where
     once = once_woken w t (rw h.flags within) asleep h.once;
     here = h.here;
     goes = h.goes;
+    at_once = h.at_once;
   }
 
   once_asleep : (w : WorldState) (t : ℕ) → t < length w.tree.active → IsOnce (Some t) w → (u : ℕ) → appearances w u + 0 ≡ one_if (get_or (set w.tree.active t false) u false)
@@ -356,7 +473,7 @@ module _ (on : List (Option ℕ)) (n : ℕ) where
       go (inr d) = rw (get_or-set_other w.tree.active t u false false d) (omega (arith, once u, ap one_if (ne_eqb u t d)))
 
   pub sound_asleep : (w : WorldState) (t : ℕ) → t < n → IsSound (Some t) on n w → IsSound None on n (asleep w t)
-  sound_asleep w t within h = rw (inside on n w t within h.tasks) record {
+  sound_asleep w t within h = rw (inside n w t within h.tasks) record {
     cpus = h.cpus;
     tasks = h.tasks;
     even = h.even;
@@ -367,6 +484,7 @@ module _ (on : List (Option ℕ)) (n : ℕ) where
     once = once_asleep w t (rw h.flags within) h.once;
     here = h.here;
     goes = h.goes;
+    at_once = h.at_once;
   }
 
   -- who is runnable and doesn't run waits, and is in no place once it has left its queue
@@ -381,7 +499,8 @@ module _ (on : List (Option ℕ)) (n : ℕ) where
     sorted = sorted_removed w.queues t h.sorted;
     once = λ u. omega (arith, h.once u, standing_removed w.queues t u waiting);
     here = h.here;
-    goes = goes_on w.queues (removed w.queues t) w.call.cpu w.call.insert (stay_removed w.queues t) h.goes;
+    goes = goes_on w.queues (removed w.queues t) (length on) w.call.insert (λ x k o. open_removed w.queues t x k o) h.goes;
+    at_once = h.at_once;
   }
     where
       waiting : is_some (place_of w.queues t) ≡ true

@@ -1,8 +1,8 @@
 -- Laws of the machine.
-use Rattle.std.specs.Prelude.{◌≡◌, ℕ, ◌+◌, ◌<◌, true, length, None}
+use Rattle.std.specs.Prelude.{◌≡◌, ℕ, ◌+◌, ◌<◌, length, None}
 use Rattle.scx_machine.specs.declared.events.Event.{Event}
 use Rattle.scx_machine.specs.Steps.{State}
-use Rattle.scx_world.specs.World.{is_idle}
+use Rattle.scx_world.specs.World.{running}
 use Rattle.scx_machine.specs.Events.{refusal, happened, tick}
 use Rattle.scx_sched.specs.Left.{LeavesNothing}
 use Rattle.scx_sched.specs.Ranges.{IsFine}
@@ -19,7 +19,7 @@ StepKeepsFine =
 abbrev pub TickLeavesNothing : Type 0
 TickLeavesNothing =
     (n e : ℕ) (s : State) (c : ℕ) → c < length s.world.cpus → IsFine n e None s.world.cpus s.world
-    → is_idle (tick s c).state.world c ≡ true → LeavesNothing (tick s c).state.world c
+    → running (tick s c).state.world c ≡ None → LeavesNothing (tick s c).state.world c
 
 -- each small step that an event is made of keeps what holds inside of it
 abbrev pub StepsKeepFine : Type 0

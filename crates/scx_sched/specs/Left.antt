@@ -1,9 +1,9 @@
 -- Nothing is left behind: a processor is idle only where neither its own queue nor that of all
 -- processors has a task for it.
-use Rattle.std.specs.Prelude.{◌≡◌, ℕ, ⊤, true, None}
+use Rattle.std.specs.Prelude.{◌≡◌, ℕ, ⊤, None}
 use Rattle.scx_dsq.specs.Queues.{front_of}
 use Rattle.scx_world.specs.Ids.{global}
-use Rattle.scx_world.specs.World.{WorldState, is_idle}
+use Rattle.scx_world.specs.World.{WorldState, running}
 use Rattle.scx_world.specs.Tasks.{local_len}
 use Rattle.scx_machine.specs.declared.events.Event.{Event}
 use Rattle.scx_machine.specs.declared.events.Event.TheVariants.{Wake, Sleep, Tick, Clock, SetWeight}
@@ -14,7 +14,7 @@ pub record LeavesNothing (w : WorldState) (c : ℕ) : Type 0 where
 
 -- in the world after a tick; of other events nothing is said
 abbrev pub LeavesNothingIdle : Event → WorldState → Type 0
-LeavesNothingIdle (Tick c) w = is_idle w c ≡ true → LeavesNothing w c
+LeavesNothingIdle (Tick c) w = running w c ≡ None → LeavesNothing w c
 LeavesNothingIdle (Wake t) w = ⊤
 LeavesNothingIdle (Sleep t) w = ⊤
 LeavesNothingIdle Clock w = ⊤

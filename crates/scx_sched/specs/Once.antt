@@ -1,16 +1,18 @@
 -- In how many places a task appears: on processors and in queues. Between two events a runnable task
 -- appears once, and a sleeping one nowhere; inside an event the task at hand may be in neither place.
-use Rattle.std.specs.Prelude.{◌≡◌, ℕ, ◌+◌, ◌<◌, Bool, true, ◌==◌, List, length, Option, Some, None, sum_by, if◌then◌else◌}
+use Rattle.std.specs.Prelude.{◌≡◌, ℕ, ◌+◌, ◌<◌, Bool, true, false, ◌==◌, ◌||◌, nat_lt, List, length, Option, Some, None, sum_by, if◌then◌else◌}
 use Rattle.scx_dsq.specs.Queues.{QueueState, exists, task_count, place_of}
+use Rattle.scx_dsq.specs.Calls.{clashes}
 use Rattle.scx_dsq.specs.Places.{same_sort}
 use Rattle.scx_dsq.specs.declared.places.Place.{Place}
 use Rattle.scx_dsq.specs.declared.places.Rank.{Rank}
 use Rattle.scx_dsq.specs.declared.places.Rank.TheVariants.{Fifo, Vtime}
 use Rattle.scx_dsq.specs.Laws.{one_if, standing}
 use Rattle.scx_world.specs.declared.call.Insert.{Insert}
-use Rattle.scx_world.specs.Ids.{global, held, builtin, local_on}
+use Rattle.scx_world.specs.Ids.{policy_end, global, held, builtin, local_on}
 use Rattle.scx_world.specs.World.{WorldState, task_at, is_this, is_runnable}
-use Rattle.scx_machine.specs.Put.{resolved}
+use Rattle.scx_world.specs.Tasks.{resolved}
+use Rattle.scx_world.specs.Helpers.{is_dispatch}
 
 -- on how many processors it runs
 abbrev pub runs : List (Option ℕ) → ℕ → ℕ
@@ -30,21 +32,35 @@ pub record HasQueues (s : QueueState) (cpus : ℕ) : Type 0 where
   pub builtin : exists s builtin ≡ true
   pub locals : (c : ℕ) → c < cpus → exists s (local_on c) ≡ true
 
--- the built-in queue is by time, all others in order of arrival
+-- of the machine's own queues the built-in one is by time, the others in order of arrival
 abbrev pub sort_of : ℕ → Rank
 sort_of q = if q == builtin then Vtime 0 else Fifo
 
+-- a queue of the policy takes tasks of either sort
+abbrev pub fits_queue : ℕ → Rank → Bool
+fits_queue q r = nat_lt q policy_end || same_sort r (sort_of q)
+
 abbrev pub fits_sort : Option Place → Bool
 fits_sort None = true
-fits_sort (Some p) = same_sort p.rank (sort_of p.queue)
+fits_sort (Some p) = fits_queue p.queue p.rank
 
 abbrev pub IsSorted : QueueState → Type 0
 IsSorted s = (t : ℕ) → fits_sort (place_of s t) ≡ true
 
--- where the callback wants its task to go there is a queue, in order of arrival
+-- nobody waits in the queue who was put there in the other way
+abbrev pub IsAlike : QueueState → ℕ → Rank → Type 0
+IsAlike s q r = (t : ℕ) → clashes q r (place_of s t) ≡ false
+
+-- there is such a queue, and it takes a task so
+pub record IsOpen (s : QueueState) (q : ℕ) (r : Rank) : Type 0 where
+  pub there : exists s q ≡ true
+  pub fits : fits_queue q r ≡ true
+  pub alike : IsAlike s q r
+
+-- where the callback wants its task to go, for each processor that LOCAL may mean
 abbrev pub GoesSomewhere : QueueState → ℕ → Option Insert → Type 0
-GoesSomewhere s c None = Unit {0}
-GoesSomewhere s c (Some i) = (exists s (resolved c i.queue) ≡ true) × (same_sort Fifo (sort_of (resolved c i.queue)) ≡ true)
+GoesSomewhere s cpus None = Unit {0}
+GoesSomewhere s cpus (Some i) = (c : ℕ) → c < cpus → IsOpen s (resolved c i.queue) i.rank
 
 -- what holds of a world of so many tasks with these on its processors, and that task in no place
 pub record IsSound (hand : Option ℕ) (on : List (Option ℕ)) (n : ℕ) (w : WorldState) : Type 0 where
@@ -57,4 +73,5 @@ pub record IsSound (hand : Option ℕ) (on : List (Option ℕ)) (n : ℕ) (w : W
   pub sorted : IsSorted w.queues
   pub once : IsOnce hand w
   pub here : w.call.cpu < length on
-  pub goes : GoesSomewhere w.queues w.call.cpu w.call.insert
+  pub goes : GoesSomewhere w.queues (length on) w.call.insert
+  pub at_once : is_dispatch w.call.callback ≡ true → w.call.insert ≡ None

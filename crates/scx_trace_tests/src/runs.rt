@@ -43,6 +43,7 @@ fn machine<R: AllocGlobal + Abort>(rt: &R) -> Sim {
     let callbacks = Callbacks {
         init: program(rt, Callback::Init, "r1 = 0\ncall 1001\nexit"),
         enable: None,
+        select_cpu: None,
         enqueue: program(rt, Callback::Enqueue, enqueue),
         dispatch: program(rt, Callback::Dispatch, "r1 = 0\ncall 1004\nexit"),
         running: None,
