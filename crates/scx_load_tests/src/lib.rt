@@ -4,6 +4,8 @@
 #[cfg(test)]
 mod driver;
 #[cfg(test)]
+mod examples;
+#[cfg(test)]
 mod faults;
 #[cfg(test)]
 mod policies;

@@ -337,8 +337,8 @@ inserts : (w : WorldState) (t : Option ℕ) (i : Insert) → MayInsert w t → I
 inserts w t i m = go m
   where
     kept : (b : Callback) → w.call.callback ≡ b → is_dispatch b ≡ false → Inserts w t i (inserted w None t i)
-    kept b x no =
-        let d : is_dispatch w.call.callback ≡ false = rw x no in
+    kept b x other =
+        let d : is_dispatch w.call.callback ≡ false = rw x other in
         rw d (Keeps (λ e. not_both (is_dispatch w.call.callback) d (is_dispatch_of w.call.callback e)) refl)
 
     go : MayInsert w t → Inserts w t i (inserted w None t i)
@@ -466,16 +466,16 @@ finds w n = go (nat_lt 0 n) (nat_le n (length w.tasks)) refl refl
     go false b x y = let low : n ≤ 0 = grind (arith, nat_tests, x) in Nobody (λ t l e. omega (arith, e, low)) refl
 
 pub helper_allowed : RulesAllowHelpers
-helper_allowed w KtimeGetNs a no = Done (w.clock * 1000000) refl (refl, refl) refl
-helper_allowed w CreateDsq a no = create_allowed w a
-helper_allowed w DsqInsert a no = insert_allowed w a
-helper_allowed w DsqInsertVtime a no = insert_vtime_allowed w a
-helper_allowed w DsqMoveToLocal a no = move_allowed w a
-helper_allowed w SelectCpuDfl a no = Done (choice_answer w (given_task a 0)) refl (chooses w (given_task a 0), refl) refl
-helper_allowed w CpuIdle a no = idle_allowed w a
-helper_allowed w TaskByPid a no = Looked_up refl (finds w (given_number a 0)) refl
-helper_allowed w DsqNrQueued a no = queued_allowed w a
-helper_allowed w MapLookupElem a no = absurd (no refl)
+helper_allowed w KtimeGetNs a own = Done (w.clock * 1000000) refl (refl, refl) refl
+helper_allowed w CreateDsq a own = create_allowed w a
+helper_allowed w DsqInsert a own = insert_allowed w a
+helper_allowed w DsqInsertVtime a own = insert_vtime_allowed w a
+helper_allowed w DsqMoveToLocal a own = move_allowed w a
+helper_allowed w SelectCpuDfl a own = Done (choice_answer w (given_task a 0)) refl (chooses w (given_task a 0), refl) refl
+helper_allowed w CpuIdle a own = idle_allowed w a
+helper_allowed w TaskByPid a own = Looked_up refl (finds w (given_number a 0)) refl
+helper_allowed w DsqNrQueued a own = queued_allowed w a
+helper_allowed w MapLookupElem a own = absurd (own refl)
 
 -- ---- and nothing else
 
@@ -512,11 +512,23 @@ only_tells w c n (Is_idle e k) = rw e k
 only_tells w c n (Is_busy e k) = rw e k
 
 only_idle : (w : WorldState) (a : List Argument) (x : Answer) (v : WorldState) → IsEffect w CpuIdle a x v → Is-this w CpuIdle a x v
-only_idle w a x v (Done n j d e) =
-    let b : nat_lt (given_number a 0) (length w.cpus) ≡ true = grind (arith, nat_tests, j) in
-    rw b (e ∙ ap Number (only_tells w (given_number a 0) n d.0), d.1)
+only_idle w a x v (Done n j d e) = go (nat_lt c (length w.cpus)) refl
+  where
+    c : ℕ
+    c = given_number a 0
+
+    go : (b : Bool) → nat_lt c (length w.cpus) ≡ b → (x ≡ Number (if b then one_if (is_idle w c) else invalid)) × (v ≡ (if b then w else faulted w NoSuchCpu))
+    go true y = (e ∙ ap Number (only_tells w c n d.0), d.1)
+    go false y = let past : length w.cpus ≤ c = grind (arith, nat_tests, y) in absurd (omega (arith, j, past))
 only_idle w a x v (Looked_up h f e) = absurd (cc)
-only_idle w a x v (Wrong NoSuchCpu j e k) = let b : nat_lt (given_number a 0) (length w.cpus) ≡ false = grind (arith, nat_tests, j) in rw b (e, k)
+only_idle w a x v (Wrong NoSuchCpu j e k) = go (nat_lt c (length w.cpus)) refl
+  where
+    c : ℕ
+    c = given_number a 0
+
+    go : (b : Bool) → nat_lt c (length w.cpus) ≡ b → (x ≡ Number (if b then one_if (is_idle w c) else invalid)) × (v ≡ (if b then w else faulted w NoSuchCpu))
+    go true y = let l : c < length w.cpus = grind (arith, nat_tests, y) in absurd (omega (arith, j, l))
+    go false y = (e, k)
 only_idle w a x v (Wrong NoSuchQueue j e k) = absurd j
 only_idle w a x v (Wrong CannotCreate j e k) = absurd j
 only_idle w a x v (Wrong CannotInsert j e k) = absurd j
