@@ -1,0 +1,48 @@
+-- What is verified callback by callback makes a policy, or is refused at the first that isn't safe.
+use Rattle.std.proofs.Common.{◌≡◌, refl}
+use Rattle.scx_semantics.specs.declared.callbacks.Callback.{Callback}
+use Rattle.scx_semantics.specs.declared.callbacks.Callback.TheVariants as callback
+use Rattle.scx_machine.specs.declared.policy.Callbacks.{Callbacks}
+use Rattle.scx_machine.specs.Policy as machine
+use Rattle.scx_machine.specs.Policy.{PolicyState, policy_of}
+use Rattle.scx_policies.specs.declared.building.BuildError.{BuildError}
+use Rattle.scx_policies.specs.declared.building.BuildError.TheVariants as errors
+use Rattle.scx_policies.specs.Policies.{PolicyFile, program_of}
+use Rattle.scx_policies.specs.Building.{IsAccepted, IsRefusedFor, earlier, AreAccepted, IsFirstRefused, code_of, IsBuilt, IsVerified, IsRefusedAs}
+
+pub refused_at : (text : PolicyFile) (b : Callback) (e : BuildError) → AreAccepted text (earlier b) → IsRefusedAs text.shapes (program_of text b) b e → IsFirstRefused text e
+refused_at text b (errors.Refused a fault slot) before (is, refused) = rw is (before, refused)
+refused_at text b errors.NoMemory before refused = tt
+
+-- each program, at its callback
+pub record AreVerified (text : PolicyFile) (c : Callbacks) : Type 0 where
+  pub init : IsVerified text.shapes text.programs.init callback.Init c.init
+  pub enable : IsVerified text.shapes text.programs.enable callback.Enable c.enable
+  pub select_cpu : IsVerified text.shapes text.programs.select_cpu callback.SelectCpu c.select_cpu
+  pub enqueue : IsVerified text.shapes text.programs.enqueue callback.Enqueue c.enqueue
+  pub dispatch : IsVerified text.shapes text.programs.dispatch callback.Dispatch c.dispatch
+  pub running : IsVerified text.shapes text.programs.running callback.Running c.running
+  pub stopping : IsVerified text.shapes text.programs.stopping callback.Stopping c.stopping
+
+pub built_of : (text : PolicyFile) (p : PolicyState) (c : Callbacks) → p ≡ policy_of text.shapes text.timeout_ms c → AreVerified text c → IsBuilt text p
+built_of text p c e h = rw e record { shapes = refl; timeout = refl; programs = codes; accepted = fits }
+  where
+    codes : (b : Callback) → code_of (machine.program_of (policy_of text.shapes text.timeout_ms c) b) ≡ program_of text b
+    codes callback.Init = h.init.code
+    codes callback.Enable = h.enable.code
+    codes callback.SelectCpu = h.select_cpu.code
+    codes callback.Enqueue = h.enqueue.code
+    codes callback.Dispatch = h.dispatch.code
+    codes callback.Running = h.running.code
+    codes callback.Stopping = h.stopping.code
+    codes callback.Plain = refl
+
+    fits : (b : Callback) → IsAccepted text.shapes (program_of text b) b
+    fits callback.Init = h.init.accepted
+    fits callback.Enable = h.enable.accepted
+    fits callback.SelectCpu = h.select_cpu.accepted
+    fits callback.Enqueue = h.enqueue.accepted
+    fits callback.Dispatch = h.dispatch.accepted
+    fits callback.Running = h.running.accepted
+    fits callback.Stopping = h.stopping.accepted
+    fits callback.Plain = tt
