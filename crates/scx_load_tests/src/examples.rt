@@ -11,7 +11,9 @@ use std::process::Abort;
 use std::test::Fail;
 
 const HELD: u64 = 0x8000_0000_0000_0003;
+
 const LOCAL_0: u64 = 0xc000_0000_0000_0000;
+
 const LOCAL_1: u64 = 0xc000_0000_0000_0001;
 
 /// Processor 0 hands out all tasks.

@@ -108,12 +108,7 @@ fn each_fault_has_its_path(rt: HostRuntime) -> Result<(), Fail> {
         Cause::NotToml,
     );
     refuses(&rt, "timeout = 5", "timeout", Cause::Unknown);
-    refuses(
-        &rt,
-        "[code]\nplain = 1",
-        "code.plain",
-        Cause::Unknown,
-    );
+    refuses(&rt, "[code]\nplain = 1", "code.plain", Cause::Unknown);
     refuses(&rt, "[[map]]\nsize = 1", "map.0.size", Cause::Unknown);
     refuses(&rt, "name = 1", "name", Cause::WrongType);
     refuses(&rt, "name = \"2fast\"", "name", Cause::BadName);

@@ -14,8 +14,11 @@ use std::process::Abort;
 use std::test::Fail;
 
 const GLOBAL: u64 = 0x8000_0000_0000_0001;
+
 const HELD: u64 = 0x8000_0000_0000_0003;
+
 const LOCAL_0: u64 = 0xc000_0000_0000_0000;
+
 const LOCAL_1: u64 = 0xc000_0000_0000_0001;
 
 /// One map of one value of eight bytes.
@@ -91,7 +94,12 @@ fn place(rt: &impl Abort, sim: &Sim, task: u16) -> Place {
 fn virtual_times_take_turns(rt: HostRuntime) -> Result<(), Fail> {
     let mut sim = machine(&rt, by_vtime(&rt), &[0, 0], 1);
     let mut recorder = Recorder::new(rt.alloc(), 100);
-    run(&rt, &mut sim, &mut recorder, &[Event::Wake(0), Event::Wake(1)]);
+    run(
+        &rt,
+        &mut sim,
+        &mut recorder,
+        &[Event::Wake(0), Event::Wake(1)],
+    );
     for millisecond in 0..40 {
         run(&rt, &mut sim, &mut recorder, &[Event::Tick(0)]);
         if millisecond == 19 {
@@ -133,7 +141,12 @@ fn a_task_sleeps_and_wakes(rt: HostRuntime) -> Result<(), Fail> {
     ];
     run(&rt, &mut sim, &mut recorder, &begin);
     for _ in 2..5 {
-        run(&rt, &mut sim, &mut recorder, &[Event::Tick(0), Event::Clock]);
+        run(
+            &rt,
+            &mut sim,
+            &mut recorder,
+            &[Event::Tick(0), Event::Clock],
+        );
     }
     let end = [Event::Wake(0), Event::Tick(0), Event::Clock];
     run(&rt, &mut sim, &mut recorder, &end);
@@ -191,7 +204,12 @@ fn a_held_task_goes_at_once(rt: HostRuntime) -> Result<(), Fail> {
     assert!(&rt; known);
     assert_eq!(rt; sim.slice(0), 2_000_000);
     // The second task is held for ever: dispatch names the first alone, which is held no more.
-    run(&rt, &mut sim, &mut recorder, &[Event::Wake(1), Event::Tick(0), Event::Tick(0)]);
+    run(
+        &rt,
+        &mut sim,
+        &mut recorder,
+        &[Event::Wake(1), Event::Tick(0), Event::Tick(0)],
+    );
     assert_eq!(rt; place(&rt, &sim, 0), Place::Cpu(0));
     assert_eq!(rt; place(&rt, &sim, 1), Place::Held);
     Ok(())
@@ -238,11 +256,9 @@ fn a_processor_that_there_is_not_is_the_default_choice(rt: HostRuntime) -> Resul
 
 /// Inserts the task at hand into LOCAL, and answers that number.
 fn local_for<R: AllocGlobal + Abort>(rt: &R, answer: &str, recorder: &mut Recorder) {
-    let text = format!(
-        in rt.alloc();
+    let text = format!(in rt.alloc();
         "r2 = 9223372036854775810 ll\nr3 = 0\nr4 = 0\ncall 1002\nr0 = {answer}\nexit"
-    )
-    .expect(rt, "there is memory");
+    ).expect(rt, "there is memory");
     woken(rt, text.as_str(), recorder);
 }
 

@@ -327,7 +327,12 @@ fn knows_where_helpers_may_be_called(rt: HostRuntime) -> Result<(), Fail> {
         insert,
         "verify 16 HelperNotHere at 5",
     )?;
-    expect(&rt, Callback::SelectCpu, "call 5\nr0 = r10\nexit", "verify 18 BadReturn at 2")
+    expect(
+        &rt,
+        Callback::SelectCpu,
+        "call 5\nr0 = r10\nexit",
+        "verify 18 BadReturn at 2",
+    )
 }
 
 #[test]

@@ -64,7 +64,7 @@ module _ (n e : ℕ) where
   idle_is_free : (w : WorldState) (c : ℕ) → is_idle w c ≡ true → get_or w.cpus c None ≡ None
   idle_is_free w c e = go (nat_lt c (length w.cpus)) (get_or w.cpus c None) (not (is_this c w.cycling)) e
     where
-      go : (b : Bool) (o : Option ℕ) (d : Bool) → (b && (is_none o && d)) ≡ true → o ≡ None
+      go : (b : Bool) (o : Option ℕ) (d : Bool) → (b && is_none o && d) ≡ true → o ≡ None
       go true None d e = refl
       go true (Some t) d e = absurd (cc)
       go false o d e = absurd (cc)

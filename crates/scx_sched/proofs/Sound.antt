@@ -228,7 +228,8 @@ module _ (hand : Option ℕ) (on : List (Option ℕ)) (n : ℕ) where
 
   -- a held task goes from one queue to another
   sound_released : (w : WorldState) (t : ℕ) (q : ℕ) (i : Insert) → w.call.insert ≡ None → IsHeld w t → IsOpen w.queues q i.rank → IsSound hand on n w → IsSound hand on n (entered (gone w t) t (record { queue = q; slice = i.slice; rank = i.rank }))
-  sound_released w t q i none held-here ready h = rw (inside n w t (subst (λ k. t < k) h.even held-here.known) h.tasks) sound_task hand on n (with_queues w s') t (given (task_at w t) (record { queue = q; slice = i.slice; rank = i.rank })) (given_home (task_at w t) i) moved-now
+  sound_released w t q i none held-here ready h = rw (inside n w t (subst (λ k. t < k) h.even held-here.known) h.tasks)
+      (sound_task hand on n (with_queues w s') t (given (task_at w t) (record { queue = q; slice = i.slice; rank = i.rank })) (given_home (task_at w t) (record { queue = q; slice = i.slice; rank = i.rank })) moved-now)
     where
       s : QueueState
       s = removed w.queues t
