@@ -1,7 +1,7 @@
 use Rattle.std.proofs.Common.{rules, ◌++◌}
 use Rattle.scx_output.proofs.Growth.{grows_twice}
-use Rattle.scx_trace.proofs.Beginnings.{beginning_of_more, beginning_behind}
-use Rattle.scx_trace.proofs.lines.write_line.Goals as goal
+use Rattle.scx_output.proofs.Beginnings.{beginning_of_more, beginning_behind}
+use Rattle.scx_output.proofs.out.write_named.Goals as goal
 
 pub returns-in_err-write_all-clause-err : goal.returns-in_err-write_all-clause-err
 returns-in_err-write_all-clause-err g c =
