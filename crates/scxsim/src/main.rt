@@ -24,6 +24,7 @@ use std::{env, io};
 const BLOCK: usize = 65_536;
 
 /// How the program ends: its status, and what a refused file seems to be.
+#[derive(Clone, Copy)]
 struct Ending {
     status: u8,
     hint: Option<Hint>,
