@@ -1,8 +1,8 @@
 ghost use Rattle.std.specs.Prelude.{◌≡◌, IfOk, IfErr};
-ghost use Rattle.scx_commands.specs.Text.{IsText, IsNoText};
+ghost use Rattle.scx_outcomes.specs.Text.{IsText, IsNoText};
 
-use crate::fault::{Fault, Refusal};
 use crate::file::FILE_LIMIT;
+use crate::refusal::{Fault, Refusal};
 use std::str;
 
 /// The text that the bytes of a file are.
