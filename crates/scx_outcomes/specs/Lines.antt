@@ -1,5 +1,6 @@
 -- The lines of refusals and of a file that can't be read, each with the line feed that ends it.
-use Rattle.std.specs.Prelude.{ℕ, ℤ, List, [], ◌++◌, codes, decimal, signed_decimal, string_bytes}
+use Rattle.std.specs.Prelude.{ℕ, ℤ, List, [], ◌++◌, codes, decimal, string_bytes}
+use Rattle.std.specs.Fmt.{signed_decimal}
 use Rattle.scx_encoding.specs.Faults.{decode_number, decode_name}
 use Rattle.scx_verify.specs.Faults.{fault_number, fault_name}
 use Rattle.scx_asm.specs.Faults.{asm_number, asm_name}
@@ -58,10 +59,10 @@ start (Policy path cause) = codes "refused: policy "
 start (Workload path cause) = codes "refused: workload "
 start refusal = refusal_line refusal
 
-abbrev pub path : Refusal → List ℕ
-path (Policy path cause) = string_bytes path
-path (Workload path cause) = string_bytes path
-path refusal = []
+abbrev pub path_of : Refusal → List ℕ
+path_of (Policy path cause) = string_bytes path
+path_of (Workload path cause) = string_bytes path
+path_of refusal = []
 
 abbrev pub end : Refusal → List ℕ
 end (Policy path cause) = codes ": " ++ cause_text cause ++ codes "\n"

@@ -23,6 +23,7 @@ const LINE_CAPACITY: usize = 128;
 pub type Line = ArrayString<LINE_CAPACITY>;
 
 /// Writes the line of a refusal.
+#[tactic(auto, using(crate::proofs::Parts::line_in_parts))]
 pub(crate) fn write_refusal<W: Out>(refusal: &Refusal, out: &mut W) -> Result<(), Failed>
     ensures ok { OnOk result (Appends (W.contents out.old) (W.contents out.new) (lines.refusal_line refusal.now)) }
     ensures ok_failures { OnOk result (W.failure_count out.new ≡ W.failure_count out.old) }
@@ -31,7 +32,7 @@ pub(crate) fn write_refusal<W: Out>(refusal: &Refusal, out: &mut W) -> Result<()
 {
     let start = start(refusal);
     let end = end(refusal);
-    write_named(start.as_str(), path(refusal), end.as_str(), out)
+    write_named(out, start.as_str(), path_of(refusal), end.as_str())
 }
 
 /// What stands before the path of a key; of a refusal without one, the whole line.
@@ -63,8 +64,8 @@ fn start(refusal: &Refusal) -> Line
 }
 
 /// The path of a key, if there is one.
-fn path(refusal: &Refusal) -> &str
-    ensures { result.now ≡ lines.path refusal.now }
+fn path_of(refusal: &Refusal) -> &str
+    ensures { result.now ≡ lines.path_of refusal.now }
 {
     match refusal {
         Refusal::Policy { path, .. } => path.as_str(),
@@ -133,7 +134,7 @@ pub fn write_unread<W: Out>(path: &str, out: &mut W) -> Result<(), Failed>
         (Appends (W.contents out.old) (W.contents out.new) (lines.unread_line path.now)) }
     ensures err { OnErr result (HasFailed (W.failure_count out.old) (W.failure_count out.new)) }
 {
-    write_named("failed: reading ", path, "\n", out)
+    write_named(out, "failed: reading ", path, "\n")
 }
 
 fn short_name(callback: Callback) -> &'static str

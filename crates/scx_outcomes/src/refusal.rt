@@ -24,11 +24,20 @@ pub enum Refusal {
     #[error("no memory is left")]
     NoMemory,
     #[error("slot {slot} is no instruction")]
-    Decode { fault: DecodeFault, slot: usize },
+    Decode {
+        fault: DecodeFault,
+        slot: usize,
+    },
     #[error("the program is unsafe at slot {slot}")]
-    Verify { fault: verifier::Fault, slot: usize },
+    Verify {
+        fault: verifier::Fault,
+        slot: usize,
+    },
     #[error("line {line} is wrong")]
-    Assemble { fault: AsmFault, line: usize },
+    Assemble {
+        fault: AsmFault,
+        line: usize,
+    },
     /// A callback of a policy that is to be run.
     #[error("{} is unsafe at slot {slot}", callback_name(*callback))]
     Callback {
@@ -37,9 +46,15 @@ pub enum Refusal {
         slot: usize,
     },
     #[error("the policy's {path}: {cause}")]
-    Policy { path: String, cause: Cause },
+    Policy {
+        path: String,
+        cause: Cause,
+    },
     #[error("the workload's {path}: {cause}")]
-    Workload { path: String, cause: Cause },
+    Workload {
+        path: String,
+        cause: Cause,
+    },
     /// The policy's `init` failed with this answer.
     #[error("init answered {0}")]
     Init(i64),
