@@ -1,4 +1,4 @@
-ghost use Rattle.std.specs.Prelude.{◌≡◌, ◌≤◌, false, Ok, IfOk, IfErr};
+ghost use Rattle.std.specs.Prelude.{◌≡◌, false, Ok, IfOk, IfErr};
 ghost use Rattle.scx_weights.specs.Hierarchy.{idle};
 ghost use Rattle.scx_machine.specs.Start.{is_bad_shape};
 ghost use Rattle.scx_sched.specs.Sim.{IsFirst};
@@ -6,6 +6,7 @@ ghost use Rattle.scx_policies.specs.Reading.{policy_text};
 ghost use Rattle.scx_workloads.specs.Reading.{workload_of};
 ghost use Rattle.scx_driver.specs.Driver.{remaining};
 ghost use Rattle.scx_driver.specs.Events.{workload_events};
+ghost use Rattle.scx_driver.specs.Runs.{AreAccepted};
 ghost use Rattle.scx_outcomes.specs.declared.refusal.Refusal.TheVariants.{NoMemory};
 ghost use Rattle.scx_simulation.specs.Runs.{IsRun, IsCause, IsPolicyFault, IsWorkloadFault, IsStartFault};
 
@@ -34,6 +35,19 @@ pub(crate) fn prepare(alloc: Global, policy: &str, workload: &str) -> Result<Run
     let text = policy_in(alloc, policy)?;
     let workload = workload_in(alloc, workload)?;
     let policy = build(alloc, text)?;
+    begin(alloc, policy, workload)
+}
+
+/// The run of a workload under a policy. All of its memory is taken here.
+#[tactic(auto, using(crate::proofs::Shapes::shape_is_right, scx_driver::proofs::Law::none_is_refused))]
+fn begin(alloc: Global, policy: Policy, workload: Workload) -> Result<Run, Refusal>
+    ensures workload { IfOk result (λ run. run.workload ≡ workload) }
+    ensures first { IfOk result (λ run. IsFirst policy (idle workload.groups workload.homes) workload.cpus run.sim) }
+    ensures events { IfOk result (λ run. remaining run.driver run.sim ≡ workload_events workload run.sim) }
+    ensures accepted { IfOk result (λ run. AreAccepted run.sim (workload_events workload run.sim)) }
+    ensures refused { IfErr result (IsStartFault policy (idle workload.groups workload.homes) workload.cpus) }
+{
+    workload.is_whole();
     let tree = tree_of(alloc, &workload)?;
     let driver = Driver::new(alloc, &workload)?;
     let sim = machine(alloc, policy, tree, workload.cpus())?;

@@ -1,14 +1,16 @@
-ghost use Rattle.std.specs.Prelude.{◌≡◌, true, Err, IfOk, OnOk};
+ghost use Rattle.std.specs.Prelude.{◌≡◌, true, Err, IfOk, OnOk, OnErr};
 ghost use Rattle.std.specs.Io.KnownBytes.{Appends};
 ghost use Rattle.scx_sched.specs.Sim.{SimState};
 ghost use Rattle.scx_workloads.specs.Workload.{WorkloadState};
+ghost use Rattle.scx_driver.specs.Driver.{remaining};
+ghost use Rattle.scx_driver.specs.Events.{workload_events};
 ghost use Rattle.scx_output.specs.Output.{HasFailed, AppendsBeginning};
 ghost use Rattle.scx_outcomes.specs.Outcome.{IfRefused, IsRefused};
 ghost use Rattle.scx_simulation.specs.Runs.{IsRun, IsCause, report_text};
 
 use crate::preparing::{Run, prepare};
 use scx_outcomes::Fault;
-use scx_output::Out;
+use scx_output::{Failed, Out};
 use scx_trace::{run_silently, write_report};
 use std::alloc::Global;
 
@@ -40,12 +42,24 @@ pub fn report<W: Out>(
     ensures counted { result ≡ Err Fault.WriteFailed
         → HasFailed (W.failure_count out.old) (W.failure_count out.new) }
 {
+    let run = prepare(alloc, policy, workload)?;
+    write_end(run, out)?;
+    Ok(true)
+}
+
+/// Goes through the run, and writes how long each task ran.
+fn write_end<W: Out>(run: Run, out: &mut W) -> Result<(), Failed>
+    requires { remaining run.driver run.sim ≡ workload_events run.workload run.sim }
+    ensures ok { OnOk result (Appends (W.contents out.old) (W.contents out.new) (report_text run.workload run.sim)) }
+    ensures ok_failures { OnOk result (W.failure_count out.new ≡ W.failure_count out.old) }
+    ensures err { OnErr result (AppendsBeginning (W.contents out.old) (W.contents out.new) (report_text run.workload run.sim)) }
+    ensures err_failures { OnErr result (HasFailed (W.failure_count out.old) (W.failure_count out.new)) }
+{
     let Run {
         workload,
         mut driver,
         mut sim,
-    } = prepare(alloc, policy, workload)?;
+    } = run;
     run_silently(&mut sim, &mut driver);
-    write_report(&sim, &workload, out)?;
-    Ok(true)
+    write_report(&sim, &workload, out)
 }
