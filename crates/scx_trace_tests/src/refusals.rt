@@ -119,7 +119,12 @@ fn several_at_once(rt: HostRuntime) {
         "refused: policy timeout_ms: out of range\n",
     );
     expect(&rt, "a =", "b =", "refused: policy file: not TOML\n");
-    expect(&rt, UNSAFE, "cpus = 65", "refused: workload cpus: out of range\n");
+    expect(
+        &rt,
+        UNSAFE,
+        "cpus = 65",
+        "refused: workload cpus: out of range\n",
+    );
     expect(
         &rt,
         UNSAFE,
