@@ -10,7 +10,8 @@ use Rattle.scx_trace.specs.Lines.{NameLists, note_line, note_lines}
 use Rattle.scx_trace.specs.Writing.{Seen, Written, WrittenAfter, WrittenUpTo}
 use Rattle.scx_machine.specs.declared.events.Event.{Event}
 use Rattle.scx_sched.specs.Sim.{SimState}
-use Rattle.scx_trace.specs.Runs.{stepped_all, notes_of_all, GoesThrough}
+use Rattle.scx_driver.specs.Runs.{stepped_all, notes_of_all}
+use Rattle.scx_trace.specs.Runs.{GoesThrough}
 use Rattle.scx_trace.specs.Tracing.{TakesLine}
 use Rattle.scx_trace.proofs.Going.{notes_of_all-append}
 
