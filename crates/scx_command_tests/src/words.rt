@@ -32,18 +32,38 @@ fn understands_words(rt: HostRuntime) -> Result<(), Fail> {
         &rt,
         &["scxsim", "exec", "--", "-f"],
         Request::Exec { slots: "-f" },
+    )
+}
+
+#[test]
+fn tells_policy_and_workload_apart(rt: HostRuntime) -> Result<(), Fail> {
+    understands(
+        &rt,
+        &["scxsim", "run", "first", "second"],
+        Request::Run {
+            policy: "first",
+            workload: "second",
+        },
     )?;
-    Ok(())
+    understands(
+        &rt,
+        &["scxsim", "report", "first", "second"],
+        Request::Report {
+            policy: "first",
+            workload: "second",
+        },
+    )
 }
 
 #[test]
 fn refuses_words(rt: HostRuntime) {
-    let wrong: [&[&str]; 6] = [
+    let wrong: [&[&str]; 7] = [
         &["scxsim"],
         &["scxsim", "--help"],
         &["scxsim", "help", "verify"],
         &["scxsim", "exec"],
         &["scxsim", "verify", "one", "two"],
+        &["scxsim", "run", "one"],
         &["scxsim", "sing", "one"],
     ];
     for words in wrong {

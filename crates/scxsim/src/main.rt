@@ -1,21 +1,25 @@
-//! The program `scxsim`, which verifies policies, and runs, assembles and disassembles BPF programs. Its
-//! words are read by `scx_words`; what the commands do stands in `scx_commands` and `scx_verdicts`, whose
-//! calls are passed on here.
+//! The program `scxsim`, which verifies policies and runs workloads under them, and runs, assembles and
+//! disassembles BPF programs. Its words are read by `scx_words`; what the commands do stands in
+//! `scx_commands`, `scx_verdicts` and `scx_simulation`, whose calls are passed on here.
 #![tactic(auto)]
 
 ghost use Rattle.std.specs.Prelude.{◌≡◌, ◌⊎◌};
 ghost use Rattle.std.specs.Io.KnownBytes.{Appends};
 ghost use Rattle.scx_output.specs.Output.{HasFailed};
 
+mod progress;
+
+use crate::progress::{Watch, Watched};
 use clap::error::ErrorKind as WordsErrorKind;
 pub use scx_commands::{Counted, Failed, Fault, Out, Refusal, asm, dis, exec, finish, text};
 use scx_commands::{
     FAILED, Hint, USAGE, hint_of_slots, hint_of_text, read_file, write_all, write_unread,
 };
+pub use scx_simulation::{report, simulate};
 pub use scx_verdicts::check;
 use scx_words::{Request, read_words};
 use std::alloc::Global;
-use std::io::{BufWriter, ErrorKind};
+use std::io::{BufWriter, ErrorKind, IsTerminal};
 use std::process::ExitCode;
 use std::rt::{Env, Files};
 use std::{env, io};
@@ -30,6 +34,13 @@ struct Ending {
     hint: Option<Hint>,
 }
 
+/// The bytes of the files of a run.
+#[derive(Drop)]
+struct RunFiles {
+    policy: Vec<u8>,
+    workload: Vec<u8>,
+}
+
 /// Why there are no bytes of a file.
 #[derive(Drop)]
 enum Unread<'a> {
@@ -38,11 +49,15 @@ enum Unread<'a> {
 }
 
 fn main(rt: HostRuntime) -> ExitCode {
-    match BufWriter::with_capacity(rt.alloc(), BLOCK, io::writer(&rt)) {
+    // Progress and trace on one terminal would be in each other's way.
+    let watch = Watch::new(rt.stderr().is_terminal() && !rt.stdout().is_terminal());
+    let writer = Watched::new(&rt, &watch, io::writer(&rt));
+    match BufWriter::with_capacity(rt.alloc(), BLOCK, writer) {
         Ok(writer) => {
             let mut out = Counted::new(writer);
-            let ending = run(&rt, &mut out);
+            let ending = run(&rt, &watch, &mut out);
             let flushed = out.flush();
+            watch.end(&rt);
             give_hint(&rt, ending.hint);
             ExitCode::from(if flushed.is_ok() {
                 ending.status
@@ -55,9 +70,9 @@ fn main(rt: HostRuntime) -> ExitCode {
 }
 
 /// Does what the process's words ask for.
-fn run<R: AllocGlobal + Env + Files, W: Out>(rt: &R, out: &mut W) -> Ending {
+fn run<R: AllocGlobal + Env + Files, W: Out>(rt: &R, watch: &Watch, out: &mut W) -> Ending {
     match words_of(rt) {
-        Ok(words) => run_words(rt, words.as_slice(), out),
+        Ok(words) => run_words(rt, words.as_slice(), watch, out),
         Err(error) if error.kind() == ErrorKind::OutOfMemory => {
             without_hint(end_without_memory(out))
         }
@@ -69,9 +84,14 @@ fn words_of<R: AllocGlobal + Env>(rt: &R) -> io::Result<Vec<String>> {
     Ok(env::args(rt)?.collect(rt.alloc())?)
 }
 
-fn run_words<R: AllocGlobal + Files, W: Out>(rt: &R, words: &[String], out: &mut W) -> Ending {
+fn run_words<R: AllocGlobal + Files, W: Out>(
+    rt: &R,
+    words: &[String],
+    watch: &Watch,
+    out: &mut W,
+) -> Ending {
     match read_words(rt.alloc(), words) {
-        Ok(Some(request)) => run_request(rt, request, out),
+        Ok(Some(request)) => run_request(rt, request, watch, out),
         Ok(None) => without_hint(USAGE),
         Err(error) if error.kind() == WordsErrorKind::OutOfMemory => {
             without_hint(end_without_memory(out))
@@ -83,9 +103,10 @@ fn run_words<R: AllocGlobal + Files, W: Out>(rt: &R, words: &[String], out: &mut
 fn run_request<R: AllocGlobal + Files, W: Out>(
     rt: &R,
     request: Request<'_>,
+    watch: &Watch,
     out: &mut W,
 ) -> Ending {
-    match do_request(rt, request, out) {
+    match do_request(rt, request, watch, out) {
         Ok(ending) => ending,
         Err(Unread::NoMemory) => without_hint(end_without_memory(out)),
         Err(Unread::At(path)) => {
@@ -99,6 +120,7 @@ fn run_request<R: AllocGlobal + Files, W: Out>(
 fn do_request<'a, R: AllocGlobal + Files, W: Out>(
     rt: &R,
     request: Request<'a>,
+    watch: &Watch,
     out: &mut W,
 ) -> Result<Ending, Unread<'a>> {
     match request {
@@ -122,6 +144,48 @@ fn do_request<'a, R: AllocGlobal + Files, W: Out>(
             let outcome = check(rt.alloc(), bytes.as_slice(), out);
             Ok(end(outcome, hint_of_text(bytes.as_slice()), out))
         }
+        Request::Run { policy, workload } => {
+            let files = files_of(rt, policy, workload)?;
+            watch.begin(rt.alloc(), files.workload.as_slice());
+            let outcome = simulate_files(rt.alloc(), &files, out);
+            Ok(end(outcome, hint_of_files(&files), out))
+        }
+        Request::Report { policy, workload } => {
+            let files = files_of(rt, policy, workload)?;
+            let outcome = report_files(rt.alloc(), &files, out);
+            Ok(end(outcome, hint_of_files(&files), out))
+        }
+    }
+}
+
+fn simulate_files<W: Out>(alloc: Global, files: &RunFiles, out: &mut W) -> Result<bool, Fault> {
+    let policy = text(files.policy.as_slice())?;
+    let workload = text(files.workload.as_slice())?;
+    simulate(alloc, policy, workload, out)
+}
+
+fn report_files<W: Out>(alloc: Global, files: &RunFiles, out: &mut W) -> Result<bool, Fault> {
+    let policy = text(files.policy.as_slice())?;
+    let workload = text(files.workload.as_slice())?;
+    report(alloc, policy, workload, out)
+}
+
+/// The bytes of both files of a run, of which the policy is read first.
+fn files_of<'a, R: AllocGlobal + Files>(
+    rt: &R,
+    policy: &'a str,
+    workload: &'a str,
+) -> Result<RunFiles, Unread<'a>> {
+    let policy = bytes_of(rt, policy)?;
+    let workload = bytes_of(rt, workload)?;
+    Ok(RunFiles { policy, workload })
+}
+
+/// What a person may have meant by a refused one of these files.
+fn hint_of_files(files: &RunFiles) -> Option<Hint> {
+    match hint_of_text(files.policy.as_slice()) {
+        Some(hint) => Some(hint),
+        None => hint_of_text(files.workload.as_slice()),
     }
 }
 
