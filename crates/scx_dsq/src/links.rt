@@ -85,8 +85,8 @@ fn lead_back(
     ensures links { links.new ≡ with_ahead links.old task ahead }
     ensures last { last.new ≡ instead task ahead last.old }
 {
-    match task.get() {
-        Some(task) => links[task as usize].ahead = ahead,
+    match task.index() {
+        Some(at) => links[at].ahead = ahead,
         None => *last = ahead,
     }
 }
@@ -102,8 +102,8 @@ fn lead_on(
     ensures links { links.new ≡ with_behind links.old task behind }
     ensures first { first.new ≡ instead task behind first.old }
 {
-    match task.get() {
-        Some(task) => links[task as usize].behind = behind,
+    match task.index() {
+        Some(at) => links[at].behind = behind,
         None => *first = behind,
     }
 }

@@ -51,4 +51,16 @@ impl OptionalTask {
             Some((self.word - 1) as u32)
         }
     }
+
+    /// The same as an index.
+    #[tactic(auto, using(crate::specs::Words::task_in_word))]
+    pub fn index(self) -> Option<usize>
+        ensures { result ≡ self }
+    {
+        if self.word == 0 {
+            None
+        } else {
+            Some(self.word - 1)
+        }
+    }
 }

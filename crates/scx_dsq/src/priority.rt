@@ -26,6 +26,10 @@ impl Priority {
         ensures counted { steps.new ≡ steps.old + 1 }
     {
         steps.count();
-        self.key < other.key || self.key == other.key && self.stamp < other.stamp
+        if self.key == other.key {
+            self.stamp < other.stamp
+        } else {
+            self.key < other.key
+        }
     }
 }
