@@ -1,5 +1,5 @@
 -- A task's number, or none, as one word. No public clause cites it.
-use Rattle.std.proofs.Common.{◌≡◌, ℕ, zero, suc, ◌+◌, ◌-◌, ◌<◌, Option, Some, None, refl, sym, ap, arith}
+use Rattle.std.proofs.Common.{◌≡◌, ℕ, zero, suc, ◌+◌, ◌-◌, ◌<◌, Option, Some, None, refl, arith}
 
 abbrev pub task_in : ℕ → Option ℕ
 task_in zero = None

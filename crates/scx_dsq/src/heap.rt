@@ -55,7 +55,6 @@ impl Heap {
     }
 
     /// Puts an item into the heap, whose task isn't there.
-    #[inline(never)]
     pub fn insert<L: Ledger>(&mut self, spots: &mut [usize], item: Item, steps: &mut Steps<L>)
         requires room { length self.old.items < self.old.room }
         requires task { item.task < length spots.old }
@@ -77,7 +76,6 @@ impl Heap {
     }
 
     /// Takes out a task that is there, and answers its item.
-    #[inline(never)]
     pub fn remove<L: Ledger>(
         &mut self,
         spots: &mut [usize],

@@ -75,12 +75,7 @@ pub fn unlink(links: &mut [Link], ends: &mut Ends, task: u32)
 }
 
 /// Says whom a task waits right behind; if there is no such task, who waits last.
-fn lead_back(
-    links: &mut [Link],
-    task: OptionalTask,
-    last: &mut OptionalTask,
-    ahead: OptionalTask,
-)
+fn lead_back(links: &mut [Link], task: OptionalTask, last: &mut OptionalTask, ahead: OptionalTask)
     requires { MatchOption task (Unit {0}) (λ t. t < length links.old) }
     ensures links { links.new ≡ with_ahead links.old task ahead }
     ensures last { last.new ≡ instead task ahead last.old }
@@ -92,12 +87,7 @@ fn lead_back(
 }
 
 /// Says who waits right behind a task; if there is no such task, who waits first.
-fn lead_on(
-    links: &mut [Link],
-    task: OptionalTask,
-    first: &mut OptionalTask,
-    behind: OptionalTask,
-)
+fn lead_on(links: &mut [Link], task: OptionalTask, first: &mut OptionalTask, behind: OptionalTask)
     requires { MatchOption task (Unit {0}) (λ t. t < length links.old) }
     ensures links { links.new ≡ with_behind links.old task behind }
     ensures first { first.new ≡ instead task behind first.old }

@@ -26,10 +26,6 @@ impl Priority {
         ensures counted { steps.new ≡ steps.old + 1 }
     {
         steps.count();
-        if self.key == other.key {
-            self.stamp < other.stamp
-        } else {
-            self.key < other.key
-        }
+        self.key < other.key || self.key == other.key && self.stamp < other.stamp
     }
 }

@@ -342,12 +342,7 @@ fn admit(
 }
 
 /// Where the queue of that id stands.
-fn find(
-    live: &[Queue],
-    order: &[usize],
-    guesses: &[usize; HASHES],
-    id: u64,
-) -> Option<usize>
+fn find(live: &[Queue], order: &[usize], guesses: &[usize; HASHES], id: u64) -> Option<usize>
     requires { IsOrder (ids_of live.now) order.now }
     ensures found { is_some result ≡ list_any (λ other. other == id) (ids_of live.now) }
     ensures at { IfSome result (λ i. (i < length live.now) × HoldsAt (λ q. q.id ≡ id) live.now i) }

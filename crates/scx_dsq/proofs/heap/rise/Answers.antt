@@ -1,4 +1,4 @@
-use Rattle.std.proofs.Common.{◌-◌, length, slice_index_or}
+use Rattle.std.proofs.Common.{◌-◌, slice_index_or}
 use Rattle.std.specs.List.Sorted.{IsPermutation}
 use Rattle.scx_dsq.specs.Heaps.{Rose, HasSpots, KeepsOthers, held, spotted}
 use Rattle.scx_dsq.proofs.Shifts.{holds_here, held_here, held_within, no_item}
