@@ -8,11 +8,11 @@ use std::io::Write;
 use std::time::{Clock, Duration, Instant};
 use std::{io, str};
 
-/// For how long nothing is said.
-const PATIENCE: Duration = Duration::from_secs(3);
+/// For how many milliseconds nothing is said.
+const PATIENCE: u64 = 3_000;
 
-/// How long it is silent after something was said.
-const PAUSE: Duration = Duration::from_millis(250);
+/// How many milliseconds it is silent after something was said.
+const PAUSE: u64 = 250;
 
 /// What is to be said of a run.
 #[derive(Drop)]
@@ -69,7 +69,7 @@ impl<'a, R: Clock, W: Write> Watched<'a, R, W> {
             watch,
             writer,
             begun: Instant::now(rt).ok(),
-            silent_for: PATIENCE,
+            silent_for: Duration::from_millis(PATIENCE),
         }
     }
 }
@@ -89,7 +89,7 @@ impl<R: Clock + Eprint, W: Write> Watched<'_, R, W> {
         if let Some(clock) = last_clock(lines) {
             let _ = eprint!(self.rt; "\r{clock} of {milliseconds} ms");
             self.watch.has_spoken.set(true);
-            self.silent_for = elapsed.saturating_add(PAUSE);
+            self.silent_for = elapsed.saturating_add(Duration::from_millis(PAUSE));
         }
     }
 
