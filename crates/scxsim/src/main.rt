@@ -7,9 +7,6 @@ ghost use Rattle.std.specs.Prelude.{◌≡◌, ◌⊎◌};
 ghost use Rattle.std.specs.Io.KnownBytes.{Appends};
 ghost use Rattle.scx_output.specs.Output.{HasFailed};
 
-mod progress;
-
-use crate::progress::{Watch, Watched};
 use clap::error::ErrorKind as WordsErrorKind;
 pub use scx_commands::{Counted, Failed, Fault, Out, Refusal, asm, dis, exec, finish, text};
 use scx_commands::{
@@ -19,7 +16,7 @@ pub use scx_simulation::{report, simulate};
 pub use scx_verdicts::check;
 use scx_words::{Request, read_words};
 use std::alloc::Global;
-use std::io::{BufWriter, ErrorKind, IsTerminal};
+use std::io::{BufWriter, ErrorKind};
 use std::process::ExitCode;
 use std::rt::{Env, Files};
 use std::{env, io};
@@ -49,15 +46,11 @@ enum Unread<'a> {
 }
 
 fn main(rt: HostRuntime) -> ExitCode {
-    // Progress and trace on one terminal would be in each other's way.
-    let watch = Watch::new(rt.stderr().is_terminal() && !rt.stdout().is_terminal());
-    let writer = Watched::new(&rt, &watch, io::writer(&rt));
-    match BufWriter::with_capacity(rt.alloc(), BLOCK, writer) {
+    match BufWriter::with_capacity(rt.alloc(), BLOCK, io::writer(&rt)) {
         Ok(writer) => {
             let mut out = Counted::new(writer);
-            let ending = run(&rt, &watch, &mut out);
+            let ending = run(&rt, &mut out);
             let flushed = out.flush();
-            watch.end(&rt);
             give_hint(&rt, ending.hint);
             ExitCode::from(if flushed.is_ok() {
                 ending.status
@@ -70,9 +63,9 @@ fn main(rt: HostRuntime) -> ExitCode {
 }
 
 /// Does what the process's words ask for.
-fn run<R: AllocGlobal + Env + Files, W: Out>(rt: &R, watch: &Watch, out: &mut W) -> Ending {
+fn run<R: AllocGlobal + Env + Files, W: Out>(rt: &R, out: &mut W) -> Ending {
     match words_of(rt) {
-        Ok(words) => run_words(rt, words.as_slice(), watch, out),
+        Ok(words) => run_words(rt, words.as_slice(), out),
         Err(error) if error.kind() == ErrorKind::OutOfMemory => {
             without_hint(end_without_memory(out))
         }
@@ -84,14 +77,9 @@ fn words_of<R: AllocGlobal + Env>(rt: &R) -> io::Result<Vec<String>> {
     Ok(env::args(rt)?.collect(rt.alloc())?)
 }
 
-fn run_words<R: AllocGlobal + Files, W: Out>(
-    rt: &R,
-    words: &[String],
-    watch: &Watch,
-    out: &mut W,
-) -> Ending {
+fn run_words<R: AllocGlobal + Files, W: Out>(rt: &R, words: &[String], out: &mut W) -> Ending {
     match read_words(rt.alloc(), words) {
-        Ok(Some(request)) => run_request(rt, request, watch, out),
+        Ok(Some(request)) => run_request(rt, request, out),
         Ok(None) => without_hint(USAGE),
         Err(error) if error.kind() == WordsErrorKind::OutOfMemory => {
             without_hint(end_without_memory(out))
@@ -103,10 +91,9 @@ fn run_words<R: AllocGlobal + Files, W: Out>(
 fn run_request<R: AllocGlobal + Files, W: Out>(
     rt: &R,
     request: Request<'_>,
-    watch: &Watch,
     out: &mut W,
 ) -> Ending {
-    match do_request(rt, request, watch, out) {
+    match do_request(rt, request, out) {
         Ok(ending) => ending,
         Err(Unread::NoMemory) => without_hint(end_without_memory(out)),
         Err(Unread::At(path)) => {
@@ -120,7 +107,6 @@ fn run_request<R: AllocGlobal + Files, W: Out>(
 fn do_request<'a, R: AllocGlobal + Files, W: Out>(
     rt: &R,
     request: Request<'a>,
-    watch: &Watch,
     out: &mut W,
 ) -> Result<Ending, Unread<'a>> {
     match request {
@@ -146,7 +132,6 @@ fn do_request<'a, R: AllocGlobal + Files, W: Out>(
         }
         Request::Run { policy, workload } => {
             let files = files_of(rt, policy, workload)?;
-            watch.begin(rt.alloc(), files.workload.as_slice());
             let outcome = simulate_files(rt.alloc(), &files, out);
             Ok(end(outcome, hint_of_files(&files), out))
         }
