@@ -3,7 +3,6 @@
 
 use crate::{Insn, Insn::*, Operand};
 use std::collections::HashMap;
-use std::fmt::Write;
 
 const OPERATIONS: [(&str, u8, bool); 13] = [
     ("+=", 0, false),
@@ -239,60 +238,107 @@ pub fn assemble(text: &str) -> Option<Vec<Option<Insn>>> {
     Some(code)
 }
 
-struct Name(bool, u8);
-
-impl std::fmt::Display for Name {
-    fn fmt(&self, f: &mut std::fmt::Formatter) -> std::fmt::Result {
-        write!(f, "{}{}", if self.0 { 'r' } else { 'w' }, self.1)
-    }
+/// Pushes a text's bytes.
+#[inline(always)]
+fn put(text: &mut Vec<u8>, bytes: &str) {
+    text.extend_from_slice(bytes.as_bytes());
 }
 
-struct From(bool, Operand);
-
-impl std::fmt::Display for From {
-    fn fmt(&self, f: &mut std::fmt::Formatter) -> std::fmt::Result {
-        match self.1 {
-            Operand::Immediate(number) => write!(f, "{number}"),
-            Operand::Register(register) => write!(f, "{}", Name(self.0, register)),
+fn put_number(text: &mut Vec<u8>, number: u32) {
+    let mut digits = [0; 10];
+    let (mut from, mut rest) = (digits.len(), number);
+    loop {
+        from -= 1;
+        digits[from] = b'0' + (rest % 10) as u8;
+        rest /= 10;
+        if rest == 0 {
+            break;
         }
     }
+    text.extend_from_slice(&digits[from..]);
 }
 
-struct Place(u8, bool, u8, i16);
-
-impl std::fmt::Display for Place {
-    fn fmt(&self, f: &mut std::fmt::Formatter) -> std::fmt::Result {
-        let (letter, sign) = (if self.1 { 's' } else { 'u' }, if self.3 < 0 { '-' } else { '+' });
-        write!(f, "*({letter}{} *)(r{} {sign} {})", 8 * self.0, self.2, self.3.unsigned_abs())
+fn put_register(text: &mut Vec<u8>, wide: bool, register: u8) {
+    text.push(if wide { b'r' } else { b'w' });
+    if register == 10 {
+        put(text, "10");
+    } else {
+        text.push(b'0' + register);
     }
+}
+
+fn put_operand(text: &mut Vec<u8>, wide: bool, operand: Operand) {
+    match operand {
+        Operand::Immediate(number) => {
+            if number < 0 {
+                text.push(b'-');
+            }
+            put_number(text, number.unsigned_abs());
+        }
+        Operand::Register(register) => put_register(text, wide, register),
+    }
+}
+
+fn put_place(text: &mut Vec<u8>, size: u8, signed: bool, base: u8, offset: i16) {
+    put(text, if signed { "*(s" } else { "*(u" });
+    put(text, ["8", "16", "32", "64"][size.trailing_zeros() as usize]);
+    put(text, " *)(");
+    put_register(text, true, base);
+    put(text, if offset < 0 { " - " } else { " + " });
+    put_number(text, offset.unsigned_abs().into());
+    text.push(b')');
+}
+
+fn put_distance(text: &mut Vec<u8>, distance: i32) {
+    text.push(if distance < 0 { b'-' } else { b'+' });
+    put_number(text, distance.unsigned_abs());
 }
 
 /// The text of the program, one instruction a line.
 pub fn disassemble(code: &[Option<Insn>]) -> Option<String> {
-    let mut text = String::new();
+    let mut text = Vec::new();
     for insn in code.iter().flatten() {
         match *insn {
             Binary { wide, operation, signed, destination, operand } => {
                 let known = OPERATIONS.iter().find(|o| o.1 == operation && o.2 == signed);
-                let sign = if operation == 11 { "=" } else { known?.0 };
-                writeln!(text, "{} {sign} {}", Name(wide, destination), From(wide, operand))
+                put_register(&mut text, wide, destination);
+                text.push(b' ');
+                put(&mut text, if operation == 11 { "=" } else { known?.0 });
+                text.push(b' ');
+                put_operand(&mut text, wide, operand);
             }
             Load { size, signed, destination, base, offset } => {
-                writeln!(text, "{} = {}", Name(true, destination), Place(size, signed, base, offset))
+                put_register(&mut text, true, destination);
+                put(&mut text, " = ");
+                put_place(&mut text, size, signed, base, offset);
             }
             Store { size, base, offset, operand } => {
-                writeln!(text, "{} = {}", Place(size, false, base, offset), From(true, operand))
+                put_place(&mut text, size, false, base, offset);
+                put(&mut text, " = ");
+                put_operand(&mut text, true, operand);
             }
             Jump { wide, comparison, register, offset, operand } => {
-                let sign = COMPARISONS.iter().find(|c| c.1 == comparison)?.0;
-                writeln!(text, "if {} {sign} {} goto {offset:+}", Name(wide, register), From(wide, operand))
+                put(&mut text, "if ");
+                put_register(&mut text, wide, register);
+                text.push(b' ');
+                put(&mut text, COMPARISONS.iter().find(|c| c.1 == comparison)?.0);
+                text.push(b' ');
+                put_operand(&mut text, wide, operand);
+                put(&mut text, " goto ");
+                put_distance(&mut text, offset.into());
             }
-            Goto(offset) => writeln!(text, "goto {offset:+}"),
-            GotoLong(offset) => writeln!(text, "gotol {offset:+}"),
-            Exit => writeln!(text, "exit"),
+            Goto(offset) => {
+                put(&mut text, "goto ");
+                put_distance(&mut text, offset.into());
+            }
+            GotoLong(offset) => {
+                put(&mut text, "gotol ");
+                put_distance(&mut text, offset);
+            }
+            Exit => put(&mut text, "exit"),
             _ => return None,
         }
-        .ok()?;
+        text.push(b'\n');
     }
-    Some(text)
+    String::from_utf8(text).ok()
 }

@@ -1,8 +1,8 @@
 //! A plain verifier: kinds of registers, and cells of eight bytes of the stack. One pass over the slots
-//! keeps what is known before each.
+//! changes one state in place, and keeps copies where jumps lead.
 
 use crate::plain_callbacks::{Callback, Field, Helper, Parameter};
-use crate::{Insn, Insn::*, Operand, slots_of};
+use crate::{Insn, Insn::*, Operand};
 
 #[derive(Clone, Copy, PartialEq)]
 enum Kind {
@@ -28,6 +28,8 @@ enum Cell {
 struct State {
     registers: [Kind; 11],
     cells: [Cell; 64],
+    /// No cell below this one was ever written.
+    low: usize,
 }
 
 #[derive(Clone, Copy, Debug, PartialEq)]
@@ -105,15 +107,18 @@ impl State {
             Callback::Dispatch => [Num, TaskOrNull],
         };
         registers[10] = Stack(512);
-        State { registers, cells: [Cell::Bytes(0); 64] }
+        State { registers, cells: [Cell::Bytes(0); 64], low: 64 }
     }
 
     fn join(&mut self, other: &State) {
         for (a, b) in self.registers.iter_mut().zip(&other.registers) {
             *a = join_kind(*a, *b);
         }
-        for (a, b) in self.cells.iter_mut().zip(&other.cells) {
-            *a = join_cell(*a, *b);
+        self.low = self.low.min(other.low);
+        for (a, b) in self.cells[self.low..].iter_mut().zip(&other.cells[self.low..]) {
+            if *a != *b {
+                *a = join_cell(*a, *b);
+            }
         }
     }
 
@@ -191,6 +196,7 @@ impl State {
             _ if size == 8 => Cell::Pointer(kind),
             _ => return Err(Why::PointerStore),
         };
+        self.low = self.low.min(at / 8);
         Ok(())
     }
 
@@ -329,57 +335,100 @@ fn target(slot: usize, insn: Insn) -> usize {
     slot + 1 + distance
 }
 
-fn give(place: &mut Option<State>, state: &State) {
-    match place {
-        Some(old) => old.join(state),
-        None => *place = Some(*state),
+/// No state is kept for a slot.
+const NOTHING: u16 = u16::MAX;
+
+/// The states that jumps sent ahead: for each slot the place of its own, if it has one.
+struct Ahead {
+    places: Vec<u16>,
+    states: Vec<State>,
+    free: Vec<u16>,
+}
+
+impl Ahead {
+    fn new(slots: usize) -> Ahead {
+        Ahead { places: vec![NOTHING; slots], states: Vec::new(), free: Vec::new() }
+    }
+
+    fn send(&mut self, slot: usize, state: &State) {
+        let place = self.places[slot];
+        if place != NOTHING {
+            self.states[usize::from(place)].join(state);
+        } else if let Some(place) = self.free.pop() {
+            self.states[usize::from(place)] = *state;
+            self.places[slot] = place;
+        } else {
+            self.places[slot] = self.states.len() as u16;
+            self.states.push(*state);
+        }
+    }
+
+    /// Takes what was sent to a slot.
+    fn take(&mut self, slot: usize) -> Option<&State> {
+        let place = self.places[slot];
+        if place == NOTHING {
+            return None;
+        }
+        self.free.push(place);
+        Some(&self.states[usize::from(place)])
     }
 }
 
 /// Whether a program whose control goes forward is safe as that callback, with maps whose values have
 /// so many bytes; or the first check that fails, and its slot.
 pub fn verify(code: &[Option<Insn>], callback: Callback, sizes: &[u16]) -> Result<(), (Why, usize)> {
-    states(code, callback, sizes).map(|_| ())
+    walk(code, callback, sizes, |_, _, _| ())
 }
 
 /// Which memory the access at each slot takes, where there is one that control comes to.
 pub fn areas(code: &[Option<Insn>], callback: Callback, sizes: &[u16]) -> Result<Vec<Option<Area>>, (Why, usize)> {
-    let states = states(code, callback, sizes)?;
-    Ok(code.iter().zip(&states).map(|(insn, state)| {
-        let kind = |register: u8| Some(state.as_ref()?.registers[usize::from(register)]);
-        match *insn {
-            Some(Load { size, base, offset, .. } | Store { size, base, offset, .. }) => place(kind(base)?, offset, size, sizes).ok(),
-            Some(Call(1)) => place(kind(2)?, 0, 4, sizes).ok(),
+    let mut areas = vec![None; code.len()];
+    walk(code, callback, sizes, |slot, insn, state| {
+        let kind = |register: u8| state.registers[usize::from(register)];
+        areas[slot] = match insn {
+            Load { size, base, offset, .. } | Store { size, base, offset, .. } => place(kind(base), offset, size, sizes).ok(),
+            Call(1) => place(kind(2), 0, 4, sizes).ok(),
             _ => None,
-        }
-    }).collect())
+        };
+    })?;
+    Ok(areas)
 }
 
-/// What is known before each slot that control comes to.
-fn states(code: &[Option<Insn>], callback: Callback, sizes: &[u16]) -> Result<Vec<Option<State>>, (Why, usize)> {
+/// Goes over the slots, and shows each instruction that control comes to with the state before it.
+#[inline(always)]
+fn walk(
+    code: &[Option<Insn>],
+    callback: Callback,
+    sizes: &[u16],
+    mut show: impl FnMut(usize, Insn, &State),
+) -> Result<(), (Why, usize)> {
     let context = Context { callback, sizes };
-    let mut states = vec![None; code.len()];
-    states[0] = Some(State::start(callback));
-    for slot in 0..code.len() {
-        let (Some(insn), Some(mut state)) = (code[slot], states[slot]) else { continue };
-        let ways = state.pass(insn, context).map_err(|why| (why, slot))?;
-        let (next, far) = (slot + slots_of(insn), target(slot, insn));
-        match ways {
-            Ways::End => {}
-            Ways::On => give(&mut states[next], &state),
-            Ways::Jump => give(&mut states[far], &state),
-            Ways::Both => {
-                give(&mut states[next], &state);
-                give(&mut states[far], &state);
+    let mut ahead = Ahead::new(code.len());
+    let (mut now, mut live) = (State::start(callback), true);
+    for (slot, insn) in code.iter().enumerate() {
+        let Some(insn) = *insn else { continue };
+        match ahead.take(slot) {
+            Some(sent) if live => now.join(sent),
+            Some(sent) => (now, live) = (*sent, true),
+            None if !live => continue,
+            None => {}
+        }
+        show(slot, insn, &now);
+        match now.pass(insn, context).map_err(|why| (why, slot))? {
+            Ways::End => live = false,
+            Ways::On => {}
+            Ways::Jump => {
+                ahead.send(target(slot, insn), &now);
+                live = false;
             }
+            Ways::Both => ahead.send(target(slot, insn), &now),
             Ways::Test(register, pointer, jumps) => {
-                let mut other = state;
-                state.registers[usize::from(register)] = if jumps { pointer } else { Num };
-                other.registers[usize::from(register)] = if jumps { Num } else { pointer };
-                give(&mut states[next], &state);
-                give(&mut states[far], &other);
+                let register = usize::from(register);
+                now.registers[register] = if jumps { Num } else { pointer };
+                ahead.send(target(slot, insn), &now);
+                now.registers[register] = if jumps { pointer } else { Num };
             }
         }
     }
-    Ok(states)
+    Ok(())
 }

@@ -1,5 +1,5 @@
 -- A list with one element changed, place by place.
-use Rattle.std.proofs.Common.{◌≡◌, ℕ, zero, suc, ◌+◌, ◌<◌, ◌⊎◌, inl, inr, List, [], ◌∷◌, length, set, slice_index_or, ◌∙◌, arith}
+use Rattle.std.proofs.Common.{◌≡◌, ℕ, zero, suc, ◌+◌, ◌<◌, ◌≤◌, ◌⊎◌, inl, inr, List, [], ◌∷◌, length, set, slice_index_or, ◌∙◌, arith}
 use Rattle.std.proofs.lemmas.Bool.{cases_eq}
 use Rattle.std.proofs.lemmas.List.{get_or-set_same, get_or-set_other}
 
@@ -22,3 +22,8 @@ joined_more f joined xs ys i x d short e so_far k lt = go (cases_eq k i)
     go : (k ≡ i) ⊎ (k ≡ i → ⊥) → slice_index_or (set joined i x) k d ≡ f (slice_index_or xs k d) (slice_index_or ys k d)
     go (inl same) = rw same (get_or-set_same joined i x d short ∙ e)
     go (inr other) = get_or-set_other joined i k x d other ∙ so_far k (omega arith)
+
+-- where it writes them in place, the places ahead keep what they had
+pub joined_later : {A : Type 0} (joined xs : List A) (i : ℕ) (x d : A) → ((k : ℕ) → i ≤ k → slice_index_or joined k d ≡ slice_index_or xs k d)
+    → (k : ℕ) → i + 1 ≤ k → slice_index_or (set joined i x) k d ≡ slice_index_or xs k d
+joined_later joined xs i x d later k le = get_or-set_other joined i k x d (λ e. omega (arith, e, le)) ∙ later k (omega arith)

@@ -8,5 +8,6 @@ pub mod Areas
 pub mod Checks
 pub mod Calls
 pub mod Rules
+pub mod Changes
 pub mod Laws
 pub mod Monotone

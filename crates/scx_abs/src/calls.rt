@@ -1,20 +1,22 @@
 ghost use Rattle.std.specs.Prelude.{◌≡◌, ◌+◌, ◌≤◌, drop};
 ghost use Rattle.scx_semantics.specs.Outside.{parameters, helper_at};
-ghost use Rattle.scx_abs.specs.Calls.{key_in, key_check, task_check, map_check, number_check, takes, argument_check, arguments_check, without_arguments, after_call, element_of, answer_kind, call_allowed, call_rule};
+ghost use Rattle.scx_abs.specs.Changes.{flowed};
+ghost use Rattle.scx_abs.specs.Calls.{key_in, key_check, task_check, map_check, number_check, takes, argument_check, arguments_check, element_of, answer_kind, call_allowed, call_rule};
 ghost use Rattle.scx_abs.specs.States.{kind_at};
 
+use crate::changes::{Change, Flow};
 use crate::faults::Why;
 use crate::kinds::{CELL_BYTES, Cell, Kind, all_written};
 use crate::places::{element_size, place_for};
-use crate::rules::{Context, Next, goes_on};
+use crate::rules::Context;
 use crate::states::{AbsState, STACK_TOP};
 use scx_isa::{Helper, Parameter, Register, Size};
 use scx_maps::MapDefs;
 
 /// What flows on from a call: the helper is there, then it may be called here, then each argument is
 /// what it takes.
-pub(crate) fn call(state: &AbsState, number: i32, context: &Context) -> Result<Next, Why>
-    ensures { result ≡ call_rule context.now.defs context.now.callback (helper_at number) state.now }
+pub(crate) fn call(state: &AbsState, number: i32, context: &Context) -> Result<Flow, Why>
+    ensures { flowed state.now result ≡ call_rule context.now.defs context.now.callback (helper_at number) state.now }
 {
     let Some(helper) = Helper::new(number) else {
         return Err(Why::UnknownHelper);
@@ -26,11 +28,12 @@ pub(crate) fn call(state: &AbsState, number: i32, context: &Context) -> Result<N
 }
 
 /// What flows on from the call of a helper that may be called.
-fn call_allowed(state: &AbsState, helper: Helper, defs: &MapDefs) -> Result<Next, Why>
-    ensures { result ≡ call_allowed defs.now helper state.now }
+fn call_allowed(state: &AbsState, helper: Helper, defs: &MapDefs) -> Result<Flow, Why>
+    ensures { flowed state.now result ≡ call_allowed defs.now helper state.now }
 {
     check_arguments(state, helper, 0, defs)?;
-    goes_on(after_call(state, answer_kind(helper, state.kind(Register::R1))))
+    let answer = answer_kind(helper, state.kind(Register::R1));
+    Ok(Flow::On(Change::Called(answer)))
 }
 
 /// Checks the arguments of a helper from that one on, counted from 0.
@@ -126,20 +129,6 @@ fn key_in(cell: Cell, byte: usize) -> Result<(), Why>
     } else {
         Err(Why::UnwrittenStack)
     }
-}
-
-/// The state after a call that answered a value of that kind.
-fn after_call(state: &AbsState, answer: Kind) -> AbsState
-    ensures { result ≡ after_call state.now answer }
-{
-    let mut after = *state;
-    after.registers[1] = Kind::Unusable;
-    after.registers[2] = Kind::Unusable;
-    after.registers[3] = Kind::Unusable;
-    after.registers[4] = Kind::Unusable;
-    after.registers[5] = Kind::Unusable;
-    after.registers[0] = answer;
-    after
 }
 
 /// The kind of a helper's answer, by that of its first argument.

@@ -1,11 +1,12 @@
-ghost use Rattle.std.specs.Prelude.{◌≡◌};
+ghost use Rattle.std.specs.Prelude.{◌≡◌, option_map};
 ghost use Rattle.scx_semantics.specs.Registers.{number};
+ghost use Rattle.scx_abs.specs.Changes.{changed, flowed};
 ghost use Rattle.scx_abs.specs.Rules.{null_test, if_null, if_not_null, tested, compared, jump_rule};
 
 use crate::arithmetic::{operand_kind, usable};
+use crate::changes::{Change, Flow};
 use crate::faults::Why;
 use crate::kinds::Kind;
-use crate::rules::Next;
 use crate::states::AbsState;
 use scx_isa::{Comparison, Operand, Register, Width};
 
@@ -16,8 +17,8 @@ pub(crate) fn jump(
     comparison: Comparison,
     register: Register,
     operand: Operand,
-) -> Result<Next, Why>
-    ensures { result ≡ jump_rule state.now width comparison register operand }
+) -> Result<Flow, Why>
+    ensures { flowed state.now result ≡ jump_rule state.now width comparison register operand }
 {
     let kind = usable(state.kind(register))?;
     let other = operand_kind(state, operand)?;
@@ -49,55 +50,49 @@ fn compared(
     test: Option<bool>,
     kind: Kind,
     other: Kind,
-) -> Result<Next, Why>
-    ensures { result ≡ compared state.now (number register) test kind other }
+) -> Result<Flow, Why>
+    ensures { flowed state.now result ≡ compared state.now (number register) test kind other }
 {
     match (kind, other) {
-        (Kind::Num, Kind::Num) => Ok(Next {
-            on: Some(*state),
-            jump: Some(*state),
-        }),
+        (Kind::Num, Kind::Num) => Ok(Flow::Both(Change::Nothing, Change::Nothing)),
         (Kind::Num, _) => Err(Why::PointerCompare),
         _ => tested(state, register, kind, test),
     }
 }
 
 /// What flows on from a test for 0 of a pointer of that kind.
-fn tested(state: &AbsState, register: Register, kind: Kind, test: Option<bool>) -> Result<Next, Why>
-    ensures { result ≡ tested state.now (number register) kind test }
+fn tested(state: &AbsState, register: Register, kind: Kind, test: Option<bool>) -> Result<Flow, Why>
+    ensures { flowed state.now result ≡ tested state.now (number register) kind test }
 {
     let null = if_null(state, register, kind);
-    let pointer = Some(if_not_null(state, register, kind));
-    match test {
-        Some(true) => Ok(Next {
-            on: pointer,
-            jump: null,
-        }),
-        Some(false) => Ok(Next {
-            on: null,
-            jump: pointer,
-        }),
-        None => Err(Why::PointerCompare),
+    let pointer = if_not_null(state, register, kind);
+    match (test, null) {
+        (Some(true), Some(null)) => Ok(Flow::Both(pointer, null)),
+        (Some(true), None) => Ok(Flow::On(pointer)),
+        (Some(false), Some(null)) => Ok(Flow::Both(null, pointer)),
+        (Some(false), None) => Ok(Flow::Jump(pointer)),
+        (None, _) => Err(Why::PointerCompare),
     }
 }
 
-/// The state where a register of that kind was found to be 0, which a pointer that isn't null never is.
-fn if_null(state: &AbsState, register: Register, kind: Kind) -> Option<AbsState>
-    ensures { result ≡ if_null state.now (number register) kind }
+/// What changes where a register of that kind was found to be 0, which a pointer that isn't null never
+/// is.
+fn if_null(state: &AbsState, register: Register, kind: Kind) -> Option<Change>
+    ensures { option_map (changed state.now) result ≡ if_null state.now (number register) kind }
 {
     match kind {
-        Kind::ElemOrNull(_) | Kind::TaskOrNull => Some(state.with_kind(register, Kind::Num)),
+        Kind::ElemOrNull(_) | Kind::TaskOrNull => Some(Change::Register(register, Kind::Num)),
         _ => None,
     }
 }
 
-/// The state where it was found not to be.
-fn if_not_null(state: &AbsState, register: Register, kind: Kind) -> AbsState
-    ensures { result ≡ if_not_null state.now (number register) kind }
+/// What changes where it was found not to be.
+fn if_not_null(state: &AbsState, register: Register, kind: Kind) -> Change
+    ensures { changed state.now result ≡ if_not_null state.now (number register) kind }
 {
     match kind {
-        Kind::ElemOrNull(map) => state.with_kind(register, Kind::Elem(map, 0)),
-        Kind::TaskOrNull => state.with_kind(register, Kind::Task),
-        _ => *state,
+        Kind::ElemOrNull(map) => Change::Register(register, Kind::Elem(map, 0)),
+        Kind::TaskOrNull => Change::Register(register, Kind::Task),
+        _ => Change::Nothing,
     }
 }

@@ -10,6 +10,7 @@
 
 mod arithmetic;
 mod calls;
+mod changes;
 mod faults;
 mod jumps;
 mod kinds;
@@ -19,6 +20,7 @@ mod places;
 mod rules;
 mod states;
 
+pub use changes::{Change, Flow};
 pub use faults::Why;
 pub use kinds::{CELL_BYTES, Cell, Kind};
 pub use laws::{
@@ -26,5 +28,5 @@ pub use laws::{
     rules_are_sound, states_are_proper,
 };
 pub use memory::{Area, area_of};
-pub use rules::{Context, Next, transfer};
+pub use rules::{Context, Next, flow_of, transfer};
 pub use states::{AbsState, CELLS, REGISTERS, join, start};

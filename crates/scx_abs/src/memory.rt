@@ -3,13 +3,14 @@ ghost use Rattle.scx_semantics.specs.Registers.{number};
 ghost use Rattle.scx_semantics.specs.Memory.{size_bytes, access_size};
 ghost use Rattle.scx_semantics.specs.Meaning.{is_plain};
 ghost use Rattle.scx_abs.specs.Areas.{IsRoom};
+ghost use Rattle.scx_abs.specs.Changes.{flowed};
 ghost use Rattle.scx_abs.specs.Rules.{area_of, field_area, loaded_kind, kind_in, load_kind, stored_cell, number_stored, stored_in, store_rule};
 
 use crate::arithmetic::{operand_kind, usable};
+use crate::changes::{Change, Flow};
 use crate::faults::Why;
 use crate::kinds::{CELL_BYTES, Cell, Kind, all_written, marked};
 use crate::places::{element_size, place_for, shifted};
-use crate::rules::{Next, goes_on};
 use crate::states::{AbsState, STACK_TOP};
 use scx_isa::{Access, Field, Operand, Register, Size};
 use scx_maps::MapDefs;
@@ -48,8 +49,8 @@ pub(crate) fn store(
     offset: i16,
     operand: Operand,
     defs: &MapDefs,
-) -> Result<Next, Why>
-    ensures { result ≡ store_rule defs.now state.now size base offset operand }
+) -> Result<Flow, Why>
+    ensures { flowed state.now result ≡ store_rule defs.now state.now size base offset operand }
 {
     let base = usable(state.kind(base))?;
     let kind = operand_kind(state, operand)?;
@@ -119,15 +120,15 @@ fn is_plain(access: Access) -> bool
 
 /// What flows on from a store there.
 #[tactic(auto, using(crate::proofs::Bytes::fits_cell))]
-fn stored_in(state: &AbsState, size: Size, kind: Kind, area: Area) -> Result<Next, Why>
+fn stored_in(state: &AbsState, size: Size, kind: Kind, area: Area) -> Result<Flow, Why>
     requires { IsRoom (size_bytes size) area }
-    ensures { result ≡ stored_in state.now size kind area }
+    ensures { flowed state.now result ≡ stored_in state.now size kind area }
 {
     match area {
         Area::OnStack(at) => {
             let at = usize::from(at);
             let cell = stored_cell(state.cell(at / CELL_BYTES), size, at % CELL_BYTES, kind)?;
-            goes_on(state.with_cell(at / CELL_BYTES, cell))
+            Ok(Flow::On(Change::Stored((at / CELL_BYTES) as u8, cell)))
         }
         Area::InElement => number_stored(state, kind),
         Area::InTask(field) if field.is_writable() => number_stored(state, kind),
@@ -136,11 +137,11 @@ fn stored_in(state: &AbsState, size: Size, kind: Kind, area: Area) -> Result<Nex
 }
 
 /// What flows on from a store that takes numbers alone.
-fn number_stored(state: &AbsState, kind: Kind) -> Result<Next, Why>
-    ensures { result ≡ number_stored state.now kind }
+fn number_stored(state: &AbsState, kind: Kind) -> Result<Flow, Why>
+    ensures { flowed state.now result ≡ number_stored state.now kind }
 {
     match kind {
-        Kind::Num => goes_on(*state),
+        Kind::Num => Ok(Flow::On(Change::Nothing)),
         _ => Err(Why::PointerStore),
     }
 }

@@ -1,10 +1,12 @@
 ghost use Rattle.std.specs.Prelude.{◌≡◌};
 ghost use Rattle.scx_semantics.specs.Registers.{number};
-ghost use Rattle.scx_abs.specs.Checks.{goes_on, sets};
+ghost use Rattle.scx_abs.specs.Changes.{flowed};
+ghost use Rattle.scx_abs.specs.Checks.{sets};
 ghost use Rattle.scx_abs.specs.Rules.{rule};
 
 use crate::arithmetic::{binary_kind, map_kind, number_kind};
 use crate::calls::call;
+use crate::changes::{Change, Flow, next_of};
 use crate::faults::Why;
 use crate::jumps::jump;
 use crate::kinds::Kind;
@@ -37,6 +39,14 @@ pub struct Next {
 pub fn transfer(state: &AbsState, insn: &Insn, context: &Context) -> Result<Next, Why>
     ensures { result ≡ rule context.now.defs context.now.callback insn.now state.now }
 {
+    let flow = flow_of(state, insn, context)?;
+    Ok(next_of(state, &flow))
+}
+
+/// The same as what changes of the state.
+pub fn flow_of(state: &AbsState, insn: &Insn, context: &Context) -> Result<Flow, Why>
+    ensures { flowed state.now result ≡ rule context.now.defs context.now.callback insn.now state.now }
+{
     match *insn {
         Insn::Binary(width, operation, destination, operand) => {
             sets(
@@ -68,45 +78,29 @@ pub fn transfer(state: &AbsState, insn: &Insn, context: &Context) -> Result<Next
         Insn::JumpIf(width, comparison, register, _, operand) => {
             jump(state, width, comparison, register, operand)
         }
-        Insn::Goto(_) | Insn::GotoLong(_) => Ok(Next {
-            on: None,
-            jump: Some(*state),
-        }),
+        Insn::Goto(_) | Insn::GotoLong(_) => Ok(Flow::Jump(Change::Nothing)),
         Insn::Call(number) => call(state, number, context),
         Insn::Exit => end(state, context),
     }
 }
 
-/// What flows on where nothing but the next instruction follows.
-pub(crate) fn goes_on(state: AbsState) -> Result<Next, Why>
-    ensures { result ≡ goes_on state }
-{
-    Ok(Next {
-        on: Some(state),
-        jump: None,
-    })
-}
-
 /// What flows on where the register gets a kind. That r10 is written goes before what is wrong with
 /// the kind.
-fn sets(state: &AbsState, register: Register, kind: Result<Kind, Why>) -> Result<Next, Why>
-    ensures { result ≡ sets state.now (number register) kind }
+fn sets(state: &AbsState, register: Register, kind: Result<Kind, Why>) -> Result<Flow, Why>
+    ensures { flowed state.now result ≡ sets state.now (number register) kind }
 {
     if register == Register::R10 {
         return Err(Why::WritesFrame);
     }
-    goes_on(state.with_kind(register, kind?))
+    Ok(Flow::On(Change::Register(register, kind?)))
 }
 
 /// The end of the program, at which the callbacks that answer a number have one in r0.
-fn end(state: &AbsState, context: &Context) -> Result<Next, Why>
-    ensures { result ≡ rule context.now.defs context.now.callback Insn.Exit state.now }
+fn end(state: &AbsState, context: &Context) -> Result<Flow, Why>
+    ensures { flowed state.now result ≡ rule context.now.defs context.now.callback Insn.Exit state.now }
 {
     if context.callback.answers() && state.kind(Register::R0) != Kind::Num {
         return Err(Why::BadReturn);
     }
-    Ok(Next {
-        on: None,
-        jump: None,
-    })
+    Ok(Flow::End)
 }

@@ -1,4 +1,4 @@
-ghost use Rattle.std.specs.Prelude.{◌≡◌, ◌<◌, ℕ, slice_index_or, []};
+ghost use Rattle.std.specs.Prelude.{◌≡◌, ◌<◌, ℕ, length, slice_index_or, []};
 ghost use Rattle.scx_semantics.specs.Registers.{number};
 ghost use Rattle.scx_abs.specs.declared.kinds.Kind.TheVariants.{Unusable};
 ghost use Rattle.scx_abs.specs.declared.kinds.Cell.TheVariants.{Bytes};
@@ -28,7 +28,7 @@ pub struct AbsState {
 }
 
 impl AbsState {
-    ghost use Rattle.scx_abs.specs.States.{kind_at, cell_at, with_kind, with_cell};
+    ghost use Rattle.scx_abs.specs.States.{kind_at, cell_at};
 
     /// The kind of a register.
     pub fn kind(&self, register: Register) -> Kind
@@ -45,23 +45,13 @@ impl AbsState {
         self.cells[cell]
     }
 
-    /// The state where the register has that kind.
-    pub(crate) fn with_kind(&self, register: Register, kind: Kind) -> AbsState
-        ensures { result ≡ with_kind self.now (number register) kind }
+    /// Joins another state in: register by register and cell by cell.
+    pub fn join_in(&mut self, other: &AbsState)
+        ensures least { IsLeastCover CoversState self.new self.old other.now }
+        ensures proper { IsProper self.old → IsProper other.now → IsProper self.new }
     {
-        let mut state = *self;
-        state.registers[register.number() as usize] = kind;
-        state
-    }
-
-    /// The state with another cell of that number.
-    pub(crate) fn with_cell(&self, number: usize, cell: Cell) -> AbsState
-        requires { number < CELLS }
-        ensures { result ≡ with_cell self.now number cell }
-    {
-        let mut state = *self;
-        state.cells[number] = cell;
-        state
+        join_registers(&mut self.registers, &other.registers);
+        join_cells(&mut self.cells, &other.cells);
     }
 }
 
@@ -97,15 +87,14 @@ pub fn start(callback: Callback) -> AbsState
     }
 }
 
-/// The least state that covers both: register by register and cell by cell.
+/// The least state that covers both.
 pub fn join(first: &AbsState, second: &AbsState) -> AbsState
     ensures least { IsLeastCover CoversState result first.now second.now }
     ensures proper { IsProper first.now → IsProper second.now → IsProper result }
 {
-    AbsState {
-        registers: join_registers(&first.registers, &second.registers),
-        cells: join_cells(&first.cells, &second.cells),
-    }
+    let mut joined = *first;
+    joined.join_in(second);
+    joined
 }
 
 /// The least kind that covers those of a register in both.
@@ -116,14 +105,14 @@ fn joined_kind(first: &[Kind; REGISTERS], second: &[Kind; REGISTERS], register: 
     first[register].join(second[register])
 }
 
-fn join_registers(first: &[Kind; REGISTERS], second: &[Kind; REGISTERS]) -> [Kind; REGISTERS]
-    ensures { (r : ℕ) → r < REGISTERS → slice_index_or result r Unusable ≡ join_kind (slice_index_or first.now r Unusable) (slice_index_or second.now r Unusable) }
+/// Joins others in.
+fn join_registers(registers: &mut [Kind; REGISTERS], others: &[Kind; REGISTERS])
+    ensures long { length registers.new ≡ REGISTERS }
+    ensures each { (r : ℕ) → r < REGISTERS → slice_index_or registers.new r Unusable ≡ join_kind (slice_index_or registers.old r Unusable) (slice_index_or others.now r Unusable) }
 {
-    let mut joined = *first;
     for register in 0..REGISTERS {
-        joined[register] = joined_kind(first, second, register);
+        registers[register] = joined_kind(registers, others, register);
     }
-    joined
 }
 
 /// The least cell that covers those of a number in both.
@@ -134,12 +123,12 @@ fn joined_cell(first: &[Cell; CELLS], second: &[Cell; CELLS], cell: usize) -> Ce
     first[cell].join(second[cell])
 }
 
-fn join_cells(first: &[Cell; CELLS], second: &[Cell; CELLS]) -> [Cell; CELLS]
-    ensures { (c : ℕ) → c < CELLS → slice_index_or result c (Bytes []) ≡ join_cell (slice_index_or first.now c (Bytes [])) (slice_index_or second.now c (Bytes [])) }
+/// Joins others in.
+fn join_cells(cells: &mut [Cell; CELLS], others: &[Cell; CELLS])
+    ensures long { length cells.new ≡ CELLS }
+    ensures each { (c : ℕ) → c < CELLS → slice_index_or cells.new c (Bytes []) ≡ join_cell (slice_index_or cells.old c (Bytes [])) (slice_index_or others.now c (Bytes [])) }
 {
-    let mut joined = *first;
     for cell in 0..CELLS {
-        joined[cell] = joined_cell(first, second, cell);
+        cells[cell] = joined_cell(cells, others, cell);
     }
-    joined
 }

@@ -8,5 +8,6 @@ pub mod Choices
 pub mod Positions
 mod Pushes
 mod Building
+mod Walks
 pub mod Following
 pub mod Underway

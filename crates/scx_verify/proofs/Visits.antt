@@ -1,7 +1,7 @@
 -- The pass, slot by slot: what is kept stays least, and in the end it is a typing.
-use Rattle.std.proofs.Common.{◌≡◌, ℕ, zero, suc, ◌+◌, ◌<◌, ◌≤◌, ◌⊎◌, inl, inr, List, length, set, replicate, slice_index_or, Option, Some, None, OnSome, Result, Ok, Err, IfOk, refl, sym, ap, ◌∙◌, subst, arith}
+use Rattle.std.proofs.Common.{◌≡◌, ℕ, zero, suc, ◌+◌, ◌<◌, ◌≤◌, ◌⊎◌, inl, inr, List, length, set, replicate, slice_index_or, Option, Some, None, Result, Ok, Err, IfOk, refl, sym, ap, ◌∙◌, subst, arith}
 use Rattle.std.proofs.lemmas.Bool.{cases_eq}
-use Rattle.std.proofs.lemmas.List.{length-set, length-replicate, get_or-set_same, get_or-set_other, get_or_read}
+use Rattle.std.proofs.lemmas.List.{length-set, length-replicate, get_or-set_same, get_or-set_other}
 use Rattle.scx_semantics.specs.declared.instructions.Insn.{Insn}
 use Rattle.scx_abs.specs.declared.rules.Context.{Context}
 use Rattle.scx_semantics.specs.Code.{Code, at, size}
@@ -37,10 +37,10 @@ flows_forward c code states s t a flows f = sent_forward code s t f.insn f.next 
 
 -- ---- before the first slot
 
-abbrev no_state : Option AbsState
+abbrev pub no_state : Option AbsState
 no_state = None
 
-blank : (n t : ℕ) → slice_index_or (replicate n no_state) t no_state ≡ no_state
+pub blank : (n t : ℕ) → slice_index_or (replicate n no_state) t no_state ≡ no_state
 blank zero t = refl
 blank (suc n) zero = refl
 blank (suc n) (suc t) = blank n t
@@ -145,20 +145,20 @@ flows_same c code states other v t a e f = record { insn = f.insn; state = f.sta
 
 -- what arrives once both are sent
 abbrev Sent : Context → Code → States → ℕ → Insn → Next → ℕ → ℕ → AbsState → Type 0
-Sent c code states s i next target u b = (Arrives c code states s u b ⊎ ((next.on ≡ Some b) × (u ≡ s + size i))) ⊎ ((next.jump ≡ Some b) × (u ≡ target))
+Sent c code states s i next target u b = (Arrives c code states s u b ⊎ ((next.jump ≡ Some b) × (u ≡ target))) ⊎ ((next.on ≡ Some b) × (u ≡ s + size i))
 
 module _ (c : Context) (code : Code) (states other : States) (s : ℕ) (i : Insn) (a : AbsState) (next : Next) (to : ℕ) where
   sent_arrives : Sends c code states s i a next → target s i ≡ Some to → ((v : ℕ) → v ≤ s → other v ≡ states v) → (u : ℕ) (b : AbsState) → Sent c code states s i next to u b → Arrives c code other (s + 1) u b
   sent_arrives sends is same u b (inl (inl (inl h))) = inl h
   sent_arrives sends is same u b (inl (inl (inr h))) = inr (h.0, omega (arith, h.1), flows_same c code states other h.0 u b (same h.0 (omega (arith, h.1))) h.2)
   sent_arrives sends is same u b (inl (inr h)) =
-      inr (s, omega arith, record { insn = i; state = a; next = next; there = sends.there; here = same s (omega arith) ∙ sends.here; passes = sends.passes; sent = inl h })
-  sent_arrives sends is same u b (inr h) =
       inr (s, omega arith, record { insn = i; state = a; next = next; there = sends.there; here = same s (omega arith) ∙ sends.here; passes = sends.passes; sent = inr (h.0, is ∙ ap Some (sym h.1)) })
+  sent_arrives sends is same u b (inr h) =
+      inr (s, omega arith, record { insn = i; state = a; next = next; there = sends.there; here = same s (omega arith) ∙ sends.here; passes = sends.passes; sent = inl h })
 
   from_sent : target s i ≡ Some to → (u : ℕ) (b : AbsState) → IsSent s i next u b → Sent c code states s i next to u b
-  from_sent is u b (inl h) = inl (inr h)
-  from_sent is u b (inr h) = inr (h.0, same_slot u to (sym h.1 ∙ is))
+  from_sent is u b (inl h) = inr h
+  from_sent is u b (inr h) = inl (inr (h.0, same_slot u to (sym h.1 ∙ is)))
 
   arrives_sent : Sends c code states s i a next → target s i ≡ Some to → ((v : ℕ) → v ≤ s → other v ≡ states v) → (u : ℕ) (b : AbsState) → Arrives c code other (s + 1) u b → Sent c code states s i next to u b
   arrives_sent sends is same u b (inl h) = inl (inl (inl h))
@@ -182,22 +182,22 @@ sent_proper c i a next p e = subst (λ (r : Result Next Why). IfOk r FlowsProper
 
 pub visited_more : (c : Context) (code : Code) (s : ℕ) (states between after : List (Option AbsState)) (i : Insn) (a : AbsState) (next : Next) (to : ℕ)
     → IsProgram code → Flows code → IsVisited c code s states → at code s ≡ Some i → states_of states s ≡ Some a → rule c.defs c.callback i a ≡ Ok next → target s i ≡ Some to
-    → IsGiven states (s + size i) next.on between → IsGiven between to next.jump after → IsVisited c code (s + 1) after
-visited_more c code s states between after i a next to program flow h there here passes is on jump =
+    → IsGiven states to next.jump between → IsGiven between (s + size i) next.on after → IsVisited c code (s + 1) after
+visited_more c code s states between after i a next to program flow h there here passes is jump on =
     let faultless = flow s i there in
     let land = lands code s i faultless in
     let forward : s < to = omega (arith, land.forward, same_slot land.slot to (sym land.is ∙ is)) in
     let positive = size-positive i in
-    let long : length between ≡ length states = given_long states (s + size i) next.on between on in
-    let same : (v : ℕ) → v ≤ s → states_of after v ≡ states_of states v = λ v le. given_apart between to next.jump after jump v (λ e. omega (arith, e, le, forward)) ∙ given_apart states (s + size i) next.on between on v (λ e. omega (arith, e, le, positive)) in
+    let long : length between ≡ length states = given_long states to next.jump between jump in
+    let same : (v : ℕ) → v ≤ s → states_of after v ≡ states_of states v = λ v le. given_apart between (s + size i) next.on after on v (λ e. omega (arith, e, le, positive)) ∙ given_apart states to next.jump between jump v (λ e. omega (arith, e, le, forward)) in
     let proper : FlowsProper next = sent_proper c i a next (kept_proper (states_of states s) a (Arrives c code (states_of states) s s) here (h.least s)) passes in
     let sends : Sends c code (states_of states) s i a next = record { there = there; here = here; passes = passes } in
-    let first = given_least states (s + size i) next.on between (λ u b. Arrives c code (states_of states) s u b)
-    (λ b e. omega (arith, on_within c code s i a b next program faultless there passes e, h.long)) proper.0 h.least on in
-    let second = given_least between to next.jump after (λ u b. Arrives c code (states_of states) s u b ⊎ ((next.on ≡ Some b) × (u ≡ s + size i)))
-    (λ b e. omega (arith, jump_within c code s to i a b next program faultless there passes e is, h.long, long)) proper.1 first jump in
+    let first = given_least states to next.jump between (λ u b. Arrives c code (states_of states) s u b)
+    (λ b e. omega (arith, jump_within c code s to i a b next program faultless there passes e is, h.long)) proper.1 h.least jump in
+    let second = given_least between (s + size i) next.on after (λ u b. Arrives c code (states_of states) s u b ⊎ ((next.jump ≡ Some b) × (u ≡ to)))
+    (λ b e. omega (arith, on_within c code s i a b next program faultless there passes e, h.long, long)) proper.0 first on in
     record {
-      long = given_long between to next.jump after jump ∙ long ∙ h.long;
+      long = given_long between (s + size i) next.on after on ∙ long ∙ h.long;
       least = λ u. least_same (states_of after u) (Sent c code (states_of states) s i next to u) (Arrives c code (states_of after) (s + 1) u)
           (λ b p. sent_arrives c code (states_of states) (states_of after) s i a next to sends is same u b p)
           (λ b p. arrives_sent c code (states_of states) (states_of after) s i a next to sends is same u b p) (second u);
@@ -228,22 +228,6 @@ visited_refuses c code s states i a why flow h there here fails = record {
     farther : (t : ℕ) → t ≤ s → (b : AbsState) → Arrives c code (states_of states) t t b → Arrives c code (states_of states) s t b
     farther t le b (inl p) = inl p
     farther t le b (inr p) = inr (p.0, omega (arith, p.1), p.2)
-
--- ---- what a function reads and is given
-
--- the state that is read at a slot
-pub read_state : (states : List (Option AbsState)) (s : ℕ) (o : Option AbsState) → s < length states → o ≡ slice_index_or states s o → states_of states s ≡ o
-read_state states s o lt e = sym (get_or_read states s o lt e None)
-
-pub no_insn : (i : Insn) (o : Option Insn) → o ≡ None → o ≡ Some i → ⊥
-no_insn i o e f = let bad : None ≡ Some i = sym e ∙ f in absurd (cc)
-
-pub no_state_there : (a : AbsState) (o : Option AbsState) → o ≡ None → o ≡ Some a → ⊥
-no_state_there a o e f = let bad : None ≡ Some a = sym e ∙ f in absurd (cc)
-
-pub if_some : (o : Option AbsState) (P : Type 0) → ((a : AbsState) → o ≡ Some a → P) → OnSome o P
-if_some None P f = tt
-if_some (Some a) P f = f a refl
 
 -- ---- the end
 

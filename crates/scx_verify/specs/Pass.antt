@@ -1,6 +1,18 @@
--- One pass over the slots in order, as far as it has come: the states that it keeps are the least that
--- cover all that flows there from the slots that it has visited.
-use Rattle.std.specs.Prelude.{ℕ, ◌≡◌, List, length, set, slice_index_or, Option, Some, None}
+-- One pass over the slots in order, as far as it has come: the states that it finds are the least that
+-- cover all that flows there from the slots that it has visited. It holds one in place, and those that
+-- jumps sent further ahead.
+use Rattle.std.specs.Prelude.{ℕ, ◌+◌, ◌<◌, ◌≤◌, ◌≡◌, ◌⊎◌, List, [], length, map, set, slice_index_or, Option, Some, None, option_map, Ok, Err, Box, if◌then◌else◌}
+use Rattle.std.specs.declared.alloc.Global.{Global}
+use Rattle.scx_semantics.specs.declared.instructions.Insn.{Insn}
+use Rattle.scx_semantics.specs.Code.{at}
+use Rattle.scx_plain.specs.Packed.{unpacked}
+use Rattle.scx_abs.specs.declared.faults.Why.{Why}
+use Rattle.scx_abs.specs.declared.rules.Next.{Next}
+use Rattle.scx_abs.specs.Rules.{rule}
+use Rattle.scx_verify.specs.declared.faults.Fault.TheVariants.{Rule, NoMemory}
+use Rattle.scx_verify.specs.declared.faults.VerifyError.{VerifyError}
+use Rattle.scx_verify.specs.declared.pass.Walk.{Walk}
+use Rattle.scx_verify.specs.Operations.{IsBuilt}
 use Rattle.scx_abs.specs.declared.rules.Context.{Context}
 use Rattle.scx_semantics.specs.Code.{Code}
 use Rattle.scx_abs.specs.declared.states.AbsState.{AbsState}
@@ -28,3 +40,56 @@ IsMerged (Some b) a x = IsLeastCover CoversState x b a × (IsProper b → IsProp
 abbrev pub IsGiven : List (Option AbsState) → ℕ → Option AbsState → List (Option AbsState) → Type 0
 IsGiven states t None after = after ≡ states
 IsGiven states t (Some a) after = (x : AbsState) × IsMerged (states_of states t) a x × (after ≡ set states t (Some x))
+
+-- ---- what the pass holds
+
+-- what is kept for a slot ahead
+abbrev pub kept_at : List (Option (Box AbsState Global)) → ℕ → Option AbsState
+kept_at ahead t = option_map (λ (kept : Box AbsState Global). kept.value) (slice_index_or ahead t None)
+
+-- the state at the slot, if control comes there
+abbrev pub is_here : Walk → Option AbsState
+is_here walk = if walk.live then Some walk.state else None
+
+-- what there is where a state, if there is one, came to another one, or to none
+abbrev pub IsAdded : Option AbsState → Option AbsState → Option AbsState → Type 0
+IsAdded o None after = after ≡ o
+IsAdded o (Some a) after = (x : AbsState) × IsMerged o a x × (after ≡ Some x)
+
+-- before the first slot
+pub record IsFirst (slots : ℕ) (a : AbsState) (walk : Walk) : Type 0 where
+  pub here : is_here walk ≡ Some a
+  pub ahead : (t : ℕ) → kept_at walk.ahead.items t ≡ None
+  pub long : length walk.ahead.items ≡ slots + 1
+  pub ops : walk.ops.items ≡ []
+
+-- An instruction begins at the slot, or the program ends. The state there and those that are kept ahead
+-- are the ones of a list of all states, and the operations so far are chosen by it.
+pub record IsWalked (c : Context) (code : Code) (n : ℕ) (walk : Walk) : Type 0 where
+  pub states : List (Option AbsState)
+  pub visited : IsVisited c code n states
+  pub within : n ≤ length code
+  pub begins : at code n ≡ None → length code ≤ n
+  pub here : states_of states n ≡ is_here walk
+  pub ahead : (t : ℕ) → n < t → states_of states t ≡ kept_at walk.ahead.items t
+  pub long : length walk.ahead.items ≡ length code + 1
+  pub built : IsBuilt c code (states_of states) n (map unpacked walk.ops.items)
+
+-- what flows on is there, and what a jump sends is kept
+pub record IsSent (next : Next) (to : ℕ) (before after : Walk) : Type 0 where
+  pub on : is_here after ≡ next.on
+  pub jump : IsAdded (kept_at before.ahead.items to) next.jump (kept_at after.ahead.items to)
+  pub apart : (t : ℕ) → (t ≡ to → ⊥) → kept_at after.ahead.items t ≡ kept_at before.ahead.items t
+  pub long : length after.ahead.items ≡ length before.ahead.items
+  pub ops : after.ops ≡ before.ops
+
+-- an instruction was done in the state, if there is one
+abbrev pub IsStep : Context → Insn → ℕ → Option AbsState → Walk → Walk → Type 0
+IsStep c i to None before after = after ≡ before
+IsStep c i to (Some a) before after = (next : Next) × (rule c.defs c.callback i a ≡ Ok next) × IsSent next to before after
+
+-- a check of it failed, or memory ran out
+abbrev pub IsStopped : Context → Insn → ℕ → Option AbsState → VerifyError → Type 0
+IsStopped c i slot o error =
+    (error ≡ record { fault = NoMemory; slot = 0 })
+    ⊎ ((a : AbsState) × (why : Why) × (o ≡ Some a) × (rule c.defs c.callback i a ≡ Err why) × (error ≡ record { fault = Rule why; slot = slot }))

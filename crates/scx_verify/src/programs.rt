@@ -8,7 +8,6 @@ ghost use Rattle.scx_verify.specs.Faults.{IsRefusal, IsJustified};
 
 use crate::faults::VerifyError;
 use crate::pass::pass;
-use crate::translate::translate;
 use scx_abs::Context;
 use scx_isa::{Callback, MAX_SLOTS, Program, flow};
 use scx_maps::MapDefs;
@@ -100,8 +99,7 @@ pub fn verify(
         defs: *defs,
     };
     flow(&program)?;
-    let states = pass(alloc, &program, &context)?;
-    let ops = translate(alloc, &program, &context, &states)?;
+    let ops = pass(alloc, &program, &context)?;
     Ok(Verified {
         ops,
         program,

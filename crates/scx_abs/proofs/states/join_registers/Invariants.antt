@@ -1,10 +1,11 @@
-use Rattle.std.proofs.Common.{◌≡◌, ◌<◌, ℕ, length, slice_index_or}
+use Rattle.std.proofs.Common.{◌≡◌, ◌<◌, ◌≤◌, ℕ, length, slice_index_or}
 use Rattle.scx_abs.specs.declared.kinds.Kind.TheVariants.{Unusable}
 use Rattle.scx_abs.specs.Kinds.{join_kind}
 use Rattle.scx_abs.proofs.states.join_registers.Given as goal
 
 abbrev pub invariant-loop-register : goal.invariant-loop-register
 invariant-loop-register l = record {
-  long : length l.joined ≡ 11;
-  so_far : (k : ℕ) → k < l.register → slice_index_or l.joined k Unusable ≡ join_kind (slice_index_or l.first k Unusable) (slice_index_or l.second k Unusable);
+  long : length l.registers ≡ 11;
+  so_far : (k : ℕ) → k < l.register → slice_index_or l.registers k Unusable ≡ join_kind (slice_index_or l.fn.registers k Unusable) (slice_index_or l.others k Unusable);
+  later : (k : ℕ) → l.register ≤ k → slice_index_or l.registers k Unusable ≡ slice_index_or l.fn.registers k Unusable;
 }

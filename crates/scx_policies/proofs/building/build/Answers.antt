@@ -6,17 +6,17 @@ use Rattle.scx_policies.proofs.building.build.Goals as goal
 pub returns-in_err-verified-5-clause-refused : goal.returns-in_err-verified-5-clause-refused
 returns-in_err-verified-5-clause-refused c =
     let p = err_from_is_err_and c.from_residual-in_err-verified-5.result c.from_residual-in_err-verified-5.ensures.1 in
-    rw (p.1, p.2, ← c.text.view_is) (refused_at _ callback.Dispatch c.in_err-verified-5.field-0.0 (c.in_ok-verified.ensures.ok.accepted, (c.in_ok-verified-2.ensures.ok.accepted, (c.in_ok-verified-3.ensures.ok.accepted, (c.in_ok-verified-4.ensures.ok.accepted, tt)))) c.in_err-verified-5.ensures.refused)
+    rw (p.1, p.2, ← c.text.view_is) (refused_at (record { shapes = c.text.inside.defs; timeout_ms = c.text.inside.timeout_ms; programs = c.text.inside.programs }) callback.Dispatch c.in_err-verified-5.field-0.0 (c.in_ok-verified.ensures.ok.accepted, (c.in_ok-verified-2.ensures.ok.accepted, (c.in_ok-verified-3.ensures.ok.accepted, (c.in_ok-verified-4.ensures.ok.accepted, tt)))) c.in_err-verified-5.ensures.refused)
 
 pub returns-in_err-verified-6-clause-refused : goal.returns-in_err-verified-6-clause-refused
 returns-in_err-verified-6-clause-refused c =
     let p = err_from_is_err_and c.from_residual-in_err-verified-6.result c.from_residual-in_err-verified-6.ensures.1 in
-    rw (p.1, p.2, ← c.text.view_is) (refused_at _ callback.Running c.in_err-verified-6.field-0.0 (c.in_ok-verified.ensures.ok.accepted, (c.in_ok-verified-2.ensures.ok.accepted, (c.in_ok-verified-3.ensures.ok.accepted, (c.in_ok-verified-4.ensures.ok.accepted, (c.in_ok-verified-5.ensures.ok.accepted, tt))))) c.in_err-verified-6.ensures.refused)
+    rw (p.1, p.2, ← c.text.view_is) (refused_at (record { shapes = c.text.inside.defs; timeout_ms = c.text.inside.timeout_ms; programs = c.text.inside.programs }) callback.Running c.in_err-verified-6.field-0.0 (c.in_ok-verified.ensures.ok.accepted, (c.in_ok-verified-2.ensures.ok.accepted, (c.in_ok-verified-3.ensures.ok.accepted, (c.in_ok-verified-4.ensures.ok.accepted, (c.in_ok-verified-5.ensures.ok.accepted, tt))))) c.in_err-verified-6.ensures.refused)
 
 pub returns-in_err-verified-7-clause-refused : goal.returns-in_err-verified-7-clause-refused
 returns-in_err-verified-7-clause-refused c =
     let p = err_from_is_err_and c.from_residual-in_err-verified-7.result c.from_residual-in_err-verified-7.ensures.1 in
-    rw (p.1, p.2, ← c.text.view_is) (refused_at _ callback.Stopping c.in_err-verified-7.field-0.0 (c.in_ok-verified.ensures.ok.accepted, (c.in_ok-verified-2.ensures.ok.accepted, (c.in_ok-verified-3.ensures.ok.accepted, (c.in_ok-verified-4.ensures.ok.accepted, (c.in_ok-verified-5.ensures.ok.accepted, (c.in_ok-verified-6.ensures.ok.accepted, tt)))))) c.in_err-verified-7.ensures.refused)
+    rw (p.1, p.2, ← c.text.view_is) (refused_at (record { shapes = c.text.inside.defs; timeout_ms = c.text.inside.timeout_ms; programs = c.text.inside.programs }) callback.Stopping c.in_err-verified-7.field-0.0 (c.in_ok-verified.ensures.ok.accepted, (c.in_ok-verified-2.ensures.ok.accepted, (c.in_ok-verified-3.ensures.ok.accepted, (c.in_ok-verified-4.ensures.ok.accepted, (c.in_ok-verified-5.ensures.ok.accepted, (c.in_ok-verified-6.ensures.ok.accepted, tt)))))) c.in_err-verified-7.ensures.refused)
 
 pub returns-clause-built : goal.returns-clause-built
 returns-clause-built c =

@@ -1,0 +1,32 @@
+-- What an instruction changes of the state before it, on each way that control goes on: little, so that
+-- one state can be kept and changed in place.
+use Rattle.std.specs.Prelude.{Option, Some, None, Result, Ok, Err}
+use Rattle.scx_semantics.specs.Registers.{number}
+use Rattle.scx_abs.specs.declared.faults.Why.{Why}
+use Rattle.scx_abs.specs.declared.states.AbsState.{AbsState}
+use Rattle.scx_abs.specs.declared.changes.Change.{Change}
+use Rattle.scx_abs.specs.declared.changes.Change.TheVariants as change
+use Rattle.scx_abs.specs.declared.changes.Flow.{Flow}
+use Rattle.scx_abs.specs.declared.changes.Flow.TheVariants.{End, On, Jump, Both}
+use Rattle.scx_abs.specs.declared.rules.Next.{Next}
+use Rattle.scx_abs.specs.States.{with_kind, with_cell}
+use Rattle.scx_abs.specs.Calls.{after_call}
+use Rattle.scx_abs.specs.Checks.{flows}
+
+abbrev pub changed : AbsState → Change → AbsState
+changed a change.Nothing = a
+changed a (change.Register r k) = with_kind a (number r) k
+changed a (change.Stored c cell) = with_cell a c cell
+changed a (change.Called k) = after_call a k
+
+-- what flows on from that state, changed
+abbrev pub next_of : AbsState → Flow → Next
+next_of a End = flows None None
+next_of a (On c) = flows (Some (changed a c)) None
+next_of a (Jump c) = flows None (Some (changed a c))
+next_of a (Both c d) = flows (Some (changed a c)) (Some (changed a d))
+
+-- the same, where no check failed
+abbrev pub flowed : AbsState → Result Flow Why → Result Next Why
+flowed a (Ok f) = Ok (next_of a f)
+flowed a (Err why) = Err why

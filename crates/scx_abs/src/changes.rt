@@ -1,0 +1,103 @@
+ghost use Rattle.std.specs.Prelude.{◌≡◌};
+ghost use Rattle.scx_abs.specs.Changes.{changed, next_of};
+
+use crate::kinds::{Cell, Kind};
+use crate::rules::Next;
+use crate::states::{AbsState, CELLS};
+use scx_isa::Register;
+
+/// What changes of a state.
+#[derive(Clone, Copy)]
+pub enum Change {
+    Nothing,
+    /// The register gets that kind.
+    Register(Register, Kind),
+    /// The cell of that number is written.
+    Stored(u8, Cell),
+    /// A helper answered a value of that kind.
+    Called(Kind),
+}
+
+/// Where control goes on from an instruction, and what changes on the way.
+#[derive(Clone, Copy)]
+pub enum Flow {
+    /// The program ends.
+    End,
+    /// To the next instruction.
+    On(Change),
+    /// To the jump's target.
+    Jump(Change),
+    /// To the next instruction, and to the jump's target.
+    Both(Change, Change),
+}
+
+impl AbsState {
+    ghost use Rattle.scx_abs.specs.States.{with_cell};
+    ghost use Rattle.scx_abs.specs.Calls.{after_call};
+
+    /// Changes the state in place.
+    pub fn change(&mut self, change: &Change)
+        ensures { self.new ≡ changed self.old change.now }
+    {
+        match *change {
+            Change::Nothing => (),
+            Change::Register(register, kind) => self.registers[register.number() as usize] = kind,
+            Change::Stored(number, cell) => self.store(usize::from(number), cell),
+            Change::Called(answer) => self.call(answer),
+        }
+    }
+
+    /// Writes a cell, if there is one of that number.
+    fn store(&mut self, number: usize, cell: Cell)
+        ensures { self.new ≡ with_cell self.old number cell }
+    {
+        if number < CELLS {
+            self.cells[number] = cell;
+        }
+    }
+
+    /// Changes the registers as the call of a helper does.
+    fn call(&mut self, answer: Kind)
+        ensures { self.new ≡ after_call self.old answer }
+    {
+        self.registers[1] = Kind::Unusable;
+        self.registers[2] = Kind::Unusable;
+        self.registers[3] = Kind::Unusable;
+        self.registers[4] = Kind::Unusable;
+        self.registers[5] = Kind::Unusable;
+        self.registers[0] = answer;
+    }
+
+    /// The state, changed.
+    fn changed(&self, change: &Change) -> AbsState
+        ensures { result ≡ changed self.now change.now }
+    {
+        let mut state = *self;
+        state.change(change);
+        state
+    }
+}
+
+/// What flows on from the state, as two states.
+pub(crate) fn next_of(state: &AbsState, flow: &Flow) -> Next
+    ensures { result ≡ next_of state.now flow.now }
+{
+    match *flow {
+        Flow::End => Next {
+            on: None,
+            jump: None,
+        },
+        Flow::On(change) => Next {
+            on: Some(state.changed(&change)),
+            jump: None,
+        },
+        Flow::Jump(change) => Next {
+            on: None,
+            jump: Some(state.changed(&change)),
+        },
+        Flow::Both(on, jump) => Next {
+            on: Some(state.changed(&on)),
+            jump: Some(state.changed(&jump)),
+        },
+    }
+}
