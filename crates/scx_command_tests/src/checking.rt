@@ -144,8 +144,8 @@ fn refuses_files(rt: HostRuntime) -> Result<(), Fail> {
     expect(&rt, "timeout_ms =", "refused: policy file: not TOML\n", 1);
     expect(
         &rt,
-        "[code]\nselect_cpu = 'exit'\n",
-        "refused: policy code.select_cpu: unknown\n",
+        "[code]\nplain = 'exit'\n",
+        "refused: policy code.plain: unknown\n",
         1,
     );
     expect(

@@ -2,11 +2,9 @@
 //! worked out by hand.
 ghost use Rattle.std.specs.Prelude.{◌≡◌, true};
 
-use scx_driver::Driver;
-use scx_policies::{build, read_policy};
+use scx_load::{Driver, build, read_policy, read_workload};
 use scx_sched::{Note, Sim, Sink, What};
 use scx_weights::Tree;
-use scx_workloads::read_workload;
 use std::process::Abort;
 use std::test::Fail;
 

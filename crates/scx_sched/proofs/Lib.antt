@@ -3,6 +3,7 @@ pub mod Sound
 pub mod Skeleton
 pub mod Fine
 pub mod Pushes
+pub mod Still
 pub mod Events
 pub mod First
 pub mod Valid

@@ -13,6 +13,7 @@ use Rattle.scx_sched.specs.Ranges.{IsFine}
 use Rattle.scx_sched.specs.Sim.{SimState, max_events, refusal, IsValid}
 use Rattle.scx_sched.proofs.Events.{fine_step}
 use Rattle.scx_sched.proofs.First.{fine_started}
+use Rattle.scx_sched.proofs.Still.{still_step, still_first}
 
 fine_with : (n e : ℕ) (w : WorldState) → IsFine n e None w.cpus w → IsFine (length w.tasks) e None w.cpus w
 fine_with n e w h = subst (λ k. IsFine k e None w.cpus w) (sym h.sound.tasks) h
@@ -23,6 +24,7 @@ valid_first p tree cpus t shape flags e few =
     record {
       over = omega arith;
       pushes = omega (arith, few);
+      still = still_first p tree cpus t e;
       fine = fine_with (length tree.homes) 0 t.world (subst (λ on. IsFine (length tree.homes) 0 None on t.world) (sym h.sound.cpus) h);
     }
 
@@ -43,5 +45,6 @@ valid_step s n v e h few =
     record {
       over = grind (arith, nat_tests, a.not_over, h.over);
       pushes = omega (arith, few, h.pushes);
+      still = still_step s v h.still;
       fine = fine_with (length s.world.tasks) (n + 1) (machine.happened s v).state.world (fine_step (length s.world.tasks) n s v refl a.taken h.fine);
     }

@@ -58,4 +58,5 @@ IsFirst p tree cpus s = (started p tree cpus ≡ Ok s.state) × (s.events ≡ 0)
 pub record IsValid (state : State) (events : ℕ) : Type 0 where
   pub over : events ≤ max_events
   pub pushes : state.world.queues.pushes ≤ 2 ^ 23 + 2 ^ 18 * events
+  pub still : state.world.cycling ≡ None
   pub fine : IsFine (length state.world.tasks) events None state.world.cpus state.world

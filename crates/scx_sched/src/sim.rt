@@ -81,10 +81,11 @@ impl Sim {
         Ok(())
     }
 
-    /// What holds between two events: each runnable task is in one place, and no other task anywhere.
-    /// The function does nothing: its contract is the law.
+    /// What holds between two events: each runnable task is in one place, and no other task anywhere; and
+    /// no scheduling cycle is under way. The function does nothing: its contract is the law.
     pub fn is_sound(&self)
-        ensures { IsOnce None self.now.state.world }
+        ensures once { IsOnce None self.now.state.world }
+        ensures still { self.now.state.world.cycling ≡ None }
     {
         let _events = self.events;
     }

@@ -22,6 +22,7 @@ abbrev pub verdict_lines : Verdicts → List ℕ
 verdict_lines v =
     line_of callback.Init v.init
     ++ line_of callback.Enable v.enable
+    ++ line_of callback.SelectCpu v.select_cpu
     ++ line_of callback.Enqueue v.enqueue
     ++ line_of callback.Dispatch v.dispatch
     ++ line_of callback.Running v.running

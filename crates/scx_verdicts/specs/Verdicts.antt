@@ -29,12 +29,12 @@ IsVerdictOf shapes b (Some code) (Some verdict) = IsVerdict shapes b code verdic
 abbrev pub verdict_of : Verdicts → Callback → Option Verdict
 verdict_of v callback.Init = v.init
 verdict_of v callback.Enable = v.enable
+verdict_of v callback.SelectCpu = v.select_cpu
 verdict_of v callback.Enqueue = v.enqueue
 verdict_of v callback.Dispatch = v.dispatch
 verdict_of v callback.Running = v.running
 verdict_of v callback.Stopping = v.stopping
 verdict_of v callback.Plain = None
-verdict_of v callback.SelectCpu = None
 
 -- the verdicts on all programs of a policy
 abbrev pub HasVerdicts : PolicyFile → Verdicts → Type 0
@@ -47,4 +47,4 @@ is_accepted (Some (Refused fault slot)) = false
 
 -- none is refused
 abbrev pub are_accepted : Verdicts → Bool
-are_accepted v = is_accepted v.init && is_accepted v.enable && is_accepted v.enqueue && is_accepted v.dispatch && is_accepted v.running && is_accepted v.stopping
+are_accepted v = is_accepted v.init && is_accepted v.enable && is_accepted v.select_cpu && is_accepted v.enqueue && is_accepted v.dispatch && is_accepted v.running && is_accepted v.stopping

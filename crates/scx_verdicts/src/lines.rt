@@ -23,6 +23,7 @@ pub(crate) fn lines_of(verdicts: Verdicts) -> Lines
     let mut lines = Lines::new();
     push_line(&mut lines, Callback::Init, verdicts.init);
     push_line(&mut lines, Callback::Enable, verdicts.enable);
+    push_line(&mut lines, Callback::SelectCpu, verdicts.select_cpu);
     push_line(&mut lines, Callback::Enqueue, verdicts.enqueue);
     push_line(&mut lines, Callback::Dispatch, verdicts.dispatch);
     push_line(&mut lines, Callback::Running, verdicts.running);

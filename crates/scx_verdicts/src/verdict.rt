@@ -23,6 +23,7 @@ pub enum Verdict {
 pub struct Verdicts {
     pub init: Option<Verdict>,
     pub enable: Option<Verdict>,
+    pub select_cpu: Option<Verdict>,
     pub enqueue: Option<Verdict>,
     pub dispatch: Option<Verdict>,
     pub running: Option<Verdict>,
@@ -36,6 +37,7 @@ impl Verdicts {
     {
         is_accepted(self.init)
             && is_accepted(self.enable)
+            && is_accepted(self.select_cpu)
             && is_accepted(self.enqueue)
             && is_accepted(self.dispatch)
             && is_accepted(self.running)
@@ -70,6 +72,12 @@ pub(crate) fn verdicts_of(alloc: Global, policy: PolicyText) -> Result<Verdicts,
             alloc,
             policy.take(Callback::Enable),
             Callback::Enable,
+            &defs,
+        )?,
+        select_cpu: verdict_on(
+            alloc,
+            policy.take(Callback::SelectCpu),
+            Callback::SelectCpu,
             &defs,
         )?,
         enqueue: verdict_on(
