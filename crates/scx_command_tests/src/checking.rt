@@ -65,10 +65,12 @@ fn orders_callbacks(rt: HostRuntime) {
         running = 'exit'\n\
         dispatch = 'exit'\n\
         enqueue = 'exit'\n\
+        select_cpu = 'exit'\n\
         enable = 'exit'\n\
         init = 'exit'\n",
         "init refused 18 BadReturn at 0\n\
         enable ok 1\n\
+        select_cpu refused 18 BadReturn at 0\n\
         enqueue ok 1\n\
         dispatch ok 1\n\
         running ok 1\n\
