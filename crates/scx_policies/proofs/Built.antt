@@ -8,7 +8,7 @@ use Rattle.scx_machine.specs.Policy.{PolicyState, policy_of}
 use Rattle.scx_policies.specs.declared.building.BuildError.{BuildError}
 use Rattle.scx_policies.specs.declared.building.BuildError.TheVariants as errors
 use Rattle.scx_policies.specs.Policies.{PolicyFile, program_of}
-use Rattle.scx_policies.specs.Building.{IsAccepted, IsRefusedFor, earlier, AreAccepted, IsFirstRefused, code_of, IsBuilt, IsVerified, IsRefusedAs}
+use Rattle.scx_policies.specs.Building.{IsAccepted, earlier, AreAccepted, IsFirstRefused, code_of, IsBuilt, IsVerified, IsRefusedAs}
 
 pub refused_at : (text : PolicyFile) (b : Callback) (e : BuildError) → AreAccepted text (earlier b) → IsRefusedAs text.shapes (program_of text b) b e → IsFirstRefused text e
 refused_at text b (errors.Refused a fault slot) before (is, refused) = rw is (before, refused)

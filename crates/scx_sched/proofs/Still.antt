@@ -22,7 +22,7 @@ use Rattle.scx_world.specs.declared.call.Insert.{Insert}
 use Rattle.scx_world.specs.declared.faults.Fault.{Fault}
 use Rattle.scx_world.specs.declared.faults.Fault.TheVariants.{NoSuchQueue, NoSuchCpu, CannotCreate}
 use Rattle.scx_world.specs.World.{WorldState, with_queues, with_tree, task_at, running, cpu_of, is_idle, begun}
-use Rattle.scx_world.specs.Tasks.{woken, asleep, gone, entered, for_cpu, stopped, ticked, later, reweighed}
+use Rattle.scx_world.specs.Tasks.{woken, gone, entered, for_cpu, ticked}
 use Rattle.scx_world.specs.Helpers.{is_there, can_create, faulted, is_dispatch, insert_fault, with_insert, released, inserted, asked, asked_by_vtime, can_move, moved, given_number, given_task, helper_answer, helper_after, world_number, world_stored}
 use Rattle.scx_machine.specs.declared.events.Event.{Event}
 use Rattle.scx_machine.specs.declared.events.Event.TheVariants.{Wake, Sleep, Tick, Clock, SetWeight}

@@ -1,13 +1,10 @@
 -- The set of processors on which a task runs, as bits.
-use Rattle.std.proofs.Common.{◌≡◌, ◌≢◌, ℕ, zero, suc, ◌&&◌, not, Bool, ◌+◌, ◌-◌, ◌*◌, ◌%◌, ◌<◌, ◌≤◌, ◌^◌, true, false, nat_lt, ◌⊎◌, inl, inr, List, length, set, get_or, replicate, Option, Some, None, is_none, is_some, refl, subst, sym, ◌∙◌, ap, arith, position}
+use Rattle.std.proofs.Common.{◌≡◌, ◌≢◌, ℕ, zero, suc, ◌&&◌, not, Bool, ◌+◌, ◌-◌, ◌*◌, ◌%◌, ◌<◌, ◌≤◌, ◌^◌, true, false, ◌⊎◌, inl, inr, List, length, set, get_or, replicate, Option, Some, None, is_none, is_some, refl, subst, sym, ◌∙◌, ap, arith}
 use Rattle.std.specs.Int.{w64, bit_at, bit_not, trailing_zeros, trailing_ones}
 use Rattle.std.specs.Int.Bits.{bit_or, bit_and}
 use Rattle.std.specs.Int.Count.{count_trailing_zeros, trailing_of_zero}
-use Rattle.std.specs.List.{position_or_len}
 use Rattle.std.proofs.lemmas.Bool.{cases_eq, cases_lt, eq-eqb, ne_eqb, lt-ltb}
-use Rattle.std.proofs.lemmas.Bool.Decides.{nat_tests}
 use Rattle.std.proofs.lemmas.List.{length-replicate, get_or-replicate, get_or-set_same, get_or-set_other, length-set}
-use Rattle.std.proofs.lemmas.List.Sums.{position_or_len_is}
 use Rattle.std.proofs.lemmas.Nat.Bits.{bit_at-zero, bit_at_ones, bit_at-trailing_ones, bit_at_set_same, bit_at_set_other, bit_at_clear_same, bit_at_clear_other}
 use Rattle.scx_dsq.specs.Laws.{one_if}
 use Rattle.scx_world.specs.Kept.{AreBusy, AreTaken}
