@@ -179,6 +179,7 @@ fn callbacks_that_do_nothing(rt: HostRuntime) -> Result<(), Fail> {
     let callbacks = Callbacks {
         init: program(&rt, Callback::Init, "r0 = 0\nexit"),
         enable: program(&rt, Callback::Enable, "exit"),
+        select_cpu: program(&rt, Callback::SelectCpu, "r0 = 0\nexit"),
         enqueue: program(&rt, Callback::Enqueue, "exit"),
         dispatch: program(&rt, Callback::Dispatch, "exit"),
         running: program(&rt, Callback::Running, "exit"),
