@@ -1,5 +1,5 @@
 -- Between two events no cycle is under way.
-use Rattle.std.proofs.Common.{◌≡◌, ℕ, zero, suc, Bool, true, false, ◌==◌, nat_lt, cond, length, map, Option, Some, None, is_none, Result, Ok, Err, ℤ, refl, subst}
+use Rattle.std.proofs.Common.{◌≡◌, ℕ, zero, suc, Bool, true, false, ◌==◌, nat_lt, cond, List, length, map, Option, Some, None, is_none, Result, Ok, Err, ℤ, refl, subst}
 use Rattle.scx_dsq.specs.Queues.{front_of}
 use Rattle.scx_dsq.specs.Calls.{created}
 use Rattle.scx_semantics.specs.declared.callbacks.Callback.{Callback}

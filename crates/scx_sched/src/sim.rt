@@ -41,7 +41,6 @@ impl Sim {
     ///
     /// `BadShape` is looked at first, then all memory is taken, and then init runs, and enable of each
     /// task.
-    #[tactic(auto, using(crate::proofs::Valid::valid_first))]
     pub fn new(alloc: Global, policy: Policy, tree: Tree, cpus: u32) -> Result<Sim, NewError>
         ensures first { IfOk result (IsFirst policy tree cpus) }
         ensures refused { IfErr result (IsRefusal policy tree cpus) }
