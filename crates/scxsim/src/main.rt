@@ -3,11 +3,14 @@
 //! `scx_commands`, `scx_verdicts` and `scx_simulation`, whose calls are passed on here.
 #![tactic(auto)]
 
+mod progress;
+
 ghost use Rattle.std.specs.Prelude.{◌≡◌, ◌⊎◌};
 ghost use Rattle.std.specs.Io.KnownBytes.{Appends};
 ghost use Rattle.scx_output.specs.Output.{HasFailed};
 
 use clap::error::ErrorKind as WordsErrorKind;
+use progress::{Console, Progress};
 pub use scx_commands::{Counted, Failed, Fault, Out, Refusal, asm, dis, exec, finish, text};
 use scx_commands::{
     FAILED, Hint, USAGE, hint_of_slots, hint_of_text, read_file, write_all, write_unread,
@@ -63,7 +66,7 @@ fn main(rt: HostRuntime) -> ExitCode {
 }
 
 /// Does what the process's words ask for.
-fn run<R: AllocGlobal + Env + Files, W: Out>(rt: &R, out: &mut W) -> Ending {
+fn run<R: AllocGlobal + Env + Files + Console, W: Out>(rt: &R, out: &mut W) -> Ending {
     match words_of(rt) {
         Ok(words) => run_words(rt, words.as_slice(), out),
         Err(error) if error.kind() == ErrorKind::OutOfMemory => {
@@ -77,7 +80,11 @@ fn words_of<R: AllocGlobal + Env>(rt: &R) -> io::Result<Vec<String>> {
     Ok(env::args(rt)?.collect(rt.alloc())?)
 }
 
-fn run_words<R: AllocGlobal + Files, W: Out>(rt: &R, words: &[String], out: &mut W) -> Ending {
+fn run_words<R: AllocGlobal + Files + Console, W: Out>(
+    rt: &R,
+    words: &[String],
+    out: &mut W,
+) -> Ending {
     match read_words(rt.alloc(), words) {
         Ok(Some(request)) => run_request(rt, request, out),
         Ok(None) => without_hint(USAGE),
@@ -88,7 +95,7 @@ fn run_words<R: AllocGlobal + Files, W: Out>(rt: &R, words: &[String], out: &mut
     }
 }
 
-fn run_request<R: AllocGlobal + Files, W: Out>(
+fn run_request<R: AllocGlobal + Files + Console, W: Out>(
     rt: &R,
     request: Request<'_>,
     out: &mut W,
@@ -104,7 +111,7 @@ fn run_request<R: AllocGlobal + Files, W: Out>(
 }
 
 /// Does a command's work with its files.
-fn do_request<'a, R: AllocGlobal + Files, W: Out>(
+fn do_request<'a, R: AllocGlobal + Files + Console, W: Out>(
     rt: &R,
     request: Request<'a>,
     out: &mut W,
@@ -132,7 +139,7 @@ fn do_request<'a, R: AllocGlobal + Files, W: Out>(
         }
         Request::Run { policy, workload } => {
             let files = files_of(rt, policy, workload)?;
-            let outcome = simulate_files(rt.alloc(), &files, out);
+            let outcome = simulate_aloud(rt, &files, out);
             Ok(end(outcome, hint_of_files(&files), out))
         }
         Request::Report { policy, workload } => {
@@ -141,6 +148,18 @@ fn do_request<'a, R: AllocGlobal + Files, W: Out>(
             Ok(end(outcome, hint_of_files(&files), out))
         }
     }
+}
+
+/// Writes the trace of a run, and says on standard error how far it is.
+fn simulate_aloud<R: AllocGlobal + Console, W: Out>(
+    rt: &R,
+    files: &RunFiles,
+    out: &mut W,
+) -> Result<bool, Fault> {
+    let mut progress = Progress::new(rt, out);
+    let outcome = simulate_files(rt.alloc(), files, &mut progress);
+    progress.end();
+    outcome
 }
 
 fn simulate_files<W: Out>(alloc: Global, files: &RunFiles, out: &mut W) -> Result<bool, Fault> {
