@@ -25,6 +25,10 @@ ids_of live = map (λ q. q.id) live
 abbrev pub arrays_of : List Queue → List (List Item)
 arrays_of live = map (λ q. q.heap.items) live
 
+-- a queue with that id stands at the place
+abbrev pub Stands : QueueState → ℕ → ℕ → Type 0
+Stands s k id = (k < length s.ids) × HoldsAt (λ other. other ≡ id) s.ids k
+
 -- a queue has its tasks between its ends, or in its heap; an empty one may be either
 pub data IsOfOneSort (places : Places) (links : List Link) (q : Queue) : Type 0 where
   by_links : IsThreaded places links q.id q.ends → q.heap.items ≡ [] → IsOfOneSort places links q
