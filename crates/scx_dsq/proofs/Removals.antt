@@ -85,17 +85,17 @@ module _ (i : Inside) (k t : ℕ) (p : Place) (q : Queue) (h : IsKept i) (w : Is
       stand = row.stand;
     };
   })
-  left_by (Vtime key) new linked stood is e = rw e.threads (record {
-    id = e.id;
+  left_by (Vtime key) new linked stood is e = rw e.1 (record {
+    id = e.0.id;
     links = refl;
-    spots = e.others.long;
+    spots = e.0.others.long;
     agree = λ other n u o v. refl;
-    elsewhere = λ r n keeps. spots_beside (state_of i) i.links.items q r i.spots.items stood (λ same. n (sym same)) (left_held (state_of i) i.links.items q t p h.sound.stamps (w.waits, sym w.is) h.links key is row.tasks).0 keeps.tasks e.others keeps.stand;
+    elsewhere = λ r n keeps. spots_beside (state_of i) i.links.items q r i.spots.items stood (λ same. n (sym same)) (left_held (state_of i) i.links.items q t p h.sound.stamps (w.waits, sym w.is) h.links key is row.tasks).0 keeps.tasks e.0.others keeps.stand;
     keeps = record {
-      tasks = form_taken_out (state_of i) i.links.items q t p h.sound.stamps (w.waits, sym w.is) h.links key linked i.spots.items stood new is row.tasks e;
-      room = omega (arith, row.room, e.room, length-set {A = Option Place} i.places.items t None);
-      heap = e.heap;
-      stand = e.stand;
+      tasks = form_taken_out (state_of i) i.links.items q t p h.sound.stamps (w.waits, sym w.is) h.links key i.spots.items stood new is row.tasks e.0;
+      room = omega (arith, row.room, e.0.room, length-set {A = Option Place} i.places.items t None);
+      heap = e.0.heap;
+      stand = e.0.stand;
     };
   })
 

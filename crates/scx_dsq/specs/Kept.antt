@@ -130,7 +130,7 @@ pub record Unlinked (links : List Link) (spots : List ℕ) (q : Queue) (t : ℕ)
   pub stays : stood ≡ spots
 
 -- the item of that task was taken out of the heap
-pub record TakenOut (links : List Link) (spots : List ℕ) (q : Queue) (t : ℕ) (linked : List Link) (stood : List ℕ) (new : Queue) : Type 0 where
+pub record TakenOut (spots : List ℕ) (q : Queue) (t : ℕ) (stood : List ℕ) (new : Queue) : Type 0 where
   pub item : Item
   pub task : item.task ≡ t
   pub id : new.id ≡ q.id
@@ -141,11 +141,10 @@ pub record TakenOut (links : List Link) (spots : List ℕ) (q : Queue) (t : ℕ)
   pub others : KeepsOthers q.heap.items spots stood
   pub same : IsPermutation q.heap.items (item ∷ new.heap.items)
   pub gone : IsAbsent new.heap.items t
-  pub threads : linked ≡ links
 
 abbrev pub Left : Rank → List Link → List ℕ → Queue → ℕ → List Link → List ℕ → Queue → Type 0
 Left Fifo links spots q t linked stood new = Unlinked links spots q t linked stood new
-Left (Vtime k) links spots q t linked stood new = TakenOut links spots q t linked stood new
+Left (Vtime k) links spots q t linked stood new = TakenOut spots q t stood new × (linked ≡ links)
 
 -- ---- all of them
 
