@@ -19,7 +19,8 @@ is our time to that of plain Rust. Needs rustc.
 Runs are short, so their figures are instructions of the processor, counted by callgrind: for each
 instruction of the program that is done, or for each callback. Beside ours stand two interpreters in plain
 Rust, one with a tag on each value, which tests all that could go wrong, and one over programs that were
-decoded once and that tests nothing. Needs valgrind too.
+decoded once and that tests nothing. The work `counts` gives the same for each slot that is decoded,
+encoded, assembled, disassembled and verified, and for each callback that is verified. Needs valgrind too.
 
   bench/figures.py [--only WORK] [PATH_OF_scx_bench]     (default: all work; builds scx_bench)
 """
@@ -163,14 +164,14 @@ def measure_queues(binaries):
             show("queues", work.split("_")[1], tasks, CALLS * times, taken)
 
 
-def instructions(binary, work, path):
+def instructions(binary, work, path, more=100):
     """How many instructions of the processor one more piece of the work takes."""
     counts = []
-    for times in (1, 101):
+    for times in (1, 1 + more):
         command = ["valgrind", "--tool=callgrind", "--callgrind-out-file=/dev/null", binary, work, path, str(times)]
         run = subprocess.run(command, capture_output=True, text=True, check=True)
         counts.append(int(re.search(r"Collected : (\d+)", run.stderr)[1]))
-    return (counts[1] - counts[0]) / 100
+    return (counts[1] - counts[0]) / more
 
 
 def show_run(work, name, slots, binaries, words, path, units):
@@ -197,6 +198,29 @@ def measure_run(binaries, path):
     show_run("callback", "run", "", binaries, words, "-", CALLBACKS)
 
 
+def show_count(work, name, slots, counts):
+    ours, plain = counts
+    print("%-8s %-10s %6s %12.1f %12.1f %8.2f" % (work, name, slots, ours, plain, ours / plain), flush=True)
+
+
+def measure_counts(binaries, path):
+    print("%-8s %-10s %6s %12s %12s %8s" % ("work", "program", "slots", "scxsim", "plain", "ratio"))
+    for work in UNITS:
+        for name, body in PROGRAMS.items():
+            spelled, text = program(SIZES[-1], body)
+            with open(path, "wb") as file:
+                file.write(text if work == "asm" else spelled)
+            counts = [instructions(binary, work, path, 10) / SIZES[-1] for binary in binaries]
+            show_count(work, name, SIZES[-1], counts)
+    for name, body in VERIFIED.items():
+        with open(path, "wb") as file:
+            file.write(program(MOST, body)[0])
+        both = [[instructions(binary, work, path, 10) for work in ("verify", "decode")] for binary in binaries]
+        show_count("verify", name, MOST, [(all_of_it - before) / MOST for all_of_it, before in both])
+    counts = [instructions(binary, "verify_callbacks", "-") / CALLBACKS for binary in binaries]
+    show_count("callback", "verify", "", counts)
+
+
 def measure_machines(binaries):
     """Rows of events, and of callbacks, a second."""
     for policy, (ticks, callbacks) in POLICIES.items():
@@ -217,7 +241,7 @@ def main():
         plain, path = os.path.join(folder, "plain"), os.path.join(folder, "program")
         source = os.path.join(TOP, "bench", "plain.rs")
         subprocess.run(["rustc", "-O", "--edition", "2021", "-o", plain, source], check=True)
-        if only != "run":
+        if only not in ("run", "counts"):
             print("%-8s %-14s %6s %15s %15s %7s" % ("work", "program", "size", "scxsim a second", "plain a second", "ratio"))
         for work in UNITS:
             if only in (None, work):
@@ -235,6 +259,8 @@ def main():
             show("callback", "verify", "", CALLBACKS * times, taken)
         if only in (None, "machines"):
             measure_machines([ours, plain])
+        if only in (None, "counts"):
+            measure_counts([ours, plain], path)
         if only in (None, "run"):
             measure_run([ours, plain], path)
 
