@@ -13,8 +13,10 @@ verification also the decoding, since each takes a program of its own. The callb
 scx_simple with one map of one value, each in its turn; to verify one counts as decoding it and verifying
 it, and to run one as a run over a host of one task. A machine has all its tasks runnable, and its
 processors and the clock tick in turn: under a policy of one queue and slices of 2 ms, and under the
-callbacks of scx_simple. Its events are counted, and beside them the callbacks that they call. The ratio
-is our time to that of plain Rust. Needs rustc.
+callbacks of scx_simple. Its events are counted, and beside them the callbacks that they call. The lines
+of a trace are those of such a machine under slices of 2 ms, written to /dev/null in blocks of 64 KiB by
+both; ours reads a policy and a workload file for it. Files of nearly 1 MB are read by ours alone, since
+plain Rust has no reader of TOML. The ratio is our time to that of plain Rust. Needs rustc.
 
 Runs are short, so their figures are instructions of the processor, counted by callgrind: for each
 instruction of the program that is done, or for each callback. Beside ours stand two interpreters in plain
@@ -86,6 +88,9 @@ SHAPES = {"small": (1, 2), "middle": (8, 64), "large": (64, 1024)}
 ROUNDS = {"small": 2_000_000, "middle": 400_000, "large": 50_000}
 # how many ticks of a processor pass from one switch to the next, and how many callbacks that takes
 POLICIES = {"two_ms": (2, 2), "simple": (20, 4)}
+# processors, tasks, and for how many milliseconds a trace goes, which has two lines for each of both
+TRACES = {"small": (1, 2, 1_000_000), "middle": (8, 64, 625_000), "large": (64, 1024, 78_125)}
+LINES = 2
 UNITS = {"decode": 10_000_000, "encode": 10_000_000, "asm": 1_000_000, "dis": 2_000_000}
 
 
@@ -232,6 +237,55 @@ def measure_machines(binaries):
             show("calls", name, tasks, rounds * cpus // ticks * callbacks, taken)
 
 
+def workload(cpus, tasks, ms, padding=""):
+    """A file of so many tasks t0, t1 .. in one group, with `padding` behind each."""
+    head = "cpus = %d\nms = %d\ngroup = [{ name = 'g' }]\n" % (cpus, ms)
+    return head + "".join("[[task]]\nname = 't%d'\ngroup = 'g'\n%s" % (n, padding) for n in range(tasks))
+
+
+def best_trace(commands, runs):
+    best = [9e9, 9e9]
+    for _ in range(runs):
+        for i, command in enumerate(commands):
+            start = spent()
+            subprocess.run(command, stdout=subprocess.DEVNULL, check=True)
+            best[i] = min(best[i], spent() - start)
+    return best
+
+
+def measure_traces(binaries, path):
+    """Lines of a trace a second."""
+    policy = os.path.join(TOP, "examples", "policies", "short_slices.toml")
+
+    def commands(shape, ms):
+        cpus, tasks, _ = TRACES[shape]
+        with open(path, "w") as file:
+            file.write(workload(cpus, tasks, ms))
+        return [binaries[0], "trace", policy, path], [binaries[1], "trace", shape, str(ms)]
+
+    for shape, (cpus, tasks, most) in TRACES.items():
+        texts = [subprocess.run(command, capture_output=True, check=True).stdout for command in commands(shape, 100)]
+        assert texts[0] == texts[1], shape
+        start = best_trace(commands(shape, 1), 3)
+        taken = best_trace(commands(shape, most), 3)
+        show("trace", shape, tasks, LINES * cpus * most, [taken[i] - start[i] for i in (0, 1)])
+
+
+def measure_files(ours, path):
+    """How long reading a file of nearly 1 MB takes."""
+    line = "r0 = 7  # for people who read the program"
+    code = "".join(
+        "%s = \"\"\"\n%s\n\"\"\"\n" % (callback, "\n".join(4096 * [line]))
+        for callback in ("init", "enable", "enqueue", "dispatch", "running", "stopping")
+    )
+    files = {"policy": "[code]\n" + code, "workload": workload(64, 1024, 1000, "# " + 970 * "-" + "\n")}
+    for work, text in files.items():
+        with open(path, "w") as file:
+            file.write(text)
+        taken = min(seconds(ours, work, path, 21)[0] for _ in range(5)) - min(seconds(ours, work, path, 1)[0] for _ in range(5))
+        print("%-8s %-14s %6s %12.2f ms a file of %d bytes" % ("read", work, "", taken / 20 * 1000, len(text)), flush=True)
+
+
 def main():
     words = sys.argv[1:]
     only = words[1] if words[:1] == ["--only"] else None
@@ -259,6 +313,10 @@ def main():
             show("callback", "verify", "", CALLBACKS * times, taken)
         if only in (None, "machines"):
             measure_machines([ours, plain])
+        if only in (None, "traces"):
+            measure_traces([ours, plain], path)
+        if only in (None, "files"):
+            measure_files(ours, path)
         if only in (None, "counts"):
             measure_counts([ours, plain], path)
         if only in (None, "run"):

@@ -5,6 +5,7 @@ use crate::plain_callbacks::{Callback, Callback::*, Field, Helper, text};
 use crate::{ArrayMap, Host, Insn, Value, flow, plain_text, run_callback};
 use std::collections::VecDeque;
 use std::hint::black_box;
+use std::io::{self, BufWriter, Stdout, Write};
 
 const POLICY_END: u64 = 1 << 63;
 const GLOBAL: u64 = POLICY_END + 1;
@@ -24,14 +25,18 @@ enum What {
     Idle(u32),
 }
 
-/// Takes notes, and makes one number of them.
+/// Takes notes, and makes one number of them or writes a line for each.
 #[derive(Default)]
 struct Notes {
     sum: u64,
+    lines: Option<BufWriter<Stdout>>,
 }
 
 impl Notes {
     fn take(&mut self, clock: u64, what: What) {
+        if let Some(lines) = &mut self.lines {
+            return write_line(lines, clock, what).expect("an output that takes all");
+        }
         let number = match what {
             What::Wake(task) => 1 + u64::from(task),
             What::Insert(task, queue) => (2 + u64::from(task)).wrapping_add(queue),
@@ -41,6 +46,23 @@ impl Notes {
             What::Idle(cpu) => 6 + u64::from(cpu),
         };
         self.sum = self.sum.wrapping_mul(31).wrapping_add(clock).wrapping_add(number);
+    }
+}
+
+/// The line of a note. Task N has the name tN.
+fn write_line(out: &mut BufWriter<Stdout>, clock: u64, what: What) -> io::Result<()> {
+    match what {
+        What::Wake(task) => writeln!(out, "{clock} wake t{task}"),
+        What::Insert(task, queue) => match queue {
+            GLOBAL => writeln!(out, "{clock} insert t{task} global"),
+            HELD => writeln!(out, "{clock} insert t{task} held"),
+            LOCAL_ON.. => writeln!(out, "{clock} insert t{task} local {}", queue - LOCAL_ON),
+            _ => writeln!(out, "{clock} insert t{task} queue {queue}"),
+        },
+        What::Move(task, cpu) => writeln!(out, "{clock} move t{task} local {cpu}"),
+        What::Run(task, cpu) => writeln!(out, "{clock} run t{task} cpu {cpu}"),
+        What::Stop(task, cpu) => writeln!(out, "{clock} stop t{task} cpu {cpu}"),
+        What::Idle(cpu) => writeln!(out, "{clock} idle cpu {cpu}"),
     }
 }
 
@@ -332,6 +354,26 @@ const TWO_MS: [(Callback, &str); 3] = [
     (Dispatch, "r1 = 0\ncall 1004\nexit\n"),
 ];
 
+fn sizes(shape: &str) -> (u32, u16) {
+    match shape {
+        "small" => (1, 2),
+        "middle" => (8, 64),
+        _ => (64, 1024),
+    }
+}
+
+fn go_round(machine: &mut Machine, cpus: u32, tasks: u16, times: u64) {
+    for task in 0..tasks {
+        machine.wake(task);
+    }
+    for _ in 0..times {
+        for cpu in 0..cpus {
+            black_box(&mut *machine).tick(cpu);
+        }
+        machine.world.clock += 1;
+    }
+}
+
 pub fn events(policy: &str, shape: &str, times: u64) -> u64 {
     let simple = [
         (Init, text("INIT")),
@@ -342,21 +384,18 @@ pub fn events(policy: &str, shape: &str, times: u64) -> u64 {
         (Stopping, text("STOPPING")),
     ];
     let texts: &[(Callback, &str)] = if policy == "two_ms" { &TWO_MS } else { &simple };
-    let (cpus, tasks) = match shape {
-        "small" => (1, 2),
-        "middle" => (8, 64),
-        _ => (64, 1024),
-    };
+    let (cpus, tasks) = sizes(shape);
     let mut machine = Machine::new(texts, cpus as usize, tasks.into());
-    for task in 0..tasks {
-        machine.wake(task);
-    }
-    for _ in 0..times {
-        for cpu in 0..cpus {
-            black_box(&mut machine).tick(cpu);
-        }
-        machine.world.clock += 1;
-    }
+    go_round(&mut machine, cpus, tasks, times);
     let vtimes = machine.world.tasks.iter().fold(0u64, |sum, task| sum.wrapping_add(task.vtime));
     machine.world.notes.sum.wrapping_add(vtimes)
+}
+
+/// Writes the trace of slices of 2 ms.
+pub fn trace(shape: &str, times: u64) -> io::Result<()> {
+    let (cpus, tasks) = sizes(shape);
+    let mut machine = Machine::new(&TWO_MS, cpus as usize, tasks.into());
+    machine.world.notes.lines = Some(BufWriter::with_capacity(65_536, io::stdout()));
+    go_round(&mut machine, cpus, tasks, times);
+    machine.world.notes.lines.take().map_or(Ok(()), |mut lines| lines.flush())
 }

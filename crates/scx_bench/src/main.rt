@@ -2,12 +2,14 @@
 //! time it: `scx_bench decode|encode|run|verify|dis FILE TIMES` on a file of raw slots, `scx_bench asm
 //! FILE TIMES` on a text, `scx_bench maps - TIMES` on an array map, `scx_bench
 //! verify_callbacks|run_callbacks - TIMES` on the callbacks of scx_simple, `scx_bench run_counting - TIMES`
-//! on a program that counts in a map, `scx_bench queues_fifo|queues_vtime TASKS TIMES` on a queue, and
-//! `scx_bench two_ms|simple SHAPE TIMES` on a machine, its shape
-//! being small, middle or large. It prints a number that depends on all of the work.
+//! on a program that counts in a map, `scx_bench queues_fifo|queues_vtime TASKS TIMES` on a queue,
+//! `scx_bench two_ms|simple SHAPE TIMES` on a machine, its shape being small, middle or large, and
+//! `scx_bench policy|workload FILE TIMES` on such a file. It prints a number that depends on all of the
+//! work. `scx_bench trace POLICY WORKLOAD` writes the trace of a run, and then 0.
 #![tactic(auto)]
 
 mod callbacks;
+mod files;
 mod machine;
 mod queues;
 
@@ -16,6 +18,7 @@ ghost use Rattle.scx_semantics.specs.declared.callbacks.Callback.TheVariants.{Pl
 ghost use Rattle.scx_verify.specs.Typing.{context};
 
 use crate::callbacks::{run_callbacks, run_counting, verify_callbacks};
+use crate::files::{read_policies, read_workloads, trace};
 use crate::machine::events;
 use crate::queues::{Order, go_round};
 use scx_asm::{assemble, disassemble};
@@ -44,11 +47,14 @@ fn main(rt: HostRuntime) -> ExitCode {
 }
 
 /// Does the work that the process's words name.
-fn bench<R: AllocGlobal + Env + Files>(rt: &R) -> Sum {
+fn bench<R: AllocGlobal + Env + Files + Print>(rt: &R) -> Sum {
     let words: Vec<String> = env::args(rt).ok()?.collect(rt.alloc()).ok()?;
     let [_, work, path, times] = words.as_slice() else {
         return None;
     };
+    if work.as_str() == "trace" {
+        return trace_of(rt, path.as_str(), times.as_str());
+    }
     let times = times.as_str().parse::<u64>().ok()?;
     match work.as_str() {
         "maps" => counts(rt.alloc(), times),
@@ -72,8 +78,21 @@ fn on_file<R: AllocGlobal + Files>(rt: &R, work: &str, path: &str, times: u64) -
         "verify" => verifies(rt.alloc(), bytes.as_slice(), times),
         "asm" => assembles(rt.alloc(), bytes.as_slice(), times),
         "dis" => disassembles(rt.alloc(), bytes.as_slice(), times),
+        "policy" => read_policies(rt.alloc(), str::from_utf8(bytes.as_slice()).ok()?, times),
+        "workload" => read_workloads(rt.alloc(), str::from_utf8(bytes.as_slice()).ok()?, times),
         _ => None,
     }
+}
+
+/// Writes the trace of the run that two files stand for.
+fn trace_of<R: AllocGlobal + Files + Print>(rt: &R, policy: &str, workload: &str) -> Sum {
+    let policy = read(rt, policy)?;
+    let workload = read(rt, workload)?;
+    trace(
+        rt,
+        str::from_utf8(policy.as_slice()).ok()?,
+        str::from_utf8(workload.as_slice()).ok()?,
+    )
 }
 
 fn read<R: AllocGlobal + Files>(rt: &R, path: &str) -> Option<Vec<u8>> {

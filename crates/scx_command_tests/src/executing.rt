@@ -1,10 +1,8 @@
-//! Tests of `exec` and `finish`.
+//! Tests of `exec`.
 
 use crate::memory::Memory;
-use scx_commands::{Counted, FILE_LIMIT, Fault, Out, Refusal, exec, finish, write_unread};
+use scx_commands::{Counted, FILE_LIMIT, Out, exec, finish};
 use scx_examples::{EXIT, bytes_of};
-use scx_isa::{DecodeFault, Exclusion, FlowFault};
-use scx_verify as verifier;
 use std::alloc::{AllocError, Global};
 use std::process::Abort;
 use std::test::Fail;
@@ -416,63 +414,5 @@ fn stops_at_a_failed_write(rt: HostRuntime) -> Result<(), Fail> {
             }
         }
     }
-    Ok(())
-}
-
-#[test]
-fn finishes(rt: HostRuntime) {
-    let local_call = DecodeFault::NotInProfile(Exclusion::LocalCall);
-    let decode = Refusal::Decode {
-        fault: local_call,
-        slot: 4095,
-    };
-    let verify = Refusal::Verify {
-        fault: verifier::Fault::Flow(FlowFault::IntoWide),
-        slot: 0,
-    };
-    let ends = [
-        (Ok(true), "", 0),
-        (Ok(false), "", 1),
-        (Err(Fault::WriteFailed), "", 3),
-        (
-            Err(Fault::Refused(Refusal::TooLarge)),
-            "refused: too large\n",
-            1,
-        ),
-        (
-            Err(Fault::Refused(Refusal::NoMemory)),
-            "refused: no memory\n",
-            1,
-        ),
-        (
-            Err(Fault::Refused(decode)),
-            "refused: decode 5 NotInProfile(local call) at 4095\n",
-            1,
-        ),
-        (
-            Err(Fault::Refused(verify)),
-            "refused: verify 3 IntoWide at 0\n",
-            1,
-        ),
-    ];
-    for (outcome, line, status) in ends {
-        let mut memory = Memory::new(rt.alloc());
-        assert_eq!(rt;
-            finish(outcome, &mut Counted::new(&mut memory)),
-            status,
-            "{line}"
-        );
-        assert_eq!(rt; memory.bytes.as_slice(), line.as_bytes());
-    }
-}
-
-#[test]
-fn reports_an_unread_file(rt: HostRuntime) -> Result<(), Fail> {
-    let mut memory = Memory::new(rt.alloc());
-    write_unread("some/file.bin", &mut Counted::new(&mut memory))?;
-    assert_eq!(rt;
-        memory.bytes.as_slice(),
-        b"failed: reading some/file.bin\n".as_slice()
-    );
     Ok(())
 }

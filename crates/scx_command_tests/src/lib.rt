@@ -3,7 +3,11 @@
 #![tactic(auto)]
 
 #[cfg(test)]
+mod checking;
+#[cfg(test)]
 mod executing;
+#[cfg(test)]
+mod finishing;
 #[cfg(test)]
 mod hints;
 #[cfg(test)]

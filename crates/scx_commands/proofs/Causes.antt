@@ -10,9 +10,9 @@ use Rattle.scx_verify.specs.declared.faults.Fault.TheVariants.{Flow, Rule, NoMem
 use Rattle.scx_verify.specs.declared.faults.VerifyError.{VerifyError}
 use Rattle.scx_verify.specs.Typing.{context}
 use Rattle.scx_verify.specs.Faults.{IsReason, IsRefusal}
-use Rattle.scx_commands.specs.declared.fault.Refusal.{Refusal}
-use Rattle.scx_commands.specs.declared.file.TheConstants.{FILE_LIMIT}
-use Rattle.scx_commands.specs.Refusals.{fault_refusal, verify_refusal}
+use Rattle.scx_outcomes.specs.declared.refusal.Refusal.{Refusal}
+use Rattle.scx_outcomes.specs.declared.file.TheConstants.{FILE_LIMIT}
+use Rattle.scx_outcomes.specs.Refusals.{fault_refusal, verify_refusal}
 use Rattle.scx_commands.specs.Exec.{alone, IsCause}
 
 fault_cause : (bytes : List ℕ) (code : Code) (fault : Fault) (slot : ℕ) → length bytes ≤ FILE_LIMIT → Spells bytes code → IsReason alone code fault slot → IsCause bytes (fault_refusal fault slot)

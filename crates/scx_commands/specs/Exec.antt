@@ -11,9 +11,9 @@ use Rattle.scx_verify.specs.Typing.{context, IsTyped}
 use Rattle.scx_verify.specs.Faults.{IsReason}
 use Rattle.scx_vm.specs.Alone.{RunsAlone}
 use Rattle.scx_vm.specs.declared.ending.Done.{Done}
-use Rattle.scx_commands.specs.declared.fault.Refusal.{Refusal}
-use Rattle.scx_commands.specs.declared.fault.Refusal.TheVariants.{TooLarge, NotUtf8, NoMemory, Decode, Verify, Assemble}
-use Rattle.scx_commands.specs.declared.file.TheConstants.{FILE_LIMIT}
+use Rattle.scx_outcomes.specs.declared.refusal.Refusal.{Refusal}
+use Rattle.scx_outcomes.specs.declared.refusal.Refusal.TheVariants.{TooLarge, NoMemory, Decode, Verify}
+use Rattle.scx_outcomes.specs.declared.file.TheConstants.{FILE_LIMIT}
 
 -- a plain program with no maps
 abbrev pub alone : Context
@@ -38,5 +38,4 @@ IsCause bytes TooLarge = FILE_LIMIT < length bytes
 IsCause bytes NoMemory = HasProgramLength bytes
 IsCause bytes (Decode fault slot) = (length bytes ≤ FILE_LIMIT) × IsFirstFault bytes fault slot
 IsCause bytes (Verify fault slot) = (length bytes ≤ FILE_LIMIT) × HasFault bytes fault slot
-IsCause bytes NotUtf8 = ⊥
-IsCause bytes (Assemble fault line) = ⊥
+IsCause bytes r = ⊥

@@ -1,5 +1,3 @@
-pub mod Refusals
-pub mod Outcome
 pub mod Lines
 pub mod Exec
 pub mod Text

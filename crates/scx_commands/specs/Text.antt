@@ -7,22 +7,10 @@ use Rattle.scx_isa.specs.FirstFault.{IsFirstFault}
 use Rattle.scx_asm.specs.declared.faults.AsmFault.{AsmFault}
 use Rattle.scx_asm.specs.Reading.{read_text}
 use Rattle.scx_asm.specs.Printing.{program_text}
-use Rattle.scx_commands.specs.declared.fault.Fault.{Fault}
-use Rattle.scx_commands.specs.declared.fault.Fault.TheVariants.{Refused}
-use Rattle.scx_commands.specs.declared.fault.Refusal.{Refusal}
-use Rattle.scx_commands.specs.declared.fault.Refusal.TheVariants.{TooLarge, NotUtf8, NoMemory, Decode, Assemble}
-use Rattle.scx_commands.specs.declared.file.TheConstants.{FILE_LIMIT}
-
--- the bytes are a text that a file may hold
-pub record IsText (bytes : List ℕ) : Type 0 where
-  pub fits : length bytes ≤ FILE_LIMIT
-  pub utf8 : IsUtf8 bytes
-
--- The bytes are no text, for that cause.
-abbrev pub IsNoText : List ℕ → Fault → Type 0
-IsNoText bytes (Refused TooLarge) = FILE_LIMIT < length bytes
-IsNoText bytes (Refused NotUtf8) = (length bytes ≤ FILE_LIMIT) × ¬ IsUtf8 bytes
-IsNoText bytes f = ⊥
+use Rattle.scx_outcomes.specs.declared.refusal.Refusal.{Refusal}
+use Rattle.scx_outcomes.specs.declared.refusal.Refusal.TheVariants.{TooLarge, NotUtf8, NoMemory, Decode, Assemble}
+use Rattle.scx_outcomes.specs.declared.file.TheConstants.{FILE_LIMIT}
+use Rattle.scx_outcomes.specs.Text.{IsText}
 
 -- a text that a file may hold stands for the program that these bytes spell
 pub record IsAssembled (text bytes : List ℕ) : Type 0 where

@@ -2,13 +2,12 @@ ghost use Rattle.std.specs.Prelude.{◌≡◌, ℕ, ◌<◌, List, length, true,
 ghost use Rattle.std.specs.Io.KnownBytes.{Appends};
 ghost use Rattle.std.specs.String.{string_bytes};
 ghost use Rattle.scx_output.specs.Output.{HasFailed, AppendsBeginning};
-ghost use Rattle.scx_commands.specs.Outcome.{IfRefused, IsRefused};
+ghost use Rattle.scx_outcomes.specs.Outcome.{IfRefused, IsRefused};
 ghost use Rattle.scx_commands.specs.Text.{IsDisassembled, IsDisCause};
 
-use crate::fault::{Fault, Refusal};
-use crate::file::FILE_LIMIT;
 use scx_asm::disassemble;
 use scx_isa::decode;
+use scx_outcomes::{FILE_LIMIT, Fault, Refusal};
 use scx_output::{Out, write_all};
 use std::alloc::Global;
 

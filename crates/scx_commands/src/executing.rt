@@ -2,15 +2,14 @@ ghost use Rattle.std.specs.Prelude.{◌≡◌, ℕ, ◌<◌, length, true, Err, 
 ghost use Rattle.std.specs.Io.KnownBytes.{Appends};
 ghost use Rattle.scx_vm.specs.declared.ending.Done.{Done};
 ghost use Rattle.scx_output.specs.Output.{HasFailed, AppendsBeginning};
-ghost use Rattle.scx_commands.specs.Outcome.{IfRefused, IsRefused};
+ghost use Rattle.scx_outcomes.specs.Outcome.{IfRefused, IsRefused};
 ghost use Rattle.scx_commands.specs.Exec.{HasRun, IsCause};
 ghost use Rattle.scx_commands.specs.Lines as lines;
 
-use crate::fault::{Fault, Refusal};
-use crate::file::FILE_LIMIT;
 use crate::lines::done_line;
 use scx_isa::{Callback, decode};
 use scx_maps::MapDefs;
+use scx_outcomes::{FILE_LIMIT, Fault, Refusal};
 use scx_output::{Out, write_all};
 use scx_run::run_alone;
 use scx_verify::verify;

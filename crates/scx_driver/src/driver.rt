@@ -1,4 +1,4 @@
-ghost use Rattle.std.specs.Prelude.{◌≡◌, ◌∷◌, [], not, map, false, IfOk, IfSome, IfNone};
+ghost use Rattle.std.specs.Prelude.{◌≡◌, ◌∷◌, [], not, map, true, false, IfOk, IfSome, IfNone};
 ghost use Rattle.scx_sched.specs.Sim.{SimState, stepped};
 ghost use Rattle.scx_workloads.specs.declared.workload.Timing.{Timing};
 ghost use Rattle.scx_driver.specs.Events.{workload_events};
@@ -126,7 +126,6 @@ impl Driver {
     }
 
     /// The next block begins; answers whether there is one.
-    #[tactic(auto, using(crate::proofs::Remaining::begun_changes))]
     fn begin(&mut self, sim: &Sim) -> bool
         ensures more { result ≡ not (is_empty self.old.blocks) }
         ensures begun { self.new ≡ begun self.old sim.now }
@@ -134,40 +133,44 @@ impl Driver {
         if !self.has_block() {
             return false;
         }
+        self.begin_block(sim);
+        true
+    }
+
+    /// The next block begins.
+    #[tactic(auto, using(crate::proofs::Remaining::begun_changes))]
+    fn begin_block(&mut self, sim: &Sim)
+        requires { not (is_empty self.old.blocks) ≡ true }
+        ensures { self.new ≡ begun self.old sim.now }
+    {
+        let now = self.clock;
         self.events.clear();
         self.taken = 0;
+        let events = &mut self.events;
         match self.phase {
             Phase::Changes => {
+                add_changes(&self.changes, now, events);
                 self.left -= 1;
-                add_changes(&self.changes, self.clock, &mut self.events);
                 self.phase = Phase::Wakes;
             }
             Phase::Wakes => {
-                add_wakes(&self.due, &mut self.ran, self.clock, sim, &mut self.events);
+                add_wakes(&self.due, &mut self.ran, now, sim, events);
                 self.phase = Phase::Ticks;
             }
             Phase::Ticks => {
-                add_ticks(self.cpus, &mut self.events);
+                add_ticks(self.cpus, events);
                 self.phase = Phase::Sleeps;
             }
             Phase::Sleeps => {
-                add_sleeps(
-                    &self.timings,
-                    &mut self.due,
-                    &self.ran,
-                    self.clock,
-                    sim,
-                    &mut self.events,
-                );
+                add_sleeps(&self.timings, &mut self.due, &self.ran, now, sim, events);
                 self.phase = Phase::Clock;
             }
             Phase::Clock => {
-                self.events.push_reserved(Event::Clock);
+                events.push_reserved(Event::Clock);
                 self.clock += 1;
                 self.phase = Phase::Changes;
             }
         }
-        true
     }
 }
 

@@ -1,8 +1,8 @@
 -- What a call on a queue costs, by the queue's array before and after.
-use Rattle.std.proofs.Common.{◌≡◌, ◌≢◌, ℕ, zero, suc, ◌-◌, ◌<◌, ◌≤◌, true, false, ◌==◌, ◌⊎◌, inl, inr, List, [], ◌∷◌, length, get_or, set, slice_index_or, Some, None, IfSome, refl, sym, ap, ◌∙◌, subst, arith}
+use Rattle.std.proofs.Common.{◌≡◌, ◌≢◌, ℕ, zero, suc, ◌<◌, ◌≤◌, true, ◌==◌, ◌⊎◌, inl, inr, List, [], ◌∷◌, length, get_or, set, IfSome, refl, sym, ap, ◌∙◌, subst, arith}
 use Rattle.std.specs.List.{position_or_len}
 use Rattle.std.proofs.lemmas.Bool.{eq-eqb, eqb-true, ne_eqb, cases_lt}
-use Rattle.std.proofs.lemmas.List.{get_or-set_same, get_or-set_other, length-set, length-map, get_or_past, get_or_default}
+use Rattle.std.proofs.lemmas.List.{get_or-set_same, get_or-set_other, length-map, get_or_past, get_or_default}
 use Rattle.std.proofs.lemmas.List.Sums.{position_or_len_is, passes_at_first}
 use Rattle.scx_dsq.specs.declared.places.Rank.{Rank}
 use Rattle.scx_dsq.specs.declared.places.Rank.TheVariants.{Fifo, Vtime}
@@ -11,8 +11,8 @@ use Rattle.scx_dsq.specs.declared.heap.Item.{Item}
 use Rattle.scx_dsq.specs.declared.queue.Queue.{Queue}
 use Rattle.scx_dsq.specs.declared.queues.Queues.TheInside.{Inside}
 use Rattle.scx_dsq.specs.Places.{same_sort}
-use Rattle.scx_dsq.specs.Queues.{Places, Waits, IsFront, place_of, queue_of}
-use Rattle.scx_dsq.specs.Heaps.{DiffersAtMost, IsCheap}
+use Rattle.scx_dsq.specs.Queues.{Waits, IsFront, queue_of}
+use Rattle.scx_dsq.specs.Heaps.{IsCheap}
 use Rattle.scx_dsq.specs.Arrays.{QueuesValue, array_of, IsPaid}
 use Rattle.scx_dsq.specs.Holdings.{Holds, HasArrays}
 use Rattle.scx_dsq.specs.Links.{no_ends}

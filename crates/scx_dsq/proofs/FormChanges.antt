@@ -1,5 +1,5 @@
 -- A queue in either form keeps its tasks after one entered, one left, or another queue changed.
-use Rattle.std.proofs.Common.{◌≡◌, ◌≢◌, ℕ, ◌+◌, ◌<◌, ◌≤◌, true, false, List, [], ◌∷◌, ◌++◌, length, set, count_by, Option, Some, None, is_some, MatchOption, refl, sym, ap, ◌∙◌, subst, arith}
+use Rattle.std.proofs.Common.{◌≡◌, ◌≢◌, ℕ, ◌+◌, ◌<◌, ◌≤◌, true, false, List, [], ◌∷◌, length, set, count_by, Option, Some, None, is_some, MatchOption, refl, sym, ap, ◌∙◌, subst, arith}
 use Rattle.std.proofs.lemmas.Bool.{both_ways}
 use Rattle.std.proofs.lemmas.List.{length-set}
 use Rattle.std.proofs.lemmas.List.Sums.{count_by-le-length}
@@ -10,7 +10,6 @@ use Rattle.scx_dsq.specs.declared.heap.Item.{Item}
 use Rattle.scx_dsq.specs.declared.links.Link.{Link}
 use Rattle.scx_dsq.specs.declared.links.Ends.{Ends}
 use Rattle.scx_dsq.specs.declared.queue.Queue.{Queue}
-use Rattle.scx_dsq.specs.Places.{same_sort}
 use Rattle.scx_dsq.specs.Queues.{Places, QueueState, place_at, is_in}
 use Rattle.scx_dsq.specs.Laws.{HasOwnStamps}
 use Rattle.scx_dsq.specs.Links.{no_ends, link_at, links_appended, links_unlinked, In, NobodyIsIn, IsFirst, IsLast, IsNext, IsThreaded}

@@ -1,5 +1,5 @@
 -- A queue in either form: what it answers, and that it keeps its tasks after a change there or elsewhere.
-use Rattle.std.proofs.Common.{◌≡◌, ◌≢◌, ℕ, ◌<◌, ◌≤◌, true, false, ◌==◌, not, List, [], ◌∷◌, length, get_or, Option, Some, None, is_some, IfSome, IfNone, MatchOption, refl, sym, ◌∙◌, arith, if◌then◌else◌}
+use Rattle.std.proofs.Common.{◌≡◌, ◌≢◌, ℕ, ◌<◌, ◌≤◌, true, false, ◌==◌, not, List, [], ◌∷◌, length, get_or, Option, Some, None, is_some, IfSome, IfNone, MatchOption, refl, sym, arith, if◌then◌else◌}
 use Rattle.std.specs.List.{list_any}
 use Rattle.std.proofs.lemmas.Bool.{both_ways, eq-eqb, eqb-true, and_parts, not-true, false_from_ne_true}
 use Rattle.std.proofs.lemmas.List.{get_or_default}

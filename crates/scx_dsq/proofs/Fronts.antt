@@ -1,14 +1,13 @@
 -- The front of a queue, and a queue in which nobody waits.
-use Rattle.std.proofs.Common.{◌≡◌, ◌≢◌, ℕ, zero, suc, ◌+◌, ◌<◌, Bool, true, false, ◌==◌, not, List, [], ◌∷◌, length, get_or, Contains, count_by, Option, Some, None, IfSome, IfNone, cond, refl, sym, ap, ◌∙◌, subst, arith, ◌⊎◌, inl, inr}
+use Rattle.std.proofs.Common.{◌≡◌, ◌≢◌, ℕ, suc, ◌+◌, ◌<◌, Bool, true, false, ◌==◌, not, List, [], ◌∷◌, length, get_or, count_by, Option, Some, None, cond, refl, sym, ◌∙◌, subst, arith, ◌⊎◌, inl, inr}
 use Rattle.std.specs.List.{list_any, list_all}
-use Rattle.std.proofs.lemmas.Bool.{both_ways, eq-eqb, eqb-true, and_from, and_parts, not-true, cases_eq, cases_Bool, false_from_ne_true}
+use Rattle.std.proofs.lemmas.Bool.{both_ways, eq-eqb, eqb-true, and_from, and_parts, cases_eq, cases_Bool, false_from_ne_true}
 use Rattle.std.proofs.lemmas.List.{get_or_default}
 use Rattle.std.proofs.lemmas.List.Sums.{list_all-from_AllPass, sum_by-cons}
-use Rattle.std.proofs.lemmas.List.Folds.{list_all_at, list_any_at, list_any_none}
+use Rattle.std.proofs.lemmas.List.Folds.{list_all_at, list_any_none}
 use Rattle.scx_dsq.specs.declared.places.Rank.{Rank}
-use Rattle.scx_dsq.specs.declared.places.Rank.TheVariants.{Fifo, Vtime}
 use Rattle.scx_dsq.specs.declared.places.Place.{Place}
-use Rattle.scx_dsq.specs.Places.{same_sort, is_before}
+use Rattle.scx_dsq.specs.Places.{is_before}
 use Rattle.scx_dsq.specs.Queues.{QueueState, place_at, is_in, Waits, IsFront, is_ahead, is_first, front_of, len_of}
 use Rattle.scx_dsq.specs.Calls.{clashes}
 use Rattle.scx_dsq.proofs.Orders.{before-asym}

@@ -1,10 +1,9 @@
 -- One queue and one task's place change, and the rest is kept.
-use Rattle.std.proofs.Common.{◌≡◌, ◌≢◌, ℕ, zero, suc, ◌+◌, ◌<◌, ◌≤◌, false, List, [], ◌∷◌, length, get_or, set, slice_index_or, All, Option, vec_capacity, refl, sym, ap, ◌∙◌, subst, arith, ◌⊎◌, inl, inr}
+use Rattle.std.proofs.Common.{◌≡◌, ◌≢◌, ℕ, zero, suc, ◌<◌, false, List, [], ◌∷◌, length, get_or, set, Option, vec_capacity, refl, sym, ap, ◌∙◌, subst, arith, ◌⊎◌, inl, inr}
 use Rattle.std.proofs.lemmas.Bool.{cases_eq, cases_order}
 use Rattle.std.proofs.lemmas.List.{get_or-set_same, get_or-set_other, length-set, length-map, map-set, get_or_default}
 use Rattle.std.proofs.lemmas.List.Elements.{All-weaker}
 use Rattle.scx_dsq.specs.declared.places.Place.{Place}
-use Rattle.scx_dsq.specs.declared.heap.Item.{Item}
 use Rattle.scx_dsq.specs.declared.links.Link.{Link}
 use Rattle.scx_dsq.specs.declared.queue.Queue.{Queue}
 use Rattle.scx_dsq.specs.declared.queues.Queues.TheInside.{Inside}

@@ -19,5 +19,6 @@ pub mod ThreadsWith
 pub mod ThreadsWithout
 pub mod Heaps
 pub mod Spots
+pub mod Shifts
 pub mod HeapEdits
 pub mod Holdings

@@ -1,9 +1,8 @@
 -- The first queues, and a queue more.
-use Rattle.std.proofs.Common.{◌≡◌, ℕ, zero, suc, ◌+◌, ◌<◌, ◌≤◌, false, List, [], ◌∷◌, ◌++◌, length, get_or, insert, All, Option, Some, None, vec_capacity, replicate, refl, sym, ap, ◌∙◌, subst, arith}
+use Rattle.std.proofs.Common.{◌≡◌, ℕ, zero, suc, ◌+◌, ◌≤◌, false, List, [], ◌∷◌, ◌++◌, length, insert, All, Some, None, vec_capacity, replicate, refl, sym, ap, ◌∙◌, subst, arith}
 use Rattle.std.proofs.lemmas.List.{length_push, length-replicate, length-map, map-append}
 use Rattle.std.proofs.lemmas.List.Elements.{All-append, All-cons, All-nil, All-pop}
 use Rattle.scx_dsq.specs.declared.places.Place.{Place}
-use Rattle.scx_dsq.specs.declared.links.Link.{Link}
 use Rattle.scx_dsq.specs.declared.queue.Queue.{Queue}
 use Rattle.scx_dsq.specs.declared.queues.Queues.TheInside.{Inside}
 use Rattle.scx_dsq.specs.Queues.{Places, exists, place_at}

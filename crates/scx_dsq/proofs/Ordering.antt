@@ -1,5 +1,5 @@
 -- The order of the ids: who is found there, and one id more.
-use Rattle.std.proofs.Common.{◌≡◌, ◌≢◌, ℕ, ◌+◌, ◌-◌, ◌/◌, ◌<◌, ◌≤◌, true, false, ◌==◌, ◌⊎◌, inl, inr, List, [], ◌∷◌, ◌++◌, length, get_or, take, drop, insert, All, AllPairs, Contains, refl, sym, ap, ◌∙◌, subst, arith}
+use Rattle.std.proofs.Common.{◌≡◌, ℕ, ◌+◌, ◌-◌, ◌/◌, ◌<◌, ◌≤◌, true, false, ◌==◌, ◌⊎◌, inl, inr, List, [], ◌∷◌, ◌++◌, length, get_or, take, drop, insert, All, AllPairs, Contains, refl, sym, ap, ◌∙◌, subst, arith}
 use Rattle.std.specs.List.{list_any}
 use Rattle.std.proofs.lemmas.Bool.{cases_lt, cases_eq, cases_order, ne_eqb, eq-eqb}
 use Rattle.std.proofs.lemmas.List.{get_or_append_left, get_or_push, get_or_default, length_push, length-map}
@@ -8,6 +8,7 @@ use Rattle.std.proofs.lemmas.List.Edits.{length-insert, get_or-insert_below, get
 use Rattle.std.proofs.lemmas.List.Folds.{list_any_none, list_any_at}
 use Rattle.std.proofs.lemmas.Grind.{in_insert, in_between}
 use Rattle.scx_dsq.specs.declared.queue.Queue.{Queue}
+use Rattle.scx_dsq.specs.Links.{no_ends}
 use Rattle.scx_dsq.specs.Order.{IsOrder, IsGap}
 use Rattle.scx_dsq.specs.Kept.{ids_of}
 use Rattle.scx_dsq.proofs.Keeping.{id_at}
@@ -109,6 +110,19 @@ stands live order id k a h at read = (
   where
     within : a < length (ids_of live)
     within = subst (λ n. n < length (ids_of live)) (sym read) (h.within k a at.0)
+
+-- an id is there where a queue has it
+pub there : (live : List Queue) (id k : ℕ) → (k < length live) × ((q : Queue) → (get_or live k q).id ≡ id) → list_any (λ other. other == id) (ids_of live) ≡ true
+there live id k at = list_any_at (λ other. other == id) (ids_of live) k 0 within (eq-eqb _ id is)
+  where
+    any : Queue
+    any = record { id = id; ends = no_ends; heap = record { room = 0; items = [] } }
+
+    within : k < length (ids_of live)
+    within = omega (arith, at.0, length-map live (λ (q : Queue). q.id))
+
+    is : get_or (ids_of live) k 0 ≡ id
+    is = get_or_default (ids_of live) k 0 any.id within ∙ id_at live k any ∙ at.1 any
 
 -- ---- the search
 

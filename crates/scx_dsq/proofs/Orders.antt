@@ -1,6 +1,6 @@
 -- The order of places: by key, then by stamp.
-use Rattle.std.proofs.Common.{◌≡◌, ℕ, ◌<◌, ◌≤◌, Bool, true, false, not, ◌⊎◌, inl, inr, nat_lt, ◌==◌, ◌&&◌, ◌||◌, List, length, get_or, arith, refl, sym}
-use Rattle.std.proofs.lemmas.Bool.{ltb-true, eqb-true, lt-ltb, eq-eqb, or_cases, and_parts, and_from, or_left, not-true, not-false, not_from_false, false_from_ne_true, both_ways, cases_eq, cases_lt}
+use Rattle.std.proofs.Common.{◌≡◌, ℕ, ◌<◌, ◌≤◌, Bool, true, false, inl, inr, nat_lt, ◌==◌, ◌&&◌, ◌||◌, arith, refl, sym}
+use Rattle.std.proofs.lemmas.Bool.{ltb-true, eqb-true, lt-ltb, eq-eqb, or_cases, and_parts, and_from, or_left, false_from_ne_true, cases_eq}
 use Rattle.scx_dsq.specs.declared.places.Place.{Place}
 use Rattle.scx_dsq.specs.Places.{key_of, is_before}
 

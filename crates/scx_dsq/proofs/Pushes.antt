@@ -1,5 +1,5 @@
 -- A push keeps the queues in step with where the tasks wait.
-use Rattle.std.proofs.Common.{◌≡◌, ◌≢◌, ℕ, false, ◌+◌, ◌<◌, List, [], ◌∷◌, ◌++◌, length, get_or, set, Some, None, refl, sym, ap, ◌∙◌, subst, arith}
+use Rattle.std.proofs.Common.{◌≡◌, ◌≢◌, ℕ, false, ◌+◌, ◌<◌, List, [], ◌∷◌, ◌++◌, length, set, Some, None, refl, sym, ap, ◌∙◌, subst, arith}
 use Rattle.std.specs.Vec.{with_item, with_items}
 use Rattle.std.proofs.lemmas.Bool.{ne_eqb}
 use Rattle.std.proofs.lemmas.List.{with_items_is, length-set}
@@ -73,6 +73,7 @@ pub entered_fifo : (i : Inside) (k id t : ℕ) (q new : Queue) (links linked : L
       places = with_item i.places t (Some (next_place (state_of i) id Fifo));
       links = with_items i.links linked;
       spots = i.spots;
+      guesses = i.guesses;
       pushes = i.pushes + 1;
     }) k t (appended q t) (Some (next_place (state_of i) id Fifo)) (links_appended i.links.items q.ends t) i.spots.items (i.pushes + 1)
 entered_fifo i k id t q new links linked same is are = record {
@@ -159,6 +160,7 @@ pub entered_vtime : (i : Inside) (k id : ℕ) (x : Item) (q new : Queue) (spots 
       places = with_item i.places x.task (Some (next_place (state_of i) id (Vtime x.priority.key)));
       links = i.links;
       spots = with_items i.spots stood;
+      guesses = i.guesses;
       pushes = i.pushes + 1;
     }) k x.task new (Some (next_place (state_of i) id (Vtime x.priority.key))) i.links.items stood (i.pushes + 1)
 entered_vtime i k id x q new spots stood same e = record {

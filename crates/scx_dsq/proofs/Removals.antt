@@ -1,5 +1,5 @@
 -- A removal keeps the queues in step with where the tasks wait.
-use Rattle.std.proofs.Common.{◌≡◌, ◌≢◌, ℕ, true, ◌<◌, IfSome, List, [], length, get_or, set, Option, Some, None, refl, sym, ap, ◌∙◌, subst, arith}
+use Rattle.std.proofs.Common.{◌≡◌, ◌≢◌, ℕ, true, ◌<◌, IfSome, List, length, get_or, set, Option, Some, None, refl, sym, ap, ◌∙◌, subst, arith}
 use Rattle.std.specs.Vec.{with_item, with_items}
 use Rattle.std.proofs.lemmas.Bool.{ne_eqb}
 use Rattle.std.proofs.lemmas.List.{with_items_is, length-set}
@@ -121,7 +121,7 @@ module _ (i : Inside) (k t : ℕ) (p : Place) (q : Queue) (h : IsKept i) (w : Is
   -- what the code leaves of the queues
   pub left : (new : Queue) (links linked : List Link) (spots stood : List ℕ) → links ≡ i.links.items → spots ≡ i.spots.items → Left p.rank links spots q t linked stood new
       → (Left p.rank i.links.items i.spots.items q t linked stood new)
-      × IsChanged i (record { live = with_item i.live k new; order = i.order; spare = i.spare; places = with_item i.places t None; links = with_items i.links linked; spots = with_items i.spots stood; pushes = i.pushes }) k t new None linked stood i.pushes
+      × IsChanged i (record { live = with_item i.live k new; order = i.order; spare = i.spare; places = with_item i.places t None; links = with_items i.links linked; spots = with_items i.spots stood; guesses = i.guesses; pushes = i.pushes }) k t new None linked stood i.pushes
   left new links linked spots stood same alike e =
       let here : Left p.rank i.links.items i.spots.items q t linked stood new = rw (same, alike) at e in
       let l = left_by p.rank new linked stood refl here in (

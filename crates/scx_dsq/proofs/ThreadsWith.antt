@@ -6,7 +6,7 @@ use Rattle.scx_dsq.specs.declared.places.Place.{Place}
 use Rattle.scx_dsq.specs.declared.links.Link.{Link}
 use Rattle.scx_dsq.specs.declared.links.Ends.{Ends}
 use Rattle.scx_dsq.specs.Queues.{Places, place_at, is_in}
-use Rattle.scx_dsq.specs.Links.{link_at, or_else, links_appended, ends_appended, In, NobodyIsIn, IsFirst, IsLast, IsNext, IsThreaded}
+use Rattle.scx_dsq.specs.Links.{link_at, instead, links_appended, ends_appended, In, NobodyIsIn, IsFirst, IsLast, IsNext, IsThreaded}
 use Rattle.scx_dsq.proofs.Standing.{Changed, this, other, changed, unchanged, is_in_from, count-set}
 use Rattle.scx_dsq.proofs.LinkReads.{IsWithin, appended_others, appended_ahead, appended_behind, appended_ahead-other, appended_behind-last}
 use Rattle.scx_dsq.proofs.Threads.{AreDistinct, is_some_of, last_within, one_last}
@@ -69,9 +69,11 @@ module _ (places : Places) (id t : ℕ) (new : Place) (here : new.queue ≡ id) 
     last_in_links : IsWithin (length links) ends.last
     last_in_links = subst (λ n. IsWithin n ends.last) (sym long) (last_within places id ends.last h.last)
 
-    first_after : (o : Option ℕ) → MatchOption o (NobodyIsIn places id) (IsFirst places id) → MatchOption (or_else o (Some t)) (NobodyIsIn after id) (IsFirst after id)
-    first_after None f = first_alone f
-    first_after (Some f) k = first_stays f k
+    first_after : (l f : Option ℕ) → MatchOption l (NobodyIsIn places id) (IsLast places id) → MatchOption f (NobodyIsIn places id) (IsFirst places id)
+        → MatchOption (instead l (Some t) f) (NobodyIsIn after id) (IsFirst after id)
+    first_after None f nobody k = first_alone nobody
+    first_after (Some l) None last nobody = absurd (nobody l last.place last.waits)
+    first_after (Some l) (Some f) last k = first_stays f k
 
     ahead_new : (o : Option ℕ) → MatchOption o (NobodyIsIn places id) (IsLast places id) → MatchOption o (IsFirst after id t) (λ u. IsNext after id u t)
     ahead_new None f = first_alone f
@@ -118,7 +120,7 @@ module _ (places : Places) (id t : ℕ) (new : Place) (here : new.queue ≡ id) 
 
     pub threaded_with : IsThreaded after (links_appended links ends t) id (ends_appended ends t)
     threaded_with = record {
-      first = first_after ends.first h.first;
+      first = first_after ends.last ends.first h.last h.first;
       last = last_new;
       ahead = λ u p w. ahead_after u p w.1 (changed places t (Some new) u p w.0);
       behind = λ u p w. behind_after u p w.1 (changed places t (Some new) u p w.0);

@@ -1,6 +1,6 @@
 -- Queues by virtual time as heaps in an array (Williams, Algorithm 232): no task leaves before the one at
 -- its parent's place.
-use Rattle.std.specs.Prelude.{◌≡◌, ◌≢◌, ℕ, ◌+◌, ◌-◌, ◌*◌, ◌/◌, ◌^◌, ◌<◌, ◌≤◌, Bool, false, ◌==◌, ◌&&◌, ◌||◌, true, nat_lt, List, [], ◌∷◌, length, slice_index_or, Option, Some, None}
+use Rattle.std.specs.Prelude.{◌≡◌, ◌≢◌, ℕ, ◌+◌, ◌-◌, ◌*◌, ◌/◌, ◌^◌, ◌<◌, ◌≤◌, Bool, false, ◌==◌, ◌&&◌, ◌||◌, true, nat_lt, List, [], ◌∷◌, length, slice_index_or, slice_set, Option, Some, None}
 use Rattle.std.specs.List.{list_any}
 use Rattle.scx_dsq.specs.declared.priority.Priority.{Priority}
 use Rattle.scx_dsq.specs.declared.heap.Item.{Item}
@@ -72,6 +72,13 @@ IsAbsent items t = list_any (λ x. x.task == t) items ≡ false
 pub record KeepsOthers (items : List Item) (old new : List ℕ) : Type 0 where
   pub long : length new ≡ length old
   pub same : (t e : ℕ) → IsAbsent items t → slice_index_or new t e ≡ slice_index_or old t e
+
+-- the items with another one at a place, and the spots with that of its task
+abbrev pub held : List Item → Item → ℕ → List Item
+held items x k = slice_set items k x
+
+abbrev pub spotted : List ℕ → Item → ℕ → List ℕ
+spotted spots x k = slice_set spots x.task k
 
 -- ---- what a move in the heap costs
 

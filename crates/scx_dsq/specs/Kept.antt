@@ -13,7 +13,7 @@ use Rattle.scx_dsq.specs.declared.errors.QueueError.{QueueError}
 use Rattle.scx_dsq.specs.declared.errors.QueueError.TheVariants.{NoSuchQueue, AlreadyThere, Mixed, TooManyQueues}
 use Rattle.scx_dsq.specs.Queues.{Places, QueueState, place_at}
 use Rattle.scx_dsq.specs.Laws.{IsSound}
-use Rattle.scx_dsq.specs.Links.{no_ends, link_at, or_else, links_appended, ends_appended, links_unlinked, ends_unlinked, IsThreaded}
+use Rattle.scx_dsq.specs.Links.{no_ends, link_at, or_else, ends_appended, links_unlinked, ends_unlinked, IsThreaded}
 use Rattle.scx_dsq.specs.Heaps.{HeapState, IsHeap, HasSpots, IsAbsent, IsIn, KeepsOthers, first_item}
 use Rattle.scx_dsq.specs.Holdings.{Holds}
 use Rattle.scx_dsq.specs.Arrays.{QueuesValue}

@@ -4,6 +4,7 @@ pub mod Errors
 pub mod Calls
 pub mod Laws
 pub mod Facts
+pub mod Words
 pub mod Links
 pub mod Heaps
 pub mod Arrays

@@ -42,7 +42,7 @@ abbrev pub links_appended : List Link → Ends → ℕ → List Link
 links_appended links ends t = with_behind (slice_set links t (record { ahead = ends.last; behind = None })) ends.last (Some t)
 
 abbrev pub ends_appended : Ends → ℕ → Ends
-ends_appended ends t = record { first = or_else ends.first (Some t); last = Some t; count = ends.count + 1 }
+ends_appended ends t = record { first = instead ends.last (Some t) ends.first; last = Some t; count = ends.count + 1 }
 
 -- a task taken out: those beside it are linked to each other
 abbrev pub links_unlinked : List Link → ℕ → List Link

@@ -1,7 +1,6 @@
 ghost use Rattle.std.specs.Prelude.{◌≡◌, ◌+◌, ◌-◌, ◌*◌, ◌<◌, ◌≤◌, [], ◌∷◌, ◌++◌, length, true, false, IfSome, IfNone, IfOk};
-ghost use Rattle.std.specs.List.{SwappedAt};
 ghost use Rattle.std.specs.List.Sorted.{IsPermutation};
-ghost use Rattle.scx_dsq.specs.Heaps.{parent, IsBehind, Leads, IsHeap, IsHeapBut, IsHeapAbove, IsHeapAround, IsFirstChild, Rose, Sank, Settled, IsCheap, HasSpots, IsAbsent, IsIn, KeepsOthers, first_item};
+ghost use Rattle.scx_dsq.specs.Heaps.{parent, IsBehind, Leads, IsHeap, IsHeapBut, IsHeapAbove, IsHeapAround, IsFirstChild, Rose, Sank, Settled, IsCheap, HasSpots, IsAbsent, IsIn, KeepsOthers, first_item, held, spotted};
 
 use crate::priority::Priority;
 use crate::steps::Steps;
@@ -152,15 +151,41 @@ pub fn rise<L: Ledger>(items: &mut [Item], spots: &mut [usize], start: usize, st
     ensures cost { Rose items.old items.new start (steps.new - steps.old) }
     ensures more { steps.old ≤ steps.new }
 {
+    let item = items[start];
+    let at = make_way_up(items, spots, item, start, steps);
+    put(items, spots, item, at);
+}
+
+/// Moves those above a place down before which the item leaves, and answers the place that is left for it.
+fn make_way_up<L: Ledger>(
+    items: &mut [Item],
+    spots: &mut [usize],
+    item: Item,
+    start: usize,
+    steps: &mut Steps<L>,
+) -> usize
+    requires within { start < length items.old }
+    requires spots { HasSpots (held items.old item start) (spotted spots.old item start) }
+    requires heap { IsHeapBut (held items.old item start) start }
+    ensures within { result < length items.new }
+    ensures heap { IsHeap (held items.new item result) }
+    ensures spots { HasSpots (held items.new item result) (spotted spots.new item result) }
+    ensures others { KeepsOthers (held items.old item start) (spotted spots.old item start) (spotted spots.new item result) }
+    ensures same { IsPermutation (held items.old item start) (held items.new item result) }
+    ensures cost { Rose (held items.old item start) (held items.new item result) start (steps.new - steps.old) }
+    ensures more { steps.old ≤ steps.new }
+{
     let mut at = start;
     while at > 0 {
         let up = (at - 1) / 2;
-        if !items[at].priority.is_before(items[up].priority, steps) {
+        let other = items[up];
+        if !item.priority.is_before(other.priority, steps) {
             break;
         }
-        exchange(items, spots, at, up);
+        put(items, spots, other, at);
         at = up;
     }
+    at
 }
 
 /// Lets the item at a place sink until none behind it leaves before it.
@@ -175,29 +200,51 @@ pub fn sink<L: Ledger>(items: &mut [Item], spots: &mut [usize], start: usize, st
     ensures cost { Sank items.old items.new start (length items.old) (steps.new - steps.old) }
     ensures more { steps.old ≤ steps.new }
 {
-    let mut at = start;
-    while let Some(child) = first_child(items, at, steps) {
-        if !items[child].priority.is_before(items[at].priority, steps) {
-            break;
-        }
-        exchange(items, spots, child, at);
-        at = child;
-    }
+    let item = items[start];
+    let at = make_way_down(items, spots, item, start, steps);
+    put(items, spots, item, at);
 }
 
-/// Exchanges two items, and with them their tasks' spots.
-pub fn exchange(items: &mut [Item], spots: &mut [usize], i: usize, j: usize)
-    requires first { i < length items.old }
-    requires second { j < length items.old }
-    requires spots { HasSpots items.old spots.old }
-    ensures spots { HasSpots items.new spots.new }
-    ensures same { IsPermutation items.old items.new }
-    ensures swapped { SwappedAt items.old items.new i j }
-    ensures others { KeepsOthers items.old spots.old spots.new }
+/// Moves those below a place up that leave before the item, and answers the place that is left for it.
+fn make_way_down<L: Ledger>(
+    items: &mut [Item],
+    spots: &mut [usize],
+    item: Item,
+    start: usize,
+    steps: &mut Steps<L>,
+) -> usize
+    requires within { start < length items.old }
+    requires spots { HasSpots (held items.old item start) (spotted spots.old item start) }
+    requires heap { IsHeapAbove (held items.old item start) start }
+    ensures within { result < length items.new }
+    ensures heap { IsHeap (held items.new item result) }
+    ensures spots { HasSpots (held items.new item result) (spotted spots.new item result) }
+    ensures others { KeepsOthers (held items.old item start) (spotted spots.old item start) (spotted spots.new item result) }
+    ensures same { IsPermutation (held items.old item start) (held items.new item result) }
+    ensures cost { Sank (held items.old item start) (held items.new item result) start (length items.old) (steps.new - steps.old) }
+    ensures more { steps.old ≤ steps.new }
 {
-    items.swap(i, j);
-    spots[items[i].task as usize] = i;
-    spots[items[j].task as usize] = j;
+    let mut at = start;
+    while let Some(child) = first_child(items, at, steps) {
+        let other = items[child];
+        if !other.priority.is_before(item.priority, steps) {
+            break;
+        }
+        put(items, spots, other, at);
+        at = child;
+    }
+    at
+}
+
+/// Puts an item at a place, and so its task's spot.
+fn put(items: &mut [Item], spots: &mut [usize], item: Item, at: usize)
+    requires within { at < length items.old }
+    requires task { item.task < length spots.old }
+    ensures items { items.new ≡ held items.old item at }
+    ensures spots { spots.new ≡ spotted spots.old item at }
+{
+    items[at] = item;
+    spots[item.task as usize] = at;
 }
 
 /// Which of those right behind a place leaves first.

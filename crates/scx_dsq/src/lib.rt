@@ -9,6 +9,7 @@ mod errors;
 mod heap;
 mod laws;
 mod links;
+mod optional_task;
 mod places;
 mod priority;
 mod queue;

@@ -23,7 +23,7 @@ impl Queue {
     pub fn front(&self) -> Option<u32>
         ensures { result ≡ front_in self.now }
     {
-        match self.ends.first {
+        match self.ends.first.get() {
             Some(task) => Some(task),
             None => self.heap.front(),
         }
@@ -32,7 +32,7 @@ impl Queue {
     pub fn len(&self) -> usize
         ensures { result ≡ len_in self.now }
     {
-        match self.ends.first {
+        match self.ends.first.get() {
             Some(_) => self.ends.count,
             None => self.heap.len(),
         }
@@ -44,7 +44,7 @@ impl Queue {
     {
         match rank {
             Rank::Fifo => self.heap.front().is_some(),
-            Rank::Vtime(_) => self.ends.first.is_some(),
+            Rank::Vtime(_) => self.ends.first.get().is_some(),
         }
     }
 }
@@ -55,7 +55,7 @@ pub fn append_to(links: &mut [Link], queue: &mut Queue, task: u32)
     ensures queue { queue.new ≡ appended queue.old task }
     ensures links { links.new ≡ links_appended links.old queue.old.ends task }
 {
-    queue.ends = append(links, queue.ends, task);
+    append(links, &mut queue.ends, task);
 }
 
 /// Puts an item into the heap of a queue by virtual time.
@@ -89,7 +89,7 @@ pub fn leave<L: Ledger>(
     ensures more { steps.old ≤ steps.new }
 {
     match rank {
-        Rank::Fifo => queue.ends = unlink(links, queue.ends, task),
+        Rank::Fifo => unlink(links, &mut queue.ends, task),
         Rank::Vtime(_) => {
             queue.heap.remove(spots, task, steps);
         }

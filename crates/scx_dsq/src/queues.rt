@@ -21,6 +21,9 @@ use std::alloc::{AllocError, Global};
 use std::marker::Model;
 use std::sync::ledger::Ledger;
 
+/// How many hashes of ids there are.
+const HASHES: usize = 256;
+
 /// Dispatch queues, and where each task waits.
 ///
 /// In a contract it is two things. Its state is how many queues there may be, the ids of those that were
@@ -38,6 +41,8 @@ pub struct Queues {
     links: Vec<Link>,
     /// At each task's number, where it stands in the array of a queue by virtual time.
     spots: Vec<usize>,
+    /// At the hash of an id, where its queue stands in `live`, or that of another id.
+    guesses: [usize; HASHES],
     pushes: u64,
 }
 
@@ -66,8 +71,9 @@ impl Queues {
             order: Vec::with_capacity(alloc, queues)?,
             spare: spare_heaps(alloc, queues, tasks)?,
             places: vec![in alloc; None; tasks]?,
-            links: vec![in alloc; Link::NONE; tasks]?,
+            links: vec![in alloc; Link::none(); tasks]?,
             spots: vec![in alloc; 0; tasks]?,
+            guesses: [0; HASHES],
             pushes: 0,
         })
     }
@@ -92,9 +98,10 @@ impl Queues {
             Ok(()) => (),
             Err(_) => unreachable!(),
         }
+        self.guesses[hash_of(id)] = self.live.len();
         self.live.push_reserved(Queue {
             id,
-            ends: Ends::NONE,
+            ends: Ends::none(),
             heap,
         });
         Ok(())
@@ -113,7 +120,15 @@ impl Queues {
         ensures tasks { task_count self.new.state ≡ task_count self.old.state }
         ensures pushes { self.new.state.pushes ≤ self.old.state.pushes + 1 }
     {
-        let index = admit(&self.live, &self.order, &self.places, id, task, Rank::Fifo)?;
+        let index = admit(
+            &self.live,
+            &self.order,
+            &self.guesses,
+            &self.places,
+            id,
+            task,
+            Rank::Fifo,
+        )?;
         append_to(&mut self.links, &mut self.live[index], task);
         self.places[task as usize] = Some(Place {
             queue: id,
@@ -150,6 +165,7 @@ impl Queues {
         let index = admit(
             &self.live,
             &self.order,
+            &self.guesses,
             &self.places,
             id,
             task,
@@ -173,14 +189,14 @@ impl Queues {
     pub fn has(&self, id: u64) -> bool
         ensures { result ≡ exists self.now.state id }
     {
-        find(&self.live, &self.order, id).is_some()
+        find(&self.live, &self.order, &self.guesses, id).is_some()
     }
 
     /// Whether tasks wait in the queue that were put there in the other way.
     pub fn would_mix(&self, id: u64, rank: Rank) -> bool
         ensures { result ≡ list_any (clashes id rank) self.now.state.places }
     {
-        match find(&self.live, &self.order, id) {
+        match find(&self.live, &self.order, &self.guesses, id) {
             Some(index) => self.live[index].clashes(rank),
             None => false,
         }
@@ -193,7 +209,7 @@ impl Queues {
         ensures first { IfSome result (IsFront self.now.state id) }
         ensures empty { IfNone result ((t : ℕ) (p : Place) → ¬ Waits self.now.state id t p) }
     {
-        match find(&self.live, &self.order, id) {
+        match find(&self.live, &self.order, &self.guesses, id) {
             Some(index) => self.live[index].front(),
             None => None,
         }
@@ -234,7 +250,7 @@ impl Queues {
         let Some(place) = self.places[task as usize] else {
             return false;
         };
-        let Some(index) = find(&self.live, &self.order, place.queue) else {
+        let Some(index) = find(&self.live, &self.order, &self.guesses, place.queue) else {
             unreachable!()
         };
         leave(
@@ -253,7 +269,7 @@ impl Queues {
     pub fn len(&self, id: u64) -> usize
         ensures { result ≡ len_of self.now.state id }
     {
-        match find(&self.live, &self.order, id) {
+        match find(&self.live, &self.order, &self.guesses, id) {
             Some(index) => self.live[index].len(),
             None => 0,
         }
@@ -302,6 +318,7 @@ impl Queues {
 fn admit(
     live: &[Queue],
     order: &[usize],
+    guesses: &[usize; HASHES],
     places: &[Option<Place>],
     id: u64,
     task: u32,
@@ -312,7 +329,7 @@ fn admit(
     ensures admitted { IfOk result (λ k. IsAdmitted live.now places.now k id task rank) }
     ensures refused { IfErr result (IsRefused live.now places.now id task rank) }
 {
-    let Some(index) = find(live, order, id) else {
+    let Some(index) = find(live, order, guesses, id) else {
         return Err(QueueError::NoSuchQueue);
     };
     if places[task as usize].is_some() {
@@ -325,18 +342,41 @@ fn admit(
 }
 
 /// Where the queue of that id stands.
-fn find(live: &[Queue], order: &[usize], id: u64) -> Option<usize>
+fn find(live: &[Queue], order: &[usize], guesses: &[usize; HASHES], id: u64) -> Option<usize>
     requires { IsOrder (ids_of live.now) order.now }
     ensures found { is_some result ≡ list_any (λ other. other == id) (ids_of live.now) }
     ensures at { IfSome result (λ i. (i < length live.now) × HoldsAt (λ q. q.id ≡ id) live.now i) }
 {
+    if let Some(index) = guess(live, guesses, id) {
+        return Some(index);
+    }
     match search(live, order, id) {
         Ok(place) => Some(order[place]),
         Err(_) => None,
     }
 }
 
+/// Where the queue of that id stands, if it is the last one of its hash that was created.
+fn guess(live: &[Queue], guesses: &[usize; HASHES], id: u64) -> Option<usize>
+    ensures { IfSome result (λ i. (i < length live.now) × HoldsAt (λ q. q.id ≡ id) live.now i) }
+{
+    let index = guesses[hash_of(id)];
+    if index < live.len() && live[index].id == id {
+        Some(index)
+    } else {
+        None
+    }
+}
+
+/// Numbers below 128 have hashes of their own; and so do local queues and each of the machine's own.
+fn hash_of(id: u64) -> usize
+    ensures { result < 256 }
+{
+    ((id ^ (id >> 56)) & 0xff) as usize
+}
+
 /// Where the order names the queue of that id, or else where it would.
+#[inline(never)]
 fn search(live: &[Queue], order: &[usize], id: u64) -> Result<usize, usize>
     requires { IsOrder (ids_of live.now) order.now }
     ensures found { IfOk result (λ k. (k < length order.now) × HoldsAt (λ a. slice_index_or (ids_of live.now) a 0 ≡ id) order.now k) }

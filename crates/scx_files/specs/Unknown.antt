@@ -1,7 +1,8 @@
 -- The unknown keys of a file, and the one of the least path.
-use Rattle.std.specs.Prelude.{ℕ, ◌+◌, Bool, true, false, ◌||◌, if◌then◌else◌, List, [], ◌∷◌, ◌++◌, ⊤, Option, Some, None, Ok, option_map, map, string_bytes}
+use Rattle.std.specs.Prelude.{◌≡◌, ℕ, ◌+◌, Bool, true, false, ◌||◌, if◌then◌else◌, List, [], ◌∷◌, ◌++◌, All, Contains, ⊤, Option, Some, None, Ok, option_map, map, string_bytes}
+use Rattle.std.specs.Bool.{IsFalse}
 use Rattle.std.specs.Borrow.{Bor}
-use Rattle.std.specs.Ordering.{nat_cmp, is_lt}
+use Rattle.std.specs.Ordering.{nat_cmp, is_lt, is_gt}
 use Rattle.std.specs.Cmp.Lexicographic.{slice_cmp}
 use Rattle.std.specs.Str.{bytes_eq}
 use Rattle.toml.specs.Data.{Data, array, table, Items, no_items, item, Members, no_members, member, get_member}
@@ -54,6 +55,15 @@ lesser p (Some q) = if is_lt (slice_cmp nat_cmp p q) then p else q
 abbrev pub least_with : Option (List ℕ) → List (List ℕ) → Option (List ℕ)
 least_with least [] = least
 least_with least (p ∷ paths) = least_with (Some (lesser p least)) paths
+
+-- nothing, where there are no paths; else one of them that is greater than none of them
+abbrev pub IsLeast : List (List ℕ) → Option (List ℕ) → Type 0
+IsLeast paths None = paths ≡ []
+IsLeast paths (Some p) = Contains paths p × All (λ q. IsFalse (is_gt (slice_cmp nat_cmp p q))) paths
+
+-- The path that is found so is the least.
+abbrev pub LeastIsFound : Type 0
+LeastIsFound = (paths : List (List ℕ)) → IsLeast paths (least_with None paths)
 
 -- nothing, where no key is unknown; else the least path is refused
 abbrev pub refuse_least : Option (List ℕ) → Reading ⊤

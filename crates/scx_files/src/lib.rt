@@ -15,4 +15,4 @@ pub use fault::{Cause, LoadError, refused, refused_at};
 pub use names::is_name;
 pub use path::{element_path, key_path};
 pub use section::{Limits, Section, read_document};
-pub use unknown::Unknown;
+pub use unknown::{Unknown, least_path_is_named};

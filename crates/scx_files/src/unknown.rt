@@ -1,7 +1,7 @@
 ghost use Rattle.std.specs.Prelude.{◌≡◌, None, IfOk, option_map, string_bytes};
 ghost use Rattle.toml.specs.View.{view, table_view, items_view};
 ghost use Rattle.scx_files.specs.Faults.{Gives};
-ghost use Rattle.scx_files.specs.Unknown.{is_known, unknown, unknown_of, unknown_from, unknown_of_each, unknown_in, unknown_in_each, lesser, least_with, words, least_path, refuse_least};
+ghost use Rattle.scx_files.specs.Unknown.{is_known, unknown, unknown_of, unknown_from, unknown_of_each, unknown_in, unknown_in_each, lesser, least_with, words, least_path, refuse_least, LeastIsFound};
 
 use crate::fault::{Cause, LoadError};
 use crate::path::{element_path, key_path};
@@ -172,3 +172,9 @@ fn is_known(known: &[&str], key: &str) -> bool
     }
     false
 }
+
+/// Of some paths that one is named which is greater than none of them. The function does nothing: its
+/// contract is the law.
+pub fn least_path_is_named()
+    ensures { LeastIsFound }
+{}

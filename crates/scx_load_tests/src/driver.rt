@@ -1,11 +1,10 @@
 //! The events of workloads, each accepted by a machine.
 ghost use Rattle.std.specs.Prelude.{◌≡◌, false};
 
-use scx_driver::Driver;
+use scx_load::{Driver, Workload, read_workload};
 use scx_maps::MapDefs;
 use scx_sched::{Callbacks, Event, Note, Policy, Sim, Sink};
 use scx_weights::Tree;
-use scx_workloads::{Workload, read_workload};
 use std::process::Abort;
 use std::test::Fail;
 

@@ -1,6 +1,6 @@
 //! What is wrong with a file, compared with its path and its cause.
 
-use scx_files::{Cause, LoadError};
+use scx_load::{Cause, LoadError};
 use std::process::Abort;
 
 /// The file was refused at this path, for this cause.

@@ -2,10 +2,9 @@
 
 use crate::faults::is_at;
 use scx_asm::AsmFault;
-use scx_files::Cause;
 use scx_isa::{Callback, DecodeFault};
+use scx_load::{BuildError, Cause, PolicyText, build, read_policy};
 use scx_maps::Shape;
-use scx_policies::{BuildError, PolicyText, build, read_policy};
 use scx_verify::Fault;
 use std::process::Abort;
 use std::test::Fail;

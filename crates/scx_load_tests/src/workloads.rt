@@ -1,8 +1,7 @@
 //! Workload files: what they say, and their first faults.
 
 use crate::faults::is_at;
-use scx_files::Cause;
-use scx_workloads::read_workload;
+use scx_load::{Cause, read_workload};
 use std::process::Abort;
 use std::test::Fail;
 

@@ -9,7 +9,9 @@ pub struct Counted<W> {
 }
 
 impl<W: Write> Counted<W> {
-    ghost use Rattle.std.specs.Prelude.{◌≡◌};
+    ghost use Rattle.std.specs.Prelude.{◌≡◌, OnOk, OnErr};
+    ghost use Rattle.std.specs.Io.KnownBytes.{Keeps};
+    ghost use Rattle.scx_output.specs.Output.{HasFailed};
 
     pub fn new(writer: W) -> Self
         ensures writer { result.writer ≡ writer }
@@ -18,6 +20,25 @@ impl<W: Write> Counted<W> {
         Counted {
             writer,
             failures: 0,
+        }
+    }
+
+    /// Has the writer hand on what it holds back, as one with a buffer does.
+    ///
+    /// # Errors
+    ///
+    /// The writer failed, which counts as one failure.
+    pub fn flush(&mut self) -> Result<(), Failed>
+        ensures contents { Keeps (W.contents self.old.writer) (W.contents self.new.writer) }
+        ensures ok_failures { OnOk result (self.new.failures ≡ self.old.failures) }
+        ensures err_failures { OnErr result (HasFailed self.old.failures self.new.failures) }
+    {
+        match self.writer.flush() {
+            Ok(()) => Ok(()),
+            Err(_) => {
+                self.failures = self.failures.saturating_add(1);
+                Err(Failed)
+            }
         }
     }
 }

@@ -6,4 +6,4 @@ mod counted;
 mod out;
 
 pub use counted::Counted;
-pub use out::{Failed, Out, write_all};
+pub use out::{Failed, Out, write_all, write_named};

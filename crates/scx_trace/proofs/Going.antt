@@ -5,11 +5,9 @@ use Rattle.scx_world.specs.declared.notes.Note.{Note}
 use Rattle.scx_machine.specs.declared.events.Event.{Event}
 use Rattle.scx_machine.specs.Notes.{Takes}
 use Rattle.scx_sched.specs.Sim.{SimState, stepped, notes_of}
-use Rattle.scx_trace.specs.Runs.{stepped_all, notes_of_all, GoesThrough}
-
-pub stepped_all-append : (s : SimState) (es fs : List Event) → stepped_all s (es ++ fs) ≡ stepped_all (stepped_all s es) fs
-stepped_all-append s [] fs = refl
-stepped_all-append s (e ∷ es) fs = stepped_all-append (stepped s e) es fs
+use Rattle.scx_driver.specs.Runs.{stepped_all, notes_of_all}
+use Rattle.scx_driver.proofs.Accepting.{stepped_behind}
+use Rattle.scx_trace.specs.Runs.{GoesThrough}
 
 pub notes_of_all-append : (s : SimState) (es fs : List Event) → notes_of_all s (es ++ fs) ≡ notes_of_all s es ++ notes_of_all (stepped_all s es) fs
 notes_of_all-append s [] fs = refl
@@ -41,7 +39,7 @@ gone_further {S} takes events rest later s t u a b c e gone next state notes =
     record {
       done = done;
       whole = gone.whole ∙ ap (λ x. gone.done ++ x) (next ∙ ap (λ x. e ∷ later x) (sym state)) ∙ sym (append_assoc gone.done (e ∷ []) (later u));
-      state = state ∙ ap (λ x. stepped x e) gone.state ∙ sym (stepped_all-append s gone.done (e ∷ []));
+      state = state ∙ ap (λ x. stepped x e) gone.state ∙ sym (stepped_behind gone.done (e ∷ []) s);
       notes = subst P (sym noted) (takes_both takes (notes_of_all s gone.done) (notes_of t e) a b c gone.notes notes);
     }
 

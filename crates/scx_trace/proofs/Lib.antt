@@ -1,4 +1,3 @@
-pub mod Beginnings
 pub mod Going
 pub mod Tracing
 pub mod Reporting

@@ -6,7 +6,7 @@ use Rattle.scx_output.specs.Output.{AppendsBeginning}
 use Rattle.scx_output.proofs.Growth.{grows_twice}
 use Rattle.scx_trace.specs.Lines.{NameLists, task_name}
 use Rattle.scx_trace.specs.Report.{task_line, task_lines, last_lines, report}
-use Rattle.scx_trace.proofs.Beginnings.{beginning_of_more, beginning_behind}
+use Rattle.scx_output.proofs.Beginnings.{beginning_of_more, beginning_behind}
 
 task_lines-append : (x : NameLists) (total t : ℕ) (xs ys : List ℕ) → task_lines x total t (xs ++ ys) ≡ task_lines x total t xs ++ task_lines x total (t + length xs) ys
 task_lines-append x total t [] ys = ap (λ n. task_lines x total n ys) (omega arith)

@@ -3,14 +3,15 @@ use Rattle.std.proofs.Common.{◌≡◌, ℕ, Bool, true, false, List, [], ◌�
 use Rattle.std.proofs.lemmas.List.{append-nil}
 use Rattle.scx_output.specs.Output.{HasFailed}
 use Rattle.scx_output.proofs.Growth.{grows_by_none, grows_twice}
-use Rattle.scx_trace.proofs.Beginnings.{beginning_of_more, beginning_behind}
+use Rattle.scx_output.proofs.Beginnings.{beginning_of_more, beginning_behind}
 use Rattle.scx_world.specs.declared.notes.Note.{Note}
 use Rattle.scx_machine.specs.Notes.{Takes}
 use Rattle.scx_trace.specs.Lines.{NameLists, note_line, note_lines}
 use Rattle.scx_trace.specs.Writing.{Seen, Written, WrittenAfter, WrittenUpTo}
 use Rattle.scx_machine.specs.declared.events.Event.{Event}
 use Rattle.scx_sched.specs.Sim.{SimState}
-use Rattle.scx_trace.specs.Runs.{stepped_all, notes_of_all, GoesThrough}
+use Rattle.scx_driver.specs.Runs.{stepped_all, notes_of_all}
+use Rattle.scx_trace.specs.Runs.{GoesThrough}
 use Rattle.scx_trace.specs.Tracing.{TakesLine}
 use Rattle.scx_trace.proofs.Going.{notes_of_all-append}
 

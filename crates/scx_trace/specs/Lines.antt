@@ -5,10 +5,15 @@ use Rattle.scx_world.specs.Ids.{policy_end, global, held, builtin}
 use Rattle.scx_world.specs.declared.notes.Note.{Note}
 use Rattle.scx_world.specs.declared.notes.What.{What}
 use Rattle.scx_world.specs.declared.notes.What.TheVariants.{Wake, Sleep, Insert, Move, Run, Stop, Idle, Weight}
+use Rattle.scx_workloads.specs.Workload.{WorkloadState}
 
 pub record NameLists : Type 0 where
   pub tasks : List (List ℕ)
   pub groups : List (List ℕ)
+
+-- the names in a workload
+abbrev pub names_of : WorkloadState → NameLists
+names_of w = record { tasks = w.task_names; groups = w.group_names }
 
 -- past the end a name is empty
 abbrev pub name_at : List (List ℕ) → ℕ → List ℕ

@@ -1,7 +1,9 @@
 ghost use Rattle.std.specs.Prelude.{◌≡◌, [], ◌∷◌, List, IfSome, IfNone};
 ghost use Rattle.scx_machine.specs.declared.events.Event.{Event};
 ghost use Rattle.scx_sched.specs.Sim.{SimState, stepped};
+ghost use Rattle.scx_driver.specs.Driver as driver;
 
+use scx_driver::Driver;
 use scx_sched::{Event, Sim};
 
 /// Events for a machine, one after another.
@@ -14,4 +16,12 @@ pub trait Events {
         ensures next { IfSome result (λ event. remaining self.old sim.now
             ≡ event ∷ remaining self.new (stepped sim.now event)) }
         ensures end { IfNone result (remaining self.old sim.now ≡ []) };
+}
+
+impl Events for Driver {
+    ghost remaining = { driver.remaining };
+
+    fn next(&mut self, sim: &Sim) -> Option<Event> {
+        Driver::next(self, sim)
+    }
 }

@@ -1,4 +1,4 @@
-ghost use Rattle.std.specs.Prelude.{◌≡◌, ℕ, ◌+◌, ◌≤◌, ◌++◌, length, codes, decimal, OnOk, OnErr};
+ghost use Rattle.std.specs.Prelude.{◌≡◌, ℕ, ◌≤◌, ◌++◌, length, codes, decimal, OnOk, OnErr};
 ghost use Rattle.std.specs.Io.KnownBytes.{Appends};
 ghost use Rattle.arrayvec.specs.ArrayString.{array_string_len};
 ghost use Rattle.scx_output.specs.Output.{HasFailed, AppendsBeginning};
@@ -8,7 +8,7 @@ ghost use Rattle.scx_trace.specs.Lines.{note_line as line_of};
 use crate::names::Names;
 use arrayvec::ArrayString;
 use itoa::Buffer;
-use scx_output::{Failed, Out, write_all};
+use scx_output::{Failed, Out, write_named};
 use scx_world::{BUILTIN, GLOBAL, HELD, Note, POLICY_END, What};
 
 /// How many bytes the longest part of a line takes, and some more.
@@ -26,25 +26,8 @@ pub(crate) fn write_note<N: Names, W: Out>(names: &N, note: Note, out: &mut W) -
 {
     let start = start(note);
     let end = end(note.what);
-    write_line(start.as_str(), name(names, note.what), end.as_str(), out)
-}
-
-/// Writes a line: what stands before the name, the name, and what stands behind it.
-pub(crate) fn write_line<W: Out>(
-    start: &str,
-    name: &str,
-    end: &str,
-    out: &mut W,
-) -> Result<(), Failed>
-    ensures ok { OnOk result (Appends (W.contents out.old) (W.contents out.new) (start.now ++ name.now ++ end.now)) }
-    ensures ok_failures { OnOk result (W.failure_count out.new ≡ W.failure_count out.old) }
-    ensures err { OnErr result (AppendsBeginning (W.contents out.old) (W.contents out.new) (start.now ++ name.now ++ end.now)) }
-    ensures err_failures { OnErr result (HasFailed (W.failure_count out.old) (W.failure_count out.new)) }
-{
-    write_all(out, start.as_bytes())?;
-    write_all(out, name.as_bytes())?;
-    write_all(out, end.as_bytes())?;
-    Ok(())
+    let name = name(names, note.what);
+    write_named(out, start.as_str(), name, end.as_str())
 }
 
 /// The name in a note, if there is one.

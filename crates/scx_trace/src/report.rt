@@ -3,10 +3,10 @@ ghost use Rattle.std.specs.Io.KnownBytes.{Appends};
 ghost use Rattle.scx_output.specs.Output.{HasFailed, AppendsBeginning};
 ghost use Rattle.scx_trace.specs.Report.{times, share, last_lines as end_of, report};
 
-use crate::lines::{Part, write_line};
+use crate::lines::Part;
 use crate::names::Names;
 use itoa::Buffer;
-use scx_output::{Failed, Out, write_all};
+use scx_output::{Failed, Out, write_all, write_named};
 use scx_sched::Sim;
 
 /// A millisecond in nanoseconds.
@@ -28,7 +28,7 @@ pub fn write_report<N: Names, W: Out>(sim: &Sim, names: &N, out: &mut W) -> Resu
     let total = total_ms(sim);
     for task in 0..sim.tasks() {
         let end = end_of_task(run_ms(sim, task), total);
-        write_line("task ", names.task(task), end.as_str(), out)?;
+        write_named(out, "task ", names.task(task), end.as_str())?;
     }
     write_all(out, last_lines(total).as_str().as_bytes())?;
     Ok(())

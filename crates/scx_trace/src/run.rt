@@ -2,7 +2,8 @@ ghost use Rattle.std.specs.Prelude.{◌≡◌, OnOk, OnErr};
 ghost use Rattle.std.specs.Io.KnownBytes.{Appends};
 ghost use Rattle.scx_output.specs.Output.{HasFailed, AppendsBeginning};
 ghost use Rattle.scx_trace.specs.Lines.{note_lines};
-ghost use Rattle.scx_trace.specs.Runs.{notes_of_all, stepped_all, GoesThrough};
+ghost use Rattle.scx_driver.specs.Runs.{notes_of_all, stepped_all};
+ghost use Rattle.scx_trace.specs.Runs.{GoesThrough};
 
 use crate::events::Events;
 use crate::names::Names;

@@ -1,9 +1,16 @@
-//! Tests of traces and reports: their text, on outputs that take all or fail.
+//! Tests of traces and reports: those of whole runs, the line of each note, the line of each refusal, and
+//! outputs that fail.
 #![tactic(auto)]
 
 #[cfg(test)]
-mod feed;
+mod failures;
 #[cfg(test)]
 mod lines;
 #[cfg(test)]
+mod memory;
+#[cfg(test)]
+mod refusals;
+#[cfg(test)]
 mod runs;
+#[cfg(test)]
+mod texts;

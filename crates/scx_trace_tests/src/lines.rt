@@ -1,15 +1,18 @@
 //! The line of each note.
 
-use crate::feed::{Memory, TwoTasks};
+use crate::memory::Memory;
+use crate::texts::TWO_TASKS;
 use scx_output::Counted;
 use scx_sched::{Note, Sink, What};
 use scx_trace::Trace;
+use scx_workloads::read_workload;
 use std::process::Abort;
 
 fn expect<R: AllocGlobal + Abort>(rt: &R, clock: u64, what: What, line: &str) {
-    let mut memory = Memory::new(rt.alloc(), usize::MAX);
+    let names = read_workload(rt.alloc(), TWO_TASKS).expect(rt, "a workload");
+    let mut memory = Memory::new(rt.alloc());
     let mut out = Counted::new(&mut memory);
-    let mut trace = Trace::new(&TwoTasks, &mut out);
+    let mut trace = Trace::new(&names, &mut out);
     trace.take(Note { clock, what });
     assert!(rt; !trace.failed());
     assert_eq!(rt; memory.bytes.as_slice(), line.as_bytes());
@@ -55,4 +58,7 @@ fn notes_have_lines(rt: HostRuntime) {
     expect(&rt, 1, What::Stop(0, 0), "1 stop a cpu 0\n");
     expect(&rt, 1, What::Idle(0), "1 idle cpu 0\n");
     expect(&rt, 1, What::Weight(0, 200), "1 weight g 200\n");
+    // Numbers that name nothing.
+    expect(&rt, 2, What::Wake(2), "2 wake \n");
+    expect(&rt, 2, What::Weight(1, 1), "2 weight  1\n");
 }

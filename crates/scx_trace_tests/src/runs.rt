@@ -1,114 +1,175 @@
-//! Two tasks that never sleep on one processor, under a policy of slices of two milliseconds.
+//! Traces and reports of whole runs.
 
-use crate::feed::{Listed, Memory, TwoTasks};
-use scx_asm::assemble;
-use scx_isa::Callback;
-use scx_maps::MapDefs;
+use crate::memory::Memory;
+use crate::texts::{
+    CHANGE, ENDLESS_SLICES, FIVE_MS, HOLDS, SHORT_SLICES, SLEEPER, STAYS, TWO_CPUS, TWO_TASKS,
+};
 use scx_output::Counted;
-use scx_sched::{Callbacks, Event, Policy, Sim};
-use scx_trace::{run_silently, write_report, write_run};
-use scx_verify::{Verified, verify};
-use scx_weights::{Group, Tree};
+use scx_simulation::{report, simulate};
 use std::process::Abort;
 
-const EVENTS: [Event; 10] = [
-    Event::Wake(0),
-    Event::Wake(1),
-    Event::Tick(0),
-    Event::Clock,
-    Event::Tick(0),
-    Event::Clock,
-    Event::Tick(0),
-    Event::Clock,
-    Event::Tick(0),
-    Event::Clock,
-];
-
-const TRACE: &str =
-    "0 wake a\n0 insert a queue 0\n0 move a local 0\n0 run a cpu 0\n0 wake b\n0 insert b queue 0\n1 move b local 0\n1 stop a cpu 0\n1 insert a queue 0\n1 run b cpu 0\n3 move a local 0\n3 stop b cpu 0\n3 insert b queue 0\n3 run a cpu 0\n";
-
-const REPORT: &str = "task a run 2 share 5000\ntask b run 2 share 5000\ntotal 4\npolicy in force\n";
-
-fn defs(rt: &impl Abort) -> MapDefs {
-    MapDefs::new(&[]).expect(rt, "no map at all is fine")
-}
-
-fn program<R: AllocGlobal + Abort>(rt: &R, callback: Callback, text: &str) -> Option<Verified> {
-    let program = assemble(rt.alloc(), text).expect(rt, "the text stands for a program");
-    Some(verify(rt.alloc(), program, callback, &defs(rt)).expect(rt, "the program is safe"))
-}
-
-fn machine<R: AllocGlobal + Abort>(rt: &R) -> Sim {
-    let enqueue = "r4 = r2\nr2 = 0\nr3 = 2000000\ncall 1002\nexit";
-    let callbacks = Callbacks {
-        init: program(rt, Callback::Init, "r1 = 0\ncall 1001\nexit"),
-        enable: None,
-        enqueue: program(rt, Callback::Enqueue, enqueue),
-        dispatch: program(rt, Callback::Dispatch, "r1 = 0\ncall 1004\nexit"),
-        running: None,
-        stopping: None,
-    };
-    let policy = Policy::new(defs(rt), 30_000, callbacks).expect(rt, "each is for its place");
-    let group = Group {
-        parent: None,
-        weight: 100,
-    };
-    let tree = Tree::new(rt.alloc(), &[group], &[0, 0]).expect(rt, "the tasks are in the group");
-    Sim::new(rt.alloc(), policy, tree, 1).expect(rt, "init answers 0")
-}
-
-fn listed() -> Listed<'static> {
-    Listed {
-        events: &EVENTS,
-        next: 0,
-    }
+fn expect<R: AllocGlobal + Abort>(
+    rt: &R,
+    policy: &str,
+    workload: &str,
+    wanted_trace: &str,
+    wanted_report: &str,
+) {
+    let mut trace = Memory::new(rt.alloc());
+    let done = simulate(rt.alloc(), policy, workload, &mut Counted::new(&mut trace));
+    assert_eq!(rt; done, Ok(true));
+    assert_eq!(rt; trace.bytes.as_slice(), wanted_trace.as_bytes());
+    let mut lines = Memory::new(rt.alloc());
+    let done = report(rt.alloc(), policy, workload, &mut Counted::new(&mut lines));
+    assert_eq!(rt; done, Ok(true));
+    assert_eq!(rt; lines.bytes.as_slice(), wanted_report.as_bytes());
 }
 
 #[test]
-fn a_run_is_written(rt: HostRuntime) {
-    let mut memory = Memory::new(rt.alloc(), usize::MAX);
-    let mut sim = machine(&rt);
-    let written = write_run(
-        &mut sim,
-        &mut listed(),
-        &TwoTasks,
-        &mut Counted::new(&mut memory),
-    );
-    assert!(rt; written.is_ok());
-    assert_eq!(rt; memory.bytes.as_slice(), TRACE.as_bytes());
+fn two_tasks_take_turns(rt: HostRuntime) {
+    let trace = "0 wake a
+0 insert a queue 0
+0 move a local 0
+0 run a cpu 0
+0 wake b
+0 insert b queue 0
+1 move b local 0
+1 stop a cpu 0
+1 insert a queue 0
+1 run b cpu 0
+3 move a local 0
+3 stop b cpu 0
+3 insert b queue 0
+3 run a cpu 0
+";
+    let report = "task a run 2 share 5000
+task b run 2 share 5000
+total 4
+policy in force
+";
+    expect(&rt, SHORT_SLICES, TWO_TASKS, trace, report);
 }
 
 #[test]
-fn a_run_ends_where_writing_fails(rt: HostRuntime) {
-    let mut memory = Memory::new(rt.alloc(), 4);
-    let mut sim = machine(&rt);
-    let written = write_run(
-        &mut sim,
-        &mut listed(),
-        &TwoTasks,
-        &mut Counted::new(&mut memory),
-    );
-    assert!(rt; written.is_err());
-    assert_eq!(rt; memory.bytes.as_slice(), b"0 wake a\n0 insert ".as_slice());
-    assert_eq!(rt; sim.events(), 1);
+fn a_weight_changes(rt: HostRuntime) {
+    let trace = "0 wake a
+0 insert a queue 0
+0 move a local 0
+0 run a cpu 0
+0 wake b
+0 insert b queue 0
+1 weight g 200
+1 move b local 0
+1 stop a cpu 0
+1 insert a queue 0
+1 run b cpu 0
+3 move a local 0
+3 stop b cpu 0
+3 insert b queue 0
+3 run a cpu 0
+";
+    let report = "task a run 2 share 5000
+task b run 2 share 5000
+total 4
+policy in force
+";
+    expect(&rt, SHORT_SLICES, CHANGE, trace, report);
 }
 
 #[test]
-fn a_report_is_written(rt: HostRuntime) {
-    let mut memory = Memory::new(rt.alloc(), usize::MAX);
-    let mut sim = machine(&rt);
-    run_silently(&mut sim, &mut listed());
-    let written = write_report(&sim, &TwoTasks, &mut Counted::new(&mut memory));
-    assert!(rt; written.is_ok());
-    assert_eq!(rt; memory.bytes.as_slice(), REPORT.as_bytes());
+fn three_tasks_on_two_processors(rt: HostRuntime) {
+    let trace = "0 wake a
+0 insert a queue 0
+0 move a local 0
+0 run a cpu 0
+0 wake b
+0 insert b queue 0
+0 move b local 1
+0 run b cpu 1
+0 wake c
+0 insert c queue 0
+1 move c local 0
+1 stop a cpu 0
+1 insert a queue 0
+1 run c cpu 0
+1 move a local 1
+1 stop b cpu 1
+1 insert b queue 0
+1 run a cpu 1
+";
+    let report = "task a run 3 share 5000
+task b run 2 share 3333
+task c run 1 share 1666
+total 6
+policy in force
+";
+    expect(&rt, SHORT_SLICES, TWO_CPUS, trace, report);
 }
 
 #[test]
-fn nothing_of_nothing(rt: HostRuntime) {
-    let mut memory = Memory::new(rt.alloc(), usize::MAX);
-    let sim = machine(&rt);
-    let written = write_report(&sim, &TwoTasks, &mut Counted::new(&mut memory));
-    assert!(rt; written.is_ok());
-    let wanted = "task a run 0 share 0\ntask b run 0 share 0\ntotal 0\npolicy in force\n";
-    assert_eq!(rt; memory.bytes.as_slice(), wanted.as_bytes());
+fn a_slice_without_end(rt: HostRuntime) {
+    let trace = "0 wake a
+0 insert a queue 0
+0 move a local 0
+0 run a cpu 0
+0 wake b
+0 insert b queue 0
+";
+    let report = "task a run 5 share 10000
+task b run 0 share 0
+total 5
+policy in force
+";
+    expect(&rt, ENDLESS_SLICES, FIVE_MS, trace, report);
+}
+
+#[test]
+fn held_tasks(rt: HostRuntime) {
+    let trace = "0 wake a
+0 insert a held
+0 wake b
+0 insert b held
+";
+    let report = "task a run 0 share 0
+task b run 0 share 0
+total 0
+policy in force
+";
+    expect(&rt, HOLDS, FIVE_MS, trace, report);
+}
+
+#[test]
+fn a_task_sleeps(rt: HostRuntime) {
+    let trace = "0 wake a
+0 insert a local 0
+0 run a cpu 0
+1 sleep a
+1 stop a cpu 0
+1 idle cpu 0
+5 wake a
+5 insert a local 0
+5 run a cpu 0
+";
+    let report = "task a run 3 share 10000
+total 3
+policy in force
+";
+    expect(&rt, STAYS, SLEEPER, trace, report);
+}
+
+#[test]
+fn a_policy_without_programs(rt: HostRuntime) {
+    let trace = "0 wake a
+0 insert a global
+0 move a local 0
+0 run a cpu 0
+0 wake b
+0 insert b global
+";
+    let report = "task a run 4 share 10000
+task b run 0 share 0
+total 4
+policy in force
+";
+    expect(&rt, "", TWO_TASKS, trace, report);
 }

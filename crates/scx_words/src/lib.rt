@@ -3,4 +3,4 @@
 
 mod words;
 
-pub use words::{Request, Work, read_words};
+pub use words::{Request, read_words};

@@ -1,4 +1,4 @@
-use clap::{Arg, Command, Error};
+use clap::{Arg, ArgMatches, Command, Error};
 use std::alloc::{AllocError, Global};
 use std::convert::AsStr;
 
@@ -6,19 +6,21 @@ const SLOTS: &str = "A file of BPF instructions, in slots of 8 bytes, low byte f
 
 const TEXT: &str = "A file of assembler text, as docs/ASSEMBLY.md has it";
 
-/// What a command does with its file.
-#[derive(Clone, Copy, Debug, PartialEq, Eq)]
-pub enum Work {
-    Exec,
-    Asm,
-    Dis,
-}
+const WORKLOAD: &str =
+    "A workload file in TOML: processors, groups and tasks, as docs/FILES.md has it";
 
-/// A command, with the path of its file.
-#[derive(Clone, Copy)]
-pub struct Request<'a> {
-    pub work: Work,
-    pub path: &'a str,
+const POLICY: &str =
+    "A policy file in TOML: programs by callback, and maps, as docs/FILES.md has it";
+
+/// A command, with the paths of its files.
+#[derive(Clone, Copy, Debug, PartialEq, Eq)]
+pub enum Request<'a> {
+    Exec { slots: &'a str },
+    Asm { text: &'a str },
+    Dis { slots: &'a str },
+    Verify { policy: &'a str },
+    Run { policy: &'a str, workload: &'a str },
+    Report { policy: &'a str, workload: &'a str },
 }
 
 /// What the words ask for. `clap` refuses words that name no command and no file, so there is a
@@ -26,41 +28,98 @@ pub struct Request<'a> {
 ///
 /// # Errors
 ///
-/// The words are no command with its file, or ask for help, or memory ran out.
+/// The words are no command with its files, or ask for help, or memory ran out.
 pub fn read_words<'a, S: AsStr>(
     alloc: Global,
     words: &'a [S],
 ) -> Result<Option<Request<'a>>, Error> {
     let matches = scxsim(alloc)?.try_get_matches_from(words)?;
-    let Some((name, command)) = matches.subcommand() else {
-        return Ok(None);
-    };
-    let Some(path) = command.get_str("FILE") else {
-        return Ok(None);
-    };
-    let work = match name {
-        "exec" => Work::Exec,
-        "asm" => Work::Asm,
-        "dis" => Work::Dis,
-        _ => return Ok(None),
-    };
-    Ok(Some(Request { work, path }))
+    match matches.subcommand() {
+        Some((name, command)) => Ok(request_of(name, command)),
+        None => Ok(None),
+    }
+}
+
+/// The command of this name, with the files that its words give.
+fn request_of<'a>(name: &str, command: &ArgMatches<'a>) -> Option<Request<'a>> {
+    match name {
+        "exec" => Some(Request::Exec {
+            slots: command.get_str("FILE")?,
+        }),
+        "asm" => Some(Request::Asm {
+            text: command.get_str("FILE")?,
+        }),
+        "dis" => Some(Request::Dis {
+            slots: command.get_str("FILE")?,
+        }),
+        "verify" => Some(Request::Verify {
+            policy: command.get_str("POLICY")?,
+        }),
+        "run" => Some(Request::Run {
+            policy: command.get_str("POLICY")?,
+            workload: command.get_str("WORKLOAD")?,
+        }),
+        "report" => Some(Request::Report {
+            policy: command.get_str("POLICY")?,
+            workload: command.get_str("WORKLOAD")?,
+        }),
+        _ => None,
+    }
 }
 
 /// The commands and their words.
 fn scxsim<'a>(alloc: Global) -> Result<Command<'a>, AllocError> {
     Command::new(alloc, "scxsim")
         .about(
-            "Runs, assembles and disassembles BPF programs, as a host of CPU scheduling policies would.",
+            "Runs workloads on simulated processors under a CPU scheduling policy in BPF, after verifying it.",
         )
         .after_help(
-            "A refused file is one line on standard output, with status 1. docs/REFUSALS.md explains each.",
+            "scxsim help COMMAND says what a command reads and writes, with an example.\nA refused file is one line on standard output, with status 1. docs/REFUSALS.md explains each.",
         )
         .subcommand_required(true)
         .arg_required_else_help(true)
+        .subcommand(verify(alloc)?)?
+        .subcommand(run(alloc)?)?
+        .subcommand(report(alloc)?)?
         .subcommand(exec(alloc)?)?
         .subcommand(asm(alloc)?)?
         .subcommand(dis(alloc)?)
+}
+
+fn verify<'a>(alloc: Global) -> Result<Command<'a>, AllocError> {
+    let policy = Arg::new(alloc, "POLICY").required(true).help(POLICY);
+    Command::new(alloc, "verify")
+        .about("Reads a policy file, and says of each callback whether it is safe")
+        .after_help(
+            "Example: scxsim verify examples/policies/fifo.toml\nprints:  init ok 3\n         enqueue ok 5\n         dispatch ok 3\nOf a callback that isn't safe it prints the fault and its slot, as in\n         enqueue refused 5 UnusableRegister at 1\nand its status is 1. docs/VERIFIER.md says what is safe.",
+        )
+        .arg(policy)
+}
+
+fn run<'a>(alloc: Global) -> Result<Command<'a>, AllocError> {
+    let policy = Arg::new(alloc, "POLICY").required(true).help(POLICY);
+    let workload = Arg::new(alloc, "WORKLOAD").required(true).help(WORKLOAD);
+    Command::new(alloc, "run")
+        .about(
+            "Reads a policy file and a workload file, runs the workload under the policy, and prints its trace",
+        )
+        .after_help(
+            "Example: scxsim run examples/policies/short_slices.toml examples/workloads/two_tasks.toml\nprints:  a line for each thing that happens, with its millisecond, as in\n         0 wake a\n         0 insert a queue 0\n         0 move a local 0\n         0 run a cpu 0\ndocs/FILES.md has both formats and the lines of a trace.",
+        )
+        .arg(policy)?
+        .arg(workload)
+}
+
+fn report<'a>(alloc: Global) -> Result<Command<'a>, AllocError> {
+    let policy = Arg::new(alloc, "POLICY").required(true).help(POLICY);
+    let workload = Arg::new(alloc, "WORKLOAD").required(true).help(WORKLOAD);
+    Command::new(alloc, "report")
+        .about("Reads and runs the same, and prints how long each task ran in place of the trace")
+        .after_help(
+            "Example: scxsim report examples/policies/short_slices.toml examples/workloads/two_tasks.toml\nprints:  task a run 2 share 5000\n         task b run 2 share 5000\n         total 4\n         policy in force\nrun is in milliseconds, and share in parts of 10000.",
+        )
+        .arg(policy)?
+        .arg(workload)
 }
 
 fn exec<'a>(alloc: Global) -> Result<Command<'a>, AllocError> {

@@ -1,5 +1,6 @@
-//! The program `scxsim`, which runs, assembles and disassembles BPF programs. Its words are read by
-//! `scx_words`; what the commands do stands in `scx_commands`, whose calls are passed on here.
+//! The program `scxsim`, which verifies policies and runs workloads under them, and runs, assembles and
+//! disassembles BPF programs. Its words are read by `scx_words`; what the commands do stands in
+//! `scx_commands`, `scx_verdicts` and `scx_simulation`, whose calls are passed on here.
 #![tactic(auto)]
 
 ghost use Rattle.std.specs.Prelude.{◌≡◌, ◌⊎◌};
@@ -9,28 +10,66 @@ ghost use Rattle.scx_output.specs.Output.{HasFailed};
 use clap::error::ErrorKind as WordsErrorKind;
 pub use scx_commands::{Counted, Failed, Fault, Out, Refusal, asm, dis, exec, finish, text};
 use scx_commands::{
-    FAILED, USAGE, hint_of_slots, hint_of_text, read_file, write_all, write_unread,
+    FAILED, Hint, USAGE, hint_of_slots, hint_of_text, read_file, write_all, write_unread,
 };
-use scx_words::{Request, Work, read_words};
+pub use scx_simulation::{report, simulate};
+pub use scx_verdicts::check;
+use scx_words::{Request, read_words};
 use std::alloc::Global;
-use std::io::ErrorKind;
+use std::io::{BufWriter, ErrorKind};
 use std::process::ExitCode;
 use std::rt::{Env, Files};
 use std::{env, io};
 
-const NO_MEMORY: Result<bool, Fault> = Err(Fault::Refused(Refusal::NoMemory));
+/// How many bytes standard output is handed at once, but for the last ones.
+const BLOCK: usize = 65_536;
 
-fn main(rt: HostRuntime) -> ExitCode {
-    let mut out = Counted::new(io::writer(&rt));
-    ExitCode::from(run(&rt, &mut out))
+/// How the program ends: its status, and what a refused file seems to be.
+#[derive(Clone, Copy)]
+struct Ending {
+    status: u8,
+    hint: Option<Hint>,
 }
 
-/// Does what the process's words ask for, and answers its status.
-fn run<R: AllocGlobal + Env + Files + Eprint, W: Out>(rt: &R, out: &mut W) -> u8 {
+/// The bytes of the files of a run.
+#[derive(Drop)]
+struct RunFiles {
+    policy: Vec<u8>,
+    workload: Vec<u8>,
+}
+
+/// Why there are no bytes of a file.
+#[derive(Drop)]
+enum Unread<'a> {
+    NoMemory,
+    At(&'a str),
+}
+
+fn main(rt: HostRuntime) -> ExitCode {
+    match BufWriter::with_capacity(rt.alloc(), BLOCK, io::writer(&rt)) {
+        Ok(writer) => {
+            let mut out = Counted::new(writer);
+            let ending = run(&rt, &mut out);
+            let flushed = out.flush();
+            give_hint(&rt, ending.hint);
+            ExitCode::from(if flushed.is_ok() {
+                ending.status
+            } else {
+                FAILED
+            })
+        }
+        Err(_) => ExitCode::from(end_without_memory(&mut Counted::new(io::writer(&rt)))),
+    }
+}
+
+/// Does what the process's words ask for.
+fn run<R: AllocGlobal + Env + Files, W: Out>(rt: &R, out: &mut W) -> Ending {
     match words_of(rt) {
         Ok(words) => run_words(rt, words.as_slice(), out),
-        Err(error) if error.kind() == ErrorKind::OutOfMemory => finish(NO_MEMORY, out),
-        Err(_) => write_usage("error: a word is not UTF-8\n", out),
+        Err(error) if error.kind() == ErrorKind::OutOfMemory => {
+            without_hint(end_without_memory(out))
+        }
+        Err(_) => without_hint(write_usage("error: a word is not UTF-8\n", out)),
     }
 }
 
@@ -38,53 +77,132 @@ fn words_of<R: AllocGlobal + Env>(rt: &R) -> io::Result<Vec<String>> {
     Ok(env::args(rt)?.collect(rt.alloc())?)
 }
 
-fn run_words<R: AllocGlobal + Files + Eprint, W: Out>(rt: &R, words: &[String], out: &mut W) -> u8 {
+fn run_words<R: AllocGlobal + Files, W: Out>(rt: &R, words: &[String], out: &mut W) -> Ending {
     match read_words(rt.alloc(), words) {
-        Ok(Some(request)) => do_request(rt, request, out),
-        Ok(None) => USAGE,
-        Err(error) if error.kind() == WordsErrorKind::OutOfMemory => finish(NO_MEMORY, out),
-        Err(error) => explain_usage(rt.alloc(), &error, out),
+        Ok(Some(request)) => run_request(rt, request, out),
+        Ok(None) => without_hint(USAGE),
+        Err(error) if error.kind() == WordsErrorKind::OutOfMemory => {
+            without_hint(end_without_memory(out))
+        }
+        Err(error) => without_hint(explain_usage(rt.alloc(), &error, out)),
     }
 }
 
-/// Does a command's work with its file.
-fn do_request<R: AllocGlobal + Files + Eprint, W: Out>(
+fn run_request<R: AllocGlobal + Files, W: Out>(
     rt: &R,
     request: Request<'_>,
     out: &mut W,
-) -> u8 {
-    match read_file(rt, request.path) {
-        Ok(bytes) => {
-            let outcome = do_work(rt.alloc(), request.work, bytes.as_slice(), out);
-            let status = finish(outcome, out);
-            if matches!(outcome, Err(Fault::Refused(_))) {
-                give_hint(rt, request.work, bytes.as_slice());
-            }
-            status
-        }
-        Err(error) if error.kind() == ErrorKind::OutOfMemory => finish(NO_MEMORY, out),
-        Err(_) => {
-            let _ = write_unread(request.path, out);
-            FAILED
+) -> Ending {
+    match do_request(rt, request, out) {
+        Ok(ending) => ending,
+        Err(Unread::NoMemory) => without_hint(end_without_memory(out)),
+        Err(Unread::At(path)) => {
+            let _ = write_unread(path, out);
+            without_hint(FAILED)
         }
     }
 }
 
-/// Does a command's work with the bytes of its file.
-fn do_work<W: Out>(alloc: Global, work: Work, bytes: &[u8], out: &mut W) -> Result<bool, Fault> {
-    match work {
-        Work::Exec => exec(alloc, bytes, out),
-        Work::Asm => asm(alloc, bytes, out),
-        Work::Dis => dis(alloc, bytes, out),
+/// Does a command's work with its files.
+fn do_request<'a, R: AllocGlobal + Files, W: Out>(
+    rt: &R,
+    request: Request<'a>,
+    out: &mut W,
+) -> Result<Ending, Unread<'a>> {
+    match request {
+        Request::Exec { slots } => {
+            let bytes = bytes_of(rt, slots)?;
+            let outcome = exec(rt.alloc(), bytes.as_slice(), out);
+            Ok(end(outcome, hint_of_slots(bytes.as_slice()), out))
+        }
+        Request::Asm { text } => {
+            let bytes = bytes_of(rt, text)?;
+            let outcome = asm(rt.alloc(), bytes.as_slice(), out);
+            Ok(end(outcome, hint_of_text(bytes.as_slice()), out))
+        }
+        Request::Dis { slots } => {
+            let bytes = bytes_of(rt, slots)?;
+            let outcome = dis(rt.alloc(), bytes.as_slice(), out);
+            Ok(end(outcome, hint_of_slots(bytes.as_slice()), out))
+        }
+        Request::Verify { policy } => {
+            let bytes = bytes_of(rt, policy)?;
+            let outcome = check(rt.alloc(), bytes.as_slice(), out);
+            Ok(end(outcome, hint_of_text(bytes.as_slice()), out))
+        }
+        Request::Run { policy, workload } => {
+            let files = files_of(rt, policy, workload)?;
+            let outcome = simulate_files(rt.alloc(), &files, out);
+            Ok(end(outcome, hint_of_files(&files), out))
+        }
+        Request::Report { policy, workload } => {
+            let files = files_of(rt, policy, workload)?;
+            let outcome = report_files(rt.alloc(), &files, out);
+            Ok(end(outcome, hint_of_files(&files), out))
+        }
     }
+}
+
+fn simulate_files<W: Out>(alloc: Global, files: &RunFiles, out: &mut W) -> Result<bool, Fault> {
+    let policy = text(files.policy.as_slice())?;
+    let workload = text(files.workload.as_slice())?;
+    simulate(alloc, policy, workload, out)
+}
+
+fn report_files<W: Out>(alloc: Global, files: &RunFiles, out: &mut W) -> Result<bool, Fault> {
+    let policy = text(files.policy.as_slice())?;
+    let workload = text(files.workload.as_slice())?;
+    report(alloc, policy, workload, out)
+}
+
+/// The bytes of both files of a run, of which the policy is read first.
+fn files_of<'a, R: AllocGlobal + Files>(
+    rt: &R,
+    policy: &'a str,
+    workload: &'a str,
+) -> Result<RunFiles, Unread<'a>> {
+    let policy = bytes_of(rt, policy)?;
+    let workload = bytes_of(rt, workload)?;
+    Ok(RunFiles { policy, workload })
+}
+
+/// What a person may have meant by a refused one of these files.
+fn hint_of_files(files: &RunFiles) -> Option<Hint> {
+    match hint_of_text(files.policy.as_slice()) {
+        Some(hint) => Some(hint),
+        None => hint_of_text(files.workload.as_slice()),
+    }
+}
+
+/// The bytes of the file at a path.
+fn bytes_of<'a, R: AllocGlobal + Files>(rt: &R, path: &'a str) -> Result<Vec<u8>, Unread<'a>> {
+    match read_file(rt, path) {
+        Ok(bytes) => Ok(bytes),
+        Err(error) if error.kind() == ErrorKind::OutOfMemory => Err(Unread::NoMemory),
+        Err(_) => Err(Unread::At(path)),
+    }
+}
+
+/// Finishes a command. The hint is for a file that was refused.
+fn end<W: Out>(outcome: Result<bool, Fault>, hint: Option<Hint>, out: &mut W) -> Ending {
+    let is_refused = matches!(&outcome, Err(Fault::Refused(_)));
+    let status = finish(outcome, out);
+    Ending {
+        status,
+        hint: if is_refused { hint } else { None },
+    }
+}
+
+fn without_hint(status: u8) -> Ending {
+    Ending { status, hint: None }
+}
+
+fn end_without_memory<W: Out>(out: &mut W) -> u8 {
+    finish(Err(Fault::Refused(Refusal::NoMemory)), out)
 }
 
 /// Says on standard error what a refused file seems to be. Whether that can be written doesn't matter.
-fn give_hint<R: Eprint>(rt: &R, work: Work, bytes: &[u8]) {
-    let hint = match work {
-        Work::Exec | Work::Dis => hint_of_slots(bytes),
-        Work::Asm => hint_of_text(bytes),
-    };
+fn give_hint<R: Eprint>(rt: &R, hint: Option<Hint>) {
     if let Some(hint) = hint {
         let _ = eprintln!(rt; "hint: {}", hint.advice());
     }
@@ -94,7 +212,7 @@ fn give_hint<R: Eprint>(rt: &R, work: Work, bytes: &[u8]) {
 fn explain_usage<W: Out>(alloc: Global, error: &clap::Error, out: &mut W) -> u8 {
     match error.to_string(alloc) {
         Ok(text) => write_usage(text.as_str(), out),
-        Err(_) => finish(NO_MEMORY, out),
+        Err(_) => end_without_memory(out),
     }
 }
 

@@ -1,8 +1,11 @@
 use Rattle.std.proofs.Common.{sym, get_or}
 use Rattle.std.proofs.lemmas.List.{get_or_default}
 use Rattle.scx_dsq.specs.Kept.{ids_of}
-use Rattle.scx_dsq.proofs.Ordering.{missing, named, stands}
+use Rattle.scx_dsq.proofs.Ordering.{missing, named, stands, there}
 use Rattle.scx_dsq.proofs.queues.find.Goals as goal
+
+pub returns-in-Some-clause-found : goal.returns-in-Some-clause-found
+returns-in-Some-clause-found c = sym (there c.args.live.now c.args.id c.in-Some.index c.in-Some.ensures)
 
 pub returns-in-Ok-clause-found : goal.returns-in-Ok-clause-found
 returns-in-Ok-clause-found c = sym (named (ids_of c.args.live.now) c.args.order.now c.args.id c.in-Ok.place c.requires c.in-Ok.ensures.found)

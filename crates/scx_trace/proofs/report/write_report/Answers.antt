@@ -4,12 +4,12 @@ use Rattle.scx_trace.specs.Report.{times, ran_ms}
 use Rattle.scx_trace.proofs.Reporting.{written_more, cut_at_end, cut_in_line}
 use Rattle.scx_trace.proofs.report.write_report.Goals as goal
 
-pub returns-in_err-write_line-clause-err : goal.returns-in_err-write_line-clause-err
-returns-in_err-write_line-clause-err g c =
+pub returns-in_err-write_named-clause-err : goal.returns-in_err-write_named-clause-err
+returns-in_err-write_named-clause-err g c =
     let all = times c.args.sim.now.state.world in
     let within : c.loop-task.task < length all = omega (arith, length-map c.args.sim.now.state.world.tasks ran_ms, c.loop-task-test.true, c.tasks-task-end.ensures) in
     let before = rw c.total_ms-total.ensures at c.loop-task.invariant.written in
-    let line = rw (c.task.ensures, c.as_str.ensures.value, c.end_of_task-end.ensures, c.total_ms-total.ensures) at c.in_err-write_line.ensures.err in
+    let line = rw (c.task.ensures, c.as_str.ensures.value, c.end_of_task-end.ensures, c.total_ms-total.ensures) at c.in_err-write_named.ensures.err in
     let cut = cut_in_line (g.N.Names.lists c.args.names.now) all c.loop-task.task c.run_ms.result _ _ _ within c.run_ms.ensures.ms before line in
     search rules
 
@@ -17,7 +17,7 @@ pub loop-task-preserved : goal.loop-task-preserved
 loop-task-preserved g c =
     let all = times c.args.sim.now.state.world in
     let within : c.loop-task.task < length all = omega (arith, length-map c.args.sim.now.state.world.tasks ran_ms, c.loop-task-test.true, c.tasks-task-end.ensures) in
-    let line = rw (c.task.ensures, c.as_str.ensures.value, c.end_of_task-end.ensures) at c.in_ok-write_line.ensures.ok in
+    let line = rw (c.task.ensures, c.as_str.ensures.value, c.end_of_task-end.ensures) at c.in_ok-write_named.ensures.ok in
     record {
       written = written_more (g.N.Names.lists c.args.names.now) _ all c.loop-task.task c.run_ms.result _ _ _ within c.run_ms.ensures.ms c.loop-task.invariant.written line;
       unfailed = search rules;

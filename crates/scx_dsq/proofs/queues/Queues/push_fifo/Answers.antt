@@ -1,4 +1,4 @@
-use Rattle.std.proofs.Common.{◌≡◌, ◌<◌, refl}
+use Rattle.std.proofs.Common.{◌<◌, refl}
 use Rattle.std.proofs.lemmas.Result.{err_from_is_err_and}
 use Rattle.scx_dsq.specs.declared.places.Rank.TheVariants.{Fifo}
 use Rattle.scx_dsq.specs.Queues.{task_count}

@@ -1,0 +1,131 @@
+//! Tests of `finish`: the line and the status of each outcome.
+
+use crate::memory::Memory;
+use scx_asm::AsmFault;
+use scx_files::Cause;
+use scx_isa::{Callback, DecodeFault, Exclusion, FlowFault};
+use scx_outcomes::{Fault, Refusal, finish, write_unread};
+use scx_output::Counted;
+use scx_verify as verifier;
+use std::process::Abort;
+use std::test::Fail;
+
+fn expect<R: AllocGlobal + Abort>(rt: &R, outcome: Result<bool, Fault>, line: &str, status: u8) {
+    let mut memory = Memory::new(rt.alloc());
+    let found = finish(outcome, &mut Counted::new(&mut memory));
+    assert_eq!(rt; memory.bytes.as_slice(), line.as_bytes());
+    assert_eq!(rt; found, status, "{line}");
+}
+
+/// Finishes with a refusal, and compares the line.
+fn refuses<R: AllocGlobal + Abort>(rt: &R, refusal: Refusal, line: &str) {
+    expect(rt, Err(Fault::Refused(refusal)), line, 1);
+}
+
+#[test]
+fn answers_statuses(rt: HostRuntime) {
+    expect(&rt, Ok(true), "", 0);
+    expect(&rt, Ok(false), "", 1);
+    expect(&rt, Err(Fault::WriteFailed), "", 3);
+}
+
+#[test]
+fn names_faults_of_programs(rt: HostRuntime) {
+    let local_call = DecodeFault::NotInProfile(Exclusion::LocalCall);
+    let into_wide = verifier::Fault::Flow(FlowFault::IntoWide);
+    refuses(&rt, Refusal::TooLarge, "refused: too large\n");
+    refuses(&rt, Refusal::NotUtf8, "refused: not UTF-8\n");
+    refuses(&rt, Refusal::NoMemory, "refused: no memory\n");
+    refuses(
+        &rt,
+        Refusal::Decode {
+            fault: local_call,
+            slot: 4095,
+        },
+        "refused: decode 5 NotInProfile(local call) at 4095\n",
+    );
+    refuses(
+        &rt,
+        Refusal::Verify {
+            fault: into_wide,
+            slot: 0,
+        },
+        "refused: verify 3 IntoWide at 0\n",
+    );
+    refuses(
+        &rt,
+        Refusal::Assemble {
+            fault: AsmFault::UnknownLabel,
+            line: 1_048_576,
+        },
+        "refused: asm 2 UnknownLabel at 1048576\n",
+    );
+    refuses(
+        &rt,
+        Refusal::Callback {
+            callback: Callback::Stopping,
+            fault: into_wide,
+            slot: 4093,
+        },
+        "refused: verify stopping 3 IntoWide at 4093\n",
+    );
+}
+
+#[test]
+fn names_answers_of_init(rt: HostRuntime) {
+    refuses(&rt, Refusal::Init(-22), "refused: init -22\n");
+    refuses(&rt, Refusal::Init(1), "refused: init 1\n");
+    refuses(
+        &rt,
+        Refusal::Init(i64::MIN),
+        "refused: init -9223372036854775808\n",
+    );
+}
+
+#[test]
+fn names_causes_in_files(rt: HostRuntime) -> Result<(), Fail> {
+    let asm = Cause::Asm {
+        fault: AsmFault::Syntax,
+        line: 3,
+    };
+    let decode = Cause::Decode {
+        fault: DecodeFault::Empty,
+        slot: 0,
+    };
+    let causes = [
+        (Cause::NotToml, "not TOML"),
+        (Cause::Unknown, "unknown"),
+        (Cause::Missing, "missing"),
+        (Cause::WrongType, "wrong type"),
+        (Cause::OutOfRange, "out of range"),
+        (Cause::BadName, "bad name"),
+        (Cause::Twice, "twice"),
+        (Cause::TooMany, "too many"),
+        (Cause::NoSuchGroup, "no such group"),
+        (Cause::NotALeaf, "not a leaf"),
+        (Cause::TooDeep, "too deep"),
+        (Cause::BadHex, "bad hex"),
+        (asm, "asm 1 Syntax at 3"),
+        (decode, "decode 1 Empty at 0"),
+    ];
+    for (cause, text) in causes {
+        let path = String::from_str(rt.alloc(), "map.1.entries")?;
+        let line = format!(in rt.alloc(); "refused: policy map.1.entries: {text}\n")?;
+        refuses(&rt, Refusal::Policy { path, cause }, line.as_str());
+        let path = String::from_str(rt.alloc(), "task.1.group")?;
+        let line = format!(in rt.alloc(); "refused: workload task.1.group: {text}\n")?;
+        refuses(&rt, Refusal::Workload { path, cause }, line.as_str());
+    }
+    Ok(())
+}
+
+#[test]
+fn reports_an_unread_file(rt: HostRuntime) -> Result<(), Fail> {
+    let mut memory = Memory::new(rt.alloc());
+    write_unread("some/file.bin", &mut Counted::new(&mut memory))?;
+    assert_eq!(rt;
+        memory.bytes.as_slice(),
+        b"failed: reading some/file.bin\n".as_slice()
+    );
+    Ok(())
+}

@@ -1,0 +1,21 @@
+-- A task's number, or none, as one word. No public clause cites it.
+use Rattle.std.proofs.Common.{◌≡◌, ℕ, zero, suc, ◌+◌, ◌-◌, ◌<◌, Option, Some, None, refl, arith}
+
+abbrev pub task_in : ℕ → Option ℕ
+task_in zero = None
+task_in (suc t) = Some t
+
+abbrev pub word_of : Option ℕ → ℕ
+word_of None = 0
+word_of (Some t) = suc t
+
+pub word_back : (w : ℕ) → word_of (task_in w) ≡ w
+word_back zero = refl
+word_back (suc t) = refl
+
+pub task_in_more : (t : ℕ) → task_in (t + 1) ≡ Some t
+task_in_more t = let e : t + 1 ≡ suc t = omega arith in rw e refl
+
+pub task_in_word : (w : ℕ) → 0 < w → task_in w ≡ Some (w - 1)
+task_in_word zero lt = absurd (omega arith)
+task_in_word (suc t) lt = let e : suc t - 1 ≡ t = omega arith in rw e refl

@@ -1,0 +1,43 @@
+-- The refusals that the errors of decoding, of verifying, of assembling, of reading files and of building
+-- policies stand for.
+use Rattle.std.specs.Prelude.{ℕ}
+use Rattle.scx_isa.specs.declared.faults.DecodeError.{DecodeError}
+use Rattle.scx_isa.specs.declared.faults.DecodeError.TheVariants as errors
+use Rattle.scx_verify.specs.declared.faults.Fault as verifier
+use Rattle.scx_verify.specs.declared.faults.Fault.TheVariants as fault
+use Rattle.scx_verify.specs.declared.faults.VerifyError.{VerifyError}
+use Rattle.scx_asm.specs.declared.faults.AsmError.{AsmError}
+use Rattle.scx_asm.specs.declared.faults.AsmError.TheVariants as asm
+use Rattle.scx_files.specs.declared.fault.LoadError.{LoadError}
+use Rattle.scx_files.specs.declared.fault.LoadError.TheVariants as load
+use Rattle.scx_policies.specs.declared.building.BuildError.{BuildError}
+use Rattle.scx_policies.specs.declared.building.BuildError.TheVariants as build
+use Rattle.scx_outcomes.specs.declared.refusal.Refusal.{Refusal}
+use Rattle.scx_outcomes.specs.declared.refusal.Refusal.TheVariants.{NoMemory, Decode, Verify, Assemble, Callback, Policy, Workload}
+
+abbrev pub decode_refusal : DecodeError → Refusal
+decode_refusal (errors.Refused fault slot) = Decode fault slot
+decode_refusal errors.OutOfMemory = NoMemory
+
+abbrev pub fault_refusal : verifier.Fault → ℕ → Refusal
+fault_refusal fault.NoMemory slot = NoMemory
+fault_refusal f slot = Verify f slot
+
+abbrev pub verify_refusal : VerifyError → Refusal
+verify_refusal e = fault_refusal e.fault e.slot
+
+abbrev pub asm_refusal : AsmError → Refusal
+asm_refusal (asm.Refused fault line) = Assemble fault line
+asm_refusal asm.OutOfMemory = NoMemory
+
+abbrev pub build_refusal : BuildError → Refusal
+build_refusal (build.Refused callback fault slot) = Callback callback fault slot
+build_refusal build.NoMemory = NoMemory
+
+abbrev pub policy_refusal : LoadError → Refusal
+policy_refusal (load.At path cause) = Policy path cause
+policy_refusal load.NoMemory = NoMemory
+
+abbrev pub workload_refusal : LoadError → Refusal
+workload_refusal (load.At path cause) = Workload path cause
+workload_refusal load.NoMemory = NoMemory

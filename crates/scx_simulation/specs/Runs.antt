@@ -1,0 +1,85 @@
+-- What the texts of a policy file and of a workload file say together: a run, with its trace and its
+-- report, or why they are refused.
+use Rattle.std.specs.Prelude.{◌≡◌, ℕ, ℤ, List, ⊤, Ok, Err, IsOk, string_bytes}
+use Rattle.scx_semantics.specs.declared.callbacks.Callback as callbacks
+use Rattle.scx_verify.specs.declared.faults.Fault.{Fault}
+use Rattle.scx_weights.specs.Hierarchy.{Hierarchy, idle}
+use Rattle.scx_machine.specs.Policy.{PolicyState}
+use Rattle.scx_machine.specs.Start.{started}
+use Rattle.scx_sched.specs.Sim.{SimState, IsFirst}
+use Rattle.scx_policies.specs.Policies.{PolicyFile}
+use Rattle.scx_policies.specs.Reading.{policy_text}
+use Rattle.scx_policies.specs.declared.building.BuildError.TheVariants as build
+use Rattle.scx_policies.specs.Building.{IsBuilt, IsFirstRefused}
+use Rattle.scx_workloads.specs.Workload.{WorkloadState}
+use Rattle.scx_workloads.specs.Reading.{workload_of}
+use Rattle.scx_driver.specs.Runs.{stepped_all, notes_of_all, AreAccepted}
+use Rattle.scx_driver.specs.Events.{workload_events}
+use Rattle.scx_trace.specs.Lines.{names_of, note_lines}
+use Rattle.scx_trace.specs.Report as reports
+use Rattle.scx_outcomes.specs.declared.refusal.Refusal.{Refusal}
+use Rattle.scx_outcomes.specs.declared.refusal.Refusal.TheVariants.{NoMemory, Policy, Workload, Callback, Init}
+
+-- the texts stand for the run of that workload from that first state on; none of its events is refused
+pub record IsRun (policy workload : List ℕ) (w : WorkloadState) (s : SimState) : Type 0 where
+  pub file : PolicyFile
+  pub machine : PolicyState
+  pub policy_read : policy_text policy ≡ Ok file
+  pub workload_read : workload_of workload ≡ Ok w
+  pub built : IsBuilt file machine
+  pub first : IsFirst machine (idle w.groups w.homes) w.cpus s
+  pub accepted : AreAccepted s (workload_events w s)
+
+-- a line for each note of its events
+abbrev pub trace_text : WorkloadState → SimState → List ℕ
+trace_text w s = note_lines (names_of w) (notes_of_all s (workload_events w s))
+
+-- how long each task has run after all events
+abbrev pub report_text : WorkloadState → SimState → List ℕ
+report_text w s = reports.report (names_of w) (reports.times (stepped_all s (workload_events w s)).state.world)
+
+-- ---- refusals: of several the first, in this order; want of memory says nothing
+
+-- the policy's text isn't a policy file
+abbrev pub IsPolicyFault : List ℕ → Refusal → Type 0
+IsPolicyFault policy (Policy path cause) = policy_text policy ≡ Err (record { path = string_bytes path; cause = cause })
+IsPolicyFault policy NoMemory = ⊤
+IsPolicyFault policy refusal = ⊥
+
+-- the workload's text isn't a workload file
+abbrev pub IsWorkloadFault : List ℕ → Refusal → Type 0
+IsWorkloadFault workload (Workload path cause) = workload_of workload ≡ Err (record { path = string_bytes path; cause = cause })
+IsWorkloadFault workload NoMemory = ⊤
+IsWorkloadFault workload refusal = ⊥
+
+-- init, or enable of a task, fails
+abbrev pub IsStartFault : PolicyState → Hierarchy → ℕ → Refusal → Type 0
+IsStartFault machine tree cpus (Init answer) = started machine tree cpus ≡ Err answer
+IsStartFault machine tree cpus NoMemory = ⊤
+IsStartFault machine tree cpus refusal = ⊥
+
+-- both files are read, and a callback is refused
+pub record HasBadCallback (policy workload : List ℕ) (b : callbacks.Callback) (fault : Fault) (slot : ℕ) : Type 0 where
+  pub file : PolicyFile
+  pub w : WorkloadState
+  pub policy_read : policy_text policy ≡ Ok file
+  pub workload_read : workload_of workload ≡ Ok w
+  pub refused : IsFirstRefused file (build.Refused b fault slot)
+
+-- the policy is built, and its machine can't begin
+pub record HasBadStart (policy workload : List ℕ) (answer : ℤ) : Type 0 where
+  pub file : PolicyFile
+  pub w : WorkloadState
+  pub machine : PolicyState
+  pub policy_read : policy_text policy ≡ Ok file
+  pub workload_read : workload_of workload ≡ Ok w
+  pub built : IsBuilt file machine
+  pub failed : started machine (idle w.groups w.homes) w.cpus ≡ Err answer
+
+abbrev pub IsCause : List ℕ → List ℕ → Refusal → Type 0
+IsCause policy workload (Policy path cause) = IsPolicyFault policy (Policy path cause)
+IsCause policy workload (Workload path cause) = IsOk (policy_text policy) × IsWorkloadFault workload (Workload path cause)
+IsCause policy workload (Callback b fault slot) = HasBadCallback policy workload b fault slot
+IsCause policy workload NoMemory = ⊤
+IsCause policy workload (Init answer) = HasBadStart policy workload answer
+IsCause policy workload refusal = ⊥

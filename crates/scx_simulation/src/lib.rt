@@ -1,0 +1,11 @@
+//! Runs of policies: `simulate` writes the trace of the run that a policy file and a workload file stand
+//! for, and `report` what came of it. Nothing is kept of a run but its state, and all memory is taken
+//! before the first write.
+#![tactic(auto)]
+
+mod preparing;
+mod reporting;
+mod simulating;
+
+pub use reporting::report;
+pub use simulating::simulate;

@@ -1,0 +1,106 @@
+ghost use Rattle.std.specs.Prelude.{◌≡◌, false, Ok, IfOk, IfErr};
+ghost use Rattle.scx_weights.specs.Hierarchy.{idle};
+ghost use Rattle.scx_machine.specs.Start.{is_bad_shape};
+ghost use Rattle.scx_sched.specs.Sim.{IsFirst};
+ghost use Rattle.scx_policies.specs.Reading.{policy_text};
+ghost use Rattle.scx_workloads.specs.Reading.{workload_of};
+ghost use Rattle.scx_driver.specs.Driver.{remaining};
+ghost use Rattle.scx_driver.specs.Events.{workload_events};
+ghost use Rattle.scx_driver.specs.Runs.{AreAccepted};
+ghost use Rattle.scx_outcomes.specs.declared.refusal.Refusal.TheVariants.{NoMemory};
+ghost use Rattle.scx_simulation.specs.Runs.{IsRun, IsCause, IsPolicyFault, IsWorkloadFault, IsStartFault};
+
+use scx_driver::Driver;
+use scx_outcomes::Refusal;
+use scx_policies::{PolicyText, build, read_policy};
+use scx_sched::{NewError, Policy, Sim};
+use scx_weights::{Tree, TreeError};
+use scx_workloads::{Workload, read_workload};
+use std::alloc::Global;
+
+/// A run that is about to begin.
+#[derive(Drop)]
+pub(crate) struct Run {
+    pub(crate) workload: Workload,
+    pub(crate) driver: Driver,
+    pub(crate) sim: Sim,
+}
+
+/// The run that the texts of a policy file and of a workload file stand for.
+pub(crate) fn prepare(alloc: Global, policy: &str, workload: &str) -> Result<Run, Refusal>
+    ensures run { IfOk result (λ run. IsRun policy.now workload.now run.workload run.sim) }
+    ensures events { IfOk result (λ run. remaining run.driver run.sim ≡ workload_events run.workload run.sim) }
+    ensures refused { IfErr result (IsCause policy.now workload.now) }
+{
+    let text = policy_in(alloc, policy)?;
+    let workload = workload_in(alloc, workload)?;
+    let policy = build(alloc, text)?;
+    begin(alloc, policy, workload)
+}
+
+/// The run of a workload under a policy. All of its memory is taken here.
+#[tactic(auto, using(crate::proofs::Shapes::shape_is_right, scx_driver::proofs::Law::none_is_refused))]
+fn begin(alloc: Global, policy: Policy, workload: Workload) -> Result<Run, Refusal>
+    ensures workload { IfOk result (λ run. run.workload ≡ workload) }
+    ensures first { IfOk result (λ run. IsFirst policy (idle workload.groups workload.homes) workload.cpus run.sim) }
+    ensures events { IfOk result (λ run. remaining run.driver run.sim ≡ workload_events workload run.sim) }
+    ensures accepted { IfOk result (λ run. AreAccepted run.sim (workload_events workload run.sim)) }
+    ensures refused { IfErr result (IsStartFault policy (idle workload.groups workload.homes) workload.cpus) }
+{
+    workload.is_whole();
+    let tree = tree_of(alloc, &workload)?;
+    let driver = Driver::new(alloc, &workload)?;
+    let sim = machine(alloc, policy, tree, workload.cpus())?;
+    Ok(Run {
+        workload,
+        driver,
+        sim,
+    })
+}
+
+fn policy_in(alloc: Global, text: &str) -> Result<PolicyText, Refusal>
+    ensures read { IfOk result (λ policy. policy_text text.now ≡ Ok policy) }
+    ensures refused { IfErr result (IsPolicyFault text.now) }
+{
+    match read_policy(alloc, text) {
+        Ok(policy) => Ok(policy),
+        Err(error) => Err(Refusal::of_policy(error)),
+    }
+}
+
+fn workload_in(alloc: Global, text: &str) -> Result<Workload, Refusal>
+    ensures read { IfOk result (λ workload. workload_of text.now ≡ Ok workload) }
+    ensures refused { IfErr result (IsWorkloadFault text.now) }
+{
+    match read_workload(alloc, text) {
+        Ok(workload) => Ok(workload),
+        Err(error) => Err(Refusal::of_workload(error)),
+    }
+}
+
+/// The groups and tasks of a workload, with no task active.
+fn tree_of(alloc: Global, workload: &Workload) -> Result<Tree, Refusal>
+    ensures tree { IfOk result (λ tree. tree ≡ idle workload.now.groups workload.now.homes) }
+    ensures refused { IfErr result (λ refusal. refusal ≡ NoMemory) }
+{
+    workload.is_whole();
+    match Tree::new(alloc, workload.groups(), workload.tasks()) {
+        Ok(tree) => Ok(tree),
+        Err(TreeError::OutOfMemory) => Err(Refusal::NoMemory),
+        Err(_) => unreachable!(),
+    }
+}
+
+/// The machine of a policy, before the first event.
+fn machine(alloc: Global, policy: Policy, tree: Tree, cpus: u32) -> Result<Sim, Refusal>
+    requires { is_bad_shape tree cpus ≡ false }
+    ensures first { IfOk result (IsFirst policy tree cpus) }
+    ensures refused { IfErr result (IsStartFault policy tree cpus) }
+{
+    match Sim::new(alloc, policy, tree, cpus) {
+        Ok(sim) => Ok(sim),
+        Err(NewError::InitFailed(answer)) => Err(Refusal::Init(answer)),
+        Err(NewError::OutOfMemory) => Err(Refusal::NoMemory),
+        Err(NewError::BadShape) => unreachable!(),
+    }
+}

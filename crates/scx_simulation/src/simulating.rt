@@ -1,0 +1,64 @@
+ghost use Rattle.std.specs.Prelude.{◌≡◌, true, Err, IfOk, OnOk, OnErr};
+ghost use Rattle.std.specs.Io.KnownBytes.{Appends};
+ghost use Rattle.scx_sched.specs.Sim.{SimState};
+ghost use Rattle.scx_workloads.specs.Workload.{WorkloadState};
+ghost use Rattle.scx_driver.specs.Driver.{remaining};
+ghost use Rattle.scx_driver.specs.Events.{workload_events};
+ghost use Rattle.scx_output.specs.Output.{HasFailed, AppendsBeginning};
+ghost use Rattle.scx_outcomes.specs.Outcome.{IfRefused, IsRefused};
+ghost use Rattle.scx_simulation.specs.Runs.{IsRun, IsCause, trace_text};
+
+use crate::preparing::{Run, prepare};
+use scx_outcomes::Fault;
+use scx_output::{Failed, Out};
+use scx_trace::write_run;
+use std::alloc::Global;
+
+/// Writes the trace of the run that the texts of a policy file and of a workload file stand for. The
+/// answer is true.
+///
+/// # Errors
+///
+/// The texts are refused, and then nothing is written, or writing the trace fails.
+pub fn simulate<W: Out>(
+    alloc: Global,
+    policy: &str,
+    workload: &str,
+    out: &mut W,
+) -> Result<bool, Fault>
+    ensures done { IfOk result (λ answer. (answer ≡ true)
+        × (w : WorkloadState) × (s : SimState) × IsRun policy.now workload.now w s
+        × Appends (W.contents out.old) (W.contents out.new) (trace_text w s)) }
+    ensures unfailed { OnOk result (W.failure_count out.new ≡ W.failure_count out.old) }
+
+    // A refusal has its cause in the texts, and comes before any byte is written.
+    ensures refused { IfRefused result (IsCause policy.now workload.now) }
+    ensures quiet { IsRefused result → out.new ≡ out.old }
+
+    // The trace is cut off where writing fails.
+    ensures cut { result ≡ Err Fault.WriteFailed
+        → (w : WorkloadState) × (s : SimState) × IsRun policy.now workload.now w s
+        × AppendsBeginning (W.contents out.old) (W.contents out.new) (trace_text w s) }
+    ensures counted { result ≡ Err Fault.WriteFailed
+        → HasFailed (W.failure_count out.old) (W.failure_count out.new) }
+{
+    let run = prepare(alloc, policy, workload)?;
+    write_trace(run, out)?;
+    Ok(true)
+}
+
+/// Writes a line for each note of the run.
+fn write_trace<W: Out>(run: Run, out: &mut W) -> Result<(), Failed>
+    requires { remaining run.driver run.sim ≡ workload_events run.workload run.sim }
+    ensures ok { OnOk result (Appends (W.contents out.old) (W.contents out.new) (trace_text run.workload run.sim)) }
+    ensures ok_failures { OnOk result (W.failure_count out.new ≡ W.failure_count out.old) }
+    ensures err { OnErr result (AppendsBeginning (W.contents out.old) (W.contents out.new) (trace_text run.workload run.sim)) }
+    ensures err_failures { OnErr result (HasFailed (W.failure_count out.old) (W.failure_count out.new)) }
+{
+    let Run {
+        workload,
+        mut driver,
+        mut sim,
+    } = run;
+    write_run(&mut sim, &mut driver, &workload, out)
+}

@@ -1,0 +1,134 @@
+//! Files that are refused, each with its line.
+
+use crate::memory::Memory;
+use crate::texts::{SHORT_SLICES, TWO_TASKS, UNSAFE};
+use scx_outcomes::{REFUSED, finish};
+use scx_output::Counted;
+use scx_simulation::{report, simulate};
+use std::process::Abort;
+
+/// Both commands refuse the files, and then the line is all that is written.
+fn expect<R: AllocGlobal + Abort>(rt: &R, policy: &str, workload: &str, line: &str) {
+    let mut memory = Memory::new(rt.alloc());
+    let mut out = Counted::new(&mut memory);
+    let refused = simulate(rt.alloc(), policy, workload, &mut out);
+    assert_eq!(rt; finish(refused, &mut out), REFUSED);
+    assert_eq!(rt; memory.bytes.as_slice(), line.as_bytes());
+    let mut memory = Memory::new(rt.alloc());
+    let mut out = Counted::new(&mut memory);
+    let refused = report(rt.alloc(), policy, workload, &mut out);
+    assert_eq!(rt; finish(refused, &mut out), REFUSED);
+    assert_eq!(rt; memory.bytes.as_slice(), line.as_bytes());
+}
+
+fn expect_policy<R: AllocGlobal + Abort>(rt: &R, policy: &str, line: &str) {
+    expect(rt, policy, TWO_TASKS, line);
+}
+
+fn expect_workload<R: AllocGlobal + Abort>(rt: &R, workload: &str, line: &str) {
+    expect(rt, SHORT_SLICES, workload, line);
+}
+
+#[test]
+fn policies(rt: HostRuntime) {
+    expect_policy(&rt, "a =", "refused: policy file: not TOML\n");
+    expect_policy(&rt, "cpus = 1", "refused: policy cpus: unknown\n");
+    expect_policy(
+        &rt,
+        "timeout_ms = 0",
+        "refused: policy timeout_ms: out of range\n",
+    );
+    expect_policy(
+        &rt,
+        "map = [{ entries = 1 }]",
+        "refused: policy map.0.value_size: missing\n",
+    );
+    expect_policy(
+        &rt,
+        "code.enqueue = \"goto x\\nexit\"",
+        "refused: policy code.enqueue: asm 2 UnknownLabel at 1\n",
+    );
+    expect_policy(
+        &rt,
+        "slots.enqueue = '95 00'",
+        "refused: policy slots.enqueue: decode 3 NotWholeSlots at 0\n",
+    );
+    expect_policy(
+        &rt,
+        "code.init = 'exit'\nslots.init = ''",
+        "refused: policy slots.init: twice\n",
+    );
+}
+
+#[test]
+fn workloads(rt: HostRuntime) {
+    expect_workload(&rt, "cpus", "refused: workload file: not TOML\n");
+    expect_workload(
+        &rt,
+        "cpus = 1\nms = 0",
+        "refused: workload ms: out of range\n",
+    );
+    expect_workload(
+        &rt,
+        "cpus = 1\nms = 0\ncpu = 1",
+        "refused: workload cpu: unknown\n",
+    );
+    expect_workload(
+        &rt,
+        "cpus = 1\nms = 1\ngroup = [{ name = 'g' }]\ntask = [{ name = 'a', group = 'z' }]",
+        "refused: workload task.0.group: no such group\n",
+    );
+    expect_workload(&rt, "ms = 1", "refused: workload cpus: missing\n");
+    expect_workload(&rt, "", "refused: workload cpus: missing\n");
+}
+
+#[test]
+fn callbacks(rt: HostRuntime) {
+    expect_policy(
+        &rt,
+        "code.enqueue = \"r0 = r5\\nexit\"",
+        "refused: verify enqueue 5 UnusableRegister at 0\n",
+    );
+    expect_policy(
+        &rt,
+        "code.init = 'exit'",
+        "refused: verify init 18 BadReturn at 0\n",
+    );
+}
+
+#[test]
+fn starts(rt: HostRuntime) {
+    expect_policy(&rt, "code.init = \"r0 = 7\\nexit\"", "refused: init 7\n");
+    expect_policy(&rt, "code.init = \"r0 = -1\\nexit\"", "refused: init -1\n");
+    // The queue is created twice.
+    expect_policy(
+        &rt,
+        "code.init = \"r1 = 0\\ncall 1001\\nr1 = 0\\ncall 1001\\nr0 = 0\\nexit\"",
+        "refused: init -22\n",
+    );
+}
+
+/// Of several faults the first one is named: the policy's text, the workload's text, the callbacks in
+/// their order, and then init.
+#[test]
+fn several_at_once(rt: HostRuntime) {
+    expect(
+        &rt,
+        "timeout_ms = 0\ncode.init = \"r0 = r5\\nexit\"",
+        "cpus = 65",
+        "refused: policy timeout_ms: out of range\n",
+    );
+    expect(&rt, "a =", "b =", "refused: policy file: not TOML\n");
+    expect(
+        &rt,
+        UNSAFE,
+        "cpus = 65",
+        "refused: workload cpus: out of range\n",
+    );
+    expect(
+        &rt,
+        UNSAFE,
+        TWO_TASKS,
+        "refused: verify enqueue 5 UnusableRegister at 0\n",
+    );
+}

@@ -1,0 +1,28 @@
+-- The lines of verdicts, one for each callback that is there.
+use Rattle.std.specs.Prelude.{ℕ, List, [], ◌++◌, codes, decimal, Option, Some, None}
+use Rattle.scx_semantics.specs.declared.callbacks.Callback.{Callback}
+use Rattle.scx_semantics.specs.declared.callbacks.Callback.TheVariants as callback
+use Rattle.scx_verify.specs.Faults.{fault_number, fault_name}
+use Rattle.scx_policies.specs.Policies.{callback_name}
+use Rattle.scx_outcomes.specs.Lines.{fault_text}
+use Rattle.scx_verdicts.specs.declared.verdict.Verdict.{Verdict}
+use Rattle.scx_verdicts.specs.declared.verdict.Verdict.TheVariants.{Accepted, Refused}
+use Rattle.scx_verdicts.specs.declared.verdict.Verdicts.{Verdicts}
+
+abbrev pub verdict_line : Callback → Verdict → List ℕ
+verdict_line b (Accepted count) = callback_name b ++ codes " ok " ++ decimal count ++ codes "\n"
+verdict_line b (Refused fault slot) = callback_name b ++ codes " refused " ++ fault_text (fault_number fault) (fault_name fault) slot ++ codes "\n"
+
+abbrev pub line_of : Callback → Option Verdict → List ℕ
+line_of b None = []
+line_of b (Some verdict) = verdict_line b verdict
+
+-- in the order of callbacks
+abbrev pub verdict_lines : Verdicts → List ℕ
+verdict_lines v =
+    line_of callback.Init v.init
+    ++ line_of callback.Enable v.enable
+    ++ line_of callback.Enqueue v.enqueue
+    ++ line_of callback.Dispatch v.dispatch
+    ++ line_of callback.Running v.running
+    ++ line_of callback.Stopping v.stopping

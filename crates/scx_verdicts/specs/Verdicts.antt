@@ -1,0 +1,50 @@
+-- Verdicts on the programs of a policy: each is accepted, and then has a typing, or refused for its first
+-- fault.
+use Rattle.std.specs.Prelude.{◌≡◌, ◌≢◌, ℕ, Bool, true, false, ◌&&◌, ⊤, List, Option, Some, None}
+use Rattle.scx_semantics.specs.declared.callbacks.Callback.{Callback}
+use Rattle.scx_semantics.specs.declared.callbacks.Callback.TheVariants as callback
+use Rattle.scx_semantics.specs.Code.{Code, instruction_count}
+use Rattle.scx_maps.specs.declared.shape.Shape.{Shape}
+use Rattle.scx_verify.specs.declared.faults.Fault.TheVariants.{NoMemory}
+use Rattle.scx_verify.specs.Typing.{IsTyped, context}
+use Rattle.scx_verify.specs.Faults.{IsRefusal}
+use Rattle.scx_policies.specs.Policies.{PolicyFile, program_of}
+use Rattle.scx_verdicts.specs.declared.verdict.Verdict.{Verdict}
+use Rattle.scx_verdicts.specs.declared.verdict.Verdict.TheVariants.{Accepted, Refused}
+use Rattle.scx_verdicts.specs.declared.verdict.Verdicts.{Verdicts}
+
+-- the verdict on a program as that callback, with maps of these shapes
+abbrev pub IsVerdict : List Shape → Callback → Code → Verdict → Type 0
+IsVerdict shapes b code (Accepted count) = IsTyped (context b shapes) code × (count ≡ instruction_count code)
+IsVerdict shapes b code (Refused fault slot) =
+    IsRefusal (context b shapes) code (record { fault = fault; slot = slot }) × (fault ≢ NoMemory)
+
+-- where there is a program, and only there, there is a verdict on it
+abbrev pub IsVerdictOf : List Shape → Callback → Option Code → Option Verdict → Type 0
+IsVerdictOf shapes b None None = ⊤
+IsVerdictOf shapes b None (Some verdict) = ⊥
+IsVerdictOf shapes b (Some code) None = ⊥
+IsVerdictOf shapes b (Some code) (Some verdict) = IsVerdict shapes b code verdict
+
+abbrev pub verdict_of : Verdicts → Callback → Option Verdict
+verdict_of v callback.Init = v.init
+verdict_of v callback.Enable = v.enable
+verdict_of v callback.Enqueue = v.enqueue
+verdict_of v callback.Dispatch = v.dispatch
+verdict_of v callback.Running = v.running
+verdict_of v callback.Stopping = v.stopping
+verdict_of v callback.Plain = None
+verdict_of v callback.SelectCpu = None
+
+-- the verdicts on all programs of a policy
+abbrev pub HasVerdicts : PolicyFile → Verdicts → Type 0
+HasVerdicts policy v = (b : Callback) → IsVerdictOf policy.shapes b (program_of policy b) (verdict_of v b)
+
+abbrev pub is_accepted : Option Verdict → Bool
+is_accepted None = true
+is_accepted (Some (Accepted count)) = true
+is_accepted (Some (Refused fault slot)) = false
+
+-- none is refused
+abbrev pub are_accepted : Verdicts → Bool
+are_accepted v = is_accepted v.init && is_accepted v.enable && is_accepted v.enqueue && is_accepted v.dispatch && is_accepted v.running && is_accepted v.stopping

@@ -1,0 +1,9 @@
+//! `check`, which says of each callback of a policy file whether its program is safe.
+#![tactic(auto)]
+
+mod checking;
+mod lines;
+mod verdict;
+
+pub use checking::check;
+pub use verdict::{Verdict, Verdicts};

@@ -1,0 +1,63 @@
+ghost use Rattle.std.specs.Prelude.{◌≡◌, ◌+◌, ◌≤◌, ◌++◌, length, codes, decimal};
+ghost use Rattle.arrayvec.specs.ArrayString.{array_string_len};
+ghost use Rattle.scx_policies.specs.Policies.{callback_name as name_of};
+ghost use Rattle.scx_verdicts.specs.Lines.{verdict_line, line_of, verdict_lines};
+
+use crate::verdict::{Verdict, Verdicts};
+use arrayvec::ArrayString;
+use itoa::Buffer;
+use scx_isa::Callback;
+use scx_outcomes::{Line, callback_line};
+use scx_policies::callback_name;
+
+/// How many bytes the lines of all callbacks take at most, and some more.
+const LINES_CAPACITY: usize = 1024;
+
+/// The lines of a policy's callbacks. They take no memory from the allocator.
+pub(crate) type Lines = ArrayString<LINES_CAPACITY>;
+
+/// The lines of all verdicts, in the order of callbacks.
+pub(crate) fn lines_of(verdicts: Verdicts) -> Lines
+    ensures { result.bytes ≡ verdict_lines verdicts }
+{
+    let mut lines = Lines::new();
+    push_line(&mut lines, Callback::Init, verdicts.init);
+    push_line(&mut lines, Callback::Enable, verdicts.enable);
+    push_line(&mut lines, Callback::Enqueue, verdicts.enqueue);
+    push_line(&mut lines, Callback::Dispatch, verdicts.dispatch);
+    push_line(&mut lines, Callback::Running, verdicts.running);
+    push_line(&mut lines, Callback::Stopping, verdicts.stopping);
+    lines
+}
+
+/// Appends the line of a callback, if it has a verdict.
+fn push_line(lines: &mut Lines, callback: Callback, verdict: Option<Verdict>)
+    requires { array_string_len lines.old ≤ 896 }
+    ensures bytes { lines.new.bytes ≡ lines.old.bytes ++ line_of callback verdict }
+    ensures room { array_string_len lines.new ≤ array_string_len lines.old + 128 }
+{
+    if let Some(verdict) = verdict {
+        lines.push_str(verdict_line(callback, verdict).as_str());
+    }
+}
+
+fn verdict_line(callback: Callback, verdict: Verdict) -> Line
+    ensures { result.bytes ≡ verdict_line callback verdict }
+{
+    match verdict {
+        Verdict::Accepted(instructions) => accepted_line(callback, instructions),
+        Verdict::Refused(fault, slot) => callback_line("", callback, " refused ", fault, slot),
+    }
+}
+
+fn accepted_line(callback: Callback, instructions: usize) -> Line
+    ensures { result.bytes ≡ name_of callback ++ codes " ok " ++ decimal instructions ++ codes "\n" }
+{
+    let mut digits = Buffer::new();
+    let mut line = Line::new();
+    line.push_str(callback_name(callback));
+    line.push_str(" ok ");
+    line.push_str(digits.format(instructions));
+    line.push_str("\n");
+    line
+}

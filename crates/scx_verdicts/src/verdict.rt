@@ -1,0 +1,122 @@
+ghost use Rattle.std.specs.Prelude.{◌≡◌, IfOk, IfErr};
+ghost use Rattle.scx_outcomes.specs.declared.refusal.Refusal.TheVariants.{NoMemory};
+ghost use Rattle.scx_verdicts.specs.Verdicts.{IsVerdictOf, HasVerdicts, is_accepted, are_accepted};
+
+use scx_isa::{Callback, Program};
+use scx_maps::MapDefs;
+use scx_outcomes::Refusal;
+use scx_policies::PolicyText;
+use scx_verify::{Fault, verify};
+use std::alloc::Global;
+
+/// What the verifier says of a program.
+#[derive(Clone, Copy)]
+pub enum Verdict {
+    /// It is safe, and has so many instructions.
+    Accepted(usize),
+    /// It has that fault, at that slot.
+    Refused(Fault, usize),
+}
+
+/// The verdicts on the callbacks of a policy: none where there is no program.
+#[derive(Clone, Copy)]
+pub struct Verdicts {
+    pub init: Option<Verdict>,
+    pub enable: Option<Verdict>,
+    pub enqueue: Option<Verdict>,
+    pub dispatch: Option<Verdict>,
+    pub running: Option<Verdict>,
+    pub stopping: Option<Verdict>,
+}
+
+impl Verdicts {
+    /// Whether no program is refused.
+    pub(crate) fn are_accepted(self) -> bool
+        ensures { result ≡ are_accepted self }
+    {
+        is_accepted(self.init)
+            && is_accepted(self.enable)
+            && is_accepted(self.enqueue)
+            && is_accepted(self.dispatch)
+            && is_accepted(self.running)
+            && is_accepted(self.stopping)
+    }
+}
+
+fn is_accepted(verdict: Option<Verdict>) -> bool
+    ensures { result ≡ is_accepted verdict }
+{
+    match verdict {
+        None => true,
+        Some(Verdict::Accepted(_)) => true,
+        Some(Verdict::Refused(_, _)) => false,
+    }
+}
+
+/// Verifies the programs of a policy, in the order of its callbacks.
+///
+/// # Errors
+///
+/// Memory ran out.
+pub(crate) fn verdicts_of(alloc: Global, policy: PolicyText) -> Result<Verdicts, Refusal>
+    ensures verdicts { IfOk result (HasVerdicts policy) }
+    ensures memory { IfErr result (λ refusal. refusal ≡ NoMemory) }
+{
+    let mut policy = policy;
+    let defs = *policy.defs();
+    Ok(Verdicts {
+        init: verdict_on(alloc, policy.take(Callback::Init), Callback::Init, &defs)?,
+        enable: verdict_on(
+            alloc,
+            policy.take(Callback::Enable),
+            Callback::Enable,
+            &defs,
+        )?,
+        enqueue: verdict_on(
+            alloc,
+            policy.take(Callback::Enqueue),
+            Callback::Enqueue,
+            &defs,
+        )?,
+        dispatch: verdict_on(
+            alloc,
+            policy.take(Callback::Dispatch),
+            Callback::Dispatch,
+            &defs,
+        )?,
+        running: verdict_on(
+            alloc,
+            policy.take(Callback::Running),
+            Callback::Running,
+            &defs,
+        )?,
+        stopping: verdict_on(
+            alloc,
+            policy.take(Callback::Stopping),
+            Callback::Stopping,
+            &defs,
+        )?,
+    })
+}
+
+/// The verdict on the program of a callback, if there is one.
+fn verdict_on(
+    alloc: Global,
+    program: Option<Program>,
+    callback: Callback,
+    defs: &MapDefs,
+) -> Result<Option<Verdict>, Refusal>
+    ensures verdict { IfOk result (IsVerdictOf defs.now callback program) }
+    ensures memory { IfErr result (λ refusal. refusal ≡ NoMemory) }
+{
+    let Some(program) = program else {
+        return Ok(None);
+    };
+    match verify(alloc, program, callback, defs) {
+        Ok(verified) => Ok(Some(Verdict::Accepted(verified.instructions()))),
+        Err(error) => match error.fault {
+            Fault::NoMemory => Err(Refusal::NoMemory),
+            fault => Ok(Some(Verdict::Refused(fault, error.slot))),
+        },
+    }
+}
