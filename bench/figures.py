@@ -203,27 +203,33 @@ def measure_run(binaries, path):
     show_run("callback", "run", "", binaries, words, "-", CALLBACKS)
 
 
-def show_count(work, name, slots, counts):
-    ours, plain = counts
-    print("%-8s %-10s %6s %12.1f %12.1f %8.2f" % (work, name, slots, ours, plain, ours / plain), flush=True)
+def show_count(work, name, slots, ours, *others):
+    """Beside ours what plain Rust takes, one figure or more, and the ratios."""
+    figures = "".join(" %12.1f" % count for count in (ours, *others))
+    ratios = "".join(" %8.2f" % (ours / count) for count in others)
+    print("%-8s %-10s %6s%s%s" % (work, name, slots, figures, ratios), flush=True)
 
 
 def measure_counts(binaries, path):
-    print("%-8s %-10s %6s %12s %12s %8s" % ("work", "program", "slots", "scxsim", "plain", "ratio"))
+    """A plain verifier alone, and one that keeps operations as ours does."""
+    print("%-8s %-10s %6s %12s %12s ..." % ("work", "program", "slots", "scxsim", "plain"))
     for work in UNITS:
         for name, body in PROGRAMS.items():
             spelled, text = program(SIZES[-1], body)
             with open(path, "wb") as file:
                 file.write(text if work == "asm" else spelled)
-            counts = [instructions(binary, work, path, 10) / SIZES[-1] for binary in binaries]
-            show_count(work, name, SIZES[-1], counts)
+            show_count(work, name, SIZES[-1], *(instructions(binary, work, path, 10) / SIZES[-1] for binary in binaries))
+    ours, plain = binaries
     for name, body in VERIFIED.items():
         with open(path, "wb") as file:
             file.write(program(MOST, body)[0])
-        both = [[instructions(binary, work, path, 10) for work in ("verify", "decode")] for binary in binaries]
-        show_count("verify", name, MOST, [(all_of_it - before) / MOST for all_of_it, before in both])
+        counts = []
+        for binary, work in ((ours, "verify"), (plain, "verify"), (plain, "prepare")):
+            whole, before = (instructions(binary, word, path, 10) for word in (work, "decode"))
+            counts.append((whole - before) / MOST)
+        show_count("verify", name, MOST, *counts)
     counts = [instructions(binary, "verify_callbacks", "-") / CALLBACKS for binary in binaries]
-    show_count("callback", "verify", "", counts)
+    show_count("callback", "verify", "", *counts)
 
 
 def measure_machines(binaries):
