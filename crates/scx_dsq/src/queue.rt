@@ -97,12 +97,7 @@ pub fn leave<L: Ledger>(
 /// Takes a task out of the heap of a queue. A function of its own, since what it does would slow a
 /// FIFO queue down that it were compiled into.
 #[inline(never)]
-fn leave_heap<L: Ledger>(
-    spots: &mut [usize],
-    queue: &mut Queue,
-    task: u32,
-    steps: &mut Steps<L>,
-)
+fn leave_heap<L: Ledger>(spots: &mut [usize], queue: &mut Queue, task: u32, steps: &mut Steps<L>)
     requires { CanTakeOut spots.old queue.old task }
     ensures taken { TakenOut spots.old queue.old task spots.new queue.new }
     ensures cost { IsCheap queue.old.heap.items queue.new.heap.items (steps.new - steps.old) }

@@ -4,7 +4,7 @@ use Rattle.scx_dsq.specs.Kept.{state_of}
 use Rattle.scx_dsq.specs.Facts.{front_is_known}
 use Rattle.scx_dsq.proofs.Fronts.{NobodyIn, no_front}
 use Rattle.scx_dsq.proofs.Forms.{front_answer}
-use Rattle.scx_dsq.proofs.QueueReads.{front_at, stands_at, nobody_elsewhere}
+use Rattle.scx_dsq.proofs.QueueReads.{front_at, nobody_elsewhere}
 use Rattle.scx_dsq.proofs.queues.Queues.first.Goals as goal
 
 pub returns-in_default-clause-answer : goal.returns-in_default-clause-answer
