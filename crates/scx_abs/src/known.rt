@@ -58,6 +58,14 @@ impl Known {
         }
     }
 
+    /// Becomes the other.
+    pub fn copy_from(&mut self, other: &Known)
+        ensures { self.new ≡ other.now }
+    {
+        self.state = other.state;
+        self.low = other.low;
+    }
+
     /// Changes the state in place.
     pub fn change(&mut self, change: &Change)
         ensures { self.new ≡ changed self.old change.now }
