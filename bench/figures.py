@@ -21,7 +21,9 @@ plain Rust has no reader of TOML. The ratio is our time to that of plain Rust. N
 Runs are short, so their figures are instructions of the processor, counted by callgrind: for each
 instruction of the program that is done, or for each callback. Beside ours stand two interpreters in plain
 Rust, one with a tag on each value, which tests all that could go wrong, and one over programs that were
-decoded once and that tests nothing. Needs valgrind too.
+decoded once and that tests nothing. The work `counts` gives the same for each slot that is decoded,
+encoded, assembled, disassembled and verified, of the programs that are verified, and for each callback
+that is verified. Needs valgrind too.
 
   bench/figures.py [--only WORK] [PATH_OF_scx_bench]     (default: all work; builds scx_bench)
 """
@@ -168,14 +170,14 @@ def measure_queues(binaries):
             show("queues", work.split("_")[1], tasks, CALLS * times, taken)
 
 
-def instructions(binary, work, path):
+def instructions(binary, work, path, more=100):
     """How many instructions of the processor one more piece of the work takes."""
     counts = []
-    for times in (1, 101):
+    for times in (1, 1 + more):
         command = ["valgrind", "--tool=callgrind", "--callgrind-out-file=/dev/null", binary, work, path, str(times)]
         run = subprocess.run(command, capture_output=True, text=True, check=True)
         counts.append(int(re.search(r"Collected : (\d+)", run.stderr)[1]))
-    return (counts[1] - counts[0]) / 100
+    return (counts[1] - counts[0]) / more
 
 
 def show_run(work, name, slots, binaries, words, path, units):
@@ -200,6 +202,35 @@ def measure_run(binaries, path):
     show_run("run", "map", "", binaries, words, "-", COUNTING_STEPS)
     words = ("run_callbacks", "run_callbacks", "predecoded_callbacks")
     show_run("callback", "run", "", binaries, words, "-", CALLBACKS)
+
+
+def show_count(work, name, ours, *others):
+    """Beside ours what plain Rust takes, one figure or more, and the ratios."""
+    figures = "".join(" %9.1f" % count for count in (ours, *others))
+    ratios = "".join(" %7.2f" % (ours / count) for count in others)
+    print("%-8s %-8s%s%s" % (work, name, figures, ratios), flush=True)
+
+
+def measure_counts(binaries, path):
+    """For each slot, and for each callback that is verified. Beside our verifier stand a plain one, and one
+    that keeps operations as ours does, all without what decoding takes."""
+    ours, plain = binaries
+    print("%-8s %-8s %9s %9s %7s" % ("work", "program", "scxsim", "plain", "ratio"))
+    for work in UNITS:
+        for name, body in VERIFIED.items():
+            spelled, text = program(MOST, body)
+            with open(path, "wb") as file:
+                file.write(text if work == "asm" else spelled)
+            show_count(work, name, *(instructions(binary, work, path, 10) / MOST for binary in binaries))
+    for name, body in VERIFIED.items():
+        with open(path, "wb") as file:
+            file.write(program(MOST, body)[0])
+        counts = []
+        for binary, work in ((ours, "verify"), (plain, "verify"), (plain, "prepare")):
+            whole, before = (instructions(binary, word, path, 10) for word in (work, "decode"))
+            counts.append((whole - before) / MOST)
+        show_count("verify", name, *counts)
+    show_count("callback", "verify", *(instructions(binary, "verify_callbacks", "-") / CALLBACKS for binary in binaries))
 
 
 def measure_machines(binaries):
@@ -271,7 +302,7 @@ def main():
         plain, path = os.path.join(folder, "plain"), os.path.join(folder, "program")
         source = os.path.join(TOP, "bench", "plain.rs")
         subprocess.run(["rustc", "-O", "--edition", "2021", "-o", plain, source], check=True)
-        if only != "run":
+        if only not in ("run", "counts"):
             print("%-8s %-14s %6s %15s %15s %7s" % ("work", "program", "size", "scxsim a second", "plain a second", "ratio"))
         for work in UNITS:
             if only in (None, work):
@@ -293,6 +324,8 @@ def main():
             measure_traces([ours, plain], path)
         if only in (None, "files"):
             measure_files(ours, path)
+        if only in (None, "counts"):
+            measure_counts([ours, plain], path)
         if only in (None, "run"):
             measure_run([ours, plain], path)
 

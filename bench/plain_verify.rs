@@ -25,7 +25,7 @@ enum Cell {
 }
 
 #[derive(Clone, Copy)]
-struct State {
+pub struct State {
     registers: [Kind; 11],
     cells: [Cell; 64],
     /// No cell below this one was ever written.
@@ -120,6 +120,11 @@ impl State {
                 *a = join_cell(*a, *b);
             }
         }
+    }
+
+    /// The memory that an address means, if it means any.
+    pub fn area(&self, base: u8, offset: i16, size: u8, sizes: &[u16]) -> Option<Area> {
+        place(self.registers[usize::from(base)], offset, size, sizes).ok()
     }
 
     fn usable(&self, register: u8) -> Result<Kind, Why> {
@@ -380,27 +385,13 @@ pub fn verify(code: &[Option<Insn>], callback: Callback, sizes: &[u16]) -> Resul
     walk(code, callback, sizes, |_, _, _| ())
 }
 
-/// Which memory the access at each slot takes, where there is one that control comes to.
-pub fn areas(code: &[Option<Insn>], callback: Callback, sizes: &[u16]) -> Result<Vec<Option<Area>>, (Why, usize)> {
-    let mut areas = vec![None; code.len()];
-    walk(code, callback, sizes, |slot, insn, state| {
-        let kind = |register: u8| state.registers[usize::from(register)];
-        areas[slot] = match insn {
-            Load { size, base, offset, .. } | Store { size, base, offset, .. } => place(kind(base), offset, size, sizes).ok(),
-            Call(1) => place(kind(2), 0, 4, sizes).ok(),
-            _ => None,
-        };
-    })?;
-    Ok(areas)
-}
-
-/// Goes over the slots, and shows each instruction that control comes to with the state before it.
+/// Goes over the slots, and shows each instruction with the state before it, if control comes there.
 #[inline(always)]
-fn walk(
+pub fn walk(
     code: &[Option<Insn>],
     callback: Callback,
     sizes: &[u16],
-    mut show: impl FnMut(usize, Insn, &State),
+    mut show: impl FnMut(usize, Insn, Option<&State>),
 ) -> Result<(), (Why, usize)> {
     let context = Context { callback, sizes };
     let mut ahead = Ahead::new(code.len());
@@ -410,10 +401,13 @@ fn walk(
         match ahead.take(slot) {
             Some(sent) if live => now.join(sent),
             Some(sent) => (now, live) = (*sent, true),
-            None if !live => continue,
+            None if !live => {
+                show(slot, insn, None);
+                continue;
+            }
             None => {}
         }
-        show(slot, insn, &now);
+        show(slot, insn, Some(&now));
         match now.pass(insn, context).map_err(|why| (why, slot))? {
             Ways::End => live = false,
             Ways::On => {}

@@ -1,6 +1,7 @@
 mod Lists
 pub mod Orders
 mod Joins
+mod Blanks
 pub mod Proper
 mod Bytes
 mod Sets

@@ -1,14 +1,17 @@
 -- What an instruction changes of the state before it, on each way that control goes on: little, so that
 -- one state can be kept and changed in place.
-use Rattle.std.specs.Prelude.{Option, Some, None, Result, Ok, Err}
+use Rattle.std.specs.Prelude.{ℕ, ◌<◌, ◌≤◌, ◌≡◌, List, [], slice_index_or, Some, None, Result, Ok, Err}
 use Rattle.scx_semantics.specs.Registers.{number}
 use Rattle.scx_abs.specs.declared.faults.Why.{Why}
+use Rattle.scx_abs.specs.declared.kinds.Cell.{Cell}
+use Rattle.scx_abs.specs.declared.kinds.Cell.TheVariants.{Bytes}
 use Rattle.scx_abs.specs.declared.states.AbsState.{AbsState}
 use Rattle.scx_abs.specs.declared.changes.Change.{Change}
 use Rattle.scx_abs.specs.declared.changes.Change.TheVariants as change
 use Rattle.scx_abs.specs.declared.changes.Flow.{Flow}
 use Rattle.scx_abs.specs.declared.changes.Flow.TheVariants.{End, On, Jump, Both}
 use Rattle.scx_abs.specs.declared.rules.Next.{Next}
+use Rattle.scx_abs.specs.Cells.{no_bytes}
 use Rattle.scx_abs.specs.States.{with_kind, with_cell}
 use Rattle.scx_abs.specs.Calls.{after_call}
 use Rattle.scx_abs.specs.Checks.{flows}
@@ -30,3 +33,18 @@ next_of a (Both c d) = flows (Some (changed a c)) (Some (changed a d))
 abbrev pub flowed : AbsState → Result Flow Why → Result Next Why
 flowed a (Ok f) = Ok (next_of a f)
 flowed a (Err why) = Err why
+
+-- ---- how much of the stack is known of
+
+-- of the cells below that one nothing is known
+abbrev pub AreBlank : ℕ → List Cell → Type 0
+AreBlank low cells = (c : ℕ) → c < low → slice_index_or cells c (Bytes []) ≡ Bytes no_bytes
+
+pub record IsBlankBelow (low : ℕ) (a : AbsState) : Type 0 where
+  pub within : low ≤ 64
+  pub blank : AreBlank low a.cells
+
+-- the lowest cell that a change writes; 64 where it writes none
+abbrev pub lowest : Change → ℕ
+lowest (change.Stored c cell) = c
+lowest c = 64

@@ -1,5 +1,5 @@
 ghost use Rattle.std.specs.Prelude.{◌≡◌};
-ghost use Rattle.scx_abs.specs.Changes.{changed, next_of};
+ghost use Rattle.scx_abs.specs.Changes.{changed, next_of, lowest};
 
 use crate::kinds::{Cell, Kind};
 use crate::rules::Next;
@@ -31,12 +31,24 @@ pub enum Flow {
     Both(Change, Change),
 }
 
+impl Change {
+    /// The lowest cell that it writes; the number of cells where it writes none.
+    pub(crate) fn lowest(&self) -> usize
+        ensures { result ≡ lowest self.now }
+    {
+        match *self {
+            Change::Stored(number, _) => usize::from(number),
+            _ => CELLS,
+        }
+    }
+}
+
 impl AbsState {
     ghost use Rattle.scx_abs.specs.States.{with_cell};
     ghost use Rattle.scx_abs.specs.Calls.{after_call};
 
     /// Changes the state in place.
-    pub fn change(&mut self, change: &Change)
+    pub(crate) fn change(&mut self, change: &Change)
         ensures { self.new ≡ changed self.old change.now }
     {
         match *change {

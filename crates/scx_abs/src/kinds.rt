@@ -116,6 +116,9 @@ pub(crate) fn marked(set: [bool; CELL_BYTES], first: usize, count: usize) -> [bo
     requires { first + count ≤ CELL_BYTES }
     ensures { result ≡ marked set first count }
 {
+    if count == CELL_BYTES {
+        return [true; CELL_BYTES];
+    }
     let mut marked = set;
     for byte in first..first + count {
         marked[byte] = true;

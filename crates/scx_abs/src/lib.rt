@@ -14,6 +14,7 @@ mod changes;
 mod faults;
 mod jumps;
 mod kinds;
+mod known;
 mod laws;
 mod memory;
 mod places;
@@ -23,6 +24,7 @@ mod states;
 pub use changes::{Change, Flow};
 pub use faults::Why;
 pub use kinds::{CELL_BYTES, Cell, Kind};
+pub use known::Known;
 pub use laws::{
     calls_and_null_tests_are_sound, joins_are_least, plain_rules_are_sound, rules_are_monotone,
     rules_are_sound, states_are_proper,

@@ -4,6 +4,7 @@ ghost use Rattle.scx_abs.specs.declared.kinds.Kind.TheVariants.{Unusable};
 ghost use Rattle.scx_abs.specs.declared.kinds.Cell.TheVariants.{Bytes};
 ghost use Rattle.scx_abs.specs.Kinds.{IsLeastCover, join_kind};
 ghost use Rattle.scx_abs.specs.Cells.{join_cell};
+ghost use Rattle.scx_abs.specs.Changes.{AreBlank};
 ghost use Rattle.scx_abs.specs.States.{CoversState, IsProper, argument_kinds, start_of};
 
 use crate::kinds::{CELL_BYTES, Cell, Kind};
@@ -28,6 +29,7 @@ pub struct AbsState {
 }
 
 impl AbsState {
+    ghost use Rattle.scx_abs.specs.Changes.{IsBlankBelow};
     ghost use Rattle.scx_abs.specs.States.{kind_at, cell_at};
 
     /// The kind of a register.
@@ -45,13 +47,17 @@ impl AbsState {
         self.cells[cell]
     }
 
-    /// Joins another state in: register by register and cell by cell.
-    pub fn join_in(&mut self, other: &AbsState)
+    /// Joins another state in: register by register, and cell by cell from that one on, below which
+    /// nothing is known in both.
+    pub(crate) fn join_from(&mut self, other: &AbsState, low: usize)
+        requires first { IsBlankBelow low self.old }
+        requires second { IsBlankBelow low other.now }
         ensures least { IsLeastCover CoversState self.new self.old other.now }
         ensures proper { IsProper self.old → IsProper other.now → IsProper self.new }
+        ensures blank { IsBlankBelow low self.new }
     {
         join_registers(&mut self.registers, &other.registers);
-        join_cells(&mut self.cells, &other.cells);
+        join_cells(&mut self.cells, &other.cells, low);
     }
 }
 
@@ -93,7 +99,7 @@ pub fn join(first: &AbsState, second: &AbsState) -> AbsState
     ensures proper { IsProper first.now → IsProper second.now → IsProper result }
 {
     let mut joined = *first;
-    joined.join_in(second);
+    joined.join_from(second, 0);
     joined
 }
 
@@ -123,12 +129,14 @@ fn joined_cell(first: &[Cell; CELLS], second: &[Cell; CELLS], cell: usize) -> Ce
     first[cell].join(second[cell])
 }
 
-/// Joins others in.
-fn join_cells(cells: &mut [Cell; CELLS], others: &[Cell; CELLS])
+/// Joins others in, from that one on, below which nothing is known in both.
+fn join_cells(cells: &mut [Cell; CELLS], others: &[Cell; CELLS], low: usize)
+    requires first { AreBlank low cells.old }
+    requires second { AreBlank low others.now }
     ensures long { length cells.new ≡ CELLS }
     ensures each { (c : ℕ) → c < CELLS → slice_index_or cells.new c (Bytes []) ≡ join_cell (slice_index_or cells.old c (Bytes [])) (slice_index_or others.now c (Bytes [])) }
 {
-    for cell in 0..CELLS {
+    for cell in low..CELLS {
         cells[cell] = joined_cell(cells, others, cell);
     }
 }

@@ -9,7 +9,7 @@ ghost use Rattle.scx_asm.specs.Resolving.{find};
 use crate::faults::{AsmError, AsmFault};
 use crate::resolving::{fits, slots_of};
 use indexmap::IndexMap;
-use scx_text::{Item, item_of, tokens};
+use scx_text::{Item, Token, item_of, tokens};
 use std::alloc::{AllocError, Global};
 
 /// The most slots that a program may have, as `scx_isa` limits them.
@@ -39,12 +39,13 @@ pub(crate) fn refused<T: Drop>(fault: AsmFault, line: usize) -> Result<T, AsmErr
 }
 
 /// What the line says; `None` where it isn't of the language.
-fn read<'a>(alloc: Global, line: &'a [u8]) -> Result<Option<Item<'a>>, AllocError>
+fn read<'a>(line: &'a [u8], found: &mut Vec<Token<'a>>) -> Result<Option<Item<'a>>, AllocError>
     ensures { IfOk result (λ item. option_map line_of item ≡ read_line line.now) }
 {
-    match tokens(alloc, line)? {
-        Some(tokens) => Ok(item_of(&tokens)),
-        None => Ok(None),
+    if tokens(line, found)? {
+        Ok(item_of(found))
+    } else {
+        Ok(None)
     }
 }
 
@@ -97,14 +98,14 @@ fn push_item<'a>(layout: &mut Layout<'a>, number: usize, item: Item<'a>) -> Resu
 }
 
 fn push_line<'a>(
-    alloc: Global,
+    found: &mut Vec<Token<'a>>,
     layout: &mut Layout<'a>,
     number: usize,
     line: &'a [u8],
 ) -> Result<(), AsmError>
     ensures { Gives (λ _. plan_of layout.new) result (located number (with_text number (plan_of layout.old) line.now)) }
 {
-    match read(alloc, line)? {
+    match read(line, found)? {
         Some(item) => push_item(layout, number, item),
         None => refused(AsmFault::Syntax, number),
     }
@@ -126,9 +127,11 @@ pub(crate) fn lay_out<'a>(alloc: Global, text: &'a str) -> Result<Layout<'a>, As
         labels: IndexMap::new(alloc),
         entries: Vec::new(alloc),
     };
+    // Lent to each line.
+    let mut found = Vec::new(alloc);
     for index in 0..lines.len() {
         let line = lines[index].as_bytes();
-        match push_line(alloc, &mut layout, index + 1, line) {
+        match push_line(&mut found, &mut layout, index + 1, line) {
             Ok(()) => {}
             Err(error) => return Err(error),
         }

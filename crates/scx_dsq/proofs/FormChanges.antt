@@ -159,8 +159,8 @@ module _ (s : QueueState) (links : List Link) (q : Queue) (t : ℕ) (p : Place) 
       let h = left_threaded is form in
       by_links (threaded_without s.places q.id t p waits stamps links q.ends long h.0) h.1
 
-  pub form_taken_out : (k : ℕ) (linked : List Link) (spots stood : List ℕ) (new : Queue) → p.rank ≡ Vtime k → IsOfOneSort s.places links q → TakenOut links spots q t linked stood new → IsOfOneSort (set s.places t None) links new
-  form_taken_out k linked spots stood new is form e =
+  pub form_taken_out : (k : ℕ) (spots stood : List ℕ) (new : Queue) → p.rank ≡ Vtime k → IsOfOneSort s.places links q → TakenOut spots q t stood new → IsOfOneSort (set s.places t None) links new
+  form_taken_out k spots stood new is form e =
       let h = left_held k is form in
       let within : e.item.task < length s.places = subst (λ u. u < length s.places) (sym e.task) (waits_below s.places t p waits.0) in
       let gone = subst (λ u. IsAbsent new.heap.items u) (sym e.task) e.gone in

@@ -1,8 +1,8 @@
 -- What was read of the queues, and whether a task may go into one.
-use Rattle.std.proofs.Common.{◌≡◌, ℕ, ◌<◌, true, false, List, [], length, get_or, Option, Some, None, is_some, MatchOption, sym, ap, ◌∙◌, subst, refl}
+use Rattle.std.proofs.Common.{◌≡◌, ℕ, ◌<◌, true, false, List, [], length, get_or, Option, Some, None, is_some, MatchOption, sym, ap, ◌∙◌, subst, refl, arith}
 use Rattle.std.specs.List.{list_any}
 use Rattle.std.proofs.lemmas.Bool.{both_ways}
-use Rattle.std.proofs.lemmas.List.{get_or_default, get_or_read}
+use Rattle.std.proofs.lemmas.List.{get_or_default, get_or_read, length-map}
 use Rattle.scx_dsq.specs.declared.places.Rank.{Rank}
 use Rattle.scx_dsq.specs.declared.places.Place.{Place}
 use Rattle.scx_dsq.specs.declared.queue.Queue.{Queue}
@@ -12,10 +12,11 @@ use Rattle.scx_dsq.specs.declared.errors.QueueError.TheVariants.{NoSuchQueue, Al
 use Rattle.scx_dsq.specs.Queues.{QueueState, exists, place_at, place_of, task_count, IsFront, len_of}
 use Rattle.scx_dsq.specs.Laws.{IsSound}
 use Rattle.scx_dsq.specs.Calls.{clashes, push_refusal}
-use Rattle.scx_dsq.specs.Kept.{Keeps, front_in, len_in, mixes, IsAdmitted, IsRefused, state_of, IsKept}
+use Rattle.scx_dsq.specs.Kept.{ids_of, Stands, Keeps, front_in, len_in, mixes, IsAdmitted, IsRefused, state_of, IsKept}
 use Rattle.scx_dsq.specs.Links.{no_ends}
 use Rattle.scx_dsq.proofs.Fronts.{NobodyIn}
 use Rattle.scx_dsq.proofs.Forms.{form_front, form_len, form_clash}
+use Rattle.scx_dsq.proofs.Keeping.{id_at}
 
 -- what is there if nothing is
 pub none_from : {X : Type 0} (o : Option X) → is_some o ≡ false → o ≡ None
@@ -45,6 +46,15 @@ pub queue_read : (i : Inside) (live : List Queue) (k id : ℕ) (q : Queue) → l
     → (k < length i.live.items) × (q.id ≡ id)
 queue_read i live k id q e at read =
     (rw (← e) at.0, ap (λ (x : Queue). x.id) read ∙ subst (λ qs. (get_or qs k q).id ≡ id) e (at.1 q))
+
+-- and stands there among the ids
+pub stands_at : (i : Inside) (live : List Queue) (k id : ℕ) → live ≡ i.live.items → (k < length live) × ((d : Queue) → (get_or live k d).id ≡ id) → Stands (state_of i) k id
+stands_at i live k id e at =
+    let any : Queue = record { id = id; ends = no_ends; heap = record { room = 0; items = [] } } in
+    let there : k < length i.live.items = rw (← e) at.0 in
+    let within : k < length (ids_of i.live.items) = omega (arith, there, length-map i.live.items (λ (x : Queue). x.id)) in
+    let here : (get_or i.live.items k any).id ≡ id = subst (λ qs. (get_or qs k any).id ≡ id) e (at.1 any) in
+    (within, λ d. get_or_default (ids_of i.live.items) k d any.id within ∙ id_at i.live.items k any ∙ here)
 
 -- what is known of the queue that was found and read
 pub front_at : (i : Inside) (live : List Queue) (k id : ℕ) (q : Queue) → IsKept i → live ≡ i.live.items → (k < length live) × ((d : Queue) → (get_or live k d).id ≡ id) → q ≡ get_or i.live.items k q

@@ -1,8 +1,8 @@
 -- A removal keeps the queues in step with where the tasks wait.
-use Rattle.std.proofs.Common.{◌≡◌, ◌≢◌, ℕ, true, ◌<◌, IfSome, List, length, get_or, set, Option, Some, None, refl, sym, ap, ◌∙◌, subst, arith}
+use Rattle.std.proofs.Common.{◌≡◌, ◌≢◌, ℕ, true, ◌<◌, List, length, get_or, set, Option, Some, None, refl, sym, ap, ◌∙◌, subst, arith}
 use Rattle.std.specs.Vec.{with_item, with_items}
 use Rattle.std.proofs.lemmas.Bool.{ne_eqb}
-use Rattle.std.proofs.lemmas.List.{with_items_is, length-set}
+use Rattle.std.proofs.lemmas.List.{with_items_is, length-set, length-map}
 use Rattle.scx_dsq.specs.declared.places.Rank.{Rank}
 use Rattle.scx_dsq.specs.declared.places.Rank.TheVariants.{Fifo, Vtime}
 use Rattle.scx_dsq.specs.declared.places.Place.{Place}
@@ -10,20 +10,20 @@ use Rattle.scx_dsq.specs.declared.links.Link.{Link}
 use Rattle.scx_dsq.specs.declared.queue.Queue.{Queue}
 use Rattle.scx_dsq.specs.declared.queues.Queues.TheInside.{Inside}
 use Rattle.scx_dsq.specs.Places.{same_sort}
-use Rattle.scx_dsq.specs.Queues.{QueueState, Waits, place_at, queue_of}
-use Rattle.scx_dsq.specs.Calls.{removed}
+use Rattle.scx_dsq.specs.Queues.{QueueState, Waits, place_at, place_of}
+use Rattle.scx_dsq.specs.Calls.{without_task}
 use Rattle.scx_dsq.specs.Links.{link_at, with_ahead, links_unlinked}
 use Rattle.scx_dsq.specs.Heaps.{HasSpots, KeepsOthers, IsCheap}
 use Rattle.scx_dsq.specs.Arrays.{IsPaid}
 use Rattle.scx_dsq.specs.Holdings.{Holds}
-use Rattle.scx_dsq.specs.Kept.{IsOfOneSort, by_links, by_heap, Keeps, CanLeave, Left, state_of, value_of, IsKept}
+use Rattle.scx_dsq.specs.Kept.{Stands, IsOfOneSort, by_links, by_heap, Keeps, CanLeave, Left, state_of, value_of, IsKept}
 use Rattle.scx_dsq.proofs.Standing.{waits_below}
 use Rattle.scx_dsq.proofs.LinkReads.{length-with_ahead, length-with_behind}
 use Rattle.scx_dsq.proofs.Holdings.{spots_elsewhere, holds_apart}
 use Rattle.scx_dsq.proofs.FormChanges.{can_leave, left_held, form_unlinked, unlinked_agree, form_taken_out}
 use Rattle.scx_dsq.proofs.Sound.{sound_without_task}
 use Rattle.scx_dsq.proofs.QueueReads.{row_at}
-use Rattle.scx_dsq.proofs.Keeping.{IsChanged, changed_state, changed_arrays, changed_keeps}
+use Rattle.scx_dsq.proofs.Keeping.{id_at, IsChanged, changed_state, changed_arrays, changed_keeps}
 use Rattle.scx_dsq.proofs.Costs.{paid, is_fifo}
 
 links_long : (links : List Link) (t : ℕ) → length (links_unlinked links t) ≡ length links
@@ -44,6 +44,14 @@ pub record IsWaiting (i : Inside) (k t : ℕ) (p : Place) (q : Queue) : Type 0 w
   pub read : q ≡ get_or i.live.items k q
   pub is : q.id ≡ p.queue
   pub waits : place_at i.places.items t ≡ Some p
+
+pub waiting : (i : Inside) (k t : ℕ) (p : Place) (q : Queue) → Stands (state_of i) k p.queue → place_of (state_of i) t ≡ Some p → q ≡ get_or i.live.items k q → IsWaiting i k t p q
+waiting i k t p q at waits read = record {
+  inside = let within = at.0 in omega (arith, length-map i.live.items (λ (x : Queue). x.id));
+  read = read;
+  is = ap (λ (x : Queue). x.id) read ∙ sym (id_at i.live.items k q) ∙ at.1 q.id;
+  waits = waits;
+}
 
 pub can_remove : (i : Inside) (k t : ℕ) (p : Place) (q : Queue) → IsKept i → IsWaiting i k t p q → CanLeave p.rank i.links.items i.spots.items q t
 can_remove i k t p q h w =
@@ -77,17 +85,17 @@ module _ (i : Inside) (k t : ℕ) (p : Place) (q : Queue) (h : IsKept i) (w : Is
       stand = row.stand;
     };
   })
-  left_by (Vtime key) new linked stood is e = rw e.threads (record {
-    id = e.id;
+  left_by (Vtime key) new linked stood is e = rw e.1 (record {
+    id = e.0.id;
     links = refl;
-    spots = e.others.long;
+    spots = e.0.others.long;
     agree = λ other n u o v. refl;
-    elsewhere = λ r n keeps. spots_beside (state_of i) i.links.items q r i.spots.items stood (λ same. n (sym same)) (left_held (state_of i) i.links.items q t p h.sound.stamps (w.waits, sym w.is) h.links key is row.tasks).0 keeps.tasks e.others keeps.stand;
+    elsewhere = λ r n keeps. spots_beside (state_of i) i.links.items q r i.spots.items stood (λ same. n (sym same)) (left_held (state_of i) i.links.items q t p h.sound.stamps (w.waits, sym w.is) h.links key is row.tasks).0 keeps.tasks e.0.others keeps.stand;
     keeps = record {
-      tasks = form_taken_out (state_of i) i.links.items q t p h.sound.stamps (w.waits, sym w.is) h.links key linked i.spots.items stood new is row.tasks e;
-      room = omega (arith, row.room, e.room, length-set {A = Option Place} i.places.items t None);
-      heap = e.heap;
-      stand = e.stand;
+      tasks = form_taken_out (state_of i) i.links.items q t p h.sound.stamps (w.waits, sym w.is) h.links key i.spots.items stood new is row.tasks e.0;
+      room = omega (arith, row.room, e.0.room, length-set {A = Option Place} i.places.items t None);
+      heap = e.0.heap;
+      stand = e.0.stand;
     };
   })
 
@@ -102,16 +110,15 @@ module _ (i : Inside) (k t : ℕ) (p : Place) (q : Queue) (h : IsKept i) (w : Is
         (λ other n. (rw w.waits (ne_eqb p.queue other (λ e. n (sym e ∙ sym w.is))), refl))
         l.agree l.elsewhere l.keeps (sound_without_task (state_of i) t h.sound)
 
-    pub removed_state : state_of j ≡ removed (state_of i) t
-    removed_state =
-        changed_state i j k t q new None linked stood i.pushes w.inside w.read (left_by p.rank new linked stood refl e).id c ∙ rw w.waits refl
+    pub removed_state : state_of j ≡ without_task (state_of i) t
+    removed_state = changed_state i j k t q new None linked stood i.pushes w.inside w.read (left_by p.rank new linked stood refl e).id c
 
-    pub removed_paid : (steps : ℕ) → IsCheap q.heap.items new.heap.items steps → (p.rank ≡ Fifo → steps ≡ 0) → IfSome (queue_of (state_of i) t) (λ id. IsPaid (value_of i) (value_of j) id steps)
+    pub removed_paid : (steps : ℕ) → IsCheap q.heap.items new.heap.items steps → (p.rank ≡ Fifo → steps ≡ 0) → IsPaid (value_of i) (value_of j) p.queue steps
     removed_paid steps cheap free =
         let id = removed_id in
         let state = changed_state i j k t q new None linked stood i.pushes w.inside w.read id c in
         let arrays = changed_arrays i j k t q new None linked stood i.pushes w.inside w.read id c in
-        rw w.waits (subst (λ v. IsPaid (value_of i) (value_of j) v steps) w.is (paid i j k q new h w.inside w.read (ap (λ (s : QueueState). s.ids) state) arrays steps cheap fifo))
+        subst (λ v. IsPaid (value_of i) (value_of j) v steps) w.is (paid i j k q new h w.inside w.read (ap (λ (s : QueueState). s.ids) state) arrays steps cheap fifo)
       where
         fifo : (u : ℕ) (o : Place) → Waits (state_of i) q.id u o → o.rank ≡ Fifo → steps ≡ 0
         fifo u o there is =

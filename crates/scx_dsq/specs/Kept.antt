@@ -25,6 +25,10 @@ ids_of live = map (λ q. q.id) live
 abbrev pub arrays_of : List Queue → List (List Item)
 arrays_of live = map (λ q. q.heap.items) live
 
+-- a queue with that id stands at the place
+abbrev pub Stands : QueueState → ℕ → ℕ → Type 0
+Stands s k id = (k < length s.ids) × HoldsAt (λ other. other ≡ id) s.ids k
+
 -- a queue has its tasks between its ends, or in its heap; an empty one may be either
 pub data IsOfOneSort (places : Places) (links : List Link) (q : Queue) : Type 0 where
   by_links : IsThreaded places links q.id q.ends → q.heap.items ≡ [] → IsOfOneSort places links q
@@ -126,7 +130,7 @@ pub record Unlinked (links : List Link) (spots : List ℕ) (q : Queue) (t : ℕ)
   pub stays : stood ≡ spots
 
 -- the item of that task was taken out of the heap
-pub record TakenOut (links : List Link) (spots : List ℕ) (q : Queue) (t : ℕ) (linked : List Link) (stood : List ℕ) (new : Queue) : Type 0 where
+pub record TakenOut (spots : List ℕ) (q : Queue) (t : ℕ) (stood : List ℕ) (new : Queue) : Type 0 where
   pub item : Item
   pub task : item.task ≡ t
   pub id : new.id ≡ q.id
@@ -137,11 +141,10 @@ pub record TakenOut (links : List Link) (spots : List ℕ) (q : Queue) (t : ℕ)
   pub others : KeepsOthers q.heap.items spots stood
   pub same : IsPermutation q.heap.items (item ∷ new.heap.items)
   pub gone : IsAbsent new.heap.items t
-  pub threads : linked ≡ links
 
 abbrev pub Left : Rank → List Link → List ℕ → Queue → ℕ → List Link → List ℕ → Queue → Type 0
 Left Fifo links spots q t linked stood new = Unlinked links spots q t linked stood new
-Left (Vtime k) links spots q t linked stood new = TakenOut links spots q t linked stood new
+Left (Vtime k) links spots q t linked stood new = TakenOut spots q t stood new × (linked ≡ links)
 
 -- ---- all of them
 

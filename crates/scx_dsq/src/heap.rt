@@ -151,7 +151,9 @@ pub fn rise<L: Ledger>(items: &mut [Item], spots: &mut [usize], start: usize, st
     ensures cost { Rose items.old items.new start (steps.new - steps.old) }
     ensures more { steps.old ≤ steps.new }
 {
-    let item = items[start];
+    // Field by field, as it was just written: one wide load would wait for the writes.
+    let Item { task, priority } = items[start];
+    let item = Item { task, priority };
     let at = make_way_up(items, spots, item, start, steps);
     put(items, spots, item, at);
 }

@@ -1,7 +1,7 @@
 ghost use Rattle.std.specs.Prelude.{◌≡◌, ◌-◌, ◌≤◌};
 ghost use Rattle.scx_dsq.specs.declared.places.Rank.TheVariants.{Fifo};
 ghost use Rattle.scx_dsq.specs.Heaps.{IsCheap};
-ghost use Rattle.scx_dsq.specs.Kept.{front_in, len_in, mixes, CanAppend, appended, CanInsert, Inserted, CanLeave, Left};
+ghost use Rattle.scx_dsq.specs.Kept.{front_in, len_in, mixes, CanAppend, appended, CanInsert, Inserted, CanTakeOut, TakenOut, CanLeave, Left};
 ghost use Rattle.scx_dsq.specs.Links.{links_appended};
 
 use crate::heap::{Heap, Item};
@@ -90,8 +90,18 @@ pub fn leave<L: Ledger>(
 {
     match rank {
         Rank::Fifo => unlink(links, &mut queue.ends, task),
-        Rank::Vtime(_) => {
-            queue.heap.remove(spots, task, steps);
-        }
+        Rank::Vtime(_) => leave_heap(spots, queue, task, steps),
     }
+}
+
+/// Takes a task out of the heap of a queue. A function of its own, since what it does would slow a
+/// FIFO queue down that it were compiled into.
+#[inline(never)]
+fn leave_heap<L: Ledger>(spots: &mut [usize], queue: &mut Queue, task: u32, steps: &mut Steps<L>)
+    requires { CanTakeOut spots.old queue.old task }
+    ensures taken { TakenOut spots.old queue.old task spots.new queue.new }
+    ensures cost { IsCheap queue.old.heap.items queue.new.heap.items (steps.new - steps.old) }
+    ensures more { steps.old ≤ steps.new }
+{
+    queue.heap.remove(spots, task, steps);
 }

@@ -1,14 +1,14 @@
-ghost use Rattle.std.specs.Prelude.{◌≡◌, ◌≢◌, ℕ, ◌+◌, ◌-◌, ◌^◌, ◌<◌, ◌≤◌, ◌==◌, [], ◌∷◌, ◌++◌, map, length, true, false, is_some, is_ok, slice_index_or, All, HoldsAt, IsSome, IfSome, IfNone, IfOk, IfErr, OnOk, OnErr};
+ghost use Rattle.std.specs.Prelude.{◌≡◌, ◌≢◌, ℕ, ◌+◌, ◌-◌, ◌^◌, ◌<◌, ◌≤◌, ◌==◌, [], ◌∷◌, ◌++◌, map, length, true, false, is_some, is_ok, slice_index_or, All, HoldsAt, Some, option_map, IsSome, IfSome, IfNone, IfOk, IfErr, OnOk, OnErr};
 ghost use Rattle.std.specs.List.{list_any};
 ghost use Rattle.scx_dsq.specs.declared.places.Place.{Place};
 ghost use Rattle.scx_dsq.specs.declared.places.Rank.TheVariants.{Fifo, Vtime};
 ghost use Rattle.scx_dsq.specs.Queues.{Waits, IsFront, exists, task_count, place_of, queue_of, len_of, front_of};
-ghost use Rattle.scx_dsq.specs.Calls.{refused_or_done, create_refusal, created, clashes, push_refusal, pushed, removed, popped, empty};
+ghost use Rattle.scx_dsq.specs.Calls.{refused_or_done, create_refusal, created, clashes, push_refusal, pushed, without_task, removed, popped, empty};
 ghost use Rattle.scx_dsq.specs.Laws.{HasOneOfEach, WaitsInAQueue, HasOneSort, IsStamped, HasOwnStamps, StandsInSoMany};
 ghost use Rattle.scx_dsq.specs.Arrays.{IsPaid};
 ghost use Rattle.scx_dsq.specs.Holdings.{HasArrays};
 ghost use Rattle.scx_dsq.specs.Order.{IsOrder, IsGap};
-ghost use Rattle.scx_dsq.specs.Kept.{ids_of, IsAdmitted, IsRefused};
+ghost use Rattle.scx_dsq.specs.Kept.{ids_of, Stands, IsAdmitted, IsRefused};
 
 use crate::errors::QueueError;
 use crate::heap::{Heap, Item};
@@ -23,6 +23,13 @@ use std::sync::ledger::Ledger;
 
 /// How many hashes of ids there are.
 const HASHES: usize = 256;
+
+/// The task that leaves a queue next, and where the queue stands.
+#[derive(Clone, Copy)]
+struct Front {
+    index: usize,
+    task: u32,
+}
 
 /// Dispatch queues, and where each task waits.
 ///
@@ -209,8 +216,25 @@ impl Queues {
         ensures first { IfSome result (IsFront self.now.state id) }
         ensures empty { IfNone result ((t : ℕ) (p : Place) → ¬ Waits self.now.state id t p) }
     {
-        match find(&self.live, &self.order, &self.guesses, id) {
-            Some(index) => self.live[index].front(),
+        match self.first(id) {
+            Some(front) => Some(front.task),
+            None => None,
+        }
+    }
+
+    /// The same, and where the queue stands in `live`.
+    fn first(&self, id: u64) -> Option<Front>
+        ensures answer { option_map (λ f. f.task) result ≡ front_of self.now.state id }
+        ensures known { IfSome result (λ f. f.task < task_count self.now.state) }
+        ensures first { IfSome result (λ f. IsFront self.now.state id f.task) }
+        ensures stands { IfSome result (λ f. Stands self.now.state f.index id) }
+        ensures empty { IfNone result ((t : ℕ) (p : Place) → ¬ Waits self.now.state id t p) }
+    {
+        let Some(index) = find(&self.live, &self.order, &self.guesses, id) else {
+            return None;
+        };
+        match self.live[index].front() {
+            Some(task) => Some(Front { index, task }),
             None => None,
         }
     }
@@ -228,8 +252,13 @@ impl Queues {
         ensures tasks { task_count self.new.state ≡ task_count self.old.state }
         ensures pushes { self.new.state.pushes ≡ self.old.state.pushes }
     {
-        let task = self.front(id)?;
-        self.remove(task, steps);
+        let Some(Front { index, task }) = self.first(id) else {
+            return None;
+        };
+        let Some(place) = self.places[task as usize] else {
+            unreachable!()
+        };
+        self.take_out(index, task, place, steps);
         Some(task)
     }
 
@@ -253,6 +282,19 @@ impl Queues {
         let Some(index) = find(&self.live, &self.order, &self.guesses, place.queue) else {
             unreachable!()
         };
+        self.take_out(index, task, place, steps);
+        true
+    }
+
+    /// Takes out a task that waits at that place, in the queue that stands there in `live`.
+    fn take_out<L: Ledger>(&mut self, index: usize, task: u32, place: Place, steps: &mut Steps<L>)
+        requires task { task < task_count self.old.state }
+        requires stands { Stands self.old.state index place.queue }
+        requires waits { place_of self.old.state task ≡ Some place }
+        ensures state { self.new.state ≡ without_task self.old.state task }
+        ensures cost { IsPaid self.old self.new place.queue (steps.new - steps.old) }
+        ensures more { steps.old ≤ steps.new }
+    {
         leave(
             &mut self.links,
             &mut self.spots,
@@ -262,7 +304,6 @@ impl Queues {
             steps,
         );
         self.places[task as usize] = None;
-        true
     }
 
     /// How many tasks wait in the queue; 0 if it isn't there.

@@ -22,7 +22,7 @@ const COMPARED: u32 = 20_000;
 const TRIED: u32 = 400_000;
 
 /// The map of all programs: four values of eight bytes.
-const SHAPES: [Shape; 1] = [Shape {
+pub(crate) const SHAPES: [Shape; 1] = [Shape {
     entries: 4,
     value_size: 8,
 }];
@@ -93,7 +93,7 @@ fn are_same(plain: &Left, tagged: &Left) -> bool {
 
 /// What random programs are made of. The first six make numbers and a pointer to the task of the
 /// registers.
-const LINES: [&str; 40] = [
+pub(crate) const LINES: [&str; 40] = [
     "r0 = 7\n",
     "r2 = -5\n",
     "r3 = 70000\n",
@@ -138,10 +138,10 @@ const LINES: [&str; 40] = [
 
 /// Random numbers by a linear congruential generator.
 #[derive(Drop)]
-struct Random(u64);
+pub(crate) struct Random(pub(crate) u64);
 
 impl Random {
-    fn next(&mut self) -> u64 {
+    pub(crate) fn next(&mut self) -> u64 {
         self.0 = self
             .0
             .wrapping_mul(6_364_136_223_846_793_005)

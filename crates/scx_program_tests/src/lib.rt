@@ -7,6 +7,8 @@ mod assembling;
 #[cfg(test)]
 mod both_machines;
 #[cfg(test)]
+mod both_passes;
+#[cfg(test)]
 mod malicious;
 #[cfg(test)]
 mod programs;

@@ -1,10 +1,10 @@
-ghost use Rattle.std.specs.Prelude.{◌≡◌, ◌≤◌, ◌<◌, ◌+◌, ◌*◌, Some, length, option_map, IfOk, IfSome, IsTrue};
+ghost use Rattle.std.specs.Prelude.{◌≡◌, ◌≤◌, ◌<◌, ◌+◌, ◌*◌, Some, None, if◌then◌else◌, length, option_map, IfOk, IfSome, IsTrue};
 ghost use Rattle.std.specs.Char.{digit_value};
 ghost use Rattle.std.specs.Str.Parse.{digits_value};
 ghost use Rattle.scx_text.specs.Tokens.{lexeme, lexemes, is_blank, is_in, radix, run, bounded, digits_at, is_hexadecimal, number_at, word_at, word_or_number, token_at, tokens};
 
 use crate::symbols::{Symbol, symbol_at};
-use std::alloc::{AllocError, Global};
+use std::alloc::AllocError;
 
 /// Bytes that stand together.
 #[derive(Clone, Copy)]
@@ -170,12 +170,13 @@ fn is_blank(byte: u8) -> bool
     byte == b' ' || byte == b'\t'
 }
 
-/// The tokens of a line, up to a comment; `None` where bytes begin no token.
+/// Puts the tokens of a line, up to a comment, in place of what was found before; `false` where bytes
+/// begin no token.
 #[tactic(auto, using(crate::proofs::Lexing::after_blank, crate::proofs::Lexing::at_comment, crate::proofs::Lexing::at_end))]
-pub fn tokens<'a>(alloc: Global, line: &'a [u8]) -> Result<Option<Vec<Token<'a>>>, AllocError>
-    ensures { IfOk result (λ found. option_map (λ ts. lexemes ts.items) found ≡ tokens line.now) }
+pub fn tokens<'a>(line: &'a [u8], found: &mut Vec<Token<'a>>) -> Result<bool, AllocError>
+    ensures { IfOk result (λ all. (if all then Some (lexemes found.new.items) else None) ≡ tokens line.now) }
 {
-    let mut found = Vec::new(alloc);
+    found.clear();
     let mut rest = line;
     let mut touches = false;
     while !rest.is_empty() && rest[0] != b'#' {
@@ -184,12 +185,12 @@ pub fn tokens<'a>(alloc: Global, line: &'a [u8]) -> Result<Option<Vec<Token<'a>>
             touches = false;
         } else {
             let Some((token, length)) = token_at(rest, touches) else {
-                return Ok(None);
+                return Ok(false);
             };
             found.push(token)?;
             rest = rest.split_at(length).1;
             touches = true;
         }
     }
-    Ok(Some(found))
+    Ok(true)
 }

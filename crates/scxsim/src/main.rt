@@ -18,6 +18,7 @@ use scx_commands::{
 pub use scx_simulation::{report, simulate};
 pub use scx_verdicts::check;
 use scx_words::{Request, read_words};
+use scx_workloads::read_workload;
 use std::alloc::Global;
 use std::io::{BufWriter, ErrorKind};
 use std::process::ExitCode;
@@ -156,10 +157,21 @@ fn simulate_aloud<R: AllocGlobal + Console, W: Out>(
     files: &RunFiles,
     out: &mut W,
 ) -> Result<bool, Fault> {
-    let mut progress = Progress::new(rt, out);
+    let total = if rt.shows_errors_alone() {
+        length_of(rt.alloc(), files.workload.as_slice())
+    } else {
+        None
+    };
+    let mut progress = Progress::new(rt, out, total);
     let outcome = simulate_files(rt.alloc(), files, &mut progress);
     progress.end();
     outcome
+}
+
+/// How many milliseconds a workload lasts, if these bytes are one.
+fn length_of(alloc: Global, workload: &[u8]) -> Option<u32> {
+    let text = text(workload).ok()?;
+    Some(read_workload(alloc, text).ok()?.ms())
 }
 
 fn simulate_files<W: Out>(alloc: Global, files: &RunFiles, out: &mut W) -> Result<bool, Fault> {

@@ -40,6 +40,8 @@ pub(crate) struct Progress<'a, R, W> {
 /// What says how far a trace is.
 #[derive(Drop)]
 struct Speaker {
+    /// How many milliseconds the trace lasts.
+    total: u32,
     /// When it began, or said something last.
     since: Instant,
     /// How many milliseconds it waits from then on.
@@ -50,12 +52,12 @@ struct Speaker {
     has_spoken: bool,
 }
 
-impl<'a, R: Console, W: Out> Progress<'a, R, W> {
-    pub(crate) fn new(rt: &'a R, out: &'a mut W) -> Self {
-        let speaker = if rt.shows_errors_alone() {
-            Speaker::new(rt)
-        } else {
-            None
+impl<'a, R: Clock + Eprint, W: Out> Progress<'a, R, W> {
+    /// The trace is of so many milliseconds; None where nothing is to be said of it.
+    pub(crate) fn new(rt: &'a R, out: &'a mut W, total: Option<u32>) -> Self {
+        let speaker = match total {
+            Some(total) => Speaker::new(rt, total),
+            None => None,
         };
         Progress { rt, out, speaker }
     }
@@ -88,9 +90,10 @@ impl<R: Clock + Eprint, W: Out> Out for Progress<'_, R, W> {
 
 impl Speaker {
     /// None where the clock can't be read.
-    fn new<R: Clock>(rt: &R) -> Option<Speaker> {
+    fn new<R: Clock>(rt: &R, total: u32) -> Option<Speaker> {
         let since = Instant::now(rt).ok()?;
         Some(Speaker {
+            total,
             since,
             wait: PATIENCE,
             lines: LINES,
@@ -125,7 +128,7 @@ impl Speaker {
         if now.duration_since(self.since) < Duration::from_millis(self.wait) {
             return;
         }
-        let _ = eprint!(rt; "\rat {clock} ms");
+        let _ = eprint!(rt; "\r{clock} of {} ms", self.total);
         self.since = now;
         self.wait = PAUSE;
         self.has_spoken = true;

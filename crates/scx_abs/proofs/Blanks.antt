@@ -1,0 +1,43 @@
+-- Cells of which nothing is known: joins and changes leave those below the lowest that was written.
+use Rattle.std.proofs.Common.{◌≡◌, ℕ, zero, suc, ◌<◌, ◌≤◌, List, [], replicate, slice_index_or, refl, sym, ◌∙◌, arith}
+use Rattle.std.proofs.lemmas.List.{get_or-set_other}
+use Rattle.scx_semantics.specs.declared.callbacks.Callback.{Callback}
+use Rattle.scx_abs.specs.declared.kinds.Cell.{Cell}
+use Rattle.scx_abs.specs.declared.kinds.Cell.TheVariants.{Bytes}
+use Rattle.scx_abs.specs.declared.states.AbsState.{AbsState}
+use Rattle.scx_abs.specs.declared.changes.Change.{Change}
+use Rattle.scx_abs.specs.declared.changes.Change.TheVariants as change
+use Rattle.scx_abs.specs.Cells.{no_bytes, join_cell}
+use Rattle.scx_abs.specs.States.{start_of}
+use Rattle.scx_abs.specs.Changes.{AreBlank, IsBlankBelow, changed, lowest}
+
+join_blank : (x y : Cell) → x ≡ Bytes no_bytes → y ≡ Bytes no_bytes → join_cell x y ≡ Bytes no_bytes
+join_blank x y e f = rw (e, f) refl
+
+-- below it the cells are their own joins already
+pub blank_joined : (xs ys : List Cell) (low : ℕ) → AreBlank low xs → AreBlank low ys → (k : ℕ) → k < low → slice_index_or xs k (Bytes []) ≡ join_cell (slice_index_or xs k (Bytes [])) (slice_index_or ys k (Bytes []))
+blank_joined xs ys low h g k lt = h k lt ∙ sym (join_blank (slice_index_or xs k (Bytes [])) (slice_index_or ys k (Bytes [])) (h k lt) (g k lt))
+
+pub joined_blank : (joined xs ys : List Cell) (low : ℕ) → low ≤ 64 → AreBlank low xs → AreBlank low ys
+    → ((k : ℕ) → k < 64 → slice_index_or joined k (Bytes []) ≡ join_cell (slice_index_or xs k (Bytes [])) (slice_index_or ys k (Bytes []))) → AreBlank low joined
+joined_blank joined xs ys low within h g each k lt = each k (omega arith) ∙ join_blank (slice_index_or xs k (Bytes [])) (slice_index_or ys k (Bytes [])) (h k lt) (g k lt)
+
+pub blank_lower : (a : AbsState) (low new : ℕ) → IsBlankBelow low a → new ≤ low → IsBlankBelow new a
+blank_lower a low new h le = record { within = omega (arith, h.within); blank = λ k lt. h.blank k (omega arith) }
+
+pub changed_blank : (a : AbsState) (c : Change) (low new : ℕ) → IsBlankBelow low a → new ≤ low → new ≤ lowest c → IsBlankBelow new (changed a c)
+changed_blank a change.Nothing low new h le lt = blank_lower a low new h le
+changed_blank a (change.Register r k) low new h le lt = record { within = omega (arith, h.within); blank = λ j below. h.blank j (omega arith) }
+changed_blank a (change.Called k) low new h le lt = record { within = omega (arith, h.within); blank = λ j below. h.blank j (omega arith) }
+changed_blank a (change.Stored n cell) low new h le lt = record {
+  within = omega (arith, h.within);
+  blank = λ j below. get_or-set_other a.cells n j cell (Bytes []) (λ e. omega (arith, e, below)) ∙ h.blank j (omega arith);
+}
+
+blank_at : (n k : ℕ) → k < n → slice_index_or (replicate n (Bytes no_bytes)) k (Bytes []) ≡ Bytes no_bytes
+blank_at zero k lt = absurd (omega arith)
+blank_at (suc n) zero lt = refl
+blank_at (suc n) (suc k) lt = blank_at n k (omega arith)
+
+pub first_blank : (c : Callback) → IsBlankBelow 64 (start_of c)
+first_blank c = record { within = omega arith; blank = λ k lt. blank_at 64 k lt }
