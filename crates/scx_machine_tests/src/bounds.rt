@@ -1,197 +1,255 @@
 //! As much as there may be, and policies that do nothing or name what they may not.
 
-use crate::policies::{ENQUEUE, INIT, NONE, defs, machine, policy, program, tree};
-use crate::recorder::Recorder;
+use crate::policies::{SHORT_SLICES, callbacks, defs, policy, tree};
+use crate::session::Session;
+use scx_examples::INIT;
 use scx_isa::Callback;
 use scx_sched::{Callbacks, Event, NewError, Place, Policy, Sim};
-use scx_weights::{Group, Tree};
+use scx_weights::{Group, Tree, TreeError};
+use std::alloc::{AllocError, Global};
+use std::fmt::Write;
 use std::process::Abort;
 use std::test::Fail;
 
-fn place(rt: &impl Abort, sim: &Sim, task: u16) -> Place {
-    let known = task < sim.tasks();
-    assert!(rt; known);
-    sim.place(task)
+/// Creates so many queues.
+fn creating(alloc: Global, queues: u32) -> Result<String, AllocError> {
+    let mut text = String::new(alloc);
+    for queue in 0..queues {
+        write!(text, "r1 = {queue}\ncall 1001\n")?;
+    }
+    text.push_str("r0 = 0\nexit")?;
+    Ok(text)
 }
 
-/// Creates so many queues.
-fn creating<R: AllocGlobal + Abort>(rt: &R, queues: u32) -> String {
-    let mut text = String::new(rt.alloc());
-    for queue in 0..queues {
-        let line = format!(in rt.alloc(); "r1 = {queue}\ncall 1001\n").expect(
-            rt,
-            "there is memory",
-        );
-        text.push_str(line.as_str()).expect(rt, "there is memory");
-    }
-    text.push_str("r0 = 0\nexit").expect(rt, "there is memory");
-    text
-}
+/// Inserts a task by its number into one of sixteen queues.
+const BY_NUMBER: &str =
+    "r4 = r2\nr2 = *(u32 *)(r1 + 0)\nr2 -= 1\nr2 &= 15\nr3 = 2000000\ncall 1002\nexit";
 
 /// Tasks wait in sixteen queues by number, and processors take turns at these.
-fn sixteen_queues<R: AllocGlobal + Abort>(rt: &R) -> Policy {
-    let enqueue =
-        "r4 = r2\nr2 = *(u32 *)(r1 + 0)\nr2 -= 1\nr2 &= 15\nr3 = 2000000\ncall 1002\nexit";
-    let callbacks = Callbacks {
-        init: program(rt, Callback::Init, creating(rt, 16).as_str()),
-        enqueue: program(rt, Callback::Enqueue, enqueue),
-        dispatch: program(rt, Callback::Dispatch, "r1 &= 15\ncall 1004\nexit"),
-        ..NONE
-    };
-    policy(rt, callbacks)
+fn sixteen_queues<R: AllocGlobal + Abort>(rt: &R) -> Result<Policy, AllocError> {
+    let init = creating(rt.alloc(), 16)?;
+    Ok(policy(
+        rt,
+        &[
+            (Callback::Init, init.as_str()),
+            (Callback::Enqueue, BY_NUMBER),
+            (Callback::Dispatch, "r1 &= 15\ncall 1004\nexit"),
+        ],
+    ))
 }
 
-/// 1024 tasks in 256 groups.
-fn large_tree(rt: &impl AllocGlobal) -> Result<Tree, Fail> {
-    let mut groups = Vec::new(rt.alloc());
-    for _ in 0..256 {
-        groups.push(Group {
-            parent: None,
-            weight: 100,
-        })?;
-    }
-    let mut tasks = Vec::new(rt.alloc());
+/// 1024 tasks take turns at 256 groups.
+fn homes(alloc: Global) -> Result<Vec<u32>, AllocError> {
+    let mut homes = Vec::new(alloc);
     for task in 0..1024_u32 {
-        tasks.push(task % 256)?;
+        homes.push(task % 256)?;
     }
-    Ok(Tree::new(rt.alloc(), &groups, &tasks)?)
+    Ok(homes)
+}
+
+fn large_tree(alloc: Global) -> Result<Tree, TreeError> {
+    let group = Group {
+        parent: None,
+        weight: 100,
+    };
+    let groups = [group; 256];
+    let homes = homes(alloc)?;
+    Tree::new(alloc, &groups, &homes)
+}
+
+/// 64 processors and 1024 tasks, which wait in sixteen queues.
+fn largest<R: AllocGlobal + Abort>(rt: &R) -> Result<Session, Fail> {
+    let tree = large_tree(rt.alloc())?;
+    Ok(Session::of(rt, sixteen_queues(rt)?, tree, 64, 100_000))
+}
+
+/// All tasks wake, one after another, and the first 64 run.
+fn wake_all(rt: &impl Abort, session: &mut Session) {
+    for task in 0..1024_u16 {
+        session.run(rt, &[Event::Wake(task)]);
+    }
+    session.are_at(rt, &[(63, Place::Cpu(63)), (64, Place::Policy(0))]);
+}
+
+/// All processors tick twice, and the next 64 tasks run.
+fn tick_twice(rt: &impl Abort, session: &mut Session) {
+    for tick in 0..128_u32 {
+        session.run(rt, &[Event::Tick(tick % 64)]);
+    }
+    let places = [
+        (63, Place::Policy(15)),
+        (64, Place::Cpu(0)),
+        (127, Place::Cpu(63)),
+        (128, Place::Policy(0)),
+        (1023, Place::Policy(15)),
+    ];
+    session.are_at(rt, &places);
 }
 
 #[test]
 fn as_much_as_there_may_be(rt: HostRuntime) -> Result<(), Fail> {
-    let mut sim = Sim::new(rt.alloc(), sixteen_queues(&rt), large_tree(&rt)?, 64)?;
-    let mut recorder = Recorder::new(rt.alloc(), 100_000);
-    for task in 0..1024_u16 {
-        assert_eq!(rt; sim.step(Event::Wake(task), &mut recorder), Ok(()));
-    }
-    assert_eq!(rt; place(&rt, &sim, 63), Place::Cpu(63));
-    assert_eq!(rt; place(&rt, &sim, 64), Place::Policy(0));
+    let mut session = largest(&rt)?;
+    wake_all(&rt, &mut session);
     // A slice of 2 ms is over with the second tick of a processor.
-    for _ in 0..2 {
-        for cpu in 0..64_u32 {
-            assert_eq!(rt; sim.step(Event::Tick(cpu), &mut recorder), Ok(()));
-        }
-    }
-    assert_eq!(rt; place(&rt, &sim, 63), Place::Policy(15));
-    assert_eq!(rt; place(&rt, &sim, 64), Place::Cpu(0));
-    assert_eq!(rt; place(&rt, &sim, 127), Place::Cpu(63));
-    assert_eq!(rt; place(&rt, &sim, 128), Place::Policy(0));
-    assert_eq!(rt; place(&rt, &sim, 1023), Place::Policy(15));
+    tick_twice(&rt, &mut session);
     // Two for each task that wakes, two for each that then runs, four where one follows another.
-    assert_eq!(rt; recorder.notes.len(), 2 * 1024 + 2 * 64 + 4 * 64);
+    assert_eq!(rt; session.recorder.notes, 2 * 1024 + 2 * 64 + 4 * 64);
+    drop(session);
     Ok(())
 }
 
-/// The answer with which a machine can't begin whose init creates so many queues.
-fn init_failure<R: AllocGlobal + Abort>(rt: &R, queues: u32) -> Option<i64> {
-    let callbacks = Callbacks {
-        init: program(rt, Callback::Init, creating(rt, queues).as_str()),
-        ..NONE
-    };
-    match Sim::new(rt.alloc(), policy(rt, callbacks), tree(rt, &[0]), 1) {
-        Err(NewError::InitFailed(answer)) => Some(answer),
-        Ok(_) | Err(_) => None,
-    }
+/// Whether a machine whose init creates so many queues can begin, or why not.
+fn expect_queues<R: AllocGlobal + Abort>(
+    rt: &R,
+    queues: u32,
+    wanted: Option<NewError>,
+) -> Result<(), AllocError> {
+    let init = creating(rt.alloc(), queues)?;
+    let policy = policy(rt, &[(Callback::Init, init.as_str())]);
+    let found = Sim::new(rt.alloc(), policy, tree(rt, &[0]), 1).err();
+    assert_eq!(rt; found, wanted);
+    Ok(())
 }
 
 #[test]
 fn sixteen_queues_are_fine(rt: HostRuntime) -> Result<(), Fail> {
-    assert_eq!(rt; init_failure(&rt, 16), None);
-    assert_eq!(rt; init_failure(&rt, 17), Some(-22));
+    expect_queues(&rt, 16, None)?;
+    expect_queues(&rt, 17, Some(NewError::InitFailed(-22)))?;
     Ok(())
 }
 
-/// A task that wakes is held: its enqueue has a fault.
-fn is_held<R: AllocGlobal + Abort>(rt: &R, queue: &str, flags: &str) -> bool {
-    let text = format!(in rt.alloc();
-        "r4 = {flags}\nr2 = {queue} ll\nr3 = 0\ncall 1002\nexit"
-    ).expect(rt, "there is memory");
-    let callbacks = Callbacks {
-        init: program(rt, Callback::Init, INIT),
-        enqueue: program(rt, Callback::Enqueue, text.as_str()),
-        ..NONE
-    };
-    let mut sim = machine(rt, policy(rt, callbacks), 1);
-    let mut recorder = Recorder::new(rt.alloc(), 100);
-    assert_eq!(rt; sim.step(Event::Wake(0), &mut recorder), Ok(()));
-    place(rt, &sim, 0) == Place::Held
+/// Inserts into that queue with these flags.
+fn inserting(alloc: Global, queue: &str, flags: &str) -> Result<String, AllocError> {
+    format!(in alloc; "r4 = {flags}\nr2 = {queue} ll\nr3 = 0\ncall 1002\nexit")
 }
+
+/// A task that wakes is held where its enqueue has a fault.
+fn is_held<R: AllocGlobal + Abort>(rt: &R, enqueue: &str) -> bool {
+    let texts = [(Callback::Init, INIT), (Callback::Enqueue, enqueue)];
+    place_after_wake(rt, &texts, 1) == Place::Held
+}
+
+/// Where a task is once it has woken on so many processors.
+fn place_after_wake<R: AllocGlobal + Abort>(
+    rt: &R,
+    texts: &[(Callback, &str)],
+    cpus: u32,
+) -> Place {
+    let mut session = Session::new(rt, texts, &[0, 0], cpus);
+    session.run(rt, &[Event::Wake(0)]);
+    let place = session.place(rt, 0);
+    drop(session);
+    place
+}
+
+/// Queues and flags, and whether a task that is inserted so is held.
+const INSERTS: [(&str, &str, bool); 11] = [
+    // Queue 0, GLOBAL, LOCAL and the local queue of processor 0.
+    ("0", "0", false),
+    ("9223372036854775809", "1", false),
+    ("9223372036854775810", "0", false),
+    ("13835058055282163712", "0", false),
+    // An unknown flag, no such queue, HELD, BUILTIN, processor 1, and bits in the middle.
+    ("0", "2", true),
+    ("1", "0", true),
+    ("9223372036854775808", "0", true),
+    ("9223372036854775811", "0", true),
+    ("9223372036854775812", "0", true),
+    ("13835058055282163713", "0", true),
+    ("13835058059577131008", "0", true),
+];
 
 #[test]
 fn inserts(rt: HostRuntime) -> Result<(), Fail> {
-    // Queue 0, GLOBAL, LOCAL and the local queue of processor 0.
-    assert!(rt; !is_held(&rt, "0", "0"));
-    assert!(rt; !is_held(&rt, "9223372036854775809", "1"));
-    assert!(rt; !is_held(&rt, "9223372036854775810", "0"));
-    assert!(rt; !is_held(&rt, "13835058055282163712", "0"));
-    // An unknown flag, no such queue, HELD, BUILTIN, processor 1, and bits in the middle.
-    assert!(rt; is_held(&rt, "0", "2"));
-    assert!(rt; is_held(&rt, "1", "0"));
-    assert!(rt; is_held(&rt, "9223372036854775808", "0"));
-    assert!(rt; is_held(&rt, "9223372036854775811", "0"));
-    assert!(rt; is_held(&rt, "9223372036854775812", "0"));
-    assert!(rt; is_held(&rt, "13835058055282163713", "0"));
-    assert!(rt; is_held(&rt, "13835058059577131008", "0"));
+    for &(queue, flags, held) in &INSERTS {
+        let enqueue = inserting(rt.alloc(), queue, flags)?;
+        assert_eq!(rt; is_held(&rt, enqueue.as_str()), held, "{queue} {flags}");
+    }
     Ok(())
 }
 
 /// Where a task is once dispatch has tried to move it from that queue.
-fn place_after_move<R: AllocGlobal + Abort>(rt: &R, enqueue: &str, queue: &str) -> Place {
-    let text = format!(in rt.alloc(); "r1 = {queue} ll\ncall 1004\nexit").expect(
-        rt,
-        "there is memory",
+fn expect_move<R: AllocGlobal + Abort>(
+    rt: &R,
+    enqueue: &str,
+    queue: &str,
+    wanted: Place,
+) -> Result<(), AllocError> {
+    let dispatch = format!(in rt.alloc(); "r1 = {queue} ll\ncall 1004\nexit")?;
+    assert_eq!(rt;
+        place_after_move(rt, enqueue, dispatch.as_str()),
+        wanted,
+        "{queue}"
     );
-    let callbacks = Callbacks {
-        init: program(rt, Callback::Init, INIT),
-        enqueue: program(rt, Callback::Enqueue, enqueue),
-        dispatch: program(rt, Callback::Dispatch, text.as_str()),
-        ..NONE
-    };
-    let mut sim = machine(rt, policy(rt, callbacks), 2);
-    let mut recorder = Recorder::new(rt.alloc(), 100);
-    assert_eq!(rt; sim.step(Event::Wake(0), &mut recorder), Ok(()));
-    place(rt, &sim, 0)
+    Ok(())
 }
+
+fn place_after_move<'a, R: AllocGlobal + Abort>(
+    rt: &R,
+    enqueue: &'a str,
+    dispatch: &'a str,
+) -> Place {
+    let texts = [
+        (Callback::Init, INIT),
+        (Callback::Enqueue, enqueue),
+        (Callback::Dispatch, dispatch),
+    ];
+    place_after_wake(rt, &texts, 2)
+}
+
+/// No such queue, the first id that isn't a policy's, GLOBAL, LOCAL, HELD, BUILTIN, and the local queues of
+/// processors 0 and 1.
+const OTHER_QUEUES: [&str; 8] = [
+    "1",
+    "9223372036854775808",
+    "9223372036854775809",
+    "9223372036854775810",
+    "9223372036854775811",
+    "9223372036854775812",
+    "13835058055282163712",
+    "13835058055282163713",
+];
 
 #[test]
 fn moves(rt: HostRuntime) -> Result<(), Fail> {
-    assert_eq!(rt; place_after_move(&rt, ENQUEUE, "0"), Place::Cpu(0));
-    // No such queue, the first id that isn't a policy's, GLOBAL, LOCAL, HELD, BUILTIN, and the local
-    // queues of processors 0 and 1.
-    for queue in [
-        "1",
-        "9223372036854775808",
-        "9223372036854775809",
-        "9223372036854775810",
-        "9223372036854775811",
-        "9223372036854775812",
-        "13835058055282163712",
-        "13835058055282163713",
-    ] {
-        assert_eq!(rt; place_after_move(&rt, ENQUEUE, queue), Place::Policy(0));
-        assert_eq!(rt; place_after_move(&rt, "exit", queue), Place::Held);
+    expect_move(&rt, SHORT_SLICES, "0", Place::Cpu(0))?;
+    for queue in &OTHER_QUEUES {
+        expect_move(&rt, SHORT_SLICES, queue, Place::Policy(0))?;
+        expect_move(&rt, "exit", queue, Place::Held)?;
     }
     Ok(())
 }
 
+/// Callbacks that do nothing, or answer 0.
+fn idle_callbacks<R: AllocGlobal + Abort>(rt: &R) -> Callbacks {
+    let texts = [
+        (Callback::Init, "r0 = 0\nexit"),
+        (Callback::Enable, "exit"),
+        (Callback::SelectCpu, "r0 = 0\nexit"),
+        (Callback::Enqueue, "exit"),
+        (Callback::Dispatch, "exit"),
+        (Callback::Running, "exit"),
+        (Callback::Stopping, "exit"),
+    ];
+    callbacks(rt, &texts)
+}
+
+fn idle_policy<R: AllocGlobal + Abort>(rt: &R) -> Policy {
+    let policy = Policy::new(defs(rt), 1, idle_callbacks(rt));
+    policy.expect(rt, "each program is for its place")
+}
+
+/// A task wakes, and each processor ticks.
+fn wake_and_tick(rt: &impl Abort, session: &mut Session) {
+    let events = [Event::Wake(0), Event::Tick(1), Event::Clock, Event::Tick(0)];
+    session.run(rt, &events);
+}
+
 #[test]
-fn callbacks_that_do_nothing(rt: HostRuntime) -> Result<(), Fail> {
-    let callbacks = Callbacks {
-        init: program(&rt, Callback::Init, "r0 = 0\nexit"),
-        enable: program(&rt, Callback::Enable, "exit"),
-        select_cpu: program(&rt, Callback::SelectCpu, "r0 = 0\nexit"),
-        enqueue: program(&rt, Callback::Enqueue, "exit"),
-        dispatch: program(&rt, Callback::Dispatch, "exit"),
-        running: program(&rt, Callback::Running, "exit"),
-        stopping: program(&rt, Callback::Stopping, "exit"),
-    };
-    let policy = Policy::new(defs(&rt), 1, callbacks).expect(&rt, "each is for its place");
-    let mut sim = machine(&rt, policy, 2);
-    let mut recorder = Recorder::new(rt.alloc(), 100);
-    for event in [Event::Wake(0), Event::Tick(1), Event::Clock, Event::Tick(0)] {
-        assert_eq!(rt; sim.step(event, &mut recorder), Ok(()));
-    }
-    assert_eq!(rt; place(&rt, &sim, 0), Place::Held);
-    assert_eq!(rt; recorder.notes.len(), 2);
-    Ok(())
+fn callbacks_that_do_nothing(rt: HostRuntime) {
+    let mut session = Session::of(&rt, idle_policy(&rt), tree(&rt, &[0, 0]), 2, 100);
+    wake_and_tick(&rt, &mut session);
+    session.are_at(&rt, &[(0, Place::Held)]);
+    assert_eq!(rt; session.recorder.notes, 2);
+    drop(session);
 }

@@ -13,3 +13,5 @@ mod refusals;
 mod rows;
 #[cfg(test)]
 mod selecting;
+#[cfg(test)]
+mod session;

@@ -3,11 +3,14 @@ ghost use Rattle.std.specs.Prelude.{◌≡◌, true};
 
 use scx_sched::{Note, Sink};
 use std::alloc::Global;
+use std::fmt::Write;
 
 /// Takes so many notes, and fails at the next.
 #[derive(Drop)]
 pub(crate) struct Recorder {
-    pub(crate) notes: Vec<Note>,
+    /// A line for each note.
+    pub(crate) text: String,
+    pub(crate) notes: usize,
     left: usize,
     has_failed: bool,
 }
@@ -15,7 +18,8 @@ pub(crate) struct Recorder {
 impl Recorder {
     pub(crate) fn new(alloc: Global, room: usize) -> Recorder {
         Recorder {
-            notes: Vec::new(alloc),
+            text: String::new(alloc),
+            notes: 0,
             left: room,
             has_failed: false,
         }
@@ -33,14 +37,13 @@ impl Sink for Recorder {
         if self.has_failed {
             return;
         }
-        if self.left == 0 {
+        let Note { clock, what } = note;
+        if self.left == 0 || writeln!(self.text, "{clock} {what:?}").is_err() {
             self.has_failed = true;
             return;
         }
         self.left -= 1;
-        if self.notes.push(note).is_err() {
-            self.has_failed = true;
-        }
+        self.notes = self.notes.saturating_add(1);
     }
 
     fn failed(&self) -> bool {

@@ -1,180 +1,116 @@
 //! What no policy, no machine and no event is made of.
 
-use crate::policies::{ENQUEUE, NONE, defs, machine, policy, program, tree, two_milliseconds};
-use crate::recorder::Recorder;
+use crate::policies::{
+    NONE, SHORT_SLICES, callbacks, defs, policy, program, tree, two_milliseconds,
+};
+use crate::session::Session;
 use scx_isa::Callback;
-use scx_maps::{MapDefs, Shape};
+use scx_maps::MapDefs;
 use scx_sched::{BadPolicy, Callbacks, Event, NewError, Policy, Refused, Sim};
 use scx_weights::Tree;
 use std::process::Abort;
-use std::test::Fail;
 
-fn bad_policy(rt: &impl Abort, timeout_ms: u32, callbacks: Callbacks) -> Option<BadPolicy> {
-    match Policy::new(defs(rt), timeout_ms, callbacks) {
-        Ok(_) => None,
-        Err(bad) => Some(bad),
-    }
+fn expect_timeout(rt: &impl Abort, timeout_ms: u32, wanted: Option<BadPolicy>) {
+    let found = Policy::new(defs(rt), timeout_ms, NONE).err();
+    assert_eq!(rt; found, wanted, "{timeout_ms}");
 }
 
 #[test]
-fn policies(rt: HostRuntime) -> Result<(), Fail> {
-    assert_eq!(rt; bad_policy(&rt, 0, NONE), Some(BadPolicy::BadTimeout));
-    assert_eq!(rt; bad_policy(&rt, 30_001, NONE), Some(BadPolicy::BadTimeout));
-    assert_eq!(rt; bad_policy(&rt, 1, NONE), None);
-    assert_eq!(rt; bad_policy(&rt, 30_000, NONE), None);
+fn policies_of_bad_timeouts(rt: HostRuntime) {
+    expect_timeout(&rt, 0, Some(BadPolicy::BadTimeout));
+    expect_timeout(&rt, 30_001, Some(BadPolicy::BadTimeout));
+    expect_timeout(&rt, 1, None);
+    expect_timeout(&rt, 30_000, None);
+}
+
+#[test]
+fn a_program_of_another_callback(rt: HostRuntime) {
     let misplaced = Callbacks {
-        stopping: program(&rt, Callback::Enqueue, ENQUEUE),
+        stopping: Some(program(&rt, Callback::Enqueue, SHORT_SLICES)),
         ..NONE
     };
-    assert_eq!(rt;
-        bad_policy(&rt, 1, misplaced),
-        Some(BadPolicy::OtherCallback)
-    );
-    let callbacks = Callbacks {
-        enqueue: program(&rt, Callback::Enqueue, ENQUEUE),
-        ..NONE
-    };
-    let shape = Shape {
-        entries: 1,
-        value_size: 8,
-    };
-    let others = MapDefs::new(&[shape]).expect(&rt, "one map is fine");
-    let bad = match Policy::new(others, 1, callbacks) {
-        Ok(_) => None,
-        Err(bad) => Some(bad),
-    };
-    assert_eq!(rt; bad, Some(BadPolicy::OtherMaps));
-    Ok(())
+    let found = Policy::new(defs(&rt), 1, misplaced).err();
+    assert_eq!(rt; found, Some(BadPolicy::OtherCallback));
+}
+
+#[test]
+fn a_program_of_other_maps(rt: HostRuntime) {
+    let callbacks = callbacks(&rt, &[(Callback::Enqueue, SHORT_SLICES)]);
+    let others = MapDefs::new(&[]).expect(&rt, "no map at all is fine");
+    let found = Policy::new(others, 1, callbacks).err();
+    assert_eq!(rt; found, Some(BadPolicy::OtherMaps));
 }
 
 fn bad_machine<R: AllocGlobal + Abort>(
     rt: &R,
-    policy: Policy,
+    texts: &[(Callback, &str)],
     tree: Tree,
     cpus: u32,
 ) -> Option<NewError> {
-    match Sim::new(rt.alloc(), policy, tree, cpus) {
-        Ok(_) => None,
-        Err(error) => Some(error),
-    }
+    Sim::new(rt.alloc(), policy(rt, texts), tree, cpus).err()
 }
 
-fn bad_init<R: AllocGlobal + Abort>(rt: &R, text: &str) -> Option<NewError> {
-    let callbacks = Callbacks {
-        init: program(rt, Callback::Init, text),
-        ..NONE
-    };
-    bad_machine(rt, policy(rt, callbacks), tree(rt, &[0]), 1)
+fn expect_cpus<R: AllocGlobal + Abort>(rt: &R, cpus: u32, wanted: Option<NewError>) {
+    let found = bad_machine(rt, &[], tree(rt, &[0]), cpus);
+    assert_eq!(rt; found, wanted, "{cpus} processors");
 }
 
 #[test]
-fn machines(rt: HostRuntime) -> Result<(), Fail> {
-    let one = tree(&rt, &[0]);
-    let bad = bad_machine(&rt, policy(&rt, NONE), one, 0);
-    assert_eq!(rt; bad, Some(NewError::BadShape));
-    let one = tree(&rt, &[0]);
-    let bad = bad_machine(&rt, policy(&rt, NONE), one, 65);
-    assert_eq!(rt; bad, Some(NewError::BadShape));
-    let one = tree(&rt, &[0]);
-    assert_eq!(rt; bad_machine(&rt, policy(&rt, NONE), one, 64), None);
+fn numbers_of_processors(rt: HostRuntime) {
+    expect_cpus(&rt, 0, Some(NewError::BadShape));
+    expect_cpus(&rt, 65, Some(NewError::BadShape));
+    expect_cpus(&rt, 64, None);
+}
+
+#[test]
+fn a_tree_with_an_active_task(rt: HostRuntime) {
     let mut active = tree(&rt, &[0]);
     let known = active.tasks() > 0;
     assert!(rt; known);
     active.activate(0);
-    let bad = bad_machine(&rt, policy(&rt, NONE), active, 1);
-    assert_eq!(rt; bad, Some(NewError::BadShape));
-    Ok(())
+    let found = bad_machine(&rt, &[], active, 1);
+    assert_eq!(rt; found, Some(NewError::BadShape));
+}
+
+fn expect_init<R: AllocGlobal + Abort>(rt: &R, text: &str, wanted: Option<NewError>) {
+    let found = bad_machine(rt, &[(Callback::Init, text)], tree(rt, &[0]), 1);
+    assert_eq!(rt; found, wanted, "{text}");
 }
 
 #[test]
-fn inits(rt: HostRuntime) -> Result<(), Fail> {
-    assert_eq!(rt; bad_init(&rt, "r0 = 0\nexit"), None);
-    assert_eq!(rt;
-        bad_init(&rt, "r0 = 7\nexit"),
-        Some(NewError::InitFailed(7))
-    );
-    assert_eq!(rt;
-        bad_init(&rt, "r0 = -1\nexit"),
-        Some(NewError::InitFailed(-1))
-    );
+fn inits(rt: HostRuntime) {
+    expect_init(&rt, "r0 = 0\nexit", None);
+    expect_init(&rt, "r0 = 7\nexit", Some(NewError::InitFailed(7)));
+    expect_init(&rt, "r0 = -1\nexit", Some(NewError::InitFailed(-1)));
     let twice = "r1 = 0\ncall 1001\nr1 = 0\ncall 1001\nr0 = 0\nexit";
-    assert_eq!(rt; bad_init(&rt, twice), Some(NewError::InitFailed(-22)));
-    Ok(())
+    expect_init(&rt, twice, Some(NewError::InitFailed(-22)));
 }
 
 #[test]
-fn a_fault_in_enable(rt: HostRuntime) -> Result<(), Fail> {
-    let callbacks = Callbacks {
-        enable: program(&rt, Callback::Enable, "r1 = 9\ncall 1008\nexit"),
-        ..NONE
-    };
-    let bad = bad_machine(&rt, policy(&rt, callbacks), tree(&rt, &[0]), 1);
+fn a_fault_in_enable(rt: HostRuntime) {
+    let text = "r1 = 9\ncall 1008\nexit";
+    let bad = bad_machine(&rt, &[(Callback::Enable, text)], tree(&rt, &[0]), 1);
     assert_eq!(rt; bad, Some(NewError::InitFailed(-22)));
-    Ok(())
 }
 
-fn expect(rt: &impl Abort, sim: &mut Sim, recorder: &mut Recorder, event: Event, refused: Refused) {
-    let events = sim.events();
-    let notes = recorder.notes.len();
-    assert_eq!(rt; sim.step(event, recorder), Err(refused), "{event:?}");
-    assert_eq!(rt; sim.events(), events);
-    assert_eq!(rt; recorder.notes.len(), notes);
+/// Events that no machine of two tasks and one processor takes.
+fn refuse_events(rt: &impl Abort, session: &mut Session) {
+    let rows = [
+        (Event::Wake(2), Refused::UnknownTask),
+        (Event::Sleep(2), Refused::UnknownTask),
+        (Event::Sleep(0), Refused::NotRunnable),
+        (Event::Tick(1), Refused::UnknownCpu),
+        (Event::SetWeight(1, 0), Refused::UnknownGroup),
+        (Event::SetWeight(0, 0), Refused::BadWeight),
+        (Event::SetWeight(0, 10_001), Refused::BadWeight),
+    ];
+    session.refuse(rt, &rows);
 }
 
 #[test]
-fn events(rt: HostRuntime) -> Result<(), Fail> {
-    let mut sim = machine(&rt, two_milliseconds(&rt), 1);
-    let mut recorder = Recorder::new(rt.alloc(), 100);
-    expect(
-        &rt,
-        &mut sim,
-        &mut recorder,
-        Event::Wake(2),
-        Refused::UnknownTask,
-    );
-    expect(
-        &rt,
-        &mut sim,
-        &mut recorder,
-        Event::Sleep(2),
-        Refused::UnknownTask,
-    );
-    expect(
-        &rt,
-        &mut sim,
-        &mut recorder,
-        Event::Sleep(0),
-        Refused::NotRunnable,
-    );
-    expect(
-        &rt,
-        &mut sim,
-        &mut recorder,
-        Event::Tick(1),
-        Refused::UnknownCpu,
-    );
-    expect(
-        &rt,
-        &mut sim,
-        &mut recorder,
-        Event::SetWeight(1, 0),
-        Refused::UnknownGroup,
-    );
-    expect(
-        &rt,
-        &mut sim,
-        &mut recorder,
-        Event::SetWeight(0, 0),
-        Refused::BadWeight,
-    );
-    expect(
-        &rt,
-        &mut sim,
-        &mut recorder,
-        Event::SetWeight(0, 10_001),
-        Refused::BadWeight,
-    );
-    let accepted = sim.step(Event::SetWeight(0, 10_000), &mut recorder);
-    assert_eq!(rt; accepted, Ok(()));
-    Ok(())
+fn events(rt: HostRuntime) {
+    let mut session = Session::of(&rt, two_milliseconds(&rt), tree(&rt, &[0, 0]), 1, 100);
+    refuse_events(&rt, &mut session);
+    session.run(&rt, &[Event::SetWeight(0, 10_000)]);
+    drop(session);
 }

@@ -1,180 +1,182 @@
 //! Lists of events, and the notes that they give.
 
-use crate::policies::{NONE, machine, policy, two_milliseconds};
-use crate::recorder::Recorder;
-use scx_sched::{Event, Note, Place, Refused, Sim, What};
+use crate::policies::{policy, tree, two_milliseconds};
+use crate::session::Session;
+use scx_sched::{Event, Place, Refused, Sim};
 use std::process::Abort;
-use std::test::Fail;
 
-/// Local queues and GLOBAL are never noted but as moves; a policy's queue 0 is.
-const GLOBAL: u64 = 0x8000_0000_0000_0001;
-
-fn note(clock: u64, what: What) -> Note {
-    Note { clock, what }
+/// A machine of two tasks, with room for so many notes.
+fn at_room<R: AllocGlobal + Abort>(rt: &R, room: usize) -> Session {
+    Session::of(rt, two_milliseconds(rt), tree(rt, &[0, 0]), 1, room)
 }
 
-/// Each event is accepted.
-fn run(rt: &impl Abort, sim: &mut Sim, recorder: &mut Recorder, events: &[Event]) {
-    for &event in events {
-        assert_eq!(rt; sim.step(event, recorder), Ok(()), "{event:?}");
-    }
+/// Both tasks wake, and four milliseconds go by.
+fn run_two_tasks(rt: &impl Abort, session: &mut Session) {
+    let events = [
+        Event::Wake(0),
+        Event::Wake(1),
+        Event::Tick(0),
+        Event::Clock,
+        Event::Tick(0),
+        Event::Clock,
+        Event::Tick(0),
+        Event::Clock,
+        Event::Tick(0),
+        Event::Clock,
+    ];
+    session.run(rt, &events);
 }
 
-fn place(rt: &impl Abort, sim: &Sim, task: u16) -> Place {
-    let known = task < sim.tasks();
-    assert!(rt; known);
-    sim.place(task)
-}
+const TURNS: &str = "0 Wake(0)
+0 Insert(0, 0)
+0 Move(0, 0)
+0 Run(0, 0)
+0 Wake(1)
+0 Insert(1, 0)
+1 Move(1, 0)
+1 Stop(0, 0)
+1 Insert(0, 0)
+1 Run(1, 0)
+3 Move(0, 0)
+3 Stop(1, 0)
+3 Insert(1, 0)
+3 Run(0, 0)
+";
 
-const TWO_TASKS: [Event; 10] = [
-    Event::Wake(0),
-    Event::Wake(1),
-    Event::Tick(0),
-    Event::Clock,
-    Event::Tick(0),
-    Event::Clock,
-    Event::Tick(0),
-    Event::Clock,
-    Event::Tick(0),
-    Event::Clock,
-];
+fn have_taken_turns(rt: &impl Abort, session: &Session) {
+    session.noted(rt, TURNS);
+    session.are_at(rt, &[(0, Place::Cpu(0)), (1, Place::Policy(0))]);
+    assert_eq!(rt; session.sim.clock(), 4);
+    assert_eq!(rt; session.sim.events(), 10);
+}
 
 #[test]
-fn two_tasks_take_turns(rt: HostRuntime) -> Result<(), Fail> {
-    let mut sim = machine(&rt, two_milliseconds(&rt), 1);
-    let mut recorder = Recorder::new(rt.alloc(), 100);
-    run(&rt, &mut sim, &mut recorder, &TWO_TASKS);
-    let wanted = [
-        note(0, What::Wake(0)),
-        note(0, What::Insert(0, 0)),
-        note(0, What::Move(0, 0)),
-        note(0, What::Run(0, 0)),
-        note(0, What::Wake(1)),
-        note(0, What::Insert(1, 0)),
-        note(1, What::Move(1, 0)),
-        note(1, What::Stop(0, 0)),
-        note(1, What::Insert(0, 0)),
-        note(1, What::Run(1, 0)),
-        note(3, What::Move(0, 0)),
-        note(3, What::Stop(1, 0)),
-        note(3, What::Insert(1, 0)),
-        note(3, What::Run(0, 0)),
-    ];
-    assert_eq!(rt; recorder.notes.as_slice(), wanted.as_slice());
-    assert_eq!(rt; place(&rt, &sim, 0), Place::Cpu(0));
-    assert_eq!(rt; place(&rt, &sim, 1), Place::Policy(0));
-    assert_eq!(rt; sim.clock(), 4);
-    assert_eq!(rt; sim.events(), 10);
-    Ok(())
+fn two_tasks_take_turns(rt: HostRuntime) {
+    let mut session = at_room(&rt, 100);
+    run_two_tasks(&rt, &mut session);
+    have_taken_turns(&rt, &session);
+    drop(session);
+}
+
+/// What a machine says of a task: its place, run time, slice, virtual time and wait.
+fn seen(rt: &impl Abort, sim: &Sim, task: u16) -> (Place, u64, u64, u64, u64) {
+    let known = task < sim.tasks();
+    assert!(rt; known);
+    (
+        sim.place(task),
+        sim.run_ns(task),
+        sim.slice(task),
+        sim.vtime(task),
+        sim.wait(task),
+    )
 }
 
 fn assert_same(rt: &impl Abort, one: &Sim, other: &Sim) {
-    assert_eq!(rt; one.clock(), other.clock());
-    assert_eq!(rt; one.events(), other.events());
-    for task in 0..2 {
-        let known = task < one.tasks() && task < other.tasks();
-        assert!(rt; known);
-        assert_eq!(rt; one.place(task), other.place(task));
-        assert_eq!(rt; one.run_ns(task), other.run_ns(task));
-        assert_eq!(rt; one.slice(task), other.slice(task));
-        assert_eq!(rt; one.vtime(task), other.vtime(task));
-        assert_eq!(rt; one.wait(task), other.wait(task));
-    }
+    assert_eq!(rt;
+        (one.clock(), one.events()),
+        (other.clock(), other.events())
+    );
+    assert_eq!(rt; seen(rt, one, 0), seen(rt, other, 0));
+    assert_eq!(rt; seen(rt, one, 1), seen(rt, other, 1));
+}
+
+/// With room for so many notes only, nothing else changes.
+fn expect_at_room<R: AllocGlobal + Abort>(rt: &R, room: usize, whole: &Session) {
+    let mut session = at_room(rt, room);
+    run_two_tasks(rt, &mut session);
+    assert_eq!(rt; session.recorder.notes, room);
+    assert_same(rt, &session.sim, &whole.sim);
+    drop(session);
 }
 
 #[test]
-fn a_sink_that_fails_changes_nothing_else(rt: HostRuntime) -> Result<(), Fail> {
-    let mut whole = machine(&rt, two_milliseconds(&rt), 1);
-    let mut all = Recorder::new(rt.alloc(), 100);
-    run(&rt, &mut whole, &mut all, &TWO_TASKS);
+fn a_sink_that_fails_changes_nothing_else(rt: HostRuntime) {
+    let mut whole = at_room(&rt, 100);
+    run_two_tasks(&rt, &mut whole);
     for room in 0..14 {
-        let mut sim = machine(&rt, two_milliseconds(&rt), 1);
-        let mut recorder = Recorder::new(rt.alloc(), room);
-        run(&rt, &mut sim, &mut recorder, &TWO_TASKS);
-        assert_eq!(rt; recorder.notes.len(), room);
-        assert_same(&rt, &sim, &whole);
+        expect_at_room(&rt, room, &whole);
     }
-    Ok(())
+    drop(whole);
+}
+
+/// A task that has woken wakes no more.
+fn wake_twice(rt: &impl Abort, session: &mut Session) {
+    session.run(rt, &[Event::Wake(0)]);
+    session.refuse(rt, &[(Event::Wake(0), Refused::AlreadyRunnable)]);
+    assert_eq!(rt; session.sim.events(), 1);
+    session.are_at(rt, &[(0, Place::Cpu(0))]);
 }
 
 #[test]
-fn a_runnable_task_wakes_no_more(rt: HostRuntime) -> Result<(), Fail> {
-    let mut sim = machine(&rt, two_milliseconds(&rt), 1);
-    let mut recorder = Recorder::new(rt.alloc(), 100);
-    run(&rt, &mut sim, &mut recorder, &[Event::Wake(0)]);
-    let notes = recorder.notes.len();
-    let refused = sim.step(Event::Wake(0), &mut recorder);
-    assert_eq!(rt; refused, Err(Refused::AlreadyRunnable));
-    assert_eq!(rt; recorder.notes.len(), notes);
-    assert_eq!(rt; sim.events(), 1);
-    assert_eq!(rt; place(&rt, &sim, 0), Place::Cpu(0));
-    Ok(())
+fn a_runnable_task_wakes_no_more(rt: HostRuntime) {
+    let mut session = at_room(&rt, 100);
+    wake_twice(&rt, &mut session);
+    drop(session);
 }
 
-#[test]
-fn without_callbacks_a_task_keeps_its_processor(rt: HostRuntime) -> Result<(), Fail> {
-    let mut sim = machine(&rt, policy(&rt, NONE), 1);
-    let mut recorder = Recorder::new(rt.alloc(), 100);
-    run(&rt, &mut sim, &mut recorder, &[Event::Wake(0)]);
-    let wanted = [
-        note(0, What::Wake(0)),
-        note(0, What::Insert(0, GLOBAL)),
-        note(0, What::Move(0, 0)),
-        note(0, What::Run(0, 0)),
-    ];
-    assert_eq!(rt; recorder.notes.as_slice(), wanted.as_slice());
+/// GLOBAL, the queue of all processors, is 9223372036854775809.
+const ALONE: &str = "0 Wake(0)
+0 Insert(0, 9223372036854775809)
+0 Move(0, 0)
+0 Run(0, 0)
+0 Sleep(0)
+0 Stop(0, 0)
+0 Idle(0)
+";
+
+fn run_alone(rt: &impl Abort, session: &mut Session) {
+    session.run(rt, &[Event::Wake(0)]);
     for _ in 0..20 {
-        run(&rt, &mut sim, &mut recorder, &[Event::Tick(0)]);
+        session.run(rt, &[Event::Tick(0)]);
     }
-    assert_eq!(rt; recorder.notes.len(), 4);
-    let mut recorder = Recorder::new(rt.alloc(), 100);
-    run(&rt, &mut sim, &mut recorder, &[Event::Sleep(0)]);
-    let wanted = [
-        note(0, What::Sleep(0)),
-        note(0, What::Stop(0, 0)),
-        note(0, What::Idle(0)),
-    ];
-    assert_eq!(rt; recorder.notes.as_slice(), wanted.as_slice());
-    assert_eq!(rt; place(&rt, &sim, 0), Place::Asleep);
-    Ok(())
+    assert_eq!(rt; session.recorder.notes, 4);
+    session.run(rt, &[Event::Sleep(0)]);
+    session.noted(rt, ALONE);
+    session.are_at(rt, &[(0, Place::Asleep)]);
 }
 
 #[test]
-fn two_processors_share_three_tasks(rt: HostRuntime) -> Result<(), Fail> {
-    let tree = crate::policies::tree(&rt, &[0, 0, 0]);
-    let mut sim = Sim::new(rt.alloc(), two_milliseconds(&rt), tree, 2)?;
-    let mut recorder = Recorder::new(rt.alloc(), 100);
-    let wakes = [Event::Wake(0), Event::Wake(1), Event::Wake(2)];
-    run(&rt, &mut sim, &mut recorder, &wakes);
-    let ticks = [Event::Tick(0), Event::Tick(1), Event::Clock];
+fn without_callbacks_a_task_keeps_its_processor(rt: HostRuntime) {
+    let mut session = Session::of(&rt, policy(&rt, &[]), tree(&rt, &[0, 0]), 1, 100);
+    run_alone(&rt, &mut session);
+    drop(session);
+}
+
+const SHARED: &str = "0 Wake(0)
+0 Insert(0, 0)
+0 Move(0, 0)
+0 Run(0, 0)
+0 Wake(1)
+0 Insert(1, 0)
+0 Move(1, 1)
+0 Run(1, 1)
+0 Wake(2)
+0 Insert(2, 0)
+1 Move(2, 0)
+1 Stop(0, 0)
+1 Insert(0, 0)
+1 Run(2, 0)
+1 Move(0, 1)
+1 Stop(1, 1)
+1 Insert(1, 0)
+1 Run(0, 1)
+";
+
+fn share_two_processors(rt: &impl Abort, session: &mut Session) {
+    session.run(rt, &[Event::Wake(0), Event::Wake(1), Event::Wake(2)]);
     for _ in 0..3 {
-        run(&rt, &mut sim, &mut recorder, &ticks);
+        session.run(rt, &[Event::Tick(0), Event::Tick(1), Event::Clock]);
     }
-    let wanted = [
-        note(0, What::Wake(0)),
-        note(0, What::Insert(0, 0)),
-        note(0, What::Move(0, 0)),
-        note(0, What::Run(0, 0)),
-        note(0, What::Wake(1)),
-        note(0, What::Insert(1, 0)),
-        note(0, What::Move(1, 1)),
-        note(0, What::Run(1, 1)),
-        note(0, What::Wake(2)),
-        note(0, What::Insert(2, 0)),
-        note(1, What::Move(2, 0)),
-        note(1, What::Stop(0, 0)),
-        note(1, What::Insert(0, 0)),
-        note(1, What::Run(2, 0)),
-        note(1, What::Move(0, 1)),
-        note(1, What::Stop(1, 1)),
-        note(1, What::Insert(1, 0)),
-        note(1, What::Run(0, 1)),
-    ];
-    assert_eq!(rt; recorder.notes.as_slice(), wanted.as_slice());
-    for (task, run_ns) in [(0, 3_000_000), (1, 2_000_000), (2, 1_000_000)] {
-        let known = task < sim.tasks();
-        assert!(rt; known);
-        assert_eq!(rt; sim.run_ns(task), run_ns);
-    }
-    Ok(())
+    session.noted(rt, SHARED);
+    session.has_run(rt, 0, 3_000_000);
+    session.has_run(rt, 1, 2_000_000);
+    session.has_run(rt, 2, 1_000_000);
+}
+
+#[test]
+fn two_processors_share_three_tasks(rt: HostRuntime) {
+    let tree = tree(&rt, &[0, 0, 0]);
+    let mut session = Session::of(&rt, two_milliseconds(&rt), tree, 2, 100);
+    share_two_processors(&rt, &mut session);
+    drop(session);
 }

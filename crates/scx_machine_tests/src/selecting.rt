@@ -1,178 +1,101 @@
-//! scx_simple in both forms, and what select_cpu, virtual time and held tasks make of a wake.
+//! scx_simple in both forms, and what select_cpu, virtual time and held tasks make of a wake. In what is
+//! noted 9223372036854775809 is GLOBAL, 9223372036854775811 is HELD, and 13835058055282163712 and the number
+//! behind it are the local queues of processors 0 and 1.
 
-use crate::policies::{NONE, tree};
-use crate::recorder::Recorder;
-use scx_asm::assemble;
+use crate::session::Session;
 use scx_examples::{
     DISPATCH, ENABLE, ENQUEUE, ENQUEUE_BY_VTIME, INIT, RUNNING, SELECT_CPU, STOPPING,
 };
 use scx_isa::Callback;
-use scx_maps::{MapDefs, Shape};
-use scx_sched::{Callbacks, Event, Note, Place, Policy, Sim, What};
-use scx_verify::{Verified, verify};
+use scx_sched::{Event, Place};
 use std::process::Abort;
-use std::test::Fail;
 
-const GLOBAL: u64 = 0x8000_0000_0000_0001;
-
-const HELD: u64 = 0x8000_0000_0000_0003;
-
-const LOCAL_0: u64 = 0xc000_0000_0000_0000;
-
-const LOCAL_1: u64 = 0xc000_0000_0000_0001;
-
-/// One map of one value of eight bytes.
-fn one_map(rt: &impl Abort) -> MapDefs {
-    let shape = Shape {
-        entries: 1,
-        value_size: 8,
-    };
-    MapDefs::new(&[shape]).expect(rt, "the shape is within the limits")
+fn by_vtime<R: AllocGlobal + Abort>(rt: &R) -> Session {
+    let texts = [
+        (Callback::Init, INIT),
+        (Callback::Enable, ENABLE),
+        (Callback::SelectCpu, SELECT_CPU),
+        (Callback::Enqueue, ENQUEUE_BY_VTIME),
+        (Callback::Dispatch, DISPATCH),
+        (Callback::Running, RUNNING),
+        (Callback::Stopping, STOPPING),
+    ];
+    Session::new(rt, &texts, &[0, 0], 1)
 }
 
-fn program<R: AllocGlobal + Abort>(rt: &R, callback: Callback, text: &str) -> Option<Verified> {
-    let program = assemble(rt.alloc(), text).expect(rt, "the text stands for a program");
-    Some(verify(rt.alloc(), program, callback, &one_map(rt)).expect(rt, "the program is safe"))
+fn in_order<R: AllocGlobal + Abort>(rt: &R) -> Session {
+    let texts = [
+        (Callback::Init, INIT),
+        (Callback::SelectCpu, SELECT_CPU),
+        (Callback::Enqueue, ENQUEUE),
+        (Callback::Dispatch, DISPATCH),
+    ];
+    Session::new(rt, &texts, &[0], 1)
 }
 
-fn policy<R: AllocGlobal + Abort>(rt: &R, callbacks: Callbacks) -> Policy {
-    Policy::new(one_map(rt), 30_000, callbacks).expect(rt, "each program is for its place")
-}
-
-fn by_vtime<R: AllocGlobal + Abort>(rt: &R) -> Policy {
-    let callbacks = Callbacks {
-        init: program(rt, Callback::Init, INIT),
-        enable: program(rt, Callback::Enable, ENABLE),
-        select_cpu: program(rt, Callback::SelectCpu, SELECT_CPU),
-        enqueue: program(rt, Callback::Enqueue, ENQUEUE_BY_VTIME),
-        dispatch: program(rt, Callback::Dispatch, DISPATCH),
-        running: program(rt, Callback::Running, RUNNING),
-        stopping: program(rt, Callback::Stopping, STOPPING),
-    };
-    policy(rt, callbacks)
-}
-
-fn in_order<R: AllocGlobal + Abort>(rt: &R) -> Policy {
-    let callbacks = Callbacks {
-        init: program(rt, Callback::Init, INIT),
-        select_cpu: program(rt, Callback::SelectCpu, SELECT_CPU),
-        enqueue: program(rt, Callback::Enqueue, ENQUEUE),
-        dispatch: program(rt, Callback::Dispatch, DISPATCH),
-        ..NONE
-    };
-    policy(rt, callbacks)
-}
-
-fn machine<R: AllocGlobal + Abort>(rt: &R, policy: Policy, tasks: &[u32], cpus: u32) -> Sim {
-    Sim::new(rt.alloc(), policy, tree(rt, tasks), cpus).expect(rt, "init answers 0")
-}
-
-fn note(clock: u64, what: What) -> Note {
-    Note { clock, what }
-}
-
-/// Each event is accepted.
-fn run(rt: &impl Abort, sim: &mut Sim, recorder: &mut Recorder, events: &[Event]) {
-    for &event in events {
-        assert_eq!(rt; sim.step(event, recorder), Ok(()), "{event:?}");
+fn go_by(rt: &impl Abort, session: &mut Session, milliseconds: u32) {
+    for _ in 0..milliseconds {
+        session.run(rt, &[Event::Tick(0), Event::Clock]);
     }
 }
 
-fn vtime(rt: &impl Abort, sim: &Sim, task: u16) -> u64 {
-    let known = task < sim.tasks();
-    assert!(rt; known);
-    sim.vtime(task)
-}
+const BY_VTIME: &str = "0 Wake(0)
+0 Insert(0, 13835058055282163712)
+0 Run(0, 0)
+0 Wake(1)
+0 Insert(1, 0)
+19 Move(1, 0)
+19 Stop(0, 0)
+19 Insert(0, 0)
+19 Run(1, 0)
+39 Move(0, 0)
+39 Stop(1, 0)
+39 Insert(1, 0)
+39 Run(0, 0)
+";
 
-fn place(rt: &impl Abort, sim: &Sim, task: u16) -> Place {
-    let known = task < sim.tasks();
-    assert!(rt; known);
-    sim.place(task)
+fn take_turns(rt: &impl Abort, session: &mut Session) {
+    session.run(rt, &[Event::Wake(0), Event::Wake(1)]);
+    go_by(rt, session, 20);
+    session.has_vtime(rt, 0, 400_000);
+    go_by(rt, session, 20);
+    session.has_vtime(rt, 1, 400_000);
+    session.noted(rt, BY_VTIME);
 }
 
 #[test]
-fn virtual_times_take_turns(rt: HostRuntime) -> Result<(), Fail> {
-    let mut sim = machine(&rt, by_vtime(&rt), &[0, 0], 1);
-    let mut recorder = Recorder::new(rt.alloc(), 100);
-    run(
-        &rt,
-        &mut sim,
-        &mut recorder,
-        &[Event::Wake(0), Event::Wake(1)],
-    );
-    for millisecond in 0..40 {
-        run(&rt, &mut sim, &mut recorder, &[Event::Tick(0)]);
-        if millisecond == 19 {
-            assert_eq!(rt; vtime(&rt, &sim, 0), 400_000);
-        }
-        run(&rt, &mut sim, &mut recorder, &[Event::Clock]);
-    }
-    assert_eq!(rt; vtime(&rt, &sim, 1), 400_000);
-    let wanted = [
-        note(0, What::Wake(0)),
-        note(0, What::Insert(0, LOCAL_0)),
-        note(0, What::Run(0, 0)),
-        note(0, What::Wake(1)),
-        note(0, What::Insert(1, 0)),
-        note(19, What::Move(1, 0)),
-        note(19, What::Stop(0, 0)),
-        note(19, What::Insert(0, 0)),
-        note(19, What::Run(1, 0)),
-        note(39, What::Move(0, 0)),
-        note(39, What::Stop(1, 0)),
-        note(39, What::Insert(1, 0)),
-        note(39, What::Run(0, 0)),
-    ];
-    assert_eq!(rt; recorder.notes.as_slice(), wanted.as_slice());
-    Ok(())
+fn virtual_times_take_turns(rt: HostRuntime) {
+    let mut session = by_vtime(&rt);
+    take_turns(&rt, &mut session);
+    drop(session);
+}
+
+const AWAKE_TWICE: &str = "0 Wake(0)
+0 Insert(0, 13835058055282163712)
+0 Run(0, 0)
+1 Sleep(0)
+1 Stop(0, 0)
+1 Idle(0)
+5 Wake(0)
+5 Insert(0, 13835058055282163712)
+5 Run(0, 0)
+";
+
+fn sleep_and_wake(rt: &impl Abort, session: &mut Session) {
+    session.run(rt, &[Event::Wake(0)]);
+    go_by(rt, session, 1);
+    session.run(rt, &[Event::Tick(0), Event::Sleep(0), Event::Clock]);
+    go_by(rt, session, 3);
+    session.run(rt, &[Event::Wake(0)]);
+    go_by(rt, session, 1);
+    session.noted(rt, AWAKE_TWICE);
 }
 
 #[test]
-fn a_task_sleeps_and_wakes(rt: HostRuntime) -> Result<(), Fail> {
-    let mut sim = machine(&rt, in_order(&rt), &[0], 1);
-    let mut recorder = Recorder::new(rt.alloc(), 100);
-    let begin = [
-        Event::Wake(0),
-        Event::Tick(0),
-        Event::Clock,
-        Event::Tick(0),
-        Event::Sleep(0),
-        Event::Clock,
-    ];
-    run(&rt, &mut sim, &mut recorder, &begin);
-    for _ in 2..5 {
-        run(
-            &rt,
-            &mut sim,
-            &mut recorder,
-            &[Event::Tick(0), Event::Clock],
-        );
-    }
-    let end = [Event::Wake(0), Event::Tick(0), Event::Clock];
-    run(&rt, &mut sim, &mut recorder, &end);
-    let wanted = [
-        note(0, What::Wake(0)),
-        note(0, What::Insert(0, LOCAL_0)),
-        note(0, What::Run(0, 0)),
-        note(1, What::Sleep(0)),
-        note(1, What::Stop(0, 0)),
-        note(1, What::Idle(0)),
-        note(5, What::Wake(0)),
-        note(5, What::Insert(0, LOCAL_0)),
-        note(5, What::Run(0, 0)),
-    ];
-    assert_eq!(rt; recorder.notes.as_slice(), wanted.as_slice());
-    Ok(())
-}
-
-/// Takes nothing from enqueue, and from dispatch the task of that pid, for two milliseconds.
-fn holding<R: AllocGlobal + Abort>(rt: &R, dispatch: &str) -> Policy {
-    let callbacks = Callbacks {
-        enqueue: program(rt, Callback::Enqueue, "exit"),
-        dispatch: program(rt, Callback::Dispatch, dispatch),
-        ..NONE
-    };
-    policy(rt, callbacks)
+fn a_task_sleeps_and_wakes(rt: HostRuntime) {
+    let mut session = in_order(&rt);
+    sleep_and_wake(&rt, &mut session);
+    drop(session);
 }
 
 /// Puts the first task into the processor's own queue.
@@ -188,97 +111,75 @@ out:
 exit
 ";
 
-#[test]
-fn a_held_task_goes_at_once(rt: HostRuntime) -> Result<(), Fail> {
-    let mut sim = machine(&rt, holding(&rt, FIRST), &[0, 0], 1);
-    let mut recorder = Recorder::new(rt.alloc(), 100);
-    run(&rt, &mut sim, &mut recorder, &[Event::Wake(0)]);
-    let wanted = [
-        note(0, What::Wake(0)),
-        note(0, What::Insert(0, HELD)),
-        note(0, What::Insert(0, LOCAL_0)),
-        note(0, What::Run(0, 0)),
-    ];
-    assert_eq!(rt; recorder.notes.as_slice(), wanted.as_slice());
-    let known = 0 < sim.tasks();
-    assert!(&rt; known);
-    assert_eq!(rt; sim.slice(0), 2_000_000);
+/// Takes nothing from enqueue, and from dispatch the first task, for two milliseconds.
+fn holding<R: AllocGlobal + Abort>(rt: &R) -> Session {
+    let texts = [(Callback::Enqueue, "exit"), (Callback::Dispatch, FIRST)];
+    Session::new(rt, &texts, &[0, 0], 1)
+}
+
+const HELD_AND_INSERTED: &str = "0 Wake(0)
+0 Insert(0, 9223372036854775811)
+0 Insert(0, 13835058055282163712)
+0 Run(0, 0)
+";
+
+fn hold(rt: &impl Abort, session: &mut Session) {
+    session.run(rt, &[Event::Wake(0)]);
+    session.noted(rt, HELD_AND_INSERTED);
+    session.has_slice(rt, 0, 2_000_000);
     // The second task is held for ever: dispatch names the first alone, which is held no more.
-    run(
-        &rt,
-        &mut sim,
-        &mut recorder,
-        &[Event::Wake(1), Event::Tick(0), Event::Tick(0)],
-    );
-    assert_eq!(rt; place(&rt, &sim, 0), Place::Cpu(0));
-    assert_eq!(rt; place(&rt, &sim, 1), Place::Held);
-    Ok(())
-}
-
-/// A machine of two processors whose select_cpu is that program, and one task that has woken.
-fn woken<R: AllocGlobal + Abort>(rt: &R, select_cpu: &str, recorder: &mut Recorder) -> Sim {
-    let callbacks = Callbacks {
-        select_cpu: program(rt, Callback::SelectCpu, select_cpu),
-        ..NONE
-    };
-    let mut sim = machine(rt, policy(rt, callbacks), &[0], 2);
-    run(rt, &mut sim, recorder, &[Event::Wake(0)]);
-    sim
+    session.run(rt, &[Event::Wake(1), Event::Tick(0), Event::Tick(0)]);
+    session.are_at(rt, &[(0, Place::Cpu(0)), (1, Place::Held)]);
 }
 
 #[test]
-fn a_task_is_put_for_the_processor_that_is_named(rt: HostRuntime) -> Result<(), Fail> {
-    let mut recorder = Recorder::new(rt.alloc(), 100);
-    woken(&rt, "r0 = 1\nexit", &mut recorder);
-    let wanted = [
-        note(0, What::Wake(0)),
-        note(0, What::Insert(0, GLOBAL)),
-        note(0, What::Move(0, 1)),
-        note(0, What::Run(0, 1)),
-    ];
-    assert_eq!(rt; recorder.notes.as_slice(), wanted.as_slice());
-    Ok(())
+fn a_held_task_goes_at_once(rt: HostRuntime) {
+    let mut session = holding(&rt);
+    hold(&rt, &mut session);
+    drop(session);
+}
+
+/// What a machine of two processors, whose select_cpu is that program, notes as its one task wakes.
+fn on_wake<R: AllocGlobal + Abort>(rt: &R, select_cpu: &str, wanted: &str) {
+    let mut session = Session::new(rt, &[(Callback::SelectCpu, select_cpu)], &[0], 2);
+    session.run(rt, &[Event::Wake(0)]);
+    session.noted(rt, wanted);
+    drop(session);
 }
 
 #[test]
-fn a_processor_that_there_is_not_is_the_default_choice(rt: HostRuntime) -> Result<(), Fail> {
-    let mut recorder = Recorder::new(rt.alloc(), 100);
-    woken(&rt, "r0 = 2\nexit", &mut recorder);
-    let wanted = [
-        note(0, What::Wake(0)),
-        note(0, What::Insert(0, GLOBAL)),
-        note(0, What::Move(0, 0)),
-        note(0, What::Run(0, 0)),
-    ];
-    assert_eq!(rt; recorder.notes.as_slice(), wanted.as_slice());
-    Ok(())
-}
-
-/// Inserts the task at hand into LOCAL, and answers that number.
-fn local_for<R: AllocGlobal + Abort>(rt: &R, answer: &str, recorder: &mut Recorder) {
-    let text = format!(in rt.alloc();
-        "r2 = 9223372036854775810 ll\nr3 = 0\nr4 = 0\ncall 1002\nr0 = {answer}\nexit"
-    ).expect(rt, "there is memory");
-    woken(rt, text.as_str(), recorder);
+fn a_task_is_put_for_the_processor_that_is_named(rt: HostRuntime) {
+    let wanted = "0 Wake(0)
+0 Insert(0, 9223372036854775809)
+0 Move(0, 1)
+0 Run(0, 1)
+";
+    on_wake(&rt, "r0 = 1\nexit", wanted);
 }
 
 #[test]
-fn local_is_of_the_target(rt: HostRuntime) -> Result<(), Fail> {
-    let mut named = Recorder::new(rt.alloc(), 100);
-    local_for(&rt, "1", &mut named);
-    let wanted = [
-        note(0, What::Wake(0)),
-        note(0, What::Insert(0, LOCAL_1)),
-        note(0, What::Run(0, 1)),
-    ];
-    assert_eq!(rt; named.notes.as_slice(), wanted.as_slice());
-    let mut unknown = Recorder::new(rt.alloc(), 100);
-    local_for(&rt, "-1", &mut unknown);
-    let wanted = [
-        note(0, What::Wake(0)),
-        note(0, What::Insert(0, LOCAL_0)),
-        note(0, What::Run(0, 0)),
-    ];
-    assert_eq!(rt; unknown.notes.as_slice(), wanted.as_slice());
-    Ok(())
+fn a_processor_that_there_is_not_is_the_default_choice(rt: HostRuntime) {
+    let wanted = "0 Wake(0)
+0 Insert(0, 9223372036854775809)
+0 Move(0, 0)
+0 Run(0, 0)
+";
+    on_wake(&rt, "r0 = 2\nexit", wanted);
+}
+
+#[test]
+fn local_is_of_the_target(rt: HostRuntime) {
+    // Inserts the task at hand into LOCAL, and answers processor 1.
+    let named = "r2 = 9223372036854775810 ll\nr3 = 0\nr4 = 0\ncall 1002\nr0 = 1\nexit";
+    let wanted = "0 Wake(0)
+0 Insert(0, 13835058055282163713)
+0 Run(0, 1)
+";
+    on_wake(&rt, named, wanted);
+    let unknown = "r2 = 9223372036854775810 ll\nr3 = 0\nr4 = 0\ncall 1002\nr0 = -1\nexit";
+    let wanted = "0 Wake(0)
+0 Insert(0, 13835058055282163712)
+0 Run(0, 0)
+";
+    on_wake(&rt, unknown, wanted);
 }

@@ -194,14 +194,23 @@ fn random_programs_leave_the_same(rt: HostRuntime) {
     assert_eq!(rt; compared, COMPARED);
 }
 
+/// What a program leaves, if it is accepted and leaves the same on both machines.
+fn left_by_both(alloc: Global, text: &str, defs: &MapDefs) -> Option<Left> {
+    let verified = verified(alloc, text, defs)?;
+    let plain = run_plain(alloc, &verified, defs)?;
+    let tagged = run_tagged(alloc, text, defs)?;
+    if are_same(&plain, &tagged) {
+        Some(plain)
+    } else {
+        None
+    }
+}
+
 /// Runs the program of a text on both machines, which leave the same, and compares its answer and steps.
 fn expect<R: AllocGlobal + Abort>(rt: &R, text: &str, wanted: &str) -> Result<(), Fail> {
     let defs = MapDefs::new(&SHAPES).expect(rt, "the map is within the limits");
-    let verified = verified(rt.alloc(), text, &defs).expect(rt, "the program is accepted");
-    let plain = run_plain(rt.alloc(), &verified, &defs).expect(rt, "there is memory");
-    let tagged = run_tagged(rt.alloc(), text, &defs).expect(rt, "it isn't stuck");
-    assert!(rt; are_same(&plain, &tagged));
-    let found = format!(in rt.alloc(); "{} in {} steps", plain.done.r0, plain.done.steps)?;
+    let left = left_by_both(rt.alloc(), text, &defs).expect(rt, "both machines leave the same");
+    let found = format!(in rt.alloc(); "{} in {} steps", left.done.r0, left.done.steps)?;
     assert_eq!(rt; found.as_str(), wanted);
     Ok(())
 }

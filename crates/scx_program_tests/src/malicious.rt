@@ -50,18 +50,20 @@ fn defs<R: Abort>(rt: &R) -> MapDefs {
     MapDefs::new(&clock).expect(rt, "the shapes are within the limits")
 }
 
+/// Control falls off each program that is cut short; the whole one is accepted.
+fn judge_beginnings<R: AllocGlobal + Abort>(rt: &R, text: &str, callback: Callback) {
+    let defs = defs(rt);
+    let code = code_of(rt.alloc(), text).expect(rt, "the text stands for a program");
+    for length in 0..=code.len() {
+        let accepted = judge(rt.alloc(), &defs, &code.as_slice()[..length], callback);
+        assert_eq!(rt; accepted, Some(length == code.len()), "{length} bytes");
+    }
+}
+
 #[test]
 fn judges_beginnings(rt: HostRuntime) {
-    let defs = defs(&rt);
-    for (text, callback) in CALLBACKS {
-        let code = code_of(rt.alloc(), text).expect(&rt, "the text stands for a program");
-        for length in 0..code.len() {
-            let accepted = judge(rt.alloc(), &defs, &code.as_slice()[..length], callback);
-            // Control falls off each cut program.
-            assert_eq!(rt; accepted, Some(false), "{length} bytes");
-        }
-        let whole = judge(rt.alloc(), &defs, code.as_slice(), callback);
-        assert_eq!(rt; whole, Some(true));
+    for &(text, callback) in &CALLBACKS {
+        judge_beginnings(&rt, text, callback);
     }
 }
 
@@ -82,7 +84,7 @@ fn change_each_byte<R: AllocGlobal + Abort>(rt: &R, text: &str, callback: Callba
 
 #[test]
 fn judges_changed_bytes(rt: HostRuntime) {
-    for (text, callback) in CALLBACKS {
+    for &(text, callback) in &CALLBACKS {
         change_each_byte(&rt, text, callback);
     }
 }
@@ -133,11 +135,15 @@ fn judges_any_bytes(rt: HostRuntime) -> Result<(), Fail> {
 /// Two kinds that differ are joined to what can't be read, which is no fault unless it is read.
 #[test]
 fn joins_a_pointer_and_a_number(rt: HostRuntime) -> Result<(), Fail> {
-    let enqueue = Callback::Enqueue;
     let read = "r6 = r10\nif r2 == 0 goto j\nr6 = 0\nj:\nr0 = r6\nexit";
-    expect(&rt, enqueue, read, "verify 5 UnusableRegister at 3")?;
     let unread = "r6 = r10\nif r2 == 0 goto j\nr6 = 0\nj:\nr0 = 0\nexit";
-    expect(&rt, enqueue, unread, "ok 5")
+    expect(
+        &rt,
+        &[
+            (Callback::Enqueue, read, "verify 5 UnusableRegister at 3"),
+            (Callback::Enqueue, unread, "ok 5"),
+        ],
+    )
 }
 
 /// A program that no run of gets stuck, and that is refused, since both sides of a comparison are
@@ -145,5 +151,8 @@ fn joins_a_pointer_and_a_number(rt: HostRuntime) -> Result<(), Fail> {
 #[test]
 fn refuses_a_safe_program(rt: HostRuntime) -> Result<(), Fail> {
     let skips = "r1 = 1\nif r1 != 1 goto +1\n*(u64 *)(r10 - 8) = 5\nr0 = *(u64 *)(r10 - 8)\nexit";
-    expect(&rt, Callback::Plain, skips, "verify 7 UnwrittenStack at 3")
+    expect(
+        &rt,
+        &[(Callback::Plain, skips, "verify 7 UnwrittenStack at 3")],
+    )
 }

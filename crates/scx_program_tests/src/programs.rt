@@ -1,7 +1,8 @@
 //! Tests of programs and their bytes: of `scx_isa`'s public calls.
 
 use scx_isa::{
-    DecodeError, DecodeFault, Exclusion, Insn, Operand, Operation, Register, Width, decode, encode,
+    DecodeError, DecodeFault, Exclusion, Insn, Operand, Operation, Program, Register, Width,
+    decode, encode,
 };
 use std::mem::size_of;
 use std::process::Abort;
@@ -84,23 +85,25 @@ fn keeps_instructions_small(rt: HostRuntime) {
     assert!(rt; size_of::<Insn>() <= 16);
 }
 
+/// `r0 s%= r1`
+fn is_signed_modulo(insn: Option<Insn>) -> bool {
+    matches!(
+        insn,
+        Some(Insn::Binary(
+            Width::Bits64,
+            Operation::SignedModulo,
+            Register::R0,
+            Operand::Register(Register::R1),
+        ))
+    )
+}
+
 #[test]
 fn reads_and_writes(rt: HostRuntime) -> Result<(), Fail> {
     let program = decode(rt.alloc(), &PROGRAM)?;
     assert_eq!(rt; program.slots(), 6);
     assert_eq!(rt; program.instructions(), 6);
-    let modulo = program.at(2);
-    assert!(rt;
-        matches!(
-            modulo,
-            Some(Insn::Binary(
-                Width::Bits64,
-                Operation::SignedModulo,
-                Register::R0,
-                Operand::Register(Register::R1),
-            ))
-        )
-    );
+    assert!(rt; is_signed_modulo(program.at(2)));
     assert!(rt; matches!(program.at(4), Some(Insn::Goto(0))));
     assert!(rt; program.at(6).is_none());
     let bytes = encode(rt.alloc(), &program)?;
@@ -125,15 +128,23 @@ fn fate<R: AllocGlobal + Abort>(rt: &R, slot: &[u8]) -> char {
     }
 }
 
+/// Compares what becomes of the 16 opcodes from one on.
+fn expect_fates<R: AllocGlobal + Abort>(rt: &R, first: u8, fates: &str) {
+    let mut opcode = first;
+    for wanted in fates.chars() {
+        let found = fate(rt, &[opcode, 0, 0, 0, 0, 0, 0, 0]);
+        assert_eq!(rt; found, wanted, "opcode {opcode:02x}");
+        opcode = opcode.wrapping_add(1);
+    }
+}
+
 #[test]
 fn knows_every_opcode(rt: HostRuntime) {
     let mut opcode: u8 = 0;
-    for row in OPCODES {
-        for wanted in row.chars() {
-            let found = fate(&rt, &[opcode, 0, 0, 0, 0, 0, 0, 0]);
-            assert_eq!(rt; found, wanted, "opcode {opcode:02x}");
-            opcode = opcode.wrapping_add(1);
-        }
+    for fates in &OPCODES {
+        assert_eq!(rt; fates.len(), 16);
+        expect_fates(&rt, opcode, fates);
+        opcode = opcode.wrapping_add(16);
     }
 }
 
@@ -190,117 +201,130 @@ fn code_of<R: Abort>(rt: &R, digits: &str) -> u8 {
 
 #[test]
 fn knows_every_field(rt: HostRuntime) {
-    for (codes, uses) in FIELDS {
+    for &(codes, uses) in &FIELDS {
         for digits in codes.split(' ') {
             try_fields(&rt, code_of(&rt, digits), uses);
         }
     }
 }
 
+/// The fault of a choice that isn't listed.
+fn fault_of_choice(listed: bool, fault: DecodeFault) -> Option<DecodeFault> {
+    if listed { None } else { Some(fault) }
+}
+
+fn try_offsets<R: AllocGlobal + Abort>(rt: &R, code: u8, listed: &[u16]) {
+    for &offset in &[0u8, 1, 2, 7, 8, 9, 16, 32, 64, 255] {
+        let is_listed = listed.contains(&u16::from(offset));
+        let wanted = fault_of_choice(is_listed, DecodeFault::BadOffset);
+        expect_fault(rt, [code, 0, offset, 0, 0, 0, 0, 0], wanted);
+    }
+}
+
 #[test]
 fn knows_every_choice(rt: HostRuntime) {
-    for (codes, listed) in OFFSETS {
+    for &(codes, listed) in &OFFSETS {
         for digits in codes.split(' ') {
-            let code = code_of(&rt, digits);
-            for offset in [0u8, 1, 2, 7, 8, 9, 16, 32, 64, 255] {
-                let wanted = if listed.contains(&u16::from(offset)) {
-                    None
-                } else {
-                    Some(DecodeFault::BadOffset)
-                };
-                expect_fault(&rt, [code, 0, offset, 0, 0, 0, 0, 0], wanted);
-            }
+            try_offsets(&rt, code_of(&rt, digits), listed);
         }
+    }
+}
+
+fn try_widths<R: AllocGlobal + Abort>(rt: &R, code: u8) {
+    for &width in &[0u8, 8, 16, 17, 32, 48, 64, 128] {
+        let wanted = fault_of_choice(matches!(width, 16 | 32 | 64), DecodeFault::BadWidth);
+        expect_fault(rt, [code, 0, 0, 0, width, 0, 0, 0], wanted);
     }
 }
 
 #[test]
 fn knows_every_width(rt: HostRuntime) {
-    for code in [0xd4u8, 0xdc, 0xd7] {
-        for width in [0u8, 8, 16, 17, 32, 48, 64, 128] {
-            let wanted = if matches!(width, 16 | 32 | 64) {
-                None
-            } else {
-                Some(DecodeFault::BadWidth)
-            };
-            expect_fault(&rt, [code, 0, 0, 0, width, 0, 0, 0], wanted);
+    try_widths(&rt, 0xd4);
+    try_widths(&rt, 0xdc);
+    try_widths(&rt, 0xd7);
+}
+
+/// The fields of a wide instruction: source, offset, and the first and the last byte of its second slot;
+/// and the slot at which it is refused.
+const SECOND_SLOTS: [(u8, u8, u8, u8, Option<usize>); 7] = [
+    (0x00, 1, 0, 0, Some(0)),
+    (0x00, 0, 1, 0, Some(1)),
+    (0x00, 0, 0, 1, None),
+    (0x50, 1, 1, 1, Some(0)),
+    (0x50, 0, 1, 0, Some(1)),
+    (0x50, 0, 0, 1, Some(1)),
+    (0x50, 0, 0, 0, None),
+];
+
+/// Expects bytes to be read as one instruction of two slots.
+fn expect_wide(rt: &impl Abort, program: &Program) {
+    assert_eq!(rt; program.slots(), 2);
+    assert_eq!(rt; program.instructions(), 1);
+    assert!(rt; program.at(1).is_none());
+}
+
+/// Expects bytes to be refused at that slot for an unused field, or to be read.
+fn expect_slot<R: AllocGlobal + Abort>(rt: &R, bytes: &[u8], wanted: Option<usize>) {
+    match decode(rt.alloc(), bytes) {
+        Ok(program) => {
+            assert_eq!(rt; wanted, None);
+            expect_wide(rt, &program);
         }
+        Err(DecodeError::Refused { fault, slot }) => {
+            assert_eq!(rt; fault, DecodeFault::UnusedField);
+            assert_eq!(rt; Some(slot), wanted);
+        }
+        Err(DecodeError::OutOfMemory) => assert!(rt; false),
     }
 }
 
 /// A wide instruction's second slot holds an immediate alone, and behind a map reference nothing.
 #[test]
 fn knows_second_slots(rt: HostRuntime) {
-    let refused = [
-        // Source field, offset; first and last byte of the second slot; the fault's slot.
-        (0x00u8, 1u8, 0u8, 0u8, Some(0usize)),
-        (0x00, 0, 1, 0, Some(1)),
-        (0x00, 0, 0, 1, None),
-        (0x50, 1, 1, 1, Some(0)),
-        (0x50, 0, 1, 0, Some(1)),
-        (0x50, 0, 0, 1, Some(1)),
-        (0x50, 0, 0, 0, None),
-    ];
-    for (source, offset, first, last, wanted) in refused {
+    for &(source, offset, first, last, wanted) in &SECOND_SLOTS {
         let bytes = [
             0x18, source, offset, 0, 9, 0, 0, 0, first, 0, 0, 0, 0, 0, 0, last,
         ];
-        match decode(rt.alloc(), &bytes) {
-            Ok(program) => {
-                assert_eq!(rt; wanted, None);
-                assert_eq!(rt; program.slots(), 2);
-                assert_eq!(rt; program.instructions(), 1);
-                assert!(rt; program.at(1).is_none());
-            }
-            Err(DecodeError::Refused { fault, slot }) => {
-                assert_eq!(rt; fault, DecodeFault::UnusedField);
-                assert_eq!(rt; Some(slot), wanted);
-            }
-            Err(DecodeError::OutOfMemory) => assert!(rt; false),
-        }
+        expect_slot(&rt, &bytes, wanted);
     }
 }
 
+const FAULTS: [([u8; 8], DecodeFault); 15] = [
+    // A register above 10, before a bad offset, before an unused field.
+    ([0xb7, 0x0b, 2, 0, 0, 0, 0, 0], DecodeFault::BadRegister),
+    ([0x3f, 0xb0, 2, 0, 1, 0, 0, 0], DecodeFault::BadRegister),
+    ([0x3f, 0x10, 2, 0, 1, 0, 0, 0], DecodeFault::BadOffset),
+    ([0xb7, 0x00, 8, 0, 0, 0, 0, 0], DecodeFault::BadOffset),
+    ([0x3f, 0x10, 1, 0, 1, 0, 0, 0], DecodeFault::UnusedField),
+    ([0x04, 0x10, 0, 0, 0, 0, 0, 0], DecodeFault::UnusedField),
+    ([0x04, 0x00, 1, 0, 0, 0, 0, 0], DecodeFault::UnusedField),
+    ([0x05, 0x01, 0, 0, 0, 0, 0, 0], DecodeFault::UnusedField),
+    ([0x95, 0x00, 0, 0, 1, 0, 0, 0], DecodeFault::UnusedField),
+    // The source field is a part of the opcode of calls and of constants.
+    (
+        [0x85, 0x10, 0, 0, 0, 0, 0, 0],
+        DecodeFault::NotInProfile(Exclusion::LocalCall),
+    ),
+    (
+        [0x85, 0x20, 0, 0, 0, 0, 0, 0],
+        DecodeFault::NotInProfile(Exclusion::BtfCall),
+    ),
+    ([0x85, 0x30, 0, 0, 0, 0, 0, 0], DecodeFault::UnknownOpcode),
+    (
+        [0x18, 0x10, 0, 0, 0, 0, 0, 0],
+        DecodeFault::NotInProfile(Exclusion::MapByFd),
+    ),
+    (
+        [0x18, 0x60, 0, 0, 0, 0, 0, 0],
+        DecodeFault::NotInProfile(Exclusion::MapValueByIndex),
+    ),
+    ([0x18, 0x70, 0, 0, 0, 0, 0, 0], DecodeFault::UnknownOpcode),
+];
+
 #[test]
 fn names_faults(rt: HostRuntime) {
-    let refused = [
-        // A register above 10, before a bad offset, before an unused field.
-        ([0xb7, 0x0b, 2, 0, 0, 0, 0, 0], DecodeFault::BadRegister),
-        ([0x3f, 0xb0, 2, 0, 1, 0, 0, 0], DecodeFault::BadRegister),
-        ([0x3f, 0x10, 2, 0, 1, 0, 0, 0], DecodeFault::BadOffset),
-        ([0xb7, 0x00, 8, 0, 0, 0, 0, 0], DecodeFault::BadOffset),
-        ([0x3f, 0x10, 1, 0, 1, 0, 0, 0], DecodeFault::UnusedField),
-        ([0x04, 0x10, 0, 0, 0, 0, 0, 0], DecodeFault::UnusedField),
-        ([0x04, 0x00, 1, 0, 0, 0, 0, 0], DecodeFault::UnusedField),
-        ([0x05, 0x01, 0, 0, 0, 0, 0, 0], DecodeFault::UnusedField),
-        ([0x95, 0x00, 0, 0, 1, 0, 0, 0], DecodeFault::UnusedField),
-        // The source field is a part of the opcode of calls and of constants.
-        (
-            [0x85, 0x10, 0, 0, 0, 0, 0, 0],
-            DecodeFault::NotInProfile(Exclusion::LocalCall),
-        ),
-        (
-            [0x85, 0x20, 0, 0, 0, 0, 0, 0],
-            DecodeFault::NotInProfile(Exclusion::BtfCall),
-        ),
-        ([0x85, 0x30, 0, 0, 0, 0, 0, 0], DecodeFault::UnknownOpcode),
-        (
-            [0x18, 0x10, 0, 0, 0, 0, 0, 0],
-            DecodeFault::NotInProfile(Exclusion::MapByFd),
-        ),
-        (
-            [0x18, 0x60, 0, 0, 0, 0, 0, 0],
-            DecodeFault::NotInProfile(Exclusion::MapValueByIndex),
-        ),
-        ([0x18, 0x70, 0, 0, 0, 0, 0, 0], DecodeFault::UnknownOpcode),
-    ];
-    for (slot, fault) in refused {
-        match decode(rt.alloc(), &slot) {
-            Err(DecodeError::Refused { fault: found, slot }) => {
-                assert_eq!(rt; found, fault);
-                assert_eq!(rt; slot, 0);
-            }
-            _ => assert!(rt; false, "{slot:?} is read"),
-        }
+    for &(slot, fault) in &FAULTS {
+        let refused = DecodeError::Refused { fault, slot: 0 };
+        assert_eq!(rt; decode(rt.alloc(), &slot).err(), Some(refused), "{slot:?}");
     }
 }

@@ -13,240 +13,291 @@ const LOOKUP: &str = "*(u32 *)(r10 - 4) = 0\nr2 = r10\nr2 += -4\nr1 = map 0\ncal
 
 #[test]
 fn refuses_jumps(rt: HostRuntime) -> Result<(), Fail> {
-    let plain = Callback::Plain;
-    expect(&rt, plain, "goto -1\nexit", "verify 1 BackJump at 0")?;
-    expect(&rt, plain, "goto +1\nexit", "verify 2 OutOfProgram at 0")?;
     expect(
         &rt,
-        plain,
-        "goto +1\nr0 = 0 ll\nexit",
-        "verify 3 IntoWide at 0",
-    )?;
-    expect(&rt, plain, "r0 = 0", "verify 4 FallsOff at 0")
+        &[
+            (Callback::Plain, "goto -1\nexit", "verify 1 BackJump at 0"),
+            (
+                Callback::Plain,
+                "goto +1\nexit",
+                "verify 2 OutOfProgram at 0",
+            ),
+            (
+                Callback::Plain,
+                "goto +1\nr0 = 0 ll\nexit",
+                "verify 3 IntoWide at 0",
+            ),
+            (Callback::Plain, "r0 = 0", "verify 4 FallsOff at 0"),
+        ],
+    )
 }
 
 #[test]
 fn refuses_registers_and_memory(rt: HostRuntime) -> Result<(), Fail> {
-    let plain = Callback::Plain;
     expect(
         &rt,
-        plain,
-        "r0 = r1\nexit",
-        "verify 5 UnusableRegister at 0",
-    )?;
-    expect(&rt, plain, "r10 = 0\nexit", "verify 6 WritesFrame at 0")?;
-    expect(
-        &rt,
-        plain,
-        "r0 = *(u64 *)(r10 - 8)\nexit",
-        "verify 7 UnwrittenStack at 0",
-    )?;
-    expect(
-        &rt,
-        plain,
-        "*(u64 *)(r10 + 0) = 0\nexit",
-        "verify 8 OutOfBounds at 0",
-    )?;
-    expect(
-        &rt,
-        plain,
-        "*(u64 *)(r10 - 12) = 0\nexit",
-        "verify 9 Misaligned at 0",
+        &[
+            (
+                Callback::Plain,
+                "r0 = r1\nexit",
+                "verify 5 UnusableRegister at 0",
+            ),
+            (
+                Callback::Plain,
+                "r10 = 0\nexit",
+                "verify 6 WritesFrame at 0",
+            ),
+            (
+                Callback::Plain,
+                "r0 = *(u64 *)(r10 - 8)\nexit",
+                "verify 7 UnwrittenStack at 0",
+            ),
+            (
+                Callback::Plain,
+                "*(u64 *)(r10 + 0) = 0\nexit",
+                "verify 8 OutOfBounds at 0",
+            ),
+            (
+                Callback::Plain,
+                "*(u64 *)(r10 - 12) = 0\nexit",
+                "verify 9 Misaligned at 0",
+            ),
+        ],
     )
 }
 
 #[test]
 fn refuses_uses_of_pointers(rt: HostRuntime) -> Result<(), Fail> {
-    let plain = Callback::Plain;
-    let dispatch = Callback::Dispatch;
     expect(
         &rt,
-        dispatch,
-        "r0 = *(u32 *)(r2 + 0)\nexit",
-        "verify 10 NullNotTested at 0",
-    )?;
-    expect(
-        &rt,
-        plain,
-        "r1 = r10\nr1 *= 2\nexit",
-        "verify 11 PointerArithmetic at 1",
-    )?;
-    expect(
-        &rt,
-        plain,
-        "if r10 == 1 goto +0\nexit",
-        "verify 12 PointerCompare at 0",
-    )?;
-    expect(
-        &rt,
-        plain,
-        "*(u32 *)(r10 - 4) = r10\nexit",
-        "verify 13 PointerStore at 0",
+        &[
+            (
+                Callback::Dispatch,
+                "r0 = *(u32 *)(r2 + 0)\nexit",
+                "verify 10 NullNotTested at 0",
+            ),
+            (
+                Callback::Plain,
+                "r1 = r10\nr1 *= 2\nexit",
+                "verify 11 PointerArithmetic at 1",
+            ),
+            (
+                Callback::Plain,
+                "if r10 == 1 goto +0\nexit",
+                "verify 12 PointerCompare at 0",
+            ),
+            (
+                Callback::Plain,
+                "*(u32 *)(r10 - 4) = r10\nexit",
+                "verify 13 PointerStore at 0",
+            ),
+        ],
     )
 }
 
 #[test]
 fn refuses_fields_that_are_none(rt: HostRuntime) -> Result<(), Fail> {
-    let running = Callback::Running;
-    let half = "r0 = *(u32 *)(r1 + 8)\nexit";
-    expect(&rt, running, half, "verify 14 TaskField at 0")?;
-    expect(&rt, running, "r0 = *(u64 *)(r1 + 8)\nexit", "ok 2")?;
-    let signed = "r0 = *(s32 *)(r1 + 0)\nexit";
-    expect(&rt, running, signed, "verify 14 TaskField at 0")?;
-    let read_only = "*(u32 *)(r1 + 4) = 1\nexit";
-    expect(&rt, running, read_only, "verify 14 TaskField at 0")?;
-    let pointer = "*(u64 *)(r1 + 8) = r1\nexit";
-    expect(&rt, running, pointer, "verify 13 PointerStore at 0")?;
-    expect(&rt, running, "*(u64 *)(r1 + 8) = 1\nexit", "ok 2")
+    expect(
+        &rt,
+        &[
+            (
+                Callback::Running,
+                "r0 = *(u32 *)(r1 + 8)\nexit",
+                "verify 14 TaskField at 0",
+            ),
+            (Callback::Running, "r0 = *(u64 *)(r1 + 8)\nexit", "ok 2"),
+            (
+                Callback::Running,
+                "r0 = *(s32 *)(r1 + 0)\nexit",
+                "verify 14 TaskField at 0",
+            ),
+            (
+                Callback::Running,
+                "*(u32 *)(r1 + 4) = 1\nexit",
+                "verify 14 TaskField at 0",
+            ),
+            (
+                Callback::Running,
+                "*(u64 *)(r1 + 8) = r1\nexit",
+                "verify 13 PointerStore at 0",
+            ),
+            (Callback::Running, "*(u64 *)(r1 + 8) = 1\nexit", "ok 2"),
+        ],
+    )
 }
 
 #[test]
 fn refuses_calls(rt: HostRuntime) -> Result<(), Fail> {
-    let running = Callback::Running;
     expect(
         &rt,
-        running,
-        "call 77\nexit",
-        "verify 15 UnknownHelper at 0",
-    )?;
-    let elsewhere = "r1 = 0\ncall 1004\nexit";
-    expect(&rt, running, elsewhere, "verify 16 HelperNotHere at 1")?;
-    expect(&rt, Callback::Dispatch, elsewhere, "ok 3")?;
-    expect(
-        &rt,
-        Callback::Enqueue,
-        "r1 = 0\nr3 = 0\nr4 = 0\ncall 1002\nexit",
-        "verify 17 BadArgument at 3",
-    )?;
-    expect(
-        &rt,
-        Callback::Enqueue,
-        "r3 = 0\nr4 = 0\nr1 = r5\ncall 1002\nexit",
-        "verify 5 UnusableRegister at 2",
-    )?;
-    expect(
-        &rt,
-        Callback::Dispatch,
-        "r1 = r2\ncall 1008\nexit",
-        "verify 17 BadArgument at 1",
+        &[
+            (
+                Callback::Running,
+                "call 77\nexit",
+                "verify 15 UnknownHelper at 0",
+            ),
+            (
+                Callback::Running,
+                "r1 = 0\ncall 1004\nexit",
+                "verify 16 HelperNotHere at 1",
+            ),
+            (Callback::Dispatch, "r1 = 0\ncall 1004\nexit", "ok 3"),
+            (
+                Callback::Enqueue,
+                "r1 = 0\nr3 = 0\nr4 = 0\ncall 1002\nexit",
+                "verify 17 BadArgument at 3",
+            ),
+            (
+                Callback::Enqueue,
+                "r3 = 0\nr4 = 0\nr1 = r5\ncall 1002\nexit",
+                "verify 5 UnusableRegister at 2",
+            ),
+            (
+                Callback::Dispatch,
+                "r1 = r2\ncall 1008\nexit",
+                "verify 17 BadArgument at 1",
+            ),
+        ],
     )
 }
 
 #[test]
 fn refuses_answers_and_maps(rt: HostRuntime) -> Result<(), Fail> {
-    expect(&rt, Callback::Plain, "exit", "verify 18 BadReturn at 0")?;
     expect(
         &rt,
-        Callback::Init,
-        "r0 = r10\nexit",
-        "verify 18 BadReturn at 1",
-    )?;
-    expect(&rt, Callback::Enqueue, "goto +0\nexit", "ok 2")?;
-    let running = Callback::Running;
-    expect(
-        &rt,
-        running,
-        "r1 = map 1\nexit",
-        "verify 19 UnknownMap at 0",
-    )?;
-    expect(
-        &rt,
-        running,
-        "r1 = map -1\nexit",
-        "verify 19 UnknownMap at 0",
-    )?;
-    expect(&rt, running, "r1 = map 0\nexit", "ok 2")
+        &[
+            (Callback::Plain, "exit", "verify 18 BadReturn at 0"),
+            (Callback::Init, "r0 = r10\nexit", "verify 18 BadReturn at 1"),
+            (Callback::Enqueue, "goto +0\nexit", "ok 2"),
+            (
+                Callback::Running,
+                "r1 = map 1\nexit",
+                "verify 19 UnknownMap at 0",
+            ),
+            (
+                Callback::Running,
+                "r1 = map -1\nexit",
+                "verify 19 UnknownMap at 0",
+            ),
+            (Callback::Running, "r1 = map 0\nexit", "ok 2"),
+        ],
+    )
 }
 
 #[test]
 fn checks_keys(rt: HostRuntime) -> Result<(), Fail> {
-    let running = Callback::Running;
-    let unwritten = "r2 = r10\nr2 += -4\nr1 = map 0\ncall 1\nexit";
-    expect(&rt, running, unwritten, "verify 7 UnwrittenStack at 4")?;
-    let half = "*(u16 *)(r10 - 4) = 0\nr2 = r10\nr2 += -4\nr1 = map 0\ncall 1\nexit";
-    expect(&rt, running, half, "verify 7 UnwrittenStack at 5")?;
-    let crooked = "r2 = r10\nr2 += -6\nr1 = map 0\ncall 1\nexit";
-    expect(&rt, running, crooked, "verify 9 Misaligned at 4")?;
-    let above = "r2 = r10\nr1 = map 0\ncall 1\nexit";
-    expect(&rt, running, above, "verify 8 OutOfBounds at 3")?;
-    let number = "r2 = 0\nr1 = map 0\ncall 1\nexit";
-    expect(&rt, running, number, "verify 17 BadArgument at 3")?;
-    let no_map = "*(u32 *)(r10 - 4) = 0\nr2 = r10\nr2 += -4\nr1 = 0\ncall 1\nexit";
-    expect(&rt, running, no_map, "verify 17 BadArgument at 4")
+    expect(
+        &rt,
+        &[
+            (
+                Callback::Running,
+                "r2 = r10\nr2 += -4\nr1 = map 0\ncall 1\nexit",
+                "verify 7 UnwrittenStack at 4",
+            ),
+            (
+                Callback::Running,
+                "*(u16 *)(r10 - 4) = 0\nr2 = r10\nr2 += -4\nr1 = map 0\ncall 1\nexit",
+                "verify 7 UnwrittenStack at 5",
+            ),
+            (
+                Callback::Running,
+                "r2 = r10\nr2 += -6\nr1 = map 0\ncall 1\nexit",
+                "verify 9 Misaligned at 4",
+            ),
+            (
+                Callback::Running,
+                "r2 = r10\nr1 = map 0\ncall 1\nexit",
+                "verify 8 OutOfBounds at 3",
+            ),
+            (
+                Callback::Running,
+                "r2 = 0\nr1 = map 0\ncall 1\nexit",
+                "verify 17 BadArgument at 3",
+            ),
+            (
+                Callback::Running,
+                "*(u32 *)(r10 - 4) = 0\nr2 = r10\nr2 += -4\nr1 = 0\ncall 1\nexit",
+                "verify 17 BadArgument at 4",
+            ),
+        ],
+    )
 }
 
 /// Verifies as running what looks up an element and then goes on so.
-fn expect_behind<R: AllocGlobal + Abort>(rt: &R, rest: &str, verdict: &str) -> Result<(), Fail> {
-    let text = format!(in rt.alloc(); "{LOOKUP}{rest}exit")?;
-    expect(rt, Callback::Running, text.as_str(), verdict)
+fn expect_behind<R: AllocGlobal + Abort>(rt: &R, rows: &[(&str, &str)]) -> Result<(), Fail> {
+    for &(rest, verdict) in rows {
+        let text = format!(in rt.alloc(); "{LOOKUP}{rest}exit")?;
+        expect(rt, &[(Callback::Running, text.as_str(), verdict)])?;
+    }
+    Ok(())
 }
 
 #[test]
 fn wants_null_tested(rt: HostRuntime) -> Result<(), Fail> {
     expect_behind(
         &rt,
-        "r0 = *(u64 *)(r0 + 0)\n",
-        "verify 10 NullNotTested at 6",
-    )?;
-    // The test says nothing of a copy.
-    expect_behind(
-        &rt,
-        "r6 = r0\nif r0 == 0 goto +1\nr1 = *(u64 *)(r6 + 0)\n",
-        "verify 10 NullNotTested at 8",
-    )?;
-    // Nor of the side where 0 was found.
-    expect_behind(
-        &rt,
-        "if r0 != 0 goto +1\nr1 = *(u64 *)(r0 + 0)\n",
-        "verify 8 OutOfBounds at 7",
-    )?;
-    expect_behind(
-        &rt,
-        "if r0 == 0 goto +1\nexit\nr1 = *(u64 *)(r0 + 0)\n",
-        "verify 8 OutOfBounds at 8",
-    )?;
-    expect_behind(&rt, "if r0 == 0 goto +1\nr1 = *(u64 *)(r0 + 0)\n", "ok 8")
+        &[
+            ("r0 = *(u64 *)(r0 + 0)\n", "verify 10 NullNotTested at 6"),
+            // The test says nothing of a copy.
+            (
+                "r6 = r0\nif r0 == 0 goto +1\nr1 = *(u64 *)(r6 + 0)\n",
+                "verify 10 NullNotTested at 8",
+            ),
+            // Nor of the side where 0 was found.
+            (
+                "if r0 != 0 goto +1\nr1 = *(u64 *)(r0 + 0)\n",
+                "verify 8 OutOfBounds at 7",
+            ),
+            (
+                "if r0 == 0 goto +1\nexit\nr1 = *(u64 *)(r0 + 0)\n",
+                "verify 8 OutOfBounds at 8",
+            ),
+            ("if r0 == 0 goto +1\nr1 = *(u64 *)(r0 + 0)\n", "ok 8"),
+        ],
+    )
 }
 
 #[test]
 fn keeps_to_an_element(rt: HostRuntime) -> Result<(), Fail> {
     expect_behind(
         &rt,
-        "if r0 == 0 goto +1\nr1 = *(u64 *)(r0 + 8)\n",
-        "verify 8 OutOfBounds at 7",
-    )?;
-    expect_behind(
-        &rt,
-        "if r0 == 0 goto +1\nr1 = *(u32 *)(r0 + 2)\n",
-        "verify 9 Misaligned at 7",
-    )?;
-    expect_behind(
-        &rt,
-        "if r0 == 0 goto +1\nr0 += 9\n",
-        "verify 8 OutOfBounds at 7",
-    )?;
-    expect_behind(
-        &rt,
-        "if r0 == 0 goto +2\nr0 += 4\n*(u32 *)(r0 + 0) = 1\n",
-        "ok 9",
-    )?;
-    expect_behind(
-        &rt,
-        "if r0 == 0 goto +1\n*(u64 *)(r0 + 0) = r10\n",
-        "verify 13 PointerStore at 7",
+        &[
+            (
+                "if r0 == 0 goto +1\nr1 = *(u64 *)(r0 + 8)\n",
+                "verify 8 OutOfBounds at 7",
+            ),
+            (
+                "if r0 == 0 goto +1\nr1 = *(u32 *)(r0 + 2)\n",
+                "verify 9 Misaligned at 7",
+            ),
+            ("if r0 == 0 goto +1\nr0 += 9\n", "verify 8 OutOfBounds at 7"),
+            (
+                "if r0 == 0 goto +2\nr0 += 4\n*(u32 *)(r0 + 0) = 1\n",
+                "ok 9",
+            ),
+            (
+                "if r0 == 0 goto +1\n*(u64 *)(r0 + 0) = r10\n",
+                "verify 13 PointerStore at 7",
+            ),
+        ],
     )
 }
 
 #[test]
 fn accepts_scx_simple(rt: HostRuntime) -> Result<(), Fail> {
-    expect(&rt, Callback::Init, INIT, "ok 3")?;
-    expect(&rt, Callback::Enable, ENABLE, "ok 10")?;
-    expect(&rt, Callback::SelectCpu, SELECT_CPU, "ok 13")?;
-    expect(&rt, Callback::Enqueue, ENQUEUE, "ok 5")?;
-    expect(&rt, Callback::Enqueue, ENQUEUE_BY_VTIME, "ok 21")?;
-    expect(&rt, Callback::Dispatch, DISPATCH, "ok 3")?;
-    expect(&rt, Callback::Running, RUNNING, "ok 14")?;
-    expect(&rt, Callback::Stopping, STOPPING, "ok 10")
+    expect(
+        &rt,
+        &[
+            (Callback::Init, INIT, "ok 3"),
+            (Callback::Enable, ENABLE, "ok 10"),
+            (Callback::SelectCpu, SELECT_CPU, "ok 13"),
+            (Callback::Enqueue, ENQUEUE, "ok 5"),
+            (Callback::Enqueue, ENQUEUE_BY_VTIME, "ok 21"),
+            (Callback::Dispatch, DISPATCH, "ok 3"),
+            (Callback::Running, RUNNING, "ok 14"),
+            (Callback::Stopping, STOPPING, "ok 10"),
+        ],
+    )
 }
 
 /// Takes the first task, and inserts it into the processor's own queue for two milliseconds.
@@ -264,91 +315,94 @@ exit
 
 #[test]
 fn wants_looked_up_tasks_tested(rt: HostRuntime) -> Result<(), Fail> {
-    expect(&rt, Callback::Dispatch, RELEASE, "ok 9")?;
-    let running = Callback::Running;
     expect(
         &rt,
-        running,
-        "r1 = 1\ncall 1007\nr0 = *(u32 *)(r0 + 0)\nexit",
-        "verify 10 NullNotTested at 2",
-    )?;
-    // Nor is one handed on untested.
-    expect(
-        &rt,
-        Callback::Enqueue,
-        "r1 = 1\ncall 1007\nr1 = r0\ncall 1005\nexit",
-        "verify 10 NullNotTested at 3",
-    )?;
-    // The test counts for the tested register, on the side where there is a task.
-    expect(
-        &rt,
-        running,
-        "r1 = 1\ncall 1007\nr6 = r0\nif r0 == 0 goto +1\nr0 = *(u32 *)(r6 + 0)\nexit",
-        "verify 10 NullNotTested at 4",
-    )?;
-    expect(
-        &rt,
-        running,
-        "r1 = 1\ncall 1007\nif r0 == 0 goto +1\nr0 = *(u32 *)(r0 + 0)\nexit",
-        "ok 5",
-    )?;
-    expect(
-        &rt,
-        running,
-        "r1 = 1\ncall 1007\nif r0 != 0 goto +1\nr0 = *(u32 *)(r0 + 0)\nexit",
-        "verify 8 OutOfBounds at 3",
+        &[
+            (Callback::Dispatch, RELEASE, "ok 9"),
+            (
+                Callback::Running,
+                "r1 = 1\ncall 1007\nr0 = *(u32 *)(r0 + 0)\nexit",
+                "verify 10 NullNotTested at 2",
+            ),
+            // Nor is one handed on untested.
+            (
+                Callback::Enqueue,
+                "r1 = 1\ncall 1007\nr1 = r0\ncall 1005\nexit",
+                "verify 10 NullNotTested at 3",
+            ),
+            // The test counts for the tested register, on the side where there is a task.
+            (
+                Callback::Running,
+                "r1 = 1\ncall 1007\nr6 = r0\nif r0 == 0 goto +1\nr0 = *(u32 *)(r6 + 0)\nexit",
+                "verify 10 NullNotTested at 4",
+            ),
+            (
+                Callback::Running,
+                "r1 = 1\ncall 1007\nif r0 == 0 goto +1\nr0 = *(u32 *)(r0 + 0)\nexit",
+                "ok 5",
+            ),
+            (
+                Callback::Running,
+                "r1 = 1\ncall 1007\nif r0 != 0 goto +1\nr0 = *(u32 *)(r0 + 0)\nexit",
+                "verify 8 OutOfBounds at 3",
+            ),
+        ],
     )
 }
 
 #[test]
 fn knows_where_helpers_may_be_called(rt: HostRuntime) -> Result<(), Fail> {
-    let choose = "call 1005\nexit";
-    expect(&rt, Callback::SelectCpu, choose, "ok 2")?;
-    expect(&rt, Callback::Enqueue, choose, "ok 2")?;
     expect(
         &rt,
-        Callback::Running,
-        choose,
-        "verify 16 HelperNotHere at 0",
-    )?;
-    let idle = "call 1006\nexit";
-    expect(&rt, Callback::Dispatch, idle, "ok 2")?;
-    expect(&rt, Callback::Enable, idle, "verify 16 HelperNotHere at 0")?;
-    let insert = "r1 = r2\nr2 = 0\nr3 = 0\nr4 = 0\nr5 = 0\ncall 1003\nexit";
-    expect(
-        &rt,
-        Callback::Dispatch,
-        insert,
-        "verify 10 NullNotTested at 5",
-    )?;
-    expect(
-        &rt,
-        Callback::Stopping,
-        insert,
-        "verify 16 HelperNotHere at 5",
-    )?;
-    expect(
-        &rt,
-        Callback::SelectCpu,
-        "call 5\nr0 = r10\nexit",
-        "verify 18 BadReturn at 2",
+        &[
+            (Callback::SelectCpu, "call 1005\nexit", "ok 2"),
+            (Callback::Enqueue, "call 1005\nexit", "ok 2"),
+            (
+                Callback::Running,
+                "call 1005\nexit",
+                "verify 16 HelperNotHere at 0",
+            ),
+            (Callback::Dispatch, "call 1006\nexit", "ok 2"),
+            (
+                Callback::Enable,
+                "call 1006\nexit",
+                "verify 16 HelperNotHere at 0",
+            ),
+            (
+                Callback::Dispatch,
+                "r1 = r2\nr2 = 0\nr3 = 0\nr4 = 0\nr5 = 0\ncall 1003\nexit",
+                "verify 10 NullNotTested at 5",
+            ),
+            (
+                Callback::Stopping,
+                "r1 = r2\nr2 = 0\nr3 = 0\nr4 = 0\nr5 = 0\ncall 1003\nexit",
+                "verify 16 HelperNotHere at 5",
+            ),
+            (
+                Callback::SelectCpu,
+                "call 5\nr0 = r10\nexit",
+                "verify 18 BadReturn at 2",
+            ),
+        ],
     )
 }
 
 #[test]
 fn knows_what_each_callback_is_given(rt: HostRuntime) -> Result<(), Fail> {
-    let second = "r0 = r2\nexit";
     expect(
         &rt,
-        Callback::Running,
-        second,
-        "verify 5 UnusableRegister at 0",
-    )?;
-    expect(&rt, Callback::Stopping, second, "ok 2")?;
-    expect(
-        &rt,
-        Callback::Enqueue,
-        "call 5\nr0 = r1\nexit",
-        "verify 5 UnusableRegister at 1",
+        &[
+            (
+                Callback::Running,
+                "r0 = r2\nexit",
+                "verify 5 UnusableRegister at 0",
+            ),
+            (Callback::Stopping, "r0 = r2\nexit", "ok 2"),
+            (
+                Callback::Enqueue,
+                "call 5\nr0 = r1\nexit",
+                "verify 5 UnusableRegister at 1",
+            ),
+        ],
     )
 }

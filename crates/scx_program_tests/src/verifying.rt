@@ -1,9 +1,9 @@
 //! Tests of `verify` on slots, without maps.
 
+use crate::verdicts::verdict;
 use scx_examples::{EXIT, bytes_of};
 use scx_isa::{Callback, decode};
 use scx_maps::MapDefs;
-use scx_verify::verify;
 use std::process::Abort;
 use std::test::Fail;
 
@@ -24,146 +24,197 @@ const STORE_R10: u64 = 0x7baa_f8ff_0000_0000;
 /// `r0 = *(u64 *)(r10 - 8)`
 const LOAD_R0: u64 = 0x79a0_f8ff_0000_0000;
 
-/// Verifies the slots for the callback, with no maps, and compares the verdict.
+/// Verifies the slots for a callback, with no maps, and compares the verdict.
 fn expect_as<R: AllocGlobal + Abort>(
     rt: &R,
     callback: Callback,
     slots: &[u64],
-    verdict: &str,
+    wanted: &str,
 ) -> Result<(), Fail> {
     let bytes = bytes_of(rt.alloc(), slots)?;
-    let program = decode(rt.alloc(), bytes.as_slice()).expect(rt, "the slots spell a program");
-    let defs = MapDefs::new(&[]).expect(rt, "no maps are within the limits");
-    let found = match verify(rt.alloc(), program, callback, &defs) {
-        Ok(verified) => format!(in rt.alloc(); "ok {}", verified.instructions())?,
-        Err(error) => format!(in rt.alloc(); "{error}")?,
-    };
-    assert_eq!(rt; found.as_str(), verdict);
+    let program = decode(rt.alloc(), bytes.as_slice())?;
+    let defs = MapDefs::new(&[])?;
+    let found = verdict(rt.alloc(), program, callback, &defs)?;
+    assert_eq!(rt; found.as_str(), wanted);
     Ok(())
 }
 
-fn expect<R: AllocGlobal + Abort>(rt: &R, slots: &[u64], verdict: &str) -> Result<(), Fail> {
-    expect_as(rt, Callback::Plain, slots, verdict)
+/// Verifies slots as plain programs.
+fn expect<R: AllocGlobal + Abort>(rt: &R, rows: &[(&[u64], &str)]) -> Result<(), Fail> {
+    for &(slots, wanted) in rows {
+        expect_as(rt, Callback::Plain, slots, wanted)?;
+    }
+    Ok(())
 }
 
 #[test]
 fn asks_flow_first(rt: HostRuntime) -> Result<(), Fail> {
     expect(
         &rt,
-        &[0x0500_ffff_0000_0000, EXIT],
-        "verify 1 BackJump at 0",
-    )?;
-    expect(
-        &rt,
-        &[0x0500_0100_0000_0000, EXIT],
-        "verify 2 OutOfProgram at 0",
-    )?;
-    let into_wide = [0x0500_0100_0000_0000, 0x1800_0000_0000_0000, 0, EXIT];
-    expect(&rt, &into_wide, "verify 3 IntoWide at 0")?;
-    // r0 isn't set, but the last instruction's flow is looked at before.
-    expect(&rt, &[0xbf01_0000_0000_0000], "verify 4 FallsOff at 0")
+        &[
+            (&[0x0500_ffff_0000_0000, EXIT], "verify 1 BackJump at 0"),
+            (&[0x0500_0100_0000_0000, EXIT], "verify 2 OutOfProgram at 0"),
+            (
+                &[0x0500_0100_0000_0000, 0x1800_0000_0000_0000, 0, EXIT],
+                "verify 3 IntoWide at 0",
+            ),
+            // r0 isn't set, but the last instruction's flow is looked at before.
+            (&[0xbf01_0000_0000_0000], "verify 4 FallsOff at 0"),
+        ],
+    )
 }
 
 #[test]
 fn checks_registers(rt: HostRuntime) -> Result<(), Fail> {
     expect(
         &rt,
-        &[0xbf10_0000_0000_0000, EXIT],
-        "verify 5 UnusableRegister at 0",
+        &[
+            (
+                &[0xbf10_0000_0000_0000, EXIT],
+                "verify 5 UnusableRegister at 0",
+            ),
+            // r10 = r5
+            (&[0xbf5a_0000_0000_0000, EXIT], "verify 6 WritesFrame at 0"),
+            // `exit` alone; `goto +0` before it
+            (&[EXIT], "verify 18 BadReturn at 0"),
+            (&[0x0500_0000_0000_0000, EXIT], "verify 18 BadReturn at 1"),
+            (&[R0_IS_0, EXIT], "ok 2"),
+        ],
     )?;
-    // r10 = r5
-    expect(
+    expect_as(
         &rt,
-        &[0xbf5a_0000_0000_0000, EXIT],
-        "verify 6 WritesFrame at 0",
-    )?;
-    // `exit` alone; `goto +0` before it
-    expect(&rt, &[EXIT], "verify 18 BadReturn at 0")?;
-    let goto = [0x0500_0000_0000_0000, EXIT];
-    expect(&rt, &goto, "verify 18 BadReturn at 1")?;
-    expect_as(&rt, Callback::Enqueue, &goto, "ok 2")?;
-    expect(&rt, &[R0_IS_0, EXIT], "ok 2")
+        Callback::Enqueue,
+        &[0x0500_0000_0000_0000, EXIT],
+        "ok 2",
+    )
 }
 
 #[test]
 fn checks_arithmetic_on_pointers(rt: HostRuntime) -> Result<(), Fail> {
-    // r1 *= 2
-    let product = [R1_IS_R10, 0x2701_0000_0200_0000, EXIT];
-    expect(&rt, &product, "verify 11 PointerArithmetic at 1")?;
-    // r1 += 1
-    let above = [R1_IS_R10, 0x0701_0000_0100_0000, EXIT];
-    expect(&rt, &above, "verify 8 OutOfBounds at 1")?;
-    // r1 += -512
-    let lowest = [R1_IS_R10, 0x0701_0000_00fe_ffff, R0_IS_0, EXIT];
-    expect(&rt, &lowest, "ok 4")?;
-    // r1 += -513
-    let below = [R1_IS_R10, 0x0701_0000_fffd_ffff, R0_IS_0, EXIT];
-    expect(&rt, &below, "verify 8 OutOfBounds at 1")
+    expect(
+        &rt,
+        &[
+            // r1 *= 2
+            (
+                &[R1_IS_R10, 0x2701_0000_0200_0000, EXIT],
+                "verify 11 PointerArithmetic at 1",
+            ),
+            // r1 += 1
+            (
+                &[R1_IS_R10, 0x0701_0000_0100_0000, EXIT],
+                "verify 8 OutOfBounds at 1",
+            ),
+            // r1 += -512
+            (&[R1_IS_R10, 0x0701_0000_00fe_ffff, R0_IS_0, EXIT], "ok 4"),
+            // r1 += -513
+            (
+                &[R1_IS_R10, 0x0701_0000_fffd_ffff, R0_IS_0, EXIT],
+                "verify 8 OutOfBounds at 1",
+            ),
+        ],
+    )
 }
 
 #[test]
 fn checks_stack_accesses(rt: HostRuntime) -> Result<(), Fail> {
-    expect(&rt, &[LOAD_R0, EXIT], "verify 7 UnwrittenStack at 0")?;
-    expect(&rt, &[STORE_5, LOAD_R0, EXIT], "ok 3")?;
-    // r0 = *(u64 *)(r10 - 520)
-    let below = [0x79a0_f8fd_0000_0000, EXIT];
-    expect(&rt, &below, "verify 8 OutOfBounds at 0")?;
-    // *(u64 *)(r10 - 12) = 5
-    let misaligned = [0x7a0a_f4ff_0500_0000, EXIT];
-    expect(&rt, &misaligned, "verify 9 Misaligned at 0")
+    expect(
+        &rt,
+        &[
+            (&[LOAD_R0, EXIT], "verify 7 UnwrittenStack at 0"),
+            (&[STORE_5, LOAD_R0, EXIT], "ok 3"),
+            // r0 = *(u64 *)(r10 - 520)
+            (&[0x79a0_f8fd_0000_0000, EXIT], "verify 8 OutOfBounds at 0"),
+            // *(u64 *)(r10 - 12) = 5
+            (&[0x7a0a_f4ff_0500_0000, EXIT], "verify 9 Misaligned at 0"),
+        ],
+    )
 }
 
 #[test]
 fn keeps_stored_pointers(rt: HostRuntime) -> Result<(), Fail> {
-    // *(u32 *)(r10 - 4) = r10
-    let half = [0x63aa_fcff_0000_0000, EXIT];
-    expect(&rt, &half, "verify 13 PointerStore at 0")?;
-    // r1 = *(u64 *)(r10 - 8), *(u64 *)(r1 - 16) = 7, r0 = *(u64 *)(r10 - 16)
-    let back = [
-        STORE_R10,
-        0x79a1_f8ff_0000_0000,
-        0x7a01_f0ff_0700_0000,
-        0x79a0_f0ff_0000_0000,
-        EXIT,
-    ];
-    expect(&rt, &back, "ok 5")?;
-    // *(u32 *)(r10 - 8) = 0
-    let torn = [STORE_R10, 0x620a_f8ff_0000_0000, LOAD_R0, EXIT];
-    expect(&rt, &torn, "verify 7 UnwrittenStack at 2")
+    expect(
+        &rt,
+        &[
+            // *(u32 *)(r10 - 4) = r10
+            (
+                &[0x63aa_fcff_0000_0000, EXIT],
+                "verify 13 PointerStore at 0",
+            ),
+            // r1 = *(u64 *)(r10 - 8), *(u64 *)(r1 - 16) = 7, r0 = *(u64 *)(r10 - 16)
+            (
+                &[
+                    STORE_R10,
+                    0x79a1_f8ff_0000_0000,
+                    0x7a01_f0ff_0700_0000,
+                    0x79a0_f0ff_0000_0000,
+                    EXIT,
+                ],
+                "ok 5",
+            ),
+            // *(u32 *)(r10 - 8) = 0
+            (
+                &[STORE_R10, 0x620a_f8ff_0000_0000, LOAD_R0, EXIT],
+                "verify 7 UnwrittenStack at 2",
+            ),
+        ],
+    )
 }
 
 #[test]
 fn checks_jumps(rt: HostRuntime) -> Result<(), Fail> {
-    // if r10 == 1 goto +0
-    let compared = [0x150a_0000_0100_0000, EXIT];
-    expect(&rt, &compared, "verify 12 PointerCompare at 0")?;
-    // if r10 == 0 goto +2: slot 3 isn't followed
-    let never_null = [0x150a_0200_0000_0000, R0_IS_0, EXIT, EXIT];
-    expect(&rt, &never_null, "ok 4")?;
-    // goto +1 over r0 = r5, which nothing leads to
-    let unreachable = [0x0500_0100_0000_0000, 0xbf50_0000_0000_0000, R0_IS_0, EXIT];
-    expect(&rt, &unreachable, "ok 4")?;
-    // r1 = 1, if r1 == 1 goto +1: the store is done on one side alone
-    let joined = [
-        0xb701_0000_0100_0000,
-        0x1501_0100_0100_0000,
-        STORE_5,
-        LOAD_R0,
-        EXIT,
-    ];
-    expect(&rt, &joined, "verify 7 UnwrittenStack at 3")
+    expect(
+        &rt,
+        &[
+            // if r10 == 1 goto +0
+            (
+                &[0x150a_0000_0100_0000, EXIT],
+                "verify 12 PointerCompare at 0",
+            ),
+            // if r10 == 0 goto +2: slot 3 isn't followed
+            (&[0x150a_0200_0000_0000, R0_IS_0, EXIT, EXIT], "ok 4"),
+            // goto +1 over r0 = r5, which nothing leads to
+            (
+                &[0x0500_0100_0000_0000, 0xbf50_0000_0000_0000, R0_IS_0, EXIT],
+                "ok 4",
+            ),
+            // r1 = 1, if r1 == 1 goto +1: the store is done on one side alone
+            (
+                &[
+                    0xb701_0000_0100_0000,
+                    0x1501_0100_0100_0000,
+                    STORE_5,
+                    LOAD_R0,
+                    EXIT,
+                ],
+                "verify 7 UnwrittenStack at 3",
+            ),
+        ],
+    )
 }
 
 #[test]
 fn knows_no_maps_without_shapes(rt: HostRuntime) -> Result<(), Fail> {
-    // call 1, which a plain program may not call, and call 77, which isn't there
-    let call = [0x8500_0000_0100_0000, EXIT];
-    expect(&rt, &call, "verify 16 HelperNotHere at 0")?;
-    let unknown = [0x8500_0000_4d00_0000, EXIT];
-    expect(&rt, &unknown, "verify 15 UnknownHelper at 0")?;
-    // r1 = map 0, and r10 = map 0
-    let map = [0x1851_0000_0000_0000, 0, EXIT];
-    expect(&rt, &map, "verify 19 UnknownMap at 0")?;
-    let frame = [0x185a_0000_0000_0000, 0, EXIT];
-    expect(&rt, &frame, "verify 6 WritesFrame at 0")
+    expect(
+        &rt,
+        &[
+            // call 1, which a plain program may not call, and call 77, which isn't there
+            (
+                &[0x8500_0000_0100_0000, EXIT],
+                "verify 16 HelperNotHere at 0",
+            ),
+            (
+                &[0x8500_0000_4d00_0000, EXIT],
+                "verify 15 UnknownHelper at 0",
+            ),
+            // r1 = map 0, and r10 = map 0
+            (
+                &[0x1851_0000_0000_0000, 0, EXIT],
+                "verify 19 UnknownMap at 0",
+            ),
+            (
+                &[0x185a_0000_0000_0000, 0, EXIT],
+                "verify 6 WritesFrame at 0",
+            ),
+        ],
+    )
 }

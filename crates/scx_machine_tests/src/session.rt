@@ -1,0 +1,99 @@
+//! A machine that is given events, and what it notes.
+
+use crate::policies::{policy, tree};
+use crate::recorder::Recorder;
+use scx_isa::Callback;
+use scx_sched::{Event, Place, Policy, Refused, Sim};
+use scx_weights::Tree;
+use std::process::Abort;
+
+/// A machine, and what it noted. A test ends with `drop`, which std has proved: what lets a whole machine go in
+/// a function of its own is long to prove.
+#[derive(Drop)]
+pub(crate) struct Session {
+    pub(crate) sim: Sim,
+    pub(crate) recorder: Recorder,
+}
+
+impl Session {
+    /// A machine, and room for so many notes.
+    pub(crate) fn of<R: AllocGlobal + Abort>(
+        rt: &R,
+        policy: Policy,
+        tree: Tree,
+        cpus: u32,
+        room: usize,
+    ) -> Session {
+        let sim = Sim::new(rt.alloc(), policy, tree, cpus);
+        Session {
+            sim: sim.expect(rt, "init answers 0"),
+            recorder: Recorder::new(rt.alloc(), room),
+        }
+    }
+
+    /// A machine of the policy with these texts, with a task in each group of the list.
+
+    pub(crate) fn new<R: AllocGlobal + Abort>(
+        rt: &R,
+        texts: &[(Callback, &str)],
+        tasks: &[u32],
+        cpus: u32,
+    ) -> Session {
+        Session::of(rt, policy(rt, texts), tree(rt, tasks), cpus, 100)
+    }
+
+    /// Each event is accepted.
+    pub(crate) fn run(&mut self, rt: &impl Abort, events: &[Event]) {
+        for &event in events {
+            let answer = self.sim.step(event, &mut self.recorder);
+            assert_eq!(rt; answer, Ok(()), "{event:?}");
+        }
+    }
+
+    /// Each event is refused so, and nothing is noted and counted.
+    pub(crate) fn refuse(&mut self, rt: &impl Abort, rows: &[(Event, Refused)]) {
+        let before = (self.sim.events(), self.recorder.notes);
+        for &(event, refused) in rows {
+            let answer = self.sim.step(event, &mut self.recorder);
+            assert_eq!(rt; answer, Err(refused), "{event:?}");
+            assert_eq!(rt; (self.sim.events(), self.recorder.notes), before);
+        }
+    }
+
+    /// What was noted is this, a line for each note.
+    pub(crate) fn noted(&self, rt: &impl Abort, wanted: &str) {
+        assert_eq!(rt; self.recorder.text.as_str(), wanted);
+    }
+
+    /// The tasks are at these places.
+    pub(crate) fn are_at(&self, rt: &impl Abort, places: &[(u16, Place)]) {
+        for &(task, place) in places {
+            assert_eq!(rt; self.place(rt, task), place, "task {task}");
+        }
+    }
+
+    pub(crate) fn place(&self, rt: &impl Abort, task: u16) -> Place {
+        let known = task < self.sim.tasks();
+        assert!(rt; known);
+        self.sim.place(task)
+    }
+
+    /// The task has run so long, in nanoseconds.
+    pub(crate) fn has_run(&self, rt: &impl Abort, task: u16, wanted: u64) {
+        let known = task < self.sim.tasks();
+        assert!(rt; known);
+        assert_eq!(rt; self.sim.run_ns(task), wanted);
+    }
+
+    pub(crate) fn has_vtime(&self, rt: &impl Abort, task: u16, wanted: u64) {
+        let known = task < self.sim.tasks();
+        assert!(rt; known);
+        assert_eq!(rt; self.sim.vtime(task), wanted);
+    }
+
+    pub(crate) fn has_slice(&self, rt: &impl Abort, task: u16, wanted: u64) {
+        let known = task < self.sim.tasks();
+        assert!(rt; known);
+        assert_eq!(rt; self.sim.slice(task), wanted);
+    }
+}
