@@ -1,7 +1,6 @@
 ghost use Rattle.std.specs.Prelude.{◌≡◌, ◌<◌, map, length, IfOk, get_or};
 ghost use Rattle.std.specs.Str.Lines.{lines};
-ghost use Rattle.scx_encoding.specs.Slots.{slot_bytes};
-ghost use Rattle.scx_encoding.specs.Spelling.{insn_slots, IsInsn};
+ghost use Rattle.scx_encoding.specs.Spelling.{IsInsn};
 ghost use Rattle.scx_isa.specs.Spelling.{IsProgram, spelling};
 ghost use Rattle.scx_text.specs.Items.{line_of};
 ghost use Rattle.scx_asm.specs.Resolving.{resolved, to_label};
@@ -9,14 +8,13 @@ ghost use Rattle.scx_asm.specs.Layout.{Gives, draft_of};
 ghost use Rattle.scx_asm.specs.Plans.{table, plan_of};
 ghost use Rattle.scx_asm.specs.Reading.{built, finished, code_of, read_insns, read_text};
 ghost use Rattle.scx_asm.specs.FirstFault.{Answers};
-ghost use Rattle.std.specs.Prelude.{◌++◌, OnOk};
-ghost use Rattle.std.specs.List.{flat_map, AllByRecursion};
+ghost use Rattle.std.specs.List.{AllByRecursion};
 
 use crate::faults::{AsmError, AsmFault};
 use crate::layout::{Entry, Layout, lay_out, refused, slot_of};
 use crate::resolving::{jumped_so_far, jumped_to, said};
 use indexmap::IndexMap;
-use scx_encoding::{first_slot_of, push_slot, second_slot_of};
+use scx_encoding::push_insn;
 use scx_isa::{DecodeError, Insn, Program, decode};
 use scx_text::{Item, Jump, Target};
 use std::alloc::{AllocError, Global};
@@ -81,18 +79,6 @@ fn instructions(alloc: Global, text: &str) -> Result<Vec<Insn>, AsmError>
         Ok(layout) => finish(alloc, &layout),
         Err(error) => Err(error),
     }
-}
-
-/// Writes the slots of an instruction at the end.
-fn push_insn(out: &mut Vec<u8>, insn: &Insn) -> Result<(), AllocError>
-    requires { IsInsn insn.now }
-    ensures { OnOk result (out.new.items ≡ out.old.items ++ flat_map slot_bytes (insn_slots insn.now)) }
-{
-    push_slot(out, &first_slot_of(insn))?;
-    if let Some(half) = second_slot_of(insn) {
-        push_slot(out, &half)?;
-    }
-    Ok(())
 }
 
 /// The bytes that spell the instructions.

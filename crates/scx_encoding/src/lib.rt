@@ -16,5 +16,5 @@ mod spelling;
 
 pub use faults::{DecodeFault, Exclusion};
 pub use reading::{due_behind, place_of};
-pub use slots::{SLOT_BYTES, Slot, push_slot, slot_of};
-pub use spelling::{first_slot_of, second_slot_of};
+pub use slots::{SLOT_BYTES, Slot, slot_of};
+pub use spelling::push_insn;

@@ -1,10 +1,13 @@
-ghost use Rattle.std.specs.Prelude.{◌≡◌};
-ghost use Rattle.scx_encoding.specs.Spelling.{first_slot, second_slot, half, destination_field, source_field, offset_field, immediate_field, operation_offset, extension_offset, order_bits, operand_register, operand_immediate};
+ghost use Rattle.std.specs.Prelude.{◌≡◌, ◌++◌, OnOk};
+ghost use Rattle.std.specs.List.{flat_map};
+ghost use Rattle.scx_encoding.specs.Slots.{slot_bytes};
+ghost use Rattle.scx_encoding.specs.Spelling.{IsInsn, insn_slots, first_slot, second_slot, half, destination_field, source_field, offset_field, immediate_field, operation_offset, extension_offset, order_bits, operand_register, operand_immediate};
 
 use crate::forms::form_of_insn;
 use crate::opcodes::opcode_of;
-use crate::slots::Slot;
+use crate::slots::{Slot, push_slot};
 use scx_semantics::{Extension, Insn, Operand, Operation, OrderWidth};
+use std::alloc::AllocError;
 
 /// The one slot that spells the instruction, or the first half of a wide one.
 pub fn first_slot_of(insn: &Insn) -> Slot
@@ -28,6 +31,18 @@ pub fn second_slot_of(insn: &Insn) -> Option<Slot>
         Insn::MapReference(..) => Some(half_of(0)),
         _ => None,
     }
+}
+
+/// Writes the slots of an instruction at the end.
+pub fn push_insn(out: &mut Vec<u8>, insn: &Insn) -> Result<(), AllocError>
+    requires { IsInsn insn.now }
+    ensures { OnOk result (out.new.items ≡ out.old.items ++ flat_map slot_bytes (insn_slots insn.now)) }
+{
+    push_slot(out, &first_slot_of(insn))?;
+    if let Some(half) = second_slot_of(insn) {
+        push_slot(out, &half)?;
+    }
+    Ok(())
 }
 
 /// A second half, which holds nothing but an immediate.

@@ -2,25 +2,13 @@ ghost use Rattle.std.specs.Prelude.{◌≡◌, ◌++◌, ◌≤◌, false, lengt
 ghost use Rattle.std.specs.List.{flat_map};
 ghost use Rattle.std.specs.Option.{ForSome};
 ghost use Rattle.scx_encoding.specs.Slots.{slot_bytes};
-ghost use Rattle.scx_encoding.specs.Spelling.{IsInsn, insn_slots};
+ghost use Rattle.scx_encoding.specs.Spelling.{IsInsn};
 ghost use Rattle.scx_isa.specs.Spelling.{IsProgram, Spells, place_slots, spelling};
 
 use crate::program::Program;
-use scx_encoding::{SLOT_BYTES, first_slot_of, push_slot, second_slot_of};
+use scx_encoding::{SLOT_BYTES, push_insn};
 use scx_semantics::Insn;
 use std::alloc::{AllocError, Global};
-
-/// Writes the slots of an instruction at the end.
-fn push_insn(out: &mut Vec<u8>, insn: &Insn) -> Result<(), AllocError>
-    requires { IsInsn insn.now }
-    ensures { OnOk result (out.new.items ≡ out.old.items ++ flat_map slot_bytes (insn_slots insn.now)) }
-{
-    push_slot(out, &first_slot_of(insn))?;
-    if let Some(half) = second_slot_of(insn) {
-        push_slot(out, &half)?;
-    }
-    Ok(())
-}
 
 /// Writes the slots of what stands at a slot; a second half is written with its first.
 fn push_place(out: &mut Vec<u8>, place: &Option<Insn>) -> Result<(), AllocError>
