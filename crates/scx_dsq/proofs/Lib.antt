@@ -1,3 +1,4 @@
+pub mod Facts
 pub mod Orders
 pub mod Positions
 pub mod Standing

@@ -3,7 +3,6 @@ pub mod Queues
 pub mod Errors
 pub mod Calls
 pub mod Laws
-pub mod Facts
 pub mod Words
 pub mod Links
 pub mod Heaps

@@ -13,7 +13,7 @@ use Rattle.scx_dsq.specs.declared.places.Rank.{Rank}
 use Rattle.scx_dsq.specs.declared.places.Rank.TheVariants.{Fifo, Vtime}
 use Rattle.scx_dsq.specs.declared.places.Place.{Place}
 use Rattle.scx_dsq.specs.Laws.{one_if}
-use Rattle.scx_dsq.specs.Facts.{ids_pushed, ids_without, ids_removed}
+use Rattle.scx_dsq.proofs.Facts.{ids_pushed, ids_without, ids_removed}
 use Rattle.scx_world.specs.declared.call.Insert.{Insert}
 use Rattle.scx_world.specs.Ids.{global, held, builtin, local_on, policy_end}
 use Rattle.scx_world.specs.World.{WorldState, is_runnable}

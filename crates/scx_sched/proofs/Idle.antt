@@ -8,7 +8,7 @@ use Rattle.scx_dsq.specs.declared.places.Rank.TheVariants.{Fifo}
 use Rattle.scx_dsq.specs.Queues.{QueueState, task_count, place_of, is_in, len_of, front_of}
 use Rattle.scx_dsq.specs.Calls.{push_refusal, next_place, pushed, popped}
 use Rattle.scx_dsq.specs.Laws.{one_if}
-use Rattle.scx_dsq.specs.Facts.{free_from, front_is_known, tasks_without}
+use Rattle.scx_dsq.proofs.Facts.{free_from, front_is_known, tasks_without}
 use Rattle.scx_semantics.specs.declared.callbacks.Callback.TheVariants as callback
 use Rattle.scx_world.specs.Ids.{global, local_on}
 use Rattle.scx_world.specs.World.{WorldState, task_at, running}

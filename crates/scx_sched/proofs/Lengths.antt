@@ -10,7 +10,7 @@ use Rattle.scx_dsq.specs.declared.places.Rank.{Rank}
 use Rattle.scx_dsq.specs.Queues.{QueueState, place_of, is_in, is_first, len_of, front_of}
 use Rattle.scx_dsq.specs.Calls.{push_refusal, next_place, with_task, pushed, without, popped, removed, created, create_refusal, with_queue}
 use Rattle.scx_dsq.specs.Laws.{one_if}
-use Rattle.scx_dsq.specs.Facts.{free_from, front_is_known}
+use Rattle.scx_dsq.proofs.Facts.{free_from, front_is_known}
 use Rattle.scx_sched.proofs.Entering.{keeps_if}
 
 -- the length of a queue, where one place is changed

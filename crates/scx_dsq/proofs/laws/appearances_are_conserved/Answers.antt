@@ -1,4 +1,4 @@
-use Rattle.scx_dsq.specs.Facts.{standing_pushed, standing_popped, standing_removed, others_change_none}
+use Rattle.scx_dsq.proofs.Facts.{standing_pushed, standing_popped, standing_removed, others_change_none}
 use Rattle.scx_dsq.proofs.laws.appearances_are_conserved.Goals as goal
 
 pub returns-clause-push : goal.returns-clause-push

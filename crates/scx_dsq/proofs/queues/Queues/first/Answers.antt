@@ -1,7 +1,7 @@
 use Rattle.std.proofs.Common.{◌≡◌, Some, false, sym}
 use Rattle.scx_dsq.specs.Queues.{exists, IsFront}
 use Rattle.scx_dsq.specs.Kept.{state_of}
-use Rattle.scx_dsq.specs.Facts.{front_is_known}
+use Rattle.scx_dsq.proofs.Facts.{front_is_known}
 use Rattle.scx_dsq.proofs.Fronts.{NobodyIn, no_front}
 use Rattle.scx_dsq.proofs.Forms.{front_answer}
 use Rattle.scx_dsq.proofs.QueueReads.{front_at, nobody_elsewhere}
