@@ -6,7 +6,8 @@ use Rattle.scx_semantics.specs.declared.callbacks.Callback.{Callback}
 use Rattle.scx_semantics.specs.declared.callbacks.Callback.TheVariants as callback
 use Rattle.scx_semantics.specs.Code.{instruction_count}
 use Rattle.scx_semantics.specs.Elements.{Maps}
-use Rattle.scx_semantics.specs.Endings.{run_of, run_keeps}
+use Rattle.scx_semantics.specs.Endings.{run_of}
+use Rattle.scx_semantics.proofs.EndedRuns.{run_keeps}
 use Rattle.scx_semantics.specs.Machine as start
 use Rattle.scx_verify.specs.Typing.{VerifiedProgram}
 use Rattle.scx_vm.specs.Arguments.{given}

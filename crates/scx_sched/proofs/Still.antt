@@ -9,7 +9,8 @@ use Rattle.scx_semantics.specs.declared.outside.Helper.TheVariants.{MapLookupEle
 use Rattle.scx_semantics.specs.Code.{instruction_count}
 use Rattle.scx_semantics.specs.Effects.{Query, Call, Load, Store}
 use Rattle.scx_semantics.specs.Elements.{Maps}
-use Rattle.scx_semantics.specs.Endings.{run_of, run_keeps}
+use Rattle.scx_semantics.specs.Endings.{run_of}
+use Rattle.scx_semantics.proofs.EndedRuns.{run_keeps}
 use Rattle.scx_semantics.specs.Machine as start
 use Rattle.scx_verify.specs.Typing.{VerifiedProgram}
 use Rattle.scx_vm.specs.Arguments.{given, argument_of}

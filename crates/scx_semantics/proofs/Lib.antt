@@ -2,3 +2,4 @@ mod Outcomes
 pub mod Numbers
 pub mod Bytes
 pub mod CarryingOver
+pub mod EndedRuns

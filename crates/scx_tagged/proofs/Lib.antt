@@ -7,3 +7,4 @@ pub mod Effects
 pub mod Registers
 pub mod HelperCalls
 pub mod Fields
+pub mod Ended

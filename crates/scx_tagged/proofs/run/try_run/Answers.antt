@@ -1,6 +1,6 @@
 use Rattle.scx_vm.specs.Arguments.{given}
 use Rattle.scx_vm.specs.Host.{answer_to, after_query}
-use Rattle.scx_tagged.specs.Outcome.{ran_is}
+use Rattle.scx_tagged.proofs.Ended.{ran_is}
 use Rattle.scx_tagged.proofs.run.try_run.Goals as goal
 
 pub returns-clause-exact : goal.returns-clause-exact
