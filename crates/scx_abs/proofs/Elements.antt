@@ -13,7 +13,7 @@ use Rattle.scx_semantics.specs.Elements.{Maps, elements, element, with_element, 
 use Rattle.scx_semantics.specs.Machine.{Machine, with_maps}
 use Rattle.scx_maps.specs.declared.shape.Shape.{Shape}
 use Rattle.scx_maps.specs.Contents.{lengths, lengths_of, HoldBytes, HasShapes}
-use Rattle.scx_maps.specs.Laws.{length-entries-shaped, length-value-shaped, length-shaped, lengths_of-with_value}
+use Rattle.scx_maps.proofs.Shaped.{length-entries-shaped, length-value-shaped, length-shaped, lengths_of-with_value}
 use Rattle.scx_abs.specs.declared.faults.Why.{Why}
 use Rattle.scx_abs.specs.declared.faults.Why.TheVariants.{OutOfBounds, Misaligned}
 use Rattle.scx_abs.specs.declared.kinds.Kind.{Kind}

@@ -22,7 +22,7 @@ use Rattle.scx_semantics.proofs.Numbers.{low_below, compute_below}
 use Rattle.scx_encoding.specs.Spelling.{IsOperand}
 use Rattle.scx_maps.specs.declared.shape.Shape.{Shape}
 use Rattle.scx_maps.specs.Contents.{HasShapes}
-use Rattle.scx_maps.specs.Laws.{length-shaped}
+use Rattle.scx_maps.proofs.Shaped.{length-shaped}
 use Rattle.scx_abs.specs.declared.faults.Why.TheVariants.{UnknownMap}
 use Rattle.scx_abs.specs.declared.kinds.Kind.{Kind}
 use Rattle.scx_abs.specs.declared.kinds.Kind.TheVariants as kind

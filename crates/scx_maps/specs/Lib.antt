@@ -6,4 +6,3 @@ pub mod Numbers
 pub mod Places
 pub mod Layout
 pub mod Lending
-pub mod Laws

@@ -1,5 +1,5 @@
 use Rattle.std.proofs.Common.{length, refl, ap, ◌∙◌}
-use Rattle.scx_maps.specs.Laws.{given_back-same_length, lengths_of-with_value}
+use Rattle.scx_maps.proofs.Shaped.{given_back-same_length, lengths_of-with_value}
 use Rattle.scx_maps.proofs.Blocks.{map_there, entry_there, value_read}
 use Rattle.scx_maps.proofs.Lent.{lent_at}
 use Rattle.scx_maps.proofs.maps.Maps.value_mut.Goals as goal
