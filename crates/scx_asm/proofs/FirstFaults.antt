@@ -7,7 +7,7 @@ use Rattle.std.specs.Str.{bytes_eq}
 use Rattle.std.specs.Str.Lines.{lines}
 use Rattle.scx_semantics.specs.declared.instructions.Insn.{Insn}
 use Rattle.scx_semantics.specs.Code.{Code}
-use Rattle.scx_isa.specs.Spelling.{max_slots}
+use Rattle.scx_isa.specs.declared.program.TheConstants.{MAX_SLOTS}
 use Rattle.scx_text.specs.Options.{either}
 use Rattle.scx_text.specs.Items.{Label, Distance, Line, Blank, Place_of, Says, Jumps, read_line}
 use Rattle.scx_asm.specs.declared.faults.AsmFault.{AsmFault}
@@ -62,17 +62,17 @@ refused f = Err f
 -- a line that was added fits, and so does what it takes
 record Room (p : Plan) (l : Line) : Type 0 where
   pub fit : fits l ≡ true
-  pub within : p.slots + slots l ≤ max_slots
+  pub within : p.slots + slots l ≤ MAX_SLOTS
 
 draft_room : (n : ℕ) (p q : Plan) (l : Line) → with_draft n p l ≡ plan_is q → Room p l
-draft_room n p q l e = go (fits l) (nat_lt max_slots (p.slots + slots l)) refl refl
+draft_room n p q l e = go (fits l) (nat_lt MAX_SLOTS (p.slots + slots l)) refl refl
   where
-    go : (a b : Bool) → fits l ≡ a → nat_lt max_slots (p.slots + slots l) ≡ b → Room p l
+    go : (a b : Bool) → fits l ≡ a → nat_lt MAX_SLOTS (p.slots + slots l) ≡ b → Room p l
     go false b x y = let bad : refused OutOfRange ≡ plan_is q = rw x at e in absurd (cc)
     go true true x y = let bad : refused TooLong ≡ plan_is q = rw (x, y) at e in absurd (cc)
     go true false x y = record { fit = x; within = ltb-false _ _ y }
 
-line_room : (n : ℕ) (p q : Plan) (l : Line) → with_line n p l ≡ plan_is q → p.slots ≤ max_slots → Room p l
+line_room : (n : ℕ) (p q : Plan) (l : Line) → with_line n p l ≡ plan_is q → p.slots ≤ MAX_SLOTS → Room p l
 line_room n p q Blank e le = record { fit = refl; within = omega arith }
 line_room n p q (Place_of l) e le = record { fit = refl; within = omega arith }
 line_room n p q (Says x) e le = draft_room n p q (Says x) e
@@ -121,10 +121,10 @@ label_wrong p earlier l f labels e = go (find l p.labels) refl
         subst (λ (f : AsmFault). IsWrong earlier (Some (Place_of l)) f) same (t, subst (λ (es : Labels). Contains es (l, t)) labels (there l t p.labels h))
 
 -- what is wrong with an instruction
-draft_wrong : (n : ℕ) (p : Plan) (l : Line) (f : AsmFault) (P : AsmFault → Type 0) → with_draft n p l ≡ refused f → (fits l ≡ false → P OutOfRange) → (fits l ≡ true → max_slots < p.slots + slots l → P TooLong) → P f
-draft_wrong n p l f P e out long = go (fits l) (nat_lt max_slots (p.slots + slots l)) refl refl
+draft_wrong : (n : ℕ) (p : Plan) (l : Line) (f : AsmFault) (P : AsmFault → Type 0) → with_draft n p l ≡ refused f → (fits l ≡ false → P OutOfRange) → (fits l ≡ true → MAX_SLOTS < p.slots + slots l → P TooLong) → P f
+draft_wrong n p l f P e out long = go (fits l) (nat_lt MAX_SLOTS (p.slots + slots l)) refl refl
   where
-    go : (a b : Bool) → fits l ≡ a → nat_lt max_slots (p.slots + slots l) ≡ b → P f
+    go : (a b : Bool) → fits l ≡ a → nat_lt MAX_SLOTS (p.slots + slots l) ≡ b → P f
     go false b x y = let one : refused OutOfRange ≡ refused f = rw x at e in let same : OutOfRange ≡ f = cc in subst P same (out x)
     go true true x y = let one : refused TooLong ≡ refused f = rw (x, y) at e in let same : TooLong ≡ f = cc in subst P same (long x (ltb-true _ _ y))
     go true false x y =
@@ -178,9 +178,9 @@ planned_fails before earlier p n (text ∷ texts) f m b e = go (read_line text) 
 -- the lines that were planned fit
 record Planned (p : Plan) (ls : List Line) : Type 0 where
   pub fit : AllByRecursion (λ l. fits l ≡ true) ls
-  pub within : p.slots + slots_of ls ≤ max_slots
+  pub within : p.slots + slots_of ls ≤ MAX_SLOTS
 
-planned_fit : (n : ℕ) (p q : Plan) (texts : List (List ℕ)) (ls : List Line) → map read_line texts ≡ map Some ls → planned n p texts ≡ planned_is q → IsDistinct bytes_eq (names p.labels) → p.slots ≤ max_slots → Planned p ls
+planned_fit : (n : ℕ) (p q : Plan) (texts : List (List ℕ)) (ls : List Line) → map read_line texts ≡ map Some ls → planned n p texts ≡ planned_is q → IsDistinct bytes_eq (names p.labels) → p.slots ≤ MAX_SLOTS → Planned p ls
 unfolding planned
 planned_fit n p q [] [] read e d le = record { fit = tt; within = omega arith }
 planned_fit n p q [] (l ∷ ls) read e d le = absurd (cc)

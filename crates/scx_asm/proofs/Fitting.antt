@@ -12,7 +12,8 @@ use Rattle.scx_semantics.specs.declared.instructions.Operand.{Operand}
 use Rattle.scx_semantics.specs.declared.instructions.Operand.TheVariants as operand
 use Rattle.scx_semantics.specs.Code.{is_wide, size}
 use Rattle.scx_encoding.specs.Spelling.{IsOperand, IsInsn}
-use Rattle.scx_isa.specs.Spelling.{IsCode, IsProgram, max_slots}
+use Rattle.scx_isa.specs.Spelling.{IsCode, IsProgram}
+use Rattle.scx_isa.specs.declared.program.TheConstants.{MAX_SLOTS}
 use Rattle.scx_text.specs.declared.items.Literal.{Literal}
 use Rattle.scx_text.specs.declared.items.Argument.{Argument}
 use Rattle.scx_text.specs.declared.items.Argument.TheVariants as argument
@@ -228,7 +229,7 @@ built_fits labels (d ∷ ds) is e =
 
 record Sound (p : Plan) : Type 0 where
   pub counted : p.slots ≡ total p.drafts
-  pub within : p.slots ≤ max_slots
+  pub within : p.slots ≤ MAX_SLOTS
 
 total_more : (ds : List Draft) (d : Draft) → total (ds ++ d ∷ []) ≡ total ds + slots d.says
 total_more [] d = omega arith
@@ -249,9 +250,9 @@ label_sound p q l e h = go (is_some (find l p.labels)) refl
         subst Sound same (record { counted = h.counted; within = h.within })
 
 draft_sound : (n : ℕ) (p q : Plan) (l : Line) → with_draft n p l ≡ Ok q → Sound p → Sound q
-draft_sound n p q l e h = go (fits l) (nat_lt max_slots (p.slots + slots l)) refl refl
+draft_sound n p q l e h = go (fits l) (nat_lt MAX_SLOTS (p.slots + slots l)) refl refl
   where
-    go : (a b : Bool) → fits l ≡ a → nat_lt max_slots (p.slots + slots l) ≡ b → Sound q
+    go : (a b : Bool) → fits l ≡ a → nat_lt MAX_SLOTS (p.slots + slots l) ≡ b → Sound q
     go false b x y = let bad : refused OutOfRange ≡ Ok q = rw x at e in absurd (cc)
     go true true x y = let bad : refused TooLong ≡ Ok q = rw (x, y) at e in absurd (cc)
     go true false x y =

@@ -13,7 +13,7 @@ use Rattle.scx_semantics.specs.declared.instructions.Insn.TheVariants as insn
 use Rattle.scx_semantics.specs.Arithmetic.{shifted}
 use Rattle.scx_semantics.specs.Code.{Code, is_wide, size}
 use Rattle.scx_semantics.specs.Steps.{target}
-use Rattle.scx_isa.specs.Spelling.{max_slots}
+use Rattle.scx_isa.specs.declared.program.TheConstants.{MAX_SLOTS}
 use Rattle.scx_text.specs.declared.items.Jump.{Jump}
 use Rattle.scx_text.specs.declared.items.Jump.TheVariants as jump
 use Rattle.scx_text.specs.Options.{either}
@@ -154,7 +154,7 @@ done p = Ok p
 abbrev refused : AsmFault → Result Plan AsmFault
 refused f = Err f
 
-line_as : (n : ℕ) (p : Plan) (rest : Labels) (l : Line) → IsDistinct bytes_eq (names (p.labels ++ (defined p.slots l ++ rest))) → fits l ≡ true → p.slots + slots l ≤ max_slots → with_line n p l ≡ done (after_one n p l)
+line_as : (n : ℕ) (p : Plan) (rest : Labels) (l : Line) → IsDistinct bytes_eq (names (p.labels ++ (defined p.slots l ++ rest))) → fits l ≡ true → p.slots + slots l ≤ MAX_SLOTS → with_line n p l ≡ done (after_one n p l)
 line_as n p rest Blank d fit le = ap done (sym (unchanged p))
 line_as n p rest (Place_of l) d fit le = rw (new p.labels rest (l, p.slots) d) (ap done (same_plan _ _ _ _ _ _ (sym (plus_none p.slots)) refl (sym (append-nil p.drafts))))
 line_as n p rest (Says s) d fit le = rw (fit, le-ltb _ _ le) (ap done (same_plan _ _ _ _ _ _ refl (sym (append-nil p.labels)) refl))
@@ -179,9 +179,9 @@ label_was n p q l e d = go (find l p.labels) refl
         }
 
 draft_was : (n : ℕ) (p q : Plan) (l : Line) → with_draft n p l ≡ Ok q → plan (p.slots + slots l) p.labels (p.drafts ++ record { line = n; slot = p.slots; says = l } ∷ []) ≡ q
-draft_was n p q l e = go (fits l) (nat_lt max_slots (p.slots + slots l)) refl refl
+draft_was n p q l e = go (fits l) (nat_lt MAX_SLOTS (p.slots + slots l)) refl refl
   where
-    go : (a b : Bool) → fits l ≡ a → nat_lt max_slots (p.slots + slots l) ≡ b → plan (p.slots + slots l) p.labels (p.drafts ++ record { line = n; slot = p.slots; says = l } ∷ []) ≡ q
+    go : (a b : Bool) → fits l ≡ a → nat_lt MAX_SLOTS (p.slots + slots l) ≡ b → plan (p.slots + slots l) p.labels (p.drafts ++ record { line = n; slot = p.slots; says = l } ∷ []) ≡ q
     go false b x y = let bad : refused OutOfRange ≡ Ok q = rw x at e in absurd (cc)
     go true true x y = let bad : refused TooLong ≡ Ok q = rw (x, y) at e in absurd (cc)
     go true false x y =
@@ -367,7 +367,7 @@ left labels s (Says x) ls (i ∷ is) h = record { fit = said_fits labels s (Says
 left labels s (Jumps j t) ls [] h = absurd h
 left labels s (Jumps j t) ls (i ∷ is) h = record { fit = said_fits labels s (Jumps j t) i h.0; insns = is; rest = h.1 }
 
-planned_as : (n : ℕ) (p : Plan) (texts : List (List ℕ)) (ls : List Line) (labels : Labels) (is : List Insn) → map read_line texts ≡ map Some ls → IsDistinct bytes_eq (names (p.labels ++ definitions p.slots ls)) → AreSaid labels p.slots ls is → p.slots + slots_of ls ≤ max_slots
+planned_as : (n : ℕ) (p : Plan) (texts : List (List ℕ)) (ls : List Line) (labels : Labels) (is : List Insn) → map read_line texts ≡ map Some ls → IsDistinct bytes_eq (names (p.labels ++ definitions p.slots ls)) → AreSaid labels p.slots ls is → p.slots + slots_of ls ≤ MAX_SLOTS
     → planned n p texts ≡ planned_is (after n p ls)
 unfolding planned
 planned_as n p [] [] labels is e d h le = ap planned_is (sym (unchanged p))
@@ -504,5 +504,5 @@ read_was text code e =
       said = built_was (definitions 0 laid.says) 1 0 laid.says insns.0 one;
       program = sym same;
       some = subst (λ (code : Code). 0 < length code) same fine.some;
-      fits = subst (λ (code : Code). length code ≤ max_slots) same fine.fits;
+      fits = subst (λ (code : Code). length code ≤ MAX_SLOTS) same fine.fits;
     }

@@ -6,7 +6,7 @@ use Rattle.std.specs.List.{Contains, IsDistinct, AllByRecursion}
 use Rattle.std.specs.Str.{bytes_eq}
 use Rattle.std.specs.Str.Lines.{lines}
 use Rattle.scx_semantics.specs.declared.instructions.Insn.{Insn}
-use Rattle.scx_isa.specs.Spelling.{max_slots}
+use Rattle.scx_isa.specs.declared.program.TheConstants.{MAX_SLOTS}
 use Rattle.scx_semantics.specs.Code.{Code}
 use Rattle.scx_semantics.specs.Steps.{target}
 use Rattle.scx_text.specs.Items.{Label, Line, Place_of, Jumps, read_line}
@@ -26,14 +26,14 @@ slots_of (l ∷ ls) = slots l + slots_of ls
 pub record AreFine (ls : List Line) : Type 0 where
   pub once : IsDistinct bytes_eq (names (definitions 0 ls))
   pub fit : AllByRecursion (λ l. fits l ≡ true) ls
-  pub within : slots_of ls ≤ max_slots
+  pub within : slots_of ls ≤ MAX_SLOTS
 
 -- the fault of what a line says, if it is of the language, behind lines that are fine
 abbrev pub IsWrong : List Line → Option Line → AsmFault → Type 0
 IsWrong earlier None Syntax = Unit {0}
 IsWrong earlier (Some (Place_of l)) TwiceLabel = (s : ℕ) × Contains (definitions 0 earlier) (l, s)
 IsWrong earlier (Some l) OutOfRange = fits l ≡ false
-IsWrong earlier (Some l) TooLong = (fits l ≡ true) × (max_slots < slots_of earlier + slots l)
+IsWrong earlier (Some l) TooLong = (fits l ≡ true) × (MAX_SLOTS < slots_of earlier + slots l)
 IsWrong earlier l fault = ⊥
 
 -- the lines before the n-th are fine, and it has the fault

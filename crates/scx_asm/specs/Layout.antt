@@ -1,7 +1,7 @@
 -- The first pass over a text: line by line the instructions get their slots and the labels theirs, up to
 -- the first faulty line. Of several faults of one line the one with the least number is reported.
 use Rattle.std.specs.Prelude.{◌≡◌, ℕ, suc, ◌+◌, nat_lt, is_some, List, [], ◌∷◌, ◌++◌, Result, Ok, Err, if◌then◌else◌}
-use Rattle.scx_isa.specs.Spelling.{max_slots}
+use Rattle.scx_isa.specs.declared.program.TheConstants.{MAX_SLOTS}
 use Rattle.scx_text.specs.Options.{either}
 use Rattle.scx_text.specs.Items.{Line, Blank, Place_of, line_of, read_line}
 use Rattle.scx_asm.specs.declared.faults.AsmFault.{AsmFault}
@@ -46,7 +46,7 @@ with_label p l =
 
 abbrev pub with_draft : ℕ → Plan → Line → Result Plan AsmFault
 with_draft n p l =
-    if fits l then (if nat_lt max_slots (p.slots + slots l) then Err TooLong
+    if fits l then (if nat_lt MAX_SLOTS (p.slots + slots l) then Err TooLong
     else Ok (record { slots = p.slots + slots l; labels = p.labels; drafts = p.drafts ++ record { line = n; slot = p.slots; says = l } ∷ [] }))
     else Err OutOfRange
 

@@ -8,7 +8,7 @@ use Rattle.std.specs.Str.Lines.{lines}
 use Rattle.scx_semantics.specs.declared.instructions.Insn.{Insn}
 use Rattle.scx_semantics.specs.Code.{Code}
 use Rattle.scx_semantics.specs.Steps.{target}
-use Rattle.scx_isa.specs.Spelling.{max_slots}
+use Rattle.scx_isa.specs.declared.program.TheConstants.{MAX_SLOTS}
 use Rattle.scx_text.specs.declared.items.Jump.{Jump}
 use Rattle.scx_text.specs.Items.{Label, Distance, Line, Blank, Place_of, Says, Jumps, read_line}
 use Rattle.scx_asm.specs.Resolving.{insn_of, jump_of, distant, slots, Labels}
@@ -57,4 +57,4 @@ pub record StandsFor (text : List ℕ) (code : Code) : Type 0 where
   pub said : AreSaid (definitions 0 says) 0 says insns
   pub program : code ≡ code_of insns
   pub some : 0 < length code
-  pub fits : length code ≤ max_slots
+  pub fits : length code ≤ MAX_SLOTS

@@ -9,11 +9,9 @@ ghost use Rattle.scx_asm.specs.Resolving.{find};
 use crate::faults::{AsmError, AsmFault};
 use crate::resolving::{fits, slots_of};
 use indexmap::IndexMap;
+use scx_isa::MAX_SLOTS;
 use scx_text::{Item, Token, item_of, tokens};
 use std::alloc::{AllocError, Global};
-
-/// The most slots that a program may have, as `scx_isa` limits them.
-const MOST_SLOTS: u16 = 4096;
 
 /// An instruction with its numbers as they are written.
 #[derive(Clone, Copy)]
@@ -74,7 +72,7 @@ fn push_entry<'a>(layout: &mut Layout<'a>, number: usize, item: Item<'a>) -> Res
         return refused(AsmFault::OutOfRange, number);
     }
     let size = slots_of(&item);
-    if layout.slots > MOST_SLOTS - size {
+    if layout.slots > MAX_SLOTS as u16 - size {
         return refused(AsmFault::TooLong, number);
     }
     let entry = Entry {

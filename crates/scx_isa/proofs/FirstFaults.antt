@@ -12,7 +12,8 @@ use Rattle.scx_isa.specs.declared.faults.DecodeError.TheVariants as errors
 use Rattle.scx_semantics.specs.Code.{Code}
 use Rattle.scx_encoding.specs.Slots.{slots_in, same_slot, IsSlot}
 use Rattle.scx_encoding.specs.Spelling.{first_slot, second_slot, IsInsn}
-use Rattle.scx_isa.specs.Spelling.{code_slots, max_slots, IsCode, HasProgramLength, Spells}
+use Rattle.scx_isa.specs.Spelling.{code_slots, IsCode, HasProgramLength, Spells}
+use Rattle.scx_isa.specs.declared.program.TheConstants.{MAX_SLOTS}
 use Rattle.scx_encoding.specs.Reading.{◌>>=◌, insn_at}
 use Rattle.scx_isa.specs.Reading.{Gives, first, read_slots, read_program}
 use Rattle.scx_isa.specs.FirstFault.{IsRest, FailsAtInsn, FailsInHalf, IsFirstFault, No_byte, Cut_slot, Too_long, At_insn, In_half, IsRefusal}
@@ -213,14 +214,14 @@ slots_fail bytes fault slot long (From_half n e d f) =
     subst (IsFirstFault bytes fault) same (subst (λ d. IsFirstFault bytes d (suc n)) d (In_half n long f))
 
 pub fault_is_first : (bytes : List ℕ) (fault : DecodeFault) (slot : ℕ) → IsBytes bytes → read_program bytes ≡ Err (fault, slot) → IsFirstFault bytes fault slot
-fault_is_first bytes fault slot fits e = go (nat_eq (length bytes) 0) (nat_lt 0 (length bytes % 8)) (nat_lt max_slots (length bytes / 8)) refl refl refl
+fault_is_first bytes fault slot fits e = go (nat_eq (length bytes) 0) (nat_lt 0 (length bytes % 8)) (nat_lt MAX_SLOTS (length bytes / 8)) refl refl refl
   where
-    go : (a b c : Bool) → nat_eq (length bytes) 0 ≡ a → nat_lt 0 (length bytes % 8) ≡ b → nat_lt max_slots (length bytes / 8) ≡ c → IsFirstFault bytes fault slot
+    go : (a b c : Bool) → nat_eq (length bytes) 0 ≡ a → nat_lt 0 (length bytes % 8) ≡ b → nat_lt MAX_SLOTS (length bytes / 8) ≡ c → IsFirstFault bytes fault slot
     go true b c x y z = at_fault bytes Empty fault 0 slot (No_byte (eqb-true _ _ x)) (rw x at e)
     go false true c x y z = at_fault bytes NotWholeSlots fault (length bytes / 8) slot (Cut_slot (ltb-true _ _ y)) (rw (x, y) at e)
     go false false true x y z =
         let whole : length bytes % 8 ≡ 0 = omega (arith, ltb-false _ _ y) in
-        at_fault bytes TooLong fault max_slots slot (Too_long whole (ltb-true _ _ z)) (rw (x, y, z) at e)
+        at_fault bytes TooLong fault MAX_SLOTS slot (Too_long whole (ltb-true _ _ z)) (rw (x, y, z) at e)
     go false false false x y z =
         let nonzero = eqb-false _ _ x in
         let read : read_slots 0 None (slots_in (length bytes / 8) bytes) ≡ Err (fault, slot) = rw (x, y, z) at e in

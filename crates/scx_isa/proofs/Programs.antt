@@ -9,7 +9,8 @@ use Rattle.scx_encoding.specs.declared.faults.DecodeFault.{DecodeFault}
 use Rattle.scx_encoding.specs.declared.faults.DecodeFault.TheVariants.{Empty, TooLong, NotWholeSlots}
 use Rattle.scx_encoding.specs.Slots.{slot_bytes, slots_in}
 use Rattle.scx_semantics.specs.Code.{Code}
-use Rattle.scx_isa.specs.Spelling.{code_slots, spelling, max_slots, IsProgram, HasProgramLength, Spells}
+use Rattle.scx_isa.specs.Spelling.{code_slots, spelling, IsProgram, HasProgramLength, Spells}
+use Rattle.scx_isa.specs.declared.program.TheConstants.{MAX_SLOTS}
 use Rattle.scx_isa.specs.Reading.{Gives, read_slots, read_program}
 use Rattle.scx_encoding.proofs.Bytes.{IsBytes, slots_spelled, slots_fit, slots_again, length-slots}
 use Rattle.scx_isa.proofs.Codes.{code_is_spelled, code_slots_fit, code_is_read, length-code_slots}
@@ -27,12 +28,12 @@ abbrev failed : DecodeFault × ℕ → Result Code (DecodeFault × ℕ)
 failed e = Err e
 
 lengths : (bytes : List ℕ) (code : Code) → read_program bytes ≡ Ok code → HasLength bytes code
-lengths bytes code e = go (nat_eq (length bytes) 0) (nat_lt 0 (length bytes % 8)) (nat_lt max_slots (length bytes / 8)) refl refl refl
+lengths bytes code e = go (nat_eq (length bytes) 0) (nat_lt 0 (length bytes % 8)) (nat_lt MAX_SLOTS (length bytes / 8)) refl refl refl
   where
-    go : (a b c : Bool) → nat_eq (length bytes) 0 ≡ a → nat_lt 0 (length bytes % 8) ≡ b → nat_lt max_slots (length bytes / 8) ≡ c → HasLength bytes code
+    go : (a b c : Bool) → nat_eq (length bytes) 0 ≡ a → nat_lt 0 (length bytes % 8) ≡ b → nat_lt MAX_SLOTS (length bytes / 8) ≡ c → HasLength bytes code
     go true b c x y z = let bad : failed (Empty, 0) ≡ Ok code = rw x at e in absurd (cc)
     go false true c x y z = let bad : failed (NotWholeSlots, length bytes / 8) ≡ Ok code = rw (x, y) at e in absurd (cc)
-    go false false true x y z = let bad : failed (TooLong, max_slots) ≡ Ok code = rw (x, y, z) at e in absurd (cc)
+    go false false true x y z = let bad : failed (TooLong, MAX_SLOTS) ≡ Ok code = rw (x, y, z) at e in absurd (cc)
     go false false false x y z =
         let nonzero = eqb-false _ _ x in
         record {
@@ -62,7 +63,7 @@ spelling_length code h =
 pub program_has_length : (bytes : List ℕ) (code : Code) → Spells bytes code → HasProgramLength bytes
 program_has_length bytes code h =
     let some : 0 < length code = h.program.some in
-    let fits : length code ≤ max_slots = h.program.fits in
+    let fits : length code ≤ MAX_SLOTS = h.program.fits in
     let long : length bytes ≡ 8 * length code = rw h.spelled (spelling_length code h.program) in
     record { some = omega arith; whole = omega arith; fits = omega arith }
 
@@ -72,7 +73,7 @@ slots_are_read bytes long =
     let some : 0 < length bytes = long.some in
     let nonzero : nat_eq (length bytes) 0 ≡ false = ne_eqb _ _ (omega arith) in
     let whole : nat_lt 0 (length bytes % 8) ≡ false = rw long.whole refl in
-    let fits : nat_lt max_slots (length bytes / 8) ≡ false = le-ltb _ _ long.fits in
+    let fits : nat_lt MAX_SLOTS (length bytes / 8) ≡ false = le-ltb _ _ long.fits in
     rw (nonzero, whole, fits) refl
 
 pub spelling_is_read : (code : Code) → IsProgram code → read_program (spelling code) ≡ Ok code

@@ -11,7 +11,8 @@ use Rattle.scx_isa.specs.declared.faults.DecodeError.TheVariants as errors
 use Rattle.scx_semantics.specs.Code.{Code}
 use Rattle.scx_encoding.specs.Slots.{slots_in}
 use Rattle.scx_encoding.specs.Spelling.{second_slot}
-use Rattle.scx_isa.specs.Spelling.{IsCode, code_slots, max_slots, HasProgramLength}
+use Rattle.scx_isa.specs.Spelling.{IsCode, code_slots, HasProgramLength}
+use Rattle.scx_isa.specs.declared.program.TheConstants.{MAX_SLOTS}
 use Rattle.scx_encoding.specs.Reading.{insn_at}
 use Rattle.scx_isa.specs.Reading.{first}
 
@@ -45,7 +46,7 @@ pub record FailsInHalf (slots : List Slot) (k : ℕ) : Type 0 where
 pub data IsFirstFault (bytes : List ℕ) : DecodeFault → ℕ → Type 0 where
   No_byte : length bytes ≡ 0 → IsFirstFault bytes Empty 0
   Cut_slot : 0 < length bytes % 8 → IsFirstFault bytes NotWholeSlots (length bytes / 8)
-  Too_long : length bytes % 8 ≡ 0 → max_slots < length bytes / 8 → IsFirstFault bytes TooLong max_slots
+  Too_long : length bytes % 8 ≡ 0 → MAX_SLOTS < length bytes / 8 → IsFirstFault bytes TooLong MAX_SLOTS
   At_insn : (fault : DecodeFault) (k : ℕ) → HasProgramLength bytes → FailsAtInsn (slots_in (length bytes / 8) bytes) fault k → IsFirstFault bytes fault k
   In_half : (k : ℕ) → HasProgramLength bytes → FailsInHalf (slots_in (length bytes / 8) bytes) k → IsFirstFault bytes UnusedField (suc k)
 

@@ -9,7 +9,7 @@ use Rattle.scx_isa.specs.declared.faults.DecodeError.TheVariants as errors
 use Rattle.scx_encoding.specs.Slots.{slots_in}
 use Rattle.scx_encoding.specs.Reading.{◌>>=◌, place_at, due_after}
 use Rattle.scx_semantics.specs.Code.{Code}
-use Rattle.scx_isa.specs.Spelling.{max_slots}
+use Rattle.scx_isa.specs.declared.program.TheConstants.{MAX_SLOTS}
 
 -- a fault, at a slot
 abbrev pub placed : {A : Type 0} → ℕ → Result A DecodeFault → Result A (DecodeFault × ℕ)
@@ -33,7 +33,7 @@ read_program bytes =
     let n = length bytes / 8 in
     if nat_eq (length bytes) 0 then Err (Empty, 0) else (
     if nat_lt 0 (length bytes % 8) then Err (NotWholeSlots, n) else (
-    if nat_lt max_slots n then Err (TooLong, max_slots) else read_slots 0 None (slots_in n bytes)))
+    if nat_lt MAX_SLOTS n then Err (TooLong, MAX_SLOTS) else read_slots 0 None (slots_in n bytes)))
 
 -- What a function returned, seen by view, is what reading gives, unless memory ran out.
 abbrev pub Fails : {Y : Type 0} → DecodeError → Result Y (DecodeFault × ℕ) → Type 0

@@ -7,6 +7,7 @@ use Rattle.scx_semantics.specs.declared.instructions.Insn.{Insn}
 use Rattle.scx_encoding.specs.Slots.{slot_bytes}
 use Rattle.scx_encoding.specs.Spelling.{insn_slots, IsInsn}
 use Rattle.scx_semantics.specs.Code.{Code, is_wide}
+use Rattle.scx_isa.specs.declared.program.TheConstants.{MAX_SLOTS}
 
 -- a second half is spelled with its first
 abbrev pub place_slots : Option Insn → List Slot
@@ -30,20 +31,17 @@ IsCode true [] = ⊥
 IsCode true (Some i ∷ code) = ⊥
 IsCode true (None ∷ code) = IsCode false code
 
-abbrev pub max_slots : ℕ
-max_slots = 4096
-
 -- a program has 1 to 4096 slots
 pub record IsProgram (code : Code) : Type 0 where
   pub insns : IsCode false code
   pub some : 0 < length code
-  pub fits : length code ≤ max_slots
+  pub fits : length code ≤ MAX_SLOTS
 
 -- the bytes are as many as a program has: whole slots, 1 to 4096 of them
 pub record HasProgramLength (bytes : List ℕ) : Type 0 where
   pub some : 0 < length bytes
   pub whole : length bytes % 8 ≡ 0
-  pub fits : length bytes / 8 ≤ max_slots
+  pub fits : length bytes / 8 ≤ MAX_SLOTS
 
 -- the bytes spell the program
 pub record Spells (bytes : List ℕ) (code : Code) : Type 0 where
