@@ -1,7 +1,6 @@
 ghost use Rattle.std.specs.Prelude.{◌≡◌, ◌+◌, ◌≤◌, IfOk};
 ghost use Rattle.scx_semantics.specs.Registers.{number};
 ghost use Rattle.scx_semantics.specs.Memory.{size_bytes, access_size};
-ghost use Rattle.scx_semantics.specs.Meaning.{is_plain};
 ghost use Rattle.scx_abs.specs.Areas.{IsRoom};
 ghost use Rattle.scx_abs.specs.Changes.{flowed};
 ghost use Rattle.scx_abs.specs.Rules.{area_of, field_area, loaded_kind, kind_in, load_kind, stored_cell, number_stored, stored_in, store_rule};
@@ -103,19 +102,9 @@ fn kind_in(state: &AbsState, access: Access, area: Area) -> Result<Kind, Why>
             loaded_kind(state.cell(at / CELL_BYTES), access, at % CELL_BYTES)
         }
         Area::InElement => Ok(Kind::Num),
-        Area::InTask(_) if is_plain(access) => Ok(Kind::Num),
+        Area::InTask(_) if access.is_plain() => Ok(Kind::Num),
         Area::InTask(_) => Err(Why::TaskField),
     }
-}
-
-/// Whether a load reads without a sign.
-fn is_plain(access: Access) -> bool
-    ensures { result ≡ is_plain access }
-{
-    !matches!(
-        access,
-        Access::SignedByte | Access::SignedHalfWord | Access::SignedWord
-    )
 }
 
 /// What flows on from a store there.

@@ -121,6 +121,7 @@ impl Size {
 
 impl Access {
     ghost use Rattle.scx_semantics.specs.Memory.{access_size};
+    ghost use Rattle.scx_semantics.specs.Meaning.{is_plain};
 
     /// How many bytes it reads.
     pub fn size(self) -> Size
@@ -132,5 +133,15 @@ impl Access {
             Access::Word | Access::SignedWord => Size::Word,
             Access::DoubleWord => Size::DoubleWord,
         }
+    }
+
+    /// Whether it reads without a sign.
+    pub fn is_plain(self) -> bool
+        ensures { result ≡ is_plain self }
+    {
+        !matches!(
+            self,
+            Access::SignedByte | Access::SignedHalfWord | Access::SignedWord
+        )
     }
 }

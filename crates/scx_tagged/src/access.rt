@@ -4,7 +4,7 @@ ghost use Rattle.scx_maps.specs.Numbers.{bytes_of};
 ghost use Rattle.scx_semantics.specs.Elements.{Maps};
 ghost use Rattle.scx_semantics.specs.Machine.{Machine};
 ghost use Rattle.scx_semantics.specs.Memory.{size_bytes, access_size};
-ghost use Rattle.scx_semantics.specs.Meaning.{is_plain, loaded, stored};
+ghost use Rattle.scx_semantics.specs.Meaning.{loaded, stored};
 ghost use Rattle.scx_semantics.specs.Places as places;
 ghost use Rattle.scx_semantics.specs.Registers.{number};
 ghost use Rattle.scx_semantics.specs.declared.operations.Size as Sizes;
@@ -58,22 +58,12 @@ fn load_field<E: Env>(
 ) -> Effect
     ensures { (maps : Maps) → ComesTo (host E.answer E.after_call E.number E.after_store) (loaded (seen core.old maps) (number destination) access (places.InTask task field)) maps env.now result (seen core.new maps) env.now }
 {
-    if !is_plain(access) || destination == Register::R10 {
+    if !access.is_plain() || destination == Register::R10 {
         return Effect::Stuck;
     }
     let n = env.load(task, field);
     core.write(destination, Value::Number(n));
     Effect::Next
-}
-
-/// Whether a load reads without a sign.
-fn is_plain(access: Access) -> bool
-    ensures { result ≡ is_plain access }
-{
-    !matches!(
-        access,
-        Access::SignedByte | Access::SignedHalfWord | Access::SignedWord
-    )
 }
 
 /// Stores a value at a place.
