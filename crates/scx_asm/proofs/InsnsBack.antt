@@ -12,13 +12,13 @@ use Rattle.scx_semantics.specs.declared.instructions.Operand.{Operand}
 use Rattle.scx_semantics.specs.declared.instructions.Operand.TheVariants as operand
 use Rattle.scx_semantics.specs.declared.instructions.Insn.{Insn}
 use Rattle.scx_semantics.specs.declared.instructions.Insn.TheVariants as insn
-use Rattle.scx_semantics.specs.Arithmetic.{constant}
+use Rattle.scx_semantics.specs.Arithmetic.{constant, extension_width}
 use Rattle.scx_encoding.specs.Spelling.{IsOperand, IsInsn}
 use Rattle.scx_text.specs.declared.symbols.Symbol.{Symbol}
 use Rattle.scx_text.specs.declared.symbols.Symbol.TheVariants.{Assign, Compare, Plus, Minus, Star, Opening, Closing}
 use Rattle.scx_semantics.specs.declared.operations.Operation.TheVariants.{Move}
 use Rattle.scx_text.specs.Symbols.{spelled}
-use Rattle.scx_text.specs.Names.{register_text, access_text, stored_access, extension_width, extension_access, order_text}
+use Rattle.scx_text.specs.Names.{register_text, access_text, stored_access, extension_access, order_text}
 use Rattle.scx_text.specs.Tokens.{Lexeme, Word, Number, Mark, followed_by, tokens_from, tokens}
 use Rattle.scx_text.specs.Canonical.{operand_text, offset_text, distance_text, place_text, insn_text}
 use Rattle.scx_asm.proofs.TokensBack.{ends_symbol, ends_word, symbol_read, number_read, name_read, digits_end_symbol, IsName}

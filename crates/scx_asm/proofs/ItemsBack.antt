@@ -22,13 +22,14 @@ use Rattle.scx_semantics.specs.declared.instructions.Operand.TheVariants as oper
 use Rattle.scx_semantics.specs.declared.instructions.Insn.{Insn}
 use Rattle.scx_semantics.specs.declared.instructions.Insn.TheVariants as insn
 use Rattle.scx_semantics.specs.Arithmetic as arithmetic
+use Rattle.scx_semantics.specs.Arithmetic.{extension_width}
 use Rattle.scx_text.specs.declared.items.Literal.{Literal}
 use Rattle.scx_text.specs.declared.items.Argument.{Argument}
 use Rattle.scx_text.specs.declared.items.Argument.TheVariants as argument
 use Rattle.scx_text.specs.declared.items.Statement.TheVariants as statement
 use Rattle.scx_text.specs.declared.items.Jump.TheVariants as jump
 use Rattle.scx_text.specs.declared.symbols.Symbol.TheVariants.{Assign, Minus, Star, Opening, Closing}
-use Rattle.scx_text.specs.Names.{named, register_text, register_in, access_text, stored_access, stored_size, extension_of, extension_width, extension_access, order_text}
+use Rattle.scx_text.specs.Names.{named, register_text, register_in, access_text, stored_access, stored_size, extension_of, extension_access, order_text}
 use Rattle.scx_text.specs.Tokens.{Lexeme, Word, Number, Mark}
 use Rattle.scx_text.specs.Items.{Distance, Line, Says, Jumps, written, read_literal, read_offset, read_destination, read_argument, read_place, same, assigned, item_of, read_line}
 use Rattle.scx_asm.proofs.NamesBack.{register_again, access_again}

@@ -25,11 +25,12 @@ use Rattle.scx_semantics.specs.declared.instructions.Operand.TheVariants as oper
 use Rattle.scx_semantics.specs.declared.instructions.Insn.{Insn}
 use Rattle.scx_semantics.specs.declared.instructions.Insn.TheVariants as insn
 use Rattle.scx_semantics.specs.Arithmetic as arithmetic
+use Rattle.scx_semantics.specs.Arithmetic.{extension_width}
 use Rattle.scx_encoding.specs.Spelling.{IsOperand, IsInsn}
 use Rattle.scx_text.specs.declared.symbols.Symbol.{Symbol}
 use Rattle.scx_text.specs.declared.symbols.Symbol.TheVariants.{Assign, Compare, Plus, Minus, Star, Opening, Closing, Colon}
 use Rattle.scx_text.specs.Symbols.{spelled}
-use Rattle.scx_text.specs.Names.{width_text, register_text, access_text, stored_access, extension_width, extension_access, order_text}
+use Rattle.scx_text.specs.Names.{width_text, register_text, access_text, stored_access, extension_access, order_text}
 use Rattle.scx_text.specs.Canonical.{operand_text, offset_text, distance_text, place_text, insn_text}
 use Rattle.scx_asm.proofs.TokensBack.{and_true}
 use Rattle.scx_asm.proofs.InsnsBack.{Small, small32, small16, constant_small}

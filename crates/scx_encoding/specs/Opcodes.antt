@@ -12,8 +12,6 @@ use Rattle.scx_semantics.specs.declared.operations.Width.{Width}
 use Rattle.scx_semantics.specs.declared.operations.Width.TheVariants.{Bits32, Bits64}
 use Rattle.scx_semantics.specs.declared.operations.Operation.{Operation}
 use Rattle.scx_semantics.specs.declared.operations.Operation.TheVariants.{Add, Subtract, Multiply, Divide, SignedDivide, Or, And, Xor, ShiftLeft, ShiftRight, ShiftRightSigned, Modulo, SignedModulo, Move}
-use Rattle.scx_semantics.specs.declared.operations.Extension.{Extension}
-use Rattle.scx_semantics.specs.declared.operations.Extension.TheVariants.{Low8To32, Low16To32, Low8To64, Low16To64, Low32To64}
 use Rattle.scx_semantics.specs.declared.operations.Order.{Order}
 use Rattle.scx_semantics.specs.declared.operations.Order.TheVariants.{Little, Big, Swapped}
 use Rattle.scx_semantics.specs.declared.operations.Size.{Size}
@@ -22,6 +20,7 @@ use Rattle.scx_semantics.specs.declared.operations.Access.{Access}
 use Rattle.scx_semantics.specs.declared.operations.Access.TheVariants as access
 use Rattle.scx_semantics.specs.declared.operations.Comparison.{Comparison}
 use Rattle.scx_semantics.specs.declared.operations.Comparison.TheVariants.{Equal, Greater, GreaterOrEqual, AnyBit, NotEqual, SignedGreater, SignedGreaterOrEqual, Less, LessOrEqual, SignedLess, SignedLessOrEqual}
+use Rattle.scx_semantics.specs.Arithmetic.{extension_width}
 use Rattle.scx_encoding.specs.declared.forms.Source.{Source}
 use Rattle.scx_encoding.specs.declared.forms.Source.TheVariants.{Immediate, Register}
 use Rattle.scx_encoding.specs.declared.forms.Form.{Form}
@@ -125,13 +124,6 @@ abbrev pub base : Operation → Operation
 base SignedDivide = Divide
 base SignedModulo = Modulo
 base o = o
-
-abbrev pub extension_width : Extension → Width
-extension_width Low8To32 = Bits32
-extension_width Low16To32 = Bits32
-extension_width Low8To64 = Bits64
-extension_width Low16To64 = Bits64
-extension_width Low32To64 = Bits64
 
 abbrev pub source_of : Operand → Source
 source_of (operand.Immediate k) = Immediate

@@ -1,7 +1,7 @@
 ghost use Rattle.std.specs.Prelude.{◌≡◌};
-ghost use Rattle.scx_encoding.specs.Opcodes.{form, base, source_of, extension_width};
+ghost use Rattle.scx_encoding.specs.Opcodes.{form, base, source_of};
 
-use scx_semantics::{Access, Comparison, Extension, Insn, Operand, Operation, Order, Size, Width};
+use scx_semantics::{Access, Comparison, Insn, Operand, Operation, Order, Size, Width};
 
 /// Which of its two operands an instruction takes: source bit K or X.
 #[derive(Clone, Copy)]
@@ -38,7 +38,7 @@ pub fn form_of_insn(insn: &Insn) -> Form
         }
         Insn::Negate(width, _) => Form::Negate(width),
         Insn::SignExtend(extension, ..) => {
-            Form::Binary(width_of(extension), Operation::Move, Source::Register)
+            Form::Binary(extension.width(), Operation::Move, Source::Register)
         }
         Insn::Reorder(order, ..) => Form::Reorder(order),
         Insn::Constant(..) => Form::Constant,
@@ -71,14 +71,5 @@ fn base_of(operation: Operation) -> Operation
         Operation::SignedDivide => Operation::Divide,
         Operation::SignedModulo => Operation::Modulo,
         other => other,
-    }
-}
-
-fn width_of(extension: Extension) -> Width
-    ensures { result ≡ extension_width extension }
-{
-    match extension {
-        Extension::Low8To32 | Extension::Low16To32 => Width::Bits32,
-        Extension::Low8To64 | Extension::Low16To64 | Extension::Low32To64 => Width::Bits64,
     }
 }

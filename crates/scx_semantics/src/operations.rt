@@ -102,6 +102,20 @@ pub enum Comparison {
     SignedLessOrEqual,
 }
 
+impl Extension {
+    ghost use Rattle.scx_semantics.specs.Arithmetic.{extension_width};
+
+    /// The width to which it extends.
+    pub fn width(self) -> Width
+        ensures { result ≡ extension_width self }
+    {
+        match self {
+            Extension::Low8To32 | Extension::Low16To32 => Width::Bits32,
+            Extension::Low8To64 | Extension::Low16To64 | Extension::Low32To64 => Width::Bits64,
+        }
+    }
+}
+
 impl Size {
     ghost use Rattle.scx_semantics.specs.Memory.{size_bytes};
 

@@ -9,10 +9,10 @@ use Rattle.scx_semantics.specs.declared.instructions.Operand.{Operand}
 use Rattle.scx_semantics.specs.declared.instructions.Operand.TheVariants as operand
 use Rattle.scx_semantics.specs.declared.instructions.Insn.{Insn}
 use Rattle.scx_semantics.specs.declared.instructions.Insn.TheVariants as insn
-use Rattle.scx_semantics.specs.Arithmetic.{constant}
+use Rattle.scx_semantics.specs.Arithmetic.{constant, extension_width}
 use Rattle.scx_text.specs.declared.symbols.Symbol.TheVariants.{Assign, Compare}
 use Rattle.scx_text.specs.Symbols.{spelled}
-use Rattle.scx_text.specs.Names.{register_text, access_text, stored_access, extension_width, extension_access, order_text}
+use Rattle.scx_text.specs.Names.{register_text, access_text, stored_access, extension_access, order_text}
 
 abbrev pub operand_text : Width → Operand → List ℕ
 operand_text w (operand.Immediate k) = signed_decimal k

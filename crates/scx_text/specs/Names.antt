@@ -98,13 +98,6 @@ extension_of Bits64 access.SignedHalfWord = Some Low16To64
 extension_of Bits64 access.SignedWord = Some Low32To64
 extension_of w a = None
 
-abbrev pub extension_width : Extension → Width
-extension_width Low8To32 = Bits32
-extension_width Low16To32 = Bits32
-extension_width Low8To64 = Bits64
-extension_width Low16To64 = Bits64
-extension_width Low32To64 = Bits64
-
 abbrev pub extension_access : Extension → Access
 extension_access Low8To32 = access.SignedByte
 extension_access Low16To32 = access.SignedHalfWord

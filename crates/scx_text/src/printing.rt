@@ -4,7 +4,7 @@ ghost use Rattle.scx_text.specs.Names.{register_text, width_text, access_text};
 ghost use Rattle.scx_text.specs.Canonical.{operand_text, offset_text, distance_text, place_text, insn_text};
 
 use crate::symbols::Symbol;
-use crate::words::{access_text, extension_access, extension_width, order_text, stored_access};
+use crate::words::{access_text, extension_access, order_text, stored_access};
 use scx_semantics::{Access, Insn, Operand, Register, Width};
 use std::fmt;
 
@@ -117,7 +117,7 @@ impl fmt::Display for Canonical {
                 write!(f, "{register} = -{register}")
             }
             Insn::SignExtend(extension, register, source) => {
-                let width = extension_width(extension);
+                let width = extension.width();
                 let to = RegisterText(width, register);
                 let low = access_text(extension_access(extension));
                 let from = RegisterText(width, source);

@@ -1,5 +1,5 @@
 ghost use Rattle.std.specs.Prelude.{◌≡◌};
-ghost use Rattle.scx_text.specs.Names.{access_text, accesses, access_named, width_named, register_numbered, register_named, register_in, stored_size, stored_access, extension_of, extension_width, extension_access, order_text, orders, order_named};
+ghost use Rattle.scx_text.specs.Names.{access_text, accesses, access_named, width_named, register_numbered, register_named, register_in, stored_size, stored_access, extension_of, extension_access, order_text, orders, order_named};
 
 use scx_semantics::{Access, Extension, Order, OrderWidth, Register, Size, Width};
 
@@ -127,15 +127,6 @@ pub(crate) fn extension_of(width: Width, access: Access) -> Option<Extension>
         (Width::Bits64, Access::SignedHalfWord) => Some(Extension::Low16To64),
         (Width::Bits64, Access::SignedWord) => Some(Extension::Low32To64),
         _ => None,
-    }
-}
-
-pub(crate) fn extension_width(extension: Extension) -> Width
-    ensures { result ≡ extension_width extension }
-{
-    match extension {
-        Extension::Low8To32 | Extension::Low16To32 => Width::Bits32,
-        Extension::Low8To64 | Extension::Low16To64 | Extension::Low32To64 => Width::Bits64,
     }
 }
 
