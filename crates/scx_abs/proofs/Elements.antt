@@ -1,6 +1,6 @@
 -- Elements of maps: the checks of a place, what shapes say of an element, and the state after a store to
 -- one.
-use Rattle.std.proofs.Common.{◌≡◌, ℕ, zero, suc, ◌+◌, ◌*◌, ◌%◌, ◌<◌, ◌≤◌, ◌⊎◌, inl, inr, Bool, true, false, ◌&&◌, nat_eq, nat_le, List, [], ◌∷◌, ◌++◌, length, take, drop, slice_index_or, slice_get, Option, Some, None, Result, Ok, Err, if◌then◌else◌, refl, sym, ap, ◌∙◌, arith}
+use Rattle.std.proofs.Common.{◌≡◌, ℕ, zero, suc, ◌+◌, ◌*◌, ◌%◌, ◌<◌, ◌≤◌, ◌⊎◌, inl, inr, Bool, true, false, ◌&&◌, nat_eq, nat_le, List, [], ◌∷◌, ◌++◌, length, take, drop, slice_index_or, slice_get, Option, Some, None, Result, Ok, Err, ok_or, if◌then◌else◌, refl, sym, ap, ◌∙◌, arith}
 use Rattle.std.specs.Int.{bytes_low_first}
 use Rattle.std.proofs.lemmas.Bool.{eqb-true, leb-true}
 use Rattle.std.proofs.lemmas.Option.{slice_get_cases}
@@ -33,7 +33,7 @@ pub within_cases : (size : ℕ) (t : Option ℕ) (P : Result ℕ Why → Option 
     → ((at : ℕ) → P (Ok at) (Some at)) → P (place_within size t) (within size t)
 within_cases size None P none ok = none OutOfBounds None
 within_cases size (Some at) P none ok =
-    elim (nat_le at size) as (λ b. P (if b then Ok at else Err OutOfBounds) (if b then Some at else None)) [ true ↦ ok at | false ↦ none OutOfBounds None ]
+    elim (nat_le at size) as (λ b. P (ok_or (if b then Some at else None) OutOfBounds) (if b then Some at else None)) [ true ↦ ok at | false ↦ none OutOfBounds None ]
 
 pub place_cases : (size n : ℕ) (t : Option ℕ) (P : Result ℕ Why → Option ℕ → Type 0) → ((why : Why) (o : Option ℕ) → P (Err why) o)
     → ((at : ℕ) → at + n ≤ size → at % n ≡ 0 → P (Ok at) (Some at)) → P (place_for size n t) (room_at size n t)

@@ -7,6 +7,7 @@ use Rattle.scx_semantics.specs.declared.operations.Operation.{Operation}
 use Rattle.scx_semantics.specs.declared.operations.Operation.TheVariants.{Move}
 use Rattle.scx_semantics.specs.declared.registers.Register.{Register}
 use Rattle.scx_semantics.specs.Registers.{number}
+use Rattle.scx_semantics.specs.Meaning.{pointer_step}
 use Rattle.scx_maps.specs.declared.shape.Shape.{Shape}
 use Rattle.scx_abs.specs.declared.kinds.Kind.{Kind}
 use Rattle.scx_abs.specs.declared.kinds.Kind.TheVariants.{Num, Stack, Elem}
@@ -14,7 +15,7 @@ use Rattle.scx_abs.specs.declared.states.AbsState.{AbsState}
 use Rattle.scx_abs.specs.Kinds.{CoversKind}
 use Rattle.scx_abs.specs.States.{CoversState, kind_at}
 use Rattle.scx_abs.specs.Checks.{◌>>=◌, usable, operand_kind}
-use Rattle.scx_abs.specs.Rules.{pointer_distance, moved_by, moved_kind, arithmetic_kind, binary_kind, number_kind}
+use Rattle.scx_abs.specs.Rules.{moved_by, moved_kind, arithmetic_kind, binary_kind, number_kind}
 use Rattle.scx_abs.specs.Monotone.{PassesToo}
 use Rattle.scx_abs.proofs.Orders.{kind_itself}
 use Rattle.scx_abs.proofs.MonotoneRegisters.{passes_itself, passes_then, CoversUsable, usable_monotone, operand_monotone}
@@ -37,9 +38,9 @@ arithmetic_monotone : (shapes : List Shape) (w : Width) (o : Operation) (x : Ope
 arithmetic_monotone shapes w o x Num Num Num Num g h = tt
 arithmetic_monotone shapes w o x Num k Num Num g h = absurd g.1
 arithmetic_monotone shapes w o x Num k Num m g h = absurd h.1
-arithmetic_monotone shapes w o x (Stack p) (Stack q) l m g h = moved_by_monotone shapes (Stack p) (Stack q) (pointer_distance w o x) g.1
+arithmetic_monotone shapes w o x (Stack p) (Stack q) l m g h = moved_by_monotone shapes (Stack p) (Stack q) (pointer_step w o x) g.1
 arithmetic_monotone shapes w o x (Stack p) k l m g h = absurd g.1
-arithmetic_monotone shapes w o x (Elem n p) (Elem q r) l m g h = moved_by_monotone shapes (Elem n p) (Elem q r) (pointer_distance w o x) g.1
+arithmetic_monotone shapes w o x (Elem n p) (Elem q r) l m g h = moved_by_monotone shapes (Elem n p) (Elem q r) (pointer_step w o x) g.1
 arithmetic_monotone shapes w o x (Elem n p) k l m g h = absurd g.1
 arithmetic_monotone shapes w o x j k l m g h = tt
 

@@ -6,7 +6,7 @@ use Rattle.scx_semantics.specs.declared.instructions.Operand.TheVariants as oper
 use Rattle.scx_semantics.specs.declared.operations.Width.{Width}
 use Rattle.scx_semantics.specs.declared.operations.Width.TheVariants.{Bits32, Bits64}
 use Rattle.scx_semantics.specs.declared.operations.Operation.{Operation}
-use Rattle.scx_semantics.specs.declared.operations.Operation.TheVariants.{Add, Subtract, Move}
+use Rattle.scx_semantics.specs.declared.operations.Operation.TheVariants.{Move}
 use Rattle.scx_semantics.specs.declared.values.Value.{Value}
 use Rattle.scx_semantics.specs.declared.values.Value.TheVariants as value
 use Rattle.scx_semantics.specs.declared.values.Pointer as pointers
@@ -32,7 +32,7 @@ use Rattle.scx_abs.specs.Kinds.{IsUsable}
 use Rattle.scx_abs.specs.States.{kind_at}
 use Rattle.scx_abs.specs.Stands.{HasElement, Stands, IsMember}
 use Rattle.scx_abs.specs.Checks.{◌>>=◌, usable, operand_kind, place_within}
-use Rattle.scx_abs.specs.Rules.{pointer_distance, moved_by, moved_kind, arithmetic_kind, combined_kind, binary_kind, number_kind, map_kind}
+use Rattle.scx_abs.specs.Rules.{moved_by, moved_kind, arithmetic_kind, combined_kind, binary_kind, number_kind, map_kind}
 use Rattle.scx_abs.proofs.Registers.{Gives, usable_allows, operand_allows, checked}
 use Rattle.scx_abs.proofs.Elements.{within_cases, element_sized}
 
@@ -55,11 +55,6 @@ combined_gives maps w o a (value.Number b) g h = compute_below w o a b g h
 combined_gives maps w o a v g h = absurd h
 
 -- ---- pointers
-
-same_distance : (w : Width) (o : Operation) (x : Operand) → pointer_distance w o x ≡ pointer_step w o x
-same_distance Bits64 Add (operand.Immediate k) = refl
-same_distance Bits64 Subtract (operand.Immediate k) = refl
-same_distance w o x = refl
 
 stack_moved : (maps : Maps) (t : Option ℕ)
     → Gives maps (place_within stack_size t >>= λ to. Ok (kind.Stack to)) (option_map (λ to. value.Pointer (pointer.Stack to)) (within stack_size t))
@@ -88,11 +83,9 @@ arithmetic_gives : (shapes : List Shape) (m : Machine) (w : Width) (o : Operatio
     → Stands m.maps k (operand_value m w x) → Gives m.maps (arithmetic_kind shapes w o x j k) (arithmetic m w o old x)
 arithmetic_gives shapes m w o x Num Num (value.Number a) s h g = combined_gives m.maps w o a (operand_value m w x) h g
 arithmetic_gives shapes m w o x Num Num old s h g = absurd h
-arithmetic_gives shapes m w o x (kind.Stack p) k (value.Pointer q) s h g =
-    rw (← same_distance w o x) (moved_by_gives shapes m.maps (kind.Stack p) q (pointer_distance w o x) s h)
+arithmetic_gives shapes m w o x (kind.Stack p) k (value.Pointer q) s h g = moved_by_gives shapes m.maps (kind.Stack p) q (pointer_step w o x) s h
 arithmetic_gives shapes m w o x (kind.Stack p) k old s h g = absurd h
-arithmetic_gives shapes m w o x (Elem n p) k (value.Pointer q) s h g =
-    rw (← same_distance w o x) (moved_by_gives shapes m.maps (Elem n p) q (pointer_distance w o x) s h)
+arithmetic_gives shapes m w o x (Elem n p) k (value.Pointer q) s h g = moved_by_gives shapes m.maps (Elem n p) q (pointer_step w o x) s h
 arithmetic_gives shapes m w o x (Elem n p) k old s h g = absurd h
 arithmetic_gives shapes m w o x j k old s h g = tt
 

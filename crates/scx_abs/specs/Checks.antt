@@ -1,8 +1,9 @@
 -- Checks, one behind another: the first that fails is the refusal, and those behind it aren't looked at.
-use Rattle.std.specs.Prelude.{ℕ, ◌+◌, ◌%◌, nat_eq, nat_le, List, Option, Some, None, slice_get, Result, Ok, Err, if◌then◌else◌}
+use Rattle.std.specs.Prelude.{ℕ, ◌+◌, ◌%◌, nat_eq, nat_le, List, Option, Some, None, slice_get, Result, Ok, Err, ok_or, if◌then◌else◌}
 use Rattle.scx_semantics.specs.declared.instructions.Operand.{Operand}
 use Rattle.scx_semantics.specs.declared.instructions.Operand.TheVariants as operand
 use Rattle.scx_semantics.specs.Registers.{number}
+use Rattle.scx_semantics.specs.Memory.{within}
 use Rattle.scx_maps.specs.declared.shape.Shape.{Shape}
 use Rattle.scx_abs.specs.declared.faults.Why.{Why}
 use Rattle.scx_abs.specs.declared.faults.Why.TheVariants.{UnusableRegister, WritesFrame, OutOfBounds, Misaligned}
@@ -55,8 +56,7 @@ element_size shapes m = size_of (slice_get shapes m)
 
 -- the place, if it lies in so many bytes of memory or is the one behind the last
 abbrev pub place_within : ℕ → Option ℕ → Result ℕ Why
-place_within size None = Err OutOfBounds
-place_within size (Some at) = if nat_le at size then Ok at else Err OutOfBounds
+place_within size at = ok_or (within size at) OutOfBounds
 
 -- the place, if n bytes from it on lie in so many bytes of memory and it is a multiple of n
 abbrev pub place_for : ℕ → ℕ → Option ℕ → Result ℕ Why

@@ -2,7 +2,7 @@
 -- flows on from it. A check that fails gives its refusal, and the checks behind it aren't looked at. A
 -- register that is written is looked at first, then the registers that are read, the destination before
 -- the source, then the address, and then the value that is stored.
-use Rattle.std.specs.Prelude.{ℕ, ◌/◌, ◌%◌, ℤ, pos, neg_ℤ, unsigned_abs, Bool, true, false, nat_eq, nat_lt, List, length, Option, Some, None, Result, Ok, Err, if◌then◌else◌}
+use Rattle.std.specs.Prelude.{ℕ, ◌/◌, ◌%◌, ℤ, pos, unsigned_abs, Bool, true, false, nat_eq, nat_lt, List, length, Option, Some, None, Result, Ok, Err, if◌then◌else◌}
 use Rattle.scx_semantics.specs.declared.instructions.Insn.{Insn}
 use Rattle.scx_semantics.specs.declared.instructions.Insn.TheVariants as insn
 use Rattle.scx_semantics.specs.declared.instructions.Operand.{Operand}
@@ -10,7 +10,7 @@ use Rattle.scx_semantics.specs.declared.instructions.Operand.TheVariants as oper
 use Rattle.scx_semantics.specs.declared.operations.Width.{Width}
 use Rattle.scx_semantics.specs.declared.operations.Width.TheVariants.{Bits32, Bits64}
 use Rattle.scx_semantics.specs.declared.operations.Operation.{Operation}
-use Rattle.scx_semantics.specs.declared.operations.Operation.TheVariants.{Add, Subtract, Move}
+use Rattle.scx_semantics.specs.declared.operations.Operation.TheVariants.{Move}
 use Rattle.scx_semantics.specs.declared.operations.Comparison.{Comparison}
 use Rattle.scx_semantics.specs.declared.operations.Comparison.TheVariants.{Equal, NotEqual}
 use Rattle.scx_semantics.specs.declared.operations.Size.{Size}
@@ -24,7 +24,7 @@ use Rattle.scx_semantics.specs.Arithmetic.{shifted}
 use Rattle.scx_semantics.specs.Memory.{size_bytes, access_size, stack_size}
 use Rattle.scx_semantics.specs.declared.outside.Field.{Field}
 use Rattle.scx_semantics.specs.Outside.{field_at, is_writable, helper_at, answers}
-use Rattle.scx_semantics.specs.Meaning.{is_plain}
+use Rattle.scx_semantics.specs.Meaning.{pointer_step, is_plain}
 use Rattle.scx_maps.specs.declared.shape.Shape.{Shape}
 use Rattle.scx_abs.specs.declared.faults.Why.{Why}
 use Rattle.scx_abs.specs.declared.faults.Why.TheVariants.{UnusableRegister, UnwrittenStack, OutOfBounds, NullNotTested, PointerArithmetic, PointerCompare, PointerStore, TaskField, BadReturn, UnknownMap}
@@ -42,12 +42,6 @@ use Rattle.scx_abs.specs.Checks.{◌>>=◌, flows, goes_on, usable, operand_kind
 use Rattle.scx_abs.specs.Calls.{call_rule}
 
 -- ---- arithmetic
-
--- how far an operation moves a pointer: only 64-bit sums and differences with an immediate do
-abbrev pub pointer_distance : Width → Operation → Operand → Option ℤ
-pointer_distance Bits64 Add (operand.Immediate k) = Some k
-pointer_distance Bits64 Subtract (operand.Immediate k) = Some (neg_ℤ k)
-pointer_distance w o x = None
 
 -- a pointer that is moved stays in its memory, or comes to the place behind the last byte
 abbrev pub moved_by : List Shape → Kind → Option ℤ → Result Kind Why
@@ -68,7 +62,7 @@ moved_kind Bits32 k = Err PointerArithmetic
 -- what other arithmetic makes of the destination's kind and the operand's
 abbrev pub arithmetic_kind : List Shape → Width → Operation → Operand → Kind → Kind → Result Kind Why
 arithmetic_kind shapes w o x Num Num = Ok Num
-arithmetic_kind shapes w o x j k = moved_by shapes j (pointer_distance w o x)
+arithmetic_kind shapes w o x j k = moved_by shapes j (pointer_step w o x)
 
 abbrev pub combined_kind : List Shape → AbsState → Width → Operation → Register → Operand → Result Kind Why
 combined_kind shapes a w o d x = do

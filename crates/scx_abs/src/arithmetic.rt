@@ -1,12 +1,13 @@
 ghost use Rattle.std.specs.Prelude.{◌≡◌, Some};
 ghost use Rattle.scx_semantics.specs.Registers.{number};
 ghost use Rattle.scx_abs.specs.Checks.{usable, operand_kind};
-ghost use Rattle.scx_abs.specs.Rules.{pointer_distance, moved_by, moved_kind, arithmetic_kind, combined_kind, binary_kind, number_kind, map_kind};
+ghost use Rattle.scx_abs.specs.Rules.{moved_by, moved_kind, arithmetic_kind, combined_kind, binary_kind, number_kind, map_kind};
 
 use crate::faults::Why;
 use crate::kinds::Kind;
-use crate::places::{element_size, place_within, shifted};
+use crate::places::{element_size, place_within};
 use crate::states::{AbsState, STACK_TOP};
+use scx_arithmetic::{pointer_step, shifted};
 use scx_isa::{Operand, Operation, Register, Width};
 use scx_maps::MapDefs;
 
@@ -98,18 +99,7 @@ fn arithmetic_kind(
 {
     match (kind, other) {
         (Kind::Num, Kind::Num) => Ok(Kind::Num),
-        _ => moved_by(kind, pointer_distance(width, operation, operand), defs),
-    }
-}
-
-/// How far an operation moves a pointer, in bytes.
-fn pointer_distance(width: Width, operation: Operation, operand: Operand) -> Option<i64>
-    ensures { result ≡ pointer_distance width operation operand }
-{
-    match (width, operation, operand) {
-        (Width::Bits64, Operation::Add, Operand::Immediate(k)) => Some(i64::from(k)),
-        (Width::Bits64, Operation::Subtract, Operand::Immediate(k)) => Some(-i64::from(k)),
-        _ => None,
+        _ => moved_by(kind, pointer_step(width, operation, operand), defs),
     }
 }
 

@@ -9,8 +9,9 @@ use crate::arithmetic::{operand_kind, usable};
 use crate::changes::{Change, Flow};
 use crate::faults::Why;
 use crate::kinds::{CELL_BYTES, Cell, Kind, all_written, marked};
-use crate::places::{element_size, place_for, shifted};
+use crate::places::{element_size, place_for};
 use crate::states::{AbsState, STACK_TOP};
+use scx_arithmetic::shifted;
 use scx_isa::{Access, Field, Operand, Register, Size};
 use scx_maps::MapDefs;
 

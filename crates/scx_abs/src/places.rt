@@ -1,10 +1,10 @@
 ghost use Rattle.std.specs.Prelude.{◌≡◌, ◌≤◌, IfOk};
-ghost use Rattle.scx_semantics.specs.Arithmetic.{shifted};
 ghost use Rattle.scx_semantics.specs.Memory.{size_bytes};
 ghost use Rattle.scx_abs.specs.Areas.{IsPlace};
 ghost use Rattle.scx_abs.specs.Checks.{element_size, place_within, place_for};
 
 use crate::faults::Why;
+use scx_arithmetic::within;
 use scx_isa::Size;
 use scx_maps::MapDefs;
 
@@ -18,26 +18,11 @@ pub(crate) fn element_size(defs: &MapDefs, map: u8) -> u16
     }
 }
 
-/// The place that far on, or back; `None` below 0.
-pub(crate) fn shifted(at: u16, distance: i64) -> Option<u64>
-    ensures { result ≡ shifted at distance }
-{
-    let length = distance.unsigned_abs();
-    if distance < 0 {
-        u64::from(at).checked_sub(length)
-    } else {
-        Some(u64::from(at) + length)
-    }
-}
-
 /// The place, if it lies in so many bytes of memory or is the one behind the last.
 pub(crate) fn place_within(bytes: u16, at: Option<u64>) -> Result<u16, Why>
     ensures { result ≡ place_within bytes at }
 {
-    match at {
-        Some(at) if at <= u64::from(bytes) => Ok(at as u16),
-        _ => Err(Why::OutOfBounds),
-    }
+    within(bytes, at).ok_or(Why::OutOfBounds)
 }
 
 /// The place, if an access of that size there lies in so many bytes of memory and is aligned.

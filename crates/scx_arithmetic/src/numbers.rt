@@ -1,8 +1,10 @@
 ghost use Rattle.std.specs.Prelude.{◌≡◌, ◌%◌, ◌^◌};
-ghost use Rattle.scx_semantics.specs.Arithmetic.{compute, operate, low, negated, extended, kept, swapped, reordered, immediate, constant, compares, holds};
+ghost use Rattle.scx_semantics.specs.Memory.{within};
+ghost use Rattle.scx_semantics.specs.Meaning.{pointer_step};
+ghost use Rattle.scx_semantics.specs.Arithmetic.{compute, operate, low, negated, extended, kept, swapped, reordered, immediate, constant, compares, holds, shifted};
 ghost use Rattle.scx_semantics.specs.declared.operations.Width.TheVariants.{Bits32, Bits64};
 
-use scx_semantics::{Comparison, Extension, Operation, Order, OrderWidth, Width};
+use scx_semantics::{Comparison, Extension, Operand, Operation, Order, OrderWidth, Width};
 
 /// What the operation of that width makes of the destination `a` and the operand `b`
 /// (RFC 9669, section 4.1). At 32 bits the upper half of the result is 0.
@@ -227,4 +229,37 @@ pub fn constant(low: i32, high: i32) -> u64
     ensures { result ≡ constant low high }
 {
     (u64::from(high.cast_unsigned()) << 32) + u64::from(low.cast_unsigned())
+}
+
+/// How far an operation moves a pointer, in bytes.
+pub fn pointer_step(width: Width, operation: Operation, operand: Operand) -> Option<i64>
+    ensures { result ≡ pointer_step width operation operand }
+{
+    match (width, operation, operand) {
+        (Width::Bits64, Operation::Add, Operand::Immediate(k)) => Some(i64::from(k)),
+        (Width::Bits64, Operation::Subtract, Operand::Immediate(k)) => Some(-i64::from(k)),
+        _ => None,
+    }
+}
+
+/// The place that far on, or back; `None` below 0.
+pub fn shifted(at: u16, distance: i64) -> Option<u64>
+    ensures { result ≡ shifted at distance }
+{
+    let length = distance.unsigned_abs();
+    if distance < 0 {
+        u64::from(at).checked_sub(length)
+    } else {
+        Some(u64::from(at) + length)
+    }
+}
+
+/// The place, if it lies in so many bytes of memory or is the one behind the last.
+pub fn within(bytes: u16, at: Option<u64>) -> Option<u16>
+    ensures { result ≡ within bytes at }
+{
+    match at {
+        Some(at) if at <= u64::from(bytes) => Some(at as u16),
+        _ => None,
+    }
 }

@@ -1,4 +1,4 @@
-ghost use Rattle.std.specs.Prelude.{◌≡◌, ℕ, ◌+◌, ◌%◌, ◌^◌, ◌≤◌, ◌≤ℤ◌, pos, neg_ℤ, IfSome, length};
+ghost use Rattle.std.specs.Prelude.{◌≡◌, ◌+◌, ◌%◌, ◌≤◌, IfSome, length};
 ghost use Rattle.byteorder.specs.Endian.{little_number};
 ghost use Rattle.scx_semantics.specs.Arithmetic.{shifted};
 ghost use Rattle.scx_semantics.specs.Elements.{element, number_at};
@@ -8,6 +8,7 @@ ghost use Rattle.scx_tagged.specs.Places.{place_of, Lies, LiesInElement};
 
 use crate::stack::STACK_TOP;
 use byteorder::{ByteOrder, LittleEndian};
+use scx_arithmetic::shifted;
 use scx_isa::{Access, Field, Pointer, Size, TaskId, Value};
 use scx_maps::Maps;
 
@@ -54,27 +55,10 @@ fn room_at(limit: u16, size: Size, at: u16, offset: i16) -> Option<u16>
     ensures within { IfSome result (λ to. to + size_bytes size ≤ limit) }
     ensures aligned { IfSome result (λ to. to % size_bytes size ≡ 0) }
 {
-    let to = shifted(at, i64::from(offset))?;
     let bytes = u64::from(size.bytes());
-    if to + bytes <= u64::from(limit) && to % bytes == 0 {
-        Some(to as u16)
-    } else {
-        None
-    }
-}
-
-/// The number that far on, or back; `None` below 0.
-pub fn shifted(n: u16, distance: i64) -> Option<u64>
-    requires low { neg_ℤ (pos (2 ^ 31)) ≤ℤ distance }
-    requires high { distance ≤ℤ pos (2 ^ 31) }
-    ensures shifted { result ≡ shifted n distance }
-    ensures small { IfSome result (λ to. to ≤ 2 ^ 32) }
-{
-    let place = i64::from(n) + distance;
-    if place < 0 {
-        None
-    } else {
-        Some(place.cast_unsigned())
+    match (shifted(at, i64::from(offset)), u64::from(limit).checked_sub(bytes)) {
+        (Some(to), Some(last)) if to <= last && to % bytes == 0 => Some(to as u16),
+        _ => None,
     }
 }
 

@@ -1,12 +1,10 @@
-ghost use Rattle.std.specs.Prelude.{◌≡◌, ◌^◌, ◌≤◌, ◌≤ℤ◌, pos, neg_ℤ, IfSome, Some, ◌<◌, length};
-ghost use Rattle.scx_semantics.specs.Meaning.{operand_value, on_number, binary, moved, combined, arithmetic, pointer_step, pointer_moved, map_reference};
-ghost use Rattle.scx_semantics.specs.Arithmetic.{negated, extended, reordered, shifted};
-ghost use Rattle.scx_semantics.specs.Memory.{within};
+ghost use Rattle.std.specs.Prelude.{◌≡◌, Some};
+ghost use Rattle.scx_semantics.specs.Meaning.{operand_value, on_number, binary, moved, combined, arithmetic, pointer_moved, map_reference};
+ghost use Rattle.scx_semantics.specs.Arithmetic.{negated, extended, reordered};
 ghost use Rattle.scx_semantics.specs.Elements.{Maps};
 ghost use Rattle.scx_semantics.specs.Registers.{number};
 ghost use Rattle.scx_tagged.specs.State.{seen, held};
 
-use crate::memory::shifted;
 use crate::stack::STACK_TOP;
 use crate::state::Core;
 use scx_arithmetic as numbers;
@@ -74,7 +72,7 @@ fn arithmetic(
         Value::Pointer(pointer) => pointer_moved(
             maps,
             pointer,
-            pointer_step(width, operation, operand)?,
+            numbers::pointer_step(width, operation, operand)?,
         ),
         Value::Unset => None,
     }
@@ -90,49 +88,20 @@ fn combined(width: Width, operation: Operation, a: u64, operand: Value) -> Optio
     }
 }
 
-/// How far an operation moves a pointer, in bytes.
-fn pointer_step(width: Width, operation: Operation, operand: Operand) -> Option<i64>
-    ensures step { result ≡ pointer_step width operation operand }
-    ensures low { IfSome result (λ step. neg_ℤ (pos (2 ^ 31)) ≤ℤ step) }
-    ensures high { IfSome result (λ step. step ≤ℤ pos (2 ^ 31)) }
-{
-    match (width, operation, operand) {
-        (Width::Bits64, Operation::Add, Operand::Immediate(k)) => Some(i64::from(k)),
-        (Width::Bits64, Operation::Subtract, Operand::Immediate(k)) => Some(-i64::from(k)),
-        _ => None,
-    }
-}
-
 /// The pointer that far on. It stays in the stack or the element, whose end is a place too.
 fn pointer_moved(maps: &Maps, pointer: Pointer, step: i64) -> Option<Value>
-    requires low { neg_ℤ (pos (2 ^ 31)) ≤ℤ step }
-    requires high { step ≤ℤ pos (2 ^ 31) }
     ensures { result ≡ pointer_moved maps.now pointer (Some step) }
 {
     match pointer {
         Pointer::Stack(at) => {
-            let to = within(STACK_TOP, at, step)?;
+            let to = numbers::within(STACK_TOP, numbers::shifted(at, step))?;
             Some(Value::Pointer(Pointer::Stack(to)))
         }
         Pointer::Element(map, at, index) => {
-            let to = within(maps.value_size(map, index), at, step)?;
+            let to = numbers::within(maps.value_size(map, index), numbers::shifted(at, step))?;
             Some(Value::Pointer(Pointer::Element(map, to, index)))
         }
         Pointer::Task(_) | Pointer::Map(_) => None,
-    }
-}
-
-/// The place that far on, if it lies in so much memory or is its end.
-fn within(size: u16, at: u16, step: i64) -> Option<u16>
-    requires low { neg_ℤ (pos (2 ^ 31)) ≤ℤ step }
-    requires high { step ≤ℤ pos (2 ^ 31) }
-    ensures { result ≡ within size (shifted at step) }
-{
-    let to = shifted(at, step)?;
-    if to <= u64::from(size) {
-        Some(to as u16)
-    } else {
-        None
     }
 }
 
