@@ -6,7 +6,8 @@ use Rattle.scx_asm.specs.declared.faults.AsmFault.{AsmFault}
 use Rattle.scx_asm.specs.declared.layout.Entry.{Entry}
 use Rattle.scx_text.specs.Items.{line_of}
 use Rattle.scx_asm.specs.Resolving.{Labels, resolved}
-use Rattle.scx_asm.specs.Layout.{◌>>=◌, draft_of}
+use Rattle.scx_semantics.specs.Results.{◌>>=◌}
+use Rattle.scx_asm.specs.Layout.{draft_of}
 use Rattle.scx_asm.specs.Reading.{built}
 
 -- the instructions that were resolved, and the entries that are left

@@ -26,7 +26,8 @@ use Rattle.scx_text.specs.Items.{Label, Distance, Line, Blank, Place_of, Says, J
 use Rattle.scx_asm.specs.declared.faults.AsmFault.{AsmFault}
 use Rattle.scx_asm.specs.declared.faults.AsmFault.TheVariants.{Syntax, UnknownLabel, TwiceLabel, OutOfRange, TooLong}
 use Rattle.scx_asm.specs.Resolving.{immediate, short, wide, long, operand_of, insn_of, jump_of, distant, fits, slots, Labels, find, distance, ranged, resolved}
-use Rattle.scx_asm.specs.Layout.{◌>>=◌, Draft, Plan, nothing, located, with_label, with_draft, with_line, with_text, planned}
+use Rattle.scx_semantics.specs.Results.{◌>>=◌}
+use Rattle.scx_asm.specs.Layout.{Draft, Plan, nothing, located, with_label, with_draft, with_line, with_text, planned}
 use Rattle.scx_asm.specs.Reading.{built, finished, read_insns, code_of}
 
 -- ---- what follows a value

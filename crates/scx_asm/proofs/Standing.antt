@@ -21,7 +21,8 @@ use Rattle.scx_text.specs.Items.{Label, Distance, Line, Blank, Place_of, Says, J
 use Rattle.scx_asm.specs.declared.faults.AsmFault.{AsmFault}
 use Rattle.scx_asm.specs.declared.faults.AsmFault.TheVariants.{Syntax, UnknownLabel, TwiceLabel, OutOfRange, TooLong}
 use Rattle.scx_asm.specs.Resolving.{operand_of, short, wide, jump_of, distant, distance, fits, slots, ranged, Labels, find, resolved}
-use Rattle.scx_asm.specs.Layout.{◌>>=◌, Draft, Plan, nothing, located, with_label, with_draft, with_line, with_text, planned}
+use Rattle.scx_semantics.specs.Results.{◌>>=◌}
+use Rattle.scx_asm.specs.Layout.{Draft, Plan, nothing, located, with_label, with_draft, with_line, with_text, planned}
 use Rattle.scx_asm.specs.Reading.{built, finished, read_insns, read_text, code_of}
 use Rattle.scx_asm.specs.FirstFault.{slots_of}
 use Rattle.scx_asm.specs.Standing.{defined, definitions, names, IsJump, IsSaid, AreSaid, StandsFor}

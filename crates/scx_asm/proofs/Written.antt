@@ -17,7 +17,8 @@ use Rattle.scx_isa.specs.declared.faults.DecodeError.TheVariants as decode
 use Rattle.scx_asm.specs.declared.faults.AsmFault.{AsmFault}
 use Rattle.scx_asm.specs.declared.faults.AsmError.{AsmError}
 use Rattle.scx_asm.specs.declared.faults.AsmError.TheVariants as errors
-use Rattle.scx_asm.specs.Layout.{◌>>=◌, Plan, Fails}
+use Rattle.scx_semantics.specs.Results.{◌>>=◌}
+use Rattle.scx_asm.specs.Layout.{Plan, Fails}
 
 abbrev done : Code → Result Code (AsmFault × ℕ)
 done code = Ok code

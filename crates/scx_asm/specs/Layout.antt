@@ -1,6 +1,7 @@
 -- The first pass over a text: line by line the instructions get their slots and the labels theirs, up to
 -- the first faulty line. Of several faults of one line the one with the least number is reported.
 use Rattle.std.specs.Prelude.{◌≡◌, ℕ, suc, ◌+◌, nat_lt, is_some, List, [], ◌∷◌, ◌++◌, Result, Ok, Err, if◌then◌else◌}
+use Rattle.scx_semantics.specs.Results.{◌>>=◌}
 use Rattle.scx_isa.specs.declared.program.TheConstants.{MAX_SLOTS}
 use Rattle.scx_text.specs.Options.{either}
 use Rattle.scx_text.specs.Items.{Line, Blank, Place_of, line_of, read_line}
@@ -10,11 +11,6 @@ use Rattle.scx_asm.specs.declared.faults.AsmError.{AsmError}
 use Rattle.scx_asm.specs.declared.faults.AsmError.TheVariants as errors
 use Rattle.scx_asm.specs.declared.layout.Entry.{Entry}
 use Rattle.scx_asm.specs.Resolving.{Labels, find, fits, slots}
-
-infixl 10 ◌>>=◌
-abbrev pub ◌>>=◌ : {A B E : Type 0} → Result A E → (A → Result B E) → Result B E
-(Ok x) >>= f = f x
-(Err e) >>= f = Err e
 
 -- an instruction that still has its numbers as they are written, its slot and its line
 pub record Draft : Type 0 where

@@ -8,7 +8,8 @@ use Rattle.scx_semantics.specs.Code.{Code, is_wide}
 use Rattle.scx_asm.specs.declared.faults.AsmFault.{AsmFault}
 use Rattle.scx_asm.specs.declared.faults.AsmFault.TheVariants.{Syntax}
 use Rattle.scx_asm.specs.Resolving.{Labels, resolved}
-use Rattle.scx_asm.specs.Layout.{◌>>=◌, Draft, Plan, nothing, located, planned}
+use Rattle.scx_semantics.specs.Results.{◌>>=◌}
+use Rattle.scx_asm.specs.Layout.{Draft, Plan, nothing, located, planned}
 
 -- the instructions of drafts, or the first fault of one
 unfoldable pub built : Labels → List Draft → Result (List Insn) (AsmFault × ℕ)

@@ -36,7 +36,8 @@ use Rattle.scx_encoding.specs.Opcodes.{coded, opcode, form, base, source_of, ari
 use Rattle.scx_semantics.specs.Code.{is_wide}
 use Rattle.scx_encoding.specs.Spelling.{first_slot, second_slot, half, destination_field, source_field, offset_field, immediate_field, operation_offset, extension_offset, order_bits, operand_register, operand_immediate, IsOperand, IsInsn}
 use Rattle.scx_encoding.proofs.Bytes.{same_fields}
-use Rattle.scx_encoding.specs.Reading.{◌>>=◌, register, operand_at, extensions, extension_at, binary_at, order_widths, high_half, built, whole, insn_at}
+use Rattle.scx_semantics.specs.Results.{◌>>=◌}
+use Rattle.scx_encoding.specs.Reading.{register, operand_at, extensions, extension_at, binary_at, order_widths, high_half, built, whole, insn_at}
 
 -- ---- tools
 

@@ -24,16 +24,12 @@ use Rattle.scx_encoding.specs.declared.forms.Form.{Form}
 use Rattle.scx_encoding.specs.declared.forms.Form.TheVariants.{Binary, Negate, Reorder, Constant, MapReference, Load, Store, JumpIf, Goto, GotoLong, Call, Exit}
 use Rattle.scx_encoding.specs.declared.faults.DecodeFault.{DecodeFault}
 use Rattle.scx_encoding.specs.declared.faults.DecodeFault.TheVariants.{BadRegister, UnusedField, HalfWide, BadOffset, BadWidth}
+use Rattle.scx_semantics.specs.Results.{◌>>=◌}
 use Rattle.scx_semantics.specs.Registers.{register_at}
 use Rattle.scx_encoding.specs.Slots.{same_slot}
 use Rattle.scx_encoding.specs.Opcodes.{coded, form_of}
 use Rattle.scx_semantics.specs.Code.{is_wide}
 use Rattle.scx_encoding.specs.Spelling.{extension_offset, order_bits, first_slot, second_slot}
-
-infixl 10 ◌>>=◌
-abbrev pub ◌>>=◌ : {A B E : Type 0} → Result A E → (A → Result B E) → Result B E
-(Ok x) >>= f = f x
-(Err e) >>= f = Err e
 
 abbrev pub register : ℕ → Result Register DecodeFault
 register n = ok_or (register_at n) BadRegister

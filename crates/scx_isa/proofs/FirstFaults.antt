@@ -14,7 +14,8 @@ use Rattle.scx_encoding.specs.Slots.{slots_in, same_slot, IsSlot}
 use Rattle.scx_encoding.specs.Spelling.{first_slot, second_slot, IsInsn}
 use Rattle.scx_isa.specs.Spelling.{code_slots, IsCode, HasProgramLength, Spells}
 use Rattle.scx_isa.specs.declared.program.TheConstants.{MAX_SLOTS}
-use Rattle.scx_encoding.specs.Reading.{◌>>=◌, insn_at}
+use Rattle.scx_semantics.specs.Results.{◌>>=◌}
+use Rattle.scx_encoding.specs.Reading.{insn_at}
 use Rattle.scx_isa.specs.Reading.{Gives, first, read_slots, read_program}
 use Rattle.scx_isa.specs.FirstFault.{IsRest, FailsAtInsn, FailsInHalf, IsFirstFault, No_byte, Cut_slot, Too_long, At_insn, In_half, IsRefusal}
 use Rattle.scx_encoding.proofs.Bytes.{IsBytes, slots_fit}

@@ -8,7 +8,8 @@ use Rattle.scx_isa.specs.declared.faults.DecodeError.{DecodeError}
 use Rattle.scx_isa.specs.declared.faults.DecodeError.TheVariants as errors
 use Rattle.scx_semantics.specs.Code.{Code}
 use Rattle.scx_encoding.specs.Slots.{slot_at, slots_in, front_slot}
-use Rattle.scx_encoding.specs.Reading.{◌>>=◌, place_at, due_after}
+use Rattle.scx_semantics.specs.Results.{◌>>=◌}
+use Rattle.scx_encoding.specs.Reading.{place_at, due_after}
 use Rattle.scx_isa.specs.Reading.{Fails, first, placed, read_slots}
 
 -- what was read before, and what is still read

@@ -7,7 +7,8 @@ use Rattle.scx_encoding.specs.declared.faults.DecodeFault.TheVariants.{Empty, To
 use Rattle.scx_isa.specs.declared.faults.DecodeError.{DecodeError}
 use Rattle.scx_isa.specs.declared.faults.DecodeError.TheVariants as errors
 use Rattle.scx_encoding.specs.Slots.{slots_in}
-use Rattle.scx_encoding.specs.Reading.{◌>>=◌, place_at, due_after}
+use Rattle.scx_semantics.specs.Results.{◌>>=◌}
+use Rattle.scx_encoding.specs.Reading.{place_at, due_after}
 use Rattle.scx_semantics.specs.Code.{Code}
 use Rattle.scx_isa.specs.declared.program.TheConstants.{MAX_SLOTS}
 

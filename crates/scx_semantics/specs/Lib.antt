@@ -1,3 +1,4 @@
+pub mod Results
 pub mod Registers
 pub mod Code
 pub mod Arithmetic
