@@ -26,7 +26,8 @@ use Rattle.scx_abs.specs.declared.states.AbsState.{AbsState}
 use Rattle.scx_abs.specs.Kinds.{IsUsable}
 use Rattle.scx_abs.specs.States.{kind_at}
 use Rattle.scx_abs.specs.Stands.{Stands, IsMember}
-use Rattle.scx_abs.specs.Checks.{◌>>=◌, flows, usable, operand_kind}
+use Rattle.scx_semantics.specs.Results.{◌>>=◌}
+use Rattle.scx_abs.specs.Checks.{flows, usable, operand_kind}
 use Rattle.scx_abs.specs.Rules as rules
 use Rattle.scx_abs.specs.Rules.{null_test, if_null, if_not_null, tested, jump_rule}
 use Rattle.scx_abs.specs.Laws.{Receives, IsSoundFor}

@@ -31,7 +31,8 @@ use Rattle.scx_abs.specs.declared.states.AbsState.{AbsState}
 use Rattle.scx_abs.specs.Cells.{no_bytes, all_written, written_in}
 use Rattle.scx_abs.specs.States.{kind_at, cell_at, with_kind}
 use Rattle.scx_abs.specs.Stands.{Stands, CellStands, IsMember}
-use Rattle.scx_abs.specs.Checks.{◌>>=◌, goes_on, place_for}
+use Rattle.scx_semantics.specs.Results.{◌>>=◌}
+use Rattle.scx_abs.specs.Checks.{goes_on, place_for}
 use Rattle.scx_abs.specs.Calls as rules
 use Rattle.scx_abs.specs.Calls.{key_in, key_check, argument_check, arguments_check, element_of, answer_kind, call_allowed, call_rule}
 use Rattle.scx_abs.specs.Laws.{IsSoundFor}

@@ -28,7 +28,8 @@ use Rattle.scx_abs.specs.Kinds.{CoversKind}
 use Rattle.scx_abs.specs.Cells.{is_written, no_bytes, marked, all_written, written_in, IsPartOf, CoversPointer, CoversCell}
 use Rattle.scx_abs.specs.States.{CoversState, IsProper, kind_at, cell_at, with_cell}
 use Rattle.scx_abs.specs.Areas.{IsPlace, IsRoom}
-use Rattle.scx_abs.specs.Checks.{◌>>=◌, goes_on, usable, operand_kind, element_size, place_for}
+use Rattle.scx_semantics.specs.Results.{◌>>=◌}
+use Rattle.scx_abs.specs.Checks.{goes_on, usable, operand_kind, element_size, place_for}
 use Rattle.scx_abs.specs.Rules.{field_area, area_of, loaded_kind, kind_in, load_kind, stored_cell, number_stored, stored_in, store_rule}
 use Rattle.scx_abs.specs.Monotone.{PassesToo, CoversFlows}
 use Rattle.scx_abs.proofs.Orders.{each_byte_at, none_written}

@@ -10,7 +10,8 @@ use Rattle.scx_abs.specs.declared.kinds.Kind.TheVariants.{Unusable, Num, Elem, E
 use Rattle.scx_abs.specs.declared.states.AbsState.{AbsState}
 use Rattle.scx_abs.specs.Kinds.{CoversKind}
 use Rattle.scx_abs.specs.States.{CoversState, IsProper, kind_at}
-use Rattle.scx_abs.specs.Checks.{◌>>=◌, usable, operand_kind}
+use Rattle.scx_semantics.specs.Results.{◌>>=◌}
+use Rattle.scx_abs.specs.Checks.{usable, operand_kind}
 use Rattle.scx_abs.specs.Rules.{null_test, if_null, if_not_null, tested, compared, jump_rule}
 use Rattle.scx_abs.specs.Monotone.{PassesToo, CoversIfAny, CoversFlows}
 use Rattle.scx_abs.proofs.MonotoneRegisters.{passes_then, register_covers, refined_covers, CoversUsable, operand_monotone}

@@ -14,7 +14,8 @@ use Rattle.scx_abs.specs.declared.kinds.Kind.TheVariants.{Num, Stack, Elem}
 use Rattle.scx_abs.specs.declared.states.AbsState.{AbsState}
 use Rattle.scx_abs.specs.Kinds.{CoversKind}
 use Rattle.scx_abs.specs.States.{CoversState, kind_at}
-use Rattle.scx_abs.specs.Checks.{◌>>=◌, usable, operand_kind}
+use Rattle.scx_semantics.specs.Results.{◌>>=◌}
+use Rattle.scx_abs.specs.Checks.{usable, operand_kind}
 use Rattle.scx_abs.specs.Rules.{moved_by, moved_kind, arithmetic_kind, binary_kind, number_kind}
 use Rattle.scx_abs.specs.Monotone.{PassesToo}
 use Rattle.scx_abs.proofs.Orders.{kind_itself}

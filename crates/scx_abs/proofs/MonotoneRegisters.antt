@@ -18,7 +18,8 @@ use Rattle.scx_abs.specs.declared.rules.Next.{Next}
 use Rattle.scx_abs.specs.Kinds.{CoversKind, IsUsable}
 use Rattle.scx_abs.specs.Cells.{CoversCell}
 use Rattle.scx_abs.specs.States.{CoversState, IsProper, kind_at, cell_at, with_kind, with_cell}
-use Rattle.scx_abs.specs.Checks.{◌>>=◌, goes_on, usable, operand_kind, sets}
+use Rattle.scx_semantics.specs.Results.{◌>>=◌}
+use Rattle.scx_abs.specs.Checks.{goes_on, usable, operand_kind, sets}
 use Rattle.scx_abs.specs.Monotone.{PassesToo, CoversFlows}
 use Rattle.scx_abs.proofs.Lists.{set_each}
 

@@ -31,7 +31,8 @@ use Rattle.scx_abs.specs.declared.states.AbsState.{AbsState}
 use Rattle.scx_abs.specs.Kinds.{IsUsable}
 use Rattle.scx_abs.specs.States.{kind_at}
 use Rattle.scx_abs.specs.Stands.{HasElement, Stands, IsMember}
-use Rattle.scx_abs.specs.Checks.{◌>>=◌, usable, operand_kind, place_within}
+use Rattle.scx_semantics.specs.Results.{◌>>=◌}
+use Rattle.scx_abs.specs.Checks.{usable, operand_kind, place_within}
 use Rattle.scx_abs.specs.Rules.{moved_by, moved_kind, arithmetic_kind, combined_kind, binary_kind, number_kind, map_kind}
 use Rattle.scx_abs.proofs.Registers.{Gives, usable_allows, operand_allows, checked}
 use Rattle.scx_abs.proofs.Elements.{within_cases, element_sized}

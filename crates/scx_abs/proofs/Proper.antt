@@ -27,7 +27,8 @@ use Rattle.scx_abs.specs.declared.memory.Area.TheVariants.{OnStack, InElement, I
 use Rattle.scx_abs.specs.Kinds.{CoversKind, IsUsable, join_kind}
 use Rattle.scx_abs.specs.Cells.{is_written, no_bytes, marked, written_in, IsPartOf, CoversPointer, CoversCell, IsProperCell, pointer_cell, join_pointers, join_cell}
 use Rattle.scx_abs.specs.States.{kind_at, cell_at, with_kind, with_cell, IsWhole, IsProper}
-use Rattle.scx_abs.specs.Checks.{◌>>=◌, flows, goes_on, usable, operand_kind, sets}
+use Rattle.scx_semantics.specs.Results.{◌>>=◌}
+use Rattle.scx_abs.specs.Checks.{flows, goes_on, usable, operand_kind, sets}
 use Rattle.scx_abs.specs.Calls.{arguments_check, after_call, answer_kind, call_allowed, call_rule}
 use Rattle.scx_abs.specs.Rules.{binary_kind, number_kind, map_kind, area_of, load_kind, stored_cell, number_stored, stored_in, null_test, if_null, if_not_null, tested, compared, end_rule}
 use Rattle.scx_abs.specs.Laws.{CoversBothWays, StartIsProper, FlowsProper, RulesKeepProper}

@@ -27,7 +27,8 @@ use Rattle.scx_abs.specs.declared.states.AbsState.{AbsState}
 use Rattle.scx_abs.specs.Kinds.{IsUsable}
 use Rattle.scx_abs.specs.States.{kind_at, with_kind}
 use Rattle.scx_abs.specs.Stands.{Stands, IsMember}
-use Rattle.scx_abs.specs.Checks.{◌>>=◌, goes_on, usable, operand_kind, sets}
+use Rattle.scx_semantics.specs.Results.{◌>>=◌}
+use Rattle.scx_abs.specs.Checks.{goes_on, usable, operand_kind, sets}
 use Rattle.scx_abs.specs.Laws.{IsSoundFor}
 use Rattle.scx_abs.proofs.Lists.{set_each}
 

@@ -18,7 +18,8 @@ use Rattle.scx_abs.specs.declared.states.AbsState.{AbsState}
 use Rattle.scx_abs.specs.declared.rules.Next.{Next}
 use Rattle.scx_abs.specs.Cells.{all_written, written_in}
 use Rattle.scx_abs.specs.States.{kind_at, cell_at, with_kind}
-use Rattle.scx_abs.specs.Checks.{◌>>=◌, goes_on, element_size, place_for}
+use Rattle.scx_semantics.specs.Results.{◌>>=◌}
+use Rattle.scx_abs.specs.Checks.{goes_on, element_size, place_for}
 
 -- ---- arguments
 

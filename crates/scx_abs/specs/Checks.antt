@@ -13,12 +13,6 @@ use Rattle.scx_abs.specs.declared.states.AbsState.{AbsState}
 use Rattle.scx_abs.specs.declared.rules.Next.{Next}
 use Rattle.scx_abs.specs.States.{kind_at, with_kind}
 
--- one check behind another
-infixl 10 ◌>>=◌
-abbrev pub ◌>>=◌ : {A B : Type 0} → Result A Why → (A → Result B Why) → Result B Why
-(Ok x) >>= f = f x
-(Err why) >>= f = Err why
-
 -- ---- what flows on
 
 abbrev pub flows : Option AbsState → Option AbsState → Next

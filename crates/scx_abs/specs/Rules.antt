@@ -38,7 +38,8 @@ use Rattle.scx_abs.specs.declared.memory.Area.{Area}
 use Rattle.scx_abs.specs.declared.memory.Area.TheVariants.{OnStack, InElement, InTask}
 use Rattle.scx_abs.specs.Cells.{marked, all_written, written_in}
 use Rattle.scx_abs.specs.States.{kind_at, cell_at, with_kind, with_cell}
-use Rattle.scx_abs.specs.Checks.{◌>>=◌, flows, goes_on, usable, operand_kind, sets, element_size, place_within, place_for}
+use Rattle.scx_semantics.specs.Results.{◌>>=◌}
+use Rattle.scx_abs.specs.Checks.{flows, goes_on, usable, operand_kind, sets, element_size, place_within, place_for}
 use Rattle.scx_abs.specs.Calls.{call_rule}
 
 -- ---- arithmetic

@@ -30,7 +30,8 @@ use Rattle.scx_abs.specs.declared.states.AbsState.{AbsState}
 use Rattle.scx_abs.specs.declared.rules.Next.{Next}
 use Rattle.scx_abs.specs.States.{kind_at, cell_at}
 use Rattle.scx_abs.specs.Stands.{Stands, IsMember}
-use Rattle.scx_abs.specs.Checks.{◌>>=◌, usable, operand_kind, sets, element_size, place_for}
+use Rattle.scx_semantics.specs.Results.{◌>>=◌}
+use Rattle.scx_abs.specs.Checks.{usable, operand_kind, sets, element_size, place_for}
 use Rattle.scx_abs.specs.Calls.{key_in, argument_check, arguments_check, call_allowed, call_rule}
 use Rattle.scx_abs.specs.Rules.{area_of, kind_in, load_kind, stored_in, store_rule}
 use Rattle.scx_abs.proofs.Accesses.{Means, area_found}
