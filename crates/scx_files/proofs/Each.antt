@@ -5,7 +5,8 @@ use Rattle.toml.specs.Data.{Data}
 use Rattle.toml.specs.View.{view, items_view}
 use Rattle.toml.specs.declared.value.Value.{Value}
 use Rattle.toml.proofs.Views.{items_view-drop}
-use Rattle.scx_files.specs.Faults.{Fault, Reading, ◌>>=◌}
+use Rattle.scx_semantics.specs.Results.{◌>>=◌}
+use Rattle.scx_files.specs.Faults.{Fault, Reading}
 use Rattle.scx_files.specs.Values.{each_from}
 
 -- what was read so far, and then the rest

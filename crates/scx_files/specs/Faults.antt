@@ -15,11 +15,6 @@ Reading A = Result A Fault
 abbrev pub refusal : {A : Type 0} → List ℕ → Cause → Reading A
 refusal path cause = Err (record { path = path; cause = cause })
 
-infixl 10 ◌>>=◌
-abbrev pub ◌>>=◌ : {A B : Type 0} → Reading A → (A → Reading B) → Reading B
-(Ok x) >>= f = f x
-(Err e) >>= f = Err e
-
 -- What a function returned, seen by view, is what reading gives, unless memory ran out.
 abbrev pub Fails : {A : Type 0} → LoadError → Reading A → Type 0
 Fails (errors.At path cause) read = read ≡ Err (record { path = string_bytes path; cause = cause })

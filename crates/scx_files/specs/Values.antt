@@ -4,7 +4,8 @@ use Rattle.toml.specs.Data.{Data, string, integer, float, boolean, datetime, arr
 use Rattle.toml.specs.Parse.{parse_document}
 use Rattle.scx_files.specs.declared.fault.Cause.TheVariants as cause
 use Rattle.scx_files.specs.declared.section.Limits.{Limits}
-use Rattle.scx_files.specs.Faults.{Reading, refusal, ◌>>=◌}
+use Rattle.scx_semantics.specs.Results.{◌>>=◌}
+use Rattle.scx_files.specs.Faults.{Reading, refusal}
 use Rattle.scx_files.specs.Names.{is_name}
 use Rattle.scx_files.specs.Paths.{below}
 

@@ -8,7 +8,8 @@ use Rattle.scx_maps.specs.declared.defs.TheConstants.{MAX_MAPS, MAX_BYTES}
 use Rattle.scx_maps.specs.Limits.{total_bytes, IsWithinLimits, AreWithinLimits}
 use Rattle.scx_files.specs.declared.fault.Cause.TheVariants as cause
 use Rattle.scx_files.specs.declared.section.Limits.{Limits}
-use Rattle.scx_files.specs.Faults.{Reading, refusal, ◌>>=◌}
+use Rattle.scx_semantics.specs.Results.{◌>>=◌}
+use Rattle.scx_files.specs.Faults.{Reading, refusal}
 use Rattle.scx_files.specs.Paths.{below, element}
 use Rattle.scx_files.specs.Values.{found_or, integer_of, table_of, elements_of, item_count, each_from, required, optional}
 use Rattle.scx_policies.specs.Maps.{entry_limits, size_limits, shape_in, map_at, fitting}

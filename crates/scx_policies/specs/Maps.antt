@@ -8,7 +8,8 @@ use Rattle.scx_maps.specs.declared.defs.TheConstants.{MAX_MAPS, MAX_BYTES}
 use Rattle.scx_maps.specs.Limits.{total_bytes}
 use Rattle.scx_files.specs.declared.fault.Cause.TheVariants as cause
 use Rattle.scx_files.specs.declared.section.Limits.{Limits}
-use Rattle.scx_files.specs.Faults.{Reading, refusal, ◌>>=◌}
+use Rattle.scx_semantics.specs.Results.{◌>>=◌}
+use Rattle.scx_files.specs.Faults.{Reading, refusal}
 use Rattle.scx_files.specs.Paths.{element}
 use Rattle.scx_files.specs.Values.{required, optional, integer_of, table_of, elements_of, each_from}
 

@@ -10,7 +10,8 @@ use Rattle.scx_isa.specs.Reading.{read_program}
 use Rattle.scx_asm.specs.declared.faults.AsmFault.{AsmFault}
 use Rattle.scx_asm.specs.Reading.{read_text}
 use Rattle.scx_files.specs.declared.fault.Cause.TheVariants as cause
-use Rattle.scx_files.specs.Faults.{Reading, refusal, ◌>>=◌}
+use Rattle.scx_semantics.specs.Results.{◌>>=◌}
+use Rattle.scx_files.specs.Faults.{Reading, refusal}
 use Rattle.scx_files.specs.Values.{optional, text_of}
 use Rattle.scx_policies.specs.declared.policy_text.Programs.{Programs}
 

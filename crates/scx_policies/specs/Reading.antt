@@ -3,7 +3,8 @@
 use Rattle.std.specs.Prelude.{ℕ, ⊤, List, [], ◌∷◌, ◌++◌, codes, Ok}
 use Rattle.toml.specs.Data.{Members, no_members}
 use Rattle.scx_files.specs.declared.section.Limits.{Limits}
-use Rattle.scx_files.specs.Faults.{Reading, ◌>>=◌}
+use Rattle.scx_semantics.specs.Results.{◌>>=◌}
+use Rattle.scx_files.specs.Faults.{Reading}
 use Rattle.scx_files.specs.Values.{document, optional, table_of, name_of, integer_of}
 use Rattle.scx_files.specs.Unknown.{known_alone, unknown, unknown_in, unknown_in_each}
 use Rattle.scx_policies.specs.declared.policy_text.Programs.{Programs}

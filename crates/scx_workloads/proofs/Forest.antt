@@ -7,7 +7,8 @@ use Rattle.std.proofs.lemmas.List.{length-append, get_or_append_left, get_or-app
 use Rattle.std.proofs.lemmas.List.Folds.{list_any-append}
 use Rattle.toml.specs.Data.{Data, Items, no_items, item, Members, get_member}
 use Rattle.scx_files.specs.declared.fault.Cause.TheVariants as cause
-use Rattle.scx_files.specs.Faults.{Reading, refusal, ◌>>=◌}
+use Rattle.scx_semantics.specs.Results.{◌>>=◌}
+use Rattle.scx_files.specs.Faults.{Reading, refusal}
 use Rattle.scx_files.specs.Paths.{below, element}
 use Rattle.scx_files.specs.Values.{found_or, required, optional, table_of, text_of, integer_of, elements_of, item_count}
 use Rattle.scx_weights.specs.declared.group.Group.{Group}

@@ -8,7 +8,8 @@ use Rattle.toml.specs.Data.{Data, string, integer, float, boolean, datetime, arr
 use Rattle.toml.specs.View.{items_view}
 use Rattle.toml.specs.declared.value.Value.{Value}
 use Rattle.scx_files.specs.declared.section.Limits.{Limits}
-use Rattle.scx_files.specs.Faults.{Reading, Gives, refusal, ◌>>=◌}
+use Rattle.scx_semantics.specs.Results.{◌>>=◌}
+use Rattle.scx_files.specs.Faults.{Reading, Gives, refusal}
 use Rattle.scx_files.specs.declared.fault.LoadError.{LoadError}
 use Rattle.scx_files.specs.Paths.{below}
 use Rattle.scx_files.specs.Values.{found_or, required, optional, integer_of, within, elements_of, item_count}

@@ -6,7 +6,8 @@ use Rattle.std.specs.Str.{bytes_eq}
 use Rattle.toml.specs.Data.{Data, Items, no_items, item, Members}
 use Rattle.scx_files.specs.declared.fault.Cause.TheVariants as cause
 use Rattle.scx_files.specs.declared.section.Limits.{Limits}
-use Rattle.scx_files.specs.Faults.{Reading, refusal, ◌>>=◌}
+use Rattle.scx_semantics.specs.Results.{◌>>=◌}
+use Rattle.scx_files.specs.Faults.{Reading, refusal}
 use Rattle.scx_files.specs.Paths.{below, element}
 use Rattle.scx_files.specs.Unknown.{known_alone, unknown, unknown_in_each}
 use Rattle.scx_files.specs.Values.{found_or, document, required, optional, table_of, text_of, name_of, integer_of, elements_of}
