@@ -32,7 +32,8 @@ use Rattle.scx_encoding.specs.declared.forms.Form.TheVariants.{Binary, Negate, R
 use Rattle.scx_encoding.specs.declared.faults.DecodeFault.TheVariants.{UnusedField, HalfWide, BadWidth}
 use Rattle.scx_semantics.specs.Registers.{number, register_at}
 use Rattle.scx_encoding.specs.Slots.{same_slot, IsSlot}
-use Rattle.scx_encoding.specs.Opcodes.{coded, opcode, form, base, source_of, arithmetic_class, jump_class, store_class, source_bit, operation_code, comparison_code, size_code, access_code, form_of}
+use Rattle.scx_semantics.specs.Tables.{coded}
+use Rattle.scx_encoding.specs.Opcodes.{opcode, form, base, source_of, arithmetic_class, jump_class, store_class, source_bit, operation_code, comparison_code, size_code, access_code, form_of}
 use Rattle.scx_semantics.specs.Code.{is_wide}
 use Rattle.scx_encoding.specs.Spelling.{first_slot, second_slot, half, destination_field, source_field, offset_field, immediate_field, operation_offset, extension_offset, order_bits, operand_register, operand_immediate, IsOperand, IsInsn}
 use Rattle.scx_encoding.proofs.Bytes.{same_fields}

@@ -20,6 +20,7 @@ use Rattle.scx_semantics.specs.declared.operations.Access.{Access}
 use Rattle.scx_semantics.specs.declared.operations.Access.TheVariants as access
 use Rattle.scx_semantics.specs.declared.operations.Comparison.{Comparison}
 use Rattle.scx_semantics.specs.declared.operations.Comparison.TheVariants.{Equal, Greater, GreaterOrEqual, AnyBit, NotEqual, SignedGreater, SignedGreaterOrEqual, Less, LessOrEqual, SignedLess, SignedLessOrEqual}
+use Rattle.scx_semantics.specs.Tables.{coded}
 use Rattle.scx_semantics.specs.Arithmetic.{extension_width}
 use Rattle.scx_encoding.specs.declared.forms.Source.{Source}
 use Rattle.scx_encoding.specs.declared.forms.Source.TheVariants.{Immediate, Register}
@@ -146,11 +147,6 @@ form (insn.Call k) = Call
 form insn.Exit = Exit
 
 -- ---- forms of opcodes
-
--- the one of the list that has that code
-abbrev pub coded : {A : Type 0} → (A → ℕ) → List A → ℕ → Option A
-coded code [] n = None
-coded code (x ∷ xs) n = if nat_eq n (code x) then Some x else coded code xs n
 
 abbrev pub base_operations : List Operation
 base_operations = Add ∷ Subtract ∷ Multiply ∷ Divide ∷ Or ∷ And ∷ ShiftLeft ∷ ShiftRight ∷ Modulo ∷ Xor ∷ Move ∷ ShiftRightSigned ∷ []

@@ -27,7 +27,8 @@ use Rattle.scx_encoding.specs.declared.faults.DecodeFault.TheVariants.{BadRegist
 use Rattle.scx_semantics.specs.Results.{◌>>=◌}
 use Rattle.scx_semantics.specs.Registers.{register_at}
 use Rattle.scx_encoding.specs.Slots.{same_slot}
-use Rattle.scx_encoding.specs.Opcodes.{coded, form_of}
+use Rattle.scx_semantics.specs.Tables.{coded}
+use Rattle.scx_encoding.specs.Opcodes.{form_of}
 use Rattle.scx_semantics.specs.Code.{is_wide}
 use Rattle.scx_encoding.specs.Spelling.{extension_offset, order_bits, first_slot, second_slot}
 

@@ -1,5 +1,6 @@
 ghost use Rattle.std.specs.Prelude.{◌≡◌, ◌%◌};
-ghost use Rattle.scx_encoding.specs.Opcodes.{form_of, wide_form, call_form, plain_form, class_form, lone_forms, binary_form, jump_form, load_form, store_form, opcode_fault, source_at, coded, base_operations, comparisons, accesses, sizes};
+ghost use Rattle.scx_semantics.specs.Tables.{coded};
+ghost use Rattle.scx_encoding.specs.Opcodes.{form_of, wide_form, call_form, plain_form, class_form, lone_forms, binary_form, jump_form, load_form, store_form, opcode_fault, source_at, base_operations, comparisons, accesses, sizes};
 ghost use Rattle.scx_encoding.specs.Opcodes.{opcode, arithmetic_class, jump_class, store_class, source_bit, operation_code, comparison_code, order_code, size_code, access_code};
 
 use crate::faults::{DecodeFault, Exclusion};

@@ -1,7 +1,7 @@
 ghost use Rattle.std.specs.Prelude.{◌≡◌, None};
 ghost use Rattle.std.specs.Int.{w32, cast_signed};
 ghost use Rattle.scx_encoding.specs.Slots.{front_slot};
-ghost use Rattle.scx_encoding.specs.Opcodes.{coded};
+ghost use Rattle.scx_semantics.specs.Tables.{coded};
 ghost use Rattle.scx_encoding.specs.Spelling.{extension_offset, order_bits};
 ghost use Rattle.scx_encoding.specs.Reading.{register, operand_at, extensions, extension_at, binary_at, order_widths, high_half, built, whole, insn_at, half_at, place_at, due_after};
 

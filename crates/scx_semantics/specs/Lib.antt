@@ -1,4 +1,5 @@
 pub mod Results
+pub mod Tables
 pub mod Registers
 pub mod Code
 pub mod Arithmetic
