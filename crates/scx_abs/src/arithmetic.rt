@@ -6,9 +6,9 @@ ghost use Rattle.scx_abs.specs.Rules.{moved_by, moved_kind, arithmetic_kind, com
 use crate::faults::Why;
 use crate::kinds::Kind;
 use crate::places::{element_size, place_within};
-use crate::states::{AbsState, STACK_TOP};
+use crate::states::AbsState;
 use scx_arithmetic::{pointer_step, shifted};
-use scx_isa::{Operand, Operation, Register, Width};
+use scx_isa::{Operand, Operation, Register, STACK_SIZE, Width};
 use scx_maps::MapDefs;
 
 /// The kind of a register that is read.
@@ -109,7 +109,7 @@ fn moved_by(kind: Kind, distance: Option<i64>, defs: &MapDefs) -> Result<Kind, W
 {
     match (kind, distance) {
         (Kind::Stack(at), Some(distance)) => {
-            let to = place_within(STACK_TOP, shifted(at, distance))?;
+            let to = place_within(STACK_SIZE, shifted(at, distance))?;
             Ok(Kind::Stack(to))
         }
         (Kind::Elem(map, at), Some(distance)) => {

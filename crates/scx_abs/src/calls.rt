@@ -9,8 +9,8 @@ use crate::faults::Why;
 use crate::kinds::{CELL_BYTES, Cell, Kind, all_written};
 use crate::places::{element_size, place_for};
 use crate::rules::Context;
-use crate::states::{AbsState, STACK_TOP};
-use scx_isa::{Helper, Parameter, Register, Size};
+use crate::states::AbsState;
+use scx_isa::{Helper, Parameter, Register, STACK_SIZE, Size};
 use scx_maps::MapDefs;
 
 /// What flows on from a call: the helper is there, then it may be called here, then each argument is
@@ -107,7 +107,7 @@ fn check_key(state: &AbsState, kind: Kind, defs: &MapDefs) -> Result<(), Why>
 {
     match kind {
         Kind::Stack(at) => {
-            let at = usize::from(place_for(STACK_TOP, Size::Word, Some(u64::from(at)))?);
+            let at = usize::from(place_for(STACK_SIZE, Size::Word, Some(u64::from(at)))?);
             key_in(state.cell(at / CELL_BYTES), at % CELL_BYTES)
         }
         Kind::Elem(map, at) => {

@@ -31,4 +31,5 @@ pub use laws::{
 };
 pub use memory::{Area, area_of};
 pub use rules::{Context, Next, flow_of, transfer};
-pub use states::{AbsState, CELLS, REGISTERS, join, start};
+pub use scx_isa::REGISTERS;
+pub use states::{AbsState, CELLS, join, start};

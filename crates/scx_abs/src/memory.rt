@@ -10,9 +10,9 @@ use crate::changes::{Change, Flow};
 use crate::faults::Why;
 use crate::kinds::{CELL_BYTES, Cell, Kind, all_written, marked};
 use crate::places::{element_size, place_for};
-use crate::states::{AbsState, STACK_TOP};
+use crate::states::AbsState;
 use scx_arithmetic::shifted;
-use scx_isa::{Access, Field, Operand, Register, Size};
+use scx_isa::{Access, Field, Operand, Register, STACK_SIZE, Size};
 use scx_maps::MapDefs;
 
 /// The memory that an address means.
@@ -66,7 +66,7 @@ pub fn area_of(base: Kind, offset: i16, size: Size, defs: &MapDefs) -> Result<Ar
     let distance = i64::from(offset);
     match base {
         Kind::Stack(at) => {
-            let at = place_for(STACK_TOP, size, shifted(at, distance))?;
+            let at = place_for(STACK_SIZE, size, shifted(at, distance))?;
             Ok(Area::OnStack(at))
         }
         Kind::Elem(map, at) => {

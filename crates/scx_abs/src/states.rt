@@ -8,16 +8,10 @@ ghost use Rattle.scx_abs.specs.Changes.{AreBlank};
 ghost use Rattle.scx_abs.specs.States.{CoversState, IsProper, argument_kinds, start_of};
 
 use crate::kinds::{CELL_BYTES, Cell, Kind};
-use scx_isa::{Callback, Register};
-
-/// How many registers there are, r0 to r10 (RFC 9669, section 3.1).
-pub const REGISTERS: usize = 11;
+use scx_isa::{Callback, REGISTERS, Register, STACK_SIZE};
 
 /// How many cells of eight bytes the stack has.
 pub const CELLS: usize = 64;
-
-/// The top of the stack, the place past its last byte, to which r10 points.
-pub(crate) const STACK_TOP: u16 = 512;
 
 /// What is known of registers and stack before an instruction.
 #[derive(Clone, Copy)]
@@ -86,7 +80,7 @@ pub fn start(callback: Callback) -> AbsState
     registers[1] = first;
     registers[2] = second;
     registers[3] = third;
-    registers[10] = Kind::Stack(STACK_TOP);
+    registers[10] = Kind::Stack(STACK_SIZE);
     AbsState {
         registers,
         cells: [Cell::Bytes([false; CELL_BYTES]); CELLS],

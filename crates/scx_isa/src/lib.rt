@@ -24,5 +24,6 @@ pub use program::{MAX_SLOTS, Program};
 pub use scx_encoding::{DecodeFault, Exclusion};
 pub use scx_semantics::{
     Access, Callback, Comparison, Extension, Field, Helper, Insn, Operand, Operation, Order,
-    OrderWidth, Parameter, Pointer, Register, Size, StackByte, TaskId, Value, Width,
+    OrderWidth, Parameter, Pointer, REGISTERS, Register, STACK_SIZE, Size, StackByte, TaskId,
+    Value, Width,
 };

@@ -19,5 +19,5 @@ pub use instructions::{Insn, Operand};
 pub use laws::{Responder, run_carries_over, run_has_one_outcome};
 pub use operations::{Access, Comparison, Extension, Operation, Order, OrderWidth, Size, Width};
 pub use outside::{Field, Helper, MAX_ARGUMENTS, Parameter, TaskId};
-pub use registers::Register;
-pub use values::{Pointer, StackByte, Value};
+pub use registers::{REGISTERS, Register};
+pub use values::{Pointer, STACK_SIZE, StackByte, Value};

@@ -1,5 +1,8 @@
 use crate::outside::TaskId;
 
+/// How many bytes the stack has. r10 points to its top, the place past the last one.
+pub const STACK_SIZE: u16 = 512;
+
 /// Where a pointer points.
 #[derive(Clone, Copy)]
 pub enum Pointer {

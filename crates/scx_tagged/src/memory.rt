@@ -6,10 +6,9 @@ ghost use Rattle.scx_semantics.specs.Memory.{room_at, size_bytes, access_size, r
 ghost use Rattle.scx_semantics.specs.Places.{address};
 ghost use Rattle.scx_tagged.specs.Places.{place_of, Lies, LiesInElement};
 
-use crate::stack::STACK_TOP;
 use byteorder::{ByteOrder, LittleEndian};
 use scx_arithmetic::shifted;
-use scx_isa::{Access, Field, Pointer, Size, TaskId, Value};
+use scx_isa::{Access, Field, Pointer, STACK_SIZE, Size, TaskId, Value};
 use scx_maps::Maps;
 
 /// The place that an address means.
@@ -30,7 +29,7 @@ pub fn address(maps: &Maps, base: Value, offset: i16, size: Size) -> Place
     ensures lies { Lies maps.now (size_bytes size) result }
 {
     match base {
-        Value::Pointer(Pointer::Stack(at)) => match room_at(STACK_TOP, size, at, offset) {
+        Value::Pointer(Pointer::Stack(at)) => match room_at(STACK_SIZE, size, at, offset) {
             Some(at) => Place::OnStack(at),
             None => Place::Nowhere,
         },

@@ -5,12 +5,10 @@ ghost use Rattle.scx_semantics.specs.declared.values.StackByte.TheVariants.{Unwr
 
 use byteorder::{ByteOrder, LittleEndian};
 use scx_arithmetic::{low_byte, low_half, low_two_bytes};
-use scx_isa::{Access, Pointer, Size, Value};
+use scx_isa::{Access, Pointer, STACK_SIZE, Size, Value};
 
-/// The top of the stack, the place past its last byte.
-pub const STACK_TOP: u16 = 512;
-
-const STACK_SIZE: usize = STACK_TOP as usize;
+/// The bytes of the stack.
+const BYTES: usize = STACK_SIZE as usize;
 
 /// The mark of a byte that a number was written to.
 const WRITTEN: u8 = 1;
@@ -32,12 +30,12 @@ const NONE_WRITTEN: u64 = 0;
 #[derive(Drop)]
 pub struct Stack {
     /// The numbers that were written, byte by byte.
-    bytes: [u8; STACK_SIZE],
+    bytes: [u8; BYTES],
     /// For each byte 1 where a number was written to it, and 0 where none was, or none since a
     /// pointer was stored there.
-    marks: [u8; STACK_SIZE],
+    marks: [u8; BYTES],
     /// The pointer that was last stored in each eight bytes.
-    pointers: [Option<Pointer>; STACK_SIZE / 8],
+    pointers: [Option<Pointer>; BYTES / 8],
 }
 
 impl Stack {
@@ -49,9 +47,9 @@ impl Stack {
         ensures { seen_stack result ≡ (λ k. Unwritten) }
     {
         Stack {
-            bytes: [0; STACK_SIZE],
-            marks: [0; STACK_SIZE],
-            pointers: [None; STACK_SIZE / 8],
+            bytes: [0; BYTES],
+            marks: [0; BYTES],
+            pointers: [None; BYTES / 8],
         }
     }
 

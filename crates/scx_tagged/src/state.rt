@@ -9,12 +9,9 @@ ghost use Rattle.scx_tagged.specs.Execute.{effect_of};
 
 use crate::arguments::argument_value;
 use crate::effect::Effect;
-use crate::stack::{STACK_TOP, Stack};
-use scx_isa::{Pointer, Register, Value};
+use crate::stack::Stack;
+use scx_isa::{Pointer, REGISTERS, Register, STACK_SIZE, Value};
 use scx_vm::Arguments;
-
-/// How many registers there are, r0 to r10 (RFC 9669, section 3.1).
-const REGISTERS: usize = 11;
 
 /// The state of a running program but for the maps: what its registers and its stack hold.
 #[derive(Drop)]
@@ -34,7 +31,7 @@ impl Core {
         registers[1] = argument_value(arguments.first);
         registers[2] = argument_value(arguments.second);
         registers[3] = argument_value(arguments.third);
-        registers[10] = Value::Pointer(Pointer::Stack(STACK_TOP));
+        registers[10] = Value::Pointer(Pointer::Stack(STACK_SIZE));
         Core {
             registers,
             stack: Stack::new(),

@@ -5,10 +5,11 @@ ghost use Rattle.scx_semantics.specs.Elements.{Maps};
 ghost use Rattle.scx_semantics.specs.Registers.{number};
 ghost use Rattle.scx_tagged.specs.State.{seen, held};
 
-use crate::stack::STACK_TOP;
 use crate::state::Core;
 use scx_arithmetic as numbers;
-use scx_isa::{Extension, Operand, Operation, Order, OrderWidth, Pointer, Register, Value, Width};
+use scx_isa::{
+    Extension, Operand, Operation, Order, OrderWidth, Pointer, Register, STACK_SIZE, Value, Width,
+};
 use scx_maps::Maps;
 
 /// An operand as an instruction of that width takes it.
@@ -94,7 +95,7 @@ fn pointer_moved(maps: &Maps, pointer: Pointer, step: i64) -> Option<Value>
 {
     match pointer {
         Pointer::Stack(at) => {
-            let to = numbers::within(STACK_TOP, numbers::shifted(at, step))?;
+            let to = numbers::within(STACK_SIZE, numbers::shifted(at, step))?;
             Some(Value::Pointer(Pointer::Stack(to)))
         }
         Pointer::Element(map, at, index) => {
