@@ -12,7 +12,7 @@ use Rattle.scx_abs.specs.declared.kinds.Kind.TheVariants.{Task}
 use Rattle.scx_abs.specs.declared.kinds.Cell.TheVariants.{Bytes}
 use Rattle.scx_abs.specs.Cells.{no_bytes}
 use Rattle.scx_abs.specs.States.{kind_at, ArgumentKinds, argument_kinds, start_kinds}
-use Rattle.scx_abs.specs.Arguments.{FitsCallback, IsTask}
+use Rattle.scx_semantics.specs.Arguments.{FitsCallback, IsTask}
 use Rattle.scx_abs.specs.Stands.{Stands, CellStands}
 use Rattle.scx_abs.specs.Laws.{StartIsSound}
 use Rattle.scx_abs.proofs.Orders.{none_written}

@@ -19,7 +19,7 @@ use Rattle.scx_abs.specs.declared.faults.Why.{Why}
 use Rattle.scx_abs.specs.declared.states.AbsState.{AbsState}
 use Rattle.scx_abs.specs.declared.rules.Next.{Next}
 use Rattle.scx_abs.specs.States.{CoversState, IsProper, start_of}
-use Rattle.scx_abs.specs.Arguments.{FitsCallback}
+use Rattle.scx_semantics.specs.Arguments.{FitsCallback}
 use Rattle.scx_abs.specs.Stands.{IsMember}
 use Rattle.scx_abs.specs.Rules.{null_test, rule}
 

@@ -1,7 +1,7 @@
 //! The callbacks of scx_simple and a program that counts, with one map of one value of eight bytes: each
 //! is verified, or run, as often as is wanted.
 
-ghost use Rattle.scx_abs.specs.Arguments.{FitsCallback};
+ghost use Rattle.scx_semantics.specs.Arguments.{FitsCallback};
 ghost use Rattle.scx_vm.specs.Arguments as values;
 
 use crate::{Sum, verdict};

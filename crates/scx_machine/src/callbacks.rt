@@ -1,6 +1,6 @@
 ghost use Rattle.std.specs.Prelude.{◌≡◌, ◌+◌, ◌≤◌, ◌^◌, [], Some};
 ghost use Rattle.scx_maps.specs.Contents.{HasShapes};
-ghost use Rattle.scx_abs.specs.Arguments.{FitsCallback};
+ghost use Rattle.scx_semantics.specs.Arguments.{FitsCallback};
 ghost use Rattle.scx_semantics.specs.declared.callbacks.Callback.TheVariants.{Enable, SelectCpu, Enqueue, Dispatch, Running, Stopping};
 ghost use Rattle.scx_semantics.specs.Endings.{run_of};
 ghost use Rattle.scx_vm.specs.Arguments.{given};

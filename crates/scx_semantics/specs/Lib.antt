@@ -13,5 +13,6 @@ pub mod Calls
 pub mod Meaning
 pub mod Steps
 pub mod Runs
+pub mod Arguments
 pub mod Endings
 pub mod Laws

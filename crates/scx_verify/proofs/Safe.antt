@@ -20,7 +20,7 @@ use Rattle.scx_maps.specs.Contents.{HasShapes}
 use Rattle.scx_abs.specs.declared.states.AbsState.{AbsState}
 use Rattle.scx_abs.specs.declared.rules.Next.{Next}
 use Rattle.scx_abs.specs.States.{CoversSome, start_of}
-use Rattle.scx_abs.specs.Arguments.{FitsCallback}
+use Rattle.scx_semantics.specs.Arguments.{FitsCallback}
 use Rattle.scx_abs.specs.Stands.{IsMember}
 use Rattle.scx_abs.specs.Rules.{rule}
 use Rattle.scx_abs.specs.Laws.{Receives, FlowsIn}
