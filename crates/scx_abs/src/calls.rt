@@ -8,10 +8,10 @@ use crate::changes::{Change, Flow};
 use crate::faults::Why;
 use crate::kinds::{CELL_BYTES, Cell, Kind, all_written};
 use crate::places::{element_size, place_for};
-use crate::rules::Context;
 use crate::states::AbsState;
 use scx_isa::{Helper, Parameter, Register, STACK_SIZE, Size};
 use scx_maps::MapDefs;
+use scx_safety::Context;
 
 /// What flows on from a call: the helper is there, then it may be called here, then each argument is
 /// what it takes.

@@ -30,6 +30,7 @@ pub use laws::{
     rules_are_sound, states_are_proper,
 };
 pub use memory::{Area, area_of};
-pub use rules::{Context, Next, flow_of, transfer};
+pub use rules::{Next, flow_of, transfer};
 pub use scx_isa::REGISTERS;
+pub use scx_safety::Context;
 pub use states::{AbsState, CELLS, join, start};

@@ -12,17 +12,8 @@ use crate::jumps::jump;
 use crate::kinds::Kind;
 use crate::memory::{load_kind, store};
 use crate::states::AbsState;
-use scx_isa::{Callback, Insn, Register};
-use scx_maps::MapDefs;
-
-/// What a rule needs to know apart from the state and the instruction.
-#[derive(Clone, Copy)]
-pub struct Context {
-    /// What the program is run as.
-    pub callback: Callback,
-    /// The shapes of the maps that it is run with.
-    pub defs: MapDefs,
-}
+use scx_isa::{Insn, Register};
+use scx_safety::Context;
 
 /// What flows on from an instruction.
 #[derive(Clone, Copy)]

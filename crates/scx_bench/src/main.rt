@@ -15,7 +15,7 @@ mod queues;
 
 ghost use Rattle.std.specs.Prelude.{◌≡◌, [], IfSome};
 ghost use Rattle.scx_semantics.specs.declared.callbacks.Callback.TheVariants.{Plain};
-ghost use Rattle.scx_verify.specs.Typing.{context};
+ghost use Rattle.scx_safety.specs.Programs.{context};
 
 use crate::callbacks::{run_callbacks, run_counting, verify_callbacks};
 use crate::files::{read_policies, read_workloads, trace};

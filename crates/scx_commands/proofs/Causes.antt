@@ -8,7 +8,7 @@ use Rattle.scx_maps.specs.declared.shape.Shape.{Shape}
 use Rattle.scx_verify.specs.declared.faults.Fault.{Fault}
 use Rattle.scx_verify.specs.declared.faults.Fault.TheVariants.{Flow, Rule, NoMemory}
 use Rattle.scx_verify.specs.declared.faults.VerifyError.{VerifyError}
-use Rattle.scx_verify.specs.Typing.{context}
+use Rattle.scx_safety.specs.Programs.{context}
 use Rattle.scx_verify.specs.Faults.{IsReason, IsRefusal}
 use Rattle.scx_outcomes.specs.declared.refusal.Refusal.{Refusal}
 use Rattle.scx_outcomes.specs.declared.file.TheConstants.{FILE_LIMIT}

@@ -5,7 +5,7 @@ use Rattle.scx_semantics.specs.Elements.{Maps}
 use Rattle.scx_semantics.specs.Code.{instruction_count}
 use Rattle.scx_semantics.specs.Endings.{Ending, run_of}
 use Rattle.scx_semantics.specs.Runs.{Runs}
-use Rattle.scx_verify.specs.Typing.{VerifiedProgram}
+use Rattle.scx_safety.specs.Programs.{VerifiedProgram}
 use Rattle.scx_vm.specs.declared.arguments.Argument.{Argument}
 use Rattle.scx_vm.specs.declared.arguments.Argument.TheVariants.{Unset, Number}
 use Rattle.scx_vm.specs.declared.arguments.Arguments.{Arguments}

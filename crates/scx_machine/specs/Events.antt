@@ -2,7 +2,7 @@
 use Rattle.std.specs.Prelude.{ℕ, Bool, true, false, ◌||◌, ◌==◌, nat_lt, [], ◌∷◌, length, if◌then◌else◌, Option, Some, None}
 use Rattle.scx_semantics.specs.declared.callbacks.Callback.TheVariants as callback
 use Rattle.scx_world.specs.declared.notes.What.TheVariants as note
-use Rattle.scx_verify.specs.Typing.{VerifiedProgram}
+use Rattle.scx_safety.specs.Programs.{VerifiedProgram}
 use Rattle.scx_world.specs.declared.call.Insert.{Insert}
 use Rattle.scx_world.specs.World.{WorldState, task_at, is_runnable, running, cpu_of, is_idle, default_choice, said}
 use Rattle.scx_world.specs.Tasks.{for_cpu, woken, asleep, gone, stopped, ticked, later, reweighed}

@@ -3,7 +3,7 @@ use Rattle.std.specs.Prelude.{◌≡◌, ℕ, ⊤, ◌≤◌, List, Option, Some
 use Rattle.scx_maps.specs.declared.shape.Shape.{Shape}
 use Rattle.scx_semantics.specs.declared.callbacks.Callback.{Callback}
 use Rattle.scx_semantics.specs.declared.callbacks.Callback.TheVariants as callback
-use Rattle.scx_verify.specs.Typing.{VerifiedProgram}
+use Rattle.scx_safety.specs.Programs.{VerifiedProgram}
 use Rattle.scx_machine.specs.declared.policy.Callbacks.{Callbacks}
 use Rattle.scx_machine.specs.declared.policy.BadPolicy.{BadPolicy}
 use Rattle.scx_machine.specs.declared.policy.BadPolicy.TheVariants.{BadTimeout, OtherCallback, OtherMaps}

@@ -1,7 +1,7 @@
 -- The state of the machine, and what a step of it leaves, notes and calls.
 use Rattle.std.specs.Prelude.{List, [], ◌++◌}
 use Rattle.scx_semantics.specs.Elements.{Maps}
-use Rattle.scx_verify.specs.Typing.{VerifiedProgram}
+use Rattle.scx_safety.specs.Programs.{VerifiedProgram}
 use Rattle.scx_vm.specs.declared.arguments.Arguments.{Arguments}
 use Rattle.scx_world.specs.declared.notes.Note.{Note}
 use Rattle.scx_world.specs.World.{WorldState}

@@ -7,7 +7,8 @@ use Rattle.scx_semantics.specs.declared.callbacks.Callback.{Callback}
 use Rattle.scx_semantics.specs.declared.callbacks.Callback.TheVariants as callback
 use Rattle.scx_verify.specs.declared.faults.Fault.{Fault}
 use Rattle.scx_verify.specs.declared.faults.Fault.TheVariants.{NoMemory}
-use Rattle.scx_verify.specs.Typing.{IsTyped, VerifiedProgram, context}
+use Rattle.scx_safety.specs.Programs.{VerifiedProgram, context}
+use Rattle.scx_verify.specs.Typing.{IsTyped}
 use Rattle.scx_verify.specs.Faults.{IsRefusal}
 use Rattle.scx_machine.specs.Policy as machine
 use Rattle.scx_machine.specs.Policy.{PolicyState}

@@ -2,7 +2,7 @@
 
 ghost use Rattle.std.specs.Prelude.{◌≡◌, IfSome};
 ghost use Rattle.scx_semantics.specs.declared.callbacks.Callback.TheVariants.{SelectCpu};
-ghost use Rattle.scx_verify.specs.Typing.{context};
+ghost use Rattle.scx_safety.specs.Programs.{context};
 
 use scx_asm::assemble;
 use scx_examples::OneTask;

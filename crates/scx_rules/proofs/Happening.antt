@@ -14,7 +14,7 @@ use Rattle.scx_machine.specs.Cycle.{cycle}
 use Rattle.scx_machine.specs.declared.events.Refused.TheVariants.{UnknownGroup, BadWeight}
 use Rattle.scx_machine.specs.Events.{is_bad_weight, refusal, answered_cpu, target, settled, settle, select, wake, sleep_from_cpu, sleep_from, sleep, count_down, tick_of, tick}
 use Rattle.scx_rules.specs.Cycles.{noting, silent, stopping_called}
-use Rattle.scx_verify.specs.Typing.{VerifiedProgram}
+use Rattle.scx_safety.specs.Programs.{VerifiedProgram}
 use Rattle.scx_world.specs.declared.call.Insert.{Insert}
 use Rattle.scx_rules.specs.Events.{awake, select_called, select_answered, IsTarget, No_callback, Named, No_such_cpu, No_answer, Settles, Was_inserted, Is_put, Wakes, Idle_target, Busy_target, Sleeps, From_queue, From_cpu, Ticks, Nobody_runs, Runs_on, Runs_out}
 use Rattle.scx_rules.specs.Laws.{RulesAllowEvents, RulesAllowEventsOnly}

@@ -6,7 +6,7 @@ use Rattle.scx_semantics.specs.Code.{instruction_count}
 use Rattle.scx_semantics.specs.Elements.{Maps}
 use Rattle.scx_semantics.specs.Endings.{Ending}
 use Rattle.scx_semantics.specs.Runs.{Outside, Runs, GetsStuck}
-use Rattle.scx_verify.specs.Typing.{VerifiedProgram}
+use Rattle.scx_safety.specs.Programs.{VerifiedProgram}
 use Rattle.scx_vm.specs.declared.arguments.Arguments.{Arguments}
 use Rattle.scx_vm.specs.Arguments.{given}
 use Rattle.scx_vm.specs.Host.{host}

@@ -2,7 +2,7 @@
 use Rattle.std.specs.Prelude.{◌≡◌, ℕ, ◌<◌, ◌≤◌, true, false, [], ◌∷◌, length, Option, Some, None}
 use Rattle.scx_weights.specs.Hierarchy.{with_weight}
 use Rattle.scx_semantics.specs.declared.callbacks.Callback.TheVariants as callback
-use Rattle.scx_verify.specs.Typing.{VerifiedProgram}
+use Rattle.scx_safety.specs.Programs.{VerifiedProgram}
 use Rattle.scx_world.specs.declared.call.Insert.{Insert}
 use Rattle.scx_world.specs.declared.notes.What.TheVariants as note
 use Rattle.scx_world.specs.World.{with_tree, task_at, running, cpu_of, is_idle, said}

@@ -9,7 +9,7 @@ use Rattle.scx_dsq.specs.Laws.{one_if}
 use Rattle.scx_semantics.specs.declared.callbacks.Callback.TheVariants as callback
 use Rattle.scx_weights.specs.Hierarchy.{with_weight}
 use Rattle.scx_weights.specs.Refusals.{weight_fault}
-use Rattle.scx_verify.specs.Typing.{VerifiedProgram}
+use Rattle.scx_safety.specs.Programs.{VerifiedProgram}
 use Rattle.scx_world.specs.World.{WorldState, with_tree, task_at, is_this, is_runnable, running, cpu_of, is_idle, this_if, or_this, idle_below, first_idle, or_else, default_choice}
 use Rattle.scx_world.specs.Tasks.{woken, asleep, gone, stopped, ran_a_tick, ticked, later, reweighed}
 use Rattle.scx_machine.specs.declared.events.Event.{Event}

@@ -6,7 +6,8 @@ use Rattle.scx_semantics.specs.declared.callbacks.Callback.TheVariants as callba
 use Rattle.scx_semantics.specs.Code.{Code, instruction_count}
 use Rattle.scx_maps.specs.declared.shape.Shape.{Shape}
 use Rattle.scx_verify.specs.declared.faults.Fault.TheVariants.{NoMemory}
-use Rattle.scx_verify.specs.Typing.{IsTyped, context}
+use Rattle.scx_safety.specs.Programs.{context}
+use Rattle.scx_verify.specs.Typing.{IsTyped}
 use Rattle.scx_verify.specs.Faults.{IsRefusal}
 use Rattle.scx_policies.specs.Policies.{PolicyFile, program_of}
 use Rattle.scx_verdicts.specs.declared.verdict.Verdict.{Verdict}

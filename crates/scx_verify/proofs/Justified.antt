@@ -4,7 +4,7 @@ use Rattle.std.proofs.Common.{◌≡◌, ℕ, zero, suc, ◌+◌, ◌<◌, ◌�
 use Rattle.scx_semantics.specs.declared.instructions.Insn.{Insn}
 use Rattle.scx_semantics.specs.Code.{Code, size}
 use Rattle.scx_semantics.specs.Steps.{target}
-use Rattle.scx_abs.specs.declared.rules.Context.{Context}
+use Rattle.scx_safety.specs.declared.context.Context.{Context}
 use Rattle.scx_abs.specs.declared.rules.Next.{Next}
 use Rattle.scx_abs.specs.declared.faults.Why.{Why}
 use Rattle.scx_abs.specs.declared.states.AbsState.{AbsState}

@@ -4,7 +4,7 @@
 -- instruction at which a check fails, which is the one that is refused.
 use Rattle.std.specs.Prelude.{ℕ, ◌+◌, ◌<◌, ◌≤◌, ◌≡◌, ◌⊎◌, Option, Some, None, Ok, Err}
 use Rattle.scx_semantics.specs.declared.instructions.Insn.{Insn}
-use Rattle.scx_abs.specs.declared.rules.Context.{Context}
+use Rattle.scx_safety.specs.declared.context.Context.{Context}
 use Rattle.scx_semantics.specs.Code.{Code, at, size}
 use Rattle.scx_semantics.specs.Steps.{target}
 use Rattle.scx_abs.specs.declared.faults.Why.{Why}

@@ -13,7 +13,7 @@ use Rattle.scx_verify.specs.declared.faults.Fault.TheVariants.{Rule, NoMemory}
 use Rattle.scx_verify.specs.declared.faults.VerifyError.{VerifyError}
 use Rattle.scx_verify.specs.declared.pass.Walk.{Walk}
 use Rattle.scx_verify.specs.Operations.{IsBuilt}
-use Rattle.scx_abs.specs.declared.rules.Context.{Context}
+use Rattle.scx_safety.specs.declared.context.Context.{Context}
 use Rattle.scx_semantics.specs.Code.{Code}
 use Rattle.scx_abs.specs.declared.states.AbsState.{AbsState}
 use Rattle.scx_abs.specs.Kinds.{IsLeastCover}

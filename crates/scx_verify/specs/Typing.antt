@@ -1,11 +1,9 @@
 -- Typings of a program: an abstract state, or none, for each slot, such that the first one covers the
 -- state in which the callback begins, each instruction with a state passes all of its checks, and what
 -- flows on from it is covered where it goes.
-use Rattle.std.specs.Prelude.{ℕ, ◌+◌, ◌≡◌, List, Option, Some, None, Ok}
+use Rattle.std.specs.Prelude.{ℕ, ◌+◌, ◌≡◌, Option, Some, None, Ok}
 use Rattle.scx_semantics.specs.declared.instructions.Insn.{Insn}
-use Rattle.scx_semantics.specs.declared.callbacks.Callback.{Callback}
-use Rattle.scx_maps.specs.declared.shape.Shape.{Shape}
-use Rattle.scx_abs.specs.declared.rules.Context.{Context}
+use Rattle.scx_safety.specs.declared.context.Context.{Context}
 use Rattle.scx_semantics.specs.Code.{Code, at, size}
 use Rattle.scx_semantics.specs.Steps.{target}
 use Rattle.scx_isa.specs.Flow.{Flows}
@@ -42,12 +40,3 @@ pub record IsTyped (c : Context) (code : Code) : Type 0 where
   pub flows : Flows code
   pub states : States
   pub typing : IsTyping c code states
-
--- what a program is run as, and the shapes of its maps
-abbrev pub context : Callback → List Shape → Context
-context callback shapes = record { callback = callback; defs = shapes }
-
--- a verified program as contracts see it: its slots, what it is run as, and the shapes of its maps
-pub record VerifiedProgram : Type 0 where
-  pub code : Code
-  pub context : Context

@@ -1,7 +1,8 @@
 ghost use Rattle.std.specs.Prelude.{◌≡◌, ◌≤◌, IfOk, OnOk, IfErr};
 ghost use Rattle.scx_semantics.specs.Code.{instruction_count};
-ghost use Rattle.scx_verify.specs.Typing.{IsTyped, context};
-ghost use Rattle.scx_verify.specs.Safe.{IsSafe};
+ghost use Rattle.scx_safety.specs.Programs.{context};
+ghost use Rattle.scx_verify.specs.Typing.{IsTyped};
+ghost use Rattle.scx_safety.specs.Safe.{IsSafe};
 ghost use Rattle.scx_maps.specs.Limits.{AreWithinLimits};
 ghost use Rattle.scx_verify.specs.Operations.{IsReady};
 ghost use Rattle.scx_verify.specs.Faults.{IsRefusal, IsJustified};
@@ -27,9 +28,9 @@ pub struct Verified {
 }
 
 impl Model for Verified {
-    ghost use Rattle.scx_verify.specs.Typing.{VerifiedProgram};
+    ghost use Rattle.scx_safety.specs.Programs.{VerifiedProgram};
     ghost use Rattle.scx_verify.specs.Operations.{IsReady};
-    ghost use Rattle.scx_verify.specs.Safe.{IsSafe};
+    ghost use Rattle.scx_safety.specs.Safe.{IsSafe};
 
     ghost Value = { VerifiedProgram };
 
