@@ -9,10 +9,10 @@ use Rattle.scx_semantics.specs.declared.values.Value.{Value}
 use Rattle.scx_semantics.specs.declared.values.Value.TheVariants as value
 use Rattle.scx_semantics.specs.declared.values.Pointer.TheVariants as pointer
 use Rattle.scx_semantics.specs.Memory.{Stack, within, room_at}
-use Rattle.scx_semantics.specs.Elements.{Maps, elements, element, with_element, with_number}
+use Rattle.scx_semantics.specs.Elements.{Maps, elements, element, with_element, with_number, HoldBytes}
 use Rattle.scx_semantics.specs.Machine.{Machine, with_maps}
 use Rattle.scx_maps.specs.declared.shape.Shape.{Shape}
-use Rattle.scx_maps.specs.Contents.{lengths, lengths_of, HoldBytes, HasShapes}
+use Rattle.scx_maps.specs.Contents.{lengths, lengths_of, HasShapes}
 use Rattle.scx_maps.proofs.Shaped.{length-entries-shaped, length-value-shaped, length-shaped, lengths_of-with_value}
 use Rattle.scx_abs.specs.declared.faults.Why.{Why}
 use Rattle.scx_abs.specs.declared.faults.Why.TheVariants.{OutOfBounds, Misaligned}

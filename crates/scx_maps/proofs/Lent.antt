@@ -5,14 +5,14 @@ use Rattle.std.proofs.lemmas.Bool.{eqb-true}
 use Rattle.std.proofs.lemmas.List.{take-append-le, take_all}
 use Rattle.scx_maps.specs.declared.shape.Shape.{Shape}
 use Rattle.scx_maps.specs.Limits.{total_bytes}
-use Rattle.scx_maps.specs.Contents.{Contents, entries_of, value_of, with_value}
+use Rattle.scx_semantics.specs.Elements.{Maps, elements, element, with_element}
 use Rattle.scx_maps.specs.Layout.{contents_in, shape_at, place_of, IsBlockOf}
 use Rattle.scx_maps.specs.Lending.{written_over, spilled, given_back}
 use Rattle.scx_maps.proofs.Over.{over}
 use Rattle.scx_maps.proofs.Blocks.{map_there, entry_there, value_of-contents_in, contents_in-over, place_of-fits, all_bytes-contents_in, shapes_of-contents_in}
 
 pub length-value_of : (shapes : List Shape) (m index : ℕ) (block : List ℕ) → total_bytes shapes ≤ length block → m < length shapes → index < (shape_at shapes m).entries
-    → length (value_of (contents_in shapes block) m index) ≡ (shape_at shapes m).value_size
+    → length (element (contents_in shapes block) m index) ≡ (shape_at shapes m).value_size
 length-value_of shapes m index block fits below within =
     let room = place_of-fits shapes m index below within in
     let behind : (shape_at shapes m).value_size ≤ length (drop (place_of shapes m index) block) = rw (length-drop (place_of shapes m index) block) (omega (arith, room)) in
@@ -43,9 +43,9 @@ lent shapes m index w block holds below within = go _ refl
         let those = shapes_of-contents_in shapes block holds.limits.each (omega (arith, holds.full)) in
         λ i. contents_in (sym those i) (written_over (place_of (sym those i) m index) w (sym all i))
 
-    go : (b : Bool) → (length w == length (value_of (contents_in shapes block) m index)) ≡ b
+    go : (b : Bool) → (length w == length (element (contents_in shapes block) m index)) ≡ b
         → contents_in shapes (kept (place_of shapes m index) w block)
-        ≡ (if b then with_value (contents_in shapes block) m index w else spilled (contents_in shapes block) m index w)
+        ≡ (if b then with_element (contents_in shapes block) m index w else spilled (contents_in shapes block) m index w)
     go true e =
         let long : length w ≡ (shape_at shapes m).value_size = eqb-true _ _ e ∙ length-value_of shapes m index block (omega (arith, holds.full)) below within in
         let full : length (over (place_of shapes m index) w block) ≡ length block =
@@ -58,8 +58,8 @@ lent shapes m index w block holds below within = go _ refl
         ap (λ xs. contents_in shapes xs) (take-append-le (length block) (over (place_of shapes m index) w block) _ (over-long (place_of shapes m index) w block (omega (arith, holds.full, place_of-fits shapes m index below within))))
         ∙ same
 
-pub lent_at : (shapes : List Shape) (block : List ℕ) (maps : Contents) (m index start len : ℕ) (w : List ℕ) → IsBlockOf shapes block → contents_in shapes block ≡ maps
-    → m < length maps → index < length (entries_of maps m) → start ≡ place_of shapes m index → len ≡ length block
+pub lent_at : (shapes : List Shape) (block : List ℕ) (maps : Maps) (m index start len : ℕ) (w : List ℕ) → IsBlockOf shapes block → contents_in shapes block ≡ maps
+    → m < length maps → index < length (elements maps m) → start ≡ place_of shapes m index → len ≡ length block
     → contents_in shapes (take len (over start w block ++ drop (length (over start w block)) block)) ≡ given_back maps m index w
 lent_at shapes block maps m index start len w holds is below within place long =
     let there : contents_in shapes (take len (over start w block ++ drop (length (over start w block)) block)) ≡ contents_in shapes (kept (place_of shapes m index) w block) =

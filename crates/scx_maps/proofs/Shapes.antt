@@ -6,7 +6,8 @@ use Rattle.std.proofs.lemmas.List.Elements.{All-nil, All-replicate}
 use Rattle.scx_maps.specs.declared.shape.Shape.{Shape}
 use Rattle.scx_maps.specs.declared.defs.TheConstants.{MAX_MAPS}
 use Rattle.scx_maps.specs.Limits.{AreWithinLimits}
-use Rattle.scx_maps.specs.Contents.{zeros, lengths_of, HoldBytes, HasShapes}
+use Rattle.scx_semantics.specs.Elements.{HoldBytes}
+use Rattle.scx_maps.specs.Contents.{zeros, lengths_of, HasShapes}
 use Rattle.scx_maps.specs.Places.{IsFilledUp, filled_up, empty_place}
 
 pub fills_up : (shapes self rest : List Shape) → self ≡ shapes → rest ≡ replicate (MAX_MAPS - length shapes) empty_place → AreWithinLimits shapes

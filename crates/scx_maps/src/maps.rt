@@ -1,6 +1,7 @@
 ghost use Rattle.std.specs.Prelude.{◌≡◌, ℕ, ◌≤◌, ◌<◌, ◌+◌, ◌↔◌, List, [], length, IsTrue, IfOk};
 ghost use Rattle.std.specs.Borrow.{sem};
-ghost use Rattle.scx_maps.specs.Contents.{entries_of, value_of, with_value, zeros, lengths_of, HasShapes};
+ghost use Rattle.scx_semantics.specs.Elements.{elements, element, with_element};
+ghost use Rattle.scx_maps.specs.Contents.{zeros, lengths_of, HasShapes};
 ghost use Rattle.scx_maps.specs.Numbers.{bytes_of, number_at, with_number};
 ghost use Rattle.scx_maps.specs.Lending.{LendsValue, given_back, shapes_of, all_bytes};
 ghost use Rattle.scx_maps.specs.Layout.{contents_in, place_of};
@@ -65,16 +66,16 @@ impl Maps {
     /// Whether the map has an entry of this key.
     pub fn lookup(&self, map: u8, key: u32) -> bool
         requires { map < length self.now }
-        ensures { IsTrue result ↔ (key < length (entries_of self.now map)) }
+        ensures { IsTrue result ↔ (key < length (elements self.now map)) }
     {
         key < self.layout.shape(map).entries
     }
 
     /// How many bytes an entry has; 0 where there is no such entry.
     pub fn value_size(&self, map: u8, index: u32) -> u16
-        ensures size { result ≡ length (value_of self.now map index) }
+        ensures size { result ≡ length (element self.now map index) }
         ensures is_there { 0 < result
-            → (map < length self.now) × (index < length (entries_of self.now map)) }
+            → (map < length self.now) × (index < length (elements self.now map)) }
     {
         if usize::from(map) < self.count() && self.lookup(map, index) {
             self.layout.value_size(map)
@@ -86,8 +87,8 @@ impl Maps {
     /// The bytes of an entry.
     pub fn value(&self, map: u8, index: u32) -> &[u8]
         requires map { map < length self.now }
-        requires index { index < length (entries_of self.now map) }
-        ensures { result.now ≡ value_of self.now map index }
+        requires index { index < length (elements self.now map) }
+        ensures { result.now ≡ element self.now map index }
     {
         let start = self.layout.place(map, index);
         let size = self.layout.shape(map).value_size as usize;
@@ -98,13 +99,13 @@ impl Maps {
     /// as it was, is what the entry then has; nothing else changes.
     pub fn value_mut(&mut self, map: u8, index: u32) -> &mut [u8]
         requires map { map < length self.old }
-        requires index { index < length (entries_of self.old map) }
+        requires index { index < length (elements self.old map) }
         ensures* writes_back { sem 𝓛 (LendsValue self.entry map index result) }
-        ensures value { result.now ≡ value_of self.old map index }
+        ensures value { result.now ≡ element self.old map index }
         ensures changes { (bytes : List ℕ) → length bytes ≡ length result.now
-            → given_back self.old map index bytes ≡ with_value self.old map index bytes }
+            → given_back self.old map index bytes ≡ with_element self.old map index bytes }
         ensures shapes { (bytes : List ℕ) → length bytes ≡ length result.now
-            → lengths_of (with_value self.old map index bytes) ≡ lengths_of self.old }
+            → lengths_of (with_element self.old map index bytes) ≡ lengths_of self.old }
     {
         let start = self.layout.place(map, index);
         let size = self.layout.shape(map).value_size as usize;
@@ -114,9 +115,9 @@ impl Maps {
     /// The number in an entry at a byte, low byte first.
     pub fn load(&self, map: u8, index: u32, offset: u16, size: Size) -> u64
         requires map { map < length self.now }
-        requires index { index < length (entries_of self.now map) }
-        requires offset { offset + bytes_of size ≤ length (value_of self.now map index) }
-        ensures { result ≡ number_at (value_of self.now map index) offset size }
+        requires index { index < length (elements self.now map) }
+        requires offset { offset + bytes_of size ≤ length (element self.now map index) }
+        ensures { result ≡ number_at (element self.now map index) offset size }
     {
         read_number(self.value(map, index), offset as usize, size)
     }
@@ -124,10 +125,10 @@ impl Maps {
     /// Writes the lowest bytes of a number into an entry at a byte, low byte first.
     pub fn store(&mut self, map: u8, index: u32, offset: u16, size: Size, number: u64)
         requires map { map < length self.old }
-        requires index { index < length (entries_of self.old map) }
-        requires offset { offset + bytes_of size ≤ length (value_of self.old map index) }
-        ensures stored { let value = value_of self.old map index in
-            self.new ≡ with_value self.old map index (with_number value offset size number) }
+        requires index { index < length (elements self.old map) }
+        requires offset { offset + bytes_of size ≤ length (element self.old map index) }
+        ensures stored { let value = element self.old map index in
+            self.new ≡ with_element self.old map index (with_number value offset size number) }
         ensures shapes { lengths_of self.new ≡ lengths_of self.old }
     {
         write_number(self.value_mut(map, index), offset as usize, size, number);
@@ -136,7 +137,7 @@ impl Maps {
     /// The byte at which an entry begins, among the bytes of all maps.
     pub fn place(&self, map: u8, index: u32) -> usize
         requires map { map < length self.now }
-        requires index { index < length (entries_of self.now map) }
+        requires index { index < length (elements self.now map) }
         ensures place { result ≡ place_of (shapes_of self.now) map index }
         ensures small { result ≤ MAX_BYTES }
     {

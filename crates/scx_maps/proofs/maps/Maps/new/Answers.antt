@@ -1,7 +1,8 @@
 use Rattle.std.proofs.Common.{◌≡◌, ◌≤◌, ap, sym, ◌∙◌, subst, arith, rules}
 use Rattle.std.specs.Prelude.{replicate}
 use Rattle.scx_maps.specs.Limits.{total_bytes}
-use Rattle.scx_maps.specs.Contents.{Contents, zeros, HasShapes}
+use Rattle.scx_semantics.specs.Elements.{Maps}
+use Rattle.scx_maps.specs.Contents.{zeros, HasShapes}
 use Rattle.scx_maps.specs.Layout.{contents_in}
 use Rattle.scx_maps.proofs.Blocks.{contents_in-zeros}
 use Rattle.scx_maps.proofs.Shapes.{HasShapes-zeros}
@@ -15,5 +16,5 @@ returns-clause-zeros c =
 
 pub returns-clause-shapes : goal.returns-clause-shapes
 returns-clause-shapes c =
-    let Shaped : Contents → Type 0 = λ maps. HasShapes c.args.defs.now maps in
+    let Shaped : Maps → Type 0 = λ maps. HasShapes c.args.defs.now maps in
     subst Shaped (sym (returns-clause-zeros c)) (HasShapes-zeros c.args.defs.now)
