@@ -1,10 +1,9 @@
 -- Elements of maps: the checks of a place, what shapes say of an element, and the state after a store to
 -- one.
 use Rattle.std.proofs.Common.{◌≡◌, ℕ, zero, suc, ◌+◌, ◌*◌, ◌%◌, ◌<◌, ◌≤◌, ◌⊎◌, inl, inr, Bool, true, false, ◌&&◌, nat_eq, nat_le, List, [], ◌∷◌, ◌++◌, length, take, drop, slice_index_or, slice_get, Option, Some, None, Result, Ok, Err, ok_or, if◌then◌else◌, refl, sym, ap, ◌∙◌, arith}
-use Rattle.std.specs.Int.{bytes_low_first}
 use Rattle.std.proofs.lemmas.Bool.{eqb-true, leb-true}
 use Rattle.std.proofs.lemmas.Option.{slice_get_cases}
-use Rattle.std.proofs.lemmas.List.{length-map, length-append, length-take-le, length-drop}
+use Rattle.std.proofs.lemmas.List.{length-map}
 use Rattle.scx_semantics.specs.declared.values.Value.{Value}
 use Rattle.scx_semantics.specs.declared.values.Value.TheVariants as value
 use Rattle.scx_semantics.specs.declared.values.Pointer.TheVariants as pointer
@@ -13,6 +12,7 @@ use Rattle.scx_semantics.specs.Elements.{Maps, elements, element, with_element, 
 use Rattle.scx_semantics.specs.Machine.{Machine, with_maps}
 use Rattle.scx_maps.specs.declared.shape.Shape.{Shape}
 use Rattle.scx_maps.specs.Contents.{lengths, lengths_of, HasShapes}
+use Rattle.scx_semantics.proofs.Bytes.{length-with_number}
 use Rattle.scx_maps.proofs.Shaped.{length-entries-shaped, length-value-shaped, length-shaped, lengths_of-with_value}
 use Rattle.scx_abs.specs.declared.faults.Why.{Why}
 use Rattle.scx_abs.specs.declared.faults.Why.TheVariants.{OutOfBounds, Misaligned}
@@ -69,18 +69,6 @@ element_sized shapes maps m i shaped h = go (slice_get_cases shapes m).1
         absurd (omega (arith, past.0))
 
 -- ---- a store to an element
-
-length-low_bytes : (i n x : ℕ) → length (bytes_low_first i n x) ≡ n
-length-low_bytes i zero x = refl
-length-low_bytes i (suc n) x = ap suc (length-low_bytes (suc i) n x)
-
-length-with_number : (bytes : List ℕ) (at n x : ℕ) → at + n ≤ length bytes → length (with_number bytes at n x) ≡ length bytes
-length-with_number bytes at n x h =
-    let first = length-take-le at bytes (omega arith) in
-    let middle = length-low_bytes 0 n x in
-    let last = length-drop (at + n) bytes in
-    let before = length-append (take at bytes) (bytes_low_first 0 n x) in
-    length-append (take at bytes ++ bytes_low_first 0 n x) (drop (at + n) bytes) ∙ omega (arith, first, middle, last, before)
 
 pub with_number-lengths : (maps : Maps) (m i at n x : ℕ) → HasElement maps m i → at + n ≤ length (element maps m i)
     → lengths_of (with_element maps m i (with_number (element maps m i) at n x)) ≡ lengths_of maps
