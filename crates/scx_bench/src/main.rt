@@ -205,7 +205,7 @@ fn count(maps: &mut Maps, index: u32) -> Sum {
     if maps.count() == 0 || !maps.lookup(0, index) || maps.value(0, index).len() < 16 {
         return None;
     }
-    let number = maps.load(0, index, 8, Size::Eight);
-    maps.store(0, index, 8, Size::Eight, number.wrapping_add(1));
+    let number = maps.load(0, index, 8, Size::DoubleWord);
+    maps.store(0, index, 8, Size::DoubleWord, number.wrapping_add(1));
     Some(number)
 }

@@ -138,7 +138,7 @@ fn new_maps_are_zero(rt: HostRuntime) -> Result<(), Fail> {
 fn a_number_is_stored_low_byte_first(rt: HostRuntime) -> Result<(), Fail> {
     let defs = MapDefs::new(&[shape(3, 10)])?;
     let mut maps = Maps::new(rt.alloc(), &defs)?;
-    assert!(rt; store(&mut maps, 0, 1, 1, Size::Eight, 0x0102_0304_0506_0708));
+    assert!(rt; store(&mut maps, 0, 1, 1, Size::DoubleWord, 0x0102_0304_0506_0708));
     assert_eq!(rt;
         bytes(&maps, 0, 1),
         [0, 8, 7, 6, 5, 4, 3, 2, 1, 0].as_slice()
@@ -146,13 +146,13 @@ fn a_number_is_stored_low_byte_first(rt: HostRuntime) -> Result<(), Fail> {
     assert_eq!(rt; bytes(&maps, 0, 0), [0; 10].as_slice());
     assert_eq!(rt; bytes(&maps, 0, 2), [0; 10].as_slice());
     assert_eq!(rt;
-        load(&maps, 0, 1, 1, Size::Eight),
+        load(&maps, 0, 1, 1, Size::DoubleWord),
         Some(0x0102_0304_0506_0708)
     );
-    assert_eq!(rt; load(&maps, 0, 1, 2, Size::Four), Some(0x0405_0607));
-    assert_eq!(rt; load(&maps, 0, 1, 3, Size::Two), Some(0x0506));
-    assert_eq!(rt; load(&maps, 0, 1, 8, Size::One), Some(1));
-    assert_eq!(rt; load(&maps, 0, 1, 3, Size::Eight), None);
+    assert_eq!(rt; load(&maps, 0, 1, 2, Size::Word), Some(0x0405_0607));
+    assert_eq!(rt; load(&maps, 0, 1, 3, Size::HalfWord), Some(0x0506));
+    assert_eq!(rt; load(&maps, 0, 1, 8, Size::Byte), Some(1));
+    assert_eq!(rt; load(&maps, 0, 1, 3, Size::DoubleWord), None);
     Ok(())
 }
 
@@ -161,14 +161,14 @@ fn a_store_takes_the_lowest_bytes(rt: HostRuntime) -> Result<(), Fail> {
     let defs = MapDefs::new(&[shape(1, 8)])?;
     let mut maps = Maps::new(rt.alloc(), &defs)?;
     fill(&mut maps, 0, 0, 255);
-    assert!(rt; store(&mut maps, 0, 0, 0, Size::One, 0x1111));
-    assert!(rt; store(&mut maps, 0, 0, 2, Size::Two, 0x0099_3322));
-    assert!(rt; store(&mut maps, 0, 0, 4, Size::Four, 0x0099_7766_5544));
+    assert!(rt; store(&mut maps, 0, 0, 0, Size::Byte, 0x1111));
+    assert!(rt; store(&mut maps, 0, 0, 2, Size::HalfWord, 0x0099_3322));
+    assert!(rt; store(&mut maps, 0, 0, 4, Size::Word, 0x0099_7766_5544));
     assert_eq!(rt;
         bytes(&maps, 0, 0),
         [0x11, 255, 0x22, 0x33, 0x44, 0x55, 0x66, 0x77].as_slice()
     );
-    assert!(rt; !store(&mut maps, 0, 0, 5, Size::Four, 0));
+    assert!(rt; !store(&mut maps, 0, 0, 5, Size::Word, 0));
     Ok(())
 }
 
@@ -191,9 +191,9 @@ fn a_write_stays_in_its_entry(rt: HostRuntime) -> Result<(), Fail> {
 fn the_largest_map_can_be_made(rt: HostRuntime) -> Result<(), Fail> {
     let defs = MapDefs::new(&[shape(65536, 256)])?;
     let mut maps = Maps::new(rt.alloc(), &defs)?;
-    assert!(rt; store(&mut maps, 0, 65535, 248, Size::Eight, u64::MAX));
-    assert_eq!(rt; load(&maps, 0, 65535, 248, Size::Eight), Some(u64::MAX));
-    assert_eq!(rt; load(&maps, 0, 65535, 240, Size::Eight), Some(0));
-    assert_eq!(rt; load(&maps, 0, 65536, 0, Size::One), None);
+    assert!(rt; store(&mut maps, 0, 65535, 248, Size::DoubleWord, u64::MAX));
+    assert_eq!(rt; load(&maps, 0, 65535, 248, Size::DoubleWord), Some(u64::MAX));
+    assert_eq!(rt; load(&maps, 0, 65535, 240, Size::DoubleWord), Some(0));
+    assert_eq!(rt; load(&maps, 0, 65536, 0, Size::Byte), None);
     Ok(())
 }

@@ -2,7 +2,6 @@ pub mod Limits
 pub mod Refusals
 pub mod Sameness
 pub mod Contents
-pub mod Numbers
 pub mod Places
 pub mod Layout
 pub mod Lending

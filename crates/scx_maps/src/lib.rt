@@ -13,10 +13,9 @@ mod layout;
 mod maps;
 mod numbers;
 mod shape;
-mod size;
 
 pub use bad_shape::BadShape;
 pub use defs::{MAX_BYTES, MAX_MAPS, MapDefs};
 pub use maps::Maps;
+pub use scx_semantics::Size;
 pub use shape::{MAX_ENTRIES, MAX_VALUE_SIZE, Shape};
-pub use size::Size;

@@ -1,15 +1,15 @@
 ghost use Rattle.std.specs.Prelude.{◌≡◌, ℕ, ◌≤◌, ◌<◌, ◌+◌, ◌↔◌, List, [], length, IsTrue, IfOk};
 ghost use Rattle.std.specs.Borrow.{sem};
-ghost use Rattle.scx_semantics.specs.Elements.{elements, element, with_element};
+ghost use Rattle.scx_semantics.specs.Elements.{elements, element, with_element, number_at, with_number};
 ghost use Rattle.scx_maps.specs.Contents.{zeros, lengths_of, HasShapes};
-ghost use Rattle.scx_maps.specs.Numbers.{bytes_of, number_at, with_number};
+ghost use Rattle.scx_semantics.specs.Memory.{size_bytes};
 ghost use Rattle.scx_maps.specs.Lending.{LendsValue, given_back, shapes_of, all_bytes};
 ghost use Rattle.scx_maps.specs.Layout.{contents_in, place_of};
 
 use crate::defs::{MAX_BYTES, MAX_MAPS, MapDefs};
 use crate::layout::Layout;
 use crate::numbers::{read_number, write_number};
-use crate::size::Size;
+use scx_semantics::Size;
 use std::alloc::{AllocError, Global};
 use std::marker::Model;
 
@@ -116,8 +116,8 @@ impl Maps {
     pub fn load(&self, map: u8, index: u32, offset: u16, size: Size) -> u64
         requires map { map < length self.now }
         requires index { index < length (elements self.now map) }
-        requires offset { offset + bytes_of size ≤ length (element self.now map index) }
-        ensures { result ≡ number_at (element self.now map index) offset size }
+        requires offset { offset + size_bytes size ≤ length (element self.now map index) }
+        ensures { result ≡ number_at (element self.now map index) offset (size_bytes size) }
     {
         read_number(self.value(map, index), offset as usize, size)
     }
@@ -126,9 +126,9 @@ impl Maps {
     pub fn store(&mut self, map: u8, index: u32, offset: u16, size: Size, number: u64)
         requires map { map < length self.old }
         requires index { index < length (elements self.old map) }
-        requires offset { offset + bytes_of size ≤ length (element self.old map index) }
+        requires offset { offset + size_bytes size ≤ length (element self.old map index) }
         ensures stored { let value = element self.old map index in
-            self.new ≡ with_element self.old map index (with_number value offset size number) }
+            self.new ≡ with_element self.old map index (with_number value offset (size_bytes size) number) }
         ensures shapes { lengths_of self.new ≡ lengths_of self.old }
     {
         write_number(self.value_mut(map, index), offset as usize, size, number);
@@ -153,8 +153,8 @@ impl Maps {
 
     /// Writes the lowest bytes of a number from a byte of all maps on, low byte first.
     pub fn store_at(&mut self, place: usize, size: Size, number: u64)
-        requires { place + bytes_of size ≤ length (all_bytes self.old) }
-        ensures { self.new ≡ contents_in (shapes_of self.old) (with_number (all_bytes self.old) place size number) }
+        requires { place + size_bytes size ≤ length (all_bytes self.old) }
+        ensures { self.new ≡ contents_in (shapes_of self.old) (with_number (all_bytes self.old) place (size_bytes size) number) }
     {
         write_number(&mut self.block, place, size, number);
     }

@@ -67,7 +67,7 @@ fn map_of(alloc: Global, number: u64) -> Option<Maps> {
     if maps.value_size(0, 0) < 8 {
         return None;
     }
-    maps.store(0, 0, 0, Size::Eight, number);
+    maps.store(0, 0, 0, Size::DoubleWord, number);
     Some(maps)
 }
 
@@ -75,7 +75,7 @@ fn number_in(maps: &Maps) -> Option<u64> {
     if maps.value_size(0, 0) < 8 {
         return None;
     }
-    Some(maps.load(0, 0, 0, Size::Eight))
+    Some(maps.load(0, 0, 0, Size::DoubleWord))
 }
 
 /// A program, its callback and arguments, the number in the map, and how the run ends, with the number that

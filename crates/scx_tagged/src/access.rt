@@ -1,6 +1,5 @@
 ghost use Rattle.std.specs.Prelude.{◌≡◌, ◌≤◌};
 ghost use Rattle.scx_maps.specs.Contents.{lengths_of};
-ghost use Rattle.scx_maps.specs.Numbers.{bytes_of};
 ghost use Rattle.scx_semantics.specs.Elements.{Maps};
 ghost use Rattle.scx_semantics.specs.Machine.{Machine};
 ghost use Rattle.scx_semantics.specs.Memory.{size_bytes, access_size};
@@ -89,7 +88,7 @@ pub fn store<E: Env>(
             let Value::Number(n) = value else {
                 return Effect::Stuck;
             };
-            maps.store(map, index, at, map_size(size), n);
+            maps.store(map, index, at, size, n);
             Effect::Next
         }
         Place::InTask(task, field) => store_field(env, task, field, value),
@@ -126,16 +125,4 @@ fn store_field<E: Env>(env: &mut E, task: TaskId, field: Field, value: Value) ->
     }
     env.store(task, field, n);
     Effect::Next
-}
-
-/// A size as maps have it.
-fn map_size(size: Size) -> scx_maps::Size
-    ensures { bytes_of result ≡ size_bytes size }
-{
-    match size {
-        Size::Byte => scx_maps::Size::One,
-        Size::HalfWord => scx_maps::Size::Two,
-        Size::Word => scx_maps::Size::Four,
-        Size::DoubleWord => scx_maps::Size::Eight,
-    }
 }
