@@ -11,7 +11,6 @@ mod bad_shape;
 mod defs;
 mod layout;
 mod maps;
-mod numbers;
 mod shape;
 
 pub use bad_shape::BadShape;

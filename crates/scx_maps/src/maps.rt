@@ -8,7 +8,7 @@ ghost use Rattle.scx_maps.specs.Layout.{contents_in, place_of};
 
 use crate::defs::{MAX_BYTES, MAX_MAPS, MapDefs};
 use crate::layout::Layout;
-use crate::numbers::{read_number, write_number};
+use scx_arithmetic::{read_number, write_number};
 use scx_semantics::Size;
 use std::alloc::{AllocError, Global};
 use std::marker::Model;

@@ -1,13 +1,11 @@
-ghost use Rattle.std.specs.Prelude.{◌≡◌, ◌+◌, ◌%◌, ◌≤◌, IfSome, length};
-ghost use Rattle.byteorder.specs.Endian.{little_number};
+ghost use Rattle.std.specs.Prelude.{◌≡◌, ◌+◌, ◌%◌, ◌≤◌, IfSome};
 ghost use Rattle.scx_semantics.specs.Arithmetic.{shifted};
 ghost use Rattle.scx_semantics.specs.Elements.{element, number_at};
 ghost use Rattle.scx_semantics.specs.Memory.{room_at, size_bytes, access_size, read_as};
 ghost use Rattle.scx_semantics.specs.Places.{address};
 ghost use Rattle.scx_tagged.specs.Places.{place_of, Lies, LiesInElement};
 
-use byteorder::{ByteOrder, LittleEndian};
-use scx_arithmetic::shifted;
+use scx_arithmetic::{read, shifted};
 use scx_isa::{Access, Field, Pointer, STACK_SIZE, Size, TaskId, Value};
 use scx_maps::Maps;
 
@@ -66,25 +64,5 @@ pub fn element_number(maps: &Maps, map: u8, index: u32, at: u16, access: Access)
     requires { LiesInElement maps.now map index at (size_bytes (access_size access)) }
     ensures { result ≡ read_as access (number_at (element maps.now map index) at (size_bytes (access_size access))) }
 {
-    first_number(&maps.value(map, index)[usize::from(at)..], access)
-}
-
-/// What a load makes of the first bytes.
-fn first_number(bytes: &[u8], access: Access) -> u64
-    requires { size_bytes (access_size access) ≤ length bytes.now }
-    ensures { result ≡ read_as access (little_number (size_bytes (access_size access)) bytes.now) }
-{
-    match access {
-        Access::Byte => u64::from(bytes[0]),
-        Access::HalfWord => u64::from(LittleEndian::read_u16(bytes)),
-        Access::Word => u64::from(LittleEndian::read_u32(bytes)),
-        Access::DoubleWord => LittleEndian::read_u64(bytes),
-        Access::SignedByte => i64::from(bytes[0].cast_signed()).cast_unsigned(),
-        Access::SignedHalfWord => {
-            i64::from(LittleEndian::read_u16(bytes).cast_signed()).cast_unsigned()
-        }
-        Access::SignedWord => {
-            i64::from(LittleEndian::read_u32(bytes).cast_signed()).cast_unsigned()
-        }
-    }
+    read(maps.value(map, index), access, usize::from(at))
 }
