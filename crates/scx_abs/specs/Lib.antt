@@ -1,12 +1,12 @@
 pub mod Kinds
 pub mod Cells
 pub mod States
-pub mod Stands
 pub mod Faults
 pub mod Areas
 pub mod Checks
 pub mod Calls
 pub mod Rules
-pub mod Changes
+pub mod Stands
 pub mod Laws
 pub mod Monotone
+pub mod Changes

@@ -3,10 +3,10 @@ pub mod Queues
 pub mod Errors
 pub mod Calls
 pub mod Laws
-pub mod Words
-pub mod Links
 pub mod Heaps
 pub mod Arrays
-pub mod Order
+pub mod Links
+pub mod Words
 pub mod Holdings
+pub mod Order
 pub mod Kept

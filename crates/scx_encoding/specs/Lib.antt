@@ -1,5 +1,5 @@
 pub mod Slots
 pub mod Opcodes
 pub mod Spelling
-pub mod Faults
 pub mod Reading
+pub mod Faults

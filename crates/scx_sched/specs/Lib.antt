@@ -1,8 +1,8 @@
 pub mod Once
 pub mod Kept
 pub mod Ranges
-pub mod Accepted
 pub mod Sim
-pub mod Laws
 pub mod Places
 pub mod Left
+pub mod Accepted
+pub mod Laws

@@ -1,5 +1,5 @@
 pub mod Lines
+pub mod Report
+pub mod Runs
 pub mod Writing
 pub mod Tracing
-pub mod Runs
-pub mod Report

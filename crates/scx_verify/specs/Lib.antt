@@ -1,7 +1,7 @@
 pub mod Typing
 pub mod Forward
 pub mod Faults
-pub mod Pass
 pub mod Translation
 pub mod Operations
+pub mod Pass
 pub mod Laws
