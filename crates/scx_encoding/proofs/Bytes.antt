@@ -11,6 +11,7 @@ use Rattle.scx_encoding.specs.Slots.{slot_bytes, slot_at, slots_in, IsSlot}
 abbrev pub IsBytes : List ℕ → Type 0
 IsBytes bytes = (i : ℕ) → get_or bytes i 0 < 256
 
+-- what stands behind some bytes are bytes
 pub IsBytes-drop : (n : ℕ) (bytes : List ℕ) → IsBytes bytes → IsBytes (drop n bytes)
 IsBytes-drop n bytes h i = rw get_or-drop (h (n + i))
 
@@ -69,20 +70,24 @@ slot_again s rest fits =
 
 -- ---- all slots
 
+-- the slots that bytes hold spell those bytes
 pub slots_spelled : (n : ℕ) (bytes : List ℕ) → length bytes ≡ 8 * n → IsBytes bytes → flat_map slot_bytes (slots_in n bytes) ≡ bytes
 slots_spelled zero [] e fits = refl
 slots_spelled zero (b ∷ bytes) e fits = absurd (omega arith)
 slots_spelled (suc n) bytes e fits =
     rw (slots_spelled n (drop 8 bytes) (omega (arith, length-drop 8 bytes)) (IsBytes-drop 8 bytes fits)) (slot_front bytes (omega arith) fits)
 
+-- they fit their fields
 pub slots_fit : (n : ℕ) (bytes : List ℕ) → IsBytes bytes → AllByRecursion IsSlot (slots_in n bytes)
 slots_fit zero bytes fits = tt
 slots_fit (suc n) bytes fits = (slot_fits bytes fits, slots_fit n (drop 8 bytes) (IsBytes-drop 8 bytes fits))
 
+-- what spells slots holds those slots
 pub slots_again : (slots : List Slot) → AllByRecursion IsSlot slots → slots_in (length slots) (flat_map slot_bytes slots) ≡ slots
 slots_again [] fits = refl
 slots_again (s ∷ slots) fits = rw (slot_again s (flat_map slot_bytes slots) fits.0, slots_again slots fits.1) refl
 
+-- a slot is spelled by eight bytes
 pub length-slots : (slots : List Slot) → length (flat_map slot_bytes slots) ≡ 8 * length slots
 length-slots [] = refl
 length-slots (s ∷ slots) = omega (arith, length-slots slots)

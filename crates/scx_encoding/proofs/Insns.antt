@@ -47,6 +47,7 @@ pub bind_ok : {A B E : Type 0} (r : Result A E) (f : A → Result B E) (y : B) �
 bind_ok (Ok x) f y e = (x, refl, e)
 bind_ok (Err d) f y e = absurd (cc)
 
+-- an option that gave a value had it
 pub ok_or_ok : {A E : Type 0} (o : Option A) (d : E) (x : A) → ok_or o d ≡ Ok x → o ≡ Some x
 ok_or_ok (Some y) d x e = let same : y ≡ x = cc in ap (λ z. Some z) same
 ok_or_ok None d x e = absurd (cc)
@@ -54,6 +55,7 @@ ok_or_ok None d x e = absurd (cc)
 abbrev pub done : {A E : Type 0} → A → Result A E
 done x = Ok x
 
+-- results that are equal hold equal values
 pub ok_is : {A E : Type 0} (x y : A) → done {E = E} x ≡ done y → x ≡ y
 ok_is x y e = cc
 
@@ -62,6 +64,7 @@ both : (a b : Bool) → (a && b) ≡ true → (a ≡ true) × (b ≡ true)
 both true b e = (refl, e)
 both false b e = absurd (cc)
 
+-- slots that the test finds the same are equal
 pub is_same : (s t : Slot) → same_slot s t ≡ true → s ≡ t
 is_same s t e =
     let p = both _ _ e in
@@ -75,6 +78,7 @@ is_same s t e =
     let f : s.immediate ≡ t.immediate = eqb-true _ _ p.1 in
     same_fields t s.opcode s.destination s.source s.offset s.immediate a b c d f
 
+-- and it finds each the same as itself
 pub same_is : (s : Slot) → same_slot s s ≡ true
 same_is s = rw (eq-eqb s.opcode s.opcode refl, eq-eqb s.destination s.destination refl, eq-eqb s.source s.source refl, eq-eqb s.offset s.offset refl, eq-eqb s.immediate s.immediate refl) refl
 
@@ -186,6 +190,7 @@ pub record Reads (s : Slot) (next : Option Slot) (i : Insn) : Type 0 where
   pub insn : IsInsn i
   pub second : is_wide i ≡ true → is_none next ≡ false
 
+-- an instruction that is read from slots is the one that they spell
 pub insn_is_spelled : (s : Slot) (next : Option Slot) (i : Insn) → IsSlot s → HalfFits next → insn_at s next ≡ Ok i → Reads s next i
 insn_is_spelled s next i fits half e =
     let p = bind_ok (form_of s.opcode s.source) _ i e in
@@ -254,6 +259,7 @@ store_again size.Word source.Register s = refl
 store_again size.DoubleWord source.Immediate s = refl
 store_again size.DoubleWord source.Register s = refl
 
+-- the form of an instruction is read from its opcode
 pub form_again : (i : Insn) → form_of (opcode (form i)) (source_field i) ≡ Ok (form i)
 form_again (insn.Binary w o d x) = binary_again o w (source_of x) (operand_register x)
 form_again (insn.Negate Bits32 d) = refl
@@ -356,6 +362,7 @@ has_second i next t = refl
 whole_again : (i : Insn) (next : Option Slot) → Follows (second_slot i) next → whole (first_slot i) next i ≡ Ok i
 whole_again i next t = rw (same_is (first_slot i), has_second i next t) refl
 
+-- the slots that spell an instruction are read as it
 pub insn_is_read : (i : Insn) (next : Option Slot) → IsInsn i → Follows (second_slot i) next → insn_at (first_slot i) next ≡ Ok i
 insn_is_read i next h t = rw (form_again i, built_again i next h t) (whole_again i next t)
 
@@ -444,6 +451,7 @@ opcode_lt GotoLong = lit< tt
 opcode_lt Call = lit< tt
 opcode_lt Exit = lit< tt
 
+-- numbers of registers are below 11
 pub number_lt : (r : Register) → number r < 11
 number_lt R0 = lit< tt
 number_lt R1 = lit< tt
@@ -526,6 +534,7 @@ immediate_lt (insn.GotoLong offset) h = low_32 offset h
 immediate_lt (insn.Call k) h = low_32 k h
 immediate_lt i h = lit< tt
 
+-- the first slot of an instruction fits its fields
 pub first_is_slot : (i : Insn) → IsInsn i → IsSlot (first_slot i)
 first_is_slot i h = record {
   opcode = opcode_lt (form i);
@@ -538,6 +547,7 @@ first_is_slot i h = record {
 half_is_slot : (k : ℕ) → k < 2 ^ 32 → IsSlot (half k)
 half_is_slot k h = record { opcode = lit< tt; destination = lit< tt; source = lit< tt; offset = lit< tt; immediate = h }
 
+-- and so does the second
 pub second_is_slot : (i : Insn) → IsInsn i → HalfFits (second_slot i)
 second_is_slot (insn.Constant d low high) h = half_is_slot (cast_unsigned w32 high) (low_32 high h.1)
 second_is_slot (insn.MapReference d k) h = half_is_slot 0 (lit< tt)

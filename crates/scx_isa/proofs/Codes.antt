@@ -21,6 +21,7 @@ use Rattle.scx_encoding.specs.Reading.{insn_at, half_at, place_at, due_after}
 use Rattle.scx_isa.specs.Reading.{first, placed, read_slots}
 use Rattle.scx_encoding.proofs.Insns.{bind_ok, done, ok_is, is_same, same_is, HalfFits, Reads, insn_is_spelled, Follows, insn_is_read, first_is_slot, second_is_slot}
 
+-- wide instructions are those with a second slot
 pub wide_is : (i : Insn) → is_wide i ≡ is_some (second_slot i)
 wide_is (insn.Constant d low high) = refl
 wide_is (insn.MapReference d k) = refl
@@ -119,6 +120,7 @@ holds_due k due s slots code p rest e place goes whole others =
     let same : None ∷ rest ≡ code = rw (← place) whole in
     subst (Holds (Some due) (s ∷ slots)) same (holds_half due s slots rest e (others goes_on))
 
+-- what is read from slots is spelled by them
 pub code_is_spelled : (k : ℕ) (due : Option Slot) (slots : List Slot) (code : Code) → AllByRecursion IsSlot slots → HasRoom due slots → read_slots k due slots ≡ Ok code → Holds due slots code
 unfolding read_slots
 code_is_spelled k None [] code fits room e =
@@ -146,6 +148,7 @@ slots_fit_insn i rest h all = (first_is_slot i h, go (second_slot i) (second_is_
     go None f = all
     go (Some t) f = (f, all)
 
+-- the slots that spell a program fit their fields
 pub code_slots_fit : (b : Bool) (code : Code) → IsCode b code → AllByRecursion IsSlot (code_slots code)
 code_slots_fit false [] h = tt
 code_slots_fit true [] h = absurd h
@@ -154,6 +157,7 @@ code_slots_fit true (None ∷ code) h = code_slots_fit false code h
 code_slots_fit false (Some i ∷ code) h = slots_fit_insn i (code_slots code) h.0 (code_slots_fit (is_wide i) code h.1)
 code_slots_fit true (Some i ∷ code) h = absurd h
 
+-- a second slot stands in front of what follows it
 pub follows_first : (t : Option Slot) (slots : List Slot) → Follows t (first (option_to_list t ++ slots))
 follows_first None slots = tt
 follows_first (Some t) slots = refl
@@ -185,6 +189,7 @@ length-code_slots (Some due) (Some i ∷ code) h = absurd h
 
 -- ---- a program's places, one by one
 
+-- each instruction of a program fits its fields
 pub place_fits : (b : Bool) (code : Code) (k : ℕ) → IsCode b code → ForSome (get_or code k None) IsInsn
 place_fits b [] k h = λ i e. absurd (cc)
 place_fits true (None ∷ code) zero h = λ i e. absurd (cc)

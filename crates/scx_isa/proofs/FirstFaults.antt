@@ -214,6 +214,7 @@ slots_fail bytes fault slot long (From_half n e d f) =
     let same : suc n ≡ slot = omega arith in
     subst (IsFirstFault bytes fault) same (subst (λ d. IsFirstFault bytes d (suc n)) d (In_half n long f))
 
+-- the fault that reading gives is the first
 pub fault_is_first : (bytes : List ℕ) (fault : DecodeFault) (slot : ℕ) → IsBytes bytes → read_program bytes ≡ Err (fault, slot) → IsFirstFault bytes fault slot
 fault_is_first bytes fault slot fits e = go (nat_eq (length bytes) 0) (nat_lt 0 (length bytes % 8)) (nat_lt MAX_SLOTS (length bytes / 8)) refl refl refl
   where
@@ -229,6 +230,7 @@ fault_is_first bytes fault slot fits e = go (nat_eq (length bytes) 0) (nat_lt 0 
         slots_fail bytes fault slot (record { some = omega arith; whole = omega (arith, ltb-false _ _ y); fits = ltb-false _ _ z })
         (reads_fail 0 _ fault slot (slots_fit (length bytes / 8) bytes fits) read)
 
+-- the first fault is the one that reading gives
 pub first_fault_is_read : (bytes : List ℕ) (fault : DecodeFault) (slot : ℕ) → IsFirstFault bytes fault slot → read_program bytes ≡ Err (fault, slot)
 first_fault_is_read bytes fault slot (No_byte none) = rw none refl
 first_fault_is_read bytes fault slot (Cut_slot cut) =
@@ -240,10 +242,12 @@ first_fault_is_read bytes fault slot (Too_long whole many) =
 first_fault_is_read bytes fault slot (At_insn _ _ long f) = slots_are_read bytes long ∙ insn_fails _ fault slot f
 first_fault_is_read bytes fault slot (In_half k long f) = slots_are_read bytes long ∙ half_fails _ k f
 
+-- so there is at most one
 pub one_first_fault : (bytes : List ℕ) (fault other : DecodeFault) (slot place : ℕ) → IsFirstFault bytes fault slot → IsFirstFault bytes other place → (fault ≡ other) × (slot ≡ place)
 one_first_fault bytes fault other slot place p q =
     same_fault fault other slot place (sym (first_fault_is_read bytes fault slot p) ∙ first_fault_is_read bytes other place q)
 
+-- bytes with a first fault spell no program
 pub faulty_bytes_spell_nothing : (bytes : List ℕ) (fault : DecodeFault) (slot : ℕ) (code : Code) → IsFirstFault bytes fault slot → ¬ Spells bytes code
 faulty_bytes_spell_nothing bytes fault slot code first spells =
     let bad : Ok code ≡ failed fault slot = sym (program_is_read bytes code spells) ∙ first_fault_is_read bytes fault slot first in
@@ -251,6 +255,7 @@ faulty_bytes_spell_nothing bytes fault slot code first spells =
 
 -- ---- what a decoder that gives this reading ensures
 
+-- a refusal names the first fault
 pub is_refused : (bytes : List ℕ) (r : Result Code DecodeError) → IsBytes bytes → Gives (λ code. code) r (read_program bytes)
     → (r ≡ Err errors.OutOfMemory → HasProgramLength bytes) → IfErr r (IsRefusal bytes)
 is_refused bytes (Ok code) fits e memory = tt

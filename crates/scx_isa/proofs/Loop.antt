@@ -42,6 +42,7 @@ step_of k due n rest p e h =
     let behind : length (drop 8 rest) ≡ 8 * n = omega (arith, length-drop 8 rest) in
     rw (front_is n (drop 8 rest) behind, h) refl
 
+-- one slot more is read
 pub goes_on : (front : Code) (slots k : ℕ) (due : Option Slot) (rest : List ℕ) (p : Option Insn) (total : Result Code (DecodeFault × ℕ)) → k < slots → length rest ≡ 8 * (slots - k)
     → placed k (place_at due (slot_at rest) (front_slot (drop 8 rest))) ≡ Ok p
     → with_front front (rest_of slots k due rest) ≡ total
@@ -64,6 +65,7 @@ fails_of k due n rest e l h =
     let behind : length (drop 8 rest) ≡ 8 * n = omega (arith, length-drop 8 rest) in
     rw (front_is n (drop 8 rest) behind, h) refl
 
+-- a slot that is refused ends the reading
 pub ends : (error : DecodeError) (front : Code) (slots k : ℕ) (due : Option Slot) (rest : List ℕ) (total : Result Code (DecodeFault × ℕ)) → k < slots → length rest ≡ 8 * (slots - k)
     → Fails error (placed k (place_at due (slot_at rest) (front_slot (drop 8 rest))))
     → with_front front (rest_of slots k due rest) ≡ total
@@ -75,6 +77,7 @@ ends (errors.Refused fault slot) front slots k due rest total lt e h so_far =
     sym so_far ∙ one
 ends errors.OutOfMemory front slots k due rest total lt e h so_far = tt
 
+-- past the last slot the reading is done
 pub is_done : (front : Code) (slots k : ℕ) (due : Option Slot) (rest : List ℕ) (total : Result Code (DecodeFault × ℕ)) → slots ≤ k
     → with_front front (rest_of slots k due rest) ≡ total → total ≡ Ok front
 unfolding read_slots

@@ -41,6 +41,7 @@ lengths bytes code e = go (nat_eq (length bytes) 0) (nat_lt 0 (length bytes % 8)
           read = rw (x, y, z) at e;
         }
 
+-- what is read from bytes is the program that they spell
 pub program_is_spelled : (bytes : List ℕ) (code : Code) → IsBytes bytes → read_program bytes ≡ Ok code → Spells bytes code
 program_is_spelled bytes code fits e =
     let has = lengths bytes code e in
@@ -60,6 +61,7 @@ spelling_length code h =
     let bytes = length-slots (code_slots code) in
     omega (arith, slots, bytes)
 
+-- bytes that spell a program are as many as one has
 pub program_has_length : (bytes : List ℕ) (code : Code) → Spells bytes code → HasProgramLength bytes
 program_has_length bytes code h =
     let some : 0 < length code = h.program.some in
@@ -76,6 +78,7 @@ slots_are_read bytes long =
     let fits : nat_lt MAX_SLOTS (length bytes / 8) ≡ false = le-ltb _ _ long.fits in
     rw (nonzero, whole, fits) refl
 
+-- the spelling of a program is read as it
 pub spelling_is_read : (code : Code) → IsProgram code → read_program (spelling code) ≡ Ok code
 spelling_is_read code h =
     let slots = length-code_slots None code h.insns in
@@ -85,6 +88,7 @@ spelling_is_read code h =
     slots_are_read (spelling code) (program_has_length (spelling code) code (record { program = h; spelled = refl }))
     ∙ rw (count, same) (code_is_read 0 None code h.insns)
 
+-- and so are all bytes that spell it
 pub program_is_read : (bytes : List ℕ) (code : Code) → Spells bytes code → read_program bytes ≡ Ok code
 program_is_read bytes code h = rw h.spelled (spelling_is_read code h.program)
 
@@ -94,14 +98,17 @@ read_as code = Ok code
 same_code : (code other : Code) → read_as code ≡ read_as other → code ≡ other
 same_code code other e = cc
 
+-- bytes spell one program at most
 pub spells_one : (bytes : List ℕ) (code other : Code) → Spells bytes code → Spells bytes other → code ≡ other
 spells_one bytes code other p q = same_code code other (sym (program_is_read bytes code p) ∙ program_is_read bytes other q)
 
 -- ---- what a decoder that gives this reading ensures
 
+-- what a function gives that reads is the program that the bytes spell
 pub is_decoded : (bytes : List ℕ) (r : Result Code DecodeError) → IsBytes bytes → Gives (λ code. code) r (read_program bytes) → IfOk r (λ code. Spells bytes code)
 is_decoded bytes (Ok code) fits e = program_is_spelled bytes code fits e
 is_decoded bytes (Err error) fits e = tt
 
+-- and it gives the program wherever they spell one
 pub is_given : (bytes : List ℕ) (r : Result Code DecodeError) → Gives (λ code. code) r (read_program bytes) → (code : Code) → Spells bytes code → Gives (λ code. code) r (Ok code)
 is_given bytes r gives code spells = subst (Gives (λ code. code) r) (program_is_read bytes code spells) gives

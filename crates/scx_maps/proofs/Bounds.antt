@@ -8,9 +8,11 @@ use Rattle.scx_maps.specs.declared.defs.TheConstants.{MAX_MAPS}
 use Rattle.scx_maps.specs.Limits.{IsWithinLimits, byte_count, total_bytes}
 use Rattle.scx_maps.specs.Places.{empty_place}
 
+-- of one map
 pub byte_count-le : (s : Shape) → IsWithinLimits s → byte_count s ≤ 268435456
 byte_count-le s limits = mul-le-mul limits.entries.within limits.value_size.within
 
+-- of all maps
 pub total_bytes-le : (shapes : List Shape) → length shapes ≤ MAX_MAPS → All IsWithinLimits shapes → total_bytes shapes ≤ 4294967296
 total_bytes-le shapes count each =
     let sum = sum_by-le byte_count 268435456 shapes (λ k d below. byte_count-le (get_or shapes k d) (each k d below)) in

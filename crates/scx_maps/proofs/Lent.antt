@@ -11,6 +11,7 @@ use Rattle.scx_maps.specs.Lending.{written_over, spilled, given_back}
 use Rattle.scx_maps.proofs.Over.{over}
 use Rattle.scx_maps.proofs.Blocks.{map_there, entry_there, value_of-contents_in, contents_in-over, place_of-fits, all_bytes-contents_in, shapes_of-contents_in}
 
+-- an entry has as many bytes as its shape says
 pub length-value_of : (shapes : List Shape) (m index : ℕ) (block : List ℕ) → total_bytes shapes ≤ length block → m < length shapes → index < (shape_at shapes m).entries
     → length (element (contents_in shapes block) m index) ≡ (shape_at shapes m).value_size
 length-value_of shapes m index block fits below within =
@@ -32,6 +33,7 @@ over-long a w xs fits =
 abbrev pub kept : ℕ → List ℕ → List ℕ → List ℕ
 kept place w block = take (length block) (over place w block ++ drop (length (over place w block)) block)
 
+-- bytes written at the place of an entry are given back to it
 pub lent : (shapes : List Shape) (m index : ℕ) (w block : List ℕ) → IsBlockOf shapes block → m < length shapes → index < (shape_at shapes m).entries
     → contents_in shapes (kept (place_of shapes m index) w block) ≡ given_back (contents_in shapes block) m index w
 lent shapes m index w block holds below within = go _ refl
@@ -58,6 +60,7 @@ lent shapes m index w block holds below within = go _ refl
         ap (λ xs. contents_in shapes xs) (take-append-le (length block) (over (place_of shapes m index) w block) _ (over-long (place_of shapes m index) w block (omega (arith, holds.full, place_of-fits shapes m index below within))))
         ∙ same
 
+-- the same of maps that the block holds
 pub lent_at : (shapes : List Shape) (block : List ℕ) (maps : Maps) (m index start len : ℕ) (w : List ℕ) → IsBlockOf shapes block → contents_in shapes block ≡ maps
     → m < length maps → index < length (elements maps m) → start ≡ place_of shapes m index → len ≡ length block
     → contents_in shapes (take len (over start w block ++ drop (length (over start w block)) block)) ≡ given_back maps m index w

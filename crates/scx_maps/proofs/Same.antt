@@ -6,6 +6,7 @@ use Rattle.std.proofs.lemmas.Slice.Eq.{slice_eq-Decides}
 use Rattle.scx_maps.specs.declared.shape.Shape.{Shape}
 use Rattle.scx_maps.specs.Sameness.{same_shape, same_shapes}
 
+-- of two shapes
 pub Decides-same_shape : (s t : Shape) → Decides (same_shape s t) (s ≡ t)
 Decides-same_shape s t =
     Decides-like {P = (s.entries ≡ t.entries) × (s.value_size ≡ t.value_size)} {Q = s ≡ t} (same_shape s t)
@@ -13,5 +14,6 @@ Decides-same_shape s t =
     (λ same. (ap (λ u. u.entries) same, ap (λ u. u.value_size) same))
     (Decides-and _ _ (Decides-eqb s.entries t.entries) (Decides-eqb s.value_size t.value_size))
 
+-- of two lists
 pub Decides-same_shapes : (shapes others : List Shape) (r : Bool) → r ≡ same_shapes shapes others → Decides r (shapes ≡ others)
 Decides-same_shapes shapes others r is = slice_eq-Decides Decides-same_shape shapes others r is

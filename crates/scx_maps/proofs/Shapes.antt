@@ -10,6 +10,7 @@ use Rattle.scx_semantics.specs.Elements.{HoldBytes}
 use Rattle.scx_maps.specs.Contents.{zeros, lengths_of, HasShapes}
 use Rattle.scx_maps.specs.Places.{IsFilledUp, filled_up, empty_place}
 
+-- shapes with empty places behind them fill all places
 pub fills_up : (shapes self rest : List Shape) → self ≡ shapes → rest ≡ replicate (MAX_MAPS - length shapes) empty_place → AreWithinLimits shapes
     → IsFilledUp (self ++ rest) (length shapes)
 fills_up shapes self rest same unused limits =
@@ -22,6 +23,7 @@ fills_up shapes self rest same unused limits =
       limits = subst Limits (sym front) limits;
     }
 
+-- entries of zeros are as long as they were made
 pub lengths-replicate : (n size : ℕ) → map (λ (v : List ℕ). length v) (replicate n (replicate size 0)) ≡ replicate n size
 lengths-replicate zero size = refl
 lengths-replicate (suc n) size = let head = length-replicate size 0 in let tail = lengths-replicate n size in λ i. head i ∷ tail i
@@ -40,5 +42,6 @@ HoldBytes-zeros [] m index = All-nil (λ b. b < 256)
 HoldBytes-zeros (s ∷ shapes) zero index = bytes-replicate s.entries s.value_size index
 HoldBytes-zeros (s ∷ shapes) (suc m) index = HoldBytes-zeros shapes m index
 
+-- maps of zeros have their shapes
 pub HasShapes-zeros : (shapes : List Shape) → HasShapes shapes (zeros shapes)
 HasShapes-zeros shapes = record { lengths = lengths_of-zeros shapes; bytes = HoldBytes-zeros shapes }

@@ -7,10 +7,12 @@ use Rattle.std.proofs.lemmas.List.{take-replicate, drop-replicate}
 use Rattle.scx_maps.specs.Layout.{values_in}
 use Rattle.scx_maps.proofs.Over.{over, take-over, drop-over}
 
+-- there are as many values as are asked for
 pub length-values_in : (n size : ℕ) (block : List ℕ) → length (values_in n size block) ≡ n
 length-values_in zero size block = refl
 length-values_in (suc n) size block = ap (λ k. suc k) (length-values_in n size (drop size block))
 
+-- each stands behind those in front of it
 pub get_or-values_in : (n size index : ℕ) (block : List ℕ) → index < n → get_or (values_in n size block) index [] ≡ take size (drop (index * size) block)
 get_or-values_in zero size index block below = absurd (omega arith)
 get_or-values_in (suc n) size zero block below =
@@ -58,6 +60,7 @@ flat_map-values_in (suc n) size block =
     let split : size + n * size ≡ suc n * size = omega arith in
     ap (λ xs. take size block ++ xs) (flat_map-values_in n size (drop size block)) ∙ sym (take-add size (n * size) block) ∙ ap (λ k. take k block) split
 
+-- in zeros they are zeros
 pub values_in-replicate : (n size rest : ℕ) → n * size ≤ rest → values_in n size (replicate rest 0) ≡ replicate n (replicate size 0)
 values_in-replicate zero size rest fits = refl
 values_in-replicate (suc n) size rest fits =

@@ -111,17 +111,21 @@ low_fits : (w : Width) (n : ℕ) → n < 2 ^ 64 → low w n < 2 ^ bits w
 low_fits Bits32 n h = omega arith
 low_fits Bits64 n h = h
 
+-- the part of an operand that an instruction takes
 pub low_below : (w : Width) (n : ℕ) → n < 2 ^ 64 → low w n < 2 ^ 64
 low_below w n h = width_below w (low w n) (low_fits w n h)
 
+-- what arithmetic computes
 pub compute_below : (w : Width) (o : Operation) (a b : ℕ) → a < 2 ^ 64 → b < 2 ^ 64 → compute w o a b < 2 ^ 64
 compute_below w o a b p q = width_below w (compute w o a b) (operated w o (low w a) (low w b) (low_fits w a p) (low_fits w b q))
 
+-- a negative
 pub negated_below : (w : Width) (n : ℕ) → negated w n < 2 ^ 64
 negated_below w n = let some = positive w in width_below w (negated w n) (omega arith)
 
 -- ---- extensions and byte orders
 
+-- a number extended with its sign
 pub extended_below : (e : Extension) (n : ℕ) → extended e n < 2 ^ 64
 extended_below Low8To32 n = omega (arith, ints)
 extended_below Low16To32 n = omega (arith, ints)
@@ -139,6 +143,7 @@ swapped_below order.Bits16 n = omega arith
 swapped_below order.Bits32 n = omega arith
 swapped_below order.Bits64 n = omega arith
 
+-- a number with its bytes in another order
 pub reordered_below : (o : Order) (w : OrderWidth) (n : ℕ) → n < 2 ^ 64 → reordered o w n < 2 ^ 64
 reordered_below Little w n h = kept_below w n h
 reordered_below Big w n h = swapped_below w (kept w n)
@@ -146,19 +151,23 @@ reordered_below Swapped w n h = swapped_below w (kept w n)
 
 -- ---- what stands in an instruction
 
+-- an immediate
 pub immediate_below : (w : Width) (k : ℤ) → FitsSigned w32 k → immediate w k < 2 ^ 64
 immediate_below Bits32 k h = omega (arith, ints)
 immediate_below Bits64 k h = omega (arith, ints)
 
+-- a constant in two halves
 pub constant_below : (low_half high_half : ℤ) → FitsSigned w32 low_half → FitsSigned w32 high_half → constant low_half high_half < 2 ^ 64
 constant_below low_half high_half p q = omega (arith, ints)
 
 -- ---- what the host answers
 
+-- the answer of a helper
 pub helper_answer_below : (h : Helper) (arguments : List Value) (n : ℕ) → Fits (Call h arguments) (Number n) → n < 2 ^ 64
 helper_answer_below TaskByPid arguments n fits = omega (arith, fits)
 helper_answer_below h arguments n fits = fits
 
+-- what a field holds
 pub field_below : (t : TaskId) (f : Field) (n : ℕ) → Fits (Load t f) (Number n) → n < 2 ^ 64
 field_below t Slice n fits = fits
 field_below t DsqVtime n fits = fits

@@ -78,6 +78,7 @@ stuck_final o e = rw e tt
 same_answer : (n n' : ℕ) → Ends n ≡ Ends n' → n ≡ n'
 same_answer n n' e = cc
 
+-- two runs to the end agree
 pub ends_once : (W : Type 0) → OneEnd W
 ends_once W f g c code a maps w answer answer' steps steps' left left' v v' r r' =
     let same = one_end (graph f g) (graph_is f g) c code r.before r'.before 0 (start a maps) w r.slot r'.slot r.state r'.state v v' r.leads (ends_final _ _ r.ends) r'.leads (ends_final _ _ r'.ends) in
@@ -85,11 +86,13 @@ ends_once W f g c code a maps w answer answer' steps steps' left left' v v' r r'
     let answers : Ends answer ≡ Ends answer' = sym r.ends ∙ here ∙ r'.ends in
     (same_answer answer answer' answers, r.length ∙ ap suc same.steps ∙ sym r'.length, r.left ∙ ap (λ (k : Machine). k.maps) same.state ∙ sym r'.left, same.outside)
 
+-- two runs that get stuck agree
 pub stuck_once : (W : Type 0) → OneStuck W
 stuck_once W f g c code a maps w slot slot' steps steps' left left' v v' h h' =
     let same = one_end (graph f g) (graph_is f g) c code steps steps' 0 (start a maps) w slot slot' h.state h'.state v v' h.leads (stuck_final _ h.stuck) h'.leads (stuck_final _ h'.stuck) in
     (same.slot, same.steps, h.left ∙ ap (λ (k : Machine). k.maps) same.state ∙ sym h'.left, same.outside)
 
+-- a run that ends doesn't get stuck
 pub not_both : (W : Type 0) → EndsOrGetsStuck W
 not_both W f g c code a maps w answer steps slot steps' left left' v v' r h =
     let same = one_end (graph f g) (graph_is f g) c code r.before steps' 0 (start a maps) w r.slot slot r.state h.state v v' r.leads (ends_final _ _ r.ends) h.leads (stuck_final _ h.stuck) in
