@@ -3,3 +3,4 @@ pub mod Numbers
 pub mod Bytes
 pub mod CarryingOver
 pub mod EndedRuns
+pub mod Lists

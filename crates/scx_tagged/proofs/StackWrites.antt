@@ -5,7 +5,8 @@ use Rattle.scx_semantics.specs.declared.values.StackByte.{StackByte}
 use Rattle.scx_semantics.specs.declared.values.StackByte.TheVariants.{Unwritten, Byte, Part}
 use Rattle.scx_semantics.specs.Memory.{Stack, write, number_bytes, parts}
 use Rattle.scx_tagged.specs.Stack.{part_of, byte_of, stack_of}
-use Rattle.scx_tagged.proofs.Lists.{over, low_bytes, length-low_bytes, get_or-put_over, bytes_low_first-low}
+use Rattle.scx_semantics.proofs.Lists.{over, low_bytes, length-low_bytes, bytes_low_first-low}
+use Rattle.scx_tagged.proofs.Lists.{get_or-put_over}
 use Rattle.std.specs.Int.{bytes_low_first}
 use borrow.Author.Tests.{eqb-true, eqb-false}
 use Rattle.std.proofs.lemmas.Grind.{get_or-set_at}
