@@ -26,7 +26,7 @@ use Rattle.scx_world.specs.declared.faults.Fault.TheVariants.{NoSuchQueue, NoSuc
 use Rattle.scx_world.specs.Ids.{global, local_on}
 use Rattle.scx_world.specs.World.{WorldState, with_queues, with_task, task_at, begun}
 use Rattle.scx_world.specs.Tasks.{gone, entered, for_cpu, brought, fill_front, stopped, started_at}
-use Rattle.scx_world.specs.Helpers.{is_there, can_create, faulted, is_dispatch, insert_fault, with_insert, released, inserted, asked, asked_by_vtime, can_move, moved, given_number, given_task, helper_answer, helper_after, world_number, stored_in, world_stored}
+use Rattle.scx_world.specs.Helpers.{is_there, can_create, faulted, is_dispatch, insert_fault, with_insert, released, inserted, asked, asked_by_vtime, can_move, moved, given_number, given_task, helper_after, stored_in, world_functions}
 use Rattle.scx_machine.specs.Policy.{PolicyState, program_of}
 use Rattle.scx_machine.specs.Steps.{State, Stepped, joined, with_world}
 use Rattle.scx_machine.specs.Callbacks.{called, call_back, ended, no_arguments, one_task, task_and_number, cpu_and_task}
@@ -80,7 +80,7 @@ module _ (h : Hierarchy) (n c : ℕ) where
   like_helper w SelectCpuDfl a i = i
   like_helper w TaskByPid a i = i
 
-  like_query : (w : WorldState) (q : Query) → IsLike h n c w → IsLike h n c (after_query helper_after world_stored w q)
+  like_query : (w : WorldState) (q : Query) → IsLike h n c w → IsLike h n c (after_query world_functions w q)
   like_query w (Call f a) i = like_helper w f (map argument_of a) i
   like_query w (Load t f) i = i
   like_query w (Store t f k) i = like_task w t.0 (stored_in (task_at w t.0) f k) i
@@ -97,7 +97,7 @@ module _ (h : Hierarchy) (n c : ℕ) where
   unfolding called run_of
   like_called None b a maps w i = i
   like_called (Some p) b a maps w i =
-      run_keeps (answer_to helper_answer world_number) (after_query helper_after world_stored) (IsLike h n c) like_query b p.code (suc (instruction_count p.code)) 0 (start.start (given a) maps) w i
+      run_keeps (answer_to world_functions) (after_query world_functions) (IsLike h n c) like_query b p.code (suc (instruction_count p.code)) 0 (start.start (given a) maps) w i
 
   pub like_call_back : (s : State) (b : Callback) (a : Arguments) (t d : ℕ) → IsLike h n c s.world → IsLike h n c (call_back s b a t d).state.world
   unfolding call_back

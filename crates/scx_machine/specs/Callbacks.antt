@@ -12,14 +12,14 @@ use Rattle.scx_vm.specs.declared.arguments.Arguments.{Arguments}
 use Rattle.scx_vm.specs.Arguments.{given}
 use Rattle.scx_vm.specs.Host.{host, answer_to, after_query}
 use Rattle.scx_world.specs.World.{WorldState, begun, quiet}
-use Rattle.scx_world.specs.Helpers.{pointed, helper_answer, helper_after, world_number, world_stored}
+use Rattle.scx_world.specs.Helpers.{pointed, world_functions}
 use Rattle.scx_machine.specs.Policy.{PolicyState, program_of}
 use Rattle.scx_machine.specs.Steps.{State, CallMade, Stepped}
 
 -- the program is run with the world as its outside; one that is absent does nothing, and answers 0
 unfoldable pub called : Option VerifiedProgram → Callback → Arguments → Maps → WorldState → Ending WorldState
 called None b a maps w = record { answer = Some 0; maps = maps; outside = w }
-called (Some p) b a maps w = run_of (answer_to helper_answer world_number) (after_query helper_after world_stored) b p.code (given a) maps w
+called (Some p) b a maps w = run_of (answer_to world_functions) (after_query world_functions) b p.code (given a) maps w
 
 -- what a callback leaves, when its notes are handed on
 abbrev pub ended : PolicyState → Ending WorldState → State
@@ -49,7 +49,7 @@ pub record IsAnswered (c : CallMade) : Type 0 where
   pub steps : ℕ
   pub maps : Maps
   pub world : WorldState
-  pub run : Runs (host helper_answer helper_after world_number world_stored) c.program.context.callback c.program.code (given c.arguments) c.maps c.world answer steps maps world
+  pub run : Runs (host world_functions) c.program.context.callback c.program.code (given c.arguments) c.maps c.world answer steps maps world
   pub in_bound : steps ≤ instruction_count c.program.code
 
 -- the same of each

@@ -6,7 +6,7 @@ ghost use Rattle.scx_semantics.specs.Endings.{run_of};
 ghost use Rattle.scx_vm.specs.Arguments.{given};
 ghost use Rattle.scx_vm.specs.Host.{answer_to, after_query};
 ghost use Rattle.scx_world.specs.World.{quiet};
-ghost use Rattle.scx_world.specs.Helpers.{helper_answer, helper_after, world_number, world_stored};
+ghost use Rattle.scx_world.specs.Helpers.{world_functions};
 ghost use Rattle.scx_machine.specs.Notes.{Takes};
 ghost use Rattle.scx_machine.specs.Policy.{program_of};
 ghost use Rattle.scx_machine.specs.Callbacks.{called, call_back, answered_by, calls_of, IsAnswered, AreAnswered, one_task, task_cpu_and_0, task_and_number, task_or_0, cpu_and_task};
@@ -59,7 +59,7 @@ fn run_program(
     requires quiet { world.old.notes ≡ [] }
     requires few { world.old.queues.pushes + 4096 ≤ 2 ^ 63 }
     ensures ended { record { answer = Some result; maps = maps.new; outside = world.new }
-        ≡ run_of (answer_to helper_answer world_number) (after_query helper_after world_stored) program.now.context.callback program.now.code (given arguments) maps.old world.old }
+        ≡ run_of (answer_to world_functions) (after_query world_functions) program.now.context.callback program.now.code (given arguments) maps.old world.old }
     ensures answered { IsAnswered (record { program = program.now; arguments = arguments; maps = maps.old; world = world.old }) }
     ensures shapes { HasShapes program.now.context.defs maps.new }
     ensures few { world.new.queues.pushes ≤ world.old.queues.pushes + 4096 }

@@ -11,14 +11,14 @@ use Rattle.scx_vm.specs.declared.arguments.Arguments.{Arguments}
 use Rattle.scx_vm.specs.Arguments.{given}
 use Rattle.scx_vm.specs.Host.{host}
 use Rattle.scx_world.specs.World.{WorldState, begun}
-use Rattle.scx_world.specs.Helpers.{helper_answer, helper_after, world_number, world_stored}
+use Rattle.scx_world.specs.Helpers.{world_functions}
 use Rattle.scx_machine.specs.Policy.{program_of}
 use Rattle.scx_machine.specs.Steps.{State, Stepped}
 use Rattle.scx_machine.specs.Callbacks.{calls_of, ended}
 
 -- the world as that which answers a program
 abbrev pub answering : Outside WorldState
-answering = host helper_answer helper_after world_number world_stored
+answering = host world_functions
 
 -- how a callback ends that begins in that world; one that the policy hasn't answers 0
 pub data EndsAs (program : Option VerifiedProgram) (b : Callback) (a : Arguments) (maps : Maps) (w : WorldState) (e : Ending WorldState) : Type 0 where

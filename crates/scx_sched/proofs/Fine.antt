@@ -20,7 +20,7 @@ use Rattle.scx_world.specs.declared.faults.Fault.{Fault}
 use Rattle.scx_world.specs.declared.faults.Fault.TheVariants.{NoSuchQueue, NoSuchCpu, CannotCreate}
 use Rattle.scx_world.specs.World.{WorldState, with_queues, with_task, task_at, no_task}
 use Rattle.scx_world.specs.Tasks.{given_slice, given_vtime, given, gone, entered, for_cpu, brought, fill_front, renewed}
-use Rattle.scx_world.specs.Helpers.{is_there, can_create, faulted, is_dispatch, insert_fault, with_insert, released, inserted, asked, asked_by_vtime, can_move, moved, given_number, given_task, helper_after, stored_in, world_stored}
+use Rattle.scx_world.specs.Helpers.{is_there, can_create, faulted, is_dispatch, insert_fault, with_insert, released, inserted, asked, asked_by_vtime, can_move, moved, given_number, given_task, helper_after, stored_in, world_functions}
 use Rattle.scx_sched.specs.Once.{IsSound}
 use Rattle.scx_sched.specs.Ranges.{IsFine}
 use Rattle.scx_sched.specs.Kept.{IsKeptBySteps}
@@ -100,7 +100,7 @@ module _ (e : ℕ) where
   range_helper w SelectCpuDfl a r = r
   range_helper w TaskByPid a r = r
 
-  range_query : (w : WorldState) (q : Query) → IsRange e w → IsRange e (after_query helper_after world_stored w q)
+  range_query : (w : WorldState) (q : Query) → IsRange e w → IsRange e (after_query world_functions w q)
   range_query w (Call f a) r = range_helper w f (map argument_of a) r
   range_query w (Load t f) r = r
   range_query w (Store t f k) r = range_same w t.0 (stored_in (task_at w t.0) f k) (stored_run (task_at w t.0) f k) r

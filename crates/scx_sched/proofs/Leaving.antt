@@ -25,7 +25,7 @@ use Rattle.scx_world.specs.declared.faults.Fault.TheVariants.{NoSuchQueue, NoSuc
 use Rattle.scx_world.specs.Ids.{policy_end, held, local_on}
 use Rattle.scx_world.specs.World.{WorldState, with_queues, begun}
 use Rattle.scx_world.specs.Tasks.{local_len, gone, entered, for_cpu, stopped}
-use Rattle.scx_world.specs.Helpers.{helper_answer, helper_after, world_number, world_stored, is_there, can_create, is_dispatch, is_held, may_insert, faulted, insert_fault, with_insert, released, inserted, asked, asked_by_vtime, moved, given_number, given_task}
+use Rattle.scx_world.specs.Helpers.{helper_after, is_there, can_create, is_dispatch, is_held, may_insert, faulted, insert_fault, with_insert, released, inserted, asked, asked_by_vtime, moved, given_number, given_task, world_functions}
 use Rattle.scx_machine.specs.Policy.{program_of}
 use Rattle.scx_machine.specs.Steps.{State, with_world}
 use Rattle.scx_machine.specs.Callbacks.{called, call_back, task_and_number}
@@ -79,7 +79,7 @@ module _ (c : ℕ) where
   local_helper w SelectCpuDfl a h = h
   local_helper w TaskByPid a h = h
 
-  local_query : (w : WorldState) (q : Query) → HasLocal c w → HasLocal c (after_query helper_after world_stored w q)
+  local_query : (w : WorldState) (q : Query) → HasLocal c w → HasLocal c (after_query world_functions w q)
   local_query w (Call f a) h = local_helper w f (map argument_of a) h
   local_query w (Load t f) h = h
   local_query w (Store t f k) h = h
@@ -88,7 +88,7 @@ module _ (c : ℕ) where
   unfolding called run_of
   local_called None b a maps w h = h
   local_called (Some p) b a maps w h =
-      run_keeps (answer_to helper_answer world_number) (after_query helper_after world_stored) (HasLocal c) local_query b p.code (suc (instruction_count p.code)) 0 (start.start (given a) maps) w h
+      run_keeps (answer_to world_functions) (after_query world_functions) (HasLocal c) local_query b p.code (suc (instruction_count p.code)) 0 (start.start (given a) maps) w h
 
   pub local_call_back : (s : State) (b : Callback) (a : Arguments) (t d : ℕ) → HasLocal c s.world → HasLocal c (call_back s b a t d).state.world
   unfolding call_back

@@ -16,7 +16,7 @@ use Rattle.scx_vm.specs.Host.{answer_to, after_query}
 use Rattle.scx_world.specs.Ids.{global, local_on}
 use Rattle.scx_world.specs.World.{WorldState, begun}
 use Rattle.scx_world.specs.Tasks.{for_cpu, stopped}
-use Rattle.scx_world.specs.Helpers.{helper_answer, helper_after, world_number, world_stored}
+use Rattle.scx_world.specs.Helpers.{world_functions}
 use Rattle.scx_machine.specs.Policy.{program_of}
 use Rattle.scx_machine.specs.Steps.{State, Stepped, joined, with_world}
 use Rattle.scx_machine.specs.Callbacks.{called, call_back, one_task, task_and_number, cpu_and_task}
@@ -45,7 +45,7 @@ module _ (n : ℕ) (I : Option ℕ → List (Option ℕ) → WorldState → Type
     unfolding called run_of
     keeps_called None b a maps w h = h
     keeps_called (Some p) b a maps w h =
-        run_keeps (answer_to helper_answer world_number) (after_query helper_after world_stored) (I hand on) (λ v q. k.query hand on v q) b p.code (suc (instruction_count p.code)) 0 (start.start (given a) maps) w h
+        run_keeps (answer_to world_functions) (after_query world_functions) (I hand on) (λ v q. k.query hand on v q) b p.code (suc (instruction_count p.code)) 0 (start.start (given a) maps) w h
 
     pub keeps_call_back : (s : State) (b : Callback) (a : Arguments) (t c : ℕ) → c < length on → I hand on s.world → I hand on (call_back s b a t c).state.world
     unfolding call_back

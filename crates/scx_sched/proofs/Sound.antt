@@ -33,7 +33,7 @@ use Rattle.scx_world.specs.declared.faults.Fault.TheVariants.{NoSuchQueue, Canno
 use Rattle.scx_world.specs.Ids.{global, local, held, local_on, policy_end}
 use Rattle.scx_world.specs.World.{WorldState, with_queues, with_tree, with_cycling, with_task, task_at, no_task, is_this, is_runnable, cpu_of, quiet, begun, noted}
 use Rattle.scx_world.specs.Tasks.{woken, asleep, gone, given_slice, given_vtime, given, entered, resolved, for_cpu, to_held, to_global, brought, fill_front, filled, local_len, stopped, started_at, renewed, kept, ran_a_tick, ticked, later}
-use Rattle.scx_world.specs.Helpers.{is_there, can_create, faulted, is_dispatch, is_held, may_insert_in, may_insert, queue_fault, is_vtime, rank_fault, or_fault, insert_fault, with_insert, with_move, released, inserted, asked, asked_by_vtime, can_move, moved, given_number, given_task, helper_after, stored_in, world_stored}
+use Rattle.scx_world.specs.Helpers.{is_there, can_create, faulted, is_dispatch, is_held, may_insert_in, may_insert, queue_fault, is_vtime, rank_fault, or_fault, insert_fault, with_insert, with_move, released, inserted, asked, asked_by_vtime, can_move, moved, given_number, given_task, helper_after, stored_in, world_functions}
 use Rattle.scx_sched.specs.Once.{runs, appearances, IsOnce, HasQueues, sort_of, IsSorted, IsAlike, IsOpen, IsSound, GoesSomewhere}
 use Rattle.scx_sched.specs.Kept.{IsWanted, For_any, Nowhere, Inserted}
 use Rattle.scx_sched.proofs.Entering.{keeps_if, nowhere, sorted_pushed, sorted_popped, sorted_removed, own_open, alike_from, is_accepted, Stay, stay_pushed, stay_without, stay_removed, stay_created, queues_stay, open_without, open_removed, open_created, open_own, open_same, goes_on, local_sort, low_fits}
@@ -283,7 +283,7 @@ module _ (hand : Option ℕ) (on : List (Option ℕ)) (n : ℕ) where
   sound_helper w TaskByPid a h = h
   sound_helper w MapLookupElem a h = h
 
-  pub sound_query : (w : WorldState) (q : Query) → IsSound hand on n w → IsSound hand on n (after_query helper_after world_stored w q)
+  pub sound_query : (w : WorldState) (q : Query) → IsSound hand on n w → IsSound hand on n (after_query world_functions w q)
   sound_query w (Call f a) h = sound_helper w f (map argument_of a) h
   sound_query w (Load t f) h = h
   sound_query w (Store t f k) h = sound_task hand on n w t.0 (stored_in (task_at w t.0) f k) (stored_home (task_at w t.0) f k) h

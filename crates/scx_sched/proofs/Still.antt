@@ -24,7 +24,7 @@ use Rattle.scx_world.specs.declared.faults.Fault.{Fault}
 use Rattle.scx_world.specs.declared.faults.Fault.TheVariants.{NoSuchQueue, NoSuchCpu, CannotCreate}
 use Rattle.scx_world.specs.World.{WorldState, with_queues, with_tree, task_at, running, cpu_of, is_idle, begun}
 use Rattle.scx_world.specs.Tasks.{woken, gone, entered, for_cpu, ticked}
-use Rattle.scx_world.specs.Helpers.{is_there, can_create, faulted, is_dispatch, insert_fault, with_insert, released, inserted, asked, asked_by_vtime, can_move, moved, given_number, given_task, helper_answer, helper_after, world_number, world_stored}
+use Rattle.scx_world.specs.Helpers.{is_there, can_create, faulted, is_dispatch, insert_fault, with_insert, released, inserted, asked, asked_by_vtime, can_move, moved, given_number, given_task, helper_after, world_functions}
 use Rattle.scx_machine.specs.declared.events.Event.{Event}
 use Rattle.scx_machine.specs.declared.events.Event.TheVariants.{Wake, Sleep, Tick, Clock, SetWeight}
 use Rattle.scx_machine.specs.Policy.{PolicyState, program_of}
@@ -68,7 +68,7 @@ still_helper w SelectCpuDfl a h = h
 still_helper w TaskByPid a h = h
 still_helper w MapLookupElem a h = h
 
-still_query : (w : WorldState) (q : Query) → IsStill w → IsStill (after_query helper_after world_stored w q)
+still_query : (w : WorldState) (q : Query) → IsStill w → IsStill (after_query world_functions w q)
 still_query w (Call f a) h = still_helper w f (map argument_of a) h
 still_query w (Load t f) h = h
 still_query w (Store t f k) h = h
@@ -77,7 +77,7 @@ still_called : (p : Option VerifiedProgram) (b : Callback) (a : Arguments) (maps
 unfolding called run_of
 still_called None b a maps w h = h
 still_called (Some p) b a maps w h =
-    run_keeps (answer_to helper_answer world_number) (after_query helper_after world_stored) IsStill still_query b p.code (suc (instruction_count p.code)) 0 (start.start (given a) maps) w h
+    run_keeps (answer_to world_functions) (after_query world_functions) IsStill still_query b p.code (suc (instruction_count p.code)) 0 (start.start (given a) maps) w h
 
 still_call_back : (s : State) (b : Callback) (a : Arguments) (t c : ℕ) → IsStill s.world → IsStill (call_back s b a t c).state.world
 unfolding call_back

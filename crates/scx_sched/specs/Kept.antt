@@ -9,7 +9,7 @@ use Rattle.scx_world.specs.declared.call.Insert.{Insert}
 use Rattle.scx_world.specs.Ids.{local_on}
 use Rattle.scx_world.specs.World.{WorldState, with_cycling, begun, quiet}
 use Rattle.scx_world.specs.Tasks.{for_cpu, to_held, to_global, asleep, entered, filled, stopped, started_at, kept}
-use Rattle.scx_world.specs.Helpers.{helper_after, world_stored}
+use Rattle.scx_world.specs.Helpers.{world_functions}
 
 -- where the task at hand may come to wait: for any processor, held, or where a callback inserted it
 pub data IsWanted (cpus : ℕ) (w : WorldState) (i : Insert) : Type 0 where
@@ -18,7 +18,7 @@ pub data IsWanted (cpus : ℕ) (w : WorldState) (i : Insert) : Type 0 where
   Inserted : (c : ℕ) (said : Insert) → c < cpus → w.call.insert ≡ Some said → i ≡ for_cpu c said → IsWanted cpus w i
 
 pub record IsKeptBySteps (n : ℕ) (I : Option ℕ → List (Option ℕ) → WorldState → Type 0) : Type 0 where
-  pub query : (hand : Option ℕ) (on : List (Option ℕ)) (w : WorldState) (q : Query) → I hand on w → I hand on (after_query helper_after world_stored w q)
+  pub query : (hand : Option ℕ) (on : List (Option ℕ)) (w : WorldState) (q : Query) → I hand on w → I hand on (after_query world_functions w q)
   pub begun : (hand : Option ℕ) (on : List (Option ℕ)) (w : WorldState) (b : Callback) (t c : ℕ) → c < length on → I hand on w → I hand on (begun w b t c)
   pub quiet : (hand : Option ℕ) (on : List (Option ℕ)) (w : WorldState) → I hand on w → I hand on (quiet w)
   pub cycling : (hand : Option ℕ) (on : List (Option ℕ)) (w : WorldState) (o : Option ℕ) → I hand on w → I hand on (with_cycling w o)

@@ -31,7 +31,7 @@ pub fn call<E: Env>(
     env: &mut E,
 ) -> Effect
     requires { 0 < E.room env.old }
-    ensures effect { ComesTo (host E.answer E.after_call E.number E.after_store) (call callback (seen core.old maps.now) number) maps.now env.old result (seen core.new maps.now) env.new }
+    ensures effect { ComesTo (host E.functions) (call callback (seen core.old maps.now) number) maps.now env.old result (seen core.new maps.now) env.new }
     ensures room { E.room env.old ≤ E.room env.new + 1 }
     ensures spent { E.spent env.new ≤ E.spent env.old + 1 }
 {
@@ -85,7 +85,7 @@ fn key(core: &Core, maps: &Maps, value: Value) -> Option<u32>
 fn ask<E: Env>(core: &mut Core, helper: Helper, env: &mut E) -> Effect
     requires room { 0 < E.room env.old }
     requires is_asked { ¬ (helper ≡ MapLookupElem) }
-    ensures effect { (maps : Maps) → ComesTo (host E.answer E.after_call E.number E.after_store) (if takes_all (seen core.old maps) (parameters helper) 1 then called (seen core.old maps) helper else effects.Stuck) maps env.old result (seen core.new maps) env.new }
+    ensures effect { (maps : Maps) → ComesTo (host E.functions) (if takes_all (seen core.old maps) (parameters helper) 1 then called (seen core.old maps) helper else effects.Stuck) maps env.old result (seen core.new maps) env.new }
     ensures room { E.room env.old ≤ E.room env.new + 1 }
     ensures spent { E.spent env.new ≤ E.spent env.old + 1 }
 {

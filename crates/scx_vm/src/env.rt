@@ -1,12 +1,7 @@
-ghost use Rattle.std.specs.Prelude.{◌≡◌, ℕ, ◌+◌, ◌*◌, ◌^◌, ◌<◌, ◌≤◌, List, IsTrue};
-ghost use Rattle.scx_semantics.specs.declared.outside.TaskId.{TaskId};
-ghost use Rattle.scx_semantics.specs.declared.outside.Field.{Field};
-ghost use Rattle.scx_semantics.specs.declared.outside.Helper.{Helper};
+ghost use Rattle.std.specs.Prelude.{◌≡◌, ℕ, ◌+◌, ◌*◌, ◌^◌, ◌<◌, ◌≤◌, IsTrue};
 ghost use Rattle.scx_semantics.specs.declared.outside.Helper.TheVariants.{MapLookupElem};
 ghost use Rattle.scx_semantics.specs.Outside.{field_width, is_writable};
-ghost use Rattle.scx_vm.specs.declared.arguments.Argument.{Argument};
-ghost use Rattle.scx_vm.specs.declared.arguments.Answer.{Answer};
-ghost use Rattle.scx_vm.specs.Host.{AreTaken, AnswerFits};
+ghost use Rattle.scx_vm.specs.Host.{Functions, AreTaken, AnswerFits};
 
 use crate::arguments::{Answer, Argument};
 use scx_isa::{Field, Helper, TaskId};
@@ -16,17 +11,8 @@ use scx_isa::{Field, Helper, TaskId};
 /// Each answer and each change is a function of its state. Two budgets bound what a run may ask:
 /// `room` is the number of calls that it still has room for, and `spent` grows by at most 1 a call.
 pub trait Env {
-    /// What a helper answers.
-    ghost answer: { Self → Helper → List Argument → Answer };
-
-    /// The host after a helper call.
-    ghost after_call: { Self → Helper → List Argument → Self };
-
-    /// What a field of a task holds.
-    ghost number: { Self → TaskId → Field → ℕ };
-
-    /// The host after a store to a field.
-    ghost after_store: { Self → TaskId → Field → ℕ → Self };
+    /// What a helper answers, what a field of a task holds, and the host after a call or a store.
+    ghost functions: { Functions Self };
 
     ghost room: { Self → ℕ };
 
@@ -38,21 +24,21 @@ pub trait Env {
         requires room { 0 < room self.old }
         requires is_asked { ¬ (helper ≡ MapLookupElem) }
         requires taken { AreTaken helper arguments.now }
-        ensures answer { result ≡ answer self.old helper arguments.now }
-        ensures after { self.new ≡ after_call self.old helper arguments.now }
+        ensures answer { result ≡ functions.answer self.old helper arguments.now }
+        ensures after { self.new ≡ functions.after_call self.old helper arguments.now }
         ensures fits { AnswerFits helper result }
         ensures room { room self.old ≤ room self.new + 1 }
         ensures spent { spent self.new ≤ spent self.old + 1 };
 
     /// What the field holds.
     fn load(&self, task: TaskId, field: Field) -> u64
-        ensures number { result ≡ number self.now task field }
+        ensures number { result ≡ functions.number self.now task field }
         ensures fits { result < 2 ^ (8 * field_width field) };
 
     /// Writes a number to a field that may be written.
     fn store(&mut self, task: TaskId, field: Field, value: u64)
         requires { IsTrue (is_writable field) }
-        ensures after { self.new ≡ after_store self.old task field value }
+        ensures after { self.new ≡ functions.after_store self.old task field value }
         ensures room { room self.old ≤ room self.new }
         ensures spent { spent self.new ≤ spent self.old };
 }

@@ -20,6 +20,7 @@ use Rattle.scx_vm.specs.declared.arguments.Argument.{Argument}
 use Rattle.scx_vm.specs.declared.arguments.Argument.TheVariants as argument
 use Rattle.scx_vm.specs.declared.arguments.Answer.{Answer}
 use Rattle.scx_vm.specs.declared.arguments.Answer.TheVariants as answer
+use Rattle.scx_vm.specs.Host.{Functions}
 use Rattle.scx_world.specs.declared.task.Task.{Task}
 use Rattle.scx_world.specs.declared.faults.Fault.{Fault}
 use Rattle.scx_world.specs.declared.faults.Fault.TheVariants.{NoSuchQueue, CannotInsert, NoSuchCpu, UnknownFlag, CannotCreate, BuiltinVtime, Mixed}
@@ -272,6 +273,10 @@ world_number w t f = field_of w t.0 f
 
 abbrev pub world_stored : WorldState → TaskId → Field → ℕ → WorldState
 world_stored w t f n = with_task w t.0 (stored_in (task_at w t.0) f n)
+
+-- the world as a host
+abbrev pub world_functions : Functions WorldState
+world_functions = record { answer = helper_answer; after_call = helper_after; number = world_number; after_store = world_stored }
 
 -- ---- budgets: for how many calls there is room, and what they may spend
 

@@ -1,5 +1,5 @@
 ghost use Rattle.std.specs.Prelude.{◌≡◌};
-ghost use Rattle.scx_world.specs.Helpers.{number_of, task_of, helper_answer, helper_after, world_number, world_stored, room_of, spent_of};
+ghost use Rattle.scx_world.specs.Helpers.{number_of, task_of, world_functions, room_of, spent_of};
 
 use crate::call::Insert;
 use crate::world::World;
@@ -8,13 +8,7 @@ use scx_isa::{Field, Helper, TaskId};
 use scx_vm::{Answer, Argument, Env};
 
 impl Env for World {
-    ghost answer = { helper_answer };
-
-    ghost after_call = { helper_after };
-
-    ghost number = { world_number };
-
-    ghost after_store = { world_stored };
+    ghost functions = { world_functions };
 
     ghost room = { room_of };
 

@@ -13,8 +13,8 @@ returns-clause-effect g c = λ maps.
     let all = c.takes_all.ensures maps in
     let takes : takes_all m (parameters c.args.helper) 1 ≡ true = cc (all, c.if-not-takes_all.false) in
     let given = c.arguments.ensures maps in
-    let answered = ap answer_value (c.call-answer.ensures.answer ∙ ap (λ a. g.E.Env.answer c.args.env.now c.args.helper a) given) in
-    let after = c.call-answer.ensures.after ∙ ap (λ a. g.E.Env.after_call c.args.env.now c.args.helper a) given in
+    let answered = ap answer_value (c.call-answer.ensures.answer ∙ ap (λ a. g.E.Env.functions.answer c.args.env.now c.args.helper a) given) in
+    let after = c.call-answer.ensures.after ∙ ap (λ a. g.E.Env.functions.after_call c.args.env.now c.args.helper a) given in
     asks _ m c.args.helper c.args.env.now (seen c.end_call.new.self maps) c.call-answer.new.self (answer_value c.call-answer.result) c.requires.is_asked takes
     (answered, after, fits_whatever c.args.helper (arguments m c.args.helper) (answer_value c.call-answer.result) c.call-answer.ensures.fits)
     (c.end_call.ensures maps ∙ ap (λ v. after_call m v) c.answer_value.ensures)
