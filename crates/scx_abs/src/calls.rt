@@ -16,7 +16,8 @@ use scx_safety::Context;
 /// What flows on from a call: the helper is there, then it may be called here, then each argument is
 /// what it takes.
 pub(crate) fn call(state: &AbsState, number: i32, context: &Context) -> Result<Flow, Why>
-    ensures { flowed state.now result ≡ call_rule context.now.defs context.now.callback (helper_at number) state.now }
+    ensures { flowed state.now result
+        ≡ call_rule context.now.defs context.now.callback (helper_at number) state.now }
 {
     let Some(helper) = Helper::new(number) else {
         return Err(Why::UnknownHelper);
@@ -43,7 +44,8 @@ fn check_arguments(
     argument: usize,
     defs: &MapDefs,
 ) -> Result<(), Why>
-    ensures { result ≡ arguments_check defs.now state.now (drop argument (parameters helper)) (argument + 1) }
+    ensures { result
+        ≡ arguments_check defs.now state.now (drop argument (parameters helper)) (argument + 1) }
 {
     let Some(parameter) = helper.parameter(argument) else {
         return Ok(());

@@ -36,7 +36,8 @@ pub fn transfer(state: &AbsState, insn: &Insn, context: &Context) -> Result<Next
 
 /// The same as what changes of the state.
 pub fn flow_of(state: &AbsState, insn: &Insn, context: &Context) -> Result<Flow, Why>
-    ensures { flowed state.now result ≡ rule context.now.defs context.now.callback insn.now state.now }
+    ensures { flowed state.now result
+        ≡ rule context.now.defs context.now.callback insn.now state.now }
 {
     match *insn {
         Insn::Binary(width, operation, destination, operand) => {
@@ -88,7 +89,8 @@ fn sets(state: &AbsState, register: Register, kind: Result<Kind, Why>) -> Result
 
 /// The end of the program, at which the callbacks that answer a number have one in r0.
 fn end(state: &AbsState, context: &Context) -> Result<Flow, Why>
-    ensures { flowed state.now result ≡ rule context.now.defs context.now.callback Insn.Exit state.now }
+    ensures { flowed state.now result
+        ≡ rule context.now.defs context.now.callback Insn.Exit state.now }
 {
     if context.callback.answers() && state.kind(Register::R0) != Kind::Num {
         return Err(Why::BadReturn);

@@ -100,7 +100,9 @@ pub fn join(first: &AbsState, second: &AbsState) -> AbsState
 /// The least kind that covers those of a register in both.
 fn joined_kind(first: &[Kind; REGISTERS], second: &[Kind; REGISTERS], register: usize) -> Kind
     requires { register < REGISTERS }
-    ensures { result ≡ join_kind (slice_index_or first.now register Unusable) (slice_index_or second.now register Unusable) }
+    ensures { result
+        ≡ join_kind (slice_index_or first.now register Unusable)
+        (slice_index_or second.now register Unusable) }
 {
     first[register].join(second[register])
 }
@@ -108,7 +110,10 @@ fn joined_kind(first: &[Kind; REGISTERS], second: &[Kind; REGISTERS], register: 
 /// Joins others in.
 fn join_registers(registers: &mut [Kind; REGISTERS], others: &[Kind; REGISTERS])
     ensures long { length registers.new ≡ REGISTERS }
-    ensures each { (r : ℕ) → r < REGISTERS → slice_index_or registers.new r Unusable ≡ join_kind (slice_index_or registers.old r Unusable) (slice_index_or others.now r Unusable) }
+    ensures each { (r : ℕ) → r < REGISTERS
+        → slice_index_or registers.new r Unusable
+        ≡ join_kind (slice_index_or registers.old r Unusable)
+        (slice_index_or others.now r Unusable) }
 {
     for register in 0..REGISTERS {
         registers[register] = joined_kind(registers, others, register);
@@ -118,7 +123,9 @@ fn join_registers(registers: &mut [Kind; REGISTERS], others: &[Kind; REGISTERS])
 /// The least cell that covers those of a number in both.
 fn joined_cell(first: &[Cell; CELLS], second: &[Cell; CELLS], cell: usize) -> Cell
     requires { cell < CELLS }
-    ensures { result ≡ join_cell (slice_index_or first.now cell (Bytes [])) (slice_index_or second.now cell (Bytes [])) }
+    ensures { result
+        ≡ join_cell (slice_index_or first.now cell (Bytes []))
+        (slice_index_or second.now cell (Bytes [])) }
 {
     first[cell].join(second[cell])
 }
@@ -128,7 +135,10 @@ fn join_cells(cells: &mut [Cell; CELLS], others: &[Cell; CELLS], low: usize)
     requires first { AreBlank low cells.old }
     requires second { AreBlank low others.now }
     ensures long { length cells.new ≡ CELLS }
-    ensures each { (c : ℕ) → c < CELLS → slice_index_or cells.new c (Bytes []) ≡ join_cell (slice_index_or cells.old c (Bytes [])) (slice_index_or others.now c (Bytes [])) }
+    ensures each { (c : ℕ) → c < CELLS
+        → slice_index_or cells.new c (Bytes [])
+        ≡ join_cell (slice_index_or cells.old c (Bytes []))
+        (slice_index_or others.now c (Bytes [])) }
 {
     for cell in low..CELLS {
         cells[cell] = joined_cell(cells, others, cell);

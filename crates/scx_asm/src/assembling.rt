@@ -48,7 +48,8 @@ fn insn_at<'a>(labels: &IndexMap<&'a [u8], u16>, entry: &Entry<'a>) -> Result<In
 
 /// The second pass: the instructions of all entries.
 fn resolve(alloc: Global, layout: &Layout<'_>) -> Result<Vec<Insn>, AsmError>
-    ensures { Gives (λ insns. insns.items) result (built (table layout.now.labels.entries) (map draft_of layout.now.entries.items)) }
+    ensures { Gives (λ insns. insns.items) result
+        (built (table layout.now.labels.entries) (map draft_of layout.now.entries.items)) }
 {
     let mut insns = Vec::with_capacity(alloc, layout.entries.len())?;
     for entry in &layout.entries {

@@ -56,7 +56,8 @@ pub(crate) fn slot_of<'a>(labels: &IndexMap<&'a [u8], u16>, label: &'a [u8]) -> 
 }
 
 fn push_label<'a>(layout: &mut Layout<'a>, number: usize, label: &'a [u8]) -> Result<(), AsmError>
-    ensures { Gives (λ _. plan_of layout.new) result (located number (with_label (plan_of layout.old) label.now)) }
+    ensures { Gives (λ _. plan_of layout.new) result
+        (located number (with_label (plan_of layout.old) label.now)) }
 {
     if slot_of(&layout.labels, label).is_some() {
         return refused(AsmFault::TwiceLabel, number);
@@ -66,7 +67,8 @@ fn push_label<'a>(layout: &mut Layout<'a>, number: usize, label: &'a [u8]) -> Re
 }
 
 fn push_entry<'a>(layout: &mut Layout<'a>, number: usize, item: Item<'a>) -> Result<(), AsmError>
-    ensures { Gives (λ _. plan_of layout.new) result (located number (with_draft number (plan_of layout.old) (line_of item.entry))) }
+    ensures { Gives (λ _. plan_of layout.new) result
+        (located number (with_draft number (plan_of layout.old) (line_of item.entry))) }
 {
     if !fits(&item) {
         return refused(AsmFault::OutOfRange, number);
@@ -86,7 +88,8 @@ fn push_entry<'a>(layout: &mut Layout<'a>, number: usize, item: Item<'a>) -> Res
 }
 
 fn push_item<'a>(layout: &mut Layout<'a>, number: usize, item: Item<'a>) -> Result<(), AsmError>
-    ensures { Gives (λ _. plan_of layout.new) result (located number (with_line number (plan_of layout.old) (line_of item.entry))) }
+    ensures { Gives (λ _. plan_of layout.new) result
+        (located number (with_line number (plan_of layout.old) (line_of item.entry))) }
 {
     match item {
         Item::Blank => Ok(()),
@@ -101,7 +104,8 @@ fn push_line<'a>(
     number: usize,
     line: &'a [u8],
 ) -> Result<(), AsmError>
-    ensures { Gives (λ _. plan_of layout.new) result (located number (with_text number (plan_of layout.old) line.now)) }
+    ensures { Gives (λ _. plan_of layout.new) result
+        (located number (with_text number (plan_of layout.old) line.now)) }
 {
     match read(line, found)? {
         Some(item) => push_item(layout, number, item),

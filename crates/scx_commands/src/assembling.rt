@@ -18,7 +18,8 @@ use std::alloc::Global;
 ///
 /// The bytes are refused, and then nothing is written, or writing the slots fails.
 pub fn asm<W: Out>(alloc: Global, bytes: &[u8], out: &mut W) -> Result<bool, Fault>
-    ensures done { IfOk result (λ answer. (answer ≡ true) × (slots : List ℕ) × IsAssembled bytes.now slots
+    ensures done { IfOk result
+        (λ answer. (answer ≡ true) × (slots : List ℕ) × IsAssembled bytes.now slots
         × Appends (W.contents out.old) (W.contents out.new) slots) }
     ensures unfailed { OnOk result (W.failure_count out.new ≡ W.failure_count out.old) }
 

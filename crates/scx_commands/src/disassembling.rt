@@ -17,7 +17,8 @@ use std::alloc::Global;
 ///
 /// The bytes are refused, and then nothing is written, or writing the text fails.
 pub fn dis<W: Out>(alloc: Global, bytes: &[u8], out: &mut W) -> Result<bool, Fault>
-    ensures done { IfOk result (λ answer. (answer ≡ true) × (text : List ℕ) × IsDisassembled bytes.now text
+    ensures done { IfOk result
+        (λ answer. (answer ≡ true) × (text : List ℕ) × IsDisassembled bytes.now text
         × Appends (W.contents out.old) (W.contents out.new) text) }
     ensures unfailed { OnOk result (W.failure_count out.new ≡ W.failure_count out.old) }
 

@@ -62,7 +62,8 @@ impl Driver {
     /// All events of the workload are still to come, for a machine in any state. All memory is taken
     /// here.
     pub fn new(alloc: Global, workload: &Workload) -> Result<Driver, AllocError>
-        ensures { IfOk result (λ driver. (s : SimState) → remaining driver s ≡ workload_events workload.now s) }
+        ensures { IfOk result
+            (λ driver. (s : SimState) → remaining driver s ≡ workload_events workload.now s) }
     {
         workload.is_whole();
         let timings = Vec::from_slice(alloc, workload.timings())?;
@@ -85,7 +86,9 @@ impl Driver {
     /// The event that comes next, for a machine that took exactly the events before it; none at the end.
     #[tactic(auto, using(crate::proofs::Remaining::remaining_begun, crate::proofs::Remaining::remaining_taken, crate::proofs::Remaining::remaining_over, crate::proofs::Remaining::fewer_blocks))]
     pub fn next(&mut self, sim: &Sim) -> Option<Event>
-        ensures next { IfSome result (λ event. remaining self.old sim.now ≡ event ∷ remaining self.new (stepped sim.now event)) }
+        ensures next { IfSome result
+            (λ event. remaining self.old sim.now
+            ≡ event ∷ remaining self.new (stepped sim.now event)) }
         ensures end { IfNone result (remaining self.old sim.now ≡ []) }
         ensures over { IfNone result (remaining self.new sim.now ≡ []) }
     {

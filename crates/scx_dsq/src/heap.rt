@@ -172,9 +172,11 @@ fn make_way_up<L: Ledger>(
     ensures within { result < length items.new }
     ensures heap { IsHeap (held items.new item result) }
     ensures spots { HasSpots (held items.new item result) (spotted spots.new item result) }
-    ensures others { KeepsOthers (held items.old item start) (spotted spots.old item start) (spotted spots.new item result) }
+    ensures others { KeepsOthers (held items.old item start) (spotted spots.old item start)
+        (spotted spots.new item result) }
     ensures same { IsPermutation (held items.old item start) (held items.new item result) }
-    ensures cost { Rose (held items.old item start) (held items.new item result) start (steps.new - steps.old) }
+    ensures cost { Rose (held items.old item start) (held items.new item result) start
+        (steps.new - steps.old) }
     ensures more { steps.old ≤ steps.new }
 {
     let mut at = start;
@@ -221,9 +223,11 @@ fn make_way_down<L: Ledger>(
     ensures within { result < length items.new }
     ensures heap { IsHeap (held items.new item result) }
     ensures spots { HasSpots (held items.new item result) (spotted spots.new item result) }
-    ensures others { KeepsOthers (held items.old item start) (spotted spots.old item start) (spotted spots.new item result) }
+    ensures others { KeepsOthers (held items.old item start) (spotted spots.old item start)
+        (spotted spots.new item result) }
     ensures same { IsPermutation (held items.old item start) (held items.new item result) }
-    ensures cost { Sank (held items.old item start) (held items.new item result) start (length items.old) (steps.new - steps.old) }
+    ensures cost { Sank (held items.old item start) (held items.new item result) start
+        (length items.old) (steps.new - steps.old) }
     ensures more { steps.old ≤ steps.new }
 {
     let mut at = start;

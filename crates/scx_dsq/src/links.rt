@@ -62,8 +62,10 @@ pub fn append(links: &mut [Link], ends: &mut Ends, task: u32)
 /// Takes a task out of a queue.
 pub fn unlink(links: &mut [Link], ends: &mut Ends, task: u32)
     requires task { task < length links.old }
-    requires ahead { MatchOption (link_at links.old task).ahead (Unit {0}) (λ t. t < length links.old) }
-    requires behind { MatchOption (link_at links.old task).behind (Unit {0}) (λ t. t < length links.old) }
+    requires ahead { MatchOption (link_at links.old task).ahead (Unit {0})
+        (λ t. t < length links.old) }
+    requires behind { MatchOption (link_at links.old task).behind (Unit {0})
+        (λ t. t < length links.old) }
     requires count { 0 < ends.old.count }
     ensures links { links.new ≡ links_unlinked links.old task }
     ensures ends { ends.new ≡ ends_unlinked links.old ends.old task }

@@ -159,7 +159,8 @@ impl Queues {
     ) -> Result<(), QueueError>
         requires task { task < task_count self.old.state }
         requires few { self.old.state.pushes < 2 ^ 63 }
-        ensures answer { result ≡ refused_or_done (push_refusal self.old.state id task (Vtime key)) }
+        ensures answer { result
+            ≡ refused_or_done (push_refusal self.old.state id task (Vtime key)) }
         ensures state { self.new.state ≡ pushed self.old.state id task (Vtime key) }
         ensures cost { IsPaid self.old self.new id (steps.new - steps.old) }
         ensures unchanged { OnErr result (self.new ≡ self.old) }
@@ -269,7 +270,8 @@ impl Queues {
         requires { task < task_count self.old.state }
         ensures answer { result ≡ is_some (place_of self.old.state task) }
         ensures state { self.new.state ≡ removed self.old.state task }
-        ensures cost { IfSome (queue_of self.old.state task) (λ id. IsPaid self.old self.new id (steps.new - steps.old)) }
+        ensures cost { IfSome (queue_of self.old.state task)
+            (λ id. IsPaid self.old self.new id (steps.new - steps.old)) }
         ensures unchanged { result ≡ false → self.new ≡ self.old }
         ensures free { result ≡ false → steps.new ≡ steps.old }
         ensures more { steps.old ≤ steps.new }
@@ -420,7 +422,9 @@ fn hash_of(id: u64) -> usize
 #[inline(never)]
 fn search(live: &[Queue], order: &[usize], id: u64) -> Result<usize, usize>
     requires { IsOrder (ids_of live.now) order.now }
-    ensures found { IfOk result (λ k. (k < length order.now) × HoldsAt (λ a. slice_index_or (ids_of live.now) a 0 ≡ id) order.now k) }
+    ensures found { IfOk result
+        (λ k. (k < length order.now)
+        × HoldsAt (λ a. slice_index_or (ids_of live.now) a 0 ≡ id) order.now k) }
     ensures missing { IfErr result (IsGap (ids_of live.now) order.now id) }
     ensures named { is_ok result ≡ list_any (λ other. other == id) (ids_of live.now) }
 {
@@ -444,7 +448,8 @@ fn search(live: &[Queue], order: &[usize], id: u64) -> Result<usize, usize>
 /// Empty heaps for queues to come.
 fn spare_heaps(alloc: Global, queues: usize, tasks: usize) -> Result<Vec<Heap>, AllocError>
     ensures heaps { IfOk result (λ heaps. length heaps.items ≡ queues) }
-    ensures empty { IfOk result (λ heaps. All (λ heap. heap ≡ record { room = tasks; items = [] }) heaps.items) }
+    ensures empty { IfOk result
+        (λ heaps. All (λ heap. heap ≡ record { room = tasks; items = [] }) heaps.items) }
 {
     let mut heaps = Vec::with_capacity(alloc, queues)?;
     for _ in 0..queues {

@@ -36,7 +36,8 @@ pub fn second_slot_of(insn: &Insn) -> Option<Slot>
 /// Writes the slots of an instruction at the end.
 pub fn push_insn(out: &mut Vec<u8>, insn: &Insn) -> Result<(), AllocError>
     requires { IsInsn insn.now }
-    ensures { OnOk result (out.new.items ≡ out.old.items ++ flat_map slot_bytes (insn_slots insn.now)) }
+    ensures { OnOk result
+        (out.new.items ≡ out.old.items ++ flat_map slot_bytes (insn_slots insn.now)) }
 {
     push_slot(out, &first_slot_of(insn))?;
     if let Some(half) = second_slot_of(insn) {

@@ -20,10 +20,10 @@ pub struct OneTask {
 
 impl Env for OneTask {
     ghost functions = { record {
-        answer = λ w h a. Number 0;
-        after_call = λ w h a. record w { called = Some h; given = a };
-        number = λ w t f. elim f [ Pid ↦ 7 | Weight ↦ w.weight | Slice ↦ w.slice | DsqVtime ↦ w.vtime | PrevCpu ↦ 0 | Group ↦ 0 | RunNs ↦ 0 ];
-        after_store = λ w t f n. elim f [ Pid ↦ w | Weight ↦ w | Slice ↦ record w { slice = n } | DsqVtime ↦ record w { vtime = n } | PrevCpu ↦ w | Group ↦ w | RunNs ↦ w ];
+      answer = λ w h a. Number 0;
+      after_call = λ w h a. record w { called = Some h; given = a };
+      number = λ w t f. elim f [ Pid ↦ 7 | Weight ↦ w.weight | Slice ↦ w.slice | DsqVtime ↦ w.vtime | PrevCpu ↦ 0 | Group ↦ 0 | RunNs ↦ 0 ];
+      after_store = λ w t f n. elim f [ Pid ↦ w | Weight ↦ w | Slice ↦ record w { slice = n } | DsqVtime ↦ record w { vtime = n } | PrevCpu ↦ w | Group ↦ w | RunNs ↦ w ];
     } };
 
     ghost room = { λ w. 2 ^ 64 };

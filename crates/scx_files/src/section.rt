@@ -50,7 +50,8 @@ impl<'a> Section<'a> {
 
     /// The table that stands at a path; `WrongType` where the value there is none.
     pub fn of(alloc: Global, path: &'a str, value: &'a Value) -> Result<Section<'a>, LoadError>
-        ensures table { Gives (λ s. table_view s.table.now) result (table_of path.now (view value.now)) }
+        ensures table { Gives (λ s. table_view s.table.now) result
+            (table_of path.now (view value.now)) }
         ensures path { IfOk result (λ s. s.path.now ≡ path.now) }
     {
         match value.as_table() {
@@ -61,14 +62,17 @@ impl<'a> Section<'a> {
 
     /// What stands at a key.
     pub fn value(self, key: &str) -> Option<&'a Value>
-        ensures { option_map (λ v. view v.now) result ≡ get_member key.now (table_view self.entry.table.now) }
+        ensures { option_map (λ v. view v.now) result
+            ≡ get_member key.now (table_view self.entry.table.now) }
     {
         self.table.get(key)
     }
 
     /// The number at a key that has to be there. `Missing`, `WrongType`, or `OutOfRange`.
     pub fn integer(self, alloc: Global, key: &str, limits: Limits) -> Result<u32, LoadError>
-        ensures { Gives (λ n. n) result (required (integer_of limits) self.entry.path.now key.now (table_view self.entry.table.now)) }
+        ensures { Gives (λ n. n) result
+            (required (integer_of limits) self.entry.path.now key.now
+            (table_view self.entry.table.now)) }
     {
         match self.value(key) {
             Some(value) => self.number(alloc, key, value, limits),
@@ -84,7 +88,9 @@ impl<'a> Section<'a> {
         limits: Limits,
         default: u32,
     ) -> Result<u32, LoadError>
-        ensures { Gives (λ n. n) result (optional (integer_of limits) default self.entry.path.now key.now (table_view self.entry.table.now)) }
+        ensures { Gives (λ n. n) result
+            (optional (integer_of limits) default self.entry.path.now key.now
+            (table_view self.entry.table.now)) }
     {
         match self.value(key) {
             Some(value) => self.number(alloc, key, value, limits),
@@ -94,7 +100,8 @@ impl<'a> Section<'a> {
 
     /// The text at a key that has to be there. `Missing` or `WrongType`.
     pub fn text(self, alloc: Global, key: &str) -> Result<&'a str, LoadError>
-        ensures { Gives (λ t. t.now) result (required text_of self.entry.path.now key.now (table_view self.entry.table.now)) }
+        ensures { Gives (λ t. t.now) result
+            (required text_of self.entry.path.now key.now (table_view self.entry.table.now)) }
     {
         match self.value(key) {
             Some(value) => self.text_in(alloc, key, value),
@@ -104,7 +111,8 @@ impl<'a> Section<'a> {
 
     /// The name at a key that has to be there. `Missing`, `WrongType` or `BadName`.
     pub fn name(self, alloc: Global, key: &str) -> Result<&'a str, LoadError>
-        ensures { Gives (λ t. t.now) result (required name_of self.entry.path.now key.now (table_view self.entry.table.now)) }
+        ensures { Gives (λ t. t.now) result
+            (required name_of self.entry.path.now key.now (table_view self.entry.table.now)) }
     {
         match self.value(key) {
             Some(value) => self.name_in(alloc, key, value),
@@ -114,7 +122,8 @@ impl<'a> Section<'a> {
 
     /// The name that the value at a key is. `WrongType` or `BadName`.
     pub fn name_in(self, alloc: Global, key: &str, value: &'a Value) -> Result<&'a str, LoadError>
-        ensures { Gives (λ t. t.now) result (name_of (below self.entry.path.now key.now) (view value.now)) }
+        ensures { Gives (λ t. t.now) result
+            (name_of (below self.entry.path.now key.now) (view value.now)) }
     {
         let text = self.text_in(alloc, key, value)?;
         if !is_name(text) {
@@ -125,7 +134,8 @@ impl<'a> Section<'a> {
 
     /// The text that the value at a key is. `WrongType`.
     pub fn text_in(self, alloc: Global, key: &str, value: &'a Value) -> Result<&'a str, LoadError>
-        ensures { Gives (λ t. t.now) result (text_of (below self.entry.path.now key.now) (view value.now)) }
+        ensures { Gives (λ t. t.now) result
+            (text_of (below self.entry.path.now key.now) (view value.now)) }
     {
         match value.as_str() {
             Some(text) => Ok(text),
@@ -136,7 +146,9 @@ impl<'a> Section<'a> {
     /// The elements of the array at a key, none where the key is absent. `WrongType`, or `TooMany`
     /// where there are more than `most`.
     pub fn elements(self, alloc: Global, key: &str, most: usize) -> Result<&'a [Value], LoadError>
-        ensures { Gives (λ values. items_view values.now) result (optional (elements_of most) no_items self.entry.path.now key.now (table_view self.entry.table.now)) }
+        ensures { Gives (λ values. items_view values.now) result
+            (optional (elements_of most) no_items self.entry.path.now key.now
+            (table_view self.entry.table.now)) }
     {
         match self.value(key) {
             Some(value) => self.elements_in(alloc, key, value, most),
@@ -151,7 +163,8 @@ impl<'a> Section<'a> {
         value: &Value,
         limits: Limits,
     ) -> Result<u32, LoadError>
-        ensures { Gives (λ n. n) result (integer_of limits (below self.entry.path.now key.now) (view value.now)) }
+        ensures { Gives (λ n. n) result
+            (integer_of limits (below self.entry.path.now key.now) (view value.now)) }
     {
         match value.as_integer() {
             Some(number) => match within(number, limits) {
@@ -170,7 +183,8 @@ impl<'a> Section<'a> {
         value: &'a Value,
         most: usize,
     ) -> Result<&'a [Value], LoadError>
-        ensures { Gives (λ values. items_view values.now) result (elements_of most (below self.entry.path.now key.now) (view value.now)) }
+        ensures { Gives (λ values. items_view values.now) result
+            (elements_of most (below self.entry.path.now key.now) (view value.now)) }
     {
         match value.as_array() {
             Some(values) => {

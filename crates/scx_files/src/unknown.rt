@@ -30,7 +30,11 @@ impl Unknown {
         section: Section<'_>,
         known: &[&str],
     ) -> Result<Unknown, AllocError>
-        ensures { IfOk result (λ u. least_path u ≡ least_with (least_path self) (unknown (words known.now) section.entry.path.now (table_view section.entry.table.now))) }
+        ensures { IfOk result
+            (λ u. least_path u
+            ≡ least_with (least_path self)
+            (unknown (words known.now) section.entry.path.now
+            (table_view section.entry.table.now))) }
     {
         self.in_table(alloc, section.path, section.table, known)
     }
@@ -43,7 +47,11 @@ impl Unknown {
         key: &str,
         known: &[&str],
     ) -> Result<Unknown, AllocError>
-        ensures { IfOk result (λ u. least_path u ≡ least_with (least_path self) (unknown_in (words known.now) section.entry.path.now key.now (table_view section.entry.table.now))) }
+        ensures { IfOk result
+            (λ u. least_path u
+            ≡ least_with (least_path self)
+            (unknown_in (words known.now) section.entry.path.now key.now
+            (table_view section.entry.table.now))) }
     {
         match section.value(key) {
             Some(value) => {
@@ -62,7 +70,11 @@ impl Unknown {
         key: &str,
         known: &[&str],
     ) -> Result<Unknown, AllocError>
-        ensures { IfOk result (λ u. least_path u ≡ least_with (least_path self) (unknown_in_each (words known.now) section.entry.path.now key.now (table_view section.entry.table.now))) }
+        ensures { IfOk result
+            (λ u. least_path u
+            ≡ least_with (least_path self)
+            (unknown_in_each (words known.now) section.entry.path.now key.now
+            (table_view section.entry.table.now))) }
     {
         match section.value(key) {
             Some(value) => {
@@ -93,7 +105,10 @@ impl Unknown {
         table: &Table,
         known: &[&str],
     ) -> Result<Unknown, AllocError>
-        ensures { IfOk result (λ u. least_path u ≡ least_with (least_path self) (unknown (words known.now) path.now (table_view table.now))) }
+        ensures { IfOk result
+            (λ u. least_path u
+            ≡ least_with (least_path self)
+            (unknown (words known.now) path.now (table_view table.now))) }
     {
         let mut least = self.least;
         for (key, _value) in table {
@@ -111,7 +126,10 @@ impl Unknown {
         value: &Value,
         known: &[&str],
     ) -> Result<Unknown, AllocError>
-        ensures { IfOk result (λ u. least_path u ≡ least_with (least_path self) (unknown_of (words known.now) path.now (view value.now))) }
+        ensures { IfOk result
+            (λ u. least_path u
+            ≡ least_with (least_path self)
+            (unknown_of (words known.now) path.now (view value.now))) }
     {
         match value.as_table() {
             Some(table) => self.in_table(alloc, path, table, known),
@@ -126,7 +144,10 @@ impl Unknown {
         value: &Value,
         known: &[&str],
     ) -> Result<Unknown, AllocError>
-        ensures { IfOk result (λ u. least_path u ≡ least_with (least_path self) (unknown_of_each (words known.now) path.now (view value.now))) }
+        ensures { IfOk result
+            (λ u. least_path u
+            ≡ least_with (least_path self)
+            (unknown_of_each (words known.now) path.now (view value.now))) }
     {
         match value.as_array() {
             Some(values) => self.in_elements(alloc, path, values, known),
@@ -141,7 +162,10 @@ impl Unknown {
         values: &[Value],
         known: &[&str],
     ) -> Result<Unknown, AllocError>
-        ensures { IfOk result (λ u. least_path u ≡ least_with (least_path self) (unknown_from (words known.now) path.now 0 (items_view values.now))) }
+        ensures { IfOk result
+            (λ u. least_path u
+            ≡ least_with (least_path self)
+            (unknown_from (words known.now) path.now 0 (items_view values.now))) }
     {
         let mut unknown = self;
         for (number, value) in values.iter().enumerate() {

@@ -192,7 +192,10 @@ fn the_largest_map_can_be_made(rt: HostRuntime) -> Result<(), Fail> {
     let defs = MapDefs::new(&[shape(65536, 256)])?;
     let mut maps = Maps::new(rt.alloc(), &defs)?;
     assert!(rt; store(&mut maps, 0, 65535, 248, Size::DoubleWord, u64::MAX));
-    assert_eq!(rt; load(&maps, 0, 65535, 248, Size::DoubleWord), Some(u64::MAX));
+    assert_eq!(rt;
+        load(&maps, 0, 65535, 248, Size::DoubleWord),
+        Some(u64::MAX)
+    );
     assert_eq!(rt; load(&maps, 0, 65535, 240, Size::DoubleWord), Some(0));
     assert_eq!(rt; load(&maps, 0, 65536, 0, Size::Byte), None);
     Ok(())

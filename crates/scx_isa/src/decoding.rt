@@ -19,7 +19,8 @@ fn place_at_number(
     slot: &Slot,
     behind: &[u8],
 ) -> Result<Option<Insn>, DecodeError>
-    ensures { Gives (λ place. place) result (placed number (place_at due slot.now (front_slot behind.now))) }
+    ensures { Gives (λ place. place) result
+        (placed number (place_at due slot.now (front_slot behind.now))) }
 {
     match place_of(due, slot, behind) {
         Ok(place) => Ok(place),
@@ -30,7 +31,8 @@ fn place_at_number(
 /// What stands at each slot.
 fn read(alloc: Global, bytes: &[u8]) -> Result<Vec<Option<Insn>>, DecodeError>
     requires { length bytes.now % 8 ≡ 0 }
-    ensures { Gives (λ code. code.items) result (read_slots 0 None (slots_in (length bytes.now / 8) bytes.now)) }
+    ensures { Gives (λ code. code.items) result
+        (read_slots 0 None (slots_in (length bytes.now / 8) bytes.now)) }
 {
     let slots = bytes.len() / SLOT_BYTES;
     let mut code = Vec::with_capacity(alloc, slots)?;
@@ -87,7 +89,8 @@ pub fn decode(alloc: Global, bytes: &[u8]) -> Result<Program, DecodeError>
     // What is decoded is what the bytes spell.
     ensures decoded { IfOk result (λ program. Spells bytes.now program) }
     // What the bytes spell is decoded, unless memory runs out.
-    ensures spelled { (code : Code) → Spells bytes.now code → Gives (λ program. program) result (Ok code) }
+    ensures spelled { (code : Code) → Spells bytes.now code
+        → Gives (λ program. program) result (Ok code) }
     // What is refused has that fault first, at that slot. Memory runs out only where the bytes are as
     // many as a program has.
     ensures refused { IfErr result (IsRefusal bytes.now) }

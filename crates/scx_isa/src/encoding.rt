@@ -13,7 +13,8 @@ use std::alloc::{AllocError, Global};
 /// Writes the slots of what stands at a slot; a second half is written with its first.
 fn push_place(out: &mut Vec<u8>, place: &Option<Insn>) -> Result<(), AllocError>
     requires { ForSome place.now IsInsn }
-    ensures { OnOk result (out.new.items ≡ out.old.items ++ flat_map slot_bytes (place_slots place.now)) }
+    ensures { OnOk result
+        (out.new.items ≡ out.old.items ++ flat_map slot_bytes (place_slots place.now)) }
 {
     match place {
         Some(insn) => push_insn(out, insn),

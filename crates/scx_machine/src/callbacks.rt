@@ -35,8 +35,10 @@ pub(crate) fn run_callback(
     requires arguments { FitsCallback callback (given arguments) }
     requires quiet { world.old.notes ≡ [] }
     requires few { world.old.queues.pushes + 4096 ≤ 2 ^ 63 }
-    ensures ended { record { answer = Some result; maps = maps.new; outside = world.new } ≡ called (program_of policy.now callback) callback arguments maps.old world.old }
-    ensures answered { AreAnswered (calls_of (program_of policy.now callback) arguments maps.old world.old) }
+    ensures ended { record { answer = Some result; maps = maps.new; outside = world.new }
+        ≡ called (program_of policy.now callback) callback arguments maps.old world.old }
+    ensures answered { AreAnswered
+        (calls_of (program_of policy.now callback) arguments maps.old world.old) }
     ensures shapes { HasShapes policy.now.shapes maps.new }
     ensures few { world.new.queues.pushes ≤ world.old.queues.pushes + 4096 }
 {
@@ -59,8 +61,15 @@ fn run_program(
     requires quiet { world.old.notes ≡ [] }
     requires few { world.old.queues.pushes + 4096 ≤ 2 ^ 63 }
     ensures ended { record { answer = Some result; maps = maps.new; outside = world.new }
-        ≡ run_of (answer_to world_functions) (after_query world_functions) program.now.context.callback program.now.code (given arguments) maps.old world.old }
-    ensures answered { IsAnswered (record { program = program.now; arguments = arguments; maps = maps.old; world = world.old }) }
+        ≡ run_of (answer_to world_functions) (after_query world_functions)
+        program.now.context.callback program.now.code (given arguments) maps.old world.old }
+    ensures answered { IsAnswered
+        (record {
+          program = program.now;
+          arguments = arguments;
+          maps = maps.old;
+          world = world.old;
+        }) }
     ensures shapes { HasShapes program.now.context.defs maps.new }
     ensures few { world.new.queues.pushes ≤ world.old.queues.pushes + 4096 }
 {
@@ -156,7 +165,8 @@ impl Machine {
         ensures answer { Some result ≡ answered_by self.old callback arguments task cpu }
         ensures state { self.new ≡ (call_back self.old callback arguments task cpu).state }
         ensures few { self.new.world.queues.pushes ≤ self.old.world.queues.pushes + 4096 }
-        ensures notes { Takes S.takes sink.old (call_back self.old callback arguments task cpu).notes sink.new }
+        ensures notes { Takes S.takes sink.old
+            (call_back self.old callback arguments task cpu).notes sink.new }
         ensures answered { AreAnswered (call_back self.old callback arguments task cpu).calls }
     {
         self.world.begin(callback, task, cpu);

@@ -127,7 +127,8 @@ impl Machine {
         requires few { self.old.world.queues.pushes + 12289 ≤ 2 ^ 63 }
         ensures state { self.new ≡ (pick_or_rest self.old cpu before ran).state }
         ensures few { self.new.world.queues.pushes ≤ self.old.world.queues.pushes + 12289 }
-        ensures notes { Takes S.takes sink.old (pick_or_rest self.old cpu before ran).notes sink.new }
+        ensures notes { Takes S.takes sink.old (pick_or_rest self.old cpu before ran).notes
+            sink.new }
         ensures answered { AreAnswered (pick_or_rest self.old cpu before ran).calls }
     {
         if self.has_local(cpu) {

@@ -110,7 +110,8 @@ impl Machine {
 
     /// The processor for which a task that wakes is put, where select_cpu answered so.
     fn target(&self, task: u16, answer: u64) -> u32
-        ensures { result ≡ target self.now.policy.callbacks.select_cpu self.now.world task (Some answer) }
+        ensures { result
+            ≡ target self.now.policy.callbacks.select_cpu self.now.world task (Some answer) }
     {
         if self.policy.program(Callback::SelectCpu).is_none() {
             return self.world.default_choice(task);
@@ -128,8 +129,10 @@ impl Machine {
         requires few { self.old.world.queues.pushes + 4097 ≤ 2 ^ 63 }
         ensures state { self.new ≡ (settled self.old.world.call.insert self.old task cpu).state }
         ensures few { self.new.world.queues.pushes ≤ self.old.world.queues.pushes + 4097 }
-        ensures notes { Takes S.takes sink.old (settled self.old.world.call.insert self.old task cpu).notes sink.new }
-        ensures answered { AreAnswered (settled self.old.world.call.insert self.old task cpu).calls }
+        ensures notes { Takes S.takes sink.old
+            (settled self.old.world.call.insert self.old task cpu).notes sink.new }
+        ensures answered { AreAnswered
+            (settled self.old.world.call.insert self.old task cpu).calls }
     {
         match self.world.insert() {
             Some(insert) => self.enter(task, insert.for_cpu(cpu), sink),

@@ -88,7 +88,8 @@ impl Machine {
         ensures done { OnOk result (all_enabled (initialized self.old) ≡ Ok self.new) }
         ensures failed { IfErr result (λ answer. all_enabled (initialized self.old) ≡ Err answer) }
         ensures few { self.new.world.queues.pushes ≤ 2 ^ 23 }
-        ensures answered { AreAnswered (init_calls self.old ++ calls_after_init (initialized self.old)) }
+        ensures answered { AreAnswered
+            (init_calls self.old ++ calls_after_init (initialized self.old)) }
     {
         self.initialize()?;
         self.enable_all()
@@ -126,7 +127,8 @@ impl Machine {
     #[tactic(auto, using(crate::proofs::Enabling::answered_next))]
     fn enable_all(&mut self) -> Result<(), i64>
         requires few { self.old.world.queues.pushes + 2 ^ 22 ≤ 2 ^ 63 }
-        ensures done { OnOk result (enabled (length self.old.world.tasks) self.old ≡ Some self.new) }
+        ensures done { OnOk result
+            (enabled (length self.old.world.tasks) self.old ≡ Some self.new) }
         ensures failed { OnErr result (enabled (length self.old.world.tasks) self.old ≡ None) }
         ensures answer { IfErr result (λ answer. answer ≡ fault_answer) }
         ensures few { self.new.world.queues.pushes ≤ self.old.world.queues.pushes + 2 ^ 22 }

@@ -154,7 +154,9 @@ impl Maps {
     /// Writes the lowest bytes of a number from a byte of all maps on, low byte first.
     pub fn store_at(&mut self, place: usize, size: Size, number: u64)
         requires { place + size_bytes size ≤ length (all_bytes self.old) }
-        ensures { self.new ≡ contents_in (shapes_of self.old) (with_number (all_bytes self.old) place (size_bytes size) number) }
+        ensures { self.new
+            ≡ contents_in (shapes_of self.old)
+            (with_number (all_bytes self.old) place (size_bytes size) number) }
     {
         write_number(&mut self.block, place, size, number);
     }

@@ -25,10 +25,14 @@ pub type Line = ArrayString<LINE_CAPACITY>;
 /// Writes the line of a refusal.
 #[tactic(auto, using(crate::proofs::Parts::line_in_parts))]
 pub(crate) fn write_refusal<W: Out>(refusal: &Refusal, out: &mut W) -> Result<(), Failed>
-    ensures ok { OnOk result (Appends (W.contents out.old) (W.contents out.new) (lines.refusal_line refusal.now)) }
+    ensures ok { OnOk result
+        (Appends (W.contents out.old) (W.contents out.new) (lines.refusal_line refusal.now)) }
     ensures ok_failures { OnOk result (W.failure_count out.new ≡ W.failure_count out.old) }
-    ensures err { OnErr result (AppendsBeginning (W.contents out.old) (W.contents out.new) (lines.refusal_line refusal.now)) }
-    ensures err_failures { OnErr result (HasFailed (W.failure_count out.old) (W.failure_count out.new)) }
+    ensures err { OnErr result
+        (AppendsBeginning (W.contents out.old) (W.contents out.new)
+        (lines.refusal_line refusal.now)) }
+    ensures err_failures { OnErr result
+        (HasFailed (W.failure_count out.old) (W.failure_count out.new)) }
 {
     let start = start(refusal);
     let end = end(refusal);
@@ -118,7 +122,9 @@ pub fn callback_line(
     slot: usize,
 ) -> Line
     requires { length before.now + length behind.now ≤ 20 }
-    ensures { result.bytes ≡ before.now ++ name_of callback ++ behind.now ++ lines.fault_text (fault_number fault) (fault_name fault) slot ++ codes "\n" }
+    ensures { result.bytes
+        ≡ before.now ++ name_of callback ++ behind.now
+        ++ lines.fault_text (fault_number fault) (fault_name fault) slot ++ codes "\n" }
 {
     let mut line = Line::new();
     line.push_str(before);
@@ -184,7 +190,8 @@ fn fault_line(start: &str, number: u8, name: &str, place: usize) -> Line
 /// Appends a fault by its number and name, where it was found, and the line feed.
 fn push_fault(line: &mut Line, number: u8, name: &str, place: usize)
     requires { array_string_len line.old + length name.now ≤ 60 }
-    ensures { line.new.bytes ≡ line.old.bytes ++ lines.fault_text number name.now place ++ codes "\n" }
+    ensures { line.new.bytes
+        ≡ line.old.bytes ++ lines.fault_text number name.now place ++ codes "\n" }
 {
     let mut digits = Buffer::new();
     line.push_str(digits.format(number));

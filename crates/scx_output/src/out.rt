@@ -56,10 +56,14 @@ pub fn write_all<W: Out>(out: &mut W, bytes: &[u8]) -> Result<(), Failed>
 
 /// Writes a name between two texts, up to the first write that fails.
 pub fn write_named<W: Out>(out: &mut W, start: &str, name: &str, end: &str) -> Result<(), Failed>
-    ensures ok { OnOk result (Appends (W.contents out.old) (W.contents out.new) (start.now ++ name.now ++ end.now)) }
+    ensures ok { OnOk result
+        (Appends (W.contents out.old) (W.contents out.new) (start.now ++ name.now ++ end.now)) }
     ensures ok_failures { OnOk result (W.failure_count out.new ≡ W.failure_count out.old) }
-    ensures err { OnErr result (AppendsBeginning (W.contents out.old) (W.contents out.new) (start.now ++ name.now ++ end.now)) }
-    ensures err_failures { OnErr result (HasFailed (W.failure_count out.old) (W.failure_count out.new)) }
+    ensures err { OnErr result
+        (AppendsBeginning (W.contents out.old) (W.contents out.new)
+        (start.now ++ name.now ++ end.now)) }
+    ensures err_failures { OnErr result
+        (HasFailed (W.failure_count out.old) (W.failure_count out.new)) }
 {
     write_all(out, start.as_bytes())?;
     write_all(out, name.as_bytes())?;

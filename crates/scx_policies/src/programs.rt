@@ -100,7 +100,8 @@ fn spelled(alloc: Global, path: &str, key: &str, text: &str) -> Result<Option<Pr
 }
 
 fn bytes_in(alloc: Global, path: &str, key: &str, text: &str) -> Result<Vec<u8>, LoadError>
-    ensures { Gives (λ bytes. bytes.items) result (paired (below path.now key.now) (decode_of (without_blanks text.now))) }
+    ensures { Gives (λ bytes. bytes.items) result
+        (paired (below path.now key.now) (decode_of (without_blanks text.now))) }
 {
     let digits = without_blanks(alloc, text)?;
     match hex::decode(alloc, &digits) {

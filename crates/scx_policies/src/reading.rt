@@ -115,7 +115,8 @@ fn section_or<'a>(
 ) -> Result<Section<'a>, LoadError>
     requires whole { file.path.now ≡ [] }
     requires absent { table_view absent.now ≡ no_members }
-    ensures table { Gives (λ s. table_view s.table.now) result (table_in key.now (table_view file.entry.table.now)) }
+    ensures table { Gives (λ s. table_view s.table.now) result
+        (table_in key.now (table_view file.entry.table.now)) }
     ensures path { IfOk result (λ s. s.path.now ≡ key.now) }
 {
     match file.value(key) {

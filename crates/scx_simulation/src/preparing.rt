@@ -29,7 +29,8 @@ pub(crate) struct Run {
 /// The run that the texts of a policy file and of a workload file stand for.
 pub(crate) fn prepare(alloc: Global, policy: &str, workload: &str) -> Result<Run, Refusal>
     ensures run { IfOk result (λ run. IsRun policy.now workload.now run.workload run.sim) }
-    ensures events { IfOk result (λ run. remaining run.driver run.sim ≡ workload_events run.workload run.sim) }
+    ensures events { IfOk result
+        (λ run. remaining run.driver run.sim ≡ workload_events run.workload run.sim) }
     ensures refused { IfErr result (IsCause policy.now workload.now) }
 {
     let text = policy_in(alloc, policy)?;
@@ -42,10 +43,13 @@ pub(crate) fn prepare(alloc: Global, policy: &str, workload: &str) -> Result<Run
 #[tactic(auto, using(crate::proofs::Shapes::shape_is_right, scx_driver::proofs::Law::none_is_refused))]
 fn begin(alloc: Global, policy: Policy, workload: Workload) -> Result<Run, Refusal>
     ensures workload { IfOk result (λ run. run.workload ≡ workload) }
-    ensures first { IfOk result (λ run. IsFirst policy (idle workload.groups workload.homes) workload.cpus run.sim) }
-    ensures events { IfOk result (λ run. remaining run.driver run.sim ≡ workload_events workload run.sim) }
+    ensures first { IfOk result
+        (λ run. IsFirst policy (idle workload.groups workload.homes) workload.cpus run.sim) }
+    ensures events { IfOk result
+        (λ run. remaining run.driver run.sim ≡ workload_events workload run.sim) }
     ensures accepted { IfOk result (λ run. AreAccepted run.sim (workload_events workload run.sim)) }
-    ensures refused { IfErr result (IsStartFault policy (idle workload.groups workload.homes) workload.cpus) }
+    ensures refused { IfErr result
+        (IsStartFault policy (idle workload.groups workload.homes) workload.cpus) }
 {
     workload.is_whole();
     let tree = tree_of(alloc, &workload)?;

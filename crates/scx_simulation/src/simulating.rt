@@ -50,10 +50,14 @@ pub fn simulate<W: Out>(
 /// Writes a line for each note of the run.
 fn write_trace<W: Out>(run: Run, out: &mut W) -> Result<(), Failed>
     requires { remaining run.driver run.sim ≡ workload_events run.workload run.sim }
-    ensures ok { OnOk result (Appends (W.contents out.old) (W.contents out.new) (trace_text run.workload run.sim)) }
+    ensures ok { OnOk result
+        (Appends (W.contents out.old) (W.contents out.new) (trace_text run.workload run.sim)) }
     ensures ok_failures { OnOk result (W.failure_count out.new ≡ W.failure_count out.old) }
-    ensures err { OnErr result (AppendsBeginning (W.contents out.old) (W.contents out.new) (trace_text run.workload run.sim)) }
-    ensures err_failures { OnErr result (HasFailed (W.failure_count out.old) (W.failure_count out.new)) }
+    ensures err { OnErr result
+        (AppendsBeginning (W.contents out.old) (W.contents out.new)
+        (trace_text run.workload run.sim)) }
+    ensures err_failures { OnErr result
+        (HasFailed (W.failure_count out.old) (W.failure_count out.new)) }
 {
     let Run {
         workload,

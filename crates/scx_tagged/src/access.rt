@@ -30,7 +30,9 @@ pub fn load<E: Env>(
     env: &E,
 ) -> Effect
     requires { Lies maps.now (size_bytes (access_size access)) place }
-    ensures { ComesTo (host E.functions) (loaded (seen core.old maps.now) (number destination) access (place_of place)) maps.now env.now result (seen core.new maps.now) env.now }
+    ensures { ComesTo (host E.functions)
+        (loaded (seen core.old maps.now) (number destination) access (place_of place)) maps.now
+        env.now result (seen core.new maps.now) env.now }
 {
     match place {
         Place::Nowhere => Effect::Stuck,
@@ -55,7 +57,10 @@ fn load_field<E: Env>(
     field: Field,
     env: &E,
 ) -> Effect
-    ensures { (maps : Maps) → ComesTo (host E.functions) (loaded (seen core.old maps) (number destination) access (places.InTask task field)) maps env.now result (seen core.new maps) env.now }
+    ensures { (maps : Maps)
+        → ComesTo (host E.functions)
+        (loaded (seen core.old maps) (number destination) access (places.InTask task field)) maps
+        env.now result (seen core.new maps) env.now }
 {
     if !access.is_plain() || destination == Register::R10 {
         return Effect::Stuck;
@@ -76,7 +81,9 @@ pub fn store<E: Env>(
     env: &mut E,
 ) -> Effect
     requires { Lies maps.old (size_bytes size) place }
-    ensures effect { ComesTo (host E.functions) (stored (seen core.old maps.old) size value (place_of place)) maps.old env.old result (seen core.new maps.new) env.new }
+    ensures effect { ComesTo (host E.functions)
+        (stored (seen core.old maps.old) size value (place_of place)) maps.old env.old result
+        (seen core.new maps.new) env.new }
     ensures shapes { lengths_of maps.new ≡ lengths_of maps.old }
     ensures room { E.room env.old ≤ E.room env.new }
     ensures spent { E.spent env.new ≤ E.spent env.old }
@@ -98,7 +105,9 @@ pub fn store<E: Env>(
 /// Stores a value on the stack.
 fn store_on_stack(core: &mut Core, size: Size, value: Value, at: u16) -> Effect
     requires { LiesOnStack at (size_bytes size) }
-    ensures { (maps : Maps) → stored (seen core.old maps) size value (places.OnStack at) ≡ effect_of result (seen core.new maps) }
+    ensures { (maps : Maps)
+        → stored (seen core.old maps) size value (places.OnStack at)
+        ≡ effect_of result (seen core.new maps) }
 {
     match (size, value) {
         (_, Value::Number(n)) => core.stack.store_number(size, usize::from(at), n),
@@ -113,7 +122,9 @@ fn store_on_stack(core: &mut Core, size: Size, value: Value, at: u16) -> Effect
 /// Stores a value to a field of a task, which has to be a number, and the field one that may be
 /// written.
 fn store_field<E: Env>(env: &mut E, task: TaskId, field: Field, value: Value) -> Effect
-    ensures effect { (m : Machine) (size : Sizes.Size) → ComesTo (host E.functions) (stored m size value (places.InTask task field)) m.maps env.old result m env.new }
+    ensures effect { (m : Machine) (size : Sizes.Size)
+        → ComesTo (host E.functions) (stored m size value (places.InTask task field)) m.maps env.old
+        result m env.new }
     ensures room { E.room env.old ≤ E.room env.new }
     ensures spent { E.spent env.new ≤ E.spent env.old }
 {

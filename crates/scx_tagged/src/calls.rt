@@ -31,7 +31,8 @@ pub fn call<E: Env>(
     env: &mut E,
 ) -> Effect
     requires { 0 < E.room env.old }
-    ensures effect { ComesTo (host E.functions) (call callback (seen core.old maps.now) number) maps.now env.old result (seen core.new maps.now) env.new }
+    ensures effect { ComesTo (host E.functions) (call callback (seen core.old maps.now) number)
+        maps.now env.old result (seen core.new maps.now) env.new }
     ensures room { E.room env.old ≤ E.room env.new + 1 }
     ensures spent { E.spent env.new ≤ E.spent env.old + 1 }
 {
@@ -49,7 +50,9 @@ pub fn call<E: Env>(
 
 /// The look-up of a map's element.
 fn look_up(core: &mut Core, maps: &Maps) -> Effect
-    ensures { (if takes_all (seen core.old maps.now) (parameters MapLookupElem) 1 then called (seen core.old maps.now) MapLookupElem else effects.Stuck) ≡ effect_of result (seen core.new maps.now) }
+    ensures { (if takes_all (seen core.old maps.now) (parameters MapLookupElem) 1 then called
+        (seen core.old maps.now) MapLookupElem else effects.Stuck)
+        ≡ effect_of result (seen core.new maps.now) }
 {
     let Value::Pointer(Pointer::Map(map)) = core.read(Register::R1) else {
         return Effect::Stuck;
@@ -85,7 +88,10 @@ fn key(core: &Core, maps: &Maps, value: Value) -> Option<u32>
 fn ask<E: Env>(core: &mut Core, helper: Helper, env: &mut E) -> Effect
     requires room { 0 < E.room env.old }
     requires is_asked { ¬ (helper ≡ MapLookupElem) }
-    ensures effect { (maps : Maps) → ComesTo (host E.functions) (if takes_all (seen core.old maps) (parameters helper) 1 then called (seen core.old maps) helper else effects.Stuck) maps env.old result (seen core.new maps) env.new }
+    ensures effect { (maps : Maps)
+        → ComesTo (host E.functions)
+        (if takes_all (seen core.old maps) (parameters helper) 1 then called (seen core.old maps)
+        helper else effects.Stuck) maps env.old result (seen core.new maps) env.new }
     ensures room { E.room env.old ≤ E.room env.new + 1 }
     ensures spent { E.spent env.new ≤ E.spent env.old + 1 }
 {
@@ -113,7 +119,10 @@ fn arguments(core: &Core, helper: Helper) -> [Argument; 5]
 /// What the register holds, if the helper takes an argument of that number.
 fn argument(core: &Core, helper: Helper, index: usize, register: Register) -> Argument
     requires { number register ≡ index + 1 }
-    ensures { (maps : Maps) → result ≡ argument_of (argument (seen core.now maps) (length (parameters helper)) (number register)) }
+    ensures { (maps : Maps)
+        → result
+        ≡ argument_of
+        (argument (seen core.now maps) (length (parameters helper)) (number register)) }
 {
     if helper.parameter(index).is_some() {
         argument_of(core.read(register))
@@ -136,7 +145,10 @@ fn takes_all(core: &Core, helper: Helper) -> bool
 /// Whether the register holds what the helper takes as its argument of that number: a task or a
 /// number.
 fn takes(core: &Core, helper: Helper, index: usize, register: Register) -> bool
-    ensures { (maps : Maps) → result ≡ finds (seen core.now maps) (slice_get (parameters helper) index) (held core.now (number register)) }
+    ensures { (maps : Maps)
+        → result
+        ≡ finds (seen core.now maps) (slice_get (parameters helper) index)
+        (held core.now (number register)) }
 {
     let value = core.read(register);
     match helper.parameter(index) {

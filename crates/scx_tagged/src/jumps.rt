@@ -21,7 +21,9 @@ pub fn compared(
     register: Register,
     operand: Operand,
 ) -> Option<bool>
-    ensures { (maps : Maps) → result ≡ compared (seen core.now maps) width comparison (held core.now (number register)) operand }
+    ensures { (maps : Maps)
+        → result
+        ≡ compared (seen core.now maps) width comparison (held core.now (number register)) operand }
 {
     match core.read(register) {
         Value::Number(a) => numbers_compared(

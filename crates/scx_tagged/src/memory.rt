@@ -53,7 +53,10 @@ fn room_at(limit: u16, size: Size, at: u16, offset: i16) -> Option<u16>
     ensures aligned { IfSome result (λ to. to % size_bytes size ≡ 0) }
 {
     let bytes = u64::from(size.bytes());
-    match (shifted(at, i64::from(offset)), u64::from(limit).checked_sub(bytes)) {
+    match (
+        shifted(at, i64::from(offset)),
+        u64::from(limit).checked_sub(bytes),
+    ) {
         (Some(to), Some(last)) if to <= last && to % bytes == 0 => Some(to as u16),
         _ => None,
     }
@@ -62,7 +65,9 @@ fn room_at(limit: u16, size: Size, at: u16, offset: i16) -> Option<u16>
 /// What a load reads in an element of a map.
 pub fn element_number(maps: &Maps, map: u8, index: u32, at: u16, access: Access) -> u64
     requires { LiesInElement maps.now map index at (size_bytes (access_size access)) }
-    ensures { result ≡ read_as access (number_at (element maps.now map index) at (size_bytes (access_size access))) }
+    ensures { result
+        ≡ read_as access
+        (number_at (element maps.now map index) at (size_bytes (access_size access))) }
 {
     read(maps.value(map, index), access, usize::from(at))
 }

@@ -55,11 +55,16 @@ pub fn try_run<E: Env>(
 ) -> Ran
     requires flows { Flows program.now }
     requires room { instruction_count program.now ≤ E.room env.old }
-    ensures done { IfDone result (λ done. Runs (host E.functions) callback program.now (given arguments) maps.old env.old done.r0 done.steps maps.new env.new) }
+    ensures done { IfDone result
+        (λ done. Runs (host E.functions) callback program.now (given arguments) maps.old env.old
+        done.r0 done.steps maps.new env.new) }
     ensures in_bound { IfDone result (λ done. done.steps ≤ instruction_count program.now) }
-    ensures stuck { IfStuck result (λ slot. GetsStuckAt (host E.functions) callback program.now (given arguments) maps.old env.old slot maps.new env.new) }
+    ensures stuck { IfStuck result
+        (λ slot. GetsStuckAt (host E.functions) callback program.now (given arguments) maps.old
+        env.old slot maps.new env.new) }
     ensures exact { record { answer = answer_of result; maps = maps.new; outside = env.new }
-        ≡ run_of (answer_to E.functions) (after_query E.functions) callback program.now (given arguments) maps.old env.old }
+        ≡ run_of (answer_to E.functions) (after_query E.functions) callback program.now
+        (given arguments) maps.old env.old }
     ensures shapes { lengths_of maps.new ≡ lengths_of maps.old }
     ensures room { E.room env.old ≤ E.room env.new + instruction_count program.now }
     ensures spent { E.spent env.new ≤ E.spent env.old + instruction_count program.now }
@@ -77,9 +82,13 @@ fn walk<E: Env>(
 ) -> Ran
     requires flows { Flows program.now }
     requires room { instruction_count program.now ≤ E.room env.old }
-    ensures done { IfDone result (λ done. Runs (host E.functions) callback program.now (given arguments) maps.old env.old done.r0 done.steps maps.new env.new) }
+    ensures done { IfDone result
+        (λ done. Runs (host E.functions) callback program.now (given arguments) maps.old env.old
+        done.r0 done.steps maps.new env.new) }
     ensures in_bound { IfDone result (λ done. done.steps ≤ instruction_count program.now) }
-    ensures stuck { IfStuck result (λ slot. GetsStuckAt (host E.functions) callback program.now (given arguments) maps.old env.old slot maps.new env.new) }
+    ensures stuck { IfStuck result
+        (λ slot. GetsStuckAt (host E.functions) callback program.now (given arguments) maps.old
+        env.old slot maps.new env.new) }
     ensures shapes { lengths_of maps.new ≡ lengths_of maps.old }
     ensures room { E.room env.old ≤ E.room env.new + instruction_count program.now }
     ensures spent { E.spent env.new ≤ E.spent env.old + instruction_count program.now }
@@ -112,7 +121,9 @@ fn step<E: Env>(
     requires flows { Flows program.now }
     requires short { length program.now ≤ MAX_SLOTS }
     requires room { instructions_from program.now slot ≤ E.room env.old }
-    ensures step { StepsTo (host E.functions) (step callback program.now slot (seen core.old maps.old)) maps.old env.old result (seen core.new maps.new) env.new }
+    ensures step { StepsTo (host E.functions)
+        (step callback program.now slot (seen core.old maps.old)) maps.old env.old result
+        (seen core.new maps.new) env.new }
     ensures nearer { LeadsNearer program.now slot result }
     ensures shapes { lengths_of maps.new ≡ lengths_of maps.old }
     ensures room { E.room env.old ≤ E.room env.new + 1 }

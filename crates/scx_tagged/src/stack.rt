@@ -164,7 +164,8 @@ impl Stack {
     /// Stores the low bytes of a number, the lowest first.
     pub fn store_number(&mut self, size: Size, at: usize, n: u64)
         requires { at + size_bytes size ≤ 512 }
-        ensures { seen_stack self.new ≡ write (seen_stack self.old) at (number_bytes (size_bytes size) n) }
+        ensures { seen_stack self.new
+            ≡ write (seen_stack self.old) at (number_bytes (size_bytes size) n) }
     {
         match size {
             Size::Byte => self.write_byte(at, low_byte(n)),

@@ -47,14 +47,17 @@ impl Core {
 
     /// Puts a value into the register, be it r10.
     pub fn write(&mut self, register: Register, value: Value)
-        ensures { (maps : Maps) → seen self.new maps ≡ with_register (seen self.old maps) (number register) value }
+        ensures { (maps : Maps)
+            → seen self.new maps ≡ with_register (seen self.old maps) (number register) value }
     {
         self.registers[register.number() as usize] = value;
     }
 
     /// Writes what there is to write, but never r10.
     pub fn keep(&mut self, register: Register, value: Option<Value>) -> Effect
-        ensures { (maps : Maps) → keep (seen self.old maps) (number register) value ≡ effect_of result (seen self.new maps) }
+        ensures { (maps : Maps)
+            → keep (seen self.old maps) (number register) value
+            ≡ effect_of result (seen self.new maps) }
     {
         let Some(value) = value else {
             return Effect::Stuck;

@@ -31,7 +31,9 @@ pub fn binary(
     destination: Register,
     operand: Operand,
 ) -> Option<Value>
-    ensures { result ≡ binary (seen core.now maps.now) width operation (held core.now (number destination)) operand }
+    ensures { result
+        ≡ binary (seen core.now maps.now) width operation (held core.now (number destination))
+        operand }
 {
     match operation {
         Operation::Move => moved(width, operand_value(core, width, operand)),

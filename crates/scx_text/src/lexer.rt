@@ -174,7 +174,8 @@ fn is_blank(byte: u8) -> bool
 /// begin no token.
 #[tactic(auto, using(crate::proofs::Lexing::after_blank, crate::proofs::Lexing::at_comment, crate::proofs::Lexing::at_end))]
 pub fn tokens<'a>(line: &'a [u8], found: &mut Vec<Token<'a>>) -> Result<bool, AllocError>
-    ensures { IfOk result (λ all. (if all then Some (lexemes found.new.items) else None) ≡ tokens line.now) }
+    ensures { IfOk result
+        (λ all. (if all then Some (lexemes found.new.items) else None) ≡ tokens line.now) }
 {
     found.clear();
     let mut rest = line;

@@ -55,7 +55,8 @@ pub(crate) fn read_offset<'t, 'a>(tokens: &'t [Token<'a>]) -> Read<'t, 'a, Liter
 }
 
 pub(crate) fn read_target<'t, 'a>(tokens: &'t [Token<'a>]) -> Read<'t, 'a, Target<'a>>
-    ensures { option_map (λ x. (destination_of x.0, lexemes x.1.now)) result ≡ read_destination (lexemes tokens.now) }
+    ensures { option_map (λ x. (destination_of x.0, lexemes x.1.now)) result
+        ≡ read_destination (lexemes tokens.now) }
 {
     match tokens {
         [Token::Word(label), rest @ ..] => Some((Target::Label(label), rest)),
@@ -83,7 +84,8 @@ pub(crate) fn read_word<'t, 'a>(tokens: &'t [Token<'a>]) -> Read<'t, 'a, &'a [u8
 }
 
 pub(crate) fn read_register<'t, 'a>(width: Width, tokens: &'t [Token<'a>]) -> Read<'t, 'a, Register>
-    ensures { option_map (λ x. (x.0, lexemes x.1.now)) result ≡ read_register width (lexemes tokens.now) }
+    ensures { option_map (λ x. (x.0, lexemes x.1.now)) result
+        ≡ read_register width (lexemes tokens.now) }
 {
     match tokens {
         [Token::Word(name), rest @ ..] => Some((register_in(width, name)?, rest)),
@@ -93,7 +95,8 @@ pub(crate) fn read_register<'t, 'a>(width: Width, tokens: &'t [Token<'a>]) -> Re
 
 /// The second operand: a register of that width, or a number.
 pub(crate) fn read_argument<'t, 'a>(width: Width, tokens: &'t [Token<'a>]) -> Read<'t, 'a, Argument>
-    ensures { option_map (λ x. (x.0, lexemes x.1.now)) result ≡ read_argument width (lexemes tokens.now) }
+    ensures { option_map (λ x. (x.0, lexemes x.1.now)) result
+        ≡ read_argument width (lexemes tokens.now) }
 {
     match tokens {
         [Token::Word(name), rest @ ..] => {
@@ -107,7 +110,8 @@ pub(crate) fn read_argument<'t, 'a>(width: Width, tokens: &'t [Token<'a>]) -> Re
 }
 
 pub(crate) fn read_comparison<'t, 'a>(tokens: &'t [Token<'a>]) -> Read<'t, 'a, Comparison>
-    ensures { option_map (λ x. (x.0, lexemes x.1.now)) result ≡ read_comparison (lexemes tokens.now) }
+    ensures { option_map (λ x. (x.0, lexemes x.1.now)) result
+        ≡ read_comparison (lexemes tokens.now) }
 {
     match tokens {
         [Token::Mark(Symbol::Compare(comparison)), rest @ ..] => Some((*comparison, rest)),
@@ -188,7 +192,8 @@ pub(crate) fn read_given<'t, 'a>(tokens: &'t [Token<'a>]) -> Read<'t, 'a, Argume
 
 /// The target behind `goto`.
 pub(crate) fn read_goto<'t, 'a>(tokens: &'t [Token<'a>]) -> Read<'t, 'a, Target<'a>>
-    ensures { option_map (λ x. (destination_of x.0, lexemes x.1.now)) result ≡ read_goto (lexemes tokens.now) }
+    ensures { option_map (λ x. (destination_of x.0, lexemes x.1.now)) result
+        ≡ read_goto (lexemes tokens.now) }
 {
     match tokens {
         [Token::Word(name), rest @ ..] if *name == b"goto".as_slice() => read_target(rest),

@@ -105,7 +105,8 @@ fn moved<'a>(
     argument: Argument,
     tokens: &[Token<'a>],
 ) -> Option<Item<'a>>
-    ensures { option_map line_of result ≡ end (lexemes tokens.now) (Says (Binary width Move register argument)) }
+    ensures { option_map line_of result
+        ≡ end (lexemes tokens.now) (Says (Binary width Move register argument)) }
 {
     let statement = Statement::Binary(width, Operation::Move, register, argument);
     says(statement, tokens)
@@ -160,7 +161,9 @@ fn named<'a>(
     name: &[u8],
     tokens: &[Token<'a>],
 ) -> Option<Item<'a>>
-    ensures { option_map line_of result ≡ either (register_in width name.now) (λ r. copied width register r (lexemes tokens.now)) (special width register name.now (lexemes tokens.now)) }
+    ensures { option_map line_of result
+        ≡ either (register_in width name.now) (λ r. copied width register r (lexemes tokens.now))
+        (special width register name.now (lexemes tokens.now)) }
 {
     match register_in(width, name) {
         Some(source) => moved(width, register, Argument::Register(source), tokens),

@@ -19,10 +19,14 @@ pub(crate) type Part = ArrayString<PART_CAPACITY>;
 
 /// Writes the line of a note.
 pub(crate) fn write_note<N: Names, W: Out>(names: &N, note: Note, out: &mut W) -> Result<(), Failed>
-    ensures ok { OnOk result (Appends (W.contents out.old) (W.contents out.new) (line_of (N.lists names.now) note)) }
+    ensures ok { OnOk result
+        (Appends (W.contents out.old) (W.contents out.new) (line_of (N.lists names.now) note)) }
     ensures ok_failures { OnOk result (W.failure_count out.new ≡ W.failure_count out.old) }
-    ensures err { OnErr result (AppendsBeginning (W.contents out.old) (W.contents out.new) (line_of (N.lists names.now) note)) }
-    ensures err_failures { OnErr result (HasFailed (W.failure_count out.old) (W.failure_count out.new)) }
+    ensures err { OnErr result
+        (AppendsBeginning (W.contents out.old) (W.contents out.new)
+        (line_of (N.lists names.now) note)) }
+    ensures err_failures { OnErr result
+        (HasFailed (W.failure_count out.old) (W.failure_count out.new)) }
 {
     let start = start(note);
     let end = end(note.what);

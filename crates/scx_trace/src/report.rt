@@ -23,7 +23,8 @@ pub fn write_report<N: Names, W: Out>(sim: &Sim, names: &N, out: &mut W) -> Resu
     ensures ok_failures { OnOk result (W.failure_count out.new ≡ W.failure_count out.old) }
     ensures err { OnErr result (AppendsBeginning (W.contents out.old) (W.contents out.new)
         (report (N.lists names.now) (times sim.now.state.world))) }
-    ensures err_failures { OnErr result (HasFailed (W.failure_count out.old) (W.failure_count out.new)) }
+    ensures err_failures { OnErr result
+        (HasFailed (W.failure_count out.old) (W.failure_count out.new)) }
 {
     let total = total_ms(sim);
     for task in 0..sim.tasks() {
@@ -68,7 +69,8 @@ fn share(ms: u64, total: u64) -> u64
 /// What stands behind a task's name.
 fn end_of_task(ms: u64, total: u64) -> Part
     requires { ms ≤ 2 ^ 45 }
-    ensures { result.bytes ≡ codes " run " ++ decimal ms ++ codes " share " ++ decimal (share ms total) ++ codes "\n" }
+    ensures { result.bytes
+        ≡ codes " run " ++ decimal ms ++ codes " share " ++ decimal (share ms total) ++ codes "\n" }
 {
     let mut digits = Buffer::new();
     let mut end = Part::new();

@@ -14,7 +14,8 @@ use scx_sched::{Sim, Sink};
 
 /// Gives the events to the machine, one after another, up to the end or until the sink has failed.
 fn go_through<E: Events, S: Sink>(sim: &mut Sim, events: &mut E, sink: &mut S)
-    ensures { GoesThrough S.takes S.has_failed (E.remaining events.old sim.old) sim.old sink.old sim.new sink.new }
+    ensures { GoesThrough S.takes S.has_failed (E.remaining events.old sim.old) sim.old sink.old
+        sim.new sink.new }
 {
     while let Some(event) = events.next(sim) {
         let _ = sim.step(event, sink);
@@ -40,7 +41,8 @@ pub fn write_run<E: Events, N: Names, W: Out>(
     ensures ok_failures { OnOk result (W.failure_count out.new ≡ W.failure_count out.old) }
     ensures err { OnErr result (AppendsBeginning (W.contents out.old) (W.contents out.new)
         (note_lines (N.lists names.now) (notes_of_all sim.old (E.remaining events.old sim.old)))) }
-    ensures err_failures { OnErr result (HasFailed (W.failure_count out.old) (W.failure_count out.new)) }
+    ensures err_failures { OnErr result
+        (HasFailed (W.failure_count out.old) (W.failure_count out.new)) }
 {
     let mut trace = Trace::new(names, out);
     go_through(sim, events, &mut trace);

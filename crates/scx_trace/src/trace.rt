@@ -32,7 +32,12 @@ impl<'a, N: Names, W: Out> Trace<'a, N, W> {
 
 impl<N: Names, W: Out> Sink for Trace<'_, N, W> {
     ghost takes = { TakesLine (λ s. s.out.ghost_name) (λ s. N.lists s.names.now)
-        (λ s. record { contents = W.contents s.out.now; failures = W.failure_count s.out.now; failed = s.failed }) };
+        (λ s. record {
+          contents = W.contents s.out.now;
+          failures = W.failure_count s.out.now;
+          failed
+              = s.failed;
+        }) };
 
     ghost has_failed = { λ s. s.failed };
 

@@ -34,7 +34,8 @@ pub fn check<W: Out>(alloc: Global, bytes: &[u8], out: &mut W) -> Result<bool, F
     ensures quiet { IsRefused result → out.new ≡ out.old }
 
     // The lines are cut off where writing fails.
-    ensures cut { result ≡ Err Fault.WriteFailed → (verdicts : Verdicts) × AreVerdicts bytes.now verdicts
+    ensures cut { result ≡ Err Fault.WriteFailed
+        → (verdicts : Verdicts) × AreVerdicts bytes.now verdicts
         × AppendsBeginning (W.contents out.old) (W.contents out.new) (verdict_lines verdicts) }
     ensures counted { result ≡ Err Fault.WriteFailed
         → HasFailed (W.failure_count out.old) (W.failure_count out.new) }

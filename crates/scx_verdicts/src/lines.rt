@@ -52,7 +52,8 @@ fn verdict_line(callback: Callback, verdict: Verdict) -> Line
 }
 
 fn accepted_line(callback: Callback, instructions: usize) -> Line
-    ensures { result.bytes ≡ name_of callback ++ codes " ok " ++ decimal instructions ++ codes "\n" }
+    ensures { result.bytes
+        ≡ name_of callback ++ codes " ok " ++ decimal instructions ++ codes "\n" }
 {
     let mut digits = Buffer::new();
     let mut line = Line::new();

@@ -88,7 +88,8 @@ impl Sums {
     pub(crate) fn raise(&mut self, groups: &[Group], home: u32)
         requires forest { IsForest groups.now }
         requires known { home < length groups.now }
-        requires room { (g : ℕ) → g < length groups.now → slice_index self.old.tasks.items g ≤ max_tasks }
+        requires room { (g : ℕ) → g < length groups.now
+            → slice_index self.old.tasks.items g ≤ max_tasks }
         requires sums { AddsUp groups.now self.old.tasks.items self.old.weights.items }
         ensures counted { (g : ℕ) → g < length groups.now
             → slice_index self.new.tasks.items g
@@ -148,7 +149,8 @@ impl Sums {
         requires small { weight ≤ max_weight }
         requires sums { AddsUp groups.now self.old.tasks.items self.old.weights.items }
         ensures counted { self.new.tasks.items ≡ self.old.tasks.items }
-        ensures sums { AddsUp (reweighed groups.now group weight) self.new.tasks.items self.new.weights.items }
+        ensures sums { AddsUp (reweighed groups.now group weight) self.new.tasks.items
+            self.new.weights.items }
     {
         let Group {
             parent,

@@ -151,7 +151,8 @@ impl Tree {
     /// How many active tasks the task's group has, the task itself counted as active.
     fn active_beside(&self, task: u32) -> u32
         requires { task < length self.now.homes }
-        ensures tasks { result ≡ active_tasks (with_task self.now task true) (home_of self.now task) }
+        ensures tasks { result
+            ≡ active_tasks (with_task self.now task true) (home_of self.now task) }
         ensures some { 1 ≤ result }
         ensures few { result ≤ max_tasks }
     {

@@ -19,7 +19,9 @@ pub(crate) fn integer(
     key: &str,
     limits: Limits,
 ) -> Result<u32, LoadError>
-    ensures value { Gives (λ n. n) result (required (integer_of limits) section.entry.path.now key.now (table_view section.entry.table.now)) }
+    ensures value { Gives (λ n. n) result
+        (required (integer_of limits) section.entry.path.now key.now
+        (table_view section.entry.table.now)) }
     ensures least { IfOk result (λ n. limits.least ≤ n) }
     ensures most { IfOk result (λ n. n ≤ limits.most) }
 {
@@ -37,7 +39,9 @@ pub(crate) fn integer_or(
 ) -> Result<u32, LoadError>
     requires least { limits.least ≤ default }
     requires most { default ≤ limits.most }
-    ensures value { Gives (λ n. n) result (optional (integer_of limits) default section.entry.path.now key.now (table_view section.entry.table.now)) }
+    ensures value { Gives (λ n. n) result
+        (optional (integer_of limits) default section.entry.path.now key.now
+        (table_view section.entry.table.now)) }
     ensures least { IfOk result (λ n. limits.least ≤ n) }
     ensures most { IfOk result (λ n. n ≤ limits.most) }
 {
@@ -52,7 +56,8 @@ pub(crate) fn elements<'a>(
     most: usize,
 ) -> Result<&'a [Value], LoadError>
     requires { file.path.now ≡ [] }
-    ensures values { Gives (λ values. items_view values.now) result (optional (elements_of most) no_items [] key.now (table_view file.entry.table.now)) }
+    ensures values { Gives (λ values. items_view values.now) result
+        (optional (elements_of most) no_items [] key.now (table_view file.entry.table.now)) }
     ensures few { IfOk result (λ values. length values.now ≤ most) }
 {
     file.elements(alloc, key, most)
@@ -67,7 +72,8 @@ pub(crate) fn some_elements<'a>(
     most: usize,
 ) -> Result<&'a [Value], LoadError>
     requires { file.path.now ≡ [] }
-    ensures values { Gives (λ values. items_view values.now) result (some_elements most key.now (table_view file.entry.table.now)) }
+    ensures values { Gives (λ values. items_view values.now) result
+        (some_elements most key.now (table_view file.entry.table.now)) }
     ensures some { IfOk result (λ values. 1 ≤ length values.now) }
     ensures few { IfOk result (λ values. length values.now ≤ most) }
 {

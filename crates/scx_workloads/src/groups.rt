@@ -89,7 +89,8 @@ impl Groups {
 
     fn with_section(self, alloc: Global, section: Section<'_>) -> Result<Groups, LoadError>
         requires { length self.groups < 256 }
-        ensures groups { Gives (λ g. g) result (with_group self section.entry.path.now (table_view section.entry.table.now)) }
+        ensures groups { Gives (λ g. g) result
+            (with_group self section.entry.path.now (table_view section.entry.table.now)) }
         ensures count { IfOk result (λ g. length g.groups ≡ length self.groups + 1) }
     {
         let name = new_name(alloc, &self.names, section)?;
@@ -100,7 +101,13 @@ impl Groups {
 
     fn with(self, alloc: Global, name: &str, group: Group) -> Result<Groups, LoadError>
         requires { length self.groups < 256 }
-        ensures groups { IfOk result (λ g. g ≡ (record { names = self.names ++ name.now ∷ []; groups = self.groups ++ group ∷ [] })) }
+        ensures groups { IfOk result
+            (λ g. g
+            ≡ (record {
+              names = self.names ++ name.now ∷ [];
+              groups = self.groups ++ group
+                  ∷ [];
+            })) }
         ensures memory { IfErr result (λ e. e ≡ NoMemory) }
     {
         let Groups {
@@ -114,7 +121,9 @@ impl Groups {
 
     /// The parent that an element names; it may have none. `NoSuchGroup` or `TooDeep`.
     fn parent(&self, alloc: Global, section: Section<'_>) -> Result<Option<u32>, LoadError>
-        ensures { Gives (λ p. p) result (optional (parent_named self.now) None section.entry.path.now (codes "parent") (table_view section.entry.table.now)) }
+        ensures { Gives (λ p. p) result
+            (optional (parent_named self.now) None section.entry.path.now (codes "parent")
+            (table_view section.entry.table.now)) }
     {
         match section.value("parent") {
             Some(value) => {
@@ -136,7 +145,8 @@ impl Groups {
         key: &str,
         value: &Value,
     ) -> Result<u32, LoadError>
-        ensures number { Gives (λ n. n) result (group_named self.now.names (below section.entry.path.now key.now) (view value.now)) }
+        ensures number { Gives (λ n. n) result
+            (group_named self.now.names (below section.entry.path.now key.now) (view value.now)) }
         ensures known { IfOk result (λ n. n < length self.now.groups) }
     {
         let name = section.text_in(alloc, key, value)?;
@@ -148,7 +158,9 @@ impl Groups {
 
     /// The group that an element names. `Missing`, `WrongType` or `NoSuchGroup`.
     pub(crate) fn named(&self, alloc: Global, section: Section<'_>) -> Result<u32, LoadError>
-        ensures number { Gives (λ n. n) result (required (group_named self.now.names) section.entry.path.now (codes "group") (table_view section.entry.table.now)) }
+        ensures number { Gives (λ n. n) result
+            (required (group_named self.now.names) section.entry.path.now (codes "group")
+            (table_view section.entry.table.now)) }
         ensures known { IfOk result (λ n. n < length self.now.groups) }
     {
         match section.value("group") {
@@ -160,7 +172,9 @@ impl Groups {
     /// The group that a task names, which has no groups below it. `Missing`, `WrongType`, `NoSuchGroup`
     /// or `NotALeaf`.
     pub(crate) fn leaf(&self, alloc: Global, section: Section<'_>) -> Result<u32, LoadError>
-        ensures { Gives (λ n. n) result (required (leaf_named self.now) section.entry.path.now (codes "group") (table_view section.entry.table.now)) }
+        ensures { Gives (λ n. n) result
+            (required (leaf_named self.now) section.entry.path.now (codes "group")
+            (table_view section.entry.table.now)) }
     {
         let group = self.named(alloc, section)?;
         if has_children(&self.groups, group) {
@@ -184,7 +198,8 @@ pub(crate) fn new_name<'a>(
     names: &[String],
     section: Section<'a>,
 ) -> Result<&'a str, LoadError>
-    ensures { Gives (λ t. t.now) result (new_name (texts names.now) section.entry.path.now (table_view section.entry.table.now)) }
+    ensures { Gives (λ t. t.now) result
+        (new_name (texts names.now) section.entry.path.now (table_view section.entry.table.now)) }
 {
     let name = section.name(alloc, "name")?;
     if place_of(names, name).is_some() {

@@ -82,9 +82,12 @@ fn read_file(alloc: Global, file: Section<'_>) -> Result<Workload, LoadError>
 
 fn read_changes(alloc: Global, file: Section<'_>, groups: &Groups) -> Result<Vec<Change>, LoadError>
     requires { file.path.now ≡ [] }
-    ensures changes { Gives (λ changes. changes.items) result (changes_in groups.now (table_view file.entry.table.now)) }
+    ensures changes { Gives (λ changes. changes.items) result
+        (changes_in groups.now (table_view file.entry.table.now)) }
     ensures few { IfOk result (λ changes. length changes.items ≤ MAX_CHANGES) }
-    ensures valid { IfOk result (λ changes. (i : ℕ) → i < length changes.items → IsChange (length groups.now.groups) (change_at changes.items i)) }
+    ensures valid { IfOk result
+        (λ changes. (i : ℕ) → i < length changes.items
+        → IsChange (length groups.now.groups) (change_at changes.items i)) }
 {
     let values = elements(alloc, file, "change", MAX_CHANGES)?;
     read_all(alloc, values, groups)
@@ -92,9 +95,12 @@ fn read_changes(alloc: Global, file: Section<'_>, groups: &Groups) -> Result<Vec
 
 #[tactic(auto, using(crate::proofs::Each::goes_on, crate::proofs::Each::ends, crate::proofs::Each::is_done, crate::proofs::Values::changes_more))]
 fn read_all(alloc: Global, values: &[Value], groups: &Groups) -> Result<Vec<Change>, LoadError>
-    ensures changes { Gives (λ changes. changes.items) result (fold_from (with_change groups.now) [] 0 (items_view values.now)) }
+    ensures changes { Gives (λ changes. changes.items) result
+        (fold_from (with_change groups.now) [] 0 (items_view values.now)) }
     ensures count { IfOk result (λ changes. length changes.items ≡ length values.now) }
-    ensures valid { IfOk result (λ changes. (i : ℕ) → i < length changes.items → IsChange (length groups.now.groups) (change_at changes.items i)) }
+    ensures valid { IfOk result
+        (λ changes. (i : ℕ) → i < length changes.items
+        → IsChange (length groups.now.groups) (change_at changes.items i)) }
 {
     let mut changes = Vec::with_capacity(alloc, values.len())?;
     for (number, value) in values.iter().enumerate() {
@@ -109,7 +115,8 @@ fn read_change(
     number: usize,
     value: &Value,
 ) -> Result<Change, LoadError>
-    ensures change { Gives (λ change. change) result (change_from groups.now number (view value.now)) }
+    ensures change { Gives (λ change. change) result
+        (change_from groups.now number (view value.now)) }
     ensures valid { IfOk result (IsChange (length groups.now.groups)) }
 {
     let path = element_path(alloc, "change", number)?;

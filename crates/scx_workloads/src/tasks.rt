@@ -51,7 +51,8 @@ impl Tasks {
         groups: &Groups,
     ) -> Result<Tasks, LoadError>
         requires { file.path.now ≡ [] }
-        ensures tasks { Gives (λ t. t) result (tasks_in groups.now (table_view file.entry.table.now)) }
+        ensures tasks { Gives (λ t. t) result
+            (tasks_in groups.now (table_view file.entry.table.now)) }
         ensures some { IfOk result (λ t. 1 ≤ length t.homes) }
         ensures few { IfOk result (λ t. length t.homes ≤ 1024) }
     {
@@ -61,7 +62,8 @@ impl Tasks {
 
     #[tactic(auto, using(crate::proofs::Each::goes_on, crate::proofs::Each::ends, crate::proofs::Each::is_done))]
     fn read_all(alloc: Global, values: &[Value], groups: &Groups) -> Result<Tasks, LoadError>
-        ensures tasks { Gives (λ t. t) result (fold_from (task_at groups.now) no_tasks 0 (items_view values.now)) }
+        ensures tasks { Gives (λ t. t) result
+            (fold_from (task_at groups.now) no_tasks 0 (items_view values.now)) }
         ensures count { IfOk result (λ t. length t.homes ≡ length values.now) }
     {
         let mut tasks = Tasks::none(alloc);
@@ -103,7 +105,9 @@ impl Tasks {
         groups: &Groups,
         section: Section<'_>,
     ) -> Result<Tasks, LoadError>
-        ensures tasks { Gives (λ t. t) result (with_task groups.now self section.entry.path.now (table_view section.entry.table.now)) }
+        ensures tasks { Gives (λ t. t) result
+            (with_task groups.now self section.entry.path.now
+            (table_view section.entry.table.now)) }
         ensures count { IfOk result (λ t. length t.homes ≡ length self.homes + 1) }
     {
         let name = new_name(alloc, &self.names, section)?;
@@ -115,7 +119,14 @@ impl Tasks {
     #[tactic(auto, using(crate::proofs::Values::timings_more))]
     fn with(self, alloc: Global, name: &str, home: u32, timing: Timing) -> Result<Tasks, LoadError>
         requires { IsTiming timing }
-        ensures tasks { IfOk result (λ t. t ≡ (record { names = self.names ++ name.now ∷ []; homes = self.homes ++ home ∷ []; timings = self.timings ++ timing ∷ [] })) }
+        ensures tasks { IfOk result
+            (λ t. t
+            ≡ (record {
+              names = self.names ++ name.now ∷ [];
+              homes = self.homes ++ home
+                  ∷ [];
+              timings = self.timings ++ timing ∷ [];
+            })) }
         ensures memory { IfErr result (λ e. e ≡ NoMemory) }
     {
         let Tasks {
@@ -146,7 +157,8 @@ impl Tasks {
 }
 
 fn read_timing(alloc: Global, section: Section<'_>) -> Result<Timing, LoadError>
-    ensures timing { Gives (λ t. t) result (timing_in section.entry.path.now (table_view section.entry.table.now)) }
+    ensures timing { Gives (λ t. t) result
+        (timing_in section.entry.path.now (table_view section.entry.table.now)) }
     ensures times { IfOk result IsTiming }
 {
     let start = integer_or(alloc, section, "start", TIME, 0)?;
