@@ -14,6 +14,7 @@ use Rattle.scx_tagged.specs.declared.run.Ran.TheVariants as ran
 use Rattle.scx_tagged.specs.Run.{IfDone, IfStuck, GetsStuckAt}
 use Rattle.scx_tagged.specs.Outcome.{answer_of}
 
+-- to the end, or to where it is stuck
 pub ran_is : {W : Type 0} (answer : W → Query → Value) (after : W → Query → W) (c : Callback) (code : Code) (a : Arguments) (maps : Maps) (w : W) (r : Ran) (maps' : Maps) (w' : W)
     → IfDone r (λ done. Runs (graph answer after) c code a maps w done.r0 done.steps maps' w') → IfDone r (λ done. done.steps ≤ instruction_count code)
     → IfStuck r (λ slot. GetsStuckAt (graph answer after) c code a maps w slot maps' w')

@@ -35,6 +35,7 @@ located_next O s i (effects.Jumped n) w m w' bad = absurd bad
 located_next O s i (effects.Ask q go) w m w' (v, answered, same) = (v, answered, refl, same)
 located_next O s i (effects.Ended n) w m w' bad = absurd bad
 
+-- a step to the next instruction
 pub step_next : {W : Type 0} (O : Outside W) (c : Callback) (code : Code) (s : ℕ) (i : Insn) (m : Machine) (w : W) (m' : Machine) (w' : W) → at code s ≡ Some i → GoesOn O (act c i m) w m' w' → LeadsTo O (step c code s m) w (s + size i) m' w'
 step_next O c code s i m w m' w' here goes = rw here (located_next O s i (act c i m) w m' w' goes)
 
@@ -45,6 +46,7 @@ run_done {W} O c code a maps w n s m v answer maps' w' leads ends left same =
     let To : W → Type 0 = λ x. Leads O c code n 0 (start a maps) w s m x in
     record { before = n; slot = s; state = m; leads = subst To (sym same) leads; ends = ends; length = add-one n; left = left }
 
+-- a run that gets stuck
 pub run_stuck : {W : Type 0} (O : Outside W) (c : Callback) (code : Code) (a : Arguments) (maps : Maps) (w : W) (n s : ℕ) (m : Machine) (v : W) (maps' : Maps) (w' : W)
     → Leads O c code n 0 (start a maps) w s m v → step c code s m ≡ Stuck → maps' ≡ m.maps → w' ≡ v → n ≤ instruction_count code → GetsStuckAt O c code a maps w s maps' w'
 run_stuck {W} O c code a maps w n s m v maps' w' leads stuck left same bound =

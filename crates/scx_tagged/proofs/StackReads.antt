@@ -70,6 +70,7 @@ read_written m b p at r n marks x small fits e all f =
     let value : x ≡ little_from at n b = f ∙ little_from-mid at r b 0 n (omega arith) ∙ ap (λ (i : ℕ). little_from i n b) here in
     sym (number_in-marked m b p n at small ∙ ap (λ (t : Bool). if t then Some (little_from at n b) else None) (eq-eqb _ _ same) ∙ ap Some (sym value))
 
+-- where some mark is 0 there is no number
 pub read_unwritten : (m b : List ℕ) (p : List (Option Pointer)) (at r n marks : ℕ) → ((i : ℕ) → get_or m i 0 < 256) → n ≤ r → marks ≡ little_from 0 n (mid_of at r m) → (marks ≡ all_written n → ⊥) → None ≡ number_in (bytes_at (stack_of m b p) at n)
 read_unwritten m b p at r n marks small fits e some =
     let here : at + 0 ≡ at = omega arith in
@@ -160,12 +161,14 @@ pointer_in-marked m b p at aligned = go (get_or p (at / 8) None) refl
         ∙ are_parts-marked m b p q 8 0 (at / 8) refl e
         ∙ ap (λ (j : ℕ). nat_eq (little_from j 8 m) 0) start)
 
+-- where all eight are 0 there may be a pointer
 pub read_clear : (m b : List ℕ) (p : List (Option Pointer)) (at r marks : ℕ) → at % 8 ≡ 0 → 8 ≤ r → marks ≡ little_from 0 8 (mid_of at r m) → marks ≡ 0 → get_or p (at / 8) None ≡ pointer_in (bytes_at (stack_of m b p) at 8)
 read_clear m b p at r marks aligned fits e none =
     let here : at + 0 ≡ at = omega arith in
     let same : little_from at 8 m ≡ 0 = ap (λ (i : ℕ). little_from i 8 m) (sym here) ∙ sym (little_from-mid at r m 0 8 (omega arith)) ∙ sym e ∙ none in
     sym (pointer_in-marked m b p at aligned ∙ ap (λ (t : Bool). if t then get_or p (at / 8) None else None) (eq-eqb _ _ same))
 
+-- where one isn't 0 there is none
 pub read_over : (m b : List ℕ) (p : List (Option Pointer)) (at r marks : ℕ) → at % 8 ≡ 0 → 8 ≤ r → marks ≡ little_from 0 8 (mid_of at r m) → (marks ≡ 0 → ⊥) → None ≡ pointer_in (bytes_at (stack_of m b p) at 8)
 read_over m b p at r marks aligned fits e some =
     let here : at + 0 ≡ at = omega arith in
