@@ -79,6 +79,7 @@ field_found : (maps : Maps) (n : ℕ) (t : TaskId) (f : Option Field) → Finds 
 field_found maps n t None = tt
 field_found maps n t (Some f) = refl
 
+-- the memory that a kind means is where an address of its value points
 pub area_found : (shapes : List Shape) (maps : Maps) (k : Kind) (v : Value) (offset : ℤ) (n : ℕ) → HasShapes shapes maps → Stands maps k v
     → Finds maps n (area_of shapes k offset n) (address maps v offset n)
 area_found shapes maps (kind.Stack o) (value.Pointer (pointer.Stack p)) offset n shaped h = rw h (stack_found maps n (shifted p offset))
@@ -142,6 +143,7 @@ load_in shapes a m r access InElement to h g = absurd g
 load_in shapes a m r access (InTask f) (place.InTask t e) h g = field_loaded shapes a m r access t e h
 load_in shapes a m r access (InTask f) to h g = absurd g
 
+-- the rule of loads is sound
 pub load_sound : (shapes : List Shape) (a : AbsState) (m : Machine) (access : Access) (d r : Register) (offset : ℤ) → IsMember shapes a m
     → IsSoundFor shapes (sets a (number d) (load_kind shapes a access r offset)) (loaded m (number d) access (address m.maps (m.registers (number r)) offset (size_bytes (access_size access))))
 load_sound shapes a m access d r offset h =
@@ -224,6 +226,7 @@ store_in shapes a m s k v InElement to h u g means = absurd means
 store_in shapes a m s k v (InTask f) (place.InTask t e) h u g means = rw means (field_stored shapes a m s t e k v h g)
 store_in shapes a m s k v (InTask f) to h u g means = absurd means
 
+-- and that of stores
 pub store_sound : (shapes : List Shape) (a : AbsState) (m : Machine) (s : Size) (r : Register) (offset : ℤ) (x : Operand) → IsOperand x → IsMember shapes a m
     → IsSoundFor shapes (store_rule shapes a s r offset x) (stored m s (operand_value m Bits64 x) (address m.maps (m.registers (number r)) offset (size_bytes s)))
 store_sound shapes a m s r offset x fits h =

@@ -18,13 +18,16 @@ join_blank x y e f = rw (e, f) refl
 pub blank_joined : (xs ys : List Cell) (low : ℕ) → AreBlank low xs → AreBlank low ys → (k : ℕ) → k < low → slice_index_or xs k (Bytes []) ≡ join_cell (slice_index_or xs k (Bytes [])) (slice_index_or ys k (Bytes []))
 blank_joined xs ys low h g k lt = h k lt ∙ sym (join_blank (slice_index_or xs k (Bytes [])) (slice_index_or ys k (Bytes [])) (h k lt) (g k lt))
 
+-- a join of cells of which nothing is known
 pub joined_blank : (joined xs ys : List Cell) (low : ℕ) → low ≤ 64 → AreBlank low xs → AreBlank low ys
     → ((k : ℕ) → k < 64 → slice_index_or joined k (Bytes []) ≡ join_cell (slice_index_or xs k (Bytes [])) (slice_index_or ys k (Bytes []))) → AreBlank low joined
 joined_blank joined xs ys low within h g each k lt = each k (omega arith) ∙ join_blank (slice_index_or xs k (Bytes [])) (slice_index_or ys k (Bytes [])) (h k lt) (g k lt)
 
+-- nothing is known below a lower one either
 pub blank_lower : (a : AbsState) (low new : ℕ) → IsBlankBelow low a → new ≤ low → IsBlankBelow new a
 blank_lower a low new h le = record { within = omega (arith, h.within); blank = λ k lt. h.blank k (omega arith) }
 
+-- a change leaves what is below the lowest cell that it writes
 pub changed_blank : (a : AbsState) (c : Change) (low new : ℕ) → IsBlankBelow low a → new ≤ low → new ≤ lowest c → IsBlankBelow new (changed a c)
 changed_blank a change.Nothing low new h le lt = blank_lower a low new h le
 changed_blank a (change.Register r k) low new h le lt = record { within = omega (arith, h.within); blank = λ j below. h.blank j (omega arith) }
@@ -39,5 +42,6 @@ blank_at zero k lt = absurd (omega arith)
 blank_at (suc n) zero lt = refl
 blank_at (suc n) (suc k) lt = blank_at n k (omega arith)
 
+-- nothing is known of the stack as a callback begins
 pub first_blank : (c : Callback) → IsBlankBelow 64 (start_of c)
 first_blank c = record { within = omega arith; blank = λ k lt. blank_at 64 k lt }

@@ -123,6 +123,7 @@ compare_sound shapes a m r w c x Num k v h u e g f = tt
 compare_sound shapes a m r w c x Unusable k v h u e g f = absurd u
 compare_sound shapes a m r w c x j k v h u e g f = test_sound shapes a m r w c x j v h tt e g
 
+-- the rule of jumps on a condition is sound
 pub jump_sound : (shapes : List Shape) (a : AbsState) (m : Machine) (w : Width) (c : Comparison) (r : Register) (x : Operand) → IsOperand x → IsMember shapes a m
     → IsSoundFor shapes (jump_rule a w c r x) (branch m (compared m w c (m.registers (number r)) x))
 jump_sound shapes a m w c r x fits h =

@@ -37,11 +37,13 @@ bytes_read stack at (suc n) h =
     let rest = bytes_read stack (at + 1) n (λ i lt. let on : at + 1 + i ≡ at + suc i = omega arith in rw on (h (suc i) (omega arith))) in
     one_more (stack at) (bytes_at stack (at + 1) n) rest.0 (rw here at (h 0 (omega arith))) rest.1
 
+-- a byte that holds a number is small
 pub byte_small : (b : StackByte) → IsByte b → IsSmall b
 byte_small (byte.Byte b) h = h
 byte_small byte.Unwritten h = absurd h
 byte_small (byte.Part p j) h = absurd h
 
+-- of bytes that are all known to be written each one is
 pub written_at : (set : List Bool) (j n i : ℕ) → all_written set j n ≡ true → i < n → is_written set (j + i) ≡ true
 written_at set j zero i e lt = absurd (omega arith)
 written_at set j (suc n) zero e lt =
@@ -98,6 +100,7 @@ bytes_back stack at (b ∷ bytes) =
 
 -- ---- values
 
+-- a pointer is the same as itself
 pub same_pointer-refl : (p : pointers.Pointer) → same_pointer p p ≡ true
 same_pointer-refl (pointer.Stack o) = eq-eqb o o refl
 same_pointer-refl (pointer.Task t) = eq-eqb t.0 t.0 refl
@@ -128,6 +131,7 @@ pub record Read (maps : Maps) (k : Kind) (o : Option Value) : Type 0 where
   pub is : o ≡ Some value
   pub stands : Stands maps k value
 
+-- the bytes of a value that was stored whole load as it
 pub reads_back : (maps : Maps) (k : Kind) (v : Value) → Stands maps k v → (bytes : List StackByte) → value_bytes size.DoubleWord v ≡ Some bytes → Read maps k (value_in access.DoubleWord bytes)
 reads_back maps k (value.Number n) h bytes e =
     let number : number_bytes 8 n ≡ bytes = cc in
@@ -142,6 +146,7 @@ reads_back maps k (value.Pointer p) h bytes e =
     record { value = value.Pointer p; is = rw (← pointer) (parts_read p); stands = h }
 reads_back maps k value.Unset h bytes e = absurd (cc)
 
+-- a number is stored in as many bytes as were asked for
 pub length-number_bytes : (k n : ℕ) → length (number_bytes k n) ≡ k
 length-number_bytes zero n = refl
 length-number_bytes (suc k) n = ap suc (length-number_bytes k (n / 256))

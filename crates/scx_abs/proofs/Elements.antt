@@ -35,6 +35,7 @@ within_cases size None P none ok = none OutOfBounds None
 within_cases size (Some at) P none ok =
     elim (nat_le at size) as (λ b. P (ok_or (if b then Some at else None) OutOfBounds) (if b then Some at else None)) [ true ↦ ok at | false ↦ none OutOfBounds None ]
 
+-- the same of a place for an access
 pub place_cases : (size n : ℕ) (t : Option ℕ) (P : Result ℕ Why → Option ℕ → Type 0) → ((why : Why) (o : Option ℕ) → P (Err why) o)
     → ((at : ℕ) → at + n ≤ size → at % n ≡ 0 → P (Ok at) (Some at)) → P (place_for size n t) (room_at size n t)
 place_cases size n None P none ok = none OutOfBounds None
@@ -70,6 +71,7 @@ element_sized shapes maps m i shaped h = go (slice_get_cases shapes m).1
 
 -- ---- a store to an element
 
+-- a store to an element leaves how many bytes each has
 pub with_number-lengths : (maps : Maps) (m i at n x : ℕ) → HasElement maps m i → at + n ≤ length (element maps m i)
     → lengths_of (with_element maps m i (with_number (element maps m i) at n x)) ≡ lengths_of maps
 with_number-lengths maps m i at n x there room =
@@ -115,6 +117,7 @@ cell_still : (maps other : Maps) (cell : Cell) (stack : Stack) (at : ℕ) → le
 cell_still maps other (Bytes set) stack at e h = h
 cell_still maps other (Pointer k) stack at e h = (h.0, stands_still maps other k h.0 e h.1, h.2)
 
+-- a state with other maps of the same shapes is stood for too
 pub maps_member : (shapes : List Shape) (a : AbsState) (m : Machine) (other : Maps) → IsMember shapes a m → lengths_of other ≡ lengths_of m.maps → HoldBytes other → IsMember shapes a (with_maps m other)
 maps_member shapes a m other h e bytes = record {
   registers = λ r. stands_still m.maps other (kind_at a r) (m.registers r) e (h.registers r);

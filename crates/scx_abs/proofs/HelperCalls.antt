@@ -172,6 +172,7 @@ allowed_sound : (shapes : List Shape) (h : Helper) (a : AbsState) (m : Machine) 
 allowed_sound shapes h a m (Err why) b g p e = tt
 allowed_sound shapes h a m (Ok fine) b g p e = rw p (called_sound shapes h a m g (e ∙ p))
 
+-- the rule of helper calls is sound
 pub call_sound : (shapes : List Shape) (c : Callback) (h : Option Helper) (a : AbsState) (m : Machine) → IsMember shapes a m → IsSoundFor shapes (call_rule shapes c h a) (call_helper c m h)
 call_sound shapes c None a m g = tt
 call_sound shapes c (Some h) a m g =

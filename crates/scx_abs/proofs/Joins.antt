@@ -24,6 +24,7 @@ two_tests m n o p e =
     let parts = and_parts (nat_eq m n) (nat_eq o p) e in
     (eqb-true m n parts.0, eqb-true o p parts.1)
 
+-- a join of kinds covers the first
 pub kind_covers_first : (j k : Kind) → CoversKind (join_kind j k) j
 kind_covers_first Num Num = tt
 kind_covers_first (Stack o) (Stack p) = if_covers (nat_eq o p) (Stack o) (Stack o) (λ e. refl)
@@ -39,6 +40,7 @@ kind_covers_first TaskOrNull TaskOrNull = tt
 kind_covers_first (MapRef m) (MapRef n) = if_covers (nat_eq m n) (MapRef m) (MapRef m) (λ e. refl)
 kind_covers_first j k = tt
 
+-- and the second
 pub kind_covers_second : (j k : Kind) → CoversKind (join_kind j k) k
 kind_covers_second Num Num = tt
 kind_covers_second (Stack o) (Stack p) = if_covers (nat_eq o p) (Stack o) (Stack p) (λ e. eqb-true o p e)
@@ -62,6 +64,7 @@ if_least false l k e h = absurd (cc)
 both_equal : (m n o p : ℕ) → m ≡ n → o ≡ p → (nat_eq m n && nat_eq o p) ≡ true
 both_equal m n o p e f = and_from (nat_eq m n) (nat_eq o p) (eq-eqb m n e) (eq-eqb o p f)
 
+-- and what covers both covers it
 pub kind_least : (l j k : Kind) → CoversKind l j → CoversKind l k → CoversKind l (join_kind j k)
 kind_least Unusable j k g h = tt
 kind_least Num Num Num g h = tt
@@ -83,6 +86,7 @@ kind_least TaskOrNull TaskOrNull TaskOrNull g h = tt
 kind_least (MapRef m) (MapRef n) (MapRef l) g h = if_least (nat_eq n l) (MapRef m) (MapRef n) (eq-eqb n l (sym g ∙ h)) g
 kind_least l j k g h = absurd (assumption (g, h))
 
+-- the law of kinds
 pub kinds_least : JoinOfKindsIsLeast
 kinds_least j k = record { covers_first = kind_covers_first j k; covers_second = kind_covers_second j k; least = λ l g h. kind_least l j k g h }
 
@@ -162,6 +166,7 @@ join_cell_least joined a b e = record {
   least = λ c g h. rw e (cell_least c a b g h);
 }
 
+-- the law of cells
 pub cells_least : JoinOfCellsIsLeast
 cells_least a b = join_cell_least (join_cell a b) a b refl
 
@@ -217,5 +222,6 @@ is_join joined a b whole whole_a whole_b kinds cells = record {
     cell : (c : ℕ) → IsLeastCover CoversCell (cell_at joined c) (cell_at a c) (cell_at b c)
     cell c = cell_within c (cases_lt c 64)
 
+-- joins grow with what is joined
 pub joins_monotone : JoinsAreMonotone
 joins_monotone x y a b c d p q g h = q.least x (covers_through x a c p.covers_first g) (covers_through x b d p.covers_second h)

@@ -46,6 +46,7 @@ SamePlace size n x y = (x ≡ y) × IsPlace size n y
 abbrev SameArea : ℕ → Area → Area → Type 0
 SameArea n x y = (x ≡ y) × IsRoom n y
 
+-- a place for an access, which lies within and is aligned
 pub place_monotone : (size n : ℕ) (t : Option ℕ) → PassesToo (SamePlace size n) (place_for size n t) (place_for size n t)
 place_monotone size n t =
     place_cases size n t (λ r o. PassesToo (SamePlace size n) r r) (λ why o. tt) (λ at inside aligned. (refl, record { inside = inside; aligned = aligned }))
@@ -126,6 +127,7 @@ kind_in_monotone b a access x InElement h g = rw g.0 tt
 kind_in_monotone b a access x (InTask f) h g =
     rw g.0 (elim (is_plain access) as (λ t. PassesToo CoversKind (if t then Ok Num else Err TaskField) (if t then Ok Num else Err TaskField)) [ true ↦ tt | false ↦ tt ])
 
+-- loads
 pub load_monotone : (shapes : List Shape) (b a : AbsState) (access : Access) (r : Register) (offset : ℤ) → CoversState b a
     → PassesToo CoversKind (load_kind shapes b access r offset) (load_kind shapes a access r offset)
 load_monotone shapes b a access r offset h =
@@ -138,6 +140,7 @@ load_monotone shapes b a access r offset h =
 
 -- ---- stores
 
+-- of a cell that covers another no more bytes are known
 pub written_covers : (x y : Cell) → CoversCell x y → IsPartOf (written_in x) (written_in y)
 written_covers (Bytes s) (Bytes t) h = h
 written_covers (Bytes s) (Pointer k) h = h
@@ -181,6 +184,7 @@ stored_monotone b a s j k x (InTask t) p h g f =
     rw f.0 (elim (is_writable t) as (λ v. PassesToo CoversFlows (if v then number_stored b j else Err TaskField) (if v then number_stored a k else Err TaskField))
     [ true ↦ number_stored_monotone b a j k h g.1 | false ↦ tt ])
 
+-- stores
 pub store_monotone : (shapes : List Shape) (b a : AbsState) (s : Size) (r : Register) (offset : ℤ) (x : Operand) → IsProper a → CoversState b a
     → PassesToo CoversFlows (store_rule shapes b s r offset x) (store_rule shapes a s r offset x)
 store_monotone shapes b a s r offset x p h =

@@ -58,6 +58,7 @@ read_register Unusable k h = tt
 read_register j Unusable h = absurd h
 read_register j k h = ((tt, h), refl)
 
+-- jumps on a condition
 pub jump_monotone : (b a : AbsState) (w : Width) (c : Comparison) (r : Register) (x : Operand) → IsProper a → CoversState b a → PassesToo CoversFlows (jump_rule b w c r x) (jump_rule a w c r x)
 jump_monotone b a w c r x p h =
     passes_then (λ j k. CoversUsable j k × (kind_at a (number r) ≡ k)) CoversFlows (usable (kind_at b (number r))) (usable (kind_at a (number r)))

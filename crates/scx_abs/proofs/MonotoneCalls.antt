@@ -103,6 +103,7 @@ after_monotone b a j k p h g =
     let h5 = with_kind_covers b4 a4 5 Unusable Unusable (omega arith) p4 h4 tt in
     with_kind_covers b5 a5 0 j k (omega arith) p5 h5 g
 
+-- all calls
 pub call_monotone : (shapes : List Shape) (c : Callback) (h : Option Helper) (b a : AbsState) → IsProper a → CoversState b a → PassesToo CoversFlows (call_rule shapes c h b) (call_rule shapes c h a)
 call_monotone shapes c None b a p g = tt
 call_monotone shapes c (Some h) b a p g =

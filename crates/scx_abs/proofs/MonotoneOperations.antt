@@ -45,6 +45,7 @@ arithmetic_monotone shapes w o x (Elem n p) (Elem q r) l m g h = moved_by_monoto
 arithmetic_monotone shapes w o x (Elem n p) k l m g h = absurd g.1
 arithmetic_monotone shapes w o x j k l m g h = tt
 
+-- operations on two operands
 pub binary_monotone : (shapes : List Shape) (b a : AbsState) (w : Width) (o : Operation) (d : Register) (x : Operand) → CoversState b a
     → PassesToo CoversKind (binary_kind shapes b w o d x) (binary_kind shapes a w o d x)
 binary_monotone shapes b a w Move d x h =
@@ -56,6 +57,7 @@ binary_monotone shapes b a w o d x h =
     (λ j k g. passes_then CoversUsable CoversKind (operand_kind b x) (operand_kind a x) (λ l. arithmetic_kind shapes w o x j l) (λ l. arithmetic_kind shapes w o x k l) (operand_monotone b a x h)
     (λ l m f. arithmetic_monotone shapes w o x j k l m g f))
 
+-- operations on one number
 pub number_monotone : (j k : Kind) → CoversKind j k → PassesToo CoversKind (number_kind j) (number_kind k)
 number_monotone Num Num h = tt
 number_monotone Num k h = absurd h

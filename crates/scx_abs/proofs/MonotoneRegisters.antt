@@ -25,10 +25,12 @@ use Rattle.scx_abs.proofs.Lists.{set_each}
 
 -- ---- one check behind another
 
+-- a check passes where it passes
 pub passes_itself : {A : Type 0} (R : A → A → Type 0) (r : Result A Why) → ((x : A) → R x x) → PassesToo R r r
 passes_itself R (Err why) h = tt
 passes_itself R (Ok x) h = h x
 
+-- one check behind another
 pub passes_then : {A B : Type 0} (R : A → A → Type 0) (S : B → B → Type 0) (r s : Result A Why) (f g : A → Result B Why) → PassesToo R r s → ((x y : A) → R x y → PassesToo S (f x) (g y))
     → PassesToo S (r >>= f) (s >>= g)
 passes_then R S (Err why) s f g h k = tt
@@ -37,6 +39,7 @@ passes_then R S (Ok x) (Ok y) f g h k = k x y h
 
 -- ---- what is written
 
+-- a register that is written, by its number
 pub with_kind_covers : (b a : AbsState) (r : ℕ) (j k : Kind) → r < 11 → IsProper a → CoversState b a → CoversKind j k → CoversState (with_kind b r j) (with_kind a r k)
 with_kind_covers b a r j k lt p h g = record {
   registers = set_each (λ i l. CoversKind l (kind_at (with_kind a r k) i)) b.registers Unusable r j (λ i. tt) (rw (get_or-set_same a.registers r k Unusable (omega (arith, lt, p.whole.registers))) g)
@@ -44,6 +47,7 @@ with_kind_covers b a r j k lt p h g = record {
   cells = h.cells;
 }
 
+-- a register that is written
 pub register_covers : (b a : AbsState) (d : Register) (j k : Kind) → IsProper a → CoversState b a → CoversKind j k → CoversState (with_kind b (number d) j) (with_kind a (number d) k)
 register_covers b a d j k p h g = with_kind_covers b a (number d) j k (number_lt d) p h g
 
@@ -58,6 +62,7 @@ nothing_known : (x : Cell) → CoversCell (Bytes []) x
 nothing_known (Bytes a) = λ j lt w. absurd (cc)
 nothing_known (Pointer k) = λ j lt w. absurd (cc)
 
+-- a cell that is written
 pub with_cell_covers : (b a : AbsState) (c : ℕ) (x y : Cell) → c < 64 → IsProper a → CoversState b a → CoversCell x y → CoversState (with_cell b c x) (with_cell a c y)
 with_cell_covers b a c x y lt p h g = record {
   registers = h.registers;
@@ -65,12 +70,14 @@ with_cell_covers b a c x y lt p h g = record {
       (rw (get_or-set_same a.cells c y (Bytes []) (omega (arith, lt, p.whole.cells))) g) (λ i other. rw (get_or-set_other a.cells c i y (Bytes []) other) (h.cells i));
 }
 
+-- control that goes on with nothing changed
 pub on_monotone : (b a : AbsState) → CoversState b a → PassesToo CoversFlows (goes_on b) (goes_on a)
 on_monotone b a h = record { on = h; jump = tt }
 
 sets_refused : (b : AbsState) (r : ℕ) (why : Why) (s : Result Next Why) → PassesToo CoversFlows (sets b r (Err why)) s
 sets_refused b r why s = elim (nat_eq r 10) as (λ t. PassesToo CoversFlows (if t then Err WritesFrame else Err why) s) [ true ↦ tt | false ↦ tt ]
 
+-- a kind that is put into a register
 pub sets_monotone : (b a : AbsState) (d : Register) (j k : Result Kind Why) → IsProper a → CoversState b a → PassesToo CoversKind j k → PassesToo CoversFlows (sets b (number d) j) (sets a (number d) k)
 sets_monotone b a d (Err why) k p h g = sets_refused b (number d) why (sets a (number d) k)
 sets_monotone b a d (Ok j) (Err why) p h g = absurd g
@@ -84,11 +91,13 @@ sets_monotone b a d (Ok j) (Ok k) p h g =
 abbrev pub CoversUsable : Kind → Kind → Type 0
 CoversUsable j k = IsUsable j × CoversKind j k
 
+-- a kind that is read
 pub usable_monotone : (j k : Kind) → CoversKind j k → PassesToo CoversUsable (usable j) (usable k)
 usable_monotone Unusable k h = tt
 usable_monotone j Unusable h = absurd h
 usable_monotone j k h = (tt, h)
 
+-- an operand
 pub operand_monotone : (b a : AbsState) (x : Operand) → CoversState b a → PassesToo CoversUsable (operand_kind b x) (operand_kind a x)
 operand_monotone b a (operand.Immediate k) h = (tt, tt)
 operand_monotone b a (operand.Register r) h = usable_monotone (kind_at b (number r)) (kind_at a (number r)) (h.registers (number r))

@@ -22,6 +22,7 @@ end_monotone Num Num h = record { on = tt; jump = tt }
 end_monotone Num k h = absurd h
 end_monotone j k h = tt
 
+-- the law
 pub rules_monotone : RulesAreMonotone
 rules_monotone shapes c (insn.Binary w o d x) b a p h = sets_monotone b a d (binary_kind shapes b w o d x) (binary_kind shapes a w o d x) p h (binary_monotone shapes b a w o d x h)
 rules_monotone shapes c (insn.Negate w d) b a p h =

@@ -46,6 +46,7 @@ moved_gives maps Bits32 Num (value.Number n) u h = low_below Bits32 n h
 moved_gives maps Bits32 Num v u h = absurd h
 moved_gives maps Bits32 k v u h = tt
 
+-- an operation on one number
 pub number_gives : (maps : Maps) (f : ℕ → ℕ) (k : Kind) (v : Value) → ((n : ℕ) → n < 2 ^ 64 → f n < 2 ^ 64) → Stands maps k v → Gives maps (number_kind k) (on_number f v)
 number_gives maps f Num (value.Number n) below h = below n h
 number_gives maps f Num v below h = absurd h
@@ -100,6 +101,7 @@ combined_kind_gives shapes a m w o d x fits h =
     (λ r. Gives m.maps r (arithmetic m w o (m.registers (number d)) x)) (λ why. tt) (operand_allows shapes a m w x fits h)
     (λ k uk hk. arithmetic_gives shapes m w o x j k (m.registers (number d)) h.maps hj hk))
 
+-- an operation on two operands
 pub binary_gives : (shapes : List Shape) (a : AbsState) (m : Machine) (w : Width) (o : Operation) (d : Register) (x : Operand) → IsOperand x → IsMember shapes a m
     → Gives m.maps (binary_kind shapes a w o d x) (binary m w o (m.registers (number d)) x)
 binary_gives shapes a m w Move d x fits h =
@@ -114,6 +116,7 @@ map_there : (maps : Maps) (k : ℕ) (b : Bool) → nat_lt k (length maps) ≡ b
 map_there maps k true e = (refl, ltb-true k (length maps) e)
 map_there maps k false e = tt
 
+-- a reference to a map
 pub map_gives : (shapes : List Shape) (maps : Maps) (k : ℤ) → HasShapes shapes maps → Gives maps (map_kind shapes k) (map_reference maps k)
 map_gives shapes maps (pos k) shaped = rw (← length-shaped shapes maps shaped) (map_there maps k (nat_lt k (length maps)) refl)
 map_gives shapes maps (negsuc k) shaped = tt

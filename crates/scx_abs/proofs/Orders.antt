@@ -18,6 +18,7 @@ use Rattle.scx_abs.specs.Laws.{CoversMore, CoversItself, CoversThrough}
 
 -- ---- kinds
 
+-- a kind covers itself
 pub kind_itself : (k : Kind) → CoversKind k k
 kind_itself Unusable = tt
 kind_itself Num = tt
@@ -28,6 +29,7 @@ kind_itself Task = tt
 kind_itself TaskOrNull = tt
 kind_itself (MapRef m) = refl
 
+-- and what is covered by one that it covers
 pub kind_through : (l k j : Kind) → CoversKind l k → CoversKind k j → CoversKind l j
 kind_through Unusable k j g h = tt
 kind_through Num Num Num g h = tt
@@ -43,6 +45,7 @@ kind_through TaskOrNull Task Task g h = tt
 kind_through (MapRef m) (MapRef n) (MapRef l) g h = g ∙ h
 kind_through l k j g h = absurd (assumption (g, h))
 
+-- a kind stands for all that one stands for which it covers
 pub kind_stands : (maps : Maps) (j k : Kind) (v : Value) → CoversKind j k → Stands maps k v → Stands maps j v
 kind_stands maps Unusable k v g h = tt
 kind_stands maps Num Num v g h = h
@@ -58,6 +61,7 @@ kind_stands maps j k v g h = absurd (assumption (g, h))
 
 -- ---- sets of bytes
 
+-- the answer at each byte is that of the test
 pub each_byte_at : (f : ℕ → Bool) (j : ℕ) → j < 8 → is_written (each_byte f) j ≡ f j
 each_byte_at f zero h = refl
 each_byte_at f (suc zero) h = refl
@@ -69,6 +73,7 @@ each_byte_at f (suc (suc (suc (suc (suc (suc zero)))))) h = refl
 each_byte_at f (suc (suc (suc (suc (suc (suc (suc zero))))))) h = refl
 each_byte_at f (suc (suc (suc (suc (suc (suc (suc (suc j)))))))) h = absurd (omega arith)
 
+-- of no bytes none is written
 pub none_written : (j : ℕ) → j < 8 → IsTrue (is_written no_bytes j) → ⊥
 none_written j h w = both_ways (is_written no_bytes j) (each_byte_at (λ j. false) j h) w
 
@@ -78,6 +83,7 @@ pointer_itself : (k : Kind) → CoversPointer k k
 pointer_itself Unusable = tt
 pointer_itself k = kind_itself k
 
+-- a cell covers itself
 pub cell_itself : (cell : Cell) → CoversCell cell cell
 cell_itself (Bytes a) = λ j lt h. h
 cell_itself (Pointer k) = pointer_itself k
@@ -101,6 +107,7 @@ pointer_kind : (j k : Kind) → CoversPointer j k → CoversKind j k
 pointer_kind Unusable k h = tt
 pointer_kind j k h = h
 
+-- a cell stands for all that one stands for which it covers
 pub cell_stands : (maps : Maps) (b a : Cell) (stack : memory.Stack) (at : ℕ) → CoversCell b a → CellStands maps a stack at → CellStands maps b stack at
 cell_stands maps (Bytes b) (Bytes a) stack at g h = λ j lt w. h j lt (g j lt w)
 cell_stands maps (Bytes b) (Pointer k) stack at g h = λ j lt w. absurd (none_written j lt (g j lt w))
@@ -109,15 +116,18 @@ cell_stands maps (Pointer j) (Bytes a) stack at g h = absurd g
 
 -- ---- states
 
+-- the law of states: each covers itself
 pub covers_itself : CoversItself
 covers_itself a = record { registers = λ r. kind_itself (kind_at a r); cells = λ c. cell_itself (cell_at a c) }
 
+-- and what is covered by one that it covers
 pub covers_through : CoversThrough
 covers_through c b a g h = record {
   registers = λ r. kind_through (kind_at c r) (kind_at b r) (kind_at a r) (g.registers r) (h.registers r);
   cells = λ i. cell_through (cell_at c i) (cell_at b i) (cell_at a i) (g.cells i) (h.cells i);
 }
 
+-- and it stands for more
 pub covers_more : CoversMore
 covers_more shapes b a m g h = record {
   registers = λ r. kind_stands m.maps (kind_at b r) (kind_at a r) (m.registers r) (g.registers r) (h.registers r);

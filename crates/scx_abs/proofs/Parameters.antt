@@ -21,6 +21,7 @@ pub argument_passed : (shapes : List Shape) (a : AbsState) (ps : List Parameter)
     → arguments_check shapes a (drop (i + 1) ps) (i + 1 + 1) ≡ arguments_check shapes a (drop i ps) (i + 1)
 argument_passed shapes a ps i p u e passed = rw (parameters_from ps i p e, passed) refl
 
+-- the first argument that is refused is the refusal of all
 pub argument_refused : (shapes : List Shape) (a : AbsState) (ps : List Parameter) (i : ℕ) (p : Parameter) (why : Why)
     → slice_get ps i ≡ Some p → argument_check shapes a p (kind_at a (i + 1)) ≡ Err why
     → Err why ≡ arguments_check shapes a (drop i ps) (i + 1)

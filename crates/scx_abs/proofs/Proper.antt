@@ -35,6 +35,7 @@ use Rattle.scx_abs.specs.Laws.{CoversBothWays, StartIsProper, FlowsProper, Rules
 
 -- ---- the start
 
+-- callbacks begin in proper states
 pub start_proper : StartIsProper
 start_proper c = record {
   whole = record { registers = refl; cells = refl };
@@ -57,6 +58,7 @@ joined_proper (Pointer j) (Pointer k) p = pointers_proper j k p
 joined_proper (Bytes a) (Pointer k) p = refl
 joined_proper (Pointer j) (Bytes b) p = refl
 
+-- a join of proper states is proper
 pub join_proper : (joined a b : AbsState) → IsWhole joined → IsProper a → IsProper b → ((c : ℕ) → c < 64 → cell_at joined c ≡ join_cell (cell_at a c) (cell_at b c)) → IsProper joined
 join_proper joined a b whole p q cells = record {
   whole = whole;
@@ -68,6 +70,7 @@ join_proper joined a b whole p q cells = record {
 
 -- ---- registers and cells
 
+-- a state with another kind in a register stays proper
 pub kind_proper : (a : AbsState) (r : ℕ) (k : Kind) → IsProper a → IsProper (with_kind a r k)
 kind_proper a r k p = record {
   whole = record { registers = length-set a.registers r k ∙ p.whole.registers; cells = p.whole.cells };
@@ -155,6 +158,7 @@ end_proper : (k : Kind) → FlowsIn (end_rule k)
 end_proper Num = (tt, tt)
 end_proper k = tt
 
+-- rules keep states proper
 pub rule_proper : RulesKeepProper
 rule_proper shapes c (insn.Binary w o d x) a p = sets_proper a (number d) (binary_kind shapes a w o d x) p
 rule_proper shapes c (insn.Negate w d) a p = sets_proper a (number d) (number_kind (kind_at a (number d))) p
@@ -208,6 +212,7 @@ same_cell (Bytes a) (Pointer k) p q g h = absurd h
 same_cell (Pointer j) (Bytes b) p q g h = absurd g
 same_cell (Pointer j) (Pointer k) p q g h = ap Pointer (same_pointer j k g h)
 
+-- two proper states that cover each other are one
 pub same_state : CoversBothWays
 same_state a b p q g h = λ i. record { registers = registers i; cells = cells i }
   where

@@ -40,6 +40,7 @@ Gives maps (Err why) o = Unit {0}
 Gives maps (Ok k) None = ⊥
 Gives maps (Ok k) (Some v) = Stands maps k v
 
+-- a register that is written holds what its kind stands for
 pub kind_member : (shapes : List Shape) (a : AbsState) (m : Machine) (r : ℕ) (k : Kind) (v : Value) → IsMember shapes a m → Stands m.maps k v
     → IsMember shapes (with_kind a r k) (with_register m r v)
 kind_member shapes a m r k v h g = record {
@@ -63,6 +64,7 @@ refined shapes a m r k h g = record {
 pub refused_sound : (shapes : List Shape) (a : AbsState) (r : ℕ) (why : Why) (e : Effect) → IsSoundFor shapes (sets a r (Err why)) e
 refused_sound shapes a r why e = elim (nat_eq r 10) as (λ b. IsSoundFor shapes (if b then Err WritesFrame else Err why) e) [ true ↦ tt | false ↦ tt ]
 
+-- a kind that is put into a register, where a value is
 pub set_sound : (shapes : List Shape) (a : AbsState) (m : Machine) (r : ℕ) (k : Result Kind Why) (o : Option Value) → IsMember shapes a m → Gives m.maps k o
     → IsSoundFor shapes (sets a r k) (keep m r o)
 set_sound shapes a m r (Err why) o h g = refused_sound shapes a r why (keep m r o)
@@ -83,10 +85,12 @@ pub number_stands : (maps : Maps) (v : Value) → IsNumberBelow (2 ^ 64) v → S
 number_stands maps (value.Number n) h = h
 number_stands maps v h = absurd h
 
+-- what a field holds is a number
 pub field_stands : (maps : Maps) (t : TaskId) (f : Field) (v : Value) → Fits (Load t f) v → Stands maps Num v
 field_stands maps t f (value.Number n) h = field_below t f n h
 field_stands maps t f v h = absurd h
 
+-- a task or 0 is what the kind of both stands for
 pub task_or_null_fits : (maps : Maps) (v : Value) → IsTaskOrNull v → Stands maps TaskOrNull v
 task_or_null_fits maps (value.Number n) h = h
 task_or_null_fits maps (value.Pointer (pointer.Task t)) h = tt
@@ -99,10 +103,12 @@ abbrev pub Allows : Maps → Result Kind Why → Value → Type 0
 Allows maps (Err why) v = Unit {0}
 Allows maps (Ok k) v = IsUsable k × Stands maps k v
 
+-- a kind that may be read stands for the value that is
 pub usable_allows : (maps : Maps) (k : Kind) (v : Value) → Stands maps k v → Allows maps (usable k) v
 usable_allows maps Unusable v h = tt
 usable_allows maps k v h = (tt, h)
 
+-- the kind of an operand stands for its value
 pub operand_allows : (shapes : List Shape) (a : AbsState) (m : Machine) (w : Width) (x : Operand) → IsOperand x → IsMember shapes a m → Allows m.maps (operand_kind a x) (operand_value m w x)
 operand_allows shapes a m w (operand.Immediate k) fits h = (tt, immediate_below w k fits)
 operand_allows shapes a m w (operand.Register r) fits h = usable_allows m.maps (kind_at a (number r)) (m.registers (number r)) (h.registers (number r))

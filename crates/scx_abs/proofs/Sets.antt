@@ -21,6 +21,7 @@ or_nothing : (w b : Bool) → b ≡ false → w ≡ (w || b)
 or_nothing true b e = refl
 or_nothing false b e = sym e
 
+-- before the first byte none is marked
 pub marked_none : (s : List Bool) (first k : ℕ) → is_written s k ≡ (is_written s k || (nat_le first k && nat_lt k first))
 marked_none s first k = or_nothing (is_written s k) (nat_le first k && nat_lt k first) (go (cases_lt k first))
   where
@@ -36,6 +37,7 @@ same_below k j other = go (cases_lt k j)
     go (inl lt) = lt-ltb k j lt ∙ sym (lt-ltb k (j + 1) (omega arith))
     go (inr le) = le-ltb k j le ∙ sym (le-ltb k (j + 1) (omega (arith, other)))
 
+-- after one more, one more is
 pub marked_more : (xs s : List Bool) (first j : ℕ) → j < length xs → first ≤ j → ((k : ℕ) → is_written xs k ≡ (is_written s k || (nat_le first k && nat_lt k j)))
     → (k : ℕ) → is_written (set xs j true) k ≡ (is_written s k || (nat_le first k && nat_lt k (j + 1)))
 marked_more xs s first j short from so_far k = go (cases_eq k j)

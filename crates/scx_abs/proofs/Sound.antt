@@ -30,6 +30,7 @@ end_sound shapes maps Num (value.Number n) h = tt
 end_sound shapes maps Num v h = absurd h
 end_sound shapes maps k v h = tt
 
+-- the law of rules
 pub rules_sound : RulesAreSound
 rules_sound shapes c (insn.Binary w o d x) a m fits h =
     set_sound shapes a m (number d) (binary_kind shapes a w o d x) (binary m w o (m.registers (number d)) x) h (binary_gives shapes a m w o d x fits h)
@@ -56,5 +57,6 @@ rules_sound shapes c insn.Exit a m fits h =
     elim (answers c) as (λ b. IsSoundFor shapes (if b then end_rule (kind_at a 0) else Ok (flows None None)) (if b then answered (m.registers 0) else effect.Ended 0))
     [ true ↦ end_sound shapes m.maps (kind_at a 0) (m.registers 0) (h.registers 0) | false ↦ tt ]
 
+-- the law of the start
 pub start_sound : StartIsSound
 start_sound = begins_sound

@@ -58,6 +58,7 @@ arguments_fit callback.Dispatch maps a h = record { first = number_stands maps a
 arguments_fit callback.Running maps a h = record { first = task_fits maps a.first h; second = tt; third = tt }
 arguments_fit callback.Stopping maps a h = record { first = task_fits maps a.first h.0; second = number_stands maps a.second h.1; third = tt }
 
+-- the law
 pub begins_sound : StartIsSound
 begins_sound shapes c a maps shaped fits =
     let args = arguments_fit c maps a fits in

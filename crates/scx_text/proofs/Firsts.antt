@@ -9,10 +9,12 @@ pub narrowed : (found : Option Symbol) (b : ℕ) (text : List ℕ) (ss : List Sy
 narrowed found b [] ss is some e same = absurd (omega (arith, some))
 narrowed found b (x ∷ rest) ss is some e same = is ∙ (rw e (same rest))
 
+-- a symbol that alone begins with that byte
 pub alone : (s : Symbol) (b : ℕ) (text : List ℕ) → 1 ≤ length text → get_or text 0 0 ≡ b → ((rest : List ℕ) → Some s ≡ first_of symbols (b ∷ rest)) → Some s ≡ symbol_at text
 alone s b [] some e same = absurd (omega (arith, some))
 alone s b (x ∷ rest) some e same = rw e (same rest)
 
+-- no text begins with a symbol
 pub no_text : (text : List ℕ) → length text < 1 → None ≡ symbol_at text
 unfolding first_of
 no_text [] e = refl
@@ -37,6 +39,7 @@ pub record BeginsNone (x : ℕ) : Type 0 where
   pub closing : nat_eq 41 x ≡ false
   pub colon : nat_eq 58 x ≡ false
 
+-- nor does one whose first byte begins none
 pub no_symbol : (text : List ℕ) → 1 ≤ length text → BeginsNone (get_or text 0 0) → None ≡ symbol_at text
 unfolding first_of
 no_symbol [] some n = absurd (omega (arith, some))

@@ -20,12 +20,14 @@ regroup : (front : List Lexeme) (t : Lexeme) (rest : Option (List Lexeme)) → o
 regroup front t None = refl
 regroup front t (Some ts) = ap (λ (x : List Lexeme). Some x) (simp append_assoc)
 
+-- a blank is passed over
 pub after_blank : (front : List Lexeme) (touches : Bool) (rest : List ℕ) (total : Option (List Lexeme)) → 0 < length rest → nat_eq (slice_index rest 0) 35 ≡ false → is_blank (slice_index rest 0) ≡ true
     → onto front (tokens_from touches 0 rest) ≡ total → onto front (tokens_from false 0 (drop 1 rest)) ≡ total
 unfolding tokens_from
 after_blank front touches [] total some unmarked here e = absurd (omega arith)
 after_blank front touches (b ∷ bs) total some unmarked here e = rw (unmarked, here) at e
 
+-- a token is taken
 pub after_token : (front : List Lexeme) (touches : Bool) (rest : List ℕ) (t : Lexeme) (n : ℕ) (total : Option (List Lexeme)) → 0 < n → n ≤ length rest → nat_eq (slice_index rest 0) 35 ≡ false → is_blank (slice_index rest 0) ≡ false
     → token_at touches rest ≡ Some (t, n)
     → onto front (tokens_from touches 0 rest) ≡ total → onto (front ++ t ∷ []) (tokens_from true 0 (drop n rest)) ≡ total
@@ -45,6 +47,7 @@ pub after_one : (items : List Token) (touches : Bool) (rest : List ℕ) (t : Tok
 after_one items touches rest t n total some fits unmarked blank h e =
     rw (map-append lexeme items (t ∷ [])) (after_token (lexemes items) touches rest (lexeme t) n total some fits unmarked blank h e)
 
+-- where none stands the line has none
 pub no_token : (front : List Lexeme) (touches : Bool) (rest : List ℕ) (total : Option (List Lexeme)) → 0 < length rest → nat_eq (slice_index rest 0) 35 ≡ false → is_blank (slice_index rest 0) ≡ false
     → token_at touches rest ≡ None
     → onto front (tokens_from touches 0 rest) ≡ total → None ≡ total
@@ -52,12 +55,14 @@ unfolding tokens_from
 no_token front touches [] total some unmarked blank h e = absurd (omega arith)
 no_token front touches (b ∷ bs) total some unmarked blank h e = rw (unmarked, blank, h) at e
 
+-- a comment ends the line
 pub at_comment : (front : List Lexeme) (touches : Bool) (rest : List ℕ) (total : Option (List Lexeme)) → 0 < length rest → nat_eq (slice_index rest 0) 35 ≡ true
     → onto front (tokens_from touches 0 rest) ≡ total → Some front ≡ total
 unfolding tokens_from
 at_comment front touches [] total some here e = absurd (omega arith)
 at_comment front touches (b ∷ bs) total some here e = sym (ap (λ (x : List Lexeme). Some x) (append-nil front)) ∙ (rw here at e)
 
+-- and so does the end of the text
 pub at_end : (front : List Lexeme) (touches : Bool) (rest : List ℕ) (total : Option (List Lexeme)) → length rest ≡ 0
     → onto front (tokens_from touches 0 rest) ≡ total → Some front ≡ total
 unfolding tokens_from

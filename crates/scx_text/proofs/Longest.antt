@@ -91,6 +91,7 @@ first_is_longest n (x ∷ xs) text s t h m e fits =
     go f false y (inl q) later = let bad : false ≡ true = sym y ∙ (ap (λ (s : Symbol). starts_with nat_eq text (spelled s)) (sym q) ∙ fits) in absurd (cc)
     go f false y (inr q) later = later q (rw y at e)
 
+-- no symbol is longer with which the text begins
 pub longest : (text : List ℕ) (s t : Symbol) → symbol_at text ≡ Some s → starts_with nat_eq text (spelled t) ≡ true → length (spelled t) ≤ length (spelled s)
 longest text s t = first_is_longest 4 symbols text s t all_fall (every t)
 

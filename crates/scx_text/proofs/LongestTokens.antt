@@ -291,6 +291,7 @@ plain near (b ∷ bs) none = go (is_ascii_alphabetic b) (is_ascii_digit b) refl 
     go false true a d = rw (a, d) (numbered near b bs none d)
     go false false a d = rw (a, d) (nothing b bs none a d)
 
+-- the law
 pub longest_token : (touches : Bool) (text : List ℕ) → IsLongest text (token_at touches text)
 longest_token touches text = go (symbol_at text) refl
   where

@@ -4,14 +4,17 @@ use Rattle.std.specs.Str.{bytes_eq}
 use Rattle.std.proofs.lemmas.List.{drop_more, drop_all}
 use Rattle.scx_text.specs.Names.{named}
 
+-- the name stands here
 pub named_here : {A : Type 0} (text : A → List ℕ) (xs : List A) (i : ℕ) (d : A) (name : List ℕ) → i < length xs → bytes_eq name (text (get_or xs i d)) ≡ true → named text (drop i xs) name ≡ Some (get_or xs i d)
 unfolding named
 named_here text xs i d name lt e = rw (drop_more xs i d lt, e) refl
 
+-- it doesn't, and may stand later
 pub named_later : {A : Type 0} (text : A → List ℕ) (xs : List A) (i : ℕ) (d : A) (name : List ℕ) → i < length xs → bytes_eq name (text (get_or xs i d)) ≡ false → named text (drop i xs) name ≡ named text (drop (i + 1) xs) name
 unfolding named
 named_later text xs i d name lt e = rw (drop_more xs i d lt, e) refl
 
+-- past the last one it stands nowhere
 pub named_none : {A : Type 0} (text : A → List ℕ) (xs : List A) (i : ℕ) (name : List ℕ) → length xs ≤ i → named text (drop i xs) name ≡ None
 unfolding named
 named_none text xs i name le = rw (drop_all i xs le) refl

@@ -11,6 +11,7 @@ use Rattle.scx_text.specs.Tokens.{bounded}
 abbrev absent : Option ℕ
 absent = None
 
+-- one digit more
 pub one_digit : (radix : ℕ) (ds : List ℕ) (i value next : ℕ) → i < length ds → value ≡ digits_value radix (take i ds) → bounded (value * radix + digit_value (get_or ds i 0)) ≡ Some next → (next ≡ digits_value radix (take (i + 1) ds)) × (next < 2 ^ 64)
 one_digit radix ds i value next lt e h =
     go (nat_lt (value * radix + digit_value (get_or ds i 0)) (2 ^ 64)) refl
@@ -19,6 +20,7 @@ one_digit radix ds i value next lt e h =
     go true t = let same : Some (value * radix + digit_value (get_or ds i 0)) ≡ Some next = rw t at h in let eq : value * radix + digit_value (get_or ds i 0) ≡ next = cc in (sym eq ∙ rw e (sym (digits_value_more radix ds i lt)), omega (arith, ltb-true _ _ t))
     go false t = let bad : absent ≡ Some next = rw t at h in absurd (cc)
 
+-- a number that is too large stays so
 pub too_large : (radix : ℕ) (ds : List ℕ) (i value : ℕ) → 1 ≤ radix → i < length ds → value ≡ digits_value radix (take i ds) → bounded (value * radix + digit_value (get_or ds i 0)) ≡ None → bounded (digits_value radix ds) ≡ None
 too_large radix ds i value base lt e h = go (nat_lt (value * radix + digit_value (get_or ds i 0)) (2 ^ 64)) refl
   where
@@ -29,6 +31,7 @@ too_large radix ds i value base lt e h = go (nat_lt (value * radix + digit_value
         let large : 2 ^ 64 ≤ digits_value radix ds = omega (arith, next, ltb-false _ _ t, digits_value-take-le radix ds (i + 1) base) in
         rw (le-ltb _ _ large) refl
 
+-- all digits are read
 pub all_digits : (radix : ℕ) (ds : List ℕ) (i value : ℕ) → length ds ≤ i → value < 2 ^ 64 → value ≡ digits_value radix (take i ds) → Some value ≡ bounded (digits_value radix ds)
 all_digits radix ds i value le fits e =
     let whole : value ≡ digits_value radix ds = e ∙ ap (digits_value radix) (take_all i ds le) in

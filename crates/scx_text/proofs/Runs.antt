@@ -5,18 +5,21 @@ use Rattle.std.proofs.Math.Seq.{drop-length}
 use Rattle.scx_text.specs.declared.lexer.Class.{Class}
 use Rattle.scx_text.specs.Tokens.{is_in, run}
 
+-- the run goes on
 pub run_next : (c : Class) (text : List ℕ) (n i : ℕ) → i < length text → is_in c (get_or text i 0) ≡ true → n ≡ i + run c (drop i text) → n ≡ (i + 1) + run c (drop (i + 1) text)
 unfolding run
 run_next c text n i lt t e =
     let next : run c (drop i text) ≡ suc (run c (drop (i + 1) text)) = rw (drop_more text i 0 lt, t) refl in
     omega arith
 
+-- a byte of another class ends it
 pub run_stop : (c : Class) (text : List ℕ) (n i : ℕ) → i < length text → is_in c (get_or text i 0) ≡ false → n ≡ i + run c (drop i text) → i ≡ n
 unfolding run
 run_stop c text n i lt t e =
     let next : run c (drop i text) ≡ 0 = rw (drop_more text i 0 lt, t) refl in
     omega arith
 
+-- and so does the end of the text
 pub run_end : (c : Class) (text : List ℕ) (n i : ℕ) → i ≡ length text → n ≡ i + run c (drop i text) → i ≡ n
 unfolding run
 run_end c text n i end e =

@@ -75,6 +75,7 @@ at_one_slot c code v w i r k =
     let state : k.state ≡ r.state = some_same k.state r.state (sym k.here ∙ forward_same c code v w i i r k (suc i) i (omega arith) (omega arith) (omega arith) ∙ r.here) in
     same_why (rule c.defs c.callback k.insn k.state) v w (ap (λ d. rule c.defs c.callback d k.state) insn ∙ ap (λ a. rule c.defs c.callback r.insn a) state ∙ r.fails) k.fails
 
+-- the law of checks
 pub first_refusals_agree : FirstRefusalsAgree
 first_refusals_agree c code v w s t r k = go (cases_lt s t) (cases_lt t s)
   where
@@ -90,6 +91,7 @@ first_refusals_agree c code v w s t r k = go (cases_lt s t) (cases_lt t s)
 no_fault : (o : Option FlowFault) (f : FlowFault) → o ≡ None → o ≡ Some f → ⊥
 no_fault o f e g = let bad : None ≡ Some f = sym e ∙ g in absurd (cc)
 
+-- a flow without a fault has no first one
 pub flows_faultless : (code : Code) (f : FlowFault) (s : ℕ) → Flows code → IsFirstFlowFault code f s → ⊥
 flows_faultless code f s flows r = no_fault (flow_fault code s r.insn) f (flows s r.insn r.there) r.fails
 
@@ -110,6 +112,7 @@ flow_faults_agree code f g s t r k = go (cases_lt s t) (cases_lt t s)
         let same : s ≡ t = omega (arith, le, ge) in
         (at_slot t (subst (λ u. IsFirstFlowFault code f u) same r) k, same)
 
+-- the law of all refusals
 pub refusals_agree : RefusalsAgree
 refusals_agree c code (Flow f) (Flow g) s t m n r k = let same = flow_faults_agree code f g s t r k in (ap Flow same.0, same.1)
 refusals_agree c code (Flow f) (Rule w) s t m n r k = absurd (flows_faultless code f s k.0 r)

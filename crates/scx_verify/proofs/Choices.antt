@@ -165,6 +165,7 @@ call_chosen shapes c a m (Some MapLookupElem) next h e = go (is_allowed MapLooku
     go false f = absurd (cc)
 call_chosen shapes c a m (Some g) next h e = refl
 
+-- the law
 pub typing_chooses : TypingChooses
 typing_chooses shapes c t (insn.Load x d r k) a m next h e = load_chosen shapes a m x d r k next h e
 typing_chooses shapes c t (insn.Store s r k x) a m next h e = store_chosen shapes a m s r k x next h e

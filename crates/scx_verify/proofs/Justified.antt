@@ -100,6 +100,7 @@ covered c code states typed slot forward typing (suc n) t a lt le e =
     (arrived_covered c code states typed slot t forward typing le
     (λ s b before here. covered c code states typed slot forward typing n s b (omega (arith, before, lt)) (omega (arith, before, le)) here))
 
+-- the law of typings
 pub typings_cover : TypingsCoverForward
 typings_cover c code states typed slot forward typing t a le e = covered c code states typed slot forward typing (suc t) t a (omega arith) le e
 
@@ -112,10 +113,12 @@ no_typing c code why slot r typed =
     let proper = kept_proper (r.states slot) r.state (Arrives c code r.states slot slot) r.here (r.forward slot (omega arith)) in
     subst (λ s. PassesToo CoversFlows (ok p.next) s) r.fails (passes_here c code typed.states slot r.insn r.state here p proper)
 
+-- the law of refusals
 pub refusals_justified : RefusalsAreJustified
 refusals_justified c code (Flow fault) slot other r typed = flows_faultless code fault slot typed.flows r
 refusals_justified c code (Rule why) slot other r typed = no_typing c code why slot r.1 typed
 refusals_justified c code NoMemory slot other r typed = other refl
 
+-- the same of an error
 pub refusal_justified : (c : Context) (code : Code) (error : VerifyError) → IsRefusal c code error → IsJustified c code error
 refusal_justified c code error r other typed = refusals_justified c code error.fault error.slot other r typed

@@ -8,6 +8,7 @@ use Rattle.scx_abs.proofs.Orders.{covers_itself, covers_through}
 use Rattle.scx_verify.specs.Forward.{IsLeast}
 use Rattle.scx_verify.specs.Pass.{states_of, IsMerged, IsGiven}
 
+-- what is least of the same is least
 pub least_same : (o : Option AbsState) (P Q : AbsState → Type 0) → ((a : AbsState) → P a → Q a) → ((a : AbsState) → Q a → P a) → IsLeast o P → IsLeast o Q
 least_same None P Q f g h = λ a q. h a (g a q)
 least_same (Some x) P Q f g h = record {
@@ -89,6 +90,7 @@ pub given_apart : (states : List (Option AbsState)) (t : ℕ) (o : Option AbsSta
 given_apart states t None after g u n = ap (λ l. states_of l u) g
 given_apart states t (Some a) after g u n = ap (λ l. states_of l u) g.2 ∙ get_or-set_other states t u (Some g.0) None n
 
+-- a state that is given leaves how many there are
 pub given_long : (states : List (Option AbsState)) (t : ℕ) (o : Option AbsState) (after : List (Option AbsState)) → IsGiven states t o after → length after ≡ length states
 given_long states t None after g = ap length g
 given_long states t (Some a) after g = ap length g.2 ∙ length-set states t (Some g.0)

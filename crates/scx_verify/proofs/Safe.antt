@@ -35,6 +35,7 @@ pub record IsAt (shapes : List Shape) (states : States) (s : ℕ) (m : Machine) 
   pub here : states s ≡ Some state
   pub member : IsMember shapes state m
 
+-- a state that is stood for is so by what covers it
 pub covered_at : (shapes : List Shape) (states : States) (t : ℕ) (a : AbsState) (m : Machine) → CoversSome (states t) a → IsMember shapes a m → IsAt shapes states t m
 covered_at shapes states t a m h g = go (states t) refl h
   where
@@ -81,6 +82,7 @@ effect_at shapes states s t i next (effect.Ended n) k c f l = absurd l
 goes_stuck : (t : ℕ) (m : Machine) → Goes t m ≡ Stuck → ⊥
 goes_stuck t m e = absurd (cc)
 
+-- an effect that flows on isn't stuck
 pub effect_goes : (shapes : List Shape) (states : States) (s : ℕ) (i : Insn) (next : Next) (e : Effect) → CoversNext states s i next → FlowsIn shapes next e → located s i e ≡ Stuck → ⊥
 effect_goes shapes states s i next effect.Stuck c f h = f
 effect_goes shapes states s i next (effect.Next m) c f h = goes_stuck (s + size i) m h
@@ -95,6 +97,7 @@ pub flows_in : (c : Context) (code : Code) (s : ℕ) (i : Insn) (a : AbsState) (
     → FlowsIn c.defs next (act c.callback i m)
 flows_in c code s i a m next program there h e = rw e at (rules_sound c.defs c.callback i a m (place_fits false code s program.insns i there) h)
 
+-- a step leads to where the typing stands for it
 pub step_at : (c : Context) (code : Code) (states : States) (s t : ℕ) (m k : Machine) → IsProgram code → IsTyping c code states → IsAt c.defs states s m → LeadsTo any_answer (step c.callback code s m) tt t k tt → IsAt c.defs states t k
 step_at c code states s t m k program typing here l = go (at code s) refl
   where
@@ -127,6 +130,7 @@ reached c code program typed a maps n s m shaped fits l =
 abbrev pub typed_by : (c : Context) (code : Code) (states : States) → Flows code → IsTyping c code states → IsTyped c code
 typed_by c code states flows typing = record { flows = flows; states = states; typing = typing }
 
+-- the law
 pub typed_safe : TypedIsSafe
 typed_safe c code program typed = record {
   never_stuck = λ a maps shaped fits n s m l. goes_on c code typed.states s m program typed.typing (reached c code program typed a maps n s m shaped fits l) ((keeps_control code program typed.flows c.callback (start a maps) n s m l).0);

@@ -40,6 +40,7 @@ flows_forward c code states s t a flows f = sent_forward code s t f.insn f.next 
 abbrev pub no_state : Option AbsState
 no_state = None
 
+-- there is no state at first
 pub blank : (n t : ℕ) → slice_index_or (replicate n no_state) t no_state ≡ no_state
 blank zero t = refl
 blank (suc n) zero = refl
@@ -63,6 +64,7 @@ first_least c code states t (inr n) some none = subst (λ o. IsLeast o (Arrives 
     nothing a (inl h) = n h.0
     nothing a (inr h) = omega (arith, h.1)
 
+-- before the first slot
 pub visited_none : (c : Context) (code : Code) (slots : ℕ) → 0 < slots → slots ≡ length code → IsVisited c code 0 (set (replicate slots no_state) 0 (Some (start_of c.callback)))
 visited_none c code slots some e =
     let none : List (Option AbsState) = replicate slots no_state in
@@ -98,6 +100,7 @@ passes_skip c code states s before now v i a lt there here = go (cases_eq v s)
     go (inl e) = now i a (rw e at there) (rw e at here)
     go (inr n) = before v i a (omega (arith, lt, n)) there here
 
+-- a slot that nothing leads to
 pub visited_skip : (c : Context) (code : Code) (s : ℕ) (states : List (Option AbsState)) → IsVisited c code s states → ((i : Insn) (a : AbsState) → at code s ≡ Some i → states_of states s ≡ Some a → ⊥)
     → IsVisited c code (s + 1) states
 visited_skip c code s states h none = record {
@@ -180,6 +183,7 @@ kept_proper (Some x) a P e h = subst IsProper (same_state x a e) h.proper
 sent_proper : (c : Context) (i : Insn) (a : AbsState) (next : Next) → IsProper a → rule c.defs c.callback i a ≡ Ok next → FlowsProper next
 sent_proper c i a next p e = subst (λ (r : Result Next Why). IfOk r FlowsProper) e (rule_proper c.defs c.callback i a p)
 
+-- a slot whose checks pass
 pub visited_more : (c : Context) (code : Code) (s : ℕ) (states between after : List (Option AbsState)) (i : Insn) (a : AbsState) (next : Next) (to : ℕ)
     → IsProgram code → Flows code → IsVisited c code s states → at code s ≡ Some i → states_of states s ≡ Some a → rule c.defs c.callback i a ≡ Ok next → target s i ≡ Some to
     → IsGiven states to next.jump between → IsGiven between (s + size i) next.on after → IsVisited c code (s + 1) after
@@ -208,6 +212,7 @@ visited_more c code s states between after i a next to program flow h there here
 
 -- ---- a refusal
 
+-- a slot where a check fails
 pub visited_refuses : (c : Context) (code : Code) (s : ℕ) (states : List (Option AbsState)) (i : Insn) (a : AbsState) (why : Why) → Flows code → IsVisited c code s states
     → at code s ≡ Some i → states_of states s ≡ Some a → rule c.defs c.callback i a ≡ Err why → IsFirstRefusal c code why s
 visited_refuses c code s states i a why flow h there here fails = record {
@@ -235,6 +240,7 @@ least_covers : (o : Option AbsState) (P : AbsState → Type 0) (a : AbsState) �
 least_covers None P a h p = absurd (h a p)
 least_covers (Some x) P a h p = h.covers a p
 
+-- past the last slot the states are a typing
 pub visited_typing : (c : Context) (code : Code) (n : ℕ) (states : List (Option AbsState)) → Flows code → length code ≤ n → IsVisited c code n states → IsTyping c code (states_of states)
 visited_typing c code n states flow all h = record {
   start = least_covers (states_of states 0) (Arrives c code (states_of states) n 0) (start_of c.callback) (h.least 0) (inl (refl, refl));
