@@ -56,7 +56,7 @@ impl Stack {
     /// The number in the byte there, if one was written to it.
     #[tactic(auto, unfolding(crate::specs::Stack::stack_of))]
     fn byte(&self, at: usize) -> Option<u8>
-        requires { at + 1 ≤ 512 }
+        requires { at + 1 ≤ STACK_SIZE }
         ensures { result ≡ number_in (bytes_at (seen_stack self.now) at 1) }
     {
         if self.marks[at] == WRITTEN {
@@ -68,7 +68,7 @@ impl Stack {
 
     /// The number in the two bytes there, if one was written to each.
     fn half_word(&self, at: usize) -> Option<u16>
-        requires { at + 2 ≤ 512 }
+        requires { at + 2 ≤ STACK_SIZE }
         ensures { result ≡ number_in (bytes_at (seen_stack self.now) at 2) }
     {
         if LittleEndian::read_u16(&self.marks[at..]) == TWO_WRITTEN {
@@ -80,7 +80,7 @@ impl Stack {
 
     /// The number in the four bytes there, if one was written to each.
     pub fn word(&self, at: usize) -> Option<u32>
-        requires { at + 4 ≤ 512 }
+        requires { at + 4 ≤ STACK_SIZE }
         ensures { result ≡ number_in (bytes_at (seen_stack self.now) at 4) }
     {
         if LittleEndian::read_u32(&self.marks[at..]) == FOUR_WRITTEN {
@@ -92,7 +92,7 @@ impl Stack {
 
     /// The number in the eight bytes there, if one was written to each.
     fn double_word(&self, at: usize) -> Option<u64>
-        requires { at + 8 ≤ 512 }
+        requires { at + 8 ≤ STACK_SIZE }
         ensures { result ≡ number_in (bytes_at (seen_stack self.now) at 8) }
     {
         if LittleEndian::read_u64(&self.marks[at..]) == EIGHT_WRITTEN {
@@ -104,7 +104,7 @@ impl Stack {
 
     /// The pointer in the eight bytes there, if one was stored and none of them written over.
     fn pointer(&self, at: usize) -> Option<Pointer>
-        requires in_stack { at + 8 ≤ 512 }
+        requires in_stack { at + 8 ≤ STACK_SIZE }
         requires aligned { at % 8 ≡ 0 }
         ensures { result ≡ pointer_in (bytes_at (seen_stack self.now) at 8) }
     {
@@ -117,7 +117,7 @@ impl Stack {
 
     /// Writes a number to the byte.
     fn write_byte(&mut self, at: usize, n: u8)
-        requires { at + 1 ≤ 512 }
+        requires { at + 1 ≤ STACK_SIZE }
         ensures { seen_stack self.new ≡ write (seen_stack self.old) at (number_bytes 1 n) }
     {
         self.bytes[at] = n;
@@ -126,7 +126,7 @@ impl Stack {
 
     /// Writes a number to the two bytes.
     fn write_half_word(&mut self, at: usize, n: u16)
-        requires { at + 2 ≤ 512 }
+        requires { at + 2 ≤ STACK_SIZE }
         ensures { seen_stack self.new ≡ write (seen_stack self.old) at (number_bytes 2 n) }
     {
         LittleEndian::write_u16(&mut self.bytes[at..], n);
@@ -135,7 +135,7 @@ impl Stack {
 
     /// Writes a number to the four bytes.
     fn write_word(&mut self, at: usize, n: u32)
-        requires { at + 4 ≤ 512 }
+        requires { at + 4 ≤ STACK_SIZE }
         ensures { seen_stack self.new ≡ write (seen_stack self.old) at (number_bytes 4 n) }
     {
         LittleEndian::write_u32(&mut self.bytes[at..], n);
@@ -144,7 +144,7 @@ impl Stack {
 
     /// Writes a number to the eight bytes.
     fn write_double_word(&mut self, at: usize, n: u64)
-        requires { at + 8 ≤ 512 }
+        requires { at + 8 ≤ STACK_SIZE }
         ensures { seen_stack self.new ≡ write (seen_stack self.old) at (number_bytes 8 n) }
     {
         LittleEndian::write_u64(&mut self.bytes[at..], n);
@@ -153,7 +153,7 @@ impl Stack {
 
     /// Stores a pointer in the eight bytes.
     pub fn store_pointer(&mut self, at: usize, pointer: Pointer)
-        requires in_stack { at + 8 ≤ 512 }
+        requires in_stack { at + 8 ≤ STACK_SIZE }
         requires aligned { at % 8 ≡ 0 }
         ensures { seen_stack self.new ≡ write (seen_stack self.old) at (parts pointer) }
     {
@@ -163,7 +163,7 @@ impl Stack {
 
     /// Stores the low bytes of a number, the lowest first.
     pub fn store_number(&mut self, size: Size, at: usize, n: u64)
-        requires { at + size_bytes size ≤ 512 }
+        requires { at + size_bytes size ≤ STACK_SIZE }
         ensures { seen_stack self.new
             ≡ write (seen_stack self.old) at (number_bytes (size_bytes size) n) }
     {
@@ -178,7 +178,7 @@ impl Stack {
     /// What a load reads there; `None` where it has no meaning: where no number was written to
     /// some byte, unless all eight are those of one pointer.
     pub fn load(&self, access: Access, at: usize) -> Option<Value>
-        requires in_stack { at + size_bytes (access_size access) ≤ 512 }
+        requires in_stack { at + size_bytes (access_size access) ≤ STACK_SIZE }
         requires aligned { at % size_bytes (access_size access) ≡ 0 }
         ensures { result ≡ load (seen_stack self.now) access at }
     {
@@ -204,7 +204,7 @@ impl Stack {
 
     /// What a load of eight bytes reads there: a number or a pointer.
     fn whole(&self, at: usize) -> Option<Value>
-        requires in_stack { at + 8 ≤ 512 }
+        requires in_stack { at + 8 ≤ STACK_SIZE }
         requires aligned { at % 8 ≡ 0 }
         ensures { result ≡ load (seen_stack self.now) Access.DoubleWord at }
     {
