@@ -20,6 +20,7 @@ fault_cause bytes code (Flow f) slot fits spelled reason = (fits, record { code 
 fault_cause bytes code (Rule why) slot fits spelled reason = (fits, record { code = code; spelled = spelled; reason = reason })
 fault_cause bytes code NoMemory slot fits spelled reason = program_has_length bytes code spelled
 
+-- its refusal has the verifier as its cause
 pub verify_cause : (bytes : List ℕ) (code : Code) (shapes : List Shape) (error : VerifyError) (refusal : Refusal) → length bytes ≤ FILE_LIMIT → Spells bytes code → shapes ≡ []
     → IsRefusal (context Plain shapes) code error → refusal ≡ verify_refusal error → IsCause bytes refusal
 verify_cause bytes code shapes error refusal fits spelled none refused is = rw is (fault_cause bytes code error.fault error.slot fits spelled (rw none at refused))

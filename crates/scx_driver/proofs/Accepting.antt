@@ -18,10 +18,12 @@ use Rattle.scx_driver.proofs.Happening.{like_tick, like_wake, like_sleep, others
 
 -- ---- lists, one behind another
 
+-- two lists of events, one behind the other
 pub stepped_behind : (xs ys : List Event) (s : SimState) → stepped_all s (xs ++ ys) ≡ stepped_all (stepped_all s xs) ys
 stepped_behind [] ys s = refl
 stepped_behind (x ∷ xs) ys s = stepped_behind xs ys (stepped s x)
 
+-- are accepted where each is
 pub accepted_behind : (xs ys : List Event) (s : SimState) → AreAccepted s xs → AreAccepted (stepped_all s xs) ys → AreAccepted s (xs ++ ys)
 accepted_behind [] ys s a b = b
 accepted_behind (x ∷ xs) ys s a b = (a.0, accepted_behind xs ys (stepped s x) a.1 b)
@@ -72,6 +74,7 @@ module _ (n c g e : ℕ) where
   like_now : (s : SimState) → IsOf n c g e s → IsLike s.state.world.tree n c s.state.world
   like_now s h = (refl, h.tasks, h.cpus)
 
+  -- a task that sleeps may wake
   pub wake_leads : (s : SimState) (t : ℕ) → e < max_events → t < n → is_runnable s.state.world t ≡ false → IsOf n c g e s → Leads (Wake t) s (λ u. u ≡ t → ⊥)
   wake_leads s t few l sleeps h = (x.accepted, is_of (tree.with_task s.state.world.tree t true) (Wake t) s h.groups x i h.events, same)
     where
@@ -84,6 +87,7 @@ module _ (n c g e : ℕ) where
       same : (u : ℕ) → (u ≡ t → ⊥) → is_runnable (stepped s (Wake t)).state.world u ≡ is_runnable s.state.world u
       same u d = ap (λ y. is_runnable y.world u) x.state ∙ ap (λ y. is_active_task y u) i.0 ∙ others_stay s.state.world.tree t u true d
 
+  -- a task that is runnable may sleep
   pub sleep_leads : (s : SimState) (t : ℕ) → e < max_events → t < n → is_runnable s.state.world t ≡ true → IsOf n c g e s → Leads (Sleep t) s (λ u. u ≡ t → ⊥)
   sleep_leads s t few l runs h = (x.accepted, is_of (tree.with_task s.state.world.tree t false) (Sleep t) s h.groups x i h.events, same)
     where
@@ -96,17 +100,20 @@ module _ (n c g e : ℕ) where
       same : (u : ℕ) → (u ≡ t → ⊥) → is_runnable (stepped s (Sleep t)).state.world u ≡ is_runnable s.state.world u
       same u d = ap (λ y. is_runnable y.world u) x.state ∙ ap (λ y. is_active_task y u) i.0 ∙ others_stay s.state.world.tree t u false d
 
+  -- a processor may tick
   pub tick_leads : (s : SimState) (d : ℕ) → e < max_events → d < c → IsOf n c g e s → (refusal s (Tick d) ≡ None) × IsOf n c g (e + 1) (stepped s (Tick d))
   tick_leads s d few l h = (x.accepted, is_of s.state.world.tree (Tick d) s h.groups x (like_tick s.state.world.tree n c s.state d (like_now s h)) h.events)
     where
       x : Goes (Tick d) s
       x = goes (Tick d) s (omega (arith, few, h.events)) (rw (lt-ltb d (length s.state.world.cpus) (omega (arith, l, h.cpus))) refl)
 
+  -- the clock may go on
   pub clock_leads : (s : SimState) → e < max_events → IsOf n c g e s → (refusal s Clock ≡ None) × IsOf n c g (e + 1) (stepped s Clock)
   clock_leads s few h =
       let x : Goes Clock s = goes Clock s (omega (arith, few, h.events)) refl in
       (x.accepted, is_of s.state.world.tree Clock s h.groups x (like_now s h) h.events)
 
+  -- a group may get a weight
   pub weight_leads : (s : SimState) (k y : ℕ) → e < max_events → k < g → 1 ≤ y → y ≤ 10000 → IsOf n c g e s → (refusal s (SetWeight k y) ≡ None) × IsOf n c g (e + 1) (stepped s (SetWeight k y))
   weight_leads s k y few l least greatest h = (x.accepted, go (is_none (weight_fault s.state.world.tree k y)) refl)
     where
@@ -133,6 +140,7 @@ pub record IsLed (n : ℕ) (test : ℕ → Bool) (event : ℕ → Event) (I : �
 abbrev pub Led : (ℕ → SimState → Type 0) → ℕ → SimState → List Event → Type 0
 Led I n s xs = AreAccepted s xs × I n (stepped_all s xs)
 
+-- events by a test, one number after another
 pub led : (n : ℕ) (test : ℕ → Bool) (event : ℕ → Event) (I : ℕ → SimState → Type 0) (s : SimState) → IsLed n test event I → I 0 s → Led I n s (events_below n test event)
 led zero test event I s h i = (tt, i)
 led (suc n) test event I s h i = go (test n) refl (led n test event I s record { passed = λ k v l. h.passed k v (omega (arith, l)); left_out = λ k v l. h.left_out k v (omega (arith, l)) } i)

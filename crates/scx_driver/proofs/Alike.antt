@@ -35,6 +35,7 @@ use Rattle.scx_machine.specs.Events.{settled}
 use Rattle.scx_machine.specs.Cycle.{has_local, fill, dispatched, asks_again, tries, leave, started_if, start as run_front, pick, rest, pick_or_rest, ask, seek, cycling, cycle}
 use Rattle.scx_machine.specs.Start.{blank, init_ending, bad_answer, ok_unless, initialized, enable_ending, has_failed, enable, then_enable, enabled, ok_if, all_enabled, started}
 
+-- what both keep, a choice of them keeps
 pub keeps_if : {A : Type 0} (P : A → Type 0) (b : Bool) (x y : A) → P x → P y → P (cond b x y)
 keeps_if P true x y p q = p
 keeps_if P false x y p q = q
@@ -99,18 +100,21 @@ module _ (h : Hierarchy) (n c : ℕ) where
   like_called (Some p) b a maps w i =
       run_keeps (answer_to world_functions) (after_query world_functions) (IsLike h n c) like_query b p.code (suc (instruction_count p.code)) 0 (start.start (given a) maps) w i
 
+  -- a callback
   pub like_call_back : (s : State) (b : Callback) (a : Arguments) (t d : ℕ) → IsLike h n c s.world → IsLike h n c (call_back s b a t d).state.world
   unfolding call_back
   like_call_back s b a t d i = like_called (program_of s.policy b) b a s.maps (begun s.world b t d) i
 
   -- ---- a cycle
 
+  -- a task that is put
   pub like_put : (s : State) (t d flags : ℕ) → IsLike h n c s.world → IsLike h n c (put s t d flags).state.world
   unfolding put enters
   like_put s t d flags i =
       let r = call_back s callback.Enqueue (task_and_number t flags) t d in
       like_entered r.state.world t (wanted r.state.policy.callbacks.enqueue d r.state.world.call.insert) (like_call_back s callback.Enqueue (task_and_number t flags) t d i)
 
+  -- an insert of select_cpu
   pub like_settled : (o : Option Insert) (s : State) (t d : ℕ) → IsLike h n c s.world → IsLike h n c (settled o s t d).state.world
   unfolding enters
   like_settled None s t d i = like_put s t d 1 i
@@ -171,6 +175,7 @@ module _ (h : Hierarchy) (n c : ℕ) where
       let x : IsLike h n c f.state.world = like_fill s global d i in
       keeps_if (λ (r : Stepped). IsLike h n c r.state.world) (has_local f.state d) (pick f.state d p) (ask f.state d p ran) (like_pick f.state d p x) (like_ask f.state d p ran x)
 
+  -- a whole cycle
   pub like_cycle : (s : State) (d : ℕ) (p : Option ℕ) (ran : Bool) → IsLike h n c s.world → IsLike h n c (cycle s d p ran).state.world
   unfolding cycle
   like_cycle s d p ran i = let x = like_seek (cycling s (Some d)) d p ran (i.0, i.1, i.2) in (x.0, x.1, x.2)

@@ -36,6 +36,7 @@ module _ (h : Hierarchy) (n c : ℕ) where
       let x : IsLike h n c v.world = (i.0, length-set s.world.tasks t (ran_a_tick (task_at s.world t)) ∙ i.1, i.2) in
       keeps_if (λ (r : Stepped). IsLike h n c r.state.world) ((task_at v.world t).slice == 0) (cycle v d (Some t) true) (stays v) (like_cycle h n c v d (Some t) true x) x
 
+  -- a tick leaves all of it
   pub like_tick : (s : State) (d : ℕ) → IsLike h n c s.world → IsLike h n c (tick s d).state.world
   unfolding tick
   like_tick s d i = go (running s.world d)
@@ -62,6 +63,7 @@ module _ (h : Hierarchy) (n c : ℕ) where
       let x : IsLike h n c r.state.world = like_call_back h n c (with_world s (stopped s.world d t)) callback.Stopping (task_and_number t 0) t d (i.0, length-set s.world.tasks t _ ∙ i.1, length-set s.world.cpus d None ∙ i.2) in
       like_cycle (tree.with_task h t false) n c (with_world r.state (asleep r.state.world t)) d None true (like_asleep r.state.world t l x)
 
+  -- a task that sleeps is no longer active
   pub like_sleep : (s : State) (t : ℕ) → t < n → IsLike h n c s.world → IsLike (tree.with_task h t false) n c (sleep s t).state.world
   unfolding sleep
   like_sleep s t l i = go (cpu_of s.world t)

@@ -150,6 +150,7 @@ module _ (n c g : ℕ) (p : Plan) (plan : IsPlan n c g p) where
 
 -- ---- a workload's
 
+-- the law
 pub none_is_refused : (w : WorkloadState) (p : PolicyState) (s : SimState) → IsWorkload w → IsFirst p (idle w.groups w.homes) w.cpus s → AreAccepted s (workload_events w s)
 none_is_refused w p s whole first =
     all_blocks (length w.homes) w.cpus (length w.groups) (plan_of w) plan (blocks_from w.ms 0) (first_memory w.timings) s (length-map w.timings (λ (t : Timing). t.start) ∙ whole.timed) now (omega (arith, first.1, most_from w.ms 0, whole.few_ms))

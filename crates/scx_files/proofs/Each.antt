@@ -21,18 +21,21 @@ regroup : {A : Type 0} (front : List A) (x : A) (r : Reading (List A)) → with_
 regroup {A} front x (Ok xs) = ap (λ (ys : List A). Ok ys) (sym (append_assoc front (x ∷ []) xs))
 regroup front x (Err e) = refl
 
+-- one element more is read
 pub goes_on : {A : Type 0} (read : ℕ → Data → Reading A) (vs : List Value) (i : ℕ) (d : Value) (front : List A) (x : A) (total : Reading (List A)) → i < length vs
     → read i (view (get_or vs i d)) ≡ Ok x → left read vs i front ≡ total → left read vs (i + 1) (front ++ x ∷ []) ≡ total
 goes_on read vs i d front x total lt e so_far =
     let one : left read vs i front ≡ left read vs (i + 1) (front ++ x ∷ []) = rw (items_view-drop vs i d lt, e) (regroup front x (each_from read (i + 1) (items_view (drop (i + 1) vs)))) in
     sym one ∙ so_far
 
+-- an element that is refused ends the reading
 pub ends : {A : Type 0} (read : ℕ → Data → Reading A) (vs : List Value) (i : ℕ) (d : Value) (front : List A) (fault : Fault) (total : Reading (List A)) → i < length vs
     → read i (view (get_or vs i d)) ≡ Err fault → left read vs i front ≡ total → total ≡ Err fault
 ends {A} read vs i d front fault total lt e so_far =
     let one : left read vs i front ≡ Err fault = rw (items_view-drop vs i d lt, e) refl in
     sym so_far ∙ one
 
+-- past the last element the reading is done
 pub is_done : {A : Type 0} (read : ℕ → Data → Reading A) (vs : List Value) (i : ℕ) (front : List A) (total : Reading (List A)) → length vs ≤ i → left read vs i front ≡ total → total ≡ Ok front
 is_done {A} read vs i front total le so_far =
     let one : left read vs i front ≡ Ok front = rw (drop_all i vs le) (ap (λ (ys : List A). Ok ys) (append-nil front)) in

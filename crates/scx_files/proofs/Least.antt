@@ -10,6 +10,7 @@ use Rattle.toml.proofs.Views.{items_view-drop}
 use Rattle.scx_files.specs.Paths.{element}
 use Rattle.scx_files.specs.Unknown.{least_with, lesser, IsLeast, unknown_of, unknown_from}
 
+-- two lists, one after the other
 pub least_with-append : (least : Option (List ℕ)) (ps qs : List (List ℕ)) → least_with least (ps ++ qs) ≡ least_with (least_with least ps) qs
 least_with-append least [] qs = refl
 least_with-append least (p ∷ ps) qs = least_with-append (Some (lesser p least)) ps qs
@@ -69,6 +70,7 @@ least_behind q [] = ((0, omega arith, refl), alone)
     alone (suc k) d l = absurd (omega (arith, l))
 least_behind q (p ∷ paths) = lesser_is_enough p q paths _ (least_behind (lesser p (Some q)) paths)
 
+-- the least of a list
 pub least_is_found : (paths : List (List ℕ)) → IsLeast paths (least_with None paths)
 least_is_found [] = refl
 least_is_found (p ∷ paths) = least_behind p paths

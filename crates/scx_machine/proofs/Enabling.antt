@@ -6,6 +6,7 @@ use Rattle.scx_machine.specs.Callbacks.{AreAnswered}
 use Rattle.scx_machine.specs.Start.{enable, then_enable, enabled, enable_calls, calls_below}
 use Rattle.scx_machine.proofs.Taking.{answered_append}
 
+-- one task more
 pub enabled_next : (n : ℕ) (s : State) → enabled (n + 1) s ≡ then_enable (enabled n s) n
 enabled_next n s = rw add-one refl
 
@@ -25,6 +26,7 @@ enabled_fails n k s t l e f = enabled_none n (k + 1) s (omega (arith, l)) (enabl
 
 -- ---- their callbacks are answered
 
+-- its call is answered where it is enabled
 pub answered_next : (n : ℕ) (s t : State) → enabled n s ≡ Some t → AreAnswered (calls_below n s) → AreAnswered (enable_calls (Some t) n) → AreAnswered (calls_below (n + 1) s)
 answered_next n s t e before next = rw add-one (answered_append (calls_below n s) (enable_calls (enabled n s) n) before (subst (λ o. AreAnswered (enable_calls o n)) (sym e) next))
 
@@ -40,5 +42,6 @@ answered_none (suc n) k s l e h = go (cases_eq k (suc n)) (λ d. answered_none n
         let none = enabled_none n k s (omega (arith, l, d)) e in
         answered_append (calls_below n s) (enable_calls (enabled n s) n) (f d) (subst (λ o. AreAnswered (enable_calls o n)) (sym none) tt)
 
+-- and where it isn't, so are all up to it
 pub answered_fails : (n k : ℕ) (s t : State) → k < n → enabled k s ≡ Some t → enable t k ≡ None → AreAnswered (calls_below k s) → AreAnswered (enable_calls (Some t) k) → AreAnswered (calls_below n s)
 answered_fails n k s t l e f before next = answered_none n (k + 1) s (omega (arith, l)) (enabled_next k s ∙ rw e f) (answered_next k s t e before next)

@@ -15,6 +15,7 @@ Takes-append takes s t u (x ∷ xs) ys p q = (p.0, p.1, Takes-append takes p.0 t
 pub Takes-one : {S : Type 0} (takes : S → Note → S → Type 0) (s t u : S) (xs : List Note) (n : Note) → Takes takes s xs t → takes t n u → Takes takes s (xs ++ n ∷ []) u
 Takes-one takes s t u xs n p q = Takes-append takes s t u xs (n ∷ []) p (u, q, refl)
 
+-- calls that are answered, one after another
 pub answered_append : (xs ys : List CallMade) → AreAnswered xs → AreAnswered ys → AreAnswered (xs ++ ys)
 answered_append [] ys p q = q
 answered_append (x ∷ xs) ys p q = (p.0, answered_append xs ys p.1 q)

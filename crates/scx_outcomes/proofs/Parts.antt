@@ -11,6 +11,7 @@ alone line = append-nil (line ++ []) ∙ append-nil line
 behind : (front mark cause feed : List ℕ) → front ++ (mark ++ cause ++ feed) ≡ front ++ mark ++ cause ++ feed
 behind front mark cause feed = sym (append_assoc front (mark ++ cause) feed) ∙ ap (λ line. line ++ feed) (sym (append_assoc front mark cause))
 
+-- whatever the refusal
 pub line_in_parts : (refusal : Refusal) → start refusal ++ path_of refusal ++ end refusal ≡ refusal_line refusal
 line_in_parts TooLarge = alone (refusal_line TooLarge)
 line_in_parts NotUtf8 = alone (refusal_line NotUtf8)

@@ -10,6 +10,7 @@ use Rattle.scx_policies.specs.declared.building.BuildError.TheVariants as errors
 use Rattle.scx_policies.specs.Policies.{PolicyFile, program_of}
 use Rattle.scx_policies.specs.Building.{IsAccepted, earlier, AreAccepted, IsFirstRefused, code_of, IsBuilt, IsVerified, IsRefusedAs}
 
+-- the first that is refused is the refusal
 pub refused_at : (text : PolicyFile) (b : Callback) (e : BuildError) → AreAccepted text (earlier b) → IsRefusedAs text.shapes (program_of text b) b e → IsFirstRefused text e
 refused_at text b (errors.Refused a fault slot) before (is, refused) = rw is (before, refused)
 refused_at text b errors.NoMemory before refused = tt
@@ -24,6 +25,7 @@ pub record AreVerified (text : PolicyFile) (c : Callbacks) : Type 0 where
   pub running : IsVerified text.shapes text.programs.running callback.Running c.running
   pub stopping : IsVerified text.shapes text.programs.stopping callback.Stopping c.stopping
 
+-- where all are verified the policy is built
 pub built_of : (text : PolicyFile) (p : PolicyState) (c : Callbacks) → p ≡ policy_of text.shapes text.timeout_ms c → AreVerified text c → IsBuilt text p
 built_of text p c e h = rw e record { shapes = refl; timeout = refl; programs = codes; accepted = fits }
   where

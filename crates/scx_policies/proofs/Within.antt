@@ -20,6 +20,7 @@ abbrev value_or : {A : Type 0} → A → Reading A → A
 value_or d (Ok x) = x
 value_or d (Err e) = d
 
+-- a result behind another had the other
 pub bind_ok : {A B : Type 0} (r : Reading A) (f : A → Reading B) (y : B) → (r >>= f) ≡ Ok y → (x : A) × (r ≡ Ok x) × (f x ≡ Ok y)
 bind_ok (Ok x) f y e = (x, refl, e)
 bind_ok (Err d) f y e = absurd (cc)
@@ -38,6 +39,7 @@ in_limits limits k n b same =
     let (low, high) = and_parts (nat_le limits.least k) (nat_le k limits.most) b in
     (omega (arith, leb-true limits.least k low, same), omega (arith, leb-true k limits.most high, same))
 
+-- an integer
 pub integer_in : (limits : Limits) (path : List ℕ) (d : Data) (n : ℕ) → integer_of limits path d ≡ Ok n → IsIn limits n
 integer_in limits path (integer (pos k)) n e =
     let (b, same) = picked (nat_le limits.least k && nat_le k limits.most) path k n e in
@@ -54,6 +56,7 @@ required_found : (limits : Limits) (path : List ℕ) (o : Option Data) (n : ℕ)
 required_found limits path None n e = absurd (cc)
 required_found limits path (Some d) n e = integer_in limits path d n e
 
+-- a required integer
 pub required_in : (limits : Limits) (path key : List ℕ) (ms : Members) (n : ℕ) → required (integer_of limits) path key ms ≡ Ok n → IsIn limits n
 required_in limits path key ms n e = required_found limits (below path key) (get_member key ms) n e
 
@@ -63,6 +66,7 @@ optional_found limits default path None n h e =
     subst (IsIn limits) same h
 optional_found limits default path (Some d) n h e = integer_in limits path d n e
 
+-- an integer that may be absent
 pub optional_in : (limits : Limits) (default : ℕ) (path key : List ℕ) (ms : Members) (n : ℕ) → IsIn limits default → optional (integer_of limits) default path key ms ≡ Ok n → IsIn limits n
 optional_in limits default path key ms n h e = optional_found limits default (below path key) (get_member key ms) n h e
 
@@ -87,6 +91,7 @@ pub record AreMaps (ds : Items) (shapes : List Shape) : Type 0 where
   pub count : length shapes ≡ item_count ds
   pub each : All IsWithinLimits shapes
 
+-- the shapes of maps
 pub maps_within : (n : ℕ) (ds : Items) (shapes : List Shape) → each_from map_at n ds ≡ Ok shapes → AreMaps ds shapes
 maps_within n no_items shapes e =
     let same : [] ≡ shapes = ap (value_or shapes) e in
@@ -119,6 +124,7 @@ found_counted path None es e =
     omega (arith, ap item_count same)
 found_counted path (Some d) es e = array_counted path d es e
 
+-- the number of maps
 pub few_elements : (path key : List ℕ) (ms : Members) (es : Items) → optional (elements_of MAX_MAPS) no_items path key ms ≡ Ok es → item_count es ≤ MAX_MAPS
 few_elements path key ms es e = found_counted (below path key) (get_member key ms) es e
 

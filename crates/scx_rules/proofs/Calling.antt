@@ -24,6 +24,7 @@ called_none : (b : Callback) (a : Arguments) (maps : Maps) (w : WorldState) (o :
 unfolding called
 called_none b a maps w o e = rw e refl
 
+-- a callback ends as it is computed
 pub only_ends : (o : Option VerifiedProgram) (b : Callback) (a : Arguments) (maps : Maps) (w : WorldState) (e : Ending WorldState) → EndsAs o b a maps w e → e ≡ called o b a maps w
 only_ends o b a maps w e (Absent x k) = k ∙ sym (called_none b a maps w o x)
 only_ends o b a maps w e (Exits p n steps left v x l runs k) =
@@ -39,11 +40,13 @@ ends_as (Some p) b a maps w fits (h, more) = subst (λ (e : Ending WorldState). 
     exits : EndsAs (Some p) b a maps w (record { answer = Some h.answer; maps = h.maps; outside = h.world })
     exits = Exits p h.answer h.steps h.maps h.world refl h.in_bound (rw (← fits) h.run) refl
 
+-- what is computed is allowed
 pub calls_back : RulesAllowCallbacks
 unfolding call_back answered_by
 calls_back s b a t c fits all =
     record { ending = called (program_of s.policy b) b a s.maps (begun s.world b t c); ends = ends_as (program_of s.policy b) b a s.maps (begun s.world b t c) fits all; answers = refl; all = refl }
 
+-- and nothing else is
 pub only_calls : RulesAllowCallbacksOnly
 unfolding call_back answered_by
 only_calls s b a t c x r h =

@@ -42,6 +42,7 @@ all_busy w e c = go (cases_lt c (length w.cpus))
     go (inl l) = no_idle (length w.cpus) w e c l
     go (inr past) = let x : nat_lt c (length w.cpus) ≡ false = grind (arith, nat_tests, past) in rw x refl
 
+-- what is computed is a choice
 pub is_choice : (w : WorldState) (t : ℕ) → IsChoice w t (default_choice w t)
 is_choice w t = go (is_idle w (task_at w t).prev_cpu) refl (first_idle w) refl
   where
@@ -50,6 +51,7 @@ is_choice w t = go (is_idle w (task_at w t).prev_cpu) refl (first_idle w) refl
     go false e (Some c) x = let h = is_lowest (length w.cpus) w c x in Lowest e h.idle h.below
     go false e None x = None_idle (all_busy w x) refl
 
+-- and the only one
 pub only_choice : (w : WorldState) (t c : ℕ) → IsChoice w t c → c ≡ default_choice w t
 only_choice w t c (Last_ran e k) = rw e k
 only_choice w t c (Lowest e i below) = rw e (go (first_idle w) refl)

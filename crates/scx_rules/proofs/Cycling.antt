@@ -35,10 +35,12 @@ only_comes s t c r (Default e k) = k ∙ ap (λ p. placed_as s t c p s.world.cal
 only_comes s t c r (Held p e x k) = k ∙ ap (λ i. placed_as s t c (Some p) i) (sym x) ∙ ap (λ q. placed_as s t c q s.world.call.insert) (sym e)
 only_comes s t c r (Inserted p i e x k) = k ∙ ap (λ j. placed_as s t c (Some p) j) (sym x) ∙ ap (λ q. placed_as s t c q s.world.call.insert) (sym e)
 
+-- a task is put as it is computed
 pub puts : (s : State) (t c flags : ℕ) → Puts s t c flags (put s t c flags)
 unfolding put enters
 puts s t c flags = record { put = placed (enqueue_called s t c flags).state t c; enters = comes (enqueue_called s t c flags).state t c; all = refl }
 
+-- and in no other way
 pub only_puts : (s : State) (t c flags : ℕ) (r : Stepped) → Puts s t c flags r → r ≡ put s t c flags
 unfolding put enters
 only_puts s t c flags r h = h.all ∙ ap (λ x. joined (enqueue_called s t c flags) x) (only_comes (enqueue_called s t c flags).state t c h.put h.enters)
@@ -217,10 +219,12 @@ only_seeks s c p ran r (Asked f a x h z b y k) =
     k ∙ ap (λ u. joined f (joined a u)) (only_ends a.state c p ran x y) ∙ ap (λ (u : Stepped). joined f (joined u (pick_or_rest u.state c p ran))) (only_asks 32 f.state c p a b)
     ∙ ap (λ (g : Stepped). asked_from g c p ran) e ∙ sym (seek_asks s c p ran (subst (λ (g : Stepped). local_len g.state.world c ≡ 0) e z))
 
+-- a cycle goes as it is computed
 pub cycles : (s : State) (c : ℕ) (p : Option ℕ) (ran : Bool) → Cycles s c p ran (cycle s c p ran)
 unfolding cycle
 cycles s c p ran = record { found = seek (cycling s (Some c)) c p ran; seeks = seeks (cycling s (Some c)) c p ran; all = refl }
 
+-- and in no other way
 pub only_cycles : (s : State) (c : ℕ) (p : Option ℕ) (ran : Bool) (r : Stepped) → Cycles s c p ran r → r ≡ cycle s c p ran
 unfolding cycle
 only_cycles s c p ran r h = h.all ∙ ap (λ (x : Stepped). record { state = cycling x.state None; notes = x.notes; calls = x.calls }) (only_seeks (cycling s (Some c)) c p ran h.found h.seeks)

@@ -172,6 +172,7 @@ reweighed_is s g x e = rw (no_weight_fault s.world.tree g x e) refl
 
 -- ---- all events
 
+-- what is computed is allowed
 pub happens : RulesAllowEvents
 happens s (Wake t) e = wakes s t
 happens s (Sleep t) e = sleeps s t
@@ -179,6 +180,7 @@ happens s (Tick c) e = ticks s c
 happens s Clock e = refl
 happens s (SetWeight g x) e = ap (λ w. noting s w (note.Weight g x)) (reweighed_is s g x e)
 
+-- and nothing else is
 pub only_happens : RulesAllowEventsOnly
 only_happens s (Wake t) r e h = only_wakes s t r h
 only_happens s (Sleep t) r e h = only_sleeps s t r h

@@ -465,6 +465,7 @@ finds w n = go (nat_lt 0 n) (nat_le n (length w.tasks)) refl refl
     go true false x y = let high : length w.tasks < n = grind (arith, nat_tests, y) in Nobody (λ t l e. omega (arith, l, e, high)) refl
     go false b x y = let low : n ≤ 0 = grind (arith, nat_tests, x) in Nobody (λ t l e. omega (arith, e, low)) refl
 
+-- what is computed is allowed
 pub helper_allowed : RulesAllowHelpers
 helper_allowed w KtimeGetNs a own = Done (w.clock * 1000000) refl (refl, refl) refl
 helper_allowed w CreateDsq a own = create_allowed w a
@@ -584,6 +585,7 @@ only_queued w a x v (Wrong Mixed j e k) = absurd j
 some_fault : (f : Fault) → ◌≡◌ {A = Option Fault} (Some f) None → ⊥
 some_fault f e = absurd (cc)
 
+-- and nothing else is
 pub only_helper : RulesAllowHelpersOnly
 only_helper w KtimeGetNs a x v (Done n j d e) = (e ∙ ap Number d.0, d.1)
 only_helper w KtimeGetNs a x v (Looked_up h f e) = absurd (cc)

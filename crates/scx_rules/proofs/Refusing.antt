@@ -80,6 +80,7 @@ weight s g x r = go (cases_lt g (length s.world.tree.groups)) (is_bad_weight x) 
     go (inl l) false k = rw (below g (length s.world.tree.groups) l) (λ e. absurd (none_is r e))
     go (inr l) b k = rw (past g (length s.world.tree.groups) l) (λ e. No_group l (is UnknownGroup r e))
 
+-- where it is refused the rules refuse it
 pub refuses : RulesRefuseEvents
 refuses s (Wake t) r e = wake s t r e
 refuses s (Sleep t) r e = sleep s t r e
@@ -101,6 +102,7 @@ only_weight : (s : State) (g x : ℕ) (r : Refused) → RefusesWeight s g x r �
 only_weight s g x r (No_group l k) = rw (past g (length s.world.tree.groups) l, k) refl
 only_weight s g x r (No_weight l n k) = rw (below g (length s.world.tree.groups) l, bad x n, k) refl
 
+-- and where they do it is
 pub only_refuses : RulesRefuseEventsOnly
 only_refuses s (Wake t) r h = only_wake s t r h
 only_refuses s (Sleep t) r h = only_sleep s t r h

@@ -49,6 +49,7 @@ below k n l = grind (arith, nat_tests, l)
 past : (k n : ℕ) → n ≤ k → nat_lt k n ≡ false
 past k n l = grind (arith, nat_tests, l)
 
+-- of a bad shape none begins
 pub bad_shape : RulesRefuseShapes
 bad_shape tree cpus = go (cases_lt cpus 1) (cases_lt 64 cpus)
   where
@@ -60,6 +61,7 @@ bad_shape tree cpus = go (cases_lt cpus 1) (cases_lt 64 cpus)
     go (inr l) (inl h) = λ e. Many_cpus h
     go (inr l) (inr h) = rw (past cpus 1 l, past 64 cpus h) (λ e. active (some_below (length tree.homes) (λ t. is_active_task tree t) e))
 
+-- and only of a bad one none does
 pub only_bad_shape : RulesRefuseShapesOnly
 only_bad_shape tree cpus (No_cpu k) = rw k refl
 only_bad_shape tree cpus (Many_cpus l) = rw (past cpus 1 (omega (arith, l)), below 64 cpus l) refl
@@ -209,6 +211,7 @@ enables_all (suc n) s fits all =
     go None x h a = Failed n s _ h refl
     go (Some u) x h a = Next n s u _ h (enables u n (subst (λ (p : PolicyState). AreAs p.callbacks) (sym (after_enabled n s u x)) fits) a)
 
+-- a machine begins as it is computed
 pub begins : RulesAllowStarts
 begins p tree cpus fits all =
     from (initialized (blank p tree cpus)) refl (initializes (blank p tree cpus) fits (answered_first (init_calls (blank p tree cpus)) (calls_after_init (initialized (blank p tree cpus))) all)) (answered_second (init_calls (blank p tree cpus)) (calls_after_init (initialized (blank p tree cpus))) all)
@@ -221,6 +224,7 @@ begins p tree cpus fits all =
     from (Err n) x i a = Init_fails n i refl
     from (Ok s) x i a = rest s i (enabled (length s.world.tasks) s) (enables_all (length s.world.tasks) s (subst (λ (q : PolicyState). AreAs q.callbacks) (sym (after_init (blank p tree cpus) s x)) fits) a)
 
+-- and in no other way
 pub only_begins : RulesAllowStartsOnly
 only_begins p tree cpus r (Init_fails n i k) = k ∙ ap (λ x. all_enabled x) (only_initializes (blank p tree cpus) (Err n) i)
 only_begins p tree cpus r (Enable_fails s i h k) =

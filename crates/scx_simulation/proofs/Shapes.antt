@@ -14,6 +14,7 @@ none_passes (suc n) test fails = rw (none_passes n test (λ k l. fails k (omega 
 not_below : (a b : ℕ) → b ≤ a → nat_lt a b ≡ false
 not_below a b l = grind (arith, nat_tests, l)
 
+-- none of its numbers is out of range
 pub shape_is_right : (w : WorkloadState) → IsWorkload w → is_bad_shape (idle w.groups w.homes) w.cpus ≡ false
 shape_is_right w whole =
     let asleep = none_passes (length w.homes) (λ t. is_active_task (idle w.groups w.homes) t) (λ t l. get_or-replicate (length w.homes) t false false l) in

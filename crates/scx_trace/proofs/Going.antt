@@ -9,6 +9,7 @@ use Rattle.scx_driver.specs.Runs.{stepped_all, notes_of_all}
 use Rattle.scx_driver.proofs.Accepting.{stepped_behind}
 use Rattle.scx_trace.specs.Runs.{GoesThrough}
 
+-- the notes of two lists of events, one behind the other
 pub notes_of_all-append : (s : SimState) (es fs : List Event) → notes_of_all s (es ++ fs) ≡ notes_of_all s es ++ notes_of_all (stepped_all s es) fs
 notes_of_all-append s [] fs = refl
 notes_of_all-append s (e ∷ es) fs =
@@ -26,9 +27,11 @@ pub record HasGone {S : Type 0} (takes : S → Note → S → Type 0) (events : 
   pub state : t ≡ stepped_all s done
   pub notes : Takes takes a (notes_of_all s done) b
 
+-- before the first event
 pub gone_nowhere : {S : Type 0} (takes : S → Note → S → Type 0) (events : List Event) (s : SimState) (a : S) → HasGone takes events s a events s a
 gone_nowhere takes events s a = record { done = []; whole = refl; state = refl; notes = refl }
 
+-- one event more
 pub gone_further : {S : Type 0} (takes : S → Note → S → Type 0) (events rest : List Event) (later : SimState → List Event) (s t u : SimState) (a b c : S) (e : Event)
     → HasGone takes events s a rest t b → rest ≡ e ∷ later (stepped t e) → u ≡ stepped t e → Takes takes b (notes_of t e) c → HasGone takes events s a (later u) u c
 gone_further {S} takes events rest later s t u a b c e gone next state notes =

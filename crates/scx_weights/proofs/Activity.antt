@@ -12,18 +12,23 @@ use Rattle.scx_weights.proofs.Paths.{touch}
 abbrev pub mark : Hierarchy → ℕ → ℕ → ℕ
 mark t g k = cond (is_active_task t k && lies_in t.groups (home_of t k) g) 1 0
 
+-- an active task counts on its way to the top
 pub mark_active : (t : Hierarchy) (g k : ℕ) → is_active_task t k ≡ true → mark t g k ≡ touch g (path t.groups (home_of t k))
 mark_active t g k e = rw e refl
 
+-- one that is idle counts nowhere
 pub mark_idle : (t : Hierarchy) (g k : ℕ) → is_active_task t k ≡ false → mark t g k ≡ 0
 mark_idle t g k e = rw e refl
 
+-- it counts among those below a group
 pub mark-le_tasks_in : (t : Hierarchy) (g k : ℕ) → k < length t.homes → mark t g k ≤ tasks_in t g
 mark-le_tasks_in t g k lt = le-sum_below (length t.homes) k (mark t g) lt
 
+-- which are no more than all
 pub tasks_in-le : (t : Hierarchy) (g : ℕ) → tasks_in t g ≤ length t.homes
 tasks_in-le t g = count_below-le (length t.homes) (λ k. is_active_task t k && lies_in t.groups (home_of t k) g)
 
+-- a task is active as it was set
 pub task_set : (t : Hierarchy) (k : ℕ) (on : Bool) → k < length t.active → is_active_task (with_task t k on) k ≡ on
 task_set t k on lt = get_or-set_same t.active k on false lt
 

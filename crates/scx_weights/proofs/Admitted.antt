@@ -40,6 +40,7 @@ pub record Faultless (groups : List Group) (homes : List ℕ) : Type 0 where
   pub weights : has_bad_weight groups ≡ false
   pub leaves : has_task_above groups homes ≡ false
 
+-- what it means that there is no fault
 pub faultless : (groups : List Group) (homes : List ℕ) → first_fault groups homes ≡ None → Faultless groups homes
 faultless groups homes none =
     let one = passes_by (has_late_parent groups || has_unknown_home groups homes) UnknownGroup _ none in
@@ -107,6 +108,7 @@ idle_adds_up groups = record {
       zero_at (length groups + 1) s ∙ sym none;
 }
 
+-- the sums of an idle tree are zeros
 pub idle_is_kept : (groups : List Group) (homes : List ℕ) → first_fault groups homes ≡ None → IsKept (idle groups homes) (replicate (length groups) 0) (replicate (length groups + 1) 0)
 idle_is_kept groups homes none =
     let sound : Faultless groups homes = faultless groups homes none in

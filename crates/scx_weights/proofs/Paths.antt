@@ -15,6 +15,7 @@ among g gs = list_any (λ x. eqb x g) gs
 abbrev pub touch : ℕ → List ℕ → ℕ
 touch g gs = cond (among g gs) 1 0
 
+-- from nowhere there is no way
 pub upward-none : (groups : List Group) (n : ℕ) → upward groups n None ≡ []
 upward-none groups zero = refl
 upward-none groups (suc n) = refl
@@ -27,6 +28,7 @@ by_parent groups g P none some = split (parent_of groups g) refl
     split None e = none e
     split (Some p) e = some p e
 
+-- groups on the way stand no later
 pub among_le : (groups : List Group) (forest : IsForest groups) (n p h : ℕ) → among h (upward groups n (Some p)) ≡ true → h ≤ p
 among_le groups forest zero p h e = absurd (cc)
 among_le groups forest (suc n) p h e =
@@ -57,9 +59,11 @@ not_above_itself groups forest n g =
     (λ (e : among g (upward groups n (Some p)) ≡ false). e)
     (cases_Bool (among g (upward groups n (Some p)))))
 
+-- a group on the way counts once
 pub touch_in : (g : ℕ) (gs : List ℕ) → among g gs ≡ true → touch g gs ≡ 1
 touch_in g gs e = rw e refl
 
+-- another not at all
 pub touch_out : (g : ℕ) (gs : List ℕ) → among g gs ≡ false → touch g gs ≡ 0
 touch_out g gs e = rw e refl
 
@@ -187,9 +191,11 @@ lower_step groups forest counts i x g extra total lt within some so_far =
 pub parent_within : (groups : List Group) (forest : IsForest groups) (x p : ℕ) → x < length groups → parent_of groups x ≡ Some p → p < length groups
 parent_within groups forest x p lt is = let less : p < x = forest.earlier x p is in omega (arith, less, lt)
 
+-- past the top nothing counts
 pub walk_over : (groups : List Group) (n g : ℕ) (at : Option ℕ) → at ≡ None → touch g (upward groups n at) ≡ 0
 walk_over groups n g at is = ap (λ a. touch g (upward groups n a)) is ∙ ap (λ gs. touch g gs) (upward-none groups n)
 
+-- the group at hand counts once
 pub walk_here : (groups : List Group) (i x : ℕ) (at : Option ℕ) → i < 3 → at ≡ Some x → touch x (upward groups (3 - i) at) ≡ 1
 walk_here groups i x at lt is = ap (λ a. touch x (upward groups (3 - i) a)) is ∙ way_here groups i x lt
 
@@ -207,6 +213,7 @@ raise_walk groups forest now next totals i x at at' lt same_length within is par
     ∙ ap (λ a. get_or (set now x (get_or now x 0 + 1)) g 0 + touch g (upward groups (3 - (i + 1)) a)) parent
     ∙ next_is
 
+-- a step of the walk lowers one count
 pub lower_walk : (groups : List Group) (forest : IsForest groups) (now next : List ℕ) (extras totals : ℕ → ℕ) (i x : ℕ) (at at' : Option ℕ)
     → i < 3 → length now ≡ length groups → x < length groups → at ≡ Some x → at' ≡ parent_of groups x → next ≡ set now x (get_or now x 0 - 1)
     → ((g : ℕ) → g < length groups → extras g ≤ totals g)
@@ -223,6 +230,7 @@ lower_walk groups forest now next extras totals i x at at' lt same_length within
     ∙ next_is
     ∙ ap (λ a. totals g + touch g (upward groups (3 - (i + 1)) a)) (sym parent)
 
+-- a group counts once at most
 pub touch-le : (g : ℕ) (gs : List ℕ) → touch g gs ≤ 1
 touch-le g gs = small (among g gs)
   where

@@ -14,6 +14,7 @@ use Rattle.scx_weights.proofs.Slots.{part_of, part_elsewhere, part_here, part_em
 abbrev no_group : Group
 no_group = record { parent = None; weight = 0 }
 
+-- parents stay
 pub parent_reweighed : (groups : List Group) (g w k : ℕ) → g < length groups → parent_of (reweighed groups g w) k ≡ parent_of groups k
 parent_reweighed groups g w k lt =
     ⊎_elim
@@ -23,12 +24,15 @@ parent_reweighed groups g w k lt =
     (λ (e : k ≡ g → ⊥). ap (λ (x : Group). x.parent) (get_or-set_other groups g k (record { parent = parent_of groups g; weight = w }) no_group e))
     (cases_eq k g)
 
+-- the group has the weight
 pub weight_reweighed : (groups : List Group) (g w : ℕ) → g < length groups → weight_at (reweighed groups g w) g ≡ w
 weight_reweighed groups g w lt = ap (λ (x : Group). x.weight) (get_or-set_same groups g (record { parent = parent_of groups g; weight = w }) no_group lt)
 
+-- others keep theirs
 pub weight_elsewhere : (groups : List Group) (g w k : ℕ) → (k ≡ g → ⊥) → weight_at (reweighed groups g w) k ≡ weight_at groups k
 weight_elsewhere groups g w k other = ap (λ (x : Group). x.weight) (get_or-set_other groups g k (record { parent = parent_of groups g; weight = w }) no_group other)
 
+-- there are as many groups
 pub length-reweighed : (groups : List Group) (g w : ℕ) → length (reweighed groups g w) ≡ length groups
 length-reweighed groups g w = length-set groups g (record { parent = parent_of groups g; weight = w })
 
@@ -133,6 +137,7 @@ forest_reweighed groups g w forest lt least greatest = record {
       (cases_eq k g);
 }
 
+-- the sums are those of the new weights
 pub kept_reweighed : (t : Hierarchy) (counts weights weights' : List ℕ) (g w : ℕ) → IsKept t counts weights → g < length t.groups → 1 ≤ w → w ≤ max_weight
     → AddsUp (reweighed t.groups g w) counts weights'
     → IsKept (with_weight t g w) counts weights'
@@ -153,6 +158,7 @@ kept_reweighed t counts weights weights' g w kept lt least greatest up = record 
   adds_up = up;
 }
 
+-- a number that is not outside is inside
 pub inside : (greatest n : ℕ) → is_outside greatest n ≡ false → (1 ≤ n) × (n ≤ greatest)
 inside greatest n e =
     let both = or_parts (ltb n 1) (ltb greatest n) e in

@@ -249,6 +249,7 @@ task_count g t path ms u e =
 inside : (most n : ℕ) → 1 ≤ n → n ≤ most → is_outside most n ≡ false
 inside most n l m = let a : nat_lt n 1 ≡ false = grind (arith, nat_tests, l) in let b : nat_lt most n ≡ false = grind (arith, nat_tests, m) in rw (a, b) refl
 
+-- whatever the file
 pub tree_is_right : (ms : Members) (g : GroupList) (t : TaskList) → groups_in ms ≡ Ok g → tasks_in g ms ≡ Ok t → first_fault g.groups t.homes ≡ None
 tree_is_right ms g t e f = rw (forest.late, homes.known, inside 256 (length g.groups) (omega (arith, groups, x'.least)) (omega (arith, groups, x'.greatest)), inside 1024 (length t.homes) (omega (arith, tasks, y'.least)) (omega (arith, tasks, y'.greatest)), forest.weights, forest.deep, homes.leaves) refl
   where

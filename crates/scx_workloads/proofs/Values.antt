@@ -56,6 +56,7 @@ integer_within limits path (datetime x) n e = absurd (cc)
 integer_within limits path (array ds) n e = absurd (cc)
 integer_within limits path (table ms) n e = absurd (cc)
 
+-- a required number is within its limits
 pub required_within : (limits : Limits) (path key : List ℕ) (ms : Members) (n : ℕ) → required (integer_of limits) path key ms ≡ Ok n → IsWithin limits n
 required_within limits path key ms n e = go (get_member key ms) e
   where
@@ -63,6 +64,7 @@ required_within limits path key ms n e = go (get_member key ms) e
     go None e = absurd (cc)
     go (Some d) e = integer_within limits (below path key) d n e
 
+-- and so is one that may be absent
 pub optional_within : (limits : Limits) (default : ℕ) (path key : List ℕ) (ms : Members) (n : ℕ) → IsWithin limits default → optional (integer_of limits) default path key ms ≡ Ok n → IsWithin limits n
 optional_within limits default path key ms n w e = go (get_member key ms) e
   where
@@ -72,9 +74,11 @@ optional_within limits default path key ms n w e = go (get_member key ms) e
 
 -- ---- arrays
 
+-- arrays that are read alike are the same
 pub same_items : (a b : Items) → ◌≡◌ {A = Reading Items} (Ok a) (Ok b) → a ≡ b
 same_items a b e = cc
 
+-- an array has at most so many elements
 pub few_items : (most : ℕ) (path : List ℕ) (d : Data) (ds : Items) → elements_of most path d ≡ Ok ds → item_count ds ≤ most
 few_items most path (array es) ds e = go (nat_le (item_count es) most) refl e
   where
@@ -88,6 +92,7 @@ few_items most path (boolean b) ds e = absurd (cc)
 few_items most path (datetime x) ds e = absurd (cc)
 few_items most path (table ms) ds e = absurd (cc)
 
+-- the same of one that may be absent
 pub few_elements : (most : ℕ) (path key : List ℕ) (ms : Members) (vs : List Value) → optional (elements_of most) no_items path key ms ≡ Ok (items_view vs) → length vs ≤ most
 few_elements most path key ms vs e = subst (λ k. k ≤ most) (count_of_view vs) (go (get_member key ms) e)
   where
@@ -95,6 +100,7 @@ few_elements most path key ms vs e = subst (λ k. k ≤ most) (count_of_view vs)
     go None e = subst (λ y. item_count y ≤ most) (same_items no_items (items_view vs) e) (omega arith)
     go (Some d) e = few_items most (below path key) d (items_view vs) e
 
+-- and of what a function gives that reads it
 pub few_given : (most : ℕ) (path key : List ℕ) (ms : Members) (r : Result (Bor (List Value)) LoadError) → Gives (λ vs. items_view vs.now) r (optional (elements_of most) no_items path key ms)
     → IfOk r (λ vs. length vs.now ≤ most)
 few_given most path key ms (Ok vs) g = few_elements most path key ms vs.now g
@@ -104,9 +110,11 @@ some_of_items : (path : List ℕ) (vs : List Value) → 1 ≤ length vs → some
 some_of_items path [] l = absurd (omega (arith, l))
 some_of_items path (v ∷ vs) l = refl
 
+-- an array with elements is there
 pub some_is_there : (path : List ℕ) (vs : List Value) → ((length vs == 0) ≡ false) → some_of path (items_view vs) ≡ Ok (items_view vs)
 some_is_there path vs l = some_of_items path vs (grind (arith, nat_tests, l))
 
+-- one without is missing
 pub some_is_missing : (path : List ℕ) (vs : List Value) → ((length vs == 0) ≡ true) → some_of path (items_view vs) ≡ refusal path cause.Missing
 some_is_missing path [] l = refl
 some_is_missing path (v ∷ vs) l = absurd (grind (arith, nat_tests, l))
@@ -119,6 +127,7 @@ four_looks ps qs rs ss = rw (least_with-append None (ps ++ qs ++ rs) ss, least_w
 
 -- ---- names
 
+-- a name that is found stands among those before
 pub place_below : (i : ℕ) (names : List (List ℕ)) (name : List ℕ) (k : ℕ) → place_from i names name ≡ Some k → k < i + length names
 place_below i [] name k e = absurd (cc)
 place_below i (n ∷ names) name k e = go (bytes_eq n name) (λ f. place_below (i + 1) names name k f) e
@@ -129,6 +138,7 @@ place_below i (n ∷ names) name k e = go (bytes_eq n name) (λ f. place_below (
 
 -- ---- one more
 
+-- one task's times more
 pub timings_more : (xs : List Timing) (x : Timing) → ((t : ℕ) → t < length xs → IsTiming (timing_at xs t)) → IsTiming x → (t : ℕ) → t < length (xs ++ x ∷ []) → IsTiming (timing_at (xs ++ x ∷ []) t)
 timings_more xs x all new t l = go (cases_lt t (length xs))
   where
@@ -136,6 +146,7 @@ timings_more xs x all new t l = go (cases_lt t (length xs))
     go (inl within) = rw (get_or_append_left xs (x ∷ []) _ t within) (all t within)
     go (inr past) = let last : t ≡ length xs + 0 = omega (arith, past, l, length-append xs (x ∷ [])) in rw (last, get_or-append-add xs (x ∷ []) 0 _) new
 
+-- one change more
 pub changes_more : (groups : ℕ) (xs : List Change) (x : Change) → ((t : ℕ) → t < length xs → IsChange groups (change_at xs t)) → IsChange groups x → (t : ℕ) → t < length (xs ++ x ∷ []) → IsChange groups (change_at (xs ++ x ∷ []) t)
 changes_more groups xs x all new t l = go (cases_lt t (length xs))
   where

@@ -12,15 +12,19 @@ use Rattle.scx_world.specs.World.{WorldState, running, is_this, is_idle, this_if
 
 -- ---- one bit set or cleared
 
+-- a bit that is set
 pub set_here : (bits k : ℕ) → k < 64 → bit_at (bit_or bits (1 * 2 ^ k % 2 ^ 64)) k ≡ 1
 set_here bits k l = bit_at_set_same w64 bits k l
 
+-- and the others
 pub set_others : (bits k i : ℕ) → k < 64 → i ≢ k → bit_at (bit_or bits (1 * 2 ^ k % 2 ^ 64)) i ≡ bit_at bits i
 set_others bits k i l d = bit_at_set_other w64 bits k l i d
 
+-- a bit that is cleared
 pub cleared_here : (bits k : ℕ) → k < 64 → bit_at (bit_and bits (bit_not w64 (1 * 2 ^ k % 2 ^ 64))) k ≡ 0
 cleared_here bits k l = bit_at_clear_same w64 bits k l
 
+-- and the others
 pub cleared_others : (bits k i : ℕ) → k < 64 → i < 64 → i ≢ k → bit_at (bit_and bits (bit_not w64 (1 * 2 ^ k % 2 ^ 64))) i ≡ bit_at bits i
 cleared_others bits k i l m d = bit_at_clear_other w64 bits k l i m d
 
@@ -32,6 +36,7 @@ none_busy n c l =
     let here : get_or (replicate {A = Option ℕ} n None) c None ≡ None = get_or-replicate {A = Option ℕ} n c None None (subst (λ k. c < k) (length-replicate {A = Option ℕ} n None) l) in
     rw here (bit_at-zero c)
 
+-- a processor gets a task or loses it
 pub busy_set : (bits bits' k : ℕ) (o : Option ℕ) (cpus : List (Option ℕ)) → k < length cpus → length cpus ≤ 64 → bit_at bits' k ≡ one_if (is_some o) → ((i : ℕ) → i < 64 → i ≢ k → bit_at bits' i ≡ bit_at bits i) → AreBusy bits cpus → AreBusy bits' (set cpus k o)
 busy_set bits bits' k o cpus within few here others h c l = go (cases_eq c k)
   where
@@ -72,6 +77,7 @@ taken_here : (a b : Bool) → b ≡ true → 1 ≡ one_if (not (a && not b))
 taken_here true b e = rw e refl
 taken_here false b e = refl
 
+-- outside of a cycle
 pub taken_plain : (bits : ℕ) (w : WorldState) → AreBusy bits w.cpus → ((c : ℕ) → c < length w.cpus → is_this c w.cycling ≡ false) → AreTaken bits w
 taken_plain bits w h off c l = rw (known w c l) (h c l ∙ taken_if (get_or w.cpus c None) (is_this c w.cycling) (off c l))
 
@@ -83,6 +89,7 @@ taken_none bits w e h = taken_plain bits w h (λ c l. rw e refl)
 pub taken_past : (bits k : ℕ) (w : WorldState) → w.cycling ≡ Some k → length w.cpus ≤ k → AreBusy bits w.cpus → AreTaken bits w
 taken_past bits k w e past h = taken_plain bits w h (λ c l. rw e (ne_eqb c k (λ x. omega (arith, x, past, l))))
 
+-- within one its processor counts too
 pub taken_set : (bits bits' k : ℕ) (w : WorldState) → w.cycling ≡ Some k → length w.cpus ≤ 64 → bit_at bits' k ≡ 1 → ((i : ℕ) → i < 64 → i ≢ k → bit_at bits' i ≡ bit_at bits i) → AreBusy bits w.cpus → AreTaken bits' w
 taken_set bits bits' k w e few here others h c l = rw (known w c l) (go (cases_eq c k))
   where
@@ -100,10 +107,12 @@ is_taken : (b : Bool) → one_if (not b) ≡ 1 → b ≡ false
 is_taken true e = absurd (omega (arith, e))
 is_taken false e = refl
 
+-- none so far is idle
 pub none_below : (n : ℕ) (w : WorldState) → ((k : ℕ) → k < n → is_idle w k ≡ false) → idle_below n w ≡ None
 none_below zero w all = refl
 none_below (suc n) w all = rw (none_below n w (λ k l. all k (omega (arith, l))), all n (omega arith)) refl
 
+-- the first that is
 pub one_below : (n i : ℕ) (w : WorldState) → i < n → is_idle w i ≡ true → ((k : ℕ) → k < i → is_idle w k ≡ false) → idle_below n w ≡ Some i
 one_below zero i w l idle all = absurd (omega (arith, l))
 one_below (suc n) i w l idle all = go (cases_eq i n) (λ d. one_below n i w (omega (arith, l, d)) idle all)
@@ -112,12 +121,14 @@ one_below (suc n) i w l idle all = go (cases_eq i n) (λ d. one_below n i w (ome
     go (inl e) f = rw (← e, none_below i w all, idle) refl
     go (inr d) f = rw (f d) refl
 
+-- the lowest clear bit is the first idle processor
 pub lowest_idle : (bits : ℕ) (w : WorldState) → bits < 2 ^ 64 → length w.cpus ≤ 64 → AreTaken bits w → trailing_zeros w64 (bit_not w64 bits) < length w.cpus → first_idle w ≡ Some (trailing_zeros w64 (bit_not w64 bits))
 lowest_idle bits w fits few h l =
     let low = lowest_clear bits fits in
     one_below (length w.cpus) (trailing_ones w64 bits) w l (is_free _ (sym (h (trailing_ones w64 bits) l) ∙ low.clear (omega (arith, l, few))))
     (λ k m. is_taken _ (sym (h k (omega (arith, m, l))) ∙ low.below k m))
 
+-- where it is past the last, none is idle
 pub none_idle : (bits : ℕ) (w : WorldState) → bits < 2 ^ 64 → length w.cpus ≤ 64 → AreTaken bits w → length w.cpus ≤ trailing_zeros w64 (bit_not w64 bits) → first_idle w ≡ None
 none_idle bits w fits few h past =
     let low = lowest_clear bits fits in
