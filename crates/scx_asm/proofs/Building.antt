@@ -21,6 +21,7 @@ regroup : (front : List Insn) (i : Insn) (r : Result (List Insn) (AsmFault × �
 regroup front i (Ok is) = ap (λ (x : List Insn). Ok x) (simp append_assoc)
 regroup front i (Err e) = refl
 
+-- one entry more stands for an instruction
 pub goes_on : (labels : Labels) (entries : List Entry) (k : ℕ) (d : Entry) (front : List Insn) (i : Insn) (total : Result (List Insn) (AsmFault × ℕ)) → k < length entries
     → resolved labels (get_or entries k d).slot (line_of (get_or entries k d).item) ≡ Ok i
     → left labels entries k front ≡ total → left labels entries (k + 1) (front ++ i ∷ []) ≡ total
@@ -29,6 +30,7 @@ goes_on labels entries k d front i total lt e so_far =
     let one : left labels entries k front ≡ left labels entries (k + 1) (front ++ i ∷ []) = rw (drop_more entries k d lt, e) (regroup front i (built labels (map draft_of (drop (k + 1) entries)))) in
     sym one ∙ so_far
 
+-- an entry that stands for none ends the pass
 pub ends : (labels : Labels) (entries : List Entry) (k : ℕ) (d : Entry) (front : List Insn) (fault : AsmFault) (total : Result (List Insn) (AsmFault × ℕ)) → k < length entries
     → resolved labels (get_or entries k d).slot (line_of (get_or entries k d).item) ≡ Err fault
     → left labels entries k front ≡ total → total ≡ Err (fault, (get_or entries k d).line)
@@ -37,6 +39,7 @@ ends labels entries k d front fault total lt e so_far =
     let one : left labels entries k front ≡ Err (fault, (get_or entries k d).line) = rw (drop_more entries k d lt, e) refl in
     sym so_far ∙ one
 
+-- past the last entry the pass is done
 pub is_done : (labels : Labels) (entries : List Entry) (k : ℕ) (front : List Insn) (total : Result (List Insn) (AsmFault × ℕ)) → length entries ≤ k → left labels entries k front ≡ total → total ≡ Ok front
 unfolding built
 is_done labels entries k front total le so_far =

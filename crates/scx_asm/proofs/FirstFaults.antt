@@ -369,6 +369,7 @@ insns_fault text f m e = go (planned 1 nothing (lines text)) refl
         let fine = planned_fine text q laid.says laid.read h laid.is laid.once in
         finish_fails text laid.says f m laid.read fine (subst (λ (p : Plan). finished p ≡ fails (List Insn) f m) (sym laid.is) rest)
 
+-- the fault that reading gives
 pub first_fault : (text : List ℕ) (f : AsmFault) (m : ℕ) → read_text text ≡ Err (f, m) → IsFirstFault text f m
 first_fault text f m e = go (read_insns text) refl
   where
@@ -395,5 +396,6 @@ answers text (Err OutOfMemory) e = tt
 pub answers_of : (text : List ℕ) (is : List Insn) (answer : Result Code AsmError) → read_insns text ≡ Ok is → Gives (λ program. program) answer (Ok (code_of is)) → Answers text answer
 answers_of text is answer e gives = answers text answer (rw e gives)
 
+-- the same of an error
 pub refusal_of : (text : List ℕ) (error : AsmError) → Fails error (read_insns text) → Answers text (Err error)
 refusal_of text error fails = answers text (Err error) (fails_on error (read_insns text) fails)

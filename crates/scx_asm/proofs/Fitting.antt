@@ -32,18 +32,22 @@ use Rattle.scx_asm.specs.Reading.{built, finished, read_insns, code_of}
 
 -- ---- what follows a value
 
+-- an option behind another had the other
 pub bind_some : {A B : Type 0} (m : Option A) (f : A → Option B) (y : B) → (m >>- f) ≡ Some y → (x : A) × (m ≡ Some x) × (f x ≡ Some y)
 bind_some (Some x) f y e = (x, refl, e)
 bind_some None f y e = absurd (cc)
 
+-- a result behind another had the other
 pub bind_ok : {A B E : Type 0} (m : Result A E) (f : A → Result B E) (y : B) → (m >>= f) ≡ Ok y → (x : A) × (m ≡ Ok x) × (f x ≡ Ok y)
 bind_ok (Ok x) f y e = (x, refl, e)
 bind_ok (Err d) f y e = absurd (cc)
 
+-- a result at a line was one
 pub located_ok : {A : Type 0} (n : ℕ) (r : Result A AsmFault) (x : A) → located n r ≡ Ok x → r ≡ Ok x
 located_ok n (Ok y) x e = let same : y ≡ x = cc in ap (λ z. Ok z) same
 located_ok n (Err d) x e = absurd (cc)
 
+-- what is in range was there
 pub ranged_ok : (m : Option Insn) (i : Insn) → ranged m ≡ Ok i → m ≡ Some i
 ranged_ok (Some j) i e = let same : j ≡ i = cc in ap (λ z. Some z) same
 ranged_ok None i e = absurd (cc)
@@ -184,6 +188,7 @@ label_fits : (r : Option ℕ) (slot : ℕ) (j : Jump) (i : Insn) → either r (�
 label_fits None slot j i e = absurd (cc)
 label_fits (Some target) slot j i e = jump_fits j (distance slot target) i (ranged_ok _ i e)
 
+-- the instruction of a line fits its fields, and takes its slots
 pub line_fits : (labels : Labels) (slot : ℕ) (l : Line) (i : Insn) → resolved labels slot l ≡ Ok i → IsInsn i × (size i ≡ slots l)
 line_fits labels slot (Says s) i e = insn_fits s i (ranged_ok _ i e)
 line_fits labels slot (Jumps j (Distance n)) i e =
@@ -303,6 +308,7 @@ finished_fits p is e h = go (nat_eq p.slots 0) refl
           program = record { insns = f.code; some = omega (arith, f.length, h.counted); fits = omega (arith, f.length, h.counted, h.within) };
         }
 
+-- what is read is the code of a program
 pub assembled : (text : List ℕ) (is : List Insn) → read_insns text ≡ Ok is → Assembled is
 assembled text is e =
     let p = bind_ok (planned 1 nothing (lines text)) _ is e in

@@ -58,10 +58,12 @@ abbrev pub Small : ℤ → Type 0
 Small (pos n) = n < 2 ^ 64
 Small (negsuc n) = suc n < 2 ^ 64
 
+-- a number of 32 bits is small
 pub small32 : (z : ℤ) → FitsSigned w32 z → Small z
 small32 (pos n) f = omega (arith, ints)
 small32 (negsuc n) f = omega (arith, ints)
 
+-- and so is one of 16
 pub small16 : (z : ℤ) → FitsSigned w16 z → Small z
 small16 (pos n) f = omega (arith, ints)
 small16 (negsuc n) f = omega (arith, ints)
@@ -190,9 +192,11 @@ assigned w d text ts h = name false (register_text w d) _ _ (name_register w d) 
 half_small : (z : ℤ) → FitsSigned w32 z → cast_unsigned w32 z < 2 ^ 32
 half_small z f = (Fits-of_z {w = w32} {z = z} f).fits
 
+-- a constant has 64 bits
 pub constant_small : (low high : ℤ) → FitsSigned w32 low → FitsSigned w32 high → constant low high < 2 ^ 64
 constant_small low high f g = omega (arith, half_small low f, half_small high g)
 
+-- from left to right
 pub insn_gives : (i : Insn) → IsInsn i → Gives false (insn_text i) (insn_tokens i)
 insn_gives (insn.Binary w o d x) h = same_text false _ _ _ (by_operator (register_text w d) (spelled (Assign o)) (operand_text w x))
     (name false (register_text w d) _ _ (name_register w d) refl (gap true _ _ (mark false (Assign o) (32 ∷ (operand_text w x ++ [])) _ refl (gap true _ _ (given false w x [] [] h refl (nothing true))))))
@@ -222,5 +226,6 @@ insn_gives (insn.GotoLong o) h = same_text false _ (codes "gotol" ++ (32 ∷ (di
 insn_gives (insn.Call k) h = same_text false _ (codes "call" ++ (32 ∷ (signed_decimal k ++ []))) _ (sym (append-nil (codes "call " ++ signed_decimal k))) (name false (codes "call") (32 ∷ (signed_decimal k ++ [])) _ name_call refl (gap true _ _ (signed false k [] [] (small32 k h) refl (nothing true))))
 insn_gives insn.Exit h = same_text false _ (codes "exit" ++ []) _ refl (name false (codes "exit") [] [] name_exit refl (nothing true))
 
+-- as a whole line
 pub insn_read : (i : Insn) → IsInsn i → tokens (insn_text i) ≡ Some (insn_tokens i)
 insn_read i h = (insn_gives i h).read

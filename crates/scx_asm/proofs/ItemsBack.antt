@@ -155,6 +155,7 @@ mapped_read : (d : Register) (k : ℤ) → assigned Bits64 d (Mark (Assign Move)
 mapped_read d (pos n) = refl
 mapped_read d (negsuc n) = refl
 
+-- whatever the instruction
 pub insn_said : (i : Insn) → item_of (insn_tokens i) ≡ Some (line_as i)
 insn_said (insn.Binary w o d x) = begun w d o (operand_tokens false w x []) ∙ operated_read w o d x
 insn_said (insn.Negate w d) = begun w d Move (Mark Minus ∷ Word (register_text w d) ∷ []) ∙ rw (in_width w d, same_is d) refl

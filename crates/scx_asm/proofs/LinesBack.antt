@@ -160,6 +160,7 @@ plain_place a r o x h =
     both3 (codes "*(" ++ a ++ codes " *)(" ++ register_text Bits64 r ++ codes " ") (offset_text o) (codes ")")
     (both5 (codes "*(") a (codes " *)(") (register_text Bits64 r) (codes " ") refl x refl (plain_register Bits64 r) refl) (plain_offset o h) refl
 
+-- no byte of its text ends a line
 pub plain_insn : (i : Insn) → IsInsn i → plain (insn_text i) ≡ true
 plain_insn (insn.Binary w o d x) h = both5 (register_text w d) (codes " ") (spelled (Assign o)) (codes " ") (operand_text w x) (plain_register w d) refl (plain_spelled (Assign o)) refl (plain_operand w x h)
 plain_insn (insn.Negate w d) h = both3 (register_text w d) (codes " = -") (register_text w d) (plain_register w d) refl (plain_register w d)
@@ -215,5 +216,6 @@ parts_again [] h = refl
 parts_again (i ∷ []) h = rw (stripped (insn_text i) (plain_insn i h.0)) refl
 parts_again (i ∷ j ∷ is) h = rw (stripped (insn_text i) (plain_insn i h.0), parts_again (j ∷ is) h.1) refl
 
+-- so the lines are the texts of the instructions
 pub lines_again : (is : List Insn) → AllByRecursion IsInsn is → lines (lines_text is) ≡ map insn_text is
 lines_again is h = ap (λ (x : List (List ℕ)). lines_of_parts x) (split_again is h) ∙ parts_again is h

@@ -62,6 +62,7 @@ says s i e = record { more = λ labels s ls is h. (e, h); nameless = λ s. refl 
 jumps : (j : Jump) (n : Literal) (i : Insn) → distant j n ≡ Some i → Means (Jumps j (Distance n)) i
 jumps j n i e = record { more = λ labels s ls is h. (e, h); nameless = λ s. refl }
 
+-- one instruction
 pub means : (i : Insn) → IsInsn i → Means (line_as i) i
 means (insn.Binary w o d x) h = says _ _ (rw (operand_as x h) refl)
 means (insn.Negate w d) h = says _ _ refl
@@ -85,14 +86,17 @@ means insn.Exit h = says _ _ refl
 
 -- ---- lines in order
 
+-- its line defines no label
 pub defines_none : (s : ℕ) (is : List Insn) → AllByRecursion IsInsn is → definitions s (map line_as is) ≡ []
 defines_none s [] h = refl
 defines_none s (i ∷ is) h = rw ((means i h.0).nameless s) (defines_none (s + slots (line_as i)) is h.1)
 
+-- all of them
 pub all_said : (labels : Labels) (s : ℕ) (is : List Insn) → AllByRecursion IsInsn is → AreSaid labels s (map line_as is) is
 all_said labels s [] h = tt
 all_said labels s (i ∷ is) h = (means i h.0).more labels s (map line_as is) is (all_said labels (s + slots (line_as i)) is h.1)
 
+-- and their texts are read so
 pub all_read : (is : List Insn) → AllByRecursion IsInsn is → map read_line (map insn_text is) ≡ map Some (map line_as is)
 all_read [] h = refl
 all_read (i ∷ is) h = rw (insn_line i h.0, all_read is h.1) refl

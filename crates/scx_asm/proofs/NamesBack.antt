@@ -18,30 +18,37 @@ use Rattle.scx_text.specs.Tokens.{run}
 use Rattle.scx_text.specs.Names.{named, width_text, register_text, register_named, access_text, access_named, order_text, order_named}
 use Rattle.scx_asm.proofs.TokensBack.{IsName}
 
+-- the word if
 pub name_if : IsName (codes "if")
 unfolding first_of run
 name_if = record { some = lit< tt; token = λ near rest e. rw e refl; front = λ rest. refl }
 
+-- the word goto
 pub name_goto : IsName (codes "goto")
 unfolding first_of run
 name_goto = record { some = lit< tt; token = λ near rest e. rw e refl; front = λ rest. refl }
 
+-- the word gotol
 pub name_gotol : IsName (codes "gotol")
 unfolding first_of run
 name_gotol = record { some = lit< tt; token = λ near rest e. rw e refl; front = λ rest. refl }
 
+-- the word call
 pub name_call : IsName (codes "call")
 unfolding first_of run
 name_call = record { some = lit< tt; token = λ near rest e. rw e refl; front = λ rest. refl }
 
+-- the word exit
 pub name_exit : IsName (codes "exit")
 unfolding first_of run
 name_exit = record { some = lit< tt; token = λ near rest e. rw e refl; front = λ rest. refl }
 
+-- the word map
 pub name_map : IsName (codes "map")
 unfolding first_of run
 name_map = record { some = lit< tt; token = λ near rest e. rw e refl; front = λ rest. refl }
 
+-- the word ll
 pub name_ll : IsName (codes "ll")
 unfolding first_of run
 name_ll = record { some = lit< tt; token = λ near rest e. rw e refl; front = λ rest. refl }
@@ -105,6 +112,7 @@ is_register Bits64 R8 = record { some = lit< tt; token = λ near rest e. rw e re
 is_register Bits64 R9 = record { some = lit< tt; token = λ near rest e. rw e refl; front = λ rest. refl }
 is_register Bits64 R10 = record { some = lit< tt; token = λ near rest e. rw e refl; front = λ rest. refl }
 
+-- the names of registers
 pub name_register : (w : Width) (r : Register) → IsName (register_text w r)
 name_register w r = subst (λ (ds : List ℕ). IsName (width_text w ++ ds)) (sym (digits_are r)) (is_register w r)
 
@@ -132,11 +140,13 @@ named_again Bits64 R8 = refl
 named_again Bits64 R9 = refl
 named_again Bits64 R10 = refl
 
+-- name them
 pub register_again : (w : Width) (r : Register) → register_named (register_text w r) ≡ Some (w, r)
 register_again w r = ap (λ (ds : List ℕ). register_named (width_text w ++ ds)) (digits_are r) ∙ named_again w r
 
 -- ---- memory and byte orders
 
+-- the names of what memory is read as
 pub name_access : (a : Access) → IsName (access_text a)
 unfolding first_of run
 name_access access.Byte = record { some = lit< tt; token = λ near rest e. rw e refl; front = λ rest. refl }
@@ -147,6 +157,7 @@ name_access access.SignedByte = record { some = lit< tt; token = λ near rest e.
 name_access access.SignedHalfWord = record { some = lit< tt; token = λ near rest e. rw e refl; front = λ rest. refl }
 name_access access.SignedWord = record { some = lit< tt; token = λ near rest e. rw e refl; front = λ rest. refl }
 
+-- name that
 pub access_again : (a : Access) → access_named (access_text a) ≡ Some a
 unfolding named
 access_again access.Byte = refl
@@ -157,6 +168,7 @@ access_again access.SignedByte = refl
 access_again access.SignedHalfWord = refl
 access_again access.SignedWord = refl
 
+-- the names of byte orders
 pub name_order : (o : Order) (w : OrderWidth) → IsName (order_text (o, w))
 unfolding first_of run
 name_order Little order.Bits16 = record { some = lit< tt; token = λ near rest e. rw e refl; front = λ rest. refl }
@@ -169,6 +181,7 @@ name_order Swapped order.Bits16 = record { some = lit< tt; token = λ near rest 
 name_order Swapped order.Bits32 = record { some = lit< tt; token = λ near rest e. rw e refl; front = λ rest. refl }
 name_order Swapped order.Bits64 = record { some = lit< tt; token = λ near rest e. rw e refl; front = λ rest. refl }
 
+-- name them
 pub order_again : (o : Order) (w : OrderWidth) → order_named (order_text (o, w)) ≡ Some (o, w)
 unfolding named
 order_again Little order.Bits16 = refl

@@ -16,10 +16,12 @@ step lines i d p q lt e =
     let number : suc (i + 1) ≡ i + 1 + 1 = omega arith in
     rw (drop_more lines i d lt, e) (ap (λ n. planned n q (map (λ (l : Bor (List ℕ)). l.now) (drop (i + 1) lines))) number)
 
+-- one line more is planned
 pub goes_on : (lines : List (Bor (List ℕ))) (i : ℕ) (d : Bor (List ℕ)) (p q : Plan) (total : Result Plan (AsmFault × ℕ)) → i < length lines → located (i + 1) (with_text (i + 1) p (get_or lines i d).now) ≡ Ok q
     → left lines i p ≡ total → left lines (i + 1) q ≡ total
 goes_on lines i d p q total lt e so_far = sym (step lines i d p q lt e) ∙ so_far
 
+-- a line that is refused ends the pass
 pub ends : (error : AsmError) (lines : List (Bor (List ℕ))) (i : ℕ) (d : Bor (List ℕ)) (p : Plan) (total : Result Plan (AsmFault × ℕ)) → i < length lines → Fails error (located (i + 1) (with_text (i + 1) p (get_or lines i d).now))
     → left lines i p ≡ total → Fails error total
 unfolding planned
@@ -28,6 +30,7 @@ ends (errors.Refused fault line) lines i d p total lt e so_far =
     sym so_far ∙ one
 ends errors.OutOfMemory lines i d p total lt e so_far = tt
 
+-- past the last line the pass is done
 pub is_done : (lines : List (Bor (List ℕ))) (i : ℕ) (p : Plan) (total : Result Plan (AsmFault × ℕ)) → length lines ≤ i → left lines i p ≡ total → total ≡ Ok p
 unfolding planned
 is_done lines i p total le so_far =

@@ -75,6 +75,7 @@ stands code h =
       fits = h.fits;
     }
 
+-- by the definitions
 pub reads_back : (code : Code) → IsProgram code → read_text (program_text code) ≡ Ok code
 reads_back code h = rw (text_again code) (read_as (lines_text (insns_of code)) code (stands code h))
 
@@ -84,5 +85,6 @@ given code (Ok program) read e h = let same : program ≡ code = cc in inl (ap (
 given code (Err (Refused fault line)) read e h = absurd (cc)
 given code (Err OutOfMemory) read e h = inr refl
 
+-- by a function that reads, unless memory runs out
 pub assembles_back : (code : Code) (answer : Result Code AsmError) → IsProgram code → Gives (λ program. program) answer (read_text (program_text code)) → (answer ≡ Ok code) ⊎ (answer ≡ Err OutOfMemory)
 assembles_back code answer h gives = given code answer (read_text (program_text code)) (reads_back code h) gives

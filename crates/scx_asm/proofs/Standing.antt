@@ -138,6 +138,7 @@ plan s a d = record { slots = s; labels = a; drafts = d }
 same_plan : (s t : ℕ) (a b : Labels) (c d : List Draft) → s ≡ t → a ≡ b → c ≡ d → plan s a c ≡ plan t b d
 same_plan s t a b c d x y z = ap (λ (s : ℕ). plan s a c) x ∙ (ap (λ (a : Labels). plan t a c) y ∙ ap (λ (c : List Draft). plan t b c) z)
 
+-- no slots more are none
 pub plus_none : (s : ℕ) → s + 0 ≡ s
 plus_none s = omega arith
 
@@ -196,6 +197,7 @@ drafted_was n p q l k ds e a d = record {
   once = subst (λ (q : Plan). IsDistinct bytes_eq (names q.labels)) e d;
 }
 
+-- what a line adds to a plan
 pub line_was : (n : ℕ) (p q : Plan) (l : Line) → with_line n p l ≡ Ok q → IsDistinct bytes_eq (names p.labels) → Added n p q l
 line_was n p q Blank e d =
     let same : p ≡ q = cc in
@@ -204,6 +206,7 @@ line_was n p q (Place_of l) e d = label_was n p q l e d
 line_was n p q (Says s) e d = drafted_was n p q (Says s) _ _ (draft_was n p q (Says s) e) refl d
 line_was n p q (Jumps j t) e d = drafted_was n p q (Jumps j t) _ _ (draft_was n p q (Jumps j t) e) refl d
 
+-- a line that is planned was read
 pub text_was : (n : ℕ) (p q : Plan) (r : Option Line) → either r (with_line n p) (Err Syntax) ≡ Ok q → (l : Line) × (r ≡ Some l) × (with_line n p l ≡ Ok q)
 text_was n p q None e = absurd (cc)
 text_was n p q (Some l) e = (l, refl, e)
@@ -219,6 +222,7 @@ pub record Planned (n : ℕ) (p q : Plan) (texts : List (List ℕ)) : Type 0 whe
   pub is : after n p says ≡ q
   pub once : IsDistinct bytes_eq (names q.labels)
 
+-- what all lines add
 pub planned_was : (n : ℕ) (p q : Plan) (texts : List (List ℕ)) → planned n p texts ≡ Ok q → IsDistinct bytes_eq (names p.labels) → Planned n p q texts
 unfolding planned
 planned_was n p q [] e d =
@@ -339,6 +343,7 @@ resolved_as labels s (Jumps j (Label l)) i d h = rw (found l h.0 labels d h.1) (
 resolved_as labels s Blank i d h = absurd h
 resolved_as labels s (Place_of l) i d h = absurd h
 
+-- an instruction that is resolved is what its line says
 pub resolved_was : (labels : Labels) (s : ℕ) (l : Line) (i : Insn) → resolved labels s l ≡ Ok i → IsSaid labels s l i
 resolved_was labels s (Says x) i e = ranged_ok _ i e
 resolved_was labels s (Jumps j (Distance n)) i e = ranged_ok (distant j n) i e
@@ -418,6 +423,7 @@ build_was labels d ds is e =
     let same : i.0 ∷ rest.0 ≡ is = cc in
     record { first = i.0; others = rest.0; one = located_ok d.line _ i.0 i.1; rest = rest.1; both = same }
 
+-- from no slots more on is from there on
 pub nothing_less : (labels : Labels) (s : ℕ) (ls : List Line) (is : List Insn) → AreSaid labels (s + 0) ls is → AreSaid labels s ls is
 nothing_less labels s ls is h = subst (λ (k : ℕ). AreSaid labels k ls is) (plus_none s) h
 
@@ -479,6 +485,7 @@ finish_was p is e = go (nat_eq p.slots 0) refl
     go true t = let bad : Err (Syntax, 1) ≡ insns_are is = rw t at e in absurd (cc)
     go false t = rw t at e
 
+-- a text is read as the program that it stands for
 pub read_as : (text : List ℕ) (code : Code) → StandsFor text code → read_text text ≡ Ok code
 read_as text code h =
     let labels = definitions 0 h.says in
@@ -487,6 +494,7 @@ read_as text code h =
     let insns = finish (after 1 nothing h.says) h.insns (omega (arith, total, h.some)) (built_as labels 1 0 h.says h.insns h.once h.said) in
     rw (laid, insns) (ap code_is (sym h.program))
 
+-- and stands for the one that it is read as
 pub read_was : (text : List ℕ) (code : Code) → read_text text ≡ Ok code → StandsFor text code
 unfolding IsDistinct
 read_was text code e =

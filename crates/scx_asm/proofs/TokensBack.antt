@@ -35,10 +35,12 @@ not_true : (b : Bool) → not b ≡ true → b ≡ false
 not_true true e = absurd (cc)
 not_true false e = refl
 
+-- both are true where both together are
 pub and_true : (a b : Bool) → (a && b) ≡ true → (a ≡ true) × (b ≡ true)
 and_true true b e = (refl, e)
 and_true false b e = absurd (cc)
 
+-- no word goes on past its end
 pub run_none : (rest : List ℕ) → ends_word rest ≡ true → run class.Word rest ≡ 0
 unfolding run
 run_none [] e = refl
@@ -152,6 +154,7 @@ symbol_here Opening b bs x y z = refl
 symbol_here Closing b bs x y z = refl
 symbol_here Colon b bs x y z = refl
 
+-- a symbol
 pub symbol_read : (near : Bool) (s : Symbol) (rest : List ℕ) → ends_symbol rest ≡ true → tokens_from near 0 (spelled s ++ rest) ≡ followed_by (Mark s) (tokens_from true 0 rest)
 symbol_read near s [] e = token_read near (spelled s) [] (Mark s) (spelled_positive s) (rw (symbol_last s) refl)
 symbol_read near s (b ∷ bs) e =
@@ -258,6 +261,7 @@ number_token near n (d ∷ ds) rest some h v fits e =
     decimal_here ∙ (counted ∙ (ap (λ (x : Option ℕ). numbered near x (0 + length (d ∷ ds))) number ∙ ap (λ (k : ℕ). numbered near (Some n) k) plus)) in
     rw (digit_no_symbol d (ds ++ rest) parts.0, no_letter d parts.0, is_digit d parts.0) (ap (λ (x : Lexeme × ℕ). Some x) read)
 
+-- a number
 pub number_read : (near : Bool) (n : ℕ) (rest : List ℕ) → n < 2 ^ 64 → ends_word rest ≡ true → tokens_from near 0 (decimal n ++ rest) ≡ followed_by (Number near (Some n)) (tokens_from true 0 rest)
 number_read near n rest fits e =
     let digits = decimal_is_IsNumeral n fits in
@@ -285,5 +289,6 @@ pub record IsName (w : List ℕ) : Type 0 where
   pub token : (near : Bool) (rest : List ℕ) → run class.Word rest ≡ 0 → token_at near (w ++ rest) ≡ Some (Word w, length w)
   pub front : (rest : List ℕ) → ends_symbol (w ++ rest) ≡ true
 
+-- a word
 pub name_read : (near : Bool) (w rest : List ℕ) → IsName w → ends_word rest ≡ true → tokens_from near 0 (w ++ rest) ≡ followed_by (Word w) (tokens_from true 0 rest)
 name_read near w rest h e = token_read near w rest (Word w) h.some (h.token near rest (run_none rest e))

@@ -33,17 +33,20 @@ slots_of_places i = go (is_wide i) refl
 one_spelled : (i : Insn) → spelling (insn_places i) ≡ flat_map slot_bytes (insn_slots i)
 one_spelled i = ap (λ (slots : List Slot). flat_map slot_bytes slots) (slots_of_places i)
 
+-- one instruction more
 pub more_spelled : (is : List Insn) (k : ℕ) (d : Insn) → k < length is
     → spelling (code_of (take (k + 1) is)) ≡ spelling (code_of (take k is)) ++ flat_map slot_bytes (insn_slots (get_or is k d))
 more_spelled is k d lt =
     let i = get_or is k d in
     rw (take_more is k d lt, flat_map-append insn_places (take k is) (i ∷ []), append-nil (insn_places i), flat_map-append place_slots (code_of (take k is)) (insn_places i), flat_map-append slot_bytes (code_slots (code_of (take k is))) (code_slots (insn_places i)), one_spelled i) refl
 
+-- each of them fits its fields
 pub fits_at : (is : List Insn) (k : ℕ) (d : Insn) → AllByRecursion IsInsn is → k < length is → IsInsn (get_or is k d)
 fits_at [] k d h lt = absurd (omega arith)
 fits_at (i ∷ is) zero d h lt = h.0
 fits_at (i ∷ is) (suc k) d h lt = fits_at is k d h.1 (omega arith)
 
+-- the bytes spell the program
 pub spelled : (bytes : List ℕ) (code : Code) → bytes ≡ spelling code → IsProgram code → Spells bytes code
 spelled bytes code e h = record { program = h; spelled = e }
 
@@ -55,6 +58,7 @@ same_program (Ok q) code p h e =
     ap (λ (x : Code). Ok x) (one ∙ two)
 same_program (Err d) code p h e = absurd (cc)
 
+-- so decoding doesn't refuse them
 pub not_refused : (r : Result Code DecodeError) (code : Code) (fault : DecodeFault) (slot : ℕ) → isa.Gives (λ (p : Code). p) r (Ok code) → r ≡ Err (decode.Refused fault slot) → ⊥
 not_refused (Ok q) code fault slot h e = cc
 not_refused (Err (decode.Refused f s)) code fault slot h e = cc
@@ -65,6 +69,7 @@ pub fails_on : (error : AsmError) (r : Result (List Insn) (AsmFault × ℕ)) →
 fails_on (errors.Refused fault line) r h = rw h refl
 fails_on errors.OutOfMemory r h = tt
 
+-- a first pass that fails is the answer
 pub fails_first : (error : AsmError) (r : Result Plan (AsmFault × ℕ)) → Fails error r → Fails error (r >>= finished)
 fails_first (errors.Refused fault line) r h = rw h refl
 fails_first errors.OutOfMemory r h = tt

@@ -20,12 +20,14 @@ use Rattle.scx_world.specs.World.{WorldState, is_runnable}
 use Rattle.scx_world.specs.Tasks.{resolved}
 use Rattle.scx_sched.specs.Once.{IsOnce, HasQueues, sort_of, fits_queue, fits_sort, IsSorted, IsAlike, IsOpen, GoesSomewhere}
 
+-- what both keep, a choice of them keeps
 pub keeps_if : {A : Type 0} (P : A → Type 0) (b : Bool) (x y : A) → P x → P y → P (cond b x y)
 keeps_if P true x y p q = p
 keeps_if P false x y p q = q
 
 -- ---- where a task may enter
 
+-- a truth value counts once at most
 pub one_le : (b : Bool) → one_if b ≤ 1
 one_le true = omega arith
 one_le false = omega arith
@@ -50,6 +52,7 @@ each_set f b places t o new old u = go (cases_eq u t) (cases_lt t (length places
     go (inl e) (inr past) = rw (set_past places t o past) (old u)
     go (inr n) l = rw (get_or-set_other places t u o None n) (old u)
 
+-- a push that fits leaves each queue of its sort
 pub sorted_pushed : (s : QueueState) (q t : ℕ) (r : Rank) → fits_queue q r ≡ true → IsSorted s → IsSorted (pushed s q t r)
 sorted_pushed s q t r fits sorted = go (is_none (push_refusal s q t r))
   where
@@ -57,13 +60,16 @@ sorted_pushed s q t r fits sorted = go (is_none (push_refusal s q t r))
     go true = each_set fits_sort true s.places t (Some (next_place s q r)) fits sorted
     go false = sorted
 
+-- and so does a task that leaves
 pub sorted_without : (s : QueueState) (o : Option ℕ) → IsSorted s → IsSorted (without s o)
 sorted_without s None sorted = sorted
 sorted_without s (Some t) sorted = each_set fits_sort true s.places t None refl sorted
 
+-- a pop
 pub sorted_popped : (s : QueueState) (q : ℕ) → IsSorted s → IsSorted (popped s q)
 sorted_popped s q sorted = sorted_without s (front_of s q) sorted
 
+-- and a removal
 pub sorted_removed : (s : QueueState) (t : ℕ) → IsSorted s → IsSorted (removed s t)
 sorted_removed s t sorted = keeps_if IsSorted (is_some (place_of s t)) (without_task s t) s (each_set fits_sort true s.places t None refl sorted) sorted
 
@@ -83,6 +89,7 @@ alike_removed s t q r old = keeps_if (λ (x : QueueState). IsAlike x q r) (is_so
 alike_created : (s : QueueState) (q' q : ℕ) (r : Rank) → IsAlike s q r → IsAlike (created s q') q r
 alike_created s q' q r old = keeps_if (λ (x : QueueState). IsAlike x q r) (is_none (create_refusal s q')) (with_queue s q') s old old
 
+-- two of the sort of a third are of one sort
 pub one_sort : (a b c : Rank) → same_sort a b ≡ true → same_sort c b ≡ true → same_sort a c ≡ true
 one_sort Fifo Fifo Fifo e f = refl
 one_sort Fifo Fifo (Vtime l) e f = f
@@ -115,6 +122,7 @@ fits_own q r e = go (nat_lt q policy_end)
     go true = refl
     go false = e
 
+-- a queue of the machine's own is open for its sort
 pub own_open : (s : QueueState) (q : ℕ) (r : Rank) → exists s q ≡ true → policy_end ≤ q → same_sort r (sort_of q) ≡ true → IsSorted s → IsOpen s q r
 own_open s q r there past fits sorted = record { there = there; fits = fits_own q r fits; alike = own_alike s q r past fits sorted }
 
@@ -134,6 +142,7 @@ alike_from s q r none t = go (cases_lt t (length s.places)) (clashes q r (place_
     go (inl l) false e = e
     go (inr past) b e = ap (λ o. clashes q r o) (get_or_past {X = Option Place} s.places t None past)
 
+-- a push into an open queue is accepted, of a task that waits nowhere
 pub is_accepted : (s : QueueState) (t q : ℕ) (r : Rank) → place_of s t ≡ None → IsOpen s q r → push_refusal s q t r ≡ None
 is_accepted s t q r free ready = rw (ready.there, free, no_clash s q r ready.alike) refl
 
@@ -142,29 +151,37 @@ is_accepted s t q r free ready = rw (ready.there, free, no_clash s q r ready.ali
 abbrev pub Stay : QueueState → QueueState → Type 0
 Stay s s' = (r : ℕ) → exists s r ≡ true → exists s' r ≡ true
 
+-- a push leaves the queues that there are
 pub stay_pushed : (s : QueueState) (q t : ℕ) (k : Rank) → Stay s (pushed s q t k)
 stay_pushed s q t k r h = rw (ids_pushed s q t k) h
 
+-- a task that leaves does
 pub stay_without : (s : QueueState) (o : Option ℕ) → Stay s (without s o)
 stay_without s o r h = rw (ids_without s o) h
 
+-- a removal does
 pub stay_removed : (s : QueueState) (t : ℕ) → Stay s (removed s t)
 stay_removed s t r h = rw (ids_removed s t) h
 
+-- a queue that is created leaves the others
 pub stay_created : (s : QueueState) (q : ℕ) → Stay s (created s q)
 stay_created s q r h = keeps_if (λ x. exists x r ≡ true) (is_none (create_refusal s q)) (with_queue s q) s (rw (list_any-append (λ other. other == r) s.ids (q ∷ []), h) refl) h
 
+-- so the machine's own stay
 pub queues_stay : (s s' : QueueState) (n : ℕ) → Stay s s' → HasQueues s n → HasQueues s' n
 queues_stay s s' n stay h = record { global = stay global h.global; held = stay held h.held; builtin = stay builtin h.builtin; locals = λ c l. stay (local_on c) (h.locals c l) }
 
 -- ---- what takes a task takes it still
 
+-- an open queue stays open where a task leaves
 pub open_without : (s : QueueState) (o : Option ℕ) (q : ℕ) (r : Rank) → IsOpen s q r → IsOpen (without s o) q r
 open_without s o q r h = record { there = stay_without s o q h.there; fits = h.fits; alike = alike_without s o q r h.alike }
 
+-- and where one is removed
 pub open_removed : (s : QueueState) (t q : ℕ) (r : Rank) → IsOpen s q r → IsOpen (removed s t) q r
 open_removed s t q r h = record { there = stay_removed s t q h.there; fits = h.fits; alike = alike_removed s t q r h.alike }
 
+-- and where a queue is created
 pub open_created : (s : QueueState) (q' q : ℕ) (r : Rank) → IsOpen s q r → IsOpen (created s q') q r
 open_created s q' q r h = record { there = stay_created s q' q h.there; fits = h.fits; alike = alike_created s q' q r h.alike }
 
@@ -193,12 +210,15 @@ open_same s q' t q r h = open_pushed s q' t r q r (go (cases_eq q' q)) h
     go (inl e) = rw (eq-eqb q' q e, same_itself r) refl
     go (inr n) = rw (ne_eqb q' q n) refl
 
+-- so an insert still goes somewhere
 pub goes_on : (s s' : QueueState) (n : ℕ) (o : Option Insert) → ((q : ℕ) (r : Rank) → IsOpen s q r → IsOpen s' q r) → GoesSomewhere s n o → GoesSomewhere s' n o
 goes_on s s' n None f g = tt
 goes_on s s' n (Some i) f g = λ c l. f (resolved c i.queue) i.rank (g c l)
 
+-- local queues are in order of arrival
 pub local_sort : (c : ℕ) → same_sort Fifo (sort_of (local_on c)) ≡ true
 local_sort c = let e : (local_on c == builtin) ≡ false = ne_eqb (local_on c) builtin (λ x. omega (arith, x)) in rw e refl
 
+-- a policy's own queue takes any sort
 pub low_fits : (q : ℕ) (r : Rank) → nat_lt q policy_end ≡ true → fits_queue q r ≡ true
 low_fits q r l = rw l refl

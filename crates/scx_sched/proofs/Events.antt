@@ -179,6 +179,7 @@ module _ (n e : ℕ) where
 pub one_more : (n e : ℕ) (w : WorldState) → IsFineNow n e w → IsFineNow n (e + 1) w
 one_more n e w h = record { sound = h.sound; clock = omega (arith, h.clock); runs = λ t. omega (arith, h.runs t) }
 
+-- the time that a task ran
 pub fine_ticked : (n e : ℕ) (w : WorldState) (t : ℕ) → IsFineNow n e w → IsFineNow n (e + 1) (ticked w t)
 fine_ticked n e w t h =
     let more = one_more n e w h in
@@ -204,6 +205,7 @@ fine_reweighed n e w g x h = go (is_none (weight_fault w.tree g x))
     go true = record { sound = sound_with_weight w.cpus n w g x h.sound; clock = h.clock; runs = h.runs }
     go false = h
 
+-- all events
 pub fine_step : (n e : ℕ) (s : State) (v : Event) → length s.world.tasks ≡ n → refusal s v ≡ None → IsFineNow n e s.world → IsFineNow n (e + 1) (happened s v).state.world
 fine_step n e s (Wake t) tasks ok h = go (nat_lt t (length s.world.tasks)) (is_runnable s.world t) refl refl ok
   where

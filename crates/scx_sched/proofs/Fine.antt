@@ -31,9 +31,11 @@ use Rattle.scx_sched.proofs.Sound.{sound_query, sound_begun, sound_quiet, sound_
 abbrev pub IsRange : ℕ → WorldState → Type 0
 IsRange e w = (w.clock ≤ e) × ((t : ℕ) → (task_at w t).run_ns ≤ 1000000 * e)
 
+-- how far numbers have grown is part of it
 pub range_of : (n e : ℕ) (hand : Option ℕ) (on : List (Option ℕ)) (w : WorldState) → IsFine n e hand on w → IsRange e w
 range_of n e hand on w h = (h.clock, h.runs)
 
+-- and with what is sound it is all of it
 pub fine_of : (n e : ℕ) (hand : Option ℕ) (on : List (Option ℕ)) (w : WorldState) → IsSound hand on n w → IsRange e w → IsFine n e hand on w
 fine_of n e hand on w s r = record { sound = s; clock = r.0; runs = r.1 }
 
@@ -46,6 +48,7 @@ runs_set tasks t x k new old u = go (cases_eq u t) (cases_lt t (length tasks))
     go (inr d) l = rw (get_or-set_other tasks t u x no_task d) (old u)
 
 module _ (e : ℕ) where
+  -- a task that has run no longer than it may
   pub range_task : (w : WorldState) (t : ℕ) (x : Task) → x.run_ns ≤ 1000000 * e → IsRange e w → IsRange e (with_task w t x)
   range_task w t x new r = (r.0, runs_set w.tasks t x (1000000 * e) new r.1)
 
@@ -108,6 +111,7 @@ module _ (e : ℕ) where
   renewed_run : (x : Task) → (renewed x).run_ns ≡ x.run_ns
   renewed_run x = keeps_if (λ (y : Task). y.run_ns ≡ x.run_ns) (x.slice == 0) _ x refl refl
 
+-- the law of steps
 pub fine_steps : (n e : ℕ) → IsKeptBySteps n (IsFine n e)
 fine_steps n e = record {
   query = λ hand on w q h. fine_of n e hand on _ (sound_query hand on n w q h.sound) (range_query e w q (range_of n e hand on w h));

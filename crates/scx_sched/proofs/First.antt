@@ -83,6 +83,7 @@ own cpus tasks =
       is_made (with_queue (with_queue (empty (19 + cpus) tasks) global) held) builtin refl (omega arith),
     ) refl
 
+-- the queues are there
 pub first_has_queues : (cpus tasks : ℕ) → HasQueues (first_queues cpus tasks) cpus
 first_has_queues cpus tasks = rw (own cpus tasks) record {
   global = l.stay global refl;
@@ -231,6 +232,7 @@ module _ (n : ℕ) (on : List (Option ℕ)) (some : 0 < length on) where
       go None x e = absurd (cc)
       go (Some u) x e = subst (λ (y : State). IsFine n 0 None on y.world) (same_ok _ _ e) (fine_enabled (length s.world.tasks) s u x (f s refl))
 
+-- what holds between two events holds at first
 pub fine_started : (p : PolicyState) (tree : Hierarchy) (cpus : ℕ) (t : State) → is_bad_shape tree cpus ≡ false → length tree.active ≡ length tree.homes → started p tree cpus ≡ Ok t → IsFine (length tree.homes) 0 None (replicate cpus None) t.world
 fine_started p tree cpus t shape flags e =
     let h = has_shape tree cpus shape in

@@ -147,6 +147,7 @@ module _ (n e : ℕ) (c : ℕ) where
       let x = seek_leaves on (cycling s (Some c)) p ran l known runs ((fine_steps n e).cycling None on s.world (Some c) h) idle in
       record { local = x.local; global = x.global }
 
+-- the law
 pub tick_leaves : (n e : ℕ) (s : State) (c : ℕ) → c < length s.world.cpus → IsFine n e None s.world.cpus s.world → running (tick s c).state.world c ≡ None → LeavesNothing (tick s c).state.world c
 unfolding tick count_down
 tick_leaves n e s c l h idle = go (running s.world c) refl (ap (λ o. is_none o) idle)

@@ -32,6 +32,7 @@ len_pushed s q id t r = go (push_refusal s q t r) refl
         at (inl l) = omega (arith, len_set s id t (Some (next_place s q r)) l, free)
         at (inr past) = rw (set_past s.places t (Some (next_place s q r)) past) (omega arith)
 
+-- a queue that is created changes no other
 pub len_created : (s : QueueState) (q id : ℕ) → len_of (created s q) id ≡ len_of s id
 len_created s q id = keeps_if (λ (x : QueueState). len_of x id ≡ len_of s id) (is_none (create_refusal s q)) (with_queue s q) s refl refl
 

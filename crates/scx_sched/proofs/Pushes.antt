@@ -25,6 +25,7 @@ takes_held hand on n w t i flags x e h =
     let here = held_waits w t (held_in_dispatch w (Some t) x fit.may) in
     is_accepted (removed w.queues t) t (resolved w.call.cpu i.queue) i.rank here.free (open_removed w.queues t (resolved w.call.cpu i.queue) i.rank (fit_open on hand n w (Some t) i w.call.cpu h.here fit h))
 
+-- the law
 pub is_push_accepted : (n e : ℕ) → IsPushAccepted n e
 is_push_accepted n e = record {
   put = λ on w t i l x h. is_accepted w.queues t i.queue i.rank (nowhere w t h.sound.once) (wanted_open on n w i (Some t) x h.sound);

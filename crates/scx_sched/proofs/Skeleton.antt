@@ -41,12 +41,14 @@ is_wanted cpus w (Some p) c (Some i) l e = Inserted c i l e refl
 module _ (n : ℕ) (I : Option ℕ → List (Option ℕ) → WorldState → Type 0) (k : IsKeptBySteps n I) where
   -- with somebody at hand or nobody, and the same on the processors
   module _ (hand : Option ℕ) (on : List (Option ℕ)) where
+    -- the run of a callback
     pub keeps_called : (p : Option VerifiedProgram) (b : Callback) (a : Arguments) (maps : Maps) (w : WorldState) → I hand on w → I hand on (called p b a maps w).outside
     unfolding called run_of
     keeps_called None b a maps w h = h
     keeps_called (Some p) b a maps w h =
         run_keeps (answer_to world_functions) (after_query world_functions) (I hand on) (λ v q. k.query hand on v q) b p.code (suc (instruction_count p.code)) 0 (start.start (given a) maps) w h
 
+    -- a callback
     pub keeps_call_back : (s : State) (b : Callback) (a : Arguments) (t c : ℕ) → c < length on → I hand on s.world → I hand on (call_back s b a t c).state.world
     unfolding call_back
     keeps_call_back s b a t c l h =
@@ -54,6 +56,7 @@ module _ (n : ℕ) (I : Option ℕ → List (Option ℕ) → WorldState → Type
         k.quiet hand on e.outside (keeps_called (program_of s.policy b) b a s.maps (begun s.world b t c) (k.begun hand on s.world b t c l h))
 
   module _ (on : List (Option ℕ)) where
+    -- a task that is put
     pub keeps_put : (s : State) (t c flags : ℕ) → t < n → c < length on → I (Some t) on s.world → I None on (put s t c flags).state.world
     unfolding put enters
     keeps_put s t c flags within l h =
@@ -62,21 +65,25 @@ module _ (n : ℕ) (I : Option ℕ → List (Option ℕ) → WorldState → Type
         let o = r.state.world.call.insert in
         k.entered on r.state.world t (wanted p c o) within (is_wanted (length on) r.state.world p c o l refl) (keeps_call_back (Some t) on s callback.Enqueue (task_and_number t flags) t c l h)
 
+    -- an insert of select_cpu
     pub keeps_settled : (o : Option Insert) (s : State) (t c : ℕ) → s.world.call.insert ≡ o → t < n → c < length on → I (Some t) on s.world → I None on (settled o s t c).state.world
     unfolding enters
     keeps_settled None s t c e within l h = keeps_put s t c 1 within l h
     keeps_settled (Some i) s t c e within l h = k.entered on s.world t (for_cpu c i) within (Inserted c i l e refl) h
 
+    -- a local queue that is filled
     pub keeps_fill : (s : State) (q c : ℕ) → c < length on → I None on s.world → I None on (fill s q c).state.world
     unfolding fill
     keeps_fill s q c l h = k.filled on s.world q c l h
 
+    -- a call of dispatch
     pub keeps_dispatched : (s : State) (c : ℕ) (p : Option ℕ) → c < length on → I None on s.world → I None on (dispatched s c p).state.world
     unfolding dispatched
     keeps_dispatched s c p l h =
         let r = call_back s callback.Dispatch (cpu_and_task c p) 0 c in
         keeps_fill r.state global c l (keeps_call_back None on s callback.Dispatch (cpu_and_task c p) 0 c l h)
 
+    -- several of them
     pub keeps_tries : (m : ℕ) (s : State) (c : ℕ) (p : Option ℕ) → c < length on → I None on s.world → I None on (tries m s c p).state.world
     unfolding tries
     keeps_tries zero s c p l h = h
@@ -107,6 +114,7 @@ module _ (n : ℕ) (I : Option ℕ → List (Option ℕ) → WorldState → Type
   abbrev pub Left : ℕ → WorldState → Type 0
   Left c w = (on : List (Option ℕ)) × I None on w × (c < length on) × (get_or on c None ≡ None)
 
+  -- a task that leaves its processor
   pub keeps_leave : (on : List (Option ℕ)) (s : State) (c : ℕ) (p : Option ℕ) → c < length on → IsKnown n p → get_or on c None ≡ p → I None on s.world → Left c (leave s c p).state.world
   unfolding leave
   keeps_leave on s c None l known runs h = (on, h, l, runs)
@@ -137,6 +145,7 @@ module _ (n : ℕ) (I : Option ℕ → List (Option ℕ) → WorldState → Type
       let x : I None on f.state.world = keeps_fill on s global c l h in
       keeps_if (λ (r : Stepped). Some-on r.state.world) (has_local f.state c) (pick f.state c p) (ask f.state c p ran) (keeps_pick on f.state c p l known runs x) (keeps_ask on f.state c p ran l known runs x)
 
+  -- a whole cycle
   pub keeps_cycle : (on : List (Option ℕ)) (s : State) (c : ℕ) (p : Option ℕ) (ran : Bool) → c < length on → IsKnown n p → get_or on c None ≡ p → I None on s.world → Some-on (cycle s c p ran).state.world
   unfolding cycle
   keeps_cycle on s c p ran l known runs h =

@@ -78,9 +78,11 @@ module _ (hand : Option ℕ) (on : List (Option ℕ)) (n : ℕ) where
   sound_task : (w : WorldState) (t : ℕ) (x : Task) → x.prev_cpu ≡ (task_at w t).prev_cpu → IsSound hand on n w → IsSound hand on n (with_task w t x)
   sound_task w t x home h = record { cpus = h.cpus; tasks = length-set w.tasks t x ∙ h.tasks; even = h.even; flags = h.flags; homes = homes_set w.tasks t x (length on) (rw home (h.homes t)) h.homes; queues = h.queues; sorted = h.sorted; once = h.once; here = h.here; goes = h.goes; at_once = h.at_once }
 
+  -- notes that are handed on
   pub sound_quiet : (w : WorldState) → IsSound hand on n w → IsSound hand on n (quiet w)
   sound_quiet w h = record { cpus = h.cpus; tasks = h.tasks; even = h.even; flags = h.flags; homes = h.homes; queues = h.queues; sorted = h.sorted; once = h.once; here = h.here; goes = h.goes; at_once = h.at_once }
 
+  -- a cycle that begins or ends
   pub sound_cycling : (w : WorldState) (o : Option ℕ) → IsSound hand on n w → IsSound hand on n (with_cycling w o)
   sound_cycling w o h = record { cpus = h.cpus; tasks = h.tasks; even = h.even; flags = h.flags; homes = h.homes; queues = h.queues; sorted = h.sorted; once = h.once; here = h.here; goes = h.goes; at_once = h.at_once }
 
@@ -156,6 +158,7 @@ pub record IsFit (w : WorldState) (t : Option ℕ) (i : Insert) : Type 0 where
   pub queue : queue_fault w i.queue ≡ None
   pub rank : rank_fault w i.queue i.rank ≡ None
 
+-- an insert without a fault is fit
 pub is_fit : (w : WorldState) (t : Option ℕ) (i : Insert) (flags : ℕ) → insert_fault w t i flags ≡ None → IsFit w t i
 is_fit w t i flags e = go (may_insert w t) (nat_lt 1 flags) (queue_fault w i.queue) refl refl e
   where
@@ -178,6 +181,7 @@ rank_alike w q r e = go (is_vtime r && nat_le policy_end q) (list_any (clashes q
     go false true x y e = absurd (cc)
     go false false x y e = (λ past. fifo r (nat_le policy_end q) (grind (arith, nat_tests, past)) x, alike_from w.queues q r y)
 
+-- and its queue is open
 pub fit_open : (on : List (Option ℕ)) (hand : Option ℕ) (n : ℕ) (w : WorldState) (t : Option ℕ) (i : Insert) (c : ℕ) → c < length on → IsFit w t i → IsSound hand on n w → IsOpen w.queues (resolved c i.queue) i.rank
 fit_open on hand n w t i c l fit h =
     let all : HasQueues w.queues (length w.cpus) = rw h.cpus h.queues in
@@ -191,6 +195,7 @@ pub record IsHeld (w : WorldState) (t : ℕ) : Type 0 where
   pub known : t < task_count w.queues
   pub free : place_of (removed w.queues t) t ≡ None
 
+-- a task that is held waits
 pub held_waits : (w : WorldState) (t : ℕ) → is_held w (Some t) ≡ true → IsHeld w t
 held_waits w t e = go (cases_lt t (length w.queues.places)) (place_of w.queues t) refl e
   where
@@ -199,6 +204,7 @@ held_waits w t e = go (cases_lt t (length w.queues.places)) (place_of w.queues t
     go (inl l) (Some p) x y = record { waits = rw x refl; known = l; free = rw x (get_or-set_same {A = Option Place} w.queues.places t None None l) }
     go (inr past) (Some p) x y = let none : place_of w.queues t ≡ None = get_or_past {X = Option Place} w.queues.places t None past in absurd (cc (sym x ∙ none))
 
+-- and in dispatch only such a one may be inserted
 pub held_in_dispatch : (w : WorldState) (t : Option ℕ) → is_dispatch w.call.callback ≡ true → may_insert w t ≡ true → is_held w t ≡ true
 held_in_dispatch w t = go w.call.callback
   where
@@ -283,11 +289,13 @@ module _ (hand : Option ℕ) (on : List (Option ℕ)) (n : ℕ) where
   sound_helper w TaskByPid a h = h
   sound_helper w MapLookupElem a h = h
 
+  -- whatever a program asks
   pub sound_query : (w : WorldState) (q : Query) → IsSound hand on n w → IsSound hand on n (after_query world_functions w q)
   sound_query w (Call f a) h = sound_helper w f (map argument_of a) h
   sound_query w (Load t f) h = h
   sound_query w (Store t f k) h = sound_task hand on n w t.0 (stored_in (task_at w t.0) f k) (stored_home (task_at w t.0) f k) h
 
+  -- a callback that begins
   pub sound_begun : (w : WorldState) (b : Callback) (t c : ℕ) → c < length on → IsSound hand on n w → IsSound hand on n (begun w b t c)
   sound_begun w b t c l h = record { cpus = h.cpus; tasks = h.tasks; even = h.even; flags = h.flags; homes = h.homes; queues = h.queues; sorted = h.sorted; once = h.once; here = l; goes = tt; at_once = λ e. refl }
 
@@ -337,16 +345,19 @@ module _ (on : List (Option ℕ)) (n : ℕ) where
       (subst (λ (o : Option Insert). GoesSomewhere (pushed w.queues (resolved c said.queue) t said.rank) (length on) o) (sym e)
       (λ d m. open_same w.queues (resolved c said.queue) t (resolved d said.queue) said.rank (said_open w d said m e h.goes))) h
 
+  -- the queue that is wanted is open
   pub wanted_open : (w : WorldState) (i : Insert) (hand : Option ℕ) → IsWanted (length on) w i → IsSound hand on n w → IsOpen w.queues i.queue i.rank
   wanted_open w i hand (For_any e) h = rw e (own_open w.queues global Fifo h.queues.global (omega arith) refl h.sorted)
   wanted_open w i hand (Nowhere e) h = rw e (own_open w.queues held Fifo h.queues.held (omega arith) refl h.sorted)
   wanted_open w i hand (Inserted c said l x e) h = rw e (said_open w c said l x h.goes)
 
+  -- a task that enters it
   pub sound_entered : (w : WorldState) (t : ℕ) (i : Insert) → t < n → IsWanted (length on) w i → IsSound (Some t) on n w → IsSound None on n (entered w t i)
   sound_entered w t i within (For_any e) h = rw e (sound_enters_own w t to_global within h.queues.global (omega arith) refl h)
   sound_entered w t i within (Nowhere e) h = rw e (sound_enters_own w t to_held within h.queues.held (omega arith) refl h)
   sound_entered w t i within (Inserted c said l x e) h = rw e (sound_enters_said w t c said within l x h)
 
+  -- a local queue that is filled
   pub sound_filled : (w : WorldState) (q c : ℕ) → c < length on → IsSound None on n w → IsSound None on n (filled w q c)
   sound_filled w q c l h = go (fill_front w q c) (λ t e. front t (nat_lt 0 (local_len w c)) e)
     where
@@ -358,15 +369,19 @@ module _ (on : List (Option ℕ)) (n : ℕ) where
       go None f = h
       go (Some t) f = sound_brought None on n w (Some t) q (local_on c) (f t refl) (h.queues.locals c l) (omega arith) (local_sort c) h t refl
 
+  -- a task that is kept
   pub sound_kept : (w : WorldState) (t : ℕ) → IsSound None on n w → IsSound None on n (kept w (Some t))
   sound_kept w t h = sound_task None on n w t (renewed (task_at w t)) (renewed_home (task_at w t)) h
 
+  -- a tick
   pub sound_ticked : (w : WorldState) (t : ℕ) → IsSound None on n w → IsSound None on n (ticked w t)
   sound_ticked w t h = sound_task None on n w t (ran_a_tick (task_at w t)) refl h
 
+  -- a clock that goes on
   pub sound_later : (w : WorldState) → IsSound None on n w → IsSound None on n (later w)
   sound_later w h = record { cpus = h.cpus; tasks = h.tasks; even = h.even; flags = h.flags; homes = h.homes; queues = h.queues; sorted = h.sorted; once = h.once; here = h.here; goes = h.goes; at_once = h.at_once }
 
+  -- a weight
   pub sound_with_weight : (w : WorldState) (g x : ℕ) → IsSound None on n w → IsSound None on n (with_tree w (tree.with_weight w.tree g x))
   sound_with_weight w g x h = record { cpus = h.cpus; tasks = h.tasks; even = h.even; flags = h.flags; homes = h.homes; queues = h.queues; sorted = h.sorted; once = h.once; here = h.here; goes = h.goes; at_once = h.at_once }
 
@@ -444,6 +459,7 @@ not_running cpus t e = sum_none cpus t (λ k l. fails_before_first (is_this t) c
     past (inr l) = l
 
 module _ (on : List (Option ℕ)) (n : ℕ) where
+  -- a task that wakes is at hand
   pub sound_woken : (w : WorldState) (t : ℕ) → t < n → is_runnable w t ≡ false → IsSound None on n w → IsSound (Some t) on n (woken w t)
   sound_woken w t within asleep h = record {
     cpus = h.cpus;
@@ -473,6 +489,7 @@ module _ (on : List (Option ℕ)) (n : ℕ) where
       go (inl e) = rw (e, get_or-set_same w.tree.active t false false known) (at_hand (is_runnable w t) (appearances w t) (omega (arith, once t, hit)))
       go (inr d) = rw (get_or-set_other w.tree.active t u false false d) (omega (arith, once u, ap one_if (ne_eqb u t d)))
 
+  -- a task that sleeps no longer is
   pub sound_asleep : (w : WorldState) (t : ℕ) → t < n → IsSound (Some t) on n w → IsSound None on n (asleep w t)
   sound_asleep w t within h = rw (inside n w t within h.tasks) record {
     cpus = h.cpus;

@@ -132,6 +132,7 @@ still_tick s c h = go (running s.world c)
         let v = with_world s (ticked s.world t) in
         keeps_if (λ (r : Stepped). IsStill r.state.world) ((task_at v.world t).slice == 0) (cycle v c (Some t) true) (stays v) (cycle_ends v c (Some t) true) h
 
+-- after an event
 pub still_step : (s : State) (v : Event) → IsStill s.world → IsStill (happened s v).state.world
 still_step s (Wake t) h = still_wake s t h
 still_step s (Sleep t) h = still_sleep s t h
@@ -185,5 +186,6 @@ still_all (Ok s) t e f = go (enabled (length s.world.tasks) s) refl e
     go None x e = absurd (cc)
     go (Some u) x e = subst (λ (y : State). IsStill y.world) (same_ok _ _ e) (still_enabled (length s.world.tasks) s u x (f s refl))
 
+-- and before the first
 pub still_first : (p : PolicyState) (h : Hierarchy) (cpus : ℕ) (t : State) → started p h cpus ≡ Ok t → IsStill t.world
 still_first p h cpus t e = still_all (initialized (blank p h cpus)) t e (λ s x. still_initialized (blank p h cpus) s x refl)

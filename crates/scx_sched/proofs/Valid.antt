@@ -18,6 +18,7 @@ use Rattle.scx_sched.proofs.Still.{still_step, still_first}
 fine_with : (n e : ℕ) (w : WorldState) → IsFine n e None w.cpus w → IsFine (length w.tasks) e None w.cpus w
 fine_with n e w h = subst (λ k. IsFine k e None w.cpus w) (sym h.sound.tasks) h
 
+-- at first
 pub valid_first : (p : PolicyState) (tree : Hierarchy) (cpus : ℕ) (t : State) → is_bad_shape tree cpus ≡ false → length tree.active ≡ length tree.homes → started p tree cpus ≡ Ok t → t.world.queues.pushes ≤ 2 ^ 23 → IsValid t 0
 valid_first p tree cpus t shape flags e few =
     let h = fine_started p tree cpus t shape flags e in
@@ -32,6 +33,7 @@ pub record IsAccepted (s : SimState) (v : Event) : Type 0 where
   pub not_over : (s.events == max_events) ≡ false
   pub taken : machine.refusal s.state v ≡ None
 
+-- the laws of an accepted event
 pub accepted : (s : SimState) (v : Event) → refusal s v ≡ None → IsAccepted s v
 accepted s v e = go (s.events == max_events) refl e
   where
@@ -39,6 +41,7 @@ accepted s v e = go (s.events == max_events) refl e
     go true x e = absurd (cc)
     go false x e = record { not_over = x; taken = e }
 
+-- after each
 pub valid_step : (s : State) (n : ℕ) (v : Event) → refusal (record { state = s; events = n }) v ≡ None → IsValid s n → (machine.happened s v).state.world.queues.pushes ≤ s.world.queues.pushes + 2 ^ 18 → IsValid (machine.happened s v).state (n + 1)
 valid_step s n v e h few =
     let a = accepted (record { state = s; events = n }) v e in
