@@ -1,4 +1,4 @@
--- Facts about the definitions, for crates above: what a call leaves as it was, and in how many queues
+-- What a call leaves as it was, for crates above too, and in how many queues
 -- a task waits.
 use Rattle.std.proofs.Common.{◌≡◌, ℕ, ◌+◌, ◌<◌, ◌≤◌, Bool, true, false, ◌==◌, ◌⊎◌, inl, inr, not, if◌then◌else◌, is_none, length, set, Option, Some, None, is_some, IfSome, refl, sym, ap, arith}
 use Rattle.std.specs.List.{list_any}
@@ -15,6 +15,7 @@ use Rattle.scx_dsq.specs.Laws.{one_if, standing, PushAddsOne, PopTakesOne, Remov
 
 -- ---- what a call leaves as it was
 
+-- there are as many tasks after a queue is created
 pub tasks_created : (s : QueueState) (id : ℕ) → task_count (created s id) ≡ task_count s
 tasks_created s id = go (is_none (create_refusal s id))
   where
@@ -22,6 +23,7 @@ tasks_created s id = go (is_none (create_refusal s id))
     go true = refl
     go false = refl
 
+-- after a push
 pub tasks_pushed : (s : QueueState) (id t : ℕ) (rank : Rank) → task_count (pushed s id t rank) ≡ task_count s
 tasks_pushed s id t rank = go (is_none (push_refusal s id t rank))
   where
@@ -29,10 +31,12 @@ tasks_pushed s id t rank = go (is_none (push_refusal s id t rank))
     go true = length-set s.places t (Some (next_place s id rank))
     go false = refl
 
+-- after a task has left, if one does
 pub tasks_without : (s : QueueState) (o : Option ℕ) → task_count (without s o) ≡ task_count s
 tasks_without s None = refl
 tasks_without s (Some t) = length-set {A = Option Place} s.places t None
 
+-- after a removal
 pub tasks_removed : (s : QueueState) (t : ℕ) → task_count (removed s t) ≡ task_count s
 tasks_removed s t = go (is_some (place_of s t))
   where
@@ -40,6 +44,7 @@ tasks_removed s t = go (is_some (place_of s t))
     go true = length-set {A = Option Place} s.places t None
     go false = refl
 
+-- there are the same queues after a push
 pub ids_pushed : (s : QueueState) (id t : ℕ) (rank : Rank) → (pushed s id t rank).ids ≡ s.ids
 ids_pushed s id t rank = go (is_none (push_refusal s id t rank))
   where
@@ -47,10 +52,12 @@ ids_pushed s id t rank = go (is_none (push_refusal s id t rank))
     go true = refl
     go false = refl
 
+-- after a task has left, if one does
 pub ids_without : (s : QueueState) (o : Option ℕ) → (without s o).ids ≡ s.ids
 ids_without s None = refl
 ids_without s (Some t) = refl
 
+-- after a removal
 pub ids_removed : (s : QueueState) (t : ℕ) → (removed s t).ids ≡ s.ids
 ids_removed s t = go (is_some (place_of s t))
   where
@@ -58,6 +65,7 @@ ids_removed s t = go (is_some (place_of s t))
     go true = refl
     go false = refl
 
+-- as many pushes were accepted after a queue is created
 pub pushes_created : (s : QueueState) (id : ℕ) → (created s id).pushes ≡ s.pushes
 pushes_created s id = go (is_none (create_refusal s id))
   where
@@ -65,6 +73,7 @@ pushes_created s id = go (is_none (create_refusal s id))
     go true = refl
     go false = refl
 
+-- one more at most after a push
 pub pushes_pushed : (s : QueueState) (id t : ℕ) (rank : Rank) → (pushed s id t rank).pushes ≤ s.pushes + 1
 pushes_pushed s id t rank = go (is_none (push_refusal s id t rank))
   where
@@ -72,10 +81,12 @@ pushes_pushed s id t rank = go (is_none (push_refusal s id t rank))
     go true = omega arith
     go false = omega arith
 
+-- as many after a task has left, if one does
 pub pushes_without : (s : QueueState) (o : Option ℕ) → (without s o).pushes ≡ s.pushes
 pushes_without s None = refl
 pushes_without s (Some t) = refl
 
+-- after a removal
 pub pushes_removed : (s : QueueState) (t : ℕ) → (removed s t).pushes ≡ s.pushes
 pushes_removed s t = go (is_some (place_of s t))
   where
@@ -117,6 +128,7 @@ front_is_known s id (Some t) e = go (cases_lt t (task_count s))
 
 -- ---- in how many queues a task waits
 
+-- the law of pushes
 pub standing_pushed : PushAddsOne
 standing_pushed s id t u rank within accepted = rw accepted (go (cases_eq u t))
   where
@@ -141,12 +153,15 @@ standing_without s t u waits = go (cases_eq u t)
     go (inl e) = rw (e, nowhere_after s.places t, eq-eqb t t refl, waits) (omega arith)
     go (inr n) = rw (get_or-set_other {A = Option Place} s.places t u None None n, ne_eqb u t n) (omega arith)
 
+-- the law of pops
 pub standing_popped : PopTakesOne
 standing_popped s id t u front = rw front (standing_without s t u (front_waits s id t front))
 
+-- the law of removals
 pub standing_removed : RemovalTakesOne
 standing_removed s t u waits = rw waits (standing_without s t u waits)
 
+-- the law of all other calls
 pub others_change_none : OthersChangeNone
 others_change_none = record {
   refused = λ s id t rank e. refused s id t rank (push_refusal s id t rank) refl e;

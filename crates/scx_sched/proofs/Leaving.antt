@@ -90,7 +90,7 @@ module _ (c : ℕ) where
   local_called (Some p) b a maps w h =
       run_keeps (answer_to world_functions) (after_query world_functions) (HasLocal c) local_query b p.code (suc (instruction_count p.code)) 0 (start.start (given a) maps) w h
 
-  -- a callback leaves who waits in the local queue
+  -- after a callback somebody still waits there
   pub local_call_back : (s : State) (b : Callback) (a : Arguments) (t d : ℕ) → HasLocal c s.world → HasLocal c (call_back s b a t d).state.world
   unfolding call_back
   local_call_back s b a t d h = local_called (program_of s.policy b) b a s.maps (begun s.world b t d) h
