@@ -3,4 +3,7 @@ pub mod World
 pub mod Kept
 pub mod Tasks
 pub mod Helpers
+pub mod Faults
+pub mod Waits
+pub mod Ejecting
 pub mod First
