@@ -12,5 +12,5 @@ mod sim;
 pub use laws::{events_keep_places, no_push_is_refused, nothing_is_left_behind};
 pub use places::Place;
 pub use scx_machine::{BadPolicy, Callbacks, Event, NewError, Policy, Refused, Sink};
-pub use scx_world::{Note, What};
+pub use scx_world::{Eject, Fault, Note, What};
 pub use sim::{MAX_EVENTS, Sim};

@@ -1,16 +1,17 @@
 ghost use Rattle.std.specs.Prelude.{◌≡◌, ◌<◌, ◌≤◌, length, None, IfOk, IfErr, OnOk, OnErr};
-ghost use Rattle.scx_world.specs.World.{task_at, is_runnable, running};
+ghost use Rattle.scx_world.specs.World.{task_at, is_runnable, running, waits, wait};
 ghost use Rattle.scx_machine.specs.Notes.{Takes};
 ghost use Rattle.scx_machine.specs.Callbacks.{AreAnswered};
 ghost use Rattle.scx_machine.specs.Start.{IsRefusal, start_calls, AreAnsweredBefore};
 ghost use Rattle.scx_sched.specs.Left.{LeavesNothingIdle};
 ghost use Rattle.scx_sched.specs.Once.{IsOnce};
-ghost use Rattle.scx_sched.specs.Places.{place, wait};
+ghost use Rattle.scx_sched.specs.Places.{place};
 ghost use Rattle.scx_sched.specs.Sim.{max_events, refusal, answer_of, stepped, notes_of, calls_of, IsFirst};
 
 use crate::places::{Place, place_in};
 use scx_machine::{Event, Machine, NewError, Policy, Refused, Sink};
 use scx_weights::Tree;
+use scx_world::Eject;
 use std::alloc::Global;
 use std::marker::Model;
 
@@ -166,16 +167,18 @@ impl Sim {
         self.machine.world().task(task).vtime
     }
 
+    /// Why and when the policy was ejected, if it was. It comes back into force no more.
+    pub fn ejected(&self) -> Option<Eject>
+        ensures { result ≡ self.now.state.world.ejected }
+    {
+        self.machine.world().ejected()
+    }
+
     /// How long the task has waited, in milliseconds; 0 where it isn't waiting.
     pub fn wait(&self, task: u16) -> u64
         requires { task < length self.now.state.world.tasks }
         ensures { result ≡ wait self.now.state.world task }
     {
-        let world = self.machine.world();
-        if world.waits(task) {
-            world.clock().saturating_sub(world.task(task).since)
-        } else {
-            0
-        }
+        self.machine.world().wait(task)
     }
 }
