@@ -3,6 +3,8 @@
 #![tactic(auto)]
 
 #[cfg(test)]
+mod ejections;
+#[cfg(test)]
 mod failures;
 #[cfg(test)]
 mod lines;
