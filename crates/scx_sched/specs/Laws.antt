@@ -1,9 +1,12 @@
 -- Laws of the machine.
-use Rattle.std.specs.Prelude.{◌≡◌, ℕ, ◌+◌, ◌<◌, length, None}
+use Rattle.std.specs.Prelude.{◌≡◌, ℕ, ◌+◌, ◌<◌, length, Option, None}
 use Rattle.scx_machine.specs.declared.events.Event.{Event}
 use Rattle.scx_machine.specs.Steps.{State}
 use Rattle.scx_world.specs.World.{running}
 use Rattle.scx_machine.specs.Events.{refusal, happened, tick}
+use Rattle.scx_world.specs.declared.eject.Eject.{Eject}
+use Rattle.scx_machine.specs.Ejecting.{eject}
+use Rattle.scx_sched.specs.Over.{GoesOver}
 use Rattle.scx_sched.specs.Left.{LeavesNothing}
 use Rattle.scx_sched.specs.Ranges.{IsFine}
 use Rattle.scx_sched.specs.Kept.{IsKeptBySteps}
@@ -23,7 +26,11 @@ TickLeavesNothing =
 
 -- each small step that an event is made of keeps what holds inside of it
 abbrev pub StepsKeepFine : Type 0
-StepsKeepFine = (n e : ℕ) → IsKeptBySteps n (IsFine n e)
+StepsKeepFine = (n : ℕ) → IsKeptBySteps n (IsFine n)
+
+-- an ejection loses no task, and stops none
+abbrev pub EjectionLosesNobody : Type 0
+EjectionLosesNobody = (n e : ℕ) (hand : Option ℕ) (s : State) (x : Eject) → IsFine n e hand s.world.cpus s.world → GoesOver s.world (eject s x).state.world
 
 -- and where that holds, no push is refused
 abbrev pub NoPushIsRefused : Type 0

@@ -1,4 +1,5 @@
 pub mod Once
+pub mod Waits
 pub mod Kept
 pub mod Ranges
 pub mod Accepted
@@ -6,3 +7,5 @@ pub mod Sim
 pub mod Laws
 pub mod Places
 pub mod Left
+pub mod Over
+pub mod Causes

@@ -1,10 +1,18 @@
 -- Between two events: each task is where it should be, and no number has grown past what so many events
 -- can make of it.
-use Rattle.std.specs.Prelude.{ℕ, ◌*◌, ◌≤◌, List, Option}
+use Rattle.std.specs.Prelude.{◌≡◌, ℕ, ◌*◌, ◌≤◌, List, Option, None}
 use Rattle.scx_world.specs.World.{WorldState, task_at}
 use Rattle.scx_sched.specs.Once.{IsSound}
+
+-- the built-in scheduler hasn't begun: all its times are 0
+pub record IsFresh (w : WorldState) : Type 0 where
+  pub clock : w.builtin_clock ≡ 0
+  pub tasks : (t : ℕ) → (task_at w t).builtin ≡ 0
 
 pub record IsFine (n events : ℕ) (hand : Option ℕ) (on : List (Option ℕ)) (w : WorldState) : Type 0 where
   pub sound : IsSound hand on n w
   pub clock : w.clock ≤ events
   pub runs : (t : ℕ) → (task_at w t).run_ns ≤ 1000000 * events
+  pub times : (t : ℕ) → (task_at w t).builtin ≤ 2000000000 * events
+  pub builtin_clock : w.builtin_clock ≤ 2000000000 * events
+  pub not_yet : w.ejected ≡ None → IsFresh w
