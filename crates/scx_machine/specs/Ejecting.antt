@@ -1,8 +1,8 @@
 -- A policy is ejected: it is out of force from then on, and every task that waits goes to the built-in
 -- scheduler (sched-ext.rst, "Switching to and from sched_ext").
-use Rattle.std.specs.Prelude.{[], ◌∷◌, ◌++◌, length, Option, Some, None}
+use Rattle.std.specs.Prelude.{[], ◌∷◌, length, Option, Some, None}
 use Rattle.scx_world.specs.declared.eject.Eject.{Eject}
-use Rattle.scx_world.specs.declared.eject.Eject.TheVariants as eject
+use Rattle.scx_world.specs.declared.eject.Eject.TheVariants as cause
 use Rattle.scx_world.specs.declared.faults.Fault.{Fault}
 use Rattle.scx_world.specs.World.{said}
 use Rattle.scx_world.specs.Ejecting.{put_out, evicted, evict_notes, cut, eject_note}
@@ -22,4 +22,4 @@ eject s x = after (said s.world (eject_note x) ∷ []) (cuts (moves_over (with_w
 -- where there was a fault
 abbrev pub ejected_for : Option Fault → State → Stepped
 ejected_for None s = stays s
-ejected_for (Some f) s = eject s (eject.Fault f s.world.clock)
+ejected_for (Some f) s = eject s (cause.Fault f s.world.clock)

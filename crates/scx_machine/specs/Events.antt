@@ -5,7 +5,7 @@ use Rattle.scx_world.specs.declared.notes.What.TheVariants as note
 use Rattle.scx_verify.specs.Typing.{VerifiedProgram}
 use Rattle.scx_world.specs.declared.call.Insert.{Insert}
 use Rattle.scx_world.specs.World.{WorldState, task_at, is_runnable, running, cpu_of, is_idle, default_choice, said}
-use Rattle.scx_world.specs.declared.eject.Eject.TheVariants as eject
+use Rattle.scx_world.specs.declared.eject.Eject.TheVariants as cause
 use Rattle.scx_world.specs.Tasks.{for_cpu, woken, asleep, gone, stopped, ticked, later, reweighed}
 use Rattle.scx_world.specs.Waits.{first_overdue}
 use Rattle.scx_machine.specs.declared.events.Event.{Event}
@@ -98,7 +98,7 @@ overdue s = if is_ejected s then None else first_overdue s.world s.policy.timeou
 
 abbrev pub stalled : Option ℕ → State → Stepped
 stalled None s = stays s
-stalled (Some t) s = eject s (eject.Stall t s.world.clock)
+stalled (Some t) s = eject s (cause.Stall t s.world.clock)
 
 unfoldable pub clock : State → Stepped
 clock s = let v = with_world s (later s.world) in stalled (overdue v) v

@@ -1,7 +1,7 @@
 ghost use Rattle.std.specs.Prelude.{◌≡◌, ℕ, ◌+◌, ◌<◌, ◌≤◌, ◌^◌, length, Some, None};
 ghost use Rattle.scx_world.specs.World.{task_at};
 ghost use Rattle.scx_machine.specs.Notes.{Takes};
-ghost use Rattle.scx_semantics.specs.declared.callbacks.Callback.TheVariants as callback;
+ghost use Rattle.scx_semantics.specs.declared.callbacks.Callback.TheVariants.{SelectCpu};
 ghost use Rattle.scx_machine.specs.Callbacks.{acting, AreAnswered};
 ghost use Rattle.scx_machine.specs.declared.events.Event.TheVariants.{Wake, Sleep, SetWeight};
 ghost use Rattle.scx_machine.specs.Events.{is_bad_weight, refusal, target, settled, settle, select, wake, sleep_from_cpu, sleep, count_down, tick, overdue, clock, happened};
@@ -111,7 +111,7 @@ impl Machine {
 
     /// The processor for which a task that wakes is put, where select_cpu answered so.
     fn target(&self, task: u16, answer: u64) -> u32
-        ensures { result ≡ target (acting self.now callback.SelectCpu) self.now.world task (Some answer) }
+        ensures { result ≡ target (acting self.now SelectCpu) self.now.world task (Some answer) }
     {
         if self.is_ejected() || self.policy.program(Callback::SelectCpu).is_none() {
             return self.world.default_choice(task);

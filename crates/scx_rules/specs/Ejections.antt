@@ -4,7 +4,7 @@ use Rattle.scx_semantics.specs.declared.callbacks.Callback.{Callback}
 use Rattle.scx_semantics.specs.declared.callbacks.Callback.TheVariants.{SelectCpu}
 use Rattle.scx_semantics.specs.Endings.{Ending}
 use Rattle.scx_world.specs.declared.eject.Eject.{Eject}
-use Rattle.scx_world.specs.declared.eject.Eject.TheVariants as eject
+use Rattle.scx_world.specs.declared.eject.Eject.TheVariants as cause
 use Rattle.scx_world.specs.declared.faults.Fault.{Fault}
 use Rattle.scx_world.specs.declared.faults.Fault.TheVariants.{Stuck, NoSuchCpu}
 use Rattle.scx_world.specs.declared.notes.Note.{Note}
@@ -45,4 +45,4 @@ pub record Ejects (s : State) (x : Eject) (r : Stepped) : Type 0 where
 -- after a callback
 pub data Judges (s : State) : Option Fault → Stepped → Type 0 where
   Stays : (r : Stepped) → r ≡ stays s → Judges s None r
-  Ejected : (f : Fault) (r : Stepped) → Ejects s (eject.Fault f s.world.clock) r → Judges s (Some f) r
+  Ejected : (f : Fault) (r : Stepped) → Ejects s (cause.Fault f s.world.clock) r → Judges s (Some f) r

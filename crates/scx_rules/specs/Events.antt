@@ -7,7 +7,7 @@ use Rattle.scx_world.specs.declared.call.Insert.{Insert}
 use Rattle.scx_world.specs.declared.notes.What.TheVariants as note
 use Rattle.scx_world.specs.World.{with_tree, task_at, wait, running, cpu_of, is_idle, said}
 use Rattle.scx_world.specs.declared.eject.Eject.{Eject}
-use Rattle.scx_world.specs.declared.eject.Eject.TheVariants as eject
+use Rattle.scx_world.specs.declared.eject.Eject.TheVariants as cause
 use Rattle.scx_world.specs.Tasks.{for_cpu, woken, asleep, gone, ticked, later}
 use Rattle.scx_world.specs.Waits.{IsFirstOverdue}
 use Rattle.scx_machine.specs.declared.events.Event.{Event}
@@ -76,7 +76,7 @@ NobodyIsOverdue s = (t : ℕ) → t < length s.world.tasks → wait s.world t �
 pub data Ages (s : State) (r : Stepped) : Type 0 where
   Is_out : (x : Eject) → s.world.ejected ≡ Some x → r ≡ stays (aged s) → Ages s r
   In_time : s.world.ejected ≡ None → NobodyIsOverdue (aged s) → r ≡ stays (aged s) → Ages s r
-  Too_late : (t : ℕ) → s.world.ejected ≡ None → IsFirstOverdue (later s.world) s.policy.timeout_ms t → Ejects (aged s) (eject.Stall t (later s.world).clock) r → Ages s r
+  Too_late : (t : ℕ) → s.world.ejected ≡ None → IsFirstOverdue (later s.world) s.policy.timeout_ms t → Ejects (aged s) (cause.Stall t (later s.world).clock) r → Ages s r
 
 abbrev pub Happens : State → Event → Stepped → Type 0
 Happens s (Wake t) r = Wakes s t r

@@ -7,7 +7,7 @@ use Rattle.scx_semantics.specs.Runs.{Runs}
 use Rattle.scx_vm.specs.Arguments.{given}
 use Rattle.scx_vm.specs.Host.{host}
 use Rattle.scx_world.specs.declared.eject.Eject.{Eject}
-use Rattle.scx_world.specs.declared.eject.Eject.TheVariants as eject
+use Rattle.scx_world.specs.declared.eject.Eject.TheVariants as cause
 use Rattle.scx_world.specs.declared.faults.Fault.{Fault}
 use Rattle.scx_world.specs.declared.faults.Fault.TheVariants.{NoSuchCpu}
 use Rattle.scx_world.specs.World.{WorldState}
@@ -35,8 +35,8 @@ IsLast m calls = (before : List CallMade) × (calls ≡ before ++ m ∷ [])
 
 -- what put a policy out of force in an event
 pub data IsCause (s : SimState) (e : Event) : Eject → Type 0 where
-  Waited : (t : ℕ) → e ≡ Clock → IsFirstOverdue (later s.state.world) s.state.policy.timeout_ms t → IsCause s e (eject.Stall t (s.state.world.clock + 1))
-  Went_wrong : (m : CallMade) (f : Fault) → IsLast m (calls_of s e) → HasFault m f → IsCause s e (eject.Fault f s.state.world.clock)
+  Waited : (t : ℕ) → e ≡ Clock → IsFirstOverdue (later s.state.world) s.state.policy.timeout_ms t → IsCause s e (cause.Stall t (s.state.world.clock + 1))
+  Went_wrong : (m : CallMade) (f : Fault) → IsLast m (calls_of s e) → HasFault m f → IsCause s e (cause.Fault f s.state.world.clock)
 
 -- from before an event to after it
 pub record EjectsOnce (s : SimState) (e : Event) (t : SimState) : Type 0 where

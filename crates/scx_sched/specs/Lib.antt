@@ -1,5 +1,5 @@
-pub mod Once
 pub mod Waits
+pub mod Once
 pub mod Kept
 pub mod Ranges
 pub mod Accepted

@@ -5,7 +5,7 @@ use Rattle.scx_dsq.specs.Calls.{pushed}
 use Rattle.scx_dsq.specs.declared.places.Rank.TheVariants.{Vtime}
 use Rattle.scx_world.specs.declared.call.Call.{Call}
 use Rattle.scx_world.specs.declared.eject.Eject.{Eject}
-use Rattle.scx_world.specs.declared.eject.Eject.TheVariants as eject
+use Rattle.scx_world.specs.declared.eject.Eject.TheVariants as cause
 use Rattle.scx_world.specs.declared.notes.Note.{Note}
 use Rattle.scx_world.specs.declared.notes.What.{What}
 use Rattle.scx_world.specs.declared.notes.What.TheVariants as note
@@ -81,5 +81,5 @@ cut zero w = w
 cut (suc n) w = cut_task (running w n) (cut n w)
 
 abbrev pub eject_note : Eject → What
-eject_note (eject.Stall t clock) = note.Stall t
-eject_note (eject.Fault fault clock) = note.Fault fault
+eject_note (cause.Stall t clock) = note.Stall t
+eject_note (cause.Fault fault clock) = note.Fault fault

@@ -18,12 +18,12 @@ AreBusy bits cpus = (c : ℕ) → c < length cpus → bit_at bits c ≡ one_if (
 abbrev pub AreTaken : ℕ → WorldState → Type 0
 AreTaken bits w = (c : ℕ) → c < length w.cpus → bit_at bits c ≡ one_if (not (is_idle w c))
 
--- Since when somebody in each block of 32 tasks waits, at the earliest, and since when anybody does. A task
--- may wait no more that did; so these may be earlier than any wait.
+-- Nobody of a block of 32 tasks waits since before the clock that is kept for it, and nobody at all since
+-- before the one that is kept for all. A task that waited since then may wait no more.
 pub record AreWatched (oldest : ℕ) (blocks : List ℕ) (tasks : List Task) : Type 0 where
   pub count : length blocks ≡ 32
   pub least : (b : ℕ) → b < 32 → oldest ≤ slice_index_or blocks b 0
-  pub tasks : (t n : ℕ) → (slice_index_or tasks t no_task).since ≡ Some n → slice_index_or blocks (t / 32) 0 ≤ n
+  pub each : (t n : ℕ) → (slice_index_or tasks t no_task).since ≡ Some n → slice_index_or blocks (t / 32) 0 ≤ n
 
 -- there is room for the notes of a callback, each part knows of as many tasks, and the clock in
 -- nanoseconds is a number of 64 bits

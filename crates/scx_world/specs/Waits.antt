@@ -1,5 +1,5 @@
 -- Who has waited for longer than a policy may let a task wait.
-use Rattle.std.specs.Prelude.{◌≡◌, ℕ, zero, suc, ◌<◌, ◌≤◌, Bool, nat_lt, length, Option, Some, None}
+use Rattle.std.specs.Prelude.{ℕ, zero, suc, ◌<◌, ◌≤◌, Bool, nat_lt, length, Option, None}
 use Rattle.scx_world.specs.World.{WorldState, this_if, or_this, wait}
 
 abbrev pub is_overdue : WorldState → ℕ → ℕ → Bool
