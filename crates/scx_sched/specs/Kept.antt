@@ -23,6 +23,7 @@ pub data IsWanted (cpus : ℕ) (w : WorldState) (i : Insert) : Type 0 where
 -- event charges one task at most.
 pub record IsKeptBySteps (n : ℕ) (I : ℕ → Option ℕ → List (Option ℕ) → WorldState → Type 0) : Type 0 where
   pub more : (m : ℕ) (hand : Option ℕ) (on : List (Option ℕ)) (w : WorldState) → I m hand on w → I (m + 1) hand on w
+  pub known : (m : ℕ) (hand : Option ℕ) (on : List (Option ℕ)) (w : WorldState) → I m hand on w → length w.tasks ≡ n
   pub query : (m : ℕ) (hand : Option ℕ) (on : List (Option ℕ)) (w : WorldState) (q : Query) → I m hand on w → I m hand on (after_query helper_after world_stored w q)
   pub begun : (m : ℕ) (hand : Option ℕ) (on : List (Option ℕ)) (w : WorldState) (b : Callback) (t c : ℕ) → c < length on → I m hand on w → I m hand on (begun w b t c)
   pub quiet : (m : ℕ) (hand : Option ℕ) (on : List (Option ℕ)) (w : WorldState) → I m hand on w → I m hand on (quiet w)

@@ -78,7 +78,7 @@ cut_task (Some t) w = with_task w t (with_slice (task_at w t) (min (task_at w t)
 -- on the first so many processors
 abbrev pub cut : ℕ → WorldState → WorldState
 cut zero w = w
-cut (suc n) w = cut_task (running w n) (cut n w)
+cut (suc n) w = let v = cut n w in cut_task (running v n) v
 
 abbrev pub eject_note : Eject → What
 eject_note (cause.Stall t clock) = note.Stall t

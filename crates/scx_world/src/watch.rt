@@ -29,6 +29,7 @@ impl World {
     }
 
     /// Of the tasks that have waited longer than that the one of the least number.
+    #[tactic(auto, using(crate::proofs::Watching::nobody_late))]
     pub fn first_overdue(&mut self, limit: u64) -> Option<u16>
         ensures answer { result ≡ first_overdue self.old limit }
         ensures world { self.new ≡ self.old }
@@ -81,6 +82,7 @@ impl World {
     }
 
     /// Looks at each task, by number.
+    #[tactic(auto, using(crate::proofs::Watching::none_next, crate::proofs::Watching::first_is))]
     fn least_overdue(&self, limit: u64) -> Option<u16>
         ensures { result ≡ first_overdue self.now limit }
     {
