@@ -68,7 +68,6 @@ started_if (Some t) s c = after (said s.world (Run t c) ∷ []) (running_on (wit
 unfoldable pub start : State → ℕ → Stepped
 start s c = started_if (front_of s.world.queues (local_on c)) s c
 
-
 -- ---- rest
 
 abbrev pub idle_note : WorldState → Option ℕ → Bool → ℕ → List Note

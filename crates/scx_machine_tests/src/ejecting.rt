@@ -33,12 +33,10 @@ const WAKES: [(&[(Callback, &str)], &str); 6] = [
     ),
     // GLOBAL by virtual time.
     (
-        &[
-            (
-                Callback::Enqueue,
-                "r5 = r2\nr2 = 9223372036854775809 ll\nr3 = 0\nr4 = 0\ncall 1003\nexit",
-            ),
-        ],
+        &[(
+            Callback::Enqueue,
+            "r5 = r2\nr2 = 9223372036854775809 ll\nr3 = 0\nr4 = 0\ncall 1003\nexit",
+        )],
         "0 Wake(0)
 0 Fault(BuiltinVtime)
 0 Insert(0, 9223372036854775812)

@@ -225,9 +225,11 @@ fn several_in_one_insert(rt: HostRuntime) {
 
 #[test]
 fn the_first_fault_of_a_callback_counts(rt: HostRuntime) {
-    let text = "r6 = r1\nr2 = 0\nr3 = 0\nr4 = 2\ncall 1002\nr1 = r6\nr2 = 9\nr3 = 0\nr4 = 0\ncall 1002\nexit";
+    let text =
+        "r6 = r1\nr2 = 0\nr3 = 0\nr4 = 2\ncall 1002\nr1 = r6\nr2 = 9\nr3 = 0\nr4 = 0\ncall 1002\nexit";
     callback_ejects(&rt, Callback::Enqueue, text, Fault::UnknownFlag);
-    let text = "r6 = r1\nr2 = 9\nr3 = 0\nr4 = 0\ncall 1002\nr1 = r6\nr2 = 0\nr3 = 0\nr4 = 2\ncall 1002\nexit";
+    let text =
+        "r6 = r1\nr2 = 9\nr3 = 0\nr4 = 0\ncall 1002\nr1 = r6\nr2 = 0\nr3 = 0\nr4 = 2\ncall 1002\nexit";
     callback_ejects(&rt, Callback::Enqueue, text, Fault::NoSuchQueue);
 }
 

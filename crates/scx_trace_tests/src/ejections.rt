@@ -59,21 +59,21 @@ const FAULTS: [(&str, u8); 4] = [
     (UNKNOWN_FLAG, 6),
 ];
 
-fn expect_fault<R: AllocGlobal + Abort>(
-    rt: &R,
-    policy: &str,
-    code: u8,
-) -> Result<(), AllocError> {
-    let trace = format!(in rt.alloc(); "0 wake a
+fn expect_fault<R: AllocGlobal + Abort>(rt: &R, policy: &str, code: u8) -> Result<(), AllocError> {
+    let trace = format!(in rt.alloc();
+        "0 wake a
 0 eject fault {code}
 0 insert a builtin
 0 move a local 0
 0 run a cpu 0
-")?;
-    let report = format!(in rt.alloc(); "task a run 1 share 10000
+"
+    )?;
+    let report = format!(in rt.alloc();
+        "task a run 1 share 10000
 total 1
 policy ejected fault {code} at 0
-")?;
+"
+    )?;
     expect(rt, policy, ONE_MS, trace.as_str(), report.as_str());
     Ok(())
 }
