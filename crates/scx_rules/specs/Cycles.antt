@@ -37,19 +37,19 @@ dispatch_called s c p = call_back s callback.Dispatch (cpu_and_task c p) 0 c
 
 -- the task has left its processor; the number says whether it stays runnable
 pub data HasStopped (s : State) (c t runnable : ℕ) (r : Stepped) : Type 0 where
-  By_policy : s.world.ejected ≡ None → r ≡ call_back s callback.Stopping (task_and_number t runnable) t c → HasStopped s c t runnable r
-  Built_in : (x : Eject) → s.world.ejected ≡ Some x → r ≡ silent s (charged s.world t) → HasStopped s c t runnable r
+  Policy_hears : s.world.ejected ≡ None → r ≡ call_back s callback.Stopping (task_and_number t runnable) t c → HasStopped s c t runnable r
+  Is_charged : (x : Eject) → s.world.ejected ≡ Some x → r ≡ silent s (charged s.world t) → HasStopped s c t runnable r
 
 -- the task has come to its processor
 pub data HasStarted (s : State) (c t : ℕ) (r : Stepped) : Type 0 where
-  By_policy_too : s.world.ejected ≡ None → r ≡ call_back s callback.Running (one_task t) t c → HasStarted s c t r
-  Built_in_too : (x : Eject) → s.world.ejected ≡ Some x → r ≡ silent s (overtaken s.world t) → HasStarted s c t r
+  Policy_learns : s.world.ejected ≡ None → r ≡ call_back s callback.Running (one_task t) t c → HasStarted s c t r
+  Catches_up : (x : Eject) → s.world.ejected ≡ Some x → r ≡ silent s (overtaken s.world t) → HasStarted s c t r
 
-abbrev pub off : State → ℕ → ℕ → State
-off s c t = with_world s (stopped s.world c t)
+abbrev pub gone_off : State → ℕ → ℕ → State
+gone_off s c t = with_world s (stopped s.world c t)
 
-abbrev pub on : State → ℕ → ℕ → State
-on s c t = with_world s (started_at (Some t) s.world c)
+abbrev pub gone_on : State → ℕ → ℕ → State
+gone_on s c t = with_world s (started_at (Some t) s.world c)
 
 -- ---- put
 
@@ -100,13 +100,13 @@ pub data Asks : ℕ → State → ℕ → Option ℕ → Stepped → Type 0 wher
 -- the task before leaves the processor, and is put
 pub data Leaves (s : State) (c : ℕ) (p : Option ℕ) (r : Stepped) : Type 0 where
   Nobody : p ≡ None → r ≡ stays s → Leaves s c p r
-  Stops : (t : ℕ) (left put : Stepped) → p ≡ Some t → HasStopped (off s c t) c t 1 left → Puts left.state t c 0 put
+  Stops : (t : ℕ) (left put : Stepped) → p ≡ Some t → HasStopped (gone_off s c t) c t 1 left → Puts left.state t c 0 put
       → r ≡ after (said s.world (note.Stop t c) ∷ []) (joined left put) → Leaves s c p r
 
 -- the front of the local queue runs
 pub data Starts (s : State) (c : ℕ) (r : Stepped) : Type 0 where
   Empty : front_of s.world.queues (local_on c) ≡ None → r ≡ stays s → Starts s c r
-  Front : (t : ℕ) (begun : Stepped) → front_of s.world.queues (local_on c) ≡ Some t → HasStarted (on s c t) c t begun
+  Front : (t : ℕ) (begun : Stepped) → front_of s.world.queues (local_on c) ≡ Some t → HasStarted (gone_on s c t) c t begun
       → r ≡ after (said s.world (note.Run t c) ∷ []) begun → Starts s c r
 
 -- ---- rest

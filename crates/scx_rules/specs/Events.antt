@@ -16,7 +16,7 @@ use Rattle.scx_machine.specs.Steps.{State, Stepped, with_world, stays, after, jo
 use Rattle.scx_machine.specs.Callbacks.{call_back, answered_by, task_cpu_and_0}
 use Rattle.scx_rules.specs.Helpers.{IsChoice}
 use Rattle.scx_rules.specs.Ejections.{Ejects}
-use Rattle.scx_rules.specs.Cycles.{noting, silent, entering, off, HasStopped, Puts, Cycles}
+use Rattle.scx_rules.specs.Cycles.{noting, silent, entering, gone_off, HasStopped, Puts, Cycles}
 
 abbrev pub awake : State → ℕ → State
 awake s t = with_world s (woken s.world t)
@@ -55,7 +55,7 @@ pub data Wakes (s : State) (t : ℕ) (r : Stepped) : Type 0 where
 -- the task leaves its queue, or its processor, which looks for another task
 pub data Sleeps (s : State) (t : ℕ) (r : Stepped) : Type 0 where
   From_queue : cpu_of s.world t ≡ None → r ≡ after (said s.world (note.Sleep t) ∷ []) (silent s (asleep (gone s.world t) t)) → Sleeps s t r
-  From_cpu : (c : ℕ) (left found : Stepped) → cpu_of s.world t ≡ Some c → HasStopped (off s c t) c t 0 left
+  From_cpu : (c : ℕ) (left found : Stepped) → cpu_of s.world t ≡ Some c → HasStopped (gone_off s c t) c t 0 left
       → Cycles (with_world left.state (asleep left.state.world t)) c None true found
       → r ≡ after (said s.world (note.Sleep t) ∷ said s.world (note.Stop t c) ∷ []) (joined left found) → Sleeps s t r
 

@@ -9,7 +9,6 @@ use Rattle.scx_world.specs.declared.eject.Eject.TheVariants as cause
 use Rattle.scx_world.specs.declared.notes.Note.{Note}
 use Rattle.scx_world.specs.declared.notes.What.{What}
 use Rattle.scx_world.specs.declared.notes.What.TheVariants as note
-use Rattle.scx_world.specs.declared.task.Task.{Task}
 use Rattle.scx_world.specs.Ids.{builtin}
 use Rattle.scx_world.specs.World.{WorldState, with_queues, with_call, with_builtin_clock, with_ejected, task_at, with_task, waits, running, said}
 use Rattle.scx_world.specs.Tasks.{default_slice, with_slice, with_builtin, gone}
