@@ -19,8 +19,8 @@ pub data IsWanted (cpus : ℕ) (w : WorldState) (i : Insert) : Type 0 where
   Nowhere : i ≡ to_held → IsWanted cpus w i
   Inserted : (c : ℕ) (said : Insert) → c < cpus → w.call.insert ≡ Some said → i ≡ for_cpu c said → IsWanted cpus w i
 
--- The fact has a number, which says how often in the event a task was charged, and may be said too high: an
--- event charges one task at most.
+-- The fact has a number, which grows by one as a task is charged, and may be said too high: an event charges
+-- one task at most.
 pub record IsKeptBySteps (n : ℕ) (I : ℕ → Option ℕ → List (Option ℕ) → WorldState → Type 0) : Type 0 where
   pub more : (m : ℕ) (hand : Option ℕ) (on : List (Option ℕ)) (w : WorldState) → I m hand on w → I (m + 1) hand on w
   pub known : (m : ℕ) (hand : Option ℕ) (on : List (Option ℕ)) (w : WorldState) → I m hand on w → length w.tasks ≡ n

@@ -9,10 +9,11 @@ pub record IsFresh (w : WorldState) : Type 0 where
   pub clock : w.builtin_clock ≡ 0
   pub tasks : (t : ℕ) → (task_at w t).builtin ≡ 0
 
-pub record IsFine (n events : ℕ) (hand : Option ℕ) (on : List (Option ℕ)) (w : WorldState) : Type 0 where
+-- An event counts once among the events, and charges one task at most.
+pub record IsFine (n events charges : ℕ) (hand : Option ℕ) (on : List (Option ℕ)) (w : WorldState) : Type 0 where
   pub sound : IsSound hand on n w
   pub clock : w.clock ≤ events
   pub runs : (t : ℕ) → (task_at w t).run_ns ≤ 1000000 * events
-  pub times : (t : ℕ) → (task_at w t).builtin ≤ 2000000000 * events
-  pub builtin_clock : w.builtin_clock ≤ 2000000000 * events
+  pub times : (t : ℕ) → (task_at w t).builtin ≤ 2000000000 * charges
+  pub builtin_clock : w.builtin_clock ≤ 2000000000 * charges
   pub not_yet : w.ejected ≡ None → IsFresh w

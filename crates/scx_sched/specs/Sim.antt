@@ -61,4 +61,4 @@ pub record IsValid (state : State) (events : ℕ) : Type 0 where
   pub pushes : state.world.queues.pushes ≤ 2 ^ 23 + 2 ^ 18 * events
   pub still : state.world.cycling ≡ None
   pub timely : IsTimely state
-  pub fine : IsFine (length state.world.tasks) events None state.world.cpus state.world
+  pub fine : IsFine (length state.world.tasks) events events None state.world.cpus state.world
