@@ -1,4 +1,4 @@
-ghost use Rattle.std.specs.Prelude.{◌≡◌, ℕ, ◌/◌, ◌-◌, ◌≤◌, ◌<◌, nat_lt, length, Some};
+ghost use Rattle.std.specs.Prelude.{◌≡◌, ℕ, ◌/◌, ◌-◌, ◌≤◌, ◌<◌, nat_lt, length, slice_index_or, Some};
 ghost use Rattle.scx_world.specs.World.{task_at, wait};
 ghost use Rattle.scx_world.specs.Waits.{first_overdue};
 
@@ -55,6 +55,7 @@ impl World {
     fn look(&mut self, limit: u64)
         ensures { self.new ≡ self.old }
     {
+        self.oldest = 0;
         let mut oldest = NEVER;
         for block in 0..BLOCKS {
             if self.is_over(self.blocks[block], limit) {
@@ -93,14 +94,17 @@ impl World {
         }
         None
     }
+}
 
-    /// Somebody of the block of that task waits since then.
-    pub(crate) fn watch(&mut self, task: u16, since: u64)
-        requires { task < length self.old.tasks }
-        ensures { self.new ≡ self.old }
-    {
-        let block = task as usize / BLOCK;
-        self.blocks[block] = cmp::min(self.blocks[block], since);
-        self.oldest = cmp::min(self.oldest, since);
-    }
+/// The task waits since then: no clock that is kept may be later.
+pub(crate) fn watch(oldest: &mut u64, blocks: &mut [u64; BLOCKS], task: u16, since: u64)
+    requires { task < 1024 }
+    ensures here { slice_index_or blocks.new (task / 32) 0 ≤ since }
+    ensures others { (b : ℕ) → slice_index_or blocks.new b 0 ≤ slice_index_or blocks.old b 0 }
+    ensures least { (b : ℕ) → b < 32 → oldest.old ≤ slice_index_or blocks.old b 0 → oldest.new ≤ slice_index_or blocks.new b 0 }
+    ensures count { length blocks.new ≡ length blocks.old }
+{
+    let block = task as usize / BLOCK;
+    blocks[block] = cmp::min(blocks[block], since);
+    *oldest = cmp::min(*oldest, since);
 }

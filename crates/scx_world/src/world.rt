@@ -13,7 +13,7 @@ use crate::faults::Fault;
 use crate::ids::{BUILTIN, GLOBAL, HELD, LOCAL_ON};
 use crate::notes::{Note, What};
 use crate::task::Task;
-use crate::watch::{BLOCKS, NEVER};
+use crate::watch::{BLOCKS, NEVER, watch};
 use scx_dsq::Queues;
 use scx_isa::{Callback, TaskId};
 use scx_vm::Argument;
@@ -124,10 +124,10 @@ impl World {
         ensures { self.new ≡ with_task self.old task facts }
     {
         if (task as usize) < self.tasks.len() {
-            self.tasks[task as usize] = facts;
             if let Some(since) = facts.since {
-                self.watch(task, since);
+                watch(&mut self.oldest, &mut self.blocks, task, since);
             }
+            self.tasks[task as usize] = facts;
         }
     }
 
