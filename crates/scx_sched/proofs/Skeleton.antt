@@ -1,5 +1,5 @@
 -- What each small step of a world keeps, callbacks, ejections and whole cycles keep.
-use Rattle.std.proofs.Common.{◌≡◌, ℕ, zero, suc, ◌+◌, ◌<◌, ◌≤◌, Bool, List, length, set, get_or, Option, Some, None, refl, arith}
+use Rattle.std.proofs.Common.{◌≡◌, ℕ, zero, suc, ◌+◌, ◌<◌, ◌≤◌, Bool, true, false, if◌then◌else◌, List, length, set, get_or, Option, Some, None, refl, arith}
 use Rattle.std.proofs.lemmas.List.{length-set, get_or-set_same}
 use Rattle.scx_dsq.specs.Queues.{front_of}
 use Rattle.scx_semantics.specs.declared.callbacks.Callback.{Callback}
@@ -86,9 +86,14 @@ module _ (n : ℕ) (I : ℕ → Option ℕ → List (Option ℕ) → WorldState 
 
     pub keeps_stopping : (s : State) (c t x : ℕ) → c < length on → I m hand on s.world → I (m + 1) hand on (stopping s c t x).state.world
     unfolding stopping
-    keeps_stopping s c t x l h =
-        let r = call_back s callback.Stopping (task_and_number t x) t c in
-        keeps_if (λ (r : Stepped). I (m + 1) hand on r.state.world) (is_ejected s) (stays (with_world s (charged s.world t))) r (k.charged m hand on s.world t h) (k.more m hand on r.state.world (keeps_call_back s callback.Stopping (task_and_number t x) t c l h))
+    keeps_stopping s c t x l h = go (is_ejected s) refl
+      where
+        r : Stepped
+        r = call_back s callback.Stopping (task_and_number t x) t c
+
+        go : (b : Bool) → is_ejected s ≡ b → I (m + 1) hand on (if b then stays (with_world s (charged s.world t)) else r).state.world
+        go true out = k.charged m hand on s.world t out h
+        go false force = k.more m hand on r.state.world (keeps_call_back s callback.Stopping (task_and_number t x) t c l h)
 
     keeps_running_on : (s : State) (c t : ℕ) → c < length on → I m hand on s.world → I m hand on (running_on s c t).state.world
     unfolding running_on

@@ -137,7 +137,7 @@ time_steps limit n = record {
   cut = λ m hand on w t h. time_same limit n w t _ refl h;
   put_builtin = λ m on w t l h. time_put_builtin limit n w t h;
   overtaken = λ m hand on w t h. h;
-  charged = λ m hand on w t h. time_same limit n w t _ refl h;
+  charged = λ m hand on w t out h. time_same limit n w t _ refl h;
 }
 
 -- ---- the clock

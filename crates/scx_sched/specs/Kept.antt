@@ -1,6 +1,6 @@
 -- What each small step of a world keeps, so that whole events keep it. The fact is one of the task that
 -- is in no place, of who runs where, and of the world.
-use Rattle.std.specs.Prelude.{◌≡◌, ℕ, ◌+◌, ◌<◌, List, length, Option, Some, None, slice_index_or, slice_set}
+use Rattle.std.specs.Prelude.{◌≡◌, ℕ, ◌+◌, ◌<◌, true, List, length, Option, Some, None, is_some, slice_index_or, slice_set}
 use Rattle.scx_dsq.specs.Queues.{front_of}
 use Rattle.scx_semantics.specs.declared.callbacks.Callback.{Callback}
 use Rattle.scx_semantics.specs.Effects.{Query}
@@ -40,4 +40,4 @@ pub record IsKeptBySteps (n : ℕ) (I : ℕ → Option ℕ → List (Option ℕ)
   pub cut : (m : ℕ) (hand : Option ℕ) (on : List (Option ℕ)) (w : WorldState) (t : ℕ) → I m hand on w → I m hand on (cut_task (Some t) w)
   pub put_builtin : (m : ℕ) (on : List (Option ℕ)) (w : WorldState) (t : ℕ) → t < n → I m (Some t) on w → I m None on (put_builtin w t)
   pub overtaken : (m : ℕ) (hand : Option ℕ) (on : List (Option ℕ)) (w : WorldState) (t : ℕ) → I m hand on w → I m hand on (overtaken w t)
-  pub charged : (m : ℕ) (hand : Option ℕ) (on : List (Option ℕ)) (w : WorldState) (t : ℕ) → I m hand on w → I (m + 1) hand on (charged w t)
+  pub charged : (m : ℕ) (hand : Option ℕ) (on : List (Option ℕ)) (w : WorldState) (t : ℕ) → is_some w.ejected ≡ true → I m hand on w → I (m + 1) hand on (charged w t)

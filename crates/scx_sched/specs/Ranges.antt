@@ -5,9 +5,8 @@ use Rattle.scx_world.specs.World.{WorldState, task_at}
 use Rattle.scx_sched.specs.Once.{IsSound}
 
 -- the built-in scheduler hasn't begun: all its times are 0
-pub record IsFresh (w : WorldState) : Type 0 where
-  pub clock : w.builtin_clock ≡ 0
-  pub tasks : (t : ℕ) → (task_at w t).builtin ≡ 0
+abbrev pub IsFresh : WorldState → Type 0
+IsFresh w = (w.builtin_clock ≡ 0) × ((t : ℕ) → (task_at w t).builtin ≡ 0)
 
 -- An event counts once among the events, and charges one task at most.
 pub record IsFine (n events charges : ℕ) (hand : Option ℕ) (on : List (Option ℕ)) (w : WorldState) : Type 0 where
