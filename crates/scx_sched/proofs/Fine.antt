@@ -150,6 +150,10 @@ module _ (e m : ℕ) where
   range_put_builtin : (w : WorldState) (t : ℕ) → IsRange e m w → IsRange e m (put_builtin w t)
   range_put_builtin w t r = keeps_if (IsRange e m) (nat_lt t (length w.tasks)) _ w (range_set w t _ (r.1 t) (omega (arith, r.2 t, r.3)) (λ force. let f = r.4 force in rw (f.0, f.1 t) refl) r) r
 
+  -- nobody uses more than a whole slice at the least weight
+  used_most : (w : WorldState) (t : ℕ) → used w t ≤ 2000000000
+  used_most w t = omega arith
+
   -- an ejected scheduler's times may grow
   range_charged : (w : WorldState) (t : ℕ) → used w t ≤ 2000000000 → (w.ejected ≡ None → ⊥) → IsRange e m w → IsRange e (m + 1) (charged w t)
   range_charged w t most out r = (
@@ -159,4 +163,24 @@ module _ (e m : ℕ) where
     omega (arith, r.3),
     λ force. absurd (out force))
 
-
+pub fine_steps : (n e : ℕ) → IsKeptBySteps n (IsFine n e)
+fine_steps n e = record {
+  more = λ m hand on w h. fine_of n e (m + 1) hand on w h.sound (h.clock, h.runs, λ t. omega (arith, h.times t), omega (arith, h.builtin_clock), h.not_yet);
+  known = λ m hand on w h. h.sound.tasks;
+  query = λ m hand on w q h. fine_of n e m hand on _ (sound_query hand on n w q h.sound) (range_query e m w q (range_of n e m hand on w h));
+  begun = λ m hand on w b t c l h. fine_of n e m hand on _ (sound_begun hand on n w b t c l h.sound) (range_of n e m hand on w h);
+  quiet = λ m hand on w h. fine_of n e m hand on _ (sound_quiet hand on n w h.sound) (range_of n e m hand on w h);
+  cycling = λ m hand on w o h. fine_of n e m hand on _ (sound_cycling hand on n w o h.sound) (range_of n e m hand on w h);
+  entered = λ m on w t i l x h. fine_of n e m None on _ (sound_entered on n w t i l x h.sound) (range_entered e m w t i (range_of n e m (Some t) on w h));
+  filled = λ m on w q c l h. fine_of n e m None on _ (sound_filled on n w q c l h.sound) (range_brought e m (fill_front w q c) w q c (range_of n e m None on w h));
+  stopped = λ m on w c t l within runs h. fine_of n e m (Some t) (set on c None) _ (sound_stopped on n w c t l within runs h.sound) (range_same e m w t _ refl refl (range_of n e m None on w h));
+  started = λ m on w c t l free front h. fine_of n e m None (set on c (Some t)) _ (sound_started on n w c t l free front h.sound) (range_same e m w t _ refl refl (range_of n e m None on w h));
+  kept = λ m on w t h. fine_of n e m None on _ (sound_kept on n w t h.sound) (range_same e m w t (renewed (task_at w t)) (renewed_run e m (task_at w t)) (renewed_time e m (task_at w t)) (range_of n e m None on w h));
+  asleep = λ m on w t l h. let r = range_of n e m (Some t) on w h in fine_of n e m None on _ (sound_asleep on n w t l h.sound) (keeps_if (IsRange e m) (nat_lt t (length w.tasks)) _ w (range_same e m w t _ refl refl r) r);
+  put_out = λ m hand on w x h. fine_of n e m hand on _ (sound_put_out hand on n w x h.sound) (h.clock, h.runs, h.times, h.builtin_clock, λ force. absurd (cc));
+  evict = λ m hand on w t l h. let r = range_of n e m hand on w h in fine_of n e m hand on _ (sound_evict hand on n w t l h.sound) (keeps_if (IsRange e m) (waits w t) (put_builtin (gone w t) t) w (range_put_builtin e m (gone w t) t r) r);
+  cut = λ m hand on w t h. fine_of n e m hand on _ (sound_cut hand on n w t h.sound) (range_same e m w t _ refl refl (range_of n e m hand on w h));
+  put_builtin = λ m on w t l h. fine_of n e m None on _ (sound_put_builtin on n w t l h.sound) (range_put_builtin e m w t (range_of n e m (Some t) on w h));
+  overtaken = λ m hand on w t h. fine_of n e m hand on _ (sound_overtaken hand on n w t h.sound) (h.clock, h.runs, h.times, omega (arith, h.builtin_clock, h.times t), λ force. let f = h.not_yet force in (rw (f.0, f.1 t) refl, f.1));
+  charged = λ m hand on w t out h. fine_of n e (m + 1) hand on _ (sound_charged hand on n w t h.sound) (range_charged e m w t (used_most e m w t) (λ force. absurd (cc)) (range_of n e m hand on w h));
+}

@@ -25,10 +25,16 @@ takes_held hand on n w t i flags x e h =
     let here = held_waits w t (held_in_dispatch w (Some t) x fit.may) in
     is_accepted (removed w.queues t) t (resolved w.call.cpu i.queue) i.rank here.free (open_removed w.queues t (resolved w.call.cpu i.queue) i.rank (fit_open on hand n w (Some t) i w.call.cpu h.here fit h))
 
-pub is_push_accepted : (n e : ℕ) → IsPushAccepted n e
-is_push_accepted n e = record {
+-- the built-in scheduler's queue takes whoever waits nowhere
+takes_builtin : (s : QueueState) (t v : ℕ) → place_of s t ≡ None → exists s builtin ≡ true → IsSorted s → push_refusal s builtin t (Vtime v) ≡ None
+takes_builtin s t v free there sorted = is_accepted s t builtin (Vtime v) free (own_open s builtin (Vtime v) there (omega arith) refl sorted)
+
+pub is_push_accepted : (n e m : ℕ) → IsPushAccepted n e m
+is_push_accepted n e m = record {
   put = λ on w t i l x h. is_accepted w.queues t i.queue i.rank (nowhere w t h.sound.once) (wanted_open on n w i (Some t) x h.sound);
   fill = λ on w q c t l x h. takes_front None on n w q c t l x h.sound;
   move = λ hand on w q t x h. takes_front hand on n w q w.call.cpu t h.sound.here x h.sound;
+  builtin = λ on w t l h. takes_builtin w.queues t (raised w t) (nowhere w t h.sound.once) h.sound.queues.builtin h.sound.sorted;
+  evict = λ hand on w t waits h. takes_builtin (removed w.queues t) t (raised w t) (removed_place w.queues t) (rw (ids_removed w.queues t) h.sound.queues.builtin) (sorted_removed w.queues t h.sound.sorted);
   release = λ hand on w t i flags x e h. takes_held hand on n w t i flags x e h.sound;
 }
