@@ -1,16 +1,18 @@
 -- Each push that the machine makes is accepted.
-use Rattle.std.proofs.Common.{arith, ◌≡◌, ℕ, ◌<◌, true, List, length, Option, Some, None}
-use Rattle.scx_dsq.specs.Queues.{front_of}
+use Rattle.std.proofs.Common.{arith, ◌≡◌, ℕ, ◌<◌, true, List, length, Option, Some, None, refl}
+use Rattle.scx_dsq.specs.Queues.{QueueState, exists, place_of, front_of}
+use Rattle.scx_dsq.specs.Facts.{ids_removed}
 use Rattle.scx_dsq.specs.Calls.{push_refusal, popped, removed}
-use Rattle.scx_dsq.specs.declared.places.Rank.TheVariants.{Fifo}
-use Rattle.scx_world.specs.Ids.{local_on}
+use Rattle.scx_dsq.specs.declared.places.Rank.TheVariants.{Fifo, Vtime}
+use Rattle.scx_world.specs.Ids.{builtin, local_on}
 use Rattle.scx_world.specs.World.{WorldState}
 use Rattle.scx_world.specs.declared.call.Insert.{Insert}
 use Rattle.scx_world.specs.Tasks.{resolved}
 use Rattle.scx_world.specs.Helpers.{is_dispatch, insert_fault}
 use Rattle.scx_sched.specs.Accepted.{IsPushAccepted}
-use Rattle.scx_sched.specs.Once.{IsSound}
-use Rattle.scx_sched.proofs.Entering.{nowhere, own_open, is_accepted, sorted_popped, stay_without, open_removed, local_sort}
+use Rattle.scx_world.specs.Ejecting.{raised}
+use Rattle.scx_sched.specs.Once.{IsSorted, IsSound}
+use Rattle.scx_sched.proofs.Entering.{nowhere, own_open, is_accepted, sorted_popped, sorted_removed, stay_without, open_removed, local_sort}
 use Rattle.scx_sched.proofs.Sound.{left_place, is_fit, fit_open, held_waits, held_in_dispatch, wanted_open}
 
 takes_front : (hand : Option ℕ) (on : List (Option ℕ)) (n : ℕ) (w : WorldState) (q c t : ℕ) → c < length on → front_of w.queues q ≡ Some t → IsSound hand on n w → push_refusal (popped w.queues q) (local_on c) t Fifo ≡ None
