@@ -44,6 +44,8 @@ impl Sink for Notes {
             What::Idle(cpu) => 6 + u64::from(cpu),
             What::Sleep(task) => 7 + u64::from(task),
             What::Weight(group, weight) => 8 + u64::from(group) + u64::from(weight),
+            What::Stall(task) => 9 + u64::from(task),
+            What::Fault(fault) => 10 + u64::from(fault.code()),
         };
         self.sum = (self.sum.wrapping_mul(31))
             .wrapping_add(note.clock)

@@ -14,7 +14,7 @@ use Rattle.scx_sched.specs.Sim.{SimState, max_events, refusal, stepped, stepped_
 use Rattle.scx_driver.specs.Runs.{stepped_all, AreAccepted}
 use Rattle.scx_driver.specs.Blocks.{events_below}
 use Rattle.scx_driver.proofs.Alike.{IsLike}
-use Rattle.scx_driver.proofs.Happening.{like_tick, like_wake, like_sleep, others_stay}
+use Rattle.scx_driver.proofs.Happening.{like_clock, like_tick, like_wake, like_sleep, others_stay}
 
 -- ---- lists, one behind another
 
@@ -111,7 +111,7 @@ module _ (n c g e : ℕ) where
   pub clock_leads : (s : SimState) → e < max_events → IsOf n c g e s → (refusal s Clock ≡ None) × IsOf n c g (e + 1) (stepped s Clock)
   clock_leads s few h =
       let x : Goes Clock s = goes Clock s (omega (arith, few, h.events)) refl in
-      (x.accepted, is_of s.state.world.tree Clock s h.groups x (like_now s h) h.events)
+      (x.accepted, is_of s.state.world.tree Clock s h.groups x (like_clock s.state.world.tree n c s.state (like_now s h)) h.events)
 
   -- a group may get a weight
   pub weight_leads : (s : SimState) (k y : ℕ) → e < max_events → k < g → 1 ≤ y → y ≤ 10000 → IsOf n c g e s → (refusal s (SetWeight k y) ≡ None) × IsOf n c g (e + 1) (stepped s (SetWeight k y))

@@ -23,16 +23,19 @@ use Rattle.scx_world.specs.declared.call.Insert.{Insert}
 use Rattle.scx_world.specs.declared.task.Task.{Task}
 use Rattle.scx_world.specs.declared.faults.Fault.{Fault}
 use Rattle.scx_world.specs.declared.faults.Fault.TheVariants.{NoSuchQueue, NoSuchCpu, CannotCreate}
-use Rattle.scx_world.specs.Ids.{global, local_on}
-use Rattle.scx_world.specs.World.{WorldState, with_queues, with_task, task_at, begun}
+use Rattle.scx_world.specs.Ids.{global, builtin, local_on}
+use Rattle.scx_world.specs.World.{WorldState, with_queues, with_task, task_at, waits, running, begun}
 use Rattle.scx_world.specs.Tasks.{gone, entered, for_cpu, brought, fill_front, stopped, started_at}
 use Rattle.scx_world.specs.Helpers.{is_there, can_create, faulted, is_dispatch, insert_fault, with_insert, released, inserted, asked, asked_by_vtime, can_move, moved, given_number, given_task, helper_after, stored_in, world_functions}
-use Rattle.scx_machine.specs.Policy.{PolicyState, program_of}
-use Rattle.scx_machine.specs.Steps.{State, Stepped, joined, with_world}
-use Rattle.scx_machine.specs.Callbacks.{called, call_back, ended, no_arguments, one_task, task_and_number, cpu_and_task}
-use Rattle.scx_machine.specs.Put.{enters, wanted, put}
+use Rattle.scx_machine.specs.Policy.{PolicyState}
+use Rattle.scx_world.specs.declared.eject.Eject.{Eject}
+use Rattle.scx_world.specs.Ejecting.{put_out, put_builtin, evicted, cut, cut_task, charged, overtaken}
+use Rattle.scx_machine.specs.Steps.{State, Stepped, joined, stays, with_world, is_ejected}
+use Rattle.scx_machine.specs.Ejecting.{moves_over, eject, ejected_for}
+use Rattle.scx_machine.specs.Callbacks.{called, acting, fault_of, call_back, ended, no_arguments, one_task, task_and_number, cpu_and_task}
+use Rattle.scx_machine.specs.Put.{enters, wanted, enters_builtin, comes_in, put}
 use Rattle.scx_machine.specs.Events.{settled}
-use Rattle.scx_machine.specs.Cycle.{has_local, fill, dispatched, asks_again, tries, leave, started_if, start as run_front, pick, rest, pick_or_rest, ask, seek, cycling, cycle}
+use Rattle.scx_machine.specs.Cycle.{has_local, fill, dispatched, asks_again, tries, stopping, running_on, leave, started_if, start as run_front, rest, swap, swap_or_rest, builtin_ask, builtin_cycle, start_or_cycle, pick, pick_or_rest, conclude, ask, seek, look, cycling, cycle}
 use Rattle.scx_machine.specs.Start.{blank, init_ending, bad_answer, ok_unless, initialized, enable_ending, has_failed, enable, then_enable, enabled, ok_if, all_enabled, started}
 
 -- what both keep, a choice of them keeps
@@ -92,6 +95,37 @@ module _ (h : Hierarchy) (n c : ℕ) where
   like_started : (w : WorldState) (d t : ℕ) → IsLike h n c w → IsLike h n c (started_at (Some t) w d)
   like_started w d t i = (i.0, length-set w.tasks t _ ∙ i.1, length-set w.cpus d (Some t) ∙ i.2)
 
+  -- ---- an ejection
+
+  like_put_builtin : (w : WorldState) (t : ℕ) → IsLike h n c w → IsLike h n c (put_builtin w t)
+  like_put_builtin w t i = keeps_if (IsLike h n c) (nat_lt t (length w.tasks)) _ w (like_task w t _ i) i
+
+  like_evicted : (j : ℕ) (w : WorldState) → IsLike h n c w → IsLike h n c (evicted j w)
+  like_evicted zero w i = i
+  like_evicted (suc j) w i =
+      let v = evicted j w in
+      let x = like_evicted j w i in
+      keeps_if (IsLike h n c) (waits v j) (put_builtin (gone v j) j) v (like_put_builtin (gone v j) j x) x
+
+  like_cut_task : (o : Option ℕ) (w : WorldState) → IsLike h n c w → IsLike h n c (cut_task o w)
+  like_cut_task None w i = i
+  like_cut_task (Some t) w i = like_task w t _ i
+
+  like_cut : (j : ℕ) (w : WorldState) → IsLike h n c w → IsLike h n c (cut j w)
+  like_cut zero w i = i
+  like_cut (suc j) w i = like_cut_task (running (cut j w) j) (cut j w) (like_cut j w i)
+
+  pub like_eject : (s : State) (x : Eject) → IsLike h n c s.world → IsLike h n c (eject s x).state.world
+  unfolding eject moves_over
+  like_eject s x i =
+      let w = put_out s.world x in
+      let v = evicted (length w.tasks) w in
+      like_cut (length v.cpus) v (like_evicted (length w.tasks) w (i.0, i.1, i.2))
+
+  like_ejected_for : (o : Option Fault) (s : State) → IsLike h n c s.world → IsLike h n c (ejected_for o s).state.world
+  like_ejected_for None s i = i
+  like_ejected_for (Some f) s i = like_eject s _ i
+
   -- ---- callbacks
 
   like_called : (p : Option VerifiedProgram) (b : Callback) (a : Arguments) (maps : Maps) (w : WorldState) → IsLike h n c w → IsLike h n c (called p b a maps w).outside
@@ -103,16 +137,33 @@ module _ (h : Hierarchy) (n c : ℕ) where
   -- a callback
   pub like_call_back : (s : State) (b : Callback) (a : Arguments) (t d : ℕ) → IsLike h n c s.world → IsLike h n c (call_back s b a t d).state.world
   unfolding call_back
-  like_call_back s b a t d i = like_called (program_of s.policy b) b a s.maps (begun s.world b t d) i
+  like_call_back s b a t d i =
+      let e = called (acting s b) b a s.maps (begun s.world b t d) in
+      like_ejected_for (fault_of b e) (ended s.policy e) (like_called (acting s b) b a s.maps (begun s.world b t d) i)
 
   -- ---- a cycle
 
-  -- a task that is put
+  pub like_stopping : (s : State) (d t x : ℕ) → IsLike h n c s.world → IsLike h n c (stopping s d t x).state.world
+  unfolding stopping
+  like_stopping s d t x i =
+      keeps_if (λ (r : Stepped). IsLike h n c r.state.world) (is_ejected s) (stays (with_world s (charged s.world t))) (call_back s callback.Stopping (task_and_number t x) t d) (like_task s.world t _ i) (like_call_back s callback.Stopping (task_and_number t x) t d i)
+
+  like_running_on : (s : State) (d t : ℕ) → IsLike h n c s.world → IsLike h n c (running_on s d t).state.world
+  unfolding running_on
+  like_running_on s d t i =
+      keeps_if (λ (r : Stepped). IsLike h n c r.state.world) (is_ejected s) (stays (with_world s (overtaken s.world t))) (call_back s callback.Running (one_task t) t d) i (like_call_back s callback.Running (one_task t) t d i)
+
+  like_comes_in : (s : State) (t d : ℕ) → IsLike h n c s.world → IsLike h n c (comes_in s t d).state.world
+  unfolding comes_in enters enters_builtin
+  like_comes_in s t d i =
+      let k = wanted s.policy.callbacks.enqueue d s.world.call.insert in
+      keeps_if (λ (r : Stepped). IsLike h n c r.state.world) (is_ejected s) (enters_builtin s t) (enters s t k) (like_put_builtin s.world t i) (like_entered s.world t k i)
+
   pub like_put : (s : State) (t d flags : ℕ) → IsLike h n c s.world → IsLike h n c (put s t d flags).state.world
-  unfolding put enters
+  unfolding put
   like_put s t d flags i =
       let r = call_back s callback.Enqueue (task_and_number t flags) t d in
-      like_entered r.state.world t (wanted r.state.policy.callbacks.enqueue d r.state.world.call.insert) (like_call_back s callback.Enqueue (task_and_number t flags) t d i)
+      like_comes_in r.state t d (like_call_back s callback.Enqueue (task_and_number t flags) t d i)
 
   -- an insert of select_cpu
   pub like_settled : (o : Option Insert) (s : State) (t d : ℕ) → IsLike h n c s.world → IsLike h n c (settled o s t d).state.world
@@ -142,7 +193,7 @@ module _ (h : Hierarchy) (n c : ℕ) where
     where
       go : (o : Option ℕ) → IsLike h n c (started_if o s d).state.world
       go None = i
-      go (Some t) = like_call_back (with_world s (started_at (Some t) s.world d)) callback.Running (one_task t) t d (like_started s.world d t i)
+      go (Some t) = like_running_on (with_world s (started_at (Some t) s.world d)) d t (like_started s.world d t i)
 
   like_rest : (s : State) (d : ℕ) (p : Option ℕ) (ran : Bool) → IsLike h n c s.world → IsLike h n c (rest s d p ran).state.world
   unfolding rest
@@ -153,32 +204,59 @@ module _ (h : Hierarchy) (n c : ℕ) where
   unfolding leave
   like_leave s d None i = i
   like_leave s d (Some t) i =
-      let r = call_back (with_world s (stopped s.world d t)) callback.Stopping (task_and_number t 1) t d in
-      like_put r.state t d 0 (like_call_back (with_world s (stopped s.world d t)) callback.Stopping (task_and_number t 1) t d (like_stopped s.world d t i))
+      let off = with_world s (stopped s.world d t) in
+      like_put (stopping off d t 1).state t d 0 (like_stopping off d t 1 (like_stopped s.world d t i))
 
-  like_pick : (s : State) (d : ℕ) (p : Option ℕ) → IsLike h n c s.world → IsLike h n c (pick s d p).state.world
+  like_swap : (s : State) (d : ℕ) (p : Option ℕ) → IsLike h n c s.world → IsLike h n c (swap s d p).state.world
+  unfolding swap
+  like_swap s d p i = like_start (leave s d p).state d (like_leave s d p i)
+
+  like_builtin_cycle : (s : State) (d : ℕ) (p : Option ℕ) (ran : Bool) → IsLike h n c s.world → IsLike h n c (builtin_cycle s d p ran).state.world
+  unfolding builtin_cycle builtin_ask swap_or_rest
+  like_builtin_cycle s d p ran i =
+      let f = fill s global d in
+      let g = fill f.state builtin d in
+      let x : IsLike h n c g.state.world = like_fill f.state builtin d (like_fill s global d i) in
+      keeps_if (λ (r : Stepped). IsLike h n c r.state.world) (has_local g.state d) (swap g.state d p) (rest g.state d p ran) (like_swap g.state d p x) (like_rest g.state d p ran x)
+
+  like_start_or_cycle : (s : State) (d : ℕ) (ran : Bool) → IsLike h n c s.world → IsLike h n c (start_or_cycle s d ran).state.world
+  unfolding start_or_cycle
+  like_start_or_cycle s d ran i =
+      keeps_if (λ (r : Stepped). IsLike h n c r.state.world) (has_local s d) (run_front s d) (builtin_cycle s d None ran) (like_start s d i) (like_builtin_cycle s d None ran i)
+
+  like_pick : (s : State) (d : ℕ) (p : Option ℕ) (ran : Bool) → IsLike h n c s.world → IsLike h n c (pick s d p ran).state.world
   unfolding pick
-  like_pick s d p i = like_start (leave s d p).state d (like_leave s d p i)
+  like_pick s d p ran i = like_start_or_cycle (leave s d p).state d ran (like_leave s d p i)
 
   like_pick_or_rest : (s : State) (d : ℕ) (p : Option ℕ) (ran : Bool) → IsLike h n c s.world → IsLike h n c (pick_or_rest s d p ran).state.world
   unfolding pick_or_rest
-  like_pick_or_rest s d p ran i = keeps_if (λ (r : Stepped). IsLike h n c r.state.world) (has_local s d) (pick s d p) (rest s d p ran) (like_pick s d p i) (like_rest s d p ran i)
+  like_pick_or_rest s d p ran i = keeps_if (λ (r : Stepped). IsLike h n c r.state.world) (has_local s d) (pick s d p ran) (rest s d p ran) (like_pick s d p ran i) (like_rest s d p ran i)
+
+  like_conclude : (s : State) (d : ℕ) (p : Option ℕ) (ran : Bool) → IsLike h n c s.world → IsLike h n c (conclude s d p ran).state.world
+  unfolding conclude
+  like_conclude s d p ran i =
+      keeps_if (λ (r : Stepped). IsLike h n c r.state.world) (is_ejected s) (builtin_cycle s d p ran) (pick_or_rest s d p ran) (like_builtin_cycle s d p ran i) (like_pick_or_rest s d p ran i)
 
   like_ask : (s : State) (d : ℕ) (p : Option ℕ) (ran : Bool) → IsLike h n c s.world → IsLike h n c (ask s d p ran).state.world
   unfolding ask
-  like_ask s d p ran i = like_pick_or_rest (tries 32 s d p).state d p ran (like_tries 32 s d p i)
+  like_ask s d p ran i = like_conclude (tries 32 s d p).state d p ran (like_tries 32 s d p i)
 
   like_seek : (s : State) (d : ℕ) (p : Option ℕ) (ran : Bool) → IsLike h n c s.world → IsLike h n c (seek s d p ran).state.world
   unfolding seek
   like_seek s d p ran i =
       let f = fill s global d in
       let x : IsLike h n c f.state.world = like_fill s global d i in
-      keeps_if (λ (r : Stepped). IsLike h n c r.state.world) (has_local f.state d) (pick f.state d p) (ask f.state d p ran) (like_pick f.state d p x) (like_ask f.state d p ran x)
+      keeps_if (λ (r : Stepped). IsLike h n c r.state.world) (has_local f.state d) (pick f.state d p ran) (ask f.state d p ran) (like_pick f.state d p ran x) (like_ask f.state d p ran x)
+
+  like_look : (s : State) (d : ℕ) (p : Option ℕ) (ran : Bool) → IsLike h n c s.world → IsLike h n c (look s d p ran).state.world
+  unfolding look
+  like_look s d p ran i =
+      keeps_if (λ (r : Stepped). IsLike h n c r.state.world) (is_ejected s) (builtin_cycle s d p ran) (seek s d p ran) (like_builtin_cycle s d p ran i) (like_seek s d p ran i)
 
   -- a whole cycle
   pub like_cycle : (s : State) (d : ℕ) (p : Option ℕ) (ran : Bool) → IsLike h n c s.world → IsLike h n c (cycle s d p ran).state.world
   unfolding cycle
-  like_cycle s d p ran i = let x = like_seek (cycling s (Some d)) d p ran (i.0, i.1, i.2) in (x.0, x.1, x.2)
+  like_cycle s d p ran i = let x = like_look (cycling s (Some d)) d p ran (i.0, i.1, i.2) in (x.0, x.1, x.2)
 
   -- ---- init and enable
 
@@ -193,7 +271,7 @@ module _ (h : Hierarchy) (n c : ℕ) where
   like_initialized s t e i = go (bad_answer (init_ending s).outside.call.fault (init_ending s).answer) e
     where
       after : IsLike h n c (ended s.policy (init_ending s)).world
-      after = like_called (program_of s.policy callback.Init) callback.Init no_arguments s.maps (begun s.world callback.Init 0 0) i
+      after = like_called (acting s callback.Init) callback.Init no_arguments s.maps (begun s.world callback.Init 0 0) i
 
       go : (o : Option ℤ) → ok_unless o (ended s.policy (init_ending s)) ≡ Ok t → IsLike h n c t.world
       go None e = subst (λ (x : State). IsLike h n c x.world) (same_ok _ _ e) after
@@ -204,7 +282,7 @@ module _ (h : Hierarchy) (n c : ℕ) where
   like_enabled_one s t k e i = go (has_failed (enable_ending s k)) e
     where
       after : IsLike h n c (ended s.policy (enable_ending s k)).world
-      after = like_called (program_of s.policy callback.Enable) callback.Enable (one_task k) s.maps (begun s.world callback.Enable k 0) i
+      after = like_called (acting s callback.Enable) callback.Enable (one_task k) s.maps (begun s.world callback.Enable k 0) i
 
       go : (b : Bool) → cond b None (Some (ended s.policy (enable_ending s k))) ≡ Some t → IsLike h n c t.world
       go true e = absurd (cc)

@@ -6,12 +6,12 @@ use Rattle.scx_semantics.specs.declared.callbacks.Callback.TheVariants as callba
 use Rattle.scx_weights.specs.Hierarchy.{Hierarchy, is_active_task, with_weight}
 use Rattle.scx_weights.specs.Hierarchy as tree
 use Rattle.scx_world.specs.World.{WorldState, running, cpu_of, is_idle, task_at}
-use Rattle.scx_world.specs.Tasks.{woken, asleep, gone, stopped, ran_a_tick, ticked}
+use Rattle.scx_world.specs.Tasks.{woken, asleep, gone, stopped, ran_a_tick, ticked, later}
 use Rattle.scx_machine.specs.Steps.{State, Stepped, with_world, stays, joined}
-use Rattle.scx_machine.specs.Callbacks.{call_back, answered_by, task_cpu_and_0, task_and_number}
-use Rattle.scx_machine.specs.Cycle.{cycle}
-use Rattle.scx_machine.specs.Events.{target, settled, settle, select, wake, sleep_from_cpu, sleep_from, sleep, count_down, tick_of, tick}
-use Rattle.scx_driver.proofs.Alike.{keeps_if, IsLike, like_call_back, like_settled, like_cycle}
+use Rattle.scx_machine.specs.Callbacks.{acting, call_back, answered_by, task_cpu_and_0}
+use Rattle.scx_machine.specs.Cycle.{stopping, cycle}
+use Rattle.scx_machine.specs.Events.{target, settled, settle, select, wake, sleep_from_cpu, sleep_from, sleep, count_down, tick_of, tick, overdue, stalled, clock}
+use Rattle.scx_driver.proofs.Alike.{keeps_if, IsLike, like_eject, like_call_back, like_stopping, like_settled, like_cycle}
 
 like_settle : (h : Hierarchy) (n c : ℕ) (s : State) (t d : ℕ) → IsLike h n c s.world → IsLike h n c (settle s t d).state.world
 unfolding settle
@@ -25,7 +25,7 @@ unfolding select
 like_select h n c s t i =
     let d = (task_at s.world t).prev_cpu in
     let r = call_back s callback.SelectCpu (task_cpu_and_0 t d) t d in
-    like_settle h n c r.state t (target r.state.policy.callbacks.select_cpu r.state.world t (answered_by s callback.SelectCpu (task_cpu_and_0 t d) t d)) (like_call_back h n c s callback.SelectCpu (task_cpu_and_0 t d) t d i)
+    like_settle h n c r.state t (target (acting r.state callback.SelectCpu) r.state.world t (answered_by s callback.SelectCpu (task_cpu_and_0 t d) t d)) (like_call_back h n c s callback.SelectCpu (task_cpu_and_0 t d) t d i)
 
 module _ (h : Hierarchy) (n c : ℕ) where
   -- a tick changes neither
@@ -54,13 +54,14 @@ module _ (h : Hierarchy) (n c : ℕ) where
 
   -- a task that sleeps isn't
   like_asleep : (w : WorldState) (t : ℕ) → t < n → IsLike h n c w → IsLike (tree.with_task h t false) n c (asleep w t)
-  like_asleep w t l i = rw (lt-ltb t (length w.tasks) (omega (arith, l, i.1))) (ap (λ x. tree.with_task x t false) i.0, i.1, i.2)
+  like_asleep w t l i = rw (lt-ltb t (length w.tasks) (omega (arith, l, i.1))) (ap (λ x. tree.with_task x t false) i.0, length-set w.tasks t _ ∙ i.1, i.2)
 
   like_sleep_from_cpu : (s : State) (t d : ℕ) → t < n → IsLike h n c s.world → IsLike (tree.with_task h t false) n c (sleep_from_cpu s t d).state.world
   unfolding sleep_from_cpu
   like_sleep_from_cpu s t d l i =
-      let r = call_back (with_world s (stopped s.world d t)) callback.Stopping (task_and_number t 0) t d in
-      let x : IsLike h n c r.state.world = like_call_back h n c (with_world s (stopped s.world d t)) callback.Stopping (task_and_number t 0) t d (i.0, length-set s.world.tasks t _ ∙ i.1, length-set s.world.cpus d None ∙ i.2) in
+      let off = with_world s (stopped s.world d t) in
+      let r = stopping off d t 0 in
+      let x : IsLike h n c r.state.world = like_stopping h n c off d t 0 (i.0, length-set s.world.tasks t _ ∙ i.1, length-set s.world.cpus d None ∙ i.2) in
       like_cycle (tree.with_task h t false) n c (with_world r.state (asleep r.state.world t)) d None true (like_asleep r.state.world t l x)
 
   -- a task that sleeps is no longer active
@@ -71,6 +72,15 @@ module _ (h : Hierarchy) (n c : ℕ) where
       go : (o : Option ℕ) → IsLike (tree.with_task h t false) n c (sleep_from o s t).state.world
       go None = like_asleep (gone s.world t) t l i
       go (Some d) = like_sleep_from_cpu s t d l i
+
+module _ (h : Hierarchy) (n c : ℕ) where
+  like_stalled : (o : Option ℕ) (s : State) → IsLike h n c s.world → IsLike h n c (stalled o s).state.world
+  like_stalled None s i = i
+  like_stalled (Some t) s i = like_eject h n c s _ i
+
+  pub like_clock : (s : State) → IsLike h n c s.world → IsLike h n c (clock s).state.world
+  unfolding clock
+  like_clock s i = let v = with_world s (later s.world) in like_stalled (overdue v) v (i.0, i.1, i.2)
 
 -- whether other tasks are active stays
 pub others_stay : (h : Hierarchy) (t u : ℕ) (on : Bool) → (u ≡ t → ⊥) → is_active_task (tree.with_task h t on) u ≡ is_active_task h u

@@ -2,3 +2,4 @@ pub mod Taking
 pub mod Tries
 pub mod Active
 pub mod Enabling
+pub mod Evicting

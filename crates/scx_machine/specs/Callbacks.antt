@@ -1,6 +1,7 @@
 -- A callback is run, and what follows it.
-use Rattle.std.specs.Prelude.{ℕ, ⊤, ◌≤◌, List, [], ◌∷◌, Option, Some, None}
+use Rattle.std.specs.Prelude.{ℕ, ⊤, ◌≤◌, nat_lt, List, [], ◌∷◌, length, if◌then◌else◌, Option, Some, None}
 use Rattle.scx_semantics.specs.declared.callbacks.Callback.{Callback}
+use Rattle.scx_semantics.specs.declared.callbacks.Callback.TheVariants as callback
 use Rattle.scx_semantics.specs.Elements.{Maps}
 use Rattle.scx_semantics.specs.Code.{instruction_count}
 use Rattle.scx_semantics.specs.Endings.{Ending, run_of}
@@ -11,10 +12,14 @@ use Rattle.scx_vm.specs.declared.arguments.Argument.TheVariants.{Unset, Number}
 use Rattle.scx_vm.specs.declared.arguments.Arguments.{Arguments}
 use Rattle.scx_vm.specs.Arguments.{given}
 use Rattle.scx_vm.specs.Host.{host, answer_to, after_query}
+use Rattle.scx_world.specs.declared.eject.Eject.{Eject}
+use Rattle.scx_world.specs.declared.faults.Fault.{Fault}
+use Rattle.scx_world.specs.declared.faults.Fault.TheVariants.{Stuck, NoSuchCpu}
 use Rattle.scx_world.specs.World.{WorldState, begun, quiet}
-use Rattle.scx_world.specs.Helpers.{pointed, world_functions}
+use Rattle.scx_world.specs.Helpers.{or_fault, pointed, world_functions}
 use Rattle.scx_machine.specs.Policy.{PolicyState, program_of}
-use Rattle.scx_machine.specs.Steps.{State, CallMade, Stepped}
+use Rattle.scx_machine.specs.Steps.{State, CallMade, Stepped, joined}
+use Rattle.scx_machine.specs.Ejecting.{ejected_for}
 
 -- the program is run with the world as its outside; one that is absent does nothing, and answers 0
 unfoldable pub called : Option VerifiedProgram → Callback → Arguments → Maps → WorldState → Ending WorldState
@@ -30,17 +35,43 @@ abbrev pub calls_of : Option VerifiedProgram → Arguments → Maps → WorldSta
 calls_of None a maps w = []
 calls_of (Some p) a maps w = record { program = p; arguments = a; maps = maps; world = w } ∷ []
 
--- a callback of the policy, with that task and processor at hand
+-- ---- what is wrong with a callback
+
+-- select_cpu answers a processor
+abbrev pub answer_fault : Callback → WorldState → ℕ → Option Fault
+answer_fault callback.SelectCpu w n = if nat_lt n (length w.cpus) then None else Some NoSuchCpu
+answer_fault b w n = None
+
+-- one that comes to no answer is stuck
+abbrev pub end_fault : Callback → WorldState → Option ℕ → Option Fault
+end_fault b w None = Some Stuck
+end_fault b w (Some n) = answer_fault b w n
+
+-- the first fault of its helper calls; where there is none, that of its end
+abbrev pub fault_of : Callback → Ending WorldState → Option Fault
+fault_of b e = or_fault e.outside.call.fault (end_fault b e.outside e.answer)
+
+-- ---- a callback of the policy
+
+abbrev pub unless_ejected : Option Eject → Option VerifiedProgram → Option VerifiedProgram
+unless_ejected None p = p
+unless_ejected (Some x) p = None
+
+-- its program, while the policy is in force
+abbrev pub acting : State → Callback → Option VerifiedProgram
+acting s b = unless_ejected s.world.ejected (program_of s.policy b)
+
+-- with that task and processor at hand; where it had a fault the policy is ejected as it ends
 unfoldable pub call_back : State → Callback → Arguments → ℕ → ℕ → Stepped
 call_back s b a t c =
-    let p = program_of s.policy b in
+    let p = acting s b in
     let w = begun s.world b t c in
     let e = called p b a s.maps w in
-    record { state = ended s.policy e; notes = e.outside.notes; calls = calls_of p a s.maps w }
+    joined (record { state = ended s.policy e; notes = e.outside.notes; calls = calls_of p a s.maps w }) (ejected_for (fault_of b e) (ended s.policy e))
 
 -- what it answers, if it comes to an answer
 unfoldable pub answered_by : State → Callback → Arguments → ℕ → ℕ → Option ℕ
-answered_by s b a t c = (called (program_of s.policy b) b a s.maps (begun s.world b t c)).answer
+answered_by s b a t c = (called (acting s b) b a s.maps (begun s.world b t c)).answer
 
 -- a callback that is called is never stuck: it comes to an answer, in no more steps than its program has
 -- instructions

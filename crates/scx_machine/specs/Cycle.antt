@@ -5,10 +5,11 @@ use Rattle.scx_dsq.specs.Queues.{front_of}
 use Rattle.scx_semantics.specs.declared.callbacks.Callback.TheVariants as callback
 use Rattle.scx_world.specs.declared.notes.Note.{Note}
 use Rattle.scx_world.specs.declared.notes.What.TheVariants.{Move, Stop, Run, Idle}
-use Rattle.scx_world.specs.Ids.{global, local_on}
+use Rattle.scx_world.specs.Ids.{global, builtin, local_on}
 use Rattle.scx_world.specs.World.{WorldState, with_cycling, said}
 use Rattle.scx_world.specs.Tasks.{local_len, fill_front, filled, stopped, started_at, kept}
-use Rattle.scx_machine.specs.Steps.{State, Stepped, with_world, stays, after, joined}
+use Rattle.scx_world.specs.Ejecting.{overtaken, charged}
+use Rattle.scx_machine.specs.Steps.{State, Stepped, with_world, stays, after, joined, is_ejected}
 use Rattle.scx_machine.specs.Callbacks.{call_back, one_task, task_and_number, cpu_and_task}
 use Rattle.scx_machine.specs.Put.{put}
 
@@ -34,34 +35,40 @@ dispatched s c p =
 abbrev pub asks_again : State → ℕ → Bool
 asks_again s c = (local_len s.world c == 0) && s.world.call.has_moved
 
--- at most so many calls, as long as the local queue is empty and the last one moved something
+-- at most so many calls, as long as the local queue is empty and the last one moved something; an ejection
+-- forgets what was moved
 unfoldable pub tries : ℕ → State → ℕ → Option ℕ → Stepped
 tries zero s c p = stays s
 tries (suc n) s c p =
     let d = dispatched s c p in
     if asks_again d.state c then joined d (tries n d.state c p) else d
 
--- ---- pick
+-- ---- on and off a processor
+
+-- once a task has left its processor; the number says whether it stays runnable
+unfoldable pub stopping : State → ℕ → ℕ → ℕ → Stepped
+stopping s c t n = if is_ejected s then stays (with_world s (charged s.world t)) else call_back s callback.Stopping (task_and_number t n) t c
+
+-- once a task has come to its processor
+unfoldable pub running_on : State → ℕ → ℕ → Stepped
+running_on s c t = if is_ejected s then stays (with_world s (overtaken s.world t)) else call_back s callback.Running (one_task t) t c
 
 -- the task before leaves the processor, and is put
 unfoldable pub leave : State → ℕ → Option ℕ → Stepped
 leave s c None = stays s
 leave s c (Some t) =
-    let r = call_back (with_world s (stopped s.world c t)) callback.Stopping (task_and_number t 1) t c in
+    let r = stopping (with_world s (stopped s.world c t)) c t 1 in
     after (said s.world (Stop t c) ∷ []) (joined r (put r.state t c 0))
 
 abbrev pub started_if : Option ℕ → State → ℕ → Stepped
 started_if None s c = stays s
-started_if (Some t) s c = after (said s.world (Run t c) ∷ []) (call_back (with_world s (started_at (Some t) s.world c)) callback.Running (one_task t) t c)
+started_if (Some t) s c = after (said s.world (Run t c) ∷ []) (running_on (with_world s (started_at (Some t) s.world c)) c t)
 
 -- the front of the local queue runs
 unfoldable pub start : State → ℕ → Stepped
 start s c = started_if (front_of s.world.queues (local_on c)) s c
 
-unfoldable pub pick : State → ℕ → Option ℕ → Stepped
-pick s c p = let l = leave s c p in joined l (start l.state c)
-
--- ---- cycle
+-- ---- rest
 
 abbrev pub idle_note : WorldState → Option ℕ → Bool → ℕ → List Note
 idle_note w None true c = said w (Idle c) ∷ []
@@ -72,19 +79,55 @@ idle_note w (Some t) ran c = []
 unfoldable pub rest : State → ℕ → Option ℕ → Bool → Stepped
 rest s c p ran = record { state = with_world s (kept s.world p); notes = idle_note s.world p ran c; calls = [] }
 
+-- ---- the built-in scheduler
+
+-- the front of the local queue runs in the place of the task before
+unfoldable pub swap : State → ℕ → Option ℕ → Stepped
+swap s c p = let l = leave s c p in joined l (start l.state c)
+
+unfoldable pub swap_or_rest : State → ℕ → Option ℕ → Bool → Stepped
+swap_or_rest s c p ran = if has_local s c then swap s c p else rest s c p ran
+
+-- its dispatch: the front of its queue comes to the local queue
+unfoldable pub builtin_ask : State → ℕ → Option ℕ → Bool → Stepped
+builtin_ask s c p ran = let f = fill s builtin c in joined f (swap_or_rest f.state c p ran)
+
+unfoldable pub builtin_cycle : State → ℕ → Option ℕ → Bool → Stepped
+builtin_cycle s c p ran = let f = fill s global c in joined f (builtin_ask f.state c p ran)
+
+-- ---- the policy
+
+-- the local queue is empty only where an ejection emptied it; then the cycle begins anew
+unfoldable pub start_or_cycle : State → ℕ → Bool → Stepped
+start_or_cycle s c ran = if has_local s c then start s c else builtin_cycle s c None ran
+
+-- the front of the local queue runs in the place of the task before, of which a callback may eject the
+-- policy
+unfoldable pub pick : State → ℕ → Option ℕ → Bool → Stepped
+pick s c p ran = let l = leave s c p in joined l (start_or_cycle l.state c ran)
+
 unfoldable pub pick_or_rest : State → ℕ → Option ℕ → Bool → Stepped
-pick_or_rest s c p ran = if has_local s c then pick s c p else rest s c p ran
+pick_or_rest s c p ran = if has_local s c then pick s c p ran else rest s c p ran
+
+-- once dispatch was asked; where it ejected the policy, the cycle begins anew
+unfoldable pub conclude : State → ℕ → Option ℕ → Bool → Stepped
+conclude s c p ran = if is_ejected s then builtin_cycle s c p ran else pick_or_rest s c p ran
 
 -- where neither the local queue nor that of all processors has a task, dispatch is asked
 unfoldable pub ask : State → ℕ → Option ℕ → Bool → Stepped
-ask s c p ran = let d = tries 32 s c p in joined d (pick_or_rest d.state c p ran)
+ask s c p ran = let d = tries 32 s c p in joined d (conclude d.state c p ran)
 
 -- of a processor on which that task ran and may stay, or none; `ran` says whether any ran there as the
 -- event began
 unfoldable pub seek : State → ℕ → Option ℕ → Bool → Stepped
 seek s c p ran =
     let f = fill s global c in
-    joined f (if has_local f.state c then pick f.state c p else ask f.state c p ran)
+    joined f (if has_local f.state c then pick f.state c p ran else ask f.state c p ran)
+
+-- ---- whichever is in force
+
+unfoldable pub look : State → ℕ → Option ℕ → Bool → Stepped
+look s c p ran = if is_ejected s then builtin_cycle s c p ran else seek s c p ran
 
 -- the cycle begins or ends
 abbrev pub cycling : State → Option ℕ → State
@@ -93,5 +136,5 @@ cycling s o = with_world s (with_cycling s.world o)
 -- all the while the cycle is under way
 unfoldable pub cycle : State → ℕ → Option ℕ → Bool → Stepped
 cycle s c p ran =
-    let r = seek (cycling s (Some c)) c p ran in
+    let r = look (cycling s (Some c)) c p ran in
     record { state = cycling r.state None; notes = r.notes; calls = r.calls }

@@ -5,15 +5,18 @@ use Rattle.scx_world.specs.declared.notes.What.TheVariants as note
 use Rattle.scx_safety.specs.Programs.{VerifiedProgram}
 use Rattle.scx_world.specs.declared.call.Insert.{Insert}
 use Rattle.scx_world.specs.World.{WorldState, task_at, is_runnable, running, cpu_of, is_idle, default_choice, said}
+use Rattle.scx_world.specs.declared.eject.Eject.TheVariants as cause
 use Rattle.scx_world.specs.Tasks.{for_cpu, woken, asleep, gone, stopped, ticked, later, reweighed}
+use Rattle.scx_world.specs.Waits.{first_overdue}
 use Rattle.scx_machine.specs.declared.events.Event.{Event}
 use Rattle.scx_machine.specs.declared.events.Event.TheVariants.{Wake, Sleep, Tick, Clock, SetWeight}
 use Rattle.scx_machine.specs.declared.events.Refused.{Refused}
 use Rattle.scx_machine.specs.declared.events.Refused.TheVariants.{AlreadyRunnable, NotRunnable, UnknownTask, UnknownCpu, UnknownGroup, BadWeight}
-use Rattle.scx_machine.specs.Steps.{State, Stepped, with_world, stays, after, joined}
-use Rattle.scx_machine.specs.Callbacks.{call_back, answered_by, task_cpu_and_0, task_and_number}
+use Rattle.scx_machine.specs.Steps.{State, Stepped, with_world, stays, after, joined, is_ejected}
+use Rattle.scx_machine.specs.Ejecting.{eject}
+use Rattle.scx_machine.specs.Callbacks.{acting, call_back, answered_by, task_cpu_and_0}
 use Rattle.scx_machine.specs.Put.{enters, put}
-use Rattle.scx_machine.specs.Cycle.{cycle}
+use Rattle.scx_machine.specs.Cycle.{stopping, cycle}
 
 -- ---- refusals
 
@@ -29,12 +32,13 @@ refusal s (SetWeight g x) = if nat_lt g (length s.world.tree.groups) then (if is
 
 -- ---- what each event does
 
--- the processor that select_cpu answers, if there is such a one
+-- the processor that select_cpu answers; one that isn't there has ejected the policy
 abbrev pub answered_cpu : WorldState → ℕ → Option ℕ → ℕ
 answered_cpu w t None = default_choice w t
 answered_cpu w t (Some n) = if nat_lt n (length w.cpus) then n else default_choice w t
 
--- the processor for which a task that wakes is put
+-- the processor for which a task that wakes is put; the default choice where no program answered, or no
+-- policy is in force
 abbrev pub target : Option VerifiedProgram → WorldState → ℕ → Option ℕ → ℕ
 target None w t a = default_choice w t
 target (Some p) w t a = answered_cpu w t a
@@ -55,7 +59,7 @@ unfoldable pub select : State → ℕ → Stepped
 select s t =
     let c = (task_at s.world t).prev_cpu in
     let r = call_back s callback.SelectCpu (task_cpu_and_0 t c) t c in
-    joined r (settle r.state t (target r.state.policy.callbacks.select_cpu r.state.world t (answered_by s callback.SelectCpu (task_cpu_and_0 t c) t c)))
+    joined r (settle r.state t (target (acting r.state callback.SelectCpu) r.state.world t (answered_by s callback.SelectCpu (task_cpu_and_0 t c) t c)))
 
 unfoldable pub wake : State → ℕ → Stepped
 wake s t = after (said s.world (note.Wake t) ∷ []) (select (with_world s (woken s.world t)) t)
@@ -63,7 +67,7 @@ wake s t = after (said s.world (note.Wake t) ∷ []) (select (with_world s (woke
 -- a task that runs leaves its processor, which looks for another
 unfoldable pub sleep_from_cpu : State → ℕ → ℕ → Stepped
 sleep_from_cpu s t c =
-    let r = call_back (with_world s (stopped s.world c t)) callback.Stopping (task_and_number t 0) t c in
+    let r = stopping (with_world s (stopped s.world c t)) c t 0 in
     after (said s.world (note.Stop t c) ∷ []) (joined r (cycle (with_world r.state (asleep r.state.world t)) c None true))
 
 abbrev pub sleep_from : Option ℕ → State → ℕ → Stepped
@@ -86,9 +90,22 @@ tick_of (Some t) s c = count_down s c t
 unfoldable pub tick : State → ℕ → Stepped
 tick s c = tick_of (running s.world c) s c
 
+-- ---- the clock
+
+-- who has waited too long, while the policy is in force
+abbrev pub overdue : State → Option ℕ
+overdue s = if is_ejected s then None else first_overdue s.world s.policy.timeout_ms
+
+abbrev pub stalled : Option ℕ → State → Stepped
+stalled None s = stays s
+stalled (Some t) s = eject s (cause.Stall t s.world.clock)
+
+unfoldable pub clock : State → Stepped
+clock s = let v = with_world s (later s.world) in stalled (overdue v) v
+
 abbrev pub happened : State → Event → Stepped
 happened s (Wake t) = wake s t
 happened s (Sleep t) = sleep s t
 happened s (Tick c) = tick s c
-happened s Clock = stays (with_world s (later s.world))
+happened s Clock = clock s
 happened s (SetWeight g x) = record { state = with_world s (reweighed s.world g x); notes = said s.world (note.Weight g x) ∷ []; calls = [] }

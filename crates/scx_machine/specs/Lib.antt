@@ -1,6 +1,7 @@
 pub mod Notes
 pub mod Policy
 pub mod Steps
+pub mod Ejecting
 pub mod Callbacks
 pub mod Put
 pub mod Cycle

@@ -1,12 +1,14 @@
--- The task at hand comes to wait.
-use Rattle.std.specs.Prelude.{ℕ, [], ◌∷◌, Option, Some, None}
+-- The task at hand comes to wait, by the policy or by the built-in scheduler.
+use Rattle.std.specs.Prelude.{ℕ, [], ◌∷◌, if◌then◌else◌, Option, Some, None}
 use Rattle.scx_semantics.specs.declared.callbacks.Callback.TheVariants as callback
 use Rattle.scx_safety.specs.Programs.{VerifiedProgram}
 use Rattle.scx_world.specs.declared.call.Insert.{Insert}
 use Rattle.scx_world.specs.declared.notes.What.TheVariants as note
+use Rattle.scx_world.specs.Ids.{builtin}
 use Rattle.scx_world.specs.World.{said}
 use Rattle.scx_world.specs.Tasks.{entered, for_cpu, to_held, to_global}
-use Rattle.scx_machine.specs.Steps.{State, Stepped, with_world, joined}
+use Rattle.scx_world.specs.Ejecting.{put_builtin}
+use Rattle.scx_machine.specs.Steps.{State, Stepped, with_world, joined, is_ejected}
 use Rattle.scx_machine.specs.Callbacks.{call_back, task_and_number}
 
 -- the task comes to wait as an insert wants it to
@@ -20,7 +22,15 @@ wanted None c i = to_global
 wanted (Some p) c None = to_held
 wanted (Some p) c (Some i) = for_cpu c i
 
+-- the task comes to wait for the built-in scheduler
+unfoldable pub enters_builtin : State → ℕ → Stepped
+enters_builtin s t = record { state = with_world s (put_builtin s.world t); notes = said s.world (note.Insert t builtin) ∷ []; calls = [] }
+
+-- after enqueue, which may have ejected the policy
+unfoldable pub comes_in : State → ℕ → ℕ → Stepped
+comes_in s t c = if is_ejected s then enters_builtin s t else enters s t (wanted s.policy.callbacks.enqueue c s.world.call.insert)
+
 unfoldable pub put : State → ℕ → ℕ → ℕ → Stepped
 put s t c flags =
     let r = call_back s callback.Enqueue (task_and_number t flags) t c in
-    joined r (enters r.state t (wanted r.state.policy.callbacks.enqueue c r.state.world.call.insert))
+    joined r (comes_in r.state t c)

@@ -11,9 +11,9 @@ use Rattle.scx_world.specs.World.{WorldState, begun}
 use Rattle.scx_world.specs.First.{first_world}
 use Rattle.scx_machine.specs.declared.start.NewError.{NewError}
 use Rattle.scx_machine.specs.declared.start.NewError.TheVariants.{InitFailed, BadShape, OutOfMemory}
-use Rattle.scx_machine.specs.Policy.{PolicyState, program_of}
+use Rattle.scx_machine.specs.Policy.{PolicyState}
 use Rattle.scx_machine.specs.Steps.{State, CallMade}
-use Rattle.scx_machine.specs.Callbacks.{called, calls_of, ended, AreAnswered, no_arguments, one_task}
+use Rattle.scx_machine.specs.Callbacks.{acting, called, calls_of, ended, AreAnswered, no_arguments, one_task}
 
 -- the number of processors is out of range, or a task is active
 abbrev pub is_bad_shape : Hierarchy → ℕ → Bool
@@ -30,7 +30,7 @@ abbrev pub fault_answer : ℤ
 fault_answer = negsuc 21
 
 abbrev pub init_ending : State → Ending WorldState
-init_ending s = called (program_of s.policy callback.Init) callback.Init no_arguments s.maps (begun s.world callback.Init 0 0)
+init_ending s = called (acting s callback.Init) callback.Init no_arguments s.maps (begun s.world callback.Init 0 0)
 
 -- the answer with which the machine can't begin; a fault goes before an answer
 abbrev pub bad_answer : Option Fault → Option ℕ → Option ℤ
@@ -49,7 +49,7 @@ initialized s = ok_unless (bad_answer (init_ending s).outside.call.fault (init_e
 -- ---- enable of each task
 
 abbrev pub enable_ending : State → ℕ → Ending WorldState
-enable_ending s t = called (program_of s.policy callback.Enable) callback.Enable (one_task t) s.maps (begun s.world callback.Enable t 0)
+enable_ending s t = called (acting s callback.Enable) callback.Enable (one_task t) s.maps (begun s.world callback.Enable t 0)
 
 -- a fault, or a callback that got stuck
 abbrev pub has_failed : Ending WorldState → Bool
@@ -89,11 +89,11 @@ IsRefusal p tree cpus (InitFailed n) = (is_bad_shape tree cpus ≡ false) × (st
 -- ---- the callbacks that are called: none after one that fails
 
 abbrev pub init_calls : State → List CallMade
-init_calls s = calls_of (program_of s.policy callback.Init) no_arguments s.maps (begun s.world callback.Init 0 0)
+init_calls s = calls_of (acting s callback.Init) no_arguments s.maps (begun s.world callback.Init 0 0)
 
 abbrev pub enable_calls : Option State → ℕ → List CallMade
 enable_calls None t = []
-enable_calls (Some s) t = calls_of (program_of s.policy callback.Enable) (one_task t) s.maps (begun s.world callback.Enable t 0)
+enable_calls (Some s) t = calls_of (acting s callback.Enable) (one_task t) s.maps (begun s.world callback.Enable t 0)
 
 -- of the first tasks
 abbrev pub calls_below : ℕ → State → List CallMade

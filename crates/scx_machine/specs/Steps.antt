@@ -1,5 +1,5 @@
 -- The state of the machine, and what a step of it leaves, notes and calls.
-use Rattle.std.specs.Prelude.{List, [], ◌++◌}
+use Rattle.std.specs.Prelude.{List, [], ◌++◌, Bool, is_some}
 use Rattle.scx_semantics.specs.Elements.{Maps}
 use Rattle.scx_safety.specs.Programs.{VerifiedProgram}
 use Rattle.scx_vm.specs.declared.arguments.Arguments.{Arguments}
@@ -26,6 +26,10 @@ pub record Stepped : Type 0 where
 
 abbrev pub with_world : State → WorldState → State
 with_world s w = record { policy = s.policy; maps = s.maps; world = w }
+
+-- the policy was put out of force
+abbrev pub is_ejected : State → Bool
+is_ejected s = is_some s.world.ejected
 
 abbrev pub stays : State → Stepped
 stays s = record { state = s; notes = []; calls = [] }

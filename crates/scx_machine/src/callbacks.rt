@@ -1,4 +1,4 @@
-ghost use Rattle.std.specs.Prelude.{◌≡◌, ◌+◌, ◌≤◌, ◌^◌, [], Some};
+ghost use Rattle.std.specs.Prelude.{◌≡◌, ◌+◌, ◌≤◌, ◌^◌, [], Some, option_map};
 ghost use Rattle.scx_maps.specs.Contents.{HasShapes};
 ghost use Rattle.scx_semantics.specs.Arguments.{FitsCallback};
 ghost use Rattle.scx_semantics.specs.declared.callbacks.Callback.TheVariants.{Enable, SelectCpu, Enqueue, Dispatch, Running, Stopping};
@@ -8,8 +8,10 @@ ghost use Rattle.scx_vm.specs.Host.{answer_to, after_query};
 ghost use Rattle.scx_world.specs.World.{quiet};
 ghost use Rattle.scx_world.specs.Helpers.{world_functions};
 ghost use Rattle.scx_machine.specs.Notes.{Takes};
-ghost use Rattle.scx_machine.specs.Policy.{program_of};
-ghost use Rattle.scx_machine.specs.Callbacks.{called, call_back, answered_by, calls_of, IsAnswered, AreAnswered, one_task, task_cpu_and_0, task_and_number, task_or_0, cpu_and_task};
+ghost use Rattle.scx_world.specs.Helpers.{or_fault};
+ghost use Rattle.scx_machine.specs.Policy.{IsAs, HasMaps, program_of};
+ghost use Rattle.scx_machine.specs.Ejecting.{ejected_for};
+ghost use Rattle.scx_machine.specs.Callbacks.{called, call_back, end_fault, unless_ejected, answered_by, calls_of, IsAnswered, AreAnswered, one_task, task_cpu_and_0, task_and_number, task_or_0, cpu_and_task};
 
 use crate::machine::Machine;
 use crate::policy::Policy;
@@ -19,9 +21,23 @@ use scx_maps::Maps;
 use scx_run::{Core, run_on};
 use scx_verify::Verified;
 use scx_vm::{Argument, Arguments};
-use scx_world::World;
+use scx_world::{Eject, Fault, World};
 
-/// Runs a callback of the policy, and answers what its program does. One that is absent answers 0.
+/// The program of a callback, while the policy is in force.
+fn acting<'a>(policy: &'a Policy, world: &World, callback: Callback) -> Option<&'a Verified>
+    ensures program { option_map (λ p. p.now) result ≡ unless_ejected world.now.ejected (program_of policy.now callback) }
+    ensures callback { IsAs callback (unless_ejected world.now.ejected (program_of policy.now callback)) }
+    ensures maps { HasMaps policy.now.shapes (unless_ejected world.now.ejected (program_of policy.now callback)) }
+{
+    if world.is_ejected() {
+        None
+    } else {
+        policy.program(callback)
+    }
+}
+
+/// Runs a callback of the policy, and answers what its program does. One that is absent, or of a policy that
+/// is ejected, answers 0.
 #[tactic(auto, unfolding(crate::specs::Callbacks::called))]
 pub(crate) fn run_callback(
     core: &mut Core,
@@ -35,14 +51,12 @@ pub(crate) fn run_callback(
     requires arguments { FitsCallback callback (given arguments) }
     requires quiet { world.old.notes ≡ [] }
     requires few { world.old.queues.pushes + 4096 ≤ 2 ^ 63 }
-    ensures ended { record { answer = Some result; maps = maps.new; outside = world.new }
-        ≡ called (program_of policy.now callback) callback arguments maps.old world.old }
-    ensures answered { AreAnswered
-        (calls_of (program_of policy.now callback) arguments maps.old world.old) }
+    ensures ended { record { answer = Some result; maps = maps.new; outside = world.new } ≡ called (unless_ejected world.old.ejected (program_of policy.now callback)) callback arguments maps.old world.old }
+    ensures answered { AreAnswered (calls_of (unless_ejected world.old.ejected (program_of policy.now callback)) arguments maps.old world.old) }
     ensures shapes { HasShapes policy.now.shapes maps.new }
     ensures few { world.new.queues.pushes ≤ world.old.queues.pushes + 4096 }
 {
-    match policy.program(callback) {
+    match acting(policy, world, callback) {
         Some(program) => run_program(core, program, arguments, maps, world),
         None => 0,
     }
@@ -149,8 +163,35 @@ pub(crate) fn cpu_and_task(cpu: u32, before: Option<u16>) -> Arguments
 }
 
 impl Machine {
+    /// What is wrong with the callback that has just ended with that answer.
+    fn fault(&self, callback: Callback, answer: u64) -> Option<Fault>
+        ensures { result ≡ or_fault self.now.world.call.fault (end_fault callback self.now.world (Some answer)) }
+    {
+        if let Some(fault) = self.world.first_fault() {
+            return Some(fault);
+        }
+        if callback == Callback::SelectCpu && answer >= u64::from(self.world.cpus()) {
+            return Some(Fault::NoSuchCpu);
+        }
+        None
+    }
+
+    /// Ejects the policy where there was a fault.
+    #[tactic(auto, using(crate::proofs::Taking::takings))]
+    fn eject_for<S: Sink>(&mut self, fault: Option<Fault>, sink: &mut S)
+        requires few { self.old.world.queues.pushes + 1024 ≤ 2 ^ 63 }
+        ensures state { self.new ≡ (ejected_for fault self.old).state }
+        ensures few { self.new.world.queues.pushes ≤ self.old.world.queues.pushes + 1024 }
+        ensures notes { Takes S.takes sink.old (ejected_for fault self.old).notes sink.new }
+        ensures answered { AreAnswered (ejected_for fault self.old).calls }
+    {
+        if let Some(fault) = fault {
+            self.eject(Eject::Fault(fault, self.world.clock()), sink);
+        }
+    }
+
     /// Runs a callback of the policy, with that task and processor at hand, and answers what its program
-    /// does.
+    /// does. Where it has a fault the policy is ejected. Once it is ejected, none runs, and the answer is 0.
     #[tactic(auto, unfolding(crate::specs::Callbacks::call_back, crate::specs::Callbacks::answered_by), using(crate::proofs::Taking::takings))]
     pub(crate) fn call_back<S: Sink>(
         &mut self,
@@ -161,12 +202,11 @@ impl Machine {
         sink: &mut S,
     ) -> u64
         requires arguments { FitsCallback callback (given arguments) }
-        requires few { self.old.world.queues.pushes + 4096 ≤ 2 ^ 63 }
+        requires few { self.old.world.queues.pushes + 5120 ≤ 2 ^ 63 }
         ensures answer { Some result ≡ answered_by self.old callback arguments task cpu }
         ensures state { self.new ≡ (call_back self.old callback arguments task cpu).state }
-        ensures few { self.new.world.queues.pushes ≤ self.old.world.queues.pushes + 4096 }
-        ensures notes { Takes S.takes sink.old
-            (call_back self.old callback arguments task cpu).notes sink.new }
+        ensures few { self.new.world.queues.pushes ≤ self.old.world.queues.pushes + 5120 }
+        ensures notes { Takes S.takes sink.old (call_back self.old callback arguments task cpu).notes sink.new }
         ensures answered { AreAnswered (call_back self.old callback arguments task cpu).calls }
     {
         self.world.begin(callback, task, cpu);
@@ -179,6 +219,7 @@ impl Machine {
             &mut self.world,
         );
         flush(&mut self.world, sink);
+        self.eject_for(self.fault(callback, answer), sink);
         answer
     }
 }

@@ -1,13 +1,13 @@
 ghost use Rattle.std.specs.Prelude.{◌≡◌, ◌+◌, ◌*◌, ◌≤◌, ◌^◌};
 ghost use Rattle.scx_machine.specs.Notes.{Takes};
 ghost use Rattle.scx_machine.specs.Callbacks.{AreAnswered};
-ghost use Rattle.scx_machine.specs.Cycle.{fill, dispatched, tries, leave, start, pick, rest, pick_or_rest, ask, seek, cycle};
+ghost use Rattle.scx_machine.specs.Cycle.{fill, dispatched, tries, stopping, running_on, leave, start, rest, swap, swap_or_rest, builtin_ask, builtin_cycle, start_or_cycle, pick, pick_or_rest, conclude, ask, seek, look, cycle};
 
 use crate::callbacks::{cpu_and_task, one_task, task_and_number};
 use crate::machine::Machine;
 use crate::sink::Sink;
 use scx_isa::Callback;
-use scx_world::{GLOBAL, What};
+use scx_world::{BUILTIN, GLOBAL, What};
 
 impl Machine {
     /// Where the local queue is empty, the front of another comes to it.
@@ -27,9 +27,9 @@ impl Machine {
     /// Asks dispatch once, and then the queue of all processors.
     #[tactic(auto, unfolding(crate::specs::Cycle::dispatched), using(crate::proofs::Taking::takings))]
     fn dispatch<S: Sink>(&mut self, cpu: u32, before: Option<u16>, sink: &mut S)
-        requires few { self.old.world.queues.pushes + 4097 ≤ 2 ^ 63 }
+        requires few { self.old.world.queues.pushes + 5121 ≤ 2 ^ 63 }
         ensures state { self.new ≡ (dispatched self.old cpu before).state }
-        ensures few { self.new.world.queues.pushes ≤ self.old.world.queues.pushes + 4097 }
+        ensures few { self.new.world.queues.pushes ≤ self.old.world.queues.pushes + 5121 }
         ensures notes { Takes S.takes sink.old (dispatched self.old cpu before).notes sink.new }
         ensures answered { AreAnswered (dispatched self.old cpu before).calls }
     {
@@ -40,9 +40,9 @@ impl Machine {
     /// Asks dispatch, at most so many times.
     #[tactic(auto, using(crate::proofs::Taking::takings, crate::proofs::Tries::tries_steps))]
     fn tries<S: Sink>(&mut self, left: u32, cpu: u32, before: Option<u16>, sink: &mut S)
-        requires few { self.old.world.queues.pushes + 4097 * left ≤ 2 ^ 63 }
+        requires few { self.old.world.queues.pushes + 5121 * left ≤ 2 ^ 63 }
         ensures state { self.new ≡ (tries left self.old cpu before).state }
-        ensures few { self.new.world.queues.pushes ≤ self.old.world.queues.pushes + 4097 * left }
+        ensures few { self.new.world.queues.pushes ≤ self.old.world.queues.pushes + 5121 * left }
         ensures notes { Takes S.takes sink.old (tries left self.old cpu before).notes sink.new }
         ensures answered { AreAnswered (tries left self.old cpu before).calls }
     {
@@ -55,25 +55,52 @@ impl Machine {
         }
     }
 
+    /// A task has left its processor. The number says whether it stays runnable.
+    #[tactic(auto, unfolding(crate::specs::Cycle::stopping), using(crate::proofs::Taking::takings))]
+    pub(crate) fn stopping<S: Sink>(&mut self, cpu: u32, task: u16, runnable: u64, sink: &mut S)
+        requires few { self.old.world.queues.pushes + 5120 ≤ 2 ^ 63 }
+        ensures state { self.new ≡ (stopping self.old cpu task runnable).state }
+        ensures few { self.new.world.queues.pushes ≤ self.old.world.queues.pushes + 5120 }
+        ensures notes { Takes S.takes sink.old (stopping self.old cpu task runnable).notes sink.new }
+        ensures answered { AreAnswered (stopping self.old cpu task runnable).calls }
+    {
+        if self.is_ejected() {
+            self.world.charge(task);
+        } else {
+            let arguments = task_and_number(task, runnable);
+            self.call_back(Callback::Stopping, arguments, task, cpu, sink);
+        }
+    }
+
+    /// A task has come to its processor.
+    #[tactic(auto, unfolding(crate::specs::Cycle::running_on), using(crate::proofs::Taking::takings))]
+    fn running_on<S: Sink>(&mut self, cpu: u32, task: u16, sink: &mut S)
+        requires few { self.old.world.queues.pushes + 5120 ≤ 2 ^ 63 }
+        ensures state { self.new ≡ (running_on self.old cpu task).state }
+        ensures few { self.new.world.queues.pushes ≤ self.old.world.queues.pushes + 5120 }
+        ensures notes { Takes S.takes sink.old (running_on self.old cpu task).notes sink.new }
+        ensures answered { AreAnswered (running_on self.old cpu task).calls }
+    {
+        if self.is_ejected() {
+            self.world.overtake(task);
+        } else {
+            self.call_back(Callback::Running, one_task(task), task, cpu, sink);
+        }
+    }
+
     /// The task before leaves the processor, and is put.
     #[tactic(auto, unfolding(crate::specs::Cycle::leave), using(crate::proofs::Taking::takings))]
     fn leave<S: Sink>(&mut self, cpu: u32, before: Option<u16>, sink: &mut S)
-        requires few { self.old.world.queues.pushes + 8193 ≤ 2 ^ 63 }
+        requires few { self.old.world.queues.pushes + 10241 ≤ 2 ^ 63 }
         ensures state { self.new ≡ (leave self.old cpu before).state }
-        ensures few { self.new.world.queues.pushes ≤ self.old.world.queues.pushes + 8193 }
+        ensures few { self.new.world.queues.pushes ≤ self.old.world.queues.pushes + 10241 }
         ensures notes { Takes S.takes sink.old (leave self.old cpu before).notes sink.new }
         ensures answered { AreAnswered (leave self.old cpu before).calls }
     {
         if let Some(task) = before {
             sink.take(self.world.note(What::Stop(task, cpu)));
             self.world.stop(cpu, task);
-            self.call_back(
-                Callback::Stopping,
-                task_and_number(task, 1),
-                task,
-                cpu,
-                sink,
-            );
+            self.stopping(cpu, task, 1, sink);
             self.put(task, cpu, 0, sink);
         }
     }
@@ -81,29 +108,16 @@ impl Machine {
     /// The front of the local queue runs.
     #[tactic(auto, unfolding(crate::specs::Cycle::start), using(crate::proofs::Taking::takings))]
     fn start<S: Sink>(&mut self, cpu: u32, sink: &mut S)
-        requires few { self.old.world.queues.pushes + 4096 ≤ 2 ^ 63 }
+        requires few { self.old.world.queues.pushes + 5120 ≤ 2 ^ 63 }
         ensures state { self.new ≡ (start self.old cpu).state }
-        ensures few { self.new.world.queues.pushes ≤ self.old.world.queues.pushes + 4096 }
+        ensures few { self.new.world.queues.pushes ≤ self.old.world.queues.pushes + 5120 }
         ensures notes { Takes S.takes sink.old (start self.old cpu).notes sink.new }
         ensures answered { AreAnswered (start self.old cpu).calls }
     {
         if let Some(task) = self.world.start(cpu) {
             sink.take(self.world.note(What::Run(task, cpu)));
-            self.call_back(Callback::Running, one_task(task), task, cpu, sink);
+            self.running_on(cpu, task, sink);
         }
-    }
-
-    /// The front of the local queue runs in the place of the task before.
-    #[tactic(auto, unfolding(crate::specs::Cycle::pick), using(crate::proofs::Taking::takings))]
-    fn pick<S: Sink>(&mut self, cpu: u32, before: Option<u16>, sink: &mut S)
-        requires few { self.old.world.queues.pushes + 12289 ≤ 2 ^ 63 }
-        ensures state { self.new ≡ (pick self.old cpu before).state }
-        ensures few { self.new.world.queues.pushes ≤ self.old.world.queues.pushes + 12289 }
-        ensures notes { Takes S.takes sink.old (pick self.old cpu before).notes sink.new }
-        ensures answered { AreAnswered (pick self.old cpu before).calls }
-    {
-        self.leave(cpu, before, sink);
-        self.start(cpu, sink);
     }
 
     /// Nobody comes: the task before stays, or the processor is idle.
@@ -121,64 +135,179 @@ impl Machine {
         self.world.keep(before);
     }
 
+    /// Under the built-in scheduler the front of the local queue runs in the place of the task before.
+    #[tactic(auto, unfolding(crate::specs::Cycle::swap), using(crate::proofs::Taking::takings))]
+    fn swap<S: Sink>(&mut self, cpu: u32, before: Option<u16>, sink: &mut S)
+        requires few { self.old.world.queues.pushes + 15361 ≤ 2 ^ 63 }
+        ensures state { self.new ≡ (swap self.old cpu before).state }
+        ensures few { self.new.world.queues.pushes ≤ self.old.world.queues.pushes + 15361 }
+        ensures notes { Takes S.takes sink.old (swap self.old cpu before).notes sink.new }
+        ensures answered { AreAnswered (swap self.old cpu before).calls }
+    {
+        self.leave(cpu, before, sink);
+        self.start(cpu, sink);
+    }
+
+    /// Under the built-in scheduler the front of the local queue runs, if there is one.
+    #[tactic(auto, unfolding(crate::specs::Cycle::swap_or_rest), using(crate::proofs::Taking::takings))]
+    fn swap_or_rest<S: Sink>(&mut self, cpu: u32, before: Option<u16>, ran: bool, sink: &mut S)
+        requires few { self.old.world.queues.pushes + 15361 ≤ 2 ^ 63 }
+        ensures state { self.new ≡ (swap_or_rest self.old cpu before ran).state }
+        ensures few { self.new.world.queues.pushes ≤ self.old.world.queues.pushes + 15361 }
+        ensures notes { Takes S.takes sink.old (swap_or_rest self.old cpu before ran).notes sink.new }
+        ensures answered { AreAnswered (swap_or_rest self.old cpu before ran).calls }
+    {
+        if self.has_local(cpu) {
+            self.swap(cpu, before, sink);
+        } else {
+            self.rest(cpu, before, ran, sink);
+        }
+    }
+
+    /// The built-in scheduler's dispatch: the front of its queue comes.
+    #[tactic(auto, unfolding(crate::specs::Cycle::builtin_ask), using(crate::proofs::Taking::takings))]
+    fn builtin_ask<S: Sink>(&mut self, cpu: u32, before: Option<u16>, ran: bool, sink: &mut S)
+        requires few { self.old.world.queues.pushes + 15362 ≤ 2 ^ 63 }
+        ensures state { self.new ≡ (builtin_ask self.old cpu before ran).state }
+        ensures few { self.new.world.queues.pushes ≤ self.old.world.queues.pushes + 15362 }
+        ensures notes { Takes S.takes sink.old (builtin_ask self.old cpu before ran).notes sink.new }
+        ensures answered { AreAnswered (builtin_ask self.old cpu before ran).calls }
+    {
+        self.fill(BUILTIN, cpu, sink);
+        self.swap_or_rest(cpu, before, ran, sink);
+    }
+
+    /// A cycle of the built-in scheduler.
+    #[tactic(auto, unfolding(crate::specs::Cycle::builtin_cycle), using(crate::proofs::Taking::takings))]
+    fn builtin_cycle<S: Sink>(&mut self, cpu: u32, before: Option<u16>, ran: bool, sink: &mut S)
+        requires few { self.old.world.queues.pushes + 15363 ≤ 2 ^ 63 }
+        ensures state { self.new ≡ (builtin_cycle self.old cpu before ran).state }
+        ensures few { self.new.world.queues.pushes ≤ self.old.world.queues.pushes + 15363 }
+        ensures notes { Takes S.takes sink.old (builtin_cycle self.old cpu before ran).notes sink.new }
+        ensures answered { AreAnswered (builtin_cycle self.old cpu before ran).calls }
+    {
+        self.fill(GLOBAL, cpu, sink);
+        self.builtin_ask(cpu, before, ran, sink);
+    }
+
+    /// The front of the local queue runs. An ejection may have emptied it; then the cycle begins anew.
+    #[tactic(auto, unfolding(crate::specs::Cycle::start_or_cycle), using(crate::proofs::Taking::takings))]
+    fn start_or_cycle<S: Sink>(&mut self, cpu: u32, ran: bool, sink: &mut S)
+        requires few { self.old.world.queues.pushes + 15363 ≤ 2 ^ 63 }
+        ensures state { self.new ≡ (start_or_cycle self.old cpu ran).state }
+        ensures few { self.new.world.queues.pushes ≤ self.old.world.queues.pushes + 15363 }
+        ensures notes { Takes S.takes sink.old (start_or_cycle self.old cpu ran).notes sink.new }
+        ensures answered { AreAnswered (start_or_cycle self.old cpu ran).calls }
+    {
+        if self.has_local(cpu) {
+            self.start(cpu, sink);
+        } else {
+            self.builtin_cycle(cpu, None, ran, sink);
+        }
+    }
+
+    /// The front of the local queue runs in the place of the task before.
+    #[tactic(auto, unfolding(crate::specs::Cycle::pick), using(crate::proofs::Taking::takings))]
+    fn pick<S: Sink>(&mut self, cpu: u32, before: Option<u16>, ran: bool, sink: &mut S)
+        requires few { self.old.world.queues.pushes + 25604 ≤ 2 ^ 63 }
+        ensures state { self.new ≡ (pick self.old cpu before ran).state }
+        ensures few { self.new.world.queues.pushes ≤ self.old.world.queues.pushes + 25604 }
+        ensures notes { Takes S.takes sink.old (pick self.old cpu before ran).notes sink.new }
+        ensures answered { AreAnswered (pick self.old cpu before ran).calls }
+    {
+        self.leave(cpu, before, sink);
+        self.start_or_cycle(cpu, ran, sink);
+    }
+
     /// Runs the front of the local queue, if there is one.
     #[tactic(auto, unfolding(crate::specs::Cycle::pick_or_rest), using(crate::proofs::Taking::takings))]
     fn pick_or_rest<S: Sink>(&mut self, cpu: u32, before: Option<u16>, ran: bool, sink: &mut S)
-        requires few { self.old.world.queues.pushes + 12289 ≤ 2 ^ 63 }
+        requires few { self.old.world.queues.pushes + 25604 ≤ 2 ^ 63 }
         ensures state { self.new ≡ (pick_or_rest self.old cpu before ran).state }
-        ensures few { self.new.world.queues.pushes ≤ self.old.world.queues.pushes + 12289 }
-        ensures notes { Takes S.takes sink.old (pick_or_rest self.old cpu before ran).notes
-            sink.new }
+        ensures few { self.new.world.queues.pushes ≤ self.old.world.queues.pushes + 25604 }
+        ensures notes { Takes S.takes sink.old (pick_or_rest self.old cpu before ran).notes sink.new }
         ensures answered { AreAnswered (pick_or_rest self.old cpu before ran).calls }
     {
         if self.has_local(cpu) {
-            self.pick(cpu, before, sink);
+            self.pick(cpu, before, ran, sink);
         } else {
             self.rest(cpu, before, ran, sink);
+        }
+    }
+
+    /// Dispatch was asked. Where it ejected the policy, the cycle begins anew.
+    #[tactic(auto, unfolding(crate::specs::Cycle::conclude), using(crate::proofs::Taking::takings))]
+    fn conclude<S: Sink>(&mut self, cpu: u32, before: Option<u16>, ran: bool, sink: &mut S)
+        requires few { self.old.world.queues.pushes + 25604 ≤ 2 ^ 63 }
+        ensures state { self.new ≡ (conclude self.old cpu before ran).state }
+        ensures few { self.new.world.queues.pushes ≤ self.old.world.queues.pushes + 25604 }
+        ensures notes { Takes S.takes sink.old (conclude self.old cpu before ran).notes sink.new }
+        ensures answered { AreAnswered (conclude self.old cpu before ran).calls }
+    {
+        if self.is_ejected() {
+            self.builtin_cycle(cpu, before, ran, sink);
+        } else {
+            self.pick_or_rest(cpu, before, ran, sink);
         }
     }
 
     /// Asks dispatch for a task.
     #[tactic(auto, unfolding(crate::specs::Cycle::ask), using(crate::proofs::Taking::takings))]
     fn ask<S: Sink>(&mut self, cpu: u32, before: Option<u16>, ran: bool, sink: &mut S)
-        requires few { self.old.world.queues.pushes + 143393 ≤ 2 ^ 63 }
+        requires few { self.old.world.queues.pushes + 189476 ≤ 2 ^ 63 }
         ensures state { self.new ≡ (ask self.old cpu before ran).state }
-        ensures few { self.new.world.queues.pushes ≤ self.old.world.queues.pushes + 143393 }
+        ensures few { self.new.world.queues.pushes ≤ self.old.world.queues.pushes + 189476 }
         ensures notes { Takes S.takes sink.old (ask self.old cpu before ran).notes sink.new }
         ensures answered { AreAnswered (ask self.old cpu before ran).calls }
     {
         self.tries(32, cpu, before, sink);
-        self.pick_or_rest(cpu, before, ran, sink);
+        self.conclude(cpu, before, ran, sink);
     }
 
     /// A processor on which that task ran and may stay, or none, seeks the one that it runs next.
     #[tactic(auto, unfolding(crate::specs::Cycle::seek), using(crate::proofs::Taking::takings))]
     fn seek<S: Sink>(&mut self, cpu: u32, before: Option<u16>, ran: bool, sink: &mut S)
-        requires few { self.old.world.queues.pushes + 143394 ≤ 2 ^ 63 }
+        requires few { self.old.world.queues.pushes + 189477 ≤ 2 ^ 63 }
         ensures state { self.new ≡ (seek self.old cpu before ran).state }
-        ensures few { self.new.world.queues.pushes ≤ self.old.world.queues.pushes + 143394 }
+        ensures few { self.new.world.queues.pushes ≤ self.old.world.queues.pushes + 189477 }
         ensures notes { Takes S.takes sink.old (seek self.old cpu before ran).notes sink.new }
         ensures answered { AreAnswered (seek self.old cpu before ran).calls }
     {
         self.fill(GLOBAL, cpu, sink);
         if self.has_local(cpu) {
-            self.pick(cpu, before, sink);
+            self.pick(cpu, before, ran, sink);
         } else {
             self.ask(cpu, before, ran, sink);
+        }
+    }
+
+    /// A cycle of whichever scheduler is in force.
+    #[tactic(auto, unfolding(crate::specs::Cycle::look), using(crate::proofs::Taking::takings))]
+    fn look<S: Sink>(&mut self, cpu: u32, before: Option<u16>, ran: bool, sink: &mut S)
+        requires few { self.old.world.queues.pushes + 189477 ≤ 2 ^ 63 }
+        ensures state { self.new ≡ (look self.old cpu before ran).state }
+        ensures few { self.new.world.queues.pushes ≤ self.old.world.queues.pushes + 189477 }
+        ensures notes { Takes S.takes sink.old (look self.old cpu before ran).notes sink.new }
+        ensures answered { AreAnswered (look self.old cpu before ran).calls }
+    {
+        if self.is_ejected() {
+            self.builtin_cycle(cpu, before, ran, sink);
+        } else {
+            self.seek(cpu, before, ran, sink);
         }
     }
 
     /// A whole cycle. `ran` says whether a task ran there as the event began.
     #[tactic(auto, unfolding(crate::specs::Cycle::cycle), using(crate::proofs::Taking::takings))]
     pub(crate) fn cycle<S: Sink>(&mut self, cpu: u32, before: Option<u16>, ran: bool, sink: &mut S)
-        requires few { self.old.world.queues.pushes + 143394 ≤ 2 ^ 63 }
+        requires few { self.old.world.queues.pushes + 189477 ≤ 2 ^ 63 }
         ensures state { self.new ≡ (cycle self.old cpu before ran).state }
-        ensures few { self.new.world.queues.pushes ≤ self.old.world.queues.pushes + 143394 }
+        ensures few { self.new.world.queues.pushes ≤ self.old.world.queues.pushes + 189477 }
         ensures notes { Takes S.takes sink.old (cycle self.old cpu before ran).notes sink.new }
         ensures answered { AreAnswered (cycle self.old cpu before ran).calls }
     {
         self.world.set_cycling(Some(cpu));
-        self.seek(cpu, before, ran, sink);
+        self.look(cpu, before, ran, sink);
         self.world.set_cycling(None);
     }
 }

@@ -1,15 +1,16 @@
 ghost use Rattle.std.specs.Prelude.{◌≡◌, ℕ, ◌+◌, ◌<◌, ◌≤◌, ◌^◌, length, Some, None};
 ghost use Rattle.scx_world.specs.World.{task_at};
 ghost use Rattle.scx_machine.specs.Notes.{Takes};
-ghost use Rattle.scx_machine.specs.Callbacks.{AreAnswered};
+ghost use Rattle.scx_semantics.specs.declared.callbacks.Callback.TheVariants.{SelectCpu};
+ghost use Rattle.scx_machine.specs.Callbacks.{acting, AreAnswered};
 ghost use Rattle.scx_machine.specs.declared.events.Event.TheVariants.{Wake, Sleep, SetWeight};
-ghost use Rattle.scx_machine.specs.Events.{is_bad_weight, refusal, target, settled, settle, select, wake, sleep_from_cpu, sleep, count_down, tick, happened};
+ghost use Rattle.scx_machine.specs.Events.{is_bad_weight, refusal, target, settled, settle, select, wake, sleep_from_cpu, sleep, count_down, tick, overdue, clock, happened};
 
-use crate::callbacks::{task_and_number, task_cpu_and_0};
+use crate::callbacks::task_cpu_and_0;
 use crate::machine::Machine;
 use crate::sink::Sink;
 use scx_isa::Callback;
-use scx_world::What;
+use scx_world::{Eject, What};
 use thiserror::Error;
 
 /// What happens to the machine. Tasks, processors and groups go by their numbers.
@@ -110,10 +111,9 @@ impl Machine {
 
     /// The processor for which a task that wakes is put, where select_cpu answered so.
     fn target(&self, task: u16, answer: u64) -> u32
-        ensures { result
-            ≡ target self.now.policy.callbacks.select_cpu self.now.world task (Some answer) }
+        ensures { result ≡ target (acting self.now SelectCpu) self.now.world task (Some answer) }
     {
-        if self.policy.program(Callback::SelectCpu).is_none() {
+        if self.is_ejected() || self.policy.program(Callback::SelectCpu).is_none() {
             return self.world.default_choice(task);
         }
         if answer < u64::from(self.world.cpus()) {
@@ -126,13 +126,11 @@ impl Machine {
     /// Applies what select_cpu inserted, or puts the task.
     #[tactic(auto, using(crate::proofs::Taking::takings))]
     fn place<S: Sink>(&mut self, task: u16, cpu: u32, sink: &mut S)
-        requires few { self.old.world.queues.pushes + 4097 ≤ 2 ^ 63 }
+        requires few { self.old.world.queues.pushes + 5121 ≤ 2 ^ 63 }
         ensures state { self.new ≡ (settled self.old.world.call.insert self.old task cpu).state }
-        ensures few { self.new.world.queues.pushes ≤ self.old.world.queues.pushes + 4097 }
-        ensures notes { Takes S.takes sink.old
-            (settled self.old.world.call.insert self.old task cpu).notes sink.new }
-        ensures answered { AreAnswered
-            (settled self.old.world.call.insert self.old task cpu).calls }
+        ensures few { self.new.world.queues.pushes ≤ self.old.world.queues.pushes + 5121 }
+        ensures notes { Takes S.takes sink.old (settled self.old.world.call.insert self.old task cpu).notes sink.new }
+        ensures answered { AreAnswered (settled self.old.world.call.insert self.old task cpu).calls }
     {
         match self.world.insert() {
             Some(insert) => self.enter(task, insert.for_cpu(cpu), sink),
@@ -143,9 +141,9 @@ impl Machine {
     /// A task that woke comes to wait, and a target that is idle looks for a task.
     #[tactic(auto, unfolding(crate::specs::Events::settle), using(crate::proofs::Taking::takings))]
     fn settle<S: Sink>(&mut self, task: u16, cpu: u32, sink: &mut S)
-        requires few { self.old.world.queues.pushes + 147491 ≤ 2 ^ 63 }
+        requires few { self.old.world.queues.pushes + 194598 ≤ 2 ^ 63 }
         ensures state { self.new ≡ (settle self.old task cpu).state }
-        ensures few { self.new.world.queues.pushes ≤ self.old.world.queues.pushes + 147491 }
+        ensures few { self.new.world.queues.pushes ≤ self.old.world.queues.pushes + 194598 }
         ensures notes { Takes S.takes sink.old (settle self.old task cpu).notes sink.new }
         ensures answered { AreAnswered (settle self.old task cpu).calls }
     {
@@ -158,9 +156,9 @@ impl Machine {
     /// Asks select_cpu for which processor the task is to be put.
     #[tactic(auto, unfolding(crate::specs::Events::select), using(crate::proofs::Taking::takings))]
     fn select<S: Sink>(&mut self, task: u16, sink: &mut S)
-        requires few { self.old.world.queues.pushes + 151587 ≤ 2 ^ 63 }
+        requires few { self.old.world.queues.pushes + 199718 ≤ 2 ^ 63 }
         ensures state { self.new ≡ (select self.old task).state }
-        ensures few { self.new.world.queues.pushes ≤ self.old.world.queues.pushes + 151587 }
+        ensures few { self.new.world.queues.pushes ≤ self.old.world.queues.pushes + 199718 }
         ensures notes { Takes S.takes sink.old (select self.old task).notes sink.new }
         ensures answered { AreAnswered (select self.old task).calls }
     {
@@ -175,9 +173,9 @@ impl Machine {
     #[tactic(auto, unfolding(crate::specs::Events::wake), using(crate::proofs::Taking::takings))]
     fn wake<S: Sink>(&mut self, task: u16, sink: &mut S)
         requires known { task < length self.old.world.tasks }
-        requires few { self.old.world.queues.pushes + 151587 ≤ 2 ^ 63 }
+        requires few { self.old.world.queues.pushes + 199718 ≤ 2 ^ 63 }
         ensures state { self.new ≡ (wake self.old task).state }
-        ensures few { self.new.world.queues.pushes ≤ self.old.world.queues.pushes + 151587 }
+        ensures few { self.new.world.queues.pushes ≤ self.old.world.queues.pushes + 199718 }
         ensures notes { Takes S.takes sink.old (wake self.old task).notes sink.new }
         ensures answered { AreAnswered (wake self.old task).calls }
     {
@@ -189,21 +187,15 @@ impl Machine {
     /// A task that runs goes to sleep.
     #[tactic(auto, unfolding(crate::specs::Events::sleep_from_cpu), using(crate::proofs::Taking::takings))]
     fn sleep_from_cpu<S: Sink>(&mut self, task: u16, cpu: u32, sink: &mut S)
-        requires few { self.old.world.queues.pushes + 147490 ≤ 2 ^ 63 }
+        requires few { self.old.world.queues.pushes + 194597 ≤ 2 ^ 63 }
         ensures state { self.new ≡ (sleep_from_cpu self.old task cpu).state }
-        ensures few { self.new.world.queues.pushes ≤ self.old.world.queues.pushes + 147490 }
+        ensures few { self.new.world.queues.pushes ≤ self.old.world.queues.pushes + 194597 }
         ensures notes { Takes S.takes sink.old (sleep_from_cpu self.old task cpu).notes sink.new }
         ensures answered { AreAnswered (sleep_from_cpu self.old task cpu).calls }
     {
         sink.take(self.world.note(What::Stop(task, cpu)));
         self.world.stop(cpu, task);
-        self.call_back(
-            Callback::Stopping,
-            task_and_number(task, 0),
-            task,
-            cpu,
-            sink,
-        );
+        self.stopping(cpu, task, 0, sink);
         self.world.sleep(task);
         self.cycle(cpu, None, true, sink);
     }
@@ -211,9 +203,9 @@ impl Machine {
     /// A task goes to sleep.
     #[tactic(auto, unfolding(crate::specs::Events::sleep), using(crate::proofs::Taking::takings))]
     fn sleep<S: Sink>(&mut self, task: u16, sink: &mut S)
-        requires few { self.old.world.queues.pushes + 147490 ≤ 2 ^ 63 }
+        requires few { self.old.world.queues.pushes + 194597 ≤ 2 ^ 63 }
         ensures state { self.new ≡ (sleep self.old task).state }
-        ensures few { self.new.world.queues.pushes ≤ self.old.world.queues.pushes + 147490 }
+        ensures few { self.new.world.queues.pushes ≤ self.old.world.queues.pushes + 194597 }
         ensures notes { Takes S.takes sink.old (sleep self.old task).notes sink.new }
         ensures answered { AreAnswered (sleep self.old task).calls }
     {
@@ -231,9 +223,9 @@ impl Machine {
     #[tactic(auto, unfolding(crate::specs::Events::count_down), using(crate::proofs::Taking::takings))]
     fn count_down<S: Sink>(&mut self, cpu: u32, task: u16, sink: &mut S)
         requires early { (task_at self.old.world task).run_ns < 2 ^ 63 }
-        requires few { self.old.world.queues.pushes + 143394 ≤ 2 ^ 63 }
+        requires few { self.old.world.queues.pushes + 189477 ≤ 2 ^ 63 }
         ensures state { self.new ≡ (count_down self.old cpu task).state }
-        ensures few { self.new.world.queues.pushes ≤ self.old.world.queues.pushes + 143394 }
+        ensures few { self.new.world.queues.pushes ≤ self.old.world.queues.pushes + 189477 }
         ensures notes { Takes S.takes sink.old (count_down self.old cpu task).notes sink.new }
         ensures answered { AreAnswered (count_down self.old cpu task).calls }
     {
@@ -247,15 +239,42 @@ impl Machine {
     #[tactic(auto, unfolding(crate::specs::Events::tick), using(crate::proofs::Taking::takings))]
     fn tick<S: Sink>(&mut self, cpu: u32, sink: &mut S)
         requires early { (t : ℕ) → (task_at self.old.world t).run_ns < 2 ^ 63 }
-        requires few { self.old.world.queues.pushes + 143394 ≤ 2 ^ 63 }
+        requires few { self.old.world.queues.pushes + 189477 ≤ 2 ^ 63 }
         ensures state { self.new ≡ (tick self.old cpu).state }
-        ensures few { self.new.world.queues.pushes ≤ self.old.world.queues.pushes + 143394 }
+        ensures few { self.new.world.queues.pushes ≤ self.old.world.queues.pushes + 189477 }
         ensures notes { Takes S.takes sink.old (tick self.old cpu).notes sink.new }
         ensures answered { AreAnswered (tick self.old cpu).calls }
     {
         match self.world.running(cpu) {
             Some(task) => self.count_down(cpu, task, sink),
             None => self.cycle(cpu, None, false, sink),
+        }
+    }
+
+    /// Who has waited too long, while the policy is in force.
+    fn overdue(&mut self) -> Option<u16>
+        ensures answer { result ≡ overdue self.old }
+        ensures same { self.new ≡ self.old }
+    {
+        if self.is_ejected() {
+            return None;
+        }
+        self.world.first_overdue(self.policy.timeout_ms())
+    }
+
+    /// The clock grows by a millisecond, and a policy that let a task wait too long is ejected.
+    #[tactic(auto, unfolding(crate::specs::Events::clock), using(crate::proofs::Taking::takings))]
+    fn clock<S: Sink>(&mut self, sink: &mut S)
+        requires early { self.old.world.clock < 2 ^ 32 }
+        requires few { self.old.world.queues.pushes + 1024 ≤ 2 ^ 63 }
+        ensures state { self.new ≡ (clock self.old).state }
+        ensures few { self.new.world.queues.pushes ≤ self.old.world.queues.pushes + 1024 }
+        ensures notes { Takes S.takes sink.old (clock self.old).notes sink.new }
+        ensures answered { AreAnswered (clock self.old).calls }
+    {
+        self.world.advance();
+        if let Some(task) = self.overdue() {
+            self.eject(Eject::Stall(task, self.world.clock()), sink);
         }
     }
 
@@ -275,7 +294,7 @@ impl Machine {
             Event::Wake(task) => self.wake(task, sink),
             Event::Sleep(task) => self.sleep(task, sink),
             Event::Tick(cpu) => self.tick(cpu, sink),
-            Event::Clock => self.world.advance(),
+            Event::Clock => self.clock(sink),
             Event::SetWeight(group, weight) => {
                 self.world.set_weight(group, weight);
                 sink.take(self.world.note(What::Weight(group, weight)));

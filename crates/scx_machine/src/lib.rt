@@ -7,6 +7,7 @@
 
 mod callbacks;
 mod cycle;
+mod ejecting;
 mod events;
 mod machine;
 mod policy;

@@ -81,6 +81,13 @@ impl Policy {
         &self.defs
     }
 
+    /// How long a task may wait, in milliseconds.
+    pub(crate) fn timeout_ms(&self) -> u64
+        ensures { result ≡ self.now.timeout_ms }
+    {
+        u64::from(self.timeout_ms)
+    }
+
     /// The program of a callback.
     pub(crate) fn program(&self, callback: Callback) -> Option<&Verified>
         ensures program { option_map (λ p. p.now) result ≡ program_of self.now callback }

@@ -1,13 +1,13 @@
 ghost use Rattle.std.specs.Prelude.{◌≡◌, ◌+◌, ◌≤◌, ◌^◌};
 ghost use Rattle.scx_machine.specs.Notes.{Takes};
 ghost use Rattle.scx_machine.specs.Callbacks.{AreAnswered};
-ghost use Rattle.scx_machine.specs.Put.{enters, wanted, put};
+ghost use Rattle.scx_machine.specs.Put.{enters, wanted, enters_builtin, comes_in, put};
 
 use crate::callbacks::task_and_number;
 use crate::machine::Machine;
 use crate::sink::Sink;
 use scx_isa::Callback;
-use scx_world::{Insert, What};
+use scx_world::{BUILTIN, Insert, What};
 
 impl Machine {
     /// The task comes to wait as the insert wants it to.
@@ -36,12 +36,41 @@ impl Machine {
         }
     }
 
+    /// The task comes to wait for the built-in scheduler.
+    #[tactic(auto, unfolding(crate::specs::Put::enters_builtin), using(crate::proofs::Taking::takings))]
+    fn enter_builtin<S: Sink>(&mut self, task: u16, sink: &mut S)
+        requires few { self.old.world.queues.pushes + 1 ≤ 2 ^ 63 }
+        ensures state { self.new ≡ (enters_builtin self.old task).state }
+        ensures few { self.new.world.queues.pushes ≤ self.old.world.queues.pushes + 1 }
+        ensures notes { Takes S.takes sink.old (enters_builtin self.old task).notes sink.new }
+        ensures answered { AreAnswered (enters_builtin self.old task).calls }
+    {
+        sink.take(self.world.note(What::Insert(task, BUILTIN)));
+        self.world.put_builtin(task);
+    }
+
+    /// The task comes to wait where enqueue wanted it to, or for the built-in scheduler.
+    #[tactic(auto, unfolding(crate::specs::Put::comes_in), using(crate::proofs::Taking::takings))]
+    fn come_in<S: Sink>(&mut self, task: u16, cpu: u32, sink: &mut S)
+        requires few { self.old.world.queues.pushes + 1 ≤ 2 ^ 63 }
+        ensures state { self.new ≡ (comes_in self.old task cpu).state }
+        ensures few { self.new.world.queues.pushes ≤ self.old.world.queues.pushes + 1 }
+        ensures notes { Takes S.takes sink.old (comes_in self.old task cpu).notes sink.new }
+        ensures answered { AreAnswered (comes_in self.old task cpu).calls }
+    {
+        if self.is_ejected() {
+            self.enter_builtin(task, sink);
+        } else {
+            self.enter(task, self.wanted(cpu), sink);
+        }
+    }
+
     /// Asks enqueue where the task is to wait, and puts it there.
     #[tactic(auto, unfolding(crate::specs::Put::put), using(crate::proofs::Taking::takings))]
     pub(crate) fn put<S: Sink>(&mut self, task: u16, cpu: u32, flags: u64, sink: &mut S)
-        requires few { self.old.world.queues.pushes + 4097 ≤ 2 ^ 63 }
+        requires few { self.old.world.queues.pushes + 5121 ≤ 2 ^ 63 }
         ensures state { self.new ≡ (put self.old task cpu flags).state }
-        ensures few { self.new.world.queues.pushes ≤ self.old.world.queues.pushes + 4097 }
+        ensures few { self.new.world.queues.pushes ≤ self.old.world.queues.pushes + 5121 }
         ensures notes { Takes S.takes sink.old (put self.old task cpu flags).notes sink.new }
         ensures answered { AreAnswered (put self.old task cpu flags).calls }
     {
@@ -52,7 +81,6 @@ impl Machine {
             cpu,
             sink,
         );
-        let insert = self.wanted(cpu);
-        self.enter(task, insert, sink);
+        self.come_in(task, cpu, sink);
     }
 }

@@ -4,7 +4,7 @@ use crate::policies::{SHORT_SLICES, callbacks, defs, policy, tree};
 use crate::session::Session;
 use scx_examples::INIT;
 use scx_isa::Callback;
-use scx_sched::{Callbacks, Event, NewError, Place, Policy, Sim};
+use scx_sched::{Callbacks, Eject, Event, Fault, NewError, Place, Policy, Sim};
 use scx_weights::{Group, Tree, TreeError};
 use std::alloc::{AllocError, Global};
 use std::fmt::Write;
@@ -123,78 +123,83 @@ fn inserting(alloc: Global, queue: &str, flags: &str) -> Result<String, AllocErr
     format!(in alloc; "r4 = {flags}\nr2 = {queue} ll\nr3 = 0\ncall 1002\nexit")
 }
 
-/// A task that wakes is held where its enqueue has a fault.
-fn is_held<R: AllocGlobal + Abort>(rt: &R, enqueue: &str) -> bool {
+/// What is wrong with the enqueue of a task that wakes.
+fn fault_of<R: AllocGlobal + Abort>(rt: &R, enqueue: &str) -> Option<Fault> {
     let texts = [(Callback::Init, INIT), (Callback::Enqueue, enqueue)];
-    place_after_wake(rt, &texts, 1) == Place::Held
+    let (_, ejected) = after_wake(rt, &texts, 1);
+    match ejected {
+        Some(Eject::Fault(fault, _)) => Some(fault),
+        Some(Eject::Stall(_, _)) | None => None,
+    }
 }
 
-/// Where a task is once it has woken on so many processors.
-fn place_after_wake<R: AllocGlobal + Abort>(
+/// Where a task is once it has woken on so many processors, and why the policy was ejected.
+fn after_wake<R: AllocGlobal + Abort>(
     rt: &R,
     texts: &[(Callback, &str)],
     cpus: u32,
-) -> Place {
+) -> (Place, Option<Eject>) {
     let mut session = Session::new(rt, texts, &[0, 0], cpus);
     session.run(rt, &[Event::Wake(0)]);
-    let place = session.place(rt, 0);
+    let found = (session.place(rt, 0), session.sim.ejected());
     drop(session);
-    place
+    found
 }
 
-/// Queues and flags, and whether a task that is inserted so is held.
-const INSERTS: [(&str, &str, bool); 11] = [
+/// Queues and flags, and what is wrong with an insert there.
+const INSERTS: [(&str, &str, Option<Fault>); 11] = [
     // Queue 0, GLOBAL, LOCAL and the local queue of processor 0.
-    ("0", "0", false),
-    ("9223372036854775809", "1", false),
-    ("9223372036854775810", "0", false),
-    ("13835058055282163712", "0", false),
+    ("0", "0", None),
+    ("9223372036854775809", "1", None),
+    ("9223372036854775810", "0", None),
+    ("13835058055282163712", "0", None),
     // An unknown flag, no such queue, HELD, BUILTIN, processor 1, and bits in the middle.
-    ("0", "2", true),
-    ("1", "0", true),
-    ("9223372036854775808", "0", true),
-    ("9223372036854775811", "0", true),
-    ("9223372036854775812", "0", true),
-    ("13835058055282163713", "0", true),
-    ("13835058059577131008", "0", true),
+    ("0", "2", Some(Fault::UnknownFlag)),
+    ("1", "0", Some(Fault::NoSuchQueue)),
+    ("9223372036854775808", "0", Some(Fault::NoSuchQueue)),
+    ("9223372036854775811", "0", Some(Fault::NoSuchQueue)),
+    ("9223372036854775812", "0", Some(Fault::NoSuchQueue)),
+    ("13835058055282163713", "0", Some(Fault::NoSuchCpu)),
+    ("13835058059577131008", "0", Some(Fault::NoSuchQueue)),
 ];
 
 #[test]
 fn inserts(rt: HostRuntime) -> Result<(), Fail> {
-    for &(queue, flags, held) in &INSERTS {
+    for &(queue, flags, fault) in &INSERTS {
         let enqueue = inserting(rt.alloc(), queue, flags)?;
-        assert_eq!(rt; is_held(&rt, enqueue.as_str()), held, "{queue} {flags}");
+        assert_eq!(rt; fault_of(&rt, enqueue.as_str()), fault, "{queue} {flags}");
     }
     Ok(())
 }
 
-/// Where a task is once dispatch has tried to move it from that queue.
+/// Why the policy is ejected once dispatch has tried to move a task from that queue. The task runs in any
+/// case.
 fn expect_move<R: AllocGlobal + Abort>(
     rt: &R,
     enqueue: &str,
     queue: &str,
-    wanted: Place,
+    wanted: Option<Eject>,
 ) -> Result<(), AllocError> {
     let dispatch = format!(in rt.alloc(); "r1 = {queue} ll\ncall 1004\nexit")?;
     assert_eq!(rt;
-        place_after_move(rt, enqueue, dispatch.as_str()),
-        wanted,
+        after_move(rt, enqueue, dispatch.as_str()),
+        (Place::Cpu(0), wanted),
         "{queue}"
     );
     Ok(())
 }
 
-fn place_after_move<'a, R: AllocGlobal + Abort>(
+fn after_move<'a, R: AllocGlobal + Abort>(
     rt: &R,
     enqueue: &'a str,
     dispatch: &'a str,
-) -> Place {
+) -> (Place, Option<Eject>) {
     let texts = [
         (Callback::Init, INIT),
         (Callback::Enqueue, enqueue),
         (Callback::Dispatch, dispatch),
     ];
-    place_after_wake(rt, &texts, 2)
+    after_wake(rt, &texts, 2)
 }
 
 /// No such queue, the first id that isn't a policy's, GLOBAL, LOCAL, HELD, BUILTIN, and the local queues of
@@ -212,10 +217,11 @@ const OTHER_QUEUES: [&str; 8] = [
 
 #[test]
 fn moves(rt: HostRuntime) -> Result<(), Fail> {
-    expect_move(&rt, SHORT_SLICES, "0", Place::Cpu(0))?;
+    expect_move(&rt, SHORT_SLICES, "0", None)?;
+    let no_such_queue = Some(Eject::Fault(Fault::NoSuchQueue, 0));
     for queue in &OTHER_QUEUES {
-        expect_move(&rt, SHORT_SLICES, queue, Place::Policy(0))?;
-        expect_move(&rt, "exit", queue, Place::Held)?;
+        expect_move(&rt, SHORT_SLICES, queue, no_such_queue)?;
+        expect_move(&rt, "exit", queue, no_such_queue)?;
     }
     Ok(())
 }

@@ -4,6 +4,10 @@
 #[cfg(test)]
 mod bounds;
 #[cfg(test)]
+mod ejecting;
+#[cfg(test)]
+mod faults;
+#[cfg(test)]
 mod policies;
 #[cfg(test)]
 mod recorder;
@@ -15,3 +19,5 @@ mod rows;
 mod selecting;
 #[cfg(test)]
 mod session;
+#[cfg(test)]
+mod waiting;

@@ -61,7 +61,16 @@ pub(crate) fn callbacks<R: AllocGlobal + Abort>(rt: &R, texts: &[(Callback, &str
 
 /// The policy whose callbacks have these texts.
 pub(crate) fn policy<R: AllocGlobal + Abort>(rt: &R, texts: &[(Callback, &str)]) -> Policy {
-    let policy = Policy::new(defs(rt), 30_000, callbacks(rt, texts));
+    policy_within(rt, 30_000, texts)
+}
+
+/// The same, under which a task may wait so many milliseconds.
+pub(crate) fn policy_within<R: AllocGlobal + Abort>(
+    rt: &R,
+    timeout_ms: u32,
+    texts: &[(Callback, &str)],
+) -> Policy {
+    let policy = Policy::new(defs(rt), timeout_ms, callbacks(rt, texts));
     policy.expect(rt, "each program is for its place")
 }
 

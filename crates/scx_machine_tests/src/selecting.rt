@@ -1,6 +1,6 @@
 //! scx_simple in both forms, and what select_cpu, virtual time and held tasks make of a wake. In what is
-//! noted 9223372036854775809 is GLOBAL, 9223372036854775811 is HELD, and 13835058055282163712 and the number
-//! behind it are the local queues of processors 0 and 1.
+//! noted 9223372036854775809 is GLOBAL, 9223372036854775811 is HELD, 9223372036854775812 is BUILTIN, and
+//! 13835058055282163712 and the number behind it are the local queues of processors 0 and 1.
 
 use crate::session::Session;
 use scx_examples::{
@@ -33,12 +33,6 @@ fn in_order<R: AllocGlobal + Abort>(rt: &R) -> Session {
     Session::new(rt, &texts, &[0], 1)
 }
 
-fn go_by(rt: &impl Abort, session: &mut Session, milliseconds: u32) {
-    for _ in 0..milliseconds {
-        session.run(rt, &[Event::Tick(0), Event::Clock]);
-    }
-}
-
 const BY_VTIME: &str = "0 Wake(0)
 0 Insert(0, 13835058055282163712)
 0 Run(0, 0)
@@ -56,9 +50,9 @@ const BY_VTIME: &str = "0 Wake(0)
 
 fn take_turns(rt: &impl Abort, session: &mut Session) {
     session.run(rt, &[Event::Wake(0), Event::Wake(1)]);
-    go_by(rt, session, 20);
+    session.go_by(rt, 20);
     session.has_vtime(rt, 0, 400_000);
-    go_by(rt, session, 20);
+    session.go_by(rt, 20);
     session.has_vtime(rt, 1, 400_000);
     session.noted(rt, BY_VTIME);
 }
@@ -83,11 +77,11 @@ const AWAKE_TWICE: &str = "0 Wake(0)
 
 fn sleep_and_wake(rt: &impl Abort, session: &mut Session) {
     session.run(rt, &[Event::Wake(0)]);
-    go_by(rt, session, 1);
+    session.go_by(rt, 1);
     session.run(rt, &[Event::Tick(0), Event::Sleep(0), Event::Clock]);
-    go_by(rt, session, 3);
+    session.go_by(rt, 3);
     session.run(rt, &[Event::Wake(0)]);
-    go_by(rt, session, 1);
+    session.go_by(rt, 1);
     session.noted(rt, AWAKE_TWICE);
 }
 
@@ -127,8 +121,9 @@ fn hold(rt: &impl Abort, session: &mut Session) {
     session.run(rt, &[Event::Wake(0)]);
     session.noted(rt, HELD_AND_INSERTED);
     session.has_slice(rt, 0, 2_000_000);
-    // The second task is held for ever: dispatch names the first alone, which is held no more.
-    session.run(rt, &[Event::Wake(1), Event::Tick(0), Event::Tick(0)]);
+    // The second task is held as long as dispatch isn't asked, and dispatch names the first alone, which is
+    // held no more.
+    session.run(rt, &[Event::Wake(1), Event::Tick(0)]);
     session.are_at(rt, &[(0, Place::Cpu(0)), (1, Place::Held)]);
 }
 
@@ -158,9 +153,10 @@ fn a_task_is_put_for_the_processor_that_is_named(rt: HostRuntime) {
 }
 
 #[test]
-fn a_processor_that_there_is_not_is_the_default_choice(rt: HostRuntime) {
+fn a_processor_that_there_is_not_ejects(rt: HostRuntime) {
     let wanted = "0 Wake(0)
-0 Insert(0, 9223372036854775809)
+0 Fault(NoSuchCpu)
+0 Insert(0, 9223372036854775812)
 0 Move(0, 0)
 0 Run(0, 0)
 ";
@@ -177,8 +173,11 @@ fn local_is_of_the_target(rt: HostRuntime) {
 ";
     on_wake(&rt, named, wanted);
     let unknown = "r2 = 9223372036854775810 ll\nr3 = 0\nr4 = 0\ncall 1002\nr0 = -1\nexit";
+    // What it inserted is dropped.
     let wanted = "0 Wake(0)
-0 Insert(0, 13835058055282163712)
+0 Fault(NoSuchCpu)
+0 Insert(0, 9223372036854775812)
+0 Move(0, 0)
 0 Run(0, 0)
 ";
     on_wake(&rt, unknown, wanted);

@@ -1,6 +1,6 @@
 //! A machine that is given events, and what it notes.
 
-use crate::policies::{policy, tree};
+use crate::policies::{policy, policy_within, tree};
 use crate::recorder::Recorder;
 use scx_isa::Callback;
 use scx_sched::{Event, Place, Policy, Refused, Sim};
@@ -32,7 +32,6 @@ impl Session {
     }
 
     /// A machine of the policy with these texts, with a task in each group of the list.
-
     pub(crate) fn new<R: AllocGlobal + Abort>(
         rt: &R,
         texts: &[(Callback, &str)],
@@ -42,11 +41,29 @@ impl Session {
         Session::of(rt, policy(rt, texts), tree(rt, tasks), cpus, 100)
     }
 
+    /// A machine of one processor, under whose policy a task may wait so many milliseconds.
+    pub(crate) fn within<R: AllocGlobal + Abort>(
+        rt: &R,
+        timeout_ms: u32,
+        texts: &[(Callback, &str)],
+        tasks: &[u32],
+    ) -> Session {
+        let policy = policy_within(rt, timeout_ms, texts);
+        Session::of(rt, policy, tree(rt, tasks), 1, 100)
+    }
+
     /// Each event is accepted.
     pub(crate) fn run(&mut self, rt: &impl Abort, events: &[Event]) {
         for &event in events {
             let answer = self.sim.step(event, &mut self.recorder);
             assert_eq!(rt; answer, Ok(()), "{event:?}");
+        }
+    }
+
+    /// So many milliseconds go by on the one processor.
+    pub(crate) fn go_by(&mut self, rt: &impl Abort, milliseconds: u32) {
+        for _ in 0..milliseconds {
+            self.run(rt, &[Event::Tick(0), Event::Clock]);
         }
     }
 
@@ -89,6 +106,13 @@ impl Session {
         let known = task < self.sim.tasks();
         assert!(rt; known);
         assert_eq!(rt; self.sim.vtime(task), wanted);
+    }
+
+    /// The task has waited so many milliseconds.
+    pub(crate) fn has_waited(&self, rt: &impl Abort, task: u16, wanted: u64) {
+        let known = task < self.sim.tasks();
+        assert!(rt; known);
+        assert_eq!(rt; self.sim.wait(task), wanted, "task {task}");
     }
 
     pub(crate) fn has_slice(&self, rt: &impl Abort, task: u16, wanted: u64) {

@@ -12,9 +12,10 @@ use Rattle.scx_vm.specs.Arguments.{given}
 use Rattle.scx_vm.specs.Host.{host}
 use Rattle.scx_world.specs.World.{WorldState, begun}
 use Rattle.scx_world.specs.Helpers.{world_functions}
-use Rattle.scx_machine.specs.Policy.{program_of}
-use Rattle.scx_machine.specs.Steps.{State, Stepped}
-use Rattle.scx_machine.specs.Callbacks.{calls_of, ended}
+use Rattle.scx_world.specs.declared.faults.Fault.{Fault}
+use Rattle.scx_machine.specs.Steps.{State, Stepped, joined}
+use Rattle.scx_machine.specs.Callbacks.{acting, calls_of, ended}
+use Rattle.scx_rules.specs.Ejections.{FaultOf, Judges}
 
 -- the world as that which answers a program
 abbrev pub answering : Outside WorldState
@@ -30,11 +31,16 @@ pub data EndsAs (program : Option VerifiedProgram) (b : Callback) (a : Arguments
 
 -- what the machine goes on from; what the world noted is handed on
 abbrev pub leaving : State → Callback → Arguments → WorldState → Ending WorldState → Stepped
-leaving s b a w e = record { state = ended s.policy e; notes = e.outside.notes; calls = calls_of (program_of s.policy b) a s.maps w }
+leaving s b a w e = record { state = ended s.policy e; notes = e.outside.notes; calls = calls_of (acting s b) a s.maps w }
 
--- with that task and processor at hand, it answers so, if it comes to an answer
+-- with that task and processor at hand, it answers so, if it comes to an answer, and ejects the policy where
+-- it has a fault; none is called once the policy is ejected
 pub record CallsBack (s : State) (b : Callback) (a : Arguments) (t c : ℕ) (answer : Option ℕ) (r : Stepped) : Type 0 where
   pub ending : Ending WorldState
-  pub ends : EndsAs (program_of s.policy b) b a s.maps (begun s.world b t c) ending
+  pub ends : EndsAs (acting s b) b a s.maps (begun s.world b t c) ending
   pub answers : answer ≡ ending.answer
-  pub all : r ≡ leaving s b a (begun s.world b t c) ending
+  pub fault : Option Fault
+  pub wrong : FaultOf b ending fault
+  pub ejected : Stepped
+  pub judged : Judges (ended s.policy ending) fault ejected
+  pub all : r ≡ joined (leaving s b a (begun s.world b t c) ending) ejected

@@ -1,6 +1,6 @@
 -- The scheduling cycle, by cases and with its steps named (sched-ext.rst, "Scheduling Cycle"): a task is
 -- put, the local queue is filled, the front of it is picked, dispatch is asked. A callback of the policy is
--- given by the run of its program.
+-- given by the run of its program; once the policy is ejected, the built-in scheduler does its work.
 use Rattle.std.specs.Prelude.{◌≡◌, ℕ, suc, ◌<◌, Bool, true, false, [], ◌∷◌, Option, Some, None}
 use Rattle.scx_dsq.specs.Queues.{front_of}
 use Rattle.scx_dsq.specs.Calls.{pushed, popped}
@@ -10,9 +10,11 @@ use Rattle.scx_safety.specs.Programs.{VerifiedProgram}
 use Rattle.scx_world.specs.declared.call.Insert.{Insert}
 use Rattle.scx_world.specs.declared.notes.What.{What}
 use Rattle.scx_world.specs.declared.notes.What.TheVariants as note
-use Rattle.scx_world.specs.Ids.{global, local_on}
+use Rattle.scx_world.specs.declared.eject.Eject.{Eject}
+use Rattle.scx_world.specs.Ids.{global, builtin, local_on}
 use Rattle.scx_world.specs.World.{WorldState, with_queues, said}
 use Rattle.scx_world.specs.Tasks.{local_len, entered, for_cpu, to_held, to_global, stopped, started_at, kept}
+use Rattle.scx_world.specs.Ejecting.{put_builtin, overtaken, charged}
 use Rattle.scx_machine.specs.Steps.{State, Stepped, with_world, stays, after, joined}
 use Rattle.scx_machine.specs.Callbacks.{call_back, one_task, task_and_number, cpu_and_task}
 use Rattle.scx_machine.specs.Cycle.{cycling}
@@ -33,25 +35,35 @@ enqueue_called s t c flags = call_back s callback.Enqueue (task_and_number t fla
 abbrev pub dispatch_called : State → ℕ → Option ℕ → Stepped
 dispatch_called s c p = call_back s callback.Dispatch (cpu_and_task c p) 0 c
 
--- once the task has left its processor; the number says whether it stays runnable
-abbrev pub stopping_called : State → ℕ → ℕ → ℕ → Stepped
-stopping_called s c t runnable = call_back (with_world s (stopped s.world c t)) callback.Stopping (task_and_number t runnable) t c
+-- the task has left its processor; the number says whether it stays runnable
+pub data HasStopped (s : State) (c t runnable : ℕ) (r : Stepped) : Type 0 where
+  Policy_hears : s.world.ejected ≡ None → r ≡ call_back s callback.Stopping (task_and_number t runnable) t c → HasStopped s c t runnable r
+  Is_charged : (x : Eject) → s.world.ejected ≡ Some x → r ≡ silent s (charged s.world t) → HasStopped s c t runnable r
 
--- once the task has come to its processor
-abbrev pub running_called : State → ℕ → ℕ → Stepped
-running_called s c t = call_back (with_world s (started_at (Some t) s.world c)) callback.Running (one_task t) t c
+-- the task has come to its processor
+pub data HasStarted (s : State) (c t : ℕ) (r : Stepped) : Type 0 where
+  Policy_learns : s.world.ejected ≡ None → r ≡ call_back s callback.Running (one_task t) t c → HasStarted s c t r
+  Catches_up : (x : Eject) → s.world.ejected ≡ Some x → r ≡ silent s (overtaken s.world t) → HasStarted s c t r
+
+abbrev pub gone_off : State → ℕ → ℕ → State
+gone_off s c t = with_world s (stopped s.world c t)
+
+abbrev pub gone_on : State → ℕ → ℕ → State
+gone_on s c t = with_world s (started_at (Some t) s.world c)
 
 -- ---- put
 
 abbrev pub entering : State → ℕ → Insert → Stepped
 entering s t i = noting s (entered s.world t i) (note.Insert t i.queue)
 
--- after enqueue the task comes to wait: where the callback said, LOCAL being of that processor, held where it said nothing, and for any
--- processor where there is no such callback
+-- after enqueue the task comes to wait: where the callback said, LOCAL being of that processor, held where it
+-- said nothing, and for any processor where there is no such callback; and for the built-in scheduler where
+-- the policy is ejected
 pub data Enters (s : State) (t c : ℕ) (r : Stepped) : Type 0 where
-  Default : s.policy.callbacks.enqueue ≡ None → r ≡ entering s t to_global → Enters s t c r
-  Held : (p : VerifiedProgram) → s.policy.callbacks.enqueue ≡ Some p → s.world.call.insert ≡ None → r ≡ entering s t to_held → Enters s t c r
-  Inserted : (p : VerifiedProgram) (i : Insert) → s.policy.callbacks.enqueue ≡ Some p → s.world.call.insert ≡ Some i → r ≡ entering s t (for_cpu c i) → Enters s t c r
+  For_builtin : (x : Eject) → s.world.ejected ≡ Some x → r ≡ noting s (put_builtin s.world t) (note.Insert t builtin) → Enters s t c r
+  Default : s.world.ejected ≡ None → s.policy.callbacks.enqueue ≡ None → r ≡ entering s t to_global → Enters s t c r
+  Held : (p : VerifiedProgram) → s.world.ejected ≡ None → s.policy.callbacks.enqueue ≡ Some p → s.world.call.insert ≡ None → r ≡ entering s t to_held → Enters s t c r
+  Inserted : (p : VerifiedProgram) (i : Insert) → s.world.ejected ≡ None → s.policy.callbacks.enqueue ≡ Some p → s.world.call.insert ≡ Some i → r ≡ entering s t (for_cpu c i) → Enters s t c r
 
 pub record Puts (s : State) (t c flags : ℕ) (r : Stepped) : Type 0 where
   pub put : Stepped
@@ -60,19 +72,19 @@ pub record Puts (s : State) (t c flags : ℕ) (r : Stepped) : Type 0 where
 
 -- ---- fill
 
--- where the local queue is empty, the front of the queue of all processors comes to it
-pub data Fills (s : State) (c : ℕ) (r : Stepped) : Type 0 where
-  Has_local : 0 < local_len s.world c → r ≡ stays s → Fills s c r
-  No_other : local_len s.world c ≡ 0 → front_of s.world.queues global ≡ None → r ≡ stays s → Fills s c r
-  Moves : (t : ℕ) → local_len s.world c ≡ 0 → front_of s.world.queues global ≡ Some t
-      → r ≡ noting s (with_queues s.world (pushed (popped s.world.queues global) (local_on c) t Fifo)) (note.Move t c) → Fills s c r
+-- where the local queue is empty, the front of another comes to it
+pub data Fills (s : State) (q c : ℕ) (r : Stepped) : Type 0 where
+  Has_local : 0 < local_len s.world c → r ≡ stays s → Fills s q c r
+  No_other : local_len s.world c ≡ 0 → front_of s.world.queues q ≡ None → r ≡ stays s → Fills s q c r
+  Moves : (t : ℕ) → local_len s.world c ≡ 0 → front_of s.world.queues q ≡ Some t
+      → r ≡ noting s (with_queues s.world (pushed (popped s.world.queues q) (local_on c) t Fifo)) (note.Move t c) → Fills s q c r
 
 -- ---- dispatch
 
 -- a call of dispatch, and then the queue of all processors
 pub record Dispatches (s : State) (c : ℕ) (p : Option ℕ) (r : Stepped) : Type 0 where
   pub filled : Stepped
-  pub fills : Fills (dispatch_called s c p).state c filled
+  pub fills : Fills (dispatch_called s c p).state global c filled
   pub all : r ≡ joined (dispatch_called s c p) filled
 
 -- so many calls at most: one more where the local queue is still empty and the last call moved a task
@@ -88,22 +100,16 @@ pub data Asks : ℕ → State → ℕ → Option ℕ → Stepped → Type 0 wher
 -- the task before leaves the processor, and is put
 pub data Leaves (s : State) (c : ℕ) (p : Option ℕ) (r : Stepped) : Type 0 where
   Nobody : p ≡ None → r ≡ stays s → Leaves s c p r
-  Stops : (t : ℕ) (put : Stepped) → p ≡ Some t → Puts (stopping_called s c t 1).state t c 0 put
-      → r ≡ after (said s.world (note.Stop t c) ∷ []) (joined (stopping_called s c t 1) put) → Leaves s c p r
+  Stops : (t : ℕ) (left put : Stepped) → p ≡ Some t → HasStopped (gone_off s c t) c t 1 left → Puts left.state t c 0 put
+      → r ≡ after (said s.world (note.Stop t c) ∷ []) (joined left put) → Leaves s c p r
 
 -- the front of the local queue runs
 pub data Starts (s : State) (c : ℕ) (r : Stepped) : Type 0 where
   Empty : front_of s.world.queues (local_on c) ≡ None → r ≡ stays s → Starts s c r
-  Front : (t : ℕ) → front_of s.world.queues (local_on c) ≡ Some t → r ≡ after (said s.world (note.Run t c) ∷ []) (running_called s c t) → Starts s c r
+  Front : (t : ℕ) (begun : Stepped) → front_of s.world.queues (local_on c) ≡ Some t → HasStarted (gone_on s c t) c t begun
+      → r ≡ after (said s.world (note.Run t c) ∷ []) begun → Starts s c r
 
-pub record Picks (s : State) (c : ℕ) (p : Option ℕ) (r : Stepped) : Type 0 where
-  pub left : Stepped
-  pub leaves : Leaves s c p left
-  pub started : Stepped
-  pub starts : Starts left.state c started
-  pub all : r ≡ joined left started
-
--- ---- cycle
+-- ---- rest
 
 -- nobody came: the task before keeps the processor, or it is idle, which is noted where a task ran there as
 -- the event began
@@ -112,18 +118,57 @@ pub data Rests (s : State) (c : ℕ) : Option ℕ → Bool → Stepped → Type 
   Idles : (r : Stepped) → r ≡ noting s s.world (note.Idle c) → Rests s c None true r
   Was_idle : (r : Stepped) → r ≡ stays s → Rests s c None false r
 
+-- ---- the built-in scheduler's cycle
+
+-- the front of the local queue runs in the place of the task before
+pub record Swaps (s : State) (c : ℕ) (p : Option ℕ) (r : Stepped) : Type 0 where
+  pub left : Stepped
+  pub leaves : Leaves s c p left
+  pub started : Stepped
+  pub starts : Starts left.state c started
+  pub all : r ≡ joined left started
+
+pub data SwapsOrRests (s : State) (c : ℕ) (p : Option ℕ) (ran : Bool) (r : Stepped) : Type 0 where
+  Swapped : 0 < local_len s.world c → Swaps s c p r → SwapsOrRests s c p ran r
+  Kept : local_len s.world c ≡ 0 → Rests s c p ran r → SwapsOrRests s c p ran r
+
+-- the local queue is filled from GLOBAL, or else from the built-in scheduler's queue
+pub record CyclesBuiltin (s : State) (c : ℕ) (p : Option ℕ) (ran : Bool) (r : Stepped) : Type 0 where
+  pub filled : Stepped
+  pub fills : Fills s global c filled
+  pub asked : Stepped
+  pub asks : Fills filled.state builtin c asked
+  pub ended : Stepped
+  pub ends : SwapsOrRests asked.state c p ran ended
+  pub all : r ≡ joined filled (joined asked ended)
+
+-- ---- the policy's cycle
+
+-- the front of the local queue runs in the place of the task before; where an ejection as that left has
+-- emptied the local queue, the cycle begins anew
+pub data Picks (s : State) (c : ℕ) (p : Option ℕ) (ran : Bool) (r : Stepped) : Type 0 where
+  Runs_front : (left started : Stepped) → Leaves s c p left → 0 < local_len left.state.world c → Starts left.state c started → r ≡ joined left started → Picks s c p ran r
+  Emptied : (left anew : Stepped) → Leaves s c p left → local_len left.state.world c ≡ 0 → CyclesBuiltin left.state c None ran anew → r ≡ joined left anew → Picks s c p ran r
+
+-- once dispatch was asked
 pub data Ends (s : State) (c : ℕ) (p : Option ℕ) (ran : Bool) (r : Stepped) : Type 0 where
-  Picked : 0 < local_len s.world c → Picks s c p r → Ends s c p ran r
-  Rested : local_len s.world c ≡ 0 → Rests s c p ran r → Ends s c p ran r
+  Anew : (x : Eject) → s.world.ejected ≡ Some x → CyclesBuiltin s c p ran r → Ends s c p ran r
+  Picked : s.world.ejected ≡ None → 0 < local_len s.world c → Picks s c p ran r → Ends s c p ran r
+  Rested : s.world.ejected ≡ None → local_len s.world c ≡ 0 → Rests s c p ran r → Ends s c p ran r
 
 -- of a processor on which that task ran and may stay, or none
 pub data Seeks (s : State) (c : ℕ) (p : Option ℕ) (ran : Bool) (r : Stepped) : Type 0 where
-  Filled : (filled picked : Stepped) → Fills s c filled → 0 < local_len filled.state.world c → Picks filled.state c p picked → r ≡ joined filled picked → Seeks s c p ran r
-  Asked : (filled asked ended : Stepped) → Fills s c filled → local_len filled.state.world c ≡ 0 → Asks 32 filled.state c p asked → Ends asked.state c p ran ended
+  Filled : (filled picked : Stepped) → Fills s global c filled → 0 < local_len filled.state.world c → Picks filled.state c p ran picked → r ≡ joined filled picked → Seeks s c p ran r
+  Asked : (filled asked ended : Stepped) → Fills s global c filled → local_len filled.state.world c ≡ 0 → Asks 32 filled.state c p asked → Ends asked.state c p ran ended
       → r ≡ joined filled (joined asked ended) → Seeks s c p ran r
+
+-- of whichever scheduler is in force
+pub data Looks (s : State) (c : ℕ) (p : Option ℕ) (ran : Bool) (r : Stepped) : Type 0 where
+  Of_policy : s.world.ejected ≡ None → Seeks s c p ran r → Looks s c p ran r
+  Of_builtin : (x : Eject) → s.world.ejected ≡ Some x → CyclesBuiltin s c p ran r → Looks s c p ran r
 
 -- a cycle is under way from the first step to the last
 pub record Cycles (s : State) (c : ℕ) (p : Option ℕ) (ran : Bool) (r : Stepped) : Type 0 where
   pub found : Stepped
-  pub seeks : Seeks (cycling s (Some c)) c p ran found
+  pub looks : Looks (cycling s (Some c)) c p ran found
   pub all : r ≡ record { state = cycling found.state None; notes = found.notes; calls = found.calls }

@@ -5,14 +5,18 @@ use Rattle.scx_semantics.specs.declared.callbacks.Callback.TheVariants as callba
 use Rattle.scx_safety.specs.Programs.{VerifiedProgram}
 use Rattle.scx_world.specs.declared.call.Insert.{Insert}
 use Rattle.scx_world.specs.declared.notes.What.TheVariants as note
-use Rattle.scx_world.specs.World.{with_tree, task_at, running, cpu_of, is_idle, said}
+use Rattle.scx_world.specs.World.{with_tree, task_at, wait, running, cpu_of, is_idle, said}
+use Rattle.scx_world.specs.declared.eject.Eject.{Eject}
+use Rattle.scx_world.specs.declared.eject.Eject.TheVariants as cause
 use Rattle.scx_world.specs.Tasks.{for_cpu, woken, asleep, gone, ticked, later}
+use Rattle.scx_world.specs.Waits.{IsFirstOverdue}
 use Rattle.scx_machine.specs.declared.events.Event.{Event}
 use Rattle.scx_machine.specs.declared.events.Event.TheVariants.{Wake, Sleep, Tick, Clock, SetWeight}
-use Rattle.scx_machine.specs.Steps.{State, Stepped, with_world, after, joined}
+use Rattle.scx_machine.specs.Steps.{State, Stepped, with_world, stays, after, joined}
 use Rattle.scx_machine.specs.Callbacks.{call_back, answered_by, task_cpu_and_0}
 use Rattle.scx_rules.specs.Helpers.{IsChoice}
-use Rattle.scx_rules.specs.Cycles.{noting, silent, entering, stopping_called, Puts, Cycles}
+use Rattle.scx_rules.specs.Ejections.{Ejects}
+use Rattle.scx_rules.specs.Cycles.{noting, silent, entering, gone_off, HasStopped, Puts, Cycles}
 
 abbrev pub awake : State → ℕ → State
 awake s t = with_world s (woken s.world t)
@@ -24,15 +28,17 @@ select_called s t = call_back s callback.SelectCpu (task_cpu_and_0 t (task_at s.
 abbrev pub select_answered : State → ℕ → Option ℕ
 select_answered s t = answered_by s callback.SelectCpu (task_cpu_and_0 t (task_at s.world t).prev_cpu) t (task_at s.world t).prev_cpu
 
--- after select_cpu, which answered so: the processor that it names, if there is such a one, else the default
--- choice
+-- after select_cpu, which answered so: the processor that it names; the default choice where there is no such
+-- callback, or the policy is ejected, as it is by an answer that is no processor
 pub data IsTarget (s : State) (t : ℕ) (answer : Option ℕ) (c : ℕ) : Type 0 where
-  No_callback : s.policy.callbacks.select_cpu ≡ None → IsChoice s.world t c → IsTarget s t answer c
-  Named : (p : VerifiedProgram) → s.policy.callbacks.select_cpu ≡ Some p → answer ≡ Some c → c < length s.world.cpus → IsTarget s t answer c
-  No_such_cpu : (p : VerifiedProgram) (n : ℕ) → s.policy.callbacks.select_cpu ≡ Some p → answer ≡ Some n → length s.world.cpus ≤ n → IsChoice s.world t c → IsTarget s t answer c
-  No_answer : (p : VerifiedProgram) → s.policy.callbacks.select_cpu ≡ Some p → answer ≡ None → IsChoice s.world t c → IsTarget s t answer c
+  Is_ejected : (x : Eject) → s.world.ejected ≡ Some x → IsChoice s.world t c → IsTarget s t answer c
+  No_callback : s.world.ejected ≡ None → s.policy.callbacks.select_cpu ≡ None → IsChoice s.world t c → IsTarget s t answer c
+  Named : (p : VerifiedProgram) → s.world.ejected ≡ None → s.policy.callbacks.select_cpu ≡ Some p → answer ≡ Some c → c < length s.world.cpus → IsTarget s t answer c
+  No_such_cpu : (p : VerifiedProgram) (n : ℕ) → s.world.ejected ≡ None → s.policy.callbacks.select_cpu ≡ Some p → answer ≡ Some n → length s.world.cpus ≤ n → IsChoice s.world t c → IsTarget s t answer c
+  No_answer : (p : VerifiedProgram) → s.world.ejected ≡ None → s.policy.callbacks.select_cpu ≡ Some p → answer ≡ None → IsChoice s.world t c → IsTarget s t answer c
 
--- what select_cpu inserted is applied, LOCAL being of the target; else the task is put
+-- what select_cpu inserted is applied, LOCAL being of the target; else the task is put. An ejection has
+-- dropped what was inserted
 pub data Settles (s : State) (t c : ℕ) (r : Stepped) : Type 0 where
   Was_inserted : (i : Insert) → s.world.call.insert ≡ Some i → r ≡ entering s t (for_cpu c i) → Settles s t c r
   Is_put : s.world.call.insert ≡ None → Puts s t c 1 r → Settles s t c r
@@ -49,9 +55,9 @@ pub data Wakes (s : State) (t : ℕ) (r : Stepped) : Type 0 where
 -- the task leaves its queue, or its processor, which looks for another task
 pub data Sleeps (s : State) (t : ℕ) (r : Stepped) : Type 0 where
   From_queue : cpu_of s.world t ≡ None → r ≡ after (said s.world (note.Sleep t) ∷ []) (silent s (asleep (gone s.world t) t)) → Sleeps s t r
-  From_cpu : (c : ℕ) (found : Stepped) → cpu_of s.world t ≡ Some c
-      → Cycles (with_world (stopping_called s c t 0).state (asleep (stopping_called s c t 0).state.world t)) c None true found
-      → r ≡ after (said s.world (note.Sleep t) ∷ said s.world (note.Stop t c) ∷ []) (joined (stopping_called s c t 0) found) → Sleeps s t r
+  From_cpu : (c : ℕ) (left found : Stepped) → cpu_of s.world t ≡ Some c → HasStopped (gone_off s c t) c t 0 left
+      → Cycles (with_world left.state (asleep left.state.world t)) c None true found
+      → r ≡ after (said s.world (note.Sleep t) ∷ said s.world (note.Stop t c) ∷ []) (joined left found) → Sleeps s t r
 
 -- the task that runs there runs on while its slice lasts; else the processor looks for a task
 pub data Ticks (s : State) (c : ℕ) (r : Stepped) : Type 0 where
@@ -59,9 +65,22 @@ pub data Ticks (s : State) (c : ℕ) (r : Stepped) : Type 0 where
   Runs_on : (t : ℕ) → running s.world c ≡ Some t → 0 < (task_at (ticked s.world t) t).slice → r ≡ silent s (ticked s.world t) → Ticks s c r
   Runs_out : (t : ℕ) → running s.world c ≡ Some t → (task_at (ticked s.world t) t).slice ≡ 0 → Cycles (with_world s (ticked s.world t)) c (Some t) true r → Ticks s c r
 
+abbrev pub aged : State → State
+aged s = with_world s (later s.world)
+
+abbrev pub NobodyIsOverdue : State → Type 0
+NobodyIsOverdue s = (t : ℕ) → t < length s.world.tasks → wait s.world t ≤ s.policy.timeout_ms
+
+-- the clock grows; where a task has waited longer by then than a policy in force may let it, the policy is
+-- ejected, and the task of the least number is named
+pub data Ages (s : State) (r : Stepped) : Type 0 where
+  Is_out : (x : Eject) → s.world.ejected ≡ Some x → r ≡ stays (aged s) → Ages s r
+  In_time : s.world.ejected ≡ None → NobodyIsOverdue (aged s) → r ≡ stays (aged s) → Ages s r
+  Too_late : (t : ℕ) → s.world.ejected ≡ None → IsFirstOverdue (later s.world) s.policy.timeout_ms t → Ejects (aged s) (cause.Stall t (later s.world).clock) r → Ages s r
+
 abbrev pub Happens : State → Event → Stepped → Type 0
 Happens s (Wake t) r = Wakes s t r
 Happens s (Sleep t) r = Sleeps s t r
 Happens s (Tick c) r = Ticks s c r
-Happens s Clock r = r ≡ silent s (later s.world)
+Happens s Clock r = Ages s r
 Happens s (SetWeight g x) r = r ≡ noting s (with_tree s.world (with_weight s.world.tree g x)) (note.Weight g x)

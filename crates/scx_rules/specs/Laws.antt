@@ -12,8 +12,8 @@ use Rattle.scx_world.specs.Helpers.{helper_answer, helper_after}
 use Rattle.scx_machine.specs.declared.events.Event.{Event}
 use Rattle.scx_machine.specs.declared.events.Refused.{Refused}
 use Rattle.scx_machine.specs.Steps.{State, Stepped}
-use Rattle.scx_machine.specs.Policy.{PolicyState, program_of, IsAs, AreAs}
-use Rattle.scx_machine.specs.Callbacks.{call_back, answered_by, AreAnswered}
+use Rattle.scx_machine.specs.Policy.{PolicyState, IsAs, AreAs}
+use Rattle.scx_machine.specs.Callbacks.{acting, call_back, answered_by, AreAnswered}
 use Rattle.scx_machine.specs.Cycle.{cycle}
 use Rattle.scx_machine.specs.Events.{refusal, happened}
 use Rattle.scx_machine.specs.Start.{is_bad_shape, started, start_calls}
@@ -37,7 +37,7 @@ RulesAllowHelpersOnly =
 -- an event calls
 abbrev pub RulesAllowCallbacks : Type 0
 RulesAllowCallbacks =
-    (s : State) (b : Callback) (a : Arguments) (t c : ℕ) → IsAs b (program_of s.policy b) → AreAnswered (call_back s b a t c).calls → CallsBack s b a t c (answered_by s b a t c) (call_back s b a t c)
+    (s : State) (b : Callback) (a : Arguments) (t c : ℕ) → IsAs b (acting s b) → AreAnswered (call_back s b a t c).calls → CallsBack s b a t c (answered_by s b a t c) (call_back s b a t c)
 
 abbrev pub RulesAllowCallbacksOnly : Type 0
 RulesAllowCallbacksOnly =

@@ -1,4 +1,5 @@
 pub mod Helpers
+pub mod Ejections
 pub mod Callbacks
 pub mod Cycles
 pub mod Events

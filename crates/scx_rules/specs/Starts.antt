@@ -6,9 +6,9 @@ use Rattle.scx_semantics.specs.declared.callbacks.Callback.TheVariants as callba
 use Rattle.scx_semantics.specs.Endings.{Ending}
 use Rattle.scx_world.specs.declared.faults.Fault.{Fault}
 use Rattle.scx_world.specs.World.{WorldState, begun}
-use Rattle.scx_machine.specs.Policy.{PolicyState, program_of}
+use Rattle.scx_machine.specs.Policy.{PolicyState}
 use Rattle.scx_machine.specs.Steps.{State}
-use Rattle.scx_machine.specs.Callbacks.{ended, no_arguments, one_task}
+use Rattle.scx_machine.specs.Callbacks.{acting, ended, no_arguments, one_task}
 use Rattle.scx_machine.specs.Start.{blank, fault_answer}
 use Rattle.scx_rules.specs.Callbacks.{EndsAs}
 
@@ -29,7 +29,7 @@ pub data Judged (s : State) (e : Ending WorldState) (r : Result State ℤ) : Typ
 
 pub record Initializes (s : State) (r : Result State ℤ) : Type 0 where
   pub ending : Ending WorldState
-  pub ends : EndsAs (program_of s.policy callback.Init) callback.Init no_arguments s.maps (begun s.world callback.Init 0 0) ending
+  pub ends : EndsAs (acting s callback.Init) callback.Init no_arguments s.maps (begun s.world callback.Init 0 0) ending
   pub judged : Judged s ending r
 
 -- ---- enable
@@ -42,7 +42,7 @@ pub data Passes (s : State) (e : Ending WorldState) (r : Option State) : Type 0 
 
 pub record Enables (s : State) (t : ℕ) (r : Option State) : Type 0 where
   pub ending : Ending WorldState
-  pub ends : EndsAs (program_of s.policy callback.Enable) callback.Enable (one_task t) s.maps (begun s.world callback.Enable t 0) ending
+  pub ends : EndsAs (acting s callback.Enable) callback.Enable (one_task t) s.maps (begun s.world callback.Enable t 0) ending
   pub passes : Passes s ending r
 
 -- of the first tasks; none after one that fails

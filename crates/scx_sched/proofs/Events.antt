@@ -87,7 +87,7 @@ module _ (n e : ℕ) where
 
   fine_select : (on : List (Option ℕ)) (s : State) (t : ℕ) → t < n → IsFine n e (Some t) on s.world → IsFineNow n e (select s t).state.world
   unfolding select
-  fine_select on s t within h = fine_settle on r.state t (target r.state.policy.callbacks.select_cpu r.state.world t a) within l x
+  fine_select on s t within h = fine_settle on r.state t (target (acting r.state callback.SelectCpu) r.state.world t a) within l x
     where
       c : ℕ
       c = (task_at s.world t).prev_cpu
@@ -101,9 +101,9 @@ module _ (n e : ℕ) where
       x : IsFine n e (Some t) on r.state.world
       x = keeps_call_back n (IsFine n e) (fine_steps n e) (Some t) on s callback.SelectCpu (task_cpu_and_0 t c) t c (h.sound.homes t) h
 
-      l : target r.state.policy.callbacks.select_cpu r.state.world t a < length on
-      l = subst (λ (xs : List (Option ℕ)). target r.state.policy.callbacks.select_cpu r.state.world t a < length xs) x.sound.cpus
-          (target_is_there r.state.policy.callbacks.select_cpu r.state.world t a (rw x.sound.cpus (x.sound.homes t)))
+      l : target (acting r.state callback.SelectCpu) r.state.world t a < length on
+      l = subst (λ (xs : List (Option ℕ)). target (acting r.state callback.SelectCpu) r.state.world t a < length xs) x.sound.cpus
+          (target_is_there (acting r.state callback.SelectCpu) r.state.world t a (rw x.sound.cpus (x.sound.homes t)))
 
   fine_wake : (s : State) (t : ℕ) → t < n → is_runnable s.world t ≡ false → IsFineNow n e s.world → IsFineNow n e (wake s t).state.world
   unfolding wake

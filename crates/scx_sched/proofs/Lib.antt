@@ -11,3 +11,4 @@ pub mod Firsts
 pub mod Lengths
 pub mod Leaving
 pub mod Idle
+pub mod Timely

@@ -1,16 +1,18 @@
 -- Each push that the machine makes is accepted.
-use Rattle.std.proofs.Common.{arith, ◌≡◌, ℕ, ◌<◌, true, List, length, Option, Some, None}
-use Rattle.scx_dsq.specs.Queues.{front_of}
+use Rattle.std.proofs.Common.{arith, ◌≡◌, ℕ, ◌<◌, true, List, length, Option, Some, None, refl}
+use Rattle.scx_dsq.specs.Queues.{QueueState, exists, place_of, front_of}
+use Rattle.scx_dsq.specs.Facts.{ids_removed}
 use Rattle.scx_dsq.specs.Calls.{push_refusal, popped, removed}
-use Rattle.scx_dsq.specs.declared.places.Rank.TheVariants.{Fifo}
-use Rattle.scx_world.specs.Ids.{local_on}
+use Rattle.scx_dsq.specs.declared.places.Rank.TheVariants.{Fifo, Vtime}
+use Rattle.scx_world.specs.Ids.{builtin, local_on}
 use Rattle.scx_world.specs.World.{WorldState}
 use Rattle.scx_world.specs.declared.call.Insert.{Insert}
 use Rattle.scx_world.specs.Tasks.{resolved}
 use Rattle.scx_world.specs.Helpers.{is_dispatch, insert_fault}
 use Rattle.scx_sched.specs.Accepted.{IsPushAccepted}
-use Rattle.scx_sched.specs.Once.{IsSound}
-use Rattle.scx_sched.proofs.Entering.{nowhere, own_open, is_accepted, sorted_popped, stay_without, open_removed, local_sort}
+use Rattle.scx_world.specs.Ejecting.{raised}
+use Rattle.scx_sched.specs.Once.{IsSorted, IsSound}
+use Rattle.scx_sched.proofs.Entering.{nowhere, own_open, is_accepted, sorted_popped, sorted_removed, stay_without, open_removed, local_sort}
 use Rattle.scx_sched.proofs.Sound.{left_place, is_fit, fit_open, held_waits, held_in_dispatch, wanted_open}
 
 takes_front : (hand : Option ℕ) (on : List (Option ℕ)) (n : ℕ) (w : WorldState) (q c t : ℕ) → c < length on → front_of w.queues q ≡ Some t → IsSound hand on n w → push_refusal (popped w.queues q) (local_on c) t Fifo ≡ None
@@ -25,11 +27,17 @@ takes_held hand on n w t i flags x e h =
     let here = held_waits w t (held_in_dispatch w (Some t) x fit.may) in
     is_accepted (removed w.queues t) t (resolved w.call.cpu i.queue) i.rank here.free (open_removed w.queues t (resolved w.call.cpu i.queue) i.rank (fit_open on hand n w (Some t) i w.call.cpu h.here fit h))
 
+-- the built-in scheduler's queue takes whoever waits nowhere
+takes_builtin : (s : QueueState) (t v : ℕ) → place_of s t ≡ None → exists s builtin ≡ true → IsSorted s → push_refusal s builtin t (Vtime v) ≡ None
+takes_builtin s t v free there sorted = is_accepted s t builtin (Vtime v) free (own_open s builtin (Vtime v) there (omega arith) refl sorted)
+
 -- the law
-pub is_push_accepted : (n e : ℕ) → IsPushAccepted n e
-is_push_accepted n e = record {
+pub is_push_accepted : (n e m : ℕ) → IsPushAccepted n e m
+is_push_accepted n e m = record {
   put = λ on w t i l x h. is_accepted w.queues t i.queue i.rank (nowhere w t h.sound.once) (wanted_open on n w i (Some t) x h.sound);
   fill = λ on w q c t l x h. takes_front None on n w q c t l x h.sound;
   move = λ hand on w q t x h. takes_front hand on n w q w.call.cpu t h.sound.here x h.sound;
+  builtin = λ on w t l h. takes_builtin w.queues t (raised w t) (nowhere w t h.sound.once) h.sound.queues.builtin h.sound.sorted;
+  evict = λ hand on w t waits h. takes_builtin (removed w.queues t) t (raised w t) (removed_place w.queues t) (rw (ids_removed w.queues t) h.sound.queues.builtin) (sorted_removed w.queues t h.sound.sorted);
   release = λ hand on w t i flags x e h. takes_held hand on n w t i flags x e h.sound;
 }

@@ -1,5 +1,5 @@
--- What each small step of a world keeps, callbacks and whole cycles keep.
-use Rattle.std.proofs.Common.{◌≡◌, ℕ, zero, suc, ◌<◌, Bool, List, length, set, get_or, Option, Some, None, refl}
+-- What each small step of a world keeps, callbacks, ejections and whole cycles keep.
+use Rattle.std.proofs.Common.{◌≡◌, ℕ, zero, suc, ◌+◌, ◌<◌, ◌≤◌, Bool, true, false, if◌then◌else◌, List, length, set, get_or, Option, Some, None, refl, arith}
 use Rattle.std.proofs.lemmas.List.{length-set, get_or-set_same}
 use Rattle.scx_dsq.specs.Queues.{front_of}
 use Rattle.scx_semantics.specs.declared.callbacks.Callback.{Callback}
@@ -13,16 +13,19 @@ use Rattle.scx_safety.specs.Programs.{VerifiedProgram}
 use Rattle.scx_vm.specs.Arguments.{given}
 use Rattle.scx_vm.specs.declared.arguments.Arguments.{Arguments}
 use Rattle.scx_vm.specs.Host.{answer_to, after_query}
-use Rattle.scx_world.specs.Ids.{global, local_on}
-use Rattle.scx_world.specs.World.{WorldState, begun}
-use Rattle.scx_world.specs.Tasks.{for_cpu, stopped}
+use Rattle.scx_world.specs.declared.eject.Eject.{Eject}
+use Rattle.scx_world.specs.declared.faults.Fault.{Fault}
+use Rattle.scx_world.specs.Ids.{global, builtin, local_on}
+use Rattle.scx_world.specs.World.{WorldState, running, begun}
+use Rattle.scx_world.specs.Tasks.{for_cpu, stopped, started_at}
+use Rattle.scx_world.specs.Ejecting.{put_out, evicted, cut, cut_task, charged, overtaken}
 use Rattle.scx_world.specs.Helpers.{world_functions}
-use Rattle.scx_machine.specs.Policy.{program_of}
-use Rattle.scx_machine.specs.Steps.{State, Stepped, joined, with_world}
-use Rattle.scx_machine.specs.Callbacks.{called, call_back, one_task, task_and_number, cpu_and_task}
+use Rattle.scx_machine.specs.Steps.{State, Stepped, joined, stays, with_world, is_ejected}
+use Rattle.scx_machine.specs.Ejecting.{moves_over, eject, ejected_for}
+use Rattle.scx_machine.specs.Callbacks.{called, acting, ended, fault_of, call_back, one_task, task_and_number, cpu_and_task}
 use Rattle.scx_world.specs.declared.call.Insert.{Insert}
-use Rattle.scx_machine.specs.Put.{enters, wanted, put}
-use Rattle.scx_machine.specs.Cycle.{has_local, fill, dispatched, asks_again, tries, leave, started_if, start as run_front, pick, rest, pick_or_rest, ask, seek, cycling, cycle}
+use Rattle.scx_machine.specs.Put.{enters, wanted, enters_builtin, comes_in, put}
+use Rattle.scx_machine.specs.Cycle.{has_local, fill, dispatched, asks_again, tries, stopping, running_on, leave, started_if, start as run_front, rest, swap, swap_or_rest, builtin_ask, builtin_cycle, start_or_cycle, pick, pick_or_rest, conclude, ask, seek, look, cycling, cycle}
 use Rattle.scx_machine.specs.Events.{settled}
 use Rattle.scx_sched.specs.Kept.{IsKeptBySteps, IsWanted, For_any, Nowhere, Inserted}
 use Rattle.scx_sched.proofs.Entering.{keeps_if}
@@ -32,122 +35,209 @@ abbrev pub IsKnown : ℕ → Option ℕ → Type 0
 IsKnown n None = Unit {0}
 IsKnown n (Some t) = t < n
 
+-- a task before is charged once at most
+abbrev pub once_for : Option ℕ → ℕ → ℕ
+once_for None m = m
+once_for (Some t) m = m + 1
+
 -- enqueue puts a task where it may go
 is_wanted : (cpus : ℕ) (w : WorldState) (p : Option VerifiedProgram) (c : ℕ) (o : Option Insert) → c < cpus → w.call.insert ≡ o → IsWanted cpus w (wanted p c o)
 is_wanted cpus w None c o l e = For_any refl
 is_wanted cpus w (Some p) c None l e = Nowhere refl
 is_wanted cpus w (Some p) c (Some i) l e = Inserted c i l e refl
 
-module _ (n : ℕ) (I : Option ℕ → List (Option ℕ) → WorldState → Type 0) (k : IsKeptBySteps n I) where
+module _ (n : ℕ) (I : ℕ → Option ℕ → List (Option ℕ) → WorldState → Type 0) (k : IsKeptBySteps n I) where
   -- with somebody at hand or nobody, and the same on the processors
-  module _ (hand : Option ℕ) (on : List (Option ℕ)) where
+  module _ (m : ℕ) (hand : Option ℕ) (on : List (Option ℕ)) where
     -- the run of a callback
-    pub keeps_called : (p : Option VerifiedProgram) (b : Callback) (a : Arguments) (maps : Maps) (w : WorldState) → I hand on w → I hand on (called p b a maps w).outside
+    pub keeps_called : (p : Option VerifiedProgram) (b : Callback) (a : Arguments) (maps : Maps) (w : WorldState) → I m hand on w → I m hand on (called p b a maps w).outside
     unfolding called run_of
     keeps_called None b a maps w h = h
     keeps_called (Some p) b a maps w h =
-        run_keeps (answer_to world_functions) (after_query world_functions) (I hand on) (λ v q. k.query hand on v q) b p.code (suc (instruction_count p.code)) 0 (start.start (given a) maps) w h
+        run_keeps (answer_to world_functions) (after_query world_functions) (I m hand on) (λ v q. k.query m hand on v q) b p.code (suc (instruction_count p.code)) 0 (start.start (given a) maps) w h
+
+    keeps_evicted : (j : ℕ) (w : WorldState) → j ≤ n → I m hand on w → I m hand on (evicted j w)
+    keeps_evicted zero w l h = h
+    keeps_evicted (suc j) w l h = k.evict m hand on (evicted j w) j (omega (arith, l)) (keeps_evicted j w (omega (arith, l)) h)
+
+    keeps_cut_task : (o : Option ℕ) (w : WorldState) → I m hand on w → I m hand on (cut_task o w)
+    keeps_cut_task None w h = h
+    keeps_cut_task (Some t) w h = k.cut m hand on w t h
+
+    keeps_cut : (j : ℕ) (w : WorldState) → I m hand on w → I m hand on (cut j w)
+    keeps_cut zero w h = h
+    keeps_cut (suc j) w h = keeps_cut_task (running (cut j w) j) (cut j w) (keeps_cut j w h)
+
+    pub keeps_eject : (s : State) (x : Eject) → I m hand on s.world → I m hand on (eject s x).state.world
+    unfolding eject moves_over
+    keeps_eject s x h =
+        let w = put_out s.world x in
+        let out : I m hand on w = k.put_out m hand on s.world x h in
+        let v = evicted (length w.tasks) w in
+        keeps_cut (length v.cpus) v (keeps_evicted (length w.tasks) w (omega (arith, k.known m hand on w out)) out)
+
+    keeps_ejected_for : (o : Option Fault) (s : State) → I m hand on s.world → I m hand on (ejected_for o s).state.world
+    keeps_ejected_for None s h = h
+    keeps_ejected_for (Some f) s h = keeps_eject s _ h
 
     -- a callback
-    pub keeps_call_back : (s : State) (b : Callback) (a : Arguments) (t c : ℕ) → c < length on → I hand on s.world → I hand on (call_back s b a t c).state.world
+    pub keeps_call_back : (s : State) (b : Callback) (a : Arguments) (t c : ℕ) → c < length on → I m hand on s.world → I m hand on (call_back s b a t c).state.world
     unfolding call_back
     keeps_call_back s b a t c l h =
-        let e = called (program_of s.policy b) b a s.maps (begun s.world b t c) in
-        k.quiet hand on e.outside (keeps_called (program_of s.policy b) b a s.maps (begun s.world b t c) (k.begun hand on s.world b t c l h))
+        let e = called (acting s b) b a s.maps (begun s.world b t c) in
+        keeps_ejected_for (fault_of b e) (ended s.policy e) (k.quiet m hand on e.outside (keeps_called (acting s b) b a s.maps (begun s.world b t c) (k.begun m hand on s.world b t c l h)))
 
-  module _ (on : List (Option ℕ)) where
+    pub keeps_stopping : (s : State) (c t x : ℕ) → c < length on → I m hand on s.world → I (m + 1) hand on (stopping s c t x).state.world
+    unfolding stopping
+    keeps_stopping s c t x l h = go (is_ejected s) refl
+      where
+        r : Stepped
+        r = call_back s callback.Stopping (task_and_number t x) t c
+
+        go : (b : Bool) → is_ejected s ≡ b → I (m + 1) hand on (if b then stays (with_world s (charged s.world t)) else r).state.world
+        go true out = k.charged m hand on s.world t out h
+        go false force = k.more m hand on r.state.world (keeps_call_back s callback.Stopping (task_and_number t x) t c l h)
+
+    keeps_running_on : (s : State) (c t : ℕ) → c < length on → I m hand on s.world → I m hand on (running_on s c t).state.world
+    unfolding running_on
+    keeps_running_on s c t l h =
+        keeps_if (λ (r : Stepped). I m hand on r.state.world) (is_ejected s) (stays (with_world s (overtaken s.world t))) (call_back s callback.Running (one_task t) t c) (k.overtaken m hand on s.world t h) (keeps_call_back s callback.Running (one_task t) t c l h)
+
+  module _ (m : ℕ) (on : List (Option ℕ)) where
+    keeps_comes_in : (s : State) (t c : ℕ) → t < n → c < length on → I m (Some t) on s.world → I m None on (comes_in s t c).state.world
+    unfolding comes_in enters enters_builtin
+    keeps_comes_in s t c within l h =
+        let p = s.policy.callbacks.enqueue in
+        let o = s.world.call.insert in
+        keeps_if (λ (r : Stepped). I m None on r.state.world) (is_ejected s) (enters_builtin s t) (enters s t (wanted p c o)) (k.put_builtin m on s.world t within h) (k.entered m on s.world t (wanted p c o) within (is_wanted (length on) s.world p c o l refl) h)
+
     -- a task that is put
-    pub keeps_put : (s : State) (t c flags : ℕ) → t < n → c < length on → I (Some t) on s.world → I None on (put s t c flags).state.world
-    unfolding put enters
+    pub keeps_put : (s : State) (t c flags : ℕ) → t < n → c < length on → I m (Some t) on s.world → I m None on (put s t c flags).state.world
+    unfolding put
     keeps_put s t c flags within l h =
         let r = call_back s callback.Enqueue (task_and_number t flags) t c in
-        let p = r.state.policy.callbacks.enqueue in
-        let o = r.state.world.call.insert in
-        k.entered on r.state.world t (wanted p c o) within (is_wanted (length on) r.state.world p c o l refl) (keeps_call_back (Some t) on s callback.Enqueue (task_and_number t flags) t c l h)
+        keeps_comes_in r.state t c within l (keeps_call_back m (Some t) on s callback.Enqueue (task_and_number t flags) t c l h)
 
     -- an insert of select_cpu
-    pub keeps_settled : (o : Option Insert) (s : State) (t c : ℕ) → s.world.call.insert ≡ o → t < n → c < length on → I (Some t) on s.world → I None on (settled o s t c).state.world
+    pub keeps_settled : (o : Option Insert) (s : State) (t c : ℕ) → s.world.call.insert ≡ o → t < n → c < length on → I m (Some t) on s.world → I m None on (settled o s t c).state.world
     unfolding enters
     keeps_settled None s t c e within l h = keeps_put s t c 1 within l h
-    keeps_settled (Some i) s t c e within l h = k.entered on s.world t (for_cpu c i) within (Inserted c i l e refl) h
+    keeps_settled (Some i) s t c e within l h = k.entered m on s.world t (for_cpu c i) within (Inserted c i l e refl) h
 
     -- a local queue that is filled
-    pub keeps_fill : (s : State) (q c : ℕ) → c < length on → I None on s.world → I None on (fill s q c).state.world
+    pub keeps_fill : (s : State) (q c : ℕ) → c < length on → I m None on s.world → I m None on (fill s q c).state.world
     unfolding fill
-    keeps_fill s q c l h = k.filled on s.world q c l h
+    keeps_fill s q c l h = k.filled m on s.world q c l h
 
     -- a call of dispatch
-    pub keeps_dispatched : (s : State) (c : ℕ) (p : Option ℕ) → c < length on → I None on s.world → I None on (dispatched s c p).state.world
+    pub keeps_dispatched : (s : State) (c : ℕ) (p : Option ℕ) → c < length on → I m None on s.world → I m None on (dispatched s c p).state.world
     unfolding dispatched
     keeps_dispatched s c p l h =
         let r = call_back s callback.Dispatch (cpu_and_task c p) 0 c in
-        keeps_fill r.state global c l (keeps_call_back None on s callback.Dispatch (cpu_and_task c p) 0 c l h)
+        keeps_fill r.state global c l (keeps_call_back m None on s callback.Dispatch (cpu_and_task c p) 0 c l h)
 
     -- several of them
-    pub keeps_tries : (m : ℕ) (s : State) (c : ℕ) (p : Option ℕ) → c < length on → I None on s.world → I None on (tries m s c p).state.world
+    pub keeps_tries : (j : ℕ) (s : State) (c : ℕ) (p : Option ℕ) → c < length on → I m None on s.world → I m None on (tries j s c p).state.world
     unfolding tries
     keeps_tries zero s c p l h = h
-    keeps_tries (suc m) s c p l h =
+    keeps_tries (suc j) s c p l h =
         let d = dispatched s c p in
         let x = keeps_dispatched s c p l h in
-        keeps_if (λ (r : Stepped). I None on r.state.world) (asks_again d.state c) (joined d (tries m d.state c p)) d (keeps_tries m d.state c p l x) x
+        keeps_if (λ (r : Stepped). I m None on r.state.world) (asks_again d.state c) (joined d (tries j d.state c p)) d (keeps_tries j d.state c p l x) x
 
   -- somebody runs where
-  abbrev pub Some-on : WorldState → Type 0
-  Some-on w = (on : List (Option ℕ)) × I None on w
+  abbrev pub Some-on : ℕ → WorldState → Type 0
+  Some-on m w = (on : List (Option ℕ)) × I m None on w
 
-  keeps_start : (on : List (Option ℕ)) (s : State) (c : ℕ) → c < length on → get_or on c None ≡ None → I None on s.world → Some-on (run_front s c).state.world
+  keeps_start : (m : ℕ) (on : List (Option ℕ)) (s : State) (c : ℕ) → c < length on → get_or on c None ≡ None → I m None on s.world → Some-on m (run_front s c).state.world
   unfolding run_front
-  keeps_start on s c l free h = go (front_of s.world.queues (local_on c)) refl
+  keeps_start m on s c l free h = go (front_of s.world.queues (local_on c)) refl
     where
-      go : (o : Option ℕ) → front_of s.world.queues (local_on c) ≡ o → Some-on (started_if o s c).state.world
+      go : (o : Option ℕ) → front_of s.world.queues (local_on c) ≡ o → Some-on m (started_if o s c).state.world
       go None e = (on, h)
       go (Some t) e =
           let l' : c < length (set on c (Some t)) = rw (length-set on c (Some t)) l in
-          (set on c (Some t), keeps_call_back None (set on c (Some t)) _ callback.Running (one_task t) t c l' (k.started on s.world c t l free e h))
+          (set on c (Some t), keeps_running_on m None (set on c (Some t)) (with_world s (started_at (Some t) s.world c)) c t l' (k.started m on s.world c t l free e h))
 
-  keeps_rest : (on : List (Option ℕ)) (s : State) (c : ℕ) (p : Option ℕ) (ran : Bool) → I None on s.world → Some-on (rest s c p ran).state.world
+  keeps_rest : (m : ℕ) (on : List (Option ℕ)) (s : State) (c : ℕ) (p : Option ℕ) (ran : Bool) → I m None on s.world → Some-on (once_for p m) (rest s c p ran).state.world
   unfolding rest
-  keeps_rest on s c None ran h = (on, h)
-  keeps_rest on s c (Some t) ran h = (on, k.kept on s.world t h)
+  keeps_rest m on s c None ran h = (on, h)
+  keeps_rest m on s c (Some t) ran h = (on, k.more m None on _ (k.kept m on s.world t h))
 
-  abbrev pub Left : ℕ → WorldState → Type 0
-  Left c w = (on : List (Option ℕ)) × I None on w × (c < length on) × (get_or on c None ≡ None)
+  abbrev pub Left : ℕ → ℕ → WorldState → Type 0
+  Left m c w = (on : List (Option ℕ)) × I m None on w × (c < length on) × (get_or on c None ≡ None)
 
   -- a task that leaves its processor
-  pub keeps_leave : (on : List (Option ℕ)) (s : State) (c : ℕ) (p : Option ℕ) → c < length on → IsKnown n p → get_or on c None ≡ p → I None on s.world → Left c (leave s c p).state.world
+  pub keeps_leave : (m : ℕ) (on : List (Option ℕ)) (s : State) (c : ℕ) (p : Option ℕ) → c < length on → IsKnown n p → get_or on c None ≡ p → I m None on s.world → Left (once_for p m) c (leave s c p).state.world
   unfolding leave
-  keeps_leave on s c None l known runs h = (on, h, l, runs)
-  keeps_leave on s c (Some t) l known runs h =
-      let off = set on c None in
+  keeps_leave m on s c None l known runs h = (on, h, l, runs)
+  keeps_leave m on s c (Some t) l known runs h =
+      let off = with_world s (stopped s.world c t) in
       let l' : c < length (set on c None) = rw (length-set on c None) l in
-      let r = call_back (with_world s (stopped s.world c t)) callback.Stopping (task_and_number t 1) t c in
-      let x : I (Some t) (set on c None) r.state.world = keeps_call_back (Some t) (set on c None) (with_world s (stopped s.world c t)) callback.Stopping (task_and_number t 1) t c l' (k.stopped on s.world c t l known runs h) in
-      (set on c None, keeps_put (set on c None) r.state t c 0 known l' x, l', get_or-set_same on c None None l)
+      let r = stopping off c t 1 in
+      let x : I (m + 1) (Some t) (set on c None) r.state.world = keeps_stopping m (Some t) (set on c None) off c t 1 l' (k.stopped m on s.world c t l known runs h) in
+      (set on c None, keeps_put (m + 1) (set on c None) r.state t c 0 known l' x, l', get_or-set_same on c None None l)
 
-  keeps_pick : (on : List (Option ℕ)) (s : State) (c : ℕ) (p : Option ℕ) → c < length on → IsKnown n p → get_or on c None ≡ p → I None on s.world → Some-on (pick s c p).state.world
-  unfolding pick
-  keeps_pick on s c p l known runs h = let x = keeps_leave on s c p l known runs h in keeps_start x.0 (leave s c p).state c x.2 x.3 x.1
+  -- ---- the built-in scheduler
 
-  keeps_pick_or_rest : (on : List (Option ℕ)) (s : State) (c : ℕ) (p : Option ℕ) (ran : Bool) → c < length on → IsKnown n p → get_or on c None ≡ p → I None on s.world → Some-on (pick_or_rest s c p ran).state.world
-  unfolding pick_or_rest
-  keeps_pick_or_rest on s c p ran l known runs h =
-      keeps_if (λ (r : Stepped). Some-on r.state.world) (has_local s c) (pick s c p) (rest s c p ran) (keeps_pick on s c p l known runs h) (keeps_rest on s c p ran h)
+  keeps_swap : (m : ℕ) (on : List (Option ℕ)) (s : State) (c : ℕ) (p : Option ℕ) → c < length on → IsKnown n p → get_or on c None ≡ p → I m None on s.world → Some-on (once_for p m) (swap s c p).state.world
+  unfolding swap
+  keeps_swap m on s c p l known runs h = let x = keeps_leave m on s c p l known runs h in keeps_start (once_for p m) x.0 (leave s c p).state c x.2 x.3 x.1
 
-  keeps_ask : (on : List (Option ℕ)) (s : State) (c : ℕ) (p : Option ℕ) (ran : Bool) → c < length on → IsKnown n p → get_or on c None ≡ p → I None on s.world → Some-on (ask s c p ran).state.world
-  unfolding ask
-  keeps_ask on s c p ran l known runs h = keeps_pick_or_rest on (tries 32 s c p).state c p ran l known runs (keeps_tries on 32 s c p l h)
+  keeps_swap_or_rest : (m : ℕ) (on : List (Option ℕ)) (s : State) (c : ℕ) (p : Option ℕ) (ran : Bool) → c < length on → IsKnown n p → get_or on c None ≡ p → I m None on s.world → Some-on (once_for p m) (swap_or_rest s c p ran).state.world
+  unfolding swap_or_rest
+  keeps_swap_or_rest m on s c p ran l known runs h =
+      keeps_if (λ (r : Stepped). Some-on (once_for p m) r.state.world) (has_local s c) (swap s c p) (rest s c p ran) (keeps_swap m on s c p l known runs h) (keeps_rest m on s c p ran h)
 
-  keeps_seek : (on : List (Option ℕ)) (s : State) (c : ℕ) (p : Option ℕ) (ran : Bool) → c < length on → IsKnown n p → get_or on c None ≡ p → I None on s.world → Some-on (seek s c p ran).state.world
-  unfolding seek
-  keeps_seek on s c p ran l known runs h =
+  pub keeps_builtin_cycle : (m : ℕ) (on : List (Option ℕ)) (s : State) (c : ℕ) (p : Option ℕ) (ran : Bool) → c < length on → IsKnown n p → get_or on c None ≡ p → I m None on s.world → Some-on (once_for p m) (builtin_cycle s c p ran).state.world
+  unfolding builtin_cycle builtin_ask
+  keeps_builtin_cycle m on s c p ran l known runs h =
       let f = fill s global c in
-      let x : I None on f.state.world = keeps_fill on s global c l h in
-      keeps_if (λ (r : Stepped). Some-on r.state.world) (has_local f.state c) (pick f.state c p) (ask f.state c p ran) (keeps_pick on f.state c p l known runs x) (keeps_ask on f.state c p ran l known runs x)
+      let g = fill f.state builtin c in
+      keeps_swap_or_rest m on g.state c p ran l known runs (keeps_fill m on f.state builtin c l (keeps_fill m on s global c l h))
+
+  -- ---- the policy
+
+  keeps_start_or_cycle : (m : ℕ) (on : List (Option ℕ)) (s : State) (c : ℕ) (ran : Bool) → c < length on → get_or on c None ≡ None → I m None on s.world → Some-on m (start_or_cycle s c ran).state.world
+  unfolding start_or_cycle
+  keeps_start_or_cycle m on s c ran l free h =
+      keeps_if (λ (r : Stepped). Some-on m r.state.world) (has_local s c) (run_front s c) (builtin_cycle s c None ran) (keeps_start m on s c l free h) (keeps_builtin_cycle m on s c None ran l tt free h)
+
+  keeps_pick : (m : ℕ) (on : List (Option ℕ)) (s : State) (c : ℕ) (p : Option ℕ) (ran : Bool) → c < length on → IsKnown n p → get_or on c None ≡ p → I m None on s.world → Some-on (once_for p m) (pick s c p ran).state.world
+  unfolding pick
+  keeps_pick m on s c p ran l known runs h = let x = keeps_leave m on s c p l known runs h in keeps_start_or_cycle (once_for p m) x.0 (leave s c p).state c ran x.2 x.3 x.1
+
+  keeps_pick_or_rest : (m : ℕ) (on : List (Option ℕ)) (s : State) (c : ℕ) (p : Option ℕ) (ran : Bool) → c < length on → IsKnown n p → get_or on c None ≡ p → I m None on s.world → Some-on (once_for p m) (pick_or_rest s c p ran).state.world
+  unfolding pick_or_rest
+  keeps_pick_or_rest m on s c p ran l known runs h =
+      keeps_if (λ (r : Stepped). Some-on (once_for p m) r.state.world) (has_local s c) (pick s c p ran) (rest s c p ran) (keeps_pick m on s c p ran l known runs h) (keeps_rest m on s c p ran h)
+
+  keeps_conclude : (m : ℕ) (on : List (Option ℕ)) (s : State) (c : ℕ) (p : Option ℕ) (ran : Bool) → c < length on → IsKnown n p → get_or on c None ≡ p → I m None on s.world → Some-on (once_for p m) (conclude s c p ran).state.world
+  unfolding conclude
+  keeps_conclude m on s c p ran l known runs h =
+      keeps_if (λ (r : Stepped). Some-on (once_for p m) r.state.world) (is_ejected s) (builtin_cycle s c p ran) (pick_or_rest s c p ran) (keeps_builtin_cycle m on s c p ran l known runs h) (keeps_pick_or_rest m on s c p ran l known runs h)
+
+  keeps_ask : (m : ℕ) (on : List (Option ℕ)) (s : State) (c : ℕ) (p : Option ℕ) (ran : Bool) → c < length on → IsKnown n p → get_or on c None ≡ p → I m None on s.world → Some-on (once_for p m) (ask s c p ran).state.world
+  unfolding ask
+  keeps_ask m on s c p ran l known runs h = keeps_conclude m on (tries 32 s c p).state c p ran l known runs (keeps_tries m on 32 s c p l h)
+
+  keeps_seek : (m : ℕ) (on : List (Option ℕ)) (s : State) (c : ℕ) (p : Option ℕ) (ran : Bool) → c < length on → IsKnown n p → get_or on c None ≡ p → I m None on s.world → Some-on (once_for p m) (seek s c p ran).state.world
+  unfolding seek
+  keeps_seek m on s c p ran l known runs h =
+      let f = fill s global c in
+      let x : I m None on f.state.world = keeps_fill m on s global c l h in
+      keeps_if (λ (r : Stepped). Some-on (once_for p m) r.state.world) (has_local f.state c) (pick f.state c p ran) (ask f.state c p ran) (keeps_pick m on f.state c p ran l known runs x) (keeps_ask m on f.state c p ran l known runs x)
+
+  -- ---- whichever is in force
+
+  keeps_look : (m : ℕ) (on : List (Option ℕ)) (s : State) (c : ℕ) (p : Option ℕ) (ran : Bool) → c < length on → IsKnown n p → get_or on c None ≡ p → I m None on s.world → Some-on (once_for p m) (look s c p ran).state.world
+  unfolding look
+  keeps_look m on s c p ran l known runs h =
+      keeps_if (λ (r : Stepped). Some-on (once_for p m) r.state.world) (is_ejected s) (builtin_cycle s c p ran) (seek s c p ran) (keeps_builtin_cycle m on s c p ran l known runs h) (keeps_seek m on s c p ran l known runs h)
 
   -- a whole cycle
-  pub keeps_cycle : (on : List (Option ℕ)) (s : State) (c : ℕ) (p : Option ℕ) (ran : Bool) → c < length on → IsKnown n p → get_or on c None ≡ p → I None on s.world → Some-on (cycle s c p ran).state.world
+  pub keeps_cycle : (m : ℕ) (on : List (Option ℕ)) (s : State) (c : ℕ) (p : Option ℕ) (ran : Bool) → c < length on → IsKnown n p → get_or on c None ≡ p → I m None on s.world → Some-on (once_for p m) (cycle s c p ran).state.world
   unfolding cycle
-  keeps_cycle on s c p ran l known runs h =
-      let x = keeps_seek on (cycling s (Some c)) c p ran l known runs (k.cycling None on s.world (Some c) h) in
-      (x.0, k.cycling None x.0 (seek (cycling s (Some c)) c p ran).state.world None x.1)
+  keeps_cycle m on s c p ran l known runs h =
+      let x = keeps_look m on (cycling s (Some c)) c p ran l known runs (k.cycling m None on s.world (Some c) h) in
+      (x.0, k.cycling (once_for p m) None x.0 (look (cycling s (Some c)) c p ran).state.world None x.1)

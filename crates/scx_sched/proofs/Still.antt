@@ -22,17 +22,20 @@ use Rattle.scx_weights.specs.Refusals.{weight_fault}
 use Rattle.scx_world.specs.declared.call.Insert.{Insert}
 use Rattle.scx_world.specs.declared.faults.Fault.{Fault}
 use Rattle.scx_world.specs.declared.faults.Fault.TheVariants.{NoSuchQueue, NoSuchCpu, CannotCreate}
-use Rattle.scx_world.specs.World.{WorldState, with_queues, with_tree, task_at, running, cpu_of, is_idle, begun}
-use Rattle.scx_world.specs.Tasks.{woken, gone, entered, for_cpu, ticked}
+use Rattle.scx_world.specs.declared.eject.Eject.{Eject}
+use Rattle.scx_world.specs.World.{WorldState, with_queues, with_tree, task_at, waits, running, cpu_of, is_idle, begun}
+use Rattle.scx_world.specs.Tasks.{woken, gone, entered, for_cpu, ticked, later}
+use Rattle.scx_world.specs.Ejecting.{put_out, put_builtin, evicted, cut, cut_task}
 use Rattle.scx_world.specs.Helpers.{is_there, can_create, faulted, is_dispatch, insert_fault, with_insert, released, inserted, asked, asked_by_vtime, can_move, moved, given_number, given_task, helper_after, world_functions}
 use Rattle.scx_machine.specs.declared.events.Event.{Event}
 use Rattle.scx_machine.specs.declared.events.Event.TheVariants.{Wake, Sleep, Tick, Clock, SetWeight}
-use Rattle.scx_machine.specs.Policy.{PolicyState, program_of}
-use Rattle.scx_machine.specs.Steps.{State, Stepped, joined, stays, with_world}
-use Rattle.scx_machine.specs.Callbacks.{called, call_back, answered_by, ended, no_arguments, one_task, task_cpu_and_0, task_and_number}
-use Rattle.scx_machine.specs.Put.{enters, wanted, put}
+use Rattle.scx_machine.specs.Policy.{PolicyState}
+use Rattle.scx_machine.specs.Steps.{State, Stepped, joined, stays, with_world, is_ejected}
+use Rattle.scx_machine.specs.Ejecting.{moves_over, eject, ejected_for}
+use Rattle.scx_machine.specs.Callbacks.{called, acting, fault_of, call_back, answered_by, ended, no_arguments, one_task, task_cpu_and_0, task_and_number}
+use Rattle.scx_machine.specs.Put.{enters, wanted, enters_builtin, comes_in, put}
 use Rattle.scx_machine.specs.Cycle.{cycle}
-use Rattle.scx_machine.specs.Events.{target, settled, settle, select, wake, sleep_from_cpu, sleep_from, sleep, count_down, tick_of, tick, happened}
+use Rattle.scx_machine.specs.Events.{target, settled, settle, select, wake, sleep_from_cpu, sleep_from, sleep, count_down, tick_of, tick, overdue, stalled, clock, happened}
 use Rattle.scx_machine.specs.Start.{blank, init_ending, bad_answer, ok_unless, initialized, enable_ending, has_failed, enable, then_enable, enabled, ok_if, all_enabled, started}
 use Rattle.scx_sched.proofs.Entering.{keeps_if}
 
@@ -79,9 +82,42 @@ still_called None b a maps w h = h
 still_called (Some p) b a maps w h =
     run_keeps (answer_to world_functions) (after_query world_functions) IsStill still_query b p.code (suc (instruction_count p.code)) 0 (start.start (given a) maps) w h
 
+-- ---- an ejection
+
+still_put_builtin : (w : WorldState) (t : ℕ) → IsStill w → IsStill (put_builtin w t)
+still_put_builtin w t h = keeps_if IsStill (nat_lt t (length w.tasks)) _ w h h
+
+still_evicted : (j : ℕ) (w : WorldState) → IsStill w → IsStill (evicted j w)
+still_evicted zero w h = h
+still_evicted (suc j) w h =
+    let v = evicted j w in
+    let x = still_evicted j w h in
+    keeps_if IsStill (waits v j) (put_builtin (gone v j) j) v (still_put_builtin (gone v j) j x) x
+
+still_cut_task : (o : Option ℕ) (w : WorldState) → IsStill w → IsStill (cut_task o w)
+still_cut_task None w h = h
+still_cut_task (Some t) w h = h
+
+still_cut : (j : ℕ) (w : WorldState) → IsStill w → IsStill (cut j w)
+still_cut zero w h = h
+still_cut (suc j) w h = still_cut_task (running (cut j w) j) (cut j w) (still_cut j w h)
+
+still_eject : (s : State) (x : Eject) → IsStill s.world → IsStill (eject s x).state.world
+unfolding eject moves_over
+still_eject s x h =
+    let w = put_out s.world x in
+    let v = evicted (length w.tasks) w in
+    still_cut (length v.cpus) v (still_evicted (length w.tasks) w h)
+
+still_ejected_for : (o : Option Fault) (s : State) → IsStill s.world → IsStill (ejected_for o s).state.world
+still_ejected_for None s h = h
+still_ejected_for (Some f) s h = still_eject s _ h
+
 still_call_back : (s : State) (b : Callback) (a : Arguments) (t c : ℕ) → IsStill s.world → IsStill (call_back s b a t c).state.world
 unfolding call_back
-still_call_back s b a t c h = still_called (program_of s.policy b) b a s.maps (begun s.world b t c) h
+still_call_back s b a t c h =
+    let e = called (acting s b) b a s.maps (begun s.world b t c) in
+    still_ejected_for (fault_of b e) (ended s.policy e) (still_called (acting s b) b a s.maps (begun s.world b t c) h)
 
 -- ---- events: each cycle that begins ends
 
@@ -89,11 +125,17 @@ cycle_ends : (s : State) (c : ℕ) (p : Option ℕ) (ran : Bool) → IsStill (cy
 unfolding cycle
 cycle_ends s c p ran = refl
 
+still_comes_in : (s : State) (t c : ℕ) → IsStill s.world → IsStill (comes_in s t c).state.world
+unfolding comes_in enters enters_builtin
+still_comes_in s t c h =
+    let i = wanted s.policy.callbacks.enqueue c s.world.call.insert in
+    keeps_if (λ (r : Stepped). IsStill r.state.world) (is_ejected s) (enters_builtin s t) (enters s t i) (still_put_builtin s.world t h) (still_entered s.world t i h)
+
 still_put : (s : State) (t c flags : ℕ) → IsStill s.world → IsStill (put s t c flags).state.world
-unfolding put enters
+unfolding put
 still_put s t c flags h =
     let r = call_back s callback.Enqueue (task_and_number t flags) t c in
-    still_entered r.state.world t (wanted r.state.policy.callbacks.enqueue c r.state.world.call.insert) (still_call_back s callback.Enqueue (task_and_number t flags) t c h)
+    still_comes_in r.state t c (still_call_back s callback.Enqueue (task_and_number t flags) t c h)
 
 still_settled : (o : Option Insert) (s : State) (t c : ℕ) → IsStill s.world → IsStill (settled o s t c).state.world
 unfolding enters
@@ -112,7 +154,7 @@ still_wake s t h =
     let v = with_world s (woken s.world t) in
     let c = (task_at v.world t).prev_cpu in
     let r = call_back v callback.SelectCpu (task_cpu_and_0 t c) t c in
-    still_settle r.state t (target r.state.policy.callbacks.select_cpu r.state.world t (answered_by v callback.SelectCpu (task_cpu_and_0 t c) t c)) (still_call_back v callback.SelectCpu (task_cpu_and_0 t c) t c h)
+    still_settle r.state t (target (acting r.state callback.SelectCpu) r.state.world t (answered_by v callback.SelectCpu (task_cpu_and_0 t c) t c)) (still_call_back v callback.SelectCpu (task_cpu_and_0 t c) t c h)
 
 still_sleep : (s : State) (t : ℕ) → IsStill s.world → IsStill (sleep s t).state.world
 unfolding sleep sleep_from_cpu
@@ -132,12 +174,20 @@ still_tick s c h = go (running s.world c)
         let v = with_world s (ticked s.world t) in
         keeps_if (λ (r : Stepped). IsStill r.state.world) ((task_at v.world t).slice == 0) (cycle v c (Some t) true) (stays v) (cycle_ends v c (Some t) true) h
 
+still_stalled : (o : Option ℕ) (s : State) → IsStill s.world → IsStill (stalled o s).state.world
+still_stalled None s h = h
+still_stalled (Some t) s h = still_eject s _ h
+
+still_clock : (s : State) → IsStill s.world → IsStill (clock s).state.world
+unfolding clock
+still_clock s h = let v = with_world s (later s.world) in still_stalled (overdue v) v h
+
 -- after an event
 pub still_step : (s : State) (v : Event) → IsStill s.world → IsStill (happened s v).state.world
 still_step s (Wake t) h = still_wake s t h
 still_step s (Sleep t) h = still_sleep s t h
 still_step s (Tick c) h = still_tick s c h
-still_step s Clock h = h
+still_step s Clock h = still_clock s h
 still_step s (SetWeight g x) h = keeps_if IsStill (is_none (weight_fault s.world.tree g x)) (with_tree s.world (with_weight s.world.tree g x)) s.world h h
 
 -- ---- init and enable
@@ -153,7 +203,7 @@ unfolding initialized
 still_initialized s t e h = go (bad_answer (init_ending s).outside.call.fault (init_ending s).answer) e
   where
     after : IsStill (ended s.policy (init_ending s)).world
-    after = still_called (program_of s.policy callback.Init) callback.Init no_arguments s.maps (begun s.world callback.Init 0 0) h
+    after = still_called (acting s callback.Init) callback.Init no_arguments s.maps (begun s.world callback.Init 0 0) h
 
     go : (o : Option ℤ) → ok_unless o (ended s.policy (init_ending s)) ≡ Ok t → IsStill t.world
     go None e = subst (λ (x : State). IsStill x.world) (same_ok _ _ e) after
@@ -164,7 +214,7 @@ unfolding enable
 still_enabled_one s t k e h = go (has_failed (enable_ending s k)) e
   where
     after : IsStill (ended s.policy (enable_ending s k)).world
-    after = still_called (program_of s.policy callback.Enable) callback.Enable (one_task k) s.maps (begun s.world callback.Enable k 0) h
+    after = still_called (acting s callback.Enable) callback.Enable (one_task k) s.maps (begun s.world callback.Enable k 0) h
 
     go : (b : Bool) → cond b None (Some (ended s.policy (enable_ending s k))) ≡ Some t → IsStill t.world
     go true e = absurd (cc)

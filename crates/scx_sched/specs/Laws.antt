@@ -1,9 +1,12 @@
 -- Laws of the machine.
-use Rattle.std.specs.Prelude.{◌≡◌, ℕ, ◌+◌, ◌<◌, length, None}
+use Rattle.std.specs.Prelude.{◌≡◌, ℕ, ◌+◌, ◌<◌, length, Option, None}
 use Rattle.scx_machine.specs.declared.events.Event.{Event}
 use Rattle.scx_machine.specs.Steps.{State}
 use Rattle.scx_world.specs.World.{running}
 use Rattle.scx_machine.specs.Events.{refusal, happened, tick}
+use Rattle.scx_world.specs.declared.eject.Eject.{Eject}
+use Rattle.scx_machine.specs.Ejecting.{eject}
+use Rattle.scx_sched.specs.Over.{GoesOver}
 use Rattle.scx_sched.specs.Left.{LeavesNothing}
 use Rattle.scx_sched.specs.Ranges.{IsFine}
 use Rattle.scx_sched.specs.Kept.{IsKeptBySteps}
@@ -12,19 +15,23 @@ use Rattle.scx_sched.specs.Accepted.{IsPushAccepted}
 -- an accepted event keeps each task in its place, and lets numbers grow no more than one event may
 abbrev pub StepKeepsFine : Type 0
 StepKeepsFine =
-    (n e : ℕ) (s : State) (v : Event) → length s.world.tasks ≡ n → refusal s v ≡ None → IsFine n e None s.world.cpus s.world
-    → IsFine n (e + 1) None (happened s v).state.world.cpus (happened s v).state.world
+    (n e : ℕ) (s : State) (v : Event) → length s.world.tasks ≡ n → refusal s v ≡ None → IsFine n e e None s.world.cpus s.world
+    → IsFine n (e + 1) (e + 1) None (happened s v).state.world.cpus (happened s v).state.world
 
 -- after a tick that leaves its processor idle, no task is left behind for it
 abbrev pub TickLeavesNothing : Type 0
 TickLeavesNothing =
-    (n e : ℕ) (s : State) (c : ℕ) → c < length s.world.cpus → IsFine n e None s.world.cpus s.world
+    (n e : ℕ) (s : State) (c : ℕ) → c < length s.world.cpus → IsFine n e e None s.world.cpus s.world
     → running (tick s c).state.world c ≡ None → LeavesNothing (tick s c).state.world c
 
 -- each small step that an event is made of keeps what holds inside of it
 abbrev pub StepsKeepFine : Type 0
 StepsKeepFine = (n e : ℕ) → IsKeptBySteps n (IsFine n e)
 
+-- an ejection loses no task, and stops none
+abbrev pub EjectionLosesNobody : Type 0
+EjectionLosesNobody = (n e m : ℕ) (hand : Option ℕ) (s : State) (x : Eject) → IsFine n e m hand s.world.cpus s.world → GoesOver s.world (eject s x).state.world
+
 -- and where that holds, no push is refused
 abbrev pub NoPushIsRefused : Type 0
-NoPushIsRefused = (n e : ℕ) → IsPushAccepted n e
+NoPushIsRefused = (n e m : ℕ) → IsPushAccepted n e m

@@ -1,8 +1,8 @@
 -- Nothing is left behind: a processor is idle only where neither its own queue nor that of all
--- processors has a task for it.
-use Rattle.std.specs.Prelude.{◌≡◌, ℕ, ⊤, None}
+-- processors has a task for it, nor, once the policy is ejected, that of the built-in scheduler.
+use Rattle.std.specs.Prelude.{◌≡◌, ℕ, ⊤, true, None, is_some}
 use Rattle.scx_dsq.specs.Queues.{front_of}
-use Rattle.scx_world.specs.Ids.{global}
+use Rattle.scx_world.specs.Ids.{global, builtin}
 use Rattle.scx_world.specs.World.{WorldState, running}
 use Rattle.scx_world.specs.Tasks.{local_len}
 use Rattle.scx_machine.specs.declared.events.Event.{Event}
@@ -11,6 +11,7 @@ use Rattle.scx_machine.specs.declared.events.Event.TheVariants.{Wake, Sleep, Tic
 pub record LeavesNothing (w : WorldState) (c : ℕ) : Type 0 where
   pub local : local_len w c ≡ 0
   pub global : front_of w.queues global ≡ None
+  pub builtin : is_some w.ejected ≡ true → front_of w.queues builtin ≡ None
 
 -- in the world after a tick; of other events nothing is said
 abbrev pub LeavesNothingIdle : Event → WorldState → Type 0

@@ -1,8 +1,11 @@
+pub mod Waits
 pub mod Once
 pub mod Kept
 pub mod Ranges
 pub mod Sim
 pub mod Places
 pub mod Left
+pub mod Over
+pub mod Causes
 pub mod Accepted
 pub mod Laws

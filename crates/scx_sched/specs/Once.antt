@@ -13,6 +13,7 @@ use Rattle.scx_world.specs.Ids.{policy_end, global, held, builtin, local_on}
 use Rattle.scx_world.specs.World.{WorldState, task_at, is_this, is_runnable}
 use Rattle.scx_world.specs.Tasks.{resolved}
 use Rattle.scx_world.specs.Helpers.{is_dispatch}
+use Rattle.scx_sched.specs.Waits.{HasWaits}
 
 -- on how many processors it runs
 abbrev pub runs : List (Option ℕ) → ℕ → ℕ
@@ -74,4 +75,5 @@ pub record IsSound (hand : Option ℕ) (on : List (Option ℕ)) (n : ℕ) (w : W
   pub once : IsOnce hand w
   pub here : w.call.cpu < length on
   pub goes : GoesSomewhere w.queues (length on) w.call.insert
+  pub waiting : HasWaits hand w
   pub at_once : is_dispatch w.call.callback ≡ true → w.call.insert ≡ None

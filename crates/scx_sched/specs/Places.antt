@@ -1,8 +1,8 @@
 -- What the accessors of the machine answer.
-use Rattle.std.specs.Prelude.{ℕ, ◌==◌, ◌-◌, ◌%◌, ◌^◌, nat_lt, if◌then◌else◌, Option, Some, None}
+use Rattle.std.specs.Prelude.{ℕ, ◌==◌, ◌%◌, ◌^◌, nat_lt, if◌then◌else◌, Option, Some, None}
 use Rattle.scx_dsq.specs.Queues.{queue_of}
 use Rattle.scx_world.specs.Ids.{policy_end, global, held, builtin}
-use Rattle.scx_world.specs.World.{WorldState, task_at, waits, cpu_of}
+use Rattle.scx_world.specs.World.{WorldState, cpu_of}
 use Rattle.scx_sched.specs.declared.places.Place.{Place}
 use Rattle.scx_sched.specs.declared.places.Place.TheVariants.{Asleep, Cpu, Policy, Global, Local, Held, Builtin}
 
@@ -22,7 +22,3 @@ place_in None None = Asleep
 
 abbrev pub place : WorldState → ℕ → Place
 place w t = place_in (cpu_of w t) (queue_of w.queues t)
-
--- how long the task has waited, in milliseconds; 0 where it isn't waiting
-abbrev pub wait : WorldState → ℕ → ℕ
-wait w t = if waits w t then w.clock - (task_at w t).since else 0

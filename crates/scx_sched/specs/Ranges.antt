@@ -1,10 +1,18 @@
 -- Between two events: each task is where it should be, and no number has grown past what so many events
 -- can make of it.
-use Rattle.std.specs.Prelude.{ℕ, ◌*◌, ◌≤◌, List, Option}
+use Rattle.std.specs.Prelude.{◌≡◌, ℕ, ◌*◌, ◌≤◌, List, Option, None}
 use Rattle.scx_world.specs.World.{WorldState, task_at}
 use Rattle.scx_sched.specs.Once.{IsSound}
 
-pub record IsFine (n events : ℕ) (hand : Option ℕ) (on : List (Option ℕ)) (w : WorldState) : Type 0 where
+-- the built-in scheduler hasn't begun: all its times are 0
+abbrev pub IsFresh : WorldState → Type 0
+IsFresh w = (w.builtin_clock ≡ 0) × ((t : ℕ) → (task_at w t).builtin ≡ 0)
+
+-- An event counts once among the events, and charges one task at most.
+pub record IsFine (n events charges : ℕ) (hand : Option ℕ) (on : List (Option ℕ)) (w : WorldState) : Type 0 where
   pub sound : IsSound hand on n w
   pub clock : w.clock ≤ events
   pub runs : (t : ℕ) → (task_at w t).run_ns ≤ 1000000 * events
+  pub times : (t : ℕ) → (task_at w t).builtin ≤ 2000000000 * charges
+  pub builtin_clock : w.builtin_clock ≤ 2000000000 * charges
+  pub not_yet : w.ejected ≡ None → IsFresh w

@@ -9,6 +9,7 @@ use Rattle.scx_machine.specs.Policy.{PolicyState}
 use Rattle.scx_machine.specs.Steps.{State, CallMade}
 use Rattle.scx_machine.specs.Start.{started}
 use Rattle.scx_machine.specs.Events as machine
+use Rattle.scx_sched.specs.Waits.{IsTimely}
 use Rattle.scx_sched.specs.Ranges.{IsFine}
 
 pub record SimState : Type 0 where
@@ -59,4 +60,5 @@ pub record IsValid (state : State) (events : ℕ) : Type 0 where
   pub over : events ≤ max_events
   pub pushes : state.world.queues.pushes ≤ 2 ^ 23 + 2 ^ 18 * events
   pub still : state.world.cycling ≡ None
-  pub fine : IsFine (length state.world.tasks) events None state.world.cpus state.world
+  pub timely : IsTimely state
+  pub fine : IsFine (length state.world.tasks) events events None state.world.cpus state.world

@@ -1,4 +1,4 @@
-ghost use Rattle.scx_sched.specs.Laws.{StepKeepsFine, TickLeavesNothing, StepsKeepFine, NoPushIsRefused};
+ghost use Rattle.scx_sched.specs.Laws.{StepKeepsFine, TickLeavesNothing, StepsKeepFine, NoPushIsRefused, EjectionLosesNobody};
 
 /// An accepted event keeps each task in its one place. The function does nothing: its contract is the
 /// law.
@@ -10,6 +10,12 @@ pub fn events_keep_places()
 /// contract is the law.
 pub fn nothing_is_left_behind()
     ensures { TickLeavesNothing }
+{}
+
+/// An ejection hands every task that waits in any queue to the built-in scheduler, and stops none that runs.
+/// The function does nothing: its contract is the law.
+pub fn ejections_lose_nobody()
+    ensures { EjectionLosesNobody }
 {}
 
 /// No push of the machine is ever refused: each small step of an event keeps what holds inside of it,

@@ -1,16 +1,19 @@
-ghost use Rattle.std.specs.Prelude.{◌≡◌, ◌<◌, ◌≤◌, length, None, IfOk, IfErr, OnOk, OnErr};
-ghost use Rattle.scx_world.specs.World.{task_at, is_runnable, running};
+ghost use Rattle.std.specs.Prelude.{◌≡◌, ℕ, ◌<◌, ◌≤◌, ◌^◌, length, None, IfOk, IfErr, OnOk, OnErr};
+ghost use Rattle.scx_world.specs.World.{task_at, is_runnable, running, wait};
 ghost use Rattle.scx_machine.specs.Notes.{Takes};
 ghost use Rattle.scx_machine.specs.Callbacks.{AreAnswered};
 ghost use Rattle.scx_machine.specs.Start.{IsRefusal, start_calls, AreAnsweredBefore};
+ghost use Rattle.scx_sched.specs.Causes.{EjectsOnce};
 ghost use Rattle.scx_sched.specs.Left.{LeavesNothingIdle};
+ghost use Rattle.scx_sched.specs.Waits.{IsTimely, HasWaits};
 ghost use Rattle.scx_sched.specs.Once.{IsOnce};
-ghost use Rattle.scx_sched.specs.Places.{place, wait};
+ghost use Rattle.scx_sched.specs.Places.{place};
 ghost use Rattle.scx_sched.specs.Sim.{max_events, refusal, answer_of, stepped, notes_of, calls_of, IsFirst};
 
 use crate::places::{Place, place_in};
 use scx_machine::{Event, Machine, NewError, Policy, Refused, Sink};
 use scx_weights::Tree;
+use scx_world::Eject;
 use std::alloc::Global;
 use std::marker::Model;
 
@@ -43,6 +46,7 @@ impl Sim {
     /// task.
     pub fn new(alloc: Global, policy: Policy, tree: Tree, cpus: u32) -> Result<Sim, NewError>
         ensures first { IfOk result (IsFirst policy tree cpus) }
+        ensures in_force { IfOk result (λ sim. sim.state.world.ejected ≡ None) }
         ensures refused { IfErr result (IsRefusal policy tree cpus) }
         ensures answered { OnOk result (AreAnswered (start_calls policy tree cpus)) }
         ensures answered_before { IfErr result (AreAnsweredBefore policy tree cpus) }
@@ -70,6 +74,8 @@ impl Sim {
         ensures notes { Takes S.takes sink.old (notes_of self.old event) sink.new }
         ensures answered { AreAnswered (calls_of self.old event) }
         ensures once { IsOnce None self.new.state.world }
+        ensures timely { IsTimely self.new.state }
+        ensures cause { OnOk result (EjectsOnce self.old event self.new) }
         ensures idle { OnOk result (LeavesNothingIdle event self.new.state.world) }
     {
         if let Some(refused) = self.refusal(event) {
@@ -80,10 +86,15 @@ impl Sim {
         Ok(())
     }
 
-    /// What holds between two events: each runnable task is in one place, and no other task anywhere; and
-    /// no scheduling cycle is under way. The function does nothing: its contract is the law.
+    /// What holds between two events: each runnable task is in one place, and no other task anywhere; a task
+    /// has a wait where it is in a queue, and no longer one than a policy in force may let it have; the times
+    /// of the built-in scheduler are far from where they would be cut off; and no scheduling cycle is under
+    /// way. The function does nothing: its contract is the law.
     pub fn is_sound(&self)
         ensures once { IsOnce None self.now.state.world }
+        ensures waits { HasWaits None self.now.state.world }
+        ensures timely { IsTimely self.now.state }
+        ensures times { (t : ℕ) → (task_at self.now.state.world t).builtin < 2 ^ 63 }
         ensures still { self.now.state.world.cycling ≡ None }
     {
         let _events = self.events;
@@ -166,16 +177,18 @@ impl Sim {
         self.machine.world().task(task).vtime
     }
 
+    /// Why and when the policy was ejected, if it was. It comes back into force no more.
+    pub fn ejected(&self) -> Option<Eject>
+        ensures { result ≡ self.now.state.world.ejected }
+    {
+        self.machine.world().ejected()
+    }
+
     /// How long the task has waited, in milliseconds; 0 where it isn't waiting.
     pub fn wait(&self, task: u16) -> u64
         requires { task < length self.now.state.world.tasks }
         ensures { result ≡ wait self.now.state.world task }
     {
-        let world = self.machine.world();
-        if world.waits(task) {
-            world.clock().saturating_sub(world.task(task).since)
-        } else {
-            0
-        }
+        self.machine.world().wait(task)
     }
 }

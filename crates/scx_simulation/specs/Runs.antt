@@ -34,9 +34,13 @@ pub record IsRun (policy workload : List ℕ) (w : WorkloadState) (s : SimState)
 abbrev pub trace_text : WorkloadState → SimState → List ℕ
 trace_text w s = note_lines (names_of w) (notes_of_all s (workload_events w s))
 
--- how long each task has run after all events
+-- the machine after all events
+abbrev pub last_of : WorkloadState → SimState → SimState
+last_of w s = stepped_all s (workload_events w s)
+
+-- how long each task has run then, and whether the policy is in force
 abbrev pub report_text : WorkloadState → SimState → List ℕ
-report_text w s = reports.report (names_of w) (reports.times (stepped_all s (workload_events w s)).state.world)
+report_text w s = reports.report (names_of w) (reports.times (last_of w s).state.world) (last_of w s).state.world.ejected
 
 -- ---- refusals: of several the first, in this order; want of memory says nothing
 

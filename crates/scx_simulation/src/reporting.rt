@@ -15,7 +15,7 @@ use scx_trace::{run_silently, write_report};
 use std::alloc::Global;
 
 /// Writes how long each task ran in the run that the texts of a policy file and of a workload file stand
-/// for. The answer is true.
+/// for, and whether the policy is in force at its end. The answer is true.
 ///
 /// # Errors
 ///

@@ -1,10 +1,11 @@
 -- The text of notes: a line each, with the names of tasks and groups. Names stand in lists, by the numbers
 -- of what they name.
 use Rattle.std.specs.Prelude.{ℕ, ◌==◌, ◌%◌, ◌^◌, nat_lt, if◌then◌else◌, List, [], ◌∷◌, ◌++◌, codes, decimal, slice_index_or}
+use Rattle.scx_world.specs.Faults.{code_of}
 use Rattle.scx_world.specs.Ids.{policy_end, global, held, builtin}
 use Rattle.scx_world.specs.declared.notes.Note.{Note}
 use Rattle.scx_world.specs.declared.notes.What.{What}
-use Rattle.scx_world.specs.declared.notes.What.TheVariants.{Wake, Sleep, Insert, Move, Run, Stop, Idle, Weight}
+use Rattle.scx_world.specs.declared.notes.What.TheVariants.{Wake, Sleep, Insert, Move, Run, Stop, Idle, Weight, Stall, Fault}
 use Rattle.scx_workloads.specs.Workload.{WorkloadState}
 
 pub record NameLists : Type 0 where
@@ -42,6 +43,8 @@ verb (Run t c) = codes "run "
 verb (Stop t c) = codes "stop "
 verb (Idle c) = codes "idle cpu "
 verb (Weight g w) = codes "weight "
+verb (Stall t) = codes "eject stall "
+verb (Fault f) = codes "eject fault "
 
 -- the task or the group that it is about
 abbrev pub subject : NameLists → What → List ℕ
@@ -53,6 +56,8 @@ subject x (Run t c) = task_name x t
 subject x (Stop t c) = task_name x t
 subject x (Idle c) = []
 subject x (Weight g w) = group_name x g
+subject x (Stall t) = task_name x t
+subject x (Fault f) = []
 
 -- where to, or how much
 abbrev pub object : What → List ℕ
@@ -64,6 +69,8 @@ object (Run t c) = codes " cpu " ++ decimal c
 object (Stop t c) = codes " cpu " ++ decimal c
 object (Idle c) = decimal c
 object (Weight g w) = codes " " ++ decimal w
+object (Stall t) = []
+object (Fault f) = decimal (code_of f)
 
 -- the clock, one space, and the verb
 abbrev pub start : Note → List ℕ

@@ -1,7 +1,10 @@
 -- The text of a report: how long each task ran, which part of all running that is, and whose scheduling
 -- it was.
-use Rattle.std.specs.Prelude.{ℕ, ◌==◌, ◌+◌, ◌*◌, ◌/◌, if◌then◌else◌, List, [], ◌∷◌, ◌++◌, codes, decimal, map, sum}
+use Rattle.std.specs.Prelude.{ℕ, ◌==◌, ◌+◌, ◌*◌, ◌/◌, if◌then◌else◌, List, [], ◌∷◌, ◌++◌, codes, decimal, map, sum, Option, Some, None}
 use Rattle.scx_world.specs.declared.task.Task.{Task}
+use Rattle.scx_world.specs.declared.eject.Eject.{Eject}
+use Rattle.scx_world.specs.declared.eject.Eject.TheVariants.{Stall, Fault}
+use Rattle.scx_world.specs.Faults.{code_of}
 use Rattle.scx_world.specs.World.{WorldState}
 use Rattle.scx_trace.specs.Lines.{NameLists, task_name}
 
@@ -25,9 +28,30 @@ abbrev pub task_lines : NameLists → ℕ → ℕ → List ℕ → List ℕ
 task_lines x total t [] = []
 task_lines x total t (ms ∷ later) = task_line (task_name x t) ms total ++ task_lines x total (t + 1) later
 
-abbrev pub last_lines : ℕ → List ℕ
-last_lines total = codes "total " ++ decimal total ++ codes "\n" ++ codes "policy in force\n"
+abbrev pub total_line : ℕ → List ℕ
+total_line total = codes "total " ++ decimal total ++ codes "\n"
+
+-- ---- whose scheduling it was
+
+-- what stands before the name of a task, the task's name, and what stands behind it
+abbrev pub policy_start : Option Eject → List ℕ
+policy_start None = codes "policy in force"
+policy_start (Some (Stall t clock)) = codes "policy ejected stall "
+policy_start (Some (Fault f clock)) = codes "policy ejected fault " ++ decimal (code_of f)
+
+abbrev pub policy_name : NameLists → Option Eject → List ℕ
+policy_name x None = []
+policy_name x (Some (Stall t clock)) = task_name x t
+policy_name x (Some (Fault f clock)) = []
+
+abbrev pub policy_end : Option Eject → List ℕ
+policy_end None = codes "\n"
+policy_end (Some (Stall t clock)) = codes " at " ++ decimal clock ++ codes "\n"
+policy_end (Some (Fault f clock)) = codes " at " ++ decimal clock ++ codes "\n"
+
+abbrev pub policy_line : NameLists → Option Eject → List ℕ
+policy_line x o = policy_start o ++ policy_name x o ++ policy_end o
 
 -- by the milliseconds that each task ran
-abbrev pub report : NameLists → List ℕ → List ℕ
-report x all = task_lines x (sum all) 0 all ++ last_lines (sum all)
+abbrev pub report : NameLists → List ℕ → Option Eject → List ℕ
+report x all o = task_lines x (sum all) 0 all ++ total_line (sum all) ++ policy_line x o

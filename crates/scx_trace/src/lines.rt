@@ -47,6 +47,8 @@ fn name<N: Names>(names: &N, what: What) -> &str
         What::Stop(task, _) => names.task(task),
         What::Idle(_) => "",
         What::Weight(group, _) => names.group(group),
+        What::Stall(task) => names.task(task),
+        What::Fault(_) => "",
     }
 }
 
@@ -64,7 +66,7 @@ fn start(note: Note) -> Part
 
 fn verb(what: What) -> &'static str
     ensures verb { result.now ≡ lines.verb what }
-    ensures short { length result.now ≤ 10 }
+    ensures short { length result.now ≤ 12 }
 {
     match what {
         What::Wake(_) => "wake ",
@@ -75,6 +77,8 @@ fn verb(what: What) -> &'static str
         What::Stop(_, _) => "stop ",
         What::Idle(_) => "idle cpu ",
         What::Weight(_, _) => "weight ",
+        What::Stall(_) => "eject stall ",
+        What::Fault(_) => "eject fault ",
     }
 }
 
@@ -91,6 +95,8 @@ fn end(what: What) -> Part
         What::Stop(_, cpu) => numbered(" cpu ", u64::from(cpu)),
         What::Idle(cpu) => numbered("", u64::from(cpu)),
         What::Weight(_, weight) => numbered(" ", u64::from(weight)),
+        What::Stall(_) => whole_part("\n"),
+        What::Fault(fault) => numbered("", u64::from(fault.code())),
     }
 }
 

@@ -1,7 +1,11 @@
-//! Tests of traces and reports: those of whole runs, the line of each note, the line of each refusal, and
-//! outputs that fail.
+//! Tests of traces and reports: those of whole runs and of policies that are ejected, the line of each note,
+//! the line of each refusal, and outputs that fail.
 #![tactic(auto)]
 
+#[cfg(test)]
+mod causes;
+#[cfg(test)]
+mod ejections;
 #[cfg(test)]
 mod failures;
 #[cfg(test)]

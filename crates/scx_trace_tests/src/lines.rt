@@ -3,7 +3,7 @@
 use crate::memory::Memory;
 use crate::texts::TWO_TASKS;
 use scx_output::Counted;
-use scx_sched::{Note, Sink, What};
+use scx_sched::{Fault, Note, Sink, What};
 use scx_trace::Trace;
 use scx_workloads::read_workload;
 use std::process::Abort;
@@ -58,7 +58,34 @@ fn notes_have_lines(rt: HostRuntime) {
     expect(&rt, 1, What::Stop(0, 0), "1 stop a cpu 0\n");
     expect(&rt, 1, What::Idle(0), "1 idle cpu 0\n");
     expect(&rt, 1, What::Weight(0, 200), "1 weight g 200\n");
+    expect(&rt, 6, What::Stall(1), "6 eject stall b\n");
+    expect(
+        &rt,
+        u64::MAX,
+        What::Stall(0),
+        "18446744073709551615 eject stall a\n",
+    );
     // Numbers that name nothing.
     expect(&rt, 2, What::Wake(2), "2 wake \n");
     expect(&rt, 2, What::Weight(1, 1), "2 weight  1\n");
+    expect(&rt, 2, What::Stall(2), "2 eject stall \n");
+}
+
+/// Each fault, by its number.
+const FAULTS: [(Fault, &str); 8] = [
+    (Fault::Stuck, "3 eject fault 0\n"),
+    (Fault::NoSuchQueue, "3 eject fault 1\n"),
+    (Fault::CannotInsert, "3 eject fault 2\n"),
+    (Fault::Mixed, "3 eject fault 3\n"),
+    (Fault::BuiltinVtime, "3 eject fault 4\n"),
+    (Fault::NoSuchCpu, "3 eject fault 5\n"),
+    (Fault::UnknownFlag, "3 eject fault 6\n"),
+    (Fault::CannotCreate, "3 eject fault 7\n"),
+];
+
+#[test]
+fn faults_have_numbers(rt: HostRuntime) {
+    for &(fault, line) in &FAULTS {
+        expect(&rt, 3, What::Fault(fault), line);
+    }
 }

@@ -8,7 +8,7 @@ use scx_output::Counted;
 use scx_simulation::{report, simulate};
 use std::process::Abort;
 
-fn expect<R: AllocGlobal + Abort>(
+pub(crate) fn expect<R: AllocGlobal + Abort>(
     rt: &R,
     policy: &str,
     workload: &str,

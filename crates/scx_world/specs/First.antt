@@ -21,7 +21,7 @@ abbrev pub first_queues : ℕ → ℕ → QueueState
 first_queues cpus tasks = with_locals cpus (own_queues cpus tasks)
 
 abbrev pub new_task : Task
-new_task = record { since = 0; slice = default_slice; vtime = 0; prev_cpu = 0; run_ns = 0 }
+new_task = record { since = None; slice = default_slice; vtime = 0; prev_cpu = 0; run_ns = 0; builtin = 0 }
 
 abbrev pub first_world : Hierarchy → ℕ → WorldState
 first_world tree cpus = record {
@@ -32,5 +32,7 @@ first_world tree cpus = record {
   queues = first_queues cpus (length tree.homes);
   tree = tree;
   call = no_call;
+  builtin_clock = 0;
+  ejected = None;
   notes = [];
 }

@@ -1,6 +1,9 @@
 pub mod Ids
+pub mod Faults
 pub mod World
 pub mod Tasks
 pub mod Helpers
+pub mod Waits
+pub mod Ejecting
 pub mod First
 pub mod Kept

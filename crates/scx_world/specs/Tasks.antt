@@ -13,26 +13,30 @@ use Rattle.scx_world.specs.World.{WorldState, with_clock, with_queues, with_tree
 
 -- ---- one field of a task changed
 
-abbrev pub with_since : Task → ℕ → Task
-with_since x n = record { since = n; slice = x.slice; vtime = x.vtime; prev_cpu = x.prev_cpu; run_ns = x.run_ns }
+abbrev pub with_since : Task → Option ℕ → Task
+with_since x o = record { since = o; slice = x.slice; vtime = x.vtime; prev_cpu = x.prev_cpu; run_ns = x.run_ns; builtin = x.builtin }
 
 abbrev pub with_slice : Task → ℕ → Task
-with_slice x n = record { since = x.since; slice = n; vtime = x.vtime; prev_cpu = x.prev_cpu; run_ns = x.run_ns }
+with_slice x n = record { since = x.since; slice = n; vtime = x.vtime; prev_cpu = x.prev_cpu; run_ns = x.run_ns; builtin = x.builtin }
 
 abbrev pub with_vtime : Task → ℕ → Task
-with_vtime x n = record { since = x.since; slice = x.slice; vtime = n; prev_cpu = x.prev_cpu; run_ns = x.run_ns }
+with_vtime x n = record { since = x.since; slice = x.slice; vtime = n; prev_cpu = x.prev_cpu; run_ns = x.run_ns; builtin = x.builtin }
 
 abbrev pub with_prev_cpu : Task → ℕ → Task
-with_prev_cpu x n = record { since = x.since; slice = x.slice; vtime = x.vtime; prev_cpu = n; run_ns = x.run_ns }
+with_prev_cpu x n = record { since = x.since; slice = x.slice; vtime = x.vtime; prev_cpu = n; run_ns = x.run_ns; builtin = x.builtin }
+
+abbrev pub with_builtin : Task → ℕ → Task
+with_builtin x n = record { since = x.since; slice = x.slice; vtime = x.vtime; prev_cpu = x.prev_cpu; run_ns = x.run_ns; builtin = n }
 
 -- ---- waking, sleeping, waiting
 
 -- a task that wakes waits from now on
 abbrev pub woken : WorldState → ℕ → WorldState
-woken w t = with_tree (with_task w t (with_since (task_at w t) w.clock)) (tree.with_task w.tree t true)
+woken w t = with_tree (with_task w t (with_since (task_at w t) (Some w.clock))) (tree.with_task w.tree t true)
 
+-- a task that sleeps waits no more
 abbrev pub asleep : WorldState → ℕ → WorldState
-asleep w t = if nat_lt t (length w.tasks) then with_tree w (tree.with_task w.tree t false) else w
+asleep w t = if nat_lt t (length w.tasks) then with_tree (with_task w t (with_since (task_at w t) None)) (tree.with_task w.tree t false) else w
 
 -- the task leaves the queue in which it waits
 abbrev pub gone : WorldState → ℕ → WorldState
@@ -96,11 +100,15 @@ filled w q c = brought (fill_front w q c) w q c
 
 -- a task leaves its processor, and waits from now on
 abbrev pub stopped : WorldState → ℕ → ℕ → WorldState
-stopped w c t = with_cpu (with_task w t (with_since (task_at w t) w.clock)) c None
+stopped w c t = with_cpu (with_task w t (with_since (task_at w t) (Some w.clock))) c None
+
+-- a task that runs waits no more
+abbrev pub on_cpu : Task → ℕ → Task
+on_cpu x c = with_since (with_prev_cpu x c) None
 
 abbrev pub started_at : Option ℕ → WorldState → ℕ → WorldState
 started_at None w c = w
-started_at (Some t) w c = with_cpu (with_task (with_queues w (popped w.queues (local_on c))) t (with_prev_cpu (task_at w t) c)) c (Some t)
+started_at (Some t) w c = with_cpu (with_task (with_queues w (popped w.queues (local_on c))) t (on_cpu (task_at w t) c)) c (Some t)
 
 -- the front of the local queue runs
 abbrev pub started : WorldState → ℕ → WorldState
@@ -124,7 +132,7 @@ abbrev pub counted_down : ℕ → ℕ
 counted_down n = if n == 0xffff_ffff_ffff_ffff then n else n - tick_ns
 
 abbrev pub ran_a_tick : Task → Task
-ran_a_tick x = record { since = x.since; slice = counted_down x.slice; vtime = x.vtime; prev_cpu = x.prev_cpu; run_ns = x.run_ns + tick_ns }
+ran_a_tick x = record { since = x.since; slice = counted_down x.slice; vtime = x.vtime; prev_cpu = x.prev_cpu; run_ns = x.run_ns + tick_ns; builtin = x.builtin }
 
 abbrev pub ticked : WorldState → ℕ → WorldState
 ticked w t = with_task w t (ran_a_tick (task_at w t))

@@ -1,5 +1,5 @@
 -- The world that a policy's programs see and change, and its parts.
-use Rattle.std.specs.Prelude.{ℕ, zero, suc, Bool, false, ◌==◌, ◌&&◌, not, nat_lt, List, [], ◌∷◌, ◌++◌, length, if◌then◌else◌, Option, Some, None, is_none, is_some, slice_index_or, slice_set, position}
+use Rattle.std.specs.Prelude.{ℕ, zero, suc, Bool, false, ◌==◌, ◌&&◌, not, nat_lt, ◌-◌, List, [], ◌∷◌, ◌++◌, length, if◌then◌else◌, Option, Some, None, is_none, is_some, slice_index_or, slice_set, position}
 use Rattle.scx_dsq.specs.Queues.{QueueState, place_of}
 use Rattle.scx_weights.specs.Hierarchy.{Hierarchy, is_active_task}
 use Rattle.scx_semantics.specs.declared.callbacks.Callback.{Callback}
@@ -8,6 +8,7 @@ use Rattle.scx_world.specs.declared.notes.Note.{Note}
 use Rattle.scx_world.specs.declared.notes.What.{What}
 use Rattle.scx_world.specs.declared.task.Task.{Task}
 use Rattle.scx_world.specs.declared.call.Call.{Call}
+use Rattle.scx_world.specs.declared.eject.Eject.{Eject}
 
 pub record WorldState : Type 0 where
   pub clock : ℕ
@@ -17,39 +18,47 @@ pub record WorldState : Type 0 where
   pub queues : QueueState
   pub tree : Hierarchy
   pub call : Call  -- the callback at hand
+  pub builtin_clock : ℕ  -- the virtual time of the built-in scheduler
+  pub ejected : Option Eject  -- why and when the policy was put out of force, if it was
   pub notes : List Note  -- what it noted
 
 -- ---- one part changed
 
 abbrev pub with_clock : WorldState → ℕ → WorldState
-with_clock w x = record { clock = x; tasks = w.tasks; cpus = w.cpus; cycling = w.cycling; queues = w.queues; tree = w.tree; call = w.call; notes = w.notes }
+with_clock w x = record { clock = x; tasks = w.tasks; cpus = w.cpus; cycling = w.cycling; queues = w.queues; tree = w.tree; call = w.call; builtin_clock = w.builtin_clock; ejected = w.ejected; notes = w.notes }
 
 abbrev pub with_tasks : WorldState → List Task → WorldState
-with_tasks w x = record { clock = w.clock; tasks = x; cpus = w.cpus; cycling = w.cycling; queues = w.queues; tree = w.tree; call = w.call; notes = w.notes }
+with_tasks w x = record { clock = w.clock; tasks = x; cpus = w.cpus; cycling = w.cycling; queues = w.queues; tree = w.tree; call = w.call; builtin_clock = w.builtin_clock; ejected = w.ejected; notes = w.notes }
 
 abbrev pub with_cpus : WorldState → List (Option ℕ) → WorldState
-with_cpus w x = record { clock = w.clock; tasks = w.tasks; cpus = x; cycling = w.cycling; queues = w.queues; tree = w.tree; call = w.call; notes = w.notes }
+with_cpus w x = record { clock = w.clock; tasks = w.tasks; cpus = x; cycling = w.cycling; queues = w.queues; tree = w.tree; call = w.call; builtin_clock = w.builtin_clock; ejected = w.ejected; notes = w.notes }
 
 abbrev pub with_cycling : WorldState → Option ℕ → WorldState
-with_cycling w x = record { clock = w.clock; tasks = w.tasks; cpus = w.cpus; cycling = x; queues = w.queues; tree = w.tree; call = w.call; notes = w.notes }
+with_cycling w x = record { clock = w.clock; tasks = w.tasks; cpus = w.cpus; cycling = x; queues = w.queues; tree = w.tree; call = w.call; builtin_clock = w.builtin_clock; ejected = w.ejected; notes = w.notes }
 
 abbrev pub with_queues : WorldState → QueueState → WorldState
-with_queues w x = record { clock = w.clock; tasks = w.tasks; cpus = w.cpus; cycling = w.cycling; queues = x; tree = w.tree; call = w.call; notes = w.notes }
+with_queues w x = record { clock = w.clock; tasks = w.tasks; cpus = w.cpus; cycling = w.cycling; queues = x; tree = w.tree; call = w.call; builtin_clock = w.builtin_clock; ejected = w.ejected; notes = w.notes }
 
 abbrev pub with_tree : WorldState → Hierarchy → WorldState
-with_tree w x = record { clock = w.clock; tasks = w.tasks; cpus = w.cpus; cycling = w.cycling; queues = w.queues; tree = x; call = w.call; notes = w.notes }
+with_tree w x = record { clock = w.clock; tasks = w.tasks; cpus = w.cpus; cycling = w.cycling; queues = w.queues; tree = x; call = w.call; builtin_clock = w.builtin_clock; ejected = w.ejected; notes = w.notes }
 
 abbrev pub with_call : WorldState → Call → WorldState
-with_call w x = record { clock = w.clock; tasks = w.tasks; cpus = w.cpus; cycling = w.cycling; queues = w.queues; tree = w.tree; call = x; notes = w.notes }
+with_call w x = record { clock = w.clock; tasks = w.tasks; cpus = w.cpus; cycling = w.cycling; queues = w.queues; tree = w.tree; call = x; builtin_clock = w.builtin_clock; ejected = w.ejected; notes = w.notes }
 
 abbrev pub with_notes : WorldState → List Note → WorldState
-with_notes w x = record { clock = w.clock; tasks = w.tasks; cpus = w.cpus; cycling = w.cycling; queues = w.queues; tree = w.tree; call = w.call; notes = x }
+with_notes w x = record { clock = w.clock; tasks = w.tasks; cpus = w.cpus; cycling = w.cycling; queues = w.queues; tree = w.tree; call = w.call; builtin_clock = w.builtin_clock; ejected = w.ejected; notes = x }
+
+abbrev pub with_builtin_clock : WorldState → ℕ → WorldState
+with_builtin_clock w x = record { clock = w.clock; tasks = w.tasks; cpus = w.cpus; cycling = w.cycling; queues = w.queues; tree = w.tree; call = w.call; builtin_clock = x; ejected = w.ejected; notes = w.notes }
+
+abbrev pub with_ejected : WorldState → Option Eject → WorldState
+with_ejected w x = record { clock = w.clock; tasks = w.tasks; cpus = w.cpus; cycling = w.cycling; queues = w.queues; tree = w.tree; call = w.call; builtin_clock = w.builtin_clock; ejected = x; notes = w.notes }
 
 -- ---- tasks and processors
 
--- where there is no task all is 0
+-- where there is no task all is 0, and nobody waits
 abbrev pub no_task : Task
-no_task = record { since = 0; slice = 0; vtime = 0; prev_cpu = 0; run_ns = 0 }
+no_task = record { since = None; slice = 0; vtime = 0; prev_cpu = 0; run_ns = 0; builtin = 0 }
 
 abbrev pub task_at : WorldState → ℕ → Task
 task_at w t = slice_index_or w.tasks t no_task
@@ -64,6 +73,16 @@ is_runnable w t = is_active_task w.tree t
 -- the task waits in a queue
 abbrev pub waits : WorldState → ℕ → Bool
 waits w t = is_some (place_of w.queues t)
+
+-- how long since then; 0 where it isn't since any time
+abbrev pub time_since : ℕ → Option ℕ → ℕ
+time_since now None = 0
+time_since now (Some n) = now - n
+
+-- How long a task has waited: the clock less the clock at which it woke or was stopped last. A task that
+-- runs or sleeps doesn't wait.
+abbrev pub wait : WorldState → ℕ → ℕ
+wait w t = time_since w.clock (task_at w t).since
 
 -- the task that runs on a processor
 abbrev pub running : WorldState → ℕ → Option ℕ

@@ -252,7 +252,7 @@ impl World {
         }
     }
 
-    fn weight(&self, task: u16) -> u64
+    pub(crate) fn weight(&self, task: u16) -> u64
         ensures weight { result ≡ weight_at self.now task }
         ensures fits { result < 2 ^ 32 }
     {

@@ -6,6 +6,8 @@
 
 mod call;
 mod counting;
+mod eject;
+mod ejecting;
 mod faults;
 mod helpers;
 mod host;
@@ -13,9 +15,11 @@ mod ids;
 mod notes;
 mod steps;
 mod task;
+mod watch;
 mod world;
 
 pub use call::{Call, Insert};
+pub use eject::Eject;
 pub use faults::Fault;
 pub use ids::{BUILTIN, GLOBAL, HELD, LOCAL, LOCAL_ON, POLICY_END};
 pub use notes::{Note, What};

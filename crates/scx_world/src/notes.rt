@@ -1,3 +1,5 @@
+use crate::faults::Fault;
+
 /// One thing that happened, and at which clock.
 #[derive(Clone, Copy, Debug, PartialEq, Eq)]
 pub struct Note {
@@ -19,4 +21,8 @@ pub enum What {
     Idle(u32),
     /// A group has that weight from now on.
     Weight(u32, u32),
+    /// The policy is ejected: that task waited too long.
+    Stall(u16),
+    /// The policy is ejected: that was the first fault of a callback.
+    Fault(Fault),
 }

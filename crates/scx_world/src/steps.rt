@@ -20,17 +20,20 @@ impl World {
         ensures few { self.new.queues.pushes ≡ self.old.queues.pushes }
     {
         let mut facts = self.task(task);
-        facts.since = self.clock;
+        facts.since = Some(self.clock);
         self.set_task(task, facts);
         self.tree.activate(u32::from(task));
     }
 
-    /// The task isn't runnable.
+    /// The task isn't runnable, and waits no more.
     pub fn sleep(&mut self, task: u16)
         ensures world { self.new ≡ asleep self.old task }
         ensures few { self.new.queues.pushes ≡ self.old.queues.pushes }
     {
         if (task as usize) < self.tasks.len() {
+            let mut facts = self.task(task);
+            facts.since = None;
+            self.set_task(task, facts);
             self.tree.deactivate(u32::from(task));
         }
     }
@@ -86,12 +89,12 @@ impl World {
         ensures few { self.new.queues.pushes ≡ self.old.queues.pushes }
     {
         let mut facts = self.task(task);
-        facts.since = self.clock;
+        facts.since = Some(self.clock);
         self.set_task(task, facts);
         self.set_cpu(cpu, None);
     }
 
-    /// The front of the local queue runs, and is answered.
+    /// The front of the local queue runs, waits no more, and is answered.
     pub fn start(&mut self, cpu: u32) -> Option<u16>
         ensures answer { result ≡ front_of self.old.queues (local_on cpu) }
         ensures world { self.new ≡ started self.old cpu }
@@ -100,6 +103,7 @@ impl World {
         let task = counting::pop(&mut self.queues, LOCAL_ON + u64::from(cpu))? as u16;
         let mut facts = self.task(task);
         facts.prev_cpu = cpu;
+        facts.since = None;
         self.set_task(task, facts);
         self.set_cpu(cpu, Some(task));
         Some(task)

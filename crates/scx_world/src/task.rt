@@ -4,8 +4,8 @@ pub const DEFAULT_SLICE: u64 = 20_000_000;
 /// The record of a task.
 #[derive(Clone, Copy, Debug, PartialEq, Eq)]
 pub struct Task {
-    /// The clock at which its wait began: at which it woke or was stopped last.
-    pub since: u64,
+    /// While it waits, the clock at which it began to: at which it woke or was stopped last.
+    pub since: Option<u64>,
     /// What is left of its slice, in nanoseconds; 2^64 - 1 never ends.
     pub slice: u64,
     pub vtime: u64,
@@ -13,23 +13,27 @@ pub struct Task {
     pub prev_cpu: u32,
     /// How long it has run, in nanoseconds.
     pub run_ns: u64,
+    /// Its virtual time under the built-in scheduler, 0 up to an ejection.
+    pub builtin: u64,
 }
 
 impl Task {
     pub(crate) const NEW: Task = Task {
-        since: 0,
+        since: None,
         slice: DEFAULT_SLICE,
         vtime: 0,
         prev_cpu: 0,
         run_ns: 0,
+        builtin: 0,
     };
 
     /// What is read where there is no task.
     pub(crate) const NONE: Task = Task {
-        since: 0,
+        since: None,
         slice: 0,
         vtime: 0,
         prev_cpu: 0,
         run_ns: 0,
+        builtin: 0,
     };
 }

@@ -8,10 +8,12 @@ ghost use Rattle.scx_world.specs.Kept.{AreTaken};
 ghost use Rattle.scx_world.specs.World.{task_at, with_task, is_runnable, waits, running, with_cpu, with_cycling, is_this, cpu_of, is_idle, first_idle, default_choice, begun, quiet, said};
 
 use crate::call::{Call, Insert};
+use crate::eject::Eject;
 use crate::faults::Fault;
 use crate::ids::{BUILTIN, GLOBAL, HELD, LOCAL_ON};
 use crate::notes::{Note, What};
 use crate::task::Task;
+use crate::watch::{BLOCKS, NEVER, watch};
 use scx_dsq::Queues;
 use scx_isa::{Callback, TaskId};
 use scx_vm::Argument;
@@ -35,6 +37,14 @@ pub struct World {
     pub(crate) queues: Queues,
     pub(crate) tree: Tree,
     pub(crate) call: Call,
+    /// The virtual time of the built-in scheduler.
+    pub(crate) builtin_clock: u64,
+    /// Why and when the policy was put out of force.
+    pub(crate) ejected: Option<Eject>,
+    /// Nobody waits since before that clock.
+    pub(crate) oldest: u64,
+    /// Nobody of each block of tasks waits since before that clock.
+    pub(crate) blocks: [u64; BLOCKS],
     pub(crate) notes: Vec<Note>,
 }
 
@@ -68,6 +78,10 @@ impl World {
             queues: own_queues(alloc, cpus, count)?,
             tree,
             call: Call::NONE,
+            builtin_clock: 0,
+            ejected: None,
+            oldest: NEVER,
+            blocks: [NEVER; BLOCKS],
             notes: Vec::with_capacity(alloc, 4096)?,
         })
     }
@@ -110,6 +124,9 @@ impl World {
         ensures { self.new ≡ with_task self.old task facts }
     {
         if (task as usize) < self.tasks.len() {
+            if let Some(since) = facts.since {
+                watch(&mut self.oldest, &mut self.blocks, task, since);
+            }
             self.tasks[task as usize] = facts;
         }
     }

@@ -1,0 +1,25 @@
+-- A policy is ejected: it is out of force from then on, and every task that waits goes to the built-in
+-- scheduler (sched-ext.rst, "Switching to and from sched_ext").
+use Rattle.std.specs.Prelude.{[], ◌∷◌, length, Option, Some, None}
+use Rattle.scx_world.specs.declared.eject.Eject.{Eject}
+use Rattle.scx_world.specs.declared.eject.Eject.TheVariants as cause
+use Rattle.scx_world.specs.declared.faults.Fault.{Fault}
+use Rattle.scx_world.specs.World.{said}
+use Rattle.scx_world.specs.Ejecting.{put_out, evicted, evict_notes, cut, eject_note}
+use Rattle.scx_machine.specs.Steps.{State, Stepped, with_world, stays, after}
+
+-- all who wait go over, by number
+unfoldable pub moves_over : State → Stepped
+moves_over s = record { state = with_world s (evicted (length s.world.tasks) s.world); notes = evict_notes (length s.world.tasks) s.world; calls = [] }
+
+-- the tasks that run stay, with slices that are cut
+abbrev pub cuts : Stepped → Stepped
+cuts r = record { state = with_world r.state (cut (length r.state.world.cpus) r.state.world); notes = r.notes; calls = r.calls }
+
+unfoldable pub eject : State → Eject → Stepped
+eject s x = after (said s.world (eject_note x) ∷ []) (cuts (moves_over (with_world s (put_out s.world x))))
+
+-- where there was a fault
+abbrev pub ejected_for : Option Fault → State → Stepped
+ejected_for None s = stays s
+ejected_for (Some f) s = eject s (cause.Fault f s.world.clock)

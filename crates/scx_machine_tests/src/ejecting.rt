@@ -1,0 +1,410 @@
+//! Policies that are ejected, and what goes on under the built-in scheduler. In what is noted
+//! 9223372036854775811 is HELD, 9223372036854775812 is BUILTIN, and 13835058055282163712 is the local queue
+//! of processor 0.
+
+use crate::policies::SHORT_SLICES;
+use crate::session::Session;
+use scx_examples::{DISPATCH, INIT};
+use scx_isa::Callback;
+use scx_sched::{Eject, Event, Place, Refused};
+use std::process::Abort;
+
+/// What a policy notes as its one task wakes on one processor.
+const WAKES: [(&[(Callback, &str)], &str); 6] = [
+    // Queue 9 isn't there.
+    (
+        &[(Callback::Enqueue, "r2 = 9\nr3 = 0\nr4 = 0\ncall 1002\nexit")],
+        "0 Wake(0)
+0 Fault(NoSuchQueue)
+0 Insert(0, 9223372036854775812)
+0 Move(0, 0)
+0 Run(0, 0)
+",
+    ),
+    // Nor is it the fault that counts.
+    (
+        &[(Callback::Enqueue, "r4 = 2\nr2 = 9\nr3 = 0\ncall 1002\nexit")],
+        "0 Wake(0)
+0 Fault(UnknownFlag)
+0 Insert(0, 9223372036854775812)
+0 Move(0, 0)
+0 Run(0, 0)
+",
+    ),
+    // GLOBAL by virtual time.
+    (
+        &[(
+            Callback::Enqueue,
+            "r5 = r2\nr2 = 9223372036854775809 ll\nr3 = 0\nr4 = 0\ncall 1003\nexit",
+        )],
+        "0 Wake(0)
+0 Fault(BuiltinVtime)
+0 Insert(0, 9223372036854775812)
+0 Move(0, 0)
+0 Run(0, 0)
+",
+    ),
+    (
+        &[(Callback::SelectCpu, "r0 = 3\nexit")],
+        "0 Wake(0)
+0 Fault(NoSuchCpu)
+0 Insert(0, 9223372036854775812)
+0 Move(0, 0)
+0 Run(0, 0)
+",
+    ),
+    // The local queue that dispatch has filled is emptied, and filled again.
+    (
+        &[
+            (Callback::Init, INIT),
+            (Callback::Enqueue, SHORT_SLICES),
+            (
+                Callback::Dispatch,
+                "r1 = 0\ncall 1004\nr1 = 9\ncall 1004\nexit",
+            ),
+        ],
+        "0 Wake(0)
+0 Insert(0, 0)
+0 Move(0, 0)
+0 Fault(NoSuchQueue)
+0 Insert(0, 9223372036854775812)
+0 Move(0, 0)
+0 Run(0, 0)
+",
+    ),
+    // A call after the fault acts as ever.
+    (
+        &[
+            (Callback::Init, INIT),
+            (Callback::Enqueue, SHORT_SLICES),
+            (
+                Callback::Dispatch,
+                "r1 = 9\ncall 1004\nr1 = 0\ncall 1004\nexit",
+            ),
+        ],
+        "0 Wake(0)
+0 Insert(0, 0)
+0 Move(0, 0)
+0 Fault(NoSuchQueue)
+0 Insert(0, 9223372036854775812)
+0 Move(0, 0)
+0 Run(0, 0)
+",
+    ),
+];
+
+#[test]
+fn as_a_task_wakes(rt: HostRuntime) {
+    for &(texts, wanted) in &WAKES {
+        let mut session = Session::new(&rt, texts, &[0], 1);
+        session.run(&rt, &[Event::Wake(0)]);
+        session.noted(&rt, wanted);
+        session.are_at(&rt, &[(0, Place::Cpu(0))]);
+        drop(session);
+    }
+}
+
+/// Inserts the first task into LOCAL, held or not.
+const FIRST: &str = "r1 = 1
+call 1007
+if r0 == 0 goto out
+r1 = r0
+r2 = 9223372036854775810 ll
+r3 = 2000000
+r4 = 0
+call 1002
+out:
+exit
+";
+
+const NOT_HELD: &str = "0 Wake(0)
+0 Insert(0, 9223372036854775811)
+0 Insert(0, 13835058055282163712)
+0 Run(0, 0)
+1 Fault(CannotInsert)
+";
+
+fn insert_who_runs(rt: &impl Abort, session: &mut Session) {
+    session.run(rt, &[Event::Wake(0)]);
+    session.go_by(rt, 3);
+    session.noted(rt, NOT_HELD);
+    // It keeps its processor, and has used a millisecond of a whole slice.
+    session.are_at(rt, &[(0, Place::Cpu(0))]);
+    session.has_slice(rt, 0, 19_000_000);
+}
+
+#[test]
+fn a_task_that_runs_is_inserted(rt: HostRuntime) {
+    let texts = [(Callback::Enqueue, "exit"), (Callback::Dispatch, FIRST)];
+    let mut session = Session::new(&rt, &texts, &[0], 1);
+    insert_who_runs(&rt, &mut session);
+    drop(session);
+}
+
+/// A queue that isn't there.
+const LENGTH: &str = "r1 = 9\ncall 1008\nexit";
+
+/// Two tasks take turns of two milliseconds under a policy with one callback more.
+fn turns_with<R: AllocGlobal + Abort>(rt: &R, callback: Callback, wanted: &str) {
+    let texts = [
+        (Callback::Init, INIT),
+        (Callback::Enqueue, SHORT_SLICES),
+        (Callback::Dispatch, DISPATCH),
+        (callback, LENGTH),
+    ];
+    let mut session = Session::new(rt, &texts, &[0, 0], 1);
+    session.run(rt, &[Event::Wake(0), Event::Wake(1)]);
+    session.go_by(rt, 2);
+    session.noted(rt, wanted);
+    session.are_at(rt, &[(0, Place::Builtin), (1, Place::Cpu(0))]);
+    drop(session);
+}
+
+#[test]
+fn as_a_task_runs(rt: HostRuntime) {
+    let wanted = "0 Wake(0)
+0 Insert(0, 0)
+0 Move(0, 0)
+0 Run(0, 0)
+0 Fault(NoSuchQueue)
+0 Wake(1)
+0 Insert(1, 9223372036854775812)
+1 Move(1, 0)
+1 Stop(0, 0)
+1 Insert(0, 9223372036854775812)
+1 Run(1, 0)
+";
+    turns_with(&rt, Callback::Running, wanted);
+}
+
+/// The local queue is emptied as the task before stops, and the second task comes to it anew.
+#[test]
+fn as_a_task_stops(rt: HostRuntime) {
+    let wanted = "0 Wake(0)
+0 Insert(0, 0)
+0 Move(0, 0)
+0 Run(0, 0)
+0 Wake(1)
+0 Insert(1, 0)
+1 Move(1, 0)
+1 Stop(0, 0)
+1 Fault(NoSuchQueue)
+1 Insert(1, 9223372036854775812)
+1 Insert(0, 9223372036854775812)
+1 Move(1, 0)
+1 Run(1, 0)
+";
+    turns_with(&rt, Callback::Stopping, wanted);
+}
+
+const MIXED: &str = "0 Wake(0)
+0 Insert(0, 0)
+0 Wake(1)
+0 Fault(Mixed)
+0 Insert(0, 9223372036854775812)
+0 Insert(1, 9223372036854775812)
+0 Move(0, 0)
+0 Run(0, 0)
+";
+
+/// The first task by virtual time, the second in order of arrival.
+const MIXING: &str = "r5 = *(u32 *)(r1 + 0)
+r2 = 0
+r3 = 0
+r4 = 0
+if r5 == 2 goto fifo
+r5 = 0
+call 1003
+exit
+fifo:
+call 1002
+exit
+";
+
+#[test]
+fn as_queues_are_mixed(rt: HostRuntime) {
+    let texts = [(Callback::Init, INIT), (Callback::Enqueue, MIXING)];
+    let mut session = Session::new(&rt, &texts, &[0, 0], 1);
+    session.run(&rt, &[Event::Wake(0), Event::Wake(1)]);
+    session.noted(&rt, MIXED);
+    drop(session);
+}
+
+/// Inserts into queue 0 with a slice without end.
+const ENDLESS: &str = "r2 = 0\nr3 = 18446744073709551615 ll\nr4 = 0\ncall 1002\nexit";
+
+const STALLS: &str = "0 Wake(0)
+0 Insert(0, 0)
+0 Move(0, 0)
+0 Run(0, 0)
+0 Wake(1)
+0 Insert(1, 0)
+6 Stall(1)
+6 Insert(1, 9223372036854775812)
+";
+
+fn stall_behind_an_endless_slice(rt: &impl Abort, session: &mut Session) {
+    session.run(rt, &[Event::Wake(0), Event::Wake(1)]);
+    session.go_by(rt, 5);
+    session.has_waited(rt, 1, 5);
+    assert_eq!(rt; session.sim.ejected(), None);
+    session.has_slice(rt, 0, u64::MAX);
+    session.go_by(rt, 1);
+    assert_eq!(rt; session.sim.ejected(), Some(Eject::Stall(1, 6)));
+    session.has_slice(rt, 0, 20_000_000);
+    session.go_by(rt, 1);
+    session.has_slice(rt, 0, 19_000_000);
+    session.noted(rt, STALLS);
+}
+
+#[test]
+fn as_a_task_waits_behind_an_endless_slice(rt: HostRuntime) {
+    let texts = [
+        (Callback::Init, INIT),
+        (Callback::Enqueue, ENDLESS),
+        (Callback::Dispatch, DISPATCH),
+    ];
+    let mut session = Session::within(&rt, 5, &texts, &[0, 0]);
+    stall_behind_an_endless_slice(&rt, &mut session);
+    drop(session);
+}
+
+const HELD: &str = "0 Wake(0)
+0 Insert(0, 9223372036854775811)
+0 Wake(1)
+0 Insert(1, 9223372036854775811)
+6 Stall(0)
+6 Insert(0, 9223372036854775812)
+6 Insert(1, 9223372036854775812)
+6 Move(0, 0)
+6 Run(0, 0)
+26 Move(1, 0)
+26 Stop(0, 0)
+26 Insert(0, 9223372036854775812)
+26 Run(1, 0)
+";
+
+/// Nobody is put anywhere, and a task may wait five milliseconds.
+fn holding<R: AllocGlobal + Abort>(rt: &R) -> Session {
+    Session::within(rt, 5, &[(Callback::Enqueue, "exit")], &[0, 0])
+}
+
+fn hold_two(rt: &impl Abort, session: &mut Session) {
+    session.run(rt, &[Event::Wake(0), Event::Wake(1)]);
+    session.go_by(rt, 27);
+    session.noted(rt, HELD);
+    assert_eq!(rt; session.sim.ejected(), Some(Eject::Stall(0, 6)));
+    session.are_at(rt, &[(0, Place::Builtin), (1, Place::Cpu(0))]);
+}
+
+#[test]
+fn as_tasks_are_held(rt: HostRuntime) {
+    let mut session = holding(&rt);
+    hold_two(&rt, &mut session);
+    // Whoever waits now waits for the built-in scheduler, and no policy is ejected again.
+    session.go_by(&rt, 100);
+    assert_eq!(rt; session.sim.ejected(), Some(Eject::Stall(0, 6)));
+    drop(session);
+}
+
+/// Events that the machine never takes.
+const NEVER: [(Event, Refused); 6] = [
+    (Event::Wake(2), Refused::UnknownTask),
+    (Event::Sleep(2), Refused::UnknownTask),
+    (Event::Tick(1), Refused::UnknownCpu),
+    (Event::SetWeight(1, 1), Refused::UnknownGroup),
+    (Event::SetWeight(0, 0), Refused::BadWeight),
+    (Event::SetWeight(0, 10_001), Refused::BadWeight),
+];
+
+/// Before the event all these are refused.
+fn refuse_and_run(rt: &impl Abort, session: &mut Session, also: (Event, Refused), event: Event) {
+    session.refuse(rt, &NEVER);
+    session.refuse(rt, &[also]);
+    session.run(rt, &[event]);
+}
+
+fn hold_two_between_refusals(rt: &impl Abort, session: &mut Session) {
+    let asleep = (Event::Sleep(1), Refused::NotRunnable);
+    let awake = (Event::Wake(0), Refused::AlreadyRunnable);
+    refuse_and_run(rt, session, asleep, Event::Wake(0));
+    session.refuse(rt, &[asleep]);
+    refuse_and_run(rt, session, awake, Event::Wake(1));
+    for _ in 0..27 {
+        refuse_and_run(rt, session, awake, Event::Tick(0));
+        refuse_and_run(rt, session, awake, Event::Clock);
+    }
+    session.refuse(rt, &NEVER);
+    session.noted(rt, HELD);
+    assert_eq!(rt; session.sim.events(), 56);
+    session.are_at(rt, &[(0, Place::Builtin), (1, Place::Cpu(0))]);
+}
+
+#[test]
+fn refused_events_change_nothing(rt: HostRuntime) {
+    let mut session = holding(&rt);
+    hold_two_between_refusals(&rt, &mut session);
+    drop(session);
+}
+
+const TWO_CPUS: &str = "0 Wake(0)
+0 Insert(0, 0)
+0 Move(0, 0)
+0 Run(0, 0)
+0 Wake(1)
+0 Insert(1, 0)
+0 Move(1, 1)
+0 Run(1, 1)
+0 Wake(2)
+0 Fault(NoSuchCpu)
+0 Insert(2, 9223372036854775812)
+1 Move(2, 0)
+1 Stop(0, 0)
+1 Insert(0, 9223372036854775812)
+1 Run(2, 0)
+1 Move(0, 1)
+1 Stop(1, 1)
+1 Insert(1, 9223372036854775812)
+1 Run(0, 1)
+21 Move(1, 0)
+21 Stop(2, 0)
+21 Insert(2, 9223372036854775812)
+21 Run(1, 0)
+21 Move(2, 1)
+21 Stop(0, 1)
+21 Insert(0, 9223372036854775812)
+21 Run(2, 1)
+";
+
+/// The default choice, but for the third task a processor that isn't there.
+const THIRD: &str = "r6 = r1
+call 1005
+r3 = *(u32 *)(r6 + 0)
+if r3 != 3 goto out
+r0 = 9
+out:
+exit
+";
+
+fn eject_at_the_third(rt: &impl Abort, session: &mut Session) {
+    session.run(rt, &[Event::Wake(0), Event::Wake(1), Event::Wake(2)]);
+    for _ in 0..22 {
+        session.run(rt, &[Event::Tick(0), Event::Tick(1), Event::Clock]);
+    }
+    session.noted(rt, TWO_CPUS);
+    session.are_at(rt, &[(0, Place::Builtin), (1, Place::Cpu(0))]);
+}
+
+/// Tasks that run keep their processors, and take turns by how much they used: 600060 for each slice.
+#[test]
+fn on_two_processors(rt: HostRuntime) {
+    let texts = [
+        (Callback::Init, INIT),
+        (Callback::SelectCpu, THIRD),
+        (Callback::Enqueue, SHORT_SLICES),
+        (Callback::Dispatch, DISPATCH),
+    ];
+    let mut session = Session::new(&rt, &texts, &[0, 0, 0], 2);
+    eject_at_the_third(&rt, &mut session);
+    drop(session);
+}

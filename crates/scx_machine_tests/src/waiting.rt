@@ -1,0 +1,182 @@
+//! Who has waited longest, and how long.
+
+use crate::policies::{policy_within, tree};
+use crate::session::Session;
+use scx_examples::INIT;
+use scx_isa::Callback;
+use scx_sched::{Eject, Event, Place};
+use scx_weights::{Group, Tree, TreeError};
+use std::alloc::{AllocError, Global};
+use std::process::Abort;
+use std::test::Fail;
+
+/// Puts the first task, once it is held for three milliseconds, into queue 0, from where nobody takes it.
+const LATER: &str = "r1 = 0
+call 1008
+if r0 != 0 goto out
+call 5
+if r0 < 3000000 goto out
+r1 = 1
+call 1007
+if r0 == 0 goto out
+r1 = r0
+r2 = 0
+r3 = 0
+r4 = 0
+call 1002
+out:
+exit
+";
+
+const MOVED: &str = "0 Wake(0)
+0 Insert(0, 9223372036854775811)
+3 Insert(0, 0)
+6 Stall(0)
+6 Insert(0, 9223372036854775812)
+";
+
+fn move_and_wait(rt: &impl Abort, session: &mut Session) {
+    session.run(rt, &[Event::Wake(0)]);
+    session.go_by(rt, 4);
+    session.are_at(rt, &[(0, Place::Policy(0))]);
+    session.has_waited(rt, 0, 4);
+    session.go_by(rt, 2);
+    session.noted(rt, MOVED);
+    session.has_waited(rt, 0, 6);
+}
+
+#[test]
+fn a_wait_goes_on_from_queue_to_queue(rt: HostRuntime) {
+    let texts = [
+        (Callback::Init, INIT),
+        (Callback::Enqueue, "exit"),
+        (Callback::Dispatch, LATER),
+    ];
+    let mut session = Session::within(&rt, 5, &texts, &[0]);
+    move_and_wait(&rt, &mut session);
+    drop(session);
+}
+
+fn run_and_sleep(rt: &impl Abort, session: &mut Session) {
+    session.has_waited(rt, 0, 0);
+    session.run(rt, &[Event::Wake(0), Event::Wake(1)]);
+    session.go_by(rt, 3);
+    session.has_waited(rt, 0, 0);
+    session.has_waited(rt, 1, 3);
+    session.run(rt, &[Event::Sleep(0)]);
+    session.has_waited(rt, 0, 0);
+    session.has_waited(rt, 1, 0);
+    session.run(rt, &[Event::Sleep(1)]);
+    session.go_by(rt, 3);
+    session.has_waited(rt, 1, 0);
+}
+
+#[test]
+fn who_runs_or_sleeps_does_not_wait(rt: HostRuntime) {
+    let mut session = Session::new(&rt, &[], &[0, 0], 1);
+    run_and_sleep(&rt, &mut session);
+    drop(session);
+}
+
+/// 1024 tasks of one group.
+fn large_tree(alloc: Global) -> Result<Tree, TreeError> {
+    let group = Group {
+        parent: None,
+        weight: 100,
+    };
+    Tree::new(alloc, &[group], &homes(alloc)?)
+}
+
+fn homes(alloc: Global) -> Result<Vec<u32>, AllocError> {
+    let mut homes = Vec::new(alloc);
+    for _ in 0..1024 {
+        homes.push(0)?;
+    }
+    Ok(homes)
+}
+
+/// 1024 tasks, of which nobody is put anywhere, and each may wait five milliseconds.
+fn many<R: AllocGlobal + Abort>(rt: &R) -> Result<Session, Fail> {
+    let policy = policy_within(rt, 5, &[(Callback::Enqueue, "exit")]);
+    let tree = large_tree(rt.alloc())?;
+    Ok(Session::of(rt, policy, tree, 1, 4000))
+}
+
+/// Of those who have waited longest the least number is named.
+fn wake_at_once(rt: &impl Abort, session: &mut Session) {
+    let events = [Event::Wake(1023), Event::Wake(700), Event::Wake(40)];
+    session.run(rt, &events);
+    session.run(rt, &[Event::Clock, Event::Wake(3)]);
+    for _ in 0..4 {
+        session.run(rt, &[Event::Clock]);
+    }
+    assert_eq!(rt; session.sim.ejected(), None);
+    session.run(rt, &[Event::Clock]);
+    assert_eq!(rt; session.sim.ejected(), Some(Eject::Stall(40, 6)));
+}
+
+#[test]
+fn the_least_number_is_named(rt: HostRuntime) -> Result<(), Fail> {
+    let mut session = many(&rt)?;
+    wake_at_once(&rt, &mut session);
+    drop(session);
+    Ok(())
+}
+
+/// The first ones sleep in time, and wake again; one that woke between is named.
+fn sleep_in_time(rt: &impl Abort, session: &mut Session) {
+    let events = [
+        Event::Wake(3),
+        Event::Wake(4),
+        Event::Wake(899),
+        Event::Clock,
+        Event::Wake(900),
+        Event::Clock,
+        Event::Sleep(3),
+        Event::Sleep(899),
+        Event::Clock,
+        Event::Clock,
+        Event::Wake(3),
+        Event::Wake(899),
+        Event::Clock,
+        Event::Sleep(4),
+        Event::Clock,
+    ];
+    session.run(rt, &events);
+    // Task 900 has waited for five milliseconds, and nobody longer.
+    session.has_waited(rt, 900, 5);
+    assert_eq!(rt; session.sim.ejected(), None);
+    session.run(rt, &[Event::Clock]);
+    assert_eq!(rt; session.sim.ejected(), Some(Eject::Stall(900, 7)));
+}
+
+#[test]
+fn who_sleeps_in_time_is_not_named(rt: HostRuntime) -> Result<(), Fail> {
+    let mut session = many(&rt)?;
+    sleep_in_time(&rt, &mut session);
+    drop(session);
+    Ok(())
+}
+
+/// All wake at one clock, and go over together: a note each as they wake and are held, and one each then.
+fn all_stall(rt: &impl Abort, session: &mut Session) {
+    for task in 0..1024_u16 {
+        session.run(rt, &[Event::Wake(1023 - task)]);
+    }
+    for _ in 0..6 {
+        session.run(rt, &[Event::Clock]);
+    }
+    assert_eq!(rt; session.sim.ejected(), Some(Eject::Stall(0, 6)));
+    assert_eq!(rt; session.recorder.notes, 2 * 1024 + 1 + 1024);
+    for task in 0..1024_u16 {
+        session.are_at(rt, &[(task, Place::Builtin)]);
+    }
+}
+
+#[test]
+fn all_go_over(rt: HostRuntime) -> Result<(), Fail> {
+    let mut session = many(&rt)?;
+    all_stall(&rt, &mut session);
+    drop(session);
+    Ok(())
+}

@@ -1,0 +1,162 @@
+-- No task waits too long while its policy is in force: each small step of a world keeps that.
+use Rattle.std.proofs.Common.{◌≡◌, ℕ, zero, suc, ◌+◌, ◌-◌, ◌<◌, ◌≤◌, ◌⊎◌, inl, inr, Bool, true, false, nat_lt, ◌==◌, List, length, set, get_or, map, Option, Some, None, is_some, cond, refl, sym, arith, ◌∙◌}
+use Rattle.std.proofs.lemmas.Bool.{cases_eq, cases_lt}
+use Rattle.std.proofs.lemmas.Bool.Decides.{nat_tests}
+use Rattle.std.proofs.lemmas.List.{length-set, get_or-set_same, get_or-set_other, get_or_past, set_past}
+use Rattle.scx_dsq.specs.Queues.{front_of}
+use Rattle.scx_dsq.specs.Calls.{created}
+use Rattle.scx_dsq.specs.declared.places.Rank.{Rank}
+use Rattle.scx_dsq.specs.declared.places.Rank.TheVariants.{Fifo, Vtime}
+use Rattle.scx_semantics.specs.declared.outside.Field.{Field}
+use Rattle.scx_semantics.specs.declared.outside.Field.TheVariants.{Pid, Weight, Slice, DsqVtime, PrevCpu, Group, RunNs}
+use Rattle.scx_semantics.specs.declared.outside.Helper.{Helper}
+use Rattle.scx_semantics.specs.declared.outside.Helper.TheVariants.{MapLookupElem, KtimeGetNs, CreateDsq, DsqInsert, DsqInsertVtime, DsqMoveToLocal, SelectCpuDfl, CpuIdle, TaskByPid, DsqNrQueued}
+use Rattle.scx_semantics.specs.Effects.{Query, Call, Load, Store}
+use Rattle.scx_vm.specs.Arguments.{argument_of}
+use Rattle.scx_vm.specs.Host.{after_query}
+use Rattle.scx_vm.specs.declared.arguments.Argument.{Argument}
+use Rattle.scx_world.specs.declared.call.Insert.{Insert}
+use Rattle.scx_world.specs.declared.eject.Eject.{Eject}
+use Rattle.scx_world.specs.declared.faults.Fault.{Fault}
+use Rattle.scx_world.specs.declared.faults.Fault.TheVariants.{NoSuchQueue, NoSuchCpu, CannotCreate}
+use Rattle.scx_world.specs.declared.task.Task.{Task}
+use Rattle.scx_world.specs.World.{WorldState, with_queues, with_task, task_at, no_task, waits, time_since, wait, or_this, this_if}
+use Rattle.scx_world.specs.Tasks.{given_slice, given_vtime, given, gone, entered, for_cpu, brought, fill_front, renewed, later}
+use Rattle.scx_world.specs.Helpers.{is_there, can_create, faulted, is_dispatch, insert_fault, with_insert, released, inserted, asked, asked_by_vtime, can_move, moved, given_number, given_task, helper_after, stored_in, world_functions}
+use Rattle.scx_world.specs.Waits.{is_overdue, overdue_below, first_overdue}
+use Rattle.scx_world.specs.Ejecting.{put_builtin}
+use Rattle.scx_sched.specs.Kept.{IsKeptBySteps}
+use Rattle.scx_sched.proofs.Entering.{keeps_if}
+
+abbrev pub IsInTime : ℕ → WorldState → Type 0
+IsInTime limit w = w.ejected ≡ None → (t : ℕ) → wait w t ≤ limit
+
+-- of so many tasks
+abbrev pub AreInTime : ℕ → ℕ → WorldState → Type 0
+AreInTime limit n w = (length w.tasks ≡ n) × IsInTime limit w
+
+none_since : (now limit : ℕ) → time_since now None ≤ limit
+none_since now limit = omega arith
+
+now_since : (now limit : ℕ) → time_since now (Some now) ≤ limit
+now_since now limit = omega arith
+
+module _ (limit n : ℕ) where
+  -- ---- records of tasks
+
+  time_set : (w : WorldState) (t : ℕ) (x : Task) → (w.ejected ≡ None → time_since w.clock x.since ≤ limit) → AreInTime limit n w → AreInTime limit n (with_task w t x)
+  time_set w t x new (many, old) = (length-set w.tasks t x ∙ many, λ force u. go force u (cases_eq u t) (cases_lt t (length w.tasks)))
+    where
+      go : w.ejected ≡ None → (u : ℕ) → (u ≡ t) ⊎ (u ≡ t → ⊥) → (t < length w.tasks) ⊎ (length w.tasks ≤ t) → time_since w.clock (get_or (set w.tasks t x) u no_task).since ≤ limit
+      go force u (inl e) (inl within) = rw (e, get_or-set_same w.tasks t x no_task within) (new force)
+      go force u (inl e) (inr past) = rw (set_past w.tasks t x past) (old force u)
+      go force u (inr d) l = rw (get_or-set_other w.tasks t u x no_task d) (old force u)
+
+  -- a wait that goes on
+  time_same : (w : WorldState) (t : ℕ) (x : Task) → x.since ≡ (task_at w t).since → AreInTime limit n w → AreInTime limit n (with_task w t x)
+  time_same w t x same h = time_set w t x (λ force. rw same (h.1 force t)) h
+
+  stored_since : (x : Task) (f : Field) (k : ℕ) → (stored_in x f k).since ≡ x.since
+  stored_since x Pid k = refl
+  stored_since x Weight k = refl
+  stored_since x Slice k = refl
+  stored_since x DsqVtime k = refl
+  stored_since x PrevCpu k = refl
+  stored_since x Group k = refl
+  stored_since x RunNs k = refl
+
+  given_since : (x : Task) (i : Insert) → (given x i).since ≡ x.since
+  given_since x i = vtime i.rank ∙ keeps_if (λ (y : Task). y.since ≡ x.since) (i.slice == 0) x _ refl refl
+    where
+      vtime : (r : Rank) → (given_vtime (given_slice x i.slice) r).since ≡ (given_slice x i.slice).since
+      vtime Fifo = refl
+      vtime (Vtime k) = refl
+
+  renewed_since : (x : Task) → (renewed x).since ≡ x.since
+  renewed_since x = keeps_if (λ (y : Task). y.since ≡ x.since) (x.slice == 0) _ x refl refl
+
+  -- ---- helpers
+
+  time_entered : (w : WorldState) (t : ℕ) (i : Insert) → AreInTime limit n w → AreInTime limit n (entered w t i)
+  time_entered w t i h = keeps_if (AreInTime limit n) (nat_lt t (length w.tasks)) _ w (time_same w t (given (task_at w t) i) (given_since (task_at w t) i) h) h
+
+  time_released : (w : WorldState) (t : Option ℕ) (i : Insert) → AreInTime limit n w → AreInTime limit n (released w t i)
+  time_released w None i h = h
+  time_released w (Some t) i h = let x = time_entered (gone w t) t i h in (x.0, x.1)
+
+  time_inserted : (w : WorldState) (o : Option Fault) (t : Option ℕ) (i : Insert) → AreInTime limit n w → AreInTime limit n (inserted w o t i)
+  time_inserted w None t i h = keeps_if (AreInTime limit n) (is_dispatch w.call.callback) (released w t (for_cpu w.call.cpu i)) (with_insert w i) (time_released w t (for_cpu w.call.cpu i) h) h
+  time_inserted w (Some f) t i h = h
+
+  time_moved : (w : WorldState) (o : Option ℕ) (q : ℕ) → AreInTime limit n w → AreInTime limit n (moved w o q)
+  time_moved w None q h = h
+  time_moved w (Some t) q h = h
+
+  time_brought : (o : Option ℕ) (w : WorldState) (q c : ℕ) → AreInTime limit n w → AreInTime limit n (brought o w q c)
+  time_brought None w q c h = h
+  time_brought (Some t) w q c h = h
+
+  time_helper : (w : WorldState) (f : Helper) (a : List Argument) → AreInTime limit n w → AreInTime limit n (helper_after w f a)
+  time_helper w CreateDsq a h = keeps_if (AreInTime limit n) (can_create w (given_number a 0)) (with_queues w (created w.queues (given_number a 0))) (faulted w CannotCreate) h h
+  time_helper w DsqInsert a h = time_inserted w (insert_fault w (given_task a 0) (asked a) (given_number a 3)) (given_task a 0) (asked a) h
+  time_helper w DsqInsertVtime a h = time_inserted w (insert_fault w (given_task a 0) (asked_by_vtime a) (given_number a 4)) (given_task a 0) (asked_by_vtime a) h
+  time_helper w DsqMoveToLocal a h = keeps_if (AreInTime limit n) (can_move w (given_number a 0)) (moved w (front_of w.queues (given_number a 0)) (given_number a 0)) (faulted w NoSuchQueue) (time_moved w (front_of w.queues (given_number a 0)) (given_number a 0) h) h
+  time_helper w CpuIdle a h = keeps_if (AreInTime limit n) (nat_lt (given_number a 0) (length w.cpus)) w (faulted w NoSuchCpu) h h
+  time_helper w DsqNrQueued a h = keeps_if (AreInTime limit n) (is_there w (given_number a 0)) w (faulted w NoSuchQueue) h h
+  time_helper w KtimeGetNs a h = h
+  time_helper w MapLookupElem a h = h
+  time_helper w SelectCpuDfl a h = h
+  time_helper w TaskByPid a h = h
+
+  time_query : (w : WorldState) (q : Query) → AreInTime limit n w → AreInTime limit n (after_query world_functions w q)
+  time_query w (Call f a) h = time_helper w f (map argument_of a) h
+  time_query w (Load t f) h = h
+  time_query w (Store t f k) h = time_same w t.0 (stored_in (task_at w t.0) f k) (stored_since (task_at w t.0) f k) h
+
+  -- ---- an ejection, after which nothing is said
+
+  time_put_builtin : (w : WorldState) (t : ℕ) → AreInTime limit n w → AreInTime limit n (put_builtin w t)
+  time_put_builtin w t h = keeps_if (AreInTime limit n) (nat_lt t (length w.tasks)) _ w (time_same w t _ refl h) h
+
+pub time_steps : (limit n : ℕ) → IsKeptBySteps n (λ m hand on w. AreInTime limit n w)
+time_steps limit n = record {
+  more = λ m hand on w h. h;
+  known = λ m hand on w h. h.0;
+  query = λ m hand on w q h. time_query limit n w q h;
+  begun = λ m hand on w b t c l h. h;
+  quiet = λ m hand on w h. h;
+  cycling = λ m hand on w o h. h;
+  entered = λ m on w t i l x h. time_entered limit n w t i h;
+  filled = λ m on w q c l h. time_brought limit n (fill_front w q c) w q c h;
+  stopped = λ m on w c t l within runs h. time_set limit n w t _ (λ force. now_since w.clock limit) h;
+  started = λ m on w c t l free front h. time_set limit n w t _ (λ force. none_since w.clock limit) h;
+  kept = λ m on w t h. time_same limit n w t (renewed (task_at w t)) (renewed_since limit n (task_at w t)) h;
+  asleep = λ m on w t l h. keeps_if (AreInTime limit n) (nat_lt t (length w.tasks)) _ w (time_set limit n w t _ (λ force. none_since w.clock limit) h) h;
+  put_out = λ m hand on w x h. (h.0, λ force. absurd (cc));
+  evict = λ m hand on w t l h. keeps_if (AreInTime limit n) (waits w t) (put_builtin (gone w t) t) w (time_put_builtin limit n (gone w t) t h) h;
+  cut = λ m hand on w t h. time_same limit n w t _ refl h;
+  put_builtin = λ m on w t l h. time_put_builtin limit n w t h;
+  overtaken = λ m hand on w t h. h;
+  charged = λ m hand on w t out h. time_same limit n w t _ refl h;
+}
+
+-- ---- the clock
+
+-- where nobody is late, nobody is
+nobody_below : (j : ℕ) (w : WorldState) (limit : ℕ) → overdue_below j w limit ≡ None → (t : ℕ) → t < j → wait w t ≤ limit
+nobody_below zero w limit e t l = absurd (omega (arith, l))
+nobody_below (suc j) w limit e t l = go (overdue_below j w limit) (λ x d. nobody_below j w limit x t (omega (arith, l, d))) (nat_lt limit (wait w j)) refl (cases_eq t j) e
+  where
+    go : (o : Option ℕ) → (o ≡ None → (t ≡ j → ⊥) → wait w t ≤ limit) → (b : Bool) → nat_lt limit (wait w j) ≡ b → (t ≡ j) ⊎ (t ≡ j → ⊥) → or_this o (this_if b j) ≡ None → wait w t ≤ limit
+    go (Some u) f b x y z = absurd (cc)
+    go None f true x y z = absurd (cc)
+    go None f false x (inl is) z = rw is (grind (arith, nat_tests, x))
+    go None f false x (inr d) z = f refl d
+
+-- a task that there isn't doesn't wait
+pub nobody_late : (w : WorldState) (limit : ℕ) → first_overdue w limit ≡ None → (t : ℕ) → wait w t ≤ limit
+nobody_late w limit e t = go (cases_lt t (length w.tasks))
+  where
+    go : (t < length w.tasks) ⊎ (length w.tasks ≤ t) → wait w t ≤ limit
+    go (inl l) = nobody_below (length w.tasks) w limit e t l
+    go (inr past) = rw (get_or_past w.tasks t no_task past) (none_since w.clock limit)

@@ -1,0 +1,44 @@
+-- Ejected for a cause: a policy is put out of force because a task waited too long, or because a callback
+-- that really ran had a fault; once, and for good.
+use Rattle.std.specs.Prelude.{◌≡◌, ℕ, ◌+◌, ◌≤◌, List, [], ◌∷◌, ◌++◌, length, Some, None}
+use Rattle.scx_semantics.specs.declared.callbacks.Callback.TheVariants.{SelectCpu}
+use Rattle.scx_semantics.specs.Elements.{Maps}
+use Rattle.scx_semantics.specs.Runs.{Runs}
+use Rattle.scx_vm.specs.Arguments.{given}
+use Rattle.scx_vm.specs.Host.{host}
+use Rattle.scx_world.specs.declared.eject.Eject.{Eject}
+use Rattle.scx_world.specs.declared.eject.Eject.TheVariants as cause
+use Rattle.scx_world.specs.declared.faults.Fault.{Fault}
+use Rattle.scx_world.specs.declared.faults.Fault.TheVariants.{NoSuchCpu}
+use Rattle.scx_world.specs.World.{WorldState}
+use Rattle.scx_world.specs.Tasks.{later}
+use Rattle.scx_world.specs.Waits.{IsFirstOverdue}
+use Rattle.scx_world.specs.Helpers.{world_functions}
+use Rattle.scx_machine.specs.declared.events.Event.{Event}
+use Rattle.scx_machine.specs.declared.events.Event.TheVariants.{Clock}
+use Rattle.scx_machine.specs.Steps.{CallMade}
+use Rattle.scx_sched.specs.Sim.{SimState, calls_of}
+
+-- the program comes to that answer, and to that world
+pub record EndsIn (m : CallMade) (answer : ℕ) (w : WorldState) : Type 0 where
+  pub steps : ℕ
+  pub maps : Maps
+  pub run : Runs (host world_functions) m.program.context.callback m.program.code (given m.arguments) m.maps m.world answer steps maps w
+
+-- a callback with that fault: of its first helper call that has one, or else of its answer
+pub data HasFault (m : CallMade) (f : Fault) : Type 0 where
+  Of_helper : (answer : ℕ) (w : WorldState) → EndsIn m answer w → w.call.fault ≡ Some f → HasFault m f
+  Of_answer : (answer : ℕ) (w : WorldState) → EndsIn m answer w → w.call.fault ≡ None → m.program.context.callback ≡ SelectCpu → length w.cpus ≤ answer → f ≡ NoSuchCpu → HasFault m f
+
+abbrev pub IsLast : CallMade → List CallMade → Type 0
+IsLast m calls = (before : List CallMade) × (calls ≡ before ++ m ∷ [])
+
+-- what put a policy out of force in an event
+pub data IsCause (s : SimState) (e : Event) : Eject → Type 0 where
+  Waited : (t : ℕ) → e ≡ Clock → IsFirstOverdue (later s.state.world) s.state.policy.timeout_ms t → IsCause s e (cause.Stall t (s.state.world.clock + 1))
+  Went_wrong : (m : CallMade) (f : Fault) → IsLast m (calls_of s e) → HasFault m f → IsCause s e (cause.Fault f s.state.world.clock)
+
+-- from before an event to after it
+pub record EjectsOnce (s : SimState) (e : Event) (t : SimState) : Type 0 where
+  pub stays : (x : Eject) → s.state.world.ejected ≡ Some x → t.state.world.ejected ≡ Some x
+  pub cause : (x : Eject) → s.state.world.ejected ≡ None → t.state.world.ejected ≡ Some x → IsCause s e x

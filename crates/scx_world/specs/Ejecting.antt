@@ -1,0 +1,84 @@
+-- A policy is put out of force, and what the scheduler does that takes its place: the virtual time rules of
+-- Linux's example scx_simple, over numbers of its own.
+use Rattle.std.specs.Prelude.{ℕ, zero, suc, ◌+◌, ◌-◌, ◌*◌, ◌/◌, min, max, false, nat_lt, List, [], ◌∷◌, ◌++◌, length, if◌then◌else◌, Option, Some, None}
+use Rattle.scx_dsq.specs.Calls.{pushed}
+use Rattle.scx_dsq.specs.declared.places.Rank.TheVariants.{Vtime}
+use Rattle.scx_world.specs.declared.call.Call.{Call}
+use Rattle.scx_world.specs.declared.eject.Eject.{Eject}
+use Rattle.scx_world.specs.declared.eject.Eject.TheVariants as cause
+use Rattle.scx_world.specs.declared.notes.Note.{Note}
+use Rattle.scx_world.specs.declared.notes.What.{What}
+use Rattle.scx_world.specs.declared.notes.What.TheVariants as note
+use Rattle.scx_world.specs.Ids.{builtin}
+use Rattle.scx_world.specs.World.{WorldState, with_queues, with_call, with_builtin_clock, with_ejected, task_at, with_task, waits, running, said}
+use Rattle.scx_world.specs.Tasks.{default_slice, with_slice, with_builtin, gone}
+use Rattle.scx_world.specs.Helpers.{weight_at}
+
+-- ---- the built-in scheduler
+
+-- the virtual time by which a task waits: at most a slice behind the clock
+abbrev pub raised : WorldState → ℕ → ℕ
+raised w t = max (task_at w t).builtin (w.builtin_clock - default_slice)
+
+-- a task waits for the built-in scheduler, with a slice of its own
+abbrev pub put_builtin : WorldState → ℕ → WorldState
+put_builtin w t =
+    if nat_lt t (length w.tasks)
+    then with_queues (with_task w t (with_builtin (with_slice (task_at w t) default_slice) (raised w t))) (pushed w.queues builtin t (Vtime (raised w t)))
+    else w
+
+-- the clock is at least as late as the task that runs
+abbrev pub overtaken : WorldState → ℕ → WorldState
+overtaken w t = with_builtin_clock w (max w.builtin_clock (task_at w t).builtin)
+
+-- what a task used of its slice, the more the less it weighs
+abbrev pub used : WorldState → ℕ → ℕ
+used w t = (default_slice - (task_at w t).slice) * 100 / max 1 (weight_at w t)
+
+-- a sum that is a number of 64 bits
+abbrev pub capped : ℕ → ℕ
+capped n = min n 0xffff_ffff_ffff_ffff
+
+-- a task that stops has used what is gone of its slice
+abbrev pub charged : WorldState → ℕ → WorldState
+charged w t = with_task w t (with_builtin (task_at w t) (capped ((task_at w t).builtin + used w t)))
+
+-- ---- ejection
+
+-- what the callback at hand wanted is forgotten
+abbrev pub dropped : Call → Call
+dropped c = record { callback = c.callback; task = c.task; cpu = c.cpu; insert = None; has_moved = false; fault = c.fault }
+
+-- the policy is out of force, for that cause
+abbrev pub put_out : WorldState → Eject → WorldState
+put_out w x = with_call (with_ejected w (Some x)) (dropped w.call)
+
+-- a task that waits in any queue waits for the built-in scheduler
+abbrev pub evict : WorldState → ℕ → WorldState
+evict w t = if waits w t then put_builtin (gone w t) t else w
+
+-- the first so many tasks, by number
+abbrev pub evicted : ℕ → WorldState → WorldState
+evicted zero w = w
+evicted (suc n) w = evict (evicted n w) n
+
+abbrev pub evict_note : WorldState → ℕ → List Note
+evict_note w t = if waits w t then said w (note.Insert t builtin) ∷ [] else []
+
+abbrev pub evict_notes : ℕ → WorldState → List Note
+evict_notes zero w = []
+evict_notes (suc n) w = evict_notes n w ++ evict_note (evicted n w) n
+
+-- a task that runs stays, with a slice of the built-in scheduler at most
+abbrev pub cut_task : Option ℕ → WorldState → WorldState
+cut_task None w = w
+cut_task (Some t) w = with_task w t (with_slice (task_at w t) (min (task_at w t).slice default_slice))
+
+-- on the first so many processors
+abbrev pub cut : ℕ → WorldState → WorldState
+cut zero w = w
+cut (suc n) w = let v = cut n w in cut_task (running v n) v
+
+abbrev pub eject_note : Eject → What
+eject_note (cause.Stall t clock) = note.Stall t
+eject_note (cause.Fault fault clock) = note.Fault fault
