@@ -4,16 +4,16 @@ use Rattle.std.proofs.lemmas.Bool.{cases_eq, cases_lt}
 use Rattle.std.proofs.lemmas.List.{get_or-set_same, get_or-set_other, set_past}
 use Rattle.scx_dsq.specs.Queues.{front_of}
 use Rattle.scx_dsq.specs.Calls.{created}
-use Rattle.scx_dsq.specs.declared.places.Rank.{Rank}
-use Rattle.scx_dsq.specs.declared.places.Rank.TheVariants.{Fifo, Vtime}
-use Rattle.scx_semantics.specs.declared.outside.Field.{Field}
-use Rattle.scx_semantics.specs.declared.outside.Field.TheVariants.{Pid, Weight, Slice, DsqVtime, PrevCpu, Group, RunNs}
-use Rattle.scx_semantics.specs.declared.outside.Helper.{Helper}
-use Rattle.scx_semantics.specs.declared.outside.Helper.TheVariants.{MapLookupElem, KtimeGetNs, CreateDsq, DsqInsert, DsqInsertVtime, DsqMoveToLocal, SelectCpuDfl, CpuIdle, TaskByPid, DsqNrQueued}
+use Rattle.scx_dsq.specs.declared.entries.Rank.{Rank}
+use Rattle.scx_dsq.specs.declared.entries.Rank.TheVariants.{Fifo, Vtime}
+use Rattle.scx_semantics.specs.declared.host_tables.Field.{Field}
+use Rattle.scx_semantics.specs.declared.host_tables.Field.TheVariants.{Pid, Weight, Slice, DsqVtime, PrevCpu, Group, RunNs}
+use Rattle.scx_semantics.specs.declared.host_tables.Helper.{Helper}
+use Rattle.scx_semantics.specs.declared.host_tables.Helper.TheVariants.{MapLookupElem, KtimeGetNs, CreateDsq, DsqInsert, DsqInsertVtime, DsqMoveToLocal, SelectCpuDfl, CpuIdle, TaskByPid, DsqNrQueued}
 use Rattle.scx_semantics.specs.Effects.{Query, Call, Load, Store}
 use Rattle.scx_vm.specs.Arguments.{argument_of}
 use Rattle.scx_vm.specs.Host.{after_query}
-use Rattle.scx_vm.specs.declared.arguments.Argument.{Argument}
+use Rattle.scx_vm.specs.declared.arguments.Arg.{Arg}
 use Rattle.scx_world.specs.declared.task.Task.{Task}
 use Rattle.scx_world.specs.declared.call.Insert.{Insert}
 use Rattle.scx_world.specs.declared.faults.Fault.{Fault}
@@ -63,7 +63,8 @@ module _ (e m : ℕ) where
     each_set (λ y. y.run_ns ≤ 1000000 * e) w.tasks t x run r.1,
     each_set (λ y. y.builtin ≤ 2000000000 * m) w.tasks t x time r.2,
     r.3,
-    λ force. let f = r.4 force in (f.0, each_set (λ y. y.builtin ≡ 0) w.tasks t x (none force) f.1))
+    λ force. let f = r.4 force in (f.0, each_set (λ y. y.builtin ≡ 0) w.tasks t x (none force) f.1),
+  )
 
   -- a task whose built-in time stays
   pub range_task : (w : WorldState) (t : ℕ) (x : Task) → x.run_ns ≤ 1000000 * e → x.builtin ≡ (task_at w t).builtin → IsRange e m w → IsRange e m (with_task w t x)
@@ -124,7 +125,7 @@ module _ (e m : ℕ) where
   range_brought None w q c r = r
   range_brought (Some t) w q c r = r
 
-  range_helper : (w : WorldState) (f : Helper) (a : List Argument) → IsRange e m w → IsRange e m (helper_after w f a)
+  range_helper : (w : WorldState) (f : Helper) (a : List Arg) → IsRange e m w → IsRange e m (helper_after w f a)
   range_helper w CreateDsq a r = keeps_if (IsRange e m) (can_create w (given_number a 0)) (with_queues w (created w.queues (given_number a 0))) (faulted w CannotCreate) r r
   range_helper w DsqInsert a r = range_inserted w (insert_fault w (given_task a 0) (asked a) (given_number a 3)) (given_task a 0) (asked a) r
   range_helper w DsqInsertVtime a r = range_inserted w (insert_fault w (given_task a 0) (asked_by_vtime a) (given_number a 4)) (given_task a 0) (asked_by_vtime a) r
@@ -163,7 +164,8 @@ module _ (e m : ℕ) where
     each_set (λ y. y.run_ns ≤ 1000000 * e) w.tasks t _ (r.1 t) r.1,
     each_set (λ y. y.builtin ≤ 2000000000 * (m + 1)) w.tasks t _ (omega (arith, r.2 t, most)) (λ u. omega (arith, r.2 u)),
     omega (arith, r.3),
-    λ force. absurd (out force))
+    λ force. absurd (out force),
+  )
 
 -- the law of steps
 pub fine_steps : (n e : ℕ) → IsKeptBySteps n (IsFine n e)

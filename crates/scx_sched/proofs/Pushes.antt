@@ -1,9 +1,9 @@
 -- Each push that the machine makes is accepted.
 use Rattle.std.proofs.Common.{arith, ◌≡◌, ℕ, ◌<◌, true, List, length, Option, Some, None, refl}
-use Rattle.scx_dsq.specs.Queues.{QueueState, exists, place_of, front_of}
+use Rattle.scx_dsq.specs.Queues.{QueueState, exists, entry_of, front_of}
 use Rattle.scx_dsq.specs.Facts.{ids_removed}
 use Rattle.scx_dsq.specs.Calls.{push_refusal, popped, removed}
-use Rattle.scx_dsq.specs.declared.places.Rank.TheVariants.{Fifo, Vtime}
+use Rattle.scx_dsq.specs.declared.entries.Rank.TheVariants.{Fifo, Vtime}
 use Rattle.scx_world.specs.Ids.{builtin, local_on}
 use Rattle.scx_world.specs.World.{WorldState}
 use Rattle.scx_world.specs.declared.call.Insert.{Insert}
@@ -28,7 +28,7 @@ takes_held hand on n w t i flags x e h =
     is_accepted (removed w.queues t) t (resolved w.call.cpu i.queue) i.rank here.free (open_removed w.queues t (resolved w.call.cpu i.queue) i.rank (fit_open on hand n w (Some t) i w.call.cpu h.here fit h))
 
 -- the built-in scheduler's queue takes whoever waits nowhere
-takes_builtin : (s : QueueState) (t v : ℕ) → place_of s t ≡ None → exists s builtin ≡ true → IsSorted s → push_refusal s builtin t (Vtime v) ≡ None
+takes_builtin : (s : QueueState) (t v : ℕ) → entry_of s t ≡ None → exists s builtin ≡ true → IsSorted s → push_refusal s builtin t (Vtime v) ≡ None
 takes_builtin s t v free there sorted = is_accepted s t builtin (Vtime v) free (own_open s builtin (Vtime v) there (omega arith) refl sorted)
 
 -- the law

@@ -2,7 +2,7 @@
 -- Linux's example scx_simple, over numbers of its own.
 use Rattle.std.specs.Prelude.{ℕ, zero, suc, ◌+◌, ◌-◌, ◌*◌, ◌/◌, min, max, false, nat_lt, List, [], ◌∷◌, ◌++◌, length, if◌then◌else◌, Option, Some, None}
 use Rattle.scx_dsq.specs.Calls.{pushed}
-use Rattle.scx_dsq.specs.declared.places.Rank.TheVariants.{Vtime}
+use Rattle.scx_dsq.specs.declared.entries.Rank.TheVariants.{Vtime}
 use Rattle.scx_world.specs.declared.call.Call.{Call}
 use Rattle.scx_world.specs.declared.eject.Eject.{Eject}
 use Rattle.scx_world.specs.declared.eject.Eject.TheVariants as cause
