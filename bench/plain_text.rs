@@ -159,7 +159,7 @@ fn assigned(name: &str, sign: &str, rest: &[&str]) -> Option<Insn> {
                 let (base, offset) = address(base, sign, digits)?;
                 Some(Load { size, signed, destination, base, offset })
             }
-            ["map", digits] if wide => Some(MapReference { destination, map: number(false, digits)?.try_into().ok()? }),
+            ["map", digits] if wide => Some(LoadMapReference { destination, map: number(false, digits)?.try_into().ok()? }),
             _ => Some(Binary { wide, operation: 11, signed: false, destination, operand: operand(wide, rest)? }),
         };
     }
@@ -213,7 +213,7 @@ pub fn assemble(text: &str) -> Option<Vec<Option<Insn>>> {
             _ => {
                 let draft = instruction(&found)?;
                 drafts.push(Some(draft));
-                if matches!(draft.0, MapReference { .. }) {
+                if matches!(draft.0, LoadMapReference { .. }) {
                     drafts.push(None);
                 }
             }

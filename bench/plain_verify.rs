@@ -124,7 +124,7 @@ impl State {
 
     /// The memory that an address means, if it means any.
     pub fn area(&self, base: u8, offset: i16, size: u8, sizes: &[u16]) -> Option<Area> {
-        place(self.registers[usize::from(base)], offset, size, sizes).ok()
+        area_of(self.registers[usize::from(base)], offset, size, sizes).ok()
     }
 
     fn usable(&self, register: u8) -> Result<Kind, Why> {
@@ -174,7 +174,7 @@ impl State {
     }
 
     fn load(&self, size: u8, signed: bool, base: u8, offset: i16, sizes: &[u16]) -> Result<Kind, Why> {
-        match place(self.usable(base)?, offset, size, sizes)? {
+        match area_of(self.usable(base)?, offset, size, sizes)? {
             OnStack(at) => match self.cells[at / 8] {
                 Cell::Bytes(set) if set & mask(at, size) == mask(at, size) => Ok(Num),
                 Cell::Pointer(kind) if size == 8 && !signed => Ok(kind),
@@ -189,7 +189,7 @@ impl State {
     fn store(&mut self, size: u8, base: u8, offset: i16, operand: Operand, sizes: &[u16]) -> Result<(), Why> {
         let base = self.usable(base)?;
         let kind = self.operand(operand)?;
-        let at = match place(base, offset, size, sizes)? {
+        let at = match area_of(base, offset, size, sizes)? {
             OnStack(at) => at,
             InTask(field) if !field.is_writable() => return Err(Why::TaskField),
             InElement | InTask(_) => return if kind == Num { Ok(()) } else { Err(Why::PointerStore) },
@@ -246,7 +246,7 @@ impl State {
             (_, Unusable) => Err(Why::UnusableRegister),
             (Parameter::Map, MapRef(_)) | (Parameter::Task, Task) | (Parameter::Number, Num) => Ok(()),
             (Parameter::Task, TaskOrNull) | (Parameter::Key, ElemOrNull(_)) => Err(Why::NullNotTested),
-            (Parameter::Key, Stack(_) | Elem(..)) => match place(kind, 0, 4, sizes)? {
+            (Parameter::Key, Stack(_) | Elem(..)) => match area_of(kind, 0, 4, sizes)? {
                 OnStack(at) => match self.cells[at / 8] {
                     Cell::Bytes(set) if set & mask(at, 4) == mask(at, 4) => Ok(()),
                     _ => Err(Why::UnwrittenStack),
@@ -264,10 +264,10 @@ impl State {
             Binary { wide, operation, destination, operand, .. } => {
                 self.set(destination, self.binary(wide, operation, destination, operand, sizes))?;
             }
-            Negate { register, .. } | Reorder { register, .. } => self.set(register, self.number(register))?,
+            Negate { register, .. } | ByteSwap { register, .. } => self.set(register, self.number(register))?,
             Extend { destination, source, .. } => self.set(destination, self.number(source))?,
-            Constant { destination, .. } => self.set(destination, Ok(Num))?,
-            MapReference { destination, map } => self.set(destination, map_kind(map, sizes))?,
+            LoadImmediate { destination, .. } => self.set(destination, Ok(Num))?,
+            LoadMapReference { destination, map } => self.set(destination, map_kind(map, sizes))?,
             Load { size, signed, destination, base, offset } => {
                 self.set(destination, self.load(size, signed, base, offset, sizes))?;
             }
@@ -304,8 +304,8 @@ fn map_kind(map: i32, sizes: &[u16]) -> Result<Kind, Why> {
     }
 }
 
-/// The place that an address means.
-fn place(base: Kind, offset: i16, size: u8, sizes: &[u16]) -> Result<Area, Why> {
+/// The memory that an address means.
+fn area_of(base: Kind, offset: i16, size: u8, sizes: &[u16]) -> Result<Area, Why> {
     match base {
         Stack(at) => Ok(OnStack(room_at(512, at, offset, size)?)),
         Elem(map, at) => room_at(sizes[usize::from(map)], at, offset, size).map(|_| InElement),

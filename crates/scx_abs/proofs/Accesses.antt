@@ -6,8 +6,8 @@ use Rattle.scx_semantics.specs.declared.operations.Size.{Size}
 use Rattle.scx_semantics.specs.declared.operations.Size.TheVariants as size
 use Rattle.scx_semantics.specs.declared.operations.Access.{Access}
 use Rattle.scx_semantics.specs.declared.operations.Access.TheVariants as access
-use Rattle.scx_semantics.specs.declared.outside.Field.{Field}
-use Rattle.scx_semantics.specs.declared.outside.TaskId.{TaskId}
+use Rattle.scx_semantics.specs.declared.host_tables.Field.{Field}
+use Rattle.scx_semantics.specs.declared.host_tables.TaskId.{TaskId}
 use Rattle.scx_semantics.specs.declared.values.Value.{Value}
 use Rattle.scx_semantics.specs.declared.values.Value.TheVariants as value
 use Rattle.scx_semantics.specs.declared.values.Pointer.TheVariants as pointer
@@ -15,14 +15,14 @@ use Rattle.scx_semantics.specs.declared.values.StackByte.{StackByte}
 use Rattle.scx_semantics.specs.declared.registers.Register.{Register}
 use Rattle.scx_semantics.specs.Registers.{number}
 use Rattle.scx_semantics.specs.Arithmetic.{shifted}
-use Rattle.scx_semantics.specs.Memory.{Stack, stack_size, room_at, bytes_at, write, number_bytes, parts, value_in, value_bytes, load, read_as, size_bytes, access_size}
-use Rattle.scx_semantics.specs.Outside.{field_at, is_writable}
+use Rattle.scx_semantics.specs.Memory.{Stack, stack_size, aligned_within, bytes_at, write, number_bytes, parts, value_in, value_bytes, load, read_as, size_bytes, access_size}
+use Rattle.scx_semantics.specs.HostTables.{field_at, is_writable}
 use Rattle.scx_semantics.specs.Elements.{Maps, element, number_at, with_element, with_number}
-use Rattle.scx_semantics.specs.Places as place
-use Rattle.scx_semantics.specs.Places.{Place, on_stack, in_element, in_task, address}
+use Rattle.scx_semantics.specs.Locations as location
+use Rattle.scx_semantics.specs.Locations.{Location, on_stack, in_element, in_task, address}
 use Rattle.scx_semantics.specs.Machine.{Machine, with_stack}
 use Rattle.scx_semantics.specs.Effects as effect
-use Rattle.scx_semantics.specs.Effects.{keep, keep_answer}
+use Rattle.scx_semantics.specs.Effects.{set_register, set_register_by_answer}
 use Rattle.scx_semantics.specs.Meaning.{operand_value, is_plain, loaded, stored}
 use Rattle.scx_semantics.proofs.Bytes.{bytes_at_below, read_as_below, number_at_below, with_number_bytes, with_element_bytes}
 use Rattle.scx_encoding.specs.Spelling.{IsOperand}
@@ -43,37 +43,37 @@ use Rattle.scx_abs.specs.Cells.{marked, all_written, written_in}
 use Rattle.scx_abs.specs.States.{kind_at, cell_at, with_cell}
 use Rattle.scx_abs.specs.Stands.{HasElement, Stands, IsByte, CellStands, IsMember}
 use Rattle.scx_semantics.specs.Results.{◌>>=◌}
-use Rattle.scx_abs.specs.Checks.{goes_on, usable, operand_kind, sets, place_for}
+use Rattle.scx_abs.specs.Checks.{goes_on, usable, operand_kind, sets, offset_for}
 use Rattle.scx_abs.specs.Rules.{area_of, field_area, loaded_kind, kind_in, load_kind, number_stored, stored_in, store_rule}
 use Rattle.scx_abs.specs.Laws.{IsSoundFor}
 use Rattle.scx_abs.proofs.Lists.{set_each}
 use Rattle.scx_abs.proofs.Bytes as bytes
 use Rattle.scx_abs.proofs.Bytes.{bytes_read, byte_small, written_at, reads_back, length-number_bytes, length-value_bytes, cell_apart, pointer_stored, fits_cell}
 use Rattle.scx_abs.proofs.Registers.{Gives, set_sound, answer_sound, refused_sound, field_stands, usable_allows, operand_allows, checked}
-use Rattle.scx_abs.proofs.Elements.{place_cases, element_sized, with_number-lengths, maps_member}
+use Rattle.scx_abs.proofs.Elements.{offset_cases, element_sized, with_number-lengths, maps_member}
 
 -- ---- places
 
 -- the memory that a rule finds is that of the place, for so many bytes
-abbrev pub Means : Maps → ℕ → Area → Place → Type 0
-Means maps n (OnStack at) (place.OnStack to) = (at ≡ to) × (at % n ≡ 0)
-Means maps n InElement (place.InElement m i at) = HasElement maps m i × (at + n ≤ length (element maps m i))
-Means maps n (InTask f) (place.InTask t g) = f ≡ g
+abbrev pub Means : Maps → ℕ → Area → Location → Type 0
+Means maps n (OnStack at) (location.OnStack to) = (at ≡ to) × (at % n ≡ 0)
+Means maps n InElement (location.InElement m i at) = HasElement maps m i × (at + n ≤ length (element maps m i))
+Means maps n (InTask f) (location.InTask t g) = f ≡ g
 Means maps n area to = ⊥
 
 -- a rule's area against the place of the address
-abbrev pub Finds : Maps → ℕ → Result Area Why → Place → Type 0
+abbrev pub Finds : Maps → ℕ → Result Area Why → Location → Type 0
 Finds maps n (Err why) to = Unit {0}
 Finds maps n (Ok area) to = Means maps n area to
 
-stack_found : (maps : Maps) (n : ℕ) (t : Option ℕ) → Finds maps n (place_for stack_size n t >>= λ at. Ok (OnStack at)) (on_stack (room_at stack_size n t))
+stack_found : (maps : Maps) (n : ℕ) (t : Option ℕ) → Finds maps n (offset_for stack_size n t >>= λ at. Ok (OnStack at)) (on_stack (aligned_within stack_size n t))
 stack_found maps n t =
-    place_cases stack_size n t (λ r o. Finds maps n (r >>= λ at. Ok (OnStack at)) (on_stack o)) (λ why o. tt) (λ at inside aligned. (refl, aligned))
+    offset_cases stack_size n t (λ r o. Finds maps n (r >>= λ at. Ok (OnStack at)) (on_stack o)) (λ why o. tt) (λ at inside aligned. (refl, aligned))
 
 element_found : (maps : Maps) (m i size n : ℕ) (t : Option ℕ) → HasElement maps m i → length (element maps m i) ≡ size
-    → Finds maps n (place_for size n t >>= λ at. Ok InElement) (in_element m i (room_at (length (element maps m i)) n t))
+    → Finds maps n (offset_for size n t >>= λ at. Ok InElement) (in_element m i (aligned_within (length (element maps m i)) n t))
 element_found maps m i size n t there long =
-    rw (← long) (place_cases (length (element maps m i)) n t (λ r o. Finds maps n (r >>= λ at. Ok InElement) (in_element m i o)) (λ why o. tt) (λ at inside aligned. (there, inside)))
+    rw (← long) (offset_cases (length (element maps m i)) n t (λ r o. Finds maps n (r >>= λ at. Ok InElement) (in_element m i o)) (λ why o. tt) (λ at inside aligned. (there, inside)))
 
 field_found : (maps : Maps) (n : ℕ) (t : TaskId) (f : Option Field) → Finds maps n (field_area f) (in_task t f)
 field_found maps n t None = tt
@@ -84,7 +84,7 @@ pub area_found : (shapes : List Shape) (maps : Maps) (k : Kind) (v : Value) (off
     → Finds maps n (area_of shapes k offset n) (address maps v offset n)
 area_found shapes maps (kind.Stack o) (value.Pointer (pointer.Stack p)) offset n shaped h = rw h (stack_found maps n (shifted p offset))
 area_found shapes maps (kind.Stack o) v offset n shaped h = absurd h
-area_found shapes maps (Elem m o) (value.Pointer (pointer.Element k p i)) offset n shaped h =
+area_found shapes maps (Elem m o) (value.Pointer (pointer.Element k i p)) offset n shaped h =
     rw (h.0, h.1) (element_found maps k i _ n (shifted p offset) h.2 (element_sized shapes maps k i shaped h.2))
 area_found shapes maps (Elem m o) v offset n shaped h = absurd h
 area_found shapes maps Task (value.Pointer (pointer.Task t)) offset n shaped h = field_found maps n t (field_at n (shifted 0 offset))
@@ -92,7 +92,7 @@ area_found shapes maps Task v offset n shaped h = absurd h
 area_found shapes maps k v offset n shaped h = tt
 
 -- what holds of every refusal, and of each place that both find, holds of both
-area_cases : {B : Type 0} (maps : Maps) (n : ℕ) (r : Result Area Why) (to : Place) (f : Area → Result B Why) (P : Result B Why → Type 0) → ((why : Why) → P (Err why))
+area_cases : {B : Type 0} (maps : Maps) (n : ℕ) (r : Result Area Why) (to : Location) (f : Area → Result B Why) (P : Result B Why → Type 0) → ((why : Why) → P (Err why))
     → Finds maps n r to → ((area : Area) → Means maps n area to → P (f area)) → P (r >>= f)
 area_cases maps n (Err why) to f P none h ok = none why
 area_cases maps n (Ok area) to f P none h ok = ok area h
@@ -125,22 +125,22 @@ loads maps (Pointer k) stack access.DoubleWord at h fits =
 loads maps (Pointer k) stack a at h fits = tt
 
 field_loaded : (shapes : List Shape) (a : AbsState) (m : Machine) (r : ℕ) (access : Access) (t : TaskId) (f : Field) → IsMember shapes a m
-    → IsSoundFor shapes (sets a r (kind_in a access (InTask f))) (loaded m r access (place.InTask t f))
+    → IsSoundFor shapes (sets a r (kind_in a access (InTask f))) (loaded m r access (location.InTask t f))
 field_loaded shapes a m r access t f h =
-    elim (is_plain access) as (λ b. IsSoundFor shapes (sets a r (if b then Ok Num else Err TaskField)) (if b then keep_answer m r (effect.Load t f) else effect.Stuck))
+    elim (is_plain access) as (λ b. IsSoundFor shapes (sets a r (if b then Ok Num else Err TaskField)) (if b then set_register_by_answer m r (effect.Load t f) else effect.Stuck))
     [ true ↦ answer_sound shapes a m r Num (effect.Load t f) h (λ v fits. field_stands m.maps t f v fits) | false ↦ refused_sound shapes a r TaskField effect.Stuck ]
 
-load_in : (shapes : List Shape) (a : AbsState) (m : Machine) (r : ℕ) (access : Access) (area : Area) (to : Place) → IsMember shapes a m
+load_in : (shapes : List Shape) (a : AbsState) (m : Machine) (r : ℕ) (access : Access) (area : Area) (to : Location) → IsMember shapes a m
     → Means m.maps (size_bytes (access_size access)) area to → IsSoundFor shapes (sets a r (kind_in a access area)) (loaded m r access to)
-load_in shapes a m r access (OnStack at) (place.OnStack to) h g =
+load_in shapes a m r access (OnStack at) (location.OnStack to) h g =
     rw (← g.0) (set_sound shapes a m r (loaded_kind (cell_at a (at / 8)) access (at % 8)) (load m.stack access at) h
     (loads m.maps (cell_at a (at / 8)) m.stack access at (h.cells (at / 8)) (fits_cell (access_size access) at g.1)))
 load_in shapes a m r access (OnStack at) to h g = absurd g
-load_in shapes a m r access InElement (place.InElement k i at) h g =
+load_in shapes a m r access InElement (location.InElement k i at) h g =
     set_sound shapes a m r (Ok Num) (Some (value.Number (read_as access (number_at (element m.maps k i) at (size_bytes (access_size access)))))) h
     (read_as_below access (number_at (element m.maps k i) at (size_bytes (access_size access))) (number_at_below (element m.maps k i) at (access_size access) (h.maps.bytes k i)))
 load_in shapes a m r access InElement to h g = absurd g
-load_in shapes a m r access (InTask f) (place.InTask t e) h g = field_loaded shapes a m r access t e h
+load_in shapes a m r access (InTask f) (location.InTask t e) h g = field_loaded shapes a m r access t e h
 load_in shapes a m r access (InTask f) to h g = absurd g
 
 -- the rule of loads is sound
@@ -187,7 +187,7 @@ after_pointer shapes a m at k v bytes h fits g b =
     (λ i other. cell_apart m.maps (cell_at a i) m.stack at bytes i other (omega arith) (h.cells i))
 
 stack_stored : (shapes : List Shape) (a : AbsState) (m : Machine) (s : Size) (at : ℕ) (k : Kind) (v : Value) → IsMember shapes a m → at % 8 + size_bytes s ≤ 8 → IsUsable k → Stands m.maps k v
-    → IsSoundFor shapes (stored_in a s k (OnStack at)) (stored m s v (place.OnStack at))
+    → IsSoundFor shapes (stored_in a s k (OnStack at)) (stored m s v (location.OnStack at))
 stack_stored shapes a m s at Num (value.Number n) h fits u g = after_number shapes a m s at n h fits
 stack_stored shapes a m s at Num v h fits u g = absurd g
 stack_stored shapes a m size.DoubleWord at Unusable v h fits u g = absurd u
@@ -197,7 +197,7 @@ stack_stored shapes a m size.DoubleWord at k value.Unset h fits u g = absurd g
 stack_stored shapes a m s at k v h fits u g = tt
 
 element_stored : (shapes : List Shape) (a : AbsState) (m : Machine) (s : Size) (e i at : ℕ) (k : Kind) (v : Value) → IsMember shapes a m → HasElement m.maps e i
-    → at + size_bytes s ≤ length (element m.maps e i) → Stands m.maps k v → IsSoundFor shapes (number_stored a k) (stored m s v (place.InElement e i at))
+    → at + size_bytes s ≤ length (element m.maps e i) → Stands m.maps k v → IsSoundFor shapes (number_stored a k) (stored m s v (location.InElement e i at))
 element_stored shapes a m s e i at Num (value.Number n) h there room g =
     let bytes = with_number (element m.maps e i) at (size_bytes s) n in
     maps_member shapes a m (with_element m.maps e i bytes) h (with_number-lengths m.maps e i at (size_bytes s) n there room)
@@ -206,24 +206,24 @@ element_stored shapes a m s e i at Num v h there room g = absurd g
 element_stored shapes a m s e i at k v h there room g = tt
 
 field_stored : (shapes : List Shape) (a : AbsState) (m : Machine) (s : Size) (t : TaskId) (f : Field) (k : Kind) (v : Value) → IsMember shapes a m → Stands m.maps k v
-    → IsSoundFor shapes (stored_in a s k (InTask f)) (stored m s v (place.InTask t f))
+    → IsSoundFor shapes (stored_in a s k (InTask f)) (stored m s v (location.InTask t f))
 field_stored shapes a m s t f Num (value.Number n) h g =
     elim (is_writable f) as (λ b. IsSoundFor shapes (if b then goes_on a else Err TaskField) (if b then effect.Ask (effect.Store t f n) (λ v. m) else effect.Stuck))
     [ true ↦ λ v fits. h | false ↦ tt ]
 field_stored shapes a m s t f Num v h g = absurd g
 field_stored shapes a m s t f k v h g = refused (is_writable f)
   where
-    refused : (b : Bool) → IsSoundFor shapes (if b then number_stored a k else Err TaskField) (stored m s v (place.InTask t f))
+    refused : (b : Bool) → IsSoundFor shapes (if b then number_stored a k else Err TaskField) (stored m s v (location.InTask t f))
     refused true = tt
     refused false = tt
 
-store_in : (shapes : List Shape) (a : AbsState) (m : Machine) (s : Size) (k : Kind) (v : Value) (area : Area) (to : Place) → IsMember shapes a m → IsUsable k → Stands m.maps k v
+store_in : (shapes : List Shape) (a : AbsState) (m : Machine) (s : Size) (k : Kind) (v : Value) (area : Area) (to : Location) → IsMember shapes a m → IsUsable k → Stands m.maps k v
     → Means m.maps (size_bytes s) area to → IsSoundFor shapes (stored_in a s k area) (stored m s v to)
-store_in shapes a m s k v (OnStack at) (place.OnStack to) h u g means = rw (← means.0) (stack_stored shapes a m s at k v h (fits_cell s at means.1) u g)
+store_in shapes a m s k v (OnStack at) (location.OnStack to) h u g means = rw (← means.0) (stack_stored shapes a m s at k v h (fits_cell s at means.1) u g)
 store_in shapes a m s k v (OnStack at) to h u g means = absurd means
-store_in shapes a m s k v InElement (place.InElement e i at) h u g means = element_stored shapes a m s e i at k v h means.0 means.1 g
+store_in shapes a m s k v InElement (location.InElement e i at) h u g means = element_stored shapes a m s e i at k v h means.0 means.1 g
 store_in shapes a m s k v InElement to h u g means = absurd means
-store_in shapes a m s k v (InTask f) (place.InTask t e) h u g means = rw means (field_stored shapes a m s t e k v h g)
+store_in shapes a m s k v (InTask f) (location.InTask t e) h u g means = rw means (field_stored shapes a m s t e k v h g)
 store_in shapes a m s k v (InTask f) to h u g means = absurd means
 
 -- and that of stores

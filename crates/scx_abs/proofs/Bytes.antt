@@ -105,7 +105,7 @@ pub same_pointer-refl : (p : pointers.Pointer) → same_pointer p p ≡ true
 same_pointer-refl (pointer.Stack o) = eq-eqb o o refl
 same_pointer-refl (pointer.Task t) = eq-eqb t.0 t.0 refl
 same_pointer-refl (pointer.Map m) = eq-eqb m m refl
-same_pointer-refl (pointer.Element m o i) = rw (eq-eqb m m refl, eq-eqb o o refl, eq-eqb i i refl) refl
+same_pointer-refl (pointer.Element m i o) = rw (eq-eqb m m refl, eq-eqb o o refl, eq-eqb i i refl) refl
 
 parts_read : (p : pointers.Pointer) → value_in access.DoubleWord (parts p) ≡ Some (value.Pointer p)
 parts_read p = rw (same_pointer-refl p) refl

@@ -7,7 +7,7 @@ use Rattle.std.proofs.lemmas.List.{length-map}
 use Rattle.scx_semantics.specs.declared.values.Value.{Value}
 use Rattle.scx_semantics.specs.declared.values.Value.TheVariants as value
 use Rattle.scx_semantics.specs.declared.values.Pointer.TheVariants as pointer
-use Rattle.scx_semantics.specs.Memory.{Stack, within, room_at}
+use Rattle.scx_semantics.specs.Memory.{Stack, within, aligned_within}
 use Rattle.scx_semantics.specs.Elements.{Maps, elements, element, with_element, with_number, HoldBytes}
 use Rattle.scx_semantics.specs.Machine.{Machine, with_maps}
 use Rattle.scx_maps.specs.declared.shape.Shape.{Shape}
@@ -24,22 +24,22 @@ use Rattle.scx_abs.specs.declared.kinds.Cell.TheVariants.{Bytes, Pointer}
 use Rattle.scx_abs.specs.declared.states.AbsState.{AbsState}
 use Rattle.scx_abs.specs.States.{kind_at, cell_at}
 use Rattle.scx_abs.specs.Stands.{HasElement, Stands, CellStands, IsMember}
-use Rattle.scx_abs.specs.Checks.{size_of, element_size, place_within, place_for}
+use Rattle.scx_abs.specs.Checks.{size_of, element_size, offset_within, offset_for}
 
 -- ---- checks of a place
 
 -- what holds of every refusal, and of each place that both allow, holds of both
 pub within_cases : (size : ℕ) (t : Option ℕ) (P : Result ℕ Why → Option ℕ → Type 0) → ((why : Why) (o : Option ℕ) → P (Err why) o)
-    → ((at : ℕ) → P (Ok at) (Some at)) → P (place_within size t) (within size t)
+    → ((at : ℕ) → P (Ok at) (Some at)) → P (offset_within size t) (within size t)
 within_cases size None P none ok = none OutOfBounds None
 within_cases size (Some at) P none ok =
     elim (nat_le at size) as (λ b. P (ok_or (if b then Some at else None) OutOfBounds) (if b then Some at else None)) [ true ↦ ok at | false ↦ none OutOfBounds None ]
 
 -- the same of a place for an access
-pub place_cases : (size n : ℕ) (t : Option ℕ) (P : Result ℕ Why → Option ℕ → Type 0) → ((why : Why) (o : Option ℕ) → P (Err why) o)
-    → ((at : ℕ) → at + n ≤ size → at % n ≡ 0 → P (Ok at) (Some at)) → P (place_for size n t) (room_at size n t)
-place_cases size n None P none ok = none OutOfBounds None
-place_cases size n (Some at) P none ok = go (nat_le (at + n) size) (nat_eq (at % n) 0) refl refl
+pub offset_cases : (size n : ℕ) (t : Option ℕ) (P : Result ℕ Why → Option ℕ → Type 0) → ((why : Why) (o : Option ℕ) → P (Err why) o)
+    → ((at : ℕ) → at + n ≤ size → at % n ≡ 0 → P (Ok at) (Some at)) → P (offset_for size n t) (aligned_within size n t)
+offset_cases size n None P none ok = none OutOfBounds None
+offset_cases size n (Some at) P none ok = go (nat_le (at + n) size) (nat_eq (at % n) 0) refl refl
   where
     go : (a b : Bool) → nat_le (at + n) size ≡ a → nat_eq (at % n) 0 ≡ b
         → P (if a then if b then Ok at else Err Misaligned else Err OutOfBounds) (if a && b then Some at else None)
@@ -95,12 +95,12 @@ stands_still : (maps other : Maps) (k : Kind) (v : Value) → lengths_of other �
 stands_still maps other Unusable v e h = tt
 stands_still maps other Num (value.Number n) e h = h
 stands_still maps other (kind.Stack o) (value.Pointer (pointer.Stack p)) e h = h
-stands_still maps other (Elem m o) (value.Pointer (pointer.Element n p i)) e h =
+stands_still maps other (Elem m o) (value.Pointer (pointer.Element n i p)) e h =
     let same = same_elements maps other n e in
     let there = h.2 in
     (h.0, h.1, omega arith)
 stands_still maps other (ElemOrNull m) (value.Number n) e h = h
-stands_still maps other (ElemOrNull m) (value.Pointer (pointer.Element n p i)) e h =
+stands_still maps other (ElemOrNull m) (value.Pointer (pointer.Element n i p)) e h =
     let same = same_elements maps other n e in
     let there = h.2 in
     (h.0, h.1, omega arith)

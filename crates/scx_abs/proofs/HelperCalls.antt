@@ -3,18 +3,18 @@ use Rattle.std.proofs.Common.{◌≡◌, ℕ, ◌+◌, ◌*◌, ◌/◌, ◌%◌
 use Rattle.std.proofs.lemmas.Bool.{and_parts, and_from, lt-ltb, ltb-true}
 use Rattle.scx_semantics.specs.declared.operations.Access.TheVariants as access
 use Rattle.scx_semantics.specs.declared.callbacks.Callback.{Callback}
-use Rattle.scx_semantics.specs.declared.outside.Helper.{Helper}
-use Rattle.scx_semantics.specs.declared.outside.Helper.TheVariants as helper
-use Rattle.scx_semantics.specs.declared.outside.Parameter.{Parameter}
-use Rattle.scx_semantics.specs.declared.outside.Parameter.TheVariants as parameter
+use Rattle.scx_semantics.specs.declared.host_tables.Helper.{Helper}
+use Rattle.scx_semantics.specs.declared.host_tables.Helper.TheVariants as helper
+use Rattle.scx_semantics.specs.declared.host_tables.Parameter.{Parameter}
+use Rattle.scx_semantics.specs.declared.host_tables.Parameter.TheVariants as parameter
 use Rattle.scx_semantics.specs.declared.values.Value.{Value}
 use Rattle.scx_semantics.specs.declared.values.Value.TheVariants as value
 use Rattle.scx_semantics.specs.declared.values.Pointer.TheVariants as pointer
-use Rattle.scx_semantics.specs.Memory.{Stack, stack_size, room_at, load}
-use Rattle.scx_semantics.specs.Outside.{parameters, is_allowed}
+use Rattle.scx_semantics.specs.Memory.{Stack, stack_size, aligned_within, load}
+use Rattle.scx_semantics.specs.HostTables.{parameters, is_allowed}
 use Rattle.scx_semantics.specs.Elements.{Maps, elements, element}
-use Rattle.scx_semantics.specs.Places as place
-use Rattle.scx_semantics.specs.Places.{on_stack, in_element, address}
+use Rattle.scx_semantics.specs.Locations as location
+use Rattle.scx_semantics.specs.Locations.{on_stack, in_element, address}
 use Rattle.scx_semantics.specs.Machine.{Machine, with_register}
 use Rattle.scx_semantics.specs.Effects as effect
 use Rattle.scx_semantics.specs.Calls as meaning
@@ -32,14 +32,14 @@ use Rattle.scx_abs.specs.Cells.{no_bytes, all_written, written_in}
 use Rattle.scx_abs.specs.States.{kind_at, cell_at, with_kind}
 use Rattle.scx_abs.specs.Stands.{Stands, CellStands, IsMember}
 use Rattle.scx_semantics.specs.Results.{◌>>=◌}
-use Rattle.scx_abs.specs.Checks.{goes_on, place_for}
+use Rattle.scx_abs.specs.Checks.{goes_on, offset_for}
 use Rattle.scx_abs.specs.Calls as rules
 use Rattle.scx_abs.specs.Calls.{key_in, key_check, argument_check, arguments_check, element_of, answer_kind, call_allowed, call_rule}
 use Rattle.scx_abs.specs.Laws.{IsSoundFor}
 use Rattle.scx_abs.proofs.Orders.{none_written}
 use Rattle.scx_abs.proofs.Bytes.{bytes_read, written_at}
 use Rattle.scx_abs.proofs.Registers.{kind_member, number_stands, task_or_null_fits}
-use Rattle.scx_abs.proofs.Elements.{place_cases, element_sized}
+use Rattle.scx_abs.proofs.Elements.{offset_cases, element_sized}
 use Rattle.scx_abs.proofs.Accesses.{bytes_stand}
 
 -- ---- arguments
@@ -56,25 +56,25 @@ word_read maps (Bytes set) stack at h fits e = let read = bytes_read stack at 4 
 word_read maps (Pointer k) stack at h fits e = absurd (none_written (at % 8 + 0) (omega arith) (written_at no_bytes (at % 8) 4 0 e (omega arith)))
 
 stack_key : (shapes : List Shape) (a : AbsState) (m : Machine) (at : ℕ) → IsMember shapes a m → at % 4 ≡ 0
-    → Passes (key_in (cell_at a (at / 8)) (at % 8)) (is_some (key_at m (place.OnStack at)))
+    → Passes (key_in (cell_at a (at / 8)) (at % 8)) (is_some (key_at m (location.OnStack at)))
 stack_key shapes a m at h aligned = go (all_written (written_in (cell_at a (at / 8))) (at % 8) 4) refl
   where
-    go : (b : Bool) → all_written (written_in (cell_at a (at / 8))) (at % 8) 4 ≡ b → Passes (if b then Ok tt else Err UnwrittenStack) (is_some (key_at m (place.OnStack at)))
+    go : (b : Bool) → all_written (written_in (cell_at a (at / 8))) (at % 8) 4 ≡ b → Passes (if b then Ok tt else Err UnwrittenStack) (is_some (key_at m (location.OnStack at)))
     go true e = word_read m.maps (cell_at a (at / 8)) m.stack at (h.cells (at / 8)) (omega arith) e
     go false e = tt
 
 element_key : (m : Machine) (k i size : ℕ) (t : Option ℕ) → length (element m.maps k i) ≡ size
-    → Passes (place_for size 4 t >>= λ at. Ok tt) (is_some (key_at m (in_element k i (room_at (length (element m.maps k i)) 4 t))))
+    → Passes (offset_for size 4 t >>= λ at. Ok tt) (is_some (key_at m (in_element k i (aligned_within (length (element m.maps k i)) 4 t))))
 element_key m k i size t long =
-    rw (← long) (place_cases (length (element m.maps k i)) 4 t (λ r o. Passes (r >>= λ at. Ok tt) (is_some (key_at m (in_element k i o)))) (λ why o. tt) (λ at inside aligned. refl))
+    rw (← long) (offset_cases (length (element m.maps k i)) 4 t (λ r o. Passes (r >>= λ at. Ok tt) (is_some (key_at m (in_element k i o)))) (λ why o. tt) (λ at inside aligned. refl))
 
 key_passes : (shapes : List Shape) (a : AbsState) (m : Machine) (k : Kind) (v : Value) → IsMember shapes a m → Stands m.maps k v → Passes (key_check shapes a k) (is_some (key m v))
 key_passes shapes a m (kind.Stack o) (value.Pointer (pointer.Stack p)) h g =
     let here : p + 0 ≡ p = omega arith in
-    rw (g, here) (place_cases stack_size 4 (Some p) (λ r t. Passes (r >>= λ at. key_in (cell_at a (at / 8)) (at % 8)) (is_some (key_at m (on_stack t)))) (λ why t. tt)
+    rw (g, here) (offset_cases stack_size 4 (Some p) (λ r t. Passes (r >>= λ at. key_in (cell_at a (at / 8)) (at % 8)) (is_some (key_at m (on_stack t)))) (λ why t. tt)
     (λ at inside aligned. stack_key shapes a m at h aligned))
 key_passes shapes a m (kind.Stack o) v h g = absurd g
-key_passes shapes a m (Elem n o) (value.Pointer (pointer.Element k p i)) h g =
+key_passes shapes a m (Elem n o) (value.Pointer (pointer.Element k i p)) h g =
     let here : p + 0 ≡ p = omega arith in
     rw (g.0, g.1, here) (element_key m k i _ (Some p) (element_sized shapes m.maps k i h.maps g.2))
 key_passes shapes a m (Elem n o) v h g = absurd g
@@ -142,7 +142,7 @@ after_member shapes a m k v h g =
 -- ---- the look-up of an element
 
 found_stands : (maps : Maps) (j n x : ℕ) (b : Bool) → j ≡ n → nat_lt x (length (elements maps n)) ≡ b
-    → Stands maps (ElemOrNull j) (if b then value.Pointer (pointer.Element n 0 x) else value.Number 0)
+    → Stands maps (ElemOrNull j) (if b then value.Pointer (pointer.Element n x 0) else value.Number 0)
 found_stands maps j n x true e lt = (e, refl, ltb-true x (length (elements maps n)) lt)
 found_stands maps j n x false e lt = refl
 

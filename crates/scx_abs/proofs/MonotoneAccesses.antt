@@ -10,8 +10,8 @@ use Rattle.scx_semantics.specs.declared.registers.Register.{Register}
 use Rattle.scx_semantics.specs.Registers.{number}
 use Rattle.scx_semantics.specs.Arithmetic.{shifted}
 use Rattle.scx_semantics.specs.Memory.{size_bytes, access_size, stack_size}
-use Rattle.scx_semantics.specs.declared.outside.Field.{Field}
-use Rattle.scx_semantics.specs.Outside.{is_writable, field_at}
+use Rattle.scx_semantics.specs.declared.host_tables.Field.{Field}
+use Rattle.scx_semantics.specs.HostTables.{is_writable, field_at}
 use Rattle.scx_semantics.specs.Meaning.{is_plain}
 use Rattle.scx_maps.specs.declared.shape.Shape.{Shape}
 use Rattle.scx_abs.specs.declared.faults.Why.{Why}
@@ -27,13 +27,13 @@ use Rattle.scx_abs.specs.declared.memory.Area.TheVariants.{OnStack, InElement, I
 use Rattle.scx_abs.specs.Kinds.{CoversKind}
 use Rattle.scx_abs.specs.Cells.{is_written, no_bytes, marked, all_written, written_in, IsPartOf, CoversPointer, CoversCell}
 use Rattle.scx_abs.specs.States.{CoversState, IsProper, kind_at, cell_at, with_cell}
-use Rattle.scx_abs.specs.Areas.{IsPlace, IsRoom}
+use Rattle.scx_abs.specs.Areas.{IsAlignedWithin, IsAlignedIn}
 use Rattle.scx_semantics.specs.Results.{◌>>=◌}
-use Rattle.scx_abs.specs.Checks.{goes_on, usable, operand_kind, element_size, place_for}
+use Rattle.scx_abs.specs.Checks.{goes_on, usable, operand_kind, element_size, offset_for}
 use Rattle.scx_abs.specs.Rules.{field_area, area_of, loaded_kind, kind_in, load_kind, stored_cell, number_stored, stored_in, store_rule}
 use Rattle.scx_abs.specs.Monotone.{PassesToo, CoversFlows}
 use Rattle.scx_abs.proofs.Orders.{each_byte_at, none_written}
-use Rattle.scx_abs.proofs.Elements.{place_cases}
+use Rattle.scx_abs.proofs.Elements.{offset_cases}
 use Rattle.scx_abs.proofs.Bytes.{fits_cell}
 use Rattle.scx_abs.proofs.MonotoneRegisters.{passes_then, with_cell_covers, on_monotone, CoversUsable, usable_monotone, operand_monotone}
 
@@ -41,24 +41,24 @@ use Rattle.scx_abs.proofs.MonotoneRegisters.{passes_then, with_cell_covers, on_m
 
 -- one place, with room for so many bytes
 abbrev pub SamePlace : ℕ → ℕ → ℕ → ℕ → Type 0
-SamePlace size n x y = (x ≡ y) × IsPlace size n y
+SamePlace size n x y = (x ≡ y) × IsAlignedWithin size n y
 
 abbrev SameArea : ℕ → Area → Area → Type 0
-SameArea n x y = (x ≡ y) × IsRoom n y
+SameArea n x y = (x ≡ y) × IsAlignedIn n y
 
 -- a place for an access, which lies within and is aligned
-pub place_monotone : (size n : ℕ) (t : Option ℕ) → PassesToo (SamePlace size n) (place_for size n t) (place_for size n t)
-place_monotone size n t =
-    place_cases size n t (λ r o. PassesToo (SamePlace size n) r r) (λ why o. tt) (λ at inside aligned. (refl, record { inside = inside; aligned = aligned }))
+pub offset_monotone : (size n : ℕ) (t : Option ℕ) → PassesToo (SamePlace size n) (offset_for size n t) (offset_for size n t)
+offset_monotone size n t =
+    offset_cases size n t (λ r o. PassesToo (SamePlace size n) r r) (λ why o. tt) (λ at inside aligned. (refl, record { inside = inside; aligned = aligned }))
 
-stack_monotone : (n : ℕ) (t : Option ℕ) → PassesToo (SameArea n) (place_for stack_size n t >>= λ at. Ok (OnStack at)) (place_for stack_size n t >>= λ at. Ok (OnStack at))
+stack_monotone : (n : ℕ) (t : Option ℕ) → PassesToo (SameArea n) (offset_for stack_size n t >>= λ at. Ok (OnStack at)) (offset_for stack_size n t >>= λ at. Ok (OnStack at))
 stack_monotone n t =
-    passes_then (SamePlace stack_size n) (SameArea n) (place_for stack_size n t) (place_for stack_size n t) (λ at. Ok (OnStack at)) (λ at. Ok (OnStack at)) (place_monotone stack_size n t)
+    passes_then (SamePlace stack_size n) (SameArea n) (offset_for stack_size n t) (offset_for stack_size n t) (λ at. Ok (OnStack at)) (λ at. Ok (OnStack at)) (offset_monotone stack_size n t)
     (λ x y h. (ap OnStack h.0, h.1))
 
-element_monotone : (size n : ℕ) (t : Option ℕ) → PassesToo (SameArea n) (place_for size n t >>= λ at. Ok InElement) (place_for size n t >>= λ at. Ok InElement)
+element_monotone : (size n : ℕ) (t : Option ℕ) → PassesToo (SameArea n) (offset_for size n t >>= λ at. Ok InElement) (offset_for size n t >>= λ at. Ok InElement)
 element_monotone size n t =
-    passes_then (SamePlace size n) (SameArea n) (place_for size n t) (place_for size n t) (λ at. Ok InElement) (λ at. Ok InElement) (place_monotone size n t) (λ x y h. (refl, tt))
+    passes_then (SamePlace size n) (SameArea n) (offset_for size n t) (offset_for size n t) (λ at. Ok InElement) (λ at. Ok InElement) (offset_monotone size n t) (λ x y h. (refl, tt))
 
 field_monotone : (n : ℕ) (f : Option Field) → PassesToo (SameArea n) (field_area f) (field_area f)
 field_monotone n None = tt
@@ -169,7 +169,7 @@ number_stored_monotone b a Num Num h g = on_monotone b a h
 number_stored_monotone b a Num k h g = absurd g
 number_stored_monotone b a j k h g = tt
 
-cell-below : (s : Size) (at : ℕ) → IsPlace stack_size (size_bytes s) at → at / 8 < 64
+cell-below : (s : Size) (at : ℕ) → IsAlignedWithin stack_size (size_bytes s) at → at / 8 < 64
 cell-below s at p = let some = size-positive s in let room = p.inside in omega (arith, some, room)
 
 stored_monotone : (b a : AbsState) (s : Size) (j k : Kind) (x y : Area) → IsProper a → CoversState b a → CoversUsable j k → SameArea (size_bytes s) x y

@@ -3,11 +3,11 @@ use Rattle.std.proofs.Common.{ℕ, ◌+◌, ◌/◌, ◌%◌, true, false, List,
 use Rattle.scx_semantics.specs.declared.operations.Size.TheVariants as size
 use Rattle.scx_semantics.specs.declared.callbacks.Callback.{Callback}
 use Rattle.scx_semantics.specs.Memory.{stack_size}
-use Rattle.scx_semantics.specs.declared.outside.Helper.{Helper}
-use Rattle.scx_semantics.specs.declared.outside.Helper.TheVariants as helper
-use Rattle.scx_semantics.specs.declared.outside.Parameter.{Parameter}
-use Rattle.scx_semantics.specs.declared.outside.Parameter.TheVariants as parameter
-use Rattle.scx_semantics.specs.Outside.{parameters, is_allowed}
+use Rattle.scx_semantics.specs.declared.host_tables.Helper.{Helper}
+use Rattle.scx_semantics.specs.declared.host_tables.Helper.TheVariants as helper
+use Rattle.scx_semantics.specs.declared.host_tables.Parameter.{Parameter}
+use Rattle.scx_semantics.specs.declared.host_tables.Parameter.TheVariants as parameter
+use Rattle.scx_semantics.specs.HostTables.{parameters, is_allowed}
 use Rattle.scx_maps.specs.declared.shape.Shape.{Shape}
 use Rattle.scx_abs.specs.declared.faults.Why.TheVariants.{HelperNotHere}
 use Rattle.scx_abs.specs.declared.kinds.Kind.{Kind}
@@ -17,13 +17,13 @@ use Rattle.scx_abs.specs.declared.states.AbsState.{AbsState}
 use Rattle.scx_abs.specs.Kinds.{CoversKind}
 use Rattle.scx_abs.specs.Cells.{written_in}
 use Rattle.scx_abs.specs.States.{CoversState, IsProper, kind_at, cell_at, with_kind}
-use Rattle.scx_abs.specs.Checks.{goes_on, element_size, place_for}
+use Rattle.scx_abs.specs.Checks.{goes_on, element_size, offset_for}
 use Rattle.scx_abs.specs.Calls.{key_in, key_check, takes, argument_check, arguments_check, after_call, element_of, answer_kind, call_allowed, call_rule}
 use Rattle.scx_abs.specs.Monotone.{PassesToo, CoversFlows}
 use Rattle.scx_abs.proofs.Bytes.{fits_cell}
 use Rattle.scx_abs.proofs.Proper.{kind_proper}
 use Rattle.scx_abs.proofs.MonotoneRegisters.{passes_then, with_kind_covers, on_monotone}
-use Rattle.scx_abs.proofs.MonotoneAccesses.{SamePlace, place_monotone, read_monotone, written_covers}
+use Rattle.scx_abs.proofs.MonotoneAccesses.{SamePlace, offset_monotone, read_monotone, written_covers}
 
 -- ---- arguments
 
@@ -33,14 +33,14 @@ NoMore x y = Unit {0}
 
 key_monotone : (shapes : List Shape) (b a : AbsState) (j k : Kind) → CoversState b a → CoversKind j k → PassesToo NoMore (key_check shapes b j) (key_check shapes a k)
 key_monotone shapes b a (kind.Stack o) (kind.Stack p) h g =
-    rw g (passes_then (SamePlace stack_size 4) NoMore (place_for stack_size 4 (Some p)) (place_for stack_size 4 (Some p))
-    (λ at. key_in (cell_at b (at / 8)) (at % 8)) (λ at. key_in (cell_at a (at / 8)) (at % 8)) (place_monotone stack_size 4 (Some p))
+    rw g (passes_then (SamePlace stack_size 4) NoMore (offset_for stack_size 4 (Some p)) (offset_for stack_size 4 (Some p))
+    (λ at. key_in (cell_at b (at / 8)) (at % 8)) (λ at. key_in (cell_at a (at / 8)) (at % 8)) (offset_monotone stack_size 4 (Some p))
     (λ x y f. rw f.0 (read_monotone NoMore tt (written_in (cell_at b (y / 8))) (written_in (cell_at a (y / 8))) (y % 8) 4 tt (fits_cell size.Word y f.1.aligned)
     (written_covers (cell_at b (y / 8)) (cell_at a (y / 8)) (h.cells (y / 8))))))
 key_monotone shapes b a (kind.Stack o) k h g = absurd g
 key_monotone shapes b a (Elem m o) (Elem n p) h g =
-    rw (g.0, g.1) (passes_then (SamePlace (element_size shapes n) 4) NoMore (place_for (element_size shapes n) 4 (Some p)) (place_for (element_size shapes n) 4 (Some p))
-    (λ at. Ok tt) (λ at. Ok tt) (place_monotone (element_size shapes n) 4 (Some p)) (λ x y f. tt))
+    rw (g.0, g.1) (passes_then (SamePlace (element_size shapes n) 4) NoMore (offset_for (element_size shapes n) 4 (Some p)) (offset_for (element_size shapes n) 4 (Some p))
+    (λ at. Ok tt) (λ at. Ok tt) (offset_monotone (element_size shapes n) 4 (Some p)) (λ x y f. tt))
 key_monotone shapes b a (Elem m o) k h g = absurd g
 key_monotone shapes b a j k h g = tt
 

@@ -2,7 +2,7 @@
 use Rattle.std.proofs.Common.{true, false, None, Ok, if◌then◌else◌}
 use Rattle.scx_semantics.specs.declared.instructions.Insn.TheVariants as insn
 use Rattle.scx_semantics.specs.Registers.{number}
-use Rattle.scx_semantics.specs.Outside.{helper_at, answers}
+use Rattle.scx_semantics.specs.HostTables.{helper_at, answers}
 use Rattle.scx_abs.specs.declared.kinds.Kind.{Kind}
 use Rattle.scx_abs.specs.declared.kinds.Kind.TheVariants.{Num}
 use Rattle.scx_abs.specs.Kinds.{CoversKind}
@@ -29,14 +29,14 @@ rules_monotone shapes c (insn.Negate w d) b a p h =
     sets_monotone b a d (number_kind (kind_at b (number d))) (number_kind (kind_at a (number d))) p h (number_monotone (kind_at b (number d)) (kind_at a (number d)) (h.registers (number d)))
 rules_monotone shapes c (insn.SignExtend e d r) b a p h =
     sets_monotone b a d (number_kind (kind_at b (number r))) (number_kind (kind_at a (number r))) p h (number_monotone (kind_at b (number r)) (kind_at a (number r)) (h.registers (number r)))
-rules_monotone shapes c (insn.Reorder o w d) b a p h =
+rules_monotone shapes c (insn.ByteSwap o w d) b a p h =
     sets_monotone b a d (number_kind (kind_at b (number d))) (number_kind (kind_at a (number d))) p h (number_monotone (kind_at b (number d)) (kind_at a (number d)) (h.registers (number d)))
-rules_monotone shapes c (insn.Constant d low_half high_half) b a p h = sets_monotone b a d (Ok Num) (Ok Num) p h tt
-rules_monotone shapes c (insn.MapReference d k) b a p h = sets_monotone b a d (map_kind shapes k) (map_kind shapes k) p h (passes_itself CoversKind (map_kind shapes k) kind_itself)
+rules_monotone shapes c (insn.LoadImmediate d low_half high_half) b a p h = sets_monotone b a d (Ok Num) (Ok Num) p h tt
+rules_monotone shapes c (insn.LoadMapReference d k) b a p h = sets_monotone b a d (map_kind shapes k) (map_kind shapes k) p h (passes_itself CoversKind (map_kind shapes k) kind_itself)
 rules_monotone shapes c (insn.Load access d r offset) b a p h =
     sets_monotone b a d (load_kind shapes b access r offset) (load_kind shapes a access r offset) p h (load_monotone shapes b a access r offset h)
 rules_monotone shapes c (insn.Store s r offset x) b a p h = store_monotone shapes b a s r offset x p h
-rules_monotone shapes c (insn.JumpIf w k r offset x) b a p h = jump_monotone b a w k r x p h
+rules_monotone shapes c (insn.JumpIf w k r x offset) b a p h = jump_monotone b a w k r x p h
 rules_monotone shapes c (insn.Goto offset) b a p h = record { on = tt; jump = h }
 rules_monotone shapes c (insn.GotoLong offset) b a p h = record { on = tt; jump = h }
 rules_monotone shapes c (insn.Call k) b a p h = call_monotone shapes c (helper_at k) b a p h

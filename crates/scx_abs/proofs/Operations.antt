@@ -32,7 +32,7 @@ use Rattle.scx_abs.specs.Kinds.{IsUsable}
 use Rattle.scx_abs.specs.States.{kind_at}
 use Rattle.scx_abs.specs.Stands.{HasElement, Stands, IsMember}
 use Rattle.scx_semantics.specs.Results.{◌>>=◌}
-use Rattle.scx_abs.specs.Checks.{usable, operand_kind, place_within}
+use Rattle.scx_abs.specs.Checks.{usable, operand_kind, offset_within}
 use Rattle.scx_abs.specs.Rules.{moved_by, moved_kind, arithmetic_kind, combined_kind, binary_kind, number_kind, map_kind}
 use Rattle.scx_abs.proofs.Registers.{Gives, usable_allows, operand_allows, checked}
 use Rattle.scx_abs.proofs.Elements.{within_cases, element_sized}
@@ -59,22 +59,22 @@ combined_gives maps w o a v g h = absurd h
 -- ---- pointers
 
 stack_moved : (maps : Maps) (t : Option ℕ)
-    → Gives maps (place_within stack_size t >>= λ to. Ok (kind.Stack to)) (option_map (λ to. value.Pointer (pointer.Stack to)) (within stack_size t))
+    → Gives maps (offset_within stack_size t >>= λ to. Ok (kind.Stack to)) (option_map (λ to. value.Pointer (pointer.Stack to)) (within stack_size t))
 stack_moved maps t =
     within_cases stack_size t (λ r o. Gives maps (r >>= λ to. Ok (kind.Stack to)) (option_map (λ to. value.Pointer (pointer.Stack to)) o))
     (λ why o. tt) (λ to. refl)
 
 element_moved : (maps : Maps) (m i size : ℕ) (t : Option ℕ) → HasElement maps m i → length (element maps m i) ≡ size
-    → Gives maps (place_within size t >>= λ to. Ok (Elem m to)) (option_map (λ to. value.Pointer (pointer.Element m to i)) (within (length (element maps m i)) t))
+    → Gives maps (offset_within size t >>= λ to. Ok (Elem m to)) (option_map (λ to. value.Pointer (pointer.Element m i to)) (within (length (element maps m i)) t))
 element_moved maps m i size t there long =
-    rw (← long) (within_cases (length (element maps m i)) t (λ r o. Gives maps (r >>= λ to. Ok (Elem m to)) (option_map (λ to. value.Pointer (pointer.Element m to i)) o))
+    rw (← long) (within_cases (length (element maps m i)) t (λ r o. Gives maps (r >>= λ to. Ok (Elem m to)) (option_map (λ to. value.Pointer (pointer.Element m i to)) o))
     (λ why o. tt) (λ to. (refl, refl, there)))
 
 moved_by_gives : (shapes : List Shape) (maps : Maps) (k : Kind) (p : pointers.Pointer) (d : Option ℤ) → HasShapes shapes maps → Stands maps k (value.Pointer p)
     → Gives maps (moved_by shapes k d) (pointer_moved maps p d)
 moved_by_gives shapes maps (kind.Stack o) (pointer.Stack p) (Some d) shaped h = rw h (stack_moved maps (shifted p d))
 moved_by_gives shapes maps (kind.Stack o) p (Some d) shaped h = absurd h
-moved_by_gives shapes maps (Elem m o) (pointer.Element n p i) (Some d) shaped h =
+moved_by_gives shapes maps (Elem m o) (pointer.Element n i p) (Some d) shaped h =
     rw (h.0, h.1) (element_moved maps n i _ (shifted p d) h.2 (element_sized shapes maps n i shaped h.2))
 moved_by_gives shapes maps (Elem m o) p (Some d) shaped h = absurd h
 moved_by_gives shapes maps k p d shaped h = tt

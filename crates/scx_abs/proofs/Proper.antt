@@ -9,10 +9,10 @@ use Rattle.scx_semantics.specs.declared.instructions.Operand.TheVariants as oper
 use Rattle.scx_semantics.specs.declared.operations.Size.{Size}
 use Rattle.scx_semantics.specs.declared.operations.Size.TheVariants as size
 use Rattle.scx_semantics.specs.declared.callbacks.Callback.{Callback}
-use Rattle.scx_semantics.specs.declared.outside.Helper.{Helper}
+use Rattle.scx_semantics.specs.declared.host_tables.Helper.{Helper}
 use Rattle.scx_semantics.specs.Registers.{number}
 use Rattle.scx_semantics.specs.Memory.{size_bytes}
-use Rattle.scx_semantics.specs.Outside.{is_writable, helper_at, answers, parameters, is_allowed}
+use Rattle.scx_semantics.specs.HostTables.{is_writable, helper_at, answers, parameters, is_allowed}
 use Rattle.scx_maps.specs.declared.shape.Shape.{Shape}
 use Rattle.scx_abs.specs.declared.faults.Why.{Why}
 use Rattle.scx_abs.specs.declared.faults.Why.TheVariants.{WritesFrame, TaskField, HelperNotHere}
@@ -163,15 +163,15 @@ pub rule_proper : RulesKeepProper
 rule_proper shapes c (insn.Binary w o d x) a p = sets_proper a (number d) (binary_kind shapes a w o d x) p
 rule_proper shapes c (insn.Negate w d) a p = sets_proper a (number d) (number_kind (kind_at a (number d))) p
 rule_proper shapes c (insn.SignExtend e d r) a p = sets_proper a (number d) (number_kind (kind_at a (number r))) p
-rule_proper shapes c (insn.Reorder o w d) a p = sets_proper a (number d) (number_kind (kind_at a (number d))) p
-rule_proper shapes c (insn.Constant d low_half high_half) a p = sets_proper a (number d) (Ok Num) p
-rule_proper shapes c (insn.MapReference d k) a p = sets_proper a (number d) (map_kind shapes k) p
+rule_proper shapes c (insn.ByteSwap o w d) a p = sets_proper a (number d) (number_kind (kind_at a (number d))) p
+rule_proper shapes c (insn.LoadImmediate d low_half high_half) a p = sets_proper a (number d) (Ok Num) p
+rule_proper shapes c (insn.LoadMapReference d k) a p = sets_proper a (number d) (map_kind shapes k) p
 rule_proper shapes c (insn.Load access d r offset) a p = sets_proper a (number d) (load_kind shapes a access r offset) p
 rule_proper shapes c (insn.Store s r offset x) a p =
     usable_proper (kind_at a (number r)) (λ base. operand_kind a x >>= λ k. area_of shapes base offset (size_bytes s) >>= λ t. stored_in a s k t)
     (λ base ub. operand_proper a x (λ k. area_of shapes base offset (size_bytes s) >>= λ t. stored_in a s k t)
     (λ k u. then_proper (area_of shapes base offset (size_bytes s)) (λ t. stored_in a s k t) (λ t. stored_proper a s k t p u)))
-rule_proper shapes c (insn.JumpIf w k r offset x) a p =
+rule_proper shapes c (insn.JumpIf w k r x offset) a p =
     usable_proper (kind_at a (number r)) (λ j. operand_kind a x >>= λ l. compared a (number r) (null_test w k x) j l)
     (λ j uj. operand_proper a x (λ l. compared a (number r) (null_test w k x) j l) (λ l ul. compared_proper a (number r) (null_test w k x) j l p))
 rule_proper shapes c (insn.Goto offset) a p = (tt, p)

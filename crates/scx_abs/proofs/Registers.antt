@@ -7,13 +7,13 @@ use Rattle.scx_semantics.specs.declared.operations.Width.{Width}
 use Rattle.scx_semantics.specs.declared.values.Value.{Value}
 use Rattle.scx_semantics.specs.declared.values.Value.TheVariants as value
 use Rattle.scx_semantics.specs.declared.values.Pointer.TheVariants as pointer
-use Rattle.scx_semantics.specs.declared.outside.Field.{Field}
-use Rattle.scx_semantics.specs.declared.outside.TaskId.{TaskId}
+use Rattle.scx_semantics.specs.declared.host_tables.Field.{Field}
+use Rattle.scx_semantics.specs.declared.host_tables.TaskId.{TaskId}
 use Rattle.scx_semantics.specs.Registers.{number}
 use Rattle.scx_semantics.specs.Elements.{Maps}
 use Rattle.scx_semantics.specs.Machine.{Machine, put, with_register}
 use Rattle.scx_semantics.specs.Effects as effect
-use Rattle.scx_semantics.specs.Effects.{Query, Load, Effect, keep, keep_answer}
+use Rattle.scx_semantics.specs.Effects.{Query, Load, Effect, set_register, set_register_by_answer}
 use Rattle.scx_semantics.specs.Meaning.{operand_value}
 use Rattle.scx_semantics.specs.Runs.{IsNumberBelow, IsTaskOrNull, Fits}
 use Rattle.scx_semantics.proofs.Numbers.{immediate_below, field_below}
@@ -66,8 +66,8 @@ refused_sound shapes a r why e = elim (nat_eq r 10) as (λ b. IsSoundFor shapes 
 
 -- a kind that is put into a register, where a value is
 pub set_sound : (shapes : List Shape) (a : AbsState) (m : Machine) (r : ℕ) (k : Result Kind Why) (o : Option Value) → IsMember shapes a m → Gives m.maps k o
-    → IsSoundFor shapes (sets a r k) (keep m r o)
-set_sound shapes a m r (Err why) o h g = refused_sound shapes a r why (keep m r o)
+    → IsSoundFor shapes (sets a r k) (set_register m r o)
+set_sound shapes a m r (Err why) o h g = refused_sound shapes a r why (set_register m r o)
 set_sound shapes a m r (Ok k) None h g = absurd g
 set_sound shapes a m r (Ok k) (Some v) h g =
     elim (nat_eq r 10) as (λ b. IsSoundFor shapes (if b then Err WritesFrame else goes_on (with_kind a r k)) (if b then effect.Stuck else effect.Next (with_register m r v)))
@@ -75,7 +75,7 @@ set_sound shapes a m r (Ok k) (Some v) h g =
 
 -- the same of the host's answers
 pub answer_sound : (shapes : List Shape) (a : AbsState) (m : Machine) (r : ℕ) (k : Kind) (q : Query) → IsMember shapes a m → ((v : Value) → Fits q v → Stands m.maps k v)
-    → IsSoundFor shapes (sets a r (Ok k)) (keep_answer m r q)
+    → IsSoundFor shapes (sets a r (Ok k)) (set_register_by_answer m r q)
 answer_sound shapes a m r k q h g =
     elim (nat_eq r 10) as (λ b. IsSoundFor shapes (if b then Err WritesFrame else goes_on (with_kind a r k)) (if b then effect.Stuck else effect.Ask q (λ v. with_register m r v)))
     [ true ↦ tt | false ↦ λ v fits. kind_member shapes a m r k v h (g v fits) ]

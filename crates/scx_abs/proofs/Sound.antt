@@ -4,12 +4,12 @@ use Rattle.scx_semantics.specs.declared.instructions.Insn.TheVariants as insn
 use Rattle.scx_semantics.specs.declared.values.Value.{Value}
 use Rattle.scx_semantics.specs.declared.values.Value.TheVariants as value
 use Rattle.scx_semantics.specs.Registers.{number}
-use Rattle.scx_semantics.specs.Arithmetic.{negated, extended, reordered, constant}
-use Rattle.scx_semantics.specs.Outside.{helper_at, answers}
+use Rattle.scx_semantics.specs.Arithmetic.{negated, extended, byte_swapped, wide_immediate}
+use Rattle.scx_semantics.specs.HostTables.{helper_at, answers}
 use Rattle.scx_semantics.specs.Elements.{Maps}
 use Rattle.scx_semantics.specs.Effects as effect
 use Rattle.scx_semantics.specs.Meaning.{binary, on_number, map_reference, answered}
-use Rattle.scx_semantics.proofs.Numbers.{negated_below, extended_below, reordered_below, constant_below}
+use Rattle.scx_semantics.proofs.Numbers.{negated_below, extended_below, byte_swapped_below, wide_immediate_below}
 use Rattle.scx_maps.specs.declared.shape.Shape.{Shape}
 use Rattle.scx_abs.specs.declared.kinds.Kind.{Kind}
 use Rattle.scx_abs.specs.declared.kinds.Kind.TheVariants.{Num}
@@ -40,16 +40,16 @@ rules_sound shapes c (insn.Negate w d) a m fits h =
 rules_sound shapes c (insn.SignExtend e d r) a m fits h =
     set_sound shapes a m (number d) (number_kind (kind_at a (number r))) (on_number (extended e) (m.registers (number r))) h
     (number_gives m.maps (extended e) (kind_at a (number r)) (m.registers (number r)) (λ n below. extended_below e n) (h.registers (number r)))
-rules_sound shapes c (insn.Reorder o w d) a m fits h =
-    set_sound shapes a m (number d) (number_kind (kind_at a (number d))) (on_number (reordered o w) (m.registers (number d))) h
-    (number_gives m.maps (reordered o w) (kind_at a (number d)) (m.registers (number d)) (λ n below. reordered_below o w n below) (h.registers (number d)))
-rules_sound shapes c (insn.Constant d low_half high_half) a m fits h =
-    set_sound shapes a m (number d) (Ok Num) (Some (value.Number (constant low_half high_half))) h (constant_below low_half high_half fits.0 fits.1)
-rules_sound shapes c (insn.MapReference d k) a m fits h =
+rules_sound shapes c (insn.ByteSwap o w d) a m fits h =
+    set_sound shapes a m (number d) (number_kind (kind_at a (number d))) (on_number (byte_swapped o w) (m.registers (number d))) h
+    (number_gives m.maps (byte_swapped o w) (kind_at a (number d)) (m.registers (number d)) (λ n below. byte_swapped_below o w n below) (h.registers (number d)))
+rules_sound shapes c (insn.LoadImmediate d low_half high_half) a m fits h =
+    set_sound shapes a m (number d) (Ok Num) (Some (value.Number (wide_immediate low_half high_half))) h (wide_immediate_below low_half high_half fits.0 fits.1)
+rules_sound shapes c (insn.LoadMapReference d k) a m fits h =
     set_sound shapes a m (number d) (map_kind shapes k) (map_reference m.maps k) h (map_gives shapes m.maps k h.maps)
 rules_sound shapes c (insn.Load access d r offset) a m fits h = load_sound shapes a m access d r offset h
 rules_sound shapes c (insn.Store s r offset x) a m fits h = store_sound shapes a m s r offset x fits.1 h
-rules_sound shapes c (insn.JumpIf w k r offset x) a m fits h = jump_sound shapes a m w k r x fits.1 h
+rules_sound shapes c (insn.JumpIf w k r x offset) a m fits h = jump_sound shapes a m w k r x fits.1 h
 rules_sound shapes c (insn.Goto offset) a m fits h = h
 rules_sound shapes c (insn.GotoLong offset) a m fits h = h
 rules_sound shapes c (insn.Call k) a m fits h = call_sound shapes c (helper_at k) a m h

@@ -1,15 +1,15 @@
--- The memory that an address means for an access: a place on the stack lies in it with so many bytes,
+-- The memory that an address means for an access: an offset on the stack lies in it with so many bytes,
 -- and is a multiple of them, so that they are bytes of one cell.
 use Rattle.std.specs.Prelude.{ℕ, ◌+◌, ◌%◌, ◌≡◌, ◌≤◌}
 use Rattle.scx_semantics.specs.Memory.{stack_size}
 use Rattle.scx_abs.specs.declared.memory.Area.{Area}
 use Rattle.scx_abs.specs.declared.memory.Area.TheVariants.{OnStack, InElement, InTask}
 
-pub record IsPlace (size n at : ℕ) : Type 0 where
+pub record IsAlignedWithin (size n at : ℕ) : Type 0 where
   pub inside : at + n ≤ size
   pub aligned : at % n ≡ 0
 
-abbrev pub IsRoom : ℕ → Area → Type 0
-IsRoom n (OnStack at) = IsPlace stack_size n at
-IsRoom n InElement = Unit {0}
-IsRoom n (InTask f) = Unit {0}
+abbrev pub IsAlignedIn : ℕ → Area → Type 0
+IsAlignedIn n (OnStack at) = IsAlignedWithin stack_size n at
+IsAlignedIn n InElement = Unit {0}
+IsAlignedIn n (InTask f) = Unit {0}

@@ -2,11 +2,11 @@
 -- argument from r1 on is what it takes. After a call r0 has the answer's kind, and r1 to r5 are unusable.
 use Rattle.std.specs.Prelude.{ℕ, ◌+◌, ◌/◌, ◌%◌, List, [], ◌∷◌, Option, Some, None, Result, Ok, Err, if◌then◌else◌}
 use Rattle.scx_semantics.specs.declared.callbacks.Callback.{Callback}
-use Rattle.scx_semantics.specs.declared.outside.Helper.{Helper}
-use Rattle.scx_semantics.specs.declared.outside.Helper.TheVariants as helper
-use Rattle.scx_semantics.specs.declared.outside.Parameter.{Parameter}
-use Rattle.scx_semantics.specs.declared.outside.Parameter.TheVariants as parameter
-use Rattle.scx_semantics.specs.Outside.{parameters, is_allowed}
+use Rattle.scx_semantics.specs.declared.host_tables.Helper.{Helper}
+use Rattle.scx_semantics.specs.declared.host_tables.Helper.TheVariants as helper
+use Rattle.scx_semantics.specs.declared.host_tables.Parameter.{Parameter}
+use Rattle.scx_semantics.specs.declared.host_tables.Parameter.TheVariants as parameter
+use Rattle.scx_semantics.specs.HostTables.{parameters, is_allowed}
 use Rattle.scx_semantics.specs.Memory.{stack_size}
 use Rattle.scx_maps.specs.declared.shape.Shape.{Shape}
 use Rattle.scx_abs.specs.declared.faults.Why.{Why}
@@ -19,7 +19,7 @@ use Rattle.scx_abs.specs.declared.rules.Next.{Next}
 use Rattle.scx_abs.specs.Cells.{all_written, written_in}
 use Rattle.scx_abs.specs.States.{kind_at, cell_at, with_kind}
 use Rattle.scx_semantics.specs.Results.{◌>>=◌}
-use Rattle.scx_abs.specs.Checks.{goes_on, element_size, place_for}
+use Rattle.scx_abs.specs.Checks.{goes_on, element_size, offset_for}
 
 -- ---- arguments
 
@@ -30,10 +30,10 @@ key_in cell j = if all_written (written_in cell) j 4 then Ok tt else Err Unwritt
 -- a key is four bytes of the stack or of an element
 abbrev pub key_check : List Shape → AbsState → Kind → Result (Unit {0}) Why
 key_check shapes a (Stack o) = do
-  at ← place_for stack_size 4 (Some o)
+  at ← offset_for stack_size 4 (Some o)
   key_in (cell_at a (at / 8)) (at % 8)
 key_check shapes a (Elem m o) = do
-  at ← place_for (element_size shapes m) 4 (Some o)
+  at ← offset_for (element_size shapes m) 4 (Some o)
   Ok tt
 key_check shapes a (ElemOrNull m) = Err NullNotTested
 key_check shapes a k = Err BadArgument

@@ -38,7 +38,7 @@ abbrev pub sets : AbsState → ℕ → Result Kind Why → Result Next Why
 sets a r (Err why) = if nat_eq r 10 then Err WritesFrame else Err why
 sets a r (Ok k) = if nat_eq r 10 then Err WritesFrame else goes_on (with_kind a r k)
 
--- ---- places
+-- ---- offsets
 
 -- how many bytes the elements of a map have; those of a map that isn't there have none
 abbrev pub size_of : Option Shape → ℕ
@@ -48,12 +48,12 @@ size_of (Some s) = s.value_size
 abbrev pub element_size : List Shape → ℕ → ℕ
 element_size shapes m = size_of (slice_get shapes m)
 
--- the place, if it lies in so many bytes of memory or is the one behind the last
-abbrev pub place_within : ℕ → Option ℕ → Result ℕ Why
-place_within size at = ok_or (within size at) OutOfBounds
+-- the offset, if it lies in so many bytes of memory or right behind the last
+abbrev pub offset_within : ℕ → Option ℕ → Result ℕ Why
+offset_within size at = ok_or (within size at) OutOfBounds
 
--- the place, if n bytes from it on lie in so many bytes of memory and it is a multiple of n
-abbrev pub place_for : ℕ → ℕ → Option ℕ → Result ℕ Why
-place_for size n None = Err OutOfBounds
-place_for size n (Some at) =
+-- the offset, if n bytes from it on lie in so many bytes of memory and it is a multiple of n
+abbrev pub offset_for : ℕ → ℕ → Option ℕ → Result ℕ Why
+offset_for size n None = Err OutOfBounds
+offset_for size n (Some at) =
     if nat_le (at + n) size then if nat_eq (at % n) 0 then Ok at else Err Misaligned else Err OutOfBounds

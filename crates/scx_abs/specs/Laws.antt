@@ -52,7 +52,7 @@ RulesAreSound =
 -- whether it is a call of a helper, or a jump that tests a register for 0
 abbrev pub is_call_or_null_test : Insn → Bool
 is_call_or_null_test (insn.Call k) = true
-is_call_or_null_test (insn.JumpIf w k r offset x) = is_some (null_test w k x)
+is_call_or_null_test (insn.JumpIf w k r x offset) = is_some (null_test w k x)
 is_call_or_null_test i = false
 
 -- The same of all instructions but those.

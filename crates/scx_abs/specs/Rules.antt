@@ -22,8 +22,8 @@ use Rattle.scx_semantics.specs.declared.registers.Register.{Register}
 use Rattle.scx_semantics.specs.Registers.{number}
 use Rattle.scx_semantics.specs.Arithmetic.{shifted}
 use Rattle.scx_semantics.specs.Memory.{size_bytes, access_size, stack_size}
-use Rattle.scx_semantics.specs.declared.outside.Field.{Field}
-use Rattle.scx_semantics.specs.Outside.{field_at, is_writable, helper_at, answers}
+use Rattle.scx_semantics.specs.declared.host_tables.Field.{Field}
+use Rattle.scx_semantics.specs.HostTables.{field_at, is_writable, helper_at, answers}
 use Rattle.scx_semantics.specs.Meaning.{pointer_step, is_plain}
 use Rattle.scx_maps.specs.declared.shape.Shape.{Shape}
 use Rattle.scx_abs.specs.declared.faults.Why.{Why}
@@ -39,7 +39,7 @@ use Rattle.scx_abs.specs.declared.memory.Area.TheVariants.{OnStack, InElement, I
 use Rattle.scx_abs.specs.Cells.{marked, all_written, written_in}
 use Rattle.scx_abs.specs.States.{kind_at, cell_at, with_kind, with_cell}
 use Rattle.scx_semantics.specs.Results.{◌>>=◌}
-use Rattle.scx_abs.specs.Checks.{flows, goes_on, usable, operand_kind, sets, element_size, place_within, place_for}
+use Rattle.scx_abs.specs.Checks.{flows, goes_on, usable, operand_kind, sets, element_size, offset_within, offset_for}
 use Rattle.scx_abs.specs.Calls.{call_rule}
 
 -- ---- arithmetic
@@ -47,10 +47,10 @@ use Rattle.scx_abs.specs.Calls.{call_rule}
 -- a pointer that is moved stays in its memory, or comes to the place behind the last byte
 abbrev pub moved_by : List Shape → Kind → Option ℤ → Result Kind Why
 moved_by shapes (Stack o) (Some k) = do
-  to ← place_within stack_size (shifted o k)
+  to ← offset_within stack_size (shifted o k)
   Ok (Stack to)
 moved_by shapes (Elem m o) (Some k) = do
-  to ← place_within (element_size shapes m) (shifted o k)
+  to ← offset_within (element_size shapes m) (shifted o k)
   Ok (Elem m to)
 moved_by shapes k distance = Err PointerArithmetic
 
@@ -95,13 +95,13 @@ abbrev pub field_area : Option Field → Result Area Why
 field_area None = Err TaskField
 field_area (Some f) = Ok (InTask f)
 
--- the place that an address means, for so many bytes
+-- the memory that an address means, for so many bytes
 abbrev pub area_of : List Shape → Kind → ℤ → ℕ → Result Area Why
 area_of shapes (Stack o) offset n = do
-  at ← place_for stack_size n (shifted o offset)
+  at ← offset_for stack_size n (shifted o offset)
   Ok (OnStack at)
 area_of shapes (Elem m o) offset n = do
-  at ← place_for (element_size shapes m) n (shifted o offset)
+  at ← offset_for (element_size shapes m) n (shifted o offset)
   Ok InElement
 area_of shapes Task offset n = field_area (field_at n (shifted 0 offset))
 area_of shapes (ElemOrNull m) offset n = Err NullNotTested
@@ -202,12 +202,12 @@ abbrev pub rule : List Shape → Callback → Insn → AbsState → Result Next 
 rule shapes c (insn.Binary w o d x) a = sets a (number d) (binary_kind shapes a w o d x)
 rule shapes c (insn.Negate w d) a = sets a (number d) (number_kind (kind_at a (number d)))
 rule shapes c (insn.SignExtend e d r) a = sets a (number d) (number_kind (kind_at a (number r)))
-rule shapes c (insn.Reorder o w d) a = sets a (number d) (number_kind (kind_at a (number d)))
-rule shapes c (insn.Constant d low_half high_half) a = sets a (number d) (Ok Num)
-rule shapes c (insn.MapReference d k) a = sets a (number d) (map_kind shapes k)
+rule shapes c (insn.ByteSwap o w d) a = sets a (number d) (number_kind (kind_at a (number d)))
+rule shapes c (insn.LoadImmediate d low_half high_half) a = sets a (number d) (Ok Num)
+rule shapes c (insn.LoadMapReference d k) a = sets a (number d) (map_kind shapes k)
 rule shapes c (insn.Load access d r offset) a = sets a (number d) (load_kind shapes a access r offset)
 rule shapes c (insn.Store s r offset x) a = store_rule shapes a s r offset x
-rule shapes c (insn.JumpIf w k r offset x) a = jump_rule a w k r x
+rule shapes c (insn.JumpIf w k r x offset) a = jump_rule a w k r x
 rule shapes c (insn.Goto offset) a = Ok (flows None (Some a))
 rule shapes c (insn.GotoLong offset) a = Ok (flows None (Some a))
 rule shapes c (insn.Call k) a = call_rule shapes c (helper_at k) a

@@ -30,9 +30,9 @@ abbrev pub Stands : Maps → Kind → Value → Type 0
 Stands maps Unusable v = Unit {0}
 Stands maps Num (value.Number n) = n < 2 ^ 64
 Stands maps (Stack o) (value.Pointer (pointer.Stack p)) = o ≡ p
-Stands maps (Elem m o) (value.Pointer (pointer.Element n p i)) = (m ≡ n) × (o ≡ p) × HasElement maps n i
+Stands maps (Elem m o) (value.Pointer (pointer.Element n i p)) = (m ≡ n) × (o ≡ p) × HasElement maps n i
 Stands maps (ElemOrNull m) (value.Number n) = n ≡ 0
-Stands maps (ElemOrNull m) (value.Pointer (pointer.Element n p i)) = (m ≡ n) × (0 ≡ p) × HasElement maps n i
+Stands maps (ElemOrNull m) (value.Pointer (pointer.Element n i p)) = (m ≡ n) × (0 ≡ p) × HasElement maps n i
 Stands maps Task (value.Pointer (pointer.Task t)) = Unit {0}
 Stands maps TaskOrNull (value.Number n) = n ≡ 0
 Stands maps TaskOrNull (value.Pointer (pointer.Task t)) = Unit {0}
@@ -45,7 +45,7 @@ IsByte (byte.Byte b) = b < 256
 IsByte byte.Unwritten = ⊥
 IsByte (byte.Part p j) = ⊥
 
--- The cell stands for the eight bytes from a place on: those of its set hold numbers, or all eight are
+-- The cell stands for the eight bytes from an offset on: those of its set hold numbers, or all eight are
 -- those of a value that its kind stands for. Null is stored as eight zero bytes.
 abbrev pub CellStands : Maps → Cell → memory.Stack → ℕ → Type 0
 CellStands maps (Bytes set) stack at = (j : ℕ) → j < 8 → IsTrue (is_written set j) → IsByte (stack (at + j))

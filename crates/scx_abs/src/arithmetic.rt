@@ -5,7 +5,7 @@ ghost use Rattle.scx_abs.specs.Rules.{moved_by, moved_kind, arithmetic_kind, com
 
 use crate::faults::Why;
 use crate::kinds::Kind;
-use crate::places::{element_size, place_within};
+use crate::offsets::{element_size, offset_within};
 use crate::states::AbsState;
 use scx_arithmetic::{pointer_step, shifted};
 use scx_isa::{Operand, Operation, Register, STACK_SIZE, Width};
@@ -109,11 +109,11 @@ fn moved_by(kind: Kind, distance: Option<i64>, defs: &MapDefs) -> Result<Kind, W
 {
     match (kind, distance) {
         (Kind::Stack(at), Some(distance)) => {
-            let to = place_within(STACK_SIZE, shifted(at, distance))?;
+            let to = offset_within(STACK_SIZE, shifted(at, distance))?;
             Ok(Kind::Stack(to))
         }
         (Kind::Elem(map, at), Some(distance)) => {
-            let to = place_within(element_size(defs, map), shifted(at, distance))?;
+            let to = offset_within(element_size(defs, map), shifted(at, distance))?;
             Ok(Kind::Elem(map, to))
         }
         _ => Err(Why::PointerArithmetic),

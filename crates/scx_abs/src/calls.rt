@@ -1,5 +1,5 @@
 ghost use Rattle.std.specs.Prelude.{◌≡◌, ◌+◌, ◌≤◌, drop};
-ghost use Rattle.scx_semantics.specs.Outside.{parameters, helper_at};
+ghost use Rattle.scx_semantics.specs.HostTables.{parameters, helper_at};
 ghost use Rattle.scx_abs.specs.Changes.{flowed};
 ghost use Rattle.scx_abs.specs.Calls.{key_in, key_check, task_check, map_check, number_check, takes, argument_check, arguments_check, element_of, answer_kind, call_allowed, call_rule};
 ghost use Rattle.scx_abs.specs.States.{kind_at};
@@ -7,7 +7,7 @@ ghost use Rattle.scx_abs.specs.States.{kind_at};
 use crate::changes::{Change, Flow};
 use crate::faults::Why;
 use crate::kinds::{CELL_BYTES, Cell, Kind, all_written};
-use crate::places::{element_size, place_for};
+use crate::offsets::{element_size, offset_for};
 use crate::states::AbsState;
 use scx_isa::{Helper, Parameter, Register, STACK_SIZE, Size};
 use scx_maps::MapDefs;
@@ -109,11 +109,11 @@ fn check_key(state: &AbsState, kind: Kind, defs: &MapDefs) -> Result<(), Why>
 {
     match kind {
         Kind::Stack(at) => {
-            let at = usize::from(place_for(STACK_SIZE, Size::Word, Some(u64::from(at)))?);
+            let at = usize::from(offset_for(STACK_SIZE, Size::Word, Some(u64::from(at)))?);
             key_in(state.cell(at / CELL_BYTES), at % CELL_BYTES)
         }
         Kind::Elem(map, at) => {
-            place_for(element_size(defs, map), Size::Word, Some(u64::from(at)))?;
+            offset_for(element_size(defs, map), Size::Word, Some(u64::from(at)))?;
             Ok(())
         }
         Kind::ElemOrNull(_) => Err(Why::NullNotTested),

@@ -10,9 +10,9 @@ pub enum Why {
     WritesFrame,
     /// Bytes of the stack are read that weren't all written as numbers.
     UnwrittenStack,
-    /// A place lies outside its memory, or no memory is meant.
+    /// An access lies outside its memory, or no memory is meant.
     OutOfBounds,
-    /// A place isn't a multiple of the bytes that are read or written.
+    /// An offset isn't a multiple of the bytes that are read or written.
     Misaligned,
     /// A pointer that may be null is used before it was tested.
     NullNotTested,

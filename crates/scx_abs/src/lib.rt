@@ -17,7 +17,7 @@ mod kinds;
 mod known;
 mod laws;
 mod memory;
-mod places;
+mod offsets;
 mod rules;
 mod states;
 

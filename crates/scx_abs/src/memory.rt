@@ -1,7 +1,7 @@
 ghost use Rattle.std.specs.Prelude.{◌≡◌, ◌+◌, ◌≤◌, IfOk};
 ghost use Rattle.scx_semantics.specs.Registers.{number};
 ghost use Rattle.scx_semantics.specs.Memory.{size_bytes, access_size};
-ghost use Rattle.scx_abs.specs.Areas.{IsRoom};
+ghost use Rattle.scx_abs.specs.Areas.{IsAlignedIn};
 ghost use Rattle.scx_abs.specs.Changes.{flowed};
 ghost use Rattle.scx_abs.specs.Rules.{area_of, field_area, loaded_kind, kind_in, load_kind, stored_cell, number_stored, stored_in, store_rule};
 
@@ -9,7 +9,7 @@ use crate::arithmetic::{operand_kind, usable};
 use crate::changes::{Change, Flow};
 use crate::faults::Why;
 use crate::kinds::{CELL_BYTES, Cell, Kind, all_written, marked};
-use crate::places::{element_size, place_for};
+use crate::offsets::{element_size, offset_for};
 use crate::states::AbsState;
 use scx_arithmetic::shifted;
 use scx_isa::{Access, Field, Operand, Register, STACK_SIZE, Size};
@@ -61,16 +61,16 @@ pub(crate) fn store(
 /// The memory that an address means, for an access of that size.
 pub fn area_of(base: Kind, offset: i16, size: Size, defs: &MapDefs) -> Result<Area, Why>
     ensures area { result ≡ area_of defs.now base offset (size_bytes size) }
-    ensures room { IfOk result (IsRoom (size_bytes size)) }
+    ensures aligned { IfOk result (IsAlignedIn (size_bytes size)) }
 {
     let distance = i64::from(offset);
     match base {
         Kind::Stack(at) => {
-            let at = place_for(STACK_SIZE, size, shifted(at, distance))?;
+            let at = offset_for(STACK_SIZE, size, shifted(at, distance))?;
             Ok(Area::OnStack(at))
         }
         Kind::Elem(map, at) => {
-            place_for(element_size(defs, map), size, shifted(at, distance))?;
+            offset_for(element_size(defs, map), size, shifted(at, distance))?;
             Ok(Area::InElement)
         }
         Kind::Task => field_area(Field::at(offset, size)),
@@ -83,7 +83,7 @@ pub fn area_of(base: Kind, offset: i16, size: Size, defs: &MapDefs) -> Result<Ar
 /// A field of a task, if an access takes one whole.
 fn field_area(field: Option<Field>) -> Result<Area, Why>
     ensures area { result ≡ field_area field }
-    ensures room { IfOk result (IsRoom 0) }
+    ensures aligned { IfOk result (IsAlignedIn 0) }
 {
     match field {
         Some(field) => Ok(Area::InTask(field)),
@@ -94,7 +94,7 @@ fn field_area(field: Option<Field>) -> Result<Area, Why>
 /// The kind that a load from there gives.
 #[tactic(auto, using(crate::proofs::Bytes::fits_cell))]
 fn kind_in(state: &AbsState, access: Access, area: Area) -> Result<Kind, Why>
-    requires { IsRoom (size_bytes (access_size access)) area }
+    requires { IsAlignedIn (size_bytes (access_size access)) area }
     ensures { result ≡ kind_in state.now access area }
 {
     match area {
@@ -111,7 +111,7 @@ fn kind_in(state: &AbsState, access: Access, area: Area) -> Result<Kind, Why>
 /// What flows on from a store there.
 #[tactic(auto, using(crate::proofs::Bytes::fits_cell))]
 fn stored_in(state: &AbsState, size: Size, kind: Kind, area: Area) -> Result<Flow, Why>
-    requires { IsRoom (size_bytes size) area }
+    requires { IsAlignedIn (size_bytes size) area }
     ensures { flowed state.now result ≡ stored_in state.now size kind area }
 {
     match area {

@@ -47,14 +47,14 @@ pub fn flow_of(state: &AbsState, insn: &Insn, context: &Context) -> Result<Flow,
                 binary_kind(state, width, operation, destination, operand, &context.defs),
             )
         }
-        Insn::Negate(_, destination) | Insn::Reorder(_, _, destination) => {
+        Insn::Negate(_, destination) | Insn::ByteSwap(_, _, destination) => {
             sets(state, destination, number_kind(state.kind(destination)))
         }
         Insn::SignExtend(_, destination, source) => {
             sets(state, destination, number_kind(state.kind(source)))
         }
-        Insn::Constant(destination, ..) => sets(state, destination, Ok(Kind::Num)),
-        Insn::MapReference(destination, map) => {
+        Insn::LoadImmediate(destination, ..) => sets(state, destination, Ok(Kind::Num)),
+        Insn::LoadMapReference(destination, map) => {
             sets(state, destination, map_kind(map, &context.defs))
         }
         Insn::Load(access, destination, base, offset) => {
@@ -67,9 +67,13 @@ pub fn flow_of(state: &AbsState, insn: &Insn, context: &Context) -> Result<Flow,
         Insn::Store(size, base, offset, operand) => {
             store(state, size, base, offset, operand, &context.defs)
         }
-        Insn::JumpIf(width, comparison, register, _, operand) => {
-            jump(state, width, comparison, register, operand)
-        }
+        Insn::JumpIf {
+            width,
+            comparison,
+            register,
+            operand,
+            ..
+        } => { jump(state, width, comparison, register, operand) }
         Insn::Goto(_) | Insn::GotoLong(_) => Ok(Flow::Jump(Change::Nothing)),
         Insn::Call(number) => call(state, number, context),
         Insn::Exit => end(state, context),

@@ -8,6 +8,6 @@ mod numbers;
 
 pub use bytes::{read, read_number, read_word, write_number};
 pub use numbers::{
-    compares, compute, constant, extended, immediate, low, low_byte, low_half, low_two_bytes,
-    negated, pointer_step, reordered, shifted, within,
+    byte_swapped, compares, compute, extended, immediate, low, low_byte, low_half, low_two_bytes,
+    negated, pointer_step, shifted, wide_immediate, within,
 };

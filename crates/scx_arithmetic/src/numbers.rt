@@ -1,10 +1,10 @@
 ghost use Rattle.std.specs.Prelude.{◌≡◌, ◌%◌, ◌^◌};
 ghost use Rattle.scx_semantics.specs.Memory.{within};
 ghost use Rattle.scx_semantics.specs.Meaning.{pointer_step};
-ghost use Rattle.scx_semantics.specs.Arithmetic.{compute, operate, low, negated, extended, kept, swapped, reordered, immediate, constant, compares, holds, shifted};
+ghost use Rattle.scx_semantics.specs.Arithmetic.{compute, operate, low, negated, extended, low_bytes, reversed_bytes, byte_swapped, immediate, wide_immediate, compares, holds, shifted};
 ghost use Rattle.scx_semantics.specs.declared.operations.Width.TheVariants.{Bits32, Bits64};
 
-use scx_semantics::{Comparison, Extension, Operand, Operation, Order, OrderWidth, Width};
+use scx_semantics::{ByteOrder, Comparison, Extension, Operand, Operation, SwapWidth, Width};
 
 /// What the operation of that width makes of the destination `a` and the operand `b`
 /// (RFC 9669, section 4.1). At 32 bits the upper half of the result is 0.
@@ -104,34 +104,34 @@ pub fn extended(extension: Extension, n: u64) -> u64
 }
 
 /// The low bytes in another order (RFC 9669, section 4.2). The host is little-endian.
-pub fn reordered(order: Order, width: OrderWidth, n: u64) -> u64
-    ensures { result ≡ reordered order width n }
+pub fn byte_swapped(order: ByteOrder, width: SwapWidth, n: u64) -> u64
+    ensures { result ≡ byte_swapped order width n }
 {
     match order {
-        Order::Little => kept(width, n),
-        Order::Big | Order::Swapped => swapped(width, n),
+        ByteOrder::Little => low_bytes(width, n),
+        ByteOrder::Big | ByteOrder::Swapped => reversed_bytes(width, n),
     }
 }
 
 /// The low bits that a change of byte order keeps.
-fn kept(width: OrderWidth, n: u64) -> u64
-    ensures { result ≡ kept width n }
+fn low_bytes(width: SwapWidth, n: u64) -> u64
+    ensures { result ≡ low_bytes width n }
 {
     match width {
-        OrderWidth::Bits16 => u64::from(low_two_bytes(n)),
-        OrderWidth::Bits32 => u64::from(low_half(n)),
-        OrderWidth::Bits64 => n,
+        SwapWidth::Bits16 => u64::from(low_two_bytes(n)),
+        SwapWidth::Bits32 => u64::from(low_half(n)),
+        SwapWidth::Bits64 => n,
     }
 }
 
 /// The low bytes, with the first one last.
-fn swapped(width: OrderWidth, n: u64) -> u64
-    ensures { result ≡ swapped width (kept width n) }
+fn reversed_bytes(width: SwapWidth, n: u64) -> u64
+    ensures { result ≡ reversed_bytes width (low_bytes width n) }
 {
     match width {
-        OrderWidth::Bits16 => u64::from(low_two_bytes(n).swap_bytes()),
-        OrderWidth::Bits32 => u64::from(low_half(n).swap_bytes()),
-        OrderWidth::Bits64 => n.swap_bytes(),
+        SwapWidth::Bits16 => u64::from(low_two_bytes(n).swap_bytes()),
+        SwapWidth::Bits32 => u64::from(low_half(n).swap_bytes()),
+        SwapWidth::Bits64 => n.swap_bytes(),
     }
 }
 
@@ -153,7 +153,7 @@ fn holds64(comparison: Comparison, a: u64, b: u64) -> bool
         Comparison::Equal => a == b,
         Comparison::Greater => a > b,
         Comparison::GreaterOrEqual => a >= b,
-        Comparison::AnyBit => a & b != 0,
+        Comparison::BitTest => a & b != 0,
         Comparison::NotEqual => a != b,
         Comparison::SignedGreater => a.cast_signed() > b.cast_signed(),
         Comparison::SignedGreaterOrEqual => a.cast_signed() >= b.cast_signed(),
@@ -172,7 +172,7 @@ fn holds32(comparison: Comparison, a: u32, b: u32) -> bool
         Comparison::Equal => a == b,
         Comparison::Greater => a > b,
         Comparison::GreaterOrEqual => a >= b,
-        Comparison::AnyBit => a & b != 0,
+        Comparison::BitTest => a & b != 0,
         Comparison::NotEqual => a != b,
         Comparison::SignedGreater => a.cast_signed() > b.cast_signed(),
         Comparison::SignedGreaterOrEqual => a.cast_signed() >= b.cast_signed(),
@@ -225,8 +225,8 @@ pub fn immediate(width: Width, k: i32) -> u64
 }
 
 /// The number whose halves a wide instruction holds (RFC 9669, section 5.4).
-pub fn constant(low: i32, high: i32) -> u64
-    ensures { result ≡ constant low high }
+pub fn wide_immediate(low: i32, high: i32) -> u64
+    ensures { result ≡ wide_immediate low high }
 {
     (u64::from(high.cast_unsigned()) << 32) + u64::from(low.cast_unsigned())
 }

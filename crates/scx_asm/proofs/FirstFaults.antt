@@ -9,18 +9,18 @@ use Rattle.scx_semantics.specs.declared.instructions.Insn.{Insn}
 use Rattle.scx_semantics.specs.Code.{Code}
 use Rattle.scx_isa.specs.declared.program.TheConstants.{MAX_SLOTS}
 use Rattle.scx_text.specs.Options.{either}
-use Rattle.scx_text.specs.Items.{Label, Distance, Line, Blank, Place_of, Says, Jumps, read_line}
+use Rattle.scx_text.specs.Items.{Label, Distance, ItemValue, Blank, DefinesLabel, Says, Jumps, read_line}
 use Rattle.scx_asm.specs.declared.faults.AsmFault.{AsmFault}
 use Rattle.scx_asm.specs.declared.faults.AsmFault.TheVariants.{Syntax, UnknownLabel, TwiceLabel, OutOfRange, TooLong}
 use Rattle.scx_asm.specs.declared.faults.AsmError.{AsmError}
 use Rattle.scx_asm.specs.declared.faults.AsmError.TheVariants.{Refused, OutOfMemory}
-use Rattle.scx_asm.specs.Resolving.{insn_of, jump_of, distant, distance, fits, slots, ranged, Labels, find, resolved}
-use Rattle.scx_asm.specs.Layout.{Draft, Plan, nothing, located, with_label, with_draft, with_line, with_text, planned, Gives, Fails}
-use Rattle.scx_asm.specs.Reading.{built, finished, read_insns, read_text, code_of}
+use Rattle.scx_asm.specs.Resolving.{insn_of, jump_of, distant, distance, fits, slots, or_out_of_range, Labels, find, resolved}
+use Rattle.scx_asm.specs.FirstPass.{UnresolvedLine, FirstPassState, nothing_read, at_line, with_label, with_unresolved, with_line, with_text, first_pass, Gives, Fails}
+use Rattle.scx_asm.specs.Reading.{second_pass, insns_of, read_insns, read_text, code_of}
 use Rattle.scx_asm.specs.Standing.{defined, definitions, names, AreSaid}
-use Rattle.scx_asm.specs.FirstFault.{slots_of, AreFine, IsWrong, FailsAt, IsLost, IsFirstFault, At_line, No_insn, At_jump, Answers}
+use Rattle.scx_asm.specs.FirstFault.{slots_of, AreFine, IsWrong, FailsAt, IsLost, IsFirstFault, AtLine, NoInsn, AtJump, Answers}
 use Rattle.scx_asm.proofs.Fitting.{bind_ok, located_ok}
-use Rattle.scx_asm.proofs.Standing.{there, found, drafts, after, plus_none, line_was, text_was, planned_was, nothing_less, resolved_was, jump_to, read_as, read_was}
+use Rattle.scx_asm.proofs.Standing.{there, found, unresolved_lines, after, plus_none, line_was, text_was, first_pass_was, nothing_less, resolved_was, jump_to, read_as, read_was}
 use Rattle.scx_asm.proofs.Written.{fails_on}
 
 -- ---- faults at lines
@@ -35,11 +35,11 @@ same_fault X g f k m e =
 
 -- ---- one line more
 
-slots_more : (ls : List Line) (l : Line) → slots_of (ls ++ l ∷ []) ≡ slots_of ls + slots l
+slots_more : (ls : List ItemValue) (l : ItemValue) → slots_of (ls ++ l ∷ []) ≡ slots_of ls + slots l
 slots_more [] l = omega arith
 slots_more (x ∷ xs) l = omega (arith, slots_more xs l)
 
-definitions_more : (s : ℕ) (ls : List Line) (l : Line) → definitions s (ls ++ l ∷ []) ≡ definitions s ls ++ defined (s + slots_of ls) l
+definitions_more : (s : ℕ) (ls : List ItemValue) (l : ItemValue) → definitions s (ls ++ l ∷ []) ≡ definitions s ls ++ defined (s + slots_of ls) l
 definitions_more s [] l = append-nil (defined s l) ∙ ap (λ (k : ℕ). defined k l) (sym (plus_none s))
 definitions_more s (x ∷ xs) l =
     let sum : (s + slots x) + slots_of xs ≡ s + (slots x + slots_of xs) = omega arith in
@@ -47,51 +47,51 @@ definitions_more s (x ∷ xs) l =
     ∙ (sym (append_assoc (defined s x) (definitions (s + slots x) xs) (defined ((s + slots x) + slots_of xs) l))
     ∙ ap (λ (k : ℕ). (defined s x ++ definitions (s + slots x) xs) ++ defined k l) sum)
 
-all_more : (ls : List Line) (l : Line) → AllByRecursion (λ l. fits l ≡ true) ls → fits l ≡ true → AllByRecursion (λ l. fits l ≡ true) (ls ++ l ∷ [])
+all_more : (ls : List ItemValue) (l : ItemValue) → AllByRecursion (λ l. fits l ≡ true) ls → fits l ≡ true → AllByRecursion (λ l. fits l ≡ true) (ls ++ l ∷ [])
 all_more [] l h e = (e, tt)
 all_more (x ∷ xs) l h e = (h.0, all_more xs l h.1 e)
 
 -- ---- the first pass
 
-abbrev plan_is : Plan → Result Plan AsmFault
-plan_is p = Ok p
+abbrev pass_is : FirstPassState → Result FirstPassState AsmFault
+pass_is p = Ok p
 
-abbrev refused : AsmFault → Result Plan AsmFault
+abbrev refused : AsmFault → Result FirstPassState AsmFault
 refused f = Err f
 
 -- a line that was added fits, and so does what it takes
-record Room (p : Plan) (l : Line) : Type 0 where
+record Room (p : FirstPassState) (l : ItemValue) : Type 0 where
   pub fit : fits l ≡ true
   pub within : p.slots + slots l ≤ MAX_SLOTS
 
-draft_room : (n : ℕ) (p q : Plan) (l : Line) → with_draft n p l ≡ plan_is q → Room p l
-draft_room n p q l e = go (fits l) (nat_lt MAX_SLOTS (p.slots + slots l)) refl refl
+unresolved_room : (n : ℕ) (p q : FirstPassState) (l : ItemValue) → with_unresolved n p l ≡ pass_is q → Room p l
+unresolved_room n p q l e = go (fits l) (nat_lt MAX_SLOTS (p.slots + slots l)) refl refl
   where
     go : (a b : Bool) → fits l ≡ a → nat_lt MAX_SLOTS (p.slots + slots l) ≡ b → Room p l
-    go false b x y = let bad : refused OutOfRange ≡ plan_is q = rw x at e in absurd (cc)
-    go true true x y = let bad : refused TooLong ≡ plan_is q = rw (x, y) at e in absurd (cc)
+    go false b x y = let bad : refused OutOfRange ≡ pass_is q = rw x at e in absurd (cc)
+    go true true x y = let bad : refused TooLong ≡ pass_is q = rw (x, y) at e in absurd (cc)
     go true false x y = record { fit = x; within = ltb-false _ _ y }
 
-line_room : (n : ℕ) (p q : Plan) (l : Line) → with_line n p l ≡ plan_is q → p.slots ≤ MAX_SLOTS → Room p l
+line_room : (n : ℕ) (p q : FirstPassState) (l : ItemValue) → with_line n p l ≡ pass_is q → p.slots ≤ MAX_SLOTS → Room p l
 line_room n p q Blank e le = record { fit = refl; within = omega arith }
-line_room n p q (Place_of l) e le = record { fit = refl; within = omega arith }
-line_room n p q (Says x) e le = draft_room n p q (Says x) e
-line_room n p q (Jumps j t) e le = draft_room n p q (Jumps j t) e
+line_room n p q (DefinesLabel l) e le = record { fit = refl; within = omega arith }
+line_room n p q (Says x) e le = unresolved_room n p q (Says x) e
+line_room n p q (Jumps j t) e le = unresolved_room n p q (Jumps j t) e
 
 -- the plan is that of the lines so far, which are fine
-record Before (p : Plan) (n : ℕ) (before : List (List ℕ)) (earlier : List Line) : Type 0 where
+record Before (p : FirstPassState) (n : ℕ) (before : List (List ℕ)) (earlier : List ItemValue) : Type 0 where
   pub slots : p.slots ≡ slots_of earlier
   pub labels : p.labels ≡ definitions 0 earlier
   pub number : n ≡ suc (length before)
   pub read : map read_line before ≡ map Some earlier
   pub fine : AreFine earlier
 
-one_more : (n : ℕ) (p q : Plan) (before : List (List ℕ)) (earlier : List Line) (text : List ℕ) (l : Line) → Before p n before earlier → read_line text ≡ Some l → with_line n p l ≡ plan_is q → Before q (suc n) (before ++ text ∷ []) (earlier ++ l ∷ [])
+one_more : (n : ℕ) (p q : FirstPassState) (before : List (List ℕ)) (earlier : List ItemValue) (text : List ℕ) (l : ItemValue) → Before p n before earlier → read_line text ≡ Some l → with_line n p l ≡ pass_is q → Before q (suc n) (before ++ text ∷ []) (earlier ++ l ∷ [])
 one_more n p q before earlier text l b e w =
     let distinct = subst (λ (es : Labels). IsDistinct bytes_eq (names es)) (sym b.labels) b.fine.once in
     let added = line_was n p q l w distinct in
-    let count : p.slots + slots l ≡ q.slots = ap (λ (p : Plan). p.slots) added.is in
-    let table : p.labels ++ defined p.slots l ≡ q.labels = ap (λ (p : Plan). p.labels) added.is in
+    let count : p.slots + slots l ≡ q.slots = ap (λ (p : FirstPassState). p.slots) added.is in
+    let table : p.labels ++ defined p.slots l ≡ q.labels = ap (λ (p : FirstPassState). p.labels) added.is in
     let room = line_room n p q l w (omega (arith, b.slots, b.fine.within)) in
     let start : p.slots ≡ 0 + slots_of earlier = omega (arith, b.slots) in
     let labels : q.labels ≡ definitions 0 (earlier ++ l ∷ []) =
@@ -100,7 +100,7 @@ one_more n p q before earlier text l b e w =
       slots = omega (arith, count, b.slots, slots_more earlier l);
       labels = labels;
       number = omega (arith, b.number, length-append before (text ∷ []));
-      read = map-append read_line before (text ∷ []) ∙ (ap (λ (xs : List (Option Line)). xs ++ read_line text ∷ []) b.read ∙ (ap (λ (x : Option Line). map Some earlier ++ x ∷ []) e ∙ sym (map-append Some earlier (l ∷ []))));
+      read = map-append read_line before (text ∷ []) ∙ (ap (λ (xs : List (Option ItemValue)). xs ++ read_line text ∷ []) b.read ∙ (ap (λ (x : Option ItemValue). map Some earlier ++ x ∷ []) e ∙ sym (map-append Some earlier (l ∷ []))));
       fine = record {
         once = subst (λ (es : Labels). IsDistinct bytes_eq (names es)) labels added.once;
         fit = all_more earlier l b.fine.fit room.fit;
@@ -108,47 +108,47 @@ one_more n p q before earlier text l b e w =
       };
     }
 
-label_wrong : (p : Plan) (earlier : List Line) (l : List ℕ) (f : AsmFault) → p.labels ≡ definitions 0 earlier → with_label p l ≡ refused f → IsWrong earlier (Some (Place_of l)) f
+label_wrong : (p : FirstPassState) (earlier : List ItemValue) (l : List ℕ) (f : AsmFault) → p.labels ≡ definitions 0 earlier → with_label p l ≡ refused f → IsWrong earlier (Some (DefinesLabel l)) f
 label_wrong p earlier l f labels e = go (find l p.labels) refl
   where
-    go : (r : Option ℕ) → find l p.labels ≡ r → IsWrong earlier (Some (Place_of l)) f
+    go : (r : Option ℕ) → find l p.labels ≡ r → IsWrong earlier (Some (DefinesLabel l)) f
     go None h =
-        let bad : plan_is (record { slots = p.slots; labels = p.labels ++ (l, p.slots) ∷ []; drafts = p.drafts }) ≡ refused f = rw h at e in
+        let bad : pass_is (record { slots = p.slots; labels = p.labels ++ (l, p.slots) ∷ []; unresolved = p.unresolved }) ≡ refused f = rw h at e in
         absurd (cc)
     go (Some t) h =
         let one : refused TwiceLabel ≡ refused f = rw h at e in
         let same : TwiceLabel ≡ f = cc in
-        subst (λ (f : AsmFault). IsWrong earlier (Some (Place_of l)) f) same (t, subst (λ (es : Labels). Contains es (l, t)) labels (there l t p.labels h))
+        subst (λ (f : AsmFault). IsWrong earlier (Some (DefinesLabel l)) f) same (t, subst (λ (es : Labels). Contains es (l, t)) labels (there l t p.labels h))
 
 -- what is wrong with an instruction
-draft_wrong : (n : ℕ) (p : Plan) (l : Line) (f : AsmFault) (P : AsmFault → Type 0) → with_draft n p l ≡ refused f → (fits l ≡ false → P OutOfRange) → (fits l ≡ true → MAX_SLOTS < p.slots + slots l → P TooLong) → P f
-draft_wrong n p l f P e out long = go (fits l) (nat_lt MAX_SLOTS (p.slots + slots l)) refl refl
+unresolved_wrong : (n : ℕ) (p : FirstPassState) (l : ItemValue) (f : AsmFault) (P : AsmFault → Type 0) → with_unresolved n p l ≡ refused f → (fits l ≡ false → P OutOfRange) → (fits l ≡ true → MAX_SLOTS < p.slots + slots l → P TooLong) → P f
+unresolved_wrong n p l f P e out long = go (fits l) (nat_lt MAX_SLOTS (p.slots + slots l)) refl refl
   where
     go : (a b : Bool) → fits l ≡ a → nat_lt MAX_SLOTS (p.slots + slots l) ≡ b → P f
     go false b x y = let one : refused OutOfRange ≡ refused f = rw x at e in let same : OutOfRange ≡ f = cc in subst P same (out x)
     go true true x y = let one : refused TooLong ≡ refused f = rw (x, y) at e in let same : TooLong ≡ f = cc in subst P same (long x (ltb-true _ _ y))
     go true false x y =
-        let bad : plan_is (record { slots = p.slots + slots l; labels = p.labels; drafts = p.drafts ++ record { line = n; slot = p.slots; says = l } ∷ [] }) ≡ refused f = rw (x, y) at e in
+        let bad : pass_is (record { slots = p.slots + slots l; labels = p.labels; unresolved = p.unresolved ++ record { line = n; slot = p.slots; says = l } ∷ [] }) ≡ refused f = rw (x, y) at e in
         absurd (cc)
 
-line_wrong : (n : ℕ) (p : Plan) (before : List (List ℕ)) (earlier : List Line) (l : Line) (f : AsmFault) → Before p n before earlier → with_line n p l ≡ refused f → IsWrong earlier (Some l) f
+line_wrong : (n : ℕ) (p : FirstPassState) (before : List (List ℕ)) (earlier : List ItemValue) (l : ItemValue) (f : AsmFault) → Before p n before earlier → with_line n p l ≡ refused f → IsWrong earlier (Some l) f
 line_wrong n p before earlier Blank f b e = absurd (cc)
-line_wrong n p before earlier (Place_of l) f b e = label_wrong p earlier l f b.labels e
-line_wrong n p before earlier (Says x) f b e = draft_wrong n p (Says x) f (λ f. IsWrong earlier (Some (Says x)) f) e (λ h. h) (λ h long. (h, omega (arith, b.slots)))
-line_wrong n p before earlier (Jumps j t) f b e = draft_wrong n p (Jumps j t) f (λ f. IsWrong earlier (Some (Jumps j t)) f) e (λ h. h) (λ h long. (h, omega (arith, b.slots)))
+line_wrong n p before earlier (DefinesLabel l) f b e = label_wrong p earlier l f b.labels e
+line_wrong n p before earlier (Says x) f b e = unresolved_wrong n p (Says x) f (λ f. IsWrong earlier (Some (Says x)) f) e (λ h. h) (λ h long. (h, omega (arith, b.slots)))
+line_wrong n p before earlier (Jumps j t) f b e = unresolved_wrong n p (Jumps j t) f (λ f. IsWrong earlier (Some (Jumps j t)) f) e (λ h. h) (λ h long. (h, omega (arith, b.slots)))
 
-abbrev planned_is : Plan → Result Plan (AsmFault × ℕ)
-planned_is p = Ok p
+abbrev first_pass_is : FirstPassState → Result FirstPassState (AsmFault × ℕ)
+first_pass_is p = Ok p
 
--- the lines were planned, or the first of them is at fault
-planned_fails : (before : List (List ℕ)) (earlier : List Line) (p : Plan) (n : ℕ) (texts : List (List ℕ)) (f : AsmFault) (m : ℕ) → Before p n before earlier → planned n p texts ≡ fails Plan f m → FailsAt (before ++ texts) f m
-unfolding planned
-planned_fails before earlier p n [] f m b e = absurd (cc)
-planned_fails before earlier p n (text ∷ texts) f m b e = go (read_line text) refl (λ l q more rest. planned_fails (before ++ text ∷ []) (earlier ++ l ∷ []) q (suc n) texts f m more rest)
+-- the lines passed the first pass, or the first of them is at fault
+first_pass_fails : (before : List (List ℕ)) (earlier : List ItemValue) (p : FirstPassState) (n : ℕ) (texts : List (List ℕ)) (f : AsmFault) (m : ℕ) → Before p n before earlier → first_pass n p texts ≡ fails FirstPassState f m → FailsAt (before ++ texts) f m
+unfolding first_pass
+first_pass_fails before earlier p n [] f m b e = absurd (cc)
+first_pass_fails before earlier p n (text ∷ texts) f m b e = go (read_line text) refl (λ l q more rest. first_pass_fails (before ++ text ∷ []) (earlier ++ l ∷ []) q (suc n) texts f m more rest)
   where
-    faulty : (g : AsmFault) → IsWrong earlier (read_line text) g → fails Plan g n ≡ fails Plan f m → FailsAt (before ++ text ∷ texts) f m
+    faulty : (g : AsmFault) → IsWrong earlier (read_line text) g → fails FirstPassState g n ≡ fails FirstPassState f m → FailsAt (before ++ text ∷ texts) f m
     faulty g w e =
-        let both = same_fault Plan g f n m e in
+        let both = same_fault FirstPassState g f n m e in
         record {
           before = before;
           text = text;
@@ -161,64 +161,64 @@ planned_fails before earlier p n (text ∷ texts) f m b e = go (read_line text) 
           wrong = subst (λ (g : AsmFault). IsWrong earlier (read_line text) g) both.0 w;
         }
 
-    go : (r : Option Line) → read_line text ≡ r → ((l : Line) (q : Plan) → Before q (suc n) (before ++ text ∷ []) (earlier ++ l ∷ []) → planned (suc n) q texts ≡ fails Plan f m → FailsAt ((before ++ text ∷ []) ++ texts) f m) → FailsAt (before ++ text ∷ texts) f m
+    go : (r : Option ItemValue) → read_line text ≡ r → ((l : ItemValue) (q : FirstPassState) → Before q (suc n) (before ++ text ∷ []) (earlier ++ l ∷ []) → first_pass (suc n) q texts ≡ fails FirstPassState f m → FailsAt ((before ++ text ∷ []) ++ texts) f m) → FailsAt (before ++ text ∷ texts) f m
     go None h later =
-        let one : fails Plan Syntax n ≡ fails Plan f m = rw h at e in
-        faulty Syntax (subst (λ (r : Option Line). IsWrong earlier r Syntax) (sym h) tt) one
+        let one : fails FirstPassState Syntax n ≡ fails FirstPassState f m = rw h at e in
+        faulty Syntax (subst (λ (r : Option ItemValue). IsWrong earlier r Syntax) (sym h) tt) one
     go (Some l) h later = by (with_line n p l) refl
       where
-        by : (r : Result Plan AsmFault) → with_line n p l ≡ r → FailsAt (before ++ text ∷ texts) f m
+        by : (r : Result FirstPassState AsmFault) → with_line n p l ≡ r → FailsAt (before ++ text ∷ texts) f m
         by (Err g) w =
-            let one : fails Plan g n ≡ fails Plan f m = rw (h, w) at e in
-            faulty g (subst (λ (r : Option Line). IsWrong earlier r g) (sym h) (line_wrong n p before earlier l g b w)) one
+            let one : fails FirstPassState g n ≡ fails FirstPassState f m = rw (h, w) at e in
+            faulty g (subst (λ (r : Option ItemValue). IsWrong earlier r g) (sym h) (line_wrong n p before earlier l g b w)) one
         by (Ok q) w =
-            let rest : planned (suc n) q texts ≡ fails Plan f m = rw (h, w) at e in
+            let rest : first_pass (suc n) q texts ≡ fails FirstPassState f m = rw (h, w) at e in
             subst (λ (texts : List (List ℕ)). FailsAt texts f m) (append_assoc before (text ∷ []) texts) (later l q (one_more n p q before earlier text l b h w) rest)
 
--- the lines that were planned fit
-record Planned (p : Plan) (ls : List Line) : Type 0 where
+-- the lines that passed the first pass fit
+record Planned (p : FirstPassState) (ls : List ItemValue) : Type 0 where
   pub fit : AllByRecursion (λ l. fits l ≡ true) ls
   pub within : p.slots + slots_of ls ≤ MAX_SLOTS
 
-planned_fit : (n : ℕ) (p q : Plan) (texts : List (List ℕ)) (ls : List Line) → map read_line texts ≡ map Some ls → planned n p texts ≡ planned_is q → IsDistinct bytes_eq (names p.labels) → p.slots ≤ MAX_SLOTS → Planned p ls
-unfolding planned
-planned_fit n p q [] [] read e d le = record { fit = tt; within = omega arith }
-planned_fit n p q [] (l ∷ ls) read e d le = absurd (cc)
-planned_fit n p q (text ∷ texts) [] read e d le = absurd (cc)
-planned_fit n p q (text ∷ texts) (l ∷ ls) read e d le =
-    let next = bind_ok (located n (with_text n p text)) _ q e in
+first_pass_fit : (n : ℕ) (p q : FirstPassState) (texts : List (List ℕ)) (ls : List ItemValue) → map read_line texts ≡ map Some ls → first_pass n p texts ≡ first_pass_is q → IsDistinct bytes_eq (names p.labels) → p.slots ≤ MAX_SLOTS → Planned p ls
+unfolding first_pass
+first_pass_fit n p q [] [] read e d le = record { fit = tt; within = omega arith }
+first_pass_fit n p q [] (l ∷ ls) read e d le = absurd (cc)
+first_pass_fit n p q (text ∷ texts) [] read e d le = absurd (cc)
+first_pass_fit n p q (text ∷ texts) (l ∷ ls) read e d le =
+    let next = bind_ok (at_line n (with_text n p text)) _ q e in
     let line = text_was n p next.0 (read_line text) (located_ok n _ next.0 next.1) in
     let first : read_line text ≡ Some l = cc in
     let others : map read_line texts ≡ map Some ls = cc in
     let both : Some line.0 ≡ Some l = sym line.1 ∙ first in
     let same : line.0 ≡ l = cc in
-    let w : with_line n p l ≡ plan_is next.0 = subst (λ (l : Line). with_line n p l ≡ plan_is next.0) same line.2 in
+    let w : with_line n p l ≡ pass_is next.0 = subst (λ (l : ItemValue). with_line n p l ≡ pass_is next.0) same line.2 in
     let added = line_was n p next.0 l w d in
     let room = line_room n p next.0 l w le in
-    let count : p.slots + slots l ≡ next.0.slots = ap (λ (p : Plan). p.slots) added.is in
-    let rest = planned_fit (suc n) next.0 q texts ls others next.2 added.once (omega (arith, count, room.within)) in
+    let count : p.slots + slots l ≡ next.0.slots = ap (λ (p : FirstPassState). p.slots) added.is in
+    let rest = first_pass_fit (suc n) next.0 q texts ls others next.2 added.once (omega (arith, count, room.within)) in
     record { fit = (room.fit, rest.fit); within = omega (arith, count, rest.within) }
 
 -- ---- the second pass
 
-record Lost (labels : Labels) (n s : ℕ) (ls : List Line) (f : AsmFault) (m : ℕ) : Type 0 where
-  pub before : List Line
-  pub line : Line
-  pub behind : List Line
+record Lost (labels : Labels) (n s : ℕ) (ls : List ItemValue) (f : AsmFault) (m : ℕ) : Type 0 where
+  pub before : List ItemValue
+  pub line : ItemValue
+  pub behind : List ItemValue
   pub split : ls ≡ before ++ line ∷ behind
   pub number : m ≡ n + length before
   pub insns : List Insn
   pub said : AreSaid labels s before insns
   pub lost : IsLost labels (s + slots_of before) line f
 
-one_before : (labels : Labels) (n s : ℕ) (l : Line) (ls : List Line) (f : AsmFault) (m : ℕ) (front : List Insn → List Insn) → ((before : List Line) (is : List Insn) → AreSaid labels (s + slots l) before is → AreSaid labels s (l ∷ before) (front is)) → Lost labels (suc n) (s + slots l) ls f m → Lost labels n s (l ∷ ls) f m
+one_before : (labels : Labels) (n s : ℕ) (l : ItemValue) (ls : List ItemValue) (f : AsmFault) (m : ℕ) (front : List Insn → List Insn) → ((before : List ItemValue) (is : List Insn) → AreSaid labels (s + slots l) before is → AreSaid labels s (l ∷ before) (front is)) → Lost labels (suc n) (s + slots l) ls f m → Lost labels n s (l ∷ ls) f m
 one_before labels n s l ls f m front says x =
     let sum : (s + slots l) + slots_of x.before ≡ s + (slots l + slots_of x.before) = omega arith in
     record {
       before = l ∷ x.before;
       line = x.line;
       behind = x.behind;
-      split = ap (λ (ls : List Line). l ∷ ls) x.split;
+      split = ap (λ (ls : List ItemValue). l ∷ ls) x.split;
       number = omega (arith, x.number);
       insns = front x.insns;
       said = says x.before x.insns x.said;
@@ -234,23 +234,23 @@ no_insn f = Err f
 abbrev none : Option Insn
 none = None
 
-ranged_err : (r : Option Insn) (f : AsmFault) → ranged r ≡ no_insn f → (r ≡ None) × (OutOfRange ≡ f)
-ranged_err None f e = let same : OutOfRange ≡ f = cc in (refl, same)
-ranged_err (Some i) f e = absurd (cc)
+in_range_err : (r : Option Insn) (f : AsmFault) → or_out_of_range r ≡ no_insn f → (r ≡ None) × (OutOfRange ≡ f)
+in_range_err None f e = let same : OutOfRange ≡ f = cc in (refl, same)
+in_range_err (Some i) f e = absurd (cc)
 
 not_some : (r : Option Insn) → is_some r ≡ true → r ≡ None → ⊥
 not_some None x e = cc
 not_some (Some i) x e = cc
 
 -- only a jump to a label can fail
-lost_line : (labels : Labels) (s : ℕ) (l : Line) (f : AsmFault) → IsDistinct bytes_eq (names labels) → fits l ≡ true → (l ≡ Blank → ⊥) → ((n : List ℕ) → l ≡ Place_of n → ⊥) → resolved labels s l ≡ no_insn f → IsLost labels s l f
+lost_line : (labels : Labels) (s : ℕ) (l : ItemValue) (f : AsmFault) → IsDistinct bytes_eq (names labels) → fits l ≡ true → (l ≡ Blank → ⊥) → ((n : List ℕ) → l ≡ DefinesLabel n → ⊥) → resolved labels s l ≡ no_insn f → IsLost labels s l f
 lost_line labels s Blank f d fit blank place e = absurd (blank refl)
-lost_line labels s (Place_of n) f d fit blank place e = absurd (place n refl)
-lost_line labels s (Says x) f d fit blank place e = absurd (not_some (insn_of x) fit (ranged_err (insn_of x) f e).0)
-lost_line labels s (Jumps j (Distance n)) f d fit blank place e = absurd (not_some (distant j n) fit (ranged_err (distant j n) f e).0)
+lost_line labels s (DefinesLabel n) f d fit blank place e = absurd (place n refl)
+lost_line labels s (Says x) f d fit blank place e = absurd (not_some (insn_of x) fit (in_range_err (insn_of x) f e).0)
+lost_line labels s (Jumps j (Distance n)) f d fit blank place e = absurd (not_some (distant j n) fit (in_range_err (distant j n) f e).0)
 lost_line labels s (Jumps j (Label l)) f d fit blank place e = go (find l labels) refl e
   where
-    go : (r : Option ℕ) → find l labels ≡ r → either r (λ target. ranged (jump_of j (distance s target))) (Err UnknownLabel) ≡ no_insn f → IsLost labels s (Jumps j (Label l)) f
+    go : (r : Option ℕ) → find l labels ≡ r → either r (λ target. or_out_of_range (jump_of j (distance s target))) (Err UnknownLabel) ≡ no_insn f → IsLost labels s (Jumps j (Label l)) f
     go None h e =
         let same : UnknownLabel ≡ f = cc in
         subst (λ (f : AsmFault). IsLost labels s (Jumps j (Label l)) f) same (λ t c. differs (sym h ∙ found l t labels d c))
@@ -258,15 +258,15 @@ lost_line labels s (Jumps j (Label l)) f d fit blank place e = go (find l labels
         differs : {t : ℕ} → None ≡ Some t → ⊥
         differs e = cc
     go (Some t) h e =
-        let r = ranged_err (jump_of j (distance s t)) f e in
+        let r = in_range_err (jump_of j (distance s t)) f e in
         subst (λ (f : AsmFault). IsLost labels s (Jumps j (Label l)) f) r.1 (t, there l t labels h, λ i is lands. differs (sym r.0 ∙ jump_to s t j i lands is))
       where
         differs : {i : Insn} → None ≡ Some i → ⊥
         differs e = cc
 
 -- a draft has no instruction, or a later one has none
-build_fails : (labels : Labels) (d : Draft) (ds : List Draft) (f : AsmFault) (m : ℕ) → built labels (d ∷ ds) ≡ fails (List Insn) f m → {P : Type 0} → (resolved labels d.slot d.says ≡ no_insn f → m ≡ d.line → P) → ((i : Insn) → resolved labels d.slot d.says ≡ insn_is i → built labels ds ≡ fails (List Insn) f m → P) → P
-unfolding built
+build_fails : (labels : Labels) (d : UnresolvedLine) (ds : List UnresolvedLine) (f : AsmFault) (m : ℕ) → second_pass labels (d ∷ ds) ≡ fails (List Insn) f m → {P : Type 0} → (resolved labels d.slot d.says ≡ no_insn f → m ≡ d.line → P) → ((i : Insn) → resolved labels d.slot d.says ≡ insn_is i → second_pass labels ds ≡ fails (List Insn) f m → P) → P
+unfolding second_pass
 build_fails labels d ds f m e {P} first later = go (resolved labels d.slot d.says) refl
   where
     go : (r : Result Insn AsmFault) → resolved labels d.slot d.says ≡ r → P
@@ -274,15 +274,15 @@ build_fails labels d ds f m e {P} first later = go (resolved labels d.slot d.say
         let one : fails (List Insn) g d.line ≡ fails (List Insn) f m = rw h at e in
         let both = same_fault (List Insn) g f d.line m one in
         first (h ∙ ap no_insn both.0) (sym both.1)
-    go (Ok i) h = by (built labels ds) refl
+    go (Ok i) h = by (second_pass labels ds) refl
       where
-        by : (r : Result (List Insn) (AsmFault × ℕ)) → built labels ds ≡ r → P
+        by : (r : Result (List Insn) (AsmFault × ℕ)) → second_pass labels ds ≡ r → P
         by (Err g) k =
             let one : Err g ≡ fails (List Insn) f m = rw (h, k) at e in
             later i h (k ∙ one)
         by (Ok is) k = let bad : Ok (i ∷ is) ≡ fails (List Insn) f m = rw (h, k) at e in absurd (cc)
 
-here : (labels : Labels) (n s : ℕ) (l : Line) (ls : List Line) (f : AsmFault) (m : ℕ) → m ≡ n → IsLost labels s l f → Lost labels n s (l ∷ ls) f m
+here : (labels : Labels) (n s : ℕ) (l : ItemValue) (ls : List ItemValue) (f : AsmFault) (m : ℕ) → m ≡ n → IsLost labels s l f → Lost labels n s (l ∷ ls) f m
 here labels n s l ls f m e lost = record {
   before = [];
   line = l;
@@ -294,24 +294,24 @@ here labels n s l ls f m e lost = record {
   lost = subst (λ (k : ℕ). IsLost labels k l f) (sym (plus_none s)) lost;
 }
 
-built_fails : (labels : Labels) (n s : ℕ) (ls : List Line) (f : AsmFault) (m : ℕ) → IsDistinct bytes_eq (names labels) → AllByRecursion (λ l. fits l ≡ true) ls → built labels (drafts n s ls) ≡ fails (List Insn) f m → Lost labels n s ls f m
-unfolding built
+built_fails : (labels : Labels) (n s : ℕ) (ls : List ItemValue) (f : AsmFault) (m : ℕ) → IsDistinct bytes_eq (names labels) → AllByRecursion (λ l. fits l ≡ true) ls → second_pass labels (unresolved_lines n s ls) ≡ fails (List Insn) f m → Lost labels n s ls f m
+unfolding second_pass
 built_fails labels n s [] f m d fit e = absurd (cc)
 built_fails labels n s (Blank ∷ ls) f m d fit e = one_before labels n s Blank ls f m (λ is. is) (λ before is h. nothing_less labels s before is h) (built_fails labels (suc n) (s + 0) ls f m d fit.1 e)
-built_fails labels n s (Place_of l ∷ ls) f m d fit e = one_before labels n s (Place_of l) ls f m (λ is. is) (λ before is h. nothing_less labels s before is h) (built_fails labels (suc n) (s + 0) ls f m d fit.1 e)
+built_fails labels n s (DefinesLabel l ∷ ls) f m d fit e = one_before labels n s (DefinesLabel l) ls f m (λ is. is) (λ before is h. nothing_less labels s before is h) (built_fails labels (suc n) (s + 0) ls f m d fit.1 e)
 built_fails labels n s (Says x ∷ ls) f m d fit e =
-    build_fails labels (record { line = n; slot = s; says = Says x }) (drafts (suc n) (s + slots (Says x)) ls) f m e
+    build_fails labels (record { line = n; slot = s; says = Says x }) (unresolved_lines (suc n) (s + slots (Says x)) ls) f m e
     (λ h line. here labels n s (Says x) ls f m line (lost_line labels s (Says x) f d fit.0 (λ e. cc) (λ n e. cc) h))
     (λ i h rest. one_before labels n s (Says x) ls f m (λ is. i ∷ is) (λ before is said. (resolved_was labels s (Says x) i h, said)) (built_fails labels (suc n) (s + slots (Says x)) ls f m d fit.1 rest))
 built_fails labels n s (Jumps j t ∷ ls) f m d fit e =
-    build_fails labels (record { line = n; slot = s; says = Jumps j t }) (drafts (suc n) (s + slots (Jumps j t)) ls) f m e
+    build_fails labels (record { line = n; slot = s; says = Jumps j t }) (unresolved_lines (suc n) (s + slots (Jumps j t)) ls) f m e
     (λ h line. here labels n s (Jumps j t) ls f m line (lost_line labels s (Jumps j t) f d fit.0 (λ e. cc) (λ n e. cc) h))
     (λ i h rest. one_before labels n s (Jumps j t) ls f m (λ is. i ∷ is) (λ before is said. (resolved_was labels s (Jumps j t) i h, said)) (built_fails labels (suc n) (s + slots (Jumps j t)) ls f m d fit.1 rest))
 
 -- ---- both passes
 
 -- where nothing was resolved, or not all
-finish_fails : (text : List ℕ) (ls : List Line) (f : AsmFault) (m : ℕ) → map read_line (lines text) ≡ map Some ls → AreFine ls → finished (after 1 nothing ls) ≡ fails (List Insn) f m → IsFirstFault text f m
+finish_fails : (text : List ℕ) (ls : List ItemValue) (f : AsmFault) (m : ℕ) → map read_line (lines text) ≡ map Some ls → AreFine ls → insns_of (after 1 nothing_read ls) ≡ fails (List Insn) f m → IsFirstFault text f m
 finish_fails text ls f m read fine e = go (nat_eq (0 + slots_of ls) 0) refl
   where
     go : (b : Bool) → nat_eq (0 + slots_of ls) 0 ≡ b → IsFirstFault text f m
@@ -319,20 +319,20 @@ finish_fails text ls f m read fine e = go (nat_eq (0 + slots_of ls) 0) refl
         let one : fails (List Insn) Syntax 1 ≡ fails (List Insn) f m = rw h at e in
         let both = same_fault (List Insn) Syntax f 1 m one in
         let zero_slots = eqb-true _ _ h in
-        subst (λ (f : AsmFault). IsFirstFault text f m) both.0 (subst (λ (m : ℕ). IsFirstFault text Syntax m) both.1 (No_insn (record { says = ls; read = read; fine = fine; none = omega (arith, zero_slots) })))
+        subst (λ (f : AsmFault). IsFirstFault text f m) both.0 (subst (λ (m : ℕ). IsFirstFault text Syntax m) both.1 (NoInsn (record { says = ls; read = read; fine = fine; none = omega (arith, zero_slots) })))
     go false h =
-        let rest : built (definitions 0 ls) (drafts 1 0 ls) ≡ fails (List Insn) f m = rw h at e in
+        let rest : second_pass (definitions 0 ls) (unresolved_lines 1 0 ls) ≡ fails (List Insn) f m = rw h at e in
         lost (built_fails (definitions 0 ls) 1 0 ls f m fine.once fine.fit rest)
       where
         lost : Lost (definitions 0 ls) 1 0 ls f m → IsFirstFault text f m
         lost x =
-            let labels : definitions 0 ls ≡ definitions 0 (x.before ++ x.line ∷ x.behind) = ap (λ (ls : List Line). definitions 0 ls) x.split in
+            let labels : definitions 0 ls ≡ definitions 0 (x.before ++ x.line ∷ x.behind) = ap (λ (ls : List ItemValue). definitions 0 ls) x.split in
             let slot : 0 + slots_of x.before ≡ slots_of x.before = omega arith in
-            At_jump f m (record {
+            AtJump f m (record {
               before = x.before;
               line = x.line;
               behind = x.behind;
-              read = read ∙ ap (λ (ls : List Line). map Some ls) x.split;
+              read = read ∙ ap (λ (ls : List ItemValue). map Some ls) x.split;
               number = omega (arith, x.number);
               fine = subst AreFine x.split fine;
               insns = x.insns;
@@ -340,34 +340,34 @@ finish_fails text ls f m read fine e = go (nat_eq (0 + slots_of ls) 0) refl
               lost = subst (λ (es : Labels). IsLost es (slots_of x.before) x.line f) labels (subst (λ (k : ℕ). IsLost (definitions 0 ls) k x.line f) slot x.lost);
             })
 
-planned_fine : (text : List ℕ) (q : Plan) (ls : List Line) → map read_line (lines text) ≡ map Some ls → planned 1 nothing (lines text) ≡ planned_is q → after 1 nothing ls ≡ q → IsDistinct bytes_eq (names q.labels) → AreFine ls
+first_pass_fine : (text : List ℕ) (q : FirstPassState) (ls : List ItemValue) → map read_line (lines text) ≡ map Some ls → first_pass 1 nothing_read (lines text) ≡ first_pass_is q → after 1 nothing_read ls ≡ q → IsDistinct bytes_eq (names q.labels) → AreFine ls
 unfolding IsDistinct
-planned_fine text q ls read e is once =
-    let fit = planned_fit 1 nothing q (lines text) ls read e tt (omega arith) in
+first_pass_fine text q ls read e is once =
+    let fit = first_pass_fit 1 nothing_read q (lines text) ls read e tt (omega arith) in
     record {
-      once = subst (λ (p : Plan). IsDistinct bytes_eq (names p.labels)) (sym is) once;
+      once = subst (λ (p : FirstPassState). IsDistinct bytes_eq (names p.labels)) (sym is) once;
       fit = fit.fit;
       within = omega (arith, fit.within);
     }
 
-start : Before nothing 1 [] []
+start : Before nothing_read 1 [] []
 unfolding IsDistinct
 start = record { slots = refl; labels = refl; number = refl; read = refl; fine = record { once = tt; fit = tt; within = omega arith } }
 
 insns_fault : (text : List ℕ) (f : AsmFault) (m : ℕ) → read_insns text ≡ fails (List Insn) f m → IsFirstFault text f m
 unfolding IsDistinct
-insns_fault text f m e = go (planned 1 nothing (lines text)) refl
+insns_fault text f m e = go (first_pass 1 nothing_read (lines text)) refl
   where
-    go : (r : Result Plan (AsmFault × ℕ)) → planned 1 nothing (lines text) ≡ r → IsFirstFault text f m
+    go : (r : Result FirstPassState (AsmFault × ℕ)) → first_pass 1 nothing_read (lines text) ≡ r → IsFirstFault text f m
     go (Err (g, k)) h =
         let one : fails (List Insn) g k ≡ fails (List Insn) f m = rw h at e in
         let both = same_fault (List Insn) g f k m one in
-        At_line f m (subst (λ (f : AsmFault). FailsAt (lines text) f m) both.0 (subst (λ (m : ℕ). FailsAt (lines text) g m) both.1 (planned_fails [] [] nothing 1 (lines text) g k start h)))
+        AtLine f m (subst (λ (f : AsmFault). FailsAt (lines text) f m) both.0 (subst (λ (m : ℕ). FailsAt (lines text) g m) both.1 (first_pass_fails [] [] nothing_read 1 (lines text) g k start h)))
     go (Ok q) h =
-        let laid = planned_was 1 nothing q (lines text) h tt in
-        let rest : finished q ≡ fails (List Insn) f m = rw h at e in
-        let fine = planned_fine text q laid.says laid.read h laid.is laid.once in
-        finish_fails text laid.says f m laid.read fine (subst (λ (p : Plan). finished p ≡ fails (List Insn) f m) (sym laid.is) rest)
+        let laid = first_pass_was 1 nothing_read q (lines text) h tt in
+        let rest : insns_of q ≡ fails (List Insn) f m = rw h at e in
+        let fine = first_pass_fine text q laid.says laid.read h laid.is laid.once in
+        finish_fails text laid.says f m laid.read fine (subst (λ (p : FirstPassState). insns_of p ≡ fails (List Insn) f m) (sym laid.is) rest)
 
 -- the fault that reading gives
 pub first_fault : (text : List ℕ) (f : AsmFault) (m : ℕ) → read_text text ≡ Err (f, m) → IsFirstFault text f m

@@ -1,5 +1,5 @@
 -- What the passes give is a program: its instructions fit their fields, and take as many slots as were
--- planned.
+-- passed.
 use Rattle.std.proofs.Common.{◌≡◌, ℕ, zero, suc, ◌+◌, ◌-◌, ◌/◌, ◌%◌, ◌^◌, ◌<◌, ◌≤◌, ℤ, pos, negsuc, neg_ℤ, Bool, true, false, nat_eq, nat_lt, is_some, List, [], ◌∷◌, ◌++◌, length, Option, Some, None, Result, Ok, Err, FitsSigned, refl, ap, subst, arith}
 use Rattle.std.proofs.lemmas.Bool.{ltb-true, ltb-false, lt-ltb, eqb-false}
 use Rattle.std.proofs.lemmas.Int.{ints}
@@ -15,20 +15,20 @@ use Rattle.scx_encoding.specs.Spelling.{IsOperand, IsInsn}
 use Rattle.scx_isa.specs.Spelling.{IsCode, IsProgram}
 use Rattle.scx_isa.specs.declared.program.TheConstants.{MAX_SLOTS}
 use Rattle.scx_text.specs.declared.items.Literal.{Literal}
-use Rattle.scx_text.specs.declared.items.Argument.{Argument}
-use Rattle.scx_text.specs.declared.items.Argument.TheVariants as argument
+use Rattle.scx_text.specs.declared.items.WrittenOperand.{WrittenOperand}
+use Rattle.scx_text.specs.declared.items.WrittenOperand.TheVariants as argument
 use Rattle.scx_text.specs.declared.items.Statement.{Statement}
 use Rattle.scx_text.specs.declared.items.Statement.TheVariants as statement
 use Rattle.scx_text.specs.declared.items.Jump.{Jump}
 use Rattle.scx_text.specs.declared.items.Jump.TheVariants as jump
 use Rattle.scx_text.specs.Options.{either, ◌>>=◌ as ◌>>-◌}
-use Rattle.scx_text.specs.Items.{Label, Distance, Line, Blank, Place_of, Says, Jumps, read_line}
+use Rattle.scx_text.specs.Items.{Label, Distance, ItemValue, Blank, DefinesLabel, Says, Jumps, read_line}
 use Rattle.scx_asm.specs.declared.faults.AsmFault.{AsmFault}
 use Rattle.scx_asm.specs.declared.faults.AsmFault.TheVariants.{Syntax, UnknownLabel, TwiceLabel, OutOfRange, TooLong}
-use Rattle.scx_asm.specs.Resolving.{immediate, short, wide, long, operand_of, insn_of, jump_of, distant, fits, slots, Labels, find, distance, ranged, resolved}
+use Rattle.scx_asm.specs.Resolving.{immediate, short, wide, long, operand_of, insn_of, jump_of, distant, fits, slots, Labels, find, distance, or_out_of_range, resolved}
 use Rattle.scx_semantics.specs.Results.{◌>>=◌}
-use Rattle.scx_asm.specs.Layout.{Draft, Plan, nothing, located, with_label, with_draft, with_line, with_text, planned}
-use Rattle.scx_asm.specs.Reading.{built, finished, read_insns, code_of}
+use Rattle.scx_asm.specs.FirstPass.{UnresolvedLine, FirstPassState, nothing_read, at_line, with_label, with_unresolved, with_line, with_text, first_pass}
+use Rattle.scx_asm.specs.Reading.{second_pass, insns_of, read_insns, code_of}
 
 -- ---- what follows a value
 
@@ -43,14 +43,14 @@ bind_ok (Ok x) f y e = (x, refl, e)
 bind_ok (Err d) f y e = absurd (cc)
 
 -- a result at a line was one
-pub located_ok : {A : Type 0} (n : ℕ) (r : Result A AsmFault) (x : A) → located n r ≡ Ok x → r ≡ Ok x
+pub located_ok : {A : Type 0} (n : ℕ) (r : Result A AsmFault) (x : A) → at_line n r ≡ Ok x → r ≡ Ok x
 located_ok n (Ok y) x e = let same : y ≡ x = cc in ap (λ z. Ok z) same
 located_ok n (Err d) x e = absurd (cc)
 
 -- what is in range was there
-pub ranged_ok : (m : Option Insn) (i : Insn) → ranged m ≡ Ok i → m ≡ Some i
-ranged_ok (Some j) i e = let same : j ≡ i = cc in ap (λ z. Some z) same
-ranged_ok None i e = absurd (cc)
+pub in_range_ok : (m : Option Insn) (i : Insn) → or_out_of_range m ≡ Ok i → m ≡ Some i
+in_range_ok (Some j) i e = let same : j ≡ i = cc in ap (λ z. Some z) same
+in_range_ok None i e = absurd (cc)
 
 abbrev no_number : Option ℤ
 no_number = None
@@ -132,7 +132,7 @@ long_fits n b e = go n.is_negative n.magnitude e
         by true t = let one : Some m ≡ Some b = rw t at e in let same : m ≡ b = cc in omega (arith, ltb-true _ _ t)
         by false t = let bad : no_bits ≡ Some b = rw t at e in absurd (cc)
 
-operand_fits : (x : Argument) (y : Operand) → operand_of x ≡ Some y → IsOperand y
+operand_fits : (x : WrittenOperand) (y : Operand) → operand_of x ≡ Some y → IsOperand y
 operand_fits (argument.Register r) y e = let same : operand.Register r ≡ y = cc in subst IsOperand same tt
 operand_fits (argument.Number n) y e =
     let k = bind_some (immediate n) _ y e in
@@ -150,11 +150,11 @@ insn_fits (statement.Binary w o d x) i e =
     carried 1 _ i y.2 (operand_fits x y.0 y.1) refl
 insn_fits (statement.Negate w d) i e = carried 1 _ i e tt refl
 insn_fits (statement.SignExtend x d r) i e = carried 1 _ i e tt refl
-insn_fits (statement.Reorder o w d) i e = carried 1 _ i e tt refl
-insn_fits (statement.Constant d n) i e =
+insn_fits (statement.ByteSwap o w d) i e = carried 1 _ i e tt refl
+insn_fits (statement.LoadImmediate d n) i e =
     let b = bind_some (long n) _ i e in
     carried 2 _ i b.2 (half_fits (b.0 % 2 ^ 32) (omega arith), half_fits (b.0 / 2 ^ 32) (omega (arith, long_fits n b.0 b.1))) refl
-insn_fits (statement.MapReference d n) i e =
+insn_fits (statement.LoadMapReference d n) i e =
     let k = bind_some (immediate n) _ i e in
     carried 2 _ i k.2 (immediate_fits n k.0 k.1) refl
 insn_fits (statement.Load a d r n) i e =
@@ -184,24 +184,24 @@ jump_fits jump.GotoLong z i e =
     carried 1 _ i o.2 (wide_fits z o.0 o.1) refl
 
 -- a label that is missing gives no instruction
-label_fits : (r : Option ℕ) (slot : ℕ) (j : Jump) (i : Insn) → either r (λ target. ranged (jump_of j (distance slot target))) (Err UnknownLabel) ≡ Ok i → IsInsn i × (size i ≡ 1)
+label_fits : (r : Option ℕ) (slot : ℕ) (j : Jump) (i : Insn) → either r (λ target. or_out_of_range (jump_of j (distance slot target))) (Err UnknownLabel) ≡ Ok i → IsInsn i × (size i ≡ 1)
 label_fits None slot j i e = absurd (cc)
-label_fits (Some target) slot j i e = jump_fits j (distance slot target) i (ranged_ok _ i e)
+label_fits (Some target) slot j i e = jump_fits j (distance slot target) i (in_range_ok _ i e)
 
 -- the instruction of a line fits its fields, and takes its slots
-pub line_fits : (labels : Labels) (slot : ℕ) (l : Line) (i : Insn) → resolved labels slot l ≡ Ok i → IsInsn i × (size i ≡ slots l)
-line_fits labels slot (Says s) i e = insn_fits s i (ranged_ok _ i e)
+pub line_fits : (labels : Labels) (slot : ℕ) (l : ItemValue) (i : Insn) → resolved labels slot l ≡ Ok i → IsInsn i × (size i ≡ slots l)
+line_fits labels slot (Says s) i e = insn_fits s i (in_range_ok _ i e)
 line_fits labels slot (Jumps j (Distance n)) i e =
-    let k = bind_some (immediate n) _ i (ranged_ok (distant j n) i e) in
+    let k = bind_some (immediate n) _ i (in_range_ok (distant j n) i e) in
     jump_fits j k.0 i k.2
 line_fits labels slot (Jumps j (Label l)) i e = label_fits (find l labels) slot j i e
 line_fits labels slot Blank i e = absurd (cc)
-line_fits labels slot (Place_of l) i e = absurd (cc)
+line_fits labels slot (DefinesLabel l) i e = absurd (cc)
 
 -- ---- the second pass
 
--- the slots that drafts take
-abbrev total : List Draft → ℕ
+-- the slots that unresolved lines take
+abbrev total : List UnresolvedLine → ℕ
 total [] = 0
 total (d ∷ ds) = slots d.says + total ds
 
@@ -221,70 +221,70 @@ one_more i is n k h s f = go (is_wide i) refl
         let one : size i ≡ 1 = rw w refl in
         record { insns = (h, f.insns); code = rw (w, w) (h, f.code); length = rw w (omega (arith, f.length, one)) }
 
-built_fits : (labels : Labels) (ds : List Draft) (is : List Insn) → built labels ds ≡ Ok is → Fit is (total ds)
-unfolding built
+built_fits : (labels : Labels) (ds : List UnresolvedLine) (is : List Insn) → second_pass labels ds ≡ Ok is → Fit is (total ds)
+unfolding second_pass
 built_fits labels [] is e = let same : [] ≡ is = cc in subst (λ (is : List Insn). Fit is 0) same (record { insns = tt; code = tt; length = refl })
 built_fits labels (d ∷ ds) is e =
-    let i = bind_ok (located d.line (resolved labels d.slot d.says)) _ is e in
-    let rest = bind_ok (built labels ds) _ is i.2 in
+    let i = bind_ok (at_line d.line (resolved labels d.slot d.says)) _ is e in
+    let rest = bind_ok (second_pass labels ds) _ is i.2 in
     let same : i.0 ∷ rest.0 ≡ is = cc in
     let h = line_fits labels d.slot d.says i.0 (located_ok d.line _ i.0 i.1) in
     subst (λ (is : List Insn). Fit is (slots d.says + total ds)) same (one_more i.0 rest.0 (total ds) (slots d.says) h.0 h.1 (built_fits labels ds rest.0 rest.1))
 
 -- ---- the first pass
 
-record Sound (p : Plan) : Type 0 where
-  pub counted : p.slots ≡ total p.drafts
+record Sound (p : FirstPassState) : Type 0 where
+  pub counted : p.slots ≡ total p.unresolved
   pub within : p.slots ≤ MAX_SLOTS
 
-total_more : (ds : List Draft) (d : Draft) → total (ds ++ d ∷ []) ≡ total ds + slots d.says
+total_more : (ds : List UnresolvedLine) (d : UnresolvedLine) → total (ds ++ d ∷ []) ≡ total ds + slots d.says
 total_more [] d = omega arith
 total_more (x ∷ ds) d = omega (arith, total_more ds d)
 
-abbrev refused : AsmFault → Result Plan AsmFault
+abbrev refused : AsmFault → Result FirstPassState AsmFault
 refused f = Err f
 
-label_sound : (p q : Plan) (l : List ℕ) → with_label p l ≡ Ok q → Sound p → Sound q
+label_sound : (p q : FirstPassState) (l : List ℕ) → with_label p l ≡ Ok q → Sound p → Sound q
 label_sound p q l e h = go (is_some (find l p.labels)) refl
   where
     go : (b : Bool) → is_some (find l p.labels) ≡ b → Sound q
     go true t = let bad : refused TwiceLabel ≡ Ok q = rw t at e in absurd (cc)
     go false t =
-        let more : Plan = record { slots = p.slots; labels = p.labels ++ (l, p.slots) ∷ []; drafts = p.drafts } in
+        let more : FirstPassState = record { slots = p.slots; labels = p.labels ++ (l, p.slots) ∷ []; unresolved = p.unresolved } in
         let one : Ok more ≡ Ok q = rw t at e in
         let same : more ≡ q = cc in
         subst Sound same (record { counted = h.counted; within = h.within })
 
-draft_sound : (n : ℕ) (p q : Plan) (l : Line) → with_draft n p l ≡ Ok q → Sound p → Sound q
-draft_sound n p q l e h = go (fits l) (nat_lt MAX_SLOTS (p.slots + slots l)) refl refl
+unresolved_sound : (n : ℕ) (p q : FirstPassState) (l : ItemValue) → with_unresolved n p l ≡ Ok q → Sound p → Sound q
+unresolved_sound n p q l e h = go (fits l) (nat_lt MAX_SLOTS (p.slots + slots l)) refl refl
   where
     go : (a b : Bool) → fits l ≡ a → nat_lt MAX_SLOTS (p.slots + slots l) ≡ b → Sound q
     go false b x y = let bad : refused OutOfRange ≡ Ok q = rw x at e in absurd (cc)
     go true true x y = let bad : refused TooLong ≡ Ok q = rw (x, y) at e in absurd (cc)
     go true false x y =
-        let d : Draft = record { line = n; slot = p.slots; says = l } in
-        let more : Plan = record { slots = p.slots + slots l; labels = p.labels; drafts = p.drafts ++ d ∷ [] } in
+        let d : UnresolvedLine = record { line = n; slot = p.slots; says = l } in
+        let more : FirstPassState = record { slots = p.slots + slots l; labels = p.labels; unresolved = p.unresolved ++ d ∷ [] } in
         let one : Ok more ≡ Ok q = rw (x, y) at e in
         let same : more ≡ q = cc in
-        let count : p.slots + slots l ≡ total (p.drafts ++ d ∷ []) = omega (arith, h.counted, total_more p.drafts d) in
+        let count : p.slots + slots l ≡ total (p.unresolved ++ d ∷ []) = omega (arith, h.counted, total_more p.unresolved d) in
         subst Sound same (record { counted = count; within = ltb-false _ _ y })
 
-line_sound : (n : ℕ) (p q : Plan) (l : Line) → with_line n p l ≡ Ok q → Sound p → Sound q
+line_sound : (n : ℕ) (p q : FirstPassState) (l : ItemValue) → with_line n p l ≡ Ok q → Sound p → Sound q
 line_sound n p q Blank e h = let same : p ≡ q = cc in subst Sound same h
-line_sound n p q (Place_of l) e h = label_sound p q l e h
-line_sound n p q (Says s) e h = draft_sound n p q (Says s) e h
-line_sound n p q (Jumps j t) e h = draft_sound n p q (Jumps j t) e h
+line_sound n p q (DefinesLabel l) e h = label_sound p q l e h
+line_sound n p q (Says s) e h = unresolved_sound n p q (Says s) e h
+line_sound n p q (Jumps j t) e h = unresolved_sound n p q (Jumps j t) e h
 
-text_sound : (n : ℕ) (p q : Plan) (r : Option Line) → either r (with_line n p) (Err Syntax) ≡ Ok q → Sound p → Sound q
+text_sound : (n : ℕ) (p q : FirstPassState) (r : Option ItemValue) → either r (with_line n p) (Err Syntax) ≡ Ok q → Sound p → Sound q
 text_sound n p q None e h = absurd (cc)
 text_sound n p q (Some l) e h = line_sound n p q l e h
 
-planned_sound : (n : ℕ) (p q : Plan) (texts : List (List ℕ)) → planned n p texts ≡ Ok q → Sound p → Sound q
-unfolding planned
-planned_sound n p q [] e h = let same : p ≡ q = cc in subst Sound same h
-planned_sound n p q (text ∷ texts) e h =
-    let next = bind_ok (located n (with_text n p text)) _ q e in
-    planned_sound (suc n) next.0 q texts next.2 (text_sound n p next.0 (read_line text) (located_ok n _ next.0 next.1) h)
+first_pass_sound : (n : ℕ) (p q : FirstPassState) (texts : List (List ℕ)) → first_pass n p texts ≡ Ok q → Sound p → Sound q
+unfolding first_pass
+first_pass_sound n p q [] e h = let same : p ≡ q = cc in subst Sound same h
+first_pass_sound n p q (text ∷ texts) e h =
+    let next = bind_ok (at_line n (with_text n p text)) _ q e in
+    first_pass_sound (suc n) next.0 q texts next.2 (text_sound n p next.0 (read_line text) (located_ok n _ next.0 next.1) h)
 
 -- ---- both passes
 
@@ -295,13 +295,13 @@ pub record Assembled (is : List Insn) : Type 0 where
 abbrev no_insns : Result (List Insn) (AsmFault × ℕ)
 no_insns = Err (Syntax, 1)
 
-finished_fits : (p : Plan) (is : List Insn) → finished p ≡ Ok is → Sound p → Assembled is
+finished_fits : (p : FirstPassState) (is : List Insn) → insns_of p ≡ Ok is → Sound p → Assembled is
 finished_fits p is e h = go (nat_eq p.slots 0) refl
   where
     go : (b : Bool) → nat_eq p.slots 0 ≡ b → Assembled is
     go true t = let bad : no_insns ≡ Ok is = rw t at e in absurd (cc)
     go false t =
-        let f = built_fits p.labels p.drafts is (rw t at e) in
+        let f = built_fits p.labels p.unresolved is (rw t at e) in
         let nonzero = eqb-false _ _ t in
         record {
           insns = f.insns;
@@ -311,5 +311,5 @@ finished_fits p is e h = go (nat_eq p.slots 0) refl
 -- what is read is the code of a program
 pub assembled : (text : List ℕ) (is : List Insn) → read_insns text ≡ Ok is → Assembled is
 assembled text is e =
-    let p = bind_ok (planned 1 nothing (lines text)) _ is e in
-    finished_fits p.0 is p.2 (planned_sound 1 nothing p.0 (lines text) p.1 (record { counted = refl; within = omega arith }))
+    let p = bind_ok (first_pass 1 nothing_read (lines text)) _ is e in
+    finished_fits p.0 is p.2 (first_pass_sound 1 nothing_read p.0 (lines text) p.1 (record { counted = refl; within = omega arith }))

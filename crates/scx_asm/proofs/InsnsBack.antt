@@ -12,7 +12,7 @@ use Rattle.scx_semantics.specs.declared.instructions.Operand.{Operand}
 use Rattle.scx_semantics.specs.declared.instructions.Operand.TheVariants as operand
 use Rattle.scx_semantics.specs.declared.instructions.Insn.{Insn}
 use Rattle.scx_semantics.specs.declared.instructions.Insn.TheVariants as insn
-use Rattle.scx_semantics.specs.Arithmetic.{constant, extension_width}
+use Rattle.scx_semantics.specs.Arithmetic.{wide_immediate, extension_width}
 use Rattle.scx_encoding.specs.Spelling.{IsOperand, IsInsn}
 use Rattle.scx_text.specs.declared.symbols.Symbol.{Symbol}
 use Rattle.scx_text.specs.declared.symbols.Symbol.TheVariants.{Assign, Compare, Plus, Minus, Star, Opening, Closing}
@@ -20,7 +20,7 @@ use Rattle.scx_semantics.specs.declared.operations.Operation.TheVariants.{Move}
 use Rattle.scx_text.specs.Symbols.{spelled}
 use Rattle.scx_text.specs.Names.{register_text, access_text, stored_access, extension_access, order_text}
 use Rattle.scx_text.specs.Tokens.{Lexeme, Word, Number, Mark, followed_by, tokens_from, tokens}
-use Rattle.scx_text.specs.Canonical.{operand_text, offset_text, distance_text, place_text, insn_text}
+use Rattle.scx_text.specs.Canonical.{operand_text, offset_text, distance_text, memory_operand_text, insn_text}
 use Rattle.scx_asm.proofs.TokensBack.{ends_symbol, ends_word, symbol_read, number_read, name_read, digits_end_symbol, IsName}
 use Rattle.scx_asm.proofs.NamesBack.{name_if, name_goto, name_gotol, name_call, name_exit, name_map, name_ll, name_register, name_access, name_order}
 
@@ -122,14 +122,14 @@ right9 a b c d e f g h k = append_assoc ((((((a ++ b) ++ c) ++ d) ++ e) ++ f) ++
 
 -- ---- memory
 
-abbrev pub place_tokens : List ℕ → Register → ℤ → List Lexeme → List Lexeme
-place_tokens a r o ts = Mark Star ∷ Mark Opening ∷ Word a ∷ Mark Star ∷ Mark Closing ∷ Mark Opening ∷ Word (register_text Bits64 r) ∷ offset_tokens o (Mark Closing ∷ ts)
+abbrev pub memory_operand_tokens : List ℕ → Register → ℤ → List Lexeme → List Lexeme
+memory_operand_tokens a r o ts = Mark Star ∷ Mark Opening ∷ Word a ∷ Mark Star ∷ Mark Closing ∷ Mark Opening ∷ Word (register_text Bits64 r) ∷ offset_tokens o (Mark Closing ∷ ts)
 
-place_grouped : (a r o t : List ℕ) → (codes "*(" ++ a ++ codes " *)(" ++ r ++ codes " " ++ o ++ codes ")") ++ t ≡ spelled Star ++ (spelled Opening ++ (a ++ (32 ∷ (spelled Star ++ (spelled Closing ++ (spelled Opening ++ (r ++ (32 ∷ (o ++ (spelled Closing ++ t))))))))))
-place_grouped a r o t = right8 (codes "*(") a (codes " *)(") r (codes " ") o (codes ")") t
+memory_operand_grouped : (a r o t : List ℕ) → (codes "*(" ++ a ++ codes " *)(" ++ r ++ codes " " ++ o ++ codes ")") ++ t ≡ spelled Star ++ (spelled Opening ++ (a ++ (32 ∷ (spelled Star ++ (spelled Closing ++ (spelled Opening ++ (r ++ (32 ∷ (o ++ (spelled Closing ++ t))))))))))
+memory_operand_grouped a r o t = right8 (codes "*(") a (codes " *)(") r (codes " ") o (codes ")") t
 
-place : (near : Bool) (a : List ℕ) (r : Register) (o : ℤ) (text : List ℕ) (ts : List Lexeme) → IsName a → Small o → ends_symbol text ≡ true → Gives true text ts → Gives near (place_text a r o ++ text) (place_tokens a r o ts)
-place near a r o text ts is fits e h =
+memory_operand : (near : Bool) (a : List ℕ) (r : Register) (o : ℤ) (text : List ℕ) (ts : List Lexeme) → IsName a → Small o → ends_symbol text ≡ true → Gives true text ts → Gives near (memory_operand_text a r o ++ text) (memory_operand_tokens a r o ts)
+memory_operand near a r o text ts is fits e h =
     let closed = mark true Closing text ts e h in
     let shifted = offset false o (spelled Closing ++ text) _ fits refl closed in
     let based = name true (register_text Bits64 r) (32 ∷ (offset_text o ++ (spelled Closing ++ text))) _ (name_register Bits64 r) refl (gap true (offset_text o ++ (spelled Closing ++ text)) _ shifted) in
@@ -138,7 +138,7 @@ place near a r o text ts is fits e h =
     let star = mark false Star (spelled Closing ++ (spelled Opening ++ (register_text Bits64 r ++ (32 ∷ (offset_text o ++ (spelled Closing ++ text)))))) _ refl closing in
     let sized = name true a (32 ∷ (spelled Star ++ (spelled Closing ++ (spelled Opening ++ (register_text Bits64 r ++ (32 ∷ (offset_text o ++ (spelled Closing ++ text)))))))) _ is refl (gap true _ _ star) in
     let inner = mark true Opening (a ++ (32 ∷ (spelled Star ++ (spelled Closing ++ (spelled Opening ++ (register_text Bits64 r ++ (32 ∷ (offset_text o ++ (spelled Closing ++ text))))))))) _ (is.front _) sized in
-    same_text near _ (spelled Star ++ (spelled Opening ++ (a ++ (32 ∷ (spelled Star ++ (spelled Closing ++ (spelled Opening ++ (register_text Bits64 r ++ (32 ∷ (offset_text o ++ (spelled Closing ++ text))))))))))) _ (place_grouped a (register_text Bits64 r) (offset_text o) text)
+    same_text near _ (spelled Star ++ (spelled Opening ++ (a ++ (32 ∷ (spelled Star ++ (spelled Closing ++ (spelled Opening ++ (register_text Bits64 r ++ (32 ∷ (offset_text o ++ (spelled Closing ++ text))))))))))) _ (memory_operand_grouped a (register_text Bits64 r) (offset_text o) text)
     (mark near Star (spelled Opening ++ (a ++ (32 ∷ (spelled Star ++ (spelled Closing ++ (spelled Opening ++ (register_text Bits64 r ++ (32 ∷ (offset_text o ++ (spelled Closing ++ text)))))))))) _ refl inner)
 
 -- ---- whole lines
@@ -158,8 +158,8 @@ by_extension a b c = sym (append-nil _) ∙ right6 a (codes " = (") b (codes ")"
 by_order : (a b c : List ℕ) → a ++ codes " = " ++ b ++ codes " " ++ c ≡ a ++ (32 ∷ (equals ++ (32 ∷ (b ++ (32 ∷ (c ++ []))))))
 by_order a b c = sym (append-nil _) ∙ right6 a (codes " = ") b (codes " ") c []
 
-by_constant : (a b : List ℕ) → a ++ codes " = " ++ b ++ codes " ll" ≡ a ++ (32 ∷ (equals ++ (32 ∷ (b ++ (32 ∷ (codes "ll" ++ []))))))
-by_constant a b = sym (append-nil _) ∙ right5 a (codes " = ") b (codes " ll") []
+by_wide_immediate : (a b : List ℕ) → a ++ codes " = " ++ b ++ codes " ll" ≡ a ++ (32 ∷ (equals ++ (32 ∷ (b ++ (32 ∷ (codes "ll" ++ []))))))
+by_wide_immediate a b = sym (append-nil _) ∙ right5 a (codes " = ") b (codes " ll") []
 
 by_map : (a b : List ℕ) → a ++ codes " = map " ++ b ≡ a ++ (32 ∷ (equals ++ (32 ∷ (codes "map" ++ (32 ∷ (b ++ []))))))
 by_map a b = sym (append-nil _) ∙ right4 a (codes " = map ") b []
@@ -174,12 +174,12 @@ abbrev pub insn_tokens : Insn → List Lexeme
 insn_tokens (insn.Binary w o d x) = Word (register_text w d) ∷ Mark (Assign o) ∷ operand_tokens false w x []
 insn_tokens (insn.Negate w d) = Word (register_text w d) ∷ Mark (Assign Move) ∷ Mark Minus ∷ Word (register_text w d) ∷ []
 insn_tokens (insn.SignExtend e d r) = Word (register_text (extension_width e) d) ∷ Mark (Assign Move) ∷ Mark Opening ∷ Word (access_text (extension_access e)) ∷ Mark Closing ∷ Word (register_text (extension_width e) r) ∷ []
-insn_tokens (insn.Reorder o w d) = Word (register_text Bits64 d) ∷ Mark (Assign Move) ∷ Word (order_text (o, w)) ∷ Word (register_text Bits64 d) ∷ []
-insn_tokens (insn.Constant d low high) = Word (register_text Bits64 d) ∷ Mark (Assign Move) ∷ Number false (Some (constant low high)) ∷ Word (codes "ll") ∷ []
-insn_tokens (insn.MapReference d k) = Word (register_text Bits64 d) ∷ Mark (Assign Move) ∷ Word (codes "map") ∷ signed_tokens false k []
-insn_tokens (insn.Load a d r o) = Word (register_text Bits64 d) ∷ Mark (Assign Move) ∷ place_tokens (access_text a) r o []
-insn_tokens (insn.Store s r o x) = place_tokens (access_text (stored_access s)) r o (Mark (Assign Move) ∷ operand_tokens false Bits64 x [])
-insn_tokens (insn.JumpIf w c r o x) = Word (codes "if") ∷ Word (register_text w r) ∷ Mark (Compare c) ∷ operand_tokens false w x (Word (codes "goto") ∷ distance_tokens o [])
+insn_tokens (insn.ByteSwap o w d) = Word (register_text Bits64 d) ∷ Mark (Assign Move) ∷ Word (order_text (o, w)) ∷ Word (register_text Bits64 d) ∷ []
+insn_tokens (insn.LoadImmediate d low high) = Word (register_text Bits64 d) ∷ Mark (Assign Move) ∷ Number false (Some (wide_immediate low high)) ∷ Word (codes "ll") ∷ []
+insn_tokens (insn.LoadMapReference d k) = Word (register_text Bits64 d) ∷ Mark (Assign Move) ∷ Word (codes "map") ∷ signed_tokens false k []
+insn_tokens (insn.Load a d r o) = Word (register_text Bits64 d) ∷ Mark (Assign Move) ∷ memory_operand_tokens (access_text a) r o []
+insn_tokens (insn.Store s r o x) = memory_operand_tokens (access_text (stored_access s)) r o (Mark (Assign Move) ∷ operand_tokens false Bits64 x [])
+insn_tokens (insn.JumpIf w c r x o) = Word (codes "if") ∷ Word (register_text w r) ∷ Mark (Compare c) ∷ operand_tokens false w x (Word (codes "goto") ∷ distance_tokens o [])
 insn_tokens (insn.Goto o) = Word (codes "goto") ∷ distance_tokens o []
 insn_tokens (insn.GotoLong o) = Word (codes "gotol") ∷ distance_tokens o []
 insn_tokens (insn.Call k) = Word (codes "call") ∷ signed_tokens false k []
@@ -193,8 +193,8 @@ half_small : (z : ℤ) → FitsSigned w32 z → cast_unsigned w32 z < 2 ^ 32
 half_small z f = (Fits-of_z {w = w32} {z = z} f).fits
 
 -- a constant has 64 bits
-pub constant_small : (low high : ℤ) → FitsSigned w32 low → FitsSigned w32 high → constant low high < 2 ^ 64
-constant_small low high f g = omega (arith, half_small low f, half_small high g)
+pub wide_immediate_small : (low high : ℤ) → FitsSigned w32 low → FitsSigned w32 high → wide_immediate low high < 2 ^ 64
+wide_immediate_small low high f g = omega (arith, half_small low f, half_small high g)
 
 -- from left to right
 pub insn_gives : (i : Insn) → IsInsn i → Gives false (insn_text i) (insn_tokens i)
@@ -206,18 +206,18 @@ insn_gives (insn.SignExtend e d r) h = same_text false _ _ _ (by_extension (regi
     (assigned (extension_width e) d _ _ (mark false Opening (access_text (extension_access e) ++ (spelled Closing ++ (register_text (extension_width e) r ++ []))) _ ((name_access (extension_access e)).front _)
     (name true (access_text (extension_access e)) (spelled Closing ++ (register_text (extension_width e) r ++ [])) _ (name_access (extension_access e)) refl
     (mark true Closing (register_text (extension_width e) r ++ []) _ ((name_register (extension_width e) r).front []) (name true (register_text (extension_width e) r) [] [] (name_register (extension_width e) r) refl (nothing true))))))
-insn_gives (insn.Reorder o w d) h = same_text false _ _ _ (by_order (register_text Bits64 d) (order_text (o, w)) (register_text Bits64 d))
+insn_gives (insn.ByteSwap o w d) h = same_text false _ _ _ (by_order (register_text Bits64 d) (order_text (o, w)) (register_text Bits64 d))
     (assigned Bits64 d _ _ (name false (order_text (o, w)) (32 ∷ (register_text Bits64 d ++ [])) _ (name_order o w) refl (gap true _ _ (name false (register_text Bits64 d) [] [] (name_register Bits64 d) refl (nothing true)))))
-insn_gives (insn.Constant d low high) h = same_text false _ _ _ (by_constant (register_text Bits64 d) (decimal (constant low high)))
-    (assigned Bits64 d _ _ (digits false (constant low high) (32 ∷ (codes "ll" ++ [])) _ (constant_small low high h.0 h.1) refl (gap true _ _ (name false (codes "ll") [] [] name_ll refl (nothing true)))))
-insn_gives (insn.MapReference d k) h = same_text false _ _ _ (by_map (register_text Bits64 d) (signed_decimal k))
+insn_gives (insn.LoadImmediate d low high) h = same_text false _ _ _ (by_wide_immediate (register_text Bits64 d) (decimal (wide_immediate low high)))
+    (assigned Bits64 d _ _ (digits false (wide_immediate low high) (32 ∷ (codes "ll" ++ [])) _ (wide_immediate_small low high h.0 h.1) refl (gap true _ _ (name false (codes "ll") [] [] name_ll refl (nothing true)))))
+insn_gives (insn.LoadMapReference d k) h = same_text false _ _ _ (by_map (register_text Bits64 d) (signed_decimal k))
     (assigned Bits64 d _ _ (name false (codes "map") (32 ∷ (signed_decimal k ++ [])) _ name_map refl (gap true _ _ (signed false k [] [] (small32 k h) refl (nothing true)))))
-insn_gives (insn.Load a d r o) h = same_text false _ _ _ (by_equals (register_text Bits64 d) (place_text (access_text a) r o))
-    (assigned Bits64 d _ _ (place false (access_text a) r o [] [] (name_access a) (small16 o h) refl (nothing true)))
-insn_gives (insn.Store s r o x) h = same_text false _ _ _ (by_equals (place_text (access_text (stored_access s)) r o) (operand_text Bits64 x))
-    (place false (access_text (stored_access s)) r o (32 ∷ (equals ++ (32 ∷ (operand_text Bits64 x ++ [])))) _ (name_access (stored_access s)) (small16 o h.0) refl
+insn_gives (insn.Load a d r o) h = same_text false _ _ _ (by_equals (register_text Bits64 d) (memory_operand_text (access_text a) r o))
+    (assigned Bits64 d _ _ (memory_operand false (access_text a) r o [] [] (name_access a) (small16 o h) refl (nothing true)))
+insn_gives (insn.Store s r o x) h = same_text false _ _ _ (by_equals (memory_operand_text (access_text (stored_access s)) r o) (operand_text Bits64 x))
+    (memory_operand false (access_text (stored_access s)) r o (32 ∷ (equals ++ (32 ∷ (operand_text Bits64 x ++ [])))) _ (name_access (stored_access s)) (small16 o h.0) refl
     (gap true _ _ (mark false (Assign Move) (32 ∷ (operand_text Bits64 x ++ [])) _ refl (gap true _ _ (given false Bits64 x [] [] h.1 refl (nothing true))))))
-insn_gives (insn.JumpIf w c r o x) h = same_text false _ _ _ (by_condition (register_text w r) (spelled (Compare c)) (operand_text w x) (distance_text o))
+insn_gives (insn.JumpIf w c r x o) h = same_text false _ _ _ (by_condition (register_text w r) (spelled (Compare c)) (operand_text w x) (distance_text o))
     (name false (codes "if") _ _ name_if refl (gap true _ _ (name false (register_text w r) _ _ (name_register w r) refl
     (gap true _ _ (mark false (Compare c) (32 ∷ (operand_text w x ++ (32 ∷ (codes "goto" ++ (32 ∷ (distance_text o ++ [])))))) _ refl
     (gap true _ _ (given false w x (32 ∷ (codes "goto" ++ (32 ∷ (distance_text o ++ [])))) _ h.1 refl (gap true _ _ (name false (codes "goto") (32 ∷ (distance_text o ++ [])) _ name_goto refl (gap true _ _ (distance false o (small16 o h.0))))))))))))

@@ -9,10 +9,10 @@ use Rattle.scx_semantics.specs.declared.operations.Extension.TheVariants.{Low8To
 use Rattle.scx_semantics.specs.declared.operations.Size.{Size}
 use Rattle.scx_semantics.specs.declared.operations.Size.TheVariants as size
 use Rattle.scx_semantics.specs.declared.operations.Access.{Access}
-use Rattle.scx_semantics.specs.declared.operations.Order.{Order}
-use Rattle.scx_semantics.specs.declared.operations.Order.TheVariants.{Little, Big, Swapped}
-use Rattle.scx_semantics.specs.declared.operations.OrderWidth.{OrderWidth}
-use Rattle.scx_semantics.specs.declared.operations.OrderWidth.TheVariants as order
+use Rattle.scx_semantics.specs.declared.operations.ByteOrder.{ByteOrder}
+use Rattle.scx_semantics.specs.declared.operations.ByteOrder.TheVariants.{Little, Big, Swapped}
+use Rattle.scx_semantics.specs.declared.operations.SwapWidth.{SwapWidth}
+use Rattle.scx_semantics.specs.declared.operations.SwapWidth.TheVariants as order
 use Rattle.scx_encoding.specs.Spelling.{IsInsn}
 use Rattle.scx_text.specs.Canonical.{insn_text}
 use Rattle.scx_semantics.specs.declared.registers.Register.{Register}
@@ -24,16 +24,16 @@ use Rattle.scx_semantics.specs.declared.instructions.Insn.TheVariants as insn
 use Rattle.scx_semantics.specs.Arithmetic as arithmetic
 use Rattle.scx_semantics.specs.Arithmetic.{extension_width}
 use Rattle.scx_text.specs.declared.items.Literal.{Literal}
-use Rattle.scx_text.specs.declared.items.Argument.{Argument}
-use Rattle.scx_text.specs.declared.items.Argument.TheVariants as argument
+use Rattle.scx_text.specs.declared.items.WrittenOperand.{WrittenOperand}
+use Rattle.scx_text.specs.declared.items.WrittenOperand.TheVariants as argument
 use Rattle.scx_text.specs.declared.items.Statement.TheVariants as statement
 use Rattle.scx_text.specs.declared.items.Jump.TheVariants as jump
 use Rattle.scx_text.specs.declared.symbols.Symbol.TheVariants.{Assign, Minus, Star, Opening, Closing}
 use Rattle.scx_text.specs.Names.{named, register_text, register_in, access_text, stored_access, stored_size, extension_of, extension_access, order_text}
 use Rattle.scx_text.specs.Tokens.{Lexeme, Word, Number, Mark}
-use Rattle.scx_text.specs.Items.{Distance, Line, Says, Jumps, written, read_literal, read_offset, read_destination, read_argument, read_place, same, assigned, item_of, read_line}
+use Rattle.scx_text.specs.Items.{Distance, ItemValue, Says, Jumps, written, read_literal, read_offset, read_destination, read_operand, read_memory_operand, same, assigned, item_of, read_line}
 use Rattle.scx_asm.proofs.NamesBack.{register_again, access_again}
-use Rattle.scx_asm.proofs.InsnsBack.{signed_tokens, distance_tokens, offset_tokens, operand_tokens, place_tokens, insn_tokens, insn_read}
+use Rattle.scx_asm.proofs.InsnsBack.{signed_tokens, distance_tokens, offset_tokens, operand_tokens, memory_operand_tokens, insn_tokens, insn_read}
 
 -- ---- the instruction, as a line says it
 
@@ -41,20 +41,20 @@ abbrev pub literal_as : ℤ → Literal
 literal_as (pos n) = written false (Some n)
 literal_as (negsuc n) = written true (Some (suc n))
 
-abbrev pub argument_as : Operand → Argument
+abbrev pub argument_as : Operand → WrittenOperand
 argument_as (operand.Immediate k) = argument.Number (literal_as k)
 argument_as (operand.Register r) = argument.Register r
 
-abbrev pub line_as : Insn → Line
+abbrev pub line_as : Insn → ItemValue
 line_as (insn.Binary w o d x) = Says (statement.Binary w o d (argument_as x))
 line_as (insn.Negate w d) = Says (statement.Negate w d)
 line_as (insn.SignExtend e d r) = Says (statement.SignExtend e d r)
-line_as (insn.Reorder o w d) = Says (statement.Reorder o w d)
-line_as (insn.Constant d low high) = Says (statement.Constant d (written false (Some (arithmetic.constant low high))))
-line_as (insn.MapReference d k) = Says (statement.MapReference d (literal_as k))
+line_as (insn.ByteSwap o w d) = Says (statement.ByteSwap o w d)
+line_as (insn.LoadImmediate d low high) = Says (statement.LoadImmediate d (written false (Some (arithmetic.wide_immediate low high))))
+line_as (insn.LoadMapReference d k) = Says (statement.LoadMapReference d (literal_as k))
 line_as (insn.Load a d r o) = Says (statement.Load a d r (literal_as o))
 line_as (insn.Store s r o x) = Says (statement.Store s r (literal_as o) (argument_as x))
-line_as (insn.JumpIf w c r o x) = Jumps (jump.If w c r (argument_as x)) (Distance (literal_as o))
+line_as (insn.JumpIf w c r x o) = Jumps (jump.If w c r (argument_as x)) (Distance (literal_as o))
 line_as (insn.Goto o) = Jumps jump.Goto (Distance (literal_as o))
 line_as (insn.GotoLong o) = Jumps jump.GotoLong (Distance (literal_as o))
 line_as (insn.Call k) = Says (statement.Call (literal_as k))
@@ -78,14 +78,14 @@ in_width : (w : Width) (r : Register) → register_in w (register_text w r) ≡ 
 in_width Bits32 r = rw (register_again Bits32 r) refl
 in_width Bits64 r = rw (register_again Bits64 r) refl
 
-argument_read : (w : Width) (x : Operand) (ts : List Lexeme) → read_argument w (operand_tokens false w x ts) ≡ Some (argument_as x, ts)
+argument_read : (w : Width) (x : Operand) (ts : List Lexeme) → read_operand w (operand_tokens false w x ts) ≡ Some (argument_as x, ts)
 argument_read w (operand.Immediate (pos n)) ts = refl
 argument_read w (operand.Immediate (negsuc n)) ts = refl
 argument_read w (operand.Register r) ts = rw (in_width w r) refl
 
-place_read : (a : Access) (r : Register) (o : ℤ) (rest : List Lexeme) → read_place (Mark Opening ∷ Word (access_text a) ∷ Mark Star ∷ Mark Closing ∷ Mark Opening ∷ Word (register_text Bits64 r) ∷ offset_tokens o (Mark Closing ∷ rest))
+memory_operand_read : (a : Access) (r : Register) (o : ℤ) (rest : List Lexeme) → read_memory_operand (Mark Opening ∷ Word (access_text a) ∷ Mark Star ∷ Mark Closing ∷ Mark Opening ∷ Word (register_text Bits64 r) ∷ offset_tokens o (Mark Closing ∷ rest))
     ≡ Some (record { access = a; base = r; offset = literal_as o }, rest)
-place_read a r o rest = rw (access_again a, in_width Bits64 r, offset_read o (Mark Closing ∷ rest)) refl
+memory_operand_read a r o rest = rw (access_again a, in_width Bits64 r, offset_read o (Mark Closing ∷ rest)) refl
 
 same_is : (r : Register) → same r r ≡ true
 same_is R0 = refl
@@ -139,19 +139,19 @@ operated_read Bits64 Move d (operand.Immediate (pos n)) = refl
 operated_read Bits32 Move d (operand.Immediate (negsuc n)) = refl
 operated_read Bits64 Move d (operand.Immediate (negsuc n)) = refl
 
-reordered_read : (o : Order) (w : OrderWidth) (d : Register) → assigned Bits64 d (Mark (Assign Move) ∷ Word (order_text (o, w)) ∷ Word (register_text Bits64 d) ∷ []) ≡ Some (Says (statement.Reorder o w d))
+byte_swapped_read : (o : ByteOrder) (w : SwapWidth) (d : Register) → assigned Bits64 d (Mark (Assign Move) ∷ Word (order_text (o, w)) ∷ Word (register_text Bits64 d) ∷ []) ≡ Some (Says (statement.ByteSwap o w d))
 unfolding named
-reordered_read Little order.Bits16 d = rw (in_width Bits64 d, same_is d) refl
-reordered_read Little order.Bits32 d = rw (in_width Bits64 d, same_is d) refl
-reordered_read Little order.Bits64 d = rw (in_width Bits64 d, same_is d) refl
-reordered_read Big order.Bits16 d = rw (in_width Bits64 d, same_is d) refl
-reordered_read Big order.Bits32 d = rw (in_width Bits64 d, same_is d) refl
-reordered_read Big order.Bits64 d = rw (in_width Bits64 d, same_is d) refl
-reordered_read Swapped order.Bits16 d = rw (in_width Bits64 d, same_is d) refl
-reordered_read Swapped order.Bits32 d = rw (in_width Bits64 d, same_is d) refl
-reordered_read Swapped order.Bits64 d = rw (in_width Bits64 d, same_is d) refl
+byte_swapped_read Little order.Bits16 d = rw (in_width Bits64 d, same_is d) refl
+byte_swapped_read Little order.Bits32 d = rw (in_width Bits64 d, same_is d) refl
+byte_swapped_read Little order.Bits64 d = rw (in_width Bits64 d, same_is d) refl
+byte_swapped_read Big order.Bits16 d = rw (in_width Bits64 d, same_is d) refl
+byte_swapped_read Big order.Bits32 d = rw (in_width Bits64 d, same_is d) refl
+byte_swapped_read Big order.Bits64 d = rw (in_width Bits64 d, same_is d) refl
+byte_swapped_read Swapped order.Bits16 d = rw (in_width Bits64 d, same_is d) refl
+byte_swapped_read Swapped order.Bits32 d = rw (in_width Bits64 d, same_is d) refl
+byte_swapped_read Swapped order.Bits64 d = rw (in_width Bits64 d, same_is d) refl
 
-mapped_read : (d : Register) (k : ℤ) → assigned Bits64 d (Mark (Assign Move) ∷ Word (codes "map") ∷ signed_tokens false k []) ≡ Some (Says (statement.MapReference d (literal_as k)))
+mapped_read : (d : Register) (k : ℤ) → assigned Bits64 d (Mark (Assign Move) ∷ Word (codes "map") ∷ signed_tokens false k []) ≡ Some (Says (statement.LoadMapReference d (literal_as k)))
 mapped_read d (pos n) = refl
 mapped_read d (negsuc n) = refl
 
@@ -160,12 +160,12 @@ pub insn_said : (i : Insn) → item_of (insn_tokens i) ≡ Some (line_as i)
 insn_said (insn.Binary w o d x) = begun w d o (operand_tokens false w x []) ∙ operated_read w o d x
 insn_said (insn.Negate w d) = begun w d Move (Mark Minus ∷ Word (register_text w d) ∷ []) ∙ rw (in_width w d, same_is d) refl
 insn_said (insn.SignExtend e d r) = begun (extension_width e) d Move (Mark Opening ∷ Word (access_text (extension_access e)) ∷ Mark Closing ∷ Word (register_text (extension_width e) r) ∷ []) ∙ rw (access_again (extension_access e), extension_again e, in_width (extension_width e) r) refl
-insn_said (insn.Reorder o w d) = begun Bits64 d Move (Word (order_text (o, w)) ∷ Word (register_text Bits64 d) ∷ []) ∙ reordered_read o w d
-insn_said (insn.Constant d low high) = begun Bits64 d Move (Number false (Some (arithmetic.constant low high)) ∷ Word (codes "ll") ∷ [])
-insn_said (insn.MapReference d k) = begun Bits64 d Move (Word (codes "map") ∷ signed_tokens false k []) ∙ mapped_read d k
-insn_said (insn.Load a d r o) = begun Bits64 d Move (place_tokens (access_text a) r o []) ∙ rw (place_read a r o []) refl
-insn_said (insn.Store s r o x) = rw (place_read (stored_access s) r o (Mark (Assign Move) ∷ operand_tokens false Bits64 x []), size_again s, argument_read Bits64 x []) refl
-insn_said (insn.JumpIf w c r o x) = rw (register_again w r, argument_read w x (Word (codes "goto") ∷ distance_tokens o []), destination_read o []) refl
+insn_said (insn.ByteSwap o w d) = begun Bits64 d Move (Word (order_text (o, w)) ∷ Word (register_text Bits64 d) ∷ []) ∙ byte_swapped_read o w d
+insn_said (insn.LoadImmediate d low high) = begun Bits64 d Move (Number false (Some (arithmetic.wide_immediate low high)) ∷ Word (codes "ll") ∷ [])
+insn_said (insn.LoadMapReference d k) = begun Bits64 d Move (Word (codes "map") ∷ signed_tokens false k []) ∙ mapped_read d k
+insn_said (insn.Load a d r o) = begun Bits64 d Move (memory_operand_tokens (access_text a) r o []) ∙ rw (memory_operand_read a r o []) refl
+insn_said (insn.Store s r o x) = rw (memory_operand_read (stored_access s) r o (Mark (Assign Move) ∷ operand_tokens false Bits64 x []), size_again s, argument_read Bits64 x []) refl
+insn_said (insn.JumpIf w c r x o) = rw (register_again w r, argument_read w x (Word (codes "goto") ∷ distance_tokens o []), destination_read o []) refl
 insn_said (insn.Goto (pos n)) = refl
 insn_said (insn.Goto (negsuc n)) = refl
 insn_said (insn.GotoLong (pos n)) = refl

@@ -1,6 +1,6 @@
 pub mod Tables
-pub mod Planning
-pub mod Building
+pub mod FirstPasses
+pub mod SecondPasses
 pub mod Fitting
 pub mod Written
 pub mod Printed

@@ -10,13 +10,13 @@ use Rattle.std.specs.Str.Parse.{AllDigits}
 use Rattle.scx_semantics.specs.declared.operations.Width.{Width}
 use Rattle.scx_semantics.specs.declared.operations.Width.TheVariants.{Bits32, Bits64}
 use Rattle.scx_semantics.specs.declared.operations.Operation.TheVariants.{Add, Subtract, Multiply, Divide, SignedDivide, Or, And, Xor, ShiftLeft, ShiftRight, ShiftRightSigned, Modulo, SignedModulo, Move}
-use Rattle.scx_semantics.specs.declared.operations.Comparison.TheVariants.{Equal, Greater, GreaterOrEqual, AnyBit, NotEqual, SignedGreater, SignedGreaterOrEqual, Less, LessOrEqual, SignedLess, SignedLessOrEqual}
+use Rattle.scx_semantics.specs.declared.operations.Comparison.TheVariants.{Equal, Greater, GreaterOrEqual, BitTest, NotEqual, SignedGreater, SignedGreaterOrEqual, Less, LessOrEqual, SignedLess, SignedLessOrEqual}
 use Rattle.scx_semantics.specs.declared.operations.Access.{Access}
 use Rattle.scx_semantics.specs.declared.operations.Access.TheVariants as access
-use Rattle.scx_semantics.specs.declared.operations.Order.{Order}
-use Rattle.scx_semantics.specs.declared.operations.Order.TheVariants.{Little, Big, Swapped}
-use Rattle.scx_semantics.specs.declared.operations.OrderWidth.{OrderWidth}
-use Rattle.scx_semantics.specs.declared.operations.OrderWidth.TheVariants as order
+use Rattle.scx_semantics.specs.declared.operations.ByteOrder.{ByteOrder}
+use Rattle.scx_semantics.specs.declared.operations.ByteOrder.TheVariants.{Little, Big, Swapped}
+use Rattle.scx_semantics.specs.declared.operations.SwapWidth.{SwapWidth}
+use Rattle.scx_semantics.specs.declared.operations.SwapWidth.TheVariants as order
 use Rattle.scx_semantics.specs.declared.registers.Register.{Register}
 use Rattle.scx_semantics.specs.declared.registers.Register.TheVariants.{R0, R1, R2, R3, R4, R5, R6, R7, R8, R9, R10}
 use Rattle.scx_semantics.specs.Registers.{number}
@@ -31,9 +31,9 @@ use Rattle.scx_text.specs.declared.symbols.Symbol.{Symbol}
 use Rattle.scx_text.specs.declared.symbols.Symbol.TheVariants.{Assign, Compare, Plus, Minus, Star, Opening, Closing, Colon}
 use Rattle.scx_text.specs.Symbols.{spelled}
 use Rattle.scx_text.specs.Names.{width_text, register_text, access_text, stored_access, extension_access, order_text}
-use Rattle.scx_text.specs.Canonical.{operand_text, offset_text, distance_text, place_text, insn_text}
+use Rattle.scx_text.specs.Canonical.{operand_text, offset_text, distance_text, memory_operand_text, insn_text}
 use Rattle.scx_asm.proofs.TokensBack.{and_true}
-use Rattle.scx_asm.proofs.InsnsBack.{Small, small32, small16, constant_small}
+use Rattle.scx_asm.proofs.InsnsBack.{Small, small32, small16, wide_immediate_small}
 
 -- the bytes are above those that end lines
 abbrev pub plain : List ℕ → Bool
@@ -111,7 +111,7 @@ plain_spelled (Assign Move) = refl
 plain_spelled (Compare Equal) = refl
 plain_spelled (Compare Greater) = refl
 plain_spelled (Compare GreaterOrEqual) = refl
-plain_spelled (Compare AnyBit) = refl
+plain_spelled (Compare BitTest) = refl
 plain_spelled (Compare NotEqual) = refl
 plain_spelled (Compare SignedGreater) = refl
 plain_spelled (Compare SignedGreaterOrEqual) = refl
@@ -135,7 +135,7 @@ plain_access access.SignedByte = refl
 plain_access access.SignedHalfWord = refl
 plain_access access.SignedWord = refl
 
-plain_order : (o : Order) (w : OrderWidth) → plain (order_text (o, w)) ≡ true
+plain_order : (o : ByteOrder) (w : SwapWidth) → plain (order_text (o, w)) ≡ true
 plain_order Little order.Bits16 = refl
 plain_order Little order.Bits32 = refl
 plain_order Little order.Bits64 = refl
@@ -155,8 +155,8 @@ both4 a b c d x y z u = both (a ++ b ++ c) d (both3 a b c x y z) u
 both5 : (a b c d e : List ℕ) → plain a ≡ true → plain b ≡ true → plain c ≡ true → plain d ≡ true → plain e ≡ true → plain (a ++ b ++ c ++ d ++ e) ≡ true
 both5 a b c d e x y z u v = both (a ++ b ++ c ++ d) e (both4 a b c d x y z u) v
 
-plain_place : (a : List ℕ) (r : Register) (o : ℤ) → plain a ≡ true → Small o → plain (place_text a r o) ≡ true
-plain_place a r o x h =
+plain_memory_operand : (a : List ℕ) (r : Register) (o : ℤ) → plain a ≡ true → Small o → plain (memory_operand_text a r o) ≡ true
+plain_memory_operand a r o x h =
     both3 (codes "*(" ++ a ++ codes " *)(" ++ register_text Bits64 r ++ codes " ") (offset_text o) (codes ")")
     (both5 (codes "*(") a (codes " *)(") (register_text Bits64 r) (codes " ") refl x refl (plain_register Bits64 r) refl) (plain_offset o h) refl
 
@@ -165,12 +165,12 @@ pub plain_insn : (i : Insn) → IsInsn i → plain (insn_text i) ≡ true
 plain_insn (insn.Binary w o d x) h = both5 (register_text w d) (codes " ") (spelled (Assign o)) (codes " ") (operand_text w x) (plain_register w d) refl (plain_spelled (Assign o)) refl (plain_operand w x h)
 plain_insn (insn.Negate w d) h = both3 (register_text w d) (codes " = -") (register_text w d) (plain_register w d) refl (plain_register w d)
 plain_insn (insn.SignExtend e d r) h = both5 (register_text (extension_width e) d) (codes " = (") (access_text (extension_access e)) (codes ")") (register_text (extension_width e) r) (plain_register (extension_width e) d) refl (plain_access (extension_access e)) refl (plain_register (extension_width e) r)
-plain_insn (insn.Reorder o w d) h = both5 (register_text Bits64 d) (codes " = ") (order_text (o, w)) (codes " ") (register_text Bits64 d) (plain_register Bits64 d) refl (plain_order o w) refl (plain_register Bits64 d)
-plain_insn (insn.Constant d low high) h = both4 (register_text Bits64 d) (codes " = ") (decimal (arithmetic.constant low high)) (codes " ll") (plain_register Bits64 d) refl (plain_decimal (arithmetic.constant low high) (constant_small low high h.0 h.1)) refl
-plain_insn (insn.MapReference d k) h = both3 (register_text Bits64 d) (codes " = map ") (signed_decimal k) (plain_register Bits64 d) refl (plain_signed k (small32 k h))
-plain_insn (insn.Load a d r o) h = both3 (register_text Bits64 d) (codes " = ") (place_text (access_text a) r o) (plain_register Bits64 d) refl (plain_place (access_text a) r o (plain_access a) (small16 o h))
-plain_insn (insn.Store s r o x) h = both3 (place_text (access_text (stored_access s)) r o) (codes " = ") (operand_text Bits64 x) (plain_place (access_text (stored_access s)) r o (plain_access (stored_access s)) (small16 o h.0)) refl (plain_operand Bits64 x h.1)
-plain_insn (insn.JumpIf w c r o x) h =
+plain_insn (insn.ByteSwap o w d) h = both5 (register_text Bits64 d) (codes " = ") (order_text (o, w)) (codes " ") (register_text Bits64 d) (plain_register Bits64 d) refl (plain_order o w) refl (plain_register Bits64 d)
+plain_insn (insn.LoadImmediate d low high) h = both4 (register_text Bits64 d) (codes " = ") (decimal (arithmetic.wide_immediate low high)) (codes " ll") (plain_register Bits64 d) refl (plain_decimal (arithmetic.wide_immediate low high) (wide_immediate_small low high h.0 h.1)) refl
+plain_insn (insn.LoadMapReference d k) h = both3 (register_text Bits64 d) (codes " = map ") (signed_decimal k) (plain_register Bits64 d) refl (plain_signed k (small32 k h))
+plain_insn (insn.Load a d r o) h = both3 (register_text Bits64 d) (codes " = ") (memory_operand_text (access_text a) r o) (plain_register Bits64 d) refl (plain_memory_operand (access_text a) r o (plain_access a) (small16 o h))
+plain_insn (insn.Store s r o x) h = both3 (memory_operand_text (access_text (stored_access s)) r o) (codes " = ") (operand_text Bits64 x) (plain_memory_operand (access_text (stored_access s)) r o (plain_access (stored_access s)) (small16 o h.0)) refl (plain_operand Bits64 x h.1)
+plain_insn (insn.JumpIf w c r x o) h =
     both4 (codes "if " ++ register_text w r ++ codes " " ++ spelled (Compare c) ++ codes " ") (operand_text w x) (codes " goto ") (distance_text o)
     (both5 (codes "if ") (register_text w r) (codes " ") (spelled (Compare c)) (codes " ") refl (plain_register w r) refl (plain_spelled (Compare c)) refl) (plain_operand w x h.1) refl (plain_distance o (small16 o h.0))
 plain_insn (insn.Goto o) h = both (codes "goto ") (distance_text o) refl (plain_distance o (small16 o h))

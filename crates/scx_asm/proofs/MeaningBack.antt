@@ -15,7 +15,7 @@ use Rattle.scx_text.specs.declared.items.Literal.{Literal}
 use Rattle.scx_text.specs.declared.items.Statement.{Statement}
 use Rattle.scx_text.specs.declared.items.Jump.{Jump}
 use Rattle.scx_text.specs.Canonical.{insn_text}
-use Rattle.scx_text.specs.Items.{Distance, Line, Says, Jumps, read_line}
+use Rattle.scx_text.specs.Items.{Distance, ItemValue, Says, Jumps, read_line}
 use Rattle.scx_asm.specs.Resolving.{immediate, short, operand_of, insn_of, distant, slots, Labels}
 use Rattle.scx_asm.specs.Standing.{defined, definitions, AreSaid}
 use Rattle.scx_asm.proofs.Fitting.{wide_is}
@@ -52,8 +52,8 @@ half_again z f = to_z-of_z {w = w32} {z = z} f
 -- ---- lines
 
 -- the line says the instruction at every slot, before any lines, and defines no label
-pub record Means (l : Line) (i : Insn) : Type 0 where
-  pub more : (labels : Labels) (s : ℕ) (ls : List Line) (is : List Insn) → AreSaid labels (s + slots l) ls is → AreSaid labels s (l ∷ ls) (i ∷ is)
+pub record Means (l : ItemValue) (i : Insn) : Type 0 where
+  pub more : (labels : Labels) (s : ℕ) (ls : List ItemValue) (is : List Insn) → AreSaid labels (s + slots l) ls is → AreSaid labels s (l ∷ ls) (i ∷ is)
   pub nameless : (s : ℕ) → defined s l ≡ []
 
 says : (s : Statement) (i : Insn) → insn_of s ≡ Some i → Means (Says s) i
@@ -67,18 +67,18 @@ pub means : (i : Insn) → IsInsn i → Means (line_as i) i
 means (insn.Binary w o d x) h = says _ _ (rw (operand_as x h) refl)
 means (insn.Negate w d) h = says _ _ refl
 means (insn.SignExtend e d r) h = says _ _ refl
-means (insn.Reorder o w d) h = says _ _ refl
-means (insn.Constant d low high) h =
+means (insn.ByteSwap o w d) h = says _ _ refl
+means (insn.LoadImmediate d low high) h =
     let a = half_small low h.0 in
     let b = half_small high h.1 in
-    let fit : arithmetic.constant low high < 2 ^ 64 = omega (arith, a, b) in
-    let lower : arithmetic.constant low high % 2 ^ 32 ≡ cast_unsigned w32 low = omega (arith, a, b) in
-    let upper : arithmetic.constant low high / 2 ^ 32 ≡ cast_unsigned w32 high = omega (arith, a, b) in
+    let fit : arithmetic.wide_immediate low high < 2 ^ 64 = omega (arith, a, b) in
+    let lower : arithmetic.wide_immediate low high % 2 ^ 32 ≡ cast_unsigned w32 low = omega (arith, a, b) in
+    let upper : arithmetic.wide_immediate low high / 2 ^ 32 ≡ cast_unsigned w32 high = omega (arith, a, b) in
     says _ _ (rw (lt-ltb _ _ fit, lower, upper, half_again low h.0, half_again high h.1) refl)
-means (insn.MapReference d k) h = says _ _ (rw (immediate_as k h) refl)
+means (insn.LoadMapReference d k) h = says _ _ (rw (immediate_as k h) refl)
 means (insn.Load a d r o) h = says _ _ (rw (immediate_as o (wider o h), short_as o h) refl)
 means (insn.Store s r o x) h = says _ _ (rw (immediate_as o (wider o h.0), short_as o h.0, operand_as x h.1) refl)
-means (insn.JumpIf w c r o x) h = jumps _ _ _ (rw (immediate_as o (wider o h.0), short_as o h.0, operand_as x h.1) refl)
+means (insn.JumpIf w c r x o) h = jumps _ _ _ (rw (immediate_as o (wider o h.0), short_as o h.0, operand_as x h.1) refl)
 means (insn.Goto o) h = jumps _ _ _ (rw (immediate_as o (wider o h), short_as o h) refl)
 means (insn.GotoLong o) h = jumps _ _ _ (rw (immediate_as o h, wide_is o h) refl)
 means (insn.Call k) h = says _ _ (rw (immediate_as k h) refl)

@@ -6,10 +6,10 @@ use Rattle.scx_semantics.specs.declared.operations.Width.{Width}
 use Rattle.scx_semantics.specs.declared.operations.Width.TheVariants.{Bits32, Bits64}
 use Rattle.scx_semantics.specs.declared.operations.Access.{Access}
 use Rattle.scx_semantics.specs.declared.operations.Access.TheVariants as access
-use Rattle.scx_semantics.specs.declared.operations.Order.{Order}
-use Rattle.scx_semantics.specs.declared.operations.Order.TheVariants.{Little, Big, Swapped}
-use Rattle.scx_semantics.specs.declared.operations.OrderWidth.{OrderWidth}
-use Rattle.scx_semantics.specs.declared.operations.OrderWidth.TheVariants as order
+use Rattle.scx_semantics.specs.declared.operations.ByteOrder.{ByteOrder}
+use Rattle.scx_semantics.specs.declared.operations.ByteOrder.TheVariants.{Little, Big, Swapped}
+use Rattle.scx_semantics.specs.declared.operations.SwapWidth.{SwapWidth}
+use Rattle.scx_semantics.specs.declared.operations.SwapWidth.TheVariants as order
 use Rattle.scx_semantics.specs.declared.registers.Register.{Register}
 use Rattle.scx_semantics.specs.declared.registers.Register.TheVariants.{R0, R1, R2, R3, R4, R5, R6, R7, R8, R9, R10}
 use Rattle.scx_semantics.specs.Registers.{number}
@@ -169,7 +169,7 @@ access_again access.SignedHalfWord = refl
 access_again access.SignedWord = refl
 
 -- the names of byte orders
-pub name_order : (o : Order) (w : OrderWidth) → IsName (order_text (o, w))
+pub name_order : (o : ByteOrder) (w : SwapWidth) → IsName (order_text (o, w))
 unfolding first_of run
 name_order Little order.Bits16 = record { some = lit< tt; token = λ near rest e. rw e refl; front = λ rest. refl }
 name_order Little order.Bits32 = record { some = lit< tt; token = λ near rest e. rw e refl; front = λ rest. refl }
@@ -182,7 +182,7 @@ name_order Swapped order.Bits32 = record { some = lit< tt; token = λ near rest 
 name_order Swapped order.Bits64 = record { some = lit< tt; token = λ near rest e. rw e refl; front = λ rest. refl }
 
 -- name them
-pub order_again : (o : Order) (w : OrderWidth) → order_named (order_text (o, w)) ≡ Some (o, w)
+pub order_again : (o : ByteOrder) (w : SwapWidth) → order_named (order_text (o, w)) ≡ Some (o, w)
 unfolding named
 order_again Little order.Bits16 = refl
 order_again Little order.Bits32 = refl

@@ -12,9 +12,9 @@ use Rattle.scx_asm.specs.Standing.{definitions, names, StandsFor}
 use Rattle.scx_asm.specs.declared.faults.AsmFault.{AsmFault}
 use Rattle.scx_asm.specs.declared.faults.AsmError.{AsmError}
 use Rattle.scx_asm.specs.declared.faults.AsmError.TheVariants.{Refused, OutOfMemory}
-use Rattle.scx_asm.specs.Layout.{Gives}
+use Rattle.scx_asm.specs.FirstPass.{Gives}
 use Rattle.scx_asm.specs.Reading.{read_text, code_of}
-use Rattle.scx_asm.specs.Printing.{place_text, program_text}
+use Rattle.scx_asm.specs.Printing.{occupant_text, program_text}
 use Rattle.scx_asm.proofs.ItemsBack.{line_as}
 use Rattle.scx_asm.proofs.MeaningBack.{defines_none, all_said, all_read}
 use Rattle.scx_asm.proofs.Standing.{read_as}
@@ -29,7 +29,7 @@ text_again : (code : Code) → program_text code ≡ lines_text (insns_of code)
 unfolding insns_of
 text_again [] = refl
 text_again (None ∷ code) = text_again code
-text_again (Some i ∷ code) = ap (λ (x : List ℕ). place_text (Some i) ++ x) (text_again code)
+text_again (Some i ∷ code) = ap (λ (x : List ℕ). occupant_text (Some i) ++ x) (text_again code)
 
 abbrev due : Bool → Code
 due true = None ∷ []

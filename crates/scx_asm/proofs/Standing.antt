@@ -17,16 +17,16 @@ use Rattle.scx_isa.specs.declared.program.TheConstants.{MAX_SLOTS}
 use Rattle.scx_text.specs.declared.items.Jump.{Jump}
 use Rattle.scx_text.specs.declared.items.Jump.TheVariants as jump
 use Rattle.scx_text.specs.Options.{either}
-use Rattle.scx_text.specs.Items.{Label, Distance, Line, Blank, Place_of, Says, Jumps, read_line}
+use Rattle.scx_text.specs.Items.{Label, Distance, ItemValue, Blank, DefinesLabel, Says, Jumps, read_line}
 use Rattle.scx_asm.specs.declared.faults.AsmFault.{AsmFault}
 use Rattle.scx_asm.specs.declared.faults.AsmFault.TheVariants.{Syntax, UnknownLabel, TwiceLabel, OutOfRange, TooLong}
-use Rattle.scx_asm.specs.Resolving.{operand_of, short, wide, jump_of, distant, distance, fits, slots, ranged, Labels, find, resolved}
+use Rattle.scx_asm.specs.Resolving.{operand_of, short, wide, jump_of, distant, distance, fits, slots, or_out_of_range, Labels, find, resolved}
 use Rattle.scx_semantics.specs.Results.{◌>>=◌}
-use Rattle.scx_asm.specs.Layout.{Draft, Plan, nothing, located, with_label, with_draft, with_line, with_text, planned}
-use Rattle.scx_asm.specs.Reading.{built, finished, read_insns, read_text, code_of}
+use Rattle.scx_asm.specs.FirstPass.{UnresolvedLine, FirstPassState, nothing_read, at_line, with_label, with_unresolved, with_line, with_text, first_pass}
+use Rattle.scx_asm.specs.Reading.{second_pass, insns_of, read_insns, read_text, code_of}
 use Rattle.scx_asm.specs.FirstFault.{slots_of}
 use Rattle.scx_asm.specs.Standing.{defined, definitions, names, IsJump, IsSaid, AreSaid, StandsFor}
-use Rattle.scx_asm.proofs.Fitting.{bind_some, bind_ok, located_ok, ranged_ok, line_fits, assembled}
+use Rattle.scx_asm.proofs.Fitting.{bind_some, bind_ok, located_ok, in_range_ok, line_fits, assembled}
 
 -- ---- labels
 
@@ -116,127 +116,127 @@ once_more (y ∷ es) x d e = go (bytes_eq x.0 y.0) refl (λ h. once_more es x d.
 
 -- ---- plans
 
-abbrev drafted : ℕ → ℕ → Line → List Draft
-drafted n s Blank = []
-drafted n s (Place_of l) = []
-drafted n s l = record { line = n; slot = s; says = l } ∷ []
+abbrev unresolved_line : ℕ → ℕ → ItemValue → List UnresolvedLine
+unresolved_line n s Blank = []
+unresolved_line n s (DefinesLabel l) = []
+unresolved_line n s l = record { line = n; slot = s; says = l } ∷ []
 
-abbrev pub drafts : ℕ → ℕ → List Line → List Draft
-drafts n s [] = []
-drafts n s (l ∷ ls) = drafted n s l ++ drafts (suc n) (s + slots l) ls
+abbrev pub unresolved_lines : ℕ → ℕ → List ItemValue → List UnresolvedLine
+unresolved_lines n s [] = []
+unresolved_lines n s (l ∷ ls) = unresolved_line n s l ++ unresolved_lines (suc n) (s + slots l) ls
 
 -- the plan with one line more, and with lines more from the n-th on
-abbrev pub after_one : ℕ → Plan → Line → Plan
-after_one n p l = record { slots = p.slots + slots l; labels = p.labels ++ defined p.slots l; drafts = p.drafts ++ drafted n p.slots l }
+abbrev pub after_one : ℕ → FirstPassState → ItemValue → FirstPassState
+after_one n p l = record { slots = p.slots + slots l; labels = p.labels ++ defined p.slots l; unresolved = p.unresolved ++ unresolved_line n p.slots l }
 
-abbrev pub after : ℕ → Plan → List Line → Plan
-after n p ls = record { slots = p.slots + slots_of ls; labels = p.labels ++ definitions p.slots ls; drafts = p.drafts ++ drafts n p.slots ls }
+abbrev pub after : ℕ → FirstPassState → List ItemValue → FirstPassState
+after n p ls = record { slots = p.slots + slots_of ls; labels = p.labels ++ definitions p.slots ls; unresolved = p.unresolved ++ unresolved_lines n p.slots ls }
 
-abbrev plan : ℕ → Labels → List Draft → Plan
-plan s a d = record { slots = s; labels = a; drafts = d }
+abbrev pass : ℕ → Labels → List UnresolvedLine → FirstPassState
+pass s a d = record { slots = s; labels = a; unresolved = d }
 
-same_plan : (s t : ℕ) (a b : Labels) (c d : List Draft) → s ≡ t → a ≡ b → c ≡ d → plan s a c ≡ plan t b d
-same_plan s t a b c d x y z = ap (λ (s : ℕ). plan s a c) x ∙ (ap (λ (a : Labels). plan t a c) y ∙ ap (λ (c : List Draft). plan t b c) z)
+same_pass : (s t : ℕ) (a b : Labels) (c d : List UnresolvedLine) → s ≡ t → a ≡ b → c ≡ d → pass s a c ≡ pass t b d
+same_pass s t a b c d x y z = ap (λ (s : ℕ). pass s a c) x ∙ (ap (λ (a : Labels). pass t a c) y ∙ ap (λ (c : List UnresolvedLine). pass t b c) z)
 
 -- no slots more are none
 pub plus_none : (s : ℕ) → s + 0 ≡ s
 plus_none s = omega arith
 
-unchanged : (p : Plan) → plan (p.slots + 0) (p.labels ++ []) (p.drafts ++ []) ≡ p
-unchanged p = same_plan _ _ _ _ _ _ (plus_none p.slots) (append-nil p.labels) (append-nil p.drafts)
+unchanged : (p : FirstPassState) → pass (p.slots + 0) (p.labels ++ []) (p.unresolved ++ []) ≡ p
+unchanged p = same_pass _ _ _ _ _ _ (plus_none p.slots) (append-nil p.labels) (append-nil p.unresolved)
 
-after_more : (n : ℕ) (p : Plan) (l : Line) (ls : List Line) → after (suc n) (after_one n p l) ls ≡ after n p (l ∷ ls)
-after_more n p l ls = same_plan _ _ _ _ _ _ (omega arith) (append_assoc p.labels (defined p.slots l) (definitions (p.slots + slots l) ls)) (append_assoc p.drafts (drafted n p.slots l) (drafts (suc n) (p.slots + slots l) ls))
+after_more : (n : ℕ) (p : FirstPassState) (l : ItemValue) (ls : List ItemValue) → after (suc n) (after_one n p l) ls ≡ after n p (l ∷ ls)
+after_more n p l ls = same_pass _ _ _ _ _ _ (omega arith) (append_assoc p.labels (defined p.slots l) (definitions (p.slots + slots l) ls)) (append_assoc p.unresolved (unresolved_line n p.slots l) (unresolved_lines (suc n) (p.slots + slots l) ls))
 
 -- ---- the first pass over one line
 
-abbrev done : Plan → Result Plan AsmFault
+abbrev done : FirstPassState → Result FirstPassState AsmFault
 done p = Ok p
 
-abbrev refused : AsmFault → Result Plan AsmFault
+abbrev refused : AsmFault → Result FirstPassState AsmFault
 refused f = Err f
 
-line_as : (n : ℕ) (p : Plan) (rest : Labels) (l : Line) → IsDistinct bytes_eq (names (p.labels ++ (defined p.slots l ++ rest))) → fits l ≡ true → p.slots + slots l ≤ MAX_SLOTS → with_line n p l ≡ done (after_one n p l)
+line_as : (n : ℕ) (p : FirstPassState) (rest : Labels) (l : ItemValue) → IsDistinct bytes_eq (names (p.labels ++ (defined p.slots l ++ rest))) → fits l ≡ true → p.slots + slots l ≤ MAX_SLOTS → with_line n p l ≡ done (after_one n p l)
 line_as n p rest Blank d fit le = ap done (sym (unchanged p))
-line_as n p rest (Place_of l) d fit le = rw (new p.labels rest (l, p.slots) d) (ap done (same_plan _ _ _ _ _ _ (sym (plus_none p.slots)) refl (sym (append-nil p.drafts))))
-line_as n p rest (Says s) d fit le = rw (fit, le-ltb _ _ le) (ap done (same_plan _ _ _ _ _ _ refl (sym (append-nil p.labels)) refl))
-line_as n p rest (Jumps j t) d fit le = rw (fit, le-ltb _ _ le) (ap done (same_plan _ _ _ _ _ _ refl (sym (append-nil p.labels)) refl))
+line_as n p rest (DefinesLabel l) d fit le = rw (new p.labels rest (l, p.slots) d) (ap done (same_pass _ _ _ _ _ _ (sym (plus_none p.slots)) refl (sym (append-nil p.unresolved))))
+line_as n p rest (Says s) d fit le = rw (fit, le-ltb _ _ le) (ap done (same_pass _ _ _ _ _ _ refl (sym (append-nil p.labels)) refl))
+line_as n p rest (Jumps j t) d fit le = rw (fit, le-ltb _ _ le) (ap done (same_pass _ _ _ _ _ _ refl (sym (append-nil p.labels)) refl))
 
-pub record Added (n : ℕ) (p q : Plan) (l : Line) : Type 0 where
+pub record Added (n : ℕ) (p q : FirstPassState) (l : ItemValue) : Type 0 where
   pub is : after_one n p l ≡ q
   pub once : IsDistinct bytes_eq (names q.labels)
 
-label_was : (n : ℕ) (p q : Plan) (l : List ℕ) → with_label p l ≡ Ok q → IsDistinct bytes_eq (names p.labels) → Added n p q (Place_of l)
+label_was : (n : ℕ) (p q : FirstPassState) (l : List ℕ) → with_label p l ≡ Ok q → IsDistinct bytes_eq (names p.labels) → Added n p q (DefinesLabel l)
 label_was n p q l e d = go (find l p.labels) refl
   where
-    go : (r : Option ℕ) → find l p.labels ≡ r → Added n p q (Place_of l)
+    go : (r : Option ℕ) → find l p.labels ≡ r → Added n p q (DefinesLabel l)
     go (Some t) h = let bad : refused TwiceLabel ≡ Ok q = rw h at e in absurd (cc)
     go None h =
-        let more : Plan = plan p.slots (p.labels ++ (l, p.slots) ∷ []) p.drafts in
+        let more : FirstPassState = pass p.slots (p.labels ++ (l, p.slots) ∷ []) p.unresolved in
         let one : done more ≡ Ok q = rw h at e in
         let same : more ≡ q = cc in
         record {
-          is = same_plan _ _ _ _ _ _ (plus_none p.slots) refl (append-nil p.drafts) ∙ same;
-          once = subst (λ (q : Plan). IsDistinct bytes_eq (names q.labels)) same (once_more p.labels (l, p.slots) d h);
+          is = same_pass _ _ _ _ _ _ (plus_none p.slots) refl (append-nil p.unresolved) ∙ same;
+          once = subst (λ (q : FirstPassState). IsDistinct bytes_eq (names q.labels)) same (once_more p.labels (l, p.slots) d h);
         }
 
-draft_was : (n : ℕ) (p q : Plan) (l : Line) → with_draft n p l ≡ Ok q → plan (p.slots + slots l) p.labels (p.drafts ++ record { line = n; slot = p.slots; says = l } ∷ []) ≡ q
-draft_was n p q l e = go (fits l) (nat_lt MAX_SLOTS (p.slots + slots l)) refl refl
+unresolved_was : (n : ℕ) (p q : FirstPassState) (l : ItemValue) → with_unresolved n p l ≡ Ok q → pass (p.slots + slots l) p.labels (p.unresolved ++ record { line = n; slot = p.slots; says = l } ∷ []) ≡ q
+unresolved_was n p q l e = go (fits l) (nat_lt MAX_SLOTS (p.slots + slots l)) refl refl
   where
-    go : (a b : Bool) → fits l ≡ a → nat_lt MAX_SLOTS (p.slots + slots l) ≡ b → plan (p.slots + slots l) p.labels (p.drafts ++ record { line = n; slot = p.slots; says = l } ∷ []) ≡ q
+    go : (a b : Bool) → fits l ≡ a → nat_lt MAX_SLOTS (p.slots + slots l) ≡ b → pass (p.slots + slots l) p.labels (p.unresolved ++ record { line = n; slot = p.slots; says = l } ∷ []) ≡ q
     go false b x y = let bad : refused OutOfRange ≡ Ok q = rw x at e in absurd (cc)
     go true true x y = let bad : refused TooLong ≡ Ok q = rw (x, y) at e in absurd (cc)
     go true false x y =
-        let one : done (plan (p.slots + slots l) p.labels (p.drafts ++ record { line = n; slot = p.slots; says = l } ∷ [])) ≡ Ok q = rw (x, y) at e in
+        let one : done (pass (p.slots + slots l) p.labels (p.unresolved ++ record { line = n; slot = p.slots; says = l } ∷ [])) ≡ Ok q = rw (x, y) at e in
         cc
 
 -- an instruction changes no label
-drafted_was : (n : ℕ) (p q : Plan) (l : Line) (k : ℕ) (ds : List Draft) → plan k p.labels ds ≡ q → after_one n p l ≡ plan k (p.labels ++ []) ds → IsDistinct bytes_eq (names p.labels) → Added n p q l
-drafted_was n p q l k ds e a d = record {
-  is = a ∙ (same_plan _ _ _ _ _ _ refl (append-nil p.labels) refl ∙ e);
-  once = subst (λ (q : Plan). IsDistinct bytes_eq (names q.labels)) e d;
+unresolved_line_was : (n : ℕ) (p q : FirstPassState) (l : ItemValue) (k : ℕ) (ds : List UnresolvedLine) → pass k p.labels ds ≡ q → after_one n p l ≡ pass k (p.labels ++ []) ds → IsDistinct bytes_eq (names p.labels) → Added n p q l
+unresolved_line_was n p q l k ds e a d = record {
+  is = a ∙ (same_pass _ _ _ _ _ _ refl (append-nil p.labels) refl ∙ e);
+  once = subst (λ (q : FirstPassState). IsDistinct bytes_eq (names q.labels)) e d;
 }
 
 -- what a line adds to a plan
-pub line_was : (n : ℕ) (p q : Plan) (l : Line) → with_line n p l ≡ Ok q → IsDistinct bytes_eq (names p.labels) → Added n p q l
+pub line_was : (n : ℕ) (p q : FirstPassState) (l : ItemValue) → with_line n p l ≡ Ok q → IsDistinct bytes_eq (names p.labels) → Added n p q l
 line_was n p q Blank e d =
     let same : p ≡ q = cc in
-    record { is = unchanged p ∙ same; once = subst (λ (q : Plan). IsDistinct bytes_eq (names q.labels)) same d }
-line_was n p q (Place_of l) e d = label_was n p q l e d
-line_was n p q (Says s) e d = drafted_was n p q (Says s) _ _ (draft_was n p q (Says s) e) refl d
-line_was n p q (Jumps j t) e d = drafted_was n p q (Jumps j t) _ _ (draft_was n p q (Jumps j t) e) refl d
+    record { is = unchanged p ∙ same; once = subst (λ (q : FirstPassState). IsDistinct bytes_eq (names q.labels)) same d }
+line_was n p q (DefinesLabel l) e d = label_was n p q l e d
+line_was n p q (Says s) e d = unresolved_line_was n p q (Says s) _ _ (unresolved_was n p q (Says s) e) refl d
+line_was n p q (Jumps j t) e d = unresolved_line_was n p q (Jumps j t) _ _ (unresolved_was n p q (Jumps j t) e) refl d
 
 -- a line that is planned was read
-pub text_was : (n : ℕ) (p q : Plan) (r : Option Line) → either r (with_line n p) (Err Syntax) ≡ Ok q → (l : Line) × (r ≡ Some l) × (with_line n p l ≡ Ok q)
+pub text_was : (n : ℕ) (p q : FirstPassState) (r : Option ItemValue) → either r (with_line n p) (Err Syntax) ≡ Ok q → (l : ItemValue) × (r ≡ Some l) × (with_line n p l ≡ Ok q)
 text_was n p q None e = absurd (cc)
 text_was n p q (Some l) e = (l, refl, e)
 
 -- ---- the first pass over lines
 
-abbrev planned_is : Plan → Result Plan (AsmFault × ℕ)
-planned_is p = Ok p
+abbrev first_pass_is : FirstPassState → Result FirstPassState (AsmFault × ℕ)
+first_pass_is p = Ok p
 
-pub record Planned (n : ℕ) (p q : Plan) (texts : List (List ℕ)) : Type 0 where
-  pub says : List Line
+pub record Planned (n : ℕ) (p q : FirstPassState) (texts : List (List ℕ)) : Type 0 where
+  pub says : List ItemValue
   pub read : map read_line texts ≡ map Some says
   pub is : after n p says ≡ q
   pub once : IsDistinct bytes_eq (names q.labels)
 
 -- what all lines add
-pub planned_was : (n : ℕ) (p q : Plan) (texts : List (List ℕ)) → planned n p texts ≡ Ok q → IsDistinct bytes_eq (names p.labels) → Planned n p q texts
-unfolding planned
-planned_was n p q [] e d =
+pub first_pass_was : (n : ℕ) (p q : FirstPassState) (texts : List (List ℕ)) → first_pass n p texts ≡ Ok q → IsDistinct bytes_eq (names p.labels) → Planned n p q texts
+unfolding first_pass
+first_pass_was n p q [] e d =
     let same : p ≡ q = cc in
-    record { says = []; read = refl; is = unchanged p ∙ same; once = subst (λ (q : Plan). IsDistinct bytes_eq (names q.labels)) same d }
-planned_was n p q (text ∷ texts) e d =
-    let next = bind_ok (located n (with_text n p text)) _ q e in
+    record { says = []; read = refl; is = unchanged p ∙ same; once = subst (λ (q : FirstPassState). IsDistinct bytes_eq (names q.labels)) same d }
+first_pass_was n p q (text ∷ texts) e d =
+    let next = bind_ok (at_line n (with_text n p text)) _ q e in
     let line = text_was n p next.0 (read_line text) (located_ok n _ next.0 next.1) in
     let one = line_was n p next.0 line.0 line.2 d in
-    let rest = planned_was (suc n) next.0 q texts next.2 one.once in
+    let rest = first_pass_was (suc n) next.0 q texts next.2 one.once in
     record {
       says = line.0 ∷ rest.says;
-      read = ap (λ (x : Option Line). x ∷ map read_line texts) line.1 ∙ ap (λ (xs : List (Option Line)). Some line.0 ∷ xs) rest.read;
-      is = sym (after_more n p line.0 rest.says) ∙ (ap (λ (p : Plan). after (suc n) p rest.says) one.is ∙ rest.is);
+      read = ap (λ (x : Option ItemValue). x ∷ map read_line texts) line.1 ∙ ap (λ (xs : List (Option ItemValue)). Some line.0 ∷ xs) rest.read;
+      is = sym (after_more n p line.0 rest.says) ∙ (ap (λ (p : FirstPassState). after (suc n) p rest.says) one.is ∙ rest.is);
       once = rest.once;
     }
 
@@ -277,7 +277,7 @@ lands : (s : ℕ) (j : Jump) (z : ℤ) (i : Insn) → jump_of j z ≡ Some i →
 lands s (jump.If w c r x) z i e =
     let o = bind_some (short z) _ i e in
     let y = bind_some (operand_of x) _ i o.2 in
-    let same : insn.JumpIf w c r o.0 y.0 ≡ i = cc in
+    let same : insn.JumpIf w c r y.0 o.0 ≡ i = cc in
     subst (λ (i : Insn). Lands s z i) same (ap (λ (z : ℤ). shifted (s + 1) z) (short_is z o.0 o.1))
 lands s jump.Goto z i e =
     let o = bind_some (short z) _ i e in
@@ -329,114 +329,114 @@ jump_placed (jump.If w c r x) z i e =
 jump_placed jump.Goto z i e = refl
 jump_placed jump.GotoLong z i e = refl
 
-said_fits : (labels : Labels) (s : ℕ) (l : Line) (i : Insn) → IsSaid labels s l i → fits l ≡ true
+said_fits : (labels : Labels) (s : ℕ) (l : ItemValue) (i : Insn) → IsSaid labels s l i → fits l ≡ true
 said_fits labels s (Says x) i h = ap (λ (r : Option Insn). is_some r) h
 said_fits labels s (Jumps j (Distance n)) i h = ap (λ (r : Option Insn). is_some r) h
 said_fits labels s (Jumps j (Label l)) i h = jump_placed j h.3.0 i h.3.1
 said_fits labels s Blank i h = refl
-said_fits labels s (Place_of l) i h = refl
+said_fits labels s (DefinesLabel l) i h = refl
 
-resolved_as : (labels : Labels) (s : ℕ) (l : Line) (i : Insn) → IsDistinct bytes_eq (names labels) → IsSaid labels s l i → resolved labels s l ≡ Ok i
-resolved_as labels s (Says x) i d h = ap (λ (r : Option Insn). ranged r) h
-resolved_as labels s (Jumps j (Distance n)) i d h = ap (λ (r : Option Insn). ranged r) h
-resolved_as labels s (Jumps j (Label l)) i d h = rw (found l h.0 labels d h.1) (ap (λ (r : Option Insn). ranged r) (jump_to s h.0 j i h.2 h.3))
+resolved_as : (labels : Labels) (s : ℕ) (l : ItemValue) (i : Insn) → IsDistinct bytes_eq (names labels) → IsSaid labels s l i → resolved labels s l ≡ Ok i
+resolved_as labels s (Says x) i d h = ap (λ (r : Option Insn). or_out_of_range r) h
+resolved_as labels s (Jumps j (Distance n)) i d h = ap (λ (r : Option Insn). or_out_of_range r) h
+resolved_as labels s (Jumps j (Label l)) i d h = rw (found l h.0 labels d h.1) (ap (λ (r : Option Insn). or_out_of_range r) (jump_to s h.0 j i h.2 h.3))
 resolved_as labels s Blank i d h = absurd h
-resolved_as labels s (Place_of l) i d h = absurd h
+resolved_as labels s (DefinesLabel l) i d h = absurd h
 
 -- an instruction that is resolved is what its line says
-pub resolved_was : (labels : Labels) (s : ℕ) (l : Line) (i : Insn) → resolved labels s l ≡ Ok i → IsSaid labels s l i
-resolved_was labels s (Says x) i e = ranged_ok _ i e
-resolved_was labels s (Jumps j (Distance n)) i e = ranged_ok (distant j n) i e
+pub resolved_was : (labels : Labels) (s : ℕ) (l : ItemValue) (i : Insn) → resolved labels s l ≡ Ok i → IsSaid labels s l i
+resolved_was labels s (Says x) i e = in_range_ok _ i e
+resolved_was labels s (Jumps j (Distance n)) i e = in_range_ok (distant j n) i e
 resolved_was labels s (Jumps j (Label l)) i e = go (find l labels) refl e
   where
-    go : (r : Option ℕ) → find l labels ≡ r → either r (λ target. ranged (jump_of j (distance s target))) (Err UnknownLabel) ≡ Ok i → IsSaid labels s (Jumps j (Label l)) i
+    go : (r : Option ℕ) → find l labels ≡ r → either r (λ target. or_out_of_range (jump_of j (distance s target))) (Err UnknownLabel) ≡ Ok i → IsSaid labels s (Jumps j (Label l)) i
     go None f e = absurd (cc)
     go (Some t) f e =
-        let jump = ranged_ok (jump_of j (distance s t)) i e in
+        let jump = in_range_ok (jump_of j (distance s t)) i e in
         (t, there l t labels f, goes_to s t j i jump, (distance s t, jump))
 resolved_was labels s Blank i e = absurd (cc)
-resolved_was labels s (Place_of l) i e = absurd (cc)
+resolved_was labels s (DefinesLabel l) i e = absurd (cc)
 
-record Left (labels : Labels) (s : ℕ) (l : Line) (ls : List Line) : Type 0 where
+record Left (labels : Labels) (s : ℕ) (l : ItemValue) (ls : List ItemValue) : Type 0 where
   pub fit : fits l ≡ true
   pub insns : List Insn
   pub rest : AreSaid labels (s + slots l) ls insns
 
-nothing_more : (labels : Labels) (s : ℕ) (ls : List Line) (is : List Insn) → AreSaid labels s ls is → AreSaid labels (s + 0) ls is
+nothing_more : (labels : Labels) (s : ℕ) (ls : List ItemValue) (is : List Insn) → AreSaid labels s ls is → AreSaid labels (s + 0) ls is
 nothing_more labels s ls is h = subst (λ (k : ℕ). AreSaid labels k ls is) (sym (plus_none s)) h
 
-left : (labels : Labels) (s : ℕ) (l : Line) (ls : List Line) (is : List Insn) → AreSaid labels s (l ∷ ls) is → Left labels s l ls
+left : (labels : Labels) (s : ℕ) (l : ItemValue) (ls : List ItemValue) (is : List Insn) → AreSaid labels s (l ∷ ls) is → Left labels s l ls
 left labels s Blank ls is h = record { fit = refl; insns = is; rest = nothing_more labels s ls is h }
-left labels s (Place_of l) ls is h = record { fit = refl; insns = is; rest = nothing_more labels s ls is h }
+left labels s (DefinesLabel l) ls is h = record { fit = refl; insns = is; rest = nothing_more labels s ls is h }
 left labels s (Says x) ls [] h = absurd h
 left labels s (Says x) ls (i ∷ is) h = record { fit = said_fits labels s (Says x) i h.0; insns = is; rest = h.1 }
 left labels s (Jumps j t) ls [] h = absurd h
 left labels s (Jumps j t) ls (i ∷ is) h = record { fit = said_fits labels s (Jumps j t) i h.0; insns = is; rest = h.1 }
 
-planned_as : (n : ℕ) (p : Plan) (texts : List (List ℕ)) (ls : List Line) (labels : Labels) (is : List Insn) → map read_line texts ≡ map Some ls → IsDistinct bytes_eq (names (p.labels ++ definitions p.slots ls)) → AreSaid labels p.slots ls is → p.slots + slots_of ls ≤ MAX_SLOTS
-    → planned n p texts ≡ planned_is (after n p ls)
-unfolding planned
-planned_as n p [] [] labels is e d h le = ap planned_is (sym (unchanged p))
-planned_as n p [] (l ∷ ls) labels is e d h le = absurd (cc)
-planned_as n p (text ∷ texts) [] labels is e d h le = absurd (cc)
-planned_as n p (text ∷ texts) (l ∷ ls) labels is e d h le =
+first_pass_as : (n : ℕ) (p : FirstPassState) (texts : List (List ℕ)) (ls : List ItemValue) (labels : Labels) (is : List Insn) → map read_line texts ≡ map Some ls → IsDistinct bytes_eq (names (p.labels ++ definitions p.slots ls)) → AreSaid labels p.slots ls is → p.slots + slots_of ls ≤ MAX_SLOTS
+    → first_pass n p texts ≡ first_pass_is (after n p ls)
+unfolding first_pass
+first_pass_as n p [] [] labels is e d h le = ap first_pass_is (sym (unchanged p))
+first_pass_as n p [] (l ∷ ls) labels is e d h le = absurd (cc)
+first_pass_as n p (text ∷ texts) [] labels is e d h le = absurd (cc)
+first_pass_as n p (text ∷ texts) (l ∷ ls) labels is e d h le =
     let first : read_line text ≡ Some l = cc in
     let others : map read_line texts ≡ map Some ls = cc in
     let k = left labels p.slots l ls is h in
     let one : with_line n p l ≡ done (after_one n p l) = line_as n p (definitions (p.slots + slots l) ls) l d k.fit (omega arith) in
     let once = subst (λ (es : Labels). IsDistinct bytes_eq (names es)) (sym (append_assoc p.labels (defined p.slots l) (definitions (p.slots + slots l) ls))) d in
-    let more = planned_as (suc n) (after_one n p l) texts ls labels k.insns others once k.rest (omega arith) in
+    let more = first_pass_as (suc n) (after_one n p l) texts ls labels k.insns others once k.rest (omega arith) in
     go first one more
   where
-    go : read_line text ≡ Some l → with_line n p l ≡ done (after_one n p l) → planned (suc n) (after_one n p l) texts ≡ planned_is (after (suc n) (after_one n p l) ls) → (located n (with_text n p text) >>= λ q. planned (suc n) q texts) ≡ planned_is (after n p (l ∷ ls))
-    go first one more = rw (first, one) (more ∙ ap planned_is (after_more n p l ls))
+    go : read_line text ≡ Some l → with_line n p l ≡ done (after_one n p l) → first_pass (suc n) (after_one n p l) texts ≡ first_pass_is (after (suc n) (after_one n p l) ls) → (at_line n (with_text n p text) >>= λ q. first_pass (suc n) q texts) ≡ first_pass_is (after n p (l ∷ ls))
+    go first one more = rw (first, one) (more ∙ ap first_pass_is (after_more n p l ls))
 
 -- ---- the second pass
 
-build : (labels : Labels) (d : Draft) (ds : List Draft) (i : Insn) (is : List Insn) → resolved labels d.slot d.says ≡ Ok i → built labels ds ≡ Ok is → built labels (d ∷ ds) ≡ Ok (i ∷ is)
-unfolding built
+build : (labels : Labels) (d : UnresolvedLine) (ds : List UnresolvedLine) (i : Insn) (is : List Insn) → resolved labels d.slot d.says ≡ Ok i → second_pass labels ds ≡ Ok is → second_pass labels (d ∷ ds) ≡ Ok (i ∷ is)
+unfolding second_pass
 build labels d ds i is e f = rw (e, f) refl
 
-built_as : (labels : Labels) (n s : ℕ) (ls : List Line) (is : List Insn) → IsDistinct bytes_eq (names labels) → AreSaid labels s ls is → built labels (drafts n s ls) ≡ Ok is
-unfolding built
+built_as : (labels : Labels) (n s : ℕ) (ls : List ItemValue) (is : List Insn) → IsDistinct bytes_eq (names labels) → AreSaid labels s ls is → second_pass labels (unresolved_lines n s ls) ≡ Ok is
+unfolding second_pass
 built_as labels n s [] [] d h = refl
 built_as labels n s [] (i ∷ is) d h = absurd h
 built_as labels n s (Blank ∷ ls) is d h = built_as labels (suc n) (s + 0) ls is d (nothing_more labels s ls is h)
-built_as labels n s (Place_of l ∷ ls) is d h = built_as labels (suc n) (s + 0) ls is d (nothing_more labels s ls is h)
+built_as labels n s (DefinesLabel l ∷ ls) is d h = built_as labels (suc n) (s + 0) ls is d (nothing_more labels s ls is h)
 built_as labels n s (Says x ∷ ls) [] d h = absurd h
-built_as labels n s (Says x ∷ ls) (i ∷ is) d h = build labels (record { line = n; slot = s; says = Says x }) (drafts (suc n) (s + slots (Says x)) ls) i is (resolved_as labels s (Says x) i d h.0) (built_as labels (suc n) (s + slots (Says x)) ls is d h.1)
+built_as labels n s (Says x ∷ ls) (i ∷ is) d h = build labels (record { line = n; slot = s; says = Says x }) (unresolved_lines (suc n) (s + slots (Says x)) ls) i is (resolved_as labels s (Says x) i d h.0) (built_as labels (suc n) (s + slots (Says x)) ls is d h.1)
 built_as labels n s (Jumps j t ∷ ls) [] d h = absurd h
-built_as labels n s (Jumps j t ∷ ls) (i ∷ is) d h = build labels (record { line = n; slot = s; says = Jumps j t }) (drafts (suc n) (s + slots (Jumps j t)) ls) i is (resolved_as labels s (Jumps j t) i d h.0) (built_as labels (suc n) (s + slots (Jumps j t)) ls is d h.1)
+built_as labels n s (Jumps j t ∷ ls) (i ∷ is) d h = build labels (record { line = n; slot = s; says = Jumps j t }) (unresolved_lines (suc n) (s + slots (Jumps j t)) ls) i is (resolved_as labels s (Jumps j t) i d h.0) (built_as labels (suc n) (s + slots (Jumps j t)) ls is d h.1)
 
-record Built (labels : Labels) (d : Draft) (ds : List Draft) (is : List Insn) : Type 0 where
+record Built (labels : Labels) (d : UnresolvedLine) (ds : List UnresolvedLine) (is : List Insn) : Type 0 where
   pub first : Insn
   pub others : List Insn
   pub one : resolved labels d.slot d.says ≡ Ok first
-  pub rest : built labels ds ≡ Ok others
+  pub rest : second_pass labels ds ≡ Ok others
   pub both : first ∷ others ≡ is
 
-build_was : (labels : Labels) (d : Draft) (ds : List Draft) (is : List Insn) → built labels (d ∷ ds) ≡ Ok is → Built labels d ds is
-unfolding built
+build_was : (labels : Labels) (d : UnresolvedLine) (ds : List UnresolvedLine) (is : List Insn) → second_pass labels (d ∷ ds) ≡ Ok is → Built labels d ds is
+unfolding second_pass
 build_was labels d ds is e =
-    let i = bind_ok (located d.line (resolved labels d.slot d.says)) _ is e in
-    let rest = bind_ok (built labels ds) _ is i.2 in
+    let i = bind_ok (at_line d.line (resolved labels d.slot d.says)) _ is e in
+    let rest = bind_ok (second_pass labels ds) _ is i.2 in
     let same : i.0 ∷ rest.0 ≡ is = cc in
     record { first = i.0; others = rest.0; one = located_ok d.line _ i.0 i.1; rest = rest.1; both = same }
 
 -- from no slots more on is from there on
-pub nothing_less : (labels : Labels) (s : ℕ) (ls : List Line) (is : List Insn) → AreSaid labels (s + 0) ls is → AreSaid labels s ls is
+pub nothing_less : (labels : Labels) (s : ℕ) (ls : List ItemValue) (is : List Insn) → AreSaid labels (s + 0) ls is → AreSaid labels s ls is
 nothing_less labels s ls is h = subst (λ (k : ℕ). AreSaid labels k ls is) (plus_none s) h
 
-built_was : (labels : Labels) (n s : ℕ) (ls : List Line) (is : List Insn) → built labels (drafts n s ls) ≡ Ok is → AreSaid labels s ls is
-unfolding built
+built_was : (labels : Labels) (n s : ℕ) (ls : List ItemValue) (is : List Insn) → second_pass labels (unresolved_lines n s ls) ≡ Ok is → AreSaid labels s ls is
+unfolding second_pass
 built_was labels n s [] is e = let same : [] ≡ is = cc in subst (λ (is : List Insn). AreSaid labels s [] is) same tt
 built_was labels n s (Blank ∷ ls) is e = nothing_less labels s ls is (built_was labels (suc n) (s + 0) ls is e)
-built_was labels n s (Place_of l ∷ ls) is e = nothing_less labels s ls is (built_was labels (suc n) (s + 0) ls is e)
+built_was labels n s (DefinesLabel l ∷ ls) is e = nothing_less labels s ls is (built_was labels (suc n) (s + 0) ls is e)
 built_was labels n s (Says x ∷ ls) is e =
-    let b = build_was labels (record { line = n; slot = s; says = Says x }) (drafts (suc n) (s + slots (Says x)) ls) is e in
+    let b = build_was labels (record { line = n; slot = s; says = Says x }) (unresolved_lines (suc n) (s + slots (Says x)) ls) is e in
     subst (λ (is : List Insn). AreSaid labels s (Says x ∷ ls) is) b.both (resolved_was labels s (Says x) b.first b.one, built_was labels (suc n) (s + slots (Says x)) ls b.others b.rest)
 built_was labels n s (Jumps j t ∷ ls) is e =
-    let b = build_was labels (record { line = n; slot = s; says = Jumps j t }) (drafts (suc n) (s + slots (Jumps j t)) ls) is e in
+    let b = build_was labels (record { line = n; slot = s; says = Jumps j t }) (unresolved_lines (suc n) (s + slots (Jumps j t)) ls) is e in
     subst (λ (is : List Insn). AreSaid labels s (Jumps j t ∷ ls) is) b.both (resolved_was labels s (Jumps j t) b.first b.one, built_was labels (suc n) (s + slots (Jumps j t)) ls b.others b.rest)
 
 -- ---- how long the program is
@@ -448,11 +448,11 @@ more_places i is = go (is_wide i) refl
     go true w = rw w (omega arith)
     go false w = rw w (omega arith)
 
-slots_are : (labels : Labels) (s : ℕ) (ls : List Line) (is : List Insn) → IsDistinct bytes_eq (names labels) → AreSaid labels s ls is → length (code_of is) ≡ slots_of ls
+slots_are : (labels : Labels) (s : ℕ) (ls : List ItemValue) (is : List Insn) → IsDistinct bytes_eq (names labels) → AreSaid labels s ls is → length (code_of is) ≡ slots_of ls
 slots_are labels s [] [] d h = refl
 slots_are labels s [] (i ∷ is) d h = absurd h
 slots_are labels s (Blank ∷ ls) is d h = omega (arith, slots_are labels s ls is d h)
-slots_are labels s (Place_of l ∷ ls) is d h = omega (arith, slots_are labels s ls is d h)
+slots_are labels s (DefinesLabel l ∷ ls) is d h = omega (arith, slots_are labels s ls is d h)
 slots_are labels s (Says x ∷ ls) [] d h = absurd h
 slots_are labels s (Says x ∷ ls) (i ∷ is) d h =
     let one = (line_fits labels s (Says x) i (resolved_as labels s (Says x) i d h.0)).1 in
@@ -470,18 +470,18 @@ insns_are is = Ok is
 abbrev code_is : Code → Result Code (AsmFault × ℕ)
 code_is code = Ok code
 
-finish : (p : Plan) (is : List Insn) → 0 < p.slots → built p.labels p.drafts ≡ Ok is → finished p ≡ Ok is
+finish : (p : FirstPassState) (is : List Insn) → 0 < p.slots → second_pass p.labels p.unresolved ≡ Ok is → insns_of p ≡ Ok is
 finish p is some e =
     let nonzero : nat_eq p.slots 0 ≡ false = ne_eqb p.slots 0 (λ e. omega arith) in
     rw nonzero e
 
-finish_was : (p : Plan) (is : List Insn) → finished p ≡ Ok is → built p.labels p.drafts ≡ Ok is
+finish_was : (p : FirstPassState) (is : List Insn) → insns_of p ≡ Ok is → second_pass p.labels p.unresolved ≡ Ok is
 finish_was p is e = go (nat_eq p.slots 0) refl
   where
     empty : Result (List Insn) (AsmFault × ℕ)
     empty = Err (Syntax, 1)
 
-    go : (b : Bool) → nat_eq p.slots 0 ≡ b → built p.labels p.drafts ≡ Ok is
+    go : (b : Bool) → nat_eq p.slots 0 ≡ b → second_pass p.labels p.unresolved ≡ Ok is
     go true t = let bad : Err (Syntax, 1) ≡ insns_are is = rw t at e in absurd (cc)
     go false t = rw t at e
 
@@ -490,8 +490,8 @@ pub read_as : (text : List ℕ) (code : Code) → StandsFor text code → read_t
 read_as text code h =
     let labels = definitions 0 h.says in
     let total : length code ≡ slots_of h.says = ap length h.program ∙ slots_are labels 0 h.says h.insns h.once h.said in
-    let laid = planned_as 1 nothing (lines text) h.says labels h.insns h.read h.once h.said (omega (arith, total, h.fits)) in
-    let insns = finish (after 1 nothing h.says) h.insns (omega (arith, total, h.some)) (built_as labels 1 0 h.says h.insns h.once h.said) in
+    let laid = first_pass_as 1 nothing_read (lines text) h.says labels h.insns h.read h.once h.said (omega (arith, total, h.fits)) in
+    let insns = finish (after 1 nothing_read h.says) h.insns (omega (arith, total, h.some)) (built_as labels 1 0 h.says h.insns h.once h.said) in
     rw (laid, insns) (ap code_is (sym h.program))
 
 -- and stands for the one that it is read as
@@ -499,12 +499,12 @@ pub read_was : (text : List ℕ) (code : Code) → read_text text ≡ Ok code �
 unfolding IsDistinct
 read_was text code e =
     let insns = bind_ok (read_insns text) _ code e in
-    let plans = bind_ok (planned 1 nothing (lines text)) _ insns.0 insns.1 in
+    let plans = bind_ok (first_pass 1 nothing_read (lines text)) _ insns.0 insns.1 in
     let same : code_of insns.0 ≡ code = cc in
-    let laid = planned_was 1 nothing plans.0 (lines text) plans.1 tt in
+    let laid = first_pass_was 1 nothing_read plans.0 (lines text) plans.1 tt in
     let fine = (assembled text insns.0 insns.1).program in
-    let once : IsDistinct bytes_eq (names (definitions 0 laid.says)) = subst (λ (p : Plan). IsDistinct bytes_eq (names p.labels)) (sym laid.is) laid.once in
-    let one : built (definitions 0 laid.says) (drafts 1 0 laid.says) ≡ Ok insns.0 = finish_was (after 1 nothing laid.says) insns.0 (subst (λ (p : Plan). finished p ≡ Ok insns.0) (sym laid.is) plans.2) in
+    let once : IsDistinct bytes_eq (names (definitions 0 laid.says)) = subst (λ (p : FirstPassState). IsDistinct bytes_eq (names p.labels)) (sym laid.is) laid.once in
+    let one : second_pass (definitions 0 laid.says) (unresolved_lines 1 0 laid.says) ≡ Ok insns.0 = finish_was (after 1 nothing_read laid.says) insns.0 (subst (λ (p : FirstPassState). insns_of p ≡ Ok insns.0) (sym laid.is) plans.2) in
     record {
       says = laid.says;
       insns = insns.0;

@@ -11,7 +11,7 @@ use Rattle.std.specs.Fmt.{decimal}
 use Rattle.std.specs.Int.{IsInRange}
 use Rattle.std.specs.Str.Parse.{AllDigits, digits_value}
 use Rattle.scx_semantics.specs.declared.operations.Operation.TheVariants.{Add, Subtract, Multiply, Divide, SignedDivide, Or, And, Xor, ShiftLeft, ShiftRight, ShiftRightSigned, Modulo, SignedModulo, Move}
-use Rattle.scx_semantics.specs.declared.operations.Comparison.TheVariants.{Equal, Greater, GreaterOrEqual, AnyBit, NotEqual, SignedGreater, SignedGreaterOrEqual, Less, LessOrEqual, SignedLess, SignedLessOrEqual}
+use Rattle.scx_semantics.specs.declared.operations.Comparison.TheVariants.{Equal, Greater, GreaterOrEqual, BitTest, NotEqual, SignedGreater, SignedGreaterOrEqual, Less, LessOrEqual, SignedLess, SignedLessOrEqual}
 use Rattle.scx_text.specs.declared.symbols.Symbol.{Symbol}
 use Rattle.scx_text.specs.declared.symbols.Symbol.TheVariants.{Assign, Compare, Plus, Minus, Star, Opening, Closing, Colon}
 use Rattle.scx_text.specs.declared.lexer.Class.TheVariants as class
@@ -105,7 +105,7 @@ symbol_last (Assign Move) = refl
 symbol_last (Compare Equal) = refl
 symbol_last (Compare Greater) = refl
 symbol_last (Compare GreaterOrEqual) = refl
-symbol_last (Compare AnyBit) = refl
+symbol_last (Compare BitTest) = refl
 symbol_last (Compare NotEqual) = refl
 symbol_last (Compare SignedGreater) = refl
 symbol_last (Compare SignedGreaterOrEqual) = refl
@@ -139,7 +139,7 @@ symbol_here (Assign Move) b bs x y z = simp y refl
 symbol_here (Compare Equal) b bs x y z = refl
 symbol_here (Compare Greater) b bs x y z = simp (y, z) refl
 symbol_here (Compare GreaterOrEqual) b bs x y z = refl
-symbol_here (Compare AnyBit) b bs x y z = simp y refl
+symbol_here (Compare BitTest) b bs x y z = simp y refl
 symbol_here (Compare NotEqual) b bs x y z = refl
 symbol_here (Compare SignedGreater) b bs x y z = simp (y, z) refl
 symbol_here (Compare SignedGreaterOrEqual) b bs x y z = refl

@@ -8,8 +8,8 @@ use Rattle.scx_semantics.specs.Code.{Code, is_wide}
 use Rattle.scx_encoding.specs.declared.slots.Slot.{Slot}
 use Rattle.scx_encoding.specs.Slots.{slot_bytes}
 use Rattle.scx_encoding.specs.Spelling.{insn_slots, IsInsn}
-use Rattle.scx_isa.specs.Spelling.{place_slots, code_slots, spelling, IsProgram, Spells}
-use Rattle.scx_asm.specs.Reading.{insn_places, code_of, finished}
+use Rattle.scx_isa.specs.Spelling.{occupant_slots, code_slots, spelling, IsProgram, Spells}
+use Rattle.scx_asm.specs.Reading.{insn_occupants, code_of, insns_of}
 use Rattle.scx_isa.specs.Reading as isa
 use Rattle.scx_encoding.specs.declared.faults.DecodeFault.{DecodeFault}
 use Rattle.scx_isa.specs.declared.faults.DecodeError.{DecodeError}
@@ -18,19 +18,19 @@ use Rattle.scx_asm.specs.declared.faults.AsmFault.{AsmFault}
 use Rattle.scx_asm.specs.declared.faults.AsmError.{AsmError}
 use Rattle.scx_asm.specs.declared.faults.AsmError.TheVariants as errors
 use Rattle.scx_semantics.specs.Results.{◌>>=◌}
-use Rattle.scx_asm.specs.Layout.{Plan, Fails}
+use Rattle.scx_asm.specs.FirstPass.{FirstPassState, Fails}
 
 abbrev done : Code → Result Code (AsmFault × ℕ)
 done code = Ok code
 
-slots_of_places : (i : Insn) → code_slots (insn_places i) ≡ insn_slots i
+slots_of_places : (i : Insn) → code_slots (insn_occupants i) ≡ insn_slots i
 slots_of_places i = go (is_wide i) refl
   where
-    go : (b : Bool) → is_wide i ≡ b → code_slots (insn_places i) ≡ insn_slots i
+    go : (b : Bool) → is_wide i ≡ b → code_slots (insn_occupants i) ≡ insn_slots i
     go true e = rw e (append-nil (insn_slots i))
     go false e = rw e (append-nil (insn_slots i))
 
-one_spelled : (i : Insn) → spelling (insn_places i) ≡ flat_map slot_bytes (insn_slots i)
+one_spelled : (i : Insn) → spelling (insn_occupants i) ≡ flat_map slot_bytes (insn_slots i)
 one_spelled i = ap (λ (slots : List Slot). flat_map slot_bytes slots) (slots_of_places i)
 
 -- one instruction more
@@ -38,7 +38,7 @@ pub more_spelled : (is : List Insn) (k : ℕ) (d : Insn) → k < length is
     → spelling (code_of (take (k + 1) is)) ≡ spelling (code_of (take k is)) ++ flat_map slot_bytes (insn_slots (get_or is k d))
 more_spelled is k d lt =
     let i = get_or is k d in
-    rw (take_more is k d lt, flat_map-append insn_places (take k is) (i ∷ []), append-nil (insn_places i), flat_map-append place_slots (code_of (take k is)) (insn_places i), flat_map-append slot_bytes (code_slots (code_of (take k is))) (code_slots (insn_places i)), one_spelled i) refl
+    rw (take_more is k d lt, flat_map-append insn_occupants (take k is) (i ∷ []), append-nil (insn_occupants i), flat_map-append occupant_slots (code_of (take k is)) (insn_occupants i), flat_map-append slot_bytes (code_slots (code_of (take k is))) (code_slots (insn_occupants i)), one_spelled i) refl
 
 -- each of them fits its fields
 pub fits_at : (is : List Insn) (k : ℕ) (d : Insn) → AllByRecursion IsInsn is → k < length is → IsInsn (get_or is k d)
@@ -70,6 +70,6 @@ fails_on (errors.Refused fault line) r h = rw h refl
 fails_on errors.OutOfMemory r h = tt
 
 -- a first pass that fails is the answer
-pub fails_first : (error : AsmError) (r : Result Plan (AsmFault × ℕ)) → Fails error r → Fails error (r >>= finished)
+pub fails_first : (error : AsmError) (r : Result FirstPassState (AsmFault × ℕ)) → Fails error r → Fails error (r >>= insns_of)
 fails_first (errors.Refused fault line) r h = rw h refl
 fails_first errors.OutOfMemory r h = tt

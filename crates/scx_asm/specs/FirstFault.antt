@@ -9,7 +9,7 @@ use Rattle.scx_semantics.specs.declared.instructions.Insn.{Insn}
 use Rattle.scx_isa.specs.declared.program.TheConstants.{MAX_SLOTS}
 use Rattle.scx_semantics.specs.Code.{Code}
 use Rattle.scx_semantics.specs.Steps.{target}
-use Rattle.scx_text.specs.Items.{Label, Line, Place_of, Jumps, read_line}
+use Rattle.scx_text.specs.Items.{Label, ItemValue, DefinesLabel, Jumps, read_line}
 use Rattle.scx_asm.specs.declared.faults.AsmFault.{AsmFault}
 use Rattle.scx_asm.specs.declared.faults.AsmFault.TheVariants.{Syntax, UnknownLabel, TwiceLabel, OutOfRange, TooLong}
 use Rattle.scx_asm.specs.declared.faults.AsmError.{AsmError}
@@ -18,20 +18,20 @@ use Rattle.scx_asm.specs.Resolving.{fits, slots, Labels}
 use Rattle.scx_asm.specs.Standing.{definitions, names, IsJump, AreSaid, StandsFor}
 
 -- the slots that lines take
-abbrev pub slots_of : List Line → ℕ
+abbrev pub slots_of : List ItemValue → ℕ
 slots_of [] = 0
 slots_of (l ∷ ls) = slots l + slots_of ls
 
 -- no line is faulty by itself or behind those before it
-pub record AreFine (ls : List Line) : Type 0 where
+pub record AreFine (ls : List ItemValue) : Type 0 where
   pub once : IsDistinct bytes_eq (names (definitions 0 ls))
   pub fit : AllByRecursion (λ l. fits l ≡ true) ls
   pub within : slots_of ls ≤ MAX_SLOTS
 
 -- the fault of what a line says, if it is of the language, behind lines that are fine
-abbrev pub IsWrong : List Line → Option Line → AsmFault → Type 0
+abbrev pub IsWrong : List ItemValue → Option ItemValue → AsmFault → Type 0
 IsWrong earlier None Syntax = Unit {0}
-IsWrong earlier (Some (Place_of l)) TwiceLabel = (s : ℕ) × Contains (definitions 0 earlier) (l, s)
+IsWrong earlier (Some (DefinesLabel l)) TwiceLabel = (s : ℕ) × Contains (definitions 0 earlier) (l, s)
 IsWrong earlier (Some l) OutOfRange = fits l ≡ false
 IsWrong earlier (Some l) TooLong = (fits l ≡ true) × (MAX_SLOTS < slots_of earlier + slots l)
 IsWrong earlier l fault = ⊥
@@ -43,22 +43,22 @@ pub record FailsAt (texts : List (List ℕ)) (fault : AsmFault) (n : ℕ) : Type
   pub behind : List (List ℕ)
   pub split : texts ≡ before ++ text ∷ behind
   pub number : n ≡ suc (length before)
-  pub earlier : List Line
+  pub earlier : List ItemValue
   pub read : map read_line before ≡ map Some earlier
   pub fine : AreFine earlier
   pub wrong : IsWrong earlier (read_line text) fault
 
 -- the fault of a jump to a label, at a slot, where labels stand for slots
-abbrev pub IsLost : Labels → ℕ → Line → AsmFault → Type 0
+abbrev pub IsLost : Labels → ℕ → ItemValue → AsmFault → Type 0
 IsLost labels s (Jumps j (Label l)) UnknownLabel = (t : ℕ) → Contains labels (l, t) → ⊥
 IsLost labels s (Jumps j (Label l)) OutOfRange = (t : ℕ) × Contains labels (l, t) × ((i : Insn) → IsJump j i → target s i ≡ Some t → ⊥)
 IsLost labels s l fault = ⊥
 
 -- all lines are fine, those before the n-th say instructions, and it is a jump with the fault
 pub record LosesAt (texts : List (List ℕ)) (fault : AsmFault) (n : ℕ) : Type 0 where
-  pub before : List Line
-  pub line : Line
-  pub behind : List Line
+  pub before : List ItemValue
+  pub line : ItemValue
+  pub behind : List ItemValue
   pub read : map read_line texts ≡ map Some (before ++ line ∷ behind)
   pub number : n ≡ suc (length before)
   pub fine : AreFine (before ++ line ∷ behind)
@@ -68,16 +68,16 @@ pub record LosesAt (texts : List (List ℕ)) (fault : AsmFault) (n : ℕ) : Type
 
 -- all lines are fine, and none says an instruction
 pub record IsEmpty (texts : List (List ℕ)) : Type 0 where
-  pub says : List Line
+  pub says : List ItemValue
   pub read : map read_line texts ≡ map Some says
   pub fine : AreFine says
   pub none : slots_of says ≡ 0
 
 -- what is wrong with a text first, and at which line
 pub data IsFirstFault (text : List ℕ) : AsmFault → ℕ → Type 0 where
-  At_line : (fault : AsmFault) (n : ℕ) → FailsAt (lines text) fault n → IsFirstFault text fault n
-  No_insn : IsEmpty (lines text) → IsFirstFault text Syntax 1
-  At_jump : (fault : AsmFault) (n : ℕ) → LosesAt (lines text) fault n → IsFirstFault text fault n
+  AtLine : (fault : AsmFault) (n : ℕ) → FailsAt (lines text) fault n → IsFirstFault text fault n
+  NoInsn : IsEmpty (lines text) → IsFirstFault text Syntax 1
+  AtJump : (fault : AsmFault) (n : ℕ) → LosesAt (lines text) fault n → IsFirstFault text fault n
 
 -- What an answer says of the text: that it stands for the program, or that it has the fault first and
 -- stands for no program.

@@ -4,7 +4,7 @@ use Rattle.scx_semantics.specs.Code.{Code}
 use Rattle.scx_isa.specs.Spelling.{IsProgram}
 use Rattle.scx_asm.specs.declared.faults.AsmError.{AsmError}
 use Rattle.scx_asm.specs.declared.faults.AsmError.TheVariants.{OutOfMemory}
-use Rattle.scx_asm.specs.Layout.{Gives}
+use Rattle.scx_asm.specs.FirstPass.{Gives}
 use Rattle.scx_asm.specs.Reading.{read_text}
 use Rattle.scx_asm.specs.Printing.{program_text}
 use Rattle.scx_asm.specs.Standing.{StandsFor}

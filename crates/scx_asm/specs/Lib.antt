@@ -1,7 +1,7 @@
 pub mod Faults
 pub mod Resolving
-pub mod Layout
-pub mod Plans
+pub mod FirstPass
+pub mod Passes
 pub mod Reading
 pub mod Printing
 pub mod Standing

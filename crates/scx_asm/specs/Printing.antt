@@ -5,9 +5,9 @@ use Rattle.scx_semantics.specs.declared.instructions.Insn.{Insn}
 use Rattle.scx_semantics.specs.Code.{Code}
 use Rattle.scx_text.specs.Canonical.{insn_text}
 
-abbrev pub place_text : Option Insn → List ℕ
-place_text None = []
-place_text (Some i) = insn_text i ++ codes "\n"
+abbrev pub occupant_text : Option Insn → List ℕ
+occupant_text None = []
+occupant_text (Some i) = insn_text i ++ codes "\n"
 
 abbrev pub program_text : Code → List ℕ
-program_text code = flat_map place_text code
+program_text code = flat_map occupant_text code

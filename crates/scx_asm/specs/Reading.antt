@@ -9,29 +9,29 @@ use Rattle.scx_asm.specs.declared.faults.AsmFault.{AsmFault}
 use Rattle.scx_asm.specs.declared.faults.AsmFault.TheVariants.{Syntax}
 use Rattle.scx_asm.specs.Resolving.{Labels, resolved}
 use Rattle.scx_semantics.specs.Results.{◌>>=◌}
-use Rattle.scx_asm.specs.Layout.{Draft, Plan, nothing, located, planned}
+use Rattle.scx_asm.specs.FirstPass.{UnresolvedLine, FirstPassState, nothing_read, at_line, first_pass}
 
--- the instructions of drafts, or the first fault of one
-unfoldable pub built : Labels → List Draft → Result (List Insn) (AsmFault × ℕ)
-built labels [] = Ok []
-built labels (d ∷ ds) = do
-  i ← located d.line (resolved labels d.slot d.says)
-  is ← built labels ds
+-- the instructions of unresolved lines, or the first fault of one
+unfoldable pub second_pass : Labels → List UnresolvedLine → Result (List Insn) (AsmFault × ℕ)
+second_pass labels [] = Ok []
+second_pass labels (d ∷ ds) = do
+  i ← at_line d.line (resolved labels d.slot d.says)
+  is ← second_pass labels ds
   Ok (i ∷ is)
 
-abbrev pub finished : Plan → Result (List Insn) (AsmFault × ℕ)
-finished p = if nat_eq p.slots 0 then Err (Syntax, 1) else built p.labels p.drafts
+abbrev pub insns_of : FirstPassState → Result (List Insn) (AsmFault × ℕ)
+insns_of p = if nat_eq p.slots 0 then Err (Syntax, 1) else second_pass p.labels p.unresolved
 
 -- the instructions that a text stands for
 abbrev pub read_insns : List ℕ → Result (List Insn) (AsmFault × ℕ)
-read_insns text = planned 1 nothing (lines text) >>= finished
+read_insns text = first_pass 1 nothing_read (lines text) >>= insns_of
 
 -- the slots of an instruction, and those of a program
-abbrev pub insn_places : Insn → Code
-insn_places i = if is_wide i then (Some i ∷ None ∷ []) else (Some i ∷ [])
+abbrev pub insn_occupants : Insn → Code
+insn_occupants i = if is_wide i then (Some i ∷ None ∷ []) else (Some i ∷ [])
 
 abbrev pub code_of : List Insn → Code
-code_of is = flat_map insn_places is
+code_of is = flat_map insn_occupants is
 
 abbrev pub read_text : List ℕ → Result Code (AsmFault × ℕ)
 read_text text = read_insns text >>= λ is. Ok (code_of is)

@@ -8,14 +8,14 @@ use Rattle.scx_semantics.specs.declared.instructions.Insn.TheVariants as insn
 use Rattle.scx_semantics.specs.declared.instructions.Operand.{Operand}
 use Rattle.scx_semantics.specs.declared.instructions.Operand.TheVariants as operand
 use Rattle.scx_text.specs.declared.items.Literal.{Literal}
-use Rattle.scx_text.specs.declared.items.Argument.{Argument}
-use Rattle.scx_text.specs.declared.items.Argument.TheVariants as argument
+use Rattle.scx_text.specs.declared.items.WrittenOperand.{WrittenOperand}
+use Rattle.scx_text.specs.declared.items.WrittenOperand.TheVariants as argument
 use Rattle.scx_text.specs.declared.items.Statement.{Statement}
 use Rattle.scx_text.specs.declared.items.Statement.TheVariants as statement
 use Rattle.scx_text.specs.declared.items.Jump.{Jump}
 use Rattle.scx_text.specs.declared.items.Jump.TheVariants as jump
 use Rattle.scx_text.specs.Options.{◌>>=◌, either}
-use Rattle.scx_text.specs.Items.{Label, Distance, Line, Blank, Place_of, Says, Jumps}
+use Rattle.scx_text.specs.Items.{Label, Distance, ItemValue, Blank, DefinesLabel, Says, Jumps}
 use Rattle.scx_asm.specs.declared.faults.AsmFault.{AsmFault}
 use Rattle.scx_asm.specs.declared.faults.AsmFault.TheVariants.{UnknownLabel, OutOfRange}
 
@@ -45,7 +45,7 @@ long n = do
 
 -- ---- lines without a label
 
-abbrev pub operand_of : Argument → Option Operand
+abbrev pub operand_of : WrittenOperand → Option Operand
 operand_of (argument.Register r) = Some (operand.Register r)
 operand_of (argument.Number n) = immediate n >>= λ k. Some (operand.Immediate k)
 
@@ -53,9 +53,9 @@ abbrev pub insn_of : Statement → Option Insn
 insn_of (statement.Binary w o d x) = operand_of x >>= λ y. Some (insn.Binary w o d y)
 insn_of (statement.Negate w d) = Some (insn.Negate w d)
 insn_of (statement.SignExtend e d r) = Some (insn.SignExtend e d r)
-insn_of (statement.Reorder o w d) = Some (insn.Reorder o w d)
-insn_of (statement.Constant d n) = long n >>= λ b. Some (insn.Constant d (cast_signed w32 (b % 2 ^ 32)) (cast_signed w32 (b / 2 ^ 32)))
-insn_of (statement.MapReference d n) = immediate n >>= λ k. Some (insn.MapReference d k)
+insn_of (statement.ByteSwap o w d) = Some (insn.ByteSwap o w d)
+insn_of (statement.LoadImmediate d n) = long n >>= λ b. Some (insn.LoadImmediate d (cast_signed w32 (b % 2 ^ 32)) (cast_signed w32 (b / 2 ^ 32)))
+insn_of (statement.LoadMapReference d n) = immediate n >>= λ k. Some (insn.LoadMapReference d k)
 insn_of (statement.Load a d r n) = do
   k ← immediate n
   o ← short k
@@ -73,7 +73,7 @@ abbrev pub jump_of : Jump → ℤ → Option Insn
 jump_of (jump.If w c r x) z = do
   o ← short z
   y ← operand_of x
-  Some (insn.JumpIf w c r o y)
+  Some (insn.JumpIf w c r y o)
 jump_of jump.Goto z = short z >>= λ o. Some (insn.Goto o)
 jump_of jump.GotoLong z = wide z >>= λ o. Some (insn.GotoLong o)
 
@@ -81,18 +81,18 @@ abbrev pub distant : Jump → Literal → Option Insn
 distant j n = immediate n >>= jump_of j
 
 -- whether the numbers that the line writes fit their fields
-abbrev pub fits : Line → Bool
+abbrev pub fits : ItemValue → Bool
 fits (Says s) = is_some (insn_of s)
 fits (Jumps j (Distance n)) = is_some (distant j n)
 fits (Jumps j (Label l)) = is_some (jump_of j (pos 0))
 fits l = true
 
 -- the slots that the line's instruction takes
-abbrev pub slots : Line → ℕ
+abbrev pub slots : ItemValue → ℕ
 slots Blank = 0
-slots (Place_of l) = 0
-slots (Says (statement.Constant d n)) = 2
-slots (Says (statement.MapReference d n)) = 2
+slots (DefinesLabel l) = 0
+slots (Says (statement.LoadImmediate d n)) = 2
+slots (Says (statement.LoadMapReference d n)) = 2
 slots l = 1
 
 -- ---- labels
@@ -109,15 +109,15 @@ find l (e ∷ es) = if bytes_eq l e.0 then Some e.1 else find l es
 abbrev pub distance : ℕ → ℕ → ℤ
 distance slot target = pos target -ℤ pos (slot + 1)
 
-abbrev pub ranged : Option Insn → Result Insn AsmFault
-ranged i = ok_or i OutOfRange
+abbrev pub or_out_of_range : Option Insn → Result Insn AsmFault
+or_out_of_range i = ok_or i OutOfRange
 
 abbrev pub to_label : Labels → ℕ → Jump → List ℕ → Result Insn AsmFault
-to_label labels slot j l = either (find l labels) (λ target. ranged (jump_of j (distance slot target))) (Err UnknownLabel)
+to_label labels slot j l = either (find l labels) (λ target. or_out_of_range (jump_of j (distance slot target))) (Err UnknownLabel)
 
 -- the instruction that the line stands for at a slot; a line without one is out of range
-abbrev pub resolved : Labels → ℕ → Line → Result Insn AsmFault
-resolved labels slot (Says s) = ranged (insn_of s)
-resolved labels slot (Jumps j (Distance n)) = ranged (distant j n)
+abbrev pub resolved : Labels → ℕ → ItemValue → Result Insn AsmFault
+resolved labels slot (Says s) = or_out_of_range (insn_of s)
+resolved labels slot (Jumps j (Distance n)) = or_out_of_range (distant j n)
 resolved labels slot (Jumps j (Label l)) = to_label labels slot j l
 resolved labels slot l = Err OutOfRange

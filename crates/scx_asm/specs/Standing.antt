@@ -10,17 +10,17 @@ use Rattle.scx_semantics.specs.Code.{Code}
 use Rattle.scx_semantics.specs.Steps.{target}
 use Rattle.scx_isa.specs.declared.program.TheConstants.{MAX_SLOTS}
 use Rattle.scx_text.specs.declared.items.Jump.{Jump}
-use Rattle.scx_text.specs.Items.{Label, Distance, Line, Blank, Place_of, Says, Jumps, read_line}
+use Rattle.scx_text.specs.Items.{Label, Distance, ItemValue, Blank, DefinesLabel, Says, Jumps, read_line}
 use Rattle.scx_asm.specs.Resolving.{insn_of, jump_of, distant, slots, Labels}
 use Rattle.scx_asm.specs.Reading.{code_of}
 
 -- the label that a line defines at a slot
-abbrev pub defined : ℕ → Line → Labels
-defined s (Place_of l) = (l, s) ∷ []
+abbrev pub defined : ℕ → ItemValue → Labels
+defined s (DefinesLabel l) = (l, s) ∷ []
 defined s l = []
 
 -- the labels that lines define, each with the slot that it names, where the lines begin at a slot
-abbrev pub definitions : ℕ → List Line → Labels
+abbrev pub definitions : ℕ → List ItemValue → Labels
 definitions s [] = []
 definitions s (l ∷ ls) = defined s l ++ definitions (s + slots l) ls
 
@@ -33,24 +33,24 @@ IsJump j i = (z : ℤ) × (jump_of j z ≡ Some i)
 
 -- the instruction is the one that the line says at a slot; one that goes to a label has the label's slot as
 -- its target
-abbrev pub IsSaid : Labels → ℕ → Line → Insn → Type 0
+abbrev pub IsSaid : Labels → ℕ → ItemValue → Insn → Type 0
 IsSaid labels s (Says x) i = insn_of x ≡ Some i
 IsSaid labels s (Jumps j (Distance n)) i = distant j n ≡ Some i
 IsSaid labels s (Jumps j (Label l)) i = (t : ℕ) × Contains labels (l, t) × (target s i ≡ Some t) × IsJump j i
 IsSaid labels s l i = ⊥
 
 -- the lines from a slot on say the instructions in order, and nothing else
-abbrev pub AreSaid : Labels → ℕ → List Line → List Insn → Type 0
+abbrev pub AreSaid : Labels → ℕ → List ItemValue → List Insn → Type 0
 AreSaid labels s [] [] = Unit {0}
 AreSaid labels s [] (i ∷ is) = ⊥
 AreSaid labels s (Blank ∷ ls) is = AreSaid labels s ls is
-AreSaid labels s (Place_of l ∷ ls) is = AreSaid labels s ls is
+AreSaid labels s (DefinesLabel l ∷ ls) is = AreSaid labels s ls is
 AreSaid labels s (l ∷ ls) [] = ⊥
 AreSaid labels s (l ∷ ls) (i ∷ is) = IsSaid labels s l i × AreSaid labels (s + slots l) ls is
 
 -- the text stands for the program
 pub record StandsFor (text : List ℕ) (code : Code) : Type 0 where
-  pub says : List Line
+  pub says : List ItemValue
   pub insns : List Insn
   pub read : map read_line (lines text) ≡ map Some says
   pub once : IsDistinct bytes_eq (names (definitions 0 says))

@@ -2,17 +2,17 @@ ghost use Rattle.std.specs.Prelude.{◌≡◌, ◌<◌, map, length, IfOk, get_o
 ghost use Rattle.std.specs.Str.Lines.{lines};
 ghost use Rattle.scx_encoding.specs.Spelling.{IsInsn};
 ghost use Rattle.scx_isa.specs.Spelling.{IsProgram, spelling};
-ghost use Rattle.scx_text.specs.Items.{line_of};
+ghost use Rattle.scx_text.specs.Items.{item_value};
 ghost use Rattle.scx_asm.specs.Resolving.{resolved, to_label};
-ghost use Rattle.scx_asm.specs.Layout.{Gives, draft_of};
-ghost use Rattle.scx_asm.specs.Plans.{table, plan_of};
-ghost use Rattle.scx_asm.specs.Reading.{built, finished, code_of, read_insns, read_text};
+ghost use Rattle.scx_asm.specs.FirstPass.{Gives, unresolved_of};
+ghost use Rattle.scx_asm.specs.Passes.{table, first_pass_of};
+ghost use Rattle.scx_asm.specs.Reading.{second_pass, insns_of, code_of, read_insns, read_text};
 ghost use Rattle.scx_asm.specs.FirstFault.{Answers};
 ghost use Rattle.std.specs.List.{AllByRecursion};
 
 use crate::faults::{AsmError, AsmFault};
-use crate::layout::{Entry, Layout, lay_out, refused, slot_of};
 use crate::resolving::{jumped_so_far, jumped_to, said};
+use crate::scanning::{FirstPass, Unresolved, refused, scan, slot_of};
 use indexmap::IndexMap;
 use scx_encoding::push_insn;
 use scx_isa::{DecodeError, Insn, Program, decode};
@@ -34,41 +34,49 @@ fn jumped_to_label<'a>(
     }
 }
 
-/// The instruction that an entry stands for, or its fault.
-fn insn_at<'a>(labels: &IndexMap<&'a [u8], u16>, entry: &Entry<'a>) -> Result<Insn, AsmFault>
-    ensures { result ≡ resolved (table labels.now.entries) entry.now.slot (line_of entry.now.item) }
+/// The instruction that an unresolved line stands for, or its fault.
+fn insn_at<'a>(
+    labels: &IndexMap<&'a [u8], u16>,
+    unresolved: &Unresolved<'a>,
+) -> Result<Insn, AsmFault>
+    ensures { result ≡ resolved (table labels.now.entries) unresolved.now.slot (item_value unresolved.now.item) }
 {
-    match entry.item {
+    match unresolved.item {
         Item::Statement(statement) => said(statement),
         Item::Jump(jump, Target::Distance(distance)) => jumped_so_far(jump, distance),
-        Item::Jump(jump, Target::Label(label)) => jumped_to_label(labels, entry.slot, jump, label),
+        Item::Jump(jump, Target::Label(label)) => jumped_to_label(
+            labels,
+            unresolved.slot,
+            jump,
+            label,
+        ),
         Item::Blank | Item::Label(_) => Err(AsmFault::OutOfRange),
     }
 }
 
-/// The second pass: the instructions of all entries.
-fn resolve(alloc: Global, layout: &Layout<'_>) -> Result<Vec<Insn>, AsmError>
+/// The second pass: the instructions of all unresolved lines.
+fn second_pass(alloc: Global, pass: &FirstPass<'_>) -> Result<Vec<Insn>, AsmError>
     ensures { Gives (λ insns. insns.items) result
-        (built (table layout.now.labels.entries) (map draft_of layout.now.entries.items)) }
+        (second_pass (table pass.now.labels.entries) (map unresolved_of pass.now.unresolved.items)) }
 {
-    let mut insns = Vec::with_capacity(alloc, layout.entries.len())?;
-    for entry in &layout.entries {
-        match insn_at(&layout.labels, entry) {
+    let mut insns = Vec::with_capacity(alloc, pass.unresolved.len())?;
+    for unresolved in &pass.unresolved {
+        match insn_at(&pass.labels, unresolved) {
             Ok(insn) => insns.push(insn)?,
-            Err(fault) => return refused(fault, entry.line),
+            Err(fault) => return refused(fault, unresolved.line),
         }
     }
     Ok(insns)
 }
 
 /// The second pass, if the first one found an instruction.
-fn finish(alloc: Global, layout: &Layout<'_>) -> Result<Vec<Insn>, AsmError>
-    ensures { Gives (λ insns. insns.items) result (finished (plan_of layout.now)) }
+fn insns_of(alloc: Global, pass: &FirstPass<'_>) -> Result<Vec<Insn>, AsmError>
+    ensures { Gives (λ insns. insns.items) result (insns_of (first_pass_of pass.now)) }
 {
-    if layout.slots == 0 {
+    if pass.slots == 0 {
         return refused(AsmFault::Syntax, 1);
     }
-    resolve(alloc, layout)
+    second_pass(alloc, pass)
 }
 
 /// The instructions that the text stands for.
@@ -76,8 +84,8 @@ fn finish(alloc: Global, layout: &Layout<'_>) -> Result<Vec<Insn>, AsmError>
 fn instructions(alloc: Global, text: &str) -> Result<Vec<Insn>, AsmError>
     ensures { Gives (λ insns. insns.items) result (read_insns text.now) }
 {
-    match lay_out(alloc, text) {
-        Ok(layout) => finish(alloc, &layout),
+    match scan(alloc, text) {
+        Ok(pass) => insns_of(alloc, &pass),
         Err(error) => Err(error),
     }
 }

@@ -1,7 +1,7 @@
 //! An assembler and a disassembler for BPF programs, in the dialect that clang and llvm-objdump print.
 //!
 //! `assemble` reads a text line by line: a first pass lays out the instructions and notes the labels, a
-//! second one puts distances in their places. What it gives was written as slots and decoded.
+//! second one resolves them to distances. What it gives was written as slots and decoded.
 //! `disassemble` gives the canonical text, which `assemble` reads as the same program.
 #![tactic(auto)]
 
@@ -9,8 +9,8 @@ mod assembling;
 mod disassembling;
 mod faults;
 mod laws;
-mod layout;
 mod resolving;
+mod scanning;
 
 pub use assembling::assemble;
 pub use disassembling::disassemble;

@@ -1,11 +1,11 @@
 ghost use Rattle.std.specs.Prelude.{◌≡◌, ◌+◌, ◌<◌, ◌≤◌, ◌^◌, ok_or};
-ghost use Rattle.scx_text.specs.Items.{line_of};
-ghost use Rattle.scx_text.specs.declared.items.Statement.TheVariants.{Constant};
-ghost use Rattle.scx_asm.specs.Resolving.{immediate, short, long, operand_of, insn_of, jump_of, distant, fits, slots, distance, ranged};
+ghost use Rattle.scx_text.specs.Items.{item_value};
+ghost use Rattle.scx_text.specs.declared.items.Statement.TheVariants.{LoadImmediate};
+ghost use Rattle.scx_asm.specs.Resolving.{immediate, short, long, operand_of, insn_of, jump_of, distant, fits, slots, distance, or_out_of_range};
 
 use crate::faults::AsmFault;
 use scx_isa::{Insn, Operand, Register};
-use scx_text::{Argument, Item, Jump, Literal, Statement, Target};
+use scx_text::{Item, Jump, Literal, Statement, Target, WrittenOperand};
 
 /// The number, if it fits 32 bits with its sign.
 fn immediate_of(number: Literal) -> Option<i32>
@@ -48,22 +48,22 @@ fn long_of(number: Literal) -> Option<u64>
     }
 }
 
-fn operand_of(argument: Argument) -> Option<Operand>
+fn operand_of(argument: WrittenOperand) -> Option<Operand>
     ensures { result ≡ operand_of argument }
 {
     match argument {
-        Argument::Register(register) => Some(Operand::Register(register)),
-        Argument::Number(number) => Some(Operand::Immediate(immediate_of(number)?)),
+        WrittenOperand::Register(register) => Some(Operand::Register(register)),
+        WrittenOperand::Number(number) => Some(Operand::Immediate(immediate_of(number)?)),
     }
 }
 
-fn constant_of(register: Register, number: Literal) -> Option<Insn>
-    ensures { result ≡ insn_of (Constant register number) }
+fn immediate_load_of(register: Register, number: Literal) -> Option<Insn>
+    ensures { result ≡ insn_of (LoadImmediate register number) }
 {
     let bits = long_of(number)?;
     let low = (bits % (1 << 32)) as u32;
     let high = (bits / (1 << 32)) as u32;
-    Some(Insn::Constant(register, low.cast_signed(), high.cast_signed()))
+    Some(Insn::LoadImmediate(register, low.cast_signed(), high.cast_signed()))
 }
 
 /// The instruction that a statement stands for, if its numbers fit.
@@ -79,10 +79,10 @@ fn insn_of(statement: Statement) -> Option<Insn>
         Statement::SignExtend(extension, register, source) => {
             Some(Insn::SignExtend(extension, register, source))
         }
-        Statement::Reorder(order, width, register) => Some(Insn::Reorder(order, width, register)),
-        Statement::Constant(register, number) => constant_of(register, number),
-        Statement::MapReference(register, map) => {
-            Some(Insn::MapReference(register, immediate_of(map)?))
+        Statement::ByteSwap(order, width, register) => Some(Insn::ByteSwap(order, width, register)),
+        Statement::LoadImmediate(register, number) => immediate_load_of(register, number),
+        Statement::LoadMapReference(register, map) => {
+            Some(Insn::LoadMapReference(register, immediate_of(map)?))
         }
         Statement::Load(access, register, base, offset) => {
             let offset = short_of(immediate_of(offset)?)?;
@@ -106,7 +106,13 @@ pub(crate) fn jump_of(jump: Jump, distance: i32) -> Option<Insn>
         Jump::If(width, comparison, register, argument) => {
             let offset = short_of(distance)?;
             let operand = operand_of(argument)?;
-            Some(Insn::JumpIf(width, comparison, register, offset, operand))
+            Some(Insn::JumpIf {
+                width,
+                comparison,
+                register,
+                operand,
+                distance: offset,
+            })
         }
         Jump::Goto => Some(Insn::Goto(short_of(distance)?)),
         Jump::GotoLong => Some(Insn::GotoLong(distance)),
@@ -121,7 +127,7 @@ fn distant(jump: Jump, distance: Literal) -> Option<Insn>
 
 /// Whether the numbers that the line writes fit their fields.
 pub(crate) fn fits(item: &Item<'_>) -> bool
-    ensures { result ≡ fits (line_of item.now) }
+    ensures { result ≡ fits (item_value item.now) }
 {
     match *item {
         Item::Blank | Item::Label(_) => true,
@@ -133,12 +139,12 @@ pub(crate) fn fits(item: &Item<'_>) -> bool
 
 /// How many slots the line's instruction takes.
 pub(crate) fn slots_of(item: &Item<'_>) -> u16
-    ensures slots { result ≡ slots (line_of item.now) }
+    ensures slots { result ≡ slots (item_value item.now) }
     ensures most { result ≤ 2 }
 {
     match *item {
         Item::Blank | Item::Label(_) => 0,
-        Item::Statement(Statement::Constant(..) | Statement::MapReference(..)) => 2,
+        Item::Statement(Statement::LoadImmediate(..) | Statement::LoadMapReference(..)) => 2,
         Item::Statement(_) | Item::Jump(..) => 1,
     }
 }
@@ -152,28 +158,28 @@ fn distance_to(target: u16, slot: u16) -> i32
 
 /// The jump to a slot, or its fault.
 pub(crate) fn jumped_to(target: u16, slot: u16, jump: Jump) -> Result<Insn, AsmFault>
-    ensures { result ≡ ranged (jump_of jump (distance slot target)) }
+    ensures { result ≡ or_out_of_range (jump_of jump (distance slot target)) }
 {
     jumped(jump, distance_to(target, slot))
 }
 
 /// The instruction of a statement, or its fault.
 pub(crate) fn said(statement: Statement) -> Result<Insn, AsmFault>
-    ensures { result ≡ ranged (insn_of statement) }
+    ensures { result ≡ or_out_of_range (insn_of statement) }
 {
     insn_of(statement).ok_or(AsmFault::OutOfRange)
 }
 
 /// The jump of that distance, or its fault.
 pub(crate) fn jumped(jump: Jump, distance: i32) -> Result<Insn, AsmFault>
-    ensures { result ≡ ranged (jump_of jump distance) }
+    ensures { result ≡ or_out_of_range (jump_of jump distance) }
 {
     jump_of(jump, distance).ok_or(AsmFault::OutOfRange)
 }
 
 /// The jump of a distance that is written, or its fault.
 pub(crate) fn jumped_so_far(jump: Jump, distance: Literal) -> Result<Insn, AsmFault>
-    ensures { result ≡ ranged (distant jump distance) }
+    ensures { result ≡ or_out_of_range (distant jump distance) }
 {
     distant(jump, distance).ok_or(AsmFault::OutOfRange)
 }

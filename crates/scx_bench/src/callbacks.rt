@@ -11,7 +11,7 @@ use scx_isa::{Callback, TaskId, decode, encode};
 use scx_maps::{MapDefs, Maps, Shape};
 use scx_run::{Core, run_on};
 use scx_verify::{Verified, verify};
-use scx_vm::{Argument, Arguments};
+use scx_vm::{Arg, Args};
 use std::alloc::Global;
 
 /// The callbacks, with their texts.
@@ -132,22 +132,22 @@ fn host() -> OneTask {
         slice: 5_000_000,
         vtime: 1000,
         called: None,
-        given: [Argument::Unset; 5],
+        given: [Arg::Unset; 5],
     }
 }
 
 /// What a callback is given.
-fn given(callback: Callback) -> Arguments
+fn given(callback: Callback) -> Args
     ensures { FitsCallback callback (values.given result) }
 {
     let first = match callback {
-        Callback::Init => return Arguments::NONE,
-        Callback::Dispatch => Argument::Number(0),
-        _ => Argument::Task(TaskId(3)),
+        Callback::Init => return Args::NONE,
+        Callback::Dispatch => Arg::Num(0),
+        _ => Arg::Task(TaskId(3)),
     };
-    Arguments {
+    Args {
         first,
-        second: Argument::Number(0),
-        third: Argument::Number(0),
+        second: Arg::Num(0),
+        third: Arg::Num(0),
     }
 }

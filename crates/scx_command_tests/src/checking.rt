@@ -44,7 +44,7 @@ const FIFO: &str = "\
     dispatch = 'b701000000000000 85000000ec030000 9500000000000000'\n";
 
 #[test]
-fn accepts_safe_callbacks(rt: HostRuntime) {
+fn safe_callbacks_are_accepted(rt: HostRuntime) {
     expect(&rt, FIFO, "init ok 3\nenqueue ok 5\ndispatch ok 3\n", 0);
     expect(
         &rt,
@@ -57,7 +57,7 @@ fn accepts_safe_callbacks(rt: HostRuntime) {
 
 /// The verdicts stand in the order of callbacks, whatever the order in the file.
 #[test]
-fn orders_callbacks(rt: HostRuntime) {
+fn callbacks_come_in_order(rt: HostRuntime) {
     expect(
         &rt,
         "[code]\n\
@@ -80,7 +80,7 @@ fn orders_callbacks(rt: HostRuntime) {
 }
 
 #[test]
-fn refuses_unsafe_callbacks(rt: HostRuntime) {
+fn unsafe_callbacks_are_refused(rt: HostRuntime) {
     expect(
         &rt,
         "[code]\nenqueue = '''\ncall 5\nr0 = r1\nexit\n'''\n",
@@ -118,7 +118,7 @@ fn looks_up<R: AllocGlobal + Abort>(rt: &R, rest: &str, text: &str) -> Result<()
 }
 
 #[test]
-fn wants_null_tests(rt: HostRuntime) -> Result<(), Fail> {
+fn pointers_have_to_be_tested(rt: HostRuntime) -> Result<(), Fail> {
     looks_up(
         &rt,
         "r0 = *(u64 *)(r0 + 0)\n",
@@ -142,7 +142,7 @@ fn wants_null_tests(rt: HostRuntime) -> Result<(), Fail> {
 }
 
 #[test]
-fn refuses_files(rt: HostRuntime) -> Result<(), Fail> {
+fn faulty_files_are_refused(rt: HostRuntime) -> Result<(), Fail> {
     expect(&rt, "timeout_ms =", "refused: policy file: not TOML\n", 1);
     expect(
         &rt,
@@ -178,7 +178,7 @@ fn refuses_files(rt: HostRuntime) -> Result<(), Fail> {
 }
 
 #[test]
-fn stops_at_a_failed_write(rt: HostRuntime) {
+fn a_failed_write_is_the_last(rt: HostRuntime) {
     let files = [
         (
             "[code]\ninit = 'exit'\nenqueue = 'exit'",

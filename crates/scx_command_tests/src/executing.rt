@@ -32,7 +32,7 @@ fn expect_slots<R: AllocGlobal + Abort>(
 }
 
 #[test]
-fn answers(rt: HostRuntime) -> Result<(), Fail> {
+fn the_answer_and_the_steps_are_written(rt: HostRuntime) -> Result<(), Fail> {
     expect_slots(
         &rt,
         &[0xb700_0000_0000_0000, EXIT],
@@ -84,7 +84,7 @@ fn answers(rt: HostRuntime) -> Result<(), Fail> {
 }
 
 #[test]
-fn divides_signed(rt: HostRuntime) -> Result<(), Fail> {
+fn signed_division_keeps_its_bounds(rt: HostRuntime) -> Result<(), Fail> {
     // The least number divided by -1, and the remainder of it.
     expect_slots(
         &rt,
@@ -112,7 +112,7 @@ fn divides_signed(rt: HostRuntime) -> Result<(), Fail> {
 }
 
 #[test]
-fn orders_and_extends(rt: HostRuntime) -> Result<(), Fail> {
+fn bytes_are_swapped_and_signs_extended(rt: HostRuntime) -> Result<(), Fail> {
     // r0 = be16 258; r0 = (s8)255.
     expect_slots(
         &rt,
@@ -130,7 +130,7 @@ fn orders_and_extends(rt: HostRuntime) -> Result<(), Fail> {
 }
 
 #[test]
-fn uses_the_stack(rt: HostRuntime) -> Result<(), Fail> {
+fn the_stack_is_used(rt: HostRuntime) -> Result<(), Fail> {
     // 5 stored at r10 - 8, and loaded.
     expect_slots(
         &rt,
@@ -155,7 +155,7 @@ fn uses_the_stack(rt: HostRuntime) -> Result<(), Fail> {
 }
 
 #[test]
-fn refuses_unsafe_programs(rt: HostRuntime) -> Result<(), Fail> {
+fn unsafe_programs_are_refused(rt: HostRuntime) -> Result<(), Fail> {
     // No answer in r0.
     expect_slots(&rt, &[EXIT], "refused: verify 18 BadReturn at 0\n", 1)?;
     expect_slots(
@@ -194,7 +194,7 @@ fn refuses_unsafe_programs(rt: HostRuntime) -> Result<(), Fail> {
 }
 
 #[test]
-fn refuses_unsafe_memory(rt: HostRuntime) -> Result<(), Fail> {
+fn unsafe_accesses_are_refused(rt: HostRuntime) -> Result<(), Fail> {
     // A load of what wasn't written, one below the stack, and one out of line.
     expect_slots(
         &rt,
@@ -251,7 +251,7 @@ fn refuses_unsafe_memory(rt: HostRuntime) -> Result<(), Fail> {
 
 /// What has no map and no helper: a load of a reference to map 0, and calls of helpers 5 and 2.
 #[test]
-fn has_no_maps_and_helpers(rt: HostRuntime) -> Result<(), Fail> {
+fn a_plain_program_has_no_maps_and_no_helpers(rt: HostRuntime) -> Result<(), Fail> {
     expect_slots(
         &rt,
         &[0x1850_0000_0000_0000, 0, EXIT],
@@ -274,7 +274,7 @@ fn has_no_maps_and_helpers(rt: HostRuntime) -> Result<(), Fail> {
 
 /// What nothing leads to is not looked at.
 #[test]
-fn passes_over_what_is_not_reached(rt: HostRuntime) -> Result<(), Fail> {
+fn what_is_not_reached_is_passed_over(rt: HostRuntime) -> Result<(), Fail> {
     expect_slots(
         &rt,
         &[
@@ -289,7 +289,7 @@ fn passes_over_what_is_not_reached(rt: HostRuntime) -> Result<(), Fail> {
 }
 
 #[test]
-fn refuses_bytes(rt: HostRuntime) -> Result<(), Fail> {
+fn bytes_that_spell_no_program_are_refused(rt: HostRuntime) -> Result<(), Fail> {
     expect(&rt, &[], "refused: decode 1 Empty at 0\n", 1);
     let short = bytes_of(rt.alloc(), &[0xb700_0000_0000_0000, EXIT])?;
     assert_eq!(rt; short.len(), 16);
@@ -327,7 +327,7 @@ fn refuses_bytes(rt: HostRuntime) -> Result<(), Fail> {
 }
 
 #[test]
-fn refuses_flow(rt: HostRuntime) -> Result<(), Fail> {
+fn faulty_flow_is_refused(rt: HostRuntime) -> Result<(), Fail> {
     expect_slots(
         &rt,
         &[0x0500_0100_0000_0000, 0x1800_0000_0000_0000, 0, EXIT],
@@ -357,7 +357,7 @@ fn long_program(alloc: Global, slots: usize) -> Result<Vec<u8>, AllocError> {
 }
 
 #[test]
-fn limits_slots(rt: HostRuntime) -> Result<(), Fail> {
+fn slots_are_limited(rt: HostRuntime) -> Result<(), Fail> {
     let longest = long_program(rt.alloc(), 4096)?;
     expect(&rt, longest.as_slice(), "r0 = 0 in 4096 steps\n", 0);
     let too_long = long_program(rt.alloc(), 4097)?;
@@ -371,7 +371,7 @@ fn limits_slots(rt: HostRuntime) -> Result<(), Fail> {
 }
 
 #[test]
-fn limits_files(rt: HostRuntime) -> Result<(), Fail> {
+fn files_are_limited(rt: HostRuntime) -> Result<(), Fail> {
     let largest = vec![in rt.alloc(); 0u8; FILE_LIMIT]?;
     expect(
         &rt,
@@ -385,7 +385,7 @@ fn limits_files(rt: HostRuntime) -> Result<(), Fail> {
 }
 
 #[test]
-fn writes_byte_by_byte(rt: HostRuntime) -> Result<(), Fail> {
+fn a_writer_may_take_byte_by_byte(rt: HostRuntime) -> Result<(), Fail> {
     let bytes = bytes_of(rt.alloc(), &[0xb700_0000_0000_0000, EXIT])?;
     let mut memory = Memory::failing(rt.alloc(), 1, usize::MAX, false);
     assert_eq!(rt;
@@ -397,7 +397,7 @@ fn writes_byte_by_byte(rt: HostRuntime) -> Result<(), Fail> {
 }
 
 #[test]
-fn stops_at_a_failed_write(rt: HostRuntime) -> Result<(), Fail> {
+fn a_failed_write_is_the_last(rt: HostRuntime) -> Result<(), Fail> {
     let runs = bytes_of(rt.alloc(), &[0xb700_0000_0000_0000, EXIT])?;
     let lines: [(&[u8], &str); 2] = [
         (runs.as_slice(), "r0 = 0 in 2 steps\n"),

@@ -23,14 +23,14 @@ fn refuses<R: AllocGlobal + Abort>(rt: &R, refusal: Refusal, line: &str) {
 }
 
 #[test]
-fn answers_statuses(rt: HostRuntime) {
+fn each_outcome_has_its_status(rt: HostRuntime) {
     expect(&rt, Ok(true), "", 0);
     expect(&rt, Ok(false), "", 1);
     expect(&rt, Err(Fault::WriteFailed), "", 3);
 }
 
 #[test]
-fn names_faults_of_programs(rt: HostRuntime) {
+fn faults_of_programs_are_named(rt: HostRuntime) {
     let local_call = DecodeFault::NotInProfile(Exclusion::LocalCall);
     let into_wide = verifier::Fault::Flow(FlowFault::IntoWide);
     refuses(&rt, Refusal::TooLarge, "refused: too large\n");
@@ -72,7 +72,7 @@ fn names_faults_of_programs(rt: HostRuntime) {
 }
 
 #[test]
-fn names_answers_of_init(rt: HostRuntime) {
+fn answers_of_init_are_named(rt: HostRuntime) {
     refuses(&rt, Refusal::Init(-22), "refused: init -22\n");
     refuses(&rt, Refusal::Init(1), "refused: init 1\n");
     refuses(
@@ -83,7 +83,7 @@ fn names_answers_of_init(rt: HostRuntime) {
 }
 
 #[test]
-fn names_causes_in_files(rt: HostRuntime) -> Result<(), Fail> {
+fn causes_in_files_are_named(rt: HostRuntime) -> Result<(), Fail> {
     let asm = Cause::Asm {
         fault: AsmFault::Syntax,
         line: 3,
@@ -120,7 +120,7 @@ fn names_causes_in_files(rt: HostRuntime) -> Result<(), Fail> {
 }
 
 #[test]
-fn reports_an_unread_file(rt: HostRuntime) -> Result<(), Fail> {
+fn an_unread_file_is_reported(rt: HostRuntime) -> Result<(), Fail> {
     let mut memory = Memory::new(rt.alloc());
     write_unread("some/file.bin", &mut Counted::new(&mut memory))?;
     assert_eq!(rt;

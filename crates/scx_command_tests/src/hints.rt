@@ -4,7 +4,7 @@ use scx_commands::{Hint, hint_of_slots, hint_of_text};
 use std::process::Abort;
 
 #[test]
-fn hints_at_what_was_meant(rt: HostRuntime) {
+fn a_hint_says_what_was_meant(rt: HostRuntime) {
     let object = b"\x7fELF\x02\x01\x01\0".as_slice();
     let text = b"r0 = 0\n\texit\r\n".as_slice();
     let slots = b"\x95\0\0\0\0\0\0\0".as_slice();

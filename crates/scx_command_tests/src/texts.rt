@@ -57,7 +57,7 @@ fn both_ways<R: AllocGlobal + Abort>(rt: &R, line: &str, slot: u64) -> Result<()
 }
 
 #[test]
-fn turns_text_into_slots(rt: HostRuntime) -> Result<(), Fail> {
+fn texts_and_slots_stand_for_each_other(rt: HostRuntime) -> Result<(), Fail> {
     let jump = [0x0500_0100_0000_0000, 0xb700_0000_0100_0000, EXIT];
     assembles(&rt, "goto end\nr0 = 1\nend:\nexit", &jump)?;
     disassembles(&rt, &jump, "goto +1\nr0 = 1\nexit\n")?;
@@ -70,7 +70,7 @@ fn turns_text_into_slots(rt: HostRuntime) -> Result<(), Fail> {
 }
 
 #[test]
-fn refuses_texts(rt: HostRuntime) {
+fn faulty_texts_are_refused(rt: HostRuntime) {
     let refused = [
         ("goto end\nexit", "refused: asm 2 UnknownLabel at 1\n"),
         ("goto end\nr0 =", "refused: asm 1 Syntax at 2\n"),
@@ -85,7 +85,7 @@ fn refuses_texts(rt: HostRuntime) {
 }
 
 #[test]
-fn refuses_what_is_no_text(rt: HostRuntime) -> Result<(), Fail> {
+fn bytes_that_are_no_text_are_refused(rt: HostRuntime) -> Result<(), Fail> {
     let wrong = b"\xff\xfe".as_slice();
     assert_eq!(rt; text(wrong), Err(Fault::Refused(Refusal::NotUtf8)));
     expect(&rt, Work::Asm, wrong, b"refused: not UTF-8\n", 1);
@@ -116,7 +116,7 @@ fn commented_program(alloc: Global, length: usize) -> Result<Vec<u8>, AllocError
 }
 
 #[test]
-fn limits_texts(rt: HostRuntime) -> Result<(), Fail> {
+fn texts_are_limited(rt: HostRuntime) -> Result<(), Fail> {
     let largest = commented_program(rt.alloc(), FILE_LIMIT)?;
     assert_eq!(rt; largest.len(), FILE_LIMIT);
     let slots = bytes_of(rt.alloc(), &[0xb700_0000_0100_0000, EXIT])?;
@@ -146,7 +146,7 @@ fn round_trip<R: AllocGlobal + Abort>(rt: &R, text: &str, slots: &[u64]) -> Resu
 // (a reference to map 0 being its load of a constant, with source field 5).
 
 #[test]
-fn creates_the_queue(rt: HostRuntime) -> Result<(), Fail> {
+fn init_goes_there_and_back(rt: HostRuntime) -> Result<(), Fail> {
     let text = "\
         r1 = 0\n\
         call 1001\n\
@@ -156,7 +156,7 @@ fn creates_the_queue(rt: HostRuntime) -> Result<(), Fail> {
 }
 
 #[test]
-fn selects_a_processor(rt: HostRuntime) -> Result<(), Fail> {
+fn select_cpu_goes_there_and_back(rt: HostRuntime) -> Result<(), Fail> {
     let text = "\
         r6 = r1\n\
         call 1005\n\
@@ -192,7 +192,7 @@ fn selects_a_processor(rt: HostRuntime) -> Result<(), Fail> {
 }
 
 #[test]
-fn enqueues_in_order(rt: HostRuntime) -> Result<(), Fail> {
+fn enqueue_in_order_goes_there_and_back(rt: HostRuntime) -> Result<(), Fail> {
     let text = "\
         r4 = r2\n\
         r2 = 0\n\
@@ -210,7 +210,7 @@ fn enqueues_in_order(rt: HostRuntime) -> Result<(), Fail> {
 }
 
 #[test]
-fn enqueues_by_virtual_time(rt: HostRuntime) -> Result<(), Fail> {
+fn enqueue_by_virtual_time_goes_there_and_back(rt: HostRuntime) -> Result<(), Fail> {
     let text = "\
         r6 = r1\n\
         r7 = r2\n\
@@ -263,7 +263,7 @@ fn enqueues_by_virtual_time(rt: HostRuntime) -> Result<(), Fail> {
 }
 
 #[test]
-fn dispatches(rt: HostRuntime) -> Result<(), Fail> {
+fn dispatch_goes_there_and_back(rt: HostRuntime) -> Result<(), Fail> {
     let text = "\
         r1 = 0\n\
         call 1004\n\
@@ -273,7 +273,7 @@ fn dispatches(rt: HostRuntime) -> Result<(), Fail> {
 }
 
 #[test]
-fn runs(rt: HostRuntime) -> Result<(), Fail> {
+fn running_goes_there_and_back(rt: HostRuntime) -> Result<(), Fail> {
     let text = "\
         r6 = r1\n\
         *(u32 *)(r10 - 4) = 0\n\
@@ -311,7 +311,7 @@ fn runs(rt: HostRuntime) -> Result<(), Fail> {
 }
 
 #[test]
-fn stops(rt: HostRuntime) -> Result<(), Fail> {
+fn stopping_goes_there_and_back(rt: HostRuntime) -> Result<(), Fail> {
     let text = "\
         r2 = 20000000\n\
         r3 = *(u64 *)(r1 + 8)\n\
@@ -339,7 +339,7 @@ fn stops(rt: HostRuntime) -> Result<(), Fail> {
 }
 
 #[test]
-fn enables(rt: HostRuntime) -> Result<(), Fail> {
+fn enable_goes_there_and_back(rt: HostRuntime) -> Result<(), Fail> {
     let text = "\
         r6 = r1\n\
         *(u32 *)(r10 - 4) = 0\n\

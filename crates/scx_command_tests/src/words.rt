@@ -14,7 +14,7 @@ fn understands<R: AllocGlobal + Abort>(
 }
 
 #[test]
-fn understands_words(rt: HostRuntime) -> Result<(), Fail> {
+fn words_are_understood(rt: HostRuntime) -> Result<(), Fail> {
     let path = "some/file";
     understands(
         &rt,
@@ -36,7 +36,7 @@ fn understands_words(rt: HostRuntime) -> Result<(), Fail> {
 }
 
 #[test]
-fn tells_policy_and_workload_apart(rt: HostRuntime) -> Result<(), Fail> {
+fn policy_and_workload_are_told_apart(rt: HostRuntime) -> Result<(), Fail> {
     understands(
         &rt,
         &["scxsim", "run", "first", "second"],
@@ -56,7 +56,7 @@ fn tells_policy_and_workload_apart(rt: HostRuntime) -> Result<(), Fail> {
 }
 
 #[test]
-fn refuses_words(rt: HostRuntime) {
+fn other_words_are_refused(rt: HostRuntime) {
     let wrong: [&[&str]; 7] = [
         &["scxsim"],
         &["scxsim", "--help"],

@@ -5,8 +5,8 @@ use Rattle.scx_dsq.specs.Queues.{front_of}
 use Rattle.scx_dsq.specs.Calls.{created}
 use Rattle.scx_semantics.specs.declared.callbacks.Callback.{Callback}
 use Rattle.scx_semantics.specs.declared.callbacks.Callback.TheVariants as callback
-use Rattle.scx_semantics.specs.declared.outside.Helper.{Helper}
-use Rattle.scx_semantics.specs.declared.outside.Helper.TheVariants.{MapLookupElem, KtimeGetNs, CreateDsq, DsqInsert, DsqInsertVtime, DsqMoveToLocal, SelectCpuDfl, CpuIdle, TaskByPid, DsqNrQueued}
+use Rattle.scx_semantics.specs.declared.host_tables.Helper.{Helper}
+use Rattle.scx_semantics.specs.declared.host_tables.Helper.TheVariants.{MapLookupElem, KtimeGetNs, CreateDsq, DsqInsert, DsqInsertVtime, DsqMoveToLocal, SelectCpuDfl, CpuIdle, TaskByPid, DsqNrQueued}
 use Rattle.scx_semantics.specs.Code.{instruction_count}
 use Rattle.scx_semantics.specs.Effects.{Query, Call, Load, Store}
 use Rattle.scx_semantics.specs.Elements.{Maps}
@@ -15,8 +15,8 @@ use Rattle.scx_semantics.proofs.EndedRuns.{run_keeps}
 use Rattle.scx_semantics.specs.Machine as start
 use Rattle.scx_safety.specs.Programs.{VerifiedProgram}
 use Rattle.scx_vm.specs.Arguments.{given, argument_of}
-use Rattle.scx_vm.specs.declared.arguments.Argument.{Argument}
-use Rattle.scx_vm.specs.declared.arguments.Arguments.{Arguments}
+use Rattle.scx_vm.specs.declared.arguments.Arg.{Arg}
+use Rattle.scx_vm.specs.declared.arguments.Args.{Args}
 use Rattle.scx_vm.specs.Host.{answer_to, after_query}
 use Rattle.scx_weights.specs.Hierarchy.{Hierarchy}
 use Rattle.scx_world.specs.declared.call.Insert.{Insert}
@@ -69,7 +69,7 @@ module _ (h : Hierarchy) (n c : ℕ) where
   like_brought None w q d i = i
   like_brought (Some t) w q d i = i
 
-  like_helper : (w : WorldState) (f : Helper) (a : List Argument) → IsLike h n c w → IsLike h n c (helper_after w f a)
+  like_helper : (w : WorldState) (f : Helper) (a : List Arg) → IsLike h n c w → IsLike h n c (helper_after w f a)
   like_helper w CreateDsq a i = keeps_if (IsLike h n c) (can_create w (given_number a 0)) (with_queues w (created w.queues (given_number a 0))) (faulted w CannotCreate) i i
   like_helper w DsqInsert a i = like_inserted w (insert_fault w (given_task a 0) (asked a) (given_number a 3)) (given_task a 0) (asked a) i
   like_helper w DsqInsertVtime a i = like_inserted w (insert_fault w (given_task a 0) (asked_by_vtime a) (given_number a 4)) (given_task a 0) (asked_by_vtime a) i
@@ -94,14 +94,14 @@ module _ (h : Hierarchy) (n c : ℕ) where
 
   -- ---- callbacks
 
-  like_called : (p : Option VerifiedProgram) (b : Callback) (a : Arguments) (maps : Maps) (w : WorldState) → IsLike h n c w → IsLike h n c (called p b a maps w).outside
+  like_called : (p : Option VerifiedProgram) (b : Callback) (a : Args) (maps : Maps) (w : WorldState) → IsLike h n c w → IsLike h n c (called p b a maps w).outside
   unfolding called run_of
   like_called None b a maps w i = i
   like_called (Some p) b a maps w i =
       run_keeps (answer_to world_functions) (after_query world_functions) (IsLike h n c) like_query b p.code (suc (instruction_count p.code)) 0 (start.start (given a) maps) w i
 
   -- a callback
-  pub like_call_back : (s : State) (b : Callback) (a : Arguments) (t d : ℕ) → IsLike h n c s.world → IsLike h n c (call_back s b a t d).state.world
+  pub like_call_back : (s : State) (b : Callback) (a : Args) (t d : ℕ) → IsLike h n c s.world → IsLike h n c (call_back s b a t d).state.world
   unfolding call_back
   like_call_back s b a t d i = like_called (program_of s.policy b) b a s.maps (begun s.world b t d) i
 

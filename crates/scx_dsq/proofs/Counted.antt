@@ -4,8 +4,8 @@ use Rattle.std.specs.List.{list_any}
 use Rattle.std.proofs.lemmas.Bool.{both_ways, cases_Bool, eq-eqb, eqb-true, ne_eqb, or_parts}
 use Rattle.std.proofs.lemmas.List.Sums.{sum_by-cons}
 use Rattle.std.proofs.lemmas.List.Folds.{list_any_none}
-use Rattle.scx_dsq.specs.declared.places.Place.{Place}
-use Rattle.scx_dsq.specs.Queues.{QueueState, place_of, is_in}
+use Rattle.scx_dsq.specs.declared.entries.Entry.{Entry}
+use Rattle.scx_dsq.specs.Queues.{QueueState, entry_of, is_in}
 use Rattle.scx_dsq.specs.Laws.{IsSound, one_if, StandsInSoMany}
 
 count-cons : (q id : ℕ) (ids : List ℕ) → count_by (λ other. q == other) (id ∷ ids) ≡ cond (q == id) 1 0 + count_by (λ other. q == other) ids
@@ -37,8 +37,8 @@ nowhere [] = refl
 nowhere (id ∷ ids) = sum_by-cons (λ other. cond (is_in other None) 1 0) id ids ∙ rw (nowhere ids) refl
 
 pub stands_in_so_many : (s : QueueState) → IsSound s → StandsInSoMany s
-stands_in_so_many s h t = go (place_of s t) refl
+stands_in_so_many s h t = go (entry_of s t) refl
   where
-    go : (o : Option Place) → place_of s t ≡ o → count_by (λ id. is_in id o) s.ids ≡ one_if (is_some o)
+    go : (o : Option Entry) → entry_of s t ≡ o → count_by (λ id. is_in id o) s.ids ≡ one_if (is_some o)
     go None e = nowhere s.ids
     go (Some p) e = once p.queue s.ids h.queues.distinct (h.homes t p e)

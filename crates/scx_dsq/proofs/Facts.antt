@@ -5,12 +5,12 @@ use Rattle.std.specs.List.{list_any}
 use Rattle.std.proofs.lemmas.Bool.{cases_eq, cases_lt, eq-eqb, ne_eqb}
 use Rattle.std.proofs.lemmas.List.{length-set, get_or-set_same, get_or-set_other, get_or_past, set_past}
 use Rattle.std.proofs.lemmas.List.Quantifiers.{position-Some}
-use Rattle.scx_dsq.specs.declared.places.Rank.{Rank}
-use Rattle.scx_dsq.specs.declared.places.Place.{Place}
+use Rattle.scx_dsq.specs.declared.entries.Rank.{Rank}
+use Rattle.scx_dsq.specs.declared.entries.Entry.{Entry}
 use Rattle.scx_dsq.specs.declared.errors.QueueError.{QueueError}
 use Rattle.scx_dsq.specs.declared.errors.QueueError.TheVariants.{NoSuchQueue, AlreadyThere, Mixed}
-use Rattle.scx_dsq.specs.Queues.{Places, QueueState, exists, task_count, place_at, place_of, is_first, front_of}
-use Rattle.scx_dsq.specs.Calls.{clashes, create_refusal, with_queue, created, push_refusal, pushed, with_task, without, without_task, removed, next_place}
+use Rattle.scx_dsq.specs.Queues.{Entries, QueueState, exists, task_count, entry_at, entry_of, is_first, front_of}
+use Rattle.scx_dsq.specs.Calls.{clashes, create_refusal, with_queue, created, push_refusal, pushed, with_task, without, without_task, removed, next_entry}
 use Rattle.scx_dsq.specs.Laws.{one_if, standing, PushAddsOne, PopTakesOne, RemovalTakesOne, OthersChangeNone}
 
 -- ---- what a call leaves as it was
@@ -28,20 +28,20 @@ pub tasks_pushed : (s : QueueState) (id t : ℕ) (rank : Rank) → task_count (p
 tasks_pushed s id t rank = go (is_none (push_refusal s id t rank))
   where
     go : (b : Bool) → task_count (if b then with_task s id t rank else s) ≡ task_count s
-    go true = length-set s.places t (Some (next_place s id rank))
+    go true = length-set s.entries t (Some (next_entry s id rank))
     go false = refl
 
 -- after a task has left, if one does
 pub tasks_without : (s : QueueState) (o : Option ℕ) → task_count (without s o) ≡ task_count s
 tasks_without s None = refl
-tasks_without s (Some t) = length-set {A = Option Place} s.places t None
+tasks_without s (Some t) = length-set {A = Option Entry} s.entries t None
 
 -- after a removal
 pub tasks_removed : (s : QueueState) (t : ℕ) → task_count (removed s t) ≡ task_count s
-tasks_removed s t = go (is_some (place_of s t))
+tasks_removed s t = go (is_some (entry_of s t))
   where
     go : (b : Bool) → task_count (if b then without_task s t else s) ≡ task_count s
-    go true = length-set {A = Option Place} s.places t None
+    go true = length-set {A = Option Entry} s.entries t None
     go false = refl
 
 -- there are the same queues after a push
@@ -59,7 +59,7 @@ ids_without s (Some t) = refl
 
 -- after a removal
 pub ids_removed : (s : QueueState) (t : ℕ) → (removed s t).ids ≡ s.ids
-ids_removed s t = go (is_some (place_of s t))
+ids_removed s t = go (is_some (entry_of s t))
   where
     go : (b : Bool) → (if b then without_task s t else s).ids ≡ s.ids
     go true = refl
@@ -88,7 +88,7 @@ pushes_without s (Some t) = refl
 
 -- after a removal
 pub pushes_removed : (s : QueueState) (t : ℕ) → (removed s t).pushes ≡ s.pushes
-pushes_removed s t = go (is_some (place_of s t))
+pushes_removed s t = go (is_some (entry_of s t))
   where
     go : (b : Bool) → (if b then without_task s t else s).pushes ≡ s.pushes
     go true = refl
@@ -97,20 +97,20 @@ pushes_removed s t = go (is_some (place_of s t))
 -- ---- who waits
 
 -- a push is accepted for a task that waits nowhere
-pub free_from : (s : QueueState) (id t : ℕ) (rank : Rank) → push_refusal s id t rank ≡ None → place_of s t ≡ None
-free_from s id t rank e = go (exists s id) (place_of s t) e
+pub free_from : (s : QueueState) (id t : ℕ) (rank : Rank) → push_refusal s id t rank ≡ None → entry_of s t ≡ None
+free_from s id t rank e = go (exists s id) (entry_of s t) e
   where
-    go : (b : Bool) (o : Option Place) → (if not b then Some NoSuchQueue else (if is_some o then Some AlreadyThere else (if list_any (clashes id rank) s.places then Some Mixed else None))) ≡ None → o ≡ None
+    go : (b : Bool) (o : Option Entry) → (if not b then Some NoSuchQueue else (if is_some o then Some AlreadyThere else (if list_any (clashes id rank) s.entries then Some Mixed else None))) ≡ None → o ≡ None
     go false o e = absurd (cc)
     go true None e = refl
     go true (Some p) e = absurd (cc)
 
 -- the front waits in the queue
-pub front_waits : (s : QueueState) (id t : ℕ) → front_of s id ≡ Some t → is_some (place_of s t) ≡ true
+pub front_waits : (s : QueueState) (id t : ℕ) → front_of s id ≡ Some t → is_some (entry_of s t) ≡ true
 unfolding front_of
-front_waits s id t e = go (place_of s t) (position-Some (is_first s.places id) s.places t None e).1
+front_waits s id t e = go (entry_of s t) (position-Some (is_first s.entries id) s.entries t None e).1
   where
-    go : (o : Option Place) → is_first s.places id o ≡ true → is_some o ≡ true
+    go : (o : Option Entry) → is_first s.entries id o ≡ true → is_some o ≡ true
     go None h = h
     go (Some p) h = refl
 
@@ -123,7 +123,7 @@ front_is_known s id (Some t) e = go (cases_lt t (task_count s))
     go (inl within) = within
     go (inr past) =
         let waits = front_waits s id t (sym e) in
-        let none : place_of s t ≡ None = get_or_past {X = Option Place} s.places t None past in
+        let none : entry_of s t ≡ None = get_or_past {X = Option Entry} s.entries t None past in
         absurd (cc (ap is_some none))
 
 -- ---- in how many queues a task waits
@@ -132,26 +132,26 @@ front_is_known s id (Some t) e = go (cases_lt t (task_count s))
 pub standing_pushed : PushAddsOne
 standing_pushed s id t u rank within accepted = rw accepted (go (cases_eq u t))
   where
-    new : Option Place
-    new = Some (next_place s id rank)
+    new : Option Entry
+    new = Some (next_entry s id rank)
 
-    go : (u ≡ t) ⊎ (u ≡ t → ⊥) → one_if (is_some (place_at (set s.places t new) u)) ≡ standing s u + one_if (u == t)
-    go (inl e) = rw (e, get_or-set_same s.places t new None within, free_from s id t rank accepted, eq-eqb t t refl) (omega arith)
-    go (inr n) = rw (get_or-set_other s.places t u new None n, ne_eqb u t n) (omega arith)
+    go : (u ≡ t) ⊎ (u ≡ t → ⊥) → one_if (is_some (entry_at (set s.entries t new) u)) ≡ standing s u + one_if (u == t)
+    go (inl e) = rw (e, get_or-set_same s.entries t new None within, free_from s id t rank accepted, eq-eqb t t refl) (omega arith)
+    go (inr n) = rw (get_or-set_other s.entries t u new None n, ne_eqb u t n) (omega arith)
 
-nowhere_after : (places : Places) (t : ℕ) → place_at (set places t None) t ≡ None
-nowhere_after places t = go (cases_lt t (length places))
+nowhere_after : (entries : Entries) (t : ℕ) → entry_at (set entries t None) t ≡ None
+nowhere_after entries t = go (cases_lt t (length entries))
   where
-    go : (t < length places) ⊎ (length places ≤ t) → place_at (set places t None) t ≡ None
-    go (inl within) = get_or-set_same {A = Option Place} places t None None within
-    go (inr past) = rw (set_past {X = Option Place} places t None past) (get_or_past {X = Option Place} places t None past)
+    go : (t < length entries) ⊎ (length entries ≤ t) → entry_at (set entries t None) t ≡ None
+    go (inl within) = get_or-set_same {A = Option Entry} entries t None None within
+    go (inr past) = rw (set_past {X = Option Entry} entries t None past) (get_or_past {X = Option Entry} entries t None past)
 
-standing_without : (s : QueueState) (t u : ℕ) → is_some (place_of s t) ≡ true → standing (without_task s t) u + one_if (u == t) ≡ standing s u
+standing_without : (s : QueueState) (t u : ℕ) → is_some (entry_of s t) ≡ true → standing (without_task s t) u + one_if (u == t) ≡ standing s u
 standing_without s t u waits = go (cases_eq u t)
   where
-    go : (u ≡ t) ⊎ (u ≡ t → ⊥) → one_if (is_some (place_at (set s.places t None) u)) + one_if (u == t) ≡ standing s u
-    go (inl e) = rw (e, nowhere_after s.places t, eq-eqb t t refl, waits) (omega arith)
-    go (inr n) = rw (get_or-set_other {A = Option Place} s.places t u None None n, ne_eqb u t n) (omega arith)
+    go : (u ≡ t) ⊎ (u ≡ t → ⊥) → one_if (is_some (entry_at (set s.entries t None) u)) + one_if (u == t) ≡ standing s u
+    go (inl e) = rw (e, nowhere_after s.entries t, eq-eqb t t refl, waits) (omega arith)
+    go (inr n) = rw (get_or-set_other {A = Option Entry} s.entries t u None None n, ne_eqb u t n) (omega arith)
 
 -- the law of pops
 pub standing_popped : PopTakesOne

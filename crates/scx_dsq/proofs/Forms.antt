@@ -4,18 +4,18 @@ use Rattle.std.specs.List.{list_any}
 use Rattle.std.proofs.lemmas.Bool.{both_ways, eq-eqb, eqb-true, and_parts, not-true, false_from_ne_true}
 use Rattle.std.proofs.lemmas.List.{get_or_default}
 use Rattle.std.proofs.lemmas.List.Folds.{list_any_at, list_any_none}
-use Rattle.scx_dsq.specs.declared.places.Rank.{Rank}
-use Rattle.scx_dsq.specs.declared.places.Rank.TheVariants.{Fifo, Vtime}
-use Rattle.scx_dsq.specs.declared.places.Place.{Place}
+use Rattle.scx_dsq.specs.declared.entries.Rank.{Rank}
+use Rattle.scx_dsq.specs.declared.entries.Rank.TheVariants.{Fifo, Vtime}
+use Rattle.scx_dsq.specs.declared.entries.Entry.{Entry}
 use Rattle.scx_dsq.specs.declared.heap.Item.{Item}
 use Rattle.scx_dsq.specs.declared.links.Link.{Link}
 use Rattle.scx_dsq.specs.declared.queue.Queue.{Queue}
-use Rattle.scx_dsq.specs.Places.{same_sort, is_before}
-use Rattle.scx_dsq.specs.Queues.{QueueState, place_at, Waits, IsFront, front_of, len_of}
+use Rattle.scx_dsq.specs.Entries.{same_sort, is_before}
+use Rattle.scx_dsq.specs.Queues.{QueueState, entry_at, Waits, IsFront, front_of, len_of}
 use Rattle.scx_dsq.specs.Calls.{clashes}
 use Rattle.scx_dsq.specs.Laws.{HasOwnStamps}
 use Rattle.scx_dsq.specs.Heaps.{IsHeap, first_item}
-use Rattle.scx_dsq.specs.Holdings.{Holds, place_for}
+use Rattle.scx_dsq.specs.Holdings.{Holds, entry_for}
 use Rattle.scx_dsq.specs.Links.{no_ends, or_else, In, NobodyIsIn, IsFirst, IsThreaded}
 use Rattle.scx_dsq.specs.Kept.{IsOfOneSort, by_links, by_heap, front_in, len_in, mixes}
 use Rattle.scx_dsq.proofs.Standing.{waits_below}
@@ -25,7 +25,7 @@ use Rattle.scx_dsq.proofs.Holdings.{holds_front, holds_vtime}
 
 -- ---- an empty queue
 
-pub threaded_empty : (s : QueueState) (links : List Link) (id : ℕ) → NobodyIn s id → IsThreaded s.places links id no_ends
+pub threaded_empty : (s : QueueState) (links : List Link) (id : ℕ) → NobodyIn s id → IsThreaded s.entries links id no_ends
 threaded_empty s links id nobody = record {
   first = nobody;
   last = nobody;
@@ -37,23 +37,23 @@ threaded_empty s links id nobody = record {
 
 -- ---- the front
 
-first_is_front : (s : QueueState) (id f : ℕ) → HasOwnStamps s → ((t : ℕ) (p : Place) → In s.places id t p → p.rank ≡ Fifo) → IsFirst s.places id f → IsFront s id f
+first_is_front : (s : QueueState) (id f : ℕ) → HasOwnStamps s → ((t : ℕ) (p : Entry) → In s.entries id t p → p.rank ≡ Fifo) → IsFirst s.entries id f → IsFront s id f
 first_is_front s id f stamps sort h = record {
-  place = h.place;
+  entry = h.entry;
   waits = h.waits;
-  first = λ u other n w. go u other n w (h.first u other w) (sort f h.place h.waits) (sort u other w);
+  first = λ u other n w. go u other n w (h.first u other w) (sort f h.entry h.waits) (sort u other w);
 }
   where
-    go : (u : ℕ) (other : Place) → u ≢ f → Waits s id u other → h.place.stamp ≤ other.stamp → h.place.rank ≡ Fifo → other.rank ≡ Fifo → is_before h.place other ≡ true
+    go : (u : ℕ) (other : Entry) → u ≢ f → Waits s id u other → h.entry.stamp ≤ other.stamp → h.entry.rank ≡ Fifo → other.rank ≡ Fifo → is_before h.entry other ≡ true
     go u other n w le a b =
-        let apart = stamps u f other h.place n w.0 h.waits.0 in
-        let lt : h.place.stamp < other.stamp = omega arith in
-        before_from h.place other (record { keys = rw (a, b) (omega arith); stamps = λ e. lt })
+        let apart = stamps u f other h.entry n w.0 h.waits.0 in
+        let lt : h.entry.stamp < other.stamp = omega arith in
+        before_from h.entry other (record { keys = rw (a, b) (omega arith); stamps = λ e. lt })
 
-pub form_front : (s : QueueState) (links : List Link) (q : Queue) → HasOwnStamps s → IsHeap q.heap.items → IsOfOneSort s.places links q → MatchOption (front_in q) (NobodyIn s q.id) (IsFront s q.id)
+pub form_front : (s : QueueState) (links : List Link) (q : Queue) → HasOwnStamps s → IsHeap q.heap.items → IsOfOneSort s.entries links q → MatchOption (front_in q) (NobodyIn s q.id) (IsFront s q.id)
 form_front s links q stamps heap (by_links h empty) = go q.ends.first q.heap.items empty h.first
   where
-    go : (o : Option ℕ) (items : List Item) → items ≡ [] → MatchOption o (NobodyIsIn s.places q.id) (IsFirst s.places q.id) → MatchOption (or_else o (first_item items)) (NobodyIn s q.id) (IsFront s q.id)
+    go : (o : Option ℕ) (items : List Item) → items ≡ [] → MatchOption o (NobodyIsIn s.entries q.id) (IsFirst s.entries q.id) → MatchOption (or_else o (first_item items)) (NobodyIn s q.id) (IsFront s q.id)
     go None items e nobody = rw e nobody
     go (Some f) items e k = first_is_front s q.id f stamps h.sort k
 form_front s links q stamps heap (by_heap h none) = rw none (holds_front s q.id q.heap.items stamps heap h)
@@ -72,29 +72,29 @@ front_none s id (Some t) f = tt
 
 -- ---- how many
 
-pub form_len : (s : QueueState) (links : List Link) (q : Queue) → IsOfOneSort s.places links q → len_in q ≡ len_of s q.id
+pub form_len : (s : QueueState) (links : List Link) (q : Queue) → IsOfOneSort s.entries links q → len_in q ≡ len_of s q.id
 form_len s links q (by_links h empty) = go q.ends.first q.heap.items empty h.first
   where
-    go : (o : Option ℕ) (items : List Item) → items ≡ [] → MatchOption o (NobodyIsIn s.places q.id) (IsFirst s.places q.id) → (if is_some o then q.ends.count else length items) ≡ len_of s q.id
+    go : (o : Option ℕ) (items : List Item) → items ≡ [] → MatchOption o (NobodyIsIn s.entries q.id) (IsFirst s.entries q.id) → (if is_some o then q.ends.count else length items) ≡ len_of s q.id
     go None items e nobody = rw e (sym (nobody_counts s q.id nobody))
     go (Some f) items e k = h.count
 form_len s links q (by_heap h none) = rw none h.count
 
 -- ---- whether a task would mix sorts
 
-sorted_out : (s : QueueState) (id : ℕ) (rank : Rank) → ((t : ℕ) (p : Place) → Waits s id t p → same_sort p.rank rank ≡ true) → list_any (clashes id rank) s.places ≡ false
-sorted_out s id rank fits = list_any_none (clashes id rank) s.places (λ k d lt. go k (get_or s.places k d) (get_or_default s.places k None d lt))
+sorted_out : (s : QueueState) (id : ℕ) (rank : Rank) → ((t : ℕ) (p : Entry) → Waits s id t p → same_sort p.rank rank ≡ true) → list_any (clashes id rank) s.entries ≡ false
+sorted_out s id rank fits = list_any_none (clashes id rank) s.entries (λ k d lt. go k (get_or s.entries k d) (get_or_default s.entries k None d lt))
   where
-    go : (k : ℕ) (o : Option Place) → place_at s.places k ≡ o → clashes id rank o ≡ false
+    go : (k : ℕ) (o : Option Entry) → entry_at s.entries k ≡ o → clashes id rank o ≡ false
     go k None e = refl
     go k (Some q) e = false_from_ne_true _ (λ c.
         let parts = and_parts (q.queue == id) (not (same_sort q.rank rank)) c in
         both_ways (same_sort q.rank rank) (not-true (same_sort q.rank rank) parts.1) (fits k q (e, eqb-true q.queue id parts.0)))
 
-clash_at : (s : QueueState) (id t : ℕ) (p : Place) (rank : Rank) → Waits s id t p → same_sort p.rank rank ≡ false → list_any (clashes id rank) s.places ≡ true
+clash_at : (s : QueueState) (id t : ℕ) (p : Entry) (rank : Rank) → Waits s id t p → same_sort p.rank rank ≡ false → list_any (clashes id rank) s.entries ≡ true
 clash_at s id t p rank w unlike =
-    let clash : clashes id rank (place_at s.places t) ≡ true = rw (w.0, eq-eqb p.queue id w.1, unlike) refl in
-    list_any_at (clashes id rank) s.places t None (waits_below s.places t p w.0) clash
+    let clash : clashes id rank (entry_at s.entries t) ≡ true = rw (w.0, eq-eqb p.queue id w.1, unlike) refl in
+    list_any_at (clashes id rank) s.entries t None (waits_below s.entries t p w.0) clash
 
 -- who waits by virtual time may wait with others who do
 by_vtime : (r : Rank) (k : ℕ) → same_sort r Fifo ≡ false → same_sort r (Vtime k) ≡ true
@@ -102,17 +102,17 @@ by_vtime Fifo k unlike = absurd (cc)
 by_vtime (Vtime l) k unlike = refl
 
 -- an array mixes with FIFO tasks if it isn't empty
-array_mixes : (s : QueueState) (id : ℕ) (items : List Item) → Holds s.places id items → is_some (first_item items) ≡ list_any (clashes id Fifo) s.places
+array_mixes : (s : QueueState) (id : ℕ) (items : List Item) → Holds s.entries id items → is_some (first_item items) ≡ list_any (clashes id Fifo) s.entries
 array_mixes s id [] h = sym (nobody_clashes s id Fifo (λ t p w. let is = h.all t p w in let inside = is.inside in absurd (omega arith)))
-array_mixes s id (x ∷ xs) h = sym (clash_at s id x.task (place_for id x.priority) Fifo (h.there 0 x (omega arith), refl) refl)
+array_mixes s id (x ∷ xs) h = sym (clash_at s id x.task (entry_for id x.priority) Fifo (h.there 0 x (omega arith), refl) refl)
 
-pub form_clash : (s : QueueState) (rank : Rank) (links : List Link) (q : Queue) → IsOfOneSort s.places links q → mixes rank q ≡ list_any (clashes q.id rank) s.places
+pub form_clash : (s : QueueState) (rank : Rank) (links : List Link) (q : Queue) → IsOfOneSort s.entries links q → mixes rank q ≡ list_any (clashes q.id rank) s.entries
 form_clash s Fifo links q (by_links h empty) = rw empty (sym (sorted_out s q.id Fifo (λ t p w. rw (h.sort t p w) refl)))
 form_clash s (Vtime k) links q (by_links h empty) = go q.ends.first h.first
   where
-    go : (o : Option ℕ) → MatchOption o (NobodyIsIn s.places q.id) (IsFirst s.places q.id) → is_some o ≡ list_any (clashes q.id (Vtime k)) s.places
+    go : (o : Option ℕ) → MatchOption o (NobodyIsIn s.entries q.id) (IsFirst s.entries q.id) → is_some o ≡ list_any (clashes q.id (Vtime k)) s.entries
     go None nobody = sym (nobody_clashes s q.id (Vtime k) nobody)
-    go (Some f) first = sym (clash_at s q.id f first.place (Vtime k) first.waits (rw (h.sort f first.place first.waits) refl))
+    go (Some f) first = sym (clash_at s q.id f first.entry (Vtime k) first.waits (rw (h.sort f first.entry first.waits) refl))
 form_clash s Fifo links q (by_heap h none) = array_mixes s q.id q.heap.items h
 form_clash s (Vtime k) links q (by_heap h none) =
-    rw none (sym (sorted_out s q.id (Vtime k) (λ t p w. by_vtime p.rank k (holds_vtime s.places q.id q.heap.items h t p w))))
+    rw none (sym (sorted_out s q.id (Vtime k) (λ t p w. by_vtime p.rank k (holds_vtime s.entries q.id q.heap.items h t p w))))

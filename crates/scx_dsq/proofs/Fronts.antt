@@ -5,61 +5,61 @@ use Rattle.std.proofs.lemmas.Bool.{both_ways, eq-eqb, eqb-true, and_from, and_pa
 use Rattle.std.proofs.lemmas.List.{get_or_default}
 use Rattle.std.proofs.lemmas.List.Sums.{list_all-from_AllPass, sum_by-cons}
 use Rattle.std.proofs.lemmas.List.Folds.{list_all_at, list_any_none}
-use Rattle.scx_dsq.specs.declared.places.Rank.{Rank}
-use Rattle.scx_dsq.specs.declared.places.Place.{Place}
-use Rattle.scx_dsq.specs.Places.{is_before}
-use Rattle.scx_dsq.specs.Queues.{QueueState, place_at, is_in, Waits, IsFront, is_ahead, is_first, front_of, len_of}
+use Rattle.scx_dsq.specs.declared.entries.Rank.{Rank}
+use Rattle.scx_dsq.specs.declared.entries.Entry.{Entry}
+use Rattle.scx_dsq.specs.Entries.{is_before}
+use Rattle.scx_dsq.specs.Queues.{QueueState, entry_at, is_in, Waits, IsFront, is_ahead, is_first, front_of, len_of}
 use Rattle.scx_dsq.specs.Calls.{clashes}
 use Rattle.scx_dsq.proofs.Orders.{before-asym}
 use Rattle.scx_dsq.proofs.Positions.{position_is, no_position}
-use Rattle.scx_dsq.proofs.Standing.{waits_below, same_place}
+use Rattle.scx_dsq.proofs.Standing.{waits_below, same_entry}
 
 -- nobody waits in the queue
 abbrev pub NobodyIn : QueueState → ℕ → Type 0
-NobodyIn s id = (t : ℕ) (p : Place) → Waits s id t p → ⊥
+NobodyIn s id = (t : ℕ) (p : Entry) → Waits s id t p → ⊥
 
 -- ---- the front as it is computed
 
-behind_front : (s : QueueState) (id t : ℕ) (f : IsFront s id t) (k : ℕ) (o : Option Place) → place_at s.places k ≡ o → is_ahead id f.place o ≡ false
+behind_front : (s : QueueState) (id t : ℕ) (f : IsFront s id t) (k : ℕ) (o : Option Entry) → entry_at s.entries k ≡ o → is_ahead id f.entry o ≡ false
 behind_front s id t f k None e = refl
-behind_front s id t f k (Some q) e = false_from_ne_true _ (λ h. let parts = and_parts (q.queue == id) (is_before q f.place) h in go (cases_eq k t) (eqb-true q.queue id parts.0) parts.1)
+behind_front s id t f k (Some q) e = false_from_ne_true _ (λ h. let parts = and_parts (q.queue == id) (is_before q f.entry) h in go (cases_eq k t) (eqb-true q.queue id parts.0) parts.1)
   where
-    go : (k ≡ t) ⊎ (k ≡ t → ⊥) → q.queue ≡ id → is_before q f.place ≡ true → ⊥
+    go : (k ≡ t) ⊎ (k ≡ t → ⊥) → q.queue ≡ id → is_before q f.entry ≡ true → ⊥
     go (inl same) here h =
-        let one : f.place ≡ q = same_place s.places t f.place q f.waits.0 (subst (λ v. place_at s.places v ≡ Some q) same e) in
+        let one : f.entry ≡ q = same_entry s.entries t f.entry q f.waits.0 (subst (λ v. entry_at s.entries v ≡ Some q) same e) in
         let itself : is_before q q ≡ true = subst (λ v. is_before q v ≡ true) one h in
         both_ways (is_before q q) (before-asym q q itself) itself
     go (inr n) here h =
-        both_ways (is_before q f.place) (before-asym f.place q (f.first k q n (e, here))) h
+        both_ways (is_before q f.entry) (before-asym f.entry q (f.first k q n (e, here))) h
 
-not_first : (s : QueueState) (id t : ℕ) (f : IsFront s id t) (k : ℕ) (o : Option Place) → k ≢ t → place_at s.places k ≡ o → is_first s.places id o ≡ false
+not_first : (s : QueueState) (id t : ℕ) (f : IsFront s id t) (k : ℕ) (o : Option Entry) → k ≢ t → entry_at s.entries k ≡ o → is_first s.entries id o ≡ false
 not_first s id t f k None n e = refl
 not_first s id t f k (Some q) n e = go (cases_Bool (q.queue == id))
   where
-    go : ((q.queue == id) ≡ true) ⊎ ((q.queue == id) ≡ false) → is_first s.places id (Some q) ≡ false
+    go : ((q.queue == id) ≡ true) ⊎ ((q.queue == id) ≡ false) → is_first s.entries id (Some q) ≡ false
     go (inr out) = rw out refl
     go (inl here) =
-        let before : is_before f.place q ≡ true = f.first k q n (e, eqb-true q.queue id here) in
-        let ahead : is_ahead id q (place_at s.places t) ≡ true = rw (f.waits.0, eq-eqb f.place.queue id f.waits.1, before) refl in
-        let all : list_all (λ o. not (is_ahead id q o)) s.places ≡ false =
-        list_all_at (λ o. not (is_ahead id q o)) s.places t None (waits_below s.places t f.place f.waits.0) (rw ahead refl) in
+        let before : is_before f.entry q ≡ true = f.first k q n (e, eqb-true q.queue id here) in
+        let ahead : is_ahead id q (entry_at s.entries t) ≡ true = rw (f.waits.0, eq-eqb f.entry.queue id f.waits.1, before) refl in
+        let all : list_all (λ o. not (is_ahead id q o)) s.entries ≡ false =
+        list_all_at (λ o. not (is_ahead id q o)) s.entries t None (waits_below s.entries t f.entry f.waits.0) (rw ahead refl) in
         rw (here, all) refl
 
 pub front_is : (s : QueueState) (id t : ℕ) → IsFront s id t → front_of s id ≡ Some t
 unfolding front_of
 front_is s id t f =
-    position_is (is_first s.places id) s.places t None (waits_below s.places t f.place f.waits.0) passes (λ k n. not_first s id t f k (place_at s.places k) n refl)
+    position_is (is_first s.entries id) s.entries t None (waits_below s.entries t f.entry f.waits.0) passes (λ k n. not_first s id t f k (entry_at s.entries k) n refl)
   where
-    passes : is_first s.places id (place_at s.places t) ≡ true
+    passes : is_first s.entries id (entry_at s.entries t) ≡ true
     passes =
-        rw f.waits.0 (and_from (f.place.queue == id) _ (eq-eqb f.place.queue id f.waits.1)
-        (list_all-from_AllPass (λ o. not (is_ahead id f.place o)) s.places (λ k d lt. rw (behind_front s id t f k (get_or s.places k d) (get_or_default s.places k None d lt)) refl)))
+        rw f.waits.0 (and_from (f.entry.queue == id) _ (eq-eqb f.entry.queue id f.waits.1)
+        (list_all-from_AllPass (λ o. not (is_ahead id f.entry o)) s.entries (λ k d lt. rw (behind_front s id t f k (get_or s.entries k d) (get_or_default s.entries k None d lt)) refl)))
 
 pub no_front : (s : QueueState) (id : ℕ) → NobodyIn s id → front_of s id ≡ None
 unfolding front_of
-no_front s id nobody = no_position (is_first s.places id) s.places (λ k d lt. go k (get_or s.places k d) (get_or_default s.places k None d lt))
+no_front s id nobody = no_position (is_first s.entries id) s.entries (λ k d lt. go k (get_or s.entries k d) (get_or_default s.entries k None d lt))
   where
-    go : (k : ℕ) (o : Option Place) → place_at s.places k ≡ o → is_first s.places id o ≡ false
+    go : (k : ℕ) (o : Option Entry) → entry_at s.entries k ≡ o → is_first s.entries id o ≡ false
     go k None e = refl
     go k (Some q) e = false_from_ne_true _ (λ h. nobody k q (e, eqb-true q.queue id (and_parts (q.queue == id) _ h).0))
 
@@ -70,9 +70,9 @@ front_once s id t u f g = go (cases_eq t u)
     go : (t ≡ u) ⊎ (t ≡ u → ⊥) → t ≡ u
     go (inl same) = same
     go (inr n) =
-        let a : is_before f.place g.place ≡ true = f.first u g.place (λ e. n (sym e)) g.waits in
-        let b : is_before g.place f.place ≡ true = g.first t f.place n f.waits in
-        absurd (both_ways (is_before g.place f.place) (before-asym f.place g.place a) b)
+        let a : is_before f.entry g.entry ≡ true = f.first u g.entry (λ e. n (sym e)) g.waits in
+        let b : is_before g.entry f.entry ≡ true = g.first t f.entry n f.waits in
+        absurd (both_ways (is_before g.entry f.entry) (before-asym f.entry g.entry a) b)
 
 -- ---- counting
 
@@ -85,18 +85,18 @@ count_none p (x ∷ xs) out =
     e ∙ rw (here, rest) refl
 
 pub nobody_counts : (s : QueueState) (id : ℕ) → NobodyIn s id → len_of s id ≡ 0
-nobody_counts s id nobody = count_none (is_in id) s.places (λ k d lt. go k (get_or s.places k d) (get_or_default s.places k None d lt))
+nobody_counts s id nobody = count_none (is_in id) s.entries (λ k d lt. go k (get_or s.entries k d) (get_or_default s.entries k None d lt))
   where
-    go : (k : ℕ) (o : Option Place) → place_at s.places k ≡ o → is_in id o ≡ false
+    go : (k : ℕ) (o : Option Entry) → entry_at s.entries k ≡ o → is_in id o ≡ false
     go k None e = refl
     go k (Some q) e = false_from_ne_true _ (λ h. nobody k q (e, eqb-true q.queue id h))
 
 -- ---- sorts
 
-pub nobody_clashes : (s : QueueState) (id : ℕ) (rank : Rank) → NobodyIn s id → list_any (clashes id rank) s.places ≡ false
+pub nobody_clashes : (s : QueueState) (id : ℕ) (rank : Rank) → NobodyIn s id → list_any (clashes id rank) s.entries ≡ false
 nobody_clashes s id rank nobody =
-    list_any_none (clashes id rank) s.places (λ k d lt. go k (get_or s.places k d) (get_or_default s.places k None d lt))
+    list_any_none (clashes id rank) s.entries (λ k d lt. go k (get_or s.entries k d) (get_or_default s.entries k None d lt))
   where
-    go : (k : ℕ) (o : Option Place) → place_at s.places k ≡ o → clashes id rank o ≡ false
+    go : (k : ℕ) (o : Option Entry) → entry_at s.entries k ≡ o → clashes id rank o ≡ false
     go k None e = refl
     go k (Some q) e = false_from_ne_true _ (λ c. nobody k q (e, eqb-true q.queue id (and_parts (q.queue == id) _ c).0))

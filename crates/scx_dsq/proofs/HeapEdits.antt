@@ -55,7 +55,7 @@ settled_up old new at n m within h few = record {
   levels = h.levels;
   depth = let depth = h.depth in omega arith;
   cost = let cost = h.cost in omega arith;
-  places = h.places;
+  positions = h.positions;
   few = h.few;
   differs = h.differs;
 }
@@ -65,7 +65,7 @@ settled_down old new at n m h few = record {
   levels = h.levels;
   depth = let depth = h.depth in let more = at_least (2 ^ h.levels) at in omega (arith, more, depth);
   cost = let cost = h.cost in omega arith;
-  places = h.places;
+  positions = h.positions;
   few = h.few;
   differs = h.differs;
 }
@@ -115,9 +115,9 @@ module _ (items : List Item) (x : Item) where
   cheap_pushed new n h = record {
     comparisons = λ digits lt. let below = fewer h.levels digits (length items + 1) h.depth lt in let cost = h.cost in omega arith;
     changes = λ digits lt. record {
-      places = length items ∷ h.places;
+      positions = length items ∷ h.positions;
       few = let below = fewer h.levels digits (length items + 1) h.depth lt in let few = h.few in omega arith;
-      differs = λ k d out. let apart = not_there k (length items) h.places out in h.differs k d apart.1 ∙ kept_but_last k d apart.0;
+      differs = λ k d out. let apart = not_there k (length items) h.positions out in h.differs k d apart.1 ∙ kept_but_last k d apart.0;
     };
   }
 
@@ -131,14 +131,14 @@ pub record Taken (items now : List Item) (at : ℕ) : Type 0 where
 
 -- where a task stands in the array
 pub task_within : (items : List Item) (spots : List ℕ) (t : ℕ) → HasSpots items spots → IsIn items t → t < length spots
-task_within items spots t h is = go items is.place is.inside is.there h
+task_within items spots t h is = go items is.position is.inside is.there h
   where
     go : (xs : List Item) (k : ℕ) → k < length xs → ((d : Item) → (slice_index_or xs k d).task ≡ t) → HasSpots xs spots → t < length spots
     go [] k lt there stand = absurd (omega arith)
     go (x ∷ xs) k lt there stand = subst (λ u. u < length spots) (there x) (stand k x 0 lt).0
 
-pub spot_is : (items : List Item) (spots : List ℕ) (t : ℕ) → HasSpots items spots → (is : IsIn items t) → slice_index_or spots t 0 ≡ is.place
-spot_is items spots t h is = go items is.place is.inside is.there h
+pub spot_is : (items : List Item) (spots : List ℕ) (t : ℕ) → HasSpots items spots → (is : IsIn items t) → slice_index_or spots t 0 ≡ is.position
+spot_is items spots t h is = go items is.position is.inside is.there h
   where
     go : (xs : List Item) (k : ℕ) → k < length xs → ((d : Item) → (slice_index_or xs k d).task ≡ t) → HasSpots xs spots → slice_index_or spots t 0 ≡ k
     go [] k lt there stand = absurd (omega arith)
@@ -247,15 +247,15 @@ module _ (items now : List Item) (at : ℕ) (taken : Taken items now at) where
   cheap_settled new n within h = record {
     comparisons = λ digits lt. let below = fewer h.levels digits (length items + 1) (let depth = h.depth in omega (arith, depth, long)) lt in let cost = h.cost in omega arith;
     changes = λ digits lt. record {
-      places = at ∷ (length items - 1) ∷ h.places;
+      positions = at ∷ (length items - 1) ∷ h.positions;
       few =
           let below = fewer h.levels digits (length items + 1) (let depth = h.depth in omega (arith, depth, long)) lt in
           let some : 1 < digits = fewer 1 digits (length items + 1) (omega (arith, within, long)) lt in
           let few = h.few in
           omega arith;
       differs = λ k d out.
-          let first = not_there k at ((length items - 1) ∷ h.places) out in
-          let second = not_there k (length items - 1) h.places first.1 in
+          let first = not_there k at ((length items - 1) ∷ h.positions) out in
+          let second = not_there k (length items - 1) h.positions first.1 in
           h.differs k d second.1 ∙ kept_but_two k d first.0 second.0;
     };
   }
@@ -264,7 +264,7 @@ module _ (items now : List Item) (at : ℕ) (taken : Taken items now at) where
   cheap_taken n none past = record {
     comparisons = λ digits lt. omega (arith, none);
     changes = λ digits lt. record {
-      places = at ∷ [];
+      positions = at ∷ [];
       few = let some : 0 < digits = fewer 0 digits (length items + 1) (omega arith) lt in omega arith;
       differs = λ k d out. let apart = not_there k at [] out in kept_but_two k d apart.0 (λ s. apart.0 (omega (arith, s, past, inside, long)));
     };

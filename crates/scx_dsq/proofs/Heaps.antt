@@ -1,12 +1,12 @@
--- Rising in a heap: each exchange leaves one place less where the order may fail, and halves the way up.
+-- Rising in a heap: each exchange leaves one position less where the order may fail, and halves the way up.
 use Rattle.std.proofs.Common.{◌≡◌, ◌≢◌, ℕ, suc, ◌+◌, ◌*◌, ◌^◌, ◌<◌, ◌≤◌, Bool, true, false, ◌==◌, List, [], ◌∷◌, length, slice_index_or, refl, sym, ap, ◌∙◌, subst, arith, ◌⊎◌, inl, inr}
 use Rattle.std.proofs.Math.Nat.{mul_assoc, mul-le-mul_left, pow-succ'}
 use Rattle.std.specs.List.{SwappedAt, list_any}
 use Rattle.std.proofs.lemmas.List.Folds.{list_any_at}
 use Rattle.std.proofs.lemmas.Bool.{both_ways, eq-eqb, or_parts, false_from_ne_true, cases_eq, cases_lt}
 use Rattle.std.proofs.lemmas.List.{get_or_default}
-use Rattle.scx_dsq.specs.declared.places.Rank.TheVariants.{Vtime}
-use Rattle.scx_dsq.specs.declared.places.Place.{Place}
+use Rattle.scx_dsq.specs.declared.entries.Rank.TheVariants.{Vtime}
+use Rattle.scx_dsq.specs.declared.entries.Entry.{Entry}
 use Rattle.scx_dsq.specs.declared.priority.Priority.{Priority}
 use Rattle.scx_dsq.specs.declared.heap.Item.{Item}
 use Rattle.scx_dsq.specs.Heaps.{comes_before, parent, IsBehind, IsHeap, IsHeapBut, IsHeapAbove, IsFirstChild, DiffersAt, Rose, Sank}
@@ -14,7 +14,7 @@ use Rattle.scx_dsq.proofs.Orders.{Below, before_from, before-asym, before-trans}
 
 -- ---- the order
 
-as_place : Priority → Place
+as_place : Priority → Entry
 as_place p = record { queue = 0; rank = Vtime p.key; stamp = p.stamp }
 
 pub asym : (p q : Priority) → comes_before p q ≡ true → comes_before q p ≡ false
@@ -105,29 +105,29 @@ whole n start at h = let more = mul-le-mul_left (2 ^ n) (one_at at) in omega (ar
     one_at : (k : ℕ) → 1 ≤ k + 1
     one_at k = omega arith
 
--- how far the item has come up, and that its place is among those that have changed
+-- how far the item has come up, and that its position is among those that have changed
 pub record Rises (old now : List Item) (start at steps : ℕ) : Type 0 where
   pub levels : ℕ
   pub depth : 2 ^ levels * (at + 1) ≤ start + 1
   pub cost : steps ≤ levels
-  pub places : List ℕ
-  pub few : length places ≤ levels + 1
-  pub differs : DiffersAt places old now
-  pub here : list_any (λ p. p == at) places ≡ true
+  pub positions : List ℕ
+  pub few : length positions ≤ levels + 1
+  pub differs : DiffersAt positions old now
+  pub here : list_any (λ p. p == at) positions ≡ true
 
 pub rises_none : (old : List Item) (start : ℕ) → Rises old old start start 0
-rises_none old start = record { levels = 0; depth = omega arith; cost = omega arith; places = start ∷ []; few = omega arith; differs = λ k d out. refl; here = list_any_here start [] }
+rises_none old start = record { levels = 0; depth = omega arith; cost = omega arith; positions = start ∷ []; few = omega arith; differs = λ k d out. refl; here = list_any_here start [] }
 
 pub rises_more : (old now new : List Item) (start at n m : ℕ) → Rises old now start at n → m ≤ n + 1 → 0 < at → SwappedAt now new at (parent at) → Rises old new start (parent at) m
 rises_more old now new start at n m h few up swapped = record {
   levels = suc h.levels;
   depth = higher h.levels start at up h.depth;
   cost = let cost = h.cost in omega arith;
-  places = parent at ∷ h.places;
+  positions = parent at ∷ h.positions;
   few = let few = h.few in omega arith;
-  differs = λ k d out. let apart = not_there k (parent at) h.places out in
-      swapped.2 k d (λ e. both_ways _ apart.1 (subst (λ j. list_any (λ p. p == j) h.places ≡ true) (sym e) h.here)) apart.0 ∙ h.differs k d apart.1;
-  here = list_any_here (parent at) h.places;
+  differs = λ k d out. let apart = not_there k (parent at) h.positions out in
+      swapped.2 k d (λ e. both_ways _ apart.1 (subst (λ j. list_any (λ p. p == j) h.positions ≡ true) (sym e) h.here)) apart.0 ∙ h.differs k d apart.1;
+  here = list_any_here (parent at) h.positions;
 }
 
 pub rose : (old now : List Item) (start at n m : ℕ) → Rises old now start at n → m ≤ n + 1 → 0 < at → Rose old now start m
@@ -135,22 +135,22 @@ rose old now start at n m h few up = record {
   levels = suc h.levels;
   depth = whole (suc h.levels) start (parent at) (higher h.levels start at up h.depth);
   cost = let cost = h.cost in omega arith;
-  places = h.places;
+  positions = h.positions;
   few = let few = h.few in omega arith;
   differs = h.differs;
 }
 
 pub rose_here : (old now : List Item) (start at n : ℕ) → Rises old now start at n → Rose old now start n
-rose_here old now start at n h = record { levels = h.levels; depth = whole h.levels start at h.depth; cost = h.cost; places = h.places; few = h.few; differs = h.differs }
+rose_here old now start at n h = record { levels = h.levels; depth = whole h.levels start at h.depth; cost = h.cost; positions = h.positions; few = h.few; differs = h.differs }
 
--- how far the item has come, and that its place is among those that have changed
+-- how far the item has come, and that its position is among those that have changed
 pub record Sinks (old now : List Item) (start at steps : ℕ) : Type 0 where
   pub path : Sank old now start (at + 1) steps
-  pub here : list_any (λ p. p == at) path.places ≡ true
+  pub here : list_any (λ p. p == at) path.positions ≡ true
 
 pub sinks_none : (old : List Item) (start : ℕ) → Sinks old old start start 0
 sinks_none old start = record {
-  path = record { levels = 0; depth = omega arith; cost = omega arith; places = start ∷ []; few = omega arith; differs = λ k d out. refl };
+  path = record { levels = 0; depth = omega arith; cost = omega arith; positions = start ∷ []; few = omega arith; differs = λ k d out. refl };
   here = list_any_here start [];
 }
 
@@ -160,12 +160,12 @@ sinks_more old now new start at child n m h few twice swapped = record {
     levels = suc h.path.levels;
     depth = deeper h.path.levels start at (child + 1) h.path.depth twice;
     cost = let cost = h.path.cost in omega arith;
-    places = child ∷ h.path.places;
+    positions = child ∷ h.path.positions;
     few = let few = h.path.few in omega arith;
-    differs = λ k d out. let apart = not_there k child h.path.places out in
-        swapped.2 k d apart.0 (λ e. both_ways _ apart.1 (subst (λ j. list_any (λ p. p == j) h.path.places ≡ true) (sym e) h.here)) ∙ h.path.differs k d apart.1;
+    differs = λ k d out. let apart = not_there k child h.path.positions out in
+        swapped.2 k d apart.0 (λ e. both_ways _ apart.1 (subst (λ j. list_any (λ p. p == j) h.path.positions ≡ true) (sym e) h.here)) ∙ h.path.differs k d apart.1;
   };
-  here = list_any_here child h.path.places;
+  here = list_any_here child h.path.positions;
 }
 
 pub sank : (old now : List Item) (start at child n m : ℕ) → Sinks old now start at n → m ≤ n + 2 → 2 * (at + 1) ≤ child → Sank old now start child m
@@ -173,7 +173,7 @@ sank old now start at child n m h few twice = record {
   levels = suc h.path.levels;
   depth = deeper h.path.levels start at child h.path.depth twice;
   cost = let cost = h.path.cost in omega arith;
-  places = h.path.places;
+  positions = h.path.positions;
   few = let few = h.path.few in omega arith;
   differs = h.path.differs;
 }
@@ -183,7 +183,7 @@ sank_here old now start at within n h lt = record {
   levels = h.path.levels;
   depth = let depth = h.path.depth in omega arith;
   cost = h.path.cost;
-  places = h.path.places;
+  positions = h.path.positions;
   few = h.path.few;
   differs = h.path.differs;
 }

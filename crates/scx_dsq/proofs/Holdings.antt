@@ -7,20 +7,20 @@ use Rattle.std.proofs.lemmas.List.{get_or_default, get_or-set_same, length_push}
 use Rattle.std.proofs.lemmas.List.Elements.{All-weaker, All-append, All-cons, All-nil, Contains-append_left, Contains-append_right}
 use Rattle.std.proofs.lemmas.List.Folds.{list_any_none, list_any-append}
 use Rattle.std.proofs.lemmas.List.Sorted.{All-permutation, Contains-permutation, length_permutation}
-use Rattle.scx_dsq.specs.declared.places.Place.{Place}
-use Rattle.scx_dsq.specs.declared.places.Rank.TheVariants.{Fifo}
+use Rattle.scx_dsq.specs.declared.entries.Entry.{Entry}
+use Rattle.scx_dsq.specs.declared.entries.Rank.TheVariants.{Fifo}
 use Rattle.scx_dsq.specs.declared.heap.Item.{Item}
-use Rattle.scx_dsq.specs.Places.{is_before, same_sort}
-use Rattle.scx_dsq.specs.Queues.{Places, QueueState, place_at, is_in, Waits, IsFront}
+use Rattle.scx_dsq.specs.Entries.{is_before, same_sort}
+use Rattle.scx_dsq.specs.Queues.{Entries, QueueState, entry_at, is_in, Waits, IsFront}
 use Rattle.scx_dsq.specs.Laws.{HasOwnStamps}
 use Rattle.scx_dsq.specs.Links.{In}
 use Rattle.scx_dsq.specs.Heaps.{comes_before, parent, IsBehind, IsHeap, HasSpots, IsAbsent, IsIn, KeepsOthers, first_item}
-use Rattle.scx_dsq.specs.Holdings.{place_for, Holds}
+use Rattle.scx_dsq.specs.Holdings.{entry_for, Holds}
 use Rattle.scx_dsq.proofs.Heaps.{itself, not_before, not-trans}
 use Rattle.scx_dsq.proofs.HeapEdits.{absent_is_apart}
 use Rattle.scx_dsq.proofs.Fronts.{NobodyIn, nobody_counts}
 use Rattle.scx_dsq.proofs.Orders.{before_from}
-use Rattle.scx_dsq.proofs.Standing.{is_in_from, another, count-set, Changed, this, other, changed, unchanged, same_place}
+use Rattle.scx_dsq.proofs.Standing.{is_in_from, another, count-set, Changed, this, other, changed, unchanged, same_entry}
 
 -- ---- tasks in an array
 
@@ -33,11 +33,11 @@ record Found (items : List Item) (t : ℕ) : Type 0 where
 found : (items : List Item) (t : ℕ) → IsIn items t → Found items t
 found [] t h = let inside = h.inside in absurd (omega arith)
 found (x ∷ xs) t h =
-    let item = slice_index_or (x ∷ xs) h.place x in
-    record { item = item; contained = (h.place, h.inside, get_or_default (x ∷ xs) h.place item x h.inside); is = h.there x }
+    let item = slice_index_or (x ∷ xs) h.entry x in
+    record { item = item; contained = (h.entry, h.inside, get_or_default (x ∷ xs) h.entry item x h.inside); is = h.there x }
 
 stands_in : (items : List Item) (t : ℕ) (x : Item) → Contains items x → x.task ≡ t → IsIn items t
-stands_in items t x (k, lt, e) is = record { place = k; inside = lt; there = λ d. ap (λ (y : Item). y.task) (get_or_default items k d x lt ∙ e) ∙ is }
+stands_in items t x (k, lt, e) is = record { entry = k; inside = lt; there = λ d. ap (λ (y : Item). y.task) (get_or_default items k d x lt ∙ e) ∙ is }
 
 in_moved : (items new : List Item) (t : ℕ) → IsPermutation items new → IsIn items t → IsIn new t
 in_moved items new t moved h = let f = found items t h in stands_in new t f.item (Contains-permutation items new f.item moved f.contained) f.is
@@ -45,20 +45,20 @@ in_moved items new t moved h = let f = found items t h in stands_in new t f.item
 -- ---- who waits there
 
 -- the place of a task that waits there is its item's
-pub holds_place : (places : Places) (id : ℕ) (items : List Item) (t : ℕ) (p : Place) (x : Item) → Holds places id items → place_at places t ≡ Some p → Contains items x → x.task ≡ t → place_for id x.priority ≡ p
-holds_place places id items t p x h e (k, lt, same) is =
-    let there : place_at places x.task ≡ Some (place_for id x.priority) = subst (λ (y : Item). place_at places y.task ≡ Some (place_for id y.priority)) same (h.there k x lt) in
-    same_place places t (place_for id x.priority) p (subst (λ v. place_at places v ≡ Some (place_for id x.priority)) is there) e
+pub holds_entry : (entries : Entries) (id : ℕ) (items : List Item) (t : ℕ) (p : Entry) (x : Item) → Holds entries id items → entry_at entries t ≡ Some p → Contains items x → x.task ≡ t → entry_for id x.priority ≡ p
+holds_entry entries id items t p x h e (k, lt, same) is =
+    let there : entry_at entries x.task ≡ Some (entry_for id x.priority) = subst (λ (y : Item). entry_at entries y.task ≡ Some (entry_for id y.priority)) same (h.there k x lt) in
+    same_entry entries t (entry_for id x.priority) p (subst (λ v. entry_at entries v ≡ Some (entry_for id x.priority)) is there) e
 
-pub holds_vtime : (places : Places) (id : ℕ) (items : List Item) → Holds places id items → (t : ℕ) (p : Place) → In places id t p → same_sort p.rank Fifo ≡ false
-holds_vtime places id items h t p w =
+pub holds_vtime : (entries : Entries) (id : ℕ) (items : List Item) → Holds entries id items → (t : ℕ) (p : Entry) → In entries id t p → same_sort p.rank Fifo ≡ false
+holds_vtime entries id items h t p w =
     let f = found items t (h.all t p w) in
-    subst (λ (q : Place). same_sort q.rank Fifo ≡ false) (holds_place places id items t p f.item h w.0 f.contained f.is) refl
+    subst (λ (q : Entry). same_sort q.rank Fifo ≡ false) (holds_entry entries id items t p f.item h w.0 f.contained f.is) refl
 
-pub holds_absent : (places : Places) (id : ℕ) (items : List Item) (t : ℕ) → is_in id (place_at places t) ≡ false → Holds places id items → IsAbsent items t
-holds_absent places id items t out h = list_any_none (λ (x : Item). x.task == t) items (λ k d lt. ne_eqb (slice_index_or items k d).task t (another places id t (slice_index_or items k d).task (place_for id (slice_index_or items k d).priority) out (h.there k d lt) refl))
+pub holds_absent : (entries : Entries) (id : ℕ) (items : List Item) (t : ℕ) → is_in id (entry_at entries t) ≡ false → Holds entries id items → IsAbsent items t
+holds_absent entries id items t out h = list_any_none (λ (x : Item). x.task == t) items (λ k d lt. ne_eqb (slice_index_or items k d).task t (another entries id t (slice_index_or items k d).task (entry_for id (slice_index_or items k d).priority) out (h.there k d lt) refl))
 
-pub holds_empty : (s : QueueState) (id : ℕ) → NobodyIn s id → Holds s.places id []
+pub holds_empty : (s : QueueState) (id : ℕ) → NobodyIn s id → Holds s.entries id []
 holds_empty s id nobody = record {
   there = All-nil _;
   all = λ t p w. absurd (nobody t p w);
@@ -67,67 +67,67 @@ holds_empty s id nobody = record {
 
 -- ---- a change of a task that isn't in the queue, before or after
 
-pub holds_others : (places : Places) (id : ℕ) (items : List Item) (t : ℕ) (new : Option Place) → t < length places
-    → is_in id (place_at places t) ≡ false → is_in id new ≡ false → Holds places id items → Holds (set places t new) id items
-holds_others places id items t new within out stays h = record {
-  there = All-weaker (λ (x : Item). place_at places x.task ≡ Some (place_for id x.priority)) (λ (x : Item). place_at (set places t new) x.task ≡ Some (place_for id x.priority))
-      (λ x w. unchanged places t new x.task (place_for id x.priority) (another places id t x.task (place_for id x.priority) out w refl) w) items h.there;
-  all = λ u p w. find u p w.1 (changed places t new u p w.0);
-  count = h.count ∙ same_count (count-set places id t new within);
+pub holds_others : (entries : Entries) (id : ℕ) (items : List Item) (t : ℕ) (new : Option Entry) → t < length entries
+    → is_in id (entry_at entries t) ≡ false → is_in id new ≡ false → Holds entries id items → Holds (set entries t new) id items
+holds_others entries id items t new within out stays h = record {
+  there = All-weaker (λ (x : Item). entry_at entries x.task ≡ Some (entry_for id x.priority)) (λ (x : Item). entry_at (set entries t new) x.task ≡ Some (entry_for id x.priority))
+      (λ x w. unchanged entries t new x.task (entry_for id x.priority) (another entries id t x.task (entry_for id x.priority) out w refl) w) items h.there;
+  all = λ u p w. find u p w.1 (changed entries t new u p w.0);
+  count = h.count ∙ same_count (count-set entries id t new within);
 }
   where
-    find : (u : ℕ) (p : Place) → p.queue ≡ id → Changed places t new u p → IsIn items u
+    find : (u : ℕ) (p : Entry) → p.queue ≡ id → Changed entries t new u p → IsIn items u
     find u p q (this same e) = absurd (both_ways (is_in id new) stays (subst (λ v. is_in id v ≡ true) (sym e) (is_in_from id p q)))
     find u p q (other n e) = h.all u p (e, q)
 
-    same_count : count_by (is_in id) (set places t new) + (if is_in id (place_at places t) then 1 else 0) ≡ count_by (is_in id) places + (if is_in id new then 1 else 0)
-        → count_by (is_in id) places ≡ count_by (is_in id) (set places t new)
-    same_count e = let f : count_by (is_in id) (set places t new) + 0 ≡ count_by (is_in id) places + 0 = rw (out, stays) at e in omega (arith, f)
+    same_count : count_by (is_in id) (set entries t new) + (if is_in id (entry_at entries t) then 1 else 0) ≡ count_by (is_in id) entries + (if is_in id new then 1 else 0)
+        → count_by (is_in id) entries ≡ count_by (is_in id) (set entries t new)
+    same_count e = let f : count_by (is_in id) (set entries t new) + 0 ≡ count_by (is_in id) entries + 0 = rw (out, stays) at e in omega (arith, f)
 
 -- ---- a push
 
-pub holds_with : (places : Places) (id : ℕ) (items new : List Item) (x : Item) → x.task < length places → place_at places x.task ≡ None
-    → IsPermutation (items ++ x ∷ []) new → Holds places id items → Holds (set places x.task (Some (place_for id x.priority))) id new
-holds_with places id items new x within free moved h = record {
-  there = All-permutation There (items ++ x ∷ []) new moved (All-append There items (x ∷ []) (All-weaker (λ (y : Item). place_at places y.task ≡ Some (place_for id y.priority)) There still items h.there) (All-cons There x [] here (All-nil _)));
-  all = λ u p w. in_moved (items ++ x ∷ []) new u moved (find u p w.1 (changed places x.task (Some (place_for id x.priority)) u p w.0));
-  count = more (count-set places id x.task (Some (place_for id x.priority)) within);
+pub holds_with : (entries : Entries) (id : ℕ) (items new : List Item) (x : Item) → x.task < length entries → entry_at entries x.task ≡ None
+    → IsPermutation (items ++ x ∷ []) new → Holds entries id items → Holds (set entries x.task (Some (entry_for id x.priority))) id new
+holds_with entries id items new x within free moved h = record {
+  there = All-permutation There (items ++ x ∷ []) new moved (All-append There items (x ∷ []) (All-weaker (λ (y : Item). entry_at entries y.task ≡ Some (entry_for id y.priority)) There still items h.there) (All-cons There x [] here (All-nil _)));
+  all = λ u p w. in_moved (items ++ x ∷ []) new u moved (find u p w.1 (changed entries x.task (Some (entry_for id x.priority)) u p w.0));
+  count = more (count-set entries id x.task (Some (entry_for id x.priority)) within);
 }
   where
     There : Item → Type 0
-    There y = place_at (set places x.task (Some (place_for id x.priority))) y.task ≡ Some (place_for id y.priority)
+    There y = entry_at (set entries x.task (Some (entry_for id x.priority))) y.task ≡ Some (entry_for id y.priority)
 
-    out : is_in id (place_at places x.task) ≡ false
+    out : is_in id (entry_at entries x.task) ≡ false
     out = rw free refl
 
-    still : (y : Item) → place_at places y.task ≡ Some (place_for id y.priority) → There y
-    still y w = unchanged places x.task (Some (place_for id x.priority)) y.task (place_for id y.priority) (another places id x.task y.task (place_for id y.priority) out w refl) w
+    still : (y : Item) → entry_at entries y.task ≡ Some (entry_for id y.priority) → There y
+    still y w = unchanged entries x.task (Some (entry_for id x.priority)) y.task (entry_for id y.priority) (another entries id x.task y.task (entry_for id y.priority) out w refl) w
 
     here : There x
-    here = get_or-set_same places x.task (Some (place_for id x.priority)) None within
+    here = get_or-set_same entries x.task (Some (entry_for id x.priority)) None within
 
-    find : (u : ℕ) (p : Place) → p.queue ≡ id → Changed places x.task (Some (place_for id x.priority)) u p → IsIn (items ++ x ∷ []) u
+    find : (u : ℕ) (p : Entry) → p.queue ≡ id → Changed entries x.task (Some (entry_for id x.priority)) u p → IsIn (items ++ x ∷ []) u
     find u p q (this same e) = stands_in (items ++ x ∷ []) u x (Contains-append_right items (x ∷ []) x (0, (omega arith), refl)) (sym same)
     find u p q (other n e) = let f = found items u (h.all u p (e, q)) in stands_in (items ++ x ∷ []) u f.item (Contains-append_left items (x ∷ []) f.item f.contained) f.is
 
-    more : count_by (is_in id) (set places x.task (Some (place_for id x.priority))) + (if is_in id (place_at places x.task) then 1 else 0) ≡ count_by (is_in id) places + (if is_in id (Some (place_for id x.priority)) then 1 else 0)
-        → length new ≡ count_by (is_in id) (set places x.task (Some (place_for id x.priority)))
+    more : count_by (is_in id) (set entries x.task (Some (entry_for id x.priority))) + (if is_in id (entry_at entries x.task) then 1 else 0) ≡ count_by (is_in id) entries + (if is_in id (Some (entry_for id x.priority)) then 1 else 0)
+        → length new ≡ count_by (is_in id) (set entries x.task (Some (entry_for id x.priority)))
     more e =
-        let f : count_by (is_in id) (set places x.task (Some (place_for id x.priority))) + 0 ≡ count_by (is_in id) places + 1 = rw (out, is_in_from id (place_for id x.priority) refl) at e in
+        let f : count_by (is_in id) (set entries x.task (Some (entry_for id x.priority))) + 0 ≡ count_by (is_in id) entries + 1 = rw (out, is_in_from id (entry_for id x.priority) refl) at e in
         omega (arith, f, h.count, length_permutation (items ++ x ∷ []) new moved, length_push items x)
 
 -- ---- a removal
 
-pub holds_without : (places : Places) (id : ℕ) (items new : List Item) (x : Item) → x.task < length places → IsPermutation items (x ∷ new) → IsAbsent new x.task
-    → Holds places id items → Holds (set places x.task None) id new
-holds_without places id items new x within moved gone h = record {
-  there = λ k d lt. unchanged places x.task None (slice_index_or new k d).task (place_for id (slice_index_or new k d).priority) (absent_is_apart new x.task k d lt gone) (still_there k d lt);
-  all = λ u p w. find u p w.1 (changed places x.task None u p w.0);
-  count = fewer (count-set places id x.task None within);
+pub holds_without : (entries : Entries) (id : ℕ) (items new : List Item) (x : Item) → x.task < length entries → IsPermutation items (x ∷ new) → IsAbsent new x.task
+    → Holds entries id items → Holds (set entries x.task None) id new
+holds_without entries id items new x within moved gone h = record {
+  there = λ k d lt. unchanged entries x.task None (slice_index_or new k d).task (entry_for id (slice_index_or new k d).priority) (absent_is_apart new x.task k d lt gone) (still_there k d lt);
+  all = λ u p w. find u p w.1 (changed entries x.task None u p w.0);
+  count = fewer (count-set entries id x.task None within);
 }
   where
     There : Item → Type 0
-    There y = place_at places y.task ≡ Some (place_for id y.priority)
+    There y = entry_at entries y.task ≡ Some (entry_for id y.priority)
 
     all_there : All There (x ∷ new)
     all_there = All-permutation There items (x ∷ new) moved h.there
@@ -137,17 +137,17 @@ holds_without places id items new x within moved gone h = record {
 
     rest : (u : ℕ) → u ≢ x.task → (k : ℕ) → k < length (x ∷ new) → ((d : Item) → (slice_index_or (x ∷ new) k d).task ≡ u) → IsIn new u
     rest u n zero lt there = absurd (n (sym (there x)))
-    rest u n (suc k) lt there = record { place = k; inside = omega arith; there = there }
+    rest u n (suc k) lt there = record { entry = k; inside = omega arith; there = there }
 
-    find : (u : ℕ) (p : Place) → p.queue ≡ id → Changed places x.task None u p → IsIn new u
+    find : (u : ℕ) (p : Entry) → p.queue ≡ id → Changed entries x.task None u p → IsIn new u
     find u p q (this same e) = absurd (cc)
-    find u p q (other n e) = let old = in_moved items (x ∷ new) u moved (h.all u p (e, q)) in rest u n old.place old.inside old.there
+    find u p q (other n e) = let old = in_moved items (x ∷ new) u moved (h.all u p (e, q)) in rest u n old.entry old.inside old.there
 
-    fewer : count_by (is_in id) (set places x.task None) + (if is_in id (place_at places x.task) then 1 else 0) ≡ count_by (is_in id) places + (if is_in id None then 1 else 0)
-        → length new ≡ count_by (is_in id) (set places x.task None)
+    fewer : count_by (is_in id) (set entries x.task None) + (if is_in id (entry_at entries x.task) then 1 else 0) ≡ count_by (is_in id) entries + (if is_in id None then 1 else 0)
+        → length new ≡ count_by (is_in id) (set entries x.task None)
     fewer f =
-        let here : place_at places x.task ≡ Some (place_for id x.priority) = all_there 0 x (omega arith) in
-        let g : count_by (is_in id) (set places x.task None) + 1 ≡ count_by (is_in id) places + 0 = rw (here, is_in_from id (place_for id x.priority) refl) at f in
+        let here : entry_at entries x.task ≡ Some (entry_for id x.priority) = all_there 0 x (omega arith) in
+        let g : count_by (is_in id) (set entries x.task None) + 1 ≡ count_by (is_in id) entries + 0 = rw (here, is_in_from id (entry_for id x.priority) refl) at f in
         let long : length (x ∷ new) ≡ length items = length_permutation items (x ∷ new) moved in
         omega (arith, g, h.count, long)
 
@@ -160,20 +160,20 @@ spots_elsewhere items busy old new out keeps h k d e lt =
     (subst (λ n. (slice_index_or items k d).task < n) (sym keeps.long) stands.0, keeps.same (slice_index_or items k d).task e (out k d lt) ∙ stands.1)
 
 -- no task is held by two queues
-pub holds_apart : (places : Places) (id other_id : ℕ) (items others : List Item) → id ≢ other_id → Holds places id items → Holds places other_id others → All (λ y. IsAbsent items y.task) others
-holds_apart places id other_id items others n h k j d lt =
-    holds_absent places id items (slice_index_or others j d).task (subst (λ o. is_in id o ≡ false) (sym (k.there j d lt)) (ne_eqb other_id id (λ e. n (sym e)))) h
+pub holds_apart : (entries : Entries) (id other_id : ℕ) (items others : List Item) → id ≢ other_id → Holds entries id items → Holds entries other_id others → All (λ y. IsAbsent items y.task) others
+holds_apart entries id other_id items others n h k j d lt =
+    holds_absent entries id items (slice_index_or others j d).task (subst (λ o. is_in id o ≡ false) (sym (k.there j d lt)) (ne_eqb other_id id (λ e. n (sym e)))) h
 
 -- nor by another than the one that a task enters
-pub holds_apart_with : (places : Places) (id other_id : ℕ) (items others : List Item) (x : Item) → id ≢ other_id → place_at places x.task ≡ None → Holds places id items → Holds places other_id others
+pub holds_apart_with : (entries : Entries) (id other_id : ℕ) (items others : List Item) (x : Item) → id ≢ other_id → entry_at entries x.task ≡ None → Holds entries id items → Holds entries other_id others
     → All (λ y. IsAbsent (items ++ x ∷ []) y.task) others
-holds_apart_with places id other_id items others x n free h k j d lt =
+holds_apart_with entries id other_id items others x n free h k j d lt =
     let t = (slice_index_or others j d).task in
-    let out : IsAbsent items t = holds_apart places id other_id items others n h k j d lt in
-    let apart : (x.task == t) ≡ false = ne_eqb x.task t (λ e. waits (subst (λ u. place_at places u ≡ None) e free) (k.there j d lt)) in
+    let out : IsAbsent items t = holds_apart entries id other_id items others n h k j d lt in
+    let apart : (x.task == t) ≡ false = ne_eqb x.task t (λ e. waits (subst (λ u. entry_at entries u ≡ None) e free) (k.there j d lt)) in
     list_any-append (λ (y : Item). y.task == t) items (x ∷ []) ∙ or_from (list_any (λ (y : Item). y.task == t) items) (list_any (λ (y : Item). y.task == t) (x ∷ [])) out (or_from (x.task == t) false apart refl)
   where
-    waits : {o : Option Place} {p : Place} → o ≡ None → o ≡ Some p → ⊥
+    waits : {o : Option Entry} {p : Entry} → o ≡ None → o ≡ Some p → ⊥
     waits e f = absurd (cc)
 
 -- ---- the front
@@ -195,20 +195,20 @@ heap_first items h k lt = go k k (omega arith) lt
     go zero k le lt = same k (omega arith) lt
     go (suc n) k le lt = by k lt (cases_eq k 0) (λ some. go n (parent k) (omega (arith, some, le)) (omega (arith, some, lt)))
 
-pub holds_front : (s : QueueState) (id : ℕ) (items : List Item) → HasOwnStamps s → IsHeap items → Holds s.places id items → MatchOption (first_item items) (NobodyIn s id) (IsFront s id)
+pub holds_front : (s : QueueState) (id : ℕ) (items : List Item) → HasOwnStamps s → IsHeap items → Holds s.entries id items → MatchOption (first_item items) (NobodyIn s id) (IsFront s id)
 holds_front s id [] stamps heap h = λ t p w. let is = h.all t p w in let inside = is.inside in absurd (omega arith)
 holds_front s id (r ∷ rs) stamps heap h = record {
-  place = place_for id r.priority;
+  entry = entry_for id r.priority;
   waits = (h.there 0 r (omega arith), refl);
   first = λ u o n w. let f = found (r ∷ rs) u (h.all u o w) in go u o n w f.item f.contained f.is;
 }
   where
-    go : (u : ℕ) (o : Place) → u ≢ r.task → Waits s id u o → (x : Item) → Contains (r ∷ rs) x → x.task ≡ u → is_before (place_for id r.priority) o ≡ true
+    go : (u : ℕ) (o : Entry) → u ≢ r.task → Waits s id u o → (x : Item) → Contains (r ∷ rs) x → x.task ≡ u → is_before (entry_for id r.priority) o ≡ true
     go u o n w x (k, lt, e) is =
-        let place = holds_place s.places id (r ∷ rs) u o x h w.0 (k, lt, e) is in
+        let entry = holds_entry s.entries id (r ∷ rs) u o x h w.0 (k, lt, e) is in
         let late : comes_before x.priority r.priority ≡ false = subst (λ (y : Item). comes_before y.priority r.priority ≡ false) e (heap_first (r ∷ rs) heap k lt x r) in
-        let apart : o.stamp ≢ r.priority.stamp = stamps u r.task o (place_for id r.priority) n w.0 (h.there 0 r (omega arith)) in
-        let apart_too : x.priority.stamp ≢ r.priority.stamp = subst (λ (v : Place). v.stamp ≢ r.priority.stamp) (sym place) apart in
+        let apart : o.stamp ≢ r.priority.stamp = stamps u r.task o (entry_for id r.priority) n w.0 (h.there 0 r (omega arith)) in
+        let apart_too : x.priority.stamp ≢ r.priority.stamp = subst (λ (v : Entry). v.stamp ≢ r.priority.stamp) (sym entry) apart in
         let below = not_before x.priority r.priority late in
-        subst (λ v. is_before (place_for id r.priority) v ≡ true) place
-        (before_from (place_for id r.priority) (place_for id x.priority) (record { keys = below.keys; stamps = λ same. let no_later = below.stamps same in omega (arith, no_later, apart_too) }))
+        subst (λ v. is_before (entry_for id r.priority) v ≡ true) entry
+        (before_from (entry_for id r.priority) (entry_for id x.priority) (record { keys = below.keys; stamps = λ same. let no_later = below.stamps same in omega (arith, no_later, apart_too) }))

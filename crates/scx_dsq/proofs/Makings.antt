@@ -2,10 +2,10 @@
 use Rattle.std.proofs.Common.{◌≡◌, ℕ, zero, suc, ◌+◌, ◌≤◌, false, List, [], ◌∷◌, ◌++◌, length, insert, All, Some, None, vec_capacity, replicate, refl, sym, ap, ◌∙◌, subst, arith}
 use Rattle.std.proofs.lemmas.List.{length_push, length-replicate, length-map, map-append}
 use Rattle.std.proofs.lemmas.List.Elements.{All-append, All-cons, All-nil, All-pop}
-use Rattle.scx_dsq.specs.declared.places.Place.{Place}
+use Rattle.scx_dsq.specs.declared.entries.Entry.{Entry}
 use Rattle.scx_dsq.specs.declared.queue.Queue.{Queue}
 use Rattle.scx_dsq.specs.declared.queues.Queues.TheInside.{Inside}
-use Rattle.scx_dsq.specs.Queues.{Places, exists, place_at}
+use Rattle.scx_dsq.specs.Queues.{Entries, exists, entry_at}
 use Rattle.scx_dsq.specs.Laws.{IsSound}
 use Rattle.scx_dsq.specs.Links.{no_ends}
 use Rattle.scx_dsq.specs.Heaps.{HeapState, IsHeap, HasSpots}
@@ -29,17 +29,17 @@ no_spots spots k d e lt = absurd (omega arith)
 -- ---- a queue more
 
 pub created_keeps : (i j : Inside) (id gap : ℕ) (heap : HeapState) → IsKept i → IsGap (ids_of i.live.items) i.order.items id gap → j.order.items ≡ insert i.order.items gap (length i.live.items) → vec_capacity i.order ≤ vec_capacity j.order
-    → i.spare.items ≡ j.spare.items ++ heap ∷ [] → j.live.items ≡ i.live.items ++ record { id = id; ends = no_ends; heap = heap } ∷ [] → vec_capacity j.live ≡ vec_capacity i.live → j.places ≡ i.places → j.links ≡ i.links → j.spots ≡ i.spots → j.pushes ≡ i.pushes
+    → i.spare.items ≡ j.spare.items ++ heap ∷ [] → j.live.items ≡ i.live.items ++ record { id = id; ends = no_ends; heap = heap } ∷ [] → vec_capacity j.live ≡ vec_capacity i.live → j.entries ≡ i.entries → j.links ≡ i.links → j.spots ≡ i.spots → j.pushes ≡ i.pushes
     → IsKept j
-created_keeps i j id gap heap h g order order_capacity spare live capacity places links spots pushes = record {
-  sound = subst IsSound (sym (same_state _ _ _ _ _ _ _ _ same_room same_ids same_places pushes)) (sound_with_queue (state_of i) id new (omega (arith, fewer, length-map i.live.items (λ (q : Queue). q.id))) h.sound);
-  live = rw (places, links, spots, live) (All-append (Keeps i.places.items i.links.items i.spots.items) i.live.items _ h.live (All-cons (Keeps i.places.items i.links.items i.spots.items) queue [] here (All-nil _)));
+created_keeps i j id gap heap h g order order_capacity spare live capacity entries links spots pushes = record {
+  sound = subst IsSound (sym (same_state _ _ _ _ _ _ _ _ same_room same_ids same_entries pushes)) (sound_with_queue (state_of i) id new (omega (arith, fewer, length-map i.live.items (λ (q : Queue). q.id))) h.sound);
+  live = rw (entries, links, spots, live) (All-append (Keeps i.entries.items i.links.items i.spots.items) i.live.items _ h.live (All-cons (Keeps i.entries.items i.links.items i.spots.items) queue [] here (All-nil _)));
   order = rw (same_ids, order) (subst (λ n. IsOrder (ids_of i.live.items ++ id ∷ []) (insert i.order.items gap n)) (length-map i.live.items (λ (q : Queue). q.id)) (order_with (ids_of i.live.items) i.order.items id gap h.order g));
-  spare = subst (λ ps. All (IsSpare ps) j.spare.items) (sym same_places) heaps.0;
+  spare = subst (λ ps. All (IsSpare ps) j.spare.items) (sym same_entries) heaps.0;
   room = omega (arith, h.room, capacity, same_room);
   orders = omega (arith, h.orders, order_capacity, fewer, ap length order, length-insert i.order.items gap (length i.live.items) g.within);
-  links = ap (λ v. length v.items) links ∙ h.links ∙ sym (ap (λ v. length v.items) places);
-  spots = ap (λ v. length v.items) spots ∙ h.spots ∙ sym (ap (λ v. length v.items) places);
+  links = ap (λ v. length v.items) links ∙ h.links ∙ sym (ap (λ v. length v.items) entries);
+  spots = ap (λ v. length v.items) spots ∙ h.spots ∙ sym (ap (λ v. length v.items) entries);
 }
   where
     queue : Queue
@@ -48,8 +48,8 @@ created_keeps i j id gap heap h g order order_capacity spare live capacity place
     new : exists (state_of i) id ≡ false
     new = missing (ids_of i.live.items) i.order.items id gap h.order g
 
-    same_places : j.places.items ≡ i.places.items
-    same_places = ap (λ v. v.items) places
+    same_entries : j.entries.items ≡ i.entries.items
+    same_entries = ap (λ v. v.items) entries
 
     fewer : length i.spare.items ≡ length j.spare.items + 1
     fewer = ap length spare ∙ length_push j.spare.items heap
@@ -63,15 +63,15 @@ created_keeps i j id gap heap h g order order_capacity spare live capacity place
     same_ids : ids_of j.live.items ≡ ids_of i.live.items ++ id ∷ []
     same_ids = ap ids_of live ∙ map-append (λ (q : Queue). q.id) i.live.items (queue ∷ [])
 
-    heaps : All (IsSpare i.places.items) j.spare.items × IsSpare i.places.items heap
-    heaps = All-pop (IsSpare i.places.items) i.spare.items j.spare.items (Some heap) spare h.spare
+    heaps : All (IsSpare i.entries.items) j.spare.items × IsSpare i.entries.items heap
+    heaps = All-pop (IsSpare i.entries.items) i.spare.items j.spare.items (Some heap) spare h.spare
 
     nobody : NobodyIn (state_of i) id
     nobody = nobody_elsewhere (state_of i) id h.sound new
 
-    here : Keeps i.places.items i.links.items i.spots.items queue
+    here : Keeps i.entries.items i.links.items i.spots.items queue
     here = record {
-      tasks = by_heap (subst (Holds i.places.items id) (sym heaps.1.0) (holds_empty (state_of i) id nobody)) refl;
+      tasks = by_heap (subst (Holds i.entries.items id) (sym heaps.1.0) (holds_empty (state_of i) id nobody)) refl;
       room = heaps.1.1;
       heap = subst IsHeap (sym heaps.1.0) heap_of_none;
       stand = subst (λ items. HasSpots items i.spots.items) (sym heaps.1.0) (no_spots i.spots.items);
@@ -81,14 +81,14 @@ created_keeps i j id gap heap h g order order_capacity spare live capacity place
 pub created_arrays : (i : Inside) (live : List Queue) (id : ℕ) (heap : HeapState) → IsKept i → (spare : List HeapState) → i.spare.items ≡ spare ++ heap ∷ [] → live ≡ i.live.items ++ record { id = id; ends = no_ends; heap = heap } ∷ []
     → arrays_of live ≡ arrays_of i.live.items ++ [] ∷ []
 created_arrays i live id heap h spare popped is =
-    let empty = (All-pop (IsSpare i.places.items) i.spare.items spare (Some heap) popped h.spare).1.0 in
+    let empty = (All-pop (IsSpare i.entries.items) i.spare.items spare (Some heap) popped h.spare).1.0 in
     ap arrays_of is ∙ map-append (λ (q : Queue). q.heap.items) i.live.items (record { id = id; ends = no_ends; heap = heap } ∷ []) ∙ ap (λ items. arrays_of i.live.items ++ items ∷ []) empty
 
 -- ---- no queue yet
 
-pub new_keeps : (i : Inside) (tasks : ℕ) → i.live.items ≡ [] → All (λ heap. heap ≡ record { room = tasks; items = [] }) i.spare.items → i.places.items ≡ replicate tasks None
+pub new_keeps : (i : Inside) (tasks : ℕ) → i.live.items ≡ [] → All (λ heap. heap ≡ record { room = tasks; items = [] }) i.spare.items → i.entries.items ≡ replicate tasks None
     → length i.links.items ≡ tasks → length i.spots.items ≡ tasks → length i.spare.items ≤ vec_capacity i.live → i.order.items ≡ [] → length i.spare.items ≤ vec_capacity i.order → IsKept i
-new_keeps i tasks live spare places links spots room order order_room = record {
+new_keeps i tasks live spare entries links spots room order order_room = record {
   sound = record {
     queues = record { distinct = rw live (λ a b d lt within. absurd (omega arith)); within = rw live (omega arith) };
     homes = λ t p e. absurd (nowhere t p e);
@@ -105,16 +105,16 @@ new_keeps i tasks live spare places links spots room order order_room = record {
   spots = omega (arith, spots, long);
 }
   where
-    long : length i.places.items ≡ tasks
-    long = ap (λ (ps : Places). length ps) places ∙ length-replicate tasks None
+    long : length i.entries.items ≡ tasks
+    long = ap (λ (ps : Entries). length ps) entries ∙ length-replicate tasks None
 
-    nowhere : (t : ℕ) (p : Place) → place_at i.places.items t ≡ Some p → ⊥
+    nowhere : (t : ℕ) (p : Entry) → entry_at i.entries.items t ≡ Some p → ⊥
     nowhere t p e =
-        let none : place_at (replicate tasks None) t ≡ None = none_there tasks t in
-        let some : place_at (replicate tasks None) t ≡ Some p = subst (λ ps. place_at ps t ≡ Some p) places e in
+        let none : entry_at (replicate tasks None) t ≡ None = none_there tasks t in
+        let some : entry_at (replicate tasks None) t ≡ Some p = subst (λ ps. entry_at ps t ≡ Some p) entries e in
         absurd (cc)
       where
-        none_there : (n k : ℕ) → place_at (replicate n None) k ≡ None
+        none_there : (n k : ℕ) → entry_at (replicate n None) k ≡ None
         none_there zero k = refl
         none_there (suc n) zero = refl
         none_there (suc n) (suc k) = none_there n k

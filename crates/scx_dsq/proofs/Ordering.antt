@@ -173,6 +173,6 @@ pub middle_id : (live : List Queue) (order : List ℕ) (id low high : ℕ) (q : 
     → (d : ℕ) → get_or (ids_of live) (get_or order (low + (high - low) / 2) d) 0 ≡ (get_or live (get_or order (low + (high - low) / 2) 0) q).id
 middle_id live order id low high q h b lt d =
     let inside : low + (high - low) / 2 < length order = omega (arith, lt, b.most) in
-    let place = get_or order (low + (high - low) / 2) 0 in
+    let entry = get_or order (low + (high - low) / 2) 0 in
     ap (λ n. get_or (ids_of live) n 0) (get_or_default order (low + (high - low) / 2) d 0 inside)
-    ∙ get_or_default (ids_of live) place 0 q.id (h.within (low + (high - low) / 2) 0 inside) ∙ id_at live place q
+    ∙ get_or_default (ids_of live) entry 0 q.id (h.within (low + (high - low) / 2) 0 inside) ∙ id_at live entry q

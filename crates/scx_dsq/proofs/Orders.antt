@@ -1,15 +1,15 @@
 -- The order of places: by key, then by stamp.
 use Rattle.std.proofs.Common.{◌≡◌, ℕ, ◌<◌, ◌≤◌, Bool, true, false, inl, inr, nat_lt, ◌==◌, ◌&&◌, ◌||◌, arith, refl, sym}
 use Rattle.std.proofs.lemmas.Bool.{ltb-true, eqb-true, lt-ltb, eq-eqb, or_cases, and_parts, and_from, or_left, false_from_ne_true, cases_eq}
-use Rattle.scx_dsq.specs.declared.places.Place.{Place}
-use Rattle.scx_dsq.specs.Places.{key_of, is_before}
+use Rattle.scx_dsq.specs.declared.entries.Entry.{Entry}
+use Rattle.scx_dsq.specs.Entries.{key_of, is_before}
 
 -- what the test says of the numbers
 pub record Below (k s l t : ℕ) : Type 0 where
   pub keys : k ≤ l
   pub stamps : k ≡ l → s < t
 
-pub before_says : (p q : Place) → is_before p q ≡ true → Below (key_of p.rank) p.stamp (key_of q.rank) q.stamp
+pub before_says : (p q : Entry) → is_before p q ≡ true → Below (key_of p.rank) p.stamp (key_of q.rank) q.stamp
 before_says p q h =
     elim (or_cases (nat_lt (key_of p.rank) (key_of q.rank)) (key_of p.rank == key_of q.rank && nat_lt p.stamp q.stamp) h) [
       | inl k ↦ let lt : key_of p.rank < key_of q.rank = ltb-true _ _ k in record { keys = omega arith; stamps = λ e. omega arith }
@@ -20,7 +20,7 @@ before_says p q h =
           record { keys = omega arith; stamps = λ e. lt }
     ]
 
-pub before_from : (p q : Place) → Below (key_of p.rank) p.stamp (key_of q.rank) q.stamp → is_before p q ≡ true
+pub before_from : (p q : Entry) → Below (key_of p.rank) p.stamp (key_of q.rank) q.stamp → is_before p q ≡ true
 before_from p q h =
     elim (cases_eq (key_of p.rank) (key_of q.rank)) [
       | inl e ↦ or_from_right _ _ (and_from _ _ (eq-eqb _ _ e) (lt-ltb _ _ (h.stamps e)))
@@ -34,14 +34,14 @@ before_from p q h =
     or_from_right true y e = refl
     or_from_right false y e = e
 
-pub before-trans : (p q r : Place) → is_before p q ≡ true → is_before q r ≡ true → is_before p r ≡ true
+pub before-trans : (p q r : Entry) → is_before p q ≡ true → is_before q r ≡ true → is_before p r ≡ true
 before-trans p q r h k =
     let a = before_says p q h in
     let b = before_says q r k in
     before_from p r (record { keys = omega (arith, a.keys, b.keys); stamps = λ e. omega (arith, a.keys, b.keys, a.stamps, b.stamps) })
 
 -- no two places are before each other
-pub before-asym : (p q : Place) → is_before p q ≡ true → is_before q p ≡ false
+pub before-asym : (p q : Entry) → is_before p q ≡ true → is_before q p ≡ false
 before-asym p q h =
     let a = before_says p q h in
     false_from_ne_true _ (λ k. apart a (before_says q p k))

@@ -3,20 +3,20 @@ use Rattle.std.proofs.Common.{◌≡◌, ◌≢◌, ℕ, false, ◌+◌, ◌<◌
 use Rattle.std.specs.Vec.{with_item, with_items}
 use Rattle.std.proofs.lemmas.Bool.{ne_eqb}
 use Rattle.std.proofs.lemmas.List.{with_items_is, length-set}
-use Rattle.scx_dsq.specs.declared.places.Rank.{Rank}
-use Rattle.scx_dsq.specs.declared.places.Rank.TheVariants.{Fifo, Vtime}
-use Rattle.scx_dsq.specs.declared.places.Place.{Place}
+use Rattle.scx_dsq.specs.declared.entries.Rank.{Rank}
+use Rattle.scx_dsq.specs.declared.entries.Rank.TheVariants.{Fifo, Vtime}
+use Rattle.scx_dsq.specs.declared.entries.Entry.{Entry}
 use Rattle.scx_dsq.specs.declared.heap.Item.{Item}
 use Rattle.scx_dsq.specs.declared.links.Link.{Link}
 use Rattle.scx_dsq.specs.declared.queue.Queue.{Queue}
 use Rattle.scx_dsq.specs.declared.queues.Queues.TheInside.{Inside}
-use Rattle.scx_dsq.specs.Places.{same_sort}
-use Rattle.scx_dsq.specs.Queues.{QueueState, place_at}
-use Rattle.scx_dsq.specs.Calls.{pushed, next_place}
+use Rattle.scx_dsq.specs.Entries.{same_sort}
+use Rattle.scx_dsq.specs.Queues.{QueueState, entry_at}
+use Rattle.scx_dsq.specs.Calls.{pushed, next_entry}
 use Rattle.scx_dsq.specs.Links.{links_appended}
 use Rattle.scx_dsq.specs.Heaps.{HasSpots, KeepsOthers, IsCheap}
 use Rattle.scx_dsq.specs.Arrays.{IsPaid}
-use Rattle.scx_dsq.specs.Holdings.{Holds, place_for}
+use Rattle.scx_dsq.specs.Holdings.{Holds, entry_for}
 use Rattle.scx_dsq.specs.Kept.{IsOfOneSort, by_links, by_heap, Keeps, CanAppend, appended, CanInsert, Inserted, state_of, value_of, IsKept}
 use Rattle.scx_dsq.proofs.LinkReads.{length-with_behind}
 use Rattle.scx_dsq.proofs.Holdings.{spots_elsewhere, holds_apart_with, holds_vtime}
@@ -31,12 +31,12 @@ use Rattle.scx_dsq.proofs.Costs.{paid}
 links_long : (links : List Link) (q : Queue) (t : ℕ) → length (links_appended links q.ends t) ≡ length links
 links_long links q t = length-with_behind (set links t (record { ahead = q.ends.last; behind = None })) q.ends.last (Some t) ∙ length-set links t (record { ahead = q.ends.last; behind = None })
 
-pub can_push_fifo : (i : Inside) (k id t : ℕ) (q : Queue) → IsKept i → t < length i.places.items → IsOpen i k id t Fifo q → CanAppend i.links.items q t
+pub can_push_fifo : (i : Inside) (k id t : ℕ) (q : Queue) → IsKept i → t < length i.entries.items → IsOpen i k id t Fifo q → CanAppend i.links.items q t
 can_push_fifo i k id t q h within a =
-    can_append (state_of i) i.links.items q t (next_place (state_of i) id Fifo) h.sound.stamps within a.free (sym a.is) (λ u p e. h.sound.stamped u p e) h.links a.fits (row_at i k q h a.inside a.read).tasks
+    can_append (state_of i) i.links.items q t (next_entry (state_of i) id Fifo) h.sound.stamps within a.free (sym a.is) (λ u p e. h.sound.stamped u p e) h.links a.fits (row_at i k q h a.inside a.read).tasks
 
-module _ (i j : Inside) (k id t : ℕ) (q : Queue) (h : IsKept i) (within : t < length i.places.items) (a : IsOpen i k id t Fifo q)
-    (c : IsChanged i j k t (appended q t) (Some (next_place (state_of i) id Fifo)) (links_appended i.links.items q.ends t) i.spots.items (i.pushes + 1)) where
+module _ (i j : Inside) (k id t : ℕ) (q : Queue) (h : IsKept i) (within : t < length i.entries.items) (a : IsOpen i k id t Fifo q)
+    (c : IsChanged i j k t (appended q t) (Some (next_entry (state_of i) id Fifo)) (links_appended i.links.items q.ends t) i.spots.items (i.pushes + 1)) where
   pub pushed_fifo : IsKept j
   pushed_fifo =
       changed_keeps i j k t q (appended q t) (Some new) (links_appended i.links.items q.ends t) i.spots.items (i.pushes + 1) a.inside a.read refl c h within (links_long i.links.items q t) refl
@@ -45,24 +45,24 @@ module _ (i j : Inside) (k id t : ℕ) (q : Queue) (h : IsKept i) (within : t < 
       (λ r n keeps. keeps.stand)
       (record {
         tasks = form_appended (state_of i) i.links.items q t new h.sound.stamps within a.free (sym a.is) late h.links a.fits row.tasks refl;
-        room = omega (arith, row.room, length-set i.places.items t (Some new));
+        room = omega (arith, row.room, length-set i.entries.items t (Some new));
         heap = row.heap;
         stand = row.stand;
       })
       (sound_with_task (state_of i) id t Fifo a.there a.none h.sound)
     where
-      new : Place
-      new = next_place (state_of i) id Fifo
+      new : Entry
+      new = next_entry (state_of i) id Fifo
 
-      late : (u : ℕ) (p : Place) → place_at i.places.items u ≡ Some p → p.stamp < new.stamp
+      late : (u : ℕ) (p : Entry) → entry_at i.entries.items u ≡ Some p → p.stamp < new.stamp
       late u p e = h.sound.stamped u p e
 
-      row : Keeps i.places.items i.links.items i.spots.items q
+      row : Keeps i.entries.items i.links.items i.spots.items q
       row = row_at i k q h a.inside a.read
 
   pub pushed_fifo_state : state_of j ≡ pushed (state_of i) id t Fifo
   pushed_fifo_state =
-      changed_state i j k t q (appended q t) (Some (next_place (state_of i) id Fifo)) (links_appended i.links.items q.ends t) i.spots.items (i.pushes + 1) a.inside a.read refl c ∙ rw (not_refused i k id t Fifo q a) refl
+      changed_state i j k t q (appended q t) (Some (next_entry (state_of i) id Fifo)) (links_appended i.links.items q.ends t) i.spots.items (i.pushes + 1) a.inside a.read refl c ∙ rw (not_refused i k id t Fifo q a) refl
 
 -- what the code leaves of the queues
 pub entered_fifo : (i : Inside) (k id t : ℕ) (q new : Queue) (links linked : List Link) → links ≡ i.links.items → new ≡ appended q t → linked ≡ links_appended links q.ends t
@@ -70,18 +70,18 @@ pub entered_fifo : (i : Inside) (k id t : ℕ) (q new : Queue) (links linked : L
       live = with_item i.live k new;
       order = i.order;
       spare = i.spare;
-      places = with_item i.places t (Some (next_place (state_of i) id Fifo));
+      entries = with_item i.entries t (Some (next_entry (state_of i) id Fifo));
       links = with_items i.links linked;
       spots = i.spots;
       guesses = i.guesses;
       pushes = i.pushes + 1;
-    }) k t (appended q t) (Some (next_place (state_of i) id Fifo)) (links_appended i.links.items q.ends t) i.spots.items (i.pushes + 1)
+    }) k t (appended q t) (Some (next_entry (state_of i) id Fifo)) (links_appended i.links.items q.ends t) i.spots.items (i.pushes + 1)
 entered_fifo i k id t q new links linked same is are = record {
   live = ap (λ x. set i.live.items k x) is;
   capacity = refl;
   order = refl;
   spare = refl;
-  places = refl;
+  entries = refl;
   links = with_items_is i.links linked long ∙ after;
   spots = refl;
   pushes = refl;
@@ -95,7 +95,7 @@ entered_fifo i k id t q new links linked same is are = record {
 
 -- ---- by virtual time
 
-pub can_push_vtime : (i : Inside) (k id : ℕ) (x : Item) (q : Queue) → IsKept i → x.task < length i.places.items → IsOpen i k id x.task (Vtime x.priority.key) q → CanInsert i.spots.items q x
+pub can_push_vtime : (i : Inside) (k id : ℕ) (x : Item) (q : Queue) → IsKept i → x.task < length i.entries.items → IsOpen i k id x.task (Vtime x.priority.key) q → CanInsert i.spots.items q x
 can_push_vtime i k id x q h within a =
     let row = row_at i k q h a.inside a.read in
     can_insert (state_of i) i.links.items q x within a.free a.fits row.tasks i.spots.items h.spots row.room row.stand row.heap
@@ -105,51 +105,51 @@ no_fifo Fifo e unlike = absurd (cc)
 no_fifo (Vtime k) e unlike = absurd (cc)
 
 -- the spots of a queue that the task doesn't enter
-spots_beside : (s : QueueState) (links : List Link) (q r : Queue) (x : Item) (spots stood : List ℕ) → q.id ≢ r.id → place_at s.places x.task ≡ None → Holds s.places q.id q.heap.items → IsOfOneSort s.places links r
+spots_beside : (s : QueueState) (links : List Link) (q r : Queue) (x : Item) (spots stood : List ℕ) → q.id ≢ r.id → entry_at s.entries x.task ≡ None → Holds s.entries q.id q.heap.items → IsOfOneSort s.entries links r
     → KeepsOthers (q.heap.items ++ x ∷ []) spots stood → HasSpots r.heap.items spots → HasSpots r.heap.items stood
 spots_beside s links q r x spots stood n free h (by_links f empty) keeps stand = subst (λ items. HasSpots items stood) (sym empty) (λ k d e lt. absurd (omega arith))
 spots_beside s links q r x spots stood n free h (by_heap other none) keeps stand =
-    spots_elsewhere r.heap.items (q.heap.items ++ x ∷ []) spots stood (holds_apart_with s.places q.id r.id q.heap.items r.heap.items x n free h other) keeps stand
+    spots_elsewhere r.heap.items (q.heap.items ++ x ∷ []) spots stood (holds_apart_with s.entries q.id r.id q.heap.items r.heap.items x n free h other) keeps stand
 
-module _ (i j : Inside) (k id : ℕ) (x : Item) (q new : Queue) (stood : List ℕ) (h : IsKept i) (within : x.task < length i.places.items) (a : IsOpen i k id x.task (Vtime x.priority.key) q) (e : Inserted i.spots.items q x stood new)
-    (late : x.priority.stamp ≡ i.pushes) (c : IsChanged i j k x.task new (Some (next_place (state_of i) id (Vtime x.priority.key))) i.links.items stood (i.pushes + 1)) where
+module _ (i j : Inside) (k id : ℕ) (x : Item) (q new : Queue) (stood : List ℕ) (h : IsKept i) (within : x.task < length i.entries.items) (a : IsOpen i k id x.task (Vtime x.priority.key) q) (e : Inserted i.spots.items q x stood new)
+    (late : x.priority.stamp ≡ i.pushes) (c : IsChanged i j k x.task new (Some (next_entry (state_of i) id (Vtime x.priority.key))) i.links.items stood (i.pushes + 1)) where
   pub pushed_vtime : IsKept j
   pushed_vtime =
-      changed_keeps i j k x.task q new (Some place) i.links.items stood (i.pushes + 1) a.inside a.read e.id c h within refl e.others.long
+      changed_keeps i j k x.task q new (Some entry) i.links.items stood (i.pushes + 1) a.inside a.read e.id c h within refl e.others.long
       (λ other n. (rw a.free refl, ne_eqb id other (λ same. n (sym same ∙ sym a.is))))
       (λ other n u o w. refl)
       (λ r n keeps. spots_beside (state_of i) i.links.items q r x i.spots.items stood (λ same. n (sym same)) a.free held keeps.tasks e.others keeps.stand)
       (record {
-        tasks = subst (λ p. IsOfOneSort (set i.places.items x.task (Some p)) i.links.items new) here (form_inserted (state_of i) i.links.items q x within a.free a.fits row.tasks i.spots.items stood new e);
-        room = omega (arith, row.room, e.room, length-set i.places.items x.task (Some place));
+        tasks = subst (λ p. IsOfOneSort (set i.entries.items x.task (Some p)) i.links.items new) here (form_inserted (state_of i) i.links.items q x within a.free a.fits row.tasks i.spots.items stood new e);
+        room = omega (arith, row.room, e.room, length-set i.entries.items x.task (Some entry));
         heap = e.heap;
         stand = e.stand;
       })
       (sound_with_task (state_of i) id x.task (Vtime x.priority.key) a.there a.none h.sound)
     where
-      place : Place
-      place = next_place (state_of i) id (Vtime x.priority.key)
+      entry : Entry
+      entry = next_entry (state_of i) id (Vtime x.priority.key)
 
-      row : Keeps i.places.items i.links.items i.spots.items q
+      row : Keeps i.entries.items i.links.items i.spots.items q
       row = row_at i k q h a.inside a.read
 
-      held : Holds i.places.items q.id q.heap.items
+      held : Holds i.entries.items q.id q.heap.items
       held = (as_held (state_of i) i.links.items q x.priority.key a.fits row.tasks).0
 
-      here : place_for q.id x.priority ≡ place
+      here : entry_for q.id x.priority ≡ entry
       here = rw (a.is, late) refl
 
   pub pushed_vtime_state : state_of j ≡ pushed (state_of i) id x.task (Vtime x.priority.key)
   pushed_vtime_state =
-      changed_state i j k x.task q new (Some (next_place (state_of i) id (Vtime x.priority.key))) i.links.items stood (i.pushes + 1) a.inside a.read e.id c ∙ rw (not_refused i k id x.task (Vtime x.priority.key) q a) refl
+      changed_state i j k x.task q new (Some (next_entry (state_of i) id (Vtime x.priority.key))) i.links.items stood (i.pushes + 1) a.inside a.read e.id c ∙ rw (not_refused i k id x.task (Vtime x.priority.key) q a) refl
 
   pub pushed_vtime_paid : (steps : ℕ) → IsCheap q.heap.items new.heap.items steps → IsPaid (value_of i) (value_of j) id steps
   pushed_vtime_paid steps cheap =
-      let state = changed_state i j k x.task q new (Some (next_place (state_of i) id (Vtime x.priority.key))) i.links.items stood (i.pushes + 1) a.inside a.read e.id c in
-      let arrays = changed_arrays i j k x.task q new (Some (next_place (state_of i) id (Vtime x.priority.key))) i.links.items stood (i.pushes + 1) a.inside a.read e.id c in
+      let state = changed_state i j k x.task q new (Some (next_entry (state_of i) id (Vtime x.priority.key))) i.links.items stood (i.pushes + 1) a.inside a.read e.id c in
+      let arrays = changed_arrays i j k x.task q new (Some (next_entry (state_of i) id (Vtime x.priority.key))) i.links.items stood (i.pushes + 1) a.inside a.read e.id c in
       let held = (as_held (state_of i) i.links.items q x.priority.key a.fits (row_at i k q h a.inside a.read).tasks).0 in
       subst (λ v. IsPaid (value_of i) (value_of j) v steps) a.is
-      (paid i j k q new h a.inside a.read (ap (λ (s : QueueState). s.ids) state) arrays steps cheap (λ t p w is. absurd (no_fifo p.rank is (holds_vtime i.places.items q.id q.heap.items held t p w))))
+      (paid i j k q new h a.inside a.read (ap (λ (s : QueueState). s.ids) state) arrays steps cheap (λ t p w is. absurd (no_fifo p.rank is (holds_vtime i.entries.items q.id q.heap.items held t p w))))
 
 -- what the code leaves of the queues
 pub entered_vtime : (i : Inside) (k id : ℕ) (x : Item) (q new : Queue) (spots stood : List ℕ) → spots ≡ i.spots.items → Inserted spots q x stood new
@@ -157,18 +157,18 @@ pub entered_vtime : (i : Inside) (k id : ℕ) (x : Item) (q new : Queue) (spots 
       live = with_item i.live k new;
       order = i.order;
       spare = i.spare;
-      places = with_item i.places x.task (Some (next_place (state_of i) id (Vtime x.priority.key)));
+      entries = with_item i.entries x.task (Some (next_entry (state_of i) id (Vtime x.priority.key)));
       links = i.links;
       spots = with_items i.spots stood;
       guesses = i.guesses;
       pushes = i.pushes + 1;
-    }) k x.task new (Some (next_place (state_of i) id (Vtime x.priority.key))) i.links.items stood (i.pushes + 1)
+    }) k x.task new (Some (next_entry (state_of i) id (Vtime x.priority.key))) i.links.items stood (i.pushes + 1)
 entered_vtime i k id x q new spots stood same e = record {
   live = refl;
   capacity = refl;
   order = refl;
   spare = refl;
-  places = refl;
+  entries = refl;
   links = refl;
   spots = with_items_is i.spots stood (omega (arith, e.others.long, ap (λ (xs : List ℕ). length xs) same, i.spots.ok.0));
   pushes = refl;

@@ -3,13 +3,13 @@ use Rattle.std.proofs.Common.{◌≡◌, ℕ, ◌<◌, true, false, List, [], le
 use Rattle.std.specs.List.{list_any}
 use Rattle.std.proofs.lemmas.Bool.{both_ways}
 use Rattle.std.proofs.lemmas.List.{get_or_default, get_or_read, length-map}
-use Rattle.scx_dsq.specs.declared.places.Rank.{Rank}
-use Rattle.scx_dsq.specs.declared.places.Place.{Place}
+use Rattle.scx_dsq.specs.declared.entries.Rank.{Rank}
+use Rattle.scx_dsq.specs.declared.entries.Entry.{Entry}
 use Rattle.scx_dsq.specs.declared.queue.Queue.{Queue}
 use Rattle.scx_dsq.specs.declared.queues.Queues.TheInside.{Inside}
 use Rattle.scx_dsq.specs.declared.errors.QueueError.{QueueError}
 use Rattle.scx_dsq.specs.declared.errors.QueueError.TheVariants.{NoSuchQueue, AlreadyThere, Mixed, TooManyQueues}
-use Rattle.scx_dsq.specs.Queues.{QueueState, exists, place_at, place_of, task_count, IsFront, len_of}
+use Rattle.scx_dsq.specs.Queues.{QueueState, exists, entry_at, entry_of, task_count, IsFront, len_of}
 use Rattle.scx_dsq.specs.Laws.{IsSound}
 use Rattle.scx_dsq.specs.Calls.{clashes, push_refusal}
 use Rattle.scx_dsq.specs.Kept.{ids_of, Stands, Keeps, front_in, len_in, mixes, IsAdmitted, IsRefused, state_of, IsKept}
@@ -24,22 +24,22 @@ none_from None e = refl
 none_from (Some x) e = absurd (cc)
 
 -- the queue that was read
-pub row_at : (i : Inside) (k : ℕ) (q : Queue) → IsKept i → k < length i.live.items → q ≡ get_or i.live.items k q → Keeps i.places.items i.links.items i.spots.items q
-row_at i k q h lt e = subst (Keeps i.places.items i.links.items i.spots.items) (sym e) (h.live k q lt)
+pub row_at : (i : Inside) (k : ℕ) (q : Queue) → IsKept i → k < length i.live.items → q ≡ get_or i.live.items k q → Keeps i.entries.items i.links.items i.spots.items q
+row_at i k q h lt e = subst (Keeps i.entries.items i.links.items i.spots.items) (sym e) (h.live k q lt)
 
 -- whether a rank mixes with its tasks is whether it clashes with anyone there
 pub clash_read : (i : Inside) (k id : ℕ) (rank : Rank) (q : Queue) → IsKept i → k < length i.live.items → q ≡ get_or i.live.items k q → q.id ≡ id
-    → mixes rank q ≡ list_any (clashes id rank) i.places.items
+    → mixes rank q ≡ list_any (clashes id rank) i.entries.items
 clash_read i k id rank q h lt read is =
-    form_clash (state_of i) rank i.links.items q (row_at i k q h lt read).tasks ∙ ap (λ v. list_any (clashes v rank) i.places.items) is
+    form_clash (state_of i) rank i.links.items q (row_at i k q h lt read).tasks ∙ ap (λ v. list_any (clashes v rank) i.entries.items) is
 
 -- a queue that isn't there has nobody in it
 pub nobody_elsewhere : (s : QueueState) (id : ℕ) → IsSound s → exists s id ≡ false → NobodyIn s id
 nobody_elsewhere s id h out t p w = both_ways (exists s id) out (subst (λ v. exists s v ≡ true) w.1 (h.homes t p w.0))
 
 -- the place that was read is the task's
-pub place_read : (i : Inside) (t : ℕ) (o : Option Place) → t < task_count (state_of i) → o ≡ get_or i.places.items t o → place_of (state_of i) t ≡ o
-place_read i t o within read = sym (get_or_read i.places.items t o within read None)
+pub entry_read : (i : Inside) (t : ℕ) (o : Option Entry) → t < task_count (state_of i) → o ≡ get_or i.entries.items t o → entry_of (state_of i) t ≡ o
+entry_read i t o within read = sym (get_or_read i.entries.items t o within read None)
 
 -- the queue that was found and read is there, and has the id
 pub queue_read : (i : Inside) (live : List Queue) (k id : ℕ) (q : Queue) → live ≡ i.live.items → (k < length live) × ((d : Queue) → (get_or live k d).id ≡ id) → q ≡ get_or i.live.items k q
@@ -78,11 +78,11 @@ pub record IsOpen (i : Inside) (k id t : ℕ) (rank : Rank) (q : Queue) : Type 0
   pub read : q ≡ get_or i.live.items k q
   pub is : q.id ≡ id
   pub there : exists (state_of i) id ≡ true
-  pub free : place_at i.places.items t ≡ None
+  pub free : entry_at i.entries.items t ≡ None
   pub fits : mixes rank q ≡ false
-  pub none : list_any (clashes id rank) i.places.items ≡ false
+  pub none : list_any (clashes id rank) i.entries.items ≡ false
 
-pub opened : (i : Inside) (k id t : ℕ) (rank : Rank) (q : Queue) → IsKept i → IsAdmitted i.live.items i.places.items k id t rank → q ≡ get_or i.live.items k q → IsOpen i k id t rank q
+pub opened : (i : Inside) (k id t : ℕ) (rank : Rank) (q : Queue) → IsKept i → IsAdmitted i.live.items i.entries.items k id t rank → q ≡ get_or i.live.items k q → IsOpen i k id t rank q
 opened i k id t rank q h a read =
     let is : q.id ≡ id = ap (λ (x : Queue). x.id) read ∙ a.is q in
     let fits : mixes rank q ≡ false = ap (λ (x : Queue). mixes rank x) read ∙ a.fits q in
@@ -99,14 +99,14 @@ opened i k id t rank q h a read =
 pub not_refused : (i : Inside) (k id t : ℕ) (rank : Rank) (q : Queue) → IsOpen i k id t rank q → push_refusal (state_of i) id t rank ≡ None
 not_refused i k id t rank q a = rw (a.there, a.free, a.none) refl
 
-pub refused : (i : Inside) (id t : ℕ) (rank : Rank) (e : QueueError) → IsKept i → IsRefused i.live.items i.places.items id t rank e → push_refusal (state_of i) id t rank ≡ Some e
+pub refused : (i : Inside) (id t : ℕ) (rank : Rank) (e : QueueError) → IsKept i → IsRefused i.live.items i.entries.items id t rank e → push_refusal (state_of i) id t rank ≡ Some e
 refused i id t rank NoSuchQueue h r = rw r refl
 refused i id t rank AlreadyThere h r = rw (r.0, r.1) refl
 refused i id t rank Mixed h r =
     let m = r.2 in
     let any : Queue = record { id = id; ends = no_ends; heap = record { room = 0; items = [] } } in
-    let q = get_or i.live.items m.place any in
-    let read : q ≡ get_or i.live.items m.place q = get_or_default i.live.items m.place any q m.inside in
-    let clash : true ≡ list_any (clashes id rank) i.places.items = sym (m.mixed any) ∙ clash_read i m.place id rank q h m.inside read (m.is any) in
+    let q = get_or i.live.items m.entry any in
+    let read : q ≡ get_or i.live.items m.entry q = get_or_default i.live.items m.entry any q m.inside in
+    let clash : true ≡ list_any (clashes id rank) i.entries.items = sym (m.mixed any) ∙ clash_read i m.entry id rank q h m.inside read (m.is any) in
     rw (r.0, r.1, ← clash) refl
 refused i id t rank TooManyQueues h r = absurd r

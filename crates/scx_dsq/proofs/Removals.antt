@@ -3,14 +3,14 @@ use Rattle.std.proofs.Common.{◌≡◌, ◌≢◌, ℕ, true, ◌<◌, List, le
 use Rattle.std.specs.Vec.{with_item, with_items}
 use Rattle.std.proofs.lemmas.Bool.{ne_eqb}
 use Rattle.std.proofs.lemmas.List.{with_items_is, length-set, length-map}
-use Rattle.scx_dsq.specs.declared.places.Rank.{Rank}
-use Rattle.scx_dsq.specs.declared.places.Rank.TheVariants.{Fifo, Vtime}
-use Rattle.scx_dsq.specs.declared.places.Place.{Place}
+use Rattle.scx_dsq.specs.declared.entries.Rank.{Rank}
+use Rattle.scx_dsq.specs.declared.entries.Rank.TheVariants.{Fifo, Vtime}
+use Rattle.scx_dsq.specs.declared.entries.Entry.{Entry}
 use Rattle.scx_dsq.specs.declared.links.Link.{Link}
 use Rattle.scx_dsq.specs.declared.queue.Queue.{Queue}
 use Rattle.scx_dsq.specs.declared.queues.Queues.TheInside.{Inside}
-use Rattle.scx_dsq.specs.Places.{same_sort}
-use Rattle.scx_dsq.specs.Queues.{QueueState, Waits, place_at, place_of}
+use Rattle.scx_dsq.specs.Entries.{same_sort}
+use Rattle.scx_dsq.specs.Queues.{QueueState, Waits, entry_at, entry_of}
 use Rattle.scx_dsq.specs.Calls.{without_task}
 use Rattle.scx_dsq.specs.Links.{link_at, with_ahead, links_unlinked}
 use Rattle.scx_dsq.specs.Heaps.{HasSpots, KeepsOthers, IsCheap}
@@ -32,20 +32,20 @@ links_long links t =
     ∙ length-with_ahead links (link_at links t).behind (link_at links t).ahead
 
 -- the spots of a queue that the task doesn't leave
-spots_beside : (s : QueueState) (links : List Link) (q r : Queue) (spots stood : List ℕ) → q.id ≢ r.id → Holds s.places q.id q.heap.items → IsOfOneSort s.places links r
+spots_beside : (s : QueueState) (links : List Link) (q r : Queue) (spots stood : List ℕ) → q.id ≢ r.id → Holds s.entries q.id q.heap.items → IsOfOneSort s.entries links r
     → KeepsOthers q.heap.items spots stood → HasSpots r.heap.items spots → HasSpots r.heap.items stood
 spots_beside s links q r spots stood n h (by_links f empty) keeps stand = subst (λ items. HasSpots items stood) (sym empty) (λ k d e lt. absurd (omega arith))
 spots_beside s links q r spots stood n h (by_heap other none) keeps stand =
-    spots_elsewhere r.heap.items q.heap.items spots stood (holds_apart s.places q.id r.id q.heap.items r.heap.items n h other) keeps stand
+    spots_elsewhere r.heap.items q.heap.items spots stood (holds_apart s.entries q.id r.id q.heap.items r.heap.items n h other) keeps stand
 
 -- a task that waits, and its queue
-pub record IsWaiting (i : Inside) (k t : ℕ) (p : Place) (q : Queue) : Type 0 where
+pub record IsWaiting (i : Inside) (k t : ℕ) (p : Entry) (q : Queue) : Type 0 where
   pub inside : k < length i.live.items
   pub read : q ≡ get_or i.live.items k q
   pub is : q.id ≡ p.queue
-  pub waits : place_at i.places.items t ≡ Some p
+  pub waits : entry_at i.entries.items t ≡ Some p
 
-pub waiting : (i : Inside) (k t : ℕ) (p : Place) (q : Queue) → Stands (state_of i) k p.queue → place_of (state_of i) t ≡ Some p → q ≡ get_or i.live.items k q → IsWaiting i k t p q
+pub waiting : (i : Inside) (k t : ℕ) (p : Entry) (q : Queue) → Stands (state_of i) k p.queue → entry_of (state_of i) t ≡ Some p → q ≡ get_or i.live.items k q → IsWaiting i k t p q
 waiting i k t p q at waits read = record {
   inside = let within = at.0 in omega (arith, length-map i.live.items (λ (x : Queue). x.id));
   read = read;
@@ -53,22 +53,22 @@ waiting i k t p q at waits read = record {
   waits = waits;
 }
 
-pub can_remove : (i : Inside) (k t : ℕ) (p : Place) (q : Queue) → IsKept i → IsWaiting i k t p q → CanLeave p.rank i.links.items i.spots.items q t
+pub can_remove : (i : Inside) (k t : ℕ) (p : Entry) (q : Queue) → IsKept i → IsWaiting i k t p q → CanLeave p.rank i.links.items i.spots.items q t
 can_remove i k t p q h w =
     let row = row_at i k q h w.inside w.read in
     can_leave (state_of i) i.links.items q t p h.sound.stamps (w.waits, sym w.is) h.links p.rank i.spots.items refl row.stand row.heap row.tasks
 
 -- what is known of the queue and of the others after a task left by its rank
-record IsLeft (i : Inside) (t : ℕ) (p : Place) (q new : Queue) (linked : List Link) (stood : List ℕ) : Type 0 where
+record IsLeft (i : Inside) (t : ℕ) (p : Entry) (q new : Queue) (linked : List Link) (stood : List ℕ) : Type 0 where
   id : new.id ≡ q.id
   links : length linked ≡ length i.links.items
   spots : length stood ≡ length i.spots.items
-  agree : (other : ℕ) → other ≢ q.id → (u : ℕ) (o : Place) → (place_at i.places.items u ≡ Some o) × (o.queue ≡ other) → link_at linked u ≡ link_at i.links.items u
-  elsewhere : (r : Queue) → r.id ≢ q.id → Keeps i.places.items i.links.items i.spots.items r → HasSpots r.heap.items stood
-  keeps : Keeps (set i.places.items t None) linked stood new
+  agree : (other : ℕ) → other ≢ q.id → (u : ℕ) (o : Entry) → (entry_at i.entries.items u ≡ Some o) × (o.queue ≡ other) → link_at linked u ≡ link_at i.links.items u
+  elsewhere : (r : Queue) → r.id ≢ q.id → Keeps i.entries.items i.links.items i.spots.items r → HasSpots r.heap.items stood
+  keeps : Keeps (set i.entries.items t None) linked stood new
 
-module _ (i : Inside) (k t : ℕ) (p : Place) (q : Queue) (h : IsKept i) (w : IsWaiting i k t p q) where
-  row : Keeps i.places.items i.links.items i.spots.items q
+module _ (i : Inside) (k t : ℕ) (p : Entry) (q : Queue) (h : IsKept i) (w : IsWaiting i k t p q) where
+  row : Keeps i.entries.items i.links.items i.spots.items q
   row = row_at i k q h w.inside w.read
 
   left_by : (rank : Rank) (new : Queue) (linked : List Link) (stood : List ℕ) → p.rank ≡ rank → Left rank i.links.items i.spots.items q t linked stood new → IsLeft i t p q new linked stood
@@ -80,7 +80,7 @@ module _ (i : Inside) (k t : ℕ) (p : Place) (q : Queue) (h : IsKept i) (w : Is
     elsewhere = λ r n keeps. keeps.stand;
     keeps = record {
       tasks = form_unlinked (state_of i) i.links.items q t p h.sound.stamps (w.waits, sym w.is) h.links is row.tasks;
-      room = omega (arith, row.room, length-set {A = Option Place} i.places.items t None);
+      room = omega (arith, row.room, length-set {A = Option Entry} i.entries.items t None);
       heap = row.heap;
       stand = row.stand;
     };
@@ -93,7 +93,7 @@ module _ (i : Inside) (k t : ℕ) (p : Place) (q : Queue) (h : IsKept i) (w : Is
     elsewhere = λ r n keeps. spots_beside (state_of i) i.links.items q r i.spots.items stood (λ same. n (sym same)) (left_held (state_of i) i.links.items q t p h.sound.stamps (w.waits, sym w.is) h.links key is row.tasks).0 keeps.tasks e.0.others keeps.stand;
     keeps = record {
       tasks = form_taken_out (state_of i) i.links.items q t p h.sound.stamps (w.waits, sym w.is) h.links key i.spots.items stood new is row.tasks e.0;
-      room = omega (arith, row.room, e.0.room, length-set {A = Option Place} i.places.items t None);
+      room = omega (arith, row.room, e.0.room, length-set {A = Option Entry} i.entries.items t None);
       heap = e.0.heap;
       stand = e.0.stand;
     };
@@ -106,7 +106,7 @@ module _ (i : Inside) (k t : ℕ) (p : Place) (q : Queue) (h : IsKept i) (w : Is
     pub removed_keeps : IsKept j
     removed_keeps =
         let l = left_by p.rank new linked stood refl e in
-        changed_keeps i j k t q new None linked stood i.pushes w.inside w.read l.id c h (waits_below i.places.items t p w.waits) l.links l.spots
+        changed_keeps i j k t q new None linked stood i.pushes w.inside w.read l.id c h (waits_below i.entries.items t p w.waits) l.links l.spots
         (λ other n. (rw w.waits (ne_eqb p.queue other (λ e. n (sym e ∙ sym w.is))), refl))
         l.agree l.elsewhere l.keeps (sound_without_task (state_of i) t h.sound)
 
@@ -120,7 +120,7 @@ module _ (i : Inside) (k t : ℕ) (p : Place) (q : Queue) (h : IsKept i) (w : Is
         let arrays = changed_arrays i j k t q new None linked stood i.pushes w.inside w.read id c in
         subst (λ v. IsPaid (value_of i) (value_of j) v steps) w.is (paid i j k q new h w.inside w.read (ap (λ (s : QueueState). s.ids) state) arrays steps cheap fifo)
       where
-        fifo : (u : ℕ) (o : Place) → Waits (state_of i) q.id u o → o.rank ≡ Fifo → steps ≡ 0
+        fifo : (u : ℕ) (o : Entry) → Waits (state_of i) q.id u o → o.rank ≡ Fifo → steps ≡ 0
         fifo u o there is =
             let alike : same_sort p.rank o.rank ≡ true = h.sound.sorts t u p o w.waits there.0 (sym w.is ∙ sym there.1) in
             free (is_fifo p.rank (subst (λ r. same_sort p.rank r ≡ true) is alike))
@@ -128,7 +128,7 @@ module _ (i : Inside) (k t : ℕ) (p : Place) (q : Queue) (h : IsKept i) (w : Is
   -- what the code leaves of the queues
   pub left : (new : Queue) (links linked : List Link) (spots stood : List ℕ) → links ≡ i.links.items → spots ≡ i.spots.items → Left p.rank links spots q t linked stood new
       → (Left p.rank i.links.items i.spots.items q t linked stood new)
-      × IsChanged i (record { live = with_item i.live k new; order = i.order; spare = i.spare; places = with_item i.places t None; links = with_items i.links linked; spots = with_items i.spots stood; guesses = i.guesses; pushes = i.pushes }) k t new None linked stood i.pushes
+      × IsChanged i (record { live = with_item i.live k new; order = i.order; spare = i.spare; entries = with_item i.entries t None; links = with_items i.links linked; spots = with_items i.spots stood; guesses = i.guesses; pushes = i.pushes }) k t new None linked stood i.pushes
   left new links linked spots stood same alike e =
       let here : Left p.rank i.links.items i.spots.items q t linked stood new = rw (same, alike) at e in
       let l = left_by p.rank new linked stood refl here in (
@@ -138,7 +138,7 @@ module _ (i : Inside) (k t : ℕ) (p : Place) (q : Queue) (h : IsKept i) (w : Is
           capacity = refl;
           order = refl;
           spare = refl;
-          places = refl;
+          entries = refl;
           links = with_items_is i.links linked (omega (arith, l.links, i.links.ok.0));
           spots = with_items_is i.spots stood (omega (arith, l.spots, i.spots.ok.0));
           pushes = refl;

@@ -5,13 +5,13 @@ use Rattle.std.proofs.lemmas.Bool.{both_ways, eq-eqb, or_left, cases_Bool}
 use Rattle.std.proofs.lemmas.List.{length_push}
 use Rattle.std.proofs.lemmas.List.Quantifiers.{all_pairs_push}
 use Rattle.std.proofs.lemmas.List.Folds.{list_any_at, list_any-append}
-use Rattle.scx_dsq.specs.declared.places.Rank.{Rank}
-use Rattle.scx_dsq.specs.declared.places.Rank.TheVariants.{Fifo, Vtime}
-use Rattle.scx_dsq.specs.declared.places.Place.{Place}
-use Rattle.scx_dsq.specs.Places.{same_sort}
-use Rattle.scx_dsq.specs.Queues.{QueueState, exists, place_at, place_of}
+use Rattle.scx_dsq.specs.declared.entries.Rank.{Rank}
+use Rattle.scx_dsq.specs.declared.entries.Rank.TheVariants.{Fifo, Vtime}
+use Rattle.scx_dsq.specs.declared.entries.Entry.{Entry}
+use Rattle.scx_dsq.specs.Entries.{same_sort}
+use Rattle.scx_dsq.specs.Queues.{QueueState, exists, entry_at, entry_of}
 use Rattle.scx_dsq.specs.Laws.{IsSound}
-use Rattle.scx_dsq.specs.Calls.{clashes, with_queue, with_task, without_task, next_place}
+use Rattle.scx_dsq.specs.Calls.{clashes, with_queue, with_task, without_task, next_entry}
 use Rattle.scx_dsq.proofs.Standing.{Changed, this, other, changed, waits_below}
 
 -- ---- a queue more
@@ -42,16 +42,16 @@ same_sort-self Fifo = refl
 same_sort-self (Vtime x) = refl
 
 -- those in the queue are of the sort, if none clashes
-pub fits : (s : QueueState) (id t : ℕ) (rank : Rank) (p : Place) → list_any (clashes id rank) s.places ≡ false → place_of s t ≡ Some p → p.queue ≡ id → same_sort p.rank rank ≡ true
+pub fits : (s : QueueState) (id t : ℕ) (rank : Rank) (p : Entry) → list_any (clashes id rank) s.entries ≡ false → entry_of s t ≡ Some p → p.queue ≡ id → same_sort p.rank rank ≡ true
 fits s id t rank p none e here = go (cases_Bool (same_sort p.rank rank))
   where
     go : (same_sort p.rank rank ≡ true) ⊎ (same_sort p.rank rank ≡ false) → same_sort p.rank rank ≡ true
     go (inl same) = same
     go (inr differs) =
-        let clash : clashes id rank (place_at s.places t) ≡ true = rw (e, eq-eqb p.queue id here, differs) refl in
-        absurd (both_ways (list_any (clashes id rank) s.places) none (list_any_at (clashes id rank) s.places t None (waits_below s.places t p e) clash))
+        let clash : clashes id rank (entry_at s.entries t) ≡ true = rw (e, eq-eqb p.queue id here, differs) refl in
+        absurd (both_ways (list_any (clashes id rank) s.entries) none (list_any_at (clashes id rank) s.entries t None (waits_below s.entries t p e) clash))
 
-pub sound_with_task : (s : QueueState) (id t : ℕ) (rank : Rank) → exists s id ≡ true → list_any (clashes id rank) s.places ≡ false → IsSound s → IsSound (with_task s id t rank)
+pub sound_with_task : (s : QueueState) (id t : ℕ) (rank : Rank) → exists s id ≡ true → list_any (clashes id rank) s.entries ≡ false → IsSound s → IsSound (with_task s id t rank)
 sound_with_task s id t rank there none h = record {
   queues = record { distinct = h.queues.distinct; within = h.queues.within };
   homes = λ u p e. home u p (was u p e);
@@ -60,20 +60,20 @@ sound_with_task s id t rank there none h = record {
   stamps = λ u v p q n e f. own u v p q n (was u p e) (was v q f);
 }
   where
-    new : Place
-    new = next_place s id rank
+    new : Entry
+    new = next_entry s id rank
 
-    is_new : (p : Place) → Some new ≡ Some p → new ≡ p
+    is_new : (p : Entry) → Some new ≡ Some p → new ≡ p
     is_new p e = cc
 
-    was : (u : ℕ) (p : Place) → place_of (with_task s id t rank) u ≡ Some p → Changed s.places t (Some new) u p
-    was u p e = changed s.places t (Some new) u p e
+    was : (u : ℕ) (p : Entry) → entry_of (with_task s id t rank) u ≡ Some p → Changed s.entries t (Some new) u p
+    was u p e = changed s.entries t (Some new) u p e
 
-    home : (u : ℕ) (p : Place) → Changed s.places t (Some new) u p → exists s p.queue ≡ true
+    home : (u : ℕ) (p : Entry) → Changed s.entries t (Some new) u p → exists s p.queue ≡ true
     home u p (this same e) = subst (λ v. exists s v.queue ≡ true) (is_new p e) there
     home u p (other n e) = h.homes u p e
 
-    sort : (u v : ℕ) (p q : Place) → Changed s.places t (Some new) u p → Changed s.places t (Some new) v q → p.queue ≡ q.queue → same_sort p.rank q.rank ≡ true
+    sort : (u v : ℕ) (p q : Entry) → Changed s.entries t (Some new) u p → Changed s.entries t (Some new) v q → p.queue ≡ q.queue → same_sort p.rank q.rank ≡ true
     sort u v p q (this n e) (this m f) same =
         let one = is_new p e in
         let two = is_new q f in
@@ -88,11 +88,11 @@ sound_with_task s id t rank there none h = record {
         subst (λ w. same_sort p.rank w.rank ≡ true) two (fits s id u rank p none e here)
     sort u v p q (other n e) (other m f) same = h.sorts u v p q e f same
 
-    stamp : (u : ℕ) (p : Place) → Changed s.places t (Some new) u p → p.stamp < s.pushes + 1
+    stamp : (u : ℕ) (p : Entry) → Changed s.entries t (Some new) u p → p.stamp < s.pushes + 1
     stamp u p (this same e) = let one : s.pushes ≡ p.stamp = ap (λ w. w.stamp) (is_new p e) in omega arith
     stamp u p (other n e) = let below : p.stamp < s.pushes = h.stamped u p e in omega arith
 
-    own : (u v : ℕ) (p q : Place) → u ≢ v → Changed s.places t (Some new) u p → Changed s.places t (Some new) v q → p.stamp ≢ q.stamp
+    own : (u v : ℕ) (p q : Entry) → u ≢ v → Changed s.entries t (Some new) u p → Changed s.entries t (Some new) v q → p.stamp ≢ q.stamp
     own u v p q n (this a e) (this b f) same = n (a ∙ sym b)
     own u v p q n (this a e) (other b f) same =
         let one : s.pushes ≡ p.stamp = ap (λ w. w.stamp) (is_new p e) in
@@ -115,9 +115,9 @@ sound_without_task s t h = record {
   stamps = λ u v p q n e f. h.stamps u v p q n (was u p e) (was v q f);
 }
   where
-    go : (u : ℕ) (p : Place) → Changed s.places t None u p → place_of s u ≡ Some p
+    go : (u : ℕ) (p : Entry) → Changed s.entries t None u p → entry_of s u ≡ Some p
     go u p (this same e) = absurd (cc)
     go u p (other n e) = e
 
-    was : (u : ℕ) (p : Place) → place_of (without_task s t) u ≡ Some p → place_of s u ≡ Some p
-    was u p e = go u p (changed s.places t None u p e)
+    was : (u : ℕ) (p : Entry) → entry_of (without_task s t) u ≡ Some p → entry_of s u ≡ Some p
+    was u p e = go u p (changed s.entries t None u p e)

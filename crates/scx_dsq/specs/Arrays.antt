@@ -2,8 +2,8 @@
 -- them.
 use Rattle.std.specs.Prelude.{◌≡◌, ◌≢◌, ℕ, ◌==◌, List, [], slice_index_or}
 use Rattle.std.specs.List.{position_or_len}
-use Rattle.scx_dsq.specs.declared.places.Rank.TheVariants.{Fifo}
-use Rattle.scx_dsq.specs.declared.places.Place.{Place}
+use Rattle.scx_dsq.specs.declared.entries.Rank.TheVariants.{Fifo}
+use Rattle.scx_dsq.specs.declared.entries.Entry.{Entry}
 use Rattle.scx_dsq.specs.declared.heap.Item.{Item}
 use Rattle.scx_dsq.specs.Queues.{QueueState, Waits}
 use Rattle.scx_dsq.specs.Heaps.{IsCheap}
@@ -16,9 +16,9 @@ pub record QueuesValue : Type 0 where
 abbrev pub array_of : QueuesValue → ℕ → List Item
 array_of v id = slice_index_or v.arrays (position_or_len (λ other. other == id) v.state.ids) []
 
--- a call on that queue that made so many comparisons. `IsCheap` bounds them and the places of the queue's
+-- a call on that queue that made so many comparisons. `IsCheap` bounds them and the positions of the queue's
 -- array that have changed; a queue in FIFO order needs none, and the arrays of others stay as they were
 pub record IsPaid (old new : QueuesValue) (id steps : ℕ) : Type 0 where
   pub cheap : IsCheap (array_of old id) (array_of new id) steps
-  pub fifo : (t : ℕ) (p : Place) → Waits old.state id t p → p.rank ≡ Fifo → steps ≡ 0
+  pub fifo : (t : ℕ) (p : Entry) → Waits old.state id t p → p.rank ≡ Fifo → steps ≡ 0
   pub others : (other : ℕ) → other ≢ id → array_of new other ≡ array_of old other

@@ -1,13 +1,13 @@
 -- What each call answers and what it leaves: refusals with the least number first, and a push, a pop
--- or a removal as a change of one task's place.
+-- or a removal as a change of one task's entry.
 use Rattle.std.specs.Prelude.{ℕ, Bool, false, not, ◌+◌, [], ◌∷◌, ◌++◌, ◌&&◌, replicate, length, slice_set, nat_le, Option, Some, None, is_some, is_none, Result, Ok, Err, if◌then◌else◌}
 use Rattle.std.specs.List.{list_any}
-use Rattle.scx_dsq.specs.declared.places.Rank.{Rank}
-use Rattle.scx_dsq.specs.declared.places.Place.{Place}
+use Rattle.scx_dsq.specs.declared.entries.Rank.{Rank}
+use Rattle.scx_dsq.specs.declared.entries.Entry.{Entry}
 use Rattle.scx_dsq.specs.declared.errors.QueueError.{QueueError}
 use Rattle.scx_dsq.specs.declared.errors.QueueError.TheVariants.{NoSuchQueue, AlreadyThere, Mixed, TooManyQueues}
-use Rattle.scx_dsq.specs.Places.{same_sort}
-use Rattle.scx_dsq.specs.Queues.{QueueState, exists, place_of, is_in, front_of}
+use Rattle.scx_dsq.specs.Entries.{same_sort}
+use Rattle.scx_dsq.specs.Queues.{QueueState, exists, entry_of, is_in, front_of}
 
 abbrev pub refused_or_done : Option QueueError → Result (Unit {0}) QueueError
 refused_or_done None = Ok tt
@@ -20,32 +20,32 @@ create_refusal s id =
     if exists s id then Some AlreadyThere else (if nat_le s.room (length s.ids) then Some TooManyQueues else None)
 
 abbrev pub with_queue : QueueState → ℕ → QueueState
-with_queue s id = record { room = s.room; ids = s.ids ++ id ∷ []; places = s.places; pushes = s.pushes }
+with_queue s id = record { room = s.room; ids = s.ids ++ id ∷ []; entries = s.entries; pushes = s.pushes }
 
 abbrev pub created : QueueState → ℕ → QueueState
 created s id = if is_none (create_refusal s id) then with_queue s id else s
 
 -- ---- pushing a task
 
--- whether a place is one in the queue, of the other sort
-abbrev pub clashes : ℕ → Rank → Option Place → Bool
+-- whether an entry is one in the queue, of the other sort
+abbrev pub clashes : ℕ → Rank → Option Entry → Bool
 clashes id rank None = false
 clashes id rank (Some p) = is_in id (Some p) && not (same_sort p.rank rank)
 
 abbrev pub push_refusal : QueueState → ℕ → ℕ → Rank → Option QueueError
 push_refusal s id t rank =
     if not (exists s id) then Some NoSuchQueue
-    else (if is_some (place_of s t) then Some AlreadyThere
-    else (if list_any (clashes id rank) s.places then Some Mixed else None))
+    else (if is_some (entry_of s t) then Some AlreadyThere
+    else (if list_any (clashes id rank) s.entries then Some Mixed else None))
 
--- the place that the next push gives
-abbrev pub next_place : QueueState → ℕ → Rank → Place
-next_place s id rank = record { queue = id; rank = rank; stamp = s.pushes }
+-- the entry that the next push gives
+abbrev pub next_entry : QueueState → ℕ → Rank → Entry
+next_entry s id rank = record { queue = id; rank = rank; stamp = s.pushes }
 
--- the task waits at the next place, and all others as they did
+-- the task waits by the next entry, and all others as they did
 abbrev pub with_task : QueueState → ℕ → ℕ → Rank → QueueState
 with_task s id t rank =
-    record { room = s.room; ids = s.ids; places = slice_set s.places t (Some (next_place s id rank)); pushes = s.pushes + 1 }
+    record { room = s.room; ids = s.ids; entries = slice_set s.entries t (Some (next_entry s id rank)); pushes = s.pushes + 1 }
 
 abbrev pub pushed : QueueState → ℕ → ℕ → Rank → QueueState
 pushed s id t rank = if is_none (push_refusal s id t rank) then with_task s id t rank else s
@@ -54,10 +54,10 @@ pushed s id t rank = if is_none (push_refusal s id t rank) then with_task s id t
 
 -- the task waits nowhere, and all others as they did
 abbrev pub without_task : QueueState → ℕ → QueueState
-without_task s t = record { room = s.room; ids = s.ids; places = slice_set s.places t None; pushes = s.pushes }
+without_task s t = record { room = s.room; ids = s.ids; entries = slice_set s.entries t None; pushes = s.pushes }
 
 abbrev pub removed : QueueState → ℕ → QueueState
-removed s t = if is_some (place_of s t) then without_task s t else s
+removed s t = if is_some (entry_of s t) then without_task s t else s
 
 abbrev pub without : QueueState → Option ℕ → QueueState
 without s None = s
@@ -70,4 +70,4 @@ popped s id = without s (front_of s id)
 
 -- no queue yet, nobody waits
 abbrev pub empty : ℕ → ℕ → QueueState
-empty queues tasks = record { room = queues; ids = []; places = replicate tasks None; pushes = 0 }
+empty queues tasks = record { room = queues; ids = []; entries = replicate tasks None; pushes = 0 }

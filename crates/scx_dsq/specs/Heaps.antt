@@ -1,5 +1,5 @@
 -- Queues by virtual time as heaps in an array (Williams, Algorithm 232): no task leaves before the one at
--- its parent's place.
+-- its parent's position.
 use Rattle.std.specs.Prelude.{◌≡◌, ◌≢◌, ℕ, ◌+◌, ◌-◌, ◌*◌, ◌/◌, ◌^◌, ◌<◌, ◌≤◌, Bool, false, ◌==◌, ◌&&◌, ◌||◌, true, nat_lt, List, [], ◌∷◌, length, slice_index_or, slice_set, Option, Some, None}
 use Rattle.std.specs.List.{list_any}
 use Rattle.scx_dsq.specs.declared.priority.Priority.{Priority}
@@ -20,7 +20,7 @@ comes_before p q = nat_lt p.key q.key || (p.key == q.key && nat_lt p.stamp q.sta
 abbrev pub parent : ℕ → ℕ
 parent k = (k - 1) / 2
 
--- the task at the first place doesn't leave before the one at the second
+-- the task at the first position doesn't leave before the one at the second
 abbrev pub IsBehind : List Item → ℕ → ℕ → Type 0
 IsBehind items k j = (d e : Item) → comes_before (slice_index_or items k d).priority (slice_index_or items j e).priority ≡ false
 
@@ -31,17 +31,17 @@ Leads items k j = (d e : Item) → comes_before (slice_index_or items k d).prior
 abbrev pub IsHeap : List Item → Type 0
 IsHeap items = (k : ℕ) → 0 < k → k < length items → IsBehind items k (parent k)
 
--- a heap but for one place, which may leave before its parent, but not before those behind it
+-- a heap but for one position, which may leave before its parent, but not before those behind it
 pub record IsHeapBut (items : List Item) (at : ℕ) : Type 0 where
   pub others : (k : ℕ) → 0 < k → k < length items → k ≢ at → IsBehind items k (parent k)
   pub behind : (k : ℕ) → 0 < k → k < length items → parent k ≡ at → 0 < at → IsBehind items k (parent at)
 
--- a heap but for those right behind one place, which may leave before it, but not before its parent
+-- a heap but for those right behind one position, which may leave before it, but not before its parent
 pub record IsHeapAbove (items : List Item) (at : ℕ) : Type 0 where
   pub others : (k : ℕ) → 0 < k → k < length items → parent k ≢ at → IsBehind items k (parent k)
   pub above : (k : ℕ) → 0 < k → k < length items → parent k ≡ at → 0 < at → IsBehind items k (parent at)
 
--- a heap but for one place, which may leave before its parent, or after those right behind it; these don't
+-- a heap but for one position, which may leave before its parent, or after those right behind it; these don't
 -- leave before that parent
 pub record IsHeapAround (items : List Item) (at : ℕ) : Type 0 where
   pub others : (k : ℕ) → 0 < k → k < length items → k ≢ at → parent k ≢ at → IsBehind items k (parent k)
@@ -54,15 +54,15 @@ pub record IsFirstChild (items : List Item) (at child : ℕ) : Type 0 where
   pub of : parent child ≡ at
   pub first : (k : ℕ) → 0 < k → k < length items → parent k ≡ at → IsBehind items k child
 
--- at each task's number stands its place in the array
+-- at each task's number stands its position in the array
 abbrev pub HasSpots : List Item → List ℕ → Type 0
 HasSpots items spots =
     (k : ℕ) (d : Item) (e : ℕ) → k < length items → ((slice_index_or items k d).task < length spots) × (slice_index_or spots (slice_index_or items k d).task e ≡ k)
 
 pub record IsIn (items : List Item) (t : ℕ) : Type 0 where
-  pub place : ℕ
-  pub inside : place < length items
-  pub there : (d : Item) → (slice_index_or items place d).task ≡ t
+  pub position : ℕ
+  pub inside : position < length items
+  pub there : (d : Item) → (slice_index_or items position d).task ≡ t
 
 -- the task isn't in the array
 abbrev pub IsAbsent : List Item → ℕ → Type 0
@@ -73,56 +73,56 @@ pub record KeepsOthers (items : List Item) (old new : List ℕ) : Type 0 where
   pub long : length new ≡ length old
   pub same : (t e : ℕ) → IsAbsent items t → slice_index_or new t e ≡ slice_index_or old t e
 
--- the items with another one at a place, and the spots with that of its task
-abbrev pub held : List Item → Item → ℕ → List Item
-held items x k = slice_set items k x
+-- the items with another one at a position, and the spots with that of its task
+abbrev pub with_item : List Item → Item → ℕ → List Item
+with_item items x k = slice_set items k x
 
-abbrev pub spotted : List ℕ → Item → ℕ → List ℕ
-spotted spots x k = slice_set spots x.task k
+abbrev pub with_spot : List ℕ → Item → ℕ → List ℕ
+with_spot spots x k = slice_set spots x.task k
 
 -- ---- what a move in the heap costs
 
--- only these places hold other items
+-- only these positions hold other items
 abbrev pub DiffersAt : List ℕ → List Item → List Item → Type 0
-DiffersAt places old new = (k : ℕ) (d : Item) → list_any (λ p. p == k) places ≡ false → slice_index_or new k d ≡ slice_index_or old k d
+DiffersAt positions old new = (k : ℕ) (d : Item) → list_any (λ p. p == k) positions ≡ false → slice_index_or new k d ≡ slice_index_or old k d
 
--- down so many levels from a place to one within the array: two comparisons a level at most, and one
--- place more than levels has changed
+-- down so many levels from a position to one within the array: two comparisons a level at most, and one
+-- position more than levels has changed
 pub record Sank (old new : List Item) (start within steps : ℕ) : Type 0 where
   pub levels : ℕ
   pub depth : 2 ^ levels * (start + 1) ≤ within
   pub cost : steps ≤ 2 * levels
-  pub places : List ℕ
-  pub few : length places ≤ levels + 1
-  pub differs : DiffersAt places old new
+  pub positions : List ℕ
+  pub few : length positions ≤ levels + 1
+  pub differs : DiffersAt positions old new
 
--- up so many levels from a place: one comparison a level at most, and one place more than levels has
+-- up so many levels from a position: one comparison a level at most, and one position more than levels has
 -- changed
 pub record Rose (old new : List Item) (start steps : ℕ) : Type 0 where
   pub levels : ℕ
   pub depth : 2 ^ levels ≤ start + 1
   pub cost : steps ≤ levels
-  pub places : List ℕ
-  pub few : length places ≤ levels + 1
-  pub differs : DiffersAt places old new
+  pub positions : List ℕ
+  pub few : length positions ≤ levels + 1
+  pub differs : DiffersAt positions old new
 
 -- up or down so many levels, after one comparison that tells which
 pub record Settled (old new : List Item) (steps : ℕ) : Type 0 where
   pub levels : ℕ
   pub depth : 2 ^ levels ≤ length old
   pub cost : steps ≤ 2 * levels + 1
-  pub places : List ℕ
-  pub few : length places ≤ levels + 1
-  pub differs : DiffersAt places old new
+  pub positions : List ℕ
+  pub few : length positions ≤ levels + 1
+  pub differs : DiffersAt positions old new
 
--- all but so many places hold the same; one that only one of the arrays has counts
+-- all but so many positions hold the same; one that only one of the arrays has counts
 pub record DiffersAtMost (old new : List Item) (most : ℕ) : Type 0 where
-  pub places : List ℕ
-  pub few : length places ≤ most
-  pub differs : DiffersAt places old new
+  pub positions : List ℕ
+  pub few : length positions ≤ most
+  pub differs : DiffersAt positions old new
 
 -- where the number of items that there were and one more has so many binary digits at most, twice as many
--- comparisons and changed places at most
+-- comparisons and changed positions at most
 pub record IsCheap (old new : List Item) (steps : ℕ) : Type 0 where
   pub comparisons : (digits : ℕ) → length old + 1 < 2 ^ digits → steps ≤ 2 * digits
   pub changes : (digits : ℕ) → length old + 1 < 2 ^ digits → DiffersAtMost old new (2 * digits)

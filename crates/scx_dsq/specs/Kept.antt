@@ -3,15 +3,15 @@
 use Rattle.std.specs.Prelude.{◌≡◌, ℕ, ◌+◌, ◌<◌, ◌≤◌, List, [], ◌∷◌, ◌++◌, map, length, Option, None, is_some, MatchOption, All, HoldsAt, vec_capacity, if◌then◌else◌, Bool, true, false, ◌==◌}
 use Rattle.std.specs.List.{list_any}
 use Rattle.std.specs.List.Sorted.{IsPermutation}
-use Rattle.scx_dsq.specs.declared.places.Rank.{Rank}
-use Rattle.scx_dsq.specs.declared.places.Rank.TheVariants.{Fifo, Vtime}
+use Rattle.scx_dsq.specs.declared.entries.Rank.{Rank}
+use Rattle.scx_dsq.specs.declared.entries.Rank.TheVariants.{Fifo, Vtime}
 use Rattle.scx_dsq.specs.declared.heap.Item.{Item}
 use Rattle.scx_dsq.specs.declared.links.Link.{Link}
 use Rattle.scx_dsq.specs.declared.queue.Queue.{Queue}
 use Rattle.scx_dsq.specs.declared.queues.Queues.TheInside.{Inside}
 use Rattle.scx_dsq.specs.declared.errors.QueueError.{QueueError}
 use Rattle.scx_dsq.specs.declared.errors.QueueError.TheVariants.{NoSuchQueue, AlreadyThere, Mixed, TooManyQueues}
-use Rattle.scx_dsq.specs.Queues.{Places, QueueState, place_at}
+use Rattle.scx_dsq.specs.Queues.{Entries, QueueState, entry_at}
 use Rattle.scx_dsq.specs.Laws.{IsSound}
 use Rattle.scx_dsq.specs.Links.{no_ends, link_at, or_else, ends_appended, links_unlinked, ends_unlinked, IsThreaded}
 use Rattle.scx_dsq.specs.Heaps.{HeapState, IsHeap, HasSpots, IsAbsent, IsIn, KeepsOthers, first_item}
@@ -25,19 +25,19 @@ ids_of live = map (λ q. q.id) live
 abbrev pub arrays_of : List Queue → List (List Item)
 arrays_of live = map (λ q. q.heap.items) live
 
--- a queue with that id stands at the place
+-- a queue with that id stands at the position
 abbrev pub Stands : QueueState → ℕ → ℕ → Type 0
 Stands s k id = (k < length s.ids) × HoldsAt (λ other. other ≡ id) s.ids k
 
 -- a queue has its tasks between its ends, or in its heap; an empty one may be either
-pub data IsOfOneSort (places : Places) (links : List Link) (q : Queue) : Type 0 where
-  by_links : IsThreaded places links q.id q.ends → q.heap.items ≡ [] → IsOfOneSort places links q
-  by_heap : Holds places q.id q.heap.items → q.ends ≡ no_ends → IsOfOneSort places links q
+pub data IsOfOneSort (entries : Entries) (links : List Link) (q : Queue) : Type 0 where
+  by_links : IsThreaded entries links q.id q.ends → q.heap.items ≡ [] → IsOfOneSort entries links q
+  by_heap : Holds entries q.id q.heap.items → q.ends ≡ no_ends → IsOfOneSort entries links q
 
 -- and has room for all tasks that there are
-pub record Keeps (places : Places) (links : List Link) (spots : List ℕ) (q : Queue) : Type 0 where
-  pub tasks : IsOfOneSort places links q
-  pub room : length places ≤ q.heap.room
+pub record Keeps (entries : Entries) (links : List Link) (spots : List ℕ) (q : Queue) : Type 0 where
+  pub tasks : IsOfOneSort entries links q
+  pub room : length entries ≤ q.heap.room
   pub heap : IsHeap q.heap.items
   pub stand : HasSpots q.heap.items spots
 
@@ -55,26 +55,26 @@ mixes (Vtime k) q = is_some q.ends.first
 
 -- ---- whether a task may go into a queue
 
--- one stands at the place, takes tasks of that rank, and the task waits nowhere
-pub record IsAdmitted (live : List Queue) (places : Places) (k id t : ℕ) (rank : Rank) : Type 0 where
+-- one stands at the position, takes tasks of that rank, and the task waits nowhere
+pub record IsAdmitted (live : List Queue) (entries : Entries) (k id t : ℕ) (rank : Rank) : Type 0 where
   pub inside : k < length live
   pub is : HoldsAt (λ q. q.id ≡ id) live k
   pub there : list_any (λ other. other == id) (ids_of live) ≡ true
-  pub free : place_at places t ≡ None
+  pub free : entry_at entries t ≡ None
   pub fits : HoldsAt (λ q. mixes rank q ≡ false) live k
 
 -- one has the id, and tasks that wait there in the other way
 pub record IsMixed (live : List Queue) (id : ℕ) (rank : Rank) : Type 0 where
-  pub place : ℕ
-  pub inside : place < length live
-  pub is : HoldsAt (λ q. q.id ≡ id) live place
-  pub mixed : HoldsAt (λ q. mixes rank q ≡ true) live place
+  pub entry : ℕ
+  pub inside : entry < length live
+  pub is : HoldsAt (λ q. q.id ≡ id) live entry
+  pub mixed : HoldsAt (λ q. mixes rank q ≡ true) live entry
 
-abbrev pub IsRefused : List Queue → Places → ℕ → ℕ → Rank → QueueError → Type 0
-IsRefused live places id t rank NoSuchQueue = list_any (λ other. other == id) (ids_of live) ≡ false
-IsRefused live places id t rank AlreadyThere = (list_any (λ other. other == id) (ids_of live) ≡ true) × (is_some (place_at places t) ≡ true)
-IsRefused live places id t rank Mixed = (list_any (λ other. other == id) (ids_of live) ≡ true) × (place_at places t ≡ None) × IsMixed live id rank
-IsRefused live places id t rank TooManyQueues = ⊥
+abbrev pub IsRefused : List Queue → Entries → ℕ → ℕ → Rank → QueueError → Type 0
+IsRefused live entries id t rank NoSuchQueue = list_any (λ other. other == id) (ids_of live) ≡ false
+IsRefused live entries id t rank AlreadyThere = (list_any (λ other. other == id) (ids_of live) ≡ true) × (is_some (entry_at entries t) ≡ true)
+IsRefused live entries id t rank Mixed = (list_any (λ other. other == id) (ids_of live) ≡ true) × (entry_at entries t ≡ None) × IsMixed live id rank
+IsRefused live entries id t rank TooManyQueues = ⊥
 
 -- ---- a task that enters
 
@@ -148,14 +148,14 @@ Left (Vtime k) links spots q t linked stood new = TakenOut spots q t stood new �
 
 -- ---- all of them
 
-abbrev pub IsSpare : Places → HeapState → Type 0
-IsSpare places h = (h.items ≡ []) × (length places ≤ h.room)
+abbrev pub IsSpare : Entries → HeapState → Type 0
+IsSpare entries h = (h.items ≡ []) × (length entries ≤ h.room)
 
 abbrev pub state_of : Inside → QueueState
 state_of i = record {
   room = length i.live.items + length i.spare.items;
   ids = ids_of i.live.items;
-  places = i.places.items;
+  entries = i.entries.items;
   pushes = i.pushes;
 }
 
@@ -164,10 +164,10 @@ value_of i = record { state = state_of i; arrays = arrays_of i.live.items }
 
 pub record IsKept (i : Inside) : Type 0 where
   pub sound : IsSound (state_of i)
-  pub live : All (Keeps i.places.items i.links.items i.spots.items) i.live.items
+  pub live : All (Keeps i.entries.items i.links.items i.spots.items) i.live.items
   pub order : IsOrder (ids_of i.live.items) i.order.items
-  pub spare : All (IsSpare i.places.items) i.spare.items
+  pub spare : All (IsSpare i.entries.items) i.spare.items
   pub room : length i.live.items + length i.spare.items ≤ vec_capacity i.live
   pub orders : length i.order.items + length i.spare.items ≤ vec_capacity i.order
-  pub links : length i.links.items ≡ length i.places.items
-  pub spots : length i.spots.items ≡ length i.places.items
+  pub links : length i.links.items ≡ length i.entries.items
+  pub spots : length i.spots.items ≡ length i.entries.items

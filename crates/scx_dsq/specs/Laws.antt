@@ -1,11 +1,11 @@
 -- What holds of the queues after any calls: a task waits in a queue that was created, those in one
--- queue are of one sort, and no two places have the same stamp. Then in how many queues a task waits,
+-- queue are of one sort, and no two entries have the same stamp. Then in how many queues a task waits,
 -- and how calls change that.
 use Rattle.std.specs.Prelude.{◌≡◌, ◌≢◌, ℕ, ◌+◌, ◌<◌, ◌≤◌, Bool, ◌==◌, length, Some, None, is_some, IsSome, IsTrue, AllPairs, count_by, if◌then◌else◌}
-use Rattle.scx_dsq.specs.declared.places.Rank.{Rank}
-use Rattle.scx_dsq.specs.declared.places.Place.{Place}
-use Rattle.scx_dsq.specs.Places.{same_sort}
-use Rattle.scx_dsq.specs.Queues.{QueueState, exists, task_count, place_of, is_in, IsFront, front_of}
+use Rattle.scx_dsq.specs.declared.entries.Rank.{Rank}
+use Rattle.scx_dsq.specs.declared.entries.Entry.{Entry}
+use Rattle.scx_dsq.specs.Entries.{same_sort}
+use Rattle.scx_dsq.specs.Queues.{QueueState, exists, task_count, entry_of, is_in, IsFront, front_of}
 use Rattle.scx_dsq.specs.Calls.{created, push_refusal, pushed, removed, popped}
 
 -- no two queues have one id, and there are no more than there is room for
@@ -15,21 +15,21 @@ pub record HasOneOfEach (s : QueueState) : Type 0 where
 
 -- each task waits in a queue that is there
 abbrev pub WaitsInAQueue : QueueState → Type 0
-WaitsInAQueue s = (t : ℕ) (p : Place) → place_of s t ≡ Some p → IsTrue (exists s p.queue)
+WaitsInAQueue s = (t : ℕ) (p : Entry) → entry_of s t ≡ Some p → IsTrue (exists s p.queue)
 
 -- the tasks in one queue are of one sort
 abbrev pub HasOneSort : QueueState → Type 0
 HasOneSort s =
-    (t u : ℕ) (p q : Place) → place_of s t ≡ Some p → place_of s u ≡ Some q → p.queue ≡ q.queue → IsTrue (same_sort p.rank q.rank)
+    (t u : ℕ) (p q : Entry) → entry_of s t ≡ Some p → entry_of s u ≡ Some q → p.queue ≡ q.queue → IsTrue (same_sort p.rank q.rank)
 
 -- a stamp is the number of an accepted push
 abbrev pub IsStamped : QueueState → Type 0
-IsStamped s = (t : ℕ) (p : Place) → place_of s t ≡ Some p → p.stamp < s.pushes
+IsStamped s = (t : ℕ) (p : Entry) → entry_of s t ≡ Some p → p.stamp < s.pushes
 
 -- and each push has its own
 abbrev pub HasOwnStamps : QueueState → Type 0
 HasOwnStamps s =
-    (t u : ℕ) (p q : Place) → t ≢ u → place_of s t ≡ Some p → place_of s u ≡ Some q → p.stamp ≢ q.stamp
+    (t u : ℕ) (p q : Entry) → t ≢ u → entry_of s t ≡ Some p → entry_of s u ≡ Some q → p.stamp ≢ q.stamp
 
 pub record IsSound (s : QueueState) : Type 0 where
   pub queues : HasOneOfEach s
@@ -43,13 +43,13 @@ pub record IsSound (s : QueueState) : Type 0 where
 abbrev pub one_if : Bool → ℕ
 one_if b = if b then 1 else 0
 
--- one if it has a place, else none
+-- one if it has an entry, else none
 abbrev pub standing : QueueState → ℕ → ℕ
-standing s t = one_if (is_some (place_of s t))
+standing s t = one_if (is_some (entry_of s t))
 
 -- that is the number of the queues, of all that there are, in which it waits
 abbrev pub StandsInSoMany : QueueState → Type 0
-StandsInSoMany s = (t : ℕ) → count_by (λ id. is_in id (place_of s t)) s.ids ≡ standing s t
+StandsInSoMany s = (t : ℕ) → count_by (λ id. is_in id (entry_of s t)) s.ids ≡ standing s t
 
 -- an accepted push adds one for its task, and none for others
 abbrev pub PushAddsOne : Type 0
@@ -65,14 +65,14 @@ PopTakesOne =
 -- the removal of a task that waits takes one of it, and none of others
 abbrev pub RemovalTakesOne : Type 0
 RemovalTakesOne =
-    (s : QueueState) (t u : ℕ) → IsSome (place_of s t) → standing (removed s t) u + one_if (u == t) ≡ standing s u
+    (s : QueueState) (t u : ℕ) → IsSome (entry_of s t) → standing (removed s t) u + one_if (u == t) ≡ standing s u
 
 -- what is refused, a pop of nobody and the removal of a task that doesn't wait change nothing, nor
 -- does a new queue change where tasks wait
 pub record OthersChangeNone : Type 0 where
   pub refused : (s : QueueState) (id t : ℕ) (rank : Rank) → IsSome (push_refusal s id t rank) → pushed s id t rank ≡ s
   pub nobody : (s : QueueState) (id : ℕ) → front_of s id ≡ None → popped s id ≡ s
-  pub absent : (s : QueueState) (t : ℕ) → place_of s t ≡ None → removed s t ≡ s
+  pub absent : (s : QueueState) (t : ℕ) → entry_of s t ≡ None → removed s t ≡ s
   pub queue : (s : QueueState) (id t : ℕ) → standing (created s id) t ≡ standing s t
 
 -- a queue has one front

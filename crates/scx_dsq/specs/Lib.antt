@@ -1,4 +1,4 @@
-pub mod Places
+pub mod Entries
 pub mod Queues
 pub mod Errors
 pub mod Calls

@@ -1,11 +1,11 @@
 -- FIFO queues as lists threaded through one array, which has at a task's number whom the task waits right
 -- behind, and who waits right behind it. No public clause cites it.
 use Rattle.std.specs.Prelude.{◌≡◌, ℕ, ◌+◌, ◌-◌, ◌<◌, ◌≤◌, ◌⊎◌, List, slice_index_or, slice_set, Option, Some, None, MatchOption, count_by}
-use Rattle.scx_dsq.specs.declared.places.Rank.TheVariants.{Fifo}
-use Rattle.scx_dsq.specs.declared.places.Place.{Place}
+use Rattle.scx_dsq.specs.declared.entries.Rank.TheVariants.{Fifo}
+use Rattle.scx_dsq.specs.declared.entries.Entry.{Entry}
 use Rattle.scx_dsq.specs.declared.links.Link.{Link}
 use Rattle.scx_dsq.specs.declared.links.Ends.{Ends}
-use Rattle.scx_dsq.specs.Queues.{Places, place_at, is_in}
+use Rattle.scx_dsq.specs.Queues.{Entries, entry_at, is_in}
 
 abbrev pub no_link : Link
 no_link = record { ahead = None; behind = None }
@@ -58,37 +58,37 @@ ends_unlinked links ends t = record {
 
 -- ---- what the links mean
 
--- the task waits in the queue, at the place
-abbrev pub In : Places → ℕ → ℕ → Place → Type 0
-In places id t p = (place_at places t ≡ Some p) × (p.queue ≡ id)
+-- the task waits in the queue, by that entry
+abbrev pub In : Entries → ℕ → ℕ → Entry → Type 0
+In entries id t p = (entry_at entries t ≡ Some p) × (p.queue ≡ id)
 
-abbrev pub NobodyIsIn : Places → ℕ → Type 0
-NobodyIsIn places id = (t : ℕ) (p : Place) → In places id t p → ⊥
+abbrev pub NobodyIsIn : Entries → ℕ → Type 0
+NobodyIsIn entries id = (t : ℕ) (p : Entry) → In entries id t p → ⊥
 
-pub record IsFirst (places : Places) (id t : ℕ) : Type 0 where
-  pub place : Place
-  pub waits : In places id t place
-  pub first : (u : ℕ) (q : Place) → In places id u q → place.stamp ≤ q.stamp
+pub record IsFirst (entries : Entries) (id t : ℕ) : Type 0 where
+  pub entry : Entry
+  pub waits : In entries id t entry
+  pub first : (u : ℕ) (q : Entry) → In entries id u q → entry.stamp ≤ q.stamp
 
-pub record IsLast (places : Places) (id t : ℕ) : Type 0 where
-  pub place : Place
-  pub waits : In places id t place
-  pub last : (u : ℕ) (q : Place) → In places id u q → q.stamp ≤ place.stamp
+pub record IsLast (entries : Entries) (id t : ℕ) : Type 0 where
+  pub entry : Entry
+  pub waits : In entries id t entry
+  pub last : (u : ℕ) (q : Entry) → In entries id u q → q.stamp ≤ entry.stamp
 
 -- the second task waits right behind the first
-pub record IsNext (places : Places) (id t u : ℕ) : Type 0 where
-  pub place : Place
-  pub place_behind : Place
-  pub waits : In places id t place
-  pub waits_behind : In places id u place_behind
-  pub before : place.stamp < place_behind.stamp
-  pub none_between : (v : ℕ) (q : Place) → In places id v q → (q.stamp ≤ place.stamp) ⊎ (place_behind.stamp ≤ q.stamp)
+pub record IsNext (entries : Entries) (id t u : ℕ) : Type 0 where
+  pub entry : Entry
+  pub entry_behind : Entry
+  pub waits : In entries id t entry
+  pub waits_behind : In entries id u entry_behind
+  pub before : entry.stamp < entry_behind.stamp
+  pub none_between : (v : ℕ) (q : Entry) → In entries id v q → (q.stamp ≤ entry.stamp) ⊎ (entry_behind.stamp ≤ q.stamp)
 
 -- links and ends of a queue lead through the tasks that wait there, all of them in FIFO order
-pub record IsThreaded (places : Places) (links : List Link) (id : ℕ) (ends : Ends) : Type 0 where
-  pub first : MatchOption ends.first (NobodyIsIn places id) (IsFirst places id)
-  pub last : MatchOption ends.last (NobodyIsIn places id) (IsLast places id)
-  pub ahead : (t : ℕ) (p : Place) → In places id t p → MatchOption (link_at links t).ahead (IsFirst places id t) (λ u. IsNext places id u t)
-  pub behind : (t : ℕ) (p : Place) → In places id t p → MatchOption (link_at links t).behind (IsLast places id t) (IsNext places id t)
-  pub count : ends.count ≡ count_by (is_in id) places
-  pub sort : (t : ℕ) (p : Place) → In places id t p → p.rank ≡ Fifo
+pub record IsThreaded (entries : Entries) (links : List Link) (id : ℕ) (ends : Ends) : Type 0 where
+  pub first : MatchOption ends.first (NobodyIsIn entries id) (IsFirst entries id)
+  pub last : MatchOption ends.last (NobodyIsIn entries id) (IsLast entries id)
+  pub ahead : (t : ℕ) (p : Entry) → In entries id t p → MatchOption (link_at links t).ahead (IsFirst entries id t) (λ u. IsNext entries id u t)
+  pub behind : (t : ℕ) (p : Entry) → In entries id t p → MatchOption (link_at links t).behind (IsLast entries id t) (IsNext entries id t)
+  pub count : ends.count ≡ count_by (is_in id) entries
+  pub sort : (t : ℕ) (p : Entry) → In entries id t p → p.rank ≡ Fifo

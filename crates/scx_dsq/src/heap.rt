@@ -1,6 +1,6 @@
 ghost use Rattle.std.specs.Prelude.{◌≡◌, ◌+◌, ◌-◌, ◌*◌, ◌<◌, ◌≤◌, [], ◌∷◌, ◌++◌, length, true, false, IfSome, IfNone, IfOk};
 ghost use Rattle.std.specs.List.Sorted.{IsPermutation};
-ghost use Rattle.scx_dsq.specs.Heaps.{parent, IsBehind, Leads, IsHeap, IsHeapBut, IsHeapAbove, IsHeapAround, IsFirstChild, Rose, Sank, Settled, IsCheap, HasSpots, IsAbsent, IsIn, KeepsOthers, first_item, held, spotted};
+ghost use Rattle.scx_dsq.specs.Heaps.{parent, IsBehind, Leads, IsHeap, IsHeapBut, IsHeapAbove, IsHeapAround, IsFirstChild, Rose, Sank, Settled, IsCheap, HasSpots, IsAbsent, IsIn, KeepsOthers, first_item, with_item, with_spot};
 
 use crate::priority::Priority;
 use crate::steps::Steps;
@@ -105,7 +105,7 @@ impl Heap {
     }
 }
 
-/// Lets the item at a place go where it belongs, up or down.
+/// Lets the item at a position go where it belongs, up or down.
 fn settle<L: Ledger>(items: &mut [Item], spots: &mut [usize], at: usize, steps: &mut Steps<L>)
     requires within { at < length items.old }
     requires spots { HasSpots items.old spots.old }
@@ -124,7 +124,7 @@ fn settle<L: Ledger>(items: &mut [Item], spots: &mut [usize], at: usize, steps: 
     }
 }
 
-/// Whether the item at a place leaves before its parent.
+/// Whether the item at a position leaves before its parent.
 fn leads<L: Ledger>(items: &[Item], at: usize, steps: &mut Steps<L>) -> bool
     requires within { at < length items.now }
     ensures parent { result ≡ true → 0 < at }
@@ -139,7 +139,7 @@ fn leads<L: Ledger>(items: &[Item], at: usize, steps: &mut Steps<L>) -> bool
             .is_before(items[(at - 1) / 2].priority, steps)
 }
 
-/// Lets the item at a place rise until no item leaves before its parent.
+/// Lets the item at a position rise until no item leaves before its parent.
 pub fn rise<L: Ledger>(items: &mut [Item], spots: &mut [usize], start: usize, steps: &mut Steps<L>)
     requires within { start < length items.old }
     requires spots { HasSpots items.old spots.old }
@@ -158,7 +158,7 @@ pub fn rise<L: Ledger>(items: &mut [Item], spots: &mut [usize], start: usize, st
     put(items, spots, item, at);
 }
 
-/// Moves those above a place down before which the item leaves, and answers the place that is left for it.
+/// Moves those above a position down before which the item leaves, and answers the position left for it.
 fn make_way_up<L: Ledger>(
     items: &mut [Item],
     spots: &mut [usize],
@@ -167,15 +167,15 @@ fn make_way_up<L: Ledger>(
     steps: &mut Steps<L>,
 ) -> usize
     requires within { start < length items.old }
-    requires spots { HasSpots (held items.old item start) (spotted spots.old item start) }
-    requires heap { IsHeapBut (held items.old item start) start }
+    requires spots { HasSpots (with_item items.old item start) (with_spot spots.old item start) }
+    requires heap { IsHeapBut (with_item items.old item start) start }
     ensures within { result < length items.new }
-    ensures heap { IsHeap (held items.new item result) }
-    ensures spots { HasSpots (held items.new item result) (spotted spots.new item result) }
-    ensures others { KeepsOthers (held items.old item start) (spotted spots.old item start)
-        (spotted spots.new item result) }
-    ensures same { IsPermutation (held items.old item start) (held items.new item result) }
-    ensures cost { Rose (held items.old item start) (held items.new item result) start
+    ensures heap { IsHeap (with_item items.new item result) }
+    ensures spots { HasSpots (with_item items.new item result) (with_spot spots.new item result) }
+    ensures others { KeepsOthers (with_item items.old item start) (with_spot spots.old item start)
+        (with_spot spots.new item result) }
+    ensures same { IsPermutation (with_item items.old item start) (with_item items.new item result) }
+    ensures cost { Rose (with_item items.old item start) (with_item items.new item result) start
         (steps.new - steps.old) }
     ensures more { steps.old ≤ steps.new }
 {
@@ -192,7 +192,7 @@ fn make_way_up<L: Ledger>(
     at
 }
 
-/// Lets the item at a place sink until none behind it leaves before it.
+/// Lets the item at a position sink until none behind it leaves before it.
 pub fn sink<L: Ledger>(items: &mut [Item], spots: &mut [usize], start: usize, steps: &mut Steps<L>)
     requires within { start < length items.old }
     requires spots { HasSpots items.old spots.old }
@@ -209,7 +209,7 @@ pub fn sink<L: Ledger>(items: &mut [Item], spots: &mut [usize], start: usize, st
     put(items, spots, item, at);
 }
 
-/// Moves those below a place up that leave before the item, and answers the place that is left for it.
+/// Moves those below a position up that leave before the item, and answers the position left for it.
 fn make_way_down<L: Ledger>(
     items: &mut [Item],
     spots: &mut [usize],
@@ -218,15 +218,15 @@ fn make_way_down<L: Ledger>(
     steps: &mut Steps<L>,
 ) -> usize
     requires within { start < length items.old }
-    requires spots { HasSpots (held items.old item start) (spotted spots.old item start) }
-    requires heap { IsHeapAbove (held items.old item start) start }
+    requires spots { HasSpots (with_item items.old item start) (with_spot spots.old item start) }
+    requires heap { IsHeapAbove (with_item items.old item start) start }
     ensures within { result < length items.new }
-    ensures heap { IsHeap (held items.new item result) }
-    ensures spots { HasSpots (held items.new item result) (spotted spots.new item result) }
-    ensures others { KeepsOthers (held items.old item start) (spotted spots.old item start)
-        (spotted spots.new item result) }
-    ensures same { IsPermutation (held items.old item start) (held items.new item result) }
-    ensures cost { Sank (held items.old item start) (held items.new item result) start
+    ensures heap { IsHeap (with_item items.new item result) }
+    ensures spots { HasSpots (with_item items.new item result) (with_spot spots.new item result) }
+    ensures others { KeepsOthers (with_item items.old item start) (with_spot spots.old item start)
+        (with_spot spots.new item result) }
+    ensures same { IsPermutation (with_item items.old item start) (with_item items.new item result) }
+    ensures cost { Sank (with_item items.old item start) (with_item items.new item result) start
         (length items.old) (steps.new - steps.old) }
     ensures more { steps.old ≤ steps.new }
 {
@@ -242,18 +242,18 @@ fn make_way_down<L: Ledger>(
     at
 }
 
-/// Puts an item at a place, and so its task's spot.
+/// Puts an item at a position, and so its task's spot.
 fn put(items: &mut [Item], spots: &mut [usize], item: Item, at: usize)
     requires within { at < length items.old }
     requires task { item.task < length spots.old }
-    ensures items { items.new ≡ held items.old item at }
-    ensures spots { spots.new ≡ spotted spots.old item at }
+    ensures items { items.new ≡ with_item items.old item at }
+    ensures spots { spots.new ≡ with_spot spots.old item at }
 {
     items[at] = item;
     spots[item.task as usize] = at;
 }
 
-/// Which of those right behind a place leaves first.
+/// Which of those right behind a position leaves first.
 fn first_child<L: Ledger>(items: &[Item], at: usize, steps: &mut Steps<L>) -> Option<usize>
     requires within { at < length items.now }
     ensures child { IfSome result (IsFirstChild items.now at) }

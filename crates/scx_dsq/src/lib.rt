@@ -5,19 +5,19 @@
 //! each task waits in at most one. All memory is taken by `Queues::new`: no later call takes any.
 #![tactic(auto)]
 
+mod entries;
 mod errors;
 mod heap;
 mod laws;
 mod links;
 mod optional_task;
-mod places;
 mod priority;
 mod queue;
 mod queues;
 mod steps;
 
+pub use entries::Rank;
 pub use errors::QueueError;
 pub use laws::{appearances_are_conserved, fronts_are_unique};
-pub use places::Rank;
 pub use queues::Queues;
 pub use steps::Steps;

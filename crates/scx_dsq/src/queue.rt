@@ -1,12 +1,12 @@
 ghost use Rattle.std.specs.Prelude.{◌≡◌, ◌-◌, ◌≤◌};
-ghost use Rattle.scx_dsq.specs.declared.places.Rank.TheVariants.{Fifo};
+ghost use Rattle.scx_dsq.specs.declared.entries.Rank.TheVariants.{Fifo};
 ghost use Rattle.scx_dsq.specs.Heaps.{IsCheap};
 ghost use Rattle.scx_dsq.specs.Kept.{front_in, len_in, mixes, CanAppend, appended, CanInsert, Inserted, CanTakeOut, TakenOut, CanLeave, Left};
 ghost use Rattle.scx_dsq.specs.Links.{links_appended};
 
+use crate::entries::Rank;
 use crate::heap::{Heap, Item};
 use crate::links::{Ends, Link, append, unlink};
-use crate::places::Rank;
 use crate::steps::Steps;
 use std::sync::ledger::Ledger;
 

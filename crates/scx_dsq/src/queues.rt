@@ -1,8 +1,8 @@
 ghost use Rattle.std.specs.Prelude.{◌≡◌, ◌≢◌, ℕ, ◌+◌, ◌-◌, ◌^◌, ◌<◌, ◌≤◌, ◌==◌, [], ◌∷◌, ◌++◌, map, length, true, false, is_some, is_ok, slice_index_or, All, HoldsAt, Some, option_map, IsSome, IfSome, IfNone, IfOk, IfErr, OnOk, OnErr};
 ghost use Rattle.std.specs.List.{list_any};
-ghost use Rattle.scx_dsq.specs.declared.places.Place.{Place};
-ghost use Rattle.scx_dsq.specs.declared.places.Rank.TheVariants.{Fifo, Vtime};
-ghost use Rattle.scx_dsq.specs.Queues.{Waits, IsFront, exists, task_count, place_of, queue_of, len_of, front_of};
+ghost use Rattle.scx_dsq.specs.declared.entries.Entry.{Entry};
+ghost use Rattle.scx_dsq.specs.declared.entries.Rank.TheVariants.{Fifo, Vtime};
+ghost use Rattle.scx_dsq.specs.Queues.{Waits, IsFront, exists, task_count, entry_of, queue_of, len_of, front_of};
 ghost use Rattle.scx_dsq.specs.Calls.{refused_or_done, create_refusal, created, clashes, push_refusal, pushed, without_task, removed, popped, empty};
 ghost use Rattle.scx_dsq.specs.Laws.{HasOneOfEach, WaitsInAQueue, HasOneSort, IsStamped, HasOwnStamps, StandsInSoMany};
 ghost use Rattle.scx_dsq.specs.Arrays.{IsPaid};
@@ -10,10 +10,10 @@ ghost use Rattle.scx_dsq.specs.Holdings.{HasArrays};
 ghost use Rattle.scx_dsq.specs.Order.{IsOrder, IsGap};
 ghost use Rattle.scx_dsq.specs.Kept.{ids_of, Stands, IsAdmitted, IsRefused};
 
+use crate::entries::{Entry, Rank};
 use crate::errors::QueueError;
 use crate::heap::{Heap, Item};
 use crate::links::{Ends, Link};
-use crate::places::{Place, Rank};
 use crate::priority::Priority;
 use crate::queue::{Queue, append_to, insert_into, leave};
 use crate::steps::Steps;
@@ -34,7 +34,7 @@ struct Front {
 /// Dispatch queues, and where each task waits.
 ///
 /// In a contract it is two things. Its state is how many queues there may be, the ids of those that were
-/// created, for each task its place or none, and how many pushes were accepted. Beside it stand the arrays
+/// created, for each task its entry or none, and how many pushes were accepted. Beside it stand the arrays
 /// of the queues by virtual time. Tasks are numbered from 0.
 #[derive(Debug, Drop)]
 pub struct Queues {
@@ -43,7 +43,7 @@ pub struct Queues {
     order: Vec<usize>,
     /// Empty heaps for queues to come.
     spare: Vec<Heap>,
-    places: Vec<Option<Place>>,
+    entries: Vec<Option<Entry>>,
     /// At each task's number, whom it waits beside in a FIFO queue.
     links: Vec<Link>,
     /// At each task's number, where it stands in the array of a queue by virtual time.
@@ -77,7 +77,7 @@ impl Queues {
             live: Vec::with_capacity(alloc, queues)?,
             order: Vec::with_capacity(alloc, queues)?,
             spare: spare_heaps(alloc, queues, tasks)?,
-            places: vec![in alloc; None; tasks]?,
+            entries: vec![in alloc; None; tasks]?,
             links: vec![in alloc; Link::none(); tasks]?,
             spots: vec![in alloc; 0; tasks]?,
             guesses: [0; HASHES],
@@ -131,13 +131,13 @@ impl Queues {
             &self.live,
             &self.order,
             &self.guesses,
-            &self.places,
+            &self.entries,
             id,
             task,
             Rank::Fifo,
         )?;
         append_to(&mut self.links, &mut self.live[index], task);
-        self.places[task as usize] = Some(Place {
+        self.entries[task as usize] = Some(Entry {
             queue: id,
             rank: Rank::Fifo,
             stamp: self.pushes,
@@ -174,7 +174,7 @@ impl Queues {
             &self.live,
             &self.order,
             &self.guesses,
-            &self.places,
+            &self.entries,
             id,
             task,
             Rank::Vtime(key),
@@ -184,7 +184,7 @@ impl Queues {
             priority: Priority::new(key, stamp),
         };
         insert_into(&mut self.spots, &mut self.live[index], item, steps);
-        self.places[task as usize] = Some(Place {
+        self.entries[task as usize] = Some(Entry {
             queue: id,
             rank: Rank::Vtime(key),
             stamp,
@@ -202,7 +202,7 @@ impl Queues {
 
     /// Whether tasks wait in the queue that were put there in the other way.
     pub fn would_mix(&self, id: u64, rank: Rank) -> bool
-        ensures { result ≡ list_any (clashes id rank) self.now.state.places }
+        ensures { result ≡ list_any (clashes id rank) self.now.state.entries }
     {
         match find(&self.live, &self.order, &self.guesses, id) {
             Some(index) => self.live[index].clashes(rank),
@@ -215,7 +215,7 @@ impl Queues {
         ensures answer { result ≡ front_of self.now.state id }
         ensures known { IfSome result (λ t. t < task_count self.now.state) }
         ensures first { IfSome result (IsFront self.now.state id) }
-        ensures empty { IfNone result ((t : ℕ) (p : Place) → ¬ Waits self.now.state id t p) }
+        ensures empty { IfNone result ((t : ℕ) (p : Entry) → ¬ Waits self.now.state id t p) }
     {
         match self.first(id) {
             Some(front) => Some(front.task),
@@ -229,7 +229,7 @@ impl Queues {
         ensures known { IfSome result (λ f. f.task < task_count self.now.state) }
         ensures first { IfSome result (λ f. IsFront self.now.state id f.task) }
         ensures stands { IfSome result (λ f. Stands self.now.state f.index id) }
-        ensures empty { IfNone result ((t : ℕ) (p : Place) → ¬ Waits self.now.state id t p) }
+        ensures empty { IfNone result ((t : ℕ) (p : Entry) → ¬ Waits self.now.state id t p) }
     {
         let Some(index) = find(&self.live, &self.order, &self.guesses, id) else {
             return None;
@@ -256,10 +256,10 @@ impl Queues {
         let Some(Front { index, task }) = self.first(id) else {
             return None;
         };
-        let Some(place) = self.places[task as usize] else {
+        let Some(entry) = self.entries[task as usize] else {
             unreachable!()
         };
-        self.take_out(index, task, place, steps);
+        self.take_out(index, task, entry, steps);
         Some(task)
     }
 
@@ -268,7 +268,7 @@ impl Queues {
     #[tactic(auto, using(crate::proofs::Facts::tasks_removed, crate::proofs::Facts::pushes_removed))]
     pub fn remove<L: Ledger>(&mut self, task: u32, steps: &mut Steps<L>) -> bool
         requires { task < task_count self.old.state }
-        ensures answer { result ≡ is_some (place_of self.old.state task) }
+        ensures answer { result ≡ is_some (entry_of self.old.state task) }
         ensures state { self.new.state ≡ removed self.old.state task }
         ensures cost { IfSome (queue_of self.old.state task)
             (λ id. IsPaid self.old self.new id (steps.new - steps.old)) }
@@ -278,23 +278,23 @@ impl Queues {
         ensures tasks { task_count self.new.state ≡ task_count self.old.state }
         ensures pushes { self.new.state.pushes ≡ self.old.state.pushes }
     {
-        let Some(place) = self.places[task as usize] else {
+        let Some(entry) = self.entries[task as usize] else {
             return false;
         };
-        let Some(index) = find(&self.live, &self.order, &self.guesses, place.queue) else {
+        let Some(index) = find(&self.live, &self.order, &self.guesses, entry.queue) else {
             unreachable!()
         };
-        self.take_out(index, task, place, steps);
+        self.take_out(index, task, entry, steps);
         true
     }
 
-    /// Takes out a task that waits at that place, in the queue that stands there in `live`.
-    fn take_out<L: Ledger>(&mut self, index: usize, task: u32, place: Place, steps: &mut Steps<L>)
+    /// Takes out a task that waits by that entry, in the queue that stands there in `live`.
+    fn take_out<L: Ledger>(&mut self, index: usize, task: u32, entry: Entry, steps: &mut Steps<L>)
         requires task { task < task_count self.old.state }
-        requires stands { Stands self.old.state index place.queue }
-        requires waits { place_of self.old.state task ≡ Some place }
+        requires stands { Stands self.old.state index entry.queue }
+        requires waits { entry_of self.old.state task ≡ Some entry }
         ensures state { self.new.state ≡ without_task self.old.state task }
-        ensures cost { IsPaid self.old self.new place.queue (steps.new - steps.old) }
+        ensures cost { IsPaid self.old self.new entry.queue (steps.new - steps.old) }
         ensures more { steps.old ≤ steps.new }
     {
         leave(
@@ -302,10 +302,10 @@ impl Queues {
             &mut self.spots,
             &mut self.live[index],
             task,
-            place.rank,
+            entry.rank,
             steps,
         );
-        self.places[task as usize] = None;
+        self.entries[task as usize] = None;
     }
 
     /// How many tasks wait in the queue; 0 if it isn't there.
@@ -323,8 +323,8 @@ impl Queues {
         requires { task < task_count self.now.state }
         ensures { result ≡ queue_of self.now.state task }
     {
-        match self.places[task as usize] {
-            Some(place) => Some(place.queue),
+        match self.entries[task as usize] {
+            Some(entry) => Some(entry.queue),
             None => None,
         }
     }
@@ -333,7 +333,7 @@ impl Queues {
     pub fn tasks(&self) -> usize
         ensures { result ≡ task_count self.now.state }
     {
-        self.places.len()
+        self.entries.len()
     }
 
     /// What holds after any calls. The function does nothing: its contract is the law.
@@ -362,20 +362,20 @@ fn admit(
     live: &[Queue],
     order: &[usize],
     guesses: &[usize; HASHES],
-    places: &[Option<Place>],
+    entries: &[Option<Entry>],
     id: u64,
     task: u32,
     rank: Rank,
 ) -> Result<usize, QueueError>
-    requires task { task < length places.now }
+    requires task { task < length entries.now }
     requires order { IsOrder (ids_of live.now) order.now }
-    ensures admitted { IfOk result (λ k. IsAdmitted live.now places.now k id task rank) }
-    ensures refused { IfErr result (IsRefused live.now places.now id task rank) }
+    ensures admitted { IfOk result (λ k. IsAdmitted live.now entries.now k id task rank) }
+    ensures refused { IfErr result (IsRefused live.now entries.now id task rank) }
 {
     let Some(index) = find(live, order, guesses, id) else {
         return Err(QueueError::NoSuchQueue);
     };
-    if places[task as usize].is_some() {
+    if entries[task as usize].is_some() {
         return Err(QueueError::AlreadyThere);
     }
     if live[index].clashes(rank) {
@@ -394,7 +394,7 @@ fn find(live: &[Queue], order: &[usize], guesses: &[usize; HASHES], id: u64) -> 
         return Some(index);
     }
     match search(live, order, id) {
-        Ok(place) => Some(order[place]),
+        Ok(at) => Some(order[at]),
         Err(_) => None,
     }
 }

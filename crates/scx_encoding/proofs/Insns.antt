@@ -14,21 +14,21 @@ use Rattle.scx_semantics.specs.declared.operations.Operation.{Operation}
 use Rattle.scx_semantics.specs.declared.operations.Operation.TheVariants.{Add, Subtract, Multiply, Divide, SignedDivide, Or, And, Xor, ShiftLeft, ShiftRight, ShiftRightSigned, Modulo, SignedModulo, Move}
 use Rattle.scx_semantics.specs.declared.operations.Extension.{Extension}
 use Rattle.scx_semantics.specs.declared.operations.Extension.TheVariants.{Low8To32, Low16To32, Low8To64, Low16To64, Low32To64}
-use Rattle.scx_semantics.specs.declared.operations.Order.TheVariants.{Little, Big, Swapped}
-use Rattle.scx_semantics.specs.declared.operations.OrderWidth.{OrderWidth}
-use Rattle.scx_semantics.specs.declared.operations.OrderWidth.TheVariants as order
+use Rattle.scx_semantics.specs.declared.operations.ByteOrder.TheVariants.{Little, Big, Swapped}
+use Rattle.scx_semantics.specs.declared.operations.SwapWidth.{SwapWidth}
+use Rattle.scx_semantics.specs.declared.operations.SwapWidth.TheVariants as order
 use Rattle.scx_semantics.specs.declared.operations.Size.{Size}
 use Rattle.scx_semantics.specs.declared.operations.Size.TheVariants as size
 use Rattle.scx_semantics.specs.declared.operations.Access.{Access}
 use Rattle.scx_semantics.specs.declared.operations.Access.TheVariants as access
 use Rattle.scx_semantics.specs.declared.operations.Comparison.{Comparison}
-use Rattle.scx_semantics.specs.declared.operations.Comparison.TheVariants.{Equal, Greater, GreaterOrEqual, AnyBit, NotEqual, SignedGreater, SignedGreaterOrEqual, Less, LessOrEqual, SignedLess, SignedLessOrEqual}
+use Rattle.scx_semantics.specs.declared.operations.Comparison.TheVariants.{Equal, Greater, GreaterOrEqual, BitTest, NotEqual, SignedGreater, SignedGreaterOrEqual, Less, LessOrEqual, SignedLess, SignedLessOrEqual}
 use Rattle.scx_semantics.specs.declared.registers.Register.{Register}
 use Rattle.scx_semantics.specs.declared.registers.Register.TheVariants.{R0, R1, R2, R3, R4, R5, R6, R7, R8, R9, R10}
 use Rattle.scx_encoding.specs.declared.forms.Source.{Source}
 use Rattle.scx_encoding.specs.declared.forms.Source.TheVariants as source
 use Rattle.scx_encoding.specs.declared.forms.Form.{Form}
-use Rattle.scx_encoding.specs.declared.forms.Form.TheVariants.{Binary, Negate, Reorder, Constant, MapReference, Load, Store, JumpIf, Goto, GotoLong, Call, Exit}
+use Rattle.scx_encoding.specs.declared.forms.Form.TheVariants.{Binary, Negate, ByteSwap, LoadImmediate, LoadMapReference, Load, Store, JumpIf, Goto, GotoLong, Call, Exit}
 use Rattle.scx_encoding.specs.declared.faults.DecodeFault.TheVariants.{UnusedField, HalfWide, BadWidth}
 use Rattle.scx_semantics.specs.Registers.{number, register_at}
 use Rattle.scx_encoding.specs.Slots.{same_slot, IsSlot}
@@ -142,14 +142,14 @@ builds (Binary w o x) s next i fits half e =
 builds (Negate w) s next i fits half e =
     let p = bind_ok (register s.destination) _ i e in
     subst IsInsn (ok_is _ _ p.2) tt
-builds (Reorder o) s next i fits half e =
+builds (ByteSwap o) s next i fits half e =
     let p = bind_ok (register s.destination) _ i e in
     let q = bind_ok (ok_or (coded order_bits order_widths s.immediate) BadWidth) _ i p.2 in
     subst IsInsn (ok_is _ _ q.2) tt
-builds Constant s next i fits half e =
+builds LoadImmediate s next i fits half e =
     let p = bind_ok (register s.destination) _ i e in
     subst IsInsn (ok_is _ _ p.2) (fits_32 s.immediate fits.immediate, fits_32 (high_half next) (half_fits next half))
-builds MapReference s next i fits half e =
+builds LoadMapReference s next i fits half e =
     let p = bind_ok (register s.destination) _ i e in
     subst IsInsn (ok_is _ _ p.2) (fits_32 s.immediate fits.immediate)
 builds (Load a) s next i fits half e =
@@ -231,7 +231,7 @@ jump_again : (c : Comparison) (w : Width) (x : Source) → Again (JumpIf w c x)
 jump_again Equal w x = each (λ w x. JumpIf w Equal x) (λ s. refl) (λ s. refl) (λ s. refl) (λ s. refl) w x
 jump_again Greater w x = each (λ w x. JumpIf w Greater x) (λ s. refl) (λ s. refl) (λ s. refl) (λ s. refl) w x
 jump_again GreaterOrEqual w x = each (λ w x. JumpIf w GreaterOrEqual x) (λ s. refl) (λ s. refl) (λ s. refl) (λ s. refl) w x
-jump_again AnyBit w x = each (λ w x. JumpIf w AnyBit x) (λ s. refl) (λ s. refl) (λ s. refl) (λ s. refl) w x
+jump_again BitTest w x = each (λ w x. JumpIf w BitTest x) (λ s. refl) (λ s. refl) (λ s. refl) (λ s. refl) w x
 jump_again NotEqual w x = each (λ w x. JumpIf w NotEqual x) (λ s. refl) (λ s. refl) (λ s. refl) (λ s. refl) w x
 jump_again SignedGreater w x = each (λ w x. JumpIf w SignedGreater x) (λ s. refl) (λ s. refl) (λ s. refl) (λ s. refl) w x
 jump_again SignedGreaterOrEqual w x = each (λ w x. JumpIf w SignedGreaterOrEqual x) (λ s. refl) (λ s. refl) (λ s. refl) (λ s. refl) w x
@@ -269,14 +269,14 @@ form_again (insn.SignExtend Low16To32 d r) = refl
 form_again (insn.SignExtend Low8To64 d r) = refl
 form_again (insn.SignExtend Low16To64 d r) = refl
 form_again (insn.SignExtend Low32To64 d r) = refl
-form_again (insn.Reorder Little w d) = refl
-form_again (insn.Reorder Big w d) = refl
-form_again (insn.Reorder Swapped w d) = refl
-form_again (insn.Constant d low high) = refl
-form_again (insn.MapReference d k) = refl
+form_again (insn.ByteSwap Little w d) = refl
+form_again (insn.ByteSwap Big w d) = refl
+form_again (insn.ByteSwap Swapped w d) = refl
+form_again (insn.LoadImmediate d low high) = refl
+form_again (insn.LoadMapReference d k) = refl
 form_again (insn.Load a d r offset) = load_again a (number r)
 form_again (insn.Store z r offset x) = store_again z (source_of x) (operand_register x)
-form_again (insn.JumpIf w c r offset x) = jump_again c w (source_of x) (operand_register x)
+form_again (insn.JumpIf w c r x offset) = jump_again c w (source_of x) (operand_register x)
 form_again (insn.Goto offset) = refl
 form_again (insn.GotoLong offset) = refl
 form_again (insn.Call k) = refl
@@ -325,7 +325,7 @@ offset_again w Modulo d x = refl
 offset_again w SignedModulo d x = refl
 offset_again w Move d x = refl
 
-bits_again : (w : OrderWidth) → coded order_bits order_widths (order_bits w) ≡ Some w
+bits_again : (w : SwapWidth) → coded order_bits order_widths (order_bits w) ≡ Some w
 bits_again order.Bits16 = refl
 bits_again order.Bits32 = refl
 bits_again order.Bits64 = refl
@@ -342,12 +342,12 @@ built_again (insn.SignExtend Low16To32 d r) next h t = rw (register_again d, reg
 built_again (insn.SignExtend Low8To64 d r) next h t = rw (register_again d, register_again r) refl
 built_again (insn.SignExtend Low16To64 d r) next h t = rw (register_again d, register_again r) refl
 built_again (insn.SignExtend Low32To64 d r) next h t = rw (register_again d, register_again r) refl
-built_again (insn.Reorder o w d) next h t = rw (register_again d, bits_again w) refl
-built_again (insn.Constant d low high) next h t = rw (register_again d, t, again_32 low h.0, again_32 high h.1) refl
-built_again (insn.MapReference d k) next h t = rw (register_again d, again_32 k h) refl
+built_again (insn.ByteSwap o w d) next h t = rw (register_again d, bits_again w) refl
+built_again (insn.LoadImmediate d low high) next h t = rw (register_again d, t, again_32 low h.0, again_32 high h.1) refl
+built_again (insn.LoadMapReference d k) next h t = rw (register_again d, again_32 k h) refl
 built_again (insn.Load a d r offset) next h t = rw (register_again d, register_again r, again_16 offset h) refl
 built_again (insn.Store z r offset x) next h t = rw (register_again r, operand_again x (first_slot (insn.Store z r offset x)) refl refl h.1, again_16 offset h.0) refl
-built_again (insn.JumpIf w c r offset x) next h t = rw (register_again r, operand_again x (first_slot (insn.JumpIf w c r offset x)) refl refl h.1, again_16 offset h.0) refl
+built_again (insn.JumpIf w c r x offset) next h t = rw (register_again r, operand_again x (first_slot (insn.JumpIf w c r x offset)) refl refl h.1, again_16 offset h.0) refl
 built_again (insn.Goto offset) next h t = rw (again_16 offset h) refl
 built_again (insn.GotoLong offset) next h t = rw (again_32 offset h) refl
 built_again (insn.Call k) next h t = rw (again_32 k h) refl
@@ -355,8 +355,8 @@ built_again insn.Exit next h t = refl
 
 -- whether the second half that is due is there
 has_second : (i : Insn) (next : Option Slot) → Follows (second_slot i) next → (is_wide i && is_none next) ≡ false
-has_second (insn.Constant d low high) next t = rw t refl
-has_second (insn.MapReference d k) next t = rw t refl
+has_second (insn.LoadImmediate d low high) next t = rw t refl
+has_second (insn.LoadMapReference d k) next t = rw t refl
 has_second i next t = refl
 
 whole_again : (i : Insn) (next : Option Slot) → Follows (second_slot i) next → whole (first_slot i) next i ≡ Ok i
@@ -410,7 +410,7 @@ comparison_le : (c : Comparison) → comparison_code c ≤ 13
 comparison_le Equal = lit≤ tt
 comparison_le Greater = lit≤ tt
 comparison_le GreaterOrEqual = lit≤ tt
-comparison_le AnyBit = lit≤ tt
+comparison_le BitTest = lit≤ tt
 comparison_le NotEqual = lit≤ tt
 comparison_le SignedGreater = lit≤ tt
 comparison_le SignedGreaterOrEqual = lit≤ tt
@@ -438,11 +438,11 @@ opcode_lt : (f : Form) → opcode f < 256
 opcode_lt (Binary w o x) = omega (arith, arithmetic_class_le w, source_le x, operation_le o)
 opcode_lt (Negate Bits32) = lit< tt
 opcode_lt (Negate Bits64) = lit< tt
-opcode_lt (Reorder Little) = lit< tt
-opcode_lt (Reorder Big) = lit< tt
-opcode_lt (Reorder Swapped) = lit< tt
-opcode_lt Constant = lit< tt
-opcode_lt MapReference = lit< tt
+opcode_lt (ByteSwap Little) = lit< tt
+opcode_lt (ByteSwap Big) = lit< tt
+opcode_lt (ByteSwap Swapped) = lit< tt
+opcode_lt LoadImmediate = lit< tt
+opcode_lt LoadMapReference = lit< tt
 opcode_lt (Load a) = omega (arith, access_le a)
 opcode_lt (Store z x) = omega (arith, size_le z, store_class_le x)
 opcode_lt (JumpIf w c x) = omega (arith, jump_class_le w, source_le x, comparison_le c)
@@ -476,21 +476,21 @@ destination_lt : (i : Insn) → destination_field i < 16
 destination_lt (insn.Binary w o d x) = register_lt d
 destination_lt (insn.Negate w d) = register_lt d
 destination_lt (insn.SignExtend e d r) = register_lt d
-destination_lt (insn.Reorder o w d) = register_lt d
-destination_lt (insn.Constant d low high) = register_lt d
-destination_lt (insn.MapReference d k) = register_lt d
+destination_lt (insn.ByteSwap o w d) = register_lt d
+destination_lt (insn.LoadImmediate d low high) = register_lt d
+destination_lt (insn.LoadMapReference d k) = register_lt d
 destination_lt (insn.Load a d r offset) = register_lt d
 destination_lt (insn.Store z r offset x) = register_lt r
-destination_lt (insn.JumpIf w c r offset x) = register_lt r
+destination_lt (insn.JumpIf w c r x offset) = register_lt r
 destination_lt i = lit< tt
 
 source_lt : (i : Insn) → source_field i < 16
 source_lt (insn.Binary w o d x) = operand_register_lt x
 source_lt (insn.SignExtend e d r) = register_lt r
-source_lt (insn.MapReference d k) = lit< tt
+source_lt (insn.LoadMapReference d k) = lit< tt
 source_lt (insn.Load a d r offset) = register_lt r
 source_lt (insn.Store z r offset x) = operand_register_lt x
-source_lt (insn.JumpIf w c r offset x) = operand_register_lt x
+source_lt (insn.JumpIf w c r x offset) = operand_register_lt x
 source_lt i = lit< tt
 
 operation_offset_lt : (o : Operation) → operation_offset o < 2 ^ 16
@@ -510,7 +510,7 @@ offset_lt (insn.Binary w o d x) h = operation_offset_lt o
 offset_lt (insn.SignExtend e d r) h = extension_offset_lt e
 offset_lt (insn.Load a d r offset) h = low_16 offset h
 offset_lt (insn.Store z r offset x) h = low_16 offset h.0
-offset_lt (insn.JumpIf w c r offset x) h = low_16 offset h.0
+offset_lt (insn.JumpIf w c r x offset) h = low_16 offset h.0
 offset_lt (insn.Goto offset) h = low_16 offset h
 offset_lt i h = lit< tt
 
@@ -518,18 +518,18 @@ operand_immediate_lt : (x : Operand) → IsOperand x → operand_immediate x < 2
 operand_immediate_lt (operand.Immediate k) h = low_32 k h
 operand_immediate_lt (operand.Register r) h = lit< tt
 
-order_bits_lt : (w : OrderWidth) → order_bits w < 2 ^ 32
+order_bits_lt : (w : SwapWidth) → order_bits w < 2 ^ 32
 order_bits_lt order.Bits16 = lit< tt
 order_bits_lt order.Bits32 = lit< tt
 order_bits_lt order.Bits64 = lit< tt
 
 immediate_lt : (i : Insn) → IsInsn i → immediate_field i < 2 ^ 32
 immediate_lt (insn.Binary w o d x) h = operand_immediate_lt x h
-immediate_lt (insn.Reorder o w d) h = order_bits_lt w
-immediate_lt (insn.Constant d low high) h = low_32 low h.0
-immediate_lt (insn.MapReference d k) h = low_32 k h
+immediate_lt (insn.ByteSwap o w d) h = order_bits_lt w
+immediate_lt (insn.LoadImmediate d low high) h = low_32 low h.0
+immediate_lt (insn.LoadMapReference d k) h = low_32 k h
 immediate_lt (insn.Store z r offset x) h = operand_immediate_lt x h.1
-immediate_lt (insn.JumpIf w c r offset x) h = operand_immediate_lt x h.1
+immediate_lt (insn.JumpIf w c r x offset) h = operand_immediate_lt x h.1
 immediate_lt (insn.GotoLong offset) h = low_32 offset h
 immediate_lt (insn.Call k) h = low_32 k h
 immediate_lt i h = lit< tt
@@ -549,6 +549,6 @@ half_is_slot k h = record { opcode = lit< tt; destination = lit< tt; source = li
 
 -- and so does the second
 pub second_is_slot : (i : Insn) → IsInsn i → HalfFits (second_slot i)
-second_is_slot (insn.Constant d low high) h = half_is_slot (cast_unsigned w32 high) (low_32 high h.1)
-second_is_slot (insn.MapReference d k) h = half_is_slot 0 (lit< tt)
+second_is_slot (insn.LoadImmediate d low high) h = half_is_slot (cast_unsigned w32 high) (low_32 high h.1)
+second_is_slot (insn.LoadMapReference d k) h = half_is_slot 0 (lit< tt)
 second_is_slot i h = tt

@@ -12,20 +12,20 @@ use Rattle.scx_semantics.specs.declared.operations.Width.{Width}
 use Rattle.scx_semantics.specs.declared.operations.Width.TheVariants.{Bits32, Bits64}
 use Rattle.scx_semantics.specs.declared.operations.Operation.{Operation}
 use Rattle.scx_semantics.specs.declared.operations.Operation.TheVariants.{Add, Subtract, Multiply, Divide, SignedDivide, Or, And, Xor, ShiftLeft, ShiftRight, ShiftRightSigned, Modulo, SignedModulo, Move}
-use Rattle.scx_semantics.specs.declared.operations.Order.{Order}
-use Rattle.scx_semantics.specs.declared.operations.Order.TheVariants.{Little, Big, Swapped}
+use Rattle.scx_semantics.specs.declared.operations.ByteOrder.{ByteOrder}
+use Rattle.scx_semantics.specs.declared.operations.ByteOrder.TheVariants.{Little, Big, Swapped}
 use Rattle.scx_semantics.specs.declared.operations.Size.{Size}
 use Rattle.scx_semantics.specs.declared.operations.Size.TheVariants as size
 use Rattle.scx_semantics.specs.declared.operations.Access.{Access}
 use Rattle.scx_semantics.specs.declared.operations.Access.TheVariants as access
 use Rattle.scx_semantics.specs.declared.operations.Comparison.{Comparison}
-use Rattle.scx_semantics.specs.declared.operations.Comparison.TheVariants.{Equal, Greater, GreaterOrEqual, AnyBit, NotEqual, SignedGreater, SignedGreaterOrEqual, Less, LessOrEqual, SignedLess, SignedLessOrEqual}
+use Rattle.scx_semantics.specs.declared.operations.Comparison.TheVariants.{Equal, Greater, GreaterOrEqual, BitTest, NotEqual, SignedGreater, SignedGreaterOrEqual, Less, LessOrEqual, SignedLess, SignedLessOrEqual}
 use Rattle.scx_semantics.specs.Tables.{coded}
 use Rattle.scx_semantics.specs.Arithmetic.{extension_width}
 use Rattle.scx_encoding.specs.declared.forms.Source.{Source}
 use Rattle.scx_encoding.specs.declared.forms.Source.TheVariants.{Immediate, Register}
 use Rattle.scx_encoding.specs.declared.forms.Form.{Form}
-use Rattle.scx_encoding.specs.declared.forms.Form.TheVariants.{Binary, Negate, Reorder, Constant, MapReference, Load, Store, JumpIf, Goto, GotoLong, Call, Exit}
+use Rattle.scx_encoding.specs.declared.forms.Form.TheVariants.{Binary, Negate, ByteSwap, LoadImmediate, LoadMapReference, Load, Store, JumpIf, Goto, GotoLong, Call, Exit}
 use Rattle.scx_encoding.specs.declared.faults.Exclusion.TheVariants.{Atomic32, Atomic64, Packet, LocalCall, BtfCall, MapByFd, MapValueByFd, VariableAddress, CodeAddress, MapValueByIndex}
 use Rattle.scx_encoding.specs.declared.faults.DecodeFault.{DecodeFault}
 use Rattle.scx_encoding.specs.declared.faults.DecodeFault.TheVariants.{UnknownOpcode, NotInProfile}
@@ -71,7 +71,7 @@ abbrev pub comparison_code : Comparison → ℕ
 comparison_code Equal = 1
 comparison_code Greater = 2
 comparison_code GreaterOrEqual = 3
-comparison_code AnyBit = 4
+comparison_code BitTest = 4
 comparison_code NotEqual = 5
 comparison_code SignedGreater = 6
 comparison_code SignedGreaterOrEqual = 7
@@ -81,7 +81,7 @@ comparison_code SignedLess = 0xc
 comparison_code SignedLessOrEqual = 0xd
 
 -- byte order has operation 13: of ALU with K and X, and of ALU64 with K
-abbrev pub order_code : Order → ℕ
+abbrev pub order_code : ByteOrder → ℕ
 order_code Little = 0xd4
 order_code Big = 0xdc
 order_code Swapped = 0xd7
@@ -107,9 +107,9 @@ abbrev pub opcode : Form → ℕ
 opcode (Binary w o x) = arithmetic_class w + source_bit x + 16 * operation_code o
 opcode (Negate Bits32) = 0x84
 opcode (Negate Bits64) = 0x87
-opcode (Reorder o) = order_code o
-opcode Constant = 0x18
-opcode MapReference = 0x18
+opcode (ByteSwap o) = order_code o
+opcode LoadImmediate = 0x18
+opcode LoadMapReference = 0x18
 opcode (Load a) = 1 + access_code a
 opcode (Store s x) = store_class x + size_code s
 opcode (JumpIf w c x) = jump_class w + source_bit x + 16 * comparison_code c
@@ -135,12 +135,12 @@ abbrev pub form : Insn → Form
 form (insn.Binary w o d x) = Binary w (base o) (source_of x)
 form (insn.Negate w d) = Negate w
 form (insn.SignExtend e d r) = Binary (extension_width e) Move Register
-form (insn.Reorder o w d) = Reorder o
-form (insn.Constant d low high) = Constant
-form (insn.MapReference d k) = MapReference
+form (insn.ByteSwap o w d) = ByteSwap o
+form (insn.LoadImmediate d low high) = LoadImmediate
+form (insn.LoadMapReference d k) = LoadMapReference
 form (insn.Load a d r offset) = Load a
 form (insn.Store s r offset x) = Store s (source_of x)
-form (insn.JumpIf w c r offset x) = JumpIf w c (source_of x)
+form (insn.JumpIf w c r x offset) = JumpIf w c (source_of x)
 form (insn.Goto offset) = Goto
 form (insn.GotoLong offset) = GotoLong
 form (insn.Call k) = Call
@@ -153,7 +153,7 @@ base_operations = Add ∷ Subtract ∷ Multiply ∷ Divide ∷ Or ∷ And ∷ Sh
 
 abbrev pub comparisons : List Comparison
 comparisons =
-    Equal ∷ Greater ∷ GreaterOrEqual ∷ AnyBit ∷ NotEqual ∷ SignedGreater ∷ SignedGreaterOrEqual
+    Equal ∷ Greater ∷ GreaterOrEqual ∷ BitTest ∷ NotEqual ∷ SignedGreater ∷ SignedGreaterOrEqual
     ∷ Less ∷ LessOrEqual ∷ SignedLess ∷ SignedLessOrEqual ∷ []
 
 abbrev pub sizes : List Size
@@ -166,7 +166,7 @@ accesses =
 
 -- the forms of which each has a code of its own
 abbrev pub lone_forms : List Form
-lone_forms = Negate Bits32 ∷ Negate Bits64 ∷ Reorder Little ∷ Reorder Big ∷ Reorder Swapped ∷ Goto ∷ GotoLong ∷ Exit ∷ []
+lone_forms = Negate Bits32 ∷ Negate Bits64 ∷ ByteSwap Little ∷ ByteSwap Big ∷ ByteSwap Swapped ∷ Goto ∷ GotoLong ∷ Exit ∷ []
 
 abbrev pub source_at : ℕ → Source
 source_at n = if nat_eq (n / 8 % 2) 0 then Immediate else Register
@@ -223,12 +223,12 @@ refused fault = Err fault
 
 -- a load of a 64-bit immediate, by its source field
 abbrev pub wide_form : ℕ → Result Form DecodeFault
-wide_form s = look_up (refused UnknownOpcode) ((0, Ok Constant)
+wide_form s = look_up (refused UnknownOpcode) ((0, Ok LoadImmediate)
     ∷ (1, Err (NotInProfile MapByFd))
     ∷ (2, Err (NotInProfile MapValueByFd))
     ∷ (3, Err (NotInProfile VariableAddress))
     ∷ (4, Err (NotInProfile CodeAddress))
-    ∷ (5, Ok MapReference)
+    ∷ (5, Ok LoadMapReference)
     ∷ (6, Err (NotInProfile MapValueByIndex))
     ∷ []) s
 

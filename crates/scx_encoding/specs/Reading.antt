@@ -15,13 +15,13 @@ use Rattle.scx_semantics.specs.declared.operations.Operation.{Operation}
 use Rattle.scx_semantics.specs.declared.operations.Operation.TheVariants.{Divide, SignedDivide, Modulo, SignedModulo, Move}
 use Rattle.scx_semantics.specs.declared.operations.Extension.{Extension}
 use Rattle.scx_semantics.specs.declared.operations.Extension.TheVariants.{Low8To32, Low16To32, Low8To64, Low16To64, Low32To64}
-use Rattle.scx_semantics.specs.declared.operations.OrderWidth.{OrderWidth}
-use Rattle.scx_semantics.specs.declared.operations.OrderWidth.TheVariants as order
+use Rattle.scx_semantics.specs.declared.operations.SwapWidth.{SwapWidth}
+use Rattle.scx_semantics.specs.declared.operations.SwapWidth.TheVariants as order
 use Rattle.scx_semantics.specs.declared.registers.Register.{Register}
 use Rattle.scx_encoding.specs.declared.forms.Source.{Source}
 use Rattle.scx_encoding.specs.declared.forms.Source.TheVariants as source
 use Rattle.scx_encoding.specs.declared.forms.Form.{Form}
-use Rattle.scx_encoding.specs.declared.forms.Form.TheVariants.{Binary, Negate, Reorder, Constant, MapReference, Load, Store, JumpIf, Goto, GotoLong, Call, Exit}
+use Rattle.scx_encoding.specs.declared.forms.Form.TheVariants.{Binary, Negate, ByteSwap, LoadImmediate, LoadMapReference, Load, Store, JumpIf, Goto, GotoLong, Call, Exit}
 use Rattle.scx_encoding.specs.declared.faults.DecodeFault.{DecodeFault}
 use Rattle.scx_encoding.specs.declared.faults.DecodeFault.TheVariants.{BadRegister, UnusedField, HalfWide, BadOffset, BadWidth}
 use Rattle.scx_semantics.specs.Results.{◌>>=◌}
@@ -58,7 +58,7 @@ binary_at w Modulo d x n = if nat_eq n 0 then Some (insn.Binary w Modulo d x) el
 binary_at w Move d x n = if nat_eq n 0 then Some (insn.Binary w Move d x) else extension_at w d x n
 binary_at w o d x n = Some (insn.Binary w o d x)
 
-abbrev pub order_widths : List OrderWidth
+abbrev pub order_widths : List SwapWidth
 order_widths = order.Bits16 ∷ order.Bits32 ∷ order.Bits64 ∷ []
 
 -- the immediate of the second half, which has its fault later where it is missing
@@ -81,16 +81,16 @@ built (Binary w o x) s next = do
 built (Negate w) s next = do
   d ← register s.destination
   Ok (insn.Negate w d)
-built (Reorder o) s next = do
+built (ByteSwap o) s next = do
   d ← register s.destination
   w ← ok_or (coded order_bits order_widths s.immediate) BadWidth
-  Ok (insn.Reorder o w d)
-built Constant s next = do
+  Ok (insn.ByteSwap o w d)
+built LoadImmediate s next = do
   d ← register s.destination
-  Ok (insn.Constant d (number_at s) (cast_signed w32 (high_half next)))
-built MapReference s next = do
+  Ok (insn.LoadImmediate d (number_at s) (cast_signed w32 (high_half next)))
+built LoadMapReference s next = do
   d ← register s.destination
-  Ok (insn.MapReference d (number_at s))
+  Ok (insn.LoadMapReference d (number_at s))
 built (Load a) s next = do
   d ← register s.destination
   r ← register s.source
@@ -102,7 +102,7 @@ built (Store z x) s next = do
 built (JumpIf w c x) s next = do
   r ← register s.destination
   y ← operand_at x s
-  Ok (insn.JumpIf w c r (offset_at s) y)
+  Ok (insn.JumpIf w c r y (offset_at s))
 built Goto s next = Ok (insn.Goto (offset_at s))
 built GotoLong s next = Ok (insn.GotoLong (number_at s))
 built Call s next = Ok (insn.Call (number_at s))
@@ -124,9 +124,9 @@ abbrev pub half_at : Slot → Slot → Result (Option Insn) DecodeFault
 half_at s due = if same_slot s due then Ok None else Err UnusedField
 
 -- What stands at a slot: the second half that is due there, or an instruction.
-abbrev pub place_at : Option Slot → Slot → Option Slot → Result (Option Insn) DecodeFault
-place_at None s next = insn_at s next >>= λ i. Ok (Some i)
-place_at (Some due) s next = half_at s due
+abbrev pub occupant_at : Option Slot → Slot → Option Slot → Result (Option Insn) DecodeFault
+occupant_at None s next = insn_at s next >>= λ i. Ok (Some i)
+occupant_at (Some due) s next = half_at s due
 
 -- the second half that is due behind a slot
 abbrev pub due_after : Option Insn → Option Slot

@@ -5,15 +5,15 @@ use Rattle.std.specs.Option.{option_to_list}
 use Rattle.std.specs.Int.{w16, w32, cast_unsigned}
 use Rattle.scx_encoding.specs.declared.slots.Slot.{Slot}
 use Rattle.scx_semantics.specs.declared.instructions.Insn.{Insn}
-use Rattle.scx_semantics.specs.declared.instructions.Insn.TheVariants.{Binary, Negate, SignExtend, Reorder, Constant, MapReference, Load, Store, JumpIf, Goto, GotoLong, Call}
+use Rattle.scx_semantics.specs.declared.instructions.Insn.TheVariants.{Binary, Negate, SignExtend, ByteSwap, LoadImmediate, LoadMapReference, Load, Store, JumpIf, Goto, GotoLong, Call}
 use Rattle.scx_semantics.specs.declared.instructions.Operand.{Operand}
 use Rattle.scx_semantics.specs.declared.instructions.Operand.TheVariants.{Immediate, Register}
 use Rattle.scx_semantics.specs.declared.operations.Operation.{Operation}
 use Rattle.scx_semantics.specs.declared.operations.Operation.TheVariants.{SignedDivide, SignedModulo}
 use Rattle.scx_semantics.specs.declared.operations.Extension.{Extension}
 use Rattle.scx_semantics.specs.declared.operations.Extension.TheVariants.{Low8To32, Low16To32, Low8To64, Low16To64, Low32To64}
-use Rattle.scx_semantics.specs.declared.operations.OrderWidth.{OrderWidth}
-use Rattle.scx_semantics.specs.declared.operations.OrderWidth.TheVariants.{Bits16, Bits32, Bits64}
+use Rattle.scx_semantics.specs.declared.operations.SwapWidth.{SwapWidth}
+use Rattle.scx_semantics.specs.declared.operations.SwapWidth.TheVariants.{Bits16, Bits32, Bits64}
 use Rattle.scx_semantics.specs.Registers.{number}
 use Rattle.scx_encoding.specs.Opcodes.{opcode, form}
 
@@ -33,7 +33,7 @@ extension_offset Low8To64 = 8
 extension_offset Low16To64 = 16
 extension_offset Low32To64 = 32
 
-abbrev pub order_bits : OrderWidth → ℕ
+abbrev pub order_bits : SwapWidth → ℕ
 order_bits Bits16 = 16
 order_bits Bits32 = 32
 order_bits Bits64 = 64
@@ -51,22 +51,22 @@ abbrev pub destination_field : Insn → ℕ
 destination_field (Binary w o d x) = number d
 destination_field (Negate w d) = number d
 destination_field (SignExtend e d r) = number d
-destination_field (Reorder o w d) = number d
-destination_field (Constant d low high) = number d
-destination_field (MapReference d k) = number d
+destination_field (ByteSwap o w d) = number d
+destination_field (LoadImmediate d low high) = number d
+destination_field (LoadMapReference d k) = number d
 destination_field (Load a d r offset) = number d
 destination_field (Store s r offset x) = number r
-destination_field (JumpIf w c r offset x) = number r
+destination_field (JumpIf w c r x offset) = number r
 destination_field i = 0
 
--- a load of a map reference is told from that of a constant there
+-- a load of a map reference is told from that of an immediate there
 abbrev pub source_field : Insn → ℕ
 source_field (Binary w o d x) = operand_register x
 source_field (SignExtend e d r) = number r
-source_field (MapReference d k) = 5
+source_field (LoadMapReference d k) = 5
 source_field (Load a d r offset) = number r
 source_field (Store s r offset x) = operand_register x
-source_field (JumpIf w c r offset x) = operand_register x
+source_field (JumpIf w c r x offset) = operand_register x
 source_field i = 0
 
 abbrev pub offset_field : Insn → ℕ
@@ -74,17 +74,17 @@ offset_field (Binary w o d x) = operation_offset o
 offset_field (SignExtend e d r) = extension_offset e
 offset_field (Load a d r offset) = cast_unsigned w16 offset
 offset_field (Store s r offset x) = cast_unsigned w16 offset
-offset_field (JumpIf w c r offset x) = cast_unsigned w16 offset
+offset_field (JumpIf w c r x offset) = cast_unsigned w16 offset
 offset_field (Goto offset) = cast_unsigned w16 offset
 offset_field i = 0
 
 abbrev pub immediate_field : Insn → ℕ
 immediate_field (Binary w o d x) = operand_immediate x
-immediate_field (Reorder o w d) = order_bits w
-immediate_field (Constant d low high) = cast_unsigned w32 low
-immediate_field (MapReference d k) = cast_unsigned w32 k
+immediate_field (ByteSwap o w d) = order_bits w
+immediate_field (LoadImmediate d low high) = cast_unsigned w32 low
+immediate_field (LoadMapReference d k) = cast_unsigned w32 k
 immediate_field (Store s r offset x) = operand_immediate x
-immediate_field (JumpIf w c r offset x) = operand_immediate x
+immediate_field (JumpIf w c r x offset) = operand_immediate x
 immediate_field (GotoLong offset) = cast_unsigned w32 offset
 immediate_field (Call k) = cast_unsigned w32 k
 immediate_field i = 0
@@ -106,8 +106,8 @@ abbrev pub half : ℕ → Slot
 half k = record { opcode = 0; destination = 0; source = 0; offset = 0; immediate = k }
 
 abbrev pub second_slot : Insn → Option Slot
-second_slot (Constant d low high) = Some (half (cast_unsigned w32 high))
-second_slot (MapReference d k) = Some (half 0)
+second_slot (LoadImmediate d low high) = Some (half (cast_unsigned w32 high))
+second_slot (LoadMapReference d k) = Some (half 0)
 second_slot i = None
 
 abbrev pub insn_slots : Insn → List Slot
@@ -122,11 +122,11 @@ IsOperand (Register r) = Unit {0}
 -- an instruction whose numbers fit their fields
 abbrev pub IsInsn : Insn → Type 0
 IsInsn (Binary w o d x) = IsOperand x
-IsInsn (Constant d low high) = FitsSigned w32 low × FitsSigned w32 high
-IsInsn (MapReference d k) = FitsSigned w32 k
+IsInsn (LoadImmediate d low high) = FitsSigned w32 low × FitsSigned w32 high
+IsInsn (LoadMapReference d k) = FitsSigned w32 k
 IsInsn (Load a d r offset) = FitsSigned w16 offset
 IsInsn (Store s r offset x) = FitsSigned w16 offset × IsOperand x
-IsInsn (JumpIf w c r offset x) = FitsSigned w16 offset × IsOperand x
+IsInsn (JumpIf w c r x offset) = FitsSigned w16 offset × IsOperand x
 IsInsn (Goto offset) = FitsSigned w16 offset
 IsInsn (GotoLong offset) = FitsSigned w32 offset
 IsInsn (Call k) = FitsSigned w32 k

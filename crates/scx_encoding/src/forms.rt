@@ -1,7 +1,7 @@
 ghost use Rattle.std.specs.Prelude.{◌≡◌};
 ghost use Rattle.scx_encoding.specs.Opcodes.{form, base, source_of};
 
-use scx_semantics::{Access, Comparison, Insn, Operand, Operation, Order, Size, Width};
+use scx_semantics::{Access, ByteOrder, Comparison, Insn, Operand, Operation, Size, Width};
 
 /// Which of its two operands an instruction takes: source bit K or X.
 #[derive(Clone, Copy)]
@@ -16,9 +16,9 @@ pub enum Source {
 pub enum Form {
     Binary(Width, Operation, Source),
     Negate(Width),
-    Reorder(Order),
-    Constant,
-    MapReference,
+    ByteSwap(ByteOrder),
+    LoadImmediate,
+    LoadMapReference,
     Load(Access),
     Store(Size, Source),
     JumpIf(Width, Comparison, Source),
@@ -40,14 +40,17 @@ pub fn form_of_insn(insn: &Insn) -> Form
         Insn::SignExtend(extension, ..) => {
             Form::Binary(extension.width(), Operation::Move, Source::Register)
         }
-        Insn::Reorder(order, ..) => Form::Reorder(order),
-        Insn::Constant(..) => Form::Constant,
-        Insn::MapReference(..) => Form::MapReference,
+        Insn::ByteSwap(order, ..) => Form::ByteSwap(order),
+        Insn::LoadImmediate(..) => Form::LoadImmediate,
+        Insn::LoadMapReference(..) => Form::LoadMapReference,
         Insn::Load(access, ..) => Form::Load(access),
         Insn::Store(size, _, _, operand) => Form::Store(size, kind_of(operand)),
-        Insn::JumpIf(width, comparison, _, _, operand) => {
-            Form::JumpIf(width, comparison, kind_of(operand))
-        }
+        Insn::JumpIf {
+            width,
+            comparison,
+            operand,
+            ..
+        } => { Form::JumpIf(width, comparison, kind_of(operand)) }
         Insn::Goto(_) => Form::Goto,
         Insn::GotoLong(_) => Form::GotoLong,
         Insn::Call(_) => Form::Call,

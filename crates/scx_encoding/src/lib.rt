@@ -15,6 +15,6 @@ mod slots;
 mod spelling;
 
 pub use faults::{DecodeFault, Exclusion};
-pub use reading::{due_behind, place_of};
+pub use reading::{due_behind, occupant_of};
 pub use slots::{SLOT_BYTES, Slot, slot_of};
 pub use spelling::push_insn;

@@ -5,10 +5,10 @@ ghost use Rattle.scx_encoding.specs.Opcodes.{opcode, arithmetic_class, jump_clas
 
 use crate::faults::{DecodeFault, Exclusion};
 use crate::forms::{Form, Source};
-use scx_semantics::{Access, Comparison, Operation, Order, Size, Width};
+use scx_semantics::{Access, ByteOrder, Comparison, Operation, Size, Width};
 
 /// The form of an opcode, or why it has none. The source field is a part of the opcode of calls and
-/// of 64-bit constants.
+/// of 64-bit immediates.
 pub fn form_at(opcode: u8, source: u8) -> Result<Form, DecodeFault>
     ensures { result ≡ form_of opcode source }
 {
@@ -24,12 +24,12 @@ fn wide(source: u8) -> Result<Form, DecodeFault>
     ensures { result ≡ wide_form source }
 {
     match source {
-        0 => Ok(Form::Constant),
+        0 => Ok(Form::LoadImmediate),
         1 => Err(DecodeFault::NotInProfile(Exclusion::MapByFd)),
         2 => Err(DecodeFault::NotInProfile(Exclusion::MapValueByFd)),
         3 => Err(DecodeFault::NotInProfile(Exclusion::VariableAddress)),
         4 => Err(DecodeFault::NotInProfile(Exclusion::CodeAddress)),
-        5 => Ok(Form::MapReference),
+        5 => Ok(Form::LoadMapReference),
         6 => Err(DecodeFault::NotInProfile(Exclusion::MapValueByIndex)),
         _ => Err(DecodeFault::UnknownOpcode),
     }
@@ -63,9 +63,9 @@ fn lone(code: u8) -> Option<Form>
     match code {
         0x84 => Some(Form::Negate(Width::Bits32)),
         0x87 => Some(Form::Negate(Width::Bits64)),
-        0xd4 => Some(Form::Reorder(Order::Little)),
-        0xdc => Some(Form::Reorder(Order::Big)),
-        0xd7 => Some(Form::Reorder(Order::Swapped)),
+        0xd4 => Some(Form::ByteSwap(ByteOrder::Little)),
+        0xdc => Some(Form::ByteSwap(ByteOrder::Big)),
+        0xd7 => Some(Form::ByteSwap(ByteOrder::Swapped)),
         0x05 => Some(Form::Goto),
         0x06 => Some(Form::GotoLong),
         0x95 => Some(Form::Exit),
@@ -152,7 +152,7 @@ fn comparison_of(code: u8) -> Option<Comparison>
         0x1 => Some(Comparison::Equal),
         0x2 => Some(Comparison::Greater),
         0x3 => Some(Comparison::GreaterOrEqual),
-        0x4 => Some(Comparison::AnyBit),
+        0x4 => Some(Comparison::BitTest),
         0x5 => Some(Comparison::NotEqual),
         0x6 => Some(Comparison::SignedGreater),
         0x7 => Some(Comparison::SignedGreaterOrEqual),
@@ -215,8 +215,8 @@ pub fn opcode_of(form: Form) -> u8
         }
         Form::Negate(Width::Bits32) => 0x84,
         Form::Negate(Width::Bits64) => 0x87,
-        Form::Reorder(order) => order_code_of(order),
-        Form::Constant | Form::MapReference => 0x18,
+        Form::ByteSwap(order) => order_code_of(order),
+        Form::LoadImmediate | Form::LoadMapReference => 0x18,
         Form::Load(access) => 1 + access_code_of(access),
         Form::Store(size, source) => store_class_of(source) + size_code_of(size),
         Form::JumpIf(width, comparison, source) => {
@@ -291,7 +291,7 @@ fn comparison_code_of(comparison: Comparison) -> u8
         Comparison::Equal => 0x1,
         Comparison::Greater => 0x2,
         Comparison::GreaterOrEqual => 0x3,
-        Comparison::AnyBit => 0x4,
+        Comparison::BitTest => 0x4,
         Comparison::NotEqual => 0x5,
         Comparison::SignedGreater => 0x6,
         Comparison::SignedGreaterOrEqual => 0x7,
@@ -302,13 +302,13 @@ fn comparison_code_of(comparison: Comparison) -> u8
     }
 }
 
-fn order_code_of(order: Order) -> u8
+fn order_code_of(order: ByteOrder) -> u8
     ensures { result ≡ order_code order }
 {
     match order {
-        Order::Little => 0xd4,
-        Order::Big => 0xdc,
-        Order::Swapped => 0xd7,
+        ByteOrder::Little => 0xd4,
+        ByteOrder::Big => 0xdc,
+        ByteOrder::Swapped => 0xd7,
     }
 }
 

@@ -3,18 +3,22 @@ ghost use Rattle.std.specs.Int.{w32, cast_signed};
 ghost use Rattle.scx_encoding.specs.Slots.{front_slot};
 ghost use Rattle.scx_semantics.specs.Tables.{coded};
 ghost use Rattle.scx_encoding.specs.Spelling.{extension_offset, order_bits};
-ghost use Rattle.scx_encoding.specs.Reading.{register, operand_at, extensions, extension_at, binary_at, order_widths, high_half, built, whole, insn_at, half_at, place_at, due_after};
+ghost use Rattle.scx_encoding.specs.Reading.{register, operand_at, extensions, extension_at, binary_at, order_widths, high_half, built, whole, insn_at, half_at, occupant_at, due_after};
 
 use crate::faults::DecodeFault;
 use crate::forms::{Form, Source};
 use crate::opcodes::form_at;
 use crate::slots::{Slot, first_of};
 use crate::spelling::{first_slot_of, second_slot_of};
-use scx_semantics::{Extension, Insn, Operand, Operation, Order, OrderWidth, Register, Width};
+use scx_semantics::{ByteOrder, Extension, Insn, Operand, Operation, Register, SwapWidth, Width};
 
 /// What stands at a slot: the second half that is due there, or an instruction.
-pub fn place_of(due: Option<Slot>, slot: &Slot, behind: &[u8]) -> Result<Option<Insn>, DecodeFault>
-    ensures { result ≡ place_at due slot.now (front_slot behind.now) }
+pub fn occupant_of(
+    due: Option<Slot>,
+    slot: &Slot,
+    behind: &[u8],
+) -> Result<Option<Insn>, DecodeFault>
+    ensures { result ≡ occupant_at due slot.now (front_slot behind.now) }
 {
     match due {
         Some(due) => check_half(slot, &due),
@@ -23,10 +27,10 @@ pub fn place_of(due: Option<Slot>, slot: &Slot, behind: &[u8]) -> Result<Option<
 }
 
 /// The second half that is due behind a slot.
-pub fn due_behind(place: &Option<Insn>) -> Option<Slot>
-    ensures { result ≡ due_after place.now }
+pub fn due_behind(occupant: &Option<Insn>) -> Option<Slot>
+    ensures { result ≡ due_after occupant.now }
 {
-    second_slot_of(place.as_ref()?)
+    second_slot_of(occupant.as_ref()?)
 }
 
 /// The instruction that begins at a slot, with the bytes behind it.
@@ -71,9 +75,9 @@ fn build(form: Form, slot: &Slot, behind: &[u8]) -> Result<Insn, DecodeFault>
     match form {
         Form::Binary(width, operation, source) => build_binary(width, operation, source, slot),
         Form::Negate(width) => Ok(Insn::Negate(width, first(slot)?)),
-        Form::Reorder(order) => build_reorder(order, slot),
-        Form::Constant => Ok(Insn::Constant(first(slot)?, number, high_of(behind))),
-        Form::MapReference => Ok(Insn::MapReference(first(slot)?, number)),
+        Form::ByteSwap(order) => build_byte_swap(order, slot),
+        Form::LoadImmediate => Ok(Insn::LoadImmediate(first(slot)?, number, high_of(behind))),
+        Form::LoadMapReference => Ok(Insn::LoadMapReference(first(slot)?, number)),
         Form::Load(access) => Ok(Insn::Load(access, first(slot)?, second(slot)?, offset)),
         Form::Store(size, source) => {
             Ok(Insn::Store(size, first(slot)?, offset, operand(source, slot)?))
@@ -81,7 +85,13 @@ fn build(form: Form, slot: &Slot, behind: &[u8]) -> Result<Insn, DecodeFault>
         Form::JumpIf(width, comparison, source) => {
             let register = first(slot)?;
             let operand = operand(source, slot)?;
-            Ok(Insn::JumpIf(width, comparison, register, offset, operand))
+            Ok(Insn::JumpIf {
+                width,
+                comparison,
+                register,
+                operand,
+                distance: offset,
+            })
         }
         Form::Goto => Ok(Insn::Goto(offset)),
         Form::GotoLong => Ok(Insn::GotoLong(number)),
@@ -90,7 +100,7 @@ fn build(form: Form, slot: &Slot, behind: &[u8]) -> Result<Insn, DecodeFault>
     }
 }
 
-/// The upper half of a constant; where its slot is missing another fault comes later.
+/// The upper half of a 64-bit immediate; where its slot is missing another fault comes later.
 fn high_of(behind: &[u8]) -> i32
     ensures { result ≡ cast_signed w32 (high_half (front_slot behind.now)) }
 {
@@ -182,21 +192,21 @@ fn extension_of(width: Width, offset: u16) -> Option<Extension>
     }
 }
 
-fn build_reorder(order: Order, slot: &Slot) -> Result<Insn, DecodeFault>
+fn build_byte_swap(order: ByteOrder, slot: &Slot) -> Result<Insn, DecodeFault>
     ensures { result ≡ built (Form.Reorder order) slot.now None }
 {
     let register = first(slot)?;
     let width = order_width_of(slot.immediate).ok_or(DecodeFault::BadWidth)?;
-    Ok(Insn::Reorder(order, width, register))
+    Ok(Insn::ByteSwap(order, width, register))
 }
 
-fn order_width_of(bits: u32) -> Option<OrderWidth>
+fn order_width_of(bits: u32) -> Option<SwapWidth>
     ensures { result ≡ coded order_bits order_widths bits }
 {
     match bits {
-        16 => Some(OrderWidth::Bits16),
-        32 => Some(OrderWidth::Bits32),
-        64 => Some(OrderWidth::Bits64),
+        16 => Some(SwapWidth::Bits16),
+        32 => Some(SwapWidth::Bits32),
+        64 => Some(SwapWidth::Bits64),
         _ => None,
     }
 }

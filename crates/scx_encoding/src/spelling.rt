@@ -6,7 +6,7 @@ ghost use Rattle.scx_encoding.specs.Spelling.{IsInsn, insn_slots, first_slot, se
 use crate::forms::form_of_insn;
 use crate::opcodes::opcode_of;
 use crate::slots::{Slot, push_slot};
-use scx_semantics::{Extension, Insn, Operand, Operation, OrderWidth};
+use scx_semantics::{Extension, Insn, Operand, Operation, SwapWidth};
 use std::alloc::AllocError;
 
 /// The one slot that spells the instruction, or the first half of a wide one.
@@ -27,8 +27,8 @@ pub fn second_slot_of(insn: &Insn) -> Option<Slot>
     ensures { result ≡ second_slot insn.now }
 {
     match *insn {
-        Insn::Constant(_, _, high) => Some(half_of(high.cast_unsigned())),
-        Insn::MapReference(..) => Some(half_of(0)),
+        Insn::LoadImmediate(_, _, high) => Some(half_of(high.cast_unsigned())),
+        Insn::LoadMapReference(..) => Some(half_of(0)),
         _ => None,
     }
 }
@@ -66,12 +66,12 @@ fn destination_of(insn: &Insn) -> u8
         Insn::Binary(_, _, register, _)
         | Insn::Negate(_, register)
         | Insn::SignExtend(_, register, _)
-        | Insn::Reorder(_, _, register)
-        | Insn::Constant(register, ..)
-        | Insn::MapReference(register, _)
+        | Insn::ByteSwap(_, _, register)
+        | Insn::LoadImmediate(register, ..)
+        | Insn::LoadMapReference(register, _)
         | Insn::Load(_, register, ..)
         | Insn::Store(_, register, ..)
-        | Insn::JumpIf(_, _, register, ..) => register.number(),
+        | Insn::JumpIf { register, .. } => register.number(),
         Insn::Goto(_) | Insn::GotoLong(_) | Insn::Call(_) | Insn::Exit => 0,
     }
 }
@@ -80,11 +80,11 @@ fn source_field_of(insn: &Insn) -> u8
     ensures { result ≡ source_field insn.now }
 {
     match *insn {
-        Insn::Binary(.., operand) | Insn::Store(.., operand) | Insn::JumpIf(.., operand) => {
+        Insn::Binary(.., operand) | Insn::Store(.., operand) | Insn::JumpIf { operand, .. } => {
             register_of(operand)
         }
         Insn::SignExtend(_, _, register) | Insn::Load(_, _, register, _) => register.number(),
-        Insn::MapReference(..) => 5,
+        Insn::LoadMapReference(..) => 5,
         _ => 0,
     }
 }
@@ -97,7 +97,10 @@ fn offset_of(insn: &Insn) -> u16
         Insn::SignExtend(extension, ..) => extension_offset_of(extension),
         Insn::Load(_, _, _, offset) => offset.cast_unsigned(),
         Insn::Store(_, _, offset, _) => offset.cast_unsigned(),
-        Insn::JumpIf(_, _, _, offset, _) => offset.cast_unsigned(),
+        Insn::JumpIf {
+            distance: offset,
+            ..
+        } => offset.cast_unsigned(),
         Insn::Goto(offset) => offset.cast_unsigned(),
         _ => 0,
     }
@@ -107,12 +110,12 @@ fn immediate_of(insn: &Insn) -> u32
     ensures { result ≡ immediate_field insn.now }
 {
     match *insn {
-        Insn::Binary(.., operand) | Insn::Store(.., operand) | Insn::JumpIf(.., operand) => {
+        Insn::Binary(.., operand) | Insn::Store(.., operand) | Insn::JumpIf { operand, .. } => {
             number_of(operand)
         }
-        Insn::Reorder(_, width, _) => order_bits_of(width),
-        Insn::Constant(_, low, _) => low.cast_unsigned(),
-        Insn::MapReference(_, map) => map.cast_unsigned(),
+        Insn::ByteSwap(_, width, _) => order_bits_of(width),
+        Insn::LoadImmediate(_, low, _) => low.cast_unsigned(),
+        Insn::LoadMapReference(_, map) => map.cast_unsigned(),
         Insn::GotoLong(distance) => distance.cast_unsigned(),
         Insn::Call(helper) => helper.cast_unsigned(),
         _ => 0,
@@ -158,12 +161,12 @@ fn extension_offset_of(extension: Extension) -> u16
     }
 }
 
-fn order_bits_of(width: OrderWidth) -> u32
+fn order_bits_of(width: SwapWidth) -> u32
     ensures { result ≡ order_bits width }
 {
     match width {
-        OrderWidth::Bits16 => 16,
-        OrderWidth::Bits32 => 32,
-        OrderWidth::Bits64 => 64,
+        SwapWidth::Bits16 => 16,
+        SwapWidth::Bits32 => 32,
+        SwapWidth::Bits64 => 64,
     }
 }

@@ -1,9 +1,9 @@
 ghost use Rattle.std.specs.Prelude.{◌^◌, Some};
-ghost use Rattle.scx_semantics.specs.declared.outside.Field.TheVariants.{Pid, Weight, Slice, DsqVtime, PrevCpu, Group, RunNs};
-ghost use Rattle.scx_vm.specs.declared.arguments.Answer.TheVariants.{Number};
+ghost use Rattle.scx_semantics.specs.declared.host_tables.Field.TheVariants.{Pid, Weight, Slice, DsqVtime, PrevCpu, Group, RunNs};
+ghost use Rattle.scx_vm.specs.declared.arguments.Answer.TheVariants.{Num};
 
 use scx_isa::{Field, Helper, TaskId};
-use scx_vm::{Answer, Argument, Env};
+use scx_vm::{Answer, Arg, Env};
 
 /// A host of one task, which answers 0 to each helper call and keeps the last one.
 #[derive(Drop)]
@@ -15,12 +15,12 @@ pub struct OneTask {
     /// The helper that was called last.
     pub called: Option<Helper>,
     /// What it was given.
-    pub given: [Argument; 5],
+    pub given: [Arg; 5],
 }
 
 impl Env for OneTask {
     ghost functions = { record {
-      answer = λ w h a. Number 0;
+      answer = λ w h a. Num 0;
       after_call = λ w h a. record w { called = Some h; given = a };
       number = λ w t f. elim f [ Pid ↦ 7 | Weight ↦ w.weight | Slice ↦ w.slice | DsqVtime ↦ w.vtime | PrevCpu ↦ 0 | Group ↦ 0 | RunNs ↦ 0 ];
       after_store = λ w t f n. elim f [ Pid ↦ w | Weight ↦ w | Slice ↦ record w { slice = n } | DsqVtime ↦ record w { vtime = n } | PrevCpu ↦ w | Group ↦ w | RunNs ↦ w ];
@@ -30,10 +30,10 @@ impl Env for OneTask {
 
     ghost spent = { λ w. 0 };
 
-    fn call(&mut self, helper: Helper, arguments: &[Argument; 5]) -> Answer {
+    fn call(&mut self, helper: Helper, arguments: &[Arg; 5]) -> Answer {
         self.called = Some(helper);
         self.given = *arguments;
-        Answer::Number(0)
+        Answer::Num(0)
     }
 
     fn load(&self, _task: TaskId, field: Field) -> u64 {

@@ -38,7 +38,7 @@ fn store(maps: &mut Maps, map: u8, index: u32, offset: u16, size: Size, number: 
     }
 }
 
-/// The bytes of an entry, none if the maps don't have it.
+/// The bytes of an element, none if the maps don't have it.
 fn bytes(maps: &Maps, map: u8, index: u32) -> &[u8] {
     if usize::from(map) < maps.count() && maps.lookup(map, index) {
         maps.value(map, index)
@@ -47,7 +47,7 @@ fn bytes(maps: &Maps, map: u8, index: u32) -> &[u8] {
     }
 }
 
-/// Writes a byte over each byte of an entry.
+/// Writes a byte over each byte of an element.
 fn fill(maps: &mut Maps, map: u8, index: u32, byte: u8) {
     if usize::from(map) < maps.count() && maps.lookup(map, index) {
         maps.value_mut(map, index).fill(byte);
@@ -173,7 +173,7 @@ fn a_store_takes_the_lowest_bytes(rt: HostRuntime) -> Result<(), Fail> {
 }
 
 #[test]
-fn a_write_stays_in_its_entry(rt: HostRuntime) -> Result<(), Fail> {
+fn a_write_stays_in_its_element(rt: HostRuntime) -> Result<(), Fail> {
     let defs = MapDefs::new(&[shape(2, 2), shape(3, 1), shape(1, 4)])?;
     let mut maps = Maps::new(rt.alloc(), &defs)?;
     fill(&mut maps, 1, 1, 9);

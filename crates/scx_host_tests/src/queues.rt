@@ -124,7 +124,7 @@ fn queue_of(task: u32) -> Command {
 }
 
 #[test]
-fn numbers_its_errors(rt: HostRuntime) {
+fn errors_have_numbers(rt: HostRuntime) {
     let errors = [
         (QueueError::NoSuchQueue, 1, "NoSuchQueue"),
         (QueueError::AlreadyThere, 2, "AlreadyThere"),
@@ -138,7 +138,7 @@ fn numbers_its_errors(rt: HostRuntime) {
 }
 
 #[test]
-fn orders_by_key_and_then_by_stamp(rt: HostRuntime) -> Result<(), Fail> {
+fn tasks_leave_by_key_and_then_by_stamp(rt: HostRuntime) -> Result<(), Fail> {
     let mut queues = Queues::new(rt.alloc(), 1, 5)?;
     expect(
         &rt,
@@ -165,7 +165,7 @@ fn orders_by_key_and_then_by_stamp(rt: HostRuntime) -> Result<(), Fail> {
 }
 
 #[test]
-fn keeps_two_queues(rt: HostRuntime) -> Result<(), Fail> {
+fn two_queues_are_kept_apart(rt: HostRuntime) -> Result<(), Fail> {
     let mut queues = Queues::new(rt.alloc(), 2, 5)?;
     expect(
         &rt,
@@ -195,7 +195,7 @@ fn keeps_two_queues(rt: HostRuntime) -> Result<(), Fail> {
 }
 
 #[test]
-fn refuses_for_the_first_cause(rt: HostRuntime) -> Result<(), Fail> {
+fn the_first_cause_is_told(rt: HostRuntime) -> Result<(), Fail> {
     let mut queues = Queues::new(rt.alloc(), 2, 4)?;
     expect(
         &rt,
@@ -236,7 +236,7 @@ fn refuses_for_the_first_cause(rt: HostRuntime) -> Result<(), Fail> {
 }
 
 #[test]
-fn has_no_room_at_all(rt: HostRuntime) -> Result<(), Fail> {
+fn queues_may_have_no_room(rt: HostRuntime) -> Result<(), Fail> {
     let mut queues = Queues::new(rt.alloc(), 0, 0)?;
     expect(
         &rt,
@@ -410,7 +410,7 @@ fn compare(
 }
 
 #[test]
-fn agrees_with_sorted_vectors(rt: HostRuntime) -> Result<(), Fail> {
+fn queues_agree_with_sorted_vectors(rt: HostRuntime) -> Result<(), Fail> {
     let mut queues = Queues::new(rt.alloc(), 16, 1024)?;
     let mut plain = Plain::new(rt.alloc(), 16);
     let mut state = 0x9e37_79b9_7f4a_7c15;
@@ -423,7 +423,7 @@ fn agrees_with_sorted_vectors(rt: HostRuntime) -> Result<(), Fail> {
 }
 
 #[test]
-fn removes_from_the_middle_of_many(rt: HostRuntime) -> Result<(), Fail> {
+fn a_task_leaves_from_the_middle_of_many(rt: HostRuntime) -> Result<(), Fail> {
     let mut queues = Queues::new(rt.alloc(), 1, 1024)?;
     let mut plain = Plain::new(rt.alloc(), 1);
     compare(&rt, &mut queues, &mut plain, create(0))?;

@@ -65,7 +65,7 @@ fn awake(
 }
 
 #[test]
-fn tasks_of_two_groups(rt: HostRuntime) -> Result<(), Fail> {
+fn two_groups_share_by_weight(rt: HostRuntime) -> Result<(), Fail> {
     let mut tree = awake(&rt, rt.alloc(), &[top(100), top(300)], &[0, 0, 1])?;
     assert_eq!(&rt; (tree.groups(), tree.tasks()), (2, 3));
     check_weights(&rt, &tree, &[1250, 1250, 7500]);
@@ -78,7 +78,7 @@ fn tasks_of_two_groups(rt: HostRuntime) -> Result<(), Fail> {
 }
 
 #[test]
-fn groups_below_a_group(rt: HostRuntime) -> Result<(), Fail> {
+fn groups_share_what_is_above_them(rt: HostRuntime) -> Result<(), Fail> {
     let groups = [top(100), under(0, 100), under(0, 300), top(100)];
     let tree = awake(&rt, rt.alloc(), &groups, &[1, 2, 3])?;
     check_weights(&rt, &tree, &[1250, 3750, 5000]);
@@ -107,7 +107,7 @@ fn groups_below_a_group(rt: HostRuntime) -> Result<(), Fail> {
 
 /// A task that sleeps weighs what it would if it were active.
 #[test]
-fn sleeping_tasks(rt: HostRuntime) -> Result<(), Fail> {
+fn sleeping_tasks_take_no_share(rt: HostRuntime) -> Result<(), Fail> {
     let groups = [top(100), under(0, 100), under(0, 300), top(100)];
     let mut tree = Tree::new(rt.alloc(), &groups, &[1, 2, 3, 3])?;
     check_weights(&rt, &tree, &[10_000, 10_000, 10_000, 10_000]);
@@ -132,7 +132,7 @@ fn refusal(alloc: Global, groups: &[Group], tasks: &[u32]) -> Option<TreeError> 
 
 /// Lists that make no tree, with what is wrong with them.
 #[test]
-fn refused_trees(rt: HostRuntime) {
+fn faulty_trees_are_refused(rt: HostRuntime) {
     let chain = [top(1), under(0, 1), under(1, 1), under(2, 1)];
     let rows: [(&[Group], &[u32], TreeError); 15] = [
         (&[top(1)], &[1], TreeError::UnknownGroup),
@@ -167,7 +167,7 @@ fn refused_trees(rt: HostRuntime) {
 
 /// Numbers of groups and of tasks at their limits and past them.
 #[test]
-fn counts(rt: HostRuntime) -> Result<(), Fail> {
+fn groups_and_tasks_are_limited(rt: HostRuntime) -> Result<(), Fail> {
     let alloc = rt.alloc();
     let groups = vec![in alloc; top(10_000); 257]?;
     let tasks = vec![in alloc; 0; 1025]?;
@@ -184,7 +184,7 @@ fn counts(rt: HostRuntime) -> Result<(), Fail> {
 }
 
 #[test]
-fn refused_weights(rt: HostRuntime) -> Result<(), Fail> {
+fn weights_are_limited(rt: HostRuntime) -> Result<(), Fail> {
     let mut tree = awake(&rt, rt.alloc(), &[top(100), top(300)], &[0, 1])?;
     assert_eq!(&rt; tree.set_weight(2, 100), Err(TreeError::UnknownGroup));
     assert_eq!(&rt; tree.set_weight(2, 0), Err(TreeError::UnknownGroup));
@@ -326,7 +326,7 @@ fn change(rt: &impl Abort, numbers: &mut Numbers, tree: &mut Tree, plain: &mut P
 }
 
 #[test]
-fn random_walk(rt: HostRuntime) -> Result<(), Fail> {
+fn running_sums_agree_with_the_whole_tree(rt: HostRuntime) -> Result<(), Fail> {
     let alloc = rt.alloc();
     let mut numbers = Numbers { state: 1 };
     let mut plain = large(alloc, &mut numbers)?;

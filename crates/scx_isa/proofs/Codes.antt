@@ -16,26 +16,26 @@ use Rattle.scx_encoding.specs.Slots.{IsSlot, same_slot, slot_bytes}
 use Rattle.std.proofs.lemmas.List.Recursion.{is_count_by}
 use Rattle.scx_semantics.specs.Code.{Code, is_wide, instruction_count}
 use Rattle.scx_encoding.specs.Spelling.{first_slot, second_slot, insn_slots, IsInsn}
-use Rattle.scx_isa.specs.Spelling.{place_slots, code_slots, spelling, IsCode}
-use Rattle.scx_encoding.specs.Reading.{insn_at, half_at, place_at, due_after}
-use Rattle.scx_isa.specs.Reading.{first, placed, read_slots}
+use Rattle.scx_isa.specs.Spelling.{occupant_slots, code_slots, spelling, IsCode}
+use Rattle.scx_encoding.specs.Reading.{insn_at, half_at, occupant_at, due_after}
+use Rattle.scx_isa.specs.Reading.{first, at_slot, read_slots}
 use Rattle.scx_encoding.proofs.Insns.{bind_ok, done, ok_is, is_same, same_is, HalfFits, Reads, insn_is_spelled, Follows, insn_is_read, first_is_slot, second_is_slot}
 
 -- wide instructions are those with a second slot
 pub wide_is : (i : Insn) → is_wide i ≡ is_some (second_slot i)
-wide_is (insn.Constant d low high) = refl
-wide_is (insn.MapReference d k) = refl
+wide_is (insn.LoadImmediate d low high) = refl
+wide_is (insn.LoadMapReference d k) = refl
 wide_is i = refl
 
-placed_ok : {A : Type 0} (k : ℕ) (r : Result A DecodeFault) (x : A) → placed k r ≡ Ok x → r ≡ Ok x
+placed_ok : {A : Type 0} (k : ℕ) (r : Result A DecodeFault) (x : A) → at_slot k r ≡ Ok x → r ≡ Ok x
 placed_ok k (Ok y) x e = let same : y ≡ x = cc in ap (λ z. Ok z) same
 placed_ok k (Err d) x e = absurd (cc)
 
--- instructions are counted as the places that hold one
+-- instructions are counted as the occupants that hold one
 pub count_is : (code : Code) → instruction_count code ≡ count_by is_some code
-count_is code = is_count_by instruction_count is_some refl (λ place code. more place code) code
+count_is code = is_count_by instruction_count is_some refl (λ occupant code. more occupant code) code
   where
-    more : (place : Option Insn) (code : Code) → instruction_count (place ∷ code) ≡ (if is_some place then 1 + instruction_count code else instruction_count code)
+    more : (occupant : Option Insn) (code : Code) → instruction_count (occupant ∷ code) ≡ (if is_some occupant then 1 + instruction_count code else instruction_count code)
     more None code = refl
     more (Some i) code = omega arith
 
@@ -53,13 +53,13 @@ half_reads s due p e = go (same_slot s due) refl
     go false t = let bad : Err UnusedField ≡ Ok p = rw t at e in absurd (cc)
 
 -- where a second half is due there is a slot for it
-abbrev HasRoom : Option Slot → List Slot → Type 0
-HasRoom None slots = Unit {0}
-HasRoom (Some due) slots = is_none (first slots) ≡ false
+abbrev HasSecondHalf : Option Slot → List Slot → Type 0
+HasSecondHalf None slots = Unit {0}
+HasSecondHalf (Some due) slots = is_none (first slots) ≡ false
 
-room_behind : (t : Option Slot) (slots : List Slot) → (is_some t ≡ true → is_none (first slots) ≡ false) → HasRoom t slots
-room_behind None slots h = tt
-room_behind (Some due) slots h = h refl
+second_half_behind : (t : Option Slot) (slots : List Slot) → (is_some t ≡ true → is_none (first slots) ≡ false) → HasSecondHalf t slots
+second_half_behind None slots h = tt
+second_half_behind (Some due) slots h = h refl
 
 -- the slots hold the second half that is due and then the code
 pub record Holds (due : Option Slot) (slots : List Slot) (code : Code) : Type 0 where
@@ -77,51 +77,51 @@ holds_insn s slots i code e h rest = record {
 
 -- what stands at the first slot, and what is read behind it
 record Splits (k : ℕ) (due : Option Slot) (s : Slot) (slots : List Slot) (code : Code) : Type 0 where
-  place : Option Insn
+  occupant : Option Insn
   rest : Code
-  read : place_at due s (first slots) ≡ Ok place
-  goes : read_slots (suc k) (due_after place) slots ≡ Ok rest
-  whole : place ∷ rest ≡ code
+  read : occupant_at due s (first slots) ≡ Ok occupant
+  goes : read_slots (suc k) (due_after occupant) slots ≡ Ok rest
+  whole : occupant ∷ rest ≡ code
 
 splits : (k : ℕ) (due : Option Slot) (s : Slot) (slots : List Slot) (code : Code) → read_slots k due (s ∷ slots) ≡ Ok code → Splits k due s slots code
 unfolding read_slots
 splits k due s slots code e =
-    let p = bind_ok (placed k (place_at due s (first slots))) _ code e in
+    let p = bind_ok (at_slot k (occupant_at due s (first slots))) _ code e in
     let q = bind_ok (read_slots (suc k) (due_after p.0) slots) _ code p.2 in
-    record { place = p.0; rest = q.0; read = placed_ok k _ _ p.1; goes = q.1; whole = ok_is _ _ q.2 }
+    record { occupant = p.0; rest = q.0; read = placed_ok k _ _ p.1; goes = q.1; whole = ok_is _ _ q.2 }
 
--- a place without a second half due is an instruction that was read
+-- a occupant without a second half due is an instruction that was read
 record IsRead (s : Slot) (next : Option Slot) (p : Option Insn) : Type 0 where
   insn : Insn
   read : insn_at s next ≡ Ok insn
-  place : Some insn ≡ p
+  occupant : Some insn ≡ p
 
-place_reads : (s : Slot) (next : Option Slot) (p : Option Insn) → place_at None s next ≡ Ok p → IsRead s next p
-place_reads s next p e =
+occupant_reads : (s : Slot) (next : Option Slot) (p : Option Insn) → occupant_at None s next ≡ Ok p → IsRead s next p
+occupant_reads s next p e =
     let r = bind_ok (insn_at s next) _ p e in
-    record { insn = r.0; read = r.1; place = ok_is _ _ r.2 }
+    record { insn = r.0; read = r.1; occupant = ok_is _ _ r.2 }
 
 holds_read : (k : ℕ) (s : Slot) (slots : List Slot) (code : Code) (i : Insn) (p : Option Insn) (rest : Code)
     → Reads s (first slots) i → Some i ≡ p → read_slots (suc k) (due_after p) slots ≡ Ok rest → p ∷ rest ≡ code
-    → (HasRoom (second_slot i) slots → read_slots (suc k) (second_slot i) slots ≡ Ok rest → Holds (second_slot i) slots rest)
+    → (HasSecondHalf (second_slot i) slots → read_slots (suc k) (second_slot i) slots ≡ Ok rest → Holds (second_slot i) slots rest)
     → Holds None (s ∷ slots) code
-holds_read k s slots code i p rest reads place goes whole others =
-    let room : HasRoom (second_slot i) slots = room_behind (second_slot i) slots (rw (wide_is i) at reads.second) in
-    let goes_on : read_slots (suc k) (second_slot i) slots ≡ Ok rest = rw (← place) at goes in
-    let same : Some i ∷ rest ≡ code = rw place whole in
+holds_read k s slots code i p rest reads occupant goes whole others =
+    let room : HasSecondHalf (second_slot i) slots = second_half_behind (second_slot i) slots (rw (wide_is i) at reads.second) in
+    let goes_on : read_slots (suc k) (second_slot i) slots ≡ Ok rest = rw (← occupant) at goes in
+    let same : Some i ∷ rest ≡ code = rw occupant whole in
     subst (Holds None (s ∷ slots)) same (holds_insn s slots i rest reads.slot reads.insn (others room goes_on))
 
 holds_due : (k : ℕ) (due s : Slot) (slots : List Slot) (code : Code) (p : Option Insn) (rest : Code)
     → s ≡ due → p ≡ None → read_slots (suc k) (due_after p) slots ≡ Ok rest → p ∷ rest ≡ code
     → (read_slots (suc k) None slots ≡ Ok rest → Holds None slots rest)
     → Holds (Some due) (s ∷ slots) code
-holds_due k due s slots code p rest e place goes whole others =
-    let goes_on : read_slots (suc k) None slots ≡ Ok rest = rw place at goes in
-    let same : None ∷ rest ≡ code = rw (← place) whole in
+holds_due k due s slots code p rest e occupant goes whole others =
+    let goes_on : read_slots (suc k) None slots ≡ Ok rest = rw occupant at goes in
+    let same : None ∷ rest ≡ code = rw (← occupant) whole in
     subst (Holds (Some due) (s ∷ slots)) same (holds_half due s slots rest e (others goes_on))
 
 -- what is read from slots is spelled by them
-pub code_is_spelled : (k : ℕ) (due : Option Slot) (slots : List Slot) (code : Code) → AllByRecursion IsSlot slots → HasRoom due slots → read_slots k due slots ≡ Ok code → Holds due slots code
+pub code_is_spelled : (k : ℕ) (due : Option Slot) (slots : List Slot) (code : Code) → AllByRecursion IsSlot slots → HasSecondHalf due slots → read_slots k due slots ≡ Ok code → Holds due slots code
 unfolding read_slots
 code_is_spelled k None [] code fits room e =
     let same : [] ≡ code = ok_is _ _ e in
@@ -129,14 +129,14 @@ code_is_spelled k None [] code fits room e =
 code_is_spelled k (Some due) [] code fits room e = absurd (cc)
 code_is_spelled k None (s ∷ slots) code fits room e =
     let p = splits k None s slots code e in
-    let r = place_reads s (first slots) p.place p.read in
+    let r = occupant_reads s (first slots) p.occupant p.read in
     let reads = insn_is_spelled s (first slots) r.insn fits.0 (first_fits slots fits.1) r.read in
-    holds_read k s slots code r.insn p.place p.rest reads r.place p.goes p.whole
+    holds_read k s slots code r.insn p.occupant p.rest reads r.occupant p.goes p.whole
     (λ room goes. code_is_spelled (suc k) (second_slot r.insn) slots p.rest fits.1 room goes)
 code_is_spelled k (Some due) (s ∷ slots) code fits room e =
     let p = splits k (Some due) s slots code e in
-    let half = half_reads s due p.place p.read in
-    holds_due k due s slots code p.place p.rest half.0 half.1 p.goes p.whole
+    let half = half_reads s due p.occupant p.read in
+    holds_due k due s slots code p.occupant p.rest half.0 half.1 p.goes p.whole
     (λ goes. code_is_spelled (suc k) None slots p.rest fits.1 tt goes)
 
 -- ---- what is spelled
@@ -176,7 +176,7 @@ code_is_read k None (Some i ∷ code) h =
     rw (read, code_is_read (suc k) (second_slot i) code rest) refl
 code_is_read k (Some due) (Some i ∷ code) h = absurd h
 
--- a program has as many slots as places
+-- a program has as many slots as occupants
 pub length-code_slots : (due : Option Slot) (code : Code) → IsCode (is_some due) code → length (option_to_list due ++ code_slots code) ≡ length code
 length-code_slots None [] h = refl
 length-code_slots (Some due) [] h = absurd h
@@ -187,20 +187,20 @@ length-code_slots None (Some i ∷ code) h =
     ap suc (length-code_slots (second_slot i) code rest)
 length-code_slots (Some due) (Some i ∷ code) h = absurd h
 
--- ---- a program's places, one by one
+-- ---- a program's occupants, one by one
 
 -- each instruction of a program fits its fields
-pub place_fits : (b : Bool) (code : Code) (k : ℕ) → IsCode b code → ForSome (get_or code k None) IsInsn
-place_fits b [] k h = λ i e. absurd (cc)
-place_fits true (None ∷ code) zero h = λ i e. absurd (cc)
-place_fits true (None ∷ code) (suc k) h = place_fits false code k h
-place_fits false (None ∷ code) k h = absurd h
-place_fits false (Some i ∷ code) zero h = λ j e. let same : i ≡ j = cc in subst IsInsn same h.0
-place_fits false (Some i ∷ code) (suc k) h = place_fits (is_wide i) code k h.1
-place_fits true (Some i ∷ code) k h = absurd h
+pub occupant_fits : (b : Bool) (code : Code) (k : ℕ) → IsCode b code → ForSome (get_or code k None) IsInsn
+occupant_fits b [] k h = λ i e. absurd (cc)
+occupant_fits true (None ∷ code) zero h = λ i e. absurd (cc)
+occupant_fits true (None ∷ code) (suc k) h = occupant_fits false code k h
+occupant_fits false (None ∷ code) k h = absurd h
+occupant_fits false (Some i ∷ code) zero h = λ j e. let same : i ≡ j = cc in subst IsInsn same h.0
+occupant_fits false (Some i ∷ code) (suc k) h = occupant_fits (is_wide i) code k h.1
+occupant_fits true (Some i ∷ code) k h = absurd h
 
--- what was written, with the bytes of one more place
+-- what was written, with the bytes of one more occupant
 pub spelling_more : (code : Code) (k : ℕ) → k < length code
-    → spelling (take (k + 1) code) ≡ spelling (take k code) ++ flat_map slot_bytes (place_slots (get_or code k None))
+    → spelling (take (k + 1) code) ≡ spelling (take k code) ++ flat_map slot_bytes (occupant_slots (get_or code k None))
 spelling_more code k h =
     rw (take_more code k None h) (simp (flat_map-append, append-nil))

@@ -17,7 +17,7 @@ use Rattle.scx_isa.specs.declared.program.TheConstants.{MAX_SLOTS}
 use Rattle.scx_semantics.specs.Results.{◌>>=◌}
 use Rattle.scx_encoding.specs.Reading.{insn_at}
 use Rattle.scx_isa.specs.Reading.{Gives, first, read_slots, read_program}
-use Rattle.scx_isa.specs.FirstFault.{IsRest, FailsAtInsn, FailsInHalf, IsFirstFault, No_byte, Cut_slot, Too_long, At_insn, In_half, IsRefusal}
+use Rattle.scx_isa.specs.FirstFault.{IsRest, FailsAtInsn, FailsInHalf, IsFirstFault, NoByte, CutSlot, PastLimit, AtInsn, InHalf, IsRefusal}
 use Rattle.scx_encoding.proofs.Bytes.{IsBytes, slots_fit}
 use Rattle.scx_encoding.proofs.Insns.{insn_is_spelled, insn_is_read, is_same, same_is}
 use Rattle.scx_isa.proofs.Codes.{wide_is, follows_first}
@@ -76,8 +76,8 @@ fails_half k due s slots fault j e = go (same_slot s due) refl
 
 -- the first fault of the slots from the k-th on, of which the first begins an instruction
 data FailsFrom (k : ℕ) (slots : List Slot) (fault : DecodeFault) (j : ℕ) : Type 0 where
-  From_insn : (n : ℕ) → j ≡ k + n → FailsAtInsn slots fault n → FailsFrom k slots fault j
-  From_half : (n : ℕ) → j ≡ suc (k + n) → UnusedField ≡ fault → FailsInHalf slots n → FailsFrom k slots fault j
+  FromInsn : (n : ℕ) → j ≡ k + n → FailsAtInsn slots fault n → FailsFrom k slots fault j
+  FromHalf : (n : ℕ) → j ≡ suc (k + n) → UnusedField ≡ fault → FailsInHalf slots n → FailsFrom k slots fault j
 
 -- slots with others in front of them, which spell whole instructions
 abbrev Prepends : ℕ → List Slot → List Slot → Type 0
@@ -100,10 +100,10 @@ prepends_two s t i slots e h wide k rest r = record {
 }
 
 fails_behind : (m k from : ℕ) (slots longer : List Slot) (fault : DecodeFault) (j : ℕ) → from ≡ m + k → Prepends m slots longer → FailsFrom from slots fault j → FailsFrom k longer fault j
-fails_behind m k from slots longer fault j c more (From_insn n e f) =
-    From_insn (m + n) (omega arith) (record { slot = f.slot; behind = f.behind; rest = more n _ f.rest; fails = f.fails })
-fails_behind m k from slots longer fault j c more (From_half n e d f) =
-    From_half (m + n) (omega arith) d (record {
+fails_behind m k from slots longer fault j c more (FromInsn n e f) =
+    FromInsn (m + n) (omega arith) (record { slot = f.slot; behind = f.behind; rest = more n _ f.rest; fails = f.fails })
+fails_behind m k from slots longer fault j c more (FromHalf n e d f) =
+    FromHalf (m + n) (omega arith) d (record {
       slot = f.slot;
       half = f.half;
       behind = f.behind;
@@ -119,7 +119,7 @@ starts : (slots : List Slot) → IsRest slots 0 slots
 starts slots = record { front = []; insns = tt; split = refl; number = refl }
 
 fails_here : (k : ℕ) (s : Slot) (slots : List Slot) (fault : DecodeFault) (j : ℕ) → insn_at s (first slots) ≡ Err fault → j ≡ k → FailsFrom k (s ∷ slots) fault j
-fails_here k s slots fault j e same = From_insn 0 (omega arith) (record { slot = s; behind = slots; rest = starts (s ∷ slots); fails = e })
+fails_here k s slots fault j e same = FromInsn 0 (omega arith) (record { slot = s; behind = slots; rest = starts (s ∷ slots); fails = e })
 
 -- what reading fails by behind an instruction is the first fault there
 fails_on : (k : ℕ) (s t : Slot) (slots : List Slot) (fault : DecodeFault) (j : ℕ) (i : Insn) → s ≡ first_slot i → IsInsn i → insn_at s (Some t) ≡ Ok i
@@ -132,7 +132,7 @@ fails_on k s t slots fault j i e h begins fails one two = go (second_slot i) ref
     go : (o : Option Slot) → second_slot i ≡ o → FailsFrom k (s ∷ t ∷ slots) fault j
     go None narrow = fails_behind 1 k (suc k) (t ∷ slots) (s ∷ t ∷ slots) fault j (omega arith) (prepends_one s i (t ∷ slots) e h narrow) (one (rw narrow at fails))
     go (Some due) wide = elim (fails_half (suc k) due t slots fault j (rw wide at fails)) [
-      | In other d same ↦ From_half 0 (omega arith) d (record { slot = s; half = t; behind = slots; rest = starts _; insn = i; begins = begins; due = due; wide = wide; fails = other })
+      | In other d same ↦ FromHalf 0 (omega arith) d (record { slot = s; half = t; behind = slots; rest = starts _; insn = i; begins = begins; due = due; wide = wide; fails = other })
       | Past same rest ↦ fails_behind 2 k (suc (suc k)) slots (s ∷ t ∷ slots) fault j (omega arith) (prepends_two s t i slots e h (wide ∙ ap (λ d. Some d) (sym same))) (two rest)
     ]
 
@@ -207,23 +207,23 @@ at_fault bytes e fault k slot h same =
     subst (IsFirstFault bytes fault) p.1 (subst (λ d. IsFirstFault bytes d k) p.0 h)
 
 slots_fail : (bytes : List ℕ) (fault : DecodeFault) (slot : ℕ) → HasProgramLength bytes → FailsFrom 0 (slots_in (length bytes / 8) bytes) fault slot → IsFirstFault bytes fault slot
-slots_fail bytes fault slot long (From_insn n e f) =
+slots_fail bytes fault slot long (FromInsn n e f) =
     let same : n ≡ slot = omega arith in
-    subst (IsFirstFault bytes fault) same (At_insn fault n long f)
-slots_fail bytes fault slot long (From_half n e d f) =
+    subst (IsFirstFault bytes fault) same (AtInsn fault n long f)
+slots_fail bytes fault slot long (FromHalf n e d f) =
     let same : suc n ≡ slot = omega arith in
-    subst (IsFirstFault bytes fault) same (subst (λ d. IsFirstFault bytes d (suc n)) d (In_half n long f))
+    subst (IsFirstFault bytes fault) same (subst (λ d. IsFirstFault bytes d (suc n)) d (InHalf n long f))
 
 -- the fault that reading gives is the first
 pub fault_is_first : (bytes : List ℕ) (fault : DecodeFault) (slot : ℕ) → IsBytes bytes → read_program bytes ≡ Err (fault, slot) → IsFirstFault bytes fault slot
 fault_is_first bytes fault slot fits e = go (nat_eq (length bytes) 0) (nat_lt 0 (length bytes % 8)) (nat_lt MAX_SLOTS (length bytes / 8)) refl refl refl
   where
     go : (a b c : Bool) → nat_eq (length bytes) 0 ≡ a → nat_lt 0 (length bytes % 8) ≡ b → nat_lt MAX_SLOTS (length bytes / 8) ≡ c → IsFirstFault bytes fault slot
-    go true b c x y z = at_fault bytes Empty fault 0 slot (No_byte (eqb-true _ _ x)) (rw x at e)
-    go false true c x y z = at_fault bytes NotWholeSlots fault (length bytes / 8) slot (Cut_slot (ltb-true _ _ y)) (rw (x, y) at e)
+    go true b c x y z = at_fault bytes Empty fault 0 slot (NoByte (eqb-true _ _ x)) (rw x at e)
+    go false true c x y z = at_fault bytes NotWholeSlots fault (length bytes / 8) slot (CutSlot (ltb-true _ _ y)) (rw (x, y) at e)
     go false false true x y z =
         let whole : length bytes % 8 ≡ 0 = omega (arith, ltb-false _ _ y) in
-        at_fault bytes TooLong fault MAX_SLOTS slot (Too_long whole (ltb-true _ _ z)) (rw (x, y, z) at e)
+        at_fault bytes TooLong fault MAX_SLOTS slot (PastLimit whole (ltb-true _ _ z)) (rw (x, y, z) at e)
     go false false false x y z =
         let nonzero = eqb-false _ _ x in
         let read : read_slots 0 None (slots_in (length bytes / 8) bytes) ≡ Err (fault, slot) = rw (x, y, z) at e in
@@ -232,15 +232,15 @@ fault_is_first bytes fault slot fits e = go (nat_eq (length bytes) 0) (nat_lt 0 
 
 -- the first fault is the one that reading gives
 pub first_fault_is_read : (bytes : List ℕ) (fault : DecodeFault) (slot : ℕ) → IsFirstFault bytes fault slot → read_program bytes ≡ Err (fault, slot)
-first_fault_is_read bytes fault slot (No_byte none) = rw none refl
-first_fault_is_read bytes fault slot (Cut_slot cut) =
+first_fault_is_read bytes fault slot (NoByte none) = rw none refl
+first_fault_is_read bytes fault slot (CutSlot cut) =
     let nonzero : nat_eq (length bytes) 0 ≡ false = ne_eqb _ _ (omega arith) in
     rw (nonzero, lt-ltb _ _ cut) refl
-first_fault_is_read bytes fault slot (Too_long whole many) =
+first_fault_is_read bytes fault slot (PastLimit whole many) =
     let nonzero : nat_eq (length bytes) 0 ≡ false = ne_eqb _ _ (omega arith) in
     rw (nonzero, whole, lt-ltb _ _ many) refl
-first_fault_is_read bytes fault slot (At_insn _ _ long f) = slots_are_read bytes long ∙ insn_fails _ fault slot f
-first_fault_is_read bytes fault slot (In_half k long f) = slots_are_read bytes long ∙ half_fails _ k f
+first_fault_is_read bytes fault slot (AtInsn _ _ long f) = slots_are_read bytes long ∙ insn_fails _ fault slot f
+first_fault_is_read bytes fault slot (InHalf k long f) = slots_are_read bytes long ∙ half_fails _ k f
 
 -- so there is at most one
 pub one_first_fault : (bytes : List ℕ) (fault other : DecodeFault) (slot place : ℕ) → IsFirstFault bytes fault slot → IsFirstFault bytes other place → (fault ≡ other) × (slot ≡ place)

@@ -9,8 +9,8 @@ use Rattle.scx_isa.specs.declared.faults.DecodeError.TheVariants as errors
 use Rattle.scx_semantics.specs.Code.{Code}
 use Rattle.scx_encoding.specs.Slots.{slot_at, slots_in, front_slot}
 use Rattle.scx_semantics.specs.Results.{◌>>=◌}
-use Rattle.scx_encoding.specs.Reading.{place_at, due_after}
-use Rattle.scx_isa.specs.Reading.{Fails, first, placed, read_slots}
+use Rattle.scx_encoding.specs.Reading.{occupant_at, due_after}
+use Rattle.scx_isa.specs.Reading.{Fails, first, at_slot, read_slots}
 
 -- what was read before, and what is still read
 abbrev pub with_front : Code → Result Code (DecodeFault × ℕ) → Result Code (DecodeFault × ℕ)
@@ -35,7 +35,7 @@ front_is (suc n) bytes e =
     rw long refl
 
 step_of : (k : ℕ) (due : Option Slot) (n : ℕ) (rest : List ℕ) (p : Option Insn) → length rest ≡ 8 * suc n
-    → placed k (place_at due (slot_at rest) (front_slot (drop 8 rest))) ≡ Ok p
+    → at_slot k (occupant_at due (slot_at rest) (front_slot (drop 8 rest))) ≡ Ok p
     → read_slots k due (slots_in (suc n) rest) ≡ (read_slots (suc k) (due_after p) (slots_in n (drop 8 rest)) >>= λ code. Ok (p ∷ code))
 unfolding read_slots
 step_of k due n rest p e h =
@@ -44,7 +44,7 @@ step_of k due n rest p e h =
 
 -- one slot more is read
 pub goes_on : (front : Code) (slots k : ℕ) (due : Option Slot) (rest : List ℕ) (p : Option Insn) (total : Result Code (DecodeFault × ℕ)) → k < slots → length rest ≡ 8 * (slots - k)
-    → placed k (place_at due (slot_at rest) (front_slot (drop 8 rest))) ≡ Ok p
+    → at_slot k (occupant_at due (slot_at rest) (front_slot (drop 8 rest))) ≡ Ok p
     → with_front front (rest_of slots k due rest) ≡ total
     → with_front (front ++ p ∷ []) (rest_of slots (k + 1) (due_after p) (drop 8 rest)) ≡ total
 goes_on front slots k due rest p total lt e h so_far =
@@ -58,7 +58,7 @@ goes_on front slots k due rest p total lt e h so_far =
     next ∙ so_far
 
 fails_of : (k : ℕ) (due : Option Slot) (n : ℕ) (rest : List ℕ) (e : DecodeFault × ℕ) → length rest ≡ 8 * suc n
-    → placed k (place_at due (slot_at rest) (front_slot (drop 8 rest))) ≡ Err e
+    → at_slot k (occupant_at due (slot_at rest) (front_slot (drop 8 rest))) ≡ Err e
     → read_slots k due (slots_in (suc n) rest) ≡ Err e
 unfolding read_slots
 fails_of k due n rest e l h =
@@ -67,7 +67,7 @@ fails_of k due n rest e l h =
 
 -- a slot that is refused ends the reading
 pub ends : (error : DecodeError) (front : Code) (slots k : ℕ) (due : Option Slot) (rest : List ℕ) (total : Result Code (DecodeFault × ℕ)) → k < slots → length rest ≡ 8 * (slots - k)
-    → Fails error (placed k (place_at due (slot_at rest) (front_slot (drop 8 rest))))
+    → Fails error (at_slot k (occupant_at due (slot_at rest) (front_slot (drop 8 rest))))
     → with_front front (rest_of slots k due rest) ≡ total
     → Fails error total
 ends (errors.Refused fault slot) front slots k due rest total lt e h so_far =

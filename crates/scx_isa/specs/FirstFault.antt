@@ -44,11 +44,11 @@ pub record FailsInHalf (slots : List Slot) (k : ℕ) : Type 0 where
 
 -- what is wrong with the bytes first, and where
 pub data IsFirstFault (bytes : List ℕ) : DecodeFault → ℕ → Type 0 where
-  No_byte : length bytes ≡ 0 → IsFirstFault bytes Empty 0
-  Cut_slot : 0 < length bytes % 8 → IsFirstFault bytes NotWholeSlots (length bytes / 8)
-  Too_long : length bytes % 8 ≡ 0 → MAX_SLOTS < length bytes / 8 → IsFirstFault bytes TooLong MAX_SLOTS
-  At_insn : (fault : DecodeFault) (k : ℕ) → HasProgramLength bytes → FailsAtInsn (slots_in (length bytes / 8) bytes) fault k → IsFirstFault bytes fault k
-  In_half : (k : ℕ) → HasProgramLength bytes → FailsInHalf (slots_in (length bytes / 8) bytes) k → IsFirstFault bytes UnusedField (suc k)
+  NoByte : length bytes ≡ 0 → IsFirstFault bytes Empty 0
+  CutSlot : 0 < length bytes % 8 → IsFirstFault bytes NotWholeSlots (length bytes / 8)
+  PastLimit : length bytes % 8 ≡ 0 → MAX_SLOTS < length bytes / 8 → IsFirstFault bytes TooLong MAX_SLOTS
+  AtInsn : (fault : DecodeFault) (k : ℕ) → HasProgramLength bytes → FailsAtInsn (slots_in (length bytes / 8) bytes) fault k → IsFirstFault bytes fault k
+  InHalf : (k : ℕ) → HasProgramLength bytes → FailsInHalf (slots_in (length bytes / 8) bytes) k → IsFirstFault bytes UnusedField (suc k)
 
 -- what a refusal says of the bytes; memory is asked for only where they have a program's length
 abbrev pub IsRefusal : List ℕ → DecodeError → Type 0

@@ -32,7 +32,7 @@ first_fault (Some f) g = Some f
 
 -- the first fault of an instruction that has that slot behind it
 abbrev pub insn_fault : Code → ℕ → Insn → Option FlowFault
-insn_fault code s (JumpIf w c r offset x) = first_fault (jump_fault code s offset) (end_fault code s)
+insn_fault code s (JumpIf w c r x offset) = first_fault (jump_fault code s offset) (end_fault code s)
 insn_fault code s (Goto offset) = jump_fault code s offset
 insn_fault code s (GotoLong offset) = jump_fault code s offset
 insn_fault code s Exit = None
@@ -43,9 +43,9 @@ abbrev pub flow_fault : Code → ℕ → Insn → Option FlowFault
 flow_fault code s i = insn_fault code (s + size i) i
 
 -- the same for what stands at a slot
-abbrev pub place_fault : Code → ℕ → Option Insn → Option FlowFault
-place_fault code s None = None
-place_fault code s (Some i) = flow_fault code s i
+abbrev pub occupant_fault : Code → ℕ → Option Insn → Option FlowFault
+occupant_fault code s None = None
+occupant_fault code s (Some i) = flow_fault code s i
 
 -- no instruction has a fault
 abbrev pub Flows : Code → Type 0

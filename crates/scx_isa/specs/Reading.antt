@@ -8,14 +8,14 @@ use Rattle.scx_isa.specs.declared.faults.DecodeError.{DecodeError}
 use Rattle.scx_isa.specs.declared.faults.DecodeError.TheVariants as errors
 use Rattle.scx_encoding.specs.Slots.{slots_in}
 use Rattle.scx_semantics.specs.Results.{◌>>=◌}
-use Rattle.scx_encoding.specs.Reading.{place_at, due_after}
+use Rattle.scx_encoding.specs.Reading.{occupant_at, due_after}
 use Rattle.scx_semantics.specs.Code.{Code}
 use Rattle.scx_isa.specs.declared.program.TheConstants.{MAX_SLOTS}
 
 -- a fault, at a slot
-abbrev pub placed : {A : Type 0} → ℕ → Result A DecodeFault → Result A (DecodeFault × ℕ)
-placed k (Ok x) = Ok x
-placed k (Err e) = Err (e, k)
+abbrev pub at_slot : {A : Type 0} → ℕ → Result A DecodeFault → Result A (DecodeFault × ℕ)
+at_slot k (Ok x) = Ok x
+at_slot k (Err e) = Err (e, k)
 
 abbrev pub first : List Slot → Option Slot
 first [] = None
@@ -25,9 +25,9 @@ first (s ∷ slots) = Some s
 unfoldable pub read_slots : ℕ → Option Slot → List Slot → Result Code (DecodeFault × ℕ)
 read_slots k due [] = Ok []
 read_slots k due (s ∷ slots) = do
-  place ← placed k (place_at due s (first slots))
-  code ← read_slots (suc k) (due_after place) slots
-  Ok (place ∷ code)
+  occupant ← at_slot k (occupant_at due s (first slots))
+  code ← read_slots (suc k) (due_after occupant) slots
+  Ok (occupant ∷ code)
 
 abbrev pub read_program : List ℕ → Result Code (DecodeFault × ℕ)
 read_program bytes =

@@ -10,13 +10,13 @@ use Rattle.scx_semantics.specs.Code.{Code, is_wide}
 use Rattle.scx_isa.specs.declared.program.TheConstants.{MAX_SLOTS}
 
 -- a second half is spelled with its first
-abbrev pub place_slots : Option Insn → List Slot
-place_slots None = []
-place_slots (Some i) = insn_slots i
+abbrev pub occupant_slots : Option Insn → List Slot
+occupant_slots None = []
+occupant_slots (Some i) = insn_slots i
 
 -- the slots of a program are those of its instructions in order
 abbrev pub code_slots : Code → List Slot
-code_slots code = flat_map place_slots code
+code_slots code = flat_map occupant_slots code
 
 abbrev pub spelling : Code → List ℕ
 spelling code = flat_map slot_bytes (code_slots code)

@@ -3,27 +3,27 @@ ghost use Rattle.scx_encoding.specs.Slots.{slots_in, front_slot};
 ghost use Rattle.scx_semantics.specs.Code.{Code};
 ghost use Rattle.scx_isa.specs.Spelling.{Spells, HasProgramLength};
 ghost use Rattle.scx_isa.specs.FirstFault.{IsRefusal};
-ghost use Rattle.scx_encoding.specs.Reading.{place_at};
-ghost use Rattle.scx_isa.specs.Reading.{Gives, placed, read_slots, read_program};
+ghost use Rattle.scx_encoding.specs.Reading.{occupant_at};
+ghost use Rattle.scx_isa.specs.Reading.{Gives, at_slot, read_slots, read_program};
 
 use crate::faults::DecodeError;
 use crate::program::{MAX_SLOTS, Program};
-use scx_encoding::{DecodeFault, SLOT_BYTES, Slot, due_behind, place_of, slot_of};
+use scx_encoding::{DecodeFault, SLOT_BYTES, Slot, due_behind, occupant_of, slot_of};
 use scx_semantics::Insn;
 use std::alloc::Global;
 
 /// What stands at the slot numbered `number`, or its fault with that number.
-fn place_at_number(
+fn occupant_at_number(
     number: usize,
     due: Option<Slot>,
     slot: &Slot,
     behind: &[u8],
 ) -> Result<Option<Insn>, DecodeError>
-    ensures { Gives (λ place. place) result
-        (placed number (place_at due slot.now (front_slot behind.now))) }
+    ensures { Gives (λ occupant. occupant) result
+        (at_slot number (occupant_at due slot.now (front_slot behind.now))) }
 {
-    match place_of(due, slot, behind) {
-        Ok(place) => Ok(place),
+    match occupant_of(due, slot, behind) {
+        Ok(occupant) => Ok(occupant),
         Err(fault) => refused(fault, number),
     }
 }
@@ -40,9 +40,9 @@ fn read(alloc: Global, bytes: &[u8]) -> Result<Vec<Option<Insn>>, DecodeError>
     let mut due = None;
     for number in 0..slots {
         let (_, behind) = rest.split_at(SLOT_BYTES);
-        let place = place_at_number(number, due, &slot_of(rest), behind)?;
-        due = due_behind(&place);
-        code.push(place)?;
+        let occupant = occupant_at_number(number, due, &slot_of(rest), behind)?;
+        due = due_behind(&occupant);
+        code.push(occupant)?;
         rest = behind;
     }
     Ok(code)

@@ -3,7 +3,7 @@ ghost use Rattle.std.specs.List.{flat_map};
 ghost use Rattle.std.specs.Option.{ForSome};
 ghost use Rattle.scx_encoding.specs.Slots.{slot_bytes};
 ghost use Rattle.scx_encoding.specs.Spelling.{IsInsn};
-ghost use Rattle.scx_isa.specs.Spelling.{IsProgram, Spells, place_slots, spelling};
+ghost use Rattle.scx_isa.specs.Spelling.{IsProgram, Spells, occupant_slots, spelling};
 
 use crate::program::Program;
 use scx_encoding::{SLOT_BYTES, push_insn};
@@ -11,25 +11,25 @@ use scx_semantics::Insn;
 use std::alloc::{AllocError, Global};
 
 /// Writes the slots of what stands at a slot; a second half is written with its first.
-fn push_place(out: &mut Vec<u8>, place: &Option<Insn>) -> Result<(), AllocError>
-    requires { ForSome place.now IsInsn }
+fn push_occupant(out: &mut Vec<u8>, occupant: &Option<Insn>) -> Result<(), AllocError>
+    requires { ForSome occupant.now IsInsn }
     ensures { OnOk result
-        (out.new.items ≡ out.old.items ++ flat_map slot_bytes (place_slots place.now)) }
+        (out.new.items ≡ out.old.items ++ flat_map slot_bytes (occupant_slots occupant.now)) }
 {
-    match place {
+    match occupant {
         Some(insn) => push_insn(out, insn),
         None => Ok(()),
     }
 }
 
-/// The bytes of the places of a program.
-fn write(alloc: Global, places: &[Option<Insn>]) -> Result<Vec<u8>, AllocError>
-    requires { IsProgram places.now }
-    ensures { IfOk result (λ bytes. bytes.items ≡ spelling places.now) }
+/// The bytes of the occupants of a program.
+fn write(alloc: Global, occupants: &[Option<Insn>]) -> Result<Vec<u8>, AllocError>
+    requires { IsProgram occupants.now }
+    ensures { IfOk result (λ bytes. bytes.items ≡ spelling occupants.now) }
 {
-    let mut bytes = Vec::with_capacity(alloc, SLOT_BYTES * places.len())?;
-    for place in places {
-        push_place(&mut bytes, place)?;
+    let mut bytes = Vec::with_capacity(alloc, SLOT_BYTES * occupants.len())?;
+    for occupant in occupants {
+        push_occupant(&mut bytes, occupant)?;
     }
     Ok(bytes)
 }
@@ -39,5 +39,5 @@ fn write(alloc: Global, places: &[Option<Insn>]) -> Result<Vec<u8>, AllocError>
 pub fn encode(alloc: Global, program: &Program) -> Result<Vec<u8>, AllocError>
     ensures { IfOk result (λ bytes. Spells bytes.items program.now) }
 {
-    write(alloc, program.places())
+    write(alloc, program.occupants())
 }

@@ -1,7 +1,7 @@
 ghost use Rattle.std.specs.Prelude.{◌≡◌, ◌<◌, ◌≤◌, ◌≤ℤ◌, pos, Some, OnOk, IfErr};
 ghost use Rattle.scx_semantics.specs.Code.{at};
 ghost use Rattle.scx_semantics.specs.Steps.{distance, target};
-ghost use Rattle.scx_isa.specs.Flow.{jump_fault, end_fault, place_fault, Flows, IsFirstFlowFault, StaysInControl};
+ghost use Rattle.scx_isa.specs.Flow.{jump_fault, end_fault, occupant_fault, Flows, IsFirstFlowFault, StaysInControl};
 
 use crate::faults::{FlowError, FlowFault};
 use crate::program::{MAX_SLOTS, Program};
@@ -38,7 +38,10 @@ fn distance(insn: Insn) -> i32
     ensures { result ≡ distance insn }
 {
     match insn {
-        Insn::JumpIf(_, _, _, offset, _) => i32::from(offset),
+        Insn::JumpIf {
+            distance: offset,
+            ..
+        } => i32::from(offset),
         Insn::Goto(offset) => i32::from(offset),
         Insn::GotoLong(offset) => offset,
         _ => 0,
@@ -48,13 +51,16 @@ fn distance(insn: Insn) -> i32
 /// The fault of the instruction at a slot, if one begins there.
 fn fault_at(program: &Program, slot: usize) -> Option<FlowFault>
     requires { slot < MAX_SLOTS }
-    ensures { result ≡ place_fault program.now slot (at program.now slot) }
+    ensures { result ≡ occupant_fault program.now slot (at program.now slot) }
 {
     let insn = program.at(slot)?;
     let behind = slot + insn.size();
     match insn {
         // Where its target is in the program, there is an instruction behind it too.
-        Insn::JumpIf(_, _, _, offset, _) => fault_of_jump(program, behind, i32::from(offset)),
+        Insn::JumpIf {
+            distance: offset,
+            ..
+        } => fault_of_jump(program, behind, i32::from(offset)),
         Insn::Goto(offset) => fault_of_jump(program, behind, i32::from(offset)),
         Insn::GotoLong(offset) => fault_of_jump(program, behind, offset),
         Insn::Exit => None,

@@ -41,8 +41,8 @@ impl Program {
     }
 
     /// What stands at each slot.
-    pub(crate) fn places(&self) -> &[Option<Insn>]
-        ensures places { result.now ≡ self.now }
+    pub(crate) fn occupants(&self) -> &[Option<Insn>]
+        ensures occupants { result.now ≡ self.now }
         ensures program { IsProgram self.now }
     {
         &self.code
@@ -78,9 +78,12 @@ impl Program {
     }
 }
 
-/// How many places hold something.
-fn count<T: Drop>(places: &[Option<T>]) -> usize
-    ensures { result ≡ count_by is_some places.now }
+/// How many of these are instructions.
+fn count<T: Drop>(occupants: &[Option<T>]) -> usize
+    ensures { result ≡ count_by is_some occupants.now }
 {
-    places.iter().filter(|place| place.is_some()).count()
+    occupants
+        .iter()
+        .filter(|occupant| occupant.is_some())
+        .count()
 }

@@ -151,7 +151,7 @@ fn each_fault_has_its_path(rt: HostRuntime) -> Result<(), Fail> {
 }
 
 #[test]
-fn limits_of_maps(rt: HostRuntime) -> Result<(), Fail> {
+fn maps_are_limited(rt: HostRuntime) -> Result<(), Fail> {
     let map = "[[map]]\nentries = 65536\nvalue_size = 256\n";
     let fits = read(&rt, map);
     assert_eq!(rt; fits.defs().count(), 1);
@@ -183,7 +183,7 @@ fn limits_of_maps(rt: HostRuntime) -> Result<(), Fail> {
 }
 
 #[test]
-fn programs_that_are_none(rt: HostRuntime) -> Result<(), Fail> {
+fn programs_that_are_none_are_refused(rt: HostRuntime) -> Result<(), Fail> {
     let syntax = Cause::Asm {
         fault: AsmFault::Syntax,
         line: 2,
@@ -254,7 +254,7 @@ fn of_several_faults_the_first_is_named(rt: HostRuntime) -> Result<(), Fail> {
 }
 
 #[test]
-fn deep_and_long_files(rt: HostRuntime) -> Result<(), Fail> {
+fn deep_and_long_files_are_refused(rt: HostRuntime) -> Result<(), Fail> {
     let mut deep = String::new(rt.alloc());
     for _ in 0..100_000 {
         deep.push('[')?;

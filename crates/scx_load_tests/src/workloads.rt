@@ -28,7 +28,7 @@ fn expect_fault_in<R: AllocGlobal + Abort>(
 }
 
 #[test]
-fn a_workload(rt: HostRuntime) -> Result<(), Fail> {
+fn a_workload_is_read(rt: HostRuntime) -> Result<(), Fail> {
     let text = "cpus = 64
 ms = 1_000_000
 [[group]]
@@ -69,7 +69,7 @@ weight = 1
 }
 
 #[test]
-fn faults_of_numbers(rt: HostRuntime) -> Result<(), Fail> {
+fn faults_of_numbers_are_named(rt: HostRuntime) -> Result<(), Fail> {
     expect_fault_in(&rt, "", "", "cpus", Cause::Missing)?;
     expect_fault_in(&rt, "cpus = 65\nms = 1\n", "", "cpus", Cause::OutOfRange)?;
     expect_fault_in(&rt, "cpus = true\nms = 1\n", "", "cpus", Cause::WrongType)?;
@@ -107,7 +107,7 @@ fn unknown_keys_come_first(rt: HostRuntime) -> Result<(), Fail> {
 }
 
 #[test]
-fn faults_of_groups(rt: HostRuntime) -> Result<(), Fail> {
+fn faults_of_groups_are_named(rt: HostRuntime) -> Result<(), Fail> {
     let front = "cpus = 1\nms = 1\n";
     expect_fault(&rt, front, "group", Cause::Missing);
     expect_fault(
@@ -157,7 +157,7 @@ fn faults_of_groups(rt: HostRuntime) -> Result<(), Fail> {
 }
 
 #[test]
-fn faults_of_tasks_and_changes(rt: HostRuntime) -> Result<(), Fail> {
+fn faults_of_tasks_and_changes_are_named(rt: HostRuntime) -> Result<(), Fail> {
     let front = "cpus = 1\nms = 1\n";
     let text = format!(in rt.alloc(); "{front}{GROUP}")?;
     expect_fault(&rt, text.as_str(), "task", Cause::Missing);

@@ -6,9 +6,9 @@ use Rattle.scx_semantics.specs.Code.{instruction_count}
 use Rattle.scx_semantics.specs.Endings.{Ending, run_of}
 use Rattle.scx_semantics.specs.Runs.{Runs}
 use Rattle.scx_safety.specs.Programs.{VerifiedProgram}
-use Rattle.scx_vm.specs.declared.arguments.Argument.{Argument}
-use Rattle.scx_vm.specs.declared.arguments.Argument.TheVariants.{Unset, Number}
-use Rattle.scx_vm.specs.declared.arguments.Arguments.{Arguments}
+use Rattle.scx_vm.specs.declared.arguments.Arg.{Arg}
+use Rattle.scx_vm.specs.declared.arguments.Arg.TheVariants.{Unset, Num}
+use Rattle.scx_vm.specs.declared.arguments.Args.{Args}
 use Rattle.scx_vm.specs.Arguments.{given}
 use Rattle.scx_vm.specs.Host.{host, answer_to, after_query}
 use Rattle.scx_world.specs.World.{WorldState, begun, quiet}
@@ -17,7 +17,7 @@ use Rattle.scx_machine.specs.Policy.{PolicyState, program_of}
 use Rattle.scx_machine.specs.Steps.{State, CallMade, Stepped}
 
 -- the program is run with the world as its outside; one that is absent does nothing, and answers 0
-unfoldable pub called : Option VerifiedProgram → Callback → Arguments → Maps → WorldState → Ending WorldState
+unfoldable pub called : Option VerifiedProgram → Callback → Args → Maps → WorldState → Ending WorldState
 called None b a maps w = record { answer = Some 0; maps = maps; outside = w }
 called (Some p) b a maps w = run_of (answer_to world_functions) (after_query world_functions) b p.code (given a) maps w
 
@@ -26,12 +26,12 @@ abbrev pub ended : PolicyState → Ending WorldState → State
 ended p e = record { policy = p; maps = e.maps; world = quiet e.outside }
 
 -- a program that is absent isn't called
-abbrev pub calls_of : Option VerifiedProgram → Arguments → Maps → WorldState → List CallMade
+abbrev pub calls_of : Option VerifiedProgram → Args → Maps → WorldState → List CallMade
 calls_of None a maps w = []
 calls_of (Some p) a maps w = record { program = p; arguments = a; maps = maps; world = w } ∷ []
 
 -- a callback of the policy, with that task and processor at hand
-unfoldable pub call_back : State → Callback → Arguments → ℕ → ℕ → Stepped
+unfoldable pub call_back : State → Callback → Args → ℕ → ℕ → Stepped
 call_back s b a t c =
     let p = program_of s.policy b in
     let w = begun s.world b t c in
@@ -39,7 +39,7 @@ call_back s b a t c =
     record { state = ended s.policy e; notes = e.outside.notes; calls = calls_of p a s.maps w }
 
 -- what it answers, if it comes to an answer
-unfoldable pub answered_by : State → Callback → Arguments → ℕ → ℕ → Option ℕ
+unfoldable pub answered_by : State → Callback → Args → ℕ → ℕ → Option ℕ
 answered_by s b a t c = (called (program_of s.policy b) b a s.maps (begun s.world b t c)).answer
 
 -- a callback that is called is never stuck: it comes to an answer, in no more steps than its program has
@@ -59,24 +59,24 @@ AreAnswered (c ∷ cs) = IsAnswered c × AreAnswered cs
 
 -- ---- what callbacks are given
 
-abbrev pub no_arguments : Arguments
+abbrev pub no_arguments : Args
 no_arguments = record { first = Unset; second = Unset; third = Unset }
 
-abbrev pub one_task : ℕ → Arguments
+abbrev pub one_task : ℕ → Args
 one_task t = record { first = pointed t; second = Unset; third = Unset }
 
 -- a task, the processor on which it ran last, and 0
-abbrev pub task_cpu_and_0 : ℕ → ℕ → Arguments
-task_cpu_and_0 t c = record { first = pointed t; second = Number c; third = Number 0 }
+abbrev pub task_cpu_and_0 : ℕ → ℕ → Args
+task_cpu_and_0 t c = record { first = pointed t; second = Num c; third = Num 0 }
 
 -- a task and a number: the flags of enqueue, or whether the task stays runnable
-abbrev pub task_and_number : ℕ → ℕ → Arguments
-task_and_number t n = record { first = pointed t; second = Number n; third = Unset }
+abbrev pub task_and_number : ℕ → ℕ → Args
+task_and_number t n = record { first = pointed t; second = Num n; third = Unset }
 
-abbrev pub task_or_0 : Option ℕ → Argument
-task_or_0 None = Number 0
+abbrev pub task_or_0 : Option ℕ → Arg
+task_or_0 None = Num 0
 task_or_0 (Some t) = pointed t
 
 -- a processor, and the task before or 0
-abbrev pub cpu_and_task : ℕ → Option ℕ → Arguments
-cpu_and_task c p = record { first = Number c; second = task_or_0 p; third = Unset }
+abbrev pub cpu_and_task : ℕ → Option ℕ → Args
+cpu_and_task c p = record { first = Num c; second = task_or_0 p; third = Unset }

@@ -2,7 +2,7 @@
 use Rattle.std.specs.Prelude.{List, [], ◌++◌}
 use Rattle.scx_semantics.specs.Elements.{Maps}
 use Rattle.scx_safety.specs.Programs.{VerifiedProgram}
-use Rattle.scx_vm.specs.declared.arguments.Arguments.{Arguments}
+use Rattle.scx_vm.specs.declared.arguments.Args.{Args}
 use Rattle.scx_world.specs.declared.notes.Note.{Note}
 use Rattle.scx_world.specs.World.{WorldState}
 use Rattle.scx_machine.specs.Policy.{PolicyState}
@@ -15,7 +15,7 @@ pub record State : Type 0 where
 -- a callback that is called: its program, what it is given, and the maps and the world as it begins
 pub record CallMade : Type 0 where
   pub program : VerifiedProgram
-  pub arguments : Arguments
+  pub arguments : Args
   pub maps : Maps
   pub world : WorldState
 

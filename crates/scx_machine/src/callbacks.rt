@@ -18,7 +18,7 @@ use scx_isa::Callback;
 use scx_maps::Maps;
 use scx_run::{Core, run_on};
 use scx_verify::Verified;
-use scx_vm::{Argument, Arguments};
+use scx_vm::{Arg, Args};
 use scx_world::World;
 
 /// Runs a callback of the policy, and answers what its program does. One that is absent answers 0.
@@ -27,7 +27,7 @@ pub(crate) fn run_callback(
     core: &mut Core,
     policy: &Policy,
     callback: Callback,
-    arguments: Arguments,
+    arguments: Args,
     maps: &mut Maps,
     world: &mut World,
 ) -> u64
@@ -52,7 +52,7 @@ pub(crate) fn run_callback(
 fn run_program(
     core: &mut Core,
     program: &Verified,
-    arguments: Arguments,
+    arguments: Args,
     maps: &mut Maps,
     world: &mut World,
 ) -> u64
@@ -90,61 +90,61 @@ fn flush<S: Sink>(world: &mut World, sink: &mut S)
 }
 
 /// A task, for a callback that takes no more.
-pub(crate) fn one_task(task: u16) -> Arguments
+pub(crate) fn one_task(task: u16) -> Args
     ensures task { result ≡ one_task task }
     ensures enable { FitsCallback Enable (given result) }
     ensures running { FitsCallback Running (given result) }
 {
-    Arguments {
+    Args {
         first: World::pointer(task),
-        second: Argument::Unset,
-        third: Argument::Unset,
+        second: Arg::Unset,
+        third: Arg::Unset,
     }
 }
 
 /// A task, the processor on which it ran last, and 0.
-pub(crate) fn task_cpu_and_0(task: u16, cpu: u32) -> Arguments
+pub(crate) fn task_cpu_and_0(task: u16, cpu: u32) -> Args
     ensures all { result ≡ task_cpu_and_0 task cpu }
     ensures select_cpu { FitsCallback SelectCpu (given result) }
 {
-    Arguments {
+    Args {
         first: World::pointer(task),
-        second: Argument::Number(u64::from(cpu)),
-        third: Argument::Number(0),
+        second: Arg::Num(u64::from(cpu)),
+        third: Arg::Num(0),
     }
 }
 
 /// A task and a number.
-pub(crate) fn task_and_number(task: u16, number: u64) -> Arguments
+pub(crate) fn task_and_number(task: u16, number: u64) -> Args
     ensures both { result ≡ task_and_number task number }
     ensures enqueue { FitsCallback Enqueue (given result) }
     ensures stopping { FitsCallback Stopping (given result) }
 {
-    Arguments {
+    Args {
         first: World::pointer(task),
-        second: Argument::Number(number),
-        third: Argument::Unset,
+        second: Arg::Num(number),
+        third: Arg::Unset,
     }
 }
 
-fn task_or_0(task: Option<u16>) -> Argument
+fn task_or_0(task: Option<u16>) -> Arg
     ensures { result ≡ task_or_0 task }
 {
     match task {
         Some(task) => World::pointer(task),
-        None => Argument::Number(0),
+        None => Arg::Num(0),
     }
 }
 
 /// A processor, and the task before or 0.
-pub(crate) fn cpu_and_task(cpu: u32, before: Option<u16>) -> Arguments
+pub(crate) fn cpu_and_task(cpu: u32, before: Option<u16>) -> Args
     ensures both { result ≡ cpu_and_task cpu before }
     ensures dispatch { FitsCallback Dispatch (given result) }
 {
-    Arguments {
-        first: Argument::Number(u64::from(cpu)),
+    Args {
+        first: Arg::Num(u64::from(cpu)),
         second: task_or_0(before),
-        third: Argument::Unset,
+        third: Arg::Unset,
     }
 }
 
@@ -155,7 +155,7 @@ impl Machine {
     pub(crate) fn call_back<S: Sink>(
         &mut self,
         callback: Callback,
-        arguments: Arguments,
+        arguments: Args,
         task: u16,
         cpu: u32,
         sink: &mut S,

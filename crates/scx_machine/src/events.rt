@@ -125,7 +125,7 @@ impl Machine {
 
     /// Applies what select_cpu inserted, or puts the task.
     #[tactic(auto, using(crate::proofs::Taking::takings))]
-    fn place<S: Sink>(&mut self, task: u16, cpu: u32, sink: &mut S)
+    fn apply_or_put<S: Sink>(&mut self, task: u16, cpu: u32, sink: &mut S)
         requires few { self.old.world.queues.pushes + 4097 ≤ 2 ^ 63 }
         ensures state { self.new ≡ (settled self.old.world.call.insert self.old task cpu).state }
         ensures few { self.new.world.queues.pushes ≤ self.old.world.queues.pushes + 4097 }
@@ -149,7 +149,7 @@ impl Machine {
         ensures notes { Takes S.takes sink.old (settle self.old task cpu).notes sink.new }
         ensures answered { AreAnswered (settle self.old task cpu).calls }
     {
-        self.place(task, cpu, sink);
+        self.apply_or_put(task, cpu, sink);
         if self.world.is_idle(cpu) {
             self.cycle(cpu, None, false, sink);
         }

@@ -11,7 +11,7 @@ use crate::policy::Policy;
 use scx_isa::Callback;
 use scx_maps::Maps;
 use scx_run::Core;
-use scx_vm::Arguments;
+use scx_vm::Args;
 use scx_weights::Tree;
 use scx_world::World;
 use std::alloc::{AllocError, Global};
@@ -109,7 +109,7 @@ impl Machine {
             &mut self.core,
             &self.policy,
             Callback::Init,
-            Arguments::NONE,
+            Args::NONE,
             &mut self.maps,
             &mut self.world,
         );

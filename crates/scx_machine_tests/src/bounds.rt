@@ -87,7 +87,7 @@ fn tick_twice(rt: &impl Abort, session: &mut Session) {
 }
 
 #[test]
-fn as_much_as_there_may_be(rt: HostRuntime) -> Result<(), Fail> {
+fn a_machine_may_be_as_large_as_its_limits(rt: HostRuntime) -> Result<(), Fail> {
     let mut session = largest(&rt)?;
     wake_all(&rt, &mut session);
     // A slice of 2 ms is over with the second tick of a processor.
@@ -160,7 +160,7 @@ const INSERTS: [(&str, &str, bool); 11] = [
 ];
 
 #[test]
-fn inserts(rt: HostRuntime) -> Result<(), Fail> {
+fn each_insert_is_judged(rt: HostRuntime) -> Result<(), Fail> {
     for &(queue, flags, held) in &INSERTS {
         let enqueue = inserting(rt.alloc(), queue, flags)?;
         assert_eq!(rt; is_held(&rt, enqueue.as_str()), held, "{queue} {flags}");
@@ -211,7 +211,7 @@ const OTHER_QUEUES: [&str; 8] = [
 ];
 
 #[test]
-fn moves(rt: HostRuntime) -> Result<(), Fail> {
+fn each_move_is_judged(rt: HostRuntime) -> Result<(), Fail> {
     expect_move(&rt, SHORT_SLICES, "0", Place::Cpu(0))?;
     for queue in &OTHER_QUEUES {
         expect_move(&rt, SHORT_SLICES, queue, Place::Policy(0))?;
@@ -246,7 +246,7 @@ fn wake_and_tick(rt: &impl Abort, session: &mut Session) {
 }
 
 #[test]
-fn callbacks_that_do_nothing(rt: HostRuntime) {
+fn callbacks_may_do_nothing(rt: HostRuntime) {
     let mut session = Session::of(&rt, idle_policy(&rt), tree(&rt, &[0, 0]), 2, 100);
     wake_and_tick(&rt, &mut session);
     session.are_at(&rt, &[(0, Place::Held)]);

@@ -16,7 +16,7 @@ fn expect_timeout(rt: &impl Abort, timeout_ms: u32, wanted: Option<BadPolicy>) {
 }
 
 #[test]
-fn policies_of_bad_timeouts(rt: HostRuntime) {
+fn bad_timeouts_are_refused(rt: HostRuntime) {
     expect_timeout(&rt, 0, Some(BadPolicy::BadTimeout));
     expect_timeout(&rt, 30_001, Some(BadPolicy::BadTimeout));
     expect_timeout(&rt, 1, None);
@@ -24,7 +24,7 @@ fn policies_of_bad_timeouts(rt: HostRuntime) {
 }
 
 #[test]
-fn a_program_of_another_callback(rt: HostRuntime) {
+fn a_program_of_another_callback_is_refused(rt: HostRuntime) {
     let misplaced = Callbacks {
         stopping: Some(program(&rt, Callback::Enqueue, SHORT_SLICES)),
         ..NONE
@@ -34,7 +34,7 @@ fn a_program_of_another_callback(rt: HostRuntime) {
 }
 
 #[test]
-fn a_program_of_other_maps(rt: HostRuntime) {
+fn a_program_of_other_maps_is_refused(rt: HostRuntime) {
     let callbacks = callbacks(&rt, &[(Callback::Enqueue, SHORT_SLICES)]);
     let others = MapDefs::new(&[]).expect(&rt, "no map at all is fine");
     let found = Policy::new(others, 1, callbacks).err();
@@ -56,14 +56,14 @@ fn expect_cpus<R: AllocGlobal + Abort>(rt: &R, cpus: u32, wanted: Option<NewErro
 }
 
 #[test]
-fn numbers_of_processors(rt: HostRuntime) {
+fn processors_are_limited(rt: HostRuntime) {
     expect_cpus(&rt, 0, Some(NewError::BadShape));
     expect_cpus(&rt, 65, Some(NewError::BadShape));
     expect_cpus(&rt, 64, None);
 }
 
 #[test]
-fn a_tree_with_an_active_task(rt: HostRuntime) {
+fn a_tree_with_an_active_task_is_refused(rt: HostRuntime) {
     let mut active = tree(&rt, &[0]);
     let known = active.tasks() > 0;
     assert!(rt; known);
@@ -78,7 +78,7 @@ fn expect_init<R: AllocGlobal + Abort>(rt: &R, text: &str, wanted: Option<NewErr
 }
 
 #[test]
-fn inits(rt: HostRuntime) {
+fn an_answer_of_init_is_refused(rt: HostRuntime) {
     expect_init(&rt, "r0 = 0\nexit", None);
     expect_init(&rt, "r0 = 7\nexit", Some(NewError::InitFailed(7)));
     expect_init(&rt, "r0 = -1\nexit", Some(NewError::InitFailed(-1)));
@@ -87,7 +87,7 @@ fn inits(rt: HostRuntime) {
 }
 
 #[test]
-fn a_fault_in_enable(rt: HostRuntime) {
+fn a_fault_in_enable_is_refused(rt: HostRuntime) {
     let text = "r1 = 9\ncall 1008\nexit";
     let bad = bad_machine(&rt, &[(Callback::Enable, text)], tree(&rt, &[0]), 1);
     assert_eq!(rt; bad, Some(NewError::InitFailed(-22)));
@@ -108,7 +108,7 @@ fn refuse_events(rt: &impl Abort, session: &mut Session) {
 }
 
 #[test]
-fn events(rt: HostRuntime) {
+fn events_are_refused(rt: HostRuntime) {
     let mut session = Session::of(&rt, two_milliseconds(&rt), tree(&rt, &[0, 0]), 1, 100);
     refuse_events(&rt, &mut session);
     session.run(&rt, &[Event::SetWeight(0, 10_000)]);

@@ -6,7 +6,7 @@ use Rattle.std.proofs.lemmas.List.Sums.{sum_by-le, sum_by_more_le}
 use Rattle.scx_maps.specs.declared.shape.Shape.{Shape}
 use Rattle.scx_maps.specs.declared.defs.TheConstants.{MAX_MAPS}
 use Rattle.scx_maps.specs.Limits.{IsWithinLimits, byte_count, total_bytes}
-use Rattle.scx_maps.specs.Places.{empty_place}
+use Rattle.scx_maps.specs.Unused.{unused_shape}
 
 -- of one map
 pub byte_count-le : (s : Shape) → IsWithinLimits s → byte_count s ≤ 268435456
@@ -20,8 +20,8 @@ total_bytes-le shapes count each =
 
 -- so the bytes so far and those of the next map fit
 pub more_fits : (shapes : List Shape) (m bytes more : ℕ) → length shapes ≤ MAX_MAPS → All IsWithinLimits shapes → m < length shapes → bytes ≡ total_bytes (take m shapes)
-    → more ≡ byte_count (get_or shapes m empty_place) → bytes + more < 18446744073709551616
+    → more ≡ byte_count (get_or shapes m unused_shape) → bytes + more < 18446744073709551616
 more_fits shapes m bytes more count each below so_far next =
-    let part = sum_by_more_le byte_count shapes m empty_place below in
+    let part = sum_by_more_le byte_count shapes m unused_shape below in
     let whole = total_bytes-le shapes count each in
     omega (arith, part, whole, so_far, next)

@@ -1,4 +1,4 @@
--- What the maps hold after bytes were written over the block from an entry's place on.
+-- What the maps hold after bytes were written over the block from an element's offset on.
 use Rattle.std.proofs.Common.{◌≡◌, ℕ, ◌+◌, ◌≤◌, ◌<◌, Bool, true, false, List, ◌++◌, length, take, drop, refl, ap, sym, ◌∙◌, arith, length-append, length-drop, length-take-le}
 use Rattle.std.specs.Prelude.{◌==◌, if◌then◌else◌}
 use Rattle.std.proofs.lemmas.Bool.{eqb-true}
@@ -6,17 +6,17 @@ use Rattle.std.proofs.lemmas.List.{take-append-le, take_all}
 use Rattle.scx_maps.specs.declared.shape.Shape.{Shape}
 use Rattle.scx_maps.specs.Limits.{total_bytes}
 use Rattle.scx_semantics.specs.Elements.{Maps, elements, element, with_element}
-use Rattle.scx_maps.specs.Layout.{contents_in, shape_at, place_of, IsBlockOf}
+use Rattle.scx_maps.specs.Layout.{contents_in, shape_at, offset_of, IsBlockOf}
 use Rattle.scx_maps.specs.Lending.{written_over, spilled, given_back}
 use Rattle.scx_maps.proofs.Over.{over}
-use Rattle.scx_maps.proofs.Blocks.{map_there, entry_there, value_of-contents_in, contents_in-over, place_of-fits, all_bytes-contents_in, shapes_of-contents_in}
+use Rattle.scx_maps.proofs.Blocks.{map_there, element_is_there, value_of-contents_in, contents_in-over, offset_of-fits, all_bytes-contents_in, shapes_of-contents_in}
 
--- an entry has as many bytes as its shape says
+-- an element has as many bytes as its shape says
 pub length-value_of : (shapes : List Shape) (m index : ℕ) (block : List ℕ) → total_bytes shapes ≤ length block → m < length shapes → index < (shape_at shapes m).entries
     → length (element (contents_in shapes block) m index) ≡ (shape_at shapes m).value_size
 length-value_of shapes m index block fits below within =
-    let room = place_of-fits shapes m index below within in
-    let behind : (shape_at shapes m).value_size ≤ length (drop (place_of shapes m index) block) = rw (length-drop (place_of shapes m index) block) (omega (arith, room)) in
+    let room = offset_of-fits shapes m index below within in
+    let behind : (shape_at shapes m).value_size ≤ length (drop (offset_of shapes m index) block) = rw (length-drop (offset_of shapes m index) block) (omega (arith, room)) in
     ap (λ xs. length xs) (value_of-contents_in shapes m index block below within) ∙ length-take-le _ _ behind
 
 -- the block keeps its length where the bytes fit into it
@@ -31,40 +31,40 @@ over-long a w xs fits =
 
 -- what a `Vec` of this block holds after the write
 abbrev pub kept : ℕ → List ℕ → List ℕ → List ℕ
-kept place w block = take (length block) (over place w block ++ drop (length (over place w block)) block)
+kept offset w block = take (length block) (over offset w block ++ drop (length (over offset w block)) block)
 
--- bytes written at the place of an entry are given back to it
+-- bytes written at the offset of an element are given back to it
 pub lent : (shapes : List Shape) (m index : ℕ) (w block : List ℕ) → IsBlockOf shapes block → m < length shapes → index < (shape_at shapes m).entries
-    → contents_in shapes (kept (place_of shapes m index) w block) ≡ given_back (contents_in shapes block) m index w
+    → contents_in shapes (kept (offset_of shapes m index) w block) ≡ given_back (contents_in shapes block) m index w
 lent shapes m index w block holds below within = go _ refl
   where
-    same : contents_in shapes (take (length block) (over (place_of shapes m index) w block))
+    same : contents_in shapes (take (length block) (over (offset_of shapes m index) w block))
         ≡ spilled (contents_in shapes block) m index w
     same =
         let all = all_bytes-contents_in shapes block ∙ take_all (total_bytes shapes) block (omega (arith, holds.full)) in
         let those = shapes_of-contents_in shapes block holds.limits.each (omega (arith, holds.full)) in
-        λ i. contents_in (sym those i) (written_over (place_of (sym those i) m index) w (sym all i))
+        λ i. contents_in (sym those i) (written_over (offset_of (sym those i) m index) w (sym all i))
 
     go : (b : Bool) → (length w == length (element (contents_in shapes block) m index)) ≡ b
-        → contents_in shapes (kept (place_of shapes m index) w block)
+        → contents_in shapes (kept (offset_of shapes m index) w block)
         ≡ (if b then with_element (contents_in shapes block) m index w else spilled (contents_in shapes block) m index w)
     go true e =
         let long : length w ≡ (shape_at shapes m).value_size = eqb-true _ _ e ∙ length-value_of shapes m index block (omega (arith, holds.full)) below within in
-        let full : length (over (place_of shapes m index) w block) ≡ length block =
-        length-over (place_of shapes m index) w block (omega (arith, holds.full, long, place_of-fits shapes m index below within)) in
-        let short : length block ≤ length (over (place_of shapes m index) w block) = omega (arith, full) in
-        let all : length (over (place_of shapes m index) w block) ≤ length block = omega (arith, full) in
-        ap (λ xs. contents_in shapes xs) (take-append-le (length block) (over (place_of shapes m index) w block) _ short ∙ take_all (length block) (over (place_of shapes m index) w block) all)
+        let full : length (over (offset_of shapes m index) w block) ≡ length block =
+        length-over (offset_of shapes m index) w block (omega (arith, holds.full, long, offset_of-fits shapes m index below within)) in
+        let short : length block ≤ length (over (offset_of shapes m index) w block) = omega (arith, full) in
+        let all : length (over (offset_of shapes m index) w block) ≤ length block = omega (arith, full) in
+        ap (λ xs. contents_in shapes xs) (take-append-le (length block) (over (offset_of shapes m index) w block) _ short ∙ take_all (length block) (over (offset_of shapes m index) w block) all)
         ∙ contents_in-over shapes m index w block below within long (omega (arith, holds.full))
     go false e =
-        ap (λ xs. contents_in shapes xs) (take-append-le (length block) (over (place_of shapes m index) w block) _ (over-long (place_of shapes m index) w block (omega (arith, holds.full, place_of-fits shapes m index below within))))
+        ap (λ xs. contents_in shapes xs) (take-append-le (length block) (over (offset_of shapes m index) w block) _ (over-long (offset_of shapes m index) w block (omega (arith, holds.full, offset_of-fits shapes m index below within))))
         ∙ same
 
 -- the same of maps that the block holds
 pub lent_at : (shapes : List Shape) (block : List ℕ) (maps : Maps) (m index start len : ℕ) (w : List ℕ) → IsBlockOf shapes block → contents_in shapes block ≡ maps
-    → m < length maps → index < length (elements maps m) → start ≡ place_of shapes m index → len ≡ length block
+    → m < length maps → index < length (elements maps m) → start ≡ offset_of shapes m index → len ≡ length block
     → contents_in shapes (take len (over start w block ++ drop (length (over start w block)) block)) ≡ given_back maps m index w
-lent_at shapes block maps m index start len w holds is below within place long =
-    let there : contents_in shapes (take len (over start w block ++ drop (length (over start w block)) block)) ≡ contents_in shapes (kept (place_of shapes m index) w block) =
-    λ i. contents_in shapes (take (long i) (over (place i) w block ++ drop (length (over (place i) w block)) block)) in
-    there ∙ lent shapes m index w block holds (map_there shapes block maps m is below) (entry_there shapes block maps m index is below within) ∙ ap (λ ms. given_back ms m index w) is
+lent_at shapes block maps m index start len w holds is below within offset long =
+    let there : contents_in shapes (take len (over start w block ++ drop (length (over start w block)) block)) ≡ contents_in shapes (kept (offset_of shapes m index) w block) =
+    λ i. contents_in shapes (take (long i) (over (offset i) w block ++ drop (length (over (offset i) w block)) block)) in
+    there ∙ lent shapes m index w block holds (map_there shapes block maps m is below) (element_is_there shapes block maps m index is below within) ∙ ap (λ ms. given_back ms m index w) is

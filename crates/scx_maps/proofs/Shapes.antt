@@ -8,10 +8,10 @@ use Rattle.scx_maps.specs.declared.defs.TheConstants.{MAX_MAPS}
 use Rattle.scx_maps.specs.Limits.{AreWithinLimits}
 use Rattle.scx_semantics.specs.Elements.{HoldBytes}
 use Rattle.scx_maps.specs.Contents.{zeros, lengths_of, HasShapes}
-use Rattle.scx_maps.specs.Places.{IsFilledUp, filled_up, empty_place}
+use Rattle.scx_maps.specs.Unused.{IsFilledUp, filled_up, unused_shape}
 
 -- shapes with empty places behind them fill all places
-pub fills_up : (shapes self rest : List Shape) → self ≡ shapes → rest ≡ replicate (MAX_MAPS - length shapes) empty_place → AreWithinLimits shapes
+pub fills_up : (shapes self rest : List Shape) → self ≡ shapes → rest ≡ replicate (MAX_MAPS - length shapes) unused_shape → AreWithinLimits shapes
     → IsFilledUp (self ++ rest) (length shapes)
 fills_up shapes self rest same unused limits =
     let front = ap (λ xs. take (length shapes) (xs ++ rest)) same ∙ take_at shapes rest (length shapes) refl in

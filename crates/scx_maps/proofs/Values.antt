@@ -18,8 +18,8 @@ get_or-values_in zero size index block below = absurd (omega arith)
 get_or-values_in (suc n) size zero block below =
     let none : 0 ≡ zero * size = omega arith in ap (λ k. take size (drop k block)) none
 get_or-values_in (suc n) size (suc index) block below =
-    let place : size + index * size ≡ suc index * size = omega arith in
-    get_or-values_in n size index (drop size block) (omega arith) ∙ ap (λ xs. take size xs) (drop-drop (index * size) size block) ∙ ap (λ k. take size (drop k block)) place
+    let offset : size + index * size ≡ suc index * size = omega arith in
+    get_or-values_in n size index (drop size block) (omega arith) ∙ ap (λ xs. take size xs) (drop-drop (index * size) size block) ∙ ap (λ k. take size (drop k block)) offset
 
 -- bytes written past the values leave them
 pub values_in-over_past : (n size a : ℕ) (w block : List ℕ) → n * size ≤ a → a ≤ length block → values_in n size (over a w block) ≡ values_in n size block
@@ -34,7 +34,7 @@ values_in-over_past (suc n) size a w block past within =
     let both : values_in (suc n) size (over (size + rest) w block) ≡ values_in (suc n) size block = λ i. head i ∷ tail i in
     ap (λ k. values_in (suc n) size (over k w block)) (sym split) ∙ both
 
--- bytes written at a value's place are that value
+-- bytes written at a value's offset are that value
 pub values_in-over : (n size index : ℕ) (w block : List ℕ) → index < n → length w ≡ size → index * size + size ≤ length block
     → values_in n size (over (index * size) w block) ≡ set (values_in n size block) index w
 values_in-over zero size index w block below long within = absurd (omega arith)

@@ -8,7 +8,7 @@ use Rattle.scx_maps.specs.declared.shape.Shape.{Shape}
 abbrev pub zeros : List Shape → Maps
 zeros shapes = map (λ (s : Shape). replicate s.entries (replicate s.value_size 0)) shapes
 
--- how many bytes each entry of a map has
+-- how many bytes each element of a map has
 abbrev pub lengths : List (List ℕ) → List ℕ
 lengths entries = map (λ (value : List ℕ). length value) entries
 

@@ -2,6 +2,6 @@ pub mod Limits
 pub mod Refusals
 pub mod Sameness
 pub mod Contents
-pub mod Places
+pub mod Unused
 pub mod Layout
 pub mod Lending

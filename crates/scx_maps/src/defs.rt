@@ -17,7 +17,7 @@ pub const MAX_MAPS: usize = 16;
 /// The most bytes that the values of all maps may take together.
 pub const MAX_BYTES: usize = 16_777_216;
 
-const EMPTY_PLACE: Shape = Shape {
+const UNUSED_SHAPE: Shape = Shape {
     entries: 0,
     value_size: 0,
 };
@@ -34,7 +34,7 @@ pub struct MapDefs {
 impl Model for MapDefs {
     ghost use Rattle.std.specs.Prelude.{List, take, length};
     ghost use Rattle.scx_maps.specs.declared.shape.Shape.{Shape};
-    ghost use Rattle.scx_maps.specs.Places.{IsFilledUp, filled_up};
+    ghost use Rattle.scx_maps.specs.Unused.{IsFilledUp, filled_up};
 
     ghost Value = { List Shape };
 
@@ -152,11 +152,11 @@ fn filled_up(shapes: &[Shape]) -> MapDefs
     requires { AreWithinLimits shapes.now }
     ensures { result ≡ shapes.now }
 {
-    let mut places = [EMPTY_PLACE; MAX_MAPS];
+    let mut padded = [UNUSED_SHAPE; MAX_MAPS];
     let count = shapes.len();
-    places[..count].copy_from_slice(shapes);
+    padded[..count].copy_from_slice(shapes);
     MapDefs {
-        shapes: places,
+        shapes: padded,
         count,
     }
 }

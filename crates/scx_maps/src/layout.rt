@@ -1,6 +1,6 @@
 ghost use Rattle.std.specs.Prelude.{◌≡◌, ◌≤◌, ◌<◌, ◌+◌, [], length};
 ghost use Rattle.scx_maps.specs.Limits.{AreWithinLimits, total_bytes};
-ghost use Rattle.scx_maps.specs.Layout.{shape_at, place_of};
+ghost use Rattle.scx_maps.specs.Layout.{shape_at, offset_of};
 
 use crate::defs::{MAX_MAPS, MapDefs};
 use crate::shape::Shape;
@@ -77,7 +77,7 @@ impl Layout {
         self.defs.shapes()[usize::from(map)]
     }
 
-    /// How many bytes each entry of a map has.
+    /// How many bytes each element of a map has.
     pub fn value_size(&self, map: u8) -> u16
         requires { map < length self.now }
         ensures { result ≡ (shape_at self.now map).value_size }
@@ -85,11 +85,11 @@ impl Layout {
         self.defs.shapes()[usize::from(map)].value_size as u16
     }
 
-    /// The byte at which an entry begins.
-    pub fn place(&self, map: u8, index: u32) -> usize
+    /// The byte at which an element begins.
+    pub fn offset(&self, map: u8, index: u32) -> usize
         requires map { map < length self.now }
         requires index { index < (shape_at self.now map).entries }
-        ensures place { result ≡ place_of self.now map index }
+        ensures offset { result ≡ offset_of self.now map index }
         ensures within { result + (shape_at self.now map).value_size ≤ total_bytes self.now }
         ensures limits { AreWithinLimits self.now }
     {

@@ -1,8 +1,8 @@
-//! Array maps of BPF programs (RFC 9669, section 5.4.1): a map is a fixed number of entries, numbered
+//! Array maps of BPF programs (RFC 9669, section 5.4.1): a map is a fixed number of elements, numbered
 //! from 0, each a value of a fixed number of bytes.
 //!
 //! `MapDefs` is the list of the shapes of a policy's maps, within this host's limits. `Maps` holds
-//! their values. In contracts it is the list of maps, each the list of its entries, each the list of
+//! their values. In contracts it is the list of maps, each the list of its elements, each the list of
 //! its bytes; a call reads or changes one place of it. All values stand in one block, which
 //! `Maps::new` alone takes; each other call takes constant time.
 #![tactic(auto)]

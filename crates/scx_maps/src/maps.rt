@@ -4,7 +4,7 @@ ghost use Rattle.scx_semantics.specs.Elements.{elements, element, with_element, 
 ghost use Rattle.scx_maps.specs.Contents.{zeros, lengths_of, HasShapes};
 ghost use Rattle.scx_semantics.specs.Memory.{size_bytes};
 ghost use Rattle.scx_maps.specs.Lending.{LendsValue, given_back, shapes_of, all_bytes};
-ghost use Rattle.scx_maps.specs.Layout.{contents_in, place_of};
+ghost use Rattle.scx_maps.specs.Layout.{contents_in, offset_of};
 
 use crate::defs::{MAX_BYTES, MAX_MAPS, MapDefs};
 use crate::layout::Layout;
@@ -13,9 +13,9 @@ use scx_semantics::Size;
 use std::alloc::{AllocError, Global};
 use std::marker::Model;
 
-/// The values of a policy's maps. Maps and entries are numbered from 0.
+/// The values of a policy's maps. Maps and elements are numbered from 0.
 ///
-/// In a contract it is the list of the maps, each the list of its entries, each the list of its
+/// In a contract it is the list of the maps, each the list of its elements, each the list of its
 /// bytes.
 #[derive(Drop)]
 pub struct Maps {
@@ -63,7 +63,7 @@ impl Maps {
         self.layout.count()
     }
 
-    /// Whether the map has an entry of this key.
+    /// Whether the map has an element of this key.
     pub fn lookup(&self, map: u8, key: u32) -> bool
         requires { map < length self.now }
         ensures { IsTrue result ↔ (key < length (elements self.now map)) }
@@ -71,7 +71,7 @@ impl Maps {
         key < self.layout.shape(map).entries
     }
 
-    /// How many bytes an entry has; 0 where there is no such entry.
+    /// How many bytes an element has; 0 where there is no such element.
     pub fn value_size(&self, map: u8, index: u32) -> u16
         ensures size { result ≡ length (element self.now map index) }
         ensures is_there { 0 < result
@@ -84,19 +84,19 @@ impl Maps {
         }
     }
 
-    /// The bytes of an entry.
+    /// The bytes of an element.
     pub fn value(&self, map: u8, index: u32) -> &[u8]
         requires map { map < length self.now }
         requires index { index < length (elements self.now map) }
         ensures { result.now ≡ element self.now map index }
     {
-        let start = self.layout.place(map, index);
+        let start = self.layout.offset(map, index);
         let size = self.layout.shape(map).value_size as usize;
         &self.block[start..start + size]
     }
 
-    /// The bytes of an entry, for writing. What the slice holds when it is given back, with its length
-    /// as it was, is what the entry then has; nothing else changes.
+    /// The bytes of an element, for writing. What the slice holds when it is given back, with its length
+    /// as it was, is what the element then has; nothing else changes.
     pub fn value_mut(&mut self, map: u8, index: u32) -> &mut [u8]
         requires map { map < length self.old }
         requires index { index < length (elements self.old map) }
@@ -107,12 +107,12 @@ impl Maps {
         ensures shapes { (bytes : List ℕ) → length bytes ≡ length result.now
             → lengths_of (with_element self.old map index bytes) ≡ lengths_of self.old }
     {
-        let start = self.layout.place(map, index);
+        let start = self.layout.offset(map, index);
         let size = self.layout.shape(map).value_size as usize;
         self.block.slice_mut(start..start + size)
     }
 
-    /// The number in an entry at a byte, low byte first.
+    /// The number in an element at a byte, low byte first.
     pub fn load(&self, map: u8, index: u32, offset: u16, size: Size) -> u64
         requires map { map < length self.now }
         requires index { index < length (elements self.now map) }
@@ -122,7 +122,7 @@ impl Maps {
         read_number(self.value(map, index), offset as usize, size)
     }
 
-    /// Writes the lowest bytes of a number into an entry at a byte, low byte first.
+    /// Writes the lowest bytes of a number into an element at a byte, low byte first.
     pub fn store(&mut self, map: u8, index: u32, offset: u16, size: Size, number: u64)
         requires map { map < length self.old }
         requires index { index < length (elements self.old map) }
@@ -134,17 +134,17 @@ impl Maps {
         write_number(self.value_mut(map, index), offset as usize, size, number);
     }
 
-    /// The byte at which an entry begins, among the bytes of all maps.
-    pub fn place(&self, map: u8, index: u32) -> usize
+    /// The byte at which an element begins, among the bytes of all maps.
+    pub fn offset(&self, map: u8, index: u32) -> usize
         requires map { map < length self.now }
         requires index { index < length (elements self.now map) }
-        ensures place { result ≡ place_of (shapes_of self.now) map index }
+        ensures offset { result ≡ offset_of (shapes_of self.now) map index }
         ensures small { result ≤ MAX_BYTES }
     {
-        self.layout.place(map, index)
+        self.layout.offset(map, index)
     }
 
-    /// The bytes of all maps, one entry after the other.
+    /// The bytes of all maps, one element after the other.
     pub fn bytes(&self) -> &[u8]
         ensures { result.now ≡ all_bytes self.now }
     {
@@ -152,12 +152,12 @@ impl Maps {
     }
 
     /// Writes the lowest bytes of a number from a byte of all maps on, low byte first.
-    pub fn store_at(&mut self, place: usize, size: Size, number: u64)
-        requires { place + size_bytes size ≤ length (all_bytes self.old) }
+    pub fn store_at(&mut self, offset: usize, size: Size, number: u64)
+        requires { offset + size_bytes size ≤ length (all_bytes self.old) }
         ensures { self.new
             ≡ contents_in (shapes_of self.old)
-            (with_number (all_bytes self.old) place (size_bytes size) number) }
+            (with_number (all_bytes self.old) offset (size_bytes size) number) }
     {
-        write_number(&mut self.block, place, size, number);
+        write_number(&mut self.block, offset, size, number);
     }
 }

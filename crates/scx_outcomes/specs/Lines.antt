@@ -12,7 +12,7 @@ use Rattle.scx_outcomes.specs.declared.refusal.Refusal.TheVariants.{TooLarge, No
 
 -- a fault by its number and name, and the slot or line where it was found
 abbrev pub fault_text : ℕ → List ℕ → ℕ → List ℕ
-fault_text number name place = decimal number ++ codes " " ++ name ++ codes " at " ++ decimal place
+fault_text number name at = decimal number ++ codes " " ++ name ++ codes " at " ++ decimal at
 
 -- what is wrong with a file
 abbrev pub cause_text : Cause → List ℕ

@@ -177,27 +177,27 @@ fn init_line(answer: i64) -> Line
     line
 }
 
-fn fault_line(start: &str, number: u8, name: &str, place: usize) -> Line
+fn fault_line(start: &str, number: u8, name: &str, at: usize) -> Line
     requires { length start.now + length name.now ≤ 50 }
-    ensures { result.bytes ≡ start.now ++ lines.fault_text number name.now place ++ codes "\n" }
+    ensures { result.bytes ≡ start.now ++ lines.fault_text number name.now at ++ codes "\n" }
 {
     let mut line = Line::new();
     line.push_str(start);
-    push_fault(&mut line, number, name, place);
+    push_fault(&mut line, number, name, at);
     line
 }
 
 /// Appends a fault by its number and name, where it was found, and the line feed.
-fn push_fault(line: &mut Line, number: u8, name: &str, place: usize)
+fn push_fault(line: &mut Line, number: u8, name: &str, at: usize)
     requires { array_string_len line.old + length name.now ≤ 60 }
     ensures { line.new.bytes
-        ≡ line.old.bytes ++ lines.fault_text number name.now place ++ codes "\n" }
+        ≡ line.old.bytes ++ lines.fault_text number name.now at ++ codes "\n" }
 {
     let mut digits = Buffer::new();
     line.push_str(digits.format(number));
     line.push_str(" ");
     line.push_str(name);
     line.push_str(" at ");
-    line.push_str(digits.format(place));
+    line.push_str(digits.format(at));
     line.push_str("\n");
 }

@@ -13,7 +13,7 @@ use std::alloc::AllocError;
 use std::fmt;
 use thiserror::Error;
 
-/// Why an input was refused. A place is the number of a slot, from 0, or of a line, from 1; a path is
+/// Why an input was refused. After `at` comes a slot's number, from 0, or a line's, from 1; a path is
 /// that of a key in a file.
 #[derive(PartialEq, Eq, Drop, Error)]
 pub enum Refusal {

@@ -55,7 +55,7 @@ fn expect_fault<R: AllocGlobal + Abort>(rt: &R, text: &str, fault: AsmFault, lin
 }
 
 #[test]
-fn arithmetic(rt: HostRuntime) -> Result<(), Fail> {
+fn arithmetic_is_assembled(rt: HostRuntime) -> Result<(), Fail> {
     expect_lines(
         &rt,
         &[
@@ -87,7 +87,7 @@ fn arithmetic(rt: HostRuntime) -> Result<(), Fail> {
 }
 
 #[test]
-fn memory(rt: HostRuntime) -> Result<(), Fail> {
+fn accesses_are_assembled(rt: HostRuntime) -> Result<(), Fail> {
     expect_lines(
         &rt,
         &[
@@ -106,7 +106,7 @@ fn memory(rt: HostRuntime) -> Result<(), Fail> {
 }
 
 #[test]
-fn jumps(rt: HostRuntime) -> Result<(), Fail> {
+fn jumps_are_assembled(rt: HostRuntime) -> Result<(), Fail> {
     expect_lines(
         &rt,
         &[
@@ -123,7 +123,7 @@ fn jumps(rt: HostRuntime) -> Result<(), Fail> {
 }
 
 #[test]
-fn labels(rt: HostRuntime) -> Result<(), Fail> {
+fn labels_are_resolved(rt: HostRuntime) -> Result<(), Fail> {
     let over = [0x0500_0100_0000_0000, 0xb700_0000_0100_0000, EXIT];
     expect_slots(&rt, "goto end\nr0 = 1\nend:\nexit", &over)?;
     expect_text(&rt, &over, "goto +1\nr0 = 1\nexit\n")?;
@@ -137,7 +137,7 @@ fn labels(rt: HostRuntime) -> Result<(), Fail> {
 }
 
 #[test]
-fn spellings(rt: HostRuntime) -> Result<(), Fail> {
+fn spellings_may_differ(rt: HostRuntime) -> Result<(), Fail> {
     expect_all_slots(
         &rt,
         &[
@@ -216,12 +216,12 @@ const FAULTY: [(&str, AsmFault); 41] = [
 ];
 
 #[test]
-fn faults_of_lines(rt: HostRuntime) {
+fn faults_of_lines_are_named(rt: HostRuntime) {
     expect_faults(&rt, &FAULTY);
 }
 
 #[test]
-fn faults_of_texts(rt: HostRuntime) -> Result<(), Fail> {
+fn faults_of_texts_are_named(rt: HostRuntime) -> Result<(), Fail> {
     expect_fault(&rt, "goto end\nexit", AsmFault::UnknownLabel, 1);
     expect_fault(&rt, "goto end\nr0 =", AsmFault::Syntax, 2);
     expect_fault(&rt, "a:\na:\nexit", AsmFault::TwiceLabel, 2);
@@ -247,7 +247,7 @@ fn repeated(alloc: Global, text: &str, times: usize) -> Result<String, AllocErro
 }
 
 #[test]
-fn long_texts(rt: HostRuntime) -> Result<(), Fail> {
+fn long_texts_are_read(rt: HostRuntime) -> Result<(), Fail> {
     let comment = repeated(rt.alloc(), "#", 1_048_576)?;
     expect_fault(&rt, comment.as_str(), AsmFault::Syntax, 1);
     let numeral = repeated(rt.alloc(), "1", 100_000)?;

@@ -11,7 +11,7 @@ use scx_maps::{MapDefs, Maps, Shape};
 use scx_run::run;
 use scx_tagged::{Ran, try_run};
 use scx_verify::{Verified, verify};
-use scx_vm::{Argument, Arguments, Done};
+use scx_vm::{Arg, Args, Done};
 use std::alloc::{AllocError, Global};
 use std::process::Abort;
 use std::test::Fail;
@@ -41,14 +41,14 @@ fn idle_host() -> OneTask {
         slice: 5_000_000,
         vtime: 1000,
         called: None,
-        given: [Argument::Unset; 5],
+        given: [Arg::Unset; 5],
     }
 }
 
-const GIVEN: Arguments = Arguments {
-    first: Argument::Task(TaskId(3)),
-    second: Argument::Number(2),
-    third: Argument::Number(0),
+const GIVEN: Args = Args {
+    first: Arg::Task(TaskId(3)),
+    second: Arg::Num(2),
+    third: Arg::Num(0),
 };
 
 /// Verifies the program of a text as `select_cpu`, which is given a task and two numbers, and answers one.

@@ -53,7 +53,10 @@ fn visit(
 /// Where a jump goes on, which goes forward.
 fn target(slot: usize, insn: Insn) -> usize {
     let distance = match insn {
-        Insn::JumpIf(_, _, _, offset, _) => i32::from(offset),
+        Insn::JumpIf {
+            distance: offset,
+            ..
+        } => i32::from(offset),
         Insn::Goto(offset) => i32::from(offset),
         Insn::GotoLong(offset) => offset,
         _ => 0,

@@ -61,7 +61,7 @@ fn judge_beginnings<R: AllocGlobal + Abort>(rt: &R, text: &str, callback: Callba
 }
 
 #[test]
-fn judges_beginnings(rt: HostRuntime) {
+fn beginnings_are_judged(rt: HostRuntime) {
     for &(text, callback) in &CALLBACKS {
         judge_beginnings(&rt, text, callback);
     }
@@ -83,7 +83,7 @@ fn change_each_byte<R: AllocGlobal + Abort>(rt: &R, text: &str, callback: Callba
 }
 
 #[test]
-fn judges_changed_bytes(rt: HostRuntime) {
+fn changed_bytes_are_judged(rt: HostRuntime) {
     for &(text, callback) in &CALLBACKS {
         change_each_byte(&rt, text, callback);
     }
@@ -121,7 +121,7 @@ fn bytes_of_walk(alloc: Global, state: &mut u64) -> Result<Vec<u8>, AllocError> 
 }
 
 #[test]
-fn judges_any_bytes(rt: HostRuntime) -> Result<(), Fail> {
+fn any_bytes_are_judged(rt: HostRuntime) -> Result<(), Fail> {
     let defs = defs(&rt);
     let mut state = 0x9e37_79b9_7f4a_7c15;
     for walk in 0..10_000 {
@@ -134,7 +134,7 @@ fn judges_any_bytes(rt: HostRuntime) -> Result<(), Fail> {
 
 /// Two kinds that differ are joined to what can't be read, which is no fault unless it is read.
 #[test]
-fn joins_a_pointer_and_a_number(rt: HostRuntime) -> Result<(), Fail> {
+fn a_pointer_joined_with_a_number_is_unusable(rt: HostRuntime) -> Result<(), Fail> {
     let read = "r6 = r10\nif r2 == 0 goto j\nr6 = 0\nj:\nr0 = r6\nexit";
     let unread = "r6 = r10\nif r2 == 0 goto j\nr6 = 0\nj:\nr0 = 0\nexit";
     expect(
@@ -149,7 +149,7 @@ fn joins_a_pointer_and_a_number(rt: HostRuntime) -> Result<(), Fail> {
 /// A program that no run of gets stuck, and that is refused, since both sides of a comparison are
 /// followed.
 #[test]
-fn refuses_a_safe_program(rt: HostRuntime) -> Result<(), Fail> {
+fn a_safe_program_may_be_refused(rt: HostRuntime) -> Result<(), Fail> {
     let skips = "r1 = 1\nif r1 != 1 goto +1\n*(u64 *)(r10 - 8) = 5\nr0 = *(u64 *)(r10 - 8)\nexit";
     expect(
         &rt,

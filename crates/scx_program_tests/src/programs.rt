@@ -81,7 +81,7 @@ const OFFSETS: [(&str, &[u16]); 5] = [
 ];
 
 #[test]
-fn keeps_instructions_small(rt: HostRuntime) {
+fn instructions_are_small(rt: HostRuntime) {
     assert!(rt; size_of::<Insn>() <= 16);
 }
 
@@ -99,7 +99,7 @@ fn is_signed_modulo(insn: Option<Insn>) -> bool {
 }
 
 #[test]
-fn reads_and_writes(rt: HostRuntime) -> Result<(), Fail> {
+fn what_is_written_is_read_back(rt: HostRuntime) -> Result<(), Fail> {
     let program = decode(rt.alloc(), &PROGRAM)?;
     assert_eq!(rt; program.slots(), 6);
     assert_eq!(rt; program.instructions(), 6);
@@ -139,7 +139,7 @@ fn expect_fates<R: AllocGlobal + Abort>(rt: &R, first: u8, fates: &str) {
 }
 
 #[test]
-fn knows_every_opcode(rt: HostRuntime) {
+fn every_opcode_is_known(rt: HostRuntime) {
     let mut opcode: u8 = 0;
     for fates in &OPCODES {
         assert_eq!(rt; fates.len(), 16);
@@ -200,7 +200,7 @@ fn code_of<R: Abort>(rt: &R, digits: &str) -> u8 {
 }
 
 #[test]
-fn knows_every_field(rt: HostRuntime) {
+fn every_field_is_known(rt: HostRuntime) {
     for &(codes, uses) in &FIELDS {
         for digits in codes.split(' ') {
             try_fields(&rt, code_of(&rt, digits), uses);
@@ -222,7 +222,7 @@ fn try_offsets<R: AllocGlobal + Abort>(rt: &R, code: u8, listed: &[u16]) {
 }
 
 #[test]
-fn knows_every_choice(rt: HostRuntime) {
+fn every_choice_is_known(rt: HostRuntime) {
     for &(codes, listed) in &OFFSETS {
         for digits in codes.split(' ') {
             try_offsets(&rt, code_of(&rt, digits), listed);
@@ -238,7 +238,7 @@ fn try_widths<R: AllocGlobal + Abort>(rt: &R, code: u8) {
 }
 
 #[test]
-fn knows_every_width(rt: HostRuntime) {
+fn every_width_is_known(rt: HostRuntime) {
     try_widths(&rt, 0xd4);
     try_widths(&rt, 0xdc);
     try_widths(&rt, 0xd7);
@@ -280,7 +280,7 @@ fn expect_slot<R: AllocGlobal + Abort>(rt: &R, bytes: &[u8], wanted: Option<usiz
 
 /// A wide instruction's second slot holds an immediate alone, and behind a map reference nothing.
 #[test]
-fn knows_second_slots(rt: HostRuntime) {
+fn second_slots_are_known(rt: HostRuntime) {
     for &(source, offset, first, last, wanted) in &SECOND_SLOTS {
         let bytes = [
             0x18, source, offset, 0, 9, 0, 0, 0, first, 0, 0, 0, 0, 0, 0, last,
@@ -300,7 +300,7 @@ const FAULTS: [([u8; 8], DecodeFault); 15] = [
     ([0x04, 0x00, 1, 0, 0, 0, 0, 0], DecodeFault::UnusedField),
     ([0x05, 0x01, 0, 0, 0, 0, 0, 0], DecodeFault::UnusedField),
     ([0x95, 0x00, 0, 0, 1, 0, 0, 0], DecodeFault::UnusedField),
-    // The source field is a part of the opcode of calls and of constants.
+    // The source field is a part of the opcode of calls and of 64-bit loads.
     (
         [0x85, 0x10, 0, 0, 0, 0, 0, 0],
         DecodeFault::NotInProfile(Exclusion::LocalCall),
@@ -322,7 +322,7 @@ const FAULTS: [([u8; 8], DecodeFault); 15] = [
 ];
 
 #[test]
-fn names_faults(rt: HostRuntime) {
+fn faults_are_named(rt: HostRuntime) {
     for &(slot, fault) in &FAULTS {
         let refused = DecodeError::Refused { fault, slot: 0 };
         assert_eq!(rt; decode(rt.alloc(), &slot).err(), Some(refused), "{slot:?}");

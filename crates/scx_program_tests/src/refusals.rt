@@ -12,7 +12,7 @@ use std::test::Fail;
 const LOOKUP: &str = "*(u32 *)(r10 - 4) = 0\nr2 = r10\nr2 += -4\nr1 = map 0\ncall 1\n";
 
 #[test]
-fn refuses_jumps(rt: HostRuntime) -> Result<(), Fail> {
+fn bad_jumps_are_refused(rt: HostRuntime) -> Result<(), Fail> {
     expect(
         &rt,
         &[
@@ -33,7 +33,7 @@ fn refuses_jumps(rt: HostRuntime) -> Result<(), Fail> {
 }
 
 #[test]
-fn refuses_registers_and_memory(rt: HostRuntime) -> Result<(), Fail> {
+fn bad_registers_and_accesses_are_refused(rt: HostRuntime) -> Result<(), Fail> {
     expect(
         &rt,
         &[
@@ -67,7 +67,7 @@ fn refuses_registers_and_memory(rt: HostRuntime) -> Result<(), Fail> {
 }
 
 #[test]
-fn refuses_uses_of_pointers(rt: HostRuntime) -> Result<(), Fail> {
+fn bad_uses_of_pointers_are_refused(rt: HostRuntime) -> Result<(), Fail> {
     expect(
         &rt,
         &[
@@ -96,7 +96,7 @@ fn refuses_uses_of_pointers(rt: HostRuntime) -> Result<(), Fail> {
 }
 
 #[test]
-fn refuses_fields_that_are_none(rt: HostRuntime) -> Result<(), Fail> {
+fn fields_that_are_none_are_refused(rt: HostRuntime) -> Result<(), Fail> {
     expect(
         &rt,
         &[
@@ -127,7 +127,7 @@ fn refuses_fields_that_are_none(rt: HostRuntime) -> Result<(), Fail> {
 }
 
 #[test]
-fn refuses_calls(rt: HostRuntime) -> Result<(), Fail> {
+fn bad_calls_are_refused(rt: HostRuntime) -> Result<(), Fail> {
     expect(
         &rt,
         &[
@@ -162,7 +162,7 @@ fn refuses_calls(rt: HostRuntime) -> Result<(), Fail> {
 }
 
 #[test]
-fn refuses_answers_and_maps(rt: HostRuntime) -> Result<(), Fail> {
+fn bad_answers_and_maps_are_refused(rt: HostRuntime) -> Result<(), Fail> {
     expect(
         &rt,
         &[
@@ -185,7 +185,7 @@ fn refuses_answers_and_maps(rt: HostRuntime) -> Result<(), Fail> {
 }
 
 #[test]
-fn checks_keys(rt: HostRuntime) -> Result<(), Fail> {
+fn keys_are_checked(rt: HostRuntime) -> Result<(), Fail> {
     expect(
         &rt,
         &[
@@ -233,7 +233,7 @@ fn expect_behind<R: AllocGlobal + Abort>(rt: &R, rows: &[(&str, &str)]) -> Resul
 }
 
 #[test]
-fn wants_null_tested(rt: HostRuntime) -> Result<(), Fail> {
+fn null_has_to_be_tested(rt: HostRuntime) -> Result<(), Fail> {
     expect_behind(
         &rt,
         &[
@@ -258,7 +258,7 @@ fn wants_null_tested(rt: HostRuntime) -> Result<(), Fail> {
 }
 
 #[test]
-fn keeps_to_an_element(rt: HostRuntime) -> Result<(), Fail> {
+fn accesses_stay_in_an_element(rt: HostRuntime) -> Result<(), Fail> {
     expect_behind(
         &rt,
         &[
@@ -284,7 +284,7 @@ fn keeps_to_an_element(rt: HostRuntime) -> Result<(), Fail> {
 }
 
 #[test]
-fn accepts_scx_simple(rt: HostRuntime) -> Result<(), Fail> {
+fn scx_simple_is_accepted(rt: HostRuntime) -> Result<(), Fail> {
     expect(
         &rt,
         &[
@@ -314,7 +314,7 @@ exit
 ";
 
 #[test]
-fn wants_looked_up_tasks_tested(rt: HostRuntime) -> Result<(), Fail> {
+fn looked_up_tasks_have_to_be_tested(rt: HostRuntime) -> Result<(), Fail> {
     expect(
         &rt,
         &[
@@ -351,7 +351,7 @@ fn wants_looked_up_tasks_tested(rt: HostRuntime) -> Result<(), Fail> {
 }
 
 #[test]
-fn knows_where_helpers_may_be_called(rt: HostRuntime) -> Result<(), Fail> {
+fn each_helper_has_its_callbacks(rt: HostRuntime) -> Result<(), Fail> {
     expect(
         &rt,
         &[
@@ -388,7 +388,7 @@ fn knows_where_helpers_may_be_called(rt: HostRuntime) -> Result<(), Fail> {
 }
 
 #[test]
-fn knows_what_each_callback_is_given(rt: HostRuntime) -> Result<(), Fail> {
+fn each_callback_has_its_arguments(rt: HostRuntime) -> Result<(), Fail> {
     expect(
         &rt,
         &[

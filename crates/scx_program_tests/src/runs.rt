@@ -5,29 +5,29 @@ use scx_examples::{DISPATCH, ENABLE, ENQUEUE, INIT, OneTask, RUNNING, STOPPING};
 use scx_isa::{Callback, Helper, TaskId, flow};
 use scx_maps::{MapDefs, Maps, Shape, Size};
 use scx_tagged::{Ran, try_run};
-use scx_vm::{Argument, Arguments};
+use scx_vm::{Arg, Args};
 use std::alloc::{AllocError, Global};
 use std::process::Abort;
 use std::test::Fail;
 
 /// The task that callbacks are given.
-const TASK: Argument = Argument::Task(TaskId(3));
+const TASK: Arg = Arg::Task(TaskId(3));
 
 /// Looks up an element by the key 0 on the stack.
 const LOOKUP: &str = "*(u32 *)(r10 - 4) = 0\nr2 = r10\nr2 += -4\nr1 = map 0\ncall 1\n";
 
 /// What running, enable and stopping are given.
-const ONE: Arguments = Arguments {
+const ONE: Args = Args {
     first: TASK,
-    second: Argument::Unset,
-    third: Argument::Unset,
+    second: Arg::Unset,
+    third: Arg::Unset,
 };
 
 /// What enqueue is given, with a flag.
-const FLAGS: Arguments = Arguments {
+const FLAGS: Args = Args {
     first: TASK,
-    second: Argument::Number(1),
-    third: Argument::Unset,
+    second: Arg::Num(1),
+    third: Arg::Unset,
 };
 
 fn idle_host() -> OneTask {
@@ -36,7 +36,7 @@ fn idle_host() -> OneTask {
         slice: 5_000_000,
         vtime: 1000,
         called: None,
-        given: [Argument::Unset; 5],
+        given: [Arg::Unset; 5],
     }
 }
 
@@ -45,7 +45,7 @@ fn run(
     alloc: Global,
     text: &str,
     callback: Callback,
-    arguments: Arguments,
+    arguments: Args,
     maps: &mut Maps,
     host: &mut OneTask,
 ) -> Option<Ran> {
@@ -80,7 +80,7 @@ fn number_in(maps: &Maps) -> Option<u64> {
 
 /// A program, its callback and arguments, the number in the map, and how the run ends, with the number that
 /// it leaves there.
-type Row<'a> = (&'a str, Callback, Arguments, u64, &'a str);
+type Row<'a> = (&'a str, Callback, Args, u64, &'a str);
 
 /// Runs the programs one after another over maps of one number.
 fn expect<R: AllocGlobal + Abort>(
@@ -110,7 +110,7 @@ fn outcome(alloc: Global, ran: Option<Ran>, left: u64) -> Result<String, AllocEr
 }
 
 /// What the host was called for last, and what the first arguments were.
-fn expect_call(rt: &impl Abort, host: &OneTask, helper: Helper, given: &[Argument]) {
+fn expect_call(rt: &impl Abort, host: &OneTask, helper: Helper, given: &[Arg]) {
     assert!(rt; host.called == Some(helper));
     for (number, argument) in given.iter().enumerate() {
         assert!(rt;
@@ -123,13 +123,13 @@ fn expect_call(rt: &impl Abort, host: &OneTask, helper: Helper, given: &[Argumen
 #[test]
 fn calls_are_given_what_they_take(rt: HostRuntime) -> Result<(), Fail> {
     let mut host = idle_host();
-    let none = Arguments::NONE;
+    let none = Args::NONE;
     expect(
         &rt,
         &mut host,
         &[(INIT, Callback::Init, none, 9, "0 in 3 steps, 9")],
     )?;
-    let given_to_init = [Argument::Number(0), Argument::Unset];
+    let given_to_init = [Arg::Num(0), Arg::Unset];
     expect_call(&rt, &host, Helper::CreateDsq, &given_to_init);
     expect(
         &rt,
@@ -147,16 +147,16 @@ fn calls_are_given_what_they_take(rt: HostRuntime) -> Result<(), Fail> {
 }
 
 /// The task, the queue, the slice and the flags with which a task is inserted.
-const GIVEN_TO_ENQUEUE: [Argument; 5] = [
+const GIVEN_TO_ENQUEUE: [Arg; 5] = [
     TASK,
-    Argument::Number(0),
-    Argument::Number(20_000_000),
-    Argument::Number(1),
-    Argument::Unset,
+    Arg::Num(0),
+    Arg::Num(20_000_000),
+    Arg::Num(1),
+    Arg::Unset,
 ];
 
 #[test]
-fn keeps_the_later_time(rt: HostRuntime) -> Result<(), Fail> {
+fn the_later_time_is_kept(rt: HostRuntime) -> Result<(), Fail> {
     let mut host = idle_host();
     expect(
         &rt,
@@ -172,7 +172,7 @@ fn keeps_the_later_time(rt: HostRuntime) -> Result<(), Fail> {
 }
 
 #[test]
-fn charges_by_weight(rt: HostRuntime) -> Result<(), Fail> {
+fn a_task_is_charged_by_weight(rt: HostRuntime) -> Result<(), Fail> {
     let mut host = idle_host();
     expect(
         &rt,
@@ -187,14 +187,14 @@ fn charges_by_weight(rt: HostRuntime) -> Result<(), Fail> {
 fn expect_behind<R: AllocGlobal + Abort>(rt: &R, rows: &[(&str, &str)]) -> Result<(), Fail> {
     for &(rest, wanted) in rows {
         let text = format!(in rt.alloc(); "{LOOKUP}{rest}exit")?;
-        expect_as_init(rt, Arguments::NONE, 777, text.as_str(), wanted)?;
+        expect_as_init(rt, Args::NONE, 777, text.as_str(), wanted)?;
     }
     Ok(())
 }
 
 fn expect_as_init<R: AllocGlobal + Abort>(
     rt: &R,
-    arguments: Arguments,
+    arguments: Args,
     number: u64,
     text: &str,
     wanted: &str,
@@ -208,7 +208,7 @@ fn expect_as_init<R: AllocGlobal + Abort>(
 }
 
 #[test]
-fn looks_up_and_spills(rt: HostRuntime) -> Result<(), Fail> {
+fn an_element_is_looked_up_and_spilled(rt: HostRuntime) -> Result<(), Fail> {
     expect_behind(
         &rt,
         &[
@@ -235,17 +235,17 @@ fn looks_up_and_spills(rt: HostRuntime) -> Result<(), Fail> {
 }
 
 #[test]
-fn looks_up_keys(rt: HostRuntime) -> Result<(), Fail> {
+fn keys_are_looked_up(rt: HostRuntime) -> Result<(), Fail> {
     let past = "*(u32 *)(r10 - 4) = 1\nr2 = r10\nr2 += -4\nr1 = map 0\ncall 1\nexit";
-    expect_as_init(&rt, Arguments::NONE, 9, past, "0 in 6 steps, 9")?;
+    expect_as_init(&rt, Args::NONE, 9, past, "0 in 6 steps, 9")?;
     let half = "*(u16 *)(r10 - 4) = 0\nr2 = r10\nr2 += -4\nr1 = map 0\ncall 1\nexit";
-    expect_as_init(&rt, Arguments::NONE, 9, half, "stuck at 5, 9")
+    expect_as_init(&rt, Args::NONE, 9, half, "stuck at 5, 9")
 }
 
-const NUMBERS: Arguments = Arguments {
-    first: Argument::Number(1),
-    second: Argument::Number(2),
-    third: Argument::Number(3),
+const NUMBERS: Args = Args {
+    first: Arg::Num(1),
+    second: Arg::Num(2),
+    third: Arg::Num(3),
 };
 
 #[test]
@@ -265,7 +265,7 @@ fn calls_leave_no_argument(rt: HostRuntime) -> Result<(), Fail> {
 }
 
 #[test]
-fn stores_to_fields(rt: HostRuntime) -> Result<(), Fail> {
+fn fields_are_stored_to(rt: HostRuntime) -> Result<(), Fail> {
     let mut host = idle_host();
     let slice = "*(u64 *)(r1 + 8) = 7\nexit";
     let weight = "*(u32 *)(r1 + 4) = 7\nexit";

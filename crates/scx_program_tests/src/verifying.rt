@@ -48,7 +48,7 @@ fn expect<R: AllocGlobal + Abort>(rt: &R, rows: &[(&[u64], &str)]) -> Result<(),
 }
 
 #[test]
-fn asks_flow_first(rt: HostRuntime) -> Result<(), Fail> {
+fn flow_is_asked_first(rt: HostRuntime) -> Result<(), Fail> {
     expect(
         &rt,
         &[
@@ -65,7 +65,7 @@ fn asks_flow_first(rt: HostRuntime) -> Result<(), Fail> {
 }
 
 #[test]
-fn checks_registers(rt: HostRuntime) -> Result<(), Fail> {
+fn registers_are_checked(rt: HostRuntime) -> Result<(), Fail> {
     expect(
         &rt,
         &[
@@ -90,7 +90,7 @@ fn checks_registers(rt: HostRuntime) -> Result<(), Fail> {
 }
 
 #[test]
-fn checks_arithmetic_on_pointers(rt: HostRuntime) -> Result<(), Fail> {
+fn arithmetic_on_pointers_is_checked(rt: HostRuntime) -> Result<(), Fail> {
     expect(
         &rt,
         &[
@@ -116,7 +116,7 @@ fn checks_arithmetic_on_pointers(rt: HostRuntime) -> Result<(), Fail> {
 }
 
 #[test]
-fn checks_stack_accesses(rt: HostRuntime) -> Result<(), Fail> {
+fn stack_accesses_are_checked(rt: HostRuntime) -> Result<(), Fail> {
     expect(
         &rt,
         &[
@@ -131,7 +131,7 @@ fn checks_stack_accesses(rt: HostRuntime) -> Result<(), Fail> {
 }
 
 #[test]
-fn keeps_stored_pointers(rt: HostRuntime) -> Result<(), Fail> {
+fn stored_pointers_are_kept(rt: HostRuntime) -> Result<(), Fail> {
     expect(
         &rt,
         &[
@@ -161,7 +161,7 @@ fn keeps_stored_pointers(rt: HostRuntime) -> Result<(), Fail> {
 }
 
 #[test]
-fn checks_jumps(rt: HostRuntime) -> Result<(), Fail> {
+fn jumps_are_checked(rt: HostRuntime) -> Result<(), Fail> {
     expect(
         &rt,
         &[
@@ -193,7 +193,7 @@ fn checks_jumps(rt: HostRuntime) -> Result<(), Fail> {
 }
 
 #[test]
-fn knows_no_maps_without_shapes(rt: HostRuntime) -> Result<(), Fail> {
+fn without_shapes_there_are_no_maps(rt: HostRuntime) -> Result<(), Fail> {
     expect(
         &rt,
         &[

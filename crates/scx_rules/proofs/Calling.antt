@@ -5,35 +5,35 @@ use Rattle.scx_semantics.specs.Elements.{Maps}
 use Rattle.scx_semantics.specs.Endings.{Ending, run_of}
 use Rattle.scx_semantics.proofs.EndedRuns.{run_is, stuck_is}
 use Rattle.scx_safety.specs.Programs.{VerifiedProgram}
-use Rattle.scx_vm.specs.declared.arguments.Arguments.{Arguments}
+use Rattle.scx_vm.specs.declared.arguments.Args.{Args}
 use Rattle.scx_vm.specs.Arguments.{given}
 use Rattle.scx_vm.specs.Host.{answer_to, after_query}
 use Rattle.scx_world.specs.World.{WorldState, begun}
 use Rattle.scx_world.specs.Helpers.{world_functions}
 use Rattle.scx_machine.specs.Policy.{program_of, IsAs}
 use Rattle.scx_machine.specs.Callbacks.{called, calls_of, call_back, answered_by, AreAnswered}
-use Rattle.scx_rules.specs.Callbacks.{EndsAs, Absent, Exits, Gets_stuck, leaving}
+use Rattle.scx_rules.specs.Callbacks.{EndsAs, Absent, Exits, Sticks, leaving}
 use Rattle.scx_rules.specs.Laws.{RulesAllowCallbacks, RulesAllowCallbacksOnly}
 
-called_is : (p : VerifiedProgram) (b : Callback) (a : Arguments) (maps : Maps) (w : WorldState) (o : Option VerifiedProgram) → o ≡ Some p
+called_is : (p : VerifiedProgram) (b : Callback) (a : Args) (maps : Maps) (w : WorldState) (o : Option VerifiedProgram) → o ≡ Some p
     → called o b a maps w ≡ run_of (answer_to world_functions) (after_query world_functions) b p.code (given a) maps w
 unfolding called
 called_is p b a maps w o e = rw e refl
 
-called_none : (b : Callback) (a : Arguments) (maps : Maps) (w : WorldState) (o : Option VerifiedProgram) → o ≡ None → called o b a maps w ≡ record { answer = Some 0; maps = maps; outside = w }
+called_none : (b : Callback) (a : Args) (maps : Maps) (w : WorldState) (o : Option VerifiedProgram) → o ≡ None → called o b a maps w ≡ record { answer = Some 0; maps = maps; outside = w }
 unfolding called
 called_none b a maps w o e = rw e refl
 
 -- a callback ends as it is computed
-pub only_ends : (o : Option VerifiedProgram) (b : Callback) (a : Arguments) (maps : Maps) (w : WorldState) (e : Ending WorldState) → EndsAs o b a maps w e → e ≡ called o b a maps w
+pub only_ends : (o : Option VerifiedProgram) (b : Callback) (a : Args) (maps : Maps) (w : WorldState) (e : Ending WorldState) → EndsAs o b a maps w e → e ≡ called o b a maps w
 only_ends o b a maps w e (Absent x k) = k ∙ sym (called_none b a maps w o x)
 only_ends o b a maps w e (Exits p n steps left v x l runs k) =
     k ∙ run_is (answer_to world_functions) (after_query world_functions) b p.code (given a) maps w n steps left v runs l ∙ sym (called_is p b a maps w o x)
-only_ends o b a maps w e (Gets_stuck p slot steps left v x l gets k) =
+only_ends o b a maps w e (Sticks p slot steps left v x l gets k) =
     k ∙ stuck_is (answer_to world_functions) (after_query world_functions) b p.code (given a) maps w slot steps left v gets l ∙ sym (called_is p b a maps w o x)
 
 -- a program that is called, and comes to an answer, ends as the rules allow
-pub ends_as : (o : Option VerifiedProgram) (b : Callback) (a : Arguments) (maps : Maps) (w : WorldState) → IsAs b o → AreAnswered (calls_of o a maps w) → EndsAs o b a maps w (called o b a maps w)
+pub ends_as : (o : Option VerifiedProgram) (b : Callback) (a : Args) (maps : Maps) (w : WorldState) → IsAs b o → AreAnswered (calls_of o a maps w) → EndsAs o b a maps w (called o b a maps w)
 ends_as None b a maps w fits all = Absent refl (called_none b a maps w None refl)
 ends_as (Some p) b a maps w fits (h, more) = subst (λ (e : Ending WorldState). EndsAs (Some p) b a maps w e) (only_ends (Some p) b a maps w _ exits) exits
   where

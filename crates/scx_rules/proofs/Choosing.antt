@@ -3,7 +3,7 @@ use Rattle.std.proofs.Common.{◌≡◌, ℕ, zero, suc, ◌<◌, ◌≤◌, Boo
 use Rattle.std.proofs.lemmas.Bool.{cases_eq, cases_lt}
 use Rattle.std.proofs.lemmas.Bool.Decides.{nat_tests}
 use Rattle.scx_world.specs.World.{WorldState, task_at, is_idle, this_if, or_this, idle_below, first_idle, or_else, default_choice}
-use Rattle.scx_rules.specs.Helpers.{IsChoice, Last_ran, Lowest, None_idle}
+use Rattle.scx_rules.specs.Helpers.{IsChoice, LastRan, Lowest, NoneIdle}
 
 not_both : (b : Bool) → b ≡ true → b ≡ false → ⊥
 not_both true x y = absurd (cc)
@@ -47,13 +47,13 @@ pub is_choice : (w : WorldState) (t : ℕ) → IsChoice w t (default_choice w t)
 is_choice w t = go (is_idle w (task_at w t).prev_cpu) refl (first_idle w) refl
   where
     go : (b : Bool) → is_idle w (task_at w t).prev_cpu ≡ b → (o : Option ℕ) → first_idle w ≡ o → IsChoice w t (if b then (task_at w t).prev_cpu else or_else o (task_at w t).prev_cpu)
-    go true e o x = Last_ran e refl
+    go true e o x = LastRan e refl
     go false e (Some c) x = let h = is_lowest (length w.cpus) w c x in Lowest e h.idle h.below
-    go false e None x = None_idle (all_busy w x) refl
+    go false e None x = NoneIdle (all_busy w x) refl
 
 -- and the only one
 pub only_choice : (w : WorldState) (t c : ℕ) → IsChoice w t c → c ≡ default_choice w t
-only_choice w t c (Last_ran e k) = rw e k
+only_choice w t c (LastRan e k) = rw e k
 only_choice w t c (Lowest e i below) = rw e (go (first_idle w) refl)
   where
     one : (d : ℕ) → is_idle w d ≡ true → ((k : ℕ) → k < d → is_idle w k ≡ false) → (c < d) ⊎ (d ≤ c) → (d < c) ⊎ (c ≤ d) → c ≡ d
@@ -64,7 +64,7 @@ only_choice w t c (Lowest e i below) = rw e (go (first_idle w) refl)
     go : (o : Option ℕ) → first_idle w ≡ o → c ≡ or_else o (task_at w t).prev_cpu
     go (Some d) x = let h = is_lowest (length w.cpus) w d x in one d h.idle h.below (cases_lt c d) (cases_lt d c)
     go None x = absurd (not_both (is_idle w c) i (all_busy w x c))
-only_choice w t c (None_idle all k) = rw (all (task_at w t).prev_cpu) (go (first_idle w) refl)
+only_choice w t c (NoneIdle all k) = rw (all (task_at w t).prev_cpu) (go (first_idle w) refl)
   where
     go : (o : Option ℕ) → first_idle w ≡ o → c ≡ or_else o (task_at w t).prev_cpu
     go (Some d) x = let h = is_lowest (length w.cpus) w d x in absurd (not_both (is_idle w d) h.idle (all d))

@@ -12,7 +12,7 @@ use Rattle.scx_world.specs.Tasks.{local_len, brought}
 use Rattle.scx_machine.specs.Steps.{State, Stepped, with_world, stays, after, joined}
 use Rattle.scx_machine.specs.Put.{enters, wanted, put}
 use Rattle.scx_machine.specs.Cycle.{move_note, fill, dispatched, tries, leave, started_if, start, pick, rest, pick_or_rest, ask, seek, cycling, cycle}
-use Rattle.scx_rules.specs.Cycles.{entering, enqueue_called, dispatch_called, stopping_called, Enters, Default, Held, Inserted, Puts, Fills, Has_local, No_other, Moves, Dispatches, Asks, Enough, Came, Nothing_moved, Again, Leaves, Nobody, Stops, Starts, Empty, Front, Picks, Rests, Keeps, Idles, Was_idle, Ends, Picked, Rested, Seeks, Filled, Asked, Cycles}
+use Rattle.scx_rules.specs.Cycles.{entering, enqueue_called, dispatch_called, stopping_called, Enters, Default, Held, Inserted, Puts, Fills, HasLocal, NoOther, Moves, Dispatches, Asks, Enough, Came, NothingMoved, Again, Leaves, Nobody, Stops, Starts, Empty, Front, Picks, Rests, Keeps, Idles, WasIdle, Ends, Picked, Rested, Seeks, Filled, Asked, Cycles}
 
 -- ---- put
 
@@ -59,14 +59,14 @@ fills s c = go (cases_lt 0 (local_len s.world c)) (front_of s.world.queues globa
   where
     go : (0 < local_len s.world c) ⊎ (local_len s.world c ≤ 0) → (o : Option ℕ) → front_of s.world.queues global ≡ o
         → Fills s c (record { state = with_world s (brought (if nat_lt 0 (local_len s.world c) then None else o) s.world global c); notes = move_note s.world (if nat_lt 0 (local_len s.world c) then None else o) c; calls = [] })
-    go (inl l) o e = rw (some_is (local_len s.world c) l) (Has_local l refl)
-    go (inr l) None e = let z : local_len s.world c ≡ 0 = omega (arith, l) in rw (none_is (local_len s.world c) z) (No_other z e refl)
+    go (inl l) o e = rw (some_is (local_len s.world c) l) (HasLocal l refl)
+    go (inr l) None e = let z : local_len s.world c ≡ 0 = omega (arith, l) in rw (none_is (local_len s.world c) z) (NoOther z e refl)
     go (inr l) (Some t) e = let z : local_len s.world c ≡ 0 = omega (arith, l) in rw (none_is (local_len s.world c) z) (Moves t z e refl)
 
 only_fills : (s : State) (c : ℕ) (r : Stepped) → Fills s c r → r ≡ fill s global c
 unfolding fill
-only_fills s c r (Has_local l k) = rw (some_is (local_len s.world c) l) k
-only_fills s c r (No_other z e k) = rw (none_is (local_len s.world c) z, e) k
+only_fills s c r (HasLocal l k) = rw (some_is (local_len s.world c) l) k
+only_fills s c r (NoOther z e k) = rw (none_is (local_len s.world c) z, e) k
 only_fills s c r (Moves t z e k) = rw (none_is (local_len s.world c) z, e) k
 
 -- ---- dispatch
@@ -90,7 +90,7 @@ asks (suc n) s c p = go (asks n d.state c p) (cases_eq (local_len d.state.world 
     go : Asks n d.state c p (tries n d.state c p) → (local_len d.state.world c ≡ 0) ⊎ (local_len d.state.world c ≡ 0 → ⊥) → (b : Bool) → d.state.world.call.has_moved ≡ b
         → Asks (suc n) s c p (if (local_len d.state.world c == 0) && b then joined d (tries n d.state c p) else d)
     go more (inl z) true e = rw (eq-eqb (local_len d.state.world c) 0 z) (Again n s c p d (tries n d.state c p) _ (dispatches s c p) z e more refl)
-    go more (inl z) false e = rw (eq-eqb (local_len d.state.world c) 0 z) (Nothing_moved n s c p d (dispatches s c p) z e)
+    go more (inl z) false e = rw (eq-eqb (local_len d.state.world c) 0 z) (NothingMoved n s c p d (dispatches s c p) z e)
     go more (inr x) b e = rw (ne_eqb (local_len d.state.world c) 0 x) (Came n s c p d (dispatches s c p) (omega (arith, x)))
 
 -- ---- pick
@@ -133,7 +133,7 @@ rests : (s : State) (c : ℕ) (p : Option ℕ) (ran : Bool) → Rests s c p ran 
 unfolding rest
 rests s c (Some t) ran = Keeps t ran _ refl
 rests s c None true = Idles _ refl
-rests s c None false = Was_idle _ refl
+rests s c None false = WasIdle _ refl
 
 ends : (s : State) (c : ℕ) (p : Option ℕ) (ran : Bool) → Ends s c p ran (pick_or_rest s c p ran)
 unfolding pick_or_rest
@@ -179,7 +179,7 @@ only_asks zero s c p r (Enough _ _ _ _ k) = k ∙ sym (tries_none s c p)
 only_asks (suc n) s c p r (Came _ _ _ _ _ h l) =
     let e = only_dispatches s c p r h in
     e ∙ sym (tries_came n s c p (subst (λ (x : Stepped). 0 < local_len x.state.world c) e l))
-only_asks (suc n) s c p r (Nothing_moved _ _ _ _ _ h z f) =
+only_asks (suc n) s c p r (NothingMoved _ _ _ _ _ h z f) =
     let e = only_dispatches s c p r h in
     e ∙ sym (tries_moved_none n s c p (subst (λ (x : Stepped). local_len x.state.world c ≡ 0) e z) (subst (λ (x : Stepped). x.state.world.call.has_moved ≡ false) e f))
 only_asks (suc n) s c p r (Again _ _ _ _ d more _ h z f a k) =
@@ -191,7 +191,7 @@ only_rests : (s : State) (c : ℕ) (p : Option ℕ) (ran : Bool) (r : Stepped) �
 unfolding rest
 only_rests s c (Some t) ran r (Keeps _ _ _ k) = k
 only_rests s c None true r (Idles _ k) = k
-only_rests s c None false r (Was_idle _ k) = k
+only_rests s c None false r (WasIdle _ k) = k
 
 only_ends : (s : State) (c : ℕ) (p : Option ℕ) (ran : Bool) (r : Stepped) → Ends s c p ran r → r ≡ pick_or_rest s c p ran
 unfolding pick_or_rest

@@ -16,7 +16,7 @@ use Rattle.scx_machine.specs.Events.{is_bad_weight, refusal, answered_cpu, targe
 use Rattle.scx_rules.specs.Cycles.{noting, silent, stopping_called}
 use Rattle.scx_safety.specs.Programs.{VerifiedProgram}
 use Rattle.scx_world.specs.declared.call.Insert.{Insert}
-use Rattle.scx_rules.specs.Events.{awake, select_called, select_answered, IsTarget, No_callback, Named, No_such_cpu, No_answer, Settles, Was_inserted, Is_put, Wakes, Idle_target, Busy_target, Sleeps, From_queue, From_cpu, Ticks, Nobody_runs, Runs_on, Runs_out}
+use Rattle.scx_rules.specs.Events.{awake, select_called, select_answered, IsTarget, NoCallback, Named, NoSuchCpu, NoAnswer, Settles, WasInserted, WasPut, Wakes, IdleTarget, BusyTarget, Sleeps, FromQueue, FromCpu, Ticks, NobodyRuns, RunsOn, RunsOut}
 use Rattle.scx_rules.specs.Laws.{RulesAllowEvents, RulesAllowEventsOnly}
 use Rattle.scx_rules.proofs.Choosing.{is_choice, only_choice}
 use Rattle.scx_rules.proofs.Cycling.{puts, only_puts, cycles, only_cycles}
@@ -28,13 +28,13 @@ unfolding enters
 settles s t c = go s.world.call.insert refl
   where
     go : (o : Option Insert) → s.world.call.insert ≡ o → Settles s t c (settled o s t c)
-    go None e = Is_put e (puts s t c 1)
-    go (Some i) e = Was_inserted i e refl
+    go None e = WasPut e (puts s t c 1)
+    go (Some i) e = WasInserted i e refl
 
 only_settles : (s : State) (t c : ℕ) (r : Stepped) → Settles s t c r → r ≡ settled s.world.call.insert s t c
 unfolding enters
-only_settles s t c r (Is_put e h) = only_puts s t c 1 r h ∙ ap (λ (o : Option Insert). settled o s t c) (sym e)
-only_settles s t c r (Was_inserted i e k) = k ∙ ap (λ (o : Option Insert). settled o s t c) (sym e)
+only_settles s t c r (WasPut e h) = only_puts s t c 1 r h ∙ ap (λ (o : Option Insert). settled o s t c) (sym e)
+only_settles s t c r (WasInserted i e k) = k ∙ ap (λ (o : Option Insert). settled o s t c) (sym e)
 
 abbrev target_of : State → ℕ → Option ℕ → ℕ
 target_of s t a = target s.policy.callbacks.select_cpu s.world t a
@@ -50,18 +50,18 @@ is_target s t a = go s.policy.callbacks.select_cpu refl a refl
   where
     at : (p : VerifiedProgram) (n : ℕ) → s.policy.callbacks.select_cpu ≡ Some p → a ≡ Some n → (n < length s.world.cpus) ⊎ (length s.world.cpus ≤ n) → IsTarget s t a (answered_cpu s.world t (Some n))
     at p n e x (inl l) = rw (below n (length s.world.cpus) l) (Named p e x l)
-    at p n e x (inr l) = rw (past n (length s.world.cpus) l) (No_such_cpu p n e x l (is_choice s.world t))
+    at p n e x (inr l) = rw (past n (length s.world.cpus) l) (NoSuchCpu p n e x l (is_choice s.world t))
 
     go : (p : Option VerifiedProgram) → s.policy.callbacks.select_cpu ≡ p → (o : Option ℕ) → a ≡ o → IsTarget s t a (target p s.world t o)
-    go None e o x = No_callback e (is_choice s.world t)
-    go (Some p) e None x = No_answer p e x (is_choice s.world t)
+    go None e o x = NoCallback e (is_choice s.world t)
+    go (Some p) e None x = NoAnswer p e x (is_choice s.world t)
     go (Some p) e (Some n) x = at p n e x (cases_lt n (length s.world.cpus))
 
 only_target : (s : State) (t : ℕ) (a : Option ℕ) (c : ℕ) → IsTarget s t a c → c ≡ target_of s t a
-only_target s t a c (No_callback e h) = rw e (only_choice s.world t c h)
+only_target s t a c (NoCallback e h) = rw e (only_choice s.world t c h)
 only_target s t a c (Named p e x l) = rw (e, x, below c (length s.world.cpus) l) refl
-only_target s t a c (No_such_cpu p n e x l h) = rw (e, x, past n (length s.world.cpus) l) (only_choice s.world t c h)
-only_target s t a c (No_answer p e x h) = rw (e, x) (only_choice s.world t c h)
+only_target s t a c (NoSuchCpu p n e x l h) = rw (e, x, past n (length s.world.cpus) l) (only_choice s.world t c h)
+only_target s t a c (NoAnswer p e x h) = rw (e, x) (only_choice s.world t c h)
 
 abbrev wake_note : State → ℕ → Stepped → Stepped
 wake_note s t r = after (said s.world (note.Wake t) ∷ []) r
@@ -83,8 +83,8 @@ wakes s t = go (is_idle x.state.world c) refl
     x = settled r.state.world.call.insert r.state t c
 
     go : (b : Bool) → is_idle x.state.world c ≡ b → Wakes s t (wake_note s t (joined r (if b then joined x (cycle x.state c None false) else x)))
-    go true e = Idle_target c x (cycle x.state c None false) (is_target r.state t (select_answered (awake s t) t)) (settles r.state t c) e (cycles x.state c None false) refl
-    go false e = Busy_target c x (is_target r.state t (select_answered (awake s t) t)) (settles r.state t c) e refl
+    go true e = IdleTarget c x (cycle x.state c None false) (is_target r.state t (select_answered (awake s t) t)) (settles r.state t c) e (cycles x.state c None false) refl
+    go false e = BusyTarget c x (is_target r.state t (select_answered (awake s t) t)) (settles r.state t c) e refl
 
 wake_is : (s : State) (t : ℕ) → wake s t ≡ wake_note s t (joined (select_called (awake s t) t) (settle (select_called (awake s t) t).state t (chosen s t)))
 unfolding wake select
@@ -99,12 +99,12 @@ unfolding settle
 settle_busy s t c x e idle = let i = subst (λ (y : Stepped). is_idle y.state.world c ≡ false) e idle in rw i (sym e)
 
 only_wakes : (s : State) (t : ℕ) (r : Stepped) → Wakes s t r → r ≡ wake s t
-only_wakes s t r (Idle_target c x found tg st i y k) =
+only_wakes s t r (IdleTarget c x found tg st i y k) =
     let v = select_called (awake s t) t in
     k ∙ ap (λ z. wake_note s t (joined v (joined x z))) (only_cycles x.state c None false found y)
     ∙ ap (λ z. wake_note s t (joined v z)) (sym (settle_idle v.state t c x (only_settles v.state t c x st) i))
     ∙ ap (λ d. wake_note s t (joined v (settle v.state t d))) (only_target v.state t (select_answered (awake s t) t) c tg) ∙ sym (wake_is s t)
-only_wakes s t r (Busy_target c x tg st i k) =
+only_wakes s t r (BusyTarget c x tg st i k) =
     let v = select_called (awake s t) t in
     k ∙ ap (λ z. wake_note s t (joined v z)) (sym (settle_busy v.state t c x (only_settles v.state t c x st) i))
     ∙ ap (λ d. wake_note s t (joined v (settle v.state t d))) (only_target v.state t (select_answered (awake s t) t) c tg) ∙ sym (wake_is s t)
@@ -119,13 +119,13 @@ unfolding sleep sleep_from_cpu
 sleeps s t = go (cpu_of s.world t) refl
   where
     go : (o : Option ℕ) → cpu_of s.world t ≡ o → Sleeps s t (after (said s.world (note.Sleep t) ∷ []) (sleep_from o s t))
-    go None e = From_queue e refl
-    go (Some c) e = From_cpu c (cycle (left_cpu s t c) c None true) e (cycles (left_cpu s t c) c None true) refl
+    go None e = FromQueue e refl
+    go (Some c) e = FromCpu c (cycle (left_cpu s t c) c None true) e (cycles (left_cpu s t c) c None true) refl
 
 only_sleeps : (s : State) (t : ℕ) (r : Stepped) → Sleeps s t r → r ≡ sleep s t
 unfolding sleep sleep_from_cpu
-only_sleeps s t r (From_queue e k) = rw e k
-only_sleeps s t r (From_cpu c found e y k) =
+only_sleeps s t r (FromQueue e k) = rw e k
+only_sleeps s t r (FromCpu c found e y k) =
     rw e (k ∙ ap (λ z. after (said s.world (note.Sleep t) ∷ said s.world (note.Stop t c) ∷ []) (joined (stopping_called s c t 0) z)) (only_cycles (left_cpu s t c) c None true found y))
 
 -- ---- tick
@@ -143,18 +143,18 @@ unfolding tick
 ticks s c = go (running s.world c) refl
   where
     out : (t : ℕ) → running s.world c ≡ Some t → ((task_at (ticked s.world t) t).slice ≡ 0) ⊎ ((task_at (ticked s.world t) t).slice ≡ 0 → ⊥) → Ticks s c (count_down s c t)
-    out t e (inl z) = rw (count_out s c t z) (Runs_out t e z (cycles (with_world s (ticked s.world t)) c (Some t) true))
-    out t e (inr x) = let l : 0 < (task_at (ticked s.world t) t).slice = omega (arith, x) in rw (count_on s c t l) (Runs_on t e l refl)
+    out t e (inl z) = rw (count_out s c t z) (RunsOut t e z (cycles (with_world s (ticked s.world t)) c (Some t) true))
+    out t e (inr x) = let l : 0 < (task_at (ticked s.world t) t).slice = omega (arith, x) in rw (count_on s c t l) (RunsOn t e l refl)
 
     go : (o : Option ℕ) → running s.world c ≡ o → Ticks s c (tick_of o s c)
-    go None e = Nobody_runs e (cycles s c None false)
+    go None e = NobodyRuns e (cycles s c None false)
     go (Some t) e = out t e (cases_eq (task_at (ticked s.world t) t).slice 0)
 
 only_ticks : (s : State) (c : ℕ) (r : Stepped) → Ticks s c r → r ≡ tick s c
 unfolding tick
-only_ticks s c r (Nobody_runs e y) = rw e (only_cycles s c None false r y)
-only_ticks s c r (Runs_on t e l k) = rw e (k ∙ sym (count_on s c t l))
-only_ticks s c r (Runs_out t e z y) = rw e (only_cycles (with_world s (ticked s.world t)) c (Some t) true r y ∙ sym (count_out s c t z))
+only_ticks s c r (NobodyRuns e y) = rw e (only_cycles s c None false r y)
+only_ticks s c r (RunsOn t e l k) = rw e (k ∙ sym (count_on s c t l))
+only_ticks s c r (RunsOut t e z y) = rw e (only_cycles (with_world s (ticked s.world t)) c (Some t) true r y ∙ sym (count_out s c t z))
 
 -- ---- weights
 

@@ -5,28 +5,28 @@ use Rattle.std.proofs.lemmas.List.{get_or_past}
 use Rattle.std.proofs.lemmas.List.Folds.{list_any_at}
 use Rattle.std.proofs.lemmas.Bool.Decides.{nat_tests}
 use Rattle.std.proofs.lemmas.Bool.{cases_eq, cases_lt, eq-eqb, ne_eqb}
-use Rattle.scx_dsq.specs.Queues.{Places, exists, place_of, is_in, front_of, len_of}
+use Rattle.scx_dsq.specs.Queues.{Entries, exists, entry_of, is_in, front_of, len_of}
 use Rattle.scx_dsq.specs.Calls.{create_refusal, created, clashes, with_queue}
 use Rattle.scx_dsq.specs.Laws.{one_if}
-use Rattle.scx_dsq.specs.Places.{same_sort}
-use Rattle.scx_dsq.specs.declared.places.Place.{Place}
-use Rattle.scx_dsq.specs.declared.places.Rank.{Rank}
-use Rattle.scx_dsq.specs.declared.places.Rank.TheVariants.{Fifo, Vtime}
+use Rattle.scx_dsq.specs.Entries.{same_sort}
+use Rattle.scx_dsq.specs.declared.entries.Entry.{Entry}
+use Rattle.scx_dsq.specs.declared.entries.Rank.{Rank}
+use Rattle.scx_dsq.specs.declared.entries.Rank.TheVariants.{Fifo, Vtime}
 use Rattle.scx_dsq.specs.declared.errors.QueueError.TheVariants as queue_error
 use Rattle.scx_semantics.specs.declared.callbacks.Callback.{Callback}
 use Rattle.scx_semantics.specs.declared.callbacks.Callback.TheVariants as callback
-use Rattle.scx_semantics.specs.declared.outside.Helper.{Helper}
-use Rattle.scx_semantics.specs.declared.outside.Helper.TheVariants.{MapLookupElem, KtimeGetNs, CreateDsq, DsqInsert, DsqInsertVtime, DsqMoveToLocal, SelectCpuDfl, CpuIdle, TaskByPid, DsqNrQueued}
-use Rattle.scx_vm.specs.declared.arguments.Argument.{Argument}
+use Rattle.scx_semantics.specs.declared.host_tables.Helper.{Helper}
+use Rattle.scx_semantics.specs.declared.host_tables.Helper.TheVariants.{MapLookupElem, KtimeGetNs, CreateDsq, DsqInsert, DsqInsertVtime, DsqMoveToLocal, SelectCpuDfl, CpuIdle, TaskByPid, DsqNrQueued}
+use Rattle.scx_vm.specs.declared.arguments.Arg.{Arg}
 use Rattle.scx_vm.specs.declared.arguments.Answer.{Answer}
-use Rattle.scx_vm.specs.declared.arguments.Answer.TheVariants.{Number, Task}
+use Rattle.scx_vm.specs.declared.arguments.Answer.TheVariants.{Num, Task}
 use Rattle.scx_world.specs.declared.call.Insert.{Insert}
 use Rattle.scx_world.specs.declared.faults.Fault.{Fault}
 use Rattle.scx_world.specs.declared.faults.Fault.TheVariants.{NoSuchQueue, CannotInsert, NoSuchCpu, UnknownFlag, CannotCreate, BuiltinVtime, Mixed}
 use Rattle.scx_world.specs.Ids.{policy_end, global, local, held, local_on}
 use Rattle.scx_world.specs.World.{WorldState, with_queues, is_idle, or_else}
 use Rattle.scx_world.specs.Helpers.{invalid, faulted, given_number, given_task, is_there, can_create, is_at_hand, is_held, is_dispatch, may_insert_in, may_insert, queue_fault, is_vtime, rank_fault, or_fault, insert_fault, inserted, invalid_if, asked, asked_by_vtime, choice_answer, pid_answer, can_move, moved, one_if_some, helper_answer, helper_after}
-use Rattle.scx_rules.specs.Helpers.{IsPolicyQueue, IsDestination, Own, Global, Local, Local_on, NamesNoCpu, CanCreate, MayInsert, In_select_cpu, In_enqueue, In_dispatch, IsBuiltinVtime, IsMixed, MayMove, JudgesInsert, Judges, Inserts, Keeps, Releases, Moves, Front, Empty, Chooses, Of_task, Of_nobody, Tells, Is_idle, Is_busy, Finds, Found, Nobody, IsEffect, Done, Looked_up, Wrong}
+use Rattle.scx_rules.specs.Helpers.{IsPolicyQueue, IsDestination, Own, Global, Local, LocalOn, NamesNoCpu, CanCreate, MayInsert, InSelectCpu, InEnqueue, InDispatch, IsBuiltinVtime, IsMixed, MayMove, JudgesInsert, Judges, Inserts, Keeps, Releases, Moves, Front, Empty, Chooses, OfTask, OfNobody, Tells, TellsIdle, TellsBusy, Finds, Found, Nobody, IsEffect, Done, FindsElement, Wrong}
 use Rattle.scx_rules.specs.Laws.{RulesAllowHelpers, RulesAllowHelpersOnly}
 use Rattle.scx_rules.proofs.Choosing.{is_choice, only_choice}
 
@@ -78,7 +78,7 @@ no_destination : (w : WorldState) (q : ℕ) → (q < policy_end → exists w.que
 no_destination w q own g l on (Own h) = own h.0 h.1
 no_destination w q own g l on (Global e) = g e
 no_destination w q own g l on (Local e) = l e
-no_destination w q own g l on (Local_on c k e) = on c k e
+no_destination w q own g l on (LocalOn c k e) = on c k e
 
 -- below the end, only what is there
 low_queue : (w : WorldState) (q : ℕ) → q < policy_end → (b : Bool) → exists w.queues q ≡ b → FaultOf w q (if b then None else Some NoSuchQueue)
@@ -87,7 +87,7 @@ low_queue w q low false e = (no_destination w q (λ l x. not_both (exists w.queu
 
 -- from the local queues on
 high_queue : (w : WorldState) (q : ℕ) → local_on 0 ≤ q → (a b : Bool) → nat_lt q (local_on (length w.cpus)) ≡ a → nat_lt q (local_on 0x1_0000_0000) ≡ b → FaultOf w q (if a then None else (if b then Some NoSuchCpu else Some NoSuchQueue))
-high_queue w q low true b x y = let l : q < local_on (length w.cpus) = grind (arith, nat_tests, x) in Local_on (q - local_on 0) (omega (arith, l, low)) (omega (arith, low))
+high_queue w q low true b x y = let l : q < local_on (length w.cpus) = grind (arith, nat_tests, x) in LocalOn (q - local_on 0) (omega (arith, l, low)) (omega (arith, low))
 high_queue w q low false true x y =
     let past : local_on (length w.cpus) ≤ q = grind (arith, nat_tests, x) in
     let l : q < local_on 0x1_0000_0000 = grind (arith, nat_tests, y) in
@@ -140,11 +140,11 @@ by_vtime_is q (Vtime k) e = record { key = k; by_vtime = refl; own = grind (arit
 by_vtime_of : (q : ℕ) (r : Rank) → IsBuiltinVtime q r → (is_vtime r && nat_le policy_end q) ≡ true
 by_vtime_of q r h = let l : nat_le policy_end q ≡ true = grind (arith, nat_tests, h.own) in rw (h.by_vtime, l) refl
 
-record IsAny (f : Option Place → Bool) (xs : Places) : Type 0 where
+record IsAny (f : Option Entry → Bool) (xs : Entries) : Type 0 where
   at : ℕ
   passes : f (get_or xs at None) ≡ true
 
-any_at : (f : Option Place → Bool) (xs : Places) → list_any f xs ≡ true → IsAny f xs
+any_at : (f : Option Entry → Bool) (xs : Entries) → list_any f xs ≡ true → IsAny f xs
 any_at f [] e = absurd (cc)
 any_at f (x ∷ xs) e = go (f x) refl e (λ y. any_at f xs y)
   where
@@ -156,39 +156,39 @@ not_true : (b : Bool) → not b ≡ true → b ≡ false
 not_true true e = absurd (cc)
 not_true false e = refl
 
-mixed_is : (w : WorldState) (q : ℕ) (r : Rank) → list_any (clashes q r) w.queues.places ≡ true → IsMixed w q r
-mixed_is w q r e = go (any_at (clashes q r) w.queues.places e)
+mixed_is : (w : WorldState) (q : ℕ) (r : Rank) → list_any (clashes q r) w.queues.entries ≡ true → IsMixed w q r
+mixed_is w q r e = go (any_at (clashes q r) w.queues.entries e)
   where
-    at : (t : ℕ) (o : Option Place) → place_of w.queues t ≡ o → clashes q r o ≡ true → IsMixed w q r
+    at : (t : ℕ) (o : Option Entry) → entry_of w.queues t ≡ o → clashes q r o ≡ true → IsMixed w q r
     at t None x y = absurd (cc)
-    at t (Some p) x y = let z = both (p.queue == q) (not (same_sort p.rank r)) y in record { task = t; place = p; waits = (x, grind (arith, nat_tests, z.0)); other = not_true (same_sort p.rank r) z.1 }
+    at t (Some p) x y = let z = both (p.queue == q) (not (same_sort p.rank r)) y in record { task = t; entry = p; waits = (x, grind (arith, nat_tests, z.0)); other = not_true (same_sort p.rank r) z.1 }
 
-    go : IsAny (clashes q r) w.queues.places → IsMixed w q r
-    go h = at h.at (place_of w.queues h.at) refl h.passes
+    go : IsAny (clashes q r) w.queues.entries → IsMixed w q r
+    go h = at h.at (entry_of w.queues h.at) refl h.passes
 
-mixed_of : (w : WorldState) (q : ℕ) (r : Rank) → IsMixed w q r → list_any (clashes q r) w.queues.places ≡ true
-mixed_of w q r h = list_any_at (clashes q r) w.queues.places h.task None (known (cases_lt h.task (length w.queues.places))) clash
+mixed_of : (w : WorldState) (q : ℕ) (r : Rank) → IsMixed w q r → list_any (clashes q r) w.queues.entries ≡ true
+mixed_of w q r h = list_any_at (clashes q r) w.queues.entries h.task None (known (cases_lt h.task (length w.queues.entries))) clash
   where
-    known : (h.task < length w.queues.places) ⊎ (length w.queues.places ≤ h.task) → h.task < length w.queues.places
+    known : (h.task < length w.queues.entries) ⊎ (length w.queues.entries ≤ h.task) → h.task < length w.queues.entries
     known (inl l) = l
-    known (inr past) = let none : place_of w.queues h.task ≡ None = get_or_past {X = Option Place} w.queues.places h.task None past in absurd (cc (sym h.waits.0 ∙ none))
+    known (inr past) = let none : entry_of w.queues h.task ≡ None = get_or_past {X = Option Entry} w.queues.entries h.task None past in absurd (cc (sym h.waits.0 ∙ none))
 
-    clash : clashes q r (place_of w.queues h.task) ≡ true
-    clash = rw (h.waits.0, eq-eqb h.place.queue q h.waits.1, h.other) refl
+    clash : clashes q r (entry_of w.queues h.task) ≡ true
+    clash = rw (h.waits.0, eq-eqb h.entry.queue q h.waits.1, h.other) refl
 
 rank_fault_is : (w : WorldState) (q : ℕ) (r : Rank) → RankOf w q r (rank_fault w q r)
-rank_fault_is w q r = go (is_vtime r && nat_le policy_end q) (list_any (clashes q r) w.queues.places) refl refl
+rank_fault_is w q r = go (is_vtime r && nat_le policy_end q) (list_any (clashes q r) w.queues.entries) refl refl
   where
-    go : (a b : Bool) → (is_vtime r && nat_le policy_end q) ≡ a → list_any (clashes q r) w.queues.places ≡ b → RankOf w q r (if a then Some BuiltinVtime else (if b then Some Mixed else None))
+    go : (a b : Bool) → (is_vtime r && nat_le policy_end q) ≡ a → list_any (clashes q r) w.queues.entries ≡ b → RankOf w q r (if a then Some BuiltinVtime else (if b then Some Mixed else None))
     go true b x y = by_vtime_is q r x
     go false true x y = (λ h. not_both (is_vtime r && nat_le policy_end q) x (by_vtime_of q r h), mixed_is w q r y)
-    go false false x y = (λ h. not_both (is_vtime r && nat_le policy_end q) x (by_vtime_of q r h), λ h. not_both (list_any (clashes q r) w.queues.places) y (mixed_of w q r h))
+    go false false x y = (λ h. not_both (is_vtime r && nat_le policy_end q) x (by_vtime_of q r h), λ h. not_both (list_any (clashes q r) w.queues.entries) y (mixed_of w q r h))
 
 no_vtime : (q : ℕ) (r : Rank) → ¬ IsBuiltinVtime q r → (is_vtime r && nat_le policy_end q) ≡ false
 no_vtime q r n = is_false (is_vtime r && nat_le policy_end q) (λ e. n (by_vtime_is q r e))
 
 rank_fault_from : (w : WorldState) (q : ℕ) (r : Rank) (o : Option Fault) → RankOf w q r o → rank_fault w q r ≡ o
-rank_fault_from w q r None h = rw (no_vtime q r h.0, is_false (list_any (clashes q r) w.queues.places) (λ e. h.1 (mixed_is w q r e))) refl
+rank_fault_from w q r None h = rw (no_vtime q r h.0, is_false (list_any (clashes q r) w.queues.entries) (λ e. h.1 (mixed_is w q r e))) refl
 rank_fault_from w q r (Some BuiltinVtime) h = rw (by_vtime_of q r h) refl
 rank_fault_from w q r (Some Mixed) h = rw (no_vtime q r h.0, mixed_of w q r h.1) refl
 rank_fault_from w q r (Some NoSuchQueue) h = absurd h
@@ -199,11 +199,11 @@ rank_fault_from w q r (Some CannotCreate) h = absurd h
 
 -- ---- the fault of an insert
 
-held_is : (o : Option Place) → is_in held o ≡ true → option_map (λ p. p.queue) o ≡ Some held
+held_is : (o : Option Entry) → is_in held o ≡ true → option_map (λ p. p.queue) o ≡ Some held
 held_is None e = absurd (cc)
 held_is (Some p) e = ap Some (grind (arith, nat_tests, e))
 
-held_of : (o : Option Place) → option_map (λ p. p.queue) o ≡ Some held → is_in held o ≡ true
+held_of : (o : Option Entry) → option_map (λ p. p.queue) o ≡ Some held → is_in held o ≡ true
 held_of None e = absurd (cc)
 held_of (Some p) e = let is : p.queue ≡ held = ap (λ x. or_else x 0) e in eq-eqb p.queue held is
 
@@ -220,11 +220,11 @@ insert_is w t e = go w.call.callback refl e
 
     held-here : w.call.callback ≡ callback.Dispatch → (o : Option ℕ) → t ≡ o → is_held w o ≡ true → MayInsert w t
     held-here x None y e = absurd (cc)
-    held-here x (Some u) y e = In_dispatch u x y (held_is (place_of w.queues u) e)
+    held-here x (Some u) y e = InDispatch u x y (held_is (entry_of w.queues u) e)
 
     go : (b : Callback) → w.call.callback ≡ b → may_insert_in b w t ≡ true → MayInsert w t
-    go callback.SelectCpu x e = let y = both (is_none w.call.insert) (is_at_hand w t) e in In_select_cpu x (empty w.call.insert y.0) (hand t y.1)
-    go callback.Enqueue x e = let y = both (is_none w.call.insert) (is_at_hand w t) e in In_enqueue x (empty w.call.insert y.0) (hand t y.1)
+    go callback.SelectCpu x e = let y = both (is_none w.call.insert) (is_at_hand w t) e in InSelectCpu x (empty w.call.insert y.0) (hand t y.1)
+    go callback.Enqueue x e = let y = both (is_none w.call.insert) (is_at_hand w t) e in InEnqueue x (empty w.call.insert y.0) (hand t y.1)
     go callback.Dispatch x e = held-here x t refl e
     go callback.Plain x e = absurd (cc)
     go callback.Init x e = absurd (cc)
@@ -233,9 +233,9 @@ insert_is w t e = go w.call.callback refl e
     go callback.Stopping x e = absurd (cc)
 
 may_insert_of : (w : WorldState) (t : Option ℕ) → MayInsert w t → may_insert w t ≡ true
-may_insert_of w t (In_select_cpu x y z) = rw (x, y, z, eq-eqb w.call.task w.call.task refl) refl
-may_insert_of w t (In_enqueue x y z) = rw (x, y, z, eq-eqb w.call.task w.call.task refl) refl
-may_insert_of w t (In_dispatch u x y z) = rw (x, y) (held_of (place_of w.queues u) z)
+may_insert_of w t (InSelectCpu x y z) = rw (x, y, z, eq-eqb w.call.task w.call.task refl) refl
+may_insert_of w t (InEnqueue x y z) = rw (x, y, z, eq-eqb w.call.task w.call.task refl) refl
+may_insert_of w t (InDispatch u x y z) = rw (x, y) (held_of (entry_of w.queues u) z)
 
 insert_fault_is : (w : WorldState) (t : Option ℕ) (i : Insert) (flags : ℕ) → JudgesInsert w t i flags (insert_fault w t i flags)
 insert_fault_is w t i flags = go (may_insert w t) refl
@@ -272,7 +272,7 @@ apart : (w : WorldState) (q : ℕ) → IsDestination w q → NamesNoCpu w q → 
 apart w q (Own h) n = omega (arith, h.0, n.named)
 apart w q (Global e) n = omega (arith, e, n.named)
 apart w q (Local e) n = omega (arith, e, n.named)
-apart w q (Local_on c l e) n = omega (arith, e, l, n.named, n.past)
+apart w q (LocalOn c l e) n = omega (arith, e, l, n.named, n.past)
 
 no_fault_at : (w : WorldState) (q : ℕ) → IsDestination w q → (o : Option Fault) → FaultOf w q o → o ≡ None
 no_fault_at w q d None h = refl
@@ -342,9 +342,9 @@ inserts w t i m = go m
         rw d (Keeps (λ e. not_both (is_dispatch w.call.callback) d (is_dispatch_of w.call.callback e)) refl)
 
     go : MayInsert w t → Inserts w t i (inserted w None t i)
-    go (In_select_cpu x y z) = kept callback.SelectCpu x refl
-    go (In_enqueue x y z) = kept callback.Enqueue x refl
-    go (In_dispatch u x y z) = rw (is_dispatch_of w.call.callback x, y) (Releases u x refl refl)
+    go (InSelectCpu x y z) = kept callback.SelectCpu x refl
+    go (InEnqueue x y z) = kept callback.Enqueue x refl
+    go (InDispatch u x y z) = rw (is_dispatch_of w.call.callback x, y) (Releases u x refl refl)
 
 only_inserts : (w : WorldState) (t : Option ℕ) (i : Insert) (v : WorldState) → Inserts w t i v → v ≡ inserted w None t i
 only_inserts w t i v (Keeps n k) = rw (is_false (is_dispatch w.call.callback) (λ e. n (dispatch_is w.call.callback e))) k
@@ -386,78 +386,78 @@ moves_is w q (Some t) e = Front t e refl refl
 
 -- ---- all helpers
 
-abbrev Is-effect : WorldState → Helper → List Argument → Type 0
+abbrev Is-effect : WorldState → Helper → List Arg → Type 0
 Is-effect w h a = IsEffect w h a (helper_answer w h a) (helper_after w h a)
 
-create_allowed : (w : WorldState) (a : List Argument) → Is-effect w CreateDsq a
+create_allowed : (w : WorldState) (a : List Arg) → Is-effect w CreateDsq a
 create_allowed w a = go (can_create w q) refl
   where
     q : ℕ
     q = given_number a 0
 
-    go : (b : Bool) → can_create w q ≡ b → IsEffect w CreateDsq a (Number (if b then 0 else invalid)) (if b then with_queues w (created w.queues q) else faulted w CannotCreate)
+    go : (b : Bool) → can_create w q ≡ b → IsEffect w CreateDsq a (Num (if b then 0 else invalid)) (if b then with_queues w (created w.queues q) else faulted w CannotCreate)
     go true e = let h = create_is w q e in Done 0 h (refl, ap (λ s. with_queues w s) (created_is w q h)) refl
     go false e = Wrong CannotCreate (λ h. not_both (can_create w q) e (can_create_of w q h)) refl refl
 
-insert_allowed : (w : WorldState) (a : List Argument) → Is-effect w DsqInsert a
+insert_allowed : (w : WorldState) (a : List Arg) → Is-effect w DsqInsert a
 insert_allowed w a = go (insert_fault w (given_task a 0) (asked a) (given_number a 3)) (insert_fault_is w (given_task a 0) (asked a) (given_number a 3))
   where
-    go : (o : Option Fault) → Judges w DsqInsert a o → IsEffect w DsqInsert a (Number (invalid_if o)) (inserted w o (given_task a 0) (asked a))
+    go : (o : Option Fault) → Judges w DsqInsert a o → IsEffect w DsqInsert a (Num (invalid_if o)) (inserted w o (given_task a 0) (asked a))
     go None j = Done 0 j (refl, inserts w (given_task a 0) (asked a) j.0) refl
     go (Some f) j = Wrong f j refl refl
 
-insert_vtime_allowed : (w : WorldState) (a : List Argument) → Is-effect w DsqInsertVtime a
+insert_vtime_allowed : (w : WorldState) (a : List Arg) → Is-effect w DsqInsertVtime a
 insert_vtime_allowed w a = go (insert_fault w (given_task a 0) (asked_by_vtime a) (given_number a 4)) (insert_fault_is w (given_task a 0) (asked_by_vtime a) (given_number a 4))
   where
-    go : (o : Option Fault) → Judges w DsqInsertVtime a o → IsEffect w DsqInsertVtime a (Number (invalid_if o)) (inserted w o (given_task a 0) (asked_by_vtime a))
+    go : (o : Option Fault) → Judges w DsqInsertVtime a o → IsEffect w DsqInsertVtime a (Num (invalid_if o)) (inserted w o (given_task a 0) (asked_by_vtime a))
     go None j = Done 0 j (refl, inserts w (given_task a 0) (asked_by_vtime a) j.0) refl
     go (Some f) j = Wrong f j refl refl
 
-move_allowed : (w : WorldState) (a : List Argument) → Is-effect w DsqMoveToLocal a
+move_allowed : (w : WorldState) (a : List Arg) → Is-effect w DsqMoveToLocal a
 move_allowed w a = go (can_move w q) refl
   where
     q : ℕ
     q = given_number a 0
 
-    go : (b : Bool) → can_move w q ≡ b → IsEffect w DsqMoveToLocal a (Number (if b then one_if_some (front_of w.queues q) else invalid)) (if b then moved w (front_of w.queues q) q else faulted w NoSuchQueue)
+    go : (b : Bool) → can_move w q ≡ b → IsEffect w DsqMoveToLocal a (Num (if b then one_if_some (front_of w.queues q) else invalid)) (if b then moved w (front_of w.queues q) q else faulted w NoSuchQueue)
     go true e = Done (one_if_some (front_of w.queues q)) (move_is w q e) (moves_is w q (front_of w.queues q) refl) refl
     go false e = Wrong NoSuchQueue (λ h. not_both (can_move w q) e (can_move_of w q h)) refl refl
 
-queued_allowed : (w : WorldState) (a : List Argument) → Is-effect w DsqNrQueued a
+queued_allowed : (w : WorldState) (a : List Arg) → Is-effect w DsqNrQueued a
 queued_allowed w a = go (is_there w q) refl
   where
     q : ℕ
     q = given_number a 0
 
-    go : (b : Bool) → is_there w q ≡ b → IsEffect w DsqNrQueued a (Number (if b then len_of w.queues q else invalid)) (if b then w else faulted w NoSuchQueue)
+    go : (b : Bool) → is_there w q ≡ b → IsEffect w DsqNrQueued a (Num (if b then len_of w.queues q else invalid)) (if b then w else faulted w NoSuchQueue)
     go true e = Done (len_of w.queues q) (there_is w q e) (refl, refl) refl
     go false e = Wrong NoSuchQueue (λ h. not_both (is_there w q) e (is_there_of w q h)) refl refl
 
 chooses : (w : WorldState) (o : Option ℕ) → Chooses w (choice_answer w o) o
-chooses w None = Of_nobody refl
-chooses w (Some t) = Of_task t (is_choice w t)
+chooses w None = OfNobody refl
+chooses w (Some t) = OfTask t (is_choice w t)
 
 tells : (w : WorldState) (c : ℕ) → Tells w c (one_if (is_idle w c))
 tells w c = go (is_idle w c) refl
   where
     go : (b : Bool) → is_idle w c ≡ b → Tells w c (one_if b)
-    go true e = Is_idle e refl
-    go false e = Is_busy e refl
+    go true e = TellsIdle e refl
+    go false e = TellsBusy e refl
 
-idle_allowed : (w : WorldState) (a : List Argument) → Is-effect w CpuIdle a
+idle_allowed : (w : WorldState) (a : List Arg) → Is-effect w CpuIdle a
 idle_allowed w a = go (nat_lt c (length w.cpus)) refl
   where
     c : ℕ
     c = given_number a 0
 
-    go : (b : Bool) → nat_lt c (length w.cpus) ≡ b → IsEffect w CpuIdle a (Number (if b then one_if (is_idle w c) else invalid)) (if b then w else faulted w NoSuchCpu)
+    go : (b : Bool) → nat_lt c (length w.cpus) ≡ b → IsEffect w CpuIdle a (Num (if b then one_if (is_idle w c) else invalid)) (if b then w else faulted w NoSuchCpu)
     go true e = Done (one_if (is_idle w c)) (grind (arith, nat_tests, e)) (tells w c, refl) refl
     go false e = Wrong NoSuchCpu (grind (arith, nat_tests, e)) refl refl
 
 finds : (w : WorldState) (n : ℕ) → Finds w n (pid_answer w n)
 finds w n = go (nat_lt 0 n) (nat_le n (length w.tasks)) refl refl
   where
-    go : (a b : Bool) → nat_lt 0 n ≡ a → nat_le n (length w.tasks) ≡ b → Finds w n (if (a && b) then Task (record { 0 = n - 1 }) else Number 0)
+    go : (a b : Bool) → nat_lt 0 n ≡ a → nat_le n (length w.tasks) ≡ b → Finds w n (if (a && b) then Task (record { 0 = n - 1 }) else Num 0)
     go true true x y =
         let low : 0 < n = grind (arith, nat_tests, x) in
         let high : n ≤ length w.tasks = grind (arith, nat_tests, y) in
@@ -474,18 +474,18 @@ helper_allowed w DsqInsertVtime a own = insert_vtime_allowed w a
 helper_allowed w DsqMoveToLocal a own = move_allowed w a
 helper_allowed w SelectCpuDfl a own = Done (choice_answer w (given_task a 0)) refl (chooses w (given_task a 0), refl) refl
 helper_allowed w CpuIdle a own = idle_allowed w a
-helper_allowed w TaskByPid a own = Looked_up refl (finds w (given_number a 0)) refl
+helper_allowed w TaskByPid a own = FindsElement refl (finds w (given_number a 0)) refl
 helper_allowed w DsqNrQueued a own = queued_allowed w a
 helper_allowed w MapLookupElem a own = absurd (own refl)
 
 -- ---- and nothing else
 
-abbrev Is-this : WorldState → Helper → List Argument → Answer → WorldState → Type 0
+abbrev Is-this : WorldState → Helper → List Arg → Answer → WorldState → Type 0
 Is-this w h a x v = (x ≡ helper_answer w h a) × (v ≡ helper_after w h a)
 
-only_create : (w : WorldState) (a : List Argument) (x : Answer) (v : WorldState) → IsEffect w CreateDsq a x v → Is-this w CreateDsq a x v
-only_create w a x v (Done n j d e) = let b = can_create_of w (given_number a 0) j in rw b (e ∙ ap Number d.0, d.1 ∙ ap (λ s. with_queues w s) (sym (created_is w (given_number a 0) j)))
-only_create w a x v (Looked_up h f e) = absurd (cc)
+only_create : (w : WorldState) (a : List Arg) (x : Answer) (v : WorldState) → IsEffect w CreateDsq a x v → Is-this w CreateDsq a x v
+only_create w a x v (Done n j d e) = let b = can_create_of w (given_number a 0) j in rw b (e ∙ ap Num d.0, d.1 ∙ ap (λ s. with_queues w s) (sym (created_is w (given_number a 0) j)))
+only_create w a x v (FindsElement h f e) = absurd (cc)
 only_create w a x v (Wrong CannotCreate j e k) = let b = is_false (can_create w (given_number a 0)) (λ y. j (create_is w (given_number a 0) y)) in rw b (e, k)
 only_create w a x v (Wrong CannotInsert j e k) = absurd j
 only_create w a x v (Wrong UnknownFlag j e k) = absurd j
@@ -494,40 +494,40 @@ only_create w a x v (Wrong NoSuchCpu j e k) = absurd j
 only_create w a x v (Wrong BuiltinVtime j e k) = absurd j
 only_create w a x v (Wrong Mixed j e k) = absurd j
 
-only_insert : (w : WorldState) (a : List Argument) (x : Answer) (v : WorldState) → IsEffect w DsqInsert a x v → Is-this w DsqInsert a x v
-only_insert w a x v (Done n j d e) = let b = insert_fault_from w (given_task a 0) (asked a) (given_number a 3) None j in rw b (e ∙ ap Number d.0, only_inserts w (given_task a 0) (asked a) v d.1)
-only_insert w a x v (Looked_up h f e) = absurd (cc)
+only_insert : (w : WorldState) (a : List Arg) (x : Answer) (v : WorldState) → IsEffect w DsqInsert a x v → Is-this w DsqInsert a x v
+only_insert w a x v (Done n j d e) = let b = insert_fault_from w (given_task a 0) (asked a) (given_number a 3) None j in rw b (e ∙ ap Num d.0, only_inserts w (given_task a 0) (asked a) v d.1)
+only_insert w a x v (FindsElement h f e) = absurd (cc)
 only_insert w a x v (Wrong f j e k) = let b = insert_fault_from w (given_task a 0) (asked a) (given_number a 3) (Some f) j in rw b (e, k)
 
-only_insert_vtime : (w : WorldState) (a : List Argument) (x : Answer) (v : WorldState) → IsEffect w DsqInsertVtime a x v → Is-this w DsqInsertVtime a x v
-only_insert_vtime w a x v (Done n j d e) = let b = insert_fault_from w (given_task a 0) (asked_by_vtime a) (given_number a 4) None j in rw b (e ∙ ap Number d.0, only_inserts w (given_task a 0) (asked_by_vtime a) v d.1)
-only_insert_vtime w a x v (Looked_up h f e) = absurd (cc)
+only_insert_vtime : (w : WorldState) (a : List Arg) (x : Answer) (v : WorldState) → IsEffect w DsqInsertVtime a x v → Is-this w DsqInsertVtime a x v
+only_insert_vtime w a x v (Done n j d e) = let b = insert_fault_from w (given_task a 0) (asked_by_vtime a) (given_number a 4) None j in rw b (e ∙ ap Num d.0, only_inserts w (given_task a 0) (asked_by_vtime a) v d.1)
+only_insert_vtime w a x v (FindsElement h f e) = absurd (cc)
 only_insert_vtime w a x v (Wrong f j e k) = let b = insert_fault_from w (given_task a 0) (asked_by_vtime a) (given_number a 4) (Some f) j in rw b (e, k)
 
 only_chooses : (w : WorldState) (n : ℕ) (o : Option ℕ) → Chooses w n o → n ≡ choice_answer w o
-only_chooses w n o (Of_task t h) = only_choice w t n h
-only_chooses w n o (Of_nobody e) = e
+only_chooses w n o (OfTask t h) = only_choice w t n h
+only_chooses w n o (OfNobody e) = e
 
 only_tells : (w : WorldState) (c n : ℕ) → Tells w c n → n ≡ one_if (is_idle w c)
-only_tells w c n (Is_idle e k) = rw e k
-only_tells w c n (Is_busy e k) = rw e k
+only_tells w c n (TellsIdle e k) = rw e k
+only_tells w c n (TellsBusy e k) = rw e k
 
-only_idle : (w : WorldState) (a : List Argument) (x : Answer) (v : WorldState) → IsEffect w CpuIdle a x v → Is-this w CpuIdle a x v
+only_idle : (w : WorldState) (a : List Arg) (x : Answer) (v : WorldState) → IsEffect w CpuIdle a x v → Is-this w CpuIdle a x v
 only_idle w a x v (Done n j d e) = go (nat_lt c (length w.cpus)) refl
   where
     c : ℕ
     c = given_number a 0
 
-    go : (b : Bool) → nat_lt c (length w.cpus) ≡ b → (x ≡ Number (if b then one_if (is_idle w c) else invalid)) × (v ≡ (if b then w else faulted w NoSuchCpu))
-    go true y = (e ∙ ap Number (only_tells w c n d.0), d.1)
+    go : (b : Bool) → nat_lt c (length w.cpus) ≡ b → (x ≡ Num (if b then one_if (is_idle w c) else invalid)) × (v ≡ (if b then w else faulted w NoSuchCpu))
+    go true y = (e ∙ ap Num (only_tells w c n d.0), d.1)
     go false y = let past : length w.cpus ≤ c = grind (arith, nat_tests, y) in absurd (omega (arith, j, past))
-only_idle w a x v (Looked_up h f e) = absurd (cc)
+only_idle w a x v (FindsElement h f e) = absurd (cc)
 only_idle w a x v (Wrong NoSuchCpu j e k) = go (nat_lt c (length w.cpus)) refl
   where
     c : ℕ
     c = given_number a 0
 
-    go : (b : Bool) → nat_lt c (length w.cpus) ≡ b → (x ≡ Number (if b then one_if (is_idle w c) else invalid)) × (v ≡ (if b then w else faulted w NoSuchCpu))
+    go : (b : Bool) → nat_lt c (length w.cpus) ≡ b → (x ≡ Num (if b then one_if (is_idle w c) else invalid)) × (v ≡ (if b then w else faulted w NoSuchCpu))
     go true y = let l : c < length w.cpus = grind (arith, nat_tests, y) in absurd (omega (arith, j, l))
     go false y = (e, k)
 only_idle w a x v (Wrong NoSuchQueue j e k) = absurd j
@@ -545,7 +545,7 @@ only_finds w n x (Found t l e k) =
     rw (low, high) (k ∙ ap (λ (m : ℕ). Task (record { 0 = m })) is)
 only_finds w n x (Nobody none k) = go (nat_lt 0 n) (nat_le n (length w.tasks)) refl refl
   where
-    go : (a b : Bool) → nat_lt 0 n ≡ a → nat_le n (length w.tasks) ≡ b → x ≡ (if (a && b) then Task (record { 0 = n - 1 }) else Number 0)
+    go : (a b : Bool) → nat_lt 0 n ≡ a → nat_le n (length w.tasks) ≡ b → x ≡ (if (a && b) then Task (record { 0 = n - 1 }) else Num 0)
     go true true y z =
         let low : 0 < n = grind (arith, nat_tests, y) in
         let high : n ≤ length w.tasks = grind (arith, nat_tests, z) in
@@ -557,12 +557,12 @@ only_moves : (w : WorldState) (q n : ℕ) (v : WorldState) → Moves w q n v →
 only_moves w q n v (Front t f e k) = rw f (e, k)
 only_moves w q n v (Empty f e k) = rw f (e, k)
 
-only_move : (w : WorldState) (a : List Argument) (x : Answer) (v : WorldState) → IsEffect w DsqMoveToLocal a x v → Is-this w DsqMoveToLocal a x v
+only_move : (w : WorldState) (a : List Arg) (x : Answer) (v : WorldState) → IsEffect w DsqMoveToLocal a x v → Is-this w DsqMoveToLocal a x v
 only_move w a x v (Done n j d e) =
     let b = can_move_of w (given_number a 0) j in
     let m = only_moves w (given_number a 0) n v d in
-    rw b (e ∙ ap Number m.0, m.1)
-only_move w a x v (Looked_up h f e) = absurd (cc)
+    rw b (e ∙ ap Num m.0, m.1)
+only_move w a x v (FindsElement h f e) = absurd (cc)
 only_move w a x v (Wrong NoSuchQueue j e k) = let b = is_false (can_move w (given_number a 0)) (λ y. j (move_is w (given_number a 0) y)) in rw b (e, k)
 only_move w a x v (Wrong CannotInsert j e k) = absurd j
 only_move w a x v (Wrong UnknownFlag j e k) = absurd j
@@ -571,9 +571,9 @@ only_move w a x v (Wrong NoSuchCpu j e k) = absurd j
 only_move w a x v (Wrong BuiltinVtime j e k) = absurd j
 only_move w a x v (Wrong Mixed j e k) = absurd j
 
-only_queued : (w : WorldState) (a : List Argument) (x : Answer) (v : WorldState) → IsEffect w DsqNrQueued a x v → Is-this w DsqNrQueued a x v
-only_queued w a x v (Done n j d e) = let b = is_there_of w (given_number a 0) j in rw b (e ∙ ap Number d.0, d.1)
-only_queued w a x v (Looked_up h f e) = absurd (cc)
+only_queued : (w : WorldState) (a : List Arg) (x : Answer) (v : WorldState) → IsEffect w DsqNrQueued a x v → Is-this w DsqNrQueued a x v
+only_queued w a x v (Done n j d e) = let b = is_there_of w (given_number a 0) j in rw b (e ∙ ap Num d.0, d.1)
+only_queued w a x v (FindsElement h f e) = absurd (cc)
 only_queued w a x v (Wrong NoSuchQueue j e k) = let b = is_false (is_there w (given_number a 0)) (λ y. j (there_is w (given_number a 0) y)) in rw b (e, k)
 only_queued w a x v (Wrong CannotInsert j e k) = absurd j
 only_queued w a x v (Wrong UnknownFlag j e k) = absurd j
@@ -587,21 +587,21 @@ some_fault f e = absurd (cc)
 
 -- and nothing else is
 pub only_helper : RulesAllowHelpersOnly
-only_helper w KtimeGetNs a x v (Done n j d e) = (e ∙ ap Number d.0, d.1)
-only_helper w KtimeGetNs a x v (Looked_up h f e) = absurd (cc)
+only_helper w KtimeGetNs a x v (Done n j d e) = (e ∙ ap Num d.0, d.1)
+only_helper w KtimeGetNs a x v (FindsElement h f e) = absurd (cc)
 only_helper w KtimeGetNs a x v (Wrong f j e k) = absurd (some_fault f j)
 only_helper w CreateDsq a x v e = only_create w a x v e
 only_helper w DsqInsert a x v e = only_insert w a x v e
 only_helper w DsqInsertVtime a x v e = only_insert_vtime w a x v e
 only_helper w DsqMoveToLocal a x v e = only_move w a x v e
-only_helper w SelectCpuDfl a x v (Done n j d e) = (e ∙ ap Number (only_chooses w n (given_task a 0) d.0), d.1)
-only_helper w SelectCpuDfl a x v (Looked_up h f e) = absurd (cc)
+only_helper w SelectCpuDfl a x v (Done n j d e) = (e ∙ ap Num (only_chooses w n (given_task a 0) d.0), d.1)
+only_helper w SelectCpuDfl a x v (FindsElement h f e) = absurd (cc)
 only_helper w SelectCpuDfl a x v (Wrong f j e k) = absurd (some_fault f j)
 only_helper w CpuIdle a x v e = only_idle w a x v e
 only_helper w TaskByPid a x v (Done n j d e) = absurd d
-only_helper w TaskByPid a x v (Looked_up h f e) = (only_finds w (given_number a 0) x f, e)
+only_helper w TaskByPid a x v (FindsElement h f e) = (only_finds w (given_number a 0) x f, e)
 only_helper w TaskByPid a x v (Wrong f j e k) = absurd (some_fault f j)
 only_helper w DsqNrQueued a x v e = only_queued w a x v e
 only_helper w MapLookupElem a x v (Done n j d e) = absurd j
-only_helper w MapLookupElem a x v (Looked_up h f e) = absurd (cc)
+only_helper w MapLookupElem a x v (FindsElement h f e) = absurd (cc)
 only_helper w MapLookupElem a x v (Wrong f j e k) = absurd j

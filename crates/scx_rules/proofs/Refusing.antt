@@ -8,7 +8,7 @@ use Rattle.scx_machine.specs.declared.events.Refused.{Refused}
 use Rattle.scx_machine.specs.declared.events.Refused.TheVariants.{AlreadyRunnable, NotRunnable, UnknownTask, UnknownCpu, UnknownGroup, BadWeight}
 use Rattle.scx_machine.specs.Steps.{State}
 use Rattle.scx_machine.specs.Events.{is_bad_weight, refusal}
-use Rattle.scx_rules.specs.Refusals.{RefusesTask, No_task, Already, IsWeight, RefusesWeight, No_group, No_weight}
+use Rattle.scx_rules.specs.Refusals.{RefusesTask, NoTask, Already, IsWeight, RefusesWeight, NoGroup, NoWeight}
 use Rattle.scx_rules.specs.Laws.{RulesRefuseEvents, RulesRefuseEventsOnly}
 
 abbrev or_else : Refused → Option Refused → Refused
@@ -53,7 +53,7 @@ wake s t r = go (cases_lt t (length s.world.tasks)) (is_runnable s.world t) refl
         → (if nat_lt t (length s.world.tasks) then (if b then Some AlreadyRunnable else None) else Some UnknownTask) ≡ Some r → RefusesTask s t true AlreadyRunnable r
     go (inl l) true k = rw (below t (length s.world.tasks) l) (λ e. Already l k (is AlreadyRunnable r e))
     go (inl l) false k = rw (below t (length s.world.tasks) l) (λ e. absurd (none_is r e))
-    go (inr l) b k = rw (past t (length s.world.tasks) l) (λ e. No_task l (is UnknownTask r e))
+    go (inr l) b k = rw (past t (length s.world.tasks) l) (λ e. NoTask l (is UnknownTask r e))
 
 sleep : (s : State) (t : ℕ) (r : Refused) → refusal s (Sleep t) ≡ Some r → RefusesTask s t false NotRunnable r
 sleep s t r = go (cases_lt t (length s.world.tasks)) (is_runnable s.world t) refl
@@ -62,7 +62,7 @@ sleep s t r = go (cases_lt t (length s.world.tasks)) (is_runnable s.world t) ref
         → (if nat_lt t (length s.world.tasks) then (if b then None else Some NotRunnable) else Some UnknownTask) ≡ Some r → RefusesTask s t false NotRunnable r
     go (inl l) true k = rw (below t (length s.world.tasks) l) (λ e. absurd (none_is r e))
     go (inl l) false k = rw (below t (length s.world.tasks) l) (λ e. Already l k (is NotRunnable r e))
-    go (inr l) b k = rw (past t (length s.world.tasks) l) (λ e. No_task l (is UnknownTask r e))
+    go (inr l) b k = rw (past t (length s.world.tasks) l) (λ e. NoTask l (is UnknownTask r e))
 
 tick : (s : State) (c : ℕ) (r : Refused) → refusal s (Tick c) ≡ Some r → (length s.world.cpus ≤ c) × (r ≡ UnknownCpu)
 tick s c r = go (cases_lt c (length s.world.cpus))
@@ -76,9 +76,9 @@ weight s g x r = go (cases_lt g (length s.world.tree.groups)) (is_bad_weight x) 
   where
     go : (g < length s.world.tree.groups) ⊎ (length s.world.tree.groups ≤ g) → (b : Bool) → is_bad_weight x ≡ b
         → (if nat_lt g (length s.world.tree.groups) then (if b then Some BadWeight else None) else Some UnknownGroup) ≡ Some r → RefusesWeight s g x r
-    go (inl l) true k = rw (below g (length s.world.tree.groups) l) (λ e. No_weight l (λ w. both (is_bad_weight x) k (good x w)) (is BadWeight r e))
+    go (inl l) true k = rw (below g (length s.world.tree.groups) l) (λ e. NoWeight l (λ w. both (is_bad_weight x) k (good x w)) (is BadWeight r e))
     go (inl l) false k = rw (below g (length s.world.tree.groups) l) (λ e. absurd (none_is r e))
-    go (inr l) b k = rw (past g (length s.world.tree.groups) l) (λ e. No_group l (is UnknownGroup r e))
+    go (inr l) b k = rw (past g (length s.world.tree.groups) l) (λ e. NoGroup l (is UnknownGroup r e))
 
 -- where it is refused the rules refuse it
 pub refuses : RulesRefuseEvents
@@ -91,16 +91,16 @@ refuses s (SetWeight g x) r e = weight s g x r e
 -- ---- and nothing else is
 
 only_wake : (s : State) (t : ℕ) (r : Refused) → RefusesTask s t true AlreadyRunnable r → refusal s (Wake t) ≡ Some r
-only_wake s t r (No_task l k) = rw (past t (length s.world.tasks) l, k) refl
+only_wake s t r (NoTask l k) = rw (past t (length s.world.tasks) l, k) refl
 only_wake s t r (Already l x k) = rw (below t (length s.world.tasks) l, x, k) refl
 
 only_sleep : (s : State) (t : ℕ) (r : Refused) → RefusesTask s t false NotRunnable r → refusal s (Sleep t) ≡ Some r
-only_sleep s t r (No_task l k) = rw (past t (length s.world.tasks) l, k) refl
+only_sleep s t r (NoTask l k) = rw (past t (length s.world.tasks) l, k) refl
 only_sleep s t r (Already l x k) = rw (below t (length s.world.tasks) l, x, k) refl
 
 only_weight : (s : State) (g x : ℕ) (r : Refused) → RefusesWeight s g x r → refusal s (SetWeight g x) ≡ Some r
-only_weight s g x r (No_group l k) = rw (past g (length s.world.tree.groups) l, k) refl
-only_weight s g x r (No_weight l n k) = rw (below g (length s.world.tree.groups) l, bad x n, k) refl
+only_weight s g x r (NoGroup l k) = rw (past g (length s.world.tree.groups) l, k) refl
+only_weight s g x r (NoWeight l n k) = rw (below g (length s.world.tree.groups) l, bad x n, k) refl
 
 -- and where they do it is
 pub only_refuses : RulesRefuseEventsOnly

@@ -13,7 +13,7 @@ use Rattle.scx_machine.specs.Policy.{PolicyState, program_of, AreAs}
 use Rattle.scx_machine.specs.Steps.{State, CallMade}
 use Rattle.scx_machine.specs.Callbacks.{ended, AreAnswered, no_arguments, one_task}
 use Rattle.scx_machine.specs.Start.{blank, init_ending, bad_answer, ok_unless, initialized, enable_ending, has_failed, enable, then_enable, enabled, ok_if, all_enabled, init_calls, enable_calls, calls_below, calls_after_init}
-use Rattle.scx_rules.specs.Starts.{HasBadShape, No_cpu, Many_cpus, Active, Judged, Faults, Stuck, Refuses, Accepts, Initializes, Passes, Has_fault, Is_stuck, Answers, Enables, EnablesAll, Nobody, Failed, Next, Begins, Init_fails, Enable_fails, Succeeds}
+use Rattle.scx_rules.specs.Starts.{HasBadShape, NoCpu, ManyCpus, Active, Judged, Faults, Stuck, Refuses, Accepts, Initializes, Passes, HasFault, HasStuck, Answers, Enables, EnablesAll, Nobody, Failed, Next, Begins, InitFails, EnableFails, Succeeds}
 use Rattle.scx_rules.specs.Laws.{RulesAllowStarts, RulesAllowStartsOnly, RulesRefuseShapes, RulesRefuseShapesOnly}
 use Rattle.scx_rules.proofs.Calling.{only_ends, ends_as}
 
@@ -57,14 +57,14 @@ bad_shape tree cpus = go (cases_lt cpus 1) (cases_lt 64 cpus)
     active h = Active h.0 h.1 h.2
 
     go : (cpus < 1) ⊎ (1 ≤ cpus) → (64 < cpus) ⊎ (cpus ≤ 64) → (nat_lt cpus 1 || (nat_lt 64 cpus || any_below (length tree.homes) (λ t. is_active_task tree t))) ≡ true → HasBadShape tree cpus
-    go (inl l) h = λ e. No_cpu (omega (arith, l))
-    go (inr l) (inl h) = λ e. Many_cpus h
+    go (inl l) h = λ e. NoCpu (omega (arith, l))
+    go (inr l) (inl h) = λ e. ManyCpus h
     go (inr l) (inr h) = rw (past cpus 1 l, past 64 cpus h) (λ e. active (some_below (length tree.homes) (λ t. is_active_task tree t) e))
 
 -- and only of a bad one none does
 pub only_bad_shape : RulesRefuseShapesOnly
-only_bad_shape tree cpus (No_cpu k) = rw k refl
-only_bad_shape tree cpus (Many_cpus l) = rw (past cpus 1 (omega (arith, l)), below 64 cpus l) refl
+only_bad_shape tree cpus (NoCpu k) = rw k refl
+only_bad_shape tree cpus (ManyCpus l) = rw (past cpus 1 (omega (arith, l)), below 64 cpus l) refl
 only_bad_shape tree cpus (Active t l e) = rw (is_below (length tree.homes) t (λ u. is_active_task tree u) l e) (all_true (nat_lt cpus 1) (nat_lt 64 cpus))
   where
     all_true : (a b : Bool) → (a || (b || true)) ≡ true
@@ -124,13 +124,13 @@ passes : (s : State) (e : Ending WorldState) → Passes s e (passed s e)
 passes s e = go e.outside.call.fault refl e.answer refl
   where
     go : (f : Option Fault) → e.outside.call.fault ≡ f → (a : Option ℕ) → e.answer ≡ a → Passes s e (passed_as s e f a)
-    go (Some f) x a y = Has_fault f x refl
-    go None x None y = Is_stuck x y refl
+    go (Some f) x a y = HasFault f x refl
+    go None x None y = HasStuck x y refl
     go None x (Some n) y = Answers n x y refl
 
 only_passes : (s : State) (e : Ending WorldState) (r : Option State) → Passes s e r → r ≡ passed s e
-only_passes s e r (Has_fault f x k) = k ∙ ap (λ o. passed_as s e o e.answer) (sym x)
-only_passes s e r (Is_stuck x y k) = k ∙ ap (λ a. passed_as s e None a) (sym y) ∙ ap (λ o. passed_as s e o e.answer) (sym x)
+only_passes s e r (HasFault f x k) = k ∙ ap (λ o. passed_as s e o e.answer) (sym x)
+only_passes s e r (HasStuck x y k) = k ∙ ap (λ a. passed_as s e None a) (sym y) ∙ ap (λ o. passed_as s e o e.answer) (sym x)
 only_passes s e r (Answers n x y k) = k ∙ ap (λ a. passed_as s e None a) (sym y) ∙ ap (λ o. passed_as s e o e.answer) (sym x)
 
 enables : (s : State) (t : ℕ) → AreAs s.policy.callbacks → AreAnswered (enable_calls (Some s) t) → Enables s t (enable s t)
@@ -217,17 +217,17 @@ begins p tree cpus fits all =
     from (initialized (blank p tree cpus)) refl (initializes (blank p tree cpus) fits (answered_first (init_calls (blank p tree cpus)) (calls_after_init (initialized (blank p tree cpus))) all)) (answered_second (init_calls (blank p tree cpus)) (calls_after_init (initialized (blank p tree cpus))) all)
   where
     rest : (s : State) → Initializes (blank p tree cpus) (Ok s) → (o : Option State) → EnablesAll (length s.world.tasks) s o → Begins p tree cpus (ok_if o)
-    rest s i None h = Enable_fails s i h refl
+    rest s i None h = EnableFails s i h refl
     rest s i (Some u) h = Succeeds s u i h refl
 
     from : (r : Result State ℤ) → initialized (blank p tree cpus) ≡ r → Initializes (blank p tree cpus) r → AreAnswered (calls_after_init r) → Begins p tree cpus (all_enabled r)
-    from (Err n) x i a = Init_fails n i refl
+    from (Err n) x i a = InitFails n i refl
     from (Ok s) x i a = rest s i (enabled (length s.world.tasks) s) (enables_all (length s.world.tasks) s (subst (λ (q : PolicyState). AreAs q.callbacks) (sym (after_init (blank p tree cpus) s x)) fits) a)
 
 -- and in no other way
 pub only_begins : RulesAllowStartsOnly
-only_begins p tree cpus r (Init_fails n i k) = k ∙ ap (λ x. all_enabled x) (only_initializes (blank p tree cpus) (Err n) i)
-only_begins p tree cpus r (Enable_fails s i h k) =
+only_begins p tree cpus r (InitFails n i k) = k ∙ ap (λ x. all_enabled x) (only_initializes (blank p tree cpus) (Err n) i)
+only_begins p tree cpus r (EnableFails s i h k) =
     k ∙ ap (λ o. ok_if o) (only_enables_all (length s.world.tasks) s None h) ∙ ap (λ x. all_enabled x) (only_initializes (blank p tree cpus) (Ok s) i)
 only_begins p tree cpus r (Succeeds s u i h k) =
     k ∙ ap (λ o. ok_if o) (only_enables_all (length s.world.tasks) s (Some u) h) ∙ ap (λ x. all_enabled x) (only_initializes (blank p tree cpus) (Ok s) i)

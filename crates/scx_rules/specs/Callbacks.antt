@@ -7,7 +7,7 @@ use Rattle.scx_semantics.specs.Elements.{Maps}
 use Rattle.scx_semantics.specs.Endings.{Ending}
 use Rattle.scx_semantics.specs.Runs.{Outside, Runs, GetsStuck}
 use Rattle.scx_safety.specs.Programs.{VerifiedProgram}
-use Rattle.scx_vm.specs.declared.arguments.Arguments.{Arguments}
+use Rattle.scx_vm.specs.declared.arguments.Args.{Args}
 use Rattle.scx_vm.specs.Arguments.{given}
 use Rattle.scx_vm.specs.Host.{host}
 use Rattle.scx_world.specs.World.{WorldState, begun}
@@ -21,19 +21,19 @@ abbrev pub answering : Outside WorldState
 answering = host world_functions
 
 -- how a callback ends that begins in that world; one that the policy hasn't answers 0
-pub data EndsAs (program : Option VerifiedProgram) (b : Callback) (a : Arguments) (maps : Maps) (w : WorldState) (e : Ending WorldState) : Type 0 where
+pub data EndsAs (program : Option VerifiedProgram) (b : Callback) (a : Args) (maps : Maps) (w : WorldState) (e : Ending WorldState) : Type 0 where
   Absent : program ≡ None → e ≡ record { answer = Some 0; maps = maps; outside = w } → EndsAs program b a maps w e
   Exits : (p : VerifiedProgram) (answer steps : ℕ) (left : Maps) (v : WorldState) → program ≡ Some p → steps ≤ instruction_count p.code
       → Runs answering b p.code (given a) maps w answer steps left v → e ≡ record { answer = Some answer; maps = left; outside = v } → EndsAs program b a maps w e
-  Gets_stuck : (p : VerifiedProgram) (slot steps : ℕ) (left : Maps) (v : WorldState) → program ≡ Some p → steps ≤ instruction_count p.code
+  Sticks : (p : VerifiedProgram) (slot steps : ℕ) (left : Maps) (v : WorldState) → program ≡ Some p → steps ≤ instruction_count p.code
       → GetsStuck answering b p.code (given a) maps w slot steps left v → e ≡ record { answer = None; maps = left; outside = v } → EndsAs program b a maps w e
 
 -- what the machine goes on from; what the world noted is handed on
-abbrev pub leaving : State → Callback → Arguments → WorldState → Ending WorldState → Stepped
+abbrev pub leaving : State → Callback → Args → WorldState → Ending WorldState → Stepped
 leaving s b a w e = record { state = ended s.policy e; notes = e.outside.notes; calls = calls_of (program_of s.policy b) a s.maps w }
 
 -- with that task and processor at hand, it answers so, if it comes to an answer
-pub record CallsBack (s : State) (b : Callback) (a : Arguments) (t c : ℕ) (answer : Option ℕ) (r : Stepped) : Type 0 where
+pub record CallsBack (s : State) (b : Callback) (a : Args) (t c : ℕ) (answer : Option ℕ) (r : Stepped) : Type 0 where
   pub ending : Ending WorldState
   pub ends : EndsAs (program_of s.policy b) b a s.maps (begun s.world b t c) ending
   pub answers : answer ≡ ending.answer

@@ -4,7 +4,7 @@
 use Rattle.std.specs.Prelude.{◌≡◌, ℕ, suc, ◌<◌, Bool, true, false, [], ◌∷◌, Option, Some, None}
 use Rattle.scx_dsq.specs.Queues.{front_of}
 use Rattle.scx_dsq.specs.Calls.{pushed, popped}
-use Rattle.scx_dsq.specs.declared.places.Rank.TheVariants.{Fifo}
+use Rattle.scx_dsq.specs.declared.entries.Rank.TheVariants.{Fifo}
 use Rattle.scx_semantics.specs.declared.callbacks.Callback.TheVariants as callback
 use Rattle.scx_safety.specs.Programs.{VerifiedProgram}
 use Rattle.scx_world.specs.declared.call.Insert.{Insert}
@@ -62,8 +62,8 @@ pub record Puts (s : State) (t c flags : ℕ) (r : Stepped) : Type 0 where
 
 -- where the local queue is empty, the front of the queue of all processors comes to it
 pub data Fills (s : State) (c : ℕ) (r : Stepped) : Type 0 where
-  Has_local : 0 < local_len s.world c → r ≡ stays s → Fills s c r
-  No_other : local_len s.world c ≡ 0 → front_of s.world.queues global ≡ None → r ≡ stays s → Fills s c r
+  HasLocal : 0 < local_len s.world c → r ≡ stays s → Fills s c r
+  NoOther : local_len s.world c ≡ 0 → front_of s.world.queues global ≡ None → r ≡ stays s → Fills s c r
   Moves : (t : ℕ) → local_len s.world c ≡ 0 → front_of s.world.queues global ≡ Some t
       → r ≡ noting s (with_queues s.world (pushed (popped s.world.queues global) (local_on c) t Fifo)) (note.Move t c) → Fills s c r
 
@@ -79,7 +79,7 @@ pub record Dispatches (s : State) (c : ℕ) (p : Option ℕ) (r : Stepped) : Typ
 pub data Asks : ℕ → State → ℕ → Option ℕ → Stepped → Type 0 where
   Enough : (s : State) (c : ℕ) (p : Option ℕ) (r : Stepped) → r ≡ stays s → Asks 0 s c p r
   Came : (n : ℕ) (s : State) (c : ℕ) (p : Option ℕ) (r : Stepped) → Dispatches s c p r → 0 < local_len r.state.world c → Asks (suc n) s c p r
-  Nothing_moved : (n : ℕ) (s : State) (c : ℕ) (p : Option ℕ) (r : Stepped) → Dispatches s c p r → local_len r.state.world c ≡ 0 → r.state.world.call.has_moved ≡ false → Asks (suc n) s c p r
+  NothingMoved : (n : ℕ) (s : State) (c : ℕ) (p : Option ℕ) (r : Stepped) → Dispatches s c p r → local_len r.state.world c ≡ 0 → r.state.world.call.has_moved ≡ false → Asks (suc n) s c p r
   Again : (n : ℕ) (s : State) (c : ℕ) (p : Option ℕ) (d more r : Stepped) → Dispatches s c p d → local_len d.state.world c ≡ 0 → d.state.world.call.has_moved ≡ true
       → Asks n d.state c p more → r ≡ joined d more → Asks (suc n) s c p r
 
@@ -110,7 +110,7 @@ pub record Picks (s : State) (c : ℕ) (p : Option ℕ) (r : Stepped) : Type 0 w
 pub data Rests (s : State) (c : ℕ) : Option ℕ → Bool → Stepped → Type 0 where
   Keeps : (t : ℕ) (ran : Bool) (r : Stepped) → r ≡ silent s (kept s.world (Some t)) → Rests s c (Some t) ran r
   Idles : (r : Stepped) → r ≡ noting s s.world (note.Idle c) → Rests s c None true r
-  Was_idle : (r : Stepped) → r ≡ stays s → Rests s c None false r
+  WasIdle : (r : Stepped) → r ≡ stays s → Rests s c None false r
 
 pub data Ends (s : State) (c : ℕ) (p : Option ℕ) (ran : Bool) (r : Stepped) : Type 0 where
   Picked : 0 < local_len s.world c → Picks s c p r → Ends s c p ran r

@@ -27,37 +27,37 @@ select_answered s t = answered_by s callback.SelectCpu (task_cpu_and_0 t (task_a
 -- after select_cpu, which answered so: the processor that it names, if there is such a one, else the default
 -- choice
 pub data IsTarget (s : State) (t : ℕ) (answer : Option ℕ) (c : ℕ) : Type 0 where
-  No_callback : s.policy.callbacks.select_cpu ≡ None → IsChoice s.world t c → IsTarget s t answer c
+  NoCallback : s.policy.callbacks.select_cpu ≡ None → IsChoice s.world t c → IsTarget s t answer c
   Named : (p : VerifiedProgram) → s.policy.callbacks.select_cpu ≡ Some p → answer ≡ Some c → c < length s.world.cpus → IsTarget s t answer c
-  No_such_cpu : (p : VerifiedProgram) (n : ℕ) → s.policy.callbacks.select_cpu ≡ Some p → answer ≡ Some n → length s.world.cpus ≤ n → IsChoice s.world t c → IsTarget s t answer c
-  No_answer : (p : VerifiedProgram) → s.policy.callbacks.select_cpu ≡ Some p → answer ≡ None → IsChoice s.world t c → IsTarget s t answer c
+  NoSuchCpu : (p : VerifiedProgram) (n : ℕ) → s.policy.callbacks.select_cpu ≡ Some p → answer ≡ Some n → length s.world.cpus ≤ n → IsChoice s.world t c → IsTarget s t answer c
+  NoAnswer : (p : VerifiedProgram) → s.policy.callbacks.select_cpu ≡ Some p → answer ≡ None → IsChoice s.world t c → IsTarget s t answer c
 
 -- what select_cpu inserted is applied, LOCAL being of the target; else the task is put
 pub data Settles (s : State) (t c : ℕ) (r : Stepped) : Type 0 where
-  Was_inserted : (i : Insert) → s.world.call.insert ≡ Some i → r ≡ entering s t (for_cpu c i) → Settles s t c r
-  Is_put : s.world.call.insert ≡ None → Puts s t c 1 r → Settles s t c r
+  WasInserted : (i : Insert) → s.world.call.insert ≡ Some i → r ≡ entering s t (for_cpu c i) → Settles s t c r
+  WasPut : s.world.call.insert ≡ None → Puts s t c 1 r → Settles s t c r
 
 -- the task is runnable, and comes to wait for its target, which looks for a task if it is idle
 pub data Wakes (s : State) (t : ℕ) (r : Stepped) : Type 0 where
-  Idle_target : (c : ℕ) (settled found : Stepped) → IsTarget (select_called (awake s t) t).state t (select_answered (awake s t) t) c → Settles (select_called (awake s t) t).state t c settled
+  IdleTarget : (c : ℕ) (settled found : Stepped) → IsTarget (select_called (awake s t) t).state t (select_answered (awake s t) t) c → Settles (select_called (awake s t) t).state t c settled
       → is_idle settled.state.world c ≡ true → Cycles settled.state c None false found
       → r ≡ after (said s.world (note.Wake t) ∷ []) (joined (select_called (awake s t) t) (joined settled found)) → Wakes s t r
-  Busy_target : (c : ℕ) (settled : Stepped) → IsTarget (select_called (awake s t) t).state t (select_answered (awake s t) t) c → Settles (select_called (awake s t) t).state t c settled
+  BusyTarget : (c : ℕ) (settled : Stepped) → IsTarget (select_called (awake s t) t).state t (select_answered (awake s t) t) c → Settles (select_called (awake s t) t).state t c settled
       → is_idle settled.state.world c ≡ false
       → r ≡ after (said s.world (note.Wake t) ∷ []) (joined (select_called (awake s t) t) settled) → Wakes s t r
 
 -- the task leaves its queue, or its processor, which looks for another task
 pub data Sleeps (s : State) (t : ℕ) (r : Stepped) : Type 0 where
-  From_queue : cpu_of s.world t ≡ None → r ≡ after (said s.world (note.Sleep t) ∷ []) (silent s (asleep (gone s.world t) t)) → Sleeps s t r
-  From_cpu : (c : ℕ) (found : Stepped) → cpu_of s.world t ≡ Some c
+  FromQueue : cpu_of s.world t ≡ None → r ≡ after (said s.world (note.Sleep t) ∷ []) (silent s (asleep (gone s.world t) t)) → Sleeps s t r
+  FromCpu : (c : ℕ) (found : Stepped) → cpu_of s.world t ≡ Some c
       → Cycles (with_world (stopping_called s c t 0).state (asleep (stopping_called s c t 0).state.world t)) c None true found
       → r ≡ after (said s.world (note.Sleep t) ∷ said s.world (note.Stop t c) ∷ []) (joined (stopping_called s c t 0) found) → Sleeps s t r
 
 -- the task that runs there runs on while its slice lasts; else the processor looks for a task
 pub data Ticks (s : State) (c : ℕ) (r : Stepped) : Type 0 where
-  Nobody_runs : running s.world c ≡ None → Cycles s c None false r → Ticks s c r
-  Runs_on : (t : ℕ) → running s.world c ≡ Some t → 0 < (task_at (ticked s.world t) t).slice → r ≡ silent s (ticked s.world t) → Ticks s c r
-  Runs_out : (t : ℕ) → running s.world c ≡ Some t → (task_at (ticked s.world t) t).slice ≡ 0 → Cycles (with_world s (ticked s.world t)) c (Some t) true r → Ticks s c r
+  NobodyRuns : running s.world c ≡ None → Cycles s c None false r → Ticks s c r
+  RunsOn : (t : ℕ) → running s.world c ≡ Some t → 0 < (task_at (ticked s.world t) t).slice → r ≡ silent s (ticked s.world t) → Ticks s c r
+  RunsOut : (t : ℕ) → running s.world c ≡ Some t → (task_at (ticked s.world t) t).slice ≡ 0 → Cycles (with_world s (ticked s.world t)) c (Some t) true r → Ticks s c r
 
 abbrev pub Happens : State → Event → Stepped → Type 0
 Happens s (Wake t) r = Wakes s t r

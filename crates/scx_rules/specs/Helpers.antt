@@ -4,16 +4,16 @@
 use Rattle.std.specs.Prelude.{◌≡◌, ℕ, ◌+◌, ◌<◌, ◌≤◌, ◌^◌, ◌*◌, true, false, List, length, Option, Some, None}
 use Rattle.scx_dsq.specs.Queues.{exists, queue_of, front_of, len_of, Waits}
 use Rattle.scx_dsq.specs.Calls.{with_queue, pushed, popped}
-use Rattle.scx_dsq.specs.Places.{same_sort}
-use Rattle.scx_dsq.specs.declared.places.Place.{Place}
-use Rattle.scx_dsq.specs.declared.places.Rank.{Rank}
-use Rattle.scx_dsq.specs.declared.places.Rank.TheVariants.{Fifo, Vtime}
+use Rattle.scx_dsq.specs.Entries.{same_sort}
+use Rattle.scx_dsq.specs.declared.entries.Entry.{Entry}
+use Rattle.scx_dsq.specs.declared.entries.Rank.{Rank}
+use Rattle.scx_dsq.specs.declared.entries.Rank.TheVariants.{Fifo, Vtime}
 use Rattle.scx_semantics.specs.declared.callbacks.Callback.TheVariants.{SelectCpu, Enqueue, Dispatch}
-use Rattle.scx_semantics.specs.declared.outside.Helper.{Helper}
-use Rattle.scx_semantics.specs.declared.outside.Helper.TheVariants.{MapLookupElem, KtimeGetNs, CreateDsq, DsqInsert, DsqInsertVtime, DsqMoveToLocal, SelectCpuDfl, CpuIdle, TaskByPid, DsqNrQueued}
-use Rattle.scx_vm.specs.declared.arguments.Argument.{Argument}
+use Rattle.scx_semantics.specs.declared.host_tables.Helper.{Helper}
+use Rattle.scx_semantics.specs.declared.host_tables.Helper.TheVariants.{MapLookupElem, KtimeGetNs, CreateDsq, DsqInsert, DsqInsertVtime, DsqMoveToLocal, SelectCpuDfl, CpuIdle, TaskByPid, DsqNrQueued}
+use Rattle.scx_vm.specs.declared.arguments.Arg.{Arg}
 use Rattle.scx_vm.specs.declared.arguments.Answer.{Answer}
-use Rattle.scx_vm.specs.declared.arguments.Answer.TheVariants.{Number, Task}
+use Rattle.scx_vm.specs.declared.arguments.Answer.TheVariants.{Num, Task}
 use Rattle.scx_world.specs.declared.call.Insert.{Insert}
 use Rattle.scx_world.specs.declared.faults.Fault.{Fault}
 use Rattle.scx_world.specs.declared.faults.Fault.TheVariants.{NoSuchQueue, CannotInsert, NoSuchCpu, UnknownFlag, CannotCreate, BuiltinVtime, Mixed}
@@ -34,7 +34,7 @@ pub data IsDestination (w : WorldState) (q : ℕ) : Type 0 where
   Own : IsPolicyQueue w q → IsDestination w q
   Global : q ≡ global → IsDestination w q
   Local : q ≡ local → IsDestination w q
-  Local_on : (c : ℕ) → c < length w.cpus → q ≡ local_on c → IsDestination w q
+  LocalOn : (c : ℕ) → c < length w.cpus → q ≡ local_on c → IsDestination w q
 
 -- the local queue of a processor that there isn't; its number would have 32 bits
 pub record NamesNoCpu (w : WorldState) (q : ℕ) : Type 0 where
@@ -53,9 +53,9 @@ pub record CanCreate (w : WorldState) (q : ℕ) : Type 0 where
 
 -- in select_cpu and enqueue the task at hand, and once; in dispatch a task that is held
 pub data MayInsert (w : WorldState) (t : Option ℕ) : Type 0 where
-  In_select_cpu : w.call.callback ≡ SelectCpu → w.call.insert ≡ None → t ≡ Some w.call.task → MayInsert w t
-  In_enqueue : w.call.callback ≡ Enqueue → w.call.insert ≡ None → t ≡ Some w.call.task → MayInsert w t
-  In_dispatch : (u : ℕ) → w.call.callback ≡ Dispatch → t ≡ Some u → queue_of w.queues u ≡ Some held → MayInsert w t
+  InSelectCpu : w.call.callback ≡ SelectCpu → w.call.insert ≡ None → t ≡ Some w.call.task → MayInsert w t
+  InEnqueue : w.call.callback ≡ Enqueue → w.call.insert ≡ None → t ≡ Some w.call.task → MayInsert w t
+  InDispatch : (u : ℕ) → w.call.callback ≡ Dispatch → t ≡ Some u → queue_of w.queues u ≡ Some held → MayInsert w t
 
 -- by virtual time into one of the machine's own queues
 pub record IsBuiltinVtime (q : ℕ) (r : Rank) : Type 0 where
@@ -66,9 +66,9 @@ pub record IsBuiltinVtime (q : ℕ) (r : Rank) : Type 0 where
 -- somebody waits in the queue who was put there in the other way
 pub record IsMixed (w : WorldState) (q : ℕ) (r : Rank) : Type 0 where
   pub task : ℕ
-  pub place : Place
-  pub waits : Waits w.queues q task place
-  pub other : same_sort place.rank r ≡ false
+  pub entry : Entry
+  pub waits : Waits w.queues q task entry
+  pub other : same_sort entry.rank r ≡ false
 
 -- from a queue of the policy, in dispatch
 pub record MayMove (w : WorldState) (q : ℕ) : Type 0 where
@@ -120,7 +120,7 @@ JudgesCpu w c (Some Mixed) = ⊥
 
 -- the fault of a call, or that it has none; of the look-up of an element, which a run does itself, nothing is
 -- allowed
-abbrev pub Judges : WorldState → Helper → List Argument → Option Fault → Type 0
+abbrev pub Judges : WorldState → Helper → List Arg → Option Fault → Type 0
 Judges w KtimeGetNs a o = o ≡ None
 Judges w CreateDsq a o = JudgesCreate w (given_number a 0) o
 Judges w DsqInsert a o = JudgesInsert w (given_task a 0) (asked a) (given_number a 3) o
@@ -149,25 +149,25 @@ pub data Moves (w : WorldState) (q n : ℕ) (v : WorldState) : Type 0 where
 -- the processor for which a task is put: where it ran last if that is idle, else the lowest idle one, else
 -- where it ran last
 pub data IsChoice (w : WorldState) (t c : ℕ) : Type 0 where
-  Last_ran : is_idle w (task_at w t).prev_cpu ≡ true → c ≡ (task_at w t).prev_cpu → IsChoice w t c
+  LastRan : is_idle w (task_at w t).prev_cpu ≡ true → c ≡ (task_at w t).prev_cpu → IsChoice w t c
   Lowest : is_idle w (task_at w t).prev_cpu ≡ false → is_idle w c ≡ true → ((d : ℕ) → d < c → is_idle w d ≡ false) → IsChoice w t c
-  None_idle : ((d : ℕ) → is_idle w d ≡ false) → c ≡ (task_at w t).prev_cpu → IsChoice w t c
+  NoneIdle : ((d : ℕ) → is_idle w d ≡ false) → c ≡ (task_at w t).prev_cpu → IsChoice w t c
 
 -- of a task; what isn't one has no choice
 pub data Chooses (w : WorldState) (n : ℕ) : Option ℕ → Type 0 where
-  Of_task : (t : ℕ) → IsChoice w t n → Chooses w n (Some t)
-  Of_nobody : n ≡ 0 → Chooses w n None
+  OfTask : (t : ℕ) → IsChoice w t n → Chooses w n (Some t)
+  OfNobody : n ≡ 0 → Chooses w n None
 
 pub data Tells (w : WorldState) (c n : ℕ) : Type 0 where
-  Is_idle : is_idle w c ≡ true → n ≡ 1 → Tells w c n
-  Is_busy : is_idle w c ≡ false → n ≡ 0 → Tells w c n
+  TellsIdle : is_idle w c ≡ true → n ≡ 1 → Tells w c n
+  TellsBusy : is_idle w c ≡ false → n ≡ 0 → Tells w c n
 
 -- the task of that pid, which is its number and 1
 pub data Finds (w : WorldState) (n : ℕ) (x : Answer) : Type 0 where
   Found : (t : ℕ) → t < length w.tasks → n ≡ t + 1 → x ≡ Task (record { 0 = t }) → Finds w n x
-  Nobody : ((t : ℕ) → t < length w.tasks → n ≡ t + 1 → ⊥) → x ≡ Number 0 → Finds w n x
+  Nobody : ((t : ℕ) → t < length w.tasks → n ≡ t + 1 → ⊥) → x ≡ Num 0 → Finds w n x
 
-abbrev pub Does : WorldState → Helper → List Argument → ℕ → WorldState → Type 0
+abbrev pub Does : WorldState → Helper → List Arg → ℕ → WorldState → Type 0
 Does w KtimeGetNs a n v = (n ≡ w.clock * 1000000) × (v ≡ w)
 Does w CreateDsq a n v = (n ≡ 0) × (v ≡ with_queues w (with_queue w.queues (given_number a 0)))
 Does w DsqInsert a n v = (n ≡ 0) × Inserts w (given_task a 0) (asked a) v
@@ -180,7 +180,7 @@ Does w TaskByPid a n v = ⊥
 Does w MapLookupElem a n v = ⊥
 
 -- ---- both together: a call with a fault is invalid, and leaves the fault alone
-pub data IsEffect (w : WorldState) (h : Helper) (a : List Argument) (x : Answer) (v : WorldState) : Type 0 where
-  Done : (n : ℕ) → Judges w h a None → Does w h a n v → x ≡ Number n → IsEffect w h a x v
-  Looked_up : h ≡ TaskByPid → Finds w (given_number a 0) x → v ≡ w → IsEffect w h a x v
-  Wrong : (f : Fault) → Judges w h a (Some f) → x ≡ Number invalid → v ≡ faulted w f → IsEffect w h a x v
+pub data IsEffect (w : WorldState) (h : Helper) (a : List Arg) (x : Answer) (v : WorldState) : Type 0 where
+  Done : (n : ℕ) → Judges w h a None → Does w h a n v → x ≡ Num n → IsEffect w h a x v
+  FindsElement : h ≡ TaskByPid → Finds w (given_number a 0) x → v ≡ w → IsEffect w h a x v
+  Wrong : (f : Fault) → Judges w h a (Some f) → x ≡ Num invalid → v ≡ faulted w f → IsEffect w h a x v

@@ -1,11 +1,11 @@
 -- What the machine computes is what the rules allow, and the only thing that they allow.
 use Rattle.std.specs.Prelude.{◌≡◌, ℕ, ℤ, Bool, true, List, Option, Some, None, Result}
 use Rattle.scx_semantics.specs.declared.callbacks.Callback.{Callback}
-use Rattle.scx_semantics.specs.declared.outside.Helper.{Helper}
-use Rattle.scx_semantics.specs.declared.outside.Helper.TheVariants.{MapLookupElem}
-use Rattle.scx_vm.specs.declared.arguments.Argument.{Argument}
+use Rattle.scx_semantics.specs.declared.host_tables.Helper.{Helper}
+use Rattle.scx_semantics.specs.declared.host_tables.Helper.TheVariants.{MapLookupElem}
+use Rattle.scx_vm.specs.declared.arguments.Arg.{Arg}
 use Rattle.scx_vm.specs.declared.arguments.Answer.{Answer}
-use Rattle.scx_vm.specs.declared.arguments.Arguments.{Arguments}
+use Rattle.scx_vm.specs.declared.arguments.Args.{Args}
 use Rattle.scx_weights.specs.Hierarchy.{Hierarchy}
 use Rattle.scx_world.specs.World.{WorldState}
 use Rattle.scx_world.specs.Helpers.{helper_answer, helper_after}
@@ -26,22 +26,22 @@ use Rattle.scx_rules.specs.Starts.{HasBadShape, Begins}
 
 -- what a helper answers and leaves; elements of maps are looked up by the run itself
 abbrev pub RulesAllowHelpers : Type 0
-RulesAllowHelpers = (w : WorldState) (h : Helper) (a : List Argument) → ¬ (h ≡ MapLookupElem) → IsEffect w h a (helper_answer w h a) (helper_after w h a)
+RulesAllowHelpers = (w : WorldState) (h : Helper) (a : List Arg) → ¬ (h ≡ MapLookupElem) → IsEffect w h a (helper_answer w h a) (helper_after w h a)
 
 abbrev pub RulesAllowHelpersOnly : Type 0
 RulesAllowHelpersOnly =
-    (w : WorldState) (h : Helper) (a : List Argument) (x : Answer) (v : WorldState) → IsEffect w h a x v
+    (w : WorldState) (h : Helper) (a : List Arg) (x : Answer) (v : WorldState) → IsEffect w h a x v
     → (x ≡ helper_answer w h a) × (v ≡ helper_after w h a)
 
 -- a callback of which the program was verified as that callback and comes to an answer, as each does that
 -- an event calls
 abbrev pub RulesAllowCallbacks : Type 0
 RulesAllowCallbacks =
-    (s : State) (b : Callback) (a : Arguments) (t c : ℕ) → IsAs b (program_of s.policy b) → AreAnswered (call_back s b a t c).calls → CallsBack s b a t c (answered_by s b a t c) (call_back s b a t c)
+    (s : State) (b : Callback) (a : Args) (t c : ℕ) → IsAs b (program_of s.policy b) → AreAnswered (call_back s b a t c).calls → CallsBack s b a t c (answered_by s b a t c) (call_back s b a t c)
 
 abbrev pub RulesAllowCallbacksOnly : Type 0
 RulesAllowCallbacksOnly =
-    (s : State) (b : Callback) (a : Arguments) (t c : ℕ) (answer : Option ℕ) (r : Stepped) → CallsBack s b a t c answer r → (answer ≡ answered_by s b a t c) × (r ≡ call_back s b a t c)
+    (s : State) (b : Callback) (a : Args) (t c : ℕ) (answer : Option ℕ) (r : Stepped) → CallsBack s b a t c answer r → (answer ≡ answered_by s b a t c) × (r ≡ call_back s b a t c)
 
 -- a cycle
 abbrev pub RulesAllowCycles : Type 0

@@ -9,7 +9,7 @@ use Rattle.scx_machine.specs.Steps.{State}
 
 -- a task that isn't there, or that is already as the event would make it
 pub data RefusesTask (s : State) (t : ℕ) (already : Bool) (why r : Refused) : Type 0 where
-  No_task : length s.world.tasks ≤ t → r ≡ UnknownTask → RefusesTask s t already why r
+  NoTask : length s.world.tasks ≤ t → r ≡ UnknownTask → RefusesTask s t already why r
   Already : t < length s.world.tasks → is_runnable s.world t ≡ already → r ≡ why → RefusesTask s t already why r
 
 -- as cgroup-v2.rst, "Weights", has them
@@ -17,8 +17,8 @@ abbrev pub IsWeight : ℕ → Type 0
 IsWeight x = (1 ≤ x) × (x ≤ 10000)
 
 pub data RefusesWeight (s : State) (g x : ℕ) (r : Refused) : Type 0 where
-  No_group : length s.world.tree.groups ≤ g → r ≡ UnknownGroup → RefusesWeight s g x r
-  No_weight : g < length s.world.tree.groups → ¬ IsWeight x → r ≡ BadWeight → RefusesWeight s g x r
+  NoGroup : length s.world.tree.groups ≤ g → r ≡ UnknownGroup → RefusesWeight s g x r
+  NoWeight : g < length s.world.tree.groups → ¬ IsWeight x → r ≡ BadWeight → RefusesWeight s g x r
 
 abbrev pub Refuses : State → Event → Refused → Type 0
 Refuses s (Wake t) r = RefusesTask s t true AlreadyRunnable r

@@ -14,8 +14,8 @@ use Rattle.scx_rules.specs.Callbacks.{EndsAs}
 
 -- there must be 1 to 64 processors, and every task asleep
 pub data HasBadShape (tree : Hierarchy) (cpus : ℕ) : Type 0 where
-  No_cpu : cpus ≡ 0 → HasBadShape tree cpus
-  Many_cpus : 64 < cpus → HasBadShape tree cpus
+  NoCpu : cpus ≡ 0 → HasBadShape tree cpus
+  ManyCpus : 64 < cpus → HasBadShape tree cpus
   Active : (t : ℕ) → t < length tree.homes → is_active_task tree t ≡ true → HasBadShape tree cpus
 
 -- ---- init
@@ -36,8 +36,8 @@ pub record Initializes (s : State) (r : Result State ℤ) : Type 0 where
 
 -- what it answers says nothing
 pub data Passes (s : State) (e : Ending WorldState) (r : Option State) : Type 0 where
-  Has_fault : (f : Fault) → e.outside.call.fault ≡ Some f → r ≡ None → Passes s e r
-  Is_stuck : e.outside.call.fault ≡ None → e.answer ≡ None → r ≡ None → Passes s e r
+  HasFault : (f : Fault) → e.outside.call.fault ≡ Some f → r ≡ None → Passes s e r
+  HasStuck : e.outside.call.fault ≡ None → e.answer ≡ None → r ≡ None → Passes s e r
   Answers : (n : ℕ) → e.outside.call.fault ≡ None → e.answer ≡ Some n → r ≡ Some (ended s.policy e) → Passes s e r
 
 pub record Enables (s : State) (t : ℕ) (r : Option State) : Type 0 where
@@ -54,6 +54,6 @@ pub data EnablesAll : ℕ → State → Option State → Type 0 where
 -- ---- both
 
 pub data Begins (p : PolicyState) (tree : Hierarchy) (cpus : ℕ) (r : Result State ℤ) : Type 0 where
-  Init_fails : (n : ℤ) → Initializes (blank p tree cpus) (Err n) → r ≡ Err n → Begins p tree cpus r
-  Enable_fails : (s : State) → Initializes (blank p tree cpus) (Ok s) → EnablesAll (length s.world.tasks) s None → r ≡ Err fault_answer → Begins p tree cpus r
+  InitFails : (n : ℤ) → Initializes (blank p tree cpus) (Err n) → r ≡ Err n → Begins p tree cpus r
+  EnableFails : (s : State) → Initializes (blank p tree cpus) (Ok s) → EnablesAll (length s.world.tasks) s None → r ≡ Err fault_answer → Begins p tree cpus r
   Succeeds : (s u : State) → Initializes (blank p tree cpus) (Ok s) → EnablesAll (length s.world.tasks) s (Some u) → r ≡ Ok u → Begins p tree cpus r

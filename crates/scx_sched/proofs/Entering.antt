@@ -6,12 +6,12 @@ use Rattle.std.proofs.lemmas.Bool.Decides.{nat_tests}
 use Rattle.std.proofs.lemmas.List.{get_or-set_same, get_or-set_other, get_or_past, set_past}
 use Rattle.std.proofs.lemmas.List.Elements.{All-from_get_or}
 use Rattle.std.proofs.lemmas.List.Folds.{list_any-append, list_any_at, list_any_none}
-use Rattle.scx_dsq.specs.Queues.{Places, place_at, QueueState, exists, place_of, front_of}
-use Rattle.scx_dsq.specs.Calls.{clashes, push_refusal, pushed, popped, removed, without, with_queue, created, create_refusal, with_task as with_place, without_task, next_place}
-use Rattle.scx_dsq.specs.Places.{same_sort}
-use Rattle.scx_dsq.specs.declared.places.Rank.{Rank}
-use Rattle.scx_dsq.specs.declared.places.Rank.TheVariants.{Fifo, Vtime}
-use Rattle.scx_dsq.specs.declared.places.Place.{Place}
+use Rattle.scx_dsq.specs.Queues.{Entries, entry_at, QueueState, exists, entry_of, front_of}
+use Rattle.scx_dsq.specs.Calls.{clashes, push_refusal, pushed, popped, removed, without, with_queue, created, create_refusal, with_task as with_place, without_task, next_entry}
+use Rattle.scx_dsq.specs.Entries.{same_sort}
+use Rattle.scx_dsq.specs.declared.entries.Rank.{Rank}
+use Rattle.scx_dsq.specs.declared.entries.Rank.TheVariants.{Fifo, Vtime}
+use Rattle.scx_dsq.specs.declared.entries.Entry.{Entry}
 use Rattle.scx_dsq.specs.Laws.{one_if}
 use Rattle.scx_dsq.proofs.Facts.{ids_pushed, ids_without, ids_removed}
 use Rattle.scx_world.specs.declared.call.Insert.{Insert}
@@ -33,21 +33,21 @@ one_le true = omega arith
 one_le false = omega arith
 
 -- the task at hand waits nowhere
-pub nowhere : (w : WorldState) (t : ℕ) → IsOnce (Some t) w → place_of w.queues t ≡ None
-nowhere w t once = go (place_of w.queues t) (omega (arith, once t, one_le (is_runnable w t), hit))
+pub nowhere : (w : WorldState) (t : ℕ) → IsOnce (Some t) w → entry_of w.queues t ≡ None
+nowhere w t once = go (entry_of w.queues t) (omega (arith, once t, one_le (is_runnable w t), hit))
   where
     hit : one_if (t == t) ≡ 1
     hit = rw (eq-eqb t t refl) refl
 
-    go : (o : Option Place) → one_if (is_some o) ≡ 0 → o ≡ None
+    go : (o : Option Entry) → one_if (is_some o) ≡ 0 → o ≡ None
     go None e = refl
     go (Some p) e = absurd (omega (arith, e))
 
 -- what each place passes, and a new one too, each place passes
-pub each_set : (f : Option Place → Bool) (b : Bool) (places : Places) (t : ℕ) (o : Option Place) → f o ≡ b → ((u : ℕ) → f (place_at places u) ≡ b) → (u : ℕ) → f (place_at (set places t o) u) ≡ b
+pub each_set : (f : Option Entry → Bool) (b : Bool) (places : Entries) (t : ℕ) (o : Option Entry) → f o ≡ b → ((u : ℕ) → f (entry_at places u) ≡ b) → (u : ℕ) → f (entry_at (set places t o) u) ≡ b
 each_set f b places t o new old u = go (cases_eq u t) (cases_lt t (length places))
   where
-    go : (u ≡ t) ⊎ (u ≡ t → ⊥) → (t < length places) ⊎ (length places ≤ t) → f (place_at (set places t o) u) ≡ b
+    go : (u ≡ t) ⊎ (u ≡ t → ⊥) → (t < length places) ⊎ (length places ≤ t) → f (entry_at (set places t o) u) ≡ b
     go (inl e) (inl within) = rw (e, get_or-set_same places t o None within) new
     go (inl e) (inr past) = rw (set_past places t o past) (old u)
     go (inr n) l = rw (get_or-set_other places t u o None n) (old u)
@@ -57,13 +57,13 @@ pub sorted_pushed : (s : QueueState) (q t : ℕ) (r : Rank) → fits_queue q r �
 sorted_pushed s q t r fits sorted = go (is_none (push_refusal s q t r))
   where
     go : (b : Bool) → IsSorted (if b then with_place s q t r else s)
-    go true = each_set fits_sort true s.places t (Some (next_place s q r)) fits sorted
+    go true = each_set fits_sort true s.entries t (Some (next_entry s q r)) fits sorted
     go false = sorted
 
 -- and so does a task that leaves
 pub sorted_without : (s : QueueState) (o : Option ℕ) → IsSorted s → IsSorted (without s o)
 sorted_without s None sorted = sorted
-sorted_without s (Some t) sorted = each_set fits_sort true s.places t None refl sorted
+sorted_without s (Some t) sorted = each_set fits_sort true s.entries t None refl sorted
 
 -- a pop
 pub sorted_popped : (s : QueueState) (q : ℕ) → IsSorted s → IsSorted (popped s q)
@@ -71,20 +71,20 @@ sorted_popped s q sorted = sorted_without s (front_of s q) sorted
 
 -- and a removal
 pub sorted_removed : (s : QueueState) (t : ℕ) → IsSorted s → IsSorted (removed s t)
-sorted_removed s t sorted = keeps_if IsSorted (is_some (place_of s t)) (without_task s t) s (each_set fits_sort true s.places t None refl sorted) sorted
+sorted_removed s t sorted = keeps_if IsSorted (is_some (entry_of s t)) (without_task s t) s (each_set fits_sort true s.entries t None refl sorted) sorted
 
 -- ---- who waits in a queue was put there in one way
 
-alike_pushed : (s : QueueState) (q t : ℕ) (r : Rank) (q' : ℕ) (r' : Rank) → clashes q r (Some (next_place s q' r')) ≡ false → IsAlike s q r → IsAlike (pushed s q' t r') q r
+alike_pushed : (s : QueueState) (q t : ℕ) (r : Rank) (q' : ℕ) (r' : Rank) → clashes q r (Some (next_entry s q' r')) ≡ false → IsAlike s q r → IsAlike (pushed s q' t r') q r
 alike_pushed s q t r q' r' new old =
-    keeps_if (λ (x : QueueState). IsAlike x q r) (is_none (push_refusal s q' t r')) (with_place s q' t r') s (each_set (clashes q r) false s.places t (Some (next_place s q' r')) new old) old
+    keeps_if (λ (x : QueueState). IsAlike x q r) (is_none (push_refusal s q' t r')) (with_place s q' t r') s (each_set (clashes q r) false s.entries t (Some (next_entry s q' r')) new old) old
 
 alike_without : (s : QueueState) (o : Option ℕ) (q : ℕ) (r : Rank) → IsAlike s q r → IsAlike (without s o) q r
 alike_without s None q r old = old
-alike_without s (Some t) q r old = each_set (clashes q r) false s.places t None refl old
+alike_without s (Some t) q r old = each_set (clashes q r) false s.entries t None refl old
 
 alike_removed : (s : QueueState) (t q : ℕ) (r : Rank) → IsAlike s q r → IsAlike (removed s t) q r
-alike_removed s t q r old = keeps_if (λ (x : QueueState). IsAlike x q r) (is_some (place_of s t)) (without_task s t) s (each_set (clashes q r) false s.places t None refl old) old
+alike_removed s t q r old = keeps_if (λ (x : QueueState). IsAlike x q r) (is_some (entry_of s t)) (without_task s t) s (each_set (clashes q r) false s.entries t None refl old) old
 
 alike_created : (s : QueueState) (q' q : ℕ) (r : Rank) → IsAlike s q r → IsAlike (created s q') q r
 alike_created s q' q r old = keeps_if (λ (x : QueueState). IsAlike x q r) (is_none (create_refusal s q')) (with_queue s q') s old old
@@ -103,15 +103,15 @@ low_or q b past e = let no : nat_lt q policy_end ≡ false = grind (arith, nat_t
 
 -- the machine's own queues hold those of their own sort
 pub own_alike : (s : QueueState) (q : ℕ) (r : Rank) → policy_end ≤ q → same_sort r (sort_of q) ≡ true → IsSorted s → IsAlike s q r
-own_alike s q r past fits sorted t = one (place_of s t) (sorted t)
+own_alike s q r past fits sorted t = one (entry_of s t) (sorted t)
   where
-    at : (p : Place) → fits_sort (Some p) ≡ true → (p.queue ≡ q) ⊎ (p.queue ≡ q → ⊥) → clashes q r (Some p) ≡ false
+    at : (p : Entry) → fits_sort (Some p) ≡ true → (p.queue ≡ q) ⊎ (p.queue ≡ q → ⊥) → clashes q r (Some p) ≡ false
     at p f (inl e) =
         let same : same_sort p.rank (sort_of q) ≡ true = low_or q (same_sort p.rank (sort_of q)) past (subst (λ x. fits_queue x p.rank ≡ true) e f) in
         rw (eq-eqb p.queue q e, one_sort p.rank (sort_of q) r same fits) refl
     at p f (inr n) = rw (ne_eqb p.queue q n) refl
 
-    one : (o : Option Place) → fits_sort o ≡ true → clashes q r o ≡ false
+    one : (o : Option Entry) → fits_sort o ≡ true → clashes q r o ≡ false
     one None f = refl
     one (Some p) f = at p f (cases_eq p.queue q)
 
@@ -126,24 +126,24 @@ fits_own q r e = go (nat_lt q policy_end)
 pub own_open : (s : QueueState) (q : ℕ) (r : Rank) → exists s q ≡ true → policy_end ≤ q → same_sort r (sort_of q) ≡ true → IsSorted s → IsOpen s q r
 own_open s q r there past fits sorted = record { there = there; fits = fits_own q r fits; alike = own_alike s q r past fits sorted }
 
-no_clash : (s : QueueState) (q : ℕ) (r : Rank) → IsAlike s q r → list_any (clashes q r) s.places ≡ false
-no_clash s q r alike = list_any_none (clashes q r) s.places (All-from_get_or (λ o. clashes q r o ≡ false) s.places None (λ i l. alike i))
+no_clash : (s : QueueState) (q : ℕ) (r : Rank) → IsAlike s q r → list_any (clashes q r) s.entries ≡ false
+no_clash s q r alike = list_any_none (clashes q r) s.entries (All-from_get_or (λ o. clashes q r o ≡ false) s.entries None (λ i l. alike i))
 
 -- who would clash is seen
-pub alike_from : (s : QueueState) (q : ℕ) (r : Rank) → list_any (clashes q r) s.places ≡ false → IsAlike s q r
-alike_from s q r none t = go (cases_lt t (length s.places)) (clashes q r (place_of s t)) refl
+pub alike_from : (s : QueueState) (q : ℕ) (r : Rank) → list_any (clashes q r) s.entries ≡ false → IsAlike s q r
+alike_from s q r none t = go (cases_lt t (length s.entries)) (clashes q r (entry_of s t)) refl
   where
     both : (b : Bool) → b ≡ true → b ≡ false → ⊥
     both true x y = absurd (cc)
     both false x y = absurd (cc)
 
-    go : (t < length s.places) ⊎ (length s.places ≤ t) → (b : Bool) → clashes q r (place_of s t) ≡ b → clashes q r (place_of s t) ≡ false
-    go (inl l) true e = absurd (both (list_any (clashes q r) s.places) (list_any_at (clashes q r) s.places t None l e) none)
+    go : (t < length s.entries) ⊎ (length s.entries ≤ t) → (b : Bool) → clashes q r (entry_of s t) ≡ b → clashes q r (entry_of s t) ≡ false
+    go (inl l) true e = absurd (both (list_any (clashes q r) s.entries) (list_any_at (clashes q r) s.entries t None l e) none)
     go (inl l) false e = e
-    go (inr past) b e = ap (λ o. clashes q r o) (get_or_past {X = Option Place} s.places t None past)
+    go (inr past) b e = ap (λ o. clashes q r o) (get_or_past {X = Option Entry} s.entries t None past)
 
 -- a push into an open queue is accepted, of a task that waits nowhere
-pub is_accepted : (s : QueueState) (t q : ℕ) (r : Rank) → place_of s t ≡ None → IsOpen s q r → push_refusal s q t r ≡ None
+pub is_accepted : (s : QueueState) (t q : ℕ) (r : Rank) → entry_of s t ≡ None → IsOpen s q r → push_refusal s q t r ≡ None
 is_accepted s t q r free ready = rw (ready.there, free, no_clash s q r ready.alike) refl
 
 -- ---- queues that are there stay
@@ -185,14 +185,14 @@ open_removed s t q r h = record { there = stay_removed s t q h.there; fits = h.f
 pub open_created : (s : QueueState) (q' q : ℕ) (r : Rank) → IsOpen s q r → IsOpen (created s q') q r
 open_created s q' q r h = record { there = stay_created s q' q h.there; fits = h.fits; alike = alike_created s q' q r h.alike }
 
-open_pushed : (s : QueueState) (q' t : ℕ) (r' : Rank) (q : ℕ) (r : Rank) → clashes q r (Some (next_place s q' r')) ≡ false → IsOpen s q r → IsOpen (pushed s q' t r') q r
+open_pushed : (s : QueueState) (q' t : ℕ) (r' : Rank) (q : ℕ) (r : Rank) → clashes q r (Some (next_entry s q' r')) ≡ false → IsOpen s q r → IsOpen (pushed s q' t r') q r
 open_pushed s q' t r' q r new h = record { there = stay_pushed s q' t r' q h.there; fits = h.fits; alike = alike_pushed s q t r q' r' new h.alike }
 
 -- a push into one of the machine's own queues
 pub open_own : (s : QueueState) (q' t : ℕ) (r' : Rank) (q : ℕ) (r : Rank) → policy_end ≤ q' → same_sort r' (sort_of q') ≡ true → IsOpen s q r → IsOpen (pushed s q' t r') q r
 open_own s q' t r' q r past fits h = open_pushed s q' t r' q r (go (cases_eq q' q)) h
   where
-    go : (q' ≡ q) ⊎ (q' ≡ q → ⊥) → clashes q r (Some (next_place s q' r')) ≡ false
+    go : (q' ≡ q) ⊎ (q' ≡ q → ⊥) → clashes q r (Some (next_entry s q' r')) ≡ false
     go (inl e) =
         let own : same_sort r (sort_of q') ≡ true = low_or q' (same_sort r (sort_of q')) past (subst (λ x. fits_queue x r ≡ true) (sym e) h.fits) in
         rw (eq-eqb q' q e, one_sort r' (sort_of q') r fits own) refl
@@ -206,7 +206,7 @@ same_itself (Vtime k) = refl
 pub open_same : (s : QueueState) (q' t q : ℕ) (r : Rank) → IsOpen s q r → IsOpen (pushed s q' t r) q r
 open_same s q' t q r h = open_pushed s q' t r q r (go (cases_eq q' q)) h
   where
-    go : (q' ≡ q) ⊎ (q' ≡ q → ⊥) → clashes q r (Some (next_place s q' r)) ≡ false
+    go : (q' ≡ q) ⊎ (q' ≡ q → ⊥) → clashes q r (Some (next_entry s q' r)) ≡ false
     go (inl e) = rw (eq-eqb q' q e, same_itself r) refl
     go (inr n) = rw (ne_eqb q' q n) refl
 

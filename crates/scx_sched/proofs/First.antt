@@ -8,8 +8,8 @@ use Rattle.scx_dsq.specs.Calls.{created, create_refusal, with_queue, empty}
 use Rattle.scx_world.specs.Ids.{global, held, builtin, local_on}
 use Rattle.std.proofs.lemmas.List.{length-replicate, get_or-replicate, get_or_past}
 use Rattle.std.proofs.lemmas.List.Folds.{sum_by-replicate}
-use Rattle.scx_dsq.specs.Queues.{place_at, place_of}
-use Rattle.scx_dsq.specs.declared.places.Place.{Place}
+use Rattle.scx_dsq.specs.Queues.{entry_at, entry_of}
+use Rattle.scx_dsq.specs.declared.entries.Entry.{Entry}
 use Rattle.scx_dsq.specs.Laws.{one_if}
 use Rattle.scx_semantics.specs.declared.callbacks.Callback.TheVariants as callback
 use Rattle.scx_weights.specs.Hierarchy.{Hierarchy, is_active_task}
@@ -74,7 +74,7 @@ locals : (n : ℕ) (s : QueueState) → ((c : ℕ) → exists s (local_on c) ≡
 locals zero s none room = record { count = omega arith; room = refl; stay = λ r e. e; made = λ c l. absurd (omega (arith, l)); later = λ c l. none c }
 locals (suc n) s none room = one_more n s (with_locals n s) room (locals n s none (omega (arith, room)))
 
-own : (cpus tasks : ℕ) → own_queues cpus tasks ≡ record { room = 19 + cpus; ids = global ∷ held ∷ builtin ∷ []; places = replicate tasks None; pushes = 0 }
+own : (cpus tasks : ℕ) → own_queues cpus tasks ≡ record { room = 19 + cpus; ids = global ∷ held ∷ builtin ∷ []; entries = replicate tasks None; pushes = 0 }
 own cpus tasks =
     let a = is_made (empty (19 + cpus) tasks) global refl (omega arith) in
     rw (
@@ -93,7 +93,7 @@ first_has_queues cpus tasks = rw (own cpus tasks) record {
 }
   where
     s : QueueState
-    s = record { room = 19 + cpus; ids = global ∷ held ∷ builtin ∷ []; places = replicate tasks None; pushes = 0 }
+    s = record { room = 19 + cpus; ids = global ∷ held ∷ builtin ∷ []; entries = replicate tasks None; pushes = 0 }
 
     none : (c : ℕ) → exists s (local_on c) ≡ false
     none c = rw (ne_eqb global (local_on c) (λ e. omega (arith, e)), ne_eqb held (local_on c) (λ e. omega (arith, e)), ne_eqb builtin (local_on c) (λ e. omega (arith, e))) refl
@@ -103,22 +103,22 @@ first_has_queues cpus tasks = rw (own cpus tasks) record {
 
 -- ---- nobody waits, runs or is active
 
-places_created : (s : QueueState) (q : ℕ) → (created s q).places ≡ s.places
-places_created s q = keeps_if (λ (t : QueueState). t.places ≡ s.places) (is_none (create_refusal s q)) (with_queue s q) s refl refl
+places_created : (s : QueueState) (q : ℕ) → (created s q).entries ≡ s.entries
+places_created s q = keeps_if (λ (t : QueueState). t.entries ≡ s.entries) (is_none (create_refusal s q)) (with_queue s q) s refl refl
 
-locals_places : (n : ℕ) (s : QueueState) → (with_locals n s).places ≡ s.places
+locals_places : (n : ℕ) (s : QueueState) → (with_locals n s).entries ≡ s.entries
 locals_places zero s = refl
 locals_places (suc n) s = places_created (with_locals n s) (local_on n) ∙ locals_places n s
 
-first_places : (cpus tasks : ℕ) → (first_queues cpus tasks).places ≡ replicate tasks None
-first_places cpus tasks = locals_places cpus (own_queues cpus tasks) ∙ ap (λ (s : QueueState). s.places) (own cpus tasks)
+first_places : (cpus tasks : ℕ) → (first_queues cpus tasks).entries ≡ replicate tasks None
+first_places cpus tasks = locals_places cpus (own_queues cpus tasks) ∙ ap (λ (s : QueueState). s.entries) (own cpus tasks)
 
-nowhere : (cpus tasks t : ℕ) → place_of (first_queues cpus tasks) t ≡ None
+nowhere : (cpus tasks t : ℕ) → entry_of (first_queues cpus tasks) t ≡ None
 nowhere cpus tasks t = rw (first_places cpus tasks) (go (cases_lt t tasks))
   where
-    go : (t < tasks) ⊎ (tasks ≤ t) → place_at (replicate tasks None) t ≡ None
-    go (inl l) = get_or-replicate {A = Option Place} tasks t None None l
-    go (inr past) = get_or_past {X = Option Place} (replicate tasks None) t None (rw (length-replicate {A = Option Place} tasks None) past)
+    go : (t < tasks) ⊎ (tasks ≤ t) → entry_at (replicate tasks None) t ≡ None
+    go (inl l) = get_or-replicate {A = Option Entry} tasks t None None l
+    go (inr past) = get_or_past {X = Option Entry} (replicate tasks None) t None (rw (length-replicate {A = Option Entry} tasks None) past)
 
 nobody_runs : (cpus t : ℕ) → runs (replicate cpus None) t ≡ 0
 nobody_runs cpus t = sum_by-replicate (λ o. one_if (is_this t o)) cpus None ∙ omega arith
@@ -165,7 +165,7 @@ first_is_fine tree cpus shape flags = record {
   sound = record {
     cpus = refl;
     tasks = length-replicate (length tree.homes) new_task;
-    even = rw (first_places cpus (length tree.homes)) (length-replicate {A = Option Place} (length tree.homes) None);
+    even = rw (first_places cpus (length tree.homes)) (length-replicate {A = Option Entry} (length tree.homes) None);
     flags = flags;
     homes = λ t. rw (at_home (length tree.homes) t, length-replicate {A = Option ℕ} cpus None) shape.some;
     queues = rw (length-replicate {A = Option ℕ} cpus None) (first_has_queues cpus (length tree.homes));

@@ -3,10 +3,10 @@ use Rattle.std.proofs.Common.{◌≡◌, ℕ, zero, suc, ◌+◌, ◌<◌, Bool,
 use Rattle.std.proofs.lemmas.Bool.{eq-eqb}
 use Rattle.std.proofs.lemmas.Bool.Decides.{nat_tests}
 use Rattle.std.proofs.lemmas.List.{length-set, get_or-set_same}
-use Rattle.scx_dsq.specs.declared.places.Rank.{Rank}
-use Rattle.scx_dsq.specs.declared.places.Rank.TheVariants.{Fifo}
-use Rattle.scx_dsq.specs.Queues.{QueueState, task_count, place_of, is_in, len_of, front_of}
-use Rattle.scx_dsq.specs.Calls.{push_refusal, next_place, pushed, popped}
+use Rattle.scx_dsq.specs.declared.entries.Rank.{Rank}
+use Rattle.scx_dsq.specs.declared.entries.Rank.TheVariants.{Fifo}
+use Rattle.scx_dsq.specs.Queues.{QueueState, task_count, entry_of, is_in, len_of, front_of}
+use Rattle.scx_dsq.specs.Calls.{push_refusal, next_entry, pushed, popped}
 use Rattle.scx_dsq.specs.Laws.{one_if}
 use Rattle.scx_dsq.proofs.Facts.{free_from, front_is_known, tasks_without}
 use Rattle.scx_semantics.specs.declared.callbacks.Callback.TheVariants as callback
@@ -37,8 +37,8 @@ use Rattle.scx_sched.proofs.Valid.{accepted}
 len_entered : (s : QueueState) (q t : ℕ) (r : Rank) → t < task_count s → push_refusal s q t r ≡ None → len_of (pushed s q t r) q ≡ len_of s q + 1
 len_entered s q t r l ok =
     let here : one_if (q == q) ≡ 1 = rw (eq-eqb q q refl) refl in
-    let free : one_if (is_in q (place_of s t)) ≡ 0 = rw (free_from s q t r ok) refl in
-    rw ok (omega (arith, len_set s q t (Some (next_place s q r)) l, free, here))
+    let free : one_if (is_in q (entry_of s t)) ≡ 0 = rw (free_from s q t r ok) refl in
+    rw ok (omega (arith, len_set s q t (Some (next_entry s q r)) l, free, here))
 
 -- nobody waits for all processors while the local queue is empty
 abbrev LeavesGlobal : ℕ → WorldState → Type 0

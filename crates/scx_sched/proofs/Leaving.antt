@@ -3,11 +3,11 @@ use Rattle.std.proofs.Common.{◌≡◌, ℕ, suc, ◌<◌, Bool, true, false, �
 use Rattle.std.proofs.lemmas.Bool.Decides.{nat_tests}
 use Rattle.scx_dsq.specs.Queues.{front_of}
 use Rattle.scx_dsq.specs.Calls.{created, popped}
-use Rattle.scx_dsq.specs.declared.places.Rank.TheVariants.{Fifo}
+use Rattle.scx_dsq.specs.declared.entries.Rank.TheVariants.{Fifo}
 use Rattle.scx_semantics.specs.declared.callbacks.Callback.{Callback}
 use Rattle.scx_semantics.specs.declared.callbacks.Callback.TheVariants as callback
-use Rattle.scx_semantics.specs.declared.outside.Helper.{Helper}
-use Rattle.scx_semantics.specs.declared.outside.Helper.TheVariants.{MapLookupElem, KtimeGetNs, CreateDsq, DsqInsert, DsqInsertVtime, DsqMoveToLocal, SelectCpuDfl, CpuIdle, TaskByPid, DsqNrQueued}
+use Rattle.scx_semantics.specs.declared.host_tables.Helper.{Helper}
+use Rattle.scx_semantics.specs.declared.host_tables.Helper.TheVariants.{MapLookupElem, KtimeGetNs, CreateDsq, DsqInsert, DsqInsertVtime, DsqMoveToLocal, SelectCpuDfl, CpuIdle, TaskByPid, DsqNrQueued}
 use Rattle.scx_semantics.specs.Code.{instruction_count}
 use Rattle.scx_semantics.specs.Effects.{Query, Call, Load, Store}
 use Rattle.scx_semantics.specs.Elements.{Maps}
@@ -16,8 +16,8 @@ use Rattle.scx_semantics.proofs.EndedRuns.{run_keeps}
 use Rattle.scx_semantics.specs.Machine as start
 use Rattle.scx_safety.specs.Programs.{VerifiedProgram}
 use Rattle.scx_vm.specs.Arguments.{given, argument_of}
-use Rattle.scx_vm.specs.declared.arguments.Argument.{Argument}
-use Rattle.scx_vm.specs.declared.arguments.Arguments.{Arguments}
+use Rattle.scx_vm.specs.declared.arguments.Arg.{Arg}
+use Rattle.scx_vm.specs.declared.arguments.Args.{Args}
 use Rattle.scx_vm.specs.Host.{answer_to, after_query}
 use Rattle.scx_world.specs.declared.call.Insert.{Insert}
 use Rattle.scx_world.specs.declared.faults.Fault.{Fault}
@@ -67,7 +67,7 @@ module _ (c : ℕ) where
   local_move w q h true false d e = h
   local_move w q h false b d e = h
 
-  local_helper : (w : WorldState) (f : Helper) (a : List Argument) → HasLocal c w → HasLocal c (helper_after w f a)
+  local_helper : (w : WorldState) (f : Helper) (a : List Arg) → HasLocal c w → HasLocal c (helper_after w f a)
   local_helper w CreateDsq a h = keeps_if (HasLocal c) (can_create w (given_number a 0)) (with_queues w (created w.queues (given_number a 0))) (faulted w CannotCreate) (rw (len_created w.queues (given_number a 0) (local_on c)) h) h
   local_helper w DsqInsert a h = local_inserted w (insert_fault w (given_task a 0) (asked a) (given_number a 3)) (given_task a 0) (asked a) (λ e. (is_fit w (given_task a 0) (asked a) (given_number a 3) e).may) h
   local_helper w DsqInsertVtime a h = local_inserted w (insert_fault w (given_task a 0) (asked_by_vtime a) (given_number a 4)) (given_task a 0) (asked_by_vtime a) (λ e. (is_fit w (given_task a 0) (asked_by_vtime a) (given_number a 4) e).may) h
@@ -84,14 +84,14 @@ module _ (c : ℕ) where
   local_query w (Load t f) h = h
   local_query w (Store t f k) h = h
 
-  local_called : (p : Option VerifiedProgram) (b : Callback) (a : Arguments) (maps : Maps) (w : WorldState) → HasLocal c w → HasLocal c (called p b a maps w).outside
+  local_called : (p : Option VerifiedProgram) (b : Callback) (a : Args) (maps : Maps) (w : WorldState) → HasLocal c w → HasLocal c (called p b a maps w).outside
   unfolding called run_of
   local_called None b a maps w h = h
   local_called (Some p) b a maps w h =
       run_keeps (answer_to world_functions) (after_query world_functions) (HasLocal c) local_query b p.code (suc (instruction_count p.code)) 0 (start.start (given a) maps) w h
 
   -- after a callback somebody still waits there
-  pub local_call_back : (s : State) (b : Callback) (a : Arguments) (t d : ℕ) → HasLocal c s.world → HasLocal c (call_back s b a t d).state.world
+  pub local_call_back : (s : State) (b : Callback) (a : Args) (t d : ℕ) → HasLocal c s.world → HasLocal c (call_back s b a t d).state.world
   unfolding call_back
   local_call_back s b a t d h = local_called (program_of s.policy b) b a s.maps (begun s.world b t d) h
 

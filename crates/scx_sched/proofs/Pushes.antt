@@ -2,7 +2,7 @@
 use Rattle.std.proofs.Common.{arith, ◌≡◌, ℕ, ◌<◌, true, List, length, Option, Some, None}
 use Rattle.scx_dsq.specs.Queues.{front_of}
 use Rattle.scx_dsq.specs.Calls.{push_refusal, popped, removed}
-use Rattle.scx_dsq.specs.declared.places.Rank.TheVariants.{Fifo}
+use Rattle.scx_dsq.specs.declared.entries.Rank.TheVariants.{Fifo}
 use Rattle.scx_world.specs.Ids.{local_on}
 use Rattle.scx_world.specs.World.{WorldState}
 use Rattle.scx_world.specs.declared.call.Insert.{Insert}

@@ -11,7 +11,7 @@ use Rattle.scx_semantics.proofs.EndedRuns.{run_keeps}
 use Rattle.scx_semantics.specs.Machine as start
 use Rattle.scx_safety.specs.Programs.{VerifiedProgram}
 use Rattle.scx_vm.specs.Arguments.{given}
-use Rattle.scx_vm.specs.declared.arguments.Arguments.{Arguments}
+use Rattle.scx_vm.specs.declared.arguments.Args.{Args}
 use Rattle.scx_vm.specs.Host.{answer_to, after_query}
 use Rattle.scx_world.specs.Ids.{global, local_on}
 use Rattle.scx_world.specs.World.{WorldState, begun}
@@ -24,7 +24,7 @@ use Rattle.scx_world.specs.declared.call.Insert.{Insert}
 use Rattle.scx_machine.specs.Put.{enters, wanted, put}
 use Rattle.scx_machine.specs.Cycle.{has_local, fill, dispatched, asks_again, tries, leave, started_if, start as run_front, pick, rest, pick_or_rest, ask, seek, cycling, cycle}
 use Rattle.scx_machine.specs.Events.{settled}
-use Rattle.scx_sched.specs.Kept.{IsKeptBySteps, IsWanted, For_any, Nowhere, Inserted}
+use Rattle.scx_sched.specs.Kept.{IsKeptBySteps, IsWanted, ForAny, Nowhere, Inserted}
 use Rattle.scx_sched.proofs.Entering.{keeps_if}
 
 -- the task before, if there is one, is a task that there is
@@ -34,7 +34,7 @@ IsKnown n (Some t) = t < n
 
 -- enqueue puts a task where it may go
 is_wanted : (cpus : ℕ) (w : WorldState) (p : Option VerifiedProgram) (c : ℕ) (o : Option Insert) → c < cpus → w.call.insert ≡ o → IsWanted cpus w (wanted p c o)
-is_wanted cpus w None c o l e = For_any refl
+is_wanted cpus w None c o l e = ForAny refl
 is_wanted cpus w (Some p) c None l e = Nowhere refl
 is_wanted cpus w (Some p) c (Some i) l e = Inserted c i l e refl
 
@@ -42,14 +42,14 @@ module _ (n : ℕ) (I : Option ℕ → List (Option ℕ) → WorldState → Type
   -- with somebody at hand or nobody, and the same on the processors
   module _ (hand : Option ℕ) (on : List (Option ℕ)) where
     -- the run of a callback
-    pub keeps_called : (p : Option VerifiedProgram) (b : Callback) (a : Arguments) (maps : Maps) (w : WorldState) → I hand on w → I hand on (called p b a maps w).outside
+    pub keeps_called : (p : Option VerifiedProgram) (b : Callback) (a : Args) (maps : Maps) (w : WorldState) → I hand on w → I hand on (called p b a maps w).outside
     unfolding called run_of
     keeps_called None b a maps w h = h
     keeps_called (Some p) b a maps w h =
         run_keeps (answer_to world_functions) (after_query world_functions) (I hand on) (λ v q. k.query hand on v q) b p.code (suc (instruction_count p.code)) 0 (start.start (given a) maps) w h
 
     -- a callback
-    pub keeps_call_back : (s : State) (b : Callback) (a : Arguments) (t c : ℕ) → c < length on → I hand on s.world → I hand on (call_back s b a t c).state.world
+    pub keeps_call_back : (s : State) (b : Callback) (a : Args) (t c : ℕ) → c < length on → I hand on s.world → I hand on (call_back s b a t c).state.world
     unfolding call_back
     keeps_call_back s b a t c l h =
         let e = called (program_of s.policy b) b a s.maps (begun s.world b t c) in

@@ -6,25 +6,25 @@ use Rattle.std.proofs.lemmas.List.{length-set, get_or-set_same, get_or-set_other
 use Rattle.std.specs.List.{list_any, position_or_len}
 use Rattle.std.proofs.lemmas.List.Sums.{sum_by-cons}
 use Rattle.std.proofs.lemmas.List.Sums.{sum_by-set, fails_before_first}
-use Rattle.scx_dsq.specs.Queues.{QueueState, exists, task_count, place_of, is_in, front_of}
+use Rattle.scx_dsq.specs.Queues.{QueueState, exists, task_count, entry_of, is_in, front_of}
 use Rattle.scx_dsq.specs.Calls.{clashes, push_refusal, pushed, popped, removed, with_queue, created, create_refusal}
-use Rattle.scx_dsq.specs.Places.{same_sort}
-use Rattle.scx_dsq.specs.declared.places.Rank.{Rank}
-use Rattle.scx_dsq.specs.declared.places.Rank.TheVariants.{Fifo, Vtime}
-use Rattle.scx_dsq.specs.declared.places.Place.{Place}
+use Rattle.scx_dsq.specs.Entries.{same_sort}
+use Rattle.scx_dsq.specs.declared.entries.Rank.{Rank}
+use Rattle.scx_dsq.specs.declared.entries.Rank.TheVariants.{Fifo, Vtime}
+use Rattle.scx_dsq.specs.declared.entries.Entry.{Entry}
 use Rattle.scx_dsq.specs.Laws.{one_if, standing}
 use Rattle.scx_dsq.proofs.Facts.{front_is_known, standing_pushed, standing_popped, standing_removed, tasks_pushed, tasks_without, tasks_removed, tasks_created, others_change_none}
 use Rattle.scx_weights.specs.Hierarchy as tree
 use Rattle.scx_semantics.specs.declared.callbacks.Callback.{Callback}
 use Rattle.scx_semantics.specs.declared.callbacks.Callback.TheVariants as callback
-use Rattle.scx_semantics.specs.declared.outside.Field.{Field}
-use Rattle.scx_semantics.specs.declared.outside.Field.TheVariants.{Pid, Weight, Slice, DsqVtime, PrevCpu, Group, RunNs}
-use Rattle.scx_semantics.specs.declared.outside.Helper.{Helper}
-use Rattle.scx_semantics.specs.declared.outside.Helper.TheVariants.{MapLookupElem, KtimeGetNs, CreateDsq, DsqInsert, DsqInsertVtime, DsqMoveToLocal, SelectCpuDfl, CpuIdle, TaskByPid, DsqNrQueued}
+use Rattle.scx_semantics.specs.declared.host_tables.Field.{Field}
+use Rattle.scx_semantics.specs.declared.host_tables.Field.TheVariants.{Pid, Weight, Slice, DsqVtime, PrevCpu, Group, RunNs}
+use Rattle.scx_semantics.specs.declared.host_tables.Helper.{Helper}
+use Rattle.scx_semantics.specs.declared.host_tables.Helper.TheVariants.{MapLookupElem, KtimeGetNs, CreateDsq, DsqInsert, DsqInsertVtime, DsqMoveToLocal, SelectCpuDfl, CpuIdle, TaskByPid, DsqNrQueued}
 use Rattle.scx_semantics.specs.Effects.{Query, Call, Load, Store}
 use Rattle.scx_vm.specs.Arguments.{argument_of}
 use Rattle.scx_vm.specs.Host.{after_query}
-use Rattle.scx_vm.specs.declared.arguments.Argument.{Argument}
+use Rattle.scx_vm.specs.declared.arguments.Arg.{Arg}
 use Rattle.scx_world.specs.declared.task.Task.{Task}
 use Rattle.scx_world.specs.declared.call.Insert.{Insert}
 use Rattle.scx_world.specs.declared.notes.What.{What}
@@ -35,7 +35,7 @@ use Rattle.scx_world.specs.World.{WorldState, with_queues, with_tree, with_cycli
 use Rattle.scx_world.specs.Tasks.{woken, asleep, gone, given_slice, given_vtime, given, entered, resolved, for_cpu, to_held, to_global, brought, fill_front, filled, local_len, stopped, started_at, renewed, kept, ran_a_tick, ticked, later}
 use Rattle.scx_world.specs.Helpers.{is_there, can_create, faulted, is_dispatch, is_held, may_insert_in, may_insert, queue_fault, is_vtime, rank_fault, or_fault, insert_fault, with_insert, with_move, released, inserted, asked, asked_by_vtime, can_move, moved, given_number, given_task, helper_after, stored_in, world_functions}
 use Rattle.scx_sched.specs.Once.{runs, appearances, IsOnce, HasQueues, sort_of, IsSorted, IsAlike, IsOpen, IsSound, GoesSomewhere}
-use Rattle.scx_sched.specs.Kept.{IsWanted, For_any, Nowhere, Inserted}
+use Rattle.scx_sched.specs.Kept.{IsWanted, ForAny, Nowhere, Inserted}
 use Rattle.scx_sched.proofs.Entering.{keeps_if, nowhere, sorted_pushed, sorted_popped, sorted_removed, own_open, alike_from, is_accepted, Stay, stay_pushed, stay_without, stay_removed, stay_created, queues_stay, open_without, open_removed, open_created, open_own, open_same, goes_on, local_sort, low_fits}
 
 -- ---- changes of queues, tasks and the callback at hand
@@ -92,8 +92,8 @@ module _ (hand : Option ℕ) (on : List (Option ℕ)) (n : ℕ) where
       (goes_on w.queues (created w.queues q) (length on) w.call.insert (λ x r o. open_created w.queues q x r o) h.goes) h
 
 -- from one queue to another
-pub left_place : (s : QueueState) (q t : ℕ) → front_of s q ≡ Some t → place_of (popped s q) t ≡ None
-left_place s q t e = rw e (get_or-set_same {A = Option Place} s.places t None None (front_is_known s q (Some t) (sym e)))
+pub left_place : (s : QueueState) (q t : ℕ) → front_of s q ≡ Some t → entry_of (popped s q) t ≡ None
+left_place s q t e = rw e (get_or-set_same {A = Option Entry} s.entries t None None (front_is_known s q (Some t) (sym e)))
 
 sound_brought : (hand : Option ℕ) (on : List (Option ℕ)) (n : ℕ) (w : WorldState) (o : Option ℕ) (q r : ℕ) → front_of w.queues q ≡ o → exists w.queues r ≡ true → policy_end ≤ r → same_sort Fifo (sort_of r) ≡ true
     → IsSound hand on n w → (t : ℕ) → o ≡ Some t → IsSound hand on n (with_queues w (pushed (popped w.queues q) r t Fifo))
@@ -169,14 +169,14 @@ is_fit w t i flags e = go (may_insert w t) (nat_lt 1 flags) (queue_fault w i.que
     go false b o x y e = absurd (cc)
 
 rank_alike : (w : WorldState) (q : ℕ) (r : Rank) → rank_fault w q r ≡ None → (policy_end ≤ q → r ≡ Fifo) × IsAlike w.queues q r
-rank_alike w q r e = go (is_vtime r && nat_le policy_end q) (list_any (clashes q r) w.queues.places) refl refl e
+rank_alike w q r e = go (is_vtime r && nat_le policy_end q) (list_any (clashes q r) w.queues.entries) refl refl e
   where
     fifo : (k : Rank) (b : Bool) → b ≡ true → (is_vtime k && b) ≡ false → k ≡ Fifo
     fifo Fifo b x y = refl
     fifo (Vtime n) true x y = absurd (cc)
     fifo (Vtime n) false x y = absurd (cc)
 
-    go : (a b : Bool) → (is_vtime r && nat_le policy_end q) ≡ a → list_any (clashes q r) w.queues.places ≡ b → (if a then Some BuiltinVtime else (if b then Some Mixed else None)) ≡ None → (policy_end ≤ q → r ≡ Fifo) × IsAlike w.queues q r
+    go : (a b : Bool) → (is_vtime r && nat_le policy_end q) ≡ a → list_any (clashes q r) w.queues.entries ≡ b → (if a then Some BuiltinVtime else (if b then Some Mixed else None)) ≡ None → (policy_end ≤ q → r ≡ Fifo) × IsAlike w.queues q r
     go true b x y e = absurd (cc)
     go false true x y e = absurd (cc)
     go false false x y e = (λ past. fifo r (nat_le policy_end q) (grind (arith, nat_tests, past)) x, alike_from w.queues q r y)
@@ -191,18 +191,18 @@ fit_open on hand n w t i c l fit h =
 
 -- who is held waits, and is a task that there is
 pub record IsHeld (w : WorldState) (t : ℕ) : Type 0 where
-  pub waits : is_some (place_of w.queues t) ≡ true
+  pub waits : is_some (entry_of w.queues t) ≡ true
   pub known : t < task_count w.queues
-  pub free : place_of (removed w.queues t) t ≡ None
+  pub free : entry_of (removed w.queues t) t ≡ None
 
 -- a task that is held waits
 pub held_waits : (w : WorldState) (t : ℕ) → is_held w (Some t) ≡ true → IsHeld w t
-held_waits w t e = go (cases_lt t (length w.queues.places)) (place_of w.queues t) refl e
+held_waits w t e = go (cases_lt t (length w.queues.entries)) (entry_of w.queues t) refl e
   where
-    go : (t < length w.queues.places) ⊎ (length w.queues.places ≤ t) → (o : Option Place) → place_of w.queues t ≡ o → is_in held o ≡ true → IsHeld w t
+    go : (t < length w.queues.entries) ⊎ (length w.queues.entries ≤ t) → (o : Option Entry) → entry_of w.queues t ≡ o → is_in held o ≡ true → IsHeld w t
     go l None x y = absurd (cc)
-    go (inl l) (Some p) x y = record { waits = rw x refl; known = l; free = rw x (get_or-set_same {A = Option Place} w.queues.places t None None l) }
-    go (inr past) (Some p) x y = let none : place_of w.queues t ≡ None = get_or_past {X = Option Place} w.queues.places t None past in absurd (cc (sym x ∙ none))
+    go (inl l) (Some p) x y = record { waits = rw x refl; known = l; free = rw x (get_or-set_same {A = Option Entry} w.queues.entries t None None l) }
+    go (inr past) (Some p) x y = let none : entry_of w.queues t ≡ None = get_or_past {X = Option Entry} w.queues.entries t None past in absurd (cc (sym x ∙ none))
 
 -- and in dispatch only such a one may be inserted
 pub held_in_dispatch : (w : WorldState) (t : Option ℕ) → is_dispatch w.call.callback ≡ true → may_insert w t ≡ true → is_held w t ≡ true
@@ -277,7 +277,7 @@ module _ (hand : Option ℕ) (on : List (Option ℕ)) (n : ℕ) where
   sound_moved w (Some t) q e h =
       sound_moving (with_queues w (pushed (popped w.queues q) (local_on w.call.cpu) t Fifo)) _ (sound_brought hand on n w (Some t) q (local_on w.call.cpu) e (h.queues.locals w.call.cpu h.here) (omega arith) (local_sort w.call.cpu) h t refl)
 
-  sound_helper : (w : WorldState) (f : Helper) (a : List Argument) → IsSound hand on n w → IsSound hand on n (helper_after w f a)
+  sound_helper : (w : WorldState) (f : Helper) (a : List Arg) → IsSound hand on n w → IsSound hand on n (helper_after w f a)
   sound_helper w CreateDsq a h = keeps_if (IsSound hand on n) (can_create w (given_number a 0)) (with_queues w (created w.queues (given_number a 0))) (faulted w CannotCreate) (sound_created hand on n w (given_number a 0) h) (sound_faulted w CannotCreate h)
   sound_helper w DsqInsert a h = sound_inserted w (insert_fault w (given_task a 0) (asked a) (given_number a 3)) (given_task a 0) (asked a) (λ e. is_fit w (given_task a 0) (asked a) (given_number a 3) e) h
   sound_helper w DsqInsertVtime a h = sound_inserted w (insert_fault w (given_task a 0) (asked_by_vtime a) (given_number a 4)) (given_task a 0) (asked_by_vtime a) (λ e. is_fit w (given_task a 0) (asked_by_vtime a) (given_number a 4) e) h
@@ -347,13 +347,13 @@ module _ (on : List (Option ℕ)) (n : ℕ) where
 
   -- the queue that is wanted is open
   pub wanted_open : (w : WorldState) (i : Insert) (hand : Option ℕ) → IsWanted (length on) w i → IsSound hand on n w → IsOpen w.queues i.queue i.rank
-  wanted_open w i hand (For_any e) h = rw e (own_open w.queues global Fifo h.queues.global (omega arith) refl h.sorted)
+  wanted_open w i hand (ForAny e) h = rw e (own_open w.queues global Fifo h.queues.global (omega arith) refl h.sorted)
   wanted_open w i hand (Nowhere e) h = rw e (own_open w.queues held Fifo h.queues.held (omega arith) refl h.sorted)
   wanted_open w i hand (Inserted c said l x e) h = rw e (said_open w c said l x h.goes)
 
   -- a task that enters it
   pub sound_entered : (w : WorldState) (t : ℕ) (i : Insert) → t < n → IsWanted (length on) w i → IsSound (Some t) on n w → IsSound None on n (entered w t i)
-  sound_entered w t i within (For_any e) h = rw e (sound_enters_own w t to_global within h.queues.global (omega arith) refl h)
+  sound_entered w t i within (ForAny e) h = rw e (sound_enters_own w t to_global within h.queues.global (omega arith) refl h)
   sound_entered w t i within (Nowhere e) h = rw e (sound_enters_own w t to_held within h.queues.held (omega arith) refl h)
   sound_entered w t i within (Inserted c said l x e) h = rw e (sound_enters_said w t c said within l x h)
 
@@ -521,9 +521,9 @@ module _ (on : List (Option ℕ)) (n : ℕ) where
     at_once = h.at_once;
   }
     where
-      waiting : is_some (place_of w.queues t) ≡ true
-      waiting = go (is_some (place_of w.queues t)) refl (omega (arith, h.once t, ap one_if runnable, not_running w.cpus t off))
+      waiting : is_some (entry_of w.queues t) ≡ true
+      waiting = go (is_some (entry_of w.queues t)) refl (omega (arith, h.once t, ap one_if runnable, not_running w.cpus t off))
         where
-          go : (b : Bool) → is_some (place_of w.queues t) ≡ b → one_if (is_some (place_of w.queues t)) ≡ 1 → is_some (place_of w.queues t) ≡ true
+          go : (b : Bool) → is_some (entry_of w.queues t) ≡ b → one_if (is_some (entry_of w.queues t)) ≡ 1 → is_some (entry_of w.queues t) ≡ true
           go true e one = e
           go false e one = absurd (omega (arith, one, ap one_if e))

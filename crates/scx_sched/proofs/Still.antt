@@ -4,8 +4,8 @@ use Rattle.scx_dsq.specs.Queues.{front_of}
 use Rattle.scx_dsq.specs.Calls.{created}
 use Rattle.scx_semantics.specs.declared.callbacks.Callback.{Callback}
 use Rattle.scx_semantics.specs.declared.callbacks.Callback.TheVariants as callback
-use Rattle.scx_semantics.specs.declared.outside.Helper.{Helper}
-use Rattle.scx_semantics.specs.declared.outside.Helper.TheVariants.{MapLookupElem, KtimeGetNs, CreateDsq, DsqInsert, DsqInsertVtime, DsqMoveToLocal, SelectCpuDfl, CpuIdle, TaskByPid, DsqNrQueued}
+use Rattle.scx_semantics.specs.declared.host_tables.Helper.{Helper}
+use Rattle.scx_semantics.specs.declared.host_tables.Helper.TheVariants.{MapLookupElem, KtimeGetNs, CreateDsq, DsqInsert, DsqInsertVtime, DsqMoveToLocal, SelectCpuDfl, CpuIdle, TaskByPid, DsqNrQueued}
 use Rattle.scx_semantics.specs.Code.{instruction_count}
 use Rattle.scx_semantics.specs.Effects.{Query, Call, Load, Store}
 use Rattle.scx_semantics.specs.Elements.{Maps}
@@ -14,8 +14,8 @@ use Rattle.scx_semantics.proofs.EndedRuns.{run_keeps}
 use Rattle.scx_semantics.specs.Machine as start
 use Rattle.scx_safety.specs.Programs.{VerifiedProgram}
 use Rattle.scx_vm.specs.Arguments.{given, argument_of}
-use Rattle.scx_vm.specs.declared.arguments.Argument.{Argument}
-use Rattle.scx_vm.specs.declared.arguments.Arguments.{Arguments}
+use Rattle.scx_vm.specs.declared.arguments.Arg.{Arg}
+use Rattle.scx_vm.specs.declared.arguments.Args.{Args}
 use Rattle.scx_vm.specs.Host.{answer_to, after_query}
 use Rattle.scx_weights.specs.Hierarchy.{Hierarchy, with_weight}
 use Rattle.scx_weights.specs.Refusals.{weight_fault}
@@ -56,7 +56,7 @@ still_moved : (w : WorldState) (o : Option ℕ) (q : ℕ) → IsStill w → IsSt
 still_moved w None q h = h
 still_moved w (Some t) q h = h
 
-still_helper : (w : WorldState) (f : Helper) (a : List Argument) → IsStill w → IsStill (helper_after w f a)
+still_helper : (w : WorldState) (f : Helper) (a : List Arg) → IsStill w → IsStill (helper_after w f a)
 still_helper w CreateDsq a h = keeps_if IsStill (can_create w (given_number a 0)) (with_queues w (created w.queues (given_number a 0))) (faulted w CannotCreate) h h
 still_helper w DsqInsert a h = still_inserted w (insert_fault w (given_task a 0) (asked a) (given_number a 3)) (given_task a 0) (asked a) h
 still_helper w DsqInsertVtime a h = still_inserted w (insert_fault w (given_task a 0) (asked_by_vtime a) (given_number a 4)) (given_task a 0) (asked_by_vtime a) h
@@ -73,13 +73,13 @@ still_query w (Call f a) h = still_helper w f (map argument_of a) h
 still_query w (Load t f) h = h
 still_query w (Store t f k) h = h
 
-still_called : (p : Option VerifiedProgram) (b : Callback) (a : Arguments) (maps : Maps) (w : WorldState) → IsStill w → IsStill (called p b a maps w).outside
+still_called : (p : Option VerifiedProgram) (b : Callback) (a : Args) (maps : Maps) (w : WorldState) → IsStill w → IsStill (called p b a maps w).outside
 unfolding called run_of
 still_called None b a maps w h = h
 still_called (Some p) b a maps w h =
     run_keeps (answer_to world_functions) (after_query world_functions) IsStill still_query b p.code (suc (instruction_count p.code)) 0 (start.start (given a) maps) w h
 
-still_call_back : (s : State) (b : Callback) (a : Arguments) (t c : ℕ) → IsStill s.world → IsStill (call_back s b a t c).state.world
+still_call_back : (s : State) (b : Callback) (a : Args) (t c : ℕ) → IsStill s.world → IsStill (call_back s b a t c).state.world
 unfolding call_back
 still_call_back s b a t c h = still_called (program_of s.policy b) b a s.maps (begun s.world b t c) h
 

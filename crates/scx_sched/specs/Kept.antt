@@ -13,7 +13,7 @@ use Rattle.scx_world.specs.Helpers.{world_functions}
 
 -- where the task at hand may come to wait: for any processor, held, or where a callback inserted it
 pub data IsWanted (cpus : ℕ) (w : WorldState) (i : Insert) : Type 0 where
-  For_any : i ≡ to_global → IsWanted cpus w i
+  ForAny : i ≡ to_global → IsWanted cpus w i
   Nowhere : i ≡ to_held → IsWanted cpus w i
   Inserted : (c : ℕ) (said : Insert) → c < cpus → w.call.insert ≡ Some said → i ≡ for_cpu c said → IsWanted cpus w i
 

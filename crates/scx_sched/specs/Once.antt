@@ -1,12 +1,12 @@
 -- In how many places a task appears: on processors and in queues. Between two events a runnable task
 -- appears once, and a sleeping one nowhere; inside an event the task at hand may be in neither place.
 use Rattle.std.specs.Prelude.{◌≡◌, ℕ, ◌+◌, ◌<◌, Bool, true, false, ◌==◌, ◌||◌, nat_lt, List, length, Option, Some, None, sum_by, if◌then◌else◌}
-use Rattle.scx_dsq.specs.Queues.{QueueState, exists, task_count, place_of}
+use Rattle.scx_dsq.specs.Queues.{QueueState, exists, task_count, entry_of}
 use Rattle.scx_dsq.specs.Calls.{clashes}
-use Rattle.scx_dsq.specs.Places.{same_sort}
-use Rattle.scx_dsq.specs.declared.places.Place.{Place}
-use Rattle.scx_dsq.specs.declared.places.Rank.{Rank}
-use Rattle.scx_dsq.specs.declared.places.Rank.TheVariants.{Fifo, Vtime}
+use Rattle.scx_dsq.specs.Entries.{same_sort}
+use Rattle.scx_dsq.specs.declared.entries.Entry.{Entry}
+use Rattle.scx_dsq.specs.declared.entries.Rank.{Rank}
+use Rattle.scx_dsq.specs.declared.entries.Rank.TheVariants.{Fifo, Vtime}
 use Rattle.scx_dsq.specs.Laws.{one_if, standing}
 use Rattle.scx_world.specs.declared.call.Insert.{Insert}
 use Rattle.scx_world.specs.Ids.{policy_end, global, held, builtin, local_on}
@@ -40,16 +40,16 @@ sort_of q = if q == builtin then Vtime 0 else Fifo
 abbrev pub fits_queue : ℕ → Rank → Bool
 fits_queue q r = nat_lt q policy_end || same_sort r (sort_of q)
 
-abbrev pub fits_sort : Option Place → Bool
+abbrev pub fits_sort : Option Entry → Bool
 fits_sort None = true
 fits_sort (Some p) = fits_queue p.queue p.rank
 
 abbrev pub IsSorted : QueueState → Type 0
-IsSorted s = (t : ℕ) → fits_sort (place_of s t) ≡ true
+IsSorted s = (t : ℕ) → fits_sort (entry_of s t) ≡ true
 
 -- nobody waits in the queue who was put there in the other way
 abbrev pub IsAlike : QueueState → ℕ → Rank → Type 0
-IsAlike s q r = (t : ℕ) → clashes q r (place_of s t) ≡ false
+IsAlike s q r = (t : ℕ) → clashes q r (entry_of s t) ≡ false
 
 -- there is such a queue, and it takes a task so
 pub record IsOpen (s : QueueState) (q : ℕ) (r : Rank) : Type 0 where

@@ -12,20 +12,20 @@ use Rattle.scx_semantics.specs.declared.operations.Operation.{Operation}
 use Rattle.scx_semantics.specs.declared.operations.Operation.TheVariants.{Add, Subtract, Multiply, Divide, SignedDivide, Or, And, Xor, ShiftLeft, ShiftRight, ShiftRightSigned, Modulo, SignedModulo, Move}
 use Rattle.scx_semantics.specs.declared.operations.Extension.{Extension}
 use Rattle.scx_semantics.specs.declared.operations.Extension.TheVariants.{Low8To32, Low16To32, Low8To64, Low16To64, Low32To64}
-use Rattle.scx_semantics.specs.declared.operations.Order.{Order}
-use Rattle.scx_semantics.specs.declared.operations.Order.TheVariants.{Little, Big, Swapped}
-use Rattle.scx_semantics.specs.declared.operations.OrderWidth.{OrderWidth}
-use Rattle.scx_semantics.specs.declared.operations.OrderWidth.TheVariants as order
+use Rattle.scx_semantics.specs.declared.operations.ByteOrder.{ByteOrder}
+use Rattle.scx_semantics.specs.declared.operations.ByteOrder.TheVariants.{Little, Big, Swapped}
+use Rattle.scx_semantics.specs.declared.operations.SwapWidth.{SwapWidth}
+use Rattle.scx_semantics.specs.declared.operations.SwapWidth.TheVariants as order
 use Rattle.scx_semantics.specs.declared.values.Value.{Value}
 use Rattle.scx_semantics.specs.declared.values.Value.TheVariants.{Number}
-use Rattle.scx_semantics.specs.declared.outside.TaskId.{TaskId}
-use Rattle.scx_semantics.specs.declared.outside.Field.{Field}
-use Rattle.scx_semantics.specs.declared.outside.Field.TheVariants.{Slice, DsqVtime, RunNs}
-use Rattle.scx_semantics.specs.declared.outside.Helper.{Helper}
-use Rattle.scx_semantics.specs.declared.outside.Helper.TheVariants.{TaskByPid}
+use Rattle.scx_semantics.specs.declared.host_tables.TaskId.{TaskId}
+use Rattle.scx_semantics.specs.declared.host_tables.Field.{Field}
+use Rattle.scx_semantics.specs.declared.host_tables.Field.TheVariants.{Slice, DsqVtime, RunNs}
+use Rattle.scx_semantics.specs.declared.host_tables.Helper.{Helper}
+use Rattle.scx_semantics.specs.declared.host_tables.Helper.TheVariants.{TaskByPid}
 use Rattle.scx_semantics.specs.Effects.{Call, Load}
 use Rattle.scx_semantics.specs.Runs.{Fits}
-use Rattle.scx_semantics.specs.Arithmetic.{bits, signed, unsigned, immediate, low, operate, compute, negated, extended, kept, swapped, reordered, constant}
+use Rattle.scx_semantics.specs.Arithmetic.{bits, signed, unsigned, immediate, low, operate, compute, negated, extended, low_bytes, reversed_bytes, byte_swapped, wide_immediate}
 
 -- ---- signed numbers
 
@@ -133,21 +133,21 @@ extended_below Low8To64 n = omega (arith, ints)
 extended_below Low16To64 n = omega (arith, ints)
 extended_below Low32To64 n = omega (arith, ints)
 
-kept_below : (w : OrderWidth) (n : ℕ) → n < 2 ^ 64 → kept w n < 2 ^ 64
+kept_below : (w : SwapWidth) (n : ℕ) → n < 2 ^ 64 → low_bytes w n < 2 ^ 64
 kept_below order.Bits16 n h = omega arith
 kept_below order.Bits32 n h = omega arith
 kept_below order.Bits64 n h = h
 
-swapped_below : (w : OrderWidth) (n : ℕ) → swapped w n < 2 ^ 64
+swapped_below : (w : SwapWidth) (n : ℕ) → reversed_bytes w n < 2 ^ 64
 swapped_below order.Bits16 n = omega arith
 swapped_below order.Bits32 n = omega arith
 swapped_below order.Bits64 n = omega arith
 
 -- a number with its bytes in another order
-pub reordered_below : (o : Order) (w : OrderWidth) (n : ℕ) → n < 2 ^ 64 → reordered o w n < 2 ^ 64
-reordered_below Little w n h = kept_below w n h
-reordered_below Big w n h = swapped_below w (kept w n)
-reordered_below Swapped w n h = swapped_below w (kept w n)
+pub byte_swapped_below : (o : ByteOrder) (w : SwapWidth) (n : ℕ) → n < 2 ^ 64 → byte_swapped o w n < 2 ^ 64
+byte_swapped_below Little w n h = kept_below w n h
+byte_swapped_below Big w n h = swapped_below w (low_bytes w n)
+byte_swapped_below Swapped w n h = swapped_below w (low_bytes w n)
 
 -- ---- what stands in an instruction
 
@@ -157,8 +157,8 @@ immediate_below Bits32 k h = omega (arith, ints)
 immediate_below Bits64 k h = omega (arith, ints)
 
 -- a constant in two halves
-pub constant_below : (low_half high_half : ℤ) → FitsSigned w32 low_half → FitsSigned w32 high_half → constant low_half high_half < 2 ^ 64
-constant_below low_half high_half p q = omega (arith, ints)
+pub wide_immediate_below : (low_half high_half : ℤ) → FitsSigned w32 low_half → FitsSigned w32 high_half → wide_immediate low_half high_half < 2 ^ 64
+wide_immediate_below low_half high_half p q = omega (arith, ints)
 
 -- ---- what the host answers
 

@@ -4,9 +4,9 @@ pub mod Registers
 pub mod Code
 pub mod Arithmetic
 pub mod Memory
-pub mod Outside
+pub mod HostTables
 pub mod Elements
-pub mod Places
+pub mod Locations
 pub mod Machine
 pub mod Effects
 pub mod Calls

@@ -1,5 +1,5 @@
 ghost use Rattle.std.specs.Prelude.{◌≡◌};
-ghost use Rattle.scx_semantics.specs.Outside.{answers};
+ghost use Rattle.scx_semantics.specs.HostTables.{answers};
 
 /// What a program is run as: a callback of a scheduling policy (sched-ext.rst), or a plain program
 /// with no policy around it.

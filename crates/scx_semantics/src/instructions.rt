@@ -1,6 +1,8 @@
 ghost use Rattle.std.specs.Prelude.{◌≡◌};
 
-use crate::operations::{Access, Comparison, Extension, Operation, Order, OrderWidth, Size, Width};
+use crate::operations::{
+    Access, ByteOrder, Comparison, Extension, Operation, Size, SwapWidth, Width,
+};
 use crate::registers::Register;
 
 /// The second operand: an immediate (source bit K) or a register (source bit X).
@@ -21,18 +23,24 @@ pub enum Insn {
     Negate(Width, Register),
     /// Copies the low bits of the second register, extended with their sign.
     SignExtend(Extension, Register, Register),
-    /// Puts the low bytes of the register in another order.
-    Reorder(Order, OrderWidth, Register),
-    /// Loads a 64-bit constant, given by its low and its high half. It takes two slots.
-    Constant(Register, i32, i32),
+    /// Puts the low bytes of the register in that order (RFC 9669, section 4.2).
+    ByteSwap(ByteOrder, SwapWidth, Register),
+    /// Loads a 64-bit immediate, given by its low and its high half. It takes two slots.
+    LoadImmediate(Register, i32, i32),
     /// Loads a reference to the map of that number. It takes two slots.
-    MapReference(Register, i32),
+    LoadMapReference(Register, i32),
     /// Loads from the address that the second register and the offset give.
     Load(Access, Register, Register, i16),
     /// Stores the operand to the address that the register and the offset give.
     Store(Size, Register, i16, Operand),
     /// Jumps where the comparison of the register with the operand holds.
-    JumpIf(Width, Comparison, Register, i16, Operand),
+    JumpIf {
+        width: Width,
+        comparison: Comparison,
+        register: Register,
+        operand: Operand,
+        distance: i16,
+    },
     Goto(i16),
     /// The jump whose distance has 32 bits.
     GotoLong(i32),
@@ -49,7 +57,7 @@ impl Insn {
         ensures { result ≡ size self }
     {
         match self {
-            Insn::Constant(..) | Insn::MapReference(..) => 2,
+            Insn::LoadImmediate(..) | Insn::LoadMapReference(..) => 2,
             _ => 1,
         }
     }

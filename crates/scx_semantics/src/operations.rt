@@ -46,7 +46,7 @@ pub enum Extension {
 /// The byte order that an instruction brings about (RFC 9669, section 4.2). The host is
 /// little-endian.
 #[derive(Clone, Copy)]
-pub enum Order {
+pub enum ByteOrder {
     Little,
     Big,
     /// The bytes are swapped, whatever the host.
@@ -55,7 +55,7 @@ pub enum Order {
 
 /// How many low bits a change of byte order keeps.
 #[derive(Clone, Copy)]
-pub enum OrderWidth {
+pub enum SwapWidth {
     Bits16,
     Bits32,
     Bits64,
@@ -92,7 +92,7 @@ pub enum Comparison {
     Greater,
     GreaterOrEqual,
     /// Some bit is set in both.
-    AnyBit,
+    BitTest,
     NotEqual,
     SignedGreater,
     SignedGreaterOrEqual,

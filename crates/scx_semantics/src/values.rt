@@ -1,4 +1,4 @@
-use crate::outside::TaskId;
+use crate::host_tables::TaskId;
 
 /// How many bytes the stack has. r10 points to its top, the place past the last one.
 pub const STACK_SIZE: u16 = 512;
@@ -11,7 +11,7 @@ pub enum Pointer {
     Task(TaskId),
     Map(u8),
     /// An element of a map: the map, the byte within the element, and the element's index.
-    Element(u8, u16, u32),
+    Element { map: u8, index: u32, offset: u16 },
 }
 
 /// What a register holds.

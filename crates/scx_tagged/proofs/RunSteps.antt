@@ -6,7 +6,7 @@ use Rattle.scx_semantics.specs.Code.{Code, at, size, instruction_count, instruct
 use Rattle.scx_semantics.specs.Machine.{Machine, Arguments, start}
 use Rattle.scx_semantics.specs.Effects as effects
 use Rattle.scx_semantics.specs.Meaning.{act}
-use Rattle.scx_semantics.specs.Steps.{Stuck, Ends, located, step}
+use Rattle.scx_semantics.specs.Steps.{Stuck, Ends, outcome_at, step}
 use Rattle.scx_isa.proofs.Counts.{one_left}
 use Rattle.scx_semantics.specs.Runs.{Outside, Leads, LeadsTo, Runs}
 use Rattle.scx_semantics.specs.Elements.{Maps}
@@ -28,7 +28,7 @@ one_left_at_end c code s m answer e = go (at code s) refl
     go (Some i) h = one_left code s i h
 
 -- where control goes on behind an instruction, a step leads there
-located_next : {W : Type 0} (O : Outside W) (s : ℕ) (i : Insn) (e : effects.Effect) (w : W) (m : Machine) (w' : W) → GoesOn O e w m w' → LeadsTo O (located s i e) w (s + size i) m w'
+located_next : {W : Type 0} (O : Outside W) (s : ℕ) (i : Insn) (e : effects.Effect) (w : W) (m : Machine) (w' : W) → GoesOn O e w m w' → LeadsTo O (outcome_at s i e) w (s + size i) m w'
 located_next O s i effects.Stuck w m w' bad = absurd bad
 located_next O s i (effects.Next n) w m w' (same, left) = (refl, same, left)
 located_next O s i (effects.Jumped n) w m w' bad = absurd bad

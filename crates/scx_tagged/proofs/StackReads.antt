@@ -83,7 +83,7 @@ same_pointer-refl : (q : Pointer) → same_pointer q q ≡ true
 same_pointer-refl (pointer.Stack o) = eq-eqb o o refl
 same_pointer-refl (pointer.Task t) = eq-eqb t.0 t.0 refl
 same_pointer-refl (pointer.Map m) = eq-eqb m m refl
-same_pointer-refl (pointer.Element m o i) = rw (eq-eqb m m refl, eq-eqb o o refl, eq-eqb i i refl) refl
+same_pointer-refl (pointer.Element m i o) = rw (eq-eqb m m refl, eq-eqb o o refl, eq-eqb i i refl) refl
 
 -- a byte under which a pointer lies is its part where its mark is clear
 are_parts-byte : (q : Pointer) (m b i : ℕ) (rest : List StackByte) → are_parts q i (byte_of m b (Some q) i ∷ rest) ≡ (if nat_eq m 0 then are_parts q (suc i) rest else false)

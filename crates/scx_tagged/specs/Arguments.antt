@@ -1,8 +1,8 @@
 -- What a helper takes that asks its host.
 use Rattle.std.specs.Prelude.{Bool, true, false, Option, Some, None}
 use Rattle.scx_semantics.specs.declared.values.Value.{Value}
-use Rattle.scx_semantics.specs.declared.outside.Parameter.{Parameter}
-use Rattle.scx_semantics.specs.declared.outside.Parameter.TheVariants as parameter
+use Rattle.scx_semantics.specs.declared.host_tables.Parameter.{Parameter}
+use Rattle.scx_semantics.specs.declared.host_tables.Parameter.TheVariants as parameter
 use Rattle.scx_semantics.specs.Calls.{takes}
 use Rattle.scx_semantics.specs.Machine as machine
 

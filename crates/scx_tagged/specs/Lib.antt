@@ -1,7 +1,7 @@
 pub mod Stack
 pub mod State
 pub mod Arguments
-pub mod Places
+pub mod Locations
 pub mod Execute
 pub mod Run
 pub mod Outcome

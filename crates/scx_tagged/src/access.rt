@@ -4,47 +4,47 @@ ghost use Rattle.scx_semantics.specs.Elements.{Maps};
 ghost use Rattle.scx_semantics.specs.Machine.{Machine};
 ghost use Rattle.scx_semantics.specs.Memory.{size_bytes, access_size};
 ghost use Rattle.scx_semantics.specs.Meaning.{loaded, stored};
-ghost use Rattle.scx_semantics.specs.Places as places;
+ghost use Rattle.scx_semantics.specs.Locations as locations;
 ghost use Rattle.scx_semantics.specs.Registers.{number};
 ghost use Rattle.scx_semantics.specs.declared.operations.Size as Sizes;
 ghost use Rattle.scx_tagged.specs.State.{seen};
 ghost use Rattle.scx_vm.specs.Host.{host};
-ghost use Rattle.scx_tagged.specs.Places.{place_of, Lies, LiesOnStack};
+ghost use Rattle.scx_tagged.specs.Locations.{location_of, Lies, LiesOnStack};
 ghost use Rattle.scx_tagged.specs.Execute.{ComesTo, effect_of};
 
 use crate::effect::Effect;
-use crate::memory::{Place, element_number};
+use crate::memory::{Location, element_number};
 use crate::state::Core;
 use scx_isa::{Access, Field, Register, Size, TaskId, Value};
 use scx_maps::Maps;
 use scx_vm::Env;
 
-/// Loads from a place.
+/// Loads from a location.
 #[tactic(auto, using(crate::proofs::Effects::comes_to))]
 pub fn load<E: Env>(
     core: &mut Core,
     destination: Register,
     access: Access,
-    place: Place,
+    location: Location,
     maps: &Maps,
     env: &E,
 ) -> Effect
-    requires { Lies maps.now (size_bytes (access_size access)) place }
+    requires { Lies maps.now (size_bytes (access_size access)) location }
     ensures { ComesTo (host E.functions)
-        (loaded (seen core.old maps.now) (number destination) access (place_of place)) maps.now
+        (loaded (seen core.old maps.now) (number destination) access (location_of location)) maps.now
         env.now result (seen core.new maps.now) env.now }
 {
-    match place {
-        Place::Nowhere => Effect::Stuck,
-        Place::OnStack(at) => {
+    match location {
+        Location::Nowhere => Effect::Stuck,
+        Location::OnStack(at) => {
             let value = core.stack.load(access, usize::from(at));
-            core.keep(destination, value)
+            core.set_register(destination, value)
         }
-        Place::InElement(map, index, at) => {
+        Location::InElement(map, index, at) => {
             let n = element_number(maps, map, index, at, access);
-            core.keep(destination, Some(Value::Number(n)))
+            core.set_register(destination, Some(Value::Number(n)))
         }
-        Place::InTask(task, field) => load_field(core, destination, access, task, field, env),
+        Location::InTask(task, field) => load_field(core, destination, access, task, field, env),
     }
 }
 
@@ -59,7 +59,7 @@ fn load_field<E: Env>(
 ) -> Effect
     ensures { (maps : Maps)
         → ComesTo (host E.functions)
-        (loaded (seen core.old maps) (number destination) access (places.InTask task field)) maps
+        (loaded (seen core.old maps) (number destination) access (locations.InTask task field)) maps
         env.now result (seen core.new maps) env.now }
 {
     if !access.is_plain() || destination == Register::R10 {
@@ -70,35 +70,35 @@ fn load_field<E: Env>(
     Effect::Next
 }
 
-/// Stores a value at a place.
+/// Stores a value at a location.
 #[tactic(auto, using(crate::proofs::Effects::comes_to))]
 pub fn store<E: Env>(
     core: &mut Core,
     size: Size,
     value: Value,
-    place: Place,
+    location: Location,
     maps: &mut Maps,
     env: &mut E,
 ) -> Effect
-    requires { Lies maps.old (size_bytes size) place }
+    requires { Lies maps.old (size_bytes size) location }
     ensures effect { ComesTo (host E.functions)
-        (stored (seen core.old maps.old) size value (place_of place)) maps.old env.old result
+        (stored (seen core.old maps.old) size value (location_of location)) maps.old env.old result
         (seen core.new maps.new) env.new }
     ensures shapes { lengths_of maps.new ≡ lengths_of maps.old }
     ensures room { E.room env.old ≤ E.room env.new }
     ensures spent { E.spent env.new ≤ E.spent env.old }
 {
-    match place {
-        Place::Nowhere => Effect::Stuck,
-        Place::OnStack(at) => store_on_stack(core, size, value, at),
-        Place::InElement(map, index, at) => {
+    match location {
+        Location::Nowhere => Effect::Stuck,
+        Location::OnStack(at) => store_on_stack(core, size, value, at),
+        Location::InElement(map, index, at) => {
             let Value::Number(n) = value else {
                 return Effect::Stuck;
             };
             maps.store(map, index, at, size, n);
             Effect::Next
         }
-        Place::InTask(task, field) => store_field(env, task, field, value),
+        Location::InTask(task, field) => store_field(env, task, field, value),
     }
 }
 
@@ -106,7 +106,7 @@ pub fn store<E: Env>(
 fn store_on_stack(core: &mut Core, size: Size, value: Value, at: u16) -> Effect
     requires { LiesOnStack at (size_bytes size) }
     ensures { (maps : Maps)
-        → stored (seen core.old maps) size value (places.OnStack at)
+        → stored (seen core.old maps) size value (locations.OnStack at)
         ≡ effect_of result (seen core.new maps) }
 {
     match (size, value) {
@@ -123,7 +123,7 @@ fn store_on_stack(core: &mut Core, size: Size, value: Value, at: u16) -> Effect
 /// written.
 fn store_field<E: Env>(env: &mut E, task: TaskId, field: Field, value: Value) -> Effect
     ensures effect { (m : Machine) (size : Sizes.Size)
-        → ComesTo (host E.functions) (stored m size value (places.InTask task field)) m.maps env.old
+        → ComesTo (host E.functions) (stored m size value (locations.InTask task field)) m.maps env.old
         result m env.new }
     ensures room { E.room env.old ≤ E.room env.new }
     ensures spent { E.spent env.new ≤ E.spent env.old }

@@ -2,10 +2,10 @@ ghost use Rattle.std.specs.Prelude.{◌≡◌, ◌+◌, ◌<◌, ◌≤◌, leng
 ghost use Rattle.scx_semantics.specs.Calls.{call, key, takes_all, argument, arguments, called};
 ghost use Rattle.scx_semantics.specs.Effects as effects;
 ghost use Rattle.scx_semantics.specs.Elements.{Maps};
-ghost use Rattle.scx_semantics.specs.Outside.{parameters};
+ghost use Rattle.scx_semantics.specs.HostTables.{parameters};
 ghost use Rattle.scx_semantics.specs.Registers.{number};
-ghost use Rattle.scx_semantics.specs.declared.outside.Helper.TheVariants.{MapLookupElem};
-ghost use Rattle.scx_tagged.specs.State.{seen, held};
+ghost use Rattle.scx_semantics.specs.declared.host_tables.Helper.TheVariants.{MapLookupElem};
+ghost use Rattle.scx_tagged.specs.State.{seen, register_value};
 ghost use Rattle.scx_vm.specs.Host.{host};
 ghost use Rattle.scx_vm.specs.Arguments.{argument_of};
 ghost use Rattle.scx_tagged.specs.Arguments.{finds};
@@ -13,12 +13,12 @@ ghost use Rattle.scx_tagged.specs.Execute.{ComesTo, effect_of};
 
 use crate::arguments::{answer_value, argument_of};
 use crate::effect::Effect;
-use crate::memory::{Place, address};
+use crate::memory::{Location, address};
 use crate::state::Core;
 use byteorder::{ByteOrder, LittleEndian};
 use scx_isa::{Callback, Helper, Parameter, Pointer, Register, Size, Value};
 use scx_maps::Maps;
-use scx_vm::{Argument, Env};
+use scx_vm::{Arg, Env};
 
 /// Calls the helper of that number (RFC 9669, section 4.3.1).
 #[inline(never)]
@@ -64,7 +64,11 @@ fn look_up(core: &mut Core, maps: &Maps) -> Effect
         return Effect::Stuck;
     };
     if maps.lookup(map, key) {
-        core.end_call(Value::Pointer(Pointer::Element(map, 0, key)));
+        core.end_call(Value::Pointer(Pointer::Element {
+            map,
+            index: key,
+            offset: 0,
+        }));
     } else {
         core.end_call(Value::Number(0));
     }
@@ -76,11 +80,11 @@ fn key(core: &Core, maps: &Maps, value: Value) -> Option<u32>
     ensures { result ≡ key (seen core.now maps.now) value }
 {
     match address(maps, value, 0, Size::Word) {
-        Place::OnStack(at) => core.stack.word(usize::from(at)),
-        Place::InElement(map, index, at) => Some(LittleEndian::read_u32(
+        Location::OnStack(at) => core.stack.word(usize::from(at)),
+        Location::InElement(map, index, at) => Some(LittleEndian::read_u32(
             &maps.value(map, index)[usize::from(at)..],
         )),
-        Place::Nowhere | Place::InTask(..) => None,
+        Location::Nowhere | Location::InTask(..) => None,
     }
 }
 
@@ -104,7 +108,7 @@ fn ask<E: Env>(core: &mut Core, helper: Helper, env: &mut E) -> Effect
 }
 
 /// What the helper takes, from r1 on.
-fn arguments(core: &Core, helper: Helper) -> [Argument; 5]
+fn arguments(core: &Core, helper: Helper) -> [Arg; 5]
     ensures { (maps : Maps) → result ≡ map argument_of (arguments (seen core.now maps) helper) }
 {
     [
@@ -117,7 +121,7 @@ fn arguments(core: &Core, helper: Helper) -> [Argument; 5]
 }
 
 /// What the register holds, if the helper takes an argument of that number.
-fn argument(core: &Core, helper: Helper, index: usize, register: Register) -> Argument
+fn argument(core: &Core, helper: Helper, index: usize, register: Register) -> Arg
     requires { number register ≡ index + 1 }
     ensures { (maps : Maps)
         → result
@@ -127,7 +131,7 @@ fn argument(core: &Core, helper: Helper, index: usize, register: Register) -> Ar
     if helper.parameter(index).is_some() {
         argument_of(core.read(register))
     } else {
-        Argument::Unset
+        Arg::Unset
     }
 }
 
@@ -148,7 +152,7 @@ fn takes(core: &Core, helper: Helper, index: usize, register: Register) -> bool
     ensures { (maps : Maps)
         → result
         ≡ finds (seen core.now maps) (slice_get (parameters helper) index)
-        (held core.now (number register)) }
+        (register_value core.now (number register)) }
 {
     let value = core.read(register);
     match helper.parameter(index) {

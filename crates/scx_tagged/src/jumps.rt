@@ -4,7 +4,7 @@ ghost use Rattle.scx_semantics.specs.Effects.{branch};
 ghost use Rattle.scx_semantics.specs.Elements.{Maps};
 ghost use Rattle.scx_semantics.specs.Machine.{Machine};
 ghost use Rattle.scx_semantics.specs.Registers.{number};
-ghost use Rattle.scx_tagged.specs.State.{seen, held};
+ghost use Rattle.scx_tagged.specs.State.{seen, register_value};
 ghost use Rattle.scx_tagged.specs.Execute.{effect_of};
 
 use crate::effect::Effect;
@@ -23,7 +23,7 @@ pub fn compared(
 ) -> Option<bool>
     ensures { (maps : Maps)
         → result
-        ≡ compared (seen core.now maps) width comparison (held core.now (number register)) operand }
+        ≡ compared (seen core.now maps) width comparison (register_value core.now (number register)) operand }
 {
     match core.read(register) {
         Value::Number(a) => numbers_compared(

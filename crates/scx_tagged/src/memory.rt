@@ -1,17 +1,17 @@
 ghost use Rattle.std.specs.Prelude.{◌≡◌, ◌+◌, ◌%◌, ◌≤◌, IfSome};
 ghost use Rattle.scx_semantics.specs.Arithmetic.{shifted};
 ghost use Rattle.scx_semantics.specs.Elements.{element, number_at};
-ghost use Rattle.scx_semantics.specs.Memory.{room_at, size_bytes, access_size, read_as};
-ghost use Rattle.scx_semantics.specs.Places.{address};
-ghost use Rattle.scx_tagged.specs.Places.{place_of, Lies, LiesInElement};
+ghost use Rattle.scx_semantics.specs.Memory.{aligned_within, size_bytes, access_size, read_as};
+ghost use Rattle.scx_semantics.specs.Locations.{address};
+ghost use Rattle.scx_tagged.specs.Locations.{location_of, Lies, LiesInElement};
 
 use scx_arithmetic::{read, shifted};
 use scx_isa::{Access, Field, Pointer, STACK_SIZE, Size, TaskId, Value};
 use scx_maps::Maps;
 
-/// The place that an address means.
+/// The location that an address means.
 #[derive(Clone, Copy)]
-pub enum Place {
+pub enum Location {
     Nowhere,
     /// The byte of the stack.
     OnStack(u16),
@@ -20,35 +20,41 @@ pub enum Place {
     InTask(TaskId, Field),
 }
 
-/// The place that an address means, for so many bytes.
+/// The location that an address means, for so many bytes.
 #[inline(always)]
-pub fn address(maps: &Maps, base: Value, offset: i16, size: Size) -> Place
-    ensures place { address maps.now base offset (size_bytes size) ≡ place_of result }
+pub fn address(maps: &Maps, base: Value, offset: i16, size: Size) -> Location
+    ensures location { address maps.now base offset (size_bytes size) ≡ location_of result }
     ensures lies { Lies maps.now (size_bytes size) result }
 {
     match base {
-        Value::Pointer(Pointer::Stack(at)) => match room_at(STACK_SIZE, size, at, offset) {
-            Some(at) => Place::OnStack(at),
-            None => Place::Nowhere,
+        Value::Pointer(Pointer::Stack(at)) => match aligned_within(STACK_SIZE, size, at, offset) {
+            Some(at) => Location::OnStack(at),
+            None => Location::Nowhere,
         },
-        Value::Pointer(Pointer::Element(map, at, index)) => {
-            match room_at(maps.value_size(map, index), size, at, offset) {
-                Some(at) => Place::InElement(map, index, at),
-                None => Place::Nowhere,
+        Value::Pointer(
+            Pointer::Element {
+                map,
+                index,
+                offset: at,
+            },
+        ) => {
+            match aligned_within(maps.value_size(map, index), size, at, offset) {
+                Some(at) => Location::InElement(map, index, at),
+                None => Location::Nowhere,
             }
         }
         Value::Pointer(Pointer::Task(task)) => match Field::at(offset, size) {
-            Some(field) => Place::InTask(task, field),
-            None => Place::Nowhere,
+            Some(field) => Location::InTask(task, field),
+            None => Location::Nowhere,
         },
-        Value::Pointer(Pointer::Map(_)) | Value::Number(_) | Value::Unset => Place::Nowhere,
+        Value::Pointer(Pointer::Map(_)) | Value::Number(_) | Value::Unset => Location::Nowhere,
     }
 }
 
-/// The place that far from another, if that many bytes from it on lie in so much memory and it is a
+/// The offset that far from another, if that many bytes from it on lie in so much memory and it is a
 /// multiple of them.
-fn room_at(limit: u16, size: Size, at: u16, offset: i16) -> Option<u16>
-    ensures place { result ≡ room_at limit (size_bytes size) (shifted at offset) }
+fn aligned_within(limit: u16, size: Size, at: u16, offset: i16) -> Option<u16>
+    ensures offset { result ≡ aligned_within limit (size_bytes size) (shifted at offset) }
     ensures within { IfSome result (λ to. to + size_bytes size ≤ limit) }
     ensures aligned { IfSome result (λ to. to % size_bytes size ≡ 0) }
 {

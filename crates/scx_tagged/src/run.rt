@@ -16,7 +16,7 @@ use crate::execute::execute;
 use crate::state::Core;
 use scx_isa::{Callback, MAX_SLOTS, Program, target};
 use scx_maps::Maps;
-use scx_vm::{Arguments, Done, Env};
+use scx_vm::{Args, Done, Env};
 
 /// How a run ended.
 #[derive(Clone, Copy, Debug, PartialEq, Eq)]
@@ -49,7 +49,7 @@ enum Outcome {
 pub fn try_run<E: Env>(
     program: &Program,
     callback: Callback,
-    arguments: Arguments,
+    arguments: Args,
     maps: &mut Maps,
     env: &mut E,
 ) -> Ran
@@ -76,7 +76,7 @@ pub fn try_run<E: Env>(
 fn walk<E: Env>(
     program: &Program,
     callback: Callback,
-    arguments: Arguments,
+    arguments: Args,
     maps: &mut Maps,
     env: &mut E,
 ) -> Ran

@@ -1,6 +1,6 @@
 ghost use Rattle.std.specs.Prelude.{◌≡◌};
 ghost use Rattle.scx_semantics.specs.Machine.{start, with_register};
-ghost use Rattle.scx_semantics.specs.Effects.{keep};
+ghost use Rattle.scx_semantics.specs.Effects.{set_register};
 ghost use Rattle.scx_semantics.specs.Calls.{after_call};
 ghost use Rattle.scx_semantics.specs.Elements.{Maps};
 ghost use Rattle.scx_semantics.specs.Registers.{number};
@@ -11,7 +11,7 @@ use crate::arguments::argument_value;
 use crate::effect::Effect;
 use crate::stack::Stack;
 use scx_isa::{Pointer, REGISTERS, Register, STACK_SIZE, Value};
-use scx_vm::Arguments;
+use scx_vm::Args;
 
 /// The state of a running program but for the maps: what its registers and its stack hold.
 #[derive(Drop)]
@@ -21,10 +21,10 @@ pub struct Core {
 }
 
 impl Core {
-    ghost use Rattle.scx_tagged.specs.State.{held, seen};
+    ghost use Rattle.scx_tagged.specs.State.{register_value, seen};
 
     /// The state as a program with these arguments starts: r10 points to the top of the stack.
-    pub fn start(arguments: Arguments) -> Core
+    pub fn start(arguments: Args) -> Core
         ensures { (maps : Maps) → seen result maps ≡ start (given arguments) maps }
     {
         let mut registers = [Value::Unset; REGISTERS];
@@ -40,7 +40,7 @@ impl Core {
 
     /// What the register holds.
     pub fn read(&self, register: Register) -> Value
-        ensures { result ≡ held self.now (number register) }
+        ensures { result ≡ register_value self.now (number register) }
     {
         self.registers[register.number() as usize]
     }
@@ -54,9 +54,9 @@ impl Core {
     }
 
     /// Writes what there is to write, but never r10.
-    pub fn keep(&mut self, register: Register, value: Option<Value>) -> Effect
+    pub fn set_register(&mut self, register: Register, value: Option<Value>) -> Effect
         ensures { (maps : Maps)
-            → keep (seen self.old maps) (number register) value
+            → set_register (seen self.old maps) (number register) value
             ≡ effect_of result (seen self.new maps) }
     {
         let Some(value) = value else {

@@ -1,14 +1,15 @@
 ghost use Rattle.std.specs.Prelude.{◌≡◌, Some};
 ghost use Rattle.scx_semantics.specs.Meaning.{operand_value, on_number, binary, moved, combined, arithmetic, pointer_moved, map_reference};
-ghost use Rattle.scx_semantics.specs.Arithmetic.{negated, extended, reordered};
+ghost use Rattle.scx_semantics.specs.Arithmetic.{negated, extended, byte_swapped};
 ghost use Rattle.scx_semantics.specs.Elements.{Maps};
 ghost use Rattle.scx_semantics.specs.Registers.{number};
-ghost use Rattle.scx_tagged.specs.State.{seen, held};
+ghost use Rattle.scx_tagged.specs.State.{seen, register_value};
 
 use crate::state::Core;
 use scx_arithmetic as numbers;
 use scx_isa::{
-    Extension, Operand, Operation, Order, OrderWidth, Pointer, Register, STACK_SIZE, Value, Width,
+    ByteOrder, Extension, Operand, Operation, Pointer, Register, STACK_SIZE, SwapWidth, Value,
+    Width,
 };
 use scx_maps::Maps;
 
@@ -32,7 +33,7 @@ pub fn binary(
     operand: Operand,
 ) -> Option<Value>
     ensures { result
-        ≡ binary (seen core.now maps.now) width operation (held core.now (number destination))
+        ≡ binary (seen core.now maps.now) width operation (register_value core.now (number destination))
         operand }
 {
     match operation {
@@ -100,9 +101,17 @@ fn pointer_moved(maps: &Maps, pointer: Pointer, step: i64) -> Option<Value>
             let to = numbers::within(STACK_SIZE, numbers::shifted(at, step))?;
             Some(Value::Pointer(Pointer::Stack(to)))
         }
-        Pointer::Element(map, at, index) => {
+        Pointer::Element {
+            map,
+            index,
+            offset: at,
+        } => {
             let to = numbers::within(maps.value_size(map, index), numbers::shifted(at, step))?;
-            Some(Value::Pointer(Pointer::Element(map, to, index)))
+            Some(Value::Pointer(Pointer::Element {
+                map,
+                index,
+                offset: to,
+            }))
         }
         Pointer::Task(_) | Pointer::Map(_) => None,
     }
@@ -129,11 +138,11 @@ pub fn extended(extension: Extension, value: Value) -> Option<Value>
 }
 
 /// The low bytes of a number in another order.
-pub fn reordered(order: Order, width: OrderWidth, value: Value) -> Option<Value>
-    ensures { result ≡ on_number (reordered order width) value }
+pub fn byte_swapped(order: ByteOrder, width: SwapWidth, value: Value) -> Option<Value>
+    ensures { result ≡ on_number (byte_swapped order width) value }
 {
     match value {
-        Value::Number(n) => Some(Value::Number(numbers::reordered(order, width, n))),
+        Value::Number(n) => Some(Value::Number(numbers::byte_swapped(order, width, n))),
         Value::Pointer(_) | Value::Unset => None,
     }
 }

@@ -11,7 +11,7 @@ use Rattle.std.specs.List.{starts_with}
 use Rattle.std.specs.Str.{bytes_eq}
 use Rattle.std.specs.Str.Parse.{digits_value}
 use Rattle.scx_semantics.specs.declared.operations.Operation.TheVariants.{Add, Subtract, Multiply, Divide, SignedDivide, Or, And, Xor, ShiftLeft, ShiftRight, ShiftRightSigned, Modulo, SignedModulo, Move}
-use Rattle.scx_semantics.specs.declared.operations.Comparison.TheVariants.{Equal, Greater, GreaterOrEqual, AnyBit, NotEqual, SignedGreater, SignedGreaterOrEqual, Less, LessOrEqual, SignedLess, SignedLessOrEqual}
+use Rattle.scx_semantics.specs.declared.operations.Comparison.TheVariants.{Equal, Greater, GreaterOrEqual, BitTest, NotEqual, SignedGreater, SignedGreaterOrEqual, Less, LessOrEqual, SignedLess, SignedLessOrEqual}
 use Rattle.scx_text.specs.declared.symbols.Symbol.{Symbol}
 use Rattle.scx_text.specs.declared.symbols.Symbol.TheVariants.{Assign, Compare, Plus, Minus, Star, Opening, Closing, Colon}
 use Rattle.scx_text.specs.declared.lexer.Class.{Class}
@@ -47,7 +47,7 @@ front_of (Assign Move) = record { digit = refl; word = inl refl }
 front_of (Compare Equal) = record { digit = refl; word = inl refl }
 front_of (Compare Greater) = record { digit = refl; word = inl refl }
 front_of (Compare GreaterOrEqual) = record { digit = refl; word = inl refl }
-front_of (Compare AnyBit) = record { digit = refl; word = inl refl }
+front_of (Compare BitTest) = record { digit = refl; word = inl refl }
 front_of (Compare NotEqual) = record { digit = refl; word = inl refl }
 front_of (Compare SignedGreater) = record { digit = refl; word = inr (refl, lit< tt) }
 front_of (Compare SignedGreaterOrEqual) = record { digit = refl; word = inr (refl, lit< tt) }

@@ -12,8 +12,8 @@ use Rattle.scx_semantics.specs.declared.registers.Register.{Register}
 use Rattle.scx_semantics.specs.Registers.{number}
 use Rattle.scx_text.specs.declared.symbols.Symbol.TheVariants.{Assign, Compare, Plus, Minus, Star, Opening, Closing, Colon}
 use Rattle.scx_text.specs.declared.items.Literal.{Literal}
-use Rattle.scx_text.specs.declared.items.Argument.{Argument}
-use Rattle.scx_text.specs.declared.items.Argument.TheVariants as argument
+use Rattle.scx_text.specs.declared.items.WrittenOperand.{WrittenOperand}
+use Rattle.scx_text.specs.declared.items.WrittenOperand.TheVariants as argument
 use Rattle.scx_text.specs.declared.items.Statement.{Statement}
 use Rattle.scx_text.specs.declared.items.Statement.TheVariants as statement
 use Rattle.scx_text.specs.declared.items.Jump.{Jump}
@@ -22,7 +22,7 @@ use Rattle.scx_text.specs.declared.items.Target.{Target}
 use Rattle.scx_text.specs.declared.items.Target.TheVariants as target
 use Rattle.scx_text.specs.declared.items.Item.{Item}
 use Rattle.scx_text.specs.declared.items.Item.TheVariants as item
-use Rattle.scx_text.specs.declared.items.Place.{Place}
+use Rattle.scx_text.specs.declared.items.MemoryOperand.{MemoryOperand}
 use Rattle.scx_text.specs.Options.{◌>>=◌, either}
 use Rattle.scx_text.specs.Tokens.{Lexeme, Word, Number, Mark, tokens}
 use Rattle.scx_text.specs.Names.{register_named, register_in, access_named, stored_size, extension_of, order_named}
@@ -33,21 +33,21 @@ pub data Destination : Type 0 where
   Distance : Literal → Destination
 
 -- what a line says, wherever its label lies
-pub data Line : Type 0 where
-  Blank : Line
-  Place_of : List ℕ → Line
-  Says : Statement → Line
-  Jumps : Jump → Destination → Line
+pub data ItemValue : Type 0 where
+  Blank : ItemValue
+  DefinesLabel : List ℕ → ItemValue
+  Says : Statement → ItemValue
+  Jumps : Jump → Destination → ItemValue
 
 abbrev pub destination_of : Target → Destination
 destination_of (target.Label l) = Label l.now
 destination_of (target.Distance n) = Distance n
 
-abbrev pub line_of : Item → Line
-line_of item.Blank = Blank
-line_of (item.Label l) = Place_of l.now
-line_of (item.Statement s) = Says s
-line_of (item.Jump j t) = Jumps j (destination_of t)
+abbrev pub item_value : Item → ItemValue
+item_value item.Blank = Blank
+item_value (item.Label l) = DefinesLabel l.now
+item_value (item.Statement s) = Says s
+item_value (item.Jump j t) = Jumps j (destination_of t)
 
 -- ---- what the front of a line says, and what stands behind it
 
@@ -85,9 +85,9 @@ read_register w (Word name ∷ ts) = register_in w name >>= λ r. Some (r, ts)
 read_register w ts = None
 
 -- the second operand
-abbrev pub read_argument : Width → List Lexeme → Read Argument
-read_argument w (Word name ∷ ts) = register_in w name >>= λ r. Some (argument.Register r, ts)
-read_argument w ts = read_literal ts >>= λ n. Some (argument.Number n.0, n.1)
+abbrev pub read_operand : Width → List Lexeme → Read WrittenOperand
+read_operand w (Word name ∷ ts) = register_in w name >>= λ r. Some (argument.Register r, ts)
+read_operand w ts = read_literal ts >>= λ n. Some (argument.Number n.0, n.1)
 
 abbrev pub read_comparison : List Lexeme → Read Comparison
 read_comparison (Mark (Compare c) ∷ ts) = Some (c, ts)
@@ -120,8 +120,8 @@ read_address ts = do
   Some ((base.0, o.0), rest)
 
 -- memory, behind the star that it begins with
-abbrev pub read_place : List Lexeme → Read Place
-read_place ts = do
+abbrev pub read_memory_operand : List Lexeme → Read MemoryOperand
+read_memory_operand ts = do
   inner ← opening ts
   a ← read_access inner
   behind ← star a.1
@@ -132,7 +132,7 @@ read_place ts = do
 -- ---- whole lines
 
 -- nothing stands behind it
-abbrev pub end : List Lexeme → Line → Option Line
+abbrev pub end : List Lexeme → ItemValue → Option ItemValue
 end [] l = Some l
 end ts l = None
 
@@ -140,17 +140,17 @@ abbrev pub same : Register → Register → Bool
 same r s = nat_eq (number r) (number s)
 
 -- `rD = rS`
-abbrev pub copied : Width → Register → Register → List Lexeme → Option Line
+abbrev pub copied : Width → Register → Register → List Lexeme → Option ItemValue
 copied w d r ts = end ts (Says (statement.Binary w Move d (argument.Register r)))
 
 -- `rD = -rD`
-abbrev pub negated : Width → Register → List ℕ → List Lexeme → Option Line
+abbrev pub negated : Width → Register → List ℕ → List Lexeme → Option ItemValue
 negated w d name ts = do
   r ← register_in w name
   if same r d then end ts (Says (statement.Negate w d)) else None
 
 -- `rD = (s8)rS`, behind the parenthesis
-abbrev pub extended : Width → Register → List Lexeme → Option Line
+abbrev pub extended : Width → Register → List Lexeme → Option ItemValue
 extended w d ts = do
   a ← read_access ts
   e ← extension_of w a.0
@@ -159,64 +159,64 @@ extended w d ts = do
   end r.1 (Says (statement.SignExtend e d r.0))
 
 -- `rD = *(u8 *)(rS + O)`, behind the star
-abbrev pub loaded : Width → Register → List Lexeme → Option Line
+abbrev pub loaded : Width → Register → List Lexeme → Option ItemValue
 loaded Bits32 d ts = None
 loaded Bits64 d ts = do
-  p ← read_place ts
+  p ← read_memory_operand ts
   end p.1 (Says (statement.Load p.0.access d p.0.base p.0.offset))
 
 -- `rD = N` and `rD = N ll`
-abbrev pub constant : Width → Register → Literal → List Lexeme → Option Line
-constant Bits64 d n (Word name ∷ ts) = if bytes_eq name (codes "ll") then end ts (Says (statement.Constant d n)) else None
-constant w d n ts = end ts (Says (statement.Binary w Move d (argument.Number n)))
+abbrev pub load_immediate : Width → Register → Literal → List Lexeme → Option ItemValue
+load_immediate Bits64 d n (Word name ∷ ts) = if bytes_eq name (codes "ll") then end ts (Says (statement.LoadImmediate d n)) else None
+load_immediate w d n ts = end ts (Says (statement.Binary w Move d (argument.Number n)))
 
 -- `rD = le16 rD`
-abbrev pub reordered : Register → List ℕ → List Lexeme → Option Line
-reordered d name ts = do
+abbrev pub byte_swapped : Register → List ℕ → List Lexeme → Option ItemValue
+byte_swapped d name ts = do
   o ← order_named name
   r ← read_register Bits64 ts
-  if same r.0 d then end r.1 (Says (statement.Reorder o.0 o.1 d)) else None
+  if same r.0 d then end r.1 (Says (statement.ByteSwap o.0 o.1 d)) else None
 
 -- `rD = map N`
-abbrev pub mapped : Register → List Lexeme → Option Line
-mapped d ts = read_literal ts >>= λ n. end n.1 (Says (statement.MapReference d n.0))
+abbrev pub mapped : Register → List Lexeme → Option ItemValue
+mapped d ts = read_literal ts >>= λ n. end n.1 (Says (statement.LoadMapReference d n.0))
 
 -- a word behind `rD =` that is no register of that width
-abbrev pub special : Width → Register → List ℕ → List Lexeme → Option Line
+abbrev pub special : Width → Register → List ℕ → List Lexeme → Option ItemValue
 special Bits32 d name ts = None
-special Bits64 d name ts = if bytes_eq name (codes "map") then mapped d ts else reordered d name ts
+special Bits64 d name ts = if bytes_eq name (codes "map") then mapped d ts else byte_swapped d name ts
 
 -- what stands behind `rD =`, if it is no word
-abbrev pub computed : Width → Register → List Lexeme → Option Line
+abbrev pub computed : Width → Register → List Lexeme → Option ItemValue
 computed w d (Mark Minus ∷ Word name ∷ ts) = negated w d name ts
 computed w d (Mark Opening ∷ ts) = extended w d ts
 computed w d (Mark Star ∷ ts) = loaded w d ts
-computed w d ts = read_literal ts >>= λ n. constant w d n.0 n.1
+computed w d ts = read_literal ts >>= λ n. load_immediate w d n.0 n.1
 
 -- what stands behind `rD =`
-abbrev pub given : Width → Register → List Lexeme → Option Line
+abbrev pub given : Width → Register → List Lexeme → Option ItemValue
 given w d (Word name ∷ ts) = either (register_in w name) (λ r. copied w d r ts) (special w d name ts)
 given w d ts = computed w d ts
 
 -- `rD op= rS` and `rD op= N`
-abbrev pub operated : Width → Operation → Register → List Lexeme → Option Line
-operated w o d ts = read_argument w ts >>= λ x. end x.1 (Says (statement.Binary w o d x.0))
+abbrev pub operated : Width → Operation → Register → List Lexeme → Option ItemValue
+operated w o d ts = read_operand w ts >>= λ x. end x.1 (Says (statement.Binary w o d x.0))
 
 -- what stands behind the register that a line begins with
-abbrev pub assigned : Width → Register → List Lexeme → Option Line
+abbrev pub assigned : Width → Register → List Lexeme → Option ItemValue
 assigned w d (Mark (Assign Move) ∷ ts) = given w d ts
 assigned w d (Mark (Assign o) ∷ ts) = operated w o d ts
 assigned w d ts = None
 
 -- the operand behind `=`
-abbrev pub read_given : List Lexeme → Read Argument
-read_given (Mark (Assign Move) ∷ ts) = read_argument Bits64 ts
+abbrev pub read_given : List Lexeme → Read WrittenOperand
+read_given (Mark (Assign Move) ∷ ts) = read_operand Bits64 ts
 read_given ts = None
 
 -- `*(u8 *)(rD + O) = rS`, behind the star
-abbrev pub stored : List Lexeme → Option Line
+abbrev pub stored : List Lexeme → Option ItemValue
 stored ts = do
-  p ← read_place ts
+  p ← read_memory_operand ts
   s ← stored_size p.0.access
   x ← read_given p.1
   end x.1 (Says (statement.Store s p.0.base p.0.offset x.0))
@@ -227,23 +227,23 @@ read_goto (Word name ∷ ts) = if bytes_eq name (codes "goto") then read_destina
 read_goto ts = None
 
 -- `if rD C rS goto T`, behind the `if`
-abbrev pub condition : List Lexeme → Option Line
+abbrev pub condition : List Lexeme → Option ItemValue
 condition ts = do
   name ← read_word ts
   r ← register_named name.0
   c ← read_comparison name.1
-  x ← read_argument r.0 c.1
+  x ← read_operand r.0 c.1
   t ← read_goto x.1
   end t.1 (Jumps (jump.If r.0 c.0 r.1 x.0) t.0)
 
-abbrev pub jumped : Jump → List Lexeme → Option Line
+abbrev pub jumped : Jump → List Lexeme → Option ItemValue
 jumped j ts = read_destination ts >>= λ t. end t.1 (Jumps j t.0)
 
-abbrev pub called : List Lexeme → Option Line
+abbrev pub called : List Lexeme → Option ItemValue
 called ts = read_literal ts >>= λ n. end n.1 (Says (statement.Call n.0))
 
 -- a line that begins with another word than a register
-abbrev pub keyword : List ℕ → List Lexeme → Option Line
+abbrev pub keyword : List ℕ → List Lexeme → Option ItemValue
 keyword name ts =
     if bytes_eq name (codes "if") then condition ts
     else (if bytes_eq name (codes "goto") then jumped jump.Goto ts
@@ -251,16 +251,16 @@ keyword name ts =
     else (if bytes_eq name (codes "call") then called ts
     else (if bytes_eq name (codes "exit") then end ts (Says statement.Exit) else None))))
 
-abbrev pub statement_of : List ℕ → List Lexeme → Option Line
+abbrev pub statement_of : List ℕ → List Lexeme → Option ItemValue
 statement_of name ts = either (register_named name) (λ r. assigned r.0 r.1 ts) (keyword name ts)
 
-abbrev pub item_of : List Lexeme → Option Line
+abbrev pub item_of : List Lexeme → Option ItemValue
 item_of [] = Some Blank
-item_of (Word l ∷ Mark Colon ∷ ts) = end ts (Place_of l)
+item_of (Word l ∷ Mark Colon ∷ ts) = end ts (DefinesLabel l)
 item_of (Word name ∷ ts) = statement_of name ts
 item_of (Mark Star ∷ ts) = stored ts
 item_of ts = None
 
 -- what a line says, or nothing where it isn't of the language
-abbrev pub read_line : List ℕ → Option Line
+abbrev pub read_line : List ℕ → Option ItemValue
 read_line text = tokens text >>= item_of

@@ -11,10 +11,10 @@ use Rattle.scx_semantics.specs.declared.operations.Size.{Size}
 use Rattle.scx_semantics.specs.declared.operations.Size.TheVariants as size
 use Rattle.scx_semantics.specs.declared.operations.Extension.{Extension}
 use Rattle.scx_semantics.specs.declared.operations.Extension.TheVariants.{Low8To32, Low16To32, Low8To64, Low16To64, Low32To64}
-use Rattle.scx_semantics.specs.declared.operations.Order.{Order}
-use Rattle.scx_semantics.specs.declared.operations.Order.TheVariants.{Little, Big, Swapped}
-use Rattle.scx_semantics.specs.declared.operations.OrderWidth.{OrderWidth}
-use Rattle.scx_semantics.specs.declared.operations.OrderWidth.TheVariants as order
+use Rattle.scx_semantics.specs.declared.operations.ByteOrder.{ByteOrder}
+use Rattle.scx_semantics.specs.declared.operations.ByteOrder.TheVariants.{Little, Big, Swapped}
+use Rattle.scx_semantics.specs.declared.operations.SwapWidth.{SwapWidth}
+use Rattle.scx_semantics.specs.declared.operations.SwapWidth.TheVariants as order
 use Rattle.scx_semantics.specs.declared.registers.Register.{Register}
 use Rattle.scx_semantics.specs.declared.registers.Register.TheVariants.{R10}
 use Rattle.scx_semantics.specs.Registers.{number, register_at}
@@ -107,7 +107,7 @@ extension_access Low32To64 = access.SignedWord
 
 -- ---- byte orders
 
-abbrev pub order_text : Order × OrderWidth → List ℕ
+abbrev pub order_text : ByteOrder × SwapWidth → List ℕ
 order_text (Little, order.Bits16) = codes "le16"
 order_text (Little, order.Bits32) = codes "le32"
 order_text (Little, order.Bits64) = codes "le64"
@@ -118,12 +118,12 @@ order_text (Swapped, order.Bits16) = codes "bswap16"
 order_text (Swapped, order.Bits32) = codes "bswap32"
 order_text (Swapped, order.Bits64) = codes "bswap64"
 
-abbrev pub orders : List (Order × OrderWidth)
+abbrev pub orders : List (ByteOrder × SwapWidth)
 orders =
     (Little, order.Bits16) ∷ (Little, order.Bits32) ∷ (Little, order.Bits64)
     ∷ (Big, order.Bits16) ∷ (Big, order.Bits32) ∷ (Big, order.Bits64)
     ∷ (Swapped, order.Bits16) ∷ (Swapped, order.Bits32) ∷ (Swapped, order.Bits64)
     ∷ []
 
-abbrev pub order_named : List ℕ → Option (Order × OrderWidth)
+abbrev pub order_named : List ℕ → Option (ByteOrder × SwapWidth)
 order_named name = named order_text orders name

@@ -4,7 +4,7 @@
 use Rattle.std.specs.Prelude.{ℕ, nat_eq, List, [], ◌∷◌, codes, Option, Some, None, if◌then◌else◌}
 use Rattle.std.specs.List.{starts_with}
 use Rattle.scx_semantics.specs.declared.operations.Operation.TheVariants.{Add, Subtract, Multiply, Divide, SignedDivide, Or, And, Xor, ShiftLeft, ShiftRight, ShiftRightSigned, Modulo, SignedModulo, Move}
-use Rattle.scx_semantics.specs.declared.operations.Comparison.TheVariants.{Equal, Greater, GreaterOrEqual, AnyBit, NotEqual, SignedGreater, SignedGreaterOrEqual, Less, LessOrEqual, SignedLess, SignedLessOrEqual}
+use Rattle.scx_semantics.specs.declared.operations.Comparison.TheVariants.{Equal, Greater, GreaterOrEqual, BitTest, NotEqual, SignedGreater, SignedGreaterOrEqual, Less, LessOrEqual, SignedLess, SignedLessOrEqual}
 use Rattle.scx_text.specs.declared.symbols.Symbol.{Symbol}
 use Rattle.scx_text.specs.declared.symbols.Symbol.TheVariants.{Assign, Compare, Plus, Minus, Star, Opening, Closing, Colon}
 
@@ -26,7 +26,7 @@ spelled (Assign Move) = codes "="
 spelled (Compare Equal) = codes "=="
 spelled (Compare Greater) = codes ">"
 spelled (Compare GreaterOrEqual) = codes ">="
-spelled (Compare AnyBit) = codes "&"
+spelled (Compare BitTest) = codes "&"
 spelled (Compare NotEqual) = codes "!="
 spelled (Compare SignedGreater) = codes "s>"
 spelled (Compare SignedGreaterOrEqual) = codes "s>="
@@ -49,7 +49,7 @@ symbols =
     ∷ Compare SignedGreaterOrEqual ∷ Compare SignedLessOrEqual
     ∷ Assign Add ∷ Assign Subtract ∷ Assign Multiply ∷ Assign Divide ∷ Assign Or ∷ Assign And ∷ Assign Xor ∷ Assign Modulo
     ∷ Compare Equal ∷ Compare NotEqual ∷ Compare GreaterOrEqual ∷ Compare LessOrEqual ∷ Compare SignedGreater ∷ Compare SignedLess
-    ∷ Assign Move ∷ Compare Greater ∷ Compare Less ∷ Compare AnyBit
+    ∷ Assign Move ∷ Compare Greater ∷ Compare Less ∷ Compare BitTest
     ∷ Plus ∷ Minus ∷ Star ∷ Opening ∷ Closing ∷ Colon
     ∷ []
 

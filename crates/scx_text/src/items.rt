@@ -1,5 +1,5 @@
 use scx_semantics::{
-    Access, Comparison, Extension, Operation, Order, OrderWidth, Register, Size, Width,
+    Access, ByteOrder, Comparison, Extension, Operation, Register, Size, SwapWidth, Width,
 };
 
 /// A number as it is written; it has no magnitude where that is 2^64 or more.
@@ -11,7 +11,7 @@ pub struct Literal {
 
 /// The second operand as it is written.
 #[derive(Clone, Copy)]
-pub enum Argument {
+pub enum WrittenOperand {
     Number(Literal),
     Register(Register),
 }
@@ -19,14 +19,14 @@ pub enum Argument {
 /// An instruction other than a jump, with its numbers as they are written.
 #[derive(Clone, Copy)]
 pub enum Statement {
-    Binary(Width, Operation, Register, Argument),
+    Binary(Width, Operation, Register, WrittenOperand),
     Negate(Width, Register),
     SignExtend(Extension, Register, Register),
-    Reorder(Order, OrderWidth, Register),
-    Constant(Register, Literal),
-    MapReference(Register, Literal),
+    ByteSwap(ByteOrder, SwapWidth, Register),
+    LoadImmediate(Register, Literal),
+    LoadMapReference(Register, Literal),
     Load(Access, Register, Register, Literal),
-    Store(Size, Register, Literal, Argument),
+    Store(Size, Register, Literal, WrittenOperand),
     Call(Literal),
     Exit,
 }
@@ -34,7 +34,7 @@ pub enum Statement {
 /// A jump without its target.
 #[derive(Clone, Copy)]
 pub enum Jump {
-    If(Width, Comparison, Register, Argument),
+    If(Width, Comparison, Register, WrittenOperand),
     Goto,
     GotoLong,
 }
@@ -57,9 +57,9 @@ pub enum Item<'a> {
     Jump(Jump, Target<'a>),
 }
 
-/// Memory that a line names: a register plus an offset, and how it is read.
+/// Memory as a line writes it: a register plus an offset, and how it is read.
 #[derive(Clone, Copy)]
-pub struct Place {
+pub struct MemoryOperand {
     pub access: Access,
     pub base: Register,
     pub offset: Literal,

@@ -11,7 +11,7 @@ mod statements;
 mod symbols;
 mod words;
 
-pub use items::{Argument, Item, Jump, Literal, Statement, Target};
+pub use items::{Item, Jump, Literal, Statement, Target, WrittenOperand};
 pub use laws::longest_token_is_read;
 pub use lexer::{Token, tokens};
 pub use printing::Canonical;

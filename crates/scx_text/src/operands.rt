@@ -1,8 +1,8 @@
 ghost use Rattle.std.specs.Prelude.{◌≡◌, option_map};
 ghost use Rattle.scx_text.specs.Tokens.{lexemes};
-ghost use Rattle.scx_text.specs.Items.{destination_of, written, read_literal, read_offset, read_destination, read_word, read_register, read_argument, read_comparison, star, opening, closing, read_access, read_address, read_place, read_given, read_goto};
+ghost use Rattle.scx_text.specs.Items.{destination_of, written, read_literal, read_offset, read_destination, read_word, read_register, read_operand, read_comparison, star, opening, closing, read_access, read_address, read_memory_operand, read_given, read_goto};
 
-use crate::items::{Argument, Literal, Place, Target};
+use crate::items::{Literal, MemoryOperand, Target, WrittenOperand};
 use crate::lexer::Token;
 use crate::symbols::Symbol;
 use crate::words::{access_named, register_in};
@@ -94,17 +94,20 @@ pub(crate) fn read_register<'t, 'a>(width: Width, tokens: &'t [Token<'a>]) -> Re
 }
 
 /// The second operand: a register of that width, or a number.
-pub(crate) fn read_argument<'t, 'a>(width: Width, tokens: &'t [Token<'a>]) -> Read<'t, 'a, Argument>
+pub(crate) fn read_operand<'t, 'a>(
+    width: Width,
+    tokens: &'t [Token<'a>],
+) -> Read<'t, 'a, WrittenOperand>
     ensures { option_map (λ x. (x.0, lexemes x.1.now)) result
-        ≡ read_argument width (lexemes tokens.now) }
+        ≡ read_operand width (lexemes tokens.now) }
 {
     match tokens {
         [Token::Word(name), rest @ ..] => {
-            Some((Argument::Register(register_in(width, name)?), rest))
+            Some((WrittenOperand::Register(register_in(width, name)?), rest))
         }
         _ => {
             let (number, rest) = read_literal(tokens)?;
-            Some((Argument::Number(number), rest))
+            Some((WrittenOperand::Number(number), rest))
         }
     }
 }
@@ -165,26 +168,26 @@ pub(crate) fn read_address<'t, 'a>(tokens: &'t [Token<'a>]) -> Read<'t, 'a, (Reg
 }
 
 /// Memory, behind the star that it begins with.
-pub(crate) fn read_place<'t, 'a>(tokens: &'t [Token<'a>]) -> Read<'t, 'a, Place>
-    ensures { option_map (λ x. (x.0, lexemes x.1.now)) result ≡ read_place (lexemes tokens.now) }
+pub(crate) fn read_memory_operand<'t, 'a>(tokens: &'t [Token<'a>]) -> Read<'t, 'a, MemoryOperand>
+    ensures { option_map (λ x. (x.0, lexemes x.1.now)) result ≡ read_memory_operand (lexemes tokens.now) }
 {
     let (access, rest) = read_access(behind_opening(tokens)?)?;
     let ((base, offset), rest) = read_address(behind_closing(behind_star(rest)?)?)?;
-    let place = Place {
+    let memory = MemoryOperand {
         access,
         base,
         offset,
     };
-    Some((place, rest))
+    Some((memory, rest))
 }
 
 /// The operand behind `=`.
-pub(crate) fn read_given<'t, 'a>(tokens: &'t [Token<'a>]) -> Read<'t, 'a, Argument>
+pub(crate) fn read_given<'t, 'a>(tokens: &'t [Token<'a>]) -> Read<'t, 'a, WrittenOperand>
     ensures { option_map (λ x. (x.0, lexemes x.1.now)) result ≡ read_given (lexemes tokens.now) }
 {
     match tokens {
         [Token::Mark(Symbol::Assign(Operation::Move)), rest @ ..] => {
-            read_argument(Width::Bits64, rest)
+            read_operand(Width::Bits64, rest)
         }
         _ => None,
     }

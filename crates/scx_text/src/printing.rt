@@ -1,7 +1,7 @@
 ghost use Rattle.std.specs.Prelude.{◌≡◌, Some};
-ghost use Rattle.scx_semantics.specs.Arithmetic.{constant};
+ghost use Rattle.scx_semantics.specs.Arithmetic.{wide_immediate};
 ghost use Rattle.scx_text.specs.Names.{register_text, width_text, access_text};
-ghost use Rattle.scx_text.specs.Canonical.{operand_text, offset_text, distance_text, place_text, insn_text};
+ghost use Rattle.scx_text.specs.Canonical.{operand_text, offset_text, distance_text, memory_operand_text, insn_text};
 
 use crate::symbols::Symbol;
 use crate::words::{access_text, extension_access, order_text, stored_access};
@@ -25,7 +25,7 @@ struct OffsetText(i16);
 struct DistanceText(i32);
 
 #[derive(Clone, Copy)]
-struct PlaceText(Access, Register, i16);
+struct MemoryOperandText(Access, Register, i16);
 
 fn width_text(width: Width) -> &'static str
     ensures { result.now ≡ width_text width }
@@ -38,7 +38,7 @@ fn width_text(width: Width) -> &'static str
 
 /// The number whose halves these are.
 fn constant_of(low: i32, high: i32) -> u64
-    ensures { result ≡ constant low high }
+    ensures { result ≡ wide_immediate low high }
 {
     u64::from(low.cast_unsigned()) + (u64::from(high.cast_unsigned()) << 32)
 }
@@ -90,8 +90,8 @@ impl fmt::Display for DistanceText {
     }
 }
 
-impl fmt::Display for PlaceText {
-    ghost output = { λ x. Some (place_text (access_text x.0) x.1 x.2) };
+impl fmt::Display for MemoryOperandText {
+    ghost output = { λ x. Some (memory_operand_text (access_text x.0) x.1 x.2) };
 
     fn fmt<W: fmt::Write>(&self, f: &mut fmt::Formatter<W>) -> fmt::Result {
         let access = access_text(self.0);
@@ -123,31 +123,37 @@ impl fmt::Display for Canonical {
                 let from = RegisterText(width, source);
                 write!(f, "{to} = ({low}){from}")
             }
-            Insn::Reorder(order, width, register) => {
+            Insn::ByteSwap(order, width, register) => {
                 let register = RegisterText(Width::Bits64, register);
                 let order = order_text((order, width));
                 write!(f, "{register} = {order} {register}")
             }
-            Insn::Constant(register, low, high) => {
+            Insn::LoadImmediate(register, low, high) => {
                 let to = RegisterText(Width::Bits64, register);
                 let number = constant_of(low, high);
                 write!(f, "{to} = {number} ll")
             }
-            Insn::MapReference(register, map) => {
+            Insn::LoadMapReference(register, map) => {
                 let to = RegisterText(Width::Bits64, register);
                 write!(f, "{to} = map {map}")
             }
             Insn::Load(access, register, base, offset) => {
                 let to = RegisterText(Width::Bits64, register);
-                let place = PlaceText(access, base, offset);
-                write!(f, "{to} = {place}")
+                let memory = MemoryOperandText(access, base, offset);
+                write!(f, "{to} = {memory}")
             }
             Insn::Store(size, base, offset, operand) => {
-                let place = PlaceText(stored_access(size), base, offset);
+                let memory = MemoryOperandText(stored_access(size), base, offset);
                 let from = OperandText(Width::Bits64, operand);
-                write!(f, "{place} = {from}")
+                write!(f, "{memory} = {from}")
             }
-            Insn::JumpIf(width, comparison, register, distance, operand) => {
+            Insn::JumpIf {
+                width,
+                comparison,
+                register,
+                operand,
+                distance,
+            } => {
                 let left = RegisterText(width, register);
                 let comparison = Symbol::Compare(comparison).text();
                 let right = OperandText(width, operand);

@@ -4,13 +4,13 @@ ghost use Rattle.scx_text.specs.Options.{either};
 ghost use Rattle.scx_text.specs.Names.{register_in};
 ghost use Rattle.scx_text.specs.declared.items.Statement.TheVariants.{Binary};
 ghost use Rattle.scx_semantics.specs.declared.operations.Operation.TheVariants.{Move};
-ghost use Rattle.scx_text.specs.Items.{Says, line_of, copied, negated, extended, loaded, constant, reordered, mapped, special, computed, given, operated, assigned, stored, condition, jumped, called, keyword, statement_of, item_of, end, same};
+ghost use Rattle.scx_text.specs.Items.{Says, item_value, copied, negated, extended, loaded, load_immediate, byte_swapped, mapped, special, computed, given, operated, assigned, stored, condition, jumped, called, keyword, statement_of, item_of, end, same};
 
-use crate::items::{Argument, Item, Jump, Literal, Statement};
+use crate::items::{Item, Jump, Literal, Statement, WrittenOperand};
 use crate::lexer::Token;
 use crate::operands::{
-    behind_closing, read_access, read_argument, read_comparison, read_given, read_goto,
-    read_literal, read_place, read_register, read_target, read_word,
+    behind_closing, read_access, read_comparison, read_given, read_goto, read_literal,
+    read_memory_operand, read_operand, read_register, read_target, read_word,
 };
 use crate::symbols::Symbol;
 use crate::words::{extension_of, order_named, register_in, register_named, stored_size};
@@ -18,7 +18,7 @@ use scx_semantics::{Operation, Register, Width};
 
 /// The item, if no token is left behind it.
 fn end<'a>(tokens: &[Token<'_>], item: Item<'a>) -> Option<Item<'a>>
-    ensures { option_map line_of result ≡ end (lexemes tokens.now) (line_of item.entry) }
+    ensures { option_map item_value result ≡ end (lexemes tokens.now) (item_value item.entry) }
 {
     match tokens {
         [] => Some(item),
@@ -27,7 +27,7 @@ fn end<'a>(tokens: &[Token<'_>], item: Item<'a>) -> Option<Item<'a>>
 }
 
 fn says<'a>(statement: Statement, tokens: &[Token<'a>]) -> Option<Item<'a>>
-    ensures { option_map line_of result ≡ end (lexemes tokens.now) (Says statement) }
+    ensures { option_map item_value result ≡ end (lexemes tokens.now) (Says statement) }
 {
     end(tokens, Item::Statement(statement))
 }
@@ -45,7 +45,7 @@ fn negated<'a>(
     name: &[u8],
     tokens: &[Token<'a>],
 ) -> Option<Item<'a>>
-    ensures { option_map line_of result ≡ negated width register name.now (lexemes tokens.now) }
+    ensures { option_map item_value result ≡ negated width register name.now (lexemes tokens.now) }
 {
     if same(register_in(width, name)?, register) {
         says(Statement::Negate(width, register), tokens)
@@ -56,7 +56,7 @@ fn negated<'a>(
 
 /// `rD = (s8)rS`, behind the parenthesis.
 fn extended<'a>(width: Width, register: Register, tokens: &[Token<'a>]) -> Option<Item<'a>>
-    ensures { option_map line_of result ≡ extended width register (lexemes tokens.now) }
+    ensures { option_map item_value result ≡ extended width register (lexemes tokens.now) }
 {
     let (access, rest) = read_access(tokens)?;
     let extension = extension_of(width, access)?;
@@ -66,46 +66,46 @@ fn extended<'a>(width: Width, register: Register, tokens: &[Token<'a>]) -> Optio
 
 /// `rD = *(u8 *)(rS + O)`, behind the star.
 fn loaded<'a>(width: Width, register: Register, tokens: &[Token<'a>]) -> Option<Item<'a>>
-    ensures { option_map line_of result ≡ loaded width register (lexemes tokens.now) }
+    ensures { option_map item_value result ≡ loaded width register (lexemes tokens.now) }
 {
     match width {
         Width::Bits32 => None,
         Width::Bits64 => {
-            let (place, rest) = read_place(tokens)?;
-            let load = Statement::Load(place.access, register, place.base, place.offset);
+            let (memory, rest) = read_memory_operand(tokens)?;
+            let load = Statement::Load(memory.access, register, memory.base, memory.offset);
             says(load, rest)
         }
     }
 }
 
 /// `rD = N` and `rD = N ll`.
-fn constant<'a>(
+fn load_immediate<'a>(
     width: Width,
     register: Register,
     number: Literal,
     tokens: &[Token<'a>],
 ) -> Option<Item<'a>>
-    ensures { option_map line_of result ≡ constant width register number (lexemes tokens.now) }
+    ensures { option_map item_value result ≡ load_immediate width register number (lexemes tokens.now) }
 {
     match (width, tokens) {
         (Width::Bits64, [Token::Word(name), rest @ ..]) => {
             if *name == b"ll".as_slice() {
-                says(Statement::Constant(register, number), rest)
+                says(Statement::LoadImmediate(register, number), rest)
             } else {
                 None
             }
         }
-        _ => moved(width, register, Argument::Number(number), tokens),
+        _ => moved(width, register, WrittenOperand::Number(number), tokens),
     }
 }
 
 fn moved<'a>(
     width: Width,
     register: Register,
-    argument: Argument,
+    argument: WrittenOperand,
     tokens: &[Token<'a>],
 ) -> Option<Item<'a>>
-    ensures { option_map line_of result
+    ensures { option_map item_value result
         ≡ end (lexemes tokens.now) (Says (Binary width Move register argument)) }
 {
     let statement = Statement::Binary(width, Operation::Move, register, argument);
@@ -113,13 +113,13 @@ fn moved<'a>(
 }
 
 /// `rD = le16 rD`.
-fn reordered<'a>(register: Register, name: &[u8], tokens: &[Token<'a>]) -> Option<Item<'a>>
-    ensures { option_map line_of result ≡ reordered register name.now (lexemes tokens.now) }
+fn byte_swapped<'a>(register: Register, name: &[u8], tokens: &[Token<'a>]) -> Option<Item<'a>>
+    ensures { option_map item_value result ≡ byte_swapped register name.now (lexemes tokens.now) }
 {
     let (order, width) = order_named(name)?;
     let (source, rest) = read_register(Width::Bits64, tokens)?;
     if same(source, register) {
-        says(Statement::Reorder(order, width, register), rest)
+        says(Statement::ByteSwap(order, width, register), rest)
     } else {
         None
     }
@@ -127,10 +127,10 @@ fn reordered<'a>(register: Register, name: &[u8], tokens: &[Token<'a>]) -> Optio
 
 /// `rD = map N`.
 fn mapped<'a>(register: Register, tokens: &[Token<'a>]) -> Option<Item<'a>>
-    ensures { option_map line_of result ≡ mapped register (lexemes tokens.now) }
+    ensures { option_map item_value result ≡ mapped register (lexemes tokens.now) }
 {
     let (map, rest) = read_literal(tokens)?;
-    says(Statement::MapReference(register, map), rest)
+    says(Statement::LoadMapReference(register, map), rest)
 }
 
 /// A word behind `rD =` that names no register of that width.
@@ -140,7 +140,7 @@ fn special<'a>(
     name: &[u8],
     tokens: &[Token<'a>],
 ) -> Option<Item<'a>>
-    ensures { option_map line_of result ≡ special width register name.now (lexemes tokens.now) }
+    ensures { option_map item_value result ≡ special width register name.now (lexemes tokens.now) }
 {
     match width {
         Width::Bits32 => None,
@@ -148,7 +148,7 @@ fn special<'a>(
             if name == b"map".as_slice() {
                 mapped(register, tokens)
             } else {
-                reordered(register, name, tokens)
+                byte_swapped(register, name, tokens)
             }
         }
     }
@@ -161,19 +161,19 @@ fn named<'a>(
     name: &[u8],
     tokens: &[Token<'a>],
 ) -> Option<Item<'a>>
-    ensures { option_map line_of result
+    ensures { option_map item_value result
         ≡ either (register_in width name.now) (λ r. copied width register r (lexemes tokens.now))
         (special width register name.now (lexemes tokens.now)) }
 {
     match register_in(width, name) {
-        Some(source) => moved(width, register, Argument::Register(source), tokens),
+        Some(source) => moved(width, register, WrittenOperand::Register(source), tokens),
         None => special(width, register, name, tokens),
     }
 }
 
 /// What stands behind `rD =`.
 fn given<'a>(width: Width, register: Register, tokens: &[Token<'a>]) -> Option<Item<'a>>
-    ensures { option_map line_of result ≡ given width register (lexemes tokens.now) }
+    ensures { option_map item_value result ≡ given width register (lexemes tokens.now) }
 {
     match tokens {
         [Token::Word(name), rest @ ..] => named(width, register, name, rest),
@@ -183,7 +183,7 @@ fn given<'a>(width: Width, register: Register, tokens: &[Token<'a>]) -> Option<I
 
 /// What stands behind `rD =`, if it is no word.
 fn computed<'a>(width: Width, register: Register, tokens: &[Token<'a>]) -> Option<Item<'a>>
-    ensures { option_map line_of result ≡ computed width register (lexemes tokens.now) }
+    ensures { option_map item_value result ≡ computed width register (lexemes tokens.now) }
 {
     match tokens {
         [Token::Mark(Symbol::Minus), Token::Word(name), rest @ ..] => negated(
@@ -193,7 +193,7 @@ fn computed<'a>(width: Width, register: Register, tokens: &[Token<'a>]) -> Optio
         [Token::Mark(Symbol::Star), rest @ ..] => loaded(width, register, rest),
         _ => {
             let (number, rest) = read_literal(tokens)?;
-            constant(width, register, number, rest)
+            load_immediate(width, register, number, rest)
         }
     }
 }
@@ -204,9 +204,9 @@ fn operated<'a>(
     register: Register,
     tokens: &[Token<'a>],
 ) -> Option<Item<'a>>
-    ensures { option_map line_of result ≡ operated width operation register (lexemes tokens.now) }
+    ensures { option_map item_value result ≡ operated width operation register (lexemes tokens.now) }
 {
-    let (argument, rest) = read_argument(width, tokens)?;
+    let (argument, rest) = read_operand(width, tokens)?;
     says(
         Statement::Binary(width, operation, register, argument),
         rest,
@@ -215,7 +215,7 @@ fn operated<'a>(
 
 /// What stands behind the register that a line begins with.
 fn assigned<'a>(width: Width, register: Register, tokens: &[Token<'a>]) -> Option<Item<'a>>
-    ensures { option_map line_of result ≡ assigned width register (lexemes tokens.now) }
+    ensures { option_map item_value result ≡ assigned width register (lexemes tokens.now) }
 {
     match tokens {
         [Token::Mark(Symbol::Assign(Operation::Move)), rest @ ..] => given(width, register, rest),
@@ -228,37 +228,37 @@ fn assigned<'a>(width: Width, register: Register, tokens: &[Token<'a>]) -> Optio
 
 /// `*(u8 *)(rD + O) = rS`, behind the star.
 fn stored<'a>(tokens: &[Token<'a>]) -> Option<Item<'a>>
-    ensures { option_map line_of result ≡ stored (lexemes tokens.now) }
+    ensures { option_map item_value result ≡ stored (lexemes tokens.now) }
 {
-    let (place, rest) = read_place(tokens)?;
-    let size = stored_size(place.access)?;
+    let (memory, rest) = read_memory_operand(tokens)?;
+    let size = stored_size(memory.access)?;
     let (argument, rest) = read_given(rest)?;
-    let store = Statement::Store(size, place.base, place.offset, argument);
+    let store = Statement::Store(size, memory.base, memory.offset, argument);
     says(store, rest)
 }
 
 /// `if rD C rS goto T`, behind the `if`.
 fn condition<'a>(tokens: &[Token<'a>]) -> Option<Item<'a>>
-    ensures { option_map line_of result ≡ condition (lexemes tokens.now) }
+    ensures { option_map item_value result ≡ condition (lexemes tokens.now) }
 {
     let (name, rest) = read_word(tokens)?;
     let (width, register) = register_named(name)?;
     let (comparison, rest) = read_comparison(rest)?;
-    let (argument, rest) = read_argument(width, rest)?;
+    let (argument, rest) = read_operand(width, rest)?;
     let (target, rest) = read_goto(rest)?;
     let jump = Jump::If(width, comparison, register, argument);
     end(rest, Item::Jump(jump, target))
 }
 
 fn jumped<'a>(jump: Jump, tokens: &[Token<'a>]) -> Option<Item<'a>>
-    ensures { option_map line_of result ≡ jumped jump (lexemes tokens.now) }
+    ensures { option_map item_value result ≡ jumped jump (lexemes tokens.now) }
 {
     let (target, rest) = read_target(tokens)?;
     end(rest, Item::Jump(jump, target))
 }
 
 fn called<'a>(tokens: &[Token<'a>]) -> Option<Item<'a>>
-    ensures { option_map line_of result ≡ called (lexemes tokens.now) }
+    ensures { option_map item_value result ≡ called (lexemes tokens.now) }
 {
     let (helper, rest) = read_literal(tokens)?;
     says(Statement::Call(helper), rest)
@@ -266,7 +266,7 @@ fn called<'a>(tokens: &[Token<'a>]) -> Option<Item<'a>>
 
 /// A line that begins with another word than a register.
 fn keyword<'a>(name: &[u8], tokens: &[Token<'a>]) -> Option<Item<'a>>
-    ensures { option_map line_of result ≡ keyword name.now (lexemes tokens.now) }
+    ensures { option_map item_value result ≡ keyword name.now (lexemes tokens.now) }
 {
     if name == b"if".as_slice() {
         condition(tokens)
@@ -284,7 +284,7 @@ fn keyword<'a>(name: &[u8], tokens: &[Token<'a>]) -> Option<Item<'a>>
 }
 
 fn statement_of<'a>(name: &[u8], tokens: &[Token<'a>]) -> Option<Item<'a>>
-    ensures { option_map line_of result ≡ statement_of name.now (lexemes tokens.now) }
+    ensures { option_map item_value result ≡ statement_of name.now (lexemes tokens.now) }
 {
     match register_named(name) {
         Some((width, register)) => assigned(width, register, tokens),
@@ -294,7 +294,7 @@ fn statement_of<'a>(name: &[u8], tokens: &[Token<'a>]) -> Option<Item<'a>>
 
 /// What the line with these tokens says; `None` where it isn't of the language.
 pub fn item_of<'a>(tokens: &[Token<'a>]) -> Option<Item<'a>>
-    ensures { option_map line_of result ≡ item_of (lexemes tokens.now) }
+    ensures { option_map item_value result ≡ item_of (lexemes tokens.now) }
 {
     match tokens {
         [] => Some(Item::Blank),

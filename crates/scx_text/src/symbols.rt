@@ -61,7 +61,7 @@ const STAR: [Symbol; 2] = [Symbol::Assign(Operation::Multiply), Symbol::Star];
 /// Those that begin with `&`.
 const AND: [Symbol; 2] = [
     Symbol::Assign(Operation::And),
-    Symbol::Compare(Comparison::AnyBit),
+    Symbol::Compare(Comparison::BitTest),
 ];
 
 impl Symbol {
@@ -110,7 +110,7 @@ fn comparison_text(comparison: Comparison) -> &'static str
         Comparison::Equal => "==",
         Comparison::Greater => ">",
         Comparison::GreaterOrEqual => ">=",
-        Comparison::AnyBit => "&",
+        Comparison::BitTest => "&",
         Comparison::NotEqual => "!=",
         Comparison::SignedGreater => "s>",
         Comparison::SignedGreaterOrEqual => "s>=",

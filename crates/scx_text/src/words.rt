@@ -1,7 +1,7 @@
 ghost use Rattle.std.specs.Prelude.{◌≡◌};
 ghost use Rattle.scx_text.specs.Names.{access_text, accesses, access_named, width_named, register_numbered, register_named, register_in, stored_size, stored_access, extension_of, extension_access, order_text, orders, order_named};
 
-use scx_semantics::{Access, Extension, Order, OrderWidth, Register, Size, Width};
+use scx_semantics::{Access, ByteOrder, Extension, Register, Size, SwapWidth, Width};
 
 const ACCESSES: [Access; 7] = [
     Access::Byte,
@@ -13,16 +13,16 @@ const ACCESSES: [Access; 7] = [
     Access::SignedWord,
 ];
 
-const ORDERS: [(Order, OrderWidth); 9] = [
-    (Order::Little, OrderWidth::Bits16),
-    (Order::Little, OrderWidth::Bits32),
-    (Order::Little, OrderWidth::Bits64),
-    (Order::Big, OrderWidth::Bits16),
-    (Order::Big, OrderWidth::Bits32),
-    (Order::Big, OrderWidth::Bits64),
-    (Order::Swapped, OrderWidth::Bits16),
-    (Order::Swapped, OrderWidth::Bits32),
-    (Order::Swapped, OrderWidth::Bits64),
+const ORDERS: [(ByteOrder, SwapWidth); 9] = [
+    (ByteOrder::Little, SwapWidth::Bits16),
+    (ByteOrder::Little, SwapWidth::Bits32),
+    (ByteOrder::Little, SwapWidth::Bits64),
+    (ByteOrder::Big, SwapWidth::Bits16),
+    (ByteOrder::Big, SwapWidth::Bits32),
+    (ByteOrder::Big, SwapWidth::Bits64),
+    (ByteOrder::Swapped, SwapWidth::Bits16),
+    (ByteOrder::Swapped, SwapWidth::Bits32),
+    (ByteOrder::Swapped, SwapWidth::Bits64),
 ];
 
 fn width_named(letter: u8) -> Option<Width>
@@ -140,24 +140,24 @@ pub(crate) fn extension_access(extension: Extension) -> Access
     }
 }
 
-pub(crate) fn order_text(order: (Order, OrderWidth)) -> &'static str
+pub(crate) fn order_text(order: (ByteOrder, SwapWidth)) -> &'static str
     ensures { result.now ≡ order_text order }
 {
     match order {
-        (Order::Little, OrderWidth::Bits16) => "le16",
-        (Order::Little, OrderWidth::Bits32) => "le32",
-        (Order::Little, OrderWidth::Bits64) => "le64",
-        (Order::Big, OrderWidth::Bits16) => "be16",
-        (Order::Big, OrderWidth::Bits32) => "be32",
-        (Order::Big, OrderWidth::Bits64) => "be64",
-        (Order::Swapped, OrderWidth::Bits16) => "bswap16",
-        (Order::Swapped, OrderWidth::Bits32) => "bswap32",
-        (Order::Swapped, OrderWidth::Bits64) => "bswap64",
+        (ByteOrder::Little, SwapWidth::Bits16) => "le16",
+        (ByteOrder::Little, SwapWidth::Bits32) => "le32",
+        (ByteOrder::Little, SwapWidth::Bits64) => "le64",
+        (ByteOrder::Big, SwapWidth::Bits16) => "be16",
+        (ByteOrder::Big, SwapWidth::Bits32) => "be32",
+        (ByteOrder::Big, SwapWidth::Bits64) => "be64",
+        (ByteOrder::Swapped, SwapWidth::Bits16) => "bswap16",
+        (ByteOrder::Swapped, SwapWidth::Bits32) => "bswap32",
+        (ByteOrder::Swapped, SwapWidth::Bits64) => "bswap64",
     }
 }
 
 #[tactic(auto, using(crate::proofs::Names::named_here, crate::proofs::Names::named_later, crate::proofs::Names::named_none))]
-pub(crate) fn order_named(name: &[u8]) -> Option<(Order, OrderWidth)>
+pub(crate) fn order_named(name: &[u8]) -> Option<(ByteOrder, SwapWidth)>
     ensures { result ≡ order_named name.now }
 {
     for order in ORDERS {

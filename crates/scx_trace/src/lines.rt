@@ -85,7 +85,7 @@ fn end(what: What) -> Part
     match what {
         What::Wake(_) => whole_part("\n"),
         What::Sleep(_) => whole_part("\n"),
-        What::Insert(_, queue) => place(queue),
+        What::Insert(_, queue) => queue_name(queue),
         What::Move(_, cpu) => numbered(" local ", u64::from(cpu)),
         What::Run(_, cpu) => numbered(" cpu ", u64::from(cpu)),
         What::Stop(_, cpu) => numbered(" cpu ", u64::from(cpu)),
@@ -95,7 +95,7 @@ fn end(what: What) -> Part
 }
 
 /// A space, the queue of that id, and a line feed.
-fn place(queue: u64) -> Part
+fn queue_name(queue: u64) -> Part
     ensures { result.bytes ≡ codes " " ++ lines.queue_text queue ++ codes "\n" }
 {
     if queue < POLICY_END {

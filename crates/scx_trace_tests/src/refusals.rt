@@ -30,7 +30,7 @@ fn expect_workload<R: AllocGlobal + Abort>(rt: &R, workload: &str, line: &str) {
 }
 
 #[test]
-fn policies(rt: HostRuntime) {
+fn faulty_policies_are_refused(rt: HostRuntime) {
     expect_policy(&rt, "a =", "refused: policy file: not TOML\n");
     expect_policy(&rt, "cpus = 1", "refused: policy cpus: unknown\n");
     expect_policy(
@@ -61,7 +61,7 @@ fn policies(rt: HostRuntime) {
 }
 
 #[test]
-fn workloads(rt: HostRuntime) {
+fn faulty_workloads_are_refused(rt: HostRuntime) {
     expect_workload(&rt, "cpus", "refused: workload file: not TOML\n");
     expect_workload(
         &rt,
@@ -83,7 +83,7 @@ fn workloads(rt: HostRuntime) {
 }
 
 #[test]
-fn callbacks(rt: HostRuntime) {
+fn unsafe_callbacks_are_refused(rt: HostRuntime) {
     expect_policy(
         &rt,
         "code.enqueue = \"r0 = r5\\nexit\"",
@@ -97,7 +97,7 @@ fn callbacks(rt: HostRuntime) {
 }
 
 #[test]
-fn starts(rt: HostRuntime) {
+fn failed_starts_are_refused(rt: HostRuntime) {
     expect_policy(&rt, "code.init = \"r0 = 7\\nexit\"", "refused: init 7\n");
     expect_policy(&rt, "code.init = \"r0 = -1\\nexit\"", "refused: init -1\n");
     // The queue is created twice.
@@ -111,7 +111,7 @@ fn starts(rt: HostRuntime) {
 /// Of several faults the first one is named: the policy's text, the workload's text, the callbacks in
 /// their order, and then init.
 #[test]
-fn several_at_once(rt: HostRuntime) {
+fn the_first_of_several_is_refused(rt: HostRuntime) {
     expect(
         &rt,
         "timeout_ms = 0\ncode.init = \"r0 = r5\\nexit\"",

@@ -107,7 +107,7 @@ policy in force
 }
 
 #[test]
-fn a_slice_without_end(rt: HostRuntime) {
+fn a_slice_without_end_is_never_used_up(rt: HostRuntime) {
     let trace = "0 wake a
 0 insert a queue 0
 0 move a local 0
@@ -124,7 +124,7 @@ policy in force
 }
 
 #[test]
-fn held_tasks(rt: HostRuntime) {
+fn held_tasks_wait(rt: HostRuntime) {
     let trace = "0 wake a
 0 insert a held
 0 wake b
@@ -158,7 +158,7 @@ policy in force
 }
 
 #[test]
-fn a_policy_without_programs(rt: HostRuntime) {
+fn a_policy_without_programs_holds_its_tasks(rt: HostRuntime) {
     let trace = "0 wake a
 0 insert a global
 0 move a local 0

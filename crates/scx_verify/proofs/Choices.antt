@@ -6,18 +6,18 @@ use Rattle.scx_semantics.specs.declared.instructions.Operand.{Operand}
 use Rattle.scx_semantics.specs.declared.operations.Access.{Access}
 use Rattle.scx_semantics.specs.declared.operations.Size.{Size}
 use Rattle.scx_semantics.specs.declared.registers.Register.{Register}
-use Rattle.scx_semantics.specs.declared.outside.Helper.{Helper}
-use Rattle.scx_semantics.specs.declared.outside.Helper.TheVariants.{MapLookupElem}
-use Rattle.scx_semantics.specs.declared.outside.Parameter.TheVariants as parameter
+use Rattle.scx_semantics.specs.declared.host_tables.Helper.{Helper}
+use Rattle.scx_semantics.specs.declared.host_tables.Helper.TheVariants.{MapLookupElem}
+use Rattle.scx_semantics.specs.declared.host_tables.Parameter.TheVariants as parameter
 use Rattle.scx_semantics.specs.declared.values.Value.{Value}
 use Rattle.scx_semantics.specs.declared.values.Value.TheVariants as value
 use Rattle.scx_semantics.specs.declared.values.Pointer.TheVariants as pointer
 use Rattle.scx_semantics.specs.Registers.{number}
 use Rattle.scx_semantics.specs.Memory.{size_bytes, access_size, stack_size}
-use Rattle.scx_semantics.specs.Outside.{helper_at, is_allowed}
+use Rattle.scx_semantics.specs.HostTables.{helper_at, is_allowed}
 use Rattle.scx_semantics.specs.Elements.{Maps}
-use Rattle.scx_semantics.specs.Places as place
-use Rattle.scx_semantics.specs.Places.{Place, address}
+use Rattle.scx_semantics.specs.Locations as location
+use Rattle.scx_semantics.specs.Locations.{Location, address}
 use Rattle.scx_semantics.specs.Machine.{Machine}
 use Rattle.scx_maps.specs.declared.shape.Shape.{Shape}
 use Rattle.scx_abs.specs.declared.faults.Why.{Why}
@@ -31,7 +31,7 @@ use Rattle.scx_abs.specs.declared.rules.Next.{Next}
 use Rattle.scx_abs.specs.States.{kind_at, cell_at}
 use Rattle.scx_abs.specs.Stands.{Stands, IsMember}
 use Rattle.scx_semantics.specs.Results.{◌>>=◌}
-use Rattle.scx_abs.specs.Checks.{usable, operand_kind, sets, element_size, place_for}
+use Rattle.scx_abs.specs.Checks.{usable, operand_kind, sets, element_size, offset_for}
 use Rattle.scx_abs.specs.Calls.{key_in, argument_check, arguments_check, call_allowed, call_rule}
 use Rattle.scx_abs.specs.Rules.{area_of, kind_in, load_kind, stored_in, store_rule}
 use Rattle.scx_abs.proofs.Accesses.{Means, area_found}
@@ -63,20 +63,20 @@ area_passes shapes k z n f x e = go (area_of shapes k z n) refl e
 
 -- ---- accesses
 
-load_means : (maps : Maps) (n : ℕ) (x : Access) (d r : Register) (k : ℤ) (area : Area) (to : Place) → Means maps n area to → load_from x d r k (Ok area) ≡ load_op x d r k to
-load_means maps n x d r k (OnStack at) (place.OnStack to) h = ap (λ i. load_from x d r k (Ok (OnStack i))) h.0
+load_means : (maps : Maps) (n : ℕ) (x : Access) (d r : Register) (k : ℤ) (area : Area) (to : Location) → Means maps n area to → load_from x d r k (Ok area) ≡ load_op x d r k to
+load_means maps n x d r k (OnStack at) (location.OnStack to) h = ap (λ i. load_from x d r k (Ok (OnStack i))) h.0
 load_means maps n x d r k (OnStack at) to h = absurd h
-load_means maps n x d r k InElement (place.InElement m i at) h = refl
+load_means maps n x d r k InElement (location.InElement m i at) h = refl
 load_means maps n x d r k InElement to h = absurd h
-load_means maps n x d r k (InTask f) (place.InTask t g) h = ap (λ i. load_from x d r k (Ok (InTask i))) h
+load_means maps n x d r k (InTask f) (location.InTask t g) h = ap (λ i. load_from x d r k (Ok (InTask i))) h
 load_means maps n x d r k (InTask f) to h = absurd h
 
-store_means : (maps : Maps) (n : ℕ) (s : Size) (r : Register) (k : ℤ) (x : Operand) (area : Area) (to : Place) → Means maps n area to → store_to s r k x (Ok area) ≡ store_op s r k x to
-store_means maps n s r k x (OnStack at) (place.OnStack to) h = ap (λ i. store_to s r k x (Ok (OnStack i))) h.0
+store_means : (maps : Maps) (n : ℕ) (s : Size) (r : Register) (k : ℤ) (x : Operand) (area : Area) (to : Location) → Means maps n area to → store_to s r k x (Ok area) ≡ store_op s r k x to
+store_means maps n s r k x (OnStack at) (location.OnStack to) h = ap (λ i. store_to s r k x (Ok (OnStack i))) h.0
 store_means maps n s r k x (OnStack at) to h = absurd h
-store_means maps n s r k x InElement (place.InElement m i at) h = refl
+store_means maps n s r k x InElement (location.InElement m i at) h = refl
 store_means maps n s r k x InElement to h = absurd h
-store_means maps n s r k x (InTask f) (place.InTask t g) h = ap (λ i. store_to s r k x (Ok (InTask i))) h
+store_means maps n s r k x (InTask f) (location.InTask t g) h = ap (λ i. store_to s r k x (Ok (InTask i))) h
 store_means maps n s r k x (InTask f) to h = absurd h
 
 -- the memory of an access is that of the address
@@ -108,12 +108,12 @@ store_chosen shapes a m s r k x next h e =
 
 -- ---- look-ups
 
-look_up_means : (maps : Maps) (q : ℕ) (v : Value) (area : Area) (to : Place) → Stands maps (MapRef q) v → Means maps 4 area to → look_up_in (MapRef q) (Ok area) ≡ look_up_op v to
-look_up_means maps q (value.Pointer (pointer.Map p)) (OnStack at) (place.OnStack to) s h = λ i. look_up_in (MapRef (s.0 i)) (Ok (OnStack (h.0 i)))
+look_up_means : (maps : Maps) (q : ℕ) (v : Value) (area : Area) (to : Location) → Stands maps (MapRef q) v → Means maps 4 area to → look_up_in (MapRef q) (Ok area) ≡ look_up_op v to
+look_up_means maps q (value.Pointer (pointer.Map p)) (OnStack at) (location.OnStack to) s h = λ i. look_up_in (MapRef (s.0 i)) (Ok (OnStack (h.0 i)))
 look_up_means maps q (value.Pointer (pointer.Map p)) (OnStack at) to s h = absurd h
-look_up_means maps q (value.Pointer (pointer.Map p)) InElement (place.InElement m i at) s h = ap (λ j. look_up_in (MapRef j) (Ok InElement)) s.0
+look_up_means maps q (value.Pointer (pointer.Map p)) InElement (location.InElement m i at) s h = ap (λ j. look_up_in (MapRef j) (Ok InElement)) s.0
 look_up_means maps q (value.Pointer (pointer.Map p)) InElement to s h = absurd h
-look_up_means maps q (value.Pointer (pointer.Map p)) (InTask f) (place.InTask t g) s h = refl
+look_up_means maps q (value.Pointer (pointer.Map p)) (InTask f) (location.InTask t g) s h = refl
 look_up_means maps q (value.Pointer (pointer.Map p)) (InTask f) to s h = absurd h
 look_up_means maps q v area to s h = absurd s
 
@@ -134,15 +134,15 @@ map_passes shapes a (MapRef q) e = (q, refl)
 map_passes shapes a k e = absurd (cc)
 
 key_passes : (shapes : List Shape) (a : AbsState) (k : Kind) → argument_check shapes a parameter.Key k ≡ fine → (area : Area) × (area_of shapes k (pos 0) 4 ≡ Ok area)
-key_passes shapes a (Stack o) e = go (place_for stack_size 4 (Some o)) refl e
+key_passes shapes a (Stack o) e = go (offset_for stack_size 4 (Some o)) refl e
   where
-    go : (r : Result ℕ Why) → place_for stack_size 4 (Some o) ≡ r → (r >>= λ at. key_in (cell_at a (at / 8)) (at % 8)) ≡ fine → (area : Area) × (area_of shapes (Stack o) (pos 0) 4 ≡ Ok area)
-    go (Ok at) f g = (OnStack at, ap (λ i. place_for stack_size 4 (Some i) >>= λ at. Ok (OnStack at)) (add-zero o) ∙ ap (λ r. r >>= λ at. Ok (OnStack at)) f)
+    go : (r : Result ℕ Why) → offset_for stack_size 4 (Some o) ≡ r → (r >>= λ at. key_in (cell_at a (at / 8)) (at % 8)) ≡ fine → (area : Area) × (area_of shapes (Stack o) (pos 0) 4 ≡ Ok area)
+    go (Ok at) f g = (OnStack at, ap (λ i. offset_for stack_size 4 (Some i) >>= λ at. Ok (OnStack at)) (add-zero o) ∙ ap (λ r. r >>= λ at. Ok (OnStack at)) f)
     go (Err why) f g = absurd (cc)
-key_passes shapes a (Elem m o) e = go (place_for (element_size shapes m) 4 (Some o)) refl e
+key_passes shapes a (Elem m o) e = go (offset_for (element_size shapes m) 4 (Some o)) refl e
   where
-    go : (r : Result ℕ Why) → place_for (element_size shapes m) 4 (Some o) ≡ r → (r >>= λ at. fine) ≡ fine → (area : Area) × (area_of shapes (Elem m o) (pos 0) 4 ≡ Ok area)
-    go (Ok at) f g = (InElement, ap (λ i. place_for (element_size shapes m) 4 (Some i) >>= λ at. Ok InElement) (add-zero o) ∙ ap (λ r. r >>= λ at. Ok InElement) f)
+    go : (r : Result ℕ Why) → offset_for (element_size shapes m) 4 (Some o) ≡ r → (r >>= λ at. fine) ≡ fine → (area : Area) × (area_of shapes (Elem m o) (pos 0) 4 ≡ Ok area)
+    go (Ok at) f g = (InElement, ap (λ i. offset_for (element_size shapes m) 4 (Some i) >>= λ at. Ok InElement) (add-zero o) ∙ ap (λ r. r >>= λ at. Ok InElement) f)
     go (Err why) f g = absurd (cc)
 key_passes shapes a k e = absurd (cc)
 

@@ -9,11 +9,11 @@ use Rattle.scx_semantics.specs.Machine.{Machine, Arguments, start}
 use Rattle.scx_semantics.specs.Effects as effect
 use Rattle.scx_semantics.specs.Effects.{Effect}
 use Rattle.scx_semantics.specs.Meaning.{act}
-use Rattle.scx_semantics.specs.Steps.{Stuck, Goes, located, goes, step, target}
+use Rattle.scx_semantics.specs.Steps.{Stuck, Goes, outcome_at, goes, step, target}
 use Rattle.scx_semantics.specs.Runs.{LeadsTo, Leads, any_answer}
 use Rattle.scx_isa.specs.Spelling.{IsProgram}
 use Rattle.scx_isa.specs.Flow.{Flows}
-use Rattle.scx_isa.proofs.Codes.{place_fits}
+use Rattle.scx_isa.proofs.Codes.{occupant_fits}
 use Rattle.scx_isa.proofs.Control.{keeps_control}
 use Rattle.scx_maps.specs.declared.shape.Shape.{Shape}
 use Rattle.scx_maps.specs.Contents.{HasShapes}
@@ -69,7 +69,7 @@ received_jump shapes states s i next m c r = go next.jump refl r
     go (Some a) e h = there (target s i) refl a (c.jump a e) h
 
 -- an effect that is among what flows on leads to where it is stood for, and isn't stuck
-effect_at : (shapes : List Shape) (states : States) (s t : ℕ) (i : Insn) (next : Next) (e : Effect) (k : Machine) → CoversNext states s i next → FlowsIn shapes next e → LeadsTo any_answer (located s i e) tt t k tt → IsAt shapes states t k
+effect_at : (shapes : List Shape) (states : States) (s t : ℕ) (i : Insn) (next : Next) (e : Effect) (k : Machine) → CoversNext states s i next → FlowsIn shapes next e → LeadsTo any_answer (outcome_at s i e) tt t k tt → IsAt shapes states t k
 effect_at shapes states s t i next effect.Stuck k c f l = absurd f
 effect_at shapes states s t i next (effect.Next m) k c f l = rw (l.0, l.1) (received_on shapes states s i next m c f)
 effect_at shapes states s t i next (effect.Jumped m) k c f l =
@@ -83,7 +83,7 @@ goes_stuck : (t : ℕ) (m : Machine) → Goes t m ≡ Stuck → ⊥
 goes_stuck t m e = absurd (cc)
 
 -- an effect that flows on isn't stuck
-pub effect_goes : (shapes : List Shape) (states : States) (s : ℕ) (i : Insn) (next : Next) (e : Effect) → CoversNext states s i next → FlowsIn shapes next e → located s i e ≡ Stuck → ⊥
+pub effect_goes : (shapes : List Shape) (states : States) (s : ℕ) (i : Insn) (next : Next) (e : Effect) → CoversNext states s i next → FlowsIn shapes next e → outcome_at s i e ≡ Stuck → ⊥
 effect_goes shapes states s i next effect.Stuck c f h = f
 effect_goes shapes states s i next (effect.Next m) c f h = goes_stuck (s + size i) m h
 effect_goes shapes states s i next (effect.Jumped m) c f h =
@@ -95,7 +95,7 @@ effect_goes shapes states s i next (effect.Ended n) c f h = absurd (cc)
 -- the instruction there passes its checks, and what it does flows on
 pub flows_in : (c : Context) (code : Code) (s : ℕ) (i : Insn) (a : AbsState) (m : Machine) (next : Next) → IsProgram code → at code s ≡ Some i → IsMember c.defs a m → rule c.defs c.callback i a ≡ Ok next
     → FlowsIn c.defs next (act c.callback i m)
-flows_in c code s i a m next program there h e = rw e at (rules_sound c.defs c.callback i a m (place_fits false code s program.insns i there) h)
+flows_in c code s i a m next program there h e = rw e at (rules_sound c.defs c.callback i a m (occupant_fits false code s program.insns i there) h)
 
 -- a step leads to where the typing stands for it
 pub step_at : (c : Context) (code : Code) (states : States) (s t : ℕ) (m k : Machine) → IsProgram code → IsTyping c code states → IsAt c.defs states s m → LeadsTo any_answer (step c.callback code s m) tt t k tt → IsAt c.defs states t k

@@ -1,9 +1,9 @@
 ghost use Rattle.std.specs.Prelude.{◌≡◌, ℕ, ◌+◌, ◌*◌, ◌^◌, ◌<◌, ◌≤◌, IsTrue};
-ghost use Rattle.scx_semantics.specs.declared.outside.Helper.TheVariants.{MapLookupElem};
-ghost use Rattle.scx_semantics.specs.Outside.{field_width, is_writable};
+ghost use Rattle.scx_semantics.specs.declared.host_tables.Helper.TheVariants.{MapLookupElem};
+ghost use Rattle.scx_semantics.specs.HostTables.{field_width, is_writable};
 ghost use Rattle.scx_vm.specs.Host.{Functions, AreTaken, AnswerFits};
 
-use crate::arguments::{Answer, Argument};
+use crate::arguments::{Answer, Arg};
 use scx_isa::{Field, Helper, TaskId};
 
 /// The host of the programs that it runs: their helpers, and the records of tasks.
@@ -20,7 +20,7 @@ pub trait Env {
 
     /// Calls a helper, other than the look-up of a map's element, with r1 to r5. Those that it
     /// doesn't take are unset; the others are what it takes.
-    fn call(&mut self, helper: Helper, arguments: &[Argument; 5]) -> Answer
+    fn call(&mut self, helper: Helper, arguments: &[Arg; 5]) -> Answer
         requires room { 0 < room self.old }
         requires is_asked { ¬ (helper ≡ MapLookupElem) }
         requires taken { AreTaken helper arguments.now }

@@ -15,7 +15,7 @@ use Rattle.scx_weights.specs.declared.group.Group.{Group}
 use Rattle.scx_weights.specs.Counting.{any_below}
 use Rattle.scx_weights.specs.Hierarchy.{parent_of}
 use Rattle.scx_weights.specs.Refusals.{is_outside, is_late, has_late_parent, has_unknown_home, has_bad_weight, above, has_deep_group, has_task_above, first_fault}
-use Rattle.scx_workloads.specs.Reading.{weight_limits, fold_from, some_of, some_elements, place_of, new_name, group_named, GroupList, no_groups, is_deep, if_shallow, parent_named, with_group, group_at, groups_in, TaskList, no_tasks, has_children, if_leaf, leaf_named, timing_in, with_task, task_at, tasks_in}
+use Rattle.scx_workloads.specs.Reading.{weight_limits, fold_from, some_of, some_elements, index_of, new_name, group_named, GroupList, no_groups, is_deep, if_shallow, parent_named, with_group, group_at, groups_in, TaskList, no_tasks, has_children, if_leaf, leaf_named, timing_in, with_task, task_at, tasks_in}
 use Rattle.scx_workloads.proofs.Values.{IsWithin, optional_within, few_items, place_below, same_items}
 
 -- ---- what was read in turn
@@ -135,10 +135,10 @@ record IsForest (g : GroupList) : Type 0 where
 -- a group that was named is there
 named_below : (names : List (List ℕ)) (path : List ℕ) (d : Data) (p : ℕ) → group_named names path d ≡ Ok p → p < length names
 named_below names path d p e =
-    let x = parts (text_of path d) (λ text. found_or Ok (refusal path cause.NoSuchGroup) (place_of names text)) p e in
-    go x.value (place_of names x.value) refl x.second
+    let x = parts (text_of path d) (λ text. found_or Ok (refusal path cause.NoSuchGroup) (index_of names text)) p e in
+    go x.value (index_of names x.value) refl x.second
   where
-    go : (text : List ℕ) (o : Option ℕ) → place_of names text ≡ o → found_or Ok (refusal path cause.NoSuchGroup) o ≡ Ok p → p < length names
+    go : (text : List ℕ) (o : Option ℕ) → index_of names text ≡ o → found_or Ok (refusal path cause.NoSuchGroup) o ≡ Ok p → p < length names
     go text None f g = absurd (cc)
     go text (Some k) f g = subst (λ i. i < length names) (same_ok k p g) (let l = place_below 0 names text k f in omega (arith, l))
 

@@ -20,7 +20,7 @@ use Rattle.scx_files.proofs.Least.{least_with-append}
 use Rattle.scx_workloads.specs.declared.workload.Timing.{Timing}
 use Rattle.scx_workloads.specs.declared.workload.Change.{Change}
 use Rattle.scx_workloads.specs.Workload.{IsTiming, IsChange, timing_at, change_at}
-use Rattle.scx_workloads.specs.Reading.{some_of, place_from}
+use Rattle.scx_workloads.specs.Reading.{some_of, index_from}
 
 -- ---- numbers
 
@@ -128,11 +128,11 @@ four_looks ps qs rs ss = rw (least_with-append None (ps ++ qs ++ rs) ss, least_w
 -- ---- names
 
 -- a name that is found stands among those before
-pub place_below : (i : ℕ) (names : List (List ℕ)) (name : List ℕ) (k : ℕ) → place_from i names name ≡ Some k → k < i + length names
+pub place_below : (i : ℕ) (names : List (List ℕ)) (name : List ℕ) (k : ℕ) → index_from i names name ≡ Some k → k < i + length names
 place_below i [] name k e = absurd (cc)
 place_below i (n ∷ names) name k e = go (bytes_eq n name) (λ f. place_below (i + 1) names name k f) e
   where
-    go : (b : Bool) → (place_from (i + 1) names name ≡ Some k → k < i + 1 + length names) → (if b then Some i else place_from (i + 1) names name) ≡ Some k → k < i + suc (length names)
+    go : (b : Bool) → (index_from (i + 1) names name ≡ Some k → k < i + 1 + length names) → (if b then Some i else index_from (i + 1) names name) ≡ Some k → k < i + suc (length names)
     go true f e = let same : i ≡ k = same_some i k e in omega (arith, same)
     go false f e = omega (arith, f e)
 

@@ -48,16 +48,16 @@ some_elements most key ms = optional (elements_of most) no_items [] key ms >>= s
 
 -- ---- names
 
--- the place of the first such name from the i-th on
-abbrev pub place_from : ℕ → List (List ℕ) → List ℕ → Option ℕ
-place_from i [] name = None
-place_from i (n ∷ names) name = if bytes_eq n name then Some i else place_from (i + 1) names name
+-- the number of the first such name from the i-th on
+abbrev pub index_from : ℕ → List (List ℕ) → List ℕ → Option ℕ
+index_from i [] name = None
+index_from i (n ∷ names) name = if bytes_eq n name then Some i else index_from (i + 1) names name
 
-abbrev pub place_of : List (List ℕ) → List ℕ → Option ℕ
-place_of names name = place_from 0 names name
+abbrev pub index_of : List (List ℕ) → List ℕ → Option ℕ
+index_of names name = index_from 0 names name
 
 abbrev pub if_new : List (List ℕ) → List ℕ → List ℕ → Reading (List ℕ)
-if_new names path name = if is_some (place_of names name) then refusal path cause.Twice else Ok name
+if_new names path name = if is_some (index_of names name) then refusal path cause.Twice else Ok name
 
 -- the name of an element, which no element before it has
 abbrev pub new_name : List (List ℕ) → List ℕ → Members → Reading (List ℕ)
@@ -65,7 +65,7 @@ new_name names path ms = required name_of path (codes "name") ms >>= if_new name
 
 -- the number of the group of that name
 abbrev pub group_named : List (List ℕ) → List ℕ → Data → Reading ℕ
-group_named names path d = text_of path d >>= λ text. found_or Ok (refusal path cause.NoSuchGroup) (place_of names text)
+group_named names path d = text_of path d >>= λ text. found_or Ok (refusal path cause.NoSuchGroup) (index_of names text)
 
 -- ---- groups
 

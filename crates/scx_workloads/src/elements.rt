@@ -4,7 +4,7 @@ ghost use Rattle.toml.specs.Data.{no_items};
 ghost use Rattle.toml.specs.View.{table_view, items_view};
 ghost use Rattle.scx_files.specs.Faults.{Gives};
 ghost use Rattle.scx_files.specs.Values.{required, optional, integer_of, elements_of};
-ghost use Rattle.scx_workloads.specs.Reading.{some_elements, place_of};
+ghost use Rattle.scx_workloads.specs.Reading.{some_elements, index_of};
 ghost use Rattle.scx_workloads.specs.Kept.{texts};
 
 use scx_files::{Cause, Limits, LoadError, Section, refused};
@@ -84,14 +84,14 @@ pub(crate) fn some_elements<'a>(
     Ok(values)
 }
 
-/// The place of the first such name.
-pub(crate) fn place_of(names: &[String], name: &str) -> Option<usize>
-    ensures place { result ≡ place_of (texts names.now) name.now }
+/// The number of the first such name.
+pub(crate) fn index_of(names: &[String], name: &str) -> Option<usize>
+    ensures number { result ≡ index_of (texts names.now) name.now }
     ensures within { IfSome result (λ i. i < length names.now) }
 {
-    for (place, other) in names.iter().enumerate() {
+    for (number, other) in names.iter().enumerate() {
         if other.as_str() == name {
-            return Some(place);
+            return Some(number);
         }
     }
     None

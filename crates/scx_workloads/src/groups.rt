@@ -10,7 +10,7 @@ ghost use Rattle.scx_weights.specs.Refusals.{above, is_parent};
 ghost use Rattle.scx_workloads.specs.Reading.{new_name, is_deep, has_children, fold_from};
 ghost use Rattle.scx_workloads.specs.Kept.{texts};
 
-use crate::elements::{integer_or, place_of, some_elements};
+use crate::elements::{index_of, integer_or, some_elements};
 use scx_files::{Cause, Limits, LoadError, Section, element_path, refused};
 use scx_weights::{Group, MAX_GROUPS, MAX_WEIGHT};
 use std::alloc::Global;
@@ -150,7 +150,7 @@ impl Groups {
         ensures known { IfOk result (λ n. n < length self.now.groups) }
     {
         let name = section.text_in(alloc, key, value)?;
-        match place_of(&self.names, name) {
+        match index_of(&self.names, name) {
             Some(group) => Ok(group as u32),
             None => refused(alloc, section.path, key, Cause::NoSuchGroup),
         }
@@ -202,7 +202,7 @@ pub(crate) fn new_name<'a>(
         (new_name (texts names.now) section.entry.path.now (table_view section.entry.table.now)) }
 {
     let name = section.name(alloc, "name")?;
-    if place_of(names, name).is_some() {
+    if index_of(names, name).is_some() {
         return refused(alloc, section.path, "name", Cause::Twice);
     }
     Ok(name)

@@ -2,22 +2,22 @@
 -- invalid, and changes nothing but that the fault is kept, if it is the first one of the callback.
 use Rattle.std.specs.Prelude.{ℕ, Bool, true, false, ◌&&◌, ◌==◌, nat_lt, nat_le, ◌+◌, ◌-◌, ◌*◌, ◌^◌, min, List, length, if◌then◌else◌, Option, Some, None, is_none, slice_index_or}
 use Rattle.std.specs.List.{list_any}
-use Rattle.scx_dsq.specs.Queues.{exists, place_of, is_in, front_of, len_of}
+use Rattle.scx_dsq.specs.Queues.{exists, entry_of, is_in, front_of, len_of}
 use Rattle.scx_dsq.specs.Calls.{create_refusal, created, clashes, pushed, popped}
 use Rattle.scx_dsq.specs.Laws.{one_if}
-use Rattle.scx_dsq.specs.declared.places.Rank.{Rank}
-use Rattle.scx_dsq.specs.declared.places.Rank.TheVariants.{Fifo, Vtime}
+use Rattle.scx_dsq.specs.declared.entries.Rank.{Rank}
+use Rattle.scx_dsq.specs.declared.entries.Rank.TheVariants.{Fifo, Vtime}
 use Rattle.scx_weights.specs.Hierarchy.{home_of}
 use Rattle.scx_weights.specs.Weights.{task_weight}
 use Rattle.scx_semantics.specs.declared.callbacks.Callback.{Callback}
 use Rattle.scx_semantics.specs.declared.callbacks.Callback.TheVariants as callback
-use Rattle.scx_semantics.specs.declared.outside.Helper.{Helper}
-use Rattle.scx_semantics.specs.declared.outside.Helper.TheVariants.{MapLookupElem, KtimeGetNs, CreateDsq, DsqInsert, DsqInsertVtime, DsqMoveToLocal, SelectCpuDfl, CpuIdle, TaskByPid, DsqNrQueued}
-use Rattle.scx_semantics.specs.declared.outside.TaskId.{TaskId}
-use Rattle.scx_semantics.specs.declared.outside.Field.{Field}
-use Rattle.scx_semantics.specs.declared.outside.Field.TheVariants.{Pid, Weight, Slice, DsqVtime, PrevCpu, Group, RunNs}
-use Rattle.scx_vm.specs.declared.arguments.Argument.{Argument}
-use Rattle.scx_vm.specs.declared.arguments.Argument.TheVariants as argument
+use Rattle.scx_semantics.specs.declared.host_tables.Helper.{Helper}
+use Rattle.scx_semantics.specs.declared.host_tables.Helper.TheVariants.{MapLookupElem, KtimeGetNs, CreateDsq, DsqInsert, DsqInsertVtime, DsqMoveToLocal, SelectCpuDfl, CpuIdle, TaskByPid, DsqNrQueued}
+use Rattle.scx_semantics.specs.declared.host_tables.TaskId.{TaskId}
+use Rattle.scx_semantics.specs.declared.host_tables.Field.{Field}
+use Rattle.scx_semantics.specs.declared.host_tables.Field.TheVariants.{Pid, Weight, Slice, DsqVtime, PrevCpu, Group, RunNs}
+use Rattle.scx_vm.specs.declared.arguments.Arg.{Arg}
+use Rattle.scx_vm.specs.declared.arguments.Arg.TheVariants as argument
 use Rattle.scx_vm.specs.declared.arguments.Answer.{Answer}
 use Rattle.scx_vm.specs.declared.arguments.Answer.TheVariants as answer
 use Rattle.scx_vm.specs.Host.{Functions}
@@ -36,24 +36,24 @@ invalid = 0xffff_ffff_ffff_ffea
 
 -- ---- arguments
 
-abbrev pub number_of : Argument → ℕ
+abbrev pub number_of : Arg → ℕ
 number_of argument.Unset = 0
-number_of (argument.Number n) = n
+number_of (argument.Num n) = n
 number_of (argument.Task t) = 0
 
-abbrev pub task_of : Argument → Option ℕ
+abbrev pub task_of : Arg → Option ℕ
 task_of argument.Unset = None
-task_of (argument.Number n) = None
+task_of (argument.Num n) = None
 task_of (argument.Task t) = Some t.0
 
-abbrev pub given_number : List Argument → ℕ → ℕ
+abbrev pub given_number : List Arg → ℕ → ℕ
 given_number a i = number_of (slice_index_or a i argument.Unset)
 
-abbrev pub given_task : List Argument → ℕ → Option ℕ
+abbrev pub given_task : List Arg → ℕ → Option ℕ
 given_task a i = task_of (slice_index_or a i argument.Unset)
 
 -- a task as a program is given it
-abbrev pub pointed : ℕ → Argument
+abbrev pub pointed : ℕ → Arg
 pointed t = argument.Task (record { 0 = t })
 
 -- ---- faults
@@ -104,7 +104,7 @@ is_dispatch b = false
 -- the machine holds the task
 abbrev pub is_held : WorldState → Option ℕ → Bool
 is_held w None = false
-is_held w (Some t) = is_in held (place_of w.queues t)
+is_held w (Some t) = is_in held (entry_of w.queues t)
 
 -- in select_cpu and enqueue the task at hand, and once; in dispatch a task that is held
 abbrev pub may_insert_in : Callback → WorldState → Option ℕ → Bool
@@ -136,7 +136,7 @@ is_vtime (Vtime n) = true
 abbrev pub rank_fault : WorldState → ℕ → Rank → Option Fault
 rank_fault w q r =
     if is_vtime r && nat_le policy_end q then Some BuiltinVtime
-    else (if list_any (clashes q r) w.queues.places then Some Mixed else None)
+    else (if list_any (clashes q r) w.queues.entries then Some Mixed else None)
 
 abbrev pub or_fault : Option Fault → Option Fault → Option Fault
 or_fault None o = o
@@ -170,10 +170,10 @@ abbrev pub insert_answer : WorldState → Option ℕ → Insert → ℕ → ℕ
 insert_answer w t i flags = invalid_if (insert_fault w t i flags)
 
 -- what a call asks for: a queue, a slice, and by virtual time a key
-abbrev pub asked : List Argument → Insert
+abbrev pub asked : List Arg → Insert
 asked a = record { queue = given_number a 1; slice = given_number a 2; rank = Fifo }
 
-abbrev pub asked_by_vtime : List Argument → Insert
+abbrev pub asked_by_vtime : List Arg → Insert
 asked_by_vtime a = record { queue = given_number a 1; slice = given_number a 2; rank = Vtime (given_number a 3) }
 
 -- ---- moves
@@ -214,23 +214,23 @@ abbrev pub is_pid : WorldState → ℕ → Bool
 is_pid w n = nat_lt 0 n && nat_le n (length w.tasks)
 
 abbrev pub pid_answer : WorldState → ℕ → Answer
-pid_answer w n = if is_pid w n then answer.Task (record { 0 = n - 1 }) else answer.Number 0
+pid_answer w n = if is_pid w n then answer.Task (record { 0 = n - 1 }) else answer.Num 0
 
 -- ---- all helpers; elements of maps are looked up by the run itself
 
-abbrev pub helper_answer : WorldState → Helper → List Argument → Answer
-helper_answer w KtimeGetNs a = answer.Number (w.clock * 1000000)
-helper_answer w CreateDsq a = answer.Number (create_answer w (given_number a 0))
-helper_answer w DsqInsert a = answer.Number (insert_answer w (given_task a 0) (asked a) (given_number a 3))
-helper_answer w DsqInsertVtime a = answer.Number (insert_answer w (given_task a 0) (asked_by_vtime a) (given_number a 4))
-helper_answer w DsqMoveToLocal a = answer.Number (move_answer w (given_number a 0))
-helper_answer w SelectCpuDfl a = answer.Number (choice_answer w (given_task a 0))
-helper_answer w CpuIdle a = answer.Number (idle_answer w (given_number a 0))
+abbrev pub helper_answer : WorldState → Helper → List Arg → Answer
+helper_answer w KtimeGetNs a = answer.Num (w.clock * 1000000)
+helper_answer w CreateDsq a = answer.Num (create_answer w (given_number a 0))
+helper_answer w DsqInsert a = answer.Num (insert_answer w (given_task a 0) (asked a) (given_number a 3))
+helper_answer w DsqInsertVtime a = answer.Num (insert_answer w (given_task a 0) (asked_by_vtime a) (given_number a 4))
+helper_answer w DsqMoveToLocal a = answer.Num (move_answer w (given_number a 0))
+helper_answer w SelectCpuDfl a = answer.Num (choice_answer w (given_task a 0))
+helper_answer w CpuIdle a = answer.Num (idle_answer w (given_number a 0))
 helper_answer w TaskByPid a = pid_answer w (given_number a 0)
-helper_answer w DsqNrQueued a = answer.Number (queued_answer w (given_number a 0))
-helper_answer w MapLookupElem a = answer.Number 0
+helper_answer w DsqNrQueued a = answer.Num (queued_answer w (given_number a 0))
+helper_answer w MapLookupElem a = answer.Num 0
 
-abbrev pub helper_after : WorldState → Helper → List Argument → WorldState
+abbrev pub helper_after : WorldState → Helper → List Arg → WorldState
 helper_after w CreateDsq a = after_create w (given_number a 0)
 helper_after w DsqInsert a = after_insert w (given_task a 0) (asked a) (given_number a 3)
 helper_after w DsqInsertVtime a = after_insert w (given_task a 0) (asked_by_vtime a) (given_number a 4)

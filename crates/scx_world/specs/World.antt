@@ -1,6 +1,6 @@
 -- The world that a policy's programs see and change, and its parts.
 use Rattle.std.specs.Prelude.{ℕ, zero, suc, Bool, false, ◌==◌, ◌&&◌, not, nat_lt, List, [], ◌∷◌, ◌++◌, length, if◌then◌else◌, Option, Some, None, is_none, is_some, slice_index_or, slice_set, position}
-use Rattle.scx_dsq.specs.Queues.{QueueState, place_of}
+use Rattle.scx_dsq.specs.Queues.{QueueState, entry_of}
 use Rattle.scx_weights.specs.Hierarchy.{Hierarchy, is_active_task}
 use Rattle.scx_semantics.specs.declared.callbacks.Callback.{Callback}
 use Rattle.scx_semantics.specs.declared.callbacks.Callback.TheVariants as callback
@@ -63,7 +63,7 @@ is_runnable w t = is_active_task w.tree t
 
 -- the task waits in a queue
 abbrev pub waits : WorldState → ℕ → Bool
-waits w t = is_some (place_of w.queues t)
+waits w t = is_some (entry_of w.queues t)
 
 -- the task that runs on a processor
 abbrev pub running : WorldState → ℕ → Option ℕ

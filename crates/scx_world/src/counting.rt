@@ -1,6 +1,6 @@
 ghost use Rattle.std.specs.Prelude.{◌≡◌, ◌+◌, ◌^◌, ◌<◌, ◌≤◌, is_some, IfSome};
-ghost use Rattle.scx_dsq.specs.Queues.{task_count, place_of, front_of};
-ghost use Rattle.scx_dsq.specs.declared.places.Rank.TheVariants.{Vtime};
+ghost use Rattle.scx_dsq.specs.Queues.{task_count, entry_of, front_of};
+ghost use Rattle.scx_dsq.specs.declared.entries.Rank.TheVariants.{Vtime};
 ghost use Rattle.scx_dsq.specs.Calls.{pushed, popped, removed};
 
 use scx_dsq::{Queues, Rank, Steps};
@@ -65,7 +65,7 @@ fn pop_counted<L: Ledger>(queues: &mut Queues, id: u64, blank: Blank) -> Option<
 /// Takes the task out of the queue in which it waits. Nobody asks for the comparisons.
 pub fn remove(queues: &mut Queues, task: u32) -> bool
     requires { task < task_count queues.old.state }
-    ensures answer { result ≡ is_some (place_of queues.old.state task) }
+    ensures answer { result ≡ is_some (entry_of queues.old.state task) }
     ensures state { queues.new.state ≡ removed queues.old.state task }
     ensures tasks { task_count queues.new.state ≡ task_count queues.old.state }
     ensures pushes { queues.new.state.pushes ≡ queues.old.state.pushes }
@@ -78,7 +78,7 @@ fn remove_counted<L: Ledger>(queues: &mut Queues, task: u32, blank: Blank) -> bo
     requires name { blank.name ≡ L.name }
     requires parts { blank.parts ≡ L.parts }
     requires some { 0 < blank.parts }
-    ensures answer { result ≡ is_some (place_of queues.old.state task) }
+    ensures answer { result ≡ is_some (entry_of queues.old.state task) }
     ensures state { queues.new.state ≡ removed queues.old.state task }
     ensures tasks { task_count queues.new.state ≡ task_count queues.old.state }
     ensures pushes { queues.new.state.pushes ≡ queues.old.state.pushes }

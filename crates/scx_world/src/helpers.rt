@@ -1,5 +1,5 @@
 ghost use Rattle.std.specs.Prelude.{◌≡◌, ◌+◌, ◌*◌, ◌^◌, ◌<◌, ◌≤◌, length};
-ghost use Rattle.scx_semantics.specs.Outside.{field_width};
+ghost use Rattle.scx_semantics.specs.HostTables.{field_width};
 ghost use Rattle.scx_world.specs.Helpers.{invalid, faulted, is_there, create_answer, after_create, queued_answer, after_queued, is_held, may_insert, queue_fault, rank_fault, insert_fault, insert_answer, after_insert, released, choice_answer, idle_answer, after_idle, pid_answer, move_answer, after_move, weight_at, group_at, field_of};
 
 use crate::call::Insert;
@@ -230,7 +230,7 @@ impl World {
         if pid > 0 && pid <= self.tasks.len() as u64 {
             Answer::Task(TaskId((pid - 1) as u16))
         } else {
-            Answer::Number(0)
+            Answer::Num(0)
         }
     }
 

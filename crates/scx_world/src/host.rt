@@ -5,7 +5,7 @@ use crate::call::Insert;
 use crate::world::World;
 use scx_dsq::Rank;
 use scx_isa::{Field, Helper, TaskId};
-use scx_vm::{Answer, Argument, Env};
+use scx_vm::{Answer, Arg, Env};
 
 impl Env for World {
     ghost functions = { world_functions };
@@ -14,12 +14,12 @@ impl Env for World {
 
     ghost spent = { spent_of };
 
-    fn call(&mut self, helper: Helper, arguments: &[Argument; 5]) -> Answer {
+    fn call(&mut self, helper: Helper, arguments: &[Arg; 5]) -> Answer {
         let first = given_number(arguments[0]);
         match helper {
-            Helper::KtimeGetNs => Answer::Number(self.clock * 1_000_000),
-            Helper::CreateDsq => Answer::Number(self.create(first)),
-            Helper::DsqInsert => Answer::Number(self.insert_here(
+            Helper::KtimeGetNs => Answer::Num(self.clock * 1_000_000),
+            Helper::CreateDsq => Answer::Num(self.create(first)),
+            Helper::DsqInsert => Answer::Num(self.insert_here(
                 given_task(arguments[0]),
                 Insert {
                     queue: given_number(arguments[1]),
@@ -28,7 +28,7 @@ impl Env for World {
                 },
                 given_number(arguments[3]),
             )),
-            Helper::DsqInsertVtime => Answer::Number(self.insert_here(
+            Helper::DsqInsertVtime => Answer::Num(self.insert_here(
                 given_task(arguments[0]),
                 Insert {
                     queue: given_number(arguments[1]),
@@ -37,13 +37,13 @@ impl Env for World {
                 },
                 given_number(arguments[4]),
             )),
-            Helper::DsqMoveToLocal => Answer::Number(self.move_to_local(first)),
-            Helper::SelectCpuDfl => Answer::Number(self.choose(given_task(arguments[0]))),
-            Helper::CpuIdle => Answer::Number(self.ask_idle(first)),
+            Helper::DsqMoveToLocal => Answer::Num(self.move_to_local(first)),
+            Helper::SelectCpuDfl => Answer::Num(self.choose(given_task(arguments[0]))),
+            Helper::CpuIdle => Answer::Num(self.ask_idle(first)),
             Helper::TaskByPid => self.task_by_pid(first),
-            Helper::DsqNrQueued => Answer::Number(self.queued(first)),
+            Helper::DsqNrQueued => Answer::Num(self.queued(first)),
             // A run looks up elements itself.
-            Helper::MapLookupElem => Answer::Number(0),
+            Helper::MapLookupElem => Answer::Num(0),
         }
     }
 
@@ -62,20 +62,20 @@ impl Env for World {
     }
 }
 
-fn given_number(argument: Argument) -> u64
+fn given_number(argument: Arg) -> u64
     ensures { result ≡ number_of argument }
 {
     match argument {
-        Argument::Number(n) => n,
-        Argument::Unset | Argument::Task(_) => 0,
+        Arg::Num(n) => n,
+        Arg::Unset | Arg::Task(_) => 0,
     }
 }
 
-fn given_task(argument: Argument) -> Option<u16>
+fn given_task(argument: Arg) -> Option<u16>
     ensures { result ≡ task_of argument }
 {
     match argument {
-        Argument::Task(task) => Some(task.0),
-        Argument::Unset | Argument::Number(_) => None,
+        Arg::Task(task) => Some(task.0),
+        Arg::Unset | Arg::Num(_) => None,
     }
 }

@@ -14,7 +14,7 @@ use crate::notes::{Note, What};
 use crate::task::Task;
 use scx_dsq::Queues;
 use scx_isa::{Callback, TaskId};
-use scx_vm::Argument;
+use scx_vm::Arg;
 use scx_weights::Tree;
 use std::alloc::{AllocError, Global};
 use std::marker::Model;
@@ -139,10 +139,10 @@ impl World {
     }
 
     /// A task as a program is given it.
-    pub fn pointer(task: u16) -> Argument
+    pub fn pointer(task: u16) -> Arg
         ensures { result ≡ pointed task }
     {
-        Argument::Task(TaskId(task))
+        Arg::Task(TaskId(task))
     }
 
     // ---- processors
@@ -356,21 +356,21 @@ fn add_locals(queues: &mut Queues, cpus: usize)
 
 /// The bits with that one set or cleared.
 #[tactic(auto, using(crate::proofs::Busy::set_here, crate::proofs::Busy::set_others, crate::proofs::Busy::cleared_here, crate::proofs::Busy::cleared_others))]
-fn with_bit(bits: u64, place: u32, set: bool) -> u64
-    requires { place < 64 }
-    ensures here { bit_at result place ≡ one_if set }
-    ensures others { (i : ℕ) → i < 64 → i ≢ place → bit_at result i ≡ bit_at bits i }
+fn with_bit(bits: u64, at: u32, set: bool) -> u64
+    requires { at < 64 }
+    ensures here { bit_at result at ≡ one_if set }
+    ensures others { (i : ℕ) → i < 64 → i ≢ at → bit_at result i ≡ bit_at bits i }
 {
     if set {
-        bits | 1 << place
+        bits | 1 << at
     } else {
-        bits & !(1 << place)
+        bits & !(1 << at)
     }
 }
 
 /// The lowest processor on which the task runs.
 fn cpu_of(cpus: &[Option<u16>], task: u16) -> Option<usize>
-    ensures place { result ≡ position (is_this task) cpus.now }
+    ensures at { result ≡ position (is_this task) cpus.now }
     ensures within { IfSome result (λ i. i < length cpus.now) }
 {
     cpus.iter().position(|on| match on {

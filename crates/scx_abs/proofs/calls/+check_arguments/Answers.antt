@@ -1,5 +1,5 @@
 use Rattle.std.proofs.Common.{sym, ◌∙◌}
-use Rattle.scx_semantics.specs.Outside.{parameters}
+use Rattle.scx_semantics.specs.HostTables.{parameters}
 use Rattle.scx_abs.proofs.Parameters.{argument_passed}
 use Rattle.scx_abs.proofs.calls.+check_arguments.Goals as goal
 

@@ -1,7 +1,7 @@
 use Rattle.std.proofs.Common.{◌≡◌, ◌≢◌, ◌+◌, ◌-◌, ◌*◌, ◌<◌, ◌≤◌, length, true, false, sym, ◌∙◌, arith}
 use Rattle.std.proofs.lemmas.List.{length-set}
 use Rattle.std.proofs.lemmas.List.Sorted.{IsPermutation-refl, IsPermutation-trans}
-use Rattle.scx_dsq.specs.Heaps.{IsFirstChild, held, spotted}
+use Rattle.scx_dsq.specs.Heaps.{IsFirstChild, with_item, with_spot}
 use Rattle.scx_dsq.proofs.Heaps.{sinks_none, sinks_more, sank, sank_here, sunk, heap_above}
 use Rattle.scx_dsq.proofs.Spots.{keeps_none, keeps_more}
 use Rattle.scx_dsq.proofs.Shifts.{moved, flipped, before_held, first_held, task_within, no_item}
@@ -10,12 +10,12 @@ use Rattle.scx_dsq.proofs.heap.make_way_down.Goals as goal
 pub loop-child-init : goal.loop-child-init
 loop-child-init g c = record {
   spots_kept = c.requires.spots;
-  others = keeps_none (held c.args.items.now c.args.item c.args.start) (spotted c.args.spots.now c.args.item c.args.start);
+  others = keeps_none (with_item c.args.items.now c.args.item c.args.start) (with_spot c.args.spots.now c.args.item c.args.start);
   inside = omega (arith, c.requires.within, length-set c.args.items.now c.args.start c.args.item);
   heap = c.requires.heap;
-  same = IsPermutation-refl (held c.args.items.now c.args.item c.args.start);
+  same = IsPermutation-refl (with_item c.args.items.now c.args.item c.args.start);
   more = omega arith;
-  cost = let none : c.args.steps.now - c.args.steps.now ≡ 0 = omega arith in rw none (sinks_none (held c.args.items.now c.args.item c.args.start) c.args.start);
+  cost = let none : c.args.steps.now - c.args.steps.now ≡ 0 = omega arith in rw none (sinks_none (with_item c.args.items.now c.args.item c.args.start) c.args.start);
 }
 
 pub loop-child-preserved : goal.loop-child-preserved
@@ -26,18 +26,18 @@ loop-child-preserved g c =
     let within : c.loop-child.at < length c.loop-child.items = let inside = inv.inside in omega (arith, inside, length-set c.loop-child.items c.loop-child.at c.args.item) in
     let apart : c.loop-child.at ≢ c.in-Some.child = let of = plain.of in let some = plain.positive in λ e. absurd (omega (arith, e)) in
     let s = moved c.loop-child.items c.put.new.items c.loop-child.spots c.put.new.spots c.args.item no_item c.loop-child.at c.in-Some.child apart within plain.inside c.put.ensures.items c.put.ensures.spots inv.spots_kept in
-    let swapped = flipped (held c.loop-child.items c.args.item c.loop-child.at) (held c.put.new.items c.args.item c.in-Some.child) c.loop-child.at c.in-Some.child apart s.swapped in
+    let swapped = flipped (with_item c.loop-child.items c.args.item c.loop-child.at) (with_item c.put.new.items c.args.item c.in-Some.child) c.loop-child.at c.in-Some.child apart s.swapped in
     let early = before_held c.loop-child.items c.args.item no_item c.loop-child.at c.in-Some.child true (λ e. apart (sym e)) within plain.inside (sym c.is_before.ensures.answer ∙ c.if-not-is_before.false) in
     let few : c.is_before.new.steps - c.args.steps.now ≤ c.loop-child.steps - c.args.steps.now + 2 = let more = inv.more in omega (arith, c.is_before.ensures.counted, c.in-Some.ensures.cost) in
     let twice : 2 * (c.loop-child.at + 1) ≤ c.in-Some.child + 1 = let of = plain.of in let some = plain.positive in omega arith in
     record {
       spots_kept = s.stand;
-      others = keeps_more (held c.args.items.now c.args.item c.args.start) (held c.loop-child.items c.args.item c.loop-child.at) (spotted c.args.spots.now c.args.item c.args.start) (spotted c.loop-child.spots c.args.item c.loop-child.at) (spotted c.put.new.spots c.args.item c.in-Some.child) inv.same inv.others s.others;
+      others = keeps_more (with_item c.args.items.now c.args.item c.args.start) (with_item c.loop-child.items c.args.item c.loop-child.at) (with_spot c.args.spots.now c.args.item c.args.start) (with_spot c.loop-child.spots c.args.item c.loop-child.at) (with_spot c.put.new.spots c.args.item c.in-Some.child) inv.same inv.others s.others;
       inside = let inside = child.inside in omega (arith, inside, s.long);
-      heap = sunk (held c.loop-child.items c.args.item c.loop-child.at) (held c.put.new.items c.args.item c.in-Some.child) c.loop-child.at c.in-Some.child inv.heap child s.long swapped early;
+      heap = sunk (with_item c.loop-child.items c.args.item c.loop-child.at) (with_item c.put.new.items c.args.item c.in-Some.child) c.loop-child.at c.in-Some.child inv.heap child s.long swapped early;
       same = IsPermutation-trans _ _ _ inv.same s.same;
       more = let more = inv.more in omega (arith, c.is_before.ensures.counted, c.in-Some.ensures.more);
-      cost = sinks_more (held c.args.items.now c.args.item c.args.start) (held c.loop-child.items c.args.item c.loop-child.at) (held c.put.new.items c.args.item c.in-Some.child) c.args.start c.loop-child.at c.in-Some.child _ _ inv.cost few twice swapped;
+      cost = sinks_more (with_item c.args.items.now c.args.item c.args.start) (with_item c.loop-child.items c.args.item c.loop-child.at) (with_item c.put.new.items c.args.item c.in-Some.child) c.args.start c.loop-child.at c.in-Some.child _ _ inv.cost few twice swapped;
     }
 
 pub returns-then-not-is_before-clause-heap : goal.returns-then-not-is_before-clause-heap
@@ -46,7 +46,7 @@ returns-then-not-is_before-clause-heap g c =
     let plain : IsFirstChild c.loop-child.items c.loop-child.at c.in-Some.child = c.in-Some.ensures.child in
     let within : c.loop-child.at < length c.loop-child.items = let inside = inv.inside in omega (arith, inside, length-set c.loop-child.items c.loop-child.at c.args.item) in
     let apart : c.in-Some.child ≢ c.loop-child.at = let of = plain.of in let some = plain.positive in λ e. absurd (omega (arith, e)) in
-    heap_above (held c.loop-child.items c.args.item c.loop-child.at) c.loop-child.at c.in-Some.child inv.heap (first_held c.loop-child.items c.args.item c.loop-child.at c.in-Some.child plain)
+    heap_above (with_item c.loop-child.items c.args.item c.loop-child.at) c.loop-child.at c.in-Some.child inv.heap (first_held c.loop-child.items c.args.item c.loop-child.at c.in-Some.child plain)
     (before_held c.loop-child.items c.args.item no_item c.loop-child.at c.in-Some.child false apart within plain.inside (sym c.is_before.ensures.answer ∙ c.if-not-is_before.true))
 
 pub returns-then-not-is_before-clause-cost : goal.returns-then-not-is_before-clause-cost
@@ -55,14 +55,14 @@ returns-then-not-is_before-clause-cost g c =
     let plain : IsFirstChild c.loop-child.items c.loop-child.at c.in-Some.child = c.in-Some.ensures.child in
     let few : c.is_before.new.steps - c.args.steps.now ≤ c.loop-child.steps - c.args.steps.now + 2 = let more = inv.more in omega (arith, c.is_before.ensures.counted, c.in-Some.ensures.cost) in
     let twice : 2 * (c.loop-child.at + 1) ≤ length c.args.items.now = let of = plain.of in let some = plain.positive in let inside = plain.inside in omega (arith, c.loop-child.auto.items) in
-    sank (held c.args.items.now c.args.item c.args.start) (held c.loop-child.items c.args.item c.loop-child.at) c.args.start c.loop-child.at (length c.args.items.now) _ _ inv.cost few twice
+    sank (with_item c.args.items.now c.args.item c.args.start) (with_item c.loop-child.items c.args.item c.loop-child.at) c.args.start c.loop-child.at (length c.args.items.now) _ _ inv.cost few twice
 
 pub returns-in_default-clause-cost : goal.returns-in_default-clause-cost
 returns-in_default-clause-cost g c =
     let inv = c.loop-child.invariant in
     let within : c.loop-child.at < length c.args.items.now = let inside = inv.inside in omega (arith, c.loop-child.auto.items, length-set c.loop-child.items c.loop-child.at c.args.item) in
     let same : c.first_child.new.steps ≡ c.loop-child.steps = c.in_default.ensures.free in
-    rw same (sank_here (held c.args.items.now c.args.item c.args.start) (held c.loop-child.items c.args.item c.loop-child.at) c.args.start c.loop-child.at (length c.args.items.now) _ inv.cost within)
+    rw same (sank_here (with_item c.args.items.now c.args.item c.args.start) (with_item c.loop-child.items c.args.item c.loop-child.at) c.args.start c.loop-child.at (length c.args.items.now) _ inv.cost within)
 
 pub put-requires-clause-task : goal.put-requires-clause-task
 put-requires-clause-task g c =

@@ -1,7 +1,7 @@
 use Rattle.std.proofs.Common.{ℕ, ◌-◌, ◌≤◌, ◌<◌, List, length}
 use Rattle.std.specs.List.Sorted.{IsPermutation}
 use Rattle.scx_dsq.specs.declared.heap.Item.{Item}
-use Rattle.scx_dsq.specs.Heaps.{IsHeapAbove, HasSpots, KeepsOthers, held, spotted}
+use Rattle.scx_dsq.specs.Heaps.{IsHeapAbove, HasSpots, KeepsOthers, with_item, with_spot}
 use Rattle.scx_dsq.proofs.Heaps.{Sinks}
 use Rattle.scx_dsq.proofs.heap.make_way_down.Given as goal
 
@@ -17,7 +17,7 @@ pub record Keeps (items now : List Item) (old spots : List ℕ) (start at before
 
 abbrev pub invariant-loop-child : goal.invariant-loop-child
 invariant-loop-child g l =
-    Keeps (held l.initial.items l.item l.start) (held l.items l.item l.at) (spotted l.initial.spots l.item l.start) (spotted l.spots l.item l.at) l.start l.at l.initial.steps l.steps
+    Keeps (with_item l.initial.items l.item l.start) (with_item l.items l.item l.at) (with_spot l.initial.spots l.item l.start) (with_spot l.spots l.item l.at) l.start l.at l.initial.steps l.steps
 
 abbrev pub decreases-loop-child : goal.decreases-loop-child
 decreases-loop-child g l = length l.initial.items - l.at

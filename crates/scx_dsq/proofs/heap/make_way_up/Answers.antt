@@ -1,7 +1,7 @@
 use Rattle.std.proofs.Common.{◌≡◌, ◌≢◌, ◌+◌, ◌-◌, ◌<◌, ◌≤◌, length, true, sym, ◌∙◌, arith}
 use Rattle.std.proofs.lemmas.List.{length-set}
 use Rattle.std.proofs.lemmas.List.Sorted.{IsPermutation-refl, IsPermutation-trans}
-use Rattle.scx_dsq.specs.Heaps.{parent, held, spotted}
+use Rattle.scx_dsq.specs.Heaps.{parent, with_item, with_spot}
 use Rattle.scx_dsq.proofs.Heaps.{rises_none, rises_more, rose, rose_here, exchanged}
 use Rattle.scx_dsq.proofs.Spots.{keeps_none, keeps_more}
 use Rattle.scx_dsq.proofs.Shifts.{moved, held_before, task_within, no_item}
@@ -10,12 +10,12 @@ use Rattle.scx_dsq.proofs.heap.make_way_up.Goals as goal
 pub loop-at-init : goal.loop-at-init
 loop-at-init g c = record {
   spots_kept = c.requires.spots;
-  others = keeps_none (held c.args.items.now c.args.item c.args.start) (spotted c.args.spots.now c.args.item c.args.start);
+  others = keeps_none (with_item c.args.items.now c.args.item c.args.start) (with_spot c.args.spots.now c.args.item c.args.start);
   inside = omega (arith, c.requires.within, length-set c.args.items.now c.args.start c.args.item);
   heap = c.requires.heap;
-  same = IsPermutation-refl (held c.args.items.now c.args.item c.args.start);
+  same = IsPermutation-refl (with_item c.args.items.now c.args.item c.args.start);
   more = omega arith;
-  cost = let none : c.args.steps.now - c.args.steps.now ≡ 0 = omega arith in rw none (rises_none (held c.args.items.now c.args.item c.args.start) c.args.start);
+  cost = let none : c.args.steps.now - c.args.steps.now ≡ 0 = omega arith in rw none (rises_none (with_item c.args.items.now c.args.item c.args.start) c.args.start);
 }
 
 pub loop-at-preserved : goal.loop-at-preserved
@@ -30,22 +30,22 @@ loop-at-preserved g c =
     let few : c.is_before.new.steps - c.args.steps.now ≤ c.loop-at.steps - c.args.steps.now + 1 = let more = inv.more in omega (arith, c.is_before.ensures.counted) in
     record {
       spots_kept = s.stand;
-      others = keeps_more (held c.args.items.now c.args.item c.args.start) (held c.loop-at.items c.args.item c.loop-at.at) (spotted c.args.spots.now c.args.item c.args.start) (spotted c.loop-at.spots c.args.item c.loop-at.at) (spotted c.put.new.spots c.args.item (parent c.loop-at.at)) inv.same inv.others s.others;
+      others = keeps_more (with_item c.args.items.now c.args.item c.args.start) (with_item c.loop-at.items c.args.item c.loop-at.at) (with_spot c.args.spots.now c.args.item c.args.start) (with_spot c.loop-at.spots c.args.item c.loop-at.at) (with_spot c.put.new.spots c.args.item (parent c.loop-at.at)) inv.same inv.others s.others;
       inside = omega (arith, above, s.long, length-set c.loop-at.items c.loop-at.at c.args.item);
-      heap = exchanged (held c.loop-at.items c.args.item c.loop-at.at) (held c.put.new.items c.args.item (parent c.loop-at.at)) c.loop-at.at up inv.inside s.long s.swapped early inv.heap;
+      heap = exchanged (with_item c.loop-at.items c.args.item c.loop-at.at) (with_item c.put.new.items c.args.item (parent c.loop-at.at)) c.loop-at.at up inv.inside s.long s.swapped early inv.heap;
       same = IsPermutation-trans _ _ _ inv.same s.same;
       more = let more = inv.more in omega (arith, c.is_before.ensures.counted);
-      cost = rises_more (held c.args.items.now c.args.item c.args.start) (held c.loop-at.items c.args.item c.loop-at.at) (held c.put.new.items c.args.item (parent c.loop-at.at)) c.args.start c.loop-at.at _ _ inv.cost few up s.swapped;
+      cost = rises_more (with_item c.args.items.now c.args.item c.args.start) (with_item c.loop-at.items c.args.item c.loop-at.at) (with_item c.put.new.items c.args.item (parent c.loop-at.at)) c.args.start c.loop-at.at _ _ inv.cost few up s.swapped;
     }
 
 pub returns-then-not-is_before-clause-cost : goal.returns-then-not-is_before-clause-cost
 returns-then-not-is_before-clause-cost g c =
     let inv = c.loop-at.invariant in
     let few : c.is_before.new.steps - c.args.steps.now ≤ c.loop-at.steps - c.args.steps.now + 1 = let more = inv.more in omega (arith, c.is_before.ensures.counted) in
-    rose (held c.args.items.now c.args.item c.args.start) (held c.loop-at.items c.args.item c.loop-at.at) c.args.start c.loop-at.at _ _ inv.cost few c.loop-at-test.true
+    rose (with_item c.args.items.now c.args.item c.args.start) (with_item c.loop-at.items c.args.item c.loop-at.at) c.args.start c.loop-at.at _ _ inv.cost few c.loop-at-test.true
 
 pub returns-after-loop-at-clause-cost : goal.returns-after-loop-at-clause-cost
-returns-after-loop-at-clause-cost g c = rose_here (held c.args.items.now c.args.item c.args.start) (held c.loop-at.items c.args.item c.loop-at.at) c.args.start c.loop-at.at _ c.loop-at.invariant.cost
+returns-after-loop-at-clause-cost g c = rose_here (with_item c.args.items.now c.args.item c.args.start) (with_item c.loop-at.items c.args.item c.loop-at.at) c.args.start c.loop-at.at _ c.loop-at.invariant.cost
 
 pub put-requires-clause-task : goal.put-requires-clause-task
 put-requires-clause-task g c =

@@ -1,6 +1,6 @@
 use Rattle.std.proofs.Common.{◌-◌, slice_index_or}
 use Rattle.std.specs.List.Sorted.{IsPermutation}
-use Rattle.scx_dsq.specs.Heaps.{Rose, HasSpots, KeepsOthers, held, spotted}
+use Rattle.scx_dsq.specs.Heaps.{Rose, HasSpots, KeepsOthers, with_item, with_spot}
 use Rattle.scx_dsq.proofs.Shifts.{holds_here, held_here, held_within, no_item}
 use Rattle.scx_dsq.proofs.heap.rise.Goals as goal
 
@@ -15,12 +15,12 @@ returns-clause-spots g c = rw (c.put.ensures.items, c.put.ensures.spots) c.make_
 
 pub returns-clause-others : goal.returns-clause-others
 returns-clause-others g c =
-    rw c.put.ensures.spots (held_here c.args.items.now c.args.spots.now c.args.start no_item (λ items spots. KeepsOthers items spots (spotted c.make_way_up-at.new.spots (slice_index_or c.args.items.now c.args.start no_item) c.make_way_up-at.result)) c.requires.within c.requires.spots c.make_way_up-at.ensures.others)
+    rw c.put.ensures.spots (held_here c.args.items.now c.args.spots.now c.args.start no_item (λ items spots. KeepsOthers items spots (with_spot c.make_way_up-at.new.spots (slice_index_or c.args.items.now c.args.start no_item) c.make_way_up-at.result)) c.requires.within c.requires.spots c.make_way_up-at.ensures.others)
 
 pub returns-clause-same : goal.returns-clause-same
 returns-clause-same g c =
-    rw c.put.ensures.items (held_here c.args.items.now c.args.spots.now c.args.start no_item (λ items spots. IsPermutation items (held c.make_way_up-at.new.items (slice_index_or c.args.items.now c.args.start no_item) c.make_way_up-at.result)) c.requires.within c.requires.spots c.make_way_up-at.ensures.same)
+    rw c.put.ensures.items (held_here c.args.items.now c.args.spots.now c.args.start no_item (λ items spots. IsPermutation items (with_item c.make_way_up-at.new.items (slice_index_or c.args.items.now c.args.start no_item) c.make_way_up-at.result)) c.requires.within c.requires.spots c.make_way_up-at.ensures.same)
 
 pub returns-clause-cost : goal.returns-clause-cost
 returns-clause-cost g c =
-    rw c.put.ensures.items (held_here c.args.items.now c.args.spots.now c.args.start no_item (λ items spots. Rose items (held c.make_way_up-at.new.items (slice_index_or c.args.items.now c.args.start no_item) c.make_way_up-at.result) c.args.start (c.make_way_up-at.new.steps - c.args.steps.now)) c.requires.within c.requires.spots c.make_way_up-at.ensures.cost)
+    rw c.put.ensures.items (held_here c.args.items.now c.args.spots.now c.args.start no_item (λ items spots. Rose items (with_item c.make_way_up-at.new.items (slice_index_or c.args.items.now c.args.start no_item) c.make_way_up-at.result) c.args.start (c.make_way_up-at.new.steps - c.args.steps.now)) c.requires.within c.requires.spots c.make_way_up-at.ensures.cost)

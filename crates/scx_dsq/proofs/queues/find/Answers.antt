@@ -8,10 +8,10 @@ pub returns-in-Some-clause-found : goal.returns-in-Some-clause-found
 returns-in-Some-clause-found c = sym (there c.args.live.now c.args.id c.in-Some.index c.in-Some.ensures)
 
 pub returns-in-Ok-clause-found : goal.returns-in-Ok-clause-found
-returns-in-Ok-clause-found c = sym (named (ids_of c.args.live.now) c.args.order.now c.args.id c.in-Ok.place c.requires c.in-Ok.ensures.found)
+returns-in-Ok-clause-found c = sym (named (ids_of c.args.live.now) c.args.order.now c.args.id c.in-Ok.at c.requires c.in-Ok.ensures.found)
 
 pub returns-in-Ok-clause-at : goal.returns-in-Ok-clause-at
-returns-in-Ok-clause-at c = stands c.args.live.now c.args.order.now c.args.id c.in-Ok.place (get_or c.args.order.now c.in-Ok.place 0) c.requires c.in-Ok.ensures.found (get_or_default c.args.order.now c.in-Ok.place 0 _ c.in-Ok.ensures.found.0)
+returns-in-Ok-clause-at c = stands c.args.live.now c.args.order.now c.args.id c.in-Ok.at (get_or c.args.order.now c.in-Ok.at 0) c.requires c.in-Ok.ensures.found (get_or_default c.args.order.now c.in-Ok.at 0 _ c.in-Ok.ensures.found.0)
 
 pub returns-in-Err-clause-found : goal.returns-in-Err-clause-found
 returns-in-Err-clause-found c = sym (missing (ids_of c.args.live.now) c.args.order.now c.args.id _ c.requires c.in-Err.ensures.missing)

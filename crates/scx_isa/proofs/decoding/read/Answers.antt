@@ -5,16 +5,16 @@ use Rattle.scx_isa.specs.Reading.{read_slots}
 use Rattle.scx_isa.proofs.Loop.{goes_on, ends, is_done}
 use Rattle.scx_isa.proofs.decoding.read.Goals as goal
 
-pub returns-in_err-place : goal.returns-in_err-place
-returns-in_err-place c =
-    let p = err_from_is_err_and c.from_residual-in_err-place.result c.from_residual-in_err-place.ensures.1 in
-    let fails = rw (c.slot_of.ensures, c.split_at.ensures.back) at c.in_err-place.ensures in
-    rw (p.1, p.2) (ends c.in_err-place.field-0.0 c.loop-number.code.items (length c.args.bytes.now / 8) c.loop-number.number c.loop-number.due c.loop-number.rest.now (read_slots 0 None (slots_in (length c.args.bytes.now / 8) c.args.bytes.now)) c.loop-number-test.true c.loop-number.invariant.1 fails c.loop-number.invariant.0)
+pub returns-in_err-occupant : goal.returns-in_err-occupant
+returns-in_err-occupant c =
+    let p = err_from_is_err_and c.from_residual-in_err-occupant.result c.from_residual-in_err-occupant.ensures.1 in
+    let fails = rw (c.slot_of.ensures, c.split_at.ensures.back) at c.in_err-occupant.ensures in
+    rw (p.1, p.2) (ends c.in_err-occupant.field-0.0 c.loop-number.code.items (length c.args.bytes.now / 8) c.loop-number.number c.loop-number.due c.loop-number.rest.now (read_slots 0 None (slots_in (length c.args.bytes.now / 8) c.args.bytes.now)) c.loop-number-test.true c.loop-number.invariant.1 fails c.loop-number.invariant.0)
 
 pub loop-number-preserved : goal.loop-number-preserved
 loop-number-preserved c =
-    let read = rw (c.slot_of.ensures, c.split_at.ensures.back) at c.in_ok-place.ensures in
-    let more = goes_on c.loop-number.code.items (length c.args.bytes.now / 8) c.loop-number.number c.loop-number.due c.loop-number.rest.now c.in_ok-place.place (read_slots 0 None (slots_in (length c.args.bytes.now / 8) c.args.bytes.now)) c.loop-number-test.true c.loop-number.invariant.1 read c.loop-number.invariant.0 in
+    let read = rw (c.slot_of.ensures, c.split_at.ensures.back) at c.in_ok-occupant.ensures in
+    let more = goes_on c.loop-number.code.items (length c.args.bytes.now / 8) c.loop-number.number c.loop-number.due c.loop-number.rest.now c.in_ok-occupant.occupant (read_slots 0 None (slots_in (length c.args.bytes.now / 8) c.args.bytes.now)) c.loop-number-test.true c.loop-number.invariant.1 read c.loop-number.invariant.0 in
     (rw (c.in_ok-push.ensures.items, c.due_behind-due.ensures, c.split_at.ensures.back) more, omega arith)
 
 pub returns : goal.returns

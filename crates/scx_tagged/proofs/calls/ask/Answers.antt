@@ -1,6 +1,6 @@
 use Rattle.std.proofs.Common.{◌≡◌, [], true, sym, subst, ap, ◌∙◌}
 use Rattle.scx_semantics.specs.Calls.{takes_all, after_call, arguments}
-use Rattle.scx_semantics.specs.Outside.{parameters}
+use Rattle.scx_semantics.specs.HostTables.{parameters}
 use Rattle.scx_tagged.specs.State.{seen}
 use Rattle.scx_vm.specs.Arguments.{answer_value}
 use Rattle.scx_vm.specs.Host.{AreTaken}

@@ -1,7 +1,7 @@
 use Rattle.std.proofs.Common.{◌≡◌, [], ◌∷◌, get_or, refl, arith}
 use Rattle.std.proofs.lemmas.Grind.{common_steps}
 use Rattle.scx_semantics.specs.declared.operations.Operation.TheVariants.{Add, Subtract, Multiply, Divide, SignedDivide, Or, And, Xor, ShiftLeft, ShiftRight, ShiftRightSigned, Modulo, SignedModulo, Move}
-use Rattle.scx_semantics.specs.declared.operations.Comparison.TheVariants.{Equal, Greater, GreaterOrEqual, AnyBit, NotEqual, SignedGreater, SignedGreaterOrEqual, Less, LessOrEqual, SignedLess, SignedLessOrEqual}
+use Rattle.scx_semantics.specs.declared.operations.Comparison.TheVariants.{Equal, Greater, GreaterOrEqual, BitTest, NotEqual, SignedGreater, SignedGreaterOrEqual, Less, LessOrEqual, SignedLess, SignedLessOrEqual}
 use Rattle.scx_text.specs.declared.symbols.Symbol.TheVariants.{Assign, Compare, Plus, Minus, Star, Opening, Closing, Colon}
 use Rattle.scx_text.specs.Symbols.{first_of}
 use Rattle.scx_text.proofs.Firsts.{narrowed, alone, no_symbol, no_text}
@@ -53,7 +53,7 @@ pub returns-in-38 : goal.returns-in-38
 unfolding first_of
 returns-in-38 c =
     let first : get_or c.args.text.now 0 0 ≡ 38 = grind (arith, common_steps) in
-    narrowed c.first_of-in-38.result 38 c.args.text.now (Assign And ∷ Compare AnyBit ∷ []) c.first_of-in-38.ensures c.in-38.len_at_least first (λ rest. refl)
+    narrowed c.first_of-in-38.result 38 c.args.text.now (Assign And ∷ Compare BitTest ∷ []) c.first_of-in-38.ensures c.in-38.len_at_least first (λ rest. refl)
 
 pub returns-in-47 : goal.returns-in-47
 unfolding first_of

@@ -1,7 +1,7 @@
 use Rattle.std.proofs.Common.{◌≡◌, true, false, get_or, sym, ◌∙◌}
 use Rattle.std.specs.Str.{bytes_eq}
-use Rattle.scx_semantics.specs.declared.operations.Order.TheVariants.{Little}
-use Rattle.scx_semantics.specs.declared.operations.OrderWidth.TheVariants as order
+use Rattle.scx_semantics.specs.declared.operations.ByteOrder.TheVariants.{Little}
+use Rattle.scx_semantics.specs.declared.operations.SwapWidth.TheVariants as order
 use Rattle.scx_text.specs.Names.{order_text, orders}
 use Rattle.scx_text.proofs.Names.{named_here, named_later}
 use Rattle.scx_text.proofs.words.order_named.Goals as goal

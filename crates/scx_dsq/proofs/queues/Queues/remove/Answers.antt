@@ -2,15 +2,15 @@ use Rattle.std.proofs.Common.{◌≡◌, ◌<◌, false, sym, ◌∙◌}
 use Rattle.std.proofs.lemmas.Bool.{both_ways}
 use Rattle.scx_dsq.specs.Queues.{exists, task_count}
 use Rattle.scx_dsq.specs.Kept.{state_of}
-use Rattle.scx_dsq.proofs.QueueReads.{place_read, stands_at}
+use Rattle.scx_dsq.proofs.QueueReads.{entry_read, stands_at}
 use Rattle.scx_dsq.proofs.queues.Queues.remove.Goals as goal
 
 pub unreachable-requires : goal.unreachable-requires
 unreachable-requires g c =
     let within : c.args.task < task_count (state_of c.self.inside) = rw (← c.self.view_is) at c.requires in
-    let waits = place_read c.self.inside c.args.task c.index.result.now within c.index.ensures ∙ c.in-Some.is in
-    let out : exists (state_of c.self.inside) c.in-Some.place.queue ≡ false = rw (← c.deref.ensures.value) (sym c.in_default-find.ensures.found) in
-    both_ways _ out (c.self.invariant.sound.homes c.args.task c.in-Some.place waits)
+    let waits = entry_read c.self.inside c.args.task c.index.result.now within c.index.ensures ∙ c.in-Some.is in
+    let out : exists (state_of c.self.inside) c.in-Some.entry.queue ≡ false = rw (← c.deref.ensures.value) (sym c.in_default-find.ensures.found) in
+    both_ways _ out (c.self.invariant.sound.homes c.args.task c.in-Some.entry waits)
 
 pub take_out-requires-clause-stands : goal.take_out-requires-clause-stands
-take_out-requires-clause-stands g c = rw (← c.self.view_is) (stands_at c.self.inside _ c.in-Some-find.index c.in-Some.place.queue c.deref.ensures.value c.in-Some-find.ensures.at)
+take_out-requires-clause-stands g c = rw (← c.self.view_is) (stands_at c.self.inside _ c.in-Some-find.index c.in-Some.entry.queue c.deref.ensures.value c.in-Some-find.ensures.at)

@@ -1,36 +1,36 @@
 use Rattle.std.proofs.Common.{◌≡◌, ◌-◌, Some, arith}
-use Rattle.scx_dsq.specs.Queues.{place_of}
+use Rattle.scx_dsq.specs.Queues.{entry_of}
 use Rattle.scx_dsq.specs.Kept.{Stands, state_of}
 use Rattle.scx_dsq.proofs.Removals.{waiting, can_remove, left, removed_keeps, removed_state, removed_paid}
 use Rattle.scx_dsq.proofs.queues.Queues.take_out.Goals as goal
 
 pub leave-requires : goal.leave-requires
 leave-requires g c =
-    let at : Stands (state_of c.self.inside) c.args.index c.args.place.queue = rw (← c.self.view_is) at c.requires.stands in
-    let waits : place_of (state_of c.self.inside) c.args.task ≡ Some c.args.place = rw (← c.self.view_is) at c.requires.waits in
-    let w = waiting c.self.inside c.args.index c.args.task c.args.place c.index_mut.result.now at waits c.index_mut.ensures.value in
-    rw (c.deref_mut.ensures.value, c.deref_mut-2.ensures.value) (can_remove c.self.inside c.args.index c.args.task c.args.place c.index_mut.result.now c.self.invariant w)
+    let at : Stands (state_of c.self.inside) c.args.index c.args.entry.queue = rw (← c.self.view_is) at c.requires.stands in
+    let waits : entry_of (state_of c.self.inside) c.args.task ≡ Some c.args.entry = rw (← c.self.view_is) at c.requires.waits in
+    let w = waiting c.self.inside c.args.index c.args.task c.args.entry c.index_mut.result.now at waits c.index_mut.ensures.value in
+    rw (c.deref_mut.ensures.value, c.deref_mut-2.ensures.value) (can_remove c.self.inside c.args.index c.args.task c.args.entry c.index_mut.result.now c.self.invariant w)
 
 pub invariant_of-self : goal.invariant_of-self
 invariant_of-self g c =
-    let at : Stands (state_of c.self.inside) c.args.index c.args.place.queue = rw (← c.self.view_is) at c.requires.stands in
-    let waits : place_of (state_of c.self.inside) c.args.task ≡ Some c.args.place = rw (← c.self.view_is) at c.requires.waits in
-    let w = waiting c.self.inside c.args.index c.args.task c.args.place c.index_mut.result.now at waits c.index_mut.ensures.value in
-    let l = left c.self.inside c.args.index c.args.task c.args.place c.index_mut.result.now c.self.invariant w c.leave.new.queue c.deref_mut.result.now c.leave.new.links c.deref_mut-2.result.now c.leave.new.spots c.deref_mut.ensures.value c.deref_mut-2.ensures.value c.leave.ensures.left in
-    removed_keeps c.self.inside c.args.index c.args.task c.args.place c.index_mut.result.now c.self.invariant w _ c.leave.new.queue c.leave.new.links c.leave.new.spots l.0 l.1
+    let at : Stands (state_of c.self.inside) c.args.index c.args.entry.queue = rw (← c.self.view_is) at c.requires.stands in
+    let waits : entry_of (state_of c.self.inside) c.args.task ≡ Some c.args.entry = rw (← c.self.view_is) at c.requires.waits in
+    let w = waiting c.self.inside c.args.index c.args.task c.args.entry c.index_mut.result.now at waits c.index_mut.ensures.value in
+    let l = left c.self.inside c.args.index c.args.task c.args.entry c.index_mut.result.now c.self.invariant w c.leave.new.queue c.deref_mut.result.now c.leave.new.links c.deref_mut-2.result.now c.leave.new.spots c.deref_mut.ensures.value c.deref_mut-2.ensures.value c.leave.ensures.left in
+    removed_keeps c.self.inside c.args.index c.args.task c.args.entry c.index_mut.result.now c.self.invariant w _ c.leave.new.queue c.leave.new.links c.leave.new.spots l.0 l.1
 
 pub returns-clause-state : goal.returns-clause-state
 returns-clause-state g c =
-    let at : Stands (state_of c.self.inside) c.args.index c.args.place.queue = rw (← c.self.view_is) at c.requires.stands in
-    let waits : place_of (state_of c.self.inside) c.args.task ≡ Some c.args.place = rw (← c.self.view_is) at c.requires.waits in
-    let w = waiting c.self.inside c.args.index c.args.task c.args.place c.index_mut.result.now at waits c.index_mut.ensures.value in
-    let l = left c.self.inside c.args.index c.args.task c.args.place c.index_mut.result.now c.self.invariant w c.leave.new.queue c.deref_mut.result.now c.leave.new.links c.deref_mut-2.result.now c.leave.new.spots c.deref_mut.ensures.value c.deref_mut-2.ensures.value c.leave.ensures.left in
-    rw (← c.self.view_is) (removed_state c.self.inside c.args.index c.args.task c.args.place c.index_mut.result.now c.self.invariant w _ c.leave.new.queue c.leave.new.links c.leave.new.spots l.0 l.1)
+    let at : Stands (state_of c.self.inside) c.args.index c.args.entry.queue = rw (← c.self.view_is) at c.requires.stands in
+    let waits : entry_of (state_of c.self.inside) c.args.task ≡ Some c.args.entry = rw (← c.self.view_is) at c.requires.waits in
+    let w = waiting c.self.inside c.args.index c.args.task c.args.entry c.index_mut.result.now at waits c.index_mut.ensures.value in
+    let l = left c.self.inside c.args.index c.args.task c.args.entry c.index_mut.result.now c.self.invariant w c.leave.new.queue c.deref_mut.result.now c.leave.new.links c.deref_mut-2.result.now c.leave.new.spots c.deref_mut.ensures.value c.deref_mut-2.ensures.value c.leave.ensures.left in
+    rw (← c.self.view_is) (removed_state c.self.inside c.args.index c.args.task c.args.entry c.index_mut.result.now c.self.invariant w _ c.leave.new.queue c.leave.new.links c.leave.new.spots l.0 l.1)
 
 pub returns-clause-cost : goal.returns-clause-cost
 returns-clause-cost g c =
-    let at : Stands (state_of c.self.inside) c.args.index c.args.place.queue = rw (← c.self.view_is) at c.requires.stands in
-    let waits : place_of (state_of c.self.inside) c.args.task ≡ Some c.args.place = rw (← c.self.view_is) at c.requires.waits in
-    let w = waiting c.self.inside c.args.index c.args.task c.args.place c.index_mut.result.now at waits c.index_mut.ensures.value in
-    let l = left c.self.inside c.args.index c.args.task c.args.place c.index_mut.result.now c.self.invariant w c.leave.new.queue c.deref_mut.result.now c.leave.new.links c.deref_mut-2.result.now c.leave.new.spots c.deref_mut.ensures.value c.deref_mut-2.ensures.value c.leave.ensures.left in
-    rw (← c.self.view_is) (removed_paid c.self.inside c.args.index c.args.task c.args.place c.index_mut.result.now c.self.invariant w _ c.leave.new.queue c.leave.new.links c.leave.new.spots l.0 l.1 (c.leave.new.steps - c.args.steps.now) c.leave.ensures.cost (λ is. let free = c.leave.ensures.fifo is in omega (arith, free)))
+    let at : Stands (state_of c.self.inside) c.args.index c.args.entry.queue = rw (← c.self.view_is) at c.requires.stands in
+    let waits : entry_of (state_of c.self.inside) c.args.task ≡ Some c.args.entry = rw (← c.self.view_is) at c.requires.waits in
+    let w = waiting c.self.inside c.args.index c.args.task c.args.entry c.index_mut.result.now at waits c.index_mut.ensures.value in
+    let l = left c.self.inside c.args.index c.args.task c.args.entry c.index_mut.result.now c.self.invariant w c.leave.new.queue c.deref_mut.result.now c.leave.new.links c.deref_mut-2.result.now c.leave.new.spots c.deref_mut.ensures.value c.deref_mut-2.ensures.value c.leave.ensures.left in
+    rw (← c.self.view_is) (removed_paid c.self.inside c.args.index c.args.task c.args.entry c.index_mut.result.now c.self.invariant w _ c.leave.new.queue c.leave.new.links c.leave.new.spots l.0 l.1 (c.leave.new.steps - c.args.steps.now) c.leave.ensures.cost (λ is. let free = c.leave.ensures.fifo is in omega (arith, free)))

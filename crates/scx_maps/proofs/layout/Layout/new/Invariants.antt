@@ -4,7 +4,7 @@ use Rattle.scx_maps.proofs.layout.Layout.new.Given as goal
 
 abbrev pub invariant-loop-map : goal.invariant-loop-map
 invariant-loop-map l = record {
-  places : length l.starts ≡ 16;
+  long : length l.starts ≡ 16;
   so_far : l.bytes ≡ total_bytes (take l.map l.shape-items);
   begins : (m : ℕ) → m < l.map → get_or l.starts m 0 ≡ total_bytes (take m l.shape-items);
 }

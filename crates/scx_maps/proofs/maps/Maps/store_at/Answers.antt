@@ -19,8 +19,8 @@ returns c =
     let block = c.self.inside.block in
     let all = all_shown c.self.inside.layout block.items maps c.self.invariant c.self.view_is in
     let shapes = shapes_shown c.self.inside.layout block.items maps c.self.invariant c.self.view_is in
-    let is = c.write_number.ensures ∙ ap (λ xs. with_number xs c.args.place (size_bytes c.args.size) c.args.number) (c.deref_mut.ensures.value ∙ sym all) in
+    let is = c.write_number.ensures ∙ ap (λ xs. with_number xs c.args.offset (size_bytes c.args.size) c.args.number) (c.deref_mut.ensures.value ∙ sym all) in
     let count = ap (λ xs. length xs) all in
-    let long : length c.write_number.new.value ≡ block.len = ap (λ xs. length xs) is ∙ length-with_number (all_bytes maps) c.args.place (size_bytes c.args.size) c.args.number c.requires ∙ count ∙ sym block.ok.0 in
+    let long : length c.write_number.new.value ≡ block.len = ap (λ xs. length xs) is ∙ length-with_number (all_bytes maps) c.args.offset (size_bytes c.args.size) c.args.number c.requires ∙ count ∙ sym block.ok.0 in
     ap (λ xs. contents_in c.self.inside.layout xs) (take_at c.write_number.new.value _ block.len long ∙ is)
-    ∙ ap (λ s. contents_in s (with_number (all_bytes maps) c.args.place (size_bytes c.args.size) c.args.number)) (sym shapes)
+    ∙ ap (λ s. contents_in s (with_number (all_bytes maps) c.args.offset (size_bytes c.args.size) c.args.number)) (sym shapes)

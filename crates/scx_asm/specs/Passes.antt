@@ -1,0 +1,12 @@
+-- What a first pass in memory stands for.
+use Rattle.std.specs.Prelude.{ℕ, List, map}
+use Rattle.std.specs.Borrow.{Bor}
+use Rattle.scx_asm.specs.declared.scanning.FirstPass.{FirstPass}
+use Rattle.scx_asm.specs.Resolving.{Labels}
+use Rattle.scx_asm.specs.FirstPass.{FirstPassState, unresolved_of}
+
+abbrev pub table : List (Bor (List ℕ) × ℕ) → Labels
+table es = map (λ e. (e.0.now, e.1)) es
+
+abbrev pub first_pass_of : FirstPass → FirstPassState
+first_pass_of l = record { slots = l.slots; labels = table l.labels.entries; unresolved = map unresolved_of l.unresolved.items }
