@@ -14,11 +14,12 @@ use Rattle.scx_semantics.specs.Effects.{Query, Call, Load, Store}
 use Rattle.scx_vm.specs.Arguments.{argument_of}
 use Rattle.scx_vm.specs.Host.{after_query}
 use Rattle.scx_vm.specs.declared.arguments.Arg.{Arg}
-use Rattle.scx_world.specs.declared.task.Task.{Task}
+use Rattle.scx_tasks.specs.declared.task.Task.{Task}
+use Rattle.scx_tasks.specs.Tasks.{no_task}
 use Rattle.scx_world.specs.declared.call.Insert.{Insert}
 use Rattle.scx_world.specs.declared.faults.Fault.{Fault}
 use Rattle.scx_world.specs.declared.faults.Fault.TheVariants.{NoSuchQueue, NoSuchCpu, CannotCreate}
-use Rattle.scx_world.specs.World.{WorldState, with_queues, with_task, task_at, no_task, waits}
+use Rattle.scx_world.specs.World.{WorldState, with_queues, with_task, task_at, waits}
 use Rattle.scx_world.specs.Tasks.{given_slice, given_vtime, given, gone, entered, for_cpu, brought, fill_front, renewed}
 use Rattle.scx_world.specs.Helpers.{is_there, can_create, faulted, is_dispatch, insert_fault, with_insert, released, inserted, asked, asked_by_vtime, can_move, moved, given_number, given_task, helper_after, stored_in, world_functions}
 use Rattle.scx_sched.specs.Once.{IsSound}

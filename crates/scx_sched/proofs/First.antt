@@ -14,8 +14,9 @@ use Rattle.scx_dsq.specs.Laws.{one_if}
 use Rattle.scx_semantics.specs.declared.callbacks.Callback.TheVariants as callback
 use Rattle.scx_weights.specs.Hierarchy.{Hierarchy, is_active_task}
 use Rattle.scx_weights.specs.Counting.{any_below}
-use Rattle.scx_world.specs.World.{no_task, is_this, begun}
-use Rattle.scx_world.specs.First.{new_task, first_world}
+use Rattle.scx_world.specs.World.{is_this, begun}
+use Rattle.scx_tasks.specs.Tasks.{no_task, new_task}
+use Rattle.scx_world.specs.First.{first_world}
 use Rattle.scx_machine.specs.Policy.{PolicyState, program_of}
 use Rattle.scx_machine.specs.Steps.{State}
 use Rattle.scx_machine.specs.Callbacks.{ended, no_arguments, one_task}

@@ -19,11 +19,13 @@ use Rattle.scx_world.specs.declared.call.Insert.{Insert}
 use Rattle.scx_world.specs.declared.eject.Eject.{Eject}
 use Rattle.scx_world.specs.declared.faults.Fault.{Fault}
 use Rattle.scx_world.specs.declared.faults.Fault.TheVariants.{NoSuchQueue, NoSuchCpu, CannotCreate}
-use Rattle.scx_world.specs.declared.task.Task.{Task}
-use Rattle.scx_world.specs.World.{WorldState, with_queues, with_task, task_at, no_task, waits, time_since, wait, or_this, this_if}
+use Rattle.scx_tasks.specs.declared.task.Task.{Task}
+use Rattle.scx_tasks.specs.Tasks.{no_task}
+use Rattle.scx_tasks.specs.Waits.{time_since, is_late, is_overdue}
+use Rattle.scx_world.specs.World.{WorldState, with_queues, with_task, task_at, waits, wait}
 use Rattle.scx_world.specs.Tasks.{given_slice, given_vtime, given, gone, entered, for_cpu, brought, fill_front, renewed, later}
 use Rattle.scx_world.specs.Helpers.{is_there, can_create, faulted, is_dispatch, insert_fault, with_insert, released, inserted, asked, asked_by_vtime, can_move, moved, given_number, given_task, helper_after, stored_in, world_functions}
-use Rattle.scx_world.specs.Waits.{is_overdue, overdue_below, first_overdue}
+use Rattle.scx_world.specs.Waits.{first_overdue}
 use Rattle.scx_world.specs.Ejecting.{put_builtin}
 use Rattle.scx_sched.specs.Kept.{IsKeptBySteps}
 use Rattle.scx_sched.proofs.Entering.{keeps_if}

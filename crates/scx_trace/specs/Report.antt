@@ -1,7 +1,7 @@
 -- The text of a report: how long each task ran, which part of all running that is, and whose scheduling
 -- it was.
 use Rattle.std.specs.Prelude.{ℕ, ◌==◌, ◌+◌, ◌*◌, ◌/◌, if◌then◌else◌, List, [], ◌∷◌, ◌++◌, codes, decimal, map, sum, Option, Some, None}
-use Rattle.scx_world.specs.declared.task.Task.{Task}
+use Rattle.scx_tasks.specs.declared.task.Task.{Task}
 use Rattle.scx_world.specs.declared.eject.Eject.{Eject}
 use Rattle.scx_world.specs.declared.eject.Eject.TheVariants.{Stall, Fault}
 use Rattle.scx_world.specs.Faults.{code_of}

@@ -1,2 +1,1 @@
 pub mod Busy
-pub mod Watching

@@ -11,7 +11,8 @@ use Rattle.scx_world.specs.declared.notes.What.{What}
 use Rattle.scx_world.specs.declared.notes.What.TheVariants as note
 use Rattle.scx_world.specs.Ids.{builtin}
 use Rattle.scx_world.specs.World.{WorldState, with_queues, with_call, with_builtin_clock, with_ejected, task_at, with_task, waits, running, said}
-use Rattle.scx_world.specs.Tasks.{default_slice, with_slice, with_builtin, gone}
+use Rattle.scx_tasks.specs.Tasks.{default_slice}
+use Rattle.scx_world.specs.Tasks.{with_slice, with_builtin, gone}
 use Rattle.scx_world.specs.Helpers.{weight_at}
 
 -- ---- the built-in scheduler

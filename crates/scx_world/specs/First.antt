@@ -3,10 +3,9 @@ use Rattle.std.specs.Prelude.{ℕ, zero, suc, ◌+◌, [], length, replicate, No
 use Rattle.scx_dsq.specs.Queues.{QueueState}
 use Rattle.scx_dsq.specs.Calls.{created, empty}
 use Rattle.scx_weights.specs.Hierarchy.{Hierarchy}
-use Rattle.scx_world.specs.declared.task.Task.{Task}
+use Rattle.scx_tasks.specs.Tasks.{new_task}
 use Rattle.scx_world.specs.Ids.{global, held, builtin, local_on}
 use Rattle.scx_world.specs.World.{WorldState, no_call}
-use Rattle.scx_world.specs.Tasks.{default_slice}
 
 -- a local queue for each processor
 abbrev pub with_locals : ℕ → QueueState → QueueState
@@ -19,9 +18,6 @@ own_queues cpus tasks = created (created (created (empty (19 + cpus) tasks) glob
 
 abbrev pub first_queues : ℕ → ℕ → QueueState
 first_queues cpus tasks = with_locals cpus (own_queues cpus tasks)
-
-abbrev pub new_task : Task
-new_task = record { since = None; slice = default_slice; vtime = 0; prev_cpu = 0; run_ns = 0; builtin = 0 }
 
 abbrev pub first_world : Hierarchy → ℕ → WorldState
 first_world tree cpus = record {

@@ -21,7 +21,7 @@ use Rattle.scx_vm.specs.declared.arguments.Arg.TheVariants as argument
 use Rattle.scx_vm.specs.declared.arguments.Answer.{Answer}
 use Rattle.scx_vm.specs.declared.arguments.Answer.TheVariants as answer
 use Rattle.scx_vm.specs.Host.{Functions}
-use Rattle.scx_world.specs.declared.task.Task.{Task}
+use Rattle.scx_tasks.specs.declared.task.Task.{Task}
 use Rattle.scx_world.specs.declared.faults.Fault.{Fault}
 use Rattle.scx_world.specs.declared.faults.Fault.TheVariants.{NoSuchQueue, CannotInsert, NoSuchCpu, UnknownFlag, CannotCreate, BuiltinVtime, Mixed}
 use Rattle.scx_world.specs.declared.call.Insert.{Insert}

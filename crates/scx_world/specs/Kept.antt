@@ -1,14 +1,13 @@
 -- What the fields of a world mean, and what always holds of them.
-use Rattle.std.specs.Prelude.{◌≡◌, ℕ, ◌^◌, ◌/◌, ◌<◌, ◌≤◌, not, List, length, Option, Some, None, is_some, slice_index_or, vec_capacity}
+use Rattle.std.specs.Prelude.{◌≡◌, ℕ, ◌^◌, ◌<◌, ◌≤◌, not, List, length, Option, Some, None, is_some, slice_index_or, vec_capacity}
 use Rattle.std.specs.Int.{bit_at}
 use Rattle.scx_dsq.specs.Laws.{one_if}
 use Rattle.scx_dsq.specs.Queues.{task_count}
 use Rattle.scx_world.specs.declared.world.World.TheInside.{Inside}
-use Rattle.scx_world.specs.declared.task.Task.{Task}
-use Rattle.scx_world.specs.World.{WorldState, no_task, is_idle}
+use Rattle.scx_world.specs.World.{WorldState, is_idle}
 
 abbrev pub state_of : Inside → WorldState
-state_of w = record { clock = w.clock; tasks = w.tasks.items; cpus = w.cpus.items; cycling = w.cycling; queues = w.queues.state; tree = w.tree; call = w.call; builtin_clock = w.builtin_clock; ejected = w.ejected; notes = w.notes.items }
+state_of w = record { clock = w.clock; tasks = w.tasks; cpus = w.cpus.items; cycling = w.cycling; queues = w.queues.state; tree = w.tree; call = w.call; builtin_clock = w.builtin_clock; ejected = w.ejected; notes = w.notes.items }
 
 -- these bits are set where a task runs, one bit a processor
 abbrev pub AreBusy : ℕ → List (Option ℕ) → Type 0
@@ -18,22 +17,14 @@ AreBusy bits cpus = (c : ℕ) → c < length cpus → bit_at bits c ≡ one_if (
 abbrev pub AreTaken : ℕ → WorldState → Type 0
 AreTaken bits w = (c : ℕ) → c < length w.cpus → bit_at bits c ≡ one_if (not (is_idle w c))
 
--- Nobody of a block of 32 tasks waits since before the clock that is kept for it, and nobody at all since
--- before the one that is kept for all. A task that waited since then may wait no more.
-pub record AreWatched (oldest : ℕ) (blocks : List ℕ) (tasks : List Task) : Type 0 where
-  pub count : length blocks ≡ 32
-  pub least : (b : ℕ) → b < 32 → oldest ≤ slice_index_or blocks b 0
-  pub each : (t n : ℕ) → (slice_index_or tasks t no_task).since ≡ Some n → slice_index_or blocks (t / 32) 0 ≤ n
-
 -- there is room for the notes of a callback, each part knows of as many tasks, and the clock in
 -- nanoseconds is a number of 64 bits
 pub record IsKept (w : Inside) : Type 0 where
   pub notes : 4096 ≤ vec_capacity w.notes
   pub few_notes : length w.notes.items ≤ 4096
-  pub queued : task_count w.queues.state ≡ length w.tasks.items
-  pub weighed : length w.tree.homes ≡ length w.tasks.items
-  pub few_tasks : length w.tasks.items ≤ 1024
+  pub queued : task_count w.queues.state ≡ length w.tasks
+  pub weighed : length w.tree.homes ≡ length w.tasks
+  pub few_tasks : length w.tasks ≤ 1024
   pub few_cpus : length w.cpus.items ≤ 64
   pub busy : AreBusy w.busy w.cpus.items
   pub early : w.clock ≤ 2 ^ 32
-  pub watched : AreWatched w.oldest w.blocks w.tasks.items

@@ -7,7 +7,8 @@ use Rattle.scx_dsq.specs.declared.entries.Rank.TheVariants.{Fifo, Vtime}
 use Rattle.scx_weights.specs.Hierarchy as tree
 use Rattle.scx_weights.specs.Refusals.{weight_fault}
 use Rattle.scx_world.specs.declared.call.Insert.{Insert}
-use Rattle.scx_world.specs.declared.task.Task.{Task}
+use Rattle.scx_tasks.specs.declared.task.Task.{Task}
+use Rattle.scx_tasks.specs.Tasks.{default_slice}
 use Rattle.scx_world.specs.Ids.{global, local, held, local_on}
 use Rattle.scx_world.specs.World.{WorldState, with_clock, with_queues, with_tree, task_at, with_task, with_cpu}
 
@@ -41,9 +42,6 @@ asleep w t = if nat_lt t (length w.tasks) then with_tree (with_task w t (with_si
 -- the task leaves the queue in which it waits
 abbrev pub gone : WorldState → ℕ → WorldState
 gone w t = with_queues w (removed w.queues t)
-
-abbrev pub default_slice : ℕ
-default_slice = 20000000
 
 -- a slice of 0 keeps the one that there is
 abbrev pub given_slice : Task → ℕ → Task

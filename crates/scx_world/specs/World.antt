@@ -1,12 +1,14 @@
 -- The world that a policy's programs see and change, and its parts.
-use Rattle.std.specs.Prelude.{ℕ, zero, suc, Bool, false, ◌==◌, ◌&&◌, not, nat_lt, ◌-◌, List, [], ◌∷◌, ◌++◌, length, if◌then◌else◌, Option, Some, None, is_none, is_some, slice_index_or, slice_set, position}
+use Rattle.std.specs.Prelude.{ℕ, zero, suc, Bool, false, ◌==◌, ◌&&◌, not, nat_lt, List, [], ◌∷◌, ◌++◌, length, if◌then◌else◌, Option, Some, None, is_none, is_some, slice_index_or, slice_set, position}
 use Rattle.scx_dsq.specs.Queues.{QueueState, entry_of}
 use Rattle.scx_weights.specs.Hierarchy.{Hierarchy, is_active_task}
 use Rattle.scx_semantics.specs.declared.callbacks.Callback.{Callback}
 use Rattle.scx_semantics.specs.declared.callbacks.Callback.TheVariants as callback
 use Rattle.scx_world.specs.declared.notes.Note.{Note}
 use Rattle.scx_world.specs.declared.notes.What.{What}
-use Rattle.scx_world.specs.declared.task.Task.{Task}
+use Rattle.scx_tasks.specs.declared.task.Task.{Task}
+use Rattle.scx_tasks.specs.Tasks.{no_task}
+use Rattle.scx_tasks.specs.Waits.{time_since}
 use Rattle.scx_world.specs.declared.call.Call.{Call}
 use Rattle.scx_world.specs.declared.eject.Eject.{Eject}
 
@@ -56,10 +58,6 @@ with_ejected w x = record { clock = w.clock; tasks = w.tasks; cpus = w.cpus; cyc
 
 -- ---- tasks and processors
 
--- where there is no task all is 0, and nobody waits
-abbrev pub no_task : Task
-no_task = record { since = None; slice = 0; vtime = 0; prev_cpu = 0; run_ns = 0; builtin = 0 }
-
 abbrev pub task_at : WorldState → ℕ → Task
 task_at w t = slice_index_or w.tasks t no_task
 
@@ -73,11 +71,6 @@ is_runnable w t = is_active_task w.tree t
 -- the task waits in a queue
 abbrev pub waits : WorldState → ℕ → Bool
 waits w t = is_some (entry_of w.queues t)
-
--- how long since then; 0 where it isn't since any time
-abbrev pub time_since : ℕ → Option ℕ → ℕ
-time_since now None = 0
-time_since now (Some n) = now - n
 
 -- How long a task has waited: the clock less the clock at which it woke or was stopped last. A task that
 -- runs or sleeps doesn't wait.

@@ -3,9 +3,9 @@ ghost use Rattle.scx_world.specs.Tasks.{resolved, for_cpu, to_held, to_global};
 
 use crate::faults::Fault;
 use crate::ids::{GLOBAL, HELD, LOCAL, LOCAL_ON};
-use crate::task::DEFAULT_SLICE;
 use scx_dsq::Rank;
 use scx_isa::Callback;
+use scx_tasks::DEFAULT_SLICE;
 
 /// Where a callback wants a task to wait.
 #[derive(Clone, Copy, Debug, PartialEq, Eq)]

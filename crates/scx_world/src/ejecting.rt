@@ -5,9 +5,9 @@ ghost use Rattle.scx_world.specs.Ejecting.{put_builtin, overtaken, used, charged
 use crate::counting;
 use crate::eject::Eject;
 use crate::ids::BUILTIN;
-use crate::task::DEFAULT_SLICE;
 use crate::world::World;
 use scx_dsq::Rank;
+use scx_tasks::DEFAULT_SLICE;
 use std::cmp;
 
 /// What an ejection does to the world, and the scheduler that takes the policy's place.

@@ -14,8 +14,6 @@ mod host;
 mod ids;
 mod notes;
 mod steps;
-mod task;
-mod watch;
 mod world;
 
 pub use call::{Call, Insert};
@@ -24,5 +22,5 @@ pub use faults::Fault;
 pub use ids::{BUILTIN, GLOBAL, HELD, LOCAL, LOCAL_ON, POLICY_END};
 pub use notes::{Note, What};
 pub use scx_dsq::Rank;
-pub use task::{DEFAULT_SLICE, Task};
+pub use scx_tasks::{DEFAULT_SLICE, Task};
 pub use world::World;

@@ -7,9 +7,9 @@ ghost use Rattle.scx_world.specs.Tasks.{woken, asleep, gone, given, entered, loc
 use crate::call::Insert;
 use crate::counting;
 use crate::ids::LOCAL_ON;
-use crate::task::{DEFAULT_SLICE, Task};
 use crate::world::World;
 use scx_dsq::Rank;
+use scx_tasks::{DEFAULT_SLICE, Task};
 
 /// What an event does to the world, one step at a time.
 impl World {

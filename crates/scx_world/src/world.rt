@@ -5,17 +5,17 @@ ghost use Rattle.scx_dsq.specs.Queues.{queue_of, task_count};
 ghost use Rattle.scx_world.specs.First.{with_locals, first_queues, first_world};
 ghost use Rattle.scx_world.specs.Helpers.{pointed};
 ghost use Rattle.scx_world.specs.Kept.{AreTaken};
-ghost use Rattle.scx_world.specs.World.{task_at, with_task, is_runnable, waits, running, with_cpu, with_cycling, is_this, cpu_of, is_idle, first_idle, default_choice, begun, quiet, said};
+ghost use Rattle.scx_world.specs.Waits.{first_overdue};
+ghost use Rattle.scx_world.specs.World.{task_at, wait, with_task, is_runnable, waits, running, with_cpu, with_cycling, is_this, cpu_of, is_idle, first_idle, default_choice, begun, quiet, said};
 
 use crate::call::{Call, Insert};
 use crate::eject::Eject;
 use crate::faults::Fault;
 use crate::ids::{BUILTIN, GLOBAL, HELD, LOCAL_ON};
 use crate::notes::{Note, What};
-use crate::task::Task;
-use crate::watch::{BLOCKS, NEVER, watch};
 use scx_dsq::Queues;
 use scx_isa::{Callback, TaskId};
+use scx_tasks::{Task, Tasks};
 use scx_vm::Arg;
 use scx_weights::Tree;
 use std::alloc::{AllocError, Global};
@@ -27,7 +27,7 @@ use std::marker::Model;
 #[derive(Drop)]
 pub struct World {
     pub(crate) clock: u64,
-    pub(crate) tasks: Vec<Task>,
+    pub(crate) tasks: Tasks,
     /// The task that runs on each processor.
     pub(crate) cpus: Vec<Option<u16>>,
     /// The processors on which a task runs, one bit each.
@@ -41,10 +41,6 @@ pub struct World {
     pub(crate) builtin_clock: u64,
     /// Why and when the policy was put out of force.
     pub(crate) ejected: Option<Eject>,
-    /// Nobody waits since before that clock.
-    pub(crate) oldest: u64,
-    /// Nobody of each block of tasks waits since before that clock.
-    pub(crate) blocks: [u64; BLOCKS],
     pub(crate) notes: Vec<Note>,
 }
 
@@ -71,7 +67,7 @@ impl World {
         let count = tree.tasks() as usize;
         Ok(World {
             clock: 0,
-            tasks: vec![in alloc; Task::NEW; count]?,
+            tasks: Tasks::new(alloc, count)?,
             cpus: vec![in alloc; None; cpus]?,
             busy: 0,
             cycling: None,
@@ -80,8 +76,6 @@ impl World {
             call: Call::NONE,
             builtin_clock: 0,
             ejected: None,
-            oldest: NEVER,
-            blocks: [NEVER; BLOCKS],
             notes: Vec::with_capacity(alloc, 4096)?,
         })
     }
@@ -113,22 +107,28 @@ impl World {
     pub fn task(&self, task: u16) -> Task
         ensures { result ≡ task_at self.now task }
     {
-        if (task as usize) < self.tasks.len() {
-            self.tasks[task as usize]
-        } else {
-            Task::NONE
-        }
+        self.tasks.get(task)
+    }
+
+    /// How long the task has waited, in milliseconds; 0 where it isn't waiting.
+    pub fn wait(&self, task: u16) -> u64
+        ensures { result ≡ wait self.now task }
+    {
+        self.task(task).wait(self.clock)
+    }
+
+    /// Of the tasks that have waited longer than that the one of the least number.
+    pub fn first_overdue(&mut self, limit: u64) -> Option<u16>
+        ensures answer { result ≡ first_overdue self.old limit }
+        ensures world { self.new ≡ self.old }
+    {
+        self.tasks.first_overdue(self.clock, limit)
     }
 
     pub(crate) fn set_task(&mut self, task: u16, facts: Task)
         ensures { self.new ≡ with_task self.old task facts }
     {
-        if (task as usize) < self.tasks.len() {
-            if let Some(since) = facts.since {
-                watch(&mut self.oldest, &mut self.blocks, task, since);
-            }
-            self.tasks[task as usize] = facts;
-        }
+        self.tasks.set(task, facts);
     }
 
     pub fn is_runnable(&self, task: u16) -> bool

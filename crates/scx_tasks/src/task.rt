@@ -1,3 +1,6 @@
+ghost use Rattle.std.specs.Prelude.{◌≡◌};
+ghost use Rattle.scx_tasks.specs.Waits.{time_since};
+
 /// The slice of a task at the start, and where nothing else is said, in nanoseconds.
 pub const DEFAULT_SLICE: u64 = 20_000_000;
 
@@ -36,4 +39,14 @@ impl Task {
         run_ns: 0,
         builtin: 0,
     };
+
+    /// How long it has waited at that clock; 0 where it isn't waiting.
+    pub fn wait(&self, clock: u64) -> u64
+        ensures { result ≡ time_since clock self.now.since }
+    {
+        match self.since {
+            Some(since) => clock.saturating_sub(since),
+            None => 0,
+        }
+    }
 }
