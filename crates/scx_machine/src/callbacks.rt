@@ -186,7 +186,8 @@ impl Machine {
         ensures answered { AreAnswered (ejected_for fault self.old).calls }
     {
         if let Some(fault) = fault {
-            self.eject(Eject::Fault(fault, self.world.clock()), sink);
+            let clock = self.world.clock();
+            self.eject(Eject::Fault(fault, clock), sink);
         }
     }
 
@@ -219,7 +220,8 @@ impl Machine {
             &mut self.world,
         );
         flush(&mut self.world, sink);
-        self.eject_for(self.fault(callback, answer), sink);
+        let fault = self.fault(callback, answer);
+        self.eject_for(fault, sink);
         answer
     }
 }

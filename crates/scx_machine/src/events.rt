@@ -274,7 +274,8 @@ impl Machine {
     {
         self.world.advance();
         if let Some(task) = self.overdue() {
-            self.eject(Eject::Stall(task, self.world.clock()), sink);
+            let clock = self.world.clock();
+            self.eject(Eject::Stall(task, clock), sink);
         }
     }
 

@@ -1,4 +1,5 @@
 pub mod Entering
+pub mod Waiting
 pub mod Sound
 pub mod Skeleton
 pub mod Fine

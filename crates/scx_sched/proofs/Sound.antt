@@ -1,5 +1,5 @@
 -- What each small step of a world keeps of "exactly once", and of what it rests on.
-use Rattle.std.proofs.Common.{◌≡◌, ℕ, suc, ◌+◌, ◌-◌, ◌<◌, ◌≤◌, Bool, true, false, ◌==◌, nat_lt, nat_le, ◌&&◌, ◌⊎◌, inl, inr, cond, if◌then◌else◌, List, [], ◌∷◌, length, set, get_or, map, Option, Some, None, is_some, is_none, refl, sym, ◌∙◌, ap, subst, arith, position}
+use Rattle.std.proofs.Common.{◌≡◌, ℕ, suc, ◌+◌, ◌-◌, ◌<◌, ◌≤◌, Bool, true, false, ◌==◌, nat_lt, nat_le, ◌&&◌, ◌||◌, ◌⊎◌, inl, inr, cond, if◌then◌else◌, List, [], ◌∷◌, length, set, get_or, map, Option, Some, None, is_some, is_none, refl, sym, ◌∙◌, ap, subst, arith, position}
 use Rattle.std.proofs.lemmas.Bool.{cases_eq, cases_lt, eq-eqb, ne_eqb, lt-ltb}
 use Rattle.std.proofs.lemmas.Bool.Decides.{nat_tests}
 use Rattle.std.proofs.lemmas.List.{length-set, get_or-set_same, get_or-set_other, get_or_past, set_past}
@@ -31,12 +31,15 @@ use Rattle.scx_world.specs.declared.call.Insert.{Insert}
 use Rattle.scx_world.specs.declared.notes.What.{What}
 use Rattle.scx_world.specs.declared.faults.Fault.{Fault}
 use Rattle.scx_world.specs.declared.faults.Fault.TheVariants.{NoSuchQueue, CannotInsert, NoSuchCpu, UnknownFlag, CannotCreate, BuiltinVtime, Mixed}
-use Rattle.scx_world.specs.Ids.{global, local, held, local_on, policy_end}
-use Rattle.scx_world.specs.World.{WorldState, with_queues, with_tree, with_cycling, with_task, task_at, is_this, is_runnable, cpu_of, quiet, begun, noted}
+use Rattle.scx_world.specs.declared.eject.Eject.{Eject}
+use Rattle.scx_world.specs.Ids.{global, local, held, builtin, local_on, policy_end}
+use Rattle.scx_world.specs.Ejecting.{put_out, raised, put_builtin, evict, cut_task, overtaken, charged}
+use Rattle.scx_world.specs.World.{WorldState, with_queues, with_tree, with_cycling, with_task, task_at, waits, is_this, is_runnable, cpu_of, quiet, begun, noted}
 use Rattle.scx_world.specs.Tasks.{woken, asleep, gone, given_slice, given_vtime, given, entered, resolved, for_cpu, to_held, to_global, brought, fill_front, filled, local_len, stopped, started_at, renewed, kept, ran_a_tick, ticked, later}
 use Rattle.scx_world.specs.Helpers.{is_there, can_create, faulted, is_dispatch, is_held, may_insert_in, may_insert, queue_fault, is_vtime, rank_fault, or_fault, insert_fault, with_insert, with_move, released, inserted, asked, asked_by_vtime, can_move, moved, given_number, given_task, helper_after, stored_in, world_functions}
 use Rattle.scx_sched.specs.Once.{runs, appearances, IsOnce, HasQueues, sort_of, IsSorted, IsAlike, IsOpen, IsSound, GoesSomewhere}
 use Rattle.scx_sched.specs.Kept.{IsWanted, ForAny, Nowhere, Inserted}
+use Rattle.scx_sched.proofs.Waiting.{one_same, waits_sum, waits_by_sum, since_set, stored_since, given_since, renewed_since, waits_at_hand, waits_asleep, waits_on_cpu}
 use Rattle.scx_sched.proofs.Entering.{keeps_if, nowhere, sorted_pushed, sorted_popped, sorted_removed, own_open, alike_from, is_accepted, Stay, stay_pushed, stay_without, stay_removed, stay_created, queues_stay, open_without, open_removed, open_created, open_own, open_same, goes_on, local_sort, low_fits}
 
 -- ---- changes of queues, tasks and the callback at hand
@@ -73,19 +76,20 @@ module _ (hand : Option ℕ) (on : List (Option ℕ)) (n : ℕ) where
     once = λ u. omega (arith, same u, h.once u);
     here = h.here;
     goes = goes;
+    waiting = λ u. h.waiting u ∙ ap (λ b. b || is_this u hand) (one_same (waits w u) (is_some (entry_of s u)) (sym (same u)));
     at_once = h.at_once;
   }
 
-  sound_task : (w : WorldState) (t : ℕ) (x : Task) → x.prev_cpu ≡ (task_at w t).prev_cpu → IsSound hand on n w → IsSound hand on n (with_task w t x)
-  sound_task w t x home h = record { cpus = h.cpus; tasks = length-set w.tasks t x ∙ h.tasks; even = h.even; flags = h.flags; homes = homes_set w.tasks t x (length on) (rw home (h.homes t)) h.homes; queues = h.queues; sorted = h.sorted; once = h.once; here = h.here; goes = h.goes; at_once = h.at_once }
+  sound_task : (w : WorldState) (t : ℕ) (x : Task) → x.prev_cpu ≡ (task_at w t).prev_cpu → x.since ≡ (task_at w t).since → IsSound hand on n w → IsSound hand on n (with_task w t x)
+  sound_task w t x home since h = record { cpus = h.cpus; tasks = length-set w.tasks t x ∙ h.tasks; even = h.even; flags = h.flags; homes = homes_set w.tasks t x (length on) (rw home (h.homes t)) h.homes; queues = h.queues; sorted = h.sorted; once = h.once; here = h.here; goes = h.goes; waiting = λ u. ap is_some (since_set w.tasks t x since u) ∙ h.waiting u; at_once = h.at_once }
 
   -- notes that are handed on
   pub sound_quiet : (w : WorldState) → IsSound hand on n w → IsSound hand on n (quiet w)
-  sound_quiet w h = record { cpus = h.cpus; tasks = h.tasks; even = h.even; flags = h.flags; homes = h.homes; queues = h.queues; sorted = h.sorted; once = h.once; here = h.here; goes = h.goes; at_once = h.at_once }
+  sound_quiet w h = record { cpus = h.cpus; tasks = h.tasks; even = h.even; flags = h.flags; homes = h.homes; queues = h.queues; sorted = h.sorted; once = h.once; here = h.here; goes = h.goes; waiting = h.waiting; at_once = h.at_once }
 
   -- a cycle that begins or ends
   pub sound_cycling : (w : WorldState) (o : Option ℕ) → IsSound hand on n w → IsSound hand on n (with_cycling w o)
-  sound_cycling w o h = record { cpus = h.cpus; tasks = h.tasks; even = h.even; flags = h.flags; homes = h.homes; queues = h.queues; sorted = h.sorted; once = h.once; here = h.here; goes = h.goes; at_once = h.at_once }
+  sound_cycling w o h = record { cpus = h.cpus; tasks = h.tasks; even = h.even; flags = h.flags; homes = h.homes; queues = h.queues; sorted = h.sorted; once = h.once; here = h.here; goes = h.goes; waiting = h.waiting; at_once = h.at_once }
 
   sound_created : (w : WorldState) (q : ℕ) → IsSound hand on n w → IsSound hand on n (with_queues w (created w.queues q))
   sound_created w q h =
@@ -231,36 +235,43 @@ inside n w t within e = let l : t < length w.tasks = rw e within in grind (arith
 
 module _ (hand : Option ℕ) (on : List (Option ℕ)) (n : ℕ) where
   sound_faulted : (w : WorldState) (f : Fault) → IsSound hand on n w → IsSound hand on n (faulted w f)
-  sound_faulted w f h = record { cpus = h.cpus; tasks = h.tasks; even = h.even; flags = h.flags; homes = h.homes; queues = h.queues; sorted = h.sorted; once = h.once; here = h.here; goes = h.goes; at_once = h.at_once }
+  sound_faulted w f h = record { cpus = h.cpus; tasks = h.tasks; even = h.even; flags = h.flags; homes = h.homes; queues = h.queues; sorted = h.sorted; once = h.once; here = h.here; goes = h.goes; waiting = h.waiting; at_once = h.at_once }
 
-  -- a held task goes from one queue to another
-  sound_released : (w : WorldState) (t : ℕ) (q : ℕ) (i : Insert) → w.call.insert ≡ None → IsHeld w t → IsOpen w.queues q i.rank → IsSound hand on n w → IsSound hand on n (entered (gone w t) t (record { queue = q; slice = i.slice; rank = i.rank }))
-  sound_released w t q i none held-here ready h = rw (inside n w t (subst (λ k. t < k) h.even held-here.known) h.tasks)
-      (sound_task hand on n (with_queues w s') t (given (task_at w t) (record { queue = q; slice = i.slice; rank = i.rank })) (given_home (task_at w t) (record { queue = q; slice = i.slice; rank = i.rank })) moved-now)
+  -- a task goes from one queue to another
+  sound_replaced : (w : WorldState) (t q : ℕ) (r : Rank) (x : Task) → x.prev_cpu ≡ (task_at w t).prev_cpu → x.since ≡ (task_at w t).since → is_some (entry_of w.queues t) ≡ true → t < task_count w.queues → entry_of (removed w.queues t) t ≡ None → IsOpen w.queues q r
+      → GoesSomewhere (pushed (removed w.queues t) q t r) (length on) w.call.insert → IsSound hand on n w → IsSound hand on n (with_queues (with_task w t x) (pushed (removed w.queues t) q t r))
+  sound_replaced w t q r x home since waits-here known free ready goes h = sound_task hand on n (with_queues w s') t x home since moved-now
     where
       s : QueueState
       s = removed w.queues t
 
       s' : QueueState
-      s' = pushed s q t i.rank
+      s' = pushed s q t r
 
-      ready' : IsOpen s q i.rank
-      ready' = open_removed w.queues t q i.rank ready
+      ready' : IsOpen s q r
+      ready' = open_removed w.queues t q r ready
 
-      ok : push_refusal s q t i.rank ≡ None
-      ok = is_accepted s t q i.rank held-here.free ready'
+      ok : push_refusal s q t r ≡ None
+      ok = is_accepted s t q r free ready'
 
       known' : t < task_count s
-      known' = rw (tasks_removed w.queues t) held-here.known
+      known' = rw (tasks_removed w.queues t) known
 
       moved-now : IsSound hand on n (with_queues w s')
       moved-now =
-          sound_queues hand on n w s' (λ x g. stay_pushed s q t i.rank x (stay_removed w.queues t x g)) (sorted_pushed s q t i.rank ready'.fits (sorted_removed w.queues t h.sorted)) (tasks_pushed s q t i.rank ∙ tasks_removed w.queues t)
-          (λ u. omega (arith, standing_pushed s q t u i.rank known' ok, standing_removed w.queues t u held-here.waits)) (subst (λ o. GoesSomewhere s' (length on) o) (sym none) tt) h
+          sound_queues hand on n w s' (λ y g. stay_pushed s q t r y (stay_removed w.queues t y g)) (sorted_pushed s q t r ready'.fits (sorted_removed w.queues t h.sorted)) (tasks_pushed s q t r ∙ tasks_removed w.queues t)
+          (λ u. omega (arith, standing_pushed s q t u r known' ok, standing_removed w.queues t u waits-here)) goes h
+
+  -- a held task
+  sound_released : (w : WorldState) (t : ℕ) (q : ℕ) (i : Insert) → w.call.insert ≡ None → IsHeld w t → IsOpen w.queues q i.rank → IsSound hand on n w → IsSound hand on n (entered (gone w t) t (record { queue = q; slice = i.slice; rank = i.rank }))
+  sound_released w t q i none held-here ready h =
+      let k = record { queue = q; slice = i.slice; rank = i.rank } in
+      rw (inside n w t (subst (λ k. t < k) h.even held-here.known) h.tasks)
+      (sound_replaced w t q i.rank (given (task_at w t) k) (given_home (task_at w t) k) (given_since (task_at w t) k) held-here.waits held-here.known held-here.free ready (subst (λ o. GoesSomewhere (pushed (removed w.queues t) q t i.rank) (length on) o) (sym none) tt) h)
 
   -- what isn't of queues or tasks
   sound_moving : (w : WorldState) (x : What) → IsSound hand on n w → IsSound hand on n (noted (with_move w) x)
-  sound_moving w x h = record { cpus = h.cpus; tasks = h.tasks; even = h.even; flags = h.flags; homes = h.homes; queues = h.queues; sorted = h.sorted; once = h.once; here = h.here; goes = h.goes; at_once = h.at_once }
+  sound_moving w x h = record { cpus = h.cpus; tasks = h.tasks; even = h.even; flags = h.flags; homes = h.homes; queues = h.queues; sorted = h.sorted; once = h.once; here = h.here; goes = h.goes; waiting = h.waiting; at_once = h.at_once }
 
   sound_inserted : (w : WorldState) (o : Option Fault) (t : Option ℕ) (i : Insert) → (o ≡ None → IsFit w t i) → IsSound hand on n w → IsSound hand on n (inserted w o t i)
   sound_inserted w None t i fine h = go (is_dispatch w.call.callback) refl t (fine refl)
@@ -270,7 +281,7 @@ module _ (hand : Option ℕ) (on : List (Option ℕ)) (n : ℕ) where
       go true x (Some u) fit =
           sound_moving (entered (gone w u) u (for_cpu w.call.cpu i)) _
           (sound_released w u (resolved w.call.cpu i.queue) i (h.at_once x) (held_waits w u (held_in_dispatch w (Some u) x fit.may)) (fit_open on hand n w (Some u) i w.call.cpu h.here fit h) h)
-      go false x u fit = record { cpus = h.cpus; tasks = h.tasks; even = h.even; flags = h.flags; homes = h.homes; queues = h.queues; sorted = h.sorted; once = h.once; here = h.here; goes = λ c l. fit_open on hand n w u i c l fit h; at_once = λ y. absurd (cc (sym x ∙ y)) }
+      go false x u fit = record { cpus = h.cpus; tasks = h.tasks; even = h.even; flags = h.flags; homes = h.homes; queues = h.queues; sorted = h.sorted; once = h.once; here = h.here; goes = λ c l. fit_open on hand n w u i c l fit h; waiting = h.waiting; at_once = λ y. absurd (cc (sym x ∙ y)) }
   sound_inserted w (Some f) t i fine h = sound_faulted w f h
 
   sound_moved : (w : WorldState) (o : Option ℕ) (q : ℕ) → front_of w.queues q ≡ o → IsSound hand on n w → IsSound hand on n (moved w o q)
@@ -294,11 +305,11 @@ module _ (hand : Option ℕ) (on : List (Option ℕ)) (n : ℕ) where
   pub sound_query : (w : WorldState) (q : Query) → IsSound hand on n w → IsSound hand on n (after_query world_functions w q)
   sound_query w (Call f a) h = sound_helper w f (map argument_of a) h
   sound_query w (Load t f) h = h
-  sound_query w (Store t f k) h = sound_task hand on n w t.0 (stored_in (task_at w t.0) f k) (stored_home (task_at w t.0) f k) h
+  sound_query w (Store t f k) h = sound_task hand on n w t.0 (stored_in (task_at w t.0) f k) (stored_home (task_at w t.0) f k) (stored_since (task_at w t.0) f k) h
 
   -- a callback that begins
   pub sound_begun : (w : WorldState) (b : Callback) (t c : ℕ) → c < length on → IsSound hand on n w → IsSound hand on n (begun w b t c)
-  sound_begun w b t c l h = record { cpus = h.cpus; tasks = h.tasks; even = h.even; flags = h.flags; homes = h.homes; queues = h.queues; sorted = h.sorted; once = h.once; here = l; goes = tt; at_once = λ e. refl }
+  sound_begun w b t c l h = record { cpus = h.cpus; tasks = h.tasks; even = h.even; flags = h.flags; homes = h.homes; queues = h.queues; sorted = h.sorted; once = h.once; here = l; goes = tt; waiting = h.waiting; at_once = λ e. refl }
 
 -- ---- the task at hand comes to wait
 
@@ -309,26 +320,30 @@ renewed_home : (x : Task) → (renewed x).prev_cpu ≡ x.prev_cpu
 renewed_home x = keeps_if (λ (y : Task). y.prev_cpu ≡ x.prev_cpu) (x.slice == 0) _ x refl refl
 
 module _ (on : List (Option ℕ)) (n : ℕ) where
-  sound_enters : (w : WorldState) (t : ℕ) (i : Insert) → t < n → IsOpen w.queues i.queue i.rank → GoesSomewhere (pushed w.queues i.queue t i.rank) (length on) w.call.insert → IsSound (Some t) on n w → IsSound None on n (entered w t i)
-  sound_enters w t i within ready goes h =
-      let q = i.queue in
-      let r = i.rank in
-      let x = given (task_at w t) i in
+  -- with another record
+  sound_placed : (w : WorldState) (t q : ℕ) (r : Rank) (x : Task) → x.prev_cpu ≡ (task_at w t).prev_cpu → x.since ≡ (task_at w t).since → t < n → IsOpen w.queues q r → GoesSomewhere (pushed w.queues q t r) (length on) w.call.insert → IsSound (Some t) on n w
+      → IsSound None on n (with_queues (with_task w t x) (pushed w.queues q t r))
+  sound_placed w t q r x home since within ready goes h =
       let known : t < task_count w.queues = rw h.even within in
       let ok : push_refusal w.queues q t r ≡ None = is_accepted w.queues t q r (nowhere w t h.once) ready in
-      rw (inside n w t within h.tasks) record {
+      record {
         cpus = h.cpus;
         tasks = length-set w.tasks t x ∙ h.tasks;
         even = tasks_pushed w.queues q t r ∙ h.even;
         flags = h.flags;
-        homes = homes_set w.tasks t x (length on) (rw (given_home (task_at w t) i) (h.homes t)) h.homes;
+        homes = homes_set w.tasks t x (length on) (rw home (h.homes t)) h.homes;
         queues = queues_stay w.queues (pushed w.queues q t r) (length on) (stay_pushed w.queues q t r) h.queues;
         sorted = sorted_pushed w.queues q t r ready.fits h.sorted;
         once = once_pushed w t q r known ok h.once;
         here = h.here;
         goes = goes;
+        waiting = waits_by_sum None (with_queues (with_task w t x) (pushed w.queues q t r)) (λ u. omega (arith, ap (λ o. one_if (is_some o)) (since_set w.tasks t x since u), waits_sum (Some t) w h.once h.waiting u, standing_pushed w.queues q t u r known ok));
         at_once = h.at_once;
       }
+
+  sound_enters : (w : WorldState) (t : ℕ) (i : Insert) → t < n → IsOpen w.queues i.queue i.rank → GoesSomewhere (pushed w.queues i.queue t i.rank) (length on) w.call.insert → IsSound (Some t) on n w → IsSound None on n (entered w t i)
+  sound_enters w t i within ready goes h =
+      rw (inside n w t within h.tasks) (sound_placed w t i.queue i.rank (given (task_at w t) i) (given_home (task_at w t) i) (given_since (task_at w t) i) within ready goes h)
 
   -- into one of the machine's own queues
   sound_enters_own : (w : WorldState) (t : ℕ) (i : Insert) → t < n → exists w.queues i.queue ≡ true → policy_end ≤ i.queue → same_sort i.rank (sort_of i.queue) ≡ true → IsSound (Some t) on n w → IsSound None on n (entered w t i)
@@ -372,19 +387,19 @@ module _ (on : List (Option ℕ)) (n : ℕ) where
 
   -- a task that is kept
   pub sound_kept : (w : WorldState) (t : ℕ) → IsSound None on n w → IsSound None on n (kept w (Some t))
-  sound_kept w t h = sound_task None on n w t (renewed (task_at w t)) (renewed_home (task_at w t)) h
+  sound_kept w t h = sound_task None on n w t (renewed (task_at w t)) (renewed_home (task_at w t)) (renewed_since (task_at w t)) h
 
   -- a tick
   pub sound_ticked : (w : WorldState) (t : ℕ) → IsSound None on n w → IsSound None on n (ticked w t)
-  sound_ticked w t h = sound_task None on n w t (ran_a_tick (task_at w t)) refl h
+  sound_ticked w t h = sound_task None on n w t (ran_a_tick (task_at w t)) refl refl h
 
   -- a clock that goes on
   pub sound_later : (w : WorldState) → IsSound None on n w → IsSound None on n (later w)
-  sound_later w h = record { cpus = h.cpus; tasks = h.tasks; even = h.even; flags = h.flags; homes = h.homes; queues = h.queues; sorted = h.sorted; once = h.once; here = h.here; goes = h.goes; at_once = h.at_once }
+  sound_later w h = record { cpus = h.cpus; tasks = h.tasks; even = h.even; flags = h.flags; homes = h.homes; queues = h.queues; sorted = h.sorted; once = h.once; here = h.here; goes = h.goes; waiting = h.waiting; at_once = h.at_once }
 
   -- a weight
   pub sound_with_weight : (w : WorldState) (g x : ℕ) → IsSound None on n w → IsSound None on n (with_tree w (tree.with_weight w.tree g x))
-  sound_with_weight w g x h = record { cpus = h.cpus; tasks = h.tasks; even = h.even; flags = h.flags; homes = h.homes; queues = h.queues; sorted = h.sorted; once = h.once; here = h.here; goes = h.goes; at_once = h.at_once }
+  sound_with_weight w g x h = record { cpus = h.cpus; tasks = h.tasks; even = h.even; flags = h.flags; homes = h.homes; queues = h.queues; sorted = h.sorted; once = h.once; here = h.here; goes = h.goes; waiting = h.waiting; at_once = h.at_once }
 
   -- who leaves its processor is in no place
   pub sound_stopped : (w : WorldState) (c t : ℕ) → c < length on → t < n → get_or on c None ≡ Some t → IsSound None on n w → IsSound (Some t) (set on c None) n (stopped w c t)
@@ -399,6 +414,7 @@ module _ (on : List (Option ℕ)) (n : ℕ) where
     once = λ u. omega (arith, h.once u, here u, sum_by-set (λ o. one_if (is_this u o)) w.cpus c None None l');
     here = rw (length-set on c None) h.here;
     goes = subst (λ k. GoesSomewhere w.queues k w.call.insert) (sym (length-set on c None)) h.goes;
+    waiting = waits_at_hand w t w.clock _ (rw h.tasks within) refl h.waiting;
     at_once = h.at_once;
   }
     where
@@ -421,9 +437,13 @@ module _ (on : List (Option ℕ)) (n : ℕ) where
     once = λ u. omega (arith, h.once u, ap (λ o. one_if (is_this u o)) free', sum_by-set (λ o. one_if (is_this u o)) w.cpus c (Some t) None l', standing_popped w.queues (local_on c) t u e);
     here = rw same h.here;
     goes = subst (λ k. GoesSomewhere (popped w.queues (local_on c)) k w.call.insert) (sym same) (goes_on w.queues (popped w.queues (local_on c)) (length on) w.call.insert (λ x k o. open_without w.queues (front_of w.queues (local_on c)) x k o) h.goes);
+    waiting = waits_on_cpu w (popped w.queues (local_on c)) t _ known refl (left_place w.queues (local_on c) t e) (λ u. standing_popped w.queues (local_on c) t u e) h.waiting;
     at_once = h.at_once;
   }
     where
+      known : t < length w.tasks
+      known = rw (h.tasks, ← h.even) (front_is_known w.queues (local_on c) (Some t) (sym e))
+
       same : length (set on c (Some t)) ≡ length on
       same = length-set on c (Some t)
 
@@ -473,6 +493,7 @@ module _ (on : List (Option ℕ)) (n : ℕ) where
     once = once_woken w t (rw h.flags within) asleep h.once;
     here = h.here;
     goes = h.goes;
+    waiting = waits_at_hand w t w.clock _ (rw h.tasks within) refl h.waiting;
     at_once = h.at_once;
   }
 
@@ -494,15 +515,16 @@ module _ (on : List (Option ℕ)) (n : ℕ) where
   pub sound_asleep : (w : WorldState) (t : ℕ) → t < n → IsSound (Some t) on n w → IsSound None on n (asleep w t)
   sound_asleep w t within h = rw (inside n w t within h.tasks) record {
     cpus = h.cpus;
-    tasks = h.tasks;
+    tasks = length-set w.tasks t _ ∙ h.tasks;
     even = h.even;
     flags = length-set w.tree.active t false ∙ h.flags;
-    homes = h.homes;
+    homes = homes_set w.tasks t _ (length on) (h.homes t) h.homes;
     queues = h.queues;
     sorted = h.sorted;
     once = once_asleep w t (rw h.flags within) h.once;
     here = h.here;
     goes = h.goes;
+    waiting = waits_asleep w t _ (rw h.tasks within) refl h.once h.waiting;
     at_once = h.at_once;
   }
 
@@ -519,6 +541,7 @@ module _ (on : List (Option ℕ)) (n : ℕ) where
     once = λ u. omega (arith, h.once u, standing_removed w.queues t u waiting);
     here = h.here;
     goes = goes_on w.queues (removed w.queues t) (length on) w.call.insert (λ x k o. open_removed w.queues t x k o) h.goes;
+    waiting = waits_by_sum (Some t) (gone w t) (λ u. omega (arith, waits_sum None w h.once h.waiting u, standing_removed w.queues t u waiting));
     at_once = h.at_once;
   }
     where
@@ -528,3 +551,63 @@ module _ (on : List (Option ℕ)) (n : ℕ) where
           go : (b : Bool) → is_some (entry_of w.queues t) ≡ b → one_if (is_some (entry_of w.queues t)) ≡ 1 → is_some (entry_of w.queues t) ≡ true
           go true e one = e
           go false e one = absurd (omega (arith, one, ap one_if e))
+
+-- ---- an ejection, and the built-in scheduler
+
+-- who was taken out of its queue waits nowhere
+pub removed_place : (s : QueueState) (t : ℕ) → is_some (entry_of s t) ≡ true → t < task_count s → entry_of (removed s t) t ≡ None
+removed_place s t waits-here known = rw waits-here (get_or-set_same {A = Option Entry} s.entries t None None known)
+
+-- who waits is a task that there is
+pub waits_known : (s : QueueState) (t : ℕ) → is_some (entry_of s t) ≡ true → t < task_count s
+waits_known s t e = go (cases_lt t (task_count s))
+  where
+    none : entry_of s t ≡ None → is_some (entry_of s t) ≡ true → ⊥
+    none x y = absurd (cc)
+
+    go : (t < task_count s) ⊎ (task_count s ≤ t) → t < task_count s
+    go (inl l) = l
+    go (inr past) = absurd (none (get_or_past {X = Option Entry} s.entries t None past) e)
+
+module _ (hand : Option ℕ) (on : List (Option ℕ)) (n : ℕ) where
+  -- what the callback at hand wanted is forgotten
+  pub sound_put_out : (w : WorldState) (x : Eject) → IsSound hand on n w → IsSound hand on n (put_out w x)
+  sound_put_out w x h = record { cpus = h.cpus; tasks = h.tasks; even = h.even; flags = h.flags; homes = h.homes; queues = h.queues; sorted = h.sorted; once = h.once; here = h.here; goes = tt; waiting = h.waiting; at_once = λ e. refl }
+
+  -- a task that waits goes over
+  pub sound_evict : (w : WorldState) (t : ℕ) → t < n → IsSound hand on n w → IsSound hand on n (evict w t)
+  sound_evict w t within h = go (waits w t) refl
+    where
+      r : Rank
+      r = Vtime (raised w t)
+
+      over : is_some (entry_of w.queues t) ≡ true → IsSound hand on n (put_builtin (gone w t) t)
+      over waits-here =
+          let known : t < task_count w.queues = rw h.even within in
+          rw (inside n w t within h.tasks)
+          (sound_replaced hand on n w t builtin r _ refl refl waits-here known (removed_place w.queues t waits-here known) (own_open w.queues builtin r h.queues.builtin (omega arith) refl h.sorted)
+          (goes_on w.queues (pushed (removed w.queues t) builtin t r) (length on) w.call.insert (λ x k o. open_own (removed w.queues t) builtin t r x k (omega arith) refl (open_removed w.queues t x k o)) h.goes) h)
+
+      go : (b : Bool) → is_some (entry_of w.queues t) ≡ b → IsSound hand on n (if b then put_builtin (gone w t) t else w)
+      go true e = over e
+      go false e = h
+
+  -- slices that are cut
+  pub sound_cut : (w : WorldState) (t : ℕ) → IsSound hand on n w → IsSound hand on n (cut_task (Some t) w)
+  sound_cut w t h = sound_task hand on n w t _ refl refl h
+
+  -- the clock of the built-in scheduler
+  pub sound_overtaken : (w : WorldState) (t : ℕ) → IsSound hand on n w → IsSound hand on n (overtaken w t)
+  sound_overtaken w t h = record { cpus = h.cpus; tasks = h.tasks; even = h.even; flags = h.flags; homes = h.homes; queues = h.queues; sorted = h.sorted; once = h.once; here = h.here; goes = h.goes; waiting = h.waiting; at_once = h.at_once }
+
+  -- its times
+  pub sound_charged : (w : WorldState) (t : ℕ) → IsSound hand on n w → IsSound hand on n (charged w t)
+  sound_charged w t h = sound_task hand on n w t _ refl refl h
+
+-- a task that is put under the built-in scheduler
+pub sound_put_builtin : (on : List (Option ℕ)) (n : ℕ) (w : WorldState) (t : ℕ) → t < n → IsSound (Some t) on n w → IsSound None on n (put_builtin w t)
+sound_put_builtin on n w t within h =
+    let r = Vtime (raised w t) in
+    rw (inside n w t within h.tasks)
+    (sound_placed on n w t builtin r _ refl refl within (own_open w.queues builtin r h.queues.builtin (omega arith) refl h.sorted)
+    (goes_on w.queues (pushed w.queues builtin t r) (length on) w.call.insert (λ x k o. open_own w.queues builtin t r x k (omega arith) refl o) h.goes) h)

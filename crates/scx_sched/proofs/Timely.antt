@@ -1,7 +1,9 @@
 -- No task waits too long while its policy is in force: each small step of a world keeps that.
-use Rattle.std.proofs.Common.{◌≡◌, ℕ, zero, suc, ◌+◌, ◌-◌, ◌<◌, ◌≤◌, ◌⊎◌, inl, inr, Bool, true, false, nat_lt, ◌==◌, List, length, set, get_or, map, Option, Some, None, is_some, cond, refl, sym, arith, ◌∙◌}
-use Rattle.std.proofs.lemmas.Bool.{cases_eq, cases_lt}
+use Rattle.std.proofs.Common.{◌≡◌, ℕ, zero, suc, ◌+◌, ◌-◌, ◌<◌, ◌≤◌, ◌⊎◌, inl, inr, Bool, true, false, nat_lt, ◌==◌, List, length, set, get_or, map, Option, Some, None, is_some, cond, refl, sym, subst, arith, ◌∙◌}
+use Rattle.std.proofs.lemmas.Bool.{cases_eq, cases_lt, lt-ltb}
 use Rattle.std.proofs.lemmas.Bool.Decides.{nat_tests}
+use Rattle.std.specs.List.{position, position_or_len}
+use Rattle.std.proofs.lemmas.List.Sums.{fails_before_first}
 use Rattle.std.proofs.lemmas.List.{length-set, get_or-set_same, get_or-set_other, get_or_past, set_past}
 use Rattle.scx_dsq.specs.Queues.{front_of}
 use Rattle.scx_dsq.specs.Calls.{created}
@@ -28,6 +30,7 @@ use Rattle.scx_world.specs.Helpers.{is_there, can_create, faulted, is_dispatch, 
 use Rattle.scx_world.specs.Waits.{first_overdue}
 use Rattle.scx_world.specs.Ejecting.{put_builtin}
 use Rattle.scx_sched.specs.Kept.{IsKeptBySteps}
+use Rattle.scx_sched.proofs.Waiting.{stored_since, given_since, renewed_since}
 use Rattle.scx_sched.proofs.Entering.{keeps_if}
 
 abbrev pub IsInTime : ℕ → WorldState → Type 0
@@ -57,25 +60,6 @@ module _ (limit n : ℕ) where
   -- a wait that goes on
   time_same : (w : WorldState) (t : ℕ) (x : Task) → x.since ≡ (task_at w t).since → AreInTime limit n w → AreInTime limit n (with_task w t x)
   time_same w t x same h = time_set w t x (λ force. rw same (h.1 force t)) h
-
-  stored_since : (x : Task) (f : Field) (k : ℕ) → (stored_in x f k).since ≡ x.since
-  stored_since x Pid k = refl
-  stored_since x Weight k = refl
-  stored_since x Slice k = refl
-  stored_since x DsqVtime k = refl
-  stored_since x PrevCpu k = refl
-  stored_since x Group k = refl
-  stored_since x RunNs k = refl
-
-  given_since : (x : Task) (i : Insert) → (given x i).since ≡ x.since
-  given_since x i = vtime i.rank ∙ keeps_if (λ (y : Task). y.since ≡ x.since) (i.slice == 0) x _ refl refl
-    where
-      vtime : (r : Rank) → (given_vtime (given_slice x i.slice) r).since ≡ (given_slice x i.slice).since
-      vtime Fifo = refl
-      vtime (Vtime k) = refl
-
-  renewed_since : (x : Task) → (renewed x).since ≡ x.since
-  renewed_since x = keeps_if (λ (y : Task). y.since ≡ x.since) (x.slice == 0) _ x refl refl
 
   -- ---- helpers
 
@@ -132,7 +116,7 @@ time_steps limit n = record {
   filled = λ m on w q c l h. time_brought limit n (fill_front w q c) w q c h;
   stopped = λ m on w c t l within runs h. time_set limit n w t _ (λ force. now_since w.clock limit) h;
   started = λ m on w c t l free front h. time_set limit n w t _ (λ force. none_since w.clock limit) h;
-  kept = λ m on w t h. time_same limit n w t (renewed (task_at w t)) (renewed_since limit n (task_at w t)) h;
+  kept = λ m on w t h. time_same limit n w t (renewed (task_at w t)) (renewed_since (task_at w t)) h;
   asleep = λ m on w t l h. keeps_if (AreInTime limit n) (nat_lt t (length w.tasks)) _ w (time_set limit n w t _ (λ force. none_since w.clock limit) h) h;
   put_out = λ m hand on w x h. (h.0, λ force. absurd (cc));
   evict = λ m hand on w t l h. keeps_if (AreInTime limit n) (waits w t) (put_builtin (gone w t) t) w (time_put_builtin limit n (gone w t) t h) h;
@@ -144,21 +128,27 @@ time_steps limit n = record {
 
 -- ---- the clock
 
--- where nobody is late, nobody is
-nobody_below : (j : ℕ) (w : WorldState) (limit : ℕ) → overdue_below j w limit ≡ None → (t : ℕ) → t < j → wait w t ≤ limit
-nobody_below zero w limit e t l = absurd (omega (arith, l))
-nobody_below (suc j) w limit e t l = go (overdue_below j w limit) (λ x d. nobody_below j w limit x t (omega (arith, l, d))) (nat_lt limit (wait w j)) refl (cases_eq t j) e
-  where
-    go : (o : Option ℕ) → (o ≡ None → (t ≡ j → ⊥) → wait w t ≤ limit) → (b : Bool) → nat_lt limit (wait w j) ≡ b → (t ≡ j) ⊎ (t ≡ j → ⊥) → or_this o (this_if b j) ≡ None → wait w t ≤ limit
-    go (Some u) f b x y z = absurd (cc)
-    go None f true x y z = absurd (cc)
-    go None f false x (inl is) z = rw is (grind (arith, nat_tests, x))
-    go None f false x (inr d) z = f refl d
+not_late : (now limit : ℕ) (o : Option ℕ) → is_late now limit o ≡ false → time_since now o ≤ limit
+not_late now limit None e = omega arith
+not_late now limit (Some n) e = grind (arith, nat_tests, e)
 
--- a task that there isn't doesn't wait
+none_found : (w : WorldState) (limit t : ℕ) → position (is_overdue w.clock limit) w.tasks ≡ None → t < length w.tasks → is_overdue w.clock limit (task_at w t) ≡ false
+none_found w limit t e l = fails_before_first (is_overdue w.clock limit) w.tasks t no_task (omega (arith, l, past (cases_lt (position_or_len (is_overdue w.clock limit) w.tasks) (length w.tasks))))
+  where
+    k : ℕ
+    k = position_or_len (is_overdue w.clock limit) w.tasks
+
+    some : Some k ≡ None → ⊥
+    some x = absurd (cc)
+
+    past : (k < length w.tasks) ⊎ (length w.tasks ≤ k) → length w.tasks ≤ k
+    past (inl m) = absurd (some (subst (λ b. cond b (Some k) None ≡ None) (lt-ltb k (length w.tasks) m) e))
+    past (inr m) = m
+
+-- where nobody is late, nobody waits too long; a task that there isn't doesn't wait
 pub nobody_late : (w : WorldState) (limit : ℕ) → first_overdue w limit ≡ None → (t : ℕ) → wait w t ≤ limit
 nobody_late w limit e t = go (cases_lt t (length w.tasks))
   where
     go : (t < length w.tasks) ⊎ (length w.tasks ≤ t) → wait w t ≤ limit
-    go (inl l) = nobody_below (length w.tasks) w limit e t l
+    go (inl l) = not_late w.clock limit (task_at w t).since (none_found w limit t e l)
     go (inr past) = rw (get_or_past w.tasks t no_task past) (none_since w.clock limit)
