@@ -16,78 +16,105 @@ use Rattle.scx_machine.specs.declared.events.Event.{Event}
 use Rattle.scx_machine.specs.declared.events.Event.TheVariants.{Wake, Sleep, Tick, Clock, SetWeight}
 use Rattle.scx_machine.specs.declared.events.Refused.TheVariants.{AlreadyRunnable, NotRunnable, UnknownTask, UnknownCpu}
 use Rattle.scx_machine.specs.Steps.{State, Stepped, with_world, stays, joined}
-use Rattle.scx_machine.specs.Callbacks.{call_back, answered_by, task_cpu_and_0, task_and_number}
-use Rattle.scx_machine.specs.Cycle.{cycle}
-use Rattle.scx_machine.specs.Events.{refusal, target, settled, settle, select, wake, sleep_from_cpu, sleep_from, sleep, count_down, tick_of, tick, happened}
+use Rattle.scx_machine.specs.Callbacks.{acting, call_back, answered_by, task_cpu_and_0}
+use Rattle.scx_machine.specs.Cycle.{stopping, cycle}
+use Rattle.scx_machine.specs.Events.{refusal, target, settled, settle, select, wake, sleep_from_cpu, sleep_from, sleep, count_down, tick_of, tick, overdue, stalled, clock, happened}
 use Rattle.scx_sched.specs.Once.{runs, IsSound}
 use Rattle.scx_sched.specs.Ranges.{IsFine}
 use Rattle.scx_sched.proofs.Entering.{keeps_if}
+use Rattle.scx_sched.specs.Kept.{IsKeptBySteps}
 use Rattle.scx_sched.proofs.Sound.{sound_woken, sound_gone, sound_ticked, sound_later, sound_with_weight}
-use Rattle.scx_sched.proofs.Skeleton.{keeps_call_back, keeps_settled, keeps_cycle}
-use Rattle.scx_sched.proofs.Fine.{range_task, fine_of, fine_steps}
+use Rattle.scx_sched.proofs.Skeleton.{keeps_eject, keeps_call_back, keeps_stopping, keeps_settled, keeps_cycle}
+use Rattle.scx_sched.proofs.Fine.{IsRange, range_of, range_task, range_same, fine_of, fine_steps}
 
--- with nobody at hand
-abbrev pub IsFineNow : ℕ → ℕ → WorldState → Type 0
-IsFineNow n e w = IsFine n e None w.cpus w
+-- What an event makes of a task before it comes to small steps. Whoever keeps these too keeps events; the fact
+-- says at least where each task is.
+pub record IsKeptByEvents (n : ℕ) (I : ℕ → Option ℕ → List (Option ℕ) → WorldState → Type 0) : Type 0 where
+  pub steps : IsKeptBySteps n I
+  pub sound : (m : ℕ) (hand : Option ℕ) (on : List (Option ℕ)) (w : WorldState) → I m hand on w → IsSound hand on n w
+  pub woken : (m : ℕ) (on : List (Option ℕ)) (w : WorldState) (t : ℕ) → t < n → is_runnable w t ≡ false → I m None on w → I m (Some t) on (woken w t)
+  pub gone : (m : ℕ) (on : List (Option ℕ)) (w : WorldState) (t : ℕ) → is_runnable w t ≡ true → cpu_of w t ≡ None → I m None on w → I m (Some t) on (gone w t)
 
-module _ (n e : ℕ) where
+-- ---- processors that there are
+
+idle_is_there : (m : ℕ) (w : WorldState) (c : ℕ) → idle_below m w ≡ Some c → c < m
+idle_is_there zero w c e = absurd (cc)
+idle_is_there (suc m) w c e = go (idle_below m w) (λ x. idle_is_there m w c x) (is_idle w m) e
+  where
+    go : (o : Option ℕ) → (o ≡ Some c → c < m) → (b : Bool) → or_this o (this_if b m) ≡ Some c → c < suc m
+    go (Some d) f b x = omega (arith, f x)
+    go None f true x = let is : m ≡ c = ap (λ o. or_else o m) x in omega (arith, is)
+    go None f false x = absurd (cc)
+
+choice_is_there : (w : WorldState) (t : ℕ) → (task_at w t).prev_cpu < length w.cpus → default_choice w t < length w.cpus
+choice_is_there w t home = go (is_idle w (task_at w t).prev_cpu) (first_idle w) refl
+  where
+    go : (b : Bool) (o : Option ℕ) → first_idle w ≡ o → (if b then (task_at w t).prev_cpu else or_else o (task_at w t).prev_cpu) < length w.cpus
+    go true o e = home
+    go false None e = home
+    go false (Some c) e = idle_is_there (length w.cpus) w c e
+
+target_is_there : (p : Option VerifiedProgram) (w : WorldState) (t : ℕ) (a : Option ℕ) → (task_at w t).prev_cpu < length w.cpus → target p w t a < length w.cpus
+target_is_there None w t a home = choice_is_there w t home
+target_is_there (Some p) w t None home = choice_is_there w t home
+target_is_there (Some p) w t (Some c) home = go (nat_lt c (length w.cpus)) refl
+  where
+    go : (b : Bool) → nat_lt c (length w.cpus) ≡ b → (if b then c else default_choice w t) < length w.cpus
+    go true x = grind (arith, nat_tests, x)
+    go false x = choice_is_there w t home
+
+idle_is_free : (w : WorldState) (c : ℕ) → is_idle w c ≡ true → get_or w.cpus c None ≡ None
+idle_is_free w c e = go (nat_lt c (length w.cpus)) (get_or w.cpus c None) (not (is_this c w.cycling)) e
+  where
+    go : (b : Bool) (o : Option ℕ) (d : Bool) → (b && is_none o && d) ≡ true → o ≡ None
+    go true None d e = refl
+    go true (Some t) d e = absurd (cc)
+    go false o d e = absurd (cc)
+
+is_task : (t : ℕ) (o : Option ℕ) → is_this t o ≡ true → o ≡ Some t
+is_task t None e = absurd (cc)
+is_task t (Some u) e = let same : t ≡ u = grind (arith, nat_tests, e) in ap Some (sym same)
+
+-- who runs is a task that there is
+running_is_there : (n : ℕ) (w : WorldState) (c t : ℕ) → c < length w.cpus → get_or w.cpus c None ≡ Some t → IsSound None w.cpus n w → t < n
+running_is_there n w c t l at h = go (cases_lt t n)
+  where
+    one : one_if (is_this t (get_or w.cpus c None)) ≡ 1
+    one = rw (at, eq-eqb t t refl) refl
+
+    go : (t < n) ⊎ (n ≤ t) → t < n
+    go (inl l) = l
+    go (inr past) =
+        let none : is_runnable w t ≡ false = get_or_past w.tree.active t false (omega (arith, past, h.flags)) in
+        absurd (omega (arith, h.once t, ap one_if none, one, sum_by-set (λ o. one_if (is_this t o)) w.cpus c None None l))
+
+module _ (n : ℕ) (I : ℕ → Option ℕ → List (Option ℕ) → WorldState → Type 0) (k : IsKeptByEvents n I) where
   -- who runs where is what the world says
-  now : (w : WorldState) → (on : List (Option ℕ)) × IsFine n e None on w → IsFineNow n e w
-  now w (on, h) = subst (λ xs. IsFine n e None xs w) (sym h.sound.cpus) h
-
-  idle_is_there : (m : ℕ) (w : WorldState) (c : ℕ) → idle_below m w ≡ Some c → c < m
-  idle_is_there zero w c e = absurd (cc)
-  idle_is_there (suc m) w c e = go (idle_below m w) (λ x. idle_is_there m w c x) (is_idle w m) e
-    where
-      go : (o : Option ℕ) → (o ≡ Some c → c < m) → (b : Bool) → or_this o (this_if b m) ≡ Some c → c < suc m
-      go (Some d) f b x = omega (arith, f x)
-      go None f true x = let is : m ≡ c = ap (λ o. or_else o m) x in omega (arith, is)
-      go None f false x = absurd (cc)
-
-  choice_is_there : (w : WorldState) (t : ℕ) → (task_at w t).prev_cpu < length w.cpus → default_choice w t < length w.cpus
-  choice_is_there w t home = go (is_idle w (task_at w t).prev_cpu) (first_idle w) refl
-    where
-      go : (b : Bool) (o : Option ℕ) → first_idle w ≡ o → (if b then (task_at w t).prev_cpu else or_else o (task_at w t).prev_cpu) < length w.cpus
-      go true o e = home
-      go false None e = home
-      go false (Some c) e = idle_is_there (length w.cpus) w c e
-
-  target_is_there : (p : Option VerifiedProgram) (w : WorldState) (t : ℕ) (a : Option ℕ) → (task_at w t).prev_cpu < length w.cpus → target p w t a < length w.cpus
-  target_is_there None w t a home = choice_is_there w t home
-  target_is_there (Some p) w t None home = choice_is_there w t home
-  target_is_there (Some p) w t (Some c) home = go (nat_lt c (length w.cpus)) refl
-    where
-      go : (b : Bool) → nat_lt c (length w.cpus) ≡ b → (if b then c else default_choice w t) < length w.cpus
-      go true x = grind (arith, nat_tests, x)
-      go false x = choice_is_there w t home
-
-  idle_is_free : (w : WorldState) (c : ℕ) → is_idle w c ≡ true → get_or w.cpus c None ≡ None
-  idle_is_free w c e = go (nat_lt c (length w.cpus)) (get_or w.cpus c None) (not (is_this c w.cycling)) e
-    where
-      go : (b : Bool) (o : Option ℕ) (d : Bool) → (b && is_none o && d) ≡ true → o ≡ None
-      go true None d e = refl
-      go true (Some t) d e = absurd (cc)
-      go false o d e = absurd (cc)
+  pub keeps_now : (m : ℕ) (w : WorldState) → (on : List (Option ℕ)) × I m None on w → I m None w.cpus w
+  keeps_now m w (on, h) = subst (λ xs. I m None xs w) (sym (k.sound m None on w h).cpus) h
 
   -- ---- wake
 
-  fine_settle : (on : List (Option ℕ)) (s : State) (t c : ℕ) → t < n → c < length on → IsFine n e (Some t) on s.world → IsFineNow n e (settle s t c).state.world
+  keeps_settle : (m : ℕ) (on : List (Option ℕ)) (s : State) (t c : ℕ) → t < n → c < length on → I m (Some t) on s.world → I m None (settle s t c).state.world.cpus (settle s t c).state.world
   unfolding settle
-  fine_settle on s t c within l h = go (is_idle r.state.world c) refl
+  keeps_settle m on s t c within l h = go (is_idle r.state.world c) refl
     where
       r : Stepped
       r = settled s.world.call.insert s t c
 
-      put_now : IsFine n e None on r.state.world
-      put_now = keeps_settled n (IsFine n e) (fine_steps n e) on s.world.call.insert s t c refl within l h
+      put_now : I m None on r.state.world
+      put_now = keeps_settled n I k.steps m on s.world.call.insert s t c refl within l h
 
-      go : (b : Bool) → is_idle r.state.world c ≡ b → IsFineNow n e (if b then joined r (cycle r.state c None false) else r).state.world
-      go true idle = now _ (keeps_cycle n (IsFine n e) (fine_steps n e) on r.state c None false l tt (subst (λ (xs : List (Option ℕ)). get_or xs c None ≡ None) put_now.sound.cpus (idle_is_free r.state.world c idle)) put_now)
-      go false idle = now r.state.world (on, put_now)
+      free : is_idle r.state.world c ≡ true → get_or on c None ≡ None
+      free idle = subst (λ (xs : List (Option ℕ)). get_or xs c None ≡ None) (k.sound m None on r.state.world put_now).cpus (idle_is_free r.state.world c idle)
 
-  fine_select : (on : List (Option ℕ)) (s : State) (t : ℕ) → t < n → IsFine n e (Some t) on s.world → IsFineNow n e (select s t).state.world
+      go : (b : Bool) → is_idle r.state.world c ≡ b → I m None (if b then joined r (cycle r.state c None false) else r).state.world.cpus (if b then joined r (cycle r.state c None false) else r).state.world
+      go true idle = keeps_now m _ (keeps_cycle n I k.steps m on r.state c None false l tt (free idle) put_now)
+      go false idle = keeps_now m r.state.world (on, put_now)
+
+  keeps_select : (m : ℕ) (on : List (Option ℕ)) (s : State) (t : ℕ) → t < n → I m (Some t) on s.world → I m None (select s t).state.world.cpus (select s t).state.world
   unfolding select
-  fine_select on s t within h = fine_settle on r.state t (target (acting r.state callback.SelectCpu) r.state.world t a) within l x
+  keeps_select m on s t within h = keeps_settle m on r.state t (target (acting r.state callback.SelectCpu) r.state.world t a) within l x
     where
       c : ℕ
       c = (task_at s.world t).prev_cpu
@@ -98,25 +125,26 @@ module _ (n e : ℕ) where
       a : Option ℕ
       a = answered_by s callback.SelectCpu (task_cpu_and_0 t c) t c
 
-      x : IsFine n e (Some t) on r.state.world
-      x = keeps_call_back n (IsFine n e) (fine_steps n e) (Some t) on s callback.SelectCpu (task_cpu_and_0 t c) t c (h.sound.homes t) h
+      x : I m (Some t) on r.state.world
+      x = keeps_call_back n I k.steps m (Some t) on s callback.SelectCpu (task_cpu_and_0 t c) t c ((k.sound m (Some t) on s.world h).homes t) h
+
+      y : IsSound (Some t) on n r.state.world
+      y = k.sound m (Some t) on r.state.world x
 
       l : target (acting r.state callback.SelectCpu) r.state.world t a < length on
-      l = subst (λ (xs : List (Option ℕ)). target (acting r.state callback.SelectCpu) r.state.world t a < length xs) x.sound.cpus
-          (target_is_there (acting r.state callback.SelectCpu) r.state.world t a (rw x.sound.cpus (x.sound.homes t)))
+      l = subst (λ (xs : List (Option ℕ)). target (acting r.state callback.SelectCpu) r.state.world t a < length xs) y.cpus
+          (target_is_there (acting r.state callback.SelectCpu) r.state.world t a (rw y.cpus (y.homes t)))
 
-  fine_wake : (s : State) (t : ℕ) → t < n → is_runnable s.world t ≡ false → IsFineNow n e s.world → IsFineNow n e (wake s t).state.world
+  -- a task that wakes
+  pub keeps_wake : (m : ℕ) (s : State) (t : ℕ) → t < n → is_runnable s.world t ≡ false → I m None s.world.cpus s.world → I m None (wake s t).state.world.cpus (wake s t).state.world
   unfolding wake
-  fine_wake s t within resting h =
-      let w = with_world s (woken s.world t) in
-      let woke : IsSound (Some t) s.world.cpus n w.world = sound_woken s.world.cpus n s.world t within resting h.sound in
-      fine_select s.world.cpus w t within (fine_of n e (Some t) s.world.cpus w.world woke (range_task e s.world t _ (h.runs t) (h.clock, h.runs)))
+  keeps_wake m s t within resting h = keeps_select m s.world.cpus (with_world s (woken s.world t)) t within (k.woken m s.world.cpus s.world t within resting h)
 
   -- ---- sleep
 
-  fine_sleep_from_cpu : (s : State) (t c : ℕ) → t < n → c < length s.world.cpus → get_or s.world.cpus c None ≡ Some t → IsFineNow n e s.world → IsFineNow n e (sleep_from_cpu s t c).state.world
+  keeps_sleep_from_cpu : (m : ℕ) (s : State) (t c : ℕ) → t < n → c < length s.world.cpus → get_or s.world.cpus c None ≡ Some t → I m None s.world.cpus s.world → I (m + 1) None (sleep_from_cpu s t c).state.world.cpus (sleep_from_cpu s t c).state.world
   unfolding sleep_from_cpu
-  fine_sleep_from_cpu s t c within l runs h = now _ (keeps_cycle n (IsFine n e) (fine_steps n e) on d c None true l' tt (get_or-set_same s.world.cpus c None None l) down)
+  keeps_sleep_from_cpu m s t c within l runs h = keeps_now (m + 1) _ (keeps_cycle n I k.steps (m + 1) on d c None true l' tt (get_or-set_same s.world.cpus c None None l) down)
     where
       on : List (Option ℕ)
       on = set s.world.cpus c None
@@ -125,104 +153,146 @@ module _ (n e : ℕ) where
       l' = rw (length-set s.world.cpus c None) l
 
       r : Stepped
-      r = call_back (with_world s (stopped s.world c t)) callback.Stopping (task_and_number t 0) t c
+      r = stopping (with_world s (stopped s.world c t)) c t 0
 
       d : State
       d = with_world r.state (asleep r.state.world t)
 
-      off : IsFine n e (Some t) on r.state.world
-      off = keeps_call_back n (IsFine n e) (fine_steps n e) (Some t) on (with_world s (stopped s.world c t)) callback.Stopping (task_and_number t 0) t c l' ((fine_steps n e).stopped s.world.cpus s.world c t l within runs h)
+      off : I (m + 1) (Some t) on r.state.world
+      off = keeps_stopping n I k.steps m (Some t) on (with_world s (stopped s.world c t)) c t 0 l' (k.steps.stopped m s.world.cpus s.world c t l within runs h)
 
-      down : IsFine n e None on d.world
-      down = (fine_steps n e).asleep on r.state.world t within off
+      down : I (m + 1) None on d.world
+      down = k.steps.asleep (m + 1) on r.state.world t within off
 
-  fine_sleep : (s : State) (t : ℕ) → t < n → is_runnable s.world t ≡ true → IsFineNow n e s.world → IsFineNow n e (sleep s t).state.world
+  -- a task that goes to sleep
+  pub keeps_sleep : (m : ℕ) (s : State) (t : ℕ) → t < n → is_runnable s.world t ≡ true → I m None s.world.cpus s.world → I (m + 1) None (sleep s t).state.world.cpus (sleep s t).state.world
   unfolding sleep
-  fine_sleep s t within runnable h = go (cpu_of s.world t) refl
+  keeps_sleep m s t within runnable h = go (cpu_of s.world t) refl
     where
-      is : (o : Option ℕ) → is_this t o ≡ true → o ≡ Some t
-      is None e = absurd (cc)
-      is (Some u) e = let same : t ≡ u = grind (arith, nat_tests, e) in ap Some (sym same)
-
-      go : (o : Option ℕ) → cpu_of s.world t ≡ o → IsFineNow n e (sleep_from o s t).state.world
-      go None off = now _ (s.world.cpus, (fine_steps n e).asleep s.world.cpus (gone s.world t) t within (fine_of n e (Some t) s.world.cpus (gone s.world t) (sound_gone s.world.cpus n s.world t runnable off h.sound) (h.clock, h.runs)))
+      go : (o : Option ℕ) → cpu_of s.world t ≡ o → I (m + 1) None (sleep_from o s t).state.world.cpus (sleep_from o s t).state.world
+      go None off = keeps_now (m + 1) _ (s.world.cpus, k.steps.more m None s.world.cpus _ (k.steps.asleep m s.world.cpus (gone s.world t) t within (k.gone m s.world.cpus s.world t runnable off h)))
       go (Some c) at =
           let x = position-Some (is_this t) s.world.cpus c None at in
-          fine_sleep_from_cpu s t c within x.0 (is (get_or s.world.cpus c None) x.1) h
+          keeps_sleep_from_cpu m s t c within x.0 (is_task t (get_or s.world.cpus c None) x.1) h
 
   -- ---- tick
 
-  -- who runs is a task that there is
-  pub known_running : (w : WorldState) (c t : ℕ) → c < length w.cpus → get_or w.cpus c None ≡ Some t → IsFineNow n e w → t < n
-  known_running w c t l at h = go (cases_lt t n)
-    where
-      one : one_if (is_this t (get_or w.cpus c None)) ≡ 1
-      one = rw (at, eq-eqb t t refl) refl
+  keeps_cycle_now : (m : ℕ) (s : State) (c : ℕ) (p : Option ℕ) (ran : Bool) → c < length s.world.cpus → get_or s.world.cpus c None ≡ p → I m None s.world.cpus s.world → I (m + 1) None (cycle s c p ran).state.world.cpus (cycle s c p ran).state.world
+  keeps_cycle_now m s c None ran l at h = k.steps.more m None _ _ (keeps_now m _ (keeps_cycle n I k.steps m s.world.cpus s c None ran l tt at h))
+  keeps_cycle_now m s c (Some t) ran l at h = keeps_now (m + 1) _ (keeps_cycle n I k.steps m s.world.cpus s c (Some t) ran l (running_is_there n s.world c t l at (k.sound m None s.world.cpus s.world h)) at h)
 
-      go : (t < n) ⊎ (n ≤ t) → t < n
-      go (inl l) = l
-      go (inr past) =
-          let none : is_runnable w t ≡ false = get_or_past w.tree.active t false (omega (arith, past, h.sound.flags)) in
-          absurd (omega (arith, h.sound.once t, ap one_if none, one, sum_by-set (λ o. one_if (is_this t o)) w.cpus c None None l))
-
-  fine_cycle : (s : State) (c : ℕ) (p : Option ℕ) (ran : Bool) → c < length s.world.cpus → get_or s.world.cpus c None ≡ p → IsFineNow n e s.world → IsFineNow n e (cycle s c p ran).state.world
-  fine_cycle s c None ran l at h = now _ (keeps_cycle n (IsFine n e) (fine_steps n e) s.world.cpus s c None ran l tt at h)
-  fine_cycle s c (Some t) ran l at h = now _ (keeps_cycle n (IsFine n e) (fine_steps n e) s.world.cpus s c (Some t) ran l (known_running s.world c t l at h) at h)
-
-  fine_count_down : (s : State) (c t : ℕ) → c < length s.world.cpus → get_or s.world.cpus c None ≡ Some t → IsFineNow n e (ticked s.world t) → IsFineNow n e (count_down s c t).state.world
+  keeps_count_down : (m : ℕ) (s : State) (c t : ℕ) → c < length s.world.cpus → get_or s.world.cpus c None ≡ Some t → I m None s.world.cpus (ticked s.world t) → I (m + 1) None (count_down s c t).state.world.cpus (count_down s c t).state.world
   unfolding count_down
-  fine_count_down s c t l at h =
+  keeps_count_down m s c t l at h =
       let v = with_world s (ticked s.world t) in
-      keeps_if (λ (r : Stepped). IsFineNow n e r.state.world) ((task_at v.world t).slice == 0) (cycle v c (Some t) true) (stays v) (fine_cycle v c (Some t) true l at h) h
+      keeps_if (λ (r : Stepped). I (m + 1) None r.state.world.cpus r.state.world) ((task_at v.world t).slice == 0) (cycle v c (Some t) true) (stays v) (keeps_cycle_now m v c (Some t) true l at h) (k.steps.more m None v.world.cpus v.world h)
 
--- one more event was accepted
-pub one_more : (n e : ℕ) (w : WorldState) → IsFineNow n e w → IsFineNow n (e + 1) w
-one_more n e w h = record { sound = h.sound; clock = omega (arith, h.clock); runs = λ t. omega (arith, h.runs t) }
+  -- a processor that ran, where that a task has run is kept
+  pub keeps_tick : (m : ℕ) (s : State) (c : ℕ) → c < length s.world.cpus → I m None s.world.cpus s.world → ((t : ℕ) → I m None s.world.cpus (ticked s.world t)) → I (m + 1) None (tick s c).state.world.cpus (tick s c).state.world
+  unfolding tick
+  keeps_tick m s c l h ran = go (running s.world c) refl
+    where
+      go : (o : Option ℕ) → running s.world c ≡ o → I (m + 1) None (tick_of o s c).state.world.cpus (tick_of o s c).state.world
+      go None at = keeps_cycle_now m s c None false l at h
+      go (Some t) at = keeps_count_down m s c t l at (ran t)
 
--- the time that a task ran
-pub fine_ticked : (n e : ℕ) (w : WorldState) (t : ℕ) → IsFineNow n e w → IsFineNow n (e + 1) (ticked w t)
-fine_ticked n e w t h =
-    let more = one_more n e w h in
-    fine_of n (e + 1) None w.cpus (ticked w t) (sound_ticked w.cpus n w t h.sound) (range_task (e + 1) w t (ran_a_tick (task_at w t)) (omega (arith, h.runs t)) (more.clock, more.runs))
+  -- ---- the clock
 
-fine_tick : (n e : ℕ) (s : State) (c : ℕ) → c < length s.world.cpus → IsFineNow n e s.world → IsFineNow n (e + 1) (tick s c).state.world
-unfolding tick
-fine_tick n e s c l h = go (running s.world c) refl
+  -- where that the clock goes on is kept
+  pub keeps_clock : (m : ℕ) (s : State) → I m None s.world.cpus (later s.world) → I m None (clock s).state.world.cpus (clock s).state.world
+  unfolding clock
+  keeps_clock m s h = go (overdue v)
+    where
+      v : State
+      v = with_world s (later s.world)
+
+      go : (o : Option ℕ) → I m None (stalled o v).state.world.cpus (stalled o v).state.world
+      go None = h
+      go (Some t) = keeps_now m _ (v.world.cpus, keeps_eject n I k.steps m None v.world.cpus v _ h)
+
+-- ---- what an accepted event may be
+
+pub data IsTaken (s : State) : Event → Type 0 where
+  Wakes : (t : ℕ) → t < length s.world.tasks → is_runnable s.world t ≡ false → IsTaken s (Wake t)
+  Sleeps : (t : ℕ) → t < length s.world.tasks → is_runnable s.world t ≡ true → IsTaken s (Sleep t)
+  Ticks : (c : ℕ) → c < length s.world.cpus → IsTaken s (Tick c)
+  Clocks : IsTaken s Clock
+  Weighs : (g x : ℕ) → IsTaken s (SetWeight g x)
+
+pub is_taken : (s : State) (v : Event) → refusal s v ≡ None → IsTaken s v
+is_taken s (Wake t) ok = go (nat_lt t (length s.world.tasks)) (is_runnable s.world t) refl refl ok
   where
-    go : (o : Option ℕ) → running s.world c ≡ o → IsFineNow n (e + 1) (tick_of o s c).state.world
-    go None at = fine_cycle n (e + 1) s c None false l at (one_more n e s.world h)
-    go (Some t) at = fine_count_down n (e + 1) s c t l at (fine_ticked n e s.world t h)
-
-fine_later : (n e : ℕ) (w : WorldState) → IsFineNow n e w → IsFineNow n (e + 1) (later w)
-fine_later n e w h =
-    let more = one_more n e w h in
-    record { sound = sound_later w.cpus n w h.sound; clock = omega (arith, h.clock); runs = more.runs }
-
-fine_reweighed : (n e : ℕ) (w : WorldState) (g x : ℕ) → IsFineNow n e w → IsFineNow n e (reweighed w g x)
-fine_reweighed n e w g x h = go (is_none (weight_fault w.tree g x))
-  where
-    go : (b : Bool) → IsFineNow n e (if b then with_tree w (with_weight w.tree g x) else w)
-    go true = record { sound = sound_with_weight w.cpus n w g x h.sound; clock = h.clock; runs = h.runs }
-    go false = h
-
--- all events
-pub fine_step : (n e : ℕ) (s : State) (v : Event) → length s.world.tasks ≡ n → refusal s v ≡ None → IsFineNow n e s.world → IsFineNow n (e + 1) (happened s v).state.world
-fine_step n e s (Wake t) tasks ok h = go (nat_lt t (length s.world.tasks)) (is_runnable s.world t) refl refl ok
-  where
-    go : (a b : Bool) → nat_lt t (length s.world.tasks) ≡ a → is_runnable s.world t ≡ b → (if a then (if b then Some AlreadyRunnable else None) else Some UnknownTask) ≡ None → IsFineNow n (e + 1) (wake s t).state.world
+    go : (a b : Bool) → nat_lt t (length s.world.tasks) ≡ a → is_runnable s.world t ≡ b → (if a then (if b then Some AlreadyRunnable else None) else Some UnknownTask) ≡ None → IsTaken s (Wake t)
     go true true x y z = absurd (cc)
-    go true false x y z = let l : t < length s.world.tasks = grind (arith, nat_tests, x) in fine_wake n (e + 1) s t (omega (arith, l, tasks)) y (one_more n e s.world h)
+    go true false x y z = Wakes t (grind (arith, nat_tests, x)) y
     go false b x y z = absurd (cc)
-fine_step n e s (Sleep t) tasks ok h = go (nat_lt t (length s.world.tasks)) (is_runnable s.world t) refl refl ok
+is_taken s (Sleep t) ok = go (nat_lt t (length s.world.tasks)) (is_runnable s.world t) refl refl ok
   where
-    go : (a b : Bool) → nat_lt t (length s.world.tasks) ≡ a → is_runnable s.world t ≡ b → (if a then (if b then None else Some NotRunnable) else Some UnknownTask) ≡ None → IsFineNow n (e + 1) (sleep s t).state.world
-    go true true x y z = let l : t < length s.world.tasks = grind (arith, nat_tests, x) in fine_sleep n (e + 1) s t (omega (arith, l, tasks)) y (one_more n e s.world h)
+    go : (a b : Bool) → nat_lt t (length s.world.tasks) ≡ a → is_runnable s.world t ≡ b → (if a then (if b then None else Some NotRunnable) else Some UnknownTask) ≡ None → IsTaken s (Sleep t)
+    go true true x y z = Sleeps t (grind (arith, nat_tests, x)) y
     go true false x y z = absurd (cc)
     go false b x y z = absurd (cc)
-fine_step n e s (Tick c) tasks ok h = go (nat_lt c (length s.world.cpus)) refl ok
+is_taken s (Tick c) ok = go (nat_lt c (length s.world.cpus)) refl ok
   where
-    go : (a : Bool) → nat_lt c (length s.world.cpus) ≡ a → (if a then None else Some UnknownCpu) ≡ None → IsFineNow n (e + 1) (tick s c).state.world
-    go true x z = let l : c < length s.world.cpus = grind (arith, nat_tests, x) in fine_tick n e s c l h
+    go : (a : Bool) → nat_lt c (length s.world.cpus) ≡ a → (if a then None else Some UnknownCpu) ≡ None → IsTaken s (Tick c)
+    go true x z = Ticks c (grind (arith, nat_tests, x))
     go false x z = absurd (cc)
-fine_step n e s Clock tasks ok h = fine_later n e s.world h
-fine_step n e s (SetWeight g x) tasks ok h = fine_reweighed n (e + 1) s.world g x (one_more n e s.world h)
+is_taken s Clock ok = Clocks
+is_taken s (SetWeight g x) ok = Weighs g x
+
+-- ---- each task in its place, and numbers that grow no faster than they may
+
+-- with nobody at hand
+abbrev pub IsFineNow : ℕ → ℕ → ℕ → WorldState → Type 0
+IsFineNow n e m w = IsFine n e m None w.cpus w
+
+pub fine_events : (n e : ℕ) → IsKeptByEvents n (IsFine n e)
+fine_events n e = record {
+  steps = fine_steps n e;
+  sound = λ m hand on w h. h.sound;
+  woken = λ m on w t within resting h. fine_of n e m (Some t) on (woken w t) (sound_woken on n w t within resting h.sound) (range_same e m w t _ refl refl (range_of n e m None on w h));
+  gone = λ m on w t runnable off h. fine_of n e m (Some t) on (gone w t) (sound_gone on n w t runnable off h.sound) (range_of n e m None on w h);
+}
+
+-- one more event was accepted
+pub one_more : (n e m : ℕ) (w : WorldState) → IsFineNow n e m w → IsFineNow n (e + 1) m w
+one_more n e m w h = record { sound = h.sound; clock = omega (arith, h.clock); runs = λ t. omega (arith, h.runs t); times = h.times; builtin_clock = h.builtin_clock; not_yet = h.not_yet }
+
+-- the time that a task ran
+pub fine_ticked : (n e m : ℕ) (w : WorldState) (t : ℕ) → IsFineNow n e m w → IsFineNow n (e + 1) m (ticked w t)
+fine_ticked n e m w t h =
+    fine_of n (e + 1) m None w.cpus (ticked w t) (sound_ticked w.cpus n w t h.sound) (range_task (e + 1) m w t (ran_a_tick (task_at w t)) (omega (arith, h.runs t)) refl (range_of n (e + 1) m None w.cpus w (one_more n e m w h)))
+
+fine_later : (n e m : ℕ) (w : WorldState) → IsFineNow n e m w → IsFineNow n (e + 1) m (later w)
+fine_later n e m w h = record { sound = sound_later w.cpus n w h.sound; clock = omega (arith, h.clock); runs = λ t. omega (arith, h.runs t); times = h.times; builtin_clock = h.builtin_clock; not_yet = h.not_yet }
+
+fine_reweighed : (n e m : ℕ) (w : WorldState) (g x : ℕ) → IsFineNow n e m w → IsFineNow n e m (reweighed w g x)
+fine_reweighed n e m w g x h = go (is_none (weight_fault w.tree g x))
+  where
+    go : (b : Bool) → IsFineNow n e m (if b then with_tree w (with_weight w.tree g x) else w)
+    go true = record { sound = sound_with_weight w.cpus n w g x h.sound; clock = h.clock; runs = h.runs; times = h.times; builtin_clock = h.builtin_clock; not_yet = h.not_yet }
+    go false = h
+
+-- who runs is a task that there is
+pub known_running : (n e m : ℕ) (w : WorldState) (c t : ℕ) → c < length w.cpus → get_or w.cpus c None ≡ Some t → IsFineNow n e m w → t < n
+known_running n e m w c t l at h = running_is_there n w c t l at h.sound
+
+-- all events
+pub fine_step : (n e : ℕ) (s : State) (v : Event) → length s.world.tasks ≡ n → refusal s v ≡ None → IsFineNow n e e s.world → IsFineNow n (e + 1) (e + 1) (happened s v).state.world
+fine_step n e s v tasks ok h = go v (is_taken s v ok)
+  where
+    I : ℕ → Option ℕ → List (Option ℕ) → WorldState → Type 0
+    I = IsFine n (e + 1)
+
+    k : IsKeptByEvents n I
+    k = fine_events n (e + 1)
+
+    h' : IsFineNow n (e + 1) e s.world
+    h' = one_more n e e s.world h
+
+    go : (v : Event) → IsTaken s v → IsFineNow n (e + 1) (e + 1) (happened s v).state.world
+    go (Wake t) (Wakes t within resting) = k.steps.more e None _ _ (keeps_wake n I k e s t (omega (arith, within, tasks)) resting h')
+    go (Sleep t) (Sleeps t within runnable) = keeps_sleep n I k e s t (omega (arith, within, tasks)) runnable h'
+    go (Tick c) (Ticks c l) = keeps_tick n I k e s c l h' (λ t. fine_ticked n e e s.world t h)
+    go Clock Clocks = k.steps.more e None _ _ (keeps_clock n I k e s (fine_later n e e s.world h))
+    go (SetWeight g x) (Weighs g x) = k.steps.more e None _ _ (fine_reweighed n (e + 1) e s.world g x h')
