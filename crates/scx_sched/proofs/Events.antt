@@ -291,8 +291,8 @@ fine_step n e s v tasks ok h = go v (is_taken s v ok)
     h' = one_more n e e s.world h
 
     go : (v : Event) → IsTaken s v → IsFineNow n (e + 1) (e + 1) (happened s v).state.world
-    go (Wake t) (Wakes t within resting) = k.steps.more e None _ _ (keeps_wake n I k e s t (omega (arith, within, tasks)) resting h')
-    go (Sleep t) (Sleeps t within runnable) = keeps_sleep n I k e s t (omega (arith, within, tasks)) runnable h'
-    go (Tick c) (Ticks c l) = keeps_tick n I k e s c l h' (λ t. fine_ticked n e e s.world t h)
-    go Clock Clocks = k.steps.more e None _ _ (keeps_clock n I k e s (fine_later n e e s.world h))
-    go (SetWeight g x) (Weighs g x) = k.steps.more e None _ _ (fine_reweighed n (e + 1) e s.world g x h')
+    go _ (Wakes t within resting) = k.steps.more e None _ _ (keeps_wake n I k e s t (omega (arith, within, tasks)) resting h')
+    go _ (Sleeps t within runnable) = keeps_sleep n I k e s t (omega (arith, within, tasks)) runnable h'
+    go _ (Ticks c l) = keeps_tick n I k e s c l h' (λ t. fine_ticked n e e s.world t h)
+    go _ Clocks = k.steps.more e None _ _ (keeps_clock n I k e s (fine_later n e e s.world h))
+    go _ (Weighs g x) = k.steps.more e None _ _ (fine_reweighed n (e + 1) e s.world g x h')

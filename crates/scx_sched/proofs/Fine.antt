@@ -72,7 +72,7 @@ module _ (e m : ℕ) where
   range_task w t x new same r = range_set w t x new (rw same (r.2 t)) (λ force. same ∙ (r.4 force).1 t) r
 
   -- and that has run as long
-  range_same : (w : WorldState) (t : ℕ) (x : Task) → x.run_ns ≡ (task_at w t).run_ns → x.builtin ≡ (task_at w t).builtin → IsRange e m w → IsRange e m (with_task w t x)
+  pub range_same : (w : WorldState) (t : ℕ) (x : Task) → x.run_ns ≡ (task_at w t).run_ns → x.builtin ≡ (task_at w t).builtin → IsRange e m w → IsRange e m (with_task w t x)
   range_same w t x run same r = range_task w t x (rw run (r.1 t)) same r
 
   stored_run : (x : Task) (f : Field) (k : ℕ) → (stored_in x f k).run_ns ≡ x.run_ns

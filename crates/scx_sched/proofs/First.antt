@@ -14,18 +14,21 @@ use Rattle.scx_dsq.specs.Laws.{one_if}
 use Rattle.scx_semantics.specs.declared.callbacks.Callback.TheVariants as callback
 use Rattle.scx_weights.specs.Hierarchy.{Hierarchy, is_active_task}
 use Rattle.scx_weights.specs.Counting.{any_below}
-use Rattle.scx_world.specs.World.{is_this, begun}
+use Rattle.scx_world.specs.World.{WorldState, is_this, begun}
+use Rattle.scx_tasks.specs.declared.task.Task.{Task}
 use Rattle.scx_tasks.specs.Tasks.{no_task, new_task}
 use Rattle.scx_world.specs.First.{first_world}
-use Rattle.scx_machine.specs.Policy.{PolicyState, program_of}
+use Rattle.scx_machine.specs.Policy.{PolicyState}
 use Rattle.scx_machine.specs.Steps.{State}
-use Rattle.scx_machine.specs.Callbacks.{ended, no_arguments, one_task}
+use Rattle.scx_machine.specs.Callbacks.{acting, ended, no_arguments, one_task}
 use Rattle.scx_machine.specs.Start.{is_bad_shape, blank, init_ending, bad_answer, ok_unless, initialized, enable_ending, has_failed, enable, then_enable, enabled, ok_if, all_enabled, started}
 use Rattle.scx_sched.specs.Once.{runs, HasQueues}
 use Rattle.scx_sched.specs.Ranges.{IsFine}
+use Rattle.scx_sched.specs.Kept.{IsKeptBySteps}
 use Rattle.scx_sched.proofs.Entering.{keeps_if}
 use Rattle.scx_sched.proofs.Skeleton.{keeps_called}
 use Rattle.scx_sched.proofs.Fine.{fine_steps}
+use Rattle.scx_sched.proofs.Timely.{IsInTime, AreInTime, time_steps}
 use Rattle.scx_world.specs.First.{with_locals, own_queues, first_queues}
 
 or_false : (b : Bool) → (b || false) ≡ b
@@ -124,19 +127,25 @@ nowhere cpus tasks t = rw (first_places cpus tasks) (go (cases_lt t tasks))
 nobody_runs : (cpus t : ℕ) → runs (replicate cpus None) t ≡ 0
 nobody_runs cpus t = sum_by-replicate (λ o. one_if (is_this t o)) cpus None ∙ omega arith
 
-at_home : (n t : ℕ) → (get_or (replicate n new_task) t no_task).prev_cpu ≡ 0
-at_home n t = go (cases_lt t n)
+-- what is so of a new task, and of none, is so of each
+each_new : (P : Task → Type 0) (n t : ℕ) → P new_task → P no_task → P (get_or (replicate n new_task) t no_task)
+each_new P n t new none = go (cases_lt t n)
   where
-    go : (t < n) ⊎ (n ≤ t) → (get_or (replicate n new_task) t no_task).prev_cpu ≡ 0
-    go (inl l) = rw (get_or-replicate n t new_task no_task l) refl
-    go (inr past) = rw (get_or_past (replicate n new_task) t no_task (rw (length-replicate n new_task) past)) refl
+    go : (t < n) ⊎ (n ≤ t) → P (get_or (replicate n new_task) t no_task)
+    go (inl l) = rw (get_or-replicate n t new_task no_task l) new
+    go (inr past) = rw (get_or_past (replicate n new_task) t no_task (rw (length-replicate n new_task) past)) none
+
+at_home : (n t : ℕ) → (get_or (replicate n new_task) t no_task).prev_cpu ≡ 0
+at_home n t = each_new (λ x. x.prev_cpu ≡ 0) n t refl refl
 
 never_ran : (n t : ℕ) → (get_or (replicate n new_task) t no_task).run_ns ≡ 0
-never_ran n t = go (cases_lt t n)
-  where
-    go : (t < n) ⊎ (n ≤ t) → (get_or (replicate n new_task) t no_task).run_ns ≡ 0
-    go (inl l) = rw (get_or-replicate n t new_task no_task l) refl
-    go (inr past) = rw (get_or_past (replicate n new_task) t no_task (rw (length-replicate n new_task) past)) refl
+never_ran n t = each_new (λ x. x.run_ns ≡ 0) n t refl refl
+
+never_charged : (n t : ℕ) → (get_or (replicate n new_task) t no_task).builtin ≡ 0
+never_charged n t = each_new (λ x. x.builtin ≡ 0) n t refl refl
+
+never_waited : (n t : ℕ) → (get_or (replicate n new_task) t no_task).since ≡ None
+never_waited n t = each_new (λ x. x.since ≡ None) n t refl refl
 
 none_below : (n t : ℕ) (test : ℕ → Bool) → any_below n test ≡ false → t < n → test t ≡ false
 none_below zero t test none l = absurd (omega (arith, l))
@@ -161,7 +170,7 @@ has_shape tree cpus e = go (nat_lt cpus 1) (nat_lt 64 cpus) (any_below (length t
     go false true c x y z = absurd (cc)
     go true b c x y z = absurd (cc)
 
-first_is_fine : (tree : Hierarchy) (cpus : ℕ) → HasShape tree cpus → length tree.active ≡ length tree.homes → IsFine (length tree.homes) 0 None (replicate cpus None) (first_world tree cpus)
+first_is_fine : (tree : Hierarchy) (cpus : ℕ) → HasShape tree cpus → length tree.active ≡ length tree.homes → IsFine (length tree.homes) 0 0 None (replicate cpus None) (first_world tree cpus)
 first_is_fine tree cpus shape flags = record {
   sound = record {
     cpus = refl;
@@ -174,10 +183,14 @@ first_is_fine tree cpus shape flags = record {
     once = λ t. rw (nobody_runs cpus t, nowhere cpus (length tree.homes) t, sleeps t (cases_lt t (length tree.homes))) refl;
     here = rw (length-replicate {A = Option ℕ} cpus None) shape.some;
     goes = tt;
+    waiting = λ t. rw (never_waited (length tree.homes) t, nowhere cpus (length tree.homes) t) refl;
     at_once = λ e. refl;
   };
   clock = omega arith;
   runs = λ t. rw (never_ran (length tree.homes) t) (omega arith);
+  times = λ t. rw (never_charged (length tree.homes) t) (omega arith);
+  builtin_clock = omega arith;
+  not_yet = λ force. (refl, λ t. never_charged (length tree.homes) t);
 }
   where
     sleeps : (t : ℕ) → (t < length tree.homes) ⊎ (length tree.homes ≤ t) → is_active_task tree t ≡ false
@@ -192,51 +205,65 @@ same_ok a b e = cc
 same_some : (a b : State) → Some a ≡ Some b → a ≡ b
 same_some a b e = cc
 
-module _ (n : ℕ) (on : List (Option ℕ)) (some : 0 < length on) where
-  fine_initialized : (s t : State) → initialized s ≡ Ok t → IsFine n 0 None on s.world → IsFine n 0 None on t.world
+-- whatever small steps keep, init and enable keep
+module _ (n : ℕ) (I : ℕ → Option ℕ → List (Option ℕ) → WorldState → Type 0) (k : IsKeptBySteps n I) (on : List (Option ℕ)) (some : 0 < length on) where
+  keeps_initialized : (s t : State) → initialized s ≡ Ok t → I 0 None on s.world → I 0 None on t.world
   unfolding initialized
-  fine_initialized s t e h = go (bad_answer (init_ending s).outside.call.fault (init_ending s).answer) e
+  keeps_initialized s t e h = go (bad_answer (init_ending s).outside.call.fault (init_ending s).answer) e
     where
-      after : IsFine n 0 None on (ended s.policy (init_ending s)).world
-      after = (fine_steps n 0).quiet None on (init_ending s).outside
-          (keeps_called n (IsFine n 0) (fine_steps n 0) None on (program_of s.policy callback.Init) callback.Init no_arguments s.maps (begun s.world callback.Init 0 0) ((fine_steps n 0).begun None on s.world callback.Init 0 0 some h))
+      after : I 0 None on (ended s.policy (init_ending s)).world
+      after = k.quiet 0 None on (init_ending s).outside
+          (keeps_called n I k 0 None on (acting s callback.Init) callback.Init no_arguments s.maps (begun s.world callback.Init 0 0) (k.begun 0 None on s.world callback.Init 0 0 some h))
 
-      go : (o : Option ℤ) → ok_unless o (ended s.policy (init_ending s)) ≡ Ok t → IsFine n 0 None on t.world
-      go None e = subst (λ (x : State). IsFine n 0 None on x.world) (same_ok _ _ e) after
-      go (Some k) e = absurd (cc)
+      go : (o : Option ℤ) → ok_unless o (ended s.policy (init_ending s)) ≡ Ok t → I 0 None on t.world
+      go None e = subst (λ (x : State). I 0 None on x.world) (same_ok _ _ e) after
+      go (Some j) e = absurd (cc)
 
-  fine_enabled_one : (s t : State) (k : ℕ) → enable s k ≡ Some t → IsFine n 0 None on s.world → IsFine n 0 None on t.world
+  keeps_enabled_one : (s t : State) (j : ℕ) → enable s j ≡ Some t → I 0 None on s.world → I 0 None on t.world
   unfolding enable
-  fine_enabled_one s t k e h = go (has_failed (enable_ending s k)) e
+  keeps_enabled_one s t j e h = go (has_failed (enable_ending s j)) e
     where
-      after : IsFine n 0 None on (ended s.policy (enable_ending s k)).world
-      after = (fine_steps n 0).quiet None on (enable_ending s k).outside
-          (keeps_called n (IsFine n 0) (fine_steps n 0) None on (program_of s.policy callback.Enable) callback.Enable (one_task k) s.maps (begun s.world callback.Enable k 0) ((fine_steps n 0).begun None on s.world callback.Enable k 0 some h))
+      after : I 0 None on (ended s.policy (enable_ending s j)).world
+      after = k.quiet 0 None on (enable_ending s j).outside
+          (keeps_called n I k 0 None on (acting s callback.Enable) callback.Enable (one_task j) s.maps (begun s.world callback.Enable j 0) (k.begun 0 None on s.world callback.Enable j 0 some h))
 
-      go : (b : Bool) → (if b then None else Some (ended s.policy (enable_ending s k))) ≡ Some t → IsFine n 0 None on t.world
+      go : (b : Bool) → (if b then None else Some (ended s.policy (enable_ending s j))) ≡ Some t → I 0 None on t.world
       go true e = absurd (cc)
-      go false e = subst (λ (x : State). IsFine n 0 None on x.world) (same_some _ _ e) after
+      go false e = subst (λ (x : State). I 0 None on x.world) (same_some _ _ e) after
 
-  fine_enabled : (m : ℕ) (s t : State) → enabled m s ≡ Some t → IsFine n 0 None on s.world → IsFine n 0 None on t.world
-  fine_enabled zero s t e h = subst (λ (x : State). IsFine n 0 None on x.world) (same_some _ _ e) h
-  fine_enabled (suc m) s t e h = go (enabled m s) (λ u x. fine_enabled m s u x h) refl e
+  keeps_enabled : (m : ℕ) (s t : State) → enabled m s ≡ Some t → I 0 None on s.world → I 0 None on t.world
+  keeps_enabled zero s t e h = subst (λ (x : State). I 0 None on x.world) (same_some _ _ e) h
+  keeps_enabled (suc m) s t e h = go (enabled m s) (λ u x. keeps_enabled m s u x h) refl e
     where
-      go : (o : Option State) → ((u : State) → enabled m s ≡ Some u → IsFine n 0 None on u.world) → enabled m s ≡ o → then_enable o m ≡ Some t → IsFine n 0 None on t.world
+      go : (o : Option State) → ((u : State) → enabled m s ≡ Some u → I 0 None on u.world) → enabled m s ≡ o → then_enable o m ≡ Some t → I 0 None on t.world
       go None f x e = absurd (cc)
-      go (Some u) f x e = fine_enabled_one u t m e (f u x)
+      go (Some u) f x e = keeps_enabled_one u t m e (f u x)
 
-  fine_all : (r : Result State ℤ) (t : State) → all_enabled r ≡ Ok t → ((s : State) → r ≡ Ok s → IsFine n 0 None on s.world) → IsFine n 0 None on t.world
-  fine_all (Err k) t e f = absurd (cc)
-  fine_all (Ok s) t e f = go (enabled (length s.world.tasks) s) refl e
+  -- a machine that is made
+  pub keeps_all : (r : Result State ℤ) (t : State) → all_enabled r ≡ Ok t → ((s : State) → r ≡ Ok s → I 0 None on s.world) → I 0 None on t.world
+  keeps_all (Err j) t e f = absurd (cc)
+  keeps_all (Ok s) t e f = go (enabled (length s.world.tasks) s) refl e
     where
-      go : (o : Option State) → enabled (length s.world.tasks) s ≡ o → ok_if o ≡ Ok t → IsFine n 0 None on t.world
+      go : (o : Option State) → enabled (length s.world.tasks) s ≡ o → ok_if o ≡ Ok t → I 0 None on t.world
       go None x e = absurd (cc)
-      go (Some u) x e = subst (λ (y : State). IsFine n 0 None on y.world) (same_ok _ _ e) (fine_enabled (length s.world.tasks) s u x (f s refl))
+      go (Some u) x e = subst (λ (y : State). I 0 None on y.world) (same_ok _ _ e) (keeps_enabled (length s.world.tasks) s u x (f s refl))
+
+-- whatever small steps keep, and holds of the first world, holds once a machine is made
+pub keeps_started : (I : ℕ → Option ℕ → List (Option ℕ) → WorldState → Type 0) (p : PolicyState) (tree : Hierarchy) (cpus : ℕ) (t : State) → IsKeptBySteps (length tree.homes) I → is_bad_shape tree cpus ≡ false → started p tree cpus ≡ Ok t
+    → I 0 None (replicate cpus None) (first_world tree cpus) → I 0 None (replicate cpus None) t.world
+keeps_started I p tree cpus t k shape e h =
+    let x = has_shape tree cpus shape in
+    let some : 0 < length {A = Option ℕ} (replicate cpus None) = rw (length-replicate {A = Option ℕ} cpus None) x.some in
+    keeps_all (length tree.homes) I k (replicate cpus None) some (initialized (blank p tree cpus)) t e
+    (λ s y. keeps_initialized (length tree.homes) I k (replicate cpus None) some (blank p tree cpus) s y h)
 
 -- what holds between two events holds at first
-pub fine_started : (p : PolicyState) (tree : Hierarchy) (cpus : ℕ) (t : State) → is_bad_shape tree cpus ≡ false → length tree.active ≡ length tree.homes → started p tree cpus ≡ Ok t → IsFine (length tree.homes) 0 None (replicate cpus None) t.world
-fine_started p tree cpus t shape flags e =
-    let h = has_shape tree cpus shape in
-    let some : 0 < length {A = Option ℕ} (replicate cpus None) = rw (length-replicate {A = Option ℕ} cpus None) h.some in
-    fine_all (length tree.homes) (replicate cpus None) some (initialized (blank p tree cpus)) t e
-    (λ s x. fine_initialized (length tree.homes) (replicate cpus None) some (blank p tree cpus) s x (first_is_fine tree cpus h flags))
+pub fine_started : (p : PolicyState) (tree : Hierarchy) (cpus : ℕ) (t : State) → is_bad_shape tree cpus ≡ false → length tree.active ≡ length tree.homes → started p tree cpus ≡ Ok t → IsFine (length tree.homes) 0 0 None (replicate cpus None) t.world
+fine_started p tree cpus t shape flags e = keeps_started (IsFine (length tree.homes) 0) p tree cpus t (fine_steps (length tree.homes) 0) shape e (first_is_fine tree cpus (has_shape tree cpus shape) flags)
+
+-- nobody waits too long at first
+pub time_started : (limit : ℕ) (p : PolicyState) (tree : Hierarchy) (cpus : ℕ) (t : State) → is_bad_shape tree cpus ≡ false → started p tree cpus ≡ Ok t → IsInTime limit t.world
+time_started limit p tree cpus t shape e =
+    let n = length tree.homes in
+    let h = keeps_started (λ m hand on w. AreInTime limit n w) p tree cpus t (time_steps limit n) shape e (length-replicate n new_task, λ force u. rw (never_waited n u) (omega arith)) in
+    h.1

@@ -37,7 +37,7 @@ is_push_accepted n e m = record {
   put = λ on w t i l x h. is_accepted w.queues t i.queue i.rank (nowhere w t h.sound.once) (wanted_open on n w i (Some t) x h.sound);
   fill = λ on w q c t l x h. takes_front None on n w q c t l x h.sound;
   move = λ hand on w q t x h. takes_front hand on n w q w.call.cpu t h.sound.here x h.sound;
-  builtin = λ on w t l h. takes_builtin w.queues t (raised w t) (nowhere w t h.sound.once) h.sound.queues.builtin h.sound.sorted;
+  put_builtin = λ on w t l h. takes_builtin w.queues t (raised w t) (nowhere w t h.sound.once) h.sound.queues.builtin h.sound.sorted;
   evict = λ hand on w t waits h. takes_builtin (removed w.queues t) t (raised w t) (removed_place w.queues t waits (waits_known w.queues t waits)) (rw (ids_removed w.queues t) h.sound.queues.builtin) (sorted_removed w.queues t h.sound.sorted);
   release = λ hand on w t i flags x e h. takes_held hand on n w t i flags x e h.sound;
 }

@@ -265,7 +265,7 @@ module _ (hand : Option ℕ) (on : List (Option ℕ)) (n : ℕ) where
   -- a held task
   sound_released : (w : WorldState) (t : ℕ) (q : ℕ) (i : Insert) → w.call.insert ≡ None → IsHeld w t → IsOpen w.queues q i.rank → IsSound hand on n w → IsSound hand on n (entered (gone w t) t (record { queue = q; slice = i.slice; rank = i.rank }))
   sound_released w t q i none held-here ready h =
-      let k = record { queue = q; slice = i.slice; rank = i.rank } in
+      let k : Insert = record { queue = q; slice = i.slice; rank = i.rank } in
       rw (inside n w t (subst (λ k. t < k) h.even held-here.known) h.tasks)
       (sound_replaced w t q i.rank (given (task_at w t) k) (given_home (task_at w t) k) (given_since (task_at w t) k) held-here.waits held-here.known held-here.free ready (subst (λ o. GoesSomewhere (pushed (removed w.queues t) q t i.rank) (length on) o) (sym none) tt) h)
 

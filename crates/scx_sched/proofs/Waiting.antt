@@ -77,7 +77,7 @@ stored_since x RunNs k = refl
 
 -- an insert
 pub given_since : (x : Task) (i : Insert) → (given x i).since ≡ x.since
-given_since x i = vtime i.rank ∙ keeps_if (λ (y : Task). y.since ≡ x.since) (i.slice == 0) _ x refl refl
+given_since x i = vtime i.rank ∙ keeps_if (λ (y : Task). y.since ≡ x.since) (i.slice == 0) x _ refl refl
   where
     vtime : (r : Rank) → (given_vtime (given_slice x i.slice) r).since ≡ (given_slice x i.slice).since
     vtime Fifo = refl

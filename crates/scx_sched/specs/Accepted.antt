@@ -18,7 +18,7 @@ pub record IsPushAccepted (n e m : ℕ) : Type 0 where
   pub put : (on : List (Option ℕ)) (w : WorldState) (t : ℕ) (i : Insert) → t < n → IsWanted (length on) w i → IsFine n e m (Some t) on w
       → push_refusal w.queues i.queue t i.rank ≡ None
   -- of a task that is put under the built-in scheduler
-  pub builtin : (on : List (Option ℕ)) (w : WorldState) (t : ℕ) → t < n → IsFine n e m (Some t) on w → push_refusal w.queues builtin t (Vtime (raised w t)) ≡ None
+  pub put_builtin : (on : List (Option ℕ)) (w : WorldState) (t : ℕ) → t < n → IsFine n e m (Some t) on w → push_refusal w.queues builtin t (Vtime (raised w t)) ≡ None
   -- of a task that goes over
   pub evict : (hand : Option ℕ) (on : List (Option ℕ)) (w : WorldState) (t : ℕ) → waits w t ≡ true → IsFine n e m hand on w → push_refusal (removed w.queues t) builtin t (Vtime (raised w t)) ≡ None
   -- of the front of a queue, to the local queue of a processor
