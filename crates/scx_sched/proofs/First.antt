@@ -11,7 +11,6 @@ use Rattle.std.proofs.lemmas.List.Folds.{sum_by-replicate}
 use Rattle.scx_dsq.specs.Queues.{entry_at, entry_of}
 use Rattle.scx_dsq.specs.declared.entries.Entry.{Entry}
 use Rattle.scx_dsq.specs.Laws.{one_if}
-use Rattle.scx_semantics.specs.declared.callbacks.Callback.TheVariants as callback
 use Rattle.scx_weights.specs.Hierarchy.{Hierarchy, is_active_task}
 use Rattle.scx_weights.specs.Counting.{any_below}
 use Rattle.scx_world.specs.World.{WorldState, is_this, begun}
@@ -20,12 +19,13 @@ use Rattle.scx_tasks.specs.Tasks.{no_task, new_task}
 use Rattle.scx_world.specs.First.{first_world}
 use Rattle.scx_machine.specs.Policy.{PolicyState}
 use Rattle.scx_machine.specs.Steps.{State}
-use Rattle.scx_machine.specs.Callbacks.{acting, ended, no_arguments, one_task}
-use Rattle.scx_machine.specs.Start.{is_bad_shape, blank, init_ending, bad_answer, ok_unless, initialized, enable_ending, has_failed, enable, then_enable, enabled, ok_if, all_enabled, started}
+use Rattle.scx_machine.specs.Start.{is_bad_shape, started}
 use Rattle.scx_sched.specs.Once.{runs, HasQueues}
 use Rattle.scx_sched.specs.Ranges.{IsFine}
 use Rattle.scx_sched.specs.Kept.{IsKeptBySteps}
 use Rattle.scx_sched.proofs.Entering.{keeps_if}
+use Rattle.scx_sched.proofs.Unchanged.{same_called}
+use Rattle.scx_sched.proofs.Begins.{IsKeptByCalls, keeps_started}
 use Rattle.scx_sched.proofs.Skeleton.{keeps_called}
 use Rattle.scx_sched.proofs.Fine.{fine_steps}
 use Rattle.scx_sched.proofs.Timely.{IsInTime, AreInTime, time_steps}
@@ -199,71 +199,34 @@ first_is_fine tree cpus shape flags = record {
 
 -- ---- init and enable
 
-same_ok : (a b : State) → ◌≡◌ {A = Result State ℤ} (Ok a) (Ok b) → a ≡ b
-same_ok a b e = cc
-
-same_some : (a b : State) → Some a ≡ Some b → a ≡ b
-same_some a b e = cc
-
--- whatever small steps keep, init and enable keep
-module _ (n : ℕ) (I : ℕ → Option ℕ → List (Option ℕ) → WorldState → Type 0) (k : IsKeptBySteps n I) (on : List (Option ℕ)) (some : 0 < length on) where
-  keeps_initialized : (s t : State) → initialized s ≡ Ok t → I 0 None on s.world → I 0 None on t.world
-  unfolding initialized
-  keeps_initialized s t e h = go (bad_answer (init_ending s).outside.call.fault (init_ending s).answer) e
-    where
-      after : I 0 None on (ended s.policy (init_ending s)).world
-      after = k.quiet 0 None on (init_ending s).outside
-          (keeps_called n I k 0 None on (acting s callback.Init) callback.Init no_arguments s.maps (begun s.world callback.Init 0 0) (k.begun 0 None on s.world callback.Init 0 0 some h))
-
-      go : (o : Option ℤ) → ok_unless o (ended s.policy (init_ending s)) ≡ Ok t → I 0 None on t.world
-      go None e = subst (λ (x : State). I 0 None on x.world) (same_ok _ _ e) after
-      go (Some j) e = absurd (cc)
-
-  keeps_enabled_one : (s t : State) (j : ℕ) → enable s j ≡ Some t → I 0 None on s.world → I 0 None on t.world
-  unfolding enable
-  keeps_enabled_one s t j e h = go (has_failed (enable_ending s j)) e
-    where
-      after : I 0 None on (ended s.policy (enable_ending s j)).world
-      after = k.quiet 0 None on (enable_ending s j).outside
-          (keeps_called n I k 0 None on (acting s callback.Enable) callback.Enable (one_task j) s.maps (begun s.world callback.Enable j 0) (k.begun 0 None on s.world callback.Enable j 0 some h))
-
-      go : (b : Bool) → (if b then None else Some (ended s.policy (enable_ending s j))) ≡ Some t → I 0 None on t.world
-      go true e = absurd (cc)
-      go false e = subst (λ (x : State). I 0 None on x.world) (same_some _ _ e) after
-
-  keeps_enabled : (m : ℕ) (s t : State) → enabled m s ≡ Some t → I 0 None on s.world → I 0 None on t.world
-  keeps_enabled zero s t e h = subst (λ (x : State). I 0 None on x.world) (same_some _ _ e) h
-  keeps_enabled (suc m) s t e h = go (enabled m s) (λ u x. keeps_enabled m s u x h) refl e
-    where
-      go : (o : Option State) → ((u : State) → enabled m s ≡ Some u → I 0 None on u.world) → enabled m s ≡ o → then_enable o m ≡ Some t → I 0 None on t.world
-      go None f x e = absurd (cc)
-      go (Some u) f x e = keeps_enabled_one u t m e (f u x)
-
-  -- a machine that is made
-  pub keeps_all : (r : Result State ℤ) (t : State) → all_enabled r ≡ Ok t → ((s : State) → r ≡ Ok s → I 0 None on s.world) → I 0 None on t.world
-  keeps_all (Err j) t e f = absurd (cc)
-  keeps_all (Ok s) t e f = go (enabled (length s.world.tasks) s) refl e
-    where
-      go : (o : Option State) → enabled (length s.world.tasks) s ≡ o → ok_if o ≡ Ok t → I 0 None on t.world
-      go None x e = absurd (cc)
-      go (Some u) x e = subst (λ (y : State). I 0 None on y.world) (same_ok _ _ e) (keeps_enabled (length s.world.tasks) s u x (f s refl))
+-- what small steps keep, callbacks keep
+kept_by_calls : (n : ℕ) (I : ℕ → Option ℕ → List (Option ℕ) → WorldState → Type 0) → IsKeptBySteps n I → (on : List (Option ℕ)) → 0 < length on → IsKeptByCalls (λ w. I 0 None on w)
+kept_by_calls n I k on some = record {
+  begun = λ w b t h. k.begun 0 None on w b t 0 some h;
+  called = λ p b a maps w h. keeps_called n I k 0 None on p b a maps w h;
+  quiet = λ w h. k.quiet 0 None on w h;
+}
 
 -- whatever small steps keep, and holds of the first world, holds once a machine is made
-pub keeps_started : (I : ℕ → Option ℕ → List (Option ℕ) → WorldState → Type 0) (p : PolicyState) (tree : Hierarchy) (cpus : ℕ) (t : State) → IsKeptBySteps (length tree.homes) I → is_bad_shape tree cpus ≡ false → started p tree cpus ≡ Ok t
+pub steps_started : (I : ℕ → Option ℕ → List (Option ℕ) → WorldState → Type 0) (p : PolicyState) (tree : Hierarchy) (cpus : ℕ) (t : State) → IsKeptBySteps (length tree.homes) I → is_bad_shape tree cpus ≡ false → started p tree cpus ≡ Ok t
     → I 0 None (replicate cpus None) (first_world tree cpus) → I 0 None (replicate cpus None) t.world
-keeps_started I p tree cpus t k shape e h =
+steps_started I p tree cpus t k shape e h =
     let x = has_shape tree cpus shape in
     let some : 0 < length {A = Option ℕ} (replicate cpus None) = rw (length-replicate {A = Option ℕ} cpus None) x.some in
-    keeps_all (length tree.homes) I k (replicate cpus None) some (initialized (blank p tree cpus)) t e
-    (λ s y. keeps_initialized (length tree.homes) I k (replicate cpus None) some (blank p tree cpus) s y h)
+    keeps_started (λ w. I 0 None (replicate cpus None) w) (kept_by_calls (length tree.homes) I k (replicate cpus None) some) p tree cpus t e h
 
 -- what holds between two events holds at first
 pub fine_started : (p : PolicyState) (tree : Hierarchy) (cpus : ℕ) (t : State) → is_bad_shape tree cpus ≡ false → length tree.active ≡ length tree.homes → started p tree cpus ≡ Ok t → IsFine (length tree.homes) 0 0 None (replicate cpus None) t.world
-fine_started p tree cpus t shape flags e = keeps_started (IsFine (length tree.homes) 0) p tree cpus t (fine_steps (length tree.homes) 0) shape e (first_is_fine tree cpus (has_shape tree cpus shape) flags)
+fine_started p tree cpus t shape flags e = steps_started (IsFine (length tree.homes) 0) p tree cpus t (fine_steps (length tree.homes) 0) shape e (first_is_fine tree cpus (has_shape tree cpus shape) flags)
 
 -- nobody waits too long at first
 pub time_started : (limit : ℕ) (p : PolicyState) (tree : Hierarchy) (cpus : ℕ) (t : State) → is_bad_shape tree cpus ≡ false → started p tree cpus ≡ Ok t → IsInTime limit t.world
 time_started limit p tree cpus t shape e =
     let n = length tree.homes in
-    let h = keeps_started (λ m hand on w. AreInTime limit n w) p tree cpus t (time_steps limit n) shape e (length-replicate n new_task, λ force u. rw (never_waited n u) (omega arith)) in
+    let h = steps_started (λ m hand on w. AreInTime limit n w) p tree cpus t (time_steps limit n) shape e (length-replicate n new_task, λ force u. rw (never_waited n u) (omega arith)) in
     h.1
+
+-- its policy is in force
+pub force_started : (p : PolicyState) (tree : Hierarchy) (cpus : ℕ) (t : State) → started p tree cpus ≡ Ok t → t.world.ejected ≡ None
+force_started p tree cpus t e =
+    keeps_started (λ w. w.ejected ≡ None) (record { begun = λ w b t h. h; called = λ p b a maps w h. (same_called p b a maps w).1 ∙ h; quiet = λ w h. h }) p tree cpus t e refl

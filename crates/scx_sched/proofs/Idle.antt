@@ -1,5 +1,5 @@
 -- After a tick that leaves a processor idle, no task is left behind for it.
-use Rattle.std.proofs.Common.{◌≡◌, ℕ, zero, suc, ◌+◌, ◌<◌, Bool, true, false, ◌==◌, not, nat_lt, if◌then◌else◌, List, length, set, get_or, Option, Some, None, is_none, refl, sym, ap, ◌∙◌, arith}
+use Rattle.std.proofs.Common.{◌≡◌, ℕ, zero, suc, ◌+◌, ◌<◌, Bool, true, false, ◌==◌, not, nat_lt, if◌then◌else◌, List, length, set, get_or, Option, Some, None, is_none, is_some, refl, sym, ap, ◌∙◌, arith}
 use Rattle.std.proofs.lemmas.Bool.{eq-eqb}
 use Rattle.std.proofs.lemmas.Bool.Decides.{nat_tests}
 use Rattle.std.proofs.lemmas.List.{length-set, get_or-set_same}
@@ -10,12 +10,12 @@ use Rattle.scx_dsq.specs.Calls.{push_refusal, next_entry, pushed, popped}
 use Rattle.scx_dsq.specs.Laws.{one_if}
 use Rattle.scx_dsq.proofs.Facts.{free_from, front_is_known, tasks_without}
 use Rattle.scx_semantics.specs.declared.callbacks.Callback.TheVariants as callback
-use Rattle.scx_world.specs.Ids.{global, local_on}
+use Rattle.scx_world.specs.Ids.{global, builtin, local_on}
 use Rattle.scx_world.specs.World.{WorldState, task_at, running}
-use Rattle.scx_world.specs.Tasks.{local_len, brought, started_at, ticked}
-use Rattle.scx_machine.specs.Steps.{State, Stepped, with_world, stays, joined}
-use Rattle.scx_machine.specs.Callbacks.{call_back, one_task, cpu_and_task}
-use Rattle.scx_machine.specs.Cycle.{has_local, fill, dispatched, asks_again, tries, leave, started_if, start as run_front, pick, rest, pick_or_rest, ask, seek, cycling, cycle}
+use Rattle.scx_world.specs.Tasks.{local_len, brought, fill_front, started_at, ticked}
+use Rattle.scx_machine.specs.Steps.{State, Stepped, with_world, stays, joined, is_ejected}
+use Rattle.scx_machine.specs.Callbacks.{call_back, cpu_and_task}
+use Rattle.scx_machine.specs.Cycle.{has_local, fill, dispatched, asks_again, tries, leave, started_if, start as run_front, rest, swap, swap_or_rest, builtin_ask, builtin_cycle, start_or_cycle, pick, pick_or_rest, conclude, ask, seek, look, cycling, cycle}
 use Rattle.scx_machine.specs.declared.events.Event.{Event}
 use Rattle.scx_machine.specs.declared.events.Event.TheVariants.{Wake, Sleep, Tick, Clock, SetWeight}
 use Rattle.scx_machine.specs.declared.events.Refused.TheVariants.{UnknownCpu}
@@ -25,12 +25,12 @@ use Rattle.scx_sched.specs.Left.{LeavesNothing, LeavesNothingIdle}
 use Rattle.scx_sched.specs.Sim.{refusal, IsValid}
 use Rattle.scx_sched.proofs.Entering.{keeps_if, own_open, is_accepted, sorted_popped, stay_without, local_sort}
 use Rattle.scx_sched.proofs.Sound.{left_place}
-use Rattle.scx_sched.proofs.Skeleton.{IsKnown, keeps_call_back, keeps_fill, keeps_dispatched, keeps_tries, keeps_leave}
+use Rattle.scx_sched.proofs.Skeleton.{IsKnown, once_for, keeps_call_back, keeps_running_on, keeps_fill, keeps_dispatched, keeps_tries, keeps_leave}
 use Rattle.scx_sched.proofs.Fine.{fine_steps}
 use Rattle.scx_sched.proofs.Events.{known_running, fine_ticked}
 use Rattle.scx_sched.proofs.Firsts.{no_front_is_empty}
 use Rattle.scx_sched.proofs.Lengths.{len_set}
-use Rattle.scx_sched.proofs.Leaving.{local_leave}
+use Rattle.scx_sched.proofs.Leaving.{IsOut, local_leave}
 use Rattle.scx_sched.proofs.Valid.{accepted}
 
 -- an accepted push makes its queue longer
@@ -40,45 +40,79 @@ len_entered s q t r l ok =
     let free : one_if (is_in q (entry_of s t)) ≡ 0 = rw (free_from s q t r ok) refl in
     rw ok (omega (arith, len_set s q t (Some (next_entry s q r)) l, free, here))
 
+-- who is ejected lets anybody leave
+out_any : (s : State) (p : Option ℕ) → is_ejected s ≡ true → IsOut p s
+out_any s None out = tt
+out_any s (Some t) out = out
+
+-- a fill leaves in force or not what was so
+fill_out : (s : State) (q c : ℕ) → is_ejected s ≡ true → is_ejected (fill s q c).state ≡ true
+unfolding fill
+fill_out s q c out = go (fill_front s.world q c)
+  where
+    go : (o : Option ℕ) → is_some (brought o s.world q c).ejected ≡ true
+    go None = out
+    go (Some t) = out
+
+out_filled : (s : State) (q c : ℕ) (p : Option ℕ) → IsOut p s → IsOut p (fill s q c).state
+out_filled s q c None out = tt
+out_filled s q c (Some t) out = fill_out s q c out
+
+-- a fill that brings nobody: nobody waits in that queue
+abbrev IsVain : ℕ → ℕ → WorldState → WorldState → Type 0
+IsVain q c w v = (front_of w.queues q ≡ None) × (local_len w c ≡ 0) × (v.queues ≡ w.queues)
+
 -- nobody waits for all processors while the local queue is empty
 abbrev LeavesGlobal : ℕ → WorldState → Type 0
 LeavesGlobal c w = local_len w c ≡ 0 → front_of w.queues global ≡ None
 
--- the same where the processor is idle, and then the local queue is empty
+-- where the processor is idle nothing is left for it
 abbrev LeavesIfIdle : ℕ → WorldState → Type 0
 LeavesIfIdle c w = is_none (running w c) ≡ true → LeavesNothing w c
 
 busy : (c : ℕ) (w : WorldState) → is_none (running w c) ≡ false → LeavesIfIdle c w
 busy c w e idle = let bad : false ≡ true = sym e ∙ idle in absurd (cc)
 
+some_local : (k : ℕ) (b : Bool) → (k == 0) ≡ b → not b ≡ true → 0 < k
+some_local k true x y = absurd (cc)
+some_local k false x y = grind (arith, nat_tests, x)
+
+no_local : (k : ℕ) (b : Bool) → (k == 0) ≡ b → not b ≡ false → k ≡ 0
+no_local k true x y = grind (arith, nat_tests, x)
+no_local k false x y = absurd (cc)
+
 module _ (n e : ℕ) (c : ℕ) where
-  start_busy : (on : List (Option ℕ)) (s : State) → c < length on → get_or on c None ≡ None → IsFine n e None on s.world → 0 < local_len s.world c → is_none (running (run_front s c).state.world c) ≡ false
+  -- ---- who comes to run
+
+  start_busy : (m : ℕ) (on : List (Option ℕ)) (s : State) → c < length on → get_or on c None ≡ None → IsFine n e m None on s.world → 0 < local_len s.world c → is_none (running (run_front s c).state.world c) ≡ false
   unfolding run_front
-  start_busy on s l free h some = go (front_of s.world.queues (local_on c)) refl
+  start_busy m on s l free h some = go (front_of s.world.queues (local_on c)) refl
     where
       go : (o : Option ℕ) → front_of s.world.queues (local_on c) ≡ o → is_none (running (started_if o s c).state.world c) ≡ false
       go None f = absurd (omega (arith, some, no_front_is_empty s.world.queues (local_on c) f))
       go (Some t) f =
           let l' : c < length (set on c (Some t)) = rw (length-set on c (Some t)) l in
-          let x = keeps_call_back n (IsFine n e) (fine_steps n e) None (set on c (Some t)) (with_world s (started_at (Some t) s.world c)) callback.Running (one_task t) t c l' ((fine_steps n e).started on s.world c t l free f h) in
+          let x = keeps_running_on n (IsFine n e) (fine_steps n e) m None (set on c (Some t)) (with_world s (started_at (Some t) s.world c)) c t l' ((fine_steps n e).started m on s.world c t l free f h) in
           rw (x.sound.cpus, get_or-set_same on c (Some t) None l) refl
 
-  pick_busy : (on : List (Option ℕ)) (s : State) (p : Option ℕ) → c < length on → IsKnown n p → get_or on c None ≡ p → IsFine n e None on s.world → 0 < local_len s.world c → is_none (running (pick s c p).state.world c) ≡ false
-  unfolding pick
-  pick_busy on s p l known runs h some =
-      let x = keeps_leave n (IsFine n e) (fine_steps n e) on s c p l known runs h in
-      start_busy x.0 (leave s c p).state x.2 x.3 x.1 (local_leave c s c p some)
+  swap_busy : (m : ℕ) (on : List (Option ℕ)) (s : State) (p : Option ℕ) → c < length on → IsKnown n p → get_or on c None ≡ p → IsOut p s → IsFine n e m None on s.world → 0 < local_len s.world c → is_none (running (swap s c p).state.world c) ≡ false
+  unfolding swap
+  swap_busy m on s p l known runs out h some =
+      let x = keeps_leave n (IsFine n e) (fine_steps n e) m on s c p l known runs h in
+      start_busy (once_for p m) x.0 (leave s c p).state x.2 x.3 x.1 (local_leave c s c p out some)
 
-  fill_leaves : (on : List (Option ℕ)) (s : State) (q : ℕ) → c < length on → IsFine n e None on s.world → local_len (fill s q c).state.world c ≡ 0 → front_of (fill s q c).state.world.queues q ≡ None
+  -- ---- who is brought
+
+  fill_leaves : (m : ℕ) (on : List (Option ℕ)) (s : State) (q : ℕ) → c < length on → IsFine n e m None on s.world → local_len (fill s q c).state.world c ≡ 0 → IsVain q c s.world (fill s q c).state.world
   unfolding fill
-  fill_leaves on s q l h = go (nat_lt 0 (local_len s.world c)) refl (front_of s.world.queues q) refl
+  fill_leaves m on s q l h = go (nat_lt 0 (local_len s.world c)) refl (front_of s.world.queues q) refl
     where
       w : WorldState
       w = s.world
 
-      go : (b : Bool) → nat_lt 0 (local_len w c) ≡ b → (o : Option ℕ) → front_of w.queues q ≡ o → local_len (brought (if b then None else o) w q c) c ≡ 0 → front_of (brought (if b then None else o) w q c).queues q ≡ None
+      go : (b : Bool) → nat_lt 0 (local_len w c) ≡ b → (o : Option ℕ) → front_of w.queues q ≡ o → local_len (brought (if b then None else o) w q c) c ≡ 0 → IsVain q c w (brought (if b then None else o) w q c)
       go true x o f empty = let some : 0 < local_len w c = grind (arith, nat_tests, x) in absurd (omega (arith, some, empty))
-      go false x None f empty = f
+      go false x None f empty = (f, empty, refl)
       go false x (Some t) f empty =
           let s' = popped w.queues q in
           let known : t < task_count s' = rw (tasks_without w.queues (front_of w.queues q)) (front_is_known w.queues q (Some t) (sym f)) in
@@ -86,78 +120,139 @@ module _ (n e : ℕ) (c : ℕ) where
           let ok = is_accepted s' t (local_on c) Fifo (left_place w.queues q t f) (own_open s' (local_on c) Fifo there (omega arith) (local_sort c) (sorted_popped w.queues q h.sound.sorted)) in
           absurd (omega (arith, empty, len_entered s' (local_on c) t Fifo known ok))
 
-  dispatched_leaves : (on : List (Option ℕ)) (s : State) (p : Option ℕ) → c < length on → IsFine n e None on s.world → LeavesGlobal c (dispatched s c p).state.world
-  unfolding dispatched
-  dispatched_leaves on s p l h =
-      let r = call_back s callback.Dispatch (cpu_and_task c p) 0 c in
-      fill_leaves on r.state global l (keeps_call_back n (IsFine n e) (fine_steps n e) None on s callback.Dispatch (cpu_and_task c p) 0 c l h)
+  fill_global : (m : ℕ) (on : List (Option ℕ)) (s : State) → c < length on → IsFine n e m None on s.world → LeavesGlobal c (fill s global c).state.world
+  fill_global m on s l h empty = let x = fill_leaves m on s global l h empty in ap (λ (q : QueueState). front_of q global) x.2 ∙ x.0
 
-  tries_leave : (m : ℕ) (on : List (Option ℕ)) (s : State) (p : Option ℕ) → c < length on → IsFine n e None on s.world → LeavesGlobal c s.world → LeavesGlobal c (tries m s c p).state.world
-  unfolding tries
-  tries_leave zero on s p l h g = g
-  tries_leave (suc m) on s p l h g =
-      let d = dispatched s c p in
-      let x = keeps_dispatched n (IsFine n e) (fine_steps n e) on s c p l h in
-      let y = dispatched_leaves on s p l h in
-      keeps_if (λ (r : Stepped). LeavesGlobal c r.state.world) (asks_again d.state c) (joined d (tries m d.state c p)) d (tries_leave m on d.state p l x y) y
+  -- ---- the built-in scheduler
 
-  rest_leaves : (s : State) (p : Option ℕ) (ran : Bool) → local_len s.world c ≡ 0 → LeavesGlobal c s.world → LeavesIfIdle c (rest s c p ran).state.world
+  rest_leaves : (s : State) (p : Option ℕ) (ran : Bool) → LeavesNothing s.world c → LeavesIfIdle c (rest s c p ran).state.world
   unfolding rest
-  rest_leaves s None ran empty g idle = record { local = empty; global = g empty }
-  rest_leaves s (Some t) ran empty g idle = record { local = empty; global = g empty }
+  rest_leaves s None ran h idle = h
+  rest_leaves s (Some t) ran h idle = record { local = h.local; global = h.global; builtin = h.builtin }
 
-  some_local : (k : ℕ) (b : Bool) → (k == 0) ≡ b → not b ≡ true → 0 < k
-  some_local k true x y = absurd (cc)
-  some_local k false x y = grind (arith, nat_tests, x)
+  builtin_cycle_leaves : (m : ℕ) (on : List (Option ℕ)) (s : State) (p : Option ℕ) (ran : Bool) → c < length on → IsKnown n p → get_or on c None ≡ p → IsOut p s → IsFine n e m None on s.world → LeavesIfIdle c (builtin_cycle s c p ran).state.world
+  unfolding builtin_cycle builtin_ask swap_or_rest
+  builtin_cycle_leaves m on s p ran l known runs out h = go (has_local g c) refl
+    where
+      f : State
+      f = (fill s global c).state
 
-  no_local : (k : ℕ) (b : Bool) → (k == 0) ≡ b → not b ≡ false → k ≡ 0
-  no_local k true x y = grind (arith, nat_tests, x)
-  no_local k false x y = absurd (cc)
+      g : State
+      g = (fill f builtin c).state
 
-  pick_or_rest_leaves : (on : List (Option ℕ)) (s : State) (p : Option ℕ) (ran : Bool) → c < length on → IsKnown n p → get_or on c None ≡ p → IsFine n e None on s.world → LeavesGlobal c s.world → LeavesIfIdle c (pick_or_rest s c p ran).state.world
+      x : IsFine n e m None on f.world
+      x = keeps_fill n (IsFine n e) (fine_steps n e) m on s global c l h
+
+      y : IsFine n e m None on g.world
+      y = keeps_fill n (IsFine n e) (fine_steps n e) m on f builtin c l x
+
+      nothing : local_len g.world c ≡ 0 → LeavesNothing g.world c
+      nothing empty =
+          let v = fill_leaves m on f builtin l x empty in
+          let u = fill_leaves m on s global l h v.1 in
+          record {
+            local = empty;
+            global = ap (λ (q : QueueState). front_of q global) (v.2 ∙ u.2) ∙ u.0;
+            builtin = λ gone. ap (λ (q : QueueState). front_of q builtin) v.2 ∙ v.0;
+          }
+
+      go : (b : Bool) → has_local g c ≡ b → LeavesIfIdle c (if b then swap g c p else rest g c p ran).state.world
+      go true z = busy c (swap g c p).state.world (swap_busy m on g p l known runs (out_filled f builtin c p (out_filled s global c p out)) y (some_local (local_len g.world c) (local_len g.world c == 0) refl z))
+      go false z = rest_leaves g p ran (nothing (no_local (local_len g.world c) (local_len g.world c == 0) refl z))
+
+  -- ---- the policy
+
+  start_or_cycle_leaves : (m : ℕ) (on : List (Option ℕ)) (s : State) (ran : Bool) → c < length on → get_or on c None ≡ None → IsFine n e m None on s.world → LeavesIfIdle c (start_or_cycle s c ran).state.world
+  unfolding start_or_cycle
+  start_or_cycle_leaves m on s ran l free h = go (has_local s c) refl
+    where
+      go : (b : Bool) → has_local s c ≡ b → LeavesIfIdle c (if b then run_front s c else builtin_cycle s c None ran).state.world
+      go true z = busy c (run_front s c).state.world (start_busy m on s l free h (some_local (local_len s.world c) (local_len s.world c == 0) refl z))
+      go false z = builtin_cycle_leaves m on s None ran l tt free tt h
+
+  pick_leaves : (m : ℕ) (on : List (Option ℕ)) (s : State) (p : Option ℕ) (ran : Bool) → c < length on → IsKnown n p → get_or on c None ≡ p → IsFine n e m None on s.world → LeavesIfIdle c (pick s c p ran).state.world
+  unfolding pick
+  pick_leaves m on s p ran l known runs h =
+      let x = keeps_leave n (IsFine n e) (fine_steps n e) m on s c p l known runs h in
+      start_or_cycle_leaves (once_for p m) x.0 (leave s c p).state ran x.2 x.3 x.1
+
+  pick_or_rest_leaves : (m : ℕ) (on : List (Option ℕ)) (s : State) (p : Option ℕ) (ran : Bool) → c < length on → IsKnown n p → get_or on c None ≡ p → is_ejected s ≡ false → IsFine n e m None on s.world → LeavesGlobal c s.world
+      → LeavesIfIdle c (pick_or_rest s c p ran).state.world
   unfolding pick_or_rest
-  pick_or_rest_leaves on s p ran l known runs h g = go (has_local s c) refl
+  pick_or_rest_leaves m on s p ran l known runs force h g = go (has_local s c) refl
     where
-      go : (b : Bool) → has_local s c ≡ b → LeavesIfIdle c (if b then pick s c p else rest s c p ran).state.world
-      go true x = busy c (pick s c p).state.world (pick_busy on s p l known runs h (some_local (local_len s.world c) (local_len s.world c == 0) refl x))
-      go false x = rest_leaves s p ran (no_local (local_len s.world c) (local_len s.world c == 0) refl x) g
+      in_force : is_some s.world.ejected ≡ true → front_of s.world.queues builtin ≡ None
+      in_force gone = let bad : false ≡ true = sym force ∙ gone in absurd (cc)
 
-  seek_leaves : (on : List (Option ℕ)) (s : State) (p : Option ℕ) (ran : Bool) → c < length on → IsKnown n p → get_or on c None ≡ p → IsFine n e None on s.world → LeavesIfIdle c (seek s c p ran).state.world
-  unfolding seek ask
-  seek_leaves on s p ran l known runs h = go (has_local f.state c) refl
+      go : (b : Bool) → has_local s c ≡ b → LeavesIfIdle c (if b then pick s c p ran else rest s c p ran).state.world
+      go true z = pick_leaves m on s p ran l known runs h
+      go false z =
+          let empty = no_local (local_len s.world c) (local_len s.world c == 0) refl z in
+          rest_leaves s p ran (record { local = empty; global = g empty; builtin = in_force })
+
+  conclude_leaves : (m : ℕ) (on : List (Option ℕ)) (s : State) (p : Option ℕ) (ran : Bool) → c < length on → IsKnown n p → get_or on c None ≡ p → IsFine n e m None on s.world → LeavesGlobal c s.world → LeavesIfIdle c (conclude s c p ran).state.world
+  unfolding conclude
+  conclude_leaves m on s p ran l known runs h g = go (is_ejected s) refl
     where
-      f : Stepped
-      f = fill s global c
+      go : (b : Bool) → is_ejected s ≡ b → LeavesIfIdle c (if b then builtin_cycle s c p ran else pick_or_rest s c p ran).state.world
+      go true out = builtin_cycle_leaves m on s p ran l known runs (out_any s p out) h
+      go false force = pick_or_rest_leaves m on s p ran l known runs force h g
 
-      x : IsFine n e None on f.state.world
-      x = keeps_fill n (IsFine n e) (fine_steps n e) on s global c l h
+  dispatched_leaves : (m : ℕ) (on : List (Option ℕ)) (s : State) (p : Option ℕ) → c < length on → IsFine n e m None on s.world → LeavesGlobal c (dispatched s c p).state.world
+  unfolding dispatched
+  dispatched_leaves m on s p l h =
+      let r = call_back s callback.Dispatch (cpu_and_task c p) 0 c in
+      fill_global m on r.state l (keeps_call_back n (IsFine n e) (fine_steps n e) m None on s callback.Dispatch (cpu_and_task c p) 0 c l h)
 
-      g : LeavesGlobal c f.state.world
-      g = fill_leaves on s global l h
+  tries_leave : (j m : ℕ) (on : List (Option ℕ)) (s : State) (p : Option ℕ) → c < length on → IsFine n e m None on s.world → LeavesGlobal c s.world → LeavesGlobal c (tries j s c p).state.world
+  unfolding tries
+  tries_leave zero m on s p l h g = g
+  tries_leave (suc j) m on s p l h g =
+      let d = dispatched s c p in
+      let x = keeps_dispatched n (IsFine n e) (fine_steps n e) m on s c p l h in
+      let y = dispatched_leaves m on s p l h in
+      keeps_if (λ (r : Stepped). LeavesGlobal c r.state.world) (asks_again d.state c) (joined d (tries j d.state c p)) d (tries_leave j m on d.state p l x y) y
 
-      go : (b : Bool) → has_local f.state c ≡ b → LeavesIfIdle c (if b then pick f.state c p else ask f.state c p ran).state.world
-      go true y = busy c (pick f.state c p).state.world (pick_busy on f.state p l known runs x (some_local (local_len f.state.world c) (local_len f.state.world c == 0) refl y))
-      go false y =
-          let d = tries 32 f.state c p in
-          pick_or_rest_leaves on d.state p ran l known runs (keeps_tries n (IsFine n e) (fine_steps n e) on 32 f.state c p l x) (tries_leave 32 on f.state p l x g)
+  ask_leaves : (m : ℕ) (on : List (Option ℕ)) (s : State) (p : Option ℕ) (ran : Bool) → c < length on → IsKnown n p → get_or on c None ≡ p → IsFine n e m None on s.world → LeavesGlobal c s.world → LeavesIfIdle c (ask s c p ran).state.world
+  unfolding ask
+  ask_leaves m on s p ran l known runs h g =
+      let d = tries 32 s c p in
+      conclude_leaves m on d.state p ran l known runs (keeps_tries n (IsFine n e) (fine_steps n e) m on 32 s c p l h) (tries_leave 32 m on s p l h g)
 
-  cycle_leaves : (on : List (Option ℕ)) (s : State) (p : Option ℕ) (ran : Bool) → c < length on → IsKnown n p → get_or on c None ≡ p → IsFine n e None on s.world → LeavesIfIdle c (cycle s c p ran).state.world
+  seek_leaves : (m : ℕ) (on : List (Option ℕ)) (s : State) (p : Option ℕ) (ran : Bool) → c < length on → IsKnown n p → get_or on c None ≡ p → IsFine n e m None on s.world → LeavesIfIdle c (seek s c p ran).state.world
+  unfolding seek
+  seek_leaves m on s p ran l known runs h =
+      let f = fill s global c in
+      let x : IsFine n e m None on f.state.world = keeps_fill n (IsFine n e) (fine_steps n e) m on s global c l h in
+      keeps_if (λ (r : Stepped). LeavesIfIdle c r.state.world) (has_local f.state c) (pick f.state c p ran) (ask f.state c p ran) (pick_leaves m on f.state p ran l known runs x) (ask_leaves m on f.state p ran l known runs x (fill_global m on s l h))
+
+  -- ---- whichever is in force
+
+  look_leaves : (m : ℕ) (on : List (Option ℕ)) (s : State) (p : Option ℕ) (ran : Bool) → c < length on → IsKnown n p → get_or on c None ≡ p → IsFine n e m None on s.world → LeavesIfIdle c (look s c p ran).state.world
+  unfolding look
+  look_leaves m on s p ran l known runs h = go (is_ejected s) refl
+    where
+      go : (b : Bool) → is_ejected s ≡ b → LeavesIfIdle c (if b then builtin_cycle s c p ran else seek s c p ran).state.world
+      go true out = builtin_cycle_leaves m on s p ran l known runs (out_any s p out) h
+      go false force = seek_leaves m on s p ran l known runs h
+
+  cycle_leaves : (m : ℕ) (on : List (Option ℕ)) (s : State) (p : Option ℕ) (ran : Bool) → c < length on → IsKnown n p → get_or on c None ≡ p → IsFine n e m None on s.world → LeavesIfIdle c (cycle s c p ran).state.world
   unfolding cycle
-  cycle_leaves on s p ran l known runs h idle =
-      let x = seek_leaves on (cycling s (Some c)) p ran l known runs ((fine_steps n e).cycling None on s.world (Some c) h) idle in
-      record { local = x.local; global = x.global }
+  cycle_leaves m on s p ran l known runs h idle =
+      let x = look_leaves m on (cycling s (Some c)) p ran l known runs ((fine_steps n e).cycling m None on s.world (Some c) h) idle in
+      record { local = x.local; global = x.global; builtin = x.builtin }
 
 -- the law
-pub tick_leaves : (n e : ℕ) (s : State) (c : ℕ) → c < length s.world.cpus → IsFine n e None s.world.cpus s.world → running (tick s c).state.world c ≡ None → LeavesNothing (tick s c).state.world c
+pub tick_leaves : (n e : ℕ) (s : State) (c : ℕ) → c < length s.world.cpus → IsFine n e e None s.world.cpus s.world → running (tick s c).state.world c ≡ None → LeavesNothing (tick s c).state.world c
 unfolding tick count_down
 tick_leaves n e s c l h idle = go (running s.world c) refl (ap (λ o. is_none o) idle)
   where
     go : (o : Option ℕ) → running s.world c ≡ o → LeavesIfIdle c (tick_of o s c).state.world
-    go None at = cycle_leaves n e c s.world.cpus s None false l tt at h
+    go None at = cycle_leaves n e c e s.world.cpus s None false l tt at h
     go (Some t) at =
         let v = with_world s (ticked s.world t) in
         keeps_if (λ (r : Stepped). LeavesIfIdle c r.state.world) ((task_at v.world t).slice == 0) (cycle v c (Some t) true) (stays v)
-        (cycle_leaves n (e + 1) c s.world.cpus v (Some t) true l (known_running n e s.world c t l at h) at (fine_ticked n e s.world t h))
+        (cycle_leaves n (e + 1) c e s.world.cpus v (Some t) true l (known_running n e e s.world c t l at h) at (fine_ticked n e e s.world t h))
         (busy c v.world (rw at refl))
 
 -- the same of an accepted event

@@ -1,6 +1,8 @@
 pub mod Entering
 pub mod Waiting
 pub mod Sound
+pub mod Unchanged
+pub mod Begins
 pub mod Skeleton
 pub mod Fine
 pub mod Pushes

@@ -56,7 +56,7 @@ module _ (n : ℕ) (I : ℕ → Option ℕ → List (Option ℕ) → WorldState 
     keeps_called (Some p) b a maps w h =
         run_keeps (answer_to world_functions) (after_query world_functions) (I m hand on) (λ v q. k.query m hand on v q) b p.code (suc (instruction_count p.code)) 0 (start.start (given a) maps) w h
 
-    keeps_evicted : (j : ℕ) (w : WorldState) → j ≤ n → I m hand on w → I m hand on (evicted j w)
+    pub keeps_evicted : (j : ℕ) (w : WorldState) → j ≤ n → I m hand on w → I m hand on (evicted j w)
     keeps_evicted zero w l h = h
     keeps_evicted (suc j) w l h = k.evict m hand on (evicted j w) j (omega (arith, l)) (keeps_evicted j w (omega (arith, l)) h)
 
@@ -98,7 +98,7 @@ module _ (n : ℕ) (I : ℕ → Option ℕ → List (Option ℕ) → WorldState 
         go true out = k.charged m hand on s.world t out h
         go false force = k.more m hand on r.state.world (keeps_call_back s callback.Stopping (task_and_number t x) t c l h)
 
-    keeps_running_on : (s : State) (c t : ℕ) → c < length on → I m hand on s.world → I m hand on (running_on s c t).state.world
+    pub keeps_running_on : (s : State) (c t : ℕ) → c < length on → I m hand on s.world → I m hand on (running_on s c t).state.world
     unfolding running_on
     keeps_running_on s c t l h =
         keeps_if (λ (r : Stepped). I m hand on r.state.world) (is_ejected s) (stays (with_world s (overtaken s.world t))) (call_back s callback.Running (one_task t) t c) (k.overtaken m hand on s.world t h) (keeps_call_back s callback.Running (one_task t) t c l h)

@@ -15,8 +15,8 @@ use Rattle.scx_sched.proofs.Events.{fine_step}
 use Rattle.scx_sched.proofs.First.{fine_started}
 use Rattle.scx_sched.proofs.Still.{still_step, still_first}
 
-fine_with : (n e : ℕ) (w : WorldState) → IsFine n e None w.cpus w → IsFine (length w.tasks) e None w.cpus w
-fine_with n e w h = subst (λ k. IsFine k e None w.cpus w) (sym h.sound.tasks) h
+fine_with : (n e : ℕ) (w : WorldState) → IsFine n e e None w.cpus w → IsFine (length w.tasks) e e None w.cpus w
+fine_with n e w h = subst (λ k. IsFine k e e None w.cpus w) (sym h.sound.tasks) h
 
 -- at first
 pub valid_first : (p : PolicyState) (tree : Hierarchy) (cpus : ℕ) (t : State) → is_bad_shape tree cpus ≡ false → length tree.active ≡ length tree.homes → started p tree cpus ≡ Ok t → t.world.queues.pushes ≤ 2 ^ 23 → IsValid t 0
@@ -26,7 +26,7 @@ valid_first p tree cpus t shape flags e few =
       over = omega arith;
       pushes = omega (arith, few);
       still = still_first p tree cpus t e;
-      fine = fine_with (length tree.homes) 0 t.world (subst (λ on. IsFine (length tree.homes) 0 None on t.world) (sym h.sound.cpus) h);
+      fine = fine_with (length tree.homes) 0 t.world (subst (λ on. IsFine (length tree.homes) 0 0 None on t.world) (sym h.sound.cpus) h);
     }
 
 pub record IsAccepted (s : SimState) (v : Event) : Type 0 where

@@ -1,0 +1,70 @@
+-- What no query of a program changes: the clock, whether the policy is in force, and the cycle under way.
+use Rattle.std.proofs.Common.{◌≡◌, ℕ, suc, Bool, nat_lt, List, length, map, Option, Some, None, refl}
+use Rattle.scx_dsq.specs.Queues.{front_of}
+use Rattle.scx_dsq.specs.Calls.{created}
+use Rattle.scx_semantics.specs.declared.callbacks.Callback.{Callback}
+use Rattle.scx_semantics.specs.declared.host_tables.Helper.{Helper}
+use Rattle.scx_semantics.specs.declared.host_tables.Helper.TheVariants.{MapLookupElem, KtimeGetNs, CreateDsq, DsqInsert, DsqInsertVtime, DsqMoveToLocal, SelectCpuDfl, CpuIdle, TaskByPid, DsqNrQueued}
+use Rattle.scx_semantics.specs.Code.{instruction_count}
+use Rattle.scx_semantics.specs.Effects.{Query, Call, Load, Store}
+use Rattle.scx_semantics.specs.Elements.{Maps}
+use Rattle.scx_semantics.specs.Endings.{run_of}
+use Rattle.scx_semantics.proofs.EndedRuns.{run_keeps}
+use Rattle.scx_semantics.specs.Machine as start
+use Rattle.scx_safety.specs.Programs.{VerifiedProgram}
+use Rattle.scx_vm.specs.Arguments.{given, argument_of}
+use Rattle.scx_vm.specs.declared.arguments.Arg.{Arg}
+use Rattle.scx_vm.specs.declared.arguments.Args.{Args}
+use Rattle.scx_vm.specs.Host.{answer_to, after_query}
+use Rattle.scx_world.specs.declared.call.Insert.{Insert}
+use Rattle.scx_world.specs.declared.faults.Fault.{Fault}
+use Rattle.scx_world.specs.declared.faults.Fault.TheVariants.{NoSuchQueue, NoSuchCpu, CannotCreate}
+use Rattle.scx_world.specs.World.{WorldState, with_queues}
+use Rattle.scx_world.specs.Tasks.{gone, entered, for_cpu}
+use Rattle.scx_world.specs.Helpers.{is_there, can_create, faulted, is_dispatch, insert_fault, with_insert, released, inserted, asked, asked_by_vtime, can_move, moved, given_number, given_task, helper_after, world_functions}
+use Rattle.scx_machine.specs.Callbacks.{called}
+use Rattle.scx_sched.proofs.Entering.{keeps_if}
+
+-- from the first world to the second
+abbrev pub IsAsBefore : WorldState → WorldState → Type 0
+IsAsBefore v w = (w.clock ≡ v.clock) × (w.ejected ≡ v.ejected) × (w.cycling ≡ v.cycling)
+
+module _ (v : WorldState) where
+  same_entered : (w : WorldState) (t : ℕ) (i : Insert) → IsAsBefore v w → IsAsBefore v (entered w t i)
+  same_entered w t i h = keeps_if (IsAsBefore v) (nat_lt t (length w.tasks)) _ w h h
+
+  same_released : (w : WorldState) (t : Option ℕ) (i : Insert) → IsAsBefore v w → IsAsBefore v (released w t i)
+  same_released w None i h = h
+  same_released w (Some t) i h = same_entered (gone w t) t i h
+
+  same_inserted : (w : WorldState) (o : Option Fault) (t : Option ℕ) (i : Insert) → IsAsBefore v w → IsAsBefore v (inserted w o t i)
+  same_inserted w None t i h = keeps_if (IsAsBefore v) (is_dispatch w.call.callback) (released w t (for_cpu w.call.cpu i)) (with_insert w i) (same_released w t (for_cpu w.call.cpu i) h) h
+  same_inserted w (Some f) t i h = h
+
+  same_moved : (w : WorldState) (o : Option ℕ) (q : ℕ) → IsAsBefore v w → IsAsBefore v (moved w o q)
+  same_moved w None q h = h
+  same_moved w (Some t) q h = h
+
+  same_helper : (w : WorldState) (f : Helper) (a : List Arg) → IsAsBefore v w → IsAsBefore v (helper_after w f a)
+  same_helper w CreateDsq a h = keeps_if (IsAsBefore v) (can_create w (given_number a 0)) (with_queues w (created w.queues (given_number a 0))) (faulted w CannotCreate) h h
+  same_helper w DsqInsert a h = same_inserted w (insert_fault w (given_task a 0) (asked a) (given_number a 3)) (given_task a 0) (asked a) h
+  same_helper w DsqInsertVtime a h = same_inserted w (insert_fault w (given_task a 0) (asked_by_vtime a) (given_number a 4)) (given_task a 0) (asked_by_vtime a) h
+  same_helper w DsqMoveToLocal a h = keeps_if (IsAsBefore v) (can_move w (given_number a 0)) (moved w (front_of w.queues (given_number a 0)) (given_number a 0)) (faulted w NoSuchQueue) (same_moved w (front_of w.queues (given_number a 0)) (given_number a 0) h) h
+  same_helper w CpuIdle a h = keeps_if (IsAsBefore v) (nat_lt (given_number a 0) (length w.cpus)) w (faulted w NoSuchCpu) h h
+  same_helper w DsqNrQueued a h = keeps_if (IsAsBefore v) (is_there w (given_number a 0)) w (faulted w NoSuchQueue) h h
+  same_helper w KtimeGetNs a h = h
+  same_helper w SelectCpuDfl a h = h
+  same_helper w TaskByPid a h = h
+  same_helper w MapLookupElem a h = h
+
+  same_query : (w : WorldState) (q : Query) → IsAsBefore v w → IsAsBefore v (after_query world_functions w q)
+  same_query w (Call f a) h = same_helper w f (map argument_of a) h
+  same_query w (Load t f) h = h
+  same_query w (Store t f k) h = h
+
+-- nor does a run
+pub same_called : (p : Option VerifiedProgram) (b : Callback) (a : Args) (maps : Maps) (w : WorldState) → IsAsBefore w (called p b a maps w).outside
+unfolding called run_of
+same_called None b a maps w = (refl, refl, refl)
+same_called (Some p) b a maps w =
+    run_keeps (answer_to world_functions) (after_query world_functions) (IsAsBefore w) (same_query w) b p.code (suc (instruction_count p.code)) 0 (start.start (given a) maps) w (refl, refl, refl)
