@@ -76,7 +76,8 @@ impl Policy {
 
     /// The shapes of its maps.
     pub fn defs(&self) -> &MapDefs
-        ensures { result.now ≡ self.now.shapes }
+        ensures shapes { result.now ≡ self.now.shapes }
+        ensures programs { AreAs self.now.callbacks }
     {
         &self.defs
     }

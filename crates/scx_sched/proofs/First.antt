@@ -11,6 +11,8 @@ use Rattle.std.proofs.lemmas.List.Folds.{sum_by-replicate}
 use Rattle.scx_dsq.specs.Queues.{entry_at, entry_of}
 use Rattle.scx_dsq.specs.declared.entries.Entry.{Entry}
 use Rattle.scx_dsq.specs.Laws.{one_if}
+use Rattle.scx_semantics.specs.declared.callbacks.Callback.{Callback}
+use Rattle.scx_vm.specs.declared.arguments.Args.{Args}
 use Rattle.scx_weights.specs.Hierarchy.{Hierarchy, is_active_task}
 use Rattle.scx_weights.specs.Counting.{any_below}
 use Rattle.scx_world.specs.World.{WorldState, is_this, begun}
@@ -19,13 +21,14 @@ use Rattle.scx_tasks.specs.Tasks.{no_task, new_task}
 use Rattle.scx_world.specs.First.{first_world}
 use Rattle.scx_machine.specs.Policy.{PolicyState}
 use Rattle.scx_machine.specs.Steps.{State}
+use Rattle.scx_machine.specs.Callbacks.{called, acting}
 use Rattle.scx_machine.specs.Start.{is_bad_shape, started}
 use Rattle.scx_sched.specs.Once.{runs, HasQueues}
 use Rattle.scx_sched.specs.Ranges.{IsFine}
 use Rattle.scx_sched.specs.Kept.{IsKeptBySteps}
 use Rattle.scx_sched.proofs.Entering.{keeps_if}
 use Rattle.scx_sched.proofs.Unchanged.{same_called}
-use Rattle.scx_sched.proofs.Begins.{IsKeptByCalls, keeps_started}
+use Rattle.scx_sched.proofs.Begins.{left_by, keeps_started}
 use Rattle.scx_sched.proofs.Skeleton.{keeps_called}
 use Rattle.scx_sched.proofs.Fine.{fine_steps}
 use Rattle.scx_sched.proofs.Timely.{IsInTime, AreInTime, time_steps}
@@ -199,21 +202,21 @@ first_is_fine tree cpus shape flags = record {
 
 -- ---- init and enable
 
--- what small steps keep, callbacks keep
-kept_by_calls : (n : ℕ) (I : ℕ → Option ℕ → List (Option ℕ) → WorldState → Type 0) → IsKeptBySteps n I → (on : List (Option ℕ)) → 0 < length on → IsKeptByCalls (λ w. I 0 None on w)
-kept_by_calls n I k on some = record {
-  begun = λ w b t h. k.begun 0 None on w b t 0 some h;
-  called = λ p b a maps w h. keeps_called n I k 0 None on p b a maps w h;
-  quiet = λ w h. k.quiet 0 None on w h;
-}
-
 -- whatever small steps keep, and holds of the first world, holds once a machine is made
 pub steps_started : (I : ℕ → Option ℕ → List (Option ℕ) → WorldState → Type 0) (p : PolicyState) (tree : Hierarchy) (cpus : ℕ) (t : State) → IsKeptBySteps (length tree.homes) I → is_bad_shape tree cpus ≡ false → started p tree cpus ≡ Ok t
     → I 0 None (replicate cpus None) (first_world tree cpus) → I 0 None (replicate cpus None) t.world
-steps_started I p tree cpus t k shape e h =
-    let x = has_shape tree cpus shape in
-    let some : 0 < length {A = Option ℕ} (replicate cpus None) = rw (length-replicate {A = Option ℕ} cpus None) x.some in
-    keeps_started (λ w. I 0 None (replicate cpus None) w) (kept_by_calls (length tree.homes) I k (replicate cpus None) some) p tree cpus t e h
+steps_started I p tree cpus t k shape e h = keeps_started (λ s. I 0 None on s.world) keeps p tree cpus t e h
+  where
+    on : List (Option ℕ)
+    on = replicate cpus None
+
+    some : 0 < length on
+    some = rw (length-replicate {A = Option ℕ} cpus None) (has_shape tree cpus shape).some
+
+    keeps : (s : State) (b : Callback) (a : Args) (t : ℕ) → I 0 None on s.world → I 0 None on (left_by s b a t).world
+    keeps s b a t h =
+        let w = begun s.world b t 0 in
+        k.quiet 0 None on (called (acting s b) b a s.maps w).outside (keeps_called (length tree.homes) I k 0 None on (acting s b) b a s.maps w (k.begun 0 None on s.world b t 0 some h))
 
 -- what holds between two events holds at first
 pub fine_started : (p : PolicyState) (tree : Hierarchy) (cpus : ℕ) (t : State) → is_bad_shape tree cpus ≡ false → length tree.active ≡ length tree.homes → started p tree cpus ≡ Ok t → IsFine (length tree.homes) 0 0 None (replicate cpus None) t.world
@@ -226,7 +229,9 @@ time_started limit p tree cpus t shape e =
     let h = steps_started (λ m hand on w. AreInTime limit n w) p tree cpus t (time_steps limit n) shape e (length-replicate n new_task, λ force u. rw (never_waited n u) (omega arith)) in
     h.1
 
--- its policy is in force
+-- its policy is the one that it was given, and in force
+pub policy_started : (p : PolicyState) (tree : Hierarchy) (cpus : ℕ) (t : State) → started p tree cpus ≡ Ok t → t.policy ≡ p
+policy_started p tree cpus t e = keeps_started (λ s. s.policy ≡ p) (λ s b a u h. h) p tree cpus t e refl
+
 pub force_started : (p : PolicyState) (tree : Hierarchy) (cpus : ℕ) (t : State) → started p tree cpus ≡ Ok t → t.world.ejected ≡ None
-force_started p tree cpus t e =
-    keeps_started (λ w. w.ejected ≡ None) (record { begun = λ w b t h. h; called = λ p b a maps w h. (same_called p b a maps w).1 ∙ h; quiet = λ w h. h }) p tree cpus t e refl
+force_started p tree cpus t e = keeps_started (λ s. s.world.ejected ≡ None) (λ s b a u h. (same_called (acting s b) b a s.maps (begun s.world b u 0)).1 ∙ h) p tree cpus t e refl

@@ -13,5 +13,9 @@ pub mod Valid
 pub mod Firsts
 pub mod Lengths
 pub mod Leaving
+pub mod Blaming
+pub mod Watching
+pub mod Causing
+pub mod Going
 pub mod Idle
 pub mod Timely

@@ -230,7 +230,8 @@ given_home x i = vtime i.rank ∙ keeps_if (λ (y : Task). y.prev_cpu ≡ x.prev
     vtime Fifo = refl
     vtime (Vtime k) = refl
 
-inside : (n : ℕ) (w : WorldState) (t : ℕ) → t < n → length w.tasks ≡ n → nat_lt t (length w.tasks) ≡ true
+-- a task that there is
+pub inside : (n : ℕ) (w : WorldState) (t : ℕ) → t < n → length w.tasks ≡ n → nat_lt t (length w.tasks) ≡ true
 inside n w t within e = let l : t < length w.tasks = rw e within in grind (arith, nat_tests, l)
 
 module _ (hand : Option ℕ) (on : List (Option ℕ)) (n : ℕ) where

@@ -1,5 +1,5 @@
 -- Between two events no cycle is under way.
-use Rattle.std.proofs.Common.{◌≡◌, ℕ, zero, suc, Bool, ◌==◌, nat_lt, length, Option, Some, None, is_none, Ok, refl, ◌∙◌}
+use Rattle.std.proofs.Common.{◌≡◌, ℕ, Bool, ◌==◌, true, false, nat_lt, length, Option, Some, None, is_none, Ok, refl, ◌∙◌}
 use Rattle.scx_semantics.specs.declared.callbacks.Callback.{Callback}
 use Rattle.scx_semantics.specs.declared.callbacks.Callback.TheVariants as callback
 use Rattle.scx_semantics.specs.Elements.{Maps}
@@ -10,21 +10,21 @@ use Rattle.scx_weights.specs.Refusals.{weight_fault}
 use Rattle.scx_world.specs.declared.call.Insert.{Insert}
 use Rattle.scx_world.specs.declared.faults.Fault.{Fault}
 use Rattle.scx_world.specs.declared.eject.Eject.{Eject}
-use Rattle.scx_world.specs.World.{WorldState, with_tree, task_at, waits, running, cpu_of, is_idle, begun}
+use Rattle.scx_world.specs.World.{WorldState, with_tree, task_at, running, cpu_of, is_idle, begun}
 use Rattle.scx_world.specs.Tasks.{woken, gone, entered, for_cpu, ticked, later}
-use Rattle.scx_world.specs.Ejecting.{put_out, put_builtin, evicted, cut, cut_task}
+use Rattle.scx_world.specs.Ejecting.{put_builtin}
 use Rattle.scx_machine.specs.declared.events.Event.{Event}
 use Rattle.scx_machine.specs.declared.events.Event.TheVariants.{Wake, Sleep, Tick, Clock, SetWeight}
 use Rattle.scx_machine.specs.Policy.{PolicyState}
 use Rattle.scx_machine.specs.Steps.{State, Stepped, joined, stays, with_world, is_ejected}
-use Rattle.scx_machine.specs.Ejecting.{moves_over, eject, ejected_for}
+use Rattle.scx_machine.specs.Ejecting.{eject, ejected_for}
 use Rattle.scx_machine.specs.Callbacks.{called, acting, fault_of, call_back, answered_by, ended, task_cpu_and_0, task_and_number}
 use Rattle.scx_machine.specs.Put.{enters, wanted, enters_builtin, comes_in, put}
 use Rattle.scx_machine.specs.Cycle.{cycle}
 use Rattle.scx_machine.specs.Events.{target, settled, settle, select, wake, sleep_from_cpu, sleep_from, sleep, count_down, tick_of, tick, overdue, stalled, clock, happened}
 use Rattle.scx_machine.specs.Start.{started}
 use Rattle.scx_sched.proofs.Entering.{keeps_if}
-use Rattle.scx_sched.proofs.Unchanged.{same_called}
+use Rattle.scx_sched.proofs.Unchanged.{same_called, eject_sets}
 use Rattle.scx_sched.proofs.Begins.{keeps_started}
 
 abbrev pub IsStill : WorldState → Type 0
@@ -43,27 +43,8 @@ still_called p b a maps w h = (same_called p b a maps w).2 ∙ h
 still_put_builtin : (w : WorldState) (t : ℕ) → IsStill w → IsStill (put_builtin w t)
 still_put_builtin w t h = keeps_if IsStill (nat_lt t (length w.tasks)) _ w h h
 
-still_evicted : (j : ℕ) (w : WorldState) → IsStill w → IsStill (evicted j w)
-still_evicted zero w h = h
-still_evicted (suc j) w h =
-    let v = evicted j w in
-    let x = still_evicted j w h in
-    keeps_if IsStill (waits v j) (put_builtin (gone v j) j) v (still_put_builtin (gone v j) j x) x
-
-still_cut_task : (o : Option ℕ) (w : WorldState) → IsStill w → IsStill (cut_task o w)
-still_cut_task None w h = h
-still_cut_task (Some t) w h = h
-
-still_cut : (j : ℕ) (w : WorldState) → IsStill w → IsStill (cut j w)
-still_cut zero w h = h
-still_cut (suc j) w h = still_cut_task (running (cut j w) j) (cut j w) (still_cut j w h)
-
 still_eject : (s : State) (x : Eject) → IsStill s.world → IsStill (eject s x).state.world
-unfolding eject moves_over
-still_eject s x h =
-    let w = put_out s.world x in
-    let v = evicted (length w.tasks) w in
-    still_cut (length v.cpus) v (still_evicted (length w.tasks) w h)
+still_eject s x h = (eject_sets s x).2 ∙ h
 
 still_ejected_for : (o : Option Fault) (s : State) → IsStill s.world → IsStill (ejected_for o s).state.world
 still_ejected_for None s h = h
@@ -148,4 +129,4 @@ still_step s (SetWeight g x) h = keeps_if IsStill (is_none (weight_fault s.world
 
 -- and before the first
 pub still_first : (p : PolicyState) (h : Hierarchy) (cpus : ℕ) (t : State) → started p h cpus ≡ Ok t → IsStill t.world
-still_first p h cpus t e = keeps_started IsStill (record { begun = λ w b t h. h; called = still_called; quiet = λ w h. h }) p h cpus t e refl
+still_first p h cpus t e = keeps_started (λ s. IsStill s.world) (λ s b a u still. still_called (acting s b) b a s.maps (begun s.world b u 0) still) p h cpus t e refl

@@ -25,7 +25,7 @@ use Rattle.scx_tasks.specs.declared.task.Task.{Task}
 use Rattle.scx_tasks.specs.Tasks.{no_task}
 use Rattle.scx_tasks.specs.Waits.{time_since, is_late, is_overdue}
 use Rattle.scx_world.specs.World.{WorldState, with_queues, with_task, task_at, waits, wait}
-use Rattle.scx_world.specs.Tasks.{given_slice, given_vtime, given, gone, entered, for_cpu, brought, fill_front, renewed, later}
+use Rattle.scx_world.specs.Tasks.{woken, ran_a_tick, ticked, given_slice, given_vtime, given, gone, entered, for_cpu, brought, fill_front, renewed, later}
 use Rattle.scx_world.specs.Helpers.{is_there, can_create, faulted, is_dispatch, insert_fault, with_insert, released, inserted, asked, asked_by_vtime, can_move, moved, given_number, given_task, helper_after, stored_in, world_functions}
 use Rattle.scx_world.specs.Waits.{first_overdue}
 use Rattle.scx_world.specs.Ejecting.{put_builtin}
@@ -99,6 +99,14 @@ module _ (limit n : ℕ) where
   time_query w (Load t f) h = h
   time_query w (Store t f k) h = time_same w t.0 (stored_in (task_at w t.0) f k) (stored_since (task_at w t.0) f k) h
 
+  -- ---- what an event does before it comes to small steps
+
+  pub time_woken : (w : WorldState) (t : ℕ) → AreInTime limit n w → AreInTime limit n (woken w t)
+  time_woken w t h = time_set w t _ (λ force. now_since w.clock limit) h
+
+  pub time_ticked : (w : WorldState) (t : ℕ) → AreInTime limit n w → AreInTime limit n (ticked w t)
+  time_ticked w t h = time_same w t (ran_a_tick (task_at w t)) refl h
+
   -- ---- an ejection, after which nothing is said
 
   time_put_builtin : (w : WorldState) (t : ℕ) → AreInTime limit n w → AreInTime limit n (put_builtin w t)
@@ -128,7 +136,7 @@ time_steps limit n = record {
 
 -- ---- the clock
 
-not_late : (now limit : ℕ) (o : Option ℕ) → is_late now limit o ≡ false → time_since now o ≤ limit
+pub not_late : (now limit : ℕ) (o : Option ℕ) → is_late now limit o ≡ false → time_since now o ≤ limit
 not_late now limit None e = omega arith
 not_late now limit (Some n) e = grind (arith, nat_tests, e)
 

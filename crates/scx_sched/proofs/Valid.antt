@@ -1,31 +1,38 @@
 -- What holds between two events holds at first, and after each accepted event.
-use Rattle.std.proofs.Common.{◌≡◌, ℕ, ◌+◌, ◌≤◌, ◌^◌, Bool, true, false, ◌==◌, length, Some, None, Ok, refl, sym, subst, arith, if◌then◌else◌}
+use Rattle.std.proofs.Common.{◌≡◌, ℕ, ◌+◌, ◌<◌, ◌≤◌, ◌^◌, Bool, true, false, ◌==◌, length, Option, Some, None, Ok, refl, sym, subst, arith, if◌then◌else◌}
 use Rattle.std.proofs.lemmas.Bool.Decides.{nat_tests}
 use Rattle.scx_weights.specs.Hierarchy.{Hierarchy}
 use Rattle.scx_world.specs.World.{WorldState}
+use Rattle.scx_world.specs.Tasks.{later}
 use Rattle.scx_machine.specs.declared.events.Event.{Event}
+use Rattle.scx_machine.specs.declared.events.Event.TheVariants.{Wake, Sleep, Tick, Clock, SetWeight}
 use Rattle.scx_machine.specs.declared.events.Refused.TheVariants.{RunOver}
-use Rattle.scx_machine.specs.Policy.{PolicyState}
-use Rattle.scx_machine.specs.Steps.{State}
+use Rattle.scx_machine.specs.Policy.{PolicyState, AreAs}
+use Rattle.scx_machine.specs.Steps.{State, with_world}
 use Rattle.scx_machine.specs.Events as machine
 use Rattle.scx_machine.specs.Start.{is_bad_shape, started}
 use Rattle.scx_sched.specs.Ranges.{IsFine}
 use Rattle.scx_sched.specs.Sim.{SimState, max_events, refusal, IsValid}
+use Rattle.scx_sched.proofs.Blaming.{honest_wake, honest_sleep, honest_tick, eject_policy}
 use Rattle.scx_sched.proofs.Events.{fine_step}
-use Rattle.scx_sched.proofs.First.{fine_started}
+use Rattle.scx_sched.proofs.First.{fine_started, time_started, policy_started}
+use Rattle.scx_sched.proofs.Timely.{IsInTime}
+use Rattle.scx_sched.proofs.Watching.{time_step}
 use Rattle.scx_sched.proofs.Still.{still_step, still_first}
 
 fine_with : (n e : ℕ) (w : WorldState) → IsFine n e e None w.cpus w → IsFine (length w.tasks) e e None w.cpus w
 fine_with n e w h = subst (λ k. IsFine k e e None w.cpus w) (sym h.sound.tasks) h
 
 -- at first
-pub valid_first : (p : PolicyState) (tree : Hierarchy) (cpus : ℕ) (t : State) → is_bad_shape tree cpus ≡ false → length tree.active ≡ length tree.homes → started p tree cpus ≡ Ok t → t.world.queues.pushes ≤ 2 ^ 23 → IsValid t 0
-valid_first p tree cpus t shape flags e few =
+pub valid_first : (p : PolicyState) (tree : Hierarchy) (cpus : ℕ) (t : State) → is_bad_shape tree cpus ≡ false → length tree.active ≡ length tree.homes → AreAs p.callbacks → started p tree cpus ≡ Ok t → t.world.queues.pushes ≤ 2 ^ 23 → IsValid t 0
+valid_first p tree cpus t shape flags programs e few =
     let h = fine_started p tree cpus t shape flags e in
     record {
       over = omega arith;
       pushes = omega (arith, few);
       still = still_first p tree cpus t e;
+      programs = subst (λ (q : PolicyState). AreAs q.callbacks) (sym (policy_started p tree cpus t e)) programs;
+      timely = time_started t.policy.timeout_ms p tree cpus t shape e;
       fine = fine_with (length tree.homes) 0 t.world (subst (λ on. IsFine (length tree.homes) 0 0 None on t.world) (sym h.sound.cpus) h);
     }
 
@@ -41,13 +48,38 @@ accepted s v e = go (s.events == max_events) refl e
     go true x e = absurd (cc)
     go false x e = record { not_over = x; taken = e }
 
+-- the policy is the same
+
+policy_clock : (s : State) → (machine.clock s).state.policy ≡ s.policy
+unfolding machine.clock
+policy_clock s = go (machine.overdue v)
+  where
+    v : State
+    v = with_world s (later s.world)
+
+    go : (o : Option ℕ) → (machine.stalled o v).state.policy ≡ s.policy
+    go None = refl
+    go (Some t) = eject_policy v _
+
+policy_stays : (s : State) (v : Event) → 0 < length s.world.cpus → (machine.happened s v).state.policy ≡ s.policy
+policy_stays s (Wake t) some = (honest_wake s t some).policy
+policy_stays s (Sleep t) some = (honest_sleep s t).policy
+policy_stays s (Tick c) some = (honest_tick s c).policy
+policy_stays s Clock some = policy_clock s
+policy_stays s (SetWeight g x) some = refl
+
 -- after each
 pub valid_step : (s : State) (n : ℕ) (v : Event) → refusal (record { state = s; events = n }) v ≡ None → IsValid s n → (machine.happened s v).state.world.queues.pushes ≤ s.world.queues.pushes + 2 ^ 18 → IsValid (machine.happened s v).state (n + 1)
 valid_step s n v e h few =
     let a = accepted (record { state = s; events = n }) v e in
+    let t = (machine.happened s v).state in
+    let same : t.policy ≡ s.policy = policy_stays s v (omega (arith, h.fine.sound.here)) in
+    let time = time_step s.policy.timeout_ms (length s.world.tasks) n s v refl a.taken refl h.fine h.timely in
     record {
       over = grind (arith, nat_tests, a.not_over, h.over);
       pushes = omega (arith, few, h.pushes);
       still = still_step s v h.still;
+      programs = subst (λ (q : PolicyState). AreAs q.callbacks) (sym same) h.programs;
+      timely = subst (λ (q : PolicyState). IsInTime q.timeout_ms t.world) (sym same) time;
       fine = fine_with (length s.world.tasks) (n + 1) (machine.happened s v).state.world (fine_step (length s.world.tasks) n s v refl a.taken h.fine);
     }

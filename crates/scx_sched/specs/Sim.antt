@@ -5,7 +5,7 @@ use Rattle.scx_machine.specs.declared.events.Event.{Event}
 use Rattle.scx_machine.specs.declared.events.Refused.{Refused}
 use Rattle.scx_machine.specs.declared.events.Refused.TheVariants.{RunOver}
 use Rattle.scx_weights.specs.Hierarchy.{Hierarchy}
-use Rattle.scx_machine.specs.Policy.{PolicyState}
+use Rattle.scx_machine.specs.Policy.{PolicyState, AreAs}
 use Rattle.scx_machine.specs.Steps.{State, CallMade}
 use Rattle.scx_machine.specs.Start.{started}
 use Rattle.scx_machine.specs.Events as machine
@@ -60,5 +60,6 @@ pub record IsValid (state : State) (events : ℕ) : Type 0 where
   pub over : events ≤ max_events
   pub pushes : state.world.queues.pushes ≤ 2 ^ 23 + 2 ^ 18 * events
   pub still : state.world.cycling ≡ None
+  pub programs : AreAs state.policy.callbacks
   pub timely : IsTimely state
   pub fine : IsFine (length state.world.tasks) events events None state.world.cpus state.world

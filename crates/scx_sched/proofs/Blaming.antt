@@ -1,0 +1,417 @@
+-- What a step does to the policy: it stays the one that it is, and is put out of force only for a fault of
+-- the callback that was called last; once it is out of force none is called, and it stays so for that cause.
+use Rattle.std.proofs.Common.{◌≡◌, ℕ, zero, suc, ◌<◌, Bool, true, false, ◌==◌, nat_lt, if◌then◌else◌, List, [], ◌∷◌, ◌++◌, length, Option, Some, None, is_none, refl, sym, ap, ◌∙◌, subst, append_assoc, arith}
+use Rattle.std.proofs.lemmas.Bool.Decides.{nat_tests}
+use Rattle.std.proofs.lemmas.List.{append-nil}
+use Rattle.scx_dsq.specs.Queues.{front_of}
+use Rattle.scx_semantics.specs.declared.callbacks.Callback.{Callback}
+use Rattle.scx_semantics.specs.declared.callbacks.Callback.TheVariants as callback
+use Rattle.scx_semantics.specs.Elements.{Maps}
+use Rattle.scx_semantics.specs.Endings.{Ending}
+use Rattle.scx_safety.specs.Programs.{VerifiedProgram}
+use Rattle.scx_vm.specs.declared.arguments.Args.{Args}
+use Rattle.scx_weights.specs.Hierarchy.{with_weight}
+use Rattle.scx_weights.specs.Refusals.{weight_fault}
+use Rattle.scx_world.specs.declared.call.Insert.{Insert}
+use Rattle.scx_world.specs.declared.eject.Eject.{Eject}
+use Rattle.scx_world.specs.declared.eject.Eject.TheVariants as cause
+use Rattle.scx_world.specs.declared.faults.Fault.{Fault}
+use Rattle.scx_world.specs.declared.notes.Note.{Note}
+use Rattle.scx_world.specs.declared.notes.What.TheVariants as note
+use Rattle.scx_world.specs.Ids.{global, builtin, local_on}
+use Rattle.scx_world.specs.World.{WorldState, with_tree, task_at, running, cpu_of, is_idle, with_cycling, begun, quiet, said}
+use Rattle.scx_world.specs.Tasks.{woken, asleep, gone, entered, for_cpu, fill_front, filled, stopped, started_at, kept, ticked, reweighed}
+use Rattle.scx_world.specs.Ejecting.{put_out, put_builtin, charged, overtaken}
+use Rattle.scx_machine.specs.Policy.{PolicyState, program_of}
+use Rattle.scx_machine.specs.Steps.{State, CallMade, Stepped, with_world, stays, after, joined, is_ejected}
+use Rattle.scx_machine.specs.Ejecting.{moves_over, eject, ejected_for}
+use Rattle.scx_machine.specs.Callbacks.{called, ended, calls_of, answer_fault, fault_of, unless_ejected, acting, call_back, answered_by, one_task, task_cpu_and_0, task_and_number, cpu_and_task}
+use Rattle.scx_machine.specs.Put.{enters, wanted, enters_builtin, comes_in, put}
+use Rattle.scx_machine.specs.Cycle.{has_local, fill, dispatched, asks_again, tries, stopping, running_on, leave, started_if, start, rest, swap, swap_or_rest, builtin_ask, builtin_cycle, start_or_cycle, pick, pick_or_rest, conclude, ask, seek, look, cycling, cycle}
+use Rattle.scx_machine.specs.declared.events.Event.{Event}
+use Rattle.scx_machine.specs.declared.events.Event.TheVariants.{Wake, Sleep, Tick, Clock, SetWeight}
+use Rattle.scx_machine.specs.Events.{target, settled, settle, select, wake, sleep_from_cpu, sleep_from, sleep, count_down, tick_of, tick}
+use Rattle.scx_sched.specs.Causes.{IsLast}
+use Rattle.scx_sched.proofs.Entering.{keeps_if}
+use Rattle.scx_sched.proofs.Unchanged.{IsAsBefore, same_entered, same_put_builtin, same_called, eject_sets, same_brought, same_kept, same_asleep}
+use Rattle.scx_sched.proofs.Leaving.{run_back}
+
+-- of these calls the last one had a fault, for which the policy was ejected at that time
+pub record IsBlamed (p : PolicyState) (now : ℕ) (calls : List CallMade) (x : Eject) : Type 0 where
+  pub call : CallMade
+  pub of : Callback
+  pub fault : Fault
+  pub last : IsLast call calls
+  pub program : program_of p of ≡ Some call.program
+  pub wrong : fault_of of (called (Some call.program) of call.arguments call.maps call.world) ≡ Some fault
+  pub named : x ≡ cause.Fault fault now
+
+-- a step from a state
+pub record IsHonest (s : State) (r : Stepped) : Type 0 where
+  pub policy : r.state.policy ≡ s.policy
+  pub clock : r.state.world.clock ≡ s.world.clock
+  pub silent : (x : Eject) → s.world.ejected ≡ Some x → r.calls ≡ []
+  pub stays : (x : Eject) → s.world.ejected ≡ Some x → r.state.world.ejected ≡ Some x
+  pub blamed : (x : Eject) → s.world.ejected ≡ None → r.state.world.ejected ≡ Some x → IsBlamed s.policy s.world.clock r.calls x
+
+pub apart : (o : Option Eject) (x : Eject) → o ≡ None → o ≡ Some x → ⊥
+apart o x a b = absurd (cc)
+
+same_eject : (o : Option Eject) (x y : Eject) → o ≡ Some x → o ≡ Some y → x ≡ y
+same_eject o x y a b = cc
+
+-- ---- one step after another
+
+last_of : (xs ys : List CallMade) (m : CallMade) → IsLast m ys → IsLast m (xs ++ ys)
+last_of xs ys m (before, e) = (xs ++ before, ap (λ zs. xs ++ zs) e ∙ sym (append_assoc xs before (m ∷ [])))
+
+last_alone : (xs ys : List CallMade) (m : CallMade) → ys ≡ [] → IsLast m xs → IsLast m (xs ++ ys)
+last_alone xs ys m none (before, e) = (before, ap (λ zs. xs ++ zs) none ∙ (append-nil xs ∙ e))
+
+none_of : (xs ys : List CallMade) → xs ≡ [] → ys ≡ [] → xs ++ ys ≡ []
+none_of xs ys e f = rw e f
+
+-- with other calls
+blamed_as : (p : PolicyState) (now : ℕ) (xs ys : List CallMade) (x : Eject) → ((m : CallMade) → IsLast m xs → IsLast m ys) → IsBlamed p now xs x → IsBlamed p now ys x
+blamed_as p now xs ys x f b = record { call = b.call; of = b.of; fault = b.fault; last = f b.call b.last; program = b.program; wrong = b.wrong; named = b.named }
+
+honest_joined : (s : State) (a r : Stepped) → IsHonest s a → IsHonest a.state r → IsHonest s (joined a r)
+honest_joined s a r h k = record {
+  policy = k.policy ∙ h.policy;
+  clock = k.clock ∙ h.clock;
+  silent = λ x out. none_of a.calls r.calls (h.silent x out) (k.silent x (h.stays x out));
+  stays = λ x out. k.stays x (h.stays x out);
+  blamed = λ x force out. go x force out a.state.world.ejected refl;
+}
+  where
+    go : (x : Eject) → s.world.ejected ≡ None → r.state.world.ejected ≡ Some x → (o : Option Eject) → a.state.world.ejected ≡ o → IsBlamed s.policy s.world.clock (a.calls ++ r.calls) x
+    go x force out None e =
+        let b = blamed_as a.state.policy a.state.world.clock r.calls (a.calls ++ r.calls) x (λ m l. last_of a.calls r.calls m l) (k.blamed x e out) in
+        subst (λ (p : PolicyState). IsBlamed p s.world.clock (a.calls ++ r.calls) x) h.policy (subst (λ (now : ℕ). IsBlamed a.state.policy now (a.calls ++ r.calls) x) h.clock b)
+    go x force out (Some y) e =
+        let b = blamed_as s.policy s.world.clock a.calls (a.calls ++ r.calls) y (λ m l. last_alone a.calls r.calls m (k.silent y e) l) (h.blamed y force e) in
+        subst (λ (z : Eject). IsBlamed s.policy s.world.clock (a.calls ++ r.calls) z) (same_eject r.state.world.ejected y x (k.stays y e) out) b
+
+honest_after : (s : State) (ns : List Note) (r : Stepped) → IsHonest s r → IsHonest s (after ns r)
+honest_after s ns r h = record { policy = h.policy; clock = h.clock; silent = h.silent; stays = h.stays; blamed = h.blamed }
+
+honest_stays : (s : State) → IsHonest s (stays s)
+honest_stays s = record { policy = refl; clock = refl; silent = λ x out. refl; stays = λ x out. out; blamed = λ x force out. absurd (apart s.world.ejected x force out) }
+
+-- a change of the world in which no callback is called
+honest_plain : (s : State) (w : WorldState) (ns : List Note) → IsAsBefore s.world w → IsHonest s (record { state = with_world s w; notes = ns; calls = [] })
+honest_plain s w ns same = record { policy = refl; clock = same.0; silent = λ x out. refl; stays = λ x out. same.1 ∙ out; blamed = λ x force out. absurd (apart w.ejected x (same.1 ∙ force) out) }
+
+-- a step from such a change
+honest_from : (s : State) (w : WorldState) (r : Stepped) → IsAsBefore s.world w → IsHonest (with_world s w) r → IsHonest s r
+honest_from s w r same h = record {
+  policy = h.policy;
+  clock = h.clock ∙ same.0;
+  silent = λ x out. h.silent x (same.1 ∙ out);
+  stays = λ x out. h.stays x (same.1 ∙ out);
+  blamed = λ x force out. subst (λ (now : ℕ). IsBlamed s.policy now r.calls x) same.0 (h.blamed x (same.1 ∙ force) out);
+}
+
+-- ---- a callback
+
+pub eject_policy : (s : State) (x : Eject) → (eject s x).state.policy ≡ s.policy
+unfolding eject moves_over
+eject_policy s x = refl
+
+eject_calls : (s : State) (x : Eject) → (eject s x).calls ≡ []
+unfolding eject moves_over
+eject_calls s x = refl
+
+-- one that is absent answers 0, which is a processor
+no_answer : (b : Callback) (w : WorldState) → (b ≡ callback.SelectCpu → 0 < length w.cpus) → answer_fault b w 0 ≡ None
+no_answer callback.SelectCpu w some =
+    let l : 0 < length w.cpus = some refl in
+    let there : nat_lt 0 (length w.cpus) ≡ true = grind (arith, nat_tests, l) in
+    rw there refl
+no_answer callback.Plain w some = refl
+no_answer callback.Init w some = refl
+no_answer callback.Enable w some = refl
+no_answer callback.Enqueue w some = refl
+no_answer callback.Dispatch w some = refl
+no_answer callback.Running w some = refl
+no_answer callback.Stopping w some = refl
+
+record IsActing (s : State) (b : Callback) (p : VerifiedProgram) : Type 0 where
+  force : s.world.ejected ≡ None
+  program : program_of s.policy b ≡ Some p
+
+is_acting : (s : State) (b : Callback) (p : VerifiedProgram) → acting s b ≡ Some p → IsActing s b p
+is_acting s b p e = go s.world.ejected refl e
+  where
+    go : (o : Option Eject) → s.world.ejected ≡ o → unless_ejected o (program_of s.policy b) ≡ Some p → IsActing s b p
+    go None x y = record { force = x; program = y }
+    go (Some z) x y = absurd (cc)
+
+module _ (s : State) (b : Callback) (a : Args) (t c : ℕ) where
+  abbrev w : WorldState
+  w = begun s.world b t c
+
+  honest_absent : (b ≡ callback.SelectCpu → 0 < length s.world.cpus) → IsHonest s (run_back None s b a t c)
+  unfolding called
+  honest_absent some = go (answer_fault b w 0) (no_answer b w some)
+    where
+      go : (o : Option Fault) → o ≡ None
+          → IsHonest s (joined (record { state = record { policy = s.policy; maps = s.maps; world = quiet w }; notes = []; calls = [] }) (ejected_for o (record { policy = s.policy; maps = s.maps; world = quiet w })))
+      go None e = record { policy = refl; clock = refl; silent = λ x out. refl; stays = λ x out. out; blamed = λ x force out. absurd (apart s.world.ejected x force out) }
+      go (Some f) e = absurd (cc)
+
+  honest_run : (p : VerifiedProgram) → IsActing s b p → IsHonest s (run_back (Some p) s b a t c)
+  honest_run p acts = go (fault_of b e) refl
+    where
+      e : Ending WorldState
+      e = called (Some p) b a s.maps w
+
+      m : CallMade
+      m = record { program = p; arguments = a; maps = s.maps; world = w }
+
+      v : State
+      v = ended s.policy e
+
+      same : IsAsBefore w e.outside
+      same = same_called (Some p) b a s.maps w
+
+      go : (o : Option Fault) → fault_of b e ≡ o → IsHonest s (joined (record { state = v; notes = e.outside.notes; calls = m ∷ [] }) (ejected_for o v))
+      go None x = record {
+        policy = refl;
+        clock = same.0;
+        silent = λ y out. absurd (apart s.world.ejected y acts.force out);
+        stays = λ y out. same.1 ∙ out;
+        blamed = λ y force out. absurd (apart e.outside.ejected y (same.1 ∙ force) out);
+      }
+      go (Some f) x =
+          let y = cause.Fault f e.outside.clock in
+          let sets = eject_sets v y in
+          record {
+            policy = eject_policy v y;
+            clock = sets.0 ∙ same.0;
+            silent = λ z out. absurd (apart s.world.ejected z acts.force out);
+            stays = λ z out. absurd (apart s.world.ejected z acts.force out);
+            blamed = λ z force out. record {
+              call = m;
+              of = b;
+              fault = f;
+              last = ([], ap (λ (cs : List CallMade). m ∷ cs) (eject_calls v y));
+              program = acts.program;
+              wrong = x;
+              named = same_eject (eject v y).state.world.ejected z y out sets.1 ∙ ap (λ (k : ℕ). cause.Fault f k) same.0;
+            };
+          }
+
+honest_call_back : (s : State) (b : Callback) (a : Args) (t c : ℕ) → (b ≡ callback.SelectCpu → 0 < length s.world.cpus) → IsHonest s (call_back s b a t c)
+unfolding call_back
+honest_call_back s b a t c some = go (acting s b) refl
+  where
+    go : (p : Option VerifiedProgram) → acting s b ≡ p → IsHonest s (run_back p s b a t c)
+    go None e = honest_absent s b a t c some
+    go (Some p) e = honest_run s b a t c p (is_acting s b p e)
+
+-- ---- a task that is put
+
+honest_enters : (s : State) (t : ℕ) (i : Insert) → IsHonest s (enters s t i)
+unfolding enters
+honest_enters s t i = honest_plain s (entered s.world t i) _ (same_entered s.world s.world t i (refl, refl, refl))
+
+honest_enters_builtin : (s : State) (t : ℕ) → IsHonest s (enters_builtin s t)
+unfolding enters_builtin
+honest_enters_builtin s t = honest_plain s (put_builtin s.world t) _ (same_put_builtin s.world s.world t (refl, refl, refl))
+
+honest_comes_in : (s : State) (t c : ℕ) → IsHonest s (comes_in s t c)
+unfolding comes_in
+honest_comes_in s t c =
+    let i = wanted s.policy.callbacks.enqueue c s.world.call.insert in
+    keeps_if (IsHonest s) (is_ejected s) (enters_builtin s t) (enters s t i) (honest_enters_builtin s t) (honest_enters s t i)
+
+honest_put : (s : State) (t c flags : ℕ) → IsHonest s (put s t c flags)
+unfolding put
+honest_put s t c flags =
+    let r = call_back s callback.Enqueue (task_and_number t flags) t c in
+    honest_joined s r (comes_in r.state t c) (honest_call_back s callback.Enqueue (task_and_number t flags) t c (λ e. absurd (cc))) (honest_comes_in r.state t c)
+
+-- ---- dispatch
+
+honest_fill : (s : State) (q c : ℕ) → IsHonest s (fill s q c)
+unfolding fill
+honest_fill s q c = honest_plain s (filled s.world q c) _ (same_brought (fill_front s.world q c) s.world q c)
+
+honest_dispatched : (s : State) (c : ℕ) (p : Option ℕ) → IsHonest s (dispatched s c p)
+unfolding dispatched
+honest_dispatched s c p =
+    let r = call_back s callback.Dispatch (cpu_and_task c p) 0 c in
+    honest_joined s r (fill r.state global c) (honest_call_back s callback.Dispatch (cpu_and_task c p) 0 c (λ e. absurd (cc))) (honest_fill r.state global c)
+
+honest_tries : (j : ℕ) (s : State) (c : ℕ) (p : Option ℕ) → IsHonest s (tries j s c p)
+unfolding tries
+honest_tries zero s c p = honest_stays s
+honest_tries (suc j) s c p =
+    let d = dispatched s c p in
+    let x = honest_dispatched s c p in
+    keeps_if (IsHonest s) (asks_again d.state c) (joined d (tries j d.state c p)) d (honest_joined s d (tries j d.state c p) x (honest_tries j d.state c p)) x
+
+-- ---- on and off a processor
+
+honest_stopping : (s : State) (c t n : ℕ) → IsHonest s (stopping s c t n)
+unfolding stopping
+honest_stopping s c t n =
+    keeps_if (IsHonest s) (is_ejected s) (stays (with_world s (charged s.world t))) (call_back s callback.Stopping (task_and_number t n) t c)
+    (honest_plain s (charged s.world t) [] (refl, refl, refl)) (honest_call_back s callback.Stopping (task_and_number t n) t c (λ e. absurd (cc)))
+
+honest_running_on : (s : State) (c t : ℕ) → IsHonest s (running_on s c t)
+unfolding running_on
+honest_running_on s c t =
+    keeps_if (IsHonest s) (is_ejected s) (stays (with_world s (overtaken s.world t))) (call_back s callback.Running (one_task t) t c)
+    (honest_plain s (overtaken s.world t) [] (refl, refl, refl)) (honest_call_back s callback.Running (one_task t) t c (λ e. absurd (cc)))
+
+honest_leave : (s : State) (c : ℕ) (p : Option ℕ) → IsHonest s (leave s c p)
+unfolding leave
+honest_leave s c None = honest_stays s
+honest_leave s c (Some t) =
+    let w = stopped s.world c t in
+    let off = with_world s w in
+    let r = stopping off c t 1 in
+    let ns = said s.world (note.Stop t c) ∷ [] in
+    honest_from s w (after ns (joined r (put r.state t c 0))) (refl, refl, refl) (honest_after off ns (joined r (put r.state t c 0)) (honest_joined off r (put r.state t c 0) (honest_stopping off c t 1) (honest_put r.state t c 0)))
+
+honest_start : (s : State) (c : ℕ) → IsHonest s (start s c)
+unfolding start
+honest_start s c = go (front_of s.world.queues (local_on c))
+  where
+    go : (o : Option ℕ) → IsHonest s (started_if o s c)
+    go None = honest_stays s
+    go (Some t) =
+        let w = started_at (Some t) s.world c in
+        let ns = said s.world (note.Run t c) ∷ [] in
+        honest_from s w (after ns (running_on (with_world s w) c t)) (refl, refl, refl) (honest_after (with_world s w) ns (running_on (with_world s w) c t) (honest_running_on (with_world s w) c t))
+
+honest_rest : (s : State) (c : ℕ) (p : Option ℕ) (ran : Bool) → IsHonest s (rest s c p ran)
+unfolding rest
+honest_rest s c p ran = honest_plain s (kept s.world p) _ (same_kept s.world p)
+
+-- ---- the built-in scheduler
+
+honest_swap : (s : State) (c : ℕ) (p : Option ℕ) → IsHonest s (swap s c p)
+unfolding swap
+honest_swap s c p = let l = leave s c p in honest_joined s l (start l.state c) (honest_leave s c p) (honest_start l.state c)
+
+honest_swap_or_rest : (s : State) (c : ℕ) (p : Option ℕ) (ran : Bool) → IsHonest s (swap_or_rest s c p ran)
+unfolding swap_or_rest
+honest_swap_or_rest s c p ran = keeps_if (IsHonest s) (has_local s c) (swap s c p) (rest s c p ran) (honest_swap s c p) (honest_rest s c p ran)
+
+honest_builtin_ask : (s : State) (c : ℕ) (p : Option ℕ) (ran : Bool) → IsHonest s (builtin_ask s c p ran)
+unfolding builtin_ask
+honest_builtin_ask s c p ran = let f = fill s builtin c in honest_joined s f (swap_or_rest f.state c p ran) (honest_fill s builtin c) (honest_swap_or_rest f.state c p ran)
+
+honest_builtin_cycle : (s : State) (c : ℕ) (p : Option ℕ) (ran : Bool) → IsHonest s (builtin_cycle s c p ran)
+unfolding builtin_cycle
+honest_builtin_cycle s c p ran = let f = fill s global c in honest_joined s f (builtin_ask f.state c p ran) (honest_fill s global c) (honest_builtin_ask f.state c p ran)
+
+-- ---- the policy
+
+honest_start_or_cycle : (s : State) (c : ℕ) (ran : Bool) → IsHonest s (start_or_cycle s c ran)
+unfolding start_or_cycle
+honest_start_or_cycle s c ran = keeps_if (IsHonest s) (has_local s c) (start s c) (builtin_cycle s c None ran) (honest_start s c) (honest_builtin_cycle s c None ran)
+
+honest_pick : (s : State) (c : ℕ) (p : Option ℕ) (ran : Bool) → IsHonest s (pick s c p ran)
+unfolding pick
+honest_pick s c p ran = let l = leave s c p in honest_joined s l (start_or_cycle l.state c ran) (honest_leave s c p) (honest_start_or_cycle l.state c ran)
+
+honest_pick_or_rest : (s : State) (c : ℕ) (p : Option ℕ) (ran : Bool) → IsHonest s (pick_or_rest s c p ran)
+unfolding pick_or_rest
+honest_pick_or_rest s c p ran = keeps_if (IsHonest s) (has_local s c) (pick s c p ran) (rest s c p ran) (honest_pick s c p ran) (honest_rest s c p ran)
+
+honest_conclude : (s : State) (c : ℕ) (p : Option ℕ) (ran : Bool) → IsHonest s (conclude s c p ran)
+unfolding conclude
+honest_conclude s c p ran = keeps_if (IsHonest s) (is_ejected s) (builtin_cycle s c p ran) (pick_or_rest s c p ran) (honest_builtin_cycle s c p ran) (honest_pick_or_rest s c p ran)
+
+honest_ask : (s : State) (c : ℕ) (p : Option ℕ) (ran : Bool) → IsHonest s (ask s c p ran)
+unfolding ask
+honest_ask s c p ran = let d = tries 32 s c p in honest_joined s d (conclude d.state c p ran) (honest_tries 32 s c p) (honest_conclude d.state c p ran)
+
+honest_seek : (s : State) (c : ℕ) (p : Option ℕ) (ran : Bool) → IsHonest s (seek s c p ran)
+unfolding seek
+honest_seek s c p ran =
+    let f = fill s global c in
+    let r = if has_local f.state c then pick f.state c p ran else ask f.state c p ran in
+    honest_joined s f r (honest_fill s global c) (keeps_if (IsHonest f.state) (has_local f.state c) (pick f.state c p ran) (ask f.state c p ran) (honest_pick f.state c p ran) (honest_ask f.state c p ran))
+
+honest_look : (s : State) (c : ℕ) (p : Option ℕ) (ran : Bool) → IsHonest s (look s c p ran)
+unfolding look
+honest_look s c p ran = keeps_if (IsHonest s) (is_ejected s) (builtin_cycle s c p ran) (seek s c p ran) (honest_builtin_cycle s c p ran) (honest_seek s c p ran)
+
+honest_cycle : (s : State) (c : ℕ) (p : Option ℕ) (ran : Bool) → IsHonest s (cycle s c p ran)
+unfolding cycle
+honest_cycle s c p ran =
+    let v = cycling s (Some c) in
+    let h = honest_look v c p ran in
+    record { policy = h.policy; clock = h.clock; silent = h.silent; stays = h.stays; blamed = h.blamed }
+
+-- ---- events
+
+honest_settled : (o : Option Insert) (s : State) (t c : ℕ) → IsHonest s (settled o s t c)
+honest_settled None s t c = honest_put s t c 1
+honest_settled (Some i) s t c = honest_enters s t (for_cpu c i)
+
+honest_settle : (s : State) (t c : ℕ) → IsHonest s (settle s t c)
+unfolding settle
+honest_settle s t c =
+    let r = settled s.world.call.insert s t c in
+    let h = honest_settled s.world.call.insert s t c in
+    keeps_if (IsHonest s) (is_idle r.state.world c) (joined r (cycle r.state c None false)) r (honest_joined s r (cycle r.state c None false) h (honest_cycle r.state c None false)) h
+
+honest_select : (s : State) (t : ℕ) → 0 < length s.world.cpus → IsHonest s (select s t)
+unfolding select
+honest_select s t some =
+    let c = (task_at s.world t).prev_cpu in
+    let r = call_back s callback.SelectCpu (task_cpu_and_0 t c) t c in
+    let d = target (acting r.state callback.SelectCpu) r.state.world t (answered_by s callback.SelectCpu (task_cpu_and_0 t c) t c) in
+    honest_joined s r (settle r.state t d) (honest_call_back s callback.SelectCpu (task_cpu_and_0 t c) t c (λ e. some)) (honest_settle r.state t d)
+
+-- a task that wakes
+pub honest_wake : (s : State) (t : ℕ) → 0 < length s.world.cpus → IsHonest s (wake s t)
+unfolding wake
+honest_wake s t some =
+    let w = woken s.world t in
+    let ns = said s.world (note.Wake t) ∷ [] in
+    honest_from s w (after ns (select (with_world s w) t)) (refl, refl, refl) (honest_after (with_world s w) ns (select (with_world s w) t) (honest_select (with_world s w) t some))
+
+honest_sleep_from_cpu : (s : State) (t c : ℕ) → IsHonest s (sleep_from_cpu s t c)
+unfolding sleep_from_cpu
+honest_sleep_from_cpu s t c =
+    let w = stopped s.world c t in
+    let off = with_world s w in
+    let r = stopping off c t 0 in
+    let u = asleep r.state.world t in
+    let y = cycle (with_world r.state u) c None true in
+    let ns = said s.world (note.Stop t c) ∷ [] in
+    honest_from s w (after ns (joined r y)) (refl, refl, refl)
+    (honest_after off ns (joined r y) (honest_joined off r y (honest_stopping off c t 0) (honest_from r.state u y (same_asleep r.state.world r.state.world t (refl, refl, refl)) (honest_cycle (with_world r.state u) c None true))))
+
+-- one that goes to sleep
+pub honest_sleep : (s : State) (t : ℕ) → IsHonest s (sleep s t)
+unfolding sleep
+honest_sleep s t = honest_after s (said s.world (note.Sleep t) ∷ []) (sleep_from (cpu_of s.world t) s t) (go (cpu_of s.world t))
+  where
+    go : (o : Option ℕ) → IsHonest s (sleep_from o s t)
+    go None = honest_plain s (asleep (gone s.world t) t) [] (same_asleep s.world (gone s.world t) t (refl, refl, refl))
+    go (Some c) = honest_sleep_from_cpu s t c
+
+-- a processor that ran
+pub honest_tick : (s : State) (c : ℕ) → IsHonest s (tick s c)
+unfolding tick count_down
+honest_tick s c = go (running s.world c)
+  where
+    go : (o : Option ℕ) → IsHonest s (tick_of o s c)
+    go None = honest_cycle s c None false
+    go (Some t) =
+        let w = ticked s.world t in
+        let v = with_world s w in
+        let r = if (task_at v.world t).slice == 0 then cycle v c (Some t) true else stays v in
+        honest_from s w r (refl, refl, refl) (keeps_if (IsHonest v) ((task_at v.world t).slice == 0) (cycle v c (Some t) true) (stays v) (honest_cycle v c (Some t) true) (honest_stays v))
+
+-- a weight
+pub honest_weight : (s : State) (g x : ℕ) (ns : List Note) → IsHonest s (record { state = with_world s (reweighed s.world g x); notes = ns; calls = [] })
+honest_weight s g x ns = honest_plain s (reweighed s.world g x) ns (keeps_if (IsAsBefore s.world) (is_none (weight_fault s.world.tree g x)) (with_tree s.world (with_weight s.world.tree g x)) s.world (refl, refl, refl) (refl, refl, refl))

@@ -1,0 +1,163 @@
+-- A policy is ejected for a cause.
+use Rattle.std.proofs.Common.{◌≡◌, ℕ, ◌+◌, ◌<◌, ◌≤◌, Bool, true, false, nat_lt, if◌then◌else◌, List, [], ◌∷◌, ◌++◌, length, Option, Some, None, is_some, refl, sym, ap, ◌∙◌, subst, arith}
+use Rattle.std.proofs.lemmas.Bool.Decides.{nat_tests}
+use Rattle.std.proofs.lemmas.List.Quantifiers.{position-Some}
+use Rattle.scx_semantics.specs.declared.callbacks.Callback.{Callback}
+use Rattle.scx_semantics.specs.declared.callbacks.Callback.TheVariants as callback
+use Rattle.scx_semantics.specs.Endings.{Ending, run_of}
+use Rattle.scx_semantics.proofs.EndedRuns.{run_is}
+use Rattle.scx_safety.specs.Programs.{VerifiedProgram}
+use Rattle.scx_vm.specs.Arguments.{given}
+use Rattle.scx_vm.specs.Host.{answer_to, after_query}
+use Rattle.scx_tasks.specs.Tasks.{no_task}
+use Rattle.scx_tasks.specs.Waits.{is_late, is_overdue}
+use Rattle.scx_world.specs.declared.eject.Eject.{Eject}
+use Rattle.scx_world.specs.declared.eject.Eject.TheVariants as cause
+use Rattle.scx_world.specs.declared.faults.Fault.{Fault}
+use Rattle.scx_world.specs.declared.faults.Fault.TheVariants.{NoSuchCpu}
+use Rattle.scx_world.specs.World.{WorldState, task_at}
+use Rattle.scx_world.specs.Tasks.{later}
+use Rattle.scx_world.specs.Waits.{first_overdue, IsFirstOverdue}
+use Rattle.scx_world.specs.Helpers.{or_fault, world_functions}
+use Rattle.scx_tasks.specs.Waits.{time_since}
+use Rattle.scx_machine.specs.Policy.{PolicyState, program_of, IsAs, AreAs}
+use Rattle.scx_machine.specs.Steps.{State, CallMade, Stepped, with_world, is_ejected}
+use Rattle.scx_machine.specs.Ejecting.{eject}
+use Rattle.scx_machine.specs.Callbacks.{called, answer_fault, fault_of, IsAnswered, AreAnswered}
+use Rattle.scx_machine.specs.declared.events.Event.{Event}
+use Rattle.scx_machine.specs.declared.events.Event.TheVariants.{Wake, Sleep, Tick, Clock, SetWeight}
+use Rattle.scx_machine.specs.Events.{overdue, stalled, clock, happened}
+use Rattle.scx_sched.specs.Causes.{EndsIn, HasFault, Of_helper, Of_answer, IsLast, IsCause, Waited, Went_wrong, EjectsOnce}
+use Rattle.scx_sched.specs.Sim.{SimState, refusal, calls_if, calls_of, IsValid}
+use Rattle.scx_sched.proofs.Unchanged.{eject_sets}
+use Rattle.scx_sched.proofs.Blaming.{IsHonest, apart, same_eject, honest_wake, honest_sleep, honest_tick, honest_weight}
+use Rattle.scx_sched.proofs.Timely.{not_late}
+
+-- ---- a callback with a fault
+
+-- of calls that come to an answer the last one does
+last_answered : (before : List CallMade) (m : CallMade) → AreAnswered (before ++ m ∷ []) → IsAnswered m
+last_answered [] m all = all.0
+last_answered (c ∷ cs) m all = last_answered cs m all.1
+
+-- a policy's program is the callback in whose place it stands
+as_callback : (p : PolicyState) (b : Callback) (x : VerifiedProgram) → AreAs p.callbacks → program_of p b ≡ Some x → x.context.callback ≡ b
+as_callback p callback.Init x all e = subst (λ (o : Option VerifiedProgram). IsAs callback.Init o) e all.init
+as_callback p callback.Enable x all e = subst (λ (o : Option VerifiedProgram). IsAs callback.Enable o) e all.enable
+as_callback p callback.SelectCpu x all e = subst (λ (o : Option VerifiedProgram). IsAs callback.SelectCpu o) e all.select_cpu
+as_callback p callback.Enqueue x all e = subst (λ (o : Option VerifiedProgram). IsAs callback.Enqueue o) e all.enqueue
+as_callback p callback.Dispatch x all e = subst (λ (o : Option VerifiedProgram). IsAs callback.Dispatch o) e all.dispatch
+as_callback p callback.Running x all e = subst (λ (o : Option VerifiedProgram). IsAs callback.Running o) e all.running
+as_callback p callback.Stopping x all e = subst (λ (o : Option VerifiedProgram). IsAs callback.Stopping o) e all.stopping
+as_callback p callback.Plain x all e = absurd (cc)
+
+module _ (m : CallMade) (f : Fault) (i : IsAnswered m) where
+  ends : EndsIn m i.answer i.world
+  ends = record { steps = i.steps; maps = i.maps; run = i.run }
+
+  of_answer : (b : Callback) → m.program.context.callback ≡ b → i.world.call.fault ≡ None → answer_fault b i.world i.answer ≡ Some f → HasFault m f
+  of_answer callback.SelectCpu same none e = go (nat_lt i.answer (length i.world.cpus)) refl e
+    where
+      wrong : Some NoSuchCpu ≡ Some f → f ≡ NoSuchCpu
+      wrong x = cc
+
+      go : (b : Bool) → nat_lt i.answer (length i.world.cpus) ≡ b → (if b then None else Some NoSuchCpu) ≡ Some f → HasFault m f
+      go true x e = absurd (cc)
+      go false x e = let over : length i.world.cpus ≤ i.answer = grind (arith, nat_tests, x) in Of_answer i.answer i.world ends none same over (wrong e)
+  of_answer callback.Plain same none e = absurd (cc)
+  of_answer callback.Init same none e = absurd (cc)
+  of_answer callback.Enable same none e = absurd (cc)
+  of_answer callback.Enqueue same none e = absurd (cc)
+  of_answer callback.Dispatch same none e = absurd (cc)
+  of_answer callback.Running same none e = absurd (cc)
+  of_answer callback.Stopping same none e = absurd (cc)
+
+  of_end : (b : Callback) → m.program.context.callback ≡ b → or_fault i.world.call.fault (answer_fault b i.world i.answer) ≡ Some f → HasFault m f
+  of_end b same e = go i.world.call.fault refl e
+    where
+      go : (o : Option Fault) → i.world.call.fault ≡ o → or_fault o (answer_fault b i.world i.answer) ≡ Some f → HasFault m f
+      go (Some g) x y = Of_helper i.answer i.world ends (x ∙ y)
+      go None x y = of_answer b same x y
+
+  -- what is computed of a call is what its run comes to
+  has_fault : (b : Callback) → m.program.context.callback ≡ b → fault_of b (called (Some m.program) b m.arguments m.maps m.world) ≡ Some f → HasFault m f
+  unfolding called
+  has_fault b same wrong = of_end b same (subst (λ (x : Ending WorldState). fault_of b x ≡ Some f) (sym computed) wrong)
+    where
+      ending : Callback → Ending WorldState
+      ending d = run_of (answer_to world_functions) (after_query world_functions) d m.program.code (given m.arguments) m.maps m.world
+
+      computed : record { answer = Some i.answer; maps = i.maps; outside = i.world } ≡ ending b
+      computed =
+          run_is (answer_to world_functions) (after_query world_functions) m.program.context.callback m.program.code (given m.arguments) m.maps m.world i.answer i.steps i.maps i.world i.run i.in_bound ∙ ap ending same
+
+-- ---- who waited for too long
+
+late_is : (now limit : ℕ) (o : Option ℕ) → is_late now limit o ≡ true → limit < time_since now o
+late_is now limit None e = absurd (cc)
+late_is now limit (Some n) e = grind (arith, nat_tests, e)
+
+first_late : (w : WorldState) (limit t : ℕ) → first_overdue w limit ≡ Some t → IsFirstOverdue w limit t
+first_late w limit t e =
+    let x = position-Some (is_overdue w.clock limit) w.tasks t no_task e in
+    record { known = x.0; over = late_is w.clock limit (task_at w t).since x.1; least = λ u l. not_late w.clock limit (task_at w u).since (x.2 u l) }
+
+record IsLate (s : State) (t : ℕ) : Type 0 where
+  force : s.world.ejected ≡ None
+  first : first_overdue s.world s.policy.timeout_ms ≡ Some t
+
+is_late_in : (s : State) (t : ℕ) → overdue s ≡ Some t → IsLate s t
+is_late_in s t e = go s.world.ejected refl e
+  where
+    go : (o : Option Eject) → s.world.ejected ≡ o → (if is_some o then None else first_overdue s.world s.policy.timeout_ms) ≡ Some t → IsLate s t
+    go None x y = record { force = x; first = y }
+    go (Some z) x y = absurd (cc)
+
+-- ---- an accepted event
+
+-- the state after it
+abbrev after_event : State → ℕ → Event → SimState
+after_event s n v = record { state = (happened s v).state; events = n + 1 }
+
+module _ (s : State) (n : ℕ) where
+  before_event : SimState
+  before_event = record { state = s; events = n }
+
+  honest_cause : (v : Event) → refusal before_event v ≡ None → AreAs s.policy.callbacks → AreAnswered (happened s v).calls → IsHonest s (happened s v) → EjectsOnce before_event v (after_event s n v)
+  honest_cause v ok programs answered h = record { stays = h.stays; cause = λ x force out. for_fault x force out }
+    where
+      for_fault : (x : Eject) → s.world.ejected ≡ None → (happened s v).state.world.ejected ≡ Some x → IsCause before_event v x
+      for_fault x force out =
+          let b = h.blamed x force out in
+          let i = last_answered b.last.0 b.call (subst AreAnswered b.last.1 answered) in
+          let last : IsLast b.call (calls_of before_event v) = (b.last.0, ap (λ o. calls_if o before_event v) ok ∙ b.last.1) in
+          subst (IsCause before_event v) (sym b.named) (Went_wrong b.call b.fault last (has_fault b.call b.fault i b.of (as_callback s.policy b.of b.call.program programs b.program) b.wrong))
+
+  clock_cause : EjectsOnce before_event Clock (record { state = (clock s).state; events = n + 1 })
+  unfolding clock
+  clock_cause = go (overdue v) refl
+    where
+      v : State
+      v = with_world s (later s.world)
+
+      go : (o : Option ℕ) → overdue v ≡ o → EjectsOnce before_event Clock (record { state = (stalled o v).state; events = n + 1 })
+      go None e = record { stays = λ x out. out; cause = λ x force out. absurd (apart s.world.ejected x force out) }
+      go (Some t) e =
+          let y = cause.Stall t v.world.clock in
+          let late = is_late_in v t e in
+          record {
+            stays = λ x out. absurd (apart s.world.ejected x late.force out);
+            cause = λ x force out. subst (IsCause before_event Clock) (same_eject (eject v y).state.world.ejected y x (eject_sets v y).1 out) (Waited t refl (first_late v.world s.policy.timeout_ms t late.first));
+          }
+
+  -- the law
+  pub ejects_once : (v : Event) → refusal before_event v ≡ None → 0 < length s.world.cpus → AreAs s.policy.callbacks → AreAnswered (happened s v).calls → EjectsOnce before_event v (after_event s n v)
+  ejects_once (Wake t) ok some programs answered = honest_cause (Wake t) ok programs answered (honest_wake s t some)
+  ejects_once (Sleep t) ok some programs answered = honest_cause (Sleep t) ok programs answered (honest_sleep s t)
+  ejects_once (Tick c) ok some programs answered = honest_cause (Tick c) ok programs answered (honest_tick s c)
+  ejects_once Clock ok some programs answered = clock_cause
+  ejects_once (SetWeight g x) ok some programs answered = honest_cause (SetWeight g x) ok programs answered (honest_weight s g x _)
+
+-- of a machine between two events
+pub step_cause : (s : State) (n : ℕ) (v : Event) → refusal (record { state = s; events = n }) v ≡ None → IsValid s n → AreAnswered (happened s v).calls → EjectsOnce (record { state = s; events = n }) v (record { state = (happened s v).state; events = n + 1 })
+step_cause s n v ok h answered = ejects_once s n v ok (omega (arith, h.fine.sound.here)) h.programs answered

@@ -1,0 +1,152 @@
+-- An ejection loses no task: who waits in any queue goes over to the built-in scheduler, and who runs stays.
+use Rattle.std.proofs.Common.{◌≡◌, ℕ, zero, suc, ◌<◌, ◌≤◌, Bool, true, false, ◌⊎◌, inl, inr, if◌then◌else◌, List, length, set, Option, Some, None, is_some, is_none, option_map, refl, sym, ap, ◌∙◌, subst, arith}
+use Rattle.std.proofs.lemmas.Bool.{cases_eq, cases_lt}
+use Rattle.std.proofs.lemmas.List.{get_or-set_same, get_or-set_other}
+use Rattle.scx_dsq.specs.declared.entries.Entry.{Entry}
+use Rattle.scx_dsq.specs.declared.entries.Rank.{Rank}
+use Rattle.scx_dsq.specs.declared.entries.Rank.TheVariants.{Vtime}
+use Rattle.scx_dsq.specs.Queues.{QueueState, task_count, entry_at, entry_of, queue_of}
+use Rattle.scx_dsq.specs.Calls.{push_refusal, next_entry, with_task as with_place, without_task, pushed, removed}
+use Rattle.scx_dsq.proofs.Facts.{tasks_removed}
+use Rattle.scx_world.specs.declared.eject.Eject.{Eject}
+use Rattle.scx_world.specs.Ids.{builtin}
+use Rattle.scx_world.specs.World.{WorldState, waits, running}
+use Rattle.scx_world.specs.Tasks.{gone}
+use Rattle.scx_world.specs.Ejecting.{raised, put_builtin, put_out, evict, evicted, cut, cut_task}
+use Rattle.scx_machine.specs.Steps.{State}
+use Rattle.scx_machine.specs.Ejecting.{moves_over, eject}
+use Rattle.scx_sched.specs.Ranges.{IsFine}
+use Rattle.scx_sched.specs.Over.{GoesOver}
+use Rattle.scx_sched.specs.Laws.{EjectionLosesNobody}
+use Rattle.scx_sched.proofs.Sound.{inside, waits_known}
+use Rattle.scx_sched.proofs.Fine.{fine_steps}
+use Rattle.scx_sched.proofs.Pushes.{is_push_accepted}
+use Rattle.scx_sched.proofs.Skeleton.{keeps_evicted}
+
+-- ---- one task that is moved
+
+over_here : (s : QueueState) (q t : ℕ) (r : Rank) → t < task_count s → push_refusal s q t r ≡ None → queue_of (pushed s q t r) t ≡ Some q
+over_here s q t r within ok = rw (ok, get_or-set_same {A = Option Entry} s.entries t (Some (next_entry s q r)) None within) refl
+
+pushed_other : (s : QueueState) (q t u : ℕ) (r : Rank) → (u ≡ t → ⊥) → entry_of (pushed s q t r) u ≡ entry_of s u
+pushed_other s q t u r other = go (is_none (push_refusal s q t r))
+  where
+    go : (b : Bool) → entry_of (if b then with_place s q t r else s) u ≡ entry_of s u
+    go true = get_or-set_other {A = Option Entry} s.entries t u (Some (next_entry s q r)) None other
+    go false = refl
+
+removed_other : (s : QueueState) (t u : ℕ) → (u ≡ t → ⊥) → entry_of (removed s t) u ≡ entry_of s u
+removed_other s t u other = go (is_some (entry_of s t))
+  where
+    go : (b : Bool) → entry_of (if b then without_task s t else s) u ≡ entry_of s u
+    go true = get_or-set_other {A = Option Entry} s.entries t u None None other
+    go false = refl
+
+-- ---- the first so many tasks
+
+-- who waited so waits for the built-in scheduler, and who didn't doesn't
+record IsOver (old new : Option Entry) : Type 0 where
+  over : is_some old ≡ true → option_map (λ p. p.queue) new ≡ Some builtin
+  still : is_some old ≡ false → is_some new ≡ false
+
+over_as : (old new new' : Option Entry) → new' ≡ new → IsOver old new → IsOver old new'
+over_as old new new' e h = record { over = λ x. ap (λ o. option_map (λ (p : Entry). p.queue) o) e ∙ h.over x; still = λ x. ap (λ o. is_some o) e ∙ h.still x }
+
+record HasGone (j : ℕ) (w v : WorldState) : Type 0 where
+  done : (t : ℕ) → t < j → IsOver (entry_of w.queues t) (entry_of v.queues t)
+  rest : (t : ℕ) → j ≤ t → entry_of v.queues t ≡ entry_of w.queues t
+  running : v.cpus ≡ w.cpus
+  tree : v.tree ≡ w.tree
+
+both : (b : Bool) → b ≡ true → b ≡ false → ⊥
+both true x y = absurd (cc)
+both false x y = absurd (cc)
+
+module _ (n e m : ℕ) (hand : Option ℕ) (on : List (Option ℕ)) where
+  one_goes : (j : ℕ) (w v : WorldState) → j < n → IsFine n e m hand on v → HasGone j w v → HasGone (suc j) w (evict v j)
+  one_goes j w v l h g = go (waits v j) refl
+    where
+      s : QueueState
+      s = removed v.queues j
+
+      r : Rank
+      r = Vtime (raised v j)
+
+      here : entry_of v.queues j ≡ entry_of w.queues j
+      here = g.rest j (omega arith)
+
+      other : (t : ℕ) → (t ≡ j → ⊥) → entry_of (pushed s builtin j r) t ≡ entry_of v.queues t
+      other t d = pushed_other s builtin j t r d ∙ removed_other v.queues j t d
+
+      known : j < task_count s
+      known = rw (tasks_removed v.queues j, h.sound.even) l
+
+      over : waits v j ≡ true → HasGone (suc j) w (put_builtin (gone v j) j)
+      over here_now = rw (inside n v j l h.sound.tasks) record { done = λ t k. at t k (cases_eq t j); rest = λ t k. other t (λ x. omega (arith, x, k)) ∙ g.rest t (omega (arith, k)); running = g.running; tree = g.tree }
+        where
+          ok : push_refusal s builtin j r ≡ None
+          ok = (is_push_accepted n e m).evict hand on v j yes h
+
+          at : (t : ℕ) → t < suc j → (t ≡ j) ⊎ (t ≡ j → ⊥) → IsOver (entry_of w.queues t) (entry_of (pushed s builtin j r) t)
+          at t k (inl x) = rw x record { over = λ y. over_here s builtin j r known ok; still = λ y. absurd (both (is_some (entry_of w.queues j)) (ap (λ o. is_some o) (sym here) ∙ here_now) y) }
+          at t k (inr d) = over_as (entry_of w.queues t) (entry_of v.queues t) (entry_of (pushed s builtin j r) t) (other t d) (g.done t (omega (arith, k, d)))
+
+      none : waits v j ≡ false → HasGone (suc j) w v
+      none absent = record { done = λ t k. at t k (cases_eq t j); rest = λ t k. g.rest t (omega (arith, k)); running = g.running; tree = g.tree }
+        where
+          at : (t : ℕ) → t < suc j → (t ≡ j) ⊎ (t ≡ j → ⊥) → IsOver (entry_of w.queues t) (entry_of v.queues t)
+          at t k (inl x) = rw x record { over = λ y. absurd (both (is_some (entry_of w.queues j)) y (ap (λ o. is_some o) (sym here) ∙ absent)); still = λ y. absent }
+          at t k (inr d) = g.done t (omega (arith, k, d))
+
+      go : (b : Bool) → waits v j ≡ b → HasGone (suc j) w (if b then put_builtin (gone v j) j else v)
+      go true x = over x
+      go false x = none x
+
+  all_go : (j : ℕ) (w : WorldState) → j ≤ n → IsFine n e m hand on w → HasGone j w (evicted j w)
+  all_go zero w l h = record { done = λ t k. absurd (omega (arith, k)); rest = λ t k. refl; running = refl; tree = refl }
+  all_go (suc j) w l h = one_goes j w (evicted j w) (omega (arith, l)) (keeps_evicted n (IsFine n e) (fine_steps n e) m hand on j w (omega (arith, l)) h) (all_go j w (omega (arith, l)) h)
+
+-- ---- slices that are cut
+
+abbrev IsCut : WorldState → WorldState → Type 0
+IsCut w v = (v.queues ≡ w.queues) × (v.cpus ≡ w.cpus) × (v.tree ≡ w.tree)
+
+cut_one : (o : Option ℕ) (w v : WorldState) → IsCut w v → IsCut w (cut_task o v)
+cut_one None w v h = h
+cut_one (Some t) w v h = h
+
+cut_all : (j : ℕ) (w : WorldState) → IsCut w (cut j w)
+cut_all zero w = (refl, refl, refl)
+cut_all (suc j) w = cut_one (running (cut j w) j) w (cut j w) (cut_all j w)
+
+-- the law
+pub loses_nobody : EjectionLosesNobody
+unfolding eject moves_over
+loses_nobody n e m hand s x h = record {
+  waiting = λ t there. ap (λ (q : QueueState). queue_of q t) c.0 ∙ (g.done t (omega (arith, waits_known s.world.queues t there, h.sound.even, h.sound.tasks))).over there;
+  others = λ t absent. others t absent (cases_lt t (length w.tasks));
+  running = c.1 ∙ g.running;
+  tree = c.2 ∙ g.tree;
+}
+  where
+    on : List (Option ℕ)
+    on = s.world.cpus
+
+    w : WorldState
+    w = put_out s.world x
+
+    v : WorldState
+    v = evicted (length w.tasks) w
+
+    out : IsFine n e m hand on w
+    out = (fine_steps n e).put_out m hand on s.world x h
+
+    g : HasGone (length w.tasks) w v
+    g = all_go n e m hand on (length w.tasks) w (omega (arith, out.sound.tasks)) out
+
+    c : IsCut v (cut (length v.cpus) v)
+    c = cut_all (length v.cpus) v
+
+    others : (t : ℕ) → waits s.world t ≡ false → (t < length w.tasks) ⊎ (length w.tasks ≤ t) → waits (cut (length v.cpus) v) t ≡ false
+    others t absent (inl l) = ap (λ (q : QueueState). is_some (entry_of q t)) c.0 ∙ (g.done t l).still absent
+    others t absent (inr past) = ap (λ (q : QueueState). is_some (entry_of q t)) c.0 ∙ (ap (λ o. is_some o) (g.rest t past) ∙ absent)

@@ -1,0 +1,105 @@
+-- The watchdog: while a policy is in force no event lets a task wait longer than the policy may.
+use Rattle.std.proofs.Common.{◌≡◌, ℕ, ◌+◌, ◌<◌, ◌≤◌, List, length, Option, Some, None, is_some, is_none, if◌then◌else◌, refl, sym, subst, arith}
+use Rattle.scx_weights.specs.Hierarchy.{with_weight}
+use Rattle.scx_weights.specs.Refusals.{weight_fault}
+use Rattle.scx_world.specs.declared.eject.Eject.{Eject}
+use Rattle.scx_world.specs.declared.eject.Eject.TheVariants as cause
+use Rattle.scx_world.specs.World.{WorldState, with_tree, wait}
+use Rattle.scx_world.specs.Tasks.{later}
+use Rattle.scx_world.specs.Waits.{first_overdue}
+use Rattle.scx_machine.specs.declared.events.Event.{Event}
+use Rattle.scx_machine.specs.Steps.{State, with_world}
+use Rattle.scx_machine.specs.Ejecting.{eject}
+use Rattle.scx_machine.specs.Events.{refusal, overdue, stalled, clock, happened}
+use Rattle.scx_sched.specs.Kept.{IsKeptBySteps}
+use Rattle.scx_sched.specs.Ranges.{IsFine}
+use Rattle.scx_sched.proofs.Entering.{keeps_if}
+use Rattle.scx_sched.proofs.Unchanged.{eject_sets}
+use Rattle.scx_sched.proofs.Blaming.{apart}
+use Rattle.scx_sched.proofs.Fine.{fine_steps}
+use Rattle.scx_sched.proofs.Timely.{IsInTime, AreInTime, time_woken, time_ticked, time_steps, nobody_late}
+use Rattle.scx_sched.proofs.Events.{IsKeptByEvents, IsTaken, Wakes, Sleeps, Ticks, Clocks, Weighs, is_taken, IsFineNow, fine_events, one_more, fine_ticked, keeps_wake, keeps_sleep, keeps_tick}
+
+-- ---- two facts at once
+
+record Both (I J : ℕ → Option ℕ → List (Option ℕ) → WorldState → Type 0) (m : ℕ) (hand : Option ℕ) (on : List (Option ℕ)) (w : WorldState) : Type 0 where
+  one : I m hand on w
+  two : J m hand on w
+
+both_steps : (n : ℕ) (I J : ℕ → Option ℕ → List (Option ℕ) → WorldState → Type 0) → IsKeptBySteps n I → IsKeptBySteps n J → IsKeptBySteps n (Both I J)
+both_steps n I J a b = record {
+  more = λ m hand on w h. record { one = a.more m hand on w h.one; two = b.more m hand on w h.two };
+  known = λ m hand on w h. a.known m hand on w h.one;
+  query = λ m hand on w q h. record { one = a.query m hand on w q h.one; two = b.query m hand on w q h.two };
+  begun = λ m hand on w x t c l h. record { one = a.begun m hand on w x t c l h.one; two = b.begun m hand on w x t c l h.two };
+  quiet = λ m hand on w h. record { one = a.quiet m hand on w h.one; two = b.quiet m hand on w h.two };
+  cycling = λ m hand on w o h. record { one = a.cycling m hand on w o h.one; two = b.cycling m hand on w o h.two };
+  entered = λ m on w t i l x h. record { one = a.entered m on w t i l x h.one; two = b.entered m on w t i l x h.two };
+  filled = λ m on w q c l h. record { one = a.filled m on w q c l h.one; two = b.filled m on w q c l h.two };
+  stopped = λ m on w c t l within runs h. record { one = a.stopped m on w c t l within runs h.one; two = b.stopped m on w c t l within runs h.two };
+  started = λ m on w c t l free front h. record { one = a.started m on w c t l free front h.one; two = b.started m on w c t l free front h.two };
+  kept = λ m on w t h. record { one = a.kept m on w t h.one; two = b.kept m on w t h.two };
+  asleep = λ m on w t l h. record { one = a.asleep m on w t l h.one; two = b.asleep m on w t l h.two };
+  put_out = λ m hand on w x h. record { one = a.put_out m hand on w x h.one; two = b.put_out m hand on w x h.two };
+  evict = λ m hand on w t l h. record { one = a.evict m hand on w t l h.one; two = b.evict m hand on w t l h.two };
+  cut = λ m hand on w t h. record { one = a.cut m hand on w t h.one; two = b.cut m hand on w t h.two };
+  put_builtin = λ m on w t l h. record { one = a.put_builtin m on w t l h.one; two = b.put_builtin m on w t l h.two };
+  overtaken = λ m hand on w t h. record { one = a.overtaken m hand on w t h.one; two = b.overtaken m hand on w t h.two };
+  charged = λ m hand on w t out h. record { one = a.charged m hand on w t out h.one; two = b.charged m hand on w t out h.two };
+}
+
+-- each task in its place, and in time
+abbrev IsWatched : ℕ → ℕ → ℕ → ℕ → Option ℕ → List (Option ℕ) → WorldState → Type 0
+IsWatched limit n e = Both (IsFine n e) (λ m hand on w. AreInTime limit n w)
+
+watched_events : (limit n e : ℕ) → IsKeptByEvents n (IsWatched limit n e)
+watched_events limit n e = record {
+  steps = both_steps n (IsFine n e) (λ m hand on w. AreInTime limit n w) (fine_steps n e) (time_steps limit n);
+  sound = λ m hand on w h. h.one.sound;
+  woken = λ m on w t within resting h. record { one = (fine_events n e).woken m on w t within resting h.one; two = time_woken limit n w t h.two };
+  gone = λ m on w t runnable off h. record { one = (fine_events n e).gone m on w t runnable off h.one; two = h.two };
+}
+
+-- ---- the clock
+
+-- a policy in force of which nobody is found lets nobody wait too long
+none_late : (s : State) → s.world.ejected ≡ None → overdue s ≡ None → first_overdue s.world s.policy.timeout_ms ≡ None
+none_late s force e = go s.world.ejected force e
+  where
+    go : (o : Option Eject) → o ≡ None → (if is_some o then None else first_overdue s.world s.policy.timeout_ms) ≡ None → first_overdue s.world s.policy.timeout_ms ≡ None
+    go None f e = e
+    go (Some x) f e = absurd (cc)
+
+time_clock : (limit : ℕ) (s : State) → limit ≡ s.policy.timeout_ms → IsInTime limit (clock s).state.world
+unfolding clock
+time_clock limit s is = go (overdue v) refl
+  where
+    v : State
+    v = with_world s (later s.world)
+
+    go : (o : Option ℕ) → overdue v ≡ o → IsInTime limit (stalled o v).state.world
+    go None e force = subst (λ (k : ℕ). (t : ℕ) → wait v.world t ≤ k) (sym is) (nobody_late v.world s.policy.timeout_ms (none_late v force e))
+    go (Some t) e force = let x = cause.Stall t v.world.clock in absurd (apart (eject v x).state.world.ejected x force (eject_sets v x).1)
+
+-- after any accepted event
+pub time_step : (limit n e : ℕ) (s : State) (v : Event) → length s.world.tasks ≡ n → refusal s v ≡ None → limit ≡ s.policy.timeout_ms → IsFineNow n e e s.world → IsInTime limit s.world → IsInTime limit (happened s v).state.world
+time_step limit n e s v tasks ok is fine time = go v (is_taken s v ok)
+  where
+    I : ℕ → Option ℕ → List (Option ℕ) → WorldState → Type 0
+    I = IsWatched limit n (e + 1)
+
+    k : IsKeptByEvents n I
+    k = watched_events limit n (e + 1)
+
+    old : AreInTime limit n s.world
+    old = (tasks, time)
+
+    h : I e None s.world.cpus s.world
+    h = record { one = one_more n e e s.world fine; two = old }
+
+    go : (v : Event) → IsTaken s v → IsInTime limit (happened s v).state.world
+    go _ (Wakes t within resting) = let x = (keeps_wake n I k e s t (omega (arith, within, tasks)) resting h).two in x.1
+    go _ (Sleeps t within runnable) = let x = (keeps_sleep n I k e s t (omega (arith, within, tasks)) runnable h).two in x.1
+    go _ (Ticks c l) = let x = (keeps_tick n I k e s c l h (λ t. record { one = fine_ticked n e e s.world t fine; two = time_ticked limit n s.world t old })).two in x.1
+    go _ Clocks = time_clock limit s is
+    go _ (Weighs g x) = keeps_if (IsInTime limit) (is_none (weight_fault s.world.tree g x)) (with_tree s.world (with_weight s.world.tree g x)) s.world time time
