@@ -54,10 +54,12 @@ pub record IsHonest (s : State) (r : Stepped) : Type 0 where
   pub stays : (x : Eject) → s.world.ejected ≡ Some x → r.state.world.ejected ≡ Some x
   pub blamed : (x : Eject) → s.world.ejected ≡ None → r.state.world.ejected ≡ Some x → IsBlamed s.policy s.world.clock r.calls x
 
+-- a policy is in force or out of it
 pub apart : (o : Option Eject) (x : Eject) → o ≡ None → o ≡ Some x → ⊥
 apart o x a b = absurd (cc)
 
-same_eject : (o : Option Eject) (x y : Eject) → o ≡ Some x → o ≡ Some y → x ≡ y
+-- two causes of one ejection are one
+pub same_eject : (o : Option Eject) (x y : Eject) → o ≡ Some x → o ≡ Some y → x ≡ y
 same_eject o x y a b = cc
 
 -- ---- one step after another

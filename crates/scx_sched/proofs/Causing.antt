@@ -120,7 +120,7 @@ abbrev after_event : State → ℕ → Event → SimState
 after_event s n v = record { state = (happened s v).state; events = n + 1 }
 
 module _ (s : State) (n : ℕ) where
-  before_event : SimState
+  abbrev before_event : SimState
   before_event = record { state = s; events = n }
 
   honest_cause : (v : Event) → refusal before_event v ≡ None → AreAs s.policy.callbacks → AreAnswered (happened s v).calls → IsHonest s (happened s v) → EjectsOnce before_event v (after_event s n v)

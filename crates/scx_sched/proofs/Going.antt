@@ -85,7 +85,7 @@ module _ (n e m : ℕ) (hand : Option ℕ) (on : List (Option ℕ)) where
       over here_now = rw (inside n v j l h.sound.tasks) record { done = λ t k. at t k (cases_eq t j); rest = λ t k. other t (λ x. omega (arith, x, k)) ∙ g.rest t (omega (arith, k)); running = g.running; tree = g.tree }
         where
           ok : push_refusal s builtin j r ≡ None
-          ok = (is_push_accepted n e m).evict hand on v j yes h
+          ok = (is_push_accepted n e m).evict hand on v j here_now h
 
           at : (t : ℕ) → t < suc j → (t ≡ j) ⊎ (t ≡ j → ⊥) → IsOver (entry_of w.queues t) (entry_of (pushed s builtin j r) t)
           at t k (inl x) = rw x record { over = λ y. over_here s builtin j r known ok; still = λ y. absurd (both (is_some (entry_of w.queues j)) (ap (λ o. is_some o) (sym here) ∙ here_now) y) }
