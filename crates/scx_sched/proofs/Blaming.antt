@@ -6,7 +6,6 @@ use Rattle.std.proofs.lemmas.List.{append-nil}
 use Rattle.scx_dsq.specs.Queues.{front_of}
 use Rattle.scx_semantics.specs.declared.callbacks.Callback.{Callback}
 use Rattle.scx_semantics.specs.declared.callbacks.Callback.TheVariants as callback
-use Rattle.scx_semantics.specs.Elements.{Maps}
 use Rattle.scx_semantics.specs.Endings.{Ending}
 use Rattle.scx_safety.specs.Programs.{VerifiedProgram}
 use Rattle.scx_vm.specs.declared.arguments.Args.{Args}
@@ -19,17 +18,16 @@ use Rattle.scx_world.specs.declared.faults.Fault.{Fault}
 use Rattle.scx_world.specs.declared.notes.Note.{Note}
 use Rattle.scx_world.specs.declared.notes.What.TheVariants as note
 use Rattle.scx_world.specs.Ids.{global, builtin, local_on}
-use Rattle.scx_world.specs.World.{WorldState, with_tree, task_at, running, cpu_of, is_idle, with_cycling, begun, quiet, said}
+use Rattle.scx_world.specs.World.{WorldState, with_tree, task_at, running, cpu_of, is_idle, begun, quiet, said}
 use Rattle.scx_world.specs.Tasks.{woken, asleep, gone, entered, for_cpu, fill_front, filled, stopped, started_at, kept, ticked, reweighed}
-use Rattle.scx_world.specs.Ejecting.{put_out, put_builtin, charged, overtaken}
+use Rattle.scx_world.specs.Ejecting.{put_builtin, charged, overtaken}
 use Rattle.scx_machine.specs.Policy.{PolicyState, program_of}
 use Rattle.scx_machine.specs.Steps.{State, CallMade, Stepped, with_world, stays, after, joined, is_ejected}
 use Rattle.scx_machine.specs.Ejecting.{moves_over, eject, ejected_for}
-use Rattle.scx_machine.specs.Callbacks.{called, ended, calls_of, answer_fault, fault_of, unless_ejected, acting, call_back, answered_by, one_task, task_cpu_and_0, task_and_number, cpu_and_task}
+use Rattle.scx_machine.specs.Callbacks.{called, ended, answer_fault, fault_of, unless_ejected, acting, call_back, answered_by, one_task, task_cpu_and_0, task_and_number, cpu_and_task}
 use Rattle.scx_machine.specs.Put.{enters, wanted, enters_builtin, comes_in, put}
 use Rattle.scx_machine.specs.Cycle.{has_local, fill, dispatched, asks_again, tries, stopping, running_on, leave, started_if, start, rest, swap, swap_or_rest, builtin_ask, builtin_cycle, start_or_cycle, pick, pick_or_rest, conclude, ask, seek, look, cycling, cycle}
-use Rattle.scx_machine.specs.declared.events.Event.{Event}
-use Rattle.scx_machine.specs.declared.events.Event.TheVariants.{Wake, Sleep, Tick, Clock, SetWeight}
+use Rattle.scx_machine.specs.declared.events.Event.TheVariants.{Wake, Sleep}
 use Rattle.scx_machine.specs.Events.{target, settled, settle, select, wake, sleep_from_cpu, sleep_from, sleep, count_down, tick_of, tick}
 use Rattle.scx_sched.specs.Causes.{IsLast}
 use Rattle.scx_sched.proofs.Entering.{keeps_if}

@@ -21,7 +21,7 @@ use Rattle.scx_world.specs.Waits.{first_overdue, IsFirstOverdue}
 use Rattle.scx_world.specs.Helpers.{or_fault, world_functions}
 use Rattle.scx_tasks.specs.Waits.{time_since}
 use Rattle.scx_machine.specs.Policy.{PolicyState, program_of, IsAs, AreAs}
-use Rattle.scx_machine.specs.Steps.{State, CallMade, Stepped, with_world, is_ejected}
+use Rattle.scx_machine.specs.Steps.{State, CallMade, with_world}
 use Rattle.scx_machine.specs.Ejecting.{eject}
 use Rattle.scx_machine.specs.Callbacks.{called, answer_fault, fault_of, IsAnswered, AreAnswered}
 use Rattle.scx_machine.specs.declared.events.Event.{Event}

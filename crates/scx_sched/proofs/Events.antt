@@ -25,7 +25,7 @@ use Rattle.scx_sched.proofs.Entering.{keeps_if}
 use Rattle.scx_sched.specs.Kept.{IsKeptBySteps}
 use Rattle.scx_sched.proofs.Sound.{sound_woken, sound_gone, sound_ticked, sound_later, sound_with_weight}
 use Rattle.scx_sched.proofs.Skeleton.{keeps_eject, keeps_call_back, keeps_stopping, keeps_settled, keeps_cycle}
-use Rattle.scx_sched.proofs.Fine.{IsRange, range_of, range_task, range_same, fine_of, fine_steps}
+use Rattle.scx_sched.proofs.Fine.{range_of, range_task, range_same, fine_of, fine_steps}
 
 -- What an event makes of a task before it comes to small steps. Whoever keeps these too keeps events; the fact
 -- says at least where each task is.

@@ -1,5 +1,5 @@
 -- What holds between two events is kept by each small step of a world.
-use Rattle.std.proofs.Common.{◌≡◌, ℕ, ◌+◌, ◌-◌, ◌*◌, ◌/◌, ◌<◌, ◌≤◌, min, max, arith, ◌⊎◌, inl, inr, nat_lt, ◌==◌, List, length, set, get_or, map, Option, Some, None, refl, ◌∙◌}
+use Rattle.std.proofs.Common.{◌≡◌, ℕ, ◌+◌, ◌-◌, ◌*◌, ◌<◌, ◌≤◌, arith, ◌⊎◌, inl, inr, nat_lt, ◌==◌, List, length, set, get_or, map, Option, Some, None, refl, ◌∙◌}
 use Rattle.std.proofs.lemmas.Bool.{cases_eq, cases_lt}
 use Rattle.std.proofs.lemmas.List.{get_or-set_same, get_or-set_other, set_past}
 use Rattle.scx_dsq.specs.Queues.{front_of}
@@ -23,8 +23,7 @@ use Rattle.scx_world.specs.World.{WorldState, with_queues, with_task, task_at, w
 use Rattle.scx_world.specs.Tasks.{given_slice, given_vtime, given, gone, entered, for_cpu, brought, fill_front, renewed}
 use Rattle.scx_world.specs.Helpers.{is_there, can_create, faulted, is_dispatch, insert_fault, with_insert, released, inserted, asked, asked_by_vtime, can_move, moved, given_number, given_task, helper_after, stored_in, world_functions}
 use Rattle.scx_sched.specs.Once.{IsSound}
-use Rattle.scx_world.specs.declared.eject.Eject.{Eject}
-use Rattle.scx_world.specs.Ejecting.{put_builtin, raised, used, charged, overtaken, cut_task}
+use Rattle.scx_world.specs.Ejecting.{put_builtin, used, charged, overtaken}
 use Rattle.scx_sched.specs.Ranges.{IsFresh, IsFine}
 use Rattle.scx_sched.specs.Kept.{IsKeptBySteps}
 use Rattle.scx_sched.proofs.Entering.{keeps_if}

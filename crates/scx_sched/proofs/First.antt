@@ -1,5 +1,5 @@
 -- The first state: the machine's own queues are made, nobody runs or waits, and callbacks keep it so.
-use Rattle.std.proofs.Common.{◌≡◌, ℕ, zero, suc, ◌+◌, ◌<◌, ◌≤◌, Bool, true, false, ◌==◌, ◌||◌, nat_lt, if◌then◌else◌, ◌⊎◌, inl, inr, List, [], ◌∷◌, length, get_or, nat_le, Option, Some, None, Result, Ok, Err, ℤ, subst, refl, ◌∙◌, ap, arith, is_none, length-append, replicate}
+use Rattle.std.proofs.Common.{◌≡◌, ℕ, zero, suc, ◌+◌, ◌<◌, ◌≤◌, Bool, true, false, ◌==◌, ◌||◌, nat_lt, ◌⊎◌, inl, inr, List, [], ◌∷◌, length, get_or, nat_le, Option, None, Ok, refl, ◌∙◌, ap, arith, is_none, length-append, replicate}
 use Rattle.std.proofs.lemmas.Bool.{cases_eq, cases_lt, eq-eqb, ne_eqb}
 use Rattle.std.proofs.lemmas.Bool.Decides.{nat_tests}
 use Rattle.std.proofs.lemmas.List.Folds.{list_any-append}

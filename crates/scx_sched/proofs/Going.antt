@@ -1,22 +1,19 @@
 -- An ejection loses no task: who waits in any queue goes over to the built-in scheduler, and who runs stays.
-use Rattle.std.proofs.Common.{◌≡◌, ℕ, zero, suc, ◌<◌, ◌≤◌, Bool, true, false, ◌⊎◌, inl, inr, if◌then◌else◌, List, length, set, Option, Some, None, is_some, is_none, option_map, refl, sym, ap, ◌∙◌, subst, arith}
+use Rattle.std.proofs.Common.{◌≡◌, ℕ, zero, suc, ◌<◌, ◌≤◌, Bool, true, false, ◌⊎◌, inl, inr, if◌then◌else◌, List, length, Option, Some, None, is_some, is_none, option_map, refl, sym, ap, ◌∙◌, arith}
 use Rattle.std.proofs.lemmas.Bool.{cases_eq, cases_lt}
 use Rattle.std.proofs.lemmas.List.{get_or-set_same, get_or-set_other}
 use Rattle.scx_dsq.specs.declared.entries.Entry.{Entry}
 use Rattle.scx_dsq.specs.declared.entries.Rank.{Rank}
 use Rattle.scx_dsq.specs.declared.entries.Rank.TheVariants.{Vtime}
-use Rattle.scx_dsq.specs.Queues.{QueueState, task_count, entry_at, entry_of, queue_of}
+use Rattle.scx_dsq.specs.Queues.{QueueState, task_count, entry_of, queue_of}
 use Rattle.scx_dsq.specs.Calls.{push_refusal, next_entry, with_task as with_place, without_task, pushed, removed}
 use Rattle.scx_dsq.proofs.Facts.{tasks_removed}
-use Rattle.scx_world.specs.declared.eject.Eject.{Eject}
 use Rattle.scx_world.specs.Ids.{builtin}
 use Rattle.scx_world.specs.World.{WorldState, waits, running}
 use Rattle.scx_world.specs.Tasks.{gone}
 use Rattle.scx_world.specs.Ejecting.{raised, put_builtin, put_out, evict, evicted, cut, cut_task}
-use Rattle.scx_machine.specs.Steps.{State}
 use Rattle.scx_machine.specs.Ejecting.{moves_over, eject}
 use Rattle.scx_sched.specs.Ranges.{IsFine}
-use Rattle.scx_sched.specs.Over.{GoesOver}
 use Rattle.scx_sched.specs.Laws.{EjectionLosesNobody}
 use Rattle.scx_sched.proofs.Sound.{inside, waits_known}
 use Rattle.scx_sched.proofs.Fine.{fine_steps}

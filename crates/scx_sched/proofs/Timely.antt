@@ -1,5 +1,5 @@
 -- No task waits too long while its policy is in force: each small step of a world keeps that.
-use Rattle.std.proofs.Common.{◌≡◌, ℕ, zero, suc, ◌+◌, ◌-◌, ◌<◌, ◌≤◌, ◌⊎◌, inl, inr, Bool, true, false, nat_lt, ◌==◌, List, length, set, get_or, map, Option, Some, None, is_some, cond, refl, sym, subst, arith, ◌∙◌}
+use Rattle.std.proofs.Common.{◌≡◌, ℕ, ◌-◌, ◌<◌, ◌≤◌, ◌⊎◌, inl, inr, false, nat_lt, List, length, set, get_or, map, Option, Some, None, cond, refl, subst, arith, ◌∙◌}
 use Rattle.std.proofs.lemmas.Bool.{cases_eq, cases_lt, lt-ltb}
 use Rattle.std.proofs.lemmas.Bool.Decides.{nat_tests}
 use Rattle.std.specs.List.{position, position_or_len}
@@ -7,10 +7,6 @@ use Rattle.std.proofs.lemmas.List.Sums.{fails_before_first}
 use Rattle.std.proofs.lemmas.List.{length-set, get_or-set_same, get_or-set_other, get_or_past, set_past}
 use Rattle.scx_dsq.specs.Queues.{front_of}
 use Rattle.scx_dsq.specs.Calls.{created}
-use Rattle.scx_dsq.specs.declared.entries.Rank.{Rank}
-use Rattle.scx_dsq.specs.declared.entries.Rank.TheVariants.{Fifo, Vtime}
-use Rattle.scx_semantics.specs.declared.host_tables.Field.{Field}
-use Rattle.scx_semantics.specs.declared.host_tables.Field.TheVariants.{Pid, Weight, Slice, DsqVtime, PrevCpu, Group, RunNs}
 use Rattle.scx_semantics.specs.declared.host_tables.Helper.{Helper}
 use Rattle.scx_semantics.specs.declared.host_tables.Helper.TheVariants.{MapLookupElem, KtimeGetNs, CreateDsq, DsqInsert, DsqInsertVtime, DsqMoveToLocal, SelectCpuDfl, CpuIdle, TaskByPid, DsqNrQueued}
 use Rattle.scx_semantics.specs.Effects.{Query, Call, Load, Store}
@@ -18,14 +14,13 @@ use Rattle.scx_vm.specs.Arguments.{argument_of}
 use Rattle.scx_vm.specs.Host.{after_query}
 use Rattle.scx_vm.specs.declared.arguments.Arg.{Arg}
 use Rattle.scx_world.specs.declared.call.Insert.{Insert}
-use Rattle.scx_world.specs.declared.eject.Eject.{Eject}
 use Rattle.scx_world.specs.declared.faults.Fault.{Fault}
 use Rattle.scx_world.specs.declared.faults.Fault.TheVariants.{NoSuchQueue, NoSuchCpu, CannotCreate}
 use Rattle.scx_tasks.specs.declared.task.Task.{Task}
 use Rattle.scx_tasks.specs.Tasks.{no_task}
 use Rattle.scx_tasks.specs.Waits.{time_since, is_late, is_overdue}
 use Rattle.scx_world.specs.World.{WorldState, with_queues, with_task, task_at, waits, wait}
-use Rattle.scx_world.specs.Tasks.{woken, ran_a_tick, ticked, given_slice, given_vtime, given, gone, entered, for_cpu, brought, fill_front, renewed, later}
+use Rattle.scx_world.specs.Tasks.{woken, ran_a_tick, ticked, given, gone, entered, for_cpu, brought, fill_front, renewed}
 use Rattle.scx_world.specs.Helpers.{is_there, can_create, faulted, is_dispatch, insert_fault, with_insert, released, inserted, asked, asked_by_vtime, can_move, moved, given_number, given_task, helper_after, stored_in, world_functions}
 use Rattle.scx_world.specs.Waits.{first_overdue}
 use Rattle.scx_world.specs.Ejecting.{put_builtin}

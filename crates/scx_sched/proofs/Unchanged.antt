@@ -1,5 +1,5 @@
 -- What no query of a program changes: the clock, whether the policy is in force, and the cycle under way.
-use Rattle.std.proofs.Common.{◌≡◌, ℕ, zero, suc, Bool, true, false, nat_lt, List, length, map, Option, Some, None, refl}
+use Rattle.std.proofs.Common.{◌≡◌, ℕ, zero, suc, nat_lt, List, length, map, Option, Some, None, refl}
 use Rattle.scx_dsq.specs.Queues.{front_of}
 use Rattle.scx_dsq.specs.Calls.{created}
 use Rattle.scx_semantics.specs.declared.callbacks.Callback.{Callback}

@@ -1,5 +1,5 @@
 -- The watchdog: while a policy is in force no event lets a task wait longer than the policy may.
-use Rattle.std.proofs.Common.{◌≡◌, ℕ, ◌+◌, ◌<◌, ◌≤◌, List, length, Option, Some, None, is_some, is_none, if◌then◌else◌, refl, sym, subst, arith}
+use Rattle.std.proofs.Common.{◌≡◌, ℕ, ◌+◌, ◌≤◌, List, length, Option, Some, None, is_some, is_none, if◌then◌else◌, refl, sym, subst, arith}
 use Rattle.scx_weights.specs.Hierarchy.{with_weight}
 use Rattle.scx_weights.specs.Refusals.{weight_fault}
 use Rattle.scx_world.specs.declared.eject.Eject.{Eject}

@@ -1,5 +1,4 @@
 use Rattle.std.proofs.Common.{arith, ap, refl, ◌∙◌, ◌≡◌}
-use Rattle.scx_world.specs.World.{WorldState}
 use Rattle.scx_world.specs.Ejecting.{evict, evicted}
 use Rattle.scx_machine.specs.Steps.{with_world, State}
 use Rattle.scx_machine.proofs.Taking.{Takes-append}
