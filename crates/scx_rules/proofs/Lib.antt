@@ -1,4 +1,5 @@
 pub mod Helping
+pub mod Ejecting
 pub mod Calling
 pub mod Cycling
 pub mod Choosing
