@@ -3,6 +3,7 @@ pub mod Ejecting
 pub mod Calling
 pub mod Cycling
 pub mod Choosing
+pub mod Waiting
 pub mod Happening
 pub mod Refusing
 pub mod Starting
