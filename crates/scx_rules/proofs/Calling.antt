@@ -14,7 +14,7 @@ use Rattle.scx_machine.specs.Policy.{IsAs}
 use Rattle.scx_machine.specs.Steps.{State, CallMade, Stepped, joined}
 use Rattle.scx_machine.specs.Ejecting.{ejected_for}
 use Rattle.scx_machine.specs.Callbacks.{acting, called, calls_of, ended, fault_of, call_back, answered_by, AreAnswered}
-use Rattle.scx_rules.specs.Callbacks.{EndsAs, Absent, Exits, Sticks, leaving, CallsBack}
+use Rattle.scx_rules.specs.Callbacks.{EndsAs, Absent, Exits, Sticks, leaving}
 use Rattle.scx_rules.specs.Laws.{RulesAllowCallbacks, RulesAllowCallbacksOnly}
 use Rattle.scx_rules.proofs.Ejecting.{is_fault_of, only_fault_of, judges, only_judges}
 

@@ -17,7 +17,7 @@ use Rattle.scx_world.specs.World.{WorldState, waits, said}
 use Rattle.scx_world.specs.Tasks.{gone}
 use Rattle.scx_world.specs.Helpers.{or_fault}
 use Rattle.scx_world.specs.Ejecting.{put_out, put_builtin, evict, evicted, evict_note, evict_notes, cut, eject_note}
-use Rattle.scx_machine.specs.Steps.{State, Stepped, with_world, stays}
+use Rattle.scx_machine.specs.Steps.{State, Stepped, with_world}
 use Rattle.scx_machine.specs.Ejecting.{moves_over, eject, ejected_for}
 use Rattle.scx_machine.specs.Callbacks.{answer_fault, end_fault, fault_of}
 use Rattle.scx_rules.specs.Ejections.{FaultOf, Of_helper, Is_stuck, Of_answer, Of_nothing, Of_no_answer, GoOver, Begins, Waits, Passes, Ejects, Judges, Stays, Ejected}
