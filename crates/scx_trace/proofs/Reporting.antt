@@ -1,6 +1,7 @@
 -- How much of a report was written.
-use Rattle.std.proofs.Common.{◌≡◌, ℕ, ◌+◌, ◌<◌, ◌≤◌, List, [], ◌∷◌, ◌++◌, length, take, drop, get_or, sum, sym, ap, ◌∙◌, append_assoc, subst, Option, arith}
+use Rattle.std.proofs.Common.{◌≡◌, ℕ, ◌+◌, ◌<◌, ◌≤◌, List, [], ◌∷◌, ◌++◌, length, take, drop, get_or, sum, sym, ap, ◌∙◌, append_assoc, subst, Option, Result, Ok, Err, arith}
 use Rattle.std.proofs.lemmas.List.{take_more, take-append-drop, append-nil, length-take-le, take_all}
+use Rattle.std.specs.Prelude.{OnErr}
 use Rattle.std.specs.Io.KnownBytes.{Appends}
 use Rattle.scx_output.specs.Output.{AppendsBeginning}
 use Rattle.scx_output.proofs.Growth.{grows_twice}
@@ -60,6 +61,11 @@ pub cut_at_end : (x : NameLists) (all : List ℕ) (k : ℕ) (o : Option Eject) (
     → Appends a b (task_lines x (sum all) 0 (take k all)) → Appends b c (total_line (sum all)) → AppendsBeginning c d (policy_line x o) → AppendsBeginning a d (report x all o)
 cut_at_end x all k o a b c d past first next last =
     beginning_behind a c d (task_lines x (sum all) 0 all ++ total_line (sum all)) (policy_line x o) (lines_and_total x all k a b c past first next) last
+
+-- what follows in the case of an error
+pub on_err : {A E P Q : Type 0} (r : Result A E) → (P → Q) → OnErr r P → OnErr r Q
+on_err (Ok x) f h = h
+on_err (Err e) f h = f h
 
 -- a report that is cut off in the line before
 pub cut_in_total : (x : NameLists) (all : List ℕ) (k : ℕ) (o : Option Eject) (a b c : Option (List ℕ)) → length all ≤ k
