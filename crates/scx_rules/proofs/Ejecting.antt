@@ -13,10 +13,10 @@ use Rattle.scx_world.specs.declared.faults.Fault.TheVariants as fault
 use Rattle.scx_world.specs.declared.notes.Note.{Note}
 use Rattle.scx_world.specs.declared.notes.What.TheVariants as note
 use Rattle.scx_world.specs.Ids.{builtin}
-use Rattle.scx_world.specs.World.{WorldState, waits, said}
+use Rattle.scx_world.specs.World.{WorldState, waits, running, said}
 use Rattle.scx_world.specs.Tasks.{gone}
 use Rattle.scx_world.specs.Helpers.{or_fault}
-use Rattle.scx_world.specs.Ejecting.{put_out, put_builtin, evict, evicted, evict_note, evict_notes, cut, eject_note}
+use Rattle.scx_world.specs.Ejecting.{put_out, put_builtin, evict, evicted, evict_note, evict_notes, cut_task, cut, eject_note}
 use Rattle.scx_machine.specs.Steps.{State, Stepped, with_world}
 use Rattle.scx_machine.specs.Ejecting.{moves_over, eject, ejected_for}
 use Rattle.scx_machine.specs.Callbacks.{answer_fault, end_fault, fault_of}
@@ -151,3 +151,61 @@ judges s (Some f) = Ejected f _ (ejects s (cause.Fault f s.world.clock))
 pub only_judges : (s : State) (f : Option Fault) (r : Stepped) → Judges s f r → r ≡ ejected_for f s
 only_judges s None r (Stays _ k) = k
 only_judges s (Some f) r (Ejected _ _ h) = only_ejects s (cause.Fault f s.world.clock) r h
+
+-- ---- an ejected policy is out of force
+
+if_stays : (b : Bool) (v w : WorldState) (x : Option Eject) → v.ejected ≡ x → w.ejected ≡ x → (if b then v else w).ejected ≡ x
+if_stays true v w x p q = p
+if_stays false v w x p q = q
+
+put_stays : (w : WorldState) (t : ℕ) → (put_builtin w t).ejected ≡ w.ejected
+put_stays w t = if_stays (nat_lt t (length w.tasks)) _ w w.ejected refl refl
+
+evicted_stays : (n : ℕ) (w : WorldState) → (evicted n w).ejected ≡ w.ejected
+evicted_stays zero w = refl
+evicted_stays (suc n) w =
+    let u = evicted n w in
+    if_stays (waits u n) (put_builtin (gone u n) n) u w.ejected (put_stays (gone u n) n ∙ evicted_stays n w) (evicted_stays n w)
+
+cut_stays : (n : ℕ) (w : WorldState) → (cut n w).ejected ≡ w.ejected
+cut_stays zero w = refl
+cut_stays (suc n) w = go (running (cut n w) n) ∙ cut_stays n w
+  where
+    go : (o : Option ℕ) → (cut_task o (cut n w)).ejected ≡ (cut n w).ejected
+    go None = refl
+    go (Some t) = refl
+
+stays_out : (s : State) (x : Eject) → (eject s x).state.world.ejected ≡ Some x
+unfolding eject moves_over
+stays_out s x =
+    let v = evicted (length s.world.tasks) (put_out s.world x) in
+    cut_stays (length v.cpus) v ∙ evicted_stays (length s.world.tasks) (put_out s.world x)
+
+some_eject : (x : Eject) → Some x ≡ None → ⊥
+some_eject x e = absurd (cc)
+
+-- what leaves a policy in force had no fault
+pub no_fault : (f : Option Fault) (s : State) → (ejected_for f s).state.world.ejected ≡ None → f ≡ None
+no_fault None s e = refl
+no_fault (Some f) s e = let x = cause.Fault f s.world.clock in absurd (some_eject x (sym (stays_out s x) ∙ e))
+
+-- it answers the number of a processor
+abbrev pub NamesCpu : ℕ → Option ℕ → Type 0
+NamesCpu cpus a = (n : ℕ) × (a ≡ Some n) × (n < cpus)
+
+some_fault : (f : Fault) → Some f ≡ None → ⊥
+some_fault f e = absurd (cc)
+
+-- select_cpu does so where it has no fault
+pub names_cpu : (e : Ending WorldState) → fault_of callback.SelectCpu e ≡ None → NamesCpu (length e.outside.cpus) e.answer
+names_cpu e = go e.outside.call.fault e.answer refl
+  where
+    at : (n : ℕ) → e.answer ≡ Some n → (n < length e.outside.cpus) ⊎ (length e.outside.cpus ≤ n)
+        → (if nat_lt n (length e.outside.cpus) then None else Some fault.NoSuchCpu) ≡ None → NamesCpu (length e.outside.cpus) e.answer
+    at n x (inl l) = λ k. (n, x, l)
+    at n x (inr l) = rw (past n (length e.outside.cpus) l) (λ k. absurd (some_fault fault.NoSuchCpu k))
+
+    go : (f : Option Fault) (a : Option ℕ) → e.answer ≡ a → fault_as callback.SelectCpu e.outside f a ≡ None → NamesCpu (length e.outside.cpus) e.answer
+    go (Some f) a x k = absurd (some_fault f k)
+    go None None x k = absurd (some_fault fault.Stuck k)
+    go None (Some n) x k = at n x (cases_lt n (length e.outside.cpus)) k

@@ -1,19 +1,21 @@
 -- What an event does is allowed, and nothing else is.
-use Rattle.std.proofs.Common.{◌≡◌, ℕ, ◌<◌, ◌≤◌, Bool, true, false, ◌⊎◌, inl, inr, if◌then◌else◌, [], ◌∷◌, Option, Some, None, is_some, refl, sym, ◌∙◌, ap, subst, arith, length, nat_lt, nat_le}
-use Rattle.std.proofs.lemmas.Bool.{cases_eq, cases_lt, eq-eqb, ne_eqb}
+use Rattle.std.proofs.Common.{◌≡◌, ℕ, ◌<◌, Bool, true, false, ◌⊎◌, inl, inr, if◌then◌else◌, [], ◌∷◌, Option, Some, None, is_some, refl, sym, ◌∙◌, ap, subst, arith, length, nat_lt, nat_le}
+use Rattle.std.proofs.lemmas.Bool.{cases_eq, eq-eqb, ne_eqb}
 use Rattle.std.proofs.lemmas.Bool.Decides.{nat_tests}
 use Rattle.scx_weights.specs.Hierarchy.{Hierarchy, with_weight}
 use Rattle.scx_weights.specs.Refusals.{weight_fault}
 use Rattle.scx_semantics.specs.declared.callbacks.Callback.TheVariants as callback
 use Rattle.scx_world.specs.declared.eject.Eject.{Eject}
 use Rattle.scx_world.specs.declared.eject.Eject.TheVariants as cause
+use Rattle.scx_world.specs.declared.faults.Fault.{Fault}
 use Rattle.scx_world.specs.declared.notes.What.TheVariants as note
-use Rattle.scx_world.specs.World.{with_tree, task_at, running, cpu_of, is_idle, default_choice, said}
+use Rattle.scx_world.specs.World.{with_tree, task_at, running, cpu_of, is_idle, said, begun}
 use Rattle.scx_world.specs.Tasks.{asleep, ticked, later, reweighed}
 use Rattle.scx_world.specs.Waits.{first_overdue}
 use Rattle.scx_machine.specs.declared.events.Event.TheVariants.{Wake, Sleep, Tick, Clock, SetWeight}
 use Rattle.scx_machine.specs.Steps.{State, Stepped, with_world, after, joined}
-use Rattle.scx_machine.specs.Callbacks.{unless_ejected, acting}
+use Rattle.scx_machine.specs.Ejecting.{ejected_for}
+use Rattle.scx_machine.specs.Callbacks.{called, ended, fault_of, unless_ejected, acting, call_back, answered_by, task_cpu_and_0}
 use Rattle.scx_machine.specs.Put.{enters}
 use Rattle.scx_machine.specs.Cycle.{stopping, cycle}
 use Rattle.scx_machine.specs.declared.events.Refused.TheVariants.{UnknownGroup, BadWeight}
@@ -21,10 +23,10 @@ use Rattle.scx_machine.specs.Events.{is_bad_weight, refusal, answered_cpu, targe
 use Rattle.scx_rules.specs.Cycles.{noting, silent, gone_off}
 use Rattle.scx_safety.specs.Programs.{VerifiedProgram}
 use Rattle.scx_world.specs.declared.call.Insert.{Insert}
-use Rattle.scx_rules.specs.Events.{awake, select_called, select_answered, IsTarget, Is_ejected, NoCallback, Named, NoSuchCpu, NoAnswer, Settles, WasInserted, WasPut, Wakes, IdleTarget, BusyTarget, Sleeps, FromQueue, FromCpu, Ticks, NobodyRuns, RunsOn, RunsOut, aged, Ages, Is_out, In_time, Too_late}
+use Rattle.scx_rules.specs.Events.{awake, select_called, select_answered, IsTarget, Is_ejected, NoCallback, Named, Settles, WasInserted, WasPut, Wakes, IdleTarget, BusyTarget, Sleeps, FromQueue, FromCpu, Ticks, NobodyRuns, RunsOn, RunsOut, aged, Ages, Is_out, In_time, Too_late}
 use Rattle.scx_rules.specs.Laws.{RulesAllowEvents, RulesAllowEventsOnly}
 use Rattle.scx_rules.proofs.Choosing.{is_choice, only_choice}
-use Rattle.scx_rules.proofs.Ejecting.{ejects, only_ejects}
+use Rattle.scx_rules.proofs.Ejecting.{ejects, only_ejects, no_fault, NamesCpu, names_cpu}
 use Rattle.scx_rules.proofs.Waiting.{is_first, nobody_late, only_first, only_nobody}
 use Rattle.scx_rules.proofs.Cycling.{puts, only_puts, stops, only_stops, cycles, only_cycles}
 
@@ -49,24 +51,29 @@ target_of s t a = target (acting s callback.SelectCpu) s.world t a
 below : (k n : ℕ) → k < n → nat_lt k n ≡ true
 below k n l = grind (arith, nat_tests, l)
 
-past : (k n : ℕ) → n ≤ k → nat_lt k n ≡ false
-past k n l = grind (arith, nat_tests, l)
-
 abbrev target_as : State → ℕ → Option Eject → Option VerifiedProgram → Option ℕ → ℕ
 target_as s t y p a = target (unless_ejected y p) s.world t a
 
-is_target : (s : State) (t : ℕ) (a : Option ℕ) → IsTarget s t a (target_of s t a)
-is_target s t a = go s.world.ejected refl s.policy.callbacks.select_cpu refl a refl
-  where
-    at : (p : VerifiedProgram) (n : ℕ) → s.world.ejected ≡ None → s.policy.callbacks.select_cpu ≡ Some p → a ≡ Some n → (n < length s.world.cpus) ⊎ (length s.world.cpus ≤ n) → IsTarget s t a (answered_cpu s.world t (Some n))
-    at p n d e x (inl l) = rw (below n (length s.world.cpus) l) (Named p d e x l)
-    at p n d e x (inr l) = rw (past n (length s.world.cpus) l) (NoSuchCpu p n d e x l (is_choice s.world t))
+-- where the policy is in force after select_cpu, that answered a processor
+selects : (s : State) (t : ℕ) → (select_called s t).state.world.ejected ≡ None → NamesCpu (length (select_called s t).state.world.cpus) (select_answered s t)
+unfolding call_back answered_by
+selects s t out =
+    let d = (task_at s.world t).prev_cpu in
+    let e = called (acting s callback.SelectCpu) callback.SelectCpu (task_cpu_and_0 t d) s.maps (begun s.world callback.SelectCpu t d) in
+    let none = no_fault (fault_of callback.SelectCpu e) (ended s.policy e) out in
+    let h = names_cpu e none in
+    (h.0, h.1, subst (λ (f : Option Fault). h.0 < length (ejected_for f (ended s.policy e)).state.world.cpus) (sym none) h.2)
 
-    go : (y : Option Eject) → s.world.ejected ≡ y → (p : Option VerifiedProgram) → s.policy.callbacks.select_cpu ≡ p → (o : Option ℕ) → a ≡ o → IsTarget s t a (target_as s t y p o)
-    go (Some y) d p e o x = Is_ejected y d (is_choice s.world t)
-    go None d None e o x = NoCallback d e (is_choice s.world t)
-    go None d (Some p) e None x = NoAnswer p d e x (is_choice s.world t)
-    go None d (Some p) e (Some n) x = at p n d e x (cases_lt n (length s.world.cpus))
+is_target : (s : State) (t : ℕ) (a : Option ℕ) → (s.world.ejected ≡ None → NamesCpu (length s.world.cpus) a) → IsTarget s t a (target_of s t a)
+is_target s t a names = go s.world.ejected refl s.policy.callbacks.select_cpu refl
+  where
+    at : (p : VerifiedProgram) → s.world.ejected ≡ None → s.policy.callbacks.select_cpu ≡ Some p → NamesCpu (length s.world.cpus) a → IsTarget s t a (answered_cpu s.world t a)
+    at p d e (n, x, l) = subst (λ (o : Option ℕ). IsTarget s t a (answered_cpu s.world t o)) (sym x) (rw (below n (length s.world.cpus) l) (Named p d e x l))
+
+    go : (y : Option Eject) → s.world.ejected ≡ y → (p : Option VerifiedProgram) → s.policy.callbacks.select_cpu ≡ p → IsTarget s t a (target_as s t y p a)
+    go (Some y) d p e = Is_ejected y d (is_choice s.world t)
+    go None d None e = NoCallback d e (is_choice s.world t)
+    go None d (Some p) e = at p d e (names d)
 
 target_at : (s : State) (t : ℕ) (y : Option Eject) (p : Option VerifiedProgram) (o a : Option ℕ) → s.world.ejected ≡ y → s.policy.callbacks.select_cpu ≡ p → a ≡ o → target_as s t y p o ≡ target_of s t a
 target_at s t y p o a d e x =
@@ -79,11 +86,6 @@ only_target s t a c (Named p d e x l) = named (below c (length s.world.cpus) l) 
   where
     named : nat_lt c (length s.world.cpus) ≡ true → c ≡ answered_cpu s.world t (Some c)
     named k = rw k refl
-only_target s t a c (NoSuchCpu p n d e x l h) = only_choice s.world t c h ∙ unnamed (past n (length s.world.cpus) l) ∙ target_at s t None (Some p) (Some n) a d e x
-  where
-    unnamed : nat_lt n (length s.world.cpus) ≡ false → default_choice s.world t ≡ answered_cpu s.world t (Some n)
-    unnamed k = rw k refl
-only_target s t a c (NoAnswer p d e x h) = only_choice s.world t c h ∙ target_at s t None (Some p) None a d e x
 
 abbrev wake_note : State → ℕ → Stepped → Stepped
 wake_note s t r = after (said s.world (note.Wake t) ∷ []) r
@@ -105,8 +107,8 @@ wakes s t = go (is_idle x.state.world c) refl
     x = settled r.state.world.call.insert r.state t c
 
     go : (b : Bool) → is_idle x.state.world c ≡ b → Wakes s t (wake_note s t (joined r (if b then joined x (cycle x.state c None false) else x)))
-    go true e = IdleTarget c x (cycle x.state c None false) (is_target r.state t (select_answered (awake s t) t)) (settles r.state t c) e (cycles x.state c None false) refl
-    go false e = BusyTarget c x (is_target r.state t (select_answered (awake s t) t)) (settles r.state t c) e refl
+    go true e = IdleTarget c x (cycle x.state c None false) (is_target r.state t (select_answered (awake s t) t) (selects (awake s t) t)) (settles r.state t c) e (cycles x.state c None false) refl
+    go false e = BusyTarget c x (is_target r.state t (select_answered (awake s t) t) (selects (awake s t) t)) (settles r.state t c) e refl
 
 wake_is : (s : State) (t : ℕ) → wake s t ≡ wake_note s t (joined (select_called (awake s t) t) (settle (select_called (awake s t) t).state t (chosen s t)))
 unfolding wake select
