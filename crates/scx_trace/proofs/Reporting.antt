@@ -50,12 +50,6 @@ lines_and_total : (x : NameLists) (all : List ℕ) (k : ℕ) (a b c : Option (Li
     → Appends a b (task_lines x (sum all) 0 (take k all)) → Appends b c (total_line (sum all)) → Appends a c (task_lines x (sum all) 0 all ++ total_line (sum all))
 lines_and_total x all k a b c past first next = grows_twice a b c (task_lines x (sum all) 0 all) (total_line (sum all)) (all_lines x all k a b past first) next
 
--- a whole report
-pub written_all : (x : NameLists) (all : List ℕ) (k : ℕ) (o : Option Eject) (a b c d : Option (List ℕ)) → length all ≤ k
-    → Appends a b (task_lines x (sum all) 0 (take k all)) → Appends b c (total_line (sum all)) → Appends c d (policy_line x o) → Appends a d (report x all o)
-written_all x all k o a b c d past first next last =
-    grows_twice a c d (task_lines x (sum all) 0 all ++ total_line (sum all)) (policy_line x o) (lines_and_total x all k a b c past first next) last
-
 -- a report that is cut off in its last line
 pub cut_at_end : (x : NameLists) (all : List ℕ) (k : ℕ) (o : Option Eject) (a b c d : Option (List ℕ)) → length all ≤ k
     → Appends a b (task_lines x (sum all) 0 (take k all)) → Appends b c (total_line (sum all)) → AppendsBeginning c d (policy_line x o) → AppendsBeginning a d (report x all o)
