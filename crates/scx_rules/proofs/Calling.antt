@@ -1,5 +1,5 @@
 -- What a run of a callback may leave is what is computed.
-use Rattle.std.proofs.Common.{◌≡◌, Option, Some, None, refl, sym, ◌∙◌, ap, subst}
+use Rattle.std.proofs.Common.{◌≡◌, ℕ, List, [], ◌∷◌, ◌++◌, Option, Some, None, refl, sym, ◌∙◌, ap, subst}
 use Rattle.scx_semantics.specs.declared.callbacks.Callback.{Callback}
 use Rattle.scx_semantics.specs.Elements.{Maps}
 use Rattle.scx_semantics.specs.Endings.{Ending, run_of}
@@ -10,10 +10,13 @@ use Rattle.scx_vm.specs.Arguments.{given}
 use Rattle.scx_vm.specs.Host.{answer_to, after_query}
 use Rattle.scx_world.specs.World.{WorldState, begun}
 use Rattle.scx_world.specs.Helpers.{world_functions}
-use Rattle.scx_machine.specs.Policy.{program_of, IsAs}
-use Rattle.scx_machine.specs.Callbacks.{called, calls_of, call_back, answered_by, AreAnswered}
+use Rattle.scx_machine.specs.Policy.{IsAs}
+use Rattle.scx_machine.specs.Steps.{State, CallMade, Stepped, joined}
+use Rattle.scx_machine.specs.Ejecting.{ejected_for}
+use Rattle.scx_machine.specs.Callbacks.{acting, called, calls_of, ended, fault_of, call_back, answered_by, AreAnswered}
 use Rattle.scx_rules.specs.Callbacks.{EndsAs, Absent, Exits, Sticks, leaving}
 use Rattle.scx_rules.specs.Laws.{RulesAllowCallbacks, RulesAllowCallbacksOnly}
+use Rattle.scx_rules.proofs.Ejecting.{is_fault_of, only_fault_of, judges, only_judges}
 
 called_is : (p : VerifiedProgram) (b : Callback) (a : Args) (maps : Maps) (w : WorldState) (o : Option VerifiedProgram) → o ≡ Some p
     → called o b a maps w ≡ run_of (answer_to world_functions) (after_query world_functions) b p.code (given a) maps w
@@ -40,15 +43,46 @@ ends_as (Some p) b a maps w fits (h, more) = subst (λ (e : Ending WorldState). 
     exits : EndsAs (Some p) b a maps w (record { answer = Some h.answer; maps = h.maps; outside = h.world })
     exits = Exits p h.answer h.steps h.maps h.world refl h.in_bound (rw (← fits) h.run) refl
 
+-- of calls that come to an answer the first do, and those after them
+pub answered_first : (xs ys : List CallMade) → AreAnswered (xs ++ ys) → AreAnswered xs
+answered_first [] ys h = tt
+answered_first (x ∷ xs) ys (h, hs) = (h, answered_first xs ys hs)
+
+pub answered_second : (xs ys : List CallMade) → AreAnswered (xs ++ ys) → AreAnswered ys
+answered_second [] ys h = h
+answered_second (x ∷ xs) ys (h, hs) = answered_second xs ys hs
+
+-- how the callback ends, and what follows
+abbrev ending : State → Callback → Args → ℕ → ℕ → Ending WorldState
+ending s b a t c = called (acting s b) b a s.maps (begun s.world b t c)
+
+abbrev followed_by : State → Callback → Args → WorldState → Ending WorldState → Stepped → Stepped
+followed_by s b a w e r = joined (leaving s b a w e) r
+
+abbrev followed : State → Callback → Args → WorldState → Ending WorldState → Stepped
+followed s b a w e = followed_by s b a w e (ejected_for (fault_of b e) (ended s.policy e))
+
 -- what is computed is allowed
 pub calls_back : RulesAllowCallbacks
 unfolding call_back answered_by
-calls_back s b a t c fits all =
-    record { ending = called (program_of s.policy b) b a s.maps (begun s.world b t c); ends = ends_as (program_of s.policy b) b a s.maps (begun s.world b t c) fits all; answers = refl; all = refl }
+calls_back s b a t c fits all = record {
+  ending = ending s b a t c;
+  ends = ends_as (acting s b) b a s.maps (begun s.world b t c) fits (answered_first (calls_of (acting s b) a s.maps (begun s.world b t c)) (ejected_for (fault_of b (ending s b a t c)) (ended s.policy (ending s b a t c))).calls all);
+  answers = refl;
+  fault = fault_of b (ending s b a t c);
+  wrong = is_fault_of b (ending s b a t c);
+  ejected = ejected_for (fault_of b (ending s b a t c)) (ended s.policy (ending s b a t c));
+  judged = judges (ended s.policy (ending s b a t c)) (fault_of b (ending s b a t c));
+  all = refl;
+}
 
 -- and nothing else is
 pub only_calls : RulesAllowCallbacksOnly
 unfolding call_back answered_by
 only_calls s b a t c x r h =
-    let e = only_ends (program_of s.policy b) b a s.maps (begun s.world b t c) h.ending h.ends in
-    (h.answers ∙ ap (λ (k : Ending WorldState). k.answer) e, h.all ∙ ap (λ k. leaving s b a (begun s.world b t c) k) e)
+    let w = begun s.world b t c in
+    let e = only_ends (acting s b) b a s.maps w h.ending h.ends in
+    (h.answers ∙ ap (λ (k : Ending WorldState). k.answer) e,
+     h.all ∙ ap (λ y. followed_by s b a w h.ending y) (only_judges (ended s.policy h.ending) h.fault h.ejected h.judged)
+     ∙ ap (λ f. followed_by s b a w h.ending (ejected_for f (ended s.policy h.ending))) (only_fault_of b h.ending h.fault h.wrong)
+     ∙ ap (λ k. followed s b a w k) e)

@@ -1,49 +1,95 @@
 -- A cycle as it is computed is allowed, and no other is.
-use Rattle.std.proofs.Common.{◌≡◌, ℕ, zero, suc, ◌<◌, ◌≤◌, Bool, true, false, not, ◌==◌, ◌&&◌, nat_lt, ◌⊎◌, inl, inr, if◌then◌else◌, [], ◌∷◌, Option, Some, None, refl, sym, ◌∙◌, ap, subst, arith}
+use Rattle.std.proofs.Common.{◌≡◌, ℕ, zero, suc, ◌<◌, ◌≤◌, Bool, true, false, not, ◌==◌, ◌&&◌, nat_lt, ◌⊎◌, inl, inr, if◌then◌else◌, [], ◌∷◌, Option, Some, None, is_some, refl, sym, ◌∙◌, ap, subst, arith}
 use Rattle.std.proofs.lemmas.Bool.Decides.{nat_tests}
 use Rattle.std.proofs.lemmas.Bool.{cases_eq, cases_lt, eq-eqb, ne_eqb}
 use Rattle.scx_dsq.specs.Queues.{front_of}
 use Rattle.scx_safety.specs.Programs.{VerifiedProgram}
+use Rattle.scx_semantics.specs.declared.callbacks.Callback.TheVariants as callback
 use Rattle.scx_world.specs.declared.call.Insert.{Insert}
+use Rattle.scx_world.specs.declared.eject.Eject.{Eject}
 use Rattle.scx_world.specs.declared.notes.What.TheVariants as note
-use Rattle.scx_world.specs.Ids.{global, local_on}
+use Rattle.scx_world.specs.Ids.{global, builtin, local_on}
 use Rattle.scx_world.specs.World.{said}
 use Rattle.scx_world.specs.Tasks.{local_len, brought}
+use Rattle.scx_world.specs.Ejecting.{put_builtin, overtaken, charged}
 use Rattle.scx_machine.specs.Steps.{State, Stepped, with_world, stays, after, joined}
-use Rattle.scx_machine.specs.Put.{enters, wanted, put}
-use Rattle.scx_machine.specs.Cycle.{move_note, fill, dispatched, tries, leave, started_if, start, pick, rest, pick_or_rest, ask, seek, cycling, cycle}
-use Rattle.scx_rules.specs.Cycles.{entering, enqueue_called, dispatch_called, stopping_called, Enters, Default, Held, Inserted, Puts, Fills, HasLocal, NoOther, Moves, Dispatches, Asks, Enough, Came, NothingMoved, Again, Leaves, Nobody, Stops, Starts, Empty, Front, Picks, Rests, Keeps, Idles, WasIdle, Ends, Picked, Rested, Seeks, Filled, Asked, Cycles}
+use Rattle.scx_machine.specs.Callbacks.{call_back, one_task, task_and_number}
+use Rattle.scx_machine.specs.Put.{enters, wanted, enters_builtin, comes_in, put}
+use Rattle.scx_machine.specs.Cycle.{move_note, fill, dispatched, tries, stopping, running_on, leave, started_if, start, rest, swap, swap_or_rest, builtin_ask, builtin_cycle, start_or_cycle, pick, pick_or_rest, conclude, ask, seek, look, cycling, cycle}
+use Rattle.scx_rules.specs.Cycles.{noting, silent, entering, enqueue_called, dispatch_called, gone_off, gone_on, HasStopped, Policy_hears, Is_charged, HasStarted, Policy_learns, Catches_up, Enters, For_builtin, Default, Held, Inserted, Puts, Fills, HasLocal, NoOther, Moves, Dispatches, Asks, Enough, Came, NothingMoved, Again, Leaves, Nobody, Stops, Starts, Empty, Front, Rests, Keeps, Idles, WasIdle, Swaps, SwapsOrRests, Swapped, Kept, CyclesBuiltin, Picks, Runs_front, Emptied, Ends, Anew, Picked, Rested, Seeks, Filled, Asked, Looks, Of_policy, Of_builtin, Cycles}
 
 -- ---- put
 
-abbrev placed_as : State → ℕ → ℕ → Option VerifiedProgram → Option Insert → Stepped
-placed_as s t c p i = entering s t (wanted p c i)
+abbrev placed_as : State → ℕ → ℕ → Option Eject → Option VerifiedProgram → Option Insert → Stepped
+placed_as s t c x p i = if is_some x then noting s (put_builtin s.world t) (note.Insert t builtin) else entering s t (wanted p c i)
 
-abbrev placed : State → ℕ → ℕ → Stepped
-placed s t c = placed_as s t c s.policy.callbacks.enqueue s.world.call.insert
-
-comes : (s : State) (t c : ℕ) → Enters s t c (placed s t c)
-comes s t c = go s.policy.callbacks.enqueue refl s.world.call.insert refl
+comes : (s : State) (t c : ℕ) → Enters s t c (comes_in s t c)
+unfolding comes_in enters enters_builtin
+comes s t c = go s.world.ejected refl s.policy.callbacks.enqueue refl s.world.call.insert refl
   where
-    go : (p : Option VerifiedProgram) → s.policy.callbacks.enqueue ≡ p → (i : Option Insert) → s.world.call.insert ≡ i → Enters s t c (placed_as s t c p i)
-    go None e i x = Default e refl
-    go (Some p) e None x = Held p e x refl
-    go (Some p) e (Some i) x = Inserted p i e x refl
+    go : (x : Option Eject) → s.world.ejected ≡ x → (p : Option VerifiedProgram) → s.policy.callbacks.enqueue ≡ p → (i : Option Insert) → s.world.call.insert ≡ i → Enters s t c (placed_as s t c x p i)
+    go (Some x) d p e i y = For_builtin x d refl
+    go None d None e i y = Default d e refl
+    go None d (Some p) e None y = Held p d e y refl
+    go None d (Some p) e (Some i) y = Inserted p i d e y refl
 
-only_comes : (s : State) (t c : ℕ) (r : Stepped) → Enters s t c r → r ≡ placed s t c
-only_comes s t c r (Default e k) = k ∙ ap (λ p. placed_as s t c p s.world.call.insert) (sym e)
-only_comes s t c r (Held p e x k) = k ∙ ap (λ i. placed_as s t c (Some p) i) (sym x) ∙ ap (λ q. placed_as s t c q s.world.call.insert) (sym e)
-only_comes s t c r (Inserted p i e x k) = k ∙ ap (λ j. placed_as s t c (Some p) j) (sym x) ∙ ap (λ q. placed_as s t c q s.world.call.insert) (sym e)
+placed_is : (s : State) (t c : ℕ) (x : Option Eject) (p : Option VerifiedProgram) (i : Option Insert) → s.world.ejected ≡ x → s.policy.callbacks.enqueue ≡ p → s.world.call.insert ≡ i
+    → placed_as s t c x p i ≡ comes_in s t c
+unfolding comes_in enters enters_builtin
+placed_is s t c x p i d e y =
+    ap (λ o. placed_as s t c x p o) (sym y) ∙ ap (λ o. placed_as s t c x o s.world.call.insert) (sym e) ∙ ap (λ o. placed_as s t c o s.policy.callbacks.enqueue s.world.call.insert) (sym d)
+
+only_comes : (s : State) (t c : ℕ) (r : Stepped) → Enters s t c r → r ≡ comes_in s t c
+only_comes s t c r (For_builtin x d k) = k ∙ placed_is s t c (Some x) s.policy.callbacks.enqueue s.world.call.insert d refl refl
+only_comes s t c r (Default d e k) = k ∙ placed_is s t c None None s.world.call.insert d e refl
+only_comes s t c r (Held p d e y k) = k ∙ placed_is s t c None (Some p) None d e y
+only_comes s t c r (Inserted p i d e y k) = k ∙ placed_is s t c None (Some p) (Some i) d e y
 
 -- a task is put as it is computed
 pub puts : (s : State) (t c flags : ℕ) → Puts s t c flags (put s t c flags)
-unfolding put enters
-puts s t c flags = record { put = placed (enqueue_called s t c flags).state t c; enters = comes (enqueue_called s t c flags).state t c; all = refl }
+unfolding put
+puts s t c flags = record { put = comes_in (enqueue_called s t c flags).state t c; enters = comes (enqueue_called s t c flags).state t c; all = refl }
 
 -- and in no other way
 pub only_puts : (s : State) (t c flags : ℕ) (r : Stepped) → Puts s t c flags r → r ≡ put s t c flags
-unfolding put enters
+unfolding put
 only_puts s t c flags r h = h.all ∙ ap (λ x. joined (enqueue_called s t c flags) x) (only_comes (enqueue_called s t c flags).state t c h.put h.enters)
+
+-- ---- on and off a processor
+
+abbrev stopped_as : State → ℕ → ℕ → ℕ → Option Eject → Stepped
+stopped_as s c t n x = if is_some x then silent s (charged s.world t) else call_back s callback.Stopping (task_and_number t n) t c
+
+-- a task leaves its processor as it is computed
+pub stops : (s : State) (c t n : ℕ) → HasStopped s c t n (stopping s c t n)
+unfolding stopping
+stops s c t n = go s.world.ejected refl
+  where
+    go : (x : Option Eject) → s.world.ejected ≡ x → HasStopped s c t n (stopped_as s c t n x)
+    go None e = Policy_hears e refl
+    go (Some x) e = Is_charged x e refl
+
+-- and in no other way
+pub only_stops : (s : State) (c t n : ℕ) (r : Stepped) → HasStopped s c t n r → r ≡ stopping s c t n
+unfolding stopping
+only_stops s c t n r (Policy_hears e k) = k ∙ ap (λ o. stopped_as s c t n o) (sym e)
+only_stops s c t n r (Is_charged x e k) = k ∙ ap (λ o. stopped_as s c t n o) (sym e)
+
+abbrev started_as : State → ℕ → ℕ → Option Eject → Stepped
+started_as s c t x = if is_some x then silent s (overtaken s.world t) else call_back s callback.Running (one_task t) t c
+
+runs : (s : State) (c t : ℕ) → HasStarted s c t (running_on s c t)
+unfolding running_on
+runs s c t = go s.world.ejected refl
+  where
+    go : (x : Option Eject) → s.world.ejected ≡ x → HasStarted s c t (started_as s c t x)
+    go None e = Policy_learns e refl
+    go (Some x) e = Catches_up x e refl
+
+only_runs : (s : State) (c t : ℕ) (r : Stepped) → HasStarted s c t r → r ≡ running_on s c t
+unfolding running_on
+only_runs s c t r (Policy_learns e k) = k ∙ ap (λ o. started_as s c t o) (sym e)
+only_runs s c t r (Catches_up x e k) = k ∙ ap (λ o. started_as s c t o) (sym e)
 
 -- ---- fill
 
@@ -53,31 +99,31 @@ some_is k l = grind (arith, nat_tests, l)
 none_is : (k : ℕ) → k ≡ 0 → nat_lt 0 k ≡ false
 none_is k e = grind (arith, nat_tests, e)
 
-fills : (s : State) (c : ℕ) → Fills s c (fill s global c)
+fills : (s : State) (q c : ℕ) → Fills s q c (fill s q c)
 unfolding fill
-fills s c = go (cases_lt 0 (local_len s.world c)) (front_of s.world.queues global) refl
+fills s q c = go (cases_lt 0 (local_len s.world c)) (front_of s.world.queues q) refl
   where
-    go : (0 < local_len s.world c) ⊎ (local_len s.world c ≤ 0) → (o : Option ℕ) → front_of s.world.queues global ≡ o
-        → Fills s c (record { state = with_world s (brought (if nat_lt 0 (local_len s.world c) then None else o) s.world global c); notes = move_note s.world (if nat_lt 0 (local_len s.world c) then None else o) c; calls = [] })
+    go : (0 < local_len s.world c) ⊎ (local_len s.world c ≤ 0) → (o : Option ℕ) → front_of s.world.queues q ≡ o
+        → Fills s q c (record { state = with_world s (brought (if nat_lt 0 (local_len s.world c) then None else o) s.world q c); notes = move_note s.world (if nat_lt 0 (local_len s.world c) then None else o) c; calls = [] })
     go (inl l) o e = rw (some_is (local_len s.world c) l) (HasLocal l refl)
     go (inr l) None e = let z : local_len s.world c ≡ 0 = omega (arith, l) in rw (none_is (local_len s.world c) z) (NoOther z e refl)
     go (inr l) (Some t) e = let z : local_len s.world c ≡ 0 = omega (arith, l) in rw (none_is (local_len s.world c) z) (Moves t z e refl)
 
-only_fills : (s : State) (c : ℕ) (r : Stepped) → Fills s c r → r ≡ fill s global c
+only_fills : (s : State) (q c : ℕ) (r : Stepped) → Fills s q c r → r ≡ fill s q c
 unfolding fill
-only_fills s c r (HasLocal l k) = rw (some_is (local_len s.world c) l) k
-only_fills s c r (NoOther z e k) = rw (none_is (local_len s.world c) z, e) k
-only_fills s c r (Moves t z e k) = rw (none_is (local_len s.world c) z, e) k
+only_fills s q c r (HasLocal l k) = rw (some_is (local_len s.world c) l) k
+only_fills s q c r (NoOther z e k) = rw (none_is (local_len s.world c) z, e) k
+only_fills s q c r (Moves t z e k) = rw (none_is (local_len s.world c) z, e) k
 
 -- ---- dispatch
 
 dispatches : (s : State) (c : ℕ) (p : Option ℕ) → Dispatches s c p (dispatched s c p)
 unfolding dispatched
-dispatches s c p = record { filled = fill (dispatch_called s c p).state global c; fills = fills (dispatch_called s c p).state c; all = refl }
+dispatches s c p = record { filled = fill (dispatch_called s c p).state global c; fills = fills (dispatch_called s c p).state global c; all = refl }
 
 only_dispatches : (s : State) (c : ℕ) (p : Option ℕ) (r : Stepped) → Dispatches s c p r → r ≡ dispatched s c p
 unfolding dispatched
-only_dispatches s c p r h = h.all ∙ ap (λ x. joined (dispatch_called s c p) x) (only_fills (dispatch_called s c p).state c h.filled h.fills)
+only_dispatches s c p r h = h.all ∙ ap (λ x. joined (dispatch_called s c p) x) (only_fills (dispatch_called s c p).state global c h.filled h.fills)
 
 asks : (n : ℕ) (s : State) (c : ℕ) (p : Option ℕ) → Asks n s c p (tries n s c p)
 unfolding tries
@@ -98,12 +144,18 @@ asks (suc n) s c p = go (asks n d.state c p) (cases_eq (local_len d.state.world 
 leaves : (s : State) (c : ℕ) (p : Option ℕ) → Leaves s c p (leave s c p)
 unfolding leave
 leaves s c None = Nobody refl refl
-leaves s c (Some t) = Stops t (put (stopping_called s c t 1).state t c 0) refl (puts (stopping_called s c t 1).state t c 0) refl
+leaves s c (Some t) =
+    let l = stopping (gone_off s c t) c t 1 in
+    Stops t l (put l.state t c 0) refl (stops (gone_off s c t) c t 1) (puts l.state t c 0) refl
+
+abbrev left_as : State → ℕ → ℕ → Stepped → Stepped → Stepped
+left_as s c t l x = after (said s.world (note.Stop t c) ∷ []) (joined l x)
 
 only_leaves : (s : State) (c : ℕ) (p : Option ℕ) (r : Stepped) → Leaves s c p r → r ≡ leave s c p
 unfolding leave
 only_leaves s c p r (Nobody e k) = rw e k
-only_leaves s c p r (Stops t x e h k) = rw e (k ∙ ap (λ y. after (said s.world (note.Stop t c) ∷ []) (joined (stopping_called s c t 1) y)) (only_puts (stopping_called s c t 1).state t c 0 x h))
+only_leaves s c p r (Stops t l x e h y k) =
+    rw e (k ∙ ap (λ z. left_as s c t l z) (only_puts l.state t c 0 x y) ∙ ap (λ (z : Stepped). left_as s c t z (put z.state t c 0)) (only_stops (gone_off s c t) c t 1 l h))
 
 starts : (s : State) (c : ℕ) → Starts s c (start s c)
 unfolding start
@@ -111,23 +163,35 @@ starts s c = go (front_of s.world.queues (local_on c)) refl
   where
     go : (o : Option ℕ) → front_of s.world.queues (local_on c) ≡ o → Starts s c (started_if o s c)
     go None e = Empty e refl
-    go (Some t) e = Front t e refl
+    go (Some t) e = Front t (running_on (gone_on s c t) c t) e (runs (gone_on s c t) c t) refl
+
+abbrev run_note : State → ℕ → ℕ → Stepped → Stepped
+run_note s c t x = after (said s.world (note.Run t c) ∷ []) x
 
 only_starts : (s : State) (c : ℕ) (r : Stepped) → Starts s c r → r ≡ start s c
 unfolding start
-only_starts s c r (Empty e k) = rw e k
-only_starts s c r (Front t e k) = rw e k
+only_starts s c r (Empty e k) = k ∙ ap (λ o. started_if o s c) (sym e)
+only_starts s c r (Front t x e h k) = k ∙ ap (λ y. run_note s c t y) (only_runs (gone_on s c t) c t x h) ∙ ap (λ o. started_if o s c) (sym e)
 
-picks : (s : State) (c : ℕ) (p : Option ℕ) → Picks s c p (pick s c p)
-unfolding pick
-picks s c p = record { left = leave s c p; leaves = leaves s c p; started = start (leave s c p).state c; starts = starts (leave s c p).state c; all = refl }
+-- ---- the local queue is empty, or isn't
 
-only_picks : (s : State) (c : ℕ) (p : Option ℕ) (r : Stepped) → Picks s c p r → r ≡ pick s c p
-unfolding pick
-only_picks s c p r h =
-    h.all ∙ ap (λ x. joined h.left x) (only_starts h.left.state c h.started h.starts) ∙ ap (λ x. joined x (start x.state c)) (only_leaves s c p h.left h.leaves)
+is_empty : (s : State) (c : ℕ) → local_len s.world c ≡ 0 → not (local_len s.world c == 0) ≡ false
+is_empty s c z = rw (eq-eqb (local_len s.world c) 0 z) refl
 
--- ---- cycle
+has_some : (s : State) (c : ℕ) → 0 < local_len s.world c → not (local_len s.world c == 0) ≡ true
+has_some s c l = rw (ne_eqb (local_len s.world c) 0 (λ e. omega (arith, e, l))) refl
+
+abbrev HasAny : State → ℕ → Type 0
+HasAny s c = (0 < local_len s.world c) ⊎ (local_len s.world c ≡ 0)
+
+any_here : (s : State) (c : ℕ) → HasAny s c
+any_here s c = go (cases_eq (local_len s.world c) 0)
+  where
+    go : (local_len s.world c ≡ 0) ⊎ (local_len s.world c ≡ 0 → ⊥) → HasAny s c
+    go (inl z) = inr z
+    go (inr x) = inl (omega (arith, x))
+
+-- ---- rest
 
 rests : (s : State) (c : ℕ) (p : Option ℕ) (ran : Bool) → Rests s c p ran (rest s c p ran)
 unfolding rest
@@ -135,25 +199,143 @@ rests s c (Some t) ran = Keeps t ran _ refl
 rests s c None true = Idles _ refl
 rests s c None false = WasIdle _ refl
 
-ends : (s : State) (c : ℕ) (p : Option ℕ) (ran : Bool) → Ends s c p ran (pick_or_rest s c p ran)
-unfolding pick_or_rest
-ends s c p ran = go (cases_eq (local_len s.world c) 0)
-  where
-    go : (local_len s.world c ≡ 0) ⊎ (local_len s.world c ≡ 0 → ⊥) → Ends s c p ran (if not (local_len s.world c == 0) then pick s c p else rest s c p ran)
-    go (inl z) = rw (eq-eqb (local_len s.world c) 0 z) (Rested z (rests s c p ran))
-    go (inr x) = rw (ne_eqb (local_len s.world c) 0 x) (Picked (omega (arith, x)) (picks s c p))
+only_rests : (s : State) (c : ℕ) (p : Option ℕ) (ran : Bool) (r : Stepped) → Rests s c p ran r → r ≡ rest s c p ran
+unfolding rest
+only_rests s c (Some t) ran r (Keeps _ _ _ k) = k
+only_rests s c None true r (Idles _ k) = k
+only_rests s c None false r (WasIdle _ k) = k
 
-seeks : (s : State) (c : ℕ) (p : Option ℕ) (ran : Bool) → Seeks s c p ran (seek s c p ran)
-unfolding seek ask
-seeks s c p ran = go (cases_eq (local_len f.state.world c) 0)
+-- ---- the built-in scheduler's cycle
+
+swaps : (s : State) (c : ℕ) (p : Option ℕ) → Swaps s c p (swap s c p)
+unfolding swap
+swaps s c p = record { left = leave s c p; leaves = leaves s c p; started = start (leave s c p).state c; starts = starts (leave s c p).state c; all = refl }
+
+only_swaps : (s : State) (c : ℕ) (p : Option ℕ) (r : Stepped) → Swaps s c p r → r ≡ swap s c p
+unfolding swap
+only_swaps s c p r h =
+    h.all ∙ ap (λ x. joined h.left x) (only_starts h.left.state c h.started h.starts) ∙ ap (λ (x : Stepped). joined x (start x.state c)) (only_leaves s c p h.left h.leaves)
+
+abbrev swap_if : State → ℕ → Option ℕ → Bool → Bool → Stepped
+swap_if s c p ran b = if b then swap s c p else rest s c p ran
+
+swaps_or_rests : (s : State) (c : ℕ) (p : Option ℕ) (ran : Bool) → SwapsOrRests s c p ran (swap_or_rest s c p ran)
+unfolding swap_or_rest
+swaps_or_rests s c p ran = go (any_here s c)
+  where
+    go : HasAny s c → SwapsOrRests s c p ran (swap_if s c p ran (not (local_len s.world c == 0)))
+    go (inl l) = rw (has_some s c l) (Swapped l (swaps s c p))
+    go (inr z) = rw (is_empty s c z) (Kept z (rests s c p ran))
+
+only_swaps_or_rests : (s : State) (c : ℕ) (p : Option ℕ) (ran : Bool) (r : Stepped) → SwapsOrRests s c p ran r → r ≡ swap_or_rest s c p ran
+unfolding swap_or_rest
+only_swaps_or_rests s c p ran r (Swapped l h) = only_swaps s c p r h ∙ ap (λ b. swap_if s c p ran b) (sym (has_some s c l))
+only_swaps_or_rests s c p ran r (Kept z h) = only_rests s c p ran r h ∙ ap (λ b. swap_if s c p ran b) (sym (is_empty s c z))
+
+cycles_builtin : (s : State) (c : ℕ) (p : Option ℕ) (ran : Bool) → CyclesBuiltin s c p ran (builtin_cycle s c p ran)
+unfolding builtin_cycle builtin_ask
+cycles_builtin s c p ran = record {
+  filled = f;
+  fills = fills s global c;
+  asked = a;
+  asks = fills f.state builtin c;
+  ended = swap_or_rest a.state c p ran;
+  ends = swaps_or_rests a.state c p ran;
+  all = refl;
+}
   where
     f : Stepped
     f = fill s global c
 
-    go : (local_len f.state.world c ≡ 0) ⊎ (local_len f.state.world c ≡ 0 → ⊥) → Seeks s c p ran (joined f (if not (local_len f.state.world c == 0) then pick f.state c p else ask f.state c p ran))
-    go (inl z) = rw (eq-eqb (local_len f.state.world c) 0 z)
-        (Asked f (tries 32 f.state c p) (pick_or_rest (tries 32 f.state c p).state c p ran) (fills s c) z (asks 32 f.state c p) (ends (tries 32 f.state c p).state c p ran) refl)
-    go (inr x) = rw (ne_eqb (local_len f.state.world c) 0 x) (Filled f (pick f.state c p) (fills s c) (omega (arith, x)) (picks f.state c p) refl)
+    a : Stepped
+    a = fill f.state builtin c
+
+abbrev asked_builtin : Stepped → ℕ → Option ℕ → Bool → Stepped → Stepped
+asked_builtin f c p ran a = joined f (joined a (swap_or_rest a.state c p ran))
+
+only_cycles_builtin : (s : State) (c : ℕ) (p : Option ℕ) (ran : Bool) (r : Stepped) → CyclesBuiltin s c p ran r → r ≡ builtin_cycle s c p ran
+unfolding builtin_cycle builtin_ask
+only_cycles_builtin s c p ran r h =
+    h.all ∙ ap (λ x. joined h.filled (joined h.asked x)) (only_swaps_or_rests h.asked.state c p ran h.ended h.ends)
+    ∙ ap (λ (a : Stepped). asked_builtin h.filled c p ran a) (only_fills h.filled.state builtin c h.asked h.asks)
+    ∙ ap (λ (f : Stepped). asked_builtin f c p ran (fill f.state builtin c)) (only_fills s global c h.filled h.fills)
+
+-- ---- the policy's cycle
+
+abbrev start_if : State → ℕ → Bool → Bool → Stepped
+start_if s c ran b = if b then start s c else builtin_cycle s c None ran
+
+picks : (s : State) (c : ℕ) (p : Option ℕ) (ran : Bool) → Picks s c p ran (pick s c p ran)
+unfolding pick start_or_cycle
+picks s c p ran = go (any_here l.state c)
+  where
+    l : Stepped
+    l = leave s c p
+
+    go : HasAny l.state c → Picks s c p ran (joined l (start_if l.state c ran (not (local_len l.state.world c == 0))))
+    go (inl x) = rw (has_some l.state c x) (Runs_front l (start l.state c) (leaves s c p) x (starts l.state c) refl)
+    go (inr z) = rw (is_empty l.state c z) (Emptied l (builtin_cycle l.state c None ran) (leaves s c p) z (cycles_builtin l.state c None ran) refl)
+
+start_is : (s : State) (c : ℕ) (ran : Bool) → 0 < local_len s.world c → start s c ≡ start_or_cycle s c ran
+unfolding start_or_cycle
+start_is s c ran l = ap (λ b. start_if s c ran b) (sym (has_some s c l))
+
+anew_is : (s : State) (c : ℕ) (ran : Bool) → local_len s.world c ≡ 0 → builtin_cycle s c None ran ≡ start_or_cycle s c ran
+unfolding start_or_cycle
+anew_is s c ran z = ap (λ b. start_if s c ran b) (sym (is_empty s c z))
+
+only_picks : (s : State) (c : ℕ) (p : Option ℕ) (ran : Bool) (r : Stepped) → Picks s c p ran r → r ≡ pick s c p ran
+unfolding pick
+only_picks s c p ran r (Runs_front l x h n y k) =
+    k ∙ ap (λ z. joined l z) (only_starts l.state c x y ∙ start_is l.state c ran n) ∙ ap (λ (z : Stepped). joined z (start_or_cycle z.state c ran)) (only_leaves s c p l h)
+only_picks s c p ran r (Emptied l x h n y k) =
+    k ∙ ap (λ z. joined l z) (only_cycles_builtin l.state c None ran x y ∙ anew_is l.state c ran n) ∙ ap (λ (z : Stepped). joined z (start_or_cycle z.state c ran)) (only_leaves s c p l h)
+
+abbrev pick_if : State → ℕ → Option ℕ → Bool → Bool → Stepped
+pick_if s c p ran b = if b then pick s c p ran else rest s c p ran
+
+abbrev concluded_as : State → ℕ → Option ℕ → Bool → Option Eject → Stepped
+concluded_as s c p ran x = if is_some x then builtin_cycle s c p ran else pick_or_rest s c p ran
+
+ends : (s : State) (c : ℕ) (p : Option ℕ) (ran : Bool) → Ends s c p ran (conclude s c p ran)
+unfolding conclude pick_or_rest
+ends s c p ran = go s.world.ejected refl (any_here s c)
+  where
+    go : (x : Option Eject) → s.world.ejected ≡ x → HasAny s c → Ends s c p ran (if is_some x then builtin_cycle s c p ran else pick_if s c p ran (not (local_len s.world c == 0)))
+    go (Some x) e any = Anew x e (cycles_builtin s c p ran)
+    go None e (inl l) = rw (has_some s c l) (Picked e l (picks s c p ran))
+    go None e (inr z) = rw (is_empty s c z) (Rested e z (rests s c p ran))
+
+pick_is : (s : State) (c : ℕ) (p : Option ℕ) (ran : Bool) → 0 < local_len s.world c → pick s c p ran ≡ pick_or_rest s c p ran
+unfolding pick_or_rest
+pick_is s c p ran l = ap (λ b. pick_if s c p ran b) (sym (has_some s c l))
+
+rest_is : (s : State) (c : ℕ) (p : Option ℕ) (ran : Bool) → local_len s.world c ≡ 0 → rest s c p ran ≡ pick_or_rest s c p ran
+unfolding pick_or_rest
+rest_is s c p ran z = ap (λ b. pick_if s c p ran b) (sym (is_empty s c z))
+
+only_ends : (s : State) (c : ℕ) (p : Option ℕ) (ran : Bool) (r : Stepped) → Ends s c p ran r → r ≡ conclude s c p ran
+unfolding conclude
+only_ends s c p ran r (Anew x e h) = only_cycles_builtin s c p ran r h ∙ ap (λ o. concluded_as s c p ran o) (sym e)
+only_ends s c p ran r (Picked e l h) = only_picks s c p ran r h ∙ pick_is s c p ran l ∙ ap (λ o. concluded_as s c p ran o) (sym e)
+only_ends s c p ran r (Rested e z h) = only_rests s c p ran r h ∙ rest_is s c p ran z ∙ ap (λ o. concluded_as s c p ran o) (sym e)
+
+abbrev seek_if : Stepped → ℕ → Option ℕ → Bool → Bool → Stepped
+seek_if f c p ran b = joined f (if b then pick f.state c p ran else ask f.state c p ran)
+
+seeks : (s : State) (c : ℕ) (p : Option ℕ) (ran : Bool) → Seeks s c p ran (seek s c p ran)
+unfolding seek ask
+seeks s c p ran = go (any_here f.state c)
+  where
+    f : Stepped
+    f = fill s global c
+
+    a : Stepped
+    a = tries 32 f.state c p
+
+    go : HasAny f.state c → Seeks s c p ran (seek_if f c p ran (not (local_len f.state.world c == 0)))
+    go (inl l) = rw (has_some f.state c l) (Filled f (pick f.state c p ran) (fills s global c) l (picks f.state c p ran) refl)
+    go (inr z) = rw (is_empty f.state c z) (Asked f a (conclude a.state c p ran) (fills s global c) z (asks 32 f.state c p) (ends a.state c p ran) refl)
 
 -- ---- and nothing else
 
@@ -187,44 +369,52 @@ only_asks (suc n) s c p r (Again _ _ _ _ d more _ h z f a k) =
     k ∙ ap (λ x. joined d x) (only_asks n d.state c p more a) ∙ ap (λ (x : Stepped). joined x (tries n x.state c p)) e
     ∙ sym (tries_again n s c p (subst (λ (x : Stepped). local_len x.state.world c ≡ 0) e z) (subst (λ (x : Stepped). x.state.world.call.has_moved ≡ true) e f))
 
-only_rests : (s : State) (c : ℕ) (p : Option ℕ) (ran : Bool) (r : Stepped) → Rests s c p ran r → r ≡ rest s c p ran
-unfolding rest
-only_rests s c (Some t) ran r (Keeps _ _ _ k) = k
-only_rests s c None true r (Idles _ k) = k
-only_rests s c None false r (WasIdle _ k) = k
+abbrev sought : Stepped → ℕ → Option ℕ → Bool → Stepped
+sought f c p ran = seek_if f c p ran (not (local_len f.state.world c == 0))
 
-only_ends : (s : State) (c : ℕ) (p : Option ℕ) (ran : Bool) (r : Stepped) → Ends s c p ran r → r ≡ pick_or_rest s c p ran
-unfolding pick_or_rest
-only_ends s c p ran r (Picked l h) = rw (ne_eqb (local_len s.world c) 0 (λ e. omega (arith, e, l))) (only_picks s c p r h)
-only_ends s c p ran r (Rested z h) = rw (eq-eqb (local_len s.world c) 0 z) (only_rests s c p ran r h)
-
-seek_picks : (s : State) (c : ℕ) (p : Option ℕ) (ran : Bool) → 0 < local_len (fill s global c).state.world c → seek s c p ran ≡ joined (fill s global c) (pick (fill s global c).state c p)
+sought_is : (s : State) (c : ℕ) (p : Option ℕ) (ran : Bool) (f : Stepped) → f ≡ fill s global c → sought f c p ran ≡ seek s c p ran
 unfolding seek
-seek_picks s c p ran l = rw (ne_eqb (local_len (fill s global c).state.world c) 0 (λ e. omega (arith, e, l))) refl
+sought_is s c p ran f e = ap (λ (g : Stepped). sought g c p ran) e
 
 -- the rest of a cycle, once dispatch is asked
-abbrev asked_from : Stepped → ℕ → Option ℕ → Bool → Stepped
-asked_from f c p ran = joined f (joined (tries 32 f.state c p) (pick_or_rest (tries 32 f.state c p).state c p ran))
+abbrev asked_from : Stepped → ℕ → Option ℕ → Bool → Stepped → Stepped
+asked_from f c p ran a = joined f (joined a (conclude a.state c p ran))
 
-seek_asks : (s : State) (c : ℕ) (p : Option ℕ) (ran : Bool) → local_len (fill s global c).state.world c ≡ 0 → seek s c p ran ≡ asked_from (fill s global c) c p ran
-unfolding seek ask
-seek_asks s c p ran z = rw (eq-eqb (local_len (fill s global c).state.world c) 0 z) refl
+asked_is : (f : Stepped) (c : ℕ) (p : Option ℕ) (ran : Bool) → asked_from f c p ran (tries 32 f.state c p) ≡ joined f (ask f.state c p ran)
+unfolding ask
+asked_is f c p ran = refl
 
 only_seeks : (s : State) (c : ℕ) (p : Option ℕ) (ran : Bool) (r : Stepped) → Seeks s c p ran r → r ≡ seek s c p ran
 only_seeks s c p ran r (Filled f x h l y k) =
-    let e = only_fills s c f h in
-    k ∙ ap (λ z. joined f z) (only_picks f.state c p x y) ∙ ap (λ (g : Stepped). joined g (pick g.state c p)) e ∙ sym (seek_picks s c p ran (subst (λ (g : Stepped). 0 < local_len g.state.world c) e l))
+    k ∙ ap (λ z. joined f z) (only_picks f.state c p ran x y) ∙ ap (λ b. seek_if f c p ran b) (sym (has_some f.state c l)) ∙ sought_is s c p ran f (only_fills s global c f h)
 only_seeks s c p ran r (Asked f a x h z b y k) =
-    let e = only_fills s c f h in
-    k ∙ ap (λ u. joined f (joined a u)) (only_ends a.state c p ran x y) ∙ ap (λ (u : Stepped). joined f (joined u (pick_or_rest u.state c p ran))) (only_asks 32 f.state c p a b)
-    ∙ ap (λ (g : Stepped). asked_from g c p ran) e ∙ sym (seek_asks s c p ran (subst (λ (g : Stepped). local_len g.state.world c ≡ 0) e z))
+    k ∙ ap (λ u. joined f (joined a u)) (only_ends a.state c p ran x y) ∙ ap (λ (u : Stepped). asked_from f c p ran u) (only_asks 32 f.state c p a b) ∙ asked_is f c p ran
+    ∙ ap (λ e. seek_if f c p ran e) (sym (is_empty f.state c z)) ∙ sought_is s c p ran f (only_fills s global c f h)
+
+-- ---- whichever is in force
+
+abbrev looked_as : State → ℕ → Option ℕ → Bool → Option Eject → Stepped
+looked_as s c p ran x = if is_some x then builtin_cycle s c p ran else seek s c p ran
+
+looks : (s : State) (c : ℕ) (p : Option ℕ) (ran : Bool) → Looks s c p ran (look s c p ran)
+unfolding look
+looks s c p ran = go s.world.ejected refl
+  where
+    go : (x : Option Eject) → s.world.ejected ≡ x → Looks s c p ran (looked_as s c p ran x)
+    go None e = Of_policy e (seeks s c p ran)
+    go (Some x) e = Of_builtin x e (cycles_builtin s c p ran)
+
+only_looks : (s : State) (c : ℕ) (p : Option ℕ) (ran : Bool) (r : Stepped) → Looks s c p ran r → r ≡ look s c p ran
+unfolding look
+only_looks s c p ran r (Of_policy e h) = only_seeks s c p ran r h ∙ ap (λ o. looked_as s c p ran o) (sym e)
+only_looks s c p ran r (Of_builtin x e h) = only_cycles_builtin s c p ran r h ∙ ap (λ o. looked_as s c p ran o) (sym e)
 
 -- a cycle goes as it is computed
 pub cycles : (s : State) (c : ℕ) (p : Option ℕ) (ran : Bool) → Cycles s c p ran (cycle s c p ran)
 unfolding cycle
-cycles s c p ran = record { found = seek (cycling s (Some c)) c p ran; seeks = seeks (cycling s (Some c)) c p ran; all = refl }
+cycles s c p ran = record { found = look (cycling s (Some c)) c p ran; looks = looks (cycling s (Some c)) c p ran; all = refl }
 
 -- and in no other way
 pub only_cycles : (s : State) (c : ℕ) (p : Option ℕ) (ran : Bool) (r : Stepped) → Cycles s c p ran r → r ≡ cycle s c p ran
 unfolding cycle
-only_cycles s c p ran r h = h.all ∙ ap (λ (x : Stepped). record { state = cycling x.state None; notes = x.notes; calls = x.calls }) (only_seeks (cycling s (Some c)) c p ran h.found h.seeks)
+only_cycles s c p ran r h = h.all ∙ ap (λ (x : Stepped). record { state = cycling x.state None; notes = x.notes; calls = x.calls }) (only_looks (cycling s (Some c)) c p ran h.found h.looks)

@@ -1,25 +1,34 @@
 -- What an event does is allowed, and nothing else is.
-use Rattle.std.proofs.Common.{◌≡◌, ℕ, ◌<◌, ◌≤◌, Bool, true, false, ◌⊎◌, inl, inr, if◌then◌else◌, [], ◌∷◌, Option, Some, None, refl, sym, ◌∙◌, ap, subst, arith, length, nat_lt, nat_le}
-use Rattle.std.proofs.lemmas.Bool.{cases_eq, cases_lt, eq-eqb, ne_eqb}
+use Rattle.std.proofs.Common.{◌≡◌, ℕ, ◌<◌, Bool, true, false, ◌⊎◌, inl, inr, if◌then◌else◌, [], ◌∷◌, Option, Some, None, is_some, refl, sym, ◌∙◌, ap, subst, arith, length, nat_lt, nat_le}
+use Rattle.std.proofs.lemmas.Bool.{cases_eq, eq-eqb, ne_eqb}
 use Rattle.std.proofs.lemmas.Bool.Decides.{nat_tests}
 use Rattle.scx_weights.specs.Hierarchy.{Hierarchy, with_weight}
 use Rattle.scx_weights.specs.Refusals.{weight_fault}
+use Rattle.scx_semantics.specs.declared.callbacks.Callback.TheVariants as callback
+use Rattle.scx_world.specs.declared.eject.Eject.{Eject}
+use Rattle.scx_world.specs.declared.eject.Eject.TheVariants as cause
+use Rattle.scx_world.specs.declared.faults.Fault.{Fault}
 use Rattle.scx_world.specs.declared.notes.What.TheVariants as note
-use Rattle.scx_world.specs.World.{with_tree, task_at, running, cpu_of, is_idle, said}
-use Rattle.scx_world.specs.Tasks.{asleep, ticked, reweighed}
+use Rattle.scx_world.specs.World.{with_tree, task_at, running, cpu_of, is_idle, said, begun}
+use Rattle.scx_world.specs.Tasks.{asleep, ticked, later, reweighed}
+use Rattle.scx_world.specs.Waits.{first_overdue}
 use Rattle.scx_machine.specs.declared.events.Event.TheVariants.{Wake, Sleep, Tick, Clock, SetWeight}
 use Rattle.scx_machine.specs.Steps.{State, Stepped, with_world, after, joined}
+use Rattle.scx_machine.specs.Ejecting.{ejected_for}
+use Rattle.scx_machine.specs.Callbacks.{called, ended, fault_of, unless_ejected, acting, call_back, answered_by, task_cpu_and_0}
 use Rattle.scx_machine.specs.Put.{enters}
-use Rattle.scx_machine.specs.Cycle.{cycle}
+use Rattle.scx_machine.specs.Cycle.{stopping, cycle}
 use Rattle.scx_machine.specs.declared.events.Refused.TheVariants.{UnknownGroup, BadWeight}
-use Rattle.scx_machine.specs.Events.{is_bad_weight, refusal, answered_cpu, target, settled, settle, select, wake, sleep_from_cpu, sleep_from, sleep, count_down, tick_of, tick}
-use Rattle.scx_rules.specs.Cycles.{noting, silent, stopping_called}
+use Rattle.scx_machine.specs.Events.{is_bad_weight, refusal, answered_cpu, target, settled, settle, select, wake, sleep_from_cpu, sleep_from, sleep, count_down, tick_of, tick, stalled, clock}
+use Rattle.scx_rules.specs.Cycles.{noting, silent, gone_off}
 use Rattle.scx_safety.specs.Programs.{VerifiedProgram}
 use Rattle.scx_world.specs.declared.call.Insert.{Insert}
-use Rattle.scx_rules.specs.Events.{awake, select_called, select_answered, IsTarget, NoCallback, Named, NoSuchCpu, NoAnswer, Settles, WasInserted, WasPut, Wakes, IdleTarget, BusyTarget, Sleeps, FromQueue, FromCpu, Ticks, NobodyRuns, RunsOn, RunsOut}
+use Rattle.scx_rules.specs.Events.{awake, select_called, select_answered, IsTarget, Is_ejected, NoCallback, Named, Settles, WasInserted, WasPut, Wakes, IdleTarget, BusyTarget, Sleeps, FromQueue, FromCpu, Ticks, NobodyRuns, RunsOn, RunsOut, aged, Ages, Is_out, In_time, Too_late}
 use Rattle.scx_rules.specs.Laws.{RulesAllowEvents, RulesAllowEventsOnly}
 use Rattle.scx_rules.proofs.Choosing.{is_choice, only_choice}
-use Rattle.scx_rules.proofs.Cycling.{puts, only_puts, cycles, only_cycles}
+use Rattle.scx_rules.proofs.Ejecting.{ejects, only_ejects, no_fault, NamesCpu, names_cpu}
+use Rattle.scx_rules.proofs.Waiting.{is_first, nobody_late, only_first, only_nobody}
+use Rattle.scx_rules.proofs.Cycling.{puts, only_puts, stops, only_stops, cycles, only_cycles}
 
 -- ---- wake
 
@@ -37,31 +46,46 @@ only_settles s t c r (WasPut e h) = only_puts s t c 1 r h ∙ ap (λ (o : Option
 only_settles s t c r (WasInserted i e k) = k ∙ ap (λ (o : Option Insert). settled o s t c) (sym e)
 
 abbrev target_of : State → ℕ → Option ℕ → ℕ
-target_of s t a = target s.policy.callbacks.select_cpu s.world t a
+target_of s t a = target (acting s callback.SelectCpu) s.world t a
 
 below : (k n : ℕ) → k < n → nat_lt k n ≡ true
 below k n l = grind (arith, nat_tests, l)
 
-past : (k n : ℕ) → n ≤ k → nat_lt k n ≡ false
-past k n l = grind (arith, nat_tests, l)
+abbrev target_as : State → ℕ → Option Eject → Option VerifiedProgram → Option ℕ → ℕ
+target_as s t y p a = target (unless_ejected y p) s.world t a
 
-is_target : (s : State) (t : ℕ) (a : Option ℕ) → IsTarget s t a (target_of s t a)
-is_target s t a = go s.policy.callbacks.select_cpu refl a refl
+-- where the policy is in force after select_cpu, that answered a processor
+selects : (s : State) (t : ℕ) → (select_called s t).state.world.ejected ≡ None → NamesCpu (length (select_called s t).state.world.cpus) (select_answered s t)
+unfolding call_back answered_by
+selects s t out =
+    let d = (task_at s.world t).prev_cpu in
+    let e = called (acting s callback.SelectCpu) callback.SelectCpu (task_cpu_and_0 t d) s.maps (begun s.world callback.SelectCpu t d) in
+    let none = no_fault (fault_of callback.SelectCpu e) (ended s.policy e) out in
+    let h = names_cpu e none in
+    (h.0, h.1, subst (λ (f : Option Fault). h.0 < length (ejected_for f (ended s.policy e)).state.world.cpus) (sym none) h.2)
+
+is_target : (s : State) (t : ℕ) (a : Option ℕ) → (s.world.ejected ≡ None → NamesCpu (length s.world.cpus) a) → IsTarget s t a (target_of s t a)
+is_target s t a names = go s.world.ejected refl s.policy.callbacks.select_cpu refl
   where
-    at : (p : VerifiedProgram) (n : ℕ) → s.policy.callbacks.select_cpu ≡ Some p → a ≡ Some n → (n < length s.world.cpus) ⊎ (length s.world.cpus ≤ n) → IsTarget s t a (answered_cpu s.world t (Some n))
-    at p n e x (inl l) = rw (below n (length s.world.cpus) l) (Named p e x l)
-    at p n e x (inr l) = rw (past n (length s.world.cpus) l) (NoSuchCpu p n e x l (is_choice s.world t))
+    at : (p : VerifiedProgram) → s.world.ejected ≡ None → s.policy.callbacks.select_cpu ≡ Some p → NamesCpu (length s.world.cpus) a → IsTarget s t a (answered_cpu s.world t a)
+    at p d e (n, x, l) = subst (λ (o : Option ℕ). IsTarget s t a (answered_cpu s.world t o)) (sym x) (rw (below n (length s.world.cpus) l) (Named p d e x l))
 
-    go : (p : Option VerifiedProgram) → s.policy.callbacks.select_cpu ≡ p → (o : Option ℕ) → a ≡ o → IsTarget s t a (target p s.world t o)
-    go None e o x = NoCallback e (is_choice s.world t)
-    go (Some p) e None x = NoAnswer p e x (is_choice s.world t)
-    go (Some p) e (Some n) x = at p n e x (cases_lt n (length s.world.cpus))
+    go : (y : Option Eject) → s.world.ejected ≡ y → (p : Option VerifiedProgram) → s.policy.callbacks.select_cpu ≡ p → IsTarget s t a (target_as s t y p a)
+    go (Some y) d p e = Is_ejected y d (is_choice s.world t)
+    go None d None e = NoCallback d e (is_choice s.world t)
+    go None d (Some p) e = at p d e (names d)
+
+target_at : (s : State) (t : ℕ) (y : Option Eject) (p : Option VerifiedProgram) (o a : Option ℕ) → s.world.ejected ≡ y → s.policy.callbacks.select_cpu ≡ p → a ≡ o → target_as s t y p o ≡ target_of s t a
+target_at s t y p o a d e x =
+    ap (λ k. target_as s t y p k) (sym x) ∙ ap (λ k. target_as s t y k a) (sym e) ∙ ap (λ k. target_as s t k s.policy.callbacks.select_cpu a) (sym d)
 
 only_target : (s : State) (t : ℕ) (a : Option ℕ) (c : ℕ) → IsTarget s t a c → c ≡ target_of s t a
-only_target s t a c (NoCallback e h) = rw e (only_choice s.world t c h)
-only_target s t a c (Named p e x l) = rw (e, x, below c (length s.world.cpus) l) refl
-only_target s t a c (NoSuchCpu p n e x l h) = rw (e, x, past n (length s.world.cpus) l) (only_choice s.world t c h)
-only_target s t a c (NoAnswer p e x h) = rw (e, x) (only_choice s.world t c h)
+only_target s t a c (Is_ejected y d h) = only_choice s.world t c h ∙ target_at s t (Some y) s.policy.callbacks.select_cpu a a d refl refl
+only_target s t a c (NoCallback d e h) = only_choice s.world t c h ∙ target_at s t None None a a d e refl
+only_target s t a c (Named p d e x l) = named (below c (length s.world.cpus) l) ∙ target_at s t None (Some p) (Some c) a d e x
+  where
+    named : nat_lt c (length s.world.cpus) ≡ true → c ≡ answered_cpu s.world t (Some c)
+    named k = rw k refl
 
 abbrev wake_note : State → ℕ → Stepped → Stepped
 wake_note s t r = after (said s.world (note.Wake t) ∷ []) r
@@ -83,8 +107,8 @@ wakes s t = go (is_idle x.state.world c) refl
     x = settled r.state.world.call.insert r.state t c
 
     go : (b : Bool) → is_idle x.state.world c ≡ b → Wakes s t (wake_note s t (joined r (if b then joined x (cycle x.state c None false) else x)))
-    go true e = IdleTarget c x (cycle x.state c None false) (is_target r.state t (select_answered (awake s t) t)) (settles r.state t c) e (cycles x.state c None false) refl
-    go false e = BusyTarget c x (is_target r.state t (select_answered (awake s t) t)) (settles r.state t c) e refl
+    go true e = IdleTarget c x (cycle x.state c None false) (is_target r.state t (select_answered (awake s t) t) (selects (awake s t) t)) (settles r.state t c) e (cycles x.state c None false) refl
+    go false e = BusyTarget c x (is_target r.state t (select_answered (awake s t) t) (selects (awake s t) t)) (settles r.state t c) e refl
 
 wake_is : (s : State) (t : ℕ) → wake s t ≡ wake_note s t (joined (select_called (awake s t) t) (settle (select_called (awake s t) t).state t (chosen s t)))
 unfolding wake select
@@ -111,8 +135,11 @@ only_wakes s t r (BusyTarget c x tg st i k) =
 
 -- ---- sleep
 
-abbrev left_cpu : State → ℕ → ℕ → State
-left_cpu s t c = with_world (stopping_called s c t 0).state (asleep (stopping_called s c t 0).state.world t)
+abbrev asleep_after : Stepped → ℕ → State
+asleep_after r t = with_world r.state (asleep r.state.world t)
+
+abbrev slept : State → ℕ → ℕ → Stepped → Stepped → Stepped
+slept s t c l x = after (said s.world (note.Sleep t) ∷ said s.world (note.Stop t c) ∷ []) (joined l x)
 
 sleeps : (s : State) (t : ℕ) → Sleeps s t (sleep s t)
 unfolding sleep sleep_from_cpu
@@ -120,13 +147,16 @@ sleeps s t = go (cpu_of s.world t) refl
   where
     go : (o : Option ℕ) → cpu_of s.world t ≡ o → Sleeps s t (after (said s.world (note.Sleep t) ∷ []) (sleep_from o s t))
     go None e = FromQueue e refl
-    go (Some c) e = FromCpu c (cycle (left_cpu s t c) c None true) e (cycles (left_cpu s t c) c None true) refl
+    go (Some c) e =
+        let l = stopping (gone_off s c t) c t 0 in
+        FromCpu c l (cycle (asleep_after l t) c None true) e (stops (gone_off s c t) c t 0) (cycles (asleep_after l t) c None true) refl
 
 only_sleeps : (s : State) (t : ℕ) (r : Stepped) → Sleeps s t r → r ≡ sleep s t
 unfolding sleep sleep_from_cpu
 only_sleeps s t r (FromQueue e k) = rw e k
-only_sleeps s t r (FromCpu c found e y k) =
-    rw e (k ∙ ap (λ z. after (said s.world (note.Sleep t) ∷ said s.world (note.Stop t c) ∷ []) (joined (stopping_called s c t 0) z)) (only_cycles (left_cpu s t c) c None true found y))
+only_sleeps s t r (FromCpu c l found e h y k) =
+    rw e (k ∙ ap (λ z. slept s t c l z) (only_cycles (asleep_after l t) c None true found y)
+    ∙ ap (λ (z : Stepped). slept s t c z (cycle (asleep_after z t) c None true)) (only_stops (gone_off s c t) c t 0 l h))
 
 -- ---- tick
 
@@ -156,6 +186,29 @@ only_ticks s c r (NobodyRuns e y) = rw e (only_cycles s c None false r y)
 only_ticks s c r (RunsOn t e l k) = rw e (k ∙ sym (count_on s c t l))
 only_ticks s c r (RunsOut t e z y) = rw e (only_cycles (with_world s (ticked s.world t)) c (Some t) true r y ∙ sym (count_out s c t z))
 
+-- ---- the clock
+
+abbrev aged_as : State → Option Eject → Option ℕ → Stepped
+aged_as s x o = stalled (if is_some x then None else o) (aged s)
+
+ages : (s : State) → Ages s (clock s)
+unfolding clock
+ages s = go s.world.ejected refl (first_overdue (later s.world) s.policy.timeout_ms) refl
+  where
+    go : (x : Option Eject) → s.world.ejected ≡ x → (o : Option ℕ) → first_overdue (later s.world) s.policy.timeout_ms ≡ o → Ages s (aged_as s x o)
+    go (Some x) d o e = Is_out x d refl
+    go None d None e = In_time d (nobody_late (later s.world) s.policy.timeout_ms e) refl
+    go None d (Some t) e = Too_late t d (is_first (later s.world) s.policy.timeout_ms t e) (ejects (aged s) (cause.Stall t (later s.world).clock))
+
+aged_at : (s : State) (x : Option Eject) (o : Option ℕ) → s.world.ejected ≡ x → first_overdue (later s.world) s.policy.timeout_ms ≡ o → aged_as s x o ≡ clock s
+unfolding clock
+aged_at s x o d e = ap (λ k. aged_as s x k) (sym e) ∙ ap (λ k. aged_as s k (first_overdue (later s.world) s.policy.timeout_ms)) (sym d)
+
+only_ages : (s : State) (r : Stepped) → Ages s r → r ≡ clock s
+only_ages s r (Is_out x d k) = k ∙ aged_at s (Some x) (first_overdue (later s.world) s.policy.timeout_ms) d refl
+only_ages s r (In_time d nobody k) = k ∙ aged_at s None None d (only_nobody (later s.world) s.policy.timeout_ms nobody)
+only_ages s r (Too_late t d first h) = only_ejects (aged s) (cause.Stall t (later s.world).clock) r h ∙ aged_at s None (Some t) d (only_first (later s.world) s.policy.timeout_ms t first)
+
 -- ---- weights
 
 -- the weight of an accepted event can be set
@@ -177,7 +230,7 @@ pub happens : RulesAllowEvents
 happens s (Wake t) e = wakes s t
 happens s (Sleep t) e = sleeps s t
 happens s (Tick c) e = ticks s c
-happens s Clock e = refl
+happens s Clock e = ages s
 happens s (SetWeight g x) e = ap (λ w. noting s w (note.Weight g x)) (reweighed_is s g x e)
 
 -- and nothing else is
@@ -185,5 +238,5 @@ pub only_happens : RulesAllowEventsOnly
 only_happens s (Wake t) r e h = only_wakes s t r h
 only_happens s (Sleep t) r e h = only_sleeps s t r h
 only_happens s (Tick c) r e h = only_ticks s c r h
-only_happens s Clock r e h = h
+only_happens s Clock r e h = only_ages s r h
 only_happens s (SetWeight g x) r e h = h ∙ ap (λ w. noting s w (note.Weight g x)) (sym (reweighed_is s g x e))

@@ -22,7 +22,7 @@ use Rattle.scx_vm.specs.declared.arguments.Answer.{Answer}
 use Rattle.scx_vm.specs.declared.arguments.Answer.TheVariants.{Num, Task}
 use Rattle.scx_world.specs.declared.call.Insert.{Insert}
 use Rattle.scx_world.specs.declared.faults.Fault.{Fault}
-use Rattle.scx_world.specs.declared.faults.Fault.TheVariants.{NoSuchQueue, CannotInsert, NoSuchCpu, UnknownFlag, CannotCreate, BuiltinVtime, Mixed}
+use Rattle.scx_world.specs.declared.faults.Fault.TheVariants.{Stuck, NoSuchQueue, CannotInsert, NoSuchCpu, UnknownFlag, CannotCreate, BuiltinVtime, Mixed}
 use Rattle.scx_world.specs.Ids.{policy_end, global, local, held, local_on}
 use Rattle.scx_world.specs.World.{WorldState, with_queues, is_idle, or_else}
 use Rattle.scx_world.specs.Helpers.{invalid, faulted, given_number, given_task, is_there, can_create, is_at_hand, is_held, is_dispatch, may_insert_in, may_insert, queue_fault, is_vtime, rank_fault, or_fault, insert_fault, inserted, invalid_if, asked, asked_by_vtime, choice_answer, pid_answer, can_move, moved, one_if_some, helper_answer, helper_after}
@@ -71,6 +71,7 @@ FaultOf w q (Some NoSuchCpu) = NamesNoCpu w q
 FaultOf w q (Some CannotInsert) = ⊥
 FaultOf w q (Some UnknownFlag) = ⊥
 FaultOf w q (Some CannotCreate) = ⊥
+FaultOf w q (Some Stuck) = ⊥
 FaultOf w q (Some BuiltinVtime) = ⊥
 FaultOf w q (Some Mixed) = ⊥
 
@@ -132,6 +133,7 @@ RankOf w q r (Some NoSuchCpu) = ⊥
 RankOf w q r (Some CannotInsert) = ⊥
 RankOf w q r (Some UnknownFlag) = ⊥
 RankOf w q r (Some CannotCreate) = ⊥
+RankOf w q r (Some Stuck) = ⊥
 
 by_vtime_is : (q : ℕ) (r : Rank) → (is_vtime r && nat_le policy_end q) ≡ true → IsBuiltinVtime q r
 by_vtime_is q Fifo e = absurd (cc)
@@ -196,6 +198,7 @@ rank_fault_from w q r (Some NoSuchCpu) h = absurd h
 rank_fault_from w q r (Some CannotInsert) h = absurd h
 rank_fault_from w q r (Some UnknownFlag) h = absurd h
 rank_fault_from w q r (Some CannotCreate) h = absurd h
+rank_fault_from w q r (Some Stuck) h = absurd h
 
 -- ---- the fault of an insert
 
@@ -249,6 +252,7 @@ insert_fault_is w t i flags = go (may_insert w t) refl
     at_rank m l d (Some CannotInsert) h = absurd h
     at_rank m l d (Some UnknownFlag) h = absurd h
     at_rank m l d (Some CannotCreate) h = absurd h
+    at_rank m l d (Some Stuck) h = absurd h
 
     at_queue : MayInsert w t → flags ≤ 1 → (o : Option Fault) → FaultOf w i.queue o → JudgesInsert w t i flags (or_fault o (rank_fault w i.queue i.rank))
     at_queue m l None h = at_rank m l h (rank_fault w i.queue i.rank) (rank_fault_is w i.queue i.rank)
@@ -257,6 +261,7 @@ insert_fault_is w t i flags = go (may_insert w t) refl
     at_queue m l (Some CannotInsert) h = absurd h
     at_queue m l (Some UnknownFlag) h = absurd h
     at_queue m l (Some CannotCreate) h = absurd h
+    at_queue m l (Some Stuck) h = absurd h
     at_queue m l (Some BuiltinVtime) h = absurd h
     at_queue m l (Some Mixed) h = absurd h
 
@@ -281,6 +286,7 @@ no_fault_at w q d (Some NoSuchCpu) h = absurd (apart w q d h)
 no_fault_at w q d (Some CannotInsert) h = absurd h
 no_fault_at w q d (Some UnknownFlag) h = absurd h
 no_fault_at w q d (Some CannotCreate) h = absurd h
+no_fault_at w q d (Some Stuck) h = absurd h
 no_fault_at w q d (Some BuiltinVtime) h = absurd h
 no_fault_at w q d (Some Mixed) h = absurd h
 
@@ -291,6 +297,7 @@ no_cpu_at w q n (Some NoSuchCpu) h = refl
 no_cpu_at w q n (Some CannotInsert) h = absurd h
 no_cpu_at w q n (Some UnknownFlag) h = absurd h
 no_cpu_at w q n (Some CannotCreate) h = absurd h
+no_cpu_at w q n (Some Stuck) h = absurd h
 no_cpu_at w q n (Some BuiltinVtime) h = absurd h
 no_cpu_at w q n (Some Mixed) h = absurd h
 
@@ -301,6 +308,7 @@ no_queue_at w q d n (Some NoSuchCpu) h = absurd (n h)
 no_queue_at w q d n (Some CannotInsert) h = absurd h
 no_queue_at w q d n (Some UnknownFlag) h = absurd h
 no_queue_at w q d n (Some CannotCreate) h = absurd h
+no_queue_at w q d n (Some Stuck) h = absurd h
 no_queue_at w q d n (Some BuiltinVtime) h = absurd h
 no_queue_at w q d n (Some Mixed) h = absurd h
 
@@ -328,6 +336,7 @@ insert_fault_from w t i flags o j = go o j
     go (Some NoSuchQueue) j = at_queue j.0 j.1 NoSuchQueue (no_queue_at w i.queue j.2 j.3 (queue_fault w i.queue) (queue_fault_is w i.queue))
     go (Some NoSuchCpu) j = at_queue j.0 j.1 NoSuchCpu (no_cpu_at w i.queue j.2 (queue_fault w i.queue) (queue_fault_is w i.queue))
     go (Some CannotCreate) j = absurd j
+    go (Some Stuck) j = absurd j
 
 -- what is inserted
 is_dispatch_of : (b : Callback) → b ≡ callback.Dispatch → is_dispatch b ≡ true
@@ -493,6 +502,7 @@ only_create w a x v (Wrong NoSuchQueue j e k) = absurd j
 only_create w a x v (Wrong NoSuchCpu j e k) = absurd j
 only_create w a x v (Wrong BuiltinVtime j e k) = absurd j
 only_create w a x v (Wrong Mixed j e k) = absurd j
+only_create w a x v (Wrong Stuck j e k) = absurd j
 
 only_insert : (w : WorldState) (a : List Arg) (x : Answer) (v : WorldState) → IsEffect w DsqInsert a x v → Is-this w DsqInsert a x v
 only_insert w a x v (Done n j d e) = let b = insert_fault_from w (given_task a 0) (asked a) (given_number a 3) None j in rw b (e ∙ ap Num d.0, only_inserts w (given_task a 0) (asked a) v d.1)
@@ -532,6 +542,7 @@ only_idle w a x v (Wrong NoSuchCpu j e k) = go (nat_lt c (length w.cpus)) refl
     go false y = (e, k)
 only_idle w a x v (Wrong NoSuchQueue j e k) = absurd j
 only_idle w a x v (Wrong CannotCreate j e k) = absurd j
+only_idle w a x v (Wrong Stuck j e k) = absurd j
 only_idle w a x v (Wrong CannotInsert j e k) = absurd j
 only_idle w a x v (Wrong UnknownFlag j e k) = absurd j
 only_idle w a x v (Wrong BuiltinVtime j e k) = absurd j
@@ -567,6 +578,7 @@ only_move w a x v (Wrong NoSuchQueue j e k) = let b = is_false (can_move w (give
 only_move w a x v (Wrong CannotInsert j e k) = absurd j
 only_move w a x v (Wrong UnknownFlag j e k) = absurd j
 only_move w a x v (Wrong CannotCreate j e k) = absurd j
+only_move w a x v (Wrong Stuck j e k) = absurd j
 only_move w a x v (Wrong NoSuchCpu j e k) = absurd j
 only_move w a x v (Wrong BuiltinVtime j e k) = absurd j
 only_move w a x v (Wrong Mixed j e k) = absurd j
@@ -578,6 +590,7 @@ only_queued w a x v (Wrong NoSuchQueue j e k) = let b = is_false (is_there w (gi
 only_queued w a x v (Wrong CannotInsert j e k) = absurd j
 only_queued w a x v (Wrong UnknownFlag j e k) = absurd j
 only_queued w a x v (Wrong CannotCreate j e k) = absurd j
+only_queued w a x v (Wrong Stuck j e k) = absurd j
 only_queued w a x v (Wrong NoSuchCpu j e k) = absurd j
 only_queued w a x v (Wrong BuiltinVtime j e k) = absurd j
 only_queued w a x v (Wrong Mixed j e k) = absurd j

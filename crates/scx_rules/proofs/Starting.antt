@@ -1,21 +1,24 @@
 -- How a machine begins is what the rules allow, and nothing else is.
-use Rattle.std.proofs.Common.{◌≡◌, ℕ, zero, suc, ℤ, ◌+◌, ◌<◌, ◌≤◌, Bool, true, false, ◌||◌, nat_lt, ◌⊎◌, inl, inr, length, List, [], ◌∷◌, ◌++◌, Option, Some, None, is_some, is_none, Result, Ok, Err, if◌then◌else◌, refl, sym, ◌∙◌, ap, subst, arith}
+use Rattle.std.proofs.Common.{◌≡◌, ℕ, zero, suc, ℤ, ◌<◌, ◌≤◌, Bool, true, false, ◌||◌, nat_lt, ◌⊎◌, inl, inr, length, Option, Some, None, is_some, is_none, Result, Ok, Err, if◌then◌else◌, refl, sym, ◌∙◌, ap, subst, arith}
 use Rattle.std.specs.Int.{w64, cast_signed}
 use Rattle.std.proofs.lemmas.Bool.{cases_eq, cases_lt, eq-eqb, ne_eqb}
 use Rattle.std.proofs.lemmas.Bool.Decides.{nat_tests}
 use Rattle.scx_weights.specs.Counting.{any_below}
 use Rattle.scx_weights.specs.Hierarchy.{is_active_task}
+use Rattle.scx_semantics.specs.declared.callbacks.Callback.{Callback}
 use Rattle.scx_semantics.specs.declared.callbacks.Callback.TheVariants as callback
 use Rattle.scx_semantics.specs.Endings.{Ending}
+use Rattle.scx_world.specs.declared.eject.Eject.{Eject}
 use Rattle.scx_world.specs.declared.faults.Fault.{Fault}
 use Rattle.scx_world.specs.World.{WorldState, begun}
-use Rattle.scx_machine.specs.Policy.{PolicyState, program_of, AreAs}
-use Rattle.scx_machine.specs.Steps.{State, CallMade}
-use Rattle.scx_machine.specs.Callbacks.{ended, AreAnswered, no_arguments, one_task}
+use Rattle.scx_safety.specs.Programs.{VerifiedProgram}
+use Rattle.scx_machine.specs.Policy.{PolicyState, IsAs, AreAs}
+use Rattle.scx_machine.specs.Steps.{State}
+use Rattle.scx_machine.specs.Callbacks.{unless_ejected, acting, ended, AreAnswered, no_arguments, one_task}
 use Rattle.scx_machine.specs.Start.{blank, init_ending, bad_answer, ok_unless, initialized, enable_ending, has_failed, enable, then_enable, enabled, ok_if, all_enabled, init_calls, enable_calls, calls_below, calls_after_init}
 use Rattle.scx_rules.specs.Starts.{HasBadShape, NoCpu, ManyCpus, Active, Judged, Faults, Stuck, Refuses, Accepts, Initializes, Passes, HasFault, HasStuck, Answers, Enables, EnablesAll, Nobody, Failed, Next, Begins, InitFails, EnableFails, Succeeds}
 use Rattle.scx_rules.specs.Laws.{RulesAllowStarts, RulesAllowStartsOnly, RulesRefuseShapes, RulesRefuseShapesOnly}
-use Rattle.scx_rules.proofs.Calling.{only_ends, ends_as}
+use Rattle.scx_rules.proofs.Calling.{only_ends, ends_as, answered_first, answered_second}
 
 -- ---- shapes
 
@@ -97,11 +100,16 @@ only_judged s e r (Stuck x y k) = k ∙ ap (λ a. judged_as s e None a) (sym y) 
 only_judged s e r (Refuses n x y l k) = k ∙ sym (refused_as s e n l) ∙ ap (λ a. judged_as s e None a) (sym y) ∙ ap (λ o. judged_as s e o e.answer) (sym x)
 only_judged s e r (Accepts x y k) = k ∙ ap (λ a. judged_as s e None a) (sym y) ∙ ap (λ o. judged_as s e o e.answer) (sym x)
 
+-- a policy that was ejected has no program
+acts_as : (x : Option Eject) (b : Callback) (p : Option VerifiedProgram) → IsAs b p → IsAs b (unless_ejected x p)
+acts_as None b p h = h
+acts_as (Some x) b p h = tt
+
 initializes : (s : State) → AreAs s.policy.callbacks → AreAnswered (init_calls s) → Initializes s (initialized s)
 unfolding initialized
 initializes s fits all = record {
   ending = init_ending s;
-  ends = ends_as (program_of s.policy callback.Init) callback.Init no_arguments s.maps (begun s.world callback.Init 0 0) fits.init all;
+  ends = ends_as (acting s callback.Init) callback.Init no_arguments s.maps (begun s.world callback.Init 0 0) (acts_as s.world.ejected callback.Init s.policy.callbacks.init fits.init) all;
   judged = judged s (init_ending s);
 }
 
@@ -110,7 +118,7 @@ unfolding initialized
 only_initializes s r h =
     only_judged s h.ending r h.judged
     ∙ ap (λ (e : Ending WorldState). ok_unless (bad_answer e.outside.call.fault e.answer) (ended s.policy e))
-    (only_ends (program_of s.policy callback.Init) callback.Init no_arguments s.maps (begun s.world callback.Init 0 0) h.ending h.ends)
+    (only_ends (acting s callback.Init) callback.Init no_arguments s.maps (begun s.world callback.Init 0 0) h.ending h.ends)
 
 -- ---- enable
 
@@ -137,7 +145,7 @@ enables : (s : State) (t : ℕ) → AreAs s.policy.callbacks → AreAnswered (en
 unfolding enable
 enables s t fits all = record {
   ending = enable_ending s t;
-  ends = ends_as (program_of s.policy callback.Enable) callback.Enable (one_task t) s.maps (begun s.world callback.Enable t 0) fits.enable all;
+  ends = ends_as (acting s callback.Enable) callback.Enable (one_task t) s.maps (begun s.world callback.Enable t 0) (acts_as s.world.ejected callback.Enable s.policy.callbacks.enable fits.enable) all;
   passes = passes s (enable_ending s t);
 }
 
@@ -145,7 +153,7 @@ only_enables : (s : State) (t : ℕ) (r : Option State) → Enables s t r → r 
 unfolding enable
 only_enables s t r h =
     only_passes s h.ending r h.passes
-    ∙ ap (λ e. passed s e) (only_ends (program_of s.policy callback.Enable) callback.Enable (one_task t) s.maps (begun s.world callback.Enable t 0) h.ending h.ends)
+    ∙ ap (λ e. passed s e) (only_ends (acting s callback.Enable) callback.Enable (one_task t) s.maps (begun s.world callback.Enable t 0) h.ending h.ends)
 
 only_enables_all : (n : ℕ) (s : State) (r : Option State) → EnablesAll n s r → r ≡ enabled n s
 only_enables_all zero s r (Nobody _ _ k) = k
@@ -193,14 +201,6 @@ after_init s u = go (bad_answer (init_ending s).outside.call.fault (init_ending 
     go None e = ap (λ r. policy_of s.policy r) (sym e)
 
 -- ---- all of it
-
-answered_first : (xs ys : List CallMade) → AreAnswered (xs ++ ys) → AreAnswered xs
-answered_first [] ys h = tt
-answered_first (x ∷ xs) ys (h, hs) = (h, answered_first xs ys hs)
-
-answered_second : (xs ys : List CallMade) → AreAnswered (xs ++ ys) → AreAnswered ys
-answered_second [] ys h = h
-answered_second (x ∷ xs) ys (h, hs) = answered_second xs ys hs
 
 enables_all : (n : ℕ) (s : State) → AreAs s.policy.callbacks → AreAnswered (calls_below n s) → EnablesAll n s (enabled n s)
 enables_all zero s fits all = Nobody s _ refl

@@ -34,8 +34,6 @@ pub data IsTarget (s : State) (t : ℕ) (answer : Option ℕ) (c : ℕ) : Type 0
   Is_ejected : (x : Eject) → s.world.ejected ≡ Some x → IsChoice s.world t c → IsTarget s t answer c
   NoCallback : s.world.ejected ≡ None → s.policy.callbacks.select_cpu ≡ None → IsChoice s.world t c → IsTarget s t answer c
   Named : (p : VerifiedProgram) → s.world.ejected ≡ None → s.policy.callbacks.select_cpu ≡ Some p → answer ≡ Some c → c < length s.world.cpus → IsTarget s t answer c
-  NoSuchCpu : (p : VerifiedProgram) (n : ℕ) → s.world.ejected ≡ None → s.policy.callbacks.select_cpu ≡ Some p → answer ≡ Some n → length s.world.cpus ≤ n → IsChoice s.world t c → IsTarget s t answer c
-  NoAnswer : (p : VerifiedProgram) → s.world.ejected ≡ None → s.policy.callbacks.select_cpu ≡ Some p → answer ≡ None → IsChoice s.world t c → IsTarget s t answer c
 
 -- what select_cpu inserted is applied, LOCAL being of the target; else the task is put. An ejection has
 -- dropped what was inserted

@@ -16,7 +16,7 @@ use Rattle.scx_vm.specs.declared.arguments.Answer.{Answer}
 use Rattle.scx_vm.specs.declared.arguments.Answer.TheVariants.{Num, Task}
 use Rattle.scx_world.specs.declared.call.Insert.{Insert}
 use Rattle.scx_world.specs.declared.faults.Fault.{Fault}
-use Rattle.scx_world.specs.declared.faults.Fault.TheVariants.{NoSuchQueue, CannotInsert, NoSuchCpu, UnknownFlag, CannotCreate, BuiltinVtime, Mixed}
+use Rattle.scx_world.specs.declared.faults.Fault.TheVariants.{Stuck, NoSuchQueue, CannotInsert, NoSuchCpu, UnknownFlag, CannotCreate, BuiltinVtime, Mixed}
 use Rattle.scx_world.specs.declared.notes.What.TheVariants as notes
 use Rattle.scx_world.specs.Ids.{policy_end, global, local, held, local_on}
 use Rattle.scx_world.specs.World.{WorldState, with_queues, task_at, is_idle, noted}
@@ -85,6 +85,7 @@ JudgesInsert w t i flags (Some BuiltinVtime) = MayInsert w t × (flags ≤ 1) ×
 JudgesInsert w t i flags (Some Mixed) = MayInsert w t × (flags ≤ 1) × IsDestination w i.queue × (¬ IsBuiltinVtime i.queue i.rank) × IsMixed w i.queue i.rank
 JudgesInsert w t i flags None = MayInsert w t × (flags ≤ 1) × IsDestination w i.queue × (¬ IsBuiltinVtime i.queue i.rank) × (¬ IsMixed w i.queue i.rank)
 JudgesInsert w t i flags (Some CannotCreate) = ⊥
+JudgesInsert w t i flags (Some Stuck) = ⊥
 
 abbrev pub JudgesCreate : WorldState → ℕ → Option Fault → Type 0
 JudgesCreate w q None = CanCreate w q
@@ -95,6 +96,7 @@ JudgesCreate w q (Some NoSuchQueue) = ⊥
 JudgesCreate w q (Some NoSuchCpu) = ⊥
 JudgesCreate w q (Some BuiltinVtime) = ⊥
 JudgesCreate w q (Some Mixed) = ⊥
+JudgesCreate w q (Some Stuck) = ⊥
 
 -- a call that wants such a queue
 abbrev pub JudgesQueue : Type 0 → Option Fault → Type 0
@@ -106,6 +108,7 @@ JudgesQueue fits (Some UnknownFlag) = ⊥
 JudgesQueue fits (Some NoSuchCpu) = ⊥
 JudgesQueue fits (Some BuiltinVtime) = ⊥
 JudgesQueue fits (Some Mixed) = ⊥
+JudgesQueue fits (Some Stuck) = ⊥
 
 -- a call that wants a processor
 abbrev pub JudgesCpu : WorldState → ℕ → Option Fault → Type 0
@@ -117,6 +120,7 @@ JudgesCpu w c (Some CannotInsert) = ⊥
 JudgesCpu w c (Some UnknownFlag) = ⊥
 JudgesCpu w c (Some BuiltinVtime) = ⊥
 JudgesCpu w c (Some Mixed) = ⊥
+JudgesCpu w c (Some Stuck) = ⊥
 
 -- the fault of a call, or that it has none; of the look-up of an element, which a run does itself, nothing is
 -- allowed

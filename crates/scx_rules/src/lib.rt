@@ -1,5 +1,5 @@
 //! The machine's rules by cases, in the words of the field, for a reader who wants to know what a machine
-//! does without reading how it is computed: of helpers, callbacks, cycles, events and starts.
+//! does without reading how it is computed: of helpers, callbacks, ejections, cycles, events and starts.
 //!
 //! The functions here do nothing: each has a law as its contract, that what the machine computes is what
 //! the rules allow, and the only thing that they allow.

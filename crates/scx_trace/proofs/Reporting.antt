@@ -1,11 +1,13 @@
 -- How much of a report was written.
-use Rattle.std.proofs.Common.{◌≡◌, ℕ, ◌+◌, ◌<◌, ◌≤◌, List, [], ◌∷◌, ◌++◌, length, take, drop, get_or, sum, sym, ap, ◌∙◌, append_assoc, subst, Option, arith}
+use Rattle.std.proofs.Common.{◌≡◌, ℕ, ◌+◌, ◌<◌, ◌≤◌, List, [], ◌∷◌, ◌++◌, length, take, drop, get_or, sum, sym, ap, ◌∙◌, append_assoc, subst, Option, Result, Ok, Err, arith}
 use Rattle.std.proofs.lemmas.List.{take_more, take-append-drop, append-nil, length-take-le, take_all}
+use Rattle.std.specs.Prelude.{OnErr}
 use Rattle.std.specs.Io.KnownBytes.{Appends}
 use Rattle.scx_output.specs.Output.{AppendsBeginning}
 use Rattle.scx_output.proofs.Growth.{grows_twice}
 use Rattle.scx_trace.specs.Lines.{NameLists, task_name}
-use Rattle.scx_trace.specs.Report.{task_line, task_lines, last_lines, report}
+use Rattle.scx_world.specs.declared.eject.Eject.{Eject}
+use Rattle.scx_trace.specs.Report.{task_line, task_lines, total_line, policy_line, report}
 use Rattle.scx_output.proofs.Beginnings.{beginning_of_more, beginning_behind}
 
 task_lines-append : (x : NameLists) (total t : ℕ) (xs ys : List ℕ) → task_lines x total t (xs ++ ys) ≡ task_lines x total t xs ++ task_lines x total (t + length xs) ys
@@ -37,28 +39,44 @@ written_more x total all k ms a b c within is first next =
     let Q : ℕ → Type 0 = λ m. Appends b c (task_line (task_name x k) m total) in
     subst P (sym (one_line_more x total all k within)) (grows_twice a b c _ _ first (subst Q is next))
 
--- all lines, and those behind them
-pub written_all : (x : NameLists) (all : List ℕ) (k : ℕ) (a b c : Option (List ℕ)) → length all ≤ k
-    → Appends a b (task_lines x (sum all) 0 (take k all)) → Appends b c (last_lines (sum all)) → Appends a c (report x all)
-written_all x all k a b c past first next =
+-- the lines of all tasks
+all_lines : (x : NameLists) (all : List ℕ) (k : ℕ) (a b : Option (List ℕ)) → length all ≤ k → Appends a b (task_lines x (sum all) 0 (take k all)) → Appends a b (task_lines x (sum all) 0 all)
+all_lines x all k a b past first =
     let P : List ℕ → Type 0 = λ ms. Appends a b (task_lines x (sum all) 0 ms) in
-    grows_twice a b c (task_lines x (sum all) 0 all) (last_lines (sum all)) (subst P (take_all k all past) first) next
+    subst P (take_all k all past) first
 
--- a report that is cut off in its last lines
-pub cut_at_end : (x : NameLists) (all : List ℕ) (k : ℕ) (a b c : Option (List ℕ)) → length all ≤ k
-    → Appends a b (task_lines x (sum all) 0 (take k all)) → AppendsBeginning b c (last_lines (sum all)) → AppendsBeginning a c (report x all)
-cut_at_end x all k a b c past first next =
-    let P : List ℕ → Type 0 = λ ms. Appends a b (task_lines x (sum all) 0 ms) in
-    beginning_behind a b c (task_lines x (sum all) 0 all) (last_lines (sum all)) (subst P (take_all k all past) first) next
+-- and the one behind them
+lines_and_total : (x : NameLists) (all : List ℕ) (k : ℕ) (a b c : Option (List ℕ)) → length all ≤ k
+    → Appends a b (task_lines x (sum all) 0 (take k all)) → Appends b c (total_line (sum all)) → Appends a c (task_lines x (sum all) 0 all ++ total_line (sum all))
+lines_and_total x all k a b c past first next = grows_twice a b c (task_lines x (sum all) 0 all) (total_line (sum all)) (all_lines x all k a b past first) next
+
+-- a report that is cut off in its last line
+pub cut_at_end : (x : NameLists) (all : List ℕ) (k : ℕ) (o : Option Eject) (a b c d : Option (List ℕ)) → length all ≤ k
+    → Appends a b (task_lines x (sum all) 0 (take k all)) → Appends b c (total_line (sum all)) → AppendsBeginning c d (policy_line x o) → AppendsBeginning a d (report x all o)
+cut_at_end x all k o a b c d past first next last =
+    beginning_behind a c d (task_lines x (sum all) 0 all ++ total_line (sum all)) (policy_line x o) (lines_and_total x all k a b c past first next) last
+
+-- what follows in the case of an error
+pub on_err : {A E P Q : Type 0} (r : Result A E) → (P → Q) → OnErr r P → OnErr r Q
+on_err (Ok x) f h = h
+on_err (Err e) f h = f h
+
+-- a report that is cut off in the line before
+pub cut_in_total : (x : NameLists) (all : List ℕ) (k : ℕ) (o : Option Eject) (a b c : Option (List ℕ)) → length all ≤ k
+    → Appends a b (task_lines x (sum all) 0 (take k all)) → AppendsBeginning b c (total_line (sum all)) → AppendsBeginning a c (report x all o)
+cut_in_total x all k o a b c past first next =
+    beginning_of_more a c (task_lines x (sum all) 0 all ++ total_line (sum all)) (policy_line x o)
+    (beginning_behind a b c (task_lines x (sum all) 0 all) (total_line (sum all)) (all_lines x all k a b past first) next)
 
 -- a report that is cut off in the line of a task
-pub cut_in_line : (x : NameLists) (all : List ℕ) (k ms : ℕ) (a b c : Option (List ℕ)) → k < length all → ms ≡ get_or all k 0
-    → Appends a b (task_lines x (sum all) 0 (take k all)) → AppendsBeginning b c (task_line (task_name x k) ms (sum all)) → AppendsBeginning a c (report x all)
-cut_in_line x all k ms a b c within is first next =
+pub cut_in_line : (x : NameLists) (all : List ℕ) (k ms : ℕ) (o : Option Eject) (a b c : Option (List ℕ)) → k < length all → ms ≡ get_or all k 0
+    → Appends a b (task_lines x (sum all) 0 (take k all)) → AppendsBeginning b c (task_line (task_name x k) ms (sum all)) → AppendsBeginning a c (report x all o)
+cut_in_line x all k ms o a b c within is first next =
     let P : List ℕ → Type 0 = λ text. AppendsBeginning a c text in
     let Q : ℕ → Type 0 = λ m. AppendsBeginning b c (task_line (task_name x k) m (sum all)) in
     let more = take (k + 1) all in
     let behind = beginning_behind a b c _ _ first (subst Q is next) in
     let lines = subst P (sym (one_line_more x (sum all) all k within)) behind in
     let with_rest = beginning_of_more a c (task_lines x (sum all) 0 more) _ lines in
-    beginning_of_more a c (task_lines x (sum all) 0 all) (last_lines (sum all)) (subst P (sym (lines_and_rest x (sum all) all (k + 1))) with_rest)
+    let tasks = subst P (sym (lines_and_rest x (sum all) all (k + 1))) with_rest in
+    beginning_of_more a c (task_lines x (sum all) 0 all ++ total_line (sum all)) (policy_line x o) (beginning_of_more a c (task_lines x (sum all) 0 all) (total_line (sum all)) tasks)
