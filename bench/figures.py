@@ -72,8 +72,8 @@ VERIFIED = {
         ("b702000002000000", "r2 = 2\nb{0}:"),
     ],
     "stores": [
-        ("7b0a%s00000000" % (-place).to_bytes(2, "little", signed=True).hex(), "*(u64 *)(r10 - %d) = r0" % place)
-        for place in range(8, 513, 8)
+        ("7b0a%s00000000" % (-back).to_bytes(2, "little", signed=True).hex(), "*(u64 *)(r10 - %d) = r0" % back)
+        for back in range(8, 513, 8)
     ],
 }
 SIZES = [40, 400, 4000]
