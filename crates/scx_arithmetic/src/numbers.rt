@@ -242,7 +242,7 @@ pub fn pointer_step(width: Width, operation: Operation, operand: Operand) -> Opt
     }
 }
 
-/// The place that far on, or back; `None` below 0.
+/// The offset that far on, or back; `None` below 0.
 pub fn shifted(at: u16, distance: i64) -> Option<u64>
     ensures { result ≡ shifted at distance }
 {
@@ -254,7 +254,7 @@ pub fn shifted(at: u16, distance: i64) -> Option<u64>
     }
 }
 
-/// The place, if it lies in so many bytes of memory or is the one behind the last.
+/// The offset, if it lies in so many bytes of memory or right behind the last.
 pub fn within(bytes: u16, at: Option<u64>) -> Option<u16>
     ensures { result ≡ within bytes at }
 {

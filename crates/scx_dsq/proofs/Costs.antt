@@ -40,7 +40,7 @@ arrays_same [] k q new read same = refl
 arrays_same (x ∷ live) zero q new read same = ap (λ items. items ∷ arrays_of live) (same ∙ ap (λ (y : Queue). y.heap.items) read)
 arrays_same (x ∷ live) (suc k) q new read same = ap (λ arrays. x.heap.items ∷ arrays) (arrays_same live k q new read same)
 
--- the place of an id among the ids is that of its queue
+-- the position of an id among the ids is that of its queue
 index_is : (i : Inside) (k : ℕ) (q : Queue) → IsKept i → k < length i.live.items → q ≡ get_or i.live.items k q → position_or_len (λ other. other == q.id) (ids_of i.live.items) ≡ k
 index_is i k q h lt read =
     let here : get_or (ids_of i.live.items) k q.id ≡ q.id = id_at i.live.items k q ∙ sym (ap (λ (x : Queue). x.id) read) in

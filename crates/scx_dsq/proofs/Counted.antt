@@ -1,4 +1,4 @@
--- A task that has a place waits in one of the queues that there are.
+-- A task that has an entry waits in one of the queues that there are.
 use Rattle.std.proofs.Common.{◌≡◌, ◌≢◌, ℕ, suc, ◌+◌, true, false, ◌==◌, ◌⊎◌, inl, inr, cond, List, [], ◌∷◌, get_or, AllPairs, count_by, Option, Some, None, is_some, refl, sym, ◌∙◌, arith}
 use Rattle.std.specs.List.{list_any}
 use Rattle.std.proofs.lemmas.Bool.{both_ways, cases_Bool, eq-eqb, eqb-true, ne_eqb, or_parts}

@@ -121,7 +121,7 @@ module _ (items : List Item) (x : Item) where
     };
   }
 
--- ---- an item taken out, in whose place the last one comes
+-- ---- an item taken out, to whose position the last one comes
 
 pub record Taken (items now : List Item) (at : ℕ) : Type 0 where
   pub inside : at < length items

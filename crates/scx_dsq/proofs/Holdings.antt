@@ -1,4 +1,4 @@
--- A heap holds its queue, whatever task's place changes, and its first item is the queue's front.
+-- A heap holds its queue, whatever task's entry changes, and its first item is the queue's front.
 use Rattle.std.proofs.Common.{◌≡◌, ◌≢◌, ℕ, zero, suc, ◌+◌, ◌<◌, ◌≤◌, true, false, ◌==◌, ◌⊎◌, inl, inr, List, [], ◌∷◌, ◌++◌, length, set, slice_index_or, All, Contains, count_by, Option, Some, None, MatchOption, if◌then◌else◌, refl, sym, ap, ◌∙◌, subst, arith}
 use Rattle.std.specs.List.{list_any}
 use Rattle.std.specs.List.Sorted.{IsPermutation}
@@ -44,7 +44,7 @@ in_moved items new t moved h = let f = found items t h in stands_in new t f.item
 
 -- ---- who waits there
 
--- the place of a task that waits there is its item's
+-- the entry of a task that waits there is its item's
 pub holds_entry : (entries : Entries) (id : ℕ) (items : List Item) (t : ℕ) (p : Entry) (x : Item) → Holds entries id items → entry_at entries t ≡ Some p → Contains items x → x.task ≡ t → entry_for id x.priority ≡ p
 holds_entry entries id items t p x h e (k, lt, same) is =
     let there : entry_at entries x.task ≡ Some (entry_for id x.priority) = subst (λ (y : Item). entry_at entries y.task ≡ Some (entry_for id y.priority)) same (h.there k x lt) in

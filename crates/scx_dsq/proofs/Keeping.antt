@@ -1,4 +1,4 @@
--- One queue and one task's place change, and the rest is kept.
+-- One queue and one task's entry change, and the rest is kept.
 use Rattle.std.proofs.Common.{◌≡◌, ◌≢◌, ℕ, zero, suc, ◌<◌, false, List, [], ◌∷◌, length, get_or, set, Option, vec_capacity, refl, sym, ap, ◌∙◌, subst, arith, ◌⊎◌, inl, inr}
 use Rattle.std.proofs.lemmas.Bool.{cases_eq, cases_order}
 use Rattle.std.proofs.lemmas.List.{get_or-set_same, get_or-set_other, length-set, length-map, map-set, get_or_default}
@@ -42,9 +42,9 @@ apart i h j k q n in_j in_k same = go (cases_order j k)
     go (inr (inl lt)) = h.sound.queues.distinct j k q.id lt (omega (arith, length-map i.live.items (λ (x : Queue). x.id))) one
     go (inr (inr lt)) = h.sound.queues.distinct k j q.id lt (omega (arith, length-map i.live.items (λ (x : Queue). x.id))) (sym one)
 
--- ---- a task's place changes in one queue
+-- ---- a task's entry changes in one queue
 
--- one queue, one task's place, the links and the spots are other ones, and the rest is as before
+-- one queue, one task's entry, the links and the spots are other ones, and the rest is as before
 pub record IsChanged (i j : Inside) (k t : ℕ) (new : Queue) (entry : Option Entry) (linked : List Link) (stood : List ℕ) (count : ℕ) : Type 0 where
   pub live : j.live.items ≡ set i.live.items k new
   pub order : j.order ≡ i.order

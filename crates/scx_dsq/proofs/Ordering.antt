@@ -126,7 +126,7 @@ there live id k at = list_any_at (λ other. other == id) (ids_of live) k 0 withi
 
 -- ---- the search
 
--- the ids before one place are less, and those from the other on are greater
+-- the ids before one position are less, and those from the other on are greater
 pub record IsBetween (ids order : List ℕ) (id low high : ℕ) : Type 0 where
   pub least : low ≤ high
   pub most : high ≤ length order

@@ -1,4 +1,4 @@
--- The order of places: by key, then by stamp.
+-- The order of entries: by key, then by stamp.
 use Rattle.std.proofs.Common.{◌≡◌, ℕ, ◌<◌, ◌≤◌, Bool, true, false, inl, inr, nat_lt, ◌==◌, ◌&&◌, ◌||◌, arith, refl, sym}
 use Rattle.std.proofs.lemmas.Bool.{ltb-true, eqb-true, lt-ltb, eq-eqb, or_cases, and_parts, and_from, or_left, false_from_ne_true, cases_eq}
 use Rattle.scx_dsq.specs.declared.entries.Entry.{Entry}
@@ -40,7 +40,7 @@ before-trans p q r h k =
     let b = before_says q r k in
     before_from p r (record { keys = omega (arith, a.keys, b.keys); stamps = λ e. omega (arith, a.keys, b.keys, a.stamps, b.stamps) })
 
--- no two places are before each other
+-- no two entries are before each other
 pub before-asym : (p q : Entry) → is_before p q ≡ true → is_before q p ≡ false
 before-asym p q h =
     let a = before_says p q h in

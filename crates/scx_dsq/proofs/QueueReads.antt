@@ -37,7 +37,7 @@ clash_read i k id rank q h lt read is =
 pub nobody_elsewhere : (s : QueueState) (id : ℕ) → IsSound s → exists s id ≡ false → NobodyIn s id
 nobody_elsewhere s id h out t p w = both_ways (exists s id) out (subst (λ v. exists s v ≡ true) w.1 (h.homes t p w.0))
 
--- the place that was read is the task's
+-- the entry that was read is the task's
 pub entry_read : (i : Inside) (t : ℕ) (o : Option Entry) → t < task_count (state_of i) → o ≡ get_or i.entries.items t o → entry_of (state_of i) t ≡ o
 entry_read i t o within read = sym (get_or_read i.entries.items t o within read None)
 

@@ -1,4 +1,4 @@
--- An item moves from its position to another, where one that is held belongs: with that one in place, the two
+-- An item moves from its position to another, where one that is held aside belongs: with that one put back, the two
 -- were exchanged.
 use Rattle.std.proofs.Common.{◌≡◌, ◌≢◌, ℕ, zero, suc, ◌<◌, Bool, List, [], ◌∷◌, length, get_or, set, refl, sym, ap, ◌∙◌, subst, arith}
 use Rattle.std.specs.List.{SwappedAt, swap}

@@ -1,5 +1,5 @@
--- Who is first, last and next in a FIFO queue: each is one task that there is, and the same in places that
--- differ only elsewhere. So are the links.
+-- Who is first, last and next in a FIFO queue: each is one task that there is, and the same in entries
+-- that differ only elsewhere. So are the links.
 use Rattle.std.proofs.Common.{◌≡◌, ◌≢◌, ℕ, ◌≤◌, List, length, count_by, Option, Some, None, MatchOption, sym, ap, ◌∙◌, arith, ◌⊎◌, inl, inr}
 use Rattle.std.proofs.lemmas.Bool.{cases_eq}
 use Rattle.scx_dsq.specs.declared.entries.Entry.{Entry}
@@ -10,7 +10,7 @@ use Rattle.scx_dsq.specs.Links.{link_at, In, NobodyIsIn, IsFirst, IsLast, IsNext
 use Rattle.scx_dsq.proofs.Standing.{waits_below, same_entry}
 use Rattle.scx_dsq.proofs.LinkReads.{IsWithin}
 
--- each place has its own stamp
+-- each entry has its own stamp
 abbrev pub AreDistinct : Entries → Type 0
 AreDistinct entries = (t u : ℕ) (p q : Entry) → t ≢ u → entry_at entries t ≡ Some p → entry_at entries u ≡ Some q → p.stamp ≢ q.stamp
 

@@ -13,7 +13,7 @@ fn refusal(shapes: &[Shape]) -> Option<BadShape> {
     MapDefs::new(shapes).err()
 }
 
-/// The number at a place, if the maps have the place.
+/// The number at an offset of an element, if its bytes are there.
 fn load(maps: &Maps, map: u8, index: u32, offset: u16, size: Size) -> Option<u64> {
     if usize::from(map) < maps.count()
         && maps.lookup(map, index)
@@ -25,7 +25,7 @@ fn load(maps: &Maps, map: u8, index: u32, offset: u16, size: Size) -> Option<u64
     }
 }
 
-/// Stores a number; false if the maps don't have the place.
+/// Stores a number at an offset of an element; false if its bytes aren't there.
 fn store(maps: &mut Maps, map: u8, index: u32, offset: u16, size: Size, number: u64) -> bool {
     if usize::from(map) < maps.count()
         && maps.lookup(map, index)

@@ -93,7 +93,7 @@ impl Machine {
         }
     }
 
-    /// The front of the local queue runs in the place of the task before.
+    /// The front of the local queue runs instead of the task before.
     #[tactic(auto, unfolding(crate::specs::Cycle::pick), using(crate::proofs::Taking::takings))]
     fn pick<S: Sink>(&mut self, cpu: u32, before: Option<u16>, sink: &mut S)
         requires few { self.old.world.queues.pushes + 12289 ≤ 2 ^ 63 }

@@ -156,7 +156,7 @@ pub immediate_below : (w : Width) (k : ℤ) → FitsSigned w32 k → immediate w
 immediate_below Bits32 k h = omega (arith, ints)
 immediate_below Bits64 k h = omega (arith, ints)
 
--- a constant in two halves
+-- a 64-bit immediate in two halves
 pub wide_immediate_below : (low_half high_half : ℤ) → FitsSigned w32 low_half → FitsSigned w32 high_half → wide_immediate low_half high_half < 2 ^ 64
 wide_immediate_below low_half high_half p q = omega (arith, ints)
 

@@ -92,7 +92,7 @@ fn combined(width: Width, operation: Operation, a: u64, operand: Value) -> Optio
     }
 }
 
-/// The pointer that far on. It stays in the stack or the element, whose end is a place too.
+/// The pointer that far on. It stays in the stack or the element, or points right behind it.
 fn pointer_moved(maps: &Maps, pointer: Pointer, step: i64) -> Option<Value>
     ensures { result ≡ pointer_moved maps.now pointer (Some step) }
 {
