@@ -77,7 +77,7 @@ policy in force
 }
 
 #[test]
-fn three_tasks_on_two_processors(rt: HostRuntime) {
+fn three_tasks_share_two_processors(rt: HostRuntime) {
     let trace = "0 wake a
 0 insert a queue 0
 0 move a local 0
