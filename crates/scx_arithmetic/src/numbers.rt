@@ -103,7 +103,7 @@ pub fn extended(extension: Extension, n: u64) -> u64
     }
 }
 
-/// The low bytes in another order (RFC 9669, section 4.2). The host is little-endian.
+/// The low bytes in that byte order (RFC 9669, section 4.2). The host is little-endian.
 pub fn byte_swapped(order: ByteOrder, width: SwapWidth, n: u64) -> u64
     ensures { result ≡ byte_swapped order width n }
 {
@@ -113,7 +113,7 @@ pub fn byte_swapped(order: ByteOrder, width: SwapWidth, n: u64) -> u64
     }
 }
 
-/// The low bits that a change of byte order keeps.
+/// The low bits that a byte swap keeps.
 fn low_bytes(width: SwapWidth, n: u64) -> u64
     ensures { result ≡ low_bytes width n }
 {

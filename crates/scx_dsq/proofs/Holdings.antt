@@ -159,7 +159,7 @@ spots_elsewhere items busy old new out keeps h k d e lt =
     let stands = h k d e lt in
     (subst (λ n. (slice_index_or items k d).task < n) (sym keeps.long) stands.0, keeps.same (slice_index_or items k d).task e (out k d lt) ∙ stands.1)
 
--- no task is held by two queues
+-- no task is in the heaps of two queues
 pub holds_apart : (entries : Entries) (id other_id : ℕ) (items others : List Item) → id ≢ other_id → Holds entries id items → Holds entries other_id others → All (λ y. IsAbsent items y.task) others
 holds_apart entries id other_id items others n h k j d lt =
     holds_absent entries id items (slice_index_or others j d).task (subst (λ o. is_in id o ≡ false) (sym (k.there j d lt)) (ne_eqb other_id id (λ e. n (sym e)))) h

@@ -83,7 +83,7 @@ module _ (items : List Item) (spots : List ℕ) (x y : Item) (to from : ℕ) (ap
     others = subst (KeepsOthers old (with_spot spots x to)) stood_is (others_after old new (with_spot spots x to) to from x within_to within_from h swapped long_new);
   }
 
--- with the item that stands at the position held there, nothing is different
+-- with the item that stands at the position put there, nothing is different
 pub held_back : (items : List Item) (k : ℕ) (x : Item) → k < length items → x ≡ get_or items k x → with_item items x k ≡ items
 held_back [] k x lt e = absurd (omega arith)
 held_back (y ∷ items) zero x lt e = rw e refl
@@ -97,7 +97,7 @@ spot_back (s ∷ spots) (suc t) k e = ap (λ v. s ∷ v) (spot_back spots t k e)
 pub spotted_back : (items : List Item) (spots : List ℕ) (k : ℕ) (x : Item) → k < length items → x ≡ get_or items k x → HasSpots items spots → with_spot spots x k ≡ spots
 spotted_back items spots k x lt e h = spot_back spots x.task k (λ d. ap (λ (y : Item). get_or spots y.task d) e ∙ (h k x d lt).1)
 
--- ---- while one is held
+-- ---- while one is held aside
 
 -- the item that moves is the one that is read
 pub moved : (items new : List Item) (spots stood : List ℕ) (x d : Item) (to from : ℕ) → to ≢ from → to < length items → from < length items
@@ -147,7 +147,7 @@ first_held items x at c h = record {
     below : (k : ℕ) → 0 < k → parent k ≡ at → k ≢ at
     below k some of e = absurd (omega arith)
 
--- an item that is held where it stands
+-- an item that is held aside where it stands
 pub holds_here : (items : List Item) (spots : List ℕ) (k : ℕ) (d : Item) (P : List Item → List ℕ → Type 0) → k < length items → HasSpots items spots → P items spots
     → P (with_item items (get_or items k d) k) (with_spot spots (get_or items k d) k)
 holds_here items spots k d P lt h p =

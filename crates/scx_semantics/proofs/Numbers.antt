@@ -123,7 +123,7 @@ compute_below w o a b p q = width_below w (compute w o a b) (operated w o (low w
 pub negated_below : (w : Width) (n : ℕ) → negated w n < 2 ^ 64
 negated_below w n = let some = positive w in width_below w (negated w n) (omega arith)
 
--- ---- extensions and byte orders
+-- ---- extensions and byte swaps
 
 -- a number extended with its sign
 pub extended_below : (e : Extension) (n : ℕ) → extended e n < 2 ^ 64

@@ -137,7 +137,7 @@ pub fn extended(extension: Extension, value: Value) -> Option<Value>
     }
 }
 
-/// The low bytes of a number in another order.
+/// The low bytes of a number in that byte order.
 pub fn byte_swapped(order: ByteOrder, width: SwapWidth, value: Value) -> Option<Value>
     ensures { result ≡ on_number (byte_swapped order width) value }
 {
