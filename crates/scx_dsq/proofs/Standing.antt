@@ -6,6 +6,7 @@ use Rattle.std.proofs.lemmas.List.Sums.{sum_by-set}
 use Rattle.scx_dsq.specs.declared.entries.Entry.{Entry}
 use Rattle.scx_dsq.specs.Queues.{Entries, entry_at, is_in}
 
+-- who waits is a task that there is
 pub waits_below : (entries : Entries) (t : ℕ) (p : Entry) → entry_at entries t ≡ Some p → t < length entries
 waits_below entries t p e = go (cases_lt t (length entries))
   where
@@ -13,9 +14,11 @@ waits_below entries t p e = go (cases_lt t (length entries))
     go (inl within) = within
     go (inr past) = let none : entry_at entries t ≡ None = get_or_past entries t None past in absurd (cc)
 
+-- a task has one entry
 pub same_entry : (entries : Entries) (t : ℕ) (p q : Entry) → entry_at entries t ≡ Some p → entry_at entries t ≡ Some q → p ≡ q
 same_entry entries t p q e f = cc
 
+-- an entry of that queue is one in it
 pub is_in_from : (id : ℕ) (p : Entry) → p.queue ≡ id → is_in id (Some p) ≡ true
 is_in_from id p e = eq-eqb p.queue id e
 
@@ -35,6 +38,7 @@ pub data Changed (entries : Entries) (t : ℕ) (new : Option Entry) (u : ℕ) (p
   this : u ≡ t → new ≡ Some p → Changed entries t new u p
   other : u ≢ t → entry_at entries u ≡ Some p → Changed entries t new u p
 
+-- each entry after the change is one of the two
 pub changed : (entries : Entries) (t : ℕ) (new : Option Entry) (u : ℕ) (p : Entry) → entry_at (set entries t new) u ≡ Some p → Changed entries t new u p
 changed entries t new u p e = go (cases_eq u t) (cases_lt t (length entries))
   where
