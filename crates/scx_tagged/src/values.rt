@@ -33,8 +33,8 @@ pub fn binary(
     operand: Operand,
 ) -> Option<Value>
     ensures { result
-        ≡ binary (seen core.now maps.now) width operation (register_value core.now (number destination))
-        operand }
+        ≡ binary (seen core.now maps.now) width operation
+        (register_value core.now (number destination)) operand }
 {
     match operation {
         Operation::Move => moved(width, operand_value(core, width, operand)),
