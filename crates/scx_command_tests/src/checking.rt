@@ -96,7 +96,7 @@ fn unsafe_callbacks_are_refused(rt: HostRuntime) {
     );
 }
 
-/// A policy with map 0, of one value of eight bytes, and as running these lines behind a lookup in it.
+/// A policy with map 0, of one element of eight bytes, and as running these lines behind a lookup in it.
 fn looks_up<R: AllocGlobal + Abort>(rt: &R, rest: &str, text: &str) -> Result<(), Fail> {
     let mut policy = String::from_str(
         rt.alloc(),
