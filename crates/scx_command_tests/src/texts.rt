@@ -143,7 +143,7 @@ fn round_trip<R: AllocGlobal + Abort>(rt: &R, text: &str, slots: &[u64]) -> Resu
 }
 
 // The callbacks of the kernel's example policy scx_simple, with the slots that LLVM's assembler gives them
-// (a reference to map 0 being its load of a constant, with source field 5).
+// (a reference to map 0 being its 64-bit immediate load, with source field 5).
 
 #[test]
 fn init_goes_there_and_back(rt: HostRuntime) -> Result<(), Fail> {
