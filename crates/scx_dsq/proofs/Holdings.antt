@@ -33,11 +33,11 @@ record Found (items : List Item) (t : ℕ) : Type 0 where
 found : (items : List Item) (t : ℕ) → IsIn items t → Found items t
 found [] t h = let inside = h.inside in absurd (omega arith)
 found (x ∷ xs) t h =
-    let item = slice_index_or (x ∷ xs) h.entry x in
-    record { item = item; contained = (h.entry, h.inside, get_or_default (x ∷ xs) h.entry item x h.inside); is = h.there x }
+    let item = slice_index_or (x ∷ xs) h.position x in
+    record { item = item; contained = (h.position, h.inside, get_or_default (x ∷ xs) h.position item x h.inside); is = h.there x }
 
 stands_in : (items : List Item) (t : ℕ) (x : Item) → Contains items x → x.task ≡ t → IsIn items t
-stands_in items t x (k, lt, e) is = record { entry = k; inside = lt; there = λ d. ap (λ (y : Item). y.task) (get_or_default items k d x lt ∙ e) ∙ is }
+stands_in items t x (k, lt, e) is = record { position = k; inside = lt; there = λ d. ap (λ (y : Item). y.task) (get_or_default items k d x lt ∙ e) ∙ is }
 
 in_moved : (items new : List Item) (t : ℕ) → IsPermutation items new → IsIn items t → IsIn new t
 in_moved items new t moved h = let f = found items t h in stands_in new t f.item (Contains-permutation items new f.item moved f.contained) f.is
@@ -137,11 +137,11 @@ holds_without entries id items new x within moved gone h = record {
 
     rest : (u : ℕ) → u ≢ x.task → (k : ℕ) → k < length (x ∷ new) → ((d : Item) → (slice_index_or (x ∷ new) k d).task ≡ u) → IsIn new u
     rest u n zero lt there = absurd (n (sym (there x)))
-    rest u n (suc k) lt there = record { entry = k; inside = omega arith; there = there }
+    rest u n (suc k) lt there = record { position = k; inside = omega arith; there = there }
 
     find : (u : ℕ) (p : Entry) → p.queue ≡ id → Changed entries x.task None u p → IsIn new u
     find u p q (this same e) = absurd (cc)
-    find u p q (other n e) = let old = in_moved items (x ∷ new) u moved (h.all u p (e, q)) in rest u n old.entry old.inside old.there
+    find u p q (other n e) = let old = in_moved items (x ∷ new) u moved (h.all u p (e, q)) in rest u n old.position old.inside old.there
 
     fewer : count_by (is_in id) (set entries x.task None) + (if is_in id (entry_at entries x.task) then 1 else 0) ≡ count_by (is_in id) entries + (if is_in id None then 1 else 0)
         → length new ≡ count_by (is_in id) (set entries x.task None)
