@@ -193,7 +193,7 @@ fn extension_of(width: Width, offset: u16) -> Option<Extension>
 }
 
 fn build_byte_swap(order: ByteOrder, slot: &Slot) -> Result<Insn, DecodeFault>
-    ensures { result ≡ built (Form.Reorder order) slot.now None }
+    ensures { result ≡ built (Form.ByteSwap order) slot.now None }
 {
     let register = first(slot)?;
     let width = order_width_of(slot.immediate).ok_or(DecodeFault::BadWidth)?;
