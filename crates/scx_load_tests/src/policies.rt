@@ -73,12 +73,19 @@ fn take_slots(policy: &mut PolicyText, callback: Callback) -> Option<usize> {
     Some(program.slots())
 }
 
+/// The instructions of the callbacks' programs, each taken in its turn.
+const TAKEN: [(Callback, Option<usize>); 4] = [
+    (Callback::Init, Some(3)),
+    (Callback::Init, None),
+    (Callback::Running, None),
+    (Callback::Enqueue, Some(5)),
+];
+
 fn take_programs(rt: &impl Abort, policy: &mut PolicyText) {
-    assert_eq!(rt; take_instructions(policy, Callback::Init), Some(3));
-    assert_eq!(rt; take_instructions(policy, Callback::Init), None);
+    for &(callback, wanted) in &TAKEN {
+        assert_eq!(rt; take_instructions(policy, callback), wanted);
+    }
     assert_eq!(rt; take_slots(policy, Callback::Dispatch), Some(3));
-    assert_eq!(rt; take_instructions(policy, Callback::Running), None);
-    assert_eq!(rt; take_instructions(policy, Callback::Enqueue), Some(5));
 }
 
 #[test]
