@@ -79,7 +79,7 @@ static s64 (*const dsq_nr_queued)(u64 queue) = (void *)1008;
 		map_; \
 	})
 
-/* A pointer to the value of a map at an index, or 0. What is tested for 0 is the register that is used. */
+/* A pointer to the value of a map at an index, or 0. The empty asm keeps clang from testing a copy for 0. */
 #define LOOKUP(number, index) \
 	({ \
 		u32 key_ = (index); \
