@@ -10,7 +10,7 @@ labels. Verified are programs of 4096 slots, once, 10 and 100 times: straight-li
 diamonds (two sides of one slot each that meet again), and stores all over the stack. A figure is of the
 processor time of the best of some runs, of which the start of the process is taken off; from a
 verification also the decoding, since each takes a program of its own. The callbacks are the six of
-scx_simple with one map of one value, each in its turn; to verify one counts as decoding it and verifying
+scx_simple with one map of one element, each in its turn; to verify one counts as decoding it and verifying
 it, and to run one as a run over a host of one task. A machine has all its tasks runnable, and its
 processors and the clock tick in turn: under a policy of one queue and slices of 2 ms, and under the
 callbacks of scx_simple. Its events are counted, and beside them the callbacks that they call. The lines
@@ -72,8 +72,8 @@ VERIFIED = {
         ("b702000002000000", "r2 = 2\nb{0}:"),
     ],
     "stores": [
-        ("7b0a%s00000000" % (-place).to_bytes(2, "little", signed=True).hex(), "*(u64 *)(r10 - %d) = r0" % place)
-        for place in range(8, 513, 8)
+        ("7b0a%s00000000" % (-back).to_bytes(2, "little", signed=True).hex(), "*(u64 *)(r10 - %d) = r0" % back)
+        for back in range(8, 513, 8)
     ],
 }
 SIZES = [40, 400, 4000]

@@ -1,5 +1,5 @@
 //! Queues in plain Rust, many of them under ids: FIFO order by an intrusive list, virtual time by a binary
-//! heap with the place of each task. A push refuses an id that no queue has, a task that waits anywhere, and
+//! heap with the position of each task. A push refuses an id that no queue has, a task that waits anywhere, and
 //! a queue where tasks wait in the other order.
 
 #[derive(Clone, Copy, PartialEq)]
@@ -84,8 +84,8 @@ impl Queues {
     }
 
     fn find(&self, id: u64) -> Option<u32> {
-        let place = self.order.binary_search_by_key(&id, |entry| entry.0).ok()?;
-        Some(self.order[place].1)
+        let at = self.order.binary_search_by_key(&id, |entry| entry.0).ok()?;
+        Some(self.order[at].1)
     }
 
     /// Where the queue stands into which the task may go.

@@ -147,7 +147,7 @@ fn jump<'a>(left: &str, sign: &str, rest: &[&'a str]) -> Option<(Insn, Target<'a
     let (wide, register) = register(left)?;
     let comparison = COMPARISONS.iter().find(|c| c.0 == sign)?.1;
     let operand = operand(wide, &rest[..goto])?;
-    Some((Jump { wide, comparison, register, offset: 0, operand }, target(&rest[goto + 1..])?))
+    Some((Jump { wide, comparison, register, operand, distance: 0 }, target(&rest[goto + 1..])?))
 }
 
 fn assigned(name: &str, sign: &str, rest: &[&str]) -> Option<Insn> {
@@ -188,7 +188,7 @@ fn instruction<'a>(tokens: &[&'a str]) -> Option<(Insn, Target<'a>)> {
 fn with_distance(insn: Insn, distance: i64) -> Option<Insn> {
     Some(match insn {
         Jump { wide, comparison, register, operand, .. } => {
-            Jump { wide, comparison, register, offset: distance.try_into().ok()?, operand }
+            Jump { wide, comparison, register, operand, distance: distance.try_into().ok()? }
         }
         Goto(_) => Goto(distance.try_into().ok()?),
         GotoLong(_) => GotoLong(distance.try_into().ok()?),
@@ -199,32 +199,32 @@ fn with_distance(insn: Insn, distance: i64) -> Option<Insn> {
 /// The program that the text stands for.
 pub fn assemble(text: &str) -> Option<Vec<Option<Insn>>> {
     let mut labels = HashMap::new();
-    let mut drafts: Vec<Option<(Insn, Target)>> = Vec::new();
+    let mut unresolved: Vec<Option<(Insn, Target)>> = Vec::new();
     let mut found = Vec::new();
     for line in text.lines() {
         tokens(line, &mut found)?;
         match found[..] {
             [] => {}
             [label, ":"] => {
-                if labels.insert(label, drafts.len()).is_some() {
+                if labels.insert(label, unresolved.len()).is_some() {
                     return None;
                 }
             }
             _ => {
-                let draft = instruction(&found)?;
-                drafts.push(Some(draft));
-                if matches!(draft.0, LoadMapReference { .. }) {
-                    drafts.push(None);
+                let written = instruction(&found)?;
+                unresolved.push(Some(written));
+                if matches!(written.0, LoadMapReference { .. }) {
+                    unresolved.push(None);
                 }
             }
         }
     }
-    if drafts.is_empty() || drafts.len() > 4096 {
+    if unresolved.is_empty() || unresolved.len() > 4096 {
         return None;
     }
-    let mut code = Vec::with_capacity(drafts.len());
-    for (slot, &draft) in drafts.iter().enumerate() {
-        let Some((insn, target)) = draft else {
+    let mut code = Vec::with_capacity(unresolved.len());
+    for (slot, &written) in unresolved.iter().enumerate() {
+        let Some((insn, target)) = written else {
             code.push(None);
             continue;
         };
@@ -279,7 +279,7 @@ fn put_operand(text: &mut Vec<u8>, wide: bool, operand: Operand) {
     }
 }
 
-fn put_place(text: &mut Vec<u8>, size: u8, signed: bool, base: u8, offset: i16) {
+fn put_memory_operand(text: &mut Vec<u8>, size: u8, signed: bool, base: u8, offset: i16) {
     put(text, if signed { "*(s" } else { "*(u" });
     put(text, ["8", "16", "32", "64"][size.trailing_zeros() as usize]);
     put(text, " *)(");
@@ -310,14 +310,14 @@ pub fn disassemble(code: &[Option<Insn>]) -> Option<String> {
             Load { size, signed, destination, base, offset } => {
                 put_register(&mut text, true, destination);
                 put(&mut text, " = ");
-                put_place(&mut text, size, signed, base, offset);
+                put_memory_operand(&mut text, size, signed, base, offset);
             }
             Store { size, base, offset, operand } => {
-                put_place(&mut text, size, false, base, offset);
+                put_memory_operand(&mut text, size, false, base, offset);
                 put(&mut text, " = ");
                 put_operand(&mut text, true, operand);
             }
-            Jump { wide, comparison, register, offset, operand } => {
+            Jump { wide, comparison, register, operand, distance } => {
                 put(&mut text, "if ");
                 put_register(&mut text, wide, register);
                 text.push(b' ');
@@ -325,15 +325,15 @@ pub fn disassemble(code: &[Option<Insn>]) -> Option<String> {
                 text.push(b' ');
                 put_operand(&mut text, wide, operand);
                 put(&mut text, " goto ");
-                put_distance(&mut text, offset.into());
+                put_distance(&mut text, distance.into());
             }
-            Goto(offset) => {
+            Goto(distance) => {
                 put(&mut text, "goto ");
-                put_distance(&mut text, offset.into());
+                put_distance(&mut text, distance.into());
             }
-            GotoLong(offset) => {
+            GotoLong(distance) => {
                 put(&mut text, "gotol ");
-                put_distance(&mut text, offset);
+                put_distance(&mut text, distance);
             }
             Exit => put(&mut text, "exit"),
             _ => return None,

@@ -307,15 +307,15 @@ fn map_kind(map: i32, sizes: &[u16]) -> Result<Kind, Why> {
 /// The memory that an address means.
 fn area_of(base: Kind, offset: i16, size: u8, sizes: &[u16]) -> Result<Area, Why> {
     match base {
-        Stack(at) => Ok(OnStack(room_at(512, at, offset, size)?)),
-        Elem(map, at) => room_at(sizes[usize::from(map)], at, offset, size).map(|_| InElement),
+        Stack(at) => Ok(OnStack(offset_for(512, at, offset, size)?)),
+        Elem(map, at) => offset_for(sizes[usize::from(map)], at, offset, size).map(|_| InElement),
         Task => Field::at(offset, size).map(InTask).ok_or(Why::TaskField),
         ElemOrNull(_) | TaskOrNull => Err(Why::NullNotTested),
         _ => Err(Why::OutOfBounds),
     }
 }
 
-fn room_at(bytes: u16, at: u16, offset: i16, size: u8) -> Result<usize, Why> {
+fn offset_for(bytes: u16, at: u16, offset: i16, size: u8) -> Result<usize, Why> {
     let at = usize::try_from(i32::from(at) + i32::from(offset)).map_err(|_| Why::OutOfBounds)?;
     let size = usize::from(size);
     if at + size > usize::from(bytes) {
@@ -333,8 +333,8 @@ fn mask(at: usize, size: u8) -> u8 {
 
 fn target(slot: usize, insn: Insn) -> usize {
     let distance = match insn {
-        Jump { offset, .. } | Goto(offset) => offset as usize,
-        GotoLong(offset) => offset as usize,
+        Jump { distance, .. } | Goto(distance) => distance as usize,
+        GotoLong(distance) => distance as usize,
         _ => 0,
     };
     slot + 1 + distance
@@ -343,39 +343,39 @@ fn target(slot: usize, insn: Insn) -> usize {
 /// No state is kept for a slot.
 const NOTHING: u16 = u16::MAX;
 
-/// The states that jumps sent ahead: for each slot the place of its own, if it has one.
+/// The states that jumps sent ahead: for each slot the index of its own, if it has one.
 struct Ahead {
-    places: Vec<u16>,
+    indices: Vec<u16>,
     states: Vec<State>,
     free: Vec<u16>,
 }
 
 impl Ahead {
     fn new(slots: usize) -> Ahead {
-        Ahead { places: vec![NOTHING; slots], states: Vec::new(), free: Vec::new() }
+        Ahead { indices: vec![NOTHING; slots], states: Vec::new(), free: Vec::new() }
     }
 
     fn send(&mut self, slot: usize, state: &State) {
-        let place = self.places[slot];
-        if place != NOTHING {
-            self.states[usize::from(place)].join(state);
-        } else if let Some(place) = self.free.pop() {
-            self.states[usize::from(place)] = *state;
-            self.places[slot] = place;
+        let index = self.indices[slot];
+        if index != NOTHING {
+            self.states[usize::from(index)].join(state);
+        } else if let Some(index) = self.free.pop() {
+            self.states[usize::from(index)] = *state;
+            self.indices[slot] = index;
         } else {
-            self.places[slot] = self.states.len() as u16;
+            self.indices[slot] = self.states.len() as u16;
             self.states.push(*state);
         }
     }
 
     /// Takes what was sent to a slot.
     fn take(&mut self, slot: usize) -> Option<&State> {
-        let place = self.places[slot];
-        if place == NOTHING {
+        let index = self.indices[slot];
+        if index == NOTHING {
             return None;
         }
-        self.free.push(place);
-        Some(&self.states[usize::from(place)])
+        self.free.push(index);
+        Some(&self.states[usize::from(index)])
     }
 }
 

@@ -1,4 +1,4 @@
--- Loads and stores: the place that an address means, and what is read and written there.
+-- Loads and stores: the location that an address means, and what is read and written there.
 use Rattle.std.proofs.Common.{◌≡◌, ℕ, ◌+◌, ◌*◌, ◌/◌, ◌%◌, ◌<◌, ◌≤◌, ℤ, Bool, true, false, List, [], length, Option, Some, None, Result, Ok, Err, if◌then◌else◌, refl, sym, ap, ◌∙◌, arith}
 use Rattle.scx_semantics.specs.declared.instructions.Operand.{Operand}
 use Rattle.scx_semantics.specs.declared.operations.Width.TheVariants.{Bits64}
@@ -52,16 +52,16 @@ use Rattle.scx_abs.proofs.Bytes.{bytes_read, byte_small, written_at, reads_back,
 use Rattle.scx_abs.proofs.Registers.{Gives, set_sound, answer_sound, refused_sound, field_stands, usable_allows, operand_allows, checked}
 use Rattle.scx_abs.proofs.Elements.{offset_cases, element_sized, with_number-lengths, maps_member}
 
--- ---- places
+-- ---- locations
 
--- the memory that a rule finds is that of the place, for so many bytes
+-- the memory that a rule finds is that of the location, for so many bytes
 abbrev pub Means : Maps → ℕ → Area → Location → Type 0
 Means maps n (OnStack at) (location.OnStack to) = (at ≡ to) × (at % n ≡ 0)
 Means maps n InElement (location.InElement m i at) = HasElement maps m i × (at + n ≤ length (element maps m i))
 Means maps n (InTask f) (location.InTask t g) = f ≡ g
 Means maps n area to = ⊥
 
--- a rule's area against the place of the address
+-- a rule's area against the location that the address means
 abbrev pub Finds : Maps → ℕ → Result Area Why → Location → Type 0
 Finds maps n (Err why) to = Unit {0}
 Finds maps n (Ok area) to = Means maps n area to
@@ -91,7 +91,7 @@ area_found shapes maps Task (value.Pointer (pointer.Task t)) offset n shaped h =
 area_found shapes maps Task v offset n shaped h = absurd h
 area_found shapes maps k v offset n shaped h = tt
 
--- what holds of every refusal, and of each place that both find, holds of both
+-- what holds of every refusal, and of each location that both find, holds of both
 area_cases : {B : Type 0} (maps : Maps) (n : ℕ) (r : Result Area Why) (to : Location) (f : Area → Result B Why) (P : Result B Why → Type 0) → ((why : Why) → P (Err why))
     → Finds maps n r to → ((area : Area) → Means maps n area to → P (f area)) → P (r >>= f)
 area_cases maps n (Err why) to f P none h ok = none why

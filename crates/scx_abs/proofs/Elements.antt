@@ -1,5 +1,5 @@
--- Elements of maps: the checks of a place, what shapes say of an element, and the state after a store to
--- one.
+-- Elements of maps: the checks of an offset, what shapes say of an element, and the state after a store
+-- to one.
 use Rattle.std.proofs.Common.{◌≡◌, ℕ, zero, suc, ◌+◌, ◌*◌, ◌%◌, ◌<◌, ◌≤◌, ◌⊎◌, inl, inr, Bool, true, false, ◌&&◌, nat_eq, nat_le, List, [], ◌∷◌, ◌++◌, length, take, drop, slice_index_or, slice_get, Option, Some, None, Result, Ok, Err, ok_or, if◌then◌else◌, refl, sym, ap, ◌∙◌, arith}
 use Rattle.std.proofs.lemmas.Bool.{eqb-true, leb-true}
 use Rattle.std.proofs.lemmas.Option.{slice_get_cases}
@@ -26,16 +26,16 @@ use Rattle.scx_abs.specs.States.{kind_at, cell_at}
 use Rattle.scx_abs.specs.Stands.{HasElement, Stands, CellStands, IsMember}
 use Rattle.scx_abs.specs.Checks.{size_of, element_size, offset_within, offset_for}
 
--- ---- checks of a place
+-- ---- checks of an offset
 
--- what holds of every refusal, and of each place that both allow, holds of both
+-- what holds of every refusal, and of each offset that both allow, holds of both
 pub within_cases : (size : ℕ) (t : Option ℕ) (P : Result ℕ Why → Option ℕ → Type 0) → ((why : Why) (o : Option ℕ) → P (Err why) o)
     → ((at : ℕ) → P (Ok at) (Some at)) → P (offset_within size t) (within size t)
 within_cases size None P none ok = none OutOfBounds None
 within_cases size (Some at) P none ok =
     elim (nat_le at size) as (λ b. P (ok_or (if b then Some at else None) OutOfBounds) (if b then Some at else None)) [ true ↦ ok at | false ↦ none OutOfBounds None ]
 
--- the same of a place for an access
+-- the same of an offset for an access
 pub offset_cases : (size n : ℕ) (t : Option ℕ) (P : Result ℕ Why → Option ℕ → Type 0) → ((why : Why) (o : Option ℕ) → P (Err why) o)
     → ((at : ℕ) → at + n ≤ size → at % n ≡ 0 → P (Ok at) (Some at)) → P (offset_for size n t) (aligned_within size n t)
 offset_cases size n None P none ok = none OutOfBounds None

@@ -37,16 +37,16 @@ use Rattle.scx_abs.proofs.Elements.{offset_cases}
 use Rattle.scx_abs.proofs.Bytes.{fits_cell}
 use Rattle.scx_abs.proofs.MonotoneRegisters.{passes_then, with_cell_covers, on_monotone, CoversUsable, usable_monotone, operand_monotone}
 
--- ---- places
+-- ---- offsets
 
--- one place, with room for so many bytes
+-- one offset, with so many bytes from it on
 abbrev pub SamePlace : ℕ → ℕ → ℕ → ℕ → Type 0
 SamePlace size n x y = (x ≡ y) × IsAlignedWithin size n y
 
 abbrev SameArea : ℕ → Area → Area → Type 0
 SameArea n x y = (x ≡ y) × IsAlignedIn n y
 
--- a place for an access, which lies within and is aligned
+-- an offset for an access, which lies within and is aligned
 pub offset_monotone : (size n : ℕ) (t : Option ℕ) → PassesToo (SamePlace size n) (offset_for size n t) (offset_for size n t)
 offset_monotone size n t =
     offset_cases size n t (λ r o. PassesToo (SamePlace size n) r r) (λ why o. tt) (λ at inside aligned. (refl, record { inside = inside; aligned = aligned }))

@@ -44,7 +44,7 @@ use Rattle.scx_abs.specs.Calls.{call_rule}
 
 -- ---- arithmetic
 
--- a pointer that is moved stays in its memory, or comes to the place behind the last byte
+-- a pointer that is moved stays in its memory, or comes to its end, right behind the last byte
 abbrev pub moved_by : List Shape → Kind → Option ℤ → Result Kind Why
 moved_by shapes (Stack o) (Some k) = do
   to ← offset_within stack_size (shifted o k)

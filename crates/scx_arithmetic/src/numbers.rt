@@ -103,7 +103,7 @@ pub fn extended(extension: Extension, n: u64) -> u64
     }
 }
 
-/// The low bytes in another order (RFC 9669, section 4.2). The host is little-endian.
+/// The low bytes in that byte order (RFC 9669, section 4.2). The host is little-endian.
 pub fn byte_swapped(order: ByteOrder, width: SwapWidth, n: u64) -> u64
     ensures { result ≡ byte_swapped order width n }
 {
@@ -113,7 +113,7 @@ pub fn byte_swapped(order: ByteOrder, width: SwapWidth, n: u64) -> u64
     }
 }
 
-/// The low bits that a change of byte order keeps.
+/// The low bits that a byte swap keeps.
 fn low_bytes(width: SwapWidth, n: u64) -> u64
     ensures { result ≡ low_bytes width n }
 {
@@ -242,7 +242,7 @@ pub fn pointer_step(width: Width, operation: Operation, operand: Operand) -> Opt
     }
 }
 
-/// The place that far on, or back; `None` below 0.
+/// The offset that far on, or back; `None` below 0.
 pub fn shifted(at: u16, distance: i64) -> Option<u64>
     ensures { result ≡ shifted at distance }
 {
@@ -254,7 +254,7 @@ pub fn shifted(at: u16, distance: i64) -> Option<u64>
     }
 }
 
-/// The place, if it lies in so many bytes of memory or is the one behind the last.
+/// The offset, if it lies in so many bytes of memory or right behind the last.
 pub fn within(bytes: u16, at: Option<u64>) -> Option<u16>
     ensures { result ≡ within bytes at }
 {

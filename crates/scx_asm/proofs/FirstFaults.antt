@@ -78,7 +78,7 @@ line_room n p q (DefinesLabel l) e le = record { fit = refl; within = omega arit
 line_room n p q (Says x) e le = unresolved_room n p q (Says x) e
 line_room n p q (Jumps j t) e le = unresolved_room n p q (Jumps j t) e
 
--- the plan is that of the lines so far, which are fine
+-- the state of the first pass is that of the lines so far, which are fine
 record Before (p : FirstPassState) (n : ℕ) (before : List (List ℕ)) (earlier : List ItemValue) : Type 0 where
   pub slots : p.slots ≡ slots_of earlier
   pub labels : p.labels ≡ definitions 0 earlier
@@ -264,7 +264,7 @@ lost_line labels s (Jumps j (Label l)) f d fit blank place e = go (find l labels
         differs : {i : Insn} → None ≡ Some i → ⊥
         differs e = cc
 
--- a draft has no instruction, or a later one has none
+-- an unresolved line has no instruction, or a later one has none
 build_fails : (labels : Labels) (d : UnresolvedLine) (ds : List UnresolvedLine) (f : AsmFault) (m : ℕ) → second_pass labels (d ∷ ds) ≡ fails (List Insn) f m → {P : Type 0} → (resolved labels d.slot d.says ≡ no_insn f → m ≡ d.line → P) → ((i : Insn) → resolved labels d.slot d.says ≡ insn_is i → second_pass labels ds ≡ fails (List Insn) f m → P) → P
 unfolding second_pass
 build_fails labels d ds f m e {P} first later = go (resolved labels d.slot d.says) refl

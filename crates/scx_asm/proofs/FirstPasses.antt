@@ -6,7 +6,7 @@ use Rattle.scx_asm.specs.declared.faults.AsmError.{AsmError}
 use Rattle.scx_asm.specs.declared.faults.AsmError.TheVariants as errors
 use Rattle.scx_asm.specs.FirstPass.{FirstPassState, Fails, at_line, with_text, first_pass}
 
--- the plan behind the first i lines, and the lines that are left
+-- the state behind the first i lines, and the lines that are left
 abbrev pub left : List (Bor (List ℕ)) → ℕ → FirstPassState → Result FirstPassState (AsmFault × ℕ)
 left lines i p = first_pass (i + 1) p (map (λ (l : Bor (List ℕ)). l.now) (drop i lines))
 
@@ -16,7 +16,7 @@ step lines i d p q lt e =
     let number : suc (i + 1) ≡ i + 1 + 1 = omega arith in
     rw (drop_more lines i d lt, e) (ap (λ n. first_pass n q (map (λ (l : Bor (List ℕ)). l.now) (drop (i + 1) lines))) number)
 
--- one line more is planned
+-- one line more is read
 pub goes_on : (lines : List (Bor (List ℕ))) (i : ℕ) (d : Bor (List ℕ)) (p q : FirstPassState) (total : Result FirstPassState (AsmFault × ℕ)) → i < length lines → at_line (i + 1) (with_text (i + 1) p (get_or lines i d).now) ≡ Ok q
     → left lines i p ≡ total → left lines (i + 1) q ≡ total
 goes_on lines i d p q total lt e so_far = sym (step lines i d p q lt e) ∙ so_far

@@ -192,7 +192,7 @@ assigned w d text ts h = name false (register_text w d) _ _ (name_register w d) 
 half_small : (z : ℤ) → FitsSigned w32 z → cast_unsigned w32 z < 2 ^ 32
 half_small z f = (Fits-of_z {w = w32} {z = z} f).fits
 
--- a constant has 64 bits
+-- a 64-bit immediate has 64 bits
 pub wide_immediate_small : (low high : ℤ) → FitsSigned w32 low → FitsSigned w32 high → wide_immediate low high < 2 ^ 64
 wide_immediate_small low high f g = omega (arith, half_small low f, half_small high g)
 

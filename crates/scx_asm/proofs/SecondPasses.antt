@@ -1,4 +1,4 @@
--- The second pass, as a loop goes from entry to entry.
+-- The second pass, as a loop goes from line to line.
 use Rattle.std.proofs.Common.{◌≡◌, ℕ, ◌+◌, ◌<◌, ◌≤◌, List, [], ◌∷◌, ◌++◌, length, map, drop, get_or, Result, Ok, Err, refl, sym, ap, ◌∙◌, append_assoc}
 use Rattle.std.proofs.lemmas.List.{drop_more, drop_all, append-nil}
 use Rattle.scx_semantics.specs.declared.instructions.Insn.{Insn}
@@ -10,7 +10,7 @@ use Rattle.scx_semantics.specs.Results.{◌>>=◌}
 use Rattle.scx_asm.specs.FirstPass.{unresolved_of}
 use Rattle.scx_asm.specs.Reading.{second_pass}
 
--- the instructions that were resolved, and the entries that are left
+-- the instructions that were resolved, and the unresolved lines that are left
 abbrev pub with_front : List Insn → Result (List Insn) (AsmFault × ℕ) → Result (List Insn) (AsmFault × ℕ)
 with_front front r = r >>= λ is. Ok (front ++ is)
 
@@ -21,7 +21,7 @@ regroup : (front : List Insn) (i : Insn) (r : Result (List Insn) (AsmFault × �
 regroup front i (Ok is) = ap (λ (x : List Insn). Ok x) (simp append_assoc)
 regroup front i (Err e) = refl
 
--- one entry more stands for an instruction
+-- one line more stands for an instruction
 pub goes_on : (labels : Labels) (entries : List Unresolved) (k : ℕ) (d : Unresolved) (front : List Insn) (i : Insn) (total : Result (List Insn) (AsmFault × ℕ)) → k < length entries
     → resolved labels (get_or entries k d).slot (item_value (get_or entries k d).item) ≡ Ok i
     → left labels entries k front ≡ total → left labels entries (k + 1) (front ++ i ∷ []) ≡ total
@@ -30,7 +30,7 @@ goes_on labels entries k d front i total lt e so_far =
     let one : left labels entries k front ≡ left labels entries (k + 1) (front ++ i ∷ []) = rw (drop_more entries k d lt, e) (regroup front i (second_pass labels (map unresolved_of (drop (k + 1) entries)))) in
     sym one ∙ so_far
 
--- an entry that stands for none ends the pass
+-- a line that stands for none ends the pass
 pub ends : (labels : Labels) (entries : List Unresolved) (k : ℕ) (d : Unresolved) (front : List Insn) (fault : AsmFault) (total : Result (List Insn) (AsmFault × ℕ)) → k < length entries
     → resolved labels (get_or entries k d).slot (item_value (get_or entries k d).item) ≡ Err fault
     → left labels entries k front ≡ total → total ≡ Err (fault, (get_or entries k d).line)
@@ -39,7 +39,7 @@ ends labels entries k d front fault total lt e so_far =
     let one : left labels entries k front ≡ Err (fault, (get_or entries k d).line) = rw (drop_more entries k d lt, e) refl in
     sym so_far ∙ one
 
--- past the last entry the pass is done
+-- past the last line the pass is done
 pub is_done : (labels : Labels) (entries : List Unresolved) (k : ℕ) (front : List Insn) (total : Result (List Insn) (AsmFault × ℕ)) → length entries ≤ k → left labels entries k front ≡ total → total ≡ Ok front
 unfolding second_pass
 is_done labels entries k front total le so_far =

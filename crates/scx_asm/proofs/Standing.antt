@@ -114,7 +114,7 @@ once_more (y ∷ es) x d e = go (bytes_eq x.0 y.0) refl (λ h. once_more es x d.
     go true h behind = let bad : Some y.1 ≡ no_slot = rw h at e in absurd (cc)
     go false h behind = (apart_more y.0 es x d.0 (apart y.0 x.0 h), behind (rw h at e))
 
--- ---- plans
+-- ---- states of the first pass
 
 abbrev unresolved_line : ℕ → ℕ → ItemValue → List UnresolvedLine
 unresolved_line n s Blank = []
@@ -125,7 +125,7 @@ abbrev pub unresolved_lines : ℕ → ℕ → List ItemValue → List Unresolved
 unresolved_lines n s [] = []
 unresolved_lines n s (l ∷ ls) = unresolved_line n s l ++ unresolved_lines (suc n) (s + slots l) ls
 
--- the plan with one line more, and with lines more from the n-th on
+-- the state with one line more, and with lines more from the n-th on
 abbrev pub after_one : ℕ → FirstPassState → ItemValue → FirstPassState
 after_one n p l = record { slots = p.slots + slots l; labels = p.labels ++ defined p.slots l; unresolved = p.unresolved ++ unresolved_line n p.slots l }
 
@@ -197,7 +197,7 @@ unresolved_line_was n p q l k ds e a d = record {
   once = subst (λ (q : FirstPassState). IsDistinct bytes_eq (names q.labels)) e d;
 }
 
--- what a line adds to a plan
+-- what a line adds to the state
 pub line_was : (n : ℕ) (p q : FirstPassState) (l : ItemValue) → with_line n p l ≡ Ok q → IsDistinct bytes_eq (names p.labels) → Added n p q l
 line_was n p q Blank e d =
     let same : p ≡ q = cc in
@@ -206,7 +206,7 @@ line_was n p q (DefinesLabel l) e d = label_was n p q l e d
 line_was n p q (Says s) e d = unresolved_line_was n p q (Says s) _ _ (unresolved_was n p q (Says s) e) refl d
 line_was n p q (Jumps j t) e d = unresolved_line_was n p q (Jumps j t) _ _ (unresolved_was n p q (Jumps j t) e) refl d
 
--- a line that is planned was read
+-- a line that passed was of the language
 pub text_was : (n : ℕ) (p q : FirstPassState) (r : Option ItemValue) → either r (with_line n p) (Err Syntax) ≡ Ok q → (l : ItemValue) × (r ≡ Some l) × (with_line n p l ≡ Ok q)
 text_was n p q None e = absurd (cc)
 text_was n p q (Some l) e = (l, refl, e)

@@ -39,7 +39,8 @@ fn insn_at<'a>(
     labels: &IndexMap<&'a [u8], u16>,
     unresolved: &Unresolved<'a>,
 ) -> Result<Insn, AsmFault>
-    ensures { result ≡ resolved (table labels.now.entries) unresolved.now.slot (item_value unresolved.now.item) }
+    ensures { result
+        ≡ resolved (table labels.now.entries) unresolved.now.slot (item_value unresolved.now.item) }
 {
     match unresolved.item {
         Item::Statement(statement) => said(statement),
@@ -57,7 +58,8 @@ fn insn_at<'a>(
 /// The second pass: the instructions of all unresolved lines.
 fn second_pass(alloc: Global, pass: &FirstPass<'_>) -> Result<Vec<Insn>, AsmError>
     ensures { Gives (λ insns. insns.items) result
-        (second_pass (table pass.now.labels.entries) (map unresolved_of pass.now.unresolved.items)) }
+        (second_pass (table pass.now.labels.entries)
+        (map unresolved_of pass.now.unresolved.items)) }
 {
     let mut insns = Vec::with_capacity(alloc, pass.unresolved.len())?;
     for unresolved in &pass.unresolved {

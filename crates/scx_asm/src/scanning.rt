@@ -125,7 +125,8 @@ fn lines_of<'a>(alloc: Global, text: &'a str) -> Result<Vec<&'a str>, AllocError
 
 /// The first pass: the instructions with their slots, and the labels.
 pub(crate) fn scan<'a>(alloc: Global, text: &'a str) -> Result<FirstPass<'a>, AsmError>
-    ensures { Gives (λ pass. first_pass_of pass) result (first_pass 1 nothing_read (lines text.now)) }
+    ensures { Gives (λ pass. first_pass_of pass) result
+        (first_pass 1 nothing_read (lines text.now)) }
 {
     let lines = lines_of(alloc, text)?;
     let mut pass = FirstPass {

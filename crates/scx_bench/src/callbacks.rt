@@ -1,4 +1,4 @@
-//! The callbacks of scx_simple and a program that counts, with one map of one value of eight bytes: each
+//! The callbacks of scx_simple and a program that counts, with one map of one element of eight bytes: each
 //! is verified, or run, as often as is wanted.
 
 ghost use Rattle.scx_semantics.specs.Arguments.{FitsCallback};
@@ -60,7 +60,7 @@ r0 = 0
 exit
 ";
 
-/// One map of one value of eight bytes.
+/// One map of one element of eight bytes.
 const CLOCK: [Shape; 1] = [Shape {
     entries: 1,
     value_size: 8,

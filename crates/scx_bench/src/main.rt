@@ -184,7 +184,7 @@ fn disassembles(alloc: Global, bytes: &[u8], times: u64) -> Sum {
     Some(sum)
 }
 
-/// Adds 1 to a number of some entry of a map, over and over.
+/// Adds 1 to a number of some element of a map, over and over.
 fn counts(alloc: Global, times: u64) -> Sum {
     let shapes = [Shape {
         entries: 4096,
@@ -200,7 +200,7 @@ fn counts(alloc: Global, times: u64) -> Sum {
     Some(sum)
 }
 
-/// The number at byte 8 of an entry of map 0, to which 1 is added, if there is one.
+/// The number at byte 8 of an element of map 0, to which 1 is added, if there is one.
 fn count(maps: &mut Maps, index: u32) -> Sum {
     if maps.count() == 0 || !maps.lookup(0, index) || maps.value(0, index).len() < 16 {
         return None;

@@ -5,6 +5,8 @@
 #[cfg(test)]
 mod checking;
 #[cfg(test)]
+mod commands;
+#[cfg(test)]
 mod executing;
 #[cfg(test)]
 mod finishing;

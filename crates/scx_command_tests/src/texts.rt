@@ -1,104 +1,105 @@
 //! Tests of texts: of `asm` and `dis`, and of `text`.
 
+use crate::commands::{Command, expect, run};
 use crate::memory::Memory;
-use scx_commands::{Counted, FILE_LIMIT, Fault, Refusal, asm, dis, finish, text};
+use scx_commands::{Counted, FILE_LIMIT, Fault, Refusal, text};
 use scx_examples::{EXIT, bytes_of};
 use std::alloc::{AllocError, Global};
 use std::process::Abort;
 use std::test::Fail;
 
-/// A command that has to do with texts.
-#[derive(Clone, Copy)]
-enum Work {
-    Asm,
-    Dis,
-}
+/// A text and the slots of one program.
+type Row<'a> = (&'a str, &'a [u64]);
 
-/// Does the work with the bytes, and answers the output and the status.
-fn output<R: AllocGlobal>(rt: &R, work: Work, bytes: &[u8]) -> (Vec<u8>, u8) {
-    let mut memory = Memory::new(rt.alloc());
-    let mut out = Counted::new(&mut memory);
-    let outcome = match work {
-        Work::Asm => asm(rt.alloc(), bytes, &mut out),
-        Work::Dis => dis(rt.alloc(), bytes, &mut out),
-    };
-    let status = finish(outcome, &mut out);
-    (memory.bytes, status)
-}
-
-fn expect<R: AllocGlobal + Abort>(rt: &R, work: Work, bytes: &[u8], wanted: &[u8], status: u8) {
-    let (found, ended) = output(rt, work, bytes);
-    assert_eq!(rt; found.as_slice(), wanted);
-    assert_eq!(rt; ended, status);
-}
-
-/// Assembles the text, and compares the slots.
-fn assembles<R: AllocGlobal + Abort>(rt: &R, text: &str, slots: &[u64]) -> Result<(), Fail> {
-    let wanted = bytes_of(rt.alloc(), slots)?;
-    expect(rt, Work::Asm, text.as_bytes(), wanted.as_slice(), 0);
+/// Assembles each text, and compares the slots.
+fn assemble<R: AllocGlobal + Abort>(rt: &R, rows: &[Row<'_>]) -> Result<(), AllocError> {
+    for &(text, slots) in rows {
+        let wanted = bytes_of(rt.alloc(), slots)?;
+        expect(rt, Command::Asm, text.as_bytes(), wanted.as_slice(), 0);
+    }
     Ok(())
 }
 
-/// Disassembles the slots, and compares the text.
-fn disassembles<R: AllocGlobal + Abort>(rt: &R, slots: &[u64], text: &str) -> Result<(), Fail> {
-    let bytes = bytes_of(rt.alloc(), slots)?;
-    expect(rt, Work::Dis, bytes.as_slice(), text.as_bytes(), 0);
+/// Disassembles the slots, and compares each text.
+fn disassemble<R: AllocGlobal + Abort>(rt: &R, rows: &[Row<'_>]) -> Result<(), AllocError> {
+    for &(text, slots) in rows {
+        let bytes = bytes_of(rt.alloc(), slots)?;
+        expect(rt, Command::Dis, bytes.as_slice(), text.as_bytes(), 0);
+    }
     Ok(())
 }
 
-fn refuses<R: AllocGlobal + Abort>(rt: &R, text: &str, line: &str) {
-    expect(rt, Work::Asm, text.as_bytes(), line.as_bytes(), 1);
+fn refuses<R: AllocGlobal + Abort>(rt: &R, command: Command, bytes: &[u8], line: &str) {
+    expect(rt, command, bytes, line.as_bytes(), 1);
 }
 
-/// Assembles the line to that slot, and disassembles the slot to the line.
-fn both_ways<R: AllocGlobal + Abort>(rt: &R, line: &str, slot: u64) -> Result<(), Fail> {
-    assembles(rt, line, &[slot])?;
-    disassembles(rt, &[slot], line)
-}
+/// `goto end`, `r0 = 1` and `exit`
+const JUMP: [u64; 3] = [0x0500_0100_0000_0000, 0xb700_0000_0100_0000, EXIT];
+
+const ASSEMBLED: [Row<'_>; 3] = [
+    ("goto end\nr0 = 1\nend:\nexit", &JUMP),
+    ("a:\ngoto a\nexit", &[0x0500_ffff_0000_0000, EXIT]),
+    (
+        "r0 = 2147483648 ll\nexit",
+        &[0x1800_0000_0000_0080, 0, EXIT],
+    ),
+];
+
+const DISASSEMBLED: [Row<'_>; 1] = [("goto +1\nr0 = 1\nexit\n", &JUMP)];
+
+/// Lines that stand for one slot.
+const BOTH_WAYS: [Row<'_>; 3] = [
+    ("if w1 s> -5 goto +0\n", &[0x6601_0000_fbff_ffff]),
+    ("r1 = *(s16 *)(r2 - 6)\n", &[0x8921_faff_0000_0000]),
+    ("*(u32 *)(r10 - 4) = 0\n", &[0x620a_fcff_0000_0000]),
+];
 
 #[test]
 fn texts_and_slots_stand_for_each_other(rt: HostRuntime) -> Result<(), Fail> {
-    let jump = [0x0500_0100_0000_0000, 0xb700_0000_0100_0000, EXIT];
-    assembles(&rt, "goto end\nr0 = 1\nend:\nexit", &jump)?;
-    disassembles(&rt, &jump, "goto +1\nr0 = 1\nexit\n")?;
-    assembles(&rt, "a:\ngoto a\nexit", &[0x0500_ffff_0000_0000, EXIT])?;
-    let wide = [0x1800_0000_0000_0080, 0, EXIT];
-    assembles(&rt, "r0 = 2147483648 ll\nexit", &wide)?;
-    both_ways(&rt, "if w1 s> -5 goto +0\n", 0x6601_0000_fbff_ffff)?;
-    both_ways(&rt, "r1 = *(s16 *)(r2 - 6)\n", 0x8921_faff_0000_0000)?;
-    both_ways(&rt, "*(u32 *)(r10 - 4) = 0\n", 0x620a_fcff_0000_0000)
+    assemble(&rt, &ASSEMBLED)?;
+    disassemble(&rt, &DISASSEMBLED)?;
+    assemble(&rt, &BOTH_WAYS)?;
+    disassemble(&rt, &BOTH_WAYS)?;
+    Ok(())
 }
+
+const FAULTY_TEXTS: [(&str, &str); 6] = [
+    ("goto end\nexit", "refused: asm 2 UnknownLabel at 1\n"),
+    ("goto end\nr0 =", "refused: asm 1 Syntax at 2\n"),
+    ("a:\na:\nexit", "refused: asm 3 TwiceLabel at 2\n"),
+    ("r0 = 2147483648\nexit", "refused: asm 4 OutOfRange at 1\n"),
+    ("r0 = -r1\nexit", "refused: asm 1 Syntax at 1\n"),
+    ("", "refused: asm 1 Syntax at 1\n"),
+];
 
 #[test]
 fn faulty_texts_are_refused(rt: HostRuntime) {
-    let refused = [
-        ("goto end\nexit", "refused: asm 2 UnknownLabel at 1\n"),
-        ("goto end\nr0 =", "refused: asm 1 Syntax at 2\n"),
-        ("a:\na:\nexit", "refused: asm 3 TwiceLabel at 2\n"),
-        ("r0 = 2147483648\nexit", "refused: asm 4 OutOfRange at 1\n"),
-        ("r0 = -r1\nexit", "refused: asm 1 Syntax at 1\n"),
-        ("", "refused: asm 1 Syntax at 1\n"),
-    ];
-    for (text, line) in refused {
-        refuses(&rt, text, line);
+    for &(text, line) in &FAULTY_TEXTS {
+        refuses(&rt, Command::Asm, text.as_bytes(), line);
     }
+}
+
+/// The bytes are no text.
+fn is_no_text(rt: &impl Abort, bytes: &[u8], refusal: Refusal) {
+    assert_eq!(rt; text(bytes).err(), Some(Fault::Refused(refusal)));
+}
+
+/// Both commands refuse bytes that are too many.
+fn refuse_large<R: AllocGlobal + Abort>(rt: &R, bytes: &[u8]) {
+    is_no_text(rt, bytes, Refusal::TooLarge);
+    refuses(rt, Command::Asm, bytes, "refused: too large\n");
+    refuses(rt, Command::Dis, bytes, "refused: too large\n");
 }
 
 #[test]
 fn bytes_that_are_no_text_are_refused(rt: HostRuntime) -> Result<(), Fail> {
     let wrong = b"\xff\xfe".as_slice();
-    assert_eq!(rt; text(wrong), Err(Fault::Refused(Refusal::NotUtf8)));
-    expect(&rt, Work::Asm, wrong, b"refused: not UTF-8\n", 1);
-    let cut = b"refused: decode 3 NotWholeSlots at 1\n";
-    expect(&rt, Work::Dis, b"goto nowhere", cut, 1);
+    is_no_text(&rt, wrong, Refusal::NotUtf8);
+    refuses(&rt, Command::Asm, wrong, "refused: not UTF-8\n");
+    let cut = "refused: decode 3 NotWholeSlots at 1\n";
+    refuses(&rt, Command::Dis, b"goto nowhere", cut);
     let large = vec![in rt.alloc(); b'#'; FILE_LIMIT + 1]?;
-    let too_large = b"refused: too large\n";
-    assert_eq!(rt;
-        text(large.as_slice()),
-        Err(Fault::Refused(Refusal::TooLarge))
-    );
-    expect(&rt, Work::Asm, large.as_slice(), too_large, 1);
-    expect(&rt, Work::Dis, large.as_slice(), too_large, 1);
+    refuse_large(&rt, large.as_slice());
     Ok(())
 }
 
@@ -120,30 +121,41 @@ fn texts_are_limited(rt: HostRuntime) -> Result<(), Fail> {
     let largest = commented_program(rt.alloc(), FILE_LIMIT)?;
     assert_eq!(rt; largest.len(), FILE_LIMIT);
     let slots = bytes_of(rt.alloc(), &[0xb700_0000_0100_0000, EXIT])?;
-    expect(&rt, Work::Asm, largest.as_slice(), slots.as_slice(), 0);
+    expect(&rt, Command::Asm, largest.as_slice(), slots.as_slice(), 0);
     let too_large = commented_program(rt.alloc(), FILE_LIMIT + 1)?;
-    expect(
+    refuses(
         &rt,
-        Work::Asm,
+        Command::Asm,
         too_large.as_slice(),
-        b"refused: too large\n",
-        1,
+        "refused: too large\n",
     );
     Ok(())
 }
 
+/// The canonical text of the slots.
+fn canonical<R: AllocGlobal + Abort>(rt: &R, bytes: &[u8]) -> Vec<u8> {
+    let mut memory = Memory::new(rt.alloc());
+    let status = run(
+        rt.alloc(),
+        Command::Dis,
+        bytes,
+        &mut Counted::new(&mut memory),
+    );
+    assert_eq!(rt; status, 0);
+    memory.bytes
+}
+
 /// Assembles a callback to these slots, and their canonical text to the same ones.
 fn round_trip<R: AllocGlobal + Abort>(rt: &R, text: &str, slots: &[u64]) -> Result<(), Fail> {
-    assembles(rt, text, slots)?;
     let bytes = bytes_of(rt.alloc(), slots)?;
-    let (canonical, status) = output(rt, Work::Dis, bytes.as_slice());
-    assert_eq!(rt; status, 0);
-    expect(rt, Work::Asm, canonical.as_slice(), bytes.as_slice(), 0);
+    expect(rt, Command::Asm, text.as_bytes(), bytes.as_slice(), 0);
+    let canonical = canonical(rt, bytes.as_slice());
+    expect(rt, Command::Asm, canonical.as_slice(), bytes.as_slice(), 0);
     Ok(())
 }
 
 // The callbacks of the kernel's example policy scx_simple, with the slots that LLVM's assembler gives them
-// (a reference to map 0 being its load of a constant, with source field 5).
+// (a reference to map 0 being its 64-bit immediate load, with source field 5).
 
 #[test]
 fn init_goes_there_and_back(rt: HostRuntime) -> Result<(), Fail> {

@@ -35,7 +35,8 @@ pub fn exec<W: Out>(alloc: Global, bytes: &[u8], out: &mut W) -> Result<bool, Fa
 
     // The line of the run is cut off where writing fails.
     ensures cut { result ≡ Err Fault.WriteFailed → (done : Done) × HasRun bytes.now done
-        × AppendsBeginning (W.contents out.old) (W.contents out.new) (lines.done_line done.r0 done.steps) }
+        × AppendsBeginning (W.contents out.old) (W.contents out.new)
+        (lines.done_line done.r0 done.steps) }
     ensures counted { result ≡ Err Fault.WriteFailed
         → HasFailed (W.failure_count out.old) (W.failure_count out.new) }
 {

@@ -21,9 +21,11 @@ use Rattle.scx_dsq.proofs.Keeping.{id_at}
 
 -- ---- nothing changes
 
+-- an array that stays as it was, without a comparison, is cheap
 pub cheap_none : (items : List Item) → IsCheap items items 0
 cheap_none items = record { comparisons = λ d lt. omega arith; changes = λ d lt. record { positions = []; few = omega arith; differs = λ k e out. refl } }
 
+-- a call that changes nothing and compares nothing is paid
 pub paid_none : (v w : QueuesValue) (id steps : ℕ) → w ≡ v → steps ≡ 0 → IsPaid v w id steps
 paid_none v w id steps same none = rw (same, none) (record { cheap = cheap_none (array_of v id); fifo = λ t p w is. refl; others = λ other n. refl })
 
@@ -40,7 +42,7 @@ arrays_same [] k q new read same = refl
 arrays_same (x ∷ live) zero q new read same = ap (λ items. items ∷ arrays_of live) (same ∙ ap (λ (y : Queue). y.heap.items) read)
 arrays_same (x ∷ live) (suc k) q new read same = ap (λ arrays. x.heap.items ∷ arrays) (arrays_same live k q new read same)
 
--- the place of an id among the ids is that of its queue
+-- the position of an id among the ids is that of its queue
 index_is : (i : Inside) (k : ℕ) (q : Queue) → IsKept i → k < length i.live.items → q ≡ get_or i.live.items k q → position_or_len (λ other. other == q.id) (ids_of i.live.items) ≡ k
 index_is i k q h lt read =
     let here : get_or (ids_of i.live.items) k q.id ≡ q.id = id_at i.live.items k q ∙ sym (ap (λ (x : Queue). x.id) read) in
@@ -49,6 +51,7 @@ index_is i k q h lt read =
     (λ m below. ne_eqb (get_or (ids_of i.live.items) m q.id) q.id (λ e. h.sound.queues.distinct m k q.id below (omega (arith, long)) (e ∙ sym here)))
     (λ inside. eq-eqb (get_or (ids_of i.live.items) k q.id) q.id here)
 
+-- the array of a queue's id is that of its heap
 pub array_is : (i : Inside) (k : ℕ) (q : Queue) → IsKept i → k < length i.live.items → q ≡ get_or i.live.items k q → array_of (value_of i) q.id ≡ q.heap.items
 array_is i k q h lt read =
     ap (λ m. get_or (arrays_of i.live.items) m []) (index_is i k q h lt read) ∙ array_at i.live.items k q lt ∙ sym (ap (λ (x : Queue). x.heap.items) read)
@@ -98,6 +101,7 @@ module _ (i j : Inside) (k : ℕ) (q new : Queue) (h : IsKept i) (inside : k < l
           let found : get_or (ids_of i.live.items) k q.id ≡ other = subst (λ m. get_or (ids_of i.live.items) m q.id ≡ other) e (eqb-true _ other passes) in
           n (sym found ∙ here)
 
+  -- what a call costs on the one queue that it changes, where all ids stay
   pub paid : (steps : ℕ) → IsCheap q.heap.items new.heap.items steps → ((t : ℕ) (p : Entry) → Waits (state_of i) q.id t p → p.rank ≡ Fifo → steps ≡ 0) → IsPaid (value_of i) (value_of j) q.id steps
   paid steps cheap fifo = record {
     cheap = rw (array_is i k q h inside read, array_after) cheap;
@@ -107,6 +111,7 @@ module _ (i j : Inside) (k : ℕ) (q new : Queue) (h : IsKept i) (inside : k < l
 
 -- ---- the queue of a task
 
+-- what is of one sort with FIFO is FIFO
 pub is_fifo : (r : Rank) → same_sort r Fifo ≡ true → r ≡ Fifo
 is_fifo Fifo e = refl
 is_fifo (Vtime k) e = absurd (cc)

@@ -1,4 +1,4 @@
--- A task that has a place waits in one of the queues that there are.
+-- A task that has an entry waits in one of the queues that there are.
 use Rattle.std.proofs.Common.{◌≡◌, ◌≢◌, ℕ, suc, ◌+◌, true, false, ◌==◌, ◌⊎◌, inl, inr, cond, List, [], ◌∷◌, get_or, AllPairs, count_by, Option, Some, None, is_some, refl, sym, ◌∙◌, arith}
 use Rattle.std.specs.List.{list_any}
 use Rattle.std.proofs.lemmas.Bool.{both_ways, cases_Bool, eq-eqb, eqb-true, ne_eqb, or_parts}
@@ -36,6 +36,7 @@ nowhere : (ids : List ℕ) → count_by (λ id. is_in id None) ids ≡ 0
 nowhere [] = refl
 nowhere (id ∷ ids) = sum_by-cons (λ other. cond (is_in other None) 1 0) id ids ∙ rw (nowhere ids) refl
 
+-- a task waits in one of the queues that there are if it has an entry, else in none
 pub stands_in_so_many : (s : QueueState) → IsSound s → StandsInSoMany s
 stands_in_so_many s h t = go (entry_of s t) refl
   where

@@ -65,6 +65,7 @@ module _ (s : QueueState) (links : List Link) (q : Queue) (t : ℕ) (p : Entry) 
       let nobody = nobody_held s q.id (subst (Holds s.entries q.id) empty h) in
       (subst (IsThreaded s.entries links q.id) (sym none) (threaded_empty s links q.id nobody), empty)
 
+  -- a queue that takes FIFO tasks takes this one at its end
   pub can_append : CanAppend links q t
   can_append =
       let h = (as_threaded form).0 in
@@ -76,6 +77,7 @@ module _ (s : QueueState) (links : List Link) (q : Queue) (t : ℕ) (p : Entry) 
         count = omega arith;
       }
 
+  -- such a queue keeps its tasks, with this one at its end
   pub form_appended : p.rank ≡ Fifo → IsOfOneSort (set s.entries t (Some p)) (links_appended links q.ends t) (appended q t)
   form_appended is =
       let h = as_threaded form in
@@ -90,6 +92,7 @@ module _ (s : QueueState) (links : List Link) (q : Queue) (t : ℕ) (p : Entry) 
   not_entering : (id u : ℕ) (o : Entry) → In s.entries id u o → u ≢ t
   not_entering id u o w e = let there : entry_at s.entries t ≡ Some o = subst (λ v. entry_at s.entries v ≡ Some o) e w.0 in absurd (cc)
 
+  -- and the links in other queues stay
   pub appended_agree : (id : ℕ) → id ≢ q.id → (u : ℕ) (o : Entry) → In s.entries id u o → link_at (links_appended links q.ends t) u ≡ link_at links u
   appended_agree id n u o w =
       let h = (as_threaded form).0 in
@@ -106,6 +109,7 @@ as_held s links q k fits (by_links h empty) =
     (subst (Holds s.entries q.id) (sym empty) (holds_empty s q.id nobody), ends_of_nobody s links q.id q.ends nobody first h)
 
 module _ (s : QueueState) (links : List Link) (q : Queue) (x : Item) (within : x.task < length s.entries) (free : entry_at s.entries x.task ≡ None) (fits : mixes (Vtime x.priority.key) q ≡ false) (form : IsOfOneSort s.entries links q) where
+  -- a queue that takes tasks by virtual time takes this one into its heap
   pub can_insert : (spots : List ℕ) → length spots ≡ length s.entries → length s.entries ≤ q.heap.room → HasSpots q.heap.items spots → IsHeap q.heap.items → CanInsert spots q x
   can_insert spots long room stand heap =
       let h = (as_held s links q x.priority.key fits form).0 in
@@ -119,6 +123,7 @@ module _ (s : QueueState) (links : List Link) (q : Queue) (x : Item) (within : x
         heap = heap;
       }
 
+  -- and keeps its tasks, with this one in its heap
   pub form_inserted : (spots stood : List ℕ) (new : Queue) → Inserted spots q x stood new → IsOfOneSort (set s.entries x.task (Some (entry_for q.id x.priority))) links new
   form_inserted spots stood new e =
       let h = as_held s links q x.priority.key fits form in
@@ -131,6 +136,7 @@ module _ (s : QueueState) (links : List Link) (q : Queue) (t : ℕ) (p : Entry) 
   left_threaded is (by_links h empty) = (h, empty)
   left_threaded is (by_heap h none) = let bad : true ≡ false = rw is at (holds_vtime s.entries q.id q.heap.items h t p waits) in absurd (cc)
 
+  -- the queue of a task that waits by virtual time has its tasks in its heap
   pub left_held : (k : ℕ) → p.rank ≡ Vtime k → IsOfOneSort s.entries links q → Holds s.entries q.id q.heap.items × (q.ends ≡ no_ends)
   left_held k is (by_heap h none) = (h, none)
   left_held k is (by_links h empty) = let fifo = h.sort t p waits in absurd (cc)
@@ -140,6 +146,7 @@ module _ (s : QueueState) (links : List Link) (q : Queue) (t : ℕ) (p : Entry) 
       let less : count_by (is_in q.id) (set s.entries t None) + 1 ≡ count_by (is_in q.id) s.entries + 0 = rw (waits.0, is_in_from q.id p waits.1) at (count-set s.entries q.id t None (waits_below s.entries t p waits.0)) in
       omega arith
 
+  -- a task that waits can be taken out, by its links or from the heap
   pub can_leave : (rank : Rank) (spots : List ℕ) → p.rank ≡ rank → HasSpots q.heap.items spots → IsHeap q.heap.items → IsOfOneSort s.entries links q → CanLeave rank links spots q t
   can_leave Fifo spots is stand heap form =
       let h = (left_threaded is form).0 in
@@ -154,11 +161,13 @@ module _ (s : QueueState) (links : List Link) (q : Queue) (t : ℕ) (p : Entry) 
       }
   can_leave (Vtime k) spots is stand heap form = record { task = (left_held k is form).0.all t p waits; stand = stand; heap = heap }
 
+  -- the queue of a FIFO task keeps the others after it was taken out
   pub form_unlinked : p.rank ≡ Fifo → IsOfOneSort s.entries links q → IsOfOneSort (set s.entries t None) (links_unlinked links t) (unlinked links q t)
   form_unlinked is form =
       let h = left_threaded is form in
       by_links (threaded_without s.entries q.id t p waits stamps links q.ends long h.0) h.1
 
+  -- and so does that of a task by virtual time
   pub form_taken_out : (k : ℕ) (spots stood : List ℕ) (new : Queue) → p.rank ≡ Vtime k → IsOfOneSort s.entries links q → TakenOut spots q t stood new → IsOfOneSort (set s.entries t None) links new
   form_taken_out k spots stood new is form e =
       let h = left_held k is form in
@@ -171,6 +180,7 @@ module _ (s : QueueState) (links : List Link) (q : Queue) (t : ℕ) (p : Entry) 
   in_one_queue : (id u : ℕ) (o r : Entry) → id ≢ q.id → In s.entries id u o → In s.entries q.id u r → ⊥
   in_one_queue id u o r n w k = n (sym w.1 ∙ ap (λ (x : Entry). x.queue) (same_entry s.entries u o r w.0 k.0) ∙ k.1)
 
+  -- the links in other queues stay
   pub unlinked_agree : p.rank ≡ Fifo → IsOfOneSort s.entries links q → (id : ℕ) → id ≢ q.id → (u : ℕ) (o : Entry) → In s.entries id u o → link_at (links_unlinked links t) u ≡ link_at links u
   unlinked_agree is form id n u o w =
       let h = (left_threaded is form).0 in
@@ -205,6 +215,7 @@ module _ (entries : Entries) (id t : ℕ) (new : Option Entry) (within : t < len
       let f : count_by (is_in id) (set entries t new) + 0 ≡ count_by (is_in id) entries + 0 = rw (out, stays) at (count-set entries id t new within) in
       omega arith
 
+  -- a queue in which the task was not, and is not, keeps its tasks
   pub form_others : (links others : List Link) (q : Queue) → q.id ≡ id → ((u : ℕ) (o : Entry) → In entries id u o → link_at others u ≡ link_at links u) → IsOfOneSort entries links q → IsOfOneSort (set entries t new) others q
   form_others links others q is agree (by_links h empty) =
       by_links (subst (λ v. IsThreaded (set entries t new) others v q.ends) (sym is) (threaded_same entries (set entries t new) id to from links others q.ends agree same_count (subst (λ v. IsThreaded entries links v q.ends) is h))) empty

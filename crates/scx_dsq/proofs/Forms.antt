@@ -25,6 +25,7 @@ use Rattle.scx_dsq.proofs.Holdings.{holds_front, holds_vtime}
 
 -- ---- an empty queue
 
+-- a queue in which nobody waits is threaded, with no ends
 pub threaded_empty : (s : QueueState) (links : List Link) (id : ℕ) → NobodyIn s id → IsThreaded s.entries links id no_ends
 threaded_empty s links id nobody = record {
   first = nobody;
@@ -50,6 +51,7 @@ first_is_front s id f stamps sort h = record {
         let lt : h.entry.stamp < other.stamp = omega arith in
         before_from h.entry other (record { keys = rw (a, b) (omega arith); stamps = λ e. lt })
 
+-- the front that a queue answers is its front, and none if nobody waits there
 pub form_front : (s : QueueState) (links : List Link) (q : Queue) → HasOwnStamps s → IsHeap q.heap.items → IsOfOneSort s.entries links q → MatchOption (front_in q) (NobodyIn s q.id) (IsFront s q.id)
 form_front s links q stamps heap (by_links h empty) = go q.ends.first q.heap.items empty h.first
   where
@@ -58,20 +60,24 @@ form_front s links q stamps heap (by_links h empty) = go q.ends.first q.heap.ite
     go (Some f) items e k = first_is_front s q.id f stamps h.sort k
 form_front s links q stamps heap (by_heap h none) = rw none (holds_front s q.id q.heap.items stamps heap h)
 
+-- such an answer is the front as it is computed
 pub front_answer : (s : QueueState) (id : ℕ) (o : Option ℕ) → MatchOption o (NobodyIn s id) (IsFront s id) → o ≡ front_of s id
 front_answer s id None nobody = sym (no_front s id nobody)
 front_answer s id (Some t) f = sym (front_is s id t f)
 
+-- who is answered is the front
 pub front_first : (s : QueueState) (id : ℕ) (o : Option ℕ) → MatchOption o (NobodyIn s id) (IsFront s id) → IfSome o (IsFront s id)
 front_first s id None nobody = tt
 front_first s id (Some t) f = f
 
+-- where none is answered nobody waits
 pub front_none : (s : QueueState) (id : ℕ) (o : Option ℕ) → MatchOption o (NobodyIn s id) (IsFront s id) → IfNone o (NobodyIn s id)
 front_none s id None nobody = nobody
 front_none s id (Some t) f = tt
 
 -- ---- how many
 
+-- the length that a queue answers is how many wait there
 pub form_len : (s : QueueState) (links : List Link) (q : Queue) → IsOfOneSort s.entries links q → len_in q ≡ len_of s q.id
 form_len s links q (by_links h empty) = go q.ends.first q.heap.items empty h.first
   where
@@ -106,6 +112,7 @@ array_mixes : (s : QueueState) (id : ℕ) (items : List Item) → Holds s.entrie
 array_mixes s id [] h = sym (nobody_clashes s id Fifo (λ t p w. let is = h.all t p w in let inside = is.inside in absurd (omega arith)))
 array_mixes s id (x ∷ xs) h = sym (clash_at s id x.task (entry_for id x.priority) Fifo (h.there 0 x (omega arith), refl) refl)
 
+-- a queue mixes with a rank where the rank clashes with one who waits there
 pub form_clash : (s : QueueState) (rank : Rank) (links : List Link) (q : Queue) → IsOfOneSort s.entries links q → mixes rank q ≡ list_any (clashes q.id rank) s.entries
 form_clash s Fifo links q (by_links h empty) = rw empty (sym (sorted_out s q.id Fifo (λ t p w. rw (h.sort t p w) refl)))
 form_clash s (Vtime k) links q (by_links h empty) = go q.ends.first h.first

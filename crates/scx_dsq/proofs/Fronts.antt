@@ -45,6 +45,7 @@ not_first s id t f k (Some q) n e = go (cases_Bool (q.queue == id))
         list_all_at (λ o. not (is_ahead id q o)) s.entries t None (waits_below s.entries t f.entry f.waits.0) (rw ahead refl) in
         rw (here, all) refl
 
+-- the front is the one that is computed
 pub front_is : (s : QueueState) (id t : ℕ) → IsFront s id t → front_of s id ≡ Some t
 unfolding front_of
 front_is s id t f =
@@ -55,6 +56,7 @@ front_is s id t f =
         rw f.waits.0 (and_from (f.entry.queue == id) _ (eq-eqb f.entry.queue id f.waits.1)
         (list_all-from_AllPass (λ o. not (is_ahead id f.entry o)) s.entries (λ k d lt. rw (behind_front s id t f k (get_or s.entries k d) (get_or_default s.entries k None d lt)) refl)))
 
+-- where nobody waits no front is computed
 pub no_front : (s : QueueState) (id : ℕ) → NobodyIn s id → front_of s id ≡ None
 unfolding front_of
 no_front s id nobody = no_position (is_first s.entries id) s.entries (λ k d lt. go k (get_or s.entries k d) (get_or_default s.entries k None d lt))
@@ -84,6 +86,7 @@ count_none p (x ∷ xs) out =
     let e : count_by p (x ∷ xs) ≡ cond (p x) 1 0 + count_by p xs = sum_by-cons (λ y. cond (p y) 1 0) x xs in
     e ∙ rw (here, rest) refl
 
+-- where nobody waits the length is 0
 pub nobody_counts : (s : QueueState) (id : ℕ) → NobodyIn s id → len_of s id ≡ 0
 nobody_counts s id nobody = count_none (is_in id) s.entries (λ k d lt. go k (get_or s.entries k d) (get_or_default s.entries k None d lt))
   where
@@ -93,6 +96,7 @@ nobody_counts s id nobody = count_none (is_in id) s.entries (λ k d lt. go k (ge
 
 -- ---- sorts
 
+-- where nobody waits nothing clashes
 pub nobody_clashes : (s : QueueState) (id : ℕ) (rank : Rank) → NobodyIn s id → list_any (clashes id rank) s.entries ≡ false
 nobody_clashes s id rank nobody =
     list_any_none (clashes id rank) s.entries (λ k d lt. go k (get_or s.entries k d) (get_or_default s.entries k None d lt))

@@ -19,6 +19,7 @@ fewer levels digits n deep lt = go (cases_lt levels digits)
     go (inl is) = is
     go (inr le) = let more = pow_mono le in absurd (omega (arith, more, deep, lt))
 
+-- no item of the array is of a task that isn't there
 pub absent_is_apart : (items : List Item) (t k : ℕ) (d : Item) → k < length items → IsAbsent items t → (slice_index_or items k d).task ≢ t
 absent_is_apart items t k d lt out e = both_ways _ out (list_any_at (λ (x : Item). x.task == t) items k d lt (eq-eqb (slice_index_or items k d).task t e))
 
@@ -28,6 +29,7 @@ written_back n ys zs e = subst (λ m. take m (ys ++ drop (length ys) zs) ≡ ys)
 
 -- ---- up or down
 
+-- where the item leaves before its parent it alone may be in the wrong order
 pub heap_to_rise : (items : List Item) (at : ℕ) → IsHeapAround items at → Leads items at (parent at) → 0 < at → IsHeapBut items at
 heap_to_rise items at h leads up = record {
   others = λ k some lt n d e. go k some lt n d e (cases_eq (parent k) at);
@@ -40,6 +42,7 @@ heap_to_rise items at h leads up = record {
         (trans (slice_index_or items k d).priority (slice_index_or items at e).priority (slice_index_or items (parent at) e).priority t (leads e e))))
     go k some lt n d e (inr m) = h.others k some lt n m d e
 
+-- where it doesn't, only those right behind it may be
 pub heap_to_sink : (items : List Item) (at : ℕ) → IsHeapAround items at → (0 < at → IsBehind items at (parent at)) → IsHeapAbove items at
 heap_to_sink items at h behind = record {
   others = λ k some lt m. go k some lt m (cases_eq k at);
@@ -50,6 +53,7 @@ heap_to_sink items at h behind = record {
     go k some lt m (inl same) = subst (λ j. IsBehind items j (parent j)) (sym same) (behind (subst (λ j. 0 < j) same some))
     go k some lt m (inr n) = h.others k some lt n m
 
+-- a way up, after at most one comparison more, is a way that was settled
 pub settled_up : (old new : List Item) (at n m : ℕ) → at < length old → Rose old new at n → m ≤ n + 1 → Settled old new m
 settled_up old new at n m within h few = record {
   levels = h.levels;
@@ -60,6 +64,7 @@ settled_up old new at n m within h few = record {
   differs = h.differs;
 }
 
+-- and so is a way down
 pub settled_down : (old new : List Item) (at n m : ℕ) → Sank old new at (length old) n → m ≤ n + 1 → Settled old new m
 settled_down old new at n m h few = record {
   levels = h.levels;
@@ -82,6 +87,7 @@ module _ (items : List Item) (x : Item) where
   kept_pushed : (k : ℕ) (d : Item) → k < length items → slice_index_or (items ++ x ∷ []) k d ≡ slice_index_or items k d
   kept_pushed k d lt = get_or_append_left items (x ∷ []) d k lt
 
+  -- a heap with one item more at its end is one but for that position
   pub heap_pushed : IsHeap items → IsHeapBut (items ++ x ∷ []) (length items)
   heap_pushed h = record {
     others = λ k some lt n d e. let inside = within_pushed k lt n in
@@ -89,6 +95,7 @@ module _ (items : List Item) (x : Item) where
     behind = λ k some lt is up. absurd (omega (arith, lt, length_push items x, is, up, some));
   }
 
+  -- each task has its spot, the new one at the end
   pub spots_pushed : (spots : List ℕ) → x.task < length spots → IsAbsent items x.task → HasSpots items spots → HasSpots (items ++ x ∷ []) (set spots x.task (length items))
   spots_pushed spots within out h k d e lt = go (cases_eq k (length items))
     where
@@ -98,6 +105,7 @@ module _ (items : List Item) (x : Item) where
           let inside = within_pushed k lt n in
           rw (kept_pushed k d inside, length-set spots x.task (length items), get_or-set_other spots x.task (slice_index_or items k d).task (length items) e (absent_is_apart items x.task k d inside out)) (h k d e inside)
 
+  -- the spots of other tasks stay
   pub keeps_pushed : (spots : List ℕ) → KeepsOthers (items ++ x ∷ []) spots (set spots x.task (length items))
   keeps_pushed spots = record {
     long = length-set spots x.task (length items);
@@ -111,6 +119,7 @@ module _ (items : List Item) (x : Item) where
       go (inl lt) = kept_pushed k d lt
       go (inr le) = get_or_past (items ++ x ∷ []) k d (omega (arith, le, n, length_push items x)) ∙ sym (get_or_past items k d le)
 
+  -- a way up from the end is cheap
   pub cheap_pushed : (new : List Item) (n : ℕ) → Rose (items ++ x ∷ []) new (length items) n → IsCheap items new n
   cheap_pushed new n h = record {
     comparisons = λ digits lt. let below = fewer h.levels digits (length items + 1) h.depth lt in let cost = h.cost in omega arith;
@@ -121,7 +130,7 @@ module _ (items : List Item) (x : Item) where
     };
   }
 
--- ---- an item taken out, in whose place the last one comes
+-- ---- an item taken out, to whose position the last one comes
 
 pub record Taken (items now : List Item) (at : ℕ) : Type 0 where
   pub inside : at < length items
@@ -137,6 +146,7 @@ task_within items spots t h is = go items is.position is.inside is.there h
     go [] k lt there stand = absurd (omega arith)
     go (x ∷ xs) k lt there stand = subst (λ u. u < length spots) (there x) (stand k x 0 lt).0
 
+-- a task's spot is the position of its item
 pub spot_is : (items : List Item) (spots : List ℕ) (t : ℕ) → HasSpots items spots → (is : IsIn items t) → slice_index_or spots t 0 ≡ is.position
 spot_is items spots t h is = go items is.position is.inside is.there h
   where
@@ -144,9 +154,11 @@ spot_is items spots t h is = go items is.position is.inside is.there h
     go [] k lt there stand = absurd (omega arith)
     go (x ∷ xs) k lt there stand = subst (λ u. slice_index_or spots u 0 ≡ k) (there x) (stand k x 0 lt).1
 
+-- a task's spot lies in the array
 pub spot_within : (items : List Item) (spots : List ℕ) (t : ℕ) → HasSpots items spots → IsIn items t → slice_index_or spots t 0 < length items
 spot_within items spots t h is = subst (λ k. k < length items) (sym (spot_is items spots t h is)) is.inside
 
+-- the last item takes the position of the one that is taken out
 pub taken_out : (items now : List Item) (at : ℕ) (x : Item) → at < length items → now ≡ swap_remove items at x → Taken items now at
 taken_out items now at x lt e = record {
   inside = lt;
@@ -161,6 +173,7 @@ taken_out items now at x lt e = record {
     filled : List Item
     filled = set items at end
 
+-- the items are the one that was taken out and those that are left
 pub permuted : (items now : List Item) (at : ℕ) (x : Item) → at < length items → x ≡ slice_index_or items at x → now ≡ swap_remove items at x → IsPermutation items (x ∷ now)
 permuted items now at x lt is e = subst (λ l. IsPermutation items (x ∷ l)) (sym e) (IsPermutation-swap_remove items at x lt is)
 
@@ -177,6 +190,7 @@ module _ (items now : List Item) (at : ℕ) (taken : Taken items now at) where
   kept : (k : ℕ) (d : Item) → k ≢ at → k + 1 < length items → slice_index_or now k d ≡ slice_index_or items k d
   kept = taken.kept
 
+  -- a heap from which one was taken out is one but around its position
   pub heap_taken : at < length now → IsHeap items → IsHeapAround now at
   heap_taken within h = record {
     others = λ k some lt n m d e. rw (kept k d n (omega (arith, lt, long)), kept (parent k) e m (omega (arith, lt, long, some))) (h k some (omega (arith, lt, long)) d e);
@@ -205,6 +219,7 @@ module _ (items now : List Item) (at : ℕ) (taken : Taken items now at) where
         let same : k ≡ length items - 1 = sym here ∙ ap (λ t. slice_index_or spots t 0) s ∙ there in
         omega (arith, same, lt, long)
 
+    -- each task that is left has its spot, once that of the moved one is written
     pub spots_moved : HasSpots now (set spots y.task at)
     spots_moved k d e lt = go (cases_eq k at)
       where
@@ -213,15 +228,18 @@ module _ (items now : List Item) (at : ℕ) (taken : Taken items now at) where
         go (inr n) =
             rw (kept k d n (omega (arith, lt, long)), length-set spots y.task at, get_or-set_other spots y.task (slice_index_or items k d).task at e (apart_from_last k d lt)) (h k d e (omega (arith, lt, long)))
 
+    -- the spots of tasks that aren't there stay
     pub keeps_moved : KeepsOthers items spots (set spots y.task at)
     keeps_moved = record {
       long = length-set spots y.task at;
       same = λ t e out. get_or-set_other spots y.task t at e (λ s. absent_is_apart items t (length items - 1) y (omega (arith, inside)) out (ap (λ (z : Item). z.task) (sym (is_last y)) ∙ sym s));
     }
 
+  -- where the last one was taken out, each task that is left has its spot
   pub spots_taken : (spots : List ℕ) → length now ≤ at → HasSpots items spots → HasSpots now spots
   spots_taken spots past h k d e lt = rw (kept k d (λ s. absurd (omega (arith, s, past, lt))) (omega (arith, lt, long))) (h k d e (omega (arith, lt, long)))
 
+  -- the task whose spot that was isn't there any more
   pub gone : (spots : List ℕ) (t : ℕ) → HasSpots items spots → slice_index_or spots t 0 ≡ at → IsAbsent now t
   gone spots t h here = list_any_none (λ (x : Item). x.task == t) now (λ k d lt. ne_eqb (slice_index_or now k d).task t (λ e. go k d lt e (cases_eq k at)))
     where
@@ -243,6 +261,7 @@ module _ (items now : List Item) (at : ℕ) (taken : Taken items now at) where
       go (inl lt) = kept k d n lt
       go (inr le) = get_or_past now k d (omega (arith, le, long)) ∙ sym (get_or_past items k d (omega (arith, le, m)))
 
+  -- a way that was settled after one was taken out is cheap
   pub cheap_settled : (new : List Item) (n : ℕ) → at < length now → Settled now new n → IsCheap items new n
   cheap_settled new n within h = record {
     comparisons = λ digits lt. let below = fewer h.levels digits (length items + 1) (let depth = h.depth in omega (arith, depth, long)) lt in let cost = h.cost in omega arith;
@@ -260,6 +279,7 @@ module _ (items now : List Item) (at : ℕ) (taken : Taken items now at) where
     };
   }
 
+  -- the last one is taken out without a comparison, which is cheap
   pub cheap_taken : (n : ℕ) → n ≡ 0 → length now ≤ at → IsCheap items now n
   cheap_taken n none past = record {
     comparisons = λ digits lt. omega (arith, none);
@@ -270,9 +290,11 @@ module _ (items now : List Item) (at : ℕ) (taken : Taken items now at) where
     };
   }
 
+-- who isn't there isn't among the same items in another order
 pub still_gone : (now new : List Item) (t : ℕ) → IsPermutation now new → IsAbsent now t → IsAbsent new t
 still_gone now new t moved out = sym (list_any-IsPermutation (λ (x : Item). x.task == t) now new moved) ∙ out
 
+-- one after the other, both changes keep the spots of tasks that weren't there
 pub keeps_taken : (items now : List Item) (x : Item) (first second third : List ℕ) → IsPermutation items (x ∷ now) → KeepsOthers items first second → KeepsOthers now second third → KeepsOthers items first third
 keeps_taken items now x first second third moved h more = record {
   long = more.long ∙ h.long;

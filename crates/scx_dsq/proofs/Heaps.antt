@@ -17,10 +17,12 @@ use Rattle.scx_dsq.proofs.Orders.{Below, before_from, before-asym, before-trans}
 as_place : Priority → Entry
 as_place p = record { queue = 0; rank = Vtime p.key; stamp = p.stamp }
 
+-- no two priorities come before each other
 pub asym : (p q : Priority) → comes_before p q ≡ true → comes_before q p ≡ false
 unfolding as_place
 asym p q h = before-asym (as_place p) (as_place q) h
 
+-- what comes before one that comes before a third comes before the third
 pub trans : (p q r : Priority) → comes_before p q ≡ true → comes_before q r ≡ true → comes_before p r ≡ true
 unfolding as_place
 trans p q r h k = before-trans (as_place p) (as_place q) (as_place r) h k
@@ -41,6 +43,7 @@ not_before p q h = record { keys = keys (cases_lt p.key q.key); stamps = λ e. s
 same_priority : (p r : Priority) → r.key ≡ p.key → r.stamp ≡ p.stamp → p ≡ r
 same_priority p r e f = rw (e, f) refl
 
+-- no priority comes before itself
 pub itself : (x : Priority) → comes_before x x ≡ false
 itself x = false_from_ne_true _ (λ t. both_ways _ (asym x x t) t)
 
@@ -81,6 +84,7 @@ not-trans p q r h k = false_from_ne_true _ (λ t. both_ways _ (reversed (cases_e
 list_any_here : (t : ℕ) (ts : List ℕ) → list_any (λ p. p == t) (t ∷ ts) ≡ true
 list_any_here t ts = list_any_at (λ p. p == t) (t ∷ ts) 0 0 (omega arith) (eq-eqb t t refl)
 
+-- what is none of them is neither the first nor one of the rest
 pub not_there : (k t : ℕ) (ts : List ℕ) → list_any (λ p. p == k) (t ∷ ts) ≡ false → (k ≢ t) × (list_any (λ p. p == k) ts ≡ false)
 not_there k t ts out =
     let parts = or_parts (t == k) (list_any (λ p. p == k) ts) out in
@@ -115,9 +119,11 @@ pub record Rises (old now : List Item) (start at steps : ℕ) : Type 0 where
   pub differs : DiffersAt positions old now
   pub here : list_any (λ p. p == at) positions ≡ true
 
+-- at the start the item has come up no level, by no step
 pub rises_none : (old : List Item) (start : ℕ) → Rises old old start start 0
 rises_none old start = record { levels = 0; depth = omega arith; cost = omega arith; positions = start ∷ []; few = omega arith; differs = λ k d out. refl; here = list_any_here start [] }
 
+-- after an exchange with its parent it is at the parent's position, by one step more
 pub rises_more : (old now new : List Item) (start at n m : ℕ) → Rises old now start at n → m ≤ n + 1 → 0 < at → SwappedAt now new at (parent at) → Rises old new start (parent at) m
 rises_more old now new start at n m h few up swapped = record {
   levels = suc h.levels;
@@ -130,6 +136,7 @@ rises_more old now new start at n m h few up swapped = record {
   here = list_any_here (parent at) h.positions;
 }
 
+-- where it stays below its parent the way up is done, by one step more
 pub rose : (old now : List Item) (start at n m : ℕ) → Rises old now start at n → m ≤ n + 1 → 0 < at → Rose old now start m
 rose old now start at n m h few up = record {
   levels = suc h.levels;
@@ -140,6 +147,7 @@ rose old now start at n m h few up = record {
   differs = h.differs;
 }
 
+-- and it is done at the top, by no step more
 pub rose_here : (old now : List Item) (start at n : ℕ) → Rises old now start at n → Rose old now start n
 rose_here old now start at n h = record { levels = h.levels; depth = whole h.levels start at h.depth; cost = h.cost; positions = h.positions; few = h.few; differs = h.differs }
 
@@ -148,12 +156,14 @@ pub record Sinks (old now : List Item) (start at steps : ℕ) : Type 0 where
   pub path : Sank old now start (at + 1) steps
   pub here : list_any (λ p. p == at) path.positions ≡ true
 
+-- at the start the item has sunk no level, by no step
 pub sinks_none : (old : List Item) (start : ℕ) → Sinks old old start start 0
 sinks_none old start = record {
   path = record { levels = 0; depth = omega arith; cost = omega arith; positions = start ∷ []; few = omega arith; differs = λ k d out. refl };
   here = list_any_here start [];
 }
 
+-- after an exchange with a child it is at the child's position, by two steps more
 pub sinks_more : (old now new : List Item) (start at child n m : ℕ) → Sinks old now start at n → m ≤ n + 2 → 2 * (at + 1) ≤ child + 1 → SwappedAt now new child at → Sinks old new start child m
 sinks_more old now new start at child n m h few twice swapped = record {
   path = record {
@@ -168,6 +178,7 @@ sinks_more old now new start at child n m h few twice swapped = record {
   here = list_any_here child h.path.positions;
 }
 
+-- where it stays above its children the way down is done, by two steps more
 pub sank : (old now : List Item) (start at child n m : ℕ) → Sinks old now start at n → m ≤ n + 2 → 2 * (at + 1) ≤ child → Sank old now start child m
 sank old now start at child n m h few twice = record {
   levels = suc h.path.levels;
@@ -178,6 +189,7 @@ sank old now start at child n m h few twice = record {
   differs = h.path.differs;
 }
 
+-- and it is done where there are no children, by no step more
 pub sank_here : (old now : List Item) (start at within n : ℕ) → Sinks old now start at n → at < within → Sank old now start within n
 sank_here old now start at within n h lt = record {
   levels = h.path.levels;
@@ -246,12 +258,15 @@ module _ (items new : List Item) (at : ℕ) (up : 0 < at) (within : at < length 
           subst (λ j. comes_before (slice_index_or items k d).priority (slice_index_or items j d).priority ≡ false) child (h.others k some (omega (arith, lt, long)) m d d) in
           rw (here, far) (not-trans (slice_index_or items k d).priority (slice_index_or items (parent at) d).priority (slice_index_or items (parent (parent at)) e).priority old (grand d))
 
+  -- after an exchange with its parent only the item there now may leave before its own parent
   pub exchanged : IsHeapBut new (parent at)
   exchanged = record { others = others; behind = behind }
 
+-- a heap but for the first position is one
 pub heap_at_root : (items : List Item) → IsHeapBut items 0 → IsHeap items
 heap_at_root items h k some lt = h.others k some lt (λ e. absurd (omega arith))
 
+-- a heap but for one position that doesn't leave before its parent is one
 pub heap_here : (items : List Item) (at : ℕ) → IsHeapBut items at → ((d e : Item) → comes_before (slice_index_or items at d).priority (slice_index_or items (parent at) e).priority ≡ false) → IsHeap items
 heap_here items at h late k some lt = go (cases_eq k at)
   where
@@ -300,12 +315,15 @@ module _ (items new : List Item) (at c : ℕ) (h : IsHeapAbove items at) (child 
       let to_child : comes_before (slice_index_or items k d).priority (slice_index_or items c e).priority ≡ false = subst (λ j. comes_before (slice_index_or items k d).priority (slice_index_or items j e).priority ≡ false) is old in
       rw (child.of, kept k d (λ y. absurd (omega arith)) (λ y. absurd (omega arith)), parent_of e) to_child
 
+  -- after an exchange with the first child only those right behind that position may leave before it
   pub sunk : IsHeapAbove new c
   sunk = record { others = sunk_others; above = sunk_above }
 
+-- a heap but for those behind one position, behind which none are, is one
 pub heap_at_leaf : (items : List Item) (at : ℕ) → IsHeapAbove items at → length items ≤ 2 * at + 1 → IsHeap items
 heap_at_leaf items at h past k some lt = h.others k some lt (λ e. absurd (omega arith))
 
+-- and so is one whose first child doesn't leave before it
 pub heap_above : (items : List Item) (at c : ℕ) → IsHeapAbove items at → IsFirstChild items at c → ((d e : Item) → comes_before (slice_index_or items c d).priority (slice_index_or items at e).priority ≡ false) → IsHeap items
 heap_above items at c h child late k some lt d e = go (cases_eq (parent k) at)
   where

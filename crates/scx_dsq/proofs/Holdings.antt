@@ -1,4 +1,4 @@
--- A heap holds its queue, whatever task's place changes, and its first item is the queue's front.
+-- A heap holds its queue, whatever task's entry changes, and its first item is the queue's front.
 use Rattle.std.proofs.Common.{◌≡◌, ◌≢◌, ℕ, zero, suc, ◌+◌, ◌<◌, ◌≤◌, true, false, ◌==◌, ◌⊎◌, inl, inr, List, [], ◌∷◌, ◌++◌, length, set, slice_index_or, All, Contains, count_by, Option, Some, None, MatchOption, if◌then◌else◌, refl, sym, ap, ◌∙◌, subst, arith}
 use Rattle.std.specs.List.{list_any}
 use Rattle.std.specs.List.Sorted.{IsPermutation}
@@ -44,20 +44,23 @@ in_moved items new t moved h = let f = found items t h in stands_in new t f.item
 
 -- ---- who waits there
 
--- the place of a task that waits there is its item's
+-- the entry of a task that waits there is its item's
 pub holds_entry : (entries : Entries) (id : ℕ) (items : List Item) (t : ℕ) (p : Entry) (x : Item) → Holds entries id items → entry_at entries t ≡ Some p → Contains items x → x.task ≡ t → entry_for id x.priority ≡ p
 holds_entry entries id items t p x h e (k, lt, same) is =
     let there : entry_at entries x.task ≡ Some (entry_for id x.priority) = subst (λ (y : Item). entry_at entries y.task ≡ Some (entry_for id y.priority)) same (h.there k x lt) in
     same_entry entries t (entry_for id x.priority) p (subst (λ v. entry_at entries v ≡ Some (entry_for id x.priority)) is there) e
 
+-- whoever waits there waits by virtual time
 pub holds_vtime : (entries : Entries) (id : ℕ) (items : List Item) → Holds entries id items → (t : ℕ) (p : Entry) → In entries id t p → same_sort p.rank Fifo ≡ false
 holds_vtime entries id items h t p w =
     let f = found items t (h.all t p w) in
     subst (λ (q : Entry). same_sort q.rank Fifo ≡ false) (holds_entry entries id items t p f.item h w.0 f.contained f.is) refl
 
+-- a task that doesn't wait there isn't in the array
 pub holds_absent : (entries : Entries) (id : ℕ) (items : List Item) (t : ℕ) → is_in id (entry_at entries t) ≡ false → Holds entries id items → IsAbsent items t
 holds_absent entries id items t out h = list_any_none (λ (x : Item). x.task == t) items (λ k d lt. ne_eqb (slice_index_or items k d).task t (another entries id t (slice_index_or items k d).task (entry_for id (slice_index_or items k d).priority) out (h.there k d lt) refl))
 
+-- an array with nobody holds a queue in which nobody waits
 pub holds_empty : (s : QueueState) (id : ℕ) → NobodyIn s id → Holds s.entries id []
 holds_empty s id nobody = record {
   there = All-nil _;
@@ -67,6 +70,7 @@ holds_empty s id nobody = record {
 
 -- ---- a change of a task that isn't in the queue, before or after
 
+-- the array still holds the queue
 pub holds_others : (entries : Entries) (id : ℕ) (items : List Item) (t : ℕ) (new : Option Entry) → t < length entries
     → is_in id (entry_at entries t) ≡ false → is_in id new ≡ false → Holds entries id items → Holds (set entries t new) id items
 holds_others entries id items t new within out stays h = record {
@@ -86,6 +90,7 @@ holds_others entries id items t new within out stays h = record {
 
 -- ---- a push
 
+-- the items with one more hold the queue with its task
 pub holds_with : (entries : Entries) (id : ℕ) (items new : List Item) (x : Item) → x.task < length entries → entry_at entries x.task ≡ None
     → IsPermutation (items ++ x ∷ []) new → Holds entries id items → Holds (set entries x.task (Some (entry_for id x.priority))) id new
 holds_with entries id items new x within free moved h = record {
@@ -118,6 +123,7 @@ holds_with entries id items new x within free moved h = record {
 
 -- ---- a removal
 
+-- the items without one hold the queue without its task
 pub holds_without : (entries : Entries) (id : ℕ) (items new : List Item) (x : Item) → x.task < length entries → IsPermutation items (x ∷ new) → IsAbsent new x.task
     → Holds entries id items → Holds (set entries x.task None) id new
 holds_without entries id items new x within moved gone h = record {
@@ -159,7 +165,7 @@ spots_elsewhere items busy old new out keeps h k d e lt =
     let stands = h k d e lt in
     (subst (λ n. (slice_index_or items k d).task < n) (sym keeps.long) stands.0, keeps.same (slice_index_or items k d).task e (out k d lt) ∙ stands.1)
 
--- no task is held by two queues
+-- no task is in the heaps of two queues
 pub holds_apart : (entries : Entries) (id other_id : ℕ) (items others : List Item) → id ≢ other_id → Holds entries id items → Holds entries other_id others → All (λ y. IsAbsent items y.task) others
 holds_apart entries id other_id items others n h k j d lt =
     holds_absent entries id items (slice_index_or others j d).task (subst (λ o. is_in id o ≡ false) (sym (k.there j d lt)) (ne_eqb other_id id (λ e. n (sym e)))) h
@@ -195,6 +201,7 @@ heap_first items h k lt = go k k (omega arith) lt
     go zero k le lt = same k (omega arith) lt
     go (suc n) k le lt = by k lt (cases_eq k 0) (λ some. go n (parent k) (omega (arith, some, le)) (omega (arith, some, lt)))
 
+-- the first item's task is the front, and there is none if nobody waits
 pub holds_front : (s : QueueState) (id : ℕ) (items : List Item) → HasOwnStamps s → IsHeap items → Holds s.entries id items → MatchOption (first_item items) (NobodyIn s id) (IsFront s id)
 holds_front s id [] stamps heap h = λ t p w. let is = h.all t p w in let inside = is.inside in absurd (omega arith)
 holds_front s id (r ∷ rs) stamps heap h = record {

@@ -1,4 +1,4 @@
--- One queue and one task's place change, and the rest is kept.
+-- One queue and one task's entry change, and the rest is kept.
 use Rattle.std.proofs.Common.{◌≡◌, ◌≢◌, ℕ, zero, suc, ◌<◌, false, List, [], ◌∷◌, length, get_or, set, Option, vec_capacity, refl, sym, ap, ◌∙◌, subst, arith, ◌⊎◌, inl, inr}
 use Rattle.std.proofs.lemmas.Bool.{cases_eq, cases_order}
 use Rattle.std.proofs.lemmas.List.{get_or-set_same, get_or-set_other, length-set, length-map, map-set, get_or_default}
@@ -21,11 +21,13 @@ ids_set [] k new e = refl
 ids_set (q ∷ live) zero new e = ap (λ id. id ∷ ids_of live) (sym (e q))
 ids_set (q ∷ live) (suc k) new e = ap (λ ids. q.id ∷ ids) (ids_set live k new e)
 
+-- the id at a position is that of the queue there
 pub id_at : (live : List Queue) (k : ℕ) (q : Queue) → get_or (ids_of live) k q.id ≡ (get_or live k q).id
 id_at [] k q = refl
 id_at (x ∷ live) zero q = refl
 id_at (x ∷ live) (suc k) q = id_at live k q
 
+-- states with the same parts are the same
 pub same_state : (room other_room : ℕ) (ids other_ids : List ℕ) (entries other_places : Entries) (pushes other_pushes : ℕ) → room ≡ other_room → ids ≡ other_ids → entries ≡ other_places → pushes ≡ other_pushes
     → ◌≡◌ {A = QueueState} (record { room = room; ids = ids; entries = entries; pushes = pushes }) (record { room = other_room; ids = other_ids; entries = other_places; pushes = other_pushes })
 same_state room other_room ids other_ids entries other_places pushes other_pushes e f g h = rw (e, f, g, h) refl
@@ -42,9 +44,9 @@ apart i h j k q n in_j in_k same = go (cases_order j k)
     go (inr (inl lt)) = h.sound.queues.distinct j k q.id lt (omega (arith, length-map i.live.items (λ (x : Queue). x.id))) one
     go (inr (inr lt)) = h.sound.queues.distinct k j q.id lt (omega (arith, length-map i.live.items (λ (x : Queue). x.id))) (sym one)
 
--- ---- a task's place changes in one queue
+-- ---- a task's entry changes in one queue
 
--- one queue, one task's place, the links and the spots are other ones, and the rest is as before
+-- one queue, one task's entry, the links and the spots are other ones, and the rest is as before
 pub record IsChanged (i j : Inside) (k t : ℕ) (new : Queue) (entry : Option Entry) (linked : List Link) (stood : List ℕ) (count : ℕ) : Type 0 where
   pub live : j.live.items ≡ set i.live.items k new
   pub order : j.order ≡ i.order
@@ -60,14 +62,17 @@ module _ (i j : Inside) (k t : ℕ) (q queue : Queue) (entry : Option Entry) (li
   same_ids : ids_of j.live.items ≡ ids_of i.live.items
   same_ids = ap ids_of c.live ∙ ids_set i.live.items k queue (λ d. ap (λ (x : Queue). x.id) (get_or_default i.live.items k d q in_live ∙ sym read) ∙ sym id)
 
+  -- the state has that entry, and else what it had
   pub changed_state : state_of j ≡ record { room = (state_of i).room; ids = (state_of i).ids; entries = set i.entries.items t entry; pushes = pushes }
   changed_state =
       same_state _ _ _ _ _ _ _ _ (omega (arith, ap (λ (qs : List Queue). length qs) c.live, length-set i.live.items k queue, ap (λ v. length v.items) c.spare))
       same_ids c.entries c.pushes
 
+  -- the arrays are the old ones but for that queue's
   pub changed_arrays : arrays_of j.live.items ≡ set (arrays_of i.live.items) k queue.heap.items
   changed_arrays = ap arrays_of c.live ∙ map-set (λ (x : Queue). x.heap.items) i.live.items k queue
 
+  -- the queues are kept, if this one is and the others take no notice
   pub changed_keeps : IsKept i → t < length i.entries.items → length links ≡ length i.links.items → length spots ≡ length i.spots.items
       → ((id : ℕ) → id ≢ q.id → (is_in id (entry_at i.entries.items t) ≡ false) × (is_in id entry ≡ false))
       → ((id : ℕ) → id ≢ q.id → (u : ℕ) (o : Entry) → In i.entries.items id u o → link_at links u ≡ link_at i.links.items u)

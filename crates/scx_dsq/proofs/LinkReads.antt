@@ -9,10 +9,12 @@ use Rattle.scx_dsq.specs.Links.{no_link, link_at, with_ahead, with_behind, links
 abbrev pub IsWithin : ℕ → Option ℕ → Type 0
 IsWithin n o = MatchOption o (Unit {0}) (λ t. t < n)
 
+-- as many links as before
 pub length-with_ahead : (links : List Link) (o x : Option ℕ) → length (with_ahead links o x) ≡ length links
 length-with_ahead links None x = refl
 length-with_ahead links (Some t) x = length-set links t (record { ahead = x; behind = (link_at links t).behind })
 
+-- and here too
 pub length-with_behind : (links : List Link) (o x : Option ℕ) → length (with_behind links o x) ≡ length links
 length-with_behind links None x = refl
 length-with_behind links (Some t) x = length-set links t (record { ahead = (link_at links t).ahead; behind = x })
@@ -65,18 +67,23 @@ module _ (links : List Link) (ends : Ends) (t : ℕ) (within : t < length links)
   still : IsWithin (length (set links t new)) ends.last
   still = subst (λ n. IsWithin n ends.last) (sym long) last
 
+  -- the links of tasks but for it and the last one stay
   pub appended_others : (u : ℕ) → u ≢ t → ends.last ≢ Some u → link_at (links_appended links ends t) u ≡ link_at links u
   appended_others u n m = behind_kept (set links t new) ends.last (Some t) u m ∙ get_or-set_other links t u new no_link n
 
+  -- it waits right behind the one that was last
   pub appended_ahead : (link_at (links_appended links ends t) t).ahead ≡ ends.last
   appended_ahead = ahead_stays (set links t new) ends.last (Some t) t still ∙ ap (λ (l : Link). l.ahead) (get_or-set_same links t new no_link within)
 
+  -- and nobody waits behind it
   pub appended_behind : ends.last ≢ Some t → (link_at (links_appended links ends t) t).behind ≡ None
   appended_behind n = ap (λ (l : Link). l.behind) (behind_kept (set links t new) ends.last (Some t) t n ∙ get_or-set_same links t new no_link within)
 
+  -- whom the others wait right behind stays
   pub appended_ahead-other : (u : ℕ) → u ≢ t → (link_at (links_appended links ends t) u).ahead ≡ (link_at links u).ahead
   appended_ahead-other u n = ahead_stays (set links t new) ends.last (Some t) u still ∙ ap (λ (l : Link). l.ahead) (get_or-set_other links t u new no_link n)
 
+  -- and the one that was last has it right behind
   pub appended_behind-last : (u : ℕ) → ends.last ≡ Some u → (link_at (links_appended links ends t) u).behind ≡ Some t
   appended_behind-last u e =
       subst (λ o. (link_at (with_behind (set links t new) o (Some t)) u).behind ≡ Some t) (sym e)
@@ -97,20 +104,25 @@ module _ (links : List Link) (t : ℕ) (ahead : IsWithin (length links) (link_at
   ahead_still : IsWithin (length middle) a
   ahead_still = subst (λ n. IsWithin n a) (sym (length-with_ahead links b a)) ahead
 
+  -- the links of tasks that were not beside it stay
   pub unlinked_others : (u : ℕ) → a ≢ Some u → b ≢ Some u → link_at (links_unlinked links t) u ≡ link_at links u
   unlinked_others u n m = behind_kept middle a b u n ∙ ahead_kept links b a u m
 
+  -- who was behind it is behind the one ahead of it
   pub unlinked_ahead : (u : ℕ) → b ≡ Some u → (link_at (links_unlinked links t) u).ahead ≡ a
   unlinked_ahead u e =
       ahead_stays middle a b u ahead_still
       ∙ subst (λ o. (link_at (with_ahead links o a) u).ahead ≡ a) (sym e) (ahead_here links u a (subst (IsWithin (length links)) e behind))
 
+  -- who was ahead of it is ahead of the one behind it
   pub unlinked_behind : (u : ℕ) → a ≡ Some u → (link_at (links_unlinked links t) u).behind ≡ b
   unlinked_behind u e =
       subst (λ o. (link_at (with_behind middle o b) u).behind ≡ b) (sym e) (behind_here middle u b (subst (IsWithin (length middle)) e ahead_still))
 
+  -- whom the others wait right behind stays
   pub unlinked_ahead-other : (u : ℕ) → b ≢ Some u → (link_at (links_unlinked links t) u).ahead ≡ (link_at links u).ahead
   unlinked_ahead-other u m = ahead_stays middle a b u ahead_still ∙ ap (λ (l : Link). l.ahead) (ahead_kept links b a u m)
 
+  -- who waits right behind the others stays
   pub unlinked_behind-other : (u : ℕ) → a ≢ Some u → (link_at (links_unlinked links t) u).behind ≡ (link_at links u).behind
   unlinked_behind-other u n = ap (λ (l : Link). l.behind) (behind_kept middle a b u n) ∙ behind_stays links b a u behind

@@ -28,6 +28,7 @@ no_spots spots k d e lt = absurd (omega arith)
 
 -- ---- a queue more
 
+-- with a queue more, which takes a spare heap, the queues are kept
 pub created_keeps : (i j : Inside) (id gap : ℕ) (heap : HeapState) → IsKept i → IsGap (ids_of i.live.items) i.order.items id gap → j.order.items ≡ insert i.order.items gap (length i.live.items) → vec_capacity i.order ≤ vec_capacity j.order
     → i.spare.items ≡ j.spare.items ++ heap ∷ [] → j.live.items ≡ i.live.items ++ record { id = id; ends = no_ends; heap = heap } ∷ [] → vec_capacity j.live ≡ vec_capacity i.live → j.entries ≡ i.entries → j.links ≡ i.links → j.spots ≡ i.spots → j.pushes ≡ i.pushes
     → IsKept j
@@ -86,6 +87,7 @@ created_arrays i live id heap h spare popped is =
 
 -- ---- no queue yet
 
+-- with none, and all heaps spare, they are
 pub new_keeps : (i : Inside) (tasks : ℕ) → i.live.items ≡ [] → All (λ heap. heap ≡ record { room = tasks; items = [] }) i.spare.items → i.entries.items ≡ replicate tasks None
     → length i.links.items ≡ tasks → length i.spots.items ≡ tasks → length i.spare.items ≤ vec_capacity i.live → i.order.items ≡ [] → length i.spare.items ≤ vec_capacity i.order → IsKept i
 new_keeps i tasks live spare entries links spots room order order_room = record {

@@ -54,6 +54,7 @@ AllPairs-insert {X} R xs i y within pairs front behind =
 
 -- ---- the order
 
+-- an id that has a gap in the order isn't there
 pub missing : (ids order : List ℕ) (id gap : ℕ) → IsOrder ids order → IsGap ids order id gap → list_any (λ other. other == id) ids ≡ false
 missing ids order id gap h g = list_any_none (λ other. other == id) ids (λ m d lt. ne_eqb (get_or ids m d) id (λ e. apart m lt (sym (get_or_default ids m d 0 lt) ∙ e)))
   where
@@ -70,6 +71,7 @@ missing ids order id gap h g = list_any_none (λ other. other == id) ids (λ m d
             by (inl before) = let less = g.below k m before in absurd (omega (arith, less, here))
             by (inr behind) = let more = g.above k m behind inside in absurd (omega (arith, more, here))
 
+-- the order with the new id at its gap is that of all
 pub order_with : (ids order : List ℕ) (id gap : ℕ) → IsOrder ids order → IsGap ids order id gap → IsOrder (ids ++ id ∷ []) (insert order gap (length ids))
 order_with ids order id gap h g = record {
   within = All-insert (λ a. a < length new) order gap (length ids) (All-weaker (λ a. a < length ids) (λ a. a < length new) (λ a lt. omega (arith, lt, long)) order h.within) (omega (arith, long));
@@ -98,9 +100,11 @@ order_with ids order id gap h g = record {
 
 -- ---- the queue that is named
 
+-- an id that the order names is there
 pub named : (ids order : List ℕ) (id k : ℕ) → IsOrder ids order → (k < length order) × ((d : ℕ) → get_or ids (get_or order k d) 0 ≡ id) → list_any (λ other. other == id) ids ≡ true
 named ids order id k h at = list_any_at (λ other. other == id) ids (get_or order k 0) 0 (h.within k 0 at.0) (eq-eqb _ id (at.1 0))
 
+-- and the queue that it names has it
 pub stands : (live : List Queue) (order : List ℕ) (id k a : ℕ) → IsOrder (ids_of live) order → (k < length order) × ((d : ℕ) → get_or (ids_of live) (get_or order k d) 0 ≡ id) → a ≡ get_or order k a
     → (a < length live) × ((q : Queue) → (get_or live a q).id ≡ id)
 stands live order id k a h at read = (
@@ -126,16 +130,18 @@ there live id k at = list_any_at (λ other. other == id) (ids_of live) k 0 withi
 
 -- ---- the search
 
--- the ids before one place are less, and those from the other on are greater
+-- the ids before one position are less, and those from the other on are greater
 pub record IsBetween (ids order : List ℕ) (id low high : ℕ) : Type 0 where
   pub least : low ≤ high
   pub most : high ≤ length order
   pub below : (k d : ℕ) → k < low → get_or ids (get_or order k d) 0 < id
   pub above : (k d : ℕ) → high ≤ k → k < length order → id < get_or ids (get_or order k d) 0
 
+-- at the beginning it may be anywhere
 pub whole : (ids order : List ℕ) (id : ℕ) → IsBetween ids order id 0 (length order)
 whole ids order id = record { least = omega arith; most = omega arith; below = λ k d lt. absurd (omega arith); above = λ k d le lt. absurd (omega arith) }
 
+-- where the id in the middle is less, it is behind that
 pub upper : (ids order : List ℕ) (id low high middle : ℕ) → IsOrder ids order → IsBetween ids order id low high → middle < high → ((d : ℕ) → get_or ids (get_or order middle d) 0 < id) → IsBetween ids order id (middle + 1) high
 upper ids order id low high middle h b lt less = record {
   least = omega (arith, lt);
@@ -151,6 +157,7 @@ upper ids order id low high middle h b lt less = record {
         let before : get_or ids (get_or order k d) 0 < get_or ids (get_or order middle d) 0 = h.ascending k middle d (omega (arith, le, n)) inside in
         omega (arith, before, less d)
 
+-- where that one is greater, it is before it
 pub lower : (ids order : List ℕ) (id low high middle : ℕ) → IsOrder ids order → IsBetween ids order id low high → low ≤ middle → middle < high → ((d : ℕ) → id < get_or ids (get_or order middle d) 0) → IsBetween ids order id low middle
 lower ids order id low high middle h b le lt more = record {
   least = le;
@@ -165,6 +172,7 @@ lower ids order id low high middle h b le lt more = record {
         let behind : get_or ids (get_or order middle d) 0 < get_or ids (get_or order k d) 0 = h.ascending middle k d (omega (arith, past, n)) inside in
         omega (arith, behind, more d)
 
+-- where nothing is left between both, there is the gap
 pub nothing_between : (ids order : List ℕ) (id low high : ℕ) → IsBetween ids order id low high → high ≤ low → IsGap ids order id low
 nothing_between ids order id low high b le = record { within = omega (arith, b.least, b.most); below = b.below; above = λ k d past inside. b.above k d (omega (arith, past, le)) inside }
 

@@ -1,4 +1,4 @@
--- The order of places: by key, then by stamp.
+-- The order of entries: by key, then by stamp.
 use Rattle.std.proofs.Common.{◌≡◌, ℕ, ◌<◌, ◌≤◌, Bool, true, false, inl, inr, nat_lt, ◌==◌, ◌&&◌, ◌||◌, arith, refl, sym}
 use Rattle.std.proofs.lemmas.Bool.{ltb-true, eqb-true, lt-ltb, eq-eqb, or_cases, and_parts, and_from, or_left, false_from_ne_true, cases_eq}
 use Rattle.scx_dsq.specs.declared.entries.Entry.{Entry}
@@ -9,6 +9,7 @@ pub record Below (k s l t : ℕ) : Type 0 where
   pub keys : k ≤ l
   pub stamps : k ≡ l → s < t
 
+-- what comes before has the lesser key, or the same and the lesser stamp
 pub before_says : (p q : Entry) → is_before p q ≡ true → Below (key_of p.rank) p.stamp (key_of q.rank) q.stamp
 before_says p q h =
     elim (or_cases (nat_lt (key_of p.rank) (key_of q.rank)) (key_of p.rank == key_of q.rank && nat_lt p.stamp q.stamp) h) [
@@ -20,6 +21,7 @@ before_says p q h =
           record { keys = omega arith; stamps = λ e. lt }
     ]
 
+-- and what has them comes before
 pub before_from : (p q : Entry) → Below (key_of p.rank) p.stamp (key_of q.rank) q.stamp → is_before p q ≡ true
 before_from p q h =
     elim (cases_eq (key_of p.rank) (key_of q.rank)) [
@@ -34,13 +36,14 @@ before_from p q h =
     or_from_right true y e = refl
     or_from_right false y e = e
 
+-- what is before one that is before a third is before the third
 pub before-trans : (p q r : Entry) → is_before p q ≡ true → is_before q r ≡ true → is_before p r ≡ true
 before-trans p q r h k =
     let a = before_says p q h in
     let b = before_says q r k in
     before_from p r (record { keys = omega (arith, a.keys, b.keys); stamps = λ e. omega (arith, a.keys, b.keys, a.stamps, b.stamps) })
 
--- no two places are before each other
+-- no two entries are before each other
 pub before-asym : (p q : Entry) → is_before p q ≡ true → is_before q p ≡ false
 before-asym p q h =
     let a = before_says p q h in

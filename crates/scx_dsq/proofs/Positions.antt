@@ -4,12 +4,13 @@ use Rattle.std.proofs.lemmas.Bool.{lt-ltb, le-ltb}
 use Rattle.std.proofs.lemmas.List.Sums.{position_or_len_is}
 use Rattle.std.specs.List.{position_or_len}
 
--- the first place that passes is the one that alone does
+-- the first position that passes is the one that alone does
 pub position_is : {X : Type 0} (p : X → Bool) (xs : List X) (i : ℕ) (d : X) → i < length xs → p (get_or xs i d) ≡ true → ((k : ℕ) → k ≢ i → p (get_or xs k d) ≡ false) → position p xs ≡ Some i
 position_is p xs i d within passes others =
     let e : position_or_len p xs ≡ i = position_or_len_is p xs i d (omega arith) (λ k lt. others k (omega arith)) (λ lt. passes) in
     rw (e, lt-ltb i (length xs) within) refl
 
+-- where none passes there is no position
 pub no_position : {X : Type 0} (p : X → Bool) (xs : List X) → ((k : ℕ) (d : X) → k < length xs → p (get_or xs k d) ≡ false) → position p xs ≡ None
 no_position p [] fails = refl
 no_position p (x ∷ xs) fails =

@@ -31,12 +31,14 @@ use Rattle.scx_dsq.proofs.Costs.{paid}
 links_long : (links : List Link) (q : Queue) (t : ℕ) → length (links_appended links q.ends t) ≡ length links
 links_long links q t = length-with_behind (set links t (record { ahead = q.ends.last; behind = None })) q.ends.last (Some t) ∙ length-set links t (record { ahead = q.ends.last; behind = None })
 
+-- an open queue takes the task at its end
 pub can_push_fifo : (i : Inside) (k id t : ℕ) (q : Queue) → IsKept i → t < length i.entries.items → IsOpen i k id t Fifo q → CanAppend i.links.items q t
 can_push_fifo i k id t q h within a =
     can_append (state_of i) i.links.items q t (next_entry (state_of i) id Fifo) h.sound.stamps within a.free (sym a.is) (λ u p e. h.sound.stamped u p e) h.links a.fits (row_at i k q h a.inside a.read).tasks
 
 module _ (i j : Inside) (k id t : ℕ) (q : Queue) (h : IsKept i) (within : t < length i.entries.items) (a : IsOpen i k id t Fifo q)
     (c : IsChanged i j k t (appended q t) (Some (next_entry (state_of i) id Fifo)) (links_appended i.links.items q.ends t) i.spots.items (i.pushes + 1)) where
+  -- the queues are kept
   pub pushed_fifo : IsKept j
   pushed_fifo =
       changed_keeps i j k t q (appended q t) (Some new) (links_appended i.links.items q.ends t) i.spots.items (i.pushes + 1) a.inside a.read refl c h within (links_long i.links.items q t) refl
@@ -60,6 +62,7 @@ module _ (i j : Inside) (k id t : ℕ) (q : Queue) (h : IsKept i) (within : t < 
       row : Keeps i.entries.items i.links.items i.spots.items q
       row = row_at i k q h a.inside a.read
 
+  -- and their state is that after the push
   pub pushed_fifo_state : state_of j ≡ pushed (state_of i) id t Fifo
   pushed_fifo_state =
       changed_state i j k t q (appended q t) (Some (next_entry (state_of i) id Fifo)) (links_appended i.links.items q.ends t) i.spots.items (i.pushes + 1) a.inside a.read refl c ∙ rw (not_refused i k id t Fifo q a) refl
@@ -95,6 +98,7 @@ entered_fifo i k id t q new links linked same is are = record {
 
 -- ---- by virtual time
 
+-- an open queue takes the item into its heap
 pub can_push_vtime : (i : Inside) (k id : ℕ) (x : Item) (q : Queue) → IsKept i → x.task < length i.entries.items → IsOpen i k id x.task (Vtime x.priority.key) q → CanInsert i.spots.items q x
 can_push_vtime i k id x q h within a =
     let row = row_at i k q h a.inside a.read in
@@ -113,6 +117,7 @@ spots_beside s links q r x spots stood n free h (by_heap other none) keeps stand
 
 module _ (i j : Inside) (k id : ℕ) (x : Item) (q new : Queue) (stood : List ℕ) (h : IsKept i) (within : x.task < length i.entries.items) (a : IsOpen i k id x.task (Vtime x.priority.key) q) (e : Inserted i.spots.items q x stood new)
     (late : x.priority.stamp ≡ i.pushes) (c : IsChanged i j k x.task new (Some (next_entry (state_of i) id (Vtime x.priority.key))) i.links.items stood (i.pushes + 1)) where
+  -- the queues are kept
   pub pushed_vtime : IsKept j
   pushed_vtime =
       changed_keeps i j k x.task q new (Some entry) i.links.items stood (i.pushes + 1) a.inside a.read e.id c h within refl e.others.long
@@ -139,10 +144,12 @@ module _ (i j : Inside) (k id : ℕ) (x : Item) (q new : Queue) (stood : List �
       here : entry_for q.id x.priority ≡ entry
       here = rw (a.is, late) refl
 
+  -- and their state is that after the push
   pub pushed_vtime_state : state_of j ≡ pushed (state_of i) id x.task (Vtime x.priority.key)
   pushed_vtime_state =
       changed_state i j k x.task q new (Some (next_entry (state_of i) id (Vtime x.priority.key))) i.links.items stood (i.pushes + 1) a.inside a.read e.id c ∙ rw (not_refused i k id x.task (Vtime x.priority.key) q a) refl
 
+  -- what the push costs in the heap it costs in all
   pub pushed_vtime_paid : (steps : ℕ) → IsCheap q.heap.items new.heap.items steps → IsPaid (value_of i) (value_of j) id steps
   pushed_vtime_paid steps cheap =
       let state = changed_state i j k x.task q new (Some (next_entry (state_of i) id (Vtime x.priority.key))) i.links.items stood (i.pushes + 1) a.inside a.read e.id c in

@@ -37,7 +37,7 @@ clash_read i k id rank q h lt read is =
 pub nobody_elsewhere : (s : QueueState) (id : ℕ) → IsSound s → exists s id ≡ false → NobodyIn s id
 nobody_elsewhere s id h out t p w = both_ways (exists s id) out (subst (λ v. exists s v ≡ true) w.1 (h.homes t p w.0))
 
--- the place that was read is the task's
+-- the entry that was read is the task's
 pub entry_read : (i : Inside) (t : ℕ) (o : Option Entry) → t < task_count (state_of i) → o ≡ get_or i.entries.items t o → entry_of (state_of i) t ≡ o
 entry_read i t o within read = sym (get_or_read i.entries.items t o within read None)
 
@@ -64,6 +64,7 @@ front_at i live k id q h e at read =
     let keeps = row_at i k q h queue.0 read in
     subst (λ v. MatchOption (front_in q) (NobodyIn (state_of i) v) (IsFront (state_of i) v)) queue.1 (form_front (state_of i) i.links.items q h.sound.stamps keeps.heap keeps.tasks)
 
+-- its length is how many wait there
 pub len_at : (i : Inside) (live : List Queue) (k id : ℕ) (q : Queue) → IsKept i → live ≡ i.live.items → (k < length live) × ((d : Queue) → (get_or live k d).id ≡ id) → q ≡ get_or i.live.items k q
     → len_in q ≡ len_of (state_of i) id
 len_at i live k id q h e at read =
@@ -82,6 +83,7 @@ pub record IsOpen (i : Inside) (k id t : ℕ) (rank : Rank) (q : Queue) : Type 0
   pub fits : mixes rank q ≡ false
   pub none : list_any (clashes id rank) i.entries.items ≡ false
 
+-- a queue that admits the task is open to it
 pub opened : (i : Inside) (k id t : ℕ) (rank : Rank) (q : Queue) → IsKept i → IsAdmitted i.live.items i.entries.items k id t rank → q ≡ get_or i.live.items k q → IsOpen i k id t rank q
 opened i k id t rank q h a read =
     let is : q.id ≡ id = ap (λ (x : Queue). x.id) read ∙ a.is q in
@@ -96,9 +98,11 @@ opened i k id t rank q h a read =
       none = sym (clash_read i k id rank q h a.inside read is) ∙ fits;
     }
 
+-- a push to an open queue isn't refused
 pub not_refused : (i : Inside) (k id t : ℕ) (rank : Rank) (q : Queue) → IsOpen i k id t rank q → push_refusal (state_of i) id t rank ≡ None
 not_refused i k id t rank q a = rw (a.there, a.free, a.none) refl
 
+-- a push is refused for the cause that was found
 pub refused : (i : Inside) (id t : ℕ) (rank : Rank) (e : QueueError) → IsKept i → IsRefused i.live.items i.entries.items id t rank e → push_refusal (state_of i) id t rank ≡ Some e
 refused i id t rank NoSuchQueue h r = rw r refl
 refused i id t rank AlreadyThere h r = rw (r.0, r.1) refl

@@ -45,6 +45,7 @@ pub record IsWaiting (i : Inside) (k t : ℕ) (p : Entry) (q : Queue) : Type 0 w
   pub is : q.id ≡ p.queue
   pub waits : entry_at i.entries.items t ≡ Some p
 
+-- a task with an entry in the queue that was read waits there
 pub waiting : (i : Inside) (k t : ℕ) (p : Entry) (q : Queue) → Stands (state_of i) k p.queue → entry_of (state_of i) t ≡ Some p → q ≡ get_or i.live.items k q → IsWaiting i k t p q
 waiting i k t p q at waits read = record {
   inside = let within = at.0 in omega (arith, length-map i.live.items (λ (x : Queue). x.id));
@@ -53,6 +54,7 @@ waiting i k t p q at waits read = record {
   waits = waits;
 }
 
+-- and can leave it
 pub can_remove : (i : Inside) (k t : ℕ) (p : Entry) (q : Queue) → IsKept i → IsWaiting i k t p q → CanLeave p.rank i.links.items i.spots.items q t
 can_remove i k t p q h w =
     let row = row_at i k q h w.inside w.read in
@@ -100,9 +102,11 @@ module _ (i : Inside) (k t : ℕ) (p : Entry) (q : Queue) (h : IsKept i) (w : Is
   })
 
   module _ (j : Inside) (new : Queue) (linked : List Link) (stood : List ℕ) (e : Left p.rank i.links.items i.spots.items q t linked stood new) (c : IsChanged i j k t new None linked stood i.pushes) where
+    -- the queue keeps its id
     pub removed_id : new.id ≡ q.id
     removed_id = (left_by p.rank new linked stood refl e).id
 
+    -- the queues are kept
     pub removed_keeps : IsKept j
     removed_keeps =
         let l = left_by p.rank new linked stood refl e in
@@ -110,9 +114,11 @@ module _ (i : Inside) (k t : ℕ) (p : Entry) (q : Queue) (h : IsKept i) (w : Is
         (λ other n. (rw w.waits (ne_eqb p.queue other (λ e. n (sym e ∙ sym w.is))), refl))
         l.agree l.elsewhere l.keeps (sound_without_task (state_of i) t h.sound)
 
+    -- and their state is that without the task
     pub removed_state : state_of j ≡ without_task (state_of i) t
     removed_state = changed_state i j k t q new None linked stood i.pushes w.inside w.read (left_by p.rank new linked stood refl e).id c
 
+    -- what the removal costs in the heap it costs in all, if it costs nothing in FIFO order
     pub removed_paid : (steps : ℕ) → IsCheap q.heap.items new.heap.items steps → (p.rank ≡ Fifo → steps ≡ 0) → IsPaid (value_of i) (value_of j) p.queue steps
     removed_paid steps cheap free =
         let id = removed_id in

@@ -1,4 +1,4 @@
--- An item moves from its position to another, where one that is held belongs: with that one in place, the two
+-- An item moves from its position to another, where one that is held aside belongs: with that one put back, the two
 -- were exchanged.
 use Rattle.std.proofs.Common.{◌≡◌, ◌≢◌, ℕ, zero, suc, ◌<◌, Bool, List, [], ◌∷◌, length, get_or, set, refl, sym, ap, ◌∙◌, subst, arith}
 use Rattle.std.specs.List.{SwappedAt, swap}
@@ -74,6 +74,7 @@ module _ (items : List Item) (spots : List ℕ) (x y : Item) (to from : ℕ) (ap
   stood_is : set (set (with_spot spots x to) (get_or new to x).task to) (get_or new from x).task from ≡ with_spot (with_spot spots y to) x from
   stood_is = rw (new_to x, new_from x) (overwritten spots x.task y.task to to from)
 
+  -- with the item put back, before and after, the two positions were exchanged
   pub shifted : IsShifted old new (with_spot spots x to) (with_spot (with_spot spots y to) x from) to from
   shifted = record {
     swapped = swapped;
@@ -83,7 +84,7 @@ module _ (items : List Item) (spots : List ℕ) (x y : Item) (to from : ℕ) (ap
     others = subst (KeepsOthers old (with_spot spots x to)) stood_is (others_after old new (with_spot spots x to) to from x within_to within_from h swapped long_new);
   }
 
--- with the item that stands at the position held there, nothing is different
+-- with the item that stands at the position put there, nothing is different
 pub held_back : (items : List Item) (k : ℕ) (x : Item) → k < length items → x ≡ get_or items k x → with_item items x k ≡ items
 held_back [] k x lt e = absurd (omega arith)
 held_back (y ∷ items) zero x lt e = rw e refl
@@ -94,10 +95,11 @@ spot_back [] t k e = refl
 spot_back (s ∷ spots) zero k e = ap (λ v. v ∷ spots) (sym (e 0))
 spot_back (s ∷ spots) (suc t) k e = ap (λ v. s ∷ v) (spot_back spots t k e)
 
+-- and no spot is
 pub spotted_back : (items : List Item) (spots : List ℕ) (k : ℕ) (x : Item) → k < length items → x ≡ get_or items k x → HasSpots items spots → with_spot spots x k ≡ spots
 spotted_back items spots k x lt e h = spot_back spots x.task k (λ d. ap (λ (y : Item). get_or spots y.task d) e ∙ (h k x d lt).1)
 
--- ---- while one is held
+-- ---- while one is held aside
 
 -- the item that moves is the one that is read
 pub moved : (items new : List Item) (spots stood : List ℕ) (x d : Item) (to from : ℕ) → to ≢ from → to < length items → from < length items
@@ -106,6 +108,7 @@ pub moved : (items new : List Item) (spots stood : List ℕ) (x d : Item) (to fr
 moved items new spots stood x d to from apart first second are stand h =
     rw (are, stand) (shifted items spots x (get_or items from d) to from apart first second (get_or_default items from d (get_or items from d) second) h)
 
+-- an exchange is one in either order
 pub flipped : (items now : List Item) (i j : ℕ) → i ≢ j → SwappedAt items now i j → SwappedAt items now j i
 flipped items now i j apart s = (s.1, s.0, λ k d n m. s.2 k d m n, λ d. s.3 d ∙ set_comm items i j (get_or items j d) (get_or items i d) apart)
 
@@ -116,6 +119,7 @@ task_within items spots x f at k n lt h =
     let same : (get_or (set items at x) k f).task ≡ (get_or items k f).task = ap (λ (y : Item). y.task) (get_or-set_other items at k x f n) in
     omega (arith, there, same, length-set spots x.task at)
 
+-- its own task has one
 pub held_within : (items : List Item) (spots : List ℕ) (x : Item) (at : ℕ) → at < length items → HasSpots (with_item items x at) (with_spot spots x at) → x.task < length spots
 held_within items spots x at lt h =
     let there = (h at x 0 (omega (arith, lt, length-set items at x))).0 in
@@ -131,6 +135,7 @@ pub held_before : (items : List Item) (x f : Item) (at k : ℕ) (b : Bool) → k
     → (d e : Item) → comes_before (get_or (with_item items x at) at d).priority (get_or (with_item items x at) k e).priority ≡ b
 held_before items x f at k b n within lt h d e = rw (get_or-set_same items at x d within, get_or-set_other items at k x e n, get_or_default items k e f lt) h
 
+-- and whether another one leaves before it
 pub before_held : (items : List Item) (x f : Item) (at k : ℕ) (b : Bool) → k ≢ at → at < length items → k < length items → comes_before (get_or items k f).priority x.priority ≡ b
     → (d e : Item) → comes_before (get_or (with_item items x at) k d).priority (get_or (with_item items x at) at e).priority ≡ b
 before_held items x f at k b n within lt h d e = rw (get_or-set_same items at x e within, get_or-set_other items at k x d n, get_or_default items k d f lt) h
@@ -147,13 +152,14 @@ first_held items x at c h = record {
     below : (k : ℕ) → 0 < k → parent k ≡ at → k ≢ at
     below k some of e = absurd (omega arith)
 
--- an item that is held where it stands
+-- an item that is held aside where it stands
 pub holds_here : (items : List Item) (spots : List ℕ) (k : ℕ) (d : Item) (P : List Item → List ℕ → Type 0) → k < length items → HasSpots items spots → P items spots
     → P (with_item items (get_or items k d) k) (with_spot spots (get_or items k d) k)
 holds_here items spots k d P lt h p =
     let read : get_or items k d ≡ get_or items k (get_or items k d) = get_or_default items k d (get_or items k d) lt in
     rw (held_back items k (get_or items k d) lt read, spotted_back items spots k (get_or items k d) lt read h) p
 
+-- and the other way round
 pub held_here : (items : List Item) (spots : List ℕ) (k : ℕ) (d : Item) (P : List Item → List ℕ → Type 0) → k < length items → HasSpots items spots
     → P (with_item items (get_or items k d) k) (with_spot spots (get_or items k d) k) → P items spots
 held_here items spots k d P lt h p =

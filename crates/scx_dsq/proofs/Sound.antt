@@ -16,6 +16,7 @@ use Rattle.scx_dsq.proofs.Standing.{Changed, this, other, changed, waits_below}
 
 -- ---- a queue more
 
+-- a new queue keeps the laws, if its id is new and there is room
 pub sound_with_queue : (s : QueueState) (id : ℕ) → exists s id ≡ false → length s.ids < s.room → IsSound s → IsSound (with_queue s id)
 sound_with_queue s id new room h = record {
   queues = record { distinct = all_pairs_push (λ a b. a ≢ b) s.ids id h.queues.distinct apart; within = omega (arith, length_push s.ids id) };
@@ -51,6 +52,7 @@ fits s id t rank p none e here = go (cases_Bool (same_sort p.rank rank))
         let clash : clashes id rank (entry_at s.entries t) ≡ true = rw (e, eq-eqb p.queue id here, differs) refl in
         absurd (both_ways (list_any (clashes id rank) s.entries) none (list_any_at (clashes id rank) s.entries t None (waits_below s.entries t p e) clash))
 
+-- a push keeps them, if the queue is there and no task of the other sort is in it
 pub sound_with_task : (s : QueueState) (id t : ℕ) (rank : Rank) → exists s id ≡ true → list_any (clashes id rank) s.entries ≡ false → IsSound s → IsSound (with_task s id t rank)
 sound_with_task s id t rank there none h = record {
   queues = record { distinct = h.queues.distinct; within = h.queues.within };
@@ -106,6 +108,7 @@ sound_with_task s id t rank there none h = record {
 
 -- ---- a task less
 
+-- a removal keeps them
 pub sound_without_task : (s : QueueState) (t : ℕ) → IsSound s → IsSound (without_task s t)
 sound_without_task s t h = record {
   queues = record { distinct = h.queues.distinct; within = h.queues.within };

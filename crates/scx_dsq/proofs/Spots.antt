@@ -26,12 +26,15 @@ module _ (items new : List Item) (spots : List ℕ) (i j : ℕ) (z : Item) (firs
   two_is : (d : Item) → two ≡ (slice_index_or items i d).task
   two_is d = ap (λ (x : Item). x.task) (swapped.1 z ∙ get_or_default items i z d first)
 
+  -- the task at the first position has a spot
   pub one_within : one < length spots
   one_within = subst (λ t. t < length spots) (sym (one_is z)) (h j z 0 second).0
 
+  -- and that at the second
   pub two_within : two < length spots
   two_within = subst (λ t. t < length spots) (sym (two_is z)) (h i z 0 first).0
 
+  -- which it still has after the first was written
   pub two_still : two < length (set spots one i)
   two_still = subst (λ n. two < n) (sym (length-set spots one i)) two_within
 
@@ -67,6 +70,7 @@ module _ (items new : List Item) (spots : List ℕ) (i j : ℕ) (z : Item) (firs
             ∙ get_or-set_other spots one (slice_index_or items k d).task i e (λ s. m (own k j d z lt second (s ∙ one_is z))) ∙ old.1,
       )
 
+  -- after both were written each task has its spot
   pub spots_after : HasSpots new after
   spots_after k d e lt = go (cases_eq k j) (cases_eq k i)
     where
@@ -80,6 +84,7 @@ module _ (items new : List Item) (spots : List ℕ) (i j : ℕ) (z : Item) (firs
       go (inr n) (inr m) =
           subst (Stands k e) (sym (ap (λ (x : Item). x.task) (swapped.2 k d m n))) (elsewhere k d e (subst (λ n. k < n) long lt) m n)
 
+  -- the spots of tasks that aren't there stay
   pub others_after : KeepsOthers items spots after
   others_after = record {
     long = same_length;
@@ -87,9 +92,11 @@ module _ (items new : List Item) (spots : List ℕ) (i j : ℕ) (z : Item) (firs
         ∙ get_or-set_other spots one t i e (λ s. apart_from t j second out (s ∙ one_is z));
   }
 
+-- spots that stay keep those of others
 pub keeps_none : (items : List Item) (spots : List ℕ) → KeepsOthers items spots spots
 keeps_none items spots = record { long = refl; same = λ t e out. refl }
 
+-- one after the other, both changes keep those of others
 pub keeps_more : (items now : List Item) (first second third : List ℕ) → IsPermutation items now → KeepsOthers items first second → KeepsOthers now second third → KeepsOthers items first third
 keeps_more items now first second third moved h more = record {
   long = more.long ∙ h.long;

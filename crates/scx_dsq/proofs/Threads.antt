@@ -1,5 +1,5 @@
--- Who is first, last and next in a FIFO queue: each is one task that there is, and the same in places that
--- differ only elsewhere. So are the links.
+-- Who is first, last and next in a FIFO queue: each is one task that there is, and the same in entries
+-- that differ only elsewhere. So are the links.
 use Rattle.std.proofs.Common.{◌≡◌, ◌≢◌, ℕ, ◌≤◌, List, length, count_by, Option, Some, None, MatchOption, sym, ap, ◌∙◌, arith, ◌⊎◌, inl, inr}
 use Rattle.std.proofs.lemmas.Bool.{cases_eq}
 use Rattle.scx_dsq.specs.declared.entries.Entry.{Entry}
@@ -10,13 +10,15 @@ use Rattle.scx_dsq.specs.Links.{link_at, In, NobodyIsIn, IsFirst, IsLast, IsNext
 use Rattle.scx_dsq.proofs.Standing.{waits_below, same_entry}
 use Rattle.scx_dsq.proofs.LinkReads.{IsWithin}
 
--- each place has its own stamp
+-- each entry has its own stamp
 abbrev pub AreDistinct : Entries → Type 0
 AreDistinct entries = (t u : ℕ) (p q : Entry) → t ≢ u → entry_at entries t ≡ Some p → entry_at entries u ≡ Some q → p.stamp ≢ q.stamp
 
+-- a task has one stamp
 pub one_stamp : (entries : Entries) (id u : ℕ) (p q : Entry) → In entries id u p → In entries id u q → p.stamp ≡ q.stamp
 one_stamp entries id u p q v w = ap (λ (x : Entry). x.stamp) (same_entry entries u p q v.0 w.0)
 
+-- it is that one, or it is not
 pub is_some_of : (o : Option ℕ) (u : ℕ) → (o ≡ Some u) ⊎ (o ≢ Some u)
 is_some_of None u = inr (λ e. absurd (cc))
 is_some_of (Some t) u = go (cases_eq t u)
@@ -27,14 +29,17 @@ is_some_of (Some t) u = go (cases_eq t u)
 
 -- ---- who is linked is one of the tasks
 
+-- who is last is
 pub last_within : (entries : Entries) (id : ℕ) (o : Option ℕ) → MatchOption o (NobodyIsIn entries id) (IsLast entries id) → IsWithin (length entries) o
 last_within entries id None h = tt
 last_within entries id (Some t) h = waits_below entries t h.entry h.waits.0
 
+-- who is ahead is
 pub ahead_within : (entries : Entries) (id t : ℕ) (o : Option ℕ) → MatchOption o (IsFirst entries id t) (λ u. IsNext entries id u t) → IsWithin (length entries) o
 ahead_within entries id t None h = tt
 ahead_within entries id t (Some u) h = waits_below entries u h.entry h.waits.0
 
+-- who is behind is
 pub behind_within : (entries : Entries) (id t : ℕ) (o : Option ℕ) → MatchOption o (IsLast entries id t) (IsNext entries id t) → IsWithin (length entries) o
 behind_within entries id t None h = tt
 behind_within entries id t (Some u) h = waits_below entries u h.entry_behind h.waits_behind.0
@@ -49,12 +54,14 @@ module _ (entries : Entries) (id : ℕ) (distinct : AreDistinct entries) where
       go (inl same) = same
       go (inr n) = absurd (distinct t u p q n v.0 w.0 e)
 
+  -- only one is last
   pub one_last : (t u : ℕ) → IsLast entries id t → IsLast entries id u → t ≡ u
   one_last t u h k =
       let a = h.last u k.entry k.waits in
       let b = k.last t h.entry h.waits in
       same_from_stamps t u h.entry k.entry h.waits k.waits (omega arith)
 
+  -- only one is right ahead of a task
   pub one_ahead : (t u v : ℕ) → IsNext entries id t v → IsNext entries id u v → t ≡ u
   one_ahead t u v h k = same_from_stamps t u h.entry k.entry h.waits k.waits (go (h.none_between u k.entry k.waits) (k.none_between t h.entry h.waits))
     where
@@ -66,6 +73,7 @@ module _ (entries : Entries) (id : ℕ) (distinct : AreDistinct entries) where
       go (inl a) (inr b) = let x = h.before in absurd (omega (arith, x, b, same))
       go (inr a) b = let x = k.before in absurd (omega (arith, x, a, same))
 
+  -- only one is right behind a task
   pub one_behind : (t u v : ℕ) → IsNext entries id v t → IsNext entries id v u → t ≡ u
   one_behind t u v h k = same_from_stamps t u h.entry_behind k.entry_behind h.waits_behind k.waits_behind (go (h.none_between u k.entry_behind k.waits_behind) (k.none_between t h.entry_behind h.waits_behind))
     where
@@ -101,6 +109,7 @@ module _ (entries new : Entries) (id : ℕ) (to : (u : ℕ) (q : Entry) → In e
   each None P Q R S f g h = f h
   each (Some u) P Q R S f g h = g u h
 
+  -- the links still lead through the queue
   pub threaded_same : (links others : List Link) (ends : Ends) → ((u : ℕ) (q : Entry) → In entries id u q → link_at others u ≡ link_at links u) → count_by (is_in id) new ≡ count_by (is_in id) entries
       → IsThreaded entries links id ends → IsThreaded new others id ends
   threaded_same links others ends agree count h = record {

@@ -118,6 +118,7 @@ module _ (entries : Entries) (id t : ℕ) (new : Entry) (here : new.queue ≡ id
         let more : count_by (is_in id) after + 0 ≡ count_by (is_in id) entries + 1 = rw (free, is_in_from id new here) at (count-set entries id t (Some new) within) in
         let same = h.count in omega arith
 
+    -- the links with the task at the end lead through all of them
     pub threaded_with : IsThreaded after (links_appended links ends t) id (ends_appended ends t)
     threaded_with = record {
       first = first_after ends.last ends.first h.last h.first;

@@ -192,6 +192,7 @@ module _ (entries : Entries) (id t : ℕ) (p : Entry) (here : In entries id t p)
         let less : count_by (is_in id) after + 1 ≡ count_by (is_in id) entries + 0 = rw (here.0, is_in_from id p here.1) at (count-set entries id t None (waits_below entries t p here.0)) in
         let same = h.count in omega arith
 
+    -- the links without the task lead through those who are left
     pub threaded_without : IsThreaded after (links_unlinked links t) id (ends_unlinked links ends t)
     threaded_without = record {
       first = first_after a b ends.first ahead_fits behind_fits h.first;

@@ -174,7 +174,8 @@ fn make_way_up<L: Ledger>(
     ensures spots { HasSpots (with_item items.new item result) (with_spot spots.new item result) }
     ensures others { KeepsOthers (with_item items.old item start) (with_spot spots.old item start)
         (with_spot spots.new item result) }
-    ensures same { IsPermutation (with_item items.old item start) (with_item items.new item result) }
+    ensures same { IsPermutation (with_item items.old item start)
+        (with_item items.new item result) }
     ensures cost { Rose (with_item items.old item start) (with_item items.new item result) start
         (steps.new - steps.old) }
     ensures more { steps.old ≤ steps.new }
@@ -225,7 +226,8 @@ fn make_way_down<L: Ledger>(
     ensures spots { HasSpots (with_item items.new item result) (with_spot spots.new item result) }
     ensures others { KeepsOthers (with_item items.old item start) (with_spot spots.old item start)
         (with_spot spots.new item result) }
-    ensures same { IsPermutation (with_item items.old item start) (with_item items.new item result) }
+    ensures same { IsPermutation (with_item items.old item start)
+        (with_item items.new item result) }
     ensures cost { Sank (with_item items.old item start) (with_item items.new item result) start
         (length items.old) (steps.new - steps.old) }
     ensures more { steps.old ≤ steps.new }

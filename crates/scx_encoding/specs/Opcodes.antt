@@ -80,7 +80,7 @@ comparison_code LessOrEqual = 0xb
 comparison_code SignedLess = 0xc
 comparison_code SignedLessOrEqual = 0xd
 
--- byte order has operation 13: of ALU with K and X, and of ALU64 with K
+-- a byte swap has operation 13: of ALU with K and X, and of ALU64 with K
 abbrev pub order_code : ByteOrder → ℕ
 order_code Little = 0xd4
 order_code Big = 0xdc

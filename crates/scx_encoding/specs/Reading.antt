@@ -1,5 +1,5 @@
 -- Reading an instruction from its slots, or its first fault. The opcode is looked at first, then the
--- registers, then the offset where the form lists its values, then the width of a byte order; then the
+-- registers, then the offset where the form lists its values, then the width of a byte swap; then the
 -- slot has to be the one that spells the instruction, or a field that it doesn't use isn't 0; then a wide
 -- one needs a second slot.
 use Rattle.std.specs.Prelude.{ℕ, ℤ, ◌&&◌, nat_eq, is_none, List, [], ◌∷◌, Option, Some, None, Result, Ok, Err, ok_or, option_map, if◌then◌else◌}

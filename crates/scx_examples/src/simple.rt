@@ -1,5 +1,5 @@
 //! The callbacks of scx_simple, the kernel's example of a policy, in this project's assembler. Map 0 has
-//! one value of eight bytes, the virtual time of now.
+//! one element of eight bytes, the virtual time of now.
 
 /// Creates queue 0.
 pub const INIT: &str = "r1 = 0

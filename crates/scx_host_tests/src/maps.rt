@@ -1,4 +1,6 @@
 use scx_maps::{BadShape, MapDefs, Maps, Shape, Size};
+use std::alloc::AllocError;
+use std::process::Abort;
 use std::test::Fail;
 
 const fn shape(entries: u32, value_size: u32) -> Shape {
@@ -8,12 +10,27 @@ const fn shape(entries: u32, value_size: u32) -> Shape {
     }
 }
 
-/// Why the shapes are refused, if they are.
-fn refusal(shapes: &[Shape]) -> Option<BadShape> {
-    MapDefs::new(shapes).err()
+const LEAST: Shape = Shape {
+    entries: 1,
+    value_size: 1,
+};
+
+/// As many bytes as all maps may have.
+const FULL: Shape = Shape {
+    entries: 65536,
+    value_size: 256,
+};
+
+/// Shapes, and why they are refused, if they are.
+type Row<'a> = (&'a [Shape], Option<BadShape>);
+
+fn refuse(rt: &impl Abort, rows: &[Row<'_>]) {
+    for &(shapes, wanted) in rows {
+        assert_eq!(rt; MapDefs::new(shapes).err(), wanted);
+    }
 }
 
-/// The number at a place, if the maps have the place.
+/// The number at an offset of an element, if its bytes are there.
 fn load(maps: &Maps, map: u8, index: u32, offset: u16, size: Size) -> Option<u64> {
     if usize::from(map) < maps.count()
         && maps.lookup(map, index)
@@ -25,7 +42,7 @@ fn load(maps: &Maps, map: u8, index: u32, offset: u16, size: Size) -> Option<u64
     }
 }
 
-/// Stores a number; false if the maps don't have the place.
+/// Stores a number at an offset of an element; false if its bytes aren't there.
 fn store(maps: &mut Maps, map: u8, index: u32, offset: u16, size: Size, number: u64) -> bool {
     if usize::from(map) < maps.count()
         && maps.lookup(map, index)
@@ -54,149 +71,224 @@ fn fill(maps: &mut Maps, map: u8, index: u32, byte: u8) {
     }
 }
 
+fn defs(rt: &impl Abort, shapes: &[Shape]) -> MapDefs {
+    MapDefs::new(shapes).expect(rt, "the shapes are within the limits")
+}
+
+/// The shapes by their numbers are these.
+fn expect_shapes(rt: &impl Abort, defs: &MapDefs, rows: &[(u8, Option<Shape>)]) {
+    for &(map, wanted) in rows {
+        assert_eq!(rt; defs.shape(map), wanted, "map {map}");
+    }
+}
+
 #[test]
-fn shapes_within_the_limits_are_held(rt: HostRuntime) -> Result<(), Fail> {
-    let none = MapDefs::new(&[])?;
+fn shapes_within_the_limits_are_held(rt: HostRuntime) {
+    let none = defs(&rt, &[]);
     assert_eq!(rt; none.count(), 0);
-    assert_eq!(rt; none.shape(0), None);
-    let two = MapDefs::new(&[shape(3, 8), shape(1, 4096)])?;
+    expect_shapes(&rt, &none, &[(0, None)]);
+    let two = defs(&rt, &[shape(3, 8), shape(1, 4096)]);
     assert_eq!(rt; two.count(), 2);
-    assert_eq!(rt; two.shape(0), Some(shape(3, 8)));
-    assert_eq!(rt; two.shape(1), Some(shape(1, 4096)));
-    assert_eq!(rt; two.shape(2), None);
-    assert_eq!(rt; two.shape(16), None);
-    assert_eq!(rt; MapDefs::new(&[shape(1, 1); 16])?.count(), 16);
-    assert_eq!(rt; refusal(&[shape(65536, 256)]), None);
-    assert_eq!(rt; refusal(&[shape(4096, 4096)]), None);
+    expect_shapes(
+        &rt,
+        &two,
+        &[
+            (0, Some(shape(3, 8))),
+            (1, Some(shape(1, 4096))),
+            (2, None),
+            (16, None),
+        ],
+    );
+    assert_eq!(rt; defs(&rt, &[LEAST; 16]).count(), 16);
+    refuse(&rt, &[(&[FULL], None), (&[shape(4096, 4096)], None)]);
     assert!(rt; two == two && two != none);
-    Ok(())
 }
 
 #[test]
 fn the_first_broken_limit_is_named(rt: HostRuntime) {
-    assert_eq!(rt; refusal(&[shape(1, 1); 17]), Some(BadShape::TooManyMaps));
-    assert_eq!(rt; refusal(&[shape(0, 0); 17]), Some(BadShape::TooManyMaps));
-    assert_eq!(rt; refusal(&[shape(0, 8)]), Some(BadShape::Entries { map: 0 }));
-    assert_eq!(rt;
-        refusal(&[shape(65537, 1)]),
-        Some(BadShape::Entries { map: 0 })
+    refuse(
+        &rt,
+        &[
+            (&[LEAST; 17], Some(BadShape::TooManyMaps)),
+            (&[shape(0, 0); 17], Some(BadShape::TooManyMaps)),
+            (&[shape(0, 8)], Some(BadShape::Entries { map: 0 })),
+            (&[shape(65537, 1)], Some(BadShape::Entries { map: 0 })),
+            (&[shape(u32::MAX, 1)], Some(BadShape::Entries { map: 0 })),
+            (&[shape(1, 0)], Some(BadShape::ValueSize { map: 0 })),
+            (&[shape(1, 4097)], Some(BadShape::ValueSize { map: 0 })),
+            (
+                &[LEAST, shape(1, 0), shape(0, 1)],
+                Some(BadShape::ValueSize { map: 1 }),
+            ),
+            (
+                &[shape(65536, 4096), LEAST, shape(0, 0)],
+                Some(BadShape::Entries { map: 2 }),
+            ),
+        ],
     );
-    assert_eq!(rt;
-        refusal(&[shape(u32::MAX, 1)]),
-        Some(BadShape::Entries { map: 0 })
-    );
-    assert_eq!(rt;
-        refusal(&[shape(1, 0)]),
-        Some(BadShape::ValueSize { map: 0 })
-    );
-    assert_eq!(rt;
-        refusal(&[shape(1, 4097)]),
-        Some(BadShape::ValueSize { map: 0 })
-    );
-    let second = [shape(1, 1), shape(1, 0), shape(0, 1)];
-    assert_eq!(rt; refusal(&second), Some(BadShape::ValueSize { map: 1 }));
-    let third = [shape(65536, 4096), shape(1, 1), shape(0, 0)];
-    assert_eq!(rt; refusal(&third), Some(BadShape::Entries { map: 2 }));
 }
 
 #[test]
 fn the_bytes_of_all_maps_are_limited(rt: HostRuntime) {
-    let full = shape(65536, 256);
-    assert_eq!(rt; refusal(&[full, shape(1, 1)]), Some(BadShape::TooLarge));
-    assert_eq!(rt; refusal(&[shape(1, 1), full]), Some(BadShape::TooLarge));
-    assert_eq!(rt;
-        refusal(&[shape(65536, 4096); 16]),
-        Some(BadShape::TooLarge)
+    refuse(
+        &rt,
+        &[
+            (&[FULL, LEAST], Some(BadShape::TooLarge)),
+            (&[LEAST, FULL], Some(BadShape::TooLarge)),
+            (&[shape(65536, 4096); 16], Some(BadShape::TooLarge)),
+            (&[shape(256, 4096); 16], None),
+        ],
     );
-    assert_eq!(rt; refusal(&[shape(256, 4096); 16]), None);
 }
+
+const TOLD: [(BadShape, &str); 2] = [
+    (
+        BadShape::Entries { map: 3 },
+        "map 3: not 1 to 65536 entries",
+    ),
+    (BadShape::TooLarge, "more than 16777216 bytes over all maps"),
+];
 
 #[test]
 fn refusals_are_told(rt: HostRuntime) -> Result<(), Fail> {
-    let told = BadShape::Entries { map: 3 }.to_string(rt.alloc())?;
-    assert_eq!(rt; told.as_str(), "map 3: not 1 to 65536 entries");
-    let told = BadShape::TooLarge.to_string(rt.alloc())?;
-    assert_eq!(rt; told.as_str(), "more than 16777216 bytes over all maps");
+    for &(refusal, wanted) in &TOLD {
+        let told = refusal.to_string(rt.alloc())?;
+        assert_eq!(rt; told.as_str(), wanted);
+    }
     Ok(())
+}
+
+/// Maps of these shapes.
+fn maps<R: AllocGlobal + Abort>(rt: &R, shapes: &[Shape]) -> Result<Maps, AllocError> {
+    Maps::new(rt.alloc(), &defs(rt, shapes))
+}
+
+/// An element of a map, and its bytes.
+type Element<'a> = (u8, u32, &'a [u8]);
+
+fn expect_elements(rt: &impl Abort, maps: &Maps, rows: &[Element<'_>]) {
+    for &(map, index, wanted) in rows {
+        assert_eq!(rt; bytes(maps, map, index), wanted, "{map} {index}");
+    }
+}
+
+/// A number in map 0: its element, its offset there and its size, and what is loaded.
+type Load = (u32, u16, Size, Option<u64>);
+
+fn expect_loads(rt: &impl Abort, maps: &Maps, rows: &[Load]) {
+    for &(index, offset, size, wanted) in rows {
+        assert_eq!(rt; load(maps, 0, index, offset, size), wanted);
+    }
+}
+
+/// A number for map 0: its element, its offset there and its size, and whether there is a place for it.
+type Store = (u32, u16, Size, u64, bool);
+
+fn expect_stores(rt: &impl Abort, maps: &mut Maps, rows: &[Store]) {
+    for &(index, offset, size, number, wanted) in rows {
+        assert_eq!(rt; store(maps, 0, index, offset, size, number), wanted);
+    }
 }
 
 #[test]
 fn new_maps_are_zero(rt: HostRuntime) -> Result<(), Fail> {
-    let defs = MapDefs::new(&[shape(2, 3), shape(1, 1)])?;
-    let maps = Maps::new(rt.alloc(), &defs)?;
-    assert_eq!(rt; maps.count(), 2);
-    assert_eq!(rt; bytes(&maps, 0, 0), [0, 0, 0].as_slice());
-    assert_eq!(rt; bytes(&maps, 0, 1), [0, 0, 0].as_slice());
-    assert_eq!(rt; bytes(&maps, 1, 0), [0].as_slice());
-    assert_eq!(rt; bytes(&maps, 0, 2).len(), 0);
-    assert_eq!(rt; bytes(&maps, 1, 1).len(), 0);
-    assert_eq!(rt; Maps::new(rt.alloc(), &MapDefs::new(&[])?)?.count(), 0);
+    let two = maps(&rt, &[shape(2, 3), LEAST])?;
+    assert_eq!(rt; two.count(), 2);
+    expect_elements(
+        &rt,
+        &two,
+        &[
+            (0, 0, &[0; 3]),
+            (0, 1, &[0; 3]),
+            (1, 0, &[0]),
+            (0, 2, &[]),
+            (1, 1, &[]),
+        ],
+    );
+    assert_eq!(rt; maps(&rt, &[])?.count(), 0);
     Ok(())
 }
 
 #[test]
 fn a_number_is_stored_low_byte_first(rt: HostRuntime) -> Result<(), Fail> {
-    let defs = MapDefs::new(&[shape(3, 10)])?;
-    let mut maps = Maps::new(rt.alloc(), &defs)?;
-    assert!(rt; store(&mut maps, 0, 1, 1, Size::DoubleWord, 0x0102_0304_0506_0708));
-    assert_eq!(rt;
-        bytes(&maps, 0, 1),
-        [0, 8, 7, 6, 5, 4, 3, 2, 1, 0].as_slice()
+    let mut maps = maps(&rt, &[shape(3, 10)])?;
+    let number = 0x0102_0304_0506_0708;
+    expect_stores(&rt, &mut maps, &[(1, 1, Size::DoubleWord, number, true)]);
+    expect_elements(
+        &rt,
+        &maps,
+        &[
+            (0, 1, &[0, 8, 7, 6, 5, 4, 3, 2, 1, 0]),
+            (0, 0, &[0; 10]),
+            (0, 2, &[0; 10]),
+        ],
     );
-    assert_eq!(rt; bytes(&maps, 0, 0), [0; 10].as_slice());
-    assert_eq!(rt; bytes(&maps, 0, 2), [0; 10].as_slice());
-    assert_eq!(rt;
-        load(&maps, 0, 1, 1, Size::DoubleWord),
-        Some(0x0102_0304_0506_0708)
+    expect_loads(
+        &rt,
+        &maps,
+        &[
+            (1, 1, Size::DoubleWord, Some(number)),
+            (1, 2, Size::Word, Some(0x0405_0607)),
+            (1, 3, Size::HalfWord, Some(0x0506)),
+            (1, 8, Size::Byte, Some(1)),
+            (1, 3, Size::DoubleWord, None),
+        ],
     );
-    assert_eq!(rt; load(&maps, 0, 1, 2, Size::Word), Some(0x0405_0607));
-    assert_eq!(rt; load(&maps, 0, 1, 3, Size::HalfWord), Some(0x0506));
-    assert_eq!(rt; load(&maps, 0, 1, 8, Size::Byte), Some(1));
-    assert_eq!(rt; load(&maps, 0, 1, 3, Size::DoubleWord), None);
     Ok(())
 }
 
 #[test]
 fn a_store_takes_the_lowest_bytes(rt: HostRuntime) -> Result<(), Fail> {
-    let defs = MapDefs::new(&[shape(1, 8)])?;
-    let mut maps = Maps::new(rt.alloc(), &defs)?;
+    let mut maps = maps(&rt, &[shape(1, 8)])?;
     fill(&mut maps, 0, 0, 255);
-    assert!(rt; store(&mut maps, 0, 0, 0, Size::Byte, 0x1111));
-    assert!(rt; store(&mut maps, 0, 0, 2, Size::HalfWord, 0x0099_3322));
-    assert!(rt; store(&mut maps, 0, 0, 4, Size::Word, 0x0099_7766_5544));
-    assert_eq!(rt;
-        bytes(&maps, 0, 0),
-        [0x11, 255, 0x22, 0x33, 0x44, 0x55, 0x66, 0x77].as_slice()
+    expect_stores(
+        &rt,
+        &mut maps,
+        &[
+            (0, 0, Size::Byte, 0x1111, true),
+            (0, 2, Size::HalfWord, 0x0099_3322, true),
+            (0, 4, Size::Word, 0x0099_7766_5544, true),
+            (0, 5, Size::Word, 0, false),
+        ],
     );
-    assert!(rt; !store(&mut maps, 0, 0, 5, Size::Word, 0));
+    let stored = [0x11, 255, 0x22, 0x33, 0x44, 0x55, 0x66, 0x77];
+    expect_elements(&rt, &maps, &[(0, 0, &stored)]);
     Ok(())
 }
 
 #[test]
 fn a_write_stays_in_its_element(rt: HostRuntime) -> Result<(), Fail> {
-    let defs = MapDefs::new(&[shape(2, 2), shape(3, 1), shape(1, 4)])?;
-    let mut maps = Maps::new(rt.alloc(), &defs)?;
+    let mut maps = maps(&rt, &[shape(2, 2), shape(3, 1), shape(1, 4)])?;
     fill(&mut maps, 1, 1, 9);
     fill(&mut maps, 0, 1, 7);
-    assert_eq!(rt; bytes(&maps, 0, 0), [0, 0].as_slice());
-    assert_eq!(rt; bytes(&maps, 0, 1), [7, 7].as_slice());
-    assert_eq!(rt; bytes(&maps, 1, 0), [0].as_slice());
-    assert_eq!(rt; bytes(&maps, 1, 1), [9].as_slice());
-    assert_eq!(rt; bytes(&maps, 1, 2), [0].as_slice());
-    assert_eq!(rt; bytes(&maps, 2, 0), [0; 4].as_slice());
+    expect_elements(
+        &rt,
+        &maps,
+        &[
+            (0, 0, &[0, 0]),
+            (0, 1, &[7, 7]),
+            (1, 0, &[0]),
+            (1, 1, &[9]),
+            (1, 2, &[0]),
+            (2, 0, &[0; 4]),
+        ],
+    );
     Ok(())
 }
 
 #[test]
 fn the_largest_map_can_be_made(rt: HostRuntime) -> Result<(), Fail> {
-    let defs = MapDefs::new(&[shape(65536, 256)])?;
-    let mut maps = Maps::new(rt.alloc(), &defs)?;
-    assert!(rt; store(&mut maps, 0, 65535, 248, Size::DoubleWord, u64::MAX));
-    assert_eq!(rt;
-        load(&maps, 0, 65535, 248, Size::DoubleWord),
-        Some(u64::MAX)
+    let mut maps = maps(&rt, &[FULL])?;
+    let last = (65535, 248, Size::DoubleWord, u64::MAX, true);
+    expect_stores(&rt, &mut maps, &[last]);
+    expect_loads(
+        &rt,
+        &maps,
+        &[
+            (65535, 248, Size::DoubleWord, Some(u64::MAX)),
+            (65535, 240, Size::DoubleWord, Some(0)),
+            (65536, 0, Size::Byte, None),
+        ],
     );
-    assert_eq!(rt; load(&maps, 0, 65535, 240, Size::DoubleWord), Some(0));
-    assert_eq!(rt; load(&maps, 0, 65536, 0, Size::Byte), None);
     Ok(())
 }

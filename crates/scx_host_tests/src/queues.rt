@@ -52,32 +52,58 @@ fn ask_counted<L: Ledger, R: Abort>(
     requires some { 0 < blank.parts }
 {
     let mut steps = Steps::<L>::new(blank);
-    let tasks = queues.tasks();
-    let pushes = queues.pushes();
-    assert!(rt; pushes < 1 << 62);
     match command {
         Command::Create { queue } => Reply::Done(queues.create(queue)),
-        Command::PushFifo { queue, task } => {
-            assert!(rt; (task as usize) < tasks);
-            Reply::Done(queues.push_fifo(queue, task))
-        }
+        Command::PushFifo { queue, task } => Reply::Done(push_by_order(rt, queues, queue, task)),
         Command::PushVtime { queue, task, key } => {
-            assert!(rt; (task as usize) < tasks);
-            Reply::Done(queues.push_vtime(queue, task, key, &mut steps))
+            Reply::Done(push_by_key(rt, queues, queue, task, key, &mut steps))
         }
         Command::Front { queue } => Reply::Task(queues.front(queue)),
         Command::Pop { queue } => Reply::Task(queues.pop(queue, &mut steps)),
-        Command::Remove { task } => {
-            assert!(rt; (task as usize) < tasks);
-            Reply::Removed(queues.remove(task, &mut steps))
-        }
+        Command::Remove { task } => Reply::Removed(take_out(rt, queues, task, &mut steps)),
         Command::Len { queue } => Reply::Len(queues.len(queue)),
-        Command::QueueOf { task } => {
-            assert!(rt; (task as usize) < tasks);
-            Reply::Queue(queues.queue_of(task))
-        }
+        Command::QueueOf { task } => Reply::Queue(find_queue(rt, queues, task)),
         Command::Pushes => Reply::Pushes(queues.pushes()),
     }
+}
+
+fn push_by_order(
+    rt: &impl Abort,
+    queues: &mut Queues,
+    queue: u64,
+    task: u32,
+) -> Result<(), QueueError> {
+    assert!(rt; queues.pushes() < 1 << 62);
+    assert!(rt; (task as usize) < queues.tasks());
+    queues.push_fifo(queue, task)
+}
+
+fn push_by_key<L: Ledger>(
+    rt: &impl Abort,
+    queues: &mut Queues,
+    queue: u64,
+    task: u32,
+    key: u64,
+    steps: &mut Steps<L>,
+) -> Result<(), QueueError> {
+    assert!(rt; queues.pushes() < 1 << 62);
+    assert!(rt; (task as usize) < queues.tasks());
+    queues.push_vtime(queue, task, key, steps)
+}
+
+fn take_out<L: Ledger>(
+    rt: &impl Abort,
+    queues: &mut Queues,
+    task: u32,
+    steps: &mut Steps<L>,
+) -> bool {
+    assert!(rt; (task as usize) < queues.tasks());
+    queues.remove(task, steps)
+}
+
+fn find_queue(rt: &impl Abort, queues: &Queues, task: u32) -> Option<u64> {
+    assert!(rt; (task as usize) < queues.tasks());
+    queues.queue_of(task)
 }
 
 /// Carries out commands one by one, and compares their replies.
@@ -123,15 +149,16 @@ fn queue_of(task: u32) -> Command {
     Command::QueueOf { task }
 }
 
+const ERRORS: [(QueueError, u8, &str); 4] = [
+    (QueueError::NoSuchQueue, 1, "NoSuchQueue"),
+    (QueueError::AlreadyThere, 2, "AlreadyThere"),
+    (QueueError::Mixed, 3, "Mixed"),
+    (QueueError::TooManyQueues, 4, "TooManyQueues"),
+];
+
 #[test]
 fn errors_have_numbers(rt: HostRuntime) {
-    let errors = [
-        (QueueError::NoSuchQueue, 1, "NoSuchQueue"),
-        (QueueError::AlreadyThere, 2, "AlreadyThere"),
-        (QueueError::Mixed, 3, "Mixed"),
-        (QueueError::TooManyQueues, 4, "TooManyQueues"),
-    ];
-    for (error, number, name) in errors {
+    for &(error, number, name) in &ERRORS {
         assert_eq!(rt; error.number(), number);
         assert_eq!(rt; error.name(), name);
     }
@@ -161,6 +188,7 @@ fn tasks_leave_by_key_and_then_by_stamp(rt: HostRuntime) -> Result<(), Fail> {
             (push_fifo(3, 0), DONE),
         ],
     );
+    drop(queues);
     Ok(())
 }
 
@@ -191,6 +219,7 @@ fn two_queues_are_kept_apart(rt: HostRuntime) -> Result<(), Fail> {
             (push_vtime(7, 2, 9), DONE),
         ],
     );
+    drop(queues);
     Ok(())
 }
 
@@ -232,6 +261,7 @@ fn the_first_cause_is_told(rt: HostRuntime) -> Result<(), Fail> {
             (push_fifo(u64::MAX, 1), DONE),
         ],
     );
+    drop(queues);
     Ok(())
 }
 
@@ -247,6 +277,7 @@ fn queues_may_have_no_room(rt: HostRuntime) -> Result<(), Fail> {
             (len(0), Reply::Len(0)),
         ],
     );
+    drop(queues);
     Ok(())
 }
 
@@ -409,15 +440,53 @@ fn compare(
     Ok(())
 }
 
+/// Makes commands of the walk.
+fn compare_walk(rt: &impl Abort, queues: &mut Queues, plain: &mut Plain) -> Result<(), AllocError> {
+    let mut state = 0x9e37_79b9_7f4a_7c15;
+    for _ in 0..10_000 {
+        let command = command_of(next(&mut state));
+        compare(rt, queues, plain, command)?;
+        compare(rt, queues, plain, Command::Pushes)?;
+    }
+    Ok(())
+}
+
 #[test]
 fn queues_agree_with_sorted_vectors(rt: HostRuntime) -> Result<(), Fail> {
     let mut queues = Queues::new(rt.alloc(), 16, 1024)?;
     let mut plain = Plain::new(rt.alloc(), 16);
+    compare_walk(&rt, &mut queues, &mut plain)?;
+    drop(plain);
+    drop(queues);
+    Ok(())
+}
+
+/// Puts 1024 tasks into queue 0 by keys, of which each stands twice or so.
+fn compare_pushes(
+    rt: &impl Abort,
+    queues: &mut Queues,
+    plain: &mut Plain,
+) -> Result<(), AllocError> {
     let mut state = 0x9e37_79b9_7f4a_7c15;
-    for _ in 0..10_000 {
-        let command = command_of(next(&mut state));
-        compare(&rt, &mut queues, &mut plain, command)?;
-        compare(&rt, &mut queues, &mut plain, Command::Pushes)?;
+    for task in 0..1024 {
+        let command = push_vtime(0, task, next(&mut state) % 512);
+        compare(rt, queues, plain, command)?;
+    }
+    Ok(())
+}
+
+/// Takes five tasks out of it, and then all others in order.
+fn compare_leaving(
+    rt: &impl Abort,
+    queues: &mut Queues,
+    plain: &mut Plain,
+) -> Result<(), AllocError> {
+    for &task in &[512, 511, 700, 0, 1023] {
+        compare(rt, queues, plain, remove(task))?;
+        compare(rt, queues, plain, front(0))?;
+    }
+    for _ in 0..1020 {
+        compare(rt, queues, plain, pop(0))?;
     }
     Ok(())
 }
@@ -427,17 +496,9 @@ fn a_task_leaves_from_the_middle_of_many(rt: HostRuntime) -> Result<(), Fail> {
     let mut queues = Queues::new(rt.alloc(), 1, 1024)?;
     let mut plain = Plain::new(rt.alloc(), 1);
     compare(&rt, &mut queues, &mut plain, create(0))?;
-    let mut state = 0x9e37_79b9_7f4a_7c15;
-    for task in 0..1024 {
-        let command = push_vtime(0, task, next(&mut state) % 512);
-        compare(&rt, &mut queues, &mut plain, command)?;
-    }
-    for task in [512, 511, 700, 0, 1023] {
-        compare(&rt, &mut queues, &mut plain, remove(task))?;
-        compare(&rt, &mut queues, &mut plain, front(0))?;
-    }
-    for _ in 0..1020 {
-        compare(&rt, &mut queues, &mut plain, pop(0))?;
-    }
+    compare_pushes(&rt, &mut queues, &mut plain)?;
+    compare_leaving(&rt, &mut queues, &mut plain)?;
+    drop(plain);
+    drop(queues);
     Ok(())
 }

@@ -64,35 +64,51 @@ fn awake(
     Ok(tree)
 }
 
+/// The tree of these groups and tasks, all of them active, gives these weights.
+type Row<'a> = (&'a [Group], &'a [u32], &'a [u32]);
+
+fn expect_awake<R: AllocGlobal + Abort>(rt: &R, rows: &[Row<'_>]) -> Result<(), Fail> {
+    for &(groups, tasks, weights) in rows {
+        let tree = awake(rt, rt.alloc(), groups, tasks)?;
+        check_weights(rt, &tree, weights);
+        drop(tree);
+    }
+    Ok(())
+}
+
+/// A task becomes active or inactive.
+type Change = (u32, bool);
+
+/// Changes tasks, and compares the weights of all tasks then.
+fn set_tasks(rt: &impl Abort, tree: &mut Tree, changes: &[Change], weights: &[u32]) {
+    for &(task, is_active) in changes {
+        if is_active {
+            activate(rt, tree, task);
+        } else {
+            deactivate(rt, tree, task);
+        }
+    }
+    check_weights(rt, tree, weights);
+}
+
 #[test]
 fn two_groups_share_by_weight(rt: HostRuntime) -> Result<(), Fail> {
     let mut tree = awake(&rt, rt.alloc(), &[top(100), top(300)], &[0, 0, 1])?;
     assert_eq!(&rt; (tree.groups(), tree.tasks()), (2, 3));
-    check_weights(&rt, &tree, &[1250, 1250, 7500]);
-    deactivate(&rt, &mut tree, 2);
-    check_weights(&rt, &tree, &[5000, 5000, 7500]);
+    set_tasks(&rt, &mut tree, &[], &[1250, 1250, 7500]);
+    set_tasks(&rt, &mut tree, &[(2, false)], &[5000, 5000, 7500]);
     activate(&rt, &mut tree, 2);
     tree.set_weight(0, 300)?;
     check_weights(&rt, &tree, &[2500, 2500, 5000]);
+    drop(tree);
     Ok(())
 }
 
 #[test]
 fn groups_share_what_is_above_them(rt: HostRuntime) -> Result<(), Fail> {
-    let groups = [top(100), under(0, 100), under(0, 300), top(100)];
-    let tree = awake(&rt, rt.alloc(), &groups, &[1, 2, 3])?;
-    check_weights(&rt, &tree, &[1250, 3750, 5000]);
-    let groups = [top(1), top(10_000)];
-    let tree = awake(&rt, rt.alloc(), &groups, &[0, 1])?;
-    check_weights(&rt, &tree, &[1, 9999]);
-    let tree = awake(&rt, rt.alloc(), &[top(7)], &[0, 0, 0])?;
-    check_weights(&rt, &tree, &[3333, 3333, 3333]);
-    // One third of three quarters; rounded down at each level it would be 2499.
-    let groups = [top(1), top(2), under(0, 3), under(0, 1)];
-    let tree = awake(&rt, rt.alloc(), &groups, &[1, 2, 3])?;
-    check_weights(&rt, &tree, &[6666, 2500, 833]);
-    // Three levels: 1 / 2 * 1 / 3 * 1 / 7 and 1 / 2 * 1 / 3 * 6 / 7.
-    let groups = [
+    let two_levels = [top(100), under(0, 100), under(0, 300), top(100)];
+    let thirds = [top(1), top(2), under(0, 3), under(0, 1)];
+    let three_levels = [
         top(1),
         top(1),
         under(0, 1),
@@ -100,29 +116,39 @@ fn groups_share_what_is_above_them(rt: HostRuntime) -> Result<(), Fail> {
         under(2, 1),
         under(2, 6),
     ];
-    let tree = awake(&rt, rt.alloc(), &groups, &[1, 3, 4, 5])?;
-    check_weights(&rt, &tree, &[5000, 3333, 238, 1428]);
-    Ok(())
+    expect_awake(
+        &rt,
+        &[
+            (&two_levels, &[1, 2, 3], &[1250, 3750, 5000]),
+            (&[top(1), top(10_000)], &[0, 1], &[1, 9999]),
+            (&[top(7)], &[0, 0, 0], &[3333, 3333, 3333]),
+            // One third of three quarters; rounded down at each level it would be 2499.
+            (&thirds, &[1, 2, 3], &[6666, 2500, 833]),
+            // 1 / 2 * 1 / 3 * 1 / 7 and 1 / 2 * 1 / 3 * 6 / 7.
+            (&three_levels, &[1, 3, 4, 5], &[5000, 3333, 238, 1428]),
+        ],
+    )
 }
 
 /// A task that sleeps weighs what it would if it were active.
+fn wake_some(rt: &impl Abort, tree: &mut Tree) {
+    set_tasks(rt, tree, &[], &[10_000, 10_000, 10_000, 10_000]);
+    let twice = [(1, true), (1, true)];
+    set_tasks(rt, tree, &twice, &[2500, 10_000, 5000, 5000]);
+    set_tasks(rt, tree, &[(3, true)], &[1250, 5000, 2500, 5000]);
+    let asleep = [(1, false), (1, false), (0, false)];
+    set_tasks(rt, tree, &asleep, &[5000, 5000, 5000, 10_000]);
+}
+
 #[test]
 fn sleeping_tasks_take_no_share(rt: HostRuntime) -> Result<(), Fail> {
     let groups = [top(100), under(0, 100), under(0, 300), top(100)];
     let mut tree = Tree::new(rt.alloc(), &groups, &[1, 2, 3, 3])?;
-    check_weights(&rt, &tree, &[10_000, 10_000, 10_000, 10_000]);
-    activate(&rt, &mut tree, 1);
-    activate(&rt, &mut tree, 1);
-    check_weights(&rt, &tree, &[2500, 10_000, 5000, 5000]);
-    activate(&rt, &mut tree, 3);
-    check_weights(&rt, &tree, &[1250, 5000, 2500, 5000]);
-    deactivate(&rt, &mut tree, 1);
-    deactivate(&rt, &mut tree, 1);
-    deactivate(&rt, &mut tree, 0);
-    check_weights(&rt, &tree, &[5000, 5000, 5000, 10_000]);
+    wake_some(&rt, &mut tree);
     assert_eq!(&rt; is_active(&rt, &tree, 3), true);
     assert_eq!(&rt; is_active(&rt, &tree, 1), false);
     assert_eq!(&rt; group_of(&rt, &tree, 3), 3);
+    drop(tree);
     Ok(())
 }
 
@@ -165,35 +191,51 @@ fn faulty_trees_are_refused(rt: HostRuntime) {
     }
 }
 
+/// Whether a tree of so many groups and tasks can be made.
+fn expect_size<R: AllocGlobal + Abort>(
+    rt: &R,
+    groups: usize,
+    tasks: usize,
+    wanted: Option<TreeError>,
+) -> Result<(), AllocError> {
+    let groups = vec![in rt.alloc(); top(10_000); groups]?;
+    let tasks = vec![in rt.alloc(); 0; tasks]?;
+    assert_eq!(rt; refusal(rt.alloc(), &groups, &tasks), wanted);
+    Ok(())
+}
+
 /// Numbers of groups and of tasks at their limits and past them.
 #[test]
 fn groups_and_tasks_are_limited(rt: HostRuntime) -> Result<(), Fail> {
-    let alloc = rt.alloc();
-    let groups = vec![in alloc; top(10_000); 257]?;
-    let tasks = vec![in alloc; 0; 1025]?;
-    assert_eq!(&rt; refusal(alloc, &groups[..256], &tasks[..1024]), None);
-    assert_eq!(&rt;
-        refusal(alloc, &groups, &tasks[..1]),
-        Some(TreeError::OutOfRange)
-    );
-    assert_eq!(&rt;
-        refusal(alloc, &groups[..1], &tasks),
-        Some(TreeError::OutOfRange)
-    );
+    expect_size(&rt, 256, 1024, None)?;
+    expect_size(&rt, 257, 1, Some(TreeError::OutOfRange))?;
+    expect_size(&rt, 1, 1025, Some(TreeError::OutOfRange))?;
     Ok(())
+}
+
+/// A weight for a group, and what is answered.
+type Setting = (u32, u32, Result<(), TreeError>);
+
+fn set_weights(rt: &impl Abort, tree: &mut Tree, rows: &[Setting]) {
+    for &(group, weight, wanted) in rows {
+        assert_eq!(rt; tree.set_weight(group, weight), wanted);
+    }
 }
 
 #[test]
 fn weights_are_limited(rt: HostRuntime) -> Result<(), Fail> {
     let mut tree = awake(&rt, rt.alloc(), &[top(100), top(300)], &[0, 1])?;
-    assert_eq!(&rt; tree.set_weight(2, 100), Err(TreeError::UnknownGroup));
-    assert_eq!(&rt; tree.set_weight(2, 0), Err(TreeError::UnknownGroup));
-    assert_eq!(&rt; tree.set_weight(0, 0), Err(TreeError::OutOfRange));
-    assert_eq!(&rt; tree.set_weight(0, 10_001), Err(TreeError::OutOfRange));
+    let refused = [
+        (2, 100, Err(TreeError::UnknownGroup)),
+        (2, 0, Err(TreeError::UnknownGroup)),
+        (0, 0, Err(TreeError::OutOfRange)),
+        (0, 10_001, Err(TreeError::OutOfRange)),
+    ];
+    set_weights(&rt, &mut tree, &refused);
     check_weights(&rt, &tree, &[2500, 7500]);
-    assert_eq!(&rt; tree.set_weight(0, 10_000), Ok(()));
-    assert_eq!(&rt; tree.set_weight(1, 1), Ok(()));
+    set_weights(&rt, &mut tree, &[(0, 10_000, Ok(())), (1, 1, Ok(()))]);
     check_weights(&rt, &tree, &[9999, 1]);
+    drop(tree);
     Ok(())
 }
 
@@ -240,27 +282,38 @@ impl Plain {
         sum
     }
 
+    /// How many tasks share the group of that task, the task counted.
+    fn sharers(&self, task: usize, home: u32) -> u128 {
+        let mut sharers = 0u128;
+        for (number, other) in self.homes.iter().enumerate() {
+            if *other == home && (number == task || self.active.get(number) == Some(&true)) {
+                sharers = sharers.saturating_add(1);
+            }
+        }
+        sharers
+    }
+
     fn weight_of(&self, alloc: Global, task: usize) -> Result<u32, AllocError> {
         let marks = self.active_groups(alloc, task)?;
         let home = self.homes.get(task).copied().unwrap_or(0);
-        let mut whole = 0u128;
-        for (number, other) in self.homes.iter().enumerate() {
-            if *other == home && (number == task || self.active.get(number) == Some(&true)) {
-                whole = whole.saturating_add(1);
-            }
-        }
+        Ok(self.share(&marks, home, self.sharers(task, home)))
+    }
+
+    /// The share of each of so many tasks of a group, of 10,000.
+    fn share(&self, marks: &[bool], home: u32, sharers: u128) -> u32 {
+        let mut whole = sharers;
         let mut part = 10_000u128;
         let mut at = Some(home);
         for _ in 0..10 {
             if let Some(group) = at {
                 let Group { parent, weight } = self.group(group);
                 part = part.saturating_mul(u128::from(weight));
-                whole = whole.saturating_mul(self.weights_under(&marks, parent));
+                whole = whole.saturating_mul(self.weights_under(marks, parent));
                 at = parent;
             }
         }
         let weight = part.checked_div(whole).unwrap_or(0).max(1);
-        Ok(u32::try_from(weight).unwrap_or(0))
+        u32::try_from(weight).unwrap_or(0)
     }
 }
 
@@ -325,21 +378,43 @@ fn change(rt: &impl Abort, numbers: &mut Numbers, tree: &mut Tree, plain: &mut P
     }
 }
 
+/// Compares the weight of a task.
+fn compare<R: AllocGlobal + Abort>(
+    rt: &R,
+    tree: &Tree,
+    plain: &Plain,
+    task: u32,
+    step: u32,
+) -> Result<(), AllocError> {
+    let want = plain.weight_of(rt.alloc(), task as usize)?;
+    assert_eq!(rt;
+        weight_of(rt, tree, task),
+        want,
+        "of task {task} after step {step}"
+    );
+    Ok(())
+}
+
+/// Compares the weights after each of many changes.
+fn compare_many<R: AllocGlobal + Abort>(
+    rt: &R,
+    numbers: &mut Numbers,
+    tree: &mut Tree,
+    plain: &mut Plain,
+) -> Result<(), AllocError> {
+    for step in 0..1500 {
+        change(rt, numbers, tree, plain);
+        compare(rt, tree, plain, numbers.below(1024), step)?;
+    }
+    Ok(())
+}
+
 #[test]
 fn running_sums_agree_with_the_whole_tree(rt: HostRuntime) -> Result<(), Fail> {
-    let alloc = rt.alloc();
     let mut numbers = Numbers { state: 1 };
-    let mut plain = large(alloc, &mut numbers)?;
-    let mut tree = Tree::new(alloc, &plain.groups, &plain.homes)?;
-    for step in 0..1500 {
-        change(&rt, &mut numbers, &mut tree, &mut plain);
-        let task = numbers.below(1024);
-        let want = plain.weight_of(alloc, task as usize)?;
-        assert_eq!(&rt;
-            weight_of(&rt, &tree, task),
-            want,
-            "of task {task} after step {step}"
-        );
-    }
+    let mut plain = large(rt.alloc(), &mut numbers)?;
+    let mut tree = Tree::new(rt.alloc(), &plain.groups, &plain.homes)?;
+    compare_many(&rt, &mut numbers, &mut tree, &mut plain)?;
+    drop(tree);
     Ok(())
 }

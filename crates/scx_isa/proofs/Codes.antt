@@ -90,7 +90,7 @@ splits k due s slots code e =
     let q = bind_ok (read_slots (suc k) (due_after p.0) slots) _ code p.2 in
     record { occupant = p.0; rest = q.0; read = placed_ok k _ _ p.1; goes = q.1; whole = ok_is _ _ q.2 }
 
--- a occupant without a second half due is an instruction that was read
+-- an occupant without a second half due is an instruction that was read
 record IsRead (s : Slot) (next : Option Slot) (p : Option Insn) : Type 0 where
   insn : Insn
   read : insn_at s next ≡ Ok insn

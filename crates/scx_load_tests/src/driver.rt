@@ -6,7 +6,6 @@ use scx_maps::MapDefs;
 use scx_sched::{Callbacks, Event, Note, Policy, Sim, Sink};
 use scx_weights::Tree;
 use std::process::Abort;
-use std::test::Fail;
 
 /// A sink that keeps nothing.
 #[derive(Drop)]
@@ -26,8 +25,8 @@ impl Sink for Nowhere {
     }
 }
 
-/// A machine for the workload, with a policy that has no callbacks.
-fn machine<R: AllocGlobal + Abort>(rt: &R, workload: &Workload) -> Sim {
+/// A policy that has no callbacks.
+fn no_callbacks(rt: &impl Abort) -> Policy {
     let callbacks = Callbacks {
         init: None,
         enable: None,
@@ -38,22 +37,35 @@ fn machine<R: AllocGlobal + Abort>(rt: &R, workload: &Workload) -> Sim {
         stopping: None,
     };
     let defs = MapDefs::new(&[]).expect(rt, "no map at all is fine");
-    let policy = Policy::new(defs, 30_000, callbacks).expect(rt, "no program is for another place");
+    Policy::new(defs, 30_000, callbacks).expect(rt, "no program is for another place")
+}
+
+/// A machine for the workload, with a policy that has no callbacks.
+fn machine<R: AllocGlobal + Abort>(rt: &R, workload: &Workload) -> Sim {
     let tree = Tree::new(rt.alloc(), workload.groups(), workload.tasks()).expect(rt, "a tree");
-    Sim::new(rt.alloc(), policy, tree, workload.cpus()).expect(rt, "a machine")
+    let sim = Sim::new(rt.alloc(), no_callbacks(rt), tree, workload.cpus());
+    sim.expect(rt, "a machine")
 }
 
 /// The driver's events are these, and the machine accepts each.
+fn run(rt: &impl Abort, sim: &mut Sim, driver: &mut Driver, events: &[Event]) {
+    for event in events {
+        assert_eq!(rt; driver.next(sim), Some(*event));
+        assert_eq!(rt; sim.step(*event, &mut Nowhere), Ok(()));
+    }
+    assert_eq!(rt; driver.next(sim), None);
+    assert_eq!(rt; driver.next(sim), None);
+}
+
+/// The workload's events are these.
 fn expect_events<R: AllocGlobal + Abort>(rt: &R, text: &str, events: &[Event]) {
     let workload = read_workload(rt.alloc(), text).expect(rt, "a workload");
     let mut sim = machine(rt, &workload);
     let mut driver = Driver::new(rt.alloc(), &workload).expect(rt, "a driver");
-    for event in events {
-        assert_eq!(rt; driver.next(&sim), Some(*event));
-        assert_eq!(rt; sim.step(*event, &mut Nowhere), Ok(()));
-    }
-    assert_eq!(rt; driver.next(&sim), None);
-    assert_eq!(rt; driver.next(&sim), None);
+    run(rt, &mut sim, &mut driver, events);
+    drop(driver);
+    drop(sim);
+    drop(workload);
 }
 
 #[test]

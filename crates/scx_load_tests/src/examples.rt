@@ -2,11 +2,10 @@
 //! worked out by hand.
 ghost use Rattle.std.specs.Prelude.{◌≡◌, true};
 
-use scx_load::{Driver, build, read_policy, read_workload};
+use scx_load::{Driver, Workload, build, read_policy, read_workload};
 use scx_sched::{Note, Sim, Sink, What};
 use scx_weights::Tree;
 use std::process::Abort;
-use std::test::Fail;
 
 const HELD: u64 = 0x8000_0000_0000_0003;
 
@@ -231,132 +230,154 @@ impl Sink for Recorder {
     }
 }
 
-/// The notes of the workload under the policy are these.
-fn expect<R: AllocGlobal + Abort>(rt: &R, policy: &str, workload: &str, wanted: &[Note]) {
+/// The machine of a workload under a policy.
+fn machine<R: AllocGlobal + Abort>(rt: &R, policy: &str, workload: &Workload) -> Sim {
     let text = read_policy(rt.alloc(), policy).expect(rt, "a policy");
     let policy = build(rt.alloc(), text).expect(rt, "its programs are safe");
-    let workload = read_workload(rt.alloc(), workload).expect(rt, "a workload");
     let tree = Tree::new(rt.alloc(), workload.groups(), workload.tasks()).expect(rt, "a tree");
-    let mut sim = Sim::new(rt.alloc(), policy, tree, workload.cpus()).expect(rt, "a machine");
-    let mut driver = Driver::new(rt.alloc(), &workload).expect(rt, "a driver");
+    Sim::new(rt.alloc(), policy, tree, workload.cpus()).expect(rt, "a machine")
+}
+
+/// The machine takes all events of the driver.
+fn run(rt: &impl Abort, sim: &mut Sim, driver: &mut Driver, recorder: &mut Recorder) {
+    for _ in 0..1000 {
+        let Some(event) = driver.next(sim) else {
+            break;
+        };
+        assert_eq!(rt; sim.step(event, recorder), Ok(()));
+    }
+    assert!(rt; !recorder.failed());
+}
+
+/// What the machine notes, given the events of the workload.
+fn notes_of<R: AllocGlobal + Abort>(rt: &R, mut sim: Sim, workload: &Workload) -> Recorder {
+    let mut driver = Driver::new(rt.alloc(), workload).expect(rt, "a driver");
     let mut recorder = Recorder {
         notes: Vec::new(rt.alloc()),
         has_failed: false,
     };
-    for _ in 0..1000 {
-        let Some(event) = driver.next(&sim) else {
-            break;
-        };
-        assert_eq!(rt; sim.step(event, &mut recorder), Ok(()));
+    run(rt, &mut sim, &mut driver, &mut recorder);
+    drop(sim);
+    recorder
+}
+
+/// The notes are these: a clock and what was noted then.
+fn expect_notes(rt: &impl Abort, notes: &[Note], wanted: &[(u64, What)]) {
+    assert_eq!(rt; notes.len(), wanted.len());
+    for (note, &(clock, what)) in notes.iter().zip(wanted) {
+        assert_eq!(rt; *note, Note { clock, what });
     }
-    assert!(rt; !recorder.failed());
-    assert_eq!(rt; recorder.notes.as_slice(), wanted);
 }
 
-fn note(clock: u64, what: What) -> Note {
-    Note { clock, what }
+/// The notes of the workload under the policy are these.
+fn expect<R: AllocGlobal + Abort>(rt: &R, policy: &str, workload: &str, wanted: &[(u64, What)]) {
+    let workload = read_workload(rt.alloc(), workload).expect(rt, "a workload");
+    let sim = machine(rt, policy, &workload);
+    let recorder = notes_of(rt, sim, &workload);
+    expect_notes(rt, recorder.notes.as_slice(), wanted);
+    drop(workload);
 }
 
-#[test]
-fn one_processor_decides_for_two(rt: HostRuntime) -> Result<(), Fail> {
-    let wanted = [
-        note(0, What::Wake(0)),
-        note(0, What::Insert(0, HELD)),
-        note(0, What::Insert(0, LOCAL_0)),
-        note(0, What::Run(0, 0)),
-        note(0, What::Wake(1)),
-        note(0, What::Insert(1, HELD)),
-        note(0, What::Wake(2)),
-        note(0, What::Insert(2, HELD)),
-        note(1, What::Insert(1, LOCAL_0)),
-        note(1, What::Insert(2, LOCAL_1)),
-        note(1, What::Stop(0, 0)),
-        note(1, What::Insert(0, HELD)),
-        note(1, What::Run(1, 0)),
-        note(1, What::Run(2, 1)),
-        note(3, What::Insert(0, LOCAL_0)),
-        note(3, What::Stop(1, 0)),
-        note(3, What::Insert(1, HELD)),
-        note(3, What::Run(0, 0)),
-        note(5, What::Insert(1, LOCAL_0)),
-        note(5, What::Stop(0, 0)),
-        note(5, What::Insert(0, HELD)),
-        note(5, What::Run(1, 0)),
-    ];
-    expect(&rt, CENTRAL, THREE_TASKS, wanted.as_slice());
-    Ok(())
-}
+const CENTRAL_NOTES: [(u64, What); 22] = [
+    (0, What::Wake(0)),
+    (0, What::Insert(0, HELD)),
+    (0, What::Insert(0, LOCAL_0)),
+    (0, What::Run(0, 0)),
+    (0, What::Wake(1)),
+    (0, What::Insert(1, HELD)),
+    (0, What::Wake(2)),
+    (0, What::Insert(2, HELD)),
+    (1, What::Insert(1, LOCAL_0)),
+    (1, What::Insert(2, LOCAL_1)),
+    (1, What::Stop(0, 0)),
+    (1, What::Insert(0, HELD)),
+    (1, What::Run(1, 0)),
+    (1, What::Run(2, 1)),
+    (3, What::Insert(0, LOCAL_0)),
+    (3, What::Stop(1, 0)),
+    (3, What::Insert(1, HELD)),
+    (3, What::Run(0, 0)),
+    (5, What::Insert(1, LOCAL_0)),
+    (5, What::Stop(0, 0)),
+    (5, What::Insert(0, HELD)),
+    (5, What::Run(1, 0)),
+];
 
 #[test]
-fn an_earlier_group_goes_first(rt: HostRuntime) -> Result<(), Fail> {
-    let wanted = [
-        note(0, What::Wake(0)),
-        note(0, What::Insert(0, 0)),
-        note(0, What::Move(0, 0)),
-        note(0, What::Run(0, 0)),
-        note(0, What::Wake(1)),
-        note(0, What::Insert(1, 0)),
-        note(1, What::Wake(2)),
-        note(1, What::Insert(2, 0)),
-        note(1, What::Move(2, 0)),
-        note(1, What::Stop(0, 0)),
-        note(1, What::Insert(0, 0)),
-        note(1, What::Run(2, 0)),
-        note(3, What::Move(1, 0)),
-        note(3, What::Stop(2, 0)),
-        note(3, What::Insert(2, 0)),
-        note(3, What::Run(1, 0)),
-        note(3, What::Sleep(2)),
-        note(5, What::Move(0, 0)),
-        note(5, What::Stop(1, 0)),
-        note(5, What::Insert(1, 0)),
-        note(5, What::Run(0, 0)),
-        note(7, What::Wake(2)),
-        note(7, What::Insert(2, 0)),
-        note(7, What::Move(2, 0)),
-        note(7, What::Stop(0, 0)),
-        note(7, What::Insert(0, 0)),
-        note(7, What::Run(2, 0)),
-        note(9, What::Move(1, 0)),
-        note(9, What::Stop(2, 0)),
-        note(9, What::Insert(2, 0)),
-        note(9, What::Run(1, 0)),
-        note(9, What::Sleep(2)),
-    ];
-    expect(&rt, PRIORITY, URGENT, wanted.as_slice());
-    Ok(())
+fn one_processor_decides_for_two(rt: HostRuntime) {
+    expect(&rt, CENTRAL, THREE_TASKS, &CENTRAL_NOTES);
 }
 
+const PRIORITY_NOTES: [(u64, What); 32] = [
+    (0, What::Wake(0)),
+    (0, What::Insert(0, 0)),
+    (0, What::Move(0, 0)),
+    (0, What::Run(0, 0)),
+    (0, What::Wake(1)),
+    (0, What::Insert(1, 0)),
+    (1, What::Wake(2)),
+    (1, What::Insert(2, 0)),
+    (1, What::Move(2, 0)),
+    (1, What::Stop(0, 0)),
+    (1, What::Insert(0, 0)),
+    (1, What::Run(2, 0)),
+    (3, What::Move(1, 0)),
+    (3, What::Stop(2, 0)),
+    (3, What::Insert(2, 0)),
+    (3, What::Run(1, 0)),
+    (3, What::Sleep(2)),
+    (5, What::Move(0, 0)),
+    (5, What::Stop(1, 0)),
+    (5, What::Insert(1, 0)),
+    (5, What::Run(0, 0)),
+    (7, What::Wake(2)),
+    (7, What::Insert(2, 0)),
+    (7, What::Move(2, 0)),
+    (7, What::Stop(0, 0)),
+    (7, What::Insert(0, 0)),
+    (7, What::Run(2, 0)),
+    (9, What::Move(1, 0)),
+    (9, What::Stop(2, 0)),
+    (9, What::Insert(2, 0)),
+    (9, What::Run(1, 0)),
+    (9, What::Sleep(2)),
+];
+
 #[test]
-fn tasks_keep_their_processors(rt: HostRuntime) -> Result<(), Fail> {
-    let wanted = [
-        note(0, What::Wake(0)),
-        note(0, What::Insert(0, LOCAL_0)),
-        note(0, What::Run(0, 0)),
-        note(0, What::Wake(1)),
-        note(0, What::Insert(1, LOCAL_1)),
-        note(0, What::Run(1, 1)),
-        note(0, What::Wake(2)),
-        note(0, What::Insert(2, LOCAL_0)),
-        note(0, What::Sleep(1)),
-        note(0, What::Stop(1, 1)),
-        note(0, What::Idle(1)),
-        note(1, What::Stop(0, 0)),
-        note(1, What::Insert(0, LOCAL_0)),
-        note(1, What::Run(2, 0)),
-        note(3, What::Stop(2, 0)),
-        note(3, What::Insert(2, LOCAL_0)),
-        note(3, What::Run(0, 0)),
-        note(4, What::Wake(1)),
-        note(4, What::Insert(1, LOCAL_1)),
-        note(4, What::Run(1, 1)),
-        note(4, What::Sleep(1)),
-        note(4, What::Stop(1, 1)),
-        note(4, What::Idle(1)),
-        note(5, What::Stop(0, 0)),
-        note(5, What::Insert(0, LOCAL_0)),
-        note(5, What::Run(2, 0)),
-    ];
-    expect(&rt, STICKY, UNEVEN, wanted.as_slice());
-    Ok(())
+fn an_earlier_group_goes_first(rt: HostRuntime) {
+    expect(&rt, PRIORITY, URGENT, &PRIORITY_NOTES);
+}
+
+const STICKY_NOTES: [(u64, What); 26] = [
+    (0, What::Wake(0)),
+    (0, What::Insert(0, LOCAL_0)),
+    (0, What::Run(0, 0)),
+    (0, What::Wake(1)),
+    (0, What::Insert(1, LOCAL_1)),
+    (0, What::Run(1, 1)),
+    (0, What::Wake(2)),
+    (0, What::Insert(2, LOCAL_0)),
+    (0, What::Sleep(1)),
+    (0, What::Stop(1, 1)),
+    (0, What::Idle(1)),
+    (1, What::Stop(0, 0)),
+    (1, What::Insert(0, LOCAL_0)),
+    (1, What::Run(2, 0)),
+    (3, What::Stop(2, 0)),
+    (3, What::Insert(2, LOCAL_0)),
+    (3, What::Run(0, 0)),
+    (4, What::Wake(1)),
+    (4, What::Insert(1, LOCAL_1)),
+    (4, What::Run(1, 1)),
+    (4, What::Sleep(1)),
+    (4, What::Stop(1, 1)),
+    (4, What::Idle(1)),
+    (5, What::Stop(0, 0)),
+    (5, What::Insert(0, LOCAL_0)),
+    (5, What::Run(2, 0)),
+];
+
+#[test]
+fn tasks_keep_their_processors(rt: HostRuntime) {
+    expect(&rt, STICKY, UNEVEN, &STICKY_NOTES);
 }

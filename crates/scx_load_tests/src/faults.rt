@@ -3,15 +3,10 @@
 use scx_load::{Cause, LoadError};
 use std::process::Abort;
 
-/// The file was refused at this path, for this cause.
-pub(crate) fn is_at<T: Drop>(
-    rt: &impl Abort,
-    read: Result<T, LoadError>,
-    path: &str,
-    cause: Cause,
-) {
-    match read {
-        Err(
+/// A file was refused at this path, for this cause.
+pub(crate) fn is_at(rt: &impl Abort, error: Option<LoadError>, path: &str, cause: Cause) {
+    match error {
+        Some(
             LoadError::At {
                 path: found,
                 cause: why,
@@ -20,7 +15,7 @@ pub(crate) fn is_at<T: Drop>(
             assert_eq!(rt; found.as_str(), path);
             assert_eq!(rt; why, cause, "{path}");
         }
-        Err(LoadError::NoMemory) => assert!(rt; false, "memory is ample: {path}"),
-        Ok(_) => assert!(rt; false, "it was read: {path}"),
+        Some(LoadError::NoMemory) => assert!(rt; false, "memory is ample: {path}"),
+        None => assert!(rt; false, "it was read: {path}"),
     }
 }

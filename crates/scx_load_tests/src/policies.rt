@@ -6,6 +6,7 @@ use scx_isa::{Callback, DecodeFault};
 use scx_load::{BuildError, Cause, PolicyText, build, read_policy};
 use scx_maps::Shape;
 use scx_verify::Fault;
+use std::alloc::{AllocError, Global};
 use std::process::Abort;
 use std::test::Fail;
 
@@ -45,238 +46,253 @@ fn read(rt: &(impl AllocGlobal + Abort), text: &str) -> PolicyText {
     read_policy(rt.alloc(), text).expect(rt, "the file is a policy")
 }
 
-fn refuses(rt: &(impl AllocGlobal + Abort), text: &str, path: &str, cause: Cause) {
-    is_at(rt, read_policy(rt.alloc(), text), path, cause);
-}
+/// A file, and the path and the cause of its first fault.
+type Row<'a> = (&'a str, &'a str, Cause);
 
-/// The error is that callback's, with this fault at this slot.
-fn build_refuses(rt: &(impl AllocGlobal + Abort), text: &str, wanted: BuildError) {
-    match build(rt.alloc(), read(rt, text)) {
-        Ok(_) => assert!(rt; false, "it was built"),
-        Err(error) => assert_eq!(rt; error, wanted),
+/// Each file is refused so.
+fn refuse<R: AllocGlobal + Abort>(rt: &R, rows: &[Row<'_>]) {
+    for &(text, path, cause) in rows {
+        is_at(rt, read_policy(rt.alloc(), text).err(), path, cause);
     }
 }
 
+/// The policy waits so long, and has so many maps.
+fn expect_head(rt: &impl Abort, policy: &PolicyText, timeout_ms: u32, maps: usize) {
+    assert_eq!(rt; policy.timeout_ms(), timeout_ms);
+    assert_eq!(rt; policy.defs().count(), maps);
+}
+
+/// How many instructions the callback's program has, if there is one, which is then gone.
+fn take_instructions(policy: &mut PolicyText, callback: Callback) -> Option<usize> {
+    let program = policy.take(callback)?;
+    Some(program.instructions())
+}
+
+fn take_slots(policy: &mut PolicyText, callback: Callback) -> Option<usize> {
+    let program = policy.take(callback)?;
+    Some(program.slots())
+}
+
+/// The instructions of the callbacks' programs, each taken in its turn.
+const TAKEN: [(Callback, Option<usize>); 4] = [
+    (Callback::Init, Some(3)),
+    (Callback::Init, None),
+    (Callback::Running, None),
+    (Callback::Enqueue, Some(5)),
+];
+
+fn take_programs(rt: &impl Abort, policy: &mut PolicyText) {
+    for &(callback, wanted) in &TAKEN {
+        assert_eq!(rt; take_instructions(policy, callback), wanted);
+    }
+    assert_eq!(rt; take_slots(policy, Callback::Dispatch), Some(3));
+}
+
 #[test]
-fn a_policy_is_read(rt: HostRuntime) -> Result<(), Fail> {
+fn a_policy_is_read(rt: HostRuntime) {
     let mut policy = read(&rt, TWO_MILLISECONDS);
-    assert_eq!(rt; policy.timeout_ms(), 5);
-    assert_eq!(rt; policy.defs().count(), 1);
+    expect_head(&rt, &policy, 5, 1);
     let shape = Shape {
         entries: 1,
         value_size: 8,
     };
     assert_eq!(rt; policy.defs().shape(0), Some(shape));
-    let init = policy.take(Callback::Init);
-    assert_eq!(rt; init.map(|program| program.instructions()), Some(3));
-    assert!(rt; policy.take(Callback::Init).is_none());
-    let dispatch = policy.take(Callback::Dispatch);
-    assert_eq!(rt; dispatch.map(|program| program.slots()), Some(3));
-    assert!(rt; policy.take(Callback::Running).is_none());
-    let enqueue = policy.take(Callback::Enqueue);
-    assert_eq!(rt; enqueue.map(|program| program.instructions()), Some(5));
-    Ok(())
+    take_programs(&rt, &mut policy);
+    drop(policy);
 }
 
 #[test]
-fn a_policy_is_built(rt: HostRuntime) -> Result<(), Fail> {
+fn a_policy_is_built(rt: HostRuntime) {
     let policy = build(rt.alloc(), read(&rt, TWO_MILLISECONDS)).expect(&rt, "it is safe");
     assert_eq!(rt; policy.defs().count(), 1);
-    Ok(())
+    drop(policy);
 }
 
 #[test]
-fn what_is_absent_has_a_default(rt: HostRuntime) -> Result<(), Fail> {
+fn what_is_absent_has_a_default(rt: HostRuntime) {
     let mut policy = read(&rt, "");
-    assert_eq!(rt; policy.timeout_ms(), 30_000);
-    assert_eq!(rt; policy.defs().count(), 0);
-    assert!(rt; policy.take(Callback::Enqueue).is_none());
+    expect_head(&rt, &policy, 30_000, 0);
+    assert_eq!(rt; take_instructions(&mut policy, Callback::Enqueue), None);
+    drop(policy);
     let empty = read(&rt, "map = []\n[code]\n[slots]\n");
     assert_eq!(rt; empty.defs().count(), 0);
-    Ok(())
+    drop(empty);
 }
 
-#[test]
-fn each_fault_has_its_path(rt: HostRuntime) -> Result<(), Fail> {
-    refuses(&rt, "timeout_ms = ", "file", Cause::NotToml);
-    refuses(&rt, "a = 1\na = 2", "file", Cause::NotToml);
-    refuses(
-        &rt,
-        "timeout_ms = 9223372036854775808",
-        "file",
-        Cause::NotToml,
-    );
-    refuses(&rt, "timeout = 5", "timeout", Cause::Unknown);
-    refuses(&rt, "[code]\nplain = 1", "code.plain", Cause::Unknown);
-    refuses(&rt, "[[map]]\nsize = 1", "map.0.size", Cause::Unknown);
-    refuses(&rt, "name = 1", "name", Cause::WrongType);
-    refuses(&rt, "name = \"2fast\"", "name", Cause::BadName);
-    refuses(&rt, "name = \"seventeen_letters\"", "name", Cause::BadName);
-    refuses(&rt, "timeout_ms = 1.0", "timeout_ms", Cause::WrongType);
-    refuses(&rt, "timeout_ms = 0", "timeout_ms", Cause::OutOfRange);
-    refuses(&rt, "timeout_ms = -1", "timeout_ms", Cause::OutOfRange);
-    refuses(&rt, "timeout_ms = 30001", "timeout_ms", Cause::OutOfRange);
-    refuses(
-        &rt,
-        "timeout_ms = 4294967297",
-        "timeout_ms",
-        Cause::OutOfRange,
-    );
-    refuses(&rt, "map = 1", "map", Cause::WrongType);
-    refuses(&rt, "map = [1]", "map.0", Cause::WrongType);
-    refuses(
-        &rt,
+/// Files that are no TOML, or have a fault in one key.
+const ONE_FAULT: [Row<'_>; 24] = [
+    ("timeout_ms = ", "file", Cause::NotToml),
+    ("a = 1\na = 2", "file", Cause::NotToml),
+    ("timeout_ms = 9223372036854775808", "file", Cause::NotToml),
+    ("timeout = 5", "timeout", Cause::Unknown),
+    ("[code]\nplain = 1", "code.plain", Cause::Unknown),
+    ("[[map]]\nsize = 1", "map.0.size", Cause::Unknown),
+    ("name = 1", "name", Cause::WrongType),
+    ("name = \"2fast\"", "name", Cause::BadName),
+    ("name = \"seventeen_letters\"", "name", Cause::BadName),
+    ("timeout_ms = 1.0", "timeout_ms", Cause::WrongType),
+    ("timeout_ms = 0", "timeout_ms", Cause::OutOfRange),
+    ("timeout_ms = -1", "timeout_ms", Cause::OutOfRange),
+    ("timeout_ms = 30001", "timeout_ms", Cause::OutOfRange),
+    ("timeout_ms = 4294967297", "timeout_ms", Cause::OutOfRange),
+    ("map = 1", "map", Cause::WrongType),
+    ("map = [1]", "map.0", Cause::WrongType),
+    (
         "map = [{ entries = 1 }]",
         "map.0.value_size",
         Cause::Missing,
-    );
-    refuses(&rt, "map = [{}]", "map.0.entries", Cause::Missing);
-    refuses(&rt, "code = 1", "code", Cause::WrongType);
-    refuses(&rt, "slots = 1", "slots", Cause::WrongType);
-    refuses(&rt, "[code]\ninit = 1", "code.init", Cause::WrongType);
-    refuses(&rt, "[slots]\ninit = 1", "slots.init", Cause::WrongType);
-    refuses(
-        &rt,
+    ),
+    ("map = [{}]", "map.0.entries", Cause::Missing),
+    ("code = 1", "code", Cause::WrongType),
+    ("slots = 1", "slots", Cause::WrongType),
+    ("[code]\ninit = 1", "code.init", Cause::WrongType),
+    ("[slots]\ninit = 1", "slots.init", Cause::WrongType),
+    (
         "[slots]\ninit = \"95000000 0000000\"",
         "slots.init",
         Cause::BadHex,
-    );
-    refuses(
-        &rt,
+    ),
+    (
         "[slots]\ninit = \"9g00000000000000\"",
         "slots.init",
         Cause::BadHex,
-    );
-    Ok(())
-}
+    ),
+];
 
 #[test]
-fn maps_are_limited(rt: HostRuntime) -> Result<(), Fail> {
-    let map = "[[map]]\nentries = 65536\nvalue_size = 256\n";
-    let fits = read(&rt, map);
-    assert_eq!(rt; fits.defs().count(), 1);
-    refuses(
-        &rt,
+fn each_fault_has_its_path(rt: HostRuntime) {
+    refuse(&rt, &ONE_FAULT);
+}
+
+/// Maps that are too large, or too many.
+const LARGE_MAPS: [Row<'_>; 4] = [
+    (
         "map = [{ entries = 65536, value_size = 257 }]",
         "map",
         Cause::OutOfRange,
-    );
-    refuses(
-        &rt,
+    ),
+    (
         "map = [{ entries = 65537, value_size = 1 }]",
         "map.0.entries",
         Cause::OutOfRange,
-    );
-    refuses(
-        &rt,
+    ),
+    (
         "map = [{ entries = 1, value_size = 0 }]",
         "map.0.value_size",
         Cause::OutOfRange,
-    );
-    refuses(
-        &rt,
+    ),
+    (
         "map = [0,0,0,0,0,0,0,0,0,0,0,0,0,0,0,0,0]",
         "map",
         Cause::TooMany,
-    );
-    Ok(())
-}
+    ),
+];
 
 #[test]
-fn programs_that_are_none_are_refused(rt: HostRuntime) -> Result<(), Fail> {
-    let syntax = Cause::Asm {
-        fault: AsmFault::Syntax,
-        line: 2,
-    };
-    refuses(
-        &rt,
+fn maps_are_limited(rt: HostRuntime) {
+    let fits = read(&rt, "[[map]]\nentries = 65536\nvalue_size = 256\n");
+    assert_eq!(rt; fits.defs().count(), 1);
+    drop(fits);
+    refuse(&rt, &LARGE_MAPS);
+}
+
+/// Texts and slots that are no programs.
+const NO_PROGRAMS: [Row<'_>; 3] = [
+    (
         "[code]\nenqueue = \"exit\\nnonsense\"",
         "code.enqueue",
-        syntax,
-    );
-    let empty = Cause::Decode {
-        fault: DecodeFault::Empty,
-        slot: 0,
-    };
-    refuses(
-        &rt,
+        Cause::Asm {
+            fault: AsmFault::Syntax,
+            line: 2,
+        },
+    ),
+    (
         "[slots]\nrunning = \" \\t\\r\\n\"",
         "slots.running",
-        empty,
-    );
-    let part = Cause::Decode {
-        fault: DecodeFault::NotWholeSlots,
-        slot: 1,
-    };
-    refuses(
-        &rt,
+        Cause::Decode {
+            fault: DecodeFault::Empty,
+            slot: 0,
+        },
+    ),
+    (
         "[slots]\nrunning = \"950000000000000095\"",
         "slots.running",
-        part,
-    );
-    Ok(())
-}
+        Cause::Decode {
+            fault: DecodeFault::NotWholeSlots,
+            slot: 1,
+        },
+    ),
+];
 
 #[test]
-fn of_several_faults_the_first_is_named(rt: HostRuntime) -> Result<(), Fail> {
+fn programs_that_are_none_are_refused(rt: HostRuntime) {
+    refuse(&rt, &NO_PROGRAMS);
+}
+
+/// Files with several faults.
+const SEVERAL_FAULTS: [Row<'_>; 7] = [
     // Unknown keys go before all others, and of them the least path: `1` stands before `2`.
-    let unknown =
-        "zz = 1\nname = 1\nmap = [{}, {}, { b = 1 }, {}, {}, {}, {}, {}, {}, {}, { a = 1 }]";
-    refuses(&rt, unknown, "map.10.a", Cause::Unknown);
-    refuses(&rt, "timeout_ms = 0\nname = \"A\"", "name", Cause::BadName);
-    refuses(
-        &rt,
-        "map = 1\ntimeout_ms = 0",
-        "timeout_ms",
-        Cause::OutOfRange,
-    );
-    refuses(
-        &rt,
+    (
+        "zz = 1\nname = 1\nmap = [{}, {}, { b = 1 }, {}, {}, {}, {}, {}, {}, {}, { a = 1 }]",
+        "map.10.a",
+        Cause::Unknown,
+    ),
+    ("timeout_ms = 0\nname = \"A\"", "name", Cause::BadName),
+    ("map = 1\ntimeout_ms = 0", "timeout_ms", Cause::OutOfRange),
+    (
         "code = 1\nmap = [{ value_size = 0 }]",
         "map.0.entries",
         Cause::Missing,
-    );
-    refuses(
-        &rt,
+    ),
+    (
         "[slots]\ninit = 1\n[code]\nstopping = 2",
         "code.stopping",
         Cause::WrongType,
-    );
-    refuses(
-        &rt,
+    ),
+    (
         "[code]\nenable = 1\ninit = 2",
         "code.init",
         Cause::WrongType,
-    );
-    let twice = "[slots]\nenable = 2\ninit = 1\n[code]\ninit = \"exit\"\nenable = \"exit\"";
-    refuses(&rt, twice, "slots.init", Cause::Twice);
-    Ok(())
+    ),
+    (
+        "[slots]\nenable = 2\ninit = 1\n[code]\ninit = \"exit\"\nenable = \"exit\"",
+        "slots.init",
+        Cause::Twice,
+    ),
+];
+
+#[test]
+fn of_several_faults_the_first_is_named(rt: HostRuntime) {
+    refuse(&rt, &SEVERAL_FAULTS);
+}
+
+/// A text with the part so many times behind its front.
+fn repeated(alloc: Global, front: &str, part: &str, times: u32) -> Result<String, AllocError> {
+    let mut text = String::from_str(alloc, front)?;
+    for _ in 0..times {
+        text.push_str(part)?;
+    }
+    Ok(text)
 }
 
 #[test]
 fn deep_and_long_files_are_refused(rt: HostRuntime) -> Result<(), Fail> {
-    let mut deep = String::new(rt.alloc());
-    for _ in 0..100_000 {
-        deep.push('[')?;
-    }
-    refuses(&rt, deep.as_str(), "file", Cause::NotToml);
-    let mut long = String::from_str(rt.alloc(), "map = [")?;
-    for _ in 0..100_000 {
-        long.push_str("{},")?;
-    }
+    let deep = repeated(rt.alloc(), "", "[", 100_000)?;
+    refuse(&rt, &[(deep.as_str(), "file", Cause::NotToml)]);
+    let mut long = repeated(rt.alloc(), "map = [", "{},", 100_000)?;
     long.push(']')?;
-    refuses(&rt, long.as_str(), "map", Cause::TooMany);
+    refuse(&rt, &[(long.as_str(), "map", Cause::TooMany)]);
     Ok(())
 }
 
 #[test]
-fn the_first_callback_is_refused(rt: HostRuntime) -> Result<(), Fail> {
+fn the_first_callback_is_refused(rt: HostRuntime) {
     let text = "[code]\nstopping = \"r0 = r9\\nexit\"\nenqueue = \"call 5\\nr0 = r1\\nexit\"";
     let wanted = BuildError::Refused {
         callback: Callback::Enqueue,
         fault: Fault::Rule(scx_abs::Why::UnusableRegister),
         slot: 1,
     };
-    build_refuses(&rt, text, wanted);
-    Ok(())
+    let found = build(rt.alloc(), read(&rt, text)).err();
+    assert_eq!(rt; found, Some(wanted));
 }

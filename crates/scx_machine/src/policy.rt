@@ -30,7 +30,7 @@ pub enum BadPolicy {
     OtherMaps,
 }
 
-/// A scheduling policy: its programs, each verified for its place and for maps of these shapes, and how
+/// A scheduling policy: its programs, each verified for its callback and for maps of these shapes, and how
 /// long a task may wait.
 #[derive(Drop)]
 pub struct Policy {
@@ -108,7 +108,7 @@ impl Policy {
     }
 }
 
-/// Whether each program was verified as the callback in whose place it stands.
+/// Whether each program was verified as the callback whose program it is.
 fn are_as(callbacks: &Callbacks) -> bool
     ensures { IsTrue result ↔ AreAs callbacks.now }
 {

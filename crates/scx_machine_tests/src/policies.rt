@@ -1,4 +1,4 @@
-//! Policies to try. Each has one map, of one value of eight bytes.
+//! Policies to try. Each has one map, of one element of eight bytes.
 
 use scx_asm::assemble;
 use scx_examples::{DISPATCH, INIT};

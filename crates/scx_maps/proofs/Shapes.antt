@@ -1,4 +1,4 @@
--- Shapes in their places, and maps of zeros.
+-- Shapes in an array, and maps of zeros.
 use Rattle.std.proofs.Common.{◌≡◌, ℕ, zero, suc, ◌-◌, ◌<◌, List, [], ◌∷◌, ◌++◌, length, take, map, get_or, refl, ap, sym, ◌∙◌, subst, arith}
 use Rattle.std.specs.Prelude.{replicate, All}
 use Rattle.std.proofs.lemmas.List.{take_at, length-replicate}
@@ -10,7 +10,7 @@ use Rattle.scx_semantics.specs.Elements.{HoldBytes}
 use Rattle.scx_maps.specs.Contents.{zeros, lengths_of, HasShapes}
 use Rattle.scx_maps.specs.Unused.{IsFilledUp, filled_up, unused_shape}
 
--- shapes with empty places behind them fill all places
+-- shapes with unused ones behind them fill the array
 pub fills_up : (shapes self rest : List Shape) → self ≡ shapes → rest ≡ replicate (MAX_MAPS - length shapes) unused_shape → AreWithinLimits shapes
     → IsFilledUp (self ++ rest) (length shapes)
 fills_up shapes self rest same unused limits =
@@ -23,7 +23,7 @@ fills_up shapes self rest same unused limits =
       limits = subst Limits (sym front) limits;
     }
 
--- entries of zeros are as long as they were made
+-- elements of zeros are as long as they were made
 pub lengths-replicate : (n size : ℕ) → map (λ (v : List ℕ). length v) (replicate n (replicate size 0)) ≡ replicate n size
 lengths-replicate zero size = refl
 lengths-replicate (suc n) size = let head = length-replicate size 0 in let tail = lengths-replicate n size in λ i. head i ∷ tail i

@@ -1,4 +1,4 @@
--- Which maps have the shapes of array maps (Linux, Documentation/bpf/map_array.rst): so many entries, each of so
+-- Which maps have the shapes of array maps (Linux, Documentation/bpf/map_array.rst): so many elements, each of so
 -- many bytes.
 use Rattle.std.specs.Prelude.{◌≡◌, ℕ, List, length, map, replicate}
 use Rattle.scx_semantics.specs.Elements.{Maps, HoldBytes}
@@ -16,7 +16,7 @@ lengths entries = map (λ (value : List ℕ). length value) entries
 abbrev pub lengths_of : Maps → List (List ℕ)
 lengths_of maps = map lengths maps
 
--- each map has as many entries as its shape says, each of as many bytes as the shape's value size
+-- each map has as many elements as its shape says, each of as many bytes as the shape's value size
 pub record HasShapes (shapes : List Shape) (maps : Maps) : Type 0 where
   pub lengths : lengths_of maps ≡ map (λ (s : Shape). replicate s.entries s.value_size) shapes
   pub bytes : HoldBytes maps

@@ -128,7 +128,8 @@ impl Maps {
         requires index { index < length (elements self.old map) }
         requires offset { offset + size_bytes size ≤ length (element self.old map index) }
         ensures stored { let value = element self.old map index in
-            self.new ≡ with_element self.old map index (with_number value offset (size_bytes size) number) }
+            self.new ≡ with_element self.old map index
+            (with_number value offset (size_bytes size) number) }
         ensures shapes { lengths_of self.new ≡ lengths_of self.old }
     {
         write_number(self.value_mut(map, index), offset as usize, size, number);

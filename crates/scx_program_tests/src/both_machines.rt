@@ -21,7 +21,7 @@ const COMPARED: u32 = 20_000;
 
 const TRIED: u32 = 400_000;
 
-/// The map of all programs: four values of eight bytes.
+/// The map of all programs: four elements of eight bytes.
 pub(crate) const SHAPES: [Shape; 1] = [Shape {
     entries: 4,
     value_size: 8,

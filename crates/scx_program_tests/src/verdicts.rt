@@ -6,7 +6,7 @@ use std::alloc::{AllocError, Global};
 use std::process::Abort;
 use std::test::Fail;
 
-/// One map of one value of eight bytes.
+/// One map of one element of eight bytes.
 const CLOCK: [Shape; 1] = [Shape {
     entries: 1,
     value_size: 8,
@@ -25,7 +25,7 @@ pub(crate) fn verdict(
     }
 }
 
-/// Verifies programs for callbacks, with one map of one value of eight bytes, and compares the verdicts.
+/// Verifies programs for callbacks, with one map of one element of eight bytes, and compares the verdicts.
 pub(crate) fn expect<R: AllocGlobal + Abort>(
     rt: &R,
     rows: &[(Callback, &str, &str)],

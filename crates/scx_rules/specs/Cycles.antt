@@ -27,7 +27,7 @@ noting s w x = record { state = with_world s w; notes = said s.world x ∷ []; c
 abbrev pub silent : State → WorldState → Stepped
 silent s w = record { state = with_world s w; notes = []; calls = [] }
 
--- ---- callbacks at their places
+-- ---- callbacks of a cycle
 
 abbrev pub enqueue_called : State → ℕ → ℕ → ℕ → Stepped
 enqueue_called s t c flags = call_back s callback.Enqueue (task_and_number t flags) t c

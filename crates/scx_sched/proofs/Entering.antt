@@ -43,7 +43,7 @@ nowhere w t once = go (entry_of w.queues t) (omega (arith, once t, one_le (is_ru
     go None e = refl
     go (Some p) e = absurd (omega (arith, e))
 
--- what each place passes, and a new one too, each place passes
+-- what each entry passes, and a new one too, each entry passes then
 pub each_set : (f : Option Entry → Bool) (b : Bool) (places : Entries) (t : ℕ) (o : Option Entry) → f o ≡ b → ((u : ℕ) → f (entry_at places u) ≡ b) → (u : ℕ) → f (entry_at (set places t o) u) ≡ b
 each_set f b places t o new old u = go (cases_eq u t) (cases_lt t (length places))
   where

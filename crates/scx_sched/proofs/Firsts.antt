@@ -10,7 +10,7 @@ use Rattle.scx_dsq.specs.Queues.{Entries, QueueState, is_in, is_ahead, is_first,
 use Rattle.scx_dsq.specs.Laws.{one_if}
 use Rattle.scx_dsq.proofs.Orders.{before-asym, before-trans}
 
--- a place in the queue, before which none of the list comes
+-- an entry in the queue, before which none of the list comes
 record IsBest (id : ℕ) (xs : Entries) (p : Entry) : Type 0 where
   at : ℕ
   within : at < length xs

@@ -10,7 +10,7 @@ use Rattle.scx_dsq.specs.Calls.{push_refusal, next_entry, with_task, pushed}
 use Rattle.scx_dsq.specs.Laws.{one_if}
 use Rattle.scx_dsq.proofs.Facts.{free_from}
 
--- the length of a queue, where one place is changed
+-- the length of a queue, where one entry is changed
 pub len_set : (s : QueueState) (id t : ℕ) (o : Option Entry) → t < length s.entries → count_by (is_in id) (set s.entries t o) + one_if (is_in id (entry_of s t)) ≡ len_of s id + one_if (is_in id o)
 len_set s id t o l = sum_by-set (λ x. one_if (is_in id x)) s.entries t o None l
 

@@ -123,7 +123,7 @@ compute_below w o a b p q = width_below w (compute w o a b) (operated w o (low w
 pub negated_below : (w : Width) (n : ℕ) → negated w n < 2 ^ 64
 negated_below w n = let some = positive w in width_below w (negated w n) (omega arith)
 
--- ---- extensions and byte orders
+-- ---- extensions and byte swaps
 
 -- a number extended with its sign
 pub extended_below : (e : Extension) (n : ℕ) → extended e n < 2 ^ 64
@@ -156,7 +156,7 @@ pub immediate_below : (w : Width) (k : ℤ) → FitsSigned w32 k → immediate w
 immediate_below Bits32 k h = omega (arith, ints)
 immediate_below Bits64 k h = omega (arith, ints)
 
--- a constant in two halves
+-- a 64-bit immediate in two halves
 pub wide_immediate_below : (low_half high_half : ℤ) → FitsSigned w32 low_half → FitsSigned w32 high_half → wide_immediate low_half high_half < 2 ^ 64
 wide_immediate_below low_half high_half p q = omega (arith, ints)
 

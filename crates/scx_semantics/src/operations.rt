@@ -53,7 +53,7 @@ pub enum ByteOrder {
     Swapped,
 }
 
-/// How many low bits a change of byte order keeps.
+/// How many low bits a byte swap keeps.
 #[derive(Clone, Copy)]
 pub enum SwapWidth {
     Bits16,

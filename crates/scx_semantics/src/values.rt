@@ -1,6 +1,6 @@
 use crate::host_tables::TaskId;
 
-/// How many bytes the stack has. r10 points to its top, the place past the last one.
+/// How many bytes the stack has. r10 points to its top, right behind the last one.
 pub const STACK_SIZE: u16 = 512;
 
 /// Where a pointer points.
@@ -10,7 +10,7 @@ pub enum Pointer {
     Stack(u16),
     Task(TaskId),
     Map(u8),
-    /// An element of a map: the map, the byte within the element, and the element's index.
+    /// A byte of an element of a map: the map, the element's index, and the byte within it.
     Element { map: u8, index: u32, offset: u16 },
 }
 

@@ -54,7 +54,7 @@ number_in-marked m b p (suc n) at small =
     ∙ both (nat_eq (get_or m at 0) 1) (nat_eq (little_from (suc at) n m) (all_written n)) (get_or b at 0) (little_from (suc at) n b)
     ∙ ap (λ (t : Bool). if t then Some (get_or b at 0 + 256 * little_from (suc at) n b) else None) (sym (same_marks (get_or m at 0) (little_from (suc at) n m) (all_written n) (small at)))
 
--- a number read from a part is that at its place in the whole
+-- a number read from a part is that which stands there in the whole
 pub little_from-mid : (a m : ℕ) (xs : List ℕ) (j n : ℕ) → j + n ≤ m → little_from j n (mid_of a m xs) ≡ little_from (a + j) n xs
 little_from-mid a m xs j zero h = refl
 little_from-mid a m xs j (suc n) h =

@@ -22,7 +22,7 @@ pub record LiesInElement (maps : Maps) (m i at n : ℕ) : Type 0 where
   pub index : i < length (elements maps m)
   pub within : at + n ≤ length (element maps m i)
 
--- n bytes from the place on are there
+-- n bytes from the location on are there
 abbrev pub Lies : Maps → ℕ → Location → Type 0
 Lies maps n Nowhere = ⊤
 Lies maps n (OnStack at) = LiesOnStack at n

@@ -13,7 +13,7 @@ abbrev pub part_of : Option Pointer → ℕ → StackByte
 part_of None j = Unwritten
 part_of (Some p) j = Part p j
 
--- a byte by its mark, the number written to it, the pointer of its eight bytes and its place in these
+-- a byte by its mark, the number written to it, the pointer of its eight bytes and its number among these
 abbrev pub byte_of : ℕ → ℕ → Option Pointer → ℕ → StackByte
 byte_of mark n p j = if nat_eq mark 1 then Byte n else if nat_eq mark 0 then part_of p j else Unwritten
 

@@ -31,8 +31,8 @@ pub fn load<E: Env>(
 ) -> Effect
     requires { Lies maps.now (size_bytes (access_size access)) location }
     ensures { ComesTo (host E.functions)
-        (loaded (seen core.old maps.now) (number destination) access (location_of location)) maps.now
-        env.now result (seen core.new maps.now) env.now }
+        (loaded (seen core.old maps.now) (number destination) access (location_of location))
+        maps.now env.now result (seen core.new maps.now) env.now }
 {
     match location {
         Location::Nowhere => Effect::Stuck,
@@ -123,8 +123,8 @@ fn store_on_stack(core: &mut Core, size: Size, value: Value, at: u16) -> Effect
 /// written.
 fn store_field<E: Env>(env: &mut E, task: TaskId, field: Field, value: Value) -> Effect
     ensures effect { (m : Machine) (size : Sizes.Size)
-        → ComesTo (host E.functions) (stored m size value (locations.InTask task field)) m.maps env.old
-        result m env.new }
+        → ComesTo (host E.functions) (stored m size value (locations.InTask task field)) m.maps
+        env.old result m env.new }
     ensures room { E.room env.old ≤ E.room env.new }
     ensures spent { E.spent env.new ≤ E.spent env.old }
 {

@@ -23,7 +23,8 @@ pub fn compared(
 ) -> Option<bool>
     ensures { (maps : Maps)
         → result
-        ≡ compared (seen core.now maps) width comparison (register_value core.now (number register)) operand }
+        ≡ compared (seen core.now maps) width comparison
+        (register_value core.now (number register)) operand }
 {
     match core.read(register) {
         Value::Number(a) => numbers_compared(

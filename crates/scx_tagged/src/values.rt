@@ -33,8 +33,8 @@ pub fn binary(
     operand: Operand,
 ) -> Option<Value>
     ensures { result
-        ≡ binary (seen core.now maps.now) width operation (register_value core.now (number destination))
-        operand }
+        ≡ binary (seen core.now maps.now) width operation
+        (register_value core.now (number destination)) operand }
 {
     match operation {
         Operation::Move => moved(width, operand_value(core, width, operand)),
@@ -92,7 +92,7 @@ fn combined(width: Width, operation: Operation, a: u64, operand: Value) -> Optio
     }
 }
 
-/// The pointer that far on. It stays in the stack or the element, whose end is a place too.
+/// The pointer that far on. It stays in the stack or the element, or points right behind it.
 fn pointer_moved(maps: &Maps, pointer: Pointer, step: i64) -> Option<Value>
     ensures { result ≡ pointer_moved maps.now pointer (Some step) }
 {
@@ -137,7 +137,7 @@ pub fn extended(extension: Extension, value: Value) -> Option<Value>
     }
 }
 
-/// The low bytes of a number in another order.
+/// The low bytes of a number in that byte order.
 pub fn byte_swapped(order: ByteOrder, width: SwapWidth, value: Value) -> Option<Value>
     ensures { result ≡ on_number (byte_swapped order width) value }
 {

@@ -169,7 +169,8 @@ pub(crate) fn read_address<'t, 'a>(tokens: &'t [Token<'a>]) -> Read<'t, 'a, (Reg
 
 /// Memory, behind the star that it begins with.
 pub(crate) fn read_memory_operand<'t, 'a>(tokens: &'t [Token<'a>]) -> Read<'t, 'a, MemoryOperand>
-    ensures { option_map (λ x. (x.0, lexemes x.1.now)) result ≡ read_memory_operand (lexemes tokens.now) }
+    ensures { option_map (λ x. (x.0, lexemes x.1.now)) result
+        ≡ read_memory_operand (lexemes tokens.now) }
 {
     let (access, rest) = read_access(behind_opening(tokens)?)?;
     let ((base, offset), rest) = read_address(behind_closing(behind_star(rest)?)?)?;

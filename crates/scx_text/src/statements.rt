@@ -85,7 +85,8 @@ fn load_immediate<'a>(
     number: Literal,
     tokens: &[Token<'a>],
 ) -> Option<Item<'a>>
-    ensures { option_map item_value result ≡ load_immediate width register number (lexemes tokens.now) }
+    ensures { option_map item_value result
+        ≡ load_immediate width register number (lexemes tokens.now) }
 {
     match (width, tokens) {
         (Width::Bits64, [Token::Word(name), rest @ ..]) => {
@@ -204,7 +205,8 @@ fn operated<'a>(
     register: Register,
     tokens: &[Token<'a>],
 ) -> Option<Item<'a>>
-    ensures { option_map item_value result ≡ operated width operation register (lexemes tokens.now) }
+    ensures { option_map item_value result
+        ≡ operated width operation register (lexemes tokens.now) }
 {
     let (argument, rest) = read_operand(width, tokens)?;
     says(

@@ -35,32 +35,35 @@ fn cut_report<R: AllocGlobal + Abort>(rt: &R, fails_at: usize, whole: &[u8]) {
     expect_cut(rt, &memory, whole);
 }
 
+/// A trace whose output never fails.
+fn whole_trace<R: AllocGlobal + Abort>(rt: &R) -> Memory {
+    let mut memory = Memory::new(rt.alloc());
+    let mut out = Counted::new(&mut memory);
+    let done = simulate(rt.alloc(), SHORT_SLICES, TWO_TASKS, &mut out);
+    assert_eq!(rt; done, Ok(true));
+    memory
+}
+
+fn whole_report<R: AllocGlobal + Abort>(rt: &R) -> Memory {
+    let mut memory = Memory::new(rt.alloc());
+    let mut out = Counted::new(&mut memory);
+    let done = report(rt.alloc(), SHORT_SLICES, TWO_CPUS, &mut out);
+    assert_eq!(rt; done, Ok(true));
+    memory
+}
+
 #[test]
 fn traces_are_cut_off(rt: HostRuntime) {
-    let mut memory = Memory::new(rt.alloc());
-    let done = simulate(
-        rt.alloc(),
-        SHORT_SLICES,
-        TWO_TASKS,
-        &mut Counted::new(&mut memory),
-    );
-    assert_eq!(rt; done, Ok(true));
-    for fails_at in [0, 1, memory.calls.saturating_sub(1)] {
-        cut_trace(&rt, fails_at, &memory.bytes);
+    let whole = whole_trace(&rt);
+    for &fails_at in &[0, 1, whole.calls.saturating_sub(1)] {
+        cut_trace(&rt, fails_at, &whole.bytes);
     }
 }
 
 #[test]
 fn reports_are_cut_off(rt: HostRuntime) {
-    let mut memory = Memory::new(rt.alloc());
-    let done = report(
-        rt.alloc(),
-        SHORT_SLICES,
-        TWO_CPUS,
-        &mut Counted::new(&mut memory),
-    );
-    assert_eq!(rt; done, Ok(true));
-    for fails_at in [0, 1, memory.calls.saturating_sub(1)] {
-        cut_report(&rt, fails_at, &memory.bytes);
+    let whole = whole_report(&rt);
+    for &fails_at in &[0, 1, whole.calls.saturating_sub(1)] {
+        cut_report(&rt, fails_at, &whole.bytes);
     }
 }

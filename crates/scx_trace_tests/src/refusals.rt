@@ -7,13 +7,20 @@ use scx_output::Counted;
 use scx_simulation::{report, simulate};
 use std::process::Abort;
 
-/// Both commands refuse the files, and then the line is all that is written.
-fn expect<R: AllocGlobal + Abort>(rt: &R, policy: &str, workload: &str, line: &str) {
+/// A policy or a workload, and the line of its refusal.
+type Row<'a> = (&'a str, &'a str);
+
+/// `run` refuses the files, and then the line is all that is written.
+fn refuses_run<R: AllocGlobal + Abort>(rt: &R, policy: &str, workload: &str, line: &str) {
     let mut memory = Memory::new(rt.alloc());
     let mut out = Counted::new(&mut memory);
     let refused = simulate(rt.alloc(), policy, workload, &mut out);
     assert_eq!(rt; finish(refused, &mut out), REFUSED);
     assert_eq!(rt; memory.bytes.as_slice(), line.as_bytes());
+}
+
+/// So does `report`.
+fn refuses_report<R: AllocGlobal + Abort>(rt: &R, policy: &str, workload: &str, line: &str) {
     let mut memory = Memory::new(rt.alloc());
     let mut out = Counted::new(&mut memory);
     let refused = report(rt.alloc(), policy, workload, &mut out);
@@ -21,114 +28,131 @@ fn expect<R: AllocGlobal + Abort>(rt: &R, policy: &str, workload: &str, line: &s
     assert_eq!(rt; memory.bytes.as_slice(), line.as_bytes());
 }
 
-fn expect_policy<R: AllocGlobal + Abort>(rt: &R, policy: &str, line: &str) {
-    expect(rt, policy, TWO_TASKS, line);
+fn refuse_policies<R: AllocGlobal + Abort>(rt: &R, rows: &[Row<'_>]) {
+    for &(policy, line) in rows {
+        refuses_run(rt, policy, TWO_TASKS, line);
+        refuses_report(rt, policy, TWO_TASKS, line);
+    }
 }
 
-fn expect_workload<R: AllocGlobal + Abort>(rt: &R, workload: &str, line: &str) {
-    expect(rt, SHORT_SLICES, workload, line);
+fn refuse_workloads<R: AllocGlobal + Abort>(rt: &R, rows: &[Row<'_>]) {
+    for &(workload, line) in rows {
+        refuses_run(rt, SHORT_SLICES, workload, line);
+        refuses_report(rt, SHORT_SLICES, workload, line);
+    }
 }
 
 #[test]
 fn faulty_policies_are_refused(rt: HostRuntime) {
-    expect_policy(&rt, "a =", "refused: policy file: not TOML\n");
-    expect_policy(&rt, "cpus = 1", "refused: policy cpus: unknown\n");
-    expect_policy(
+    refuse_policies(
         &rt,
-        "timeout_ms = 0",
-        "refused: policy timeout_ms: out of range\n",
-    );
-    expect_policy(
-        &rt,
-        "map = [{ entries = 1 }]",
-        "refused: policy map.0.value_size: missing\n",
-    );
-    expect_policy(
-        &rt,
-        "code.enqueue = \"goto x\\nexit\"",
-        "refused: policy code.enqueue: asm 2 UnknownLabel at 1\n",
-    );
-    expect_policy(
-        &rt,
-        "slots.enqueue = '95 00'",
-        "refused: policy slots.enqueue: decode 3 NotWholeSlots at 0\n",
-    );
-    expect_policy(
-        &rt,
-        "code.init = 'exit'\nslots.init = ''",
-        "refused: policy slots.init: twice\n",
+        &[
+            ("a =", "refused: policy file: not TOML\n"),
+            ("cpus = 1", "refused: policy cpus: unknown\n"),
+            (
+                "timeout_ms = 0",
+                "refused: policy timeout_ms: out of range\n",
+            ),
+            (
+                "map = [{ entries = 1 }]",
+                "refused: policy map.0.value_size: missing\n",
+            ),
+            (
+                "code.enqueue = \"goto x\\nexit\"",
+                "refused: policy code.enqueue: asm 2 UnknownLabel at 1\n",
+            ),
+            (
+                "slots.enqueue = '95 00'",
+                "refused: policy slots.enqueue: decode 3 NotWholeSlots at 0\n",
+            ),
+            (
+                "code.init = 'exit'\nslots.init = ''",
+                "refused: policy slots.init: twice\n",
+            ),
+        ],
     );
 }
 
 #[test]
 fn faulty_workloads_are_refused(rt: HostRuntime) {
-    expect_workload(&rt, "cpus", "refused: workload file: not TOML\n");
-    expect_workload(
+    refuse_workloads(
         &rt,
-        "cpus = 1\nms = 0",
-        "refused: workload ms: out of range\n",
+        &[
+            ("cpus", "refused: workload file: not TOML\n"),
+            ("cpus = 1\nms = 0", "refused: workload ms: out of range\n"),
+            (
+                "cpus = 1\nms = 0\ncpu = 1",
+                "refused: workload cpu: unknown\n",
+            ),
+            (
+                "cpus = 1\nms = 1\ngroup = [{ name = 'g' }]\ntask = [{ name = 'a', group = 'z' }]",
+                "refused: workload task.0.group: no such group\n",
+            ),
+            ("ms = 1", "refused: workload cpus: missing\n"),
+            ("", "refused: workload cpus: missing\n"),
+        ],
     );
-    expect_workload(
-        &rt,
-        "cpus = 1\nms = 0\ncpu = 1",
-        "refused: workload cpu: unknown\n",
-    );
-    expect_workload(
-        &rt,
-        "cpus = 1\nms = 1\ngroup = [{ name = 'g' }]\ntask = [{ name = 'a', group = 'z' }]",
-        "refused: workload task.0.group: no such group\n",
-    );
-    expect_workload(&rt, "ms = 1", "refused: workload cpus: missing\n");
-    expect_workload(&rt, "", "refused: workload cpus: missing\n");
 }
 
 #[test]
 fn unsafe_callbacks_are_refused(rt: HostRuntime) {
-    expect_policy(
+    refuse_policies(
         &rt,
-        "code.enqueue = \"r0 = r5\\nexit\"",
-        "refused: verify enqueue 5 UnusableRegister at 0\n",
-    );
-    expect_policy(
-        &rt,
-        "code.init = 'exit'",
-        "refused: verify init 18 BadReturn at 0\n",
+        &[
+            (
+                "code.enqueue = \"r0 = r5\\nexit\"",
+                "refused: verify enqueue 5 UnusableRegister at 0\n",
+            ),
+            (
+                "code.init = 'exit'",
+                "refused: verify init 18 BadReturn at 0\n",
+            ),
+        ],
     );
 }
 
 #[test]
 fn failed_starts_are_refused(rt: HostRuntime) {
-    expect_policy(&rt, "code.init = \"r0 = 7\\nexit\"", "refused: init 7\n");
-    expect_policy(&rt, "code.init = \"r0 = -1\\nexit\"", "refused: init -1\n");
-    // The queue is created twice.
-    expect_policy(
+    refuse_policies(
         &rt,
-        "code.init = \"r1 = 0\\ncall 1001\\nr1 = 0\\ncall 1001\\nr0 = 0\\nexit\"",
-        "refused: init -22\n",
+        &[
+            ("code.init = \"r0 = 7\\nexit\"", "refused: init 7\n"),
+            ("code.init = \"r0 = -1\\nexit\"", "refused: init -1\n"),
+            // The queue is created twice.
+            (
+                "code.init = \"r1 = 0\\ncall 1001\\nr1 = 0\\ncall 1001\\nr0 = 0\\nexit\"",
+                "refused: init -22\n",
+            ),
+        ],
     );
 }
+
+/// A policy and a workload with faults, and the line of the first.
+const SEVERAL_FAULTS: [(&str, &str, &str); 4] = [
+    (
+        "timeout_ms = 0\ncode.init = \"r0 = r5\\nexit\"",
+        "cpus = 65",
+        "refused: policy timeout_ms: out of range\n",
+    ),
+    ("a =", "b =", "refused: policy file: not TOML\n"),
+    (
+        UNSAFE,
+        "cpus = 65",
+        "refused: workload cpus: out of range\n",
+    ),
+    (
+        UNSAFE,
+        TWO_TASKS,
+        "refused: verify enqueue 5 UnusableRegister at 0\n",
+    ),
+];
 
 /// Of several faults the first one is named: the policy's text, the workload's text, the callbacks in
 /// their order, and then init.
 #[test]
 fn the_first_of_several_is_refused(rt: HostRuntime) {
-    expect(
-        &rt,
-        "timeout_ms = 0\ncode.init = \"r0 = r5\\nexit\"",
-        "cpus = 65",
-        "refused: policy timeout_ms: out of range\n",
-    );
-    expect(&rt, "a =", "b =", "refused: policy file: not TOML\n");
-    expect(
-        &rt,
-        UNSAFE,
-        "cpus = 65",
-        "refused: workload cpus: out of range\n",
-    );
-    expect(
-        &rt,
-        UNSAFE,
-        TWO_TASKS,
-        "refused: verify enqueue 5 UnusableRegister at 0\n",
-    );
+    for &(policy, workload, line) in &SEVERAL_FAULTS {
+        refuses_run(&rt, policy, workload, line);
+        refuses_report(&rt, policy, workload, line);
+    }
 }

@@ -8,6 +8,20 @@ use scx_output::Counted;
 use scx_simulation::{report, simulate};
 use std::process::Abort;
 
+fn expect_trace<R: AllocGlobal + Abort>(rt: &R, policy: &str, workload: &str, wanted: &str) {
+    let mut trace = Memory::new(rt.alloc());
+    let done = simulate(rt.alloc(), policy, workload, &mut Counted::new(&mut trace));
+    assert_eq!(rt; done, Ok(true));
+    assert_eq!(rt; trace.bytes.as_slice(), wanted.as_bytes());
+}
+
+fn expect_report<R: AllocGlobal + Abort>(rt: &R, policy: &str, workload: &str, wanted: &str) {
+    let mut lines = Memory::new(rt.alloc());
+    let done = report(rt.alloc(), policy, workload, &mut Counted::new(&mut lines));
+    assert_eq!(rt; done, Ok(true));
+    assert_eq!(rt; lines.bytes.as_slice(), wanted.as_bytes());
+}
+
 pub(crate) fn expect<R: AllocGlobal + Abort>(
     rt: &R,
     policy: &str,
@@ -15,14 +29,8 @@ pub(crate) fn expect<R: AllocGlobal + Abort>(
     wanted_trace: &str,
     wanted_report: &str,
 ) {
-    let mut trace = Memory::new(rt.alloc());
-    let done = simulate(rt.alloc(), policy, workload, &mut Counted::new(&mut trace));
-    assert_eq!(rt; done, Ok(true));
-    assert_eq!(rt; trace.bytes.as_slice(), wanted_trace.as_bytes());
-    let mut lines = Memory::new(rt.alloc());
-    let done = report(rt.alloc(), policy, workload, &mut Counted::new(&mut lines));
-    assert_eq!(rt; done, Ok(true));
-    assert_eq!(rt; lines.bytes.as_slice(), wanted_report.as_bytes());
+    expect_trace(rt, policy, workload, wanted_trace);
+    expect_report(rt, policy, workload, wanted_report);
 }
 
 #[test]
@@ -77,7 +85,7 @@ policy in force
 }
 
 #[test]
-fn three_tasks_on_two_processors(rt: HostRuntime) {
+fn three_tasks_share_two_processors(rt: HostRuntime) {
     let trace = "0 wake a
 0 insert a queue 0
 0 move a local 0

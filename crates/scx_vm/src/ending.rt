@@ -1,7 +1,7 @@
 /// The end of a run at an `exit` (RFC 9669, section 4.3).
 #[derive(Clone, Copy, Debug, PartialEq, Eq)]
 pub struct Done {
-    /// The number that r0 held; 0 where the callback answers none.
+    /// The number in r0; 0 where the callback answers none.
     pub r0: u64,
     /// How many instructions were done, the `exit` included: at least 1.
     pub steps: usize,

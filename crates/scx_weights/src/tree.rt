@@ -10,7 +10,7 @@ use std::marker::Model;
 
 /// Groups with weights, tasks in them, and which tasks are active.
 ///
-/// Groups and tasks go by their places in the lists that the tree was made of. In a contract a tree is
+/// Groups and tasks go by their numbers in the lists that the tree was made of. In a contract a tree is
 /// those two lists and whether each task is active.
 #[derive(Drop)]
 pub struct Tree {

@@ -33,7 +33,7 @@ pub struct Change {
 
 /// Groups, tasks in them, and what happens to them.
 ///
-/// Groups and tasks go by their places in the file. In a contract a workload is its lists: names are
+/// Groups and tasks go by their numbers in the file. In a contract a workload is its lists: names are
 /// lists of bytes.
 #[derive(Drop)]
 pub struct Workload {

@@ -5,7 +5,7 @@ use Rattle.scx_dsq.specs.Heaps.{IsHeapBut, HasSpots, KeepsOthers, with_item, wit
 use Rattle.scx_dsq.proofs.Heaps.{Rises}
 use Rattle.scx_dsq.proofs.heap.make_way_up.Given as goal
 
--- of the items with the held one in place
+-- of the items with the one that is held aside put back
 pub record Keeps (items now : List Item) (old spots : List ℕ) (start at before steps : ℕ) : Type 0 where
   pub spots_kept : HasSpots now spots
   pub others : KeepsOthers items old spots

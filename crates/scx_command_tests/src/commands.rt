@@ -1,0 +1,81 @@
+//! Commands that read one file and write to memory.
+
+use crate::memory::Memory;
+use scx_commands::{Counted, Fault, Out, asm, dis, exec, finish};
+use scx_verdicts::check;
+use std::alloc::Global;
+use std::process::Abort;
+
+#[derive(Clone, Copy)]
+pub(crate) enum Command {
+    Asm,
+    Dis,
+    Exec,
+    Check,
+}
+
+fn outcome<W: Out>(
+    alloc: Global,
+    command: Command,
+    bytes: &[u8],
+    out: &mut W,
+) -> Result<bool, Fault> {
+    match command {
+        Command::Asm => asm(alloc, bytes, out),
+        Command::Dis => dis(alloc, bytes, out),
+        Command::Exec => exec(alloc, bytes, out),
+        Command::Check => check(alloc, bytes, out),
+    }
+}
+
+/// Gives the command a file of these bytes, and answers the status.
+pub(crate) fn run<W: Out>(alloc: Global, command: Command, bytes: &[u8], out: &mut W) -> u8 {
+    let outcome = outcome(alloc, command, bytes, out);
+    finish(outcome, out)
+}
+
+/// Compares what the command writes, and its status.
+pub(crate) fn expect<R: AllocGlobal + Abort>(
+    rt: &R,
+    command: Command,
+    bytes: &[u8],
+    written: &[u8],
+    status: u8,
+) {
+    let mut memory = Memory::new(rt.alloc());
+    let found = run(rt.alloc(), command, bytes, &mut Counted::new(&mut memory));
+    assert_eq!(rt; memory.bytes.as_slice(), written);
+    assert_eq!(rt; found, status);
+}
+
+/// The command's writer fails behind these bytes, and nothing more is written.
+fn expect_cut<R: AllocGlobal + Abort>(
+    rt: &R,
+    command: Command,
+    bytes: &[u8],
+    written: &[u8],
+    fails_by_zero: bool,
+) {
+    let mut memory = Memory::failing(rt.alloc(), 1, written.len(), fails_by_zero);
+    let mut out = Counted::new(&mut memory);
+    assert_eq!(rt;
+        run(rt.alloc(), command, bytes, &mut out),
+        3,
+        "behind {written:?}"
+    );
+    assert_eq!(rt; out.failures(), 1);
+    assert_eq!(rt; memory.bytes.as_slice(), written);
+}
+
+/// Wherever a writer fails in this line, the failed write is the last.
+pub(crate) fn expect_cuts<R: AllocGlobal + Abort>(
+    rt: &R,
+    command: Command,
+    bytes: &[u8],
+    line: &[u8],
+) {
+    for fails_at in 0..line.len() {
+        expect_cut(rt, command, bytes, &line[..fails_at], false);
+        expect_cut(rt, command, bytes, &line[..fails_at], true);
+    }
+}

@@ -1,0 +1,91 @@
+/*
+ * What a policy in C uses of the host. docs/C_POLICIES.md says how to write and build one,
+ * docs/POLICIES.md when callbacks are called and what helpers do.
+ */
+#ifndef SCX_H
+#define SCX_H
+
+typedef unsigned int u32;
+typedef unsigned long long u64;
+typedef int s32;
+typedef long long s64;
+
+/*
+ * A callback stands in a section that has its name:
+ *
+ *   SEC("init")       u64 NAME(void)
+ *   SEC("enable")     void NAME(struct task *task)
+ *   SEC("select_cpu") u64 NAME(struct task *task, u64 prev_cpu, u64 flags)
+ *   SEC("enqueue")    void NAME(struct task *task, u64 flags)
+ *   SEC("dispatch")   void NAME(u64 cpu, struct task *prev)    prev may be 0
+ *   SEC("running")    void NAME(struct task *task)
+ *   SEC("stopping")   void NAME(struct task *task, u64 runnable)
+ *
+ * NAME is free, but for the section's own name.
+ */
+#define SEC(name) __attribute__((section(name), used))
+
+/* A function that a callback calls is put in its place: programs call helpers alone. */
+#define INLINE static inline __attribute__((always_inline))
+
+/* A task. Fields are volatile, since a load or store takes a whole one. */
+struct task {
+	const volatile u32 pid;
+	const volatile u32 weight;
+	volatile u64 slice;		/* what is left of it, in nanoseconds */
+	volatile u64 dsq_vtime;
+	const volatile u32 prev_cpu;
+	const volatile u32 group;
+	const volatile u64 run_ns;
+};
+
+/* Queues beside the policy's own, whose numbers are below 2^63. */
+#define SCX_DSQ_GLOBAL (1ull << 63 | 1)
+#define SCX_DSQ_LOCAL (1ull << 63 | 2)
+#define SCX_DSQ_LOCAL_ON (3ull << 62)	/* SCX_DSQ_LOCAL_ON | cpu */
+
+#define SCX_SLICE_DFL 20000000ull	/* 20 ms, in nanoseconds */
+#define SCX_SLICE_INF (~0ull)
+#define SCX_ENQ_WAKEUP 1ull		/* in flags of enqueue: the task has just woken */
+
+/* The helpers, at their numbers. */
+static void *(*const map_lookup_elem)(u64 map, const u32 *key) = (void *)1;
+static u64 (*const ktime_get_ns)(void) = (void *)5;
+static s64 (*const create_dsq)(u64 queue) = (void *)1001;
+static s64 (*const dsq_insert)(struct task *task, u64 queue, u64 slice, u64 flags) = (void *)1002;
+static s64 (*const dsq_insert_vtime)(struct task *task, u64 queue, u64 slice, u64 vtime, u64 flags) = (void *)1003;
+static s64 (*const dsq_move_to_local)(u64 queue) = (void *)1004;
+static u64 (*const select_cpu_dfl)(struct task *task) = (void *)1005;
+static s64 (*const cpu_idle)(u64 cpu) = (void *)1006;
+static struct task *(*const task_by_pid)(u64 pid) = (void *)1007;
+static s64 (*const dsq_nr_queued)(u64 queue) = (void *)1008;
+
+/* Map NUMBER of the policy, counted from 0, has so many elements of that type. */
+#define DEFINE_MAP(number, entries, type) \
+	SEC("maps") static const u32 map_##number[3] = { number, entries, sizeof(type) }
+
+/* A task may wait so many milliseconds; where nothing is said, 30000. */
+#define DEFINE_TIMEOUT(ms) \
+	SEC("timeout_ms") static const u32 policy_timeout = ms
+
+/*
+ * A reference to a map. The instruction is written in bytes, so no loader has to put the number in,
+ * and no clang has to know its name.
+ */
+#define MAP(number) \
+	({ \
+		register u64 map_ asm("r1"); \
+		asm volatile(".byte 0x18, 0x51, 0, 0; .long %1; .quad 0" : "=r"(map_) : "i"(number)); \
+		map_; \
+	})
+
+/* A pointer to the element of a map at an index, or 0. The empty asm keeps clang from testing a copy for 0. */
+#define LOOKUP(number, index) \
+	({ \
+		u32 key_ = (index); \
+		void *element_ = map_lookup_elem(MAP(number), &key_); \
+		asm volatile("" : "+r"(element_)); \
+		element_; \
+	})
+
+#endif
