@@ -23,7 +23,7 @@ use Rattle.scx_world.specs.World.{WorldState, with_queues, with_task, task_at, w
 use Rattle.scx_world.specs.Tasks.{given_slice, given_vtime, given, gone, entered, for_cpu, brought, fill_front, renewed}
 use Rattle.scx_world.specs.Helpers.{is_there, can_create, faulted, is_dispatch, insert_fault, with_insert, released, inserted, asked, asked_by_vtime, can_move, moved, given_number, given_task, helper_after, stored_in, world_functions}
 use Rattle.scx_sched.specs.Once.{IsSound}
-use Rattle.scx_world.specs.Ejecting.{put_builtin, used, charged, overtaken}
+use Rattle.scx_world.specs.Ejecting.{put_builtin, used, charged}
 use Rattle.scx_sched.specs.Ranges.{IsFresh, IsFine}
 use Rattle.scx_sched.specs.Kept.{IsKeptBySteps}
 use Rattle.scx_sched.proofs.Entering.{keeps_if}
