@@ -25,9 +25,12 @@ use scx_world::{Eject, Fault, World};
 
 /// The program of a callback, while the policy is in force.
 fn acting<'a>(policy: &'a Policy, world: &World, callback: Callback) -> Option<&'a Verified>
-    ensures program { option_map (λ p. p.now) result ≡ unless_ejected world.now.ejected (program_of policy.now callback) }
-    ensures callback { IsAs callback (unless_ejected world.now.ejected (program_of policy.now callback)) }
-    ensures maps { HasMaps policy.now.shapes (unless_ejected world.now.ejected (program_of policy.now callback)) }
+    ensures program { option_map (λ p. p.now) result
+        ≡ unless_ejected world.now.ejected (program_of policy.now callback) }
+    ensures callback { IsAs callback
+        (unless_ejected world.now.ejected (program_of policy.now callback)) }
+    ensures maps { HasMaps policy.now.shapes
+        (unless_ejected world.now.ejected (program_of policy.now callback)) }
 {
     if world.is_ejected() {
         None
@@ -51,8 +54,12 @@ pub(crate) fn run_callback(
     requires arguments { FitsCallback callback (given arguments) }
     requires quiet { world.old.notes ≡ [] }
     requires few { world.old.queues.pushes + 4096 ≤ 2 ^ 63 }
-    ensures ended { record { answer = Some result; maps = maps.new; outside = world.new } ≡ called (unless_ejected world.old.ejected (program_of policy.now callback)) callback arguments maps.old world.old }
-    ensures answered { AreAnswered (calls_of (unless_ejected world.old.ejected (program_of policy.now callback)) arguments maps.old world.old) }
+    ensures ended { record { answer = Some result; maps = maps.new; outside = world.new }
+        ≡ called (unless_ejected world.old.ejected (program_of policy.now callback)) callback
+        arguments maps.old world.old }
+    ensures answered { AreAnswered
+        (calls_of (unless_ejected world.old.ejected (program_of policy.now callback)) arguments
+        maps.old world.old) }
     ensures shapes { HasShapes policy.now.shapes maps.new }
     ensures few { world.new.queues.pushes ≤ world.old.queues.pushes + 4096 }
 {
@@ -165,7 +172,8 @@ pub(crate) fn cpu_and_task(cpu: u32, before: Option<u16>) -> Args
 impl Machine {
     /// What is wrong with the callback that has just ended with that answer.
     fn fault(&self, callback: Callback, answer: u64) -> Option<Fault>
-        ensures { result ≡ or_fault self.now.world.call.fault (end_fault callback self.now.world (Some answer)) }
+        ensures { result
+            ≡ or_fault self.now.world.call.fault (end_fault callback self.now.world (Some answer)) }
     {
         if let Some(fault) = self.world.first_fault() {
             return Some(fault);
@@ -207,7 +215,8 @@ impl Machine {
         ensures answer { Some result ≡ answered_by self.old callback arguments task cpu }
         ensures state { self.new ≡ (call_back self.old callback arguments task cpu).state }
         ensures few { self.new.world.queues.pushes ≤ self.old.world.queues.pushes + 5120 }
-        ensures notes { Takes S.takes sink.old (call_back self.old callback arguments task cpu).notes sink.new }
+        ensures notes { Takes S.takes sink.old
+            (call_back self.old callback arguments task cpu).notes sink.new }
         ensures answered { AreAnswered (call_back self.old callback arguments task cpu).calls }
     {
         self.world.begin(callback, task, cpu);

@@ -61,7 +61,8 @@ impl Machine {
         requires few { self.old.world.queues.pushes + 5120 ≤ 2 ^ 63 }
         ensures state { self.new ≡ (stopping self.old cpu task runnable).state }
         ensures few { self.new.world.queues.pushes ≤ self.old.world.queues.pushes + 5120 }
-        ensures notes { Takes S.takes sink.old (stopping self.old cpu task runnable).notes sink.new }
+        ensures notes { Takes S.takes sink.old (stopping self.old cpu task runnable).notes
+            sink.new }
         ensures answered { AreAnswered (stopping self.old cpu task runnable).calls }
     {
         if self.is_ejected() {
@@ -154,7 +155,8 @@ impl Machine {
         requires few { self.old.world.queues.pushes + 15361 ≤ 2 ^ 63 }
         ensures state { self.new ≡ (swap_or_rest self.old cpu before ran).state }
         ensures few { self.new.world.queues.pushes ≤ self.old.world.queues.pushes + 15361 }
-        ensures notes { Takes S.takes sink.old (swap_or_rest self.old cpu before ran).notes sink.new }
+        ensures notes { Takes S.takes sink.old (swap_or_rest self.old cpu before ran).notes
+            sink.new }
         ensures answered { AreAnswered (swap_or_rest self.old cpu before ran).calls }
     {
         if self.has_local(cpu) {
@@ -170,7 +172,8 @@ impl Machine {
         requires few { self.old.world.queues.pushes + 15362 ≤ 2 ^ 63 }
         ensures state { self.new ≡ (builtin_ask self.old cpu before ran).state }
         ensures few { self.new.world.queues.pushes ≤ self.old.world.queues.pushes + 15362 }
-        ensures notes { Takes S.takes sink.old (builtin_ask self.old cpu before ran).notes sink.new }
+        ensures notes { Takes S.takes sink.old (builtin_ask self.old cpu before ran).notes
+            sink.new }
         ensures answered { AreAnswered (builtin_ask self.old cpu before ran).calls }
     {
         self.fill(BUILTIN, cpu, sink);
@@ -183,7 +186,8 @@ impl Machine {
         requires few { self.old.world.queues.pushes + 15363 ≤ 2 ^ 63 }
         ensures state { self.new ≡ (builtin_cycle self.old cpu before ran).state }
         ensures few { self.new.world.queues.pushes ≤ self.old.world.queues.pushes + 15363 }
-        ensures notes { Takes S.takes sink.old (builtin_cycle self.old cpu before ran).notes sink.new }
+        ensures notes { Takes S.takes sink.old (builtin_cycle self.old cpu before ran).notes
+            sink.new }
         ensures answered { AreAnswered (builtin_cycle self.old cpu before ran).calls }
     {
         self.fill(GLOBAL, cpu, sink);
@@ -225,7 +229,8 @@ impl Machine {
         requires few { self.old.world.queues.pushes + 25604 ≤ 2 ^ 63 }
         ensures state { self.new ≡ (pick_or_rest self.old cpu before ran).state }
         ensures few { self.new.world.queues.pushes ≤ self.old.world.queues.pushes + 25604 }
-        ensures notes { Takes S.takes sink.old (pick_or_rest self.old cpu before ran).notes sink.new }
+        ensures notes { Takes S.takes sink.old (pick_or_rest self.old cpu before ran).notes
+            sink.new }
         ensures answered { AreAnswered (pick_or_rest self.old cpu before ran).calls }
     {
         if self.has_local(cpu) {

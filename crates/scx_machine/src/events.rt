@@ -129,8 +129,10 @@ impl Machine {
         requires few { self.old.world.queues.pushes + 5121 ≤ 2 ^ 63 }
         ensures state { self.new ≡ (settled self.old.world.call.insert self.old task cpu).state }
         ensures few { self.new.world.queues.pushes ≤ self.old.world.queues.pushes + 5121 }
-        ensures notes { Takes S.takes sink.old (settled self.old.world.call.insert self.old task cpu).notes sink.new }
-        ensures answered { AreAnswered (settled self.old.world.call.insert self.old task cpu).calls }
+        ensures notes { Takes S.takes sink.old
+            (settled self.old.world.call.insert self.old task cpu).notes sink.new }
+        ensures answered { AreAnswered
+            (settled self.old.world.call.insert self.old task cpu).calls }
     {
         match self.world.insert() {
             Some(insert) => self.enter(task, insert.for_cpu(cpu), sink),

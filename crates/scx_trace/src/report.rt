@@ -23,7 +23,8 @@ pub fn write_report<N: Names, W: Out>(sim: &Sim, names: &N, out: &mut W) -> Resu
     ensures ok_failures { OnOk result (W.failure_count out.new ≡ W.failure_count out.old) }
     ensures err { OnErr result (AppendsBeginning (W.contents out.old) (W.contents out.new)
         (report (N.lists names.now) (times sim.now.state.world) sim.now.state.world.ejected)) }
-    ensures err_failures { OnErr result (HasFailed (W.failure_count out.old) (W.failure_count out.new)) }
+    ensures err_failures { OnErr result
+        (HasFailed (W.failure_count out.old) (W.failure_count out.new)) }
 {
     let total = total_ms(sim);
     for task in 0..sim.tasks() {
@@ -98,10 +99,15 @@ fn write_policy<N: Names, W: Out>(
     names: &N,
     out: &mut W,
 ) -> Result<(), Failed>
-    ensures ok { OnOk result (Appends (W.contents out.old) (W.contents out.new) (policy_line (N.lists names.now) ejected)) }
+    ensures ok { OnOk result
+        (Appends (W.contents out.old) (W.contents out.new)
+        (policy_line (N.lists names.now) ejected)) }
     ensures ok_failures { OnOk result (W.failure_count out.new ≡ W.failure_count out.old) }
-    ensures err { OnErr result (AppendsBeginning (W.contents out.old) (W.contents out.new) (policy_line (N.lists names.now) ejected)) }
-    ensures err_failures { OnErr result (HasFailed (W.failure_count out.old) (W.failure_count out.new)) }
+    ensures err { OnErr result
+        (AppendsBeginning (W.contents out.old) (W.contents out.new)
+        (policy_line (N.lists names.now) ejected)) }
+    ensures err_failures { OnErr result
+        (HasFailed (W.failure_count out.old) (W.failure_count out.new)) }
 {
     let start = policy_start(ejected);
     let end = policy_end(ejected);
