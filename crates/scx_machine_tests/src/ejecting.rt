@@ -2,18 +2,23 @@
 //! 9223372036854775811 is HELD, 9223372036854775812 is BUILTIN, and 13835058055282163712 is the local queue
 //! of processor 0.
 
-use crate::policies::SHORT_SLICES;
+use crate::policies::{SHORT_SLICES, policy};
 use crate::session::Session;
 use scx_examples::{DISPATCH, INIT};
 use scx_isa::Callback;
 use scx_sched::{Eject, Event, Place, Refused};
+use scx_weights::{Group, Tree, TreeError};
+use std::alloc::Global;
 use std::process::Abort;
+use std::test::Fail;
+
+/// Inserts into a queue that isn't there.
+const NO_QUEUE: &str = "r2 = 9\nr3 = 0\nr4 = 0\ncall 1002\nexit";
 
 /// What a policy notes as its one task wakes on one processor.
 const WAKES: [(&[(Callback, &str)], &str); 6] = [
-    // Queue 9 isn't there.
     (
-        &[(Callback::Enqueue, "r2 = 9\nr3 = 0\nr4 = 0\ncall 1002\nexit")],
+        &[(Callback::Enqueue, NO_QUEUE)],
         "0 Wake(0)
 0 Fault(NoSuchQueue)
 0 Insert(0, 9223372036854775812)
@@ -468,9 +473,14 @@ const FROM_EVERYWHERE: &str = "0 Wake(0)
 0 Insert(3, 9223372036854775812)
 0 Insert(4, 9223372036854775812)
 0 Insert(5, 9223372036854775812)
+0 Sleep(1)
+0 Sleep(0)
+0 Stop(0, 0)
+0 Move(2, 0)
+0 Run(2, 0)
 ";
 
-/// Who waits in any queue goes over, in the order of numbers; who runs stays.
+/// Who waits in any queue goes over, in the order of numbers; who runs stays. Two of them sleep then.
 #[test]
 fn from_every_queue(rt: HostRuntime) {
     let texts = [(Callback::Init, INIT), (Callback::Enqueue, EVERYWHERE)];
@@ -478,7 +488,68 @@ fn from_every_queue(rt: HostRuntime) {
     for task in [0, 4, 3, 2, 1, 5] {
         session.run(&rt, &[Event::Wake(task)]);
     }
+    session.are_at(&rt, &[(0, Place::Cpu(0)), (4, Place::Builtin)]);
+    session.run(&rt, &[Event::Sleep(1), Event::Sleep(0)]);
     session.noted(&rt, FROM_EVERYWHERE);
-    session.are_at(&rt, &[(0, Place::Cpu(0)), (3, Place::Builtin)]);
     drop(session);
+}
+
+/// After slices of 20 ms the first task has 266666 more, and each of the others 1600000.
+const BY_WEIGHT: &str = "0 Wake(0)
+0 Fault(NoSuchQueue)
+0 Insert(0, 9223372036854775812)
+0 Move(0, 0)
+0 Run(0, 0)
+0 Wake(1)
+0 Insert(1, 9223372036854775812)
+0 Wake(2)
+0 Insert(2, 9223372036854775812)
+19 Move(1, 0)
+19 Stop(0, 0)
+19 Insert(0, 9223372036854775812)
+19 Run(1, 0)
+39 Move(2, 0)
+39 Stop(1, 0)
+39 Insert(1, 9223372036854775812)
+39 Run(2, 0)
+59 Move(0, 0)
+59 Stop(2, 0)
+59 Insert(2, 9223372036854775812)
+59 Run(0, 0)
+79 Move(1, 0)
+79 Stop(0, 0)
+79 Insert(0, 9223372036854775812)
+79 Run(1, 0)
+99 Move(0, 0)
+99 Stop(1, 0)
+99 Insert(1, 9223372036854775812)
+99 Run(0, 0)
+119 Move(2, 0)
+119 Stop(0, 0)
+119 Insert(0, 9223372036854775812)
+119 Run(2, 0)
+";
+
+/// A group of one task weighs three times as much as a group of two.
+fn three_to_one(alloc: Global) -> Result<Tree, TreeError> {
+    let heavy = Group {
+        parent: None,
+        weight: 300,
+    };
+    let light = Group {
+        parent: None,
+        weight: 100,
+    };
+    Tree::new(alloc, &[heavy, light], &[0, 1, 1])
+}
+
+#[test]
+fn who_weighs_more_runs_more(rt: HostRuntime) -> Result<(), Fail> {
+    let policy = policy(&rt, &[(Callback::Enqueue, NO_QUEUE)]);
+    let mut session = Session::of(&rt, policy, three_to_one(rt.alloc())?, 1, 100);
+    session.run(&rt, &[Event::Wake(0), Event::Wake(1), Event::Wake(2)]);
+    session.go_by(&rt, 130);
+    session.noted(&rt, BY_WEIGHT);
+    drop(session);
+    Ok(())
 }
