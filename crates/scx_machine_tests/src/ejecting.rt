@@ -2,18 +2,23 @@
 //! 9223372036854775811 is HELD, 9223372036854775812 is BUILTIN, and 13835058055282163712 is the local queue
 //! of processor 0.
 
-use crate::policies::SHORT_SLICES;
+use crate::policies::{SHORT_SLICES, policy};
 use crate::session::Session;
 use scx_examples::{DISPATCH, INIT};
 use scx_isa::Callback;
 use scx_sched::{Eject, Event, Place, Refused};
+use scx_weights::{Group, Tree, TreeError};
+use std::alloc::Global;
 use std::process::Abort;
+use std::test::Fail;
+
+/// Inserts into a queue that isn't there.
+const NO_QUEUE: &str = "r2 = 9\nr3 = 0\nr4 = 0\ncall 1002\nexit";
 
 /// What a policy notes as its one task wakes on one processor.
 const WAKES: [(&[(Callback, &str)], &str); 6] = [
-    // Queue 9 isn't there.
     (
-        &[(Callback::Enqueue, "r2 = 9\nr3 = 0\nr4 = 0\ncall 1002\nexit")],
+        &[(Callback::Enqueue, NO_QUEUE)],
         "0 Wake(0)
 0 Fault(NoSuchQueue)
 0 Insert(0, 9223372036854775812)
@@ -307,44 +312,66 @@ fn as_tasks_are_held(rt: HostRuntime) {
     drop(session);
 }
 
-/// Events that the machine never takes.
-const NEVER: [(Event, Refused); 6] = [
-    (Event::Wake(2), Refused::UnknownTask),
-    (Event::Sleep(2), Refused::UnknownTask),
-    (Event::Tick(1), Refused::UnknownCpu),
-    (Event::SetWeight(1, 1), Refused::UnknownGroup),
-    (Event::SetWeight(0, 0), Refused::BadWeight),
-    (Event::SetWeight(0, 10_001), Refused::BadWeight),
-];
+/// As many events are in the list of `hold_two`.
+const EVENTS: usize = 56;
 
-/// Before the event all these are refused.
-fn refuse_and_run(rt: &impl Abort, session: &mut Session, also: (Event, Refused), event: Event) {
-    session.refuse(rt, &NEVER);
-    session.refuse(rt, &[also]);
-    session.run(rt, &[event]);
+fn event_of(number: usize) -> Event {
+    match number {
+        0 => Event::Wake(0),
+        1 => Event::Wake(1),
+        _ if number % 2 == 0 => Event::Tick(0),
+        _ => Event::Clock,
+    }
 }
 
-fn hold_two_between_refusals(rt: &impl Abort, session: &mut Session) {
-    let asleep = (Event::Sleep(1), Refused::NotRunnable);
-    let awake = (Event::Wake(0), Refused::AlreadyRunnable);
-    refuse_and_run(rt, session, asleep, Event::Wake(0));
-    session.refuse(rt, &[asleep]);
-    refuse_and_run(rt, session, awake, Event::Wake(1));
-    for _ in 0..27 {
-        refuse_and_run(rt, session, awake, Event::Tick(0));
-        refuse_and_run(rt, session, awake, Event::Clock);
+/// Events that are refused, and the places in the list where they are: behind so many events, and no more
+/// behind so many.
+const REFUSALS: [(Event, Refused, usize, usize); 10] = [
+    (Event::Wake(0), Refused::AlreadyRunnable, 1, 57),
+    (Event::Wake(1), Refused::AlreadyRunnable, 2, 57),
+    (Event::Sleep(0), Refused::NotRunnable, 0, 1),
+    (Event::Sleep(1), Refused::NotRunnable, 0, 2),
+    (Event::Wake(2), Refused::UnknownTask, 0, 57),
+    (Event::Sleep(u16::MAX), Refused::UnknownTask, 0, 57),
+    (Event::Tick(1), Refused::UnknownCpu, 0, 57),
+    (Event::SetWeight(1, 0), Refused::UnknownGroup, 0, 57),
+    (Event::SetWeight(0, 0), Refused::BadWeight, 0, 57),
+    (Event::SetWeight(0, 10_001), Refused::BadWeight, 0, 57),
+];
+
+fn run_between(rt: &impl Abort, session: &mut Session, from: usize, to: usize) {
+    for number in from..to {
+        session.run(rt, &[event_of(number)]);
     }
-    session.refuse(rt, &NEVER);
+}
+
+/// The list with an event that is refused at that place, and the machine that was given the list without it.
+fn expect_refused<R: AllocGlobal + Abort>(
+    rt: &R,
+    whole: &Session,
+    place: usize,
+    refusal: (Event, Refused),
+) {
+    let mut session = holding(rt);
+    run_between(rt, &mut session, 0, place);
+    session.refuse(rt, &[refusal]);
+    run_between(rt, &mut session, place, EVENTS);
     session.noted(rt, HELD);
-    assert_eq!(rt; session.sim.events(), 56);
-    session.are_at(rt, &[(0, Place::Builtin), (1, Place::Cpu(0))]);
+    session.stands_as(rt, whole);
+    drop(session);
 }
 
 #[test]
 fn refused_events_change_nothing(rt: HostRuntime) {
-    let mut session = holding(&rt);
-    hold_two_between_refusals(&rt, &mut session);
-    drop(session);
+    let mut whole = holding(&rt);
+    run_between(&rt, &mut whole, 0, EVENTS);
+    whole.noted(&rt, HELD);
+    for &(event, refused, from, to) in &REFUSALS {
+        for place in from..to {
+            expect_refused(&rt, &whole, place, (event, refused));
+        }
+    }
+    drop(whole);
 }
 
 const TWO_CPUS: &str = "0 Wake(0)
@@ -407,4 +434,122 @@ fn on_two_processors(rt: HostRuntime) {
     let mut session = Session::new(&rt, &texts, &[0, 0, 0], 2);
     eject_at_the_third(&rt, &mut session);
     drop(session);
+}
+
+/// By number: GLOBAL, the policy's queue, the processor's own, GLOBAL, nowhere, and a queue that isn't there.
+const EVERYWHERE: &str = "r5 = *(u32 *)(r1 + 0)
+r3 = 0
+r4 = 0
+if r5 == 5 goto out
+r2 = 9
+if r5 == 6 goto insert
+r2 = 0
+if r5 == 2 goto insert
+r2 = 13835058055282163712 ll
+if r5 == 3 goto insert
+r2 = 9223372036854775809 ll
+insert:
+call 1002
+out:
+exit
+";
+
+const FROM_EVERYWHERE: &str = "0 Wake(0)
+0 Insert(0, 9223372036854775809)
+0 Move(0, 0)
+0 Run(0, 0)
+0 Wake(4)
+0 Insert(4, 9223372036854775811)
+0 Wake(3)
+0 Insert(3, 9223372036854775809)
+0 Wake(2)
+0 Insert(2, 13835058055282163712)
+0 Wake(1)
+0 Insert(1, 0)
+0 Wake(5)
+0 Fault(NoSuchQueue)
+0 Insert(1, 9223372036854775812)
+0 Insert(2, 9223372036854775812)
+0 Insert(3, 9223372036854775812)
+0 Insert(4, 9223372036854775812)
+0 Insert(5, 9223372036854775812)
+0 Sleep(1)
+0 Sleep(0)
+0 Stop(0, 0)
+0 Move(2, 0)
+0 Run(2, 0)
+";
+
+/// Who waits in any queue goes over, in the order of numbers; who runs stays. Two of them sleep then.
+#[test]
+fn from_every_queue(rt: HostRuntime) {
+    let texts = [(Callback::Init, INIT), (Callback::Enqueue, EVERYWHERE)];
+    let mut session = Session::new(&rt, &texts, &[0, 0, 0, 0, 0, 0], 1);
+    for task in [0, 4, 3, 2, 1, 5] {
+        session.run(&rt, &[Event::Wake(task)]);
+    }
+    session.are_at(&rt, &[(0, Place::Cpu(0)), (4, Place::Builtin)]);
+    session.run(&rt, &[Event::Sleep(1), Event::Sleep(0)]);
+    session.noted(&rt, FROM_EVERYWHERE);
+    drop(session);
+}
+
+/// After slices of 20 ms the first task has 266666 more, and each of the others 1600000.
+const BY_WEIGHT: &str = "0 Wake(0)
+0 Fault(NoSuchQueue)
+0 Insert(0, 9223372036854775812)
+0 Move(0, 0)
+0 Run(0, 0)
+0 Wake(1)
+0 Insert(1, 9223372036854775812)
+0 Wake(2)
+0 Insert(2, 9223372036854775812)
+19 Move(1, 0)
+19 Stop(0, 0)
+19 Insert(0, 9223372036854775812)
+19 Run(1, 0)
+39 Move(2, 0)
+39 Stop(1, 0)
+39 Insert(1, 9223372036854775812)
+39 Run(2, 0)
+59 Move(0, 0)
+59 Stop(2, 0)
+59 Insert(2, 9223372036854775812)
+59 Run(0, 0)
+79 Move(1, 0)
+79 Stop(0, 0)
+79 Insert(0, 9223372036854775812)
+79 Run(1, 0)
+99 Move(0, 0)
+99 Stop(1, 0)
+99 Insert(1, 9223372036854775812)
+99 Run(0, 0)
+119 Move(2, 0)
+119 Stop(0, 0)
+119 Insert(0, 9223372036854775812)
+119 Run(2, 0)
+";
+
+/// A group of one task weighs three times as much as a group of two.
+fn three_to_one(alloc: Global) -> Result<Tree, TreeError> {
+    let heavy = Group {
+        parent: None,
+        weight: 300,
+    };
+    let light = Group {
+        parent: None,
+        weight: 100,
+    };
+    Tree::new(alloc, &[heavy, light], &[0, 1, 1])
+}
+
+#[test]
+fn who_weighs_more_runs_more(rt: HostRuntime) -> Result<(), Fail> {
+    let policy = policy(&rt, &[(Callback::Enqueue, NO_QUEUE)]);
+    let mut session = Session::of(&rt, policy, three_to_one(rt.alloc())?, 1, 100);
+    session.run(&rt, &[Event::Wake(0), Event::Wake(1), Event::Wake(2)]);
+    session.go_by(&rt, 130);
+    session.noted(&rt, BY_WEIGHT);
+    drop(session);
+    Ok(())
 }

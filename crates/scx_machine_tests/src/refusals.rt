@@ -84,13 +84,9 @@ fn an_answer_of_init_is_refused(rt: HostRuntime) {
     expect_init(&rt, "r0 = -1\nexit", Some(NewError::InitFailed(-1)));
     let twice = "r1 = 0\ncall 1001\nr1 = 0\ncall 1001\nr0 = 0\nexit";
     expect_init(&rt, twice, Some(NewError::InitFailed(-22)));
-}
-
-#[test]
-fn a_fault_in_enable_is_refused(rt: HostRuntime) {
-    let text = "r1 = 9\ncall 1008\nexit";
-    let bad = bad_machine(&rt, &[(Callback::Enable, text)], tree(&rt, &[0]), 1);
-    assert_eq!(rt; bad, Some(NewError::InitFailed(-22)));
+    // A fault goes before an answer.
+    let both = "r1 = 9\ncall 1008\nr0 = 7\nexit";
+    expect_init(&rt, both, Some(NewError::InitFailed(-22)));
 }
 
 /// Events that no machine of two tasks and one processor takes.

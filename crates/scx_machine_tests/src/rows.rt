@@ -2,7 +2,7 @@
 
 use crate::policies::{policy, tree, two_milliseconds};
 use crate::session::Session;
-use scx_sched::{Event, Place, Refused, Sim};
+use scx_sched::{Event, Place, Refused};
 use std::process::Abort;
 
 /// A machine of two tasks, with room for so many notes.
@@ -58,34 +58,12 @@ fn two_tasks_take_turns(rt: HostRuntime) {
     drop(session);
 }
 
-/// What a machine says of a task: its place, run time, slice, virtual time and wait.
-fn seen(rt: &impl Abort, sim: &Sim, task: u16) -> (Place, u64, u64, u64, u64) {
-    let known = task < sim.tasks();
-    assert!(rt; known);
-    (
-        sim.place(task),
-        sim.run_ns(task),
-        sim.slice(task),
-        sim.vtime(task),
-        sim.wait(task),
-    )
-}
-
-fn assert_same(rt: &impl Abort, one: &Sim, other: &Sim) {
-    assert_eq!(rt;
-        (one.clock(), one.events()),
-        (other.clock(), other.events())
-    );
-    assert_eq!(rt; seen(rt, one, 0), seen(rt, other, 0));
-    assert_eq!(rt; seen(rt, one, 1), seen(rt, other, 1));
-}
-
 /// With room for so many notes only, nothing else changes.
 fn expect_at_room<R: AllocGlobal + Abort>(rt: &R, room: usize, whole: &Session) {
     let mut session = at_room(rt, room);
     run_two_tasks(rt, &mut session);
     assert_eq!(rt; session.recorder.notes, room);
-    assert_same(rt, &session.sim, &whole.sim);
+    session.stands_as(rt, whole);
     drop(session);
 }
 

@@ -3,9 +3,12 @@
 use crate::policies::{policy, policy_within, tree};
 use crate::recorder::Recorder;
 use scx_isa::Callback;
-use scx_sched::{Event, Place, Policy, Refused, Sim};
+use scx_sched::{Eject, Event, Place, Policy, Refused, Sim};
 use scx_weights::Tree;
 use std::process::Abort;
+
+/// Clock, events and ejection; a task's place and wait; its run time, slice and virtual time.
+type Seen = ((u64, u64, Option<Eject>), (Place, u64), (u64, u64, u64));
 
 /// A machine, and what it noted. A test ends with `drop`, which std has proved: what lets a whole machine go in
 /// a function of its own is long to prove.
@@ -119,5 +122,24 @@ impl Session {
         let known = task < self.sim.tasks();
         assert!(rt; known);
         assert_eq!(rt; self.sim.slice(task), wanted);
+    }
+
+    /// What the machine says of itself and of a task.
+    fn seen(&self, rt: &impl Abort, task: u16) -> Seen {
+        let known = task < self.sim.tasks();
+        assert!(rt; known);
+        let sim = &self.sim;
+        (
+            (sim.clock(), sim.events(), sim.ejected()),
+            (sim.place(task), sim.wait(task)),
+            (sim.run_ns(task), sim.slice(task), sim.vtime(task)),
+        )
+    }
+
+    /// Both machines, of two tasks, say the same.
+    pub(crate) fn stands_as(&self, rt: &impl Abort, other: &Session) {
+        for task in 0..2_u16 {
+            assert_eq!(rt; self.seen(rt, task), other.seen(rt, task));
+        }
     }
 }
