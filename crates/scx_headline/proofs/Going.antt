@@ -1,6 +1,6 @@
 -- How far a run has come, one event after another: what holds of the run that is still to come, with what
 -- was done, makes the whole.
-use Rattle.std.proofs.Common.{◌≡◌, ◌++◌, List, [], ◌∷◌, None, refl, subst, sym}
+use Rattle.std.proofs.Common.{◌≡◌, List, [], ◌∷◌, None, refl, subst, sym}
 use Rattle.std.specs.List.{AllByRecursion}
 use Rattle.scx_world.specs.declared.notes.Note.{Note}
 use Rattle.scx_machine.specs.declared.events.Event.{Event}

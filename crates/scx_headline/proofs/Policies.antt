@@ -1,5 +1,5 @@
 -- The policy of a machine stays the one that it was given, whatever happens.
-use Rattle.std.proofs.Common.{◌≡◌, ℕ, zero, suc, Bool, ◌==◌, if◌then◌else◌, Option, Some, None, refl, ◌∙◌}
+use Rattle.std.proofs.Common.{◌≡◌, ℕ, zero, suc, Bool, true, false, ◌==◌, if◌then◌else◌, Option, Some, None, refl, ◌∙◌}
 use Rattle.scx_dsq.specs.Queues.{front_of}
 use Rattle.scx_semantics.specs.declared.callbacks.Callback.{Callback}
 use Rattle.scx_semantics.specs.declared.callbacks.Callback.TheVariants as callback
@@ -8,13 +8,13 @@ use Rattle.scx_world.specs.declared.call.Insert.{Insert}
 use Rattle.scx_world.specs.declared.faults.Fault.{Fault}
 use Rattle.scx_world.specs.Ids.{global, builtin, local_on}
 use Rattle.scx_world.specs.World.{task_at, running, cpu_of, is_idle, begun}
-use Rattle.scx_world.specs.Tasks.{woken, asleep, gone, for_cpu, stopped, started_at, ticked, later}
+use Rattle.scx_world.specs.Tasks.{woken, asleep, for_cpu, stopped, started_at, ticked, later}
 use Rattle.scx_world.specs.Ejecting.{charged, overtaken}
 use Rattle.scx_machine.specs.declared.events.Event.{Event}
 use Rattle.scx_machine.specs.declared.events.Event.TheVariants.{Wake, Sleep, Tick, Clock, SetWeight}
 use Rattle.scx_machine.specs.declared.events.Refused.{Refused}
 use Rattle.scx_machine.specs.Steps.{State, Stepped, with_world, stays, joined, is_ejected}
-use Rattle.scx_machine.specs.Ejecting.{moves_over, eject, ejected_for}
+use Rattle.scx_machine.specs.Ejecting.{ejected_for}
 use Rattle.scx_machine.specs.Callbacks.{called, ended, fault_of, acting, call_back, answered_by, one_task, task_cpu_and_0, task_and_number, cpu_and_task}
 use Rattle.scx_machine.specs.Put.{enters, wanted, enters_builtin, comes_in, put}
 use Rattle.scx_machine.specs.Cycle.{has_local, fill, dispatched, asks_again, tries, stopping, running_on, leave, started_if, start, rest, swap, swap_or_rest, builtin_ask, builtin_cycle, start_or_cycle, pick, pick_or_rest, conclude, ask, seek, look, cycling, cycle}

@@ -1,4 +1,4 @@
-use Rattle.std.proofs.Common.{◌+◌, drop, get_or}
+use Rattle.std.proofs.Common.{◌+◌, drop}
 use Rattle.std.proofs.lemmas.List.{at_drop_more}
 use Rattle.scx_headline.proofs.Going.{gone_further}
 use Rattle.scx_headline.proofs.run.go_through.Goals as goal
