@@ -16,22 +16,18 @@ use Rattle.scx_sched.specs.Once.{appearances, IsOnce}
 use Rattle.scx_sched.specs.Waits.{IsTimely}
 use Rattle.scx_sched.proofs.First.{policy_started}
 use Rattle.scx_driver.specs.Runs.{stepped_all, notes_of_all}
-use Rattle.scx_headline.specs.Headline.{Run, states_from, calls_of_all, run_from, run_if, machine_run, IsRecorded, NoneIsStuck, EachIsOnce, NoneIsLate}
+use Rattle.scx_headline.specs.Headline.{Run, states_from, calls_of_all, run_from, run_if, machine_run, IsLast, IsRecorded, NoneIsStuck, EachIsOnce, NoneIsLate}
 use Rattle.scx_headline.proofs.Going.{AreOnce, AreTimely}
 use Rattle.scx_headline.proofs.Policies.{policy_stays}
 
 -- ---- the states
 
-pub record HasLast (states : List SimState) (s : SimState) : Type 0 where
-  pub earlier : List SimState
-  pub whole : states ≡ earlier ++ s ∷ []
-
 -- the last one is the one after all events
-last_state : (s : SimState) (events : List Event) → HasLast (states_from s events) (stepped_all s events)
-last_state s [] = record { earlier = []; whole = refl }
+last_state : (s : SimState) (events : List Event) → IsLast (stepped_all s events) (states_from s events)
+last_state s [] = ([], refl)
 last_state s (e ∷ es) =
     let h = last_state (stepped s e) es in
-    record { earlier = s ∷ h.earlier; whole = ap (λ ss. s ∷ ss) h.whole }
+    (s ∷ h.0, ap (λ ss. s ∷ ss) h.1)
 
 -- in one place
 placed : (w : WorldState) → IsOnce None w → (t : ℕ) → appearances w t ≡ one_if (is_runnable w t)
@@ -66,11 +62,17 @@ module _ (p : PolicyState) (tree : Hierarchy) (cpus : ℕ) (events : List Event)
       let from_state : ℕ → Run = λ n. run_from (start_calls p tree cpus) (record { state = s.state; events = n }) events in
       sym (ap (λ r. run_if r (start_calls p tree cpus) events) first.0 ∙ ap from_state (sym first.1))
 
+  pub run_notes : notes_of_all s events ≡ (machine_run p tree cpus events).notes
+  run_notes = ap (λ r. r.notes) is_machine_run
+
+  pub run_last : IsLast (stepped_all s events) (machine_run p tree cpus events).states
+  run_last = subst (λ (r : Run). IsLast (stepped_all s events) r.states) is_machine_run (last_state s events)
+
   pub run_recorded : {S : Type 0} (takes : S → Note → S → Type 0) (a : S) (t : SimState) (b : S) → t ≡ stepped_all s events → Takes takes a (notes_of_all s events) b → IsRecorded takes (machine_run p tree cpus events) a t b
   run_recorded takes a t b state notes =
-      let P : Run → Type 0 = λ r. IsRecorded takes r a t b in
-      let h = last_state s events in
-      subst P is_machine_run (record { earlier = h.earlier; states = h.whole ∙ ap (λ x. h.earlier ++ x ∷ []) (sym state); notes = notes })
+      let L : SimState → Type 0 = λ x. IsLast x (machine_run p tree cpus events).states in
+      let T : List Note → Type 0 = λ ns. Takes takes a ns b in
+      record { state = subst L (sym state) run_last; notes = subst T run_notes notes }
 
   pub run_never_stuck : AreAnswered (start_calls p tree cpus) → AreAnswered (calls_of_all s events) → NoneIsStuck (machine_run p tree cpus events)
   run_never_stuck before more =

@@ -50,11 +50,13 @@ machine_run p tree cpus events = run_if (started p tree cpus) (start_calls p tre
 
 -- ---- the sentence
 
+abbrev pub IsLast : SimState → List SimState → Type 0
+IsLast s states = (earlier : List SimState) × (states ≡ earlier ++ s ∷ [])
+
 -- the recorded run is the machine's: what is handed back is its last state, and the sink took its notes, in
 -- order, and no others
 pub record IsRecorded {S : Type 0} (takes : S → Note → S → Type 0) (run : Run) (a : S) (s : SimState) (b : S) : Type 0 where
-  pub earlier : List SimState
-  pub states : run.states ≡ earlier ++ s ∷ []
+  pub state : IsLast s run.states
   pub notes : Takes takes a run.notes b
 
 -- no callback is ever stuck or takes more steps than it has instructions

@@ -3,9 +3,12 @@
 //! every runnable task appears exactly once on a processor or in a queue, and while the policy is in force
 //! no task has waited longer than its limit.
 //!
-//! `run_events` does such a run, and its contract says so.
+//! `run_events` does such a run, and its contract says so. The runs that `simulate` and `report` write of are
+//! such runs.
 #![tactic(auto)]
 
+mod laws;
 mod run;
 
+pub use laws::files_stand_for_such_runs;
 pub use run::run_events;
