@@ -1,10 +1,10 @@
 -- The whole run of a machine, from its first state on.
-use Rattle.std.proofs.Common.{◌≡◌, ℕ, ◌≤◌, List, [], ◌∷◌, ◌++◌, None, refl, sym, ap, subst, ◌∙◌, arith}
+use Rattle.std.proofs.Common.{◌≡◌, ℕ, ◌≤◌, List, [], ◌∷◌, None, is_some, Bool, true, false, ◌||◌, refl, sym, ap, subst, ◌∙◌, arith}
 use Rattle.std.specs.List.{AllByRecursion}
 use Rattle.scx_dsq.specs.Laws.{one_if}
 use Rattle.scx_weights.specs.Hierarchy.{Hierarchy}
 use Rattle.scx_world.specs.declared.notes.Note.{Note}
-use Rattle.scx_world.specs.World.{WorldState, is_runnable, wait}
+use Rattle.scx_world.specs.World.{WorldState, task_at, is_runnable, waits, wait}
 use Rattle.scx_machine.specs.declared.events.Event.{Event}
 use Rattle.scx_machine.specs.Notes.{Takes}
 use Rattle.scx_machine.specs.Policy.{PolicyState}
@@ -13,11 +13,11 @@ use Rattle.scx_machine.specs.Start.{start_calls}
 use Rattle.scx_machine.proofs.Taking.{answered_append}
 use Rattle.scx_sched.specs.Sim.{SimState, stepped, IsFirst}
 use Rattle.scx_sched.specs.Once.{appearances, IsOnce}
-use Rattle.scx_sched.specs.Waits.{IsTimely}
+use Rattle.scx_sched.specs.Waits.{IsTimely, HasWaits}
 use Rattle.scx_sched.proofs.First.{policy_started}
 use Rattle.scx_driver.specs.Runs.{stepped_all, notes_of_all}
-use Rattle.scx_headline.specs.Headline.{Run, states_from, calls_of_all, run_from, run_if, machine_run, IsLast, IsRecorded, NoneIsStuck, EachIsOnce, NoneIsLate}
-use Rattle.scx_headline.proofs.Going.{AreOnce, AreTimely}
+use Rattle.scx_headline.specs.Headline.{Run, states_from, calls_of_all, run_from, run_if, machine_run, IsLast, IsRecorded, NoneIsStuck, EachIsOnce, EachWaitIsCounted, NoneIsLate}
+use Rattle.scx_headline.proofs.Going.{AreOnce, AreCounted, AreTimely}
 use Rattle.scx_headline.proofs.Policies.{policy_stays}
 
 -- ---- the states
@@ -36,6 +36,18 @@ placed w h t = omega (arith, h t)
 all_placed : (states : List SimState) → AreOnce states → AllByRecursion (λ s. (t : ℕ) → appearances s.state.world t ≡ one_if (is_runnable s.state.world t)) states
 all_placed [] h = tt
 all_placed (s ∷ ss) h = (placed s.state.world h.0, all_placed ss h.1)
+
+or_no : (b : Bool) → (b || false) ≡ b
+or_no true = refl
+or_no false = refl
+
+-- no task is at hand between two events
+counts : (w : WorldState) → HasWaits None w → (t : ℕ) → is_some (task_at w t).since ≡ waits w t
+counts w h t = h t ∙ or_no (waits w t)
+
+all_counted : (states : List SimState) → AreCounted states → AllByRecursion (λ s. (t : ℕ) → is_some (task_at s.state.world t).since ≡ waits s.state.world t) states
+all_counted [] h = tt
+all_counted (s ∷ ss) h = (counts s.state.world h.0, all_counted ss h.1)
 
 abbrev InTime : ℕ → SimState → Type 0
 InTime limit s = s.state.world.ejected ≡ None → (t : ℕ) → wait s.state.world t ≤ limit
@@ -80,6 +92,9 @@ module _ (p : PolicyState) (tree : Hierarchy) (cpus : ℕ) (events : List Event)
 
   pub run_once : AreOnce (states_from s events) → EachIsOnce (machine_run p tree cpus events)
   run_once h = subst EachIsOnce is_machine_run (all_placed (states_from s events) h)
+
+  pub run_counted : AreCounted (states_from s events) → EachWaitIsCounted (machine_run p tree cpus events)
+  run_counted h = subst EachWaitIsCounted is_machine_run (all_counted (states_from s events) h)
 
   pub run_timely : AreTimely (states_from s events) → NoneIsLate p.timeout_ms (machine_run p tree cpus events)
   run_timely h =

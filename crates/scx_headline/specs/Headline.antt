@@ -2,12 +2,12 @@
 -- run is the machine's; in it no callback is ever stuck or takes more steps than it has instructions,
 -- every runnable task appears exactly once on a processor or in a queue, and while the policy is in force
 -- no task has waited longer than its limit.
-use Rattle.std.specs.Prelude.{◌≡◌, ℕ, ℤ, ◌≤◌, List, [], ◌∷◌, ◌++◌, None, Result, Ok, Err}
+use Rattle.std.specs.Prelude.{◌≡◌, ℕ, ℤ, ◌≤◌, List, [], ◌∷◌, ◌++◌, None, is_some, Result, Ok, Err}
 use Rattle.std.specs.List.{AllByRecursion}
 use Rattle.scx_dsq.specs.Laws.{one_if}
 use Rattle.scx_weights.specs.Hierarchy.{Hierarchy}
 use Rattle.scx_world.specs.declared.notes.Note.{Note}
-use Rattle.scx_world.specs.World.{is_runnable, wait}
+use Rattle.scx_world.specs.World.{task_at, is_runnable, waits, wait}
 use Rattle.scx_machine.specs.declared.events.Event.{Event}
 use Rattle.scx_machine.specs.Notes.{Takes}
 use Rattle.scx_machine.specs.Policy.{PolicyState}
@@ -66,6 +66,10 @@ NoneIsStuck run = AreAnswered run.calls
 -- every runnable task appears exactly once on a processor or in a queue, and no other task anywhere
 abbrev pub EachIsOnce : Run → Type 0
 EachIsOnce run = AllByRecursion (λ s. (t : ℕ) → appearances s.state.world t ≡ one_if (is_runnable s.state.world t)) run.states
+
+-- a wait is counted, from when the task woke or was stopped, exactly as long as the task is in a queue
+abbrev pub EachWaitIsCounted : Run → Type 0
+EachWaitIsCounted run = AllByRecursion (λ s. (t : ℕ) → is_some (task_at s.state.world t).since ≡ waits s.state.world t) run.states
 
 -- while the policy is in force no task has waited longer than the limit, in milliseconds
 abbrev pub NoneIsLate : ℕ → Run → Type 0

@@ -4,9 +4,9 @@ ghost use Rattle.scx_machine.specs.Notes.{Takes};
 ghost use Rattle.scx_machine.specs.Callbacks.{AreAnswered};
 ghost use Rattle.scx_machine.specs.Start.{IsRefusal, AreAnsweredBefore};
 ghost use Rattle.scx_sched.specs.Once.{IsOnce};
-ghost use Rattle.scx_sched.specs.Waits.{IsTimely};
+ghost use Rattle.scx_sched.specs.Waits.{IsTimely, HasWaits};
 ghost use Rattle.scx_driver.specs.Runs.{stepped_all, notes_of_all};
-ghost use Rattle.scx_headline.specs.Headline.{states_from, calls_of_all, machine_run, IsRecorded, NoneIsStuck, EachIsOnce, NoneIsLate};
+ghost use Rattle.scx_headline.specs.Headline.{states_from, calls_of_all, machine_run, IsRecorded, NoneIsStuck, EachIsOnce, EachWaitIsCounted, NoneIsLate};
 
 use scx_sched::{Event, NewError, Policy, Sim, Sink};
 use scx_weights::Tree;
@@ -38,6 +38,7 @@ pub fn run_events<S: Sink>(
     // every runnable task appears exactly once on a processor or in a queue,
     ensures once { OnOk result (EachIsOnce (machine_run policy tree cpus events.now)) }
     // and while the policy is in force no task has waited longer than its limit.
+    ensures counted { OnOk result (EachWaitIsCounted (machine_run policy tree cpus events.now)) }
     ensures timely { OnOk result
         (NoneIsLate policy.timeout_ms (machine_run policy tree cpus events.now)) }
 
@@ -58,10 +59,13 @@ fn go_through<S: Sink>(sim: &mut Sim, events: &[Event], sink: &mut S)
     ensures answered { AreAnswered (calls_of_all sim.old events.now) }
     ensures once { AllByRecursion (λ s. IsOnce None s.state.world)
         (states_from sim.old events.now) }
+    ensures counted { AllByRecursion (λ s. HasWaits None s.state.world)
+        (states_from sim.old events.now) }
     ensures timely { AllByRecursion (λ s. IsTimely s.state) (states_from sim.old events.now) }
 {
     sim.is_sound();
     for event in events {
         let _ = sim.step(*event, sink);
+        sim.is_sound();
     }
 }

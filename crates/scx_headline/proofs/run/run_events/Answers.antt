@@ -1,4 +1,4 @@
-use Rattle.scx_headline.proofs.Whole.{run_recorded, run_never_stuck, run_once, run_timely}
+use Rattle.scx_headline.proofs.Whole.{run_recorded, run_never_stuck, run_once, run_counted, run_timely}
 use Rattle.scx_headline.proofs.run.run_events.Goals as goal
 
 pub returns-clause-recorded : goal.returns-clause-recorded
@@ -12,6 +12,10 @@ returns-clause-never_stuck g c =
 pub returns-clause-once : goal.returns-clause-once
 returns-clause-once g c =
     run_once c.args.policy c.args.tree c.args.cpus c.args.events.now _ c.in_ok-sim.ensures.first c.go_through.ensures.once
+
+pub returns-clause-counted : goal.returns-clause-counted
+returns-clause-counted g c =
+    run_counted c.args.policy c.args.tree c.args.cpus c.args.events.now _ c.in_ok-sim.ensures.first c.go_through.ensures.counted
 
 pub returns-clause-timely : goal.returns-clause-timely
 returns-clause-timely g c =
