@@ -1,7 +1,9 @@
 //! Lists of events, and the notes that they give.
 
 use crate::policies::{policy, tree, two_milliseconds};
+use crate::recorder::Recorder;
 use crate::session::Session;
+use scx_headline::run_events;
 use scx_sched::{Event, Place, Refused};
 use std::process::Abort;
 
@@ -54,6 +56,48 @@ fn have_taken_turns(rt: &impl Abort, session: &Session) {
 fn two_tasks_take_turns(rt: HostRuntime) {
     let mut session = at_room(&rt, 100);
     run_two_tasks(&rt, &mut session);
+    have_taken_turns(&rt, &session);
+    drop(session);
+}
+
+/// Two tasks on a machine that is given the list at once.
+fn at_once<R: AllocGlobal + Abort>(rt: &R, events: &[Event]) -> Session {
+    let mut recorder = Recorder::new(rt.alloc(), 100);
+    let policy = two_milliseconds(rt);
+    let sim = run_events(
+        rt.alloc(),
+        policy,
+        tree(rt, &[0, 0]),
+        1,
+        events,
+        &mut recorder,
+    );
+    Session {
+        sim: sim.expect(rt, "init answers 0"),
+        recorder,
+    }
+}
+
+#[test]
+fn refused_events_are_passed_over(rt: HostRuntime) {
+    let events = [
+        Event::Sleep(0),
+        Event::Wake(0),
+        Event::Wake(0),
+        Event::Wake(1),
+        Event::Tick(0),
+        Event::Tick(1),
+        Event::Clock,
+        Event::Tick(0),
+        Event::Clock,
+        Event::SetWeight(0, 0),
+        Event::Tick(0),
+        Event::Clock,
+        Event::Tick(0),
+        Event::Clock,
+        Event::Wake(2),
+    ];
+    let session = at_once(&rt, &events);
     have_taken_turns(&rt, &session);
     drop(session);
 }

@@ -1,0 +1,4 @@
+pub mod Going
+pub mod Policies
+pub mod Whole
+pub mod Law

@@ -1,0 +1,102 @@
+-- The whole run of a machine, from its first state on.
+use Rattle.std.proofs.Common.{◌≡◌, ℕ, ◌≤◌, List, [], ◌∷◌, None, is_some, Bool, true, false, ◌||◌, refl, sym, ap, subst, ◌∙◌, arith}
+use Rattle.std.specs.List.{AllByRecursion}
+use Rattle.scx_dsq.specs.Laws.{one_if}
+use Rattle.scx_weights.specs.Hierarchy.{Hierarchy}
+use Rattle.scx_world.specs.declared.notes.Note.{Note}
+use Rattle.scx_world.specs.World.{WorldState, task_at, is_runnable, waits, wait}
+use Rattle.scx_machine.specs.declared.events.Event.{Event}
+use Rattle.scx_machine.specs.Notes.{Takes}
+use Rattle.scx_machine.specs.Policy.{PolicyState}
+use Rattle.scx_machine.specs.Callbacks.{AreAnswered}
+use Rattle.scx_machine.specs.Start.{start_calls}
+use Rattle.scx_machine.proofs.Taking.{answered_append}
+use Rattle.scx_sched.specs.Sim.{SimState, stepped, IsFirst}
+use Rattle.scx_sched.specs.Once.{appearances, IsOnce}
+use Rattle.scx_sched.specs.Waits.{IsTimely, HasWaits}
+use Rattle.scx_sched.proofs.First.{policy_started}
+use Rattle.scx_driver.specs.Runs.{stepped_all, notes_of_all}
+use Rattle.scx_headline.specs.Headline.{Run, states_from, calls_of_all, run_from, run_if, machine_run, IsLast, IsRecorded, NoneIsStuck, EachIsOnce, EachWaitIsCounted, NoneIsLate}
+use Rattle.scx_headline.proofs.Going.{AreOnce, AreCounted, AreTimely}
+use Rattle.scx_headline.proofs.Policies.{policy_stays}
+
+-- ---- the states
+
+-- the last one is the one after all events
+last_state : (s : SimState) (events : List Event) → IsLast (stepped_all s events) (states_from s events)
+last_state s [] = ([], refl)
+last_state s (e ∷ es) =
+    let h = last_state (stepped s e) es in
+    (s ∷ h.0, ap (λ ss. s ∷ ss) h.1)
+
+-- in one place
+placed : (w : WorldState) → IsOnce None w → (t : ℕ) → appearances w t ≡ one_if (is_runnable w t)
+placed w h t = omega (arith, h t)
+
+all_placed : (states : List SimState) → AreOnce states → AllByRecursion (λ s. (t : ℕ) → appearances s.state.world t ≡ one_if (is_runnable s.state.world t)) states
+all_placed [] h = tt
+all_placed (s ∷ ss) h = (placed s.state.world h.0, all_placed ss h.1)
+
+or_no : (b : Bool) → (b || false) ≡ b
+or_no true = refl
+or_no false = refl
+
+-- no task is at hand between two events
+counts : (w : WorldState) → HasWaits None w → (t : ℕ) → is_some (task_at w t).since ≡ waits w t
+counts w h t = h t ∙ or_no (waits w t)
+
+all_counted : (states : List SimState) → AreCounted states → AllByRecursion (λ s. (t : ℕ) → is_some (task_at s.state.world t).since ≡ waits s.state.world t) states
+all_counted [] h = tt
+all_counted (s ∷ ss) h = (counts s.state.world h.0, all_counted ss h.1)
+
+abbrev InTime : ℕ → SimState → Type 0
+InTime limit s = s.state.world.ejected ≡ None → (t : ℕ) → wait s.state.world t ≤ limit
+
+-- in time, by the limit of the policy that it was given
+in_time : (p : PolicyState) (s : SimState) → s.state.policy ≡ p → IsTimely s.state → InTime p.timeout_ms s
+in_time p s same h =
+    let P : PolicyState → Type 0 = λ q. InTime q.timeout_ms s in
+    subst P same h
+
+all_in_time : (p : PolicyState) (s : SimState) (events : List Event) → s.state.policy ≡ p → AreTimely (states_from s events) → AllByRecursion (InTime p.timeout_ms) (states_from s events)
+all_in_time p s [] same h = (in_time p s same h.0, tt)
+all_in_time p s (e ∷ es) same h = (in_time p s same h.0, all_in_time p (stepped s e) es (policy_stays s e ∙ same) h.1)
+
+-- ---- the run
+
+module _ (p : PolicyState) (tree : Hierarchy) (cpus : ℕ) (events : List Event) (s : SimState) (first : IsFirst p tree cpus s) where
+  abbrev the_run : Run
+  the_run = run_from (start_calls p tree cpus) s events
+
+  -- from the first state on it is the machine's
+  is_machine_run : the_run ≡ machine_run p tree cpus events
+  is_machine_run =
+      let from_state : ℕ → Run = λ n. run_from (start_calls p tree cpus) (record { state = s.state; events = n }) events in
+      sym (ap (λ r. run_if r (start_calls p tree cpus) events) first.0 ∙ ap from_state (sym first.1))
+
+  pub run_notes : notes_of_all s events ≡ (machine_run p tree cpus events).notes
+  run_notes = ap (λ r. r.notes) is_machine_run
+
+  pub run_last : IsLast (stepped_all s events) (machine_run p tree cpus events).states
+  run_last = subst (λ (r : Run). IsLast (stepped_all s events) r.states) is_machine_run (last_state s events)
+
+  pub run_recorded : {S : Type 0} (takes : S → Note → S → Type 0) (a : S) (t : SimState) (b : S) → t ≡ stepped_all s events → Takes takes a (notes_of_all s events) b → IsRecorded takes (machine_run p tree cpus events) a t b
+  run_recorded takes a t b state notes =
+      let L : SimState → Type 0 = λ x. IsLast x (machine_run p tree cpus events).states in
+      let T : List Note → Type 0 = λ ns. Takes takes a ns b in
+      record { state = subst L (sym state) run_last; notes = subst T run_notes notes }
+
+  pub run_never_stuck : AreAnswered (start_calls p tree cpus) → AreAnswered (calls_of_all s events) → NoneIsStuck (machine_run p tree cpus events)
+  run_never_stuck before more =
+      subst NoneIsStuck is_machine_run (answered_append (start_calls p tree cpus) (calls_of_all s events) before more)
+
+  pub run_once : AreOnce (states_from s events) → EachIsOnce (machine_run p tree cpus events)
+  run_once h = subst EachIsOnce is_machine_run (all_placed (states_from s events) h)
+
+  pub run_counted : AreCounted (states_from s events) → EachWaitIsCounted (machine_run p tree cpus events)
+  run_counted h = subst EachWaitIsCounted is_machine_run (all_counted (states_from s events) h)
+
+  pub run_timely : AreTimely (states_from s events) → NoneIsLate p.timeout_ms (machine_run p tree cpus events)
+  run_timely h =
+      let same : s.state.policy ≡ p = policy_started p tree cpus s.state first.0 in
+      subst (NoneIsLate p.timeout_ms) is_machine_run (all_in_time p s events same h)
