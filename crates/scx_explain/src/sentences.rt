@@ -1,0 +1,346 @@
+use crate::known::write_known;
+use crate::page::Page;
+use crate::words::{Name, Spoken, Wanted};
+use scx_explanations::{
+    Brought, Explanation, Leg, Listing, Memory, Origin, Reach, Reason,
+};
+use scx_abs::Kind;
+use scx_isa::{Callback, Field, Helper, Size};
+use scx_output::Out;
+use scx_policies::callback_name;
+use std::fmt::{self, Write};
+
+/// What begins a line of an explanation.
+const MARGIN: &str = "      = ";
+
+/// What is wrong.
+#[derive(Clone, Copy)]
+struct Fault(Reason);
+
+/// Where the value at fault comes from.
+#[derive(Clone, Copy)]
+struct Source(Origin);
+
+/// What to change.
+#[derive(Clone, Copy)]
+struct Advice(Reason, Option<Origin>);
+
+/// A field of a task, by its name.
+#[derive(Clone, Copy)]
+struct FieldName(Field);
+
+/// Writes why a program is refused, how control came there, and all that is known there.
+pub(crate) fn write_explanation<W: Out>(
+    page: &mut Page<'_, W>,
+    listing: &Listing,
+    explanation: &Explanation,
+) -> fmt::Result {
+    let origin = match &explanation.trail {
+        Some(trail) => trail.origin,
+        None => None,
+    };
+    write_sentence(page, explanation.reason, origin)?;
+    if let Some(trail) = &explanation.trail {
+        write_way(page, &trail.legs)?;
+    }
+    if let Some(state) = listing.state(explanation.slot) {
+        write!(page, "{MARGIN}known here: ")?;
+        write_known(page, state)?;
+        page.write_str("\n")?;
+    }
+    Ok(())
+}
+
+fn write_sentence<W: Out>(
+    page: &mut Page<'_, W>,
+    reason: Reason,
+    origin: Option<Origin>,
+) -> fmt::Result {
+    let fault = Fault(reason);
+    write!(page, "{MARGIN}{fault}")?;
+    if let Some(origin) = origin {
+        let source = Source(origin);
+        write!(page, ": {source}")?;
+    }
+    let advice = Advice(reason, origin);
+    writeln!(page, "; {advice}")
+}
+
+/// Writes the way by which control came, from the first slot on.
+fn write_way<W: Out>(page: &mut Page<'_, W>, legs: &[Leg]) -> fmt::Result {
+    write!(page, "{MARGIN}control came by ")?;
+    let mut left = None;
+    for leg in legs.iter().rev() {
+        write_leg(page, left, *leg)?;
+        left = Some(leg.last);
+    }
+    page.write_str("\n")
+}
+
+/// Writes a part of the way. In front of it control jumped from the slot that it left, if it left one.
+fn write_leg<W: Out>(page: &mut Page<'_, W>, left: Option<usize>, leg: Leg) -> fmt::Result {
+    let Leg { first, last } = leg;
+    match left {
+        Some(left) if first == last => write!(page, ", jump at {left} to {first}"),
+        Some(left) => write!(page, ", jump at {left} to {first}, {first}..{last}"),
+        None if first == last => write!(page, "{first}"),
+        None => write!(page, "{first}..{last}"),
+    }
+}
+
+impl fmt::Display for Fault {
+    fn fmt<W: fmt::Write>(&self, f: &mut fmt::Formatter<W>) -> fmt::Result {
+        match self.0 {
+            Reason::BackJump(to) => write!(f, "the jump goes back to {to}"),
+            Reason::OutOfProgram { to, slots } => {
+                write!(f, "the jump goes to {to}, and the program has {slots} slots")
+            }
+            Reason::IntoWide(to) => write!(f, "{to} is the second slot of an instruction"),
+            Reason::FallsOff => write!(f, "control would go on behind the last instruction"),
+            Reason::Unusable(register) => write!(f, "{} is unusable here", Name(register)),
+            Reason::WritesFrame => write!(f, "r10 is never written"),
+            Reason::Unwritten { reach, byte } => {
+                let (first, last) = ends_of(reach);
+                write!(f, "stack {first}..{last} is read here, and {byte} isn't written")
+            }
+            Reason::PartOfPointer { reach, kind } => {
+                let (first, last) = ends_of(reach);
+                let kind = Spoken(kind);
+                write!(f, "stack {first}..{last} is read here, and is a part of {kind}")
+            }
+            Reason::NoAddress(register, kind) => {
+                let name = Name(register);
+                let kind = Spoken(kind);
+                write!(f, "{name} is {kind} here, not a pointer to memory")
+            }
+            Reason::Outside(reach) => write_outside(f, reach),
+            Reason::MovedOut {
+                register,
+                memory,
+                to,
+            } => {
+                let name = Name(register);
+                match memory {
+                    Memory::Stack => write!(f, "{name} would be stack {to}, outside of -512..0"),
+                    Memory::Element { map, bytes } => {
+                        write!(f, "{name} would point to byte {to} of an element of map {map}, which has {bytes}")
+                    }
+                }
+            }
+            Reason::Misaligned(reach) => write_misaligned(f, reach),
+            Reason::MayBeNull(register) => write!(f, "{} may be 0 here", Name(register)),
+            Reason::PointerArithmetic(register, kind)
+            | Reason::PointerCompare(register, kind)
+            | Reason::PointerStore(register, kind) => {
+                let name = Name(register);
+                let kind = Spoken(kind);
+                write!(f, "{name} is {kind} here")
+            }
+            Reason::NoField { offset, size } => {
+                let bytes = size.bytes();
+                write!(f, "a task has no field of {bytes} bytes at {offset}")
+            }
+            Reason::SignedField(field) => {
+                let field = FieldName(field);
+                write!(f, "{field} is loaded with a sign")
+            }
+            Reason::ReadOnlyField(field) => {
+                let field = FieldName(field);
+                write!(f, "{field} may only be read")
+            }
+            Reason::UnknownHelper(number) => write!(f, "no helper has the number {number}"),
+            Reason::HelperNotHere { number, callback } => {
+                let name = callback_name(callback);
+                write!(f, "{name} may not call {number}")
+            }
+            Reason::BadArgument {
+                number,
+                register,
+                kind,
+                parameter,
+            } => {
+                let wanted = Wanted(parameter);
+                let name = Name(register);
+                let kind = Spoken(kind);
+                write!(f, "call {number} takes {wanted} in {name}, which is {kind} here")
+            }
+            Reason::BadReturn { kind, callback } => {
+                let name = callback_name(callback);
+                let kind = Spoken(kind);
+                write!(f, "{name} answers a number in r0, which is {kind} here")
+            }
+            Reason::UnknownMap { map, maps } => {
+                write!(f, "there is no map {map}, as the policy has {maps}")
+            }
+        }
+    }
+}
+
+/// The first and the last of the bytes.
+fn ends_of(reach: Reach) -> (i64, i64) {
+    let count = i64::from(reach.count);
+    (
+        reach.first,
+        reach.first.saturating_add(count).saturating_sub(1),
+    )
+}
+
+fn write_outside<W: fmt::Write>(f: &mut fmt::Formatter<W>, reach: Reach) -> fmt::Result {
+    let (first, last) = ends_of(reach);
+    match reach.memory {
+        Memory::Stack => {
+            write!(f, "the access is to stack {first}..{last}, outside of -512..-1")
+        }
+        Memory::Element { map, bytes } => {
+            let end = bytes.saturating_sub(1);
+            write!(f, "the access is to bytes {first}..{last} of an element of map {map}, outside of 0..{end}")
+        }
+    }
+}
+
+fn write_misaligned<W: fmt::Write>(f: &mut fmt::Formatter<W>, reach: Reach) -> fmt::Result {
+    let first = reach.first;
+    let count = reach.count;
+    match reach.memory {
+        Memory::Stack => write!(f, "stack {first} is no multiple of {count}"),
+        Memory::Element { map, .. } => {
+            write!(f, "byte {first} of an element of map {map} is no multiple of {count}")
+        }
+    }
+}
+
+impl fmt::Display for Source {
+    fn fmt<W: fmt::Write>(&self, f: &mut fmt::Formatter<W>) -> fmt::Result {
+        match self.0 {
+            Origin::Nowhere => write!(f, "nothing on the way here writes it"),
+            Origin::Argument => write!(f, "it is an argument"),
+            Origin::Written(slot) => write!(f, "it was written at {slot}"),
+            Origin::Answered { number, slot } => write!(f, "it comes from call {number} at {slot}"),
+            Origin::Lost { number, slot } => {
+                write!(f, "call {number} at {slot} leaves it unusable")
+            }
+            Origin::Null(slot) => write!(f, "it is 0 on this side of the test at {slot}"),
+            Origin::Met {
+                slot,
+                first,
+                second,
+            } => {
+                let Brought { from, kind } = first;
+                let first = Spoken(kind);
+                write!(f, "at {slot} ways meet that bring {first} from {from}")?;
+                let Brought { from, kind } = second;
+                let second = Spoken(kind);
+                write!(f, " and {second} from {from}")
+            }
+        }
+    }
+}
+
+impl fmt::Display for Advice {
+    fn fmt<W: fmt::Write>(&self, f: &mut fmt::Formatter<W>) -> fmt::Result {
+        match self.0 {
+            Reason::HelperNotHere { number, .. } => write_callbacks(f, number),
+            Reason::NoField { offset, .. } => write_field(f, offset),
+            Reason::Unusable(_) => f.write_str(advice_on_unusable(self.1)),
+            Reason::NoAddress(_, kind) => f.write_str(advice_on_address(kind, self.1)),
+            reason => f.write_str(advice_on(reason)),
+        }
+    }
+}
+
+/// What to change where nothing depends on the values.
+fn advice_on(reason: Reason) -> &'static str {
+    match reason {
+        Reason::BackJump(_) => "write the loop out",
+        Reason::OutOfProgram { .. } => {
+            "count slots from the instruction behind the jump, or use a label"
+        }
+        Reason::IntoWide(_) => "count instructions of two slots as two, or use a label",
+        Reason::FallsOff => "end with exit",
+        Reason::WritesFrame => "copy it, r2 = r10, and move the copy",
+        Reason::Unwritten { .. } => "write all of it first",
+        Reason::PartOfPointer { .. } => "load a stored pointer by u64, from where it was stored",
+        Reason::Outside(_) => "keep within it",
+        Reason::MovedOut { .. } => "keep a pointer in its memory or at its end",
+        Reason::Misaligned(_) => "move it to a multiple, or use smaller accesses",
+        Reason::MayBeNull(_) => "test it first",
+        Reason::PointerArithmetic(..) => {
+            "only += and -= of 64 bits with a number in the text move a pointer, to the stack or an element"
+        }
+        Reason::PointerCompare(..) => "compare a pointer with 0 alone, by == or != of 64 bits",
+        Reason::PointerStore(..) => "store a pointer on the stack alone, by u64",
+        Reason::SignedField(_) => "load it without one",
+        Reason::ReadOnlyField(_) => "store to slice and dsq_vtime alone",
+        Reason::UnknownHelper(_) => "take the number from the table of helpers",
+        Reason::BadArgument { .. } => "put the arguments in r1, r2 and so on",
+        Reason::BadReturn { .. } => "write to r0 what it is to answer",
+        Reason::UnknownMap { .. } => "count maps from 0, or define the map",
+        _ => "",
+    }
+}
+
+fn advice_on_unusable(origin: Option<Origin>) -> &'static str {
+    match origin {
+        Some(Origin::Lost { .. }) => "save it before the call, in r6 to r9 or on the stack",
+        Some(Origin::Met { .. }) => "bring the same kind on each way",
+        _ => "write it on each way here",
+    }
+}
+
+fn advice_on_address(kind: Kind, origin: Option<Origin>) -> &'static str {
+    match (kind, origin) {
+        (_, Some(Origin::Null(_))) => "use it on the other side",
+        (Kind::MapRef(_), _) => "look an element up, by call 1",
+        _ => "use a pointer to the stack, an element or a task",
+    }
+}
+
+/// Writes where a helper may be called.
+fn write_callbacks<W: fmt::Write>(f: &mut fmt::Formatter<W>, number: i32) -> fmt::Result {
+    f.write_str("call it in ")?;
+    let Some(helper) = Helper::new(number) else {
+        return Ok(());
+    };
+    let mut before = "";
+    for callback in [
+        Callback::Init,
+        Callback::Enable,
+        Callback::SelectCpu,
+        Callback::Enqueue,
+        Callback::Dispatch,
+        Callback::Running,
+        Callback::Stopping,
+    ] {
+        if helper.is_allowed(callback) {
+            let name = callback_name(callback);
+            write!(f, "{before}{name}")?;
+            before = ", ";
+        }
+    }
+    Ok(())
+}
+
+/// Writes which field is at an offset of a task's record.
+fn write_field<W: fmt::Write>(f: &mut fmt::Formatter<W>, offset: i16) -> fmt::Result {
+    let (field, bytes) = match (Field::at(offset, Size::Word), Field::at(offset, Size::DoubleWord)) {
+        (Some(field), _) => (field, 4),
+        (None, Some(field)) => (field, 8),
+        (None, None) => return f.write_str("take offset and size from the table of fields"),
+    };
+    let field = FieldName(field);
+    write!(f, "{field} is there, of {bytes} bytes")
+}
+
+impl fmt::Display for FieldName {
+    fn fmt<W: fmt::Write>(&self, f: &mut fmt::Formatter<W>) -> fmt::Result {
+        f.write_str(match self.0 {
+            Field::Pid => "pid",
+            Field::Weight => "weight",
+            Field::Slice => "slice",
+            Field::DsqVtime => "dsq_vtime",
+            Field::PrevCpu => "prev_cpu",
+            Field::Group => "group",
+            Field::RunNs => "run_ns",
+        })
+    }
+}
