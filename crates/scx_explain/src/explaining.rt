@@ -66,7 +66,7 @@ fn explained_of(alloc: Global, policy: PolicyText) -> Result<Vec<Explained>, Ref
     let mut callbacks = Vec::with_capacity(alloc, CALLBACKS.len())?;
     for &callback in &CALLBACKS {
         if let Some(program) = policy.take(callback) {
-            let explained = explained(alloc, program, callback, &defs)?;
+            let explained = explain_program(alloc, program, callback, &defs)?;
             if callbacks.push(explained).is_err() {
                 return Err(Refusal::NoMemory);
             }
@@ -75,7 +75,7 @@ fn explained_of(alloc: Global, policy: PolicyText) -> Result<Vec<Explained>, Ref
     Ok(callbacks)
 }
 
-fn explained(
+fn explain_program(
     alloc: Global,
     program: Program,
     callback: Callback,

@@ -1,9 +1,9 @@
 use crate::explaining::Explained;
-use crate::known::{write_changes, write_known};
+use crate::known::write_known;
 use crate::page::Page;
 use crate::sentences::write_explanation;
 use arrayvec::ArrayString;
-use scx_explanations::{Listing, Way, target_of};
+use scx_explanations::{Arrival, Listing, Way, target_of};
 use scx_isa::Insn;
 use scx_output::Out;
 use scx_text::Canonical;
@@ -30,7 +30,7 @@ pub(crate) fn write_callback<W: Out>(
             if let Some(explanation) = &explained.explanation
                 && explanation.slot == slot
             {
-                write_explanation(page, listing, explanation)?;
+                write_explanation(page, explanation)?;
             }
         }
     }
@@ -80,47 +80,39 @@ fn write_line<W: Out>(
     page.write_str("\n")
 }
 
-/// Writes what is known at a slot that the pass looked at: what changed, where control comes from the
-/// line above alone, and else all.
+/// Writes what is known at a slot that the pass looked at.
 fn write_state<W: Out>(page: &mut Page<'_, W>, listing: &Listing, slot: usize) -> fmt::Result {
-    let Some(state) = listing.state(slot) else {
-        return page.write_str("nothing leads here");
-    };
-    match line_above(listing, slot) {
-        Some(above) => match listing.state(above) {
-            Some(before) => write_changes(page, state, before),
-            None => write_known(page, state),
-        },
-        None => {
-            write_sources(page, listing, slot)?;
+    match listing.state(slot) {
+        Some(state) => {
+            if has_jumps(listing, slot) {
+                write_sources(page, listing, slot)?;
+            }
             write_known(page, state)
         }
+        None => page.write_str("nothing leads here"),
     }
 }
 
-/// The slot of the line above, if control comes from there alone.
-fn line_above(listing: &Listing, slot: usize) -> Option<usize> {
-    let mut above = None;
-    for from in 0..slot {
-        if let Some(arrival) = listing.arrival(from, slot) {
-            if arrival.way == Way::Jump {
-                return None;
-            }
-            above = Some(from);
-        }
-    }
-    above
+/// Whether a jump leads to the slot.
+fn has_jumps(listing: &Listing, slot: usize) -> bool {
+    (0..slot).any(|from| is_jump(listing.arrival(from, slot)))
 }
 
-/// Writes from where control comes, if it comes from somewhere.
+fn is_jump(arrival: Option<Arrival>) -> bool {
+    match arrival {
+        Some(arrival) => arrival.way == Way::Jump,
+        None => false,
+    }
+}
+
+/// Writes the slots from which control comes.
 fn write_sources<W: Out>(page: &mut Page<'_, W>, listing: &Listing, slot: usize) -> fmt::Result {
-    let mut has_sources = false;
+    let mut before = "from ";
     for from in 0..slot {
         if listing.arrival(from, slot).is_some() {
-            let before = if has_sources { ", " } else { "from " };
             write!(page, "{before}{from}")?;
-            has_sources = true;
+            before = ", ";
         }
     }
-    page.write_str(if has_sources { ": " } else { "" })
+    page.write_str(": ")
 }

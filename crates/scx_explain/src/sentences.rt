@@ -1,8 +1,7 @@
-use crate::known::write_known;
 use crate::page::Page;
 use crate::words::{Name, Spoken, Wanted};
 use scx_explanations::{
-    Brought, Explanation, Leg, Listing, Memory, Origin, Reach, Reason,
+    Brought, Explanation, Leg, Memory, Origin, Reach, Reason,
 };
 use scx_abs::Kind;
 use scx_isa::{Callback, Field, Helper, Size};
@@ -23,46 +22,44 @@ struct Source(Origin);
 
 /// What to change.
 #[derive(Clone, Copy)]
-struct Advice(Reason, Option<Origin>);
+struct Advice {
+    reason: Reason,
+    origin: Option<Origin>,
+    is_copied: bool,
+}
 
 /// A field of a task, by its name.
 #[derive(Clone, Copy)]
 struct FieldName(Field);
 
-/// Writes why a program is refused, how control came there, and all that is known there.
+/// Writes why a program is refused, and how control came there.
 pub(crate) fn write_explanation<W: Out>(
     page: &mut Page<'_, W>,
-    listing: &Listing,
     explanation: &Explanation,
 ) -> fmt::Result {
-    let origin = match &explanation.trail {
-        Some(trail) => trail.origin,
-        None => None,
+    let (origin, is_copied) = match &explanation.trail {
+        Some(trail) => (trail.origin, trail.is_copied),
+        None => (None, false),
     };
-    write_sentence(page, explanation.reason, origin)?;
+    let advice = Advice {
+        reason: explanation.reason,
+        origin,
+        is_copied,
+    };
+    write_sentence(page, advice)?;
     if let Some(trail) = &explanation.trail {
         write_way(page, &trail.legs)?;
-    }
-    if let Some(state) = listing.state(explanation.slot) {
-        write!(page, "{MARGIN}known here: ")?;
-        write_known(page, state)?;
-        page.write_str("\n")?;
     }
     Ok(())
 }
 
-fn write_sentence<W: Out>(
-    page: &mut Page<'_, W>,
-    reason: Reason,
-    origin: Option<Origin>,
-) -> fmt::Result {
-    let fault = Fault(reason);
+fn write_sentence<W: Out>(page: &mut Page<'_, W>, advice: Advice) -> fmt::Result {
+    let fault = Fault(advice.reason);
     write!(page, "{MARGIN}{fault}")?;
-    if let Some(origin) = origin {
+    if let Some(origin) = advice.origin {
         let source = Source(origin);
         write!(page, ": {source}")?;
     }
-    let advice = Advice(reason, origin);
     writeln!(page, "; {advice}")
 }
 
@@ -111,7 +108,7 @@ impl fmt::Display for Fault {
             Reason::NoAddress(register, kind) => {
                 let name = Name(register);
                 let kind = Spoken(kind);
-                write!(f, "{name} is {kind} here, not a pointer to memory")
+                write!(f, "{name} holds {kind} here, no pointer to memory")
             }
             Reason::Outside(reach) => write_outside(f, reach),
             Reason::MovedOut {
@@ -134,7 +131,7 @@ impl fmt::Display for Fault {
             | Reason::PointerStore(register, kind) => {
                 let name = Name(register);
                 let kind = Spoken(kind);
-                write!(f, "{name} is {kind} here")
+                write!(f, "{name} holds {kind} here")
             }
             Reason::NoField { offset, size } => {
                 let bytes = size.bytes();
@@ -162,12 +159,12 @@ impl fmt::Display for Fault {
                 let wanted = Wanted(parameter);
                 let name = Name(register);
                 let kind = Spoken(kind);
-                write!(f, "call {number} takes {wanted} in {name}, which is {kind} here")
+                write!(f, "call {number} takes {wanted} in {name}, which holds {kind} here")
             }
             Reason::BadReturn { kind, callback } => {
                 let name = callback_name(callback);
                 let kind = Spoken(kind);
-                write!(f, "{name} answers a number in r0, which is {kind} here")
+                write!(f, "{name} answers a number in r0, which holds {kind} here")
             }
             Reason::UnknownMap { map, maps } => {
                 write!(f, "there is no map {map}, as the policy has {maps}")
@@ -214,6 +211,7 @@ impl fmt::Display for Source {
         match self.0 {
             Origin::Nowhere => write!(f, "nothing on the way here writes it"),
             Origin::Argument => write!(f, "it is an argument"),
+            Origin::Frame => write!(f, "it comes from r10"),
             Origin::Written(slot) => write!(f, "it was written at {slot}"),
             Origin::Answered { number, slot } => write!(f, "it comes from call {number} at {slot}"),
             Origin::Lost { number, slot } => {
@@ -238,11 +236,14 @@ impl fmt::Display for Source {
 
 impl fmt::Display for Advice {
     fn fmt<W: fmt::Write>(&self, f: &mut fmt::Formatter<W>) -> fmt::Result {
-        match self.0 {
+        match self.reason {
             Reason::HelperNotHere { number, .. } => write_callbacks(f, number),
             Reason::NoField { offset, .. } => write_field(f, offset),
-            Reason::Unusable(_) => f.write_str(advice_on_unusable(self.1)),
-            Reason::NoAddress(_, kind) => f.write_str(advice_on_address(kind, self.1)),
+            Reason::Unusable(_) => f.write_str(advice_on_unusable(self.origin)),
+            Reason::NoAddress(_, kind) => f.write_str(advice_on_address(kind, self.origin)),
+            Reason::MayBeNull(_) if self.is_copied => {
+                f.write_str("test it first, as the test of a copy says nothing of it")
+            }
             reason => f.write_str(advice_on(reason)),
         }
     }

@@ -26,6 +26,8 @@ pub enum Origin {
     Nowhere,
     /// It is an argument of the callback.
     Argument,
+    /// It is what r10 holds.
+    Frame,
     /// The instruction at that slot wrote it.
     Written(usize),
     /// The call at that slot of the helper of that number answered it.

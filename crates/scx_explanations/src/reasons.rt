@@ -123,9 +123,12 @@ fn subject_of(reason: Reason) -> Option<Subject> {
     match reason {
         Reason::Unusable(register) => Some(Subject::Register(register)),
         Reason::Unwritten { byte, .. } => byte_of(byte),
-        Reason::PartOfPointer { reach, .. } => byte_of(reach.first),
         Reason::NoAddress(register, _) => Some(Subject::Register(register)),
         Reason::MayBeNull(register) => Some(Subject::Register(register)),
+        Reason::PointerArithmetic(Register::R10, _) | Reason::PointerCompare(Register::R10, _) => {
+            None
+        }
+        Reason::PointerStore(Register::R10, _) => None,
         Reason::PointerArithmetic(register, _) => Some(Subject::Register(register)),
         Reason::PointerCompare(register, _) => Some(Subject::Register(register)),
         Reason::PointerStore(register, _) => Some(Subject::Register(register)),

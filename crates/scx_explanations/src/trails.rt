@@ -1,6 +1,7 @@
 use crate::listing::{Arrival, Listing, Way};
 use crate::origins::{Brought, Origin, Source, Subject, known_of, source_of};
 use scx_abs::Kind;
+use scx_isa::Register;
 use std::alloc::{AllocError, Global};
 
 /// A part of a way on which control only went on to the next instruction.
@@ -19,6 +20,8 @@ pub struct Trail {
     pub legs: Vec<Leg>,
     /// Where the value comes from that was looked for, if one was.
     pub origin: Option<Origin>,
+    /// Whether it was copied since.
+    pub is_copied: bool,
 }
 
 /// Goes back from a slot to the first one. Where a value is looked for, the way is one that brought what
@@ -62,7 +65,11 @@ impl Tracker {
         Ok(Tracker {
             slot,
             subject,
-            trail: Trail { legs, origin: None },
+            trail: Trail {
+                legs,
+                origin: None,
+                is_copied: false,
+            },
         })
     }
 
@@ -89,7 +96,10 @@ impl Tracker {
         if let Some(subject) = self.subject {
             match source_of(listing, arrival, subject) {
                 Source::Same => (),
-                Source::Copied(source) => self.subject = Some(source),
+                Source::Copied(source) => {
+                    self.subject = Some(source);
+                    self.trail.is_copied = true;
+                }
                 Source::Begins(origin) => {
                     self.subject = None;
                     self.trail.origin = Some(origin);
@@ -120,12 +130,18 @@ impl Tracker {
     fn end(self, listing: &Listing) -> Trail {
         let mut trail = self.trail;
         if let (Some(subject), Some(state)) = (self.subject, listing.state(self.slot)) {
-            trail.origin = Some(match known_of(state, subject) {
-                Kind::Unusable => Origin::Nowhere,
-                _ => Origin::Argument,
-            });
+            trail.origin = Some(first_origin(subject, known_of(state, subject)));
         }
         trail
+    }
+}
+
+/// Where a value comes from that is there as the callback begins, or isn't.
+fn first_origin(subject: Subject, kind: Kind) -> Origin {
+    match (subject, kind) {
+        (_, Kind::Unusable) => Origin::Nowhere,
+        (Subject::Register(Register::R10), _) => Origin::Frame,
+        _ => Origin::Argument,
     }
 }
 
