@@ -17,10 +17,7 @@ const TEXT_CAPACITY: usize = 96;
 type Text = ArrayString<TEXT_CAPACITY>;
 
 /// Writes the verdict on a callback and its listing.
-pub(crate) fn write_callback<W: Out>(
-    page: &mut Page<'_, W>,
-    explained: &Explained,
-) -> fmt::Result {
+pub(crate) fn write_callback<W: Out>(page: &mut Page<'_, W>, explained: &Explained) -> fmt::Result {
     page.write_str(verdict_line(explained.callback, explained.verdict).as_str())?;
     let listing = &explained.listing;
     let width = width_of(listing);

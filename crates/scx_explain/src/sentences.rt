@@ -1,9 +1,7 @@
 use crate::page::Page;
 use crate::words::{Name, Spoken, Wanted};
-use scx_explanations::{
-    Brought, Explanation, Leg, Memory, Origin, Reach, Reason,
-};
 use scx_abs::Kind;
+use scx_explanations::{Brought, Explanation, Leg, Memory, Origin, Reach, Reason};
 use scx_isa::{Callback, Field, Helper, Size};
 use scx_output::Out;
 use scx_policies::callback_name;
@@ -90,7 +88,10 @@ impl fmt::Display for Fault {
         match self.0 {
             Reason::BackJump(to) => write!(f, "the jump goes back to {to}"),
             Reason::OutOfProgram { to, slots } => {
-                write!(f, "the jump goes to {to}, and the program has {slots} slots")
+                write!(
+                    f,
+                    "the jump goes to {to}, and the program has {slots} slots"
+                )
             }
             Reason::IntoWide(to) => write!(f, "{to} is the second slot of an instruction"),
             Reason::FallsOff => write!(f, "control would go on behind the last instruction"),
@@ -98,12 +99,18 @@ impl fmt::Display for Fault {
             Reason::WritesFrame => write!(f, "r10 is never written"),
             Reason::Unwritten { reach, byte } => {
                 let (first, last) = ends_of(reach);
-                write!(f, "stack {first}..{last} is read here, and {byte} isn't written")
+                write!(
+                    f,
+                    "stack {first}..{last} is read here, and {byte} isn't written"
+                )
             }
             Reason::PartOfPointer { reach, kind } => {
                 let (first, last) = ends_of(reach);
                 let kind = Spoken(kind);
-                write!(f, "stack {first}..{last} is read here, and is a part of {kind}")
+                write!(
+                    f,
+                    "stack {first}..{last} is read here, and is a part of {kind}"
+                )
             }
             Reason::NoAddress(register, kind) => {
                 let name = Name(register);
@@ -120,7 +127,10 @@ impl fmt::Display for Fault {
                 match memory {
                     Memory::Stack => write!(f, "{name} would be stack {to}, outside of -512..0"),
                     Memory::Element { map, bytes } => {
-                        write!(f, "{name} would point to byte {to} of an element of map {map}, which has {bytes}")
+                        write!(
+                            f,
+                            "{name} would point to byte {to} of an element of map {map}, which has {bytes}"
+                        )
                     }
                 }
             }
@@ -159,7 +169,10 @@ impl fmt::Display for Fault {
                 let wanted = Wanted(parameter);
                 let name = Name(register);
                 let kind = Spoken(kind);
-                write!(f, "call {number} takes {wanted} in {name}, which holds {kind} here")
+                write!(
+                    f,
+                    "call {number} takes {wanted} in {name}, which holds {kind} here"
+                )
             }
             Reason::BadReturn { kind, callback } => {
                 let name = callback_name(callback);
@@ -186,11 +199,17 @@ fn write_outside<W: fmt::Write>(f: &mut fmt::Formatter<W>, reach: Reach) -> fmt:
     let (first, last) = ends_of(reach);
     match reach.memory {
         Memory::Stack => {
-            write!(f, "the access is to stack {first}..{last}, outside of -512..-1")
+            write!(
+                f,
+                "the access is to stack {first}..{last}, outside of -512..-1"
+            )
         }
         Memory::Element { map, bytes } => {
             let end = bytes.saturating_sub(1);
-            write!(f, "the access is to bytes {first}..{last} of an element of map {map}, outside of 0..{end}")
+            write!(
+                f,
+                "the access is to bytes {first}..{last} of an element of map {map}, outside of 0..{end}"
+            )
         }
     }
 }
@@ -201,7 +220,10 @@ fn write_misaligned<W: fmt::Write>(f: &mut fmt::Formatter<W>, reach: Reach) -> f
     match reach.memory {
         Memory::Stack => write!(f, "stack {first} is no multiple of {count}"),
         Memory::Element { map, .. } => {
-            write!(f, "byte {first} of an element of map {map} is no multiple of {count}")
+            write!(
+                f,
+                "byte {first} of an element of map {map} is no multiple of {count}"
+            )
         }
     }
 }
@@ -323,7 +345,10 @@ fn write_callbacks<W: fmt::Write>(f: &mut fmt::Formatter<W>, number: i32) -> fmt
 
 /// Writes which field is at an offset of a task's record.
 fn write_field<W: fmt::Write>(f: &mut fmt::Formatter<W>, offset: i16) -> fmt::Result {
-    let (field, bytes) = match (Field::at(offset, Size::Word), Field::at(offset, Size::DoubleWord)) {
+    let (field, bytes) = match (
+        Field::at(offset, Size::Word),
+        Field::at(offset, Size::DoubleWord),
+    ) {
         (Some(field), _) => (field, 4),
         (None, Some(field)) => (field, 8),
         (None, None) => return f.write_str("take offset and size from the table of fields"),

@@ -31,9 +31,15 @@ pub enum Origin {
     /// The instruction at that slot wrote it.
     Written(usize),
     /// The call at that slot of the helper of that number answered it.
-    Answered { number: i32, slot: usize },
+    Answered {
+        number: i32,
+        slot: usize,
+    },
     /// That call left it unusable.
-    Lost { number: i32, slot: usize },
+    Lost {
+        number: i32,
+        slot: usize,
+    },
     /// The test at that slot found it to be 0.
     Null(usize),
     /// At that slot ways meet that bring different kinds.
@@ -88,15 +94,21 @@ fn source_of_register(
     let from = arrival.from;
     match insn {
         Insn::Binary(Width::Bits64, Operation::Move, destination, Operand::Register(source))
-            if destination == register =>
-        {
-            Source::Copied(Subject::Register(source))
-        }
+            if destination == register => { Source::Copied(Subject::Register(source)) }
         Insn::Load(Access::DoubleWord, destination, base, offset) if destination == register => {
-            source_of_load(listing, before.kind(base), offset, arrival.state.kind(register), from)
+            source_of_load(
+                listing,
+                before.kind(base),
+                offset,
+                arrival.state.kind(register),
+                from,
+            )
         }
         Insn::Call(number) => source_of_call(before.kind(register), number, from, register),
-        Insn::JumpIf { register: tested, .. } if tested == register => {
+        Insn::JumpIf {
+            register: tested,
+            ..
+        } if tested == register => {
             source_of_test(before.kind(register), arrival.state.kind(register), from)
         }
         insn if writes(insn, register) => Source::Begins(Origin::Written(from)),
@@ -105,14 +117,11 @@ fn source_of_register(
 }
 
 /// Where what was loaded was before: a pointer on the stack.
-fn source_of_load(
-    listing: &Listing,
-    base: Kind,
-    offset: i16,
-    loaded: Kind,
-    from: usize,
-) -> Source {
-    match (loaded, area_of(base, offset, Size::DoubleWord, &listing.context().defs)) {
+fn source_of_load(listing: &Listing, base: Kind, offset: i16, loaded: Kind, from: usize) -> Source {
+    match (
+        loaded,
+        area_of(base, offset, Size::DoubleWord, &listing.context().defs),
+    ) {
         (Kind::Num, _) => Source::Begins(Origin::Written(from)),
         (_, Ok(Area::OnStack(at))) => Source::Copied(Subject::Byte(at)),
         _ => Source::Begins(Origin::Written(from)),
@@ -123,10 +132,7 @@ fn source_of_call(before: Kind, number: i32, slot: usize, register: Register) ->
     match register {
         Register::R0 => Source::Begins(Origin::Answered { number, slot }),
         Register::R1 | Register::R2 | Register::R3 | Register::R4 | Register::R5
-            if before != Kind::Unusable =>
-        {
-            Source::Begins(Origin::Lost { number, slot })
-        }
+            if before != Kind::Unusable => { Source::Begins(Origin::Lost { number, slot }) }
         _ => Source::Same,
     }
 }
@@ -157,8 +163,7 @@ fn source_of_byte(
     let area = area_of(before.kind(base), offset, size, &listing.context().defs);
     match (area, operand) {
         (Ok(Area::OnStack(at)), Operand::Register(source))
-            if at / 8 == byte / 8 && after != Kind::Num && after != Kind::Unusable =>
-        {
+            if at / 8 == byte / 8 && after != Kind::Num && after != Kind::Unusable => {
             Source::Copied(Subject::Register(source))
         }
         _ if byte_kind(before, place) != after => Source::Begins(Origin::Written(arrival.from)),

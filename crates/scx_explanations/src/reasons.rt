@@ -4,8 +4,8 @@ use crate::trails::{Trail, trail_of};
 use scx_abs::{AbsState, Kind, Why};
 use scx_arithmetic::pointer_step;
 use scx_isa::{
-    Callback, Field, FlowFault, Helper, Insn, Operand, Operation, Parameter,
-    Register, STACK_SIZE, Size,
+    Callback, Field, FlowFault, Helper, Insn, Operand, Operation, Parameter, Register, STACK_SIZE,
+    Size,
 };
 use scx_maps::MapDefs;
 use scx_semantics::MAX_ARGUMENTS;
@@ -35,16 +35,25 @@ pub enum Reason {
     /// A jump goes back to that slot, counted from the first of the program.
     BackJump(i64),
     /// A jump goes to that slot of a program of so many.
-    OutOfProgram { to: i64, slots: usize },
+    OutOfProgram {
+        to: i64,
+        slots: usize,
+    },
     /// A jump goes to that slot, which is a second half.
     IntoWide(i64),
     FallsOff,
     Unusable(Register),
     WritesFrame,
     /// Of these bytes of the stack that one isn't written.
-    Unwritten { reach: Reach, byte: i64 },
+    Unwritten {
+        reach: Reach,
+        byte: i64,
+    },
     /// These bytes of the stack aren't read as the whole of the pointer of which they are a part.
-    PartOfPointer { reach: Reach, kind: Kind },
+    PartOfPointer {
+        reach: Reach,
+        kind: Kind,
+    },
     /// What the register holds is no pointer to memory.
     NoAddress(Register, Kind),
     Outside(Reach),
@@ -60,20 +69,32 @@ pub enum Reason {
     PointerCompare(Register, Kind),
     PointerStore(Register, Kind),
     /// No field of a task has that offset and size.
-    NoField { offset: i16, size: Size },
+    NoField {
+        offset: i16,
+        size: Size,
+    },
     SignedField(Field),
     ReadOnlyField(Field),
     UnknownHelper(i32),
-    HelperNotHere { number: i32, callback: Callback },
+    HelperNotHere {
+        number: i32,
+        callback: Callback,
+    },
     BadArgument {
         number: i32,
         register: Register,
         kind: Kind,
         parameter: Parameter,
     },
-    BadReturn { kind: Kind, callback: Callback },
+    BadReturn {
+        kind: Kind,
+        callback: Callback,
+    },
     /// There is no map of that number among so many.
-    UnknownMap { map: i32, maps: usize },
+    UnknownMap {
+        map: i32,
+        maps: usize,
+    },
 }
 
 /// Why a program is refused, and how control came to the slot that is.
@@ -178,12 +199,7 @@ fn jumped_to(slot: usize, insn: Insn) -> i64 {
     next.saturating_add(distance)
 }
 
-fn reason_of_rule(
-    listing: &Listing,
-    why: Why,
-    state: &AbsState,
-    insn: Insn,
-) -> Option<Reason> {
+fn reason_of_rule(listing: &Listing, why: Why, state: &AbsState, insn: Insn) -> Option<Reason> {
     let context = listing.context();
     let defs = &context.defs;
     match why {
@@ -253,7 +269,9 @@ fn unusable_in(state: &AbsState, insn: Insn) -> Option<Register> {
         Insn::Load(_, _, base, _) => Some(base),
         Insn::Store(_, base, _, operand) => first_unusable(state, base, operand),
         Insn::JumpIf {
-            register, operand, ..
+            register,
+            operand,
+            ..
         } => first_unusable(state, register, operand),
         Insn::Call(number) => unusable_argument(state, number),
         _ => None,
@@ -309,7 +327,10 @@ fn bad_argument(state: &AbsState, number: i32) -> Option<Reason> {
 fn is_taken(parameter: Parameter, kind: Kind) -> bool {
     match parameter {
         Parameter::Map => matches!(kind, Kind::MapRef(_)),
-        Parameter::Key => matches!(kind, Kind::Stack(_) | Kind::Elem(_, _) | Kind::ElemOrNull(_)),
+        Parameter::Key => matches!(
+            kind,
+            Kind::Stack(_) | Kind::Elem(_, _) | Kind::ElemOrNull(_)
+        ),
         Parameter::Task => matches!(kind, Kind::Task | Kind::TaskOrNull),
         Parameter::Number => matches!(kind, Kind::Num),
     }
@@ -340,7 +361,9 @@ fn pointer_in(state: &AbsState, insn: Insn) -> Option<Register> {
         Insn::Negate(_, destination) | Insn::ByteSwap(_, _, destination) => Some(destination),
         Insn::SignExtend(_, _, source) => Some(source),
         Insn::JumpIf {
-            register, operand, ..
+            register,
+            operand,
+            ..
         } => first_pointer(state, register, operand),
         _ => None,
     }
