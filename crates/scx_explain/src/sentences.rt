@@ -1,8 +1,11 @@
 use crate::page::Page;
 use crate::words::{Name, Spoken, Wanted};
 use scx_abs::Kind;
-use scx_explanations::{Brought, Explanation, Leg, Memory, Origin, Reach, Reason};
-use scx_isa::{Callback, Field, Helper, Size};
+use scx_explanations::{
+    BadAccess, BadCall, BadField, BadFlow, BadValue, Brought, Explanation, Leg, Memory, Origin,
+    Reach, Reason,
+};
+use scx_isa::{Callback, Field, Helper, Register, Size};
 use scx_output::Out;
 use scx_policies::callback_name;
 use std::fmt::{self, Write};
@@ -86,102 +89,136 @@ fn write_leg<W: Out>(page: &mut Page<'_, W>, left: Option<usize>, leg: Leg) -> f
 impl fmt::Display for Fault {
     fn fmt<W: fmt::Write>(&self, f: &mut fmt::Formatter<W>) -> fmt::Result {
         match self.0 {
-            Reason::BackJump(to) => write!(f, "the jump goes back to {to}"),
-            Reason::OutOfProgram { to, slots } => {
-                write!(
-                    f,
-                    "the jump goes to {to}, and the program has {slots} slots"
-                )
-            }
-            Reason::IntoWide(to) => write!(f, "{to} is the second slot of an instruction"),
-            Reason::FallsOff => write!(f, "control would go on behind the last instruction"),
-            Reason::Unusable(register) => write!(f, "{} is unusable here", Name(register)),
-            Reason::WritesFrame => write!(f, "r10 is never written"),
-            Reason::Unwritten { reach, byte } => {
-                let (first, last) = ends_of(reach);
-                write!(
-                    f,
-                    "stack {first}..{last} is read here, and {byte} isn't written"
-                )
-            }
-            Reason::PartOfPointer { reach, kind } => {
-                let (first, last) = ends_of(reach);
-                let kind = Spoken(kind);
-                write!(
-                    f,
-                    "stack {first}..{last} is read here, and is a part of {kind}"
-                )
-            }
-            Reason::NoAddress(register, kind) => {
-                let name = Name(register);
-                let kind = Spoken(kind);
-                write!(f, "{name} holds {kind} here, no pointer to memory")
-            }
-            Reason::Outside(reach) => write_outside(f, reach),
-            Reason::MovedOut {
-                register,
-                memory,
-                to,
-            } => {
-                let name = Name(register);
-                match memory {
-                    Memory::Stack => write!(f, "{name} would be stack {to}, outside of -512..0"),
-                    Memory::Element { map, bytes } => {
-                        write!(
-                            f,
-                            "{name} would point to byte {to} of an element of map {map}, which has {bytes}"
-                        )
-                    }
-                }
-            }
-            Reason::Misaligned(reach) => write_misaligned(f, reach),
-            Reason::MayBeNull(register) => write!(f, "{} may be 0 here", Name(register)),
-            Reason::PointerArithmetic(register, kind)
-            | Reason::PointerCompare(register, kind)
-            | Reason::PointerStore(register, kind) => {
-                let name = Name(register);
-                let kind = Spoken(kind);
-                write!(f, "{name} holds {kind} here")
-            }
-            Reason::NoField { offset, size } => {
-                let bytes = size.bytes();
-                write!(f, "a task has no field of {bytes} bytes at {offset}")
-            }
-            Reason::SignedField(field) => {
-                let field = FieldName(field);
-                write!(f, "{field} is loaded with a sign")
-            }
-            Reason::ReadOnlyField(field) => {
-                let field = FieldName(field);
-                write!(f, "{field} may only be read")
-            }
-            Reason::UnknownHelper(number) => write!(f, "no helper has the number {number}"),
-            Reason::HelperNotHere { number, callback } => {
-                let name = callback_name(callback);
-                write!(f, "{name} may not call {number}")
-            }
-            Reason::BadArgument {
-                number,
-                register,
-                kind,
-                parameter,
-            } => {
-                let wanted = Wanted(parameter);
-                let name = Name(register);
-                let kind = Spoken(kind);
-                write!(
-                    f,
-                    "call {number} takes {wanted} in {name}, which holds {kind} here"
-                )
-            }
-            Reason::BadReturn { kind, callback } => {
-                let name = callback_name(callback);
-                let kind = Spoken(kind);
-                write!(f, "{name} answers a number in r0, which holds {kind} here")
-            }
+            Reason::Flow(flow) => write_flow(f, flow),
+            Reason::Value(value) => write_value(f, value),
+            Reason::Access(access) => write_access(f, access),
+            Reason::Field(field) => write_field(f, field),
+            Reason::Call(call) => write_call(f, call),
             Reason::UnknownMap { map, maps } => {
                 write!(f, "there is no map {map}, as the policy has {maps}")
             }
+        }
+    }
+}
+
+fn write_flow<W: fmt::Write>(f: &mut fmt::Formatter<W>, flow: BadFlow) -> fmt::Result {
+    match flow {
+        BadFlow::Back(to) => write!(f, "the jump goes back to {to}"),
+        BadFlow::OutOfProgram { to, slots } => {
+            write!(
+                f,
+                "the jump goes to {to}, and the program has {slots} slots"
+            )
+        }
+        BadFlow::IntoWide(to) => write!(f, "{to} is the second slot of an instruction"),
+        BadFlow::FallsOff => write!(f, "control would go on behind the last instruction"),
+    }
+}
+
+fn write_value<W: fmt::Write>(f: &mut fmt::Formatter<W>, value: BadValue) -> fmt::Result {
+    match value {
+        BadValue::Unusable(register) => write!(f, "{} is unusable here", Name(register)),
+        BadValue::Frame => write!(f, "r10 is never written"),
+        BadValue::MayBeNull(register) => write!(f, "{} may be 0 here", Name(register)),
+        BadValue::Arithmetic(register, kind) => write_held(f, register, kind),
+        BadValue::Comparison(register, kind) => write_held(f, register, kind),
+        BadValue::Stored(register, kind) => write_held(f, register, kind),
+        BadValue::Answer { kind, callback } => {
+            let name = callback_name(callback);
+            let kind = Spoken(kind);
+            write!(f, "{name} answers a number in r0, which holds {kind} here")
+        }
+    }
+}
+
+fn write_held<W: fmt::Write>(
+    f: &mut fmt::Formatter<W>,
+    register: Register,
+    kind: Kind,
+) -> fmt::Result {
+    let name = Name(register);
+    let kind = Spoken(kind);
+    write!(f, "{name} holds {kind} here")
+}
+
+fn write_access<W: fmt::Write>(f: &mut fmt::Formatter<W>, access: BadAccess) -> fmt::Result {
+    match access {
+        BadAccess::Unwritten { reach, byte } => {
+            let (first, last) = ends_of(reach);
+            write!(
+                f,
+                "stack {first}..{last} is read here, and {byte} isn't written"
+            )
+        }
+        BadAccess::PartOfPointer { reach, kind } => {
+            let (first, last) = ends_of(reach);
+            let kind = Spoken(kind);
+            write!(
+                f,
+                "stack {first}..{last} is read here, and is a part of {kind}"
+            )
+        }
+        BadAccess::NoPointer(register, kind) => {
+            write_held(f, register, kind)?;
+            write!(f, ", no pointer to memory")
+        }
+        BadAccess::Outside(reach) => write_outside(f, reach),
+        BadAccess::MovedOut {
+            register,
+            memory,
+            to,
+        } => write_moved_out(f, register, memory, to),
+        BadAccess::Misaligned(reach) => write_misaligned(f, reach),
+    }
+}
+
+fn write_moved_out<W: fmt::Write>(
+    f: &mut fmt::Formatter<W>,
+    register: Register,
+    memory: Memory,
+    to: i64,
+) -> fmt::Result {
+    let name = Name(register);
+    match memory {
+        Memory::Stack => write!(f, "{name} would be stack {to}, outside of -512..0"),
+        Memory::Element { map, bytes } => {
+            write!(
+                f,
+                "{name} would point to byte {to} of an element of map {map}, which has {bytes}"
+            )
+        }
+    }
+}
+
+fn write_field<W: fmt::Write>(f: &mut fmt::Formatter<W>, field: BadField) -> fmt::Result {
+    match field {
+        BadField::Missing { offset, size } => {
+            let bytes = size.bytes();
+            write!(f, "a task has no field of {bytes} bytes at {offset}")
+        }
+        BadField::Signed(field) => write!(f, "{} is loaded with a sign", FieldName(field)),
+        BadField::ReadOnly(field) => write!(f, "{} may only be read", FieldName(field)),
+    }
+}
+
+fn write_call<W: fmt::Write>(f: &mut fmt::Formatter<W>, call: BadCall) -> fmt::Result {
+    match call {
+        BadCall::Unknown(number) => write!(f, "no helper has the number {number}"),
+        BadCall::NotHere { number, callback } => {
+            let name = callback_name(callback);
+            write!(f, "{name} may not call {number}")
+        }
+        BadCall::Argument {
+            number,
+            register,
+            kind,
+            parameter,
+        } => {
+            let wanted = Wanted(parameter);
+            write!(f, "call {number} takes {wanted} in ")?;
+            let name = Name(register);
+            let kind = Spoken(kind);
+            write!(f, "{name}, which holds {kind} here")
         }
     }
 }
@@ -259,46 +296,56 @@ impl fmt::Display for Source {
 impl fmt::Display for Advice {
     fn fmt<W: fmt::Write>(&self, f: &mut fmt::Formatter<W>) -> fmt::Result {
         match self.reason {
-            Reason::HelperNotHere { number, .. } => write_callbacks(f, number),
-            Reason::NoField { offset, .. } => write_field(f, offset),
-            Reason::Unusable(_) => f.write_str(advice_on_unusable(self.origin)),
-            Reason::NoAddress(_, kind) => f.write_str(advice_on_address(kind, self.origin)),
-            Reason::MayBeNull(_) if self.is_copied => {
-                f.write_str("test it first, as the test of a copy says nothing of it")
-            }
-            reason => f.write_str(advice_on(reason)),
+            Reason::Flow(flow) => f.write_str(advice_on_flow(flow)),
+            Reason::Value(value) => f.write_str(self.on_value(value)),
+            Reason::Access(access) => f.write_str(self.on_access(access)),
+            Reason::Field(field) => write_advice_on_field(f, field),
+            Reason::Call(call) => write_advice_on_call(f, call),
+            Reason::UnknownMap { .. } => f.write_str("count maps from 0, or define the map"),
         }
     }
 }
 
-/// What to change where nothing depends on the values.
-fn advice_on(reason: Reason) -> &'static str {
-    match reason {
-        Reason::BackJump(_) => "write the loop out",
-        Reason::OutOfProgram { .. } => {
+impl Advice {
+    fn on_value(self, value: BadValue) -> &'static str {
+        match value {
+            BadValue::Unusable(_) => advice_on_unusable(self.origin),
+            BadValue::Frame => "copy it, r2 = r10, and move the copy",
+            BadValue::MayBeNull(_) if self.is_copied => {
+                "test it first, as the test of a copy says nothing of it"
+            }
+            BadValue::MayBeNull(_) => "test it first",
+            BadValue::Arithmetic(..) => {
+                "only += and -= of 64 bits with a number in the text move a pointer, to the stack or an element"
+            }
+            BadValue::Comparison(..) => "compare a pointer with 0 alone, by == or != of 64 bits",
+            BadValue::Stored(..) => "store a pointer on the stack alone, by u64",
+            BadValue::Answer { .. } => "write to r0 what it is to answer",
+        }
+    }
+
+    fn on_access(self, access: BadAccess) -> &'static str {
+        match access {
+            BadAccess::Unwritten { .. } => "write all of it first",
+            BadAccess::PartOfPointer { .. } => {
+                "load a stored pointer by u64, from where it was stored"
+            }
+            BadAccess::NoPointer(_, kind) => advice_on_address(kind, self.origin),
+            BadAccess::Outside(_) => "keep within it",
+            BadAccess::MovedOut { .. } => "keep a pointer in its memory or at its end",
+            BadAccess::Misaligned(_) => "move it to a multiple, or use smaller accesses",
+        }
+    }
+}
+
+fn advice_on_flow(flow: BadFlow) -> &'static str {
+    match flow {
+        BadFlow::Back(_) => "write the loop out",
+        BadFlow::OutOfProgram { .. } => {
             "count slots from the instruction behind the jump, or use a label"
         }
-        Reason::IntoWide(_) => "count instructions of two slots as two, or use a label",
-        Reason::FallsOff => "end with exit",
-        Reason::WritesFrame => "copy it, r2 = r10, and move the copy",
-        Reason::Unwritten { .. } => "write all of it first",
-        Reason::PartOfPointer { .. } => "load a stored pointer by u64, from where it was stored",
-        Reason::Outside(_) => "keep within it",
-        Reason::MovedOut { .. } => "keep a pointer in its memory or at its end",
-        Reason::Misaligned(_) => "move it to a multiple, or use smaller accesses",
-        Reason::MayBeNull(_) => "test it first",
-        Reason::PointerArithmetic(..) => {
-            "only += and -= of 64 bits with a number in the text move a pointer, to the stack or an element"
-        }
-        Reason::PointerCompare(..) => "compare a pointer with 0 alone, by == or != of 64 bits",
-        Reason::PointerStore(..) => "store a pointer on the stack alone, by u64",
-        Reason::SignedField(_) => "load it without one",
-        Reason::ReadOnlyField(_) => "store to slice and dsq_vtime alone",
-        Reason::UnknownHelper(_) => "take the number from the table of helpers",
-        Reason::BadArgument { .. } => "put the arguments in r1, r2 and so on",
-        Reason::BadReturn { .. } => "write to r0 what it is to answer",
-        Reason::UnknownMap { .. } => "count maps from 0, or define the map",
-        _ => "",
+        BadFlow::IntoWide(_) => "count instructions of two slots as two, or use a label",
+        BadFlow::FallsOff => "end with exit",
     }
 }
 
@@ -315,6 +362,22 @@ fn advice_on_address(kind: Kind, origin: Option<Origin>) -> &'static str {
         (_, Some(Origin::Null(_))) => "use it on the other side",
         (Kind::MapRef(_), _) => "look an element up, by call 1",
         _ => "use a pointer to the stack, an element or a task",
+    }
+}
+
+fn write_advice_on_field<W: fmt::Write>(f: &mut fmt::Formatter<W>, field: BadField) -> fmt::Result {
+    match field {
+        BadField::Missing { offset, .. } => write_field_at(f, offset),
+        BadField::Signed(_) => f.write_str("load it without one"),
+        BadField::ReadOnly(_) => f.write_str("store to slice and dsq_vtime alone"),
+    }
+}
+
+fn write_advice_on_call<W: fmt::Write>(f: &mut fmt::Formatter<W>, call: BadCall) -> fmt::Result {
+    match call {
+        BadCall::Unknown(_) => f.write_str("take the number from the table of helpers"),
+        BadCall::NotHere { number, .. } => write_callbacks(f, number),
+        BadCall::Argument { .. } => f.write_str("put the arguments in r1, r2 and so on"),
     }
 }
 
@@ -344,7 +407,7 @@ fn write_callbacks<W: fmt::Write>(f: &mut fmt::Formatter<W>, number: i32) -> fmt
 }
 
 /// Writes which field is at an offset of a task's record.
-fn write_field<W: fmt::Write>(f: &mut fmt::Formatter<W>, offset: i16) -> fmt::Result {
+fn write_field_at<W: fmt::Write>(f: &mut fmt::Formatter<W>, offset: i16) -> fmt::Result {
     let (field, bytes) = match (
         Field::at(offset, Size::Word),
         Field::at(offset, Size::DoubleWord),

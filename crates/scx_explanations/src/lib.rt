@@ -14,5 +14,8 @@ mod trails;
 
 pub use listing::{Arrival, Listing, Way, byte_kind, target_of};
 pub use origins::{Brought, Origin, Subject};
-pub use reasons::{Explanation, Memory, Reach, Reason, explanation_of};
+pub use reasons::{
+    BadAccess, BadCall, BadField, BadFlow, BadValue, Explanation, Memory, Reach, Reason,
+    explanation_of,
+};
 pub use trails::{Leg, Trail, trail_of};

@@ -32,18 +32,47 @@ pub struct Reach {
 /// Why an instruction is refused, with this case's values.
 #[derive(Clone, Copy)]
 pub enum Reason {
-    /// A jump goes back to that slot, counted from the first of the program.
-    BackJump(i64),
+    Flow(BadFlow),
+    Value(BadValue),
+    Access(BadAccess),
+    Field(BadField),
+    Call(BadCall),
+    /// There is no map of that number among so many.
+    UnknownMap { map: i32, maps: usize },
+}
+
+/// What is wrong with where control goes.
+#[derive(Clone, Copy)]
+pub enum BadFlow {
+    /// A jump goes back to that slot; below 0 there is none.
+    Back(i64),
     /// A jump goes to that slot of a program of so many.
-    OutOfProgram {
-        to: i64,
-        slots: usize,
-    },
+    OutOfProgram { to: i64, slots: usize },
     /// A jump goes to that slot, which is a second half.
     IntoWide(i64),
     FallsOff,
+}
+
+/// What is wrong with what a register holds, or with what is done with it.
+#[derive(Clone, Copy)]
+pub enum BadValue {
     Unusable(Register),
-    WritesFrame,
+    /// r10 is written.
+    Frame,
+    MayBeNull(Register),
+    /// A pointer that is computed with.
+    Arithmetic(Register, Kind),
+    /// A pointer that is compared.
+    Comparison(Register, Kind),
+    /// A pointer that is stored.
+    Stored(Register, Kind),
+    /// What is in r0 at the end of a callback that answers a number.
+    Answer { kind: Kind, callback: Callback },
+}
+
+/// What is wrong with an address.
+#[derive(Clone, Copy)]
+pub enum BadAccess {
     /// Of these bytes of the stack that one isn't written.
     Unwritten {
         reach: Reach,
@@ -55,7 +84,7 @@ pub enum Reason {
         kind: Kind,
     },
     /// What the register holds is no pointer to memory.
-    NoAddress(Register, Kind),
+    NoPointer(Register, Kind),
     Outside(Reach),
     /// A pointer to that byte would lie outside of its memory.
     MovedOut {
@@ -64,36 +93,32 @@ pub enum Reason {
         to: i64,
     },
     Misaligned(Reach),
-    MayBeNull(Register),
-    PointerArithmetic(Register, Kind),
-    PointerCompare(Register, Kind),
-    PointerStore(Register, Kind),
-    /// No field of a task has that offset and size.
-    NoField {
-        offset: i16,
-        size: Size,
-    },
-    SignedField(Field),
-    ReadOnlyField(Field),
-    UnknownHelper(i32),
-    HelperNotHere {
+}
+
+/// What is wrong with an access to a task.
+#[derive(Clone, Copy)]
+pub enum BadField {
+    /// No field has that offset and size.
+    Missing { offset: i16, size: Size },
+    /// It is loaded with a sign.
+    Signed(Field),
+    /// It is stored, and may only be read.
+    ReadOnly(Field),
+}
+
+/// What is wrong with the call of the helper of a number.
+#[derive(Clone, Copy)]
+pub enum BadCall {
+    Unknown(i32),
+    NotHere {
         number: i32,
         callback: Callback,
     },
-    BadArgument {
+    Argument {
         number: i32,
         register: Register,
         kind: Kind,
         parameter: Parameter,
-    },
-    BadReturn {
-        kind: Kind,
-        callback: Callback,
-    },
-    /// There is no map of that number among so many.
-    UnknownMap {
-        map: i32,
-        maps: usize,
     },
 }
 
@@ -142,20 +167,28 @@ pub fn explanation_of(
 /// The value that is at fault, if it is one.
 fn subject_of(reason: Reason) -> Option<Subject> {
     match reason {
-        Reason::Unusable(register) => Some(Subject::Register(register)),
-        Reason::Unwritten { byte, .. } => byte_of(byte),
-        Reason::NoAddress(register, _) => Some(Subject::Register(register)),
-        Reason::MayBeNull(register) => Some(Subject::Register(register)),
-        Reason::PointerArithmetic(Register::R10, _) | Reason::PointerCompare(Register::R10, _) => {
-            None
-        }
-        Reason::PointerStore(Register::R10, _) => None,
-        Reason::PointerArithmetic(register, _) => Some(Subject::Register(register)),
-        Reason::PointerCompare(register, _) => Some(Subject::Register(register)),
-        Reason::PointerStore(register, _) => Some(Subject::Register(register)),
-        Reason::BadArgument { register, .. } => Some(Subject::Register(register)),
-        Reason::BadReturn { .. } => Some(Subject::Register(Register::R0)),
+        Reason::Value(value) => Some(Subject::Register(register_of(value)?)),
+        Reason::Access(BadAccess::Unwritten { byte, .. }) => byte_of(byte),
+        Reason::Access(BadAccess::NoPointer(register, _)) => Some(Subject::Register(register)),
+        Reason::Call(BadCall::Argument { register, .. }) => Some(Subject::Register(register)),
         _ => None,
+    }
+}
+
+/// The register that holds the value at fault. r10 always holds the same.
+fn register_of(value: BadValue) -> Option<Register> {
+    let register = match value {
+        BadValue::Unusable(register) | BadValue::MayBeNull(register) => register,
+        BadValue::Arithmetic(register, _) => register,
+        BadValue::Comparison(register, _) => register,
+        BadValue::Stored(register, _) => register,
+        BadValue::Answer { .. } => Register::R0,
+        BadValue::Frame => return None,
+    };
+    if register == Register::R10 {
+        None
+    } else {
+        Some(register)
     }
 }
 
@@ -168,22 +201,22 @@ fn byte_of(from_top: i64) -> Option<Subject> {
 fn reason_of(listing: &Listing, fault: Fault, slot: usize) -> Option<Reason> {
     let insn = listing.insn(slot)?;
     match fault {
-        Fault::Flow(fault) => Some(reason_of_flow(listing, fault, slot, insn)),
+        Fault::Flow(fault) => Some(Reason::Flow(reason_of_flow(listing, fault, slot, insn))),
         Fault::Rule(why) => reason_of_rule(listing, why, listing.state(slot)?, insn),
         Fault::NoMemory => None,
     }
 }
 
-fn reason_of_flow(listing: &Listing, fault: FlowFault, slot: usize, insn: Insn) -> Reason {
+fn reason_of_flow(listing: &Listing, fault: FlowFault, slot: usize, insn: Insn) -> BadFlow {
     let to = jumped_to(slot, insn);
     match fault {
-        FlowFault::BackJump => Reason::BackJump(to),
-        FlowFault::OutOfProgram => Reason::OutOfProgram {
+        FlowFault::BackJump => BadFlow::Back(to),
+        FlowFault::OutOfProgram => BadFlow::OutOfProgram {
             to,
             slots: listing.slots(),
         },
-        FlowFault::IntoWide => Reason::IntoWide(to),
-        FlowFault::FallsOff => Reason::FallsOff,
+        FlowFault::IntoWide => BadFlow::IntoWide(to),
+        FlowFault::FallsOff => BadFlow::FallsOff,
     }
 }
 
@@ -203,36 +236,59 @@ fn reason_of_rule(listing: &Listing, why: Why, state: &AbsState, insn: Insn) -> 
     let context = listing.context();
     let defs = &context.defs;
     match why {
-        Why::UnusableRegister => Some(Reason::Unusable(unusable_in(state, insn)?)),
-        Why::WritesFrame => Some(Reason::WritesFrame),
-        Why::UnwrittenStack => unwritten_in(state, insn, defs),
-        Why::OutOfBounds => out_of_bounds(state, insn, defs),
-        Why::Misaligned => Some(Reason::Misaligned(reach_of(state, address_of(insn)?, defs)?)),
-        Why::NullNotTested => Some(Reason::MayBeNull(null_in(state, insn)?)),
+        Why::UnusableRegister
+        | Why::WritesFrame
+        | Why::NullNotTested
+        | Why::PointerArithmetic
+        | Why::PointerCompare
+        | Why::PointerStore
+        | Why::BadReturn => Some(Reason::Value(bad_value(state, why, insn, context.callback)?)),
+        Why::UnwrittenStack => Some(Reason::Access(unwritten_in(state, insn, defs)?)),
+        Why::OutOfBounds => Some(Reason::Access(out_of_bounds(state, insn, defs)?)),
+        Why::Misaligned => {
+            let reach = reach_of(state, address_of(insn)?, defs)?;
+            Some(Reason::Access(BadAccess::Misaligned(reach)))
+        }
+        Why::TaskField => Some(Reason::Field(bad_field(insn)?)),
+        Why::UnknownHelper | Why::HelperNotHere | Why::BadArgument => {
+            Some(Reason::Call(bad_call(state, why, insn, context.callback)?))
+        }
+        Why::UnknownMap => unknown_map(insn, defs),
+    }
+}
+
+fn bad_value(state: &AbsState, why: Why, insn: Insn, callback: Callback) -> Option<BadValue> {
+    match why {
+        Why::UnusableRegister => Some(BadValue::Unusable(unusable_in(state, insn)?)),
+        Why::WritesFrame => Some(BadValue::Frame),
+        Why::NullNotTested => Some(BadValue::MayBeNull(null_in(state, insn)?)),
         Why::PointerArithmetic => {
             let register = pointer_in(state, insn)?;
-            Some(Reason::PointerArithmetic(register, state.kind(register)))
+            Some(BadValue::Arithmetic(register, state.kind(register)))
         }
         Why::PointerCompare => {
             let register = pointer_in(state, insn)?;
-            Some(Reason::PointerCompare(register, state.kind(register)))
+            Some(BadValue::Comparison(register, state.kind(register)))
         }
         Why::PointerStore => {
             let register = stored_in(insn)?;
-            Some(Reason::PointerStore(register, state.kind(register)))
+            Some(BadValue::Stored(register, state.kind(register)))
         }
-        Why::TaskField => task_field(insn),
-        Why::UnknownHelper => Some(Reason::UnknownHelper(called_in(insn)?)),
-        Why::HelperNotHere => Some(Reason::HelperNotHere {
-            number: called_in(insn)?,
-            callback: context.callback,
-        }),
-        Why::BadArgument => bad_argument(state, called_in(insn)?),
-        Why::BadReturn => Some(Reason::BadReturn {
+        Why::BadReturn => Some(BadValue::Answer {
             kind: state.kind(Register::R0),
-            callback: context.callback,
+            callback,
         }),
-        Why::UnknownMap => unknown_map(insn, defs),
+        _ => None,
+    }
+}
+
+fn bad_call(state: &AbsState, why: Why, insn: Insn, callback: Callback) -> Option<BadCall> {
+    let number = called_in(insn)?;
+    match why {
+        Why::UnknownHelper => Some(BadCall::Unknown(number)),
+        Why::HelperNotHere => Some(BadCall::NotHere { number, callback }),
+        Why::BadArgument => bad_argument(state, number),
+        _ => None,
     }
 }
 
@@ -306,13 +362,13 @@ fn unusable_argument(state: &AbsState, number: i32) -> Option<Register> {
 }
 
 /// The first argument of a helper that is of another kind than it takes.
-fn bad_argument(state: &AbsState, number: i32) -> Option<Reason> {
+fn bad_argument(state: &AbsState, number: i32) -> Option<BadCall> {
     let helper = Helper::new(number)?;
     for argument in 0..MAX_ARGUMENTS {
         let (register, parameter) = argument_of(helper, argument)?;
         let kind = state.kind(register);
         if !is_taken(parameter, kind) {
-            return Some(Reason::BadArgument {
+            return Some(BadCall::Argument {
                 number,
                 register,
                 kind,
@@ -423,25 +479,25 @@ fn reach_of(state: &AbsState, address: Address, defs: &MapDefs) -> Option<Reach>
 }
 
 /// What is read of the stack, and isn't written, or is a part of a pointer.
-fn unwritten_in(state: &AbsState, insn: Insn, defs: &MapDefs) -> Option<Reason> {
+fn unwritten_in(state: &AbsState, insn: Insn, defs: &MapDefs) -> Option<BadAccess> {
     let reach = reach_of(state, address_of(insn)?, defs)?;
     for step in 0..reach.count {
         let byte = reach.first.saturating_add(i64::from(step));
         let place = usize::try_from(byte.saturating_add(i64::from(STACK_SIZE))).ok()?;
         match byte_kind(state, place) {
             Kind::Num => (),
-            Kind::Unusable => return Some(Reason::Unwritten { reach, byte }),
-            kind => return Some(Reason::PartOfPointer { reach, kind }),
+            Kind::Unusable => return Some(BadAccess::Unwritten { reach, byte }),
+            kind => return Some(BadAccess::PartOfPointer { reach, kind }),
         }
     }
     None
 }
 
-fn out_of_bounds(state: &AbsState, insn: Insn, defs: &MapDefs) -> Option<Reason> {
+fn out_of_bounds(state: &AbsState, insn: Insn, defs: &MapDefs) -> Option<BadAccess> {
     if let Insn::Binary(width, operation, register, operand) = insn {
         let (memory, at) = place_of(state.kind(register), defs)?;
         let to = at.saturating_add(pointer_step(width, operation, operand)?);
-        return Some(Reason::MovedOut {
+        return Some(BadAccess::MovedOut {
             register,
             memory,
             to,
@@ -449,17 +505,17 @@ fn out_of_bounds(state: &AbsState, insn: Insn, defs: &MapDefs) -> Option<Reason>
     }
     let address = address_of(insn)?;
     match reach_of(state, address, defs) {
-        Some(reach) => Some(Reason::Outside(reach)),
-        None => Some(Reason::NoAddress(address.base, state.kind(address.base))),
+        Some(reach) => Some(BadAccess::Outside(reach)),
+        None => Some(BadAccess::NoPointer(address.base, state.kind(address.base))),
     }
 }
 
-fn task_field(insn: Insn) -> Option<Reason> {
+fn bad_field(insn: Insn) -> Option<BadField> {
     let Address { offset, size, .. } = address_of(insn)?;
     match (Field::at(offset, size), insn) {
-        (None, _) => Some(Reason::NoField { offset, size }),
-        (Some(field), Insn::Store(..)) => Some(Reason::ReadOnlyField(field)),
-        (Some(field), _) => Some(Reason::SignedField(field)),
+        (None, _) => Some(BadField::Missing { offset, size }),
+        (Some(field), Insn::Store(..)) => Some(BadField::ReadOnly(field)),
+        (Some(field), _) => Some(BadField::Signed(field)),
     }
 }
 
