@@ -234,7 +234,7 @@ const MEMORY: [Row<'_>; 7] = [
         "*(u64 *)(r10 + 0) = 0\nexit\n",
         "running refused 8 OutOfBounds at 0
    0  *(u64 *)(r10 + 0) = 0  r1 task
-      = the access is to stack 0..7, outside of -512..-1; keep within it
+      = the access is to stack 0..7, outside of r10 - 512 up to r10 - 1; keep within it
       = control came by 0
    1  exit
 ",
@@ -245,7 +245,7 @@ const MEMORY: [Row<'_>; 7] = [
         "running refused 8 OutOfBounds at 1
    0  r2 = r10   r1 task
    1  r2 -= 520  r1 task, r2 frame
-      = r2 would be stack -520, outside of -512..0; keep a pointer in its memory or at its end
+      = r2 would be stack -520, outside of r10 - 512 up to r10; keep a pointer in its memory or at its end
       = control came by 0..1
    2  exit
 ",

@@ -1,35 +1,20 @@
+ghost use Rattle.std.specs.Prelude.{◌≡◌, ◌<◌, length, Err, IfOk, IfErr};
+ghost use Rattle.scx_outcomes.specs.declared.file.TheConstants.{FILE_LIMIT};
+ghost use Rattle.scx_outcomes.specs.Outcome.{IfRefused, IsRefused};
+ghost use Rattle.scx_outcomes.specs.Text.{IsText};
+ghost use Rattle.scx_verdicts.specs.declared.verdict.Verdicts.{Verdicts};
+ghost use Rattle.scx_verdicts.specs.Verdicts.{are_accepted};
+ghost use Rattle.scx_verdicts.specs.Check.{AreVerdicts, IsCheckCause};
+ghost use Rattle.scx_explain.specs.Explained.{verdicts_of};
+
+use crate::explained::{ExplainedPolicy, explain_policy};
 use crate::lines::write_callback;
 use crate::page::Page;
-use scx_explanations::{Explanation, Listing, explanation_of};
-use scx_isa::{Callback, Program};
-use scx_maps::MapDefs;
 use scx_outcomes::{Fault, Refusal, text};
 use scx_output::Out;
-use scx_policies::{PolicyText, read_policy};
-use scx_safety::Context;
-use scx_verdicts::{Verdict, judge};
+use scx_policies::read_policy;
 use std::alloc::Global;
 use std::fmt::{self, Write};
-
-/// The callbacks, in their order.
-const CALLBACKS: [Callback; 7] = [
-    Callback::Init,
-    Callback::Enable,
-    Callback::SelectCpu,
-    Callback::Enqueue,
-    Callback::Dispatch,
-    Callback::Running,
-    Callback::Stopping,
-];
-
-/// A callback with its program, the verdict on it, and why it is refused, if it is.
-#[derive(Drop)]
-pub(crate) struct Explained {
-    pub(crate) callback: Callback,
-    pub(crate) verdict: Verdict,
-    pub(crate) listing: Listing,
-    pub(crate) explanation: Option<Explanation>,
-}
 
 /// Verifies each program of the policy file in `bytes`, and writes of each the verdict and the
 /// instructions, with what is known before them, and at a refusal why. The answer is whether all are
@@ -38,75 +23,56 @@ pub(crate) struct Explained {
 /// # Errors
 ///
 /// The bytes are refused as a policy file, and then nothing is written, or writing fails.
-pub fn explain<W: Out>(alloc: Global, bytes: &[u8], out: &mut W) -> Result<bool, Fault> {
+pub fn explain<W: Out>(alloc: Global, bytes: &[u8], out: &mut W) -> Result<bool, Fault>
+    ensures done { IfOk result (λ answer. (verdicts : Verdicts) × AreVerdicts bytes.now verdicts
+        × (answer ≡ are_accepted verdicts)) }
+
+    // A refusal has its cause in the bytes, and comes before any byte is written.
+    ensures refused { IfRefused result (IsCheckCause bytes.now) }
+    ensures too_large { FILE_LIMIT < length bytes.now
+        → result ≡ Err (Fault.Refused Refusal.TooLarge) }
+    ensures quiet { IsRefused result → out.new ≡ out.old }
+{
     let text = text(bytes)?;
-    let callbacks = explained_in(alloc, text)?;
-    match write_callbacks(&callbacks, out) {
-        Ok(()) => Ok(callbacks.iter().all(is_accepted)),
+    let policy = explained_in(alloc, text)?;
+    match write_policy(&policy, out) {
+        Ok(()) => Ok(policy.verdicts().are_accepted()),
         Err(_) => Err(Fault::WriteFailed),
     }
 }
 
-fn is_accepted(explained: &Explained) -> bool {
-    matches!(explained.verdict, Verdict::Accepted(_))
-}
-
-/// Explains each program of a policy file, in the order of callbacks. All memory is taken here, so that
-/// none runs out once a line is written.
-fn explained_in(alloc: Global, text: &str) -> Result<Vec<Explained>, Refusal> {
+/// Explains the programs of a policy file. All memory is taken here, so that none runs out once a line
+/// is written.
+fn explained_in(alloc: Global, text: &str) -> Result<ExplainedPolicy, Refusal>
+    requires { IsText text.now }
+    ensures verdicts { IfOk result (λ policy. AreVerdicts text.now (verdicts_of policy)) }
+    ensures refused { IfErr result (IsCheckCause text.now) }
+{
     match read_policy(alloc, text) {
-        Ok(policy) => explained_of(alloc, policy),
+        Ok(policy) => explain_policy(alloc, policy),
         Err(error) => Err(Refusal::of_policy(error)),
     }
 }
 
-fn explained_of(alloc: Global, policy: PolicyText) -> Result<Vec<Explained>, Refusal> {
-    let mut policy = policy;
-    let defs = *policy.defs();
-    let mut callbacks = Vec::with_capacity(alloc, CALLBACKS.len())?;
-    for &callback in &CALLBACKS {
-        if let Some(program) = policy.take(callback) {
-            let explained = explain_program(alloc, program, callback, &defs)?;
-            if callbacks.push(explained).is_err() {
-                return Err(Refusal::NoMemory);
-            }
-        }
-    }
-    Ok(callbacks)
-}
-
-fn explain_program(
-    alloc: Global,
-    program: Program,
-    callback: Callback,
-    defs: &MapDefs,
-) -> Result<Explained, Refusal> {
-    let context = Context {
-        callback,
-        defs: *defs,
-    };
-    let listing = Listing::new(alloc, &program, context)?;
-    let verdict = judge(alloc, program, callback, defs)?;
-    let explanation = match verdict {
-        Verdict::Accepted(_) => None,
-        Verdict::Refused(fault, slot) => explanation_of(alloc, &listing, fault, slot)?,
-    };
-    Ok(Explained {
-        callback,
-        verdict,
-        listing,
-        explanation,
-    })
-}
-
-/// Writes the callbacks, with an empty line between two.
-fn write_callbacks<W: Out>(callbacks: &[Explained], out: &mut W) -> fmt::Result {
+/// Writes the callbacks in their order, with an empty line between two.
+fn write_policy<W: Out>(policy: &ExplainedPolicy, out: &mut W) -> fmt::Result {
     let mut page = Page::new(out);
-    for (place, explained) in callbacks.iter().enumerate() {
-        if place > 0 {
-            page.write_str("\n")?;
+    let callbacks = [
+        &policy.init,
+        &policy.enable,
+        &policy.select_cpu,
+        &policy.enqueue,
+        &policy.dispatch,
+        &policy.running,
+        &policy.stopping,
+    ];
+    let mut between = "";
+    for callback in callbacks {
+        if let Some(explained) = callback {
+            page.write_str(between)?;
+            write_callback(&mut page, explained)?;
+            between = "\n";
         }
-        write_callback(&mut page, explained)?;
     }
     Ok(())
 }

@@ -1,13 +1,10 @@
 use crate::page::Page;
 use crate::words::{Brief, from_top};
-use scx_abs::{AbsState, CELL_BYTES, CELLS, Kind};
-use scx_explanations::byte_kind;
-use scx_isa::REGISTERS;
+use scx_abs::{AbsState, Kind};
+use scx_explanations::{byte_kind, cell_of};
+use scx_isa::{REGISTERS, STACK_SIZE};
 use scx_output::Out;
 use std::fmt::{self, Write};
-
-/// How many bytes the stack has.
-const BYTES: usize = CELLS * CELL_BYTES;
 
 /// How many registers are listed: all but r10, which is always the frame.
 const LISTED: usize = REGISTERS - 1;
@@ -40,12 +37,12 @@ impl<W: Out> Items<'_, '_, W> {
     }
 
     /// Bytes of the stack of which the same is known.
-    fn bytes(&mut self, first: usize, last: usize, kind: Kind) -> fmt::Result {
+    fn bytes(&mut self, first: u16, last: u16, kind: Kind) -> fmt::Result {
         self.begin()?;
         let stack = if self.has_stack { "" } else { "stack " };
         self.has_stack = true;
-        let first = offset_of(first);
-        let last = offset_of(last);
+        let first = from_top(first);
+        let last = from_top(last);
         write!(self.page, "{stack}{first}..{last} ")?;
         match kind {
             Kind::Num => self.page.write_str("written"),
@@ -97,28 +94,25 @@ fn kind_of(state: &AbsState, number: usize) -> Kind {
 
 fn write_stack<W: Out>(items: &mut Items<'_, '_, W>, state: &AbsState) -> fmt::Result {
     let mut first = 0;
-    for byte in 0..BYTES {
-        if !goes_on(state, byte) {
+    for byte in 0..STACK_SIZE {
+        let next = byte.saturating_add(1);
+        if !goes_on(state, byte, next) {
             let kind = byte_kind(state, byte);
             if kind != Kind::Unusable {
                 items.bytes(first, byte, kind)?;
             }
-            first = byte.saturating_add(1);
+            first = next;
         }
     }
     Ok(())
 }
 
-/// Whether the byte behind this one belongs to the same item: it is known to be written too, or a part
-/// of the same pointer.
-fn goes_on(state: &AbsState, byte: usize) -> bool {
-    let next = byte.saturating_add(1);
+/// Whether the next byte belongs to the same item as one: nothing is known of both, both are written, or
+/// both are parts of the same pointer.
+fn goes_on(state: &AbsState, byte: u16, next: u16) -> bool {
     let kind = byte_kind(state, byte);
-    let is_number = kind == Kind::Unusable || kind == Kind::Num;
-    next < BYTES && byte_kind(state, next) == kind && (is_number || next % CELL_BYTES != 0)
-}
-
-/// The offset of a byte of the stack from its top.
-fn offset_of(byte: usize) -> i64 {
-    from_top(u16::try_from(byte).unwrap_or(0))
+    let is_pointer = kind != Kind::Unusable && kind != Kind::Num;
+    next < STACK_SIZE
+        && byte_kind(state, next) == kind
+        && (!is_pointer || cell_of(next) == cell_of(byte))
 }

@@ -2,6 +2,8 @@
 //! instruction, and at a refusal why.
 #![tactic(auto)]
 
+mod advice;
+mod explained;
 mod explaining;
 mod known;
 mod lines;

@@ -1,9 +1,9 @@
-use crate::explaining::Explained;
+use crate::explained::Explained;
 use crate::known::write_known;
 use crate::page::Page;
 use crate::sentences::write_explanation;
 use arrayvec::ArrayString;
-use scx_explanations::{Arrival, Listing, Way, target_of};
+use scx_explanations::{Listing, target_of};
 use scx_isa::Insn;
 use scx_output::Out;
 use scx_text::Canonical;
@@ -18,12 +18,13 @@ type Text = ArrayString<TEXT_CAPACITY>;
 
 /// Writes the verdict on a callback and its listing.
 pub(crate) fn write_callback<W: Out>(page: &mut Page<'_, W>, explained: &Explained) -> fmt::Result {
-    page.write_str(verdict_line(explained.callback, explained.verdict).as_str())?;
     let listing = &explained.listing;
+    let callback = listing.context().callback;
+    page.write_str(verdict_line(callback, explained.verdict).as_str())?;
     let width = width_of(listing);
     for slot in 0..listing.slots() {
         if let Some(insn) = listing.insn(slot) {
-            write_line(page, listing, slot, insn, width)?;
+            write_line(page, explained, slot, insn, width)?;
             if let Some(explanation) = &explained.explanation
                 && explanation.slot == slot
             {
@@ -60,56 +61,54 @@ fn width_of(listing: &Listing) -> usize {
 /// Writes a slot, its instruction, and what is known before it.
 fn write_line<W: Out>(
     page: &mut Page<'_, W>,
-    listing: &Listing,
+    explained: &Explained,
     slot: usize,
     insn: Insn,
     width: usize,
 ) -> fmt::Result {
     let text = text_of(slot, insn);
     write!(page, "{slot:>4}  {text}")?;
-    if listing.is_looked_at(slot) {
+    if explained.listing.is_looked_at(slot) {
         for _ in text.len()..width {
             page.write_str(" ")?;
         }
         page.write_str("  ")?;
-        write_state(page, listing, slot)?;
+        write_state(page, explained, slot)?;
     }
     page.write_str("\n")
 }
 
 /// Writes what is known at a slot that the pass looked at.
-fn write_state<W: Out>(page: &mut Page<'_, W>, listing: &Listing, slot: usize) -> fmt::Result {
-    match listing.state(slot) {
+fn write_state<W: Out>(page: &mut Page<'_, W>, explained: &Explained, slot: usize) -> fmt::Result {
+    match explained.listing.state(slot) {
         Some(state) => {
-            if has_jumps(listing, slot) {
-                write_sources(page, listing, slot)?;
-            }
+            write_sources(page, explained, slot)?;
             write_known(page, state)
         }
         None => page.write_str("nothing leads here"),
     }
 }
 
-/// Whether a jump leads to the slot.
-fn has_jumps(listing: &Listing, slot: usize) -> bool {
-    (0..slot).any(|from| is_jump(listing.arrival(from, slot)))
-}
-
-fn is_jump(arrival: Option<Arrival>) -> bool {
-    match arrival {
-        Some(arrival) => arrival.way == Way::Jump,
-        None => false,
+/// Writes the slots from which control comes, in their order, where it jumps here from one.
+fn write_sources<W: Out>(
+    page: &mut Page<'_, W>,
+    explained: &Explained,
+    slot: usize,
+) -> fmt::Result {
+    let Some(first) = explained.jumps.first(slot) else {
+        return Ok(());
+    };
+    write!(page, "from {first}")?;
+    let mut last = first;
+    for _ in first..slot {
+        let Some(next) = explained.jumps.next(last) else {
+            break;
+        };
+        write!(page, ", {next}")?;
+        last = next;
     }
-}
-
-/// Writes the slots from which control comes.
-fn write_sources<W: Out>(page: &mut Page<'_, W>, listing: &Listing, slot: usize) -> fmt::Result {
-    let mut before = "from ";
-    for from in 0..slot {
-        if listing.arrival(from, slot).is_some() {
-            write!(page, "{before}{from}")?;
-            before = ", ";
-        }
+    if let Some(before) = explained.listing.on_from(slot) {
+        write!(page, ", {before}")?;
     }
     page.write_str(": ")
 }

@@ -1,11 +1,12 @@
+use crate::advice::Advice;
 use crate::page::Page;
-use crate::words::{Name, Spoken, Wanted};
+use crate::words::{FieldName, Name, Spoken, Wanted};
 use scx_abs::Kind;
 use scx_explanations::{
     BadAccess, BadCall, BadField, BadFlow, BadValue, Brought, Explanation, Leg, Memory, Origin,
     Reach, Reason,
 };
-use scx_isa::{Callback, Field, Helper, Register, Size};
+use scx_isa::{Register, STACK_SIZE};
 use scx_output::Out;
 use scx_policies::callback_name;
 use std::fmt::{self, Write};
@@ -13,25 +14,13 @@ use std::fmt::{self, Write};
 /// What begins a line of an explanation.
 const MARGIN: &str = "      = ";
 
-/// What is wrong.
+/// What is wrong, in a sentence.
 #[derive(Clone, Copy)]
-struct Fault(Reason);
+struct ReasonText(Reason);
 
-/// Where the value at fault comes from.
+/// Where the value at fault comes from, in a sentence.
 #[derive(Clone, Copy)]
-struct Source(Origin);
-
-/// What to change.
-#[derive(Clone, Copy)]
-struct Advice {
-    reason: Reason,
-    origin: Option<Origin>,
-    is_copied: bool,
-}
-
-/// A field of a task, by its name.
-#[derive(Clone, Copy)]
-struct FieldName(Field);
+struct OriginText(Origin);
 
 /// Writes why a program is refused, and how control came there.
 pub(crate) fn write_explanation<W: Out>(
@@ -55,11 +44,11 @@ pub(crate) fn write_explanation<W: Out>(
 }
 
 fn write_sentence<W: Out>(page: &mut Page<'_, W>, advice: Advice) -> fmt::Result {
-    let fault = Fault(advice.reason);
-    write!(page, "{MARGIN}{fault}")?;
+    let reason = ReasonText(advice.reason);
+    write!(page, "{MARGIN}{reason}")?;
     if let Some(origin) = advice.origin {
-        let source = Source(origin);
-        write!(page, ": {source}")?;
+        let origin = OriginText(origin);
+        write!(page, ": {origin}")?;
     }
     writeln!(page, "; {advice}")
 }
@@ -86,7 +75,7 @@ fn write_leg<W: Out>(page: &mut Page<'_, W>, left: Option<usize>, leg: Leg) -> f
     }
 }
 
-impl fmt::Display for Fault {
+impl fmt::Display for ReasonText {
     fn fmt<W: fmt::Write>(&self, f: &mut fmt::Formatter<W>) -> fmt::Result {
         match self.0 {
             Reason::Flow(flow) => write_flow(f, flow),
@@ -180,7 +169,12 @@ fn write_moved_out<W: fmt::Write>(
 ) -> fmt::Result {
     let name = Name(register);
     match memory {
-        Memory::Stack => write!(f, "{name} would be stack {to}, outside of -512..0"),
+        Memory::Stack => {
+            write!(
+                f,
+                "{name} would be stack {to}, outside of r10 - {STACK_SIZE} up to r10"
+            )
+        }
         Memory::Element { map, bytes } => {
             write!(
                 f,
@@ -238,7 +232,7 @@ fn write_outside<W: fmt::Write>(f: &mut fmt::Formatter<W>, reach: Reach) -> fmt:
         Memory::Stack => {
             write!(
                 f,
-                "the access is to stack {first}..{last}, outside of -512..-1"
+                "the access is to stack {first}..{last}, outside of r10 - {STACK_SIZE} up to r10 - 1"
             )
         }
         Memory::Element { map, bytes } => {
@@ -265,7 +259,7 @@ fn write_misaligned<W: fmt::Write>(f: &mut fmt::Formatter<W>, reach: Reach) -> f
     }
 }
 
-impl fmt::Display for Source {
+impl fmt::Display for OriginText {
     fn fmt<W: fmt::Write>(&self, f: &mut fmt::Formatter<W>) -> fmt::Result {
         match self.0 {
             Origin::Nowhere => write!(f, "nothing on the way here writes it"),
@@ -290,146 +284,5 @@ impl fmt::Display for Source {
                 write!(f, " and {second} from {from}")
             }
         }
-    }
-}
-
-impl fmt::Display for Advice {
-    fn fmt<W: fmt::Write>(&self, f: &mut fmt::Formatter<W>) -> fmt::Result {
-        match self.reason {
-            Reason::Flow(flow) => f.write_str(advice_on_flow(flow)),
-            Reason::Value(value) => f.write_str(self.on_value(value)),
-            Reason::Access(access) => f.write_str(self.on_access(access)),
-            Reason::Field(field) => write_advice_on_field(f, field),
-            Reason::Call(call) => write_advice_on_call(f, call),
-            Reason::UnknownMap { .. } => f.write_str("count maps from 0, or define the map"),
-        }
-    }
-}
-
-impl Advice {
-    fn on_value(self, value: BadValue) -> &'static str {
-        match value {
-            BadValue::Unusable(_) => advice_on_unusable(self.origin),
-            BadValue::Frame => "copy it, r2 = r10, and move the copy",
-            BadValue::MayBeNull(_) if self.is_copied => {
-                "test it first, as the test of a copy says nothing of it"
-            }
-            BadValue::MayBeNull(_) => "test it first",
-            BadValue::Arithmetic(..) => {
-                "only += and -= of 64 bits with a number in the text move a pointer, to the stack or an element"
-            }
-            BadValue::Comparison(..) => "compare a pointer with 0 alone, by == or != of 64 bits",
-            BadValue::Stored(..) => "store a pointer on the stack alone, by u64",
-            BadValue::Answer { .. } => "write to r0 what it is to answer",
-        }
-    }
-
-    fn on_access(self, access: BadAccess) -> &'static str {
-        match access {
-            BadAccess::Unwritten { .. } => "write all of it first",
-            BadAccess::PartOfPointer { .. } => {
-                "load a stored pointer by u64, from where it was stored"
-            }
-            BadAccess::NoPointer(_, kind) => advice_on_address(kind, self.origin),
-            BadAccess::Outside(_) => "keep within it",
-            BadAccess::MovedOut { .. } => "keep a pointer in its memory or at its end",
-            BadAccess::Misaligned(_) => "move it to a multiple, or use smaller accesses",
-        }
-    }
-}
-
-fn advice_on_flow(flow: BadFlow) -> &'static str {
-    match flow {
-        BadFlow::Back(_) => "write the loop out",
-        BadFlow::OutOfProgram { .. } => {
-            "count slots from the instruction behind the jump, or use a label"
-        }
-        BadFlow::IntoWide(_) => "count instructions of two slots as two, or use a label",
-        BadFlow::FallsOff => "end with exit",
-    }
-}
-
-fn advice_on_unusable(origin: Option<Origin>) -> &'static str {
-    match origin {
-        Some(Origin::Lost { .. }) => "save it before the call, in r6 to r9 or on the stack",
-        Some(Origin::Met { .. }) => "bring the same kind on each way",
-        _ => "write it on each way here",
-    }
-}
-
-fn advice_on_address(kind: Kind, origin: Option<Origin>) -> &'static str {
-    match (kind, origin) {
-        (_, Some(Origin::Null(_))) => "use it on the other side",
-        (Kind::MapRef(_), _) => "look an element up, by call 1",
-        _ => "use a pointer to the stack, an element or a task",
-    }
-}
-
-fn write_advice_on_field<W: fmt::Write>(f: &mut fmt::Formatter<W>, field: BadField) -> fmt::Result {
-    match field {
-        BadField::Missing { offset, .. } => write_field_at(f, offset),
-        BadField::Signed(_) => f.write_str("load it without one"),
-        BadField::ReadOnly(_) => f.write_str("store to slice and dsq_vtime alone"),
-    }
-}
-
-fn write_advice_on_call<W: fmt::Write>(f: &mut fmt::Formatter<W>, call: BadCall) -> fmt::Result {
-    match call {
-        BadCall::Unknown(_) => f.write_str("take the number from the table of helpers"),
-        BadCall::NotHere { number, .. } => write_callbacks(f, number),
-        BadCall::Argument { .. } => f.write_str("put the arguments in r1, r2 and so on"),
-    }
-}
-
-/// Writes where a helper may be called.
-fn write_callbacks<W: fmt::Write>(f: &mut fmt::Formatter<W>, number: i32) -> fmt::Result {
-    f.write_str("call it in ")?;
-    let Some(helper) = Helper::new(number) else {
-        return Ok(());
-    };
-    let mut before = "";
-    for callback in [
-        Callback::Init,
-        Callback::Enable,
-        Callback::SelectCpu,
-        Callback::Enqueue,
-        Callback::Dispatch,
-        Callback::Running,
-        Callback::Stopping,
-    ] {
-        if helper.is_allowed(callback) {
-            let name = callback_name(callback);
-            write!(f, "{before}{name}")?;
-            before = ", ";
-        }
-    }
-    Ok(())
-}
-
-/// Writes which field is at an offset of a task's record.
-fn write_field_at<W: fmt::Write>(f: &mut fmt::Formatter<W>, offset: i16) -> fmt::Result {
-    let (field, bytes) = match (
-        Field::at(offset, Size::Word),
-        Field::at(offset, Size::DoubleWord),
-    ) {
-        (Some(field), _) => (field, 4),
-        (None, Some(field)) => (field, 8),
-        (None, None) => return f.write_str("take offset and size from the table of fields"),
-    };
-    let field = FieldName(field);
-    write!(f, "{field} is there, of {bytes} bytes")
-}
-
-impl fmt::Display for FieldName {
-    fn fmt<W: fmt::Write>(&self, f: &mut fmt::Formatter<W>) -> fmt::Result {
-        f.write_str(match self.0 {
-            Field::Pid => "pid",
-            Field::Weight => "weight",
-            Field::Slice => "slice",
-            Field::DsqVtime => "dsq_vtime",
-            Field::PrevCpu => "prev_cpu",
-            Field::Group => "group",
-            Field::RunNs => "run_ns",
-        })
     }
 }

@@ -1,10 +1,14 @@
 use scx_abs::Kind;
-use scx_isa::{Parameter, Register, STACK_SIZE};
+use scx_isa::{Field, Parameter, Register, STACK_SIZE};
 use std::fmt;
 
 /// A register, by its name.
 #[derive(Clone, Copy)]
 pub(crate) struct Name(pub(crate) Register);
+
+/// A field of a task, by its name.
+#[derive(Clone, Copy)]
+pub(crate) struct FieldName(pub(crate) Field);
 
 /// A kind in a list, in a word or some.
 #[derive(Clone, Copy)]
@@ -73,5 +77,19 @@ impl fmt::Display for Wanted {
             Parameter::Task => write!(f, "a task"),
             Parameter::Number => write!(f, "a number"),
         }
+    }
+}
+
+impl fmt::Display for FieldName {
+    fn fmt<W: fmt::Write>(&self, f: &mut fmt::Formatter<W>) -> fmt::Result {
+        f.write_str(match self.0 {
+            Field::Pid => "pid",
+            Field::Weight => "weight",
+            Field::Slice => "slice",
+            Field::DsqVtime => "dsq_vtime",
+            Field::PrevCpu => "prev_cpu",
+            Field::Group => "group",
+            Field::RunNs => "run_ns",
+        })
     }
 }

@@ -3,19 +3,21 @@
 //! one way by which control came there.
 //!
 //! `Listing` goes over the slots as `verify` does, by the same `start`, `transfer` and `join`, and keeps
-//! the state of each slot. `reason_of` says which of an instruction's checks failed, and `trail_of`
-//! goes back from there.
+//! the state of each slot. `explanation_of` says why the check of an instruction failed, and goes back
+//! from there.
 #![tactic(auto)]
 
+mod jumps;
 mod listing;
 mod origins;
 mod reasons;
 mod trails;
 
-pub use listing::{Arrival, Listing, Way, byte_kind, target_of};
+pub use jumps::Jumps;
+pub use listing::{Arrival, Listing, Way, byte_kind, cell_of, target_of};
 pub use origins::{Brought, Origin, Subject};
 pub use reasons::{
     BadAccess, BadCall, BadField, BadFlow, BadValue, Explanation, Memory, Reach, Reason,
     explanation_of,
 };
-pub use trails::{Leg, Trail, trail_of};
+pub use trails::{Leg, Trail};

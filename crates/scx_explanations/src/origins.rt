@@ -1,4 +1,4 @@
-use crate::listing::{Arrival, Listing, byte_kind};
+use crate::listing::{Arrival, Listing, byte_kind, cell_of};
 use scx_abs::{AbsState, Area, Kind, area_of};
 use scx_isa::{Access, Insn, Operand, Operation, Register, Size, Width};
 
@@ -65,7 +65,7 @@ pub(crate) enum Source {
 pub(crate) fn known_of(state: &AbsState, subject: Subject) -> Kind {
     match subject {
         Subject::Register(register) => state.kind(register),
-        Subject::Byte(byte) => byte_kind(state, usize::from(byte)),
+        Subject::Byte(byte) => byte_kind(state, byte),
     }
 }
 
@@ -158,15 +158,14 @@ fn source_of_byte(
     let Insn::Store(size, base, offset, operand) = insn else {
         return Source::Same;
     };
-    let place = usize::from(byte);
-    let after = byte_kind(&arrival.state, place);
+    let after = byte_kind(&arrival.state, byte);
     let area = area_of(before.kind(base), offset, size, &listing.context().defs);
     match (area, operand) {
         (Ok(Area::OnStack(at)), Operand::Register(source))
-            if at / 8 == byte / 8 && after != Kind::Num && after != Kind::Unusable => {
+            if cell_of(at) == cell_of(byte) && after != Kind::Num && after != Kind::Unusable => {
             Source::Copied(Subject::Register(source))
         }
-        _ if byte_kind(before, place) != after => Source::Begins(Origin::Written(arrival.from)),
+        _ if byte_kind(before, byte) != after => Source::Begins(Origin::Written(arrival.from)),
         _ => Source::Same,
     }
 }

@@ -1,3 +1,6 @@
+ghost use Rattle.std.specs.Prelude.{◌≡◌, IfOk, IfSome};
+ghost use Rattle.scx_explanations.specs.Reasons.{flow_fault, value_fault, access_fault, call_fault, fault_of};
+
 use crate::listing::{Listing, byte_kind};
 use crate::origins::Subject;
 use crate::trails::{Trail, trail_of};
@@ -149,7 +152,10 @@ pub fn explanation_of(
     listing: &Listing,
     fault: Fault,
     slot: usize,
-) -> Result<Option<Explanation>, AllocError> {
+) -> Result<Option<Explanation>, AllocError>
+    ensures { IfOk result
+        (λ found. IfSome found (λ e. (e.slot ≡ slot) × (fault_of e.reason ≡ fault))) }
+{
     let Some(reason) = reason_of(listing, fault, slot) else {
         return Ok(None);
     };
@@ -168,7 +174,7 @@ pub fn explanation_of(
 fn subject_of(reason: Reason) -> Option<Subject> {
     match reason {
         Reason::Value(value) => Some(Subject::Register(register_of(value)?)),
-        Reason::Access(BadAccess::Unwritten { byte, .. }) => byte_of(byte),
+        Reason::Access(BadAccess::Unwritten { byte, .. }) => Some(Subject::Byte(byte_of(byte)?)),
         Reason::Access(BadAccess::NoPointer(register, _)) => Some(Subject::Register(register)),
         Reason::Call(BadCall::Argument { register, .. }) => Some(Subject::Register(register)),
         _ => None,
@@ -192,13 +198,14 @@ fn register_of(value: BadValue) -> Option<Register> {
     }
 }
 
-/// The byte of the stack at that distance from its top.
-fn byte_of(from_top: i64) -> Option<Subject> {
-    let byte = from_top.saturating_add(i64::from(STACK_SIZE));
-    Some(Subject::Byte(u16::try_from(byte).ok()?))
+/// The byte of the stack at that distance from its top, counted from the lowest.
+fn byte_of(from_top: i64) -> Option<u16> {
+    u16::try_from(from_top.saturating_add(i64::from(STACK_SIZE))).ok()
 }
 
-fn reason_of(listing: &Listing, fault: Fault, slot: usize) -> Option<Reason> {
+fn reason_of(listing: &Listing, fault: Fault, slot: usize) -> Option<Reason>
+    ensures { IfSome result (λ reason. fault_of reason ≡ fault) }
+{
     let insn = listing.insn(slot)?;
     match fault {
         Fault::Flow(fault) => Some(Reason::Flow(reason_of_flow(listing, fault, slot, insn))),
@@ -207,7 +214,9 @@ fn reason_of(listing: &Listing, fault: Fault, slot: usize) -> Option<Reason> {
     }
 }
 
-fn reason_of_flow(listing: &Listing, fault: FlowFault, slot: usize, insn: Insn) -> BadFlow {
+fn reason_of_flow(listing: &Listing, fault: FlowFault, slot: usize, insn: Insn) -> BadFlow
+    ensures { flow_fault result ≡ fault }
+{
     let to = jumped_to(slot, insn);
     match fault {
         FlowFault::BackJump => BadFlow::Back(to),
@@ -232,7 +241,9 @@ fn jumped_to(slot: usize, insn: Insn) -> i64 {
     next.saturating_add(distance)
 }
 
-fn reason_of_rule(listing: &Listing, why: Why, state: &AbsState, insn: Insn) -> Option<Reason> {
+fn reason_of_rule(listing: &Listing, why: Why, state: &AbsState, insn: Insn) -> Option<Reason>
+    ensures { IfSome result (λ reason. fault_of reason ≡ Fault.Rule why) }
+{
     let context = listing.context();
     let defs = &context.defs;
     match why {
@@ -257,7 +268,9 @@ fn reason_of_rule(listing: &Listing, why: Why, state: &AbsState, insn: Insn) -> 
     }
 }
 
-fn bad_value(state: &AbsState, why: Why, insn: Insn, callback: Callback) -> Option<BadValue> {
+fn bad_value(state: &AbsState, why: Why, insn: Insn, callback: Callback) -> Option<BadValue>
+    ensures { IfSome result (λ value. value_fault value ≡ why) }
+{
     match why {
         Why::UnusableRegister => Some(BadValue::Unusable(unusable_in(state, insn)?)),
         Why::WritesFrame => Some(BadValue::Frame),
@@ -282,7 +295,9 @@ fn bad_value(state: &AbsState, why: Why, insn: Insn, callback: Callback) -> Opti
     }
 }
 
-fn bad_call(state: &AbsState, why: Why, insn: Insn, callback: Callback) -> Option<BadCall> {
+fn bad_call(state: &AbsState, why: Why, insn: Insn, callback: Callback) -> Option<BadCall>
+    ensures { IfSome result (λ call. call_fault call ≡ why) }
+{
     let number = called_in(insn)?;
     match why {
         Why::UnknownHelper => Some(BadCall::Unknown(number)),
@@ -362,7 +377,9 @@ fn unusable_argument(state: &AbsState, number: i32) -> Option<Register> {
 }
 
 /// The first argument of a helper that is of another kind than it takes.
-fn bad_argument(state: &AbsState, number: i32) -> Option<BadCall> {
+fn bad_argument(state: &AbsState, number: i32) -> Option<BadCall>
+    ensures { IfSome result (λ call. call_fault call ≡ Why.BadArgument) }
+{
     let helper = Helper::new(number)?;
     for argument in 0..MAX_ARGUMENTS {
         let (register, parameter) = argument_of(helper, argument)?;
@@ -479,12 +496,13 @@ fn reach_of(state: &AbsState, address: Address, defs: &MapDefs) -> Option<Reach>
 }
 
 /// What is read of the stack, and isn't written, or is a part of a pointer.
-fn unwritten_in(state: &AbsState, insn: Insn, defs: &MapDefs) -> Option<BadAccess> {
+fn unwritten_in(state: &AbsState, insn: Insn, defs: &MapDefs) -> Option<BadAccess>
+    ensures { IfSome result (λ access. access_fault access ≡ Why.UnwrittenStack) }
+{
     let reach = reach_of(state, address_of(insn)?, defs)?;
     for step in 0..reach.count {
         let byte = reach.first.saturating_add(i64::from(step));
-        let place = usize::try_from(byte.saturating_add(i64::from(STACK_SIZE))).ok()?;
-        match byte_kind(state, place) {
+        match byte_kind(state, byte_of(byte)?) {
             Kind::Num => (),
             Kind::Unusable => return Some(BadAccess::Unwritten { reach, byte }),
             kind => return Some(BadAccess::PartOfPointer { reach, kind }),
@@ -493,7 +511,9 @@ fn unwritten_in(state: &AbsState, insn: Insn, defs: &MapDefs) -> Option<BadAcces
     None
 }
 
-fn out_of_bounds(state: &AbsState, insn: Insn, defs: &MapDefs) -> Option<BadAccess> {
+fn out_of_bounds(state: &AbsState, insn: Insn, defs: &MapDefs) -> Option<BadAccess>
+    ensures { IfSome result (λ access. access_fault access ≡ Why.OutOfBounds) }
+{
     if let Insn::Binary(width, operation, register, operand) = insn {
         let (memory, at) = place_of(state.kind(register), defs)?;
         let to = at.saturating_add(pointer_step(width, operation, operand)?);
@@ -519,7 +539,9 @@ fn bad_field(insn: Insn) -> Option<BadField> {
     }
 }
 
-fn unknown_map(insn: Insn, defs: &MapDefs) -> Option<Reason> {
+fn unknown_map(insn: Insn, defs: &MapDefs) -> Option<Reason>
+    ensures { IfSome result (λ reason. fault_of reason ≡ Fault.Rule Why.UnknownMap) }
+{
     match insn {
         Insn::LoadMapReference(_, map) => Some(Reason::UnknownMap {
             map,

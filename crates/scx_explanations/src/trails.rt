@@ -30,7 +30,7 @@ pub struct Trail {
 /// # Errors
 ///
 /// Memory ran out.
-pub fn trail_of(
+pub(crate) fn trail_of(
     alloc: Global,
     listing: &Listing,
     slot: usize,

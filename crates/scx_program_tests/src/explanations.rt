@@ -3,10 +3,10 @@
 
 use crate::both_machines::{Random, SHAPES};
 use crate::both_passes::random_text;
-use scx_abs::{AbsState, CELL_BYTES, CELLS, Change, Context, Flow, Known, flow_of};
+use scx_abs::{AbsState, Change, Context, Flow, Known, flow_of};
 use scx_asm::assemble;
 use scx_explanations::{Explanation, Listing, byte_kind, explanation_of};
-use scx_isa::{Callback, Insn, Program, flow, target};
+use scx_isa::{Callback, Insn, Program, STACK_SIZE, flow, target};
 use scx_maps::MapDefs;
 use scx_verify::{Fault, VerifyError, verify};
 use std::alloc::{AllocError, Global};
@@ -80,7 +80,7 @@ fn send(states: &mut Vec<Option<Known>>, slot: usize, state: &Known, change: &Ch
 /// Whether both say the same of each register and each byte of the stack.
 fn says_the_same(first: &AbsState, second: &AbsState) -> bool {
     first.registers == second.registers
-        && (0..CELLS * CELL_BYTES).all(|byte| byte_kind(first, byte) == byte_kind(second, byte))
+        && (0..STACK_SIZE).all(|byte| byte_kind(first, byte) == byte_kind(second, byte))
 }
 
 /// Compares what is known at the slots that both looked at.

@@ -32,7 +32,7 @@ pub struct Verdicts {
 
 impl Verdicts {
     /// Whether no program is refused.
-    pub(crate) fn are_accepted(self) -> bool
+    pub fn are_accepted(self) -> bool
         ensures { result ≡ are_accepted self }
     {
         is_accepted(self.init)
