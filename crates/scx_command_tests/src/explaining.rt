@@ -192,7 +192,7 @@ fn unusable_registers_are_explained(rt: HostRuntime) -> Result<(), Fail> {
     explain(&rt, &UNUSABLE, 1)
 }
 
-const MEMORY: [Row<'_>; 7] = [
+const MEMORY: [Row<'_>; 8] = [
     (
         "running",
         "r10 = 0\nexit\n",
@@ -213,9 +213,24 @@ const MEMORY: [Row<'_>; 7] = [
    2  r2 += -4               r1 task, r2 frame, stack -4..-3 written
    3  r1 = map 0             r1 task, r2 stack -4, stack -4..-3 written
    5  call 1                 r1 map 0, r2 stack -4, stack -4..-3 written
-      = stack -4..-1 is read here, and -2 isn't written: nothing on the way here writes it; write all of it first
+      = stack -4..-1 is read here, and -2 needn't hold a number: nothing on the way here writes it; write all of it first
       = control came by 0..5
    6  exit
+",
+    ),
+    // A pointer is stored on one way, and a number on the other.
+    (
+        "enqueue",
+        "if r2 == 0 goto two\n*(u64 *)(r10 - 8) = r1\ngoto both\ntwo:\n*(u64 *)(r10 - 8) = 7\nboth:\nr3 = *(u64 *)(r10 - 8)\nexit\n",
+        "enqueue refused 7 UnwrittenStack at 4
+   0  if r2 == 0 goto +2 (to 3)  r1 task, r2 number
+   1  *(u64 *)(r10 - 8) = r1     r1 task, r2 number
+   2  goto +1 (to 4)             r1 task, r2 number, stack -8..-1 task
+   3  *(u64 *)(r10 - 8) = 7      from 0: r1 task, r2 number
+   4  r3 = *(u64 *)(r10 - 8)     from 2, 3: r1 task, r2 number
+      = stack -8..-1 is read here, and -8 needn't hold a number: at 4 ways meet that bring a task from 2 and a number from 3; bring the same kind on each way
+      = control came by 0, jump at 0 to 3, 3..4
+   5  exit
 ",
     ),
     (

@@ -46,7 +46,7 @@ impl Advice {
 
     fn on_access(self, access: BadAccess) -> &'static str {
         match access {
-            BadAccess::Unwritten { .. } => "write all of it first",
+            BadAccess::Unwritten { .. } => advice_on_unwritten(self.origin),
             BadAccess::PartOfPointer { .. } => {
                 "load a stored pointer by u64, from where it was stored"
             }
@@ -74,6 +74,13 @@ fn advice_on_unusable(origin: Option<Origin>) -> &'static str {
         Some(Origin::Lost { .. }) => "save it before the call, in r6 to r9 or on the stack",
         Some(Origin::Met { .. }) => "bring the same kind on each way",
         _ => "write it on each way here",
+    }
+}
+
+fn advice_on_unwritten(origin: Option<Origin>) -> &'static str {
+    match origin {
+        Some(Origin::Met { .. }) => "bring the same kind on each way",
+        _ => "write all of it first",
     }
 }
 

@@ -136,7 +136,7 @@ fn write_access<W: fmt::Write>(f: &mut fmt::Formatter<W>, access: BadAccess) -> 
             let (first, last) = ends_of(reach);
             write!(
                 f,
-                "stack {first}..{last} is read here, and {byte} isn't written"
+                "stack {first}..{last} is read here, and {byte} needn't hold a number"
             )
         }
         BadAccess::PartOfPointer { reach, kind } => {
