@@ -1,11 +1,12 @@
 -- What a listing holds: the program, and the forward states, as far as the pass comes that `verify`
 -- makes too.
-use Rattle.std.specs.Prelude.{◌≡◌, ℕ, ◌+◌, ◌<◌, ◌⊎◌, length}
+use Rattle.std.specs.Prelude.{◌≡◌, ℕ, ◌+◌, ◌<◌, ◌⊎◌, nat_lt, length, Option, None, if◌then◌else◌}
 use Rattle.scx_semantics.specs.Code.{Code}
 use Rattle.scx_safety.specs.declared.context.Context.{Context}
 use Rattle.scx_isa.specs.declared.faults.FlowFault.{FlowFault}
 use Rattle.scx_isa.specs.Flow.{Flows, IsFirstFlowFault}
 use Rattle.scx_abs.specs.declared.faults.Why.{Why}
+use Rattle.scx_abs.specs.declared.states.AbsState.{AbsState}
 use Rattle.scx_verify.specs.Typing.{States, IsTyping}
 use Rattle.scx_verify.specs.Forward.{Arrives, IsLeast, IsFirstRefusal}
 use Rattle.scx_verify.specs.Pass.{states_of}
@@ -33,3 +34,7 @@ pub record IsListing (c : Context) (program : Code) (listing : Listing) : Type 0
   pub context : listing.context ≡ c
   pub code : listing.code.items ≡ program
   pub known : IsKnown c program (states_of listing.pass.states.items) listing.pass.slots
+
+-- what is known at a slot, as far as the pass came
+abbrev pub known_at : Listing → ℕ → Option AbsState
+known_at listing slot = if nat_lt slot listing.pass.slots then states_of listing.pass.states.items slot else None

@@ -8,12 +8,14 @@
 #![tactic(auto)]
 
 mod jumps;
+mod laws;
 mod listing;
 mod origins;
 mod reasons;
 mod trails;
 
 pub use jumps::Jumps;
+pub use laws::listings_end_with_verify;
 pub use listing::{Arrival, Listing, Way, byte_kind, cell_of, target_of};
 pub use origins::{Brought, Origin, Subject};
 pub use reasons::{

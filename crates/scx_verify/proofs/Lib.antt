@@ -2,8 +2,8 @@ pub mod Least
 pub mod Targets
 pub mod Visits
 pub mod Safe
-mod Agreement
-mod Justified
+pub mod Agreement
+pub mod Justified
 pub mod Choices
 pub mod Positions
 mod Pushes
