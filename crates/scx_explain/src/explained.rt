@@ -1,5 +1,6 @@
 ghost use Rattle.std.specs.Prelude.{◌≡◌, IfOk, IfErr};
 ghost use Rattle.scx_outcomes.specs.declared.refusal.Refusal.TheVariants.{NoMemory};
+ghost use Rattle.scx_policies.specs.Policies.{program_of, without};
 ghost use Rattle.scx_safety.specs.Programs.{context};
 ghost use Rattle.scx_explanations.specs.Listings.{IsListing};
 ghost use Rattle.scx_verdicts.specs.Verdicts.{IsVerdict, IsVerdictOf, HasVerdicts};
@@ -70,61 +71,34 @@ pub(crate) fn explain_policy(alloc: Global, policy: PolicyText) -> Result<Explai
     ensures memory { IfErr result (λ refusal. refusal ≡ NoMemory) }
 {
     let mut policy = policy;
-    let defs = *policy.defs();
     Ok(ExplainedPolicy {
-        init: explain_one(alloc, policy.take(Callback::Init), Callback::Init, &defs)?,
-        enable: explain_one(
-            alloc,
-            policy.take(Callback::Enable),
-            Callback::Enable,
-            &defs,
-        )?,
-        select_cpu: explain_one(
-            alloc,
-            policy.take(Callback::SelectCpu),
-            Callback::SelectCpu,
-            &defs,
-        )?,
-        enqueue: explain_one(
-            alloc,
-            policy.take(Callback::Enqueue),
-            Callback::Enqueue,
-            &defs,
-        )?,
-        dispatch: explain_one(
-            alloc,
-            policy.take(Callback::Dispatch),
-            Callback::Dispatch,
-            &defs,
-        )?,
-        running: explain_one(
-            alloc,
-            policy.take(Callback::Running),
-            Callback::Running,
-            &defs,
-        )?,
-        stopping: explain_one(
-            alloc,
-            policy.take(Callback::Stopping),
-            Callback::Stopping,
-            &defs,
-        )?,
+        init: explain_callback(alloc, &mut policy, Callback::Init)?,
+        enable: explain_callback(alloc, &mut policy, Callback::Enable)?,
+        select_cpu: explain_callback(alloc, &mut policy, Callback::SelectCpu)?,
+        enqueue: explain_callback(alloc, &mut policy, Callback::Enqueue)?,
+        dispatch: explain_callback(alloc, &mut policy, Callback::Dispatch)?,
+        running: explain_callback(alloc, &mut policy, Callback::Running)?,
+        stopping: explain_callback(alloc, &mut policy, Callback::Stopping)?,
     })
 }
 
-/// Explains the program of a callback, if there is one.
-fn explain_one(
+/// Takes the program of a callback out, if there is one, and explains it.
+fn explain_callback(
     alloc: Global,
-    program: Option<Program>,
+    policy: &mut PolicyText,
     callback: Callback,
-    defs: &MapDefs,
 ) -> Result<Option<Explained>, Refusal>
     ensures verdict { IfOk result
-        (λ explained. IsVerdictOf defs.now callback program (verdict_of explained)) }
+        (λ explained. IsVerdictOf policy.old.shapes callback (program_of policy.old callback)
+        (verdict_of explained)) }
     ensures memory { IfErr result (λ refusal. refusal ≡ NoMemory) }
+    ensures rest { policy.new ≡ without policy.old callback }
 {
-    match program {
-        Some(program) => Ok(Some(explain_program(alloc, program, callback, defs)?)),
+    match policy.take(callback) {
+        Some(program) => {
+            let defs = *policy.defs();
+            Ok(Some(explain_program(alloc, program, callback, &defs)?))
+        }
         None => Ok(None),
     }
 }
