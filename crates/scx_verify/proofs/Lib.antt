@@ -1,9 +1,9 @@
-mod Least
+pub mod Least
 pub mod Targets
-mod Visits
+pub mod Visits
 pub mod Safe
-mod Agreement
-mod Justified
+pub mod Agreement
+pub mod Justified
 pub mod Choices
 pub mod Positions
 mod Pushes

@@ -1,0 +1,3 @@
+mod Lookups
+mod Ends
+mod Coming
