@@ -175,7 +175,7 @@ impl<'a, W: Out> Chart<'a, W> {
         }
     }
 
-    /// Writes who ran on the processor, if somebody did.
+    /// Writes who ran on the processor, if somebody did and not for no time at all.
     fn stop(&mut self, moment: u64, cpu: u32) -> Result<(), Failed> {
         let Some(place) = self.running.get_mut(cpu as usize) else {
             return Ok(());
@@ -183,6 +183,9 @@ impl<'a, W: Out> Chart<'a, W> {
         let Some(running) = place.take() else {
             return Ok(());
         };
+        if moment <= running.since {
+            return Ok(());
+        }
         self.document.put(&Complete {
             ph: "X",
             pid: CPUS,

@@ -3,7 +3,9 @@
 #![tactic(auto)]
 
 mod texts;
+mod waits;
 mod watching;
 
 pub use texts::Text;
+pub use waits::{Wait, Waits};
 pub use watching::{View, watch};

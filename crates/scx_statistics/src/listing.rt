@@ -1,0 +1,57 @@
+use crate::gathering::{Figures, GroupFigures, TaskFigures};
+use crate::numbers::hundredths;
+use scx_output::Out;
+use scx_views::Text;
+use std::fmt;
+use std::fmt::Write;
+
+/// Writes the figures as comma-separated values, a line for each figure. No name has a character that would
+/// have to be quoted.
+pub(crate) fn write_list<W: Out>(figures: &Figures, text: &mut Text<'_, W>) -> fmt::Result {
+    writeln!(text, "kind,name,figure,value")?;
+    for (number, task) in (0u16..).zip(figures.tasks.as_slice()) {
+        list_task(figures.task_name(number), task, text)?;
+    }
+    for (number, cpu) in (0u32..).zip(figures.cpus.as_slice()) {
+        writeln!(text, "cpu,{number},busy_ms,{}", cpu.busy)?;
+        writeln!(text, "cpu,{number},idle_ms,{}", cpu.idle)?;
+        writeln!(text, "cpu,{number},changes,{}", cpu.changes)?;
+    }
+    for (number, group) in (0u32..).zip(figures.groups.as_slice()) {
+        list_group(figures.group_name(number), group, text)?;
+    }
+    Ok(())
+}
+
+fn list_task<W: Out>(name: &str, task: &TaskFigures, text: &mut Text<'_, W>) -> fmt::Result {
+    let waits = &task.waits;
+    writeln!(text, "task,{name},run_ms,{}", task.run)?;
+    writeln!(text, "task,{name},waits,{}", waits.count())?;
+    writeln!(
+        text,
+        "task,{name},mean_wait_ms,{}",
+        hundredths(waits.mean())
+    )?;
+    writeln!(
+        text,
+        "task,{name},wait_99_percent_ms,{}",
+        waits.percentile_99()
+    )?;
+    writeln!(text, "task,{name},longest_wait_ms,{}", waits.longest())?;
+    writeln!(
+        text,
+        "task,{name},longest_wait_since_ms,{}",
+        waits.longest_since()
+    )?;
+    writeln!(text, "task,{name},wakes,{}", task.wakes)?;
+    writeln!(text, "task,{name},stopped,{}", task.stopped)
+}
+
+fn list_group<W: Out>(name: &str, group: &GroupFigures, text: &mut Text<'_, W>) -> fmt::Result {
+    writeln!(
+        text,
+        "group,{name},share_percent,{}",
+        hundredths(group.reached)
+    )?;
+    writeln!(text, "group,{name},due_percent,{}", hundredths(group.due))
+}
