@@ -22,7 +22,7 @@ const TASK_HEIGHT: u64 = 16;
 /// What lies between the last processor and the first task, and below the last task.
 const GAP: u64 = 20;
 
-/// How wide the run is at least and at most; between them a millisecond has two pixels.
+/// How wide the run is at least and at most; between them a millisecond has one pixel.
 const MIN_WIDTH: u64 = 1000;
 
 const MAX_WIDTH: u64 = 16_000;
@@ -53,7 +53,7 @@ impl Frame {
             cpus: workload.cpus(),
             tasks: task_count(workload),
             ms,
-            width: ms.saturating_mul(2).clamp(MIN_WIDTH, MAX_WIDTH),
+            width: ms.clamp(MIN_WIDTH, MAX_WIDTH),
         }
     }
 

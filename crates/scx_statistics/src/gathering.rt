@@ -82,7 +82,7 @@ struct Gathering<'a> {
     cpus: Vec<CpuFigures>,
     shares: Shares,
     waits: Waits,
-    /// How many processors ran in the millisecond at hand.
+    /// How many processors ran in the millisecond at hand, for which nothing is due yet.
     busy: u64,
     /// Whether there was memory for all.
     result: Result<(), AllocError>,
@@ -134,6 +134,15 @@ impl<'a> Gathering<'a> {
             } else {
                 figures.idle = figures.idle.saturating_add(1);
             }
+        }
+    }
+
+    /// What is due for the processors that ran in this millisecond goes by who was runnable as they did, so
+    /// it is settled before anybody sleeps.
+    fn settle(&mut self) {
+        if 0 < self.busy {
+            self.shares.pass(self.busy);
+            self.busy = 0;
         }
     }
 
@@ -209,11 +218,8 @@ impl View for Gathering<'_> {
     fn expect(&mut self, sim: &Sim, event: Event) {
         match event {
             Event::Tick(cpu) => self.tick(sim, cpu),
-            Event::Clock => {
-                self.shares.pass(self.busy);
-                self.busy = 0;
-            }
-            Event::Wake(_) | Event::Sleep(_) | Event::SetWeight(_, _) => {}
+            Event::Sleep(_) | Event::Clock => self.settle(),
+            Event::Wake(_) | Event::SetWeight(_, _) => {}
         }
     }
 

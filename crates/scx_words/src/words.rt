@@ -150,7 +150,9 @@ fn stats<'a>(alloc: Global) -> Result<Command<'a>, AllocError> {
     let policy = Arg::new(alloc, "POLICY").required(true).help(POLICY);
     let workload = Arg::new(alloc, "WORKLOAD").required(true).help(WORKLOAD);
     Command::new(alloc, "stats")
-        .about("Reads and runs the same, and prints how tasks ran and waited, and processors and groups got on")
+        .about(
+            "Reads and runs the same, and prints how tasks ran and waited, and processors and groups got on",
+        )
         .after_help(
             "Example: scxsim stats examples/policies/short_slices.toml examples/workloads/two_tasks.toml\nprints:  a table of tasks, one of processors and one of groups\ndocs/FILES.md says what each figure is.",
         )
