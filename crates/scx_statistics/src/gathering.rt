@@ -4,6 +4,7 @@ use crate::shares::{Shares, WHOLE};
 use scx_sched::{Event, Sim, What};
 use scx_simulation::Run;
 use scx_views::{View, Wait, Waits, watch};
+use scx_weights::MAX_DEPTH;
 use scx_workloads::Workload;
 use std::alloc::{AllocError, Global};
 
@@ -252,16 +253,24 @@ fn group_figures(
     for (group, run) in (0u32..).zip(runs.as_slice()) {
         groups.push(GroupFigures {
             reached: percent(*run, total),
-            due: percent(shares.due(group), total.saturating_mul(WHOLE)),
+            due: due_percent(shares.due(group), total),
         })?;
     }
     Ok(groups)
 }
 
+/// What was due of a total, in hundredths of a percent, rounded down; 0 of nothing.
+fn due_percent(due: u64, total: u64) -> u64 {
+    if total == 0 {
+        return 0;
+    }
+    due / total.saturating_mul(WHOLE / 10_000).max(1)
+}
+
 /// A task of the group ran for so long, so each group that it lies in did.
 fn add_run(workload: &Workload, runs: &mut [u64], group: u32, run: u64) {
     let mut at = Some(group);
-    for _ in 0..3 {
+    for _ in 0..MAX_DEPTH {
         let Some(group) = at else {
             return;
         };

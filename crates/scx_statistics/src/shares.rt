@@ -1,11 +1,9 @@
+use scx_weights::MAX_DEPTH;
 use scx_workloads::Workload;
 use std::alloc::{AllocError, Global};
 
 /// A share of all, in parts of this many.
 pub(crate) const WHOLE: u64 = 1_000_000_000;
-
-/// On how many levels groups stand.
-const LEVELS: usize = 3;
 
 /// A group, and what is due to it.
 #[derive(Clone, Copy)]
@@ -58,7 +56,7 @@ impl Shares {
     pub(crate) fn activate(&mut self, group: u32) {
         self.is_stale = true;
         let mut at = Some(group);
-        for _ in 0..LEVELS {
+        for _ in 0..MAX_DEPTH {
             at = self.change(at, 1, 0);
         }
     }
@@ -67,7 +65,7 @@ impl Shares {
     pub(crate) fn deactivate(&mut self, group: u32) {
         self.is_stale = true;
         let mut at = Some(group);
-        for _ in 0..LEVELS {
+        for _ in 0..MAX_DEPTH {
             at = self.change(at, 0, 1);
         }
     }
