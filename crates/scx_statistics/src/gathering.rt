@@ -250,11 +250,13 @@ fn group_figures(
         total = total.saturating_add(task.run);
     }
     let mut groups = Vec::with_capacity(alloc, runs.len())?;
-    for (group, run) in (0u32..).zip(runs.as_slice()) {
+    let mut group = 0u32;
+    for run in runs.as_slice() {
         groups.push(GroupFigures {
             reached: percent(*run, total),
             due: due_percent(shares.due(group), total),
         })?;
+        group = group.saturating_add(1);
     }
     Ok(groups)
 }

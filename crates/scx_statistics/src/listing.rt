@@ -1,4 +1,4 @@
-use crate::gathering::{Figures, GroupFigures, TaskFigures};
+use crate::gathering::{CpuFigures, Figures, GroupFigures, TaskFigures};
 use crate::numbers::hundredths;
 use scx_output::Out;
 use scx_views::Text;
@@ -9,16 +9,36 @@ use std::fmt::Write;
 /// have to be quoted.
 pub(crate) fn write_list<W: Out>(figures: &Figures, text: &mut Text<'_, W>) -> fmt::Result {
     writeln!(text, "kind,name,figure,value")?;
-    for (number, task) in (0u16..).zip(figures.tasks.as_slice()) {
+    list_tasks(figures, text)?;
+    list_cpus(figures.cpus.as_slice(), text)?;
+    list_groups(figures, text)
+}
+
+fn list_tasks<W: Out>(figures: &Figures, text: &mut Text<'_, W>) -> fmt::Result {
+    let mut number = 0u16;
+    for task in figures.tasks.as_slice() {
         list_task(figures.task_name(number), task, text)?;
+        number = number.saturating_add(1);
     }
-    for (number, cpu) in (0u32..).zip(figures.cpus.as_slice()) {
+    Ok(())
+}
+
+fn list_cpus<W: Out>(cpus: &[CpuFigures], text: &mut Text<'_, W>) -> fmt::Result {
+    let mut number = 0u32;
+    for cpu in cpus {
         writeln!(text, "cpu,{number},busy_ms,{}", cpu.busy)?;
         writeln!(text, "cpu,{number},idle_ms,{}", cpu.idle)?;
         writeln!(text, "cpu,{number},changes,{}", cpu.changes)?;
+        number = number.saturating_add(1);
     }
-    for (number, group) in (0u32..).zip(figures.groups.as_slice()) {
+    Ok(())
+}
+
+fn list_groups<W: Out>(figures: &Figures, text: &mut Text<'_, W>) -> fmt::Result {
+    let mut number = 0u32;
+    for group in figures.groups.as_slice() {
         list_group(figures.group_name(number), group, text)?;
+        number = number.saturating_add(1);
     }
     Ok(())
 }

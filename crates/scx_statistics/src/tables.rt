@@ -20,8 +20,10 @@ fn write_tasks<W: Out>(figures: &Figures, text: &mut Text<'_, W>) -> fmt::Result
         "{:<16}{:>9}{:>9}{:>12}{:>9}{:>9}{:>9}{:>9}{:>9}",
         "task", "run", "waits", "mean", "99%", "longest", "since", "wakes", "stopped"
     )?;
-    for (number, task) in (0u16..).zip(figures.tasks.as_slice()) {
+    let mut number = 0u16;
+    for task in figures.tasks.as_slice() {
         write_task(figures.task_name(number), task, text)?;
+        number = number.saturating_add(1);
     }
     Ok(())
 }
@@ -49,20 +51,24 @@ fn write_cpus<W: Out>(cpus: &[CpuFigures], text: &mut Text<'_, W>) -> fmt::Resul
         "{:<16}{:>9}{:>9}{:>12}",
         "cpu", "busy", "idle", "changes"
     )?;
-    for (number, cpu) in (0u32..).zip(cpus) {
+    let mut number = 0u32;
+    for cpu in cpus {
         writeln!(
             text,
             "{:<16}{:>9}{:>9}{:>12}",
             number, cpu.busy, cpu.idle, cpu.changes
         )?;
+        number = number.saturating_add(1);
     }
     Ok(())
 }
 
 fn write_groups<W: Out>(figures: &Figures, text: &mut Text<'_, W>) -> fmt::Result {
     writeln!(text, "{:<16}{:>9}{:>9}", "group", "share", "due")?;
-    for (number, group) in (0u32..).zip(figures.groups.as_slice()) {
+    let mut number = 0u32;
+    for group in figures.groups.as_slice() {
         write_group(figures.group_name(number), group, text)?;
+        number = number.saturating_add(1);
     }
     Ok(())
 }
