@@ -43,10 +43,11 @@ fn two_tasks_take_turns(rt: HostRuntime) {
     expect_parts(&rt, SHORT_SLICES, TWO_TASKS, &parts);
 }
 
+/// Task a is held up to the tick of millisecond 6, as which begins the policy is ejected.
 #[test]
 fn an_ejection_stands_across(rt: HostRuntime) {
     let parts = [
-        "<path class=\"t0\" d=\"M0 51h6v2h-6z\"/>\n",
+        "<path class=\"t0\" d=\"M0 51h7v2h-7z\"/>\n",
         ">ejected: stall of a at 6 ms</text>\n",
     ];
     expect_parts(&rt, HOLDS, LONG, &parts);
