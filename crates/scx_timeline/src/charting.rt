@@ -1,6 +1,6 @@
 use crate::documents::Document;
 use crate::lengths::{Length, Lengths, queue_name};
-use crate::objects::{Complete, Counter, Instant, Named, Title, Waiting};
+use crate::objects::{Complete, Counter, Instant, Title};
 use arrayvec::ArrayString;
 use scx_outcomes::{Fault, Refusal};
 use scx_output::{Failed, Out};
@@ -89,7 +89,7 @@ impl<'a, W: Out> Chart<'a, W> {
     fn new(alloc: Global, workload: &'a Workload, out: &'a mut W) -> Result<Self, AllocError> {
         Ok(Chart {
             workload,
-            document: Document::new(alloc, out),
+            document: Document::new(alloc, out)?,
             running: vec![in alloc; None; workload.cpus() as usize]?,
             lengths: Lengths::new(alloc, workload.tasks().len())?,
             failed: false,
@@ -114,11 +114,10 @@ impl<'a, W: Out> Chart<'a, W> {
 
     fn title(&mut self, what: &str, pid: u32, tid: u32, name: &str) -> Result<(), Failed> {
         self.document.put(&Title {
-            ph: "M",
             pid,
             tid,
-            name: what,
-            args: Named { name },
+            what,
+            title: name,
         })
     }
 
@@ -187,7 +186,6 @@ impl<'a, W: Out> Chart<'a, W> {
             return Ok(());
         }
         self.document.put(&Complete {
-            ph: "X",
             pid: CPUS,
             tid: cpu,
             ts: running.since.saturating_mul(MS),
@@ -210,11 +208,10 @@ impl<'a, W: Out> Chart<'a, W> {
 
     fn instant(&mut self, moment: u64, track: u32, scope: &str, name: &str) -> Result<(), Failed> {
         self.document.put(&Instant {
-            ph: "i",
             pid: TASKS,
             tid: track,
             ts: moment.saturating_mul(MS),
-            s: scope,
+            scope,
             name,
         })
     }
@@ -235,13 +232,10 @@ impl<'a, W: Out> Chart<'a, W> {
     fn count(&mut self, moment: u64, length: Length) -> Result<(), Failed> {
         let name = queue_name(length.queue);
         self.document.put(&Counter {
-            ph: "C",
             pid: QUEUES,
             ts: moment.saturating_mul(MS),
             name: name.as_str(),
-            args: Waiting {
-                tasks: length.tasks,
-            },
+            tasks: length.tasks,
         })
     }
 }
