@@ -1,0 +1,23 @@
+use scx_output::{Out, write_all};
+use std::fmt;
+
+/// An output as a writer of text.
+#[derive(Drop)]
+pub struct Text<'a, W> {
+    out: &'a mut W,
+}
+
+impl<'a, W: Out> Text<'a, W> {
+    pub fn new(out: &'a mut W) -> Self {
+        Text { out }
+    }
+}
+
+impl<W: Out> fmt::Write for Text<'_, W> {
+    fn write_str(&mut self, text: &str) -> fmt::Result {
+        match write_all(self.out, text.as_bytes()) {
+            Ok(()) => Ok(()),
+            Err(_) => Err(fmt::Error),
+        }
+    }
+}
