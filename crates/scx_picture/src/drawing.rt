@@ -1,12 +1,17 @@
+ghost use Rattle.std.specs.Prelude.{◌≡◌, true, IfOk, IfErr};
+ghost use Rattle.scx_outcomes.specs.Outcome.{IfRefused, IsRefused};
+ghost use Rattle.scx_outcomes.specs.declared.refusal.Refusal.TheVariants.{NoMemory};
+ghost use Rattle.scx_simulation.specs.Runs.{IsCause};
+
 use crate::frames::Frame;
 use scx_outcomes::{Fault, Refusal};
 use scx_output::Out;
 use scx_sched::{Event, Sim, What};
 use scx_simulation::{Run, prepare};
 use scx_trace::Names;
-use scx_views::{Text, View, Wait, Waits, watch};
+use scx_views::{Text, View, Wait, Waits, watch, written};
 use scx_workloads::Workload;
-use std::alloc::{AllocError, Global};
+use std::alloc::Global;
 use std::fmt;
 
 /// Writes the picture of the run that the texts of a policy file and of a workload file stand for. The
@@ -20,28 +25,24 @@ pub fn picture<W: Out>(
     policy: &str,
     workload: &str,
     out: &mut W,
-) -> Result<bool, Fault> {
+) -> Result<bool, Fault>
+    ensures done { IfOk result (λ answer. answer ≡ true) }
+
+    // A refusal has its cause in the texts, and comes before any byte is written.
+    ensures refused { IfRefused result (IsCause policy.now workload.now) }
+    ensures quiet { IsRefused result → out.new ≡ out.old }
+{
     let Run {
         workload,
         mut driver,
         mut sim,
     } = prepare(alloc, policy, workload)?;
-    let mut drawing = drawing_of(alloc, &workload, out)?;
-    drawing.begin();
+    let room = Room::new(alloc, &workload)?;
+    let mut drawing = Drawing::new(&workload, room, out);
+    written(drawing.begin())?;
     watch(&mut sim, &mut driver, &mut drawing);
-    drawing.end(sim.clock());
-    if drawing.failed {
-        return Err(Fault::WriteFailed);
-    }
+    written(drawing.end(sim.clock()))?;
     Ok(true)
-}
-
-fn drawing_of<'a, W: Out>(
-    alloc: Global,
-    workload: &'a Workload,
-    out: &'a mut W,
-) -> Result<Drawing<'a, W>, Refusal> {
-    Ok(Drawing::new(alloc, workload, out)?)
 }
 
 /// A task that runs, and since which moment.
@@ -58,13 +59,31 @@ enum Ejection {
     Fault { moment: u64, code: u64 },
 }
 
+/// All memory of a picture.
+#[derive(Drop)]
+struct Room {
+    /// Who runs, by processor.
+    running: Vec<Option<Running>>,
+    waits: Waits,
+}
+
+impl Room {
+    fn new(alloc: Global, workload: &Workload) -> Result<Room, Refusal>
+        ensures { IfErr result (λ refusal. refusal ≡ NoMemory) }
+    {
+        Ok(Room {
+            running: vec![in alloc; None; workload.cpus() as usize]?,
+            waits: Waits::new(alloc, workload.tasks().len())?,
+        })
+    }
+}
+
 /// A picture on its way.
 #[derive(Drop)]
 struct Drawing<'a, W> {
     workload: &'a Workload,
     text: Text<'a, W>,
     frame: Frame,
-    /// Who runs, by processor.
     running: Vec<Option<Running>>,
     waits: Waits,
     ejection: Option<Ejection>,
@@ -72,32 +91,28 @@ struct Drawing<'a, W> {
 }
 
 impl<'a, W: Out> Drawing<'a, W> {
-    fn new(alloc: Global, workload: &'a Workload, out: &'a mut W) -> Result<Self, AllocError> {
-        Ok(Drawing {
+    fn new(workload: &'a Workload, room: Room, out: &'a mut W) -> Self {
+        let Room { running, waits } = room;
+        Drawing {
             workload,
             text: Text::new(out),
             frame: Frame::new(workload),
-            running: vec![in alloc; None; workload.cpus() as usize]?,
-            waits: Waits::new(alloc, workload.tasks().len())?,
+            running,
+            waits,
             ejection: None,
             failed: false,
-        })
-    }
-
-    fn begin(&mut self) {
-        if self.frame.begin(self.workload, &mut self.text).is_err() {
-            self.failed = true;
         }
     }
 
-    fn end(&mut self, moment: u64) {
-        if !self.failed && self.draw_end(moment).is_err() {
-            self.failed = true;
-        }
+    fn begin(&mut self) -> fmt::Result {
+        self.frame.begin(self.workload, &mut self.text)
     }
 
     /// Draws who still runs and waits at that moment, and the ejection.
-    fn draw_end(&mut self, moment: u64) -> fmt::Result {
+    fn end(&mut self, moment: u64) -> fmt::Result {
+        if self.failed {
+            return Err(fmt::Error);
+        }
         for cpu in 0..self.workload.cpus() {
             self.stop(moment, cpu)?;
         }
@@ -190,6 +205,8 @@ impl<'a, W: Out> Drawing<'a, W> {
 }
 
 impl<W: Out> View for Drawing<'_, W> {
+    ghost has_failed = { λ d. d.failed };
+
     fn expect(&mut self, _sim: &Sim, _event: Event) {}
 
     fn show(&mut self, moment: u64, _clock: u64, what: What) {

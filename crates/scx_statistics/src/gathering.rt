@@ -1,3 +1,5 @@
+ghost use Rattle.std.specs.Result.{is_err};
+
 use crate::counting::WaitCounts;
 use crate::numbers::percent;
 use crate::shares::{Shares, WHOLE};
@@ -56,29 +58,16 @@ pub(crate) fn gather(alloc: Global, run: Run) -> Result<Figures, AllocError> {
         mut driver,
         mut sim,
     } = run;
-    let mut gathering = Gathering::new(alloc, &workload)?;
+    let mut gathering = Gathering::new(alloc, workload)?;
     watch(&mut sim, &mut driver, &mut gathering);
     gathering.end(&sim);
-    gathering.result?;
-    let Gathering {
-        tasks,
-        cpus,
-        shares,
-        ..
-    } = gathering;
-    let groups = group_figures(alloc, &workload, tasks.as_slice(), &shares)?;
-    Ok(Figures {
-        workload,
-        tasks,
-        cpus,
-        groups,
-    })
+    gathering.figures(alloc)
 }
 
 /// The figures of a run on their way.
 #[derive(Drop)]
-struct Gathering<'a> {
-    workload: &'a Workload,
+struct Gathering {
+    workload: Workload,
     tasks: Vec<TaskFigures>,
     cpus: Vec<CpuFigures>,
     shares: Shares,
@@ -89,8 +78,8 @@ struct Gathering<'a> {
     result: Result<(), AllocError>,
 }
 
-impl<'a> Gathering<'a> {
-    fn new(alloc: Global, workload: &'a Workload) -> Result<Self, AllocError> {
+impl Gathering {
+    fn new(alloc: Global, workload: Workload) -> Result<Self, AllocError> {
         let count = workload.tasks().len();
         let mut tasks = Vec::with_capacity(alloc, count)?;
         for _ in 0..count {
@@ -107,15 +96,42 @@ impl<'a> Gathering<'a> {
             changes: 0,
             last: None,
         };
+        let cpus = vec![in alloc; unused; workload.cpus() as usize]?;
+        let shares = Shares::new(alloc, &workload)?;
         Ok(Gathering {
             workload,
             tasks,
-            cpus: vec![in alloc; unused; workload.cpus() as usize]?,
-            shares: Shares::new(alloc, workload)?,
+            cpus,
+            shares,
             waits: Waits::new(alloc, count)?,
             busy: 0,
             result: Ok(()),
         })
+    }
+
+    /// All figures, if there was memory for them.
+    fn figures(self, alloc: Global) -> Result<Figures, AllocError> {
+        let Gathering {
+            workload,
+            tasks,
+            cpus,
+            shares,
+            result,
+            ..
+        } = self;
+        result?;
+        let groups = group_figures(alloc, &workload, tasks.as_slice(), &shares)?;
+        Ok(Figures {
+            workload,
+            tasks,
+            cpus,
+            groups,
+        })
+    }
+
+    /// The group of a task.
+    fn home(&self, task: u16) -> Option<u32> {
+        self.workload.tasks().get(task as usize).copied()
     }
 
     fn add_wait(&mut self, wait: Wait) -> Result<(), AllocError> {
@@ -151,14 +167,14 @@ impl<'a> Gathering<'a> {
         if let Some(figures) = self.tasks.get_mut(task as usize) {
             figures.wakes = figures.wakes.saturating_add(1);
         }
-        if let Some(group) = self.workload.tasks().get(task as usize) {
-            self.shares.activate(*group);
+        if let Some(group) = self.home(task) {
+            self.shares.activate(group);
         }
     }
 
     fn sleep(&mut self, task: u16) {
-        if let Some(group) = self.workload.tasks().get(task as usize) {
-            self.shares.deactivate(*group);
+        if let Some(group) = self.home(task) {
+            self.shares.deactivate(group);
         }
     }
 
@@ -215,7 +231,9 @@ impl<'a> Gathering<'a> {
     }
 }
 
-impl View for Gathering<'_> {
+impl View for Gathering {
+    ghost has_failed = { λ g. is_err g.result };
+
     fn expect(&mut self, sim: &Sim, event: Event) {
         match event {
             Event::Tick(cpu) => self.tick(sim, cpu),

@@ -1,3 +1,7 @@
+ghost use Rattle.std.specs.Prelude.{◌≡◌, true, IfOk, IfErr};
+ghost use Rattle.scx_outcomes.specs.Outcome.{IfRefused, IsRefused};
+ghost use Rattle.scx_simulation.specs.Runs.{IsCause};
+
 use crate::gathering::{Figures, gather};
 use crate::listing::write_list;
 use crate::tables::write_tables;
@@ -5,7 +9,7 @@ use scx_outcomes::{Fault, Refusal};
 use scx_output::Out;
 use scx_simulation::prepare;
 use scx_trace::Names;
-use scx_views::Text;
+use scx_views::{Text, written};
 use std::alloc::Global;
 
 impl Figures {
@@ -29,12 +33,16 @@ pub fn stats<W: Out>(
     policy: &str,
     workload: &str,
     out: &mut W,
-) -> Result<bool, Fault> {
+) -> Result<bool, Fault>
+    ensures done { IfOk result (λ answer. answer ≡ true) }
+
+    // A refusal has its cause in the texts, and comes before any byte is written.
+    ensures refused { IfRefused result (IsCause policy.now workload.now) }
+    ensures quiet { IsRefused result → out.new ≡ out.old }
+{
     let figures = figures_of(alloc, policy, workload)?;
-    match write_tables(&figures, &mut Text::new(out)) {
-        Ok(()) => Ok(true),
-        Err(_) => Err(Fault::WriteFailed),
-    }
+    written(write_tables(&figures, &mut Text::new(out)))?;
+    Ok(true)
 }
 
 /// Writes the same figures as comma-separated values. The answer is true.
@@ -47,15 +55,21 @@ pub fn stats_csv<W: Out>(
     policy: &str,
     workload: &str,
     out: &mut W,
-) -> Result<bool, Fault> {
+) -> Result<bool, Fault>
+    ensures done { IfOk result (λ answer. answer ≡ true) }
+
+    // A refusal has its cause in the texts, and comes before any byte is written.
+    ensures refused { IfRefused result (IsCause policy.now workload.now) }
+    ensures quiet { IsRefused result → out.new ≡ out.old }
+{
     let figures = figures_of(alloc, policy, workload)?;
-    match write_list(&figures, &mut Text::new(out)) {
-        Ok(()) => Ok(true),
-        Err(_) => Err(Fault::WriteFailed),
-    }
+    written(write_list(&figures, &mut Text::new(out)))?;
+    Ok(true)
 }
 
-fn figures_of(alloc: Global, policy: &str, workload: &str) -> Result<Figures, Refusal> {
+fn figures_of(alloc: Global, policy: &str, workload: &str) -> Result<Figures, Refusal>
+    ensures { IfErr result (IsCause policy.now workload.now) }
+{
     let run = prepare(alloc, policy, workload)?;
     Ok(gather(alloc, run)?)
 }

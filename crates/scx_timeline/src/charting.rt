@@ -1,4 +1,9 @@
-use crate::documents::Document;
+ghost use Rattle.std.specs.Prelude.{◌≡◌, true, IfOk, IfErr};
+ghost use Rattle.scx_outcomes.specs.Outcome.{IfRefused, IsRefused};
+ghost use Rattle.scx_outcomes.specs.declared.refusal.Refusal.TheVariants.{NoMemory};
+ghost use Rattle.scx_simulation.specs.Runs.{IsCause};
+
+use crate::documents::{Document, room_for_object};
 use crate::lengths::{Length, Lengths, queue_name};
 use crate::objects::{Complete, Counter, Instant, Title};
 use arrayvec::ArrayString;
@@ -10,7 +15,7 @@ use scx_trace::Names;
 use scx_views::{View, watch};
 use scx_workloads::Workload;
 use scx_world::LOCAL_ON;
-use std::alloc::{AllocError, Global};
+use std::alloc::Global;
 use std::fmt::Write;
 
 /// A millisecond in microseconds.
@@ -46,25 +51,24 @@ pub fn timeline<W: Out>(
     policy: &str,
     workload: &str,
     out: &mut W,
-) -> Result<bool, Fault> {
+) -> Result<bool, Fault>
+    ensures done { IfOk result (λ answer. answer ≡ true) }
+
+    // A refusal has its cause in the texts, and comes before any byte is written.
+    ensures refused { IfRefused result (IsCause policy.now workload.now) }
+    ensures quiet { IsRefused result → out.new ≡ out.old }
+{
     let Run {
         workload,
         mut driver,
         mut sim,
     } = prepare(alloc, policy, workload)?;
-    let mut chart = chart_of(alloc, &workload, out)?;
+    let room = Room::new(alloc, &workload)?;
+    let mut chart = Chart::new(alloc, &workload, room, out);
     chart.begin()?;
     watch(&mut sim, &mut driver, &mut chart);
     chart.end(sim.clock())?;
     Ok(true)
-}
-
-fn chart_of<'a, W: Out>(
-    alloc: Global,
-    workload: &'a Workload,
-    out: &'a mut W,
-) -> Result<Chart<'a, W>, Refusal> {
-    Ok(Chart::new(alloc, workload, out)?)
 }
 
 /// A task that runs, and since which moment.
@@ -74,26 +78,51 @@ struct Running {
     since: u64,
 }
 
+/// All memory of a timeline.
+#[derive(Drop)]
+struct Room {
+    object: Vec<u8>,
+    /// Who runs, by processor.
+    running: Vec<Option<Running>>,
+    lengths: Lengths,
+}
+
+impl Room {
+    fn new(alloc: Global, workload: &Workload) -> Result<Room, Refusal>
+        ensures { IfErr result (λ refusal. refusal ≡ NoMemory) }
+    {
+        Ok(Room {
+            object: room_for_object(alloc)?,
+            running: vec![in alloc; None; workload.cpus() as usize]?,
+            lengths: Lengths::new(alloc, workload.tasks().len())?,
+        })
+    }
+}
+
 /// A timeline on its way.
 #[derive(Drop)]
 struct Chart<'a, W> {
     workload: &'a Workload,
     document: Document<'a, W>,
-    /// Who runs, by processor.
     running: Vec<Option<Running>>,
     lengths: Lengths,
     failed: bool,
 }
 
 impl<'a, W: Out> Chart<'a, W> {
-    fn new(alloc: Global, workload: &'a Workload, out: &'a mut W) -> Result<Self, AllocError> {
-        Ok(Chart {
+    fn new(alloc: Global, workload: &'a Workload, room: Room, out: &'a mut W) -> Self {
+        let Room {
+            object,
+            running,
+            lengths,
+        } = room;
+        Chart {
             workload,
-            document: Document::new(alloc, out)?,
-            running: vec![in alloc; None; workload.cpus() as usize]?,
-            lengths: Lengths::new(alloc, workload.tasks().len())?,
+            document: Document::new(alloc, object, out),
+            running,
+            lengths,
             failed: false,
-        })
+        }
     }
 
     /// Names the tracks.
@@ -241,6 +270,8 @@ impl<'a, W: Out> Chart<'a, W> {
 }
 
 impl<W: Out> View for Chart<'_, W> {
+    ghost has_failed = { λ c. c.failed };
+
     fn expect(&mut self, _sim: &Sim, _event: Event) {}
 
     fn show(&mut self, moment: u64, _clock: u64, what: What) {

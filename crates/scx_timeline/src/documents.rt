@@ -7,6 +7,11 @@ use std::mem;
 /// How many bytes an object takes at most, and many more.
 const OBJECT_CAPACITY: usize = 2048;
 
+/// Room for an object.
+pub(crate) fn room_for_object(alloc: Global) -> Result<Vec<u8>, AllocError> {
+    Vec::with_capacity(alloc, OBJECT_CAPACITY)
+}
+
 /// A document of the Chrome trace format on its way: a line for each object.
 #[derive(Drop)]
 pub(crate) struct Document<'a, W> {
@@ -18,13 +23,13 @@ pub(crate) struct Document<'a, W> {
 }
 
 impl<'a, W: Out> Document<'a, W> {
-    pub(crate) fn new(alloc: Global, out: &'a mut W) -> Result<Self, AllocError> {
-        Ok(Document {
+    pub(crate) fn new(alloc: Global, room: Vec<u8>, out: &'a mut W) -> Self {
+        Document {
             alloc,
             out,
-            room: Vec::with_capacity(alloc, OBJECT_CAPACITY)?,
+            room,
             is_empty: true,
-        })
+        }
     }
 
     /// Writes one more object. An object that there is no memory for can't be written either.

@@ -6,6 +6,6 @@ mod texts;
 mod waits;
 mod watching;
 
-pub use texts::Text;
+pub use texts::{Text, written};
 pub use waits::{Wait, Waits};
 pub use watching::{View, watch};

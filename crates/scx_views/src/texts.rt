@@ -1,4 +1,7 @@
-use scx_output::{Out, write_all};
+ghost use Rattle.std.specs.Prelude.{◌≡◌};
+ghost use Rattle.std.specs.Result.{is_ok};
+
+use scx_output::{Failed, Out, write_all};
 use std::fmt;
 
 /// An output as a writer of text.
@@ -19,5 +22,15 @@ impl<W: Out> fmt::Write for Text<'_, W> {
             Ok(()) => Ok(()),
             Err(_) => Err(fmt::Error),
         }
+    }
+}
+
+/// What writing to a `Text` came to, in the words of its output.
+pub fn written(made: fmt::Result) -> Result<(), Failed>
+    ensures { is_ok result ≡ is_ok made }
+{
+    match made {
+        Ok(()) => Ok(()),
+        Err(_) => Err(Failed),
     }
 }
