@@ -2,6 +2,7 @@
 
 use crate::memory::Memory;
 use scx_commands::{Counted, Fault, Out, asm, dis, exec, finish};
+use scx_explain::explain;
 use scx_verdicts::check;
 use std::alloc::Global;
 use std::process::Abort;
@@ -12,6 +13,7 @@ pub(crate) enum Command {
     Dis,
     Exec,
     Check,
+    Explain,
 }
 
 fn outcome<W: Out>(
@@ -25,6 +27,7 @@ fn outcome<W: Out>(
         Command::Dis => dis(alloc, bytes, out),
         Command::Exec => exec(alloc, bytes, out),
         Command::Check => check(alloc, bytes, out),
+        Command::Explain => explain(alloc, bytes, out),
     }
 }
 

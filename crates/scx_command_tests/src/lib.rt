@@ -9,6 +9,8 @@ mod commands;
 #[cfg(test)]
 mod executing;
 #[cfg(test)]
+mod explaining;
+#[cfg(test)]
 mod finishing;
 #[cfg(test)]
 mod hints;

@@ -14,7 +14,7 @@ fn understand<R: AllocGlobal + Abort>(rt: &R, rows: &[Row<'_>]) -> Result<(), Fa
     Ok(())
 }
 
-const OF_ONE_FILE: [Row<'_>; 5] = [
+const OF_ONE_FILE: [Row<'_>; 6] = [
     (
         &["scxsim", "exec", "some/file"],
         Request::Exec { slots: "some/file" },
@@ -30,6 +30,12 @@ const OF_ONE_FILE: [Row<'_>; 5] = [
     (
         &["scxsim", "verify", "some/file"],
         Request::Verify {
+            policy: "some/file",
+        },
+    ),
+    (
+        &["scxsim", "explain", "some/file"],
+        Request::Explain {
             policy: "some/file",
         },
     ),

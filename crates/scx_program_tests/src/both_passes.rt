@@ -120,7 +120,7 @@ const MORE: [&str; 16] = [
 ];
 
 /// The text of a random program, which has room for jumps at its end.
-fn random_text(alloc: Global, random: &mut Random) -> Result<String, AllocError> {
+pub(crate) fn random_text(alloc: Global, random: &mut Random) -> Result<String, AllocError> {
     let mut text = String::new(alloc);
     for line in &LINES[..6] {
         text.push_str(line)?;

@@ -9,6 +9,8 @@ mod both_machines;
 #[cfg(test)]
 mod both_passes;
 #[cfg(test)]
+mod explanations;
+#[cfg(test)]
 mod malicious;
 #[cfg(test)]
 mod programs;

@@ -6,4 +6,5 @@ mod lines;
 mod verdict;
 
 pub use checking::check;
-pub use verdict::{Verdict, Verdicts};
+pub use lines::verdict_line;
+pub use verdict::{Verdict, Verdicts, judge};

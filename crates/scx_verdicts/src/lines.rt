@@ -42,7 +42,8 @@ fn push_line(lines: &mut Lines, callback: Callback, verdict: Option<Verdict>)
     }
 }
 
-fn verdict_line(callback: Callback, verdict: Verdict) -> Line
+/// The line of a callback with that verdict.
+pub fn verdict_line(callback: Callback, verdict: Verdict) -> Line
     ensures { result.bytes ≡ verdict_line callback verdict }
 {
     match verdict {

@@ -1,6 +1,6 @@
 ghost use Rattle.std.specs.Prelude.{◌≡◌, IfOk, IfErr};
 ghost use Rattle.scx_outcomes.specs.declared.refusal.Refusal.TheVariants.{NoMemory};
-ghost use Rattle.scx_verdicts.specs.Verdicts.{IsVerdictOf, HasVerdicts, is_accepted, are_accepted};
+ghost use Rattle.scx_verdicts.specs.Verdicts.{IsVerdict, IsVerdictOf, HasVerdicts, is_accepted, are_accepted};
 
 use scx_isa::{Callback, Program};
 use scx_maps::MapDefs;
@@ -32,7 +32,7 @@ pub struct Verdicts {
 
 impl Verdicts {
     /// Whether no program is refused.
-    pub(crate) fn are_accepted(self) -> bool
+    pub fn are_accepted(self) -> bool
         ensures { result ≡ are_accepted self }
     {
         is_accepted(self.init)
@@ -117,14 +117,31 @@ fn verdict_on(
     ensures verdict { IfOk result (IsVerdictOf defs.now callback program) }
     ensures memory { IfErr result (λ refusal. refusal ≡ NoMemory) }
 {
-    let Some(program) = program else {
-        return Ok(None);
-    };
+    match program {
+        Some(program) => Ok(Some(judge(alloc, program, callback, defs)?)),
+        None => Ok(None),
+    }
+}
+
+/// The verdict on a program.
+///
+/// # Errors
+///
+/// Memory ran out.
+pub fn judge(
+    alloc: Global,
+    program: Program,
+    callback: Callback,
+    defs: &MapDefs,
+) -> Result<Verdict, Refusal>
+    ensures verdict { IfOk result (IsVerdict defs.now callback program) }
+    ensures memory { IfErr result (λ refusal. refusal ≡ NoMemory) }
+{
     match verify(alloc, program, callback, defs) {
-        Ok(verified) => Ok(Some(Verdict::Accepted(verified.instructions()))),
+        Ok(verified) => Ok(Verdict::Accepted(verified.instructions())),
         Err(error) => match error.fault {
             Fault::NoMemory => Err(Refusal::NoMemory),
-            fault => Ok(Some(Verdict::Refused(fault, error.slot))),
+            fault => Ok(Verdict::Refused(fault, error.slot)),
         },
     }
 }

@@ -1,6 +1,6 @@
-mod Least
+pub mod Least
 pub mod Targets
-mod Visits
+pub mod Visits
 pub mod Safe
 mod Agreement
 mod Justified

@@ -18,7 +18,7 @@ use Rattle.scx_abs.specs.Laws.{FlowsProper}
 use Rattle.scx_abs.proofs.Orders.{covers_itself}
 use Rattle.scx_abs.proofs.Proper.{start_proper, rule_proper}
 use Rattle.scx_verify.specs.Typing.{States, Passes, IsTyping}
-use Rattle.scx_verify.specs.Forward.{IsSent, FlowsTo, Arrives, IsLeast, PassesBefore, IsFirstRefusal}
+use Rattle.scx_verify.specs.Forward.{IsSent, FlowsTo, Arrives, IsLeast, PassesBefore, AreForward, IsFirstRefusal}
 use Rattle.scx_verify.specs.Pass.{states_of, IsVisited, IsGiven}
 use Rattle.scx_verify.proofs.Least.{least_same, given_least, given_apart, given_long}
 use Rattle.scx_verify.proofs.Targets.{Lands, lands, on_within, jump_within}
@@ -210,14 +210,26 @@ visited_more c code s states between after i a next to program flow h there here
           (λ j b t k. (next, ap (λ d. rule c.defs c.callback j d) (same_state b a (sym k ∙ same s (omega arith) ∙ here)) ∙ ap (λ e. rule c.defs c.callback e a) (same_insn j i (sym t ∙ there)) ∙ passes));
     }
 
--- ---- a refusal
+-- ---- the forward states
+
+-- those of the slots that were visited, and of the next one, are the forward states
+pub visited_forward : (c : Context) (code : Code) (s : ℕ) (states : List (Option AbsState)) → Flows code → IsVisited c code s states → AreForward c code (states_of states) s
+visited_forward c code s states flow h t le = least_same (states_of states t) (Arrives c code (states_of states) s t) (Arrives c code (states_of states) t t) nearer farther (h.least t)
+  where
+    nearer : (b : AbsState) → Arrives c code (states_of states) s t b → Arrives c code (states_of states) t t b
+    nearer b (inl p) = inl p
+    nearer b (inr p) = inr (p.0, flows_forward c code (states_of states) p.0 t b flow p.2, p.2)
+
+    farther : (b : AbsState) → Arrives c code (states_of states) t t b → Arrives c code (states_of states) s t b
+    farther b (inl p) = inl p
+    farther b (inr p) = inr (p.0, omega (arith, le, p.1), p.2)
 
 -- a slot where a check fails
 pub visited_refuses : (c : Context) (code : Code) (s : ℕ) (states : List (Option AbsState)) (i : Insn) (a : AbsState) (why : Why) → Flows code → IsVisited c code s states
     → at code s ≡ Some i → states_of states s ≡ Some a → rule c.defs c.callback i a ≡ Err why → IsFirstRefusal c code why s
 visited_refuses c code s states i a why flow h there here fails = record {
   states = states_of states;
-  forward = λ t le. least_same (states_of states t) (Arrives c code (states_of states) s t) (Arrives c code (states_of states) t t) (λ b p. nearer t b p) (λ b p. farther t le b p) (h.least t);
+  forward = visited_forward c code s states flow h;
   earlier = h.passes;
   insn = i;
   state = a;
@@ -225,14 +237,6 @@ visited_refuses c code s states i a why flow h there here fails = record {
   here = here;
   fails = fails;
 }
-  where
-    nearer : (t : ℕ) (b : AbsState) → Arrives c code (states_of states) s t b → Arrives c code (states_of states) t t b
-    nearer t b (inl p) = inl p
-    nearer t b (inr p) = inr (p.0, flows_forward c code (states_of states) p.0 t b flow p.2, p.2)
-
-    farther : (t : ℕ) → t ≤ s → (b : AbsState) → Arrives c code (states_of states) t t b → Arrives c code (states_of states) s t b
-    farther t le b (inl p) = inl p
-    farther t le b (inr p) = inr (p.0, omega (arith, p.1), p.2)
 
 -- ---- the end
 

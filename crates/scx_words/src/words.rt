@@ -19,6 +19,7 @@ pub enum Request<'a> {
     Asm { text: &'a str },
     Dis { slots: &'a str },
     Verify { policy: &'a str },
+    Explain { policy: &'a str },
     Run { policy: &'a str, workload: &'a str },
     Report { policy: &'a str, workload: &'a str },
     Stats { policy: &'a str, workload: &'a str },
@@ -57,6 +58,9 @@ fn request_of<'a>(name: &str, command: &ArgMatches<'a>) -> Option<Request<'a>> {
             slots: command.get_str("FILE")?,
         }),
         "verify" => Some(Request::Verify {
+            policy: command.get_str("POLICY")?,
+        }),
+        "explain" => Some(Request::Explain {
             policy: command.get_str("POLICY")?,
         }),
         "run" => Some(Request::Run {
@@ -99,6 +103,7 @@ fn scxsim<'a>(alloc: Global) -> Result<Command<'a>, AllocError> {
         .subcommand_required(true)
         .arg_required_else_help(true)
         .subcommand(verify(alloc)?)?
+        .subcommand(explain(alloc)?)?
         .subcommand(run(alloc)?)?
         .subcommand(report(alloc)?)?
         .subcommand(stats(alloc)?)?
@@ -116,6 +121,18 @@ fn verify<'a>(alloc: Global) -> Result<Command<'a>, AllocError> {
         .about("Reads a policy file, and says of each callback whether it is safe")
         .after_help(
             "Example: scxsim verify examples/policies/fifo.toml\nprints:  init ok 3\n         enqueue ok 5\n         dispatch ok 3\nOf a callback that isn't safe it prints the fault and its slot, as in\n         enqueue refused 5 UnusableRegister at 1\nand its status is 1. docs/VERIFIER.md says what is safe.",
+        )
+        .arg(policy)
+}
+
+fn explain<'a>(alloc: Global) -> Result<Command<'a>, AllocError> {
+    let policy = Arg::new(alloc, "POLICY").required(true).help(POLICY);
+    Command::new(alloc, "explain")
+        .about(
+            "Verifies the same, and shows what is known before each instruction, and why one is refused",
+        )
+        .after_help(
+            "Example: scxsim explain examples/policies/fifo.toml\nprints:  of each callback the line of verify, and then its instructions, as in\n         init ok 3\n            0  r1 = 0     nothing\n            1  call 1001  r1 number\n            2  exit       r0 number\nand below a refused instruction why. docs/FILES.md says how to read them.",
         )
         .arg(policy)
 }

@@ -1,6 +1,6 @@
 //! The program `scxsim`, which verifies policies and runs workloads under them, and runs, assembles and
 //! disassembles BPF programs. Its words are read by `scx_words`; what the commands do stands in
-//! `scx_commands`, `scx_verdicts` and `scx_simulation`, whose calls are passed on here.
+//! `scx_commands`, `scx_verdicts`, `scx_explain` and `scx_simulation`, whose calls are passed on here.
 #![tactic(auto)]
 
 mod progress;
@@ -15,6 +15,7 @@ pub use scx_commands::{Counted, Failed, Fault, Out, Refusal, asm, dis, exec, fin
 use scx_commands::{
     FAILED, Hint, USAGE, hint_of_slots, hint_of_text, read_file, write_all, write_unread,
 };
+pub use scx_explain::explain;
 pub use scx_picture::picture;
 pub use scx_simulation::{report, simulate};
 pub use scx_statistics::{stats, stats_csv};
@@ -139,6 +140,11 @@ fn do_request<'a, R: AllocGlobal + Files + Console, W: Out>(
         Request::Verify { policy } => {
             let bytes = bytes_of(rt, policy)?;
             let outcome = check(rt.alloc(), bytes.as_slice(), out);
+            Ok(end(outcome, hint_of_text(bytes.as_slice()), out))
+        }
+        Request::Explain { policy } => {
+            let bytes = bytes_of(rt, policy)?;
+            let outcome = explain(rt.alloc(), bytes.as_slice(), out);
             Ok(end(outcome, hint_of_text(bytes.as_slice()), out))
         }
         Request::Run { policy, workload } => {

@@ -1,0 +1,288 @@
+use crate::advice::Advice;
+use crate::page::Page;
+use crate::words::{FieldName, Name, Spoken, Wanted};
+use scx_abs::Kind;
+use scx_explanations::{
+    BadAccess, BadCall, BadField, BadFlow, BadValue, Brought, Explanation, Leg, Memory, Origin,
+    Reach, Reason,
+};
+use scx_isa::{Register, STACK_SIZE};
+use scx_output::Out;
+use scx_policies::callback_name;
+use std::fmt::{self, Write};
+
+/// What begins a line of an explanation.
+const MARGIN: &str = "      = ";
+
+/// What is wrong, in a sentence.
+#[derive(Clone, Copy)]
+struct ReasonText(Reason);
+
+/// Where the value at fault comes from, in a sentence.
+#[derive(Clone, Copy)]
+struct OriginText(Origin);
+
+/// Writes why a program is refused, and how control came there.
+pub(crate) fn write_explanation<W: Out>(
+    page: &mut Page<'_, W>,
+    explanation: &Explanation,
+) -> fmt::Result {
+    let (origin, is_copied) = match &explanation.trail {
+        Some(trail) => (trail.origin, trail.is_copied),
+        None => (None, false),
+    };
+    let advice = Advice {
+        reason: explanation.reason,
+        origin,
+        is_copied,
+    };
+    write_sentence(page, advice)?;
+    if let Some(trail) = &explanation.trail {
+        write_way(page, &trail.legs)?;
+    }
+    Ok(())
+}
+
+fn write_sentence<W: Out>(page: &mut Page<'_, W>, advice: Advice) -> fmt::Result {
+    let reason = ReasonText(advice.reason);
+    write!(page, "{MARGIN}{reason}")?;
+    if let Some(origin) = advice.origin {
+        let origin = OriginText(origin);
+        write!(page, ": {origin}")?;
+    }
+    writeln!(page, "; {advice}")
+}
+
+/// Writes the way by which control came, from the first slot on.
+fn write_way<W: Out>(page: &mut Page<'_, W>, legs: &[Leg]) -> fmt::Result {
+    write!(page, "{MARGIN}control came by ")?;
+    let mut left = None;
+    for leg in legs.iter().rev() {
+        write_leg(page, left, *leg)?;
+        left = Some(leg.last);
+    }
+    page.write_str("\n")
+}
+
+/// Writes a part of the way. In front of it control jumped from the slot that it left, if it left one.
+fn write_leg<W: Out>(page: &mut Page<'_, W>, left: Option<usize>, leg: Leg) -> fmt::Result {
+    let Leg { first, last } = leg;
+    match left {
+        Some(left) if first == last => write!(page, ", jump at {left} to {first}"),
+        Some(left) => write!(page, ", jump at {left} to {first}, {first}..{last}"),
+        None if first == last => write!(page, "{first}"),
+        None => write!(page, "{first}..{last}"),
+    }
+}
+
+impl fmt::Display for ReasonText {
+    fn fmt<W: fmt::Write>(&self, f: &mut fmt::Formatter<W>) -> fmt::Result {
+        match self.0 {
+            Reason::Flow(flow) => write_flow(f, flow),
+            Reason::Value(value) => write_value(f, value),
+            Reason::Access(access) => write_access(f, access),
+            Reason::Field(field) => write_field(f, field),
+            Reason::Call(call) => write_call(f, call),
+            Reason::UnknownMap { map, maps } => {
+                write!(f, "there is no map {map}, as the policy has {maps}")
+            }
+        }
+    }
+}
+
+fn write_flow<W: fmt::Write>(f: &mut fmt::Formatter<W>, flow: BadFlow) -> fmt::Result {
+    match flow {
+        BadFlow::Back(to) => write!(f, "the jump goes back to {to}"),
+        BadFlow::OutOfProgram { to, slots } => {
+            write!(
+                f,
+                "the jump goes to {to}, and the program has {slots} slots"
+            )
+        }
+        BadFlow::IntoWide(to) => write!(f, "{to} is the second slot of an instruction"),
+        BadFlow::FallsOff => write!(f, "control would go on behind the last instruction"),
+    }
+}
+
+fn write_value<W: fmt::Write>(f: &mut fmt::Formatter<W>, value: BadValue) -> fmt::Result {
+    match value {
+        BadValue::Unusable(register) => write!(f, "{} is unusable here", Name(register)),
+        BadValue::Frame => write!(f, "r10 is never written"),
+        BadValue::MayBeNull(register) => write!(f, "{} may be 0 here", Name(register)),
+        BadValue::Arithmetic(register, kind) => write_held(f, register, kind),
+        BadValue::Comparison(register, kind) => write_held(f, register, kind),
+        BadValue::Stored(register, kind) => write_held(f, register, kind),
+        BadValue::Answer { kind, callback } => {
+            let name = callback_name(callback);
+            let kind = Spoken(kind);
+            write!(f, "{name} answers a number in r0, which holds {kind} here")
+        }
+    }
+}
+
+fn write_held<W: fmt::Write>(
+    f: &mut fmt::Formatter<W>,
+    register: Register,
+    kind: Kind,
+) -> fmt::Result {
+    let name = Name(register);
+    let kind = Spoken(kind);
+    write!(f, "{name} holds {kind} here")
+}
+
+fn write_access<W: fmt::Write>(f: &mut fmt::Formatter<W>, access: BadAccess) -> fmt::Result {
+    match access {
+        BadAccess::Unwritten { reach, byte } => {
+            let (first, last) = ends_of(reach);
+            write!(
+                f,
+                "stack {first}..{last} is read here, and {byte} needn't hold a number"
+            )
+        }
+        BadAccess::PartOfPointer { reach, kind } => {
+            let (first, last) = ends_of(reach);
+            let kind = Spoken(kind);
+            write!(
+                f,
+                "stack {first}..{last} is read here, and is a part of {kind}"
+            )
+        }
+        BadAccess::NoPointer(register, kind) => {
+            write_held(f, register, kind)?;
+            write!(f, ", no pointer to memory")
+        }
+        BadAccess::Outside(reach) => write_outside(f, reach),
+        BadAccess::MovedOut {
+            register,
+            memory,
+            to,
+        } => write_moved_out(f, register, memory, to),
+        BadAccess::Misaligned(reach) => write_misaligned(f, reach),
+    }
+}
+
+fn write_moved_out<W: fmt::Write>(
+    f: &mut fmt::Formatter<W>,
+    register: Register,
+    memory: Memory,
+    to: i64,
+) -> fmt::Result {
+    let name = Name(register);
+    match memory {
+        Memory::Stack => {
+            write!(
+                f,
+                "{name} would be stack {to}, outside of r10 - {STACK_SIZE} up to r10"
+            )
+        }
+        Memory::Element { map, bytes } => {
+            write!(
+                f,
+                "{name} would point to byte {to} of an element of map {map}, which has {bytes}"
+            )
+        }
+    }
+}
+
+fn write_field<W: fmt::Write>(f: &mut fmt::Formatter<W>, field: BadField) -> fmt::Result {
+    match field {
+        BadField::Missing { offset, size } => {
+            let bytes = size.bytes();
+            write!(f, "a task has no field of {bytes} bytes at {offset}")
+        }
+        BadField::Signed(field) => write!(f, "{} is loaded with a sign", FieldName(field)),
+        BadField::ReadOnly(field) => write!(f, "{} may only be read", FieldName(field)),
+    }
+}
+
+fn write_call<W: fmt::Write>(f: &mut fmt::Formatter<W>, call: BadCall) -> fmt::Result {
+    match call {
+        BadCall::Unknown(number) => write!(f, "no helper has the number {number}"),
+        BadCall::NotHere { number, callback } => {
+            let name = callback_name(callback);
+            write!(f, "{name} may not call {number}")
+        }
+        BadCall::Argument {
+            number,
+            register,
+            kind,
+            parameter,
+        } => {
+            let wanted = Wanted(parameter);
+            write!(f, "call {number} takes {wanted} in ")?;
+            let name = Name(register);
+            let kind = Spoken(kind);
+            write!(f, "{name}, which holds {kind} here")
+        }
+    }
+}
+
+/// The first and the last of the bytes.
+fn ends_of(reach: Reach) -> (i64, i64) {
+    let count = i64::from(reach.count);
+    (
+        reach.first,
+        reach.first.saturating_add(count).saturating_sub(1),
+    )
+}
+
+fn write_outside<W: fmt::Write>(f: &mut fmt::Formatter<W>, reach: Reach) -> fmt::Result {
+    let (first, last) = ends_of(reach);
+    match reach.memory {
+        Memory::Stack => {
+            write!(
+                f,
+                "the access is to stack {first}..{last}, outside of r10 - {STACK_SIZE} up to r10 - 1"
+            )
+        }
+        Memory::Element { map, bytes } => {
+            let end = bytes.saturating_sub(1);
+            write!(
+                f,
+                "the access is to bytes {first}..{last} of an element of map {map}, outside of 0..{end}"
+            )
+        }
+    }
+}
+
+fn write_misaligned<W: fmt::Write>(f: &mut fmt::Formatter<W>, reach: Reach) -> fmt::Result {
+    let first = reach.first;
+    let count = reach.count;
+    match reach.memory {
+        Memory::Stack => write!(f, "stack {first} is no multiple of {count}"),
+        Memory::Element { map, .. } => {
+            write!(
+                f,
+                "byte {first} of an element of map {map} is no multiple of {count}"
+            )
+        }
+    }
+}
+
+impl fmt::Display for OriginText {
+    fn fmt<W: fmt::Write>(&self, f: &mut fmt::Formatter<W>) -> fmt::Result {
+        match self.0 {
+            Origin::Nowhere => write!(f, "nothing on the way here writes it"),
+            Origin::Argument => write!(f, "it is an argument"),
+            Origin::Frame => write!(f, "it comes from r10"),
+            Origin::Written(slot) => write!(f, "it was written at {slot}"),
+            Origin::Answered { number, slot } => write!(f, "it comes from call {number} at {slot}"),
+            Origin::Lost { number, slot } => {
+                write!(f, "call {number} at {slot} leaves it unusable")
+            }
+            Origin::Null(slot) => write!(f, "it is 0 on this side of the test at {slot}"),
+            Origin::Met {
+                slot,
+                first,
+                second,
+            } => {
+                let Brought { from, kind } = first;
+                let first = Spoken(kind);
+                write!(f, "at {slot} ways meet that bring {first} from {from}")?;
+                let Brought { from, kind } = second;
+                let second = Spoken(kind);
+                write!(f, " and {second} from {from}")
+            }
+        }
+    }
+}

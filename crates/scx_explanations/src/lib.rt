@@ -1,0 +1,23 @@
+//! Why the verifier says what it says of a program: what is known before each instruction, and at a
+//! refusal the check that failed, with this case's values, where the value at fault comes from, and
+//! one way by which control came there.
+//!
+//! `Listing` goes over the slots as `verify` does, by the same `start`, `transfer` and `join`, and keeps
+//! the state of each slot. `explanation_of` says why the check of an instruction failed, and goes back
+//! from there.
+#![tactic(auto)]
+
+mod jumps;
+mod listing;
+mod origins;
+mod reasons;
+mod trails;
+
+pub use jumps::Jumps;
+pub use listing::{Arrival, Listing, Way, byte_kind, cell_of, target_of};
+pub use origins::{Brought, Origin, Subject};
+pub use reasons::{
+    BadAccess, BadCall, BadField, BadFlow, BadValue, Explanation, Memory, Reach, Reason,
+    explanation_of,
+};
+pub use trails::{Leg, Trail};
