@@ -7,5 +7,6 @@ mod preparing;
 mod reporting;
 mod simulating;
 
+pub use preparing::{Run, prepare};
 pub use reporting::report;
 pub use simulating::simulate;

@@ -20,14 +20,18 @@ use std::alloc::Global;
 
 /// A run that is about to begin.
 #[derive(Drop)]
-pub(crate) struct Run {
-    pub(crate) workload: Workload,
-    pub(crate) driver: Driver,
-    pub(crate) sim: Sim,
+pub struct Run {
+    pub workload: Workload,
+    pub driver: Driver,
+    pub sim: Sim,
 }
 
 /// The run that the texts of a policy file and of a workload file stand for.
-pub(crate) fn prepare(alloc: Global, policy: &str, workload: &str) -> Result<Run, Refusal>
+///
+/// # Errors
+///
+/// The texts are refused.
+pub fn prepare(alloc: Global, policy: &str, workload: &str) -> Result<Run, Refusal>
     ensures run { IfOk result (λ run. IsRun policy.now workload.now run.workload run.sim) }
     ensures events { IfOk result
         (λ run. remaining run.driver run.sim ≡ workload_events run.workload run.sim) }

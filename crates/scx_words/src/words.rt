@@ -22,6 +22,10 @@ pub enum Request<'a> {
     Explain { policy: &'a str },
     Run { policy: &'a str, workload: &'a str },
     Report { policy: &'a str, workload: &'a str },
+    Stats { policy: &'a str, workload: &'a str },
+    StatsCsv { policy: &'a str, workload: &'a str },
+    Timeline { policy: &'a str, workload: &'a str },
+    Picture { policy: &'a str, workload: &'a str },
 }
 
 /// What the words ask for. `clap` refuses words that name no command and no file, so there is a
@@ -67,6 +71,22 @@ fn request_of<'a>(name: &str, command: &ArgMatches<'a>) -> Option<Request<'a>> {
             policy: command.get_str("POLICY")?,
             workload: command.get_str("WORKLOAD")?,
         }),
+        "stats" => Some(Request::Stats {
+            policy: command.get_str("POLICY")?,
+            workload: command.get_str("WORKLOAD")?,
+        }),
+        "stats-csv" => Some(Request::StatsCsv {
+            policy: command.get_str("POLICY")?,
+            workload: command.get_str("WORKLOAD")?,
+        }),
+        "timeline" => Some(Request::Timeline {
+            policy: command.get_str("POLICY")?,
+            workload: command.get_str("WORKLOAD")?,
+        }),
+        "picture" => Some(Request::Picture {
+            policy: command.get_str("POLICY")?,
+            workload: command.get_str("WORKLOAD")?,
+        }),
         _ => None,
     }
 }
@@ -86,6 +106,10 @@ fn scxsim<'a>(alloc: Global) -> Result<Command<'a>, AllocError> {
         .subcommand(explain(alloc)?)?
         .subcommand(run(alloc)?)?
         .subcommand(report(alloc)?)?
+        .subcommand(stats(alloc)?)?
+        .subcommand(stats_csv(alloc)?)?
+        .subcommand(timeline(alloc)?)?
+        .subcommand(picture(alloc)?)?
         .subcommand(exec(alloc)?)?
         .subcommand(asm(alloc)?)?
         .subcommand(dis(alloc)?)
@@ -134,6 +158,56 @@ fn report<'a>(alloc: Global) -> Result<Command<'a>, AllocError> {
         .about("Reads and runs the same, and prints how long each task ran in place of the trace")
         .after_help(
             "Example: scxsim report examples/policies/short_slices.toml examples/workloads/two_tasks.toml\nprints:  task a run 2 share 5000\n         task b run 2 share 5000\n         total 4\n         policy in force\nrun is in milliseconds, and share in parts of 10000.",
+        )
+        .arg(policy)?
+        .arg(workload)
+}
+
+fn stats<'a>(alloc: Global) -> Result<Command<'a>, AllocError> {
+    let policy = Arg::new(alloc, "POLICY").required(true).help(POLICY);
+    let workload = Arg::new(alloc, "WORKLOAD").required(true).help(WORKLOAD);
+    Command::new(alloc, "stats")
+        .about(
+            "Reads and runs the same, and prints how tasks ran and waited, and processors and groups got on",
+        )
+        .after_help(
+            "Example: scxsim stats examples/policies/short_slices.toml examples/workloads/two_tasks.toml\nprints:  a table of tasks, one of processors and one of groups\ndocs/FILES.md says what each figure is.",
+        )
+        .arg(policy)?
+        .arg(workload)
+}
+
+fn stats_csv<'a>(alloc: Global) -> Result<Command<'a>, AllocError> {
+    let policy = Arg::new(alloc, "POLICY").required(true).help(POLICY);
+    let workload = Arg::new(alloc, "WORKLOAD").required(true).help(WORKLOAD);
+    Command::new(alloc, "stats-csv")
+        .about("Reads and runs the same, and prints the figures of stats as comma-separated values")
+        .after_help(
+            "Example: scxsim stats-csv examples/policies/short_slices.toml examples/workloads/two_tasks.toml\nprints:  kind,name,figure,value\n         task,a,run_ms,2\nand a line for each other figure.",
+        )
+        .arg(policy)?
+        .arg(workload)
+}
+
+fn timeline<'a>(alloc: Global) -> Result<Command<'a>, AllocError> {
+    let policy = Arg::new(alloc, "POLICY").required(true).help(POLICY);
+    let workload = Arg::new(alloc, "WORKLOAD").required(true).help(WORKLOAD);
+    Command::new(alloc, "timeline")
+        .about("Reads and runs the same, and prints a timeline in the Chrome trace format")
+        .after_help(
+            "Example: scxsim timeline examples/policies/short_slices.toml examples/workloads/two_tasks.toml > timeline.json\nwrites:  a file that ui.perfetto.dev opens.",
+        )
+        .arg(policy)?
+        .arg(workload)
+}
+
+fn picture<'a>(alloc: Global) -> Result<Command<'a>, AllocError> {
+    let policy = Arg::new(alloc, "POLICY").required(true).help(POLICY);
+    let workload = Arg::new(alloc, "WORKLOAD").required(true).help(WORKLOAD);
+    Command::new(alloc, "picture")
+        .about("Reads and runs the same, and prints a picture in SVG")
+        .after_help(
+            "Example: scxsim picture examples/policies/short_slices.toml examples/workloads/two_tasks.toml > picture.svg\nwrites:  a file that browsers open.",
         )
         .arg(policy)?
         .arg(workload)

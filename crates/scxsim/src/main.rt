@@ -16,7 +16,10 @@ use scx_commands::{
     FAILED, Hint, USAGE, hint_of_slots, hint_of_text, read_file, write_all, write_unread,
 };
 pub use scx_explain::explain;
+pub use scx_picture::picture;
 pub use scx_simulation::{report, simulate};
+pub use scx_statistics::{stats, stats_csv};
+pub use scx_timeline::timeline;
 pub use scx_verdicts::check;
 use scx_words::{Request, read_words};
 use scx_workloads::read_workload;
@@ -154,6 +157,26 @@ fn do_request<'a, R: AllocGlobal + Files + Console, W: Out>(
             let outcome = report_files(rt.alloc(), &files, out);
             Ok(end(outcome, hint_of_files(&files), out))
         }
+        Request::Stats { policy, workload } => {
+            let files = files_of(rt, policy, workload)?;
+            let outcome = stats_files(rt.alloc(), &files, out);
+            Ok(end(outcome, hint_of_files(&files), out))
+        }
+        Request::StatsCsv { policy, workload } => {
+            let files = files_of(rt, policy, workload)?;
+            let outcome = stats_csv_files(rt.alloc(), &files, out);
+            Ok(end(outcome, hint_of_files(&files), out))
+        }
+        Request::Timeline { policy, workload } => {
+            let files = files_of(rt, policy, workload)?;
+            let outcome = timeline_files(rt.alloc(), &files, out);
+            Ok(end(outcome, hint_of_files(&files), out))
+        }
+        Request::Picture { policy, workload } => {
+            let files = files_of(rt, policy, workload)?;
+            let outcome = picture_files(rt.alloc(), &files, out);
+            Ok(end(outcome, hint_of_files(&files), out))
+        }
     }
 }
 
@@ -190,6 +213,30 @@ fn report_files<W: Out>(alloc: Global, files: &RunFiles, out: &mut W) -> Result<
     let policy = text(files.policy.as_slice())?;
     let workload = text(files.workload.as_slice())?;
     report(alloc, policy, workload, out)
+}
+
+fn stats_files<W: Out>(alloc: Global, files: &RunFiles, out: &mut W) -> Result<bool, Fault> {
+    let policy = text(files.policy.as_slice())?;
+    let workload = text(files.workload.as_slice())?;
+    stats(alloc, policy, workload, out)
+}
+
+fn stats_csv_files<W: Out>(alloc: Global, files: &RunFiles, out: &mut W) -> Result<bool, Fault> {
+    let policy = text(files.policy.as_slice())?;
+    let workload = text(files.workload.as_slice())?;
+    stats_csv(alloc, policy, workload, out)
+}
+
+fn timeline_files<W: Out>(alloc: Global, files: &RunFiles, out: &mut W) -> Result<bool, Fault> {
+    let policy = text(files.policy.as_slice())?;
+    let workload = text(files.workload.as_slice())?;
+    timeline(alloc, policy, workload, out)
+}
+
+fn picture_files<W: Out>(alloc: Global, files: &RunFiles, out: &mut W) -> Result<bool, Fault> {
+    let policy = text(files.policy.as_slice())?;
+    let workload = text(files.workload.as_slice())?;
+    picture(alloc, policy, workload, out)
 }
 
 /// The bytes of both files of a run, of which the policy is read first.

@@ -1,0 +1,17 @@
+use arrayvec::ArrayString;
+use std::fmt::Write;
+
+/// A number of hundredths, with a period before the last two digits.
+pub(crate) fn hundredths(number: u64) -> ArrayString<32> {
+    let mut text = ArrayString::new();
+    let _ = write!(text, "{}.{:02}", number / 100, number % 100);
+    text
+}
+
+/// A part of a whole in hundredths of a percent, rounded down; 0 of nothing.
+pub(crate) fn percent(part: u64, whole: u64) -> u64 {
+    if whole == 0 {
+        return 0;
+    }
+    part.saturating_mul(10_000) / whole
+}

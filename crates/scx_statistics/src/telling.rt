@@ -1,0 +1,75 @@
+ghost use Rattle.std.specs.Prelude.{◌≡◌, true, IfOk, IfErr};
+ghost use Rattle.scx_outcomes.specs.Outcome.{IfRefused, IsRefused};
+ghost use Rattle.scx_simulation.specs.Runs.{IsCause};
+
+use crate::gathering::{Figures, gather};
+use crate::listing::write_list;
+use crate::tables::write_tables;
+use scx_outcomes::{Fault, Refusal};
+use scx_output::Out;
+use scx_simulation::prepare;
+use scx_trace::Names;
+use scx_views::{Text, written};
+use std::alloc::Global;
+
+impl Figures {
+    pub(crate) fn task_name(&self, task: u16) -> &str {
+        self.workload.task(task)
+    }
+
+    pub(crate) fn group_name(&self, group: u32) -> &str {
+        self.workload.group(group)
+    }
+}
+
+/// Writes tables of the figures of the run that the texts of a policy file and of a workload file stand for.
+/// The answer is true.
+///
+/// # Errors
+///
+/// The texts are refused, or memory runs out, and then nothing is written, or writing the tables fails.
+pub fn stats<W: Out>(
+    alloc: Global,
+    policy: &str,
+    workload: &str,
+    out: &mut W,
+) -> Result<bool, Fault>
+    ensures done { IfOk result (λ answer. answer ≡ true) }
+
+    // A refusal has its cause in the texts, and comes before any byte is written.
+    ensures refused { IfRefused result (IsCause policy.now workload.now) }
+    ensures quiet { IsRefused result → out.new ≡ out.old }
+{
+    let figures = figures_of(alloc, policy, workload)?;
+    written(write_tables(&figures, &mut Text::new(out)))?;
+    Ok(true)
+}
+
+/// Writes the same figures as comma-separated values. The answer is true.
+///
+/// # Errors
+///
+/// The texts are refused, or memory runs out, and then nothing is written, or writing the values fails.
+pub fn stats_csv<W: Out>(
+    alloc: Global,
+    policy: &str,
+    workload: &str,
+    out: &mut W,
+) -> Result<bool, Fault>
+    ensures done { IfOk result (λ answer. answer ≡ true) }
+
+    // A refusal has its cause in the texts, and comes before any byte is written.
+    ensures refused { IfRefused result (IsCause policy.now workload.now) }
+    ensures quiet { IsRefused result → out.new ≡ out.old }
+{
+    let figures = figures_of(alloc, policy, workload)?;
+    written(write_list(&figures, &mut Text::new(out)))?;
+    Ok(true)
+}
+
+fn figures_of(alloc: Global, policy: &str, workload: &str) -> Result<Figures, Refusal>
+    ensures { IfErr result (IsCause policy.now workload.now) }
+{
+    let run = prepare(alloc, policy, workload)?;
+    Ok(gather(alloc, run)?)
+}

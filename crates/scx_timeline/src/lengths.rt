@@ -1,0 +1,80 @@
+use arrayvec::{ArrayString, ArrayVec};
+use scx_world::{BUILTIN, GLOBAL, HELD, POLICY_END};
+use std::alloc::{AllocError, Global};
+use std::fmt::Write;
+
+/// The most queues that a run has: 16 of the policy, 3 for all processors, and 64 of single ones.
+const MAX_QUEUES: usize = 83;
+
+/// How many tasks wait in the queue of that id.
+#[derive(Clone, Copy, Default)]
+pub(crate) struct Length {
+    pub(crate) queue: u64,
+    pub(crate) tasks: u64,
+}
+
+/// Which queue each task waits in, and how many wait in each queue.
+#[derive(Drop)]
+pub(crate) struct Lengths {
+    places: Vec<Option<u64>>,
+    queues: ArrayVec<Length, MAX_QUEUES>,
+}
+
+impl Lengths {
+    /// So many tasks wait nowhere.
+    pub(crate) fn new(alloc: Global, tasks: usize) -> Result<Lengths, AllocError> {
+        Ok(Lengths {
+            places: vec![in alloc; None; tasks]?,
+            queues: ArrayVec::new(),
+        })
+    }
+
+    /// The task comes to wait in that queue, or nowhere. The answer is where it waited before.
+    pub(crate) fn replace(&mut self, task: u16, queue: Option<u64>) -> Option<u64> {
+        let place = self.places.get_mut(task as usize)?;
+        let before = *place;
+        *place = queue;
+        before
+    }
+
+    /// One task more waits in that queue.
+    pub(crate) fn add(&mut self, queue: u64) -> Length {
+        for length in self.queues.as_mut_slice() {
+            if length.queue == queue {
+                length.tasks = length.tasks.saturating_add(1);
+                return *length;
+            }
+        }
+        let length = Length { queue, tasks: 1 };
+        let _ = self.queues.try_push(length);
+        length
+    }
+
+    /// One task less waits in that queue.
+    pub(crate) fn take(&mut self, queue: u64) -> Length {
+        for length in self.queues.as_mut_slice() {
+            if length.queue == queue {
+                length.tasks = length.tasks.saturating_sub(1);
+                return *length;
+            }
+        }
+        Length { queue, tasks: 0 }
+    }
+}
+
+/// What a queue is called, as in a trace.
+pub(crate) fn queue_name(queue: u64) -> ArrayString<32> {
+    let mut name = ArrayString::new();
+    let _ = if queue < POLICY_END {
+        write!(name, "queue {queue}")
+    } else if queue == GLOBAL {
+        write!(name, "global")
+    } else if queue == HELD {
+        write!(name, "held")
+    } else if queue == BUILTIN {
+        write!(name, "builtin")
+    } else {
+        write!(name, "local {}", queue % 0x1_0000_0000)
+    };
+    name
+}

@@ -1,0 +1,92 @@
+//! Outputs that fail, and files that are refused.
+
+use crate::memory::Memory;
+use crate::texts::{SHORT_SLICES, TWO_TASKS, UNSAFE};
+use scx_outcomes::{FAILED, Fault, REFUSED, finish};
+use scx_output::{Counted, Out};
+use scx_picture::picture;
+use scx_simulation::simulate;
+use scx_statistics::{stats, stats_csv};
+use scx_timeline::timeline;
+use std::alloc::Global;
+use std::process::Abort;
+
+#[derive(Clone, Copy)]
+enum Command {
+    Stats,
+    StatsCsv,
+    Timeline,
+    Picture,
+}
+
+const COMMANDS: [Command; 4] = [
+    Command::Stats,
+    Command::StatsCsv,
+    Command::Timeline,
+    Command::Picture,
+];
+
+fn execute<W: Out>(
+    command: Command,
+    alloc: Global,
+    policy: &str,
+    workload: &str,
+    out: &mut W,
+) -> Result<bool, Fault> {
+    match command {
+        Command::Stats => stats(alloc, policy, workload, out),
+        Command::StatsCsv => stats_csv(alloc, policy, workload, out),
+        Command::Timeline => timeline(alloc, policy, workload, out),
+        Command::Picture => picture(alloc, policy, workload, out),
+    }
+}
+
+/// An output that fails at that write.
+fn expect_cut<R: AllocGlobal + Abort>(rt: &R, command: Command, fails_at: usize, whole: &[u8]) {
+    let mut memory = Memory::failing(rt.alloc(), fails_at);
+    let mut out = Counted::new(&mut memory);
+    let outcome = execute(command, rt.alloc(), SHORT_SLICES, TWO_TASKS, &mut out);
+    assert_eq!(rt; outcome, Err(Fault::WriteFailed));
+    assert_eq!(rt; out.failures(), 1);
+    assert_eq!(rt; finish(outcome, &mut out), FAILED);
+    let bytes = memory.bytes.as_slice();
+    assert!(rt; bytes.len() < whole.len());
+    assert!(rt; whole.starts_with(bytes));
+}
+
+#[test]
+fn outputs_are_cut_off(rt: HostRuntime) {
+    for command in COMMANDS {
+        let mut memory = Memory::new(rt.alloc());
+        let mut out = Counted::new(&mut memory);
+        let done = execute(command, rt.alloc(), SHORT_SLICES, TWO_TASKS, &mut out);
+        assert_eq!(rt; done, Ok(true));
+        for fails_at in [0, 1, memory.calls / 2, memory.calls.saturating_sub(1)] {
+            expect_cut(&rt, command, fails_at, memory.bytes.as_slice());
+        }
+    }
+}
+
+/// Each command refuses the files as `run` does, and then the line is all that is written.
+fn expect_refused<R: AllocGlobal + Abort>(rt: &R, policy: &str, workload: &str) {
+    let mut wanted = Memory::new(rt.alloc());
+    let mut out = Counted::new(&mut wanted);
+    let refused = simulate(rt.alloc(), policy, workload, &mut out);
+    assert_eq!(rt; finish(refused, &mut out), REFUSED);
+    for command in COMMANDS {
+        let mut memory = Memory::new(rt.alloc());
+        let mut out = Counted::new(&mut memory);
+        let refused = execute(command, rt.alloc(), policy, workload, &mut out);
+        assert_eq!(rt; finish(refused, &mut out), REFUSED);
+        assert_eq!(rt; memory.bytes.as_slice(), wanted.bytes.as_slice());
+    }
+}
+
+#[test]
+fn files_are_refused_as_by_run(rt: HostRuntime) {
+    expect_refused(&rt, "a =", TWO_TASKS);
+    expect_refused(&rt, "a =", "cpus");
+    expect_refused(&rt, UNSAFE, "cpus = 65");
+    expect_refused(&rt, UNSAFE, TWO_TASKS);
+    expect_refused(&rt, "code.init = \"r0 = 3\\nexit\"", TWO_TASKS);
+}
