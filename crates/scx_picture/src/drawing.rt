@@ -1,6 +1,5 @@
-ghost use Rattle.std.specs.Prelude.{◌≡◌, true, IfOk, IfErr};
+ghost use Rattle.std.specs.Prelude.{◌≡◌, true, IfOk};
 ghost use Rattle.scx_outcomes.specs.Outcome.{IfRefused, IsRefused};
-ghost use Rattle.scx_outcomes.specs.declared.refusal.Refusal.TheVariants.{NoMemory};
 ghost use Rattle.scx_simulation.specs.Runs.{IsCause};
 
 use crate::frames::Frame;
@@ -11,7 +10,7 @@ use scx_simulation::{Run, prepare};
 use scx_trace::Names;
 use scx_views::{Text, View, Wait, Waits, watch, written};
 use scx_workloads::Workload;
-use std::alloc::Global;
+use std::alloc::{AllocError, Global};
 use std::fmt;
 
 /// Writes the picture of the run that the texts of a policy file and of a workload file stand for. The
@@ -32,17 +31,25 @@ pub fn picture<W: Out>(
     ensures refused { IfRefused result (IsCause policy.now workload.now) }
     ensures quiet { IsRefused result → out.new ≡ out.old }
 {
+    let run = prepare(alloc, policy, workload)?;
+    let Ok(room) = Room::new(alloc, &run.workload) else {
+        return Err(Fault::Refused(Refusal::NoMemory));
+    };
+    written(draw(run, room, out))?;
+    Ok(true)
+}
+
+/// Goes through the run, and draws it.
+fn draw<W: Out>(run: Run, room: Room, out: &mut W) -> fmt::Result {
     let Run {
         workload,
         mut driver,
         mut sim,
-    } = prepare(alloc, policy, workload)?;
-    let room = Room::new(alloc, &workload)?;
+    } = run;
     let mut drawing = Drawing::new(&workload, room, out);
-    written(drawing.begin())?;
+    drawing.begin()?;
     watch(&mut sim, &mut driver, &mut drawing);
-    written(drawing.end(sim.clock()))?;
-    Ok(true)
+    drawing.end(sim.clock())
 }
 
 /// A task that runs, and since which moment.
@@ -68,9 +75,7 @@ struct Room {
 }
 
 impl Room {
-    fn new(alloc: Global, workload: &Workload) -> Result<Room, Refusal>
-        ensures { IfErr result (λ refusal. refusal ≡ NoMemory) }
-    {
+    fn new(alloc: Global, workload: &Workload) -> Result<Room, AllocError> {
         Ok(Room {
             running: vec![in alloc; None; workload.cpus() as usize]?,
             waits: Waits::new(alloc, workload.tasks().len())?,

@@ -1,6 +1,5 @@
-ghost use Rattle.std.specs.Prelude.{◌≡◌, true, IfOk, IfErr};
+ghost use Rattle.std.specs.Prelude.{◌≡◌, true, IfOk};
 ghost use Rattle.scx_outcomes.specs.Outcome.{IfRefused, IsRefused};
-ghost use Rattle.scx_outcomes.specs.declared.refusal.Refusal.TheVariants.{NoMemory};
 ghost use Rattle.scx_simulation.specs.Runs.{IsCause};
 
 use crate::documents::{Document, room_for_object};
@@ -15,7 +14,7 @@ use scx_trace::Names;
 use scx_views::{View, watch};
 use scx_workloads::Workload;
 use scx_world::LOCAL_ON;
-use std::alloc::Global;
+use std::alloc::{AllocError, Global};
 use std::fmt::Write;
 
 /// A millisecond in microseconds.
@@ -58,17 +57,25 @@ pub fn timeline<W: Out>(
     ensures refused { IfRefused result (IsCause policy.now workload.now) }
     ensures quiet { IsRefused result → out.new ≡ out.old }
 {
+    let run = prepare(alloc, policy, workload)?;
+    let Ok(room) = Room::new(alloc, &run.workload) else {
+        return Err(Fault::Refused(Refusal::NoMemory));
+    };
+    write_timeline(alloc, run, room, out)?;
+    Ok(true)
+}
+
+/// Goes through the run, and writes its timeline.
+fn write_timeline<W: Out>(alloc: Global, run: Run, room: Room, out: &mut W) -> Result<(), Failed> {
     let Run {
         workload,
         mut driver,
         mut sim,
-    } = prepare(alloc, policy, workload)?;
-    let room = Room::new(alloc, &workload)?;
+    } = run;
     let mut chart = Chart::new(alloc, &workload, room, out);
     chart.begin()?;
     watch(&mut sim, &mut driver, &mut chart);
-    chart.end(sim.clock())?;
-    Ok(true)
+    chart.end(sim.clock())
 }
 
 /// A task that runs, and since which moment.
@@ -88,9 +95,7 @@ struct Room {
 }
 
 impl Room {
-    fn new(alloc: Global, workload: &Workload) -> Result<Room, Refusal>
-        ensures { IfErr result (λ refusal. refusal ≡ NoMemory) }
-    {
+    fn new(alloc: Global, workload: &Workload) -> Result<Room, AllocError> {
         Ok(Room {
             object: room_for_object(alloc)?,
             running: vec![in alloc; None; workload.cpus() as usize]?,
