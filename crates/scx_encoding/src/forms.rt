@@ -58,7 +58,8 @@ pub fn form_of_insn(insn: &Insn) -> Form
     }
 }
 
-fn kind_of(operand: Operand) -> Source
+#[inline(always)]
+pub(crate) fn kind_of(operand: Operand) -> Source
     ensures { result ≡ source_of operand }
 {
     match operand {
@@ -67,7 +68,8 @@ fn kind_of(operand: Operand) -> Source
     }
 }
 
-fn base_of(operation: Operation) -> Operation
+#[inline(always)]
+pub(crate) fn base_of(operation: Operation) -> Operation
     ensures { result ≡ base operation }
 {
     match operation {

@@ -206,6 +206,7 @@ fn fault_of(opcode: u8) -> DecodeFault
 }
 
 /// The opcode of a form.
+#[inline(always)]
 pub fn opcode_of(form: Form) -> u8
     ensures { result ≡ opcode form }
 {
