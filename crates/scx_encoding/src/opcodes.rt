@@ -266,6 +266,7 @@ fn source_bit_of(source: Source) -> u8
     }
 }
 
+#[inline(always)]
 fn operation_code_of(operation: Operation) -> u8
     ensures { result ≡ operation_code operation }
 {
@@ -285,6 +286,7 @@ fn operation_code_of(operation: Operation) -> u8
     }
 }
 
+#[inline(always)]
 fn comparison_code_of(comparison: Comparison) -> u8
     ensures { result ≡ comparison_code comparison }
 {

@@ -167,6 +167,7 @@ pub fn second_slot_of(insn: &Insn) -> Option<Slot>
 }
 
 /// Writes the slots of an instruction at the end.
+#[inline(always)]
 pub fn push_insn(out: &mut Vec<u8>, insn: &Insn) -> Result<(), AllocError>
     requires { IsInsn insn.now }
     ensures { OnOk result
