@@ -50,9 +50,12 @@ fn call(source: u8) -> Result<Form, DecodeFault>
 fn plain(opcode: u8) -> Result<Form, DecodeFault>
     ensures { result ≡ plain_form opcode }
 {
-    match lone(opcode) {
+    if let Some(form) = lone(opcode) {
+        return Ok(form);
+    }
+    match in_class(opcode) {
         Some(form) => Ok(form),
-        None => in_class(opcode).ok_or(fault_of(opcode)),
+        None => Err(fault_of(opcode)),
     }
 }
 
