@@ -1,9 +1,13 @@
 -- The opcode of a form that is read is the one that it was read from.
-use Rattle.std.proofs.Common.{if◌then◌else◌, ◌≡◌, ℕ, zero, suc, ◌<◌, Bool, true, false, nat_eq, ◌&&◌, List, [], ◌∷◌, Result, Ok, Err, refl, ap, subst, arith, IfOk}
+use Rattle.std.proofs.Common.{if◌then◌else◌, ◌≡◌, ℕ, zero, suc, ◌<◌, Bool, true, false, nat_eq, ◌&&◌, List, [], ◌∷◌, Some, Result, Ok, Err, refl, ap, subst, arith, IfOk}
 use Rattle.std.proofs.lemmas.Bool.{eqb-true, eq-eqb}
 use Rattle.scx_semantics.specs.declared.operations.Width.{Width}
 use Rattle.scx_semantics.specs.declared.operations.Operation.{Operation}
 use Rattle.scx_semantics.specs.declared.operations.Operation.TheVariants.{Add, Subtract, Multiply, Divide, SignedDivide, Or, And, Xor, ShiftLeft, ShiftRight, ShiftRightSigned, Modulo, SignedModulo, Move}
+use Rattle.scx_semantics.specs.declared.registers.Register.{Register}
+use Rattle.scx_semantics.specs.declared.instructions.Operand.{Operand}
+use Rattle.scx_semantics.specs.declared.instructions.Insn.TheVariants as insn
+use Rattle.scx_encoding.specs.Reading.{binary_at}
 use Rattle.scx_encoding.specs.declared.forms.Source.{Source}
 use Rattle.scx_encoding.specs.declared.forms.Form.{Form}
 use Rattle.scx_encoding.specs.declared.forms.Form.TheVariants.{Binary}
@@ -31,6 +35,23 @@ base_has_code Move = refl
 -- signed division has the opcode of the unsigned one
 pub base_has_opcode : (w : Width) (o : Operation) (x : Source) → opcode (Binary w (base o) x) ≡ opcode (Binary w o x)
 base_has_opcode w o x = rw (base_has_code o) refl
+
+-- an operation without an offset is the one of the form
+pub without_offset : (w : Width) (o : Operation) (d : Register) (x : Operand) → binary_at w o d x 0 ≡ Some (insn.Binary w o d x)
+without_offset w Add d x = refl
+without_offset w Subtract d x = refl
+without_offset w Multiply d x = refl
+without_offset w Divide d x = refl
+without_offset w SignedDivide d x = refl
+without_offset w Or d x = refl
+without_offset w And d x = refl
+without_offset w Xor d x = refl
+without_offset w ShiftLeft d x = refl
+without_offset w ShiftRight d x = refl
+without_offset w ShiftRightSigned d x = refl
+without_offset w Modulo d x = refl
+without_offset w SignedModulo d x = refl
+without_offset w Move d x = refl
 
 -- ---- all opcodes
 

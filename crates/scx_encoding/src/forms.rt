@@ -68,8 +68,7 @@ pub(crate) fn kind_of(operand: Operand) -> Source
     }
 }
 
-#[inline(always)]
-pub(crate) fn base_of(operation: Operation) -> Operation
+fn base_of(operation: Operation) -> Operation
     ensures { result ≡ base operation }
 {
     match operation {

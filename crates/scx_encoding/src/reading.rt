@@ -229,7 +229,7 @@ fn build_binary(
 
 /// What the offset chooses; `None` where it isn't listed for the operation.
 #[inline(always)]
-#[tactic(auto, using(crate::proofs::Codes::base_has_opcode))]
+#[tactic(auto, using(crate::proofs::Codes::base_has_opcode, crate::proofs::Codes::without_offset))]
 fn binary(
     width: Width,
     operation: Operation,
@@ -241,12 +241,12 @@ fn binary(
     ensures opcode { IfSome result (λ i. opcode (form i)
         ≡ opcode (Form.Binary width operation (source_of operand))) }
 {
+    if offset == 0 {
+        return Some(Insn::Binary(width, operation, destination, operand));
+    }
     let chosen = match (operation, offset) {
-        (Operation::Divide, 0) => Operation::Divide,
         (Operation::Divide, 1) => Operation::SignedDivide,
-        (Operation::Modulo, 0) => Operation::Modulo,
         (Operation::Modulo, 1) => Operation::SignedModulo,
-        (Operation::Move, 0) => Operation::Move,
         (Operation::Move, _) => return extension(width, destination, operand, offset),
         (Operation::Divide | Operation::Modulo, _) => return None,
         _ => operation,

@@ -5,7 +5,7 @@ ghost use Rattle.scx_semantics.specs.Registers.{number};
 ghost use Rattle.scx_encoding.specs.Opcodes.{opcode};
 ghost use Rattle.scx_encoding.specs.Spelling.{IsInsn, insn_slots, first_slot, second_slot, half, operation_offset, extension_offset, order_bits, operand_register, operand_immediate};
 
-use crate::forms::{Form, Source, base_of, kind_of};
+use crate::forms::{Form, Source, kind_of};
 use crate::opcodes::opcode_of;
 use crate::slots::{Slot, push_slot};
 use scx_semantics::{Extension, Insn, Operand, Operation, Register, SwapWidth};
@@ -13,12 +13,13 @@ use std::alloc::AllocError;
 
 /// The one slot that spells the instruction, or the first half of a wide one.
 #[inline(always)]
+#[tactic(auto, using(crate::proofs::Codes::base_has_opcode))]
 pub fn first_slot_of(insn: &Insn) -> Slot
     ensures { result ≡ first_slot insn.now }
 {
     match *insn {
         Insn::Binary(width, operation, destination, operand) => {
-            let form = Form::Binary(width, base_of(operation), kind_of(operand));
+            let form = Form::Binary(width, operation, kind_of(operand));
             with_operand(form, destination, operand, operation_offset_of(operation))
         }
         Insn::Negate(width, destination) => with_number(Form::Negate(width), destination, 0),
