@@ -1,6 +1,7 @@
 -- Cells of which nothing is known: joins and changes leave those below the lowest that was written.
-use Rattle.std.proofs.Common.{◌≡◌, ℕ, zero, suc, ◌<◌, ◌≤◌, List, [], replicate, slice_index_or, refl, sym, ◌∙◌, arith}
-use Rattle.std.proofs.lemmas.List.{get_or-set_other}
+use Rattle.std.proofs.Common.{◌≡◌, ℕ, zero, suc, ◌<◌, ◌≤◌, List, [], ◌++◌, ◌-◌, length, take, drop, replicate, slice_index_or, refl, sym, ap, ◌∙◌, arith}
+use Rattle.std.proofs.lemmas.List.{get_or-set_other, get_or-take, length-take-le, length-drop, take_all, drop_all, take-append-drop, append-nil, ext_get_or}
+use borrow.Rule.Slice.PartMut.{put_mid, mid_of}
 use Rattle.scx_semantics.specs.declared.callbacks.Callback.{Callback}
 use Rattle.scx_abs.specs.declared.kinds.Cell.{Cell}
 use Rattle.scx_abs.specs.declared.kinds.Cell.TheVariants.{Bytes}
@@ -17,6 +18,23 @@ join_blank x y e f = rw (e, f) refl
 -- below it the cells are their own joins already
 pub blank_joined : (xs ys : List Cell) (low : ℕ) → AreBlank low xs → AreBlank low ys → (k : ℕ) → k < low → slice_index_or xs k (Bytes []) ≡ join_cell (slice_index_or xs k (Bytes [])) (slice_index_or ys k (Bytes []))
 blank_joined xs ys low h g k lt = h k lt ∙ sym (join_blank (slice_index_or xs k (Bytes [])) (slice_index_or ys k (Bytes [])) (h k lt) (g k lt))
+
+-- cells that are copied from one on, below which nothing is known in both
+blanks_copied : (xs ys : List Cell) (low : ℕ) → length xs ≡ length ys → low ≤ length ys → AreBlank low xs → AreBlank low ys → take low xs ++ drop low ys ≡ ys
+blanks_copied xs ys low long within h g =
+    let first : length (take low xs) ≡ low = length-take-le low xs (omega (arith, long, within)) in
+    let second : length (take low ys) ≡ low = length-take-le low ys within in
+    let same : take low xs ≡ take low ys = ext_get_or (Bytes []) (take low xs) (take low ys) (first ∙ sym second) (λ k lt. get_or-take low xs k (Bytes []) (omega (arith, lt, first)) ∙ h k (omega (arith, lt, first)) ∙ sym (g k (omega (arith, lt, first))) ∙ sym (get_or-take low ys k (Bytes []) (omega (arith, lt, first)))) in
+    rw same (take-append-drop low ys)
+
+-- the same after a write to the part of the first from that one on
+pub blanks_put : (xs ys part : List Cell) (low : ℕ) → length xs ≡ 64 → length ys ≡ 64 → low ≤ 64 → AreBlank low xs → AreBlank low ys → part ≡ mid_of low (64 - low) ys → put_mid low (64 - low) xs part ≡ ys
+blanks_put xs ys part low long other within h g e =
+    let none : drop (64 - low) (drop low xs) ≡ [] = drop_all (64 - low) (drop low xs) (omega (arith, length-drop low xs)) in
+    let whole : take (64 - low) (drop low ys) ≡ drop low ys = take_all (64 - low) (drop low ys) (omega (arith, length-drop low ys)) in
+    ap (λ (l : List Cell). take low xs ++ (part ++ l)) none
+    ∙ ap (λ (l : List Cell). take low xs ++ l) (append-nil part ∙ e ∙ whole)
+    ∙ blanks_copied xs ys low (long ∙ sym other) (omega (arith, within, other)) h g
 
 -- a join of cells of which nothing is known
 pub joined_blank : (joined xs ys : List Cell) (low : ℕ) → low ≤ 64 → AreBlank low xs → AreBlank low ys

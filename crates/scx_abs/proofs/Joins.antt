@@ -24,6 +24,17 @@ two_tests m n o p e =
     let parts = and_parts (nat_eq m n) (nat_eq o p) e in
     (eqb-true m n parts.0, eqb-true o p parts.1)
 
+-- a join of a kind with itself
+pub join_itself : (k : Kind) → join_kind k k ≡ k
+join_itself Unusable = refl
+join_itself Num = refl
+join_itself (Stack o) = rw (eq-eqb o o refl) refl
+join_itself (Elem m o) = rw (eq-eqb m m refl, eq-eqb o o refl) refl
+join_itself (ElemOrNull m) = rw (eq-eqb m m refl) refl
+join_itself Task = refl
+join_itself TaskOrNull = refl
+join_itself (MapRef m) = rw (eq-eqb m m refl) refl
+
 -- a join of kinds covers the first
 pub kind_covers_first : (j k : Kind) → CoversKind (join_kind j k) j
 kind_covers_first Num Num = tt

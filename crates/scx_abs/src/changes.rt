@@ -1,5 +1,5 @@
 ghost use Rattle.std.specs.Prelude.{◌≡◌};
-ghost use Rattle.scx_abs.specs.Changes.{changed, next_of, lowest};
+ghost use Rattle.scx_abs.specs.Changes.{changed, next_of};
 
 use crate::kinds::{Cell, Kind};
 use crate::rules::Next;
@@ -29,18 +29,6 @@ pub enum Flow {
     Jump(Change),
     /// To the next instruction, and to the jump's target.
     Both(Change, Change),
-}
-
-impl Change {
-    /// The lowest cell that it writes; the number of cells where it writes none.
-    pub(crate) fn lowest(&self) -> usize
-        ensures { result ≡ lowest self.now }
-    {
-        match *self {
-            Change::Stored(number, _) => usize::from(number),
-            _ => CELLS,
-        }
-    }
 }
 
 impl AbsState {

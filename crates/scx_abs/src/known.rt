@@ -62,7 +62,8 @@ impl Known {
     pub fn copy_from(&mut self, other: &Known)
         ensures { self.new ≡ other.now }
     {
-        self.state = other.state;
+        let low = self.low.min(other.low);
+        self.state.copy_from(&other.state, low);
         self.low = other.low;
     }
 
@@ -70,8 +71,10 @@ impl Known {
     pub fn change(&mut self, change: &Change)
         ensures { self.new ≡ changed self.old change.now }
     {
-        self.low = self.low.min(change.lowest());
         self.state.change(change);
+        if let Change::Stored(number, _) = *change {
+            self.low = self.low.min(usize::from(number));
+        }
     }
 
     /// Joins another state in.

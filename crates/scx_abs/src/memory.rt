@@ -59,6 +59,7 @@ pub(crate) fn store(
 }
 
 /// The memory that an address means, for an access of that size.
+#[inline(always)]
 pub fn area_of(base: Kind, offset: i16, size: Size, defs: &MapDefs) -> Result<Area, Why>
     ensures area { result ≡ area_of defs.now base offset (size_bytes size) }
     ensures aligned { IfOk result (IsAlignedIn (size_bytes size)) }

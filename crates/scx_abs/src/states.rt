@@ -1,4 +1,4 @@
-ghost use Rattle.std.specs.Prelude.{◌≡◌, ◌<◌, ℕ, length, slice_index_or, []};
+ghost use Rattle.std.specs.Prelude.{◌≡◌, ◌<◌, ◌≤◌, ℕ, length, slice_index_or, []};
 ghost use Rattle.scx_semantics.specs.Registers.{number};
 ghost use Rattle.scx_abs.specs.declared.kinds.Kind.TheVariants.{Unusable};
 ghost use Rattle.scx_abs.specs.declared.kinds.Cell.TheVariants.{Bytes};
@@ -39,6 +39,17 @@ impl AbsState {
         ensures { result ≡ cell_at self.now cell }
     {
         self.cells[cell]
+    }
+
+    /// Becomes the other: below that cell nothing is known in both.
+    pub(crate) fn copy_from(&mut self, other: &AbsState, low: usize)
+        requires within { low ≤ CELLS }
+        requires first { IsBlankBelow low self.old }
+        requires second { IsBlankBelow low other.now }
+        ensures { self.new ≡ other.now }
+    {
+        self.registers = other.registers;
+        copy_cells(&mut self.cells, &other.cells, low);
     }
 
     /// Joins another state in: register by register, and cell by cell from that one on, below which
@@ -97,14 +108,21 @@ pub fn join(first: &AbsState, second: &AbsState) -> AbsState
     joined
 }
 
-/// The least kind that covers those of a register in both.
+/// The least kind that covers those of a register in both; mostly both are the same.
+#[tactic(auto, using(crate::proofs::Joins::join_itself))]
 fn joined_kind(first: &[Kind; REGISTERS], second: &[Kind; REGISTERS], register: usize) -> Kind
     requires { register < REGISTERS }
     ensures { result
         ≡ join_kind (slice_index_or first.now register Unusable)
         (slice_index_or second.now register Unusable) }
 {
-    first[register].join(second[register])
+    let kind = first[register];
+    let other = second[register];
+    if kind == other {
+        kind
+    } else {
+        kind.join(other)
+    }
 }
 
 /// Joins others in.
@@ -128,6 +146,16 @@ fn joined_cell(first: &[Cell; CELLS], second: &[Cell; CELLS], cell: usize) -> Ce
         (slice_index_or second.now cell (Bytes [])) }
 {
     first[cell].join(second[cell])
+}
+
+/// Copies others, from that one on, below which nothing is known in both.
+fn copy_cells(cells: &mut [Cell; CELLS], others: &[Cell; CELLS], low: usize)
+    requires within { low ≤ CELLS }
+    requires first { AreBlank low cells.old }
+    requires second { AreBlank low others.now }
+    ensures { cells.new ≡ others.now }
+{
+    cells[low..].copy_from_slice(&others[low..]);
 }
 
 /// Joins others in, from that one on, below which nothing is known in both.

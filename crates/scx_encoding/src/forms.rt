@@ -58,7 +58,8 @@ pub fn form_of_insn(insn: &Insn) -> Form
     }
 }
 
-fn kind_of(operand: Operand) -> Source
+#[inline(always)]
+pub(crate) fn kind_of(operand: Operand) -> Source
     ensures { result ≡ source_of operand }
 {
     match operand {

@@ -50,9 +50,12 @@ fn call(source: u8) -> Result<Form, DecodeFault>
 fn plain(opcode: u8) -> Result<Form, DecodeFault>
     ensures { result ≡ plain_form opcode }
 {
-    match lone(opcode) {
+    if let Some(form) = lone(opcode) {
+        return Ok(form);
+    }
+    match in_class(opcode) {
         Some(form) => Ok(form),
-        None => in_class(opcode).ok_or(fault_of(opcode)),
+        None => Err(fault_of(opcode)),
     }
 }
 
@@ -206,6 +209,7 @@ fn fault_of(opcode: u8) -> DecodeFault
 }
 
 /// The opcode of a form.
+#[inline(always)]
 pub fn opcode_of(form: Form) -> u8
     ensures { result ≡ opcode form }
 {
@@ -265,6 +269,7 @@ fn source_bit_of(source: Source) -> u8
     }
 }
 
+#[inline(always)]
 fn operation_code_of(operation: Operation) -> u8
     ensures { result ≡ operation_code operation }
 {
@@ -284,6 +289,7 @@ fn operation_code_of(operation: Operation) -> u8
     }
 }
 
+#[inline(always)]
 fn comparison_code_of(comparison: Comparison) -> u8
     ensures { result ≡ comparison_code comparison }
 {

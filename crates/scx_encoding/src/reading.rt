@@ -1,8 +1,10 @@
-ghost use Rattle.std.specs.Prelude.{◌≡◌, None};
+ghost use Rattle.std.specs.Prelude.{◌≡◌, None, Ok, IfOk, IfSome};
 ghost use Rattle.std.specs.Int.{w32, cast_signed};
 ghost use Rattle.scx_encoding.specs.Slots.{front_slot};
 ghost use Rattle.scx_semantics.specs.Tables.{coded};
-ghost use Rattle.scx_encoding.specs.Spelling.{extension_offset, order_bits};
+ghost use Rattle.scx_semantics.specs.Arithmetic.{extension_width};
+ghost use Rattle.scx_encoding.specs.Opcodes.{opcode, form, form_of, source_of};
+ghost use Rattle.scx_encoding.specs.Spelling.{extension_offset, order_bits, first_slot};
 ghost use Rattle.scx_encoding.specs.Reading.{register, operand_at, extensions, extension_at, binary_at, order_widths, high_half, built, whole, insn_at, half_at, occupant_at, due_after};
 
 use crate::faults::DecodeFault;
@@ -10,9 +12,12 @@ use crate::forms::{Form, Source};
 use crate::opcodes::form_at;
 use crate::slots::{Slot, first_of};
 use crate::spelling::{first_slot_of, second_slot_of};
-use scx_semantics::{ByteOrder, Extension, Insn, Operand, Operation, Register, SwapWidth, Width};
+use scx_semantics::{
+    ByteOrder, Comparison, Extension, Insn, Operand, Operation, Register, Size, SwapWidth, Width,
+};
 
 /// What stands at a slot: the second half that is due there, or an instruction.
+#[inline(always)]
 pub fn occupant_of(
     due: Option<Slot>,
     slot: &Slot,
@@ -34,12 +39,21 @@ pub fn due_behind(occupant: &Option<Insn>) -> Option<Slot>
 }
 
 /// The instruction that begins at a slot, with the bytes behind it.
+#[inline(always)]
 fn insn_of(slot: &Slot, behind: &[u8]) -> Result<Insn, DecodeFault>
     ensures { result ≡ insn_at slot.now (front_slot behind.now) }
 {
-    let form = form_at(slot.opcode, slot.source)?;
-    let insn = build(form, slot, behind)?;
-    checked(slot, behind, insn)
+    let form = form_of_slot(slot)?;
+    read(form, slot, behind)
+}
+
+/// The form of a slot's opcode.
+#[inline(always)]
+fn form_of_slot(slot: &Slot) -> Result<Form, DecodeFault>
+    ensures form { result ≡ form_of slot.now.opcode slot.now.source }
+    ensures opcode { IfOk result (λ f. slot.now.opcode ≡ opcode f) }
+{
+    form_at(slot.opcode, slot.source)
 }
 
 /// Refuses a slot that isn't the second half that is due.
@@ -53,11 +67,14 @@ fn check_half(slot: &Slot, due: &Slot) -> Result<Option<Insn>, DecodeFault>
     }
 }
 
-/// The instruction, if nothing stands in the slot that it doesn't use and its second half is there.
+/// The instruction, whose opcode the slot has, if nothing stands in the slot that it doesn't use and
+/// its second half is there.
+#[inline(always)]
 fn checked(slot: &Slot, behind: &[u8], insn: Insn) -> Result<Insn, DecodeFault>
+    requires { slot.now.opcode ≡ opcode (form insn) }
     ensures { result ≡ whole slot.now (front_slot behind.now) insn }
 {
-    if *slot != first_slot_of(&insn) {
+    if *slot != spelled(slot.opcode, &insn) {
         return Err(DecodeFault::UnusedField);
     }
     if second_slot_of(&insn).is_some() && first_of(behind).is_none() {
@@ -66,37 +83,61 @@ fn checked(slot: &Slot, behind: &[u8], insn: Insn) -> Result<Insn, DecodeFault>
     Ok(insn)
 }
 
-/// The instruction of a form with a slot's fields.
-fn build(form: Form, slot: &Slot, behind: &[u8]) -> Result<Insn, DecodeFault>
-    ensures { result ≡ built form slot.now (front_slot behind.now) }
+/// The slot that spells the instruction, whose opcode is known.
+#[inline(always)]
+fn spelled(code: u8, insn: &Insn) -> Slot
+    requires { code ≡ opcode (form insn.now) }
+    ensures { result ≡ first_slot insn.now }
+{
+    let slot = first_slot_of(insn);
+    Slot {
+        opcode: code,
+        destination: slot.destination,
+        source: slot.source,
+        offset: slot.offset,
+        immediate: slot.immediate,
+    }
+}
+
+/// The instruction of a form with a slot's fields. Each arm checks its own, which spares a second
+/// look at which instruction it is.
+#[inline(always)]
+fn read(form: Form, slot: &Slot, behind: &[u8]) -> Result<Insn, DecodeFault>
+    requires form { form_of slot.now.opcode slot.now.source ≡ Ok form }
+    requires opcode { slot.now.opcode ≡ opcode form }
+    ensures { result ≡ insn_at slot.now (front_slot behind.now) }
 {
     let number = slot.immediate.cast_signed();
-    let offset = slot.offset.cast_signed();
     match form {
-        Form::Binary(width, operation, source) => build_binary(width, operation, source, slot),
-        Form::Negate(width) => Ok(Insn::Negate(width, first(slot)?)),
-        Form::ByteSwap(order) => build_byte_swap(order, slot),
-        Form::LoadImmediate => Ok(Insn::LoadImmediate(first(slot)?, number, high_of(behind))),
-        Form::LoadMapReference => Ok(Insn::LoadMapReference(first(slot)?, number)),
-        Form::Load(access) => Ok(Insn::Load(access, first(slot)?, second(slot)?, offset)),
-        Form::Store(size, source) => {
-            Ok(Insn::Store(size, first(slot)?, offset, operand(source, slot)?))
+        Form::Binary(width, operation, source) => {
+            checked(slot, behind, build_binary(width, operation, source, slot)?)
         }
+        Form::Negate(width) => checked(slot, behind, Insn::Negate(width, first(slot)?)),
+        Form::ByteSwap(order) => checked(slot, behind, build_byte_swap(order, slot)?),
+        Form::LoadImmediate => {
+            let insn = Insn::LoadImmediate(first(slot)?, number, high_of(behind));
+            checked(slot, behind, insn)
+        }
+        Form::LoadMapReference => {
+            checked(slot, behind, Insn::LoadMapReference(first(slot)?, number))
+        }
+        Form::Load(access) => {
+            let insn = Insn::Load(
+                access,
+                first(slot)?,
+                second(slot)?,
+                slot.offset.cast_signed(),
+            );
+            checked(slot, behind, insn)
+        }
+        Form::Store(size, source) => { checked(slot, behind, build_store(size, source, slot)?) }
         Form::JumpIf(width, comparison, source) => {
-            let register = first(slot)?;
-            let operand = operand(source, slot)?;
-            Ok(Insn::JumpIf {
-                width,
-                comparison,
-                register,
-                operand,
-                distance: offset,
-            })
+            checked(slot, behind, build_jump(width, comparison, source, slot)?)
         }
-        Form::Goto => Ok(Insn::Goto(offset)),
-        Form::GotoLong => Ok(Insn::GotoLong(number)),
-        Form::Call => Ok(Insn::Call(number)),
-        Form::Exit => Ok(Insn::Exit),
+        Form::Goto => checked(slot, behind, Insn::Goto(slot.offset.cast_signed())),
+        Form::GotoLong => checked(slot, behind, Insn::GotoLong(number)),
+        Form::Call => checked(slot, behind, Insn::Call(number)),
+        Form::Exit => checked(slot, behind, Insn::Exit),
     }
 }
 
@@ -110,6 +151,7 @@ fn high_of(behind: &[u8]) -> i32
 }
 
 /// The register in the destination field.
+#[inline(always)]
 fn first(slot: &Slot) -> Result<Register, DecodeFault>
     ensures { result ≡ register slot.now.destination }
 {
@@ -117,14 +159,17 @@ fn first(slot: &Slot) -> Result<Register, DecodeFault>
 }
 
 /// The register in the source field.
+#[inline(always)]
 fn second(slot: &Slot) -> Result<Register, DecodeFault>
     ensures { result ≡ register slot.now.source }
 {
     Register::new(slot.source).ok_or(DecodeFault::BadRegister)
 }
 
+#[inline(always)]
 fn operand(source: Source, slot: &Slot) -> Result<Operand, DecodeFault>
-    ensures { result ≡ operand_at source slot.now }
+    ensures operand { result ≡ operand_at source slot.now }
+    ensures source { IfOk result (λ y. source_of y ≡ source) }
 {
     match source {
         Source::Immediate => Ok(Operand::Immediate(slot.immediate.cast_signed())),
@@ -132,14 +177,50 @@ fn operand(source: Source, slot: &Slot) -> Result<Operand, DecodeFault>
     }
 }
 
+/// A store.
+#[inline(always)]
+fn build_store(size: Size, source: Source, slot: &Slot) -> Result<Insn, DecodeFault>
+    ensures built { result ≡ built (Form.Store size source) slot.now None }
+    ensures form { IfOk result (λ i. form i ≡ Form.Store size source) }
+{
+    let base = first(slot)?;
+    let operand = operand(source, slot)?;
+    Ok(Insn::Store(size, base, slot.offset.cast_signed(), operand))
+}
+
+/// A conditional jump.
+#[inline(always)]
+fn build_jump(
+    width: Width,
+    comparison: Comparison,
+    source: Source,
+    slot: &Slot,
+) -> Result<Insn, DecodeFault>
+    ensures built { result ≡ built (Form.JumpIf width comparison source) slot.now None }
+    ensures form { IfOk result (λ i. form i ≡ Form.JumpIf width comparison source) }
+{
+    let register = first(slot)?;
+    let operand = operand(source, slot)?;
+    Ok(Insn::JumpIf {
+        width,
+        comparison,
+        register,
+        operand,
+        distance: slot.offset.cast_signed(),
+    })
+}
+
 /// Arithmetic, or a sign-extending move.
+#[inline(always)]
 fn build_binary(
     width: Width,
     operation: Operation,
     source: Source,
     slot: &Slot,
 ) -> Result<Insn, DecodeFault>
-    ensures { result ≡ built (Form.Binary width operation source) slot.now None }
+    ensures built { result ≡ built (Form.Binary width operation source) slot.now None }
+    ensures opcode { IfOk result (λ i. opcode (form i)
+        ≡ opcode (Form.Binary width operation source)) }
 {
     let destination = first(slot)?;
     let operand = operand(source, slot)?;
@@ -147,6 +228,8 @@ fn build_binary(
 }
 
 /// What the offset chooses; `None` where it isn't listed for the operation.
+#[inline(always)]
+#[tactic(auto, using(crate::proofs::Codes::base_has_opcode, crate::proofs::Codes::without_offset))]
 fn binary(
     width: Width,
     operation: Operation,
@@ -154,14 +237,16 @@ fn binary(
     operand: Operand,
     offset: u16,
 ) -> Option<Insn>
-    ensures { result ≡ binary_at width operation destination operand offset }
+    ensures chosen { result ≡ binary_at width operation destination operand offset }
+    ensures opcode { IfSome result (λ i. opcode (form i)
+        ≡ opcode (Form.Binary width operation (source_of operand))) }
 {
+    if offset == 0 {
+        return Some(Insn::Binary(width, operation, destination, operand));
+    }
     let chosen = match (operation, offset) {
-        (Operation::Divide, 0) => Operation::Divide,
         (Operation::Divide, 1) => Operation::SignedDivide,
-        (Operation::Modulo, 0) => Operation::Modulo,
         (Operation::Modulo, 1) => Operation::SignedModulo,
-        (Operation::Move, 0) => Operation::Move,
         (Operation::Move, _) => return extension(width, destination, operand, offset),
         (Operation::Divide | Operation::Modulo, _) => return None,
         _ => operation,
@@ -171,7 +256,9 @@ fn binary(
 
 /// The sign-extending move that the offset chooses.
 fn extension(width: Width, destination: Register, operand: Operand, offset: u16) -> Option<Insn>
-    ensures { result ≡ extension_at width destination operand offset }
+    ensures chosen { result ≡ extension_at width destination operand offset }
+    ensures opcode { IfSome result (λ i. opcode (form i)
+        ≡ opcode (Form.Binary width Operation.Move (source_of operand))) }
 {
     let Operand::Register(source) = operand else {
         return None;
@@ -180,7 +267,8 @@ fn extension(width: Width, destination: Register, operand: Operand, offset: u16)
 }
 
 fn extension_of(width: Width, offset: u16) -> Option<Extension>
-    ensures { result ≡ coded extension_offset (extensions width) offset }
+    ensures chosen { result ≡ coded extension_offset (extensions width) offset }
+    ensures width { IfSome result (λ e. extension_width e ≡ width) }
 {
     match (width, offset) {
         (Width::Bits32, 8) => Some(Extension::Low8To32),
@@ -192,8 +280,10 @@ fn extension_of(width: Width, offset: u16) -> Option<Extension>
     }
 }
 
+#[inline(always)]
 fn build_byte_swap(order: ByteOrder, slot: &Slot) -> Result<Insn, DecodeFault>
-    ensures { result ≡ built (Form.ByteSwap order) slot.now None }
+    ensures built { result ≡ built (Form.ByteSwap order) slot.now None }
+    ensures form { IfOk result (λ i. form i ≡ Form.ByteSwap order) }
 {
     let register = first(slot)?;
     let width = order_width_of(slot.immediate).ok_or(DecodeFault::BadWidth)?;

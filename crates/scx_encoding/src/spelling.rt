@@ -1,24 +1,158 @@
 ghost use Rattle.std.specs.Prelude.{◌≡◌, ◌++◌, OnOk};
 ghost use Rattle.std.specs.List.{flat_map};
 ghost use Rattle.scx_encoding.specs.Slots.{slot_bytes};
-ghost use Rattle.scx_encoding.specs.Spelling.{IsInsn, insn_slots, first_slot, second_slot, half, destination_field, source_field, offset_field, immediate_field, operation_offset, extension_offset, order_bits, operand_register, operand_immediate};
+ghost use Rattle.scx_semantics.specs.Registers.{number};
+ghost use Rattle.scx_encoding.specs.Opcodes.{opcode};
+ghost use Rattle.scx_encoding.specs.Spelling.{IsInsn, insn_slots, first_slot, second_slot, half, operation_offset, extension_offset, order_bits, operand_register, operand_immediate};
 
-use crate::forms::form_of_insn;
+use crate::forms::{Form, Source, kind_of};
 use crate::opcodes::opcode_of;
 use crate::slots::{Slot, push_slot};
-use scx_semantics::{Extension, Insn, Operand, Operation, SwapWidth};
+use scx_semantics::{Extension, Insn, Operand, Operation, Register, SwapWidth};
 use std::alloc::AllocError;
 
 /// The one slot that spells the instruction, or the first half of a wide one.
+#[inline(always)]
+#[tactic(auto, using(crate::proofs::Codes::base_has_opcode))]
 pub fn first_slot_of(insn: &Insn) -> Slot
     ensures { result ≡ first_slot insn.now }
 {
+    match *insn {
+        Insn::Binary(width, operation, destination, operand) => {
+            let form = Form::Binary(width, operation, kind_of(operand));
+            with_operand(form, destination, operand, operation_offset_of(operation))
+        }
+        Insn::Negate(width, destination) => with_number(Form::Negate(width), destination, 0),
+        Insn::SignExtend(extension, destination, source) => {
+            let form = Form::Binary(extension.width(), Operation::Move, Source::Register);
+            with_registers(form, destination, source, extension_offset_of(extension))
+        }
+        Insn::ByteSwap(order, width, destination) => {
+            with_number(Form::ByteSwap(order), destination, order_bits_of(width))
+        }
+        Insn::LoadImmediate(destination, low, _) => {
+            with_number(Form::LoadImmediate, destination, low.cast_unsigned())
+        }
+        Insn::LoadMapReference(destination, map) => with_map(destination, map),
+        Insn::Load(access, destination, base, offset) => {
+            with_registers(
+                Form::Load(access),
+                destination,
+                base,
+                offset.cast_unsigned(),
+            )
+        }
+        Insn::Store(size, base, offset, operand) => {
+            let form = Form::Store(size, kind_of(operand));
+            with_operand(form, base, operand, offset.cast_unsigned())
+        }
+        Insn::JumpIf {
+            width,
+            comparison,
+            register,
+            operand,
+            distance,
+        } => {
+            let form = Form::JumpIf(width, comparison, kind_of(operand));
+            with_operand(form, register, operand, distance.cast_unsigned())
+        }
+        Insn::Goto(distance) => bare(Form::Goto, distance.cast_unsigned(), 0),
+        Insn::GotoLong(distance) => bare(Form::GotoLong, 0, distance.cast_unsigned()),
+        Insn::Call(helper) => bare(Form::Call, 0, helper.cast_unsigned()),
+        Insn::Exit => bare(Form::Exit, 0, 0),
+    }
+}
+
+/// The slot of a form with a register and an operand.
+#[inline(always)]
+fn with_operand(form: Form, register: Register, operand: Operand, offset: u16) -> Slot
+    ensures { result ≡ record {
+      opcode = opcode form;
+      destination = number register;
+      source = operand_register operand;
+      offset = offset;
+      immediate = operand_immediate operand;
+    } }
+{
     Slot {
-        opcode: opcode_of(form_of_insn(insn)),
-        destination: destination_of(insn),
-        source: source_field_of(insn),
-        offset: offset_of(insn),
-        immediate: immediate_of(insn),
+        opcode: opcode_of(form),
+        destination: register.number(),
+        source: register_of(operand),
+        offset,
+        immediate: number_of(operand),
+    }
+}
+
+/// The slot of a form with two registers.
+#[inline(always)]
+fn with_registers(form: Form, destination: Register, source: Register, offset: u16) -> Slot
+    ensures { result ≡ record {
+      opcode = opcode form;
+      destination = number destination;
+      source = number source;
+      offset = offset;
+      immediate = 0;
+    } }
+{
+    Slot {
+        opcode: opcode_of(form),
+        destination: destination.number(),
+        source: source.number(),
+        offset,
+        immediate: 0,
+    }
+}
+
+/// The slot of a form with a register and a number.
+#[inline(always)]
+fn with_number(form: Form, destination: Register, immediate: u32) -> Slot
+    ensures { result ≡ record {
+      opcode = opcode form;
+      destination = number destination;
+      source = 0;
+      offset = 0;
+      immediate = immediate;
+    } }
+{
+    Slot {
+        opcode: opcode_of(form),
+        destination: destination.number(),
+        source: 0,
+        offset: 0,
+        immediate,
+    }
+}
+
+/// The first half of a reference to a map.
+fn with_map(destination: Register, map: i32) -> Slot
+    ensures { result ≡ first_slot (Insn.LoadMapReference destination map) }
+{
+    Slot {
+        opcode: opcode_of(Form::LoadMapReference),
+        destination: destination.number(),
+        source: 5,
+        offset: 0,
+        immediate: map.cast_unsigned(),
+    }
+}
+
+/// The slot of a form without a register.
+#[inline(always)]
+fn bare(form: Form, offset: u16, immediate: u32) -> Slot
+    ensures { result ≡ record {
+      opcode = opcode form;
+      destination = 0;
+      source = 0;
+      offset = offset;
+      immediate = immediate;
+    } }
+{
+    Slot {
+        opcode: opcode_of(form),
+        destination: 0,
+        source: 0,
+        offset,
+        immediate,
     }
 }
 
@@ -34,6 +168,7 @@ pub fn second_slot_of(insn: &Insn) -> Option<Slot>
 }
 
 /// Writes the slots of an instruction at the end.
+#[inline(always)]
 pub fn push_insn(out: &mut Vec<u8>, insn: &Insn) -> Result<(), AllocError>
     requires { IsInsn insn.now }
     ensures { OnOk result
@@ -56,69 +191,6 @@ fn half_of(immediate: u32) -> Slot
         source: 0,
         offset: 0,
         immediate,
-    }
-}
-
-fn destination_of(insn: &Insn) -> u8
-    ensures { result ≡ destination_field insn.now }
-{
-    match *insn {
-        Insn::Binary(_, _, register, _)
-        | Insn::Negate(_, register)
-        | Insn::SignExtend(_, register, _)
-        | Insn::ByteSwap(_, _, register)
-        | Insn::LoadImmediate(register, ..)
-        | Insn::LoadMapReference(register, _)
-        | Insn::Load(_, register, ..)
-        | Insn::Store(_, register, ..)
-        | Insn::JumpIf { register, .. } => register.number(),
-        Insn::Goto(_) | Insn::GotoLong(_) | Insn::Call(_) | Insn::Exit => 0,
-    }
-}
-
-fn source_field_of(insn: &Insn) -> u8
-    ensures { result ≡ source_field insn.now }
-{
-    match *insn {
-        Insn::Binary(.., operand) | Insn::Store(.., operand) | Insn::JumpIf { operand, .. } => {
-            register_of(operand)
-        }
-        Insn::SignExtend(_, _, register) | Insn::Load(_, _, register, _) => register.number(),
-        Insn::LoadMapReference(..) => 5,
-        _ => 0,
-    }
-}
-
-fn offset_of(insn: &Insn) -> u16
-    ensures { result ≡ offset_field insn.now }
-{
-    match *insn {
-        Insn::Binary(_, operation, ..) => operation_offset_of(operation),
-        Insn::SignExtend(extension, ..) => extension_offset_of(extension),
-        Insn::Load(_, _, _, offset) => offset.cast_unsigned(),
-        Insn::Store(_, _, offset, _) => offset.cast_unsigned(),
-        Insn::JumpIf {
-            distance: offset,
-            ..
-        } => offset.cast_unsigned(),
-        Insn::Goto(offset) => offset.cast_unsigned(),
-        _ => 0,
-    }
-}
-
-fn immediate_of(insn: &Insn) -> u32
-    ensures { result ≡ immediate_field insn.now }
-{
-    match *insn {
-        Insn::Binary(.., operand) | Insn::Store(.., operand) | Insn::JumpIf { operand, .. } => {
-            number_of(operand)
-        }
-        Insn::ByteSwap(_, width, _) => order_bits_of(width),
-        Insn::LoadImmediate(_, low, _) => low.cast_unsigned(),
-        Insn::LoadMapReference(_, map) => map.cast_unsigned(),
-        Insn::GotoLong(distance) => distance.cast_unsigned(),
-        Insn::Call(helper) => helper.cast_unsigned(),
-        _ => 0,
     }
 }
 

@@ -54,7 +54,7 @@ fn fault_at(program: &Program, slot: usize) -> Option<FlowFault>
     ensures { result ≡ occupant_fault program.now slot (at program.now slot) }
 {
     let insn = program.at(slot)?;
-    let behind = slot + insn.size();
+    let behind = slot + 1;
     match insn {
         // Where its target is in the program, there is an instruction behind it too.
         Insn::JumpIf {
@@ -64,6 +64,7 @@ fn fault_at(program: &Program, slot: usize) -> Option<FlowFault>
         Insn::Goto(offset) => fault_of_jump(program, behind, i32::from(offset)),
         Insn::GotoLong(offset) => fault_of_jump(program, behind, offset),
         Insn::Exit => None,
+        Insn::LoadImmediate(..) | Insn::LoadMapReference(..) => fault_of_end(program, behind + 1),
         _ => fault_of_end(program, behind),
     }
 }
