@@ -84,9 +84,13 @@ fn expect_refused<R: AllocGlobal + Abort>(rt: &R, policy: &str, workload: &str) 
 
 #[test]
 fn files_are_refused_as_by_run(rt: HostRuntime) {
-    expect_refused(&rt, "a =", TWO_TASKS);
-    expect_refused(&rt, "a =", "cpus");
-    expect_refused(&rt, UNSAFE, "cpus = 65");
-    expect_refused(&rt, UNSAFE, TWO_TASKS);
-    expect_refused(&rt, "code.init = \"r0 = 3\\nexit\"", TWO_TASKS);
+    for (policy, workload) in [
+        ("a =", TWO_TASKS),
+        ("a =", "cpus"),
+        (UNSAFE, "cpus = 65"),
+        (UNSAFE, TWO_TASKS),
+        ("code.init = \"r0 = 3\\nexit\"", TWO_TASKS),
+    ] {
+        expect_refused(&rt, policy, workload);
+    }
 }

@@ -58,26 +58,33 @@ fn count(timeline: &Value, kind: &str, name: &str) -> u64 {
 /// The slices of each task add up to what the report says, as in the tests of reports.
 #[test]
 fn slices_are_run_times(rt: HostRuntime) {
-    let turns = read(&rt, SHORT_SLICES, TWO_TASKS);
-    assert_eq!(rt; slices(&turns, "a"), 2000);
-    assert_eq!(rt; slices(&turns, "b"), 2000);
-    let three = read(&rt, SHORT_SLICES, TWO_CPUS);
-    assert_eq!(rt; slices(&three, "a"), 3000);
-    assert_eq!(rt; slices(&three, "b"), 2000);
-    assert_eq!(rt; slices(&three, "c"), 1000);
-    let sleeper = read(&rt, STAYS, SLEEPER);
-    assert_eq!(rt; slices(&sleeper, "a"), 3000);
+    for (policy, workload, name, wanted) in [
+        (SHORT_SLICES, TWO_TASKS, "a", 2000),
+        (SHORT_SLICES, TWO_TASKS, "b", 2000),
+        (SHORT_SLICES, TWO_CPUS, "a", 3000),
+        (SHORT_SLICES, TWO_CPUS, "b", 2000),
+        (SHORT_SLICES, TWO_CPUS, "c", 1000),
+        (STAYS, SLEEPER, "a", 3000),
+        (HOLDS, LONG, "a", 20_000),
+        (HOLDS, LONG, "b", 0),
+    ] {
+        let timeline = read(&rt, policy, workload);
+        assert_eq!(rt; slices(&timeline, name), wanted);
+    }
 }
 
+/// An ejection is an instant, as are wakes and where tasks come to wait.
 #[test]
-fn an_ejection_is_an_instant(rt: HostRuntime) {
+fn events_are_counted(rt: HostRuntime) {
     let held = read(&rt, HOLDS, LONG);
-    assert_eq!(rt; slices(&held, "a"), 20_000);
-    assert_eq!(rt; slices(&held, "b"), 0);
-    assert_eq!(rt; count(&held, "i", "eject stall a"), 1);
-    assert_eq!(rt; count(&held, "i", "a"), 1);
-    assert_eq!(rt; count(&held, "i", "a to held"), 1);
-    assert_eq!(rt; count(&held, "i", "b to builtin"), 1);
-    assert_eq!(rt; count(&held, "C", "held"), 4);
-    assert_eq!(rt; count(&held, "M", "thread_name"), 5);
+    for (kind, name, wanted) in [
+        ("i", "eject stall a", 1),
+        ("i", "a", 1),
+        ("i", "a to held", 1),
+        ("i", "b to builtin", 1),
+        ("C", "held", 4),
+        ("M", "thread_name", 5),
+    ] {
+        assert_eq!(rt; count(&held, kind, name), wanted);
+    }
 }
