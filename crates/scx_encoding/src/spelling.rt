@@ -24,8 +24,7 @@ pub fn first_slot_of(insn: &Insn) -> Slot
         }
         Insn::Negate(width, destination) => with_number(Form::Negate(width), destination, 0),
         Insn::SignExtend(extension, destination, source) => {
-            let form = Form::Binary(extension.width(), Operation::Move, Source::Register);
-            with_registers(form, destination, source, extension_offset_of(extension))
+            with_extension(extension, destination, source)
         }
         Insn::ByteSwap(order, width, destination) => {
             with_number(Form::ByteSwap(order), destination, order_bits_of(width))
@@ -35,12 +34,8 @@ pub fn first_slot_of(insn: &Insn) -> Slot
         }
         Insn::LoadMapReference(destination, map) => with_map(destination, map),
         Insn::Load(access, destination, base, offset) => {
-            with_registers(
-                Form::Load(access),
-                destination,
-                base,
-                offset.cast_unsigned(),
-            )
+            let form = Form::Load(access);
+            with_registers(form, destination, base, offset.cast_unsigned())
         }
         Insn::Store(size, base, offset, operand) => {
             let form = Form::Store(size, kind_of(operand));
@@ -121,6 +116,15 @@ fn with_number(form: Form, destination: Register, immediate: u32) -> Slot
         offset: 0,
         immediate,
     }
+}
+
+/// The slot of a sign-extending move.
+#[inline(always)]
+fn with_extension(extension: Extension, destination: Register, source: Register) -> Slot
+    ensures { result ≡ first_slot (Insn.SignExtend extension destination source) }
+{
+    let form = Form::Binary(extension.width(), Operation::Move, Source::Register);
+    with_registers(form, destination, source, extension_offset_of(extension))
 }
 
 /// The first half of a reference to a map.
