@@ -81,8 +81,9 @@ pub only_calls : RulesAllowCallbacksOnly
 unfolding call_back answered_by
 only_calls s b a t c x r h =
     let w = begun s.world b t c in
-    let e = only_ends (acting s b) b a s.maps w h.ending h.ends in
-    (h.answers ∙ ap (λ (k : Ending WorldState). k.answer) e,
-     h.all ∙ ap (λ y. followed_by s b a w h.ending y) (only_judges (ended s.policy h.ending) h.fault h.ejected h.judged)
-     ∙ ap (λ f. followed_by s b a w h.ending (ejected_for f (ended s.policy h.ending))) (only_fault_of b h.ending h.fault h.wrong)
-     ∙ ap (λ k. followed s b a w k) e)
+    let e = only_ends (acting s b) b a s.maps w h.ending h.ends in (
+      h.answers ∙ ap (λ (k : Ending WorldState). k.answer) e,
+      h.all ∙ ap (λ y. followed_by s b a w h.ending y) (only_judges (ended s.policy h.ending) h.fault h.ejected h.judged)
+          ∙ ap (λ f. followed_by s b a w h.ending (ejected_for f (ended s.policy h.ending))) (only_fault_of b h.ending h.fault h.wrong)
+          ∙ ap (λ k. followed s b a w k) e,
+    )

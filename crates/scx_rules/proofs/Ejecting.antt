@@ -113,13 +113,15 @@ told_is u n b e = ap (λ x. told u n x) (sym e)
 only_over : (n : ℕ) (w : WorldState) (notes : List Note) (v : WorldState) → GoOver w n notes v → (notes ≡ evict_notes n w) × (v ≡ evicted n w)
 only_over zero w notes v (Begins _ _ e k) = (e, k)
 only_over (suc n) w notes v (Waits _ before _ u _ h x e k) =
-    let f = only_over n w before u h in
-    (e ∙ ap (λ ns. ns ++ told u n true) f.0 ∙ ap (λ ns. evict_notes n w ++ ns) (told_is u n true x) ∙ ap (λ y. evict_notes n w ++ evict_note y n) f.1,
-     k ∙ went_is u n true x ∙ ap (λ y. evict y n) f.1)
+    let f = only_over n w before u h in (
+      e ∙ ap (λ ns. ns ++ told u n true) f.0 ∙ ap (λ ns. evict_notes n w ++ ns) (told_is u n true x) ∙ ap (λ y. evict_notes n w ++ evict_note y n) f.1,
+      k ∙ went_is u n true x ∙ ap (λ y. evict y n) f.1,
+    )
 only_over (suc n) w notes v (Passes _ _ _ h x) =
-    let f = only_over n w notes v h in
-    (f.0 ∙ sym (append-nil (evict_notes n w)) ∙ ap (λ ns. evict_notes n w ++ ns) (told_is v n false x) ∙ ap (λ y. evict_notes n w ++ evict_note y n) f.1,
-     went_is v n false x ∙ ap (λ y. evict y n) f.1)
+    let f = only_over n w notes v h in (
+      f.0 ∙ sym (append-nil (evict_notes n w)) ∙ ap (λ ns. evict_notes n w ++ ns) (told_is v n false x) ∙ ap (λ y. evict_notes n w ++ evict_note y n) f.1,
+      went_is v n false x ∙ ap (λ y. evict y n) f.1,
+    )
 
 -- ---- ejections
 
