@@ -50,9 +50,9 @@ fn expect_refusal<R: AllocGlobal + Abort>(
 fn compare<R: AllocGlobal + Abort>(
     rt: &R,
     program: Program,
-    context: Context,
+    context: &Context,
 ) -> Result<bool, Fail> {
-    let listing = Listing::new(rt.alloc(), &program, context)?;
+    let listing = Listing::new(rt.alloc(), &program, *context)?;
     match verify(rt.alloc(), program, context.callback, &context.defs) {
         Ok(_) => {
             assert!(rt; listing.is_looked_at(listing.slots().wrapping_sub(1)));
@@ -63,6 +63,21 @@ fn compare<R: AllocGlobal + Abort>(
             Ok(false)
         }
     }
+}
+
+/// Explains the program of that text, if its flow is accepted. Answers whether it is accepted.
+fn explained<R: AllocGlobal + Abort>(
+    rt: &R,
+    text: &str,
+    context: &Context,
+) -> Result<Option<bool>, Fail> {
+    let program = assemble(rt.alloc(), text).expect(rt, "it is a program");
+    if flow(&program).is_err() {
+        drop(program);
+        return Ok(None);
+    }
+    let accepted = compare(rt, program, context)?;
+    Ok(Some(accepted))
 }
 
 #[test]
@@ -77,13 +92,10 @@ fn listings_end_where_programs_are_refused(rt: HostRuntime) -> Result<(), Fail> 
     let mut refused = 0u32;
     for _ in 0..EXPLAINED {
         let text = random_text(rt.alloc(), &mut random)?;
-        let program = assemble(rt.alloc(), text.as_str()).expect(&rt, "it is a program");
-        if flow(&program).is_ok() {
-            if compare(&rt, program, context)? {
-                accepted = accepted.wrapping_add(1);
-            } else {
-                refused = refused.wrapping_add(1);
-            }
+        match explained(&rt, text.as_str(), &context)? {
+            Some(true) => accepted = accepted.wrapping_add(1),
+            Some(false) => refused = refused.wrapping_add(1),
+            None => (),
         }
     }
     // Of both kinds there are many.
