@@ -9,6 +9,10 @@ use Rattle.scx_semantics.specs.declared.values.Value.TheVariants as value
 use Rattle.scx_semantics.specs.declared.values.Pointer.TheVariants as pointer
 use Rattle.scx_semantics.specs.declared.host_tables.Field.{Field}
 use Rattle.scx_semantics.specs.declared.host_tables.TaskId.{TaskId}
+use denote.Enum.Bare.{sameb}
+use Rattle.scx_semantics.specs.contracts.registers.Register.{the_type}
+use Rattle.scx_semantics.specs.declared.registers.Register.{Register}
+use Rattle.scx_semantics.specs.declared.registers.Register.TheVariants.{R10}
 use Rattle.scx_semantics.specs.Registers.{number}
 use Rattle.scx_semantics.specs.Elements.{Maps}
 use Rattle.scx_semantics.specs.Machine.{Machine, put, with_register}
@@ -33,6 +37,12 @@ use Rattle.scx_abs.specs.Laws.{IsSoundFor}
 use Rattle.scx_abs.proofs.Lists.{set_each}
 
 -- ---- registers that are written
+
+-- r10 is refused, whatever kind it would get
+pub frame_refused : (a : AbsState) (r : Register) (k : Result Kind Why) → true ≡ sameb the_type r R10 → Err WritesFrame ≡ sets a (number r) k
+frame_refused a R10 (Ok k) e = refl
+frame_refused a R10 (Err why) e = refl
+frame_refused a r k e = absurd (cc)
 
 -- what a rule gives for a register against the value that is put there
 abbrev pub Gives : Maps → Result Kind Why → Option Value → Type 0

@@ -14,7 +14,8 @@ use Rattle.scx_abs.specs.declared.rules.Next.{Next}
 use Rattle.scx_abs.specs.Cells.{no_bytes}
 use Rattle.scx_abs.specs.States.{with_kind, with_cell}
 use Rattle.scx_abs.specs.Calls.{after_call}
-use Rattle.scx_abs.specs.Checks.{flows}
+use Rattle.scx_abs.specs.Checks.{flows, goes_on}
+use Rattle.scx_abs.specs.declared.memory.Accessed.{Accessed}
 
 abbrev pub changed : AbsState → Change → AbsState
 changed a change.Nothing = a
@@ -33,6 +34,16 @@ next_of a (Both c d) = flows (Some (changed a c)) (Some (changed a d))
 abbrev pub flowed : AbsState → Result Flow Why → Result Next Why
 flowed a (Ok f) = Ok (next_of a f)
 flowed a (Err why) = Err why
+
+-- where control goes on to the next instruction alone
+abbrev pub went_on : AbsState → Result Change Why → Result Next Why
+went_on a (Ok c) = goes_on (changed a c)
+went_on a (Err why) = Err why
+
+-- the same of an access
+abbrev pub accessed_on : AbsState → Result Accessed Why → Result Next Why
+accessed_on a (Ok x) = goes_on (changed a x.change)
+accessed_on a (Err why) = Err why
 
 -- ---- how much of the stack is known of
 

@@ -32,7 +32,8 @@ pub(crate) fn operand_kind(state: &AbsState, operand: Operand) -> Result<Kind, W
 }
 
 /// The kind of what is made of one number.
-pub(crate) fn number_kind(kind: Kind) -> Result<Kind, Why>
+#[inline(always)]
+pub fn number_kind(kind: Kind) -> Result<Kind, Why>
     ensures { result ≡ number_kind kind }
 {
     match kind {
@@ -43,7 +44,8 @@ pub(crate) fn number_kind(kind: Kind) -> Result<Kind, Why>
 }
 
 /// The kind that an operation leaves in its destination.
-pub(crate) fn binary_kind(
+#[inline(always)]
+pub fn binary_kind(
     state: &AbsState,
     width: Width,
     operation: Operation,
@@ -121,7 +123,7 @@ fn moved_by(kind: Kind, distance: Option<i64>, defs: &MapDefs) -> Result<Kind, W
 }
 
 /// The kind of a reference to the map of that number.
-pub(crate) fn map_kind(map: i32, defs: &MapDefs) -> Result<Kind, Why>
+pub fn map_kind(map: i32, defs: &MapDefs) -> Result<Kind, Why>
     ensures { result ≡ map_kind defs.now map }
 {
     match usize::try_from(map) {

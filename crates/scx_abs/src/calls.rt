@@ -1,10 +1,10 @@
 ghost use Rattle.std.specs.Prelude.{◌≡◌, ◌+◌, ◌≤◌, drop};
 ghost use Rattle.scx_semantics.specs.HostTables.{parameters, helper_at};
-ghost use Rattle.scx_abs.specs.Changes.{flowed};
+ghost use Rattle.scx_abs.specs.Changes.{went_on};
 ghost use Rattle.scx_abs.specs.Calls.{key_in, key_check, task_check, map_check, number_check, takes, argument_check, arguments_check, element_of, answer_kind, call_allowed, call_rule};
 ghost use Rattle.scx_abs.specs.States.{kind_at};
 
-use crate::changes::{Change, Flow};
+use crate::changes::Change;
 use crate::faults::Why;
 use crate::kinds::{CELL_BYTES, Cell, Kind, all_written};
 use crate::offsets::{element_size, offset_for};
@@ -13,10 +13,10 @@ use scx_isa::{Helper, Parameter, Register, STACK_SIZE, Size};
 use scx_maps::MapDefs;
 use scx_safety::Context;
 
-/// What flows on from a call: the helper is there, then it may be called here, then each argument is
+/// What a call changes: the helper is there, then it may be called here, then each argument is
 /// what it takes.
-pub(crate) fn call(state: &AbsState, number: i32, context: &Context) -> Result<Flow, Why>
-    ensures { flowed state.now result
+pub fn called(state: &AbsState, number: i32, context: &Context) -> Result<Change, Why>
+    ensures { went_on state.now result
         ≡ call_rule context.now.defs context.now.callback (helper_at number) state.now }
 {
     let Some(helper) = Helper::new(number) else {
@@ -28,13 +28,13 @@ pub(crate) fn call(state: &AbsState, number: i32, context: &Context) -> Result<F
     call_allowed(state, helper, &context.defs)
 }
 
-/// What flows on from the call of a helper that may be called.
-fn call_allowed(state: &AbsState, helper: Helper, defs: &MapDefs) -> Result<Flow, Why>
-    ensures { flowed state.now result ≡ call_allowed defs.now helper state.now }
+/// What the call of a helper changes that may be called.
+fn call_allowed(state: &AbsState, helper: Helper, defs: &MapDefs) -> Result<Change, Why>
+    ensures { went_on state.now result ≡ call_allowed defs.now helper state.now }
 {
     check_arguments(state, helper, 0, defs)?;
     let answer = answer_kind(helper, state.kind(Register::R1));
-    Ok(Flow::On(Change::Called(answer)))
+    Ok(Change::Called(answer))
 }
 
 /// Checks the arguments of a helper from that one on, counted from 0.

@@ -36,6 +36,7 @@ impl AbsState {
     ghost use Rattle.scx_abs.specs.Calls.{after_call};
 
     /// Changes the state in place.
+    #[inline(always)]
     pub(crate) fn change(&mut self, change: &Change)
         ensures { self.new ≡ changed self.old change.now }
     {

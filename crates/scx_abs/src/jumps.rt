@@ -11,7 +11,7 @@ use crate::states::AbsState;
 use scx_isa::{Comparison, Operand, Register, Width};
 
 /// What flows on from a conditional jump.
-pub(crate) fn jump(
+pub fn flow_of_jump(
     state: &AbsState,
     width: Width,
     comparison: Comparison,

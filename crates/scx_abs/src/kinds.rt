@@ -106,7 +106,7 @@ fn common(first: [bool; CELL_BYTES], second: [bool; CELL_BYTES]) -> [bool; CELL_
 {
     let mut common = [false; CELL_BYTES];
     for byte in 0..CELL_BYTES {
-        common[byte] = first[byte] && second[byte];
+        common[byte] = first[byte] & second[byte];
     }
     common
 }

@@ -68,6 +68,7 @@ impl Known {
     }
 
     /// Changes the state in place.
+    #[inline(always)]
     pub fn change(&mut self, change: &Change)
         ensures { self.new ≡ changed self.old change.now }
     {

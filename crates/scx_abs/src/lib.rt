@@ -21,16 +21,19 @@ mod offsets;
 mod rules;
 mod states;
 
+pub use arithmetic::{binary_kind, map_kind, number_kind};
+pub use calls::called;
 pub use changes::{Change, Flow};
 pub use faults::Why;
+pub use jumps::flow_of_jump;
 pub use kinds::{CELL_BYTES, Cell, Kind};
 pub use known::Known;
 pub use laws::{
     calls_and_null_tests_are_sound, joins_are_least, plain_rules_are_sound, rules_are_monotone,
     rules_are_sound, states_are_proper,
 };
-pub use memory::{Area, area_of};
-pub use rules::{Next, flow_of, transfer};
+pub use memory::{Accessed, Area, area_of, loaded, stored};
+pub use rules::{Next, assigned, end, transfer};
 pub use scx_isa::REGISTERS;
 pub use scx_safety::Context;
 pub use states::{AbsState, CELLS, join, start};

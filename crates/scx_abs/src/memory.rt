@@ -1,12 +1,14 @@
-ghost use Rattle.std.specs.Prelude.{◌≡◌, ◌+◌, ◌≤◌, IfOk};
+ghost use Rattle.std.specs.Prelude.{◌≡◌, ◌+◌, ◌≤◌, Ok, IfOk};
 ghost use Rattle.scx_semantics.specs.Registers.{number};
 ghost use Rattle.scx_semantics.specs.Memory.{size_bytes, access_size};
 ghost use Rattle.scx_abs.specs.Areas.{IsAlignedIn};
-ghost use Rattle.scx_abs.specs.Changes.{flowed};
+ghost use Rattle.scx_abs.specs.Changes.{accessed_on, went_on};
+ghost use Rattle.scx_abs.specs.Checks.{sets};
+ghost use Rattle.scx_abs.specs.States.{kind_at};
 ghost use Rattle.scx_abs.specs.Rules.{area_of, field_area, loaded_kind, kind_in, load_kind, stored_cell, number_stored, stored_in, store_rule};
 
 use crate::arithmetic::{operand_kind, usable};
-use crate::changes::{Change, Flow};
+use crate::changes::Change;
 use crate::faults::Why;
 use crate::kinds::{CELL_BYTES, Cell, Kind, all_written, marked};
 use crate::offsets::{element_size, offset_for};
@@ -26,36 +28,59 @@ pub enum Area {
     InTask(Field),
 }
 
-/// The kind that a load gives.
-pub(crate) fn load_kind(
+/// What an access that passes its checks does.
+#[derive(Clone, Copy)]
+pub struct Accessed {
+    /// The memory that it takes.
+    pub area: Area,
+    pub change: Change,
+}
+
+/// What a load does. That r10 is written goes before what is wrong with the access.
+#[inline(always)]
+pub fn loaded(
     state: &AbsState,
     access: Access,
+    destination: Register,
     base: Register,
     offset: i16,
     defs: &MapDefs,
-) -> Result<Kind, Why>
-    ensures { result ≡ load_kind defs.now state.now access base offset }
+) -> Result<Accessed, Why>
+    ensures change { accessed_on state.now result
+        ≡ sets state.now (number destination) (load_kind defs.now state.now access base offset) }
+    ensures area { IfOk result (λ accessed. area_of defs.now (kind_at state.now (number base)) offset
+        (size_bytes (access_size access)) ≡ Ok accessed.area) }
 {
+    if destination == Register::R10 {
+        return Err(Why::WritesFrame);
+    }
     let base = usable(state.kind(base))?;
     let area = area_of(base, offset, access.size(), defs)?;
-    kind_in(state, access, area)
+    let kind = kind_in(state, access, area)?;
+    let change = Change::Register(destination, kind);
+    Ok(Accessed { area, change })
 }
 
-/// What flows on from a store. The registers are checked first, then the address, then what is stored.
-pub(crate) fn store(
+/// What a store does. The registers are checked first, then the address, then what is stored.
+#[inline(always)]
+pub fn stored(
     state: &AbsState,
     size: Size,
     base: Register,
     offset: i16,
     operand: Operand,
     defs: &MapDefs,
-) -> Result<Flow, Why>
-    ensures { flowed state.now result ≡ store_rule defs.now state.now size base offset operand }
+) -> Result<Accessed, Why>
+    ensures change { accessed_on state.now result
+        ≡ store_rule defs.now state.now size base offset operand }
+    ensures area { IfOk result (λ accessed. area_of defs.now (kind_at state.now (number base)) offset
+        (size_bytes size) ≡ Ok accessed.area) }
 {
     let base = usable(state.kind(base))?;
     let kind = operand_kind(state, operand)?;
     let area = area_of(base, offset, size, defs)?;
-    stored_in(state, size, kind, area)
+    let change = stored_in(state, size, kind, area)?;
+    Ok(Accessed { area, change })
 }
 
 /// The memory that an address means, for an access of that size.
@@ -93,6 +118,7 @@ fn field_area(field: Option<Field>) -> Result<Area, Why>
 }
 
 /// The kind that a load from there gives.
+#[inline(always)]
 #[tactic(auto, using(crate::proofs::Bytes::fits_cell))]
 fn kind_in(state: &AbsState, access: Access, area: Area) -> Result<Kind, Why>
     requires { IsAlignedIn (size_bytes (access_size access)) area }
@@ -109,17 +135,18 @@ fn kind_in(state: &AbsState, access: Access, area: Area) -> Result<Kind, Why>
     }
 }
 
-/// What flows on from a store there.
+/// What a store there changes.
+#[inline(always)]
 #[tactic(auto, using(crate::proofs::Bytes::fits_cell))]
-fn stored_in(state: &AbsState, size: Size, kind: Kind, area: Area) -> Result<Flow, Why>
+fn stored_in(state: &AbsState, size: Size, kind: Kind, area: Area) -> Result<Change, Why>
     requires { IsAlignedIn (size_bytes size) area }
-    ensures { flowed state.now result ≡ stored_in state.now size kind area }
+    ensures { went_on state.now result ≡ stored_in state.now size kind area }
 {
     match area {
         Area::OnStack(at) => {
             let at = usize::from(at);
             let cell = stored_cell(state.cell(at / CELL_BYTES), size, at % CELL_BYTES, kind)?;
-            Ok(Flow::On(Change::Stored((at / CELL_BYTES) as u8, cell)))
+            Ok(Change::Stored((at / CELL_BYTES) as u8, cell))
         }
         Area::InElement => number_stored(state, kind),
         Area::InTask(field) if field.is_writable() => number_stored(state, kind),
@@ -127,12 +154,12 @@ fn stored_in(state: &AbsState, size: Size, kind: Kind, area: Area) -> Result<Flo
     }
 }
 
-/// What flows on from a store that takes numbers alone.
-fn number_stored(state: &AbsState, kind: Kind) -> Result<Flow, Why>
-    ensures { flowed state.now result ≡ number_stored state.now kind }
+/// What a store changes that takes numbers alone.
+fn number_stored(state: &AbsState, kind: Kind) -> Result<Change, Why>
+    ensures { went_on state.now result ≡ number_stored state.now kind }
 {
     match kind {
-        Kind::Num => Ok(Flow::On(Change::Nothing)),
+        Kind::Num => Ok(Change::Nothing),
         _ => Err(Why::PointerStore),
     }
 }
@@ -156,6 +183,7 @@ fn loaded_kind(cell: Cell, access: Access, byte: usize) -> Result<Kind, Why>
 }
 
 /// The cell after a store which begins at that byte of it.
+#[inline(always)]
 fn stored_cell(cell: Cell, size: Size, byte: usize, kind: Kind) -> Result<Cell, Why>
     requires { byte + size_bytes size ≤ CELL_BYTES }
     ensures { result ≡ stored_cell cell size byte kind }

@@ -1,16 +1,16 @@
 ghost use Rattle.std.specs.Prelude.{◌≡◌};
 ghost use Rattle.scx_semantics.specs.Registers.{number};
-ghost use Rattle.scx_abs.specs.Changes.{flowed};
+ghost use Rattle.scx_abs.specs.Changes.{accessed_on, flowed, went_on};
 ghost use Rattle.scx_abs.specs.Checks.{sets};
 ghost use Rattle.scx_abs.specs.Rules.{rule};
 
 use crate::arithmetic::{binary_kind, map_kind, number_kind};
-use crate::calls::call;
+use crate::calls::called;
 use crate::changes::{Change, Flow, next_of};
 use crate::faults::Why;
-use crate::jumps::jump;
+use crate::jumps::flow_of_jump;
 use crate::kinds::Kind;
-use crate::memory::{load_kind, store};
+use crate::memory::{Accessed, loaded, stored};
 use crate::states::AbsState;
 use scx_isa::{Insn, Register};
 use scx_safety::Context;
@@ -35,37 +35,35 @@ pub fn transfer(state: &AbsState, insn: &Insn, context: &Context) -> Result<Next
 }
 
 /// The same as what changes of the state.
-pub fn flow_of(state: &AbsState, insn: &Insn, context: &Context) -> Result<Flow, Why>
+fn flow_of(state: &AbsState, insn: &Insn, context: &Context) -> Result<Flow, Why>
     ensures { flowed state.now result
         ≡ rule context.now.defs context.now.callback insn.now state.now }
 {
+    let defs = &context.defs;
     match *insn {
         Insn::Binary(width, operation, destination, operand) => {
-            sets(
-                state,
-                destination,
-                binary_kind(state, width, operation, destination, operand, &context.defs),
-            )
+            let kind = binary_kind(state, width, operation, destination, operand, defs);
+            on(state, assigned(state, destination, kind))
         }
         Insn::Negate(_, destination) | Insn::ByteSwap(_, _, destination) => {
-            sets(state, destination, number_kind(state.kind(destination)))
+            let kind = number_kind(state.kind(destination));
+            on(state, assigned(state, destination, kind))
         }
         Insn::SignExtend(_, destination, source) => {
-            sets(state, destination, number_kind(state.kind(source)))
+            let kind = number_kind(state.kind(source));
+            on(state, assigned(state, destination, kind))
         }
-        Insn::LoadImmediate(destination, ..) => sets(state, destination, Ok(Kind::Num)),
+        Insn::LoadImmediate(destination, ..) => {
+            on(state, assigned(state, destination, Ok(Kind::Num)))
+        }
         Insn::LoadMapReference(destination, map) => {
-            sets(state, destination, map_kind(map, &context.defs))
+            on(state, assigned(state, destination, map_kind(map, defs)))
         }
         Insn::Load(access, destination, base, offset) => {
-            sets(
-                state,
-                destination,
-                load_kind(state, access, base, offset, &context.defs),
-            )
+            on_access(state, loaded(state, access, destination, base, offset, defs))
         }
         Insn::Store(size, base, offset, operand) => {
-            store(state, size, base, offset, operand, &context.defs)
+            on_access(state, stored(state, size, base, offset, operand, defs))
         }
         Insn::JumpIf {
             width,
@@ -73,26 +71,45 @@ pub fn flow_of(state: &AbsState, insn: &Insn, context: &Context) -> Result<Flow,
             register,
             operand,
             ..
-        } => { jump(state, width, comparison, register, operand) }
+        } => { flow_of_jump(state, width, comparison, register, operand) }
         Insn::Goto(_) | Insn::GotoLong(_) => Ok(Flow::Jump(Change::Nothing)),
-        Insn::Call(number) => call(state, number, context),
+        Insn::Call(number) => on(state, called(state, number, context)),
         Insn::Exit => end(state, context),
     }
 }
 
-/// What flows on where the register gets a kind. That r10 is written goes before what is wrong with
+/// What changes where the register gets a kind. That r10 is written goes before what is wrong with
 /// the kind.
-fn sets(state: &AbsState, register: Register, kind: Result<Kind, Why>) -> Result<Flow, Why>
-    ensures { flowed state.now result ≡ sets state.now (number register) kind }
+#[inline(always)]
+pub fn assigned(
+    state: &AbsState,
+    register: Register,
+    kind: Result<Kind, Why>,
+) -> Result<Change, Why>
+    ensures { went_on state.now result ≡ sets state.now (number register) kind }
 {
     if register == Register::R10 {
         return Err(Why::WritesFrame);
     }
-    Ok(Flow::On(Change::Register(register, kind?)))
+    Ok(Change::Register(register, kind?))
+}
+
+/// What flows on where control goes on to the next instruction alone.
+fn on(state: &AbsState, change: Result<Change, Why>) -> Result<Flow, Why>
+    ensures { flowed state.now result ≡ went_on state.now change }
+{
+    Ok(Flow::On(change?))
+}
+
+/// The same of an access.
+fn on_access(state: &AbsState, accessed: Result<Accessed, Why>) -> Result<Flow, Why>
+    ensures { flowed state.now result ≡ accessed_on state.now accessed }
+{
+    Ok(Flow::On(accessed?.change))
 }
 
 /// The end of the program, at which the callbacks that answer a number have one in r0.
-fn end(state: &AbsState, context: &Context) -> Result<Flow, Why>
+pub fn end(state: &AbsState, context: &Context) -> Result<Flow, Why>
     ensures { flowed state.now result
         ≡ rule context.now.defs context.now.callback Insn.Exit state.now }
 {
