@@ -1,8 +1,7 @@
 -- One pass over the slots in order, as far as it has come: the states that it finds are the least that
 -- cover all that flows there from the slots that it has visited. It holds one in place, and those that
 -- jumps sent further ahead.
-use Rattle.std.specs.Prelude.{ℕ, ◌+◌, ◌<◌, ◌≤◌, ◌≡◌, ◌⊎◌, List, [], length, map, set, slice_index_or, Option, Some, None, option_map, Ok, Err, Box, if◌then◌else◌}
-use Rattle.std.specs.declared.alloc.Global.{Global}
+use Rattle.std.specs.Prelude.{ℕ, ◌+◌, ◌<◌, ◌≤◌, ◌≡◌, ◌⊎◌, List, [], length, map, set, slice_index_or, Option, Some, None, Ok, Err, if◌then◌else◌}
 use Rattle.scx_semantics.specs.declared.instructions.Insn.{Insn}
 use Rattle.scx_semantics.specs.Code.{at}
 use Rattle.scx_plain.specs.Packed.{unpacked}
@@ -43,10 +42,6 @@ IsGiven states t (Some a) after = (x : AbsState) × IsMerged (states_of states t
 
 -- ---- what the pass holds
 
--- what is kept for a slot ahead
-abbrev pub kept_at : List (Option (Box AbsState Global)) → ℕ → Option AbsState
-kept_at ahead t = option_map (λ (kept : Box AbsState Global). kept.value) (slice_index_or ahead t None)
-
 -- the state at the slot, if control comes there
 abbrev pub is_here : Walk → Option AbsState
 is_here walk = if walk.live then Some walk.state else None
@@ -59,8 +54,8 @@ IsAdded o (Some a) after = (x : AbsState) × IsMerged o a x × (after ≡ Some x
 -- before the first slot
 pub record IsFirst (slots : ℕ) (a : AbsState) (walk : Walk) : Type 0 where
   pub here : is_here walk ≡ Some a
-  pub ahead : (t : ℕ) → kept_at walk.ahead.items t ≡ None
-  pub long : length walk.ahead.items ≡ slots + 1
+  pub ahead : (t : ℕ) → states_of walk.ahead t ≡ None
+  pub long : length walk.ahead ≡ slots + 1
   pub ops : walk.ops.items ≡ []
 
 -- An instruction begins at the slot, or the program ends. The state there and those that are kept ahead
@@ -71,16 +66,16 @@ pub record IsWalked (c : Context) (code : Code) (n : ℕ) (walk : Walk) : Type 0
   pub within : n ≤ length code
   pub begins : at code n ≡ None → length code ≤ n
   pub here : states_of states n ≡ is_here walk
-  pub ahead : (t : ℕ) → n < t → states_of states t ≡ kept_at walk.ahead.items t
-  pub long : length walk.ahead.items ≡ length code + 1
+  pub ahead : (t : ℕ) → n < t → states_of states t ≡ states_of walk.ahead t
+  pub long : length walk.ahead ≡ length code + 1
   pub built : IsBuilt c code (states_of states) n (map unpacked walk.ops.items)
 
 -- what flows on is there, and what a jump sends is kept
 pub record IsSent (next : Next) (to : ℕ) (before after : Walk) : Type 0 where
   pub on : is_here after ≡ next.on
-  pub jump : IsAdded (kept_at before.ahead.items to) next.jump (kept_at after.ahead.items to)
-  pub apart : (t : ℕ) → (t ≡ to → ⊥) → kept_at after.ahead.items t ≡ kept_at before.ahead.items t
-  pub long : length after.ahead.items ≡ length before.ahead.items
+  pub jump : IsAdded (states_of before.ahead to) next.jump (states_of after.ahead to)
+  pub apart : (t : ℕ) → (t ≡ to → ⊥) → states_of after.ahead t ≡ states_of before.ahead t
+  pub long : length after.ahead ≡ length before.ahead
   pub ops : after.ops ≡ before.ops
 
 -- an instruction was done in the state, if there is one

@@ -5,6 +5,7 @@
 //! where a check fails. What it accepts is a `Verified`, which no run can get stuck in.
 #![tactic(auto)]
 
+mod ahead;
 mod faults;
 mod laws;
 mod pass;
