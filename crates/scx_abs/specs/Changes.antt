@@ -45,6 +45,11 @@ abbrev pub accessed_on : AbsState → Result Accessed Why → Result Next Why
 accessed_on a (Ok x) = goes_on (changed a x.change)
 accessed_on a (Err why) = Err why
 
+-- where the program ends
+abbrev pub ended_on : Result (Unit {0}) Why → Result Next Why
+ended_on (Ok u) = Ok (flows None None)
+ended_on (Err why) = Err why
+
 -- ---- how much of the stack is known of
 
 -- of the cells below that one nothing is known

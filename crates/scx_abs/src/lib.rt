@@ -33,7 +33,7 @@ pub use laws::{
     rules_are_sound, states_are_proper,
 };
 pub use memory::{Accessed, Area, area_of, loaded, stored};
-pub use rules::{Next, assigned, end, transfer};
+pub use rules::{Next, assigned, ended, transfer};
 pub use scx_isa::REGISTERS;
 pub use scx_safety::Context;
 pub use states::{AbsState, CELLS, join, start};

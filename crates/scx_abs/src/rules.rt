@@ -1,6 +1,6 @@
 ghost use Rattle.std.specs.Prelude.{◌≡◌};
 ghost use Rattle.scx_semantics.specs.Registers.{number};
-ghost use Rattle.scx_abs.specs.Changes.{accessed_on, flowed, went_on};
+ghost use Rattle.scx_abs.specs.Changes.{accessed_on, ended_on, flowed, went_on};
 ghost use Rattle.scx_abs.specs.Checks.{sets};
 ghost use Rattle.scx_abs.specs.Rules.{rule};
 
@@ -60,7 +60,10 @@ fn flow_of(state: &AbsState, insn: &Insn, context: &Context) -> Result<Flow, Why
             on(state, assigned(state, destination, map_kind(map, defs)))
         }
         Insn::Load(access, destination, base, offset) => {
-            on_access(state, loaded(state, access, destination, base, offset, defs))
+            on_access(
+                state,
+                loaded(state, access, destination, base, offset, defs),
+            )
         }
         Insn::Store(size, base, offset, operand) => {
             on_access(state, stored(state, size, base, offset, operand, defs))
@@ -108,13 +111,21 @@ fn on_access(state: &AbsState, accessed: Result<Accessed, Why>) -> Result<Flow, 
     Ok(Flow::On(accessed?.change))
 }
 
-/// The end of the program, at which the callbacks that answer a number have one in r0.
-pub fn end(state: &AbsState, context: &Context) -> Result<Flow, Why>
-    ensures { flowed state.now result
-        ≡ rule context.now.defs context.now.callback Insn.Exit state.now }
+/// Checks the end of the program, at which the callbacks that answer a number have one in r0.
+pub fn ended(state: &AbsState, context: &Context) -> Result<(), Why>
+    ensures { ended_on result ≡ rule context.now.defs context.now.callback Insn.Exit state.now }
 {
     if context.callback.answers() && state.kind(Register::R0) != Kind::Num {
         return Err(Why::BadReturn);
     }
+    Ok(())
+}
+
+/// What flows on from the end, which is nothing.
+fn end(state: &AbsState, context: &Context) -> Result<Flow, Why>
+    ensures { flowed state.now result
+        ≡ rule context.now.defs context.now.callback Insn.Exit state.now }
+{
+    ended(state, context)?;
     Ok(Flow::End)
 }

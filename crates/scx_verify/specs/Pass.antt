@@ -1,7 +1,7 @@
 -- One pass over the slots in order, as far as it has come: the states that it finds are the least that
 -- cover all that flows there from the slots that it has visited. It holds one in place, and those that
 -- jumps sent further ahead.
-use Rattle.std.specs.Prelude.{ℕ, ◌+◌, ◌<◌, ◌≤◌, ◌≡◌, ◌⊎◌, List, [], length, map, set, slice_index_or, Option, Some, None, Ok, Err, if◌then◌else◌}
+use Rattle.std.specs.Prelude.{ℕ, ◌+◌, ◌<◌, ◌≤◌, ◌≡◌, ◌⊎◌, List, [], length, map, set, slice_index, slice_index_or, Option, Some, None, Result, Ok, Err, if◌then◌else◌}
 use Rattle.scx_semantics.specs.declared.instructions.Insn.{Insn}
 use Rattle.scx_semantics.specs.Code.{at}
 use Rattle.scx_plain.specs.Packed.{unpacked}
@@ -11,7 +11,9 @@ use Rattle.scx_abs.specs.Rules.{rule}
 use Rattle.scx_verify.specs.declared.faults.Fault.TheVariants.{Rule, NoMemory}
 use Rattle.scx_verify.specs.declared.faults.VerifyError.{VerifyError}
 use Rattle.scx_verify.specs.declared.pass.Walk.{Walk}
-use Rattle.scx_verify.specs.Operations.{IsBuilt}
+use Rattle.scx_isa.specs.Flow.{Flows}
+use Rattle.scx_isa.specs.Spelling.{IsProgram}
+use Rattle.scx_verify.specs.Operations.{position, IsBuilt}
 use Rattle.scx_safety.specs.declared.context.Context.{Context}
 use Rattle.scx_semantics.specs.Code.{Code}
 use Rattle.scx_abs.specs.declared.states.AbsState.{AbsState}
@@ -39,6 +41,17 @@ IsMerged (Some b) a x = IsLeastCover CoversState x b a × (IsProper b → IsProp
 abbrev pub IsGiven : List (Option AbsState) → ℕ → Option AbsState → List (Option AbsState) → Type 0
 IsGiven states t None after = after ≡ states
 IsGiven states t (Some a) after = (x : AbsState) × IsMerged (states_of states t) a x × (after ≡ set states t (Some x))
+
+-- ---- where the pass is
+
+-- An instruction begins at the slot, in a program whose control goes forward, and these are the positions
+-- of its slots and of its end.
+pub record IsPlace (code : Code) (positions : List ℕ) (s : ℕ) (i : Insn) : Type 0 where
+  pub flows : Flows code
+  pub program : IsProgram code
+  pub there : at code s ≡ Some i
+  pub long : length positions ≡ length code + 1
+  pub positions : (t : ℕ) → t ≤ length code → slice_index positions t ≡ position code t
 
 -- ---- what the pass holds
 
@@ -78,13 +91,22 @@ pub record IsSent (next : Next) (to : ℕ) (before after : Walk) : Type 0 where
   pub long : length after.ahead ≡ length before.ahead
   pub ops : after.ops ≡ before.ops
 
+-- what flows on, as the rule says, is there
+abbrev pub IsFollowed : Result Next Why → ℕ → Walk → Walk → Type 0
+IsFollowed r to before after = (next : Next) × (r ≡ Ok next) × IsSent next to before after
+
 -- an instruction was done in the state, if there is one
 abbrev pub IsStep : Context → Insn → ℕ → Option AbsState → Walk → Walk → Type 0
 IsStep c i to None before after = after ≡ before
-IsStep c i to (Some a) before after = (next : Next) × (rule c.defs c.callback i a ≡ Ok next) × IsSent next to before after
+IsStep c i to (Some a) before after = IsFollowed (rule c.defs c.callback i a) to before after
 
--- a check of it failed, or memory ran out
-abbrev pub IsStopped : Context → Insn → ℕ → Option AbsState → VerifyError → Type 0
-IsStopped c i slot o error =
+-- a check failed, or memory ran out
+abbrev pub IsStopped : Result Next Why → ℕ → VerifyError → Type 0
+IsStopped r slot error =
     (error ≡ record { fault = NoMemory; slot = 0 })
-    ⊎ ((a : AbsState) × (why : Why) × (o ≡ Some a) × (rule c.defs c.callback i a ≡ Err why) × (error ≡ record { fault = Rule why; slot = slot }))
+    ⊎ ((why : Why) × (r ≡ Err why) × (error ≡ record { fault = Rule why; slot = slot }))
+
+-- the same of an instruction in the state, if there is one
+abbrev pub IsStoppedAt : Context → Insn → ℕ → Option AbsState → VerifyError → Type 0
+IsStoppedAt c i slot None error = ⊥
+IsStoppedAt c i slot (Some a) error = IsStopped (rule c.defs c.callback i a) slot error
