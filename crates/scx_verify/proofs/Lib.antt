@@ -9,5 +9,6 @@ pub mod Positions
 mod Pushes
 mod Building
 mod Walks
+mod Indices
 pub mod Following
 pub mod Underway
