@@ -46,12 +46,12 @@ IsGiven states t (Some a) after = (x : AbsState) × IsMerged (states_of states t
 
 -- An instruction begins at the slot, in a program whose control goes forward, and these are the positions
 -- of its slots and of its end.
-pub record IsPlace (code : Code) (positions : List ℕ) (s : ℕ) (i : Insn) : Type 0 where
+pub record IsPlace (code : Code) (ps : List ℕ) (s : ℕ) (i : Insn) : Type 0 where
   pub flows : Flows code
   pub program : IsProgram code
   pub there : at code s ≡ Some i
-  pub long : length positions ≡ length code + 1
-  pub positions : (t : ℕ) → t ≤ length code → slice_index positions t ≡ position code t
+  pub long : length ps ≡ length code + 1
+  pub positions : (t : ℕ) → t ≤ length code → slice_index ps t ≡ position code t
 
 -- ---- what the pass holds
 
