@@ -11,6 +11,7 @@ use crate::states::AbsState;
 use scx_isa::{Comparison, Operand, Register, Width};
 
 /// What flows on from a conditional jump.
+#[inline(always)]
 pub fn flow_of_jump(
     state: &AbsState,
     width: Width,
@@ -32,6 +33,7 @@ pub fn flow_of_jump(
 }
 
 /// Whether a comparison is a test for 0, and whether it jumps where it finds 0.
+#[inline(always)]
 fn null_test(width: Width, comparison: Comparison, operand: Operand) -> Option<bool>
     ensures { result ≡ null_test width comparison operand }
 {
@@ -44,6 +46,7 @@ fn null_test(width: Width, comparison: Comparison, operand: Operand) -> Option<b
 
 /// What flows on from a comparison of these kinds: two numbers are followed both ways, and a pointer
 /// is only tested for 0.
+#[inline(always)]
 fn compared(
     state: &AbsState,
     register: Register,
@@ -61,6 +64,7 @@ fn compared(
 }
 
 /// What flows on from a test for 0 of a pointer of that kind.
+#[inline(always)]
 fn tested(state: &AbsState, register: Register, kind: Kind, test: Option<bool>) -> Result<Flow, Why>
     ensures { flowed state.now result ≡ tested state.now (number register) kind test }
 {
@@ -77,6 +81,7 @@ fn tested(state: &AbsState, register: Register, kind: Kind, test: Option<bool>) 
 
 /// What changes where a register of that kind was found to be 0, which a pointer that isn't null never
 /// is.
+#[inline(always)]
 fn if_null(state: &AbsState, register: Register, kind: Kind) -> Option<Change>
     ensures { option_map (changed state.now) result ≡ if_null state.now (number register) kind }
 {
@@ -87,6 +92,7 @@ fn if_null(state: &AbsState, register: Register, kind: Kind) -> Option<Change>
 }
 
 /// What changes where it was found not to be.
+#[inline(always)]
 fn if_not_null(state: &AbsState, register: Register, kind: Kind) -> Change
     ensures { changed state.now result ≡ if_not_null state.now (number register) kind }
 {

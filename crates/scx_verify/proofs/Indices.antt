@@ -1,11 +1,11 @@
 -- States that are kept by their indices: what is known of each slot once one is kept, joined or let go.
-use Rattle.std.proofs.Common.{◌≡◌, ℕ, zero, suc, ◌+◌, ◌<◌, ◌≤◌, ◌⊎◌, inl, inr, Bool, true, false, if◌then◌else◌, List, [], ◌∷◌, ◌++◌, All, length, map, set, replicate, slice_get, slice_index_or, Option, Some, None, refl, sym, ap, ◌∙◌, subst, arith}
+use Rattle.std.proofs.Common.{◌≡◌, ℕ, zero, suc, ◌<◌, ◌≤◌, ◌⊎◌, inl, inr, Bool, true, false, if◌then◌else◌, List, [], ◌∷◌, ◌++◌, length, set, replicate, slice_get, slice_index_or, Option, Some, None, refl, sym, ap, ◌∙◌, subst, arith}
 use Rattle.std.proofs.lemmas.Bool.{cases_eq}
 use Rattle.std.proofs.lemmas.List.{get_or-set_same, get_or-set_other, length-set, length-map, length-append}
 use Rattle.std.proofs.lemmas.Option.{slice_get_within, slice_get-get_or}
 use Rattle.scx_abs.specs.declared.states.AbsState.{AbsState}
 use Rattle.scx_verify.specs.Indices.{index_at, state_of, known_of, IsApart, IsKept}
-use Rattle.scx_verify.specs.Pass.{states_of, IsMerged, IsAdded}
+use Rattle.scx_verify.specs.Pass.{states_of}
 
 -- ---- lists
 
@@ -64,10 +64,13 @@ within indices states now slot view lt =
     omega (arith, lt, long, same)
 
 -- as it was read
-pub index_read : (indices : List (Option ℕ)) (t : ℕ) (o d : Option ℕ) → t < length indices → o ≡ slice_index_or indices t d → index_at indices t ≡ o
+index_read : (indices : List (Option ℕ)) (t : ℕ) (o d : Option ℕ) → t < length indices → o ≡ slice_index_or indices t d → index_at indices t ≡ o
 index_read [] t o d lt e = absurd (omega arith)
 index_read (x ∷ xs) zero o d lt e = sym e
 index_read (x ∷ xs) (suc t) o d lt e = index_read xs t o d (omega arith) e
+
+pub read_there : (indices : List (Option ℕ)) (states : List AbsState) (now : List (Option AbsState)) (slot : ℕ) (o d : Option ℕ) → known_of indices states ≡ now → slot < length now → o ≡ slice_index_or indices slot d → index_at indices slot ≡ o
+read_there indices states now slot o d view lt e = index_read indices slot o d (within indices states now slot view lt) e
 
 -- nothing is known at first
 none_at : (n t : ℕ) (o : Option ℕ) → o ≡ None → index_at (replicate n o) t ≡ None
@@ -247,6 +250,13 @@ module _ (indices : List (Option ℕ)) (slot : ℕ) (states : List AbsState) (fr
       known_at (set indices slot (Some i)) after t ∙ ap (λ o. state_of after o) (get_or-set_other indices slot t (Some i) None n) ∙ kept_same k t (index_at indices t) refl ∙ sym (known_at indices states t) ∙ ap (λ l. states_of l t) view
 
 -- ---- a state is joined in, or let go
+
+-- a slot with an index has a state
+pub found : (indices : List (Option ℕ)) (states : List AbsState) (free : List ℕ) (now : List (Option AbsState)) (slot i : ℕ) (o d : Option ℕ) → IsApart indices free (length states) → known_of indices states ≡ now → slot < length now
+    → o ≡ slice_index_or indices slot d → o ≡ Some i → (index_at indices slot ≡ Some i) × (i < length states)
+found indices states free now slot i o d h view lt read is =
+    let there : index_at indices slot ≡ Some i = read_there indices states now slot o d view lt read ∙ is in
+    (there, h.within slot i there)
 
 -- nothing is known of a slot without index
 pub none_there : (indices : List (Option ℕ)) (states : List AbsState) (now : List (Option AbsState)) (slot : ℕ) → known_of indices states ≡ now → index_at indices slot ≡ None → states_of now slot ≡ None

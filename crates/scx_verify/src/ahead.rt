@@ -167,7 +167,7 @@ fn write_over(kept: &mut Known, state: &Known, change: &Change)
     kept.change(change);
 }
 
-/// Keeps a state, changed, behind the others; the result is its index.
+/// Keeps a state, changed, behind the others, of which there may be 65535; the result is its index.
 fn add(states: &mut Vec<Known>, state: &Known, change: &Change) -> Result<u16, AllocError>
     ensures index { IfOk result (λ index. index ≡ length states.old.items) }
     ensures added { OnOk result
