@@ -1,4 +1,4 @@
-ghost use Rattle.std.specs.Prelude.{◌≡◌, ◌<◌, ◌≤◌, ℕ, length, slice_index_or, []};
+ghost use Rattle.std.specs.Prelude.{◌≡◌, ◌<◌, ◌≤◌, ℕ, length, set, slice_index_or, []};
 ghost use Rattle.scx_semantics.specs.Registers.{number};
 ghost use Rattle.scx_abs.specs.declared.kinds.Kind.TheVariants.{Unusable};
 ghost use Rattle.scx_abs.specs.declared.kinds.Cell.TheVariants.{Bytes};
@@ -108,20 +108,18 @@ pub fn join(first: &AbsState, second: &AbsState) -> AbsState
     joined
 }
 
-/// The least kind that covers those of a register in both; mostly both are the same.
-#[tactic(auto, using(crate::proofs::Joins::join_itself))]
-fn joined_kind(first: &[Kind; REGISTERS], second: &[Kind; REGISTERS], register: usize) -> Kind
+/// Joins the other's kind of a register in. Most registers have none, or the same in both.
+#[inline(always)]
+fn join_register(registers: &mut [Kind; REGISTERS], others: &[Kind; REGISTERS], register: usize)
     requires { register < REGISTERS }
-    ensures { result
-        ≡ join_kind (slice_index_or first.now register Unusable)
-        (slice_index_or second.now register Unusable) }
+    ensures { registers.new
+        ≡ set registers.old register (join_kind (slice_index_or registers.old register Unusable)
+        (slice_index_or others.now register Unusable)) }
 {
-    let kind = first[register];
-    let other = second[register];
-    if kind == other {
-        kind
-    } else {
-        kind.join(other)
+    let kind = registers[register];
+    let other = others[register];
+    if kind != Kind::Unusable && kind != other {
+        registers[register] = kind.join(other);
     }
 }
 
@@ -134,7 +132,7 @@ fn join_registers(registers: &mut [Kind; REGISTERS], others: &[Kind; REGISTERS])
         (slice_index_or others.now r Unusable) }
 {
     for register in 0..REGISTERS {
-        registers[register] = joined_kind(registers, others, register);
+        join_register(registers, others, register);
     }
 }
 

@@ -54,5 +54,15 @@ pub fn push_slot(out: &mut Vec<u8>, slot: &Slot) -> Result<(), AllocError>
     bytes[1] = slot.destination + 16 * slot.source;
     LittleEndian::write_u16(&mut bytes[2..], slot.offset);
     LittleEndian::write_u32(&mut bytes[4..], slot.immediate);
-    out.extend_from_slice(&bytes)
+    out.reserve(SLOT_BYTES)?;
+    // One by one, which takes less than `extend_from_slice`: that moves the vector out and back.
+    out.push_reserved(bytes[0]);
+    out.push_reserved(bytes[1]);
+    out.push_reserved(bytes[2]);
+    out.push_reserved(bytes[3]);
+    out.push_reserved(bytes[4]);
+    out.push_reserved(bytes[5]);
+    out.push_reserved(bytes[6]);
+    out.push_reserved(bytes[7]);
+    Ok(())
 }

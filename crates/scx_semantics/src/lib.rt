@@ -1,4 +1,4 @@
-//! What BPF programs mean, as RFC 9669 defines it: the types of registers, instructions and values,
+//! What BPF programs mean, after RFC 9669: the types of registers, instructions and values,
 //! and, as definitions in `specs/`, what an instruction does to registers, stack and maps, steps
 //! and runs of a program, and what a host may answer.
 //!

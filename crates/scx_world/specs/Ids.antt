@@ -8,7 +8,7 @@ policy_end = 0x8000_0000_0000_0000
 abbrev pub global : ℕ
 global = 0x8000_0000_0000_0001
 
--- a name for the local queue of the processor at hand, and no queue
+-- a name for a local queue, and no queue: of the processor that select_cpu answers, else of the one at hand
 abbrev pub local : ℕ
 local = 0x8000_0000_0000_0002
 

@@ -62,7 +62,7 @@ entered w t i = if nat_lt t (length w.tasks) then with_queues (with_task w t (gi
 
 -- ---- inserts
 
--- LOCAL is the local queue of the processor at hand
+-- LOCAL is the local queue of that processor
 abbrev pub resolved : ℕ → ℕ → ℕ
 resolved c q = if q == local then local_on c else q
 

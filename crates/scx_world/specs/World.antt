@@ -19,7 +19,7 @@ pub record WorldState : Type 0 where
   pub cycling : Option ℕ  -- the processor on which a scheduling cycle is under way
   pub queues : QueueState
   pub tree : Hierarchy
-  pub call : Call  -- the callback at hand
+  pub call : Call  -- the callback at hand, or the last one
   pub builtin_clock : ℕ  -- the virtual time of the built-in scheduler
   pub ejected : Option Eject  -- why and when the policy was put out of force, if it was
   pub notes : List Note  -- what it noted

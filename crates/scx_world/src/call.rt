@@ -68,7 +68,7 @@ pub struct Call {
     pub callback: Callback,
     /// The task at hand.
     pub task: u16,
-    /// The processor whose local queue LOCAL means.
+    /// The processor at hand, whose local queue LOCAL means, but in select_cpu.
     pub cpu: u32,
     pub insert: Option<Insert>,
     /// Whether it moved a task to a local queue, or inserted one that was held.

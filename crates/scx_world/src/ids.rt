@@ -5,7 +5,8 @@ pub const POLICY_END: u64 = 0x8000_0000_0000_0000;
 /// The queue of all processors.
 pub const GLOBAL: u64 = 0x8000_0000_0000_0001;
 
-/// No queue, but a name for the local queue of the processor at hand.
+/// No queue, but a name for a local queue: in select_cpu that of the processor which it answers,
+/// elsewhere that of the processor at hand.
 pub const LOCAL: u64 = 0x8000_0000_0000_0002;
 
 /// The machine's own queue of the tasks that a policy took and put nowhere. A policy can't name it.

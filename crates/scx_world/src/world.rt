@@ -314,7 +314,7 @@ impl World {
         }
     }
 
-    /// The processor whose local queue LOCAL means.
+    /// The processor of the callback at hand.
     pub fn cpu_at_hand(&self) -> u32
         ensures { result ≡ self.now.call.cpu }
     {
