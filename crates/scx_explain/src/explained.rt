@@ -4,7 +4,7 @@ ghost use Rattle.scx_policies.specs.Policies.{program_of, without};
 ghost use Rattle.scx_safety.specs.Programs.{context};
 ghost use Rattle.scx_explanations.specs.Listings.{IsListing};
 ghost use Rattle.scx_verdicts.specs.Verdicts.{IsVerdict, IsVerdictOf, HasVerdicts};
-ghost use Rattle.scx_explain.specs.Explained.{IsExplained, verdict_of, verdicts_of};
+ghost use Rattle.scx_explain.specs.Explained.{IsExplained};
 
 use scx_explanations::{Explanation, Jumps, Listing, explanation_of};
 use scx_isa::{Callback, Program};
@@ -13,7 +13,7 @@ use scx_outcomes::Refusal;
 use scx_policies::PolicyText;
 use scx_safety::Context;
 use scx_verdicts::{Verdict, Verdicts, judge};
-use std::alloc::Global;
+use std::alloc::{AllocError, Global};
 
 /// A program, the verdict on it, and why it is refused, if it is.
 #[derive(Drop)]
@@ -24,83 +24,75 @@ pub(crate) struct Explained {
     pub(crate) explanation: Option<Explanation>,
 }
 
-/// The programs of a policy, each explained: none where there is no program.
+/// The verdicts on the programs of a policy, and the programs in the order of its callbacks, each
+/// explained.
 #[derive(Drop)]
 pub(crate) struct ExplainedPolicy {
-    pub(crate) init: Option<Explained>,
-    pub(crate) enable: Option<Explained>,
-    pub(crate) select_cpu: Option<Explained>,
-    pub(crate) enqueue: Option<Explained>,
-    pub(crate) dispatch: Option<Explained>,
-    pub(crate) running: Option<Explained>,
-    pub(crate) stopping: Option<Explained>,
+    pub(crate) verdicts: Verdicts,
+    pub(crate) programs: Vec<Explained>,
 }
 
-impl ExplainedPolicy {
-    pub(crate) fn verdicts(&self) -> Verdicts
-        ensures { result ≡ verdicts_of self.now }
-    {
-        Verdicts {
-            init: verdict_of(&self.init),
-            enable: verdict_of(&self.enable),
-            select_cpu: verdict_of(&self.select_cpu),
-            enqueue: verdict_of(&self.enqueue),
-            dispatch: verdict_of(&self.dispatch),
-            running: verdict_of(&self.running),
-            stopping: verdict_of(&self.stopping),
-        }
-    }
-}
-
-fn verdict_of(explained: &Option<Explained>) -> Option<Verdict>
-    ensures { result ≡ verdict_of explained.now }
-{
-    match explained {
-        Some(explained) => Some(explained.verdict),
-        None => None,
-    }
-}
-
-/// Explains the programs of a policy, in the order of its callbacks.
+/// Explains the programs of a policy.
 ///
 /// # Errors
 ///
 /// Memory ran out.
 pub(crate) fn explain_policy(alloc: Global, policy: PolicyText) -> Result<ExplainedPolicy, Refusal>
-    ensures verdicts { IfOk result (λ explained. HasVerdicts policy (verdicts_of explained)) }
+    ensures verdicts { IfOk result (λ explained. HasVerdicts policy explained.verdicts) }
     ensures memory { IfErr result (λ refusal. refusal ≡ NoMemory) }
 {
     let mut policy = policy;
-    Ok(ExplainedPolicy {
-        init: explain_callback(alloc, &mut policy, Callback::Init)?,
-        enable: explain_callback(alloc, &mut policy, Callback::Enable)?,
-        select_cpu: explain_callback(alloc, &mut policy, Callback::SelectCpu)?,
-        enqueue: explain_callback(alloc, &mut policy, Callback::Enqueue)?,
-        dispatch: explain_callback(alloc, &mut policy, Callback::Dispatch)?,
-        running: explain_callback(alloc, &mut policy, Callback::Running)?,
-        stopping: explain_callback(alloc, &mut policy, Callback::Stopping)?,
+    let mut programs = Vec::new(alloc);
+    let verdicts = explain_programs(alloc, &mut policy, &mut programs)?;
+    Ok(ExplainedPolicy { verdicts, programs })
+}
+
+/// Takes the programs of a policy out, and explains them. The answer is the verdicts on them.
+fn explain_programs(
+    alloc: Global,
+    policy: &mut PolicyText,
+    programs: &mut Vec<Explained>,
+) -> Result<Verdicts, Refusal>
+    ensures verdicts { IfOk result (HasVerdicts policy.old) }
+    ensures memory { IfErr result (λ refusal. refusal ≡ NoMemory) }
+{
+    Ok(Verdicts {
+        init: explain_callback(alloc, policy, Callback::Init, programs)?,
+        enable: explain_callback(alloc, policy, Callback::Enable, programs)?,
+        select_cpu: explain_callback(alloc, policy, Callback::SelectCpu, programs)?,
+        enqueue: explain_callback(alloc, policy, Callback::Enqueue, programs)?,
+        dispatch: explain_callback(alloc, policy, Callback::Dispatch, programs)?,
+        running: explain_callback(alloc, policy, Callback::Running, programs)?,
+        stopping: explain_callback(alloc, policy, Callback::Stopping, programs)?,
     })
 }
 
-/// Takes the program of a callback out, if there is one, and explains it.
+/// Takes the program of a callback out, if there is one, and explains it. The answer is the verdict on it.
 fn explain_callback(
     alloc: Global,
     policy: &mut PolicyText,
     callback: Callback,
-) -> Result<Option<Explained>, Refusal>
+    programs: &mut Vec<Explained>,
+) -> Result<Option<Verdict>, Refusal>
     ensures verdict { IfOk result
-        (λ explained. IsVerdictOf policy.old.shapes callback (program_of policy.old callback)
-        (verdict_of explained)) }
+        (IsVerdictOf policy.old.shapes callback (program_of policy.old callback)) }
     ensures memory { IfErr result (λ refusal. refusal ≡ NoMemory) }
     ensures rest { policy.new ≡ without policy.old callback }
 {
     match policy.take(callback) {
         Some(program) => {
             let defs = *policy.defs();
-            Ok(Some(explain_program(alloc, program, callback, &defs)?))
+            let explained = explain_program(alloc, program, callback, &defs)?;
+            let verdict = explained.verdict;
+            keep(programs, explained)?;
+            Ok(Some(verdict))
         }
         None => Ok(None),
     }
+}
+
+fn keep(programs: &mut Vec<Explained>, explained: Explained) -> Result<(), AllocError> {
+    Ok(programs.push(explained)?)
 }
 
 /// Explains a program.
@@ -122,8 +114,22 @@ fn explain_program(
         defs: *defs,
     };
     let listing = Listing::new(alloc, &program, context)?;
-    let jumps = Jumps::new(alloc, &listing)?;
     let verdict = judge(alloc, program, callback, defs)?;
+    explain_verdict(alloc, listing, verdict)
+}
+
+/// Explains the verdict on a program that is listed.
+fn explain_verdict(
+    alloc: Global,
+    listing: Listing,
+    verdict: Verdict,
+) -> Result<Explained, Refusal>
+    ensures verdict { IfOk result (λ explained. explained.verdict ≡ verdict) }
+    ensures listing { IfOk result (λ explained. explained.listing ≡ listing) }
+    ensures explanation { IfOk result IsExplained }
+    ensures memory { IfErr result (λ refusal. refusal ≡ NoMemory) }
+{
+    let jumps = Jumps::new(alloc, &listing)?;
     let explanation = match verdict {
         Verdict::Accepted(_) => None,
         Verdict::Refused(fault, slot) => explanation_of(alloc, &listing, fault, slot)?,

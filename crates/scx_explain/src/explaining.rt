@@ -5,9 +5,8 @@ ghost use Rattle.scx_outcomes.specs.Text.{IsText};
 ghost use Rattle.scx_verdicts.specs.declared.verdict.Verdicts.{Verdicts};
 ghost use Rattle.scx_verdicts.specs.Verdicts.{are_accepted};
 ghost use Rattle.scx_verdicts.specs.Check.{AreVerdicts, IsCheckCause};
-ghost use Rattle.scx_explain.specs.Explained.{verdicts_of};
 
-use crate::explained::{ExplainedPolicy, explain_policy};
+use crate::explained::{Explained, ExplainedPolicy, explain_policy};
 use crate::lines::write_callback;
 use crate::page::Page;
 use scx_outcomes::{Fault, Refusal, text};
@@ -35,17 +34,14 @@ pub fn explain<W: Out>(alloc: Global, bytes: &[u8], out: &mut W) -> Result<bool,
 {
     let text = text(bytes)?;
     let policy = explained_in(alloc, text)?;
-    match write_policy(&policy, out) {
-        Ok(()) => Ok(policy.verdicts().are_accepted()),
-        Err(_) => Err(Fault::WriteFailed),
-    }
+    write_explained(&policy, out)
 }
 
 /// Explains the programs of a policy file. All memory is taken here, so that none runs out once a line
 /// is written.
 fn explained_in(alloc: Global, text: &str) -> Result<ExplainedPolicy, Refusal>
     requires { IsText text.now }
-    ensures verdicts { IfOk result (λ policy. AreVerdicts text.now (verdicts_of policy)) }
+    ensures verdicts { IfOk result (λ policy. AreVerdicts text.now policy.verdicts) }
     ensures refused { IfErr result (IsCheckCause text.now) }
 {
     match read_policy(alloc, text) {
@@ -54,25 +50,25 @@ fn explained_in(alloc: Global, text: &str) -> Result<ExplainedPolicy, Refusal>
     }
 }
 
-/// Writes the callbacks in their order, with an empty line between two.
-fn write_policy<W: Out>(policy: &ExplainedPolicy, out: &mut W) -> fmt::Result {
+/// Writes the programs, and answers whether all are safe.
+fn write_explained<W: Out>(policy: &ExplainedPolicy, out: &mut W) -> Result<bool, Fault>
+    ensures done { IfOk result (λ answer. answer ≡ are_accepted policy.now.verdicts) }
+    ensures failed { IfErr result (λ fault. fault ≡ Fault.WriteFailed) }
+{
+    match write_programs(policy.programs.as_slice(), out) {
+        Ok(()) => Ok(policy.verdicts.are_accepted()),
+        Err(_) => Err(Fault::WriteFailed),
+    }
+}
+
+/// Writes the programs in their order, with an empty line between two.
+fn write_programs<W: Out>(programs: &[Explained], out: &mut W) -> fmt::Result {
     let mut page = Page::new(out);
-    let callbacks = [
-        &policy.init,
-        &policy.enable,
-        &policy.select_cpu,
-        &policy.enqueue,
-        &policy.dispatch,
-        &policy.running,
-        &policy.stopping,
-    ];
     let mut between = "";
-    for callback in callbacks {
-        if let Some(explained) = callback {
-            page.write_str(between)?;
-            write_callback(&mut page, explained)?;
-            between = "\n";
-        }
+    for explained in programs {
+        page.write_str(between)?;
+        write_callback(&mut page, explained)?;
+        between = "\n";
     }
     Ok(())
 }

@@ -22,6 +22,10 @@ struct ReasonText(Reason);
 #[derive(Clone, Copy)]
 struct OriginText(Origin);
 
+/// What a way brought, in a sentence.
+#[derive(Clone, Copy)]
+struct BroughtText(Brought);
+
 /// Writes why a program is refused, and how control came there.
 pub(crate) fn write_explanation<W: Out>(
     page: &mut Page<'_, W>,
@@ -100,14 +104,14 @@ fn write_flow<W: fmt::Write>(f: &mut fmt::Formatter<W>, flow: BadFlow) -> fmt::R
             )
         }
         BadFlow::IntoWide(to) => write!(f, "{to} is the second slot of an instruction"),
-        BadFlow::FallsOff => write!(f, "control would go on behind the last instruction"),
+        BadFlow::FallsOff => f.write_str("control would go on behind the last instruction"),
     }
 }
 
 fn write_value<W: fmt::Write>(f: &mut fmt::Formatter<W>, value: BadValue) -> fmt::Result {
     match value {
         BadValue::Unusable(register) => write!(f, "{} is unusable here", Name(register)),
-        BadValue::Frame => write!(f, "r10 is never written"),
+        BadValue::Frame => f.write_str("r10 is never written"),
         BadValue::MayBeNull(register) => write!(f, "{} may be 0 here", Name(register)),
         BadValue::Arithmetic(register, kind) => write_held(f, register, kind),
         BadValue::Comparison(register, kind) => write_held(f, register, kind),
@@ -149,7 +153,7 @@ fn write_access<W: fmt::Write>(f: &mut fmt::Formatter<W>, access: BadAccess) -> 
         }
         BadAccess::NoPointer(register, kind) => {
             write_held(f, register, kind)?;
-            write!(f, ", no pointer to memory")
+            f.write_str(", no pointer to memory")
         }
         BadAccess::Outside(reach) => write_outside(f, reach),
         BadAccess::MovedOut {
@@ -262,9 +266,9 @@ fn write_misaligned<W: fmt::Write>(f: &mut fmt::Formatter<W>, reach: Reach) -> f
 impl fmt::Display for OriginText {
     fn fmt<W: fmt::Write>(&self, f: &mut fmt::Formatter<W>) -> fmt::Result {
         match self.0 {
-            Origin::Nowhere => write!(f, "nothing on the way here writes it"),
-            Origin::Argument => write!(f, "it is an argument"),
-            Origin::Frame => write!(f, "it comes from r10"),
+            Origin::Nowhere => f.write_str("nothing on the way here writes it"),
+            Origin::Argument => f.write_str("it is an argument"),
+            Origin::Frame => f.write_str("it comes from r10"),
             Origin::Written(slot) => write!(f, "it was written at {slot}"),
             Origin::Answered { number, slot } => write!(f, "it comes from call {number} at {slot}"),
             Origin::Lost { number, slot } => {
@@ -276,13 +280,18 @@ impl fmt::Display for OriginText {
                 first,
                 second,
             } => {
-                let Brought { from, kind } = first;
-                let first = Spoken(kind);
-                write!(f, "at {slot} ways meet that bring {first} from {from}")?;
-                let Brought { from, kind } = second;
-                let second = Spoken(kind);
-                write!(f, " and {second} from {from}")
+                let first = BroughtText(first);
+                let second = BroughtText(second);
+                write!(f, "at {slot} ways meet that bring {first} and {second}")
             }
         }
+    }
+}
+
+impl fmt::Display for BroughtText {
+    fn fmt<W: fmt::Write>(&self, f: &mut fmt::Formatter<W>) -> fmt::Result {
+        let Brought { from, kind } = self.0;
+        let kind = Spoken(kind);
+        write!(f, "{kind} from {from}")
     }
 }

@@ -37,9 +37,9 @@ impl fmt::Display for Name {
 impl fmt::Display for Brief {
     fn fmt<W: fmt::Write>(&self, f: &mut fmt::Formatter<W>) -> fmt::Result {
         match self.0 {
-            Kind::Unusable => write!(f, "unusable"),
-            Kind::Num => write!(f, "number"),
-            Kind::Stack(STACK_SIZE) => write!(f, "frame"),
+            Kind::Unusable => f.write_str("unusable"),
+            Kind::Num => f.write_str("number"),
+            Kind::Stack(STACK_SIZE) => f.write_str("frame"),
             Kind::Stack(byte) => {
                 let offset = from_top(byte);
                 write!(f, "stack {offset}")
@@ -47,8 +47,8 @@ impl fmt::Display for Brief {
             Kind::Elem(map, 0) => write!(f, "element of map {map}"),
             Kind::Elem(map, byte) => write!(f, "element of map {map} + {byte}"),
             Kind::ElemOrNull(map) => write!(f, "element of map {map} or null"),
-            Kind::Task => write!(f, "task"),
-            Kind::TaskOrNull => write!(f, "task or null"),
+            Kind::Task => f.write_str("task"),
+            Kind::TaskOrNull => f.write_str("task or null"),
             Kind::MapRef(map) => write!(f, "map {map}"),
         }
     }
@@ -57,13 +57,13 @@ impl fmt::Display for Brief {
 impl fmt::Display for Spoken {
     fn fmt<W: fmt::Write>(&self, f: &mut fmt::Formatter<W>) -> fmt::Result {
         match self.0 {
-            Kind::Unusable => write!(f, "nothing"),
-            Kind::Num => write!(f, "a number"),
-            Kind::Stack(_) => write!(f, "a pointer to the stack"),
+            Kind::Unusable => f.write_str("nothing"),
+            Kind::Num => f.write_str("a number"),
+            Kind::Stack(_) => f.write_str("a pointer to the stack"),
             Kind::Elem(map, _) => write!(f, "a pointer to an element of map {map}"),
             Kind::ElemOrNull(map) => write!(f, "a pointer to an element of map {map}, or null"),
-            Kind::Task => write!(f, "a task"),
-            Kind::TaskOrNull => write!(f, "a task, or null"),
+            Kind::Task => f.write_str("a task"),
+            Kind::TaskOrNull => f.write_str("a task, or null"),
             Kind::MapRef(map) => write!(f, "a reference to map {map}"),
         }
     }
@@ -71,12 +71,12 @@ impl fmt::Display for Spoken {
 
 impl fmt::Display for Wanted {
     fn fmt<W: fmt::Write>(&self, f: &mut fmt::Formatter<W>) -> fmt::Result {
-        match self.0 {
-            Parameter::Map => write!(f, "a reference to a map"),
-            Parameter::Key => write!(f, "a pointer to a key"),
-            Parameter::Task => write!(f, "a task"),
-            Parameter::Number => write!(f, "a number"),
-        }
+        f.write_str(match self.0 {
+            Parameter::Map => "a reference to a map",
+            Parameter::Key => "a pointer to a key",
+            Parameter::Task => "a task",
+            Parameter::Number => "a number",
+        })
     }
 }
 

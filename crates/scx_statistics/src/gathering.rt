@@ -3,6 +3,7 @@ ghost use Rattle.std.specs.Result.{is_err};
 use crate::counting::WaitCounts;
 use crate::numbers::percent;
 use crate::shares::{Shares, WHOLE};
+use scx_driver::Driver;
 use scx_sched::{Event, Sim, What};
 use scx_simulation::Run;
 use scx_views::{View, Wait, Waits, watch};
@@ -58,10 +59,62 @@ pub(crate) fn gather(alloc: Global, run: Run) -> Result<Figures, AllocError> {
         mut driver,
         mut sim,
     } = run;
+    gather_from(alloc, workload, &mut driver, &mut sim)
+}
+
+fn gather_from(
+    alloc: Global,
+    workload: Workload,
+    driver: &mut Driver,
+    sim: &mut Sim,
+) -> Result<Figures, AllocError> {
     let mut gathering = Gathering::new(alloc, workload)?;
-    watch(&mut sim, &mut driver, &mut gathering);
-    gathering.end(&sim);
+    watch(sim, driver, &mut gathering);
+    gathering.end(sim);
     gathering.figures(alloc)
+}
+
+/// All memory that is taken before a run.
+#[derive(Drop)]
+struct Room {
+    tasks: Vec<TaskFigures>,
+    cpus: Vec<CpuFigures>,
+    shares: Shares,
+    waits: Waits,
+}
+
+impl Room {
+    fn new(alloc: Global, workload: &Workload) -> Result<Room, AllocError> {
+        Ok(Room {
+            tasks: unused_tasks(alloc, workload.tasks().len())?,
+            cpus: unused_cpus(alloc, workload.cpus() as usize)?,
+            shares: Shares::new(alloc, workload)?,
+            waits: Waits::new(alloc, workload.tasks().len())?,
+        })
+    }
+}
+
+fn unused_tasks(alloc: Global, count: usize) -> Result<Vec<TaskFigures>, AllocError> {
+    let mut tasks = Vec::with_capacity(alloc, count)?;
+    for _ in 0..count {
+        tasks.push(TaskFigures {
+            run: 0,
+            waits: WaitCounts::new(alloc),
+            wakes: 0,
+            stopped: 0,
+        })?;
+    }
+    Ok(tasks)
+}
+
+fn unused_cpus(alloc: Global, count: usize) -> Result<Vec<CpuFigures>, AllocError> {
+    let unused = CpuFigures {
+        busy: 0,
+        idle: 0,
+        changes: 0,
+        last: None,
+    };
+    vec![in alloc; unused; count]
 }
 
 /// The figures of a run on their way.
@@ -80,30 +133,19 @@ struct Gathering {
 
 impl Gathering {
     fn new(alloc: Global, workload: Workload) -> Result<Self, AllocError> {
-        let count = workload.tasks().len();
-        let mut tasks = Vec::with_capacity(alloc, count)?;
-        for _ in 0..count {
-            tasks.push(TaskFigures {
-                run: 0,
-                waits: WaitCounts::new(alloc),
-                wakes: 0,
-                stopped: 0,
-            })?;
-        }
-        let unused = CpuFigures {
-            busy: 0,
-            idle: 0,
-            changes: 0,
-            last: None,
-        };
-        let cpus = vec![in alloc; unused; workload.cpus() as usize]?;
-        let shares = Shares::new(alloc, &workload)?;
+        let room = Room::new(alloc, &workload)?;
+        let Room {
+            tasks,
+            cpus,
+            shares,
+            waits,
+        } = room;
         Ok(Gathering {
             workload,
             tasks,
             cpus,
             shares,
-            waits: Waits::new(alloc, count)?,
+            waits,
             busy: 0,
             result: Ok(()),
         })
@@ -111,22 +153,25 @@ impl Gathering {
 
     /// All figures, if there was memory for them.
     fn figures(self, alloc: Global) -> Result<Figures, AllocError> {
+        let groups = self.groups(alloc)?;
         let Gathering {
             workload,
             tasks,
             cpus,
-            shares,
-            result,
             ..
         } = self;
-        result?;
-        let groups = group_figures(alloc, &workload, tasks.as_slice(), &shares)?;
         Ok(Figures {
             workload,
             tasks,
             cpus,
             groups,
         })
+    }
+
+    /// The figures of all groups, if there was memory for all before them.
+    fn groups(&self, alloc: Global) -> Result<Vec<GroupFigures>, AllocError> {
+        self.result?;
+        group_figures(alloc, &self.workload, self.tasks.as_slice(), &self.shares)
     }
 
     /// The group of a task.
@@ -261,12 +306,8 @@ fn group_figures(
     tasks: &[TaskFigures],
     shares: &Shares,
 ) -> Result<Vec<GroupFigures>, AllocError> {
-    let mut runs = vec![in alloc; 0u64; workload.groups().len()]?;
-    let mut total = 0u64;
-    for (task, group) in tasks.iter().zip(workload.tasks()) {
-        add_run(workload, runs.as_mut_slice(), *group, task.run);
-        total = total.saturating_add(task.run);
-    }
+    let runs = group_runs(alloc, workload, tasks)?;
+    let total = total_run(tasks);
     let mut groups = Vec::with_capacity(alloc, runs.len())?;
     let mut group = 0u32;
     for run in runs.as_slice() {
@@ -277,6 +318,28 @@ fn group_figures(
         group = group.saturating_add(1);
     }
     Ok(groups)
+}
+
+/// For how many milliseconds tasks of each group ran.
+fn group_runs(
+    alloc: Global,
+    workload: &Workload,
+    tasks: &[TaskFigures],
+) -> Result<Vec<u64>, AllocError> {
+    let mut runs = vec![in alloc; 0u64; workload.groups().len()]?;
+    for (task, group) in tasks.iter().zip(workload.tasks()) {
+        add_run(workload, runs.as_mut_slice(), *group, task.run);
+    }
+    Ok(runs)
+}
+
+/// For how many milliseconds all tasks ran.
+fn total_run(tasks: &[TaskFigures]) -> u64 {
+    let mut total = 0u64;
+    for task in tasks {
+        total = total.saturating_add(task.run);
+    }
+    total
 }
 
 /// What was due of a total, in hundredths of a percent, rounded down; 0 of nothing.

@@ -1,5 +1,5 @@
 use crate::gathering::{CpuFigures, Figures, GroupFigures, TaskFigures};
-use crate::numbers::hundredths;
+use crate::numbers::{decimal, hundredths};
 use scx_output::Out;
 use scx_views::Text;
 use std::fmt;
@@ -8,7 +8,7 @@ use std::fmt::Write;
 /// Writes the figures as comma-separated values, a line for each figure. No name has a character that would
 /// have to be quoted.
 pub(crate) fn write_list<W: Out>(figures: &Figures, text: &mut Text<'_, W>) -> fmt::Result {
-    writeln!(text, "kind,name,figure,value")?;
+    text.write_str("kind,name,figure,value\n")?;
     list_tasks(figures, text)?;
     list_cpus(figures.cpus.as_slice(), text)?;
     list_groups(figures, text)
@@ -26,9 +26,7 @@ fn list_tasks<W: Out>(figures: &Figures, text: &mut Text<'_, W>) -> fmt::Result 
 fn list_cpus<W: Out>(cpus: &[CpuFigures], text: &mut Text<'_, W>) -> fmt::Result {
     let mut number = 0u32;
     for cpu in cpus {
-        writeln!(text, "cpu,{number},busy_ms,{}", cpu.busy)?;
-        writeln!(text, "cpu,{number},idle_ms,{}", cpu.idle)?;
-        writeln!(text, "cpu,{number},changes,{}", cpu.changes)?;
+        list_cpu(decimal(number).as_str(), cpu, text)?;
         number = number.saturating_add(1);
     }
     Ok(())
@@ -45,33 +43,46 @@ fn list_groups<W: Out>(figures: &Figures, text: &mut Text<'_, W>) -> fmt::Result
 
 fn list_task<W: Out>(name: &str, task: &TaskFigures, text: &mut Text<'_, W>) -> fmt::Result {
     let waits = &task.waits;
-    writeln!(text, "task,{name},run_ms,{}", task.run)?;
-    writeln!(text, "task,{name},waits,{}", waits.count())?;
-    writeln!(
-        text,
-        "task,{name},mean_wait_ms,{}",
-        hundredths(waits.mean())
-    )?;
-    writeln!(
-        text,
-        "task,{name},wait_99_percent_ms,{}",
-        waits.percentile_99()
-    )?;
-    writeln!(text, "task,{name},longest_wait_ms,{}", waits.longest())?;
-    writeln!(
-        text,
-        "task,{name},longest_wait_since_ms,{}",
-        waits.longest_since()
-    )?;
-    writeln!(text, "task,{name},wakes,{}", task.wakes)?;
-    writeln!(text, "task,{name},stopped,{}", task.stopped)
+    list(text, "task", name, "run_ms", task.run)?;
+    list(text, "task", name, "waits", waits.count())?;
+    list_hundredths(text, "task", name, "mean_wait_ms", waits.mean())?;
+    list(text, "task", name, "wait_99_percent_ms", waits.percentile_99())?;
+    list(text, "task", name, "longest_wait_ms", waits.longest())?;
+    list(text, "task", name, "longest_wait_since_ms", waits.longest_since())?;
+    list(text, "task", name, "wakes", task.wakes)?;
+    list(text, "task", name, "stopped", task.stopped)
+}
+
+fn list_cpu<W: Out>(name: &str, cpu: &CpuFigures, text: &mut Text<'_, W>) -> fmt::Result {
+    list(text, "cpu", name, "busy_ms", cpu.busy)?;
+    list(text, "cpu", name, "idle_ms", cpu.idle)?;
+    list(text, "cpu", name, "changes", cpu.changes)
 }
 
 fn list_group<W: Out>(name: &str, group: &GroupFigures, text: &mut Text<'_, W>) -> fmt::Result {
-    writeln!(
-        text,
-        "group,{name},share_percent,{}",
-        hundredths(group.reached)
-    )?;
-    writeln!(text, "group,{name},due_percent,{}", hundredths(group.due))
+    list_hundredths(text, "group", name, "share_percent", group.reached)?;
+    list_hundredths(text, "group", name, "due_percent", group.due)
+}
+
+/// Writes the line of a figure.
+fn list<W: Out>(
+    text: &mut Text<'_, W>,
+    kind: &str,
+    name: &str,
+    figure: &str,
+    value: u64,
+) -> fmt::Result {
+    writeln!(text, "{kind},{name},{figure},{value}")
+}
+
+/// Writes the line of a figure that is counted in hundredths.
+fn list_hundredths<W: Out>(
+    text: &mut Text<'_, W>,
+    kind: &str,
+    name: &str,
+    figure: &str,
+    value: u64,
+) -> fmt::Result {
+    let value = hundredths(value);
+    writeln!(text, "{kind},{name},{figure},{value}")
 }

@@ -8,6 +8,13 @@ pub(crate) fn hundredths(number: u64) -> ArrayString<32> {
     text
 }
 
+/// A number in decimal digits.
+pub(crate) fn decimal(number: u32) -> ArrayString<16> {
+    let mut text = ArrayString::new();
+    let _ = write!(text, "{number}");
+    text
+}
+
 /// A part of a whole in hundredths of a percent, rounded down; 0 of nothing.
 pub(crate) fn percent(part: u64, whole: u64) -> u64 {
     if whole == 0 {
