@@ -1,8 +1,10 @@
 pub mod Notes
 pub mod Policy
 pub mod Steps
+pub mod Budgets
 pub mod Ejecting
 pub mod Callbacks
+pub mod Does
 pub mod Put
 pub mod Cycle
 pub mod Events

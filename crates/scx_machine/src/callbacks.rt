@@ -7,6 +7,8 @@ ghost use Rattle.scx_vm.specs.Arguments.{given};
 ghost use Rattle.scx_vm.specs.Host.{answer_to, after_query};
 ghost use Rattle.scx_world.specs.World.{quiet};
 ghost use Rattle.scx_world.specs.Helpers.{world_functions};
+ghost use Rattle.scx_machine.specs.Budgets.{HasRoom, callback_pushes, eject_pushes};
+ghost use Rattle.scx_machine.specs.Does.{Does};
 ghost use Rattle.scx_machine.specs.Notes.{Takes};
 ghost use Rattle.scx_world.specs.Helpers.{or_fault};
 ghost use Rattle.scx_machine.specs.Policy.{IsAs, HasMaps, program_of};
@@ -187,11 +189,9 @@ impl Machine {
     /// Ejects the policy where there was a fault.
     #[tactic(auto, using(crate::proofs::Taking::takings))]
     fn eject_for<S: Sink>(&mut self, fault: Option<Fault>, sink: &mut S)
-        requires few { self.old.world.queues.pushes + 1024 ≤ 2 ^ 63 }
-        ensures state { self.new ≡ (ejected_for fault self.old).state }
-        ensures few { self.new.world.queues.pushes ≤ self.old.world.queues.pushes + 1024 }
-        ensures notes { Takes S.takes sink.old (ejected_for fault self.old).notes sink.new }
-        ensures answered { AreAnswered (ejected_for fault self.old).calls }
+        requires { HasRoom eject_pushes self.old }
+        ensures { Does S.takes eject_pushes (ejected_for fault self.old)
+            self.old sink.old self.new sink.new }
     {
         if let Some(fault) = fault {
             let clock = self.world.clock();
@@ -211,13 +211,10 @@ impl Machine {
         sink: &mut S,
     ) -> u64
         requires arguments { FitsCallback callback (given arguments) }
-        requires few { self.old.world.queues.pushes + 5120 ≤ 2 ^ 63 }
+        requires room { HasRoom callback_pushes self.old }
         ensures answer { Some result ≡ answered_by self.old callback arguments task cpu }
-        ensures state { self.new ≡ (call_back self.old callback arguments task cpu).state }
-        ensures few { self.new.world.queues.pushes ≤ self.old.world.queues.pushes + 5120 }
-        ensures notes { Takes S.takes sink.old
-            (call_back self.old callback arguments task cpu).notes sink.new }
-        ensures answered { AreAnswered (call_back self.old callback arguments task cpu).calls }
+        ensures does { Does S.takes callback_pushes (call_back self.old callback arguments task cpu)
+            self.old sink.old self.new sink.new }
     {
         self.world.begin(callback, task, cpu);
         let answer = run_callback(

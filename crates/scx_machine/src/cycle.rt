@@ -1,6 +1,6 @@
-ghost use Rattle.std.specs.Prelude.{◌≡◌, ◌+◌, ◌*◌, ◌≤◌, ◌^◌};
-ghost use Rattle.scx_machine.specs.Notes.{Takes};
-ghost use Rattle.scx_machine.specs.Callbacks.{AreAnswered};
+ghost use Rattle.std.specs.Prelude.{◌*◌};
+ghost use Rattle.scx_machine.specs.Budgets.{HasRoom, ask_pushes, builtin_ask_pushes, builtin_cycle_pushes, callback_pushes, cycle_pushes, dispatch_pushes, fill_pushes, leave_pushes, pick_pushes, swap_pushes};
+ghost use Rattle.scx_machine.specs.Does.{Does};
 ghost use Rattle.scx_machine.specs.Cycle.{fill, dispatched, tries, stopping, running_on, leave, start, rest, swap, swap_or_rest, builtin_ask, builtin_cycle, start_or_cycle, pick, pick_or_rest, conclude, ask, seek, look, cycle};
 
 use crate::callbacks::{cpu_and_task, one_task, task_and_number};
@@ -13,11 +13,9 @@ impl Machine {
     /// Where the local queue is empty, the front of another comes to it.
     #[tactic(auto, unfolding(crate::specs::Cycle::fill), using(crate::proofs::Taking::takings))]
     fn fill<S: Sink>(&mut self, queue: u64, cpu: u32, sink: &mut S)
-        requires few { self.old.world.queues.pushes + 1 ≤ 2 ^ 63 }
-        ensures state { self.new ≡ (fill self.old queue cpu).state }
-        ensures few { self.new.world.queues.pushes ≤ self.old.world.queues.pushes + 1 }
-        ensures notes { Takes S.takes sink.old (fill self.old queue cpu).notes sink.new }
-        ensures answered { AreAnswered (fill self.old queue cpu).calls }
+        requires { HasRoom fill_pushes self.old }
+        ensures { Does S.takes fill_pushes (fill self.old queue cpu)
+            self.old sink.old self.new sink.new }
     {
         if let Some(task) = self.world.fill(queue, cpu) {
             sink.take(self.world.note(What::Move(task, cpu)));
@@ -27,11 +25,9 @@ impl Machine {
     /// Asks dispatch once, and then the queue of all processors.
     #[tactic(auto, unfolding(crate::specs::Cycle::dispatched), using(crate::proofs::Taking::takings))]
     fn dispatch<S: Sink>(&mut self, cpu: u32, before: Option<u16>, sink: &mut S)
-        requires few { self.old.world.queues.pushes + 5121 ≤ 2 ^ 63 }
-        ensures state { self.new ≡ (dispatched self.old cpu before).state }
-        ensures few { self.new.world.queues.pushes ≤ self.old.world.queues.pushes + 5121 }
-        ensures notes { Takes S.takes sink.old (dispatched self.old cpu before).notes sink.new }
-        ensures answered { AreAnswered (dispatched self.old cpu before).calls }
+        requires { HasRoom dispatch_pushes self.old }
+        ensures { Does S.takes dispatch_pushes (dispatched self.old cpu before)
+            self.old sink.old self.new sink.new }
     {
         self.call_back(Callback::Dispatch, cpu_and_task(cpu, before), 0, cpu, sink);
         self.fill(GLOBAL, cpu, sink);
@@ -40,11 +36,9 @@ impl Machine {
     /// Asks dispatch, at most so many times.
     #[tactic(auto, using(crate::proofs::Taking::takings, crate::proofs::Tries::tries_steps))]
     fn tries<S: Sink>(&mut self, left: u32, cpu: u32, before: Option<u16>, sink: &mut S)
-        requires few { self.old.world.queues.pushes + 5121 * left ≤ 2 ^ 63 }
-        ensures state { self.new ≡ (tries left self.old cpu before).state }
-        ensures few { self.new.world.queues.pushes ≤ self.old.world.queues.pushes + 5121 * left }
-        ensures notes { Takes S.takes sink.old (tries left self.old cpu before).notes sink.new }
-        ensures answered { AreAnswered (tries left self.old cpu before).calls }
+        requires { HasRoom (dispatch_pushes * left) self.old }
+        ensures { Does S.takes (dispatch_pushes * left) (tries left self.old cpu before)
+            self.old sink.old self.new sink.new }
     {
         if left == 0 {
             return;
@@ -58,12 +52,9 @@ impl Machine {
     /// A task has left its processor. The number says whether it stays runnable.
     #[tactic(auto, unfolding(crate::specs::Cycle::stopping), using(crate::proofs::Taking::takings))]
     pub(crate) fn stopping<S: Sink>(&mut self, cpu: u32, task: u16, runnable: u64, sink: &mut S)
-        requires few { self.old.world.queues.pushes + 5120 ≤ 2 ^ 63 }
-        ensures state { self.new ≡ (stopping self.old cpu task runnable).state }
-        ensures few { self.new.world.queues.pushes ≤ self.old.world.queues.pushes + 5120 }
-        ensures notes { Takes S.takes sink.old (stopping self.old cpu task runnable).notes
-            sink.new }
-        ensures answered { AreAnswered (stopping self.old cpu task runnable).calls }
+        requires { HasRoom callback_pushes self.old }
+        ensures { Does S.takes callback_pushes (stopping self.old cpu task runnable)
+            self.old sink.old self.new sink.new }
     {
         if self.is_ejected() {
             self.world.charge(task);
@@ -76,11 +67,9 @@ impl Machine {
     /// A task has come to its processor.
     #[tactic(auto, unfolding(crate::specs::Cycle::running_on), using(crate::proofs::Taking::takings))]
     fn running_on<S: Sink>(&mut self, cpu: u32, task: u16, sink: &mut S)
-        requires few { self.old.world.queues.pushes + 5120 ≤ 2 ^ 63 }
-        ensures state { self.new ≡ (running_on self.old cpu task).state }
-        ensures few { self.new.world.queues.pushes ≤ self.old.world.queues.pushes + 5120 }
-        ensures notes { Takes S.takes sink.old (running_on self.old cpu task).notes sink.new }
-        ensures answered { AreAnswered (running_on self.old cpu task).calls }
+        requires { HasRoom callback_pushes self.old }
+        ensures { Does S.takes callback_pushes (running_on self.old cpu task)
+            self.old sink.old self.new sink.new }
     {
         if self.is_ejected() {
             self.world.overtake(task);
@@ -92,11 +81,9 @@ impl Machine {
     /// The task before leaves the processor, and is put.
     #[tactic(auto, unfolding(crate::specs::Cycle::leave), using(crate::proofs::Taking::takings))]
     fn leave<S: Sink>(&mut self, cpu: u32, before: Option<u16>, sink: &mut S)
-        requires few { self.old.world.queues.pushes + 10241 ≤ 2 ^ 63 }
-        ensures state { self.new ≡ (leave self.old cpu before).state }
-        ensures few { self.new.world.queues.pushes ≤ self.old.world.queues.pushes + 10241 }
-        ensures notes { Takes S.takes sink.old (leave self.old cpu before).notes sink.new }
-        ensures answered { AreAnswered (leave self.old cpu before).calls }
+        requires { HasRoom leave_pushes self.old }
+        ensures { Does S.takes leave_pushes (leave self.old cpu before)
+            self.old sink.old self.new sink.new }
     {
         if let Some(task) = before {
             sink.take(self.world.note(What::Stop(task, cpu)));
@@ -109,11 +96,9 @@ impl Machine {
     /// The front of the local queue runs.
     #[tactic(auto, unfolding(crate::specs::Cycle::start), using(crate::proofs::Taking::takings))]
     fn start<S: Sink>(&mut self, cpu: u32, sink: &mut S)
-        requires few { self.old.world.queues.pushes + 5120 ≤ 2 ^ 63 }
-        ensures state { self.new ≡ (start self.old cpu).state }
-        ensures few { self.new.world.queues.pushes ≤ self.old.world.queues.pushes + 5120 }
-        ensures notes { Takes S.takes sink.old (start self.old cpu).notes sink.new }
-        ensures answered { AreAnswered (start self.old cpu).calls }
+        requires { HasRoom callback_pushes self.old }
+        ensures { Does S.takes callback_pushes (start self.old cpu)
+            self.old sink.old self.new sink.new }
     {
         if let Some(task) = self.world.start(cpu) {
             sink.take(self.world.note(What::Run(task, cpu)));
@@ -124,11 +109,9 @@ impl Machine {
     /// Nobody comes: the task before stays, or the processor is idle.
     #[tactic(auto, unfolding(crate::specs::Cycle::rest), using(crate::proofs::Taking::takings))]
     fn rest<S: Sink>(&mut self, cpu: u32, before: Option<u16>, ran: bool, sink: &mut S)
-        requires few { self.old.world.queues.pushes + 0 ≤ 2 ^ 63 }
-        ensures state { self.new ≡ (rest self.old cpu before ran).state }
-        ensures few { self.new.world.queues.pushes ≤ self.old.world.queues.pushes + 0 }
-        ensures notes { Takes S.takes sink.old (rest self.old cpu before ran).notes sink.new }
-        ensures answered { AreAnswered (rest self.old cpu before ran).calls }
+        requires { HasRoom 0 self.old }
+        ensures { Does S.takes 0 (rest self.old cpu before ran)
+            self.old sink.old self.new sink.new }
     {
         if before.is_none() && ran {
             sink.take(self.world.note(What::Idle(cpu)));
@@ -139,11 +122,9 @@ impl Machine {
     /// Under the built-in scheduler the front of the local queue runs in the place of the task before.
     #[tactic(auto, unfolding(crate::specs::Cycle::swap), using(crate::proofs::Taking::takings))]
     fn swap<S: Sink>(&mut self, cpu: u32, before: Option<u16>, sink: &mut S)
-        requires few { self.old.world.queues.pushes + 15361 ≤ 2 ^ 63 }
-        ensures state { self.new ≡ (swap self.old cpu before).state }
-        ensures few { self.new.world.queues.pushes ≤ self.old.world.queues.pushes + 15361 }
-        ensures notes { Takes S.takes sink.old (swap self.old cpu before).notes sink.new }
-        ensures answered { AreAnswered (swap self.old cpu before).calls }
+        requires { HasRoom swap_pushes self.old }
+        ensures { Does S.takes swap_pushes (swap self.old cpu before)
+            self.old sink.old self.new sink.new }
     {
         self.leave(cpu, before, sink);
         self.start(cpu, sink);
@@ -152,12 +133,9 @@ impl Machine {
     /// Under the built-in scheduler the front of the local queue runs, if there is one.
     #[tactic(auto, unfolding(crate::specs::Cycle::swap_or_rest), using(crate::proofs::Taking::takings))]
     fn swap_or_rest<S: Sink>(&mut self, cpu: u32, before: Option<u16>, ran: bool, sink: &mut S)
-        requires few { self.old.world.queues.pushes + 15361 ≤ 2 ^ 63 }
-        ensures state { self.new ≡ (swap_or_rest self.old cpu before ran).state }
-        ensures few { self.new.world.queues.pushes ≤ self.old.world.queues.pushes + 15361 }
-        ensures notes { Takes S.takes sink.old (swap_or_rest self.old cpu before ran).notes
-            sink.new }
-        ensures answered { AreAnswered (swap_or_rest self.old cpu before ran).calls }
+        requires { HasRoom swap_pushes self.old }
+        ensures { Does S.takes swap_pushes (swap_or_rest self.old cpu before ran)
+            self.old sink.old self.new sink.new }
     {
         if self.has_local(cpu) {
             self.swap(cpu, before, sink);
@@ -169,12 +147,9 @@ impl Machine {
     /// The built-in scheduler's dispatch: the front of its queue comes.
     #[tactic(auto, unfolding(crate::specs::Cycle::builtin_ask), using(crate::proofs::Taking::takings))]
     fn builtin_ask<S: Sink>(&mut self, cpu: u32, before: Option<u16>, ran: bool, sink: &mut S)
-        requires few { self.old.world.queues.pushes + 15362 ≤ 2 ^ 63 }
-        ensures state { self.new ≡ (builtin_ask self.old cpu before ran).state }
-        ensures few { self.new.world.queues.pushes ≤ self.old.world.queues.pushes + 15362 }
-        ensures notes { Takes S.takes sink.old (builtin_ask self.old cpu before ran).notes
-            sink.new }
-        ensures answered { AreAnswered (builtin_ask self.old cpu before ran).calls }
+        requires { HasRoom builtin_ask_pushes self.old }
+        ensures { Does S.takes builtin_ask_pushes (builtin_ask self.old cpu before ran)
+            self.old sink.old self.new sink.new }
     {
         self.fill(BUILTIN, cpu, sink);
         self.swap_or_rest(cpu, before, ran, sink);
@@ -183,12 +158,9 @@ impl Machine {
     /// A cycle of the built-in scheduler.
     #[tactic(auto, unfolding(crate::specs::Cycle::builtin_cycle), using(crate::proofs::Taking::takings))]
     fn builtin_cycle<S: Sink>(&mut self, cpu: u32, before: Option<u16>, ran: bool, sink: &mut S)
-        requires few { self.old.world.queues.pushes + 15363 ≤ 2 ^ 63 }
-        ensures state { self.new ≡ (builtin_cycle self.old cpu before ran).state }
-        ensures few { self.new.world.queues.pushes ≤ self.old.world.queues.pushes + 15363 }
-        ensures notes { Takes S.takes sink.old (builtin_cycle self.old cpu before ran).notes
-            sink.new }
-        ensures answered { AreAnswered (builtin_cycle self.old cpu before ran).calls }
+        requires { HasRoom builtin_cycle_pushes self.old }
+        ensures { Does S.takes builtin_cycle_pushes (builtin_cycle self.old cpu before ran)
+            self.old sink.old self.new sink.new }
     {
         self.fill(GLOBAL, cpu, sink);
         self.builtin_ask(cpu, before, ran, sink);
@@ -197,11 +169,9 @@ impl Machine {
     /// The front of the local queue runs. An ejection may have emptied it; then the cycle begins anew.
     #[tactic(auto, unfolding(crate::specs::Cycle::start_or_cycle), using(crate::proofs::Taking::takings))]
     fn start_or_cycle<S: Sink>(&mut self, cpu: u32, ran: bool, sink: &mut S)
-        requires few { self.old.world.queues.pushes + 15363 ≤ 2 ^ 63 }
-        ensures state { self.new ≡ (start_or_cycle self.old cpu ran).state }
-        ensures few { self.new.world.queues.pushes ≤ self.old.world.queues.pushes + 15363 }
-        ensures notes { Takes S.takes sink.old (start_or_cycle self.old cpu ran).notes sink.new }
-        ensures answered { AreAnswered (start_or_cycle self.old cpu ran).calls }
+        requires { HasRoom builtin_cycle_pushes self.old }
+        ensures { Does S.takes builtin_cycle_pushes (start_or_cycle self.old cpu ran)
+            self.old sink.old self.new sink.new }
     {
         if self.has_local(cpu) {
             self.start(cpu, sink);
@@ -213,11 +183,9 @@ impl Machine {
     /// The front of the local queue runs in the place of the task before.
     #[tactic(auto, unfolding(crate::specs::Cycle::pick), using(crate::proofs::Taking::takings))]
     fn pick<S: Sink>(&mut self, cpu: u32, before: Option<u16>, ran: bool, sink: &mut S)
-        requires few { self.old.world.queues.pushes + 25604 ≤ 2 ^ 63 }
-        ensures state { self.new ≡ (pick self.old cpu before ran).state }
-        ensures few { self.new.world.queues.pushes ≤ self.old.world.queues.pushes + 25604 }
-        ensures notes { Takes S.takes sink.old (pick self.old cpu before ran).notes sink.new }
-        ensures answered { AreAnswered (pick self.old cpu before ran).calls }
+        requires { HasRoom pick_pushes self.old }
+        ensures { Does S.takes pick_pushes (pick self.old cpu before ran)
+            self.old sink.old self.new sink.new }
     {
         self.leave(cpu, before, sink);
         self.start_or_cycle(cpu, ran, sink);
@@ -226,12 +194,9 @@ impl Machine {
     /// Runs the front of the local queue, if there is one.
     #[tactic(auto, unfolding(crate::specs::Cycle::pick_or_rest), using(crate::proofs::Taking::takings))]
     fn pick_or_rest<S: Sink>(&mut self, cpu: u32, before: Option<u16>, ran: bool, sink: &mut S)
-        requires few { self.old.world.queues.pushes + 25604 ≤ 2 ^ 63 }
-        ensures state { self.new ≡ (pick_or_rest self.old cpu before ran).state }
-        ensures few { self.new.world.queues.pushes ≤ self.old.world.queues.pushes + 25604 }
-        ensures notes { Takes S.takes sink.old (pick_or_rest self.old cpu before ran).notes
-            sink.new }
-        ensures answered { AreAnswered (pick_or_rest self.old cpu before ran).calls }
+        requires { HasRoom pick_pushes self.old }
+        ensures { Does S.takes pick_pushes (pick_or_rest self.old cpu before ran)
+            self.old sink.old self.new sink.new }
     {
         if self.has_local(cpu) {
             self.pick(cpu, before, ran, sink);
@@ -243,11 +208,9 @@ impl Machine {
     /// Dispatch was asked. Where it ejected the policy, the cycle begins anew.
     #[tactic(auto, unfolding(crate::specs::Cycle::conclude), using(crate::proofs::Taking::takings))]
     fn conclude<S: Sink>(&mut self, cpu: u32, before: Option<u16>, ran: bool, sink: &mut S)
-        requires few { self.old.world.queues.pushes + 25604 ≤ 2 ^ 63 }
-        ensures state { self.new ≡ (conclude self.old cpu before ran).state }
-        ensures few { self.new.world.queues.pushes ≤ self.old.world.queues.pushes + 25604 }
-        ensures notes { Takes S.takes sink.old (conclude self.old cpu before ran).notes sink.new }
-        ensures answered { AreAnswered (conclude self.old cpu before ran).calls }
+        requires { HasRoom pick_pushes self.old }
+        ensures { Does S.takes pick_pushes (conclude self.old cpu before ran)
+            self.old sink.old self.new sink.new }
     {
         if self.is_ejected() {
             self.builtin_cycle(cpu, before, ran, sink);
@@ -259,11 +222,9 @@ impl Machine {
     /// Asks dispatch for a task.
     #[tactic(auto, unfolding(crate::specs::Cycle::ask), using(crate::proofs::Taking::takings))]
     fn ask<S: Sink>(&mut self, cpu: u32, before: Option<u16>, ran: bool, sink: &mut S)
-        requires few { self.old.world.queues.pushes + 189476 ≤ 2 ^ 63 }
-        ensures state { self.new ≡ (ask self.old cpu before ran).state }
-        ensures few { self.new.world.queues.pushes ≤ self.old.world.queues.pushes + 189476 }
-        ensures notes { Takes S.takes sink.old (ask self.old cpu before ran).notes sink.new }
-        ensures answered { AreAnswered (ask self.old cpu before ran).calls }
+        requires { HasRoom ask_pushes self.old }
+        ensures { Does S.takes ask_pushes (ask self.old cpu before ran)
+            self.old sink.old self.new sink.new }
     {
         self.tries(32, cpu, before, sink);
         self.conclude(cpu, before, ran, sink);
@@ -272,11 +233,9 @@ impl Machine {
     /// A processor on which that task ran and may stay, or none, seeks the one that it runs next.
     #[tactic(auto, unfolding(crate::specs::Cycle::seek), using(crate::proofs::Taking::takings))]
     fn seek<S: Sink>(&mut self, cpu: u32, before: Option<u16>, ran: bool, sink: &mut S)
-        requires few { self.old.world.queues.pushes + 189477 ≤ 2 ^ 63 }
-        ensures state { self.new ≡ (seek self.old cpu before ran).state }
-        ensures few { self.new.world.queues.pushes ≤ self.old.world.queues.pushes + 189477 }
-        ensures notes { Takes S.takes sink.old (seek self.old cpu before ran).notes sink.new }
-        ensures answered { AreAnswered (seek self.old cpu before ran).calls }
+        requires { HasRoom cycle_pushes self.old }
+        ensures { Does S.takes cycle_pushes (seek self.old cpu before ran)
+            self.old sink.old self.new sink.new }
     {
         self.fill(GLOBAL, cpu, sink);
         if self.has_local(cpu) {
@@ -289,11 +248,9 @@ impl Machine {
     /// A cycle of whichever scheduler is in force.
     #[tactic(auto, unfolding(crate::specs::Cycle::look), using(crate::proofs::Taking::takings))]
     fn look<S: Sink>(&mut self, cpu: u32, before: Option<u16>, ran: bool, sink: &mut S)
-        requires few { self.old.world.queues.pushes + 189477 ≤ 2 ^ 63 }
-        ensures state { self.new ≡ (look self.old cpu before ran).state }
-        ensures few { self.new.world.queues.pushes ≤ self.old.world.queues.pushes + 189477 }
-        ensures notes { Takes S.takes sink.old (look self.old cpu before ran).notes sink.new }
-        ensures answered { AreAnswered (look self.old cpu before ran).calls }
+        requires { HasRoom cycle_pushes self.old }
+        ensures { Does S.takes cycle_pushes (look self.old cpu before ran)
+            self.old sink.old self.new sink.new }
     {
         if self.is_ejected() {
             self.builtin_cycle(cpu, before, ran, sink);
@@ -305,11 +262,9 @@ impl Machine {
     /// A whole cycle. `ran` says whether a task ran there as the event began.
     #[tactic(auto, unfolding(crate::specs::Cycle::cycle), using(crate::proofs::Taking::takings))]
     pub(crate) fn cycle<S: Sink>(&mut self, cpu: u32, before: Option<u16>, ran: bool, sink: &mut S)
-        requires few { self.old.world.queues.pushes + 189477 ≤ 2 ^ 63 }
-        ensures state { self.new ≡ (cycle self.old cpu before ran).state }
-        ensures few { self.new.world.queues.pushes ≤ self.old.world.queues.pushes + 189477 }
-        ensures notes { Takes S.takes sink.old (cycle self.old cpu before ran).notes sink.new }
-        ensures answered { AreAnswered (cycle self.old cpu before ran).calls }
+        requires { HasRoom cycle_pushes self.old }
+        ensures { Does S.takes cycle_pushes (cycle self.old cpu before ran)
+            self.old sink.old self.new sink.new }
     {
         self.world.set_cycling(Some(cpu));
         self.look(cpu, before, ran, sink);

@@ -1,8 +1,9 @@
-ghost use Rattle.std.specs.Prelude.{◌≡◌, ◌+◌, ◌≤◌, ◌<◌, ◌^◌, length};
-ghost use Rattle.scx_world.specs.Ejecting.{evict, evicted, evict_note, evict_notes};
+ghost use Rattle.std.specs.Prelude.{◌≡◌, ◌+◌, ◌≤◌, ◌^◌};
+ghost use Rattle.scx_world.specs.Ejecting.{evict, evict_note};
+ghost use Rattle.scx_machine.specs.Budgets.{HasRoom, eject_pushes};
+ghost use Rattle.scx_machine.specs.Does.{Does};
 ghost use Rattle.scx_machine.specs.Notes.{Takes};
 ghost use Rattle.scx_machine.specs.Steps.{with_world, is_ejected};
-ghost use Rattle.scx_machine.specs.Callbacks.{AreAnswered};
 ghost use Rattle.scx_machine.specs.Ejecting.{moves_over, eject};
 
 use crate::machine::Machine;
@@ -20,11 +21,9 @@ impl Machine {
     /// Puts the policy out of force, and hands all who wait to the built-in scheduler.
     #[tactic(auto, unfolding(crate::specs::Ejecting::eject), using(crate::proofs::Taking::takings))]
     pub(crate) fn eject<S: Sink>(&mut self, why: Eject, sink: &mut S)
-        requires few { self.old.world.queues.pushes + 1024 ≤ 2 ^ 63 }
-        ensures state { self.new ≡ (eject self.old why).state }
-        ensures few { self.new.world.queues.pushes ≤ self.old.world.queues.pushes + 1024 }
-        ensures notes { Takes S.takes sink.old (eject self.old why).notes sink.new }
-        ensures answered { AreAnswered (eject self.old why).calls }
+        requires { HasRoom eject_pushes self.old }
+        ensures { Does S.takes eject_pushes (eject self.old why)
+            self.old sink.old self.new sink.new }
     {
         sink.take(self.world.note(why.what()));
         self.world.put_out(why);
@@ -35,11 +34,9 @@ impl Machine {
     /// All who wait in a queue go over to the built-in scheduler, by number.
     #[tactic(auto, unfolding(crate::specs::Ejecting::moves_over), using(crate::proofs::Taking::takings))]
     fn move_over<S: Sink>(&mut self, sink: &mut S)
-        requires few { self.old.world.queues.pushes + 1024 ≤ 2 ^ 63 }
-        ensures state { self.new ≡ (moves_over self.old).state }
-        ensures few { self.new.world.queues.pushes ≤ self.old.world.queues.pushes + 1024 }
-        ensures notes { Takes S.takes sink.old (moves_over self.old).notes sink.new }
-        ensures answered { AreAnswered (moves_over self.old).calls }
+        requires { HasRoom eject_pushes self.old }
+        ensures { Does S.takes eject_pushes (moves_over self.old)
+            self.old sink.old self.new sink.new }
     {
         for task in 0..self.world.tasks() {
             self.evict(task, sink);

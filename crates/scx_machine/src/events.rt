@@ -1,5 +1,7 @@
 ghost use Rattle.std.specs.Prelude.{◌≡◌, ℕ, ◌+◌, ◌<◌, ◌≤◌, ◌^◌, length, Some, None};
 ghost use Rattle.scx_world.specs.World.{task_at};
+ghost use Rattle.scx_machine.specs.Budgets.{HasRoom, cycle_pushes, eject_pushes, put_pushes, settle_pushes, sleep_pushes, wake_pushes};
+ghost use Rattle.scx_machine.specs.Does.{Does};
 ghost use Rattle.scx_machine.specs.Notes.{Takes};
 ghost use Rattle.scx_semantics.specs.declared.callbacks.Callback.TheVariants.{SelectCpu};
 ghost use Rattle.scx_machine.specs.Callbacks.{acting, AreAnswered};
@@ -126,13 +128,9 @@ impl Machine {
     /// Applies what select_cpu inserted, or puts the task.
     #[tactic(auto, using(crate::proofs::Taking::takings))]
     fn apply_or_put<S: Sink>(&mut self, task: u16, cpu: u32, sink: &mut S)
-        requires few { self.old.world.queues.pushes + 5121 ≤ 2 ^ 63 }
-        ensures state { self.new ≡ (settled self.old.world.call.insert self.old task cpu).state }
-        ensures few { self.new.world.queues.pushes ≤ self.old.world.queues.pushes + 5121 }
-        ensures notes { Takes S.takes sink.old
-            (settled self.old.world.call.insert self.old task cpu).notes sink.new }
-        ensures answered { AreAnswered
-            (settled self.old.world.call.insert self.old task cpu).calls }
+        requires { HasRoom put_pushes self.old }
+        ensures { Does S.takes put_pushes (settled self.old.world.call.insert self.old task cpu)
+            self.old sink.old self.new sink.new }
     {
         match self.world.insert() {
             Some(insert) => self.enter(task, insert.for_cpu(cpu), sink),
@@ -143,11 +141,9 @@ impl Machine {
     /// A task that woke comes to wait, and a target that is idle looks for a task.
     #[tactic(auto, unfolding(crate::specs::Events::settle), using(crate::proofs::Taking::takings))]
     fn settle<S: Sink>(&mut self, task: u16, cpu: u32, sink: &mut S)
-        requires few { self.old.world.queues.pushes + 194598 ≤ 2 ^ 63 }
-        ensures state { self.new ≡ (settle self.old task cpu).state }
-        ensures few { self.new.world.queues.pushes ≤ self.old.world.queues.pushes + 194598 }
-        ensures notes { Takes S.takes sink.old (settle self.old task cpu).notes sink.new }
-        ensures answered { AreAnswered (settle self.old task cpu).calls }
+        requires { HasRoom settle_pushes self.old }
+        ensures { Does S.takes settle_pushes (settle self.old task cpu)
+            self.old sink.old self.new sink.new }
     {
         self.apply_or_put(task, cpu, sink);
         if self.world.is_idle(cpu) {
@@ -158,11 +154,9 @@ impl Machine {
     /// Asks select_cpu for which processor the task is to be put.
     #[tactic(auto, unfolding(crate::specs::Events::select), using(crate::proofs::Taking::takings))]
     fn select<S: Sink>(&mut self, task: u16, sink: &mut S)
-        requires few { self.old.world.queues.pushes + 199718 ≤ 2 ^ 63 }
-        ensures state { self.new ≡ (select self.old task).state }
-        ensures few { self.new.world.queues.pushes ≤ self.old.world.queues.pushes + 199718 }
-        ensures notes { Takes S.takes sink.old (select self.old task).notes sink.new }
-        ensures answered { AreAnswered (select self.old task).calls }
+        requires { HasRoom wake_pushes self.old }
+        ensures { Does S.takes wake_pushes (select self.old task)
+            self.old sink.old self.new sink.new }
     {
         let prev = self.world.task(task).prev_cpu;
         let arguments = task_cpu_and_0(task, prev);
@@ -175,11 +169,9 @@ impl Machine {
     #[tactic(auto, unfolding(crate::specs::Events::wake), using(crate::proofs::Taking::takings))]
     fn wake<S: Sink>(&mut self, task: u16, sink: &mut S)
         requires known { task < length self.old.world.tasks }
-        requires few { self.old.world.queues.pushes + 199718 ≤ 2 ^ 63 }
-        ensures state { self.new ≡ (wake self.old task).state }
-        ensures few { self.new.world.queues.pushes ≤ self.old.world.queues.pushes + 199718 }
-        ensures notes { Takes S.takes sink.old (wake self.old task).notes sink.new }
-        ensures answered { AreAnswered (wake self.old task).calls }
+        requires room { HasRoom wake_pushes self.old }
+        ensures { Does S.takes wake_pushes (wake self.old task)
+            self.old sink.old self.new sink.new }
     {
         sink.take(self.world.note(What::Wake(task)));
         self.world.wake(task);
@@ -189,11 +181,9 @@ impl Machine {
     /// A task that runs goes to sleep.
     #[tactic(auto, unfolding(crate::specs::Events::sleep_from_cpu), using(crate::proofs::Taking::takings))]
     fn sleep_from_cpu<S: Sink>(&mut self, task: u16, cpu: u32, sink: &mut S)
-        requires few { self.old.world.queues.pushes + 194597 ≤ 2 ^ 63 }
-        ensures state { self.new ≡ (sleep_from_cpu self.old task cpu).state }
-        ensures few { self.new.world.queues.pushes ≤ self.old.world.queues.pushes + 194597 }
-        ensures notes { Takes S.takes sink.old (sleep_from_cpu self.old task cpu).notes sink.new }
-        ensures answered { AreAnswered (sleep_from_cpu self.old task cpu).calls }
+        requires { HasRoom sleep_pushes self.old }
+        ensures { Does S.takes sleep_pushes (sleep_from_cpu self.old task cpu)
+            self.old sink.old self.new sink.new }
     {
         sink.take(self.world.note(What::Stop(task, cpu)));
         self.world.stop(cpu, task);
@@ -205,11 +195,9 @@ impl Machine {
     /// A task goes to sleep.
     #[tactic(auto, unfolding(crate::specs::Events::sleep), using(crate::proofs::Taking::takings))]
     fn sleep<S: Sink>(&mut self, task: u16, sink: &mut S)
-        requires few { self.old.world.queues.pushes + 194597 ≤ 2 ^ 63 }
-        ensures state { self.new ≡ (sleep self.old task).state }
-        ensures few { self.new.world.queues.pushes ≤ self.old.world.queues.pushes + 194597 }
-        ensures notes { Takes S.takes sink.old (sleep self.old task).notes sink.new }
-        ensures answered { AreAnswered (sleep self.old task).calls }
+        requires { HasRoom sleep_pushes self.old }
+        ensures { Does S.takes sleep_pushes (sleep self.old task)
+            self.old sink.old self.new sink.new }
     {
         sink.take(self.world.note(What::Sleep(task)));
         match self.world.cpu_of(task) {
@@ -225,11 +213,9 @@ impl Machine {
     #[tactic(auto, unfolding(crate::specs::Events::count_down), using(crate::proofs::Taking::takings))]
     fn count_down<S: Sink>(&mut self, cpu: u32, task: u16, sink: &mut S)
         requires early { (task_at self.old.world task).run_ns < 2 ^ 63 }
-        requires few { self.old.world.queues.pushes + 189477 ≤ 2 ^ 63 }
-        ensures state { self.new ≡ (count_down self.old cpu task).state }
-        ensures few { self.new.world.queues.pushes ≤ self.old.world.queues.pushes + 189477 }
-        ensures notes { Takes S.takes sink.old (count_down self.old cpu task).notes sink.new }
-        ensures answered { AreAnswered (count_down self.old cpu task).calls }
+        requires room { HasRoom cycle_pushes self.old }
+        ensures { Does S.takes cycle_pushes (count_down self.old cpu task)
+            self.old sink.old self.new sink.new }
     {
         self.world.run_tick(task);
         if self.world.task(task).slice == 0 {
@@ -241,11 +227,9 @@ impl Machine {
     #[tactic(auto, unfolding(crate::specs::Events::tick), using(crate::proofs::Taking::takings))]
     fn tick<S: Sink>(&mut self, cpu: u32, sink: &mut S)
         requires early { (t : ℕ) → (task_at self.old.world t).run_ns < 2 ^ 63 }
-        requires few { self.old.world.queues.pushes + 189477 ≤ 2 ^ 63 }
-        ensures state { self.new ≡ (tick self.old cpu).state }
-        ensures few { self.new.world.queues.pushes ≤ self.old.world.queues.pushes + 189477 }
-        ensures notes { Takes S.takes sink.old (tick self.old cpu).notes sink.new }
-        ensures answered { AreAnswered (tick self.old cpu).calls }
+        requires room { HasRoom cycle_pushes self.old }
+        ensures { Does S.takes cycle_pushes (tick self.old cpu)
+            self.old sink.old self.new sink.new }
     {
         match self.world.running(cpu) {
             Some(task) => self.count_down(cpu, task, sink),
@@ -268,11 +252,9 @@ impl Machine {
     #[tactic(auto, unfolding(crate::specs::Events::clock), using(crate::proofs::Taking::takings))]
     fn clock<S: Sink>(&mut self, sink: &mut S)
         requires early { self.old.world.clock < 2 ^ 32 }
-        requires few { self.old.world.queues.pushes + 1024 ≤ 2 ^ 63 }
-        ensures state { self.new ≡ (clock self.old).state }
-        ensures few { self.new.world.queues.pushes ≤ self.old.world.queues.pushes + 1024 }
-        ensures notes { Takes S.takes sink.old (clock self.old).notes sink.new }
-        ensures answered { AreAnswered (clock self.old).calls }
+        requires room { HasRoom eject_pushes self.old }
+        ensures { Does S.takes eject_pushes (clock self.old)
+            self.old sink.old self.new sink.new }
     {
         self.world.advance();
         if let Some(task) = self.overdue() {

@@ -1,6 +1,6 @@
-ghost use Rattle.std.specs.Prelude.{◌≡◌, ◌+◌, ◌≤◌, ◌^◌};
-ghost use Rattle.scx_machine.specs.Notes.{Takes};
-ghost use Rattle.scx_machine.specs.Callbacks.{AreAnswered};
+ghost use Rattle.std.specs.Prelude.{◌≡◌};
+ghost use Rattle.scx_machine.specs.Budgets.{HasRoom, enter_pushes, put_pushes};
+ghost use Rattle.scx_machine.specs.Does.{Does};
 ghost use Rattle.scx_machine.specs.Put.{enters, wanted, enters_builtin, comes_in, put};
 
 use crate::callbacks::task_and_number;
@@ -13,11 +13,9 @@ impl Machine {
     /// The task comes to wait as the insert wants it to.
     #[tactic(auto, unfolding(crate::specs::Put::enters), using(crate::proofs::Taking::takings))]
     pub(crate) fn enter<S: Sink>(&mut self, task: u16, insert: Insert, sink: &mut S)
-        requires few { self.old.world.queues.pushes + 1 ≤ 2 ^ 63 }
-        ensures state { self.new ≡ (enters self.old task insert).state }
-        ensures few { self.new.world.queues.pushes ≤ self.old.world.queues.pushes + 1 }
-        ensures notes { Takes S.takes sink.old (enters self.old task insert).notes sink.new }
-        ensures answered { AreAnswered (enters self.old task insert).calls }
+        requires { HasRoom enter_pushes self.old }
+        ensures { Does S.takes enter_pushes (enters self.old task insert)
+            self.old sink.old self.new sink.new }
     {
         sink.take(self.world.note(What::Insert(task, insert.queue)));
         self.world.enter(task, insert);
@@ -39,11 +37,9 @@ impl Machine {
     /// The task comes to wait for the built-in scheduler.
     #[tactic(auto, unfolding(crate::specs::Put::enters_builtin), using(crate::proofs::Taking::takings))]
     fn enter_builtin<S: Sink>(&mut self, task: u16, sink: &mut S)
-        requires few { self.old.world.queues.pushes + 1 ≤ 2 ^ 63 }
-        ensures state { self.new ≡ (enters_builtin self.old task).state }
-        ensures few { self.new.world.queues.pushes ≤ self.old.world.queues.pushes + 1 }
-        ensures notes { Takes S.takes sink.old (enters_builtin self.old task).notes sink.new }
-        ensures answered { AreAnswered (enters_builtin self.old task).calls }
+        requires { HasRoom enter_pushes self.old }
+        ensures { Does S.takes enter_pushes (enters_builtin self.old task)
+            self.old sink.old self.new sink.new }
     {
         sink.take(self.world.note(What::Insert(task, BUILTIN)));
         self.world.put_builtin(task);
@@ -52,11 +48,9 @@ impl Machine {
     /// The task comes to wait where enqueue wanted it to, or for the built-in scheduler.
     #[tactic(auto, unfolding(crate::specs::Put::comes_in), using(crate::proofs::Taking::takings))]
     fn come_in<S: Sink>(&mut self, task: u16, cpu: u32, sink: &mut S)
-        requires few { self.old.world.queues.pushes + 1 ≤ 2 ^ 63 }
-        ensures state { self.new ≡ (comes_in self.old task cpu).state }
-        ensures few { self.new.world.queues.pushes ≤ self.old.world.queues.pushes + 1 }
-        ensures notes { Takes S.takes sink.old (comes_in self.old task cpu).notes sink.new }
-        ensures answered { AreAnswered (comes_in self.old task cpu).calls }
+        requires { HasRoom enter_pushes self.old }
+        ensures { Does S.takes enter_pushes (comes_in self.old task cpu)
+            self.old sink.old self.new sink.new }
     {
         if self.is_ejected() {
             self.enter_builtin(task, sink);
@@ -68,11 +62,9 @@ impl Machine {
     /// Asks enqueue where the task is to wait, and puts it there.
     #[tactic(auto, unfolding(crate::specs::Put::put), using(crate::proofs::Taking::takings))]
     pub(crate) fn put<S: Sink>(&mut self, task: u16, cpu: u32, flags: u64, sink: &mut S)
-        requires few { self.old.world.queues.pushes + 5121 ≤ 2 ^ 63 }
-        ensures state { self.new ≡ (put self.old task cpu flags).state }
-        ensures few { self.new.world.queues.pushes ≤ self.old.world.queues.pushes + 5121 }
-        ensures notes { Takes S.takes sink.old (put self.old task cpu flags).notes sink.new }
-        ensures answered { AreAnswered (put self.old task cpu flags).calls }
+        requires { HasRoom put_pushes self.old }
+        ensures { Does S.takes put_pushes (put self.old task cpu flags)
+            self.old sink.old self.new sink.new }
     {
         self.call_back(
             Callback::Enqueue,
