@@ -75,7 +75,7 @@ fn an_element_is_reached_at_a_checked_number(rt: HostRuntime) -> Result<(), Fail
         (by(Numbers::all(), Operation::ShiftLeft, 3), all, Size::DoubleWord, leaves),
     ];
     for (numbers, wanted, size, verdict) in rows {
-        assert_eq!(rt; numbers.range(), wanted);
+        assert!(rt; numbers.range() == wanted);
         assert_eq!(rt; access(numbers, size), verdict);
     }
     Ok(())

@@ -22,8 +22,8 @@ use Rattle.scx_ranges.proofs.ElementOffsets.{moves_stay_within, advances_stay_wi
 pub joined_range : (r s : Range) → IsRange r → IsRange s → IsRange (join_ranges r s)
 joined_range r s wr ws = (join_is_least_cover r s wr ws).range
 
-pub cut_range : (o : Comparison) (b : Bool) (c : ℕ) (r q : Range) → IsRange r → c < 2 ^ 64 → cut o b c r ≡ Some q → IsRange q
-cut_range o b c r q w f e = subst IsCutRange e (cuts_are_ranges o b c r w f)
+pub cut_range : (o : Comparison) (b : Bool) (c : ℕ) (r q : Range) → IsRange r → cut o b c r ≡ Some q → IsRange q
+cut_range o b c r q w e = subst IsCutRange e (cuts_are_ranges o b c r w)
 
 pub computed_range : (w : Width) (o : Operation) (r s : Range) → IsRange r → IsRange s → IsRange (computed_at w o r s)
 computed_range w o r s wr ws = (arithmetic_is_sound w o).ranges r s wr ws

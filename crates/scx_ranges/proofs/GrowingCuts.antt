@@ -155,26 +155,26 @@ from_grows c s r ws wr d = cut_covers (from c s) (from c r) (from_range c s ws) 
 below_grows : (c : ℕ) (s r : Range) → IsRange s → IsRange r → CoversRange s r → CoversCut (below c s) (below c r)
 below_grows c s r ws wr d = cut_covers (below c s) (below c r) (below_range c s ws) (below_range c r wr) (λ n h. let p = below_only c n r wr h in below_keeps c n s ws (covers_in s r n d p.0) p.1)
 
-equal_grows : (c : ℕ) (s r : Range) → c < 2 ^ 64 → CoversRange s r → CoversCut (equal c s) (equal c r)
-equal_grows c s r f d = cut_covers (equal c s) (equal c r) (equal_range c s f) (equal_range c r f) (λ n h. let p = equal_only c n r h in equal_keeps c n s (covers_in s r n d p.0) p.1)
+equal_grows : (c : ℕ) (s r : Range) → IsRange s → IsRange r → CoversRange s r → CoversCut (equal c s) (equal c r)
+equal_grows c s r ws wr d = cut_covers (equal c s) (equal c r) (equal_range c s ws) (equal_range c r wr) (λ n h. let p = equal_only c n r h in equal_keeps c n s (covers_in s r n d p.0) p.1)
 
 unequal_grows : (c : ℕ) (s r : Range) → IsRange s → IsRange r → CoversRange s r → CoversCut (unequal c s) (unequal c r)
 unequal_grows c s r ws wr d = cut_covers (unequal c s) (unequal c r) (unequal_range c s ws) (unequal_range c r wr) (λ n h. unequal_in c n s r ws wr d h)
 
 pub cuts_grow : CutsGrow
-cuts_grow Equal true c s r ws wr f d = equal_grows c s r f d
-cuts_grow Equal false c s r ws wr f d = unequal_grows c s r ws wr d
-cuts_grow NotEqual true c s r ws wr f d = unequal_grows c s r ws wr d
-cuts_grow NotEqual false c s r ws wr f d = equal_grows c s r f d
-cuts_grow Greater true c s r ws wr f d = above_grows c s r ws wr d
-cuts_grow Greater false c s r ws wr f d = up_to_grows c s r ws wr d
-cuts_grow GreaterOrEqual true c s r ws wr f d = from_grows c s r ws wr d
-cuts_grow GreaterOrEqual false c s r ws wr f d = below_grows c s r ws wr d
-cuts_grow Less true c s r ws wr f d = below_grows c s r ws wr d
-cuts_grow Less false c s r ws wr f d = from_grows c s r ws wr d
-cuts_grow LessOrEqual true c s r ws wr f d = up_to_grows c s r ws wr d
-cuts_grow LessOrEqual false c s r ws wr f d = above_grows c s r ws wr d
-cuts_grow o b c s r ws wr f d = d
+cuts_grow Equal true c s r ws wr d = equal_grows c s r ws wr d
+cuts_grow Equal false c s r ws wr d = unequal_grows c s r ws wr d
+cuts_grow NotEqual true c s r ws wr d = unequal_grows c s r ws wr d
+cuts_grow NotEqual false c s r ws wr d = equal_grows c s r ws wr d
+cuts_grow Greater true c s r ws wr d = above_grows c s r ws wr d
+cuts_grow Greater false c s r ws wr d = up_to_grows c s r ws wr d
+cuts_grow GreaterOrEqual true c s r ws wr d = from_grows c s r ws wr d
+cuts_grow GreaterOrEqual false c s r ws wr d = below_grows c s r ws wr d
+cuts_grow Less true c s r ws wr d = below_grows c s r ws wr d
+cuts_grow Less false c s r ws wr d = from_grows c s r ws wr d
+cuts_grow LessOrEqual true c s r ws wr d = up_to_grows c s r ws wr d
+cuts_grow LessOrEqual false c s r ws wr d = above_grows c s r ws wr d
+cuts_grow o b c s r ws wr d = d
 
 -- ---- cuts narrow
 
@@ -197,4 +197,4 @@ cut_only LessOrEqual false c n r w h = (above_only c n r w h).0
 cut_only o b c n r w h = h
 
 pub cuts_narrow : CutsNarrow
-cuts_narrow o b c r w f = narrower (cut o b c r) r (cuts_are_ranges o b c r w f) w (λ n h. cut_only o b c n r w h)
+cuts_narrow o b c r w = narrower (cut o b c r) r (cuts_are_ranges o b c r w) w (λ n h. cut_only o b c n r w h)

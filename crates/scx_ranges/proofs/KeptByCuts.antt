@@ -1,7 +1,7 @@
 -- A cut keeps exactly the members that satisfy the comparison, but for an inequality, which takes only
 -- an end away.
 use Rattle.std.proofs.Common.{◌≡◌, ◌≢◌, ℕ, ◌+◌, ◌-◌, ◌%◌, ◌^◌, ◌<◌, ◌≤◌, min, max, Bool, true, false, not, ◌&&◌, nat_eq, nat_le, nat_lt, Some, None, if◌then◌else◌, sym, ap, ◌∙◌, arith}
-use Rattle.std.proofs.lemmas.Bool.{eqb-true, eqb-false, ltb-true, ltb-false, leb-true, leb-false, le-leb, eq-eqb}
+use Rattle.std.proofs.lemmas.Bool.{eqb-true, eqb-false, ltb-true, ltb-false, leb-true, leb-false, le-leb, eq-eqb, and_parts}
 use Rattle.scx_semantics.specs.declared.operations.Comparison.TheVariants.{Equal, Greater, GreaterOrEqual, NotEqual, Less, LessOrEqual}
 use Rattle.scx_ranges.specs.declared.ranges.Range.{Range}
 use Rattle.scx_ranges.specs.Ranges.{IsIn, IsRange, floor, between, single, contains}
@@ -145,8 +145,15 @@ from_range c r w = if_case IsCutRange (nat_eq c 0) (Some r) (above (c - 1) r) (�
 pub below_range : (c : ℕ) (r : Range) → IsRange r → IsCutRange (below c r)
 below_range c r w = if_case IsCutRange (nat_eq c 0) None (up_to (c - 1) r) (λ e. tt) (λ e. up_to_range (c - 1) r w)
 
-pub equal_range : (c : ℕ) (r : Range) → c < 2 ^ 64 → IsCutRange (equal c r)
-equal_range c r f = if_case IsCutRange (contains c r) (Some (single c)) None (λ e. single_range c f) (λ e. tt)
+contained_below : (c : ℕ) (r : Range) → contains c r ≡ true → c ≤ r.high
+contained_below c r e =
+    let last = and_parts (nat_le r.low c && nat_le c r.high) (nat_eq (c % 2 ^ r.shift) 0) e in
+    leb-true c r.high (and_parts (nat_le r.low c) (nat_le c r.high) last.0).1
+
+pub equal_range : (c : ℕ) (r : Range) → IsRange r → IsCutRange (equal c r)
+equal_range c r w =
+    if_case IsCutRange (contains c r) (Some (single c)) None
+    (λ e. single_range c (lower c r.high (2 ^ 64) (contained_below c r e) w.fits)) (λ e. tt)
 
 pub unequal_range : (c : ℕ) (r : Range) → IsRange r → IsCutRange (unequal c r)
 unequal_range c r w =
@@ -169,19 +176,19 @@ unequal_range c r w =
     (λ f. w))
 
 pub cuts_are_ranges : CutsAreRanges
-cuts_are_ranges Equal true c r w f = equal_range c r f
-cuts_are_ranges Equal false c r w f = unequal_range c r w
-cuts_are_ranges NotEqual true c r w f = unequal_range c r w
-cuts_are_ranges NotEqual false c r w f = equal_range c r f
-cuts_are_ranges Greater true c r w f = above_range c r w
-cuts_are_ranges Greater false c r w f = up_to_range c r w
-cuts_are_ranges GreaterOrEqual true c r w f = from_range c r w
-cuts_are_ranges GreaterOrEqual false c r w f = below_range c r w
-cuts_are_ranges Less true c r w f = below_range c r w
-cuts_are_ranges Less false c r w f = from_range c r w
-cuts_are_ranges LessOrEqual true c r w f = up_to_range c r w
-cuts_are_ranges LessOrEqual false c r w f = above_range c r w
-cuts_are_ranges o b c r w f = w
+cuts_are_ranges Equal true c r w = equal_range c r w
+cuts_are_ranges Equal false c r w = unequal_range c r w
+cuts_are_ranges NotEqual true c r w = unequal_range c r w
+cuts_are_ranges NotEqual false c r w = equal_range c r w
+cuts_are_ranges Greater true c r w = above_range c r w
+cuts_are_ranges Greater false c r w = up_to_range c r w
+cuts_are_ranges GreaterOrEqual true c r w = from_range c r w
+cuts_are_ranges GreaterOrEqual false c r w = below_range c r w
+cuts_are_ranges Less true c r w = below_range c r w
+cuts_are_ranges Less false c r w = from_range c r w
+cuts_are_ranges LessOrEqual true c r w = up_to_range c r w
+cuts_are_ranges LessOrEqual false c r w = above_range c r w
+cuts_are_ranges o b c r w = w
 
 -- ---- nothing else is kept
 

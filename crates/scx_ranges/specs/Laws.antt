@@ -1,6 +1,6 @@
 -- What ranges and cuts are for: the order is inclusion of sets, the join the least cover; a cut keeps
 -- the members that take its side, and more is kept where more was.
-use Rattle.std.specs.Prelude.{ℕ, ◌^◌, ◌≡◌, ◌<◌, Bool, true, false, not, Option, Some, None}
+use Rattle.std.specs.Prelude.{ℕ, ◌≡◌, ◌<◌, Bool, true, false, not, Option, Some, None}
 use Rattle.scx_semantics.specs.declared.operations.Width.TheVariants.{Bits64}
 use Rattle.scx_semantics.specs.declared.operations.Comparison.{Comparison}
 use Rattle.scx_semantics.specs.declared.operations.Comparison.TheVariants.{Equal, Greater, GreaterOrEqual, NotEqual, Less, LessOrEqual}
@@ -70,13 +70,13 @@ InequalitiesTakeEnds = (c : ℕ) (r : Range) → IsRange r → IsInCut c (unequa
 
 -- what is left is a range
 abbrev pub CutsAreRanges : Type 0
-CutsAreRanges = (o : Comparison) (b : Bool) (c : ℕ) (r : Range) → IsRange r → c < 2 ^ 64 → IsCutRange (cut o b c r)
+CutsAreRanges = (o : Comparison) (b : Bool) (c : ℕ) (r : Range) → IsRange r → IsCutRange (cut o b c r)
 
 -- of more, more is left
 abbrev pub CutsGrow : Type 0
 CutsGrow =
-    (o : Comparison) (b : Bool) (c : ℕ) (s r : Range) → IsRange s → IsRange r → c < 2 ^ 64 → CoversRange s r → CoversCut (cut o b c s) (cut o b c r)
+    (o : Comparison) (b : Bool) (c : ℕ) (s r : Range) → IsRange s → IsRange r → CoversRange s r → CoversCut (cut o b c s) (cut o b c r)
 
 -- no more is left than there was
 abbrev pub CutsNarrow : Type 0
-CutsNarrow = (o : Comparison) (b : Bool) (c : ℕ) (r : Range) → IsRange r → c < 2 ^ 64 → CoversCut (Some r) (cut o b c r)
+CutsNarrow = (o : Comparison) (b : Bool) (c : ℕ) (r : Range) → IsRange r → CoversCut (Some r) (cut o b c r)

@@ -1,4 +1,4 @@
-ghost use Rattle.std.specs.Prelude.{◌≡◌, ◌<◌, ◌+◌, ◌-◌, ◌^◌};
+ghost use Rattle.std.specs.Prelude.{◌≡◌, ◌<◌, ◌+◌, ◌-◌, ◌^◌, true, false};
 ghost use Rattle.scx_ranges.specs.Ranges.{IsRange, floor};
 ghost use Rattle.scx_ranges.specs.Cuts.{above, up_to, from, below, equal, unequal, cut};
 
@@ -12,15 +12,43 @@ impl Range {
         requires { IsRange self }
         ensures { result ≡ cut comparison answer c self }
     {
-        match (comparison, answer) {
-            (Comparison::Equal, true) | (Comparison::NotEqual, false) => equal(c, self),
-            (Comparison::Equal, false) | (Comparison::NotEqual, true) => unequal(c, self),
-            (Comparison::Greater, true) | (Comparison::LessOrEqual, false) => above(c, self),
-            (Comparison::Greater, false) | (Comparison::LessOrEqual, true) => up_to(c, self),
-            (Comparison::GreaterOrEqual, true) | (Comparison::Less, false) => from(c, self),
-            (Comparison::GreaterOrEqual, false) | (Comparison::Less, true) => below(c, self),
-            _ => Some(self),
+        if answer {
+            accepted(comparison, c, self)
+        } else {
+            refused(comparison, c, self)
         }
+    }
+}
+
+/// The members for which the comparison holds.
+fn accepted(comparison: Comparison, c: u64, range: Range) -> Option<Range>
+    requires { IsRange range }
+    ensures { result ≡ cut comparison true c range }
+{
+    match comparison {
+        Comparison::Equal => equal(c, range),
+        Comparison::NotEqual => unequal(c, range),
+        Comparison::Greater => above(c, range),
+        Comparison::GreaterOrEqual => from(c, range),
+        Comparison::Less => below(c, range),
+        Comparison::LessOrEqual => up_to(c, range),
+        _ => Some(range),
+    }
+}
+
+/// The members for which it doesn't.
+fn refused(comparison: Comparison, c: u64, range: Range) -> Option<Range>
+    requires { IsRange range }
+    ensures { result ≡ cut comparison false c range }
+{
+    match comparison {
+        Comparison::Equal => unequal(c, range),
+        Comparison::NotEqual => equal(c, range),
+        Comparison::Greater => up_to(c, range),
+        Comparison::GreaterOrEqual => below(c, range),
+        Comparison::Less => from(c, range),
+        Comparison::LessOrEqual => above(c, range),
+        _ => Some(range),
     }
 }
 
@@ -53,7 +81,11 @@ fn up_to(c: u64, range: Range) -> Option<Range>
     ensures { result ≡ up_to c range }
 {
     if range.low <= c {
-        Some(between(range.low, range.high.min(floor(c, range.shift)), range.shift))
+        Some(between(
+            range.low,
+            range.high.min(floor(c, range.shift)),
+            range.shift,
+        ))
     } else {
         None
     }

@@ -4,7 +4,7 @@ ghost use Rattle.scx_ranges.specs.Ranges.{IsRange, trailing, floor, between, sin
 /// The multiples of two to the power of `shift` from `low` to `high`.
 ///
 /// Any three numbers may stand here; those of a `Numbers` or an `Offsets` are well formed.
-#[derive(Clone, Copy, Debug, PartialEq, Eq)]
+#[derive(Clone, Copy, PartialEq, Eq)]
 pub struct Range {
     /// The least member.
     pub low: u64,

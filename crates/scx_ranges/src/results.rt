@@ -51,8 +51,7 @@ impl Range {
         ensures { result ≡ copied width self }
     {
         match width {
-            Width::Bits32 if self.is_single() => Range::single(low(Width::Bits32, self.low)),
-            Width::Bits32 => WORDS,
+            Width::Bits32 => copied32(self),
             Width::Bits64 => self,
         }
     }
@@ -110,6 +109,17 @@ fn widest(width: Width) -> Range
     match width {
         Width::Bits32 => WORDS,
         Width::Bits64 => Range::ALL,
+    }
+}
+
+/// What a 32-bit move makes of its operand.
+fn copied32(range: Range) -> Range
+    ensures { result ≡ copied Bits32 range }
+{
+    if range.is_single() {
+        Range::single(low(Width::Bits32, range.low))
+    } else {
+        WORDS
     }
 }
 
