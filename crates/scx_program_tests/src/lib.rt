@@ -15,6 +15,8 @@ mod malicious;
 #[cfg(test)]
 mod programs;
 #[cfg(test)]
+mod ranges;
+#[cfg(test)]
 mod refusals;
 #[cfg(test)]
 mod runs;

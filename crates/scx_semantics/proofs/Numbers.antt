@@ -76,7 +76,7 @@ positive : (w : Width) → 0 < 2 ^ bits w
 positive Bits32 = omega arith
 positive Bits64 = omega arith
 
-operated : (w : Width) (o : Operation) (a b : ℕ) → a < 2 ^ bits w → b < 2 ^ bits w → operate w o a b < 2 ^ bits w
+pub operated : (w : Width) (o : Operation) (a b : ℕ) → a < 2 ^ bits w → b < 2 ^ bits w → operate w o a b < 2 ^ bits w
 operated w Add a b p q = let some = positive w in omega arith
 operated w Subtract a b p q = let some = positive w in omega arith
 operated w Multiply a b p q = let some = positive w in omega arith
@@ -107,7 +107,7 @@ width_below : (w : Width) (n : ℕ) → n < 2 ^ bits w → n < 2 ^ 64
 width_below Bits32 n h = omega arith
 width_below Bits64 n h = h
 
-low_fits : (w : Width) (n : ℕ) → n < 2 ^ 64 → low w n < 2 ^ bits w
+pub low_fits : (w : Width) (n : ℕ) → n < 2 ^ 64 → low w n < 2 ^ bits w
 low_fits Bits32 n h = omega arith
 low_fits Bits64 n h = h
 

@@ -1,0 +1,50 @@
+-- What is built is a range, function by function.
+use Rattle.std.proofs.Common.{◌≡◌, ℕ, ℤ, ◌^◌, ◌<◌, ◌≤◌, Bool, Some, subst}
+use Rattle.scx_semantics.specs.declared.operations.Width.{Width}
+use Rattle.scx_semantics.specs.declared.operations.Operation.{Operation}
+use Rattle.scx_semantics.specs.declared.operations.Comparison.{Comparison}
+use Rattle.scx_semantics.specs.declared.operations.Extension.{Extension}
+use Rattle.scx_semantics.specs.declared.operations.ByteOrder.{ByteOrder}
+use Rattle.scx_semantics.specs.declared.operations.SwapWidth.{SwapWidth}
+use Rattle.scx_semantics.specs.declared.operations.Access.{Access}
+use Rattle.scx_ranges.specs.declared.ranges.Range.{Range}
+use Rattle.scx_ranges.specs.Ranges.{IsRange, join_ranges}
+use Rattle.scx_ranges.specs.Cuts.{cut}
+use Rattle.scx_ranges.specs.Laws.{IsCutRange}
+use Rattle.scx_ranges.specs.Results.{computed_at, copied, negated_range, extended_range, swapped_range, loaded}
+use Rattle.scx_ranges.specs.Offsets.{moved, advanced}
+use Rattle.scx_ranges.specs.OffsetLaws.{IsWithin}
+use Rattle.scx_ranges.proofs.Order.{join_is_least_cover}
+use Rattle.scx_ranges.proofs.KeptByCuts.{cuts_are_ranges}
+use Rattle.scx_ranges.proofs.AllWidths.{arithmetic_is_sound, copies_are_sound, negatives_are_sound, extensions_are_sound, swaps_are_sound, loads_are_sound}
+use Rattle.scx_ranges.proofs.ElementOffsets.{moves_stay_within, advances_stay_within}
+
+pub joined_range : (r s : Range) → IsRange r → IsRange s → IsRange (join_ranges r s)
+joined_range r s wr ws = (join_is_least_cover r s wr ws).range
+
+pub cut_range : (o : Comparison) (b : Bool) (c : ℕ) (r q : Range) → IsRange r → cut o b c r ≡ Some q → IsRange q
+cut_range o b c r q w e = subst IsCutRange e (cuts_are_ranges o b c r w)
+
+pub computed_range : (w : Width) (o : Operation) (r s : Range) → IsRange r → IsRange s → IsRange (computed_at w o r s)
+computed_range w o r s wr ws = (arithmetic_is_sound w o).ranges r s wr ws
+
+pub copied_range : (w : Width) (r : Range) → IsRange r → IsRange (copied w r)
+copied_range w r wr = (copies_are_sound w).ranges r wr
+
+pub negative_range : (w : Width) (r : Range) → IsRange r → IsRange (negated_range w r)
+negative_range w r wr = (negatives_are_sound w).ranges r wr
+
+pub extension_range : (e : Extension) (r : Range) → IsRange r → IsRange (extended_range e r)
+extension_range e r wr = (extensions_are_sound e).ranges r wr
+
+pub swap_range : (o : ByteOrder) (w : SwapWidth) (r : Range) → IsRange r → IsRange (swapped_range o w r)
+swap_range o w r wr = (swaps_are_sound o w).ranges r wr
+
+pub load_range : (a : Access) → IsRange (loaded a)
+load_range a = (loads_are_sound a).range
+
+pub moved_within : (size : ℕ) (r q : Range) (k : ℤ) → IsRange r → size < 2 ^ 64 → moved size r k ≡ Some q → IsRange q × (q.high ≤ size)
+moved_within size r q k w f e = subst (IsWithin size) e (moves_stay_within size r k w f)
+
+pub advanced_within : (size : ℕ) (r s q : Range) → IsRange r → IsRange s → size < 2 ^ 64 → advanced size r s ≡ Some q → IsRange q × (q.high ≤ size)
+advanced_within size r s q wr ws f e = subst (IsWithin size) e (advances_stay_within size r s wr ws f)

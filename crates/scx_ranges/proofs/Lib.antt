@@ -1,0 +1,11 @@
+pub mod Multiples
+pub mod Order
+pub mod KeptByCuts
+pub mod GrowingCuts
+pub mod ExactCuts
+pub mod KeptByResults
+pub mod ResultRanges
+pub mod GrowingResults
+pub mod AllWidths
+pub mod ElementOffsets
+pub mod BuiltRanges

@@ -1,0 +1,51 @@
+-- What results are for: a result holds every number that the instruction computes of members, is a range,
+-- and grows with the ranges that it is made of. Numbers are below 2^64, as members of ranges are.
+use Rattle.std.specs.Prelude.{ℕ, ◌^◌, ◌<◌}
+use Rattle.scx_semantics.specs.declared.operations.Width.{Width}
+use Rattle.scx_semantics.specs.declared.operations.Operation.{Operation}
+use Rattle.scx_semantics.specs.declared.operations.Extension.{Extension}
+use Rattle.scx_semantics.specs.declared.operations.ByteOrder.{ByteOrder}
+use Rattle.scx_semantics.specs.declared.operations.SwapWidth.{SwapWidth}
+use Rattle.scx_semantics.specs.declared.operations.Access.{Access}
+use Rattle.scx_semantics.specs.Arithmetic.{low, compute, negated, extended, byte_swapped}
+use Rattle.scx_semantics.specs.Memory.{size_bytes, access_size, read_as}
+use Rattle.scx_ranges.specs.declared.ranges.Range.{Range}
+use Rattle.scx_ranges.specs.Ranges.{IsIn, IsRange, CoversRange}
+use Rattle.scx_ranges.specs.Results.{computed_at, copied, negated_range, extended_range, swapped_range, loaded}
+
+-- of an operation on two numbers, and what is known of its results
+pub record AreResults (f : ℕ → ℕ → ℕ) (known : Range → Range → Range) : Type 0 where
+  pub kept : (r s : Range) (n m : ℕ) → IsRange r → IsRange s → IsIn n r → IsIn m s → IsIn (f n m) (known r s)
+  pub ranges : (r s : Range) → IsRange r → IsRange s → IsRange (known r s)
+  pub grow :
+      (r' s' r s : Range) → IsRange r' → IsRange s' → IsRange r → IsRange s
+      → CoversRange r' r → CoversRange s' s → CoversRange (known r' s') (known r s)
+
+-- the same of one
+pub record AreImages (f : ℕ → ℕ) (known : Range → Range) : Type 0 where
+  pub kept : (r : Range) (n : ℕ) → IsRange r → IsIn n r → IsIn (f n) (known r)
+  pub ranges : (r : Range) → IsRange r → IsRange (known r)
+  pub grow : (r' r : Range) → IsRange r' → IsRange r → CoversRange r' r → CoversRange (known r') (known r)
+
+abbrev pub ArithmeticIsSound : Type 0
+ArithmeticIsSound = (w : Width) (o : Operation) → AreResults (compute w o) (computed_at w o)
+
+abbrev pub CopiesAreSound : Type 0
+CopiesAreSound = (w : Width) → AreImages (low w) (copied w)
+
+abbrev pub NegativesAreSound : Type 0
+NegativesAreSound = (w : Width) → AreImages (negated w) (negated_range w)
+
+abbrev pub ExtensionsAreSound : Type 0
+ExtensionsAreSound = (e : Extension) → AreImages (extended e) (extended_range e)
+
+abbrev pub SwapsAreSound : Type 0
+SwapsAreSound = (o : ByteOrder) (w : SwapWidth) → AreImages (byte_swapped o w) (swapped_range o w)
+
+-- what a load makes of a number of its size
+pub record IsLoaded (a : Access) : Type 0 where
+  pub range : IsRange (loaded a)
+  pub kept : (n : ℕ) → n < 256 ^ size_bytes (access_size a) → IsIn (read_as a n) (loaded a)
+
+abbrev pub LoadsAreSound : Type 0
+LoadsAreSound = (a : Access) → IsLoaded a

@@ -1,0 +1,165 @@
+ghost use Rattle.std.specs.Prelude.{◌≡◌};
+ghost use Rattle.scx_ranges.specs.Ranges.{IsRange, all, single, is_single, join_ranges};
+ghost use Rattle.scx_ranges.specs.Cuts.{cut};
+ghost use Rattle.scx_ranges.specs.Steps.{shift_of};
+ghost use Rattle.scx_ranges.specs.Results.{computed_at, copied, negated_range, extended_range, swapped_range, loaded};
+
+use crate::ranges::Range;
+use crate::steps::Step;
+use scx_semantics::{Access, ByteOrder, Comparison, Extension, Operation, SwapWidth, Width};
+use std::marker::Model;
+
+/// What is known of a 64-bit number: it is one of a range.
+///
+/// In a contract it is that range, and well formed.
+#[derive(Clone, Copy, PartialEq, Eq)]
+pub struct Numbers {
+    low: u64,
+    high: u64,
+    step: Step,
+}
+
+impl Model for Numbers {
+    ghost use Rattle.scx_ranges.specs.declared.ranges.Range.{Range};
+    ghost use Rattle.scx_ranges.specs.Ranges.{IsRange};
+    ghost use Rattle.scx_ranges.specs.Steps.{shift_of, step_of, step_back};
+
+    ghost Value = { Range };
+
+    ghost view = { λ s. record { low = s.low; high = s.high; shift = shift_of s.step } };
+
+    ghost invariant = { λ s. IsRange (record { low = s.low; high = s.high; shift = shift_of s.step }) };
+
+    ghost inverse = { λ r. record { low = r.low; high = r.high; step = step_of r.shift } };
+
+    ghost inverse_ok = { λ s h. λ i. record { low = s.low; high = s.high; step = step_back s.step i } };
+}
+
+impl Numbers {
+    /// The numbers of a range.
+    pub(crate) fn of(range: Range) -> Numbers
+        requires { IsRange range }
+        ensures { result ≡ range }
+    {
+        Numbers {
+            low: range.low,
+            high: range.high,
+            step: Step::of(range.shift),
+        }
+    }
+
+    /// The range.
+    pub fn range(self) -> Range
+        ensures same { result ≡ self }
+        ensures range { IsRange result }
+    {
+        Range {
+            low: self.low,
+            high: self.high,
+            shift: self.step.shift(),
+        }
+    }
+
+    /// All numbers: nothing is known.
+    #[tactic(auto, using(crate::proofs::Multiples::all_range))]
+    pub fn all() -> Numbers
+        ensures { result ≡ all }
+    {
+        Numbers::of(Range::ALL)
+    }
+
+    /// One number.
+    #[tactic(auto, using(crate::proofs::Multiples::single_range))]
+    pub fn single(n: u64) -> Numbers
+        ensures { result ≡ single n }
+    {
+        Numbers::of(Range::single(n))
+    }
+
+    /// Whether it is one number alone.
+    pub fn is_single(self) -> bool
+        ensures { result ≡ is_single self }
+    {
+        self.low == self.high
+    }
+
+    /// The least of them; of a single number the number.
+    pub fn low(self) -> u64
+        ensures { result ≡ self.low }
+    {
+        self.low
+    }
+
+    /// The least range that holds both.
+    #[tactic(auto, using(crate::proofs::BuiltRanges::joined_range))]
+    pub fn join(self, other: Numbers) -> Numbers
+        ensures { result ≡ join_ranges self other }
+    {
+        Numbers::of(self.range().join(other.range()))
+    }
+
+    /// The numbers for which the 64-bit comparison with `c` has that answer (RFC 9669, section 4.3),
+    /// or none if there are none. `!=` takes only an end away; signed comparisons and bit tests take
+    /// nothing.
+    pub fn cut(self, comparison: Comparison, answer: bool, c: u64) -> Option<Numbers>
+        ensures { result ≡ cut comparison answer c self }
+    {
+        match self.range().cut(comparison, answer, c) {
+            Some(range) => Some(Numbers::of(range)),
+            None => None,
+        }
+    }
+
+    /// What arithmetic makes of a destination and an operand (RFC 9669, section 4.1).
+    #[tactic(auto, using(crate::proofs::BuiltRanges::computed_range))]
+    pub fn computed(
+        width: Width,
+        operation: Operation,
+        numbers: Numbers,
+        operand: Numbers,
+    ) -> Numbers
+        ensures { result ≡ computed_at width operation numbers operand }
+    {
+        Numbers::of(Range::computed(width, operation, numbers.range(), operand.range()))
+    }
+
+    /// What a move makes of its operand (RFC 9669, section 4.1), whatever its destination was.
+    #[tactic(auto, using(crate::proofs::BuiltRanges::copied_range))]
+    pub fn copied(self, width: Width) -> Numbers
+        ensures { result ≡ copied width self }
+    {
+        Numbers::of(self.range().copied(width))
+    }
+
+    /// What negation makes of them (RFC 9669, section 4.1).
+    #[tactic(auto, using(crate::proofs::BuiltRanges::negative_range))]
+    pub fn negated(self, width: Width) -> Numbers
+        ensures { result ≡ negated_range width self }
+    {
+        Numbers::of(self.range().negated(width))
+    }
+
+    /// What a move that extends a sign makes of its operand (RFC 9669, section 4.1).
+    #[tactic(auto, using(crate::proofs::BuiltRanges::extension_range))]
+    pub fn extended(self, extension: Extension) -> Numbers
+        ensures { result ≡ extended_range extension self }
+    {
+        Numbers::of(self.range().extended(extension))
+    }
+
+    /// What a byte swap makes of them (RFC 9669, section 4.2).
+    #[tactic(auto, using(crate::proofs::BuiltRanges::swap_range))]
+    pub fn byte_swapped(self, order: ByteOrder, width: SwapWidth) -> Numbers
+        ensures { result ≡ swapped_range order width self }
+    {
+        Numbers::of(self.range().byte_swapped(order, width))
+    }
+
+    /// What a load of a number gives (RFC 9669, section 5).
+    #[tactic(auto, using(crate::proofs::BuiltRanges::load_range))]
+    pub fn loaded(access: Access) -> Numbers
+        ensures { result ≡ loaded access }
+    {
+        Numbers::of(Range::loaded(access))
+    }
+}
