@@ -1,10 +1,10 @@
 ghost use Rattle.std.specs.Prelude.{◌≡◌, ◌+◌, ◌<◌, ◌≤◌, ◌^◌, ok_or};
 ghost use Rattle.scx_text.specs.Items.{item_value};
-ghost use Rattle.scx_text.specs.declared.items.Statement.TheVariants.{LoadImmediate};
+ghost use Rattle.scx_text.specs.declared.items.Statement.TheVariants.{Binary, LoadImmediate, LoadMapReference, Load, Store, Call};
 ghost use Rattle.scx_asm.specs.Resolving.{immediate, short, long, operand_of, insn_of, jump_of, distant, fits, slots, distance, or_out_of_range};
 
 use crate::faults::AsmFault;
-use scx_isa::{Insn, Operand, Register};
+use scx_isa::{Access, Insn, Operand, Operation, Register, Size, Width};
 use scx_text::{Item, Jump, Literal, Statement, Target, WrittenOperand};
 
 /// The number, if it fits 32 bits with its sign.
@@ -66,14 +66,51 @@ fn immediate_load_of(register: Register, number: Literal) -> Option<Insn>
     Some(Insn::LoadImmediate(register, low.cast_signed(), high.cast_signed()))
 }
 
+fn binary_of(
+    width: Width,
+    operation: Operation,
+    register: Register,
+    argument: WrittenOperand,
+) -> Option<Insn>
+    ensures { result ≡ insn_of (Binary width operation register argument) }
+{
+    let operand = operand_of(argument)?;
+    Some(Insn::Binary(width, operation, register, operand))
+}
+
+fn map_reference_of(register: Register, map: Literal) -> Option<Insn>
+    ensures { result ≡ insn_of (LoadMapReference register map) }
+{
+    Some(Insn::LoadMapReference(register, immediate_of(map)?))
+}
+
+fn load_of(access: Access, register: Register, base: Register, offset: Literal) -> Option<Insn>
+    ensures { result ≡ insn_of (Load access register base offset) }
+{
+    let offset = short_of(immediate_of(offset)?)?;
+    Some(Insn::Load(access, register, base, offset))
+}
+
+fn store_of(size: Size, base: Register, offset: Literal, argument: WrittenOperand) -> Option<Insn>
+    ensures { result ≡ insn_of (Store size base offset argument) }
+{
+    let offset = short_of(immediate_of(offset)?)?;
+    Some(Insn::Store(size, base, offset, operand_of(argument)?))
+}
+
+fn call_of(helper: Literal) -> Option<Insn>
+    ensures { result ≡ insn_of (Call helper) }
+{
+    Some(Insn::Call(immediate_of(helper)?))
+}
+
 /// The instruction that a statement stands for, if its numbers fit.
 fn insn_of(statement: Statement) -> Option<Insn>
     ensures { result ≡ insn_of statement }
 {
     match statement {
         Statement::Binary(width, operation, register, argument) => {
-            let operand = operand_of(argument)?;
-            Some(Insn::Binary(width, operation, register, operand))
+            binary_of(width, operation, register, argument)
         }
         Statement::Negate(width, register) => Some(Insn::Negate(width, register)),
         Statement::SignExtend(extension, register, source) => {
@@ -81,18 +118,10 @@ fn insn_of(statement: Statement) -> Option<Insn>
         }
         Statement::ByteSwap(order, width, register) => Some(Insn::ByteSwap(order, width, register)),
         Statement::LoadImmediate(register, number) => immediate_load_of(register, number),
-        Statement::LoadMapReference(register, map) => {
-            Some(Insn::LoadMapReference(register, immediate_of(map)?))
-        }
-        Statement::Load(access, register, base, offset) => {
-            let offset = short_of(immediate_of(offset)?)?;
-            Some(Insn::Load(access, register, base, offset))
-        }
-        Statement::Store(size, base, offset, argument) => {
-            let offset = short_of(immediate_of(offset)?)?;
-            Some(Insn::Store(size, base, offset, operand_of(argument)?))
-        }
-        Statement::Call(helper) => Some(Insn::Call(immediate_of(helper)?)),
+        Statement::LoadMapReference(register, map) => map_reference_of(register, map),
+        Statement::Load(access, register, base, offset) => load_of(access, register, base, offset),
+        Statement::Store(size, base, offset, argument) => store_of(size, base, offset, argument),
+        Statement::Call(helper) => call_of(helper),
         Statement::Exit => Some(Insn::Exit),
     }
 }

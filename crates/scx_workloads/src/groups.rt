@@ -13,7 +13,7 @@ ghost use Rattle.scx_workloads.specs.Kept.{texts};
 use crate::elements::{index_of, integer_or, some_elements};
 use scx_files::{Cause, Limits, LoadError, Section, element_path, refused};
 use scx_weights::{Group, MAX_GROUPS, MAX_WEIGHT};
-use std::alloc::Global;
+use std::alloc::{AllocError, Global};
 use std::marker::Model;
 use toml::Value;
 
@@ -93,10 +93,26 @@ impl Groups {
             (with_group self section.entry.path.now (table_view section.entry.table.now)) }
         ensures count { IfOk result (λ g. length g.groups ≡ length self.groups + 1) }
     {
+        let (name, group) = self.read_group(alloc, section)?;
+        self.with(alloc, name, group)
+    }
+
+    /// The name and the group that an element says.
+    fn read_group<'a>(
+        &self,
+        alloc: Global,
+        section: Section<'a>,
+    ) -> Result<(&'a str, Group), LoadError>
+        ensures { Gives (λ read. (record {
+              names = self.now.names ++ read.0.now ∷ [];
+              groups = self.now.groups ++ read.1 ∷ [];
+            })) result
+            (with_group self.now section.entry.path.now (table_view section.entry.table.now)) }
+    {
         let name = new_name(alloc, &self.names, section)?;
         let weight = integer_or(alloc, section, "weight", WEIGHT, DEFAULT_WEIGHT)?;
         let parent = self.parent(alloc, section)?;
-        self.with(alloc, name, Group { parent, weight })
+        Ok((name, Group { parent, weight }))
     }
 
     fn with(self, alloc: Global, name: &str, group: Group) -> Result<Groups, LoadError>
@@ -110,12 +126,9 @@ impl Groups {
             })) }
         ensures memory { IfErr result (λ e. e ≡ NoMemory) }
     {
-        let Groups {
-            mut names,
-            mut groups,
-        } = self;
-        names.push(String::from_str(alloc, name)?)?;
+        let Groups { names, mut groups } = self;
         groups.push(group)?;
+        let names = with_name(alloc, names, name)?;
         Ok(Groups { names, groups })
     }
 
@@ -190,6 +203,18 @@ impl Groups {
     {
         (self.groups, self.names)
     }
+}
+
+/// The names with one more.
+fn with_name(
+    alloc: Global,
+    mut names: Vec<String>,
+    name: &str,
+) -> Result<Vec<String>, AllocError>
+    ensures { IfOk result (λ all. texts all.items ≡ texts names.items ++ name.now ∷ []) }
+{
+    names.push(String::from_str(alloc, name)?)?;
+    Ok(names)
 }
 
 /// The name of an element, which none of these is. `Missing`, `WrongType`, `BadName` or `Twice`.
