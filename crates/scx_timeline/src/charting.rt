@@ -1,4 +1,4 @@
-ghost use Rattle.std.specs.Prelude.{◌≡◌, true, IfOk};
+ghost use Rattle.std.specs.Prelude.{◌≡◌, true, IfOk, IfErr};
 ghost use Rattle.scx_outcomes.specs.Outcome.{IfRefused, IsRefused};
 ghost use Rattle.scx_simulation.specs.Runs.{IsCause};
 
@@ -6,6 +6,7 @@ use crate::documents::{Document, room_for_object};
 use crate::lengths::{Length, Lengths, queue_name};
 use crate::objects::{Complete, Counter, Instant, Title};
 use arrayvec::ArrayString;
+use scx_driver::Driver;
 use scx_outcomes::{Fault, Refusal};
 use scx_output::{Failed, Out};
 use scx_sched::{Event, Sim, What};
@@ -57,12 +58,20 @@ pub fn timeline<W: Out>(
     ensures refused { IfRefused result (IsCause policy.now workload.now) }
     ensures quiet { IsRefused result → out.new ≡ out.old }
 {
-    let run = prepare(alloc, policy, workload)?;
-    let Ok(room) = Room::new(alloc, &run.workload) else {
-        return Err(Fault::Refused(Refusal::NoMemory));
-    };
+    let (run, room) = start(alloc, policy, workload)?;
     write_timeline(alloc, run, room, out)?;
     Ok(true)
+}
+
+/// The run that is about to begin, and room for its timeline.
+fn start(alloc: Global, policy: &str, workload: &str) -> Result<(Run, Room), Refusal>
+    ensures { IfErr result (IsCause policy.now workload.now) }
+{
+    let run = prepare(alloc, policy, workload)?;
+    match Room::new(alloc, &run.workload) {
+        Ok(room) => Ok((run, room)),
+        Err(_) => Err(Refusal::NoMemory),
+    }
 }
 
 /// Goes through the run, and writes its timeline.
@@ -73,9 +82,7 @@ fn write_timeline<W: Out>(alloc: Global, run: Run, room: Room, out: &mut W) -> R
         mut sim,
     } = run;
     let mut chart = Chart::new(alloc, &workload, room, out);
-    chart.begin()?;
-    watch(&mut sim, &mut driver, &mut chart);
-    chart.end(sim.clock())
+    chart.write(&mut sim, &mut driver)
 }
 
 /// A task that runs, and since which moment.
@@ -130,6 +137,13 @@ impl<'a, W: Out> Chart<'a, W> {
         }
     }
 
+    /// Goes through the run, and writes it.
+    fn write(&mut self, sim: &mut Sim, driver: &mut Driver) -> Result<(), Failed> {
+        self.begin()?;
+        watch(sim, driver, self);
+        self.end(sim.clock())
+    }
+
     /// Names the tracks.
     fn begin(&mut self) -> Result<(), Failed> {
         self.title("process_name", CPUS, 0, "processors")?;
@@ -170,33 +184,24 @@ impl<'a, W: Out> Chart<'a, W> {
         match what {
             What::Wake(task) => self.instant(moment, WAKES, "t", self.workload.task(task)),
             What::Sleep(task) => self.place(moment, task, None),
-            What::Insert(task, queue) => {
-                self.happen(moment, INSERTS, task, queue)?;
-                self.place(moment, task, Some(queue))
-            }
+            What::Insert(task, queue) => self.enter(moment, INSERTS, task, queue),
             What::Move(task, cpu) => {
                 let queue = LOCAL_ON.saturating_add(u64::from(cpu));
-                self.happen(moment, MOVES, task, queue)?;
-                self.place(moment, task, Some(queue))
+                self.enter(moment, MOVES, task, queue)
             }
             What::Run(task, cpu) => {
-                self.place(moment, task, None)?;
                 self.run(moment, task, cpu);
-                Ok(())
+                self.place(moment, task, None)
             }
             What::Stop(_, cpu) => self.stop(moment, cpu),
             What::Idle(_) | What::Weight(_, _) => Ok(()),
-            What::Stall(task) => {
-                let mut label = Label::new();
-                let _ = write!(label, "eject stall {}", self.workload.task(task));
-                self.instant(moment, EJECTIONS, "g", label.as_str())
-            }
-            What::Fault(fault) => {
-                let mut label = Label::new();
-                let _ = write!(label, "eject fault {}", fault.code());
-                self.instant(moment, EJECTIONS, "g", label.as_str())
-            }
+            What::Stall(task) => self.eject(moment, stall_label(self.workload.task(task))),
+            What::Fault(fault) => self.eject(moment, fault_label(fault.code())),
         }
+    }
+
+    fn eject(&mut self, moment: u64, label: Label) -> Result<(), Failed> {
+        self.instant(moment, EJECTIONS, "g", label.as_str())
     }
 
     fn run(&mut self, moment: u64, task: u16, cpu: u32) {
@@ -228,16 +233,11 @@ impl<'a, W: Out> Chart<'a, W> {
         })
     }
 
-    /// A task comes to that queue.
-    fn happen(&mut self, moment: u64, track: u32, task: u16, queue: u64) -> Result<(), Failed> {
-        let mut label = Label::new();
-        let _ = write!(
-            label,
-            "{} to {}",
-            self.workload.task(task),
-            queue_name(queue)
-        );
-        self.instant(moment, track, "t", label.as_str())
+    /// A task comes to that queue, and waits there from now on.
+    fn enter(&mut self, moment: u64, track: u32, task: u16, queue: u64) -> Result<(), Failed> {
+        let label = queue_label(self.workload.task(task), queue);
+        self.instant(moment, track, "t", label.as_str())?;
+        self.place(moment, task, Some(queue))
     }
 
     fn instant(&mut self, moment: u64, track: u32, scope: &str, name: &str) -> Result<(), Failed> {
@@ -272,6 +272,25 @@ impl<'a, W: Out> Chart<'a, W> {
             tasks: length.tasks,
         })
     }
+}
+
+fn stall_label(task: &str) -> Label {
+    let mut label = Label::new();
+    let _ = write!(label, "eject stall {task}");
+    label
+}
+
+fn fault_label(code: u8) -> Label {
+    let mut label = Label::new();
+    let _ = write!(label, "eject fault {code}");
+    label
+}
+
+fn queue_label(task: &str, queue: u64) -> Label {
+    let queue = queue_name(queue);
+    let mut label = Label::new();
+    let _ = write!(label, "{task} to {queue}");
+    label
 }
 
 impl<W: Out> View for Chart<'_, W> {
