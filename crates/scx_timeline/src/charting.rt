@@ -1,5 +1,6 @@
-ghost use Rattle.std.specs.Prelude.{◌≡◌, true, IfOk, IfErr};
+ghost use Rattle.std.specs.Prelude.{◌≡◌, true, IfOk};
 ghost use Rattle.scx_outcomes.specs.Outcome.{IfRefused, IsRefused};
+ghost use Rattle.scx_outcomes.specs.declared.refusal.Refusal.TheVariants.{NoMemory};
 ghost use Rattle.scx_simulation.specs.Runs.{IsCause};
 
 use crate::documents::{Document, room_for_object};
@@ -58,31 +59,41 @@ pub fn timeline<W: Out>(
     ensures refused { IfRefused result (IsCause policy.now workload.now) }
     ensures quiet { IsRefused result → out.new ≡ out.old }
 {
-    let (run, room) = start(alloc, policy, workload)?;
-    write_timeline(alloc, run, room, out)?;
-    Ok(true)
-}
-
-/// The run that is about to begin, and room for its timeline.
-fn start(alloc: Global, policy: &str, workload: &str) -> Result<(Run, Room), Refusal>
-    ensures { IfErr result (IsCause policy.now workload.now) }
-{
     let run = prepare(alloc, policy, workload)?;
-    match Room::new(alloc, &run.workload) {
-        Ok(room) => Ok((run, room)),
-        Err(_) => Err(Refusal::NoMemory),
-    }
+    write_timeline(alloc, run, out)
 }
 
-/// Goes through the run, and writes its timeline.
-fn write_timeline<W: Out>(alloc: Global, run: Run, room: Room, out: &mut W) -> Result<(), Failed> {
+/// Goes through the run, and writes its timeline. The answer is true.
+fn write_timeline<W: Out>(alloc: Global, run: Run, out: &mut W) -> Result<bool, Fault>
+    ensures done { IfOk result (λ answer. answer ≡ true) }
+    ensures refused { IfRefused result (λ refusal. refusal ≡ NoMemory) }
+    ensures quiet { IsRefused result → out.new ≡ out.old }
+{
     let Run {
         workload,
         mut driver,
         mut sim,
     } = run;
-    let mut chart = Chart::new(alloc, &workload, room, out);
-    chart.write(&mut sim, &mut driver)
+    write_chart(alloc, &workload, &mut driver, &mut sim, out)
+}
+
+fn write_chart<W: Out>(
+    alloc: Global,
+    workload: &Workload,
+    driver: &mut Driver,
+    sim: &mut Sim,
+    out: &mut W,
+) -> Result<bool, Fault>
+    ensures done { IfOk result (λ answer. answer ≡ true) }
+    ensures refused { IfRefused result (λ refusal. refusal ≡ NoMemory) }
+    ensures quiet { IsRefused result → out.new ≡ out.old }
+{
+    let Ok(room) = Room::new(alloc, workload) else {
+        return Err(Fault::Refused(Refusal::NoMemory));
+    };
+    let mut chart = Chart::new(alloc, workload, room, out);
+    chart.write(sim, driver)?;
+    Ok(true)
 }
 
 /// A task that runs, and since which moment.
