@@ -42,12 +42,20 @@ pub(crate) fn explain_policy(alloc: Global, policy: PolicyText) -> Result<Explai
     ensures memory { IfErr result (λ refusal. refusal ≡ NoMemory) }
 {
     let mut policy = policy;
+    explain_all(alloc, &mut policy)
+}
+
+/// Takes the programs of a policy out, and explains them.
+fn explain_all(alloc: Global, policy: &mut PolicyText) -> Result<ExplainedPolicy, Refusal>
+    ensures verdicts { IfOk result (λ explained. HasVerdicts policy.old explained.verdicts) }
+    ensures memory { IfErr result (λ refusal. refusal ≡ NoMemory) }
+{
     let mut programs = Vec::new(alloc);
-    let verdicts = explain_programs(alloc, &mut policy, &mut programs)?;
+    let verdicts = explain_programs(alloc, policy, &mut programs)?;
     Ok(ExplainedPolicy { verdicts, programs })
 }
 
-/// Takes the programs of a policy out, and explains them. The answer is the verdicts on them.
+/// Explains the programs one after another, and answers the verdicts on them.
 fn explain_programs(
     alloc: Global,
     policy: &mut PolicyText,
@@ -119,11 +127,7 @@ fn explain_program(
 }
 
 /// Explains the verdict on a program that is listed.
-fn explain_verdict(
-    alloc: Global,
-    listing: Listing,
-    verdict: Verdict,
-) -> Result<Explained, Refusal>
+fn explain_verdict(alloc: Global, listing: Listing, verdict: Verdict) -> Result<Explained, Refusal>
     ensures verdict { IfOk result (λ explained. explained.verdict ≡ verdict) }
     ensures listing { IfOk result (λ explained. explained.listing ≡ listing) }
     ensures explanation { IfOk result IsExplained }

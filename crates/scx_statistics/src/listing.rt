@@ -46,9 +46,21 @@ fn list_task<W: Out>(name: &str, task: &TaskFigures, text: &mut Text<'_, W>) -> 
     list(text, "task", name, "run_ms", task.run)?;
     list(text, "task", name, "waits", waits.count())?;
     list_hundredths(text, "task", name, "mean_wait_ms", waits.mean())?;
-    list(text, "task", name, "wait_99_percent_ms", waits.percentile_99())?;
+    list(
+        text,
+        "task",
+        name,
+        "wait_99_percent_ms",
+        waits.percentile_99(),
+    )?;
     list(text, "task", name, "longest_wait_ms", waits.longest())?;
-    list(text, "task", name, "longest_wait_since_ms", waits.longest_since())?;
+    list(
+        text,
+        "task",
+        name,
+        "longest_wait_since_ms",
+        waits.longest_since(),
+    )?;
     list(text, "task", name, "wakes", task.wakes)?;
     list(text, "task", name, "stopped", task.stopped)
 }

@@ -38,7 +38,11 @@ fn write_task<W: Out>(name: &str, task: &TaskFigures, text: &mut Text<'_, W>) ->
     write!(text, "{name:<16}")?;
     write_numbers(&[task.run, waits.count()], text)?;
     write!(text, "{mean:>12}")?;
-    let waited = [waits.percentile_99(), waits.longest(), waits.longest_since()];
+    let waited = [
+        waits.percentile_99(),
+        waits.longest(),
+        waits.longest_since(),
+    ];
     write_numbers(&waited, text)?;
     write_numbers(&[task.wakes, task.stopped], text)?;
     text.write_str("\n")

@@ -1,11 +1,13 @@
 ghost use Rattle.std.specs.Prelude.{◌≡◌, true, IfOk};
 ghost use Rattle.scx_outcomes.specs.Outcome.{IfRefused, IsRefused};
+ghost use Rattle.scx_outcomes.specs.declared.refusal.Refusal.TheVariants.{NoMemory};
 ghost use Rattle.scx_simulation.specs.Runs.{IsCause};
 
 use crate::documents::{Document, room_for_object};
 use crate::lengths::{Length, Lengths, queue_name};
 use crate::objects::{Complete, Counter, Instant, Title};
 use arrayvec::ArrayString;
+use scx_driver::Driver;
 use scx_outcomes::{Fault, Refusal};
 use scx_output::{Failed, Out};
 use scx_sched::{Event, Sim, What};
@@ -58,24 +60,40 @@ pub fn timeline<W: Out>(
     ensures quiet { IsRefused result → out.new ≡ out.old }
 {
     let run = prepare(alloc, policy, workload)?;
-    let Ok(room) = Room::new(alloc, &run.workload) else {
-        return Err(Fault::Refused(Refusal::NoMemory));
-    };
-    write_timeline(alloc, run, room, out)?;
-    Ok(true)
+    write_timeline(alloc, run, out)
 }
 
-/// Goes through the run, and writes its timeline.
-fn write_timeline<W: Out>(alloc: Global, run: Run, room: Room, out: &mut W) -> Result<(), Failed> {
+/// Goes through the run, and writes its timeline. The answer is true.
+fn write_timeline<W: Out>(alloc: Global, run: Run, out: &mut W) -> Result<bool, Fault>
+    ensures done { IfOk result (λ answer. answer ≡ true) }
+    ensures refused { IfRefused result (λ refusal. refusal ≡ NoMemory) }
+    ensures quiet { IsRefused result → out.new ≡ out.old }
+{
     let Run {
         workload,
         mut driver,
         mut sim,
     } = run;
-    let mut chart = Chart::new(alloc, &workload, room, out);
-    chart.begin()?;
-    watch(&mut sim, &mut driver, &mut chart);
-    chart.end(sim.clock())
+    write_chart(alloc, &workload, &mut driver, &mut sim, out)
+}
+
+fn write_chart<W: Out>(
+    alloc: Global,
+    workload: &Workload,
+    driver: &mut Driver,
+    sim: &mut Sim,
+    out: &mut W,
+) -> Result<bool, Fault>
+    ensures done { IfOk result (λ answer. answer ≡ true) }
+    ensures refused { IfRefused result (λ refusal. refusal ≡ NoMemory) }
+    ensures quiet { IsRefused result → out.new ≡ out.old }
+{
+    let Ok(room) = Room::new(alloc, workload) else {
+        return Err(Fault::Refused(Refusal::NoMemory));
+    };
+    let mut chart = Chart::new(alloc, workload, room, out);
+    chart.write(sim, driver)?;
+    Ok(true)
 }
 
 /// A task that runs, and since which moment.
@@ -130,6 +148,13 @@ impl<'a, W: Out> Chart<'a, W> {
         }
     }
 
+    /// Goes through the run, and writes it.
+    fn write(&mut self, sim: &mut Sim, driver: &mut Driver) -> Result<(), Failed> {
+        self.begin()?;
+        watch(sim, driver, self);
+        self.end(sim.clock())
+    }
+
     /// Names the tracks.
     fn begin(&mut self) -> Result<(), Failed> {
         self.title("process_name", CPUS, 0, "processors")?;
@@ -170,33 +195,24 @@ impl<'a, W: Out> Chart<'a, W> {
         match what {
             What::Wake(task) => self.instant(moment, WAKES, "t", self.workload.task(task)),
             What::Sleep(task) => self.place(moment, task, None),
-            What::Insert(task, queue) => {
-                self.happen(moment, INSERTS, task, queue)?;
-                self.place(moment, task, Some(queue))
-            }
+            What::Insert(task, queue) => self.enter(moment, INSERTS, task, queue),
             What::Move(task, cpu) => {
                 let queue = LOCAL_ON.saturating_add(u64::from(cpu));
-                self.happen(moment, MOVES, task, queue)?;
-                self.place(moment, task, Some(queue))
+                self.enter(moment, MOVES, task, queue)
             }
             What::Run(task, cpu) => {
-                self.place(moment, task, None)?;
                 self.run(moment, task, cpu);
-                Ok(())
+                self.place(moment, task, None)
             }
             What::Stop(_, cpu) => self.stop(moment, cpu),
             What::Idle(_) | What::Weight(_, _) => Ok(()),
-            What::Stall(task) => {
-                let mut label = Label::new();
-                let _ = write!(label, "eject stall {}", self.workload.task(task));
-                self.instant(moment, EJECTIONS, "g", label.as_str())
-            }
-            What::Fault(fault) => {
-                let mut label = Label::new();
-                let _ = write!(label, "eject fault {}", fault.code());
-                self.instant(moment, EJECTIONS, "g", label.as_str())
-            }
+            What::Stall(task) => self.eject(moment, stall_label(self.workload.task(task))),
+            What::Fault(fault) => self.eject(moment, fault_label(fault.code())),
         }
+    }
+
+    fn eject(&mut self, moment: u64, label: Label) -> Result<(), Failed> {
+        self.instant(moment, EJECTIONS, "g", label.as_str())
     }
 
     fn run(&mut self, moment: u64, task: u16, cpu: u32) {
@@ -228,16 +244,11 @@ impl<'a, W: Out> Chart<'a, W> {
         })
     }
 
-    /// A task comes to that queue.
-    fn happen(&mut self, moment: u64, track: u32, task: u16, queue: u64) -> Result<(), Failed> {
-        let mut label = Label::new();
-        let _ = write!(
-            label,
-            "{} to {}",
-            self.workload.task(task),
-            queue_name(queue)
-        );
-        self.instant(moment, track, "t", label.as_str())
+    /// A task comes to that queue, and waits there from now on.
+    fn enter(&mut self, moment: u64, track: u32, task: u16, queue: u64) -> Result<(), Failed> {
+        let label = queue_label(self.workload.task(task), queue);
+        self.instant(moment, track, "t", label.as_str())?;
+        self.place(moment, task, Some(queue))
     }
 
     fn instant(&mut self, moment: u64, track: u32, scope: &str, name: &str) -> Result<(), Failed> {
@@ -272,6 +283,25 @@ impl<'a, W: Out> Chart<'a, W> {
             tasks: length.tasks,
         })
     }
+}
+
+fn stall_label(task: &str) -> Label {
+    let mut label = Label::new();
+    let _ = write!(label, "eject stall {task}");
+    label
+}
+
+fn fault_label(code: u8) -> Label {
+    let mut label = Label::new();
+    let _ = write!(label, "eject fault {code}");
+    label
+}
+
+fn queue_label(task: &str, queue: u64) -> Label {
+    let queue = queue_name(queue);
+    let mut label = Label::new();
+    let _ = write!(label, "{task} to {queue}");
+    label
 }
 
 impl<W: Out> View for Chart<'_, W> {
