@@ -104,9 +104,9 @@ impl Groups {
         section: Section<'a>,
     ) -> Result<(&'a str, Group), LoadError>
         ensures { Gives (λ read. (record {
-              names = self.now.names ++ read.0.now ∷ [];
-              groups = self.now.groups ++ read.1 ∷ [];
-            })) result
+          names = self.now.names ++ read.0.now ∷ [];
+          groups = self.now.groups ++ read.1 ∷ [];
+        })) result
             (with_group self.now section.entry.path.now (table_view section.entry.table.now)) }
     {
         let name = new_name(alloc, &self.names, section)?;
@@ -206,11 +206,7 @@ impl Groups {
 }
 
 /// The names with one more.
-fn with_name(
-    alloc: Global,
-    mut names: Vec<String>,
-    name: &str,
-) -> Result<Vec<String>, AllocError>
+fn with_name(alloc: Global, mut names: Vec<String>, name: &str) -> Result<Vec<String>, AllocError>
     ensures { IfOk result (λ all. texts all.items ≡ texts names.items ++ name.now ∷ []) }
 {
     names.push(String::from_str(alloc, name)?)?;
