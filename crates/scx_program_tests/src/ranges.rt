@@ -16,7 +16,7 @@ fn range(low: u64, high: u64, shift: u8) -> Range {
 
 /// What 64-bit arithmetic with a number in the text makes of numbers.
 fn by(numbers: Numbers, operation: Operation, operand: u64) -> Numbers {
-    Numbers::computed(Width::Bits64, operation, numbers, Numbers::single(operand))
+    numbers.computed(Width::Bits64, operation, Numbers::single(operand))
 }
 
 /// Any number, masked.
@@ -64,15 +64,30 @@ fn an_element_is_reached_at_a_checked_number(rt: HostRuntime) -> Result<(), Fail
     let leaves = "the sum leaves the element";
     let rows = [
         (masked(56), range(0, 56, 3), Size::DoubleWord, "fine"),
-        (masked(63), range(0, 63, 0), Size::DoubleWord, "out of bounds"),
+        (
+            masked(63),
+            range(0, 63, 0),
+            Size::DoubleWord,
+            "out of bounds",
+        ),
         (masked(63), range(0, 63, 0), Size::Byte, "fine"),
         (masked(60), range(0, 60, 2), Size::Word, "fine"),
         (masked(28), range(0, 28, 2), Size::DoubleWord, "misaligned"),
         (masked(127), range(0, 127, 0), Size::DoubleWord, leaves),
         (eightfold(7), range(0, 56, 3), Size::DoubleWord, "fine"),
-        (eightfold(8), range(0, 64, 3), Size::DoubleWord, "out of bounds"),
+        (
+            eightfold(8),
+            range(0, 64, 3),
+            Size::DoubleWord,
+            "out of bounds",
+        ),
         (eightfold_above(7), all, Size::DoubleWord, leaves),
-        (by(Numbers::all(), Operation::ShiftLeft, 3), all, Size::DoubleWord, leaves),
+        (
+            by(Numbers::all(), Operation::ShiftLeft, 3),
+            all,
+            Size::DoubleWord,
+            leaves,
+        ),
     ];
     for (numbers, wanted, size, verdict) in rows {
         assert!(rt; numbers.range() == wanted);
