@@ -16,7 +16,7 @@ fn range(low: u64, high: u64, shift: u8) -> Range {
 
 /// What 64-bit arithmetic with a number in the text makes of numbers.
 fn by(numbers: Numbers, operation: Operation, operand: u64) -> Numbers {
-    Numbers::computed(Width::Bits64, operation, numbers, Numbers::single(operand))
+    numbers.computed(Width::Bits64, operation, Numbers::single(operand))
 }
 
 /// Any number, masked.

@@ -1,5 +1,5 @@
 -- The order on ranges is inclusion, and the join is the least cover.
-use Rattle.std.proofs.Common.{◌≡◌, ℕ, ◌+◌, ◌^◌, ◌<◌, ◌≤◌, min, max, sym, ap, ◌∙◌, arith}
+use Rattle.std.proofs.Common.{◌≡◌, ℕ, ◌+◌, ◌^◌, ◌<◌, ◌≤◌, min, max, refl, sym, ap, ◌∙◌, arith}
 use Rattle.scx_ranges.specs.declared.ranges.Range.{Range}
 use Rattle.scx_ranges.specs.Ranges.{IsIn, IsRange, CoversRange, trailing, join_ranges}
 use Rattle.scx_ranges.specs.Laws.{OrderIsInclusion, JoinIsLeastCover}
@@ -92,3 +92,14 @@ join_is_least_cover a b wa wb = record {
       let t : c.shift ≤ b.shift = g.shift in
       record { low = omega arith; high = omega arith; shift = omega arith };
 }
+
+-- ---- a range joined with itself
+
+least_same : (n : ℕ) → min n n ≡ n
+least_same n = omega arith
+
+greatest_same : (n : ℕ) → max n n ≡ n
+greatest_same n = omega arith
+
+pub join_same : (r : Range) → join_ranges r r ≡ r
+join_same r = rw (least_same r.low, greatest_same r.high, least_same r.shift) refl

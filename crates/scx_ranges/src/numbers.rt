@@ -112,15 +112,10 @@ impl Numbers {
 
     /// What arithmetic makes of a destination and an operand (RFC 9669, section 4.1).
     #[tactic(auto, using(crate::proofs::BuiltRanges::computed_range))]
-    pub fn computed(
-        width: Width,
-        operation: Operation,
-        numbers: Numbers,
-        operand: Numbers,
-    ) -> Numbers
-        ensures { result ≡ computed_at width operation numbers operand }
+    pub fn computed(self, width: Width, operation: Operation, operand: Numbers) -> Numbers
+        ensures { result ≡ computed_at width operation self operand }
     {
-        Numbers::of(Range::computed(width, operation, numbers.range(), operand.range()))
+        Numbers::of(self.range().computed(width, operation, operand.range()))
     }
 
     /// What a move makes of its operand (RFC 9669, section 4.1), whatever its destination was.

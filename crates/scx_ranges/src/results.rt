@@ -30,19 +30,14 @@ const WORDS: Range = Range {
 
 impl Range {
     /// What arithmetic makes of a destination and an operand (RFC 9669, section 4.1).
-    pub(crate) fn computed(
-        width: Width,
-        operation: Operation,
-        range: Range,
-        operand: Range,
-    ) -> Range
-        requires first { IsRange range }
+    pub(crate) fn computed(self, width: Width, operation: Operation, operand: Range) -> Range
+        requires first { IsRange self }
         requires second { IsRange operand }
-        ensures { result ≡ computed_at width operation range operand }
+        ensures { result ≡ computed_at width operation self operand }
     {
         match width {
-            Width::Bits32 => computed32(operation, range, operand),
-            Width::Bits64 => computed64(operation, range, operand),
+            Width::Bits32 => computed32(operation, self, operand),
+            Width::Bits64 => computed64(operation, self, operand),
         }
     }
 
