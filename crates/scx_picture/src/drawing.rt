@@ -1,8 +1,10 @@
 ghost use Rattle.std.specs.Prelude.{◌≡◌, true, IfOk};
 ghost use Rattle.scx_outcomes.specs.Outcome.{IfRefused, IsRefused};
+ghost use Rattle.scx_outcomes.specs.declared.refusal.Refusal.TheVariants.{NoMemory};
 ghost use Rattle.scx_simulation.specs.Runs.{IsCause};
 
 use crate::frames::Frame;
+use scx_driver::Driver;
 use scx_outcomes::{Fault, Refusal};
 use scx_output::Out;
 use scx_sched::{Event, Sim, What};
@@ -32,24 +34,40 @@ pub fn picture<W: Out>(
     ensures quiet { IsRefused result → out.new ≡ out.old }
 {
     let run = prepare(alloc, policy, workload)?;
-    let Ok(room) = Room::new(alloc, &run.workload) else {
-        return Err(Fault::Refused(Refusal::NoMemory));
-    };
-    written(draw(run, room, out))?;
-    Ok(true)
+    draw(alloc, run, out)
 }
 
-/// Goes through the run, and draws it.
-fn draw<W: Out>(run: Run, room: Room, out: &mut W) -> fmt::Result {
+/// Goes through the run, and draws it. The answer is true.
+fn draw<W: Out>(alloc: Global, run: Run, out: &mut W) -> Result<bool, Fault>
+    ensures done { IfOk result (λ answer. answer ≡ true) }
+    ensures refused { IfRefused result (λ refusal. refusal ≡ NoMemory) }
+    ensures quiet { IsRefused result → out.new ≡ out.old }
+{
     let Run {
         workload,
         mut driver,
         mut sim,
     } = run;
-    let mut drawing = Drawing::new(&workload, room, out);
-    drawing.begin()?;
-    watch(&mut sim, &mut driver, &mut drawing);
-    drawing.end(sim.clock())
+    write_drawing(alloc, &workload, &mut driver, &mut sim, out)
+}
+
+fn write_drawing<W: Out>(
+    alloc: Global,
+    workload: &Workload,
+    driver: &mut Driver,
+    sim: &mut Sim,
+    out: &mut W,
+) -> Result<bool, Fault>
+    ensures done { IfOk result (λ answer. answer ≡ true) }
+    ensures refused { IfRefused result (λ refusal. refusal ≡ NoMemory) }
+    ensures quiet { IsRefused result → out.new ≡ out.old }
+{
+    let Ok(room) = Room::new(alloc, workload) else {
+        return Err(Fault::Refused(Refusal::NoMemory));
+    };
+    let mut drawing = Drawing::new(workload, room, out);
+    written(drawing.draw(sim, driver))?;
+    Ok(true)
 }
 
 /// A task that runs, and since which moment.
@@ -109,8 +127,11 @@ impl<'a, W: Out> Drawing<'a, W> {
         }
     }
 
-    fn begin(&mut self) -> fmt::Result {
-        self.frame.begin(self.workload, &mut self.text)
+    /// Goes through the run, and draws it.
+    fn draw(&mut self, sim: &mut Sim, driver: &mut Driver) -> fmt::Result {
+        self.frame.begin(self.workload, &mut self.text)?;
+        watch(sim, driver, self);
+        self.end(sim.clock())
     }
 
     /// Draws who still runs and waits at that moment, and the ejection.

@@ -100,37 +100,40 @@ impl Frame {
             text,
             "<svg xmlns=\"http://www.w3.org/2000/svg\" width=\"{width}\" height=\"{height}\" viewBox=\"0 0 {width} {height}\" font-family=\"sans-serif\" font-size=\"12\">"
         )?;
-        writeln!(text, "<rect width=\"100%\" height=\"100%\" fill=\"#fff\"/>")?;
+        text.write_str("<rect width=\"100%\" height=\"100%\" fill=\"#fff\"/>\n")?;
         self.write_colours(text)?;
         self.write_scale(text)?;
         self.write_cpus(text)?;
         self.write_tasks(names, text)?;
+        self.begin_run(text)
+    }
+
+    /// Begins the part of the picture in which a millisecond is one unit wide.
+    fn begin_run<W: Out>(self, text: &mut Text<'_, W>) -> fmt::Result {
+        let Frame { ms, width, .. } = self;
+        let height = self.height();
         writeln!(
             text,
-            "<svg x=\"{LEFT}\" y=\"{TOP}\" width=\"{}\" height=\"{}\" viewBox=\"0 0 {} {}\" preserveAspectRatio=\"none\" shape-rendering=\"crispEdges\">",
-            self.width,
-            self.height(),
-            self.ms,
-            self.height()
+            "<svg x=\"{LEFT}\" y=\"{TOP}\" width=\"{width}\" height=\"{height}\" viewBox=\"0 0 {ms} {height}\" preserveAspectRatio=\"none\" shape-rendering=\"crispEdges\">"
         )
     }
 
     /// Writes a class of each task, which has its colour.
     fn write_colours<W: Out>(self, text: &mut Text<'_, W>) -> fmt::Result {
-        writeln!(text, "<style>")?;
+        text.write_str("<style>\n")?;
         for task in 0..self.tasks {
             let hue = u64::from(task).saturating_mul(137) % 360;
             let light = 38 + u64::from(task % 3) * 12;
             writeln!(text, ".t{task}{{fill:hsl({hue},65%,{light}%)}}")?;
         }
-        writeln!(text, "</style>")
+        text.write_str("</style>\n")
     }
 
     /// Writes the scale of milliseconds, and a line down from each of its numbers.
     fn write_scale<W: Out>(self, text: &mut Text<'_, W>) -> fmt::Result {
         let step = self.step().max(1);
         let bottom = TOP.saturating_add(self.height());
-        writeln!(text, "<text x=\"8\" y=\"44\" fill=\"#555\">ms</text>")?;
+        text.write_str("<text x=\"8\" y=\"44\" fill=\"#555\">ms</text>\n")?;
         for number in 0..(self.ms / step).saturating_add(1) {
             let moment = number.saturating_mul(step);
             let x = self.x(moment);
@@ -177,12 +180,19 @@ impl Frame {
         if width == 0 {
             return Ok(());
         }
-        let y = self.cpu_y(cpu).saturating_add(2);
-        let lane = self.task_y(task).saturating_add(3);
-        writeln!(
-            text,
-            "<path class=\"t{task}\" d=\"M{since} {y}h{width}v20h-{width}zM{since} {lane}h{width}v10h-{width}z\"/>"
-        )
+        let on_cpu = Bar {
+            x: since,
+            y: self.cpu_y(cpu).saturating_add(2),
+            width,
+            height: 20,
+        };
+        let at_name = Bar {
+            x: since,
+            y: self.task_y(task).saturating_add(3),
+            width,
+            height: 10,
+        };
+        writeln!(text, "<path class=\"t{task}\" d=\"{on_cpu}{at_name}\"/>")
     }
 
     /// Draws that the task waited: as a thin line beside its name.
@@ -197,16 +207,18 @@ impl Frame {
         if width == 0 {
             return Ok(());
         }
-        let y = self.task_y(task).saturating_add(7);
-        writeln!(
-            text,
-            "<path class=\"t{task}\" d=\"M{since} {y}h{width}v2h-{width}z\"/>"
-        )
+        let line = Bar {
+            x: since,
+            y: self.task_y(task).saturating_add(7),
+            width,
+            height: 2,
+        };
+        writeln!(text, "<path class=\"t{task}\" d=\"{line}\"/>")
     }
 
     /// Writes what stands behind the run.
     pub(crate) fn end_run<W: Out>(self, text: &mut Text<'_, W>) -> fmt::Result {
-        writeln!(text, "</svg>")
+        text.write_str("</svg>\n")
     }
 
     /// Draws an ejection across all processors and tasks.
@@ -232,7 +244,28 @@ impl Frame {
     }
 
     pub(crate) fn end<W: Out>(self, text: &mut Text<'_, W>) -> fmt::Result {
-        writeln!(text, "</svg>")
+        text.write_str("</svg>\n")
+    }
+}
+
+/// A rectangle in a path.
+#[derive(Clone, Copy)]
+struct Bar {
+    x: u64,
+    y: u64,
+    width: u64,
+    height: u64,
+}
+
+impl fmt::Display for Bar {
+    fn fmt<W: fmt::Write>(&self, f: &mut fmt::Formatter<W>) -> fmt::Result {
+        let Bar {
+            x,
+            y,
+            width,
+            height,
+        } = *self;
+        write!(f, "M{x} {y}h{width}v{height}h-{width}z")
     }
 }
 
