@@ -6,4 +6,6 @@ mod maps;
 #[cfg(test)]
 mod queues;
 #[cfg(test)]
+mod same;
+#[cfg(test)]
 mod weights;

@@ -1,33 +1,42 @@
+use crate::same::expect_same;
 use scx_maps::{BadShape, MapDefs, Maps, Shape, Size};
-use std::alloc::AllocError;
+use std::alloc::{AllocError, Global};
 use std::process::Abort;
 use std::test::Fail;
 
-const fn shape(entries: u32, value_size: u32) -> Shape {
-    Shape {
-        entries,
-        value_size,
-    }
-}
+/// How many entries a map has, and how many bytes each value.
+type Sizes = (u32, u32);
 
-const LEAST: Shape = Shape {
-    entries: 1,
-    value_size: 1,
-};
+const LEAST: Sizes = (1, 1);
 
 /// As many bytes as all maps may have.
-const FULL: Shape = Shape {
-    entries: 65536,
-    value_size: 256,
-};
+const FULL: Sizes = (65536, 256);
 
-/// Shapes, and why they are refused, if they are.
-type Row<'a> = (&'a [Shape], Option<BadShape>);
-
-fn refuse(rt: &impl Abort, rows: &[Row<'_>]) {
-    for &(shapes, wanted) in rows {
-        assert_eq!(rt; MapDefs::new(shapes).err(), wanted);
+fn shapes_of(alloc: Global, sizes: &[Sizes]) -> Result<Vec<Shape>, AllocError> {
+    let mut shapes = Vec::new(alloc);
+    for &(entries, value_size) in sizes {
+        shapes.push(Shape {
+            entries,
+            value_size,
+        })?;
     }
+    Ok(shapes)
+}
+
+fn made(alloc: Global, sizes: &[Sizes]) -> Result<Result<MapDefs, BadShape>, AllocError> {
+    let shapes = shapes_of(alloc, sizes)?;
+    Ok(MapDefs::new(&shapes))
+}
+
+/// Sizes, and why their shapes are refused, if they are.
+type Row<'a> = (&'a [Sizes], Option<BadShape>);
+
+fn refuse<R: AllocGlobal + Abort>(rt: &R, rows: &[Row<'_>]) -> Result<(), AllocError> {
+    for &(sizes, wanted) in rows {
+        let made = made(rt.alloc(), sizes)?;
+        expect_same(rt, made.err(), wanted, sizes);
+    }
+    Ok(())
 }
 
 /// The number at an offset of an element, if its bytes are there.
@@ -71,74 +80,91 @@ fn fill(maps: &mut Maps, map: u8, index: u32, byte: u8) {
     }
 }
 
-fn defs(rt: &impl Abort, shapes: &[Shape]) -> MapDefs {
-    MapDefs::new(shapes).expect(rt, "the shapes are within the limits")
+fn defs<R: AllocGlobal + Abort>(rt: &R, sizes: &[Sizes]) -> Result<MapDefs, AllocError> {
+    let made = made(rt.alloc(), sizes)?;
+    Ok(made.expect(rt, "the shapes are within the limits"))
 }
 
 /// The shapes by their numbers are these.
 fn expect_shapes(rt: &impl Abort, defs: &MapDefs, rows: &[(u8, Option<Shape>)]) {
     for &(map, wanted) in rows {
-        assert_eq!(rt; defs.shape(map), wanted, "map {map}");
+        expect_same(rt, defs.shape(map), wanted, map);
     }
 }
 
+const TWO: [Sizes; 2] = [(3, 8), (1, 4096)];
+
+const SHAPES_OF_TWO: [(u8, Option<Shape>); 4] = [
+    (
+        0,
+        Some(Shape {
+            entries: 3,
+            value_size: 8,
+        }),
+    ),
+    (
+        1,
+        Some(Shape {
+            entries: 1,
+            value_size: 4096,
+        }),
+    ),
+    (2, None),
+    (16, None),
+];
+
+const LARGEST: [Row<'static>; 2] = [(&[FULL], None), (&[(4096, 4096)], None)];
+
 #[test]
-fn shapes_within_the_limits_are_held(rt: HostRuntime) {
-    let none = defs(&rt, &[]);
-    assert_eq!(rt; none.count(), 0);
+fn shapes_within_the_limits_are_held(rt: HostRuntime) -> Result<(), Fail> {
+    let none = defs(&rt, &[])?;
+    expect_same(&rt, none.count(), 0, "no map");
     expect_shapes(&rt, &none, &[(0, None)]);
-    let two = defs(&rt, &[shape(3, 8), shape(1, 4096)]);
-    assert_eq!(rt; two.count(), 2);
-    expect_shapes(
-        &rt,
-        &two,
-        &[
-            (0, Some(shape(3, 8))),
-            (1, Some(shape(1, 4096))),
-            (2, None),
-            (16, None),
-        ],
-    );
-    assert_eq!(rt; defs(&rt, &[LEAST; 16]).count(), 16);
-    refuse(&rt, &[(&[FULL], None), (&[shape(4096, 4096)], None)]);
-    assert!(rt; two == two && two != none);
+    let two = defs(&rt, &TWO)?;
+    expect_same(&rt, two.count(), 2, "two maps");
+    expect_shapes(&rt, &two, &SHAPES_OF_TWO);
+    let most = defs(&rt, &[LEAST; 16])?;
+    expect_same(&rt, most.count(), 16, "as many maps as there may be");
+    refuse(&rt, &LARGEST)?;
+    assert!(&rt; two == two && two != none);
+    Ok(())
 }
 
-#[test]
-fn the_first_broken_limit_is_named(rt: HostRuntime) {
-    refuse(
-        &rt,
-        &[
-            (&[LEAST; 17], Some(BadShape::TooManyMaps)),
-            (&[shape(0, 0); 17], Some(BadShape::TooManyMaps)),
-            (&[shape(0, 8)], Some(BadShape::Entries { map: 0 })),
-            (&[shape(65537, 1)], Some(BadShape::Entries { map: 0 })),
-            (&[shape(u32::MAX, 1)], Some(BadShape::Entries { map: 0 })),
-            (&[shape(1, 0)], Some(BadShape::ValueSize { map: 0 })),
-            (&[shape(1, 4097)], Some(BadShape::ValueSize { map: 0 })),
-            (
-                &[LEAST, shape(1, 0), shape(0, 1)],
-                Some(BadShape::ValueSize { map: 1 }),
-            ),
-            (
-                &[shape(65536, 4096), LEAST, shape(0, 0)],
-                Some(BadShape::Entries { map: 2 }),
-            ),
-        ],
-    );
-}
+const REFUSED: [Row<'static>; 9] = [
+    (&[LEAST; 17], Some(BadShape::TooManyMaps)),
+    (&[(0, 0); 17], Some(BadShape::TooManyMaps)),
+    (&[(0, 8)], Some(BadShape::Entries { map: 0 })),
+    (&[(65537, 1)], Some(BadShape::Entries { map: 0 })),
+    (&[(u32::MAX, 1)], Some(BadShape::Entries { map: 0 })),
+    (&[(1, 0)], Some(BadShape::ValueSize { map: 0 })),
+    (&[(1, 4097)], Some(BadShape::ValueSize { map: 0 })),
+    (
+        &[LEAST, (1, 0), (0, 1)],
+        Some(BadShape::ValueSize { map: 1 }),
+    ),
+    (
+        &[(65536, 4096), LEAST, (0, 0)],
+        Some(BadShape::Entries { map: 2 }),
+    ),
+];
 
 #[test]
-fn the_bytes_of_all_maps_are_limited(rt: HostRuntime) {
-    refuse(
-        &rt,
-        &[
-            (&[FULL, LEAST], Some(BadShape::TooLarge)),
-            (&[LEAST, FULL], Some(BadShape::TooLarge)),
-            (&[shape(65536, 4096); 16], Some(BadShape::TooLarge)),
-            (&[shape(256, 4096); 16], None),
-        ],
-    );
+fn the_first_broken_limit_is_named(rt: HostRuntime) -> Result<(), Fail> {
+    refuse(&rt, &REFUSED)?;
+    Ok(())
+}
+
+const OF_ALL_MAPS: [Row<'static>; 4] = [
+    (&[FULL, LEAST], Some(BadShape::TooLarge)),
+    (&[LEAST, FULL], Some(BadShape::TooLarge)),
+    (&[(65536, 4096); 16], Some(BadShape::TooLarge)),
+    (&[(256, 4096); 16], None),
+];
+
+#[test]
+fn the_bytes_of_all_maps_are_limited(rt: HostRuntime) -> Result<(), Fail> {
+    refuse(&rt, &OF_ALL_MAPS)?;
+    Ok(())
 }
 
 const TOLD: [(BadShape, &str); 2] = [
@@ -153,14 +179,15 @@ const TOLD: [(BadShape, &str); 2] = [
 fn refusals_are_told(rt: HostRuntime) -> Result<(), Fail> {
     for &(refusal, wanted) in &TOLD {
         let told = refusal.to_string(rt.alloc())?;
-        assert_eq!(rt; told.as_str(), wanted);
+        expect_same(&rt, told.as_str(), wanted, refusal);
     }
     Ok(())
 }
 
-/// Maps of these shapes.
-fn maps<R: AllocGlobal + Abort>(rt: &R, shapes: &[Shape]) -> Result<Maps, AllocError> {
-    Maps::new(rt.alloc(), &defs(rt, shapes))
+/// Maps of these sizes.
+fn maps<R: AllocGlobal + Abort>(rt: &R, sizes: &[Sizes]) -> Result<Maps, AllocError> {
+    let defs = defs(rt, sizes)?;
+    Maps::new(rt.alloc(), &defs)
 }
 
 /// An element of a map, and its bytes.
@@ -168,7 +195,7 @@ type Element<'a> = (u8, u32, &'a [u8]);
 
 fn expect_elements(rt: &impl Abort, maps: &Maps, rows: &[Element<'_>]) {
     for &(map, index, wanted) in rows {
-        assert_eq!(rt; bytes(maps, map, index), wanted, "{map} {index}");
+        expect_same(rt, bytes(maps, map, index), wanted, (map, index));
     }
 }
 
@@ -177,7 +204,12 @@ type Load = (u32, u16, Size, Option<u64>);
 
 fn expect_loads(rt: &impl Abort, maps: &Maps, rows: &[Load]) {
     for &(index, offset, size, wanted) in rows {
-        assert_eq!(rt; load(maps, 0, index, offset, size), wanted);
+        expect_same(
+            rt,
+            load(maps, 0, index, offset, size),
+            wanted,
+            (index, offset),
+        );
     }
 }
 
@@ -186,109 +218,102 @@ type Store = (u32, u16, Size, u64, bool);
 
 fn expect_stores(rt: &impl Abort, maps: &mut Maps, rows: &[Store]) {
     for &(index, offset, size, number, wanted) in rows {
-        assert_eq!(rt; store(maps, 0, index, offset, size, number), wanted);
+        let stored = store(maps, 0, index, offset, size, number);
+        expect_same(rt, stored, wanted, (index, offset));
     }
 }
 
+const ZEROS: [Element<'static>; 5] = [
+    (0, 0, &[0; 3]),
+    (0, 1, &[0; 3]),
+    (1, 0, &[0]),
+    (0, 2, &[]),
+    (1, 1, &[]),
+];
+
 #[test]
 fn new_maps_are_zero(rt: HostRuntime) -> Result<(), Fail> {
-    let two = maps(&rt, &[shape(2, 3), LEAST])?;
-    assert_eq!(rt; two.count(), 2);
-    expect_elements(
-        &rt,
-        &two,
-        &[
-            (0, 0, &[0; 3]),
-            (0, 1, &[0; 3]),
-            (1, 0, &[0]),
-            (0, 2, &[]),
-            (1, 1, &[]),
-        ],
-    );
-    assert_eq!(rt; maps(&rt, &[])?.count(), 0);
+    let two = maps(&rt, &[(2, 3), LEAST])?;
+    expect_same(&rt, two.count(), 2, "two maps");
+    expect_elements(&rt, &two, &ZEROS);
+    let none = maps(&rt, &[])?;
+    expect_same(&rt, none.count(), 0, "no map");
     Ok(())
 }
+
+const NUMBER: u64 = 0x0102_0304_0506_0708;
+
+const BYTES_OF_NUMBER: [Element<'static>; 3] = [
+    (0, 1, &[0, 8, 7, 6, 5, 4, 3, 2, 1, 0]),
+    (0, 0, &[0; 10]),
+    (0, 2, &[0; 10]),
+];
+
+const PARTS_OF_NUMBER: [Load; 5] = [
+    (1, 1, Size::DoubleWord, Some(NUMBER)),
+    (1, 2, Size::Word, Some(0x0405_0607)),
+    (1, 3, Size::HalfWord, Some(0x0506)),
+    (1, 8, Size::Byte, Some(1)),
+    (1, 3, Size::DoubleWord, None),
+];
 
 #[test]
 fn a_number_is_stored_low_byte_first(rt: HostRuntime) -> Result<(), Fail> {
-    let mut maps = maps(&rt, &[shape(3, 10)])?;
-    let number = 0x0102_0304_0506_0708;
-    expect_stores(&rt, &mut maps, &[(1, 1, Size::DoubleWord, number, true)]);
-    expect_elements(
-        &rt,
-        &maps,
-        &[
-            (0, 1, &[0, 8, 7, 6, 5, 4, 3, 2, 1, 0]),
-            (0, 0, &[0; 10]),
-            (0, 2, &[0; 10]),
-        ],
-    );
-    expect_loads(
-        &rt,
-        &maps,
-        &[
-            (1, 1, Size::DoubleWord, Some(number)),
-            (1, 2, Size::Word, Some(0x0405_0607)),
-            (1, 3, Size::HalfWord, Some(0x0506)),
-            (1, 8, Size::Byte, Some(1)),
-            (1, 3, Size::DoubleWord, None),
-        ],
-    );
+    let mut maps = maps(&rt, &[(3, 10)])?;
+    expect_stores(&rt, &mut maps, &[(1, 1, Size::DoubleWord, NUMBER, true)]);
+    expect_elements(&rt, &maps, &BYTES_OF_NUMBER);
+    expect_loads(&rt, &maps, &PARTS_OF_NUMBER);
     Ok(())
 }
+
+const STORES: [Store; 4] = [
+    (0, 0, Size::Byte, 0x1111, true),
+    (0, 2, Size::HalfWord, 0x0099_3322, true),
+    (0, 4, Size::Word, 0x0099_7766_5544, true),
+    (0, 5, Size::Word, 0, false),
+];
+
+const STORED: [u8; 8] = [0x11, 255, 0x22, 0x33, 0x44, 0x55, 0x66, 0x77];
 
 #[test]
 fn a_store_takes_the_lowest_bytes(rt: HostRuntime) -> Result<(), Fail> {
-    let mut maps = maps(&rt, &[shape(1, 8)])?;
+    let mut maps = maps(&rt, &[(1, 8)])?;
     fill(&mut maps, 0, 0, 255);
-    expect_stores(
-        &rt,
-        &mut maps,
-        &[
-            (0, 0, Size::Byte, 0x1111, true),
-            (0, 2, Size::HalfWord, 0x0099_3322, true),
-            (0, 4, Size::Word, 0x0099_7766_5544, true),
-            (0, 5, Size::Word, 0, false),
-        ],
-    );
-    let stored = [0x11, 255, 0x22, 0x33, 0x44, 0x55, 0x66, 0x77];
-    expect_elements(&rt, &maps, &[(0, 0, &stored)]);
+    expect_stores(&rt, &mut maps, &STORES);
+    expect_elements(&rt, &maps, &[(0, 0, &STORED)]);
     Ok(())
 }
 
+const WRITTEN: [Element<'static>; 6] = [
+    (0, 0, &[0, 0]),
+    (0, 1, &[7, 7]),
+    (1, 0, &[0]),
+    (1, 1, &[9]),
+    (1, 2, &[0]),
+    (2, 0, &[0; 4]),
+];
+
 #[test]
 fn a_write_stays_in_its_element(rt: HostRuntime) -> Result<(), Fail> {
-    let mut maps = maps(&rt, &[shape(2, 2), shape(3, 1), shape(1, 4)])?;
+    let mut maps = maps(&rt, &[(2, 2), (3, 1), (1, 4)])?;
     fill(&mut maps, 1, 1, 9);
     fill(&mut maps, 0, 1, 7);
-    expect_elements(
-        &rt,
-        &maps,
-        &[
-            (0, 0, &[0, 0]),
-            (0, 1, &[7, 7]),
-            (1, 0, &[0]),
-            (1, 1, &[9]),
-            (1, 2, &[0]),
-            (2, 0, &[0; 4]),
-        ],
-    );
+    expect_elements(&rt, &maps, &WRITTEN);
     Ok(())
 }
+
+const LAST: [Store; 1] = [(65535, 248, Size::DoubleWord, u64::MAX, true)];
+
+const AT_THE_END: [Load; 3] = [
+    (65535, 248, Size::DoubleWord, Some(u64::MAX)),
+    (65535, 240, Size::DoubleWord, Some(0)),
+    (65536, 0, Size::Byte, None),
+];
 
 #[test]
 fn the_largest_map_can_be_made(rt: HostRuntime) -> Result<(), Fail> {
     let mut maps = maps(&rt, &[FULL])?;
-    let last = (65535, 248, Size::DoubleWord, u64::MAX, true);
-    expect_stores(&rt, &mut maps, &[last]);
-    expect_loads(
-        &rt,
-        &maps,
-        &[
-            (65535, 248, Size::DoubleWord, Some(u64::MAX)),
-            (65535, 240, Size::DoubleWord, Some(0)),
-            (65536, 0, Size::Byte, None),
-        ],
-    );
+    expect_stores(&rt, &mut maps, &LAST);
+    expect_loads(&rt, &maps, &AT_THE_END);
     Ok(())
 }

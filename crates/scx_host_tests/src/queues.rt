@@ -1,5 +1,6 @@
 ghost use Rattle.std.specs.Prelude.{◌≡◌, ◌<◌};
 
+use crate::same::expect_same;
 use scx_dsq::{QueueError, Queues, Steps};
 use std::alloc::{AllocError, Global};
 use std::marker::Brand;
@@ -7,19 +8,21 @@ use std::process::Abort;
 use std::sync::ledger::{Blank, Ledger};
 use std::test::Fail;
 
-/// A call of `Queues`.
-#[derive(Clone, Copy, Debug)]
+/// A call of `Queues`, with its queue, its task and its key.
+#[derive(Clone, Copy)]
 enum Command {
-    Create { queue: u64 },
-    PushFifo { queue: u64, task: u32 },
-    PushVtime { queue: u64, task: u32, key: u64 },
-    Front { queue: u64 },
-    Pop { queue: u64 },
-    Remove { task: u32 },
-    Len { queue: u64 },
-    QueueOf { task: u32 },
+    Create(u64),
+    PushFifo(u64, u32),
+    PushVtime(u64, u32, u64),
+    Front(u64),
+    Pop(u64),
+    Remove(u32),
+    Len(u64),
+    QueueOf(u32),
     Pushes,
 }
+
+use Command::{Create, Front, Len, Pop, PushFifo, PushVtime, Pushes, QueueOf, Remove};
 
 /// What it answered.
 #[derive(Clone, Copy, Debug, PartialEq, Eq)]
@@ -35,6 +38,14 @@ enum Reply {
 }
 
 const DONE: Reply = Reply::Done(Ok(()));
+
+const NO_SUCH_QUEUE: Reply = Reply::Done(Err(QueueError::NoSuchQueue));
+
+const ALREADY_THERE: Reply = Reply::Done(Err(QueueError::AlreadyThere));
+
+const MIXED: Reply = Reply::Done(Err(QueueError::Mixed));
+
+const TOO_MANY_QUEUES: Reply = Reply::Done(Err(QueueError::TooManyQueues));
 
 /// Makes the call, whose task is one that there is.
 fn ask<R: Abort>(rt: &R, queues: &mut Queues, command: Command) -> Reply {
@@ -53,17 +64,17 @@ fn ask_counted<L: Ledger, R: Abort>(
 {
     let mut steps = Steps::<L>::new(blank);
     match command {
-        Command::Create { queue } => Reply::Done(queues.create(queue)),
-        Command::PushFifo { queue, task } => Reply::Done(push_by_order(rt, queues, queue, task)),
-        Command::PushVtime { queue, task, key } => {
+        Create(queue) => Reply::Done(queues.create(queue)),
+        PushFifo(queue, task) => Reply::Done(push_by_order(rt, queues, queue, task)),
+        PushVtime(queue, task, key) => {
             Reply::Done(push_by_key(rt, queues, queue, task, key, &mut steps))
         }
-        Command::Front { queue } => Reply::Task(queues.front(queue)),
-        Command::Pop { queue } => Reply::Task(queues.pop(queue, &mut steps)),
-        Command::Remove { task } => Reply::Removed(take_out(rt, queues, task, &mut steps)),
-        Command::Len { queue } => Reply::Len(queues.len(queue)),
-        Command::QueueOf { task } => Reply::Queue(find_queue(rt, queues, task)),
-        Command::Pushes => Reply::Pushes(queues.pushes()),
+        Front(queue) => Reply::Task(queues.front(queue)),
+        Pop(queue) => Reply::Task(queues.pop(queue, &mut steps)),
+        Remove(task) => Reply::Removed(take_out(rt, queues, task, &mut steps)),
+        Len(queue) => Reply::Len(queues.len(queue)),
+        QueueOf(task) => Reply::Queue(find_queue(rt, queues, task)),
+        Pushes => Reply::Pushes(queues.pushes()),
     }
 }
 
@@ -106,47 +117,26 @@ fn find_queue(rt: &impl Abort, queues: &Queues, task: u32) -> Option<u64> {
     queues.queue_of(task)
 }
 
-/// Carries out commands one by one, and compares their replies.
-fn expect(rt: &impl Abort, queues: &mut Queues, rows: &[(Command, Reply)]) {
-    for &(command, reply) in rows {
-        assert_eq!(rt; ask(rt, queues, command), reply, "{command:?}");
+/// Commands, and their replies.
+type Row = (Command, Reply);
+
+fn expect_replies(rt: &impl Abort, queues: &mut Queues, rows: &[Row]) {
+    for (number, &(command, reply)) in rows.iter().enumerate() {
+        expect_same(rt, ask(rt, queues, command), reply, number);
     }
 }
 
-fn refused(error: QueueError) -> Reply {
-    Reply::Done(Err(error))
-}
-
-fn create(queue: u64) -> Command {
-    Command::Create { queue }
-}
-
-fn push_fifo(queue: u64, task: u32) -> Command {
-    Command::PushFifo { queue, task }
-}
-
-fn push_vtime(queue: u64, task: u32, key: u64) -> Command {
-    Command::PushVtime { queue, task, key }
-}
-
-fn pop(queue: u64) -> Command {
-    Command::Pop { queue }
-}
-
-fn front(queue: u64) -> Command {
-    Command::Front { queue }
-}
-
-fn len(queue: u64) -> Command {
-    Command::Len { queue }
-}
-
-fn remove(task: u32) -> Command {
-    Command::Remove { task }
-}
-
-fn queue_of(task: u32) -> Command {
-    Command::QueueOf { task }
+/// Carries out commands one by one, on queues for so many queues and tasks, and compares their replies.
+fn expect<R: AllocGlobal + Abort>(
+    rt: &R,
+    room: usize,
+    tasks: usize,
+    rows: &[Row],
+) -> Result<(), AllocError> {
+    let mut queues = Queues::new(rt.alloc(), room, tasks)?;
+    expect_replies(rt, &mut queues, rows);
+    drop(queues);
+    Ok(())
 }
 
 const ERRORS: [(QueueError, u8, &str); 4] = [
@@ -159,125 +149,109 @@ const ERRORS: [(QueueError, u8, &str); 4] = [
 #[test]
 fn errors_have_numbers(rt: HostRuntime) {
     for &(error, number, name) in &ERRORS {
-        assert_eq!(rt; error.number(), number);
-        assert_eq!(rt; error.name(), name);
+        expect_same(&rt, error.number(), number, name);
+        expect_same(&rt, error.name(), name, number);
     }
 }
 
+const BY_KEY: [Row; 15] = [
+    (Create(3), DONE),
+    (PushVtime(3, 2, 5), DONE),
+    (PushVtime(3, 1, 5), DONE),
+    (PushVtime(3, 3, u64::MAX), DONE),
+    (PushVtime(3, 4, 0), DONE),
+    (PushFifo(3, 0), MIXED),
+    (Len(3), Reply::Len(4)),
+    (Pushes, Reply::Pushes(4)),
+    (Pop(3), Reply::Task(Some(4))),
+    (Pop(3), Reply::Task(Some(2))),
+    (Pop(3), Reply::Task(Some(1))),
+    (Front(3), Reply::Task(Some(3))),
+    (Pop(3), Reply::Task(Some(3))),
+    (Pop(3), Reply::Task(None)),
+    (PushFifo(3, 0), DONE),
+];
+
 #[test]
 fn tasks_leave_by_key_and_then_by_stamp(rt: HostRuntime) -> Result<(), Fail> {
-    let mut queues = Queues::new(rt.alloc(), 1, 5)?;
-    expect(
-        &rt,
-        &mut queues,
-        &[
-            (create(3), DONE),
-            (push_vtime(3, 2, 5), DONE),
-            (push_vtime(3, 1, 5), DONE),
-            (push_vtime(3, 3, u64::MAX), DONE),
-            (push_vtime(3, 4, 0), DONE),
-            (push_fifo(3, 0), refused(QueueError::Mixed)),
-            (len(3), Reply::Len(4)),
-            (Command::Pushes, Reply::Pushes(4)),
-            (pop(3), Reply::Task(Some(4))),
-            (pop(3), Reply::Task(Some(2))),
-            (pop(3), Reply::Task(Some(1))),
-            (front(3), Reply::Task(Some(3))),
-            (pop(3), Reply::Task(Some(3))),
-            (pop(3), Reply::Task(None)),
-            (push_fifo(3, 0), DONE),
-        ],
-    );
-    drop(queues);
+    expect(&rt, 1, 5, &BY_KEY)?;
     Ok(())
 }
+
+const KEPT_APART: [Row; 18] = [
+    (Create(7), DONE),
+    (Create(8), DONE),
+    (Create(7), ALREADY_THERE),
+    (Create(9), TOO_MANY_QUEUES),
+    (PushFifo(9, 0), NO_SUCH_QUEUE),
+    (PushFifo(7, 1), DONE),
+    (PushFifo(7, 2), DONE),
+    (PushFifo(7, 3), DONE),
+    (Remove(2), Reply::Removed(true)),
+    (Remove(2), Reply::Removed(false)),
+    (QueueOf(2), Reply::Queue(None)),
+    (PushVtime(8, 1, 0), ALREADY_THERE),
+    (QueueOf(1), Reply::Queue(Some(7))),
+    (Pop(7), Reply::Task(Some(1))),
+    (Pop(7), Reply::Task(Some(3))),
+    (Pop(7), Reply::Task(None)),
+    (QueueOf(1), Reply::Queue(None)),
+    (PushVtime(7, 2, 9), DONE),
+];
 
 #[test]
 fn two_queues_are_kept_apart(rt: HostRuntime) -> Result<(), Fail> {
-    let mut queues = Queues::new(rt.alloc(), 2, 5)?;
-    expect(
-        &rt,
-        &mut queues,
-        &[
-            (create(7), DONE),
-            (create(8), DONE),
-            (create(7), refused(QueueError::AlreadyThere)),
-            (create(9), refused(QueueError::TooManyQueues)),
-            (push_fifo(9, 0), refused(QueueError::NoSuchQueue)),
-            (push_fifo(7, 1), DONE),
-            (push_fifo(7, 2), DONE),
-            (push_fifo(7, 3), DONE),
-            (remove(2), Reply::Removed(true)),
-            (remove(2), Reply::Removed(false)),
-            (queue_of(2), Reply::Queue(None)),
-            (push_vtime(8, 1, 0), refused(QueueError::AlreadyThere)),
-            (queue_of(1), Reply::Queue(Some(7))),
-            (pop(7), Reply::Task(Some(1))),
-            (pop(7), Reply::Task(Some(3))),
-            (pop(7), Reply::Task(None)),
-            (queue_of(1), Reply::Queue(None)),
-            (push_vtime(7, 2, 9), DONE),
-        ],
-    );
-    drop(queues);
+    expect(&rt, 2, 5, &KEPT_APART)?;
     Ok(())
 }
+
+const FIRST_CAUSES: [Row; 24] = [
+    (PushFifo(1, 0), NO_SUCH_QUEUE),
+    (PushVtime(1, 0, 7), NO_SUCH_QUEUE),
+    (Pop(1), Reply::Task(None)),
+    (Front(1), Reply::Task(None)),
+    (Len(1), Reply::Len(0)),
+    (Create(1), DONE),
+    (Create(u64::MAX), DONE),
+    // Full, and there already.
+    (Create(1), ALREADY_THERE),
+    (Create(2), TOO_MANY_QUEUES),
+    (PushFifo(1, 0), DONE),
+    (PushVtime(u64::MAX, 1, 7), DONE),
+    // No such queue, and the task waits.
+    (PushFifo(2, 0), NO_SUCH_QUEUE),
+    // The task waits, and in a queue of the other sort.
+    (PushVtime(1, 0, 7), ALREADY_THERE),
+    (PushFifo(u64::MAX, 0), ALREADY_THERE),
+    (PushVtime(1, 2, 7), MIXED),
+    (PushFifo(u64::MAX, 2), MIXED),
+    // Nothing has changed, and no refused push was counted.
+    (Pushes, Reply::Pushes(2)),
+    (Len(1), Reply::Len(1)),
+    (Len(u64::MAX), Reply::Len(1)),
+    (QueueOf(2), Reply::Queue(None)),
+    // An empty queue takes either sort.
+    (Remove(0), Reply::Removed(true)),
+    (PushVtime(1, 2, 7), DONE),
+    (Pop(u64::MAX), Reply::Task(Some(1))),
+    (PushFifo(u64::MAX, 1), DONE),
+];
 
 #[test]
 fn the_first_cause_is_told(rt: HostRuntime) -> Result<(), Fail> {
-    let mut queues = Queues::new(rt.alloc(), 2, 4)?;
-    expect(
-        &rt,
-        &mut queues,
-        &[
-            (push_fifo(1, 0), refused(QueueError::NoSuchQueue)),
-            (push_vtime(1, 0, 7), refused(QueueError::NoSuchQueue)),
-            (pop(1), Reply::Task(None)),
-            (front(1), Reply::Task(None)),
-            (len(1), Reply::Len(0)),
-            (create(1), DONE),
-            (create(u64::MAX), DONE),
-            // Full, and there already.
-            (create(1), refused(QueueError::AlreadyThere)),
-            (create(2), refused(QueueError::TooManyQueues)),
-            (push_fifo(1, 0), DONE),
-            (push_vtime(u64::MAX, 1, 7), DONE),
-            // No such queue, and the task waits.
-            (push_fifo(2, 0), refused(QueueError::NoSuchQueue)),
-            // The task waits, and in a queue of the other sort.
-            (push_vtime(1, 0, 7), refused(QueueError::AlreadyThere)),
-            (push_fifo(u64::MAX, 0), refused(QueueError::AlreadyThere)),
-            (push_vtime(1, 2, 7), refused(QueueError::Mixed)),
-            (push_fifo(u64::MAX, 2), refused(QueueError::Mixed)),
-            // Nothing has changed, and no refused push was counted.
-            (Command::Pushes, Reply::Pushes(2)),
-            (len(1), Reply::Len(1)),
-            (len(u64::MAX), Reply::Len(1)),
-            (queue_of(2), Reply::Queue(None)),
-            // An empty queue takes either sort.
-            (remove(0), Reply::Removed(true)),
-            (push_vtime(1, 2, 7), DONE),
-            (pop(u64::MAX), Reply::Task(Some(1))),
-            (push_fifo(u64::MAX, 1), DONE),
-        ],
-    );
-    drop(queues);
+    expect(&rt, 2, 4, &FIRST_CAUSES)?;
     Ok(())
 }
 
+const NO_ROOM: [Row; 3] = [
+    (Create(0), TOO_MANY_QUEUES),
+    (Pop(0), Reply::Task(None)),
+    (Len(0), Reply::Len(0)),
+];
+
 #[test]
 fn queues_may_have_no_room(rt: HostRuntime) -> Result<(), Fail> {
-    let mut queues = Queues::new(rt.alloc(), 0, 0)?;
-    expect(
-        &rt,
-        &mut queues,
-        &[
-            (create(0), refused(QueueError::TooManyQueues)),
-            (pop(0), Reply::Task(None)),
-            (len(0), Reply::Len(0)),
-        ],
-    );
-    drop(queues);
+    expect(&rt, 0, 0, &NO_ROOM)?;
     Ok(())
 }
 
@@ -294,6 +268,18 @@ struct PlainQueue {
     id: u64,
     by_vtime: bool,
     waiting: Vec<Waiting>,
+}
+
+impl PlainQueue {
+    fn push(&mut self, task: u32, by_vtime: bool, key: u64) -> Result<Reply, AllocError> {
+        if !self.waiting.is_empty() && self.by_vtime != by_vtime {
+            return Ok(MIXED);
+        }
+        self.by_vtime = by_vtime;
+        let behind = self.waiting.iter().filter(|w| w.key <= key).count();
+        self.waiting.insert(behind, Waiting { key, task })?;
+        Ok(DONE)
+    }
 }
 
 /// The same queues as sorted vectors.
@@ -315,12 +301,16 @@ impl Plain {
         }
     }
 
+    fn queue(&self, id: u64) -> Option<&PlainQueue> {
+        self.queues.iter().find(|q| q.id == id)
+    }
+
     fn create(&mut self, id: u64) -> Result<Reply, AllocError> {
-        if self.queues.iter().any(|q| q.id == id) {
-            return Ok(refused(QueueError::AlreadyThere));
+        if self.queue(id).is_some() {
+            return Ok(ALREADY_THERE);
         }
         if self.queues.len() >= self.room {
-            return Ok(refused(QueueError::TooManyQueues));
+            return Ok(TOO_MANY_QUEUES);
         }
         self.queues.push(PlainQueue {
             id,
@@ -333,30 +323,25 @@ impl Plain {
     fn push(&mut self, id: u64, task: u32, by_vtime: bool, key: u64) -> Result<Reply, AllocError> {
         let waits = self.queue_of(task).is_some();
         let Some(index) = self.queues.iter().position(|q| q.id == id) else {
-            return Ok(refused(QueueError::NoSuchQueue));
+            return Ok(NO_SUCH_QUEUE);
         };
         if waits {
-            return Ok(refused(QueueError::AlreadyThere));
+            return Ok(ALREADY_THERE);
         }
-        let queue = &mut self.queues[index];
-        if !queue.waiting.is_empty() && queue.by_vtime != by_vtime {
-            return Ok(refused(QueueError::Mixed));
+        let reply = self.queues[index].push(task, by_vtime, key)?;
+        if reply == DONE {
+            self.pushes = self.pushes.wrapping_add(1);
         }
-        queue.by_vtime = by_vtime;
-        let behind = queue.waiting.iter().filter(|w| w.key <= key).count();
-        queue.waiting.insert(behind, Waiting { key, task })?;
-        self.pushes = self.pushes.wrapping_add(1);
-        Ok(DONE)
+        Ok(reply)
     }
 
     fn front(&self, id: u64) -> Option<u32> {
-        let queue = self.queues.iter().find(|q| q.id == id)?;
-        let first = queue.waiting.first()?;
+        let first = self.queue(id)?.waiting.first()?;
         Some(first.task)
     }
 
     fn len(&self, id: u64) -> usize {
-        match self.queues.iter().find(|q| q.id == id) {
+        match self.queue(id) {
             Some(queue) => queue.waiting.len(),
             None => 0,
         }
@@ -379,23 +364,23 @@ impl Plain {
         waits
     }
 
+    fn pop(&mut self, id: u64) -> Option<u32> {
+        let task = self.front(id)?;
+        self.remove(task);
+        Some(task)
+    }
+
     fn answer(&mut self, command: Command) -> Result<Reply, AllocError> {
         Ok(match command {
-            Command::Create { queue } => self.create(queue)?,
-            Command::PushFifo { queue, task } => self.push(queue, task, false, 0)?,
-            Command::PushVtime { queue, task, key } => self.push(queue, task, true, key)?,
-            Command::Front { queue } => Reply::Task(self.front(queue)),
-            Command::Pop { queue } => {
-                let front = self.front(queue);
-                if let Some(task) = front {
-                    self.remove(task);
-                }
-                Reply::Task(front)
-            }
-            Command::Remove { task } => Reply::Removed(self.remove(task)),
-            Command::Len { queue } => Reply::Len(self.len(queue)),
-            Command::QueueOf { task } => Reply::Queue(self.queue_of(task)),
-            Command::Pushes => Reply::Pushes(self.pushes),
+            Create(queue) => self.create(queue)?,
+            PushFifo(queue, task) => self.push(queue, task, false, 0)?,
+            PushVtime(queue, task, key) => self.push(queue, task, true, key)?,
+            Front(queue) => Reply::Task(self.front(queue)),
+            Pop(queue) => Reply::Task(self.pop(queue)),
+            Remove(task) => Reply::Removed(self.remove(task)),
+            Len(queue) => Reply::Len(self.len(queue)),
+            QueueOf(task) => Reply::Queue(self.queue_of(task)),
+            Pushes => Reply::Pushes(self.pushes),
         })
     }
 }
@@ -417,14 +402,14 @@ fn command_of(number: u64) -> Command {
     let keys = [0, 1, 2, 1 << 63, u64::MAX];
     let key = keys[((number >> 32) % 5) as usize];
     match number % 16 {
-        0 => create(queue),
-        1..=4 => push_fifo(queue, task),
-        5..=9 => push_vtime(queue, task, key),
-        10..=11 => pop(queue),
-        12 => remove(task),
-        13 => front(queue),
-        14 => len(queue),
-        _ => queue_of(task),
+        0 => Create(queue),
+        1..=4 => PushFifo(queue, task),
+        5..=9 => PushVtime(queue, task, key),
+        10..=11 => Pop(queue),
+        12 => Remove(task),
+        13 => Front(queue),
+        14 => Len(queue),
+        _ => QueueOf(task),
     }
 }
 
@@ -434,30 +419,36 @@ fn compare(
     queues: &mut Queues,
     plain: &mut Plain,
     command: Command,
+    step: u32,
 ) -> Result<(), AllocError> {
     let wanted = plain.answer(command)?;
-    assert_eq!(rt; ask(rt, queues, command), wanted, "{command:?}");
+    expect_same(rt, ask(rt, queues, command), wanted, step);
     Ok(())
 }
 
 /// Makes commands of the walk.
 fn compare_walk(rt: &impl Abort, queues: &mut Queues, plain: &mut Plain) -> Result<(), AllocError> {
     let mut state = 0x9e37_79b9_7f4a_7c15;
-    for _ in 0..10_000 {
+    for step in 0..10_000 {
         let command = command_of(next(&mut state));
-        compare(rt, queues, plain, command)?;
-        compare(rt, queues, plain, Command::Pushes)?;
+        compare(rt, queues, plain, command, step)?;
+        compare(rt, queues, plain, Pushes, step)?;
     }
+    Ok(())
+}
+
+fn compare_room<R: AllocGlobal + Abort>(rt: &R, plain: &mut Plain) -> Result<(), AllocError> {
+    let mut queues = Queues::new(rt.alloc(), plain.room, 1024)?;
+    compare_walk(rt, &mut queues, plain)?;
+    drop(queues);
     Ok(())
 }
 
 #[test]
 fn queues_agree_with_sorted_vectors(rt: HostRuntime) -> Result<(), Fail> {
-    let mut queues = Queues::new(rt.alloc(), 16, 1024)?;
     let mut plain = Plain::new(rt.alloc(), 16);
-    compare_walk(&rt, &mut queues, &mut plain)?;
+    compare_room(&rt, &mut plain)?;
     drop(plain);
-    drop(queues);
     Ok(())
 }
 
@@ -469,8 +460,8 @@ fn compare_pushes(
 ) -> Result<(), AllocError> {
     let mut state = 0x9e37_79b9_7f4a_7c15;
     for task in 0..1024 {
-        let command = push_vtime(0, task, next(&mut state) % 512);
-        compare(rt, queues, plain, command)?;
+        let command = PushVtime(0, task, next(&mut state) % 512);
+        compare(rt, queues, plain, command, task)?;
     }
     Ok(())
 }
@@ -482,23 +473,36 @@ fn compare_leaving(
     plain: &mut Plain,
 ) -> Result<(), AllocError> {
     for &task in &[512, 511, 700, 0, 1023] {
-        compare(rt, queues, plain, remove(task))?;
-        compare(rt, queues, plain, front(0))?;
+        compare(rt, queues, plain, Remove(task), task)?;
+        compare(rt, queues, plain, Front(0), task)?;
     }
-    for _ in 0..1020 {
-        compare(rt, queues, plain, pop(0))?;
+    for step in 0..1020 {
+        compare(rt, queues, plain, Pop(0), step)?;
     }
+    Ok(())
+}
+
+fn compare_middle(
+    rt: &impl Abort,
+    queues: &mut Queues,
+    plain: &mut Plain,
+) -> Result<(), AllocError> {
+    compare(rt, queues, plain, Create(0), 0)?;
+    compare_pushes(rt, queues, plain)?;
+    compare_leaving(rt, queues, plain)
+}
+
+fn compare_one_queue<R: AllocGlobal + Abort>(rt: &R, plain: &mut Plain) -> Result<(), AllocError> {
+    let mut queues = Queues::new(rt.alloc(), plain.room, 1024)?;
+    compare_middle(rt, &mut queues, plain)?;
+    drop(queues);
     Ok(())
 }
 
 #[test]
 fn a_task_leaves_from_the_middle_of_many(rt: HostRuntime) -> Result<(), Fail> {
-    let mut queues = Queues::new(rt.alloc(), 1, 1024)?;
     let mut plain = Plain::new(rt.alloc(), 1);
-    compare(&rt, &mut queues, &mut plain, create(0))?;
-    compare_pushes(&rt, &mut queues, &mut plain)?;
-    compare_leaving(&rt, &mut queues, &mut plain)?;
+    compare_one_queue(&rt, &mut plain)?;
     drop(plain);
-    drop(queues);
     Ok(())
 }

@@ -1,30 +1,28 @@
+use crate::same::expect_same;
 use scx_weights::{Group, Tree, TreeError};
 use std::alloc::{AllocError, Global};
 use std::process::Abort;
 use std::test::Fail;
 
-fn top(weight: u32) -> Group {
-    Group {
-        parent: None,
-        weight,
+/// A group's parent and weight.
+type Pair = (Option<u32>, u32);
+
+fn groups_of(alloc: Global, pairs: &[Pair]) -> Result<Vec<Group>, AllocError> {
+    let mut groups = Vec::new(alloc);
+    for &(parent, weight) in pairs {
+        groups.push(Group { parent, weight })?;
     }
+    Ok(groups)
 }
 
-fn under(parent: u32, weight: u32) -> Group {
-    Group {
-        parent: Some(parent),
-        weight,
+/// Makes a task active or inactive.
+fn set_task(rt: &impl Abort, tree: &mut Tree, task: u32, is_active: bool) {
+    assert!(rt; task < tree.tasks());
+    if is_active {
+        tree.activate(task);
+    } else {
+        tree.deactivate(task);
     }
-}
-
-fn activate(rt: &impl Abort, tree: &mut Tree, task: u32) {
-    assert!(rt; task < tree.tasks());
-    tree.activate(task);
-}
-
-fn deactivate(rt: &impl Abort, tree: &mut Tree, task: u32) {
-    assert!(rt; task < tree.tasks());
-    tree.deactivate(task);
 }
 
 fn is_active(rt: &impl Abort, tree: &Tree, task: u32) -> bool {
@@ -44,32 +42,33 @@ fn group_of(rt: &impl Abort, tree: &Tree, task: u32) -> u32 {
 
 /// Compares the weights of all tasks.
 fn check_weights(rt: &impl Abort, tree: &Tree, weights: &[u32]) {
-    assert_eq!(rt; tree.tasks() as usize, weights.len());
+    assert!(rt; tree.tasks() as usize == weights.len());
     for (task, weight) in weights.iter().enumerate() {
-        assert_eq!(rt; weight_of(rt, tree, task as u32), *weight, "of task {task}");
+        expect_same(rt, weight_of(rt, tree, task as u32), *weight, task);
     }
 }
 
+/// A tree all of whose tasks are asleep.
+fn asleep(alloc: Global, pairs: &[Pair], tasks: &[u32]) -> Result<Tree, TreeError> {
+    let groups = groups_of(alloc, pairs)?;
+    Tree::new(alloc, &groups, tasks)
+}
+
 /// A tree all of whose tasks are active.
-fn awake(
-    rt: &impl Abort,
-    alloc: Global,
-    groups: &[Group],
-    tasks: &[u32],
-) -> Result<Tree, TreeError> {
-    let mut tree = Tree::new(alloc, groups, tasks)?;
+fn awake<R: AllocGlobal + Abort>(rt: &R, pairs: &[Pair], tasks: &[u32]) -> Result<Tree, TreeError> {
+    let mut tree = asleep(rt.alloc(), pairs, tasks)?;
     for task in 0..tree.tasks() {
-        activate(rt, &mut tree, task);
+        set_task(rt, &mut tree, task, true);
     }
     Ok(tree)
 }
 
 /// The tree of these groups and tasks, all of them active, gives these weights.
-type Row<'a> = (&'a [Group], &'a [u32], &'a [u32]);
+type Row = (&'static [Pair], &'static [u32], &'static [u32]);
 
-fn expect_awake<R: AllocGlobal + Abort>(rt: &R, rows: &[Row<'_>]) -> Result<(), Fail> {
-    for &(groups, tasks, weights) in rows {
-        let tree = awake(rt, rt.alloc(), groups, tasks)?;
+fn expect_awake<R: AllocGlobal + Abort>(rt: &R, rows: &[Row]) -> Result<(), TreeError> {
+    for &(pairs, tasks, weights) in rows {
+        let tree = awake(rt, pairs, tasks)?;
         check_weights(rt, &tree, weights);
         drop(tree);
     }
@@ -79,75 +78,87 @@ fn expect_awake<R: AllocGlobal + Abort>(rt: &R, rows: &[Row<'_>]) -> Result<(), 
 /// A task becomes active or inactive.
 type Change = (u32, bool);
 
-/// Changes tasks, and compares the weights of all tasks then.
-fn set_tasks(rt: &impl Abort, tree: &mut Tree, changes: &[Change], weights: &[u32]) {
-    for &(task, is_active) in changes {
-        if is_active {
-            activate(rt, tree, task);
-        } else {
-            deactivate(rt, tree, task);
+/// Changes of tasks, and the weights of all tasks then.
+type Step = (&'static [Change], &'static [u32]);
+
+fn set_tasks(rt: &impl Abort, tree: &mut Tree, steps: &[Step]) {
+    for &(changes, weights) in steps {
+        for &(task, is_active) in changes {
+            set_task(rt, tree, task, is_active);
         }
+        check_weights(rt, tree, weights);
     }
-    check_weights(rt, tree, weights);
 }
+
+const ONE_SLEEPS: [Step; 2] = [
+    (&[], &[1250, 1250, 7500]),
+    (&[(2, false)], &[5000, 5000, 7500]),
+];
 
 #[test]
 fn two_groups_share_by_weight(rt: HostRuntime) -> Result<(), Fail> {
-    let mut tree = awake(&rt, rt.alloc(), &[top(100), top(300)], &[0, 0, 1])?;
-    assert_eq!(&rt; (tree.groups(), tree.tasks()), (2, 3));
-    set_tasks(&rt, &mut tree, &[], &[1250, 1250, 7500]);
-    set_tasks(&rt, &mut tree, &[(2, false)], &[5000, 5000, 7500]);
-    activate(&rt, &mut tree, 2);
-    tree.set_weight(0, 300)?;
+    let mut tree = awake(&rt, &[(None, 100), (None, 300)], &[0, 0, 1])?;
+    expect_same(
+        &rt,
+        (tree.groups(), tree.tasks()),
+        (2, 3),
+        "groups and tasks",
+    );
+    set_tasks(&rt, &mut tree, &ONE_SLEEPS);
+    set_task(&rt, &mut tree, 2, true);
+    set_weights(&rt, &mut tree, &[(0, 300, Ok(()))]);
     check_weights(&rt, &tree, &[2500, 2500, 5000]);
     drop(tree);
     Ok(())
 }
 
+const TWO_LEVELS: [Pair; 4] = [(None, 100), (Some(0), 100), (Some(0), 300), (None, 100)];
+
+const THIRDS: [Pair; 4] = [(None, 1), (None, 2), (Some(0), 3), (Some(0), 1)];
+
+const THREE_LEVELS: [Pair; 6] = [
+    (None, 1),
+    (None, 1),
+    (Some(0), 1),
+    (Some(0), 2),
+    (Some(2), 1),
+    (Some(2), 6),
+];
+
+const SHARES: [Row; 5] = [
+    (&TWO_LEVELS, &[1, 2, 3], &[1250, 3750, 5000]),
+    (&[(None, 1), (None, 10_000)], &[0, 1], &[1, 9999]),
+    (&[(None, 7)], &[0, 0, 0], &[3333, 3333, 3333]),
+    // One third of three quarters; rounded down at each level it would be 2499.
+    (&THIRDS, &[1, 2, 3], &[6666, 2500, 833]),
+    // 1 / 2 * 1 / 3 * 1 / 7 and 1 / 2 * 1 / 3 * 6 / 7.
+    (&THREE_LEVELS, &[1, 3, 4, 5], &[5000, 3333, 238, 1428]),
+];
+
 #[test]
 fn groups_share_what_is_above_them(rt: HostRuntime) -> Result<(), Fail> {
-    let two_levels = [top(100), under(0, 100), under(0, 300), top(100)];
-    let thirds = [top(1), top(2), under(0, 3), under(0, 1)];
-    let three_levels = [
-        top(1),
-        top(1),
-        under(0, 1),
-        under(0, 2),
-        under(2, 1),
-        under(2, 6),
-    ];
-    expect_awake(
-        &rt,
-        &[
-            (&two_levels, &[1, 2, 3], &[1250, 3750, 5000]),
-            (&[top(1), top(10_000)], &[0, 1], &[1, 9999]),
-            (&[top(7)], &[0, 0, 0], &[3333, 3333, 3333]),
-            // One third of three quarters; rounded down at each level it would be 2499.
-            (&thirds, &[1, 2, 3], &[6666, 2500, 833]),
-            // 1 / 2 * 1 / 3 * 1 / 7 and 1 / 2 * 1 / 3 * 6 / 7.
-            (&three_levels, &[1, 3, 4, 5], &[5000, 3333, 238, 1428]),
-        ],
-    )
+    expect_awake(&rt, &SHARES)?;
+    Ok(())
 }
 
 /// A task that sleeps weighs what it would if it were active.
-fn wake_some(rt: &impl Abort, tree: &mut Tree) {
-    set_tasks(rt, tree, &[], &[10_000, 10_000, 10_000, 10_000]);
-    let twice = [(1, true), (1, true)];
-    set_tasks(rt, tree, &twice, &[2500, 10_000, 5000, 5000]);
-    set_tasks(rt, tree, &[(3, true)], &[1250, 5000, 2500, 5000]);
-    let asleep = [(1, false), (1, false), (0, false)];
-    set_tasks(rt, tree, &asleep, &[5000, 5000, 5000, 10_000]);
-}
+const SLEEPERS: [Step; 4] = [
+    (&[], &[10_000, 10_000, 10_000, 10_000]),
+    (&[(1, true), (1, true)], &[2500, 10_000, 5000, 5000]),
+    (&[(3, true)], &[1250, 5000, 2500, 5000]),
+    (
+        &[(1, false), (1, false), (0, false)],
+        &[5000, 5000, 5000, 10_000],
+    ),
+];
 
 #[test]
 fn sleeping_tasks_take_no_share(rt: HostRuntime) -> Result<(), Fail> {
-    let groups = [top(100), under(0, 100), under(0, 300), top(100)];
-    let mut tree = Tree::new(rt.alloc(), &groups, &[1, 2, 3, 3])?;
-    wake_some(&rt, &mut tree);
-    assert_eq!(&rt; is_active(&rt, &tree, 3), true);
-    assert_eq!(&rt; is_active(&rt, &tree, 1), false);
-    assert_eq!(&rt; group_of(&rt, &tree, 3), 3);
+    let mut tree = asleep(rt.alloc(), &TWO_LEVELS, &[1, 2, 3, 3])?;
+    set_tasks(&rt, &mut tree, &SLEEPERS);
+    expect_same(&rt, is_active(&rt, &tree, 3), true, "task 3");
+    expect_same(&rt, is_active(&rt, &tree, 1), false, "task 1");
+    expect_same(&rt, group_of(&rt, &tree, 3), 3, "the group of task 3");
     drop(tree);
     Ok(())
 }
@@ -156,39 +167,47 @@ fn refusal(alloc: Global, groups: &[Group], tasks: &[u32]) -> Option<TreeError> 
     Tree::new(alloc, groups, tasks).err()
 }
 
-/// Lists that make no tree, with what is wrong with them.
+/// Groups, the groups of tasks, and what is wrong with them.
+type Fault = (&'static [Pair], &'static [u32], TreeError);
+
+const CHAIN: [Pair; 4] = [(None, 1), (Some(0), 1), (Some(1), 1), (Some(2), 1)];
+
+/// Lists that make no tree.
+const FAULTY: [Fault; 15] = [
+    (&[(None, 1)], &[1], TreeError::UnknownGroup),
+    (&[(Some(0), 1)], &[0], TreeError::UnknownGroup),
+    (&[(Some(1), 1), (None, 1)], &[0], TreeError::UnknownGroup),
+    (&[(Some(7), 1)], &[0], TreeError::UnknownGroup),
+    (&[], &[0], TreeError::UnknownGroup),
+    (&[], &[], TreeError::OutOfRange),
+    (&[(None, 1)], &[], TreeError::OutOfRange),
+    (&[(None, 0)], &[0], TreeError::OutOfRange),
+    (&[(None, 1), (None, 10_001)], &[0], TreeError::OutOfRange),
+    (&CHAIN, &[3], TreeError::TooDeep),
+    (
+        &[(None, 1), (Some(0), 1), (Some(1), 1)],
+        &[2, 1],
+        TreeError::NotLeaf,
+    ),
+    // Of several faults the first in the order of the numbers.
+    (&[(None, 0)], &[5], TreeError::UnknownGroup),
+    (&[(None, 1), (Some(0), 0)], &[0], TreeError::OutOfRange),
+    (
+        &[(None, 0), (Some(0), 1), (Some(1), 1), (Some(2), 1)],
+        &[3],
+        TreeError::OutOfRange,
+    ),
+    (&CHAIN, &[0], TreeError::TooDeep),
+];
+
 #[test]
-fn faulty_trees_are_refused(rt: HostRuntime) {
-    let chain = [top(1), under(0, 1), under(1, 1), under(2, 1)];
-    let rows: [(&[Group], &[u32], TreeError); 15] = [
-        (&[top(1)], &[1], TreeError::UnknownGroup),
-        (&[under(0, 1)], &[0], TreeError::UnknownGroup),
-        (&[under(1, 1), top(1)], &[0], TreeError::UnknownGroup),
-        (&[under(7, 1)], &[0], TreeError::UnknownGroup),
-        (&[], &[0], TreeError::UnknownGroup),
-        (&[], &[], TreeError::OutOfRange),
-        (&[top(1)], &[], TreeError::OutOfRange),
-        (&[top(0)], &[0], TreeError::OutOfRange),
-        (&[top(1), top(10_001)], &[0], TreeError::OutOfRange),
-        (&chain, &[3], TreeError::TooDeep),
-        (&chain[..3], &[2, 1], TreeError::NotLeaf),
-        // Of several faults the first in the order of the numbers.
-        (&[top(0)], &[5], TreeError::UnknownGroup),
-        (&[top(1), under(0, 0)], &[0], TreeError::OutOfRange),
-        (
-            &[top(0), under(0, 1), under(1, 1), under(2, 1)],
-            &[3],
-            TreeError::OutOfRange,
-        ),
-        (&chain, &[0], TreeError::TooDeep),
-    ];
-    for (number, (groups, tasks, error)) in rows.iter().enumerate() {
-        assert_eq!(&rt;
-            refusal(rt.alloc(), groups, tasks),
-            Some(*error),
-            "row {number}"
-        );
+fn faulty_trees_are_refused(rt: HostRuntime) -> Result<(), Fail> {
+    for (number, &(pairs, tasks, error)) in FAULTY.iter().enumerate() {
+        let groups = groups_of(rt.alloc(), pairs)?;
+        let found = refusal(rt.alloc(), &groups, tasks);
+        expect_same(&rt, found, Some(error), number);
     }
+    Ok(())
 }
 
 /// Whether a tree of so many groups and tasks can be made.
@@ -198,18 +217,28 @@ fn expect_size<R: AllocGlobal + Abort>(
     tasks: usize,
     wanted: Option<TreeError>,
 ) -> Result<(), AllocError> {
-    let groups = vec![in rt.alloc(); top(10_000); groups]?;
-    let tasks = vec![in rt.alloc(); 0; tasks]?;
-    assert_eq!(rt; refusal(rt.alloc(), &groups, &tasks), wanted);
+    let group = Group {
+        parent: None,
+        weight: 10_000,
+    };
+    let homes = vec![in rt.alloc(); 0; tasks]?;
+    let groups = vec![in rt.alloc(); group; groups]?;
+    expect_same(rt, refusal(rt.alloc(), &groups, &homes), wanted, tasks);
     Ok(())
 }
 
 /// Numbers of groups and of tasks at their limits and past them.
+const SIZES: [(usize, usize, Option<TreeError>); 3] = [
+    (256, 1024, None),
+    (257, 1, Some(TreeError::OutOfRange)),
+    (1, 1025, Some(TreeError::OutOfRange)),
+];
+
 #[test]
 fn groups_and_tasks_are_limited(rt: HostRuntime) -> Result<(), Fail> {
-    expect_size(&rt, 256, 1024, None)?;
-    expect_size(&rt, 257, 1, Some(TreeError::OutOfRange))?;
-    expect_size(&rt, 1, 1025, Some(TreeError::OutOfRange))?;
+    for &(groups, tasks, wanted) in &SIZES {
+        expect_size(&rt, groups, tasks, wanted)?;
+    }
     Ok(())
 }
 
@@ -218,26 +247,34 @@ type Setting = (u32, u32, Result<(), TreeError>);
 
 fn set_weights(rt: &impl Abort, tree: &mut Tree, rows: &[Setting]) {
     for &(group, weight, wanted) in rows {
-        assert_eq!(rt; tree.set_weight(group, weight), wanted);
+        expect_same(rt, tree.set_weight(group, weight), wanted, (group, weight));
     }
 }
 
+const REFUSED: [Setting; 4] = [
+    (2, 100, Err(TreeError::UnknownGroup)),
+    (2, 0, Err(TreeError::UnknownGroup)),
+    (0, 0, Err(TreeError::OutOfRange)),
+    (0, 10_001, Err(TreeError::OutOfRange)),
+];
+
+const MOST_AND_LEAST: [Setting; 2] = [(0, 10_000, Ok(())), (1, 1, Ok(()))];
+
 #[test]
 fn weights_are_limited(rt: HostRuntime) -> Result<(), Fail> {
-    let mut tree = awake(&rt, rt.alloc(), &[top(100), top(300)], &[0, 1])?;
-    let refused = [
-        (2, 100, Err(TreeError::UnknownGroup)),
-        (2, 0, Err(TreeError::UnknownGroup)),
-        (0, 0, Err(TreeError::OutOfRange)),
-        (0, 10_001, Err(TreeError::OutOfRange)),
-    ];
-    set_weights(&rt, &mut tree, &refused);
+    let mut tree = awake(&rt, &[(None, 100), (None, 300)], &[0, 1])?;
+    set_weights(&rt, &mut tree, &REFUSED);
     check_weights(&rt, &tree, &[2500, 7500]);
-    set_weights(&rt, &mut tree, &[(0, 10_000, Ok(())), (1, 1, Ok(()))]);
+    set_weights(&rt, &mut tree, &MOST_AND_LEAST);
     check_weights(&rt, &tree, &[9999, 1]);
     drop(tree);
     Ok(())
 }
+
+const SMALL: Group = Group {
+    parent: None,
+    weight: 1,
+};
 
 /// The lists of a tree, from which each weight is computed anew.
 #[derive(Drop)]
@@ -249,7 +286,7 @@ struct Plain {
 
 impl Plain {
     fn group(&self, group: u32) -> Group {
-        self.groups.get(group as usize).copied().unwrap_or(top(1))
+        self.groups.get(group as usize).copied().unwrap_or(SMALL)
     }
 
     /// Which groups have an active task in them or below them, that task counted.
@@ -339,11 +376,12 @@ fn large(alloc: Global, numbers: &mut Numbers) -> Result<Plain, AllocError> {
     let mut groups = Vec::new(alloc);
     for group in 0..256u32 {
         let weight = numbers.below(10_000).saturating_add(1);
-        groups.push(match group {
-            0..16 => top(weight),
-            16..64 => under(group % 12, weight),
-            _ => under(16u32.saturating_add(group % 40), weight),
-        })?;
+        let parent = match group {
+            0..16 => None,
+            16..64 => Some(group % 12),
+            _ => Some(16u32.saturating_add(group % 40)),
+        };
+        groups.push(Group { parent, weight })?;
     }
     let mut homes = Vec::new(alloc);
     for _ in 0..1024 {
@@ -362,11 +400,7 @@ fn large(alloc: Global, numbers: &mut Numbers) -> Result<Plain, AllocError> {
 fn change(rt: &impl Abort, numbers: &mut Numbers, tree: &mut Tree, plain: &mut Plain) {
     let task = numbers.below(1024);
     let on = numbers.below(1000) < 600;
-    if on {
-        activate(rt, tree, task);
-    } else {
-        deactivate(rt, tree, task);
-    }
+    set_task(rt, tree, task, on);
     if let Some(active) = plain.active.get_mut(task as usize) {
         *active = on;
     }
@@ -386,12 +420,8 @@ fn compare<R: AllocGlobal + Abort>(
     task: u32,
     step: u32,
 ) -> Result<(), AllocError> {
-    let want = plain.weight_of(rt.alloc(), task as usize)?;
-    assert_eq!(rt;
-        weight_of(rt, tree, task),
-        want,
-        "of task {task} after step {step}"
-    );
+    let wanted = plain.weight_of(rt.alloc(), task as usize)?;
+    expect_same(rt, weight_of(rt, tree, task), wanted, (task, step));
     Ok(())
 }
 
@@ -409,12 +439,22 @@ fn compare_many<R: AllocGlobal + Abort>(
     Ok(())
 }
 
+/// Compares the tree of those lists with them.
+fn compare_tree<R: AllocGlobal + Abort>(
+    rt: &R,
+    numbers: &mut Numbers,
+    plain: &mut Plain,
+) -> Result<(), TreeError> {
+    let mut tree = Tree::new(rt.alloc(), &plain.groups, &plain.homes)?;
+    compare_many(rt, numbers, &mut tree, plain)?;
+    drop(tree);
+    Ok(())
+}
+
 #[test]
 fn running_sums_agree_with_the_whole_tree(rt: HostRuntime) -> Result<(), Fail> {
     let mut numbers = Numbers { state: 1 };
     let mut plain = large(rt.alloc(), &mut numbers)?;
-    let mut tree = Tree::new(rt.alloc(), &plain.groups, &plain.homes)?;
-    compare_many(&rt, &mut numbers, &mut tree, &mut plain)?;
-    drop(tree);
+    compare_tree(&rt, &mut numbers, &mut plain)?;
     Ok(())
 }
