@@ -6,7 +6,7 @@ use Rattle.scx_semantics.specs.declared.instructions.Operand.TheVariants as oper
 use Rattle.scx_semantics.specs.declared.operations.Width.{Width}
 use Rattle.scx_semantics.specs.declared.operations.Width.TheVariants.{Bits32, Bits64}
 use Rattle.scx_semantics.specs.declared.operations.Operation.{Operation}
-use Rattle.scx_semantics.specs.declared.operations.Operation.TheVariants.{Move}
+use Rattle.scx_semantics.specs.declared.operations.Operation.TheVariants.{Add, Move}
 use Rattle.scx_semantics.specs.declared.values.Value.{Value}
 use Rattle.scx_semantics.specs.declared.values.Value.TheVariants as value
 use Rattle.scx_semantics.specs.declared.values.Pointer as pointers
@@ -17,7 +17,7 @@ use Rattle.scx_semantics.specs.Arithmetic.{shifted}
 use Rattle.scx_semantics.specs.Memory.{stack_size, within}
 use Rattle.scx_semantics.specs.Elements.{Maps, element}
 use Rattle.scx_semantics.specs.Machine.{Machine}
-use Rattle.scx_semantics.specs.Meaning.{operand_value, moved, combined, arithmetic, binary, pointer_step, pointer_moved, on_number, map_reference}
+use Rattle.scx_semantics.specs.Meaning.{operand_value, moved, combined, arithmetic, binary, pointer_step, pointer_moved, pointer_combined, on_number, map_reference}
 use Rattle.scx_semantics.proofs.Numbers.{low_below, compute_below}
 use Rattle.scx_encoding.specs.Spelling.{IsOperand}
 use Rattle.scx_maps.specs.declared.shape.Shape.{Shape}
@@ -79,15 +79,21 @@ moved_by_gives shapes maps (Elem m o) (pointer.Element n i p) (Some d) shaped h 
 moved_by_gives shapes maps (Elem m o) p (Some d) shaped h = absurd h
 moved_by_gives shapes maps k p d shaped h = tt
 
+pointer_gives : (shapes : List Shape) (m : Machine) (w : Width) (o : Operation) (q : pointers.Pointer) (x : Operand) (j : Kind) → HasShapes shapes m.maps → Stands m.maps j (value.Pointer q)
+    → Gives m.maps (moved_by shapes j (pointer_step w o x)) (pointer_combined m w o q x)
+pointer_gives shapes m Bits64 Add (pointer.Element l i at) (operand.Register r) (kind.Stack p) s h = tt
+pointer_gives shapes m Bits64 Add (pointer.Element l i at) (operand.Register r) (Elem n p) s h = tt
+pointer_gives shapes m w o q x j s h = moved_by_gives shapes m.maps j q (pointer_step w o x) s h
+
 -- ---- all operations
 
 arithmetic_gives : (shapes : List Shape) (m : Machine) (w : Width) (o : Operation) (x : Operand) (j k : Kind) (old : Value) → HasShapes shapes m.maps → Stands m.maps j old
     → Stands m.maps k (operand_value m w x) → Gives m.maps (arithmetic_kind shapes w o x j k) (arithmetic m w o old x)
 arithmetic_gives shapes m w o x Num Num (value.Number a) s h g = combined_gives m.maps w o a (operand_value m w x) h g
 arithmetic_gives shapes m w o x Num Num old s h g = absurd h
-arithmetic_gives shapes m w o x (kind.Stack p) k (value.Pointer q) s h g = moved_by_gives shapes m.maps (kind.Stack p) q (pointer_step w o x) s h
+arithmetic_gives shapes m w o x (kind.Stack p) k (value.Pointer q) s h g = pointer_gives shapes m w o q x (kind.Stack p) s h
 arithmetic_gives shapes m w o x (kind.Stack p) k old s h g = absurd h
-arithmetic_gives shapes m w o x (Elem n p) k (value.Pointer q) s h g = moved_by_gives shapes m.maps (Elem n p) q (pointer_step w o x) s h
+arithmetic_gives shapes m w o x (Elem n p) k (value.Pointer q) s h g = pointer_gives shapes m w o q x (Elem n p) s h
 arithmetic_gives shapes m w o x (Elem n p) k old s h g = absurd h
 arithmetic_gives shapes m w o x j k old s h g = tt
 

@@ -1,5 +1,5 @@
 ghost use Rattle.std.specs.Prelude.{◌≡◌, Some};
-ghost use Rattle.scx_semantics.specs.Meaning.{operand_value, on_number, binary, moved, combined, arithmetic, pointer_moved, map_reference};
+ghost use Rattle.scx_semantics.specs.Meaning.{operand_value, on_number, binary, moved, combined, arithmetic, advanced, pointer_combined, pointer_moved, map_reference};
 ghost use Rattle.scx_semantics.specs.Arithmetic.{negated, extended, byte_swapped};
 ghost use Rattle.scx_semantics.specs.Elements.{Maps};
 ghost use Rattle.scx_semantics.specs.Registers.{number};
@@ -73,11 +73,9 @@ fn arithmetic(
 {
     match old {
         Value::Number(a) => combined(width, operation, a, operand_value(core, width, operand)),
-        Value::Pointer(pointer) => pointer_moved(
-            maps,
-            pointer,
-            numbers::pointer_step(width, operation, operand)?,
-        ),
+        Value::Pointer(pointer) => {
+            pointer_combined(core, maps, width, operation, pointer, operand)
+        }
         Value::Unset => None,
     }
 }
@@ -88,6 +86,53 @@ fn combined(width: Width, operation: Operation, a: u64, operand: Value) -> Optio
 {
     match operand {
         Value::Number(b) => Some(Value::Number(numbers::compute(width, operation, a, b))),
+        Value::Pointer(_) | Value::Unset => None,
+    }
+}
+
+/// What arithmetic makes of a pointer and an operand.
+fn pointer_combined(
+    core: &Core,
+    maps: &Maps,
+    width: Width,
+    operation: Operation,
+    pointer: Pointer,
+    operand: Operand,
+) -> Option<Value>
+    ensures { result
+        ≡ pointer_combined (seen core.now maps.now) width operation pointer operand }
+{
+    match (width, operation, pointer, operand) {
+        (
+            Width::Bits64,
+            Operation::Add,
+            Pointer::Element { map, index, offset },
+            Operand::Register(register),
+        ) => advanced(maps, map, index, offset, core.read(register)),
+        _ => pointer_moved(
+            maps,
+            pointer,
+            numbers::pointer_step(width, operation, operand)?,
+        ),
+    }
+}
+
+/// The pointer into an element to which a number is added.
+fn advanced(maps: &Maps, map: u8, index: u32, at: u16, by: Value) -> Option<Value>
+    ensures { result ≡ advanced maps.now map index at by }
+{
+    match by {
+        Value::Number(n) => {
+            let to = numbers::within(
+                maps.value_size(map, index),
+                Some(u64::from(at).checked_add(n)?),
+            )?;
+            Some(Value::Pointer(Pointer::Element {
+                map,
+                index,
+                offset: to,
+            }))
+        }
         Value::Pointer(_) | Value::Unset => None,
     }
 }
