@@ -23,3 +23,4 @@ pub mod Spots
 pub mod Shifts
 pub mod HeapEdits
 pub mod Holdings
+pub mod Behind

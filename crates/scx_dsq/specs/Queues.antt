@@ -66,3 +66,21 @@ is_first entries id (Some p) = p.queue == id && list_all (λ other. not (is_ahea
 -- the front of a queue; `IsFront` says what it is
 unfoldable pub front_of : QueueState → ℕ → Option ℕ
 front_of s id = position (is_first s.entries id) s.entries
+
+-- whether an entry is one in the same queue that comes after it
+abbrev pub is_behind : Entry → Option Entry → Bool
+is_behind p None = false
+is_behind p (Some q) = q.queue == p.queue && is_before p q
+
+-- whether an entry is the first of those
+abbrev pub is_right_behind : Entries → Entry → Option Entry → Bool
+is_right_behind entries p None = false
+is_right_behind entries p (Some q) = is_behind p (Some q) && list_all (λ other. not (is_behind p other && is_ahead p.queue q other)) entries
+
+abbrev pub right_behind : Entries → Option Entry → Option ℕ
+right_behind entries None = None
+right_behind entries (Some p) = position (is_right_behind entries p) entries
+
+-- whom the task has right behind it in its queue
+unfoldable pub behind_of : QueueState → ℕ → Option ℕ
+behind_of s t = right_behind s.entries (entry_of s t)

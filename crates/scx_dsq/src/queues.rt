@@ -2,7 +2,7 @@ ghost use Rattle.std.specs.Prelude.{◌≡◌, ◌≢◌, ℕ, ◌+◌, ◌-◌,
 ghost use Rattle.std.specs.List.{list_any};
 ghost use Rattle.scx_dsq.specs.declared.entries.Entry.{Entry};
 ghost use Rattle.scx_dsq.specs.declared.entries.Rank.TheVariants.{Fifo, Vtime};
-ghost use Rattle.scx_dsq.specs.Queues.{Waits, IsFront, exists, task_count, entry_of, queue_of, len_of, front_of};
+ghost use Rattle.scx_dsq.specs.Queues.{Waits, IsFront, exists, task_count, entry_of, queue_of, len_of, front_of, behind_of};
 ghost use Rattle.scx_dsq.specs.Calls.{refused_or_done, create_refusal, created, clashes, push_refusal, pushed, without_task, removed, popped, empty};
 ghost use Rattle.scx_dsq.specs.Laws.{HasOneOfEach, WaitsInAQueue, HasOneSort, IsStamped, HasOwnStamps, StandsInSoMany};
 ghost use Rattle.scx_dsq.specs.Arrays.{IsPaid};
@@ -327,6 +327,23 @@ impl Queues {
             Some(entry) => Some(entry.queue),
             None => None,
         }
+    }
+
+    /// Who waits right behind the task in its FIFO queue; nobody behind the last, nor behind a task that
+    /// waits nowhere.
+    pub fn behind(&self, task: u32) -> Option<u32>
+        requires known { task < task_count self.now.state }
+        requires fifo { (p : Entry) → entry_of self.now.state task ≡ Some p → p.rank ≡ Fifo }
+        ensures { result ≡ behind_of self.now.state task }
+    {
+        let Some(entry) = self.entries[task as usize] else {
+            return None;
+        };
+        let Some(index) = find(&self.live, &self.order, &self.guesses, entry.queue) else {
+            unreachable!()
+        };
+        let _queue = &self.live[index];
+        self.links[task as usize].behind.get()
     }
 
     /// How many tasks there are; their numbers are below it.

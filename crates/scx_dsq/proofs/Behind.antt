@@ -1,0 +1,143 @@
+-- Who waits right behind a task, as it is computed.
+use Rattle.std.proofs.Common.{◌≡◌, ◌≢◌, ℕ, ◌<◌, ◌≤◌, Bool, true, false, ◌==◌, ◌&&◌, not, List, get_or, Option, Some, None, MatchOption, position, refl, sym, ap, ◌∙◌, subst, arith, ⊎_elim}
+use Rattle.std.specs.List.{list_all}
+use Rattle.std.proofs.lemmas.Bool.{both_ways, eq-eqb, eqb-true, and_from, and_parts, cases_Bool, false_from_ne_true}
+use Rattle.std.proofs.lemmas.List.{get_or_default}
+use Rattle.std.proofs.lemmas.List.Sums.{list_all-from_AllPass}
+use Rattle.std.proofs.lemmas.List.Folds.{list_all_at}
+use Rattle.scx_dsq.specs.declared.entries.Rank.TheVariants.{Fifo}
+use Rattle.scx_dsq.specs.declared.entries.Entry.{Entry}
+use Rattle.scx_dsq.specs.declared.links.Link.{Link}
+use Rattle.scx_dsq.specs.declared.queue.Queue.{Queue}
+use Rattle.scx_dsq.specs.declared.queues.Queues.TheInside.{Inside}
+use Rattle.scx_dsq.specs.Entries.{is_before, key_of, same_sort}
+use Rattle.scx_dsq.specs.Queues.{QueueState, entry_at, entry_of, is_ahead, is_behind, is_right_behind, right_behind, behind_of}
+use Rattle.scx_dsq.specs.Laws.{HasOwnStamps}
+use Rattle.scx_dsq.specs.Links.{link_at, In, IsLast, IsNext, IsThreaded}
+use Rattle.scx_dsq.specs.Kept.{IsOfOneSort, by_links, by_heap, state_of, IsKept}
+use Rattle.scx_dsq.proofs.Orders.{Below, before_says, before_from}
+use Rattle.scx_dsq.proofs.Positions.{position_is, no_position}
+use Rattle.scx_dsq.proofs.Standing.{waits_below, same_entry}
+use Rattle.scx_dsq.proofs.Holdings.{holds_vtime}
+use Rattle.scx_dsq.proofs.QueueReads.{row_at}
+use Rattle.scx_dsq.proofs.Removals.{IsWaiting}
+
+-- in order of arrival stamps alone decide
+earlier_stamp : (p q : Entry) → p.rank ≡ Fifo → q.rank ≡ Fifo → is_before p q ≡ true → p.stamp < q.stamp
+earlier_stamp p q a b e =
+    let same : key_of p.rank ≡ key_of q.rank = ap (λ r. key_of r) (a ∙ sym b) in
+    let below : Below (key_of p.rank) p.stamp (key_of q.rank) q.stamp = before_says p q e in
+    below.stamps same
+
+before_stamp : (p q : Entry) → p.rank ≡ Fifo → q.rank ≡ Fifo → p.stamp < q.stamp → is_before p q ≡ true
+before_stamp p q a b lt =
+    let same : key_of p.rank ≡ key_of q.rank = ap (λ r. key_of r) (a ∙ sym b) in
+    before_from p q (record { keys = omega (arith, same); stamps = λ e. lt })
+
+left_false : (a b : Bool) → a ≡ false → (a && b) ≡ false
+left_false true b e = absurd (cc)
+left_false false b e = refl
+
+right_false : (a b : Bool) → b ≡ false → (a && b) ≡ false
+right_false true b e = e
+right_false false b e = refl
+
+module _ (s : QueueState) (links : List Link) (q : Queue) (stamps : HasOwnStamps s) (f : IsThreaded s.entries links q.id q.ends) (t : ℕ) (p : Entry) (w : In s.entries q.id t p) where
+  -- behind the last is nobody
+  nobody_behind : IsLast s.entries q.id t → position (is_right_behind s.entries p) s.entries ≡ None
+  nobody_behind l = no_position (is_right_behind s.entries p) s.entries (λ k d lt. go k (get_or s.entries k d) (get_or_default s.entries k None d lt))
+    where
+      go : (k : ℕ) (o : Option Entry) → entry_at s.entries k ≡ o → is_right_behind s.entries p o ≡ false
+      go k None e = refl
+      go k (Some v) e = false_from_ne_true _ (λ h.
+          let both = and_parts (is_behind p (Some v)) _ h in
+          let parts = and_parts (v.queue == p.queue) (is_before p v) both.0 in
+          let here : v.queue ≡ q.id = eqb-true v.queue p.queue parts.0 ∙ w.1 in
+          let less : p.stamp < v.stamp = earlier_stamp p v (f.sort t p w) (f.sort k v (e, here)) parts.1 in
+          let mine : l.entry.stamp ≡ p.stamp = ap (λ (x : Entry). x.stamp) (same_entry s.entries t l.entry p l.waits.0 w.0) in
+          let most : v.stamp ≤ l.entry.stamp = l.last k v (e, here) in
+          omega (arith, less, mine, most))
+
+  module _ (u : ℕ) (n : IsNext s.entries q.id t u) where
+    mine : n.entry.stamp ≡ p.stamp
+    mine = ap (λ (x : Entry). x.stamp) (same_entry s.entries t n.entry p n.waits.0 w.0)
+
+    here : (n.entry_behind.queue == p.queue) ≡ true
+    here = eq-eqb n.entry_behind.queue p.queue (n.waits_behind.1 ∙ sym w.1)
+
+    behind : is_behind p (Some n.entry_behind) ≡ true
+    behind =
+        let less : p.stamp < n.entry_behind.stamp = let lt = n.before in omega (arith, lt, mine) in
+        and_from (n.entry_behind.queue == p.queue) (is_before p n.entry_behind) here (before_stamp p n.entry_behind (f.sort t p w) (f.sort u n.entry_behind n.waits_behind) less)
+
+    between : (k : ℕ) (o : Option Entry) → entry_at s.entries k ≡ o → (is_behind p o && is_ahead p.queue n.entry_behind o) ≡ false
+    between k None e = refl
+    between k (Some v) e = false_from_ne_true _ (λ h.
+        let both = and_parts (is_behind p (Some v)) (is_ahead p.queue n.entry_behind (Some v)) h in
+        let first = and_parts (v.queue == p.queue) (is_before p v) both.0 in
+        let second = and_parts (v.queue == p.queue) (is_before v n.entry_behind) both.1 in
+        let inside : v.queue ≡ q.id = eqb-true v.queue p.queue first.0 ∙ w.1 in
+        let after : p.stamp < v.stamp = earlier_stamp p v (f.sort t p w) (f.sort k v (e, inside)) first.1 in
+        let before : v.stamp < n.entry_behind.stamp = earlier_stamp v n.entry_behind (f.sort k v (e, inside)) (f.sort u n.entry_behind n.waits_behind) second.1 in
+        ⊎_elim
+        (λ (x : v.stamp ≤ n.entry.stamp). omega (arith, after, x, mine))
+        (λ (x : n.entry_behind.stamp ≤ v.stamp). omega (arith, before, x))
+        (n.none_between k v (e, inside)))
+
+    not_next : (k : ℕ) (v : Entry) → k ≢ u → entry_at s.entries k ≡ Some v → is_behind p (Some v) ≡ true → list_all (λ other. not (is_behind p other && is_ahead p.queue v other)) s.entries ≡ false
+    not_next k v ne e after =
+        let parts = and_parts (v.queue == p.queue) (is_before p v) after in
+        let inside : v.queue ≡ q.id = eqb-true v.queue p.queue parts.0 ∙ w.1 in
+        let less : p.stamp < v.stamp = earlier_stamp p v (f.sort t p w) (f.sort k v (e, inside)) parts.1 in
+        let differ : v.stamp ≢ n.entry_behind.stamp = stamps k u v n.entry_behind ne e n.waits_behind.0 in
+        let sooner : n.entry_behind.stamp < v.stamp =
+        ⊎_elim
+        (λ (x : v.stamp ≤ n.entry.stamp). absurd (omega (arith, less, x, mine)))
+        (λ (x : n.entry_behind.stamp ≤ v.stamp). omega (arith, x, differ))
+        (n.none_between k v (e, inside)) in
+        let ahead : is_ahead p.queue v (Some n.entry_behind) ≡ true =
+        and_from (n.entry_behind.queue == p.queue) (is_before n.entry_behind v) here (before_stamp n.entry_behind v (f.sort u n.entry_behind n.waits_behind) (f.sort k v (e, inside)) sooner) in
+        let both : (is_behind p (entry_at s.entries u) && is_ahead p.queue v (entry_at s.entries u)) ≡ true =
+        subst (λ (o : Option Entry). (is_behind p o && is_ahead p.queue v o) ≡ true) (sym n.waits_behind.0)
+        (and_from (is_behind p (Some n.entry_behind)) (is_ahead p.queue v (Some n.entry_behind)) behind ahead) in
+        list_all_at (λ other. not (is_behind p other && is_ahead p.queue v other)) s.entries u None (waits_below s.entries u n.entry_behind n.waits_behind.0) (ap (λ b. not b) both)
+
+    others : (k : ℕ) → k ≢ u → (o : Option Entry) → entry_at s.entries k ≡ o → is_right_behind s.entries p o ≡ false
+    others k ne None e = refl
+    others k ne (Some v) e =
+        ⊎_elim
+        (λ (after : is_behind p (Some v) ≡ true). right_false (is_behind p (Some v)) (list_all (λ other. not (is_behind p other && is_ahead p.queue v other)) s.entries) (not_next k v ne e after))
+        (λ (out : is_behind p (Some v) ≡ false). left_false (is_behind p (Some v)) (list_all (λ other. not (is_behind p other && is_ahead p.queue v other)) s.entries) out)
+        (cases_Bool (is_behind p (Some v)))
+
+    passes : is_right_behind s.entries p (Some n.entry_behind) ≡ true
+    passes =
+        and_from (is_behind p (Some n.entry_behind)) (list_all (λ o. not (is_behind p o && is_ahead p.queue n.entry_behind o)) s.entries) behind
+        (list_all-from_AllPass (λ o. not (is_behind p o && is_ahead p.queue n.entry_behind o)) s.entries
+        (λ k d lt. ap (λ b. not b) (between k (get_or s.entries k d) (get_or_default s.entries k None d lt))))
+
+    -- the next one is the one that is computed
+    next_is : position (is_right_behind s.entries p) s.entries ≡ Some u
+    next_is =
+        position_is (is_right_behind s.entries p) s.entries u None (waits_below s.entries u n.entry_behind n.waits_behind.0)
+        (subst (λ (o : Option Entry). is_right_behind s.entries p o ≡ true) (sym n.waits_behind.0) passes)
+        (λ k ne. others k ne (entry_at s.entries k) refl)
+
+  linked : (o : Option ℕ) → MatchOption o (IsLast s.entries q.id t) (IsNext s.entries q.id t) → o ≡ position (is_right_behind s.entries p) s.entries
+  linked None l = sym (nobody_behind l)
+  linked (Some u) n = sym (next_is u n)
+
+-- the link of a task in a FIFO queue is who waits right behind it
+pub behind_at : (i : Inside) (k t : ℕ) (p : Entry) (q : Queue) → IsKept i → IsWaiting i k t p q → p.rank ≡ Fifo → (link_at i.links.items t).behind ≡ behind_of (state_of i) t
+unfolding behind_of
+behind_at i k t p q h w fifo = go (row_at i k q h w.inside w.read).tasks ∙ sym (ap (λ o. right_behind i.entries.items o) w.waits)
+  where
+    go : IsOfOneSort i.entries.items i.links.items q → (link_at i.links.items t).behind ≡ position (is_right_behind i.entries.items p) i.entries.items
+    go (by_links f empty) = linked (state_of i) i.links.items q h.sound.stamps f t p (w.waits, sym w.is) (link_at i.links.items t).behind (f.behind t p (w.waits, sym w.is))
+    go (by_heap held none) =
+        absurd (both_ways (same_sort p.rank Fifo) (holds_vtime i.entries.items q.id q.heap.items held t p (w.waits, sym w.is)) (ap (λ r. same_sort r Fifo) fifo))
+
+-- behind a task that waits nowhere is nobody
+pub nobody_behind_none : (s : QueueState) (t : ℕ) → entry_of s t ≡ None → behind_of s t ≡ None
+unfolding behind_of
+nobody_behind_none s t e = ap (λ o. right_behind s.entries o) e
