@@ -108,10 +108,7 @@ fn simple(alloc: Global) -> Option<Policy> {
 
 /// That many tasks in one group.
 fn tree(alloc: Global, tasks: u16) -> Option<Tree> {
-    let group = Group {
-        parent: None,
-        weight: 100,
-    };
+    let group = Group::new(None, 100);
     let mut homes = Vec::new(alloc);
     for _ in 0..tasks {
         homes.push(0).ok()?;

@@ -10,7 +10,7 @@ type Pair = (Option<u32>, u32);
 fn groups_of(alloc: Global, pairs: &[Pair]) -> Result<Vec<Group>, AllocError> {
     let mut groups = Vec::new(alloc);
     for &(parent, weight) in pairs {
-        groups.push(Group { parent, weight })?;
+        groups.push(Group::new(parent, weight))?;
     }
     Ok(groups)
 }
@@ -217,10 +217,7 @@ fn expect_size<R: AllocGlobal + Abort>(
     tasks: usize,
     wanted: Option<TreeError>,
 ) -> Result<(), AllocError> {
-    let group = Group {
-        parent: None,
-        weight: 10_000,
-    };
+    let group = Group::new(None, 10_000);
     let homes = vec![in rt.alloc(); 0; tasks]?;
     let groups = vec![in rt.alloc(); group; groups]?;
     expect_same(rt, refusal(rt.alloc(), &groups, &homes), wanted, tasks);
@@ -271,11 +268,6 @@ fn weights_are_limited(rt: HostRuntime) -> Result<(), Fail> {
     Ok(())
 }
 
-const SMALL: Group = Group {
-    parent: None,
-    weight: 1,
-};
-
 /// The lists of a tree, from which each weight is computed anew.
 #[derive(Drop)]
 struct Plain {
@@ -286,7 +278,10 @@ struct Plain {
 
 impl Plain {
     fn group(&self, group: u32) -> Group {
-        self.groups.get(group as usize).copied().unwrap_or(SMALL)
+        self.groups
+            .get(group as usize)
+            .copied()
+            .unwrap_or(Group::new(None, 1))
     }
 
     /// Which groups have an active task in them or below them, that task counted.
@@ -343,7 +338,7 @@ impl Plain {
         let mut at = Some(home);
         for _ in 0..10 {
             if let Some(group) = at {
-                let Group { parent, weight } = self.group(group);
+                let Group { parent, weight, .. } = self.group(group);
                 part = part.saturating_mul(u128::from(weight));
                 whole = whole.saturating_mul(self.weights_under(marks, parent));
                 at = parent;
@@ -381,7 +376,7 @@ fn large(alloc: Global, numbers: &mut Numbers) -> Result<Plain, AllocError> {
             16..64 => Some(group % 12),
             _ => Some(16u32.saturating_add(group % 40)),
         };
-        groups.push(Group { parent, weight })?;
+        groups.push(Group::new(parent, weight))?;
     }
     let mut homes = Vec::new(alloc);
     for _ in 0..1024 {

@@ -48,10 +48,7 @@ fn homes(alloc: Global) -> Result<Vec<u32>, AllocError> {
 }
 
 fn large_tree(alloc: Global) -> Result<Tree, TreeError> {
-    let group = Group {
-        parent: None,
-        weight: 100,
-    };
+    let group = Group::new(None, 100);
     let groups = [group; 256];
     let homes = homes(alloc)?;
     Tree::new(alloc, &groups, &homes)

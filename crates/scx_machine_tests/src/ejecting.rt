@@ -532,14 +532,8 @@ const BY_WEIGHT: &str = "0 Wake(0)
 
 /// A group of one task weighs three times as much as a group of two.
 fn three_to_one(alloc: Global) -> Result<Tree, TreeError> {
-    let heavy = Group {
-        parent: None,
-        weight: 300,
-    };
-    let light = Group {
-        parent: None,
-        weight: 100,
-    };
+    let heavy = Group::new(None, 300);
+    let light = Group::new(None, 100);
     Tree::new(alloc, &[heavy, light], &[0, 1, 1])
 }
 

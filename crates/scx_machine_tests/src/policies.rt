@@ -88,9 +88,6 @@ pub(crate) fn two_milliseconds<R: AllocGlobal + Abort>(rt: &R) -> Policy {
 
 /// So many tasks in one group.
 pub(crate) fn tree<R: AllocGlobal + Abort>(rt: &R, tasks: &[u32]) -> Tree {
-    let group = Group {
-        parent: None,
-        weight: 100,
-    };
+    let group = Group::new(None, 100);
     Tree::new(rt.alloc(), &[group], tasks).expect(rt, "the tasks are in the group")
 }

@@ -80,10 +80,7 @@ fn who_runs_or_sleeps_does_not_wait(rt: HostRuntime) {
 
 /// 1024 tasks of one group.
 fn large_tree(alloc: Global) -> Result<Tree, TreeError> {
-    let group = Group {
-        parent: None,
-        weight: 100,
-    };
+    let group = Group::new(None, 100);
     Tree::new(alloc, &[group], &homes(alloc)?)
 }
 

@@ -1,4 +1,4 @@
-ghost use Rattle.std.specs.Prelude.{◌≡◌, ◌<◌, length};
+ghost use Rattle.std.specs.Prelude.{◌≡◌, ◌<◌, None, length};
 ghost use Rattle.scx_weights.specs.Hierarchy.{parent_of};
 
 /// The most groups of a tree.
@@ -13,6 +13,15 @@ pub const MAX_DEPTH: usize = 3;
 /// The greatest weight of a group; the least is 1.
 pub const MAX_WEIGHT: u32 = 10_000;
 
+/// The greatest quota of a group, in ms; the least is 1.
+pub const MAX_QUOTA_MS: u32 = 1_000_000;
+
+/// The longest period of a group, in ms; the shortest is 1.
+pub const MAX_PERIOD_MS: u32 = 1000;
+
+/// The length of the periods of a group that names none, in ms.
+pub const DEFAULT_PERIOD_MS: u32 = 100;
+
 /// A group of tasks, or of groups.
 #[derive(Clone, Copy)]
 pub struct Group {
@@ -20,6 +29,26 @@ pub struct Group {
     pub parent: Option<u32>,
     /// Its `cpu.weight`, 1 to 10000.
     pub weight: u32,
+    /// The most processor time that its tasks and those below it may use in a period, in ms, 1 to
+    /// 1,000,000; none for any time. With the period it is the group's `cpu.max`.
+    pub quota_ms: Option<u32>,
+    /// The length of its periods in ms, 1 to 1000.
+    pub period_ms: u32,
+}
+
+impl Group {
+    /// A group without a quota, whose periods are of the default length.
+    pub fn new(parent: Option<u32>, weight: u32) -> Group
+        ensures { result
+            ≡ (record { parent = parent; weight = weight; quota_ms = None; period_ms = 100 }) }
+    {
+        Group {
+            parent,
+            weight,
+            quota_ms: None,
+            period_ms: DEFAULT_PERIOD_MS,
+        }
+    }
 }
 
 /// The parent of the group, if the group is in the list and has one.

@@ -13,8 +13,12 @@ mod laws;
 mod share;
 mod sums;
 mod tree;
+mod usage;
 
 pub use error::TreeError;
-pub use group::{Group, MAX_DEPTH, MAX_GROUPS, MAX_TASKS, MAX_WEIGHT};
+pub use group::{
+    DEFAULT_PERIOD_MS, Group, MAX_DEPTH, MAX_GROUPS, MAX_PERIOD_MS, MAX_QUOTA_MS, MAX_TASKS,
+    MAX_WEIGHT,
+};
 pub use laws::ways_reach_top;
 pub use tree::Tree;

@@ -1,23 +1,25 @@
-ghost use Rattle.std.specs.Prelude.{◌≡◌, ◌<◌, ◌≤◌, true, false, length, IfOk, IfErr, OnOk, OnErr};
+ghost use Rattle.std.specs.Prelude.{◌≡◌, ℕ, ◌^◌, ◌<◌, ◌≤◌, true, false, length, IfOk, IfErr, OnOk, OnErr};
 
 use crate::admission::{first_fault, is_bad_weight};
 use crate::error::TreeError;
 use crate::group::{Group, MAX_GROUPS, MAX_TASKS};
 use crate::share::weight_in;
 use crate::sums::Sums;
+use crate::usage::Usages;
 use std::alloc::Global;
 use std::marker::Model;
 
-/// Groups with weights, tasks in them, and which tasks are active.
+/// Groups with weights and limits, tasks in them, which tasks are active, and what groups have used.
 ///
 /// Groups and tasks go by their numbers in the lists that the tree was made of. In a contract a tree is
-/// those two lists and whether each task is active.
+/// those two lists, whether each task is active, and the usage of each group.
 #[derive(Drop)]
 pub struct Tree {
     groups: Vec<Group>,
     homes: Vec<u32>,
     active: Vec<bool>,
     sums: Sums,
+    usages: Usages,
 }
 
 impl Model for Tree {
@@ -26,17 +28,19 @@ impl Model for Tree {
 
     ghost Value = { Hierarchy };
 
-    ghost view = { λ t. record { groups = t.groups.items; homes = t.homes.items; active = t.active.items } };
+    ghost view = { λ t. record { groups = t.groups.items; homes = t.homes.items; active = t.active.items; usages = t.usages.used.items } };
 
     ghost invariant = { λ t.
         IsKept
-        (record { groups = t.groups.items; homes = t.homes.items; active = t.active.items })
+        (record { groups = t.groups.items; homes = t.homes.items; active = t.active.items; usages = t.usages.used.items })
         t.sums.tasks.items t.sums.weights.items };
 }
 
 impl Tree {
     ghost use Rattle.scx_weights.specs.Hierarchy.{home_of, is_active_task, with_task, with_weight, idle};
     ghost use Rattle.scx_weights.specs.Weights.{active_tasks, task_weight};
+    ghost use Rattle.scx_weights.specs.Limits.{usage_of, is_throttled, with_use, with_turn};
+    ghost use Rattle.scx_weights.specs.Hierarchy.{lies_in};
     ghost use Rattle.scx_weights.specs.Refusals.{max_tasks, first_fault, weight_fault, Names};
 
     /// A tree of these groups, and of tasks in the groups that `tasks` names; no task is active.
@@ -56,6 +60,7 @@ impl Tree {
             homes: Vec::from_slice(alloc, tasks)?,
             active: vec![in alloc; false; tasks.len()]?,
             sums: Sums::new(alloc, groups.len())?,
+            usages: Usages::new(alloc, groups.len())?,
         })
     }
 
@@ -146,6 +151,40 @@ impl Tree {
     {
         let tasks = self.active_beside(task);
         weight_in(&self.groups, &self.sums, self.homes[task as usize], tasks)
+    }
+
+    /// The task ran for a millisecond: its group used it, and so did each that this lies below.
+    pub fn charge(&mut self, task: u32)
+        requires known { task < length self.old.homes }
+        requires room { (g : ℕ) → lies_in self.old.groups (home_of self.old task) g ≡ true
+            → usage_of self.old g < 2 ^ 63 }
+        ensures { self.new ≡ with_use self.old task }
+    {
+        self.usages.charge(&self.groups, self.homes[task as usize]);
+    }
+
+    /// Whether the task's group has used all of its quota, or one that this lies below.
+    pub fn throttled(&self, task: u32) -> bool
+        requires { task < length self.now.homes }
+        ensures { result ≡ is_throttled self.now task }
+    {
+        self.usages
+            .is_throttled(&self.groups, self.homes[task as usize])
+    }
+
+    /// The clock shows so many ms: a group whose period begins has used nothing.
+    pub fn turn(&mut self, clock: u64)
+        ensures { self.new ≡ with_turn self.old clock }
+    {
+        self.usages.turn(&self.groups, clock);
+    }
+
+    /// The processor time in ms that the group's tasks and those below it have used in its period.
+    pub fn usage(&self, group: u32) -> u64
+        requires { group < length self.now.groups }
+        ensures { result ≡ usage_of self.now group }
+    {
+        self.usages.of(group)
     }
 
     /// How many active tasks the task's group has, the task itself counted as active.

@@ -14,7 +14,7 @@ use Rattle.scx_files.specs.Values.{found_or, required, optional, table_of, text_
 use Rattle.scx_weights.specs.declared.group.Group.{Group}
 use Rattle.scx_weights.specs.Counting.{any_below}
 use Rattle.scx_weights.specs.Hierarchy.{parent_of}
-use Rattle.scx_weights.specs.Refusals.{is_outside, is_late, has_late_parent, has_unknown_home, has_bad_weight, above, has_deep_group, has_task_above, first_fault}
+use Rattle.scx_weights.specs.Refusals.{is_outside, is_late, has_late_parent, has_unknown_home, has_bad_weight, max_period, is_bad_quota, has_bad_limit, above, has_deep_group, has_task_above, first_fault}
 use Rattle.scx_workloads.specs.Reading.{weight_limits, fold_from, some_of, some_elements, index_of, new_name, group_named, GroupList, no_groups, is_deep, if_shallow, parent_named, with_group, group_at, groups_in, TaskList, no_tasks, has_children, if_leaf, leaf_named, timing_in, with_task, task_at, tasks_in}
 use Rattle.scx_workloads.proofs.Values.{IsWithin, optional_within, few_items, place_below, same_items}
 
@@ -99,7 +99,7 @@ module _ (groups : List Group) (x : Group) where
   parent_last : parent_of (groups ++ x ∷ []) (length groups) ≡ x.parent
   parent_last =
       let last : length groups + 0 ≡ length groups = omega arith in
-      subst (λ k. parent_of (groups ++ x ∷ []) k ≡ x.parent) last (ap (λ (g : Group). g.parent) (get_or-append-add groups (x ∷ []) 0 (record { parent = None; weight = 0 })))
+      subst (λ k. parent_of (groups ++ x ∷ []) k ≡ x.parent) last (ap (λ (g : Group). g.parent) (get_or-append-add groups (x ∷ []) 0 (record { parent = None; weight = 0; quota_ms = None; period_ms = 0 })))
 
   above_left : has_late_parent groups ≡ false → (m : ℕ) (o : Option ℕ) → Within (length groups) o → above (groups ++ x ∷ []) m o ≡ above groups m o
   above_left late zero o w = refl
@@ -126,10 +126,15 @@ module _ (groups : List Group) (x : Group) where
   weights_more : has_bad_weight groups ≡ false → is_outside 10000 x.weight ≡ false → has_bad_weight (groups ++ x ∷ []) ≡ false
   weights_more all new = rw (list_any-append (λ (g : Group). is_outside 10000 g.weight) groups (x ∷ []), all, new) refl
 
+  limits_more : has_bad_limit groups ≡ false → is_bad_quota x.quota_ms ≡ false → is_outside max_period x.period_ms ≡ false → has_bad_limit (groups ++ x ∷ []) ≡ false
+  limits_more all quota period =
+      rw (list_any-append (λ (g : Group). is_bad_quota g.quota_ms || is_outside max_period g.period_ms) groups (x ∷ []), all, quota, period) refl
+
 record IsForest (g : GroupList) : Type 0 where
   pub even : length g.names ≡ length g.groups
   pub late : has_late_parent g.groups ≡ false
   pub weights : has_bad_weight g.groups ≡ false
+  pub limits : has_bad_limit g.groups ≡ false
   pub deep : has_deep_group g.groups ≡ false
 
 -- a group that was named is there
@@ -173,12 +178,13 @@ is_parent g path key ms o even e = at (get_member key ms) e
         let x = parts (group_named g.names (below path key) d) (if_shallow g.groups (below path key)) o f in
         shallow x.value (let l = named_below g.names (below path key) d x.value x.first in omega (arith, l, even)) x.second
 
-with_one_more : (g : GroupList) (name : List ℕ) (group : Group) → IsForest g → IsWithin weight_limits group.weight → IsParent g.groups group.parent
+with_one_more : (g : GroupList) (name : List ℕ) (group : Group) → IsForest g → IsWithin weight_limits group.weight → is_bad_quota group.quota_ms ≡ false → is_outside max_period group.period_ms ≡ false → IsParent g.groups group.parent
     → IsForest (record { names = g.names ++ name ∷ []; groups = g.groups ++ group ∷ [] })
-with_one_more g name group f w p = record {
+with_one_more g name group f w quota period p = record {
   even = length-append g.names (name ∷ []) ∙ omega (arith, f.even) ∙ sym (length-append g.groups (group ∷ []));
   late = late_more g.groups group f.late p.late;
   weights = weights_more g.groups group f.weights (inside group.weight w);
+  limits = limits_more g.groups group f.limits quota period;
   deep = deep_more g.groups group f.late f.deep p.within p.top;
 }
   where
@@ -191,14 +197,14 @@ group_step g path ms h e f =
     let b = parts (optional (integer_of weight_limits) 100 path (codes "weight") ms) _ h a.second in
     let c = parts (optional (parent_named g) None path (codes "parent") ms) _ h b.second in
     let w = optional_within weight_limits 100 path (codes "weight") ms b.value record { least = omega arith; most = omega arith } b.first in
-    subst IsForest (same_ok _ h c.second) (with_one_more g a.value (record { parent = c.value; weight = b.value }) f w (is_parent g path (codes "parent") ms c.value f.even c.first))
+    subst IsForest (same_ok _ h c.second) (with_one_more g a.value (record { parent = c.value; weight = b.value; quota_ms = None; period_ms = 100 }) f w refl refl (is_parent g path (codes "parent") ms c.value f.even c.first))
 
 group_count : (g : GroupList) (path : List ℕ) (ms : Members) (h : GroupList) → with_group g path ms ≡ Ok h → length h.groups ≡ length g.groups + 1
 group_count g path ms h e =
     let a = parts (new_name g.names path ms) _ h e in
     let b = parts (optional (integer_of weight_limits) 100 path (codes "weight") ms) _ h a.second in
     let c = parts (optional (parent_named g) None path (codes "parent") ms) _ h b.second in
-    subst (λ (y : GroupList). length y.groups ≡ length g.groups + 1) (same_ok _ h c.second) (length-append g.groups (record { parent = c.value; weight = b.value } ∷ []))
+    subst (λ (y : GroupList). length y.groups ≡ length g.groups + 1) (same_ok _ h c.second) (length-append g.groups (record { parent = c.value; weight = b.value; quota_ms = None; period_ms = 100 } ∷ []))
 
 -- ---- tasks
 
@@ -251,7 +257,7 @@ inside most n l m = let a : nat_lt n 1 ≡ false = grind (arith, nat_tests, l) i
 
 -- whatever the file
 pub tree_is_right : (ms : Members) (g : GroupList) (t : TaskList) → groups_in ms ≡ Ok g → tasks_in g ms ≡ Ok t → first_fault g.groups t.homes ≡ None
-tree_is_right ms g t e f = rw (forest.late, homes.known, inside 256 (length g.groups) (omega (arith, groups, x'.least)) (omega (arith, groups, x'.greatest)), inside 1024 (length t.homes) (omega (arith, tasks, y'.least)) (omega (arith, tasks, y'.greatest)), forest.weights, forest.deep, homes.leaves) refl
+tree_is_right ms g t e f = rw (forest.late, homes.known, inside 256 (length g.groups) (omega (arith, groups, x'.least)) (omega (arith, groups, x'.greatest)), inside 1024 (length t.homes) (omega (arith, tasks, y'.least)) (omega (arith, tasks, y'.greatest)), forest.weights, forest.limits, forest.deep, homes.leaves) refl
   where
     x : Parts (some_elements 256 (codes "group") ms) (fold_from group_at no_groups 0) g
     x = parts (some_elements 256 (codes "group") ms) (fold_from group_at no_groups 0) g e
@@ -267,7 +273,7 @@ tree_is_right ms g t e f = rw (forest.late, homes.known, inside 256 (length g.gr
 
     forest : IsForest g
     forest = kept group_at IsForest (λ s n d u r p. let z = parts (table_of (element (codes "group") n) d) (with_group s (element (codes "group") n)) u r in group_step s (element (codes "group") n) z.value u z.second p)
-        x.value no_groups 0 g x.second record { even = refl; late = refl; weights = refl; deep = refl }
+        x.value no_groups 0 g x.second record { even = refl; late = refl; weights = refl; limits = refl; deep = refl }
 
     groups : length g.groups ≡ 0 + item_count x.value
     groups = counted group_at (λ (s : GroupList). length s.groups) (λ s n d u r. let z = parts (table_of (element (codes "group") n) d) (with_group s (element (codes "group") n)) u r in group_count s (element (codes "group") n) z.value u z.second)

@@ -92,7 +92,7 @@ with_group g path ms = do
   name ← new_name g.names path ms
   weight ← optional (integer_of weight_limits) 100 path (codes "weight") ms
   parent ← optional (parent_named g) None path (codes "parent") ms
-  Ok (record { names = g.names ++ name ∷ []; groups = g.groups ++ (record { parent = parent; weight = weight }) ∷ [] })
+  Ok (record { names = g.names ++ name ∷ []; groups = g.groups ++ (record { parent = parent; weight = weight; quota_ms = None; period_ms = 100 }) ∷ [] })
 
 abbrev pub group_at : GroupList → ℕ → Data → Reading GroupList
 group_at g n d = table_of (element (codes "group") n) d >>= with_group g (element (codes "group") n)

@@ -112,7 +112,7 @@ impl Groups {
         let name = new_name(alloc, &self.names, section)?;
         let weight = integer_or(alloc, section, "weight", WEIGHT, DEFAULT_WEIGHT)?;
         let parent = self.parent(alloc, section)?;
-        Ok((name, Group { parent, weight }))
+        Ok((name, Group::new(parent, weight)))
     }
 
     fn with(self, alloc: Global, name: &str, group: Group) -> Result<Groups, LoadError>

@@ -1,0 +1,68 @@
+-- A machine as far as limits see it: the tree, and the task on each processor.
+use Rattle.std.specs.Prelude.{ℕ, Bool, true, ◌&&◌, not, nat_lt, List, [], ◌∷◌, length, replicate, slice_index_or, slice_set, Option, None, Some, is_none, if◌then◌else◌}
+use Rattle.scx_weights.specs.Hierarchy.{Hierarchy}
+use Rattle.scx_weights.specs.Limits.{is_throttled, with_use, with_turn}
+use Rattle.scx_limits.specs.Uses.{Use, Ran, Turned}
+
+pub record Machine : Type 0 where
+  pub tree : Hierarchy
+  pub cpus : List (Option ℕ)
+
+pub data Step : Type 0 where
+  Begin : ℕ → ℕ → Step  -- on that processor that task begins to run
+  End : ℕ → Step  -- who runs there stops
+  Tick : ℕ → Step  -- who runs there has run for a ms
+  Turn : ℕ → Step  -- the clock comes to show so many ms
+
+abbrev pub running : Machine → ℕ → Option ℕ
+running m c = slice_index_or m.cpus c None
+
+-- nobody runs yet
+abbrev pub idle_machine : Hierarchy → ℕ → Machine
+idle_machine t cpus = record { tree = t; cpus = replicate cpus None }
+
+-- a task that is throttled after its ms leaves
+abbrev pub left : Hierarchy → ℕ → List (Option ℕ) → ℕ → List (Option ℕ)
+left t k cpus c = if is_throttled t k then slice_set cpus c None else cpus
+
+-- that task, where there is one, has run for a ms there
+abbrev pub ticked : Option ℕ → Machine → ℕ → Machine
+ticked None m c = m
+ticked (Some k) m c = record { tree = with_use m.tree k; cpus = left (with_use m.tree k) k m.cpus c }
+
+abbrev pub stepped : Machine → Step → Machine
+stepped m (Begin c k) = record { tree = m.tree; cpus = slice_set m.cpus c (Some k) }
+stepped m (End c) = record { tree = m.tree; cpus = slice_set m.cpus c None }
+stepped m (Tick c) = ticked (running m c) m c
+stepped m (Turn clock) = record { tree = with_turn m.tree clock; cpus = m.cpus }
+
+-- none begins to run who is throttled, or where another runs
+abbrev pub is_allowed : Machine → Step → Bool
+is_allowed m (Begin c k) = (nat_lt c (length m.cpus) && is_none (running m c)) && not (is_throttled m.tree k)
+is_allowed m (End c) = nat_lt c (length m.cpus)
+is_allowed m (Tick c) = true
+is_allowed m (Turn clock) = true
+
+-- the machine after all that, the latest first
+abbrev pub run_of : Machine → List Step → Machine
+run_of m [] = m
+run_of m (s ∷ past) = stepped (run_of m past) s
+
+abbrev pub are_allowed : Machine → List Step → Bool
+are_allowed m [] = true
+are_allowed m (s ∷ past) = is_allowed (run_of m past) s && are_allowed m past
+
+-- what a step means for usages
+abbrev pub ran_now : Option ℕ → List Use → List Use
+ran_now None past = past
+ran_now (Some k) past = Ran k ∷ past
+
+abbrev pub used_by : Machine → Step → List Use → List Use
+used_by m (Begin c k) past = past
+used_by m (End c) past = past
+used_by m (Tick c) past = ran_now (running m c) past
+used_by m (Turn clock) past = Turned clock ∷ past
+
+abbrev pub uses_of : Machine → List Step → List Use
+uses_of m [] = []
+uses_of m (s ∷ past) = used_by (run_of m past) s (uses_of m past)
