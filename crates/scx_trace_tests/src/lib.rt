@@ -9,6 +9,8 @@ mod ejections;
 #[cfg(test)]
 mod failures;
 #[cfg(test)]
+mod fronts;
+#[cfg(test)]
 mod lines;
 #[cfg(test)]
 mod memory;
@@ -18,3 +20,5 @@ mod refusals;
 mod runs;
 #[cfg(test)]
 mod texts;
+#[cfg(test)]
+mod writers;
