@@ -6,6 +6,7 @@
 #![tactic(auto)]
 
 mod fault;
+mod keys;
 mod names;
 mod path;
 mod section;

@@ -4,6 +4,7 @@ ghost use Rattle.scx_files.specs.Faults.{Gives};
 ghost use Rattle.scx_files.specs.Unknown.{is_known, unknown, unknown_of, unknown_from, unknown_of_each, unknown_in, unknown_in_each, lesser, least_with, words, least_path, refuse_least, LeastIsFound};
 
 use crate::fault::{Cause, LoadError};
+use crate::keys::shown_path;
 use crate::path::{element_path, key_path};
 use crate::section::Section;
 use std::alloc::{AllocError, Global};
@@ -113,7 +114,7 @@ impl Unknown {
         let mut least = self.least;
         for (key, _value) in table {
             if !is_known(known, key) {
-                least = Some(lesser(key_path(alloc, path, key)?, least));
+                least = Some(lesser(shown_path(alloc, path, key)?, least));
             }
         }
         Ok(Unknown { least })

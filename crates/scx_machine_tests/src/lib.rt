@@ -4,6 +4,8 @@
 #[cfg(test)]
 mod bounds;
 #[cfg(test)]
+mod crowds;
+#[cfg(test)]
 mod ejecting;
 #[cfg(test)]
 mod faults;

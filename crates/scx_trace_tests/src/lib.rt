@@ -1,5 +1,5 @@
 //! Tests of traces and reports: those of whole runs and of policies that are ejected, the line of each note,
-//! the line of each refusal, and outputs that fail.
+//! the line of each refusal, files that are none, and outputs that fail.
 #![tactic(auto)]
 
 #[cfg(test)]
@@ -8,6 +8,8 @@ mod causes;
 mod ejections;
 #[cfg(test)]
 mod failures;
+#[cfg(test)]
+mod fronts;
 #[cfg(test)]
 mod lines;
 #[cfg(test)]
@@ -18,3 +20,5 @@ mod refusals;
 mod runs;
 #[cfg(test)]
 mod texts;
+#[cfg(test)]
+mod writers;

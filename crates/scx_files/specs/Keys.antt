@@ -1,0 +1,36 @@
+-- Unknown keys as paths show them, each in one line: as they are, or where a control character stands
+-- in them, as a basic string (TOML 1.1, "String").
+use Rattle.std.specs.Prelude.{ℕ, ◌/◌, ◌%◌, Bool, false, ◌||◌, ◌==◌, nat_lt, if◌then◌else◌, List, [], ◌∷◌, ◌++◌, codes, chars, encode_utf8, flat_map}
+use Rattle.std.specs.Fmt.{digit_glyph}
+use Rattle.std.specs.List.{list_any}
+
+-- the control characters of ASCII, of which each is one byte
+abbrev pub is_control : ℕ → Bool
+is_control c = nat_lt c 32 || c == 127
+
+abbrev pub control_escape : ℕ → List ℕ
+control_escape c = codes "\\u00" ++ digit_glyph false (c / 16) ∷ digit_glyph false (c % 16) ∷ []
+
+abbrev pub character : ℕ → List ℕ
+character c = if is_control c then control_escape c else encode_utf8 c
+
+-- a character within a basic string
+abbrev pub escape : ℕ → List ℕ
+escape c =
+    if c == 8 then codes "\\b"
+    else if c == 9 then codes "\\t"
+    else if c == 10 then codes "\\n"
+    else if c == 12 then codes "\\f"
+    else if c == 13 then codes "\\r"
+    else if c == 34 then codes "\\\""
+    else if c == 92 then codes "\\\\"
+    else character c
+
+abbrev pub escaped : List ℕ → List ℕ
+escaped text = flat_map escape (chars text)
+
+abbrev pub quoted : List ℕ → List ℕ
+quoted text = codes "\"" ++ escaped text ++ codes "\""
+
+abbrev pub shown : List ℕ → List ℕ
+shown key = if list_any is_control key then quoted key else key
