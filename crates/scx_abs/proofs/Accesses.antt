@@ -33,18 +33,20 @@ use Rattle.scx_abs.specs.declared.faults.Why.TheVariants.{UnwrittenStack, TaskFi
 use Rattle.scx_abs.specs.declared.kinds.Kind.{Kind}
 use Rattle.scx_abs.specs.declared.kinds.Kind.TheVariants as kind
 use Rattle.scx_abs.specs.declared.kinds.Kind.TheVariants.{Unusable, Num, Elem, Task}
+use Rattle.scx_abs.specs.declared.kinds.Held.{Held}
+use Rattle.scx_abs.specs.declared.kinds.Held.TheVariants as held
 use Rattle.scx_abs.specs.declared.kinds.Cell.{Cell}
 use Rattle.scx_abs.specs.declared.kinds.Cell.TheVariants.{Bytes, Pointer}
 use Rattle.scx_abs.specs.declared.states.AbsState.{AbsState}
 use Rattle.scx_abs.specs.declared.memory.Area.{Area}
 use Rattle.scx_abs.specs.declared.memory.Area.TheVariants.{OnStack, InElement, InTask}
 use Rattle.scx_abs.specs.Kinds.{IsUsable}
-use Rattle.scx_abs.specs.Cells.{marked, all_written, written_in}
+use Rattle.scx_abs.specs.Cells.{kind_of, held_of, marked, all_written, written_in}
 use Rattle.scx_abs.specs.States.{kind_at, cell_at, with_cell}
 use Rattle.scx_abs.specs.Stands.{HasElement, Stands, IsByte, CellStands, IsMember}
 use Rattle.scx_semantics.specs.Results.{◌>>=◌}
 use Rattle.scx_abs.specs.Checks.{goes_on, usable, operand_kind, sets, offset_for}
-use Rattle.scx_abs.specs.Rules.{area_of, field_area, loaded_kind, kind_in, load_kind, number_stored, stored_in, store_rule}
+use Rattle.scx_abs.specs.Rules.{area_of, field_area, loaded_kind, kind_in, load_kind, pointer_cell, number_stored, stored_in, store_rule}
 use Rattle.scx_abs.specs.Laws.{IsSoundFor}
 use Rattle.scx_abs.proofs.Lists.{set_each}
 use Rattle.scx_abs.proofs.Bytes as bytes
@@ -177,7 +179,7 @@ after_number shapes a m s at n h fits =
     (bytes.number_stored m.maps (cell_at a (at / 8)) m.stack at (at / 8) (at % 8) (size_bytes s) n place (h.cells (at / 8)))
     (λ i other. cell_apart m.maps (cell_at a i) m.stack at (number_bytes (size_bytes s) n) i other (omega arith) (h.cells i))
 
-after_pointer : (shapes : List Shape) (a : AbsState) (m : Machine) (at : ℕ) (k : Kind) (v : Value) (bytes : List StackByte) → IsMember shapes a m → at % 8 + 8 ≤ 8 → Stands m.maps k v
+after_pointer : (shapes : List Shape) (a : AbsState) (m : Machine) (at : ℕ) (k : Held) (v : Value) (bytes : List StackByte) → IsMember shapes a m → at % 8 + 8 ≤ 8 → Stands m.maps (kind_of k) v
     → value_bytes size.DoubleWord v ≡ Some bytes → IsMember shapes (with_cell a (at / 8) (Pointer k)) (with_stack m (write m.stack at bytes))
 after_pointer shapes a m at k v bytes h fits g b =
     let place : at ≡ 8 * (at / 8) = omega arith in
@@ -186,14 +188,38 @@ after_pointer shapes a m at k v bytes h fits g b =
     (pointer_stored m.maps k v m.stack at (at / 8) bytes place g b)
     (λ i other. cell_apart m.maps (cell_at a i) m.stack at bytes i other (omega arith) (h.cells i))
 
+no_value : (maps : Maps) (k : Held) → Stands maps (kind_of k) value.Unset → ⊥
+no_value maps (held.Stack o) h = h
+no_value maps (held.Elem m o) h = h
+no_value maps (held.ElemOrNull m) h = h
+no_value maps held.Task h = h
+no_value maps held.TaskOrNull h = h
+no_value maps (held.MapRef m) h = h
+
+-- where a register's kind is kept, the cell's stands for the value too
+abbrev Keeps : Maps → Option Held → Value → Type 0
+Keeps maps None v = Unit {0}
+Keeps maps (Some k) v = Stands maps (kind_of k) v
+
+kept : (maps : Maps) (k : Kind) (v : Value) → Stands maps k v → Keeps maps (held_of k) v
+kept maps Unusable v h = tt
+kept maps Num v h = tt
+kept maps k v h = h
+
+pointer_held : (shapes : List Shape) (a : AbsState) (m : Machine) (at : ℕ) (o : Option Held) (v : Value) → IsMember shapes a m → at % 8 + 8 ≤ 8 → Keeps m.maps o v
+    → IsSoundFor shapes (pointer_cell o >>= λ cell. goes_on (with_cell a (at / 8) cell)) (stored m size.DoubleWord v (location.OnStack at))
+pointer_held shapes a m at None v h fits g = tt
+pointer_held shapes a m at (Some k) (value.Number n) h fits g = after_pointer shapes a m at k (value.Number n) (number_bytes 8 n) h fits g refl
+pointer_held shapes a m at (Some k) (value.Pointer p) h fits g = after_pointer shapes a m at k (value.Pointer p) (parts p) h fits g refl
+pointer_held shapes a m at (Some k) value.Unset h fits g = absurd (no_value m.maps k g)
+
 stack_stored : (shapes : List Shape) (a : AbsState) (m : Machine) (s : Size) (at : ℕ) (k : Kind) (v : Value) → IsMember shapes a m → at % 8 + size_bytes s ≤ 8 → IsUsable k → Stands m.maps k v
     → IsSoundFor shapes (stored_in a s k (OnStack at)) (stored m s v (location.OnStack at))
 stack_stored shapes a m s at Num (value.Number n) h fits u g = after_number shapes a m s at n h fits
 stack_stored shapes a m s at Num v h fits u g = absurd g
 stack_stored shapes a m size.DoubleWord at Unusable v h fits u g = absurd u
-stack_stored shapes a m size.DoubleWord at k (value.Number n) h fits u g = after_pointer shapes a m at k (value.Number n) (number_bytes 8 n) h fits g refl
-stack_stored shapes a m size.DoubleWord at k (value.Pointer p) h fits u g = after_pointer shapes a m at k (value.Pointer p) (parts p) h fits g refl
 stack_stored shapes a m size.DoubleWord at k value.Unset h fits u g = absurd g
+stack_stored shapes a m size.DoubleWord at k v h fits u g = pointer_held shapes a m at (held_of k) v h fits (kept m.maps k v g)
 stack_stored shapes a m s at k v h fits u g = tt
 
 element_stored : (shapes : List Shape) (a : AbsState) (m : Machine) (s : Size) (e i at : ℕ) (k : Kind) (v : Value) → IsMember shapes a m → HasElement m.maps e i

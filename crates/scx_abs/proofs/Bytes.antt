@@ -1,6 +1,6 @@
 -- Bytes of the stack, read and written: what a load reads of bytes that were written, what a store
 -- leaves of the others, and that what is stored is read back.
-use Rattle.std.proofs.Common.{◌≡◌, ℕ, zero, suc, ◌+◌, ◌*◌, ◌/◌, ◌%◌, ◌^◌, ◌<◌, ◌≤◌, Bool, true, false, ◌&&◌, ◌||◌, nat_eq, nat_le, nat_lt, List, [], ◌∷◌, length, Option, Some, option_map, if◌then◌else◌, ◌⊎◌, inl, inr, refl, sym, ap, ◌∙◌, arith}
+use Rattle.std.proofs.Common.{◌≡◌, ℕ, zero, suc, ◌+◌, ◌*◌, ◌/◌, ◌%◌, ◌<◌, ◌≤◌, Bool, true, false, ◌&&◌, ◌||◌, nat_eq, nat_le, nat_lt, List, [], ◌∷◌, length, Option, Some, option_map, if◌then◌else◌, ◌⊎◌, inl, inr, refl, sym, ap, ◌∙◌, arith}
 use Rattle.std.proofs.lemmas.Bool.{eqb-false, eq-eqb, ne_eqb, and_parts, or_cases, leb-true, ltb-true}
 use Rattle.scx_semantics.specs.declared.values.Value.{Value}
 use Rattle.scx_semantics.specs.declared.values.Value.TheVariants as value
@@ -13,12 +13,13 @@ use Rattle.scx_semantics.specs.declared.operations.Size.TheVariants as size
 use Rattle.scx_semantics.specs.declared.operations.Access.TheVariants as access
 use Rattle.scx_semantics.specs.Elements.{Maps}
 use Rattle.scx_semantics.specs.Memory.{Stack, bytes_at, write, number_bytes, number_in, pointer_in, same_pointer, parts, value_in, number_or_pointer, value_bytes, size_bytes}
-use Rattle.scx_semantics.proofs.Bytes.{IsSmall, number_bytes_below}
+use Rattle.scx_semantics.proofs.Bytes.{IsSmall}
 use Rattle.scx_abs.specs.declared.kinds.Kind.{Kind}
-use Rattle.scx_abs.specs.declared.kinds.Kind.TheVariants.{Unusable, Num, ElemOrNull, TaskOrNull}
+use Rattle.scx_abs.specs.declared.kinds.Held.{Held}
+use Rattle.scx_abs.specs.declared.kinds.Held.TheVariants as held
 use Rattle.scx_abs.specs.declared.kinds.Cell.{Cell}
 use Rattle.scx_abs.specs.declared.kinds.Cell.TheVariants.{Bytes, Pointer}
-use Rattle.scx_abs.specs.Cells.{is_written, marked, all_written, written_in}
+use Rattle.scx_abs.specs.Cells.{kind_of, is_written, marked, all_written, written_in}
 use Rattle.scx_abs.specs.Stands.{Stands, IsByte, CellStands}
 use Rattle.scx_abs.proofs.Orders.{each_byte_at, none_written}
 
@@ -117,13 +118,11 @@ number_read (suc k) n =
     let rest = number_read k (n / 256) in
     (n % 256 + 256 * rest.0, ap (option_map (λ m. n % 256 + 256 * m)) rest.1, λ e. let none = rest.2 (omega arith) in omega arith)
 
--- a kind that stands for a number stands for another one below 2 ^ 64, if that is 0 where the first is
-number_stands : (maps : Maps) (k : Kind) (n x : ℕ) → Stands maps k (value.Number n) → (n ≡ 0 → x ≡ 0) → x < 2 ^ 64 → Stands maps k (value.Number x)
-number_stands maps Unusable n x h z small = tt
-number_stands maps Num n x h z small = small
-number_stands maps (ElemOrNull m) n x h z small = z h
-number_stands maps TaskOrNull n x h z small = z h
-number_stands maps k n x h z small = absurd h
+-- a stored pointer that is a number may be another one, if that is 0 where the first is
+number_stands : (maps : Maps) (k : Held) (n x : ℕ) → Stands maps (kind_of k) (value.Number n) → (n ≡ 0 → x ≡ 0) → Stands maps (kind_of k) (value.Number x)
+number_stands maps (held.ElemOrNull m) n x h z = z h
+number_stands maps held.TaskOrNull n x h z = z h
+number_stands maps k n x h z = absurd h
 
 -- a value that a kind stands for
 pub record Read (maps : Maps) (k : Kind) (o : Option Value) : Type 0 where
@@ -132,14 +131,14 @@ pub record Read (maps : Maps) (k : Kind) (o : Option Value) : Type 0 where
   pub stands : Stands maps k value
 
 -- the bytes of a value that was stored whole load as it
-pub reads_back : (maps : Maps) (k : Kind) (v : Value) → Stands maps k v → (bytes : List StackByte) → value_bytes size.DoubleWord v ≡ Some bytes → Read maps k (value_in access.DoubleWord bytes)
+pub reads_back : (maps : Maps) (k : Held) (v : Value) → Stands maps (kind_of k) v → (bytes : List StackByte) → value_bytes size.DoubleWord v ≡ Some bytes → Read maps (kind_of k) (value_in access.DoubleWord bytes)
 reads_back maps k (value.Number n) h bytes e =
     let number : number_bytes 8 n ≡ bytes = cc in
     let read = number_read 8 n in
     record {
       value = value.Number read.0;
       is = rw (← number) (ap (λ o. number_or_pointer access.DoubleWord o (pointer_in (number_bytes 8 n))) read.1);
-      stands = number_stands maps k n read.0 h read.2 (number_bytes_below size.DoubleWord n read.0 read.1);
+      stands = number_stands maps k n read.0 h read.2;
     }
 reads_back maps k (value.Pointer p) h bytes e =
     let pointer : parts p ≡ bytes = cc in
@@ -191,7 +190,7 @@ number_stored maps cell stack at c j n x e h i lt w =
         inr (omega arith, omega arith)
 
 -- a pointer takes its cell
-pub pointer_stored : (maps : Maps) (k : Kind) (v : Value) (stack : Stack) (at c : ℕ) (bytes : List StackByte) → at ≡ 8 * c → Stands maps k v → value_bytes size.DoubleWord v ≡ Some bytes
+pub pointer_stored : (maps : Maps) (k : Held) (v : Value) (stack : Stack) (at c : ℕ) (bytes : List StackByte) → at ≡ 8 * c → Stands maps (kind_of k) v → value_bytes size.DoubleWord v ≡ Some bytes
     → CellStands maps (Pointer k) (write stack at bytes) (8 * c)
 pointer_stored maps k v stack at c bytes e h b =
     let long : length bytes ≡ 8 = length-value_bytes size.DoubleWord v bytes b in

@@ -1,6 +1,6 @@
 -- Elements of maps: the checks of an offset, what shapes say of an element, and the state after a store
 -- to one.
-use Rattle.std.proofs.Common.{◌≡◌, ℕ, zero, suc, ◌+◌, ◌*◌, ◌%◌, ◌<◌, ◌≤◌, ◌⊎◌, inl, inr, Bool, true, false, ◌&&◌, nat_eq, nat_le, List, [], ◌∷◌, ◌++◌, length, take, drop, slice_index_or, slice_get, Option, Some, None, Result, Ok, Err, ok_or, if◌then◌else◌, refl, sym, ap, ◌∙◌, arith}
+use Rattle.std.proofs.Common.{◌≡◌, ℕ, zero, suc, ◌+◌, ◌*◌, ◌%◌, ◌<◌, ◌≤◌, ◌⊎◌, inl, inr, Bool, true, false, ◌&&◌, nat_eq, nat_le, List, [], ◌∷◌, length, slice_index_or, slice_get, Option, Some, None, Result, Ok, Err, ok_or, if◌then◌else◌, refl, sym, ap, ◌∙◌, arith}
 use Rattle.std.proofs.lemmas.Bool.{eqb-true, leb-true}
 use Rattle.std.proofs.lemmas.Option.{slice_get_cases}
 use Rattle.std.proofs.lemmas.List.{length-map}
@@ -22,6 +22,7 @@ use Rattle.scx_abs.specs.declared.kinds.Kind.TheVariants as kind
 use Rattle.scx_abs.specs.declared.kinds.Cell.{Cell}
 use Rattle.scx_abs.specs.declared.kinds.Cell.TheVariants.{Bytes, Pointer}
 use Rattle.scx_abs.specs.declared.states.AbsState.{AbsState}
+use Rattle.scx_abs.specs.Cells.{kind_of}
 use Rattle.scx_abs.specs.States.{kind_at, cell_at}
 use Rattle.scx_abs.specs.Stands.{HasElement, Stands, CellStands, IsMember}
 use Rattle.scx_abs.specs.Checks.{size_of, element_size, offset_within, offset_for}
@@ -115,7 +116,7 @@ stands_still maps other k v e h = absurd h
 
 cell_still : (maps other : Maps) (cell : Cell) (stack : Stack) (at : ℕ) → lengths_of other ≡ lengths_of maps → CellStands maps cell stack at → CellStands other cell stack at
 cell_still maps other (Bytes set) stack at e h = h
-cell_still maps other (Pointer k) stack at e h = (h.0, stands_still maps other k h.0 e h.1, h.2)
+cell_still maps other (Pointer k) stack at e h = (h.0, stands_still maps other (kind_of k) h.0 e h.1, h.2)
 
 -- a state with other maps of the same shapes is stood for too
 pub maps_member : (shapes : List Shape) (a : AbsState) (m : Machine) (other : Maps) → IsMember shapes a m → lengths_of other ≡ lengths_of m.maps → HoldBytes other → IsMember shapes a (with_maps m other)

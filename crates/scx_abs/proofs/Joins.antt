@@ -1,14 +1,16 @@
 -- The join of two kinds, of two cells, and of two states is the least that covers both.
-use Rattle.std.proofs.Common.{◌≡◌, ℕ, ◌<◌, ◌≤◌, ◌⊎◌, inl, inr, [], arith, Bool, true, false, ◌&&◌, nat_eq, List, refl, sym, ◌∙◌}
+use Rattle.std.proofs.Common.{◌≡◌, ℕ, ◌<◌, ◌≤◌, ◌⊎◌, inl, inr, [], arith, Bool, true, false, ◌&&◌, nat_eq, List, Option, Some, None, refl, sym, ◌∙◌}
 use Rattle.std.proofs.lemmas.Bool.{eqb-true, eq-eqb, and_parts, and_from, both_ways, cases_lt}
 use Rattle.std.proofs.lemmas.List.{get_or_past}
 use Rattle.scx_abs.specs.declared.kinds.Kind.{Kind}
 use Rattle.scx_abs.specs.declared.kinds.Kind.TheVariants.{Unusable, Num, Stack, Elem, ElemOrNull, Task, TaskOrNull, MapRef}
+use Rattle.scx_abs.specs.declared.kinds.Held.{Held}
+use Rattle.scx_abs.specs.declared.kinds.Held.TheVariants as held
 use Rattle.scx_abs.specs.declared.kinds.Cell.{Cell}
 use Rattle.scx_abs.specs.declared.kinds.Cell.TheVariants.{Bytes, Pointer}
 use Rattle.scx_abs.specs.declared.states.AbsState.{AbsState}
 use Rattle.scx_abs.specs.Kinds.{IsLeastCover, CoversKind, kind_if, join_kind}
-use Rattle.scx_abs.specs.Cells.{is_written, no_bytes, common, IsPartOf, IsUnusable, CoversPointer, CoversCell, pointer_cell, join_pointers, join_cell}
+use Rattle.scx_abs.specs.Cells.{kind_of, held_of, is_written, no_bytes, common, IsPartOf, CoversCell, cell_of, join_pointers, join_cell}
 use Rattle.scx_abs.specs.States.{CoversState, IsWhole, kind_at, cell_at}
 use Rattle.scx_abs.specs.Monotone.{JoinOfKindsIsLeast, JoinOfCellsIsLeast, JoinsAreMonotone}
 use Rattle.scx_abs.proofs.Orders.{each_byte_at, cell_itself, covers_through}
@@ -103,36 +105,51 @@ kinds_least j k = record { covers_first = kind_covers_first j k; covers_second =
 
 -- ---- stored pointers
 
-pointer_cell_covers : (l j : Kind) → CoversKind l j → CoversCell (pointer_cell l) (Pointer j)
-pointer_cell_covers Unusable j h = λ i lt w. w
-pointer_cell_covers l j h = h
+-- a stored pointer is no number
+covers_no_number : (j : Held) → CoversKind Num (kind_of j) → ⊥
+covers_no_number (held.Stack o) h = h
+covers_no_number (held.Elem m o) h = h
+covers_no_number (held.ElemOrNull m) h = h
+covers_no_number held.Task h = h
+covers_no_number held.TaskOrNull h = h
+covers_no_number (held.MapRef m) h = h
 
-pointers_cover_first : (j k : Kind) → CoversCell (join_pointers j k) (Pointer j)
-pointers_cover_first Unusable Unusable = tt
-pointers_cover_first j k = pointer_cell_covers (join_kind j k) j (kind_covers_first j k)
+covered_by_number : (l : Held) → CoversKind (kind_of l) Num → ⊥
+covered_by_number (held.Stack o) h = h
+covered_by_number (held.Elem m o) h = h
+covered_by_number (held.ElemOrNull m) h = h
+covered_by_number held.Task h = h
+covered_by_number held.TaskOrNull h = h
+covered_by_number (held.MapRef m) h = h
 
-pointers_cover_second : (j k : Kind) → CoversCell (join_pointers j k) (Pointer k)
-pointers_cover_second Unusable Unusable = tt
-pointers_cover_second j k = pointer_cell_covers (join_kind j k) k (kind_covers_second j k)
+-- and of it something is known
+is_usable : (l : Held) → CoversKind (kind_of l) Unusable → ⊥
+is_usable (held.Stack o) h = h
+is_usable (held.Elem m o) h = h
+is_usable (held.ElemOrNull m) h = h
+is_usable held.Task h = h
+is_usable held.TaskOrNull h = h
+is_usable (held.MapRef m) h = h
 
-nothing_covers : (b : List Bool) (l : Kind) → IsPartOf b no_bytes → CoversCell (Bytes b) (pointer_cell l)
-nothing_covers b Unusable h = h
-nothing_covers b l h = h
+kept_covers : (k : Kind) (j : Held) → CoversKind k (kind_of j) → CoversCell (cell_of (held_of k)) (Pointer j)
+kept_covers Unusable j h = λ i lt w. w
+kept_covers Num j h = absurd (covers_no_number j h)
+kept_covers k j h = h
 
-bytes_least : (b : List Bool) (j k : Kind) → IsPartOf b no_bytes → CoversCell (Bytes b) (join_pointers j k)
-bytes_least b Unusable Unusable h = h
-bytes_least b j k h = nothing_covers b (join_kind j k) h
+pointers_cover_first : (j k : Held) → CoversCell (join_pointers j k) (Pointer j)
+pointers_cover_first j k = kept_covers (join_kind (kind_of j) (kind_of k)) j (kind_covers_first (kind_of j) (kind_of k))
 
-pointer_least : (l k : Kind) → (IsUnusable l → ⊥) → CoversKind l k → CoversCell (Pointer l) (pointer_cell k)
-pointer_least Unusable k u h = absurd (u tt)
-pointer_least l Unusable u h = absurd h
-pointer_least l k u h = h
+pointers_cover_second : (j k : Held) → CoversCell (join_pointers j k) (Pointer k)
+pointers_cover_second j k = kept_covers (join_kind (kind_of j) (kind_of k)) k (kind_covers_second (kind_of j) (kind_of k))
 
-pointers_least : (l j k : Kind) → CoversPointer l j → CoversPointer l k → CoversCell (Pointer l) (join_pointers j k)
-pointers_least Unusable Unusable Unusable g h = tt
-pointers_least Unusable j k g h = absurd (assumption (g, h))
-pointers_least l Unusable Unusable g h = absurd g
-pointers_least l j k g h = pointer_least l (join_kind j k) (λ u. u) (kind_least l j k g h)
+bytes_cover : (b : List Bool) (o : Option Held) → IsPartOf b no_bytes → CoversCell (Bytes b) (cell_of o)
+bytes_cover b None h = h
+bytes_cover b (Some k) h = h
+
+pointer_least : (l : Held) (k : Kind) → CoversKind (kind_of l) k → CoversCell (Pointer l) (cell_of (held_of k))
+pointer_least l Unusable h = absurd (is_usable l h)
+pointer_least l Num h = absurd (covered_by_number l h)
+pointer_least l k h = h
 
 -- ---- cells
 
@@ -165,10 +182,10 @@ cell_least : (c a b : Cell) → CoversCell c a → CoversCell c b → CoversCell
 cell_least (Bytes c) (Bytes a) (Bytes b) g h = common_least c a b g h
 cell_least (Bytes c) (Bytes a) (Pointer k) g h = h
 cell_least (Bytes c) (Pointer j) (Bytes b) g h = g
-cell_least (Bytes c) (Pointer j) (Pointer k) g h = bytes_least c j k g
+cell_least (Bytes c) (Pointer j) (Pointer k) g h = bytes_cover c (held_of (join_kind (kind_of j) (kind_of k))) g
 cell_least (Pointer l) (Bytes a) b g h = absurd g
 cell_least (Pointer l) (Pointer j) (Bytes b) g h = absurd h
-cell_least (Pointer l) (Pointer j) (Pointer k) g h = pointers_least l j k g h
+cell_least (Pointer l) (Pointer j) (Pointer k) g h = pointer_least l (join_kind (kind_of j) (kind_of k)) (kind_least (kind_of l) (kind_of j) (kind_of k) g h)
 
 join_cell_least : (joined a b : Cell) → joined ≡ join_cell a b → IsLeastCover CoversCell joined a b
 join_cell_least joined a b e = record {

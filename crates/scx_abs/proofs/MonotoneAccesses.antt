@@ -25,7 +25,7 @@ use Rattle.scx_abs.specs.declared.states.AbsState.{AbsState}
 use Rattle.scx_abs.specs.declared.memory.Area.{Area}
 use Rattle.scx_abs.specs.declared.memory.Area.TheVariants.{OnStack, InElement, InTask}
 use Rattle.scx_abs.specs.Kinds.{CoversKind}
-use Rattle.scx_abs.specs.Cells.{is_written, no_bytes, marked, all_written, written_in, IsPartOf, CoversPointer, CoversCell}
+use Rattle.scx_abs.specs.Cells.{is_written, no_bytes, marked, all_written, written_in, IsPartOf, CoversCell}
 use Rattle.scx_abs.specs.States.{CoversState, IsProper, kind_at, cell_at, with_cell}
 use Rattle.scx_abs.specs.Areas.{IsAlignedWithin, IsAlignedIn}
 use Rattle.scx_semantics.specs.Results.{◌>>=◌}
@@ -109,15 +109,11 @@ read_nothing b j n r le some h = go (all_written b j n) refl
     go true e = absurd (none_part b j n le some h e)
     go false e = tt
 
-pointer_covers : (j k : Kind) → CoversPointer j k → CoversKind j k
-pointer_covers Unusable k h = tt
-pointer_covers j k h = h
-
 loaded_monotone : (x y : Cell) (a : Access) (j : ℕ) → j + size_bytes (access_size a) ≤ 8 → CoversCell x y → PassesToo CoversKind (loaded_kind x a j) (loaded_kind y a j)
 loaded_monotone (Bytes s) (Bytes t) a j le h = read_monotone CoversKind Num s t j (size_bytes (access_size a)) tt le h
 loaded_monotone (Bytes s) (Pointer k) a j le h = read_nothing s j (size_bytes (access_size a)) (loaded_kind (Pointer k) a j) le (size-positive (access_size a)) h
 loaded_monotone (Pointer k) (Bytes t) a j le h = absurd h
-loaded_monotone (Pointer k) (Pointer l) access.DoubleWord j le h = pointer_covers k l h
+loaded_monotone (Pointer k) (Pointer l) access.DoubleWord j le h = h
 loaded_monotone (Pointer k) (Pointer l) a j le h = tt
 
 kind_in_monotone : (b a : AbsState) (access : Access) (x y : Area) → CoversState b a → SameArea (size_bytes (access_size access)) x y → PassesToo CoversKind (kind_in b access x) (kind_in a access y)

@@ -11,7 +11,7 @@ use Rattle.scx_abs.specs.declared.kinds.Kind.TheVariants.{Unusable, Num, Stack, 
 use Rattle.scx_abs.specs.declared.kinds.Cell.{Cell}
 use Rattle.scx_abs.specs.declared.kinds.Cell.TheVariants.{Bytes, Pointer}
 use Rattle.scx_abs.specs.Kinds.{CoversKind}
-use Rattle.scx_abs.specs.Cells.{is_written, each_byte, no_bytes, CoversPointer, CoversCell}
+use Rattle.scx_abs.specs.Cells.{kind_of, is_written, each_byte, no_bytes, CoversCell}
 use Rattle.scx_abs.specs.States.{kind_at, cell_at}
 use Rattle.scx_abs.specs.Stands.{Stands, CellStands}
 use Rattle.scx_abs.specs.Laws.{CoversMore, CoversItself, CoversThrough}
@@ -79,20 +79,10 @@ none_written j h w = both_ways (is_written no_bytes j) (each_byte_at (λ j. fals
 
 -- ---- cells
 
-pointer_itself : (k : Kind) → CoversPointer k k
-pointer_itself Unusable = tt
-pointer_itself k = kind_itself k
-
 -- a cell covers itself
 pub cell_itself : (cell : Cell) → CoversCell cell cell
 cell_itself (Bytes a) = λ j lt h. h
-cell_itself (Pointer k) = pointer_itself k
-
-pointer_through : (l k j : Kind) → CoversPointer l k → CoversPointer k j → CoversPointer l j
-pointer_through Unusable Unusable j g h = h
-pointer_through Unusable k j g h = absurd g
-pointer_through l Unusable j g h = absurd g
-pointer_through l k j g h = kind_through l k j g h
+cell_itself (Pointer k) = kind_itself (kind_of k)
 
 cell_through : (c b a : Cell) → CoversCell c b → CoversCell b a → CoversCell c a
 cell_through (Bytes c) (Bytes b) (Bytes a) g h = λ j lt w. h j lt (g j lt w)
@@ -101,17 +91,13 @@ cell_through (Bytes c) (Pointer k) (Bytes a) g h = absurd h
 cell_through (Bytes c) (Pointer k) (Pointer j) g h = g
 cell_through (Pointer k) (Bytes b) a g h = absurd g
 cell_through (Pointer l) (Pointer k) (Bytes a) g h = absurd h
-cell_through (Pointer l) (Pointer k) (Pointer j) g h = pointer_through l k j g h
-
-pointer_kind : (j k : Kind) → CoversPointer j k → CoversKind j k
-pointer_kind Unusable k h = tt
-pointer_kind j k h = h
+cell_through (Pointer l) (Pointer k) (Pointer j) g h = kind_through (kind_of l) (kind_of k) (kind_of j) g h
 
 -- a cell stands for all that one stands for which it covers
 pub cell_stands : (maps : Maps) (b a : Cell) (stack : memory.Stack) (at : ℕ) → CoversCell b a → CellStands maps a stack at → CellStands maps b stack at
 cell_stands maps (Bytes b) (Bytes a) stack at g h = λ j lt w. h j lt (g j lt w)
 cell_stands maps (Bytes b) (Pointer k) stack at g h = λ j lt w. absurd (none_written j lt (g j lt w))
-cell_stands maps (Pointer j) (Pointer k) stack at g h = (h.0, kind_stands maps j k h.0 (pointer_kind j k g) h.1, h.2)
+cell_stands maps (Pointer j) (Pointer k) stack at g h = (h.0, kind_stands maps (kind_of j) (kind_of k) h.0 g h.1, h.2)
 cell_stands maps (Pointer j) (Bytes a) stack at g h = absurd g
 
 -- ---- states

@@ -18,6 +18,8 @@ use Rattle.scx_abs.specs.declared.faults.Why.{Why}
 use Rattle.scx_abs.specs.declared.faults.Why.TheVariants.{WritesFrame, TaskField, HelperNotHere}
 use Rattle.scx_abs.specs.declared.kinds.Kind.{Kind}
 use Rattle.scx_abs.specs.declared.kinds.Kind.TheVariants.{Unusable, Num, Stack, Elem, ElemOrNull, Task, TaskOrNull, MapRef}
+use Rattle.scx_abs.specs.declared.kinds.Held.{Held}
+use Rattle.scx_abs.specs.declared.kinds.Held.TheVariants as held
 use Rattle.scx_abs.specs.declared.kinds.Cell.{Cell}
 use Rattle.scx_abs.specs.declared.kinds.Cell.TheVariants.{Bytes, Pointer}
 use Rattle.scx_abs.specs.declared.states.AbsState.{AbsState}
@@ -25,12 +27,12 @@ use Rattle.scx_abs.specs.declared.rules.Next.{Next}
 use Rattle.scx_abs.specs.declared.memory.Area.{Area}
 use Rattle.scx_abs.specs.declared.memory.Area.TheVariants.{OnStack, InElement, InTask}
 use Rattle.scx_abs.specs.Kinds.{CoversKind, IsUsable, join_kind}
-use Rattle.scx_abs.specs.Cells.{is_written, no_bytes, marked, written_in, IsPartOf, CoversPointer, CoversCell, IsProperCell, pointer_cell, join_pointers, join_cell}
+use Rattle.scx_abs.specs.Cells.{kind_of, held_of, is_written, no_bytes, marked, written_in, IsPartOf, CoversCell, IsProperCell, cell_of, join_cell}
 use Rattle.scx_abs.specs.States.{kind_at, cell_at, with_kind, with_cell, IsWhole, IsProper}
 use Rattle.scx_semantics.specs.Results.{◌>>=◌}
 use Rattle.scx_abs.specs.Checks.{flows, goes_on, usable, operand_kind, sets}
 use Rattle.scx_abs.specs.Calls.{arguments_check, after_call, answer_kind, call_allowed, call_rule}
-use Rattle.scx_abs.specs.Rules.{binary_kind, number_kind, map_kind, area_of, load_kind, stored_cell, number_stored, stored_in, null_test, if_null, if_not_null, tested, compared, end_rule}
+use Rattle.scx_abs.specs.Rules.{binary_kind, number_kind, map_kind, area_of, load_kind, pointer_cell, stored_cell, number_stored, stored_in, null_test, if_null, if_not_null, tested, compared, end_rule}
 use Rattle.scx_abs.specs.Laws.{CoversBothWays, StartIsProper, FlowsProper, RulesKeepProper}
 
 -- ---- the start
@@ -44,19 +46,15 @@ start_proper c = record {
 
 -- ---- joins
 
-pointer_cell_proper : (k : Kind) → IsProperCell (pointer_cell k)
-pointer_cell_proper Unusable = refl
-pointer_cell_proper k = tt
+cell_of_proper : (o : Option Held) → IsProperCell (cell_of o)
+cell_of_proper None = refl
+cell_of_proper (Some k) = tt
 
-pointers_proper : (j k : Kind) → IsUsable j → IsProperCell (join_pointers j k)
-pointers_proper Unusable Unusable u = absurd u
-pointers_proper j k u = pointer_cell_proper (join_kind j k)
-
-joined_proper : (x y : Cell) → IsProperCell x → IsProperCell (join_cell x y)
-joined_proper (Bytes a) (Bytes b) p = refl
-joined_proper (Pointer j) (Pointer k) p = pointers_proper j k p
-joined_proper (Bytes a) (Pointer k) p = refl
-joined_proper (Pointer j) (Bytes b) p = refl
+joined_proper : (x y : Cell) → IsProperCell (join_cell x y)
+joined_proper (Bytes a) (Bytes b) = refl
+joined_proper (Pointer j) (Pointer k) = cell_of_proper (held_of (join_kind (kind_of j) (kind_of k)))
+joined_proper (Bytes a) (Pointer k) = refl
+joined_proper (Pointer j) (Bytes b) = refl
 
 -- a join of proper states is proper
 pub join_proper : (joined a b : AbsState) → IsWhole joined → IsProper a → IsProper b → ((c : ℕ) → c < 64 → cell_at joined c ≡ join_cell (cell_at a c) (cell_at b c)) → IsProper joined
@@ -66,7 +64,7 @@ join_proper joined a b whole p q cells = record {
 }
   where
     each : (c : ℕ) → c < 64 → IsProperCell (cell_at joined c)
-    each c lt = rw (cells c lt) (joined_proper (cell_at a c) (cell_at b c) (All-get_or IsProperCell a.cells c (Bytes []) (omega (arith, lt, p.whole.cells)) p.cells))
+    each c lt = rw (cells c lt) (joined_proper (cell_at a c) (cell_at b c))
 
 -- ---- registers and cells
 
@@ -108,16 +106,20 @@ number_stored_proper : (a : AbsState) (k : Kind) → IsProper a → FlowsIn (num
 number_stored_proper a Num p = (p, tt)
 number_stored_proper a k p = tt
 
-stored_cell_proper : (cell : Cell) (s : Size) (j : ℕ) (k : Kind) (f : Cell → Result Next Why) → IsUsable k → ((c : Cell) → IsProperCell c → FlowsIn (f c)) → FlowsIn (stored_cell cell s j k >>= f)
-stored_cell_proper cell s j Num f u h = h (Bytes (marked (written_in cell) j (size_bytes s))) refl
-stored_cell_proper cell size.DoubleWord j k f u h = h (Pointer k) u
-stored_cell_proper cell s j k f u h = tt
+pointer_cell_proper : (o : Option Held) (f : Cell → Result Next Why) → ((c : Cell) → IsProperCell c → FlowsIn (f c)) → FlowsIn (pointer_cell o >>= f)
+pointer_cell_proper None f h = tt
+pointer_cell_proper (Some k) f h = h (Pointer k) tt
 
-stored_proper : (a : AbsState) (s : Size) (k : Kind) (x : Area) → IsProper a → IsUsable k → FlowsIn (stored_in a s k x)
-stored_proper a s k (OnStack at) p u =
-    stored_cell_proper (cell_at a (at / 8)) s (at % 8) k (λ c. goes_on (with_cell a (at / 8) c)) u (λ c q. (cell_proper a (at / 8) c p q, tt))
-stored_proper a s k InElement p u = number_stored_proper a k p
-stored_proper a s k (InTask f) p u = elim (is_writable f) as (λ t. FlowsIn (if t then number_stored a k else Err TaskField)) [ true ↦ number_stored_proper a k p | false ↦ tt ]
+stored_cell_proper : (cell : Cell) (s : Size) (j : ℕ) (k : Kind) (f : Cell → Result Next Why) → ((c : Cell) → IsProperCell c → FlowsIn (f c)) → FlowsIn (stored_cell cell s j k >>= f)
+stored_cell_proper cell s j Num f h = h (Bytes (marked (written_in cell) j (size_bytes s))) refl
+stored_cell_proper cell size.DoubleWord j k f h = pointer_cell_proper (held_of k) f h
+stored_cell_proper cell s j k f h = tt
+
+stored_proper : (a : AbsState) (s : Size) (k : Kind) (x : Area) → IsProper a → FlowsIn (stored_in a s k x)
+stored_proper a s k (OnStack at) p =
+    stored_cell_proper (cell_at a (at / 8)) s (at % 8) k (λ c. goes_on (with_cell a (at / 8) c)) (λ c q. (cell_proper a (at / 8) c p q, tt))
+stored_proper a s k InElement p = number_stored_proper a k p
+stored_proper a s k (InTask f) p = elim (is_writable f) as (λ t. FlowsIn (if t then number_stored a k else Err TaskField)) [ true ↦ number_stored_proper a k p | false ↦ tt ]
 
 null_proper : (a : AbsState) (r : ℕ) (k : Kind) → IsProper a → IfSome (if_null a r k) IsProper
 null_proper a r (ElemOrNull m) p = kind_proper a r Num p
@@ -170,7 +172,7 @@ rule_proper shapes c (insn.Load access d r offset) a p = sets_proper a (number d
 rule_proper shapes c (insn.Store s r offset x) a p =
     usable_proper (kind_at a (number r)) (λ base. operand_kind a x >>= λ k. area_of shapes base offset (size_bytes s) >>= λ t. stored_in a s k t)
     (λ base ub. operand_proper a x (λ k. area_of shapes base offset (size_bytes s) >>= λ t. stored_in a s k t)
-    (λ k u. then_proper (area_of shapes base offset (size_bytes s)) (λ t. stored_in a s k t) (λ t. stored_proper a s k t p u)))
+    (λ k u. then_proper (area_of shapes base offset (size_bytes s)) (λ t. stored_in a s k t) (λ t. stored_proper a s k t p)))
 rule_proper shapes c (insn.JumpIf w k r x offset) a p =
     usable_proper (kind_at a (number r)) (λ j. operand_kind a x >>= λ l. compared a (number r) (null_test w k x) j l)
     (λ j uj. operand_proper a x (λ l. compared a (number r) (null_test w k x) j l) (λ l ul. compared_proper a (number r) (null_test w k x) j l p))
@@ -192,11 +194,20 @@ same_kind TaskOrNull TaskOrNull g h = refl
 same_kind (MapRef m) (MapRef n) g h = ap MapRef g
 same_kind j k g h = absurd (assumption (g, h))
 
-same_pointer : (j k : Kind) → CoversPointer j k → CoversPointer k j → j ≡ k
-same_pointer Unusable Unusable g h = refl
-same_pointer Unusable k g h = absurd g
-same_pointer j Unusable g h = absurd h
-same_pointer j k g h = same_kind j k g h
+-- a stored pointer is known by its kind
+held_back : (k : Held) → held_of (kind_of k) ≡ Some k
+held_back (held.Stack o) = refl
+held_back (held.Elem m o) = refl
+held_back (held.ElemOrNull m) = refl
+held_back held.Task = refl
+held_back held.TaskOrNull = refl
+held_back (held.MapRef m) = refl
+
+same_some : (j k : Held) → Some j ≡ Some k → j ≡ k
+same_some j k e = cc
+
+same_pointer : (j k : Held) → kind_of j ≡ kind_of k → j ≡ k
+same_pointer j k e = same_some j k (sym (held_back j) ∙ ap held_of e ∙ held_back k)
 
 same_truth : (x y : Bool) → (x ≡ true → y ≡ true) → (y ≡ true → x ≡ true) → x ≡ y
 same_truth true y g h = sym (g refl)
@@ -210,7 +221,7 @@ same_cell : (x y : Cell) → IsProperCell x → IsProperCell y → CoversCell x 
 same_cell (Bytes a) (Bytes b) p q g h = ap Bytes (same_set a b p q g h)
 same_cell (Bytes a) (Pointer k) p q g h = absurd h
 same_cell (Pointer j) (Bytes b) p q g h = absurd g
-same_cell (Pointer j) (Pointer k) p q g h = ap Pointer (same_pointer j k g h)
+same_cell (Pointer j) (Pointer k) p q g h = ap Pointer (same_pointer j k (same_kind (kind_of j) (kind_of k) g h))
 
 -- two proper states that cover each other are one
 pub same_state : CoversBothWays

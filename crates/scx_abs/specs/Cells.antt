@@ -1,12 +1,38 @@
--- The order on cells. A cell that knows more written bytes is covered by one that knows fewer; a stored
--- pointer by one of a kind that covers its kind, but isn't Unusable, and by a cell that knows nothing.
--- A stored pointer is never Unusable: that case stands here only so that each cell covers itself.
-use Rattle.std.specs.Prelude.{◌≡◌, ℕ, zero, suc, ◌+◌, ◌<◌, Bool, true, false, ◌&&◌, ◌||◌, nat_le, nat_lt, List, [], ◌∷◌, length, slice_index_or, IsTrue}
+-- What a cell of the stack keeps, and the order on cells. A cell that knows more written bytes is covered
+-- by one that knows fewer; a stored pointer by one of a kind that covers its kind, and by a cell that
+-- knows nothing.
+use Rattle.std.specs.Prelude.{◌≡◌, ℕ, zero, suc, ◌+◌, ◌<◌, Bool, true, false, ◌&&◌, ◌||◌, nat_le, nat_lt, List, [], ◌∷◌, length, slice_index_or, Option, Some, None, IsTrue}
 use Rattle.scx_abs.specs.declared.kinds.Kind.{Kind}
-use Rattle.scx_abs.specs.declared.kinds.Kind.TheVariants.{Unusable}
+use Rattle.scx_abs.specs.declared.kinds.Kind.TheVariants.{Unusable, Num, Stack, Elem, ElemOrNull, Task, TaskOrNull, MapRef}
+use Rattle.scx_abs.specs.declared.kinds.Held.{Held}
+use Rattle.scx_abs.specs.declared.kinds.Held.TheVariants as held
 use Rattle.scx_abs.specs.declared.kinds.Cell.{Cell}
 use Rattle.scx_abs.specs.declared.kinds.Cell.TheVariants.{Bytes, Pointer}
-use Rattle.scx_abs.specs.Kinds.{CoversKind, IsUsable, join_kind}
+use Rattle.scx_abs.specs.Kinds.{CoversKind, join_kind}
+
+-- ---- stored pointers
+
+-- the kind of a register that a stored pointer is loaded to
+abbrev pub kind_of : Held → Kind
+kind_of (held.Stack o) = Stack o
+kind_of (held.Elem m o) = Elem m o
+kind_of (held.ElemOrNull m) = ElemOrNull m
+kind_of held.Task = Task
+kind_of held.TaskOrNull = TaskOrNull
+kind_of (held.MapRef m) = MapRef m
+
+-- the stored pointer of a register of that kind, if it is one's
+abbrev pub held_of : Kind → Option Held
+held_of Unusable = None
+held_of Num = None
+held_of (Stack o) = Some (held.Stack o)
+held_of (Elem m o) = Some (held.Elem m o)
+held_of (ElemOrNull m) = Some (held.ElemOrNull m)
+held_of Task = Some held.Task
+held_of TaskOrNull = Some held.TaskOrNull
+held_of (MapRef m) = Some (held.MapRef m)
+
+-- ---- bytes
 
 -- whether the byte of that number is known to be written
 abbrev pub is_written : List Bool → ℕ → Bool
@@ -42,40 +68,30 @@ written_in (Pointer k) = no_bytes
 abbrev pub IsPartOf : List Bool → List Bool → Type 0
 IsPartOf b a = (j : ℕ) → j < 8 → IsTrue (is_written b j) → IsTrue (is_written a j)
 
-abbrev pub IsUnusable : Kind → Type 0
-IsUnusable Unusable = Unit {0}
-IsUnusable k = ⊥
-
--- the first covers the second, as kinds of stored pointers
-abbrev pub CoversPointer : Kind → Kind → Type 0
-CoversPointer Unusable k = IsUnusable k
-CoversPointer j k = CoversKind j k
-
 -- the first covers the second
 abbrev pub CoversCell : Cell → Cell → Type 0
 CoversCell (Bytes b) (Bytes a) = IsPartOf b a
 CoversCell (Bytes b) (Pointer k) = IsPartOf b no_bytes
-CoversCell (Pointer j) (Pointer k) = CoversPointer j k
+CoversCell (Pointer j) (Pointer k) = CoversKind (kind_of j) (kind_of k)
 CoversCell (Pointer j) (Bytes a) = ⊥
 
 -- ---- proper cells
 
--- it says of each of the eight bytes whether it is known to be written, or it holds a pointer that may
--- be read
+-- it holds a pointer, or it says of each of the eight bytes whether it is known to be written
 abbrev pub IsProperCell : Cell → Type 0
 IsProperCell (Bytes set) = length set ≡ 8
-IsProperCell (Pointer k) = IsUsable k
+IsProperCell (Pointer k) = Unit {0}
 
 -- ---- join
 
--- the cell of two stored pointers, by the join of their kinds
-abbrev pub pointer_cell : Kind → Cell
-pointer_cell Unusable = Bytes no_bytes
-pointer_cell k = Pointer k
+-- the cell of a stored pointer, if there is one
+abbrev pub cell_of : Option Held → Cell
+cell_of None = Bytes no_bytes
+cell_of (Some k) = Pointer k
 
-abbrev pub join_pointers : Kind → Kind → Cell
-join_pointers Unusable Unusable = Pointer Unusable
-join_pointers j k = pointer_cell (join_kind j k)
+-- the cell of two stored pointers, by the join of their kinds
+abbrev pub join_pointers : Held → Held → Cell
+join_pointers j k = cell_of (held_of (join_kind (kind_of j) (kind_of k)))
 
 abbrev pub join_cell : Cell → Cell → Cell
 join_cell (Bytes a) (Bytes b) = Bytes (common a b)

@@ -30,13 +30,14 @@ use Rattle.scx_abs.specs.declared.faults.Why.{Why}
 use Rattle.scx_abs.specs.declared.faults.Why.TheVariants.{UnusableRegister, UnwrittenStack, OutOfBounds, NullNotTested, PointerArithmetic, PointerCompare, PointerStore, TaskField, BadReturn, UnknownMap}
 use Rattle.scx_abs.specs.declared.kinds.Kind.{Kind}
 use Rattle.scx_abs.specs.declared.kinds.Kind.TheVariants.{Unusable, Num, Stack, Elem, ElemOrNull, Task, TaskOrNull, MapRef}
+use Rattle.scx_abs.specs.declared.kinds.Held.{Held}
 use Rattle.scx_abs.specs.declared.kinds.Cell.{Cell}
 use Rattle.scx_abs.specs.declared.kinds.Cell.TheVariants.{Bytes, Pointer}
 use Rattle.scx_abs.specs.declared.states.AbsState.{AbsState}
 use Rattle.scx_abs.specs.declared.rules.Next.{Next}
 use Rattle.scx_abs.specs.declared.memory.Area.{Area}
 use Rattle.scx_abs.specs.declared.memory.Area.TheVariants.{OnStack, InElement, InTask}
-use Rattle.scx_abs.specs.Cells.{marked, all_written, written_in}
+use Rattle.scx_abs.specs.Cells.{kind_of, held_of, marked, all_written, written_in}
 use Rattle.scx_abs.specs.States.{kind_at, cell_at, with_kind, with_cell}
 use Rattle.scx_semantics.specs.Results.{◌>>=◌}
 use Rattle.scx_abs.specs.Checks.{flows, goes_on, usable, operand_kind, sets, element_size, offset_within, offset_for}
@@ -113,7 +114,7 @@ area_of shapes Unusable offset n = Err UnusableRegister
 -- what a load gives that begins at that byte of the cell
 abbrev pub loaded_kind : Cell → Access → ℕ → Result Kind Why
 loaded_kind (Bytes set) a j = if all_written set j (size_bytes (access_size a)) then Ok Num else Err UnwrittenStack
-loaded_kind (Pointer k) access.DoubleWord j = Ok k
+loaded_kind (Pointer k) access.DoubleWord j = Ok (kind_of k)
 loaded_kind (Pointer k) a j = Err UnwrittenStack
 
 -- Elements and fields hold numbers. A field is loaded without a sign.
@@ -128,10 +129,15 @@ load_kind shapes a access r offset = do
   area ← area_of shapes base offset (size_bytes (access_size access))
   kind_in a access area
 
+-- the cell of a stored pointer
+abbrev pub pointer_cell : Option Held → Result Cell Why
+pointer_cell None = Err PointerStore
+pointer_cell (Some k) = Ok (Pointer k)
+
 -- the cell after a store that begins at that byte of it; a pointer takes all eight
 abbrev pub stored_cell : Cell → Size → ℕ → Kind → Result Cell Why
 stored_cell cell s j Num = Ok (Bytes (marked (written_in cell) j (size_bytes s)))
-stored_cell cell size.DoubleWord j k = Ok (Pointer k)
+stored_cell cell size.DoubleWord j k = pointer_cell (held_of k)
 stored_cell cell s j k = Err PointerStore
 
 -- elements and fields take numbers alone

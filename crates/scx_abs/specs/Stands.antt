@@ -18,7 +18,7 @@ use Rattle.scx_abs.specs.declared.kinds.Kind.TheVariants.{Unusable, Num, Stack, 
 use Rattle.scx_abs.specs.declared.kinds.Cell.{Cell}
 use Rattle.scx_abs.specs.declared.kinds.Cell.TheVariants.{Bytes, Pointer}
 use Rattle.scx_abs.specs.declared.states.AbsState.{AbsState}
-use Rattle.scx_abs.specs.Cells.{is_written}
+use Rattle.scx_abs.specs.Cells.{kind_of, is_written}
 use Rattle.scx_abs.specs.States.{kind_at, cell_at}
 
 -- the map has an element of that index
@@ -49,7 +49,7 @@ IsByte (byte.Part p j) = ⊥
 -- those of a value that its kind stands for. Null is stored as eight zero bytes.
 abbrev pub CellStands : Maps → Cell → memory.Stack → ℕ → Type 0
 CellStands maps (Bytes set) stack at = (j : ℕ) → j < 8 → IsTrue (is_written set j) → IsByte (stack (at + j))
-CellStands maps (Pointer k) stack at = (v : Value) × Stands maps k v × (value_bytes DoubleWord v ≡ Some (bytes_at stack at 8))
+CellStands maps (Pointer k) stack at = (v : Value) × Stands maps (kind_of k) v × (value_bytes DoubleWord v ≡ Some (bytes_at stack at 8))
 
 -- the abstract state stands for the state of a program with maps of these shapes
 pub record IsMember (shapes : List Shape) (a : AbsState) (m : Machine) : Type 0 where

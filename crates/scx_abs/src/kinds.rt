@@ -1,6 +1,6 @@
 ghost use Rattle.std.specs.Prelude.{◌≡◌, ◌+◌, ◌≤◌};
 ghost use Rattle.scx_abs.specs.Kinds.{join_kind};
-ghost use Rattle.scx_abs.specs.Cells.{common, marked, join_pointers, join_cell, pointer_cell};
+ghost use Rattle.scx_abs.specs.Cells.{kind_of, held_of, cell_of, common, marked, join_pointers, join_cell};
 ghost use Rattle.scx_abs.specs.Cells.{all_written, written_in};
 
 /// How many bytes a cell stands for.
@@ -27,13 +27,30 @@ pub enum Kind {
     MapRef(u8),
 }
 
+/// What is known of a pointer that a cell of the stack keeps.
+#[derive(Clone, Copy)]
+pub enum Held {
+    /// A pointer to that byte of the stack, 0 to 512.
+    Stack(u16),
+    /// A pointer into an element of that map, to that byte of it.
+    Elem(u8, u16),
+    /// A pointer to the first byte of an element of that map, or 0.
+    ElemOrNull(u8),
+    /// A pointer to a task.
+    Task,
+    /// A pointer to a task, or 0.
+    TaskOrNull,
+    /// A reference to that map.
+    MapRef(u8),
+}
+
 /// What is known of eight aligned bytes of the stack.
 #[derive(Clone, Copy)]
 pub enum Cell {
     /// To which of the bytes a number was written, from the lowest on.
     Bytes([bool; CELL_BYTES]),
-    /// All eight are those of a pointer of that kind, which is never `Unusable`.
-    Pointer(Kind),
+    /// All eight are those of such a pointer.
+    Pointer(Held),
 }
 
 impl Kind {
@@ -52,6 +69,37 @@ impl Kind {
             (Kind::Task | Kind::TaskOrNull, Kind::Task | Kind::TaskOrNull) => Kind::TaskOrNull,
             (Kind::MapRef(m), Kind::MapRef(n)) if m == n => self,
             _ => Kind::Unusable,
+        }
+    }
+
+    /// What a cell keeps of a pointer of that kind; none of a number, and none where nothing is known.
+    pub(crate) fn held(self) -> Option<Held>
+        ensures { result ≡ held_of self }
+    {
+        match self {
+            Kind::Unusable | Kind::Num => None,
+            Kind::Stack(at) => Some(Held::Stack(at)),
+            Kind::Elem(map, at) => Some(Held::Elem(map, at)),
+            Kind::ElemOrNull(map) => Some(Held::ElemOrNull(map)),
+            Kind::Task => Some(Held::Task),
+            Kind::TaskOrNull => Some(Held::TaskOrNull),
+            Kind::MapRef(map) => Some(Held::MapRef(map)),
+        }
+    }
+}
+
+impl Held {
+    /// The kind of a register that the pointer is loaded to.
+    pub fn kind(self) -> Kind
+        ensures { result ≡ kind_of self }
+    {
+        match self {
+            Held::Stack(at) => Kind::Stack(at),
+            Held::Elem(map, at) => Kind::Elem(map, at),
+            Held::ElemOrNull(map) => Kind::ElemOrNull(map),
+            Held::Task => Kind::Task,
+            Held::TaskOrNull => Kind::TaskOrNull,
+            Held::MapRef(map) => Kind::MapRef(map),
         }
     }
 }
@@ -79,24 +127,20 @@ impl Cell {
     }
 }
 
-/// The cell of two stored pointers. No state that a rule gives has one of kind `Unusable`; a cell
-/// with one covers itself all the same.
-fn join_pointers(first: Kind, second: Kind) -> Cell
+/// The cell of two stored pointers.
+fn join_pointers(first: Held, second: Held) -> Cell
     ensures { result ≡ join_pointers first second }
 {
-    match (first, second) {
-        (Kind::Unusable, Kind::Unusable) => Cell::Pointer(Kind::Unusable),
-        _ => pointer_cell(first.join(second)),
-    }
+    cell_of(first.kind().join(second.kind()).held())
 }
 
-/// The cell of a stored pointer of that kind, or of eight bytes of which nothing is known.
-fn pointer_cell(kind: Kind) -> Cell
-    ensures { result ≡ pointer_cell kind }
+/// The cell of a stored pointer, or of eight bytes of which nothing is known.
+fn cell_of(pointer: Option<Held>) -> Cell
+    ensures { result ≡ cell_of pointer }
 {
-    match kind {
-        Kind::Unusable => Cell::Bytes([false; CELL_BYTES]),
-        _ => Cell::Pointer(kind),
+    match pointer {
+        Some(pointer) => Cell::Pointer(pointer),
+        None => Cell::Bytes([false; CELL_BYTES]),
     }
 }
 

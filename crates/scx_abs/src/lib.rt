@@ -26,7 +26,7 @@ pub use calls::called;
 pub use changes::{Change, Flow};
 pub use faults::Why;
 pub use jumps::flow_of_jump;
-pub use kinds::{CELL_BYTES, Cell, Kind};
+pub use kinds::{CELL_BYTES, Cell, Held, Kind};
 pub use known::Known;
 pub use laws::{
     calls_and_null_tests_are_sound, joins_are_least, plain_rules_are_sound, rules_are_monotone,

@@ -5,12 +5,12 @@ ghost use Rattle.scx_abs.specs.Areas.{IsAlignedIn};
 ghost use Rattle.scx_abs.specs.Changes.{accessed_on, went_on};
 ghost use Rattle.scx_abs.specs.Checks.{sets};
 ghost use Rattle.scx_abs.specs.States.{kind_at};
-ghost use Rattle.scx_abs.specs.Rules.{area_of, field_area, loaded_kind, kind_in, load_kind, stored_cell, number_stored, stored_in, store_rule};
+ghost use Rattle.scx_abs.specs.Rules.{area_of, field_area, loaded_kind, kind_in, load_kind, pointer_cell, stored_cell, number_stored, stored_in, store_rule};
 
 use crate::arithmetic::{operand_kind, usable};
 use crate::changes::Change;
 use crate::faults::Why;
-use crate::kinds::{CELL_BYTES, Cell, Kind, all_written, marked};
+use crate::kinds::{CELL_BYTES, Cell, Held, Kind, all_written, marked};
 use crate::offsets::{element_size, offset_for};
 use crate::states::AbsState;
 use scx_arithmetic::shifted;
@@ -177,7 +177,7 @@ fn loaded_kind(cell: Cell, access: Access, byte: usize) -> Result<Kind, Why>
                 Err(Why::UnwrittenStack)
             }
         }
-        (Cell::Pointer(kind), Access::DoubleWord) => Ok(kind),
+        (Cell::Pointer(pointer), Access::DoubleWord) => Ok(pointer.kind()),
         (Cell::Pointer(_), _) => Err(Why::UnwrittenStack),
     }
 }
@@ -190,7 +190,17 @@ fn stored_cell(cell: Cell, size: Size, byte: usize, kind: Kind) -> Result<Cell, 
 {
     match (kind, size) {
         (Kind::Num, _) => Ok(Cell::Bytes(marked(cell.written(), byte, usize::from(size.bytes())))),
-        (_, Size::DoubleWord) => Ok(Cell::Pointer(kind)),
+        (_, Size::DoubleWord) => pointer_cell(kind.held()),
         _ => Err(Why::PointerStore),
+    }
+}
+
+/// The cell of a stored pointer.
+fn pointer_cell(pointer: Option<Held>) -> Result<Cell, Why>
+    ensures { result ≡ pointer_cell pointer }
+{
+    match pointer {
+        Some(pointer) => Ok(Cell::Pointer(pointer)),
+        None => Err(Why::PointerStore),
     }
 }

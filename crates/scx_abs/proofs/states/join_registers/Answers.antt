@@ -1,4 +1,4 @@
-use Rattle.std.proofs.Common.{rules, slice_index_or, sym, ap, ◌∙◌, arith}
+use Rattle.std.proofs.Common.{rules, slice_index_or, ap, arith}
 use Rattle.std.proofs.lemmas.Grind.{common_steps}
 use Rattle.scx_abs.specs.declared.kinds.Kind.TheVariants.{Unusable}
 use Rattle.scx_abs.specs.Kinds.{join_kind}
