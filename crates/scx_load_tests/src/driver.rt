@@ -1,6 +1,7 @@
 //! The events of workloads, each accepted by a machine.
 ghost use Rattle.std.specs.Prelude.{◌≡◌, false};
 
+use crate::same::expect_same;
 use scx_load::{Driver, Workload, read_workload};
 use scx_maps::MapDefs;
 use scx_sched::{Callbacks, Event, Note, Policy, Sim, Sink};
@@ -50,11 +51,11 @@ fn machine<R: AllocGlobal + Abort>(rt: &R, workload: &Workload) -> Sim {
 /// The driver's events are these, and the machine accepts each.
 fn run(rt: &impl Abort, sim: &mut Sim, driver: &mut Driver, events: &[Event]) {
     for event in events {
-        assert_eq!(rt; driver.next(sim), Some(*event));
-        assert_eq!(rt; sim.step(*event, &mut Nowhere), Ok(()));
+        expect_same(rt, driver.next(sim), Some(*event), event);
+        expect_same(rt, sim.step(*event, &mut Nowhere), Ok(()), event);
     }
-    assert_eq!(rt; driver.next(sim), None);
-    assert_eq!(rt; driver.next(sim), None);
+    expect_same(rt, driver.next(sim), None, "next");
+    expect_same(rt, driver.next(sim), None, "next");
 }
 
 /// The workload's events are these.

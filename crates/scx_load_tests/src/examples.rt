@@ -2,6 +2,7 @@
 //! worked out by hand.
 ghost use Rattle.std.specs.Prelude.{◌≡◌, true};
 
+use crate::same::expect_same;
 use scx_load::{Driver, Workload, build, read_policy, read_workload};
 use scx_sched::{Note, Sim, Sink, What};
 use scx_weights::Tree;
@@ -244,7 +245,7 @@ fn run(rt: &impl Abort, sim: &mut Sim, driver: &mut Driver, recorder: &mut Recor
         let Some(event) = driver.next(sim) else {
             break;
         };
-        assert_eq!(rt; sim.step(event, recorder), Ok(()));
+        expect_same(rt, sim.step(event, recorder), Ok(()), event);
     }
     assert!(rt; !recorder.failed());
 }
@@ -263,9 +264,9 @@ fn notes_of<R: AllocGlobal + Abort>(rt: &R, mut sim: Sim, workload: &Workload) -
 
 /// The notes are these: a clock and what was noted then.
 fn expect_notes(rt: &impl Abort, notes: &[Note], wanted: &[(u64, What)]) {
-    assert_eq!(rt; notes.len(), wanted.len());
+    expect_same(rt, notes.len(), wanted.len(), "notes");
     for (note, &(clock, what)) in notes.iter().zip(wanted) {
-        assert_eq!(rt; *note, Note { clock, what });
+        expect_same(rt, *note, Note { clock, what }, clock);
     }
 }
 

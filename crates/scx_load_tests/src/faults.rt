@@ -1,5 +1,6 @@
 //! What is wrong with a file, compared with its path and its cause.
 
+use crate::same::expect_same;
 use scx_load::{Cause, LoadError};
 use std::process::Abort;
 
@@ -12,8 +13,8 @@ pub(crate) fn is_at(rt: &impl Abort, error: Option<LoadError>, path: &str, cause
                 cause: why,
             },
         ) => {
-            assert_eq!(rt; found.as_str(), path);
-            assert_eq!(rt; why, cause, "{path}");
+            expect_same(rt, found.as_str(), path, "path");
+            expect_same(rt, why, cause, path);
         }
         Some(LoadError::NoMemory) => assert!(rt; false, "memory is ample: {path}"),
         None => assert!(rt; false, "it was read: {path}"),

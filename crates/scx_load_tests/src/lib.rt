@@ -10,4 +10,6 @@ mod faults;
 #[cfg(test)]
 mod policies;
 #[cfg(test)]
+mod same;
+#[cfg(test)]
 mod workloads;

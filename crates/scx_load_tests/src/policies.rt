@@ -1,6 +1,7 @@
 //! Policy files that are read and built, and each fault of one that isn't.
 
 use crate::faults::is_at;
+use crate::same::expect_same;
 use scx_asm::AsmFault;
 use scx_isa::{Callback, DecodeFault};
 use scx_load::{BuildError, Cause, PolicyText, build, read_policy};
@@ -58,8 +59,8 @@ fn refuse<R: AllocGlobal + Abort>(rt: &R, rows: &[Row<'_>]) {
 
 /// The policy waits so long, and has so many maps.
 fn expect_head(rt: &impl Abort, policy: &PolicyText, timeout_ms: u32, maps: usize) {
-    assert_eq!(rt; policy.timeout_ms(), timeout_ms);
-    assert_eq!(rt; policy.defs().count(), maps);
+    expect_same(rt, policy.timeout_ms(), timeout_ms, "timeout");
+    expect_same(rt, policy.defs().count(), maps, "maps");
 }
 
 /// How many instructions the callback's program has, if there is one, which is then gone.
@@ -82,10 +83,15 @@ const TAKEN: [(Callback, Option<usize>); 4] = [
 ];
 
 fn take_programs(rt: &impl Abort, policy: &mut PolicyText) {
-    for &(callback, wanted) in &TAKEN {
-        assert_eq!(rt; take_instructions(policy, callback), wanted);
+    for (row, &(callback, wanted)) in TAKEN.iter().enumerate() {
+        expect_same(rt, take_instructions(policy, callback), wanted, row);
     }
-    assert_eq!(rt; take_slots(policy, Callback::Dispatch), Some(3));
+    expect_same(
+        rt,
+        take_slots(policy, Callback::Dispatch),
+        Some(3),
+        "dispatch",
+    );
 }
 
 #[test]
@@ -96,7 +102,7 @@ fn a_policy_is_read(rt: HostRuntime) {
         entries: 1,
         value_size: 8,
     };
-    assert_eq!(rt; policy.defs().shape(0), Some(shape));
+    expect_same(&rt, policy.defs().shape(0), Some(shape), "shape");
     take_programs(&rt, &mut policy);
     drop(policy);
 }
@@ -104,7 +110,7 @@ fn a_policy_is_read(rt: HostRuntime) {
 #[test]
 fn a_policy_is_built(rt: HostRuntime) {
     let policy = build(rt.alloc(), read(&rt, TWO_MILLISECONDS)).expect(&rt, "it is safe");
-    assert_eq!(rt; policy.defs().count(), 1);
+    expect_same(&rt, policy.defs().count(), 1, "maps");
     drop(policy);
 }
 
@@ -112,10 +118,15 @@ fn a_policy_is_built(rt: HostRuntime) {
 fn what_is_absent_has_a_default(rt: HostRuntime) {
     let mut policy = read(&rt, "");
     expect_head(&rt, &policy, 30_000, 0);
-    assert_eq!(rt; take_instructions(&mut policy, Callback::Enqueue), None);
+    expect_same(
+        &rt,
+        take_instructions(&mut policy, Callback::Enqueue),
+        None,
+        "enqueue",
+    );
     drop(policy);
     let empty = read(&rt, "map = []\n[code]\n[slots]\n");
-    assert_eq!(rt; empty.defs().count(), 0);
+    expect_same(&rt, empty.defs().count(), 0, "maps");
     drop(empty);
 }
 
@@ -191,7 +202,7 @@ const LARGE_MAPS: [Row<'_>; 4] = [
 #[test]
 fn maps_are_limited(rt: HostRuntime) {
     let fits = read(&rt, "[[map]]\nentries = 65536\nvalue_size = 256\n");
-    assert_eq!(rt; fits.defs().count(), 1);
+    expect_same(&rt, fits.defs().count(), 1, "maps");
     drop(fits);
     refuse(&rt, &LARGE_MAPS);
 }
@@ -294,5 +305,5 @@ fn the_first_callback_is_refused(rt: HostRuntime) {
         slot: 1,
     };
     let found = build(rt.alloc(), read(&rt, text)).err();
-    assert_eq!(rt; found, Some(wanted));
+    expect_same(&rt, found, Some(wanted), "refused");
 }

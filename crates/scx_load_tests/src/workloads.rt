@@ -1,6 +1,7 @@
 //! Workload files: what they say, and their first faults.
 
 use crate::faults::is_at;
+use crate::same::expect_same;
 use scx_load::{Cause, Workload, read_workload};
 use std::alloc::AllocError;
 use std::process::Abort;
@@ -59,28 +60,28 @@ weight = 1
 ";
 
 fn expect_timings(rt: &impl Abort, workload: &Workload) {
-    assert_eq!(rt; workload.timings().len(), 1);
+    expect_same(rt, workload.timings().len(), 1, "timings");
     for timing in workload.timings() {
-        assert_eq!(rt; timing.start, 1);
-        assert_eq!(rt; timing.run, 2);
-        assert_eq!(rt; timing.sleep, 1_000_000);
+        expect_same(rt, timing.start, 1, "start");
+        expect_same(rt, timing.run, 2, "run");
+        expect_same(rt, timing.sleep, 1_000_000, "sleep");
     }
 }
 
 fn expect_changes(rt: &impl Abort, workload: &Workload) {
-    assert_eq!(rt; workload.changes().len(), 1);
+    expect_same(rt, workload.changes().len(), 1, "changes");
     for change in workload.changes() {
-        assert_eq!(rt; change.at, 7);
-        assert_eq!(rt; change.group, 0);
-        assert_eq!(rt; change.weight, 1);
+        expect_same(rt, change.at, 7, "at");
+        expect_same(rt, change.group, 0, "group");
+        expect_same(rt, change.weight, 1, "weight");
     }
 }
 
 fn expect_whole(rt: &impl Abort, workload: &Workload) {
-    assert_eq!(rt; workload.cpus(), 64);
-    assert_eq!(rt; workload.ms(), 1_000_000);
-    assert_eq!(rt; workload.groups().len(), 2);
-    assert_eq!(rt; workload.tasks(), [1].as_slice());
+    expect_same(rt, workload.cpus(), 64, "processors");
+    expect_same(rt, workload.ms(), 1_000_000, "milliseconds");
+    expect_same(rt, workload.groups().len(), 2, "groups");
+    expect_same(rt, workload.tasks(), [1].as_slice(), "tasks");
     expect_timings(rt, workload);
     expect_changes(rt, workload);
 }

@@ -1,18 +1,26 @@
 //! Tests of texts as programs: of `assemble` and `disassemble`.
 
+use crate::same::expect_same;
+use crate::verdicts::program_of;
 use scx_asm::{AsmError, AsmFault, assemble, disassemble};
 use scx_examples::{EXIT, bytes_of};
-use scx_isa::{decode, encode};
+use scx_isa::encode;
 use std::alloc::{AllocError, Global};
 use std::process::Abort;
 use std::test::Fail;
 
+/// The bytes of the program that the text stands for.
+fn bytes_of_text(alloc: Global, text: &str) -> Result<Vec<u8>, Fail> {
+    let program = assemble(alloc, text)?;
+    let bytes = encode(alloc, &program)?;
+    Ok(bytes)
+}
+
 /// The text stands for the program with these slots.
 fn expect_slots<R: AllocGlobal + Abort>(rt: &R, text: &str, slots: &[u64]) -> Result<(), Fail> {
-    let program = assemble(rt.alloc(), text)?;
-    let bytes = encode(rt.alloc(), &program)?;
+    let found = bytes_of_text(rt.alloc(), text)?;
     let wanted = bytes_of(rt.alloc(), slots)?;
-    assert_eq!(rt; bytes.as_slice(), wanted.as_slice(), "{text}");
+    expect_same(rt, found.as_slice(), wanted.as_slice(), text);
     Ok(())
 }
 
@@ -23,12 +31,16 @@ fn expect_all_slots<R: AllocGlobal + Abort>(rt: &R, rows: &[(&str, &[u64])]) -> 
     Ok(())
 }
 
-/// The text is the canonical one of the program with these slots.
+/// The canonical text of the program with these slots.
+fn text_of(alloc: Global, slots: &[u64]) -> Result<String, Fail> {
+    let program = program_of(alloc, slots)?;
+    let text = disassemble(alloc, &program)?;
+    Ok(text)
+}
+
 fn expect_text<R: AllocGlobal + Abort>(rt: &R, slots: &[u64], text: &str) -> Result<(), Fail> {
-    let bytes = bytes_of(rt.alloc(), slots)?;
-    let program = decode(rt.alloc(), &bytes)?;
-    let found = disassemble(rt.alloc(), &program)?;
-    assert_eq!(rt; found.as_str(), text);
+    let found = text_of(rt.alloc(), slots)?;
+    expect_same(rt, found.as_str(), text, slots);
     Ok(())
 }
 
@@ -47,121 +59,122 @@ fn expect_lines<R: AllocGlobal + Abort>(rt: &R, rows: &[(&str, &[u64])]) -> Resu
 }
 
 fn expect_fault<R: AllocGlobal + Abort>(rt: &R, text: &str, fault: AsmFault, line: usize) {
-    let found = match assemble(rt.alloc(), text) {
-        Ok(_) => None,
-        Err(error) => Some(error),
-    };
-    assert_eq!(rt; found, Some(AsmError::Refused { fault, line }), "{text}");
+    let found = assemble(rt.alloc(), text).err();
+    let wanted = AsmError::Refused { fault, line };
+    expect_same(rt, found, Some(wanted), text);
 }
+
+const ARITHMETIC: [(&str, &[u64]); 23] = [
+    ("r1 += r2", &[0x0f21_0000_0000_0000]),
+    ("r1 += -4", &[0x0701_0000_fcff_ffff]),
+    ("w3 -= 1", &[0x1403_0000_0100_0000]),
+    ("r4 *= r5", &[0x2f54_0000_0000_0000]),
+    ("r6 /= 3", &[0x3706_0000_0300_0000]),
+    ("w7 s/= w8", &[0x3c87_0100_0000_0000]),
+    ("r9 |= 255", &[0x4709_0000_ff00_0000]),
+    ("r0 &= r10", &[0x5fa0_0000_0000_0000]),
+    ("r1 <<= 3", &[0x6701_0000_0300_0000]),
+    ("r1 >>= 3", &[0x7701_0000_0300_0000]),
+    ("w1 s>>= w2", &[0xcc21_0000_0000_0000]),
+    ("r1 %= r2", &[0x9f21_0000_0000_0000]),
+    ("r1 s%= 7", &[0x9701_0100_0700_0000]),
+    ("r1 ^= -2147483648", &[0xa701_0000_0000_0080]),
+    ("r1 = r2", &[0xbf21_0000_0000_0000]),
+    ("w1 = -5", &[0xb401_0000_fbff_ffff]),
+    ("r1 = (s32)r2", &[0xbf21_2000_0000_0000]),
+    ("w1 = (s16)w2", &[0xbc21_1000_0000_0000]),
+    ("r1 = -r1", &[0x8701_0000_0000_0000]),
+    ("w1 = -w1", &[0x8401_0000_0000_0000]),
+    ("r1 = le16 r1", &[0xd401_0000_1000_0000]),
+    ("r1 = be32 r1", &[0xdc01_0000_2000_0000]),
+    ("r1 = bswap64 r1", &[0xd701_0000_4000_0000]),
+];
 
 #[test]
 fn arithmetic_is_assembled(rt: HostRuntime) -> Result<(), Fail> {
-    expect_lines(
-        &rt,
-        &[
-            ("r1 += r2", &[0x0f21_0000_0000_0000]),
-            ("r1 += -4", &[0x0701_0000_fcff_ffff]),
-            ("w3 -= 1", &[0x1403_0000_0100_0000]),
-            ("r4 *= r5", &[0x2f54_0000_0000_0000]),
-            ("r6 /= 3", &[0x3706_0000_0300_0000]),
-            ("w7 s/= w8", &[0x3c87_0100_0000_0000]),
-            ("r9 |= 255", &[0x4709_0000_ff00_0000]),
-            ("r0 &= r10", &[0x5fa0_0000_0000_0000]),
-            ("r1 <<= 3", &[0x6701_0000_0300_0000]),
-            ("r1 >>= 3", &[0x7701_0000_0300_0000]),
-            ("w1 s>>= w2", &[0xcc21_0000_0000_0000]),
-            ("r1 %= r2", &[0x9f21_0000_0000_0000]),
-            ("r1 s%= 7", &[0x9701_0100_0700_0000]),
-            ("r1 ^= -2147483648", &[0xa701_0000_0000_0080]),
-            ("r1 = r2", &[0xbf21_0000_0000_0000]),
-            ("w1 = -5", &[0xb401_0000_fbff_ffff]),
-            ("r1 = (s32)r2", &[0xbf21_2000_0000_0000]),
-            ("w1 = (s16)w2", &[0xbc21_1000_0000_0000]),
-            ("r1 = -r1", &[0x8701_0000_0000_0000]),
-            ("w1 = -w1", &[0x8401_0000_0000_0000]),
-            ("r1 = le16 r1", &[0xd401_0000_1000_0000]),
-            ("r1 = be32 r1", &[0xdc01_0000_2000_0000]),
-            ("r1 = bswap64 r1", &[0xd701_0000_4000_0000]),
-        ],
-    )
+    expect_lines(&rt, &ARITHMETIC)
 }
+
+const ACCESSES: [(&str, &[u64]); 7] = [
+    (
+        "r1 = 1311768467463790320 ll",
+        &[0x1801_0000_f0de_bc9a, 0x0000_0000_7856_3412],
+    ),
+    ("r1 = map 3", &[0x1851_0000_0300_0000, 0]),
+    ("r1 = *(u8 *)(r2 + 1)", &[0x7121_0100_0000_0000]),
+    ("r1 = *(s16 *)(r2 - 6)", &[0x8921_faff_0000_0000]),
+    ("r1 = *(u64 *)(r10 - 32768)", &[0x79a1_0080_0000_0000]),
+    ("*(u32 *)(r10 - 4) = 0", &[0x620a_fcff_0000_0000]),
+    ("*(u16 *)(r1 + 2) = r2", &[0x6b21_0200_0000_0000]),
+];
 
 #[test]
 fn accesses_are_assembled(rt: HostRuntime) -> Result<(), Fail> {
-    expect_lines(
-        &rt,
-        &[
-            (
-                "r1 = 1311768467463790320 ll",
-                &[0x1801_0000_f0de_bc9a, 0x0000_0000_7856_3412],
-            ),
-            ("r1 = map 3", &[0x1851_0000_0300_0000, 0]),
-            ("r1 = *(u8 *)(r2 + 1)", &[0x7121_0100_0000_0000]),
-            ("r1 = *(s16 *)(r2 - 6)", &[0x8921_faff_0000_0000]),
-            ("r1 = *(u64 *)(r10 - 32768)", &[0x79a1_0080_0000_0000]),
-            ("*(u32 *)(r10 - 4) = 0", &[0x620a_fcff_0000_0000]),
-            ("*(u16 *)(r1 + 2) = r2", &[0x6b21_0200_0000_0000]),
-        ],
-    )
+    expect_lines(&rt, &ACCESSES)
 }
+
+const JUMPS: [(&str, &[u64]); 8] = [
+    ("if r1 == r2 goto +1", &[0x1d21_0100_0000_0000]),
+    ("if w1 s> -5 goto +0", &[0x6601_0000_fbff_ffff]),
+    ("if r1 & 8 goto -2", &[0x4501_feff_0800_0000]),
+    ("if w1 s<= w2 goto +3", &[0xde21_0300_0000_0000]),
+    ("goto +32767", &[0x0500_ff7f_0000_0000]),
+    ("gotol -1", &[0x0600_0000_ffff_ffff]),
+    ("call 1001", &[0x8500_0000_e903_0000]),
+    ("exit", &[EXIT]),
+];
 
 #[test]
 fn jumps_are_assembled(rt: HostRuntime) -> Result<(), Fail> {
-    expect_lines(
-        &rt,
-        &[
-            ("if r1 == r2 goto +1", &[0x1d21_0100_0000_0000]),
-            ("if w1 s> -5 goto +0", &[0x6601_0000_fbff_ffff]),
-            ("if r1 & 8 goto -2", &[0x4501_feff_0800_0000]),
-            ("if w1 s<= w2 goto +3", &[0xde21_0300_0000_0000]),
-            ("goto +32767", &[0x0500_ff7f_0000_0000]),
-            ("gotol -1", &[0x0600_0000_ffff_ffff]),
-            ("call 1001", &[0x8500_0000_e903_0000]),
-            ("exit", &[EXIT]),
-        ],
-    )
+    expect_lines(&rt, &JUMPS)
 }
+
+const OVER: [u64; 3] = [0x0500_0100_0000_0000, 0xb700_0000_0100_0000, EXIT];
+
+const LABELS: [(&str, &[u64]); 5] = [
+    ("goto end\nr0 = 1\nend:\nexit", &OVER),
+    // A wide instruction takes two slots.
+    (
+        "goto end\nr0 = 2147483648 ll\nend:\nexit\n",
+        &[0x0500_0200_0000_0000, 0x1800_0000_0000_0080, 0, EXIT],
+    ),
+    ("a:\ngoto a\nexit", &[0x0500_ffff_0000_0000, EXIT]),
+    // Any word can be a label, also past the last instruction.
+    ("exit:\ngoto exit", &[0x0500_ffff_0000_0000]),
+    ("if r0 == 0 goto r0\nr0 :", &[0x1500_0000_0000_0000]),
+];
 
 #[test]
 fn labels_are_resolved(rt: HostRuntime) -> Result<(), Fail> {
-    let over = [0x0500_0100_0000_0000, 0xb700_0000_0100_0000, EXIT];
-    expect_slots(&rt, "goto end\nr0 = 1\nend:\nexit", &over)?;
-    expect_text(&rt, &over, "goto +1\nr0 = 1\nexit\n")?;
-    // A wide instruction takes two slots.
-    let wide = [0x0500_0200_0000_0000, 0x1800_0000_0000_0080, 0, EXIT];
-    expect_slots(&rt, "goto end\nr0 = 2147483648 ll\nend:\nexit\n", &wide)?;
-    expect_slots(&rt, "a:\ngoto a\nexit", &[0x0500_ffff_0000_0000, EXIT])?;
-    // Any word can be a label, also past the last instruction.
-    expect_slots(&rt, "exit:\ngoto exit", &[0x0500_ffff_0000_0000])?;
-    expect_slots(&rt, "if r0 == 0 goto r0\nr0 :", &[0x1500_0000_0000_0000])
+    expect_all_slots(&rt, &LABELS)?;
+    expect_text(&rt, &OVER, "goto +1\nr0 = 1\nexit\n")
 }
+
+const SPELLINGS: [(&str, &[u64]); 10] = [
+    ("\t r1+=-0x4#!\n\nexit", &[0x0701_0000_fcff_ffff, EXIT]),
+    ("r1 = - r1", &[0x8701_0000_0000_0000]),
+    ("r1 s>>=007", &[0xc701_0000_0700_0000]),
+    (
+        "r1 = 0xFFFFffffFFFFffffll",
+        &[0x1801_0000_ffff_ffff, 0x0000_0000_ffff_ffff],
+    ),
+    (
+        "r1 = -1 ll",
+        &[0x1801_0000_ffff_ffff, 0x0000_0000_ffff_ffff],
+    ),
+    (
+        "r1 = -9223372036854775808 ll",
+        &[0x1801_0000_0000_0000, 0x0000_0000_0000_0080],
+    ),
+    ("r1 = *( u8*)( r2+1 )", &[0x7121_0100_0000_0000]),
+    ("r1 = *(u8 *)(r2 -1)", &[0x7121_ffff_0000_0000]),
+    ("goto +0x5\r\n", &[0x0500_0500_0000_0000]),
+    ("exit # \r é", &[EXIT]),
+];
 
 #[test]
 fn spellings_may_differ(rt: HostRuntime) -> Result<(), Fail> {
-    expect_all_slots(
-        &rt,
-        &[
-            ("\t r1+=-0x4#!\n\nexit", &[0x0701_0000_fcff_ffff, EXIT]),
-            ("r1 = - r1", &[0x8701_0000_0000_0000]),
-            ("r1 s>>=007", &[0xc701_0000_0700_0000]),
-            (
-                "r1 = 0xFFFFffffFFFFffffll",
-                &[0x1801_0000_ffff_ffff, 0x0000_0000_ffff_ffff],
-            ),
-            (
-                "r1 = -1 ll",
-                &[0x1801_0000_ffff_ffff, 0x0000_0000_ffff_ffff],
-            ),
-            (
-                "r1 = -9223372036854775808 ll",
-                &[0x1801_0000_0000_0000, 0x0000_0000_0000_0080],
-            ),
-            ("r1 = *( u8*)( r2+1 )", &[0x7121_0100_0000_0000]),
-            ("r1 = *(u8 *)(r2 -1)", &[0x7121_ffff_0000_0000]),
-            ("goto +0x5\r\n", &[0x0500_0500_0000_0000]),
-            ("exit # \r é", &[EXIT]),
-        ],
-    )
+    expect_all_slots(&rt, &SPELLINGS)
 }
 
 fn expect_faults<R: AllocGlobal + Abort>(rt: &R, rows: &[(&str, AsmFault)]) {
@@ -220,43 +233,62 @@ fn faults_of_lines_are_named(rt: HostRuntime) {
     expect_faults(&rt, &FAULTY);
 }
 
+/// Faulty texts, the fault, and its line.
+const FAULTY_TEXTS: [(&str, AsmFault, usize); 6] = [
+    ("goto end\nexit", AsmFault::UnknownLabel, 1),
+    ("goto end\nr0 =", AsmFault::Syntax, 2),
+    ("a:\na:\nexit", AsmFault::TwiceLabel, 2),
+    ("r0 = 2147483648\nexit", AsmFault::OutOfRange, 1),
+    ("\n\n", AsmFault::Syntax, 1),
+    ("\n# é\n\u{e9}\n", AsmFault::Syntax, 3),
+];
+
 #[test]
 fn faults_of_texts_are_named(rt: HostRuntime) -> Result<(), Fail> {
-    expect_fault(&rt, "goto end\nexit", AsmFault::UnknownLabel, 1);
-    expect_fault(&rt, "goto end\nr0 =", AsmFault::Syntax, 2);
-    expect_fault(&rt, "a:\na:\nexit", AsmFault::TwiceLabel, 2);
-    expect_fault(&rt, "r0 = 2147483648\nexit", AsmFault::OutOfRange, 1);
-    expect_fault(&rt, "\n\n", AsmFault::Syntax, 1);
-    expect_fault(&rt, "\n# é\n\u{e9}\n", AsmFault::Syntax, 3);
+    for &(text, fault, line) in &FAULTY_TEXTS {
+        expect_fault(&rt, text, fault, line);
+    }
     let error = AsmError::Refused {
         fault: AsmFault::UnknownLabel,
         line: 7,
     };
-    let text = format!(in rt.alloc(); "{error}")?;
-    assert_eq!(rt; text.as_str(), "asm 2 UnknownLabel at 7");
+    let told = format!(in rt.alloc(); "{error}")?;
+    expect_same(&rt, told.as_str(), "asm 2 UnknownLabel at 7", "told");
     Ok(())
 }
 
-/// The text that many times.
-fn repeated(alloc: Global, text: &str, times: usize) -> Result<String, AllocError> {
+/// The text, and behind it the other text that many times.
+fn repeated(alloc: Global, first: &str, text: &str, times: usize) -> Result<String, AllocError> {
     let mut all = String::new(alloc);
+    all.push_str(first)?;
     for _ in 0..times {
         all.push_str(text)?;
     }
     Ok(all)
 }
 
+/// How a long text begins, what follows and how often, and the fault and its line.
+type LongText = (&'static str, &'static str, usize, AsmFault, usize);
+
+const LONG_TEXTS: [LongText; 3] = [
+    ("", "#", 1_048_576, AsmFault::Syntax, 1),
+    ("exit\nr0 = ", "1", 100_000, AsmFault::OutOfRange, 2),
+    ("", "exit\n", 4097, AsmFault::TooLong, 4097),
+];
+
+/// How many slots the program has that the text stands for.
+fn slots_of(alloc: Global, text: &str) -> Result<usize, AsmError> {
+    let program = assemble(alloc, text)?;
+    Ok(program.slots())
+}
+
 #[test]
 fn long_texts_are_read(rt: HostRuntime) -> Result<(), Fail> {
-    let comment = repeated(rt.alloc(), "#", 1_048_576)?;
-    expect_fault(&rt, comment.as_str(), AsmFault::Syntax, 1);
-    let numeral = repeated(rt.alloc(), "1", 100_000)?;
-    let line = format!(in rt.alloc(); "exit\nr0 = {numeral}")?;
-    expect_fault(&rt, line.as_str(), AsmFault::OutOfRange, 2);
-    let most = repeated(rt.alloc(), "exit\n", 4096)?;
-    let program = assemble(rt.alloc(), most.as_str())?;
-    assert_eq!(rt; program.slots(), 4096);
-    let more = repeated(rt.alloc(), "exit\n", 4097)?;
-    expect_fault(&rt, more.as_str(), AsmFault::TooLong, 4097);
+    for &(first, text, times, fault, line) in &LONG_TEXTS {
+        let long = repeated(rt.alloc(), first, text, times)?;
+        expect_fault(&rt, long.as_str(), fault, line);
+    }
+    let most = repeated(rt.alloc(), "", "exit\n", 4096)?;
+    expect_same(&rt, slots_of(rt.alloc(), most.as_str())?, 4096, "slots");
     Ok(())
 }

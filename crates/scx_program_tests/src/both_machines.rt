@@ -4,6 +4,7 @@ ghost use Rattle.std.specs.Prelude.{◌≡◌, IfSome};
 ghost use Rattle.scx_semantics.specs.declared.callbacks.Callback.TheVariants.{SelectCpu};
 ghost use Rattle.scx_safety.specs.Programs.{context};
 
+use crate::same::expect_same;
 use scx_asm::assemble;
 use scx_examples::OneTask;
 use scx_isa::{Callback, TaskId, flow};
@@ -69,16 +70,22 @@ fn run_plain(alloc: Global, verified: &Verified, defs: &MapDefs) -> Option<Left>
     Some(Left { done, maps, host })
 }
 
-fn run_tagged(alloc: Global, text: &str, defs: &MapDefs) -> Option<Left> {
+/// Runs the program of a text, if its flow is accepted.
+fn end_tagged(alloc: Global, text: &str, maps: &mut Maps, host: &mut OneTask) -> Option<Done> {
     let program = assemble(alloc, text).ok()?;
     flow(&program).ok()?;
-    let mut maps = Maps::new(alloc, defs).ok()?;
-    let mut host = idle_host();
     let _instructions = program.instructions();
-    match try_run(&program, Callback::SelectCpu, GIVEN, &mut maps, &mut host) {
-        Ran::Done(done) => Some(Left { done, maps, host }),
+    match try_run(&program, Callback::SelectCpu, GIVEN, maps, host) {
+        Ran::Done(done) => Some(done),
         Ran::Stuck(_) => None,
     }
+}
+
+fn run_tagged(alloc: Global, text: &str, defs: &MapDefs) -> Option<Left> {
+    let mut maps = Maps::new(alloc, defs).ok()?;
+    let mut host = idle_host();
+    let done = end_tagged(alloc, text, &mut maps, &mut host)?;
+    Some(Left { done, maps, host })
 }
 
 /// Whether both runs left the same.
@@ -150,9 +157,7 @@ impl Random {
     }
 }
 
-/// The text of a random program.
-fn random_text(alloc: Global, random: &mut Random) -> Result<String, AllocError> {
-    let mut text = String::new(alloc);
+fn push_random(text: &mut String, random: &mut Random) -> Result<(), AllocError> {
     for line in &LINES[..6] {
         text.push_str(line)?;
     }
@@ -161,21 +166,45 @@ fn random_text(alloc: Global, random: &mut Random) -> Result<String, AllocError>
         let line = (random.next() % 40) as usize;
         text.push_str(LINES[line])?;
     }
-    text.push_str("r0 = r2\nexit\n")?;
+    text.push_str("r0 = r2\nexit\n")
+}
+
+/// The text of a random program.
+fn random_text(alloc: Global, random: &mut Random) -> Result<String, AllocError> {
+    let mut text = String::new(alloc);
+    push_random(&mut text, random)?;
     Ok(text)
+}
+
+/// What the program of a text leaves, if it is accepted.
+fn left_by_plain(alloc: Global, text: &str, defs: &MapDefs) -> Option<Left> {
+    let verified = verified(alloc, text, defs)?;
+    run_plain(alloc, &verified, defs)
+}
+
+/// Whether the program of a text leaves the same on the machine with tags.
+fn is_left_by_tagged(alloc: Global, text: &str, defs: &MapDefs, plain: &Left) -> bool {
+    match run_tagged(alloc, text, defs) {
+        Some(tagged) => are_same(plain, &tagged),
+        None => false,
+    }
+}
+
+/// Whether an accepted program leaves the same on both machines.
+fn is_left_by_both(alloc: Global, text: &str, verified: &Verified, defs: &MapDefs) -> bool
+    requires { verified.now.context ≡ context SelectCpu defs.now }
+{
+    match run_plain(alloc, verified, defs) {
+        Some(plain) => is_left_by_tagged(alloc, text, defs, &plain),
+        None => false,
+    }
 }
 
 /// Whether a random program, if it is accepted, leaves the same on both machines.
 fn compare(alloc: Global, random: &mut Random, defs: &MapDefs) -> Option<bool> {
     let text = random_text(alloc, random).ok()?;
     let verified = verified(alloc, text.as_str(), defs)?;
-    let Some(plain) = run_plain(alloc, &verified, defs) else {
-        return Some(false);
-    };
-    let Some(tagged) = run_tagged(alloc, text.as_str(), defs) else {
-        return Some(false);
-    };
-    Some(are_same(&plain, &tagged))
+    Some(is_left_by_both(alloc, text.as_str(), &verified, defs))
 }
 
 #[test]
@@ -191,16 +220,14 @@ fn random_programs_leave_the_same(rt: HostRuntime) {
             }
         }
     }
-    assert_eq!(rt; compared, COMPARED);
+    expect_same(&rt, compared, COMPARED, "compared");
 }
 
-/// What a program leaves, if it is accepted and leaves the same on both machines.
-fn left_by_both(alloc: Global, text: &str, defs: &MapDefs) -> Option<Left> {
-    let verified = verified(alloc, text, defs)?;
-    let plain = run_plain(alloc, &verified, defs)?;
-    let tagged = run_tagged(alloc, text, defs)?;
-    if are_same(&plain, &tagged) {
-        Some(plain)
+/// How a program ends, if it is accepted and leaves the same on both machines.
+fn done_by_both(alloc: Global, text: &str, defs: &MapDefs) -> Option<Done> {
+    let plain = left_by_plain(alloc, text, defs)?;
+    if is_left_by_tagged(alloc, text, defs, &plain) {
+        Some(plain.done)
     } else {
         None
     }
@@ -209,9 +236,9 @@ fn left_by_both(alloc: Global, text: &str, defs: &MapDefs) -> Option<Left> {
 /// Runs the program of a text on both machines, which leave the same, and compares its answer and steps.
 fn expect<R: AllocGlobal + Abort>(rt: &R, text: &str, wanted: &str) -> Result<(), Fail> {
     let defs = MapDefs::new(&SHAPES).expect(rt, "the map is within the limits");
-    let left = left_by_both(rt.alloc(), text, &defs).expect(rt, "both machines leave the same");
-    let found = format!(in rt.alloc(); "{} in {} steps", left.done.r0, left.done.steps)?;
-    assert_eq!(rt; found.as_str(), wanted);
+    let done = done_by_both(rt.alloc(), text, &defs).expect(rt, "both machines leave the same");
+    let found = format!(in rt.alloc(); "{} in {} steps", done.r0, done.steps)?;
+    expect_same(rt, found.as_str(), wanted, text);
     Ok(())
 }
 

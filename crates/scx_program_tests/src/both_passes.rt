@@ -2,10 +2,12 @@
 //! the same slot, or not at all.
 
 use crate::both_machines::{LINES, Random, SHAPES};
+use crate::same::expect_same;
+use crate::verdicts::program_of;
 use scx_abs::{AbsState, Context, Why, join, start, transfer};
 use scx_asm::assemble;
-use scx_examples::{EXIT, bytes_of};
-use scx_isa::{Callback, Insn, Program, decode, flow};
+use scx_examples::EXIT;
+use scx_isa::{Callback, Insn, Program, flow};
 use scx_maps::MapDefs;
 use scx_verify::{Fault, verify};
 use std::alloc::{AllocError, Global};
@@ -95,7 +97,7 @@ fn compare<R: AllocGlobal + Abort>(rt: &R, program: Program, context: &Context) 
     flow(&program).ok()?;
     let wanted = by_slots(rt.alloc(), &program, context).expect(rt, "there is memory");
     let found = by_verify(rt.alloc(), program, context).expect(rt, "there is memory");
-    assert_eq!(rt; found, wanted);
+    expect_same(rt, found, wanted, "both passes");
     Some(found)
 }
 
@@ -119,9 +121,7 @@ const MORE: [&str; 16] = [
     "r8 = r9\n",
 ];
 
-/// The text of a random program, which has room for jumps at its end.
-pub(crate) fn random_text(alloc: Global, random: &mut Random) -> Result<String, AllocError> {
-    let mut text = String::new(alloc);
+fn push_random(text: &mut String, random: &mut Random) -> Result<(), AllocError> {
     for line in &LINES[..6] {
         text.push_str(line)?;
     }
@@ -134,8 +134,25 @@ pub(crate) fn random_text(alloc: Global, random: &mut Random) -> Result<String, 
         };
         text.push_str(line)?;
     }
-    text.push_str("r0 = 0\nr0 = 1\nr0 = 2\nr0 = 3\nr0 = 4\nr0 = 5\nr0 = 6\nr0 = 7\nexit\n")?;
+    text.push_str("r0 = 0\nr0 = 1\nr0 = 2\nr0 = 3\nr0 = 4\nr0 = 5\nr0 = 6\nr0 = 7\nexit\n")
+}
+
+/// The text of a random program, which has room for jumps at its end.
+pub(crate) fn random_text(alloc: Global, random: &mut Random) -> Result<String, AllocError> {
+    let mut text = String::new(alloc);
+    push_random(&mut text, random)?;
     Ok(text)
+}
+
+/// The verdict of both on the next random program.
+fn compare_random<R: AllocGlobal + Abort>(
+    rt: &R,
+    random: &mut Random,
+    context: &Context,
+) -> Result<Verdict, AllocError> {
+    let text = random_text(rt.alloc(), random)?;
+    let program = assemble(rt.alloc(), text.as_str()).expect(rt, "it is a program");
+    Ok(compare(rt, program, context))
 }
 
 #[test]
@@ -150,37 +167,44 @@ fn random_programs_are_judged_alike(rt: HostRuntime) -> Result<(), Fail> {
     let mut accepted = 0u32;
     for _ in 0..2 * COMPARED {
         if compared < COMPARED {
-            let text = random_text(rt.alloc(), &mut random)?;
-            let program = assemble(rt.alloc(), text.as_str()).expect(&rt, "it is a program");
-            if let Some(verdict) = compare(&rt, program, &context) {
+            if let Some(verdict) = compare_random(&rt, &mut random, &context)? {
                 compared = compared.wrapping_add(1);
                 accepted = accepted.wrapping_add(u32::from(verdict.is_none()));
             }
         }
     }
-    assert_eq!(rt; compared, COMPARED);
+    expect_same(&rt, compared, COMPARED, "compared");
     // Of both kinds there are thousands.
     assert!(&rt; accepted > 5000);
     assert!(&rt; accepted < 95_000);
     Ok(())
 }
 
-/// A program of 4096 slots, as the benchmark verifies it: the slots over and over.
-fn expect_accepted<R: AllocGlobal + Abort>(rt: &R, body: &[u64]) -> Result<(), Fail> {
-    let mut slots = vec![in rt.alloc(); 0xb700_0000_0700_0000, 0xb701_0000_0300_0000]?;
+/// The slots of a program of 4096, as the benchmark verifies it: those of the body over and over.
+fn push_slots(slots: &mut Vec<u64>, body: &[u64]) -> Result<(), AllocError> {
+    slots.extend_from_slice(&[0xb700_0000_0700_0000, 0xb701_0000_0300_0000])?;
     for _ in 0..4096 {
         if slots.len().saturating_add(body.len()) < 4096 {
             slots.extend_from_slice(body)?;
         }
     }
     slots.push(EXIT)?;
-    let bytes = bytes_of(rt.alloc(), slots.as_slice())?;
-    let program = decode(rt.alloc(), bytes.as_slice()).expect(rt, "the slots spell a program");
+    Ok(())
+}
+
+fn long_program(alloc: Global, body: &[u64]) -> Result<Program, Fail> {
+    let mut slots = Vec::new(alloc);
+    push_slots(&mut slots, body)?;
+    program_of(alloc, slots.as_slice())
+}
+
+fn expect_accepted<R: AllocGlobal + Abort>(rt: &R, body: &[u64]) -> Result<(), Fail> {
+    let program = long_program(rt.alloc(), body)?;
     let context = Context {
         callback: Callback::Plain,
         defs: MapDefs::none(),
     };
-    assert_eq!(rt; compare(rt, program, &context), Some(None));
+    expect_same(rt, compare(rt, program, &context), Some(None), body);
     Ok(())
 }
 

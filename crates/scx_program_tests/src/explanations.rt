@@ -3,6 +3,7 @@
 
 use crate::both_machines::{Random, SHAPES};
 use crate::both_passes::random_text;
+use crate::same::expect_same;
 use scx_abs::Context;
 use scx_asm::assemble;
 use scx_explanations::{Explanation, Listing, explanation_of};
@@ -17,16 +18,24 @@ const EXPLAINED: u32 = 300;
 
 /// The way of an explanation goes from the first slot to the refused one.
 fn expect_way<R: AllocGlobal + Abort>(rt: &R, explanation: &Explanation, slot: usize) {
-    assert_eq!(rt; explanation.slot, slot);
+    expect_same(rt, explanation.slot, slot, "the refused slot");
     let trail = explanation
         .trail
         .as_ref()
         .expect(rt, "the pass came to the slot");
     let first = trail.legs.last().expect(rt, "there is a leg");
     let last = trail.legs.first().expect(rt, "there is a leg");
-    assert_eq!(rt; first.first, 0);
-    assert_eq!(rt; last.last, slot);
+    expect_same(rt, first.first, 0, "the first slot");
+    expect_same(rt, last.last, slot, "the last slot");
     assert!(rt; trail.legs.iter().all(|leg| leg.first <= leg.last));
+}
+
+/// The listing ends at the refused slot.
+fn expect_end(rt: &impl Abort, listing: &Listing, error: VerifyError) {
+    let slot = error.slot;
+    assert!(rt; matches!(error.fault, Fault::Rule(_)));
+    assert!(rt; listing.is_looked_at(slot));
+    assert!(rt; !listing.is_looked_at(slot.wrapping_add(1)));
 }
 
 /// The listing ends at the refused slot, and there is a reason.
@@ -36,9 +45,7 @@ fn expect_refusal<R: AllocGlobal + Abort>(
     error: VerifyError,
 ) -> Result<(), Fail> {
     let slot = error.slot;
-    assert!(rt; matches!(error.fault, Fault::Rule(_)));
-    assert!(rt; listing.is_looked_at(slot));
-    assert!(rt; !listing.is_looked_at(slot.wrapping_add(1)));
+    expect_end(rt, listing, error);
     let explanation = explanation_of(rt.alloc(), listing, error.fault, slot)?;
     let explanation = explanation.expect(rt, "there is a reason");
     expect_way(rt, &explanation, slot);

@@ -21,6 +21,8 @@ mod refusals;
 #[cfg(test)]
 mod runs;
 #[cfg(test)]
+mod same;
+#[cfg(test)]
 mod verdicts;
 #[cfg(test)]
 mod verifying;

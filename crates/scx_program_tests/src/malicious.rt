@@ -2,6 +2,7 @@
 //! bytes from a fixed generator. Whatever they are, they get an answer, and what is decoded is encoded
 //! to the same bytes.
 
+use crate::same::expect_same;
 use crate::verdicts::expect;
 use scx_asm::assemble;
 use scx_examples::{DISPATCH, ENABLE, ENQUEUE, INIT, RUNNING, STOPPING};
@@ -56,7 +57,7 @@ fn judge_beginnings<R: AllocGlobal + Abort>(rt: &R, text: &str, callback: Callba
     let code = code_of(rt.alloc(), text).expect(rt, "the text stands for a program");
     for length in 0..=code.len() {
         let accepted = judge(rt.alloc(), &defs, &code.as_slice()[..length], callback);
-        assert_eq!(rt; accepted, Some(length == code.len()), "{length} bytes");
+        expect_same(rt, accepted, Some(length == code.len()), length);
     }
 }
 
@@ -76,7 +77,7 @@ fn change_each_byte<R: AllocGlobal + Abort>(rt: &R, text: &str, callback: Callba
         for value in 0..=255u8 {
             code[place] = value;
             let judged = judge(rt.alloc(), &defs, code.as_slice(), callback);
-            assert!(rt; judged.is_some(), "byte {place} is {value}");
+            expect_same(rt, judged.is_some(), true, (place, value));
         }
         code[place] = meant;
     }
@@ -127,7 +128,7 @@ fn any_bytes_are_judged(rt: HostRuntime) -> Result<(), Fail> {
     for walk in 0..10_000 {
         let bytes = bytes_of_walk(rt.alloc(), &mut state)?;
         let judged = judge(rt.alloc(), &defs, bytes.as_slice(), Callback::Plain);
-        assert!(rt; judged.is_some(), "walk {walk}");
+        expect_same(&rt, judged.is_some(), true, walk);
     }
     Ok(())
 }

@@ -1,5 +1,6 @@
 //! Tests of programs and their bytes: of `scx_isa`'s public calls.
 
+use crate::same::expect_same;
 use scx_isa::{
     DecodeError, DecodeFault, Exclusion, Insn, Operand, Operation, Program, Register, Width,
     decode, encode,
@@ -101,13 +102,13 @@ fn is_signed_modulo(insn: Option<Insn>) -> bool {
 #[test]
 fn what_is_written_is_read_back(rt: HostRuntime) -> Result<(), Fail> {
     let program = decode(rt.alloc(), &PROGRAM)?;
-    assert_eq!(rt; program.slots(), 6);
-    assert_eq!(rt; program.instructions(), 6);
+    expect_same(&rt, program.slots(), 6, "slots");
+    expect_same(&rt, program.instructions(), 6, "instructions");
     assert!(rt; is_signed_modulo(program.at(2)));
     assert!(rt; matches!(program.at(4), Some(Insn::Goto(0))));
     assert!(rt; program.at(6).is_none());
     let bytes = encode(rt.alloc(), &program)?;
-    assert_eq!(rt; bytes.as_slice(), PROGRAM.as_slice());
+    expect_same(&rt, bytes.as_slice(), PROGRAM.as_slice(), "bytes");
     Ok(())
 }
 
@@ -133,7 +134,7 @@ fn expect_fates<R: AllocGlobal + Abort>(rt: &R, first: u8, fates: &str) {
     let mut opcode = first;
     for wanted in fates.chars() {
         let found = fate(rt, &[opcode, 0, 0, 0, 0, 0, 0, 0]);
-        assert_eq!(rt; found, wanted, "opcode {opcode:02x}");
+        expect_same(rt, found, wanted, opcode);
         opcode = opcode.wrapping_add(1);
     }
 }
@@ -142,7 +143,7 @@ fn expect_fates<R: AllocGlobal + Abort>(rt: &R, first: u8, fates: &str) {
 fn every_opcode_is_known(rt: HostRuntime) {
     let mut opcode: u8 = 0;
     for fates in &OPCODES {
-        assert_eq!(rt; fates.len(), 16);
+        expect_same(&rt, fates.len(), 16, opcode);
         expect_fates(&rt, opcode, fates);
         opcode = opcode.wrapping_add(16);
     }
@@ -158,7 +159,7 @@ fn fault<R: AllocGlobal + Abort>(rt: &R, slot: &[u8]) -> Option<DecodeFault> {
 
 /// Expects a slot with these fields to be refused so.
 fn expect_fault<R: AllocGlobal + Abort>(rt: &R, slot: [u8; 8], wanted: Option<DecodeFault>) {
-    assert_eq!(rt; fault(rt, &slot), wanted, "{slot:?}");
+    expect_same(rt, fault(rt, &slot), wanted, slot);
 }
 
 /// The fault of a field with a wrong value, where the field is used and where it isn't.
@@ -258,8 +259,8 @@ const SECOND_SLOTS: [(u8, u8, u8, u8, Option<usize>); 7] = [
 
 /// Expects bytes to be read as one instruction of two slots.
 fn expect_wide(rt: &impl Abort, program: &Program) {
-    assert_eq!(rt; program.slots(), 2);
-    assert_eq!(rt; program.instructions(), 1);
+    expect_same(rt, program.slots(), 2, "slots");
+    expect_same(rt, program.instructions(), 1, "instructions");
     assert!(rt; program.at(1).is_none());
 }
 
@@ -267,12 +268,12 @@ fn expect_wide(rt: &impl Abort, program: &Program) {
 fn expect_slot<R: AllocGlobal + Abort>(rt: &R, bytes: &[u8], wanted: Option<usize>) {
     match decode(rt.alloc(), bytes) {
         Ok(program) => {
-            assert_eq!(rt; wanted, None);
+            expect_same(rt, wanted, None, bytes);
             expect_wide(rt, &program);
         }
         Err(DecodeError::Refused { fault, slot }) => {
-            assert_eq!(rt; fault, DecodeFault::UnusedField);
-            assert_eq!(rt; Some(slot), wanted);
+            expect_same(rt, fault, DecodeFault::UnusedField, bytes);
+            expect_same(rt, Some(slot), wanted, bytes);
         }
         Err(DecodeError::OutOfMemory) => assert!(rt; false),
     }
@@ -325,6 +326,6 @@ const FAULTS: [([u8; 8], DecodeFault); 15] = [
 fn faults_are_named(rt: HostRuntime) {
     for &(slot, fault) in &FAULTS {
         let refused = DecodeError::Refused { fault, slot: 0 };
-        assert_eq!(rt; decode(rt.alloc(), &slot).err(), Some(refused), "{slot:?}");
+        expect_same(&rt, decode(rt.alloc(), &slot).err(), Some(refused), slot);
     }
 }

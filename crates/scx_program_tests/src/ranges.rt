@@ -1,17 +1,26 @@
 //! Ranges of worked programs: what is known of a number behind a mask, a comparison or a shift, and
 //! which accesses then reach an element of 64 bytes at each of its offsets.
 
+use crate::same::expect_same;
 use scx_ranges::{Numbers, Offsets, Range};
 use scx_semantics::{Comparison, Operation, Size, Width};
-use std::process::Abort;
-use std::test::Fail;
 
 /// How many bytes the element has.
 const VALUE_SIZE: u16 = 64;
 
-/// The multiples of two to the power of `shift` between both.
-fn range(low: u64, high: u64, shift: u8) -> Range {
-    Range { low, high, shift }
+const LEAVES: &str = "the sum leaves the element";
+
+/// A number of which nothing is known, and what a program makes of it.
+#[derive(Clone, Copy, Drop)]
+enum Origin {
+    /// Masked.
+    Masked(u64),
+    /// Shifted to the left by 3.
+    Eightfold,
+    /// The same, behind a test that it isn't above a bound.
+    EightfoldUpTo(u64),
+    /// The same, behind a test that it is above a bound.
+    EightfoldAbove(u64),
 }
 
 /// What 64-bit arithmetic with a number in the text makes of numbers.
@@ -19,31 +28,22 @@ fn by(numbers: Numbers, operation: Operation, operand: u64) -> Numbers {
     numbers.computed(Width::Bits64, operation, Numbers::single(operand))
 }
 
-/// Any number, masked.
-fn masked(mask: u64) -> Numbers {
-    by(Numbers::all(), Operation::And, mask)
-}
-
-/// Any number that isn't above a bound, shifted to the left by 3.
-fn eightfold(bound: u64) -> Numbers {
-    match Numbers::all().cut(Comparison::Greater, false, bound) {
-        Some(numbers) => by(numbers, Operation::ShiftLeft, 3),
-        None => Numbers::all(),
-    }
-}
-
-/// Any number above a bound, shifted to the left by 3.
-fn eightfold_above(bound: u64) -> Numbers {
-    match Numbers::all().cut(Comparison::LessOrEqual, false, bound) {
-        Some(numbers) => by(numbers, Operation::ShiftLeft, 3),
-        None => Numbers::single(0),
-    }
+/// What is known of the number; none where no number passes the test.
+fn made(how: Origin) -> Option<Numbers> {
+    let all = Numbers::all();
+    let tested = match how {
+        Origin::Masked(mask) => return Some(by(all, Operation::And, mask)),
+        Origin::Eightfold => Some(all),
+        Origin::EightfoldUpTo(bound) => all.cut(Comparison::Greater, false, bound),
+        Origin::EightfoldAbove(bound) => all.cut(Comparison::LessOrEqual, false, bound),
+    };
+    Some(by(tested?, Operation::ShiftLeft, 3))
 }
 
 /// What becomes of an access to the element at the number.
 fn access(numbers: Numbers, size: Size) -> &'static str {
     match Offsets::single(0).advanced(VALUE_SIZE, numbers) {
-        None => "the sum leaves the element",
+        None => LEAVES,
         Some(offsets) => access_at(offsets, size),
     }
 }
@@ -58,40 +58,57 @@ fn access_at(offsets: Offsets, size: Size) -> &'static str {
     }
 }
 
+/// What is known of each number: the multiples of two to the power of the shift, between both; and what
+/// becomes of an access there.
+const NUMBERS: [(Origin, (u64, u64, u8), Size, &str); 10] = [
+    (Origin::Masked(56), (0, 56, 3), Size::DoubleWord, "fine"),
+    (
+        Origin::Masked(63),
+        (0, 63, 0),
+        Size::DoubleWord,
+        "out of bounds",
+    ),
+    (Origin::Masked(63), (0, 63, 0), Size::Byte, "fine"),
+    (Origin::Masked(60), (0, 60, 2), Size::Word, "fine"),
+    (
+        Origin::Masked(28),
+        (0, 28, 2),
+        Size::DoubleWord,
+        "misaligned",
+    ),
+    (Origin::Masked(127), (0, 127, 0), Size::DoubleWord, LEAVES),
+    (
+        Origin::EightfoldUpTo(7),
+        (0, 56, 3),
+        Size::DoubleWord,
+        "fine",
+    ),
+    (
+        Origin::EightfoldUpTo(8),
+        (0, 64, 3),
+        Size::DoubleWord,
+        "out of bounds",
+    ),
+    (
+        Origin::EightfoldAbove(7),
+        (0, u64::MAX, 0),
+        Size::DoubleWord,
+        LEAVES,
+    ),
+    (
+        Origin::Eightfold,
+        (0, u64::MAX, 0),
+        Size::DoubleWord,
+        LEAVES,
+    ),
+];
+
 #[test]
-fn an_element_is_reached_at_a_checked_number(rt: HostRuntime) -> Result<(), Fail> {
-    let all = range(0, 18_446_744_073_709_551_615, 0);
-    let leaves = "the sum leaves the element";
-    let rows = [
-        (masked(56), range(0, 56, 3), Size::DoubleWord, "fine"),
-        (
-            masked(63),
-            range(0, 63, 0),
-            Size::DoubleWord,
-            "out of bounds",
-        ),
-        (masked(63), range(0, 63, 0), Size::Byte, "fine"),
-        (masked(60), range(0, 60, 2), Size::Word, "fine"),
-        (masked(28), range(0, 28, 2), Size::DoubleWord, "misaligned"),
-        (masked(127), range(0, 127, 0), Size::DoubleWord, leaves),
-        (eightfold(7), range(0, 56, 3), Size::DoubleWord, "fine"),
-        (
-            eightfold(8),
-            range(0, 64, 3),
-            Size::DoubleWord,
-            "out of bounds",
-        ),
-        (eightfold_above(7), all, Size::DoubleWord, leaves),
-        (
-            by(Numbers::all(), Operation::ShiftLeft, 3),
-            all,
-            Size::DoubleWord,
-            leaves,
-        ),
-    ];
-    for (numbers, wanted, size, verdict) in rows {
-        assert!(rt; numbers.range() == wanted);
-        assert_eq!(rt; access(numbers, size), verdict);
+fn an_element_is_reached_at_a_checked_number(rt: HostRuntime) {
+    for (row, &(how, known, size, verdict)) in NUMBERS.iter().enumerate() {
+        let numbers = made(how).expect(&rt, "some numbers pass the test");
+        let Range { low, high, shift } = numbers.range();
+        let found = ((low, high, shift), access(numbers, size));
+        expect_same(&rt, found, (known, verdict), row);
     }
-    Ok(())
 }

@@ -1,5 +1,6 @@
 //! Runs of callbacks over a host of one task and a map of one number.
 
+use crate::same::expect_same;
 use scx_asm::assemble;
 use scx_examples::{DISPATCH, ENABLE, ENQUEUE, INIT, OneTask, RUNNING, STOPPING};
 use scx_isa::{Callback, Helper, TaskId, flow};
@@ -82,18 +83,28 @@ fn number_in(maps: &Maps) -> Option<u64> {
 /// it leaves there.
 type Row<'a> = (&'a str, Callback, Args, u64, &'a str);
 
+/// How the program of a row runs over a map of its number.
+fn outcome_of<R: AllocGlobal + Abort>(
+    rt: &R,
+    host: &mut OneTask,
+    row: &Row<'_>,
+) -> Result<String, AllocError> {
+    let &(text, callback, arguments, number, _) = row;
+    let mut maps = map_of(rt.alloc(), number).expect(rt, "there is memory");
+    let ran = run(rt.alloc(), text, callback, arguments, &mut maps, host);
+    let left = number_in(&maps).expect(rt, "the map keeps its shape");
+    outcome(rt.alloc(), ran, left)
+}
+
 /// Runs the programs one after another over maps of one number.
 fn expect<R: AllocGlobal + Abort>(
     rt: &R,
     host: &mut OneTask,
     rows: &[Row<'_>],
 ) -> Result<(), Fail> {
-    for &(text, callback, arguments, number, wanted) in rows {
-        let mut maps = map_of(rt.alloc(), number).expect(rt, "there is memory");
-        let ran = run(rt.alloc(), text, callback, arguments, &mut maps, host);
-        let left = number_in(&maps).expect(rt, "the map keeps its shape");
-        let found = outcome(rt.alloc(), ran, left)?;
-        assert_eq!(rt; found.as_str(), wanted, "{text}");
+    for row in rows {
+        let found = outcome_of(rt, host, row)?;
+        expect_same(rt, found.as_str(), row.4, row.0);
     }
     Ok(())
 }
@@ -113,10 +124,7 @@ fn outcome(alloc: Global, ran: Option<Ran>, left: u64) -> Result<String, AllocEr
 fn expect_call(rt: &impl Abort, host: &OneTask, helper: Helper, given: &[Arg]) {
     assert!(rt; host.called == Some(helper));
     for (number, argument) in given.iter().enumerate() {
-        assert!(rt;
-            host.given.get(number) == Some(argument),
-            "argument {number}"
-        );
+        expect_same(rt, host.given.get(number), Some(argument), number);
     }
 }
 
@@ -155,31 +163,27 @@ const GIVEN_TO_ENQUEUE: [Arg; 5] = [
     Arg::Unset,
 ];
 
+const LATER_TIMES: [Row<'_>; 3] = [
+    (RUNNING, Callback::Running, ONE, 100, "0 in 14 steps, 1000"),
+    (RUNNING, Callback::Running, ONE, 2000, "0 in 13 steps, 2000"),
+    (ENABLE, Callback::Enable, ONE, 777, "0 in 10 steps, 777"),
+];
+
 #[test]
 fn the_later_time_is_kept(rt: HostRuntime) -> Result<(), Fail> {
     let mut host = idle_host();
-    expect(
-        &rt,
-        &mut host,
-        &[
-            (RUNNING, Callback::Running, ONE, 100, "0 in 14 steps, 1000"),
-            (RUNNING, Callback::Running, ONE, 2000, "0 in 13 steps, 2000"),
-            (ENABLE, Callback::Enable, ONE, 777, "0 in 10 steps, 777"),
-        ],
-    )?;
-    assert_eq!(&rt; host.vtime, 777);
+    expect(&rt, &mut host, &LATER_TIMES)?;
+    expect_same(&rt, host.vtime, 777, "vtime");
     Ok(())
 }
+
+const CHARGED: [Row<'_>; 1] = [(STOPPING, Callback::Stopping, ONE, 9, "0 in 10 steps, 9")];
 
 #[test]
 fn a_task_is_charged_by_weight(rt: HostRuntime) -> Result<(), Fail> {
     let mut host = idle_host();
-    expect(
-        &rt,
-        &mut host,
-        &[(STOPPING, Callback::Stopping, ONE, 9, "0 in 10 steps, 9")],
-    )?;
-    assert_eq!(&rt; host.vtime, 30_001_000);
+    expect(&rt, &mut host, &CHARGED)?;
+    expect_same(&rt, host.vtime, 30_001_000, "vtime");
     Ok(())
 }
 
@@ -207,31 +211,69 @@ fn expect_as_init<R: AllocGlobal + Abort>(
     )
 }
 
+const BEHIND_A_LOOKUP: [(&str, &str); 6] = [
+    // An element is no number to answer.
+    ("", "stuck at 6, 777"),
+    ("r0 = *(u64 *)(r0 + 0)\n", "777 in 7 steps, 777"),
+    // The pointer comes back whole from the stack, and not where a number was written over it.
+    (
+        "*(u64 *)(r10 - 16) = r0\nr1 = *(u64 *)(r10 - 16)\nr0 = *(u64 *)(r1 + 0)\n",
+        "777 in 9 steps, 777",
+    ),
+    (
+        "*(u64 *)(r10 - 16) = r0\n*(u8 *)(r10 - 9) = 5\nr1 = *(u64 *)(r10 - 16)\n",
+        "stuck at 8, 777",
+    ),
+    // A store changes its bytes alone, and past the element it is stuck.
+    (
+        "*(u16 *)(r0 + 2) = -1\nr0 = 0\n",
+        "0 in 8 steps, 4294902537",
+    ),
+    ("*(u16 *)(r0 + 8) = -1\nr0 = 0\n", "stuck at 6, 777"),
+];
+
 #[test]
 fn an_element_is_looked_up_and_spilled(rt: HostRuntime) -> Result<(), Fail> {
-    expect_behind(
-        &rt,
-        &[
-            // An element is no number to answer.
-            ("", "stuck at 6, 777"),
-            ("r0 = *(u64 *)(r0 + 0)\n", "777 in 7 steps, 777"),
-            // The pointer comes back whole from the stack, and not where a number was written over it.
-            (
-                "*(u64 *)(r10 - 16) = r0\nr1 = *(u64 *)(r10 - 16)\nr0 = *(u64 *)(r1 + 0)\n",
-                "777 in 9 steps, 777",
-            ),
-            (
-                "*(u64 *)(r10 - 16) = r0\n*(u8 *)(r10 - 9) = 5\nr1 = *(u64 *)(r10 - 16)\n",
-                "stuck at 8, 777",
-            ),
-            // A store changes its bytes alone, and past the element it is stuck.
-            (
-                "*(u16 *)(r0 + 2) = -1\nr0 = 0\n",
-                "0 in 8 steps, 4294902537",
-            ),
-            ("*(u16 *)(r0 + 8) = -1\nr0 = 0\n", "stuck at 6, 777"),
-        ],
-    )
+    expect_behind(&rt, &BEHIND_A_LOOKUP)
+}
+
+/// What adds to a pointer into the element in r0, and how that ends. The least byte of 777 is 9, and the next 3.
+const ADDED: [(&str, &str); 14] = [
+    // It stays in the element, or comes to its end.
+    (
+        "r1 = 1\nr0 += r1\nr0 = *(u8 *)(r0 + 0)\n",
+        "3 in 9 steps, 777",
+    ),
+    (
+        "r1 = 8\nr0 += r1\nr0 = *(u8 *)(r0 - 8)\n",
+        "9 in 9 steps, 777",
+    ),
+    (
+        "r1 = 8\nr0 += r1\nr0 = *(u8 *)(r0 + 0)\n",
+        "stuck at 8, 777",
+    ),
+    // Not past its end, also in two steps; nor back, by a number that is above all offsets.
+    ("r1 = 9\nr0 += r1\nr0 = 0\n", "stuck at 7, 777"),
+    (
+        "r0 += 4\nr1 = 4\nr0 += r1\nr0 = *(u8 *)(r0 - 7)\n",
+        "3 in 10 steps, 777",
+    ),
+    ("r0 += 4\nr1 = 5\nr0 += r1\nr0 = 0\n", "stuck at 8, 777"),
+    ("r0 += 4\nr1 = -4\nr0 += r1\nr0 = 0\n", "stuck at 8, 777"),
+    // No other operation, no half of it, and no other order.
+    ("r1 = 0\nr0 -= r1\nr0 = 0\n", "stuck at 7, 777"),
+    ("r1 = 0\nw0 += w1\nr0 = 0\n", "stuck at 7, 777"),
+    ("r1 = 0\nr1 += r0\nr0 = 0\n", "stuck at 7, 777"),
+    // Neither to a pointer into something else, nor what is no number.
+    ("r1 = 0\nr2 = r10\nr2 += r1\nr0 = 0\n", "stuck at 8, 777"),
+    ("r1 = 0\nr2 = map 0\nr2 += r1\nr0 = 0\n", "stuck at 9, 777"),
+    ("r0 += r0\nr0 = 0\n", "stuck at 6, 777"),
+    ("r0 += r1\nr0 = 0\n", "stuck at 6, 777"),
+];
+
+#[test]
+fn a_number_is_added_to_a_pointer_into_an_element(rt: HostRuntime) -> Result<(), Fail> {
+    expect_behind(&rt, &ADDED)
 }
 
 #[test]
@@ -280,8 +322,8 @@ fn fields_are_stored_to(rt: HostRuntime) -> Result<(), Fail> {
             ("call 6\nexit", Callback::Init, ONE, 9, "stuck at 0, 9"),
         ],
     )?;
-    assert_eq!(&rt; host.slice, 7);
-    assert_eq!(&rt; host.weight, 50);
+    expect_same(&rt, host.slice, 7, "slice");
+    expect_same(&rt, host.weight, 50, "weight");
     assert!(&rt; host.called == None);
     Ok(())
 }

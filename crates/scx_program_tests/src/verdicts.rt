@@ -1,5 +1,7 @@
+use crate::same::expect_same;
 use scx_asm::assemble;
-use scx_isa::{Callback, Program};
+use scx_examples::bytes_of;
+use scx_isa::{Callback, Program, decode};
 use scx_maps::{MapDefs, Shape};
 use scx_verify::verify;
 use std::alloc::{AllocError, Global};
@@ -11,6 +13,13 @@ const CLOCK: [Shape; 1] = [Shape {
     entries: 1,
     value_size: 8,
 }];
+
+/// The program of these slots.
+pub(crate) fn program_of(alloc: Global, slots: &[u64]) -> Result<Program, Fail> {
+    let bytes = bytes_of(alloc, slots)?;
+    let program = decode(alloc, &bytes)?;
+    Ok(program)
+}
 
 /// What is said of a program for a callback.
 pub(crate) fn verdict(
@@ -25,6 +34,17 @@ pub(crate) fn verdict(
     }
 }
 
+fn verdict_of_text(
+    alloc: Global,
+    text: &str,
+    callback: Callback,
+    defs: &MapDefs,
+) -> Result<String, Fail> {
+    let program = assemble(alloc, text)?;
+    let found = verdict(alloc, program, callback, defs)?;
+    Ok(found)
+}
+
 /// Verifies programs for callbacks, with one map of one element of eight bytes, and compares the verdicts.
 pub(crate) fn expect<R: AllocGlobal + Abort>(
     rt: &R,
@@ -32,9 +52,8 @@ pub(crate) fn expect<R: AllocGlobal + Abort>(
 ) -> Result<(), Fail> {
     let defs = MapDefs::new(&CLOCK)?;
     for &(callback, text, wanted) in rows {
-        let program = assemble(rt.alloc(), text)?;
-        let found = verdict(rt.alloc(), program, callback, &defs)?;
-        assert_eq!(rt; found.as_str(), wanted, "{text}");
+        let found = verdict_of_text(rt.alloc(), text, callback, &defs)?;
+        expect_same(rt, found.as_str(), wanted, text);
     }
     Ok(())
 }

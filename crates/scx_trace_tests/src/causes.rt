@@ -1,9 +1,8 @@
 //! The policies of docs/EJECTION.md, each for one cause, and what of their traces says that they are ejected.
 
-use crate::memory::Memory;
+use crate::commands::{Command, written};
+use crate::same::expect_same;
 use crate::texts::TWO_TASKS;
-use scx_output::Counted;
-use scx_simulation::simulate;
 use std::process::Abort;
 
 /// Each with the line of its ejection.
@@ -75,20 +74,18 @@ code.enqueue = "r2 = 9223372036854775809 ll\nr3 = 18446744073709551615 ll\nr4 = 
     ),
 ];
 
-/// The lines of the trace in which somebody is ejected.
+/// One line of the trace says that the policy is ejected, and it is this.
 fn expect<R: AllocGlobal + Abort>(rt: &R, policy: &str, wanted: &str) {
-    let mut trace = Memory::new(rt.alloc());
-    let done = simulate(rt.alloc(), policy, TWO_TASKS, &mut Counted::new(&mut trace));
-    assert_eq!(rt; done, Ok(true), "{policy}");
+    let trace = written(rt, Command::Run, policy, TWO_TASKS);
     let text = str::from_utf8(trace.bytes.as_slice()).expect(rt, "a trace is text");
     let mut found = 0_u32;
     for line in text.lines() {
         if line.find("eject").is_some() {
-            assert_eq!(rt; line, wanted, "{policy}");
+            expect_same(rt, line, wanted, policy);
             found = found.saturating_add(1);
         }
     }
-    assert_eq!(rt; found, 1, "{policy}");
+    expect_same(rt, found, 1, policy);
 }
 
 #[test]

@@ -5,6 +5,8 @@
 #[cfg(test)]
 mod causes;
 #[cfg(test)]
+mod commands;
+#[cfg(test)]
 mod ejections;
 #[cfg(test)]
 mod failures;
@@ -18,6 +20,8 @@ mod memory;
 mod refusals;
 #[cfg(test)]
 mod runs;
+#[cfg(test)]
+mod same;
 #[cfg(test)]
 mod texts;
 #[cfg(test)]

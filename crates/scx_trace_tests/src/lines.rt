@@ -1,6 +1,7 @@
 //! The line of each note.
 
 use crate::memory::Memory;
+use crate::same::expect_same;
 use crate::texts::TWO_TASKS;
 use scx_output::Counted;
 use scx_sched::{Fault, Note, Sink, What};
@@ -14,7 +15,7 @@ fn expect<R: AllocGlobal + Abort>(rt: &R, names: &Workload, note: Note, line: &s
     let mut trace = Trace::new(names, &mut out);
     trace.take(note);
     assert!(rt; !trace.failed());
-    assert_eq!(rt; memory.bytes.as_slice(), line.as_bytes());
+    expect_same(rt, memory.bytes.as_slice(), line.as_bytes(), line);
 }
 
 /// A clock, what is noted then, and its line.

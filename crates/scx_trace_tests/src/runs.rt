@@ -1,41 +1,50 @@
 //! Traces and reports of whole runs.
 
-use crate::memory::Memory;
+use crate::commands::{Command, written};
+use crate::same::expect_same;
 use crate::texts::{
     CHANGE, ENDLESS_SLICES, FIVE_MS, HOLDS, SHORT_SLICES, SLEEPER, STAYS, TWO_CPUS, TWO_TASKS,
 };
-use scx_output::Counted;
-use scx_simulation::{report, simulate};
 use std::process::Abort;
 
-fn expect_trace<R: AllocGlobal + Abort>(rt: &R, policy: &str, workload: &str, wanted: &str) {
-    let mut trace = Memory::new(rt.alloc());
-    let done = simulate(rt.alloc(), policy, workload, &mut Counted::new(&mut trace));
-    assert_eq!(rt; done, Ok(true));
-    assert_eq!(rt; trace.bytes.as_slice(), wanted.as_bytes());
+/// A policy and a workload, and the trace and the report of their run.
+#[derive(Clone, Copy)]
+pub(crate) struct Run {
+    pub(crate) name: &'static str,
+    pub(crate) policy: &'static str,
+    pub(crate) workload: &'static str,
+    pub(crate) trace: &'static str,
+    pub(crate) report: &'static str,
 }
 
-fn expect_report<R: AllocGlobal + Abort>(rt: &R, policy: &str, workload: &str, wanted: &str) {
-    let mut lines = Memory::new(rt.alloc());
-    let done = report(rt.alloc(), policy, workload, &mut Counted::new(&mut lines));
-    assert_eq!(rt; done, Ok(true));
-    assert_eq!(rt; lines.bytes.as_slice(), wanted.as_bytes());
-}
-
+/// What both commands write.
 pub(crate) fn expect<R: AllocGlobal + Abort>(
     rt: &R,
     policy: &str,
     workload: &str,
-    wanted_trace: &str,
-    wanted_report: &str,
+    wanted: (&str, &str),
+    name: &str,
 ) {
-    expect_trace(rt, policy, workload, wanted_trace);
-    expect_report(rt, policy, workload, wanted_report);
+    let (trace, report) = wanted;
+    let lines = written(rt, Command::Run, policy, workload);
+    expect_same(rt, lines.bytes.as_slice(), trace.as_bytes(), name);
+    let lines = written(rt, Command::Report, policy, workload);
+    expect_same(rt, lines.bytes.as_slice(), report.as_bytes(), name);
 }
 
-#[test]
-fn two_tasks_take_turns(rt: HostRuntime) {
-    let trace = "0 wake a
+pub(crate) fn expect_runs<R: AllocGlobal + Abort>(rt: &R, runs: &[Run]) {
+    for run in runs {
+        let wanted = (run.trace, run.report);
+        expect(rt, run.policy, run.workload, wanted, run.name);
+    }
+}
+
+const RUNS: [Run; 7] = [
+    Run {
+        name: "two tasks take turns",
+        policy: SHORT_SLICES,
+        workload: TWO_TASKS,
+        trace: "0 wake a
 0 insert a queue 0
 0 move a local 0
 0 run a cpu 0
@@ -49,18 +58,18 @@ fn two_tasks_take_turns(rt: HostRuntime) {
 3 stop b cpu 0
 3 insert b queue 0
 3 run a cpu 0
-";
-    let report = "task a run 2 share 5000
+",
+        report: "task a run 2 share 5000
 task b run 2 share 5000
 total 4
 policy in force
-";
-    expect(&rt, SHORT_SLICES, TWO_TASKS, trace, report);
-}
-
-#[test]
-fn a_weight_changes(rt: HostRuntime) {
-    let trace = "0 wake a
+",
+    },
+    Run {
+        name: "a weight changes",
+        policy: SHORT_SLICES,
+        workload: CHANGE,
+        trace: "0 wake a
 0 insert a queue 0
 0 move a local 0
 0 run a cpu 0
@@ -75,18 +84,18 @@ fn a_weight_changes(rt: HostRuntime) {
 3 stop b cpu 0
 3 insert b queue 0
 3 run a cpu 0
-";
-    let report = "task a run 2 share 5000
+",
+        report: "task a run 2 share 5000
 task b run 2 share 5000
 total 4
 policy in force
-";
-    expect(&rt, SHORT_SLICES, CHANGE, trace, report);
-}
-
-#[test]
-fn three_tasks_share_two_processors(rt: HostRuntime) {
-    let trace = "0 wake a
+",
+    },
+    Run {
+        name: "three tasks share two processors",
+        policy: SHORT_SLICES,
+        workload: TWO_CPUS,
+        trace: "0 wake a
 0 insert a queue 0
 0 move a local 0
 0 run a cpu 0
@@ -104,51 +113,51 @@ fn three_tasks_share_two_processors(rt: HostRuntime) {
 1 stop b cpu 1
 1 insert b queue 0
 1 run a cpu 1
-";
-    let report = "task a run 3 share 5000
+",
+        report: "task a run 3 share 5000
 task b run 2 share 3333
 task c run 1 share 1666
 total 6
 policy in force
-";
-    expect(&rt, SHORT_SLICES, TWO_CPUS, trace, report);
-}
-
-#[test]
-fn a_slice_without_end_is_never_used_up(rt: HostRuntime) {
-    let trace = "0 wake a
+",
+    },
+    Run {
+        name: "a slice without end is never used up",
+        policy: ENDLESS_SLICES,
+        workload: FIVE_MS,
+        trace: "0 wake a
 0 insert a queue 0
 0 move a local 0
 0 run a cpu 0
 0 wake b
 0 insert b queue 0
-";
-    let report = "task a run 5 share 10000
+",
+        report: "task a run 5 share 10000
 task b run 0 share 0
 total 5
 policy in force
-";
-    expect(&rt, ENDLESS_SLICES, FIVE_MS, trace, report);
-}
-
-#[test]
-fn held_tasks_wait(rt: HostRuntime) {
-    let trace = "0 wake a
+",
+    },
+    Run {
+        name: "held tasks wait",
+        policy: HOLDS,
+        workload: FIVE_MS,
+        trace: "0 wake a
 0 insert a held
 0 wake b
 0 insert b held
-";
-    let report = "task a run 0 share 0
+",
+        report: "task a run 0 share 0
 task b run 0 share 0
 total 0
 policy in force
-";
-    expect(&rt, HOLDS, FIVE_MS, trace, report);
-}
-
-#[test]
-fn a_task_sleeps(rt: HostRuntime) {
-    let trace = "0 wake a
+",
+    },
+    Run {
+        name: "a task sleeps",
+        policy: STAYS,
+        workload: SLEEPER,
+        trace: "0 wake a
 0 insert a local 0
 0 run a cpu 0
 1 sleep a
@@ -157,27 +166,32 @@ fn a_task_sleeps(rt: HostRuntime) {
 5 wake a
 5 insert a local 0
 5 run a cpu 0
-";
-    let report = "task a run 3 share 10000
+",
+        report: "task a run 3 share 10000
 total 3
 policy in force
-";
-    expect(&rt, STAYS, SLEEPER, trace, report);
-}
-
-#[test]
-fn a_policy_without_programs_holds_its_tasks(rt: HostRuntime) {
-    let trace = "0 wake a
+",
+    },
+    Run {
+        name: "a policy without programs holds its tasks",
+        policy: "",
+        workload: TWO_TASKS,
+        trace: "0 wake a
 0 insert a global
 0 move a local 0
 0 run a cpu 0
 0 wake b
 0 insert b global
-";
-    let report = "task a run 4 share 10000
+",
+        report: "task a run 4 share 10000
 task b run 0 share 0
 total 4
 policy in force
-";
-    expect(&rt, "", TWO_TASKS, trace, report);
+",
+    },
+];
+
+#[test]
+fn whole_runs_are_traced_and_reported(rt: HostRuntime) {
+    expect_runs(&rt, &RUNS);
 }
