@@ -1,5 +1,6 @@
 use crate::out::{Failed, Out};
-use std::io::Write;
+use std::alloc::Allocator;
+use std::io::{BufWriter, Write};
 
 /// One of std's writers as an output, with its failures counted.
 #[derive(Drop)]
@@ -9,9 +10,7 @@ pub struct Counted<W> {
 }
 
 impl<W: Write> Counted<W> {
-    ghost use Rattle.std.specs.Prelude.{◌≡◌, OnOk, OnErr};
-    ghost use Rattle.std.specs.Io.KnownBytes.{Keeps};
-    ghost use Rattle.scx_output.specs.Output.{HasFailed};
+    ghost use Rattle.std.specs.Prelude.{◌≡◌};
 
     pub fn new(writer: W) -> Self
         ensures writer { result.writer ≡ writer }
@@ -22,14 +21,23 @@ impl<W: Write> Counted<W> {
             failures: 0,
         }
     }
+}
 
-    /// Has the writer hand on what it holds back, as one with a buffer does.
+impl<W: Write + Drop, A: Allocator> Counted<BufWriter<W, A>> {
+    ghost use Rattle.std.specs.Prelude.{◌≡◌, [], OnOk, OnErr};
+    ghost use Rattle.std.specs.Io.KnownBytes.{Keeps};
+    ghost use Rattle.std.specs.Io.Buffered.{writer_buffer, writer_contents};
+    ghost use Rattle.scx_output.specs.Output.{HasFailed};
+
+    /// Has the writer hand on what it holds back. Where it does, nothing is held back any more.
     ///
     /// # Errors
     ///
     /// The writer failed, which counts as one failure.
     pub fn flush(&mut self) -> Result<(), Failed>
-        ensures contents { Keeps (W.contents self.old.writer) (W.contents self.new.writer) }
+        ensures contents { Keeps (writer_contents W.contents self.old.writer)
+            (writer_contents W.contents self.new.writer) }
+        ensures emptied { OnOk result (writer_buffer self.new.writer ≡ []) }
         ensures ok_failures { OnOk result (self.new.failures ≡ self.old.failures) }
         ensures err_failures { OnErr result (HasFailed self.old.failures self.new.failures) }
     {

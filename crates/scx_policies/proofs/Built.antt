@@ -13,7 +13,7 @@ use Rattle.scx_policies.specs.Building.{IsAccepted, earlier, AreAccepted, IsFirs
 -- the first that is refused is the refusal
 pub refused_at : (text : PolicyFile) (b : Callback) (e : BuildError) → AreAccepted text (earlier b) → IsRefusedAs text.shapes (program_of text b) b e → IsFirstRefused text e
 refused_at text b (errors.Refused a fault slot) before (is, refused) = rw is (before, refused)
-refused_at text b errors.NoMemory before refused = tt
+refused_at text b errors.NoMemory before asked = record { callback = b; before = before; asked = asked }
 
 -- each program, at its callback
 pub record AreVerified (text : PolicyFile) (c : Callbacks) : Type 0 where
@@ -27,7 +27,10 @@ pub record AreVerified (text : PolicyFile) (c : Callbacks) : Type 0 where
 
 -- where all are verified the policy is built
 pub built_of : (text : PolicyFile) (p : PolicyState) (c : Callbacks) → p ≡ policy_of text.shapes text.timeout_ms c → AreVerified text c → IsBuilt text p
-built_of text p c e h = rw e record { shapes = refl; timeout = refl; programs = codes; accepted = fits }
+built_of text p c e h =
+    let as_callbacks : machine.AreAs c = record { init = h.init.as_callback; enable = h.enable.as_callback; select_cpu = h.select_cpu.as_callback; enqueue = h.enqueue.as_callback; dispatch = h.dispatch.as_callback; running = h.running.as_callback; stopping = h.stopping.as_callback; } in
+    let for_maps : machine.HaveMaps text.shapes c = record { init = h.init.for_maps; enable = h.enable.for_maps; select_cpu = h.select_cpu.for_maps; enqueue = h.enqueue.for_maps; dispatch = h.dispatch.for_maps; running = h.running.for_maps; stopping = h.stopping.for_maps; } in
+    rw e record { shapes = refl; timeout = refl; programs = codes; accepted = fits; as_callbacks = as_callbacks; for_maps = for_maps }
   where
     codes : (b : Callback) → code_of (machine.program_of (policy_of text.shapes text.timeout_ms c) b) ≡ program_of text b
     codes callback.Init = h.init.code

@@ -3,6 +3,7 @@
 use Rattle.std.specs.Prelude.{◌≡◌, ◌≢◌, ℕ, ⊤, List, [], ◌∷◌, Option, Some, None, option_map, All}
 use Rattle.scx_maps.specs.declared.shape.Shape.{Shape}
 use Rattle.scx_semantics.specs.Code.{Code}
+use Rattle.scx_isa.specs.Flow.{Flows}
 use Rattle.scx_semantics.specs.declared.callbacks.Callback.{Callback}
 use Rattle.scx_semantics.specs.declared.callbacks.Callback.TheVariants as callback
 use Rattle.scx_verify.specs.declared.faults.Fault.{Fault}
@@ -43,21 +44,36 @@ abbrev pub AreAccepted : PolicyFile → List Callback → Type 0
 AreAccepted text [] = ⊤
 AreAccepted text (b ∷ bs) = IsAccepted text.shapes (program_of text b) b × AreAccepted text bs
 
--- the first callback whose program is refused; want of memory says nothing
+-- verifying a program asks for memory: it is there, and its flow has no fault
+pub record AsksForMemory (program : Option Code) : Type 0 where
+  pub code : Code
+  pub there : program ≡ Some code
+  pub flows : Flows code
+
+-- memory is asked for of a callback behind others that are accepted
+pub record IsStarved (text : PolicyFile) : Type 0 where
+  pub callback : Callback
+  pub before : AreAccepted text (earlier callback)
+  pub asked : AsksForMemory (program_of text callback)
+
+-- the first callback whose program is refused, or one for which there is no memory
 abbrev pub IsFirstRefused : PolicyFile → BuildError → Type 0
 IsFirstRefused text (errors.Refused b fault slot) = AreAccepted text (earlier b) × IsRefusedFor text.shapes (program_of text b) b fault slot
-IsFirstRefused text errors.NoMemory = ⊤
+IsFirstRefused text errors.NoMemory = IsStarved text
 
 -- the code of a verified program
 abbrev pub code_of : Option VerifiedProgram → Option Code
 code_of v = option_map (λ p. p.code) v
 
--- the policy of these programs, which has them all, for these maps, with this timeout
+-- the policy of these programs, which has them all, each verified as its callback and for these maps,
+-- with this timeout
 pub record IsBuilt (text : PolicyFile) (policy : PolicyState) : Type 0 where
   pub shapes : policy.shapes ≡ text.shapes
   pub timeout : policy.timeout_ms ≡ text.timeout_ms
   pub programs : (b : Callback) → code_of (machine.program_of policy b) ≡ program_of text b
   pub accepted : (b : Callback) → IsAccepted text.shapes (program_of text b) b
+  pub as_callbacks : machine.AreAs policy.callbacks
+  pub for_maps : machine.HaveMaps policy.shapes policy.callbacks
 
 -- ---- one callback
 
@@ -70,4 +86,4 @@ pub record IsVerified (shapes : List Shape) (program : Option Code) (b : Callbac
 
 abbrev pub IsRefusedAs : List Shape → Option Code → Callback → BuildError → Type 0
 IsRefusedAs shapes program b (errors.Refused a fault slot) = (a ≡ b) × IsRefusedFor shapes program b fault slot
-IsRefusedAs shapes program b errors.NoMemory = ⊤
+IsRefusedAs shapes program b errors.NoMemory = AsksForMemory program

@@ -1,12 +1,11 @@
 -- How far a run has come, one event after another.
-use Rattle.std.proofs.Common.{◌≡◌, Bool, false, List, [], ◌∷◌, ◌++◌, refl, sym, ap, subst, ◌∙◌, append_assoc}
+use Rattle.std.proofs.Common.{◌≡◌, Bool, true, false, List, [], ◌∷◌, ◌++◌, refl, sym, ap, subst, ◌∙◌, append_assoc}
 use Rattle.std.proofs.lemmas.List.{append-nil}
 use Rattle.scx_world.specs.declared.notes.Note.{Note}
 use Rattle.scx_machine.specs.declared.events.Event.{Event}
 use Rattle.scx_machine.specs.Notes.{Takes}
 use Rattle.scx_sched.specs.Sim.{SimState, stepped, notes_of}
 use Rattle.scx_driver.specs.Runs.{stepped_all, notes_of_all}
-use Rattle.scx_driver.proofs.Accepting.{stepped_behind}
 use Rattle.scx_trace.specs.Runs.{GoesThrough}
 
 -- the notes of two lists of events, one behind the other
@@ -20,34 +19,81 @@ pub takes_both : {S : Type 0} (takes : S → Note → S → Type 0) (ns ms : Lis
 takes_both {S} takes [] ms a b c first next = let P : S → Type 0 = λ x. Takes takes x ms c in subst P first next
 takes_both takes (n ∷ ns) ms a b c (u, one, rest) next = (u, one, takes_both takes ns ms u b c rest next)
 
--- one event further: what was done, what is left, the state and the sink
-pub record HasGone {S : Type 0} (takes : S → Note → S → Type 0) (events : List Event) (s : SimState) (a : S) (rest : List Event) (t : SimState) (b : S) : Type 0 where
+-- ---- up to some event
+
+-- what is left leads on to an end of the whole run
+abbrev pub HasGone : {S : Type 0} → (S → Note → S → Type 0) → (S → Bool) → List Event → SimState → S → List Event → SimState → S → Type 0
+HasGone {S} takes has_failed events s a rest t b =
+    (u : SimState) (c : S) → GoesThrough takes has_failed rest t b u c → GoesThrough takes has_failed events s a u c
+
+differ : (f : Bool) → f ≡ true → f ≡ false → ⊥
+differ true x y = absurd (cc)
+differ false x y = absurd (cc)
+
+-- one event, behind which the sink hasn't failed
+pub gone_further : {S : Type 0} (takes : S → Note → S → Type 0) (has_failed : S → Bool) (events rest : List Event) (later : SimState → List Event) (s t u : SimState) (a b c : S) (e : Event)
+    → HasGone takes has_failed events s a rest t b → rest ≡ e ∷ later (stepped t e) → u ≡ stepped t e → Takes takes b (notes_of t e) c → has_failed c ≡ false
+    → HasGone takes has_failed events s a (later u) u c
+gone_further {S} takes has_failed events rest later s t u a b c e gone next state notes going v d more =
+    let P : SimState → Type 0 = λ x. GoesThrough takes has_failed (later x) x c v d in
+    let Q : List Event → Type 0 = λ es. GoesThrough takes has_failed es t b v d in
+    let failed : has_failed c ≡ true → (v ≡ stepped t e) × (d ≡ c) = λ f. absurd (differ (has_failed c) f going) in
+    gone v d (subst Q (sym next) (c, notes, failed, λ _. subst P state more))
+
+-- one event, behind which the sink has failed
+pub gone_until : {S : Type 0} (takes : S → Note → S → Type 0) (has_failed : S → Bool) (events rest later : List Event) (s t u : SimState) (a b c : S) (e : Event)
+    → HasGone takes has_failed events s a rest t b → rest ≡ e ∷ later → u ≡ stepped t e → Takes takes b (notes_of t e) c → has_failed c ≡ true
+    → GoesThrough takes has_failed events s a u c
+gone_until {S} takes has_failed events rest later s t u a b c e gone next state notes failed =
+    let Q : List Event → Type 0 = λ es. GoesThrough takes has_failed es t b u c in
+    let going : has_failed c ≡ false → GoesThrough takes has_failed later (stepped t e) c u c = λ f. absurd (differ (has_failed c) failed f) in
+    gone u c (subst Q (sym next) (c, notes, (λ _. (state, refl)), going))
+
+-- no event is left
+pub gone_to_end : {S : Type 0} (takes : S → Note → S → Type 0) (has_failed : S → Bool) (events rest : List Event) (s t : SimState) (a b : S)
+    → HasGone takes has_failed events s a rest t b → rest ≡ [] → GoesThrough takes has_failed events s a t b
+gone_to_end takes has_failed events rest s t a b gone none =
+    let Q : List Event → Type 0 = λ es. GoesThrough takes has_failed es t b t b in
+    gone t b (subst Q (sym none) (refl, refl))
+
+-- ---- what it comes to
+
+-- the events that were done, and those behind a failure
+pub record HasDone {S : Type 0} (takes : S → Note → S → Type 0) (has_failed : S → Bool) (events : List Event) (s : SimState) (a : S) (t : SimState) (b : S) : Type 0 where
   pub done : List Event
+  pub rest : List Event
   pub whole : events ≡ done ++ rest
   pub state : t ≡ stepped_all s done
   pub notes : Takes takes a (notes_of_all s done) b
+  pub all : has_failed b ≡ false → rest ≡ []
 
--- before the first event
-pub gone_nowhere : {S : Type 0} (takes : S → Note → S → Type 0) (events : List Event) (s : SimState) (a : S) → HasGone takes events s a events s a
-gone_nowhere takes events s a = record { done = []; whole = refl; state = refl; notes = refl }
+pub what_is_done : {S : Type 0} (takes : S → Note → S → Type 0) (has_failed : S → Bool) (events : List Event) (s : SimState) (a : S) (t : SimState) (b : S)
+    → GoesThrough takes has_failed events s a t b → HasDone takes has_failed events s a t b
+what_is_done takes has_failed [] s a t b (state, sink) =
+    record { done = []; rest = []; whole = refl; state = state; notes = sink; all = λ _. refl }
+what_is_done {S} takes has_failed (e ∷ es) s a t b (c, notes, ends, goes) = by_failure (has_failed c) refl (λ x. what_is_done takes has_failed es (stepped s e) c t b (goes x))
+  where
+    by_failure : (f : Bool) → has_failed c ≡ f → (has_failed c ≡ false → HasDone takes has_failed es (stepped s e) c t b) → HasDone takes has_failed (e ∷ es) s a t b
+    by_failure true x further =
+        let state = (ends x).0 in
+        let sink = (ends x).1 in
+        let P : S → Type 0 = λ y. Takes takes a (notes_of s e ++ []) y in
+        let none : has_failed b ≡ false → es ≡ [] = λ y. absurd (differ (has_failed c) x (sym (ap has_failed sink) ∙ y)) in
+        record { done = e ∷ []; rest = es; whole = refl; state = state; notes = subst P (sym sink) (takes_both takes (notes_of s e) [] a c c notes refl); all = none }
+    by_failure false x further =
+        let more = further x in
+        record {
+          done = e ∷ more.done;
+          rest = more.rest;
+          whole = ap (λ fs. e ∷ fs) more.whole;
+          state = more.state;
+          notes = takes_both takes (notes_of s e) (notes_of_all (stepped s e) more.done) a c b notes more.notes;
+          all = more.all;
+        }
 
--- one event more
-pub gone_further : {S : Type 0} (takes : S → Note → S → Type 0) (events rest : List Event) (later : SimState → List Event) (s t u : SimState) (a b c : S) (e : Event)
-    → HasGone takes events s a rest t b → rest ≡ e ∷ later (stepped t e) → u ≡ stepped t e → Takes takes b (notes_of t e) c → HasGone takes events s a (later u) u c
-gone_further {S} takes events rest later s t u a b c e gone next state notes =
-    let done = gone.done ++ e ∷ [] in
-    let noted : notes_of_all s done ≡ notes_of_all s gone.done ++ notes_of t e =
-    notes_of_all-append s gone.done (e ∷ []) ∙ ap (λ ns. notes_of_all s gone.done ++ ns) (append-nil (notes_of (stepped_all s gone.done) e) ∙ ap (λ x. notes_of x e) (sym gone.state)) in
-    let P : List Note → Type 0 = λ ns. Takes takes a ns c in
-    record {
-      done = done;
-      whole = gone.whole ∙ ap (λ x. gone.done ++ x) (next ∙ ap (λ x. e ∷ later x) (sym state)) ∙ sym (append_assoc gone.done (e ∷ []) (later u));
-      state = state ∙ ap (λ x. stepped x e) gone.state ∙ sym (stepped_behind gone.done (e ∷ []) s);
-      notes = subst P (sym noted) (takes_both takes (notes_of_all s gone.done) (notes_of t e) a b c gone.notes notes);
-    }
-
--- and there it ends
-pub gone_through : {S : Type 0} (takes : S → Note → S → Type 0) (has_failed : S → Bool) (events rest : List Event) (s t : SimState) (a b : S)
-    → HasGone takes events s a rest t b → (has_failed b ≡ false → rest ≡ []) → GoesThrough takes has_failed events s a t b
-gone_through takes has_failed events rest s t a b gone all =
-    record { done = gone.done; rest = rest; whole = gone.whole; state = gone.state; notes = gone.notes; all = all }
+-- a sink that never fails sees the whole run
+pub done_all : {S : Type 0} (takes : S → Note → S → Type 0) (has_failed : S → Bool) (events : List Event) (s : SimState) (a : S) (t : SimState) (b : S)
+    → GoesThrough takes has_failed events s a t b → has_failed b ≡ false → t ≡ stepped_all s events
+done_all takes has_failed events s a t b ran fine =
+    let h = what_is_done takes has_failed events s a t b ran in
+    h.state ∙ ap (stepped_all s) (sym (h.whole ∙ ap (λ es. h.done ++ es) (h.all fine) ∙ append-nil h.done))

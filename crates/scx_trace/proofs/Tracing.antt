@@ -13,7 +13,7 @@ use Rattle.scx_sched.specs.Sim.{SimState}
 use Rattle.scx_driver.specs.Runs.{stepped_all, notes_of_all}
 use Rattle.scx_trace.specs.Runs.{GoesThrough}
 use Rattle.scx_trace.specs.Tracing.{TakesLine}
-use Rattle.scx_trace.proofs.Going.{notes_of_all-append}
+use Rattle.scx_trace.proofs.Going.{notes_of_all-append, what_is_done}
 
 nothing_after : (f : Bool) (s : Seen) → s.failed ≡ f → WrittenAfter f s [] s
 nothing_after true s e = refl
@@ -84,7 +84,8 @@ whole_or_cut true s t a b nothing (cut, failed) = (beginning_of_more s.contents 
 pub run_is_written : {S G : Type 0} (output : S → G) (names : S → NameLists) (seen : S → Seen) (f : Bool) (events : List Event) (s t : SimState) (a b : S)
     → (seen a).failed ≡ false → (seen b).failed ≡ f → GoesThrough (TakesLine output names seen) (λ x. (seen x).failed) events s a t b
     → (output b ≡ output a) × WrittenUpTo f (seen a) (note_lines (names a) (notes_of_all s events)) (seen b)
-run_is_written output names seen f events s t a b fresh is ran =
+run_is_written output names seen f events s t a b fresh is went =
+    let ran = what_is_done (TakesLine output names seen) (λ x. (seen x).failed) events s a t b went in
     let x = names a in
     let lines = takes_lines output names seen (notes_of_all s ran.done) a b ran.notes in
     let later = notes_of_all (stepped_all s ran.done) ran.rest in

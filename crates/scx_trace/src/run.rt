@@ -13,6 +13,7 @@ use scx_output::{Failed, Out};
 use scx_sched::{Sim, Sink};
 
 /// Gives the events to the machine, one after another, up to the end or until the sink has failed.
+#[tactic(auto, using(crate::proofs::Going::gone_to_end))]
 fn go_through<E: Events, S: Sink>(sim: &mut Sim, events: &mut E, sink: &mut S)
     ensures { GoesThrough S.takes S.has_failed (E.remaining events.old sim.old) sim.old sink.old
         sim.new sink.new }

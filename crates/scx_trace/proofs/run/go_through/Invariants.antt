@@ -4,7 +4,7 @@ use Rattle.scx_trace.proofs.run.go_through.Given as goal
 
 abbrev pub invariant-loop-event : goal.invariant-loop-event
 invariant-loop-event g l =
-    HasGone g.S.Sink.takes (g.E.Events.remaining l.initial.events l.initial.sim) l.initial.sim l.initial.sink (g.E.Events.remaining l.events l.sim) l.sim l.sink
+    HasGone g.S.Sink.takes g.S.Sink.has_failed (g.E.Events.remaining l.initial.events l.initial.sim) l.initial.sim l.initial.sink (g.E.Events.remaining l.events l.sim) l.sim l.sink
 
 abbrev pub decreases-loop-event : goal.decreases-loop-event
 decreases-loop-event g l = length (g.E.Events.remaining l.events l.sim)
