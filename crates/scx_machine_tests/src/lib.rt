@@ -4,6 +4,8 @@
 #[cfg(test)]
 mod bounds;
 #[cfg(test)]
+mod cases;
+#[cfg(test)]
 mod ejecting;
 #[cfg(test)]
 mod faults;
@@ -15,6 +17,8 @@ mod recorder;
 mod refusals;
 #[cfg(test)]
 mod rows;
+#[cfg(test)]
+mod same;
 #[cfg(test)]
 mod selecting;
 #[cfg(test)]
