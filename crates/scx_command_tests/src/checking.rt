@@ -40,20 +40,19 @@ const FIFO: &str = "\
     [slots]\n\
     dispatch = 'b701000000000000 85000000ec030000 9500000000000000'\n";
 
+const SAFE: [Row<'_>; 3] = [
+    (FIFO, "init ok 3\nenqueue ok 5\ndispatch ok 3\n", 0),
+    (
+        "[code]\nenqueue = '''\ngoto +0\nexit\n'''\n",
+        "enqueue ok 2\n",
+        0,
+    ),
+    ("", "", 0),
+];
+
 #[test]
 fn safe_callbacks_are_accepted(rt: HostRuntime) {
-    check(
-        &rt,
-        &[
-            (FIFO, "init ok 3\nenqueue ok 5\ndispatch ok 3\n", 0),
-            (
-                "[code]\nenqueue = '''\ngoto +0\nexit\n'''\n",
-                "enqueue ok 2\n",
-                0,
-            ),
-            ("", "", 0),
-        ],
-    );
+    check(&rt, &SAFE);
 }
 
 /// The last callback stands first.
@@ -82,24 +81,23 @@ fn callbacks_come_in_order(rt: HostRuntime) {
     check(&rt, &[(BACKWARDS, VERDICTS, 1)]);
 }
 
+const UNSAFE: [Row<'_>; 2] = [
+    (
+        "[code]\nenqueue = '''\ncall 5\nr0 = r1\nexit\n'''\n",
+        "enqueue refused 5 UnusableRegister at 1\n",
+        1,
+    ),
+    // A jump backwards, and a callback behind it that is looked at all the same.
+    (
+        "[slots]\nenqueue = '0500ffff00000000 9500000000000000'\n[code]\ndispatch = 'exit'\n",
+        "enqueue refused 1 BackJump at 0\ndispatch ok 1\n",
+        1,
+    ),
+];
+
 #[test]
 fn unsafe_callbacks_are_refused(rt: HostRuntime) {
-    check(
-        &rt,
-        &[
-            (
-                "[code]\nenqueue = '''\ncall 5\nr0 = r1\nexit\n'''\n",
-                "enqueue refused 5 UnusableRegister at 1\n",
-                1,
-            ),
-            // A jump backwards, and a callback behind it that is looked at all the same.
-            (
-                "[slots]\nenqueue = '0500ffff00000000 9500000000000000'\n[code]\ndispatch = 'exit'\n",
-                "enqueue refused 1 BackJump at 0\ndispatch ok 1\n",
-                1,
-            ),
-        ],
-    );
+    check(&rt, &UNSAFE);
 }
 
 /// A map 0, of one element of eight bytes, and the head of running: a lookup in it.

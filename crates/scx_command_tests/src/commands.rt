@@ -1,6 +1,7 @@
 //! Commands that read one file and write to memory.
 
 use crate::memory::Memory;
+use crate::same::expect_same;
 use scx_commands::{Counted, Fault, Out, asm, dis, exec, finish};
 use scx_explain::explain;
 use scx_verdicts::check;
@@ -47,8 +48,8 @@ pub(crate) fn expect<R: AllocGlobal + Abort>(
 ) {
     let mut memory = Memory::new(rt.alloc());
     let found = run(rt.alloc(), command, bytes, &mut Counted::new(&mut memory));
-    assert_eq!(rt; memory.bytes.as_slice(), written);
-    assert_eq!(rt; found, status);
+    expect_same(rt, memory.bytes.as_slice(), written, bytes);
+    expect_same(rt, found, status, bytes);
 }
 
 /// The command's writer fails behind these bytes, and nothing more is written.
@@ -61,13 +62,9 @@ fn expect_cut<R: AllocGlobal + Abort>(
 ) {
     let mut memory = Memory::failing(rt.alloc(), 1, written.len(), fails_by_zero);
     let mut out = Counted::new(&mut memory);
-    assert_eq!(rt;
-        run(rt.alloc(), command, bytes, &mut out),
-        3,
-        "behind {written:?}"
-    );
-    assert_eq!(rt; out.failures(), 1);
-    assert_eq!(rt; memory.bytes.as_slice(), written);
+    expect_same(rt, run(rt.alloc(), command, bytes, &mut out), 3, written);
+    expect_same(rt, out.failures(), 1, "failures");
+    expect_same(rt, memory.bytes.as_slice(), written, "written");
 }
 
 /// Wherever a writer fails in this line, the failed write is the last.

@@ -2,6 +2,7 @@
 
 use crate::commands::{Command, expect, expect_cuts, run};
 use crate::memory::Memory;
+use crate::same::expect_same;
 use scx_commands::{Counted, FILE_LIMIT};
 use scx_examples::{EXIT, bytes_of};
 use std::alloc::{AllocError, Global};
@@ -39,238 +40,230 @@ fn expect_refusals<R: AllocGlobal + Abort>(rt: &R, rows: &[Row<'_>]) -> Result<(
     Ok(())
 }
 
+const ANSWERS: [Row<'_>; 5] = [
+    (&[0xb700_0000_0000_0000, EXIT], "r0 = 0 in 2 steps\n"),
+    // r0 = 7, divided by r1 = 0, and the remainder of it.
+    (
+        &[
+            0xb700_0000_0700_0000,
+            0xb701_0000_0000_0000,
+            0x3f10_0000_0000_0000,
+            EXIT,
+        ],
+        "r0 = 0 in 4 steps\n",
+    ),
+    (
+        &[
+            0xb700_0000_0700_0000,
+            0xb701_0000_0000_0000,
+            0x9f10_0000_0000_0000,
+            EXIT,
+        ],
+        "r0 = 7 in 4 steps\n",
+    ),
+    // w0 += 1 from 2^64 - 1.
+    (
+        &[0xb700_0000_ffff_ffff, 0x0400_0000_0100_0000, EXIT],
+        "r0 = 0 in 3 steps\n",
+    ),
+    (
+        &[
+            0x0500_0100_0000_0000,
+            0xb700_0000_0100_0000,
+            0xb700_0000_0200_0000,
+            EXIT,
+        ],
+        "r0 = 2 in 3 steps\n",
+    ),
+];
+
 #[test]
 fn the_answer_and_the_steps_are_written(rt: HostRuntime) -> Result<(), Fail> {
-    expect_answers(
-        &rt,
-        &[
-            (&[0xb700_0000_0000_0000, EXIT], "r0 = 0 in 2 steps\n"),
-            // r0 = 7, divided by r1 = 0, and the remainder of it.
-            (
-                &[
-                    0xb700_0000_0700_0000,
-                    0xb701_0000_0000_0000,
-                    0x3f10_0000_0000_0000,
-                    EXIT,
-                ],
-                "r0 = 0 in 4 steps\n",
-            ),
-            (
-                &[
-                    0xb700_0000_0700_0000,
-                    0xb701_0000_0000_0000,
-                    0x9f10_0000_0000_0000,
-                    EXIT,
-                ],
-                "r0 = 7 in 4 steps\n",
-            ),
-            // w0 += 1 from 2^64 - 1.
-            (
-                &[0xb700_0000_ffff_ffff, 0x0400_0000_0100_0000, EXIT],
-                "r0 = 0 in 3 steps\n",
-            ),
-            (
-                &[
-                    0x0500_0100_0000_0000,
-                    0xb700_0000_0100_0000,
-                    0xb700_0000_0200_0000,
-                    EXIT,
-                ],
-                "r0 = 2 in 3 steps\n",
-            ),
-        ],
-    )
+    expect_answers(&rt, &ANSWERS)
 }
+
+const SIGNED_DIVISION: [Row<'_>; 2] = [
+    (
+        &[
+            0x1800_0000_0000_0000,
+            0x0000_0000_0000_0080,
+            0x3700_0100_ffff_ffff,
+            EXIT,
+        ],
+        "r0 = 9223372036854775808 in 3 steps\n",
+    ),
+    (
+        &[
+            0x1800_0000_0000_0000,
+            0x0000_0000_0000_0080,
+            0x9700_0100_ffff_ffff,
+            EXIT,
+        ],
+        "r0 = 0 in 3 steps\n",
+    ),
+];
 
 #[test]
 fn signed_division_keeps_its_bounds(rt: HostRuntime) -> Result<(), Fail> {
     // The least number divided by -1, and the remainder of it.
-    expect_answers(
-        &rt,
-        &[
-            (
-                &[
-                    0x1800_0000_0000_0000,
-                    0x0000_0000_0000_0080,
-                    0x3700_0100_ffff_ffff,
-                    EXIT,
-                ],
-                "r0 = 9223372036854775808 in 3 steps\n",
-            ),
-            (
-                &[
-                    0x1800_0000_0000_0000,
-                    0x0000_0000_0000_0080,
-                    0x9700_0100_ffff_ffff,
-                    EXIT,
-                ],
-                "r0 = 0 in 3 steps\n",
-            ),
-        ],
-    )
+    expect_answers(&rt, &SIGNED_DIVISION)
 }
+
+const SWAPPED_AND_EXTENDED: [Row<'_>; 2] = [
+    (
+        &[0xb700_0000_0201_0000, 0xdc00_0000_1000_0000, EXIT],
+        "r0 = 513 in 3 steps\n",
+    ),
+    (
+        &[0xb701_0000_ff00_0000, 0xbf10_0800_0000_0000, EXIT],
+        "r0 = 18446744073709551615 in 3 steps\n",
+    ),
+];
 
 #[test]
 fn bytes_are_swapped_and_signs_extended(rt: HostRuntime) -> Result<(), Fail> {
     // r0 = be16 258; r0 = (s8)255.
-    expect_answers(
-        &rt,
-        &[
-            (
-                &[0xb700_0000_0201_0000, 0xdc00_0000_1000_0000, EXIT],
-                "r0 = 513 in 3 steps\n",
-            ),
-            (
-                &[0xb701_0000_ff00_0000, 0xbf10_0800_0000_0000, EXIT],
-                "r0 = 18446744073709551615 in 3 steps\n",
-            ),
-        ],
-    )
+    expect_answers(&rt, &SWAPPED_AND_EXTENDED)
 }
+
+const STACK: [Row<'_>; 2] = [
+    // 5 stored at r10 - 8, and loaded.
+    (
+        &[0x7a0a_f8ff_0500_0000, 0x79a0_f8ff_0000_0000, EXIT],
+        "r0 = 5 in 3 steps\n",
+    ),
+    // r10 stored there, loaded, and used as an address.
+    (
+        &[
+            0x7baa_f8ff_0000_0000,
+            0x79a1_f8ff_0000_0000,
+            0x7a01_f0ff_0700_0000,
+            0x79a0_f0ff_0000_0000,
+            EXIT,
+        ],
+        "r0 = 7 in 5 steps\n",
+    ),
+];
 
 #[test]
 fn the_stack_is_used(rt: HostRuntime) -> Result<(), Fail> {
-    expect_answers(
-        &rt,
-        &[
-            // 5 stored at r10 - 8, and loaded.
-            (
-                &[0x7a0a_f8ff_0500_0000, 0x79a0_f8ff_0000_0000, EXIT],
-                "r0 = 5 in 3 steps\n",
-            ),
-            // r10 stored there, loaded, and used as an address.
-            (
-                &[
-                    0x7baa_f8ff_0000_0000,
-                    0x79a1_f8ff_0000_0000,
-                    0x7a01_f0ff_0700_0000,
-                    0x79a0_f0ff_0000_0000,
-                    EXIT,
-                ],
-                "r0 = 7 in 5 steps\n",
-            ),
-        ],
-    )
+    expect_answers(&rt, &STACK)
 }
+
+const UNSAFE: [Row<'_>; 6] = [
+    // No answer in r0.
+    (&[EXIT], "refused: verify 18 BadReturn at 0\n"),
+    (
+        &[0x0500_0000_0000_0000, EXIT],
+        "refused: verify 18 BadReturn at 1\n",
+    ),
+    // A read of an unset register, and a write to r10.
+    (
+        &[0xbf50_0000_0000_0000, EXIT],
+        "refused: verify 5 UnusableRegister at 0\n",
+    ),
+    (
+        &[0xb70a_0000_0000_0000, EXIT],
+        "refused: verify 6 WritesFrame at 0\n",
+    ),
+    // r10, multiplied, and compared with 1.
+    (
+        &[0xbfa1_0000_0000_0000, 0x2701_0000_0200_0000, EXIT],
+        "refused: verify 11 PointerArithmetic at 1\n",
+    ),
+    (
+        &[0x150a_0000_0100_0000, EXIT],
+        "refused: verify 12 PointerCompare at 0\n",
+    ),
+];
 
 #[test]
 fn unsafe_programs_are_refused(rt: HostRuntime) -> Result<(), Fail> {
-    expect_refusals(
-        &rt,
-        &[
-            // No answer in r0.
-            (&[EXIT], "refused: verify 18 BadReturn at 0\n"),
-            (
-                &[0x0500_0000_0000_0000, EXIT],
-                "refused: verify 18 BadReturn at 1\n",
-            ),
-            // A read of an unset register, and a write to r10.
-            (
-                &[0xbf50_0000_0000_0000, EXIT],
-                "refused: verify 5 UnusableRegister at 0\n",
-            ),
-            (
-                &[0xb70a_0000_0000_0000, EXIT],
-                "refused: verify 6 WritesFrame at 0\n",
-            ),
-            // r10, multiplied, and compared with 1.
-            (
-                &[0xbfa1_0000_0000_0000, 0x2701_0000_0200_0000, EXIT],
-                "refused: verify 11 PointerArithmetic at 1\n",
-            ),
-            (
-                &[0x150a_0000_0100_0000, EXIT],
-                "refused: verify 12 PointerCompare at 0\n",
-            ),
-        ],
-    )
+    expect_refusals(&rt, &UNSAFE)
 }
+
+const UNSAFE_ACCESSES: [Row<'_>; 6] = [
+    // A load of what wasn't written, one below the stack, and one out of line.
+    (
+        &[0x79a0_f8ff_0000_0000, EXIT],
+        "refused: verify 7 UnwrittenStack at 0\n",
+    ),
+    (
+        &[0x79a0_f8fd_0000_0000, EXIT],
+        "refused: verify 8 OutOfBounds at 0\n",
+    ),
+    (
+        &[0x7a0a_f4ff_0500_0000, EXIT],
+        "refused: verify 9 Misaligned at 0\n",
+    ),
+    // Half of r10, stored.
+    (
+        &[0x63aa_fcff_0000_0000, EXIT],
+        "refused: verify 13 PointerStore at 0\n",
+    ),
+    // A load of what was written on another way only.
+    (
+        &[
+            0xb701_0000_0100_0000,
+            0x1501_0100_0100_0000,
+            0x7a0a_f8ff_0500_0000,
+            0x79a0_f8ff_0000_0000,
+            EXIT,
+        ],
+        "refused: verify 7 UnwrittenStack at 3\n",
+    ),
+    // A load of a pointer half written over.
+    (
+        &[
+            0x7baa_f8ff_0000_0000,
+            0x620a_f8ff_0000_0000,
+            0x79a0_f8ff_0000_0000,
+            EXIT,
+        ],
+        "refused: verify 7 UnwrittenStack at 2\n",
+    ),
+];
 
 #[test]
 fn unsafe_accesses_are_refused(rt: HostRuntime) -> Result<(), Fail> {
-    expect_refusals(
-        &rt,
-        &[
-            // A load of what wasn't written, one below the stack, and one out of line.
-            (
-                &[0x79a0_f8ff_0000_0000, EXIT],
-                "refused: verify 7 UnwrittenStack at 0\n",
-            ),
-            (
-                &[0x79a0_f8fd_0000_0000, EXIT],
-                "refused: verify 8 OutOfBounds at 0\n",
-            ),
-            (
-                &[0x7a0a_f4ff_0500_0000, EXIT],
-                "refused: verify 9 Misaligned at 0\n",
-            ),
-            // Half of r10, stored.
-            (
-                &[0x63aa_fcff_0000_0000, EXIT],
-                "refused: verify 13 PointerStore at 0\n",
-            ),
-            // A load of what was written on another way only.
-            (
-                &[
-                    0xb701_0000_0100_0000,
-                    0x1501_0100_0100_0000,
-                    0x7a0a_f8ff_0500_0000,
-                    0x79a0_f8ff_0000_0000,
-                    EXIT,
-                ],
-                "refused: verify 7 UnwrittenStack at 3\n",
-            ),
-            // A load of a pointer half written over.
-            (
-                &[
-                    0x7baa_f8ff_0000_0000,
-                    0x620a_f8ff_0000_0000,
-                    0x79a0_f8ff_0000_0000,
-                    EXIT,
-                ],
-                "refused: verify 7 UnwrittenStack at 2\n",
-            ),
-        ],
-    )
+    expect_refusals(&rt, &UNSAFE_ACCESSES)
 }
+
+const NO_MAPS_AND_HELPERS: [Row<'_>; 3] = [
+    (
+        &[0x1850_0000_0000_0000, 0, EXIT],
+        "refused: verify 19 UnknownMap at 0\n",
+    ),
+    (
+        &[0x8500_0000_0500_0000, EXIT],
+        "refused: verify 16 HelperNotHere at 0\n",
+    ),
+    (
+        &[0x8500_0000_0200_0000, EXIT],
+        "refused: verify 15 UnknownHelper at 0\n",
+    ),
+];
 
 /// What has no map and no helper: a load of a reference to map 0, and calls of helpers 5 and 2.
 #[test]
 fn a_plain_program_has_no_maps_and_no_helpers(rt: HostRuntime) -> Result<(), Fail> {
-    expect_refusals(
-        &rt,
-        &[
-            (
-                &[0x1850_0000_0000_0000, 0, EXIT],
-                "refused: verify 19 UnknownMap at 0\n",
-            ),
-            (
-                &[0x8500_0000_0500_0000, EXIT],
-                "refused: verify 16 HelperNotHere at 0\n",
-            ),
-            (
-                &[0x8500_0000_0200_0000, EXIT],
-                "refused: verify 15 UnknownHelper at 0\n",
-            ),
-        ],
-    )
+    expect_refusals(&rt, &NO_MAPS_AND_HELPERS)
 }
+
+const NOT_REACHED: [Row<'_>; 1] = [(
+    &[
+        0x0500_0100_0000_0000,
+        0xbf50_0000_0000_0000,
+        0xb700_0000_0000_0000,
+        EXIT,
+    ],
+    "r0 = 0 in 3 steps\n",
+)];
 
 /// What nothing leads to is not looked at.
 #[test]
 fn what_is_not_reached_is_passed_over(rt: HostRuntime) -> Result<(), Fail> {
-    expect_answers(
-        &rt,
-        &[(
-            &[
-                0x0500_0100_0000_0000,
-                0xbf50_0000_0000_0000,
-                0xb700_0000_0000_0000,
-                EXIT,
-            ],
-            "r0 = 0 in 3 steps\n",
-        )],
-    )
+    expect_answers(&rt, &NOT_REACHED)
 }
 
 #[test]
@@ -301,29 +294,28 @@ fn bytes_that_spell_no_program_are_refused(rt: HostRuntime) -> Result<(), Fail> 
     )
 }
 
+const FAULTY_FLOW: [Row<'_>; 4] = [
+    (
+        &[0x0500_0100_0000_0000, 0x1800_0000_0000_0000, 0, EXIT],
+        "refused: verify 3 IntoWide at 0\n",
+    ),
+    (
+        &[0x0500_ffff_0000_0000, EXIT],
+        "refused: verify 1 BackJump at 0\n",
+    ),
+    (
+        &[0xb700_0000_0000_0000],
+        "refused: verify 4 FallsOff at 0\n",
+    ),
+    (
+        &[0x0500_0000_0000_0000],
+        "refused: verify 2 OutOfProgram at 0\n",
+    ),
+];
+
 #[test]
 fn faulty_flow_is_refused(rt: HostRuntime) -> Result<(), Fail> {
-    expect_refusals(
-        &rt,
-        &[
-            (
-                &[0x0500_0100_0000_0000, 0x1800_0000_0000_0000, 0, EXIT],
-                "refused: verify 3 IntoWide at 0\n",
-            ),
-            (
-                &[0x0500_ffff_0000_0000, EXIT],
-                "refused: verify 1 BackJump at 0\n",
-            ),
-            (
-                &[0xb700_0000_0000_0000],
-                "refused: verify 4 FallsOff at 0\n",
-            ),
-            (
-                &[0x0500_0000_0000_0000],
-                "refused: verify 2 OutOfProgram at 0\n",
-            ),
-        ],
-    )
+    expect_refusals(&rt, &FAULTY_FLOW)
 }
 
 /// A program of that many slots, whose last is an exit.
@@ -378,8 +370,13 @@ fn a_writer_may_take_byte_by_byte(rt: HostRuntime) -> Result<(), Fail> {
     let mut memory = Memory::failing(rt.alloc(), 1, usize::MAX, false);
     let mut out = Counted::new(&mut memory);
     let status = run(rt.alloc(), Command::Exec, bytes.as_slice(), &mut out);
-    assert_eq!(rt; status, 0);
-    assert_eq!(rt; memory.bytes.as_slice(), b"r0 = 0 in 2 steps\n".as_slice());
+    expect_same(&rt, status, 0, "status");
+    expect_same(
+        &rt,
+        memory.bytes.as_slice(),
+        b"r0 = 0 in 2 steps\n".as_slice(),
+        "written",
+    );
     Ok(())
 }
 

@@ -1,6 +1,7 @@
 //! Tests of `finish`: the line and the status of each outcome.
 
 use crate::memory::Memory;
+use crate::same::expect_same;
 use scx_asm::AsmFault;
 use scx_files::Cause;
 use scx_isa::{Callback, DecodeFault, Exclusion, FlowFault};
@@ -14,8 +15,8 @@ use std::test::Fail;
 fn expect<R: AllocGlobal + Abort>(rt: &R, outcome: Result<bool, Fault>, line: &str, status: u8) {
     let mut memory = Memory::new(rt.alloc());
     let found = finish(outcome, &mut Counted::new(&mut memory));
-    assert_eq!(rt; memory.bytes.as_slice(), line.as_bytes());
-    assert_eq!(rt; found, status, "{line}");
+    expect_same(rt, memory.bytes.as_slice(), line.as_bytes(), line);
+    expect_same(rt, found, status, line);
 }
 
 /// Finishes with a refusal, and compares the line.
@@ -149,9 +150,11 @@ fn causes_in_files_are_named(rt: HostRuntime) -> Result<(), Fail> {
 fn an_unread_file_is_reported(rt: HostRuntime) -> Result<(), Fail> {
     let mut memory = Memory::new(rt.alloc());
     write_unread("some/file.bin", &mut Counted::new(&mut memory))?;
-    assert_eq!(rt;
+    expect_same(
+        &rt,
         memory.bytes.as_slice(),
-        b"failed: reading some/file.bin\n".as_slice()
+        b"failed: reading some/file.bin\n".as_slice(),
+        "written",
     );
     Ok(())
 }

@@ -1,5 +1,6 @@
 //! Tests of the hints that a person gets beside a refusal.
 
+use crate::same::expect_same;
 use scx_commands::{Hint, hint_of_slots, hint_of_text};
 use std::process::Abort;
 
@@ -31,9 +32,9 @@ const OF_TEXT: [(&[u8], Option<Hint>); 7] = [
 #[test]
 fn a_hint_says_what_was_meant(rt: HostRuntime) {
     for &(bytes, hint) in &OF_SLOTS {
-        assert_eq!(rt; hint_of_slots(bytes), hint);
+        expect_same(&rt, hint_of_slots(bytes), hint, bytes);
     }
     for &(bytes, hint) in &OF_TEXT {
-        assert_eq!(rt; hint_of_text(bytes), hint);
+        expect_same(&rt, hint_of_text(bytes), hint, bytes);
     }
 }

@@ -17,6 +17,8 @@ mod hints;
 #[cfg(test)]
 mod memory;
 #[cfg(test)]
+mod same;
+#[cfg(test)]
 mod texts;
 #[cfg(test)]
 mod words;

@@ -2,6 +2,7 @@
 
 use crate::commands::{Command, expect, run};
 use crate::memory::Memory;
+use crate::same::expect_same;
 use scx_commands::{Counted, FILE_LIMIT, Fault, Refusal, text};
 use scx_examples::{EXIT, bytes_of};
 use std::alloc::{AllocError, Global};
@@ -81,7 +82,7 @@ fn faulty_texts_are_refused(rt: HostRuntime) {
 
 /// The bytes are no text.
 fn is_no_text(rt: &impl Abort, bytes: &[u8], refusal: Refusal) {
-    assert_eq!(rt; text(bytes).err(), Some(Fault::Refused(refusal)));
+    expect_same(rt, text(bytes).err(), Some(Fault::Refused(refusal)), bytes);
 }
 
 /// Both commands refuse bytes that are too many.
@@ -119,7 +120,7 @@ fn commented_program(alloc: Global, length: usize) -> Result<Vec<u8>, AllocError
 #[test]
 fn texts_are_limited(rt: HostRuntime) -> Result<(), Fail> {
     let largest = commented_program(rt.alloc(), FILE_LIMIT)?;
-    assert_eq!(rt; largest.len(), FILE_LIMIT);
+    expect_same(&rt, largest.len(), FILE_LIMIT, "bytes");
     let slots = bytes_of(rt.alloc(), &[0xb700_0000_0100_0000, EXIT])?;
     expect(&rt, Command::Asm, largest.as_slice(), slots.as_slice(), 0);
     let too_large = commented_program(rt.alloc(), FILE_LIMIT + 1)?;
@@ -141,7 +142,7 @@ fn canonical<R: AllocGlobal + Abort>(rt: &R, bytes: &[u8]) -> Vec<u8> {
         bytes,
         &mut Counted::new(&mut memory),
     );
-    assert_eq!(rt; status, 0);
+    expect_same(rt, status, 0, "status");
     memory.bytes
 }
 
@@ -154,22 +155,20 @@ fn round_trip<R: AllocGlobal + Abort>(rt: &R, text: &str, slots: &[u64]) -> Resu
     Ok(())
 }
 
-// The callbacks of the kernel's example policy scx_simple, with the slots that LLVM's assembler gives them
-// (a reference to map 0 being its 64-bit immediate load, with source field 5).
-
-#[test]
-fn init_goes_there_and_back(rt: HostRuntime) -> Result<(), Fail> {
-    let text = "\
+/// The callbacks of the kernel's example policy scx_simple, with the slots that LLVM's assembler gives them
+/// (a reference to map 0 being its 64-bit immediate load, with source field 5).
+const SCX_SIMPLE: [Row<'_>; 8] = [
+    // init
+    (
+        "\
         r1 = 0\n\
         call 1001\n\
-        exit\n";
-    let slots = [0xb701_0000_0000_0000, 0x8500_0000_e903_0000, EXIT];
-    round_trip(&rt, text, &slots)
-}
-
-#[test]
-fn select_cpu_goes_there_and_back(rt: HostRuntime) -> Result<(), Fail> {
-    let text = "\
+        exit\n",
+        &[0xb701_0000_0000_0000, 0x8500_0000_e903_0000, EXIT],
+    ),
+    // select_cpu
+    (
+        "\
         r6 = r1\n\
         call 1005\n\
         r7 = r0\n\
@@ -183,47 +182,43 @@ fn select_cpu_goes_there_and_back(rt: HostRuntime) -> Result<(), Fail> {
         call 1002\n\
         out:\n\
         r0 = r7\n\
-        exit\n";
-    let slots = [
-        0xbf16_0000_0000_0000,
-        0x8500_0000_ed03_0000,
-        0xbf07_0000_0000_0000,
-        0xbf01_0000_0000_0000,
-        0x8500_0000_ee03_0000,
-        0x1500_0600_0000_0000,
-        0xbf61_0000_0000_0000,
-        0x1802_0000_0200_0000,
-        0x0000_0000_0000_0080,
-        0xb703_0000_002d_3101,
-        0xb704_0000_0000_0000,
-        0x8500_0000_ea03_0000,
-        0xbf70_0000_0000_0000,
-        EXIT,
-    ];
-    round_trip(&rt, text, &slots)
-}
-
-#[test]
-fn enqueue_in_order_goes_there_and_back(rt: HostRuntime) -> Result<(), Fail> {
-    let text = "\
+        exit\n",
+        &[
+            0xbf16_0000_0000_0000,
+            0x8500_0000_ed03_0000,
+            0xbf07_0000_0000_0000,
+            0xbf01_0000_0000_0000,
+            0x8500_0000_ee03_0000,
+            0x1500_0600_0000_0000,
+            0xbf61_0000_0000_0000,
+            0x1802_0000_0200_0000,
+            0x0000_0000_0000_0080,
+            0xb703_0000_002d_3101,
+            0xb704_0000_0000_0000,
+            0x8500_0000_ea03_0000,
+            0xbf70_0000_0000_0000,
+            EXIT,
+        ],
+    ),
+    // enqueue, in order
+    (
+        "\
         r4 = r2\n\
         r2 = 0\n\
         r3 = 20000000\n\
         call 1002\n\
-        exit\n";
-    let slots = [
-        0xbf24_0000_0000_0000,
-        0xb702_0000_0000_0000,
-        0xb703_0000_002d_3101,
-        0x8500_0000_ea03_0000,
-        EXIT,
-    ];
-    round_trip(&rt, text, &slots)
-}
-
-#[test]
-fn enqueue_by_virtual_time_goes_there_and_back(rt: HostRuntime) -> Result<(), Fail> {
-    let text = "\
+        exit\n",
+        &[
+            0xbf24_0000_0000_0000,
+            0xb702_0000_0000_0000,
+            0xb703_0000_002d_3101,
+            0x8500_0000_ea03_0000,
+            EXIT,
+        ],
+    ),
+    // enqueue, by virtual time
+    (
+        "\
         r6 = r1\n\
         r7 = r2\n\
         *(u32 *)(r10 - 4) = 0\n\
@@ -246,47 +241,43 @@ fn enqueue_by_virtual_time_goes_there_and_back(rt: HostRuntime) -> Result<(), Fa
         r5 = r7\n\
         call 1003\n\
         out:\n\
-        exit\n";
-    let slots = [
-        0xbf16_0000_0000_0000,
-        0xbf27_0000_0000_0000,
-        0x620a_fcff_0000_0000,
-        0xbfa2_0000_0000_0000,
-        0x0702_0000_fcff_ffff,
-        0x1851_0000_0000_0000,
-        0,
-        0x8500_0000_0100_0000,
-        0x1500_0c00_0000_0000,
-        0x7901_0000_0000_0000,
-        0x0701_0000_00d3_cefe,
-        0x7964_1000_0000_0000,
-        0xbf42_0000_0000_0000,
-        0x1f12_0000_0000_0000,
-        0x7502_0100_0000_0000,
-        0xbf14_0000_0000_0000,
-        0xbf61_0000_0000_0000,
-        0xb702_0000_0000_0000,
-        0xb703_0000_002d_3101,
-        0xbf75_0000_0000_0000,
-        0x8500_0000_eb03_0000,
-        EXIT,
-    ];
-    round_trip(&rt, text, &slots)
-}
-
-#[test]
-fn dispatch_goes_there_and_back(rt: HostRuntime) -> Result<(), Fail> {
-    let text = "\
+        exit\n",
+        &[
+            0xbf16_0000_0000_0000,
+            0xbf27_0000_0000_0000,
+            0x620a_fcff_0000_0000,
+            0xbfa2_0000_0000_0000,
+            0x0702_0000_fcff_ffff,
+            0x1851_0000_0000_0000,
+            0,
+            0x8500_0000_0100_0000,
+            0x1500_0c00_0000_0000,
+            0x7901_0000_0000_0000,
+            0x0701_0000_00d3_cefe,
+            0x7964_1000_0000_0000,
+            0xbf42_0000_0000_0000,
+            0x1f12_0000_0000_0000,
+            0x7502_0100_0000_0000,
+            0xbf14_0000_0000_0000,
+            0xbf61_0000_0000_0000,
+            0xb702_0000_0000_0000,
+            0xb703_0000_002d_3101,
+            0xbf75_0000_0000_0000,
+            0x8500_0000_eb03_0000,
+            EXIT,
+        ],
+    ),
+    // dispatch
+    (
+        "\
         r1 = 0\n\
         call 1004\n\
-        exit\n";
-    let slots = [0xb701_0000_0000_0000, 0x8500_0000_ec03_0000, EXIT];
-    round_trip(&rt, text, &slots)
-}
-
-#[test]
-fn running_goes_there_and_back(rt: HostRuntime) -> Result<(), Fail> {
-    let text = "\
+        exit\n",
+        &[0xb701_0000_0000_0000, 0x8500_0000_ec03_0000, EXIT],
+    ),
+    // running
+    (
+        "\
         r6 = r1\n\
         *(u32 *)(r10 - 4) = 0\n\
         r2 = r10\n\
@@ -301,30 +292,28 @@ fn running_goes_there_and_back(rt: HostRuntime) -> Result<(), Fail> {
         if r3 s>= 0 goto out\n\
         *(u64 *)(r0 + 0) = r2\n\
         out:\n\
-        exit\n";
-    let slots = [
-        0xbf16_0000_0000_0000,
-        0x620a_fcff_0000_0000,
-        0xbfa2_0000_0000_0000,
-        0x0702_0000_fcff_ffff,
-        0x1851_0000_0000_0000,
-        0,
-        0x8500_0000_0100_0000,
-        0x1500_0600_0000_0000,
-        0x7901_0000_0000_0000,
-        0x7962_1000_0000_0000,
-        0xbf13_0000_0000_0000,
-        0x1f23_0000_0000_0000,
-        0x7503_0100_0000_0000,
-        0x7b20_0000_0000_0000,
-        EXIT,
-    ];
-    round_trip(&rt, text, &slots)
-}
-
-#[test]
-fn stopping_goes_there_and_back(rt: HostRuntime) -> Result<(), Fail> {
-    let text = "\
+        exit\n",
+        &[
+            0xbf16_0000_0000_0000,
+            0x620a_fcff_0000_0000,
+            0xbfa2_0000_0000_0000,
+            0x0702_0000_fcff_ffff,
+            0x1851_0000_0000_0000,
+            0,
+            0x8500_0000_0100_0000,
+            0x1500_0600_0000_0000,
+            0x7901_0000_0000_0000,
+            0x7962_1000_0000_0000,
+            0xbf13_0000_0000_0000,
+            0x1f23_0000_0000_0000,
+            0x7503_0100_0000_0000,
+            0x7b20_0000_0000_0000,
+            EXIT,
+        ],
+    ),
+    // stopping
+    (
+        "\
         r2 = 20000000\n\
         r3 = *(u64 *)(r1 + 8)\n\
         r2 -= r3\n\
@@ -334,25 +323,23 @@ fn stopping_goes_there_and_back(rt: HostRuntime) -> Result<(), Fail> {
         r3 = *(u64 *)(r1 + 16)\n\
         r3 += r2\n\
         *(u64 *)(r1 + 16) = r3\n\
-        exit\n";
-    let slots = [
-        0xb702_0000_002d_3101,
-        0x7913_0800_0000_0000,
-        0x1f32_0000_0000_0000,
-        0x2702_0000_6400_0000,
-        0x6113_0400_0000_0000,
-        0x3f32_0000_0000_0000,
-        0x7913_1000_0000_0000,
-        0x0f23_0000_0000_0000,
-        0x7b31_1000_0000_0000,
-        EXIT,
-    ];
-    round_trip(&rt, text, &slots)
-}
-
-#[test]
-fn enable_goes_there_and_back(rt: HostRuntime) -> Result<(), Fail> {
-    let text = "\
+        exit\n",
+        &[
+            0xb702_0000_002d_3101,
+            0x7913_0800_0000_0000,
+            0x1f32_0000_0000_0000,
+            0x2702_0000_6400_0000,
+            0x6113_0400_0000_0000,
+            0x3f32_0000_0000_0000,
+            0x7913_1000_0000_0000,
+            0x0f23_0000_0000_0000,
+            0x7b31_1000_0000_0000,
+            EXIT,
+        ],
+    ),
+    // enable
+    (
+        "\
         r6 = r1\n\
         *(u32 *)(r10 - 4) = 0\n\
         r2 = r10\n\
@@ -363,19 +350,27 @@ fn enable_goes_there_and_back(rt: HostRuntime) -> Result<(), Fail> {
         r1 = *(u64 *)(r0 + 0)\n\
         *(u64 *)(r6 + 16) = r1\n\
         out:\n\
-        exit\n";
-    let slots = [
-        0xbf16_0000_0000_0000,
-        0x620a_fcff_0000_0000,
-        0xbfa2_0000_0000_0000,
-        0x0702_0000_fcff_ffff,
-        0x1851_0000_0000_0000,
-        0,
-        0x8500_0000_0100_0000,
-        0x1500_0200_0000_0000,
-        0x7901_0000_0000_0000,
-        0x7b16_1000_0000_0000,
-        EXIT,
-    ];
-    round_trip(&rt, text, &slots)
+        exit\n",
+        &[
+            0xbf16_0000_0000_0000,
+            0x620a_fcff_0000_0000,
+            0xbfa2_0000_0000_0000,
+            0x0702_0000_fcff_ffff,
+            0x1851_0000_0000_0000,
+            0,
+            0x8500_0000_0100_0000,
+            0x1500_0200_0000_0000,
+            0x7901_0000_0000_0000,
+            0x7b16_1000_0000_0000,
+            EXIT,
+        ],
+    ),
+];
+
+#[test]
+fn scx_simple_goes_there_and_back(rt: HostRuntime) -> Result<(), Fail> {
+    for &(text, slots) in &SCX_SIMPLE {
+        round_trip(&rt, text, slots)?;
+    }
+    Ok(())
 }

@@ -1,5 +1,6 @@
 //! Tests of the words that name a command and its files.
 
+use crate::same::expect_same;
 use scx_words::{Request, read_words};
 use std::process::Abort;
 use std::test::Fail;
@@ -9,7 +10,7 @@ type Row<'a> = (&'a [&'a str], Request<'a>);
 
 fn understand<R: AllocGlobal + Abort>(rt: &R, rows: &[Row<'_>]) -> Result<(), Fail> {
     for &(words, wanted) in rows {
-        assert_eq!(rt; read_words(rt.alloc(), words)?, Some(wanted));
+        expect_same(rt, read_words(rt.alloc(), words)?, Some(wanted), words);
     }
     Ok(())
 }

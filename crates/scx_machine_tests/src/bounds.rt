@@ -1,10 +1,12 @@
 //! As much as there may be, and policies that do nothing or name what they may not.
 
-use crate::policies::{SHORT_SLICES, callbacks, defs, policy, tree};
+use crate::cases::{Case, Step, expect};
+use crate::policies::{SHORT_SLICES, policy, tree};
+use crate::same::expect_same;
 use crate::session::Session;
 use scx_examples::INIT;
 use scx_isa::Callback;
-use scx_sched::{Callbacks, Eject, Event, Fault, NewError, Place, Policy, Sim};
+use scx_sched::{Eject, Event, Fault, NewError, Place, Policy, Sim};
 use scx_weights::{Group, Tree, TreeError};
 use std::alloc::{AllocError, Global};
 use std::fmt::Write;
@@ -90,7 +92,12 @@ fn a_machine_may_be_as_large_as_its_limits(rt: HostRuntime) -> Result<(), Fail> 
     // A slice of 2 ms is over with the second tick of a processor.
     tick_twice(&rt, &mut session);
     // Two for each task that wakes, two for each that then runs, four where one follows another.
-    assert_eq!(rt; session.recorder.notes, 2 * 1024 + 2 * 64 + 4 * 64);
+    expect_same(
+        &rt,
+        session.recorder.notes,
+        2 * 1024 + 2 * 64 + 4 * 64,
+        "notes",
+    );
     drop(session);
     Ok(())
 }
@@ -104,7 +111,7 @@ fn expect_queues<R: AllocGlobal + Abort>(
     let init = creating(rt.alloc(), queues)?;
     let policy = policy(rt, &[(Callback::Init, init.as_str())]);
     let found = Sim::new(rt.alloc(), policy, tree(rt, &[0]), 1).err();
-    assert_eq!(rt; found, wanted);
+    expect_same(rt, found, wanted, queues);
     Ok(())
 }
 
@@ -164,7 +171,7 @@ const INSERTS: [(&str, &str, Option<Fault>); 11] = [
 fn each_insert_is_judged(rt: HostRuntime) -> Result<(), Fail> {
     for &(queue, flags, fault) in &INSERTS {
         let enqueue = inserting(rt.alloc(), queue, flags)?;
-        assert_eq!(rt; fault_of(&rt, enqueue.as_str()), fault, "{queue} {flags}");
+        expect_same(&rt, fault_of(&rt, enqueue.as_str()), fault, (queue, flags));
     }
     Ok(())
 }
@@ -178,10 +185,11 @@ fn expect_move<R: AllocGlobal + Abort>(
     wanted: Option<Eject>,
 ) -> Result<(), AllocError> {
     let dispatch = format!(in rt.alloc(); "r1 = {queue} ll\ncall 1004\nexit")?;
-    assert_eq!(rt;
+    expect_same(
+        rt,
         after_move(rt, enqueue, dispatch.as_str()),
         (Place::Cpu(0), wanted),
-        "{queue}"
+        queue,
     );
     Ok(())
 }
@@ -223,9 +231,10 @@ fn each_move_is_judged(rt: HostRuntime) -> Result<(), Fail> {
     Ok(())
 }
 
-/// Callbacks that do nothing, or answer 0.
-fn idle_callbacks<R: AllocGlobal + Abort>(rt: &R) -> Callbacks {
-    let texts = [
+/// Callbacks that do nothing, or answer 0, as a task wakes and each processor ticks.
+const DO_NOTHING: Case = Case {
+    timeout_ms: 1,
+    texts: &[
         (Callback::Init, "r0 = 0\nexit"),
         (Callback::Enable, "exit"),
         (Callback::SelectCpu, "r0 = 0\nexit"),
@@ -233,26 +242,17 @@ fn idle_callbacks<R: AllocGlobal + Abort>(rt: &R) -> Callbacks {
         (Callback::Dispatch, "exit"),
         (Callback::Running, "exit"),
         (Callback::Stopping, "exit"),
-    ];
-    callbacks(rt, &texts)
-}
-
-fn idle_policy<R: AllocGlobal + Abort>(rt: &R) -> Policy {
-    let policy = Policy::new(defs(rt), 1, idle_callbacks(rt));
-    policy.expect(rt, "each program is for its place")
-}
-
-/// A task wakes, and each processor ticks.
-fn wake_and_tick(rt: &impl Abort, session: &mut Session) {
-    let events = [Event::Wake(0), Event::Tick(1), Event::Clock, Event::Tick(0)];
-    session.run(rt, &events);
-}
+    ],
+    tasks: &[0, 0],
+    cpus: 2,
+    steps: &[
+        Step::Run(&[Event::Wake(0), Event::Tick(1), Event::Clock, Event::Tick(0)]),
+        Step::At(&[(0, Place::Held)]),
+        Step::Notes(2),
+    ],
+};
 
 #[test]
 fn callbacks_may_do_nothing(rt: HostRuntime) {
-    let mut session = Session::of(&rt, idle_policy(&rt), tree(&rt, &[0, 0]), 2, 100);
-    wake_and_tick(&rt, &mut session);
-    session.are_at(&rt, &[(0, Place::Held)]);
-    assert_eq!(rt; session.recorder.notes, 2);
-    drop(session);
+    expect(&rt, &DO_NOTHING);
 }

@@ -2,6 +2,7 @@
 //! 9223372036854775811 is HELD, 9223372036854775812 is BUILTIN, and 13835058055282163712 is the local queue
 //! of processor 0.
 
+use crate::cases::{Case, Step, expect, go};
 use crate::policies::{SHORT_SLICES, policy};
 use crate::session::Session;
 use scx_examples::{DISPATCH, INIT};
@@ -98,14 +99,18 @@ const WAKES: [(&[(Callback, &str)], &str); 6] = [
     ),
 ];
 
+fn expect_wake<R: AllocGlobal + Abort>(rt: &R, texts: &[(Callback, &str)], wanted: &str) {
+    let mut session = Session::new(rt, texts, &[0], 1);
+    session.run(rt, &[Event::Wake(0)]);
+    session.noted(rt, wanted);
+    session.are_at(rt, &[(0, Place::Cpu(0))]);
+    drop(session);
+}
+
 #[test]
 fn as_a_task_wakes(rt: HostRuntime) {
     for &(texts, wanted) in &WAKES {
-        let mut session = Session::new(&rt, texts, &[0], 1);
-        session.run(&rt, &[Event::Wake(0)]);
-        session.noted(&rt, wanted);
-        session.are_at(&rt, &[(0, Place::Cpu(0))]);
-        drop(session);
+        expect_wake(&rt, texts, wanted);
     }
 }
 
@@ -129,45 +134,45 @@ const NOT_HELD: &str = "0 Wake(0)
 1 Fault(CannotInsert)
 ";
 
-fn insert_who_runs(rt: &impl Abort, session: &mut Session) {
-    session.run(rt, &[Event::Wake(0)]);
-    session.go_by(rt, 3);
-    session.noted(rt, NOT_HELD);
-    // It keeps its processor, and has used a millisecond of a whole slice.
-    session.are_at(rt, &[(0, Place::Cpu(0))]);
-    session.has_slice(rt, 0, 19_000_000);
-}
+const INSERTED: Case = Case {
+    timeout_ms: 30_000,
+    texts: &[(Callback::Enqueue, "exit"), (Callback::Dispatch, FIRST)],
+    tasks: &[0],
+    cpus: 1,
+    steps: &[
+        Step::Run(&[Event::Wake(0)]),
+        Step::GoBy(3),
+        Step::Noted(NOT_HELD),
+        // It keeps its processor, and has used a millisecond of a whole slice.
+        Step::At(&[(0, Place::Cpu(0))]),
+        Step::HasSlice(0, 19_000_000),
+    ],
+};
 
 #[test]
 fn a_task_that_runs_is_inserted(rt: HostRuntime) {
-    let texts = [(Callback::Enqueue, "exit"), (Callback::Dispatch, FIRST)];
-    let mut session = Session::new(&rt, &texts, &[0], 1);
-    insert_who_runs(&rt, &mut session);
-    drop(session);
+    expect(&rt, &INSERTED);
 }
 
 /// A queue that isn't there.
 const LENGTH: &str = "r1 = 9\ncall 1008\nexit";
 
-/// Two tasks take turns of two milliseconds under a policy with one callback more.
-fn turns_with<R: AllocGlobal + Abort>(rt: &R, callback: Callback, wanted: &str) {
-    let texts = [
+/// Two tasks take turns of two milliseconds.
+const RUNNING_FAILS: Case = Case {
+    timeout_ms: 30_000,
+    texts: &[
         (Callback::Init, INIT),
         (Callback::Enqueue, SHORT_SLICES),
         (Callback::Dispatch, DISPATCH),
-        (callback, LENGTH),
-    ];
-    let mut session = Session::new(rt, &texts, &[0, 0], 1);
-    session.run(rt, &[Event::Wake(0), Event::Wake(1)]);
-    session.go_by(rt, 2);
-    session.noted(rt, wanted);
-    session.are_at(rt, &[(0, Place::Builtin), (1, Place::Cpu(0))]);
-    drop(session);
-}
-
-#[test]
-fn as_a_task_runs(rt: HostRuntime) {
-    let wanted = "0 Wake(0)
+        (Callback::Running, LENGTH),
+    ],
+    tasks: &[0, 0],
+    cpus: 1,
+    steps: &[
+        Step::Run(&[Event::Wake(0), Event::Wake(1)]),
+        Step::GoBy(2),
+        Step::Noted(
+            "0 Wake(0)
 0 Insert(0, 0)
 0 Move(0, 0)
 0 Run(0, 0)
@@ -178,14 +183,33 @@ fn as_a_task_runs(rt: HostRuntime) {
 1 Stop(0, 0)
 1 Insert(0, 9223372036854775812)
 1 Run(1, 0)
-";
-    turns_with(&rt, Callback::Running, wanted);
+",
+        ),
+        Step::At(&[(0, Place::Builtin), (1, Place::Cpu(0))]),
+    ],
+};
+
+#[test]
+fn as_a_task_runs(rt: HostRuntime) {
+    expect(&rt, &RUNNING_FAILS);
 }
 
 /// The local queue is emptied as the task before stops, and the second task comes to it anew.
-#[test]
-fn as_a_task_stops(rt: HostRuntime) {
-    let wanted = "0 Wake(0)
+const STOPPING_FAILS: Case = Case {
+    timeout_ms: 30_000,
+    texts: &[
+        (Callback::Init, INIT),
+        (Callback::Enqueue, SHORT_SLICES),
+        (Callback::Dispatch, DISPATCH),
+        (Callback::Stopping, LENGTH),
+    ],
+    tasks: &[0, 0],
+    cpus: 1,
+    steps: &[
+        Step::Run(&[Event::Wake(0), Event::Wake(1)]),
+        Step::GoBy(2),
+        Step::Noted(
+            "0 Wake(0)
 0 Insert(0, 0)
 0 Move(0, 0)
 0 Run(0, 0)
@@ -198,8 +222,15 @@ fn as_a_task_stops(rt: HostRuntime) {
 1 Insert(0, 9223372036854775812)
 1 Move(1, 0)
 1 Run(1, 0)
-";
-    turns_with(&rt, Callback::Stopping, wanted);
+",
+        ),
+        Step::At(&[(0, Place::Builtin), (1, Place::Cpu(0))]),
+    ],
+};
+
+#[test]
+fn as_a_task_stops(rt: HostRuntime) {
+    expect(&rt, &STOPPING_FAILS);
 }
 
 const MIXED: &str = "0 Wake(0)
@@ -226,13 +257,20 @@ call 1002
 exit
 ";
 
+const MIXES: Case = Case {
+    timeout_ms: 30_000,
+    texts: &[(Callback::Init, INIT), (Callback::Enqueue, MIXING)],
+    tasks: &[0, 0],
+    cpus: 1,
+    steps: &[
+        Step::Run(&[Event::Wake(0), Event::Wake(1)]),
+        Step::Noted(MIXED),
+    ],
+};
+
 #[test]
 fn as_queues_are_mixed(rt: HostRuntime) {
-    let texts = [(Callback::Init, INIT), (Callback::Enqueue, MIXING)];
-    let mut session = Session::new(&rt, &texts, &[0, 0], 1);
-    session.run(&rt, &[Event::Wake(0), Event::Wake(1)]);
-    session.noted(&rt, MIXED);
-    drop(session);
+    expect(&rt, &MIXES);
 }
 
 /// Inserts into queue 0 with a slice without end.
@@ -248,30 +286,33 @@ const STALLS: &str = "0 Wake(0)
 6 Insert(1, 9223372036854775812)
 ";
 
-fn stall_behind_an_endless_slice(rt: &impl Abort, session: &mut Session) {
-    session.run(rt, &[Event::Wake(0), Event::Wake(1)]);
-    session.go_by(rt, 5);
-    session.has_waited(rt, 1, 5);
-    assert_eq!(rt; session.sim.ejected(), None);
-    session.has_slice(rt, 0, u64::MAX);
-    session.go_by(rt, 1);
-    assert_eq!(rt; session.sim.ejected(), Some(Eject::Stall(1, 6)));
-    session.has_slice(rt, 0, 20_000_000);
-    session.go_by(rt, 1);
-    session.has_slice(rt, 0, 19_000_000);
-    session.noted(rt, STALLS);
-}
-
-#[test]
-fn as_a_task_waits_behind_an_endless_slice(rt: HostRuntime) {
-    let texts = [
+const STALLS_BEHIND: Case = Case {
+    timeout_ms: 5,
+    texts: &[
         (Callback::Init, INIT),
         (Callback::Enqueue, ENDLESS),
         (Callback::Dispatch, DISPATCH),
-    ];
-    let mut session = Session::within(&rt, 5, &texts, &[0, 0]);
-    stall_behind_an_endless_slice(&rt, &mut session);
-    drop(session);
+    ],
+    tasks: &[0, 0],
+    cpus: 1,
+    steps: &[
+        Step::Run(&[Event::Wake(0), Event::Wake(1)]),
+        Step::GoBy(5),
+        Step::HasWaited(1, 5),
+        Step::Ejected(None),
+        Step::HasSlice(0, u64::MAX),
+        Step::GoBy(1),
+        Step::Ejected(Some(Eject::Stall(1, 6))),
+        Step::HasSlice(0, 20_000_000),
+        Step::GoBy(1),
+        Step::HasSlice(0, 19_000_000),
+        Step::Noted(STALLS),
+    ],
+};
+
+#[test]
+fn as_a_task_waits_behind_an_endless_slice(rt: HostRuntime) {
+    expect(&rt, &STALLS_BEHIND);
 }
 
 const HELD: &str = "0 Wake(0)
@@ -294,25 +335,25 @@ fn holding<R: AllocGlobal + Abort>(rt: &R) -> Session {
     Session::within(rt, 5, &[(Callback::Enqueue, "exit")], &[0, 0])
 }
 
-fn hold_two(rt: &impl Abort, session: &mut Session) {
-    session.run(rt, &[Event::Wake(0), Event::Wake(1)]);
-    session.go_by(rt, 27);
-    session.noted(rt, HELD);
-    assert_eq!(rt; session.sim.ejected(), Some(Eject::Stall(0, 6)));
-    session.are_at(rt, &[(0, Place::Builtin), (1, Place::Cpu(0))]);
-}
+const HOLDS: [Step; 7] = [
+    Step::Run(&[Event::Wake(0), Event::Wake(1)]),
+    Step::GoBy(27),
+    Step::Noted(HELD),
+    Step::Ejected(Some(Eject::Stall(0, 6))),
+    Step::At(&[(0, Place::Builtin), (1, Place::Cpu(0))]),
+    // Whoever waits now waits for the built-in scheduler, and no policy is ejected again.
+    Step::GoBy(100),
+    Step::Ejected(Some(Eject::Stall(0, 6))),
+];
 
 #[test]
 fn as_tasks_are_held(rt: HostRuntime) {
     let mut session = holding(&rt);
-    hold_two(&rt, &mut session);
-    // Whoever waits now waits for the built-in scheduler, and no policy is ejected again.
-    session.go_by(&rt, 100);
-    assert_eq!(rt; session.sim.ejected(), Some(Eject::Stall(0, 6)));
+    go(&rt, &mut session, &HOLDS);
     drop(session);
 }
 
-/// As many events are in the list of `hold_two`.
+/// As many events come before what `HOLDS` looks at first.
 const EVENTS: usize = 56;
 
 fn event_of(number: usize) -> Event {
@@ -413,27 +454,28 @@ out:
 exit
 ";
 
-fn eject_at_the_third(rt: &impl Abort, session: &mut Session) {
-    session.run(rt, &[Event::Wake(0), Event::Wake(1), Event::Wake(2)]);
-    for _ in 0..22 {
-        session.run(rt, &[Event::Tick(0), Event::Tick(1), Event::Clock]);
-    }
-    session.noted(rt, TWO_CPUS);
-    session.are_at(rt, &[(0, Place::Builtin), (1, Place::Cpu(0))]);
-}
-
 /// Tasks that run keep their processors, and take turns by how much they used: 600060 for each slice.
-#[test]
-fn on_two_processors(rt: HostRuntime) {
-    let texts = [
+const TAKES_TURNS: Case = Case {
+    timeout_ms: 30_000,
+    texts: &[
         (Callback::Init, INIT),
         (Callback::SelectCpu, THIRD),
         (Callback::Enqueue, SHORT_SLICES),
         (Callback::Dispatch, DISPATCH),
-    ];
-    let mut session = Session::new(&rt, &texts, &[0, 0, 0], 2);
-    eject_at_the_third(&rt, &mut session);
-    drop(session);
+    ],
+    tasks: &[0, 0, 0],
+    cpus: 2,
+    steps: &[
+        Step::Run(&[Event::Wake(0), Event::Wake(1), Event::Wake(2)]),
+        Step::Repeat(22, &[Event::Tick(0), Event::Tick(1), Event::Clock]),
+        Step::Noted(TWO_CPUS),
+        Step::At(&[(0, Place::Builtin), (1, Place::Cpu(0))]),
+    ],
+};
+
+#[test]
+fn on_two_processors(rt: HostRuntime) {
+    expect(&rt, &TAKES_TURNS);
 }
 
 /// By number: GLOBAL, the policy's queue, the processor's own, GLOBAL, nowhere, and a queue that isn't there.
@@ -481,17 +523,23 @@ const FROM_EVERYWHERE: &str = "0 Wake(0)
 ";
 
 /// Who waits in any queue goes over, in the order of numbers; who runs stays. Two of them sleep then.
+const GO_OVER: Case = Case {
+    timeout_ms: 30_000,
+    texts: &[(Callback::Init, INIT), (Callback::Enqueue, EVERYWHERE)],
+    tasks: &[0, 0, 0, 0, 0, 0],
+    cpus: 1,
+    steps: &[
+        Step::Run(&[Event::Wake(0), Event::Wake(4), Event::Wake(3)]),
+        Step::Run(&[Event::Wake(2), Event::Wake(1), Event::Wake(5)]),
+        Step::At(&[(0, Place::Cpu(0)), (4, Place::Builtin)]),
+        Step::Run(&[Event::Sleep(1), Event::Sleep(0)]),
+        Step::Noted(FROM_EVERYWHERE),
+    ],
+};
+
 #[test]
 fn from_every_queue(rt: HostRuntime) {
-    let texts = [(Callback::Init, INIT), (Callback::Enqueue, EVERYWHERE)];
-    let mut session = Session::new(&rt, &texts, &[0, 0, 0, 0, 0, 0], 1);
-    for task in [0, 4, 3, 2, 1, 5] {
-        session.run(&rt, &[Event::Wake(task)]);
-    }
-    session.are_at(&rt, &[(0, Place::Cpu(0)), (4, Place::Builtin)]);
-    session.run(&rt, &[Event::Sleep(1), Event::Sleep(0)]);
-    session.noted(&rt, FROM_EVERYWHERE);
-    drop(session);
+    expect(&rt, &GO_OVER);
 }
 
 /// After slices of 20 ms the first task has 266666 more, and each of the others 1600000.
@@ -537,13 +585,17 @@ fn three_to_one(alloc: Global) -> Result<Tree, TreeError> {
     Tree::new(alloc, &[heavy, light], &[0, 1, 1])
 }
 
+const WEIGHED: [Step; 3] = [
+    Step::Run(&[Event::Wake(0), Event::Wake(1), Event::Wake(2)]),
+    Step::GoBy(130),
+    Step::Noted(BY_WEIGHT),
+];
+
 #[test]
 fn who_weighs_more_runs_more(rt: HostRuntime) -> Result<(), Fail> {
     let policy = policy(&rt, &[(Callback::Enqueue, NO_QUEUE)]);
     let mut session = Session::of(&rt, policy, three_to_one(rt.alloc())?, 1, 100);
-    session.run(&rt, &[Event::Wake(0), Event::Wake(1), Event::Wake(2)]);
-    session.go_by(&rt, 130);
-    session.noted(&rt, BY_WEIGHT);
+    go(&rt, &mut session, &WEIGHED);
     drop(session);
     Ok(())
 }

@@ -3,6 +3,7 @@
 
 use crate::policies::{defs, policy, tree};
 use crate::recorder::Recorder;
+use crate::same::expect_same;
 use crate::session::Session;
 use scx_asm::assemble;
 use scx_examples::INIT;
@@ -233,7 +234,7 @@ fn expect<R: AllocGlobal + Abort>(rt: &R, callback: Callback, text: &str, wanted
         Some(number) => number,
         None => code_of(rt, callback, text),
     };
-    assert_eq!(rt; found, wanted, "{text}");
+    expect_same(rt, found, wanted, text);
 }
 
 #[test]
@@ -352,7 +353,8 @@ const POLICIES: [(&[(Callback, &str)], Fault); 9] = [
 fn ejects<R: AllocGlobal + Abort>(rt: &R, texts: &[(Callback, &str)], fault: Fault) {
     let mut session = Session::new(rt, texts, &[0, 0], 1);
     session.run(rt, &[Event::Wake(1), Event::Wake(0)]);
-    assert_eq!(rt; session.sim.ejected(), Some(Eject::Fault(fault, 0)));
+    let wanted = Some(Eject::Fault(fault, 0));
+    expect_same(rt, session.sim.ejected(), wanted, fault);
     drop(session);
 }
 

@@ -4,6 +4,8 @@
 #[cfg(test)]
 mod bounds;
 #[cfg(test)]
+mod cases;
+#[cfg(test)]
 mod crowds;
 #[cfg(test)]
 mod ejecting;
@@ -17,6 +19,8 @@ mod recorder;
 mod refusals;
 #[cfg(test)]
 mod rows;
+#[cfg(test)]
+mod same;
 #[cfg(test)]
 mod selecting;
 #[cfg(test)]

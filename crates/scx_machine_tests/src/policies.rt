@@ -37,26 +37,35 @@ pub(crate) fn program<R: AllocGlobal + Abort>(rt: &R, callback: Callback, text: 
     verify(rt.alloc(), program, callback, &defs(rt)).expect(rt, "the program is safe")
 }
 
-fn set(callbacks: &mut Callbacks, callback: Callback, program: Verified) {
-    match callback {
-        Callback::Plain => {}
-        Callback::Init => callbacks.init = Some(program),
-        Callback::Enable => callbacks.enable = Some(program),
-        Callback::SelectCpu => callbacks.select_cpu = Some(program),
-        Callback::Enqueue => callbacks.enqueue = Some(program),
-        Callback::Dispatch => callbacks.dispatch = Some(program),
-        Callback::Running => callbacks.running = Some(program),
-        Callback::Stopping => callbacks.stopping = Some(program),
+/// The program of the last of the texts for that callback, if there is one.
+fn program_among<R: AllocGlobal + Abort>(
+    rt: &R,
+    texts: &[(Callback, &str)],
+    callback: Callback,
+) -> Option<Verified> {
+    let mut found = None;
+    for &(other, text) in texts {
+        if other == callback {
+            found = Some(text);
+        }
+    }
+    match found {
+        Some(text) => Some(program(rt, callback, text)),
+        None => None,
     }
 }
 
 /// The callbacks with these texts.
 pub(crate) fn callbacks<R: AllocGlobal + Abort>(rt: &R, texts: &[(Callback, &str)]) -> Callbacks {
-    let mut callbacks = NONE;
-    for &(callback, text) in texts {
-        set(&mut callbacks, callback, program(rt, callback, text));
+    Callbacks {
+        init: program_among(rt, texts, Callback::Init),
+        enable: program_among(rt, texts, Callback::Enable),
+        select_cpu: program_among(rt, texts, Callback::SelectCpu),
+        enqueue: program_among(rt, texts, Callback::Enqueue),
+        dispatch: program_among(rt, texts, Callback::Dispatch),
+        running: program_among(rt, texts, Callback::Running),
+        stopping: program_among(rt, texts, Callback::Stopping),
     }
-    callbacks
 }
 
 /// The policy whose callbacks have these texts.
@@ -75,16 +84,11 @@ pub(crate) fn policy_within<R: AllocGlobal + Abort>(
 }
 
 /// Tasks wait in queue 0, in order of arrival, and run for 2 ms.
-pub(crate) fn two_milliseconds<R: AllocGlobal + Abort>(rt: &R) -> Policy {
-    policy(
-        rt,
-        &[
-            (Callback::Init, INIT),
-            (Callback::Enqueue, SHORT_SLICES),
-            (Callback::Dispatch, DISPATCH),
-        ],
-    )
-}
+pub(crate) const TWO_MILLISECONDS: &[(Callback, &str)] = &[
+    (Callback::Init, INIT),
+    (Callback::Enqueue, SHORT_SLICES),
+    (Callback::Dispatch, DISPATCH),
+];
 
 /// So many tasks in one group.
 pub(crate) fn tree<R: AllocGlobal + Abort>(rt: &R, tasks: &[u32]) -> Tree {

@@ -1,9 +1,10 @@
 //! What no policy, no machine and no event is made of.
 
+use crate::cases::{Case, Step, expect};
 use crate::policies::{
-    NONE, SHORT_SLICES, callbacks, defs, policy, program, tree, two_milliseconds,
+    NONE, SHORT_SLICES, TWO_MILLISECONDS, callbacks, defs, policy, program, tree,
 };
-use crate::session::Session;
+use crate::same::expect_same;
 use scx_isa::Callback;
 use scx_maps::MapDefs;
 use scx_sched::{BadPolicy, Callbacks, Event, NewError, Policy, Refused, Sim};
@@ -12,7 +13,7 @@ use std::process::Abort;
 
 fn expect_timeout(rt: &impl Abort, timeout_ms: u32, wanted: Option<BadPolicy>) {
     let found = Policy::new(defs(rt), timeout_ms, NONE).err();
-    assert_eq!(rt; found, wanted, "{timeout_ms}");
+    expect_same(rt, found, wanted, timeout_ms);
 }
 
 #[test]
@@ -30,7 +31,12 @@ fn a_program_of_another_callback_is_refused(rt: HostRuntime) {
         ..NONE
     };
     let found = Policy::new(defs(&rt), 1, misplaced).err();
-    assert_eq!(rt; found, Some(BadPolicy::OtherCallback));
+    expect_same(
+        &rt,
+        found,
+        Some(BadPolicy::OtherCallback),
+        "another callback",
+    );
 }
 
 #[test]
@@ -38,7 +44,7 @@ fn a_program_of_other_maps_is_refused(rt: HostRuntime) {
     let callbacks = callbacks(&rt, &[(Callback::Enqueue, SHORT_SLICES)]);
     let others = MapDefs::new(&[]).expect(&rt, "no map at all is fine");
     let found = Policy::new(others, 1, callbacks).err();
-    assert_eq!(rt; found, Some(BadPolicy::OtherMaps));
+    expect_same(&rt, found, Some(BadPolicy::OtherMaps), "other maps");
 }
 
 fn bad_machine<R: AllocGlobal + Abort>(
@@ -52,7 +58,7 @@ fn bad_machine<R: AllocGlobal + Abort>(
 
 fn expect_cpus<R: AllocGlobal + Abort>(rt: &R, cpus: u32, wanted: Option<NewError>) {
     let found = bad_machine(rt, &[], tree(rt, &[0]), cpus);
-    assert_eq!(rt; found, wanted, "{cpus} processors");
+    expect_same(rt, found, wanted, cpus);
 }
 
 #[test]
@@ -69,12 +75,12 @@ fn a_tree_with_an_active_task_is_refused(rt: HostRuntime) {
     assert!(rt; known);
     active.activate(0);
     let found = bad_machine(&rt, &[], active, 1);
-    assert_eq!(rt; found, Some(NewError::BadShape));
+    expect_same(&rt, found, Some(NewError::BadShape), "an active task");
 }
 
 fn expect_init<R: AllocGlobal + Abort>(rt: &R, text: &str, wanted: Option<NewError>) {
     let found = bad_machine(rt, &[(Callback::Init, text)], tree(rt, &[0]), 1);
-    assert_eq!(rt; found, wanted, "{text}");
+    expect_same(rt, found, wanted, text);
 }
 
 #[test]
@@ -89,24 +95,27 @@ fn an_answer_of_init_is_refused(rt: HostRuntime) {
     expect_init(&rt, both, Some(NewError::InitFailed(-22)));
 }
 
-/// Events that no machine of two tasks and one processor takes.
-fn refuse_events(rt: &impl Abort, session: &mut Session) {
-    let rows = [
-        (Event::Wake(2), Refused::UnknownTask),
-        (Event::Sleep(2), Refused::UnknownTask),
-        (Event::Sleep(0), Refused::NotRunnable),
-        (Event::Tick(1), Refused::UnknownCpu),
-        (Event::SetWeight(1, 0), Refused::UnknownGroup),
-        (Event::SetWeight(0, 0), Refused::BadWeight),
-        (Event::SetWeight(0, 10_001), Refused::BadWeight),
-    ];
-    session.refuse(rt, &rows);
-}
+/// Events that no machine of two tasks and one processor takes, and one that it takes.
+const REFUSES: Case = Case {
+    timeout_ms: 30_000,
+    texts: TWO_MILLISECONDS,
+    tasks: &[0, 0],
+    cpus: 1,
+    steps: &[
+        Step::Refuse(&[
+            (Event::Wake(2), Refused::UnknownTask),
+            (Event::Sleep(2), Refused::UnknownTask),
+            (Event::Sleep(0), Refused::NotRunnable),
+            (Event::Tick(1), Refused::UnknownCpu),
+            (Event::SetWeight(1, 0), Refused::UnknownGroup),
+            (Event::SetWeight(0, 0), Refused::BadWeight),
+            (Event::SetWeight(0, 10_001), Refused::BadWeight),
+        ]),
+        Step::Run(&[Event::SetWeight(0, 10_000)]),
+    ],
+};
 
 #[test]
 fn events_are_refused(rt: HostRuntime) {
-    let mut session = Session::of(&rt, two_milliseconds(&rt), tree(&rt, &[0, 0]), 1, 100);
-    refuse_events(&rt, &mut session);
-    session.run(&rt, &[Event::SetWeight(0, 10_000)]);
-    drop(session);
+    expect(&rt, &REFUSES);
 }

@@ -1,7 +1,9 @@
 //! Lists of events, and the notes that they give.
 
-use crate::policies::{policy, tree, two_milliseconds};
+use crate::cases::{Case, Step, expect, go};
+use crate::policies::{TWO_MILLISECONDS, policy, tree};
 use crate::recorder::Recorder;
+use crate::same::expect_same;
 use crate::session::Session;
 use scx_headline::run_events;
 use scx_sched::{Event, Place, Refused};
@@ -9,25 +11,11 @@ use std::process::Abort;
 
 /// A machine of two tasks, with room for so many notes.
 fn at_room<R: AllocGlobal + Abort>(rt: &R, room: usize) -> Session {
-    Session::of(rt, two_milliseconds(rt), tree(rt, &[0, 0]), 1, room)
+    Session::of(rt, policy(rt, TWO_MILLISECONDS), tree(rt, &[0, 0]), 1, room)
 }
 
 /// Both tasks wake, and four milliseconds go by.
-fn run_two_tasks(rt: &impl Abort, session: &mut Session) {
-    let events = [
-        Event::Wake(0),
-        Event::Wake(1),
-        Event::Tick(0),
-        Event::Clock,
-        Event::Tick(0),
-        Event::Clock,
-        Event::Tick(0),
-        Event::Clock,
-        Event::Tick(0),
-        Event::Clock,
-    ];
-    session.run(rt, &events);
-}
+const BOTH_WAKE: [Step; 2] = [Step::Run(&[Event::Wake(0), Event::Wake(1)]), Step::GoBy(4)];
 
 const TURNS: &str = "0 Wake(0)
 0 Insert(0, 0)
@@ -45,25 +33,25 @@ const TURNS: &str = "0 Wake(0)
 3 Run(0, 0)
 ";
 
-fn have_taken_turns(rt: &impl Abort, session: &Session) {
-    session.noted(rt, TURNS);
-    session.are_at(rt, &[(0, Place::Cpu(0)), (1, Place::Policy(0))]);
-    assert_eq!(rt; session.sim.clock(), 4);
-    assert_eq!(rt; session.sim.events(), 10);
-}
+const HAVE_TAKEN_TURNS: [Step; 4] = [
+    Step::Noted(TURNS),
+    Step::At(&[(0, Place::Cpu(0)), (1, Place::Policy(0))]),
+    Step::Clock(4),
+    Step::Events(10),
+];
 
 #[test]
 fn two_tasks_take_turns(rt: HostRuntime) {
     let mut session = at_room(&rt, 100);
-    run_two_tasks(&rt, &mut session);
-    have_taken_turns(&rt, &session);
+    go(&rt, &mut session, &BOTH_WAKE);
+    go(&rt, &mut session, &HAVE_TAKEN_TURNS);
     drop(session);
 }
 
 /// Two tasks on a machine that is given the list at once.
 fn at_once<R: AllocGlobal + Abort>(rt: &R, events: &[Event]) -> Session {
     let mut recorder = Recorder::new(rt.alloc(), 100);
-    let policy = two_milliseconds(rt);
+    let policy = policy(rt, TWO_MILLISECONDS);
     let sim = run_events(
         rt.alloc(),
         policy,
@@ -78,35 +66,37 @@ fn at_once<R: AllocGlobal + Abort>(rt: &R, events: &[Event]) -> Session {
     }
 }
 
+/// The same events, with others between them that are refused.
+const WITH_REFUSED: [Event; 15] = [
+    Event::Sleep(0),
+    Event::Wake(0),
+    Event::Wake(0),
+    Event::Wake(1),
+    Event::Tick(0),
+    Event::Tick(1),
+    Event::Clock,
+    Event::Tick(0),
+    Event::Clock,
+    Event::SetWeight(0, 0),
+    Event::Tick(0),
+    Event::Clock,
+    Event::Tick(0),
+    Event::Clock,
+    Event::Wake(2),
+];
+
 #[test]
 fn refused_events_are_passed_over(rt: HostRuntime) {
-    let events = [
-        Event::Sleep(0),
-        Event::Wake(0),
-        Event::Wake(0),
-        Event::Wake(1),
-        Event::Tick(0),
-        Event::Tick(1),
-        Event::Clock,
-        Event::Tick(0),
-        Event::Clock,
-        Event::SetWeight(0, 0),
-        Event::Tick(0),
-        Event::Clock,
-        Event::Tick(0),
-        Event::Clock,
-        Event::Wake(2),
-    ];
-    let session = at_once(&rt, &events);
-    have_taken_turns(&rt, &session);
+    let mut session = at_once(&rt, &WITH_REFUSED);
+    go(&rt, &mut session, &HAVE_TAKEN_TURNS);
     drop(session);
 }
 
 /// With room for so many notes only, nothing else changes.
 fn expect_at_room<R: AllocGlobal + Abort>(rt: &R, room: usize, whole: &Session) {
     let mut session = at_room(rt, room);
-    run_two_tasks(rt, &mut session);
-    assert_eq!(rt; session.recorder.notes, room);
+    go(rt, &mut session, &BOTH_WAKE);
+    expect_same(rt, session.recorder.notes, room, "notes");
     session.stands_as(rt, whole);
     drop(session);
 }
@@ -114,26 +104,29 @@ fn expect_at_room<R: AllocGlobal + Abort>(rt: &R, room: usize, whole: &Session) 
 #[test]
 fn a_sink_that_fails_changes_nothing_else(rt: HostRuntime) {
     let mut whole = at_room(&rt, 100);
-    run_two_tasks(&rt, &mut whole);
+    go(&rt, &mut whole, &BOTH_WAKE);
     for room in 0..14 {
         expect_at_room(&rt, room, &whole);
     }
     drop(whole);
 }
 
-/// A task that has woken wakes no more.
-fn wake_twice(rt: &impl Abort, session: &mut Session) {
-    session.run(rt, &[Event::Wake(0)]);
-    session.refuse(rt, &[(Event::Wake(0), Refused::AlreadyRunnable)]);
-    assert_eq!(rt; session.sim.events(), 1);
-    session.are_at(rt, &[(0, Place::Cpu(0))]);
-}
+const WAKES_TWICE: Case = Case {
+    timeout_ms: 30_000,
+    texts: TWO_MILLISECONDS,
+    tasks: &[0, 0],
+    cpus: 1,
+    steps: &[
+        Step::Run(&[Event::Wake(0)]),
+        Step::Refuse(&[(Event::Wake(0), Refused::AlreadyRunnable)]),
+        Step::Events(1),
+        Step::At(&[(0, Place::Cpu(0))]),
+    ],
+};
 
 #[test]
 fn a_runnable_task_wakes_no_more(rt: HostRuntime) {
-    let mut session = at_room(&rt, 100);
-    wake_twice(&rt, &mut session);
-    drop(session);
+    expect(&rt, &WAKES_TWICE);
 }
 
 /// GLOBAL, the queue of all processors, is 9223372036854775809.
@@ -146,22 +139,24 @@ const ALONE: &str = "0 Wake(0)
 0 Idle(0)
 ";
 
-fn run_alone(rt: &impl Abort, session: &mut Session) {
-    session.run(rt, &[Event::Wake(0)]);
-    for _ in 0..20 {
-        session.run(rt, &[Event::Tick(0)]);
-    }
-    assert_eq!(rt; session.recorder.notes, 4);
-    session.run(rt, &[Event::Sleep(0)]);
-    session.noted(rt, ALONE);
-    session.are_at(rt, &[(0, Place::Asleep)]);
-}
+const RUNS_ALONE: Case = Case {
+    timeout_ms: 30_000,
+    texts: &[],
+    tasks: &[0, 0],
+    cpus: 1,
+    steps: &[
+        Step::Run(&[Event::Wake(0)]),
+        Step::Repeat(20, &[Event::Tick(0)]),
+        Step::Notes(4),
+        Step::Run(&[Event::Sleep(0)]),
+        Step::Noted(ALONE),
+        Step::At(&[(0, Place::Asleep)]),
+    ],
+};
 
 #[test]
 fn without_callbacks_a_task_keeps_its_processor(rt: HostRuntime) {
-    let mut session = Session::of(&rt, policy(&rt, &[]), tree(&rt, &[0, 0]), 1, 100);
-    run_alone(&rt, &mut session);
-    drop(session);
+    expect(&rt, &RUNS_ALONE);
 }
 
 const SHARED: &str = "0 Wake(0)
@@ -184,21 +179,22 @@ const SHARED: &str = "0 Wake(0)
 1 Run(0, 1)
 ";
 
-fn share_two_processors(rt: &impl Abort, session: &mut Session) {
-    session.run(rt, &[Event::Wake(0), Event::Wake(1), Event::Wake(2)]);
-    for _ in 0..3 {
-        session.run(rt, &[Event::Tick(0), Event::Tick(1), Event::Clock]);
-    }
-    session.noted(rt, SHARED);
-    session.has_run(rt, 0, 3_000_000);
-    session.has_run(rt, 1, 2_000_000);
-    session.has_run(rt, 2, 1_000_000);
-}
+const SHARE: Case = Case {
+    timeout_ms: 30_000,
+    texts: TWO_MILLISECONDS,
+    tasks: &[0, 0, 0],
+    cpus: 2,
+    steps: &[
+        Step::Run(&[Event::Wake(0), Event::Wake(1), Event::Wake(2)]),
+        Step::Repeat(3, &[Event::Tick(0), Event::Tick(1), Event::Clock]),
+        Step::Noted(SHARED),
+        Step::HasRun(0, 3_000_000),
+        Step::HasRun(1, 2_000_000),
+        Step::HasRun(2, 1_000_000),
+    ],
+};
 
 #[test]
 fn two_processors_share_three_tasks(rt: HostRuntime) {
-    let tree = tree(&rt, &[0, 0, 0]);
-    let mut session = Session::of(&rt, two_milliseconds(&rt), tree, 2, 100);
-    share_two_processors(&rt, &mut session);
-    drop(session);
+    expect(&rt, &SHARE);
 }

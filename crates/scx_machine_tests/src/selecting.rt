@@ -2,6 +2,7 @@
 //! noted 9223372036854775809 is GLOBAL, 9223372036854775811 is HELD, 9223372036854775812 is BUILTIN, and
 //! 13835058055282163712 and the number behind it are the local queues of processors 0 and 1.
 
+use crate::cases::{Case, Step, expect};
 use crate::session::Session;
 use scx_examples::{
     DISPATCH, ENABLE, ENQUEUE, ENQUEUE_BY_VTIME, INIT, RUNNING, SELECT_CPU, STOPPING,
@@ -9,29 +10,6 @@ use scx_examples::{
 use scx_isa::Callback;
 use scx_sched::{Event, Place};
 use std::process::Abort;
-
-fn by_vtime<R: AllocGlobal + Abort>(rt: &R) -> Session {
-    let texts = [
-        (Callback::Init, INIT),
-        (Callback::Enable, ENABLE),
-        (Callback::SelectCpu, SELECT_CPU),
-        (Callback::Enqueue, ENQUEUE_BY_VTIME),
-        (Callback::Dispatch, DISPATCH),
-        (Callback::Running, RUNNING),
-        (Callback::Stopping, STOPPING),
-    ];
-    Session::new(rt, &texts, &[0, 0], 1)
-}
-
-fn in_order<R: AllocGlobal + Abort>(rt: &R) -> Session {
-    let texts = [
-        (Callback::Init, INIT),
-        (Callback::SelectCpu, SELECT_CPU),
-        (Callback::Enqueue, ENQUEUE),
-        (Callback::Dispatch, DISPATCH),
-    ];
-    Session::new(rt, &texts, &[0], 1)
-}
 
 const BY_VTIME: &str = "0 Wake(0)
 0 Insert(0, 13835058055282163712)
@@ -48,20 +26,32 @@ const BY_VTIME: &str = "0 Wake(0)
 39 Run(0, 0)
 ";
 
-fn take_turns(rt: &impl Abort, session: &mut Session) {
-    session.run(rt, &[Event::Wake(0), Event::Wake(1)]);
-    session.go_by(rt, 20);
-    session.has_vtime(rt, 0, 400_000);
-    session.go_by(rt, 20);
-    session.has_vtime(rt, 1, 400_000);
-    session.noted(rt, BY_VTIME);
-}
+const TURNS_BY_VTIME: Case = Case {
+    timeout_ms: 30_000,
+    texts: &[
+        (Callback::Init, INIT),
+        (Callback::Enable, ENABLE),
+        (Callback::SelectCpu, SELECT_CPU),
+        (Callback::Enqueue, ENQUEUE_BY_VTIME),
+        (Callback::Dispatch, DISPATCH),
+        (Callback::Running, RUNNING),
+        (Callback::Stopping, STOPPING),
+    ],
+    tasks: &[0, 0],
+    cpus: 1,
+    steps: &[
+        Step::Run(&[Event::Wake(0), Event::Wake(1)]),
+        Step::GoBy(20),
+        Step::HasVtime(0, 400_000),
+        Step::GoBy(20),
+        Step::HasVtime(1, 400_000),
+        Step::Noted(BY_VTIME),
+    ],
+};
 
 #[test]
 fn virtual_times_take_turns(rt: HostRuntime) {
-    let mut session = by_vtime(&rt);
-    take_turns(&rt, &mut session);
-    drop(session);
+    expect(&rt, &TURNS_BY_VTIME);
 }
 
 const AWAKE_TWICE: &str = "0 Wake(0)
@@ -75,21 +65,30 @@ const AWAKE_TWICE: &str = "0 Wake(0)
 5 Run(0, 0)
 ";
 
-fn sleep_and_wake(rt: &impl Abort, session: &mut Session) {
-    session.run(rt, &[Event::Wake(0)]);
-    session.go_by(rt, 1);
-    session.run(rt, &[Event::Tick(0), Event::Sleep(0), Event::Clock]);
-    session.go_by(rt, 3);
-    session.run(rt, &[Event::Wake(0)]);
-    session.go_by(rt, 1);
-    session.noted(rt, AWAKE_TWICE);
-}
+const SLEEPS_AND_WAKES: Case = Case {
+    timeout_ms: 30_000,
+    texts: &[
+        (Callback::Init, INIT),
+        (Callback::SelectCpu, SELECT_CPU),
+        (Callback::Enqueue, ENQUEUE),
+        (Callback::Dispatch, DISPATCH),
+    ],
+    tasks: &[0],
+    cpus: 1,
+    steps: &[
+        Step::Run(&[Event::Wake(0)]),
+        Step::GoBy(1),
+        Step::Run(&[Event::Tick(0), Event::Sleep(0), Event::Clock]),
+        Step::GoBy(3),
+        Step::Run(&[Event::Wake(0)]),
+        Step::GoBy(1),
+        Step::Noted(AWAKE_TWICE),
+    ],
+};
 
 #[test]
 fn a_task_sleeps_and_wakes(rt: HostRuntime) {
-    let mut session = in_order(&rt);
-    sleep_and_wake(&rt, &mut session);
-    drop(session);
+    expect(&rt, &SLEEPS_AND_WAKES);
 }
 
 /// Puts the first task into the processor's own queue.
@@ -105,37 +104,76 @@ out:
 exit
 ";
 
-/// Takes nothing from enqueue, and from dispatch the first task, for two milliseconds.
-fn holding<R: AllocGlobal + Abort>(rt: &R) -> Session {
-    let texts = [(Callback::Enqueue, "exit"), (Callback::Dispatch, FIRST)];
-    Session::new(rt, &texts, &[0, 0], 1)
-}
-
 const HELD_AND_INSERTED: &str = "0 Wake(0)
 0 Insert(0, 9223372036854775811)
 0 Insert(0, 13835058055282163712)
 0 Run(0, 0)
 ";
 
-fn hold(rt: &impl Abort, session: &mut Session) {
-    session.run(rt, &[Event::Wake(0)]);
-    session.noted(rt, HELD_AND_INSERTED);
-    session.has_slice(rt, 0, 2_000_000);
-    // The second task is held as long as dispatch isn't asked, and dispatch names the first alone, which is
-    // held no more.
-    session.run(rt, &[Event::Wake(1), Event::Tick(0)]);
-    session.are_at(rt, &[(0, Place::Cpu(0)), (1, Place::Held)]);
-}
+/// Takes nothing from enqueue, and from dispatch the first task, for two milliseconds.
+const HOLDS: Case = Case {
+    timeout_ms: 30_000,
+    texts: &[(Callback::Enqueue, "exit"), (Callback::Dispatch, FIRST)],
+    tasks: &[0, 0],
+    cpus: 1,
+    steps: &[
+        Step::Run(&[Event::Wake(0)]),
+        Step::Noted(HELD_AND_INSERTED),
+        Step::HasSlice(0, 2_000_000),
+        // The second task is held as long as dispatch isn't asked, and dispatch names the first alone, which is
+        // held no more.
+        Step::Run(&[Event::Wake(1), Event::Tick(0)]),
+        Step::At(&[(0, Place::Cpu(0)), (1, Place::Held)]),
+    ],
+};
 
 #[test]
 fn a_held_task_goes_at_once(rt: HostRuntime) {
-    let mut session = holding(&rt);
-    hold(&rt, &mut session);
-    drop(session);
+    expect(&rt, &HOLDS);
 }
 
-/// What a machine of two processors, whose select_cpu is that program, notes as its one task wakes.
-fn on_wake<R: AllocGlobal + Abort>(rt: &R, select_cpu: &str, wanted: &str) {
+/// What a machine of two processors, whose select_cpu is such a program, notes as its one task wakes.
+const SELECTED: [(&str, &str); 4] = [
+    // It is put for the processor that is named.
+    (
+        "r0 = 1\nexit",
+        "0 Wake(0)
+0 Insert(0, 9223372036854775809)
+0 Move(0, 1)
+0 Run(0, 1)
+",
+    ),
+    // A processor that there isn't ejects.
+    (
+        "r0 = 2\nexit",
+        "0 Wake(0)
+0 Fault(NoSuchCpu)
+0 Insert(0, 9223372036854775812)
+0 Move(0, 0)
+0 Run(0, 0)
+",
+    ),
+    // LOCAL is of the target: inserts the task at hand there, and answers processor 1.
+    (
+        "r2 = 9223372036854775810 ll\nr3 = 0\nr4 = 0\ncall 1002\nr0 = 1\nexit",
+        "0 Wake(0)
+0 Insert(0, 13835058055282163713)
+0 Run(0, 1)
+",
+    ),
+    // Where the answer is none, what it inserted is dropped.
+    (
+        "r2 = 9223372036854775810 ll\nr3 = 0\nr4 = 0\ncall 1002\nr0 = -1\nexit",
+        "0 Wake(0)
+0 Fault(NoSuchCpu)
+0 Insert(0, 9223372036854775812)
+0 Move(0, 0)
+0 Run(0, 0)
+",
+    ),
+];
+
+fn expect_selected<R: AllocGlobal + Abort>(rt: &R, select_cpu: &str, wanted: &str) {
     let mut session = Session::new(rt, &[(Callback::SelectCpu, select_cpu)], &[0], 2);
     session.run(rt, &[Event::Wake(0)]);
     session.noted(rt, wanted);
@@ -143,42 +181,8 @@ fn on_wake<R: AllocGlobal + Abort>(rt: &R, select_cpu: &str, wanted: &str) {
 }
 
 #[test]
-fn a_task_is_put_for_the_processor_that_is_named(rt: HostRuntime) {
-    let wanted = "0 Wake(0)
-0 Insert(0, 9223372036854775809)
-0 Move(0, 1)
-0 Run(0, 1)
-";
-    on_wake(&rt, "r0 = 1\nexit", wanted);
-}
-
-#[test]
-fn a_processor_that_there_is_not_ejects(rt: HostRuntime) {
-    let wanted = "0 Wake(0)
-0 Fault(NoSuchCpu)
-0 Insert(0, 9223372036854775812)
-0 Move(0, 0)
-0 Run(0, 0)
-";
-    on_wake(&rt, "r0 = 2\nexit", wanted);
-}
-
-#[test]
-fn local_is_of_the_target(rt: HostRuntime) {
-    // Inserts the task at hand into LOCAL, and answers processor 1.
-    let named = "r2 = 9223372036854775810 ll\nr3 = 0\nr4 = 0\ncall 1002\nr0 = 1\nexit";
-    let wanted = "0 Wake(0)
-0 Insert(0, 13835058055282163713)
-0 Run(0, 1)
-";
-    on_wake(&rt, named, wanted);
-    let unknown = "r2 = 9223372036854775810 ll\nr3 = 0\nr4 = 0\ncall 1002\nr0 = -1\nexit";
-    // What it inserted is dropped.
-    let wanted = "0 Wake(0)
-0 Fault(NoSuchCpu)
-0 Insert(0, 9223372036854775812)
-0 Move(0, 0)
-0 Run(0, 0)
-";
-    on_wake(&rt, unknown, wanted);
+fn a_task_goes_where_select_cpu_says(rt: HostRuntime) {
+    for &(select_cpu, wanted) in &SELECTED {
+        expect_selected(&rt, select_cpu, wanted);
+    }
 }

@@ -2,6 +2,7 @@
 
 use crate::policies::{policy, policy_within, tree};
 use crate::recorder::Recorder;
+use crate::same::expect_same;
 use scx_isa::Callback;
 use scx_sched::{Eject, Event, Place, Policy, Refused, Sim};
 use scx_weights::Tree;
@@ -59,7 +60,7 @@ impl Session {
     pub(crate) fn run(&mut self, rt: &impl Abort, events: &[Event]) {
         for &event in events {
             let answer = self.sim.step(event, &mut self.recorder);
-            assert_eq!(rt; answer, Ok(()), "{event:?}");
+            expect_same(rt, answer, Ok(()), event);
         }
     }
 
@@ -75,20 +76,20 @@ impl Session {
         let before = (self.sim.events(), self.recorder.notes);
         for &(event, refused) in rows {
             let answer = self.sim.step(event, &mut self.recorder);
-            assert_eq!(rt; answer, Err(refused), "{event:?}");
-            assert_eq!(rt; (self.sim.events(), self.recorder.notes), before);
+            expect_same(rt, answer, Err(refused), event);
+            expect_same(rt, (self.sim.events(), self.recorder.notes), before, event);
         }
     }
 
     /// What was noted is this, a line for each note.
     pub(crate) fn noted(&self, rt: &impl Abort, wanted: &str) {
-        assert_eq!(rt; self.recorder.text.as_str(), wanted);
+        expect_same(rt, self.recorder.text.as_str(), wanted, "notes");
     }
 
     /// The tasks are at these places.
     pub(crate) fn are_at(&self, rt: &impl Abort, places: &[(u16, Place)]) {
         for &(task, place) in places {
-            assert_eq!(rt; self.place(rt, task), place, "task {task}");
+            expect_same(rt, self.place(rt, task), place, task);
         }
     }
 
@@ -102,26 +103,26 @@ impl Session {
     pub(crate) fn has_run(&self, rt: &impl Abort, task: u16, wanted: u64) {
         let known = task < self.sim.tasks();
         assert!(rt; known);
-        assert_eq!(rt; self.sim.run_ns(task), wanted);
+        expect_same(rt, self.sim.run_ns(task), wanted, task);
     }
 
     pub(crate) fn has_vtime(&self, rt: &impl Abort, task: u16, wanted: u64) {
         let known = task < self.sim.tasks();
         assert!(rt; known);
-        assert_eq!(rt; self.sim.vtime(task), wanted);
+        expect_same(rt, self.sim.vtime(task), wanted, task);
     }
 
     /// The task has waited so many milliseconds.
     pub(crate) fn has_waited(&self, rt: &impl Abort, task: u16, wanted: u64) {
         let known = task < self.sim.tasks();
         assert!(rt; known);
-        assert_eq!(rt; self.sim.wait(task), wanted, "task {task}");
+        expect_same(rt, self.sim.wait(task), wanted, task);
     }
 
     pub(crate) fn has_slice(&self, rt: &impl Abort, task: u16, wanted: u64) {
         let known = task < self.sim.tasks();
         assert!(rt; known);
-        assert_eq!(rt; self.sim.slice(task), wanted);
+        expect_same(rt, self.sim.slice(task), wanted, task);
     }
 
     /// What the machine says of itself and of a task.
@@ -139,7 +140,7 @@ impl Session {
     /// Both machines, of two tasks, say the same.
     pub(crate) fn stands_as(&self, rt: &impl Abort, other: &Session) {
         for task in 0..2_u16 {
-            assert_eq!(rt; self.seen(rt, task), other.seen(rt, task));
+            expect_same(rt, self.seen(rt, task), other.seen(rt, task), task);
         }
     }
 }

@@ -1,6 +1,7 @@
 //! Who has waited longest, and how long.
 
-use crate::policies::{policy_within, tree};
+use crate::cases::{Case, Step, expect, go};
+use crate::policies::policy_within;
 use crate::session::Session;
 use scx_examples::INIT;
 use scx_isa::Callback;
@@ -35,47 +36,54 @@ const MOVED: &str = "0 Wake(0)
 6 Insert(0, 9223372036854775812)
 ";
 
-fn move_and_wait(rt: &impl Abort, session: &mut Session) {
-    session.run(rt, &[Event::Wake(0)]);
-    session.go_by(rt, 4);
-    session.are_at(rt, &[(0, Place::Policy(0))]);
-    session.has_waited(rt, 0, 4);
-    session.go_by(rt, 2);
-    session.noted(rt, MOVED);
-    session.has_waited(rt, 0, 6);
-}
-
-#[test]
-fn a_wait_goes_on_from_queue_to_queue(rt: HostRuntime) {
-    let texts = [
+const MOVES: Case = Case {
+    timeout_ms: 5,
+    texts: &[
         (Callback::Init, INIT),
         (Callback::Enqueue, "exit"),
         (Callback::Dispatch, LATER),
-    ];
-    let mut session = Session::within(&rt, 5, &texts, &[0]);
-    move_and_wait(&rt, &mut session);
-    drop(session);
+    ],
+    tasks: &[0],
+    cpus: 1,
+    steps: &[
+        Step::Run(&[Event::Wake(0)]),
+        Step::GoBy(4),
+        Step::At(&[(0, Place::Policy(0))]),
+        Step::HasWaited(0, 4),
+        Step::GoBy(2),
+        Step::Noted(MOVED),
+        Step::HasWaited(0, 6),
+    ],
+};
+
+#[test]
+fn a_wait_goes_on_from_queue_to_queue(rt: HostRuntime) {
+    expect(&rt, &MOVES);
 }
 
-fn run_and_sleep(rt: &impl Abort, session: &mut Session) {
-    session.has_waited(rt, 0, 0);
-    session.run(rt, &[Event::Wake(0), Event::Wake(1)]);
-    session.go_by(rt, 3);
-    session.has_waited(rt, 0, 0);
-    session.has_waited(rt, 1, 3);
-    session.run(rt, &[Event::Sleep(0)]);
-    session.has_waited(rt, 0, 0);
-    session.has_waited(rt, 1, 0);
-    session.run(rt, &[Event::Sleep(1)]);
-    session.go_by(rt, 3);
-    session.has_waited(rt, 1, 0);
-}
+const RUNS_AND_SLEEPS: Case = Case {
+    timeout_ms: 30_000,
+    texts: &[],
+    tasks: &[0, 0],
+    cpus: 1,
+    steps: &[
+        Step::HasWaited(0, 0),
+        Step::Run(&[Event::Wake(0), Event::Wake(1)]),
+        Step::GoBy(3),
+        Step::HasWaited(0, 0),
+        Step::HasWaited(1, 3),
+        Step::Run(&[Event::Sleep(0)]),
+        Step::HasWaited(0, 0),
+        Step::HasWaited(1, 0),
+        Step::Run(&[Event::Sleep(1)]),
+        Step::GoBy(3),
+        Step::HasWaited(1, 0),
+    ],
+};
 
 #[test]
 fn who_runs_or_sleeps_does_not_wait(rt: HostRuntime) {
-    let mut session = Session::new(&rt, &[], &[0, 0], 1);
-    run_and_sleep(&rt, &mut session);
-    drop(session);
+    expect(&rt, &RUNS_AND_SLEEPS);
 }
 
 /// 1024 tasks of one group.
@@ -100,29 +108,26 @@ fn many<R: AllocGlobal + Abort>(rt: &R) -> Result<Session, Fail> {
 }
 
 /// Of those who have waited longest the least number is named.
-fn wake_at_once(rt: &impl Abort, session: &mut Session) {
-    let events = [Event::Wake(1023), Event::Wake(700), Event::Wake(40)];
-    session.run(rt, &events);
-    session.run(rt, &[Event::Clock, Event::Wake(3)]);
-    for _ in 0..4 {
-        session.run(rt, &[Event::Clock]);
-    }
-    assert_eq!(rt; session.sim.ejected(), None);
-    session.run(rt, &[Event::Clock]);
-    assert_eq!(rt; session.sim.ejected(), Some(Eject::Stall(40, 6)));
-}
+const LEAST: [Step; 6] = [
+    Step::Run(&[Event::Wake(1023), Event::Wake(700), Event::Wake(40)]),
+    Step::Run(&[Event::Clock, Event::Wake(3)]),
+    Step::Repeat(4, &[Event::Clock]),
+    Step::Ejected(None),
+    Step::Run(&[Event::Clock]),
+    Step::Ejected(Some(Eject::Stall(40, 6))),
+];
 
 #[test]
 fn the_least_number_is_named(rt: HostRuntime) -> Result<(), Fail> {
     let mut session = many(&rt)?;
-    wake_at_once(&rt, &mut session);
+    go(&rt, &mut session, &LEAST);
     drop(session);
     Ok(())
 }
 
 /// The first ones sleep in time, and wake again; one that woke between is named.
-fn sleep_in_time(rt: &impl Abort, session: &mut Session) {
-    let events = [
+const IN_TIME: [Step; 5] = [
+    Step::Run(&[
         Event::Wake(3),
         Event::Wake(4),
         Event::Wake(899),
@@ -138,33 +143,35 @@ fn sleep_in_time(rt: &impl Abort, session: &mut Session) {
         Event::Clock,
         Event::Sleep(4),
         Event::Clock,
-    ];
-    session.run(rt, &events);
+    ]),
     // Task 900 has waited for five milliseconds, and nobody longer.
-    session.has_waited(rt, 900, 5);
-    assert_eq!(rt; session.sim.ejected(), None);
-    session.run(rt, &[Event::Clock]);
-    assert_eq!(rt; session.sim.ejected(), Some(Eject::Stall(900, 7)));
-}
+    Step::HasWaited(900, 5),
+    Step::Ejected(None),
+    Step::Run(&[Event::Clock]),
+    Step::Ejected(Some(Eject::Stall(900, 7))),
+];
 
 #[test]
 fn who_sleeps_in_time_is_not_named(rt: HostRuntime) -> Result<(), Fail> {
     let mut session = many(&rt)?;
-    sleep_in_time(&rt, &mut session);
+    go(&rt, &mut session, &IN_TIME);
     drop(session);
     Ok(())
 }
 
-/// All wake at one clock, and go over together: a note each as they wake and are held, and one each then.
+/// All stall after six milliseconds, with a note each as they wake and are held, and one each then.
+const STALLED: [Step; 3] = [
+    Step::Repeat(6, &[Event::Clock]),
+    Step::Ejected(Some(Eject::Stall(0, 6))),
+    Step::Notes(2 * 1024 + 1 + 1024),
+];
+
+/// All wake at one clock, and go over together.
 fn all_stall(rt: &impl Abort, session: &mut Session) {
     for task in 0..1024_u16 {
         session.run(rt, &[Event::Wake(1023 - task)]);
     }
-    for _ in 0..6 {
-        session.run(rt, &[Event::Clock]);
-    }
-    assert_eq!(rt; session.sim.ejected(), Some(Eject::Stall(0, 6)));
-    assert_eq!(rt; session.recorder.notes, 2 * 1024 + 1 + 1024);
+    go(rt, session, &STALLED);
     for task in 0..1024_u16 {
         session.are_at(rt, &[(task, Place::Builtin)]);
     }

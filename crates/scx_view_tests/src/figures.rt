@@ -1,11 +1,13 @@
 //! Figures of whole runs, worked out by hand from their traces.
 
 use crate::memory::Memory;
+use crate::same::expect_same;
 use crate::texts::{
     HOLDS, LONG, NESTED, ONE_SLEEPS, SHORT_SLICES, SLEEPER, STAYS, TWO_TASKS, WEIGHTS,
 };
 use scx_output::Counted;
 use scx_statistics::{stats, stats_csv};
+use std::process::Abort;
 
 /// A run, and how the tables of its figures end.
 #[derive(Clone, Copy)]
@@ -122,20 +124,26 @@ group,g,share_percent,100.00
 group,g,due_percent,100.00
 ";
 
+const CASES: [Case; 6] = [
+    TURNS,
+    SLEEPS,
+    EJECTED,
+    WEIGHT_CHANGES,
+    GROUPS_IN_GROUPS,
+    ONE_LEFT,
+];
+
+fn expect_tables<R: AllocGlobal + Abort>(rt: &R, case: &Case) {
+    let mut memory = Memory::new(rt.alloc());
+    let mut out = Counted::new(&mut memory);
+    assert!(rt; stats(rt.alloc(), case.policy, case.workload, &mut out).is_ok());
+    assert!(rt; memory.bytes.as_slice().ends_with(case.wanted.as_bytes()));
+}
+
 #[test]
 fn figures_are_those_worked_by_hand(rt: HostRuntime) {
-    for case in [
-        TURNS,
-        SLEEPS,
-        EJECTED,
-        WEIGHT_CHANGES,
-        GROUPS_IN_GROUPS,
-        ONE_LEFT,
-    ] {
-        let mut memory = Memory::new(rt.alloc());
-        let mut out = Counted::new(&mut memory);
-        assert!(rt; stats(rt.alloc(), case.policy, case.workload, &mut out).is_ok());
-        assert!(rt; memory.bytes.as_slice().ends_with(case.wanted.as_bytes()));
+    for case in &CASES {
+        expect_tables(&rt, case);
     }
 }
 
@@ -144,5 +152,5 @@ fn figures_are_listed(rt: HostRuntime) {
     let mut memory = Memory::new(rt.alloc());
     let mut out = Counted::new(&mut memory);
     assert!(rt; stats_csv(rt.alloc(), SHORT_SLICES, TWO_TASKS, &mut out).is_ok());
-    assert_eq!(rt; memory.bytes.as_slice(), LIST.as_bytes());
+    expect_same(&rt, memory.bytes.as_slice(), LIST.as_bytes(), "figures");
 }

@@ -10,6 +10,8 @@ mod memory;
 #[cfg(test)]
 mod pictures;
 #[cfg(test)]
+mod same;
+#[cfg(test)]
 mod texts;
 #[cfg(test)]
 mod timelines;

@@ -1,9 +1,11 @@
 //! Parts of pictures.
 
 use crate::memory::Memory;
+use crate::same::expect_same;
 use crate::texts::{HOLDS, LONG, SHORT_SLICES, TWO_TASKS};
 use scx_output::Counted;
 use scx_picture::picture;
+use std::process::Abort;
 
 /// A run, and what stands once in its picture.
 #[derive(Clone, Copy)]
@@ -46,15 +48,21 @@ const EJECTED: Case = Case {
     ],
 };
 
+const CASES: [Case; 2] = [TURNS, EJECTED];
+
+fn expect_parts<R: AllocGlobal + Abort>(rt: &R, case: &Case) {
+    let mut memory = Memory::new(rt.alloc());
+    let mut out = Counted::new(&mut memory);
+    assert!(rt; picture(rt.alloc(), case.policy, case.workload, &mut out).is_ok());
+    for &part in &case.parts {
+        expect_same(rt, count(memory.bytes.as_slice(), part.as_bytes()), 1, part);
+    }
+}
+
 #[test]
 fn pictures_have_their_parts(rt: HostRuntime) {
-    for case in [TURNS, EJECTED] {
-        let mut memory = Memory::new(rt.alloc());
-        let mut out = Counted::new(&mut memory);
-        assert!(rt; picture(rt.alloc(), case.policy, case.workload, &mut out).is_ok());
-        for part in case.parts {
-            assert_eq!(rt; count(memory.bytes.as_slice(), part.as_bytes()), 1);
-        }
+    for case in &CASES {
+        expect_parts(&rt, case);
     }
 }
 

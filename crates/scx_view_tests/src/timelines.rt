@@ -1,6 +1,7 @@
 //! Timelines, read back by a reader of JSON.
 
 use crate::memory::Memory;
+use crate::same::expect_same;
 use crate::texts::{HOLDS, LONG, SHORT_SLICES, SLEEPER, STAYS, TWO_CPUS, TWO_TASKS};
 use scx_output::Counted;
 use scx_timeline::timeline;
@@ -11,7 +12,7 @@ use std::process::Abort;
 fn read<R: AllocGlobal + Abort>(rt: &R, policy: &str, workload: &str) -> Value {
     let mut memory = Memory::new(rt.alloc());
     let done = timeline(rt.alloc(), policy, workload, &mut Counted::new(&mut memory));
-    assert_eq!(rt; done, Ok(true));
+    expect_same(rt, done, Ok(true), "outcome");
     Value::from_slice(rt.alloc(), memory.bytes.as_slice()).expect(rt, "the timeline is JSON")
 }
 
@@ -55,36 +56,43 @@ fn count(timeline: &Value, kind: &str, name: &str) -> u64 {
     count
 }
 
+/// A run, a task, and how long it runs, in microseconds.
+type Slices = (&'static str, &'static str, &'static str, u64);
+
 /// The slices of each task add up to what the report says, as in the tests of reports.
+const SLICES: [Slices; 8] = [
+    (SHORT_SLICES, TWO_TASKS, "a", 2000),
+    (SHORT_SLICES, TWO_TASKS, "b", 2000),
+    (SHORT_SLICES, TWO_CPUS, "a", 3000),
+    (SHORT_SLICES, TWO_CPUS, "b", 2000),
+    (SHORT_SLICES, TWO_CPUS, "c", 1000),
+    (STAYS, SLEEPER, "a", 3000),
+    (HOLDS, LONG, "a", 20_000),
+    (HOLDS, LONG, "b", 0),
+];
+
 #[test]
 fn slices_are_run_times(rt: HostRuntime) {
-    for (policy, workload, name, wanted) in [
-        (SHORT_SLICES, TWO_TASKS, "a", 2000),
-        (SHORT_SLICES, TWO_TASKS, "b", 2000),
-        (SHORT_SLICES, TWO_CPUS, "a", 3000),
-        (SHORT_SLICES, TWO_CPUS, "b", 2000),
-        (SHORT_SLICES, TWO_CPUS, "c", 1000),
-        (STAYS, SLEEPER, "a", 3000),
-        (HOLDS, LONG, "a", 20_000),
-        (HOLDS, LONG, "b", 0),
-    ] {
+    for &(policy, workload, name, wanted) in &SLICES {
         let timeline = read(&rt, policy, workload);
-        assert_eq!(rt; slices(&timeline, name), wanted);
+        expect_same(&rt, slices(&timeline, name), wanted, name);
     }
 }
 
 /// An ejection is an instant, as are wakes and where tasks come to wait.
+const HELD: [(&str, &str, u64); 6] = [
+    ("i", "eject stall a", 1),
+    ("i", "a", 1),
+    ("i", "a to held", 1),
+    ("i", "b to builtin", 1),
+    ("C", "held", 4),
+    ("M", "thread_name", 5),
+];
+
 #[test]
 fn events_are_counted(rt: HostRuntime) {
     let held = read(&rt, HOLDS, LONG);
-    for (kind, name, wanted) in [
-        ("i", "eject stall a", 1),
-        ("i", "a", 1),
-        ("i", "a to held", 1),
-        ("i", "b to builtin", 1),
-        ("C", "held", 4),
-        ("M", "thread_name", 5),
-    ] {
-        assert_eq!(rt; count(&held, kind, name), wanted);
+    for &(kind, name, wanted) in &HELD {
+        expect_same(&rt, count(&held, kind, name), wanted, name);
     }
 }
