@@ -28,8 +28,8 @@ pub record AreVerified (text : PolicyFile) (c : Callbacks) : Type 0 where
 -- where all are verified the policy is built
 pub built_of : (text : PolicyFile) (p : PolicyState) (c : Callbacks) → p ≡ policy_of text.shapes text.timeout_ms c → AreVerified text c → IsBuilt text p
 built_of text p c e h =
-    let as_callbacks : machine.AreAs c = record { init = h.init.as_callback; enable = h.enable.as_callback; select_cpu = h.select_cpu.as_callback; enqueue = h.enqueue.as_callback; dispatch = h.dispatch.as_callback; running = h.running.as_callback; stopping = h.stopping.as_callback; } in
-    let for_maps : machine.HaveMaps text.shapes c = record { init = h.init.for_maps; enable = h.enable.for_maps; select_cpu = h.select_cpu.for_maps; enqueue = h.enqueue.for_maps; dispatch = h.dispatch.for_maps; running = h.running.for_maps; stopping = h.stopping.for_maps; } in
+    let as_callbacks : machine.AreAs c = record { init = h.init.as_callback; enable = h.enable.as_callback; select_cpu = h.select_cpu.as_callback; enqueue = h.enqueue.as_callback; dispatch = h.dispatch.as_callback; running = h.running.as_callback; stopping = h.stopping.as_callback } in
+    let for_maps : machine.HaveMaps text.shapes c = record { init = h.init.for_maps; enable = h.enable.for_maps; select_cpu = h.select_cpu.for_maps; enqueue = h.enqueue.for_maps; dispatch = h.dispatch.for_maps; running = h.running.for_maps; stopping = h.stopping.for_maps } in
     rw e record { shapes = refl; timeout = refl; programs = codes; accepted = fits; as_callbacks = as_callbacks; for_maps = for_maps }
   where
     codes : (b : Callback) → code_of (machine.program_of (policy_of text.shapes text.timeout_ms c) b) ≡ program_of text b
