@@ -1,5 +1,6 @@
 -- Loads and stores: the location that an address means, and what is read and written there.
-use Rattle.std.proofs.Common.{◌≡◌, ℕ, ◌+◌, ◌*◌, ◌/◌, ◌%◌, ◌<◌, ◌≤◌, ℤ, Bool, true, false, List, [], length, Option, Some, None, Result, Ok, Err, if◌then◌else◌, refl, sym, ap, ◌∙◌, arith}
+use Rattle.std.proofs.Common.{◌≡◌, ℕ, ◌+◌, ◌*◌, ◌/◌, ◌%◌, ◌<◌, ◌≤◌, ℤ, Bool, true, false, ◌&&◌, nat_eq, List, [], ◌∷◌, length, Option, Some, None, Result, Ok, Err, if◌then◌else◌, refl, sym, ap, ◌∙◌, arith}
+use Rattle.std.proofs.lemmas.Bool.{eqb-true, and_parts}
 use Rattle.scx_semantics.specs.declared.instructions.Operand.{Operand}
 use Rattle.scx_semantics.specs.declared.operations.Width.TheVariants.{Bits64}
 use Rattle.scx_semantics.specs.declared.operations.Size.{Size}
@@ -7,6 +8,7 @@ use Rattle.scx_semantics.specs.declared.operations.Size.TheVariants as size
 use Rattle.scx_semantics.specs.declared.operations.Access.{Access}
 use Rattle.scx_semantics.specs.declared.operations.Access.TheVariants as access
 use Rattle.scx_semantics.specs.declared.host_tables.Field.{Field}
+use Rattle.scx_semantics.specs.declared.host_tables.Field.TheVariants.{Pid, Weight, Slice, DsqVtime, PrevCpu, Group, RunNs}
 use Rattle.scx_semantics.specs.declared.host_tables.TaskId.{TaskId}
 use Rattle.scx_semantics.specs.declared.values.Value.{Value}
 use Rattle.scx_semantics.specs.declared.values.Value.TheVariants as value
@@ -16,7 +18,7 @@ use Rattle.scx_semantics.specs.declared.registers.Register.{Register}
 use Rattle.scx_semantics.specs.Registers.{number}
 use Rattle.scx_semantics.specs.Arithmetic.{shifted}
 use Rattle.scx_semantics.specs.Memory.{Stack, stack_size, aligned_within, bytes_at, write, number_bytes, parts, value_in, value_bytes, load, read_as, size_bytes, access_size}
-use Rattle.scx_semantics.specs.HostTables.{field_at, is_writable}
+use Rattle.scx_semantics.specs.HostTables.{field_width, field_offset, found_field, field_at, is_writable}
 use Rattle.scx_semantics.specs.Elements.{Maps, element, number_at, with_element, with_number}
 use Rattle.scx_semantics.specs.Locations as location
 use Rattle.scx_semantics.specs.Locations.{Location, on_stack, in_element, in_task, address}
@@ -24,12 +26,14 @@ use Rattle.scx_semantics.specs.Machine.{Machine, with_stack}
 use Rattle.scx_semantics.specs.Effects as effect
 use Rattle.scx_semantics.specs.Effects.{set_register, set_register_by_answer}
 use Rattle.scx_semantics.specs.Meaning.{operand_value, is_plain, loaded, stored}
-use Rattle.scx_semantics.proofs.Bytes.{bytes_at_below, read_as_below, number_at_below, with_number_bytes, with_element_bytes}
+use Rattle.scx_semantics.proofs.Bytes.{with_number_bytes, with_element_bytes}
 use Rattle.scx_encoding.specs.Spelling.{IsOperand}
 use Rattle.scx_maps.specs.declared.shape.Shape.{Shape}
 use Rattle.scx_maps.specs.Contents.{HasShapes}
 use Rattle.scx_abs.specs.declared.faults.Why.{Why}
 use Rattle.scx_abs.specs.declared.faults.Why.TheVariants.{UnwrittenStack, TaskField}
+use Rattle.scx_ranges.specs.Results as results
+use Rattle.scx_ranges.proofs.AllWidths.{loads_are_sound}
 use Rattle.scx_abs.specs.declared.kinds.Kind.{Kind}
 use Rattle.scx_abs.specs.declared.kinds.Kind.TheVariants as kind
 use Rattle.scx_abs.specs.declared.kinds.Kind.TheVariants.{Unusable, Num, Elem, Task}
@@ -40,9 +44,9 @@ use Rattle.scx_abs.specs.declared.kinds.Cell.TheVariants.{Bytes, Pointer}
 use Rattle.scx_abs.specs.declared.states.AbsState.{AbsState}
 use Rattle.scx_abs.specs.declared.memory.Area.{Area}
 use Rattle.scx_abs.specs.declared.memory.Area.TheVariants.{OnStack, InElement, InTask}
-use Rattle.scx_abs.specs.Kinds.{IsUsable}
+use Rattle.scx_abs.specs.Kinds.{IsProperKind, IsUsable}
 use Rattle.scx_abs.specs.Cells.{kind_of, held_of, marked, all_written, written_in}
-use Rattle.scx_abs.specs.States.{kind_at, cell_at, with_cell}
+use Rattle.scx_abs.specs.States.{kind_at, cell_at, with_cell, IsProper}
 use Rattle.scx_abs.specs.Stands.{HasElement, Stands, IsByte, CellStands, IsMember}
 use Rattle.scx_semantics.specs.Results.{◌>>=◌}
 use Rattle.scx_abs.specs.Checks.{goes_on, usable, operand_kind, sets, offset_for}
@@ -50,8 +54,8 @@ use Rattle.scx_abs.specs.Rules.{area_of, field_area, loaded_kind, kind_in, load_
 use Rattle.scx_abs.specs.Laws.{IsSoundFor}
 use Rattle.scx_abs.proofs.Lists.{set_each}
 use Rattle.scx_abs.proofs.Bytes as bytes
-use Rattle.scx_abs.proofs.Bytes.{bytes_read, byte_small, written_at, reads_back, length-number_bytes, length-value_bytes, cell_apart, pointer_stored, fits_cell}
-use Rattle.scx_abs.proofs.Registers.{Gives, set_sound, answer_sound, refused_sound, field_stands, usable_allows, operand_allows, checked}
+use Rattle.scx_abs.proofs.Bytes.{bytes_read, read_below, element_below, written_at, reads_back, length-number_bytes, length-value_bytes, cell_apart, pointer_stored, fits_cell}
+use Rattle.scx_abs.proofs.Registers.{Gives, set_sound, answer_sound, refused_sound, field_stands, register_allows, operand_allows, checked}
 use Rattle.scx_abs.proofs.Elements.{offset_cases, element_sized, with_number-lengths, maps_member}
 
 -- ---- locations
@@ -60,7 +64,7 @@ use Rattle.scx_abs.proofs.Elements.{offset_cases, element_sized, with_number-len
 abbrev pub Means : Maps → ℕ → Area → Location → Type 0
 Means maps n (OnStack at) (location.OnStack to) = (at ≡ to) × (at % n ≡ 0)
 Means maps n InElement (location.InElement m i at) = HasElement maps m i × (at + n ≤ length (element maps m i))
-Means maps n (InTask f) (location.InTask t g) = f ≡ g
+Means maps n (InTask f) (location.InTask t g) = (f ≡ g) × (field_width f ≡ n)
 Means maps n area to = ⊥
 
 -- a rule's area against the location that the address means
@@ -77,9 +81,28 @@ element_found : (maps : Maps) (m i size n : ℕ) (t : Option ℕ) → HasElement
 element_found maps m i size n t there long =
     rw (← long) (offset_cases (length (element maps m i)) n t (λ r o. Finds maps n (r >>= λ at. Ok InElement) (in_element m i o)) (λ why o. tt) (λ at inside aligned. (there, inside)))
 
-field_found : (maps : Maps) (n : ℕ) (t : TaskId) (f : Option Field) → Finds maps n (field_area f) (in_task t f)
-field_found maps n t None = tt
-field_found maps n t (Some f) = refl
+-- a field that an access takes whole has as many bytes
+first_width : (n at : ℕ) (fs : List Field) (f : Field) → found_field n at fs ≡ Some f → field_width f ≡ n
+first_width n at [] f e = absurd (cc)
+first_width n at (g ∷ fs) f e = go (nat_eq at (field_offset g) && nat_eq n (field_width g)) refl e (first_width n at fs f)
+  where
+    same : (d h : Field) → Some d ≡ Some h → d ≡ h
+    same d h k = cc
+
+    go : (b : Bool) → (nat_eq at (field_offset g) && nat_eq n (field_width g)) ≡ b → (if b then Some g else found_field n at fs) ≡ Some f → (found_field n at fs ≡ Some f → field_width f ≡ n) → field_width f ≡ n
+    go true t k rest = ap field_width (sym (same g f k)) ∙ sym (eqb-true n (field_width g) ((and_parts (nat_eq at (field_offset g)) (nat_eq n (field_width g)) t).1))
+    go false t k rest = rest k
+
+width_found : (n : ℕ) (at : Option ℕ) (f : Field) → field_at n at ≡ Some f → field_width f ≡ n
+width_found n None f e = absurd (cc)
+width_found n (Some at) f e = first_width n at (Pid ∷ Weight ∷ Slice ∷ DsqVtime ∷ PrevCpu ∷ Group ∷ RunNs ∷ []) f e
+
+field_found : (maps : Maps) (n : ℕ) (t : TaskId) (at : Option ℕ) → Finds maps n (field_area (field_at n at)) (in_task t (field_at n at))
+field_found maps n t at = go (field_at n at) refl
+  where
+    go : (o : Option Field) → field_at n at ≡ o → Finds maps n (field_area o) (in_task t o)
+    go None e = tt
+    go (Some f) e = (refl, width_found n at f e)
 
 -- the memory that a kind means is where an address of its value points
 pub area_found : (shapes : List Shape) (maps : Maps) (k : Kind) (v : Value) (offset : ℤ) (n : ℕ) → HasShapes shapes maps → Stands maps k v
@@ -89,7 +112,7 @@ area_found shapes maps (kind.Stack o) v offset n shaped h = absurd h
 area_found shapes maps (Elem m o) (value.Pointer (pointer.Element k i p)) offset n shaped h =
     rw (h.0, h.1) (element_found maps k i _ n (shifted p offset) h.2 (element_sized shapes maps k i shaped h.2))
 area_found shapes maps (Elem m o) v offset n shaped h = absurd h
-area_found shapes maps Task (value.Pointer (pointer.Task t)) offset n shaped h = field_found maps n t (field_at n (shifted 0 offset))
+area_found shapes maps Task (value.Pointer (pointer.Task t)) offset n shaped h = field_found maps n t (shifted 0 offset)
 area_found shapes maps Task v offset n shaped h = absurd h
 area_found shapes maps k v offset n shaped h = tt
 
@@ -112,12 +135,11 @@ loads : (maps : Maps) (cell : Cell) (stack : Stack) (a : Access) (at : ℕ) → 
     → Gives maps (loaded_kind cell a (at % 8)) (load stack a at)
 loads maps (Bytes set) stack a at h fits = go (all_written set (at % 8) (size_bytes (access_size a))) refl
   where
-    go : (b : Bool) → all_written set (at % 8) (size_bytes (access_size a)) ≡ b → Gives maps (if b then Ok Num else Err UnwrittenStack) (load stack a at)
+    go : (b : Bool) → all_written set (at % 8) (size_bytes (access_size a)) ≡ b → Gives maps (if b then Ok (Num (results.loaded a)) else Err UnwrittenStack) (load stack a at)
     go true e =
         let here = bytes_stand maps set stack at (size_bytes (access_size a)) h fits e in
         let read = bytes_read stack at (size_bytes (access_size a)) here in
-        let small = bytes_at_below stack (access_size a) at read.0 (λ i lt. byte_small (stack (at + i)) (here i lt)) read.1 in
-        rw read.1 (read_as_below a read.0 small)
+        rw read.1 ((loads_are_sound a).kept read.0 (read_below stack at (size_bytes (access_size a)) read.0 here read.1))
     go false e = tt
 loads maps (Pointer k) stack access.DoubleWord at h fits =
     let place : 8 * (at / 8) ≡ at = omega arith in
@@ -126,11 +148,14 @@ loads maps (Pointer k) stack access.DoubleWord at h fits =
     rw is read.stands
 loads maps (Pointer k) stack a at h fits = tt
 
-field_loaded : (shapes : List Shape) (a : AbsState) (m : Machine) (r : ℕ) (access : Access) (t : TaskId) (f : Field) → IsMember shapes a m
+field_loaded : (shapes : List Shape) (a : AbsState) (m : Machine) (r : ℕ) (access : Access) (t : TaskId) (f : Field) → IsMember shapes a m → field_width f ≡ size_bytes (access_size access)
     → IsSoundFor shapes (sets a r (kind_in a access (InTask f))) (loaded m r access (location.InTask t f))
-field_loaded shapes a m r access t f h =
-    elim (is_plain access) as (λ b. IsSoundFor shapes (sets a r (if b then Ok Num else Err TaskField)) (if b then set_register_by_answer m r (effect.Load t f) else effect.Stuck))
-    [ true ↦ answer_sound shapes a m r Num (effect.Load t f) h (λ v fits. field_stands m.maps t f v fits) | false ↦ refused_sound shapes a r TaskField effect.Stuck ]
+field_loaded shapes a m r access t f h wide = go (is_plain access) refl
+  where
+    go : (b : Bool) → is_plain access ≡ b
+        → IsSoundFor shapes (sets a r (if b then Ok (Num (results.loaded access)) else Err TaskField)) (if b then set_register_by_answer m r (effect.Load t f) else effect.Stuck)
+    go true e = answer_sound shapes a m r (Num (results.loaded access)) (effect.Load t f) h (λ v fits. field_stands m.maps t f access v e wide fits)
+    go false e = refused_sound shapes a r TaskField effect.Stuck
 
 load_in : (shapes : List Shape) (a : AbsState) (m : Machine) (r : ℕ) (access : Access) (area : Area) (to : Location) → IsMember shapes a m
     → Means m.maps (size_bytes (access_size access)) area to → IsSoundFor shapes (sets a r (kind_in a access area)) (loaded m r access to)
@@ -139,23 +164,23 @@ load_in shapes a m r access (OnStack at) (location.OnStack to) h g =
     (loads m.maps (cell_at a (at / 8)) m.stack access at (h.cells (at / 8)) (fits_cell (access_size access) at g.1)))
 load_in shapes a m r access (OnStack at) to h g = absurd g
 load_in shapes a m r access InElement (location.InElement k i at) h g =
-    set_sound shapes a m r (Ok Num) (Some (value.Number (read_as access (number_at (element m.maps k i) at (size_bytes (access_size access)))))) h
-    (read_as_below access (number_at (element m.maps k i) at (size_bytes (access_size access))) (number_at_below (element m.maps k i) at (access_size access) (h.maps.bytes k i)))
+    set_sound shapes a m r (Ok (Num (results.loaded access))) (Some (value.Number (read_as access (number_at (element m.maps k i) at (size_bytes (access_size access)))))) h
+    ((loads_are_sound access).kept (number_at (element m.maps k i) at (size_bytes (access_size access))) (element_below (element m.maps k i) at (size_bytes (access_size access)) (h.maps.bytes k i)))
 load_in shapes a m r access InElement to h g = absurd g
-load_in shapes a m r access (InTask f) (location.InTask t e) h g = field_loaded shapes a m r access t e h
+load_in shapes a m r access (InTask f) (location.InTask t e) h g = field_loaded shapes a m r access t e h (ap field_width (sym g.0) ∙ g.1)
 load_in shapes a m r access (InTask f) to h g = absurd g
 
 -- the rule of loads is sound
-pub load_sound : (shapes : List Shape) (a : AbsState) (m : Machine) (access : Access) (d r : Register) (offset : ℤ) → IsMember shapes a m
+pub load_sound : (shapes : List Shape) (a : AbsState) (m : Machine) (access : Access) (d r : Register) (offset : ℤ) → IsProper a → IsMember shapes a m
     → IsSoundFor shapes (sets a (number d) (load_kind shapes a access r offset)) (loaded m (number d) access (address m.maps (m.registers (number r)) offset (size_bytes (access_size access))))
-load_sound shapes a m access d r offset h =
+load_sound shapes a m access d r offset p h =
     let n = size_bytes (access_size access) in
     let to = address m.maps (m.registers (number r)) offset n in
     checked m.maps (usable (kind_at a (number r))) (m.registers (number r))
     (λ base. area_of shapes base offset n >>= λ area. kind_in a access area)
     (λ res. IsSoundFor shapes (sets a (number d) res) (loaded m (number d) access to)) (λ why. refused_sound shapes a (number d) why (loaded m (number d) access to))
-    (usable_allows m.maps (kind_at a (number r)) (m.registers (number r)) (h.registers (number r)))
-    (λ base ub hb. area_cases m.maps n (area_of shapes base offset n) to (λ area. kind_in a access area)
+    (register_allows shapes a m r p h)
+    (λ base ub pb hb. area_cases m.maps n (area_of shapes base offset n) to (λ area. kind_in a access area)
     (λ res. IsSoundFor shapes (sets a (number d) res) (loaded m (number d) access to)) (λ why. refused_sound shapes a (number d) why (loaded m (number d) access to))
     (area_found shapes m.maps base (m.registers (number r)) offset n h.maps hb)
     (λ area means. load_in shapes a m (number d) access area to h means))
@@ -203,7 +228,7 @@ Keeps maps (Some k) v = Stands maps (kind_of k) v
 
 kept : (maps : Maps) (k : Kind) (v : Value) → Stands maps k v → Keeps maps (held_of k) v
 kept maps Unusable v h = tt
-kept maps Num v h = tt
+kept maps (Num r) v h = tt
 kept maps k v h = h
 
 pointer_held : (shapes : List Shape) (a : AbsState) (m : Machine) (at : ℕ) (o : Option Held) (v : Value) → IsMember shapes a m → at % 8 + 8 ≤ 8 → Keeps m.maps o v
@@ -215,8 +240,8 @@ pointer_held shapes a m at (Some k) value.Unset h fits g = absurd (no_value m.ma
 
 stack_stored : (shapes : List Shape) (a : AbsState) (m : Machine) (s : Size) (at : ℕ) (k : Kind) (v : Value) → IsMember shapes a m → at % 8 + size_bytes s ≤ 8 → IsUsable k → Stands m.maps k v
     → IsSoundFor shapes (stored_in a s k (OnStack at)) (stored m s v (location.OnStack at))
-stack_stored shapes a m s at Num (value.Number n) h fits u g = after_number shapes a m s at n h fits
-stack_stored shapes a m s at Num v h fits u g = absurd g
+stack_stored shapes a m s at (Num r) (value.Number n) h fits u g = after_number shapes a m s at n h fits
+stack_stored shapes a m s at (Num r) v h fits u g = absurd g
 stack_stored shapes a m size.DoubleWord at Unusable v h fits u g = absurd u
 stack_stored shapes a m size.DoubleWord at k value.Unset h fits u g = absurd g
 stack_stored shapes a m size.DoubleWord at k v h fits u g = pointer_held shapes a m at (held_of k) v h fits (kept m.maps k v g)
@@ -224,19 +249,19 @@ stack_stored shapes a m s at k v h fits u g = tt
 
 element_stored : (shapes : List Shape) (a : AbsState) (m : Machine) (s : Size) (e i at : ℕ) (k : Kind) (v : Value) → IsMember shapes a m → HasElement m.maps e i
     → at + size_bytes s ≤ length (element m.maps e i) → Stands m.maps k v → IsSoundFor shapes (number_stored a k) (stored m s v (location.InElement e i at))
-element_stored shapes a m s e i at Num (value.Number n) h there room g =
+element_stored shapes a m s e i at (Num r) (value.Number n) h there room g =
     let bytes = with_number (element m.maps e i) at (size_bytes s) n in
     maps_member shapes a m (with_element m.maps e i bytes) h (with_number-lengths m.maps e i at (size_bytes s) n there room)
     (with_element_bytes m.maps e i bytes h.maps.bytes (with_number_bytes (element m.maps e i) at (size_bytes s) n (h.maps.bytes e i)))
-element_stored shapes a m s e i at Num v h there room g = absurd g
+element_stored shapes a m s e i at (Num r) v h there room g = absurd g
 element_stored shapes a m s e i at k v h there room g = tt
 
 field_stored : (shapes : List Shape) (a : AbsState) (m : Machine) (s : Size) (t : TaskId) (f : Field) (k : Kind) (v : Value) → IsMember shapes a m → Stands m.maps k v
     → IsSoundFor shapes (stored_in a s k (InTask f)) (stored m s v (location.InTask t f))
-field_stored shapes a m s t f Num (value.Number n) h g =
+field_stored shapes a m s t f (Num r) (value.Number n) h g =
     elim (is_writable f) as (λ b. IsSoundFor shapes (if b then goes_on a else Err TaskField) (if b then effect.Ask (effect.Store t f n) (λ v. m) else effect.Stuck))
     [ true ↦ λ v fits. h | false ↦ tt ]
-field_stored shapes a m s t f Num v h g = absurd g
+field_stored shapes a m s t f (Num r) v h g = absurd g
 field_stored shapes a m s t f k v h g = refused (is_writable f)
   where
     refused : (b : Bool) → IsSoundFor shapes (if b then number_stored a k else Err TaskField) (stored m s v (location.InTask t f))
@@ -249,25 +274,25 @@ store_in shapes a m s k v (OnStack at) (location.OnStack to) h u g means = rw (�
 store_in shapes a m s k v (OnStack at) to h u g means = absurd means
 store_in shapes a m s k v InElement (location.InElement e i at) h u g means = element_stored shapes a m s e i at k v h means.0 means.1 g
 store_in shapes a m s k v InElement to h u g means = absurd means
-store_in shapes a m s k v (InTask f) (location.InTask t e) h u g means = rw means (field_stored shapes a m s t e k v h g)
+store_in shapes a m s k v (InTask f) (location.InTask t e) h u g means = rw means.0 (field_stored shapes a m s t e k v h g)
 store_in shapes a m s k v (InTask f) to h u g means = absurd means
 
 -- and that of stores
-pub store_sound : (shapes : List Shape) (a : AbsState) (m : Machine) (s : Size) (r : Register) (offset : ℤ) (x : Operand) → IsOperand x → IsMember shapes a m
+pub store_sound : (shapes : List Shape) (a : AbsState) (m : Machine) (s : Size) (r : Register) (offset : ℤ) (x : Operand) → IsOperand x → IsProper a → IsMember shapes a m
     → IsSoundFor shapes (store_rule shapes a s r offset x) (stored m s (operand_value m Bits64 x) (address m.maps (m.registers (number r)) offset (size_bytes s)))
-store_sound shapes a m s r offset x fits h =
+store_sound shapes a m s r offset x fits p h =
     let n = size_bytes s in
     let v = operand_value m Bits64 x in
     let to = address m.maps (m.registers (number r)) offset n in
     checked m.maps (usable (kind_at a (number r))) (m.registers (number r))
-    (λ base. operand_kind a x >>= λ k. area_of shapes base offset n >>= λ area. stored_in a s k area)
+    (λ base. operand_kind a Bits64 x >>= λ k. area_of shapes base offset n >>= λ area. stored_in a s k area)
     (λ res. IsSoundFor shapes res (stored m s v to)) (λ why. tt)
-    (usable_allows m.maps (kind_at a (number r)) (m.registers (number r)) (h.registers (number r)))
-    (λ base ub hb. checked m.maps (operand_kind a x) v
+    (register_allows shapes a m r p h)
+    (λ base ub pb hb. checked m.maps (operand_kind a Bits64 x) v
     (λ k. area_of shapes base offset n >>= λ area. stored_in a s k area)
     (λ res. IsSoundFor shapes res (stored m s v to)) (λ why. tt)
-    (operand_allows shapes a m Bits64 x fits h)
-    (λ k uk hk. area_cases m.maps n (area_of shapes base offset n) to (λ area. stored_in a s k area)
+    (operand_allows shapes a m Bits64 x fits p h)
+    (λ k uk pk hk. area_cases m.maps n (area_of shapes base offset n) to (λ area. stored_in a s k area)
     (λ res. IsSoundFor shapes res (stored m s v to)) (λ why. tt)
     (area_found shapes m.maps base (m.registers (number r)) offset n h.maps hb)
     (λ area means. store_in shapes a m s k v area to h uk hk means)))

@@ -1,7 +1,8 @@
 -- Bytes of the stack, read and written: what a load reads of bytes that were written, what a store
 -- leaves of the others, and that what is stored is read back.
-use Rattle.std.proofs.Common.{◌≡◌, ℕ, zero, suc, ◌+◌, ◌*◌, ◌/◌, ◌%◌, ◌<◌, ◌≤◌, Bool, true, false, ◌&&◌, ◌||◌, nat_eq, nat_le, nat_lt, List, [], ◌∷◌, length, Option, Some, option_map, if◌then◌else◌, ◌⊎◌, inl, inr, refl, sym, ap, ◌∙◌, arith}
+use Rattle.std.proofs.Common.{◌≡◌, ℕ, zero, suc, ◌+◌, ◌*◌, ◌/◌, ◌%◌, ◌^◌, ◌<◌, ◌≤◌, Bool, true, false, ◌&&◌, ◌||◌, nat_eq, nat_le, nat_lt, List, [], ◌∷◌, length, drop, slice_index, Option, Some, option_map, if◌then◌else◌, ◌⊎◌, inl, inr, refl, sym, ap, ◌∙◌, arith}
 use Rattle.std.proofs.lemmas.Bool.{eqb-false, eq-eqb, ne_eqb, and_parts, or_cases, leb-true, ltb-true}
+use Rattle.std.proofs.lemmas.List.Elements.{All-drop}
 use Rattle.scx_semantics.specs.declared.values.Value.{Value}
 use Rattle.scx_semantics.specs.declared.values.Value.TheVariants as value
 use Rattle.scx_semantics.specs.declared.values.Pointer as pointers
@@ -11,9 +12,10 @@ use Rattle.scx_semantics.specs.declared.values.StackByte.TheVariants as byte
 use Rattle.scx_semantics.specs.declared.operations.Size.{Size}
 use Rattle.scx_semantics.specs.declared.operations.Size.TheVariants as size
 use Rattle.scx_semantics.specs.declared.operations.Access.TheVariants as access
-use Rattle.scx_semantics.specs.Elements.{Maps}
+use Rattle.byteorder.specs.Endian.{little_from}
+use Rattle.scx_semantics.specs.Elements.{Maps, AreBytes, number_at}
 use Rattle.scx_semantics.specs.Memory.{Stack, bytes_at, write, number_bytes, number_in, pointer_in, same_pointer, parts, value_in, number_or_pointer, value_bytes, size_bytes}
-use Rattle.scx_semantics.proofs.Bytes.{IsSmall}
+use Rattle.scx_semantics.proofs.Bytes.{IsSmall, bytes_at_small, number_in_below}
 use Rattle.scx_abs.specs.declared.kinds.Kind.{Kind}
 use Rattle.scx_abs.specs.declared.kinds.Held.{Held}
 use Rattle.scx_abs.specs.declared.kinds.Held.TheVariants as held
@@ -43,6 +45,27 @@ pub byte_small : (b : StackByte) → IsByte b → IsSmall b
 byte_small (byte.Byte b) h = h
 byte_small byte.Unwritten h = absurd h
 byte_small (byte.Part p j) h = absurd h
+
+length-bytes_at : (stack : Stack) (at n : ℕ) → length (bytes_at stack at n) ≡ n
+length-bytes_at stack at zero = refl
+length-bytes_at stack at (suc n) = ap suc (length-bytes_at stack (at + 1) n)
+
+-- the number that so many bytes hold
+pub read_below : (stack : Stack) (at n x : ℕ) → ((i : ℕ) → i < n → IsByte (stack (at + i))) → number_in (bytes_at stack at n) ≡ Some x → x < 256 ^ n
+read_below stack at n x h e = rw (length-bytes_at stack at n) at (number_in_below (bytes_at stack at n) x (bytes_at_small stack at n (λ i lt. byte_small (stack (at + i)) (h i lt))) e)
+
+index_below : (bytes : List ℕ) (i : ℕ) → AreBytes bytes → slice_index bytes i < 256
+index_below [] i h = omega arith
+index_below (b ∷ bytes) zero h = h 0 b (omega arith)
+index_below (b ∷ bytes) (suc i) h = index_below bytes i (λ k d lt. h (suc k) d (omega arith))
+
+little_below : (i n : ℕ) (bytes : List ℕ) → AreBytes bytes → little_from i n bytes < 256 ^ n
+little_below i zero bytes h = omega arith
+little_below i (suc n) bytes h = let rest = little_below (suc i) n bytes h in let this = index_below bytes i h in omega arith
+
+-- the number that so many bytes of an element hold
+pub element_below : (bytes : List ℕ) (at n : ℕ) → AreBytes bytes → number_at bytes at n < 256 ^ n
+element_below bytes at n h = little_below 0 n (drop at bytes) (All-drop (λ b. b < 256) at bytes h)
 
 -- of bytes that are all known to be written each one is
 pub written_at : (set : List Bool) (j n i : ℕ) → all_written set j n ≡ true → i < n → is_written set (j + i) ≡ true

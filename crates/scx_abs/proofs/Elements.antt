@@ -1,6 +1,6 @@
 -- Elements of maps: the checks of an offset, what shapes say of an element, and the state after a store
 -- to one.
-use Rattle.std.proofs.Common.{◌≡◌, ℕ, zero, suc, ◌+◌, ◌*◌, ◌%◌, ◌<◌, ◌≤◌, ◌⊎◌, inl, inr, Bool, true, false, ◌&&◌, nat_eq, nat_le, List, [], ◌∷◌, length, slice_index_or, slice_get, Option, Some, None, Result, Ok, Err, ok_or, if◌then◌else◌, refl, sym, ap, ◌∙◌, arith}
+use Rattle.std.proofs.Common.{◌≡◌, ℕ, zero, suc, ◌+◌, ◌*◌, ◌%◌, ◌<◌, ◌≤◌, ◌⊎◌, inl, inr, Bool, true, false, ◌&&◌, nat_eq, nat_le, List, [], ◌∷◌, ◌++◌, length, take, drop, slice_index_or, slice_get, Option, Some, None, Result, Ok, Err, ok_or, if◌then◌else◌, refl, sym, ap, ◌∙◌, arith}
 use Rattle.std.proofs.lemmas.Bool.{eqb-true, leb-true}
 use Rattle.std.proofs.lemmas.Option.{slice_get_cases}
 use Rattle.std.proofs.lemmas.List.{length-map}
@@ -94,7 +94,7 @@ same_count maps other e = sym (length-map other lengths) ∙ ap (λ (ks : List (
 -- kinds stand for the same values
 stands_still : (maps other : Maps) (k : Kind) (v : Value) → lengths_of other ≡ lengths_of maps → Stands maps k v → Stands other k v
 stands_still maps other Unusable v e h = tt
-stands_still maps other Num (value.Number n) e h = h
+stands_still maps other (Num r) (value.Number n) e h = h
 stands_still maps other (kind.Stack o) (value.Pointer (pointer.Stack p)) e h = h
 stands_still maps other (Elem m o) (value.Pointer (pointer.Element n i p)) e h =
     let same = same_elements maps other n e in

@@ -22,6 +22,7 @@ use Rattle.scx_semantics.specs.Calls.{number_of, key_at, key, takes_all, argumen
 use Rattle.scx_maps.specs.declared.shape.Shape.{Shape}
 use Rattle.scx_abs.specs.declared.faults.Why.{Why}
 use Rattle.scx_abs.specs.declared.faults.Why.TheVariants.{UnwrittenStack, HelperNotHere}
+use Rattle.scx_ranges.specs.Ranges.{all}
 use Rattle.scx_abs.specs.declared.kinds.Kind.{Kind}
 use Rattle.scx_abs.specs.declared.kinds.Kind.TheVariants as kind
 use Rattle.scx_abs.specs.declared.kinds.Kind.TheVariants.{Unusable, Num, Elem, ElemOrNull, Task, TaskOrNull, MapRef}
@@ -91,8 +92,8 @@ task_passes m Task v h = absurd h
 task_passes m k v h = tt
 
 number_passes : (m : Machine) (k : Kind) (v : Value) → Stands m.maps k v → Passes (rules.number_check k) (meaning.takes m parameter.Number v)
-number_passes m Num (value.Number n) h = refl
-number_passes m Num v h = absurd h
+number_passes m (Num r) (value.Number n) h = refl
+number_passes m (Num r) v h = absurd h
 number_passes m k v h = tt
 
 kind_passes : (shapes : List Shape) (a : AbsState) (m : Machine) (p : Parameter) (k : Kind) (v : Value) → IsMember shapes a m → Stands m.maps k v
@@ -165,7 +166,7 @@ called_sound shapes helper.MapLookupElem a m g t =
     let second = and_parts (is_some (key m (m.registers 2))) true map.1 in
     look_up_sound shapes a m (kind_at a 1) (m.registers 1) (key m (m.registers 2)) g (g.registers 1) map.0 second.0
 called_sound shapes helper.TaskByPid a m g t = λ v fits. after_member shapes a m TaskOrNull v g (task_or_null_fits m.maps v fits)
-called_sound shapes h a m g t = λ v fits. after_member shapes a m Num v g (number_stands m.maps v fits)
+called_sound shapes h a m g t = λ v fits. after_member shapes a m (Num all) v g (number_stands m.maps v fits)
 
 allowed_sound : (shapes : List Shape) (h : Helper) (a : AbsState) (m : Machine) (r : Result (Unit {0}) Why) (b : Bool) → IsMember shapes a m → Passes r b → takes_all m (parameters h) 1 ≡ b
     → IsSoundFor shapes (r >>= λ fine. goes_on (rules.after_call a (answer_kind h (kind_at a 1)))) (if b then called m h else effect.Stuck)

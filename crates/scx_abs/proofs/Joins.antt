@@ -1,7 +1,10 @@
 -- The join of two kinds, of two cells, and of two states is the least that covers both.
-use Rattle.std.proofs.Common.{◌≡◌, ℕ, ◌<◌, ◌≤◌, ◌⊎◌, inl, inr, [], arith, Bool, true, false, ◌&&◌, nat_eq, List, Option, Some, None, refl, sym, ◌∙◌}
+use Rattle.std.proofs.Common.{◌≡◌, ℕ, ◌<◌, ◌≤◌, ◌⊎◌, inl, inr, [], arith, Bool, true, false, ◌&&◌, nat_eq, List, Option, Some, None, refl, sym, ap, ◌∙◌}
 use Rattle.std.proofs.lemmas.Bool.{eqb-true, eq-eqb, and_parts, and_from, both_ways, cases_lt}
 use Rattle.std.proofs.lemmas.List.{get_or_past}
+use Rattle.scx_ranges.specs.declared.ranges.Range.{Range}
+use Rattle.scx_ranges.specs.Ranges.{CoversRange, join_ranges}
+use Rattle.scx_ranges.proofs.Order.{join_same}
 use Rattle.scx_abs.specs.declared.kinds.Kind.{Kind}
 use Rattle.scx_abs.specs.declared.kinds.Kind.TheVariants.{Unusable, Num, Stack, Elem, ElemOrNull, Task, TaskOrNull, MapRef}
 use Rattle.scx_abs.specs.declared.kinds.Held.{Held}
@@ -14,6 +17,24 @@ use Rattle.scx_abs.specs.Cells.{kind_of, held_of, is_written, no_bytes, common, 
 use Rattle.scx_abs.specs.States.{CoversState, IsWhole, kind_at, cell_at}
 use Rattle.scx_abs.specs.Monotone.{JoinOfKindsIsLeast, JoinOfCellsIsLeast, JoinsAreMonotone}
 use Rattle.scx_abs.proofs.Orders.{each_byte_at, cell_itself, covers_through}
+
+-- ---- ranges
+
+range_covers_first : (r s : Range) → CoversRange (join_ranges r s) r
+range_covers_first r s = record { low = omega arith; high = omega arith; shift = omega arith }
+
+range_covers_second : (r s : Range) → CoversRange (join_ranges r s) s
+range_covers_second r s = record { low = omega arith; high = omega arith; shift = omega arith }
+
+range_least : (t r s : Range) → CoversRange t r → CoversRange t s → CoversRange t (join_ranges r s)
+range_least t r s g h =
+    let first : t.low ≤ r.low = g.low in
+    let second : t.low ≤ s.low = h.low in
+    let third : r.high ≤ t.high = g.high in
+    let fourth : s.high ≤ t.high = h.high in
+    let fifth : t.shift ≤ r.shift = g.shift in
+    let sixth : t.shift ≤ s.shift = h.shift in
+    record { low = omega arith; high = omega arith; shift = omega arith }
 
 -- ---- kinds
 
@@ -29,7 +50,7 @@ two_tests m n o p e =
 -- a join of a kind with itself
 pub join_itself : (k : Kind) → join_kind k k ≡ k
 join_itself Unusable = refl
-join_itself Num = refl
+join_itself (Num r) = ap Num (join_same r)
 join_itself (Stack o) = rw (eq-eqb o o refl) refl
 join_itself (Elem m o) = rw (eq-eqb m m refl, eq-eqb o o refl) refl
 join_itself (ElemOrNull m) = rw (eq-eqb m m refl) refl
@@ -39,7 +60,7 @@ join_itself (MapRef m) = rw (eq-eqb m m refl) refl
 
 -- a join of kinds covers the first
 pub kind_covers_first : (j k : Kind) → CoversKind (join_kind j k) j
-kind_covers_first Num Num = tt
+kind_covers_first (Num r) (Num s) = range_covers_first r s
 kind_covers_first (Stack o) (Stack p) = if_covers (nat_eq o p) (Stack o) (Stack o) (λ e. refl)
 kind_covers_first (Elem m o) (Elem n p) = if_covers (nat_eq m n && nat_eq o p) (Elem m o) (Elem m o) (λ e. (refl, refl))
 kind_covers_first (Elem m o) (ElemOrNull n) =
@@ -55,7 +76,7 @@ kind_covers_first j k = tt
 
 -- and the second
 pub kind_covers_second : (j k : Kind) → CoversKind (join_kind j k) k
-kind_covers_second Num Num = tt
+kind_covers_second (Num r) (Num s) = range_covers_second r s
 kind_covers_second (Stack o) (Stack p) = if_covers (nat_eq o p) (Stack o) (Stack p) (λ e. eqb-true o p e)
 kind_covers_second (Elem m o) (Elem n p) = if_covers (nat_eq m n && nat_eq o p) (Elem m o) (Elem n p) (λ e. two_tests m n o p e)
 kind_covers_second (Elem m o) (ElemOrNull n) = if_covers (nat_eq m n && nat_eq o 0) (ElemOrNull n) (ElemOrNull n) (λ e. refl)
@@ -80,7 +101,7 @@ both_equal m n o p e f = and_from (nat_eq m n) (nat_eq o p) (eq-eqb m n e) (eq-e
 -- and what covers both covers it
 pub kind_least : (l j k : Kind) → CoversKind l j → CoversKind l k → CoversKind l (join_kind j k)
 kind_least Unusable j k g h = tt
-kind_least Num Num Num g h = tt
+kind_least (Num t) (Num r) (Num s) g h = range_least t r s g h
 kind_least (Stack o) (Stack p) (Stack q) g h = if_least (nat_eq p q) (Stack o) (Stack p) (eq-eqb p q (sym g ∙ h)) g
 kind_least (Elem m o) (Elem n p) (Elem l q) g h =
     if_least (nat_eq n l && nat_eq p q) (Elem m o) (Elem n p) (both_equal n l p q (sym g.0 ∙ h.0) (sym g.1 ∙ h.1)) g
@@ -106,21 +127,21 @@ kinds_least j k = record { covers_first = kind_covers_first j k; covers_second =
 -- ---- stored pointers
 
 -- a stored pointer is no number
-covers_no_number : (j : Held) → CoversKind Num (kind_of j) → ⊥
-covers_no_number (held.Stack o) h = h
-covers_no_number (held.Elem m o) h = h
-covers_no_number (held.ElemOrNull m) h = h
-covers_no_number held.Task h = h
-covers_no_number held.TaskOrNull h = h
-covers_no_number (held.MapRef m) h = h
+covers_no_number : (r : Range) (j : Held) → CoversKind (Num r) (kind_of j) → ⊥
+covers_no_number r (held.Stack o) h = h
+covers_no_number r (held.Elem m o) h = h
+covers_no_number r (held.ElemOrNull m) h = h
+covers_no_number r held.Task h = h
+covers_no_number r held.TaskOrNull h = h
+covers_no_number r (held.MapRef m) h = h
 
-covered_by_number : (l : Held) → CoversKind (kind_of l) Num → ⊥
-covered_by_number (held.Stack o) h = h
-covered_by_number (held.Elem m o) h = h
-covered_by_number (held.ElemOrNull m) h = h
-covered_by_number held.Task h = h
-covered_by_number held.TaskOrNull h = h
-covered_by_number (held.MapRef m) h = h
+covered_by_number : (r : Range) (l : Held) → CoversKind (kind_of l) (Num r) → ⊥
+covered_by_number r (held.Stack o) h = h
+covered_by_number r (held.Elem m o) h = h
+covered_by_number r (held.ElemOrNull m) h = h
+covered_by_number r held.Task h = h
+covered_by_number r held.TaskOrNull h = h
+covered_by_number r (held.MapRef m) h = h
 
 -- and of it something is known
 is_usable : (l : Held) → CoversKind (kind_of l) Unusable → ⊥
@@ -133,7 +154,7 @@ is_usable (held.MapRef m) h = h
 
 kept_covers : (k : Kind) (j : Held) → CoversKind k (kind_of j) → CoversCell (cell_of (held_of k)) (Pointer j)
 kept_covers Unusable j h = λ i lt w. w
-kept_covers Num j h = absurd (covers_no_number j h)
+kept_covers (Num r) j h = absurd (covers_no_number r j h)
 kept_covers k j h = h
 
 pointers_cover_first : (j k : Held) → CoversCell (join_pointers j k) (Pointer j)
@@ -148,7 +169,7 @@ bytes_cover b (Some k) h = h
 
 pointer_least : (l : Held) (k : Kind) → CoversKind (kind_of l) k → CoversCell (Pointer l) (cell_of (held_of k))
 pointer_least l Unusable h = absurd (is_usable l h)
-pointer_least l Num h = absurd (covered_by_number l h)
+pointer_least l (Num r) h = absurd (covered_by_number r l h)
 pointer_least l k h = h
 
 -- ---- cells

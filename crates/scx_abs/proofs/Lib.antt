@@ -1,6 +1,6 @@
 mod Lists
 pub mod Orders
-mod Joins
+pub mod Joins
 mod Blanks
 pub mod Proper
 mod Bytes

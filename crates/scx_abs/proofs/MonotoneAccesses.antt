@@ -2,6 +2,7 @@
 use Rattle.std.proofs.Common.{◌≡◌, ℕ, zero, suc, ◌+◌, ◌/◌, ◌%◌, ◌<◌, ◌≤◌, ◌⊎◌, inl, inr, ℤ, Bool, true, false, ◌&&◌, ◌||◌, nat_le, nat_lt, List, Option, Some, None, Result, Ok, Err, if◌then◌else◌, refl, sym, ap, ◌∙◌, arith}
 use Rattle.std.proofs.lemmas.Bool.{and_parts, and_from, or_cases, or_right}
 use Rattle.scx_semantics.specs.declared.instructions.Operand.{Operand}
+use Rattle.scx_semantics.specs.declared.operations.Width.TheVariants.{Bits64}
 use Rattle.scx_semantics.specs.declared.operations.Size.{Size}
 use Rattle.scx_semantics.specs.declared.operations.Size.TheVariants as size
 use Rattle.scx_semantics.specs.declared.operations.Access.{Access}
@@ -13,9 +14,11 @@ use Rattle.scx_semantics.specs.Memory.{size_bytes, access_size, stack_size}
 use Rattle.scx_semantics.specs.declared.host_tables.Field.{Field}
 use Rattle.scx_semantics.specs.HostTables.{is_writable, field_at}
 use Rattle.scx_semantics.specs.Meaning.{is_plain}
+use Rattle.scx_encoding.specs.Spelling.{IsOperand}
 use Rattle.scx_maps.specs.declared.shape.Shape.{Shape}
 use Rattle.scx_abs.specs.declared.faults.Why.{Why}
 use Rattle.scx_abs.specs.declared.faults.Why.TheVariants.{UnwrittenStack, TaskField}
+use Rattle.scx_ranges.specs.Results.{loaded}
 use Rattle.scx_abs.specs.declared.kinds.Kind.{Kind}
 use Rattle.scx_abs.specs.declared.kinds.Kind.TheVariants as kind
 use Rattle.scx_abs.specs.declared.kinds.Kind.TheVariants.{Unusable, Num, Elem, Task}
@@ -32,10 +35,11 @@ use Rattle.scx_semantics.specs.Results.{◌>>=◌}
 use Rattle.scx_abs.specs.Checks.{goes_on, usable, operand_kind, element_size, offset_for}
 use Rattle.scx_abs.specs.Rules.{field_area, area_of, loaded_kind, kind_in, load_kind, stored_cell, number_stored, stored_in, store_rule}
 use Rattle.scx_abs.specs.Monotone.{PassesToo, CoversFlows}
-use Rattle.scx_abs.proofs.Orders.{each_byte_at, none_written}
+use Rattle.scx_abs.proofs.Orders.{kind_itself, each_byte_at, none_written}
 use Rattle.scx_abs.proofs.Elements.{offset_cases}
 use Rattle.scx_abs.proofs.Bytes.{fits_cell}
-use Rattle.scx_abs.proofs.MonotoneRegisters.{passes_then, with_cell_covers, on_monotone, CoversUsable, usable_monotone, operand_monotone}
+use Rattle.scx_abs.proofs.MonotoneRegisters.{passes_then, with_cell_covers, on_monotone, CoversUsable, operand_monotone}
+use Rattle.scx_abs.proofs.MonotoneRegisters as registers
 
 -- ---- offsets
 
@@ -102,16 +106,16 @@ read_monotone R x b a j n same le h = go (all_written b j n) refl
     go true e = rw (all_part b a j n le h e) same
     go false e = tt
 
-read_nothing : (b : List Bool) (j n : ℕ) (r : Result Kind Why) → j + n ≤ 8 → 1 ≤ n → IsPartOf b no_bytes → PassesToo CoversKind (if all_written b j n then Ok Num else Err UnwrittenStack) r
-read_nothing b j n r le some h = go (all_written b j n) refl
+read_nothing : (k : Kind) (b : List Bool) (j n : ℕ) (r : Result Kind Why) → j + n ≤ 8 → 1 ≤ n → IsPartOf b no_bytes → PassesToo CoversKind (if all_written b j n then Ok k else Err UnwrittenStack) r
+read_nothing k b j n r le some h = go (all_written b j n) refl
   where
-    go : (t : Bool) → all_written b j n ≡ t → PassesToo CoversKind (if t then Ok Num else Err UnwrittenStack) r
+    go : (t : Bool) → all_written b j n ≡ t → PassesToo CoversKind (if t then Ok k else Err UnwrittenStack) r
     go true e = absurd (none_part b j n le some h e)
     go false e = tt
 
 loaded_monotone : (x y : Cell) (a : Access) (j : ℕ) → j + size_bytes (access_size a) ≤ 8 → CoversCell x y → PassesToo CoversKind (loaded_kind x a j) (loaded_kind y a j)
-loaded_monotone (Bytes s) (Bytes t) a j le h = read_monotone CoversKind Num s t j (size_bytes (access_size a)) tt le h
-loaded_monotone (Bytes s) (Pointer k) a j le h = read_nothing s j (size_bytes (access_size a)) (loaded_kind (Pointer k) a j) le (size-positive (access_size a)) h
+loaded_monotone (Bytes s) (Bytes t) a j le h = read_monotone CoversKind (Num (loaded a)) s t j (size_bytes (access_size a)) (kind_itself (Num (loaded a))) le h
+loaded_monotone (Bytes s) (Pointer k) a j le h = read_nothing (Num (loaded a)) s j (size_bytes (access_size a)) (loaded_kind (Pointer k) a j) le (size-positive (access_size a)) h
 loaded_monotone (Pointer k) (Bytes t) a j le h = absurd h
 loaded_monotone (Pointer k) (Pointer l) access.DoubleWord j le h = h
 loaded_monotone (Pointer k) (Pointer l) a j le h = tt
@@ -119,18 +123,19 @@ loaded_monotone (Pointer k) (Pointer l) a j le h = tt
 kind_in_monotone : (b a : AbsState) (access : Access) (x y : Area) → CoversState b a → SameArea (size_bytes (access_size access)) x y → PassesToo CoversKind (kind_in b access x) (kind_in a access y)
 kind_in_monotone b a access x (OnStack at) h g =
     rw g.0 (loaded_monotone (cell_at b (at / 8)) (cell_at a (at / 8)) access (at % 8) (fits_cell (access_size access) at g.1.aligned) (h.cells (at / 8)))
-kind_in_monotone b a access x InElement h g = rw g.0 tt
+kind_in_monotone b a access x InElement h g = rw g.0 (kind_itself (Num (loaded access)))
 kind_in_monotone b a access x (InTask f) h g =
-    rw g.0 (elim (is_plain access) as (λ t. PassesToo CoversKind (if t then Ok Num else Err TaskField) (if t then Ok Num else Err TaskField)) [ true ↦ tt | false ↦ tt ])
+    rw g.0 (elim (is_plain access) as (λ t. PassesToo CoversKind (if t then Ok (Num (loaded access)) else Err TaskField) (if t then Ok (Num (loaded access)) else Err TaskField))
+    [ true ↦ kind_itself (Num (loaded access)) | false ↦ tt ])
 
 -- loads
-pub load_monotone : (shapes : List Shape) (b a : AbsState) (access : Access) (r : Register) (offset : ℤ) → CoversState b a
+pub load_monotone : (shapes : List Shape) (b a : AbsState) (access : Access) (r : Register) (offset : ℤ) → IsProper b → IsProper a → CoversState b a
     → PassesToo CoversKind (load_kind shapes b access r offset) (load_kind shapes a access r offset)
-load_monotone shapes b a access r offset h =
+load_monotone shapes b a access r offset q p h =
     let n = size_bytes (access_size access) in
     passes_then CoversUsable CoversKind (usable (kind_at b (number r))) (usable (kind_at a (number r)))
     (λ j. area_of shapes j offset n >>= λ x. kind_in b access x) (λ j. area_of shapes j offset n >>= λ x. kind_in a access x)
-    (usable_monotone (kind_at b (number r)) (kind_at a (number r)) (h.registers (number r)))
+    (registers.read_monotone b a r q p h)
     (λ j k g. passes_then (SameArea n) CoversKind (area_of shapes j offset n) (area_of shapes k offset n) (λ x. kind_in b access x) (λ x. kind_in a access x)
     (area_monotone shapes j k offset n g.1) (λ x y f. kind_in_monotone b a access x y h f))
 
@@ -153,16 +158,16 @@ marked_part b a j n h i lt w =
     go (inr e) = or_right (is_written a i) (nat_le j i && nat_lt i (j + n)) e
 
 stored_cell_monotone : (x y : Cell) (s : Size) (i : ℕ) (j k : Kind) → CoversCell x y → CoversUsable j k → PassesToo CoversCell (stored_cell x s i j) (stored_cell y s i k)
-stored_cell_monotone x y s i Num Num h g = marked_part (written_in x) (written_in y) i (size_bytes s) (written_covers x y h)
-stored_cell_monotone x y s i Num k h g = absurd g.1
+stored_cell_monotone x y s i (Num u) (Num v) h g = marked_part (written_in x) (written_in y) i (size_bytes s) (written_covers x y h)
+stored_cell_monotone x y s i (Num u) k h g = absurd g.1
 stored_cell_monotone x y size.DoubleWord i Unusable k h g = absurd g.0
-stored_cell_monotone x y size.DoubleWord i j Num h g = absurd g.1
+stored_cell_monotone x y size.DoubleWord i j (Num u) h g = absurd g.1
 stored_cell_monotone x y size.DoubleWord i j k h g = g.1
 stored_cell_monotone x y s i j k h g = tt
 
 number_stored_monotone : (b a : AbsState) (j k : Kind) → CoversState b a → CoversKind j k → PassesToo CoversFlows (number_stored b j) (number_stored a k)
-number_stored_monotone b a Num Num h g = on_monotone b a h
-number_stored_monotone b a Num k h g = absurd g
+number_stored_monotone b a (Num u) (Num v) h g = on_monotone b a h
+number_stored_monotone b a (Num u) k h g = absurd g
 number_stored_monotone b a j k h g = tt
 
 cell-below : (s : Size) (at : ℕ) → IsAlignedWithin stack_size (size_bytes s) at → at / 8 < 64
@@ -181,14 +186,14 @@ stored_monotone b a s j k x (InTask t) p h g f =
     [ true ↦ number_stored_monotone b a j k h g.1 | false ↦ tt ])
 
 -- stores
-pub store_monotone : (shapes : List Shape) (b a : AbsState) (s : Size) (r : Register) (offset : ℤ) (x : Operand) → IsProper a → CoversState b a
+pub store_monotone : (shapes : List Shape) (b a : AbsState) (s : Size) (r : Register) (offset : ℤ) (x : Operand) → IsOperand x → IsProper b → IsProper a → CoversState b a
     → PassesToo CoversFlows (store_rule shapes b s r offset x) (store_rule shapes a s r offset x)
-store_monotone shapes b a s r offset x p h =
+store_monotone shapes b a s r offset x fits q p h =
     let n = size_bytes s in
     passes_then CoversUsable CoversFlows (usable (kind_at b (number r))) (usable (kind_at a (number r)))
-    (λ j. operand_kind b x >>= λ k. area_of shapes j offset n >>= λ t. stored_in b s k t) (λ j. operand_kind a x >>= λ k. area_of shapes j offset n >>= λ t. stored_in a s k t)
-    (usable_monotone (kind_at b (number r)) (kind_at a (number r)) (h.registers (number r)))
-    (λ j k g. passes_then CoversUsable CoversFlows (operand_kind b x) (operand_kind a x)
-    (λ l. area_of shapes j offset n >>= λ t. stored_in b s l t) (λ l. area_of shapes k offset n >>= λ t. stored_in a s l t) (operand_monotone b a x h)
+    (λ j. operand_kind b Bits64 x >>= λ k. area_of shapes j offset n >>= λ t. stored_in b s k t) (λ j. operand_kind a Bits64 x >>= λ k. area_of shapes j offset n >>= λ t. stored_in a s k t)
+    (registers.read_monotone b a r q p h)
+    (λ j k g. passes_then CoversUsable CoversFlows (operand_kind b Bits64 x) (operand_kind a Bits64 x)
+    (λ l. area_of shapes j offset n >>= λ t. stored_in b s l t) (λ l. area_of shapes k offset n >>= λ t. stored_in a s l t) (operand_monotone b a Bits64 x fits q p h)
     (λ l m f. passes_then (SameArea n) CoversFlows (area_of shapes j offset n) (area_of shapes k offset n) (λ t. stored_in b s l t) (λ t. stored_in a s m t)
     (area_monotone shapes j k offset n g.1) (λ t u e. stored_monotone b a s l m t u p h f e)))

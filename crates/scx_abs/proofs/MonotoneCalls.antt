@@ -10,6 +10,7 @@ use Rattle.scx_semantics.specs.declared.host_tables.Parameter.TheVariants as par
 use Rattle.scx_semantics.specs.HostTables.{parameters, is_allowed}
 use Rattle.scx_maps.specs.declared.shape.Shape.{Shape}
 use Rattle.scx_abs.specs.declared.faults.Why.TheVariants.{HelperNotHere}
+use Rattle.scx_ranges.specs.Ranges.{all}
 use Rattle.scx_abs.specs.declared.kinds.Kind.{Kind}
 use Rattle.scx_abs.specs.declared.kinds.Kind.TheVariants as kind
 use Rattle.scx_abs.specs.declared.kinds.Kind.TheVariants.{Unusable, Num, Elem, Task, MapRef}
@@ -20,6 +21,7 @@ use Rattle.scx_abs.specs.States.{CoversState, IsProper, kind_at, cell_at, with_k
 use Rattle.scx_abs.specs.Checks.{goes_on, element_size, offset_for}
 use Rattle.scx_abs.specs.Calls.{key_in, key_check, takes, argument_check, arguments_check, after_call, element_of, answer_kind, call_allowed, call_rule}
 use Rattle.scx_abs.specs.Monotone.{PassesToo, CoversFlows}
+use Rattle.scx_abs.proofs.Orders.{kind_itself}
 use Rattle.scx_abs.proofs.Bytes.{fits_cell}
 use Rattle.scx_abs.proofs.Proper.{kind_proper}
 use Rattle.scx_abs.proofs.MonotoneRegisters.{passes_then, with_kind_covers, on_monotone}
@@ -52,8 +54,8 @@ takes_monotone shapes b a parameter.Key j k h g = key_monotone shapes b a j k h 
 takes_monotone shapes b a parameter.Task Task Task h g = tt
 takes_monotone shapes b a parameter.Task Task k h g = absurd g
 takes_monotone shapes b a parameter.Task j k h g = tt
-takes_monotone shapes b a parameter.Number Num Num h g = tt
-takes_monotone shapes b a parameter.Number Num k h g = absurd g
+takes_monotone shapes b a parameter.Number (Num s) (Num r) h g = tt
+takes_monotone shapes b a parameter.Number (Num s) k h g = absurd g
 takes_monotone shapes b a parameter.Number j k h g = tt
 
 argument_monotone : (shapes : List Shape) (b a : AbsState) (p : Parameter) (j k : Kind) → CoversState b a → CoversKind j k → PassesToo NoMore (argument_check shapes b p j) (argument_check shapes a p k)
@@ -77,7 +79,7 @@ element_of_monotone j k h = tt
 answer_monotone : (h : Helper) (j k : Kind) → CoversKind j k → CoversKind (answer_kind h j) (answer_kind h k)
 answer_monotone helper.MapLookupElem j k g = element_of_monotone j k g
 answer_monotone helper.TaskByPid j k g = tt
-answer_monotone h j k g = tt
+answer_monotone h j k g = kind_itself (Num all)
 
 after_monotone : (b a : AbsState) (j k : Kind) → IsProper a → CoversState b a → CoversKind j k → CoversState (after_call b j) (after_call a k)
 after_monotone b a j k p h g =
@@ -91,11 +93,11 @@ after_monotone b a j k p h g =
     let a3 = with_kind a2 3 Unusable in
     let a4 = with_kind a3 4 Unusable in
     let a5 = with_kind a4 5 Unusable in
-    let p1 = kind_proper a 1 Unusable p in
-    let p2 = kind_proper a1 2 Unusable p1 in
-    let p3 = kind_proper a2 3 Unusable p2 in
-    let p4 = kind_proper a3 4 Unusable p3 in
-    let p5 = kind_proper a4 5 Unusable p4 in
+    let p1 = kind_proper a 1 Unusable p tt in
+    let p2 = kind_proper a1 2 Unusable p1 tt in
+    let p3 = kind_proper a2 3 Unusable p2 tt in
+    let p4 = kind_proper a3 4 Unusable p3 tt in
+    let p5 = kind_proper a4 5 Unusable p4 tt in
     let h1 = with_kind_covers b a 1 Unusable Unusable (omega arith) p h tt in
     let h2 = with_kind_covers b1 a1 2 Unusable Unusable (omega arith) p1 h1 tt in
     let h3 = with_kind_covers b2 a2 3 Unusable Unusable (omega arith) p2 h2 tt in

@@ -4,24 +4,32 @@ use Rattle.std.proofs.Common.{ℕ, ◌<◌, true, false, nat_eq, [], Result, Ok,
 use Rattle.std.proofs.lemmas.List.{get_or-set_same, get_or-set_other}
 use Rattle.scx_semantics.specs.declared.instructions.Operand.{Operand}
 use Rattle.scx_semantics.specs.declared.instructions.Operand.TheVariants as operand
+use Rattle.scx_semantics.specs.declared.operations.Width.{Width}
+use Rattle.scx_semantics.specs.Arithmetic.{immediate}
+use Rattle.scx_semantics.proofs.Numbers.{immediate_below}
+use Rattle.scx_encoding.specs.Spelling.{IsOperand}
 use Rattle.scx_semantics.specs.declared.registers.Register.{Register}
 use Rattle.scx_semantics.specs.Registers.{number}
 use Rattle.scx_encoding.proofs.Insns.{number_lt}
 use Rattle.scx_abs.specs.declared.faults.Why.{Why}
 use Rattle.scx_abs.specs.declared.faults.Why.TheVariants.{WritesFrame}
+use Rattle.scx_ranges.specs.Ranges.{single}
+use Rattle.scx_ranges.proofs.Multiples.{single_range}
 use Rattle.scx_abs.specs.declared.kinds.Kind.{Kind}
-use Rattle.scx_abs.specs.declared.kinds.Kind.TheVariants.{Unusable}
+use Rattle.scx_abs.specs.declared.kinds.Kind.TheVariants.{Unusable, Num}
 use Rattle.scx_abs.specs.declared.kinds.Cell.{Cell}
 use Rattle.scx_abs.specs.declared.kinds.Cell.TheVariants.{Bytes, Pointer}
 use Rattle.scx_abs.specs.declared.states.AbsState.{AbsState}
 use Rattle.scx_abs.specs.declared.rules.Next.{Next}
-use Rattle.scx_abs.specs.Kinds.{CoversKind, IsUsable}
+use Rattle.scx_abs.specs.Kinds.{CoversKind, IsProperKind, IsUsable}
 use Rattle.scx_abs.specs.Cells.{CoversCell}
 use Rattle.scx_abs.specs.States.{CoversState, IsProper, kind_at, cell_at, with_kind, with_cell}
 use Rattle.scx_semantics.specs.Results.{◌>>=◌}
 use Rattle.scx_abs.specs.Checks.{goes_on, usable, operand_kind, sets}
 use Rattle.scx_abs.specs.Monotone.{PassesToo, CoversFlows}
 use Rattle.scx_abs.proofs.Lists.{set_each}
+use Rattle.scx_abs.proofs.Orders.{kind_itself}
+use Rattle.scx_abs.proofs.Proper.{kind_is_proper}
 
 -- ---- one check behind another
 
@@ -87,17 +95,23 @@ sets_monotone b a d (Ok j) (Ok k) p h g =
 
 -- ---- what is read
 
--- the first covers the second, and both may be read
+-- the first covers the second, and both may be read and are proper
 abbrev pub CoversUsable : Kind → Kind → Type 0
-CoversUsable j k = IsUsable j × CoversKind j k
+CoversUsable j k = IsUsable j × CoversKind j k × IsProperKind j × IsProperKind k
 
 -- a kind that is read
-pub usable_monotone : (j k : Kind) → CoversKind j k → PassesToo CoversUsable (usable j) (usable k)
-usable_monotone Unusable k h = tt
-usable_monotone j Unusable h = absurd h
-usable_monotone j k h = (tt, h)
+pub usable_monotone : (j k : Kind) → CoversKind j k → IsProperKind j → IsProperKind k → PassesToo CoversUsable (usable j) (usable k)
+usable_monotone Unusable k h p q = tt
+usable_monotone j Unusable h p q = absurd h
+usable_monotone j k h p q = (tt, h, p, q)
+
+-- a register that is read
+pub read_monotone : (b a : AbsState) (r : Register) → IsProper b → IsProper a → CoversState b a → PassesToo CoversUsable (usable (kind_at b (number r))) (usable (kind_at a (number r)))
+read_monotone b a r q p h = usable_monotone (kind_at b (number r)) (kind_at a (number r)) (h.registers (number r)) (kind_is_proper b (number r) q) (kind_is_proper a (number r) p)
 
 -- an operand
-pub operand_monotone : (b a : AbsState) (x : Operand) → CoversState b a → PassesToo CoversUsable (operand_kind b x) (operand_kind a x)
-operand_monotone b a (operand.Immediate k) h = (tt, tt)
-operand_monotone b a (operand.Register r) h = usable_monotone (kind_at b (number r)) (kind_at a (number r)) (h.registers (number r))
+pub operand_monotone : (b a : AbsState) (w : Width) (x : Operand) → IsOperand x → IsProper b → IsProper a → CoversState b a → PassesToo CoversUsable (operand_kind b w x) (operand_kind a w x)
+operand_monotone b a w (operand.Immediate k) fits q p h =
+    let range = single_range (immediate w k) (immediate_below w k fits) in
+    (tt, kind_itself (Num (single (immediate w k))), range, range)
+operand_monotone b a w (operand.Register r) fits q p h = read_monotone b a r q p h

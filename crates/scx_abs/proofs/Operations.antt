@@ -18,43 +18,47 @@ use Rattle.scx_semantics.specs.Memory.{stack_size, within}
 use Rattle.scx_semantics.specs.Elements.{Maps, element}
 use Rattle.scx_semantics.specs.Machine.{Machine}
 use Rattle.scx_semantics.specs.Meaning.{operand_value, moved, combined, arithmetic, binary, pointer_step, pointer_moved, pointer_combined, on_number, map_reference}
-use Rattle.scx_semantics.proofs.Numbers.{low_below, compute_below}
 use Rattle.scx_encoding.specs.Spelling.{IsOperand}
 use Rattle.scx_maps.specs.declared.shape.Shape.{Shape}
 use Rattle.scx_maps.specs.Contents.{HasShapes}
 use Rattle.scx_maps.proofs.Shaped.{length-shaped}
 use Rattle.scx_abs.specs.declared.faults.Why.TheVariants.{UnknownMap}
+use Rattle.scx_ranges.specs.declared.ranges.Range.{Range}
+use Rattle.scx_ranges.specs.Ranges.{IsRange, IsIn}
+use Rattle.scx_ranges.specs.ResultLaws.{AreImages}
+use Rattle.scx_ranges.proofs.AllWidths.{arithmetic_is_sound, copies_are_sound}
 use Rattle.scx_abs.specs.declared.kinds.Kind.{Kind}
 use Rattle.scx_abs.specs.declared.kinds.Kind.TheVariants as kind
 use Rattle.scx_abs.specs.declared.kinds.Kind.TheVariants.{Unusable, Num, Elem, MapRef}
 use Rattle.scx_abs.specs.declared.states.AbsState.{AbsState}
-use Rattle.scx_abs.specs.Kinds.{IsUsable}
-use Rattle.scx_abs.specs.States.{kind_at}
+use Rattle.scx_abs.specs.Kinds.{IsProperKind, IsUsable}
+use Rattle.scx_abs.specs.States.{kind_at, IsProper}
 use Rattle.scx_abs.specs.Stands.{HasElement, Stands, IsMember}
 use Rattle.scx_semantics.specs.Results.{◌>>=◌}
 use Rattle.scx_abs.specs.Checks.{usable, operand_kind, offset_within}
-use Rattle.scx_abs.specs.Rules.{moved_by, moved_kind, arithmetic_kind, combined_kind, binary_kind, number_kind, map_kind}
-use Rattle.scx_abs.proofs.Registers.{Gives, usable_allows, operand_allows, checked}
+use Rattle.scx_abs.specs.Rules.{moved_by, moved_kind, computed_kind, arithmetic_kind, combined_kind, binary_kind, number_kind, map_kind}
+use Rattle.scx_abs.proofs.Registers.{Gives, register_allows, operand_allows, checked}
 use Rattle.scx_abs.proofs.Elements.{within_cases, element_sized}
 
-moved_gives : (maps : Maps) (w : Width) (k : Kind) (v : Value) → IsUsable k → Stands maps k v → Gives maps (moved_kind w k) (moved w v)
-moved_gives maps Bits64 k (value.Number n) u h = h
-moved_gives maps Bits64 k (value.Pointer p) u h = h
-moved_gives maps Bits64 Unusable value.Unset u h = absurd u
-moved_gives maps Bits64 k value.Unset u h = absurd h
-moved_gives maps Bits32 Num (value.Number n) u h = low_below Bits32 n h
-moved_gives maps Bits32 Num v u h = absurd h
-moved_gives maps Bits32 k v u h = tt
+moved_gives : (maps : Maps) (w : Width) (k : Kind) (v : Value) → IsUsable k → IsProperKind k → Stands maps k v → Gives maps (moved_kind w k) (moved w v)
+moved_gives maps Bits64 k (value.Number n) u p h = h
+moved_gives maps Bits64 k (value.Pointer q) u p h = h
+moved_gives maps Bits64 Unusable value.Unset u p h = absurd u
+moved_gives maps Bits64 k value.Unset u p h = absurd h
+moved_gives maps Bits32 (Num r) (value.Number n) u p h = (copies_are_sound Bits32).kept r n p h
+moved_gives maps Bits32 (Num r) v u p h = absurd h
+moved_gives maps Bits32 k v u p h = tt
 
 -- an operation on one number
-pub number_gives : (maps : Maps) (f : ℕ → ℕ) (k : Kind) (v : Value) → ((n : ℕ) → n < 2 ^ 64 → f n < 2 ^ 64) → Stands maps k v → Gives maps (number_kind k) (on_number f v)
-number_gives maps f Num (value.Number n) below h = below n h
-number_gives maps f Num v below h = absurd h
-number_gives maps f k v below h = tt
+pub number_gives : (maps : Maps) (f : ℕ → ℕ) (known : Range → Range) (k : Kind) (v : Value) → AreImages f known → IsProperKind k → Stands maps k v → Gives maps (number_kind known k) (on_number f v)
+number_gives maps f known (Num r) (value.Number n) sound p h = sound.kept r n p h
+number_gives maps f known (Num r) v sound p h = absurd h
+number_gives maps f known k v sound p h = tt
 
-combined_gives : (maps : Maps) (w : Width) (o : Operation) (a : ℕ) (v : Value) → a < 2 ^ 64 → Stands maps Num v → Gives maps (Ok Num) (combined w o a v)
-combined_gives maps w o a (value.Number b) g h = compute_below w o a b g h
-combined_gives maps w o a v g h = absurd h
+computed_gives : (maps : Maps) (w : Width) (o : Operation) (r : Range) (k : Kind) (a : ℕ) (v : Value) → IsRange r → IsProperKind k → IsIn a r → Stands maps k v → Gives maps (computed_kind w o r k) (combined w o a v)
+computed_gives maps w o r (Num s) a (value.Number b) p q g h = (arithmetic_is_sound w o).kept r s a b p q g h
+computed_gives maps w o r (Num s) a v p q g h = absurd h
+computed_gives maps w o r k a v p q g h = tt
 
 -- ---- pointers
 
@@ -87,33 +91,33 @@ pointer_gives shapes m w o q x j s h = moved_by_gives shapes m.maps j q (pointer
 
 -- ---- all operations
 
-arithmetic_gives : (shapes : List Shape) (m : Machine) (w : Width) (o : Operation) (x : Operand) (j k : Kind) (old : Value) → HasShapes shapes m.maps → Stands m.maps j old
+arithmetic_gives : (shapes : List Shape) (m : Machine) (w : Width) (o : Operation) (x : Operand) (j k : Kind) (old : Value) → HasShapes shapes m.maps → IsProperKind j → IsProperKind k → Stands m.maps j old
     → Stands m.maps k (operand_value m w x) → Gives m.maps (arithmetic_kind shapes w o x j k) (arithmetic m w o old x)
-arithmetic_gives shapes m w o x Num Num (value.Number a) s h g = combined_gives m.maps w o a (operand_value m w x) h g
-arithmetic_gives shapes m w o x Num Num old s h g = absurd h
-arithmetic_gives shapes m w o x (kind.Stack p) k (value.Pointer q) s h g = pointer_gives shapes m w o q x (kind.Stack p) s h
-arithmetic_gives shapes m w o x (kind.Stack p) k old s h g = absurd h
-arithmetic_gives shapes m w o x (Elem n p) k (value.Pointer q) s h g = pointer_gives shapes m w o q x (Elem n p) s h
-arithmetic_gives shapes m w o x (Elem n p) k old s h g = absurd h
-arithmetic_gives shapes m w o x j k old s h g = tt
+arithmetic_gives shapes m w o x (Num r) k (value.Number a) s p q h g = computed_gives m.maps w o r k a (operand_value m w x) p q h g
+arithmetic_gives shapes m w o x (Num r) k old s p q h g = absurd h
+arithmetic_gives shapes m w o x (kind.Stack n) k (value.Pointer t) s p q h g = pointer_gives shapes m w o t x (kind.Stack n) s h
+arithmetic_gives shapes m w o x (kind.Stack n) k old s p q h g = absurd h
+arithmetic_gives shapes m w o x (Elem n l) k (value.Pointer t) s p q h g = pointer_gives shapes m w o t x (Elem n l) s h
+arithmetic_gives shapes m w o x (Elem n l) k old s p q h g = absurd h
+arithmetic_gives shapes m w o x j k old s p q h g = tt
 
-combined_kind_gives : (shapes : List Shape) (a : AbsState) (m : Machine) (w : Width) (o : Operation) (d : Register) (x : Operand) → IsOperand x → IsMember shapes a m
+combined_kind_gives : (shapes : List Shape) (a : AbsState) (m : Machine) (w : Width) (o : Operation) (d : Register) (x : Operand) → IsOperand x → IsProper a → IsMember shapes a m
     → Gives m.maps (combined_kind shapes a w o d x) (arithmetic m w o (m.registers (number d)) x)
-combined_kind_gives shapes a m w o d x fits h =
-    checked m.maps (usable (kind_at a (number d))) (m.registers (number d)) (λ j. operand_kind a x >>= λ k. arithmetic_kind shapes w o x j k)
+combined_kind_gives shapes a m w o d x fits p h =
+    checked m.maps (usable (kind_at a (number d))) (m.registers (number d)) (λ j. operand_kind a w x >>= λ k. arithmetic_kind shapes w o x j k)
     (λ r. Gives m.maps r (arithmetic m w o (m.registers (number d)) x)) (λ why. tt)
-    (usable_allows m.maps (kind_at a (number d)) (m.registers (number d)) (h.registers (number d)))
-    (λ j uj hj. checked m.maps (operand_kind a x) (operand_value m w x) (λ k. arithmetic_kind shapes w o x j k)
-    (λ r. Gives m.maps r (arithmetic m w o (m.registers (number d)) x)) (λ why. tt) (operand_allows shapes a m w x fits h)
-    (λ k uk hk. arithmetic_gives shapes m w o x j k (m.registers (number d)) h.maps hj hk))
+    (register_allows shapes a m d p h)
+    (λ j uj pj hj. checked m.maps (operand_kind a w x) (operand_value m w x) (λ k. arithmetic_kind shapes w o x j k)
+    (λ r. Gives m.maps r (arithmetic m w o (m.registers (number d)) x)) (λ why. tt) (operand_allows shapes a m w x fits p h)
+    (λ k uk pk hk. arithmetic_gives shapes m w o x j k (m.registers (number d)) h.maps pj pk hj hk))
 
 -- an operation on two operands
-pub binary_gives : (shapes : List Shape) (a : AbsState) (m : Machine) (w : Width) (o : Operation) (d : Register) (x : Operand) → IsOperand x → IsMember shapes a m
+pub binary_gives : (shapes : List Shape) (a : AbsState) (m : Machine) (w : Width) (o : Operation) (d : Register) (x : Operand) → IsOperand x → IsProper a → IsMember shapes a m
     → Gives m.maps (binary_kind shapes a w o d x) (binary m w o (m.registers (number d)) x)
-binary_gives shapes a m w Move d x fits h =
-    checked m.maps (operand_kind a x) (operand_value m w x) (λ k. moved_kind w k) (λ r. Gives m.maps r (moved w (operand_value m w x))) (λ why. tt) (operand_allows shapes a m w x fits h)
-    (λ k uk hk. moved_gives m.maps w k (operand_value m w x) uk hk)
-binary_gives shapes a m w o d x fits h = combined_kind_gives shapes a m w o d x fits h
+binary_gives shapes a m w Move d x fits p h =
+    checked m.maps (operand_kind a w x) (operand_value m w x) (λ k. moved_kind w k) (λ r. Gives m.maps r (moved w (operand_value m w x))) (λ why. tt) (operand_allows shapes a m w x fits p h)
+    (λ k uk pk hk. moved_gives m.maps w k (operand_value m w x) uk pk hk)
+binary_gives shapes a m w o d x fits p h = combined_kind_gives shapes a m w o d x fits p h
 
 -- ---- references to maps
 

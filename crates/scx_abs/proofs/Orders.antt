@@ -1,11 +1,14 @@
 -- The order on kinds, cells and states: it is one, and what covers more stands for more.
 use Rattle.std.proofs.lemmas.Bool.{both_ways}
-use Rattle.std.proofs.Common.{◌≡◌, ℕ, zero, suc, arith, ◌*◌, ◌<◌, Bool, false, refl, sym, ◌∙◌, IsTrue}
+use Rattle.std.proofs.Common.{◌≡◌, ℕ, zero, suc, arith, ◌*◌, ◌<◌, ◌≤◌, Bool, false, refl, sym, ◌∙◌, IsTrue}
 use Rattle.scx_semantics.specs.declared.values.Value.{Value}
 use Rattle.scx_semantics.specs.declared.values.Value.TheVariants as value
 use Rattle.scx_semantics.specs.declared.values.Pointer.TheVariants as pointer
 use Rattle.scx_semantics.specs.Elements.{Maps}
 use Rattle.scx_semantics.specs.Memory as memory
+use Rattle.scx_ranges.specs.declared.ranges.Range.{Range}
+use Rattle.scx_ranges.specs.Ranges.{CoversRange}
+use Rattle.scx_ranges.proofs.Order.{covers_in}
 use Rattle.scx_abs.specs.declared.kinds.Kind.{Kind}
 use Rattle.scx_abs.specs.declared.kinds.Kind.TheVariants.{Unusable, Num, Stack, Elem, ElemOrNull, Task, TaskOrNull, MapRef}
 use Rattle.scx_abs.specs.declared.kinds.Cell.{Cell}
@@ -16,12 +19,27 @@ use Rattle.scx_abs.specs.States.{kind_at, cell_at}
 use Rattle.scx_abs.specs.Stands.{Stands, CellStands}
 use Rattle.scx_abs.specs.Laws.{CoversMore, CoversItself, CoversThrough}
 
+-- ---- ranges
+
+range_itself : (r : Range) → CoversRange r r
+range_itself r = record { low = omega arith; high = omega arith; shift = omega arith }
+
+range_through : (t s r : Range) → CoversRange t s → CoversRange s r → CoversRange t r
+range_through t s r g h =
+    let first : t.low ≤ s.low = g.low in
+    let second : s.low ≤ r.low = h.low in
+    let third : s.high ≤ t.high = g.high in
+    let fourth : r.high ≤ s.high = h.high in
+    let fifth : t.shift ≤ s.shift = g.shift in
+    let sixth : s.shift ≤ r.shift = h.shift in
+    record { low = omega arith; high = omega arith; shift = omega arith }
+
 -- ---- kinds
 
 -- a kind covers itself
 pub kind_itself : (k : Kind) → CoversKind k k
 kind_itself Unusable = tt
-kind_itself Num = tt
+kind_itself (Num r) = range_itself r
 kind_itself (Stack o) = refl
 kind_itself (Elem m o) = (refl, refl)
 kind_itself (ElemOrNull m) = refl
@@ -32,7 +50,7 @@ kind_itself (MapRef m) = refl
 -- and what is covered by one that it covers
 pub kind_through : (l k j : Kind) → CoversKind l k → CoversKind k j → CoversKind l j
 kind_through Unusable k j g h = tt
-kind_through Num Num Num g h = tt
+kind_through (Num t) (Num s) (Num r) g h = range_through t s r g h
 kind_through (Stack o) (Stack p) (Stack q) g h = g ∙ h
 kind_through (Elem m o) (Elem n p) (Elem l q) g h = (g.0 ∙ h.0, g.1 ∙ h.1)
 kind_through (ElemOrNull m) (ElemOrNull n) (ElemOrNull l) g h = g ∙ h
@@ -48,7 +66,7 @@ kind_through l k j g h = absurd (assumption (g, h))
 -- a kind stands for all that one stands for which it covers
 pub kind_stands : (maps : Maps) (j k : Kind) (v : Value) → CoversKind j k → Stands maps k v → Stands maps j v
 kind_stands maps Unusable k v g h = tt
-kind_stands maps Num Num v g h = h
+kind_stands maps (Num s) (Num r) (value.Number n) g h = covers_in s r n g h
 kind_stands maps (Stack o) (Stack p) v g h = rw g h
 kind_stands maps (Elem m o) (Elem n p) v g h = rw (g.0, g.1) h
 kind_stands maps (ElemOrNull m) (ElemOrNull n) v g h = rw g h

@@ -1,21 +1,40 @@
 -- Proper states: a callback begins in one, rules and joins keep them proper, and two that cover each
 -- other are one.
-use Rattle.std.proofs.Common.{◌≡◌, ℕ, ◌/◌, ◌%◌, ◌<◌, Bool, true, false, nat_eq, List, [], length, Option, Some, None, Result, Ok, Err, IfSome, IfOk, if◌then◌else◌, refl, sym, ap, ◌∙◌, arith}
-use Rattle.std.proofs.lemmas.List.{ext_get_or, length-set}
+use Rattle.std.proofs.Common.{◌≡◌, ℕ, ◌/◌, ◌%◌, ◌<◌, ◌≤◌, ◌⊎◌, inl, inr, ℤ, pos, nat_lt, set, replicate, Bool, true, false, ◌&&◌, nat_eq, List, [], length, All, Option, Some, None, Result, Ok, Err, IfSome, IfOk, if◌then◌else◌, refl, sym, ap, ◌∙◌, subst, arith}
+use Rattle.std.proofs.lemmas.Bool.{cases_lt}
+use Rattle.std.proofs.lemmas.List.{ext_get_or, length-set, get_or_past}
 use Rattle.std.proofs.lemmas.List.Elements.{All-get_or, All-from_get_or, All-replicate, All-set}
 use Rattle.scx_semantics.specs.declared.instructions.Insn.TheVariants as insn
 use Rattle.scx_semantics.specs.declared.instructions.Operand.{Operand}
 use Rattle.scx_semantics.specs.declared.instructions.Operand.TheVariants as operand
+use Rattle.scx_semantics.specs.declared.operations.Width.{Width}
+use Rattle.scx_semantics.specs.declared.operations.Width.TheVariants.{Bits32, Bits64}
+use Rattle.scx_semantics.specs.declared.operations.Operation.{Operation}
+use Rattle.scx_semantics.specs.declared.operations.Operation.TheVariants.{Move}
+use Rattle.scx_semantics.specs.declared.operations.Access.{Access}
+use Rattle.scx_semantics.specs.declared.operations.Access.TheVariants as access
+use Rattle.scx_semantics.specs.declared.registers.Register.{Register}
 use Rattle.scx_semantics.specs.declared.operations.Size.{Size}
 use Rattle.scx_semantics.specs.declared.operations.Size.TheVariants as size
 use Rattle.scx_semantics.specs.declared.callbacks.Callback.{Callback}
+use Rattle.scx_semantics.specs.declared.callbacks.Callback.TheVariants as callback
 use Rattle.scx_semantics.specs.declared.host_tables.Helper.{Helper}
+use Rattle.scx_semantics.specs.declared.host_tables.Helper.TheVariants as helper
 use Rattle.scx_semantics.specs.Registers.{number}
-use Rattle.scx_semantics.specs.Memory.{size_bytes}
+use Rattle.scx_semantics.specs.Arithmetic.{immediate, wide_immediate, shifted}
+use Rattle.scx_semantics.specs.Memory.{size_bytes, access_size, stack_size}
+use Rattle.scx_semantics.specs.Meaning.{pointer_step, is_plain}
+use Rattle.scx_semantics.proofs.Numbers.{immediate_below, wide_immediate_below}
+use Rattle.scx_encoding.specs.Spelling.{IsOperand}
 use Rattle.scx_semantics.specs.HostTables.{is_writable, helper_at, answers, parameters, is_allowed}
 use Rattle.scx_maps.specs.declared.shape.Shape.{Shape}
+use Rattle.scx_ranges.specs.declared.ranges.Range.{Range}
+use Rattle.scx_ranges.specs.Ranges.{IsRange, CoversRange, all, single}
+use Rattle.scx_ranges.specs.Results.{negated_range, extended_range, swapped_range, loaded}
+use Rattle.scx_ranges.proofs.Multiples.{single_range, all_range}
+use Rattle.scx_ranges.proofs.BuiltRanges.{joined_range, computed_range, copied_range, negative_range, extension_range, swap_range, load_range}
 use Rattle.scx_abs.specs.declared.faults.Why.{Why}
-use Rattle.scx_abs.specs.declared.faults.Why.TheVariants.{WritesFrame, TaskField, HelperNotHere}
+use Rattle.scx_abs.specs.declared.faults.Why.TheVariants.{WritesFrame, UnwrittenStack, TaskField, HelperNotHere, UnknownMap}
 use Rattle.scx_abs.specs.declared.kinds.Kind.{Kind}
 use Rattle.scx_abs.specs.declared.kinds.Kind.TheVariants.{Unusable, Num, Stack, Elem, ElemOrNull, Task, TaskOrNull, MapRef}
 use Rattle.scx_abs.specs.declared.kinds.Held.{Held}
@@ -26,23 +45,61 @@ use Rattle.scx_abs.specs.declared.states.AbsState.{AbsState}
 use Rattle.scx_abs.specs.declared.rules.Next.{Next}
 use Rattle.scx_abs.specs.declared.memory.Area.{Area}
 use Rattle.scx_abs.specs.declared.memory.Area.TheVariants.{OnStack, InElement, InTask}
-use Rattle.scx_abs.specs.Kinds.{CoversKind, IsUsable, join_kind}
-use Rattle.scx_abs.specs.Cells.{kind_of, held_of, is_written, no_bytes, marked, written_in, IsPartOf, CoversCell, IsProperCell, cell_of, join_cell}
-use Rattle.scx_abs.specs.States.{kind_at, cell_at, with_kind, with_cell, IsWhole, IsProper}
+use Rattle.scx_abs.specs.Kinds.{CoversKind, IsProperKind, kind_if, join_kind}
+use Rattle.scx_abs.specs.Cells.{kind_of, held_of, is_written, no_bytes, marked, all_written, written_in, IsPartOf, CoversCell, IsProperCell, cell_of, join_cell}
+use Rattle.scx_abs.specs.States.{kind_at, cell_at, with_kind, with_cell, IsWhole, IsProper, ArgumentKinds, argument_kinds, start_kinds}
 use Rattle.scx_semantics.specs.Results.{◌>>=◌}
-use Rattle.scx_abs.specs.Checks.{flows, goes_on, usable, operand_kind, sets}
-use Rattle.scx_abs.specs.Calls.{arguments_check, after_call, answer_kind, call_allowed, call_rule}
-use Rattle.scx_abs.specs.Rules.{binary_kind, number_kind, map_kind, area_of, load_kind, pointer_cell, stored_cell, number_stored, stored_in, null_test, if_null, if_not_null, tested, compared, end_rule}
+use Rattle.scx_abs.specs.Checks.{flows, goes_on, usable, operand_kind, sets, element_size, offset_within}
+use Rattle.scx_abs.specs.Calls.{arguments_check, after_call, element_of, answer_kind, call_allowed, call_rule}
+use Rattle.scx_abs.specs.Rules.{moved_by, moved_kind, computed_kind, arithmetic_kind, combined_kind, binary_kind, number_kind, map_kind, area_of, loaded_kind, kind_in, load_kind, pointer_cell, stored_cell, number_stored, stored_in, null_test, if_null, if_not_null, tested, numbers_compared, compared, end_rule}
 use Rattle.scx_abs.specs.Laws.{CoversBothWays, StartIsProper, FlowsProper, RulesKeepProper}
 
 -- ---- the start
+
+-- the arguments of a callback
+record AreProper (k : ArgumentKinds) : Type 0 where
+  first : IsProperKind k.first
+  second : IsProperKind k.second
+  third : IsProperKind k.third
+
+arguments_proper : (c : Callback) → AreProper (argument_kinds c)
+arguments_proper callback.Plain = record { first = tt; second = tt; third = tt }
+arguments_proper callback.Init = record { first = tt; second = tt; third = tt }
+arguments_proper callback.Enable = record { first = tt; second = tt; third = tt }
+arguments_proper callback.SelectCpu = record { first = tt; second = all_range; third = all_range }
+arguments_proper callback.Enqueue = record { first = tt; second = all_range; third = tt }
+arguments_proper callback.Dispatch = record { first = all_range; second = tt; third = tt }
+arguments_proper callback.Running = record { first = tt; second = tt; third = tt }
+arguments_proper callback.Stopping = record { first = tt; second = all_range; third = tt }
+
+start_kinds_proper : (k : ArgumentKinds) → AreProper k → All IsProperKind (start_kinds k).registers
+start_kinds_proper k p =
+    let none : List Kind = replicate 11 Unusable in
+    let one = set none 1 k.first in
+    let two = set one 2 k.second in
+    let three = set two 3 k.third in
+    All-set IsProperKind three 10 (Stack stack_size) tt
+    (All-set IsProperKind two 3 k.third p.third
+    (All-set IsProperKind one 2 k.second p.second
+    (All-set IsProperKind none 1 k.first p.first (All-replicate IsProperKind 11 Unusable tt))))
 
 -- callbacks begin in proper states
 pub start_proper : StartIsProper
 start_proper c = record {
   whole = record { registers = refl; cells = refl };
+  kinds = start_kinds_proper (argument_kinds c) (arguments_proper c);
   cells = All-replicate IsProperCell 64 (Bytes no_bytes) refl;
 }
+
+-- ---- registers that are read
+
+-- a register's kind is proper; past the last there is none
+pub kind_is_proper : (a : AbsState) (r : ℕ) → IsProper a → IsProperKind (kind_at a r)
+kind_is_proper a r p = go (cases_lt r (length a.registers))
+  where
+    go : (r < length a.registers) ⊎ (length a.registers ≤ r) → IsProperKind (kind_at a r)
+    go (inl lt) = All-get_or IsProperKind a.registers r Unusable lt p.kinds
+    go (inr le) = subst IsProperKind (sym (get_or_past a.registers r Unusable le)) tt
 
 -- ---- joins
 
@@ -56,30 +113,137 @@ joined_proper (Pointer j) (Pointer k) = cell_of_proper (held_of (join_kind (kind
 joined_proper (Bytes a) (Pointer k) = refl
 joined_proper (Pointer j) (Bytes b) = refl
 
+if_proper : (b : Bool) (k : Kind) → IsProperKind k → IsProperKind (kind_if b k)
+if_proper true k p = p
+if_proper false k p = tt
+
+joined_kind_proper : (j k : Kind) → IsProperKind j → IsProperKind k → IsProperKind (join_kind j k)
+joined_kind_proper (Num r) (Num s) p q = joined_range r s p q
+joined_kind_proper (Stack o) (Stack n) p q = if_proper (nat_eq o n) (Stack o) tt
+joined_kind_proper (Elem m o) (Elem n l) p q = if_proper (nat_eq m n && nat_eq o l) (Elem m o) tt
+joined_kind_proper (Elem m o) (ElemOrNull n) p q = if_proper (nat_eq m n && nat_eq o 0) (ElemOrNull n) tt
+joined_kind_proper (ElemOrNull m) (Elem n o) p q = if_proper (nat_eq m n && nat_eq o 0) (ElemOrNull m) tt
+joined_kind_proper (ElemOrNull m) (ElemOrNull n) p q = if_proper (nat_eq m n) (ElemOrNull m) tt
+joined_kind_proper Task Task p q = tt
+joined_kind_proper Task TaskOrNull p q = tt
+joined_kind_proper TaskOrNull Task p q = tt
+joined_kind_proper TaskOrNull TaskOrNull p q = tt
+joined_kind_proper (MapRef m) (MapRef n) p q = if_proper (nat_eq m n) (MapRef m) tt
+joined_kind_proper j k p q = tt
+
 -- a join of proper states is proper
-pub join_proper : (joined a b : AbsState) → IsWhole joined → IsProper a → IsProper b → ((c : ℕ) → c < 64 → cell_at joined c ≡ join_cell (cell_at a c) (cell_at b c)) → IsProper joined
-join_proper joined a b whole p q cells = record {
+pub join_proper : (joined a b : AbsState) → IsWhole joined → IsProper a → IsProper b → ((r : ℕ) → r < 11 → kind_at joined r ≡ join_kind (kind_at a r) (kind_at b r)) → ((c : ℕ) → c < 64 → cell_at joined c ≡ join_cell (cell_at a c) (cell_at b c)) → IsProper joined
+join_proper joined a b whole p q kinds cells = record {
   whole = whole;
+  kinds = All-from_get_or IsProperKind joined.registers Unusable (λ r lt. kind r (omega (arith, lt, whole.registers)));
   cells = All-from_get_or IsProperCell joined.cells (Bytes []) (λ c lt. each c (omega (arith, lt, whole.cells)));
 }
   where
+    kind : (r : ℕ) → r < 11 → IsProperKind (kind_at joined r)
+    kind r lt = rw (kinds r lt) (joined_kind_proper (kind_at a r) (kind_at b r) (kind_is_proper a r p) (kind_is_proper b r q))
+
     each : (c : ℕ) → c < 64 → IsProperCell (cell_at joined c)
     each c lt = rw (cells c lt) (joined_proper (cell_at a c) (cell_at b c))
 
 -- ---- registers and cells
 
 -- a state with another kind in a register stays proper
-pub kind_proper : (a : AbsState) (r : ℕ) (k : Kind) → IsProper a → IsProper (with_kind a r k)
-kind_proper a r k p = record {
+pub kind_proper : (a : AbsState) (r : ℕ) (k : Kind) → IsProper a → IsProperKind k → IsProper (with_kind a r k)
+kind_proper a r k p q = record {
   whole = record { registers = length-set a.registers r k ∙ p.whole.registers; cells = p.whole.cells };
+  kinds = All-set IsProperKind a.registers r k q p.kinds;
   cells = p.cells;
 }
 
 cell_proper : (a : AbsState) (c : ℕ) (cell : Cell) → IsProper a → IsProperCell cell → IsProper (with_cell a c cell)
 cell_proper a c cell p q = record {
   whole = record { registers = p.whole.registers; cells = length-set a.cells c cell ∙ p.whole.cells };
+  kinds = p.kinds;
   cells = All-set IsProperCell a.cells c cell q p.cells;
 }
+
+-- ---- kinds that checks give
+
+abbrev IsKind : Result Kind Why → Type 0
+IsKind r = IfOk r IsProperKind
+
+-- one check behind another
+kind_then : {A : Type 0} (r : Result A Why) (f : A → Result Kind Why) → ((x : A) → IsKind (f x)) → IsKind (r >>= f)
+kind_then (Err why) f h = tt
+kind_then (Ok x) f h = h x
+
+kind_behind : (r : Result Kind Why) (f : Kind → Result Kind Why) → IsKind r → ((k : Kind) → IsProperKind k → IsKind (f k)) → IsKind (r >>= f)
+kind_behind (Err why) f p h = tt
+kind_behind (Ok k) f p h = h k p
+
+usable_kind : (k : Kind) → IsProperKind k → IsKind (usable k)
+usable_kind Unusable p = tt
+usable_kind k p = p
+
+-- an operand
+pub operand_is_proper : (a : AbsState) (w : Width) (x : Operand) → IsOperand x → IsProper a → IsKind (operand_kind a w x)
+operand_is_proper a w (operand.Immediate k) fits p = single_range (immediate w k) (immediate_below w k fits)
+operand_is_proper a w (operand.Register r) fits p = usable_kind (kind_at a (number r)) (kind_is_proper a (number r) p)
+
+moved_is_proper : (w : Width) (k : Kind) → IsProperKind k → IsKind (moved_kind w k)
+moved_is_proper Bits64 k p = p
+moved_is_proper Bits32 (Num r) p = copied_range Bits32 r p
+moved_is_proper Bits32 k p = tt
+
+computed_is_proper : (w : Width) (o : Operation) (r : Range) (k : Kind) → IsRange r → IsProperKind k → IsKind (computed_kind w o r k)
+computed_is_proper w o r (Num s) p q = computed_range w o r s p q
+computed_is_proper w o r k p q = tt
+
+moved_by_proper : (shapes : List Shape) (k : Kind) (d : Option ℤ) → IsKind (moved_by shapes k d)
+moved_by_proper shapes (Stack o) (Some d) = kind_then (offset_within stack_size (shifted o d)) (λ to. Ok (Stack to)) (λ to. tt)
+moved_by_proper shapes (Elem m o) (Some d) = kind_then (offset_within (element_size shapes m) (shifted o d)) (λ to. Ok (Elem m to)) (λ to. tt)
+moved_by_proper shapes k d = tt
+
+arithmetic_is_proper : (shapes : List Shape) (w : Width) (o : Operation) (x : Operand) (j k : Kind) → IsProperKind j → IsProperKind k → IsKind (arithmetic_kind shapes w o x j k)
+arithmetic_is_proper shapes w o x (Num r) k p q = computed_is_proper w o r k p q
+arithmetic_is_proper shapes w o x j k p q = moved_by_proper shapes j (pointer_step w o x)
+
+combined_is_proper : (shapes : List Shape) (a : AbsState) (w : Width) (o : Operation) (d : Register) (x : Operand) → IsOperand x → IsProper a → IsKind (combined_kind shapes a w o d x)
+combined_is_proper shapes a w o d x fits p =
+    kind_behind (usable (kind_at a (number d))) (λ j. operand_kind a w x >>= λ k. arithmetic_kind shapes w o x j k) (usable_kind (kind_at a (number d)) (kind_is_proper a (number d) p))
+    (λ j q. kind_behind (operand_kind a w x) (λ k. arithmetic_kind shapes w o x j k) (operand_is_proper a w x fits p) (λ k h. arithmetic_is_proper shapes w o x j k q h))
+
+binary_is_proper : (shapes : List Shape) (a : AbsState) (w : Width) (o : Operation) (d : Register) (x : Operand) → IsOperand x → IsProper a → IsKind (binary_kind shapes a w o d x)
+binary_is_proper shapes a w Move d x fits p = kind_behind (operand_kind a w x) (λ k. moved_kind w k) (operand_is_proper a w x fits p) (λ k h. moved_is_proper w k h)
+binary_is_proper shapes a w o d x fits p = combined_is_proper shapes a w o d x fits p
+
+number_is_proper : (f : Range → Range) (k : Kind) → ((r : Range) → IsRange r → IsRange (f r)) → IsProperKind k → IsKind (number_kind f k)
+number_is_proper f (Num r) h p = h r p
+number_is_proper f k h p = tt
+
+map_is_proper : (shapes : List Shape) (k : ℤ) → IsKind (map_kind shapes k)
+map_is_proper shapes (pos m) = elim (nat_lt m (length shapes)) as (λ t. IsKind (if t then Ok (MapRef m) else Err UnknownMap)) [ true ↦ tt | false ↦ tt ]
+map_is_proper shapes k = tt
+
+-- a stored pointer's is
+held_proper : (k : Held) → IsProperKind (kind_of k)
+held_proper (held.Stack o) = tt
+held_proper (held.Elem m o) = tt
+held_proper (held.ElemOrNull m) = tt
+held_proper held.Task = tt
+held_proper held.TaskOrNull = tt
+held_proper (held.MapRef m) = tt
+
+loaded_is_proper : (cell : Cell) (a : Access) (j : ℕ) → IsKind (loaded_kind cell a j)
+loaded_is_proper (Bytes b) a j = elim (all_written b j (size_bytes (access_size a))) as (λ t. IsKind (if t then Ok (Num (loaded a)) else Err UnwrittenStack)) [ true ↦ load_range a | false ↦ tt ]
+loaded_is_proper (Pointer k) access.DoubleWord j = held_proper k
+loaded_is_proper (Pointer k) a j = tt
+
+kind_in_proper : (a : AbsState) (access : Access) (x : Area) → IsKind (kind_in a access x)
+kind_in_proper a access (OnStack at) = loaded_is_proper (cell_at a (at / 8)) access (at % 8)
+kind_in_proper a access InElement = load_range access
+kind_in_proper a access (InTask f) = elim (is_plain access) as (λ t. IsKind (if t then Ok (Num (loaded access)) else Err TaskField)) [ true ↦ load_range access | false ↦ tt ]
+
+load_is_proper : (shapes : List Shape) (a : AbsState) (access : Access) (r : Register) (offset : ℤ) → IsKind (load_kind shapes a access r offset)
+load_is_proper shapes a access r offset =
+    let n = size_bytes (access_size access) in
+    kind_then (usable (kind_at a (number r))) (λ base. area_of shapes base offset n >>= λ x. kind_in a access x)
+    (λ base. kind_then (area_of shapes base offset n) (λ x. kind_in a access x) (λ x. kind_in_proper a access x))
 
 -- ---- what flows on
 
@@ -90,20 +254,12 @@ then_proper : {A : Type 0} (r : Result A Why) (f : A → Result Next Why) → ((
 then_proper (Err why) f h = tt
 then_proper (Ok x) f h = h x
 
-usable_proper : (k : Kind) (f : Kind → Result Next Why) → ((l : Kind) → IsUsable l → FlowsIn (f l)) → FlowsIn (usable k >>= f)
-usable_proper Unusable f h = tt
-usable_proper k f h = h k tt
-
-operand_proper : (a : AbsState) (x : Operand) (f : Kind → Result Next Why) → ((l : Kind) → IsUsable l → FlowsIn (f l)) → FlowsIn (operand_kind a x >>= f)
-operand_proper a (operand.Immediate k) f h = h Num tt
-operand_proper a (operand.Register r) f h = usable_proper (kind_at a (number r)) f h
-
-sets_proper : (a : AbsState) (r : ℕ) (k : Result Kind Why) → IsProper a → FlowsIn (sets a r k)
-sets_proper a r (Err why) p = elim (nat_eq r 10) as (λ t. FlowsIn (if t then Err WritesFrame else Err why)) [ true ↦ tt | false ↦ tt ]
-sets_proper a r (Ok k) p = elim (nat_eq r 10) as (λ t. FlowsIn (if t then Err WritesFrame else goes_on (with_kind a r k))) [ true ↦ tt | false ↦ (kind_proper a r k p, tt) ]
+sets_proper : (a : AbsState) (r : ℕ) (k : Result Kind Why) → IsProper a → IsKind k → FlowsIn (sets a r k)
+sets_proper a r (Err why) p q = elim (nat_eq r 10) as (λ t. FlowsIn (if t then Err WritesFrame else Err why)) [ true ↦ tt | false ↦ tt ]
+sets_proper a r (Ok k) p q = elim (nat_eq r 10) as (λ t. FlowsIn (if t then Err WritesFrame else goes_on (with_kind a r k))) [ true ↦ tt | false ↦ (kind_proper a r k p q, tt) ]
 
 number_stored_proper : (a : AbsState) (k : Kind) → IsProper a → FlowsIn (number_stored a k)
-number_stored_proper a Num p = (p, tt)
+number_stored_proper a (Num r) p = (p, tt)
 number_stored_proper a k p = tt
 
 pointer_cell_proper : (o : Option Held) (f : Cell → Result Next Why) → ((c : Cell) → IsProperCell c → FlowsIn (f c)) → FlowsIn (pointer_cell o >>= f)
@@ -111,7 +267,7 @@ pointer_cell_proper None f h = tt
 pointer_cell_proper (Some k) f h = h (Pointer k) tt
 
 stored_cell_proper : (cell : Cell) (s : Size) (j : ℕ) (k : Kind) (f : Cell → Result Next Why) → ((c : Cell) → IsProperCell c → FlowsIn (f c)) → FlowsIn (stored_cell cell s j k >>= f)
-stored_cell_proper cell s j Num f h = h (Bytes (marked (written_in cell) j (size_bytes s))) refl
+stored_cell_proper cell s j (Num r) f h = h (Bytes (marked (written_in cell) j (size_bytes s))) refl
 stored_cell_proper cell size.DoubleWord j k f h = pointer_cell_proper (held_of k) f h
 stored_cell_proper cell s j k f h = tt
 
@@ -122,13 +278,13 @@ stored_proper a s k InElement p = number_stored_proper a k p
 stored_proper a s k (InTask f) p = elim (is_writable f) as (λ t. FlowsIn (if t then number_stored a k else Err TaskField)) [ true ↦ number_stored_proper a k p | false ↦ tt ]
 
 null_proper : (a : AbsState) (r : ℕ) (k : Kind) → IsProper a → IfSome (if_null a r k) IsProper
-null_proper a r (ElemOrNull m) p = kind_proper a r Num p
-null_proper a r TaskOrNull p = kind_proper a r Num p
+null_proper a r (ElemOrNull m) p = kind_proper a r (Num (single 0)) p (single_range 0 (omega arith))
+null_proper a r TaskOrNull p = kind_proper a r (Num (single 0)) p (single_range 0 (omega arith))
 null_proper a r k p = tt
 
 pointer_proper : (a : AbsState) (r : ℕ) (k : Kind) → IsProper a → IsProper (if_not_null a r k)
-pointer_proper a r (ElemOrNull m) p = kind_proper a r (Elem m 0) p
-pointer_proper a r TaskOrNull p = kind_proper a r Task p
+pointer_proper a r (ElemOrNull m) p = kind_proper a r (Elem m 0) p tt
+pointer_proper a r TaskOrNull p = kind_proper a r Task p tt
 pointer_proper a r k p = p
 
 tested_proper : (a : AbsState) (r : ℕ) (k : Kind) (test : Option Bool) → IsProper a → FlowsIn (tested a r k test)
@@ -136,56 +292,88 @@ tested_proper a r k None p = tt
 tested_proper a r k (Some true) p = (pointer_proper a r k p, null_proper a r k p)
 tested_proper a r k (Some false) p = (null_proper a r k p, pointer_proper a r k p)
 
+numbers_compared_proper : (a : AbsState) (k : Kind) → IsProper a → FlowsIn (numbers_compared a k)
+numbers_compared_proper a (Num s) p = (p, p)
+numbers_compared_proper a k p = tt
+
 compared_proper : (a : AbsState) (r : ℕ) (test : Option Bool) (j k : Kind) → IsProper a → FlowsIn (compared a r test j k)
-compared_proper a r test Num Num p = (p, p)
-compared_proper a r test Num k p = tt
+compared_proper a r test (Num s) k p = numbers_compared_proper a k p
 compared_proper a r test j k p = tested_proper a r j test p
 
-after_proper : (a : AbsState) (k : Kind) → IsProper a → IsProper (after_call a k)
-after_proper a k p =
+after_proper : (a : AbsState) (k : Kind) → IsProper a → IsProperKind k → IsProper (after_call a k)
+after_proper a k p q =
     let a1 = with_kind a 1 Unusable in
     let a2 = with_kind a1 2 Unusable in
     let a3 = with_kind a2 3 Unusable in
     let a4 = with_kind a3 4 Unusable in
     let a5 = with_kind a4 5 Unusable in
-    kind_proper a5 0 k (kind_proper a4 5 Unusable (kind_proper a3 4 Unusable (kind_proper a2 3 Unusable (kind_proper a1 2 Unusable (kind_proper a 1 Unusable p)))))
+    kind_proper a5 0 k (kind_proper a4 5 Unusable (kind_proper a3 4 Unusable (kind_proper a2 3 Unusable (kind_proper a1 2 Unusable (kind_proper a 1 Unusable p tt) tt) tt) tt) tt) q
+
+element_of_proper : (k : Kind) → IsProperKind (element_of k)
+element_of_proper (MapRef m) = tt
+element_of_proper k = tt
+
+answer_proper : (h : Helper) (k : Kind) → IsProperKind (answer_kind h k)
+answer_proper helper.MapLookupElem k = element_of_proper k
+answer_proper helper.TaskByPid k = tt
+answer_proper h k = all_range
 
 call_proper : (shapes : List Shape) (c : Callback) (h : Option Helper) (a : AbsState) → IsProper a → FlowsIn (call_rule shapes c h a)
 call_proper shapes c None a p = tt
 call_proper shapes c (Some h) a p =
     elim (is_allowed h c) as (λ t. FlowsIn (if t then call_allowed shapes h a else Err HelperNotHere))
-    [ true ↦ then_proper (arguments_check shapes a (parameters h) 1) (λ fine. goes_on (after_call a (answer_kind h (kind_at a 1)))) (λ fine. (after_proper a (answer_kind h (kind_at a 1)) p, tt)) | false ↦ tt ]
+    [ true ↦ then_proper (arguments_check shapes a (parameters h) 1) (λ fine. goes_on (after_call a (answer_kind h (kind_at a 1)))) (λ fine. (after_proper a (answer_kind h (kind_at a 1)) p (answer_proper h (kind_at a 1)), tt)) | false ↦ tt ]
 
 end_proper : (k : Kind) → FlowsIn (end_rule k)
-end_proper Num = (tt, tt)
+end_proper (Num r) = (tt, tt)
 end_proper k = tt
 
 -- rules keep states proper
 pub rule_proper : RulesKeepProper
-rule_proper shapes c (insn.Binary w o d x) a p = sets_proper a (number d) (binary_kind shapes a w o d x) p
-rule_proper shapes c (insn.Negate w d) a p = sets_proper a (number d) (number_kind (kind_at a (number d))) p
-rule_proper shapes c (insn.SignExtend e d r) a p = sets_proper a (number d) (number_kind (kind_at a (number r))) p
-rule_proper shapes c (insn.ByteSwap o w d) a p = sets_proper a (number d) (number_kind (kind_at a (number d))) p
-rule_proper shapes c (insn.LoadImmediate d low_half high_half) a p = sets_proper a (number d) (Ok Num) p
-rule_proper shapes c (insn.LoadMapReference d k) a p = sets_proper a (number d) (map_kind shapes k) p
-rule_proper shapes c (insn.Load access d r offset) a p = sets_proper a (number d) (load_kind shapes a access r offset) p
-rule_proper shapes c (insn.Store s r offset x) a p =
-    usable_proper (kind_at a (number r)) (λ base. operand_kind a x >>= λ k. area_of shapes base offset (size_bytes s) >>= λ t. stored_in a s k t)
-    (λ base ub. operand_proper a x (λ k. area_of shapes base offset (size_bytes s) >>= λ t. stored_in a s k t)
-    (λ k u. then_proper (area_of shapes base offset (size_bytes s)) (λ t. stored_in a s k t) (λ t. stored_proper a s k t p)))
-rule_proper shapes c (insn.JumpIf w k r x offset) a p =
-    usable_proper (kind_at a (number r)) (λ j. operand_kind a x >>= λ l. compared a (number r) (null_test w k x) j l)
-    (λ j uj. operand_proper a x (λ l. compared a (number r) (null_test w k x) j l) (λ l ul. compared_proper a (number r) (null_test w k x) j l p))
-rule_proper shapes c (insn.Goto offset) a p = (tt, p)
-rule_proper shapes c (insn.GotoLong offset) a p = (tt, p)
-rule_proper shapes c (insn.Call k) a p = call_proper shapes c (helper_at k) a p
-rule_proper shapes c insn.Exit a p = elim (answers c) as (λ t. FlowsIn (if t then end_rule (kind_at a 0) else Ok (flows None None))) [ true ↦ end_proper (kind_at a 0) | false ↦ (tt, tt) ]
+rule_proper shapes c (insn.Binary w o d x) a fits p = sets_proper a (number d) (binary_kind shapes a w o d x) p (binary_is_proper shapes a w o d x fits p)
+rule_proper shapes c (insn.Negate w d) a fits p =
+    sets_proper a (number d) (number_kind (negated_range w) (kind_at a (number d))) p
+    (number_is_proper (negated_range w) (kind_at a (number d)) (λ r h. negative_range w r h) (kind_is_proper a (number d) p))
+rule_proper shapes c (insn.SignExtend e d r) a fits p =
+    sets_proper a (number d) (number_kind (extended_range e) (kind_at a (number r))) p
+    (number_is_proper (extended_range e) (kind_at a (number r)) (λ q h. extension_range e q h) (kind_is_proper a (number r) p))
+rule_proper shapes c (insn.ByteSwap o w d) a fits p =
+    sets_proper a (number d) (number_kind (swapped_range o w) (kind_at a (number d))) p
+    (number_is_proper (swapped_range o w) (kind_at a (number d)) (λ r h. swap_range o w r h) (kind_is_proper a (number d) p))
+rule_proper shapes c (insn.LoadImmediate d low_half high_half) a fits p =
+    sets_proper a (number d) (Ok (Num (single (wide_immediate low_half high_half)))) p
+    (single_range (wide_immediate low_half high_half) (wide_immediate_below low_half high_half fits.0 fits.1))
+rule_proper shapes c (insn.LoadMapReference d k) a fits p = sets_proper a (number d) (map_kind shapes k) p (map_is_proper shapes k)
+rule_proper shapes c (insn.Load access d r offset) a fits p = sets_proper a (number d) (load_kind shapes a access r offset) p (load_is_proper shapes a access r offset)
+rule_proper shapes c (insn.Store s r offset x) a fits p =
+    then_proper (usable (kind_at a (number r))) (λ base. operand_kind a Bits64 x >>= λ k. area_of shapes base offset (size_bytes s) >>= λ t. stored_in a s k t)
+    (λ base. then_proper (operand_kind a Bits64 x) (λ k. area_of shapes base offset (size_bytes s) >>= λ t. stored_in a s k t)
+    (λ k. then_proper (area_of shapes base offset (size_bytes s)) (λ t. stored_in a s k t) (λ t. stored_proper a s k t p)))
+rule_proper shapes c (insn.JumpIf w k r x offset) a fits p =
+    then_proper (usable (kind_at a (number r))) (λ j. operand_kind a w x >>= λ l. compared a (number r) (null_test w k x) j l)
+    (λ j. then_proper (operand_kind a w x) (λ l. compared a (number r) (null_test w k x) j l) (λ l. compared_proper a (number r) (null_test w k x) j l p))
+rule_proper shapes c (insn.Goto offset) a fits p = (tt, p)
+rule_proper shapes c (insn.GotoLong offset) a fits p = (tt, p)
+rule_proper shapes c (insn.Call k) a fits p = call_proper shapes c (helper_at k) a p
+rule_proper shapes c insn.Exit a fits p = elim (answers c) as (λ t. FlowsIn (if t then end_rule (kind_at a 0) else Ok (flows None None))) [ true ↦ end_proper (kind_at a 0) | false ↦ (tt, tt) ]
 
 -- ---- states that cover each other
 
+same_range : (r s : Range) → CoversRange r s → CoversRange s r → r ≡ s
+same_range r s g h = λ i. record { low = low i; high = high i; shift = shift i }
+  where
+    low : r.low ≡ s.low
+    low = omega (arith, g.low, h.low)
+
+    high : r.high ≡ s.high
+    high = omega (arith, g.high, h.high)
+
+    shift : r.shift ≡ s.shift
+    shift = omega (arith, g.shift, h.shift)
+
 same_kind : (j k : Kind) → CoversKind j k → CoversKind k j → j ≡ k
 same_kind Unusable Unusable g h = refl
-same_kind Num Num g h = refl
+same_kind (Num r) (Num s) g h = ap Num (same_range r s g h)
 same_kind (Stack o) (Stack p) g h = ap Stack g
 same_kind (Elem m o) (Elem n p) g h = λ i. Elem (g.0 i) (g.1 i)
 same_kind (ElemOrNull m) (ElemOrNull n) g h = ap ElemOrNull g

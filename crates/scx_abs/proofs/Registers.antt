@@ -1,5 +1,5 @@
 -- Registers: what a check of one gives against its value, and the state after a register is written.
-use Rattle.std.proofs.Common.{◌≡◌, ℕ, ◌^◌, true, false, nat_eq, List, Option, Some, None, Result, Ok, Err, if◌then◌else◌, refl}
+use Rattle.std.proofs.Common.{◌≡◌, ℕ, ◌*◌, ◌^◌, ◌<◌, true, false, nat_eq, List, Option, Some, None, Result, Ok, Err, if◌then◌else◌, refl, sym, subst, arith}
 use Rattle.std.proofs.lemmas.Bool.{eq-eqb, ne_eqb}
 use Rattle.scx_semantics.specs.declared.instructions.Operand.{Operand}
 use Rattle.scx_semantics.specs.declared.instructions.Operand.TheVariants as operand
@@ -18,23 +18,33 @@ use Rattle.scx_semantics.specs.Elements.{Maps}
 use Rattle.scx_semantics.specs.Machine.{Machine, put, with_register}
 use Rattle.scx_semantics.specs.Effects as effect
 use Rattle.scx_semantics.specs.Effects.{Query, Load, Effect, set_register, set_register_by_answer}
-use Rattle.scx_semantics.specs.Meaning.{operand_value}
+use Rattle.scx_semantics.specs.Meaning.{operand_value, is_plain}
 use Rattle.scx_semantics.specs.Runs.{IsNumberBelow, IsTaskOrNull, Fits}
-use Rattle.scx_semantics.proofs.Numbers.{immediate_below, field_below}
+use Rattle.scx_semantics.specs.declared.operations.Access.{Access}
+use Rattle.scx_semantics.specs.declared.operations.Access.TheVariants as access
+use Rattle.scx_semantics.specs.Memory.{size_bytes, access_size}
+use Rattle.scx_semantics.specs.HostTables.{field_width}
+use Rattle.scx_semantics.specs.Arithmetic.{immediate}
+use Rattle.scx_semantics.proofs.Numbers.{immediate_below}
 use Rattle.scx_encoding.specs.Spelling.{IsOperand}
 use Rattle.scx_maps.specs.declared.shape.Shape.{Shape}
 use Rattle.scx_abs.specs.declared.faults.Why.{Why}
 use Rattle.scx_abs.specs.declared.faults.Why.TheVariants.{WritesFrame}
+use Rattle.scx_ranges.specs.Ranges.{IsIn, all, single}
+use Rattle.scx_ranges.specs.Results.{loaded}
+use Rattle.scx_ranges.proofs.Multiples.{single_range, in_single, in_all}
+use Rattle.scx_ranges.proofs.AllWidths.{loads_are_sound}
 use Rattle.scx_abs.specs.declared.kinds.Kind.{Kind}
 use Rattle.scx_abs.specs.declared.kinds.Kind.TheVariants.{Unusable, Num, TaskOrNull}
 use Rattle.scx_abs.specs.declared.states.AbsState.{AbsState}
-use Rattle.scx_abs.specs.Kinds.{IsUsable}
-use Rattle.scx_abs.specs.States.{kind_at, with_kind}
+use Rattle.scx_abs.specs.Kinds.{IsProperKind, IsUsable}
+use Rattle.scx_abs.specs.States.{kind_at, with_kind, IsProper}
 use Rattle.scx_abs.specs.Stands.{Stands, IsMember}
 use Rattle.scx_semantics.specs.Results.{◌>>=◌}
 use Rattle.scx_abs.specs.Checks.{goes_on, usable, operand_kind, sets}
 use Rattle.scx_abs.specs.Laws.{IsSoundFor}
 use Rattle.scx_abs.proofs.Lists.{set_each}
+use Rattle.scx_abs.proofs.Proper.{kind_is_proper}
 
 -- ---- registers that are written
 
@@ -91,14 +101,22 @@ answer_sound shapes a m r k q h g =
     [ true ↦ tt | false ↦ λ v fits. kind_member shapes a m r k v h (g v fits) ]
 
 -- what may be answered
-pub number_stands : (maps : Maps) (v : Value) → IsNumberBelow (2 ^ 64) v → Stands maps Num v
-number_stands maps (value.Number n) h = h
+pub number_stands : (maps : Maps) (v : Value) → IsNumberBelow (2 ^ 64) v → Stands maps (Num all) v
+number_stands maps (value.Number n) h = in_all n h
 number_stands maps v h = absurd h
 
--- what a field holds is a number
-pub field_stands : (maps : Maps) (t : TaskId) (f : Field) (v : Value) → Fits (Load t f) v → Stands maps Num v
-field_stands maps t f (value.Number n) h = field_below t f n h
-field_stands maps t f v h = absurd h
+-- a number of so many bytes is one that a load without a sign may give
+plain_in : (a : Access) (n : ℕ) → is_plain a ≡ true → n < 2 ^ (8 * size_bytes (access_size a)) → IsIn n (loaded a)
+plain_in access.Byte n p h = (loads_are_sound access.Byte).kept n (omega (arith, h))
+plain_in access.HalfWord n p h = (loads_are_sound access.HalfWord).kept n (omega (arith, h))
+plain_in access.Word n p h = (loads_are_sound access.Word).kept n (omega (arith, h))
+plain_in access.DoubleWord n p h = in_all n h
+plain_in a n p h = absurd (cc)
+
+-- what a field holds is a number of its bytes
+pub field_stands : (maps : Maps) (t : TaskId) (f : Field) (a : Access) (v : Value) → is_plain a ≡ true → field_width f ≡ size_bytes (access_size a) → Fits (Load t f) v → Stands maps (Num (loaded a)) v
+field_stands maps t f a (value.Number n) p e h = plain_in a n p (subst (λ w. n < 2 ^ (8 * w)) e h)
+field_stands maps t f a v p e h = absurd h
 
 -- a task or 0 is what the kind of both stands for
 pub task_or_null_fits : (maps : Maps) (v : Value) → IsTaskOrNull v → Stands maps TaskOrNull v
@@ -111,20 +129,24 @@ task_or_null_fits maps v h = absurd h
 -- what a check of a register gives against its value
 abbrev pub Allows : Maps → Result Kind Why → Value → Type 0
 Allows maps (Err why) v = Unit {0}
-Allows maps (Ok k) v = IsUsable k × Stands maps k v
+Allows maps (Ok k) v = IsUsable k × IsProperKind k × Stands maps k v
 
 -- a kind that may be read stands for the value that is
-pub usable_allows : (maps : Maps) (k : Kind) (v : Value) → Stands maps k v → Allows maps (usable k) v
-usable_allows maps Unusable v h = tt
-usable_allows maps k v h = (tt, h)
+pub usable_allows : (maps : Maps) (k : Kind) (v : Value) → IsProperKind k → Stands maps k v → Allows maps (usable k) v
+usable_allows maps Unusable v p h = tt
+usable_allows maps k v p h = (tt, p, h)
+
+-- that of a register
+pub register_allows : (shapes : List Shape) (a : AbsState) (m : Machine) (r : Register) → IsProper a → IsMember shapes a m → Allows m.maps (usable (kind_at a (number r))) (m.registers (number r))
+register_allows shapes a m r p h = usable_allows m.maps (kind_at a (number r)) (m.registers (number r)) (kind_is_proper a (number r) p) (h.registers (number r))
 
 -- the kind of an operand stands for its value
-pub operand_allows : (shapes : List Shape) (a : AbsState) (m : Machine) (w : Width) (x : Operand) → IsOperand x → IsMember shapes a m → Allows m.maps (operand_kind a x) (operand_value m w x)
-operand_allows shapes a m w (operand.Immediate k) fits h = (tt, immediate_below w k fits)
-operand_allows shapes a m w (operand.Register r) fits h = usable_allows m.maps (kind_at a (number r)) (m.registers (number r)) (h.registers (number r))
+pub operand_allows : (shapes : List Shape) (a : AbsState) (m : Machine) (w : Width) (x : Operand) → IsOperand x → IsProper a → IsMember shapes a m → Allows m.maps (operand_kind a w x) (operand_value m w x)
+operand_allows shapes a m w (operand.Immediate k) fits p h = (tt, single_range (immediate w k) (immediate_below w k fits), in_single (immediate w k))
+operand_allows shapes a m w (operand.Register r) fits p h = register_allows shapes a m r p h
 
 -- what holds of every refusal, and behind the check, holds of both
 pub checked : {B : Type 0} (maps : Maps) (r : Result Kind Why) (v : Value) (f : Kind → Result B Why) (P : Result B Why → Type 0)
-    → ((why : Why) → P (Err why)) → Allows maps r v → ((k : Kind) → IsUsable k → Stands maps k v → P (f k)) → P (r >>= f)
+    → ((why : Why) → P (Err why)) → Allows maps r v → ((k : Kind) → IsUsable k → IsProperKind k → Stands maps k v → P (f k)) → P (r >>= f)
 checked maps (Err why) v f P none h ok = none why
-checked maps (Ok k) v f P none h ok = ok k h.0 h.1
+checked maps (Ok k) v f P none h ok = ok k h.0 h.1 h.2

@@ -9,8 +9,11 @@ use Rattle.scx_semantics.specs.HostTables.{helper_at, answers}
 use Rattle.scx_semantics.specs.Elements.{Maps}
 use Rattle.scx_semantics.specs.Effects as effect
 use Rattle.scx_semantics.specs.Meaning.{binary, on_number, map_reference, answered}
-use Rattle.scx_semantics.proofs.Numbers.{negated_below, extended_below, byte_swapped_below, wide_immediate_below}
 use Rattle.scx_maps.specs.declared.shape.Shape.{Shape}
+use Rattle.scx_ranges.specs.Ranges.{single}
+use Rattle.scx_ranges.specs.Results.{negated_range, extended_range, swapped_range}
+use Rattle.scx_ranges.proofs.Multiples.{in_single}
+use Rattle.scx_ranges.proofs.AllWidths.{negatives_are_sound, extensions_are_sound, swaps_are_sound}
 use Rattle.scx_abs.specs.declared.kinds.Kind.{Kind}
 use Rattle.scx_abs.specs.declared.kinds.Kind.TheVariants.{Num}
 use Rattle.scx_abs.specs.States.{kind_at}
@@ -18,6 +21,7 @@ use Rattle.scx_abs.specs.Stands.{Stands}
 use Rattle.scx_abs.specs.Checks.{flows}
 use Rattle.scx_abs.specs.Rules.{binary_kind, number_kind, map_kind, end_rule}
 use Rattle.scx_abs.specs.Laws.{IsSoundFor, RulesAreSound, StartIsSound}
+use Rattle.scx_abs.proofs.Proper.{kind_is_proper}
 use Rattle.scx_abs.proofs.Registers.{set_sound}
 use Rattle.scx_abs.proofs.Operations.{binary_gives, number_gives, map_gives}
 use Rattle.scx_abs.proofs.Accesses.{load_sound, store_sound}
@@ -26,34 +30,34 @@ use Rattle.scx_abs.proofs.HelperCalls.{call_sound}
 use Rattle.scx_abs.proofs.Starts.{begins_sound}
 
 end_sound : (shapes : List Shape) (maps : Maps) (k : Kind) (v : Value) → Stands maps k v → IsSoundFor shapes (end_rule k) (answered v)
-end_sound shapes maps Num (value.Number n) h = tt
-end_sound shapes maps Num v h = absurd h
+end_sound shapes maps (Num r) (value.Number n) h = tt
+end_sound shapes maps (Num r) v h = absurd h
 end_sound shapes maps k v h = tt
 
 -- the law of rules
 pub rules_sound : RulesAreSound
-rules_sound shapes c (insn.Binary w o d x) a m fits h =
-    set_sound shapes a m (number d) (binary_kind shapes a w o d x) (binary m w o (m.registers (number d)) x) h (binary_gives shapes a m w o d x fits h)
-rules_sound shapes c (insn.Negate w d) a m fits h =
-    set_sound shapes a m (number d) (number_kind (kind_at a (number d))) (on_number (negated w) (m.registers (number d))) h
-    (number_gives m.maps (negated w) (kind_at a (number d)) (m.registers (number d)) (λ n below. negated_below w n) (h.registers (number d)))
-rules_sound shapes c (insn.SignExtend e d r) a m fits h =
-    set_sound shapes a m (number d) (number_kind (kind_at a (number r))) (on_number (extended e) (m.registers (number r))) h
-    (number_gives m.maps (extended e) (kind_at a (number r)) (m.registers (number r)) (λ n below. extended_below e n) (h.registers (number r)))
-rules_sound shapes c (insn.ByteSwap o w d) a m fits h =
-    set_sound shapes a m (number d) (number_kind (kind_at a (number d))) (on_number (byte_swapped o w) (m.registers (number d))) h
-    (number_gives m.maps (byte_swapped o w) (kind_at a (number d)) (m.registers (number d)) (λ n below. byte_swapped_below o w n below) (h.registers (number d)))
-rules_sound shapes c (insn.LoadImmediate d low_half high_half) a m fits h =
-    set_sound shapes a m (number d) (Ok Num) (Some (value.Number (wide_immediate low_half high_half))) h (wide_immediate_below low_half high_half fits.0 fits.1)
-rules_sound shapes c (insn.LoadMapReference d k) a m fits h =
+rules_sound shapes c (insn.Binary w o d x) a m fits p h =
+    set_sound shapes a m (number d) (binary_kind shapes a w o d x) (binary m w o (m.registers (number d)) x) h (binary_gives shapes a m w o d x fits p h)
+rules_sound shapes c (insn.Negate w d) a m fits p h =
+    set_sound shapes a m (number d) (number_kind (negated_range w) (kind_at a (number d))) (on_number (negated w) (m.registers (number d))) h
+    (number_gives m.maps (negated w) (negated_range w) (kind_at a (number d)) (m.registers (number d)) (negatives_are_sound w) (kind_is_proper a (number d) p) (h.registers (number d)))
+rules_sound shapes c (insn.SignExtend e d r) a m fits p h =
+    set_sound shapes a m (number d) (number_kind (extended_range e) (kind_at a (number r))) (on_number (extended e) (m.registers (number r))) h
+    (number_gives m.maps (extended e) (extended_range e) (kind_at a (number r)) (m.registers (number r)) (extensions_are_sound e) (kind_is_proper a (number r) p) (h.registers (number r)))
+rules_sound shapes c (insn.ByteSwap o w d) a m fits p h =
+    set_sound shapes a m (number d) (number_kind (swapped_range o w) (kind_at a (number d))) (on_number (byte_swapped o w) (m.registers (number d))) h
+    (number_gives m.maps (byte_swapped o w) (swapped_range o w) (kind_at a (number d)) (m.registers (number d)) (swaps_are_sound o w) (kind_is_proper a (number d) p) (h.registers (number d)))
+rules_sound shapes c (insn.LoadImmediate d low_half high_half) a m fits p h =
+    set_sound shapes a m (number d) (Ok (Num (single (wide_immediate low_half high_half)))) (Some (value.Number (wide_immediate low_half high_half))) h (in_single (wide_immediate low_half high_half))
+rules_sound shapes c (insn.LoadMapReference d k) a m fits p h =
     set_sound shapes a m (number d) (map_kind shapes k) (map_reference m.maps k) h (map_gives shapes m.maps k h.maps)
-rules_sound shapes c (insn.Load access d r offset) a m fits h = load_sound shapes a m access d r offset h
-rules_sound shapes c (insn.Store s r offset x) a m fits h = store_sound shapes a m s r offset x fits.1 h
-rules_sound shapes c (insn.JumpIf w k r x offset) a m fits h = jump_sound shapes a m w k r x fits.1 h
-rules_sound shapes c (insn.Goto offset) a m fits h = h
-rules_sound shapes c (insn.GotoLong offset) a m fits h = h
-rules_sound shapes c (insn.Call k) a m fits h = call_sound shapes c (helper_at k) a m h
-rules_sound shapes c insn.Exit a m fits h =
+rules_sound shapes c (insn.Load access d r offset) a m fits p h = load_sound shapes a m access d r offset p h
+rules_sound shapes c (insn.Store s r offset x) a m fits p h = store_sound shapes a m s r offset x fits.1 p h
+rules_sound shapes c (insn.JumpIf w k r x offset) a m fits p h = jump_sound shapes a m w k r x fits.1 p h
+rules_sound shapes c (insn.Goto offset) a m fits p h = h
+rules_sound shapes c (insn.GotoLong offset) a m fits p h = h
+rules_sound shapes c (insn.Call k) a m fits p h = call_sound shapes c (helper_at k) a m h
+rules_sound shapes c insn.Exit a m fits p h =
     elim (answers c) as (λ b. IsSoundFor shapes (if b then end_rule (kind_at a 0) else Ok (flows None None)) (if b then answered (m.registers 0) else effect.Ended 0))
     [ true ↦ end_sound shapes m.maps (kind_at a 0) (m.registers 0) (h.registers 0) | false ↦ tt ]
 

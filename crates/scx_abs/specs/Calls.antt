@@ -9,6 +9,7 @@ use Rattle.scx_semantics.specs.declared.host_tables.Parameter.TheVariants as par
 use Rattle.scx_semantics.specs.HostTables.{parameters, is_allowed}
 use Rattle.scx_semantics.specs.Memory.{stack_size}
 use Rattle.scx_maps.specs.declared.shape.Shape.{Shape}
+use Rattle.scx_ranges.specs.Ranges.{all}
 use Rattle.scx_abs.specs.declared.faults.Why.{Why}
 use Rattle.scx_abs.specs.declared.faults.Why.TheVariants.{UnusableRegister, UnwrittenStack, NullNotTested, UnknownHelper, HelperNotHere, BadArgument}
 use Rattle.scx_abs.specs.declared.kinds.Kind.{Kind}
@@ -48,7 +49,7 @@ map_check (MapRef m) = Ok tt
 map_check k = Err BadArgument
 
 abbrev pub number_check : Kind → Result (Unit {0}) Why
-number_check Num = Ok tt
+number_check (Num r) = Ok tt
 number_check k = Err BadArgument
 
 abbrev pub takes : List Shape → AbsState → Parameter → Kind → Result (Unit {0}) Why
@@ -87,7 +88,7 @@ element_of k = Unusable
 abbrev pub answer_kind : Helper → Kind → Kind
 answer_kind helper.MapLookupElem k = element_of k
 answer_kind helper.TaskByPid k = TaskOrNull
-answer_kind h k = Num
+answer_kind h k = Num all
 
 -- ---- calls
 

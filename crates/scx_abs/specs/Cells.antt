@@ -24,7 +24,7 @@ kind_of (held.MapRef m) = MapRef m
 -- the stored pointer of a register of that kind, if it is one's
 abbrev pub held_of : Kind → Option Held
 held_of Unusable = None
-held_of Num = None
+held_of (Num r) = None
 held_of (Stack o) = Some (held.Stack o)
 held_of (Elem m o) = Some (held.Elem m o)
 held_of (ElemOrNull m) = Some (held.ElemOrNull m)

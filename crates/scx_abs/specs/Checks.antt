@@ -2,9 +2,12 @@
 use Rattle.std.specs.Prelude.{ℕ, ◌+◌, ◌%◌, nat_eq, nat_le, List, Option, Some, None, slice_get, Result, Ok, Err, ok_or, if◌then◌else◌}
 use Rattle.scx_semantics.specs.declared.instructions.Operand.{Operand}
 use Rattle.scx_semantics.specs.declared.instructions.Operand.TheVariants as operand
+use Rattle.scx_semantics.specs.declared.operations.Width.{Width}
+use Rattle.scx_semantics.specs.Arithmetic.{immediate}
 use Rattle.scx_semantics.specs.Registers.{number}
 use Rattle.scx_semantics.specs.Memory.{within}
 use Rattle.scx_maps.specs.declared.shape.Shape.{Shape}
+use Rattle.scx_ranges.specs.Ranges.{single}
 use Rattle.scx_abs.specs.declared.faults.Why.{Why}
 use Rattle.scx_abs.specs.declared.faults.Why.TheVariants.{UnusableRegister, WritesFrame, OutOfBounds, Misaligned}
 use Rattle.scx_abs.specs.declared.kinds.Kind.{Kind}
@@ -29,9 +32,10 @@ abbrev pub usable : Kind → Result Kind Why
 usable Unusable = Err UnusableRegister
 usable k = Ok k
 
-abbrev pub operand_kind : AbsState → Operand → Result Kind Why
-operand_kind a (operand.Immediate k) = Ok Num
-operand_kind a (operand.Register r) = usable (kind_at a (number r))
+-- an operand of that width
+abbrev pub operand_kind : AbsState → Width → Operand → Result Kind Why
+operand_kind a w (operand.Immediate k) = Ok (Num (single (immediate w k)))
+operand_kind a w (operand.Register r) = usable (kind_at a (number r))
 
 -- a register gets a kind; r10 gets none
 abbrev pub sets : AbsState → ℕ → Result Kind Why → Result Next Why

@@ -1,7 +1,10 @@
 -- The order on kinds: what covers a kind says no more than it. A kind is covered by itself and by
 -- Unusable, which says nothing; a pointer that isn't null, also by the kind that may be null. The join
--- of two kinds is the least that covers both, which is Unusable where nothing else does.
+-- of two kinds is the least that covers both, which is Unusable where nothing else does. Numbers are
+-- ordered by their ranges.
 use Rattle.std.specs.Prelude.{◌≡◌, Bool, ◌&&◌, nat_eq, if◌then◌else◌}
+use Rattle.scx_ranges.specs.declared.ranges.Range.{Range}
+use Rattle.scx_ranges.specs.Ranges.{IsRange, CoversRange, join_ranges}
 use Rattle.scx_abs.specs.declared.kinds.Kind.{Kind}
 use Rattle.scx_abs.specs.declared.kinds.Kind.TheVariants.{Unusable, Num, Stack, Elem, ElemOrNull, Task, TaskOrNull, MapRef}
 
@@ -14,7 +17,7 @@ pub record IsLeastCover {A : Type 0} (Covers : A → A → Type 0) (joined first
 -- the first covers the second
 abbrev pub CoversKind : Kind → Kind → Type 0
 CoversKind Unusable k = Unit {0}
-CoversKind Num Num = Unit {0}
+CoversKind (Num r) (Num s) = CoversRange r s
 CoversKind (Stack o) (Stack p) = o ≡ p
 CoversKind (Elem m o) (Elem n p) = (m ≡ n) × (o ≡ p)
 CoversKind (ElemOrNull m) (ElemOrNull n) = m ≡ n
@@ -30,12 +33,22 @@ abbrev pub IsUsable : Kind → Type 0
 IsUsable Unusable = ⊥
 IsUsable k = Unit {0}
 
+-- what is known of a number is a range
+abbrev pub IsProperKind : Kind → Type 0
+IsProperKind (Num r) = IsRange r
+IsProperKind k = Unit {0}
+
+-- it is no number's
+abbrev pub IsNoNumber : Kind → Type 0
+IsNoNumber (Num r) = ⊥
+IsNoNumber k = Unit {0}
+
 -- the kind, where the test holds
 abbrev pub kind_if : Bool → Kind → Kind
 kind_if b k = if b then k else Unusable
 
 abbrev pub join_kind : Kind → Kind → Kind
-join_kind Num Num = Num
+join_kind (Num r) (Num s) = Num (join_ranges r s)
 join_kind (Stack o) (Stack p) = kind_if (nat_eq o p) (Stack o)
 join_kind (Elem m o) (Elem n p) = kind_if (nat_eq m n && nat_eq o p) (Elem m o)
 join_kind (Elem m o) (ElemOrNull n) = kind_if (nat_eq m n && nat_eq o 0) (ElemOrNull n)

@@ -43,11 +43,11 @@ IsSoundFor shapes (Ok next) e = FlowsIn shapes next e
 
 -- Where the checks of an instruction pass, no state that is stood for is stuck, and what it leads to is
 -- stood for by what flows on, whatever the host answers, as long as it fits. The instruction's numbers
--- fit their fields.
+-- fit their fields, and the state is proper.
 abbrev pub RulesAreSound : Type 0
 RulesAreSound =
     (shapes : List Shape) (c : Callback) (i : Insn) (a : AbsState) (m : Machine)
-    → IsInsn i → IsMember shapes a m → IsSoundFor shapes (rule shapes c i a) (act c i m)
+    → IsInsn i → IsProper a → IsMember shapes a m → IsSoundFor shapes (rule shapes c i a) (act c i m)
 
 -- whether it is a call of a helper, or a jump that tests a register for 0
 abbrev pub is_call_or_null_test : Insn → Bool
@@ -59,13 +59,13 @@ is_call_or_null_test i = false
 abbrev pub PlainRulesAreSound : Type 0
 PlainRulesAreSound =
     (shapes : List Shape) (c : Callback) (i : Insn) (a : AbsState) (m : Machine)
-    → IsFalse (is_call_or_null_test i) → IsInsn i → IsMember shapes a m → IsSoundFor shapes (rule shapes c i a) (act c i m)
+    → IsFalse (is_call_or_null_test i) → IsInsn i → IsProper a → IsMember shapes a m → IsSoundFor shapes (rule shapes c i a) (act c i m)
 
 -- The same of those.
 abbrev pub CallsAndNullTestsAreSound : Type 0
 CallsAndNullTestsAreSound =
     (shapes : List Shape) (c : Callback) (i : Insn) (a : AbsState) (m : Machine)
-    → IsTrue (is_call_or_null_test i) → IsInsn i → IsMember shapes a m → IsSoundFor shapes (rule shapes c i a) (act c i m)
+    → IsTrue (is_call_or_null_test i) → IsInsn i → IsProper a → IsMember shapes a m → IsSoundFor shapes (rule shapes c i a) (act c i m)
 
 -- A callback's start state stands for all states in which it may begin.
 abbrev pub StartIsSound : Type 0
@@ -98,8 +98,8 @@ StartIsProper = (c : Callback) → IsProper (start_of c)
 abbrev pub FlowsProper : Next → Type 0
 FlowsProper next = IfSome next.on IsProper × IfSome next.jump IsProper
 
--- What flows on from an instruction in a proper state is proper.
+-- What flows on from an instruction in a proper state is proper. The instruction's numbers fit their fields.
 abbrev pub RulesKeepProper : Type 0
 RulesKeepProper =
     (shapes : List Shape) (c : Callback) (i : Insn) (a : AbsState)
-    → IsProper a → IfOk (rule shapes c i a) FlowsProper
+    → IsInsn i → IsProper a → IfOk (rule shapes c i a) FlowsProper

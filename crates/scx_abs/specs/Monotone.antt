@@ -4,6 +4,7 @@
 use Rattle.std.specs.Prelude.{List, Option, Result, Ok, Err, IfSome}
 use Rattle.scx_semantics.specs.declared.instructions.Insn.{Insn}
 use Rattle.scx_semantics.specs.declared.callbacks.Callback.{Callback}
+use Rattle.scx_encoding.specs.Spelling.{IsInsn}
 use Rattle.scx_maps.specs.declared.shape.Shape.{Shape}
 use Rattle.scx_abs.specs.declared.faults.Why.{Why}
 use Rattle.scx_abs.specs.declared.kinds.Kind.{Kind}
@@ -35,7 +36,7 @@ pub record CoversFlows (next other : Next) : Type 0 where
 abbrev pub RulesAreMonotone : Type 0
 RulesAreMonotone =
     (shapes : List Shape) (c : Callback) (i : Insn) (b a : AbsState)
-    → IsProper a → CoversState b a → PassesToo CoversFlows (rule shapes c i b) (rule shapes c i a)
+    → IsInsn i → IsProper b → IsProper a → CoversState b a → PassesToo CoversFlows (rule shapes c i b) (rule shapes c i a)
 
 -- ---- joins
 

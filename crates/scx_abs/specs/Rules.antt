@@ -20,12 +20,15 @@ use Rattle.scx_semantics.specs.declared.operations.Access.TheVariants as access
 use Rattle.scx_semantics.specs.declared.callbacks.Callback.{Callback}
 use Rattle.scx_semantics.specs.declared.registers.Register.{Register}
 use Rattle.scx_semantics.specs.Registers.{number}
-use Rattle.scx_semantics.specs.Arithmetic.{shifted}
+use Rattle.scx_semantics.specs.Arithmetic.{shifted, wide_immediate}
 use Rattle.scx_semantics.specs.Memory.{size_bytes, access_size, stack_size}
 use Rattle.scx_semantics.specs.declared.host_tables.Field.{Field}
 use Rattle.scx_semantics.specs.HostTables.{field_at, is_writable, helper_at, answers}
 use Rattle.scx_semantics.specs.Meaning.{pointer_step, is_plain}
 use Rattle.scx_maps.specs.declared.shape.Shape.{Shape}
+use Rattle.scx_ranges.specs.declared.ranges.Range.{Range}
+use Rattle.scx_ranges.specs.Ranges.{single}
+use Rattle.scx_ranges.specs.Results.{computed_at, copied, negated_range, extended_range, swapped_range, loaded}
 use Rattle.scx_abs.specs.declared.faults.Why.{Why}
 use Rattle.scx_abs.specs.declared.faults.Why.TheVariants.{UnusableRegister, UnwrittenStack, OutOfBounds, NullNotTested, PointerArithmetic, PointerCompare, PointerStore, TaskField, BadReturn, UnknownMap}
 use Rattle.scx_abs.specs.declared.kinds.Kind.{Kind}
@@ -58,31 +61,42 @@ moved_by shapes k distance = Err PointerArithmetic
 -- a move copies a number, and one of 64 bits a pointer too
 abbrev pub moved_kind : Width → Kind → Result Kind Why
 moved_kind Bits64 k = Ok k
-moved_kind Bits32 Num = Ok Num
+moved_kind Bits32 (Num r) = Ok (Num (copied Bits32 r))
 moved_kind Bits32 k = Err PointerArithmetic
 
--- what other arithmetic makes of the destination's kind and the operand's
+-- what other arithmetic makes of a number and the operand's kind
+abbrev pub computed_kind : Width → Operation → Range → Kind → Result Kind Why
+computed_kind w o r (Num s) = Ok (Num (computed_at w o r s))
+computed_kind w o r k = Err PointerArithmetic
+
+-- what it makes of the destination's kind and the operand's
 abbrev pub arithmetic_kind : List Shape → Width → Operation → Operand → Kind → Kind → Result Kind Why
-arithmetic_kind shapes w o x Num Num = Ok Num
+arithmetic_kind shapes w o x (Num r) k = computed_kind w o r k
 arithmetic_kind shapes w o x j k = moved_by shapes j (pointer_step w o x)
 
 abbrev pub combined_kind : List Shape → AbsState → Width → Operation → Register → Operand → Result Kind Why
 combined_kind shapes a w o d x = do
   j ← usable (kind_at a (number d))
-  k ← operand_kind a x
+  k ← operand_kind a w x
   arithmetic_kind shapes w o x j k
 
 abbrev pub binary_kind : List Shape → AbsState → Width → Operation → Register → Operand → Result Kind Why
 binary_kind shapes a w Move d x = do
-  k ← operand_kind a x
+  k ← operand_kind a w x
   moved_kind w k
 binary_kind shapes a w o d x = combined_kind shapes a w o d x
 
+-- what is known of one number
+abbrev pub numbers_of : Kind → Result Range Why
+numbers_of (Num r) = Ok r
+numbers_of Unusable = Err UnusableRegister
+numbers_of k = Err PointerArithmetic
+
 -- arithmetic on one number
-abbrev pub number_kind : Kind → Result Kind Why
-number_kind Num = Ok Num
-number_kind Unusable = Err UnusableRegister
-number_kind k = Err PointerArithmetic
+abbrev pub number_kind : (Range → Range) → Kind → Result Kind Why
+number_kind f k = do
+  r ← numbers_of k
+  Ok (Num (f r))
 
 -- a reference to the map of that number
 abbrev pub map_kind : List Shape → ℤ → Result Kind Why
@@ -107,21 +121,21 @@ area_of shapes (Elem m o) offset n = do
 area_of shapes Task offset n = field_area (field_at n (shifted 0 offset))
 area_of shapes (ElemOrNull m) offset n = Err NullNotTested
 area_of shapes TaskOrNull offset n = Err NullNotTested
-area_of shapes Num offset n = Err OutOfBounds
+area_of shapes (Num r) offset n = Err OutOfBounds
 area_of shapes (MapRef m) offset n = Err OutOfBounds
 area_of shapes Unusable offset n = Err UnusableRegister
 
 -- what a load gives that begins at that byte of the cell
 abbrev pub loaded_kind : Cell → Access → ℕ → Result Kind Why
-loaded_kind (Bytes set) a j = if all_written set j (size_bytes (access_size a)) then Ok Num else Err UnwrittenStack
+loaded_kind (Bytes set) a j = if all_written set j (size_bytes (access_size a)) then Ok (Num (loaded a)) else Err UnwrittenStack
 loaded_kind (Pointer k) access.DoubleWord j = Ok (kind_of k)
 loaded_kind (Pointer k) a j = Err UnwrittenStack
 
 -- Elements and fields hold numbers. A field is loaded without a sign.
 abbrev pub kind_in : AbsState → Access → Area → Result Kind Why
 kind_in a access (OnStack at) = loaded_kind (cell_at a (at / 8)) access (at % 8)
-kind_in a access InElement = Ok Num
-kind_in a access (InTask f) = if is_plain access then Ok Num else Err TaskField
+kind_in a access InElement = Ok (Num (loaded access))
+kind_in a access (InTask f) = if is_plain access then Ok (Num (loaded access)) else Err TaskField
 
 abbrev pub load_kind : List Shape → AbsState → Access → Register → ℤ → Result Kind Why
 load_kind shapes a access r offset = do
@@ -136,13 +150,13 @@ pointer_cell (Some k) = Ok (Pointer k)
 
 -- the cell after a store that begins at that byte of it; a pointer takes all eight
 abbrev pub stored_cell : Cell → Size → ℕ → Kind → Result Cell Why
-stored_cell cell s j Num = Ok (Bytes (marked (written_in cell) j (size_bytes s)))
+stored_cell cell s j (Num r) = Ok (Bytes (marked (written_in cell) j (size_bytes s)))
 stored_cell cell size.DoubleWord j k = pointer_cell (held_of k)
 stored_cell cell s j k = Err PointerStore
 
 -- elements and fields take numbers alone
 abbrev pub number_stored : AbsState → Kind → Result Next Why
-number_stored a Num = goes_on a
+number_stored a (Num r) = goes_on a
 number_stored a k = Err PointerStore
 
 abbrev pub stored_in : AbsState → Size → Kind → Area → Result Next Why
@@ -155,7 +169,7 @@ stored_in a s k (InTask f) = if is_writable f then number_stored a k else Err Ta
 abbrev pub store_rule : List Shape → AbsState → Size → Register → ℤ → Operand → Result Next Why
 store_rule shapes a s r offset x = do
   base ← usable (kind_at a (number r))
-  k ← operand_kind a x
+  k ← operand_kind a Bits64 x
   area ← area_of shapes base offset (size_bytes s)
   stored_in a s k area
 
@@ -169,8 +183,8 @@ null_test w c x = None
 
 -- the state where a register of that kind was found to be 0; a pointer that isn't null never is
 abbrev pub if_null : AbsState → ℕ → Kind → Option AbsState
-if_null a r (ElemOrNull m) = Some (with_kind a r Num)
-if_null a r TaskOrNull = Some (with_kind a r Num)
+if_null a r (ElemOrNull m) = Some (with_kind a r (Num (single 0)))
+if_null a r TaskOrNull = Some (with_kind a r (Num (single 0)))
 if_null a r k = None
 
 -- the state where it was found not to be
@@ -184,32 +198,36 @@ tested a r k None = Err PointerCompare
 tested a r k (Some true) = Ok (flows (Some (if_not_null a r k)) (if_null a r k))
 tested a r k (Some false) = Ok (flows (if_null a r k) (Some (if_not_null a r k)))
 
--- two numbers are followed both ways; a pointer is only tested for 0
+-- two numbers are followed both ways
+abbrev pub numbers_compared : AbsState → Kind → Result Next Why
+numbers_compared a (Num s) = Ok (flows (Some a) (Some a))
+numbers_compared a k = Err PointerCompare
+
+-- a pointer is only tested for 0
 abbrev pub compared : AbsState → ℕ → Option Bool → Kind → Kind → Result Next Why
-compared a r test Num Num = Ok (flows (Some a) (Some a))
-compared a r test Num k = Err PointerCompare
+compared a r test (Num s) k = numbers_compared a k
 compared a r test j k = tested a r j test
 
 abbrev pub jump_rule : AbsState → Width → Comparison → Register → Operand → Result Next Why
 jump_rule a w c r x = do
   j ← usable (kind_at a (number r))
-  k ← operand_kind a x
+  k ← operand_kind a w x
   compared a (number r) (null_test w c x) j k
 
 -- ---- the end
 
 abbrev pub end_rule : Kind → Result Next Why
-end_rule Num = Ok (flows None None)
+end_rule (Num r) = Ok (flows None None)
 end_rule k = Err BadReturn
 
 -- ---- all instructions
 
 abbrev pub rule : List Shape → Callback → Insn → AbsState → Result Next Why
 rule shapes c (insn.Binary w o d x) a = sets a (number d) (binary_kind shapes a w o d x)
-rule shapes c (insn.Negate w d) a = sets a (number d) (number_kind (kind_at a (number d)))
-rule shapes c (insn.SignExtend e d r) a = sets a (number d) (number_kind (kind_at a (number r)))
-rule shapes c (insn.ByteSwap o w d) a = sets a (number d) (number_kind (kind_at a (number d)))
-rule shapes c (insn.LoadImmediate d low_half high_half) a = sets a (number d) (Ok Num)
+rule shapes c (insn.Negate w d) a = sets a (number d) (number_kind (negated_range w) (kind_at a (number d)))
+rule shapes c (insn.SignExtend e d r) a = sets a (number d) (number_kind (extended_range e) (kind_at a (number r)))
+rule shapes c (insn.ByteSwap o w d) a = sets a (number d) (number_kind (swapped_range o w) (kind_at a (number d)))
+rule shapes c (insn.LoadImmediate d low_half high_half) a = sets a (number d) (Ok (Num (single (wide_immediate low_half high_half))))
 rule shapes c (insn.LoadMapReference d k) a = sets a (number d) (map_kind shapes k)
 rule shapes c (insn.Load access d r offset) a = sets a (number d) (load_kind shapes a access r offset)
 rule shapes c (insn.Store s r offset x) a = store_rule shapes a s r offset x

@@ -1,6 +1,6 @@
 -- What an abstract state stands for: the states of a running program whose registers and stack fit it.
--- Numbers in registers are below 2 ^ 64, and bytes below 256.
-use Rattle.std.specs.Prelude.{ℕ, ◌+◌, ◌*◌, ◌^◌, ◌≡◌, ◌<◌, List, Some, length, IsTrue}
+-- A number in a register is a member of its range, and bytes are below 256.
+use Rattle.std.specs.Prelude.{ℕ, ◌+◌, ◌*◌, ◌≡◌, ◌<◌, List, Some, length, IsTrue}
 use Rattle.scx_semantics.specs.declared.values.Value.{Value}
 use Rattle.scx_semantics.specs.declared.values.Value.TheVariants as value
 use Rattle.scx_semantics.specs.declared.values.Pointer.TheVariants as pointer
@@ -12,6 +12,7 @@ use Rattle.scx_semantics.specs.Machine.{Machine}
 use Rattle.scx_semantics.specs.Memory as memory
 use Rattle.scx_semantics.specs.Memory.{bytes_at, value_bytes}
 use Rattle.scx_maps.specs.declared.shape.Shape.{Shape}
+use Rattle.scx_ranges.specs.Ranges.{IsIn}
 use Rattle.scx_maps.specs.Contents.{HasShapes}
 use Rattle.scx_abs.specs.declared.kinds.Kind.{Kind}
 use Rattle.scx_abs.specs.declared.kinds.Kind.TheVariants.{Unusable, Num, Stack, Elem, ElemOrNull, Task, TaskOrNull, MapRef}
@@ -28,7 +29,7 @@ HasElement maps m i = i < length (elements maps m)
 -- the kind stands for the value
 abbrev pub Stands : Maps → Kind → Value → Type 0
 Stands maps Unusable v = Unit {0}
-Stands maps Num (value.Number n) = n < 2 ^ 64
+Stands maps (Num r) (value.Number n) = IsIn n r
 Stands maps (Stack o) (value.Pointer (pointer.Stack p)) = o ≡ p
 Stands maps (Elem m o) (value.Pointer (pointer.Element n i p)) = (m ≡ n) × (o ≡ p) × HasElement maps n i
 Stands maps (ElemOrNull m) (value.Number n) = n ≡ 0

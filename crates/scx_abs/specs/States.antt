@@ -4,12 +4,13 @@ use Rattle.std.specs.Prelude.{◌≡◌, ℕ, [], length, set, replicate, slice_
 use Rattle.scx_semantics.specs.declared.callbacks.Callback.{Callback}
 use Rattle.scx_semantics.specs.declared.callbacks.Callback.TheVariants as callback
 use Rattle.scx_semantics.specs.Memory.{stack_size}
+use Rattle.scx_ranges.specs.Ranges.{all}
 use Rattle.scx_abs.specs.declared.kinds.Kind.{Kind}
 use Rattle.scx_abs.specs.declared.kinds.Kind.TheVariants.{Unusable, Num, Stack, Task, TaskOrNull}
 use Rattle.scx_abs.specs.declared.kinds.Cell.{Cell}
 use Rattle.scx_abs.specs.declared.kinds.Cell.TheVariants.{Bytes}
 use Rattle.scx_abs.specs.declared.states.AbsState.{AbsState}
-use Rattle.scx_abs.specs.Kinds.{CoversKind}
+use Rattle.scx_abs.specs.Kinds.{CoversKind, IsProperKind}
 use Rattle.scx_abs.specs.Cells.{CoversCell, IsProperCell, no_bytes}
 
 -- the kind of a register, by its number
@@ -43,11 +44,13 @@ pub record IsWhole (a : AbsState) : Type 0 where
   pub registers : length a.registers ≡ 11
   pub cells : length a.cells ≡ 64
 
--- A state as rules and joins make them, whole and of proper cells. Lists in a definition may have any
--- length, and a state with too few cells would forget every store; so what is said of least states is
--- said of proper ones.
+-- A state as rules and joins make them, whole and of proper kinds and cells. Lists in a definition may
+-- have any length, and a state with too few cells would forget every store; numbers there may be any
+-- three, and results of what is no range mean nothing. So what is said of least states is said of proper
+-- ones.
 pub record IsProper (a : AbsState) : Type 0 where
   pub whole : IsWhole a
+  pub kinds : All IsProperKind a.registers
   pub cells : All IsProperCell a.cells
 
 -- ---- start
@@ -62,11 +65,11 @@ abbrev pub argument_kinds : Callback → ArgumentKinds
 argument_kinds callback.Plain = record { first = Unusable; second = Unusable; third = Unusable }
 argument_kinds callback.Init = record { first = Unusable; second = Unusable; third = Unusable }
 argument_kinds callback.Enable = record { first = Task; second = Unusable; third = Unusable }
-argument_kinds callback.SelectCpu = record { first = Task; second = Num; third = Num }
-argument_kinds callback.Enqueue = record { first = Task; second = Num; third = Unusable }
-argument_kinds callback.Dispatch = record { first = Num; second = TaskOrNull; third = Unusable }
+argument_kinds callback.SelectCpu = record { first = Task; second = Num all; third = Num all }
+argument_kinds callback.Enqueue = record { first = Task; second = Num all; third = Unusable }
+argument_kinds callback.Dispatch = record { first = Num all; second = TaskOrNull; third = Unusable }
 argument_kinds callback.Running = record { first = Task; second = Unusable; third = Unusable }
-argument_kinds callback.Stopping = record { first = Task; second = Num; third = Unusable }
+argument_kinds callback.Stopping = record { first = Task; second = Num all; third = Unusable }
 
 -- The state in which a callback begins: its arguments in r1 to r3, the top of the stack in r10, and
 -- nothing else.

@@ -1,15 +1,19 @@
 ghost use Rattle.std.specs.Prelude.{◌≡◌, Some};
 ghost use Rattle.scx_semantics.specs.Registers.{number};
 ghost use Rattle.scx_abs.specs.Checks.{usable, operand_kind};
-ghost use Rattle.scx_abs.specs.Rules.{moved_by, moved_kind, arithmetic_kind, combined_kind, binary_kind, number_kind, map_kind};
+ghost use Rattle.scx_ranges.specs.Results.{negated_range, extended_range, swapped_range};
+ghost use Rattle.scx_abs.specs.Rules.{moved_by, moved_kind, computed_kind, arithmetic_kind, combined_kind, binary_kind, numbers_of, number_kind, map_kind};
 
 use crate::faults::Why;
 use crate::kinds::Kind;
 use crate::offsets::{element_size, offset_within};
 use crate::states::AbsState;
-use scx_arithmetic::{pointer_step, shifted};
-use scx_isa::{Operand, Operation, Register, STACK_SIZE, Width};
+use scx_arithmetic::{immediate, pointer_step, shifted};
+use scx_isa::{
+    ByteOrder, Extension, Operand, Operation, Register, STACK_SIZE, SwapWidth, Width,
+};
 use scx_maps::MapDefs;
+use scx_ranges::Numbers;
 
 /// The kind of a register that is read.
 pub(crate) fn usable(kind: Kind) -> Result<Kind, Why>
@@ -21,26 +25,49 @@ pub(crate) fn usable(kind: Kind) -> Result<Kind, Why>
     }
 }
 
-/// The kind of an operand.
-pub(crate) fn operand_kind(state: &AbsState, operand: Operand) -> Result<Kind, Why>
-    ensures { result ≡ operand_kind state.now operand }
+/// The kind of an operand of that width.
+pub(crate) fn operand_kind(state: &AbsState, width: Width, operand: Operand) -> Result<Kind, Why>
+    ensures { result ≡ operand_kind state.now width operand }
 {
     match operand {
-        Operand::Immediate(_) => Ok(Kind::Num),
+        Operand::Immediate(k) => Ok(Kind::Num(Numbers::single(immediate(width, k)))),
         Operand::Register(register) => usable(state.kind(register)),
     }
 }
 
-/// The kind of what is made of one number.
-#[inline(always)]
-pub fn number_kind(kind: Kind) -> Result<Kind, Why>
-    ensures { result ≡ number_kind kind }
+/// What is known of a number that is read.
+fn numbers_of(kind: Kind) -> Result<Numbers, Why>
+    ensures { result ≡ numbers_of kind }
 {
     match kind {
-        Kind::Num => Ok(Kind::Num),
+        Kind::Num(numbers) => Ok(numbers),
         Kind::Unusable => Err(Why::UnusableRegister),
         _ => Err(Why::PointerArithmetic),
     }
+}
+
+/// The kind that negation leaves.
+#[inline(always)]
+pub fn negated_kind(kind: Kind, width: Width) -> Result<Kind, Why>
+    ensures { result ≡ number_kind (negated_range width) kind }
+{
+    Ok(Kind::Num(numbers_of(kind)?.negated(width)))
+}
+
+/// The kind that a move leaves which extends a sign.
+#[inline(always)]
+pub fn extended_kind(kind: Kind, extension: Extension) -> Result<Kind, Why>
+    ensures { result ≡ number_kind (extended_range extension) kind }
+{
+    Ok(Kind::Num(numbers_of(kind)?.extended(extension)))
+}
+
+/// The kind that a byte swap leaves.
+#[inline(always)]
+pub fn swapped_kind(kind: Kind, order: ByteOrder, width: SwapWidth) -> Result<Kind, Why>
+    ensures { result ≡ number_kind (swapped_range order width) kind }
+{
+    Ok(Kind::Num(numbers_of(kind)?.byte_swapped(order, width)))
 }
 
 /// The kind that an operation leaves in its destination.
@@ -56,7 +83,7 @@ pub fn binary_kind(
     ensures { result ≡ binary_kind defs.now state.now width operation destination operand }
 {
     match operation {
-        Operation::Move => moved_kind(width, operand_kind(state, operand)?),
+        Operation::Move => moved_kind(width, operand_kind(state, width, operand)?),
         _ => combined_kind(state, width, operation, destination, operand, defs),
     }
 }
@@ -67,7 +94,7 @@ fn moved_kind(width: Width, kind: Kind) -> Result<Kind, Why>
 {
     match (width, kind) {
         (Width::Bits64, _) => Ok(kind),
-        (Width::Bits32, Kind::Num) => Ok(Kind::Num),
+        (Width::Bits32, Kind::Num(numbers)) => Ok(Kind::Num(numbers.copied(width))),
         (Width::Bits32, _) => Err(Why::PointerArithmetic),
     }
 }
@@ -84,7 +111,7 @@ fn combined_kind(
     ensures { result ≡ combined_kind defs.now state.now width operation destination operand }
 {
     let kind = usable(state.kind(destination))?;
-    let other = operand_kind(state, operand)?;
+    let other = operand_kind(state, width, operand)?;
     arithmetic_kind(width, operation, operand, kind, other, defs)
 }
 
@@ -99,9 +126,24 @@ fn arithmetic_kind(
 ) -> Result<Kind, Why>
     ensures { result ≡ arithmetic_kind defs.now width operation operand kind other }
 {
-    match (kind, other) {
-        (Kind::Num, Kind::Num) => Ok(Kind::Num),
+    match kind {
+        Kind::Num(numbers) => computed_kind(width, operation, numbers, other),
         _ => moved_by(kind, pointer_step(width, operation, operand), defs),
+    }
+}
+
+/// The kind that an operation makes of a number and such an operand.
+fn computed_kind(
+    width: Width,
+    operation: Operation,
+    numbers: Numbers,
+    operand: Kind,
+) -> Result<Kind, Why>
+    ensures { result ≡ computed_kind width operation numbers operand }
+{
+    match operand {
+        Kind::Num(others) => Ok(Kind::Num(numbers.computed(width, operation, others))),
+        _ => Err(Why::PointerArithmetic),
     }
 }
 

@@ -11,6 +11,7 @@ use crate::offsets::{element_size, offset_for};
 use crate::states::AbsState;
 use scx_isa::{Helper, Parameter, Register, STACK_SIZE, Size};
 use scx_maps::MapDefs;
+use scx_ranges::Numbers;
 use scx_safety::Context;
 
 /// What a call changes: the helper is there, then it may be called here, then each argument is
@@ -97,7 +98,7 @@ fn check_number(kind: Kind) -> Result<(), Why>
     ensures { result ≡ number_check kind }
 {
     match kind {
-        Kind::Num => Ok(()),
+        Kind::Num(_) => Ok(()),
         _ => Err(Why::BadArgument),
     }
 }
@@ -140,7 +141,7 @@ fn answer_kind(helper: Helper, first: Kind) -> Kind
     match helper {
         Helper::MapLookupElem => element_of(first),
         Helper::TaskByPid => Kind::TaskOrNull,
-        _ => Kind::Num,
+        _ => Kind::Num(Numbers::all()),
     }
 }
 

@@ -1,7 +1,8 @@
-ghost use Rattle.std.specs.Prelude.{◌≡◌, option_map};
+ghost use Rattle.std.specs.Prelude.{◌≡◌, Some, option_map};
 ghost use Rattle.scx_semantics.specs.Registers.{number};
-ghost use Rattle.scx_abs.specs.Changes.{changed, flowed};
-ghost use Rattle.scx_abs.specs.Rules.{null_test, if_null, if_not_null, tested, compared, jump_rule};
+ghost use Rattle.scx_abs.specs.Changes.{changed, next_of, flowed};
+ghost use Rattle.scx_abs.specs.Checks.{flows};
+ghost use Rattle.scx_abs.specs.Rules.{null_test, if_null, if_not_null, tested, numbers_compared, compared, jump_rule};
 
 use crate::arithmetic::{operand_kind, usable};
 use crate::changes::{Change, Flow};
@@ -9,6 +10,7 @@ use crate::faults::Why;
 use crate::kinds::Kind;
 use crate::states::AbsState;
 use scx_isa::{Comparison, Operand, Register, Width};
+use scx_ranges::Numbers;
 
 /// What flows on from a conditional jump.
 #[inline(always)]
@@ -22,7 +24,7 @@ pub fn flow_of_jump(
     ensures { flowed state.now result ≡ jump_rule state.now width comparison register operand }
 {
     let kind = usable(state.kind(register))?;
-    let other = operand_kind(state, operand)?;
+    let other = operand_kind(state, width, operand)?;
     compared(
         state,
         register,
@@ -56,10 +58,20 @@ fn compared(
 ) -> Result<Flow, Why>
     ensures { flowed state.now result ≡ compared state.now (number register) test kind other }
 {
-    match (kind, other) {
-        (Kind::Num, Kind::Num) => Ok(Flow::Both(Change::Nothing, Change::Nothing)),
-        (Kind::Num, _) => Err(Why::PointerCompare),
+    match kind {
+        Kind::Num(_) => numbers_compared(state, other),
         _ => tested(state, register, kind, test),
+    }
+}
+
+/// What flows on from a comparison of a number with an operand of that kind.
+#[inline(always)]
+fn numbers_compared(state: &AbsState, other: Kind) -> Result<Flow, Why>
+    ensures { flowed state.now result ≡ numbers_compared state.now other }
+{
+    match other {
+        Kind::Num(_) => Ok(Flow::Both(Change::Nothing, Change::Nothing)),
+        _ => Err(Why::PointerCompare),
     }
 }
 
@@ -70,12 +82,32 @@ fn tested(state: &AbsState, register: Register, kind: Kind, test: Option<bool>) 
 {
     let null = if_null(state, register, kind);
     let pointer = if_not_null(state, register, kind);
-    match (test, null) {
-        (Some(true), Some(null)) => Ok(Flow::Both(pointer, null)),
-        (Some(true), None) => Ok(Flow::On(pointer)),
-        (Some(false), Some(null)) => Ok(Flow::Both(null, pointer)),
-        (Some(false), None) => Ok(Flow::Jump(pointer)),
-        (None, _) => Err(Why::PointerCompare),
+    match test {
+        Some(true) => Ok(jump_at_null(state, pointer, null)),
+        Some(false) => Ok(go_on_at_null(state, pointer, null)),
+        None => Err(Why::PointerCompare),
+    }
+}
+
+/// What flows on where the jump is taken at 0.
+fn jump_at_null(state: &AbsState, pointer: Change, null: Option<Change>) -> Flow
+    ensures { next_of state.now result
+        ≡ flows (Some (changed state.now pointer)) (option_map (changed state.now) null) }
+{
+    match null {
+        Some(null) => Flow::Both(pointer, null),
+        None => Flow::On(pointer),
+    }
+}
+
+/// What flows on where it isn't.
+fn go_on_at_null(state: &AbsState, pointer: Change, null: Option<Change>) -> Flow
+    ensures { next_of state.now result
+        ≡ flows (option_map (changed state.now) null) (Some (changed state.now pointer)) }
+{
+    match null {
+        Some(null) => Flow::Both(null, pointer),
+        None => Flow::Jump(pointer),
     }
 }
 
@@ -86,7 +118,9 @@ fn if_null(state: &AbsState, register: Register, kind: Kind) -> Option<Change>
     ensures { option_map (changed state.now) result ≡ if_null state.now (number register) kind }
 {
     match kind {
-        Kind::ElemOrNull(_) | Kind::TaskOrNull => Some(Change::Register(register, Kind::Num)),
+        Kind::ElemOrNull(_) | Kind::TaskOrNull => {
+            Some(Change::Register(register, Kind::Num(Numbers::single(0))))
+        }
         _ => None,
     }
 }

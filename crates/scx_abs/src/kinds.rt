@@ -1,7 +1,10 @@
 ghost use Rattle.std.specs.Prelude.{◌≡◌, ◌+◌, ◌≤◌};
-ghost use Rattle.scx_abs.specs.Kinds.{join_kind};
+ghost use Rattle.scx_abs.specs.Kinds.{IsNoNumber, join_kind};
+ghost use Rattle.scx_abs.specs.declared.kinds.Kind.TheVariants as Kind;
 ghost use Rattle.scx_abs.specs.Cells.{kind_of, held_of, cell_of, common, marked, join_pointers, join_cell};
 ghost use Rattle.scx_abs.specs.Cells.{all_written, written_in};
+
+use scx_ranges::Numbers;
 
 /// How many bytes a cell stands for.
 pub const CELL_BYTES: usize = 8;
@@ -11,8 +14,8 @@ pub const CELL_BYTES: usize = 8;
 pub enum Kind {
     /// Nothing: it may not be read.
     Unusable,
-    /// A number.
-    Num,
+    /// A number, one of these.
+    Num(Numbers),
     /// A pointer to that byte of the stack, 0 to 512; 512 is its top, past the last one.
     Stack(u16),
     /// A pointer into an element of that map, to that byte of it.
@@ -58,17 +61,9 @@ impl Kind {
     pub(crate) fn join(self, other: Kind) -> Kind
         ensures { result ≡ join_kind self other }
     {
-        match (self, other) {
-            (Kind::Num, Kind::Num) => Kind::Num,
-            (Kind::Stack(o), Kind::Stack(p)) if o == p => self,
-            (Kind::Elem(m, o), Kind::Elem(n, p)) if m == n && o == p => self,
-            (Kind::Elem(m, 0), Kind::ElemOrNull(n)) if m == n => other,
-            (Kind::ElemOrNull(m), Kind::Elem(n, 0)) if m == n => self,
-            (Kind::ElemOrNull(m), Kind::ElemOrNull(n)) if m == n => self,
-            (Kind::Task, Kind::Task) => Kind::Task,
-            (Kind::Task | Kind::TaskOrNull, Kind::Task | Kind::TaskOrNull) => Kind::TaskOrNull,
-            (Kind::MapRef(m), Kind::MapRef(n)) if m == n => self,
-            _ => Kind::Unusable,
+        match self {
+            Kind::Num(numbers) => join_number(numbers, other),
+            _ => join_pointer(self, other),
         }
     }
 
@@ -77,7 +72,7 @@ impl Kind {
         ensures { result ≡ held_of self }
     {
         match self {
-            Kind::Unusable | Kind::Num => None,
+            Kind::Unusable | Kind::Num(_) => None,
             Kind::Stack(at) => Some(Held::Stack(at)),
             Kind::Elem(map, at) => Some(Held::Elem(map, at)),
             Kind::ElemOrNull(map) => Some(Held::ElemOrNull(map)),
@@ -85,6 +80,34 @@ impl Kind {
             Kind::TaskOrNull => Some(Held::TaskOrNull),
             Kind::MapRef(map) => Some(Held::MapRef(map)),
         }
+    }
+}
+
+/// The least kind that covers a number of these and another kind.
+fn join_number(numbers: Numbers, other: Kind) -> Kind
+    ensures { result ≡ join_kind (Kind.Num numbers) other }
+{
+    match other {
+        Kind::Num(others) => Kind::Num(numbers.join(others)),
+        _ => Kind::Unusable,
+    }
+}
+
+/// The least kind that covers one that is no number's and another.
+fn join_pointer(first: Kind, second: Kind) -> Kind
+    requires { IsNoNumber first }
+    ensures { result ≡ join_kind first second }
+{
+    match (first, second) {
+        (Kind::Stack(o), Kind::Stack(p)) if o == p => first,
+        (Kind::Elem(m, o), Kind::Elem(n, p)) if m == n && o == p => first,
+        (Kind::Elem(m, 0), Kind::ElemOrNull(n)) if m == n => second,
+        (Kind::ElemOrNull(m), Kind::Elem(n, 0)) if m == n => first,
+        (Kind::ElemOrNull(m), Kind::ElemOrNull(n)) if m == n => first,
+        (Kind::Task, Kind::Task) => Kind::Task,
+        (Kind::Task | Kind::TaskOrNull, Kind::Task | Kind::TaskOrNull) => Kind::TaskOrNull,
+        (Kind::MapRef(m), Kind::MapRef(n)) if m == n => first,
+        _ => Kind::Unusable,
     }
 }
 

@@ -21,7 +21,7 @@ mod offsets;
 mod rules;
 mod states;
 
-pub use arithmetic::{binary_kind, map_kind, number_kind};
+pub use arithmetic::{binary_kind, extended_kind, map_kind, negated_kind, swapped_kind};
 pub use calls::called;
 pub use changes::{Change, Flow};
 pub use faults::Why;

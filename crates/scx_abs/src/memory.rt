@@ -14,8 +14,9 @@ use crate::kinds::{CELL_BYTES, Cell, Held, Kind, all_written, marked};
 use crate::offsets::{element_size, offset_for};
 use crate::states::AbsState;
 use scx_arithmetic::shifted;
-use scx_isa::{Access, Field, Operand, Register, STACK_SIZE, Size};
+use scx_isa::{Access, Field, Operand, Register, STACK_SIZE, Size, Width};
 use scx_maps::MapDefs;
+use scx_ranges::Numbers;
 
 /// The memory that an address means.
 #[derive(Clone, Copy)]
@@ -77,7 +78,7 @@ pub fn stored(
         (size_bytes size) ≡ Ok accessed.area) }
 {
     let base = usable(state.kind(base))?;
-    let kind = operand_kind(state, operand)?;
+    let kind = operand_kind(state, Width::Bits64, operand)?;
     let area = area_of(base, offset, size, defs)?;
     let change = stored_in(state, size, kind, area)?;
     Ok(Accessed { area, change })
@@ -100,7 +101,7 @@ pub fn area_of(base: Kind, offset: i16, size: Size, defs: &MapDefs) -> Result<Ar
             Ok(Area::InElement)
         }
         Kind::Task => field_area(Field::at(offset, size)),
-        Kind::Num | Kind::MapRef(_) => Err(Why::OutOfBounds),
+        Kind::Num(_) | Kind::MapRef(_) => Err(Why::OutOfBounds),
         Kind::ElemOrNull(_) | Kind::TaskOrNull => Err(Why::NullNotTested),
         Kind::Unusable => Err(Why::UnusableRegister),
     }
@@ -129,8 +130,8 @@ fn kind_in(state: &AbsState, access: Access, area: Area) -> Result<Kind, Why>
             let at = usize::from(at);
             loaded_kind(state.cell(at / CELL_BYTES), access, at % CELL_BYTES)
         }
-        Area::InElement => Ok(Kind::Num),
-        Area::InTask(_) if access.is_plain() => Ok(Kind::Num),
+        Area::InElement => Ok(Kind::Num(Numbers::loaded(access))),
+        Area::InTask(_) if access.is_plain() => Ok(Kind::Num(Numbers::loaded(access))),
         Area::InTask(_) => Err(Why::TaskField),
     }
 }
@@ -159,7 +160,7 @@ fn number_stored(state: &AbsState, kind: Kind) -> Result<Change, Why>
     ensures { went_on state.now result ≡ number_stored state.now kind }
 {
     match kind {
-        Kind::Num => Ok(Change::Nothing),
+        Kind::Num(_) => Ok(Change::Nothing),
         _ => Err(Why::PointerStore),
     }
 }
@@ -172,7 +173,7 @@ fn loaded_kind(cell: Cell, access: Access, byte: usize) -> Result<Kind, Why>
     match (cell, access) {
         (Cell::Bytes(set), _) => {
             if all_written(set, byte, usize::from(access.size().bytes())) {
-                Ok(Kind::Num)
+                Ok(Kind::Num(Numbers::loaded(access)))
             } else {
                 Err(Why::UnwrittenStack)
             }
@@ -189,7 +190,7 @@ fn stored_cell(cell: Cell, size: Size, byte: usize, kind: Kind) -> Result<Cell, 
     ensures { result ≡ stored_cell cell size byte kind }
 {
     match (kind, size) {
-        (Kind::Num, _) => Ok(Cell::Bytes(marked(cell.written(), byte, usize::from(size.bytes())))),
+        (Kind::Num(_), _) => Ok(Cell::Bytes(marked(cell.written(), byte, usize::from(size.bytes())))),
         (_, Size::DoubleWord) => pointer_cell(kind.held()),
         _ => Err(Why::PointerStore),
     }

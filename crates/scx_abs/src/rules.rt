@@ -2,9 +2,9 @@ ghost use Rattle.std.specs.Prelude.{◌≡◌};
 ghost use Rattle.scx_semantics.specs.Registers.{number};
 ghost use Rattle.scx_abs.specs.Changes.{accessed_on, ended_on, flowed, went_on};
 ghost use Rattle.scx_abs.specs.Checks.{sets};
-ghost use Rattle.scx_abs.specs.Rules.{rule};
+ghost use Rattle.scx_abs.specs.Rules.{end_rule, rule};
 
-use crate::arithmetic::{binary_kind, map_kind, number_kind};
+use crate::arithmetic::{binary_kind, extended_kind, map_kind, negated_kind, swapped_kind};
 use crate::calls::called;
 use crate::changes::{Change, Flow, next_of};
 use crate::faults::Why;
@@ -12,7 +12,9 @@ use crate::jumps::flow_of_jump;
 use crate::kinds::Kind;
 use crate::memory::{Accessed, loaded, stored};
 use crate::states::AbsState;
+use scx_arithmetic::wide_immediate;
 use scx_isa::{Insn, Register};
+use scx_ranges::Numbers;
 use scx_safety::Context;
 
 /// What flows on from an instruction.
@@ -45,16 +47,21 @@ fn flow_of(state: &AbsState, insn: &Insn, context: &Context) -> Result<Flow, Why
             let kind = binary_kind(state, width, operation, destination, operand, defs);
             on(state, assigned(state, destination, kind))
         }
-        Insn::Negate(_, destination) | Insn::ByteSwap(_, _, destination) => {
-            let kind = number_kind(state.kind(destination));
+        Insn::Negate(width, destination) => {
+            let kind = negated_kind(state.kind(destination), width);
             on(state, assigned(state, destination, kind))
         }
-        Insn::SignExtend(_, destination, source) => {
-            let kind = number_kind(state.kind(source));
+        Insn::SignExtend(extension, destination, source) => {
+            let kind = extended_kind(state.kind(source), extension);
             on(state, assigned(state, destination, kind))
         }
-        Insn::LoadImmediate(destination, ..) => {
-            on(state, assigned(state, destination, Ok(Kind::Num)))
+        Insn::ByteSwap(order, width, destination) => {
+            let kind = swapped_kind(state.kind(destination), order, width);
+            on(state, assigned(state, destination, kind))
+        }
+        Insn::LoadImmediate(destination, low_half, high_half) => {
+            let kind = Kind::Num(Numbers::single(wide_immediate(low_half, high_half)));
+            on(state, assigned(state, destination, Ok(kind)))
         }
         Insn::LoadMapReference(destination, map) => {
             on(state, assigned(state, destination, map_kind(map, defs)))
@@ -115,10 +122,21 @@ fn on_access(state: &AbsState, accessed: Result<Accessed, Why>) -> Result<Flow, 
 pub fn ended(state: &AbsState, context: &Context) -> Result<(), Why>
     ensures { ended_on result ≡ rule context.now.defs context.now.callback Insn.Exit state.now }
 {
-    if context.callback.answers() && state.kind(Register::R0) != Kind::Num {
-        return Err(Why::BadReturn);
+    if context.callback.answers() {
+        check_answer(state.kind(Register::R0))
+    } else {
+        Ok(())
     }
-    Ok(())
+}
+
+/// Checks that what a program answers is a number.
+fn check_answer(kind: Kind) -> Result<(), Why>
+    ensures { ended_on result ≡ end_rule kind }
+{
+    match kind {
+        Kind::Num(_) => Ok(()),
+        _ => Err(Why::BadReturn),
+    }
 }
 
 /// What flows on from the end, which is nothing.

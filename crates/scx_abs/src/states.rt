@@ -9,6 +9,7 @@ ghost use Rattle.scx_abs.specs.States.{CoversState, IsProper, argument_kinds, st
 
 use crate::kinds::{CELL_BYTES, Cell, Kind};
 use scx_isa::{Callback, REGISTERS, Register, STACK_SIZE};
+use scx_ranges::Numbers;
 
 /// How many cells of eight bytes the stack has.
 pub const CELLS: usize = 64;
@@ -48,7 +49,7 @@ impl AbsState {
         requires second { IsBlankBelow low other.now }
         ensures { self.new ≡ other.now }
     {
-        self.registers = other.registers;
+        copy_registers(&mut self.registers, &other.registers);
         copy_cells(&mut self.cells, &other.cells, low);
     }
 
@@ -72,12 +73,14 @@ fn argument_kinds(callback: Callback) -> (Kind, Kind, Kind)
     ensures second { result.1 ≡ (argument_kinds callback).second }
     ensures third { result.2 ≡ (argument_kinds callback).third }
 {
+    let number = Kind::Num(Numbers::all());
+    let other = number;
     match callback {
         Callback::Plain | Callback::Init => (Kind::Unusable, Kind::Unusable, Kind::Unusable),
         Callback::Enable | Callback::Running => (Kind::Task, Kind::Unusable, Kind::Unusable),
-        Callback::SelectCpu => (Kind::Task, Kind::Num, Kind::Num),
-        Callback::Enqueue | Callback::Stopping => (Kind::Task, Kind::Num, Kind::Unusable),
-        Callback::Dispatch => (Kind::Num, Kind::TaskOrNull, Kind::Unusable),
+        Callback::SelectCpu => (Kind::Task, number, other),
+        Callback::Enqueue | Callback::Stopping => (Kind::Task, number, Kind::Unusable),
+        Callback::Dispatch => (number, Kind::TaskOrNull, Kind::Unusable),
     }
 }
 
@@ -110,6 +113,7 @@ pub fn join(first: &AbsState, second: &AbsState) -> AbsState
 
 /// Joins the other's kind of a register in. Most registers have none, or the same in both.
 #[inline(always)]
+#[tactic(auto, using(crate::proofs::Joins::join_itself))]
 fn join_register(registers: &mut [Kind; REGISTERS], others: &[Kind; REGISTERS], register: usize)
     requires { register < REGISTERS }
     ensures { registers.new
@@ -144,6 +148,13 @@ fn joined_cell(first: &[Cell; CELLS], second: &[Cell; CELLS], cell: usize) -> Ce
         (slice_index_or second.now cell (Bytes [])) }
 {
     first[cell].join(second[cell])
+}
+
+/// Copies others.
+fn copy_registers(registers: &mut [Kind; REGISTERS], others: &[Kind; REGISTERS])
+    ensures { registers.new ≡ others.now }
+{
+    registers.copy_from_slice(others);
 }
 
 /// Copies others, from that one on, below which nothing is known in both.

@@ -18,7 +18,7 @@ pub returns-clause-proper : goal.returns-clause-proper
 returns-clause-proper c = λ first second.
     let joined : AbsState = record { registers = c.join_registers.new.registers; cells = c.join_cells.new.cells } in
     let whole : IsWhole joined = record { registers = c.join_registers.ensures.long; cells = c.join_cells.ensures.long } in
-    join_proper joined c.args.self.now c.args.other.now whole first second c.join_cells.ensures.each
+    join_proper joined c.args.self.now c.args.other.now whole first second c.join_registers.ensures.each c.join_cells.ensures.each
 
 pub returns-clause-blank : goal.returns-clause-blank
 returns-clause-blank c = record {
