@@ -1,10 +1,9 @@
 -- The join of two kinds, of two cells, and of two states is the least that covers both.
-use Rattle.std.proofs.Common.{◌≡◌, ℕ, ◌<◌, ◌≤◌, ◌⊎◌, inl, inr, [], arith, Bool, true, false, ◌&&◌, nat_eq, List, Option, Some, None, refl, sym, ap, ◌∙◌}
+use Rattle.std.proofs.Common.{◌≡◌, ℕ, ◌<◌, ◌≤◌, ◌⊎◌, inl, inr, [], arith, Bool, true, false, ◌&&◌, nat_eq, List, set, slice_index_or, Option, Some, None, refl, sym, ap, subst, ◌∙◌}
 use Rattle.std.proofs.lemmas.Bool.{eqb-true, eq-eqb, and_parts, and_from, both_ways, cases_lt}
-use Rattle.std.proofs.lemmas.List.{get_or_past}
+use Rattle.std.proofs.lemmas.List.{get_or_past, set-get_or}
 use Rattle.scx_ranges.specs.declared.ranges.Range.{Range}
 use Rattle.scx_ranges.specs.Ranges.{CoversRange, join_ranges}
-use Rattle.scx_ranges.proofs.Order.{join_same}
 use Rattle.scx_abs.specs.declared.kinds.Kind.{Kind}
 use Rattle.scx_abs.specs.declared.kinds.Kind.TheVariants.{Unusable, Num, Stack, Elem, ElemOrNull, Task, TaskOrNull, MapRef}
 use Rattle.scx_abs.specs.declared.kinds.Held.{Held}
@@ -47,16 +46,14 @@ two_tests m n o p e =
     let parts = and_parts (nat_eq m n) (nat_eq o p) e in
     (eqb-true m n parts.0, eqb-true o p parts.1)
 
--- a join of a kind with itself
-pub join_itself : (k : Kind) → join_kind k k ≡ k
-join_itself Unusable = refl
-join_itself (Num r) = ap Num (join_same r)
-join_itself (Stack o) = rw (eq-eqb o o refl) refl
-join_itself (Elem m o) = rw (eq-eqb m m refl, eq-eqb o o refl) refl
-join_itself (ElemOrNull m) = rw (eq-eqb m m refl) refl
-join_itself Task = refl
-join_itself TaskOrNull = refl
-join_itself (MapRef m) = rw (eq-eqb m m refl) refl
+-- a register of which nothing is known keeps its kind; d is the default with which it is read
+pub joined_nothing : (xs ys : List Kind) (r : ℕ) (d : Kind) → d ≡ slice_index_or xs r d → d ≡ Unusable
+    → xs ≡ set xs r (join_kind (slice_index_or xs r Unusable) (slice_index_or ys r Unusable))
+joined_nothing xs ys r d here none =
+    let nothing : slice_index_or xs r Unusable ≡ Unusable = sym (subst (λ k. k ≡ slice_index_or xs r k) none here) in
+    let same : join_kind (slice_index_or xs r Unusable) (slice_index_or ys r Unusable) ≡ slice_index_or xs r Unusable =
+    ap (λ k. join_kind k (slice_index_or ys r Unusable)) nothing ∙ sym nothing in
+    sym (ap (set xs r) same ∙ set-get_or xs r Unusable)
 
 -- a join of kinds covers the first
 pub kind_covers_first : (j k : Kind) → CoversKind (join_kind j k) j

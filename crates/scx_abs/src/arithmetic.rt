@@ -9,9 +9,7 @@ use crate::kinds::Kind;
 use crate::offsets::{element_size, offset_within};
 use crate::states::AbsState;
 use scx_arithmetic::{immediate, pointer_step, shifted};
-use scx_isa::{
-    ByteOrder, Extension, Operand, Operation, Register, STACK_SIZE, SwapWidth, Width,
-};
+use scx_isa::{ByteOrder, Extension, Operand, Operation, Register, STACK_SIZE, SwapWidth, Width};
 use scx_maps::MapDefs;
 use scx_ranges::Numbers;
 

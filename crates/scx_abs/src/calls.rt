@@ -51,7 +51,8 @@ fn check_arguments(
     let Some(parameter) = helper.parameter(argument) else {
         return Ok(());
     };
-    check_argument(state, parameter, state.registers[argument + 1], defs)?;
+    let kind = state.kind_of(argument + 1);
+    check_argument(state, parameter, kind, defs)?;
     check_arguments(state, helper, argument + 1, defs)
 }
 

@@ -1,6 +1,9 @@
-ghost use Rattle.std.specs.Prelude.{◌≡◌, Some, option_map};
+ghost use Rattle.std.specs.Prelude.{◌≡◌, Some};
 ghost use Rattle.scx_semantics.specs.Registers.{number};
-ghost use Rattle.scx_abs.specs.Changes.{changed, next_of, flowed};
+ghost use Rattle.scx_ranges.specs.Ranges.{single};
+ghost use Rattle.scx_abs.specs.declared.changes.Change.TheVariants as Change;
+ghost use Rattle.scx_abs.specs.declared.kinds.Kind.TheVariants.{Elem, Num, Task};
+ghost use Rattle.scx_abs.specs.Changes.{next_of, flowed};
 ghost use Rattle.scx_abs.specs.Checks.{flows};
 ghost use Rattle.scx_abs.specs.Rules.{null_test, if_null, if_not_null, tested, numbers_compared, compared, jump_rule};
 
@@ -80,59 +83,56 @@ fn numbers_compared(state: &AbsState, other: Kind) -> Result<Flow, Why>
 fn tested(state: &AbsState, register: Register, kind: Kind, test: Option<bool>) -> Result<Flow, Why>
     ensures { flowed state.now result ≡ tested state.now (number register) kind test }
 {
-    let null = if_null(state, register, kind);
-    let pointer = if_not_null(state, register, kind);
     match test {
-        Some(true) => Ok(jump_at_null(state, pointer, null)),
-        Some(false) => Ok(go_on_at_null(state, pointer, null)),
+        Some(true) => Ok(jump_at_null(state, register, kind)),
+        Some(false) => Ok(go_on_at_null(state, register, kind)),
         None => Err(Why::PointerCompare),
     }
 }
 
-/// What flows on where the jump is taken at 0.
-fn jump_at_null(state: &AbsState, pointer: Change, null: Option<Change>) -> Flow
+/// What flows on from a test that jumps at 0, which a pointer that isn't null never is.
+fn jump_at_null(state: &AbsState, register: Register, kind: Kind) -> Flow
     ensures { next_of state.now result
-        ≡ flows (Some (changed state.now pointer)) (option_map (changed state.now) null) }
-{
-    match null {
-        Some(null) => Flow::Both(pointer, null),
-        None => Flow::On(pointer),
-    }
-}
-
-/// What flows on where it isn't.
-fn go_on_at_null(state: &AbsState, pointer: Change, null: Option<Change>) -> Flow
-    ensures { next_of state.now result
-        ≡ flows (option_map (changed state.now) null) (Some (changed state.now pointer)) }
-{
-    match null {
-        Some(null) => Flow::Both(null, pointer),
-        None => Flow::Jump(pointer),
-    }
-}
-
-/// What changes where a register of that kind was found to be 0, which a pointer that isn't null never
-/// is.
-#[inline(always)]
-fn if_null(state: &AbsState, register: Register, kind: Kind) -> Option<Change>
-    ensures { option_map (changed state.now) result ≡ if_null state.now (number register) kind }
+        ≡ flows (Some (if_not_null state.now (number register) kind))
+        (if_null state.now (number register) kind) }
 {
     match kind {
-        Kind::ElemOrNull(_) | Kind::TaskOrNull => {
-            Some(Change::Register(register, Kind::Num(Numbers::single(0))))
-        }
-        _ => None,
+        Kind::ElemOrNull(map) => Flow::Both(element(register, map), null(register)),
+        Kind::TaskOrNull => Flow::Both(task(register), null(register)),
+        _ => Flow::On(Change::Nothing),
     }
 }
 
-/// What changes where it was found not to be.
-#[inline(always)]
-fn if_not_null(state: &AbsState, register: Register, kind: Kind) -> Change
-    ensures { changed state.now result ≡ if_not_null state.now (number register) kind }
+/// What flows on from one that goes on at 0.
+fn go_on_at_null(state: &AbsState, register: Register, kind: Kind) -> Flow
+    ensures { next_of state.now result
+        ≡ flows (if_null state.now (number register) kind)
+        (Some (if_not_null state.now (number register) kind)) }
 {
     match kind {
-        Kind::ElemOrNull(map) => Change::Register(register, Kind::Elem(map, 0)),
-        Kind::TaskOrNull => Change::Register(register, Kind::Task),
-        _ => Change::Nothing,
+        Kind::ElemOrNull(map) => Flow::Both(null(register), element(register, map)),
+        Kind::TaskOrNull => Flow::Both(null(register), task(register)),
+        _ => Flow::Jump(Change::Nothing),
     }
+}
+
+/// The register was found to be 0.
+fn null(register: Register) -> Change
+    ensures { result ≡ Change.Register register (Num (single 0)) }
+{
+    Change::Register(register, Kind::Num(Numbers::single(0)))
+}
+
+/// It was found to point to an element.
+fn element(register: Register, map: u8) -> Change
+    ensures { result ≡ Change.Register register (Elem map 0) }
+{
+    Change::Register(register, Kind::Elem(map, 0))
+}
+
+/// It was found to point to a task.
+fn task(register: Register) -> Change
+    ensures { result ≡ Change.Register register Task }
+{
+    Change::Register(register, Kind::Task)
 }

@@ -190,7 +190,11 @@ fn stored_cell(cell: Cell, size: Size, byte: usize, kind: Kind) -> Result<Cell, 
     ensures { result ≡ stored_cell cell size byte kind }
 {
     match (kind, size) {
-        (Kind::Num(_), _) => Ok(Cell::Bytes(marked(cell.written(), byte, usize::from(size.bytes())))),
+        (Kind::Num(_), _) => Ok(Cell::Bytes(marked(
+            cell.written(),
+            byte,
+            usize::from(size.bytes()),
+        ))),
         (_, Size::DoubleWord) => pointer_cell(kind.held()),
         _ => Err(Why::PointerStore),
     }

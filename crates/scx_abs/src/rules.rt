@@ -32,8 +32,10 @@ pub struct Next {
 pub fn transfer(state: &AbsState, insn: &Insn, context: &Context) -> Result<Next, Why>
     ensures { result ≡ rule context.now.defs context.now.callback insn.now state.now }
 {
-    let flow = flow_of(state, insn, context)?;
-    Ok(next_of(state, &flow))
+    match flow_of(state, insn, context) {
+        Ok(flow) => Ok(next_of(state, &flow)),
+        Err(why) => Err(why),
+    }
 }
 
 /// The same as what changes of the state.

@@ -34,6 +34,14 @@ impl AbsState {
         self.registers[register.number() as usize]
     }
 
+    /// The kind of the register of that number.
+    pub(crate) fn kind_of(&self, register: usize) -> Kind
+        requires { register < REGISTERS }
+        ensures { result ≡ kind_at self.now register }
+    {
+        self.registers[register]
+    }
+
     /// The cell of that number.
     pub(crate) fn cell(&self, cell: usize) -> Cell
         requires { cell < CELLS }
@@ -111,9 +119,9 @@ pub fn join(first: &AbsState, second: &AbsState) -> AbsState
     joined
 }
 
-/// Joins the other's kind of a register in. Most registers have none, or the same in both.
+/// Joins the other's kind of a register in. Most registers have none.
 #[inline(always)]
-#[tactic(auto, using(crate::proofs::Joins::join_itself))]
+#[tactic(auto, using(crate::proofs::Joins::joined_nothing))]
 fn join_register(registers: &mut [Kind; REGISTERS], others: &[Kind; REGISTERS], register: usize)
     requires { register < REGISTERS }
     ensures { registers.new
@@ -121,15 +129,16 @@ fn join_register(registers: &mut [Kind; REGISTERS], others: &[Kind; REGISTERS], 
         (slice_index_or others.now register Unusable)) }
 {
     let kind = registers[register];
-    let other = others[register];
-    if kind != Kind::Unusable && kind != other {
-        registers[register] = kind.join(other);
+    match kind {
+        Kind::Unusable => (),
+        _ => registers[register] = kind.join(others[register]),
     }
 }
 
 /// Joins others in.
 fn join_registers(registers: &mut [Kind; REGISTERS], others: &[Kind; REGISTERS])
     ensures long { length registers.new ≡ REGISTERS }
+    ensures other_long { length others.now ≡ REGISTERS }
     ensures each { (r : ℕ) → r < REGISTERS
         → slice_index_or registers.new r Unusable
         ≡ join_kind (slice_index_or registers.old r Unusable)
