@@ -5,6 +5,7 @@ use Rattle.scx_semantics.specs.declared.instructions.Insn.TheVariants as insn
 use Rattle.scx_semantics.specs.declared.instructions.Operand.{Operand}
 use Rattle.scx_semantics.specs.declared.operations.Access.{Access}
 use Rattle.scx_semantics.specs.declared.operations.Size.{Size}
+use Rattle.scx_semantics.specs.declared.operations.Width.TheVariants.{Bits64}
 use Rattle.scx_semantics.specs.declared.registers.Register.{Register}
 use Rattle.scx_semantics.specs.declared.host_tables.Helper.{Helper}
 use Rattle.scx_semantics.specs.declared.host_tables.Helper.TheVariants.{MapLookupElem}
@@ -68,7 +69,7 @@ load_means maps n x d r k (OnStack at) (location.OnStack to) h = ap (λ i. load_
 load_means maps n x d r k (OnStack at) to h = absurd h
 load_means maps n x d r k InElement (location.InElement m i at) h = refl
 load_means maps n x d r k InElement to h = absurd h
-load_means maps n x d r k (InTask f) (location.InTask t g) h = ap (λ i. load_from x d r k (Ok (InTask i))) h
+load_means maps n x d r k (InTask f) (location.InTask t g) h = ap (λ i. load_from x d r k (Ok (InTask i))) h.0
 load_means maps n x d r k (InTask f) to h = absurd h
 
 store_means : (maps : Maps) (n : ℕ) (s : Size) (r : Register) (k : ℤ) (x : Operand) (area : Area) (to : Location) → Means maps n area to → store_to s r k x (Ok area) ≡ store_op s r k x to
@@ -76,7 +77,7 @@ store_means maps n s r k x (OnStack at) (location.OnStack to) h = ap (λ i. stor
 store_means maps n s r k x (OnStack at) to h = absurd h
 store_means maps n s r k x InElement (location.InElement m i at) h = refl
 store_means maps n s r k x InElement to h = absurd h
-store_means maps n s r k x (InTask f) (location.InTask t g) h = ap (λ i. store_to s r k x (Ok (InTask i))) h
+store_means maps n s r k x (InTask f) (location.InTask t g) h = ap (λ i. store_to s r k x (Ok (InTask i))) h.0
 store_means maps n s r k x (InTask f) to h = absurd h
 
 -- the memory of an access is that of the address
@@ -92,7 +93,7 @@ load_chosen shapes a m x d r k next h e =
     ap (load_from x d r k) area.1 ∙ load_means m.maps n x d r k area.0 _ (found shapes a m (number r) k n area.0 h area.1)
 
 store_passes : (shapes : List Shape) (a : AbsState) (s : Size) (r : Register) (k : ℤ) (x : Operand) (next : Next) → store_rule shapes a s r k x ≡ Ok next → (area : Area) × (area_of shapes (kind_at a (number r)) k (size_bytes s) ≡ Ok area)
-store_passes shapes a s r k x next e = by_operand (operand_kind a x) (kind_at a (number r)) refl e
+store_passes shapes a s r k x next e = by_operand (operand_kind a Bits64 x) (kind_at a (number r)) refl e
   where
     by_operand : (o : Result Kind Why) (base : Kind) → kind_at a (number r) ≡ base → (usable base >>= λ j. o >>= λ q. area_of shapes j k (size_bytes s) >>= λ area. stored_in a s q area) ≡ Ok next
         → (area : Area) × (area_of shapes base k (size_bytes s) ≡ Ok area)

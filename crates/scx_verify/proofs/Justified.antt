@@ -1,9 +1,12 @@
 -- Refusals are justified: every typing covers the forward states, so where one of these fails a check,
 -- so does the state of a typing there.
-use Rattle.std.proofs.Common.{◌≡◌, ℕ, zero, suc, ◌+◌, ◌<◌, ◌≤◌, inl, inr, Option, Some, None, Result, Ok, refl, sym, subst, arith}
+use Rattle.std.proofs.Common.{◌≡◌, false, ℕ, zero, suc, ◌+◌, ◌<◌, ◌≤◌, inl, inr, Option, Some, None, Result, Ok, refl, sym, subst, arith}
 use Rattle.scx_semantics.specs.declared.instructions.Insn.{Insn}
 use Rattle.scx_semantics.specs.Code.{Code, size}
 use Rattle.scx_semantics.specs.Steps.{target}
+use Rattle.scx_encoding.specs.Spelling.{IsInsn}
+use Rattle.scx_isa.specs.Spelling.{IsProgram}
+use Rattle.scx_isa.proofs.Codes.{occupant_fits}
 use Rattle.scx_safety.specs.declared.context.Context.{Context}
 use Rattle.scx_abs.specs.declared.rules.Next.{Next}
 use Rattle.scx_abs.specs.declared.faults.Why.{Why}
@@ -63,17 +66,17 @@ abbrev ok : Next → Result Next Why
 ok next = Ok next
 
 -- the rule at the slot, in the typing's state and in the forward state
-passes_here : (c : Context) (code : Code) (typed : States) (s : ℕ) (i : Insn) (a : AbsState) (here : IsCovered typed s a) (p : Passes c typed s i here.state) → IsProper a
+passes_here : (c : Context) (code : Code) (typed : States) (s : ℕ) (i : Insn) (a : AbsState) (here : IsCovered typed s a) (p : Passes c typed s i here.state) → IsInsn i → IsProper here.state → IsProper a
     → PassesToo CoversFlows (ok p.next) (rule c.defs c.callback i a)
-passes_here c code typed s i a here p proper =
-    subst (λ r. PassesToo CoversFlows r (rule c.defs c.callback i a)) p.passes (rules_monotone c.defs c.callback i here.state a proper here.covers)
+passes_here c code typed s i a here p fits more proper =
+    subst (λ r. PassesToo CoversFlows r (rule c.defs c.callback i a)) p.passes (rules_monotone c.defs c.callback i here.state a fits more proper here.covers)
 
-flows_covered : (c : Context) (code : Code) (states typed : States) (s t : ℕ) (x : AbsState) → IsTyping c code typed → (f : FlowsTo c code states s t x) → IsProper f.state → CoversSome (typed s) f.state
+flows_covered : (c : Context) (code : Code) (states typed : States) (s t : ℕ) (x : AbsState) → IsProgram code → IsTyping c code typed → (f : FlowsTo c code states s t x) → IsProper f.state → CoversSome (typed s) f.state
     → CoversSome (typed t) x
-flows_covered c code states typed s t x typing f proper h =
+flows_covered c code states typed s t x program typing f proper h =
     let here = covered_here typed s f.state h in
     let p : Passes c typed s f.insn here.state = typing.insns s f.insn here.state f.there here.here in
-    let both : CoversFlows p.next f.next = subst (λ r. PassesToo CoversFlows (ok p.next) r) f.passes (passes_here c code typed s f.insn f.state here p proper) in
+    let both : CoversFlows p.next f.next = subst (λ r. PassesToo CoversFlows (ok p.next) r) f.passes (passes_here c code typed s f.insn f.state here p (occupant_fits false code s program.insns f.insn f.there) (typing.proper s here.state here.here) proper) in
     sent_covered typed s t f.insn p.next f.next x p.covered both f.sent
 
 -- ---- typings cover the forward states
@@ -84,41 +87,41 @@ covers_least o None x P e h f = absurd (cc)
 covers_least None (Some y) x P e h f = f h.some.0 h.some.1
 covers_least (Some a) (Some y) x P e h f = let same : y ≡ x = cc in subst (λ z. CoversState a z) same (h.least a f)
 
-arrived_covered : (c : Context) (code : Code) (states typed : States) (slot t : ℕ) → AreForward c code states slot → IsTyping c code typed → t ≤ slot
+arrived_covered : (c : Context) (code : Code) (states typed : States) (slot t : ℕ) → IsProgram code → AreForward c code states slot → IsTyping c code typed → t ≤ slot
     → ((s : ℕ) (b : AbsState) → s < t → states s ≡ Some b → CoversSome (typed s) b) → (x : AbsState) → Arrives c code states t t x → CoversSome (typed t) x
-arrived_covered c code states typed slot t forward typing le before x (inl h) = rw (h.0, h.1) typing.start
-arrived_covered c code states typed slot t forward typing le before x (inr h) =
+arrived_covered c code states typed slot t program forward typing le before x (inl h) = rw (h.0, h.1) typing.start
+arrived_covered c code states typed slot t program forward typing le before x (inr h) =
     let f : FlowsTo c code states h.0 t x = h.2 in
-    flows_covered c code states typed h.0 t x typing f (kept_proper (states h.0) f.state (Arrives c code states h.0 h.0) f.here (forward h.0 (omega (arith, h.1, le))))
+    flows_covered c code states typed h.0 t x program typing f (kept_proper (states h.0) f.state (Arrives c code states h.0 h.0) f.here (forward h.0 (omega (arith, h.1, le))))
     (before h.0 f.state h.1 f.here)
 
-covered : (c : Context) (code : Code) (states typed : States) (slot : ℕ) → AreForward c code states slot → IsTyping c code typed → (n t : ℕ) (a : AbsState) → t < n → t ≤ slot → states t ≡ Some a
+covered : (c : Context) (code : Code) (states typed : States) (slot : ℕ) → IsProgram code → AreForward c code states slot → IsTyping c code typed → (n t : ℕ) (a : AbsState) → t < n → t ≤ slot → states t ≡ Some a
     → CoversSome (typed t) a
-covered c code states typed slot forward typing zero t a lt le e = absurd (omega (arith, lt))
-covered c code states typed slot forward typing (suc n) t a lt le e =
+covered c code states typed slot program forward typing zero t a lt le e = absurd (omega (arith, lt))
+covered c code states typed slot program forward typing (suc n) t a lt le e =
     covers_least (typed t) (states t) a (Arrives c code states t t) e (forward t le)
-    (arrived_covered c code states typed slot t forward typing le
-    (λ s b before here. covered c code states typed slot forward typing n s b (omega (arith, before, lt)) (omega (arith, before, le)) here))
+    (arrived_covered c code states typed slot t program forward typing le
+    (λ s b before here. covered c code states typed slot program forward typing n s b (omega (arith, before, lt)) (omega (arith, before, le)) here))
 
 -- the law of typings
 pub typings_cover : TypingsCoverForward
-typings_cover c code states typed slot forward typing t a le e = covered c code states typed slot forward typing (suc t) t a (omega arith) le e
+typings_cover c code states typed slot program forward typing t a le e = covered c code states typed slot program forward typing (suc t) t a (omega arith) le e
 
 -- ---- refusals
 
-no_typing : (c : Context) (code : Code) (why : Why) (slot : ℕ) → IsFirstRefusal c code why slot → IsTyped c code → ⊥
-no_typing c code why slot r typed =
-    let here = covered_here typed.states slot r.state (typings_cover c code r.states typed.states slot r.forward typed.typing slot r.state (omega arith) r.here) in
+no_typing : (c : Context) (code : Code) (why : Why) (slot : ℕ) → IsProgram code → IsFirstRefusal c code why slot → IsTyped c code → ⊥
+no_typing c code why slot program r typed =
+    let here = covered_here typed.states slot r.state (typings_cover c code r.states typed.states slot program r.forward typed.typing slot r.state (omega arith) r.here) in
     let p : Passes c typed.states slot r.insn here.state = typed.typing.insns slot r.insn here.state r.there here.here in
     let proper = kept_proper (r.states slot) r.state (Arrives c code r.states slot slot) r.here (r.forward slot (omega arith)) in
-    subst (λ s. PassesToo CoversFlows (ok p.next) s) r.fails (passes_here c code typed.states slot r.insn r.state here p proper)
+    subst (λ s. PassesToo CoversFlows (ok p.next) s) r.fails (passes_here c code typed.states slot r.insn r.state here p (occupant_fits false code slot program.insns r.insn r.there) (typed.typing.proper slot here.state here.here) proper)
 
 -- the law of refusals
 pub refusals_justified : RefusalsAreJustified
-refusals_justified c code (Flow fault) slot other r typed = flows_faultless code fault slot typed.flows r
-refusals_justified c code (Rule why) slot other r typed = no_typing c code why slot r.1 typed
-refusals_justified c code NoMemory slot other r typed = other refl
+refusals_justified c code (Flow fault) slot program other r typed = flows_faultless code fault slot typed.flows r
+refusals_justified c code (Rule why) slot program other r typed = no_typing c code why slot program r.1 typed
+refusals_justified c code NoMemory slot program other r typed = other refl
 
 -- the same of an error
-pub refusal_justified : (c : Context) (code : Code) (error : VerifyError) → IsRefusal c code error → IsJustified c code error
-refusal_justified c code error r other typed = refusals_justified c code error.fault error.slot other r typed
+pub refusal_justified : (c : Context) (code : Code) (error : VerifyError) → IsProgram code → IsRefusal c code error → IsJustified c code error
+refusal_justified c code error program r other typed = refusals_justified c code error.fault error.slot program other r typed

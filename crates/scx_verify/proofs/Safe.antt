@@ -19,7 +19,7 @@ use Rattle.scx_maps.specs.declared.shape.Shape.{Shape}
 use Rattle.scx_maps.specs.Contents.{HasShapes}
 use Rattle.scx_abs.specs.declared.states.AbsState.{AbsState}
 use Rattle.scx_abs.specs.declared.rules.Next.{Next}
-use Rattle.scx_abs.specs.States.{CoversSome, start_of}
+use Rattle.scx_abs.specs.States.{CoversSome, IsProper, start_of}
 use Rattle.scx_semantics.specs.Arguments.{FitsCallback}
 use Rattle.scx_abs.specs.Stands.{IsMember}
 use Rattle.scx_abs.specs.Rules.{rule}
@@ -93,9 +93,9 @@ effect_goes shapes states s i next (effect.Ask q go) c f h = absurd (cc)
 effect_goes shapes states s i next (effect.Ended n) c f h = absurd (cc)
 
 -- the instruction there passes its checks, and what it does flows on
-pub flows_in : (c : Context) (code : Code) (s : ℕ) (i : Insn) (a : AbsState) (m : Machine) (next : Next) → IsProgram code → at code s ≡ Some i → IsMember c.defs a m → rule c.defs c.callback i a ≡ Ok next
+pub flows_in : (c : Context) (code : Code) (s : ℕ) (i : Insn) (a : AbsState) (m : Machine) (next : Next) → IsProgram code → at code s ≡ Some i → IsProper a → IsMember c.defs a m → rule c.defs c.callback i a ≡ Ok next
     → FlowsIn c.defs next (act c.callback i m)
-flows_in c code s i a m next program there h e = rw e at (rules_sound c.defs c.callback i a m (occupant_fits false code s program.insns i there) h)
+flows_in c code s i a m next program there proper h e = rw e at (rules_sound c.defs c.callback i a m (occupant_fits false code s program.insns i there) proper h)
 
 -- a step leads to where the typing stands for it
 pub step_at : (c : Context) (code : Code) (states : States) (s t : ℕ) (m k : Machine) → IsProgram code → IsTyping c code states → IsAt c.defs states s m → LeadsTo any_answer (step c.callback code s m) tt t k tt → IsAt c.defs states t k
@@ -105,7 +105,7 @@ step_at c code states s t m k program typing here l = go (at code s) refl
     go None e = absurd (rw e at l)
     go (Some i) e =
         let passes = typing.insns s i here.state e here.here in
-        effect_at c.defs states s t i passes.next (act c.callback i m) k passes.covered (flows_in c code s i here.state m passes.next program e here.member passes.passes) (rw e at l)
+        effect_at c.defs states s t i passes.next (act c.callback i m) k passes.covered (flows_in c code s i here.state m passes.next program e (typing.proper s here.state here.here) here.member passes.passes) (rw e at l)
 
 steps_at : (c : Context) (code : Code) (states : States) (n s t : ℕ) (m k : Machine) → IsProgram code → IsTyping c code states → IsAt c.defs states s m → Leads any_answer c.callback code n s m tt t k tt → IsAt c.defs states t k
 steps_at c code states zero s t m k program typing here l = rw (l.0, l.1) here
@@ -118,7 +118,7 @@ goes_on c code states s m program typing here some stuck = go (at code s) refl
     go None e = let bad : false ≡ true = rw e at some in absurd (cc)
     go (Some i) e =
         let passes = typing.insns s i here.state e here.here in
-        effect_goes c.defs states s i passes.next (act c.callback i m) passes.covered (flows_in c code s i here.state m passes.next program e here.member passes.passes) (rw e at stuck)
+        effect_goes c.defs states s i passes.next (act c.callback i m) passes.covered (flows_in c code s i here.state m passes.next program e (typing.proper s here.state here.here) here.member passes.passes) (rw e at stuck)
 
 -- wherever a run stands
 reached : (c : Context) (code : Code) (program : IsProgram code) (typed : IsTyped c code) (a : Arguments) (maps : Maps) (n s : ℕ) (m : Machine) → HasShapes c.defs maps → FitsCallback c.callback a

@@ -1,13 +1,15 @@
 -- The pass, slot by slot: what is kept stays least, and in the end it is a typing.
-use Rattle.std.proofs.Common.{◌≡◌, ℕ, zero, suc, ◌+◌, ◌<◌, ◌≤◌, ◌⊎◌, inl, inr, List, length, set, replicate, slice_index_or, Option, Some, None, Result, Ok, Err, IfOk, refl, sym, ap, ◌∙◌, subst, arith}
+use Rattle.std.proofs.Common.{◌≡◌, false, ℕ, zero, suc, ◌+◌, ◌<◌, ◌≤◌, ◌⊎◌, inl, inr, List, length, set, replicate, slice_index_or, Option, Some, None, Result, Ok, Err, IfOk, refl, sym, ap, ◌∙◌, subst, arith}
 use Rattle.std.proofs.lemmas.Bool.{cases_eq}
 use Rattle.std.proofs.lemmas.List.{length-set, length-replicate, get_or-set_same, get_or-set_other}
 use Rattle.scx_semantics.specs.declared.instructions.Insn.{Insn}
 use Rattle.scx_safety.specs.declared.context.Context.{Context}
 use Rattle.scx_semantics.specs.Code.{Code, at, size}
 use Rattle.scx_semantics.specs.Steps.{target}
+use Rattle.scx_encoding.specs.Spelling.{IsInsn}
 use Rattle.scx_isa.specs.Flow.{Flows}
 use Rattle.scx_isa.specs.Spelling.{IsProgram}
+use Rattle.scx_isa.proofs.Codes.{occupant_fits}
 use Rattle.scx_isa.proofs.Counts.{at_within, size-positive}
 use Rattle.scx_abs.specs.declared.faults.Why.{Why}
 use Rattle.scx_abs.specs.declared.states.AbsState.{AbsState}
@@ -180,8 +182,8 @@ pub kept_proper : (o : Option AbsState) (a : AbsState) (P : AbsState → Type 0)
 kept_proper None a P e h = absurd (cc)
 kept_proper (Some x) a P e h = subst IsProper (same_state x a e) h.proper
 
-sent_proper : (c : Context) (i : Insn) (a : AbsState) (next : Next) → IsProper a → rule c.defs c.callback i a ≡ Ok next → FlowsProper next
-sent_proper c i a next p e = subst (λ (r : Result Next Why). IfOk r FlowsProper) e (rule_proper c.defs c.callback i a p)
+sent_proper : (c : Context) (i : Insn) (a : AbsState) (next : Next) → IsInsn i → IsProper a → rule c.defs c.callback i a ≡ Ok next → FlowsProper next
+sent_proper c i a next fits p e = subst (λ (r : Result Next Why). IfOk r FlowsProper) e (rule_proper c.defs c.callback i a fits p)
 
 -- a slot whose checks pass
 pub visited_more : (c : Context) (code : Code) (s : ℕ) (states between after : List (Option AbsState)) (i : Insn) (a : AbsState) (next : Next) (to : ℕ)
@@ -194,7 +196,7 @@ visited_more c code s states between after i a next to program flow h there here
     let positive = size-positive i in
     let long : length between ≡ length states = given_long states to next.jump between jump in
     let same : (v : ℕ) → v ≤ s → states_of after v ≡ states_of states v = λ v le. given_apart between (s + size i) next.on after on v (λ e. omega (arith, e, le, positive)) ∙ given_apart states to next.jump between jump v (λ e. omega (arith, e, le, forward)) in
-    let proper : FlowsProper next = sent_proper c i a next (kept_proper (states_of states s) a (Arrives c code (states_of states) s s) here (h.least s)) passes in
+    let proper : FlowsProper next = sent_proper c i a next (occupant_fits false code s program.insns i there) (kept_proper (states_of states s) a (Arrives c code (states_of states) s s) here (h.least s)) passes in
     let sends : Sends c code (states_of states) s i a next = record { there = there; here = here; passes = passes } in
     let first = given_least states to next.jump between (λ u b. Arrives c code (states_of states) s u b)
     (λ b e. omega (arith, jump_within c code s to i a b next program faultless there passes e is, h.long)) proper.1 h.least jump in
@@ -247,6 +249,7 @@ least_covers (Some x) P a h p = h.covers a p
 -- past the last slot the states are a typing
 pub visited_typing : (c : Context) (code : Code) (n : ℕ) (states : List (Option AbsState)) → Flows code → length code ≤ n → IsVisited c code n states → IsTyping c code (states_of states)
 visited_typing c code n states flow all h = record {
+  proper = λ s a here. kept_proper (states_of states s) a (Arrives c code (states_of states) n s) here (h.least s);
   start = least_covers (states_of states 0) (Arrives c code (states_of states) n 0) (start_of c.callback) (h.least 0) (inl (refl, refl));
   insns = λ s i a there here. passes s i a there here;
 }

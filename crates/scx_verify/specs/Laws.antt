@@ -43,14 +43,14 @@ RefusalsAgree =
 abbrev pub TypingsCoverForward : Type 0
 TypingsCoverForward =
     (c : Context) (code : Code) (states typed : States) (slot : ℕ)
-    → AreForward c code states slot → IsTyping c code typed
+    → IsProgram code → AreForward c code states slot → IsTyping c code typed
     → (t : ℕ) (a : AbsState) → t ≤ slot → states t ≡ Some a → CoversSome (typed t) a
 
 -- A program that is refused has no typing, unless memory ran out.
 abbrev pub RefusalsAreJustified : Type 0
 RefusalsAreJustified =
     (c : Context) (code : Code) (f : Fault) (s : ℕ)
-    → f ≢ NoMemory → IsReason c code f s → IsTyped c code → ⊥
+    → IsProgram code → f ≢ NoMemory → IsReason c code f s → IsTyped c code → ⊥
 
 -- Where the checks of an instruction pass, its operation is the one that every state calls for that the
 -- abstract state stands for.

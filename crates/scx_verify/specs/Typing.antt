@@ -1,5 +1,5 @@
--- Typings of a program: an abstract state, or none, for each slot, such that the first one covers the
--- state in which the callback begins, each instruction with a state passes all of its checks, and what
+-- Typings of a program: a proper abstract state, or none, for each slot, such that the first one covers
+-- the state in which the callback begins, each instruction with a state passes all of its checks, and what
 -- flows on from it is covered where it goes.
 use Rattle.std.specs.Prelude.{ℕ, ◌+◌, ◌≡◌, Option, Some, None, Ok}
 use Rattle.scx_semantics.specs.declared.instructions.Insn.{Insn}
@@ -9,7 +9,7 @@ use Rattle.scx_semantics.specs.Steps.{target}
 use Rattle.scx_isa.specs.Flow.{Flows}
 use Rattle.scx_abs.specs.declared.states.AbsState.{AbsState}
 use Rattle.scx_abs.specs.declared.rules.Next.{Next}
-use Rattle.scx_abs.specs.States.{CoversSome, start_of}
+use Rattle.scx_abs.specs.States.{CoversSome, IsProper, start_of}
 use Rattle.scx_abs.specs.Rules.{rule}
 
 abbrev pub States : Type 0
@@ -32,6 +32,7 @@ pub record Passes (c : Context) (states : States) (s : ℕ) (i : Insn) (a : AbsS
   pub covered : CoversNext states s i next
 
 pub record IsTyping (c : Context) (code : Code) (states : States) : Type 0 where
+  pub proper : (s : ℕ) (a : AbsState) → states s ≡ Some a → IsProper a
   pub start : CoversSome (states 0) (start_of c.callback)
   pub insns : (s : ℕ) (i : Insn) (a : AbsState) → at code s ≡ Some i → states s ≡ Some a → Passes c states s i a
 
