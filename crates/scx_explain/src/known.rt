@@ -1,7 +1,7 @@
 use crate::page::Page;
 use crate::words::{Brief, from_top};
 use scx_abs::{AbsState, Kind};
-use scx_explanations::{byte_kind, cell_of};
+use scx_explanations::{byte_kind, cell_of, is_pointer, plain};
 use scx_isa::{REGISTERS, STACK_SIZE};
 use scx_output::Out;
 use std::fmt::{self, Write};
@@ -45,7 +45,7 @@ impl<W: Out> Items<'_, '_, W> {
         let last = from_top(last);
         write!(self.page, "{stack}{first}..{last} ")?;
         match kind {
-            Kind::Num => self.page.write_str("written"),
+            Kind::Num(_) => self.page.write_str("written"),
             kind => {
                 let kind = Brief(kind);
                 write!(self.page, "{kind}")
@@ -87,7 +87,7 @@ fn write_registers<W: Out>(items: &mut Items<'_, '_, W>, state: &AbsState) -> fm
 /// The kind of the register of that number.
 fn kind_of(state: &AbsState, number: usize) -> Kind {
     match state.registers.get(number) {
-        Some(kind) => *kind,
+        Some(kind) => plain(*kind),
         None => Kind::Unusable,
     }
 }
@@ -111,8 +111,7 @@ fn write_stack<W: Out>(items: &mut Items<'_, '_, W>, state: &AbsState) -> fmt::R
 /// both are parts of the same pointer.
 fn goes_on(state: &AbsState, byte: u16, next: u16) -> bool {
     let kind = byte_kind(state, byte);
-    let is_pointer = kind != Kind::Unusable && kind != Kind::Num;
     next < STACK_SIZE
         && byte_kind(state, next) == kind
-        && (!is_pointer || cell_of(next) == cell_of(byte))
+        && (!is_pointer(kind) || cell_of(next) == cell_of(byte))
 }

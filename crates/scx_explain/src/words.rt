@@ -38,7 +38,7 @@ impl fmt::Display for Brief {
     fn fmt<W: fmt::Write>(&self, f: &mut fmt::Formatter<W>) -> fmt::Result {
         match self.0 {
             Kind::Unusable => f.write_str("unusable"),
-            Kind::Num => f.write_str("number"),
+            Kind::Num(_) => f.write_str("number"),
             Kind::Stack(STACK_SIZE) => f.write_str("frame"),
             Kind::Stack(byte) => {
                 let offset = from_top(byte);
@@ -58,7 +58,7 @@ impl fmt::Display for Spoken {
     fn fmt<W: fmt::Write>(&self, f: &mut fmt::Formatter<W>) -> fmt::Result {
         match self.0 {
             Kind::Unusable => f.write_str("nothing"),
-            Kind::Num => f.write_str("a number"),
+            Kind::Num(_) => f.write_str("a number"),
             Kind::Stack(_) => f.write_str("a pointer to the stack"),
             Kind::Elem(map, _) => write!(f, "a pointer to an element of map {map}"),
             Kind::ElemOrNull(map) => write!(f, "a pointer to an element of map {map}, or null"),

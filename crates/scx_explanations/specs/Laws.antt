@@ -3,6 +3,7 @@ use Rattle.std.specs.Prelude.{◌≡◌, ℕ, ◌+◌, length}
 use Rattle.scx_semantics.specs.Code.{Code}
 use Rattle.scx_safety.specs.declared.context.Context.{Context}
 use Rattle.scx_abs.specs.declared.faults.Why.{Why}
+use Rattle.scx_isa.specs.Spelling.{IsProgram}
 use Rattle.scx_verify.specs.declared.faults.Fault.TheVariants.{Flow, Rule}
 use Rattle.scx_isa.specs.declared.faults.FlowFault.{FlowFault}
 use Rattle.scx_verify.specs.Typing.{IsTyped}
@@ -14,7 +15,7 @@ use Rattle.scx_explanations.specs.Listings.{IsListing}
 abbrev pub ListingsEndAtRefusals : Type 0
 ListingsEndAtRefusals =
     (c : Context) (program : Code) (listing : Listing) (why : Why) (slot : ℕ)
-    → IsListing c program listing → IsReason c program (Rule why) slot → listing.pass.slots ≡ slot + 1
+    → IsProgram program → IsListing c program listing → IsReason c program (Rule why) slot → listing.pass.slots ≡ slot + 1
 
 -- Where the flow is refused, no slot is looked at.
 abbrev pub ListingsNeedFlow : Type 0
@@ -26,4 +27,4 @@ ListingsNeedFlow =
 abbrev pub ListingsAreWhole : Type 0
 ListingsAreWhole =
     (c : Context) (program : Code) (listing : Listing)
-    → IsListing c program listing → IsTyped c program → listing.pass.slots ≡ length program
+    → IsProgram program → IsListing c program listing → IsTyped c program → listing.pass.slots ≡ length program

@@ -1,4 +1,4 @@
-use crate::listing::{Arrival, Listing, byte_kind, cell_of};
+use crate::listing::{Arrival, Listing, byte_kind, cell_of, is_pointer, plain};
 use scx_abs::{AbsState, Area, Kind, area_of};
 use scx_isa::{Access, Insn, Operand, Operation, Register, Size, Width};
 
@@ -61,10 +61,10 @@ pub(crate) enum Source {
     Begins(Origin),
 }
 
-/// What is known of the subject.
+/// What kind of value the subject is.
 pub(crate) fn known_of(state: &AbsState, subject: Subject) -> Kind {
     match subject {
-        Subject::Register(register) => state.kind(register),
+        Subject::Register(register) => plain(state.kind(register)),
         Subject::Byte(byte) => byte_kind(state, byte),
     }
 }
@@ -122,7 +122,7 @@ fn source_of_load(listing: &Listing, base: Kind, offset: i16, loaded: Kind, from
         loaded,
         area_of(base, offset, Size::DoubleWord, &listing.context().defs),
     ) {
-        (Kind::Num, _) => Source::Begins(Origin::Written(from)),
+        (Kind::Num(_), _) => Source::Begins(Origin::Written(from)),
         (_, Ok(Area::OnStack(at))) => Source::Copied(Subject::Byte(at)),
         _ => Source::Begins(Origin::Written(from)),
     }
@@ -140,8 +140,8 @@ fn source_of_call(before: Kind, number: i32, slot: usize, register: Register) ->
 /// A test for 0 makes a number of a pointer where it is 0.
 fn source_of_test(before: Kind, after: Kind, slot: usize) -> Source {
     match (before, after) {
-        (Kind::Num, _) => Source::Same,
-        (_, Kind::Num) => Source::Begins(Origin::Null(slot)),
+        (Kind::Num(_), _) => Source::Same,
+        (_, Kind::Num(_)) => Source::Begins(Origin::Null(slot)),
         _ => Source::Same,
     }
 }
@@ -162,7 +162,7 @@ fn source_of_byte(
     let area = area_of(before.kind(base), offset, size, &listing.context().defs);
     match (area, operand) {
         (Ok(Area::OnStack(at)), Operand::Register(source))
-            if cell_of(at) == cell_of(byte) && after != Kind::Num && after != Kind::Unusable => {
+            if cell_of(at) == cell_of(byte) && is_pointer(after) => {
             Source::Copied(Subject::Register(source))
         }
         _ if byte_kind(before, byte) != after => Source::Begins(Origin::Written(arrival.from)),

@@ -405,7 +405,7 @@ fn is_taken(parameter: Parameter, kind: Kind) -> bool {
             Kind::Stack(_) | Kind::Elem(_, _) | Kind::ElemOrNull(_)
         ),
         Parameter::Task => matches!(kind, Kind::Task | Kind::TaskOrNull),
-        Parameter::Number => matches!(kind, Kind::Num),
+        Parameter::Number => matches!(kind, Kind::Num(_)),
     }
 }
 
@@ -443,7 +443,7 @@ fn pointer_in(state: &AbsState, insn: Insn) -> Option<Register> {
 }
 
 fn first_pointer(state: &AbsState, register: Register, operand: Operand) -> Option<Register> {
-    if state.kind(register) == Kind::Num {
+    if matches!(state.kind(register), Kind::Num(_)) {
         register_in(operand)
     } else {
         Some(register)
@@ -503,7 +503,7 @@ fn unwritten_in(state: &AbsState, insn: Insn, defs: &MapDefs) -> Option<BadAcces
     for step in 0..reach.count {
         let byte = reach.first.saturating_add(i64::from(step));
         match byte_kind(state, byte_of(byte)?) {
-            Kind::Num => (),
+            Kind::Num(_) => (),
             Kind::Unusable => return Some(BadAccess::Unwritten { reach, byte }),
             kind => return Some(BadAccess::PartOfPointer { reach, kind }),
         }
