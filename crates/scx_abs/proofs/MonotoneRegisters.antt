@@ -1,6 +1,7 @@
 -- Registers and cells of a state and of one that it covers: what a check reads there, and the states
 -- after both are written.
-use Rattle.std.proofs.Common.{ℕ, ◌<◌, true, false, nat_eq, [], Result, Ok, Err, if◌then◌else◌, arith}
+use Rattle.std.proofs.Common.{◌≡◌, ℕ, ◌<◌, ◌⊎◌, inl, inr, true, false, nat_eq, [], length, Result, Ok, Err, if◌then◌else◌, arith}
+use Rattle.std.proofs.lemmas.Bool.{cases_eq}
 use Rattle.std.proofs.lemmas.List.{get_or-set_same, get_or-set_other}
 use Rattle.scx_semantics.specs.declared.instructions.Operand.{Operand}
 use Rattle.scx_semantics.specs.declared.instructions.Operand.TheVariants as operand
@@ -65,6 +66,17 @@ refined_covers b a r j h g = record {
   registers = set_each (λ i l. CoversKind l (kind_at a i)) b.registers Unusable r j (λ i. tt) g (λ i other. h.registers i);
   cells = h.cells;
 }
+
+-- where it is written in the second alone
+pub narrowed_covers : (b a : AbsState) (d : Register) (k : Kind) → IsProper a → CoversState b a → CoversKind (kind_at b (number d)) k → CoversState b (with_kind a (number d) k)
+narrowed_covers b a d k p h g = record { registers = λ i. go i (cases_eq i (number d)); cells = h.cells }
+  where
+    inside : number d < length a.registers
+    inside = omega (arith, number_lt d, p.whole.registers)
+
+    go : (i : ℕ) → (i ≡ number d) ⊎ (i ≡ number d → ⊥) → CoversKind (kind_at b i) (kind_at (with_kind a (number d) k) i)
+    go i (inl e) = rw (e, get_or-set_same a.registers (number d) k Unusable inside) g
+    go i (inr other) = rw (get_or-set_other a.registers (number d) i k Unusable other) (h.registers i)
 
 nothing_known : (x : Cell) → CoversCell (Bytes []) x
 nothing_known (Bytes a) = λ j lt w. absurd (cc)

@@ -1,6 +1,6 @@
 -- Proper states: a callback begins in one, rules and joins keep them proper, and two that cover each
 -- other are one.
-use Rattle.std.proofs.Common.{◌≡◌, ℕ, ◌/◌, ◌%◌, ◌<◌, ◌≤◌, ◌⊎◌, inl, inr, ℤ, pos, nat_lt, set, replicate, Bool, true, false, ◌&&◌, nat_eq, List, [], length, All, Option, Some, None, Result, Ok, Err, IfSome, IfOk, if◌then◌else◌, refl, sym, ap, ◌∙◌, subst, arith}
+use Rattle.std.proofs.Common.{◌≡◌, ℕ, ◌/◌, ◌%◌, ◌<◌, ◌≤◌, ◌⊎◌, inl, inr, ℤ, pos, nat_lt, set, replicate, Bool, true, false, ◌&&◌, nat_eq, List, [], length, All, Option, Some, None, option_map, Result, Ok, Err, IfSome, IfOk, if◌then◌else◌, refl, sym, ap, ◌∙◌, subst, arith}
 use Rattle.std.proofs.lemmas.Bool.{cases_lt}
 use Rattle.std.proofs.lemmas.List.{ext_get_or, length-set, get_or_past}
 use Rattle.std.proofs.lemmas.List.Elements.{All-get_or, All-from_get_or, All-replicate, All-set}
@@ -11,6 +11,7 @@ use Rattle.scx_semantics.specs.declared.operations.Width.{Width}
 use Rattle.scx_semantics.specs.declared.operations.Width.TheVariants.{Bits32, Bits64}
 use Rattle.scx_semantics.specs.declared.operations.Operation.{Operation}
 use Rattle.scx_semantics.specs.declared.operations.Operation.TheVariants.{Move}
+use Rattle.scx_semantics.specs.declared.operations.Comparison.{Comparison}
 use Rattle.scx_semantics.specs.declared.operations.Access.{Access}
 use Rattle.scx_semantics.specs.declared.operations.Access.TheVariants as access
 use Rattle.scx_semantics.specs.declared.registers.Register.{Register}
@@ -29,7 +30,10 @@ use Rattle.scx_encoding.specs.Spelling.{IsOperand}
 use Rattle.scx_semantics.specs.HostTables.{is_writable, helper_at, answers, parameters, is_allowed}
 use Rattle.scx_maps.specs.declared.shape.Shape.{Shape}
 use Rattle.scx_ranges.specs.declared.ranges.Range.{Range}
-use Rattle.scx_ranges.specs.Ranges.{IsRange, CoversRange, all, single}
+use Rattle.scx_ranges.specs.Ranges.{IsRange, CoversRange, all, single, is_single}
+use Rattle.scx_ranges.specs.Cuts.{cut}
+use Rattle.scx_ranges.specs.Laws.{IsCutRange}
+use Rattle.scx_ranges.proofs.KeptByCuts.{cuts_are_ranges}
 use Rattle.scx_ranges.specs.Results.{negated_range, extended_range, swapped_range, loaded}
 use Rattle.scx_ranges.proofs.Multiples.{single_range, all_range}
 use Rattle.scx_ranges.proofs.BuiltRanges.{joined_range, computed_range, copied_range, negative_range, extension_range, swap_range, load_range}
@@ -51,7 +55,7 @@ use Rattle.scx_abs.specs.States.{kind_at, cell_at, with_kind, with_cell, IsWhole
 use Rattle.scx_semantics.specs.Results.{◌>>=◌}
 use Rattle.scx_abs.specs.Checks.{flows, goes_on, usable, operand_kind, sets, element_size, offset_within}
 use Rattle.scx_abs.specs.Calls.{arguments_check, after_call, element_of, answer_kind, call_allowed, call_rule}
-use Rattle.scx_abs.specs.Rules.{moved_by, moved_kind, computed_kind, arithmetic_kind, combined_kind, binary_kind, number_kind, map_kind, area_of, loaded_kind, kind_in, load_kind, pointer_cell, stored_cell, number_stored, stored_in, null_test, if_null, if_not_null, tested, numbers_compared, compared, end_rule}
+use Rattle.scx_abs.specs.Rules.{moved_by, moved_kind, computed_kind, arithmetic_kind, combined_kind, binary_kind, number_kind, map_kind, area_of, loaded_kind, kind_in, load_kind, pointer_cell, stored_cell, number_stored, stored_in, null_test, if_null, if_not_null, tested, side, sides, numbers_compared, compared, end_rule}
 use Rattle.scx_abs.specs.Laws.{CoversBothWays, StartIsProper, FlowsProper, RulesKeepProper}
 
 -- ---- the start
@@ -254,6 +258,10 @@ then_proper : {A : Type 0} (r : Result A Why) (f : A → Result Next Why) → ((
 then_proper (Err why) f h = tt
 then_proper (Ok x) f h = h x
 
+then_kept : (r : Result Kind Why) (f : Kind → Result Next Why) → IsKind r → ((k : Kind) → IsProperKind k → FlowsIn (f k)) → FlowsIn (r >>= f)
+then_kept (Err why) f p h = tt
+then_kept (Ok k) f p h = h k p
+
 sets_proper : (a : AbsState) (r : ℕ) (k : Result Kind Why) → IsProper a → IsKind k → FlowsIn (sets a r k)
 sets_proper a r (Err why) p q = elim (nat_eq r 10) as (λ t. FlowsIn (if t then Err WritesFrame else Err why)) [ true ↦ tt | false ↦ tt ]
 sets_proper a r (Ok k) p q = elim (nat_eq r 10) as (λ t. FlowsIn (if t then Err WritesFrame else goes_on (with_kind a r k))) [ true ↦ tt | false ↦ (kind_proper a r k p q, tt) ]
@@ -292,13 +300,26 @@ tested_proper a r k None p = tt
 tested_proper a r k (Some true) p = (pointer_proper a r k p, null_proper a r k p)
 tested_proper a r k (Some false) p = (null_proper a r k p, pointer_proper a r k p)
 
-numbers_compared_proper : (a : AbsState) (k : Kind) → IsProper a → FlowsIn (numbers_compared a k)
-numbers_compared_proper a (Num s) p = (p, p)
-numbers_compared_proper a k p = tt
+side_proper : (a : AbsState) (r : ℕ) (o : Comparison) (b : Bool) (c : ℕ) (s : Range) → IsProper a → IsRange s → IfSome (side a r o b c s) IsProper
+side_proper a r o b c s p q = go (cut o b c s) (cuts_are_ranges o b c s q)
+  where
+    go : (u : Option Range) → IsCutRange u → IfSome (option_map (λ t. with_kind a r (Num t)) u) IsProper
+    go None h = tt
+    go (Some t) h = kind_proper a r (Num t) p h
 
-compared_proper : (a : AbsState) (r : ℕ) (test : Option Bool) (j k : Kind) → IsProper a → FlowsIn (compared a r test j k)
-compared_proper a r test (Num s) k p = numbers_compared_proper a k p
-compared_proper a r test j k p = tested_proper a r j test p
+sides_proper : (a : AbsState) (r : ℕ) (w : Width) (o : Comparison) (s t : Range) → IsProper a → IsRange s → FlowsProper (sides a r w o s t)
+sides_proper a r Bits64 o s t p q =
+    elim (is_single t) as (λ b. FlowsProper (if b then flows (side a r o false t.low s) (side a r o true t.low s) else flows (Some a) (Some a)))
+    [ true ↦ (side_proper a r o false t.low s p q, side_proper a r o true t.low s p q) | false ↦ (p, p) ]
+sides_proper a r Bits32 o s t p q = (p, p)
+
+numbers_compared_proper : (a : AbsState) (r : ℕ) (w : Width) (o : Comparison) (s : Range) (k : Kind) → IsProper a → IsRange s → FlowsIn (numbers_compared a r w o s k)
+numbers_compared_proper a r w o s (Num t) p q = sides_proper a r w o s t p q
+numbers_compared_proper a r w o s k p q = tt
+
+compared_proper : (a : AbsState) (r : ℕ) (w : Width) (o : Comparison) (test : Option Bool) (j k : Kind) → IsProper a → IsProperKind j → FlowsIn (compared a r w o test j k)
+compared_proper a r w o test (Num s) k p q = numbers_compared_proper a r w o s k p q
+compared_proper a r w o test j k p q = tested_proper a r j test p
 
 after_proper : (a : AbsState) (k : Kind) → IsProper a → IsProperKind k → IsProper (after_call a k)
 after_proper a k p q =
@@ -350,8 +371,8 @@ rule_proper shapes c (insn.Store s r offset x) a fits p =
     (λ base. then_proper (operand_kind a Bits64 x) (λ k. area_of shapes base offset (size_bytes s) >>= λ t. stored_in a s k t)
     (λ k. then_proper (area_of shapes base offset (size_bytes s)) (λ t. stored_in a s k t) (λ t. stored_proper a s k t p)))
 rule_proper shapes c (insn.JumpIf w k r x offset) a fits p =
-    then_proper (usable (kind_at a (number r))) (λ j. operand_kind a w x >>= λ l. compared a (number r) (null_test w k x) j l)
-    (λ j. then_proper (operand_kind a w x) (λ l. compared a (number r) (null_test w k x) j l) (λ l. compared_proper a (number r) (null_test w k x) j l p))
+    then_kept (usable (kind_at a (number r))) (λ j. operand_kind a w x >>= λ l. compared a (number r) w k (null_test w k x) j l) (usable_kind (kind_at a (number r)) (kind_is_proper a (number r) p))
+    (λ j q. then_proper (operand_kind a w x) (λ l. compared a (number r) w k (null_test w k x) j l) (λ l. compared_proper a (number r) w k (null_test w k x) j l p q))
 rule_proper shapes c (insn.Goto offset) a fits p = (tt, p)
 rule_proper shapes c (insn.GotoLong offset) a fits p = (tt, p)
 rule_proper shapes c (insn.Call k) a fits p = call_proper shapes c (helper_at k) a p

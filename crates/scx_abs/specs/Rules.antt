@@ -2,7 +2,7 @@
 -- flows on from it. A check that fails gives its refusal, and the checks behind it aren't looked at. A
 -- register that is written is looked at first, then the registers that are read, the destination before
 -- the source, then the address, and then the value that is stored.
-use Rattle.std.specs.Prelude.{ℕ, ◌/◌, ◌%◌, ℤ, pos, unsigned_abs, Bool, true, false, nat_eq, nat_lt, List, length, Option, Some, None, Result, Ok, Err, if◌then◌else◌}
+use Rattle.std.specs.Prelude.{ℕ, ◌/◌, ◌%◌, ℤ, pos, unsigned_abs, Bool, true, false, nat_eq, nat_lt, List, length, Option, Some, None, option_map, Result, Ok, Err, if◌then◌else◌}
 use Rattle.scx_semantics.specs.declared.instructions.Insn.{Insn}
 use Rattle.scx_semantics.specs.declared.instructions.Insn.TheVariants as insn
 use Rattle.scx_semantics.specs.declared.instructions.Operand.{Operand}
@@ -27,7 +27,8 @@ use Rattle.scx_semantics.specs.HostTables.{field_at, is_writable, helper_at, ans
 use Rattle.scx_semantics.specs.Meaning.{pointer_step, is_plain}
 use Rattle.scx_maps.specs.declared.shape.Shape.{Shape}
 use Rattle.scx_ranges.specs.declared.ranges.Range.{Range}
-use Rattle.scx_ranges.specs.Ranges.{single}
+use Rattle.scx_ranges.specs.Ranges.{single, is_single}
+use Rattle.scx_ranges.specs.Cuts.{cut}
 use Rattle.scx_ranges.specs.Results.{computed_at, copied, negated_range, extended_range, swapped_range, loaded}
 use Rattle.scx_abs.specs.declared.faults.Why.{Why}
 use Rattle.scx_abs.specs.declared.faults.Why.TheVariants.{UnusableRegister, UnwrittenStack, OutOfBounds, NullNotTested, PointerArithmetic, PointerCompare, PointerStore, TaskField, BadReturn, UnknownMap}
@@ -198,21 +199,32 @@ tested a r k None = Err PointerCompare
 tested a r k (Some true) = Ok (flows (Some (if_not_null a r k)) (if_null a r k))
 tested a r k (Some false) = Ok (flows (if_null a r k) (Some (if_not_null a r k)))
 
--- two numbers are followed both ways
-abbrev pub numbers_compared : AbsState → Kind → Result Next Why
-numbers_compared a (Num s) = Ok (flows (Some a) (Some a))
-numbers_compared a k = Err PointerCompare
+-- the state where a comparison of the register's numbers with c has that answer; there is none where no
+-- number is left
+abbrev pub side : AbsState → ℕ → Comparison → Bool → ℕ → Range → Option AbsState
+side a r o b c s = option_map (λ t. with_kind a r (Num t)) (cut o b c s)
+
+-- Two numbers are followed both ways. A comparison of 64 bits with a single number tells on each side
+-- which the register's are; the other register's, or the same in a copy, stay as they are.
+abbrev pub sides : AbsState → ℕ → Width → Comparison → Range → Range → Next
+sides a r Bits64 o s t = if is_single t then flows (side a r o false t.low s) (side a r o true t.low s) else flows (Some a) (Some a)
+sides a r Bits32 o s t = flows (Some a) (Some a)
+
+-- a number is compared with a number
+abbrev pub numbers_compared : AbsState → ℕ → Width → Comparison → Range → Kind → Result Next Why
+numbers_compared a r w o s (Num t) = Ok (sides a r w o s t)
+numbers_compared a r w o s k = Err PointerCompare
 
 -- a pointer is only tested for 0
-abbrev pub compared : AbsState → ℕ → Option Bool → Kind → Kind → Result Next Why
-compared a r test (Num s) k = numbers_compared a k
-compared a r test j k = tested a r j test
+abbrev pub compared : AbsState → ℕ → Width → Comparison → Option Bool → Kind → Kind → Result Next Why
+compared a r w o test (Num s) k = numbers_compared a r w o s k
+compared a r w o test j k = tested a r j test
 
 abbrev pub jump_rule : AbsState → Width → Comparison → Register → Operand → Result Next Why
 jump_rule a w c r x = do
   j ← usable (kind_at a (number r))
   k ← operand_kind a w x
-  compared a (number r) (null_test w c x) j k
+  compared a (number r) w c (null_test w c x) j k
 
 -- ---- the end
 

@@ -1,11 +1,11 @@
-ghost use Rattle.std.specs.Prelude.{◌≡◌, Some};
+ghost use Rattle.std.specs.Prelude.{◌≡◌, Some, true, false, option_map};
 ghost use Rattle.scx_semantics.specs.Registers.{number};
 ghost use Rattle.scx_ranges.specs.Ranges.{single};
 ghost use Rattle.scx_abs.specs.declared.changes.Change.TheVariants as Change;
 ghost use Rattle.scx_abs.specs.declared.kinds.Kind.TheVariants.{Elem, Num, Task};
-ghost use Rattle.scx_abs.specs.Changes.{next_of, flowed};
+ghost use Rattle.scx_abs.specs.Changes.{changed, next_of, flowed};
 ghost use Rattle.scx_abs.specs.Checks.{flows};
-ghost use Rattle.scx_abs.specs.Rules.{null_test, if_null, if_not_null, tested, numbers_compared, compared, jump_rule};
+ghost use Rattle.scx_abs.specs.Rules.{null_test, if_null, if_not_null, tested, side, sides, numbers_compared, jump_rule};
 
 use crate::arithmetic::{operand_kind, usable};
 use crate::changes::{Change, Flow};
@@ -28,13 +28,10 @@ pub fn flow_of_jump(
 {
     let kind = usable(state.kind(register))?;
     let other = operand_kind(state, width, operand)?;
-    compared(
-        state,
-        register,
-        null_test(width, comparison, operand),
-        kind,
-        other,
-    )
+    match kind {
+        Kind::Num(numbers) => numbers_compared(state, width, comparison, register, numbers, other),
+        _ => tested(state, register, kind, null_test(width, comparison, operand)),
+    }
 }
 
 /// Whether a comparison is a test for 0, and whether it jumps where it finds 0.
@@ -49,32 +46,87 @@ fn null_test(width: Width, comparison: Comparison, operand: Operand) -> Option<b
     }
 }
 
-/// What flows on from a comparison of these kinds: two numbers are followed both ways, and a pointer
-/// is only tested for 0.
+/// What flows on from a comparison of a number of these with an operand of that kind.
 #[inline(always)]
-fn compared(
+fn numbers_compared(
     state: &AbsState,
+    width: Width,
+    comparison: Comparison,
     register: Register,
-    test: Option<bool>,
-    kind: Kind,
+    numbers: Numbers,
     other: Kind,
 ) -> Result<Flow, Why>
-    ensures { flowed state.now result ≡ compared state.now (number register) test kind other }
+    ensures { flowed state.now result
+        ≡ numbers_compared state.now (number register) width comparison numbers other }
 {
-    match kind {
-        Kind::Num(_) => numbers_compared(state, other),
-        _ => tested(state, register, kind, test),
+    match other {
+        Kind::Num(others) => Ok(sides(state, width, comparison, register, numbers, others)),
+        _ => Err(Why::PointerCompare),
     }
 }
 
-/// What flows on from a comparison of a number with an operand of that kind.
-#[inline(always)]
-fn numbers_compared(state: &AbsState, other: Kind) -> Result<Flow, Why>
-    ensures { flowed state.now result ≡ numbers_compared state.now other }
+/// What flows on from a comparison with a number of those: a comparison of 64 bits with a single one
+/// tells on each side which the register's are.
+fn sides(
+    state: &AbsState,
+    width: Width,
+    comparison: Comparison,
+    register: Register,
+    numbers: Numbers,
+    others: Numbers,
+) -> Flow
+    ensures { next_of state.now result
+        ≡ sides state.now (number register) width comparison numbers others }
 {
-    match other {
-        Kind::Num(_) => Ok(Flow::Both(Change::Nothing, Change::Nothing)),
-        _ => Err(Why::PointerCompare),
+    if width == Width::Bits64 && others.is_single() {
+        sides_of(state, comparison, register, numbers, others.low())
+    } else {
+        Flow::Both(Change::Nothing, Change::Nothing)
+    }
+}
+
+/// What flows on from a 64-bit comparison with the number `c`. A side on which no number is left isn't
+/// followed.
+fn sides_of(
+    state: &AbsState,
+    comparison: Comparison,
+    register: Register,
+    numbers: Numbers,
+    c: u64,
+) -> Flow
+    ensures { next_of state.now result
+        ≡ flows (side state.now (number register) comparison false c numbers)
+        (side state.now (number register) comparison true c numbers) }
+{
+    let no = side(state, comparison, false, register, numbers, c);
+    let yes = side(state, comparison, true, register, numbers, c);
+    match no {
+        Some(on) => match yes {
+            Some(jump) => Flow::Both(on, jump),
+            None => Flow::On(on),
+        },
+        None => match yes {
+            Some(jump) => Flow::Jump(jump),
+            None => Flow::End,
+        },
+    }
+}
+
+/// What changes where the comparison has that answer, if it may have it.
+fn side(
+    state: &AbsState,
+    comparison: Comparison,
+    answer: bool,
+    register: Register,
+    numbers: Numbers,
+    c: u64,
+) -> Option<Change>
+    ensures { option_map (changed state.now) result
+        ≡ side state.now (number register) comparison answer c numbers }
+{
+    match numbers.cut(comparison, answer, c) {
+        Some(left) => Some(Change::Register(register, Kind::Num(left))),
+        None => None,
     }
 }
 

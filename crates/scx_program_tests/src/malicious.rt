@@ -147,13 +147,17 @@ fn a_pointer_joined_with_a_number_is_unusable(rt: HostRuntime) -> Result<(), Fai
     )
 }
 
-/// A program that no run of gets stuck, and that is refused, since both sides of a comparison are
-/// followed.
+/// A program that no run of gets stuck, and that is refused, since both sides of a 32-bit comparison are
+/// followed. Of 64 bits the comparison has one side.
 #[test]
 fn a_safe_program_may_be_refused(rt: HostRuntime) -> Result<(), Fail> {
-    let skips = "r1 = 1\nif r1 != 1 goto +1\n*(u64 *)(r10 - 8) = 5\nr0 = *(u64 *)(r10 - 8)\nexit";
+    let skips = "r1 = 1\nif w1 != 1 goto +1\n*(u64 *)(r10 - 8) = 5\nr0 = *(u64 *)(r10 - 8)\nexit";
+    let stays = "r1 = 1\nif r1 != 1 goto +1\n*(u64 *)(r10 - 8) = 5\nr0 = *(u64 *)(r10 - 8)\nexit";
     expect(
         &rt,
-        &[(Callback::Plain, skips, "verify 7 UnwrittenStack at 3")],
+        &[
+            (Callback::Plain, skips, "verify 7 UnwrittenStack at 3"),
+            (Callback::Plain, stays, "ok 5"),
+        ],
     )
 }

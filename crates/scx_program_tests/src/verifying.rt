@@ -173,7 +173,7 @@ const JUMPS: [(&[u64], &str); 4] = [
         &[0x0500_0100_0000_0000, 0xbf50_0000_0000_0000, R0_IS_0, EXIT],
         "ok 4",
     ),
-    // r1 = 1, if r1 == 1 goto +1: the store is done on one side alone
+    // r1 = 1, if r1 == 1 goto +1: the store is on the side that isn't followed
     (
         &[
             0xb701_0000_0100_0000,
