@@ -81,7 +81,7 @@ sides_monotone b a d Bits64 o s r t q p h e u v g y k = go (is_single t) (is_sin
     first = k.low
 
     second : q.low ≤ q.high
-    second = y.ordered
+    second = y.formed.ordered
 
     third : q.high ≤ t.high
     third = k.high

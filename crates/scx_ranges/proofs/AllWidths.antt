@@ -24,7 +24,10 @@ use Rattle.scx_ranges.proofs.GrowingResults.{results_grow, single_below, both_si
 -- ---- from 0 up to a number
 
 pub below_range : (hi : ℕ) → 0 < hi → hi < 2 ^ 64 → IsRange (record { low = 0; high = hi; shift = 0 })
-below_range hi some fits = record { ordered = omega arith; fits = fits; small = omega arith; low_multiple = refl; high_multiple = mod-one hi; greatest = λ e. absurd (omega arith) }
+below_range hi some fits = record {
+  formed = record { ordered = omega arith; small = omega arith; low_multiple = refl; high_multiple = mod-one hi; greatest = λ e. absurd (omega arith) };
+  fits = fits;
+}
 
 pub in_below : (hi n : ℕ) → n ≤ hi → IsIn n (record { low = 0; high = hi; shift = 0 })
 in_below hi n l = record { from_low = omega arith; to_high = l; multiple = mod-one n }
@@ -60,18 +63,18 @@ one_range f w r ww below = if_case IsRange (is_single r) (single (f r.low)) w (�
 one_in : (f : ℕ → ℕ) (w r' r : Range) (x : ℕ) → IsRange r → IsIn (f r.low) w → CoversRange r' r → IsIn x (of_one f w r) → IsIn x (of_one f w r')
 one_in f w r' r x wr inside c =
     if_case (λ q. IsIn x q → IsIn x (of_one f w r')) (is_single r) (single (f r.low)) w
-    (λ e h. subst (λ k. IsIn k (of_one f w r')) (sym (in_one x (f r.low) h)) (one_kept f w r' r.low inside (covers_in r' r r.low c (low_in r wr))))
+    (λ e h. subst (λ k. IsIn k (of_one f w r')) (sym (in_one x (f r.low) h)) (one_kept f w r' r.low inside (covers_in r' r r.low c (low_in r wr.formed))))
     (λ e h. if_case (IsIn x) (is_single r') (single (f r'.low)) w (λ g. apart (is_single r) (single_below r' r wr c g) e) (λ g. h))
 
 images : (f : ℕ → ℕ) (w : Range) → IsRange w → ((n : ℕ) → n < 2 ^ 64 → IsIn (f n) w) → AreImages f (of_one f w)
 images f w ww inside =
-    let fits : (r : Range) → IsRange r → f r.low < 2 ^ 64 = λ r wr. member_below w (f r.low) ww (inside r.low (member_below r r.low wr (low_in r wr))) in
+    let fits : (r : Range) → IsRange r → f r.low < 2 ^ 64 = λ r wr. member_below w (f r.low) ww (inside r.low (member_below r r.low wr (low_in r wr.formed))) in
     record {
       kept = λ r n wr h. one_kept f w r n (inside n (member_below r n wr h)) h;
       ranges = λ r wr. one_range f w r ww (fits r wr);
       grow =
           λ r' r wr' wr c. in_covers (of_one f w r') (of_one f w r) (one_range f w r' ww (fits r' wr')) (one_range f w r ww (fits r wr))
-          (λ x h. one_in f w r' r x wr (inside r.low (member_below r r.low wr (low_in r wr))) c h);
+          (λ x h. one_in f w r' r x wr (inside r.low (member_below r r.low wr (low_in r wr.formed))) c h);
     }
 
 -- ---- of two numbers
@@ -91,7 +94,7 @@ two_in : (f : ℕ → ℕ → ℕ) (w r' s' r s : Range) (x : ℕ) → IsRange r
     → IsIn x (of_two f w r s) → IsIn x (of_two f w r' s')
 two_in f w r' s' r s x wr ws inside c d =
     if_case (λ q. IsIn x q → IsIn x (of_two f w r' s')) (is_single r && is_single s) (single (f r.low s.low)) w
-    (λ e h. subst (λ k. IsIn k (of_two f w r' s')) (sym (in_one x (f r.low s.low) h)) (two_kept f w r' s' r.low s.low inside (covers_in r' r r.low c (low_in r wr)) (covers_in s' s s.low d (low_in s ws))))
+    (λ e h. subst (λ k. IsIn k (of_two f w r' s')) (sym (in_one x (f r.low s.low) h)) (two_kept f w r' s' r.low s.low inside (covers_in r' r r.low c (low_in r wr.formed)) (covers_in s' s s.low d (low_in s ws.formed))))
     (λ e h.
     if_case (IsIn x) (is_single r' && is_single s') (single (f r'.low s'.low)) w
     (λ g. apart (is_single r && is_single s) (both_single (is_single r') (is_single s') (is_single r) (is_single s) (single_below r' r wr c) (single_below s' s ws d) g) e)
@@ -100,7 +103,7 @@ two_in f w r' s' r s x wr ws inside c d =
 results_of : (f : ℕ → ℕ → ℕ) (w : Range) → IsRange w → ((n m : ℕ) → n < 2 ^ 64 → m < 2 ^ 64 → IsIn (f n m) w) → AreResults f (of_two f w)
 results_of f w ww inside =
     let lows : (r s : Range) → IsRange r → IsRange s → IsIn (f r.low s.low) w
-    = λ r s wr ws. inside r.low s.low (member_below r r.low wr (low_in r wr)) (member_below s s.low ws (low_in s ws)) in
+    = λ r s wr ws. inside r.low s.low (member_below r r.low wr (low_in r wr.formed)) (member_below s s.low ws (low_in s ws.formed)) in
     let range : (r s : Range) → IsRange r → IsRange s → IsRange (of_two f w r s)
     = λ r s wr ws. two_range f w r s ww (member_below w (f r.low s.low) ww (lows r s wr ws)) in
     record {
@@ -120,7 +123,7 @@ pub arithmetic_is_sound : ArithmeticIsSound
 arithmetic_is_sound Bits32 o = results_of (compute Bits32 o) words words_range (λ n m p q. in_words (compute Bits32 o n m) (compute_word o n m p q))
 arithmetic_is_sound Bits64 o = record {
   kept = λ r s n m wr ws h g. members_are_kept o r s n m wr ws h g (compute_below Bits64 o n m (member_below r n wr h) (member_below s m ws g));
-  ranges = λ r s wr ws. results_are_ranges o r s wr ws (compute_below Bits64 o r.low s.low (member_below r r.low wr (low_in r wr)) (member_below s s.low ws (low_in s ws)));
+  ranges = λ r s wr ws. results_are_ranges o r s wr ws (compute_below Bits64 o r.low s.low (member_below r r.low wr (low_in r wr.formed)) (member_below s s.low ws (low_in s ws.formed)));
   grow = λ r' s' r s wr' ws' wr ws c d. results_grow o r' s' r s wr' ws' wr ws (λ n m p q. compute_below Bits64 o n m p q) c d;
 }
 

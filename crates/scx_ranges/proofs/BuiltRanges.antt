@@ -1,5 +1,5 @@
 -- What is built is a range, function by function.
-use Rattle.std.proofs.Common.{◌≡◌, ℕ, ℤ, ◌^◌, ◌<◌, ◌≤◌, Bool, Some, subst}
+use Rattle.std.proofs.Common.{◌≡◌, ℕ, ℤ, ◌^◌, ◌<◌, ◌≤◌, Bool, Some, subst, arith}
 use Rattle.scx_semantics.specs.declared.operations.Width.{Width}
 use Rattle.scx_semantics.specs.declared.operations.Operation.{Operation}
 use Rattle.scx_semantics.specs.declared.operations.Comparison.{Comparison}
@@ -43,8 +43,12 @@ swap_range o w r wr = (swaps_are_sound o w).ranges r wr
 pub load_range : (a : Access) → IsRange (loaded a)
 load_range a = (loads_are_sound a).range
 
+-- offsets in an element of less than 2^64 bytes
+range_within : (size : ℕ) (q : Range) → size < 2 ^ 64 → IsWithin size (Some q) → IsRange q × (q.high ≤ size)
+range_within size q f h = (record { formed = h.0; fits = omega (arith, f, h.1) }, h.1)
+
 pub moved_within : (size : ℕ) (r q : Range) (k : ℤ) → IsRange r → size < 2 ^ 64 → moved size r k ≡ Some q → IsRange q × (q.high ≤ size)
-moved_within size r q k w f e = subst (IsWithin size) e (moves_stay_within size r k w f)
+moved_within size r q k w f e = range_within size q f (subst (IsWithin size) e (moves_stay_within size r k w.formed))
 
 pub advanced_within : (size : ℕ) (r s q : Range) → IsRange r → IsRange s → size < 2 ^ 64 → advanced size r s ≡ Some q → IsRange q × (q.high ≤ size)
-advanced_within size r s q wr ws f e = subst (IsWithin size) e (advances_stay_within size r s wr ws f)
+advanced_within size r s q wr ws f e = range_within size q f (subst (IsWithin size) e (advances_stay_within size r s wr.formed ws.formed))

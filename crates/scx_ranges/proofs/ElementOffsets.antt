@@ -6,11 +6,11 @@ use Rattle.scx_semantics.specs.declared.operations.Size.TheVariants as size
 use Rattle.scx_semantics.specs.Arithmetic.{shifted}
 use Rattle.scx_semantics.specs.Memory.{within, size_bytes}
 use Rattle.scx_ranges.specs.declared.ranges.Range.{Range}
-use Rattle.scx_ranges.specs.Ranges.{IsIn, IsRange, CoversRange, trailing, between, is_single}
+use Rattle.scx_ranges.specs.Ranges.{IsIn, IsWellFormed, CoversRange, trailing, between, is_single}
 use Rattle.scx_ranges.specs.Offsets.{between_some, moved, advanced, ends_within, are_inside, is_multiple, are_aligned}
 use Rattle.scx_ranges.specs.OffsetLaws.{IsMoved, IsAdvanced, IsWithin, PassesMove, MovesAreSound, MovesAreExact, MovesStayWithin, MovesAreMonotone, AdvancesAreSound, AdvancesAreExact, AdvancesStayWithin, AdvancesAreMonotone, AllInside, AllAligned, InsideIsExact, AlignedIsExact, AccessesAreMonotone}
-use Rattle.scx_ranges.proofs.Multiples.{by_bool, by_shift, if_case, in_between, multiple_between, between_range, multiples_added, multiples_taken, multiple_of_less, trailing_divides}
-use Rattle.scx_ranges.proofs.Order.{covers_in, in_covers, low_in, high_in, next_in}
+use Rattle.scx_ranges.proofs.Multiples.{by_bool, by_shift, if_case, in_between, multiple_between, between_formed, multiples_added, multiples_taken, multiple_of_less, trailing_divides}
+use Rattle.scx_ranges.proofs.Order.{covers_in, members_cover, low_in, high_in, next_in}
 use Rattle.scx_ranges.proofs.KeptByCuts.{strictly}
 
 -- ---- offsets that far on
@@ -113,22 +113,22 @@ moves_are_sound size r k n w h =
     let end : hi ≤ size = top.1 in
     (lo + (n - r.low), to_within size (lo + (n - r.low)) (shifted n k) here (omega arith), in_between lo hi s (lo + (n - r.low)) low high (shift_multiple r.shift n (lo + (n - r.low)) k w.small h.multiple here)))
 
-moved_range : (size : ℕ) (r : Range) (k : ℤ) (lo hi : ℕ) → IsRange r → size < 2 ^ 64 → shifted r.low k ≡ Some lo → shifted r.high k ≡ Some hi → hi ≤ size
-    → IsRange (between lo hi (min r.shift (trailing (unsigned_abs k))))
-moved_range size r k lo hi w fits e f l =
-    between_range lo hi (min r.shift (trailing (unsigned_abs k))) (shift_order r.low r.high lo hi k w.ordered e f) (omega arith) (min_small r.shift (trailing (unsigned_abs k)) w.small)
+moved_formed : (r : Range) (k : ℤ) (lo hi : ℕ) → IsWellFormed r → shifted r.low k ≡ Some lo → shifted r.high k ≡ Some hi
+    → IsWellFormed (between lo hi (min r.shift (trailing (unsigned_abs k))))
+moved_formed r k lo hi w e f =
+    between_formed lo hi (min r.shift (trailing (unsigned_abs k))) (shift_order r.low r.high lo hi k w.ordered e f) (min_small r.shift (trailing (unsigned_abs k)) w.small)
     (shift_multiple r.shift r.low lo k w.small w.low_multiple e) (shift_multiple r.shift r.high hi k w.small w.high_multiple f)
 
 pub moves_stay_within : MovesStayWithin
-moves_stay_within size r k w fits =
+moves_stay_within size r k w =
     moved_case (IsWithin size) size r k tt
-    (λ lo hi e f. let top = within_is size (shifted r.high k) hi f in (moved_range size r k lo hi w fits e top.0 top.1, top.1))
+    (λ lo hi e f. let top = within_is size (shifted r.high k) hi f in (moved_formed r k lo hi w e top.0, top.1))
 
 -- between two numbers is covered between two that are further apart
-between_covers : (lo' lo hi hi' s' s : ℕ) → IsRange (between lo' hi' s') → IsRange (between lo hi s) → lo' ≤ lo → hi ≤ hi' → s' ≤ s → lo % 2 ^ s ≡ 0
+between_covers : (lo' lo hi hi' s' s : ℕ) → IsWellFormed (between lo' hi' s') → IsWellFormed (between lo hi s) → lo' ≤ lo → hi ≤ hi' → s' ≤ s → lo % 2 ^ s ≡ 0
     → CoversRange (between lo' hi' s') (between lo hi s)
 between_covers lo' lo hi hi' s' s wb wa l h c m =
-    in_covers (between lo' hi' s') (between lo hi s) wb wa
+    members_cover (between lo' hi' s') (between lo hi s) wb wa
     (λ x g.
     let from_low : lo ≤ x = g.from_low in
     let to_high : x ≤ hi = g.to_high in
@@ -138,7 +138,7 @@ mins_grow : (a a' b : ℕ) → a ≤ a' → min a b ≤ min a' b
 mins_grow a a' b f = omega arith
 
 pub moves_are_monotone : MovesAreMonotone
-moves_are_monotone size b a k wb wa fits c =
+moves_are_monotone size b a k wb wa c =
     moved_case (λ q. PassesMove q (moved size a k)) size b k tt
     (λ lo hi e f.
     let t = trailing (unsigned_abs k) in
@@ -152,8 +152,8 @@ moves_are_monotone size b a k wb wa fits c =
     let upper : lo + (a.high - b.low) ≤ hi = shift_order a.high b.high (lo + (a.high - b.low)) hi k c.high last top.0 in
     let within_size : lo + (a.high - b.low) ≤ size = omega arith in
     subst (PassesMove (Some (between lo hi (min b.shift t)))) (sym (moved_is size a k (lo + (a.low - b.low)) (lo + (a.high - b.low)) first (to_within size (lo + (a.high - b.low)) (shifted a.high k) last within_size)))
-    (between_covers lo (lo + (a.low - b.low)) (lo + (a.high - b.low)) hi (min b.shift t) (min a.shift t) (moved_range size b k lo hi wb fits e top.0 end)
-    (moved_range size a k (lo + (a.low - b.low)) (lo + (a.high - b.low)) wa fits first last within_size) lower upper (mins_grow b.shift a.shift t c.shift)
+    (between_covers lo (lo + (a.low - b.low)) (lo + (a.high - b.low)) hi (min b.shift t) (min a.shift t) (moved_formed b k lo hi wb e top.0)
+    (moved_formed a k (lo + (a.low - b.low)) (lo + (a.high - b.low)) wa first last) lower upper (mins_grow b.shift a.shift t c.shift)
     (shift_multiple a.shift a.low (lo + (a.low - b.low)) k wa.small wa.low_multiple first)))
 
 -- ---- moves by numbers
@@ -174,23 +174,23 @@ advances_are_sound size r s n m wr ws h g =
     (omega arith, in_between (r.low + s.low) (r.high + s.high) (min r.shift s.shift) (n + m) (omega arith) (omega arith) (sum_multiple r.shift s.shift n m wr.small h.multiple g.multiple)))
     (λ e. tt)
 
-advanced_range : (size : ℕ) (r s : Range) → IsRange r → IsRange s → size < 2 ^ 64 → r.high + s.high ≤ size → IsRange (between (r.low + s.low) (r.high + s.high) (min r.shift s.shift))
-advanced_range size r s wr ws fits l =
+advanced_formed : (r s : Range) → IsWellFormed r → IsWellFormed s → IsWellFormed (between (r.low + s.low) (r.high + s.high) (min r.shift s.shift))
+advanced_formed r s wr ws =
     let a : r.low ≤ r.high = wr.ordered in
     let b : s.low ≤ s.high = ws.ordered in
-    between_range (r.low + s.low) (r.high + s.high) (min r.shift s.shift) (omega arith) (omega arith) (min_small r.shift s.shift wr.small)
+    between_formed (r.low + s.low) (r.high + s.high) (min r.shift s.shift) (omega arith) (min_small r.shift s.shift wr.small)
     (sum_multiple r.shift s.shift r.low s.low wr.small wr.low_multiple ws.low_multiple) (sum_multiple r.shift s.shift r.high s.high wr.small wr.high_multiple ws.high_multiple)
 
 pub advances_stay_within : AdvancesStayWithin
-advances_stay_within size r s wr ws fits =
+advances_stay_within size r s wr ws =
     if_case (IsWithin size) (nat_le (r.high + s.high) size) (Some (between (r.low + s.low) (r.high + s.high) (min r.shift s.shift))) None
-    (λ e. let l = leb-true (r.high + s.high) size e in (advanced_range size r s wr ws fits l, l)) (λ e. tt)
+    (λ e. (advanced_formed r s wr ws, leb-true (r.high + s.high) size e)) (λ e. tt)
 
 least_grow : (a b c d : ℕ) → a ≤ c → b ≤ d → min a b ≤ min c d
 least_grow a b c d f g = omega arith
 
 pub advances_are_monotone : AdvancesAreMonotone
-advances_are_monotone size b d a c wb wd wa wc fits f g =
+advances_are_monotone size b d a c wb wd wa wc f g =
     let lows : b.low ≤ a.low = f.low in
     let more_lows : d.low ≤ c.low = g.low in
     let highs : a.high ≤ b.high = f.high in
@@ -201,7 +201,7 @@ advances_are_monotone size b d a c wb wd wa wc fits f g =
     let m : a.high + c.high ≤ size = omega arith in
     subst (PassesMove (Some (between (b.low + d.low) (b.high + d.high) (min b.shift d.shift))))
     (sym (ap (λ t. if t then Some (between (a.low + c.low) (a.high + c.high) (min a.shift c.shift)) else None) (le-leb (a.high + c.high) size m)))
-    (between_covers (b.low + d.low) (a.low + c.low) (a.high + c.high) (b.high + d.high) (min b.shift d.shift) (min a.shift c.shift) (advanced_range size b d wb wd fits l) (advanced_range size a c wa wc fits m)
+    (between_covers (b.low + d.low) (a.low + c.low) (a.high + c.high) (b.high + d.high) (min b.shift d.shift) (min a.shift c.shift) (advanced_formed b d wb wd) (advanced_formed a c wa wc)
     (omega arith) (omega arith) (least_grow b.shift d.shift a.shift c.shift f.shift g.shift) (sum_multiple a.shift c.shift a.low c.low wa.small wa.low_multiple wc.low_multiple)))
     (λ e. tt)
 
@@ -238,7 +238,7 @@ inside_all size n r k e at h =
     let end : last.0 + n ≤ size = last.2 in
     (first.0 + (at - r.low), record { there = here; inside = omega arith })
 
-all_inside : (size n : ℕ) (r : Range) (k : ℤ) → IsRange r → AllInside size n r k → are_inside size n r k ≡ true
+all_inside : (size n : ℕ) (r : Range) (k : ℤ) → IsWellFormed r → AllInside size n r k → are_inside size n r k ≡ true
 all_inside size n r k w f =
     let first = f r.low (low_in r w) in
     let last = f r.high (high_in r w) in
@@ -281,7 +281,7 @@ single_here r at e h =
     let u : at ≤ r.high = h.to_high in
     omega arith
 
-aligned_all : (t : ℕ) (r : Range) (k : ℤ) → t ≤ 3 → IsRange r → are_aligned (2 ^ t) r k ≡ true → AllAligned (2 ^ t) r k
+aligned_all : (t : ℕ) (r : Range) (k : ℤ) → t ≤ 3 → IsWellFormed r → are_aligned (2 ^ t) r k ≡ true → AllAligned (2 ^ t) r k
 aligned_all t r k l w e at h =
     let both = and_parts (is_multiple (2 ^ t) (shifted r.low k)) (is_single r || nat_eq (2 ^ r.shift % 2 ^ t) 0) e in
     let first = multiple_of (2 ^ t) (shifted r.low k) both.0 in
@@ -293,7 +293,7 @@ aligned_all t r k l w e at h =
     (λ f g. multiple_of_less (at - r.low) r.shift t (step_at_least t r.shift l w.small (eqb-true (2 ^ r.shift % 2 ^ t) 0 g)) (multiples_taken r.shift at r.low w.small low h.multiple w.low_multiple)) in
     (first.0 + (at - r.low), here, multiples_added t first.0 (at - r.low) l first.2 gap)
 
-all_aligned : (t : ℕ) (r : Range) (k : ℤ) → t ≤ 3 → IsRange r → AllAligned (2 ^ t) r k → are_aligned (2 ^ t) r k ≡ true
+all_aligned : (t : ℕ) (r : Range) (k : ℤ) → t ≤ 3 → IsWellFormed r → AllAligned (2 ^ t) r k → are_aligned (2 ^ t) r k ≡ true
 all_aligned t r k l w f =
     let first = f r.low (low_in r w) in
     and_from (is_multiple (2 ^ t) (shifted r.low k)) (is_single r || nat_eq (2 ^ r.shift % 2 ^ t) 0)

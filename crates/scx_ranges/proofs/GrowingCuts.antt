@@ -16,7 +16,7 @@ use Rattle.scx_ranges.proofs.KeptByCuts.{strictly, above_keeps, up_to_keeps, fro
 pub cut_covers : (q p : Option Range) → IsCutRange q → IsCutRange p → ((n : ℕ) → IsInCut n p → IsInCut n q) → CoversCut q p
 cut_covers None None wq wp f = tt
 cut_covers (Some b) None wq wp f = tt
-cut_covers None (Some a) wq wp f = f a.low (low_in a wp)
+cut_covers None (Some a) wq wp f = f a.low (low_in a wp.formed)
 cut_covers (Some b) (Some a) wq wp f = in_covers b a wq wp f
 
 -- ---- nothing else is kept
@@ -59,17 +59,17 @@ equal_only c n r =
     (λ e h. absurd h)
 
 room_above : (r : Range) → IsRange r → (r.low ≡ r.high → ⊥) → r.low + 2 ^ r.shift ≤ r.high
-room_above r w other = next_multiple r.shift r.low r.high w.small w.low_multiple w.high_multiple (strictly r.low r.high (λ s. other (sym s)) w.ordered)
+room_above r w other = next_multiple r.shift r.low r.high w.formed.small w.formed.low_multiple w.formed.high_multiple (strictly r.low r.high (λ s. other (sym s)) w.formed.ordered)
 
 pub second_fits : (r : Range) → IsRange r → r.low < r.high → r.low + 2 ^ r.shift < 2 ^ 64
 second_fits r w l =
-    let room = next_multiple r.shift r.low r.high w.small w.low_multiple w.high_multiple l in
+    let room = next_multiple r.shift r.low r.high w.formed.small w.formed.low_multiple w.formed.high_multiple l in
     let fits : r.high < 2 ^ 64 = w.fits in
     omega arith
 
 pub step_below : (r : Range) → IsRange r → r.low < r.high → 2 ^ r.shift ≤ r.high
 step_below r w l =
-    let room = next_multiple r.shift r.low r.high w.small w.low_multiple w.high_multiple l in
+    let room = next_multiple r.shift r.low r.high w.formed.small w.formed.low_multiple w.formed.high_multiple l in
     omega arith
 
 pub unequal_only : (c n : ℕ) (r : Range) → IsRange r → IsInCut n (unequal c r) → IsIn n r
@@ -80,14 +80,14 @@ unequal_only c n r w =
     if_case (λ q. IsInCut n q → IsIn n r) (nat_eq c r.high) None (Some (between (r.low + 2 ^ r.shift) r.high r.shift))
     (λ f h. absurd h)
     (λ f h.
-    let m = multiples_added r.shift r.low (2 ^ r.shift) w.small w.low_multiple (step_multiple r.shift w.small) in
+    let m = multiples_added r.shift r.low (2 ^ r.shift) w.formed.small w.formed.low_multiple (step_multiple r.shift w.formed.small) in
     let low : r.low + 2 ^ r.shift ≤ n = h.from_low in
     record { from_low = omega arith; to_high = h.to_high; multiple = multiple_between (r.low + 2 ^ r.shift) r.high r.shift n m h }))
     (λ e.
     if_case (λ q. IsInCut n q → IsIn n r) (nat_eq c r.high) (Some (between r.low (r.high - 2 ^ r.shift) r.shift)) (Some r)
     (λ f h.
     let high : n ≤ r.high - 2 ^ r.shift = h.to_high in
-    record { from_low = h.from_low; to_high = omega arith; multiple = multiple_between r.low (r.high - 2 ^ r.shift) r.shift n w.low_multiple h })
+    record { from_low = h.from_low; to_high = omega arith; multiple = multiple_between r.low (r.high - 2 ^ r.shift) r.shift n w.formed.low_multiple h })
     (λ f h. h))
 
 no_step_down : (a s : ℕ) → 0 < 2 ^ s → a + 2 ^ s ≤ a → ⊥

@@ -58,9 +58,9 @@ member_fits x q w h = below_through x q.high (2 ^ 64) h.to_high w.fits
 
 sum_multiple : (r s : Range) → IsRange r → IsRange s → (r.low + s.low) % 2 ^ min r.shift s.shift ≡ 0
 sum_multiple r s wr ws =
-    multiples_added (min r.shift s.shift) r.low s.low (small_least r.shift s.shift wr.small)
-    (multiple_of_less r.low r.shift (min r.shift s.shift) (least_left r.shift s.shift) wr.low_multiple)
-    (multiple_of_less s.low s.shift (min r.shift s.shift) (least_right r.shift s.shift) ws.low_multiple)
+    multiples_added (min r.shift s.shift) r.low s.low (small_least r.shift s.shift wr.formed.small)
+    (multiple_of_less r.low r.shift (min r.shift s.shift) (least_left r.shift s.shift) wr.formed.low_multiple)
+    (multiple_of_less s.low s.shift (min r.shift s.shift) (least_right r.shift s.shift) ws.formed.low_multiple)
 
 added_grows : (r' s' r s : Range) (x : ℕ) → IsRange r → IsRange s → CoversRange r' r → CoversRange s' s → x < 2 ^ 64 → IsIn x (added r s) → IsIn x (added r' s')
 added_grows r' s' r s x wr ws c d fits =
@@ -86,7 +86,7 @@ scaled_grows k r' r x wr c fits =
     if_case (λ q. IsIn x q → IsIn x (between (r'.low * k) (r'.high * k) (min 3 (r'.shift + trailing k)))) (nat_lt (r.high * k) (2 ^ 64)) (between (r.low * k) (r.high * k) (min 3 (r.shift + trailing k))) all
     (λ f h. in_between (r'.low * k) (r'.high * k) (min 3 (r'.shift + trailing k)) x (through (r'.low * k) (r.low * k) x lows h.from_low) (through x (r.high * k) (r'.high * k) h.to_high highs)
     (multiple_of_less x (min 3 (r.shift + trailing k)) (min 3 (r'.shift + trailing k)) (caps_grow r'.shift r.shift (trailing k) c.shift)
-    (multiple_between (r.low * k) (r.high * k) (min 3 (r.shift + trailing k)) x (scaled_multiple r.low k r.shift wr.low_multiple) h)))
+    (multiple_between (r.low * k) (r.high * k) (min 3 (r.shift + trailing k)) x (scaled_multiple r.low k r.shift wr.formed.low_multiple) h)))
     (λ f h. let g : 2 ^ 64 ≤ r.high * k = ltb-false (r.high * k) (2 ^ 64) f in absurd (omega arith)))
     (λ e h. in_all x fits)
 
@@ -105,7 +105,7 @@ cut_grows b b' a a' x small f g h =
 
 masked_grows : (k : ℕ) (r' r : Range) (x : ℕ) → IsRange r' → CoversRange r' r → IsIn x (masked k r) → IsIn x (masked k r')
 masked_grows k r' r x w c h =
-    cut_grows (min r.high k) (min r'.high k) (max r.shift (trailing k)) (max r'.shift (trailing k)) x (largest r'.shift (trailing k) 3 w.small (trailing_small k)) (min_grows r.high r'.high k c.high)
+    cut_grows (min r.high k) (min r'.high k) (max r.shift (trailing k)) (max r'.shift (trailing k)) x (largest r'.shift (trailing k) 3 w.formed.small (trailing_small k)) (min_grows r.high r'.high k c.high)
     (max_grows r'.shift r.shift (trailing k) c.shift) h
 
 remainder_by : (b : Bool) (k : ℕ) (r' r : Range) (x : ℕ) → IsRange r' → CoversRange r' r
@@ -113,7 +113,7 @@ remainder_by : (b : Bool) (k : ℕ) (r' r : Range) (x : ℕ) → IsRange r' → 
     → IsIn x (if b then all else between 0 (floor (min r'.high (k - 1)) (min r'.shift (trailing k))) (min r'.shift (trailing k)))
 remainder_by true k r' r x w c h = h
 remainder_by false k r' r x w c h =
-    cut_grows (min r.high (k - 1)) (min r'.high (k - 1)) (min r.shift (trailing k)) (min r'.shift (trailing k)) x (small_least r'.shift (trailing k) w.small) (min_grows r.high r'.high (k - 1) c.high)
+    cut_grows (min r.high (k - 1)) (min r'.high (k - 1)) (min r.shift (trailing k)) (min r'.shift (trailing k)) x (small_least r'.shift (trailing k) w.formed.small) (min_grows r.high r'.high (k - 1) c.high)
     (min_grows r'.shift r.shift (trailing k) c.shift) h
 
 remainder_grows : (k : ℕ) (r' r : Range) (x : ℕ) → IsRange r' → CoversRange r' r → x < 2 ^ 64 → IsIn x (remainder k r) → IsIn x (remainder k r')
@@ -134,7 +134,7 @@ pub single_below : (r' r : Range) → IsRange r → CoversRange r' r → is_sing
 single_below r' r w c e =
     let same : r'.low ≡ r'.high = eqb-true r'.low r'.high e in
     let a : r'.low ≤ r.low = c.low in
-    let b : r.low ≤ r.high = w.ordered in
+    let b : r.low ≤ r.high = w.formed.ordered in
     let d : r.high ≤ r'.high = c.high in
     eq-eqb r.low r.high (omega arith)
 
@@ -142,7 +142,7 @@ same_low : (r' r : Range) → IsRange r → CoversRange r' r → is_single r' �
 same_low r' r w c e =
     let same : r'.low ≡ r'.high = eqb-true r'.low r'.high e in
     let a : r'.low ≤ r.low = c.low in
-    let b : r.low ≤ r.high = w.ordered in
+    let b : r.low ≤ r.high = w.formed.ordered in
     let d : r.high ≤ r'.high = c.high in
     omega arith
 
@@ -172,14 +172,14 @@ result_grows o r' s' r s x wr' ws' wr ws below c d fits =
     if_case (λ q. IsIn x q → IsIn x (computed o r' s')) (is_single r && is_single s) (single (compute Bits64 o r.low s.low)) (spread o r s)
     (λ e h.
     let here : x ≡ compute Bits64 o r.low s.low = alone (single (compute Bits64 o r.low s.low)) x (eq-eqb (compute Bits64 o r.low s.low) (compute Bits64 o r.low s.low) refl) h in
-    rw here (members_are_kept o r' s' r.low s.low wr' ws' (covers_in r' r r.low c (low_in r wr)) (covers_in s' s s.low d (low_in s ws)) below))
+    rw here (members_are_kept o r' s' r.low s.low wr' ws' (covers_in r' r r.low c (low_in r wr.formed)) (covers_in s' s s.low d (low_in s ws.formed)) below))
     (λ e h.
     if_case (λ q. IsIn x q) (is_single r' && is_single s') (single (compute Bits64 o r'.low s'.low)) (spread o r' s')
     (λ f. absurd (apart (is_single r && is_single s) (both_single (is_single r') (is_single s') (is_single r) (is_single s) (single_below r' r wr c) (single_below s' s ws d) f) e))
     (λ f. spread_grows o r' s' r s x wr' wr ws c d fits h))
 
 low_fits : (r : Range) → IsRange r → r.low < 2 ^ 64
-low_fits r w = below_through r.low r.high (2 ^ 64) w.ordered w.fits
+low_fits r w = below_through r.low r.high (2 ^ 64) w.formed.ordered w.fits
 
 abbrev pub ResultsGrow : Type 0
 ResultsGrow =

@@ -37,7 +37,7 @@ above_keeps c n r w h l =
     let low : r.low ≤ n = h.from_low in
     let high : n ≤ r.high = h.to_high in
     let below_n : floor c r.shift < n = omega (floor_below c r.shift, arith) in
-    let next : floor c r.shift + 2 ^ r.shift ≤ n = next_multiple r.shift (floor c r.shift) n w.small (floor_multiple r.shift c w.small) h.multiple below_n in
+    let next : floor c r.shift + 2 ^ r.shift ≤ n = next_multiple r.shift (floor c r.shift) n w.formed.small (floor_multiple r.shift c w.formed.small) h.multiple below_n in
     if_case (IsInCut n) (nat_lt c r.high) (Some (between (max r.low (floor c r.shift + 2 ^ r.shift)) r.high r.shift)) None
     (λ e. in_between (max r.low (floor c r.shift + 2 ^ r.shift)) r.high r.shift n (largest r.low (floor c r.shift + 2 ^ r.shift) n low next) high h.multiple)
     (λ e. let f : r.high ≤ c = ltb-false c r.high e in absurd (omega arith))
@@ -46,7 +46,7 @@ pub up_to_keeps : (c n : ℕ) (r : Range) → IsRange r → IsIn n r → n ≤ c
 up_to_keeps c n r w h l =
     let low : r.low ≤ n = h.from_low in
     if_case (IsInCut n) (nat_le r.low c) (Some (between r.low (min r.high (floor c r.shift)) r.shift)) None
-    (λ e. in_between r.low (min r.high (floor c r.shift)) r.shift n low (least_of r.high (floor c r.shift) n h.to_high (floor_greatest r.shift n c w.small h.multiple l)) h.multiple)
+    (λ e. in_between r.low (min r.high (floor c r.shift)) r.shift n low (least_of r.high (floor c r.shift) n h.to_high (floor_greatest r.shift n c w.formed.small h.multiple l)) h.multiple)
     (λ e. let f : c < r.low = leb-false r.low c e in absurd (omega arith))
 
 pub from_keeps : (c n : ℕ) (r : Range) → IsRange r → IsIn n r → c ≤ n → IsInCut n (from c r)
@@ -79,12 +79,12 @@ unequal_keeps c n r w h other =
     let el : c ≡ r.low = eqb-true c r.low e in
     if_case (IsInCut n) (nat_eq c r.high) None (Some (between (r.low + 2 ^ r.shift) r.high r.shift))
     (λ f. let eh : c ≡ r.high = eqb-true c r.high f in absurd (other (omega arith)))
-    (λ f. in_between (r.low + 2 ^ r.shift) r.high r.shift n (next_multiple r.shift r.low n w.small w.low_multiple h.multiple (strictly r.low n (λ s. other (s ∙ sym el)) low)) high h.multiple))
+    (λ f. in_between (r.low + 2 ^ r.shift) r.high r.shift n (next_multiple r.shift r.low n w.formed.small w.formed.low_multiple h.multiple (strictly r.low n (λ s. other (s ∙ sym el)) low)) high h.multiple))
     (λ e.
     if_case (IsInCut n) (nat_eq c r.high) (Some (between r.low (r.high - 2 ^ r.shift) r.shift)) (Some r)
     (λ f.
     let eh : c ≡ r.high = eqb-true c r.high f in
-    let room : n + 2 ^ r.shift ≤ r.high = next_multiple r.shift n r.high w.small h.multiple w.high_multiple (strictly n r.high (λ s. other (sym s ∙ sym eh)) high) in
+    let room : n + 2 ^ r.shift ≤ r.high = next_multiple r.shift n r.high w.formed.small h.multiple w.formed.high_multiple (strictly n r.high (λ s. other (sym s ∙ sym eh)) high) in
     in_between r.low (r.high - 2 ^ r.shift) r.shift n low (omega arith) h.multiple)
     (λ f. h))
 
@@ -106,7 +106,7 @@ cuts_keep o b c n r w h e = h
 pub next_fits : (c : ℕ) (r : Range) → IsRange r → c < r.high → floor c r.shift + 2 ^ r.shift < 2 ^ 64
 next_fits c r w l =
     let f : floor c r.shift ≤ c = floor_below c r.shift in
-    let n = next_multiple r.shift (floor c r.shift) r.high w.small (floor_multiple r.shift c w.small) w.high_multiple (lower (floor c r.shift) c r.high f l) in
+    let n = next_multiple r.shift (floor c r.shift) r.high w.formed.small (floor_multiple r.shift c w.formed.small) w.formed.high_multiple (lower (floor c r.shift) c r.high f l) in
     lower (floor c r.shift + 2 ^ r.shift) r.high (2 ^ 64) n w.fits
 
 -- ---- cuts are ranges
@@ -125,18 +125,18 @@ above_range c r w =
     if_case IsCutRange (nat_lt c r.high) (Some (between (max r.low (floor c r.shift + 2 ^ r.shift)) r.high r.shift)) None
     (λ e.
     let l : c < r.high = ltb-true c r.high e in
-    let n = next_multiple r.shift (floor c r.shift) r.high w.small (floor_multiple r.shift c w.small) w.high_multiple (lower (floor c r.shift) c r.high (floor_below c r.shift) l) in
-    between_range (max r.low (floor c r.shift + 2 ^ r.shift)) r.high r.shift (largest r.low (floor c r.shift + 2 ^ r.shift) r.high w.ordered n) w.fits w.small
-    (greater_multiple r.low (floor c r.shift + 2 ^ r.shift) r.shift w.low_multiple
-    (multiples_added r.shift (floor c r.shift) (2 ^ r.shift) w.small (floor_multiple r.shift c w.small) (step_multiple r.shift w.small))) w.high_multiple)
+    let n = next_multiple r.shift (floor c r.shift) r.high w.formed.small (floor_multiple r.shift c w.formed.small) w.formed.high_multiple (lower (floor c r.shift) c r.high (floor_below c r.shift) l) in
+    between_range (max r.low (floor c r.shift + 2 ^ r.shift)) r.high r.shift (largest r.low (floor c r.shift + 2 ^ r.shift) r.high w.formed.ordered n) w.fits w.formed.small
+    (greater_multiple r.low (floor c r.shift + 2 ^ r.shift) r.shift w.formed.low_multiple
+    (multiples_added r.shift (floor c r.shift) (2 ^ r.shift) w.formed.small (floor_multiple r.shift c w.formed.small) (step_multiple r.shift w.formed.small))) w.formed.high_multiple)
     (λ e. tt)
 
 pub up_to_range : (c : ℕ) (r : Range) → IsRange r → IsCutRange (up_to c r)
 up_to_range c r w =
     if_case IsCutRange (nat_le r.low c) (Some (between r.low (min r.high (floor c r.shift)) r.shift)) None
     (λ e.
-    between_range r.low (min r.high (floor c r.shift)) r.shift (least_of r.high (floor c r.shift) r.low w.ordered (floor_greatest r.shift r.low c w.small w.low_multiple (leb-true r.low c e)))
-    (least_lower r.high (floor c r.shift) (2 ^ 64) w.fits) w.small w.low_multiple (lesser_multiple r.high (floor c r.shift) r.shift w.high_multiple (floor_multiple r.shift c w.small)))
+    between_range r.low (min r.high (floor c r.shift)) r.shift (least_of r.high (floor c r.shift) r.low w.formed.ordered (floor_greatest r.shift r.low c w.formed.small w.formed.low_multiple (leb-true r.low c e)))
+    (least_lower r.high (floor c r.shift) (2 ^ 64) w.fits) w.formed.small w.formed.low_multiple (lesser_multiple r.high (floor c r.shift) r.shift w.formed.high_multiple (floor_multiple r.shift c w.formed.small)))
     (λ e. tt)
 
 pub from_range : (c : ℕ) (r : Range) → IsRange r → IsCutRange (from c r)
@@ -163,16 +163,16 @@ unequal_range c r w =
     if_case IsCutRange (nat_eq c r.high) None (Some (between (r.low + 2 ^ r.shift) r.high r.shift)) (λ f. tt)
     (λ f.
     let el : c ≡ r.low = eqb-true c r.low e in
-    let room = next_multiple r.shift r.low r.high w.small w.low_multiple w.high_multiple (strictly r.low r.high (λ s. eqb-false c r.high f (el ∙ sym s)) w.ordered) in
-    between_range (r.low + 2 ^ r.shift) r.high r.shift room w.fits w.small (multiples_added r.shift r.low (2 ^ r.shift) w.small w.low_multiple (step_multiple r.shift w.small)) w.high_multiple))
+    let room = next_multiple r.shift r.low r.high w.formed.small w.formed.low_multiple w.formed.high_multiple (strictly r.low r.high (λ s. eqb-false c r.high f (el ∙ sym s)) w.formed.ordered) in
+    between_range (r.low + 2 ^ r.shift) r.high r.shift room w.fits w.formed.small (multiples_added r.shift r.low (2 ^ r.shift) w.formed.small w.formed.low_multiple (step_multiple r.shift w.formed.small)) w.formed.high_multiple))
     (λ e.
     if_case IsCutRange (nat_eq c r.high) (Some (between r.low (r.high - 2 ^ r.shift) r.shift)) (Some r)
     (λ f.
     let eh : c ≡ r.high = eqb-true c r.high f in
-    let room : r.low + 2 ^ r.shift ≤ r.high = next_multiple r.shift r.low r.high w.small w.low_multiple w.high_multiple (strictly r.low r.high (λ s. eqb-false c r.low e (eh ∙ s)) w.ordered) in
+    let room : r.low + 2 ^ r.shift ≤ r.high = next_multiple r.shift r.low r.high w.formed.small w.formed.low_multiple w.formed.high_multiple (strictly r.low r.high (λ s. eqb-false c r.low e (eh ∙ s)) w.formed.ordered) in
     let top : r.high < 2 ^ 64 = w.fits in
-    between_range r.low (r.high - 2 ^ r.shift) r.shift (omega arith) (omega arith) w.small w.low_multiple
-    (multiples_taken r.shift r.high (2 ^ r.shift) w.small (omega arith) w.high_multiple (step_multiple r.shift w.small)))
+    between_range r.low (r.high - 2 ^ r.shift) r.shift (omega arith) (omega arith) w.formed.small w.formed.low_multiple
+    (multiples_taken r.shift r.high (2 ^ r.shift) w.formed.small (omega arith) w.formed.high_multiple (step_multiple r.shift w.formed.small)))
     (λ f. w))
 
 pub cuts_are_ranges : CutsAreRanges
@@ -210,9 +210,9 @@ less_through a b c f g = omega arith
 pub above_only : (c n : ℕ) (r : Range) → IsRange r → IsInCut n (above c r) → IsIn n r × (c < n)
 above_only c n r w =
     let next = floor c r.shift + 2 ^ r.shift in
-    let m = greater_multiple r.low next r.shift w.low_multiple (multiples_added r.shift (floor c r.shift) (2 ^ r.shift) w.small (floor_multiple r.shift c w.small) (step_multiple r.shift w.small)) in
+    let m = greater_multiple r.low next r.shift w.formed.low_multiple (multiples_added r.shift (floor c r.shift) (2 ^ r.shift) w.formed.small (floor_multiple r.shift c w.formed.small) (step_multiple r.shift w.formed.small)) in
     if_case (λ q. IsInCut n q → IsIn n r × (c < n)) (nat_lt c r.high) (Some (between (max r.low next) r.high r.shift)) None
-    (λ e h. (record { from_low = max_left r.low next n h.from_low; to_high = h.to_high; multiple = multiple_between (max r.low next) r.high r.shift n m h }, less_through c next n (floor_next r.shift c w.small) (max_right r.low next n h.from_low)))
+    (λ e h. (record { from_low = max_left r.low next n h.from_low; to_high = h.to_high; multiple = multiple_between (max r.low next) r.high r.shift n m h }, less_through c next n (floor_next r.shift c w.formed.small) (max_right r.low next n h.from_low)))
     (λ e h. absurd h)
 
 through : (a b c : ℕ) → a ≤ b → b ≤ c → a ≤ c
@@ -221,5 +221,5 @@ through a b c f g = omega arith
 pub up_to_only : (c n : ℕ) (r : Range) → IsRange r → IsInCut n (up_to c r) → IsIn n r × (n ≤ c)
 up_to_only c n r w =
     if_case (λ q. IsInCut n q → IsIn n r × (n ≤ c)) (nat_le r.low c) (Some (between r.low (min r.high (floor c r.shift)) r.shift)) None
-    (λ e h. (record { from_low = h.from_low; to_high = min_left r.high (floor c r.shift) n h.to_high; multiple = multiple_between r.low (min r.high (floor c r.shift)) r.shift n w.low_multiple h }, through n (floor c r.shift) c (min_right r.high (floor c r.shift) n h.to_high) (floor_below c r.shift)))
+    (λ e h. (record { from_low = h.from_low; to_high = min_left r.high (floor c r.shift) n h.to_high; multiple = multiple_between r.low (min r.high (floor c r.shift)) r.shift n w.formed.low_multiple h }, through n (floor c r.shift) c (min_right r.high (floor c r.shift) n h.to_high) (floor_below c r.shift)))
     (λ e h. absurd h)

@@ -75,7 +75,7 @@ added_keeps r s n m wr ws h g =
     let gm : m ≤ s.high = g.to_high in
     let ln : r.low ≤ n = h.from_low in
     let lm : s.low ≤ m = g.from_low in
-    let small : r.shift ≤ 3 = wr.small in
+    let small : r.shift ≤ 3 = wr.formed.small in
     if_case (λ q. IsIn ((n + m) % 2 ^ 64) q) (nat_lt (r.high + s.high) (2 ^ 64)) (between (r.low + s.low) (r.high + s.high) (min r.shift s.shift)) all
     (λ e.
     let fits : r.high + s.high < 2 ^ 64 = ltb-true (r.high + s.high) (2 ^ 64) e in
@@ -106,7 +106,7 @@ masked_keeps r n c w h =
     let a = max r.shift (trailing c) in
     let up : bit_and n c ≤ min r.high c = least_of r.high c (bit_and n c) (at_most_through (bit_and n c) n r.high (and_le_l n c) h.to_high) (and_le_r n c) in
     let m = masked_multiple n c r.shift h.multiple in
-    in_between 0 (floor (min r.high c) a) a (bit_and n c) (none_less (bit_and n c)) (floor_greatest a (bit_and n c) (min r.high c) (largest r.shift (trailing c) 3 w.small (trailing_small c)) m up) m
+    in_between 0 (floor (min r.high c) a) a (bit_and n c) (none_less (bit_and n c)) (floor_greatest a (bit_and n c) (min r.high c) (largest r.shift (trailing c) 3 w.formed.small (trailing_small c)) m up) m
 
 remainder_case : (b : Bool) (n c : ℕ) (r : Range) → IsRange r → IsIn n r → n < 2 ^ 64 → (b ≡ false → c ≢ 0)
     → IsIn (if b then n else (n % c)) (if b then all else between 0 (floor (min r.high (c - 1)) (min r.shift (trailing c))) (min r.shift (trailing c)))
@@ -114,7 +114,7 @@ remainder_case true n c r w h fits f = in_all n fits
 remainder_case false n c r w h fits f =
     let nonzero : c ≢ 0 = f refl in
     let positive : 0 < c = not_zero c nonzero in
-    let small : r.shift ≤ 3 = w.small in
+    let small : r.shift ≤ 3 = w.formed.small in
     let less : n % c < c = mod_below n c positive in
     let a = min r.shift (trailing c) in
     let up : n % c ≤ min r.high (c - 1) = least_of r.high (c - 1) (n % c) (at_most_through (n % c) n r.high (mod-le n c) h.to_high) (one_less (n % c) c less) in

@@ -1,7 +1,7 @@
 -- The order on ranges is inclusion, and the join is the least cover.
 use Rattle.std.proofs.Common.{◌≡◌, ℕ, ◌+◌, ◌^◌, ◌<◌, ◌≤◌, min, max, refl, sym, ap, ◌∙◌, arith}
 use Rattle.scx_ranges.specs.declared.ranges.Range.{Range}
-use Rattle.scx_ranges.specs.Ranges.{IsIn, IsRange, CoversRange, trailing, join_ranges}
+use Rattle.scx_ranges.specs.Ranges.{IsIn, IsWellFormed, IsRange, CoversRange, trailing, join_ranges}
 use Rattle.scx_ranges.specs.Laws.{OrderIsInclusion, JoinIsLeastCover}
 use Rattle.scx_ranges.proofs.Multiples.{by_less, multiple_of_less, most_trailing, next_multiple, multiples_added, step_multiple, step_divides}
 
@@ -13,21 +13,21 @@ covers_in b a n c h =
     let u : n ≤ a.high = h.to_high in
     record { from_low = omega arith; to_high = omega arith; multiple = multiple_of_less n a.shift b.shift c.shift h.multiple }
 
-pub low_in : (a : Range) → IsRange a → IsIn a.low a
+pub low_in : (a : Range) → IsWellFormed a → IsIn a.low a
 low_in a w = record { from_low = omega arith; to_high = w.ordered; multiple = w.low_multiple }
 
-pub high_in : (a : Range) → IsRange a → IsIn a.high a
+pub high_in : (a : Range) → IsWellFormed a → IsIn a.high a
 high_in a w = record { from_low = w.ordered; to_high = omega arith; multiple = w.high_multiple }
 
-pub next_in : (a : Range) → IsRange a → a.low < a.high → IsIn (a.low + 2 ^ a.shift) a
+pub next_in : (a : Range) → IsWellFormed a → a.low < a.high → IsIn (a.low + 2 ^ a.shift) a
 next_in a w l = record {
   from_low = omega arith;
   to_high = next_multiple a.shift a.low a.high w.small w.low_multiple w.high_multiple l;
   multiple = multiples_added a.shift a.low (2 ^ a.shift) w.small w.low_multiple (step_multiple a.shift w.small);
 }
 
-pub in_covers : (b a : Range) → IsRange b → IsRange a → ((n : ℕ) → IsIn n a → IsIn n b) → CoversRange b a
-in_covers b a wb wa f =
+pub members_cover : (b a : Range) → IsWellFormed b → IsWellFormed a → ((n : ℕ) → IsIn n a → IsIn n b) → CoversRange b a
+members_cover b a wb wa f =
     let low = f a.low (low_in a wa) in
     let high = f a.high (high_in a wa) in
     record {
@@ -39,23 +39,24 @@ in_covers b a wb wa f =
           (λ l. let o : a.low ≤ a.high = wa.ordered in let same : a.low ≡ a.high = omega arith in rw (wa.greatest same) (most_trailing a.low b.shift wb.small low.multiple));
     }
 
+pub in_covers : (b a : Range) → IsRange b → IsRange a → ((n : ℕ) → IsIn n a → IsIn n b) → CoversRange b a
+in_covers b a wb wa f = members_cover b a wb.formed wa.formed f
+
 pub order_is_inclusion : OrderIsInclusion
 order_is_inclusion b a wb wa = (λ c n. covers_in b a n c, in_covers b a wb wa)
 
 least_of : (a b t : ℕ) → a ≡ t → b ≡ t → min a b ≡ a
 least_of a b t e f = omega arith
 
-join_range : (a b : Range) → IsRange a → IsRange b → IsRange (join_ranges a b)
-join_range a b wa wb =
+-- a join of ranges is one
+pub join_formed : (a b : Range) → IsWellFormed a → IsWellFormed b → IsWellFormed (join_ranges a b)
+join_formed a b wa wb =
     let oa : a.low ≤ a.high = wa.ordered in
     let ob : b.low ≤ b.high = wb.ordered in
-    let fa : a.high < 2 ^ 64 = wa.fits in
-    let fb : b.high < 2 ^ 64 = wb.fits in
     let sa : a.shift ≤ 3 = wa.small in
     let sb : b.shift ≤ 3 = wb.small in
     record {
       ordered = omega arith;
-      fits = omega arith;
       small = omega arith;
       low_multiple =
           by_less a.low b.low
@@ -76,6 +77,12 @@ join_range a b wa wb =
           let shifts : min a.shift b.shift ≡ a.shift = least_of a.shift b.shift (trailing a.low) ta tb in
           shifts ∙ ta ∙ ap trailing (sym low);
     }
+
+join_range : (a b : Range) → IsRange a → IsRange b → IsRange (join_ranges a b)
+join_range a b wa wb =
+    let fa : a.high < 2 ^ 64 = wa.fits in
+    let fb : b.high < 2 ^ 64 = wb.fits in
+    record { formed = join_formed a b wa.formed wb.formed; fits = omega arith }
 
 pub join_is_least_cover : JoinIsLeastCover
 join_is_least_cover a b wa wb = record {

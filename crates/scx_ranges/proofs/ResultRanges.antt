@@ -29,13 +29,13 @@ none_less c = omega arith
 
 added_range : (r s : Range) → IsRange r → IsRange s → IsRange (added r s)
 added_range r s wr ws =
-    let or : r.low ≤ r.high = wr.ordered in
-    let os : s.low ≤ s.high = ws.ordered in
-    let small : r.shift ≤ 3 = wr.small in
+    let or : r.low ≤ r.high = wr.formed.ordered in
+    let os : s.low ≤ s.high = ws.formed.ordered in
+    let small : r.shift ≤ 3 = wr.formed.small in
     if_case IsRange (nat_lt (r.high + s.high) (2 ^ 64)) (between (r.low + s.low) (r.high + s.high) (min r.shift s.shift)) all
     (λ e. between_range (r.low + s.low) (r.high + s.high) (min r.shift s.shift) (omega arith) (ltb-true (r.high + s.high) (2 ^ 64) e) (omega arith)
-    (multiples_added (min r.shift s.shift) r.low s.low (omega arith) (multiple_of_less r.low r.shift (min r.shift s.shift) (omega arith) wr.low_multiple) (multiple_of_less s.low s.shift (min r.shift s.shift) (omega arith) ws.low_multiple))
-    (multiples_added (min r.shift s.shift) r.high s.high (omega arith) (multiple_of_less r.high r.shift (min r.shift s.shift) (omega arith) wr.high_multiple) (multiple_of_less s.high s.shift (min r.shift s.shift) (omega arith) ws.high_multiple)))
+    (multiples_added (min r.shift s.shift) r.low s.low (omega arith) (multiple_of_less r.low r.shift (min r.shift s.shift) (omega arith) wr.formed.low_multiple) (multiple_of_less s.low s.shift (min r.shift s.shift) (omega arith) ws.formed.low_multiple))
+    (multiples_added (min r.shift s.shift) r.high s.high (omega arith) (multiple_of_less r.high r.shift (min r.shift s.shift) (omega arith) wr.formed.high_multiple) (multiple_of_less s.high s.shift (min r.shift s.shift) (omega arith) ws.formed.high_multiple)))
     (λ e. all_range)
 
 least_left : (a b : ℕ) → min a b ≤ a
@@ -44,19 +44,19 @@ least_left a b = omega arith
 scaled_range : (c : ℕ) (r : Range) → IsRange r → IsRange (scaled c r)
 scaled_range c r w =
     if_case IsRange (nat_lt (r.high * c) (2 ^ 64)) (between (r.low * c) (r.high * c) (min 3 (r.shift + trailing c))) all
-    (λ e. between_range (r.low * c) (r.high * c) (min 3 (r.shift + trailing c)) (mul-le-mul w.ordered (same_least c)) (ltb-true (r.high * c) (2 ^ 64) e) (least_left 3 (r.shift + trailing c))
-    (scaled_multiple r.low c r.shift w.low_multiple) (scaled_multiple r.high c r.shift w.high_multiple))
+    (λ e. between_range (r.low * c) (r.high * c) (min 3 (r.shift + trailing c)) (mul-le-mul w.formed.ordered (same_least c)) (ltb-true (r.high * c) (2 ^ 64) e) (least_left 3 (r.shift + trailing c))
+    (scaled_multiple r.low c r.shift w.formed.low_multiple) (scaled_multiple r.high c r.shift w.formed.high_multiple))
     (λ e. all_range)
 
 shifted_range : (c : ℕ) (r : Range) → IsRange r → IsRange (shifted_right c r)
 shifted_range c r w =
-    between_range (r.low / 2 ^ (c % 64)) (r.high / 2 ^ (c % 64)) 0 (div_grows r.low r.high (c % 64) w.ordered) (below_through (r.high / 2 ^ (c % 64)) r.high (2 ^ 64) (div-le_self r.high (2 ^ (c % 64))) w.fits)
+    between_range (r.low / 2 ^ (c % 64)) (r.high / 2 ^ (c % 64)) 0 (div_grows r.low r.high (c % 64) w.formed.ordered) (below_through (r.high / 2 ^ (c % 64)) r.high (2 ^ 64) (div-le_self r.high (2 ^ (c % 64))) w.fits)
     (none_less 3) (mod-one (r.low / 2 ^ (c % 64))) (mod-one (r.high / 2 ^ (c % 64)))
 
 masked_range : (c : ℕ) (r : Range) → IsRange r → IsRange (masked c r)
 masked_range c r w =
     let a = max r.shift (trailing c) in
-    let small : max r.shift (trailing c) ≤ 3 = largest r.shift (trailing c) 3 w.small (trailing_small c) in
+    let small : max r.shift (trailing c) ≤ 3 = largest r.shift (trailing c) 3 w.formed.small (trailing_small c) in
     between_range 0 (floor (min r.high c) a) a (none_less (floor (min r.high c) a))
     (below_through (floor (min r.high c) a) (min r.high c) (2 ^ 64) (floor_below (min r.high c) a) (least_below r.high c (2 ^ 64) w.fits)) small (zero-mod (2 ^ a)) (floor_multiple a (min r.high c) small)
 
@@ -66,7 +66,7 @@ small_least a b f = omega arith
 remainder_range : (c : ℕ) (r : Range) → IsRange r → IsRange (remainder c r)
 remainder_range c r w =
     let a = min r.shift (trailing c) in
-    let small : min r.shift (trailing c) ≤ 3 = small_least r.shift (trailing c) w.small in
+    let small : min r.shift (trailing c) ≤ 3 = small_least r.shift (trailing c) w.formed.small in
     if_case IsRange (nat_eq c 0) all (between 0 (floor (min r.high (c - 1)) a) a) (λ e. all_range)
     (λ e. between_range 0 (floor (min r.high (c - 1)) a) a (none_less (floor (min r.high (c - 1)) a))
     (below_through (floor (min r.high (c - 1)) a) (min r.high (c - 1)) (2 ^ 64) (floor_below (min r.high (c - 1)) a) (least_below r.high (c - 1) (2 ^ 64) w.fits)) small (zero-mod (2 ^ a)) (floor_multiple a (min r.high (c - 1)) small))

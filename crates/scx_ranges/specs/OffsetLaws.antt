@@ -1,11 +1,12 @@
 -- What ranges of offsets are for: moves keep each offset and are refused only where one leaves the
 -- element, an access is tested at each of them, and what passes for more offsets passes for fewer.
-use Rattle.std.specs.Prelude.{ℕ, ◌+◌, ◌%◌, ◌^◌, ◌≡◌, ◌≤◌, ◌<◌, ℤ, true, Option, Some, None, is_some}
+-- An element may have any size.
+use Rattle.std.specs.Prelude.{ℕ, ◌+◌, ◌%◌, ◌≡◌, ◌≤◌, ℤ, true, Option, Some, None, is_some}
 use Rattle.scx_semantics.specs.declared.operations.Size.{Size}
 use Rattle.scx_semantics.specs.Arithmetic.{shifted}
 use Rattle.scx_semantics.specs.Memory.{within, size_bytes}
 use Rattle.scx_ranges.specs.declared.ranges.Range.{Range}
-use Rattle.scx_ranges.specs.Ranges.{IsIn, IsRange, CoversRange}
+use Rattle.scx_ranges.specs.Ranges.{IsIn, IsWellFormed, CoversRange}
 use Rattle.scx_ranges.specs.Offsets.{moved, advanced, are_inside, are_aligned}
 
 -- ---- moves by a constant
@@ -18,7 +19,7 @@ IsMoved size n k (Some q) = (to : ℕ) × (within size (shifted n k) ≡ Some to
 -- where there is a range, it is one of offsets in the element
 abbrev pub IsWithin : ℕ → Option Range → Type 0
 IsWithin size None = Unit {0}
-IsWithin size (Some q) = IsRange q × (q.high ≤ size)
+IsWithin size (Some q) = IsWellFormed q × (q.high ≤ size)
 
 -- where the first is a range, so is the second, and is covered by it
 abbrev pub PassesMove : Option Range → Option Range → Type 0
@@ -28,20 +29,22 @@ PassesMove (Some b) (Some a) = CoversRange b a
 
 -- each offset is kept
 abbrev pub MovesAreSound : Type 0
-MovesAreSound = (size : ℕ) (r : Range) (k : ℤ) (n : ℕ) → IsRange r → IsIn n r → IsMoved size n k (moved size r k)
+MovesAreSound =
+    (size : ℕ) (r : Range) (k : ℤ) (n : ℕ) → IsWellFormed r → IsIn n r
+    → IsMoved size n k (moved size r k)
 
 -- there is a range where each offset stays in the element
 abbrev pub MovesAreExact : Type 0
 MovesAreExact =
-    (size : ℕ) (r : Range) (k : ℤ) → IsRange r
+    (size : ℕ) (r : Range) (k : ℤ) → IsWellFormed r
     → ((n : ℕ) → IsIn n r → (to : ℕ) × (within size (shifted n k) ≡ Some to)) → is_some (moved size r k) ≡ true
 
 abbrev pub MovesStayWithin : Type 0
-MovesStayWithin = (size : ℕ) (r : Range) (k : ℤ) → IsRange r → size < 2 ^ 64 → IsWithin size (moved size r k)
+MovesStayWithin = (size : ℕ) (r : Range) (k : ℤ) → IsWellFormed r → IsWithin size (moved size r k)
 
 abbrev pub MovesAreMonotone : Type 0
 MovesAreMonotone =
-    (size : ℕ) (b a : Range) (k : ℤ) → IsRange b → IsRange a → size < 2 ^ 64
+    (size : ℕ) (b a : Range) (k : ℤ) → IsWellFormed b → IsWellFormed a
     → CoversRange b a → PassesMove (moved size b k) (moved size a k)
 
 -- ---- moves by a range of numbers
@@ -54,20 +57,22 @@ IsAdvanced size to (Some q) = (to ≤ size) × IsIn to q
 -- each sum is kept
 abbrev pub AdvancesAreSound : Type 0
 AdvancesAreSound =
-    (size : ℕ) (r s : Range) (n m : ℕ) → IsRange r → IsRange s → IsIn n r → IsIn m s → IsAdvanced size (n + m) (advanced size r s)
+    (size : ℕ) (r s : Range) (n m : ℕ) → IsWellFormed r → IsWellFormed s → IsIn n r → IsIn m s
+    → IsAdvanced size (n + m) (advanced size r s)
 
 -- there is a range where each sum stays in the element
 abbrev pub AdvancesAreExact : Type 0
 AdvancesAreExact =
-    (size : ℕ) (r s : Range) → IsRange r → IsRange s
+    (size : ℕ) (r s : Range) → IsWellFormed r → IsWellFormed s
     → ((n m : ℕ) → IsIn n r → IsIn m s → n + m ≤ size) → is_some (advanced size r s) ≡ true
 
 abbrev pub AdvancesStayWithin : Type 0
-AdvancesStayWithin = (size : ℕ) (r s : Range) → IsRange r → IsRange s → size < 2 ^ 64 → IsWithin size (advanced size r s)
+AdvancesStayWithin =
+    (size : ℕ) (r s : Range) → IsWellFormed r → IsWellFormed s → IsWithin size (advanced size r s)
 
 abbrev pub AdvancesAreMonotone : Type 0
 AdvancesAreMonotone =
-    (size : ℕ) (b d a c : Range) → IsRange b → IsRange d → IsRange a → IsRange c → size < 2 ^ 64
+    (size : ℕ) (b d a c : Range) → IsWellFormed b → IsWellFormed d → IsWellFormed a → IsWellFormed c
     → CoversRange b a → CoversRange d c → PassesMove (advanced size b d) (advanced size a c)
 
 -- ---- accesses
@@ -86,17 +91,17 @@ AllAligned n r k = (at : ℕ) → IsIn at r → (to : ℕ) × (shifted at k ≡ 
 -- what is tested is that of each offset
 abbrev pub InsideIsExact : Type 0
 InsideIsExact =
-    (size n : ℕ) (r : Range) (k : ℤ) → IsRange r
+    (size n : ℕ) (r : Range) (k : ℤ) → IsWellFormed r
     → (are_inside size n r k ≡ true → AllInside size n r k) × (AllInside size n r k → are_inside size n r k ≡ true)
 
 abbrev pub AlignedIsExact : Type 0
 AlignedIsExact =
-    (s : Size) (r : Range) (k : ℤ) → IsRange r
+    (s : Size) (r : Range) (k : ℤ) → IsWellFormed r
     → (are_aligned (size_bytes s) r k ≡ true → AllAligned (size_bytes s) r k) × (AllAligned (size_bytes s) r k → are_aligned (size_bytes s) r k ≡ true)
 
 -- what passes for a range passes for each that it covers
 abbrev pub AccessesAreMonotone : Type 0
 AccessesAreMonotone =
-    (size : ℕ) (s : Size) (b a : Range) (k : ℤ) → IsRange b → IsRange a → CoversRange b a
+    (size : ℕ) (s : Size) (b a : Range) (k : ℤ) → IsWellFormed b → IsWellFormed a → CoversRange b a
     → (are_inside size (size_bytes s) b k ≡ true → are_inside size (size_bytes s) a k ≡ true)
     × (are_aligned (size_bytes s) b k ≡ true → are_aligned (size_bytes s) a k ≡ true)

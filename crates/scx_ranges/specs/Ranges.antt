@@ -14,14 +14,18 @@ pub record IsIn (n : ℕ) (r : Range) : Type 0 where
   pub to_high : n ≤ r.high
   pub multiple : n % 2 ^ r.shift ≡ 0
 
--- it is the range of a set of 64-bit numbers
-pub record IsRange (r : Range) : Type 0 where
+-- it is the range of a set of numbers
+pub record IsWellFormed (r : Range) : Type 0 where
   pub ordered : r.low ≤ r.high
-  pub fits : r.high < 2 ^ 64
   pub small : r.shift ≤ 3
   pub low_multiple : r.low % 2 ^ r.shift ≡ 0
   pub high_multiple : r.high % 2 ^ r.shift ≡ 0
   pub greatest : r.low ≡ r.high → r.shift ≡ trailing r.low
+
+-- it is the range of a set of 64-bit numbers
+pub record IsRange (r : Range) : Type 0 where
+  pub formed : IsWellFormed r
+  pub fits : r.high < 2 ^ 64
 
 -- the first covers the second
 pub record CoversRange (b a : Range) : Type 0 where
