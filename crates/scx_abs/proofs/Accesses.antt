@@ -32,6 +32,8 @@ use Rattle.scx_maps.specs.declared.shape.Shape.{Shape}
 use Rattle.scx_maps.specs.Contents.{HasShapes}
 use Rattle.scx_abs.specs.declared.faults.Why.{Why}
 use Rattle.scx_abs.specs.declared.faults.Why.TheVariants.{UnwrittenStack, TaskField}
+use Rattle.scx_ranges.specs.declared.ranges.Range.{Range}
+use Rattle.scx_ranges.specs.Ranges.{IsIn, IsWellFormed}
 use Rattle.scx_ranges.specs.Results as results
 use Rattle.scx_ranges.proofs.AllWidths.{loads_are_sound}
 use Rattle.scx_abs.specs.declared.kinds.Kind.{Kind}
@@ -49,14 +51,14 @@ use Rattle.scx_abs.specs.Cells.{kind_of, held_of, marked, all_written, written_i
 use Rattle.scx_abs.specs.States.{kind_at, cell_at, with_cell, IsProper}
 use Rattle.scx_abs.specs.Stands.{HasElement, Stands, IsByte, CellStands, IsMember}
 use Rattle.scx_semantics.specs.Results.{◌>>=◌}
-use Rattle.scx_abs.specs.Checks.{goes_on, usable, operand_kind, sets, offset_for}
+use Rattle.scx_abs.specs.Checks.{goes_on, usable, operand_kind, sets, offset_for, offsets_for}
 use Rattle.scx_abs.specs.Rules.{area_of, field_area, loaded_kind, kind_in, load_kind, pointer_cell, number_stored, stored_in, store_rule}
 use Rattle.scx_abs.specs.Laws.{IsSoundFor}
 use Rattle.scx_abs.proofs.Lists.{set_each}
 use Rattle.scx_abs.proofs.Bytes as bytes
 use Rattle.scx_abs.proofs.Bytes.{bytes_read, read_below, element_below, written_at, reads_back, length-number_bytes, length-value_bytes, cell_apart, pointer_stored, fits_cell}
 use Rattle.scx_abs.proofs.Registers.{Gives, set_sound, answer_sound, refused_sound, field_stands, register_allows, operand_allows, checked}
-use Rattle.scx_abs.proofs.Elements.{offset_cases, element_sized, with_number-lengths, maps_member}
+use Rattle.scx_abs.proofs.Elements.{offset_cases, offsets_cases, element_sized, with_number-lengths, maps_member}
 
 -- ---- locations
 
@@ -76,10 +78,10 @@ stack_found : (maps : Maps) (n : ℕ) (t : Option ℕ) → Finds maps n (offset_
 stack_found maps n t =
     offset_cases stack_size n t (λ r o. Finds maps n (r >>= λ at. Ok (OnStack at)) (on_stack o)) (λ why o. tt) (λ at inside aligned. (refl, aligned))
 
-element_found : (maps : Maps) (m i size n : ℕ) (t : Option ℕ) → HasElement maps m i → length (element maps m i) ≡ size
-    → Finds maps n (offset_for size n t >>= λ at. Ok InElement) (in_element m i (aligned_within (length (element maps m i)) n t))
-element_found maps m i size n t there long =
-    rw (← long) (offset_cases (length (element maps m i)) n t (λ r o. Finds maps n (r >>= λ at. Ok InElement) (in_element m i o)) (λ why o. tt) (λ at inside aligned. (there, inside)))
+element_found : (maps : Maps) (m i size p : ℕ) (s : Size) (r : Range) (k : ℤ) → IsWellFormed r → IsIn p r → HasElement maps m i → length (element maps m i) ≡ size
+    → Finds maps (size_bytes s) (offsets_for size (size_bytes s) r k >>= λ fine. Ok InElement) (in_element m i (aligned_within (length (element maps m i)) (size_bytes s) (shifted p k)))
+element_found maps m i size p s r k w h there long =
+    rw (← long) (offsets_cases (length (element maps m i)) s r k p (λ x o. Finds maps (size_bytes s) (x >>= λ fine. Ok InElement) (in_element m i o)) w h (λ why o. tt) (λ at inside. (there, inside)))
 
 -- a field that an access takes whole has as many bytes
 first_width : (n at : ℕ) (fs : List Field) (f : Field) → found_field n at fs ≡ Some f → field_width f ≡ n
@@ -105,16 +107,16 @@ field_found maps n t at = go (field_at n at) refl
     go (Some f) e = (refl, width_found n at f e)
 
 -- the memory that a kind means is where an address of its value points
-pub area_found : (shapes : List Shape) (maps : Maps) (k : Kind) (v : Value) (offset : ℤ) (n : ℕ) → HasShapes shapes maps → Stands maps k v
-    → Finds maps n (area_of shapes k offset n) (address maps v offset n)
-area_found shapes maps (kind.Stack o) (value.Pointer (pointer.Stack p)) offset n shaped h = rw h (stack_found maps n (shifted p offset))
-area_found shapes maps (kind.Stack o) v offset n shaped h = absurd h
-area_found shapes maps (Elem m o) (value.Pointer (pointer.Element k i p)) offset n shaped h =
-    rw (h.0, h.1) (element_found maps k i _ n (shifted p offset) h.2 (element_sized shapes maps k i shaped h.2))
-area_found shapes maps (Elem m o) v offset n shaped h = absurd h
-area_found shapes maps Task (value.Pointer (pointer.Task t)) offset n shaped h = field_found maps n t (shifted 0 offset)
-area_found shapes maps Task v offset n shaped h = absurd h
-area_found shapes maps k v offset n shaped h = tt
+pub area_found : (shapes : List Shape) (maps : Maps) (k : Kind) (v : Value) (offset : ℤ) (s : Size) → HasShapes shapes maps → IsProperKind k → Stands maps k v
+    → Finds maps (size_bytes s) (area_of shapes k offset (size_bytes s)) (address maps v offset (size_bytes s))
+area_found shapes maps (kind.Stack o) (value.Pointer (pointer.Stack p)) offset s shaped w h = rw h (stack_found maps (size_bytes s) (shifted p offset))
+area_found shapes maps (kind.Stack o) v offset s shaped w h = absurd h
+area_found shapes maps (Elem m r) (value.Pointer (pointer.Element k i p)) offset s shaped w h =
+    rw h.0 (element_found maps k i _ p s r offset w h.1 h.2 (element_sized shapes maps k i shaped h.2))
+area_found shapes maps (Elem m r) v offset s shaped w h = absurd h
+area_found shapes maps Task (value.Pointer (pointer.Task t)) offset s shaped w h = field_found maps (size_bytes s) t (shifted 0 offset)
+area_found shapes maps Task v offset s shaped w h = absurd h
+area_found shapes maps k v offset s shaped w h = tt
 
 -- what holds of every refusal, and of each location that both find, holds of both
 area_cases : {B : Type 0} (maps : Maps) (n : ℕ) (r : Result Area Why) (to : Location) (f : Area → Result B Why) (P : Result B Why → Type 0) → ((why : Why) → P (Err why))
@@ -182,7 +184,7 @@ load_sound shapes a m access d r offset p h =
     (register_allows shapes a m r p h)
     (λ base ub pb hb. area_cases m.maps n (area_of shapes base offset n) to (λ area. kind_in a access area)
     (λ res. IsSoundFor shapes (sets a (number d) res) (loaded m (number d) access to)) (λ why. refused_sound shapes a (number d) why (loaded m (number d) access to))
-    (area_found shapes m.maps base (m.registers (number r)) offset n h.maps hb)
+    (area_found shapes m.maps base (m.registers (number r)) offset (access_size access) h.maps pb hb)
     (λ area means. load_in shapes a m (number d) access area to h means))
 
 -- ---- stores
@@ -294,5 +296,5 @@ store_sound shapes a m s r offset x fits p h =
     (operand_allows shapes a m Bits64 x fits p h)
     (λ k uk pk hk. area_cases m.maps n (area_of shapes base offset n) to (λ area. stored_in a s k area)
     (λ res. IsSoundFor shapes res (stored m s v to)) (λ why. tt)
-    (area_found shapes m.maps base (m.registers (number r)) offset n h.maps hb)
+    (area_found shapes m.maps base (m.registers (number r)) offset s h.maps pb hb)
     (λ area means. store_in shapes a m s k v area to h uk hk means)))

@@ -28,10 +28,11 @@ blanks_copied xs ys low long within h g =
     rw same (take-append-drop low ys)
 
 -- the same after a write to the part of the first from that one on
-pub blanks_put : (xs ys part : List Cell) (low : ℕ) → length xs ≡ 64 → length ys ≡ 64 → low ≤ 64 → AreBlank low xs → AreBlank low ys → part ≡ mid_of low (64 - low) ys → put_mid low (64 - low) xs part ≡ ys
+pub blanks_put : (xs ys part : List Cell) (low : ℕ) → length xs ≡ 64 → length ys ≡ 64 → low ≤ 64 → AreBlank low xs → AreBlank low ys → part ≡ mid_of low (length ys - low) ys
+    → put_mid low (length xs - low) xs part ≡ ys
 blanks_put xs ys part low long other within h g e =
-    let none : drop (64 - low) (drop low xs) ≡ [] = drop_all (64 - low) (drop low xs) (omega (arith, length-drop low xs)) in
-    let whole : take (64 - low) (drop low ys) ≡ drop low ys = take_all (64 - low) (drop low ys) (omega (arith, length-drop low ys)) in
+    let none : drop (length xs - low) (drop low xs) ≡ [] = drop_all (length xs - low) (drop low xs) (omega (arith, length-drop low xs)) in
+    let whole : take (length ys - low) (drop low ys) ≡ drop low ys = take_all (length ys - low) (drop low ys) (omega (arith, length-drop low ys)) in
     ap (λ (l : List Cell). take low xs ++ (part ++ l)) none
     ∙ ap (λ (l : List Cell). take low xs ++ l) (append-nil part ∙ e ∙ whole)
     ∙ blanks_copied xs ys low (long ∙ sym other) (omega (arith, within, other)) h g

@@ -105,7 +105,7 @@ null_side shapes a m r (Num s) n h u e g = absurd u
 null_side shapes a m r j n h u e g = absurd g
 
 pointer_side : (shapes : List Shape) (a : AbsState) (m : Machine) (r : ℕ) (j : Kind) (p : pointers.Pointer) → IsMember shapes a m → m.registers r ≡ value.Pointer p → Stands m.maps j (value.Pointer p) → IsMember shapes (if_not_null a r j) m
-pointer_side shapes a m r (ElemOrNull i) (pointer.Element k n o) h e g = refined shapes a m r (Elem i 0) h (rw e g)
+pointer_side shapes a m r (ElemOrNull i) (pointer.Element k n o) h e g = refined shapes a m r (Elem i (single 0)) h (rw e (g.0, zero_in o (sym g.1), g.2))
 pointer_side shapes a m r (ElemOrNull i) p h e g = absurd g
 pointer_side shapes a m r TaskOrNull (pointer.Task t) h e g = refined shapes a m r Task h (rw e tt)
 pointer_side shapes a m r TaskOrNull p h e g = absurd g

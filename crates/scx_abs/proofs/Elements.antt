@@ -1,19 +1,25 @@
 -- Elements of maps: the checks of an offset, what shapes say of an element, and the state after a store
 -- to one.
-use Rattle.std.proofs.Common.{◌≡◌, ℕ, zero, suc, ◌+◌, ◌*◌, ◌%◌, ◌<◌, ◌≤◌, ◌⊎◌, inl, inr, Bool, true, false, ◌&&◌, nat_eq, nat_le, List, [], ◌∷◌, ◌++◌, length, take, drop, slice_index_or, slice_get, Option, Some, None, Result, Ok, Err, ok_or, if◌then◌else◌, refl, sym, ap, ◌∙◌, arith}
-use Rattle.std.proofs.lemmas.Bool.{eqb-true, leb-true}
+use Rattle.std.proofs.Common.{◌≡◌, ℕ, zero, suc, ◌+◌, ◌*◌, ◌%◌, ◌<◌, ◌≤◌, ◌⊎◌, inl, inr, ℤ, Bool, true, false, ◌&&◌, nat_eq, nat_le, List, [], ◌∷◌, length, slice_index_or, slice_get, Option, Some, None, Result, Ok, Err, ok_or, if◌then◌else◌, refl, sym, ap, subst, ◌∙◌, arith}
+use Rattle.std.proofs.lemmas.Bool.{eqb-true, eq-eqb, leb-true, le-leb, and_from}
 use Rattle.std.proofs.lemmas.Option.{slice_get_cases}
 use Rattle.std.proofs.lemmas.List.{length-map}
+use Rattle.scx_semantics.specs.declared.operations.Size.{Size}
 use Rattle.scx_semantics.specs.declared.values.Value.{Value}
 use Rattle.scx_semantics.specs.declared.values.Value.TheVariants as value
 use Rattle.scx_semantics.specs.declared.values.Pointer.TheVariants as pointer
-use Rattle.scx_semantics.specs.Memory.{Stack, within, aligned_within}
+use Rattle.scx_semantics.specs.Arithmetic.{shifted}
+use Rattle.scx_semantics.specs.Memory.{Stack, within, aligned_within, size_bytes}
 use Rattle.scx_semantics.specs.Elements.{Maps, elements, element, with_element, with_number, HoldBytes}
 use Rattle.scx_semantics.specs.Machine.{Machine, with_maps}
 use Rattle.scx_maps.specs.declared.shape.Shape.{Shape}
 use Rattle.scx_maps.specs.Contents.{lengths, lengths_of, HasShapes}
 use Rattle.scx_semantics.proofs.Bytes.{length-with_number}
 use Rattle.scx_maps.proofs.Shaped.{length-entries-shaped, length-value-shaped, length-shaped, lengths_of-with_value}
+use Rattle.scx_ranges.specs.declared.ranges.Range.{Range}
+use Rattle.scx_ranges.specs.Ranges.{IsIn, IsWellFormed}
+use Rattle.scx_ranges.specs.Offsets.{are_inside, are_aligned}
+use Rattle.scx_ranges.proofs.ElementOffsets.{inside_is_exact, aligned_is_exact}
 use Rattle.scx_abs.specs.declared.faults.Why.{Why}
 use Rattle.scx_abs.specs.declared.faults.Why.TheVariants.{OutOfBounds, Misaligned}
 use Rattle.scx_abs.specs.declared.kinds.Kind.{Kind}
@@ -25,7 +31,7 @@ use Rattle.scx_abs.specs.declared.states.AbsState.{AbsState}
 use Rattle.scx_abs.specs.Cells.{kind_of}
 use Rattle.scx_abs.specs.States.{kind_at, cell_at}
 use Rattle.scx_abs.specs.Stands.{HasElement, Stands, CellStands, IsMember}
-use Rattle.scx_abs.specs.Checks.{size_of, element_size, offset_within, offset_for}
+use Rattle.scx_abs.specs.Checks.{size_of, element_size, offset_within, offset_for, offsets_for}
 
 -- ---- checks of an offset
 
@@ -47,6 +53,34 @@ offset_cases size n (Some at) P none ok = go (nat_le (at + n) size) (nat_eq (at 
     go true true d e = ok at (leb-true (at + n) size d) (eqb-true (at % n) 0 e)
     go true false d e = none Misaligned None
     go false b d e = none OutOfBounds None
+
+some_is : (x y : ℕ) → Some x ≡ Some y → x ≡ y
+some_is x y e = cc
+
+aligned_at : (size n at : ℕ) (t : Option ℕ) → t ≡ Some at → at + n ≤ size → at % n ≡ 0 → aligned_within size n t ≡ Some at
+aligned_at size n at t e inside aligned =
+    ap (aligned_within size n) e ∙ ap (λ b. if b then Some at else None) (and_from (nat_le (at + n) size) (nat_eq (at % n) 0) (le-leb (at + n) size inside) (eq-eqb (at % n) 0 aligned))
+
+-- what holds of every refusal, and of an offset that is allowed, holds of one of several offsets
+pub offsets_cases : (size : ℕ) (s : Size) (r : Range) (k : ℤ) (p : ℕ) (P : Result (Unit {0}) Why → Option ℕ → Type 0) → IsWellFormed r → IsIn p r → ((why : Why) (o : Option ℕ) → P (Err why) o)
+    → ((at : ℕ) → at + size_bytes s ≤ size → P (Ok tt) (Some at)) → P (offsets_for size (size_bytes s) r k) (aligned_within size (size_bytes s) (shifted p k))
+offsets_cases size s r k p P w i none ok = go (are_inside size (size_bytes s) r k) (are_aligned (size_bytes s) r k) refl refl
+  where
+    place : Option ℕ
+    place = aligned_within size (size_bytes s) (shifted p k)
+
+    found : are_inside size (size_bytes s) r k ≡ true → are_aligned (size_bytes s) r k ≡ true → P (Ok tt) place
+    found d e =
+        let inside = (inside_is_exact size (size_bytes s) r k w).0 d p i in
+        let aligned = (aligned_is_exact s r k w).0 e p i in
+        let same : aligned.0 ≡ inside.0 = some_is aligned.0 inside.0 (sym aligned.1 ∙ inside.1.there) in
+        let multiple : inside.0 % size_bytes s ≡ 0 = subst (λ at. at % size_bytes s ≡ 0) same aligned.2 in
+        subst (P (Ok tt)) (sym (aligned_at size (size_bytes s) inside.0 (shifted p k) inside.1.there inside.1.inside multiple)) (ok inside.0 inside.1.inside)
+
+    go : (a b : Bool) → are_inside size (size_bytes s) r k ≡ a → are_aligned (size_bytes s) r k ≡ b → P (if a then if b then Ok tt else Err Misaligned else Err OutOfBounds) place
+    go true true d e = found d e
+    go true false d e = none Misaligned place
+    go false b d e = none OutOfBounds place
 
 -- ---- elements
 
@@ -96,7 +130,7 @@ stands_still : (maps other : Maps) (k : Kind) (v : Value) → lengths_of other �
 stands_still maps other Unusable v e h = tt
 stands_still maps other (Num r) (value.Number n) e h = h
 stands_still maps other (kind.Stack o) (value.Pointer (pointer.Stack p)) e h = h
-stands_still maps other (Elem m o) (value.Pointer (pointer.Element n i p)) e h =
+stands_still maps other (Elem m r) (value.Pointer (pointer.Element n i p)) e h =
     let same = same_elements maps other n e in
     let there = h.2 in
     (h.0, h.1, omega arith)

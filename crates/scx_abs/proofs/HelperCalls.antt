@@ -1,7 +1,8 @@
 -- Helper calls: what the checks pass the helper takes, and the state after a call.
-use Rattle.std.proofs.Common.{◌≡◌, ℕ, ◌+◌, ◌*◌, ◌/◌, ◌%◌, ◌≤◌, Bool, true, false, ◌&&◌, nat_lt, List, [], ◌∷◌, length, Option, Some, None, is_some, Result, Ok, Err, if◌then◌else◌, refl, ◌∙◌, arith}
+use Rattle.std.proofs.Common.{◌≡◌, ℕ, ◌+◌, ◌*◌, ◌/◌, ◌%◌, ◌≤◌, Bool, true, false, ◌&&◌, nat_lt, pos, List, [], ◌∷◌, length, Option, Some, None, is_some, Result, Ok, Err, if◌then◌else◌, refl, ◌∙◌, arith}
 use Rattle.std.proofs.lemmas.Bool.{and_parts, and_from, lt-ltb, ltb-true}
 use Rattle.scx_semantics.specs.declared.operations.Access.TheVariants as access
+use Rattle.scx_semantics.specs.declared.operations.Size.TheVariants as sizes
 use Rattle.scx_semantics.specs.declared.callbacks.Callback.{Callback}
 use Rattle.scx_semantics.specs.declared.host_tables.Helper.{Helper}
 use Rattle.scx_semantics.specs.declared.host_tables.Helper.TheVariants as helper
@@ -10,6 +11,7 @@ use Rattle.scx_semantics.specs.declared.host_tables.Parameter.TheVariants as par
 use Rattle.scx_semantics.specs.declared.values.Value.{Value}
 use Rattle.scx_semantics.specs.declared.values.Value.TheVariants as value
 use Rattle.scx_semantics.specs.declared.values.Pointer.TheVariants as pointer
+use Rattle.scx_semantics.specs.Arithmetic.{shifted}
 use Rattle.scx_semantics.specs.Memory.{Stack, stack_size, aligned_within, load}
 use Rattle.scx_semantics.specs.HostTables.{parameters, is_allowed}
 use Rattle.scx_semantics.specs.Elements.{Maps, elements, element}
@@ -22,7 +24,8 @@ use Rattle.scx_semantics.specs.Calls.{number_of, key_at, key, takes_all, argumen
 use Rattle.scx_maps.specs.declared.shape.Shape.{Shape}
 use Rattle.scx_abs.specs.declared.faults.Why.{Why}
 use Rattle.scx_abs.specs.declared.faults.Why.TheVariants.{UnwrittenStack, HelperNotHere}
-use Rattle.scx_ranges.specs.Ranges.{all}
+use Rattle.scx_ranges.specs.declared.ranges.Range.{Range}
+use Rattle.scx_ranges.specs.Ranges.{IsIn, IsWellFormed, all}
 use Rattle.scx_abs.specs.declared.kinds.Kind.{Kind}
 use Rattle.scx_abs.specs.declared.kinds.Kind.TheVariants as kind
 use Rattle.scx_abs.specs.declared.kinds.Kind.TheVariants.{Unusable, Num, Elem, ElemOrNull, Task, TaskOrNull, MapRef}
@@ -30,17 +33,19 @@ use Rattle.scx_abs.specs.declared.kinds.Cell.{Cell}
 use Rattle.scx_abs.specs.declared.kinds.Cell.TheVariants.{Bytes, Pointer}
 use Rattle.scx_abs.specs.declared.states.AbsState.{AbsState}
 use Rattle.scx_abs.specs.Cells.{no_bytes, all_written, written_in}
-use Rattle.scx_abs.specs.States.{kind_at, cell_at, with_kind}
+use Rattle.scx_abs.specs.Kinds.{IsProperKind}
+use Rattle.scx_abs.specs.States.{kind_at, cell_at, with_kind, IsProper}
 use Rattle.scx_abs.specs.Stands.{Stands, CellStands, IsMember}
 use Rattle.scx_semantics.specs.Results.{◌>>=◌}
-use Rattle.scx_abs.specs.Checks.{goes_on, offset_for}
+use Rattle.scx_abs.specs.Checks.{goes_on, offsets_for}
 use Rattle.scx_abs.specs.Calls as rules
 use Rattle.scx_abs.specs.Calls.{key_in, key_check, argument_check, arguments_check, element_of, answer_kind, call_allowed, call_rule}
 use Rattle.scx_abs.specs.Laws.{IsSoundFor}
 use Rattle.scx_abs.proofs.Orders.{none_written}
 use Rattle.scx_abs.proofs.Bytes.{bytes_read, written_at}
+use Rattle.scx_abs.proofs.Proper.{kind_is_proper}
 use Rattle.scx_abs.proofs.Registers.{kind_member, number_stands, task_or_null_fits}
-use Rattle.scx_abs.proofs.Elements.{offset_cases, element_sized}
+use Rattle.scx_abs.proofs.Elements.{offset_cases, offsets_cases, element_sized}
 use Rattle.scx_abs.proofs.Accesses.{bytes_stand}
 
 -- ---- arguments
@@ -64,22 +69,21 @@ stack_key shapes a m at h aligned = go (all_written (written_in (cell_at a (at /
     go true e = word_read m.maps (cell_at a (at / 8)) m.stack at (h.cells (at / 8)) (omega arith) e
     go false e = tt
 
-element_key : (m : Machine) (k i size : ℕ) (t : Option ℕ) → length (element m.maps k i) ≡ size
-    → Passes (offset_for size 4 t >>= λ at. Ok tt) (is_some (key_at m (in_element k i (aligned_within (length (element m.maps k i)) 4 t))))
-element_key m k i size t long =
-    rw (← long) (offset_cases (length (element m.maps k i)) 4 t (λ r o. Passes (r >>= λ at. Ok tt) (is_some (key_at m (in_element k i o)))) (λ why o. tt) (λ at inside aligned. refl))
+element_key : (m : Machine) (k i size p : ℕ) (r : Range) → IsWellFormed r → IsIn p r → length (element m.maps k i) ≡ size
+    → Passes (offsets_for size 4 r (pos 0)) (is_some (key_at m (in_element k i (aligned_within (length (element m.maps k i)) 4 (shifted p (pos 0))))))
+element_key m k i size p r w h long =
+    rw (← long) (offsets_cases (length (element m.maps k i)) sizes.Word r (pos 0) p (λ x o. Passes x (is_some (key_at m (in_element k i o)))) w h (λ why o. tt) (λ at inside. refl))
 
-key_passes : (shapes : List Shape) (a : AbsState) (m : Machine) (k : Kind) (v : Value) → IsMember shapes a m → Stands m.maps k v → Passes (key_check shapes a k) (is_some (key m v))
-key_passes shapes a m (kind.Stack o) (value.Pointer (pointer.Stack p)) h g =
+key_passes : (shapes : List Shape) (a : AbsState) (m : Machine) (k : Kind) (v : Value) → IsMember shapes a m → IsProperKind k → Stands m.maps k v → Passes (key_check shapes a k) (is_some (key m v))
+key_passes shapes a m (kind.Stack o) (value.Pointer (pointer.Stack p)) h w g =
     let here : p + 0 ≡ p = omega arith in
     rw (g, here) (offset_cases stack_size 4 (Some p) (λ r t. Passes (r >>= λ at. key_in (cell_at a (at / 8)) (at % 8)) (is_some (key_at m (on_stack t)))) (λ why t. tt)
     (λ at inside aligned. stack_key shapes a m at h aligned))
-key_passes shapes a m (kind.Stack o) v h g = absurd g
-key_passes shapes a m (Elem n o) (value.Pointer (pointer.Element k i p)) h g =
-    let here : p + 0 ≡ p = omega arith in
-    rw (g.0, g.1, here) (element_key m k i _ (Some p) (element_sized shapes m.maps k i h.maps g.2))
-key_passes shapes a m (Elem n o) v h g = absurd g
-key_passes shapes a m k v h g = tt
+key_passes shapes a m (kind.Stack o) v h w g = absurd g
+key_passes shapes a m (Elem n r) (value.Pointer (pointer.Element k i p)) h w g =
+    rw g.0 (element_key m k i _ p r w g.1 (element_sized shapes m.maps k i h.maps g.2))
+key_passes shapes a m (Elem n r) v h w g = absurd g
+key_passes shapes a m k v h w g = tt
 
 map_passes : (m : Machine) (k : Kind) (v : Value) → Stands m.maps k v → Passes (rules.map_check k) (meaning.takes m parameter.Map v)
 map_passes m (MapRef j) (value.Pointer (pointer.Map n)) h = lt-ltb n (length m.maps) h.1
@@ -96,29 +100,29 @@ number_passes m (Num r) (value.Number n) h = refl
 number_passes m (Num r) v h = absurd h
 number_passes m k v h = tt
 
-kind_passes : (shapes : List Shape) (a : AbsState) (m : Machine) (p : Parameter) (k : Kind) (v : Value) → IsMember shapes a m → Stands m.maps k v
+kind_passes : (shapes : List Shape) (a : AbsState) (m : Machine) (p : Parameter) (k : Kind) (v : Value) → IsMember shapes a m → IsProperKind k → Stands m.maps k v
     → Passes (rules.takes shapes a p k) (meaning.takes m p v)
-kind_passes shapes a m parameter.Map k v h g = map_passes m k v g
-kind_passes shapes a m parameter.Key k v h g = key_passes shapes a m k v h g
-kind_passes shapes a m parameter.Task k v h g = task_passes m k v g
-kind_passes shapes a m parameter.Number k v h g = number_passes m k v g
+kind_passes shapes a m parameter.Map k v h w g = map_passes m k v g
+kind_passes shapes a m parameter.Key k v h w g = key_passes shapes a m k v h w g
+kind_passes shapes a m parameter.Task k v h w g = task_passes m k v g
+kind_passes shapes a m parameter.Number k v h w g = number_passes m k v g
 
-argument_passes : (shapes : List Shape) (a : AbsState) (m : Machine) (p : Parameter) (k : Kind) (v : Value) → IsMember shapes a m → Stands m.maps k v
+argument_passes : (shapes : List Shape) (a : AbsState) (m : Machine) (p : Parameter) (k : Kind) (v : Value) → IsMember shapes a m → IsProperKind k → Stands m.maps k v
     → Passes (argument_check shapes a p k) (meaning.takes m p v)
-argument_passes shapes a m p Unusable v h g = tt
-argument_passes shapes a m p k v h g = kind_passes shapes a m p k v h g
+argument_passes shapes a m p Unusable v h w g = tt
+argument_passes shapes a m p k v h w g = kind_passes shapes a m p k v h w g
 
 both_pass : (r s : Result (Unit {0}) Why) (b c : Bool) → Passes r b → Passes s c → Passes (r >>= λ here. s) (b && c)
 both_pass (Err why) s b c g h = tt
 both_pass (Ok fine) (Err why) b c g h = tt
 both_pass (Ok fine) (Ok same) b c g h = and_from b c g h
 
-arguments_pass : (shapes : List Shape) (a : AbsState) (m : Machine) (ps : List Parameter) (r : ℕ) → IsMember shapes a m → Passes (arguments_check shapes a ps r) (takes_all m ps r)
-arguments_pass shapes a m [] r h = refl
-arguments_pass shapes a m (p ∷ ps) r h =
+arguments_pass : (shapes : List Shape) (a : AbsState) (m : Machine) (ps : List Parameter) (r : ℕ) → IsProper a → IsMember shapes a m → Passes (arguments_check shapes a ps r) (takes_all m ps r)
+arguments_pass shapes a m [] r w h = refl
+arguments_pass shapes a m (p ∷ ps) r w h =
     both_pass (argument_check shapes a p (kind_at a r)) (arguments_check shapes a ps (r + 1)) (meaning.takes m p (m.registers r)) (takes_all m ps (r + 1))
-    (argument_passes shapes a m p (kind_at a r) (m.registers r) h (h.registers r))
-    (arguments_pass shapes a m ps (r + 1) h)
+    (argument_passes shapes a m p (kind_at a r) (m.registers r) h (kind_is_proper a r w) (h.registers r))
+    (arguments_pass shapes a m ps (r + 1) w h)
 
 -- ---- after a call
 
@@ -174,8 +178,8 @@ allowed_sound shapes h a m (Err why) b g p e = tt
 allowed_sound shapes h a m (Ok fine) b g p e = rw p (called_sound shapes h a m g (e ∙ p))
 
 -- the rule of helper calls is sound
-pub call_sound : (shapes : List Shape) (c : Callback) (h : Option Helper) (a : AbsState) (m : Machine) → IsMember shapes a m → IsSoundFor shapes (call_rule shapes c h a) (call_helper c m h)
-call_sound shapes c None a m g = tt
-call_sound shapes c (Some h) a m g =
+pub call_sound : (shapes : List Shape) (c : Callback) (h : Option Helper) (a : AbsState) (m : Machine) → IsProper a → IsMember shapes a m → IsSoundFor shapes (call_rule shapes c h a) (call_helper c m h)
+call_sound shapes c None a m w g = tt
+call_sound shapes c (Some h) a m w g =
     elim (is_allowed h c) as (λ b. IsSoundFor shapes (if b then call_allowed shapes h a else Err HelperNotHere) (if b && takes_all m (parameters h) 1 then called m h else effect.Stuck))
-    [ true ↦ allowed_sound shapes h a m (arguments_check shapes a (parameters h) 1) (takes_all m (parameters h) 1) g (arguments_pass shapes a m (parameters h) 1 g) refl | false ↦ tt ]
+    [ true ↦ allowed_sound shapes h a m (arguments_check shapes a (parameters h) 1) (takes_all m (parameters h) 1) g (arguments_pass shapes a m (parameters h) 1 w g) refl | false ↦ tt ]

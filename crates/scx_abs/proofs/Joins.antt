@@ -59,10 +59,10 @@ joined_nothing xs ys r d here none =
 pub kind_covers_first : (j k : Kind) → CoversKind (join_kind j k) j
 kind_covers_first (Num r) (Num s) = range_covers_first r s
 kind_covers_first (Stack o) (Stack p) = if_covers (nat_eq o p) (Stack o) (Stack o) (λ e. refl)
-kind_covers_first (Elem m o) (Elem n p) = if_covers (nat_eq m n && nat_eq o p) (Elem m o) (Elem m o) (λ e. (refl, refl))
-kind_covers_first (Elem m o) (ElemOrNull n) =
-    if_covers (nat_eq m n && nat_eq o 0) (ElemOrNull n) (Elem m o) (λ e. let t = two_tests m n o 0 e in (sym t.0, t.1))
-kind_covers_first (ElemOrNull m) (Elem n o) = if_covers (nat_eq m n && nat_eq o 0) (ElemOrNull m) (ElemOrNull m) (λ e. refl)
+kind_covers_first (Elem m r) (Elem n s) = if_covers (nat_eq m n) (Elem m (join_ranges r s)) (Elem m r) (λ e. (refl, range_covers_first r s))
+kind_covers_first (Elem m r) (ElemOrNull n) =
+    if_covers (nat_eq m n && nat_eq r.high 0) (ElemOrNull n) (Elem m r) (λ e. let t = two_tests m n r.high 0 e in (sym t.0, t.1))
+kind_covers_first (ElemOrNull m) (Elem n r) = if_covers (nat_eq m n && nat_eq r.high 0) (ElemOrNull m) (ElemOrNull m) (λ e. refl)
 kind_covers_first (ElemOrNull m) (ElemOrNull n) = if_covers (nat_eq m n) (ElemOrNull m) (ElemOrNull m) (λ e. refl)
 kind_covers_first Task Task = tt
 kind_covers_first Task TaskOrNull = tt
@@ -75,10 +75,10 @@ kind_covers_first j k = tt
 pub kind_covers_second : (j k : Kind) → CoversKind (join_kind j k) k
 kind_covers_second (Num r) (Num s) = range_covers_second r s
 kind_covers_second (Stack o) (Stack p) = if_covers (nat_eq o p) (Stack o) (Stack p) (λ e. eqb-true o p e)
-kind_covers_second (Elem m o) (Elem n p) = if_covers (nat_eq m n && nat_eq o p) (Elem m o) (Elem n p) (λ e. two_tests m n o p e)
-kind_covers_second (Elem m o) (ElemOrNull n) = if_covers (nat_eq m n && nat_eq o 0) (ElemOrNull n) (ElemOrNull n) (λ e. refl)
-kind_covers_second (ElemOrNull m) (Elem n o) =
-    if_covers (nat_eq m n && nat_eq o 0) (ElemOrNull m) (Elem n o) (λ e. let t = two_tests m n o 0 e in (t.0, t.1))
+kind_covers_second (Elem m r) (Elem n s) = if_covers (nat_eq m n) (Elem m (join_ranges r s)) (Elem n s) (λ e. (eqb-true m n e, range_covers_second r s))
+kind_covers_second (Elem m r) (ElemOrNull n) = if_covers (nat_eq m n && nat_eq r.high 0) (ElemOrNull n) (ElemOrNull n) (λ e. refl)
+kind_covers_second (ElemOrNull m) (Elem n r) =
+    if_covers (nat_eq m n && nat_eq r.high 0) (ElemOrNull m) (Elem n r) (λ e. let t = two_tests m n r.high 0 e in (t.0, t.1))
 kind_covers_second (ElemOrNull m) (ElemOrNull n) = if_covers (nat_eq m n) (ElemOrNull m) (ElemOrNull n) (λ e. eqb-true m n e)
 kind_covers_second Task Task = tt
 kind_covers_second Task TaskOrNull = tt
@@ -95,19 +95,22 @@ if_least false l k e h = absurd (cc)
 both_equal : (m n o p : ℕ) → m ≡ n → o ≡ p → (nat_eq m n && nat_eq o p) ≡ true
 both_equal m n o p e f = and_from (nat_eq m n) (nat_eq o p) (eq-eqb m n e) (eq-eqb o p f)
 
+none_higher : (r s : Range) → r.high ≡ 0 → s.high ≡ 0 → (join_ranges r s).high ≡ 0
+none_higher r s e f = omega arith
+
 -- and what covers both covers it
 pub kind_least : (l j k : Kind) → CoversKind l j → CoversKind l k → CoversKind l (join_kind j k)
 kind_least Unusable j k g h = tt
 kind_least (Num t) (Num r) (Num s) g h = range_least t r s g h
 kind_least (Stack o) (Stack p) (Stack q) g h = if_least (nat_eq p q) (Stack o) (Stack p) (eq-eqb p q (sym g ∙ h)) g
-kind_least (Elem m o) (Elem n p) (Elem l q) g h =
-    if_least (nat_eq n l && nat_eq p q) (Elem m o) (Elem n p) (both_equal n l p q (sym g.0 ∙ h.0) (sym g.1 ∙ h.1)) g
-kind_least (ElemOrNull m) (Elem n o) (Elem l p) g h =
-    if_least (nat_eq n l && nat_eq o p) (ElemOrNull m) (Elem n o) (both_equal n l o p (sym g.0 ∙ h.0) (g.1 ∙ sym h.1)) g
-kind_least (ElemOrNull m) (Elem n o) (ElemOrNull l) g h =
-    if_least (nat_eq n l && nat_eq o 0) (ElemOrNull m) (ElemOrNull l) (both_equal n l o 0 (sym g.0 ∙ h) g.1) h
-kind_least (ElemOrNull m) (ElemOrNull n) (Elem l o) g h =
-    if_least (nat_eq n l && nat_eq o 0) (ElemOrNull m) (ElemOrNull n) (both_equal n l o 0 (sym g ∙ h.0) h.1) g
+kind_least (Elem m t) (Elem n r) (Elem l s) g h =
+    if_least (nat_eq n l) (Elem m t) (Elem n (join_ranges r s)) (eq-eqb n l (sym g.0 ∙ h.0)) (g.0, range_least t r s g.1 h.1)
+kind_least (ElemOrNull m) (Elem n r) (Elem l s) g h =
+    if_least (nat_eq n l) (ElemOrNull m) (Elem n (join_ranges r s)) (eq-eqb n l (sym g.0 ∙ h.0)) (g.0, none_higher r s g.1 h.1)
+kind_least (ElemOrNull m) (Elem n r) (ElemOrNull l) g h =
+    if_least (nat_eq n l && nat_eq r.high 0) (ElemOrNull m) (ElemOrNull l) (both_equal n l r.high 0 (sym g.0 ∙ h) g.1) h
+kind_least (ElemOrNull m) (ElemOrNull n) (Elem l r) g h =
+    if_least (nat_eq n l && nat_eq r.high 0) (ElemOrNull m) (ElemOrNull n) (both_equal n l r.high 0 (sym g ∙ h.0) h.1) g
 kind_least (ElemOrNull m) (ElemOrNull n) (ElemOrNull l) g h = if_least (nat_eq n l) (ElemOrNull m) (ElemOrNull n) (eq-eqb n l (sym g ∙ h)) g
 kind_least Task Task Task g h = tt
 kind_least TaskOrNull Task Task g h = tt

@@ -1,5 +1,5 @@
 -- Loads and stores in a state and in one that it covers.
-use Rattle.std.proofs.Common.{◌≡◌, ℕ, zero, suc, ◌+◌, ◌/◌, ◌%◌, ◌<◌, ◌≤◌, ◌⊎◌, inl, inr, ℤ, Bool, true, false, ◌&&◌, ◌||◌, nat_le, nat_lt, List, Option, Some, None, Result, Ok, Err, if◌then◌else◌, refl, sym, ap, ◌∙◌, arith}
+use Rattle.std.proofs.Common.{◌≡◌, ℕ, zero, suc, ◌+◌, ◌/◌, ◌%◌, ◌<◌, ◌≤◌, ◌⊎◌, inl, inr, ℤ, Bool, true, false, ◌&&◌, ◌||◌, nat_le, nat_lt, List, Option, Some, None, Result, Ok, Err, if◌then◌else◌, refl, sym, ap, subst, ◌∙◌, arith}
 use Rattle.std.proofs.lemmas.Bool.{and_parts, and_from, or_cases, or_right}
 use Rattle.scx_semantics.specs.declared.instructions.Operand.{Operand}
 use Rattle.scx_semantics.specs.declared.operations.Width.TheVariants.{Bits64}
@@ -17,7 +17,11 @@ use Rattle.scx_semantics.specs.Meaning.{is_plain}
 use Rattle.scx_encoding.specs.Spelling.{IsOperand}
 use Rattle.scx_maps.specs.declared.shape.Shape.{Shape}
 use Rattle.scx_abs.specs.declared.faults.Why.{Why}
-use Rattle.scx_abs.specs.declared.faults.Why.TheVariants.{UnwrittenStack, TaskField}
+use Rattle.scx_abs.specs.declared.faults.Why.TheVariants.{UnwrittenStack, OutOfBounds, Misaligned, TaskField}
+use Rattle.scx_ranges.specs.declared.ranges.Range.{Range}
+use Rattle.scx_ranges.specs.Ranges.{IsWellFormed, CoversRange}
+use Rattle.scx_ranges.specs.Offsets.{are_inside, are_aligned}
+use Rattle.scx_ranges.proofs.ElementOffsets.{accesses_are_monotone}
 use Rattle.scx_ranges.specs.Results.{loaded}
 use Rattle.scx_abs.specs.declared.kinds.Kind.{Kind}
 use Rattle.scx_abs.specs.declared.kinds.Kind.TheVariants as kind
@@ -32,7 +36,7 @@ use Rattle.scx_abs.specs.Cells.{is_written, no_bytes, marked, all_written, writt
 use Rattle.scx_abs.specs.States.{CoversState, IsProper, kind_at, cell_at, with_cell}
 use Rattle.scx_abs.specs.Areas.{IsAlignedWithin, IsAlignedIn}
 use Rattle.scx_semantics.specs.Results.{◌>>=◌}
-use Rattle.scx_abs.specs.Checks.{goes_on, usable, operand_kind, element_size, offset_for}
+use Rattle.scx_abs.specs.Checks.{goes_on, usable, operand_kind, element_size, offset_for, offsets_for}
 use Rattle.scx_abs.specs.Rules.{field_area, area_of, loaded_kind, kind_in, load_kind, stored_cell, number_stored, stored_in, store_rule}
 use Rattle.scx_abs.specs.Monotone.{PassesToo, CoversFlows}
 use Rattle.scx_abs.proofs.Orders.{kind_itself, each_byte_at, none_written}
@@ -60,22 +64,45 @@ stack_monotone n t =
     passes_then (SamePlace stack_size n) (SameArea n) (offset_for stack_size n t) (offset_for stack_size n t) (λ at. Ok (OnStack at)) (λ at. Ok (OnStack at)) (offset_monotone stack_size n t)
     (λ x y h. (ap OnStack h.0, h.1))
 
-element_monotone : (size n : ℕ) (t : Option ℕ) → PassesToo (SameArea n) (offset_for size n t >>= λ at. Ok InElement) (offset_for size n t >>= λ at. Ok InElement)
-element_monotone size n t =
-    passes_then (SamePlace size n) (SameArea n) (offset_for size n t) (offset_for size n t) (λ at. Ok InElement) (λ at. Ok InElement) (offset_monotone size n t) (λ x y h. (refl, tt))
+-- a check that gives nothing
+abbrev pub NoMore : Unit {0} → Unit {0} → Type 0
+NoMore x y = Unit {0}
+
+-- what passes for offsets in an element passes for those that they cover
+pub offsets_monotone : (size : ℕ) (s : Size) (c r : Range) (k : ℤ) → IsWellFormed c → IsWellFormed r → CoversRange c r
+    → PassesToo NoMore (offsets_for size (size_bytes s) c k) (offsets_for size (size_bytes s) r k)
+offsets_monotone size s c r k p q h = go (are_inside size (size_bytes s) c k) (are_aligned (size_bytes s) c k) refl refl
+  where
+    passes : are_inside size (size_bytes s) c k ≡ true → are_aligned (size_bytes s) c k ≡ true → PassesToo NoMore (Ok tt) (offsets_for size (size_bytes s) r k)
+    passes d e =
+        let both = accesses_are_monotone size s c r k p q h in
+        subst (λ x. PassesToo NoMore (Ok tt) (if x then if are_aligned (size_bytes s) r k then Ok tt else Err Misaligned else Err OutOfBounds)) (sym (both.0 d))
+        (subst (λ y. PassesToo NoMore (Ok tt) (if y then Ok tt else Err Misaligned)) (sym (both.1 e)) tt)
+
+    go : (x y : Bool) → are_inside size (size_bytes s) c k ≡ x → are_aligned (size_bytes s) c k ≡ y
+        → PassesToo NoMore (if x then if y then Ok tt else Err Misaligned else Err OutOfBounds) (offsets_for size (size_bytes s) r k)
+    go true true d e = passes d e
+    go true false d e = tt
+    go false y d e = tt
+
+element_monotone : (size : ℕ) (s : Size) (c r : Range) (k : ℤ) → IsWellFormed c → IsWellFormed r → CoversRange c r
+    → PassesToo (SameArea (size_bytes s)) (offsets_for size (size_bytes s) c k >>= λ fine. Ok InElement) (offsets_for size (size_bytes s) r k >>= λ fine. Ok InElement)
+element_monotone size s c r k p q h =
+    passes_then NoMore (SameArea (size_bytes s)) (offsets_for size (size_bytes s) c k) (offsets_for size (size_bytes s) r k) (λ fine. Ok InElement) (λ fine. Ok InElement) (offsets_monotone size s c r k p q h)
+    (λ x y g. (refl, tt))
 
 field_monotone : (n : ℕ) (f : Option Field) → PassesToo (SameArea n) (field_area f) (field_area f)
 field_monotone n None = tt
 field_monotone n (Some f) = (refl, tt)
 
-area_monotone : (shapes : List Shape) (j k : Kind) (offset : ℤ) (n : ℕ) → CoversKind j k → PassesToo (SameArea n) (area_of shapes j offset n) (area_of shapes k offset n)
-area_monotone shapes (kind.Stack o) (kind.Stack p) offset n h = rw h (stack_monotone n (shifted p offset))
-area_monotone shapes (kind.Stack o) k offset n h = absurd h
-area_monotone shapes (Elem m o) (Elem q p) offset n h = rw (h.0, h.1) (element_monotone (element_size shapes q) n (shifted p offset))
-area_monotone shapes (Elem m o) k offset n h = absurd h
-area_monotone shapes Task Task offset n h = field_monotone n (field_at n (shifted 0 offset))
-area_monotone shapes Task k offset n h = absurd h
-area_monotone shapes j k offset n h = tt
+area_monotone : (shapes : List Shape) (j k : Kind) (offset : ℤ) (s : Size) → CoversUsable j k → PassesToo (SameArea (size_bytes s)) (area_of shapes j offset (size_bytes s)) (area_of shapes k offset (size_bytes s))
+area_monotone shapes (kind.Stack o) (kind.Stack p) offset s h = rw h.1 (stack_monotone (size_bytes s) (shifted p offset))
+area_monotone shapes (kind.Stack o) k offset s h = absurd h.1
+area_monotone shapes (Elem m c) (Elem q r) offset s h = rw h.1.0 (element_monotone (element_size shapes q) s c r offset h.2 h.3 h.1.1)
+area_monotone shapes (Elem m c) k offset s h = absurd h.1
+area_monotone shapes Task Task offset s h = field_monotone (size_bytes s) (field_at (size_bytes s) (shifted 0 offset))
+area_monotone shapes Task k offset s h = absurd h.1
+area_monotone shapes j k offset s h = tt
 
 -- ---- loads
 
@@ -137,7 +164,7 @@ load_monotone shapes b a access r offset q p h =
     (λ j. area_of shapes j offset n >>= λ x. kind_in b access x) (λ j. area_of shapes j offset n >>= λ x. kind_in a access x)
     (registers.read_monotone b a r q p h)
     (λ j k g. passes_then (SameArea n) CoversKind (area_of shapes j offset n) (area_of shapes k offset n) (λ x. kind_in b access x) (λ x. kind_in a access x)
-    (area_monotone shapes j k offset n g.1) (λ x y f. kind_in_monotone b a access x y h f))
+    (area_monotone shapes j k offset (access_size access) g) (λ x y f. kind_in_monotone b a access x y h f))
 
 -- ---- stores
 
@@ -196,4 +223,4 @@ store_monotone shapes b a s r offset x fits q p h =
     (λ j k g. passes_then CoversUsable CoversFlows (operand_kind b Bits64 x) (operand_kind a Bits64 x)
     (λ l. area_of shapes j offset n >>= λ t. stored_in b s l t) (λ l. area_of shapes k offset n >>= λ t. stored_in a s l t) (operand_monotone b a Bits64 x fits q p h)
     (λ l m f. passes_then (SameArea n) CoversFlows (area_of shapes j offset n) (area_of shapes k offset n) (λ t. stored_in b s l t) (λ t. stored_in a s m t)
-    (area_monotone shapes j k offset n g.1) (λ t u e. stored_monotone b a s l m t u p h f e)))
+    (area_monotone shapes j k offset s g) (λ t u e. stored_monotone b a s l m t u p h f e)))

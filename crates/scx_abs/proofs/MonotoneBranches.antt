@@ -1,5 +1,5 @@
 -- Comparisons in a state and in one that it covers.
-use Rattle.std.proofs.Common.{◌≡◌, ℕ, ◌≤◌, Bool, true, false, Option, Some, None, option_map, if◌then◌else◌, refl, sym, arith}
+use Rattle.std.proofs.Common.{◌≡◌, ℕ, ◌≤◌, Bool, true, false, Option, Some, None, option_map, if◌then◌else◌, refl, sym, ap, ◌∙◌, arith}
 use Rattle.std.proofs.lemmas.Bool.{eqb-true, eq-eqb, both_ways}
 use Rattle.scx_semantics.specs.declared.instructions.Operand.{Operand}
 use Rattle.scx_semantics.specs.declared.operations.Width.{Width}
@@ -8,7 +8,7 @@ use Rattle.scx_semantics.specs.declared.operations.Comparison.{Comparison}
 use Rattle.scx_semantics.specs.declared.registers.Register.{Register}
 use Rattle.scx_semantics.specs.Registers.{number}
 use Rattle.scx_ranges.specs.declared.ranges.Range.{Range}
-use Rattle.scx_ranges.specs.Ranges.{IsRange, CoversRange, single, is_single}
+use Rattle.scx_ranges.specs.Ranges.{IsWellFormed, IsRange, CoversRange, trailing, single, is_single}
 use Rattle.scx_ranges.specs.Cuts.{cut}
 use Rattle.scx_ranges.specs.Laws.{CoversCut}
 use Rattle.scx_ranges.proofs.GrowingCuts.{cuts_grow, cuts_narrow}
@@ -22,7 +22,7 @@ use Rattle.scx_semantics.specs.Results.{◌>>=◌}
 use Rattle.scx_abs.specs.Checks.{flows, usable, operand_kind}
 use Rattle.scx_abs.specs.Rules.{null_test, if_null, if_not_null, tested, side, sides, numbers_compared, compared, jump_rule}
 use Rattle.scx_abs.specs.Monotone.{PassesToo, CoversIfAny, CoversFlows}
-use Rattle.scx_abs.proofs.Orders.{kind_itself, kind_through}
+use Rattle.scx_abs.proofs.Orders.{range_itself, kind_itself, kind_through}
 use Rattle.scx_abs.proofs.Proper.{kind_is_proper}
 use Rattle.scx_abs.proofs.MonotoneRegisters.{passes_then, register_covers, refined_covers, narrowed_covers, CoversUsable, operand_monotone}
 
@@ -34,9 +34,17 @@ null_monotone b a r j (ElemOrNull n) p h g = absurd g.1
 null_monotone b a r j TaskOrNull p h g = absurd g.1
 null_monotone b a r j k p h g = tt
 
+-- the first byte alone covers no more than it
+zero_covers : (r : Range) → IsWellFormed r → r.high ≡ 0 → CoversRange (single 0) r
+zero_covers r w e =
+    let ordered : r.low ≤ r.high = w.ordered in
+    let low : r.low ≡ 0 = omega arith in
+    let shift : r.shift ≡ 3 = w.greatest (low ∙ sym e) ∙ ap trailing low in
+    record { low = omega arith; high = omega arith; shift = omega arith }
+
 pointer_monotone : (b a : AbsState) (r : Register) (j k : Kind) → IsProper a → CoversState b a → kind_at a (number r) ≡ k → CoversUsable j k → CoversState (if_not_null b (number r) j) (if_not_null a (number r) k)
-pointer_monotone b a r (ElemOrNull m) (ElemOrNull n) p h e g = register_covers b a r (Elem m 0) (Elem n 0) p h (g.1, refl)
-pointer_monotone b a r (ElemOrNull m) (Elem n o) p h e g = refined_covers b a (number r) (Elem m 0) h (rw e (g.1.0, sym g.1.1))
+pointer_monotone b a r (ElemOrNull m) (ElemOrNull n) p h e g = register_covers b a r (Elem m (single 0)) (Elem n (single 0)) p h (g.1, range_itself (single 0))
+pointer_monotone b a r (ElemOrNull m) (Elem n o) p h e g = refined_covers b a (number r) (Elem m (single 0)) h (rw e (g.1.0, zero_covers o g.3 g.1.1))
 pointer_monotone b a r (ElemOrNull m) k p h e g = absurd g.1
 pointer_monotone b a r TaskOrNull TaskOrNull p h e g = register_covers b a r Task Task p h tt
 pointer_monotone b a r TaskOrNull Task p h e g = refined_covers b a (number r) Task h (rw e tt)

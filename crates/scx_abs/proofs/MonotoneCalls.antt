@@ -1,5 +1,5 @@
 -- Helper calls in a state and in one that it covers.
-use Rattle.std.proofs.Common.{ℕ, ◌+◌, ◌/◌, ◌%◌, true, false, List, [], ◌∷◌, Option, Some, None, Ok, Err, if◌then◌else◌, arith}
+use Rattle.std.proofs.Common.{ℕ, pos, ◌+◌, ◌/◌, ◌%◌, true, false, List, [], ◌∷◌, Option, Some, None, Err, if◌then◌else◌, arith}
 use Rattle.scx_semantics.specs.declared.operations.Size.TheVariants as size
 use Rattle.scx_semantics.specs.declared.callbacks.Callback.{Callback}
 use Rattle.scx_semantics.specs.Memory.{stack_size}
@@ -15,7 +15,7 @@ use Rattle.scx_abs.specs.declared.kinds.Kind.{Kind}
 use Rattle.scx_abs.specs.declared.kinds.Kind.TheVariants as kind
 use Rattle.scx_abs.specs.declared.kinds.Kind.TheVariants.{Unusable, Num, Elem, Task, MapRef}
 use Rattle.scx_abs.specs.declared.states.AbsState.{AbsState}
-use Rattle.scx_abs.specs.Kinds.{CoversKind}
+use Rattle.scx_abs.specs.Kinds.{CoversKind, IsProperKind}
 use Rattle.scx_abs.specs.Cells.{written_in}
 use Rattle.scx_abs.specs.States.{CoversState, IsProper, kind_at, cell_at, with_kind}
 use Rattle.scx_abs.specs.Checks.{goes_on, element_size, offset_for}
@@ -23,51 +23,46 @@ use Rattle.scx_abs.specs.Calls.{key_in, key_check, takes, argument_check, argume
 use Rattle.scx_abs.specs.Monotone.{PassesToo, CoversFlows}
 use Rattle.scx_abs.proofs.Orders.{kind_itself}
 use Rattle.scx_abs.proofs.Bytes.{fits_cell}
-use Rattle.scx_abs.proofs.Proper.{kind_proper}
-use Rattle.scx_abs.proofs.MonotoneRegisters.{passes_then, with_kind_covers, on_monotone}
-use Rattle.scx_abs.proofs.MonotoneAccesses.{SamePlace, offset_monotone, read_monotone, written_covers}
+use Rattle.scx_abs.proofs.Proper.{kind_is_proper, kind_proper}
+use Rattle.scx_abs.proofs.MonotoneRegisters.{passes_then, CoversUsable, with_kind_covers, on_monotone}
+use Rattle.scx_abs.proofs.MonotoneAccesses.{SamePlace, NoMore, offset_monotone, offsets_monotone, read_monotone, written_covers}
 
 -- ---- arguments
 
--- a check of an argument gives nothing
-abbrev NoMore : Unit {0} → Unit {0} → Type 0
-NoMore x y = Unit {0}
-
-key_monotone : (shapes : List Shape) (b a : AbsState) (j k : Kind) → CoversState b a → CoversKind j k → PassesToo NoMore (key_check shapes b j) (key_check shapes a k)
+key_monotone : (shapes : List Shape) (b a : AbsState) (j k : Kind) → CoversState b a → CoversUsable j k → PassesToo NoMore (key_check shapes b j) (key_check shapes a k)
 key_monotone shapes b a (kind.Stack o) (kind.Stack p) h g =
-    rw g (passes_then (SamePlace stack_size 4) NoMore (offset_for stack_size 4 (Some p)) (offset_for stack_size 4 (Some p))
+    rw g.1 (passes_then (SamePlace stack_size 4) NoMore (offset_for stack_size 4 (Some p)) (offset_for stack_size 4 (Some p))
     (λ at. key_in (cell_at b (at / 8)) (at % 8)) (λ at. key_in (cell_at a (at / 8)) (at % 8)) (offset_monotone stack_size 4 (Some p))
     (λ x y f. rw f.0 (read_monotone NoMore tt (written_in (cell_at b (y / 8))) (written_in (cell_at a (y / 8))) (y % 8) 4 tt (fits_cell size.Word y f.1.aligned)
     (written_covers (cell_at b (y / 8)) (cell_at a (y / 8)) (h.cells (y / 8))))))
-key_monotone shapes b a (kind.Stack o) k h g = absurd g
-key_monotone shapes b a (Elem m o) (Elem n p) h g =
-    rw (g.0, g.1) (passes_then (SamePlace (element_size shapes n) 4) NoMore (offset_for (element_size shapes n) 4 (Some p)) (offset_for (element_size shapes n) 4 (Some p))
-    (λ at. Ok tt) (λ at. Ok tt) (offset_monotone (element_size shapes n) 4 (Some p)) (λ x y f. tt))
-key_monotone shapes b a (Elem m o) k h g = absurd g
+key_monotone shapes b a (kind.Stack o) k h g = absurd g.1
+key_monotone shapes b a (Elem m c) (Elem n r) h g = rw g.1.0 (offsets_monotone (element_size shapes n) size.Word c r (pos 0) g.2 g.3 g.1.1)
+key_monotone shapes b a (Elem m c) k h g = absurd g.1
 key_monotone shapes b a j k h g = tt
 
-takes_monotone : (shapes : List Shape) (b a : AbsState) (p : Parameter) (j k : Kind) → CoversState b a → CoversKind j k → PassesToo NoMore (takes shapes b p j) (takes shapes a p k)
+takes_monotone : (shapes : List Shape) (b a : AbsState) (p : Parameter) (j k : Kind) → CoversState b a → CoversUsable j k → PassesToo NoMore (takes shapes b p j) (takes shapes a p k)
 takes_monotone shapes b a parameter.Map (MapRef m) (MapRef n) h g = tt
-takes_monotone shapes b a parameter.Map (MapRef m) k h g = absurd g
+takes_monotone shapes b a parameter.Map (MapRef m) k h g = absurd g.1
 takes_monotone shapes b a parameter.Map j k h g = tt
 takes_monotone shapes b a parameter.Key j k h g = key_monotone shapes b a j k h g
 takes_monotone shapes b a parameter.Task Task Task h g = tt
-takes_monotone shapes b a parameter.Task Task k h g = absurd g
+takes_monotone shapes b a parameter.Task Task k h g = absurd g.1
 takes_monotone shapes b a parameter.Task j k h g = tt
 takes_monotone shapes b a parameter.Number (Num s) (Num r) h g = tt
-takes_monotone shapes b a parameter.Number (Num s) k h g = absurd g
+takes_monotone shapes b a parameter.Number (Num s) k h g = absurd g.1
 takes_monotone shapes b a parameter.Number j k h g = tt
 
-argument_monotone : (shapes : List Shape) (b a : AbsState) (p : Parameter) (j k : Kind) → CoversState b a → CoversKind j k → PassesToo NoMore (argument_check shapes b p j) (argument_check shapes a p k)
-argument_monotone shapes b a p Unusable k h g = tt
-argument_monotone shapes b a p j Unusable h g = absurd g
-argument_monotone shapes b a p j k h g = takes_monotone shapes b a p j k h g
+argument_monotone : (shapes : List Shape) (b a : AbsState) (p : Parameter) (j k : Kind) → CoversState b a → CoversKind j k → IsProperKind j → IsProperKind k
+    → PassesToo NoMore (argument_check shapes b p j) (argument_check shapes a p k)
+argument_monotone shapes b a p Unusable k h g v w = tt
+argument_monotone shapes b a p j Unusable h g v w = absurd g
+argument_monotone shapes b a p j k h g v w = takes_monotone shapes b a p j k h (tt, g, v, w)
 
-arguments_monotone : (shapes : List Shape) (b a : AbsState) (ps : List Parameter) (r : ℕ) → CoversState b a → PassesToo NoMore (arguments_check shapes b ps r) (arguments_check shapes a ps r)
-arguments_monotone shapes b a [] r h = tt
-arguments_monotone shapes b a (p ∷ ps) r h =
+arguments_monotone : (shapes : List Shape) (b a : AbsState) (ps : List Parameter) (r : ℕ) → IsProper b → IsProper a → CoversState b a → PassesToo NoMore (arguments_check shapes b ps r) (arguments_check shapes a ps r)
+arguments_monotone shapes b a [] r v w h = tt
+arguments_monotone shapes b a (p ∷ ps) r v w h =
     passes_then NoMore NoMore (argument_check shapes b p (kind_at b r)) (argument_check shapes a p (kind_at a r)) (λ here. arguments_check shapes b ps (r + 1)) (λ here. arguments_check shapes a ps (r + 1))
-    (argument_monotone shapes b a p (kind_at b r) (kind_at a r) h (h.registers r)) (λ x y f. arguments_monotone shapes b a ps (r + 1) h)
+    (argument_monotone shapes b a p (kind_at b r) (kind_at a r) h (h.registers r) (kind_is_proper b r v) (kind_is_proper a r w)) (λ x y f. arguments_monotone shapes b a ps (r + 1) v w h)
 
 -- ---- after a call
 
@@ -106,12 +101,12 @@ after_monotone b a j k p h g =
     with_kind_covers b5 a5 0 j k (omega arith) p5 h5 g
 
 -- all calls
-pub call_monotone : (shapes : List Shape) (c : Callback) (h : Option Helper) (b a : AbsState) → IsProper a → CoversState b a → PassesToo CoversFlows (call_rule shapes c h b) (call_rule shapes c h a)
-call_monotone shapes c None b a p g = tt
-call_monotone shapes c (Some h) b a p g =
+pub call_monotone : (shapes : List Shape) (c : Callback) (h : Option Helper) (b a : AbsState) → IsProper b → IsProper a → CoversState b a → PassesToo CoversFlows (call_rule shapes c h b) (call_rule shapes c h a)
+call_monotone shapes c None b a q p g = tt
+call_monotone shapes c (Some h) b a q p g =
     elim (is_allowed h c) as (λ t. PassesToo CoversFlows (if t then call_allowed shapes h b else Err HelperNotHere) (if t then call_allowed shapes h a else Err HelperNotHere)) [
       | true ↦ passes_then NoMore CoversFlows (arguments_check shapes b (parameters h) 1) (arguments_check shapes a (parameters h) 1)
-          (λ fine. goes_on (after_call b (answer_kind h (kind_at b 1)))) (λ fine. goes_on (after_call a (answer_kind h (kind_at a 1)))) (arguments_monotone shapes b a (parameters h) 1 g)
+          (λ fine. goes_on (after_call b (answer_kind h (kind_at b 1)))) (λ fine. goes_on (after_call a (answer_kind h (kind_at a 1)))) (arguments_monotone shapes b a (parameters h) 1 q p g)
           (λ x y f. on_monotone (after_call b (answer_kind h (kind_at b 1))) (after_call a (answer_kind h (kind_at a 1)))
           (after_monotone b a (answer_kind h (kind_at b 1)) (answer_kind h (kind_at a 1)) p g (answer_monotone h (kind_at b 1) (kind_at a 1) (g.registers 1))))
       | false ↦ tt

@@ -49,7 +49,7 @@ rules_monotone shapes c (insn.Store s r offset x) b a fits q p h = store_monoton
 rules_monotone shapes c (insn.JumpIf w k r x offset) b a fits q p h = jump_monotone b a w k r x fits.1 q p h
 rules_monotone shapes c (insn.Goto offset) b a fits q p h = record { on = tt; jump = h }
 rules_monotone shapes c (insn.GotoLong offset) b a fits q p h = record { on = tt; jump = h }
-rules_monotone shapes c (insn.Call k) b a fits q p h = call_monotone shapes c (helper_at k) b a p h
+rules_monotone shapes c (insn.Call k) b a fits q p h = call_monotone shapes c (helper_at k) b a q p h
 rules_monotone shapes c insn.Exit b a fits q p h =
     elim (answers c) as (λ t. PassesToo CoversFlows (if t then end_rule (kind_at b 0) else Ok (flows None None)) (if t then end_rule (kind_at a 0) else Ok (flows None None)))
     [ true ↦ end_monotone (kind_at b 0) (kind_at a 0) (h.registers 0) | false ↦ record { on = tt; jump = tt } ]

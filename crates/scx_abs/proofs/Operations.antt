@@ -1,6 +1,6 @@
 -- Arithmetic on kinds against arithmetic on values that they stand for.
-use Rattle.std.proofs.Common.{◌≡◌, ℕ, ◌^◌, ◌<◌, ℤ, pos, negsuc, Bool, true, false, nat_lt, List, length, Option, Some, None, Ok, Err, option_map, if◌then◌else◌, refl}
-use Rattle.std.proofs.lemmas.Bool.{ltb-true}
+use Rattle.std.proofs.Common.{◌≡◌, ℕ, ◌+◌, ℤ, pos, negsuc, Bool, true, false, nat_lt, List, length, Option, Some, None, Ok, Err, option_map, if◌then◌else◌, refl, sym, subst}
+use Rattle.std.proofs.lemmas.Bool.{ltb-true, le-leb}
 use Rattle.scx_semantics.specs.declared.instructions.Operand.{Operand}
 use Rattle.scx_semantics.specs.declared.instructions.Operand.TheVariants as operand
 use Rattle.scx_semantics.specs.declared.operations.Width.{Width}
@@ -17,6 +17,7 @@ use Rattle.scx_semantics.specs.Arithmetic.{shifted}
 use Rattle.scx_semantics.specs.Memory.{stack_size, within}
 use Rattle.scx_semantics.specs.Elements.{Maps, element}
 use Rattle.scx_semantics.specs.Machine.{Machine}
+use Rattle.scx_semantics.specs.Meaning as meaning
 use Rattle.scx_semantics.specs.Meaning.{operand_value, moved, combined, arithmetic, binary, pointer_step, pointer_moved, pointer_combined, on_number, map_reference}
 use Rattle.scx_encoding.specs.Spelling.{IsOperand}
 use Rattle.scx_maps.specs.declared.shape.Shape.{Shape}
@@ -24,9 +25,12 @@ use Rattle.scx_maps.specs.Contents.{HasShapes}
 use Rattle.scx_maps.proofs.Shaped.{length-shaped}
 use Rattle.scx_abs.specs.declared.faults.Why.TheVariants.{UnknownMap}
 use Rattle.scx_ranges.specs.declared.ranges.Range.{Range}
-use Rattle.scx_ranges.specs.Ranges.{IsRange, IsIn}
+use Rattle.scx_ranges.specs.Ranges.{IsWellFormed, IsRange, IsIn}
+use Rattle.scx_ranges.specs.Offsets as offsets
+use Rattle.scx_ranges.specs.OffsetLaws.{IsMoved, IsAdvanced}
 use Rattle.scx_ranges.specs.ResultLaws.{AreImages}
 use Rattle.scx_ranges.proofs.AllWidths.{arithmetic_is_sound, copies_are_sound}
+use Rattle.scx_ranges.proofs.ElementOffsets.{moves_are_sound, advances_are_sound}
 use Rattle.scx_abs.specs.declared.kinds.Kind.{Kind}
 use Rattle.scx_abs.specs.declared.kinds.Kind.TheVariants as kind
 use Rattle.scx_abs.specs.declared.kinds.Kind.TheVariants.{Unusable, Num, Elem, MapRef}
@@ -36,7 +40,7 @@ use Rattle.scx_abs.specs.States.{kind_at, IsProper}
 use Rattle.scx_abs.specs.Stands.{HasElement, Stands, IsMember}
 use Rattle.scx_semantics.specs.Results.{◌>>=◌}
 use Rattle.scx_abs.specs.Checks.{usable, operand_kind, offset_within}
-use Rattle.scx_abs.specs.Rules.{moved_by, moved_kind, computed_kind, arithmetic_kind, combined_kind, binary_kind, number_kind, map_kind}
+use Rattle.scx_abs.specs.Rules.{in_element, moved_by, moved_kind, computed_kind, advanced_by, element_kind, arithmetic_kind, combined_kind, binary_kind, number_kind, map_kind}
 use Rattle.scx_abs.proofs.Registers.{Gives, register_allows, operand_allows, checked}
 use Rattle.scx_abs.proofs.Elements.{within_cases, element_sized}
 
@@ -68,26 +72,55 @@ stack_moved maps t =
     within_cases stack_size t (λ r o. Gives maps (r >>= λ to. Ok (kind.Stack to)) (option_map (λ to. value.Pointer (pointer.Stack to)) o))
     (λ why o. tt) (λ to. refl)
 
-element_moved : (maps : Maps) (m i size : ℕ) (t : Option ℕ) → HasElement maps m i → length (element maps m i) ≡ size
-    → Gives maps (offset_within size t >>= λ to. Ok (Elem m to)) (option_map (λ to. value.Pointer (pointer.Element m i to)) (within (length (element maps m i)) t))
-element_moved maps m i size t there long =
-    rw (← long) (within_cases (length (element maps m i)) t (λ r o. Gives maps (r >>= λ to. Ok (Elem m to)) (option_map (λ to. value.Pointer (pointer.Element m i to)) o))
-    (λ why o. tt) (λ to. (refl, refl, there)))
+-- the value of a pointer into an element, if there is an offset
+abbrev pointer_at : ℕ → ℕ → Option ℕ → Option Value
+pointer_at m i t = option_map (λ to. value.Pointer (pointer.Element m i to)) t
 
-moved_by_gives : (shapes : List Shape) (maps : Maps) (k : Kind) (p : pointers.Pointer) (d : Option ℤ) → HasShapes shapes maps → Stands maps k (value.Pointer p)
+moved_to : (maps : Maps) (m i size p : ℕ) (d : ℤ) (q : Option Range) → HasElement maps m i → IsMoved size p d q → Gives maps (in_element m q) (pointer_at m i (within size (shifted p d)))
+moved_to maps m i size p d None there h = tt
+moved_to maps m i size p d (Some q) there h = subst (λ t. Gives maps (Ok (Elem m q)) (pointer_at m i t)) (sym h.1) (refl, h.2, there)
+
+element_moved : (maps : Maps) (m i size p : ℕ) (d : ℤ) (r : Range) → HasElement maps m i → length (element maps m i) ≡ size → IsWellFormed r → IsIn p r
+    → Gives maps (in_element m (offsets.moved size r d)) (pointer_at m i (within (length (element maps m i)) (shifted p d)))
+element_moved maps m i size p d r there long w h = rw long (moved_to maps m i size p d (offsets.moved size r d) there (moves_are_sound size r d p w h))
+
+advanced_to : (maps : Maps) (m i size to : ℕ) (q : Option Range) → HasElement maps m i → IsAdvanced size to q → Gives maps (in_element m q) (pointer_at m i (within size (Some to)))
+advanced_to maps m i size to None there h = tt
+advanced_to maps m i size to (Some q) there h =
+    subst (λ b. Gives maps (Ok (Elem m q)) (pointer_at m i (if b then Some to else None))) (sym (le-leb to size h.0)) (refl, h.1, there)
+
+element_advanced : (maps : Maps) (m i size p n : ℕ) (r s : Range) → HasElement maps m i → length (element maps m i) ≡ size → IsWellFormed r → IsRange s → IsIn p r → IsIn n s
+    → Gives maps (in_element m (offsets.advanced size r s)) (pointer_at m i (within (length (element maps m i)) (Some (p + n))))
+element_advanced maps m i size p n r s there long w v h g =
+    rw long (advanced_to maps m i size (p + n) (offsets.advanced size r s) there (advances_are_sound size r s p n w v.formed h g))
+
+moved_by_gives : (shapes : List Shape) (maps : Maps) (k : Kind) (p : pointers.Pointer) (d : Option ℤ) → HasShapes shapes maps → IsProperKind k → Stands maps k (value.Pointer p)
     → Gives maps (moved_by shapes k d) (pointer_moved maps p d)
-moved_by_gives shapes maps (kind.Stack o) (pointer.Stack p) (Some d) shaped h = rw h (stack_moved maps (shifted p d))
-moved_by_gives shapes maps (kind.Stack o) p (Some d) shaped h = absurd h
-moved_by_gives shapes maps (Elem m o) (pointer.Element n i p) (Some d) shaped h =
-    rw (h.0, h.1) (element_moved maps n i _ (shifted p d) h.2 (element_sized shapes maps n i shaped h.2))
-moved_by_gives shapes maps (Elem m o) p (Some d) shaped h = absurd h
-moved_by_gives shapes maps k p d shaped h = tt
+moved_by_gives shapes maps (kind.Stack o) (pointer.Stack p) (Some d) shaped w h = rw h (stack_moved maps (shifted p d))
+moved_by_gives shapes maps (kind.Stack o) p (Some d) shaped w h = absurd h
+moved_by_gives shapes maps (Elem m r) (pointer.Element n i p) (Some d) shaped w h =
+    rw h.0 (element_moved maps n i _ p d r h.2 (element_sized shapes maps n i shaped h.2) w h.1)
+moved_by_gives shapes maps (Elem m r) p (Some d) shaped w h = absurd h
+moved_by_gives shapes maps k p d shaped w h = tt
 
-pointer_gives : (shapes : List Shape) (m : Machine) (w : Width) (o : Operation) (q : pointers.Pointer) (x : Operand) (j : Kind) → HasShapes shapes m.maps → Stands m.maps j (value.Pointer q)
-    → Gives m.maps (moved_by shapes j (pointer_step w o x)) (pointer_combined m w o q x)
-pointer_gives shapes m Bits64 Add (pointer.Element l i at) (operand.Register r) (kind.Stack p) s h = tt
-pointer_gives shapes m Bits64 Add (pointer.Element l i at) (operand.Register r) (Elem n p) s h = tt
-pointer_gives shapes m w o q x j s h = moved_by_gives shapes m.maps j q (pointer_step w o x) s h
+advanced_gives : (shapes : List Shape) (maps : Maps) (n l i at : ℕ) (r : Range) (k : Kind) (v : Value) → HasShapes shapes maps → IsWellFormed r → IsProperKind k
+    → Stands maps (Elem n r) (value.Pointer (pointer.Element l i at)) → Stands maps k v → Gives maps (advanced_by shapes n r k) (meaning.advanced maps l i at v)
+advanced_gives shapes maps n l i at r (Num s) (value.Number b) shaped p q h g =
+    rw h.0 (element_advanced maps l i _ at b r s h.2 (element_sized shapes maps l i shaped h.2) p q h.1 g)
+advanced_gives shapes maps n l i at r (Num s) v shaped p q h g = absurd g
+advanced_gives shapes maps n l i at r k v shaped p q h g = tt
+
+-- a pointer to the stack is moved by constants alone
+stack_gives : (shapes : List Shape) (m : Machine) (w : Width) (o : Operation) (q : pointers.Pointer) (x : Operand) (p : ℕ) → HasShapes shapes m.maps → Stands m.maps (kind.Stack p) (value.Pointer q)
+    → Gives m.maps (moved_by shapes (kind.Stack p) (pointer_step w o x)) (pointer_combined m w o q x)
+stack_gives shapes m Bits64 Add (pointer.Element l i at) (operand.Register r) p s h = tt
+stack_gives shapes m w o q x p s h = moved_by_gives shapes m.maps (kind.Stack p) q (pointer_step w o x) s tt h
+
+element_gives : (shapes : List Shape) (m : Machine) (w : Width) (o : Operation) (q : pointers.Pointer) (x : Operand) (n : ℕ) (r : Range) (k : Kind) → HasShapes shapes m.maps → IsWellFormed r → IsProperKind k
+    → Stands m.maps (Elem n r) (value.Pointer q) → Stands m.maps k (operand_value m w x) → Gives m.maps (element_kind shapes w o x n r k) (pointer_combined m w o q x)
+element_gives shapes m Bits64 Add (pointer.Element l i at) (operand.Register d) n r k s p u h g = advanced_gives shapes m.maps n l i at r k (m.registers (number d)) s p u h g
+element_gives shapes m Bits64 Add q (operand.Register d) n r k s p u h g = absurd h
+element_gives shapes m w o q x n r k s p u h g = moved_by_gives shapes m.maps (Elem n r) q (pointer_step w o x) s p h
 
 -- ---- all operations
 
@@ -95,10 +128,10 @@ arithmetic_gives : (shapes : List Shape) (m : Machine) (w : Width) (o : Operatio
     → Stands m.maps k (operand_value m w x) → Gives m.maps (arithmetic_kind shapes w o x j k) (arithmetic m w o old x)
 arithmetic_gives shapes m w o x (Num r) k (value.Number a) s p q h g = computed_gives m.maps w o r k a (operand_value m w x) p q h g
 arithmetic_gives shapes m w o x (Num r) k old s p q h g = absurd h
-arithmetic_gives shapes m w o x (kind.Stack n) k (value.Pointer t) s p q h g = pointer_gives shapes m w o t x (kind.Stack n) s h
+arithmetic_gives shapes m w o x (kind.Stack n) k (value.Pointer t) s p q h g = stack_gives shapes m w o t x n s h
 arithmetic_gives shapes m w o x (kind.Stack n) k old s p q h g = absurd h
-arithmetic_gives shapes m w o x (Elem n l) k (value.Pointer t) s p q h g = pointer_gives shapes m w o t x (Elem n l) s h
-arithmetic_gives shapes m w o x (Elem n l) k old s p q h g = absurd h
+arithmetic_gives shapes m w o x (Elem n r) k (value.Pointer t) s p q h g = element_gives shapes m w o t x n r k s p q h g
+arithmetic_gives shapes m w o x (Elem n r) k old s p q h g = absurd h
 arithmetic_gives shapes m w o x j k old s p q h g = tt
 
 combined_kind_gives : (shapes : List Shape) (a : AbsState) (m : Machine) (w : Width) (o : Operation) (d : Register) (x : Operand) → IsOperand x → IsProper a → IsMember shapes a m

@@ -1,13 +1,13 @@
 -- The order on kinds, cells and states: it is one, and what covers more stands for more.
 use Rattle.std.proofs.lemmas.Bool.{both_ways}
-use Rattle.std.proofs.Common.{◌≡◌, ℕ, zero, suc, arith, ◌*◌, ◌<◌, ◌≤◌, Bool, false, refl, sym, ◌∙◌, IsTrue}
+use Rattle.std.proofs.Common.{◌≡◌, ℕ, zero, suc, arith, ◌*◌, ◌<◌, ◌≤◌, Bool, false, refl, ◌∙◌, IsTrue}
 use Rattle.scx_semantics.specs.declared.values.Value.{Value}
 use Rattle.scx_semantics.specs.declared.values.Value.TheVariants as value
 use Rattle.scx_semantics.specs.declared.values.Pointer.TheVariants as pointer
 use Rattle.scx_semantics.specs.Elements.{Maps}
 use Rattle.scx_semantics.specs.Memory as memory
 use Rattle.scx_ranges.specs.declared.ranges.Range.{Range}
-use Rattle.scx_ranges.specs.Ranges.{CoversRange}
+use Rattle.scx_ranges.specs.Ranges.{IsIn, CoversRange}
 use Rattle.scx_ranges.proofs.Order.{covers_in}
 use Rattle.scx_abs.specs.declared.kinds.Kind.{Kind}
 use Rattle.scx_abs.specs.declared.kinds.Kind.TheVariants.{Unusable, Num, Stack, Elem, ElemOrNull, Task, TaskOrNull, MapRef}
@@ -21,7 +21,7 @@ use Rattle.scx_abs.specs.Laws.{CoversMore, CoversItself, CoversThrough}
 
 -- ---- ranges
 
-range_itself : (r : Range) → CoversRange r r
+pub range_itself : (r : Range) → CoversRange r r
 range_itself r = record { low = omega arith; high = omega arith; shift = omega arith }
 
 range_through : (t s r : Range) → CoversRange t s → CoversRange s r → CoversRange t r
@@ -34,6 +34,13 @@ range_through t s r g h =
     let sixth : s.shift ≤ r.shift = h.shift in
     record { low = omega arith; high = omega arith; shift = omega arith }
 
+-- what is covered by the offset 0 alone is no other
+highest_covered : (s r : Range) → s.high ≡ 0 → CoversRange s r → r.high ≡ 0
+highest_covered s r e g = let high : r.high ≤ s.high = g.high in omega arith
+
+is_zero : (r : Range) (p : ℕ) → r.high ≡ 0 → IsIn p r → 0 ≡ p
+is_zero r p e h = let high : p ≤ r.high = h.to_high in omega arith
+
 -- ---- kinds
 
 -- a kind covers itself
@@ -41,7 +48,7 @@ pub kind_itself : (k : Kind) → CoversKind k k
 kind_itself Unusable = tt
 kind_itself (Num r) = range_itself r
 kind_itself (Stack o) = refl
-kind_itself (Elem m o) = (refl, refl)
+kind_itself (Elem m r) = (refl, range_itself r)
 kind_itself (ElemOrNull m) = refl
 kind_itself Task = tt
 kind_itself TaskOrNull = tt
@@ -52,10 +59,10 @@ pub kind_through : (l k j : Kind) → CoversKind l k → CoversKind k j → Cove
 kind_through Unusable k j g h = tt
 kind_through (Num t) (Num s) (Num r) g h = range_through t s r g h
 kind_through (Stack o) (Stack p) (Stack q) g h = g ∙ h
-kind_through (Elem m o) (Elem n p) (Elem l q) g h = (g.0 ∙ h.0, g.1 ∙ h.1)
+kind_through (Elem m t) (Elem n s) (Elem l r) g h = (g.0 ∙ h.0, range_through t s r g.1 h.1)
 kind_through (ElemOrNull m) (ElemOrNull n) (ElemOrNull l) g h = g ∙ h
-kind_through (ElemOrNull m) (ElemOrNull n) (Elem l q) g h = (g ∙ h.0, h.1)
-kind_through (ElemOrNull m) (Elem n o) (Elem l q) g h = (g.0 ∙ h.0, sym h.1 ∙ g.1)
+kind_through (ElemOrNull m) (ElemOrNull n) (Elem l r) g h = (g ∙ h.0, h.1)
+kind_through (ElemOrNull m) (Elem n s) (Elem l r) g h = (g.0 ∙ h.0, highest_covered s r g.1 h.1)
 kind_through Task Task Task g h = tt
 kind_through TaskOrNull TaskOrNull TaskOrNull g h = tt
 kind_through TaskOrNull TaskOrNull Task g h = tt
@@ -68,9 +75,9 @@ pub kind_stands : (maps : Maps) (j k : Kind) (v : Value) → CoversKind j k → 
 kind_stands maps Unusable k v g h = tt
 kind_stands maps (Num s) (Num r) (value.Number n) g h = covers_in s r n g h
 kind_stands maps (Stack o) (Stack p) v g h = rw g h
-kind_stands maps (Elem m o) (Elem n p) v g h = rw (g.0, g.1) h
+kind_stands maps (Elem m s) (Elem n r) (value.Pointer (pointer.Element l i p)) g h = (g.0 ∙ h.0, covers_in s r p g.1 h.1, h.2)
 kind_stands maps (ElemOrNull m) (ElemOrNull n) v g h = rw g h
-kind_stands maps (ElemOrNull m) (Elem n o) (value.Pointer (pointer.Element l i p)) g h = (g.0 ∙ h.0, sym g.1 ∙ h.1, h.2)
+kind_stands maps (ElemOrNull m) (Elem n r) (value.Pointer (pointer.Element l i p)) g h = (g.0 ∙ h.0, is_zero r p g.1 h.1, h.2)
 kind_stands maps Task Task v g h = h
 kind_stands maps TaskOrNull TaskOrNull v g h = h
 kind_stands maps TaskOrNull Task (value.Pointer (pointer.Task t)) g h = tt

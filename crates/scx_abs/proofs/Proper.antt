@@ -10,7 +10,7 @@ use Rattle.scx_semantics.specs.declared.instructions.Operand.TheVariants as oper
 use Rattle.scx_semantics.specs.declared.operations.Width.{Width}
 use Rattle.scx_semantics.specs.declared.operations.Width.TheVariants.{Bits32, Bits64}
 use Rattle.scx_semantics.specs.declared.operations.Operation.{Operation}
-use Rattle.scx_semantics.specs.declared.operations.Operation.TheVariants.{Move}
+use Rattle.scx_semantics.specs.declared.operations.Operation.TheVariants.{Add, Move}
 use Rattle.scx_semantics.specs.declared.operations.Comparison.{Comparison}
 use Rattle.scx_semantics.specs.declared.operations.Access.{Access}
 use Rattle.scx_semantics.specs.declared.operations.Access.TheVariants as access
@@ -30,7 +30,11 @@ use Rattle.scx_encoding.specs.Spelling.{IsOperand}
 use Rattle.scx_semantics.specs.HostTables.{is_writable, helper_at, answers, parameters, is_allowed}
 use Rattle.scx_maps.specs.declared.shape.Shape.{Shape}
 use Rattle.scx_ranges.specs.declared.ranges.Range.{Range}
-use Rattle.scx_ranges.specs.Ranges.{IsRange, CoversRange, all, single, is_single}
+use Rattle.scx_ranges.specs.Ranges.{IsWellFormed, IsRange, CoversRange, join_ranges, single, is_single}
+use Rattle.scx_ranges.specs.Offsets as offsets
+use Rattle.scx_ranges.specs.OffsetLaws.{IsWithin}
+use Rattle.scx_ranges.proofs.Order.{join_formed}
+use Rattle.scx_ranges.proofs.ElementOffsets.{moves_stay_within, advances_stay_within}
 use Rattle.scx_ranges.specs.Cuts.{cut}
 use Rattle.scx_ranges.specs.Laws.{IsCutRange}
 use Rattle.scx_ranges.proofs.KeptByCuts.{cuts_are_ranges}
@@ -55,7 +59,7 @@ use Rattle.scx_abs.specs.States.{kind_at, cell_at, with_kind, with_cell, IsWhole
 use Rattle.scx_semantics.specs.Results.{◌>>=◌}
 use Rattle.scx_abs.specs.Checks.{flows, goes_on, usable, operand_kind, sets, element_size, offset_within}
 use Rattle.scx_abs.specs.Calls.{arguments_check, after_call, element_of, answer_kind, call_allowed, call_rule}
-use Rattle.scx_abs.specs.Rules.{moved_by, moved_kind, computed_kind, arithmetic_kind, combined_kind, binary_kind, number_kind, map_kind, area_of, loaded_kind, kind_in, load_kind, pointer_cell, stored_cell, number_stored, stored_in, null_test, if_null, if_not_null, tested, side, sides, numbers_compared, compared, end_rule}
+use Rattle.scx_abs.specs.Rules.{in_element, moved_by, moved_kind, computed_kind, advanced_by, element_kind, arithmetic_kind, combined_kind, binary_kind, number_kind, map_kind, area_of, loaded_kind, kind_in, load_kind, pointer_cell, stored_cell, number_stored, stored_in, null_test, if_null, if_not_null, tested, side, sides, numbers_compared, compared, end_rule}
 use Rattle.scx_abs.specs.Laws.{CoversBothWays, StartIsProper, FlowsProper, RulesKeepProper}
 
 -- ---- the start
@@ -105,17 +109,37 @@ kind_is_proper a r p = go (cases_lt r (length a.registers))
     go (inl lt) = All-get_or IsProperKind a.registers r Unusable lt p.kinds
     go (inr le) = subst IsProperKind (sym (get_or_past a.registers r Unusable le)) tt
 
+-- what a cell keeps is a pointer of a proper kind
+abbrev KeepsProper : Cell → Type 0
+KeepsProper (Bytes set) = Unit {0}
+KeepsProper (Pointer k) = IsProperKind (kind_of k)
+
+proper_keeps : (x : Cell) → IsProperCell x → KeepsProper x
+proper_keeps (Bytes set) p = tt
+proper_keeps (Pointer k) p = p
+
+-- so does each cell of the stack; past the last there is none
+cell_keeps : (a : AbsState) (c : ℕ) → IsProper a → KeepsProper (cell_at a c)
+cell_keeps a c p = go (cases_lt c (length a.cells))
+  where
+    go : (c < length a.cells) ⊎ (length a.cells ≤ c) → KeepsProper (cell_at a c)
+    go (inl lt) = proper_keeps (cell_at a c) (All-get_or IsProperCell a.cells c (Bytes []) lt p.cells)
+    go (inr le) = subst KeepsProper (sym (get_or_past a.cells c (Bytes []) le)) tt
+
 -- ---- joins
 
-cell_of_proper : (o : Option Held) → IsProperCell (cell_of o)
-cell_of_proper None = refl
-cell_of_proper (Some k) = tt
+-- a stored pointer's kind is proper, if there is one
+abbrev IsHeld : Option Held → Type 0
+IsHeld o = IfSome o (λ k. IsProperKind (kind_of k))
 
-joined_proper : (x y : Cell) → IsProperCell (join_cell x y)
-joined_proper (Bytes a) (Bytes b) = refl
-joined_proper (Pointer j) (Pointer k) = cell_of_proper (held_of (join_kind (kind_of j) (kind_of k)))
-joined_proper (Bytes a) (Pointer k) = refl
-joined_proper (Pointer j) (Bytes b) = refl
+held_proper : (k : Kind) → IsProperKind k → IsHeld (held_of k)
+held_proper Unusable p = tt
+held_proper (Num r) p = tt
+held_proper k p = p
+
+cell_of_proper : (o : Option Held) → IsHeld o → IsProperCell (cell_of o)
+cell_of_proper None p = refl
+cell_of_proper (Some k) p = p
 
 if_proper : (b : Bool) (k : Kind) → IsProperKind k → IsProperKind (kind_if b k)
 if_proper true k p = p
@@ -124,9 +148,9 @@ if_proper false k p = tt
 joined_kind_proper : (j k : Kind) → IsProperKind j → IsProperKind k → IsProperKind (join_kind j k)
 joined_kind_proper (Num r) (Num s) p q = joined_range r s p q
 joined_kind_proper (Stack o) (Stack n) p q = if_proper (nat_eq o n) (Stack o) tt
-joined_kind_proper (Elem m o) (Elem n l) p q = if_proper (nat_eq m n && nat_eq o l) (Elem m o) tt
-joined_kind_proper (Elem m o) (ElemOrNull n) p q = if_proper (nat_eq m n && nat_eq o 0) (ElemOrNull n) tt
-joined_kind_proper (ElemOrNull m) (Elem n o) p q = if_proper (nat_eq m n && nat_eq o 0) (ElemOrNull m) tt
+joined_kind_proper (Elem m r) (Elem n s) p q = if_proper (nat_eq m n) (Elem m (join_ranges r s)) (join_formed r s p q)
+joined_kind_proper (Elem m r) (ElemOrNull n) p q = if_proper (nat_eq m n && nat_eq r.high 0) (ElemOrNull n) tt
+joined_kind_proper (ElemOrNull m) (Elem n r) p q = if_proper (nat_eq m n && nat_eq r.high 0) (ElemOrNull m) tt
 joined_kind_proper (ElemOrNull m) (ElemOrNull n) p q = if_proper (nat_eq m n) (ElemOrNull m) tt
 joined_kind_proper Task Task p q = tt
 joined_kind_proper Task TaskOrNull p q = tt
@@ -134,6 +158,13 @@ joined_kind_proper TaskOrNull Task p q = tt
 joined_kind_proper TaskOrNull TaskOrNull p q = tt
 joined_kind_proper (MapRef m) (MapRef n) p q = if_proper (nat_eq m n) (MapRef m) tt
 joined_kind_proper j k p q = tt
+
+joined_proper : (x y : Cell) → IsProperCell x → IsProperCell y → IsProperCell (join_cell x y)
+joined_proper (Bytes a) (Bytes b) p q = refl
+joined_proper (Pointer j) (Pointer k) p q =
+    cell_of_proper (held_of (join_kind (kind_of j) (kind_of k))) (held_proper (join_kind (kind_of j) (kind_of k)) (joined_kind_proper (kind_of j) (kind_of k) p q))
+joined_proper (Bytes a) (Pointer k) p q = refl
+joined_proper (Pointer j) (Bytes b) p q = refl
 
 -- a join of proper states is proper
 pub join_proper : (joined a b : AbsState) → IsWhole joined → IsProper a → IsProper b → ((r : ℕ) → r < 11 → kind_at joined r ≡ join_kind (kind_at a r) (kind_at b r)) → ((c : ℕ) → c < 64 → cell_at joined c ≡ join_cell (cell_at a c) (cell_at b c)) → IsProper joined
@@ -147,7 +178,9 @@ join_proper joined a b whole p q kinds cells = record {
     kind r lt = rw (kinds r lt) (joined_kind_proper (kind_at a r) (kind_at b r) (kind_is_proper a r p) (kind_is_proper b r q))
 
     each : (c : ℕ) → c < 64 → IsProperCell (cell_at joined c)
-    each c lt = rw (cells c lt) (joined_proper (cell_at a c) (cell_at b c))
+    each c lt =
+        rw (cells c lt) (joined_proper (cell_at a c) (cell_at b c) (All-get_or IsProperCell a.cells c (Bytes []) (omega (arith, lt, p.whole.cells)) p.cells)
+        (All-get_or IsProperCell b.cells c (Bytes []) (omega (arith, lt, q.whole.cells)) q.cells))
 
 -- ---- registers and cells
 
@@ -198,14 +231,28 @@ computed_is_proper : (w : Width) (o : Operation) (r : Range) (k : Kind) → IsRa
 computed_is_proper w o r (Num s) p q = computed_range w o r s p q
 computed_is_proper w o r k p q = tt
 
-moved_by_proper : (shapes : List Shape) (k : Kind) (d : Option ℤ) → IsKind (moved_by shapes k d)
-moved_by_proper shapes (Stack o) (Some d) = kind_then (offset_within stack_size (shifted o d)) (λ to. Ok (Stack to)) (λ to. tt)
-moved_by_proper shapes (Elem m o) (Some d) = kind_then (offset_within (element_size shapes m) (shifted o d)) (λ to. Ok (Elem m to)) (λ to. tt)
-moved_by_proper shapes k d = tt
+in_element_proper : (m size : ℕ) (o : Option Range) → IsWithin size o → IsKind (in_element m o)
+in_element_proper m size None h = tt
+in_element_proper m size (Some r) h = h.0
+
+moved_by_proper : (shapes : List Shape) (k : Kind) (d : Option ℤ) → IsProperKind k → IsKind (moved_by shapes k d)
+moved_by_proper shapes (Stack o) (Some d) p = kind_then (offset_within stack_size (shifted o d)) (λ to. Ok (Stack to)) (λ to. tt)
+moved_by_proper shapes (Elem m r) (Some d) p = in_element_proper m (element_size shapes m) (offsets.moved (element_size shapes m) r d) (moves_stay_within (element_size shapes m) r d p)
+moved_by_proper shapes k d p = tt
+
+advanced_by_proper : (shapes : List Shape) (m : ℕ) (r : Range) (k : Kind) → IsWellFormed r → IsProperKind k → IsKind (advanced_by shapes m r k)
+advanced_by_proper shapes m r (Num s) p q =
+    in_element_proper m (element_size shapes m) (offsets.advanced (element_size shapes m) r s) (advances_stay_within (element_size shapes m) r s p q.formed)
+advanced_by_proper shapes m r k p q = tt
+
+element_is_proper : (shapes : List Shape) (w : Width) (o : Operation) (x : Operand) (m : ℕ) (r : Range) (k : Kind) → IsWellFormed r → IsProperKind k → IsKind (element_kind shapes w o x m r k)
+element_is_proper shapes Bits64 Add (operand.Register d) m r k p q = advanced_by_proper shapes m r k p q
+element_is_proper shapes w o x m r k p q = moved_by_proper shapes (Elem m r) (pointer_step w o x) p
 
 arithmetic_is_proper : (shapes : List Shape) (w : Width) (o : Operation) (x : Operand) (j k : Kind) → IsProperKind j → IsProperKind k → IsKind (arithmetic_kind shapes w o x j k)
 arithmetic_is_proper shapes w o x (Num r) k p q = computed_is_proper w o r k p q
-arithmetic_is_proper shapes w o x j k p q = moved_by_proper shapes j (pointer_step w o x)
+arithmetic_is_proper shapes w o x (Elem m r) k p q = element_is_proper shapes w o x m r k p q
+arithmetic_is_proper shapes w o x j k p q = moved_by_proper shapes j (pointer_step w o x) p
 
 combined_is_proper : (shapes : List Shape) (a : AbsState) (w : Width) (o : Operation) (d : Register) (x : Operand) → IsOperand x → IsProper a → IsKind (combined_kind shapes a w o d x)
 combined_is_proper shapes a w o d x fits p =
@@ -224,30 +271,21 @@ map_is_proper : (shapes : List Shape) (k : ℤ) → IsKind (map_kind shapes k)
 map_is_proper shapes (pos m) = elim (nat_lt m (length shapes)) as (λ t. IsKind (if t then Ok (MapRef m) else Err UnknownMap)) [ true ↦ tt | false ↦ tt ]
 map_is_proper shapes k = tt
 
--- a stored pointer's is
-held_proper : (k : Held) → IsProperKind (kind_of k)
-held_proper (held.Stack o) = tt
-held_proper (held.Elem m o) = tt
-held_proper (held.ElemOrNull m) = tt
-held_proper held.Task = tt
-held_proper held.TaskOrNull = tt
-held_proper (held.MapRef m) = tt
+loaded_is_proper : (cell : Cell) (a : Access) (j : ℕ) → KeepsProper cell → IsKind (loaded_kind cell a j)
+loaded_is_proper (Bytes b) a j p = elim (all_written b j (size_bytes (access_size a))) as (λ t. IsKind (if t then Ok (Num (loaded a)) else Err UnwrittenStack)) [ true ↦ load_range a | false ↦ tt ]
+loaded_is_proper (Pointer k) access.DoubleWord j p = p
+loaded_is_proper (Pointer k) a j p = tt
 
-loaded_is_proper : (cell : Cell) (a : Access) (j : ℕ) → IsKind (loaded_kind cell a j)
-loaded_is_proper (Bytes b) a j = elim (all_written b j (size_bytes (access_size a))) as (λ t. IsKind (if t then Ok (Num (loaded a)) else Err UnwrittenStack)) [ true ↦ load_range a | false ↦ tt ]
-loaded_is_proper (Pointer k) access.DoubleWord j = held_proper k
-loaded_is_proper (Pointer k) a j = tt
+kind_in_proper : (a : AbsState) (access : Access) (x : Area) → IsProper a → IsKind (kind_in a access x)
+kind_in_proper a access (OnStack at) p = loaded_is_proper (cell_at a (at / 8)) access (at % 8) (cell_keeps a (at / 8) p)
+kind_in_proper a access InElement p = load_range access
+kind_in_proper a access (InTask f) p = elim (is_plain access) as (λ t. IsKind (if t then Ok (Num (loaded access)) else Err TaskField)) [ true ↦ load_range access | false ↦ tt ]
 
-kind_in_proper : (a : AbsState) (access : Access) (x : Area) → IsKind (kind_in a access x)
-kind_in_proper a access (OnStack at) = loaded_is_proper (cell_at a (at / 8)) access (at % 8)
-kind_in_proper a access InElement = load_range access
-kind_in_proper a access (InTask f) = elim (is_plain access) as (λ t. IsKind (if t then Ok (Num (loaded access)) else Err TaskField)) [ true ↦ load_range access | false ↦ tt ]
-
-load_is_proper : (shapes : List Shape) (a : AbsState) (access : Access) (r : Register) (offset : ℤ) → IsKind (load_kind shapes a access r offset)
-load_is_proper shapes a access r offset =
+load_is_proper : (shapes : List Shape) (a : AbsState) (access : Access) (r : Register) (offset : ℤ) → IsProper a → IsKind (load_kind shapes a access r offset)
+load_is_proper shapes a access r offset p =
     let n = size_bytes (access_size access) in
     kind_then (usable (kind_at a (number r))) (λ base. area_of shapes base offset n >>= λ x. kind_in a access x)
-    (λ base. kind_then (area_of shapes base offset n) (λ x. kind_in a access x) (λ x. kind_in_proper a access x))
+    (λ base. kind_then (area_of shapes base offset n) (λ x. kind_in a access x) (λ x. kind_in_proper a access x p))
 
 -- ---- what flows on
 
@@ -270,20 +308,20 @@ number_stored_proper : (a : AbsState) (k : Kind) → IsProper a → FlowsIn (num
 number_stored_proper a (Num r) p = (p, tt)
 number_stored_proper a k p = tt
 
-pointer_cell_proper : (o : Option Held) (f : Cell → Result Next Why) → ((c : Cell) → IsProperCell c → FlowsIn (f c)) → FlowsIn (pointer_cell o >>= f)
-pointer_cell_proper None f h = tt
-pointer_cell_proper (Some k) f h = h (Pointer k) tt
+pointer_cell_proper : (o : Option Held) (f : Cell → Result Next Why) → IsHeld o → ((c : Cell) → IsProperCell c → FlowsIn (f c)) → FlowsIn (pointer_cell o >>= f)
+pointer_cell_proper None f p h = tt
+pointer_cell_proper (Some k) f p h = h (Pointer k) p
 
-stored_cell_proper : (cell : Cell) (s : Size) (j : ℕ) (k : Kind) (f : Cell → Result Next Why) → ((c : Cell) → IsProperCell c → FlowsIn (f c)) → FlowsIn (stored_cell cell s j k >>= f)
-stored_cell_proper cell s j (Num r) f h = h (Bytes (marked (written_in cell) j (size_bytes s))) refl
-stored_cell_proper cell size.DoubleWord j k f h = pointer_cell_proper (held_of k) f h
-stored_cell_proper cell s j k f h = tt
+stored_cell_proper : (cell : Cell) (s : Size) (j : ℕ) (k : Kind) (f : Cell → Result Next Why) → IsProperKind k → ((c : Cell) → IsProperCell c → FlowsIn (f c)) → FlowsIn (stored_cell cell s j k >>= f)
+stored_cell_proper cell s j (Num r) f p h = h (Bytes (marked (written_in cell) j (size_bytes s))) refl
+stored_cell_proper cell size.DoubleWord j k f p h = pointer_cell_proper (held_of k) f (held_proper k p) h
+stored_cell_proper cell s j k f p h = tt
 
-stored_proper : (a : AbsState) (s : Size) (k : Kind) (x : Area) → IsProper a → FlowsIn (stored_in a s k x)
-stored_proper a s k (OnStack at) p =
-    stored_cell_proper (cell_at a (at / 8)) s (at % 8) k (λ c. goes_on (with_cell a (at / 8) c)) (λ c q. (cell_proper a (at / 8) c p q, tt))
-stored_proper a s k InElement p = number_stored_proper a k p
-stored_proper a s k (InTask f) p = elim (is_writable f) as (λ t. FlowsIn (if t then number_stored a k else Err TaskField)) [ true ↦ number_stored_proper a k p | false ↦ tt ]
+stored_proper : (a : AbsState) (s : Size) (k : Kind) (x : Area) → IsProper a → IsProperKind k → FlowsIn (stored_in a s k x)
+stored_proper a s k (OnStack at) p v =
+    stored_cell_proper (cell_at a (at / 8)) s (at % 8) k (λ c. goes_on (with_cell a (at / 8) c)) v (λ c q. (cell_proper a (at / 8) c p q, tt))
+stored_proper a s k InElement p v = number_stored_proper a k p
+stored_proper a s k (InTask f) p v = elim (is_writable f) as (λ t. FlowsIn (if t then number_stored a k else Err TaskField)) [ true ↦ number_stored_proper a k p | false ↦ tt ]
 
 null_proper : (a : AbsState) (r : ℕ) (k : Kind) → IsProper a → IfSome (if_null a r k) IsProper
 null_proper a r (ElemOrNull m) p = kind_proper a r (Num (single 0)) p (single_range 0 (omega arith))
@@ -291,7 +329,7 @@ null_proper a r TaskOrNull p = kind_proper a r (Num (single 0)) p (single_range 
 null_proper a r k p = tt
 
 pointer_proper : (a : AbsState) (r : ℕ) (k : Kind) → IsProper a → IsProper (if_not_null a r k)
-pointer_proper a r (ElemOrNull m) p = kind_proper a r (Elem m 0) p tt
+pointer_proper a r (ElemOrNull m) p = kind_proper a r (Elem m (single 0)) p (single_range 0 (omega arith)).formed
 pointer_proper a r TaskOrNull p = kind_proper a r Task p tt
 pointer_proper a r k p = p
 
@@ -365,11 +403,11 @@ rule_proper shapes c (insn.LoadImmediate d low_half high_half) a fits p =
     sets_proper a (number d) (Ok (Num (single (wide_immediate low_half high_half)))) p
     (single_range (wide_immediate low_half high_half) (wide_immediate_below low_half high_half fits.0 fits.1))
 rule_proper shapes c (insn.LoadMapReference d k) a fits p = sets_proper a (number d) (map_kind shapes k) p (map_is_proper shapes k)
-rule_proper shapes c (insn.Load access d r offset) a fits p = sets_proper a (number d) (load_kind shapes a access r offset) p (load_is_proper shapes a access r offset)
+rule_proper shapes c (insn.Load access d r offset) a fits p = sets_proper a (number d) (load_kind shapes a access r offset) p (load_is_proper shapes a access r offset p)
 rule_proper shapes c (insn.Store s r offset x) a fits p =
     then_proper (usable (kind_at a (number r))) (λ base. operand_kind a Bits64 x >>= λ k. area_of shapes base offset (size_bytes s) >>= λ t. stored_in a s k t)
-    (λ base. then_proper (operand_kind a Bits64 x) (λ k. area_of shapes base offset (size_bytes s) >>= λ t. stored_in a s k t)
-    (λ k. then_proper (area_of shapes base offset (size_bytes s)) (λ t. stored_in a s k t) (λ t. stored_proper a s k t p)))
+    (λ base. then_kept (operand_kind a Bits64 x) (λ k. area_of shapes base offset (size_bytes s) >>= λ t. stored_in a s k t) (operand_is_proper a Bits64 x fits.1 p)
+    (λ k q. then_proper (area_of shapes base offset (size_bytes s)) (λ t. stored_in a s k t) (λ t. stored_proper a s k t p q)))
 rule_proper shapes c (insn.JumpIf w k r x offset) a fits p =
     then_kept (usable (kind_at a (number r))) (λ j. operand_kind a w x >>= λ l. compared a (number r) w k (null_test w k x) j l) (usable_kind (kind_at a (number r)) (kind_is_proper a (number r) p))
     (λ j q. then_proper (operand_kind a w x) (λ l. compared a (number r) w k (null_test w k x) j l) (λ l. compared_proper a (number r) w k (null_test w k x) j l p q))
@@ -396,7 +434,7 @@ same_kind : (j k : Kind) → CoversKind j k → CoversKind k j → j ≡ k
 same_kind Unusable Unusable g h = refl
 same_kind (Num r) (Num s) g h = ap Num (same_range r s g h)
 same_kind (Stack o) (Stack p) g h = ap Stack g
-same_kind (Elem m o) (Elem n p) g h = λ i. Elem (g.0 i) (g.1 i)
+same_kind (Elem m r) (Elem n s) g h = λ i. Elem (g.0 i) (same_range r s g.1 h.1 i)
 same_kind (ElemOrNull m) (ElemOrNull n) g h = ap ElemOrNull g
 same_kind Task Task g h = refl
 same_kind TaskOrNull TaskOrNull g h = refl

@@ -1,5 +1,5 @@
 -- Registers: what a check of one gives against its value, and the state after a register is written.
-use Rattle.std.proofs.Common.{◌≡◌, ℕ, ◌*◌, ◌^◌, ◌<◌, true, false, nat_eq, List, Option, Some, None, Result, Ok, Err, if◌then◌else◌, refl, sym, subst, arith}
+use Rattle.std.proofs.Common.{◌≡◌, ℕ, ◌*◌, ◌^◌, ◌<◌, true, false, nat_eq, List, Option, Some, None, Result, Ok, Err, if◌then◌else◌, refl, subst, arith}
 use Rattle.std.proofs.lemmas.Bool.{eq-eqb, ne_eqb}
 use Rattle.scx_semantics.specs.declared.instructions.Operand.{Operand}
 use Rattle.scx_semantics.specs.declared.instructions.Operand.TheVariants as operand
@@ -30,7 +30,7 @@ use Rattle.scx_encoding.specs.Spelling.{IsOperand}
 use Rattle.scx_maps.specs.declared.shape.Shape.{Shape}
 use Rattle.scx_abs.specs.declared.faults.Why.{Why}
 use Rattle.scx_abs.specs.declared.faults.Why.TheVariants.{WritesFrame}
-use Rattle.scx_ranges.specs.Ranges.{IsIn, all, single}
+use Rattle.scx_ranges.specs.Ranges.{IsIn, all}
 use Rattle.scx_ranges.specs.Results.{loaded}
 use Rattle.scx_ranges.proofs.Multiples.{single_range, in_single, in_all}
 use Rattle.scx_ranges.proofs.AllWidths.{loads_are_sound}

@@ -56,7 +56,7 @@ rules_sound shapes c (insn.Store s r offset x) a m fits p h = store_sound shapes
 rules_sound shapes c (insn.JumpIf w k r x offset) a m fits p h = jump_sound shapes a m w k r x fits.1 p h
 rules_sound shapes c (insn.Goto offset) a m fits p h = h
 rules_sound shapes c (insn.GotoLong offset) a m fits p h = h
-rules_sound shapes c (insn.Call k) a m fits p h = call_sound shapes c (helper_at k) a m h
+rules_sound shapes c (insn.Call k) a m fits p h = call_sound shapes c (helper_at k) a m p h
 rules_sound shapes c insn.Exit a m fits p h =
     elim (answers c) as (λ b. IsSoundFor shapes (if b then end_rule (kind_at a 0) else Ok (flows None None)) (if b then answered (m.registers 0) else effect.Ended 0))
     [ true ↦ end_sound shapes m.maps (kind_at a 0) (m.registers 0) (h.registers 0) | false ↦ tt ]

@@ -1,6 +1,6 @@
 -- The rule of helper calls: the helper is there, then it may be called in this callback, then each
 -- argument from r1 on is what it takes. After a call r0 has the answer's kind, and r1 to r5 are unusable.
-use Rattle.std.specs.Prelude.{ℕ, ◌+◌, ◌/◌, ◌%◌, List, [], ◌∷◌, Option, Some, None, Result, Ok, Err, if◌then◌else◌}
+use Rattle.std.specs.Prelude.{ℕ, ◌+◌, ◌/◌, ◌%◌, pos, List, [], ◌∷◌, Option, Some, None, Result, Ok, Err, if◌then◌else◌}
 use Rattle.scx_semantics.specs.declared.callbacks.Callback.{Callback}
 use Rattle.scx_semantics.specs.declared.host_tables.Helper.{Helper}
 use Rattle.scx_semantics.specs.declared.host_tables.Helper.TheVariants as helper
@@ -20,7 +20,7 @@ use Rattle.scx_abs.specs.declared.rules.Next.{Next}
 use Rattle.scx_abs.specs.Cells.{all_written, written_in}
 use Rattle.scx_abs.specs.States.{kind_at, cell_at, with_kind}
 use Rattle.scx_semantics.specs.Results.{◌>>=◌}
-use Rattle.scx_abs.specs.Checks.{goes_on, element_size, offset_for}
+use Rattle.scx_abs.specs.Checks.{goes_on, element_size, offset_for, offsets_for}
 
 -- ---- arguments
 
@@ -33,9 +33,7 @@ abbrev pub key_check : List Shape → AbsState → Kind → Result (Unit {0}) Wh
 key_check shapes a (Stack o) = do
   at ← offset_for stack_size 4 (Some o)
   key_in (cell_at a (at / 8)) (at % 8)
-key_check shapes a (Elem m o) = do
-  at ← offset_for (element_size shapes m) 4 (Some o)
-  Ok tt
+key_check shapes a (Elem m r) = offsets_for (element_size shapes m) 4 r (pos 0)
 key_check shapes a (ElemOrNull m) = Err NullNotTested
 key_check shapes a k = Err BadArgument
 

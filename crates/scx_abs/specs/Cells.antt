@@ -8,14 +8,14 @@ use Rattle.scx_abs.specs.declared.kinds.Held.{Held}
 use Rattle.scx_abs.specs.declared.kinds.Held.TheVariants as held
 use Rattle.scx_abs.specs.declared.kinds.Cell.{Cell}
 use Rattle.scx_abs.specs.declared.kinds.Cell.TheVariants.{Bytes, Pointer}
-use Rattle.scx_abs.specs.Kinds.{CoversKind, join_kind}
+use Rattle.scx_abs.specs.Kinds.{CoversKind, IsProperKind, join_kind}
 
 -- ---- stored pointers
 
 -- the kind of a register that a stored pointer is loaded to
 abbrev pub kind_of : Held → Kind
 kind_of (held.Stack o) = Stack o
-kind_of (held.Elem m o) = Elem m o
+kind_of (held.Elem m r) = Elem m r
 kind_of (held.ElemOrNull m) = ElemOrNull m
 kind_of held.Task = Task
 kind_of held.TaskOrNull = TaskOrNull
@@ -26,7 +26,7 @@ abbrev pub held_of : Kind → Option Held
 held_of Unusable = None
 held_of (Num r) = None
 held_of (Stack o) = Some (held.Stack o)
-held_of (Elem m o) = Some (held.Elem m o)
+held_of (Elem m r) = Some (held.Elem m r)
 held_of (ElemOrNull m) = Some (held.ElemOrNull m)
 held_of Task = Some held.Task
 held_of TaskOrNull = Some held.TaskOrNull
@@ -77,10 +77,11 @@ CoversCell (Pointer j) (Bytes a) = ⊥
 
 -- ---- proper cells
 
--- it holds a pointer, or it says of each of the eight bytes whether it is known to be written
+-- it holds a pointer of a proper kind, or it says of each of the eight bytes whether it is known to be
+-- written
 abbrev pub IsProperCell : Cell → Type 0
 IsProperCell (Bytes set) = length set ≡ 8
-IsProperCell (Pointer k) = Unit {0}
+IsProperCell (Pointer k) = IsProperKind (kind_of k)
 
 -- ---- join
 

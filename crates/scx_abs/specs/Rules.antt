@@ -10,7 +10,7 @@ use Rattle.scx_semantics.specs.declared.instructions.Operand.TheVariants as oper
 use Rattle.scx_semantics.specs.declared.operations.Width.{Width}
 use Rattle.scx_semantics.specs.declared.operations.Width.TheVariants.{Bits32, Bits64}
 use Rattle.scx_semantics.specs.declared.operations.Operation.{Operation}
-use Rattle.scx_semantics.specs.declared.operations.Operation.TheVariants.{Move}
+use Rattle.scx_semantics.specs.declared.operations.Operation.TheVariants.{Add, Move}
 use Rattle.scx_semantics.specs.declared.operations.Comparison.{Comparison}
 use Rattle.scx_semantics.specs.declared.operations.Comparison.TheVariants.{Equal, NotEqual}
 use Rattle.scx_semantics.specs.declared.operations.Size.{Size}
@@ -29,6 +29,7 @@ use Rattle.scx_maps.specs.declared.shape.Shape.{Shape}
 use Rattle.scx_ranges.specs.declared.ranges.Range.{Range}
 use Rattle.scx_ranges.specs.Ranges.{single, is_single}
 use Rattle.scx_ranges.specs.Cuts.{cut}
+use Rattle.scx_ranges.specs.Offsets.{moved, advanced}
 use Rattle.scx_ranges.specs.Results.{computed_at, copied, negated_range, extended_range, swapped_range, loaded}
 use Rattle.scx_abs.specs.declared.faults.Why.{Why}
 use Rattle.scx_abs.specs.declared.faults.Why.TheVariants.{UnusableRegister, UnwrittenStack, OutOfBounds, NullNotTested, PointerArithmetic, PointerCompare, PointerStore, TaskField, BadReturn, UnknownMap}
@@ -44,19 +45,22 @@ use Rattle.scx_abs.specs.declared.memory.Area.TheVariants.{OnStack, InElement, I
 use Rattle.scx_abs.specs.Cells.{kind_of, held_of, marked, all_written, written_in}
 use Rattle.scx_abs.specs.States.{kind_at, cell_at, with_kind, with_cell}
 use Rattle.scx_semantics.specs.Results.{◌>>=◌}
-use Rattle.scx_abs.specs.Checks.{flows, goes_on, usable, operand_kind, sets, element_size, offset_within, offset_for}
+use Rattle.scx_abs.specs.Checks.{flows, goes_on, usable, operand_kind, sets, element_size, offset_within, offset_for, offsets_for}
 use Rattle.scx_abs.specs.Calls.{call_rule}
 
 -- ---- arithmetic
+
+-- a pointer to one of these offsets, where all of them stayed in the element
+abbrev pub in_element : ℕ → Option Range → Result Kind Why
+in_element m None = Err OutOfBounds
+in_element m (Some r) = Ok (Elem m r)
 
 -- a pointer that is moved stays in its memory, or comes to its end, right behind the last byte
 abbrev pub moved_by : List Shape → Kind → Option ℤ → Result Kind Why
 moved_by shapes (Stack o) (Some k) = do
   to ← offset_within stack_size (shifted o k)
   Ok (Stack to)
-moved_by shapes (Elem m o) (Some k) = do
-  to ← offset_within (element_size shapes m) (shifted o k)
-  Ok (Elem m to)
+moved_by shapes (Elem m r) (Some k) = in_element m (moved (element_size shapes m) r k)
 moved_by shapes k distance = Err PointerArithmetic
 
 -- a move copies a number, and one of 64 bits a pointer too
@@ -70,9 +74,21 @@ abbrev pub computed_kind : Width → Operation → Range → Kind → Result Kin
 computed_kind w o r (Num s) = Ok (Num (computed_at w o r s))
 computed_kind w o r k = Err PointerArithmetic
 
+-- a pointer into an element, a number of the operand's further on
+abbrev pub advanced_by : List Shape → ℕ → Range → Kind → Result Kind Why
+advanced_by shapes m r (Num s) = in_element m (advanced (element_size shapes m) r s)
+advanced_by shapes m r k = Err PointerArithmetic
+
+-- A 64-bit sum with a register takes a pointer into an element that far on. Other arithmetic moves it
+-- as it moves a pointer to the stack.
+abbrev pub element_kind : List Shape → Width → Operation → Operand → ℕ → Range → Kind → Result Kind Why
+element_kind shapes Bits64 Add (operand.Register d) m r k = advanced_by shapes m r k
+element_kind shapes w o x m r k = moved_by shapes (Elem m r) (pointer_step w o x)
+
 -- what it makes of the destination's kind and the operand's
 abbrev pub arithmetic_kind : List Shape → Width → Operation → Operand → Kind → Kind → Result Kind Why
 arithmetic_kind shapes w o x (Num r) k = computed_kind w o r k
+arithmetic_kind shapes w o x (Elem m r) k = element_kind shapes w o x m r k
 arithmetic_kind shapes w o x j k = moved_by shapes j (pointer_step w o x)
 
 abbrev pub combined_kind : List Shape → AbsState → Width → Operation → Register → Operand → Result Kind Why
@@ -116,8 +132,8 @@ abbrev pub area_of : List Shape → Kind → ℤ → ℕ → Result Area Why
 area_of shapes (Stack o) offset n = do
   at ← offset_for stack_size n (shifted o offset)
   Ok (OnStack at)
-area_of shapes (Elem m o) offset n = do
-  at ← offset_for (element_size shapes m) n (shifted o offset)
+area_of shapes (Elem m r) offset n = do
+  fine ← offsets_for (element_size shapes m) n r offset
   Ok InElement
 area_of shapes Task offset n = field_area (field_at n (shifted 0 offset))
 area_of shapes (ElemOrNull m) offset n = Err NullNotTested
@@ -190,7 +206,7 @@ if_null a r k = None
 
 -- the state where it was found not to be
 abbrev pub if_not_null : AbsState → ℕ → Kind → AbsState
-if_not_null a r (ElemOrNull m) = with_kind a r (Elem m 0)
+if_not_null a r (ElemOrNull m) = with_kind a r (Elem m (single 0))
 if_not_null a r TaskOrNull = with_kind a r Task
 if_not_null a r k = a
 

@@ -1,5 +1,6 @@
 -- What an abstract state stands for: the states of a running program whose registers and stack fit it.
--- A number in a register is a member of its range, and bytes are below 256.
+-- A number in a register is a member of its range, and so is the offset of a pointer into an element;
+-- bytes are below 256.
 use Rattle.std.specs.Prelude.{ℕ, ◌+◌, ◌*◌, ◌≡◌, ◌<◌, List, Some, length, IsTrue}
 use Rattle.scx_semantics.specs.declared.values.Value.{Value}
 use Rattle.scx_semantics.specs.declared.values.Value.TheVariants as value
@@ -31,7 +32,7 @@ abbrev pub Stands : Maps → Kind → Value → Type 0
 Stands maps Unusable v = Unit {0}
 Stands maps (Num r) (value.Number n) = IsIn n r
 Stands maps (Stack o) (value.Pointer (pointer.Stack p)) = o ≡ p
-Stands maps (Elem m o) (value.Pointer (pointer.Element n i p)) = (m ≡ n) × (o ≡ p) × HasElement maps n i
+Stands maps (Elem m r) (value.Pointer (pointer.Element n i p)) = (m ≡ n) × IsIn p r × HasElement maps n i
 Stands maps (ElemOrNull m) (value.Number n) = n ≡ 0
 Stands maps (ElemOrNull m) (value.Pointer (pointer.Element n i p)) = (m ≡ n) × (0 ≡ p) × HasElement maps n i
 Stands maps Task (value.Pointer (pointer.Task t)) = Unit {0}

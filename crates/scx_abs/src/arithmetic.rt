@@ -1,8 +1,9 @@
 ghost use Rattle.std.specs.Prelude.{◌≡◌, Some};
 ghost use Rattle.scx_semantics.specs.Registers.{number};
 ghost use Rattle.scx_abs.specs.Checks.{usable, operand_kind};
+ghost use Rattle.scx_abs.specs.declared.kinds.Kind.TheVariants as Kind;
 ghost use Rattle.scx_ranges.specs.Results.{negated_range, extended_range, swapped_range};
-ghost use Rattle.scx_abs.specs.Rules.{moved_by, moved_kind, computed_kind, arithmetic_kind, combined_kind, binary_kind, numbers_of, number_kind, map_kind};
+ghost use Rattle.scx_abs.specs.Rules.{in_element, moved_by, moved_kind, computed_kind, advanced_by, element_kind, arithmetic_kind, combined_kind, binary_kind, numbers_of, number_kind, map_kind};
 
 use crate::faults::Why;
 use crate::kinds::Kind;
@@ -11,7 +12,7 @@ use crate::states::AbsState;
 use scx_arithmetic::{immediate, pointer_step, shifted};
 use scx_isa::{ByteOrder, Extension, Operand, Operation, Register, STACK_SIZE, SwapWidth, Width};
 use scx_maps::MapDefs;
-use scx_ranges::Numbers;
+use scx_ranges::{Numbers, Offsets};
 
 /// The kind of a register that is read.
 pub(crate) fn usable(kind: Kind) -> Result<Kind, Why>
@@ -126,6 +127,9 @@ fn arithmetic_kind(
 {
     match kind {
         Kind::Num(numbers) => computed_kind(width, operation, numbers, other),
+        Kind::Elem(map, offsets) => {
+            element_kind(width, operation, operand, map, offsets, other, defs)
+        }
         _ => moved_by(kind, pointer_step(width, operation, operand), defs),
     }
 }
@@ -145,20 +149,80 @@ fn computed_kind(
     }
 }
 
+/// The kind that an operation makes of a pointer into an element and such an operand.
+fn element_kind(
+    width: Width,
+    operation: Operation,
+    operand: Operand,
+    map: u8,
+    offsets: Offsets,
+    other: Kind,
+    defs: &MapDefs,
+) -> Result<Kind, Why>
+    ensures { result ≡ element_kind defs.now width operation operand map offsets other }
+{
+    match (width, operation, operand) {
+        (Width::Bits64, Operation::Add, Operand::Register(_)) => {
+            advanced_by(map, offsets, other, defs)
+        }
+        _ => {
+            let distance = pointer_step(width, operation, operand);
+            moved_in_element(map, offsets, distance, defs)
+        }
+    }
+}
+
+/// The kind of a pointer into an element, a number of the operand's further on.
+fn advanced_by(map: u8, offsets: Offsets, operand: Kind, defs: &MapDefs) -> Result<Kind, Why>
+    ensures { result ≡ advanced_by defs.now map offsets operand }
+{
+    match operand {
+        Kind::Num(numbers) => {
+            in_element(map, offsets.advanced(element_size(defs, map), numbers))
+        }
+        _ => Err(Why::PointerArithmetic),
+    }
+}
+
+/// The kind of a pointer to one of these offsets, where all of them stayed in the element.
+fn in_element(map: u8, offsets: Option<Offsets>) -> Result<Kind, Why>
+    ensures { result ≡ in_element map offsets }
+{
+    match offsets {
+        Some(offsets) => Ok(Kind::Elem(map, offsets)),
+        None => Err(Why::OutOfBounds),
+    }
+}
+
 /// The kind of a pointer that is moved so far.
 fn moved_by(kind: Kind, distance: Option<i64>, defs: &MapDefs) -> Result<Kind, Why>
     ensures { result ≡ moved_by defs.now kind distance }
 {
-    match (kind, distance) {
-        (Kind::Stack(at), Some(distance)) => {
-            let to = offset_within(STACK_SIZE, shifted(at, distance))?;
-            Ok(Kind::Stack(to))
-        }
-        (Kind::Elem(map, at), Some(distance)) => {
-            let to = offset_within(element_size(defs, map), shifted(at, distance))?;
-            Ok(Kind::Elem(map, to))
-        }
+    match kind {
+        Kind::Stack(at) => match distance {
+            Some(distance) => {
+                let to = offset_within(STACK_SIZE, shifted(at, distance))?;
+                Ok(Kind::Stack(to))
+            }
+            None => Err(Why::PointerArithmetic),
+        },
+        Kind::Elem(map, offsets) => moved_in_element(map, offsets, distance, defs),
         _ => Err(Why::PointerArithmetic),
+    }
+}
+
+/// The kind of a pointer into an element that is moved so far.
+fn moved_in_element(
+    map: u8,
+    offsets: Offsets,
+    distance: Option<i64>,
+    defs: &MapDefs,
+) -> Result<Kind, Why>
+    ensures { result ≡ moved_by defs.now (Kind.Elem map offsets) distance }
+{
+    match distance {
+        Some(distance) => in_element(map, offsets.moved(element_size(defs, map), distance)),
+        None => Err(Why::PointerArithmetic),
     }
 }
 

@@ -7,7 +7,7 @@ ghost use Rattle.scx_abs.specs.States.{kind_at};
 use crate::changes::Change;
 use crate::faults::Why;
 use crate::kinds::{CELL_BYTES, Cell, Kind, all_written};
-use crate::offsets::{element_size, offset_for};
+use crate::offsets::{check_offsets, element_size, offset_for};
 use crate::states::AbsState;
 use scx_isa::{Helper, Parameter, Register, STACK_SIZE, Size};
 use scx_maps::MapDefs;
@@ -114,9 +114,8 @@ fn check_key(state: &AbsState, kind: Kind, defs: &MapDefs) -> Result<(), Why>
             let at = usize::from(offset_for(STACK_SIZE, Size::Word, Some(u64::from(at)))?);
             key_in(state.cell(at / CELL_BYTES), at % CELL_BYTES)
         }
-        Kind::Elem(map, at) => {
-            offset_for(element_size(defs, map), Size::Word, Some(u64::from(at)))?;
-            Ok(())
+        Kind::Elem(map, offsets) => {
+            check_offsets(element_size(defs, map), Size::Word, offsets, 0)
         }
         Kind::ElemOrNull(_) => Err(Why::NullNotTested),
         _ => Err(Why::BadArgument),

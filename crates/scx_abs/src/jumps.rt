@@ -13,7 +13,7 @@ use crate::faults::Why;
 use crate::kinds::Kind;
 use crate::states::AbsState;
 use scx_isa::{Comparison, Operand, Register, Width};
-use scx_ranges::Numbers;
+use scx_ranges::{Numbers, Offsets};
 
 /// What flows on from a conditional jump.
 #[inline(always)]
@@ -177,9 +177,9 @@ fn null(register: Register) -> Change
 
 /// It was found to point to an element.
 fn element(register: Register, map: u8) -> Change
-    ensures { result ≡ Change.Register register (Elem map 0) }
+    ensures { result ≡ Change.Register register (Elem map (single 0)) }
 {
-    Change::Register(register, Kind::Elem(map, 0))
+    Change::Register(register, Kind::Elem(map, Offsets::single(0)))
 }
 
 /// It was found to point to a task.

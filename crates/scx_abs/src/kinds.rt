@@ -1,10 +1,10 @@
 ghost use Rattle.std.specs.Prelude.{◌≡◌, ◌+◌, ◌≤◌};
-ghost use Rattle.scx_abs.specs.Kinds.{IsNoNumber, join_kind};
+ghost use Rattle.scx_abs.specs.Kinds.{join_kind};
 ghost use Rattle.scx_abs.specs.declared.kinds.Kind.TheVariants as Kind;
 ghost use Rattle.scx_abs.specs.Cells.{kind_of, held_of, cell_of, common, marked, join_pointers, join_cell};
 ghost use Rattle.scx_abs.specs.Cells.{all_written, written_in};
 
-use scx_ranges::Numbers;
+use scx_ranges::{Numbers, Offsets};
 
 /// How many bytes a cell stands for.
 pub const CELL_BYTES: usize = 8;
@@ -18,8 +18,8 @@ pub enum Kind {
     Num(Numbers),
     /// A pointer to that byte of the stack, 0 to 512; 512 is its top, past the last one.
     Stack(u16),
-    /// A pointer into an element of that map, to that byte of it.
-    Elem(u8, u16),
+    /// A pointer into an element of that map, to one of these bytes of it or to its end.
+    Elem(u8, Offsets),
     /// A pointer to the first byte of an element of that map, or 0.
     ElemOrNull(u8),
     /// A pointer to a task.
@@ -35,8 +35,8 @@ pub enum Kind {
 pub enum Held {
     /// A pointer to that byte of the stack, 0 to 512.
     Stack(u16),
-    /// A pointer into an element of that map, to that byte of it.
-    Elem(u8, u16),
+    /// A pointer into an element of that map, to one of these bytes of it or to its end.
+    Elem(u8, Offsets),
     /// A pointer to the first byte of an element of that map, or 0.
     ElemOrNull(u8),
     /// A pointer to a task.
@@ -62,8 +62,14 @@ impl Kind {
         ensures { result ≡ join_kind self other }
     {
         match self {
-            Kind::Num(numbers) => join_number(numbers, other),
-            _ => join_pointer(self, other),
+            Kind::Unusable => Kind::Unusable,
+            Kind::Num(numbers) => join_numbers(numbers, other),
+            Kind::Stack(at) => join_stack(at, other),
+            Kind::Elem(map, offsets) => join_element(map, offsets, other),
+            Kind::ElemOrNull(map) => join_element_or_null(map, other),
+            Kind::Task => join_task(other),
+            Kind::TaskOrNull => join_task_or_null(other),
+            Kind::MapRef(map) => join_map(map, other),
         }
     }
 
@@ -74,7 +80,7 @@ impl Kind {
         match self {
             Kind::Unusable | Kind::Num(_) => None,
             Kind::Stack(at) => Some(Held::Stack(at)),
-            Kind::Elem(map, at) => Some(Held::Elem(map, at)),
+            Kind::Elem(map, offsets) => Some(Held::Elem(map, offsets)),
             Kind::ElemOrNull(map) => Some(Held::ElemOrNull(map)),
             Kind::Task => Some(Held::Task),
             Kind::TaskOrNull => Some(Held::TaskOrNull),
@@ -84,7 +90,7 @@ impl Kind {
 }
 
 /// The least kind that covers a number of these and another kind.
-fn join_number(numbers: Numbers, other: Kind) -> Kind
+fn join_numbers(numbers: Numbers, other: Kind) -> Kind
     ensures { result ≡ join_kind (Kind.Num numbers) other }
 {
     match other {
@@ -93,20 +99,64 @@ fn join_number(numbers: Numbers, other: Kind) -> Kind
     }
 }
 
-/// The least kind that covers one that is no number's and another.
-fn join_pointer(first: Kind, second: Kind) -> Kind
-    requires { IsNoNumber first }
-    ensures { result ≡ join_kind first second }
+/// The least kind that covers a pointer to that byte of the stack and another kind.
+fn join_stack(at: u16, other: Kind) -> Kind
+    ensures { result ≡ join_kind (Kind.Stack at) other }
 {
-    match (first, second) {
-        (Kind::Stack(o), Kind::Stack(p)) if o == p => first,
-        (Kind::Elem(m, o), Kind::Elem(n, p)) if m == n && o == p => first,
-        (Kind::Elem(m, 0), Kind::ElemOrNull(n)) if m == n => second,
-        (Kind::ElemOrNull(m), Kind::Elem(n, 0)) if m == n => first,
-        (Kind::ElemOrNull(m), Kind::ElemOrNull(n)) if m == n => first,
-        (Kind::Task, Kind::Task) => Kind::Task,
-        (Kind::Task | Kind::TaskOrNull, Kind::Task | Kind::TaskOrNull) => Kind::TaskOrNull,
-        (Kind::MapRef(m), Kind::MapRef(n)) if m == n => first,
+    match other {
+        Kind::Stack(same) if at == same => Kind::Stack(at),
+        _ => Kind::Unusable,
+    }
+}
+
+/// The least kind that covers a pointer into an element and another kind.
+fn join_element(map: u8, offsets: Offsets, other: Kind) -> Kind
+    ensures { result ≡ join_kind (Kind.Elem map offsets) other }
+{
+    match other {
+        Kind::Elem(same, others) if map == same => Kind::Elem(map, offsets.join(others)),
+        Kind::ElemOrNull(same) if map == same && offsets.high() == 0 => other,
+        _ => Kind::Unusable,
+    }
+}
+
+/// The least kind that covers a pointer to an element's first byte, or 0, and another kind.
+fn join_element_or_null(map: u8, other: Kind) -> Kind
+    ensures { result ≡ join_kind (Kind.ElemOrNull map) other }
+{
+    match other {
+        Kind::Elem(same, offsets) if map == same && offsets.high() == 0 => Kind::ElemOrNull(map),
+        Kind::ElemOrNull(same) if map == same => Kind::ElemOrNull(map),
+        _ => Kind::Unusable,
+    }
+}
+
+/// The least kind that covers a pointer to a task and another kind.
+fn join_task(other: Kind) -> Kind
+    ensures { result ≡ join_kind Kind.Task other }
+{
+    match other {
+        Kind::Task | Kind::TaskOrNull => other,
+        _ => Kind::Unusable,
+    }
+}
+
+/// The least kind that covers a pointer to a task, or 0, and another kind.
+fn join_task_or_null(other: Kind) -> Kind
+    ensures { result ≡ join_kind Kind.TaskOrNull other }
+{
+    match other {
+        Kind::Task | Kind::TaskOrNull => Kind::TaskOrNull,
+        _ => Kind::Unusable,
+    }
+}
+
+/// The least kind that covers a reference to a map and another kind.
+fn join_map(map: u8, other: Kind) -> Kind
+    ensures { result ≡ join_kind (Kind.MapRef map) other }
+{
+    match other {
+        Kind::MapRef(same) if map == same => Kind::MapRef(map),
         _ => Kind::Unusable,
     }
 }
@@ -118,7 +168,7 @@ impl Held {
     {
         match self {
             Held::Stack(at) => Kind::Stack(at),
-            Held::Elem(map, at) => Kind::Elem(map, at),
+            Held::Elem(map, offsets) => Kind::Elem(map, offsets),
             Held::ElemOrNull(map) => Kind::ElemOrNull(map),
             Held::Task => Kind::Task,
             Held::TaskOrNull => Kind::TaskOrNull,

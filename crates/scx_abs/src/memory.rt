@@ -11,7 +11,7 @@ use crate::arithmetic::{operand_kind, usable};
 use crate::changes::Change;
 use crate::faults::Why;
 use crate::kinds::{CELL_BYTES, Cell, Held, Kind, all_written, marked};
-use crate::offsets::{element_size, offset_for};
+use crate::offsets::{check_offsets, element_size, offset_for};
 use crate::states::AbsState;
 use scx_arithmetic::shifted;
 use scx_isa::{Access, Field, Operand, Register, STACK_SIZE, Size, Width};
@@ -96,8 +96,8 @@ pub fn area_of(base: Kind, offset: i16, size: Size, defs: &MapDefs) -> Result<Ar
             let at = offset_for(STACK_SIZE, size, shifted(at, distance))?;
             Ok(Area::OnStack(at))
         }
-        Kind::Elem(map, at) => {
-            offset_for(element_size(defs, map), size, shifted(at, distance))?;
+        Kind::Elem(map, offsets) => {
+            check_offsets(element_size(defs, map), size, offsets, distance)?;
             Ok(Area::InElement)
         }
         Kind::Task => field_area(Field::at(offset, size)),

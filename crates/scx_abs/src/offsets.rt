@@ -1,12 +1,13 @@
 ghost use Rattle.std.specs.Prelude.{◌≡◌, ◌≤◌, IfOk};
 ghost use Rattle.scx_semantics.specs.Memory.{size_bytes};
 ghost use Rattle.scx_abs.specs.Areas.{IsAlignedWithin};
-ghost use Rattle.scx_abs.specs.Checks.{element_size, offset_within, offset_for};
+ghost use Rattle.scx_abs.specs.Checks.{element_size, offset_within, offset_for, offsets_for};
 
 use crate::faults::Why;
 use scx_arithmetic::within;
 use scx_isa::Size;
 use scx_maps::MapDefs;
+use scx_ranges::Offsets;
 
 /// How many bytes the elements of a map have; none where the map isn't there.
 pub(crate) fn element_size(defs: &MapDefs, map: u8) -> u16
@@ -35,5 +36,24 @@ pub(crate) fn offset_for(bytes: u16, size: Size, at: Option<u64>) -> Result<u16,
         (Some(at), Some(last)) if at <= last && at % step == 0 => Ok(at as u16),
         (Some(at), Some(last)) if at <= last => Err(Why::Misaligned),
         _ => Err(Why::OutOfBounds),
+    }
+}
+
+/// Checks that an access of that size lies in an element of so many bytes, and is aligned, that
+/// distance on from each of the offsets.
+pub(crate) fn check_offsets(
+    bytes: u16,
+    size: Size,
+    offsets: Offsets,
+    distance: i64,
+) -> Result<(), Why>
+    ensures { result ≡ offsets_for bytes (size_bytes size) offsets distance }
+{
+    if !offsets.are_inside(bytes, size, distance) {
+        Err(Why::OutOfBounds)
+    } else if !offsets.are_aligned(size, distance) {
+        Err(Why::Misaligned)
+    } else {
+        Ok(())
     }
 }

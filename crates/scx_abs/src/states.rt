@@ -173,7 +173,9 @@ fn copy_cells(cells: &mut [Cell; CELLS], others: &[Cell; CELLS], low: usize)
     requires second { AreBlank low others.now }
     ensures { cells.new ≡ others.now }
 {
-    cells[low..].copy_from_slice(&others[low..]);
+    let all = &mut cells[..];
+    let others = &others[..];
+    all[low..].copy_from_slice(&others[low..]);
 }
 
 /// Joins others in, from that one on, below which nothing is known in both.
@@ -181,6 +183,7 @@ fn join_cells(cells: &mut [Cell; CELLS], others: &[Cell; CELLS], low: usize)
     requires first { AreBlank low cells.old }
     requires second { AreBlank low others.now }
     ensures long { length cells.new ≡ CELLS }
+    ensures other_long { length others.now ≡ CELLS }
     ensures each { (c : ℕ) → c < CELLS
         → slice_index_or cells.new c (Bytes [])
         ≡ join_cell (slice_index_or cells.old c (Bytes []))

@@ -11,7 +11,7 @@ returns-clause-least c =
     let joined : AbsState = record { registers = c.join_registers.new.registers; cells = c.join_cells.new.cells } in
     let whole : IsWhole joined = record { registers = c.join_registers.ensures.long; cells = c.join_cells.ensures.long } in
     let whole_first : IsWhole c.args.self.now = record { registers = search rules; cells = search rules } in
-    let whole_second : IsWhole c.args.other.now = record { registers = c.join_registers.ensures.other_long; cells = search rules } in
+    let whole_second : IsWhole c.args.other.now = record { registers = c.join_registers.ensures.other_long; cells = c.join_cells.ensures.other_long } in
     is_join joined c.args.self.now c.args.other.now whole whole_first whole_second c.join_registers.ensures.each c.join_cells.ensures.each
 
 pub returns-clause-proper : goal.returns-clause-proper
