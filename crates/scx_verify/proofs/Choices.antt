@@ -5,6 +5,7 @@ use Rattle.scx_semantics.specs.declared.instructions.Insn.TheVariants as insn
 use Rattle.scx_semantics.specs.declared.instructions.Operand.{Operand}
 use Rattle.scx_semantics.specs.declared.operations.Access.{Access}
 use Rattle.scx_semantics.specs.declared.operations.Size.{Size}
+use Rattle.scx_semantics.specs.declared.operations.Size.TheVariants as size
 use Rattle.scx_semantics.specs.declared.operations.Width.TheVariants.{Bits64}
 use Rattle.scx_semantics.specs.declared.registers.Register.{Register}
 use Rattle.scx_semantics.specs.declared.host_tables.Helper.{Helper}
@@ -29,13 +30,14 @@ use Rattle.scx_abs.specs.declared.memory.Area.{Area}
 use Rattle.scx_abs.specs.declared.memory.Area.TheVariants.{OnStack, InElement, InTask}
 use Rattle.scx_abs.specs.declared.states.AbsState.{AbsState}
 use Rattle.scx_abs.specs.declared.rules.Next.{Next}
-use Rattle.scx_abs.specs.States.{kind_at, cell_at}
+use Rattle.scx_abs.specs.States.{kind_at, cell_at, IsProper}
 use Rattle.scx_abs.specs.Stands.{Stands, IsMember}
 use Rattle.scx_semantics.specs.Results.{◌>>=◌}
-use Rattle.scx_abs.specs.Checks.{usable, operand_kind, sets, element_size, offset_for}
+use Rattle.scx_abs.specs.Checks.{usable, operand_kind, sets, offset_for}
 use Rattle.scx_abs.specs.Calls.{key_in, argument_check, arguments_check, call_allowed, call_rule}
 use Rattle.scx_abs.specs.Rules.{area_of, kind_in, load_kind, stored_in, store_rule}
 use Rattle.scx_abs.proofs.Accesses.{Means, area_found}
+use Rattle.scx_abs.proofs.Proper.{kind_is_proper}
 use Rattle.scx_plain.specs.Chosen.{load_op, store_op, look_up_op, call_op}
 use Rattle.scx_verify.specs.Translation.{load_from, store_to, look_up_in, call_of}
 use Rattle.scx_verify.specs.Laws.{TypingChooses}
@@ -81,16 +83,17 @@ store_means maps n s r k x (InTask f) (location.InTask t g) h = ap (λ i. store_
 store_means maps n s r k x (InTask f) to h = absurd h
 
 -- the memory of an access is that of the address
-found : (shapes : List Shape) (a : AbsState) (m : Machine) (r : ℕ) (z : ℤ) (n : ℕ) (area : Area) → IsMember shapes a m → area_of shapes (kind_at a r) z n ≡ Ok area → Means m.maps n area (address m.maps (m.registers r) z n)
-found shapes a m r z n area h e = rw e at (area_found shapes m.maps (kind_at a r) (m.registers r) z n h.maps (h.registers r))
+found : (shapes : List Shape) (a : AbsState) (m : Machine) (r : ℕ) (z : ℤ) (s : Size) (area : Area) → IsProper a → IsMember shapes a m → area_of shapes (kind_at a r) z (size_bytes s) ≡ Ok area
+    → Means m.maps (size_bytes s) area (address m.maps (m.registers r) z (size_bytes s))
+found shapes a m r z s area p h e = rw e at (area_found shapes m.maps (kind_at a r) (m.registers r) z s h.maps (kind_is_proper a r p) (h.registers r))
 
-load_chosen : (shapes : List Shape) (a : AbsState) (m : Machine) (x : Access) (d r : Register) (k : ℤ) (next : Next) → IsMember shapes a m → sets a (number d) (load_kind shapes a x r k) ≡ Ok next
+load_chosen : (shapes : List Shape) (a : AbsState) (m : Machine) (x : Access) (d r : Register) (k : ℤ) (next : Next) → IsProper a → IsMember shapes a m → sets a (number d) (load_kind shapes a x r k) ≡ Ok next
     → load_from x d r k (area_of shapes (kind_at a (number r)) k (size_bytes (access_size x))) ≡ load_op x d r k (address m.maps (m.registers (number r)) k (size_bytes (access_size x)))
-load_chosen shapes a m x d r k next h e =
+load_chosen shapes a m x d r k next p h e =
     let n : ℕ = size_bytes (access_size x) in
     let kind = set_passes a (number d) (load_kind shapes a x r k) next e in
     let area = area_passes shapes (kind_at a (number r)) k n (λ area. kind_in a x area) kind.0 kind.1 in
-    ap (load_from x d r k) area.1 ∙ load_means m.maps n x d r k area.0 _ (found shapes a m (number r) k n area.0 h area.1)
+    ap (load_from x d r k) area.1 ∙ load_means m.maps n x d r k area.0 _ (found shapes a m (number r) k (access_size x) area.0 p h area.1)
 
 store_passes : (shapes : List Shape) (a : AbsState) (s : Size) (r : Register) (k : ℤ) (x : Operand) (next : Next) → store_rule shapes a s r k x ≡ Ok next → (area : Area) × (area_of shapes (kind_at a (number r)) k (size_bytes s) ≡ Ok area)
 store_passes shapes a s r k x next e = by_operand (operand_kind a Bits64 x) (kind_at a (number r)) refl e
@@ -101,11 +104,11 @@ store_passes shapes a s r k x next e = by_operand (operand_kind a Bits64 x) (kin
     by_operand (Err why) Unusable b f = absurd (cc)
     by_operand (Err why) base b f = absurd (cc)
 
-store_chosen : (shapes : List Shape) (a : AbsState) (m : Machine) (s : Size) (r : Register) (k : ℤ) (x : Operand) (next : Next) → IsMember shapes a m → store_rule shapes a s r k x ≡ Ok next
+store_chosen : (shapes : List Shape) (a : AbsState) (m : Machine) (s : Size) (r : Register) (k : ℤ) (x : Operand) (next : Next) → IsProper a → IsMember shapes a m → store_rule shapes a s r k x ≡ Ok next
     → store_to s r k x (area_of shapes (kind_at a (number r)) k (size_bytes s)) ≡ store_op s r k x (address m.maps (m.registers (number r)) k (size_bytes s))
-store_chosen shapes a m s r k x next h e =
+store_chosen shapes a m s r k x next p h e =
     let area = store_passes shapes a s r k x next e in
-    ap (store_to s r k x) area.1 ∙ store_means m.maps (size_bytes s) s r k x area.0 _ (found shapes a m (number r) k (size_bytes s) area.0 h area.1)
+    ap (store_to s r k x) area.1 ∙ store_means m.maps (size_bytes s) s r k x area.0 _ (found shapes a m (number r) k s area.0 p h area.1)
 
 -- ---- look-ups
 
@@ -140,35 +143,31 @@ key_passes shapes a (Stack o) e = go (offset_for stack_size 4 (Some o)) refl e
     go : (r : Result ℕ Why) → offset_for stack_size 4 (Some o) ≡ r → (r >>= λ at. key_in (cell_at a (at / 8)) (at % 8)) ≡ fine → (area : Area) × (area_of shapes (Stack o) (pos 0) 4 ≡ Ok area)
     go (Ok at) f g = (OnStack at, ap (λ i. offset_for stack_size 4 (Some i) >>= λ at. Ok (OnStack at)) (add-zero o) ∙ ap (λ r. r >>= λ at. Ok (OnStack at)) f)
     go (Err why) f g = absurd (cc)
-key_passes shapes a (Elem m o) e = go (offset_for (element_size shapes m) 4 (Some o)) refl e
-  where
-    go : (r : Result ℕ Why) → offset_for (element_size shapes m) 4 (Some o) ≡ r → (r >>= λ at. fine) ≡ fine → (area : Area) × (area_of shapes (Elem m o) (pos 0) 4 ≡ Ok area)
-    go (Ok at) f g = (InElement, ap (λ i. offset_for (element_size shapes m) 4 (Some i) >>= λ at. Ok InElement) (add-zero o) ∙ ap (λ r. r >>= λ at. Ok InElement) f)
-    go (Err why) f g = absurd (cc)
+key_passes shapes a (Elem m o) e = (InElement, ap (λ r. r >>= λ at. Ok InElement) e)
 key_passes shapes a k e = absurd (cc)
 
-look_up_chosen : (shapes : List Shape) (a : AbsState) (m : Machine) (next : Next) → IsMember shapes a m → call_allowed shapes MapLookupElem a ≡ Ok next
+look_up_chosen : (shapes : List Shape) (a : AbsState) (m : Machine) (next : Next) → IsProper a → IsMember shapes a m → call_allowed shapes MapLookupElem a ≡ Ok next
     → look_up_in (kind_at a 1) (area_of shapes (kind_at a 2) (pos 0) 4) ≡ look_up_op (m.registers 1) (address m.maps (m.registers 2) (pos 0) 4)
-look_up_chosen shapes a m next h e =
+look_up_chosen shapes a m next p h e =
     let all = first_passes (arguments_check shapes a (parameter.Map ∷ parameter.Key ∷ []) 1) _ next e in
     let map = map_passes shapes a (kind_at a 1) (first_passes (argument_check shapes a parameter.Map (kind_at a 1)) _ tt all) in
     let rest = second_passes (argument_check shapes a parameter.Map (kind_at a 1)) _ tt all in
     let area = key_passes shapes a (kind_at a 2) (first_passes (argument_check shapes a parameter.Key (kind_at a 2)) _ tt rest) in
     let stands : Stands m.maps (MapRef map.0) (m.registers 1) = subst (λ (k : Kind). Stands m.maps k (m.registers 1)) map.1 (h.registers 1) in
-    (λ i. look_up_in (map.1 i) (area.1 i)) ∙ look_up_means m.maps map.0 (m.registers 1) area.0 _ stands (found shapes a m 2 (pos 0) 4 area.0 h area.1)
+    (λ i. look_up_in (map.1 i) (area.1 i)) ∙ look_up_means m.maps map.0 (m.registers 1) area.0 _ stands (found shapes a m 2 (pos 0) size.Word area.0 p h area.1)
 
-call_chosen : (shapes : List Shape) (c : Callback) (a : AbsState) (m : Machine) (o : Option Helper) (next : Next) → IsMember shapes a m → call_rule shapes c o a ≡ Ok next → call_of shapes a o ≡ call_op m o
-call_chosen shapes c a m None next h e = refl
-call_chosen shapes c a m (Some MapLookupElem) next h e = go (is_allowed MapLookupElem c) e
+call_chosen : (shapes : List Shape) (c : Callback) (a : AbsState) (m : Machine) (o : Option Helper) (next : Next) → IsProper a → IsMember shapes a m → call_rule shapes c o a ≡ Ok next → call_of shapes a o ≡ call_op m o
+call_chosen shapes c a m None next p h e = refl
+call_chosen shapes c a m (Some MapLookupElem) next p h e = go (is_allowed MapLookupElem c) e
   where
     go : (b : Bool) → (if b then call_allowed shapes MapLookupElem a else Err HelperNotHere) ≡ ok next → call_of shapes a (Some MapLookupElem) ≡ call_op m (Some MapLookupElem)
-    go true f = look_up_chosen shapes a m next h f
+    go true f = look_up_chosen shapes a m next p h f
     go false f = absurd (cc)
-call_chosen shapes c a m (Some g) next h e = refl
+call_chosen shapes c a m (Some g) next p h e = refl
 
 -- the law
 pub typing_chooses : TypingChooses
-typing_chooses shapes c t (insn.Load x d r k) a m next h e = load_chosen shapes a m x d r k next h e
-typing_chooses shapes c t (insn.Store s r k x) a m next h e = store_chosen shapes a m s r k x next h e
-typing_chooses shapes c t (insn.Call k) a m next h e = call_chosen shapes c a m (helper_at k) next h e
-typing_chooses shapes c t i a m next h e = refl
+typing_chooses shapes c t (insn.Load x d r k) a m next p h e = load_chosen shapes a m x d r k next p h e
+typing_chooses shapes c t (insn.Store s r k x) a m next p h e = store_chosen shapes a m s r k x next p h e
+typing_chooses shapes c t (insn.Call k) a m next p h e = call_chosen shapes c a m (helper_at k) next p h e
+typing_chooses shapes c t i a m next p h e = refl

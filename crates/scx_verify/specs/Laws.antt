@@ -17,7 +17,7 @@ use Rattle.scx_abs.specs.declared.faults.Why.{Why}
 use Rattle.scx_verify.specs.declared.faults.Fault.{Fault}
 use Rattle.scx_verify.specs.declared.faults.Fault.TheVariants.{NoMemory}
 use Rattle.scx_abs.specs.declared.states.AbsState.{AbsState}
-use Rattle.scx_abs.specs.States.{CoversSome}
+use Rattle.scx_abs.specs.States.{CoversSome, IsProper}
 use Rattle.scx_verify.specs.Typing.{States, IsTyping, IsTyped}
 use Rattle.scx_verify.specs.Forward.{AreForward, IsFirstRefusal}
 use Rattle.scx_safety.specs.Safe.{IsSafe}
@@ -53,8 +53,8 @@ RefusalsAreJustified =
     → IsProgram code → f ≢ NoMemory → IsReason c code f s → IsTyped c code → ⊥
 
 -- Where the checks of an instruction pass, its operation is the one that every state calls for that the
--- abstract state stands for.
+-- abstract state stands for, if that is proper.
 abbrev pub TypingChooses : Type 0
 TypingChooses =
     (shapes : List Shape) (c : Callback) (t : ℕ) (i : Insn) (a : AbsState) (m : Machine) (next : Next)
-    → IsMember shapes a m → rule shapes c i a ≡ Ok next → op_of shapes c t i a ≡ chosen c m t i
+    → IsProper a → IsMember shapes a m → rule shapes c i a ≡ Ok next → op_of shapes c t i a ≡ chosen c m t i
