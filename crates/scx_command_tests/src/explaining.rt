@@ -9,28 +9,35 @@ use std::test::Fail;
 /// A callback, its program, and what is written of it.
 type Row<'a> = (&'a str, &'a str, &'a str);
 
-/// A policy of one callback, with one map of one element of eight bytes.
-fn policy(alloc: Global, callback: &str, text: &str) -> Result<String, AllocError> {
-    format!(in alloc; "[[map]]\nentries = 1\nvalue_size = 8\n[code]\n{callback} = '''\n{text}'''\n")
+/// A policy of one callback, with one map of one element of so many bytes.
+fn policy(
+    alloc: Global,
+    value_size: u16,
+    callback: &str,
+    text: &str,
+) -> Result<String, AllocError> {
+    format!(in alloc;
+        "[[map]]\nentries = 1\nvalue_size = {value_size}\n[code]\n{callback} = '''\n{text}'''\n"
+    )
 }
 
 /// Explains callbacks, each of which is accepted or refused.
 fn explain<R: AllocGlobal + Abort>(rt: &R, rows: &[Row<'_>], status: u8) -> Result<(), Fail> {
     for &(callback, text, written) in rows {
-        let policy = policy(rt.alloc(), callback, text)?;
+        let policy = policy(rt.alloc(), 8, callback, text)?;
         let bytes = policy.as_str().as_bytes();
         expect(rt, Command::Explain, bytes, written.as_bytes(), status);
     }
     Ok(())
 }
 
-const SAFE: [Row<'_>; 5] = [
+const SAFE: [Row<'_>; 9] = [
     (
         "init",
         "r1 = 0\ncall 1001\nexit\n",
         "init ok 3
    0  r1 = 0     nothing
-   1  call 1001  r1 number
+   1  call 1001  r1 number 0
    2  exit       r0 number
 ",
     ),
@@ -58,7 +65,7 @@ const SAFE: [Row<'_>; 5] = [
         "select_cpu ok 5
    0  r0 = r2                   r1 task, r2..r3 number
    1  if r0 > 4 goto +2 (to 4)  r0 number, r1 task, r2..r3 number
-   2  goto +1 (to 4)            r0 number, r1 task, r2..r3 number
+   2  goto +1 (to 4)            r0 number 0..4, r1 task, r2..r3 number
    3  r0 = r9                   nothing leads here
    4  exit                      from 1, 2: r0 number, r1 task, r2..r3 number
 ",
@@ -81,6 +88,51 @@ const SAFE: [Row<'_>; 5] = [
         "dispatch ok 2
    0  if r2 == 0 goto +0 (to 1)  r1 number, r2 task or null
    1  exit                       r1 number
+",
+    ),
+    // Numbers of which more is known.
+    (
+        "enqueue",
+        "r3 = *(u32 *)(r1 + 4)\nr4 = r2\nr4 &= 56\nr5 = r4\nr5 += 4\nr5 <<= 1\nr6 = r3\nr6 &= 62\nexit\n",
+        "enqueue ok 9
+   0  r3 = *(u32 *)(r1 + 4)  r1 task, r2 number
+   1  r4 = r2                r1 task, r2 number, r3 number 0..4294967295
+   2  r4 &= 56               r1 task, r2 number, r3 number 0..4294967295, r4 number
+   3  r5 = r4                r1 task, r2 number, r3 number 0..4294967295, r4 number 0..56 by 8
+   4  r5 += 4                r1 task, r2 number, r3 number 0..4294967295, r4..r5 number 0..56 by 8
+   5  r5 <<= 1               r1 task, r2 number, r3 number 0..4294967295, r4 number 0..56 by 8, r5 number 4..60 by 4
+   6  r6 = r3                r1 task, r2 number, r3 number 0..4294967295, r4 number 0..56 by 8, r5 number 8..120 by 8
+   7  r6 &= 62               r1 task, r2 number, r3 number 0..4294967295, r4 number 0..56 by 8, r5 number 8..120 by 8, r6 number 0..4294967295
+   8  exit                   r1 task, r2 number, r3 number 0..4294967295, r4 number 0..56 by 8, r5 number 8..120 by 8, r6 number 0..62 by 2
+",
+    ),
+    // Jumps of which one side isn't followed.
+    (
+        "enqueue",
+        "r2 &= 7\nif r2 > 7 goto +1\nexit\nexit\n",
+        "enqueue ok 4
+   0  r2 &= 7                   r1 task, r2 number
+   1  if r2 > 7 goto +1 (to 3)  r1 task, r2 number 0..7; never jumps
+   2  exit                      r1 task, r2 number 0..7
+   3  exit                      nothing leads here
+",
+    ),
+    (
+        "running",
+        "if r10 == 0 goto +1\nexit\nexit\n",
+        "running ok 3
+   0  if r10 == 0 goto +1 (to 2)  r1 task; never jumps
+   1  exit                        r1 task
+   2  exit                        nothing leads here
+",
+    ),
+    (
+        "running",
+        "if r10 != 0 goto +1\nexit\nexit\n",
+        "running ok 3
+   0  if r10 != 0 goto +1 (to 2)  r1 task; always jumps
+   1  exit                        nothing leads here
+   2  exit                        from 0: r1 task
 ",
     ),
 ];
@@ -162,11 +214,11 @@ const UNUSABLE: [Row<'_>; 4] = [
         "if r2 == 0 goto two\nr4 = r3\ngoto both\ntwo:\nr4 = r1\nboth:\nr5 = 1\nr0 = r4\nexit\n",
         "select_cpu refused 5 UnusableRegister at 5
    0  if r2 == 0 goto +2 (to 3)  r1 task, r2..r3 number
-   1  r4 = r3                    r1 task, r2..r3 number
-   2  goto +1 (to 4)             r1 task, r2..r4 number
-   3  r4 = r1                    from 0: r1 task, r2..r3 number
+   1  r4 = r3                    r1 task, r2 number 1..18446744073709551615, r3 number
+   2  goto +1 (to 4)             r1 task, r2 number 1..18446744073709551615, r3..r4 number
+   3  r4 = r1                    from 0: r1 task, r2 number 0, r3 number
    4  r5 = 1                     from 2, 3: r1 task, r2..r3 number
-   5  r0 = r4                    r1 task, r2..r3 number, r5 number
+   5  r0 = r4                    r1 task, r2..r3 number, r5 number 1
       = r4 is unusable here: at 4 ways meet that bring a number from 2 and a task from 3; bring the same kind on each way
       = control came by 0, jump at 0 to 3, 3..5
    6  exit
@@ -178,7 +230,7 @@ const UNUSABLE: [Row<'_>; 4] = [
         "if r2 == 0 goto out\nr3 = 1\nout:\nr4 = r3\nexit\n",
         "enqueue refused 5 UnusableRegister at 2
    0  if r2 == 0 goto +1 (to 2)  r1 task, r2 number
-   1  r3 = 1                     r1 task, r2 number
+   1  r3 = 1                     r1 task, r2 number 1..18446744073709551615
    2  r4 = r3                    from 0, 1: r1 task, r2 number
       = r3 is unusable here: nothing on the way here writes it; write it on each way here
       = control came by 0, jump at 0 to 2
@@ -224,9 +276,9 @@ const MEMORY: [Row<'_>; 8] = [
         "if r2 == 0 goto two\n*(u64 *)(r10 - 8) = r1\ngoto both\ntwo:\n*(u64 *)(r10 - 8) = 7\nboth:\nr3 = *(u64 *)(r10 - 8)\nexit\n",
         "enqueue refused 7 UnwrittenStack at 4
    0  if r2 == 0 goto +2 (to 3)  r1 task, r2 number
-   1  *(u64 *)(r10 - 8) = r1     r1 task, r2 number
-   2  goto +1 (to 4)             r1 task, r2 number, stack -8..-1 task
-   3  *(u64 *)(r10 - 8) = 7      from 0: r1 task, r2 number
+   1  *(u64 *)(r10 - 8) = r1     r1 task, r2 number 1..18446744073709551615
+   2  goto +1 (to 4)             r1 task, r2 number 1..18446744073709551615, stack -8..-1 task
+   3  *(u64 *)(r10 - 8) = 7      from 0: r1 task, r2 number 0
    4  r3 = *(u64 *)(r10 - 8)     from 2, 3: r1 task, r2 number
       = stack -8..-1 is read here, and -8 needn't hold a number: at 4 ways meet that bring a task from 2 and a number from 3; bring the same kind on each way
       = control came by 0, jump at 0 to 3, 3..4
@@ -338,8 +390,20 @@ fn pointers_that_may_be_null_are_explained(rt: HostRuntime) -> Result<(), Fail> 
         "if r0 != 0 goto out\nr1 = *(u64 *)(r0 + 0)\nout:\nexit\n",
         "8 OutOfBounds at 7",
         "   6  if r0 != 0 goto +1 (to 8)  r0 element of map 0 or null, stack -4..-1 written
-   7  r1 = *(u64 *)(r0 + 0)      r0 number, stack -4..-1 written
+   7  r1 = *(u64 *)(r0 + 0)      r0 number 0, stack -4..-1 written
       = r0 holds a number here, no pointer to memory: it is 0 on this side of the test at 6; use it on the other side
+      = control came by 0..7
+   8  exit
+",
+    )?;
+    // Both sides of the test lead to the same slot.
+    explain_behind(
+        &rt,
+        "if r0 != 0 goto +0\nr1 = *(u64 *)(r0 + 0)\nexit\n",
+        "5 UnusableRegister at 7",
+        "   6  if r0 != 0 goto +0 (to 7)  r0 element of map 0 or null, stack -4..-1 written
+   7  r1 = *(u64 *)(r0 + 0)      stack -4..-1 written
+      = r0 is unusable here: at 7 ways meet that bring a pointer to an element of map 0 from 6 and a number from 6; bring the same kind on each way
       = control came by 0..7
    8  exit
 ",
@@ -383,6 +447,114 @@ fn faults_of_elements_are_explained(rt: HostRuntime) -> Result<(), Fail> {
     )
 }
 
+/// Explains as running what adds a number of those bits of an element of 64 bytes to a pointer to it, and
+/// loads eight bytes there: what stands in the lines behind the mask.
+fn explain_sum<R: AllocGlobal + Abort>(
+    rt: &R,
+    mask: u8,
+    verdict: &str,
+    lines: &str,
+    status: u8,
+) -> Result<(), Fail> {
+    let text = format!(in rt.alloc();
+        "{LOOKUP}if r0 == 0 goto out\nr3 = *(u64 *)(r0 + 0)\nr3 &= {mask}\nr0 += r3\nr4 = *(u64 *)(r0 + 0)\nout:\nexit\n"
+    )?;
+    let policy = policy(rt.alloc(), 64, "running", text.as_str())?;
+    let written = format!(in rt.alloc();
+        "running {verdict}
+   0  *(u32 *)(r10 - 4) = 0       r1 task
+   1  r2 = r10                    r1 task, stack -4..-1 written
+   2  r2 += -4                    r1 task, r2 frame, stack -4..-1 written
+   3  r1 = map 0                  r1 task, r2 stack -4, stack -4..-1 written
+   5  call 1                      r1 map 0, r2 stack -4, stack -4..-1 written
+   6  if r0 == 0 goto +4 (to 11)  r0 element of map 0 or null, stack -4..-1 written
+   7  r3 = *(u64 *)(r0 + 0)       r0 element of map 0, stack -4..-1 written
+{lines}"
+    )?;
+    let policy = policy.as_str().as_bytes();
+    expect(
+        rt,
+        Command::Explain,
+        policy,
+        written.as_str().as_bytes(),
+        status,
+    );
+    Ok(())
+}
+
+#[test]
+fn offsets_in_elements_are_listed(rt: HostRuntime) -> Result<(), Fail> {
+    explain_sum(
+        &rt,
+        56,
+        "ok 11",
+        "   8  r3 &= 56                    r0 element of map 0, r3 number, stack -4..-1 written
+   9  r0 += r3                    r0 element of map 0, r3 number 0..56 by 8, stack -4..-1 written
+  10  r4 = *(u64 *)(r0 + 0)       r0 element of map 0 + 0..56 by 8, r3 number 0..56 by 8, stack -4..-1 written
+  11  exit                        from 6, 10: stack -4..-1 written
+",
+        0,
+    )
+}
+
+#[test]
+fn faults_of_offsets_are_explained(rt: HostRuntime) -> Result<(), Fail> {
+    explain_sum(
+        &rt,
+        28,
+        "refused 9 Misaligned at 10",
+        "   8  r3 &= 28                    r0 element of map 0, r3 number, stack -4..-1 written
+   9  r0 += r3                    r0 element of map 0, r3 number 0..28 by 4, stack -4..-1 written
+  10  r4 = *(u64 *)(r0 + 0)       r0 element of map 0 + 0..28 by 4, r3 number 0..28 by 4, stack -4..-1 written
+      = byte 4 of an element of map 0, among 0..28 by 4, is no multiple of 8; make the number a multiple by a mask or a shift, or use smaller accesses
+      = control came by 0..10
+  11  exit
+",
+        1,
+    )?;
+    explain_sum(
+        &rt,
+        63,
+        "refused 8 OutOfBounds at 10",
+        "   8  r3 &= 63                    r0 element of map 0, r3 number, stack -4..-1 written
+   9  r0 += r3                    r0 element of map 0, r3 number 0..63, stack -4..-1 written
+  10  r4 = *(u64 *)(r0 + 0)       r0 element of map 0 + 0..63, r3 number 0..63, stack -4..-1 written
+      = the access is to bytes 0..7 up to 63..70 of an element of map 0, outside of 0..63; compare the number first, or mask it
+      = control came by 0..10
+  11  exit
+",
+        1,
+    )?;
+    explain_sum(
+        &rt,
+        127,
+        "refused 8 OutOfBounds at 9",
+        "   8  r3 &= 127                   r0 element of map 0, r3 number, stack -4..-1 written
+   9  r0 += r3                    r0 element of map 0, r3 number 0..127, stack -4..-1 written
+      = r0 would point to a byte among 0..127 of an element of map 0, which has 64; compare the number first, or mask it
+      = control came by 0..9
+  10  r4 = *(u64 *)(r0 + 0)
+  11  exit
+",
+        1,
+    )
+}
+
+#[test]
+fn a_pointer_that_is_added_is_explained(rt: HostRuntime) -> Result<(), Fail> {
+    explain_behind(
+        &rt,
+        "if r0 == 0 goto out\nr0 += r10\nout:\nexit\n",
+        "11 PointerArithmetic at 7",
+        "   6  if r0 == 0 goto +1 (to 8)  r0 element of map 0 or null, stack -4..-1 written
+   7  r0 += r10                  r0 element of map 0, stack -4..-1 written
+      = r10 holds a pointer to the stack here; only += and -= of 64 bits with a number in the text move a pointer to the stack or an element, and += of 64 bits with a register one to an element
+      = control came by 0..7
+   8  exit
+",
+    )
+}
+
 const POINTERS: [Row<'_>; 6] = [
     (
         "dispatch",
@@ -400,7 +572,7 @@ const POINTERS: [Row<'_>; 6] = [
         "r1 = 1\ncall 1007\nr1 = r0\ncall 1005\nexit\n",
         "enqueue refused 10 NullNotTested at 3
    0  r1 = 1     r1 task, r2 number
-   1  call 1007  r1..r2 number
+   1  call 1007  r1 number 1, r2 number
    2  r1 = r0    r0 task or null
    3  call 1005  r0..r1 task or null
       = r1 may be 0 here: it comes from call 1007 at 1; test it first, as the test of a copy says nothing of it
@@ -414,7 +586,7 @@ const POINTERS: [Row<'_>; 6] = [
         "running refused 11 PointerArithmetic at 1
    0  r1 = r10  r1 task
    1  r1 *= 2   r1 frame
-      = r1 holds a pointer to the stack here: it comes from r10; only += and -= of 64 bits with a number in the text move a pointer, to the stack or an element
+      = r1 holds a pointer to the stack here: it comes from r10; only += and -= of 64 bits with a number in the text move a pointer to the stack or an element, and += of 64 bits with a register one to an element
       = control came by 0..1
    2  exit
 ",
@@ -506,7 +678,7 @@ const CALLS: [Row<'_>; 5] = [
         "r1 = 0\ncall 1004\nexit\n",
         "running refused 16 HelperNotHere at 1
    0  r1 = 0     r1 task
-   1  call 1004  r1 number
+   1  call 1004  r1 number 0
       = running may not call 1004; call it in dispatch
       = control came by 0..1
    2  exit
@@ -517,9 +689,9 @@ const CALLS: [Row<'_>; 5] = [
         "r1 = 0\nr3 = 0\nr4 = 0\ncall 1002\nexit\n",
         "enqueue refused 17 BadArgument at 3
    0  r1 = 0     r1 task, r2 number
-   1  r3 = 0     r1..r2 number
-   2  r4 = 0     r1..r3 number
-   3  call 1002  r1..r4 number
+   1  r3 = 0     r1 number 0, r2 number
+   2  r4 = 0     r1 number 0, r2 number, r3 number 0
+   3  call 1002  r1 number 0, r2 number, r3..r4 number 0
       = call 1002 takes a task in r1, which holds a number here: it was written at 0; put the arguments in r1, r2 and so on
       = control came by 0..3
    4  exit

@@ -5,6 +5,9 @@ use scx_isa::{Callback, Field, Helper, Size};
 use scx_policies::callback_name;
 use std::fmt;
 
+/// How to keep a pointer in an element that a number moves.
+const COMPARE_OR_MASK: &str = "compare the number first, or mask it";
+
 /// What to change.
 #[derive(Clone, Copy)]
 pub(crate) struct Advice {
@@ -36,7 +39,7 @@ impl Advice {
             }
             BadValue::MayBeNull(_) => "test it first",
             BadValue::Arithmetic(..) => {
-                "only += and -= of 64 bits with a number in the text move a pointer, to the stack or an element"
+                "only += and -= of 64 bits with a number in the text move a pointer to the stack or an element, and += of 64 bits with a register one to an element"
             }
             BadValue::Comparison(..) => "compare a pointer with 0 alone, by == or != of 64 bits",
             BadValue::Stored(..) => "store a pointer on the stack alone, by u64",
@@ -51,8 +54,13 @@ impl Advice {
                 "load a stored pointer by u64, from where it was stored"
             }
             BadAccess::NoPointer(_, kind) => advice_on_address(kind, self.origin),
+            BadAccess::Outside(reach) if !reach.place.is_single() => COMPARE_OR_MASK,
             BadAccess::Outside(_) => "keep within it",
+            BadAccess::MovedOut { place, .. } if !place.is_single() => COMPARE_OR_MASK,
             BadAccess::MovedOut { .. } => "keep a pointer in its memory or at its end",
+            BadAccess::Misaligned(reach) if !reach.place.is_single() => {
+                "make the number a multiple by a mask or a shift, or use smaller accesses"
+            }
             BadAccess::Misaligned(_) => "move it to a multiple, or use smaller accesses",
         }
     }

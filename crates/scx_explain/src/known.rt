@@ -1,7 +1,7 @@
 use crate::page::Page;
 use crate::words::{Brief, from_top};
 use scx_abs::{AbsState, Kind};
-use scx_explanations::{byte_kind, cell_of, is_pointer, plain};
+use scx_explanations::{byte_kind, cell_of, is_pointer};
 use scx_isa::{REGISTERS, STACK_SIZE};
 use scx_output::Out;
 use std::fmt::{self, Write};
@@ -87,7 +87,7 @@ fn write_registers<W: Out>(items: &mut Items<'_, '_, W>, state: &AbsState) -> fm
 /// The kind of the register of that number.
 fn kind_of(state: &AbsState, number: usize) -> Kind {
     match state.registers.get(number) {
-        Some(kind) => plain(*kind),
+        Some(kind) => *kind,
         None => Kind::Unusable,
     }
 }

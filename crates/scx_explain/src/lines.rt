@@ -3,7 +3,7 @@ use crate::known::write_known;
 use crate::page::Page;
 use crate::sentences::write_explanation;
 use arrayvec::ArrayString;
-use scx_explanations::{Listing, target_of};
+use scx_explanations::{Listing, Way, target_of};
 use scx_isa::Insn;
 use scx_output::Out;
 use scx_text::Canonical;
@@ -83,9 +83,19 @@ fn write_state<W: Out>(page: &mut Page<'_, W>, explained: &Explained, slot: usiz
     match explained.listing.state(slot) {
         Some(state) => {
             write_sources(page, explained, slot)?;
-            write_known(page, state)
+            write_known(page, state)?;
+            write_only_way(page, &explained.listing, slot)
         }
         None => page.write_str("nothing leads here"),
+    }
+}
+
+/// Writes which side of a conditional jump is followed, where the other isn't.
+fn write_only_way<W: Out>(page: &mut Page<'_, W>, listing: &Listing, slot: usize) -> fmt::Result {
+    match listing.only_way(slot) {
+        Some(Way::On) => page.write_str("; never jumps"),
+        Some(Way::Jump) => page.write_str("; always jumps"),
+        None => Ok(()),
     }
 }
 

@@ -1,10 +1,10 @@
 use crate::advice::Advice;
 use crate::page::Page;
-use crate::words::{FieldName, Name, Spoken, Wanted};
+use crate::words::{FieldName, Members, Name, Spoken, Wanted, step_of};
 use scx_abs::Kind;
 use scx_explanations::{
     BadAccess, BadCall, BadField, BadFlow, BadValue, Brought, Explanation, Leg, Memory, Origin,
-    Reach, Reason,
+    Place, Reach, Reason,
 };
 use scx_isa::{Register, STACK_SIZE};
 use scx_output::Out;
@@ -26,6 +26,10 @@ struct OriginText(Origin);
 #[derive(Clone, Copy)]
 struct BroughtText(Brought);
 
+/// The first and the last byte that is read or written, in a list or a sentence.
+#[derive(Clone, Copy)]
+struct Bytes(Reach);
+
 /// Writes why a program is refused, and how control came there.
 pub(crate) fn write_explanation<W: Out>(
     page: &mut Page<'_, W>,
@@ -40,21 +44,29 @@ pub(crate) fn write_explanation<W: Out>(
         origin,
         is_copied,
     };
-    write_sentence(page, advice)?;
+    write_sentence(page, &advice)?;
     if let Some(trail) = &explanation.trail {
         write_way(page, &trail.legs)?;
     }
     Ok(())
 }
 
-fn write_sentence<W: Out>(page: &mut Page<'_, W>, advice: Advice) -> fmt::Result {
+fn write_sentence<W: Out>(page: &mut Page<'_, W>, advice: &Advice) -> fmt::Result {
     let reason = ReasonText(advice.reason);
     write!(page, "{MARGIN}{reason}")?;
-    if let Some(origin) = advice.origin {
-        let origin = OriginText(origin);
-        write!(page, ": {origin}")?;
-    }
+    write_origin(page, advice.origin)?;
     writeln!(page, "; {advice}")
+}
+
+/// Writes where the value at fault comes from, if that is known.
+fn write_origin<W: Out>(page: &mut Page<'_, W>, origin: Option<Origin>) -> fmt::Result {
+    match origin {
+        Some(origin) => {
+            let origin = OriginText(origin);
+            write!(page, ": {origin}")
+        }
+        None => Ok(()),
+    }
 }
 
 /// Writes the way by which control came, from the first slot on.
@@ -137,30 +149,23 @@ fn write_held<W: fmt::Write>(
 fn write_access<W: fmt::Write>(f: &mut fmt::Formatter<W>, access: BadAccess) -> fmt::Result {
     match access {
         BadAccess::Unwritten { reach, byte } => {
-            let (first, last) = ends_of(reach);
+            let bytes = Bytes(reach);
             write!(
                 f,
-                "stack {first}..{last} is read here, and {byte} needn't hold a number"
+                "stack {bytes} is read here, and {byte} needn't hold a number"
             )
         }
         BadAccess::PartOfPointer { reach, kind } => {
-            let (first, last) = ends_of(reach);
+            let bytes = Bytes(reach);
             let kind = Spoken(kind);
-            write!(
-                f,
-                "stack {first}..{last} is read here, and is a part of {kind}"
-            )
+            write!(f, "stack {bytes} is read here, and is a part of {kind}")
         }
         BadAccess::NoPointer(register, kind) => {
             write_held(f, register, kind)?;
             f.write_str(", no pointer to memory")
         }
         BadAccess::Outside(reach) => write_outside(f, reach),
-        BadAccess::MovedOut {
-            register,
-            memory,
-            to,
-        } => write_moved_out(f, register, memory, to),
+        BadAccess::MovedOut { register, place } => write_moved_out(f, register, place),
         BadAccess::Misaligned(reach) => write_misaligned(f, reach),
     }
 }
@@ -168,11 +173,11 @@ fn write_access<W: fmt::Write>(f: &mut fmt::Formatter<W>, access: BadAccess) -> 
 fn write_moved_out<W: fmt::Write>(
     f: &mut fmt::Formatter<W>,
     register: Register,
-    memory: Memory,
-    to: i64,
+    place: Place,
 ) -> fmt::Result {
     let name = Name(register);
-    match memory {
+    let Place { from, to, .. } = place;
+    match place.memory {
         Memory::Stack => {
             write!(
                 f,
@@ -180,10 +185,13 @@ fn write_moved_out<W: fmt::Write>(
             )
         }
         Memory::Element { map, bytes } => {
-            write!(
-                f,
-                "{name} would point to byte {to} of an element of map {map}, which has {bytes}"
-            )
+            write!(f, "{name} would point to ")?;
+            if place.is_single() {
+                write!(f, "byte {to}")?;
+            } else {
+                write!(f, "a byte among {from}..{to}")?;
+            }
+            write!(f, " of an element of map {map}, which has {bytes}")
         }
     }
 }
@@ -221,45 +229,69 @@ fn write_call<W: fmt::Write>(f: &mut fmt::Formatter<W>, call: BadCall) -> fmt::R
     }
 }
 
-/// The first and the last of the bytes.
-fn ends_of(reach: Reach) -> (i64, i64) {
-    let count = i64::from(reach.count);
-    (
-        reach.first,
-        reach.first.saturating_add(count).saturating_sub(1),
-    )
+impl fmt::Display for Bytes {
+    fn fmt<W: fmt::Write>(&self, f: &mut fmt::Formatter<W>) -> fmt::Result {
+        let Reach { place, count } = self.0;
+        let Place { from, to, .. } = place;
+        let last = last_of(from, count);
+        write!(f, "{from}..{last}")?;
+        if place.is_single() {
+            Ok(())
+        } else {
+            let last = last_of(to, count);
+            write!(f, " up to {to}..{last}")
+        }
+    }
+}
+
+/// The last of so many bytes from one on.
+fn last_of(first: i128, count: u16) -> i128 {
+    first.saturating_add(i128::from(count)).saturating_sub(1)
 }
 
 fn write_outside<W: fmt::Write>(f: &mut fmt::Formatter<W>, reach: Reach) -> fmt::Result {
-    let (first, last) = ends_of(reach);
-    match reach.memory {
+    let accessed = Bytes(reach);
+    match reach.place.memory {
         Memory::Stack => {
             write!(
                 f,
-                "the access is to stack {first}..{last}, outside of r10 - {STACK_SIZE} up to r10 - 1"
+                "the access is to stack {accessed}, outside of r10 - {STACK_SIZE} up to r10 - 1"
             )
         }
         Memory::Element { map, bytes } => {
             let end = bytes.saturating_sub(1);
             write!(
                 f,
-                "the access is to bytes {first}..{last} of an element of map {map}, outside of 0..{end}"
+                "the access is to bytes {accessed} of an element of map {map}, outside of 0..{end}"
             )
         }
     }
 }
 
 fn write_misaligned<W: fmt::Write>(f: &mut fmt::Formatter<W>, reach: Reach) -> fmt::Result {
-    let first = reach.first;
+    let byte = misaligned_in(reach);
     let count = reach.count;
-    match reach.memory {
-        Memory::Stack => write!(f, "stack {first} is no multiple of {count}"),
+    match reach.place.memory {
+        Memory::Stack => write!(f, "stack {byte} is no multiple of {count}"),
         Memory::Element { map, .. } => {
-            write!(
-                f,
-                "byte {first} of an element of map {map} is no multiple of {count}"
-            )
+            write!(f, "byte {byte} of an element of map {map}")?;
+            if !reach.place.is_single() {
+                let among = Members::of_place(reach.place);
+                write!(f, ", among {among},")?;
+            }
+            write!(f, " is no multiple of {count}")
         }
+    }
+}
+
+/// The first of the bytes at which an access may begin that is no multiple of its size: the first of all,
+/// or else the next.
+fn misaligned_in(reach: Reach) -> i128 {
+    let Place { from, shift, .. } = reach.place;
+    if from.checked_rem(i128::from(reach.count)) == Some(0) {
+        from.saturating_add(step_of(shift))
+    } else {
+        from
     }
 }
 

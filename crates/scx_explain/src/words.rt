@@ -1,5 +1,7 @@
 use scx_abs::Kind;
+use scx_explanations::Place;
 use scx_isa::{Field, Parameter, Register, STACK_SIZE};
+use scx_ranges::{Numbers, Offsets, Range};
 use std::fmt;
 
 /// A register, by its name.
@@ -17,6 +19,14 @@ pub(crate) struct Brief(pub(crate) Kind);
 /// A kind in a sentence.
 #[derive(Clone, Copy)]
 pub(crate) struct Spoken(pub(crate) Kind);
+
+/// The members of a range: one number, or from which to which, and by which step where it isn't 1.
+#[derive(Clone, Copy)]
+pub(crate) struct Members {
+    low: i128,
+    high: i128,
+    shift: u8,
+}
 
 /// What a helper takes, in a sentence.
 #[derive(Clone, Copy)]
@@ -38,19 +48,87 @@ impl fmt::Display for Brief {
     fn fmt<W: fmt::Write>(&self, f: &mut fmt::Formatter<W>) -> fmt::Result {
         match self.0 {
             Kind::Unusable => f.write_str("unusable"),
-            Kind::Num(_) => f.write_str("number"),
+            Kind::Num(numbers) => write_numbers(f, numbers),
             Kind::Stack(STACK_SIZE) => f.write_str("frame"),
             Kind::Stack(byte) => {
                 let offset = from_top(byte);
                 write!(f, "stack {offset}")
             }
-            Kind::Elem(map, 0) => write!(f, "element of map {map}"),
-            Kind::Elem(map, byte) => write!(f, "element of map {map} + {byte}"),
+            Kind::Elem(map, offsets) => write_element(f, map, offsets),
             Kind::ElemOrNull(map) => write!(f, "element of map {map} or null"),
             Kind::Task => f.write_str("task"),
             Kind::TaskOrNull => f.write_str("task or null"),
             Kind::MapRef(map) => write!(f, "map {map}"),
         }
+    }
+}
+
+impl Members {
+    fn of(range: Range) -> Members {
+        Members {
+            low: i128::from(range.low),
+            high: i128::from(range.high),
+            shift: range.shift,
+        }
+    }
+
+    /// The bytes to which a pointer may point.
+    pub(crate) fn of_place(place: Place) -> Members {
+        Members {
+            low: place.from,
+            high: place.to,
+            shift: place.shift,
+        }
+    }
+}
+
+/// Writes what is known of a number.
+fn write_numbers<W: fmt::Write>(f: &mut fmt::Formatter<W>, numbers: Numbers) -> fmt::Result {
+    let range = numbers.range();
+    if range == Range::ALL {
+        f.write_str("number")
+    } else {
+        let members = Members::of(range);
+        write!(f, "number {members}")
+    }
+}
+
+/// Writes what is known of a pointer to an element.
+fn write_element<W: fmt::Write>(
+    f: &mut fmt::Formatter<W>,
+    map: u8,
+    offsets: Offsets,
+) -> fmt::Result {
+    write!(f, "element of map {map}")?;
+    if offsets.high() == 0 {
+        Ok(())
+    } else {
+        let members = Members::of(offsets.range());
+        write!(f, " + {members}")
+    }
+}
+
+impl fmt::Display for Members {
+    fn fmt<W: fmt::Write>(&self, f: &mut fmt::Formatter<W>) -> fmt::Result {
+        let Members { low, high, shift } = *self;
+        if low == high {
+            return write!(f, "{low}");
+        }
+        write!(f, "{low}..{high}")?;
+        match step_of(shift) {
+            1 => Ok(()),
+            step => write!(f, " by {step}"),
+        }
+    }
+}
+
+/// How far it is from one member of a range to the next.
+pub(crate) fn step_of(shift: u8) -> i128 {
+    match shift {
+        0 => 1,
+        1 => 2,
+        2 => 4,
+        _ => 8,
     }
 }
 

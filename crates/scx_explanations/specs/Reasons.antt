@@ -36,7 +36,7 @@ access_fault (access.Unwritten reach byte) = why.UnwrittenStack
 access_fault (access.PartOfPointer reach kind) = why.UnwrittenStack
 access_fault (access.NoPointer r kind) = why.OutOfBounds
 access_fault (access.Outside reach) = why.OutOfBounds
-access_fault (access.MovedOut r memory to) = why.OutOfBounds
+access_fault (access.MovedOut r place) = why.OutOfBounds
 access_fault (access.Misaligned reach) = why.Misaligned
 
 abbrev pub call_fault : BadCall → Why

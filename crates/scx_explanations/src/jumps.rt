@@ -50,11 +50,12 @@ impl Jumps {
     }
 }
 
-/// Where control jumps from the instruction at the slot.
+/// Where control jumps from the instruction at the slot, and doesn't go on to.
 fn jumped_to(listing: &Listing, slot: usize) -> Option<usize> {
     let to = target_of(slot, listing.insn(slot)?)?;
-    match listing.arrival(slot, to)?.way {
-        Way::On => None,
-        Way::Jump => Some(to),
+    if listing.arrives(slot, Way::Jump, to) && !listing.arrives(slot, Way::On, to) {
+        Some(to)
+    } else {
+        None
     }
 }

@@ -16,10 +16,10 @@ mod trails;
 
 pub use jumps::Jumps;
 pub use laws::listings_end_with_verify;
-pub use listing::{Arrival, Listing, Way, byte_kind, cell_of, is_pointer, plain, target_of};
+pub use listing::{Arrival, Listing, Way, byte_kind, cell_of, is_pointer, target_of};
 pub use origins::{Brought, Origin, Subject};
 pub use reasons::{
-    BadAccess, BadCall, BadField, BadFlow, BadValue, Explanation, Memory, Reach, Reason,
+    BadAccess, BadCall, BadField, BadFlow, BadValue, Explanation, Memory, Place, Reach, Reason,
     explanation_of,
 };
 pub use trails::{Leg, Trail};

@@ -63,10 +63,10 @@ pub(crate) enum Source {
 
 /// What kind of value the subject is.
 pub(crate) fn known_of(state: &AbsState, subject: Subject) -> Kind {
-    match subject {
-        Subject::Register(register) => plain(state.kind(register)),
+    plain(match subject {
+        Subject::Register(register) => state.kind(register),
         Subject::Byte(byte) => byte_kind(state, byte),
-    }
+    })
 }
 
 /// Where the subject, of which something is known as it arrives, was before the instruction that it

@@ -8,9 +8,10 @@ use scx_abs::{AbsState, Kind, Why};
 use scx_arithmetic::pointer_step;
 use scx_isa::{
     Callback, Field, FlowFault, Helper, Insn, Operand, Operation, Parameter, Register, STACK_SIZE,
-    Size,
+    Size, Width,
 };
 use scx_maps::MapDefs;
+use scx_ranges::{Offsets, Range};
 use scx_semantics::MAX_ARGUMENTS;
 use scx_verify::Fault;
 use std::alloc::{AllocError, Global};
@@ -23,12 +24,23 @@ pub enum Memory {
     Element { map: u8, bytes: i64 },
 }
 
+/// Where a pointer points, or would: to one of these bytes of memory.
+#[derive(Clone, Copy)]
+pub struct Place {
+    pub memory: Memory,
+    /// The first of them: from the top of the stack, or from the beginning of an element.
+    pub from: i128,
+    /// The last of them.
+    pub to: i128,
+    /// From one of them to the next it is two to this power, 0 to 3, where there are more than one.
+    pub shift: u8,
+}
+
 /// Bytes that an instruction would read or write.
 #[derive(Clone, Copy)]
 pub struct Reach {
-    pub memory: Memory,
-    /// The first of them: from the top of the stack, or from the beginning of an element.
-    pub first: i64,
+    /// Where the first of them is.
+    pub place: Place,
     pub count: u16,
 }
 
@@ -77,24 +89,14 @@ pub enum BadValue {
 #[derive(Clone, Copy)]
 pub enum BadAccess {
     /// Of these bytes of the stack that one isn't written.
-    Unwritten {
-        reach: Reach,
-        byte: i64,
-    },
+    Unwritten { reach: Reach, byte: i128 },
     /// These bytes of the stack aren't read as the whole of the pointer of which they are a part.
-    PartOfPointer {
-        reach: Reach,
-        kind: Kind,
-    },
+    PartOfPointer { reach: Reach, kind: Kind },
     /// What the register holds is no pointer to memory.
     NoPointer(Register, Kind),
     Outside(Reach),
-    /// A pointer to that byte would lie outside of its memory.
-    MovedOut {
-        register: Register,
-        memory: Memory,
-        to: i64,
-    },
+    /// There a pointer would lie outside of its memory.
+    MovedOut { register: Register, place: Place },
     Misaligned(Reach),
 }
 
@@ -140,6 +142,23 @@ struct Address {
     base: Register,
     offset: i16,
     size: Size,
+}
+
+impl Place {
+    /// Whether it is one byte alone.
+    pub fn is_single(self) -> bool {
+        self.from == self.to
+    }
+
+    /// The place, moved by at least and at most so many bytes.
+    fn moved(self, least: i128, most: i128) -> Place {
+        Place {
+            memory: self.memory,
+            from: self.from.saturating_add(least),
+            to: self.to.saturating_add(most),
+            shift: self.shift,
+        }
+    }
 }
 
 /// Explains a fault of the program at a slot. `None` where there is no instruction with that fault.
@@ -199,8 +218,8 @@ fn register_of(value: BadValue) -> Option<Register> {
 }
 
 /// The byte of the stack at that distance from its top, counted from the lowest.
-fn byte_of(from_top: i64) -> Option<u16> {
-    u16::try_from(from_top.saturating_add(i64::from(STACK_SIZE))).ok()
+fn byte_of(from_top: i128) -> Option<u16> {
+    u16::try_from(from_top.saturating_add(i128::from(STACK_SIZE))).ok()
 }
 
 fn reason_of(listing: &Listing, fault: Fault, slot: usize) -> Option<Reason>
@@ -384,7 +403,7 @@ fn bad_argument(state: &AbsState, number: i32) -> Option<BadCall>
     for argument in 0..MAX_ARGUMENTS {
         let (register, parameter) = argument_of(helper, argument)?;
         let kind = state.kind(register);
-        if !is_taken(parameter, kind) {
+        if !is_taken(parameter, &kind) {
             return Some(BadCall::Argument {
                 number,
                 register,
@@ -397,7 +416,7 @@ fn bad_argument(state: &AbsState, number: i32) -> Option<BadCall>
 }
 
 /// Whether a register of that kind may be such an argument, null or not, wherever it points.
-fn is_taken(parameter: Parameter, kind: Kind) -> bool {
+fn is_taken(parameter: Parameter, kind: &Kind) -> bool {
     match parameter {
         Parameter::Map => matches!(kind, Kind::MapRef(_)),
         Parameter::Key => matches!(
@@ -426,10 +445,13 @@ fn null_in(state: &AbsState, insn: Insn) -> Option<Register> {
     None
 }
 
-/// The register that holds a pointer where a number is taken: the first one, or else the second.
+/// The register that holds a pointer where a number is taken: the first one, or else the second, which
+/// is also the one that is added to a pointer to an element.
 fn pointer_in(state: &AbsState, insn: Insn) -> Option<Register> {
     match insn {
         Insn::Binary(_, Operation::Move, _, operand) => register_in(operand),
+        Insn::Binary(Width::Bits64, Operation::Add, destination, Operand::Register(source))
+            if matches!(state.kind(destination), Kind::Elem(_, _)) => { Some(source) }
         Insn::Binary(_, _, destination, operand) => first_pointer(state, destination, operand),
         Insn::Negate(_, destination) | Insn::ByteSwap(_, _, destination) => Some(destination),
         Insn::SignExtend(_, _, source) => Some(source),
@@ -468,29 +490,43 @@ fn address_of(insn: Insn) -> Option<Address> {
     }
 }
 
-/// The memory to which a pointer of that kind points, and the byte of it.
-fn place_of(kind: Kind, defs: &MapDefs) -> Option<(Memory, i64)> {
+/// Where a pointer of that kind points.
+fn place_of(kind: Kind, defs: &MapDefs) -> Option<Place> {
     match kind {
-        Kind::Stack(at) => {
-            Some((
-                Memory::Stack,
-                i64::from(at).saturating_sub(i64::from(STACK_SIZE)),
-            ))
-        }
-        Kind::Elem(map, at) => {
+        Kind::Stack(at) => Some(place_on_stack(at)),
+        Kind::Elem(map, offsets) => {
             let bytes = i64::from(defs.shape(map)?.value_size);
-            Some((Memory::Element { map, bytes }, i64::from(at)))
+            Some(place_in_element(map, bytes, offsets))
         }
         _ => None,
     }
 }
 
+fn place_on_stack(at: u16) -> Place {
+    let from_top = i128::from(at).saturating_sub(i128::from(STACK_SIZE));
+    Place {
+        memory: Memory::Stack,
+        from: from_top,
+        to: from_top,
+        shift: 0,
+    }
+}
+
+fn place_in_element(map: u8, bytes: i64, offsets: Offsets) -> Place {
+    let Range { low, high, shift } = offsets.range();
+    Place {
+        memory: Memory::Element { map, bytes },
+        from: i128::from(low),
+        to: i128::from(high),
+        shift,
+    }
+}
+
 /// The bytes that an address means.
 fn reach_of(state: &AbsState, address: Address, defs: &MapDefs) -> Option<Reach> {
-    let (memory, at) = place_of(state.kind(address.base), defs)?;
+    let distance = i128::from(address.offset);
     Some(Reach {
-        memory,
-        first: at.saturating_add(i64::from(address.offset)),
+        place: place_of(state.kind(address.base), defs)?.moved(distance, distance),
         count: address.size.bytes(),
     })
 }
@@ -501,7 +537,7 @@ fn unwritten_in(state: &AbsState, insn: Insn, defs: &MapDefs) -> Option<BadAcces
 {
     let reach = reach_of(state, address_of(insn)?, defs)?;
     for step in 0..reach.count {
-        let byte = reach.first.saturating_add(i64::from(step));
+        let byte = reach.place.from.saturating_add(i128::from(step));
         match byte_kind(state, byte_of(byte)?) {
             Kind::Num(_) => (),
             Kind::Unusable => return Some(BadAccess::Unwritten { reach, byte }),
@@ -515,18 +551,41 @@ fn out_of_bounds(state: &AbsState, insn: Insn, defs: &MapDefs) -> Option<BadAcce
     ensures { IfSome result (λ access. access_fault access ≡ Why.OutOfBounds) }
 {
     if let Insn::Binary(width, operation, register, operand) = insn {
-        let (memory, at) = place_of(state.kind(register), defs)?;
-        let to = at.saturating_add(pointer_step(width, operation, operand)?);
-        return Some(BadAccess::MovedOut {
-            register,
-            memory,
-            to,
-        });
+        let (least, most) = steps_of(state, width, operation, operand)?;
+        let place = place_of(state.kind(register), defs)?.moved(least, most);
+        return Some(BadAccess::MovedOut { register, place });
     }
     let address = address_of(insn)?;
     match reach_of(state, address, defs) {
         Some(reach) => Some(BadAccess::Outside(reach)),
         None => Some(BadAccess::NoPointer(address.base, state.kind(address.base))),
+    }
+}
+
+/// By how many bytes an instruction moves a pointer, at least and at most.
+fn steps_of(
+    state: &AbsState,
+    width: Width,
+    operation: Operation,
+    operand: Operand,
+) -> Option<(i128, i128)> {
+    match operand {
+        Operand::Immediate(_) => {
+            let step = i128::from(pointer_step(width, operation, operand)?);
+            Some((step, step))
+        }
+        Operand::Register(source) => ends_of(state.kind(source)),
+    }
+}
+
+/// The least and the greatest of the numbers of a kind.
+fn ends_of(kind: Kind) -> Option<(i128, i128)> {
+    match kind {
+        Kind::Num(numbers) => {
+            let range = numbers.range();
+            Some((i128::from(range.low), i128::from(range.high)))
+        }
+        _ => None,
     }
 }
 

@@ -24,6 +24,27 @@ pub struct Trail {
     pub is_copied: bool,
 }
 
+/// Which arrivals are looked for.
+#[derive(Clone, Copy)]
+enum Wanted {
+    Any,
+    /// Those that bring that kind of the subject.
+    With(Subject, Kind),
+    /// Those that bring another.
+    Without(Subject, Kind),
+}
+
+impl Wanted {
+    /// Whether the arrival is one of them.
+    fn is(&self, arrival: &Arrival) -> bool {
+        match self {
+            Wanted::Any => true,
+            Wanted::With(subject, kind) => known_of(&arrival.state, *subject) == *kind,
+            Wanted::Without(subject, kind) => known_of(&arrival.state, *subject) != *kind,
+        }
+    }
+}
+
 /// Goes back from a slot to the first one. Where a value is looked for, the way is one that brought what
 /// is known of it.
 ///
@@ -76,12 +97,12 @@ impl Tracker {
     /// The arrival to go back by. Where none brought what is known of the subject, the ways brought
     /// different kinds, and that is where it comes from.
     fn choose(&mut self, listing: &Listing) -> Option<Arrival> {
-        let nearest = last_arrival(listing, self.slot)?;
+        let nearest = last_arrival(listing, self.slot, &Wanted::Any)?;
         let (Some(subject), Some(state)) = (self.subject, listing.state(self.slot)) else {
             return Some(nearest);
         };
-        let kind = known_of(state, subject);
-        match arrival_with(listing, self.slot, subject, kind) {
+        let same = Wanted::With(subject, known_of(state, subject));
+        match last_arrival(listing, self.slot, &same) {
             Some(arrival) => Some(arrival),
             None => {
                 self.subject = None;
@@ -145,10 +166,10 @@ fn first_origin(subject: Subject, kind: Kind) -> Origin {
     }
 }
 
-/// What comes to the slot from the last of the instructions that control comes from.
-fn last_arrival(listing: &Listing, slot: usize) -> Option<Arrival> {
+/// The last arrival at the slot that is looked for.
+fn last_arrival(listing: &Listing, slot: usize, wanted: &Wanted) -> Option<Arrival> {
     for from in (0..slot).rev() {
-        let arrival = listing.arrival(from, slot);
+        let arrival = arrival_from(listing, from, slot, wanted);
         if arrival.is_some() {
             return arrival;
         }
@@ -156,11 +177,12 @@ fn last_arrival(listing: &Listing, slot: usize) -> Option<Arrival> {
     None
 }
 
-/// The last arrival at the slot of which that kind is known.
-fn arrival_with(listing: &Listing, slot: usize, subject: Subject, kind: Kind) -> Option<Arrival> {
-    for from in (0..slot).rev() {
-        if let Some(arrival) = listing.arrival(from, slot)
-            && known_of(&arrival.state, subject) == kind
+/// The arrival at the slot from one instruction that is looked for. A jump to the next instruction sends
+/// both of its sides there.
+fn arrival_from(listing: &Listing, from: usize, slot: usize, wanted: &Wanted) -> Option<Arrival> {
+    for way in [Way::On, Way::Jump] {
+        if let Some(arrival) = listing.arrival(from, way, slot)
+            && wanted.is(&arrival)
         {
             return Some(arrival);
         }
@@ -171,14 +193,11 @@ fn arrival_with(listing: &Listing, slot: usize, subject: Subject, kind: Kind) ->
 /// Ways that meet at the slot, and bring different kinds of the subject.
 fn meeting(listing: &Listing, slot: usize, subject: Subject, nearest: &Arrival) -> Origin {
     let second = brought(nearest, subject);
-    let mut first = second;
-    for from in 0..slot {
-        if let Some(arrival) = listing.arrival(from, slot)
-            && known_of(&arrival.state, subject) != second.kind
-        {
-            first = brought(&arrival, subject);
-        }
-    }
+    let other = Wanted::Without(subject, second.kind);
+    let first = match last_arrival(listing, slot, &other) {
+        Some(arrival) => brought(&arrival, subject),
+        None => second,
+    };
     Origin::Met {
         slot,
         first,
