@@ -4,19 +4,20 @@ an array map are loaded and stored, how many pushes, pops and removals a queue t
 are verified, how many events a machine does, and how many instructions a run takes, beside plain Rust that
 does the same work.
 
-Straight-line, branching and stack-heavy programs of 40, 400 and 4000 slots are worked on by the
-program of crates/scx_bench and by bench/plain.rs, in turn; for `asm` their text, in which jumps go to
-labels. Verified are programs of 4096 slots, once, 10 and 100 times: straight-line code, a ladder of 1023
-diamonds (two sides of one slot each that meet again), and stores all over the stack. A figure is of the
-processor time of the best of some runs, of which the start of the process is taken off; from a
-verification also the decoding, since each takes a program of its own. The callbacks are the six of
+Straight-line, branching and stack-heavy programs of 40, 400 and 4000 slots are worked on by the program of
+crates/scx_bench and by bench/plain.rs, in turn; for `asm` their text, in which jumps go to labels.
+Verified are programs of 4096 slots, once, 10 and 100 times: straight-line code, a ladder of 1023 diamonds
+(two sides of one slot each that meet again), and stores all over the stack. A figure is of the processor
+time of the best of some runs, of which the start of the process is taken off; from a verification also the
+decoding, since each takes a program of its own. Two more programs that are verified load 1000 times from a
+value of 64 bytes, as far on as a number says that was masked, or tested. The callbacks are the six of
 scx_simple with one map of one element, each in its turn; to verify one counts as decoding it and verifying
 it, and to run one as a run over a host of one task. A machine has all its tasks runnable, and its
 processors and the clock tick in turn: under a policy of one queue and slices of 2 ms, and under the
-callbacks of scx_simple. Its events are counted, and beside them the callbacks that they call. The lines
-of a trace are those of such a machine under slices of 2 ms, written to /dev/null in blocks of 64 KiB by
-both; ours reads a policy and a workload file for it. Files of nearly 1 MB are read by ours alone, since
-plain Rust has no reader of TOML. The ratio is our time to that of plain Rust. Needs rustc.
+callbacks of scx_simple. Its events are counted, and beside them the callbacks that they call. The lines of
+a trace are those of such a machine under slices of 2 ms, written to /dev/null in blocks of 64 KiB by both;
+ours reads a policy and a workload file for it. Files of nearly 1 MB are read by ours alone, since plain
+Rust has no reader of TOML. The ratio is our time to that of plain Rust. Needs rustc.
 
 Runs are short, so their figures are instructions of the processor, counted by callgrind: for each
 instruction of the program that is done, or for each callback. Beside ours stand two interpreters in plain
@@ -37,6 +38,20 @@ import tempfile
 TOP = os.path.dirname(os.path.dirname(os.path.abspath(__file__)))
 EXIT = [("9500000000000000", "exit")]
 START = [("b700000007000000", "r0 = 7"), ("b701000003000000", "r1 = 3")]
+# of r0 nothing is known, so that both sides of a comparison are followed
+UNKNOWN = [("8500000005000000", "call 5"), START[1]]
+# r6 is a pointer to the one value of map 0, which has 64 bytes, and r3 a number from it
+ELEMENT = [
+    ("620afcff00000000", "*(u32 *)(r10 - 4) = 0"),
+    ("bfa2000000000000", "r2 = r10"),
+    ("07020000fcffffff", "r2 += -4"),
+    ("18510000000000000000000000000000", "r1 = map 0"),
+    ("8500000001000000", "call 1"),
+    ("5500010000000000", "if r0 != 0 goto +1"),
+    EXIT[0],
+    ("bf06000000000000", "r6 = r0"),
+    ("7963000000000000", "r3 = *(u64 *)(r6 + 0)"),
+]
 PROGRAMS = {
     "straight": [
         ("0700000003000000", "r0 += 3"),
@@ -76,6 +91,22 @@ VERIFIED = {
         for back in range(8, 513, 8)
     ],
 }
+# a number is masked, or tested, and a byte or eight are loaded from that far on in the value
+ARRAYS = {
+    "masked": [
+        ("5703000038000000", "r3 &= 56"),
+        ("bf64000000000000", "r4 = r6"),
+        ("0f34000000000000", "r4 += r3"),
+        ("7943000000000000", "r3 = *(u64 *)(r4 + 0)"),
+    ],
+    "tested": [
+        ("250303003f000000", "if r3 > 63 goto a{0}"),
+        ("bf64000000000000", "r4 = r6"),
+        ("0f34000000000000", "r4 += r3"),
+        ("7143000000000000", "r3 = *(u8 *)(r4 + 0)\na{0}:"),
+    ],
+}
+ACCESSES = 1000
 SIZES = [40, 400, 4000]
 MOST = 4096  # slots of a program
 TIMES = [1, 10, 100]
@@ -95,13 +126,23 @@ LINES = 2
 UNITS = {"decode": 10_000_000, "encode": 10_000_000, "asm": 1_000_000, "dis": 2_000_000}
 
 
-def program(slots, body):
+def program(slots, body, start=START):
     """The start values, the body over and over, moves of r0 for what is left, and an exit."""
-    times, left = divmod(slots - len(START) - 1, len(body))
-    parts = [START] + times * [body] + left * [START[:1]] + [EXIT]
+    times, left = divmod(slots - len(start) - 1, len(body))
+    parts = [start] + times * [body] + left * [START[:1]] + [EXIT]
     spelled = "".join(slot for part in parts for slot, _ in part)
     text = "".join(line.format(n) + "\n" for n, part in enumerate(parts) for _, line in part)
     return bytes.fromhex(spelled), text.encode()
+
+
+def verified_program(name):
+    return program(MOST, VERIFIED[name], UNKNOWN if name == "ladder" else START)
+
+
+def array_program(body):
+    """The look-up, the body for each access, and an exit."""
+    parts = [ELEMENT] + ACCESSES * [body] + [START[:1], EXIT]
+    return bytes.fromhex("".join(slot for part in parts for slot, _ in part))
 
 
 def spent():
@@ -155,12 +196,15 @@ def measure(work, binaries, path):
 
 
 def measure_verify(binaries, path):
-    for name, body in VERIFIED.items():
+    programs = {name: verified_program(name)[0] for name in VERIFIED}
+    programs |= {name: array_program(body) for name, body in ARRAYS.items()}
+    for name, spelled in programs.items():
         with open(path, "wb") as file:
-            file.write(program(MOST, body)[0])
+            file.write(spelled)
         for times in TIMES:
             taken = compare(binaries, path, ("verify", times), ("decode", times), 10)
-            show("verify", name, times * MOST, times * MOST, taken)
+            slots = times * (len(spelled) // 8)
+            show("verify", name, slots, slots, taken)
 
 
 def measure_queues(binaries):
@@ -211,25 +255,32 @@ def show_count(work, name, ours, *others):
     print("%-8s %-8s%s%s" % (work, name, figures, ratios), flush=True)
 
 
-def measure_counts(binaries, path):
-    """For each slot, and for each callback that is verified. Beside our verifier stand a plain one, and one
-    that keeps operations as ours does, all without what decoding takes."""
+def count_verify(binaries, path, name, spelled):
+    """For each slot. Beside our verifier stand a plain one, and one that keeps operations as ours does, all
+    without what decoding takes."""
     ours, plain = binaries
+    with open(path, "wb") as file:
+        file.write(spelled)
+    counts = []
+    for binary, work in ((ours, "verify"), (plain, "verify"), (plain, "prepare")):
+        whole, before = (instructions(binary, word, path, 10) for word in (work, "decode"))
+        counts.append((whole - before) / (len(spelled) // 8))
+    show_count("verify", name, *counts)
+
+
+def measure_counts(binaries, path):
+    """For each slot, and for each callback that is verified."""
     print("%-8s %-8s %9s %9s %7s" % ("work", "program", "scxsim", "plain", "ratio"))
     for work in UNITS:
-        for name, body in VERIFIED.items():
-            spelled, text = program(MOST, body)
+        for name in VERIFIED:
+            spelled, text = verified_program(name)
             with open(path, "wb") as file:
                 file.write(text if work == "asm" else spelled)
             show_count(work, name, *(instructions(binary, work, path, 10) / MOST for binary in binaries))
-    for name, body in VERIFIED.items():
-        with open(path, "wb") as file:
-            file.write(program(MOST, body)[0])
-        counts = []
-        for binary, work in ((ours, "verify"), (plain, "verify"), (plain, "prepare")):
-            whole, before = (instructions(binary, word, path, 10) for word in (work, "decode"))
-            counts.append((whole - before) / MOST)
-        show_count("verify", name, *counts)
+    for name in VERIFIED:
+        count_verify(binaries, path, name, verified_program(name)[0])
+    for name, body in ARRAYS.items():
+        count_verify(binaries, path, name, array_program(body))
     show_count("callback", "verify", *(instructions(binary, "verify_callbacks", "-") / CALLBACKS for binary in binaries))
 
 

@@ -1,27 +1,35 @@
 //! A plain verifier: kinds of registers, and cells of eight bytes of the stack. One pass over the slots
-//! changes one state in place, and keeps copies where jumps lead.
+//! changes one state in place, and keeps copies where jumps lead. Numbers in registers and offsets in
+//! elements have ranges; what is on the stack has none.
 
 use crate::plain_callbacks::{Callback, Field, Helper, Parameter};
-use crate::{Insn, Insn::*, Operand};
+use crate::plain_ranges::{Numbers, Offsets};
+use crate::{Insn, Insn::*, Operand, read_as, reorder};
 
 #[derive(Clone, Copy, PartialEq)]
 enum Kind {
     Unusable,
-    Num,
+    Num(Numbers),
+    Pointer(Pointer),
+}
+use Kind::*;
+
+#[derive(Clone, Copy, PartialEq)]
+enum Pointer {
     Stack(u16),
-    Elem(u8, u16),
+    Elem(u8, Offsets),
     ElemOrNull(u8),
     Task,
     TaskOrNull,
     MapRef(u8),
 }
-use Kind::*;
+use self::Pointer::*;
 
 #[derive(Clone, Copy, PartialEq)]
 enum Cell {
     /// To which bytes a number was written.
     Bytes(u8),
-    Pointer(Kind),
+    Pointer(self::Pointer),
 }
 
 #[derive(Clone, Copy)]
@@ -73,26 +81,32 @@ enum Ways {
     On,
     Jump,
     Both,
-    /// The register, its kind where it isn't 0, and whether the jump is taken where it is 0.
-    Test(u8, Kind, bool),
+    /// The register, and its kinds on the way on and on the way to the target, if it may go there.
+    Each(u8, Option<Kind>, Option<Kind>),
 }
 
 fn join_kind(a: Kind, b: Kind) -> Kind {
     match (a, b) {
-        _ if a == b => a,
-        (Elem(m, 0), ElemOrNull(n)) | (ElemOrNull(m), Elem(n, 0)) if m == n => ElemOrNull(m),
-        (Task, TaskOrNull) | (TaskOrNull, Task) => TaskOrNull,
+        (Num(a), Num(b)) => Num(a.join(b)),
+        (Kind::Pointer(a), Kind::Pointer(b)) => join_pointer(a, b).map_or(Unusable, Kind::Pointer),
         _ => Unusable,
+    }
+}
+
+fn join_pointer(a: Pointer, b: Pointer) -> Option<Pointer> {
+    match (a, b) {
+        _ if a == b => Some(a),
+        (Elem(m, a), Elem(n, b)) if m == n => Some(Elem(m, a.join(b))),
+        (Elem(m, at), ElemOrNull(n)) | (ElemOrNull(m), Elem(n, at)) if m == n && at.are_start() => Some(ElemOrNull(m)),
+        (Task, TaskOrNull) | (TaskOrNull, Task) => Some(TaskOrNull),
+        _ => None,
     }
 }
 
 fn join_cell(a: Cell, b: Cell) -> Cell {
     match (a, b) {
         (Cell::Bytes(a), Cell::Bytes(b)) => Cell::Bytes(a & b),
-        (Cell::Pointer(a), Cell::Pointer(b)) => match join_kind(a, b) {
-            Unusable => Cell::Bytes(0),
-            kind => Cell::Pointer(kind),
-        },
+        (Cell::Pointer(a), Cell::Pointer(b)) => join_pointer(a, b).map_or(Cell::Bytes(0), Cell::Pointer),
         _ => Cell::Bytes(0),
     }
 }
@@ -102,17 +116,19 @@ impl State {
         let mut registers = [Unusable; 11];
         [registers[1], registers[2]] = match callback {
             Callback::Plain | Callback::Init => [Unusable, Unusable],
-            Callback::Enable | Callback::Running => [Task, Unusable],
-            Callback::Enqueue | Callback::Stopping => [Task, Num],
-            Callback::Dispatch => [Num, TaskOrNull],
+            Callback::Enable | Callback::Running => [Kind::Pointer(Task), Unusable],
+            Callback::Enqueue | Callback::Stopping => [Kind::Pointer(Task), Num(Numbers::ALL)],
+            Callback::Dispatch => [Num(Numbers::ALL), Kind::Pointer(TaskOrNull)],
         };
-        registers[10] = Stack(512);
+        registers[10] = Kind::Pointer(Stack(512));
         State { registers, cells: [Cell::Bytes(0); 64], low: 64 }
     }
 
     fn join(&mut self, other: &State) {
         for (a, b) in self.registers.iter_mut().zip(&other.registers) {
-            *a = join_kind(*a, *b);
+            if *a != *b {
+                *a = join_kind(*a, *b);
+            }
         }
         self.low = self.low.min(other.low);
         for (a, b) in self.cells[self.low..].iter_mut().zip(&other.cells[self.low..]) {
@@ -134,16 +150,19 @@ impl State {
         }
     }
 
-    fn operand(&self, operand: Operand) -> Result<Kind, Why> {
+    fn operand(&self, wide: bool, operand: Operand) -> Result<Kind, Why> {
         match operand {
-            Operand::Immediate(_) => Ok(Num),
+            Operand::Immediate(k) if wide => Ok(Num(Numbers::single(i64::from(k) as u64))),
+            Operand::Immediate(k) => Ok(Num(Numbers::single(u64::from(k as u32)))),
             Operand::Register(register) => self.usable(register),
         }
     }
 
-    fn number(&self, register: u8) -> Result<Kind, Why> {
+    /// What an operation makes of the register's number, where one is known; else all of the width.
+    fn number(&self, register: u8, wide: bool, f: impl Fn(u64) -> u64) -> Result<Kind, Why> {
+        let narrow = |number: u64| if wide { f(number) } else { u64::from(f(number) as u32) };
         match self.usable(register)? {
-            Num => Ok(Num),
+            Num(numbers) => Ok(Num(numbers.mapped(narrow, Numbers::widest(wide)))),
             _ => Err(Why::PointerArithmetic),
         }
     }
@@ -156,49 +175,54 @@ impl State {
         Ok(())
     }
 
-    fn binary(&self, wide: bool, operation: u8, destination: u8, operand: Operand, sizes: &[u16]) -> Result<Kind, Why> {
+    fn binary(&self, wide: bool, operation: u8, signed: bool, destination: u8, operand: Operand, sizes: &[u16]) -> Result<Kind, Why> {
         if operation == 11 {
-            let kind = self.operand(operand)?;
-            return if wide || kind == Num { Ok(kind) } else { Err(Why::PointerArithmetic) };
+            return match self.operand(wide, operand)? {
+                Num(numbers) if !wide => Ok(Num(numbers.mapped(|n| u64::from(n as u32), Numbers::widest(false)))),
+                Kind::Pointer(_) if !wide => Err(Why::PointerArithmetic),
+                kind => Ok(kind),
+            };
         }
         let kind = self.usable(destination)?;
-        let other = self.operand(operand)?;
+        let other = self.operand(wide, operand)?;
         match (kind, other) {
-            (Num, Num) => Ok(Num),
-            (pointer, _) => match (wide, operation, operand) {
+            (Num(a), Num(b)) => Ok(Num(a.computed(wide, operation, signed, b))),
+            (Kind::Pointer(pointer), Num(numbers)) => match (wide, operation, operand) {
                 (true, 0, Operand::Immediate(k)) => moved(pointer, i64::from(k), sizes),
                 (true, 1, Operand::Immediate(k)) => moved(pointer, -i64::from(k), sizes),
+                (true, 0, Operand::Register(_)) => advanced(pointer, numbers, sizes),
                 _ => Err(Why::PointerArithmetic),
             },
+            _ => Err(Why::PointerArithmetic),
         }
     }
 
     fn load(&self, size: u8, signed: bool, base: u8, offset: i16, sizes: &[u16]) -> Result<Kind, Why> {
+        let numbers = Num(Numbers::loaded(size, signed));
         match area_of(self.usable(base)?, offset, size, sizes)? {
             OnStack(at) => match self.cells[at / 8] {
-                Cell::Bytes(set) if set & mask(at, size) == mask(at, size) => Ok(Num),
-                Cell::Pointer(kind) if size == 8 && !signed => Ok(kind),
+                Cell::Bytes(set) if set & mask(at, size) == mask(at, size) => Ok(numbers),
+                Cell::Pointer(pointer) if size == 8 && !signed => Ok(Kind::Pointer(pointer)),
                 _ => Err(Why::UnwrittenStack),
             },
-            InElement => Ok(Num),
             InTask(_) if signed => Err(Why::TaskField),
-            InTask(_) => Ok(Num),
+            InElement | InTask(_) => Ok(numbers),
         }
     }
 
     fn store(&mut self, size: u8, base: u8, offset: i16, operand: Operand, sizes: &[u16]) -> Result<(), Why> {
         let base = self.usable(base)?;
-        let kind = self.operand(operand)?;
+        let kind = self.operand(true, operand)?;
         let at = match area_of(base, offset, size, sizes)? {
             OnStack(at) => at,
             InTask(field) if !field.is_writable() => return Err(Why::TaskField),
-            InElement | InTask(_) => return if kind == Num { Ok(()) } else { Err(Why::PointerStore) },
+            InElement | InTask(_) => return if matches!(kind, Num(_)) { Ok(()) } else { Err(Why::PointerStore) },
         };
         let cell = &mut self.cells[at / 8];
         *cell = match (kind, *cell) {
-            (Num, Cell::Bytes(set)) => Cell::Bytes(set | mask(at, size)),
-            (Num, Cell::Pointer(_)) => Cell::Bytes(mask(at, size)),
-            _ if size == 8 => Cell::Pointer(kind),
+            (Num(_), Cell::Bytes(set)) => Cell::Bytes(set | mask(at, size)),
+            (Num(_), Cell::Pointer(_)) => Cell::Bytes(mask(at, size)),
+            (Kind::Pointer(pointer), _) if size == 8 => Cell::Pointer(pointer),
             _ => return Err(Why::PointerStore),
         };
         self.low = self.low.min(at / 8);
@@ -207,21 +231,32 @@ impl State {
 
     fn compare(&self, wide: bool, comparison: u8, register: u8, operand: Operand) -> Result<Ways, Why> {
         let kind = self.usable(register)?;
-        let other = self.operand(operand)?;
-        if kind == Num {
-            return if other == Num { Ok(Ways::Both) } else { Err(Why::PointerCompare) };
-        }
+        let pointer = match (kind, self.operand(wide, operand)?) {
+            (Kind::Pointer(pointer), _) => pointer,
+            (Num(numbers), Num(others)) => {
+                return Ok(match others.one() {
+                    Some(c) if wide => {
+                        let side = |answer| numbers.cut(comparison, answer, c).map(Num);
+                        Ways::Each(register, side(false), side(true))
+                    }
+                    _ => Ways::Both,
+                });
+            }
+            _ => return Err(Why::PointerCompare),
+        };
         let jumps = match (wide, comparison, operand) {
             (true, 1, Operand::Immediate(0)) => true,
             (true, 5, Operand::Immediate(0)) => false,
             _ => return Err(Why::PointerCompare),
         };
-        Ok(match kind {
-            ElemOrNull(map) => Ways::Test(register, Elem(map, 0), jumps),
-            TaskOrNull => Ways::Test(register, Task, jumps),
-            _ if jumps => Ways::On,
-            _ => Ways::Jump,
-        })
+        let found = match pointer {
+            ElemOrNull(map) => Kind::Pointer(Elem(map, Offsets::START)),
+            TaskOrNull => Kind::Pointer(Task),
+            _ => return Ok(if jumps { Ways::On } else { Ways::Jump }),
+        };
+        let null = Num(Numbers::single(0));
+        let (on, jump) = if jumps { (found, null) } else { (null, found) };
+        Ok(Ways::Each(register, Some(on), Some(jump)))
     }
 
     fn call(&mut self, number: i32, context: Context) -> Result<(), Why> {
@@ -233,8 +268,8 @@ impl State {
             self.argument(*parameter, self.registers[index + 1], context.sizes)?;
         }
         let answer = match (helper, self.registers[1]) {
-            (Helper::MapLookupElem, MapRef(map)) => ElemOrNull(map),
-            _ => Num,
+            (Helper::MapLookupElem, Kind::Pointer(MapRef(map))) => Kind::Pointer(ElemOrNull(map)),
+            _ => Num(Numbers::ALL),
         };
         self.registers[1..6].fill(Unusable);
         self.registers[0] = answer;
@@ -242,9 +277,14 @@ impl State {
     }
 
     fn argument(&self, parameter: Parameter, kind: Kind, sizes: &[u16]) -> Result<(), Why> {
-        match (parameter, kind) {
-            (_, Unusable) => Err(Why::UnusableRegister),
-            (Parameter::Map, MapRef(_)) | (Parameter::Task, Task) | (Parameter::Number, Num) => Ok(()),
+        let pointer = match (parameter, kind) {
+            (_, Unusable) => return Err(Why::UnusableRegister),
+            (Parameter::Number, Num(_)) => return Ok(()),
+            (_, Num(_)) => return Err(Why::BadArgument),
+            (_, Kind::Pointer(pointer)) => pointer,
+        };
+        match (parameter, pointer) {
+            (Parameter::Map, MapRef(_)) | (Parameter::Task, Task) => Ok(()),
             (Parameter::Task, TaskOrNull) | (Parameter::Key, ElemOrNull(_)) => Err(Why::NullNotTested),
             (Parameter::Key, Stack(_) | Elem(..)) => match area_of(kind, 0, 4, sizes)? {
                 OnStack(at) => match self.cells[at / 8] {
@@ -261,12 +301,20 @@ impl State {
     fn pass(&mut self, insn: Insn, context: Context) -> Result<Ways, Why> {
         let sizes = context.sizes;
         match insn {
-            Binary { wide, operation, destination, operand, .. } => {
-                self.set(destination, self.binary(wide, operation, destination, operand, sizes))?;
+            Binary { wide, operation, signed, destination, operand } => {
+                self.set(destination, self.binary(wide, operation, signed, destination, operand, sizes))?;
             }
-            Negate { register, .. } | ByteSwap { register, .. } => self.set(register, self.number(register))?,
-            Extend { destination, source, .. } => self.set(destination, self.number(source))?,
-            LoadImmediate { destination, .. } => self.set(destination, Ok(Num))?,
+            Negate { wide, register } => self.set(register, self.number(register, wide, u64::wrapping_neg))?,
+            ByteSwap { opcode, bits, register } => {
+                self.set(register, self.number(register, true, |n| reorder(opcode, bits, n)))?;
+            }
+            Extend { wide, bits, destination, source } => {
+                self.set(destination, self.number(source, wide, |n| read_as(n, bits / 8, true)))?;
+            }
+            LoadImmediate { destination, low, high } => {
+                let number = u64::from(low as u32) | u64::from(high as u32) << 32;
+                self.set(destination, Ok(Num(Numbers::single(number))))?;
+            }
             LoadMapReference { destination, map } => self.set(destination, map_kind(map, sizes))?,
             Load { size, signed, destination, base, offset } => {
                 self.set(destination, self.load(size, signed, base, offset, sizes))?;
@@ -277,7 +325,7 @@ impl State {
                 return self.compare(wide, comparison, register, operand);
             }
             Goto(_) | GotoLong(_) => return Ok(Ways::Jump),
-            Exit if !context.callback.answers() || self.registers[0] == Num => return Ok(Ways::End),
+            Exit if !context.callback.answers() || matches!(self.registers[0], Num(_)) => return Ok(Ways::End),
             Exit => return Err(Why::BadReturn),
         }
         Ok(Ways::On)
@@ -289,36 +337,51 @@ fn within(bytes: u16, at: u16, k: i64) -> Result<u16, Why> {
     if (0..=i64::from(bytes)).contains(&to) { Ok(to as u16) } else { Err(Why::OutOfBounds) }
 }
 
-fn moved(pointer: Kind, k: i64, sizes: &[u16]) -> Result<Kind, Why> {
+fn moved(pointer: Pointer, k: i64, sizes: &[u16]) -> Result<Kind, Why> {
     match pointer {
-        Stack(at) => Ok(Stack(within(512, at, k)?)),
-        Elem(map, at) => Ok(Elem(map, within(sizes[usize::from(map)], at, k)?)),
+        Stack(at) => Ok(Kind::Pointer(Stack(within(512, at, k)?))),
+        Elem(map, offsets) => elem(map, offsets.moved(sizes[usize::from(map)], k)),
         _ => Err(Why::PointerArithmetic),
     }
 }
 
+/// A pointer into an element and a number.
+fn advanced(pointer: Pointer, numbers: Numbers, sizes: &[u16]) -> Result<Kind, Why> {
+    match pointer {
+        Elem(map, offsets) => elem(map, offsets.advanced(sizes[usize::from(map)], numbers)),
+        _ => Err(Why::PointerArithmetic),
+    }
+}
+
+fn elem(map: u8, offsets: Option<Offsets>) -> Result<Kind, Why> {
+    offsets.map(|offsets| Kind::Pointer(Elem(map, offsets))).ok_or(Why::OutOfBounds)
+}
+
 fn map_kind(map: i32, sizes: &[u16]) -> Result<Kind, Why> {
     match usize::try_from(map) {
-        Ok(map) if map < sizes.len() => Ok(MapRef(map as u8)),
+        Ok(map) if map < sizes.len() => Ok(Kind::Pointer(MapRef(map as u8))),
         _ => Err(Why::UnknownMap),
     }
 }
 
 /// The memory that an address means.
 fn area_of(base: Kind, offset: i16, size: u8, sizes: &[u16]) -> Result<Area, Why> {
-    match base {
-        Stack(at) => Ok(OnStack(offset_for(512, at, offset, size)?)),
-        Elem(map, at) => offset_for(sizes[usize::from(map)], at, offset, size).map(|_| InElement),
+    let Kind::Pointer(pointer) = base else { return Err(Why::OutOfBounds) };
+    match pointer {
+        Stack(at) => Ok(OnStack(offset_for(at, offset, size)?)),
+        Elem(map, at) if !at.are_inside(sizes[usize::from(map)], offset, size) => Err(Why::OutOfBounds),
+        Elem(_, at) if !at.are_aligned(offset, size) => Err(Why::Misaligned),
+        Elem(..) => Ok(InElement),
         Task => Field::at(offset, size).map(InTask).ok_or(Why::TaskField),
         ElemOrNull(_) | TaskOrNull => Err(Why::NullNotTested),
-        _ => Err(Why::OutOfBounds),
+        MapRef(_) => Err(Why::OutOfBounds),
     }
 }
 
-fn offset_for(bytes: u16, at: u16, offset: i16, size: u8) -> Result<usize, Why> {
+fn offset_for(at: u16, offset: i16, size: u8) -> Result<usize, Why> {
     let at = usize::try_from(i32::from(at) + i32::from(offset)).map_err(|_| Why::OutOfBounds)?;
     let size = usize::from(size);
-    if at + size > usize::from(bytes) {
+    if at + size > 512 {
         Err(Why::OutOfBounds)
     } else if at % size != 0 {
         Err(Why::Misaligned)
@@ -408,19 +471,25 @@ pub fn walk(
             None => {}
         }
         show(slot, insn, Some(&now));
-        match now.pass(insn, context).map_err(|why| (why, slot))? {
-            Ways::End => live = false,
-            Ways::On => {}
-            Ways::Jump => {
+        match now.pass(insn, context) {
+            Err(why) => return Err((why, slot)),
+            Ok(Ways::End) => live = false,
+            Ok(Ways::On) => {}
+            Ok(Ways::Jump) => {
                 ahead.send(target(slot, insn), &now);
                 live = false;
             }
-            Ways::Both => ahead.send(target(slot, insn), &now),
-            Ways::Test(register, pointer, jumps) => {
+            Ok(Ways::Both) => ahead.send(target(slot, insn), &now),
+            Ok(Ways::Each(register, on, jump)) => {
                 let register = usize::from(register);
-                now.registers[register] = if jumps { Num } else { pointer };
-                ahead.send(target(slot, insn), &now);
-                now.registers[register] = if jumps { pointer } else { Num };
+                if let Some(kind) = jump {
+                    now.registers[register] = kind;
+                    ahead.send(target(slot, insn), &now);
+                }
+                match on {
+                    Some(kind) => now.registers[register] = kind,
+                    None => live = false,
+                }
             }
         }
     }

@@ -144,13 +144,18 @@ fn accepted(alloc: Global, bytes: &[u8]) -> Option<Verified>
     verify(alloc, program, Callback::Plain, &MapDefs::none()).ok()
 }
 
-/// Verifies the program that the bytes spell. Each time it is decoded anew, since `verify` takes it.
+/// Verifies the program that the bytes spell, as init with a map of one value of 64 bytes. Each time it
+/// is decoded anew, since `verify` takes it.
 fn verifies(alloc: Global, bytes: &[u8], times: u64) -> Sum {
-    let defs = MapDefs::new(&[]).ok()?;
+    let shapes = [Shape {
+        entries: 1,
+        value_size: 64,
+    }];
+    let defs = MapDefs::new(&shapes).ok()?;
     let mut sum = 0u64;
     for _ in 0..times {
         let program = decode(alloc, bytes).ok()?;
-        sum = sum.wrapping_add(verdict(alloc, program, Callback::Plain, &defs)?);
+        sum = sum.wrapping_add(verdict(alloc, program, Callback::Init, &defs)?);
     }
     Some(sum)
 }
