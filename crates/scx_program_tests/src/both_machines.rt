@@ -200,11 +200,16 @@ fn is_left_by_both(alloc: Global, text: &str, verified: &Verified, defs: &MapDef
     }
 }
 
+/// Whether the program of a text, if it is accepted, leaves the same on both machines.
+pub(crate) fn leaves_the_same(alloc: Global, text: &str, defs: &MapDefs) -> Option<bool> {
+    let verified = verified(alloc, text, defs)?;
+    Some(is_left_by_both(alloc, text, &verified, defs))
+}
+
 /// Whether a random program, if it is accepted, leaves the same on both machines.
 fn compare(alloc: Global, random: &mut Random, defs: &MapDefs) -> Option<bool> {
     let text = random_text(alloc, random).ok()?;
-    let verified = verified(alloc, text.as_str(), defs)?;
-    Some(is_left_by_both(alloc, text.as_str(), &verified, defs))
+    leaves_the_same(alloc, text.as_str(), defs)
 }
 
 #[test]

@@ -1,6 +1,7 @@
 //! `verify`, and a pass that keeps a state for each slot: both refuse a program for the same check at
 //! the same slot, or not at all.
 
+use crate::arrays_on_both::{ARRAYS, random_array};
 use crate::both_machines::{LINES, Random, SHAPES};
 use crate::same::expect_same;
 use crate::verdicts::program_of;
@@ -16,6 +17,9 @@ use std::test::Fail;
 
 /// How many random programs are compared.
 const COMPARED: u32 = 100_000;
+
+/// How many random programs with an array are compared.
+const COMPARED_ARRAYS: u32 = 5_000;
 
 /// A check that fails, and its slot, if one does; `None` for want of memory.
 type Verdict = Option<Option<(Why, usize)>>;
@@ -177,6 +181,27 @@ fn random_programs_are_judged_alike(rt: HostRuntime) -> Result<(), Fail> {
     // Of both kinds there are thousands.
     assert!(&rt; accepted > 5000);
     assert!(&rt; accepted < 95_000);
+    Ok(())
+}
+
+/// Ranges are joined where ways meet, and cut where they part.
+#[test]
+fn arrays_are_judged_alike(rt: HostRuntime) -> Result<(), Fail> {
+    let context = Context {
+        callback: Callback::SelectCpu,
+        defs: MapDefs::new(&ARRAYS).expect(&rt, "the map is within the limits"),
+    };
+    let mut random = Random(13);
+    let mut accepted = 0u32;
+    for _ in 0..COMPARED_ARRAYS {
+        let text = random_array(rt.alloc(), &mut random)?;
+        let program = assemble(rt.alloc(), text.as_str()).expect(&rt, "it is a program");
+        let verdict = compare(&rt, program, &context).expect(&rt, "its flow is accepted");
+        accepted = accepted.wrapping_add(u32::from(verdict.is_none()));
+    }
+    // Of both kinds there are thousands.
+    assert!(&rt; accepted > 1000);
+    assert!(&rt; accepted < 4000);
     Ok(())
 }
 

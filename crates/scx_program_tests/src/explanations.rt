@@ -1,6 +1,7 @@
 //! Listings of `scx_explanations`, and `verify`: a listing ends where `verify` refuses, with a reason and a
 //! way from the first slot.
 
+use crate::arrays_on_both::{ARRAYS, random_array};
 use crate::both_machines::{Random, SHAPES};
 use crate::both_passes::random_text;
 use crate::same::expect_same;
@@ -108,5 +109,25 @@ fn listings_end_where_programs_are_refused(rt: HostRuntime) -> Result<(), Fail> 
     // Of both kinds there are many.
     assert!(&rt; accepted > 10);
     assert!(&rt; refused > 100);
+    Ok(())
+}
+
+#[test]
+fn listings_of_arrays_end_where_they_are_refused(rt: HostRuntime) -> Result<(), Fail> {
+    let context = Context {
+        callback: Callback::SelectCpu,
+        defs: MapDefs::new(&ARRAYS).expect(&rt, "the map is within the limits"),
+    };
+    let mut random = Random(17);
+    let mut accepted = 0u32;
+    for _ in 0..EXPLAINED {
+        let text = random_array(rt.alloc(), &mut random)?;
+        let is_accepted = explained(&rt, text.as_str(), &context)?;
+        let is_accepted = is_accepted.expect(&rt, "its flow is accepted");
+        accepted = accepted.wrapping_add(u32::from(is_accepted));
+    }
+    // Of both kinds there are many.
+    assert!(&rt; accepted > 50);
+    assert!(&rt; accepted < 250);
     Ok(())
 }

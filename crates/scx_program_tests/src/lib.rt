@@ -3,6 +3,10 @@
 #![tactic(auto)]
 
 #[cfg(test)]
+mod arrays;
+#[cfg(test)]
+mod arrays_on_both;
+#[cfg(test)]
 mod assembling;
 #[cfg(test)]
 mod both_machines;

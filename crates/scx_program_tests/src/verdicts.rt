@@ -45,15 +45,27 @@ fn verdict_of_text(
     Ok(found)
 }
 
+/// Verifies the program of a text for a callback, with maps of those shapes, and compares the verdict.
+pub(crate) fn expect_with<R: AllocGlobal + Abort>(
+    rt: &R,
+    shapes: &[Shape],
+    callback: Callback,
+    text: &str,
+    wanted: &str,
+) -> Result<(), Fail> {
+    let defs = MapDefs::new(shapes)?;
+    let found = verdict_of_text(rt.alloc(), text, callback, &defs)?;
+    expect_same(rt, found.as_str(), wanted, text);
+    Ok(())
+}
+
 /// Verifies programs for callbacks, with one map of one element of eight bytes, and compares the verdicts.
 pub(crate) fn expect<R: AllocGlobal + Abort>(
     rt: &R,
     rows: &[(Callback, &str, &str)],
 ) -> Result<(), Fail> {
-    let defs = MapDefs::new(&CLOCK)?;
     for &(callback, text, wanted) in rows {
-        let found = verdict_of_text(rt.alloc(), text, callback, &defs)?;
-        expect_same(rt, found.as_str(), wanted, text);
+        expect_with(rt, &CLOCK, callback, text, wanted)?;
     }
     Ok(())
 }

@@ -1,0 +1,185 @@
+//! Programs with masked and tested offsets into a value, run in operations and by the machine with tags.
+
+use crate::both_machines::{Random, leaves_the_same};
+use crate::same::expect_same;
+use scx_maps::{MapDefs, Shape};
+use std::alloc::{AllocError, Global};
+
+/// How many programs are compared, and how many are tried at most.
+const COMPARED: u32 = 20_000;
+
+const TRIED: u32 = 200_000;
+
+/// Four values of 64 bytes.
+pub(crate) const ARRAYS: [Shape; 1] = [Shape {
+    entries: 4,
+    value_size: 64,
+}];
+
+/// r6 becomes the value of the key 1, and r8 a number of which nothing is known.
+const HEAD: &str =
+    "r8 = *(u64 *)(r1 + 8)\n*(u32 *)(r10 - 4) = 1\nr2 = r10\nr2 += -4\nr1 = map 0\ncall 1\nif r0 == 0 goto out\nr6 = r0\nr8 += ";
+
+/// The next number, in r8 and, from bit 16 on, in r3.
+const NEXT: &str = "\nr8 *= 1103515245\nr8 += 12345\nr3 = r8\nr3 >>= 16\n";
+
+/// What programs are made of: what stands before a number, the bits that the number may have, and what
+/// stands behind it. With some numbers some of them are refused.
+const PARTS: [(&str, u64, &str); 24] = [
+    // Behind masks.
+    (
+        "r3 &= ",
+        63,
+        "\nr7 = r6\nr7 += r3\nr5 = *(u8 *)(r7 + 0)\nr8 ^= r5",
+    ),
+    ("r3 &= ", 62, "\nr7 = r6\nr7 += r3\n*(u16 *)(r7 + 0) = r8"),
+    (
+        "r3 &= ",
+        60,
+        "\nr7 = r6\nr7 += r3\nr5 = *(s32 *)(r7 + 0)\nr8 ^= r5",
+    ),
+    ("r3 &= ", 56, "\nr7 = r6\nr7 += r3\n*(u64 *)(r7 + 0) = r8"),
+    (
+        "r3 &= ",
+        60,
+        "\nr7 = r6\nr7 += r3\nr5 = *(u64 *)(r7 + 0)\nr8 += r5",
+    ),
+    ("r3 &= ", 127, "\nr7 = r6\nr7 += r3\n*(u8 *)(r7 + 0) = r8"),
+    // Behind tests of what is too large, on the side that doesn't jump, and of what fits, on the other.
+    (
+        "r3 &= 255\nif r3 > ",
+        63,
+        " goto +3\nr7 = r6\nr7 += r3\n*(u8 *)(r7 + 0) = r8",
+    ),
+    (
+        "r3 &= 63\nif r3 >= ",
+        32,
+        " goto +4\nr3 <<= 1\nr7 = r6\nr7 += r3\n*(u16 *)(r7 + 0) = r8",
+    ),
+    (
+        "r3 &= 31\nif r3 > ",
+        15,
+        " goto +5\nr3 <<= 2\nr7 = r6\nr7 += r3\nr5 = *(u32 *)(r7 + 0)\nr8 ^= r5",
+    ),
+    (
+        "r3 &= 15\nif r3 > ",
+        15,
+        " goto +4\nr3 *= 8\nr7 = r6\nr7 += r3\n*(u64 *)(r7 + 0) = r8",
+    ),
+    (
+        "r3 &= 255\nif r3 <= ",
+        63,
+        " goto +1\ngoto +4\nr7 = r6\nr7 += r3\nr5 = *(u8 *)(r7 + 0)\nr8 ^= r5",
+    ),
+    (
+        "r3 &= 15\nif r3 < ",
+        15,
+        " goto +1\ngoto +4\nr3 <<= 3\nr7 = r6\nr7 += r3\n*(u64 *)(r7 + 0) = r8",
+    ),
+    (
+        "r3 &= 127\nif r3 < 8 goto +5\nif r3 > ",
+        127,
+        " goto +4\nr7 = r6\nr7 += r3\nr5 = *(u8 *)(r7 - 8)\nr8 ^= r5",
+    ),
+    (
+        "r3 &= 7\nif r3 != ",
+        7,
+        " goto +3\nr7 = r6\nr7 += r3\n*(u8 *)(r7 + 0) = r8",
+    ),
+    (
+        "r3 &= 64\nif r3 == ",
+        64,
+        " goto +3\nr7 = r6\nr7 += r3\n*(u8 *)(r7 + 0) = r8",
+    ),
+    // Remainders, shifts to the right, sums of two numbers.
+    (
+        "r3 %= 9\nr3 *= ",
+        15,
+        "\nr7 = r6\nr7 += r3\n*(u8 *)(r7 + 0) = r8",
+    ),
+    (
+        "r3 >>= 43\nr3 += ",
+        60,
+        "\nr7 = r6\nr7 += r3\n*(u8 *)(r7 + 0) = r8",
+    ),
+    (
+        "r3 &= 32\nr4 = r8\nr4 &= ",
+        28,
+        "\nr7 = r6\nr7 += r3\nr7 += r4\nr5 = *(u32 *)(r7 + 0)\nr8 ^= r5",
+    ),
+    // Pointers moved by a constant, there and back, and two that meet.
+    (
+        "r3 &= 24\nr7 = r6\nr7 += r3\nr7 += ",
+        56,
+        "\nr7 -= 8\nr5 = *(u64 *)(r7 + 8)\nr8 ^= r5",
+    ),
+    (
+        "r7 = r6\nif r3 & 1 goto +1\nr7 += ",
+        60,
+        "\nr5 = *(u32 *)(r7 + 0)\nr8 ^= r5",
+    ),
+    (
+        "r7 = r6\nr3 &= 24\nif r8 & 1 goto +1\nr7 += r3\n*(u8 *)(r7 + ",
+        63,
+        ") = r8",
+    ),
+    // A pointer kept on the stack, and a key at an offset.
+    (
+        "r3 &= ",
+        56,
+        "\nr7 = r6\nr7 += r3\n*(u64 *)(r10 - 16) = r7\nr7 = *(u64 *)(r10 - 16)\n*(u64 *)(r7 + 0) = r8",
+    ),
+    (
+        "r3 &= ",
+        60,
+        "\nr2 = r6\nr2 += r3\nr4 = r8\nr4 &= 7\n*(u32 *)(r2 + 0) = r4\nr1 = map 0\ncall 1\nif r0 == 0 goto +1\nr6 = r0",
+    ),
+    // Nothing is known of the number: a test of a copy.
+    (
+        "r4 = r3\nr4 &= 15\nif r4 > ",
+        15,
+        " goto +2\nr7 = r6\nr7 += r4",
+    ),
+];
+
+fn push_random(alloc: Global, text: &mut String, random: &mut Random) -> Result<(), AllocError> {
+    let start = format!(in alloc; "{HEAD}{}", random.next())?;
+    text.push_str(start.as_str())?;
+    let parts = 1 + random.next() % 4;
+    for _ in 0..parts {
+        let (before, bits, behind) = PARTS[(random.next() % 24) as usize];
+        let number = random.next() & bits;
+        let part = format!(in alloc; "{NEXT}{before}{number}{behind}")?;
+        text.push_str(part.as_str())?;
+    }
+    text.push_str("\nout:\nr0 = r8\nexit\n")
+}
+
+/// The text of a random program with an array.
+pub(crate) fn random_array(alloc: Global, random: &mut Random) -> Result<String, AllocError> {
+    let mut text = String::new(alloc);
+    push_random(alloc, &mut text, random)?;
+    Ok(text)
+}
+
+/// Whether a random program, if it is accepted, leaves the same on both machines.
+fn compare(alloc: Global, random: &mut Random, defs: &MapDefs) -> Option<bool> {
+    let text = random_array(alloc, random).ok()?;
+    leaves_the_same(alloc, text.as_str(), defs)
+}
+
+#[test]
+fn arrays_are_left_the_same(rt: HostRuntime) {
+    let defs = MapDefs::new(&ARRAYS).expect(&rt, "the map is within the limits");
+    let mut random = Random(5);
+    let mut compared = 0u32;
+    for _ in 0..TRIED {
+        if compared < COMPARED {
+            if let Some(same) = compare(rt.alloc(), &mut random, &defs) {
+                assert!(&rt; same);
+                compared = compared.wrapping_add(1);
+            }
+        }
+    }
+    expect_same(&rt, compared, COMPARED, "compared");
+}
