@@ -5,6 +5,8 @@
 #ifndef SCX_H
 #define SCX_H
 
+typedef unsigned char u8;
+typedef unsigned short u16;
 typedef unsigned int u32;
 typedef unsigned long long u64;
 typedef int s32;
@@ -86,6 +88,14 @@ static s64 (*const dsq_nr_queued)(u64 queue) = (void *)1008;
 		void *element_ = map_lookup_elem(MAP(number), &key_); \
 		asm volatile("" : "+r"(element_)); \
 		element_; \
+	})
+
+/* A number of which clang knows nothing, so that a mask or a test of it is done, in 64 bits, on the register that is used. */
+#define INDEX(number) \
+	({ \
+		u64 index_ = (number); \
+		asm volatile("" : "+r"(index_)); \
+		index_; \
 	})
 
 #endif
