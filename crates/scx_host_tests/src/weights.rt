@@ -66,12 +66,11 @@ fn awake<R: AllocGlobal + Abort>(rt: &R, pairs: &[Pair], tasks: &[u32]) -> Resul
 /// The tree of these groups and tasks, all of them active, gives these weights.
 type Row = (&'static [Pair], &'static [u32], &'static [u32]);
 
-fn expect_awake<R: AllocGlobal + Abort>(rt: &R, rows: &[Row]) -> Result<(), TreeError> {
-    for &(pairs, tasks, weights) in rows {
-        let tree = awake(rt, pairs, tasks)?;
-        check_weights(rt, &tree, weights);
-        drop(tree);
-    }
+fn expect_awake<R: AllocGlobal + Abort>(rt: &R, row: &Row) -> Result<(), TreeError> {
+    let &(pairs, tasks, weights) = row;
+    let tree = awake(rt, pairs, tasks)?;
+    check_weights(rt, &tree, weights);
+    drop(tree);
     Ok(())
 }
 
@@ -137,7 +136,9 @@ const SHARES: [Row; 5] = [
 
 #[test]
 fn groups_share_what_is_above_them(rt: HostRuntime) -> Result<(), Fail> {
-    expect_awake(&rt, &SHARES)?;
+    for row in &SHARES {
+        expect_awake(&rt, row)?;
+    }
     Ok(())
 }
 
@@ -163,8 +164,10 @@ fn sleeping_tasks_take_no_share(rt: HostRuntime) -> Result<(), Fail> {
     Ok(())
 }
 
-fn refusal(alloc: Global, groups: &[Group], tasks: &[u32]) -> Option<TreeError> {
-    Tree::new(alloc, groups, tasks).err()
+/// Why groups and the groups of tasks make no tree, if they make none.
+fn refusal(alloc: Global, pairs: &[Pair], tasks: &[u32]) -> Result<Option<TreeError>, AllocError> {
+    let groups = groups_of(alloc, pairs)?;
+    Ok(Tree::new(alloc, &groups, tasks).err())
 }
 
 /// Groups, the groups of tasks, and what is wrong with them.
@@ -203,38 +206,29 @@ const FAULTY: [Fault; 15] = [
 #[test]
 fn faulty_trees_are_refused(rt: HostRuntime) -> Result<(), Fail> {
     for (number, &(pairs, tasks, error)) in FAULTY.iter().enumerate() {
-        let groups = groups_of(rt.alloc(), pairs)?;
-        let found = refusal(rt.alloc(), &groups, tasks);
+        let found = refusal(rt.alloc(), pairs, tasks)?;
         expect_same(&rt, found, Some(error), number);
     }
     Ok(())
 }
 
-/// Whether a tree of so many groups and tasks can be made.
-fn expect_size<R: AllocGlobal + Abort>(
-    rt: &R,
-    groups: usize,
-    tasks: usize,
-    wanted: Option<TreeError>,
-) -> Result<(), AllocError> {
-    let group = Group::new(None, 10_000);
-    let homes = vec![in rt.alloc(); 0; tasks]?;
-    let groups = vec![in rt.alloc(); group; groups]?;
-    expect_same(rt, refusal(rt.alloc(), &groups, &homes), wanted, tasks);
-    Ok(())
-}
+/// Groups and tasks, and what is wrong with their number, if anything.
+type Size = (&'static [Pair], &'static [u32], Option<TreeError>);
+
+const HEAVY: Pair = (None, 10_000);
 
 /// Numbers of groups and of tasks at their limits and past them.
-const SIZES: [(usize, usize, Option<TreeError>); 3] = [
-    (256, 1024, None),
-    (257, 1, Some(TreeError::OutOfRange)),
-    (1, 1025, Some(TreeError::OutOfRange)),
+const SIZES: [Size; 3] = [
+    (&[HEAVY; 256], &[0; 1024], None),
+    (&[HEAVY; 257], &[0], Some(TreeError::OutOfRange)),
+    (&[HEAVY], &[0; 1025], Some(TreeError::OutOfRange)),
 ];
 
 #[test]
 fn groups_and_tasks_are_limited(rt: HostRuntime) -> Result<(), Fail> {
-    for &(groups, tasks, wanted) in &SIZES {
-        expect_size(&rt, groups, tasks, wanted)?;
+    for &(pairs, tasks, wanted) in &SIZES {
+        let found = refusal(rt.alloc(), pairs, tasks)?;
+        expect_same(&rt, found, wanted, tasks.len());
     }
     Ok(())
 }
@@ -367,7 +361,7 @@ impl Numbers {
 }
 
 /// 16 groups at the top, 48 below the first 12 of them, 192 below the first 40 of those.
-fn large(alloc: Global, numbers: &mut Numbers) -> Result<Plain, AllocError> {
+fn many_groups(alloc: Global, numbers: &mut Numbers) -> Result<Vec<Group>, AllocError> {
     let mut groups = Vec::new(alloc);
     for group in 0..256u32 {
         let weight = numbers.below(10_000).saturating_add(1);
@@ -378,11 +372,22 @@ fn large(alloc: Global, numbers: &mut Numbers) -> Result<Plain, AllocError> {
         };
         groups.push(Group::new(parent, weight))?;
     }
+    Ok(groups)
+}
+
+/// The groups of 1024 tasks, each one that none is below.
+fn many_homes(alloc: Global, numbers: &mut Numbers) -> Result<Vec<u32>, AllocError> {
     let mut homes = Vec::new(alloc);
     for _ in 0..1024 {
         let leaf = numbers.below(204);
         homes.push(leaf.saturating_add(if leaf < 4 { 12 } else { 52 }))?;
     }
+    Ok(homes)
+}
+
+fn large(alloc: Global, numbers: &mut Numbers) -> Result<Plain, AllocError> {
+    let groups = many_groups(alloc, numbers)?;
+    let homes = many_homes(alloc, numbers)?;
     let active = vec![in alloc; false; 1024]?;
     Ok(Plain {
         groups,
@@ -391,17 +396,21 @@ fn large(alloc: Global, numbers: &mut Numbers) -> Result<Plain, AllocError> {
     })
 }
 
-/// Changes one task and one weight, in the tree and in the plain lists.
-fn change(rt: &impl Abort, numbers: &mut Numbers, tree: &mut Tree, plain: &mut Plain) {
+/// Changes one task, in the tree and in the plain lists.
+fn change_task(rt: &impl Abort, numbers: &mut Numbers, tree: &mut Tree, plain: &mut Plain) {
     let task = numbers.below(1024);
     let on = numbers.below(1000) < 600;
     set_task(rt, tree, task, on);
     if let Some(active) = plain.active.get_mut(task as usize) {
         *active = on;
     }
+}
+
+/// Changes one weight, in the tree and in the plain lists.
+fn change_weight(rt: &impl Abort, numbers: &mut Numbers, tree: &mut Tree, plain: &mut Plain) {
     let group = numbers.below(256);
     let weight = numbers.below(10_000).saturating_add(1);
-    assert!(rt; tree.set_weight(group, weight).is_ok());
+    set_weights(rt, tree, &[(group, weight, Ok(()))]);
     if let Some(group) = plain.groups.get_mut(group as usize) {
         group.weight = weight;
     }
@@ -428,7 +437,8 @@ fn compare_many<R: AllocGlobal + Abort>(
     plain: &mut Plain,
 ) -> Result<(), AllocError> {
     for step in 0..1500 {
-        change(rt, numbers, tree, plain);
+        change_task(rt, numbers, tree, plain);
+        change_weight(rt, numbers, tree, plain);
         compare(rt, tree, plain, numbers.below(1024), step)?;
     }
     Ok(())
