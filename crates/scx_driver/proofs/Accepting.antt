@@ -5,7 +5,7 @@ use Rattle.std.proofs.lemmas.Bool.Decides.{nat_tests}
 use Rattle.std.proofs.lemmas.List.{length-set}
 use Rattle.scx_weights.specs.Hierarchy.{Hierarchy, is_active_task, with_weight}
 use Rattle.scx_weights.specs.Hierarchy as tree
-use Rattle.scx_weights.specs.Refusals.{weight_fault}
+use Rattle.scx_weights.specs.Refusals.{max_weight, is_outside, weight_fault}
 use Rattle.scx_world.specs.World.{is_runnable}
 use Rattle.scx_machine.specs.declared.events.Event.{Event}
 use Rattle.scx_machine.specs.declared.events.Event.TheVariants.{Wake, Sleep, Tick, Clock, SetWeight}
@@ -117,7 +117,7 @@ module _ (n c g e : ℕ) where
   pub weight_leads : (s : SimState) (k y : ℕ) → e < max_events → k < g → 1 ≤ y → y ≤ 10000 → IsOf n c g e s → (refusal s (SetWeight k y) ≡ None) × IsOf n c g (e + 1) (stepped s (SetWeight k y))
   weight_leads s k y few l least greatest h = (x.accepted, go (is_none (weight_fault s.state.world.tree k y)) refl)
     where
-      right : machine.is_bad_weight y ≡ false
+      right : is_outside max_weight y ≡ false
       right = rw (not_lt y 1 least, not_lt 10000 y greatest) refl
         where
           not_lt : (a b : ℕ) → b ≤ a → nat_lt a b ≡ false

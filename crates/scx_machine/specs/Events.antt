@@ -1,5 +1,6 @@
 -- Events: which are accepted, and what each one does.
-use Rattle.std.specs.Prelude.{ℕ, Bool, true, false, ◌||◌, ◌==◌, nat_lt, [], ◌∷◌, length, if◌then◌else◌, Option, Some, None}
+use Rattle.std.specs.Prelude.{ℕ, Bool, true, false, ◌==◌, nat_lt, [], ◌∷◌, length, if◌then◌else◌, Option, Some, None}
+use Rattle.scx_weights.specs.Refusals.{max_weight, is_outside}
 use Rattle.scx_semantics.specs.declared.callbacks.Callback.TheVariants as callback
 use Rattle.scx_world.specs.declared.notes.What.TheVariants as note
 use Rattle.scx_safety.specs.Programs.{VerifiedProgram}
@@ -20,15 +21,12 @@ use Rattle.scx_machine.specs.Cycle.{stopping, cycle}
 
 -- ---- refusals
 
-abbrev pub is_bad_weight : ℕ → Bool
-is_bad_weight x = nat_lt x 1 || nat_lt 10000 x
-
 abbrev pub refusal : State → Event → Option Refused
 refusal s (Wake t) = if nat_lt t (length s.world.tasks) then (if is_runnable s.world t then Some AlreadyRunnable else None) else Some UnknownTask
 refusal s (Sleep t) = if nat_lt t (length s.world.tasks) then (if is_runnable s.world t then None else Some NotRunnable) else Some UnknownTask
 refusal s (Tick c) = if nat_lt c (length s.world.cpus) then None else Some UnknownCpu
 refusal s Clock = None
-refusal s (SetWeight g x) = if nat_lt g (length s.world.tree.groups) then (if is_bad_weight x then Some BadWeight else None) else Some UnknownGroup
+refusal s (SetWeight g x) = if nat_lt g (length s.world.tree.groups) then (if is_outside max_weight x then Some BadWeight else None) else Some UnknownGroup
 
 -- ---- what each event does
 

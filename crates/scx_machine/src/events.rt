@@ -1,4 +1,5 @@
 ghost use Rattle.std.specs.Prelude.{◌≡◌, ℕ, ◌+◌, ◌<◌, ◌≤◌, ◌^◌, length, Some, None};
+ghost use Rattle.scx_weights.specs.Refusals.{max_weight, is_outside};
 ghost use Rattle.scx_world.specs.World.{task_at};
 ghost use Rattle.scx_machine.specs.Budgets.{HasRoom, cycle_pushes, eject_pushes, put_pushes, settle_pushes, sleep_pushes, wake_pushes};
 ghost use Rattle.scx_machine.specs.Does.{Does};
@@ -6,12 +7,13 @@ ghost use Rattle.scx_machine.specs.Notes.{Takes};
 ghost use Rattle.scx_semantics.specs.declared.callbacks.Callback.TheVariants.{SelectCpu};
 ghost use Rattle.scx_machine.specs.Callbacks.{acting, AreAnswered};
 ghost use Rattle.scx_machine.specs.declared.events.Event.TheVariants.{Wake, Sleep, SetWeight};
-ghost use Rattle.scx_machine.specs.Events.{is_bad_weight, refusal, target, settled, settle, select, wake, sleep_from_cpu, sleep, count_down, tick, overdue, clock, happened};
+ghost use Rattle.scx_machine.specs.Events.{refusal, target, settled, settle, select, wake, sleep_from_cpu, sleep, count_down, tick, overdue, clock, happened};
 
 use crate::callbacks::task_cpu_and_0;
 use crate::machine::Machine;
 use crate::sink::Sink;
 use scx_isa::Callback;
+use scx_weights::MAX_WEIGHT;
 use scx_world::{Eject, What};
 use thiserror::Error;
 
@@ -50,9 +52,9 @@ pub enum Refused {
 }
 
 fn is_bad_weight(weight: u32) -> bool
-    ensures { result ≡ is_bad_weight weight }
+    ensures { result ≡ is_outside max_weight weight }
 {
-    weight < 1 || weight > 10_000
+    weight < 1 || weight > MAX_WEIGHT
 }
 
 impl Machine {

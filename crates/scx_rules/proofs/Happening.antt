@@ -3,7 +3,7 @@ use Rattle.std.proofs.Common.{◌≡◌, ℕ, ◌<◌, Bool, true, false, ◌⊎
 use Rattle.std.proofs.lemmas.Bool.{cases_eq, eq-eqb, ne_eqb}
 use Rattle.std.proofs.lemmas.Bool.Decides.{nat_tests}
 use Rattle.scx_weights.specs.Hierarchy.{Hierarchy, with_weight}
-use Rattle.scx_weights.specs.Refusals.{weight_fault}
+use Rattle.scx_weights.specs.Refusals.{max_weight, is_outside, weight_fault}
 use Rattle.scx_semantics.specs.declared.callbacks.Callback.TheVariants as callback
 use Rattle.scx_world.specs.declared.eject.Eject.{Eject}
 use Rattle.scx_world.specs.declared.eject.Eject.TheVariants as cause
@@ -19,7 +19,7 @@ use Rattle.scx_machine.specs.Callbacks.{called, ended, fault_of, unless_ejected,
 use Rattle.scx_machine.specs.Put.{enters}
 use Rattle.scx_machine.specs.Cycle.{stopping, cycle}
 use Rattle.scx_machine.specs.declared.events.Refused.TheVariants.{UnknownGroup, BadWeight}
-use Rattle.scx_machine.specs.Events.{is_bad_weight, refusal, answered_cpu, target, settled, settle, select, wake, sleep_from_cpu, sleep_from, sleep, count_down, tick_of, tick, stalled, clock}
+use Rattle.scx_machine.specs.Events.{refusal, answered_cpu, target, settled, settle, select, wake, sleep_from_cpu, sleep_from, sleep, count_down, tick_of, tick, stalled, clock}
 use Rattle.scx_rules.specs.Cycles.{noting, silent, gone_off}
 use Rattle.scx_safety.specs.Programs.{VerifiedProgram}
 use Rattle.scx_world.specs.declared.call.Insert.{Insert}
@@ -212,10 +212,10 @@ only_ages s r (Too_late t d first h) = only_ejects (aged s) (cause.Stall t (late
 -- ---- weights
 
 -- the weight of an accepted event can be set
-no_weight_fault : (t : Hierarchy) (g x : ℕ) → (if nat_lt g (length t.groups) then (if is_bad_weight x then Some BadWeight else None) else Some UnknownGroup) ≡ None → weight_fault t g x ≡ None
-no_weight_fault t g x e = go (nat_lt g (length t.groups)) (is_bad_weight x) refl refl e
+no_weight_fault : (t : Hierarchy) (g x : ℕ) → (if nat_lt g (length t.groups) then (if is_outside max_weight x then Some BadWeight else None) else Some UnknownGroup) ≡ None → weight_fault t g x ≡ None
+no_weight_fault t g x e = go (nat_lt g (length t.groups)) (is_outside max_weight x) refl refl e
   where
-    go : (a b : Bool) → nat_lt g (length t.groups) ≡ a → is_bad_weight x ≡ b → (if a then (if b then Some BadWeight else None) else Some UnknownGroup) ≡ None → weight_fault t g x ≡ None
+    go : (a b : Bool) → nat_lt g (length t.groups) ≡ a → is_outside max_weight x ≡ b → (if a then (if b then Some BadWeight else None) else Some UnknownGroup) ≡ None → weight_fault t g x ≡ None
     go true false y z f = let known : nat_le (length t.groups) g ≡ false = grind (arith, nat_tests, y) in rw (known, z) refl
     go true true y z f = absurd (cc)
     go false b y z f = absurd (cc)

@@ -7,7 +7,8 @@ use Rattle.scx_machine.specs.declared.events.Event.TheVariants.{Wake, Sleep, Tic
 use Rattle.scx_machine.specs.declared.events.Refused.{Refused}
 use Rattle.scx_machine.specs.declared.events.Refused.TheVariants.{AlreadyRunnable, NotRunnable, UnknownTask, UnknownCpu, UnknownGroup, BadWeight}
 use Rattle.scx_machine.specs.Steps.{State}
-use Rattle.scx_machine.specs.Events.{is_bad_weight, refusal}
+use Rattle.scx_weights.specs.Refusals.{max_weight, is_outside}
+use Rattle.scx_machine.specs.Events.{refusal}
 use Rattle.scx_rules.specs.Refusals.{RefusesTask, NoTask, Already, IsWeight, RefusesWeight, NoGroup, NoWeight}
 use Rattle.scx_rules.specs.Laws.{RulesRefuseEvents, RulesRefuseEventsOnly}
 
@@ -30,10 +31,10 @@ both false x y = absurd (cc)
 
 -- ---- weights
 
-good : (x : ℕ) → IsWeight x → is_bad_weight x ≡ false
+good : (x : ℕ) → IsWeight x → is_outside max_weight x ≡ false
 good x (low, high) = rw (past x 1 low, past 10000 x high) refl
 
-bad : (x : ℕ) → (IsWeight x → ⊥) → is_bad_weight x ≡ true
+bad : (x : ℕ) → (IsWeight x → ⊥) → is_outside max_weight x ≡ true
 bad x n = go (cases_lt x 1) (cases_lt 10000 x)
   where
     go : (x < 1) ⊎ (1 ≤ x) → (10000 < x) ⊎ (x ≤ 10000) → (nat_lt x 1 || nat_lt 10000 x) ≡ true
@@ -72,11 +73,11 @@ tick s c r = go (cases_lt c (length s.world.cpus))
     go (inr l) = rw (past c (length s.world.cpus) l) (λ e. (l, is UnknownCpu r e))
 
 weight : (s : State) (g x : ℕ) (r : Refused) → refusal s (SetWeight g x) ≡ Some r → RefusesWeight s g x r
-weight s g x r = go (cases_lt g (length s.world.tree.groups)) (is_bad_weight x) refl
+weight s g x r = go (cases_lt g (length s.world.tree.groups)) (is_outside max_weight x) refl
   where
-    go : (g < length s.world.tree.groups) ⊎ (length s.world.tree.groups ≤ g) → (b : Bool) → is_bad_weight x ≡ b
+    go : (g < length s.world.tree.groups) ⊎ (length s.world.tree.groups ≤ g) → (b : Bool) → is_outside max_weight x ≡ b
         → (if nat_lt g (length s.world.tree.groups) then (if b then Some BadWeight else None) else Some UnknownGroup) ≡ Some r → RefusesWeight s g x r
-    go (inl l) true k = rw (below g (length s.world.tree.groups) l) (λ e. NoWeight l (λ w. both (is_bad_weight x) k (good x w)) (is BadWeight r e))
+    go (inl l) true k = rw (below g (length s.world.tree.groups) l) (λ e. NoWeight l (λ w. both (is_outside max_weight x) k (good x w)) (is BadWeight r e))
     go (inl l) false k = rw (below g (length s.world.tree.groups) l) (λ e. absurd (none_is r e))
     go (inr l) b k = rw (past g (length s.world.tree.groups) l) (λ e. NoGroup l (is UnknownGroup r e))
 

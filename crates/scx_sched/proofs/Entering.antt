@@ -15,7 +15,7 @@ use Rattle.scx_dsq.specs.declared.entries.Entry.{Entry}
 use Rattle.scx_dsq.specs.Laws.{one_if}
 use Rattle.scx_dsq.proofs.Facts.{ids_pushed, ids_without, ids_removed}
 use Rattle.scx_world.specs.declared.call.Insert.{Insert}
-use Rattle.scx_world.specs.Ids.{global, held, builtin, local_on, policy_end}
+use Rattle.scx_world.specs.Ids.{global, held, builtin, local_on, policy_end, parked}
 use Rattle.scx_world.specs.World.{WorldState, is_runnable}
 use Rattle.scx_world.specs.Tasks.{resolved}
 use Rattle.scx_sched.specs.Once.{IsOnce, HasQueues, sort_of, fits_queue, fits_sort, IsSorted, IsAlike, IsOpen, GoesSomewhere}
@@ -169,7 +169,7 @@ stay_created s q r h = keeps_if (λ x. exists x r ≡ true) (is_none (create_ref
 
 -- so the machine's own stay
 pub queues_stay : (s s' : QueueState) (n : ℕ) → Stay s s' → HasQueues s n → HasQueues s' n
-queues_stay s s' n stay h = record { global = stay global h.global; held = stay held h.held; builtin = stay builtin h.builtin; locals = λ c l. stay (local_on c) (h.locals c l) }
+queues_stay s s' n stay h = record { global = stay global h.global; held = stay held h.held; builtin = stay builtin h.builtin; parked = stay parked h.parked; locals = λ c l. stay (local_on c) (h.locals c l) }
 
 -- ---- what takes a task takes it still
 
@@ -213,7 +213,7 @@ open_same s q' t q r h = open_pushed s q' t r q r (go (cases_eq q' q)) h
 -- so an insert still goes somewhere
 pub goes_on : (s s' : QueueState) (n : ℕ) (o : Option Insert) → ((q : ℕ) (r : Rank) → IsOpen s q r → IsOpen s' q r) → GoesSomewhere s n o → GoesSomewhere s' n o
 goes_on s s' n None f g = tt
-goes_on s s' n (Some i) f g = λ c l. f (resolved c i.queue) i.rank (g c l)
+goes_on s s' n (Some i) f g = λ c l. (f (resolved c i.queue) i.rank (g c l).0, (g c l).1)
 
 -- local queues are in order of arrival
 pub local_sort : (c : ℕ) → same_sort Fifo (sort_of (local_on c)) ≡ true

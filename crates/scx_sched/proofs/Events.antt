@@ -23,9 +23,9 @@ use Rattle.scx_sched.specs.Once.{runs, IsSound}
 use Rattle.scx_sched.specs.Ranges.{IsFine}
 use Rattle.scx_sched.proofs.Entering.{keeps_if}
 use Rattle.scx_sched.specs.Kept.{IsKeptBySteps}
-use Rattle.scx_sched.proofs.Sound.{sound_woken, sound_gone, sound_ticked, sound_later, sound_with_weight}
+use Rattle.scx_sched.proofs.Sound.{sound_woken, sound_left, sound_ticked, sound_later, sound_with_weight}
 use Rattle.scx_sched.proofs.Skeleton.{keeps_eject, keeps_call_back, keeps_stopping, keeps_settled, keeps_cycle}
-use Rattle.scx_sched.proofs.Fine.{range_of, range_task, range_same, fine_of, fine_steps}
+use Rattle.scx_sched.proofs.Fine.{IsRange, range_of, range_task, range_same, fine_of, fine_steps}
 
 -- What an event makes of a task before it comes to small steps. Whoever keeps these too keeps events; the fact
 -- says at least where each task is.
@@ -33,7 +33,7 @@ pub record IsKeptByEvents (n : ℕ) (I : ℕ → Option ℕ → List (Option ℕ
   pub steps : IsKeptBySteps n I
   pub sound : (m : ℕ) (hand : Option ℕ) (on : List (Option ℕ)) (w : WorldState) → I m hand on w → IsSound hand on n w
   pub woken : (m : ℕ) (on : List (Option ℕ)) (w : WorldState) (t : ℕ) → t < n → is_runnable w t ≡ false → I m None on w → I m (Some t) on (woken w t)
-  pub gone : (m : ℕ) (on : List (Option ℕ)) (w : WorldState) (t : ℕ) → is_runnable w t ≡ true → cpu_of w t ≡ None → I m None on w → I m (Some t) on (gone w t)
+  pub left : (m : ℕ) (on : List (Option ℕ)) (w : WorldState) (t : ℕ) → t < n → is_runnable w t ≡ true → cpu_of w t ≡ None → I m None on w → I m None on (asleep (gone w t) t)
 
 -- ---- processors that there are
 
@@ -170,7 +170,7 @@ module _ (n : ℕ) (I : ℕ → Option ℕ → List (Option ℕ) → WorldState 
   keeps_sleep m s t within runnable h = go (cpu_of s.world t) refl
     where
       go : (o : Option ℕ) → cpu_of s.world t ≡ o → I (m + 1) None (sleep_from o s t).state.world.cpus (sleep_from o s t).state.world
-      go None off = keeps_now (m + 1) _ (s.world.cpus, k.steps.more m None s.world.cpus _ (k.steps.asleep m s.world.cpus (gone s.world t) t within (k.gone m s.world.cpus s.world t runnable off h)))
+      go None off = keeps_now (m + 1) _ (s.world.cpus, k.steps.more m None s.world.cpus _ (k.left m s.world.cpus s.world t within runnable off h))
       go (Some c) at =
           let x = position-Some (is_this t) s.world.cpus c None at in
           keeps_sleep_from_cpu m s t c within x.0 (is_task t (get_or s.world.cpus c None) x.1) h
@@ -251,7 +251,7 @@ fine_events n e = record {
   steps = fine_steps n e;
   sound = λ m hand on w h. h.sound;
   woken = λ m on w t within resting h. fine_of n e m (Some t) on (woken w t) (sound_woken on n w t within resting h.sound) (range_same e m w t _ refl refl (range_of n e m None on w h));
-  gone = λ m on w t runnable off h. fine_of n e m (Some t) on (gone w t) (sound_gone on n w t runnable off h.sound) (range_of n e m None on w h);
+  left = λ m on w t within runnable off h. let r = range_of n e m None on w h in fine_of n e m None on _ (sound_left on n w t within runnable off h.sound) (keeps_if (IsRange e m) (nat_lt t (length w.tasks)) _ (gone w t) (range_same e m (gone w t) t _ refl refl r) r);
 }
 
 -- one more event was accepted

@@ -5,7 +5,7 @@ use Rattle.std.proofs.lemmas.Bool.Decides.{nat_tests}
 use Rattle.std.proofs.lemmas.List.Folds.{list_any-append}
 use Rattle.scx_dsq.specs.Queues.{QueueState, exists}
 use Rattle.scx_dsq.specs.Calls.{created, create_refusal, with_queue, empty}
-use Rattle.scx_world.specs.Ids.{global, held, builtin, local_on}
+use Rattle.scx_world.specs.Ids.{global, held, builtin, parked, local_on}
 use Rattle.std.proofs.lemmas.List.{length-replicate, get_or-replicate, get_or_past}
 use Rattle.std.proofs.lemmas.List.Folds.{sum_by-replicate}
 use Rattle.scx_dsq.specs.Queues.{entry_at, entry_of}
@@ -81,13 +81,14 @@ locals : (n : ℕ) (s : QueueState) → ((c : ℕ) → exists s (local_on c) ≡
 locals zero s none room = record { count = omega arith; room = refl; stay = λ r e. e; made = λ c l. absurd (omega (arith, l)); later = λ c l. none c }
 locals (suc n) s none room = one_more n s (with_locals n s) room (locals n s none (omega (arith, room)))
 
-own : (cpus tasks : ℕ) → own_queues cpus tasks ≡ record { room = 19 + cpus; ids = global ∷ held ∷ builtin ∷ []; entries = replicate tasks None; pushes = 0 }
+own : (cpus tasks : ℕ) → own_queues cpus tasks ≡ record { room = 20 + cpus; ids = global ∷ held ∷ builtin ∷ parked ∷ []; entries = replicate tasks None; pushes = 0 }
 own cpus tasks =
-    let a = is_made (empty (19 + cpus) tasks) global refl (omega arith) in
+    let a = is_made (empty (20 + cpus) tasks) global refl (omega arith) in
     rw (
       a,
-      is_made (with_queue (empty (19 + cpus) tasks) global) held refl (omega arith),
-      is_made (with_queue (with_queue (empty (19 + cpus) tasks) global) held) builtin refl (omega arith),
+      is_made (with_queue (empty (20 + cpus) tasks) global) held refl (omega arith),
+      is_made (with_queue (with_queue (empty (20 + cpus) tasks) global) held) builtin refl (omega arith),
+      is_made (with_queue (with_queue (with_queue (empty (20 + cpus) tasks) global) held) builtin) parked refl (omega arith),
     ) refl
 
 -- the queues are there
@@ -96,14 +97,15 @@ first_has_queues cpus tasks = rw (own cpus tasks) record {
   global = l.stay global refl;
   held = l.stay held refl;
   builtin = l.stay builtin refl;
+  parked = l.stay parked refl;
   locals = λ c k. l.made c k;
 }
   where
     s : QueueState
-    s = record { room = 19 + cpus; ids = global ∷ held ∷ builtin ∷ []; entries = replicate tasks None; pushes = 0 }
+    s = record { room = 20 + cpus; ids = global ∷ held ∷ builtin ∷ parked ∷ []; entries = replicate tasks None; pushes = 0 }
 
     none : (c : ℕ) → exists s (local_on c) ≡ false
-    none c = rw (ne_eqb global (local_on c) (λ e. omega (arith, e)), ne_eqb held (local_on c) (λ e. omega (arith, e)), ne_eqb builtin (local_on c) (λ e. omega (arith, e))) refl
+    none c = rw (ne_eqb global (local_on c) (λ e. omega (arith, e)), ne_eqb held (local_on c) (λ e. omega (arith, e)), ne_eqb builtin (local_on c) (λ e. omega (arith, e)), ne_eqb parked (local_on c) (λ e. omega (arith, e))) refl
 
     l : HasLocals cpus s (with_locals cpus s)
     l = locals cpus s none (omega arith)

@@ -8,46 +8,33 @@ use Rattle.scx_dsq.specs.declared.entries.Rank.TheVariants.{Vtime}
 use Rattle.scx_dsq.specs.Queues.{QueueState, task_count, entry_of, queue_of}
 use Rattle.scx_dsq.specs.Calls.{push_refusal, next_entry, with_task as with_place, without_task, pushed, removed}
 use Rattle.scx_dsq.proofs.Facts.{tasks_removed}
-use Rattle.scx_world.specs.Ids.{builtin}
-use Rattle.scx_world.specs.World.{WorldState, waits, running}
+use Rattle.scx_world.specs.Ids.{builtin, parked}
+use Rattle.scx_world.specs.World.{WorldState, waits_in, waits, running}
 use Rattle.scx_world.specs.Tasks.{gone}
 use Rattle.scx_world.specs.Ejecting.{raised, put_builtin, put_out, evict, evicted, cut, cut_task}
 use Rattle.scx_machine.specs.Ejecting.{moves_over, eject}
 use Rattle.scx_sched.specs.Ranges.{IsFine}
 use Rattle.scx_sched.specs.Laws.{EjectionLosesNobody}
+use Rattle.scx_sched.proofs.Waiting.{waits_there, pushed_here, pushed_other, removed_other}
 use Rattle.scx_sched.proofs.Sound.{inside, waits_known}
 use Rattle.scx_sched.proofs.Fine.{fine_steps}
 use Rattle.scx_sched.proofs.Pushes.{is_push_accepted}
 use Rattle.scx_sched.proofs.Skeleton.{keeps_evicted}
 
--- ---- one task that is moved
-
-over_here : (s : QueueState) (q t : ℕ) (r : Rank) → t < task_count s → push_refusal s q t r ≡ None → queue_of (pushed s q t r) t ≡ Some q
-over_here s q t r within ok = rw (ok, get_or-set_same {A = Option Entry} s.entries t (Some (next_entry s q r)) None within) refl
-
-pushed_other : (s : QueueState) (q t u : ℕ) (r : Rank) → (u ≡ t → ⊥) → entry_of (pushed s q t r) u ≡ entry_of s u
-pushed_other s q t u r other = go (is_none (push_refusal s q t r))
-  where
-    go : (b : Bool) → entry_of (if b then with_place s q t r else s) u ≡ entry_of s u
-    go true = get_or-set_other {A = Option Entry} s.entries t u (Some (next_entry s q r)) None other
-    go false = refl
-
-removed_other : (s : QueueState) (t u : ℕ) → (u ≡ t → ⊥) → entry_of (removed s t) u ≡ entry_of s u
-removed_other s t u other = go (is_some (entry_of s t))
-  where
-    go : (b : Bool) → entry_of (if b then without_task s t else s) u ≡ entry_of s u
-    go true = get_or-set_other {A = Option Entry} s.entries t u None None other
-    go false = refl
-
 -- ---- the first so many tasks
+
+-- the queue of an entry
+abbrev home_of : Option Entry → Option ℕ
+home_of o = option_map (λ p. p.queue) o
 
 -- who waited so waits for the built-in scheduler, and who didn't doesn't
 record IsOver (old new : Option Entry) : Type 0 where
-  over : is_some old ≡ true → option_map (λ p. p.queue) new ≡ Some builtin
-  still : is_some old ≡ false → is_some new ≡ false
+  over : waits_in (home_of old) ≡ true → home_of new ≡ Some builtin
+  still : waits_in (home_of old) ≡ false → waits_in (home_of new) ≡ false
+  parked : home_of old ≡ Some parked → home_of new ≡ Some parked
 
 over_as : (old new new' : Option Entry) → new' ≡ new → IsOver old new → IsOver old new'
-over_as old new new' e h = record { over = λ x. ap (λ o. option_map (λ (p : Entry). p.queue) o) e ∙ h.over x; still = λ x. ap (λ o. is_some o) e ∙ h.still x }
+over_as old new new' e h = record { over = λ x. ap home_of e ∙ h.over x; still = λ x. ap (λ o. waits_in (home_of o)) e ∙ h.still x; parked = λ x. ap home_of e ∙ h.parked x }
 
 record HasGone (j : ℕ) (w v : WorldState) : Type 0 where
   done : (t : ℕ) → t < j → IsOver (entry_of w.queues t) (entry_of v.queues t)
@@ -84,15 +71,26 @@ module _ (n e m : ℕ) (hand : Option ℕ) (on : List (Option ℕ)) where
           ok : push_refusal s builtin j r ≡ None
           ok = (is_push_accepted n e m).evict hand on v j here_now h
 
+          waited : waits w j ≡ true
+          waited = ap (λ o. waits_in (home_of o)) (sym here) ∙ here_now
+
           at : (t : ℕ) → t < suc j → (t ≡ j) ⊎ (t ≡ j → ⊥) → IsOver (entry_of w.queues t) (entry_of (pushed s builtin j r) t)
-          at t k (inl x) = rw x record { over = λ y. over_here s builtin j r known ok; still = λ y. absurd (both (is_some (entry_of w.queues j)) (ap (λ o. is_some o) (sym here) ∙ here_now) y) }
+          at t k (inl x) = rw x record {
+            over = λ y. pushed_here s builtin j r known ok;
+            still = λ y. absurd (both (waits w j) waited y);
+            parked = λ y. absurd (both (waits w j) waited (ap waits_in y));
+          }
           at t k (inr d) = over_as (entry_of w.queues t) (entry_of v.queues t) (entry_of (pushed s builtin j r) t) (other t d) (g.done t (omega (arith, k, d)))
 
       none : waits v j ≡ false → HasGone (suc j) w v
       none absent = record { done = λ t k. at t k (cases_eq t j); rest = λ t k. g.rest t (omega (arith, k)); running = g.running; tree = g.tree }
         where
           at : (t : ℕ) → t < suc j → (t ≡ j) ⊎ (t ≡ j → ⊥) → IsOver (entry_of w.queues t) (entry_of v.queues t)
-          at t k (inl x) = rw x record { over = λ y. absurd (both (is_some (entry_of w.queues j)) y (ap (λ o. is_some o) (sym here) ∙ absent)); still = λ y. absent }
+          at t k (inl x) = rw x record {
+            over = λ y. absurd (both (waits w j) y (ap (λ o. waits_in (home_of o)) (sym here) ∙ absent));
+            still = λ y. absent;
+            parked = λ y. ap home_of here ∙ y;
+          }
           at t k (inr d) = g.done t (omega (arith, k, d))
 
       go : (b : Bool) → waits v j ≡ b → HasGone (suc j) w (if b then put_builtin (gone v j) j else v)
@@ -120,8 +118,9 @@ cut_all (suc j) w = cut_one (running (cut j w) j) w (cut j w) (cut_all j w)
 pub loses_nobody : EjectionLosesNobody
 unfolding eject moves_over
 loses_nobody n e m hand s x h = record {
-  waiting = λ t there. ap (λ (q : QueueState). queue_of q t) c.0 ∙ (g.done t (omega (arith, waits_known s.world.queues t there, h.sound.even, h.sound.tasks))).over there;
+  waiting = λ t there. ap (λ (q : QueueState). queue_of q t) c.0 ∙ (g.done t (omega (arith, waits_known s.world.queues t (waits_there s.world.queues t there), h.sound.even, h.sound.tasks))).over there;
   others = λ t absent. others t absent (cases_lt t (length w.tasks));
+  parked = λ t there. ap (λ (q : QueueState). queue_of q t) c.0 ∙ parks t there (cases_lt t (length w.tasks));
   running = c.1 ∙ g.running;
   tree = c.2 ∙ g.tree;
 }
@@ -145,5 +144,9 @@ loses_nobody n e m hand s x h = record {
     c = cut_all (length v.cpus) v
 
     others : (t : ℕ) → waits s.world t ≡ false → (t < length w.tasks) ⊎ (length w.tasks ≤ t) → waits (cut (length v.cpus) v) t ≡ false
-    others t absent (inl l) = ap (λ (q : QueueState). is_some (entry_of q t)) c.0 ∙ (g.done t l).still absent
-    others t absent (inr past) = ap (λ (q : QueueState). is_some (entry_of q t)) c.0 ∙ (ap (λ o. is_some o) (g.rest t past) ∙ absent)
+    others t absent (inl l) = ap (λ (q : QueueState). waits_in (queue_of q t)) c.0 ∙ (g.done t l).still absent
+    others t absent (inr past) = ap (λ (q : QueueState). waits_in (queue_of q t)) c.0 ∙ (ap (λ o. waits_in (home_of o)) (g.rest t past) ∙ absent)
+
+    parks : (t : ℕ) → queue_of s.world.queues t ≡ Some parked → (t < length w.tasks) ⊎ (length w.tasks ≤ t) → queue_of v.queues t ≡ Some parked
+    parks t there (inl l) = (g.done t l).parked there
+    parks t there (inr past) = ap home_of (g.rest t past) ∙ there

@@ -141,10 +141,10 @@ module _ (n e : ℕ) (c : ℕ) where
       g = (fill f builtin c).state
 
       x : IsFine n e m None on f.world
-      x = keeps_fill n (IsFine n e) (fine_steps n e) m on s global c l h
+      x = keeps_fill n (IsFine n e) (fine_steps n e) m on s global c refl l h
 
       y : IsFine n e m None on g.world
-      y = keeps_fill n (IsFine n e) (fine_steps n e) m on f builtin c l x
+      y = keeps_fill n (IsFine n e) (fine_steps n e) m on f builtin c refl l x
 
       nothing : local_len g.world c ≡ 0 → LeavesNothing g.world c
       nothing empty =
@@ -223,7 +223,7 @@ module _ (n e : ℕ) (c : ℕ) where
   unfolding seek
   seek_leaves m on s p ran l known runs h =
       let f = fill s global c in
-      let x : IsFine n e m None on f.state.world = keeps_fill n (IsFine n e) (fine_steps n e) m on s global c l h in
+      let x : IsFine n e m None on f.state.world = keeps_fill n (IsFine n e) (fine_steps n e) m on s global c refl l h in
       keeps_if (λ (r : Stepped). LeavesIfIdle c r.state.world) (has_local f.state c) (pick f.state c p ran) (ask f.state c p ran) (pick_leaves m on f.state p ran l known runs x) (ask_leaves m on f.state p ran l known runs x (fill_global m on s l h))
 
   -- ---- whichever is in force

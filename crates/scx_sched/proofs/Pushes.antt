@@ -13,6 +13,7 @@ use Rattle.scx_sched.specs.Accepted.{IsPushAccepted}
 use Rattle.scx_world.specs.Ejecting.{raised}
 use Rattle.scx_sched.specs.Once.{IsSorted, IsSound}
 use Rattle.scx_sched.proofs.Entering.{nowhere, own_open, is_accepted, sorted_popped, sorted_removed, stay_without, open_removed, local_sort}
+use Rattle.scx_sched.proofs.Waiting.{waits_there}
 use Rattle.scx_sched.proofs.Sound.{left_place, is_fit, fit_open, held_waits, held_in_dispatch, wanted_open, removed_place, waits_known}
 
 takes_front : (hand : Option ℕ) (on : List (Option ℕ)) (n : ℕ) (w : WorldState) (q c t : ℕ) → c < length on → front_of w.queues q ≡ Some t → IsSound hand on n w → push_refusal (popped w.queues q) (local_on c) t Fifo ≡ None
@@ -38,6 +39,6 @@ is_push_accepted n e m = record {
   fill = λ on w q c t l x h. takes_front None on n w q c t l x h.sound;
   move = λ hand on w q t x h. takes_front hand on n w q w.call.cpu t h.sound.here x h.sound;
   put_builtin = λ on w t l h. takes_builtin w.queues t (raised w t) (nowhere w t h.sound.once) h.sound.queues.builtin h.sound.sorted;
-  evict = λ hand on w t waits h. takes_builtin (removed w.queues t) t (raised w t) (removed_place w.queues t waits (waits_known w.queues t waits)) (rw (ids_removed w.queues t) h.sound.queues.builtin) (sorted_removed w.queues t h.sound.sorted);
+  evict = λ hand on w t waits h. takes_builtin (removed w.queues t) t (raised w t) (removed_place w.queues t (waits_there w.queues t waits) (waits_known w.queues t (waits_there w.queues t waits))) (rw (ids_removed w.queues t) h.sound.queues.builtin) (sorted_removed w.queues t h.sound.sorted);
   release = λ hand on w t i flags x e h. takes_held hand on n w t i flags x e h.sound;
 }

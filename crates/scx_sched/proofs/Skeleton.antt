@@ -1,5 +1,5 @@
 -- What each small step of a world keeps, callbacks, ejections and whole cycles keep.
-use Rattle.std.proofs.Common.{◌≡◌, ℕ, zero, suc, ◌+◌, ◌<◌, ◌≤◌, Bool, true, false, if◌then◌else◌, List, length, set, get_or, Option, Some, None, refl, arith}
+use Rattle.std.proofs.Common.{◌≡◌, ℕ, zero, suc, ◌+◌, ◌==◌, ◌<◌, ◌≤◌, Bool, true, false, if◌then◌else◌, List, length, set, get_or, Option, Some, None, refl, arith}
 use Rattle.std.proofs.lemmas.List.{length-set, get_or-set_same}
 use Rattle.scx_dsq.specs.Queues.{front_of}
 use Rattle.scx_semantics.specs.declared.callbacks.Callback.{Callback}
@@ -15,7 +15,7 @@ use Rattle.scx_vm.specs.declared.arguments.Args.{Args}
 use Rattle.scx_vm.specs.Host.{answer_to, after_query}
 use Rattle.scx_world.specs.declared.eject.Eject.{Eject}
 use Rattle.scx_world.specs.declared.faults.Fault.{Fault}
-use Rattle.scx_world.specs.Ids.{global, builtin, local_on}
+use Rattle.scx_world.specs.Ids.{global, builtin, parked, local_on}
 use Rattle.scx_world.specs.World.{WorldState, running, begun}
 use Rattle.scx_world.specs.Tasks.{for_cpu, stopped, started_at}
 use Rattle.scx_world.specs.Ejecting.{put_out, evicted, cut, cut_task, charged, overtaken}
@@ -125,16 +125,16 @@ module _ (n : ℕ) (I : ℕ → Option ℕ → List (Option ℕ) → WorldState 
     keeps_settled (Some i) s t c e within l h = k.entered m on s.world t (for_cpu c i) within (Inserted c i l e refl) h
 
     -- a local queue that is filled
-    pub keeps_fill : (s : State) (q c : ℕ) → c < length on → I m None on s.world → I m None on (fill s q c).state.world
+    pub keeps_fill : (s : State) (q c : ℕ) → (q == parked) ≡ false → c < length on → I m None on s.world → I m None on (fill s q c).state.world
     unfolding fill
-    keeps_fill s q c l h = k.filled m on s.world q c l h
+    keeps_fill s q c apart l h = k.filled m on s.world q c apart l h
 
     -- a call of dispatch
     pub keeps_dispatched : (s : State) (c : ℕ) (p : Option ℕ) → c < length on → I m None on s.world → I m None on (dispatched s c p).state.world
     unfolding dispatched
     keeps_dispatched s c p l h =
         let r = call_back s callback.Dispatch (cpu_and_task c p) 0 c in
-        keeps_fill r.state global c l (keeps_call_back m None on s callback.Dispatch (cpu_and_task c p) 0 c l h)
+        keeps_fill r.state global c refl l (keeps_call_back m None on s callback.Dispatch (cpu_and_task c p) 0 c l h)
 
     -- several of them
     pub keeps_tries : (j : ℕ) (s : State) (c : ℕ) (p : Option ℕ) → c < length on → I m None on s.world → I m None on (tries j s c p).state.world
@@ -194,7 +194,7 @@ module _ (n : ℕ) (I : ℕ → Option ℕ → List (Option ℕ) → WorldState 
   keeps_builtin_cycle m on s c p ran l known runs h =
       let f = fill s global c in
       let g = fill f.state builtin c in
-      keeps_swap_or_rest m on g.state c p ran l known runs (keeps_fill m on f.state builtin c l (keeps_fill m on s global c l h))
+      keeps_swap_or_rest m on g.state c p ran l known runs (keeps_fill m on f.state builtin c refl l (keeps_fill m on s global c refl l h))
 
   -- ---- the policy
 
@@ -225,7 +225,7 @@ module _ (n : ℕ) (I : ℕ → Option ℕ → List (Option ℕ) → WorldState 
   unfolding seek
   keeps_seek m on s c p ran l known runs h =
       let f = fill s global c in
-      let x : I m None on f.state.world = keeps_fill m on s global c l h in
+      let x : I m None on f.state.world = keeps_fill m on s global c refl l h in
       keeps_if (λ (r : Stepped). Some-on (once_for p m) r.state.world) (has_local f.state c) (pick f.state c p ran) (ask f.state c p ran) (keeps_pick m on f.state c p ran l known runs x) (keeps_ask m on f.state c p ran l known runs x)
 
   -- ---- whichever is in force

@@ -1,12 +1,12 @@
 -- What each small step of a world keeps of "exactly once", and of what it rests on.
-use Rattle.std.proofs.Common.{◌≡◌, ℕ, suc, ◌+◌, ◌-◌, ◌<◌, ◌≤◌, Bool, true, false, ◌==◌, nat_lt, nat_le, ◌&&◌, ◌||◌, ◌⊎◌, inl, inr, cond, if◌then◌else◌, List, [], ◌∷◌, length, set, get_or, map, Option, Some, None, is_some, is_none, refl, sym, ◌∙◌, ap, subst, arith, position}
-use Rattle.std.proofs.lemmas.Bool.{cases_eq, cases_lt, eq-eqb, ne_eqb, lt-ltb}
+use Rattle.std.proofs.Common.{◌≡◌, ℕ, suc, ◌+◌, ◌-◌, ◌<◌, ◌≤◌, Bool, true, false, ◌==◌, nat_lt, nat_le, ◌&&◌, ◌||◌, ◌⊎◌, inl, inr, cond, if◌then◌else◌, List, [], ◌∷◌, length, set, get_or, map, Option, Some, None, is_some, is_none, option_map, refl, sym, ◌∙◌, ap, subst, arith, position}
+use Rattle.std.proofs.lemmas.Bool.{cases_eq, cases_lt, eq-eqb, ne_eqb, lt-ltb, eqb-true}
 use Rattle.std.proofs.lemmas.Bool.Decides.{nat_tests}
 use Rattle.std.proofs.lemmas.List.{length-set, get_or-set_same, get_or-set_other, get_or_past, set_past}
 use Rattle.std.specs.List.{list_any, position_or_len}
 use Rattle.std.proofs.lemmas.List.Sums.{sum_by-cons}
 use Rattle.std.proofs.lemmas.List.Sums.{sum_by-set, fails_before_first}
-use Rattle.scx_dsq.specs.Queues.{QueueState, exists, task_count, entry_of, is_in, front_of}
+use Rattle.scx_dsq.specs.Queues.{QueueState, exists, task_count, entry_of, queue_of, is_in, front_of}
 use Rattle.scx_dsq.specs.Calls.{clashes, push_refusal, pushed, popped, removed, with_queue, created, create_refusal}
 use Rattle.scx_dsq.specs.Entries.{same_sort}
 use Rattle.scx_dsq.specs.declared.entries.Rank.{Rank}
@@ -32,14 +32,14 @@ use Rattle.scx_world.specs.declared.notes.What.{What}
 use Rattle.scx_world.specs.declared.faults.Fault.{Fault}
 use Rattle.scx_world.specs.declared.faults.Fault.TheVariants.{NoSuchQueue, CannotInsert, NoSuchCpu, UnknownFlag, CannotCreate, BuiltinVtime, Mixed}
 use Rattle.scx_world.specs.declared.eject.Eject.{Eject}
-use Rattle.scx_world.specs.Ids.{global, local, held, builtin, local_on, policy_end}
+use Rattle.scx_world.specs.Ids.{global, local, held, builtin, parked, local_on, policy_end}
 use Rattle.scx_world.specs.Ejecting.{put_out, raised, put_builtin, evict, cut_task, overtaken, charged}
-use Rattle.scx_world.specs.World.{WorldState, with_queues, with_tree, with_cycling, with_task, task_at, waits, is_this, is_runnable, cpu_of, quiet, begun, noted}
+use Rattle.scx_world.specs.World.{WorldState, with_queues, with_tree, with_cycling, with_task, task_at, waits_in, waits, is_this, is_runnable, cpu_of, quiet, begun, noted}
 use Rattle.scx_world.specs.Tasks.{woken, asleep, gone, given_slice, given_vtime, given, entered, resolved, for_cpu, to_held, to_global, brought, fill_front, filled, local_len, stopped, started_at, renewed, kept, ran_a_tick, ticked, later}
 use Rattle.scx_world.specs.Helpers.{is_there, can_create, faulted, is_dispatch, is_held, may_insert_in, may_insert, queue_fault, is_vtime, rank_fault, or_fault, insert_fault, with_insert, with_move, released, inserted, asked, asked_by_vtime, can_move, moved, given_number, given_task, helper_after, stored_in, world_functions}
 use Rattle.scx_sched.specs.Once.{runs, appearances, IsOnce, HasQueues, sort_of, IsSorted, IsAlike, IsOpen, IsSound, GoesSomewhere}
 use Rattle.scx_sched.specs.Kept.{IsWanted, ForAny, Nowhere, Inserted}
-use Rattle.scx_sched.proofs.Waiting.{one_same, waits_sum, waits_by_sum, since_set, stored_since, given_since, renewed_since, waits_at_hand, waits_asleep, waits_on_cpu}
+use Rattle.scx_sched.proofs.Waiting.{waiting, waits_there, without_other, removed_other, same_waiting, waiting_pushed, waiting_left, front_waits_here, set_since, one_same, waits_sum, waits_by_sum, since_set, stored_since, given_since, renewed_since, waits_at_hand, waits_asleep, waits_on_cpu}
 use Rattle.scx_sched.proofs.Entering.{keeps_if, nowhere, sorted_pushed, sorted_popped, sorted_removed, own_open, alike_from, is_accepted, Stay, stay_pushed, stay_without, stay_removed, stay_created, queues_stay, open_without, open_removed, open_created, open_own, open_same, goes_on, local_sort, low_fits}
 
 -- ---- changes of queues, tasks and the callback at hand
@@ -63,9 +63,9 @@ stored_home x RunNs n = refl
 
 module _ (hand : Option ℕ) (on : List (Option ℕ)) (n : ℕ) where
   -- other queues, in which each task stands as often
-  sound_queues : (w : WorldState) (s : QueueState) → Stay w.queues s → IsSorted s → task_count s ≡ task_count w.queues → ((u : ℕ) → standing s u ≡ standing w.queues u) → GoesSomewhere s (length on) w.call.insert
+  sound_queues : (w : WorldState) (s : QueueState) → Stay w.queues s → IsSorted s → task_count s ≡ task_count w.queues → ((u : ℕ) → standing s u ≡ standing w.queues u) → ((u : ℕ) → waiting s u ≡ waiting w.queues u) → GoesSomewhere s (length on) w.call.insert
       → IsSound hand on n w → IsSound hand on n (with_queues w s)
-  sound_queues w s stay sorted even same goes h = record {
+  sound_queues w s stay sorted even same waits-same goes h = record {
     cpus = h.cpus;
     tasks = h.tasks;
     even = even ∙ h.even;
@@ -76,7 +76,7 @@ module _ (hand : Option ℕ) (on : List (Option ℕ)) (n : ℕ) where
     once = λ u. omega (arith, same u, h.once u);
     here = h.here;
     goes = goes;
-    waiting = λ u. h.waiting u ∙ ap (λ b. b || is_this u hand) (one_same (waits w u) (is_some (entry_of s u)) (sym (same u)));
+    waiting = λ u. h.waiting u ∙ ap (λ b. b || is_this u hand) (one_same (waits w u) (waits_in (queue_of s u)) (sym (waits-same u)));
     at_once = h.at_once;
   }
 
@@ -91,18 +91,24 @@ module _ (hand : Option ℕ) (on : List (Option ℕ)) (n : ℕ) where
   pub sound_cycling : (w : WorldState) (o : Option ℕ) → IsSound hand on n w → IsSound hand on n (with_cycling w o)
   sound_cycling w o h = record { cpus = h.cpus; tasks = h.tasks; even = h.even; flags = h.flags; homes = h.homes; queues = h.queues; sorted = h.sorted; once = h.once; here = h.here; goes = h.goes; waiting = h.waiting; at_once = h.at_once }
 
+  entry_created : (s : QueueState) (q u : ℕ) → entry_of (created s q) u ≡ entry_of s u
+  entry_created s q u = keeps_if (λ (x : QueueState). entry_of x u ≡ entry_of s u) (is_none (create_refusal s q)) (with_queue s q) s refl refl
+
   sound_created : (w : WorldState) (q : ℕ) → IsSound hand on n w → IsSound hand on n (with_queues w (created w.queues q))
   sound_created w q h =
-      sound_queues w (created w.queues q) (stay_created w.queues q) (keeps_if IsSorted (is_none (create_refusal w.queues q)) (with_queue w.queues q) w.queues h.sorted h.sorted) (tasks_created w.queues q) (λ u. others_change_none.queue w.queues q u)
+      sound_queues w (created w.queues q) (stay_created w.queues q) (keeps_if IsSorted (is_none (create_refusal w.queues q)) (with_queue w.queues q) w.queues h.sorted h.sorted) (tasks_created w.queues q) (λ u. others_change_none.queue w.queues q u) (λ u. same_waiting w.queues (created w.queues q) u (entry_created w.queues q u))
       (goes_on w.queues (created w.queues q) (length on) w.call.insert (λ x r o. open_created w.queues q x r o) h.goes) h
 
 -- from one queue to another
 pub left_place : (s : QueueState) (q t : ℕ) → front_of s q ≡ Some t → entry_of (popped s q) t ≡ None
 left_place s q t e = rw e (get_or-set_same {A = Option Entry} s.entries t None None (front_is_known s q (Some t) (sym e)))
 
-sound_brought : (hand : Option ℕ) (on : List (Option ℕ)) (n : ℕ) (w : WorldState) (o : Option ℕ) (q r : ℕ) → front_of w.queues q ≡ o → exists w.queues r ≡ true → policy_end ≤ r → same_sort Fifo (sort_of r) ≡ true
+popped_other : (s : QueueState) (q t u : ℕ) → front_of s q ≡ Some t → (u ≡ t → ⊥) → entry_of (popped s q) u ≡ entry_of s u
+popped_other s q t u e other = rw e (without_other s t u other)
+
+sound_brought : (hand : Option ℕ) (on : List (Option ℕ)) (n : ℕ) (w : WorldState) (o : Option ℕ) (q r : ℕ) → front_of w.queues q ≡ o → exists w.queues r ≡ true → policy_end ≤ r → same_sort Fifo (sort_of r) ≡ true → (q == parked) ≡ false → (r == parked) ≡ false
     → IsSound hand on n w → (t : ℕ) → o ≡ Some t → IsSound hand on n (with_queues w (pushed (popped w.queues q) r t Fifo))
-sound_brought hand on n w o q r front there own fits h t e =
+sound_brought hand on n w o q r front there own fits apart apart-there h t e =
     let s = w.queues in
     let is : front_of s q ≡ Some t = front ∙ e in
     let known : t < task_count s = front_is_known s q (Some t) (sym is) in
@@ -112,6 +118,7 @@ sound_brought hand on n w o q r front there own fits h t e =
     sound_queues hand on n w (pushed (popped s q) r t Fifo) (λ x g. stay_pushed (popped s q) r t Fifo x (stay_without s (front_of s q) x g))
     (sorted_pushed (popped s q) r t Fifo ready.fits (sorted_popped s q h.sorted)) (tasks_pushed (popped s q) r t Fifo ∙ tasks_without s (front_of s q))
     (λ u. omega (arith, standing_pushed (popped s q) r t u Fifo known' ok, standing_popped s q t u is))
+    (λ u. omega (arith, waiting_pushed (popped s q) r t u Fifo known' ok (left_place s q t is) apart-there, waiting_left s (popped s q) t u (front_waits_here s q t is apart) (left_place s q t is) (λ k d. popped_other s q t k is d)))
     (goes_on s (pushed (popped s q) r t Fifo) (length on) w.call.insert (λ x k o. open_own (popped s q) r t Fifo x k own fits (open_without s (front_of s q) x k o)) h.goes) h
 
 -- ---- helpers
@@ -194,9 +201,17 @@ fit_open on hand n w t i c l fit h =
     let x = rank_alike w i.queue i.rank fit.rank in
     open_at w i.queue c i.rank all h.sorted here fit.queue x.0 x.1
 
+-- no callback may name the queue of parked tasks
+fit_apart : (w : WorldState) (q c : ℕ) → queue_fault w q ≡ None → (resolved c q == parked) ≡ false
+fit_apart w q c e = go (cases_eq q parked)
+  where
+    go : (q ≡ parked) ⊎ (q ≡ parked → ⊥) → (resolved c q == parked) ≡ false
+    go (inl is) = let bad : Some NoSuchQueue ≡ None = subst (λ x. queue_fault w x ≡ None) is e in absurd (cc)
+    go (inr d) = keeps_if (λ x. (x == parked) ≡ false) (q == local) (local_on c) q (ne_eqb (local_on c) parked (λ x. omega (arith, x))) (ne_eqb q parked d)
+
 -- who is held waits, and is a task that there is
 pub record IsHeld (w : WorldState) (t : ℕ) : Type 0 where
-  pub waits : is_some (entry_of w.queues t) ≡ true
+  pub waits : waits_in (queue_of w.queues t) ≡ true
   pub known : t < task_count w.queues
   pub free : entry_of (removed w.queues t) t ≡ None
 
@@ -206,7 +221,7 @@ held_waits w t e = go (cases_lt t (length w.queues.entries)) (entry_of w.queues 
   where
     go : (t < length w.queues.entries) ⊎ (length w.queues.entries ≤ t) → (o : Option Entry) → entry_of w.queues t ≡ o → is_in held o ≡ true → IsHeld w t
     go l None x y = absurd (cc)
-    go (inl l) (Some p) x y = record { waits = rw x refl; known = l; free = rw x (get_or-set_same {A = Option Entry} w.queues.entries t None None l) }
+    go (inl l) (Some p) x y = record { waits = rw (x, eqb-true p.queue held y) refl; known = l; free = rw x (get_or-set_same {A = Option Entry} w.queues.entries t None None l) }
     go (inr past) (Some p) x y = let none : entry_of w.queues t ≡ None = get_or_past {X = Option Entry} w.queues.entries t None past in absurd (cc (sym x ∙ none))
 
 -- and in dispatch only such a one may be inserted
@@ -239,9 +254,9 @@ module _ (hand : Option ℕ) (on : List (Option ℕ)) (n : ℕ) where
   sound_faulted w f h = record { cpus = h.cpus; tasks = h.tasks; even = h.even; flags = h.flags; homes = h.homes; queues = h.queues; sorted = h.sorted; once = h.once; here = h.here; goes = h.goes; waiting = h.waiting; at_once = h.at_once }
 
   -- a task goes from one queue to another
-  sound_replaced : (w : WorldState) (t q : ℕ) (r : Rank) (x : Task) → x.prev_cpu ≡ (task_at w t).prev_cpu → x.since ≡ (task_at w t).since → is_some (entry_of w.queues t) ≡ true → t < task_count w.queues → entry_of (removed w.queues t) t ≡ None → IsOpen w.queues q r
+  sound_replaced : (w : WorldState) (t q : ℕ) (r : Rank) (x : Task) → x.prev_cpu ≡ (task_at w t).prev_cpu → x.since ≡ (task_at w t).since → waits_in (queue_of w.queues t) ≡ true → t < task_count w.queues → entry_of (removed w.queues t) t ≡ None → IsOpen w.queues q r → (q == parked) ≡ false
       → GoesSomewhere (pushed (removed w.queues t) q t r) (length on) w.call.insert → IsSound hand on n w → IsSound hand on n (with_queues (with_task w t x) (pushed (removed w.queues t) q t r))
-  sound_replaced w t q r x home since waits-here known free ready goes h = sound_task hand on n (with_queues w s') t x home since moved-now
+  sound_replaced w t q r x home since waits-here known free ready apart goes h = sound_task hand on n (with_queues w s') t x home since moved-now
     where
       s : QueueState
       s = removed w.queues t
@@ -261,14 +276,15 @@ module _ (hand : Option ℕ) (on : List (Option ℕ)) (n : ℕ) where
       moved-now : IsSound hand on n (with_queues w s')
       moved-now =
           sound_queues hand on n w s' (λ y g. stay_pushed s q t r y (stay_removed w.queues t y g)) (sorted_pushed s q t r ready'.fits (sorted_removed w.queues t h.sorted)) (tasks_pushed s q t r ∙ tasks_removed w.queues t)
-          (λ u. omega (arith, standing_pushed s q t u r known' ok, standing_removed w.queues t u waits-here)) goes h
+          (λ u. omega (arith, standing_pushed s q t u r known' ok, standing_removed w.queues t u (waits_there w.queues t waits-here)))
+          (λ u. omega (arith, waiting_pushed s q t u r known' ok free apart, waiting_left w.queues s t u (ap one_if waits-here) free (λ k d. removed_other w.queues t k d))) goes h
 
   -- a held task
-  sound_released : (w : WorldState) (t : ℕ) (q : ℕ) (i : Insert) → w.call.insert ≡ None → IsHeld w t → IsOpen w.queues q i.rank → IsSound hand on n w → IsSound hand on n (entered (gone w t) t (record { queue = q; slice = i.slice; rank = i.rank }))
-  sound_released w t q i none held-here ready h =
+  sound_released : (w : WorldState) (t : ℕ) (q : ℕ) (i : Insert) → w.call.insert ≡ None → IsHeld w t → IsOpen w.queues q i.rank → (q == parked) ≡ false → IsSound hand on n w → IsSound hand on n (entered (gone w t) t (record { queue = q; slice = i.slice; rank = i.rank }))
+  sound_released w t q i none held-here ready apart h =
       let k : Insert = record { queue = q; slice = i.slice; rank = i.rank } in
       rw (inside n w t (subst (λ k. t < k) h.even held-here.known) h.tasks)
-      (sound_replaced w t q i.rank (given (task_at w t) k) (given_home (task_at w t) k) (given_since (task_at w t) k) held-here.waits held-here.known held-here.free ready (subst (λ o. GoesSomewhere (pushed (removed w.queues t) q t i.rank) (length on) o) (sym none) tt) h)
+      (sound_replaced w t q i.rank (given (task_at w t) k) (given_home (task_at w t) k) (given_since (task_at w t) k) held-here.waits held-here.known held-here.free ready apart (subst (λ o. GoesSomewhere (pushed (removed w.queues t) q t i.rank) (length on) o) (sym none) tt) h)
 
   -- what isn't of queues or tasks
   sound_moving : (w : WorldState) (x : What) → IsSound hand on n w → IsSound hand on n (noted (with_move w) x)
@@ -281,20 +297,29 @@ module _ (hand : Option ℕ) (on : List (Option ℕ)) (n : ℕ) where
       go true x None fit = h
       go true x (Some u) fit =
           sound_moving (entered (gone w u) u (for_cpu w.call.cpu i)) _
-          (sound_released w u (resolved w.call.cpu i.queue) i (h.at_once x) (held_waits w u (held_in_dispatch w (Some u) x fit.may)) (fit_open on hand n w (Some u) i w.call.cpu h.here fit h) h)
-      go false x u fit = record { cpus = h.cpus; tasks = h.tasks; even = h.even; flags = h.flags; homes = h.homes; queues = h.queues; sorted = h.sorted; once = h.once; here = h.here; goes = λ c l. fit_open on hand n w u i c l fit h; waiting = h.waiting; at_once = λ y. absurd (cc (sym x ∙ y)) }
+          (sound_released w u (resolved w.call.cpu i.queue) i (h.at_once x) (held_waits w u (held_in_dispatch w (Some u) x fit.may)) (fit_open on hand n w (Some u) i w.call.cpu h.here fit h) (fit_apart w i.queue w.call.cpu fit.queue) h)
+      go false x u fit = record { cpus = h.cpus; tasks = h.tasks; even = h.even; flags = h.flags; homes = h.homes; queues = h.queues; sorted = h.sorted; once = h.once; here = h.here; goes = λ c l. (fit_open on hand n w u i c l fit h, fit_apart w i.queue c fit.queue); waiting = h.waiting; at_once = λ y. absurd (cc (sym x ∙ y)) }
   sound_inserted w (Some f) t i fine h = sound_faulted w f h
 
-  sound_moved : (w : WorldState) (o : Option ℕ) (q : ℕ) → front_of w.queues q ≡ o → IsSound hand on n w → IsSound hand on n (moved w o q)
-  sound_moved w None q e h = h
-  sound_moved w (Some t) q e h =
-      sound_moving (with_queues w (pushed (popped w.queues q) (local_on w.call.cpu) t Fifo)) _ (sound_brought hand on n w (Some t) q (local_on w.call.cpu) e (h.queues.locals w.call.cpu h.here) (omega arith) (local_sort w.call.cpu) h t refl)
+  sound_moved : (w : WorldState) (o : Option ℕ) (q : ℕ) → front_of w.queues q ≡ o → (q == parked) ≡ false → IsSound hand on n w → IsSound hand on n (moved w o q)
+  sound_moved w None q e apart h = h
+  sound_moved w (Some t) q e apart h =
+      sound_moving (with_queues w (pushed (popped w.queues q) (local_on w.call.cpu) t Fifo)) _ (sound_brought hand on n w (Some t) q (local_on w.call.cpu) e (h.queues.locals w.call.cpu h.here) (omega arith) (local_sort w.call.cpu) apart (ne_eqb (local_on w.call.cpu) parked (λ x. omega (arith, x))) h t refl)
 
   sound_helper : (w : WorldState) (f : Helper) (a : List Arg) → IsSound hand on n w → IsSound hand on n (helper_after w f a)
   sound_helper w CreateDsq a h = keeps_if (IsSound hand on n) (can_create w (given_number a 0)) (with_queues w (created w.queues (given_number a 0))) (faulted w CannotCreate) (sound_created hand on n w (given_number a 0) h) (sound_faulted w CannotCreate h)
   sound_helper w DsqInsert a h = sound_inserted w (insert_fault w (given_task a 0) (asked a) (given_number a 3)) (given_task a 0) (asked a) (λ e. is_fit w (given_task a 0) (asked a) (given_number a 3) e) h
   sound_helper w DsqInsertVtime a h = sound_inserted w (insert_fault w (given_task a 0) (asked_by_vtime a) (given_number a 4)) (given_task a 0) (asked_by_vtime a) (λ e. is_fit w (given_task a 0) (asked_by_vtime a) (given_number a 4) e) h
-  sound_helper w DsqMoveToLocal a h = keeps_if (IsSound hand on n) (can_move w (given_number a 0)) (moved w (front_of w.queues (given_number a 0)) (given_number a 0)) (faulted w NoSuchQueue) (sound_moved w (front_of w.queues (given_number a 0)) (given_number a 0) refl h) (sound_faulted w NoSuchQueue h)
+  sound_helper w DsqMoveToLocal a h = go (is_dispatch w.call.callback) (nat_lt q policy_end) (exists w.queues q) refl
+    where
+      q : ℕ
+      q = given_number a 0
+
+      go : (b c d : Bool) → nat_lt q policy_end ≡ c → IsSound hand on n (if b && (c && d) then moved w (front_of w.queues q) q else faulted w NoSuchQueue)
+      go true true true low = let l : q < policy_end = grind (arith, nat_tests, low) in sound_moved w (front_of w.queues q) q refl (ne_eqb q parked (λ x. omega (arith, x, l))) h
+      go true true false low = sound_faulted w NoSuchQueue h
+      go true false d low = sound_faulted w NoSuchQueue h
+      go false c d low = sound_faulted w NoSuchQueue h
   sound_helper w CpuIdle a h = keeps_if (IsSound hand on n) (nat_lt (given_number a 0) (length w.cpus)) w (faulted w NoSuchCpu) h (sound_faulted w NoSuchCpu h)
   sound_helper w DsqNrQueued a h = keeps_if (IsSound hand on n) (is_there w (given_number a 0)) w (faulted w NoSuchQueue) h (sound_faulted w NoSuchQueue h)
   sound_helper w KtimeGetNs a h = h
@@ -322,9 +347,9 @@ renewed_home x = keeps_if (λ (y : Task). y.prev_cpu ≡ x.prev_cpu) (x.slice ==
 
 module _ (on : List (Option ℕ)) (n : ℕ) where
   -- with another record
-  sound_placed : (w : WorldState) (t q : ℕ) (r : Rank) (x : Task) → x.prev_cpu ≡ (task_at w t).prev_cpu → x.since ≡ (task_at w t).since → t < n → IsOpen w.queues q r → GoesSomewhere (pushed w.queues q t r) (length on) w.call.insert → IsSound (Some t) on n w
+  sound_placed : (w : WorldState) (t q : ℕ) (r : Rank) (x : Task) → x.prev_cpu ≡ (task_at w t).prev_cpu → x.since ≡ (task_at w t).since → t < n → IsOpen w.queues q r → (q == parked) ≡ false → GoesSomewhere (pushed w.queues q t r) (length on) w.call.insert → IsSound (Some t) on n w
       → IsSound None on n (with_queues (with_task w t x) (pushed w.queues q t r))
-  sound_placed w t q r x home since within ready goes h =
+  sound_placed w t q r x home since within ready apart goes h =
       let known : t < task_count w.queues = rw h.even within in
       let ok : push_refusal w.queues q t r ≡ None = is_accepted w.queues t q r (nowhere w t h.once) ready in
       record {
@@ -338,29 +363,32 @@ module _ (on : List (Option ℕ)) (n : ℕ) where
         once = once_pushed w t q r known ok h.once;
         here = h.here;
         goes = goes;
-        waiting = waits_by_sum None (with_queues (with_task w t x) (pushed w.queues q t r)) (λ u. omega (arith, ap (λ o. one_if (is_some o)) (since_set w.tasks t x since u), waits_sum (Some t) w h.once h.waiting u, standing_pushed w.queues q t u r known ok));
+        waiting = waits_by_sum None (with_queues (with_task w t x) (pushed w.queues q t r)) (λ u. omega (arith, ap (λ o. one_if (is_some o)) (since_set w.tasks t x since u), waits_sum (Some t) w h.once h.waiting u, waiting_pushed w.queues q t u r known ok (nowhere w t h.once) apart));
         at_once = h.at_once;
       }
 
-  sound_enters : (w : WorldState) (t : ℕ) (i : Insert) → t < n → IsOpen w.queues i.queue i.rank → GoesSomewhere (pushed w.queues i.queue t i.rank) (length on) w.call.insert → IsSound (Some t) on n w → IsSound None on n (entered w t i)
-  sound_enters w t i within ready goes h =
-      rw (inside n w t within h.tasks) (sound_placed w t i.queue i.rank (given (task_at w t) i) (given_home (task_at w t) i) (given_since (task_at w t) i) within ready goes h)
+  sound_enters : (w : WorldState) (t : ℕ) (i : Insert) → t < n → IsOpen w.queues i.queue i.rank → (i.queue == parked) ≡ false → GoesSomewhere (pushed w.queues i.queue t i.rank) (length on) w.call.insert → IsSound (Some t) on n w → IsSound None on n (entered w t i)
+  sound_enters w t i within ready apart goes h =
+      rw (inside n w t within h.tasks) (sound_placed w t i.queue i.rank (given (task_at w t) i) (given_home (task_at w t) i) (given_since (task_at w t) i) within ready apart goes h)
 
   -- into one of the machine's own queues
-  sound_enters_own : (w : WorldState) (t : ℕ) (i : Insert) → t < n → exists w.queues i.queue ≡ true → policy_end ≤ i.queue → same_sort i.rank (sort_of i.queue) ≡ true → IsSound (Some t) on n w → IsSound None on n (entered w t i)
-  sound_enters_own w t i within there own fits h =
-      sound_enters w t i within (own_open w.queues i.queue i.rank there own fits h.sorted)
+  sound_enters_own : (w : WorldState) (t : ℕ) (i : Insert) → t < n → exists w.queues i.queue ≡ true → policy_end ≤ i.queue → same_sort i.rank (sort_of i.queue) ≡ true → (i.queue == parked) ≡ false → IsSound (Some t) on n w → IsSound None on n (entered w t i)
+  sound_enters_own w t i within there own fits apart h =
+      sound_enters w t i within (own_open w.queues i.queue i.rank there own fits h.sorted) apart
       (goes_on w.queues (pushed w.queues i.queue t i.rank) (length on) w.call.insert (λ x k o. open_own w.queues i.queue t i.rank x k own fits o) h.goes) h
 
   -- where a callback said
   pub said_open : (w : WorldState) (c : ℕ) (said : Insert) → c < length on → w.call.insert ≡ Some said → GoesSomewhere w.queues (length on) w.call.insert → IsOpen w.queues (resolved c said.queue) said.rank
-  said_open w c said l e goes = subst (λ (o : Option Insert). GoesSomewhere w.queues (length on) o) e goes c l
+  said_open w c said l e goes = (subst (λ (o : Option Insert). GoesSomewhere w.queues (length on) o) e goes c l).0
+
+  said_apart : (w : WorldState) (c : ℕ) (said : Insert) → c < length on → w.call.insert ≡ Some said → GoesSomewhere w.queues (length on) w.call.insert → (resolved c said.queue == parked) ≡ false
+  said_apart w c said l e goes = (subst (λ (o : Option Insert). GoesSomewhere w.queues (length on) o) e goes c l).1
 
   sound_enters_said : (w : WorldState) (t c : ℕ) (said : Insert) → t < n → c < length on → w.call.insert ≡ Some said → IsSound (Some t) on n w → IsSound None on n (entered w t (for_cpu c said))
   sound_enters_said w t c said within l e h =
-      sound_enters w t (for_cpu c said) within (said_open w c said l e h.goes)
+      sound_enters w t (for_cpu c said) within (said_open w c said l e h.goes) (said_apart w c said l e h.goes)
       (subst (λ (o : Option Insert). GoesSomewhere (pushed w.queues (resolved c said.queue) t said.rank) (length on) o) (sym e)
-      (λ d m. open_same w.queues (resolved c said.queue) t (resolved d said.queue) said.rank (said_open w d said m e h.goes))) h
+      (λ d m. (open_same w.queues (resolved c said.queue) t (resolved d said.queue) said.rank (said_open w d said m e h.goes), said_apart w d said m e h.goes))) h
 
   -- the queue that is wanted is open
   pub wanted_open : (w : WorldState) (i : Insert) (hand : Option ℕ) → IsWanted (length on) w i → IsSound hand on n w → IsOpen w.queues i.queue i.rank
@@ -370,13 +398,13 @@ module _ (on : List (Option ℕ)) (n : ℕ) where
 
   -- a task that enters it
   pub sound_entered : (w : WorldState) (t : ℕ) (i : Insert) → t < n → IsWanted (length on) w i → IsSound (Some t) on n w → IsSound None on n (entered w t i)
-  sound_entered w t i within (ForAny e) h = rw e (sound_enters_own w t to_global within h.queues.global (omega arith) refl h)
-  sound_entered w t i within (Nowhere e) h = rw e (sound_enters_own w t to_held within h.queues.held (omega arith) refl h)
+  sound_entered w t i within (ForAny e) h = rw e (sound_enters_own w t to_global within h.queues.global (omega arith) refl refl h)
+  sound_entered w t i within (Nowhere e) h = rw e (sound_enters_own w t to_held within h.queues.held (omega arith) refl refl h)
   sound_entered w t i within (Inserted c said l x e) h = rw e (sound_enters_said w t c said within l x h)
 
   -- a local queue that is filled
-  pub sound_filled : (w : WorldState) (q c : ℕ) → c < length on → IsSound None on n w → IsSound None on n (filled w q c)
-  sound_filled w q c l h = go (fill_front w q c) (λ t e. front t (nat_lt 0 (local_len w c)) e)
+  pub sound_filled : (w : WorldState) (q c : ℕ) → (q == parked) ≡ false → c < length on → IsSound None on n w → IsSound None on n (filled w q c)
+  sound_filled w q c apart l h = go (fill_front w q c) (λ t e. front t (nat_lt 0 (local_len w c)) e)
     where
       front : (t : ℕ) (b : Bool) → (if b then None else front_of w.queues q) ≡ Some t → front_of w.queues q ≡ Some t
       front t true x = absurd (cc)
@@ -384,7 +412,7 @@ module _ (on : List (Option ℕ)) (n : ℕ) where
 
       go : (o : Option ℕ) → ((t : ℕ) → o ≡ Some t → front_of w.queues q ≡ Some t) → IsSound None on n (brought o w q c)
       go None f = h
-      go (Some t) f = sound_brought None on n w (Some t) q (local_on c) (f t refl) (h.queues.locals c l) (omega arith) (local_sort c) h t refl
+      go (Some t) f = sound_brought None on n w (Some t) q (local_on c) (f t refl) (h.queues.locals c l) (omega arith) (local_sort c) apart (ne_eqb (local_on c) parked (λ x. omega (arith, x))) h t refl
 
   -- a task that is kept
   pub sound_kept : (w : WorldState) (t : ℕ) → IsSound None on n w → IsSound None on n (kept w (Some t))
@@ -438,7 +466,7 @@ module _ (on : List (Option ℕ)) (n : ℕ) where
     once = λ u. omega (arith, h.once u, ap (λ o. one_if (is_this u o)) free', sum_by-set (λ o. one_if (is_this u o)) w.cpus c (Some t) None l', standing_popped w.queues (local_on c) t u e);
     here = rw same h.here;
     goes = subst (λ k. GoesSomewhere (popped w.queues (local_on c)) k w.call.insert) (sym same) (goes_on w.queues (popped w.queues (local_on c)) (length on) w.call.insert (λ x k o. open_without w.queues (front_of w.queues (local_on c)) x k o) h.goes);
-    waiting = waits_on_cpu w (popped w.queues (local_on c)) t _ known refl (left_place w.queues (local_on c) t e) (λ u. standing_popped w.queues (local_on c) t u e) h.waiting;
+    waiting = waits_on_cpu w (popped w.queues (local_on c)) t _ known refl (left_place w.queues (local_on c) t e) (λ u d. popped_other w.queues (local_on c) t u e d) h.waiting;
     at_once = h.at_once;
   }
     where
@@ -453,6 +481,10 @@ module _ (on : List (Option ℕ)) (n : ℕ) where
 
       l' : c < length w.cpus
       l' = rw h.cpus l
+
+-- who was taken out of its queue waits nowhere
+pub removed_place : (s : QueueState) (t : ℕ) → is_some (entry_of s t) ≡ true → t < task_count s → entry_of (removed s t) t ≡ None
+removed_place s t waits-here known = rw waits-here (get_or-set_same {A = Option Entry} s.entries t None None known)
 
 -- ---- waking and sleeping
 
@@ -529,35 +561,34 @@ module _ (on : List (Option ℕ)) (n : ℕ) where
     at_once = h.at_once;
   }
 
-  -- who is runnable and doesn't run waits, and is in no place once it has left its queue
-  pub sound_gone : (w : WorldState) (t : ℕ) → is_runnable w t ≡ true → cpu_of w t ≡ None → IsSound None on n w → IsSound (Some t) on n (gone w t)
-  sound_gone w t runnable off h = record {
+  -- who is runnable and doesn't run is in a queue, leaves it and sleeps
+  pub sound_left : (w : WorldState) (t : ℕ) → t < n → is_runnable w t ≡ true → cpu_of w t ≡ None → IsSound None on n w → IsSound None on n (asleep (gone w t) t)
+  sound_left w t within runnable off h = rw (inside n w t within h.tasks) record {
     cpus = h.cpus;
-    tasks = h.tasks;
+    tasks = length-set w.tasks t _ ∙ h.tasks;
     even = tasks_removed w.queues t ∙ h.even;
-    flags = h.flags;
-    homes = h.homes;
+    flags = length-set w.tree.active t false ∙ h.flags;
+    homes = homes_set w.tasks t _ (length on) (h.homes t) h.homes;
     queues = queues_stay w.queues (removed w.queues t) (length on) (stay_removed w.queues t) h.queues;
     sorted = sorted_removed w.queues t h.sorted;
-    once = λ u. omega (arith, h.once u, standing_removed w.queues t u waiting);
+    once = once_asleep (gone w t) t (rw h.flags within) (λ u. omega (arith, h.once u, standing_removed w.queues t u stands));
     here = h.here;
     goes = goes_on w.queues (removed w.queues t) (length on) w.call.insert (λ x k o. open_removed w.queues t x k o) h.goes;
-    waiting = waits_by_sum (Some t) (gone w t) (λ u. omega (arith, waits_sum None w h.once h.waiting u, standing_removed w.queues t u waiting));
+    waiting = set_since w (removed w.queues t) None None t _ (rw h.tasks within) (rw gone-now refl) (λ u d. ap (λ (o : Option Entry). waits_in (option_map (λ p. p.queue) o) || false) (sym (removed_other w.queues t u d))) h.waiting;
     at_once = h.at_once;
   }
     where
-      waiting : is_some (entry_of w.queues t) ≡ true
-      waiting = go (is_some (entry_of w.queues t)) refl (omega (arith, h.once t, ap one_if runnable, not_running w.cpus t off))
+      stands : is_some (entry_of w.queues t) ≡ true
+      stands = go (is_some (entry_of w.queues t)) refl (omega (arith, h.once t, ap one_if runnable, not_running w.cpus t off))
         where
           go : (b : Bool) → is_some (entry_of w.queues t) ≡ b → one_if (is_some (entry_of w.queues t)) ≡ 1 → is_some (entry_of w.queues t) ≡ true
           go true e one = e
           go false e one = absurd (omega (arith, one, ap one_if e))
 
--- ---- an ejection, and the built-in scheduler
+      gone-now : entry_of (removed w.queues t) t ≡ None
+      gone-now = removed_place w.queues t stands (rw h.even within)
 
--- who was taken out of its queue waits nowhere
-pub removed_place : (s : QueueState) (t : ℕ) → is_some (entry_of s t) ≡ true → t < task_count s → entry_of (removed s t) t ≡ None
-removed_place s t waits-here known = rw waits-here (get_or-set_same {A = Option Entry} s.entries t None None known)
+-- ---- an ejection, and the built-in scheduler
 
 -- who waits is a task that there is
 pub waits_known : (s : QueueState) (t : ℕ) → is_some (entry_of s t) ≡ true → t < task_count s
@@ -582,14 +613,14 @@ module _ (hand : Option ℕ) (on : List (Option ℕ)) (n : ℕ) where
       r : Rank
       r = Vtime (raised w t)
 
-      over : is_some (entry_of w.queues t) ≡ true → IsSound hand on n (put_builtin (gone w t) t)
+      over : waits w t ≡ true → IsSound hand on n (put_builtin (gone w t) t)
       over waits-here =
           let known : t < task_count w.queues = rw h.even within in
           rw (inside n w t within h.tasks)
-          (sound_replaced hand on n w t builtin r _ refl refl waits-here known (removed_place w.queues t waits-here known) (own_open w.queues builtin r h.queues.builtin (omega arith) refl h.sorted)
+          (sound_replaced hand on n w t builtin r _ refl refl waits-here known (removed_place w.queues t (waits_there w.queues t waits-here) known) (own_open w.queues builtin r h.queues.builtin (omega arith) refl h.sorted) refl
           (goes_on w.queues (pushed (removed w.queues t) builtin t r) (length on) w.call.insert (λ x k o. open_own (removed w.queues t) builtin t r x k (omega arith) refl (open_removed w.queues t x k o)) h.goes) h)
 
-      go : (b : Bool) → is_some (entry_of w.queues t) ≡ b → IsSound hand on n (if b then put_builtin (gone w t) t else w)
+      go : (b : Bool) → waits w t ≡ b → IsSound hand on n (if b then put_builtin (gone w t) t else w)
       go true e = over e
       go false e = h
 
@@ -610,5 +641,5 @@ pub sound_put_builtin : (on : List (Option ℕ)) (n : ℕ) (w : WorldState) (t :
 sound_put_builtin on n w t within h =
     let r = Vtime (raised w t) in
     rw (inside n w t within h.tasks)
-    (sound_placed on n w t builtin r _ refl refl within (own_open w.queues builtin r h.queues.builtin (omega arith) refl h.sorted)
+    (sound_placed on n w t builtin r _ refl refl within (own_open w.queues builtin r h.queues.builtin (omega arith) refl h.sorted) refl
     (goes_on w.queues (pushed w.queues builtin t r) (length on) w.call.insert (λ x k o. open_own w.queues builtin t r x k (omega arith) refl o) h.goes) h)

@@ -1,8 +1,11 @@
 -- Who has a wait is in a queue, or is the task at hand: how each small step of a world keeps that.
-use Rattle.std.proofs.Common.{◌≡◌, ℕ, ◌+◌, ◌<◌, ◌≤◌, Bool, true, false, ◌==◌, ◌||◌, ◌⊎◌, inl, inr, List, length, set, get_or, Option, Some, None, is_some, refl, ap, ◌∙◌, arith}
-use Rattle.std.proofs.lemmas.Bool.{cases_eq, cases_lt, eq-eqb, ne_eqb}
+use Rattle.std.proofs.Common.{◌≡◌, ℕ, ◌+◌, ◌<◌, ◌≤◌, Bool, true, false, ◌==◌, ◌||◌, ◌⊎◌, inl, inr, List, length, set, get_or, Option, Some, None, is_some, is_none, option_map, not, if◌then◌else◌, refl, sym, ap, ◌∙◌, arith}
+use Rattle.std.proofs.lemmas.Bool.{cases_eq, cases_lt, eq-eqb, ne_eqb, eqb-true, and_parts}
+use Rattle.std.proofs.lemmas.List.Quantifiers.{position-Some}
 use Rattle.std.proofs.lemmas.List.{get_or-set_same, get_or-set_other, set_past}
-use Rattle.scx_dsq.specs.Queues.{QueueState, entry_of}
+use Rattle.scx_dsq.specs.Queues.{QueueState, task_count, entry_of, queue_of, is_first, front_of}
+use Rattle.scx_dsq.specs.Calls.{push_refusal, next_entry, with_task as with_place, without_task, pushed, removed}
+use Rattle.scx_dsq.specs.declared.entries.Entry.{Entry}
 use Rattle.scx_dsq.specs.Laws.{one_if, standing}
 use Rattle.scx_dsq.specs.declared.entries.Rank.{Rank}
 use Rattle.scx_dsq.specs.declared.entries.Rank.TheVariants.{Fifo, Vtime}
@@ -11,7 +14,8 @@ use Rattle.scx_semantics.specs.declared.host_tables.Field.TheVariants.{Pid, Weig
 use Rattle.scx_tasks.specs.declared.task.Task.{Task}
 use Rattle.scx_tasks.specs.Tasks.{no_task}
 use Rattle.scx_world.specs.declared.call.Insert.{Insert}
-use Rattle.scx_world.specs.World.{WorldState, with_queues, with_task, task_at, waits, is_this, is_runnable}
+use Rattle.scx_world.specs.Ids.{parked}
+use Rattle.scx_world.specs.World.{WorldState, waits_in, with_queues, with_task, task_at, waits, is_this, is_runnable}
 use Rattle.scx_world.specs.Tasks.{given_slice, given_vtime, given, renewed}
 use Rattle.scx_world.specs.Helpers.{stored_in}
 use Rattle.scx_sched.specs.Waits.{HasWaits}
@@ -44,14 +48,92 @@ or_true : (b : Bool) → true ≡ (b || true)
 or_true true = refl
 or_true false = refl
 
+-- ---- who waits, as queues change
+
+-- in how many queues a task waits: in one or none
+abbrev pub waiting : QueueState → ℕ → ℕ
+waiting s u = one_if (waits_in (queue_of s u))
+
+-- who waits stands in a queue
+pub waits_stands : (s : QueueState) (u : ℕ) → waiting s u ≤ standing s u
+waits_stands s u = go (entry_of s u)
+  where
+    go : (o : Option Entry) → one_if (waits_in (option_map (λ p. p.queue) o)) ≤ one_if (is_some o)
+    go None = omega arith
+    go (Some p) = one_le (not (p.queue == parked))
+
+pub waits_there : (s : QueueState) (u : ℕ) → waits_in (queue_of s u) ≡ true → is_some (entry_of s u) ≡ true
+waits_there s u e = go (entry_of s u) e
+  where
+    go : (o : Option Entry) → waits_in (option_map (λ p. p.queue) o) ≡ true → is_some o ≡ true
+    go None x = absurd (cc)
+    go (Some p) x = refl
+
+pub pushed_other : (s : QueueState) (q t u : ℕ) (r : Rank) → (u ≡ t → ⊥) → entry_of (pushed s q t r) u ≡ entry_of s u
+pushed_other s q t u r other = go (is_none (push_refusal s q t r))
+  where
+    go : (b : Bool) → entry_of (if b then with_place s q t r else s) u ≡ entry_of s u
+    go true = get_or-set_other {A = Option Entry} s.entries t u (Some (next_entry s q r)) None other
+    go false = refl
+
+pub pushed_here : (s : QueueState) (q t : ℕ) (r : Rank) → t < task_count s → push_refusal s q t r ≡ None → queue_of (pushed s q t r) t ≡ Some q
+pushed_here s q t r within ok = rw (ok, get_or-set_same {A = Option Entry} s.entries t (Some (next_entry s q r)) None within) refl
+
+pub without_other : (s : QueueState) (t u : ℕ) → (u ≡ t → ⊥) → entry_of (without_task s t) u ≡ entry_of s u
+without_other s t u other = get_or-set_other {A = Option Entry} s.entries t u None None other
+
+pub removed_other : (s : QueueState) (t u : ℕ) → (u ≡ t → ⊥) → entry_of (removed s t) u ≡ entry_of s u
+removed_other s t u other = keeps_if (λ (x : QueueState). entry_of x u ≡ entry_of s u) (is_some (entry_of s t)) (without_task s t) s (without_other s t u other) refl
+
+pub same_waiting : (s s' : QueueState) (u : ℕ) → entry_of s' u ≡ entry_of s u → waiting s' u ≡ waiting s u
+same_waiting s s' u e = ap (λ (o : Option Entry). one_if (waits_in (option_map (λ p. p.queue) o))) e
+
+-- a task that stood nowhere waits where it is put
+pub waiting_pushed : (s : QueueState) (q t u : ℕ) (r : Rank) → t < task_count s → push_refusal s q t r ≡ None → entry_of s t ≡ None → (q == parked) ≡ false → waiting (pushed s q t r) u ≡ waiting s u + one_if (u == t)
+waiting_pushed s q t u r within ok free apart = go (cases_eq u t)
+  where
+    none : waiting s t ≡ 0
+    none = rw free refl
+
+    one : waiting (pushed s q t r) t ≡ 1
+    one = ap (λ (o : Option ℕ). one_if (waits_in o)) (pushed_here s q t r within ok) ∙ ap (λ b. one_if (not b)) apart
+
+    go : (u ≡ t) ⊎ (u ≡ t → ⊥) → waiting (pushed s q t r) u ≡ waiting s u + one_if (u == t)
+    go (inl e) = rw (e, eq-eqb t t refl) (omega (arith, none, one))
+    go (inr d) = omega (arith, same_waiting s (pushed s q t r) u (pushed_other s q t u r d), ap one_if (ne_eqb u t d))
+
+-- one that waited is taken out
+pub waiting_left : (s s' : QueueState) (t u : ℕ) → waiting s t ≡ 1 → entry_of s' t ≡ None → ((k : ℕ) → (k ≡ t → ⊥) → entry_of s' k ≡ entry_of s k) → waiting s' u + one_if (u == t) ≡ waiting s u
+waiting_left s s' t u one gone others = go (cases_eq u t)
+  where
+    none : waiting s' t ≡ 0
+    none = rw gone refl
+
+    go : (u ≡ t) ⊎ (u ≡ t → ⊥) → waiting s' u + one_if (u == t) ≡ waiting s u
+    go (inl e) = rw (e, eq-eqb t t refl) (omega (arith, none, one))
+    go (inr d) = omega (arith, same_waiting s s' u (others u d), ap one_if (ne_eqb u t d))
+
+-- the front of a queue stands there
+pub front_in : (s : QueueState) (q t : ℕ) → front_of s q ≡ Some t → queue_of s t ≡ Some q
+unfolding front_of
+front_in s q t e = go (entry_of s t) (position-Some (is_first s.entries q) s.entries t None e).1
+  where
+    go : (o : Option Entry) → is_first s.entries q o ≡ true → option_map (λ (p : Entry). p.queue) o ≡ Some q
+    go None h = absurd (cc)
+    go (Some p) h = ap Some (eqb-true p.queue q (and_parts (p.queue == q) _ h).0)
+
+-- and waits, if it isn't that of parked tasks
+pub front_waits_here : (s : QueueState) (q t : ℕ) → front_of s q ≡ Some t → (q == parked) ≡ false → waiting s t ≡ 1
+front_waits_here s q t e apart = ap (λ (o : Option ℕ). one_if (waits_in o)) (front_in s q t e) ∙ ap (λ b. one_if (not b)) apart
+
 -- ---- the wait of one task
 
 -- a wait, counted; where it is counted so for each task, each has its wait
-pub waits_sum : (hand : Option ℕ) (w : WorldState) → IsOnce hand w → HasWaits hand w → (u : ℕ) → one_if (is_some (task_at w u).since) ≡ standing w.queues u + one_if (is_this u hand)
-waits_sum hand w once h u = or_sum (is_some (task_at w u).since) (waits w u) (is_this u hand) (omega (arith, once u, one_le (is_runnable w u))) (h u)
+pub waits_sum : (hand : Option ℕ) (w : WorldState) → IsOnce hand w → HasWaits hand w → (u : ℕ) → one_if (is_some (task_at w u).since) ≡ waiting w.queues u + one_if (is_this u hand)
+waits_sum hand w once h u = or_sum (is_some (task_at w u).since) (waits w u) (is_this u hand) (omega (arith, once u, one_le (is_runnable w u), waits_stands w.queues u)) (h u)
 
 -- and back
-pub waits_by_sum : (hand : Option ℕ) (w : WorldState) → ((u : ℕ) → one_if (is_some (task_at w u).since) ≡ standing w.queues u + one_if (is_this u hand)) → HasWaits hand w
+pub waits_by_sum : (hand : Option ℕ) (w : WorldState) → ((u : ℕ) → one_if (is_some (task_at w u).since) ≡ waiting w.queues u + one_if (is_this u hand)) → HasWaits hand w
 waits_by_sum hand w h u = sum_or (is_some (task_at w u).since) (waits w u) (is_this u hand) (h u)
 
 -- ---- another record of a task, whose wait goes on
@@ -89,11 +171,11 @@ renewed_since x = keeps_if (λ (y : Task). y.since ≡ x.since) (x.slice == 0) _
 
 -- ---- a task that begins to wait, or waits no more
 
-set_since : (w : WorldState) (s : QueueState) (hand hand' : Option ℕ) (t : ℕ) (x : Task) → t < length w.tasks → is_some x.since ≡ (is_some (entry_of s t) || is_this t hand')
-    → ((u : ℕ) → (u ≡ t → ⊥) → (waits w u || is_this u hand) ≡ (is_some (entry_of s u) || is_this u hand')) → HasWaits hand w → HasWaits hand' (with_queues (with_task w t x) s)
+pub set_since : (w : WorldState) (s : QueueState) (hand hand' : Option ℕ) (t : ℕ) (x : Task) → t < length w.tasks → is_some x.since ≡ (waits_in (queue_of s t) || is_this t hand')
+    → ((u : ℕ) → (u ≡ t → ⊥) → (waits w u || is_this u hand) ≡ (waits_in (queue_of s u) || is_this u hand')) → HasWaits hand w → HasWaits hand' (with_queues (with_task w t x) s)
 set_since w s hand hand' t x within new others h u = go (cases_eq u t)
   where
-    go : (u ≡ t) ⊎ (u ≡ t → ⊥) → is_some (get_or (set w.tasks t x) u no_task).since ≡ (is_some (entry_of s u) || is_this u hand')
+    go : (u ≡ t) ⊎ (u ≡ t → ⊥) → is_some (get_or (set w.tasks t x) u no_task).since ≡ (waits_in (queue_of s u) || is_this u hand')
     go (inl e) = rw (e, get_or-set_same w.tasks t x no_task within) new
     go (inr d) = rw (get_or-set_other w.tasks t u x no_task d) (h u ∙ others u d)
 
@@ -106,9 +188,9 @@ pub waits_asleep : (w : WorldState) (t : ℕ) (x : Task) → t < length w.tasks 
 waits_asleep w t x within since once h = set_since w w.queues (Some t) None t x within (rw (since, nowhere w t once) refl) (λ u d. rw (ne_eqb u t d) refl) h
 
 -- one that leaves its queue, and runs
-pub waits_on_cpu : (w : WorldState) (s : QueueState) (t : ℕ) (x : Task) → t < length w.tasks → x.since ≡ None → entry_of s t ≡ None → ((u : ℕ) → standing s u + one_if (u == t) ≡ standing w.queues u) → HasWaits None w
+pub waits_on_cpu : (w : WorldState) (s : QueueState) (t : ℕ) (x : Task) → t < length w.tasks → x.since ≡ None → entry_of s t ≡ None → ((u : ℕ) → (u ≡ t → ⊥) → entry_of s u ≡ entry_of w.queues u) → HasWaits None w
     → HasWaits None (with_queues (with_task w t x) s)
 waits_on_cpu w s t x within since gone left h = set_since w s None None t x within (rw (since, gone) refl) others h
   where
-    others : (u : ℕ) → (u ≡ t → ⊥) → (waits w u || false) ≡ (is_some (entry_of s u) || false)
-    others u d = ap (λ b. b || false) (one_same (waits w u) (is_some (entry_of s u)) (omega (arith, left u, ap one_if (ne_eqb u t d))))
+    others : (u : ℕ) → (u ≡ t → ⊥) → (waits w u || false) ≡ (waits_in (queue_of s u) || false)
+    others u d = ap (λ (o : Option Entry). waits_in (option_map (λ p. p.queue) o) || false) (sym (left u d))

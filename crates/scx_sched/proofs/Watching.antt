@@ -5,7 +5,7 @@ use Rattle.scx_weights.specs.Refusals.{weight_fault}
 use Rattle.scx_world.specs.declared.eject.Eject.{Eject}
 use Rattle.scx_world.specs.declared.eject.Eject.TheVariants as cause
 use Rattle.scx_world.specs.World.{WorldState, with_tree, wait}
-use Rattle.scx_world.specs.Tasks.{later}
+use Rattle.scx_world.specs.Tasks.{gone, later}
 use Rattle.scx_world.specs.Waits.{first_overdue}
 use Rattle.scx_machine.specs.declared.events.Event.{Event}
 use Rattle.scx_machine.specs.Steps.{State, with_world}
@@ -35,7 +35,7 @@ both_steps n I J a b = record {
   quiet = λ m hand on w h. record { one = a.quiet m hand on w h.one; two = b.quiet m hand on w h.two };
   cycling = λ m hand on w o h. record { one = a.cycling m hand on w o h.one; two = b.cycling m hand on w o h.two };
   entered = λ m on w t i l x h. record { one = a.entered m on w t i l x h.one; two = b.entered m on w t i l x h.two };
-  filled = λ m on w q c l h. record { one = a.filled m on w q c l h.one; two = b.filled m on w q c l h.two };
+  filled = λ m on w q c apart l h. record { one = a.filled m on w q c apart l h.one; two = b.filled m on w q c apart l h.two };
   stopped = λ m on w c t l within runs h. record { one = a.stopped m on w c t l within runs h.one; two = b.stopped m on w c t l within runs h.two };
   started = λ m on w c t l free front h. record { one = a.started m on w c t l free front h.one; two = b.started m on w c t l free front h.two };
   kept = λ m on w t h. record { one = a.kept m on w t h.one; two = b.kept m on w t h.two };
@@ -57,7 +57,7 @@ watched_events limit n e = record {
   steps = both_steps n (IsFine n e) (λ m hand on w. AreInTime limit n w) (fine_steps n e) (time_steps limit n);
   sound = λ m hand on w h. h.one.sound;
   woken = λ m on w t within resting h. record { one = (fine_events n e).woken m on w t within resting h.one; two = time_woken limit n w t h.two };
-  gone = λ m on w t runnable off h. record { one = (fine_events n e).gone m on w t runnable off h.one; two = h.two };
+  left = λ m on w t within runnable off h. record { one = (fine_events n e).left m on w t within runnable off h.one; two = (time_steps limit n).asleep m on (gone w t) t within h.two };
 }
 
 -- ---- the clock

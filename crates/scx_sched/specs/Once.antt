@@ -9,7 +9,7 @@ use Rattle.scx_dsq.specs.declared.entries.Rank.{Rank}
 use Rattle.scx_dsq.specs.declared.entries.Rank.TheVariants.{Fifo, Vtime}
 use Rattle.scx_dsq.specs.Laws.{one_if, standing}
 use Rattle.scx_world.specs.declared.call.Insert.{Insert}
-use Rattle.scx_world.specs.Ids.{policy_end, global, held, builtin, local_on}
+use Rattle.scx_world.specs.Ids.{policy_end, global, held, builtin, parked, local_on}
 use Rattle.scx_world.specs.World.{WorldState, task_at, is_this, is_runnable}
 use Rattle.scx_world.specs.Tasks.{resolved}
 use Rattle.scx_world.specs.Helpers.{is_dispatch}
@@ -31,6 +31,7 @@ pub record HasQueues (s : QueueState) (cpus : ℕ) : Type 0 where
   pub global : exists s global ≡ true
   pub held : exists s held ≡ true
   pub builtin : exists s builtin ≡ true
+  pub parked : exists s parked ≡ true
   pub locals : (c : ℕ) → c < cpus → exists s (local_on c) ≡ true
 
 -- of the machine's own queues the built-in one is by time, the others in order of arrival
@@ -58,10 +59,10 @@ pub record IsOpen (s : QueueState) (q : ℕ) (r : Rank) : Type 0 where
   pub fits : fits_queue q r ≡ true
   pub alike : IsAlike s q r
 
--- where the callback wants its task to go, for each processor that LOCAL may mean
+-- where the callback wants its task to go, for each processor that LOCAL may mean; to no parked ones
 abbrev pub GoesSomewhere : QueueState → ℕ → Option Insert → Type 0
 GoesSomewhere s cpus None = Unit {0}
-GoesSomewhere s cpus (Some i) = (c : ℕ) → c < cpus → IsOpen s (resolved c i.queue) i.rank
+GoesSomewhere s cpus (Some i) = (c : ℕ) → c < cpus → IsOpen s (resolved c i.queue) i.rank × ((resolved c i.queue == parked) ≡ false)
 
 -- what holds of a world of so many tasks with these on its processors, and that task in no place
 pub record IsSound (hand : Option ℕ) (on : List (Option ℕ)) (n : ℕ) (w : WorldState) : Type 0 where

@@ -6,6 +6,6 @@ use Rattle.scx_machine.specs.Steps.{State}
 abbrev pub IsTimely : State → Type 0
 IsTimely s = s.world.ejected ≡ None → (t : ℕ) → wait s.world t ≤ s.policy.timeout_ms
 
--- who has a wait is in a queue, or is the task at hand
+-- who has a wait is in a queue and not parked, or is the task at hand
 abbrev pub HasWaits : Option ℕ → WorldState → Type 0
 HasWaits hand w = (t : ℕ) → is_some (task_at w t).since ≡ (waits w t || is_this t hand)

@@ -4,7 +4,7 @@ use Rattle.scx_dsq.specs.Queues.{QueueState}
 use Rattle.scx_dsq.specs.Calls.{created, empty}
 use Rattle.scx_weights.specs.Hierarchy.{Hierarchy}
 use Rattle.scx_tasks.specs.Tasks.{new_task}
-use Rattle.scx_world.specs.Ids.{global, held, builtin, local_on}
+use Rattle.scx_world.specs.Ids.{global, held, builtin, parked, local_on}
 use Rattle.scx_world.specs.World.{WorldState, no_call}
 
 -- a local queue for each processor
@@ -14,7 +14,7 @@ with_locals (suc n) s = created (with_locals n s) (local_on n)
 
 -- there is room for 16 queues of the policy
 abbrev pub own_queues : ℕ → ℕ → QueueState
-own_queues cpus tasks = created (created (created (empty (19 + cpus) tasks) global) held) builtin
+own_queues cpus tasks = created (created (created (created (empty (20 + cpus) tasks) global) held) builtin) parked
 
 abbrev pub first_queues : ℕ → ℕ → QueueState
 first_queues cpus tasks = with_locals cpus (own_queues cpus tasks)

@@ -19,6 +19,10 @@ held = 0x8000_0000_0000_0003
 abbrev pub builtin : ℕ
 builtin = 0x8000_0000_0000_0004
 
+-- the machine's own: of runnable tasks that may not run, as their groups have used what they may
+abbrev pub parked : ℕ
+parked = 0x8000_0000_0000_0005
+
 -- the local queue of a processor
 abbrev pub local_on : ℕ → ℕ
 local_on c = 0xc000_0000_0000_0000 + c

@@ -5,11 +5,12 @@ use Rattle.scx_dsq.specs.Calls.{pushed, popped, removed}
 use Rattle.scx_dsq.specs.declared.entries.Rank.{Rank}
 use Rattle.scx_dsq.specs.declared.entries.Rank.TheVariants.{Fifo, Vtime}
 use Rattle.scx_weights.specs.Hierarchy as tree
+use Rattle.scx_weights.specs.Limits as limits
 use Rattle.scx_weights.specs.Refusals.{weight_fault}
 use Rattle.scx_world.specs.declared.call.Insert.{Insert}
 use Rattle.scx_tasks.specs.declared.task.Task.{Task}
 use Rattle.scx_tasks.specs.Tasks.{default_slice}
-use Rattle.scx_world.specs.Ids.{global, local, held, local_on}
+use Rattle.scx_world.specs.Ids.{global, local, held, parked, local_on}
 use Rattle.scx_world.specs.World.{WorldState, with_clock, with_queues, with_tree, task_at, with_task, with_cpu}
 
 -- ---- one field of a task changed
@@ -120,6 +121,20 @@ abbrev pub kept : WorldState → Option ℕ → WorldState
 kept w None = w
 kept w (Some t) = with_task w t (renewed (task_at w t))
 
+-- ---- parking
+
+-- the task at hand may not run, and is parked: it waits no more
+abbrev pub put_parked : WorldState → ℕ → WorldState
+put_parked w t = if nat_lt t (length w.tasks) then with_queues (with_task w t (with_since (task_at w t) None)) (pushed w.queues parked t Fifo) else w
+
+-- the front of a queue leaves it
+abbrev pub taken : WorldState → ℕ → WorldState
+taken w q = with_queues w (popped w.queues q)
+
+-- the task is parked no more, and waits from now on
+abbrev pub let_go : WorldState → ℕ → WorldState
+let_go w t = gone (with_task w t (with_since (task_at w t) (Some w.clock))) t
+
 -- ---- time and weights
 
 abbrev pub tick_ns : ℕ
@@ -137,6 +152,14 @@ ticked w t = with_task w t (ran_a_tick (task_at w t))
 
 abbrev pub later : WorldState → WorldState
 later w = with_clock w (w.clock + 1)
+
+-- the task's groups have used a millisecond more
+abbrev pub used_ms : WorldState → ℕ → WorldState
+used_ms w t = with_tree w (limits.with_use w.tree t)
+
+-- periods of groups begin at this clock
+abbrev pub begun_periods : WorldState → WorldState
+begun_periods w = with_tree w (limits.with_turn w.tree w.clock)
 
 -- a weight that can't be set changes nothing
 abbrev pub reweighed : WorldState → ℕ → ℕ → WorldState

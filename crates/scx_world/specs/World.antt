@@ -1,9 +1,10 @@
 -- The world that a policy's programs see and change, and its parts.
-use Rattle.std.specs.Prelude.{ℕ, zero, suc, Bool, false, ◌==◌, ◌&&◌, not, nat_lt, List, [], ◌∷◌, ◌++◌, length, if◌then◌else◌, Option, Some, None, is_none, is_some, slice_index_or, slice_set, position}
-use Rattle.scx_dsq.specs.Queues.{QueueState, entry_of}
+use Rattle.std.specs.Prelude.{ℕ, zero, suc, Bool, false, ◌==◌, ◌&&◌, not, nat_lt, List, [], ◌∷◌, ◌++◌, length, if◌then◌else◌, Option, Some, None, is_none, slice_index_or, slice_set, position}
+use Rattle.scx_dsq.specs.Queues.{QueueState, queue_of}
 use Rattle.scx_weights.specs.Hierarchy.{Hierarchy, is_active_task}
 use Rattle.scx_semantics.specs.declared.callbacks.Callback.{Callback}
 use Rattle.scx_semantics.specs.declared.callbacks.Callback.TheVariants as callback
+use Rattle.scx_world.specs.Ids.{parked}
 use Rattle.scx_world.specs.declared.notes.Note.{Note}
 use Rattle.scx_world.specs.declared.notes.What.{What}
 use Rattle.scx_tasks.specs.declared.task.Task.{Task}
@@ -68,12 +69,17 @@ with_task w t x = with_tasks w (slice_set w.tasks t x)
 abbrev pub is_runnable : WorldState → ℕ → Bool
 is_runnable w t = is_active_task w.tree t
 
+-- in the queue of parked tasks nobody waits
+abbrev pub waits_in : Option ℕ → Bool
+waits_in None = false
+waits_in (Some q) = not (q == parked)
+
 -- the task waits in a queue
 abbrev pub waits : WorldState → ℕ → Bool
-waits w t = is_some (entry_of w.queues t)
+waits w t = waits_in (queue_of w.queues t)
 
--- How long a task has waited: the clock less the clock at which it woke or was stopped last. A task that
--- runs or sleeps doesn't wait.
+-- How long a task has waited: the clock less the clock at which it woke or was stopped last, or was let go
+-- since. A task that runs, sleeps or is parked doesn't wait.
 abbrev pub wait : WorldState → ℕ → ℕ
 wait w t = time_since w.clock (task_at w t).since
 

@@ -15,6 +15,10 @@ pub const HELD: u64 = 0x8000_0000_0000_0003;
 /// The machine's own queue of the built-in scheduler. A policy can't name it.
 pub const BUILTIN: u64 = 0x8000_0000_0000_0004;
 
+/// The machine's own queue of the tasks that are throttled: they are runnable, may not run, and don't
+/// wait. A policy can't name it.
+pub const PARKED: u64 = 0x8000_0000_0000_0005;
+
 /// The local queue of processor 0; those of the others follow.
 pub const LOCAL_ON: u64 = 0xc000_0000_0000_0000;
 

@@ -19,7 +19,7 @@ mod world;
 pub use call::{Call, Insert};
 pub use eject::Eject;
 pub use faults::Fault;
-pub use ids::{BUILTIN, GLOBAL, HELD, LOCAL, LOCAL_ON, POLICY_END};
+pub use ids::{BUILTIN, GLOBAL, HELD, LOCAL, LOCAL_ON, PARKED, POLICY_END};
 pub use notes::{Note, What};
 pub use scx_dsq::Rank;
 pub use scx_tasks::{DEFAULT_SLICE, Task};

@@ -1,12 +1,13 @@
-ghost use Rattle.std.specs.Prelude.{◌≡◌, ◌+◌, ◌^◌, ◌<◌, ◌≤◌, length};
+ghost use Rattle.std.specs.Prelude.{◌≡◌, ℕ, ◌+◌, ◌^◌, ◌<◌, ◌≤◌, length, IfSome};
 ghost use Rattle.scx_dsq.specs.Queues.{front_of};
+ghost use Rattle.scx_weights.specs.Limits.{usage_of};
 ghost use Rattle.scx_world.specs.Ids.{local_on};
 ghost use Rattle.scx_world.specs.World.{task_at};
-ghost use Rattle.scx_world.specs.Tasks.{woken, asleep, gone, given, entered, local_len, fill_front, filled, stopped, started, kept, ticked, later, reweighed};
+ghost use Rattle.scx_world.specs.Tasks.{woken, asleep, gone, given, entered, local_len, fill_front, filled, stopped, started, kept, put_parked, taken, let_go, ticked, later, used_ms, begun_periods, reweighed};
 
 use crate::call::Insert;
 use crate::counting;
-use crate::ids::LOCAL_ON;
+use crate::ids::{LOCAL_ON, PARKED};
 use crate::world::World;
 use scx_dsq::Rank;
 use scx_tasks::{DEFAULT_SLICE, Task};
@@ -123,6 +124,51 @@ impl World {
         }
     }
 
+    /// The task at hand is parked, and waits no more.
+    pub fn park(&mut self, task: u16)
+        requires few { self.old.queues.pushes < 2 ^ 63 }
+        ensures world { self.new ≡ put_parked self.old task }
+        ensures few { self.new.queues.pushes ≤ self.old.queues.pushes + 1 }
+    {
+        if (task as usize) < self.tasks.len() {
+            let mut facts = self.task(task);
+            facts.since = None;
+            self.set_task(task, facts);
+            let _refused = self.queues.push_fifo(PARKED, u32::from(task));
+        }
+    }
+
+    /// The front of the queue leaves it, and is answered.
+    pub fn take(&mut self, queue: u64) -> Option<u16>
+        ensures answer { result ≡ front_of self.old.queues queue }
+        ensures known { IfSome result (λ t. t < length self.old.tasks) }
+        ensures world { self.new ≡ taken self.old queue }
+        ensures few { self.new.queues.pushes ≡ self.old.queues.pushes }
+    {
+        let task = counting::pop(&mut self.queues, queue)?;
+        Some(task as u16)
+    }
+
+    /// The front of the queue.
+    pub fn front(&self, queue: u64) -> Option<u16>
+        ensures answer { result ≡ front_of self.now.queues queue }
+        ensures known { IfSome result (λ t. t < length self.now.tasks) }
+    {
+        let task = self.queues.front(queue)?;
+        Some(task as u16)
+    }
+
+    /// The task is parked no more, and waits from now on.
+    pub fn let_go(&mut self, task: u16)
+        ensures world { self.new ≡ let_go self.old task }
+        ensures few { self.new.queues.pushes ≡ self.old.queues.pushes }
+    {
+        let mut facts = self.task(task);
+        facts.since = Some(self.clock);
+        self.set_task(task, facts);
+        self.leave_queue(task);
+    }
+
     /// The task has run for a millisecond.
     pub fn run_tick(&mut self, task: u16)
         requires { (task_at self.old task).run_ns < 2 ^ 63 }
@@ -135,6 +181,24 @@ impl World {
         }
         facts.run_ns += 1_000_000;
         self.set_task(task, facts);
+    }
+
+    /// The task's groups have used a millisecond more.
+    pub fn use_ms(&mut self, task: u16)
+        requires known { task < length self.old.tasks }
+        requires room { (g : ℕ) → usage_of self.old.tree g < 2 ^ 63 }
+        ensures world { self.new ≡ used_ms self.old task }
+        ensures few { self.new.queues.pushes ≡ self.old.queues.pushes }
+    {
+        self.tree.charge(u32::from(task));
+    }
+
+    /// Periods of groups begin at this clock.
+    pub fn begin_periods(&mut self)
+        ensures world { self.new ≡ begun_periods self.old }
+        ensures few { self.new.queues.pushes ≡ self.old.queues.pushes }
+    {
+        self.tree.turn(self.clock);
     }
 
     /// The clock grows by a millisecond.

@@ -6,12 +6,13 @@ ghost use Rattle.scx_world.specs.First.{with_locals, first_queues, first_world};
 ghost use Rattle.scx_world.specs.Helpers.{pointed};
 ghost use Rattle.scx_world.specs.Kept.{AreTaken};
 ghost use Rattle.scx_world.specs.Waits.{first_overdue};
+ghost use Rattle.scx_weights.specs.Limits.{is_throttled};
 ghost use Rattle.scx_world.specs.World.{task_at, wait, with_task, is_runnable, waits, running, with_cpu, with_cycling, is_this, cpu_of, is_idle, first_idle, default_choice, begun, quiet, said};
 
 use crate::call::{Call, Insert};
 use crate::eject::Eject;
 use crate::faults::Fault;
-use crate::ids::{BUILTIN, GLOBAL, HELD, LOCAL_ON};
+use crate::ids::{BUILTIN, GLOBAL, HELD, LOCAL_ON, PARKED};
 use crate::notes::{Note, What};
 use scx_dsq::Queues;
 use scx_isa::{Callback, TaskId};
@@ -138,7 +139,7 @@ impl World {
         self.tree.is_active(u32::from(task))
     }
 
-    /// The queue in which the task waits.
+    /// The queue in which the task waits or is parked.
     pub fn queue_of(&self, task: u16) -> Option<u64>
         ensures { result ≡ queue_of self.now.queues task }
     {
@@ -149,10 +150,14 @@ impl World {
         }
     }
 
+    /// Whether the task waits in a queue, and isn't parked.
     pub fn waits(&self, task: u16) -> bool
         ensures { result ≡ waits self.now task }
     {
-        self.queue_of(task).is_some()
+        match self.queue_of(task) {
+            Some(queue) => queue != PARKED,
+            None => false,
+        }
     }
 
     /// A task as a program is given it.
@@ -266,6 +271,14 @@ impl World {
 
     // ---- weights
 
+    /// Whether the task's group has used all of its quota, or one that this lies below.
+    pub fn is_throttled(&self, task: u16) -> bool
+        requires { task < length self.now.tasks }
+        ensures { result ≡ is_throttled self.now.tree task }
+    {
+        self.tree.throttled(u32::from(task))
+    }
+
     /// How many groups there are.
     pub fn groups(&self) -> u32
         ensures { result ≡ length self.now.tree.groups }
@@ -351,10 +364,11 @@ fn own_queues(alloc: Global, cpus: usize, tasks: usize) -> Result<Queues, AllocE
     ensures tasks { IfOk result (λ queues. task_count queues.state ≡ tasks) }
     ensures few { IfOk result (λ queues. queues.state.pushes ≡ 0) }
 {
-    let mut queues = Queues::new(alloc, 19 + cpus, tasks)?;
+    let mut queues = Queues::new(alloc, 20 + cpus, tasks)?;
     let _global = queues.create(GLOBAL);
     let _held = queues.create(HELD);
     let _builtin = queues.create(BUILTIN);
+    let _parked = queues.create(PARKED);
     add_locals(&mut queues, cpus);
     Ok(queues)
 }
