@@ -1,5 +1,5 @@
 -- No event of a block is refused.
-use Rattle.std.proofs.Common.{◌≡◌, ℕ, zero, suc, ◌+◌, ◌<◌, ◌≤◌, Bool, true, false, nat_lt, if◌then◌else◌, List, [], ◌∷◌, ◌++◌, length, None, is_none, refl, ◌∙◌, ap, subst, arith}
+use Rattle.std.proofs.Common.{◌≡◌, ℕ, zero, suc, ◌+◌, ◌<◌, ◌≤◌, Bool, true, false, nat_lt, if◌then◌else◌, List, [], ◌∷◌, ◌++◌, length, get_or, None, is_none, refl, ◌∙◌, ap, subst, arith}
 use Rattle.std.proofs.lemmas.Bool.{lt-ltb, ne_eqb}
 use Rattle.std.proofs.lemmas.Bool.Decides.{nat_tests}
 use Rattle.std.proofs.lemmas.List.{length-set}
@@ -13,7 +13,7 @@ use Rattle.scx_machine.specs.Events as machine
 use Rattle.scx_sched.specs.Sim.{SimState, max_events, refusal, stepped, stepped_if}
 use Rattle.scx_driver.specs.Runs.{stepped_all, AreAccepted}
 use Rattle.scx_driver.specs.Blocks.{events_below}
-use Rattle.scx_driver.proofs.Alike.{IsLike}
+use Rattle.scx_driver.proofs.Alike.{IsLike, like_groups, like_active}
 use Rattle.scx_driver.proofs.Happening.{like_clock, like_tick, like_wake, like_sleep, others_stay}
 
 -- ---- lists, one behind another
@@ -57,12 +57,12 @@ goes v s l e = rec ok
     }
 
 module _ (n c g e : ℕ) where
-  -- that tree, or one with as many groups
+  -- a tree with as many groups
   is_of : (h : Hierarchy) (v : Event) (s : SimState) → length h.groups ≡ g → Goes v s → IsLike h n c (machine.happened s.state v).state.world → s.events ≤ e → IsOf n c g (e + 1) (stepped s v)
   is_of h v s groups go i l = record {
     tasks = ap (λ x. length x.world.tasks) go.state ∙ i.1;
     cpus = ap (λ x. length x.world.cpus) go.state ∙ i.2;
-    groups = ap (λ x. length x.world.tree.groups) go.state ∙ ap (λ (t : Hierarchy). length t.groups) i.0 ∙ groups;
+    groups = ap (λ x. length x.world.tree.groups) go.state ∙ ap (λ gs. length gs) (like_groups h n c (machine.happened s.state v).state.world i) ∙ groups;
     events = omega (arith, go.events, l);
   }
 
@@ -72,7 +72,7 @@ module _ (n c g e : ℕ) where
       (refusal s v ≡ None) × IsOf n c g (e + 1) (stepped s v) × ((u : ℕ) → P u → is_runnable (stepped s v).state.world u ≡ is_runnable s.state.world u)
 
   like_now : (s : SimState) → IsOf n c g e s → IsLike s.state.world.tree n c s.state.world
-  like_now s h = (refl, h.tasks, h.cpus)
+  like_now s h = ((refl, refl, refl), h.tasks, h.cpus)
 
   -- a task that sleeps may wake
   pub wake_leads : (s : SimState) (t : ℕ) → e < max_events → t < n → is_runnable s.state.world t ≡ false → IsOf n c g e s → Leads (Wake t) s (λ u. u ≡ t → ⊥)
@@ -85,7 +85,7 @@ module _ (n c g e : ℕ) where
       i = like_wake s.state.world.tree n c s.state t (like_now s h)
 
       same : (u : ℕ) → (u ≡ t → ⊥) → is_runnable (stepped s (Wake t)).state.world u ≡ is_runnable s.state.world u
-      same u d = ap (λ y. is_runnable y.world u) x.state ∙ ap (λ y. is_active_task y u) i.0 ∙ others_stay s.state.world.tree t u true d
+      same u d = ap (λ y. is_runnable y.world u) x.state ∙ ap (λ xs. get_or xs u false) (like_active (tree.with_task s.state.world.tree t true) n c (machine.happened s.state (Wake t)).state.world i) ∙ others_stay s.state.world.tree t u true d
 
   -- a task that is runnable may sleep
   pub sleep_leads : (s : SimState) (t : ℕ) → e < max_events → t < n → is_runnable s.state.world t ≡ true → IsOf n c g e s → Leads (Sleep t) s (λ u. u ≡ t → ⊥)
@@ -98,7 +98,7 @@ module _ (n c g e : ℕ) where
       i = like_sleep s.state.world.tree n c s.state t l (like_now s h)
 
       same : (u : ℕ) → (u ≡ t → ⊥) → is_runnable (stepped s (Sleep t)).state.world u ≡ is_runnable s.state.world u
-      same u d = ap (λ y. is_runnable y.world u) x.state ∙ ap (λ y. is_active_task y u) i.0 ∙ others_stay s.state.world.tree t u false d
+      same u d = ap (λ y. is_runnable y.world u) x.state ∙ ap (λ xs. get_or xs u false) (like_active (tree.with_task s.state.world.tree t false) n c (machine.happened s.state (Sleep t)).state.world i) ∙ others_stay s.state.world.tree t u false d
 
   -- a processor may tick
   pub tick_leads : (s : SimState) (d : ℕ) → e < max_events → d < c → IsOf n c g e s → (refusal s (Tick d) ≡ None) × IsOf n c g (e + 1) (stepped s (Tick d))
@@ -127,8 +127,8 @@ module _ (n c g e : ℕ) where
       x = goes (SetWeight k y) s (omega (arith, few, h.events)) (rw (lt-ltb k (length s.state.world.tree.groups) (omega (arith, l, h.groups)), right) refl)
 
       go : (b : Bool) → is_none (weight_fault s.state.world.tree k y) ≡ b → IsOf n c g (e + 1) (stepped s (SetWeight k y))
-      go true w = is_of (with_weight s.state.world.tree k y) (SetWeight k y) s (length-set s.state.world.tree.groups k _ ∙ h.groups) x (rw w (refl, h.tasks, h.cpus)) h.events
-      go false w = is_of s.state.world.tree (SetWeight k y) s h.groups x (rw w (refl, h.tasks, h.cpus)) h.events
+      go true w = is_of (with_weight s.state.world.tree k y) (SetWeight k y) s (length-set s.state.world.tree.groups k _ ∙ h.groups) x (rw w ((refl, refl, refl), h.tasks, h.cpus)) h.events
+      go false w = is_of s.state.world.tree (SetWeight k y) s h.groups x (rw w ((refl, refl, refl), h.tasks, h.cpus)) h.events
 
 -- ---- the events of numbers that pass a test
 

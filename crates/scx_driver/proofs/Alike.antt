@@ -1,4 +1,4 @@
--- A scheduling cycle leaves the tree of groups and tasks, and how many tasks and processors there are.
+-- A scheduling cycle leaves the groups and tasks, who is active, and how many tasks and processors there are.
 use Rattle.std.proofs.Common.{◌≡◌, ℕ, zero, suc, Bool, true, false, nat_lt, cond, List, length, map, Option, Some, None, Result, Ok, Err, ℤ, refl, ◌∙◌, subst}
 use Rattle.std.proofs.lemmas.List.{length-set, length-replicate}
 use Rattle.scx_dsq.specs.Queues.{front_of}
@@ -43,9 +43,19 @@ pub keeps_if : {A : Type 0} (P : A → Type 0) (b : Bool) (x y : A) → P x → 
 keeps_if P true x y p q = p
 keeps_if P false x y p q = q
 
--- that tree, and so many tasks and processors
+-- the same groups and tasks, of which the same are active
+abbrev pub IsTreeLike : Hierarchy → Hierarchy → Type 0
+IsTreeLike h t = (t.groups ≡ h.groups) × (t.homes ≡ h.homes) × (t.active ≡ h.active)
+
+-- a tree like that one, and so many tasks and processors
 abbrev pub IsLike : Hierarchy → ℕ → ℕ → WorldState → Type 0
-IsLike tree n c w = (w.tree ≡ tree) × (length w.tasks ≡ n) × (length w.cpus ≡ c)
+IsLike tree n c w = IsTreeLike tree w.tree × (length w.tasks ≡ n) × (length w.cpus ≡ c)
+
+pub like_groups : (h : Hierarchy) (n c : ℕ) (w : WorldState) → IsLike h n c w → w.tree.groups ≡ h.groups
+like_groups h n c w i = let t : IsTreeLike h w.tree = i.0 in t.0
+
+pub like_active : (h : Hierarchy) (n c : ℕ) (w : WorldState) → IsLike h n c w → w.tree.active ≡ h.active
+like_active h n c w i = let t : IsTreeLike h w.tree = i.0 in t.2
 
 module _ (h : Hierarchy) (n c : ℕ) where
   -- ---- small steps
@@ -304,8 +314,8 @@ module _ (h : Hierarchy) (n c : ℕ) where
       go None x e = absurd (cc)
       go (Some u) x e = subst (λ (y : State). IsLike h n c y.world) (same_ok _ _ e) (like_enabled (length s.world.tasks) s u x (f s refl))
 
--- the first world has the tree, and a task and a processor for each
+-- the first world has such a tree, and a task and a processor for each
 pub like_first : (p : PolicyState) (h : Hierarchy) (cpus : ℕ) (t : State) → started p h cpus ≡ Ok t → IsLike h (length h.homes) cpus t.world
 like_first p h cpus t e =
     like_all h (length h.homes) cpus (initialized (blank p h cpus)) t e
-    (λ s x. like_initialized h (length h.homes) cpus (blank p h cpus) s x (refl, length-replicate (length h.homes) _, length-replicate {A = Option ℕ} cpus None))
+    (λ s x. like_initialized h (length h.homes) cpus (blank p h cpus) s x ((refl, refl, refl), length-replicate (length h.homes) _, length-replicate {A = Option ℕ} cpus None))

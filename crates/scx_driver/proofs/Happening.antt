@@ -1,5 +1,5 @@
--- What an event leaves of the tree, and of how many tasks and processors there are.
-use Rattle.std.proofs.Common.{◌≡◌, ℕ, ◌<◌, Bool, true, false, ◌==◌, length, Option, Some, None, ◌∙◌, ap, arith}
+-- What an event leaves of groups and tasks, and of how many tasks and processors there are.
+use Rattle.std.proofs.Common.{◌≡◌, ℕ, ◌<◌, Bool, true, false, ◌==◌, length, set, Option, Some, None, ◌∙◌, ap, arith}
 use Rattle.std.proofs.lemmas.Bool.{lt-ltb}
 use Rattle.std.proofs.lemmas.List.{length-set, get_or-set_other}
 use Rattle.scx_semantics.specs.declared.callbacks.Callback.TheVariants as callback
@@ -11,7 +11,11 @@ use Rattle.scx_machine.specs.Steps.{State, Stepped, with_world, stays, joined}
 use Rattle.scx_machine.specs.Callbacks.{acting, call_back, answered_by, task_cpu_and_0}
 use Rattle.scx_machine.specs.Cycle.{stopping, cycle}
 use Rattle.scx_machine.specs.Events.{target, settled, settle, select, wake, sleep_from_cpu, sleep_from, sleep, count_down, tick_of, tick, overdue, stalled, clock}
-use Rattle.scx_driver.proofs.Alike.{keeps_if, IsLike, like_eject, like_call_back, like_stopping, like_settled, like_cycle}
+use Rattle.scx_driver.proofs.Alike.{keeps_if, IsTreeLike, IsLike, like_eject, like_call_back, like_stopping, like_settled, like_cycle}
+
+-- a task is active, or not, in both
+tree_set : (h t : Hierarchy) (k : ℕ) (on : Bool) → IsTreeLike h t → IsTreeLike (tree.with_task h k on) (tree.with_task t k on)
+tree_set h t k on i = (i.0, i.1, ap (λ xs. set xs k on) i.2)
 
 like_settle : (h : Hierarchy) (n c : ℕ) (s : State) (t d : ℕ) → IsLike h n c s.world → IsLike h n c (settle s t d).state.world
 unfolding settle
@@ -50,11 +54,11 @@ module _ (h : Hierarchy) (n c : ℕ) where
   unfolding wake
   like_wake s t i =
       let w = with_world s (woken s.world t) in
-      like_select (tree.with_task h t true) n c w t (ap (λ x. tree.with_task x t true) i.0, length-set s.world.tasks t _ ∙ i.1, i.2)
+      like_select (tree.with_task h t true) n c w t (tree_set h s.world.tree t true i.0, length-set s.world.tasks t _ ∙ i.1, i.2)
 
   -- a task that sleeps isn't
   like_asleep : (w : WorldState) (t : ℕ) → t < n → IsLike h n c w → IsLike (tree.with_task h t false) n c (asleep w t)
-  like_asleep w t l i = rw (lt-ltb t (length w.tasks) (omega (arith, l, i.1))) (ap (λ x. tree.with_task x t false) i.0, length-set w.tasks t _ ∙ i.1, i.2)
+  like_asleep w t l i = rw (lt-ltb t (length w.tasks) (omega (arith, l, i.1))) (tree_set h w.tree t false i.0, length-set w.tasks t _ ∙ i.1, i.2)
 
   like_sleep_from_cpu : (s : State) (t d : ℕ) → t < n → IsLike h n c s.world → IsLike (tree.with_task h t false) n c (sleep_from_cpu s t d).state.world
   unfolding sleep_from_cpu

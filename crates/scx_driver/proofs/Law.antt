@@ -12,7 +12,7 @@ use Rattle.scx_workloads.specs.Workload.{WorkloadState, IsWorkload, IsChange, ch
 use Rattle.scx_driver.specs.Runs.{stepped_all, AreAccepted}
 use Rattle.scx_driver.specs.Blocks.{Plan, Memory, Block, Changes, Wakes, Ticks, Sleeps, Clock, events_below, set_below, is_at, is_due, has_run_enough, block_events, remembered}
 use Rattle.scx_driver.specs.Events.{blocks_from, events_from, plan_of, first_memory, workload_events}
-use Rattle.scx_driver.proofs.Alike.{IsLike, like_first}
+use Rattle.scx_driver.proofs.Alike.{IsLike, like_groups, like_first}
 use Rattle.scx_driver.proofs.Accepting.{accepted_behind, IsOf, wake_leads, sleep_leads, tick_leads, clock_leads, weight_leads, Led, led}
 
 -- ---- how many events a block has at most
@@ -162,4 +162,4 @@ none_is_refused w p s whole first =
     like = like_first p (idle w.groups w.homes) w.cpus s.state first.0
 
     now : IsOf (length w.homes) w.cpus (length w.groups) s.events s
-    now = record { tasks = like.1; cpus = like.2; groups = ap (λ t. length t.groups) like.0; events = omega arith }
+    now = record { tasks = like.1; cpus = like.2; groups = ap (λ gs. length gs) (like_groups (idle w.groups w.homes) (length w.homes) w.cpus s.state.world like); events = omega arith }
