@@ -1,6 +1,8 @@
-//! Tests of the libraries that a host is made of: dispatch queues, the weight tree and array maps.
+//! Tests of the libraries that a host is made of: dispatch queues, the tree of weights and limits, and array maps.
 #![tactic(auto)]
 
+#[cfg(test)]
+mod limits;
 #[cfg(test)]
 mod maps;
 #[cfg(test)]

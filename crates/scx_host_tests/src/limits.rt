@@ -1,0 +1,257 @@
+ghost use Rattle.std.specs.Prelude.{◌≡◌, ℕ, ◌<◌, ◌≤◌, length, IfOk};
+ghost use Rattle.scx_weights.specs.Limits.{usage_of};
+
+use crate::same::expect_same;
+use scx_weights::{Group, Tree, TreeError};
+use std::alloc::{AllocError, Global};
+use std::marker::Model;
+use std::process::Abort;
+use std::test::Fail;
+
+/// A tree, and how many milliseconds it has counted since it was made.
+#[derive(Drop)]
+struct Counted {
+    tree: Tree,
+    ms: u64,
+}
+
+impl Model for Counted {
+    ghost use Rattle.std.specs.Prelude.{ℕ, ◌≤◌};
+    ghost use Rattle.scx_weights.specs.Hierarchy.{Hierarchy};
+    ghost use Rattle.scx_weights.specs.Limits.{usage_of};
+
+    ghost Value = { Hierarchy };
+
+    ghost view = { λ c. c.tree };
+
+    // No group has used more than all of them.
+    ghost invariant = { λ c. (g : ℕ) → usage_of c.tree g ≤ c.ms };
+}
+
+impl Counted {
+    #[tactic(auto, using(crate::proofs::Usages::most_idle))]
+    fn new(alloc: Global, groups: &[Group], tasks: &[u32]) -> Result<Counted, TreeError> {
+        let tree = Tree::new(alloc, groups, tasks)?;
+        Ok(Counted { tree, ms: 0 })
+    }
+
+    fn charge(&mut self, rt: &impl Abort, task: u32) {
+        assert!(rt; task < self.tree.tasks());
+        assert!(rt; self.ms < 1 << 62);
+        self.tree.charge(task);
+        self.ms += 1;
+    }
+
+    #[tactic(auto, using(crate::proofs::Usages::most_turned))]
+    fn turn(&mut self, clock: u64) {
+        self.tree.turn(clock);
+    }
+
+    fn usage(&self, rt: &impl Abort, group: u32) -> u64 {
+        assert!(rt; group < self.tree.groups());
+        self.tree.usage(group)
+    }
+
+    fn throttled(&self, rt: &impl Abort, task: u32) -> bool {
+        assert!(rt; task < self.tree.tasks());
+        self.tree.throttled(task)
+    }
+}
+
+/// What happens to a tree.
+#[derive(Clone, Copy, Debug, PartialEq, Eq)]
+enum Use {
+    /// That task ran for a millisecond.
+    Ran(u32),
+    /// The clock shows so many.
+    Turned(u64),
+}
+
+use Use::{Ran, Turned};
+
+/// What happens, then the usage of each group and whether each task is throttled.
+type Row = (Use, &'static [u64], &'static [bool]);
+
+fn happen(rt: &impl Abort, tree: &mut Counted, what: Use) {
+    match what {
+        Ran(task) => tree.charge(rt, task),
+        Turned(clock) => tree.turn(clock),
+    }
+}
+
+fn check_usages(rt: &impl Abort, tree: &Counted, usages: &[u64], case: (usize, Use)) {
+    assert!(rt; tree.tree.groups() as usize == usages.len());
+    for (group, usage) in usages.iter().enumerate() {
+        expect_same(rt, tree.usage(rt, group as u32), *usage, case);
+    }
+}
+
+fn check_throttled(rt: &impl Abort, tree: &Counted, throttled: &[bool], case: (usize, Use)) {
+    assert!(rt; tree.tree.tasks() as usize == throttled.len());
+    for (task, is_throttled) in throttled.iter().enumerate() {
+        expect_same(rt, tree.throttled(rt, task as u32), *is_throttled, case);
+    }
+}
+
+fn expect_rows(rt: &impl Abort, tree: &mut Counted, rows: &[Row]) {
+    for (number, &(what, usages, throttled)) in rows.iter().enumerate() {
+        happen(rt, tree, what);
+        check_usages(rt, tree, usages, (number, what));
+        check_throttled(rt, tree, throttled, (number, what));
+    }
+}
+
+/// A group's parent, quota and period.
+type Limit = (Option<u32>, Option<u32>, u32);
+
+fn groups_of(alloc: Global, limits: &[Limit]) -> Result<Vec<Group>, AllocError> {
+    let mut groups = Vec::new(alloc);
+    for &(parent, quota_ms, period_ms) in limits {
+        groups.push(Group {
+            parent,
+            weight: 100,
+            quota_ms,
+            period_ms,
+        })?;
+    }
+    Ok(groups)
+}
+
+/// Makes a tree of those groups and tasks, and goes through the rows.
+fn expect<R: AllocGlobal + Abort>(
+    rt: &R,
+    limits: &[Limit],
+    tasks: &[u32],
+    rows: &[Row],
+) -> Result<(), TreeError> {
+    let groups = groups_of(rt.alloc(), limits)?;
+    let mut tree = Counted::new(rt.alloc(), &groups, tasks)?;
+    expect_rows(rt, &mut tree, rows);
+    drop(tree);
+    Ok(())
+}
+
+/// 2 ms of each 5.
+const ONE_GROUP: [Row; 11] = [
+    (Ran(0), &[1], &[false, false]),
+    (Ran(1), &[2], &[true, true]),
+    (Turned(1), &[2], &[true, true]),
+    (Turned(4), &[2], &[true, true]),
+    (Turned(5), &[0], &[false, false]),
+    (Ran(1), &[1], &[false, false]),
+    (Turned(6), &[1], &[false, false]),
+    (Ran(1), &[2], &[true, true]),
+    // What runs on is counted on.
+    (Ran(0), &[3], &[true, true]),
+    (Turned(11), &[3], &[true, true]),
+    (Turned(15), &[0], &[false, false]),
+];
+
+#[test]
+fn a_group_is_throttled_until_its_period_begins(rt: HostRuntime) -> Result<(), Fail> {
+    expect(&rt, &[(None, Some(2), 5)], &[0, 0], &ONE_GROUP)?;
+    Ok(())
+}
+
+/// At the top 3 ms of each 10; below it a group without a quota and one of 2 ms of each 5; beside it one
+/// without a quota.
+const NESTED: [Limit; 4] = [
+    (None, Some(3), 10),
+    (Some(0), None, 100),
+    (Some(0), Some(2), 5),
+    (None, None, 100),
+];
+
+const UNDER_ONE: [Row; 11] = [
+    (Turned(0), &[0, 0, 0, 0], &[false, false, false]),
+    (Ran(1), &[1, 0, 1, 0], &[false, false, false]),
+    (Ran(1), &[2, 0, 2, 0], &[false, true, false]),
+    (Ran(0), &[3, 1, 2, 0], &[true, true, false]),
+    (Ran(2), &[3, 1, 2, 1], &[true, true, false]),
+    (Turned(5), &[3, 1, 0, 1], &[true, true, false]),
+    (Ran(1), &[4, 1, 1, 1], &[true, true, false]),
+    (Turned(10), &[0, 1, 0, 1], &[false, false, false]),
+    (Ran(0), &[1, 2, 0, 1], &[false, false, false]),
+    (Turned(99), &[1, 2, 0, 1], &[false, false, false]),
+    (Turned(100), &[0, 0, 0, 0], &[false, false, false]),
+];
+
+#[test]
+fn a_group_uses_what_those_above_it_may(rt: HostRuntime) -> Result<(), Fail> {
+    expect(&rt, &NESTED, &[1, 2, 3], &UNDER_ONE)?;
+    Ok(())
+}
+
+/// The shortest period and the longest one, with the least quota and the greatest one.
+const EXTREMES: [Limit; 2] = [(None, Some(1), 1), (None, Some(1_000_000), 1000)];
+
+const AT_EXTREMES: [Row; 8] = [
+    (Ran(0), &[1, 0], &[true, false]),
+    (Ran(1), &[1, 1], &[true, false]),
+    (Turned(1), &[0, 1], &[false, false]),
+    (Ran(0), &[1, 1], &[true, false]),
+    (Turned(999), &[0, 1], &[false, false]),
+    (Turned(1000), &[0, 0], &[false, false]),
+    (Ran(1), &[0, 1], &[false, false]),
+    // The clock is a multiple of each period at 0 too.
+    (Turned(0), &[0, 0], &[false, false]),
+];
+
+#[test]
+fn periods_may_be_short_and_long(rt: HostRuntime) -> Result<(), Fail> {
+    expect(&rt, &EXTREMES, &[0, 1], &AT_EXTREMES)?;
+    Ok(())
+}
+
+fn refusal(alloc: Global, groups: &[Group]) -> Option<TreeError> {
+    Tree::new(alloc, groups, &[0]).err()
+}
+
+/// A group, and what is wrong with it.
+type Verdict = (Limit, Option<TreeError>);
+
+const LIMITS: [Verdict; 12] = [
+    ((None, Some(0), 100), Some(TreeError::OutOfRange)),
+    ((None, Some(1), 100), None),
+    ((None, Some(1_000_000), 100), None),
+    ((None, Some(1_000_001), 100), Some(TreeError::OutOfRange)),
+    ((None, Some(u32::MAX), 100), Some(TreeError::OutOfRange)),
+    ((None, Some(1), 0), Some(TreeError::OutOfRange)),
+    ((None, Some(1), 1), None),
+    ((None, Some(1), 1000), None),
+    ((None, Some(1), 1001), Some(TreeError::OutOfRange)),
+    // A group without a quota has periods too.
+    ((None, None, 0), Some(TreeError::OutOfRange)),
+    ((None, None, 1001), Some(TreeError::OutOfRange)),
+    // Of several faults the first in the order of their numbers.
+    ((Some(0), Some(0), 0), Some(TreeError::UnknownGroup)),
+];
+
+#[test]
+fn quotas_and_periods_are_limited(rt: HostRuntime) -> Result<(), Fail> {
+    for (number, &(limit, wanted)) in LIMITS.iter().enumerate() {
+        let groups = groups_of(rt.alloc(), &[limit])?;
+        expect_same(&rt, refusal(rt.alloc(), &groups), wanted, number);
+    }
+    Ok(())
+}
+
+/// The last of four levels has no quota that it may have.
+const DEEP: [Limit; 4] = [
+    (None, None, 100),
+    (Some(0), None, 100),
+    (Some(1), None, 100),
+    (Some(2), Some(0), 100),
+];
+
+#[test]
+fn a_bad_limit_goes_before_depth(rt: HostRuntime) -> Result<(), Fail> {
+    let groups = groups_of(rt.alloc(), &DEEP)?;
+    expect_same(
+        &rt,
+        refusal(rt.alloc(), &groups),
+        Some(TreeError::OutOfRange),
+        "deep",
+    );
+    Ok(())
+}
