@@ -335,6 +335,10 @@ pub fn disassemble(code: &[Option<Insn>]) -> Option<String> {
                 put(&mut text, "gotol ");
                 put_distance(&mut text, distance);
             }
+            Call(number) => {
+                put(&mut text, "call ");
+                put_operand(&mut text, true, Operand::Immediate(number));
+            }
             Exit => put(&mut text, "exit"),
             _ => return None,
         }
