@@ -1,17 +1,19 @@
 -- Who waits right behind a task, as it is computed.
-use Rattle.std.proofs.Common.{◌≡◌, ◌≢◌, ℕ, ◌<◌, ◌≤◌, Bool, true, false, ◌==◌, ◌&&◌, not, List, get_or, Option, Some, None, MatchOption, position, refl, sym, ap, ◌∙◌, subst, arith, ⊎_elim}
+use Rattle.std.proofs.Common.{◌≡◌, ◌≢◌, ℕ, ◌<◌, ◌≤◌, Bool, true, false, ◌==◌, ◌&&◌, not, List, get_or, Option, Some, None, IfSome, MatchOption, position, refl, sym, ap, ◌∙◌, subst, arith, ⊎_elim}
 use Rattle.std.specs.List.{list_all}
 use Rattle.std.proofs.lemmas.Bool.{both_ways, eq-eqb, eqb-true, and_from, and_parts, cases_Bool, false_from_ne_true}
 use Rattle.std.proofs.lemmas.List.{get_or_default}
 use Rattle.std.proofs.lemmas.List.Sums.{list_all-from_AllPass}
 use Rattle.std.proofs.lemmas.List.Folds.{list_all_at}
-use Rattle.scx_dsq.specs.declared.entries.Rank.TheVariants.{Fifo}
+use Rattle.std.proofs.lemmas.List.Quantifiers.{position-Some}
+use Rattle.scx_dsq.specs.declared.entries.Rank.{Rank}
+use Rattle.scx_dsq.specs.declared.entries.Rank.TheVariants.{Fifo, Vtime}
 use Rattle.scx_dsq.specs.declared.entries.Entry.{Entry}
 use Rattle.scx_dsq.specs.declared.links.Link.{Link}
 use Rattle.scx_dsq.specs.declared.queue.Queue.{Queue}
 use Rattle.scx_dsq.specs.declared.queues.Queues.TheInside.{Inside}
 use Rattle.scx_dsq.specs.Entries.{is_before, key_of, same_sort}
-use Rattle.scx_dsq.specs.Queues.{QueueState, entry_at, entry_of, is_ahead, is_behind, is_right_behind, right_behind, behind_of}
+use Rattle.scx_dsq.specs.Queues.{QueueState, task_count, entry_at, entry_of, is_ahead, is_behind, is_right_behind, next_by, right_behind, behind_of}
 use Rattle.scx_dsq.specs.Laws.{HasOwnStamps}
 use Rattle.scx_dsq.specs.Links.{link_at, In, IsLast, IsNext, IsThreaded}
 use Rattle.scx_dsq.specs.Kept.{IsOfOneSort, by_links, by_heap, state_of, IsKept}
@@ -130,7 +132,8 @@ module _ (s : QueueState) (links : List Link) (q : Queue) (stamps : HasOwnStamps
 -- the link of a task in a FIFO queue is who waits right behind it
 pub behind_at : (i : Inside) (k t : ℕ) (p : Entry) (q : Queue) → IsKept i → IsWaiting i k t p q → p.rank ≡ Fifo → (link_at i.links.items t).behind ≡ behind_of (state_of i) t
 unfolding behind_of
-behind_at i k t p q h w fifo = go (row_at i k q h w.inside w.read).tasks ∙ sym (ap (λ o. right_behind i.entries.items o) w.waits)
+behind_at i k t p q h w fifo =
+    go (row_at i k q h w.inside w.read).tasks ∙ sym (ap (λ o. right_behind i.entries.items o) w.waits ∙ ap (λ r. next_by r i.entries.items p) fifo)
   where
     go : IsOfOneSort i.entries.items i.links.items q → (link_at i.links.items t).behind ≡ position (is_right_behind i.entries.items p) i.entries.items
     go (by_links f empty) = linked (state_of i) i.links.items q h.sound.stamps f t p (w.waits, sym w.is) (link_at i.links.items t).behind (f.behind t p (w.waits, sym w.is))
@@ -141,3 +144,22 @@ behind_at i k t p q h w fifo = go (row_at i k q h w.inside w.read).tasks ∙ sym
 pub nobody_behind_none : (s : QueueState) (t : ℕ) → entry_of s t ≡ None → behind_of s t ≡ None
 unfolding behind_of
 nobody_behind_none s t e = ap (λ o. right_behind s.entries o) e
+
+-- behind a task that waits by virtual time nobody is looked for
+pub nobody_behind_vtime : (s : QueueState) (t key : ℕ) (p : Entry) → entry_of s t ≡ Some p → p.rank ≡ Vtime key → behind_of s t ≡ None
+unfolding behind_of
+nobody_behind_vtime s t key p e r = ap (λ o. right_behind s.entries o) e ∙ ap (λ k. next_by k s.entries p) r
+
+-- who waits behind another is a task that there is
+pub behind_is_known : (s : QueueState) (t : ℕ) (o : Option ℕ) → o ≡ behind_of s t → IfSome o (λ u. u < task_count s)
+unfolding behind_of
+behind_is_known s t None e = tt
+behind_is_known s t (Some u) e = go (entry_of s t) (sym e)
+  where
+    by : (r : Rank) (p : Entry) → next_by r s.entries p ≡ Some u → u < task_count s
+    by Fifo p x = (position-Some (is_right_behind s.entries p) s.entries u None x).0
+    by (Vtime key) p x = absurd (cc)
+
+    go : (o : Option Entry) → right_behind s.entries o ≡ Some u → u < task_count s
+    go None x = absurd (cc)
+    go (Some p) x = by p.rank p x

@@ -3,6 +3,8 @@
 -- that wait in it, and its front is the one whose entry comes before every other there.
 use Rattle.std.specs.Prelude.{◌≡◌, ◌≢◌, ℕ, Bool, false, ◌==◌, ◌&&◌, not, List, length, slice_index_or, Option, Some, None, IsTrue, count_by, position, option_map}
 use Rattle.std.specs.List.{list_any, list_all}
+use Rattle.scx_dsq.specs.declared.entries.Rank.{Rank}
+use Rattle.scx_dsq.specs.declared.entries.Rank.TheVariants.{Fifo, Vtime}
 use Rattle.scx_dsq.specs.declared.entries.Entry.{Entry}
 use Rattle.scx_dsq.specs.Entries.{is_before}
 
@@ -77,10 +79,15 @@ abbrev pub is_right_behind : Entries → Entry → Option Entry → Bool
 is_right_behind entries p None = false
 is_right_behind entries p (Some q) = is_behind p (Some q) && list_all (λ other. not (is_behind p other && is_ahead p.queue q other)) entries
 
+-- which task has that one; behind an entry by virtual time nobody is looked for
+abbrev pub next_by : Rank → Entries → Entry → Option ℕ
+next_by Fifo entries p = position (is_right_behind entries p) entries
+next_by (Vtime key) entries p = None
+
 abbrev pub right_behind : Entries → Option Entry → Option ℕ
 right_behind entries None = None
-right_behind entries (Some p) = position (is_right_behind entries p) entries
+right_behind entries (Some p) = next_by p.rank entries p
 
--- whom the task has right behind it in its queue
+-- whom the task has right behind it in its queue, if that is one in order of arrival
 unfoldable pub behind_of : QueueState → ℕ → Option ℕ
 behind_of s t = right_behind s.entries (entry_of s t)

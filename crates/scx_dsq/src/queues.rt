@@ -330,15 +330,39 @@ impl Queues {
     }
 
     /// Who waits right behind the task in its FIFO queue; nobody behind the last, nor behind a task that
-    /// waits nowhere.
+    /// waits nowhere or by virtual time.
+    #[tactic(auto, using(crate::proofs::Behind::nobody_behind_none))]
     pub fn behind(&self, task: u32) -> Option<u32>
-        requires known { task < task_count self.now.state }
-        requires fifo { (p : Entry) → entry_of self.now.state task ≡ Some p → p.rank ≡ Fifo }
+        requires { task < task_count self.now.state }
+        ensures answer { result ≡ behind_of self.now.state task }
+        ensures known { IfSome result (λ t. t < task_count self.now.state) }
+    {
+        match self.entries[task as usize] {
+            Some(entry) => self.behind_entry(task, entry),
+            None => None,
+        }
+    }
+
+    /// Who waits right behind a task that waits by that entry.
+    #[tactic(auto, using(crate::proofs::Behind::nobody_behind_vtime))]
+    fn behind_entry(&self, task: u32, entry: Entry) -> Option<u32>
+        requires task { task < task_count self.now.state }
+        requires waits { entry_of self.now.state task ≡ Some entry }
         ensures { result ≡ behind_of self.now.state task }
     {
-        let Some(entry) = self.entries[task as usize] else {
-            return None;
-        };
+        match entry.rank {
+            Rank::Fifo => self.link_behind(task, entry),
+            Rank::Vtime(_) => None,
+        }
+    }
+
+    /// Who waits right behind a task that waits by that entry, in order of arrival.
+    fn link_behind(&self, task: u32, entry: Entry) -> Option<u32>
+        requires task { task < task_count self.now.state }
+        requires waits { entry_of self.now.state task ≡ Some entry }
+        requires fifo { entry.rank ≡ Fifo }
+        ensures { result ≡ behind_of self.now.state task }
+    {
         let Some(index) = find(&self.live, &self.order, &self.guesses, entry.queue) else {
             unreachable!()
         };
