@@ -155,7 +155,7 @@ later w = with_clock w (w.clock + 1)
 
 -- the task's groups have used a millisecond more
 abbrev pub used_ms : WorldState → ℕ → WorldState
-used_ms w t = with_tree w (limits.with_use w.tree t)
+used_ms w t = if nat_lt t (length w.tasks) then with_tree w (limits.with_use w.tree t) else w
 
 -- periods of groups begin at this clock
 abbrev pub begun_periods : WorldState → WorldState

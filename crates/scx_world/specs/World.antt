@@ -2,6 +2,7 @@
 use Rattle.std.specs.Prelude.{ℕ, zero, suc, Bool, false, ◌==◌, ◌&&◌, not, nat_lt, List, [], ◌∷◌, ◌++◌, length, if◌then◌else◌, Option, Some, None, is_none, slice_index_or, slice_set, position}
 use Rattle.scx_dsq.specs.Queues.{QueueState, queue_of}
 use Rattle.scx_weights.specs.Hierarchy.{Hierarchy, is_active_task}
+use Rattle.scx_weights.specs.Limits as limits
 use Rattle.scx_semantics.specs.declared.callbacks.Callback.{Callback}
 use Rattle.scx_semantics.specs.declared.callbacks.Callback.TheVariants as callback
 use Rattle.scx_world.specs.Ids.{parked}
@@ -68,6 +69,10 @@ with_task w t x = with_tasks w (slice_set w.tasks t x)
 
 abbrev pub is_runnable : WorldState → ℕ → Bool
 is_runnable w t = is_active_task w.tree t
+
+-- the group of the task has used all that it may, or one that this lies below
+abbrev pub is_throttled : WorldState → ℕ → Bool
+is_throttled w t = nat_lt t (length w.tasks) && limits.is_throttled w.tree t
 
 -- in the queue of parked tasks nobody waits
 abbrev pub waits_in : Option ℕ → Bool

@@ -1,5 +1,5 @@
-ghost use Rattle.std.specs.Prelude.{◌≡◌, ℕ, ◌+◌, ◌^◌, ◌<◌, ◌≤◌, length, IfSome};
-ghost use Rattle.scx_dsq.specs.Queues.{front_of};
+ghost use Rattle.std.specs.Prelude.{◌≡◌, ℕ, ◌+◌, ◌^◌, ◌<◌, ◌≤◌, length};
+ghost use Rattle.scx_dsq.specs.Queues.{front_of, len_of, behind_of};
 ghost use Rattle.scx_weights.specs.Limits.{usage_of};
 ghost use Rattle.scx_world.specs.Ids.{local_on};
 ghost use Rattle.scx_world.specs.World.{task_at};
@@ -141,7 +141,6 @@ impl World {
     /// The front of the queue leaves it, and is answered.
     pub fn take(&mut self, queue: u64) -> Option<u16>
         ensures answer { result ≡ front_of self.old.queues queue }
-        ensures known { IfSome result (λ t. t < length self.old.tasks) }
         ensures world { self.new ≡ taken self.old queue }
         ensures few { self.new.queues.pushes ≡ self.old.queues.pushes }
     {
@@ -151,11 +150,33 @@ impl World {
 
     /// The front of the queue.
     pub fn front(&self, queue: u64) -> Option<u16>
-        ensures answer { result ≡ front_of self.now.queues queue }
-        ensures known { IfSome result (λ t. t < length self.now.tasks) }
+        ensures { result ≡ front_of self.now.queues queue }
     {
         let task = self.queues.front(queue)?;
         Some(task as u16)
+    }
+
+    /// How many tasks are in the queue.
+    #[tactic(auto, using(crate::proofs::Few::few_in))]
+    pub fn len(&self, queue: u64) -> usize
+        ensures len { result ≡ len_of self.now.queues queue }
+        ensures few { result ≤ 1024 }
+    {
+        self.queues.len(queue)
+    }
+
+    /// Who comes right behind the task in its queue, if that is one in order of arrival.
+    #[tactic(auto, using(crate::proofs::Few::nobody_past))]
+    pub fn behind(&self, task: u16) -> Option<u16>
+        ensures { result ≡ behind_of self.now.queues task }
+    {
+        if (task as usize) >= self.queues.tasks() {
+            return None;
+        }
+        match self.queues.behind(u32::from(task)) {
+            Some(next) => Some(next as u16),
+            None => None,
+        }
     }
 
     /// The task is parked no more, and waits from now on.
@@ -185,12 +206,13 @@ impl World {
 
     /// The task's groups have used a millisecond more.
     pub fn use_ms(&mut self, task: u16)
-        requires known { task < length self.old.tasks }
-        requires room { (g : ℕ) → usage_of self.old.tree g < 2 ^ 63 }
+        requires { (g : ℕ) → usage_of self.old.tree g < 2 ^ 63 }
         ensures world { self.new ≡ used_ms self.old task }
         ensures few { self.new.queues.pushes ≡ self.old.queues.pushes }
     {
-        self.tree.charge(u32::from(task));
+        if (task as usize) < self.tasks.len() {
+            self.tree.charge(u32::from(task));
+        }
     }
 
     /// Periods of groups begin at this clock.

@@ -6,8 +6,7 @@ ghost use Rattle.scx_world.specs.First.{with_locals, first_queues, first_world};
 ghost use Rattle.scx_world.specs.Helpers.{pointed};
 ghost use Rattle.scx_world.specs.Kept.{AreTaken};
 ghost use Rattle.scx_world.specs.Waits.{first_overdue};
-ghost use Rattle.scx_weights.specs.Limits.{is_throttled};
-ghost use Rattle.scx_world.specs.World.{task_at, wait, with_task, is_runnable, waits, running, with_cpu, with_cycling, is_this, cpu_of, is_idle, first_idle, default_choice, begun, quiet, said};
+ghost use Rattle.scx_world.specs.World.{task_at, wait, with_task, is_runnable, is_throttled, waits, running, with_cpu, with_cycling, is_this, cpu_of, is_idle, first_idle, default_choice, begun, quiet, said};
 
 use crate::call::{Call, Insert};
 use crate::eject::Eject;
@@ -273,10 +272,9 @@ impl World {
 
     /// Whether the task's group has used all of its quota, or one that this lies below.
     pub fn is_throttled(&self, task: u16) -> bool
-        requires { task < length self.now.tasks }
-        ensures { result ≡ is_throttled self.now.tree task }
+        ensures { result ≡ is_throttled self.now task }
     {
-        self.tree.throttled(u32::from(task))
+        self.has_task(task) && self.tree.throttled(u32::from(task))
     }
 
     /// How many groups there are.
