@@ -3,3 +3,5 @@ pub mod Tries
 pub mod Active
 pub mod Enabling
 pub mod Evicting
+pub mod Unchanged
+pub mod Parked

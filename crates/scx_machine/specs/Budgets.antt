@@ -1,6 +1,6 @@
 -- How many pushes each step of the machine makes at most: of all that it may do, one after another.
-use Rattle.std.specs.Prelude.{ℕ, ◌+◌, ◌*◌, ◌≤◌, ◌^◌}
-use Rattle.scx_machine.specs.Steps.{State}
+use Rattle.std.specs.Prelude.{ℕ, ◌+◌, ◌*◌, ◌≤◌, ◌^◌, if◌then◌else◌}
+use Rattle.scx_machine.specs.Steps.{State, is_ejected}
 
 -- so many pushes are left; they are counted up to 2^63
 abbrev pub HasRoom : ℕ → State → Type 0
@@ -16,9 +16,13 @@ enter_pushes = 1
 abbrev pub fill_pushes : ℕ
 fill_pushes = 1
 
--- all tasks, 1024 at most, go over to the built-in scheduler
+-- so many tasks there are at most
+abbrev pub most_tasks : ℕ
+most_tasks = 1024
+
+-- all tasks go over to the built-in scheduler
 abbrev pub eject_pushes : ℕ
-eject_pushes = 1024
+eject_pushes = most_tasks
 
 -- a program runs: it has 4096 instructions at most, each of which pushes once at most
 abbrev pub program_pushes : ℕ
@@ -32,11 +36,25 @@ callback_pushes = program_pushes + eject_pushes
 abbrev pub put_pushes : ℕ
 put_pushes = callback_pushes + enter_pushes
 
+-- ---- parking
+
+-- a local queue is filled, and its front parked
+abbrev pub clear_pushes : ℕ
+clear_pushes = fill_pushes + enter_pushes
+
+-- so for each task of two queues
+abbrev pub supply_pushes : ℕ
+supply_pushes = clear_pushes * (most_tasks + most_tasks)
+
+-- all tasks of a queue are parked, and a local queue is filled
+abbrev pub builtin_dispatch_pushes : ℕ
+builtin_dispatch_pushes = enter_pushes * most_tasks + fill_pushes
+
 -- ---- a cycle
 
--- dispatch is called once, and the local queue filled
+-- dispatch is called once, and the local queue supplied
 abbrev pub dispatch_pushes : ℕ
-dispatch_pushes = callback_pushes + fill_pushes
+dispatch_pushes = callback_pushes + supply_pushes
 
 -- stopping is called, and the task that left is put
 abbrev pub leave_pushes : ℕ
@@ -48,11 +66,11 @@ swap_pushes = leave_pushes + callback_pushes
 
 -- the one that comes is from the queue of the built-in scheduler
 abbrev pub builtin_ask_pushes : ℕ
-builtin_ask_pushes = fill_pushes + swap_pushes
+builtin_ask_pushes = builtin_dispatch_pushes + swap_pushes
 
--- or from the queue of all processors, which is looked at before
+-- or from the queue of all processors, from which the local queue is supplied before
 abbrev pub builtin_cycle_pushes : ℕ
-builtin_cycle_pushes = fill_pushes + builtin_ask_pushes
+builtin_cycle_pushes = supply_pushes + builtin_ask_pushes
 
 -- a task leaves, and where that ejects the policy the cycle begins anew
 abbrev pub pick_pushes : ℕ
@@ -62,9 +80,9 @@ pick_pushes = leave_pushes + builtin_cycle_pushes
 abbrev pub ask_pushes : ℕ
 ask_pushes = dispatch_pushes * 32 + pick_pushes
 
--- the queue of all processors is looked at before dispatch is called
+-- the local queue is supplied before dispatch is called
 abbrev pub cycle_pushes : ℕ
-cycle_pushes = fill_pushes + ask_pushes
+cycle_pushes = supply_pushes + ask_pushes
 
 -- ---- events
 
@@ -79,3 +97,33 @@ wake_pushes = callback_pushes + settle_pushes
 -- stopping is called, and the processor begins a cycle
 abbrev pub sleep_pushes : ℕ
 sleep_pushes = callback_pushes + cycle_pushes
+
+-- stopping is called, the task is parked, and the processor begins a cycle
+abbrev pub throttle_pushes : ℕ
+throttle_pushes = callback_pushes + enter_pushes + cycle_pushes
+
+-- ---- letting go
+
+-- so many pushes an ejection may still make
+unfoldable pub eject_left : State → ℕ
+eject_left s = if is_ejected s then 0 else eject_pushes
+
+-- pushes that were made, or that an ejection may make
+abbrev pub committed : State → ℕ
+committed s = s.world.queues.pushes + eject_left s
+
+-- that so many tasks are let go, each of which is put
+abbrev pub CanLetGo : ℕ → State → Type 0
+CanLetGo n s = committed s + enter_pushes * n + put_pushes ≤ 2 ^ 63
+
+-- all parked tasks are let go, and the policy is ejected once
+abbrev pub let_go_pushes : ℕ
+let_go_pushes = eject_pushes + enter_pushes * most_tasks
+
+-- and the watchdog may eject it
+abbrev pub clock_pushes : ℕ
+clock_pushes = let_go_pushes + eject_pushes
+
+-- whatever the event
+abbrev pub event_pushes : ℕ
+event_pushes = 2 ^ 19

@@ -1,5 +1,5 @@
 -- A callback is run, and what follows it.
-use Rattle.std.specs.Prelude.{ℕ, ⊤, ◌≤◌, nat_lt, List, [], ◌∷◌, length, if◌then◌else◌, Option, Some, None}
+use Rattle.std.specs.Prelude.{ℕ, ⊤, ◌≤◌, Bool, true, false, nat_lt, List, [], ◌∷◌, length, if◌then◌else◌, Option, Some, None}
 use Rattle.scx_semantics.specs.declared.callbacks.Callback.{Callback}
 use Rattle.scx_semantics.specs.declared.callbacks.Callback.TheVariants as callback
 use Rattle.scx_semantics.specs.Elements.{Maps}
@@ -60,6 +60,12 @@ unless_ejected (Some x) p = None
 -- its program, while the policy is in force
 abbrev pub acting : State → Callback → Option VerifiedProgram
 acting s b = unless_ejected s.world.ejected (program_of s.policy b)
+
+-- one that moves nobody, and that is never wrong where no program is called
+abbrev pub is_calm : Callback → Bool
+is_calm callback.Dispatch = false
+is_calm callback.SelectCpu = false
+is_calm b = true
 
 -- with that task and processor at hand; where it had a fault the policy is ejected as it ends
 unfoldable pub call_back : State → Callback → Args → ℕ → ℕ → Stepped

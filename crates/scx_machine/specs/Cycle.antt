@@ -1,36 +1,30 @@
 -- The scheduling cycle (sched-ext.rst, "Scheduling Cycle"): a processor looks for the task that it runs
 -- next.
 use Rattle.std.specs.Prelude.{ℕ, zero, suc, Bool, true, false, ◌&&◌, ◌==◌, not, List, [], ◌∷◌, if◌then◌else◌, Option, Some, None}
-use Rattle.scx_dsq.specs.Queues.{front_of}
+use Rattle.scx_dsq.specs.Queues.{front_of, len_of}
 use Rattle.scx_semantics.specs.declared.callbacks.Callback.TheVariants as callback
 use Rattle.scx_world.specs.declared.notes.Note.{Note}
-use Rattle.scx_world.specs.declared.notes.What.TheVariants.{Move, Stop, Run, Idle}
-use Rattle.scx_world.specs.Ids.{global, builtin, local_on}
+use Rattle.scx_world.specs.declared.notes.What.TheVariants.{Stop, Run, Idle}
+use Rattle.scx_world.specs.Ids.{builtin, local_on}
 use Rattle.scx_world.specs.World.{WorldState, with_cycling, said}
-use Rattle.scx_world.specs.Tasks.{local_len, fill_front, filled, stopped, started_at, kept}
+use Rattle.scx_world.specs.Tasks.{local_len, stopped, started_at, kept}
 use Rattle.scx_world.specs.Ejecting.{overtaken, charged}
 use Rattle.scx_machine.specs.Steps.{State, Stepped, with_world, stays, after, joined, is_ejected}
 use Rattle.scx_machine.specs.Callbacks.{call_back, one_task, task_and_number, cpu_and_task}
 use Rattle.scx_machine.specs.Put.{put}
+use Rattle.scx_machine.specs.Filling.{fill}
+use Rattle.scx_machine.specs.Parking.{park_fronts, supply}
 
 abbrev pub has_local : State → ℕ → Bool
 has_local s c = not (local_len s.world c == 0)
 
-abbrev pub move_note : WorldState → Option ℕ → ℕ → List Note
-move_note w None c = []
-move_note w (Some t) c = said w (Move t c) ∷ []
-
--- where the local queue is empty, the front of another comes to it
-unfoldable pub fill : State → ℕ → ℕ → Stepped
-fill s q c = record { state = with_world s (filled s.world q c); notes = move_note s.world (fill_front s.world q c) c; calls = [] }
-
 -- ---- dispatch
 
--- one call of dispatch, and then the queue of all processors
+-- one call of dispatch, and then the local queue is supplied
 unfoldable pub dispatched : State → ℕ → Option ℕ → Stepped
 dispatched s c p =
     let r = call_back s callback.Dispatch (cpu_and_task c p) 0 c in
-    joined r (fill r.state global c)
+    joined r (supply r.state c)
 
 abbrev pub asks_again : State → ℕ → Bool
 asks_again s c = (local_len s.world c == 0) && s.world.call.has_moved
@@ -88,12 +82,21 @@ swap s c p = let l = leave s c p in joined l (start l.state c)
 unfoldable pub swap_or_rest : State → ℕ → Option ℕ → Bool → Stepped
 swap_or_rest s c p ran = if has_local s c then swap s c p else rest s c p ran
 
--- its dispatch: the front of its queue comes to the local queue
+-- its dispatch: the front of its queue comes to the local queue, once those that may not run are parked
+unfoldable pub builtin_dispatch : State → ℕ → Stepped
+builtin_dispatch s c =
+    let p = park_fronts (len_of s.world.queues builtin) s builtin in
+    joined p (fill p.state builtin c)
+
+-- it is asked where the local queue is empty
+unfoldable pub builtin_fill : State → ℕ → Stepped
+builtin_fill s c = if has_local s c then stays s else builtin_dispatch s c
+
 unfoldable pub builtin_ask : State → ℕ → Option ℕ → Bool → Stepped
-builtin_ask s c p ran = let f = fill s builtin c in joined f (swap_or_rest f.state c p ran)
+builtin_ask s c p ran = let f = builtin_fill s c in joined f (swap_or_rest f.state c p ran)
 
 unfoldable pub builtin_cycle : State → ℕ → Option ℕ → Bool → Stepped
-builtin_cycle s c p ran = let f = fill s global c in joined f (builtin_ask f.state c p ran)
+builtin_cycle s c p ran = let f = supply s c in joined f (builtin_ask f.state c p ran)
 
 -- ---- the policy
 
@@ -121,7 +124,7 @@ ask s c p ran = let d = tries 32 s c p in joined d (conclude d.state c p ran)
 -- event began
 unfoldable pub seek : State → ℕ → Option ℕ → Bool → Stepped
 seek s c p ran =
-    let f = fill s global c in
+    let f = supply s c in
     joined f (if has_local f.state c then pick f.state c p ran else ask f.state c p ran)
 
 -- ---- whichever is in force

@@ -5,9 +5,9 @@ use Rattle.scx_semantics.specs.declared.callbacks.Callback.TheVariants as callba
 use Rattle.scx_world.specs.declared.notes.What.TheVariants as note
 use Rattle.scx_safety.specs.Programs.{VerifiedProgram}
 use Rattle.scx_world.specs.declared.call.Insert.{Insert}
-use Rattle.scx_world.specs.World.{WorldState, task_at, is_runnable, running, cpu_of, is_idle, default_choice, said}
+use Rattle.scx_world.specs.World.{WorldState, task_at, is_runnable, is_throttled, running, cpu_of, is_idle, default_choice, said}
 use Rattle.scx_world.specs.declared.eject.Eject.TheVariants as cause
-use Rattle.scx_world.specs.Tasks.{for_cpu, woken, asleep, gone, stopped, ticked, later, reweighed}
+use Rattle.scx_world.specs.Tasks.{for_cpu, woken, asleep, gone, stopped, ticked, used_ms, later, begun_periods, reweighed}
 use Rattle.scx_world.specs.Waits.{first_overdue}
 use Rattle.scx_machine.specs.declared.events.Event.{Event}
 use Rattle.scx_machine.specs.declared.events.Event.TheVariants.{Wake, Sleep, Tick, Clock, SetWeight}
@@ -17,6 +17,7 @@ use Rattle.scx_machine.specs.Steps.{State, Stepped, with_world, stays, after, jo
 use Rattle.scx_machine.specs.Ejecting.{eject}
 use Rattle.scx_machine.specs.Callbacks.{acting, call_back, answered_by, task_cpu_and_0}
 use Rattle.scx_machine.specs.Put.{enters, put}
+use Rattle.scx_machine.specs.Parking.{park, let_all_go}
 use Rattle.scx_machine.specs.Cycle.{stopping, cycle}
 
 -- ---- refusals
@@ -75,11 +76,22 @@ sleep_from (Some c) s t = sleep_from_cpu s t c
 unfoldable pub sleep : State → ℕ → Stepped
 sleep s t = after (said s.world (note.Sleep t) ∷ []) (sleep_from (cpu_of s.world t) s t)
 
+-- a task that may not run any more leaves its processor and is parked, and the processor looks for another
+unfoldable pub throttle : State → ℕ → ℕ → Stepped
+throttle s c t =
+    let r = stopping (with_world s (stopped s.world c t)) c t 1 in
+    let p = park r.state t in
+    after (said s.world (note.Stop t c) ∷ []) (joined r (joined p (cycle p.state c None true)))
+
 -- a task whose slice has run out may be replaced
+unfoldable pub expire : State → ℕ → ℕ → Stepped
+expire s c t = if (task_at s.world t).slice == 0 then cycle s c (Some t) true else stays s
+
+-- a task has run for a millisecond, which its groups have used
 unfoldable pub count_down : State → ℕ → ℕ → Stepped
 count_down s c t =
-    let v = with_world s (ticked s.world t) in
-    if (task_at v.world t).slice == 0 then cycle v c (Some t) true else stays v
+    let v = with_world s (used_ms (ticked s.world t) t) in
+    if is_throttled v.world t then throttle v c t else expire v c t
 
 abbrev pub tick_of : Option ℕ → State → ℕ → Stepped
 tick_of None s c = cycle s c None false
@@ -98,8 +110,11 @@ abbrev pub stalled : Option ℕ → State → Stepped
 stalled None s = stays s
 stalled (Some t) s = eject s (cause.Stall t s.world.clock)
 
+-- periods begin, who may run again is let go, and then the watchdog looks
 unfoldable pub clock : State → Stepped
-clock s = let v = with_world s (later s.world) in stalled (overdue v) v
+clock s =
+    let r = let_all_go (with_world s (begun_periods (later s.world))) in
+    joined r (stalled (overdue r.state) r.state)
 
 abbrev pub happened : State → Event → Stepped
 happened s (Wake t) = wake s t

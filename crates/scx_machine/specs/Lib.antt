@@ -6,6 +6,8 @@ pub mod Ejecting
 pub mod Callbacks
 pub mod Does
 pub mod Put
+pub mod Filling
+pub mod Parking
 pub mod Cycle
 pub mod Events
 pub mod Start

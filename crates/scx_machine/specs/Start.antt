@@ -9,6 +9,7 @@ use Rattle.scx_semantics.specs.Endings.{Ending}
 use Rattle.scx_world.specs.declared.faults.Fault.{Fault}
 use Rattle.scx_world.specs.World.{WorldState, begun}
 use Rattle.scx_world.specs.First.{first_world}
+use Rattle.scx_world.specs.Tasks.{begun_periods}
 use Rattle.scx_machine.specs.declared.start.NewError.{NewError}
 use Rattle.scx_machine.specs.declared.start.NewError.TheVariants.{InitFailed, BadShape, OutOfMemory}
 use Rattle.scx_machine.specs.Policy.{PolicyState}
@@ -19,9 +20,9 @@ use Rattle.scx_machine.specs.Callbacks.{acting, called, calls_of, ended, AreAnsw
 abbrev pub is_bad_shape : Hierarchy → ℕ → Bool
 is_bad_shape tree cpus = nat_lt cpus 1 || (nat_lt 64 cpus || any_below (length tree.homes) (λ t. is_active_task tree t))
 
--- before any callback
+-- before any callback; periods of all groups begin
 abbrev pub blank : PolicyState → Hierarchy → ℕ → State
-blank p tree cpus = record { policy = p; maps = zeros p.shapes; world = first_world tree cpus }
+blank p tree cpus = record { policy = p; maps = zeros p.shapes; world = begun_periods (first_world tree cpus) }
 
 -- ---- init
 

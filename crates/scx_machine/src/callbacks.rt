@@ -1,4 +1,4 @@
-ghost use Rattle.std.specs.Prelude.{◌≡◌, ◌+◌, ◌≤◌, ◌^◌, [], Some, option_map};
+ghost use Rattle.std.specs.Prelude.{◌≡◌, ◌+◌, ◌≤◌, ◌^◌, [], true, Some, option_map};
 ghost use Rattle.scx_maps.specs.Contents.{HasShapes};
 ghost use Rattle.scx_semantics.specs.Arguments.{FitsCallback};
 ghost use Rattle.scx_semantics.specs.declared.callbacks.Callback.TheVariants.{Enable, SelectCpu, Enqueue, Dispatch, Running, Stopping};
@@ -7,13 +7,13 @@ ghost use Rattle.scx_vm.specs.Arguments.{given};
 ghost use Rattle.scx_vm.specs.Host.{answer_to, after_query};
 ghost use Rattle.scx_world.specs.World.{quiet};
 ghost use Rattle.scx_world.specs.Helpers.{world_functions};
-ghost use Rattle.scx_machine.specs.Budgets.{HasRoom, callback_pushes, eject_pushes};
+ghost use Rattle.scx_machine.specs.Budgets.{HasRoom, callback_pushes, committed, eject_pushes, program_pushes};
 ghost use Rattle.scx_machine.specs.Does.{Does};
 ghost use Rattle.scx_machine.specs.Notes.{Takes};
 ghost use Rattle.scx_world.specs.Helpers.{or_fault};
 ghost use Rattle.scx_machine.specs.Policy.{IsAs, HasMaps, program_of};
 ghost use Rattle.scx_machine.specs.Ejecting.{ejected_for};
-ghost use Rattle.scx_machine.specs.Callbacks.{called, call_back, end_fault, unless_ejected, answered_by, calls_of, IsAnswered, AreAnswered, one_task, task_cpu_and_0, task_and_number, task_or_0, cpu_and_task};
+ghost use Rattle.scx_machine.specs.Callbacks.{called, call_back, end_fault, unless_ejected, answered_by, calls_of, IsAnswered, AreAnswered, is_calm, one_task, task_cpu_and_0, task_and_number, task_or_0, cpu_and_task};
 
 use crate::machine::Machine;
 use crate::policy::Policy;
@@ -55,7 +55,7 @@ pub(crate) fn run_callback(
     requires shapes { HasShapes policy.now.shapes maps.old }
     requires arguments { FitsCallback callback (given arguments) }
     requires quiet { world.old.notes ≡ [] }
-    requires few { world.old.queues.pushes + 4096 ≤ 2 ^ 63 }
+    requires few { world.old.queues.pushes + program_pushes ≤ 2 ^ 63 }
     ensures ended { record { answer = Some result; maps = maps.new; outside = world.new }
         ≡ called (unless_ejected world.old.ejected (program_of policy.now callback)) callback
         arguments maps.old world.old }
@@ -63,7 +63,7 @@ pub(crate) fn run_callback(
         (calls_of (unless_ejected world.old.ejected (program_of policy.now callback)) arguments
         maps.old world.old) }
     ensures shapes { HasShapes policy.now.shapes maps.new }
-    ensures few { world.new.queues.pushes ≤ world.old.queues.pushes + 4096 }
+    ensures few { world.new.queues.pushes ≤ world.old.queues.pushes + program_pushes }
 {
     match acting(policy, world, callback) {
         Some(program) => run_program(core, program, arguments, maps, world),
@@ -82,7 +82,7 @@ fn run_program(
     requires shapes { HasShapes program.now.context.defs maps.old }
     requires arguments { FitsCallback program.now.context.callback (given arguments) }
     requires quiet { world.old.notes ≡ [] }
-    requires few { world.old.queues.pushes + 4096 ≤ 2 ^ 63 }
+    requires few { world.old.queues.pushes + program_pushes ≤ 2 ^ 63 }
     ensures ended { record { answer = Some result; maps = maps.new; outside = world.new }
         ≡ run_of (answer_to world_functions) (after_query world_functions)
         program.now.context.callback program.now.code (given arguments) maps.old world.old }
@@ -94,7 +94,7 @@ fn run_program(
           world = world.old;
         }) }
     ensures shapes { HasShapes program.now.context.defs maps.new }
-    ensures few { world.new.queues.pushes ≤ world.old.queues.pushes + 4096 }
+    ensures few { world.new.queues.pushes ≤ world.old.queues.pushes + program_pushes }
 {
     let _short = program.instructions();
     run_on(core, program, arguments, maps, world).r0
@@ -215,6 +215,7 @@ impl Machine {
         ensures answer { Some result ≡ answered_by self.old callback arguments task cpu }
         ensures does { Does S.takes callback_pushes (call_back self.old callback arguments task cpu)
             self.old sink.old self.new sink.new }
+        ensures calm { is_calm callback ≡ true → committed self.new ≤ committed self.old }
     {
         self.world.begin(callback, task, cpu);
         let answer = run_callback(

@@ -1,18 +1,19 @@
 ghost use Rattle.std.specs.Prelude.{◌*◌};
-ghost use Rattle.scx_machine.specs.Budgets.{HasRoom, ask_pushes, builtin_ask_pushes, builtin_cycle_pushes, callback_pushes, cycle_pushes, dispatch_pushes, fill_pushes, leave_pushes, pick_pushes, swap_pushes};
+ghost use Rattle.scx_machine.specs.Budgets.{HasRoom, ask_pushes, builtin_ask_pushes, builtin_cycle_pushes, builtin_dispatch_pushes, callback_pushes, cycle_pushes, dispatch_pushes, fill_pushes, leave_pushes, pick_pushes, swap_pushes};
 ghost use Rattle.scx_machine.specs.Does.{Does};
-ghost use Rattle.scx_machine.specs.Cycle.{fill, dispatched, tries, stopping, running_on, leave, start, rest, swap, swap_or_rest, builtin_ask, builtin_cycle, start_or_cycle, pick, pick_or_rest, conclude, ask, seek, look, cycle};
+ghost use Rattle.scx_machine.specs.Filling.{fill};
+ghost use Rattle.scx_machine.specs.Cycle.{dispatched, tries, stopping, running_on, leave, start, rest, swap, swap_or_rest, builtin_dispatch, builtin_fill, builtin_ask, builtin_cycle, start_or_cycle, pick, pick_or_rest, conclude, ask, seek, look, cycle};
 
 use crate::callbacks::{cpu_and_task, one_task, task_and_number};
 use crate::machine::Machine;
 use crate::sink::Sink;
 use scx_isa::Callback;
-use scx_world::{BUILTIN, GLOBAL, What};
+use scx_world::{BUILTIN, What};
 
 impl Machine {
     /// Where the local queue is empty, the front of another comes to it.
-    #[tactic(auto, unfolding(crate::specs::Cycle::fill), using(crate::proofs::Taking::takings))]
-    fn fill<S: Sink>(&mut self, queue: u64, cpu: u32, sink: &mut S)
+    #[tactic(auto, unfolding(crate::specs::Filling::fill), using(crate::proofs::Taking::takings))]
+    pub(crate) fn fill<S: Sink>(&mut self, queue: u64, cpu: u32, sink: &mut S)
         requires { HasRoom fill_pushes self.old }
         ensures { Does S.takes fill_pushes (fill self.old queue cpu)
             self.old sink.old self.new sink.new }
@@ -22,7 +23,7 @@ impl Machine {
         }
     }
 
-    /// Asks dispatch once, and then the queue of all processors.
+    /// Asks dispatch once, and then supplies the local queue.
     #[tactic(auto, unfolding(crate::specs::Cycle::dispatched), using(crate::proofs::Taking::takings))]
     fn dispatch<S: Sink>(&mut self, cpu: u32, before: Option<u16>, sink: &mut S)
         requires { HasRoom dispatch_pushes self.old }
@@ -30,7 +31,7 @@ impl Machine {
             self.old sink.old self.new sink.new }
     {
         self.call_back(Callback::Dispatch, cpu_and_task(cpu, before), 0, cpu, sink);
-        self.fill(GLOBAL, cpu, sink);
+        self.supply(cpu, sink);
     }
 
     /// Asks dispatch, at most so many times.
@@ -144,14 +145,38 @@ impl Machine {
         }
     }
 
-    /// The built-in scheduler's dispatch: the front of its queue comes.
+    /// The built-in scheduler's dispatch: the front of its queue comes, once those that may not run are parked.
+    #[tactic(auto, unfolding(crate::specs::Cycle::builtin_dispatch), using(crate::proofs::Taking::takings))]
+    fn builtin_dispatch<S: Sink>(&mut self, cpu: u32, sink: &mut S)
+        requires { HasRoom builtin_dispatch_pushes self.old }
+        ensures { Does S.takes builtin_dispatch_pushes (builtin_dispatch self.old cpu)
+            self.old sink.old self.new sink.new }
+    {
+        let left = self.world.len(BUILTIN);
+        self.park_fronts(left, BUILTIN, sink);
+        self.fill(BUILTIN, cpu, sink);
+    }
+
+    /// The built-in scheduler's dispatch, where the local queue is empty.
+    #[tactic(auto, unfolding(crate::specs::Cycle::builtin_fill), using(crate::proofs::Taking::takings))]
+    fn builtin_fill<S: Sink>(&mut self, cpu: u32, sink: &mut S)
+        requires { HasRoom builtin_dispatch_pushes self.old }
+        ensures { Does S.takes builtin_dispatch_pushes (builtin_fill self.old cpu)
+            self.old sink.old self.new sink.new }
+    {
+        if !self.has_local(cpu) {
+            self.builtin_dispatch(cpu, sink);
+        }
+    }
+
+    /// Under the built-in scheduler a task comes, if one may run, and the cycle ends.
     #[tactic(auto, unfolding(crate::specs::Cycle::builtin_ask), using(crate::proofs::Taking::takings))]
     fn builtin_ask<S: Sink>(&mut self, cpu: u32, before: Option<u16>, ran: bool, sink: &mut S)
         requires { HasRoom builtin_ask_pushes self.old }
         ensures { Does S.takes builtin_ask_pushes (builtin_ask self.old cpu before ran)
             self.old sink.old self.new sink.new }
     {
-        self.fill(BUILTIN, cpu, sink);
+        self.builtin_fill(cpu, sink);
         self.swap_or_rest(cpu, before, ran, sink);
     }
 
@@ -162,7 +187,7 @@ impl Machine {
         ensures { Does S.takes builtin_cycle_pushes (builtin_cycle self.old cpu before ran)
             self.old sink.old self.new sink.new }
     {
-        self.fill(GLOBAL, cpu, sink);
+        self.supply(cpu, sink);
         self.builtin_ask(cpu, before, ran, sink);
     }
 
@@ -237,7 +262,7 @@ impl Machine {
         ensures { Does S.takes cycle_pushes (seek self.old cpu before ran)
             self.old sink.old self.new sink.new }
     {
-        self.fill(GLOBAL, cpu, sink);
+        self.supply(cpu, sink);
         if self.has_local(cpu) {
             self.pick(cpu, before, ran, sink);
         } else {

@@ -1,13 +1,14 @@
 ghost use Rattle.std.specs.Prelude.{◌≡◌, ℕ, ◌+◌, ◌<◌, ◌≤◌, ◌^◌, length, Some, None};
+ghost use Rattle.scx_weights.specs.Limits.{usage_of};
 ghost use Rattle.scx_weights.specs.Refusals.{max_weight, is_outside};
 ghost use Rattle.scx_world.specs.World.{task_at};
-ghost use Rattle.scx_machine.specs.Budgets.{HasRoom, cycle_pushes, eject_pushes, put_pushes, settle_pushes, sleep_pushes, wake_pushes};
+ghost use Rattle.scx_machine.specs.Budgets.{HasRoom, clock_pushes, cycle_pushes, eject_pushes, event_pushes, put_pushes, settle_pushes, sleep_pushes, throttle_pushes, wake_pushes};
 ghost use Rattle.scx_machine.specs.Does.{Does};
 ghost use Rattle.scx_machine.specs.Notes.{Takes};
 ghost use Rattle.scx_semantics.specs.declared.callbacks.Callback.TheVariants.{SelectCpu};
 ghost use Rattle.scx_machine.specs.Callbacks.{acting, AreAnswered};
 ghost use Rattle.scx_machine.specs.declared.events.Event.TheVariants.{Wake, Sleep, SetWeight};
-ghost use Rattle.scx_machine.specs.Events.{refusal, target, settled, settle, select, wake, sleep_from_cpu, sleep, count_down, tick, overdue, clock, happened};
+ghost use Rattle.scx_machine.specs.Events.{refusal, target, settled, settle, select, wake, sleep_from_cpu, sleep, throttle, expire, count_down, tick, overdue, stalled, clock, happened};
 
 use crate::callbacks::task_cpu_and_0;
 use crate::machine::Machine;
@@ -211,17 +212,47 @@ impl Machine {
         }
     }
 
-    /// A task has run for a millisecond.
+    /// A task that may not run any more leaves its processor and is parked.
+    #[tactic(auto, unfolding(crate::specs::Events::throttle), using(crate::proofs::Taking::takings))]
+    fn throttle<S: Sink>(&mut self, cpu: u32, task: u16, sink: &mut S)
+        requires { HasRoom throttle_pushes self.old }
+        ensures { Does S.takes throttle_pushes (throttle self.old cpu task)
+            self.old sink.old self.new sink.new }
+    {
+        sink.take(self.world.note(What::Stop(task, cpu)));
+        self.world.stop(cpu, task);
+        self.stopping(cpu, task, 1, sink);
+        self.park(task, sink);
+        self.cycle(cpu, None, true, sink);
+    }
+
+    /// A task whose slice has run out may be replaced.
+    #[tactic(auto, unfolding(crate::specs::Events::expire), using(crate::proofs::Taking::takings))]
+    fn expire<S: Sink>(&mut self, cpu: u32, task: u16, sink: &mut S)
+        requires { HasRoom cycle_pushes self.old }
+        ensures { Does S.takes cycle_pushes (expire self.old cpu task)
+            self.old sink.old self.new sink.new }
+    {
+        if self.world.task(task).slice == 0 {
+            self.cycle(cpu, Some(task), true, sink);
+        }
+    }
+
+    /// A task has run for a millisecond, which its groups have used.
     #[tactic(auto, unfolding(crate::specs::Events::count_down), using(crate::proofs::Taking::takings))]
     fn count_down<S: Sink>(&mut self, cpu: u32, task: u16, sink: &mut S)
         requires early { (task_at self.old.world task).run_ns < 2 ^ 63 }
-        requires room { HasRoom cycle_pushes self.old }
-        ensures { Does S.takes cycle_pushes (count_down self.old cpu task)
+        requires used { (g : ℕ) → usage_of self.old.world.tree g < 2 ^ 63 }
+        requires room { HasRoom throttle_pushes self.old }
+        ensures { Does S.takes throttle_pushes (count_down self.old cpu task)
             self.old sink.old self.new sink.new }
     {
         self.world.run_tick(task);
-        if self.world.task(task).slice == 0 {
-            self.cycle(cpu, Some(task), true, sink);
+        self.world.use_ms(task);
+        if self.world.is_throttled(task) {
+            self.throttle(cpu, task, sink);
+        } else {
+            self.expire(cpu, task, sink);
         }
     }
 
@@ -229,8 +260,9 @@ impl Machine {
     #[tactic(auto, unfolding(crate::specs::Events::tick), using(crate::proofs::Taking::takings))]
     fn tick<S: Sink>(&mut self, cpu: u32, sink: &mut S)
         requires early { (t : ℕ) → (task_at self.old.world t).run_ns < 2 ^ 63 }
-        requires room { HasRoom cycle_pushes self.old }
-        ensures { Does S.takes cycle_pushes (tick self.old cpu)
+        requires used { (g : ℕ) → usage_of self.old.world.tree g < 2 ^ 63 }
+        requires room { HasRoom throttle_pushes self.old }
+        ensures { Does S.takes throttle_pushes (tick self.old cpu)
             self.old sink.old self.new sink.new }
     {
         match self.world.running(cpu) {
@@ -250,19 +282,31 @@ impl Machine {
         self.world.first_overdue(self.policy.timeout_ms())
     }
 
-    /// The clock grows by a millisecond, and a policy that let a task wait too long is ejected.
-    #[tactic(auto, unfolding(crate::specs::Events::clock), using(crate::proofs::Taking::takings))]
-    fn clock<S: Sink>(&mut self, sink: &mut S)
-        requires early { self.old.world.clock < 2 ^ 32 }
-        requires room { HasRoom eject_pushes self.old }
-        ensures { Does S.takes eject_pushes (clock self.old)
+    /// A policy that let a task wait too long is ejected.
+    #[tactic(auto, using(crate::proofs::Taking::takings))]
+    fn watch<S: Sink>(&mut self, sink: &mut S)
+        requires { HasRoom eject_pushes self.old }
+        ensures { Does S.takes eject_pushes (stalled (overdue self.old) self.old)
             self.old sink.old self.new sink.new }
     {
-        self.world.advance();
         if let Some(task) = self.overdue() {
             let clock = self.world.clock();
             self.eject(Eject::Stall(task, clock), sink);
         }
+    }
+
+    /// The clock grows by a millisecond, and periods begin: who may run again is let go.
+    #[tactic(auto, unfolding(crate::specs::Events::clock), using(crate::proofs::Taking::takings))]
+    fn clock<S: Sink>(&mut self, sink: &mut S)
+        requires early { self.old.world.clock < 2 ^ 32 }
+        requires room { HasRoom event_pushes self.old }
+        ensures { Does S.takes clock_pushes (clock self.old)
+            self.old sink.old self.new sink.new }
+    {
+        self.world.advance();
+        self.world.begin_periods();
+        self.let_all_go(sink);
+        self.watch(sink);
     }
 
     /// Does what an event does that is accepted.
@@ -271,9 +315,10 @@ impl Machine {
         requires accepted { refusal self.old event ≡ None }
         requires early { self.old.world.clock < 2 ^ 32 }
         requires runs { (t : ℕ) → (task_at self.old.world t).run_ns < 2 ^ 63 }
-        requires few { self.old.world.queues.pushes + 2 ^ 18 ≤ 2 ^ 63 }
+        requires used { (g : ℕ) → usage_of self.old.world.tree g < 2 ^ 63 }
+        requires few { self.old.world.queues.pushes + event_pushes ≤ 2 ^ 63 }
         ensures state { self.new ≡ (happened self.old event).state }
-        ensures few { self.new.world.queues.pushes ≤ self.old.world.queues.pushes + 2 ^ 18 }
+        ensures few { self.new.world.queues.pushes ≤ self.old.world.queues.pushes + event_pushes }
         ensures notes { Takes S.takes sink.old (happened self.old event).notes sink.new }
         ensures answered { AreAnswered (happened self.old event).calls }
     {

@@ -10,6 +10,7 @@ mod cycle;
 mod ejecting;
 mod events;
 mod machine;
+mod parking;
 mod policy;
 mod put;
 mod sink;

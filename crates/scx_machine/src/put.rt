@@ -1,5 +1,5 @@
-ghost use Rattle.std.specs.Prelude.{◌≡◌};
-ghost use Rattle.scx_machine.specs.Budgets.{HasRoom, enter_pushes, put_pushes};
+ghost use Rattle.std.specs.Prelude.{◌≡◌, ◌+◌, ◌≤◌};
+ghost use Rattle.scx_machine.specs.Budgets.{HasRoom, committed, enter_pushes, put_pushes};
 ghost use Rattle.scx_machine.specs.Does.{Does};
 ghost use Rattle.scx_machine.specs.Put.{enters, wanted, enters_builtin, comes_in, put};
 
@@ -63,8 +63,9 @@ impl Machine {
     #[tactic(auto, unfolding(crate::specs::Put::put), using(crate::proofs::Taking::takings))]
     pub(crate) fn put<S: Sink>(&mut self, task: u16, cpu: u32, flags: u64, sink: &mut S)
         requires { HasRoom put_pushes self.old }
-        ensures { Does S.takes put_pushes (put self.old task cpu flags)
+        ensures does { Does S.takes put_pushes (put self.old task cpu flags)
             self.old sink.old self.new sink.new }
+        ensures committed { committed self.new ≤ committed self.old + enter_pushes }
     {
         self.call_back(
             Callback::Enqueue,

@@ -3,6 +3,7 @@ ghost use Rattle.scx_weights.specs.Counting.{any_below};
 ghost use Rattle.scx_weights.specs.Hierarchy.{is_active_task};
 ghost use Rattle.scx_machine.specs.declared.start.NewError.TheVariants.{OutOfMemory};
 ghost use Rattle.scx_machine.specs.Policy.{AreAs};
+ghost use Rattle.scx_machine.specs.Budgets.{program_pushes};
 ghost use Rattle.scx_machine.specs.Callbacks.{AreAnswered};
 ghost use Rattle.scx_machine.specs.Start.{is_bad_shape, blank, fault_answer, initialized, enable, enabled, all_enabled, started, IsRefusal, init_calls, enable_calls, calls_below, calls_after_init, start_calls, AreAnsweredBefore};
 
@@ -75,7 +76,8 @@ impl Machine {
         ensures programs { OnOk result (AreAs policy.callbacks) }
     {
         let maps = Maps::new(alloc, policy.defs())?;
-        let world = World::new(alloc, tree, cpus)?;
+        let mut world = World::new(alloc, tree, cpus)?;
+        world.begin_periods();
         Ok(Machine {
             policy,
             maps,
@@ -101,10 +103,10 @@ impl Machine {
     /// Runs init. Where it fails, answers the number that stands for it.
     #[tactic(auto, unfolding(crate::specs::Start::initialized))]
     fn initialize(&mut self) -> Result<(), i64>
-        requires few { self.old.world.queues.pushes + 4096 ≤ 2 ^ 63 }
+        requires few { self.old.world.queues.pushes + program_pushes ≤ 2 ^ 63 }
         ensures done { OnOk result (initialized self.old ≡ Ok self.new) }
         ensures failed { IfErr result (λ answer. initialized self.old ≡ Err answer) }
-        ensures few { self.new.world.queues.pushes ≤ self.old.world.queues.pushes + 4096 }
+        ensures few { self.new.world.queues.pushes ≤ self.old.world.queues.pushes + program_pushes }
         ensures answered { AreAnswered (init_calls self.old) }
     {
         self.world.begin(Callback::Init, 0, 0);
@@ -148,11 +150,11 @@ impl Machine {
     /// Runs enable of a task.
     #[tactic(auto, unfolding(crate::specs::Start::enable))]
     fn enable(&mut self, task: u16) -> Result<(), i64>
-        requires few { self.old.world.queues.pushes + 4096 ≤ 2 ^ 63 }
+        requires few { self.old.world.queues.pushes + program_pushes ≤ 2 ^ 63 }
         ensures done { OnOk result (enable self.old task ≡ Some self.new) }
         ensures failed { OnErr result (enable self.old task ≡ None) }
         ensures answer { IfErr result (λ answer. answer ≡ fault_answer) }
-        ensures few { self.new.world.queues.pushes ≤ self.old.world.queues.pushes + 4096 }
+        ensures few { self.new.world.queues.pushes ≤ self.old.world.queues.pushes + program_pushes }
         ensures answered { AreAnswered (enable_calls (Some self.old) task) }
     {
         self.world.begin(Callback::Enable, task, 0);

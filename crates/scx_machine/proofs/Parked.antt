@@ -1,0 +1,76 @@
+-- Tasks are parked, and let go, one after another.
+use Rattle.std.proofs.Common.{arith, ◌≡◌, ℕ, zero, suc, ◌-◌, ◌<◌, Option, Some, None, true, false, refl, sub-one}
+use Rattle.scx_dsq.specs.Queues.{behind_of}
+use Rattle.scx_world.specs.World.{is_throttled}
+use Rattle.scx_world.specs.Ids.{global, local_on}
+use Rattle.scx_machine.specs.Steps.{State, stays, joined}
+use Rattle.scx_machine.specs.Filling.{fill}
+use Rattle.scx_machine.specs.Parking.{park_front, throttled_front, park_fronts, clear, let_go_one, let_go_from}
+
+-- ---- fronts of a queue
+
+-- none is left to look at
+pub fronts_none : (n q : ℕ) (s : State) → n ≡ 0 → park_fronts n s q ≡ stays s
+unfolding park_fronts
+fronts_none zero q s e = refl
+fronts_none (suc n) q s e = absurd (omega (arith, e))
+
+-- the front may run, or there is none
+pub fronts_last : (n q : ℕ) (s : State) → throttled_front s q ≡ None → park_fronts n s q ≡ stays s
+unfolding park_fronts
+fronts_last zero q s e = refl
+fronts_last (suc n) q s e = rw e refl
+
+-- the front is parked
+pub fronts_more : (n q t : ℕ) (s : State) → 0 < n → throttled_front s q ≡ Some t → park_fronts n s q ≡ joined (park_front s q t) (park_fronts (n - 1) (park_front s q t).state q)
+unfolding park_fronts
+fronts_more zero q t s l e = absurd (omega (arith, l))
+fronts_more (suc n) q t s l e = rw (e, sub-one) refl
+
+pub ruleset park_fronts_steps = (fronts_none, fronts_last, fronts_more)
+
+-- ---- fronts of a local queue, which is filled
+
+pub clear_none : (n c : ℕ) (s : State) → n ≡ 0 → clear n s c ≡ stays s
+unfolding clear
+clear_none zero c s e = refl
+clear_none (suc n) c s e = absurd (omega (arith, e))
+
+pub clear_last : (n c : ℕ) (s : State) → 0 < n → throttled_front (fill s global c).state (local_on c) ≡ None → clear n s c ≡ joined (fill s global c) (stays (fill s global c).state)
+unfolding clear
+clear_last zero c s l e = absurd (omega (arith, l))
+clear_last (suc n) c s l e = rw e refl
+
+pub clear_more : (n c t : ℕ) (s : State) → 0 < n → throttled_front (fill s global c).state (local_on c) ≡ Some t
+    → clear n s c ≡ joined (fill s global c) (joined (park_front (fill s global c).state (local_on c) t) (clear (n - 1) (park_front (fill s global c).state (local_on c) t).state c))
+unfolding clear
+clear_more zero c t s l e = absurd (omega (arith, l))
+clear_more (suc n) c t s l e = rw (e, sub-one) refl
+
+pub ruleset clear_steps = (clear_none, clear_last, clear_more)
+
+-- ---- the parked
+
+pub go_none : (n : ℕ) (s : State) (o : Option ℕ) → n ≡ 0 → let_go_from n s o ≡ stays s
+unfolding let_go_from
+go_none zero s o e = refl
+go_none (suc n) s o e = absurd (omega (arith, e))
+
+pub go_nobody : (n : ℕ) (s : State) (o : Option ℕ) → o ≡ None → let_go_from n s o ≡ stays s
+unfolding let_go_from
+go_nobody zero s o e = refl
+go_nobody (suc n) s o e = rw e refl
+
+-- one that may not run stays
+pub go_past : (n t : ℕ) (s : State) → 0 < n → is_throttled s.world t ≡ true → let_go_from n s (Some t) ≡ let_go_from (n - 1) s (behind_of s.world.queues t)
+unfolding let_go_from
+go_past zero t s l e = absurd (omega (arith, l))
+go_past (suc n) t s l e = rw (e, sub-one) refl
+
+-- one that may is let go
+pub go_one : (n t : ℕ) (s : State) → 0 < n → is_throttled s.world t ≡ false → let_go_from n s (Some t) ≡ joined (let_go_one s t) (let_go_from (n - 1) (let_go_one s t).state (behind_of s.world.queues t))
+unfolding let_go_from
+go_one zero t s l e = absurd (omega (arith, l))
+go_one (suc n) t s l e = rw (e, sub-one) refl
+
+pub ruleset let_go_steps = (go_none, go_nobody, go_past, go_one)
