@@ -24,7 +24,7 @@ pub struct Tree {
 
 impl Model for Tree {
     ghost use Rattle.scx_weights.specs.Hierarchy.{Hierarchy};
-    ghost use Rattle.scx_weights.specs.RunningSums.{IsKept, IsBeat};
+    ghost use Rattle.scx_weights.specs.RunningSums.{IsKept, KnowsLimits};
 
     ghost Value = { Hierarchy };
 
@@ -33,7 +33,7 @@ impl Model for Tree {
     ghost invariant = { λ t.
         IsKept
         (record { groups = t.groups.items; homes = t.homes.items; active = t.active.items; usages = t.usages.used.items })
-        t.sums.tasks.items t.sums.weights.items × IsBeat t.groups.items t.usages.beat };
+        t.sums.tasks.items t.sums.weights.items × KnowsLimits t.groups.items t.usages.beat t.usages.limited };
 }
 
 impl Tree {
