@@ -3,11 +3,11 @@ use Rattle.std.specs.Int.{◌∣◌}
 use Rattle.std.specs.List.{list_any}
 use Rattle.std.proofs.lemmas.Bool.{cases_eq, cases_lt}
 use Rattle.std.proofs.lemmas.Nat.Gcd.{dvd_trans, dvd_of_mod-eq-zero, mod-eq-zero_of_dvd}
-use Rattle.std.proofs.lemmas.List.{get_or_read, get_or_past, get_or-set_same, get_or-set_other}
+use Rattle.std.proofs.lemmas.List.{get_or_read, get_or_past}
 use Rattle.std.proofs.Common.{◌≡◌, ℕ, zero, suc, ◌+◌, max, ◌⊎◌, inl, inr, ◌<◌, ◌≤◌, ◌%◌, false, List, [], ◌∷◌, length, get_or, set, Bool, Option, None, Some, is_some, ⊎_elim, refl, ap, ◌∙◌, sym, subst, arith}
 use Rattle.scx_weights.specs.declared.group.Group.{Group}
-use Rattle.scx_weights.specs.Hierarchy.{parent_of, quota_at, period_at, group_at, reweighed}
-use Rattle.scx_weights.specs.Limits.{is_used_up}
+use Rattle.scx_weights.specs.Hierarchy.{Hierarchy, path, home_of, parent_of, quota_at, period_at, group_at}
+use Rattle.scx_weights.specs.Limits.{is_used_up, has_quota, is_throttled}
 use Rattle.scx_weights.specs.RunningSums.{KnowsLimits}
 use Rattle.scx_weights.proofs.Admitted.{none_at}
 use Rattle.scx_weights.proofs.Reweighed.{period_reweighed, length-reweighed}
@@ -19,14 +19,11 @@ no_group = record { parent = None; weight = 0; quota_ms = None; period_ms = 0 }
 pub none_begins : (beat p clock : ℕ) → beat ∣ p → (clock % beat ≡ 0 → ⊥) → (clock % p ≡ 0 → ⊥)
 none_begins beat p clock d off on = off (mod-eq-zero_of_dvd beat (dvd_trans beat d (dvd_of_mod-eq-zero p on)))
 
--- quotas stay
-quota_reweighed : (groups : List Group) (g w k : ℕ) → g < length groups → quota_at (reweighed groups g w) k ≡ quota_at groups k
-quota_reweighed groups g w k lt =
-    let new : Group = record { parent = parent_of groups g; weight = w; quota_ms = quota_at groups g; period_ms = period_at groups g } in
-    ⊎_elim
-    (λ (e : k ≡ g). subst (λ (x : ℕ). quota_at (reweighed groups g w) x ≡ quota_at groups x) (sym e) (ap (λ (x : Group). x.quota_ms) (get_or-set_same groups g new no_group lt)))
-    (λ (e : k ≡ g → ⊥). ap (λ (x : Group). x.quota_ms) (get_or-set_other groups g k new no_group e))
-    (cases_eq k g)
+-- a test of a list asks the same where what is written passes as what was there
+any_set : {X : Type 0} (test : X → Bool) (xs : List X) (g : ℕ) (y d : X) → g < length xs → test y ≡ test (get_or xs g d) → list_any test (set xs g y) ≡ list_any test xs
+any_set test [] g y d lt e = absurd (omega (arith, lt))
+any_set test (x ∷ xs) zero y d lt e = rw e refl
+any_set test (x ∷ xs) (suc g) y d lt e = rw (any_set test xs g y d (omega (arith, lt)) e) refl
 
 -- a weight that is written leaves all that as it is
 pub limits_stay : (groups : List Group) (g w beat : ℕ) (limited : Bool) (had : Group) → g < length groups → had ≡ get_or groups g had → KnowsLimits groups beat limited
@@ -37,11 +34,11 @@ limits_stay groups g w beat limited had lt read is =
     (record {
       some = is.some;
       divides = λ k k_lt. subst (λ n. beat ∣ n) (sym (period_reweighed groups g w k lt)) (is.divides k (omega (arith, length-reweighed groups g w, k_lt)));
-      free = λ none k. quota_reweighed groups g w k lt ∙ is.free none k;
+      quotas = is.quotas ∙ sym (any_set (λ (x : Group). is_some x.quota_ms) groups g (record { parent = parent_of groups g; weight = w; quota_ms = quota_at groups g; period_ms = period_at groups g }) no_group lt refl);
     })
 
 -- where no group has a quota each lacks one, past the end too
-pub free_of : (groups : List Group) → list_any (λ (group : Group). is_some group.quota_ms) groups ≡ false → (g : ℕ) → quota_at groups g ≡ None
+pub free_of : (groups : List Group) → has_quota groups ≡ false → (g : ℕ) → quota_at groups g ≡ None
 free_of groups none g =
     ⊎_elim
     (λ (lt : g < length groups). none_is (quota_at groups g) (none_at (λ (group : Group). is_some group.quota_ms) groups g no_group none lt))
@@ -58,10 +55,11 @@ none_any test none [] = refl
 none_any test none (x ∷ xs) = rw (none x) (none_any test none xs)
 
 -- where no group has a quota nobody is throttled
-pub none_throttled : (groups : List Group) (used : List ℕ) (beat : ℕ) (limited : Bool) (way : List ℕ) → KnowsLimits groups beat limited → limited ≡ false
-    → false ≡ list_any (λ g. is_used_up (quota_at groups g) (get_or used g 0)) way
-none_throttled groups used beat limited way knows none =
-    sym (none_any (λ g. is_used_up (quota_at groups g) (get_or used g 0)) (λ g. ap (λ o. is_used_up o (get_or used g 0)) (knows.free none g)) way)
+pub free_way : (groups : List Group) (used way : List ℕ) → has_quota groups ≡ false → list_any (λ g. is_used_up (quota_at groups g) (get_or used g 0)) way ≡ false
+free_way groups used way none = none_any (λ g. is_used_up (quota_at groups g) (get_or used g 0)) (λ g. ap (λ o. is_used_up o (get_or used g 0)) (free_of groups none g)) way
+
+pub none_throttled : (t : Hierarchy) (k : ℕ) → has_quota t.groups ≡ false → is_throttled t k ≡ false
+none_throttled t k none = free_way t.groups t.usages (path t.groups (home_of t k)) none
 
 -- of one group more
 pub one_more : (groups : List Group) (beat less n : ℕ) → ((g : ℕ) → g < n → beat ∣ period_at groups g) → less ∣ beat → less ∣ period_at groups n → (g : ℕ) → g < n + 1 → less ∣ period_at groups g

@@ -1,8 +1,9 @@
 -- Limits of processor time: `cpu.max` of Linux Documentation/admin-guide/cgroup-v2.rst, in whole milliseconds. A
 -- group with a quota may use that much in each of its periods, which begin where the clock is a multiple
 -- of their length. What its tasks use, and those below it, counts together.
-use Rattle.std.specs.Prelude.{ℕ, ◌+◌, ◌%◌, Bool, false, ◌==◌, nat_le, List, length, map, slice_index, Option, None, Some, if◌then◌else◌}
+use Rattle.std.specs.Prelude.{ℕ, ◌+◌, ◌%◌, Bool, false, ◌==◌, nat_le, List, length, map, slice_index, Option, None, Some, is_some, if◌then◌else◌}
 use Rattle.std.specs.List.{list_any, range_with_len}
+use Rattle.scx_weights.specs.declared.group.Group.{Group}
 use Rattle.scx_weights.specs.Hierarchy.{Hierarchy, quota_at, period_at, path, lies_in, home_of}
 
 -- the processor time that the group has used in its period, in ms
@@ -17,6 +18,10 @@ is_used_up (Some quota) used = nat_le quota used
 -- the group has used all that it may
 abbrev pub is_throttled_group : Hierarchy → ℕ → Bool
 is_throttled_group t g = is_used_up (quota_at t.groups g) (usage_of t g)
+
+-- a group has a quota
+abbrev pub has_quota : List Group → Bool
+has_quota groups = list_any (λ (group : Group). is_some group.quota_ms) groups
 
 -- a task is throttled where its group is, or one that this lies below
 abbrev pub is_throttled : Hierarchy → ℕ → Bool

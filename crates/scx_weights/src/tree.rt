@@ -39,7 +39,7 @@ impl Model for Tree {
 impl Tree {
     ghost use Rattle.scx_weights.specs.Hierarchy.{home_of, is_active_task, with_task, with_weight, idle};
     ghost use Rattle.scx_weights.specs.Weights.{active_tasks, task_weight};
-    ghost use Rattle.scx_weights.specs.Limits.{usage_of, is_throttled, with_use, with_turn};
+    ghost use Rattle.scx_weights.specs.Limits.{usage_of, has_quota, is_throttled, with_use, with_turn};
     ghost use Rattle.scx_weights.specs.Hierarchy.{lies_in};
     ghost use Rattle.scx_weights.specs.Refusals.{max_tasks, first_fault, weight_fault, Names};
 
@@ -161,6 +161,13 @@ impl Tree {
         ensures { self.new ≡ with_use self.old task }
     {
         self.usages.charge(&self.groups, self.homes[task as usize]);
+    }
+
+    /// Whether a group has a quota. Where none has, no task is ever throttled.
+    pub fn is_limited(&self) -> bool
+        ensures { result ≡ has_quota self.now.groups }
+    {
+        self.usages.is_limited()
     }
 
     /// Whether the task's group has used all of its quota, or one that this lies below.
