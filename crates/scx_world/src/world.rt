@@ -2,6 +2,7 @@ ghost use Rattle.std.specs.Prelude.{◌≡◌, ◌≢◌, ℕ, ◌+◌, ◌≤�
 ghost use Rattle.std.specs.Int.{bit_at};
 ghost use Rattle.scx_dsq.specs.Laws.{one_if};
 ghost use Rattle.scx_dsq.specs.Queues.{queue_of, task_count};
+ghost use Rattle.scx_weights.specs.Limits.{has_quota};
 ghost use Rattle.scx_world.specs.First.{with_locals, first_queues, first_world};
 ghost use Rattle.scx_world.specs.Helpers.{pointed};
 ghost use Rattle.scx_world.specs.Kept.{AreTaken};
@@ -269,6 +270,13 @@ impl World {
     }
 
     // ---- weights
+
+    /// Whether a group has a quota. Where none has, no task is ever throttled.
+    pub fn is_limited(&self) -> bool
+        ensures { result ≡ has_quota self.now.tree.groups }
+    {
+        self.tree.is_limited()
+    }
 
     /// Whether the task's group has used all of its quota, or one that this lies below.
     pub fn is_throttled(&self, task: u16) -> bool
