@@ -5,3 +5,4 @@ pub mod Enabling
 pub mod Evicting
 pub mod Unchanged
 pub mod Parked
+pub mod Free

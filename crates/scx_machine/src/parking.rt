@@ -78,15 +78,29 @@ impl Machine {
         }
     }
 
-    /// The local queue comes to have a front that may run, if it has such a task, or that of all processors.
+    /// The local queue comes to have a front that may run, where some tasks may not.
     #[tactic(auto, unfolding(crate::specs::Parking::supply), using(crate::proofs::Taking::takings))]
-    pub(crate) fn supply<S: Sink>(&mut self, cpu: u32, sink: &mut S)
+    fn supply_limited<S: Sink>(&mut self, cpu: u32, sink: &mut S)
         requires { HasRoom supply_pushes self.old }
         ensures { Does S.takes supply_pushes (supply self.old cpu)
             self.old sink.old self.new sink.new }
     {
         let left = self.world.len(LOCAL_ON + u64::from(cpu)) + self.world.len(GLOBAL);
         self.clear(left, cpu, sink);
+    }
+
+    /// The local queue comes to have a front that may run, if it has such a task, or that of all processors.
+    #[tactic(auto, using(crate::proofs::Taking::takings, crate::proofs::Free::supply_free))]
+    pub(crate) fn supply<S: Sink>(&mut self, cpu: u32, sink: &mut S)
+        requires { HasRoom supply_pushes self.old }
+        ensures { Does S.takes supply_pushes (supply self.old cpu)
+            self.old sink.old self.new sink.new }
+    {
+        if self.world.is_limited() {
+            self.supply_limited(cpu, sink);
+        } else {
+            self.fill(GLOBAL, cpu, sink);
+        }
     }
 
     /// The task is parked no more, and is put as for the processor on which it ran last.
