@@ -182,6 +182,21 @@ fn a_group_uses_what_those_above_it_may(rt: HostRuntime) -> Result<(), Fail> {
     Ok(())
 }
 
+fn is_limited(alloc: Global, limits: &[Limit], home: u32) -> Result<bool, TreeError> {
+    let groups = groups_of(alloc, limits)?;
+    let tree = Tree::new(alloc, &groups, &[home])?;
+    Ok(tree.is_limited())
+}
+
+#[test]
+fn a_quota_of_any_group_limits(rt: HostRuntime) -> Result<(), Fail> {
+    let free = is_limited(rt.alloc(), &[(None, None, 100), (Some(0), None, 5)], 1)?;
+    expect_same(&rt, free, false, "no quota");
+    let nested = is_limited(rt.alloc(), &NESTED, 1)?;
+    expect_same(&rt, nested, true, "two quotas");
+    Ok(())
+}
+
 /// The shortest period and the longest one, with the least quota and the greatest one.
 const EXTREMES: [Limit; 2] = [(None, Some(1), 1), (None, Some(1_000_000), 1000)];
 
