@@ -174,3 +174,13 @@ jump_sound shapes a m w c r x fits p h =
     (λ j uj pj hj. checked m.maps (operand_kind a w x) (operand_value m w x) (λ k. rules.compared a (number r) w c (null_test w c x) j k)
     (λ res. IsSoundFor shapes res (branch m (compared m w c (m.registers (number r)) x))) (λ why. tt) (operand_allows shapes a m w x fits p h)
     (λ k uk pk hk. compare_sound shapes a m (number r) w c x j k (m.registers (number r)) h uj pj refl hj hk))
+
+-- ---- comparisons with a constant
+
+pub constant_compared : (a : AbsState) (o : Comparison) (r : Register) (k : ℤ) (c : ℕ) (s : Range) → kind_at a (number r) ≡ Num s → c ≡ immediate Bits64 k
+    → jump_rule a Bits64 o r (operand.Immediate k) ≡ Ok (flows (side a (number r) o false c s) (side a (number r) o true c s))
+constant_compared a o r k c s e f =
+    let n = immediate Bits64 k in
+    subst (λ c. jump_rule a Bits64 o r (operand.Immediate k) ≡ Ok (flows (side a (number r) o false c s) (side a (number r) o true c s))) (sym f)
+    (ap (λ j. usable j >>= (λ j. rules.compared a (number r) Bits64 o (null_test Bits64 o (operand.Immediate k)) j (Num (single n)))) e
+    ∙ ap (λ b. Ok (if b then flows (side a (number r) o false n s) (side a (number r) o true n s) else flows (Some a) (Some a))) (eq-eqb n n refl))

@@ -1,7 +1,7 @@
 -- The join of two kinds, of two cells, and of two states is the least that covers both.
-use Rattle.std.proofs.Common.{◌≡◌, ℕ, ◌<◌, ◌≤◌, ◌⊎◌, inl, inr, [], arith, Bool, true, false, ◌&&◌, nat_eq, List, set, slice_index_or, Option, Some, None, refl, sym, ap, subst, ◌∙◌}
+use Rattle.std.proofs.Common.{◌≡◌, ℕ, ◌<◌, ◌≤◌, ◌⊎◌, inl, inr, [], arith, Bool, true, false, ◌&&◌, nat_eq, List, set, length, slice_index_or, min, max, Option, Some, None, refl, sym, ap, subst, ◌∙◌}
 use Rattle.std.proofs.lemmas.Bool.{eqb-true, eq-eqb, and_parts, and_from, both_ways, cases_lt}
-use Rattle.std.proofs.lemmas.List.{get_or_past, set-get_or}
+use Rattle.std.proofs.lemmas.List.{get_or_past, get_or_default, set-get_or}
 use Rattle.scx_ranges.specs.declared.ranges.Range.{Range}
 use Rattle.scx_ranges.specs.Ranges.{CoversRange, join_ranges}
 use Rattle.scx_abs.specs.declared.kinds.Kind.{Kind}
@@ -46,14 +46,48 @@ two_tests m n o p e =
     let parts = and_parts (nat_eq m n) (nat_eq o p) e in
     (eqb-true m n parts.0, eqb-true o p parts.1)
 
--- a register of which nothing is known keeps its kind; d is the default with which it is read
-pub joined_nothing : (xs ys : List Kind) (r : ℕ) (d : Kind) → d ≡ slice_index_or xs r d → d ≡ Unusable
+join_ranges_itself : (r : Range) → join_ranges r r ≡ r
+join_ranges_itself r =
+    let low : min r.low r.low ≡ r.low = omega arith in
+    let high : max r.high r.high ≡ r.high = omega arith in
+    let shift : min r.shift r.shift ≡ r.shift = omega arith in
+    ap (λ n. record { low = n; high = max r.high r.high; shift = min r.shift r.shift }) low
+    ∙ (ap (λ n. record { low = r.low; high = n; shift = min r.shift r.shift }) high
+    ∙ ap (λ n. record { low = r.low; high = r.high; shift = n }) shift)
+
+same_if : (n : ℕ) (k : Kind) → kind_if (nat_eq n n) k ≡ k
+same_if n k = ap (λ b. kind_if b k) (eq-eqb n n refl)
+
+-- a kind joined with itself is itself
+join_itself : (k : Kind) → join_kind k k ≡ k
+join_itself Unusable = refl
+join_itself (Num r) = ap Num (join_ranges_itself r)
+join_itself (Stack o) = same_if o (Stack o)
+join_itself (Elem m r) = same_if m (Elem m (join_ranges r r)) ∙ ap (Elem m) (join_ranges_itself r)
+join_itself (ElemOrNull m) = same_if m (ElemOrNull m)
+join_itself Task = refl
+join_itself TaskOrNull = refl
+join_itself (MapRef m) = same_if m (MapRef m)
+
+pub same_parts : (r s : Range) → r.low ≡ s.low → r.high ≡ s.high → r.shift ≡ s.shift → r ≡ s
+same_parts r s l h t =
+    ap (λ n. record { low = n; high = r.high; shift = r.shift }) l
+    ∙ (ap (λ n. record { low = s.low; high = n; shift = r.shift }) h ∙ ap (λ n. record { low = s.low; high = s.high; shift = n }) t)
+
+pub join_same : (j k : Kind) → j ≡ k → join_kind j k ≡ j
+join_same j k e = ap (join_kind j) (sym e) ∙ join_itself j
+
+-- a register whose kind a join leaves keeps it; d and e are the defaults with which both are read
+pub joined_kept : (xs ys : List Kind) (r : ℕ) (d e : Kind) → r < length xs → r < length ys
+    → join_kind (slice_index_or xs r d) (slice_index_or ys r e) ≡ slice_index_or xs r d
     → xs ≡ set xs r (join_kind (slice_index_or xs r Unusable) (slice_index_or ys r Unusable))
-joined_nothing xs ys r d here none =
-    let nothing : slice_index_or xs r Unusable ≡ Unusable = sym (subst (λ k. k ≡ slice_index_or xs r k) none here) in
-    let same : join_kind (slice_index_or xs r Unusable) (slice_index_or ys r Unusable) ≡ slice_index_or xs r Unusable =
-    ap (λ k. join_kind k (slice_index_or ys r Unusable)) nothing ∙ sym nothing in
-    sym (ap (set xs r) same ∙ set-get_or xs r Unusable)
+joined_kept xs ys r d e lx ly same =
+    let first : slice_index_or xs r d ≡ slice_index_or xs r Unusable = get_or_default xs r d Unusable lx in
+    let second : slice_index_or ys r e ≡ slice_index_or ys r Unusable = get_or_default ys r e Unusable ly in
+    let kept : join_kind (slice_index_or xs r Unusable) (slice_index_or ys r Unusable) ≡ slice_index_or xs r Unusable =
+    sym (ap (λ k. join_kind k (slice_index_or ys r Unusable)) first)
+    ∙ (sym (ap (join_kind (slice_index_or xs r d)) second) ∙ (same ∙ first)) in
+    sym (ap (set xs r) kept ∙ set-get_or xs r Unusable)
 
 -- a join of kinds covers the first
 pub kind_covers_first : (j k : Kind) → CoversKind (join_kind j k) j

@@ -15,6 +15,7 @@ use scx_maps::MapDefs;
 use scx_ranges::{Numbers, Offsets};
 
 /// The kind of a register that is read.
+#[inline(always)]
 pub(crate) fn usable(kind: Kind) -> Result<Kind, Why>
     ensures { result ≡ usable kind }
 {
@@ -25,6 +26,7 @@ pub(crate) fn usable(kind: Kind) -> Result<Kind, Why>
 }
 
 /// The kind of an operand of that width.
+#[inline(always)]
 pub(crate) fn operand_kind(state: &AbsState, width: Width, operand: Operand) -> Result<Kind, Why>
     ensures { result ≡ operand_kind state.now width operand }
 {
@@ -99,6 +101,7 @@ fn moved_kind(width: Width, kind: Kind) -> Result<Kind, Why>
 }
 
 /// The kind that an operation leaves that reads its destination.
+#[inline(always)]
 fn combined_kind(
     state: &AbsState,
     width: Width,
@@ -115,6 +118,7 @@ fn combined_kind(
 }
 
 /// The kind that an operation makes of these two.
+#[inline(always)]
 fn arithmetic_kind(
     width: Width,
     operation: Operation,
@@ -135,6 +139,7 @@ fn arithmetic_kind(
 }
 
 /// The kind that an operation makes of a number and such an operand.
+#[inline(always)]
 fn computed_kind(
     width: Width,
     operation: Operation,

@@ -1,10 +1,11 @@
-ghost use Rattle.std.specs.Prelude.{◌≡◌, Some, true, false, option_map};
+ghost use Rattle.std.specs.Prelude.{◌≡◌, Ok, Some, IfSome, true, false, option_map};
 ghost use Rattle.scx_semantics.specs.Registers.{number};
 ghost use Rattle.scx_ranges.specs.Ranges.{single};
 ghost use Rattle.scx_abs.specs.declared.changes.Change.TheVariants as Change;
 ghost use Rattle.scx_abs.specs.declared.kinds.Kind.TheVariants.{Elem, Num, Task};
 ghost use Rattle.scx_abs.specs.Changes.{changed, next_of, flowed};
 ghost use Rattle.scx_abs.specs.Checks.{flows};
+ghost use Rattle.scx_abs.specs.States.{kind_at};
 ghost use Rattle.scx_abs.specs.Rules.{null_test, if_null, if_not_null, tested, side, sides, numbers_compared, jump_rule};
 
 use crate::arithmetic::{operand_kind, usable};
@@ -12,8 +13,32 @@ use crate::changes::{Change, Flow};
 use crate::faults::Why;
 use crate::kinds::Kind;
 use crate::states::AbsState;
+use scx_arithmetic::immediate;
 use scx_isa::{Comparison, Operand, Register, Width};
 use scx_ranges::{Numbers, Offsets};
+
+/// The constant that a jump compares all 64 bits of a register's number with, if it does: each side has
+/// then the numbers that `Numbers::cut` leaves.
+#[inline(always)]
+#[tactic(auto, using(crate::proofs::Branches::constant_compared))]
+pub fn constant_compared(
+    state: &AbsState,
+    width: Width,
+    comparison: Comparison,
+    register: Register,
+    numbers: Numbers,
+    operand: Operand,
+) -> Option<u64>
+    requires { kind_at state.now (number register) ≡ Num numbers }
+    ensures { IfSome result (λ c. jump_rule state.now width comparison register operand
+        ≡ Ok (flows (side state.now (number register) comparison false c numbers)
+        (side state.now (number register) comparison true c numbers))) }
+{
+    match (width, operand) {
+        (Width::Bits64, Operand::Immediate(k)) => Some(immediate(width, k)),
+        _ => None,
+    }
+}
 
 /// What flows on from a conditional jump.
 #[inline(always)]

@@ -1,10 +1,10 @@
-ghost use Rattle.std.specs.Prelude.{◌≡◌, ◌+◌, ◌≤◌};
+ghost use Rattle.std.specs.Prelude.{◌≡◌, ◌+◌, ◌≤◌, true};
 ghost use Rattle.scx_abs.specs.Kinds.{join_kind};
 ghost use Rattle.scx_abs.specs.declared.kinds.Kind.TheVariants as Kind;
 ghost use Rattle.scx_abs.specs.Cells.{kind_of, held_of, cell_of, common, marked, join_pointers, join_cell};
 ghost use Rattle.scx_abs.specs.Cells.{all_written, written_in};
 
-use scx_ranges::{Numbers, Offsets};
+use scx_ranges::{Numbers, Offsets, Range};
 
 /// How many bytes a cell stands for.
 pub const CELL_BYTES: usize = 8;
@@ -73,6 +73,18 @@ impl Kind {
         }
     }
 
+    /// Whether a join with the other surely leaves it as it is.
+    #[inline(always)]
+    #[tactic(auto, using(crate::proofs::Joins::join_same))]
+    pub(crate) fn keeps(&self, other: &Kind) -> bool
+        ensures { result ≡ true → join_kind self.now other.now ≡ self.now }
+    {
+        match *self {
+            Kind::Unusable => true,
+            _ => are_same(*self, *other),
+        }
+    }
+
     /// What a cell keeps of a pointer of that kind; none of a number, and none where nothing is known.
     pub(crate) fn held(self) -> Option<Held>
         ensures { result ≡ held_of self }
@@ -87,6 +99,48 @@ impl Kind {
             Kind::MapRef(map) => Some(Held::MapRef(map)),
         }
     }
+}
+
+/// Whether they are the same numbers, or pointers to the same byte of the stack.
+#[inline(always)]
+fn are_same(kind: Kind, other: Kind) -> bool
+    ensures { result ≡ true → kind ≡ other }
+{
+    match kind {
+        Kind::Num(numbers) => is_number_of(numbers, other),
+        Kind::Stack(at) => is_stack_at(at, other),
+        _ => false,
+    }
+}
+
+/// Whether the kind is that of a number of these.
+#[inline(always)]
+fn is_number_of(numbers: Numbers, kind: Kind) -> bool
+    ensures { result ≡ true → Kind.Num numbers ≡ kind }
+{
+    match kind {
+        Kind::Num(others) => are_same_ranges(numbers.range(), others.range()),
+        _ => false,
+    }
+}
+
+/// Whether the kind is that of a pointer to that byte of the stack.
+#[inline(always)]
+fn is_stack_at(at: u16, kind: Kind) -> bool
+    ensures { result ≡ true → Kind.Stack at ≡ kind }
+{
+    match kind {
+        Kind::Stack(same) => at == same,
+        _ => false,
+    }
+}
+
+#[inline(always)]
+#[tactic(auto, using(crate::proofs::Joins::same_parts))]
+fn are_same_ranges(range: Range, other: Range) -> bool
+    ensures { result ≡ true → range ≡ other }
+{
+    range.low == other.low && range.high == other.high && range.shift == other.shift
 }
 
 /// The least kind that covers a number of these and another kind.

@@ -25,7 +25,7 @@ pub use arithmetic::{binary_kind, extended_kind, map_kind, negated_kind, swapped
 pub use calls::called;
 pub use changes::{Change, Flow};
 pub use faults::Why;
-pub use jumps::flow_of_jump;
+pub use jumps::{constant_compared, flow_of_jump};
 pub use kinds::{CELL_BYTES, Cell, Held, Kind};
 pub use known::Known;
 pub use laws::{

@@ -119,19 +119,17 @@ pub fn join(first: &AbsState, second: &AbsState) -> AbsState
     joined
 }
 
-/// Joins the other's kind of a register in. Most registers have none.
+/// Joins the other's kind of a register in. Most registers have none, or the same in both.
 #[inline(always)]
-#[tactic(auto, using(crate::proofs::Joins::joined_nothing))]
+#[tactic(auto, using(crate::proofs::Joins::joined_kept))]
 fn join_register(registers: &mut [Kind; REGISTERS], others: &[Kind; REGISTERS], register: usize)
     requires { register < REGISTERS }
     ensures { registers.new
         ≡ set registers.old register (join_kind (slice_index_or registers.old register Unusable)
         (slice_index_or others.now register Unusable)) }
 {
-    let kind = registers[register];
-    match kind {
-        Kind::Unusable => (),
-        _ => registers[register] = kind.join(others[register]),
+    if !registers[register].keeps(&others[register]) {
+        registers[register] = registers[register].join(others[register]);
     }
 }
 
