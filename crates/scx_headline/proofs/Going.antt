@@ -10,6 +10,7 @@ use Rattle.scx_machine.proofs.Taking.{Takes-append, answered_append}
 use Rattle.scx_sched.specs.Sim.{SimState, stepped, notes_of, calls_of}
 use Rattle.scx_sched.specs.Once.{IsOnce}
 use Rattle.scx_sched.specs.Waits.{IsTimely, HasWaits}
+use Rattle.scx_sched.specs.Usages.{AreBounded}
 use Rattle.scx_driver.specs.Runs.{stepped_all, notes_of_all}
 use Rattle.scx_headline.specs.Headline.{states_from, calls_of_all}
 
@@ -22,6 +23,9 @@ AreCounted = AllByRecursion (λ s. HasWaits None s.state.world)
 abbrev pub AreTimely : List SimState → Type 0
 AreTimely = AllByRecursion (λ s. IsTimely s.state)
 
+abbrev pub AreAllBounded : List SimState → Type 0
+AreAllBounded = AllByRecursion (λ s. AreBounded s.state.world)
+
 -- from that state and sink, and those events on
 pub record IsOnItsWay {S : Type 0} (takes : S → Note → S → Type 0) (events : List Event) (s : SimState) (a : S) (rest : List Event) (t : SimState) (b : S) : Type 0 where
   pub state : stepped_all t rest ≡ stepped_all s events
@@ -30,37 +34,42 @@ pub record IsOnItsWay {S : Type 0} (takes : S → Note → S → Type 0) (events
   pub once : AreOnce (states_from t rest) → AreOnce (states_from s events)
   pub counted : AreCounted (states_from t rest) → AreCounted (states_from s events)
   pub timely : AreTimely (states_from t rest) → AreTimely (states_from s events)
+  pub bounded : AreAllBounded (states_from t rest) → AreAllBounded (states_from s events)
   pub now_once : IsOnce None t.state.world
   pub now_counted : HasWaits None t.state.world
   pub now_timely : IsTimely t.state
+  pub now_bounded : AreBounded t.state.world
 
 -- one event further
 on_further : {S : Type 0} (takes : S → Note → S → Type 0) (events : List Event) (s : SimState) (a : S) (e : Event) (rest : List Event) (t : SimState) (b c : S)
-    → IsOnItsWay takes events s a (e ∷ rest) t b → Takes takes b (notes_of t e) c → AreAnswered (calls_of t e) → IsOnce None (stepped t e).state.world → HasWaits None (stepped t e).state.world → IsTimely (stepped t e).state
+    → IsOnItsWay takes events s a (e ∷ rest) t b → Takes takes b (notes_of t e) c → AreAnswered (calls_of t e) → IsOnce None (stepped t e).state.world → HasWaits None (stepped t e).state.world → IsTimely (stepped t e).state → AreBounded (stepped t e).state.world
     → IsOnItsWay takes events s a rest (stepped t e) c
-on_further takes events s a e rest t b c h noted answered once counted timely = record {
+on_further takes events s a e rest t b c h noted answered once counted timely bounded = record {
   state = h.state;
   notes = λ z more. h.notes z (Takes-append takes b c z (notes_of t e) (notes_of_all (stepped t e) rest) noted more);
   answered = λ more. h.answered (answered_append (calls_of t e) (calls_of_all (stepped t e) rest) answered more);
   once = λ more. h.once (h.now_once, more);
   counted = λ more. h.counted (h.now_counted, more);
   timely = λ more. h.timely (h.now_timely, more);
+  bounded = λ more. h.bounded (h.now_bounded, more);
   now_once = once;
   now_counted = counted;
   now_timely = timely;
+  now_bounded = bounded;
 }
 
 -- the same, where the rest and the state are known by other names
 pub gone_further : {S : Type 0} (takes : S → Note → S → Type 0) (events : List Event) (s : SimState) (a : S) (e : Event) (was rest : List Event) (t u : SimState) (b c : S)
-    → IsOnItsWay takes events s a was t b → was ≡ e ∷ rest → u ≡ stepped t e → Takes takes b (notes_of t e) c → AreAnswered (calls_of t e) → IsOnce None u.state.world → HasWaits None u.state.world → IsTimely u.state
+    → IsOnItsWay takes events s a was t b → was ≡ e ∷ rest → u ≡ stepped t e → Takes takes b (notes_of t e) c → AreAnswered (calls_of t e) → IsOnce None u.state.world → HasWaits None u.state.world → IsTimely u.state → AreBounded u.state.world
     → IsOnItsWay takes events s a rest u c
-gone_further {S} takes events s a e was rest t u b c h next state noted answered once counted timely =
+gone_further {S} takes events s a e was rest t u b c h next state noted answered once counted timely bounded =
     let P : List Event → Type 0 = λ es. IsOnItsWay takes events s a es t b in
     let Q : SimState → Type 0 = λ x. IsOnItsWay takes events s a rest x c in
     let O : SimState → Type 0 = λ x. IsOnce None x.state.world in
     let C : SimState → Type 0 = λ x. HasWaits None x.state.world in
     let T : SimState → Type 0 = λ x. IsTimely x.state in
-    subst Q (sym state) (on_further takes events s a e rest t b c (subst P next h) noted answered (subst O state once) (subst C state counted) (subst T state timely))
+    let B : SimState → Type 0 = λ x. AreBounded x.state.world in
+    subst Q (sym state) (on_further takes events s a e rest t b c (subst P next h) noted answered (subst O state once) (subst C state counted) (subst T state timely) (subst B state bounded))
 
 -- all of it
 pub record HasGone {S : Type 0} (takes : S → Note → S → Type 0) (events : List Event) (s : SimState) (a : S) (t : SimState) (b : S) : Type 0 where
@@ -70,10 +79,11 @@ pub record HasGone {S : Type 0} (takes : S → Note → S → Type 0) (events : 
   pub once : AreOnce (states_from s events)
   pub counted : AreCounted (states_from s events)
   pub timely : AreTimely (states_from s events)
+  pub bounded : AreAllBounded (states_from s events)
 
 gone_all : {S : Type 0} (takes : S → Note → S → Type 0) (events : List Event) (s : SimState) (a : S) (t : SimState) (b : S) → IsOnItsWay takes events s a [] t b → HasGone takes events s a t b
 gone_all takes events s a t b h =
-    record { state = h.state; notes = h.notes b refl; answered = h.answered tt; once = h.once (h.now_once, tt); counted = h.counted (h.now_counted, tt); timely = h.timely (h.now_timely, tt) }
+    record { state = h.state; notes = h.notes b refl; answered = h.answered tt; once = h.once (h.now_once, tt); counted = h.counted (h.now_counted, tt); timely = h.timely (h.now_timely, tt); bounded = h.bounded (h.now_bounded, tt) }
 
 pub gone_through : {S : Type 0} (takes : S → Note → S → Type 0) (events : List Event) (s : SimState) (a : S) (rest : List Event) (t : SimState) (b : S) → IsOnItsWay takes events s a rest t b → rest ≡ [] → HasGone takes events s a t b
 gone_through takes events s a rest t b h end =
@@ -81,6 +91,6 @@ gone_through takes events s a rest t b h end =
     gone_all takes events s a t b (subst P end h)
 
 -- before the first event
-pub gone_nowhere : {S : Type 0} (takes : S → Note → S → Type 0) (events : List Event) (s : SimState) (a : S) → IsOnce None s.state.world → HasWaits None s.state.world → IsTimely s.state → IsOnItsWay takes events s a events s a
-gone_nowhere takes events s a once counted timely =
-    record { state = refl; notes = λ z more. more; answered = λ more. more; once = λ more. more; counted = λ more. more; timely = λ more. more; now_once = once; now_counted = counted; now_timely = timely }
+pub gone_nowhere : {S : Type 0} (takes : S → Note → S → Type 0) (events : List Event) (s : SimState) (a : S) → IsOnce None s.state.world → HasWaits None s.state.world → IsTimely s.state → AreBounded s.state.world → IsOnItsWay takes events s a events s a
+gone_nowhere takes events s a once counted timely bounded =
+    record { state = refl; notes = λ z more. more; answered = λ more. more; once = λ more. more; counted = λ more. more; timely = λ more. more; bounded = λ more. more; now_once = once; now_counted = counted; now_timely = timely; now_bounded = bounded }

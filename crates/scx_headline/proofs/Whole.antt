@@ -16,8 +16,8 @@ use Rattle.scx_sched.specs.Once.{appearances, IsOnce}
 use Rattle.scx_sched.specs.Waits.{IsTimely, HasWaits}
 use Rattle.scx_sched.proofs.First.{policy_started}
 use Rattle.scx_driver.specs.Runs.{stepped_all, notes_of_all}
-use Rattle.scx_headline.specs.Headline.{Run, states_from, calls_of_all, run_from, run_if, machine_run, IsLast, IsRecorded, NoneIsStuck, EachIsOnce, EachWaitIsCounted, NoneIsLate}
-use Rattle.scx_headline.proofs.Going.{AreOnce, AreCounted, AreTimely}
+use Rattle.scx_headline.specs.Headline.{Run, states_from, calls_of_all, run_from, run_if, machine_run, IsLast, IsRecorded, NoneIsStuck, EachIsOnce, EachWaitIsCounted, NoneIsLate, EachUsageIsBounded}
+use Rattle.scx_headline.proofs.Going.{AreOnce, AreCounted, AreTimely, AreAllBounded}
 use Rattle.scx_headline.proofs.Policies.{policy_stays}
 
 -- ---- the states
@@ -100,3 +100,6 @@ module _ (p : PolicyState) (tree : Hierarchy) (cpus : ℕ) (events : List Event)
   run_timely h =
       let same : s.state.policy ≡ p = policy_started p tree cpus s.state first.0 in
       subst (NoneIsLate p.timeout_ms) is_machine_run (all_in_time p s events same h)
+
+  pub run_bounded : AreAllBounded (states_from s events) → EachUsageIsBounded (machine_run p tree cpus events)
+  run_bounded h = subst EachUsageIsBounded is_machine_run h

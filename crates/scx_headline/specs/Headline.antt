@@ -1,11 +1,13 @@
 -- The headline: for every policy whose callbacks `verify` accepts and every list of events, the recorded
 -- run is the machine's; in it no callback is ever stuck or takes more steps than it has instructions,
 -- every runnable task appears exactly once on a processor or in a queue, and while the policy is in force
--- no task has waited longer than its limit.
-use Rattle.std.specs.Prelude.{◌≡◌, ℕ, ℤ, ◌≤◌, List, [], ◌∷◌, ◌++◌, None, is_some, Result, Ok, Err}
+-- no task has waited longer than its limit. In no period does a group with a quota use as much as its quota and
+-- one millisecond for each processor.
+use Rattle.std.specs.Prelude.{◌≡◌, ℕ, ℤ, ◌+◌, ◌<◌, ◌≤◌, List, [], ◌∷◌, ◌++◌, length, None, Some, is_some, Result, Ok, Err}
 use Rattle.std.specs.List.{AllByRecursion}
 use Rattle.scx_dsq.specs.Laws.{one_if}
-use Rattle.scx_weights.specs.Hierarchy.{Hierarchy}
+use Rattle.scx_weights.specs.Hierarchy.{Hierarchy, quota_at}
+use Rattle.scx_weights.specs.Limits.{usage_of}
 use Rattle.scx_world.specs.declared.notes.Note.{Note}
 use Rattle.scx_world.specs.World.{task_at, is_runnable, waits, wait}
 use Rattle.scx_machine.specs.declared.events.Event.{Event}
@@ -74,3 +76,8 @@ EachWaitIsCounted run = AllByRecursion (λ s. (t : ℕ) → is_some (task_at s.s
 -- while the policy is in force no task has waited longer than the limit, in milliseconds
 abbrev pub NoneIsLate : ℕ → Run → Type 0
 NoneIsLate limit run = AllByRecursion (λ s. s.state.world.ejected ≡ None → (t : ℕ) → wait s.state.world t ≤ limit) run.states
+
+-- in its period each group with a quota has used less than that and one millisecond for each processor
+abbrev pub EachUsageIsBounded : Run → Type 0
+EachUsageIsBounded run =
+    AllByRecursion (λ s. (g quota : ℕ) → quota_at s.state.world.tree.groups g ≡ Some quota → usage_of s.state.world.tree g < quota + length s.state.world.cpus) run.states

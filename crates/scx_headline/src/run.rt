@@ -4,9 +4,10 @@ ghost use Rattle.scx_machine.specs.Notes.{Takes};
 ghost use Rattle.scx_machine.specs.Callbacks.{AreAnswered};
 ghost use Rattle.scx_machine.specs.Start.{IsRefusal, AreAnsweredBefore};
 ghost use Rattle.scx_sched.specs.Once.{IsOnce};
+ghost use Rattle.scx_sched.specs.Usages.{AreBounded};
 ghost use Rattle.scx_sched.specs.Waits.{IsTimely, HasWaits};
 ghost use Rattle.scx_driver.specs.Runs.{stepped_all, notes_of_all};
-ghost use Rattle.scx_headline.specs.Headline.{states_from, calls_of_all, machine_run, IsRecorded, NoneIsStuck, EachIsOnce, EachWaitIsCounted, NoneIsLate};
+ghost use Rattle.scx_headline.specs.Headline.{states_from, calls_of_all, machine_run, IsRecorded, NoneIsStuck, EachIsOnce, EachWaitIsCounted, NoneIsLate, EachUsageIsBounded};
 
 use scx_sched::{Event, NewError, Policy, Sim, Sink};
 use scx_weights::Tree;
@@ -41,6 +42,8 @@ pub fn run_events<S: Sink>(
     ensures counted { OnOk result (EachWaitIsCounted (machine_run policy tree cpus events.now)) }
     ensures timely { OnOk result
         (NoneIsLate policy.timeout_ms (machine_run policy tree cpus events.now)) }
+    // In no period does a group with a quota use as much as its quota and one millisecond for each processor.
+    ensures bounded { OnOk result (EachUsageIsBounded (machine_run policy tree cpus events.now)) }
 
     // Where no machine is made there is a cause, and no note. Its callbacks aren't stuck either.
     ensures refused { IfErr result (IsRefusal policy tree cpus) }
@@ -62,6 +65,8 @@ fn go_through<S: Sink>(sim: &mut Sim, events: &[Event], sink: &mut S)
     ensures counted { AllByRecursion (λ s. HasWaits None s.state.world)
         (states_from sim.old events.now) }
     ensures timely { AllByRecursion (λ s. IsTimely s.state) (states_from sim.old events.now) }
+    ensures bounded { AllByRecursion (λ s. AreBounded s.state.world)
+        (states_from sim.old events.now) }
 {
     sim.is_sound();
     for event in events {

@@ -10,22 +10,10 @@ use Rattle.scx_weights.specs.Hierarchy.{Hierarchy, quota_at, path, lies_in, home
 use Rattle.scx_weights.specs.Limits.{usage_of, is_throttled_group, is_throttled, begins_period, with_use, with_turn}
 use Rattle.scx_limits.specs.Uses.{Use, after, runs_in_period}
 use Rattle.scx_limits.specs.Machine.{Machine, Step, Begin, End, Tick, Turn, running, idle_machine, left, ticked, stepped, is_allowed, run_of, are_allowed, uses_of, used_by, ran_now}
+use Rattle.scx_limits.specs.Bounds.{runs_in, cpus_in, IsWithin}
 use Rattle.scx_limits.specs.Laws.{UsagesAreBounded, RunsAreBounded}
 use Rattle.scx_limits.proofs.Usages.{usage_used, usage_turned, something_left}
 use Rattle.scx_limits.proofs.Counted.{usages_count_runs_lem}
-
--- the task on a processor lies in the group
-abbrev pub runs_in : Hierarchy → ℕ → Option ℕ → Bool
-runs_in t g None = false
-runs_in t g (Some k) = lies_in t.groups (home_of t k) g
-
--- how many processors run tasks of the group and those below it
-abbrev pub cpus_in : Hierarchy → ℕ → List (Option ℕ) → ℕ
-cpus_in t g cpus = count_by (runs_in t g) cpus
-
--- what is kept
-abbrev pub IsWithin : Hierarchy → List (Option ℕ) → ℕ → ℕ → Type 0
-IsWithin t cpus g quota = usage_of t g + cpus_in t g cpus < quota + length cpus
 
 passes_none : (test : ℕ → Bool) (g : ℕ) (xs : List ℕ) → list_any test xs ≡ false → list_any (λ x. eqb x g) xs ≡ true → test g ≡ false
 passes_none test g [] none there = absurd (cc)

@@ -1,22 +1,25 @@
 -- A cycle as it is computed is allowed, and no other is.
-use Rattle.std.proofs.Common.{◌≡◌, ℕ, zero, suc, ◌<◌, ◌≤◌, Bool, true, false, not, ◌==◌, ◌&&◌, nat_lt, ◌⊎◌, inl, inr, if◌then◌else◌, [], ◌∷◌, Option, Some, None, is_some, refl, sym, ◌∙◌, ap, subst, arith}
+use Rattle.std.proofs.Common.{◌≡◌, ℕ, zero, suc, ◌+◌, ◌<◌, ◌≤◌, cond, Bool, true, false, not, ◌==◌, ◌&&◌, nat_lt, ◌⊎◌, inl, inr, if◌then◌else◌, [], ◌∷◌, Option, Some, None, is_some, refl, sym, ◌∙◌, ap, subst, arith}
 use Rattle.std.proofs.lemmas.Bool.Decides.{nat_tests}
 use Rattle.std.proofs.lemmas.Bool.{cases_eq, cases_lt, eq-eqb, ne_eqb}
-use Rattle.scx_dsq.specs.Queues.{front_of}
+use Rattle.scx_dsq.specs.Queues.{len_of, front_of}
 use Rattle.scx_safety.specs.Programs.{VerifiedProgram}
 use Rattle.scx_semantics.specs.declared.callbacks.Callback.TheVariants as callback
 use Rattle.scx_world.specs.declared.call.Insert.{Insert}
 use Rattle.scx_world.specs.declared.eject.Eject.{Eject}
 use Rattle.scx_world.specs.declared.notes.What.TheVariants as note
-use Rattle.scx_world.specs.Ids.{global, builtin, local_on}
+use Rattle.scx_world.specs.Ids.{global, builtin, parked, local_on}
 use Rattle.scx_world.specs.World.{said}
 use Rattle.scx_world.specs.Tasks.{local_len, brought}
 use Rattle.scx_world.specs.Ejecting.{put_builtin, overtaken, charged}
 use Rattle.scx_machine.specs.Steps.{State, Stepped, with_world, stays, after, joined}
 use Rattle.scx_machine.specs.Callbacks.{call_back, one_task, task_and_number}
 use Rattle.scx_machine.specs.Put.{enters, wanted, enters_builtin, comes_in, put}
-use Rattle.scx_machine.specs.Cycle.{move_note, fill, dispatched, tries, stopping, running_on, leave, started_if, start, rest, swap, swap_or_rest, builtin_ask, builtin_cycle, start_or_cycle, pick, pick_or_rest, conclude, ask, seek, look, cycling, cycle}
-use Rattle.scx_rules.specs.Cycles.{noting, silent, entering, enqueue_called, dispatch_called, gone_off, gone_on, HasStopped, Policy_hears, Is_charged, HasStarted, Policy_learns, Catches_up, Enters, For_builtin, Default, Held, Inserted, Puts, Fills, HasLocal, NoOther, Moves, Dispatches, Asks, Enough, Came, NothingMoved, Again, Leaves, Nobody, Stops, Starts, Empty, Front, Rests, Keeps, Idles, WasIdle, Swaps, SwapsOrRests, Swapped, Kept, CyclesBuiltin, Picks, Runs_front, Emptied, Ends, Anew, Picked, Rested, Seeks, Filled, Asked, Looks, Of_policy, Of_builtin, Cycles}
+use Rattle.scx_machine.specs.Filling.{move_note, fill}
+use Rattle.scx_machine.specs.Parking.{park, park_front, if_throttled, throttled_front, park_fronts, park_fronts_from, clear, clear_from, in_reach, supply}
+use Rattle.scx_machine.proofs.Supplying.{empty_no_front, throttled_is, front_is_free, len_park_front, reach_fill, reach_park_front}
+use Rattle.scx_machine.specs.Cycle.{dispatched, tries, stopping, running_on, leave, started_if, start, rest, swap, swap_or_rest, builtin_dispatch, builtin_fill, builtin_ask, builtin_cycle, start_or_cycle, pick, pick_or_rest, conclude, ask, seek, look, cycling, cycle}
+use Rattle.scx_rules.specs.Cycles.{noting, silent, entering, enqueue_called, dispatch_called, gone_off, gone_on, HasStopped, Policy_hears, Is_charged, HasStarted, Policy_learns, Catches_up, Enters, For_builtin, Default, Held, Inserted, Puts, Fills, HasLocal, NoOther, Moves, FrontMayRun, Parks, ParksFronts, NoneLeft, OneMore, Supplies, Supplied, ParkedOne, FillsBuiltin, HasOne, Looked, Dispatches, Asks, Enough, Came, NothingMoved, Again, Leaves, Nobody, Stops, Starts, Empty, Front, Rests, Keeps, Idles, WasIdle, Swaps, SwapsOrRests, Swapped, Kept, CyclesBuiltin, Picks, Runs_front, Emptied, Ends, Anew, Picked, Rested, Seeks, Filled, Asked, Looks, Of_policy, Of_builtin, Cycles}
 
 -- ---- put
 
@@ -115,15 +118,106 @@ only_fills s q c r (HasLocal l k) = rw (some_is (local_len s.world c) l) k
 only_fills s q c r (NoOther z e k) = rw (none_is (local_len s.world c) z, e) k
 only_fills s q c r (Moves t z e k) = rw (none_is (local_len s.world c) z, e) k
 
+-- ---- supply
+
+parks : (s : State) (q t : ℕ) → throttled_front s q ≡ Some t → Parks s q t (park_front s q t)
+unfolding park_front park
+parks s q t e = let x = throttled_is s q t e in record { front = x.front; throttled = x.throttled; all = refl }
+
+only_parks : (s : State) (q t : ℕ) (r : Stepped) → Parks s q t r → r ≡ park_front s q t
+unfolding park_front park
+only_parks s q t r h = h.all
+
+-- that front is the one that is looked for
+is_throttled_front : (s : State) (q t : ℕ) (r : Stepped) → Parks s q t r → throttled_front s q ≡ Some t
+is_throttled_front s q t r h = ap (λ o. if_throttled s.world o) h.front ∙ ap (λ b. cond b (Some t) None) h.throttled
+
+no_throttled_front : (s : State) (q : ℕ) → FrontMayRun s q → throttled_front s q ≡ None
+no_throttled_front s q h = go (front_of s.world.queues q) refl
+  where
+    go : (o : Option ℕ) → front_of s.world.queues q ≡ o → if_throttled s.world o ≡ None
+    go None e = refl
+    go (Some t) e = ap (λ b. cond b (Some t) None) (h t e)
+
+-- ---- fronts of a queue are parked
+
+parks_fronts : (j : ℕ) (s : State) (q : ℕ) → (parked == q) ≡ false → len_of s.world.queues q ≤ j → ParksFronts q s (park_fronts j s q)
+unfolding park_fronts park_fronts_from
+parks_fronts zero s q apart few = NoneLeft q s _ (λ t e. let bad : None ≡ Some t = sym (empty_no_front s.world.queues q (omega (arith, few))) ∙ e in absurd (cc)) refl
+parks_fronts (suc j) s q apart few = go (throttled_front s q) refl (λ t l. parks_fronts j (park_front s q t).state q apart l)
+  where
+    go : (o : Option ℕ) → throttled_front s q ≡ o → ((t : ℕ) → len_of (park_front s q t).state.world.queues q ≤ j → ParksFronts q (park_front s q t).state (park_fronts j (park_front s q t).state q)) → ParksFronts q s (park_fronts_from j s q o)
+    go None e more = NoneLeft q s _ (front_is_free s q e) refl
+    go (Some t) e more = OneMore q s t (park_front s q t) _ _ (parks s q t e) (more t (omega (arith, few, len_park_front s q t apart (throttled_is s q t e).front))) refl
+
+only_parks_fronts : (j : ℕ) (s : State) (q : ℕ) (r : Stepped) → (parked == q) ≡ false → len_of s.world.queues q ≤ j → ParksFronts q s r → r ≡ park_fronts j s q
+unfolding park_fronts park_fronts_from
+only_parks_fronts zero s q r apart few (NoneLeft _ _ _ h k) = k
+only_parks_fronts (suc j) s q r apart few (NoneLeft _ _ _ h k) = k ∙ ap (λ o. park_fronts_from j s q o) (sym (no_throttled_front s q h))
+only_parks_fronts zero s q r apart few (OneMore _ _ t gone more _ h y k) = let bad : None ≡ Some t = sym (empty_no_front s.world.queues q (omega (arith, few))) ∙ h.front in absurd (cc)
+only_parks_fronts (suc j) s q r apart few (OneMore _ _ t gone more _ h y k) =
+    let e = only_parks s q t gone h in
+    let l : len_of gone.state.world.queues q ≤ j = subst (λ (x : Stepped). len_of x.state.world.queues q ≤ j) (sym e) (omega (arith, few, len_park_front s q t apart h.front)) in
+    k ∙ ap (λ x. joined gone x) (only_parks_fronts j gone.state q more apart l y) ∙ ap (λ (x : Stepped). joined x (park_fronts j x.state q)) e ∙ ap (λ o. park_fronts_from j s q o) (sym (is_throttled_front s q t gone h))
+
+-- ---- a local queue
+
+nobody_front : (s : State) (c : ℕ) → in_reach s c ≤ 0 → FrontMayRun s (local_on c)
+nobody_front s c few t e = let bad : None ≡ Some t = sym (empty_no_front s.world.queues (local_on c) (omega (arith, few))) ∙ e in absurd (cc)
+
+fills_none : (s : State) (c : ℕ) → in_reach s c ≤ 0 → Fills s global c (stays s)
+fills_none s c few = NoOther (omega (arith, few)) (empty_no_front s.world.queues global (omega (arith, few))) refl
+
+clears : (j : ℕ) (s : State) (c : ℕ) → in_reach s c ≤ j → Supplies c s (clear j s c)
+unfolding clear clear_from
+clears zero s c few = Supplied c s (stays s) _ (fills_none s c few) (nobody_front s c few) refl
+clears (suc j) s c few = go (throttled_front (fill s global c).state (local_on c)) refl (λ t l. clears j (park_front (fill s global c).state (local_on c) t).state c l)
+  where
+    f : Stepped
+    f = fill s global c
+
+    go : (o : Option ℕ) → throttled_front f.state (local_on c) ≡ o → ((t : ℕ) → in_reach (park_front f.state (local_on c) t).state c ≤ j → Supplies c (park_front f.state (local_on c) t).state (clear j (park_front f.state (local_on c) t).state c))
+        → Supplies c s (joined f (clear_from j f.state c o))
+    go None e more = Supplied c s f _ (fills s global c) (front_is_free f.state (local_on c) e) refl
+    go (Some t) e more =
+        ParkedOne c s t f (park_front f.state (local_on c) t) _ _ (fills s global c) (parks f.state (local_on c) t e) (more t (omega (arith, few, reach_fill s c, reach_park_front f.state c t (throttled_is f.state (local_on c) t e).front))) refl
+
+pub supplies : (s : State) (c : ℕ) → Supplies c s (supply s c)
+unfolding supply
+supplies s c = clears (in_reach s c) s c (omega arith)
+
+only_clears : (j : ℕ) (s : State) (c : ℕ) (r : Stepped) → in_reach s c ≤ j → Supplies c s r → r ≡ clear j s c
+unfolding clear clear_from
+only_clears zero s c r few (Supplied _ _ f _ h x k) =
+    let e : f ≡ stays s = only_fills s global c f h ∙ sym (only_fills s global c (stays s) (fills_none s c few)) in
+    k ∙ ap (λ (y : Stepped). joined y (stays y.state)) e
+only_clears (suc j) s c r few (Supplied _ _ f _ h x k) =
+    k ∙ ap (λ o. joined f (clear_from j f.state c o)) (sym (no_throttled_front f.state (local_on c) x)) ∙ ap (λ (y : Stepped). joined y (clear_from j y.state c (throttled_front y.state (local_on c)))) (only_fills s global c f h)
+only_clears zero s c r few (ParkedOne _ _ t f gone more _ h y z k) =
+    let e = only_fills s global c f h in
+    let less : in_reach f.state c ≤ in_reach s c = subst (λ (x : Stepped). in_reach x.state c ≤ in_reach s c) (sym e) (reach_fill s c) in
+    absurd (omega (arith, few, less, reach_park_front f.state c t y.front))
+only_clears (suc j) s c r few (ParkedOne _ _ t f gone more _ h y z k) =
+    let e = only_fills s global c f h in
+    let less : in_reach f.state c ≤ in_reach s c = subst (λ (x : Stepped). in_reach x.state c ≤ in_reach s c) (sym e) (reach_fill s c) in
+    let d = only_parks f.state (local_on c) t gone y in
+    let l : in_reach gone.state c ≤ j = subst (λ (x : Stepped). in_reach x.state c ≤ j) (sym d) (omega (arith, few, less, reach_park_front f.state c t y.front)) in
+    k ∙ ap (λ x. joined f (joined gone x)) (only_clears j gone.state c more l z) ∙ ap (λ (x : Stepped). joined f (joined x (clear j x.state c))) d
+    ∙ ap (λ o. joined f (clear_from j f.state c o)) (sym (is_throttled_front f.state (local_on c) t gone y)) ∙ ap (λ (x : Stepped). joined x (clear_from j x.state c (throttled_front x.state (local_on c)))) e
+
+only_supplies : (s : State) (c : ℕ) (r : Stepped) → Supplies c s r → r ≡ supply s c
+unfolding supply
+only_supplies s c r h = only_clears (in_reach s c) s c r (omega arith) h
+
 -- ---- dispatch
 
 dispatches : (s : State) (c : ℕ) (p : Option ℕ) → Dispatches s c p (dispatched s c p)
 unfolding dispatched
-dispatches s c p = record { filled = fill (dispatch_called s c p).state global c; fills = fills (dispatch_called s c p).state global c; all = refl }
+dispatches s c p = record { supplied = supply (dispatch_called s c p).state c; supplies = supplies (dispatch_called s c p).state c; all = refl }
 
 only_dispatches : (s : State) (c : ℕ) (p : Option ℕ) (r : Stepped) → Dispatches s c p r → r ≡ dispatched s c p
 unfolding dispatched
-only_dispatches s c p r h = h.all ∙ ap (λ x. joined (dispatch_called s c p) x) (only_fills (dispatch_called s c p).state global c h.filled h.fills)
+only_dispatches s c p r h = h.all ∙ ap (λ x. joined (dispatch_called s c p) x) (only_supplies (dispatch_called s c p).state c h.supplied h.supplies)
 
 asks : (n : ℕ) (s : State) (c : ℕ) (p : Option ℕ) → Asks n s c p (tries n s c p)
 unfolding tries
@@ -232,23 +326,45 @@ unfolding swap_or_rest
 only_swaps_or_rests s c p ran r (Swapped l h) = only_swaps s c p r h ∙ ap (λ b. swap_if s c p ran b) (sym (has_some s c l))
 only_swaps_or_rests s c p ran r (Kept z h) = only_rests s c p ran r h ∙ ap (λ b. swap_if s c p ran b) (sym (is_empty s c z))
 
+fills_builtin : (s : State) (c : ℕ) → FillsBuiltin s c (builtin_fill s c)
+unfolding builtin_fill builtin_dispatch
+fills_builtin s c = go (any_here s c)
+  where
+    p : Stepped
+    p = park_fronts (len_of s.world.queues builtin) s builtin
+
+    go : HasAny s c → FillsBuiltin s c (if not (local_len s.world c == 0) then stays s else joined p (fill p.state builtin c))
+    go (inl l) = rw (has_some s c l) (HasOne l refl)
+    go (inr z) = rw (is_empty s c z) (Looked p (fill p.state builtin c) z (parks_fronts (len_of s.world.queues builtin) s builtin refl (omega arith)) (fills p.state builtin c) refl)
+
+abbrev builtin_if : State → ℕ → Bool → Stepped → Stepped
+builtin_if s c b p = if b then stays s else joined p (fill p.state builtin c)
+
+only_fills_builtin : (s : State) (c : ℕ) (r : Stepped) → FillsBuiltin s c r → r ≡ builtin_fill s c
+unfolding builtin_fill builtin_dispatch
+only_fills_builtin s c r (HasOne l k) = k ∙ ap (λ b. builtin_if s c b (park_fronts (len_of s.world.queues builtin) s builtin)) (sym (has_some s c l))
+only_fills_builtin s c r (Looked gone filled z h y k) =
+    let d = only_parks_fronts (len_of s.world.queues builtin) s builtin gone refl (omega arith) h in
+    k ∙ ap (λ x. joined gone x) (only_fills gone.state builtin c filled y) ∙ ap (λ (x : Stepped). joined x (fill x.state builtin c)) d
+    ∙ ap (λ b. builtin_if s c b (park_fronts (len_of s.world.queues builtin) s builtin)) (sym (is_empty s c z))
+
 cycles_builtin : (s : State) (c : ℕ) (p : Option ℕ) (ran : Bool) → CyclesBuiltin s c p ran (builtin_cycle s c p ran)
 unfolding builtin_cycle builtin_ask
 cycles_builtin s c p ran = record {
-  filled = f;
-  fills = fills s global c;
+  supplied = f;
+  supplies = supplies s c;
   asked = a;
-  asks = fills f.state builtin c;
+  asks = fills_builtin f.state c;
   ended = swap_or_rest a.state c p ran;
   ends = swaps_or_rests a.state c p ran;
   all = refl;
 }
   where
     f : Stepped
-    f = fill s global c
+    f = supply s c
 
     a : Stepped
-    a = fill f.state builtin c
+    a = builtin_fill f.state c
 
 abbrev asked_builtin : Stepped → ℕ → Option ℕ → Bool → Stepped → Stepped
 asked_builtin f c p ran a = joined f (joined a (swap_or_rest a.state c p ran))
@@ -256,9 +372,9 @@ asked_builtin f c p ran a = joined f (joined a (swap_or_rest a.state c p ran))
 only_cycles_builtin : (s : State) (c : ℕ) (p : Option ℕ) (ran : Bool) (r : Stepped) → CyclesBuiltin s c p ran r → r ≡ builtin_cycle s c p ran
 unfolding builtin_cycle builtin_ask
 only_cycles_builtin s c p ran r h =
-    h.all ∙ ap (λ x. joined h.filled (joined h.asked x)) (only_swaps_or_rests h.asked.state c p ran h.ended h.ends)
-    ∙ ap (λ (a : Stepped). asked_builtin h.filled c p ran a) (only_fills h.filled.state builtin c h.asked h.asks)
-    ∙ ap (λ (f : Stepped). asked_builtin f c p ran (fill f.state builtin c)) (only_fills s global c h.filled h.fills)
+    h.all ∙ ap (λ x. joined h.supplied (joined h.asked x)) (only_swaps_or_rests h.asked.state c p ran h.ended h.ends)
+    ∙ ap (λ (a : Stepped). asked_builtin h.supplied c p ran a) (only_fills_builtin h.supplied.state c h.asked h.asks)
+    ∙ ap (λ (f : Stepped). asked_builtin f c p ran (builtin_fill f.state c)) (only_supplies s c h.supplied h.supplies)
 
 -- ---- the policy's cycle
 
@@ -328,14 +444,14 @@ unfolding seek ask
 seeks s c p ran = go (any_here f.state c)
   where
     f : Stepped
-    f = fill s global c
+    f = supply s c
 
     a : Stepped
     a = tries 32 f.state c p
 
     go : HasAny f.state c → Seeks s c p ran (seek_if f c p ran (not (local_len f.state.world c == 0)))
-    go (inl l) = rw (has_some f.state c l) (Filled f (pick f.state c p ran) (fills s global c) l (picks f.state c p ran) refl)
-    go (inr z) = rw (is_empty f.state c z) (Asked f a (conclude a.state c p ran) (fills s global c) z (asks 32 f.state c p) (ends a.state c p ran) refl)
+    go (inl l) = rw (has_some f.state c l) (Filled f (pick f.state c p ran) (supplies s c) l (picks f.state c p ran) refl)
+    go (inr z) = rw (is_empty f.state c z) (Asked f a (conclude a.state c p ran) (supplies s c) z (asks 32 f.state c p) (ends a.state c p ran) refl)
 
 -- ---- and nothing else
 
@@ -372,7 +488,7 @@ only_asks (suc n) s c p r (Again _ _ _ _ d more _ h z f a k) =
 abbrev sought : Stepped → ℕ → Option ℕ → Bool → Stepped
 sought f c p ran = seek_if f c p ran (not (local_len f.state.world c == 0))
 
-sought_is : (s : State) (c : ℕ) (p : Option ℕ) (ran : Bool) (f : Stepped) → f ≡ fill s global c → sought f c p ran ≡ seek s c p ran
+sought_is : (s : State) (c : ℕ) (p : Option ℕ) (ran : Bool) (f : Stepped) → f ≡ supply s c → sought f c p ran ≡ seek s c p ran
 unfolding seek
 sought_is s c p ran f e = ap (λ (g : Stepped). sought g c p ran) e
 
@@ -386,10 +502,10 @@ asked_is f c p ran = refl
 
 only_seeks : (s : State) (c : ℕ) (p : Option ℕ) (ran : Bool) (r : Stepped) → Seeks s c p ran r → r ≡ seek s c p ran
 only_seeks s c p ran r (Filled f x h l y k) =
-    k ∙ ap (λ z. joined f z) (only_picks f.state c p ran x y) ∙ ap (λ b. seek_if f c p ran b) (sym (has_some f.state c l)) ∙ sought_is s c p ran f (only_fills s global c f h)
+    k ∙ ap (λ z. joined f z) (only_picks f.state c p ran x y) ∙ ap (λ b. seek_if f c p ran b) (sym (has_some f.state c l)) ∙ sought_is s c p ran f (only_supplies s c f h)
 only_seeks s c p ran r (Asked f a x h z b y k) =
     k ∙ ap (λ u. joined f (joined a u)) (only_ends a.state c p ran x y) ∙ ap (λ (u : Stepped). asked_from f c p ran u) (only_asks 32 f.state c p a b) ∙ asked_is f c p ran
-    ∙ ap (λ e. seek_if f c p ran e) (sym (is_empty f.state c z)) ∙ sought_is s c p ran f (only_fills s global c f h)
+    ∙ ap (λ e. seek_if f c p ran e) (sym (is_empty f.state c z)) ∙ sought_is s c p ran f (only_supplies s c f h)
 
 -- ---- whichever is in force
 

@@ -1,29 +1,33 @@
 -- What an event does is allowed, and nothing else is.
-use Rattle.std.proofs.Common.{◌≡◌, ℕ, ◌<◌, Bool, true, false, ◌⊎◌, inl, inr, if◌then◌else◌, [], ◌∷◌, Option, Some, None, is_some, refl, sym, ◌∙◌, ap, subst, arith, length, nat_lt, nat_le}
+use Rattle.std.proofs.Common.{◌≡◌, ℕ, zero, suc, ◌<◌, cond, Bool, true, false, ◌⊎◌, inl, inr, if◌then◌else◌, [], ◌∷◌, Option, Some, None, is_some, refl, sym, ◌∙◌, ap, subst, arith, length, nat_lt, nat_le}
 use Rattle.std.proofs.lemmas.Bool.{cases_eq, eq-eqb, ne_eqb}
 use Rattle.std.proofs.lemmas.Bool.Decides.{nat_tests}
+use Rattle.scx_dsq.specs.Queues.{len_of, front_of, behind_of}
 use Rattle.scx_weights.specs.Hierarchy.{Hierarchy, with_weight}
+use Rattle.scx_weights.specs.Limits.{is_throttled}
 use Rattle.scx_weights.specs.Refusals.{max_weight, is_outside, weight_fault}
 use Rattle.scx_semantics.specs.declared.callbacks.Callback.TheVariants as callback
 use Rattle.scx_world.specs.declared.eject.Eject.{Eject}
 use Rattle.scx_world.specs.declared.eject.Eject.TheVariants as cause
 use Rattle.scx_world.specs.declared.faults.Fault.{Fault}
 use Rattle.scx_world.specs.declared.notes.What.TheVariants as note
+use Rattle.scx_world.specs.Ids.{parked}
 use Rattle.scx_world.specs.World.{with_tree, task_at, running, cpu_of, is_idle, said, begun}
-use Rattle.scx_world.specs.Tasks.{asleep, ticked, later, reweighed}
+use Rattle.scx_world.specs.Tasks.{asleep, let_go, ticked, used_ms, later, begun_periods, reweighed}
 use Rattle.scx_world.specs.Waits.{first_overdue}
 use Rattle.scx_machine.specs.declared.events.Event.TheVariants.{Wake, Sleep, Tick, Clock, SetWeight}
-use Rattle.scx_machine.specs.Steps.{State, Stepped, with_world, after, joined}
+use Rattle.scx_machine.specs.Steps.{State, Stepped, with_world, stays, after, joined}
 use Rattle.scx_machine.specs.Ejecting.{ejected_for}
 use Rattle.scx_machine.specs.Callbacks.{called, ended, fault_of, unless_ejected, acting, call_back, answered_by, task_cpu_and_0}
-use Rattle.scx_machine.specs.Put.{enters}
+use Rattle.scx_machine.specs.Put.{enters, put}
+use Rattle.scx_machine.specs.Parking.{park, let_go_one, let_go_from, let_all_go}
 use Rattle.scx_machine.specs.Cycle.{stopping, cycle}
 use Rattle.scx_machine.specs.declared.events.Refused.TheVariants.{UnknownGroup, BadWeight}
-use Rattle.scx_machine.specs.Events.{refusal, answered_cpu, target, settled, settle, select, wake, sleep_from_cpu, sleep_from, sleep, count_down, tick_of, tick, stalled, clock}
-use Rattle.scx_rules.specs.Cycles.{noting, silent, gone_off}
+use Rattle.scx_machine.specs.Events.{refusal, answered_cpu, target, settled, settle, select, wake, sleep_from_cpu, sleep_from, sleep, throttle, expire, count_down, tick_of, tick, overdue, stalled, clock}
+use Rattle.scx_rules.specs.Cycles.{noting, silent, gone_off, parking}
 use Rattle.scx_safety.specs.Programs.{VerifiedProgram}
 use Rattle.scx_world.specs.declared.call.Insert.{Insert}
-use Rattle.scx_rules.specs.Events.{awake, select_called, select_answered, IsTarget, Is_ejected, NoCallback, Named, Settles, WasInserted, WasPut, Wakes, IdleTarget, BusyTarget, Sleeps, FromQueue, FromCpu, Ticks, NobodyRuns, RunsOn, RunsOut, aged, Ages, Is_out, In_time, Too_late}
+use Rattle.scx_rules.specs.Events.{awake, select_called, select_answered, IsTarget, Is_ejected, NoCallback, Named, Settles, WasInserted, WasPut, Wakes, IdleTarget, BusyTarget, Sleeps, FromQueue, FromCpu, ran_on, Ticks, NobodyRuns, IsThrottled, RunsOn, RunsOut, aged, LetsGo, Enough, NoMore, StaysParked, IsLetGo, LetsAllGo, Watches, Is_out, In_time, Too_late, Ages}
 use Rattle.scx_rules.specs.Laws.{RulesAllowEvents, RulesAllowEventsOnly}
 use Rattle.scx_rules.proofs.Choosing.{is_choice, only_choice}
 use Rattle.scx_rules.proofs.Ejecting.{ejects, only_ejects, no_fault, NamesCpu, names_cpu}
@@ -160,54 +164,119 @@ only_sleeps s t r (FromCpu c l found e h y k) =
 
 -- ---- tick
 
-count_on : (s : State) (c t : ℕ) → 0 < (task_at (ticked s.world t) t).slice → count_down s c t ≡ silent s (ticked s.world t)
-unfolding count_down
-count_on s c t l = rw (ne_eqb (task_at (ticked s.world t) t).slice 0 (λ e. omega (arith, e, l))) refl
+abbrev thrown : State → ℕ → ℕ → Stepped → Stepped → Stepped
+thrown s c t l x = after (said s.world (note.Stop t c) ∷ []) (joined l (joined (parking l.state t) x))
 
-count_out : (s : State) (c t : ℕ) → (task_at (ticked s.world t) t).slice ≡ 0 → count_down s c t ≡ cycle (with_world s (ticked s.world t)) c (Some t) true
-unfolding count_down
-count_out s c t z = rw (eq-eqb (task_at (ticked s.world t) t).slice 0 z) refl
+abbrev counted_as : State → ℕ → ℕ → Bool → Stepped
+counted_as v c t b = if b then throttle v c t else expire v c t
+
+expires_on : (v : State) (c t : ℕ) → 0 < (task_at v.world t).slice → expire v c t ≡ stays v
+unfolding expire
+expires_on v c t l = rw (ne_eqb (task_at v.world t).slice 0 (λ e. omega (arith, e, l))) refl
+
+expires_out : (v : State) (c t : ℕ) → (task_at v.world t).slice ≡ 0 → expire v c t ≡ cycle v c (Some t) true
+unfolding expire
+expires_out v c t z = rw (eq-eqb (task_at v.world t).slice 0 z) refl
 
 ticks : (s : State) (c : ℕ) → Ticks s c (tick s c)
-unfolding tick
+unfolding tick count_down throttle park
 ticks s c = go (running s.world c) refl
   where
-    out : (t : ℕ) → running s.world c ≡ Some t → ((task_at (ticked s.world t) t).slice ≡ 0) ⊎ ((task_at (ticked s.world t) t).slice ≡ 0 → ⊥) → Ticks s c (count_down s c t)
-    out t e (inl z) = rw (count_out s c t z) (RunsOut t e z (cycles (with_world s (ticked s.world t)) c (Some t) true))
-    out t e (inr x) = let l : 0 < (task_at (ticked s.world t) t).slice = omega (arith, x) in rw (count_on s c t l) (RunsOn t e l refl)
+    out : (t : ℕ) → running s.world c ≡ Some t → is_throttled (ran_on s t).world.tree t ≡ false → ((task_at (ran_on s t).world t).slice ≡ 0) ⊎ ((task_at (ran_on s t).world t).slice ≡ 0 → ⊥) → Ticks s c (expire (ran_on s t) c t)
+    out t e free (inl z) = rw (expires_out (ran_on s t) c t z) (RunsOut t e free z (cycles (ran_on s t) c (Some t) true))
+    out t e free (inr x) = let l : 0 < (task_at (ran_on s t).world t).slice = omega (arith, x) in rw (expires_on (ran_on s t) c t l) (RunsOn t e free l refl)
+
+    up : (t : ℕ) → running s.world c ≡ Some t → is_throttled (ran_on s t).world.tree t ≡ true → Ticks s c (throttle (ran_on s t) c t)
+    up t e over =
+        let l = stopping (gone_off (ran_on s t) c t) c t 1 in
+        IsThrottled t l (cycle (parking l.state t).state c None true) e over (stops (gone_off (ran_on s t) c t) c t 1) (cycles (parking l.state t).state c None true) refl
+
+    by : (t : ℕ) → running s.world c ≡ Some t → (b : Bool) → is_throttled (ran_on s t).world.tree t ≡ b → Ticks s c (counted_as (ran_on s t) c t b)
+    by t e true x = up t e x
+    by t e false x = out t e x (cases_eq (task_at (ran_on s t).world t).slice 0)
 
     go : (o : Option ℕ) → running s.world c ≡ o → Ticks s c (tick_of o s c)
     go None e = NobodyRuns e (cycles s c None false)
-    go (Some t) e = out t e (cases_eq (task_at (ticked s.world t) t).slice 0)
+    go (Some t) e = by t e (is_throttled (ran_on s t).world.tree t) refl
 
 only_ticks : (s : State) (c : ℕ) (r : Stepped) → Ticks s c r → r ≡ tick s c
-unfolding tick
+unfolding tick count_down throttle park
 only_ticks s c r (NobodyRuns e y) = rw e (only_cycles s c None false r y)
-only_ticks s c r (RunsOn t e l k) = rw e (k ∙ sym (count_on s c t l))
-only_ticks s c r (RunsOut t e z y) = rw e (only_cycles (with_world s (ticked s.world t)) c (Some t) true r y ∙ sym (count_out s c t z))
+only_ticks s c r (IsThrottled t l found e over h y k) =
+    rw e (k ∙ ap (λ z. thrown s c t l z) (only_cycles (parking l.state t).state c None true found y)
+    ∙ ap (λ (z : Stepped). thrown s c t z (cycle (parking z.state t).state c None true)) (only_stops (gone_off (ran_on s t) c t) c t 1 l h) ∙ ap (λ b. counted_as (ran_on s t) c t b) (sym over))
+only_ticks s c r (RunsOn t e free l k) = rw e (k ∙ sym (expires_on (ran_on s t) c t l) ∙ ap (λ b. counted_as (ran_on s t) c t b) (sym free))
+only_ticks s c r (RunsOut t e free z y) = rw e (only_cycles (ran_on s t) c (Some t) true r y ∙ sym (expires_out (ran_on s t) c t z) ∙ ap (λ b. counted_as (ran_on s t) c t b) (sym free))
+
+-- ---- the parked
+
+lets_go : (n : ℕ) (s : State) (at : Option ℕ) → LetsGo n s at (let_go_from n s at)
+unfolding let_go_from let_go_one
+lets_go zero s at = Enough s at _ refl
+lets_go (suc n) s None = NoMore n s _ refl
+lets_go (suc n) s (Some t) = go (is_throttled s.world.tree t) refl (lets_go n s (behind_of s.world.queues t)) (lets_go n (let_go_one s t).state (behind_of s.world.queues t))
+  where
+    next : Option ℕ
+    next = behind_of s.world.queues t
+
+    r : Stepped
+    r = let_go_one s t
+
+    go : (b : Bool) → is_throttled s.world.tree t ≡ b → LetsGo n s next (let_go_from n s next) → LetsGo n r.state next (let_go_from n r.state next) → LetsGo (suc n) s (Some t) (cond b (let_go_from n s next) (joined r (let_go_from n r.state next)))
+    go true e stay more = StaysParked n s t _ e stay
+    go false e stay more = IsLetGo n s t r _ _ e (puts (with_world s (let_go s.world t)) t (task_at s.world t).prev_cpu 0) more refl
+
+abbrev let_if : ℕ → State → ℕ → Bool → Stepped → Stepped
+let_if n s t b r = if b then let_go_from n s (behind_of s.world.queues t) else joined r (let_go_from n r.state (behind_of s.world.queues t))
+
+only_lets_go : (n : ℕ) (s : State) (at : Option ℕ) (r : Stepped) → LetsGo n s at r → r ≡ let_go_from n s at
+unfolding let_go_from let_go_one
+only_lets_go zero s at r (Enough _ _ _ k) = k
+only_lets_go (suc n) s None r (NoMore _ _ _ k) = k
+only_lets_go (suc n) s (Some t) r (StaysParked _ _ _ _ e h) = only_lets_go n s (behind_of s.world.queues t) r h ∙ ap (λ b. let_if n s t b (let_go_one s t)) (sym e)
+only_lets_go (suc n) s (Some t) r (IsLetGo _ _ _ x more _ e h y k) =
+    k ∙ ap (λ z. joined x z) (only_lets_go n x.state (behind_of s.world.queues t) more y)
+    ∙ ap (λ (z : Stepped). joined z (let_go_from n z.state (behind_of s.world.queues t))) (only_puts (with_world s (let_go s.world t)) t (task_at s.world t).prev_cpu 0 x h)
+    ∙ ap (λ b. let_if n s t b (let_go_one s t)) (sym e)
+
+lets_all_go : (s : State) → LetsAllGo s (let_all_go s)
+unfolding let_all_go
+lets_all_go s = lets_go (len_of s.world.queues parked) s (front_of s.world.queues parked)
+
+only_lets_all_go : (s : State) (r : Stepped) → LetsAllGo s r → r ≡ let_all_go s
+unfolding let_all_go
+only_lets_all_go s r h = only_lets_go (len_of s.world.queues parked) s (front_of s.world.queues parked) r h
 
 -- ---- the clock
 
-abbrev aged_as : State → Option Eject → Option ℕ → Stepped
-aged_as s x o = stalled (if is_some x then None else o) (aged s)
+abbrev watched_as : State → Option Eject → Option ℕ → Stepped
+watched_as s x o = stalled (if is_some x then None else o) s
+
+watches : (s : State) → Watches s (stalled (overdue s) s)
+watches s = go s.world.ejected refl (first_overdue s.world s.policy.timeout_ms) refl
+  where
+    go : (x : Option Eject) → s.world.ejected ≡ x → (o : Option ℕ) → first_overdue s.world s.policy.timeout_ms ≡ o → Watches s (watched_as s x o)
+    go (Some x) d o e = Is_out x d refl
+    go None d None e = In_time d (nobody_late s.world s.policy.timeout_ms e) refl
+    go None d (Some t) e = Too_late t d (is_first s.world s.policy.timeout_ms t e) (ejects s (cause.Stall t s.world.clock))
+
+watched_at : (s : State) (x : Option Eject) (o : Option ℕ) → s.world.ejected ≡ x → first_overdue s.world s.policy.timeout_ms ≡ o → watched_as s x o ≡ stalled (overdue s) s
+watched_at s x o d e = ap (λ k. watched_as s x k) (sym e) ∙ ap (λ k. watched_as s k (first_overdue s.world s.policy.timeout_ms)) (sym d)
+
+only_watches : (s : State) (r : Stepped) → Watches s r → r ≡ stalled (overdue s) s
+only_watches s r (Is_out x d k) = k ∙ watched_at s (Some x) (first_overdue s.world s.policy.timeout_ms) d refl
+only_watches s r (In_time d nobody k) = k ∙ watched_at s None None d (only_nobody s.world s.policy.timeout_ms nobody)
+only_watches s r (Too_late t d first h) = only_ejects s (cause.Stall t s.world.clock) r h ∙ watched_at s None (Some t) d (only_first s.world s.policy.timeout_ms t first)
 
 ages : (s : State) → Ages s (clock s)
 unfolding clock
-ages s = go s.world.ejected refl (first_overdue (later s.world) s.policy.timeout_ms) refl
-  where
-    go : (x : Option Eject) → s.world.ejected ≡ x → (o : Option ℕ) → first_overdue (later s.world) s.policy.timeout_ms ≡ o → Ages s (aged_as s x o)
-    go (Some x) d o e = Is_out x d refl
-    go None d None e = In_time d (nobody_late (later s.world) s.policy.timeout_ms e) refl
-    go None d (Some t) e = Too_late t d (is_first (later s.world) s.policy.timeout_ms t e) (ejects (aged s) (cause.Stall t (later s.world).clock))
-
-aged_at : (s : State) (x : Option Eject) (o : Option ℕ) → s.world.ejected ≡ x → first_overdue (later s.world) s.policy.timeout_ms ≡ o → aged_as s x o ≡ clock s
-unfolding clock
-aged_at s x o d e = ap (λ k. aged_as s x k) (sym e) ∙ ap (λ k. aged_as s k (first_overdue (later s.world) s.policy.timeout_ms)) (sym d)
+ages s = record { gone = let_all_go (aged s); lets_go = lets_all_go (aged s); watched = stalled (overdue (let_all_go (aged s)).state) (let_all_go (aged s)).state; watches = watches (let_all_go (aged s)).state; all = refl }
 
 only_ages : (s : State) (r : Stepped) → Ages s r → r ≡ clock s
-only_ages s r (Is_out x d k) = k ∙ aged_at s (Some x) (first_overdue (later s.world) s.policy.timeout_ms) d refl
-only_ages s r (In_time d nobody k) = k ∙ aged_at s None None d (only_nobody (later s.world) s.policy.timeout_ms nobody)
-only_ages s r (Too_late t d first h) = only_ejects (aged s) (cause.Stall t (later s.world).clock) r h ∙ aged_at s None (Some t) d (only_first (later s.world) s.policy.timeout_ms t first)
+unfolding clock
+only_ages s r h =
+    h.all ∙ ap (λ x. joined h.gone x) (only_watches h.gone.state h.watched h.watches)
+    ∙ ap (λ (x : Stepped). joined x (stalled (overdue x.state) x.state)) (only_lets_all_go (aged s) h.gone h.lets_go)
 
 -- ---- weights
 

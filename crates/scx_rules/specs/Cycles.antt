@@ -7,13 +7,14 @@ use Rattle.scx_dsq.specs.Calls.{pushed, popped}
 use Rattle.scx_dsq.specs.declared.entries.Rank.TheVariants.{Fifo}
 use Rattle.scx_semantics.specs.declared.callbacks.Callback.TheVariants as callback
 use Rattle.scx_safety.specs.Programs.{VerifiedProgram}
+use Rattle.scx_weights.specs.Limits.{is_throttled}
 use Rattle.scx_world.specs.declared.call.Insert.{Insert}
 use Rattle.scx_world.specs.declared.notes.What.{What}
 use Rattle.scx_world.specs.declared.notes.What.TheVariants as note
 use Rattle.scx_world.specs.declared.eject.Eject.{Eject}
-use Rattle.scx_world.specs.Ids.{global, builtin, local_on}
+use Rattle.scx_world.specs.Ids.{global, builtin, parked, local_on}
 use Rattle.scx_world.specs.World.{WorldState, with_queues, said}
-use Rattle.scx_world.specs.Tasks.{local_len, entered, for_cpu, to_held, to_global, stopped, started_at, kept}
+use Rattle.scx_world.specs.Tasks.{local_len, entered, for_cpu, to_held, to_global, stopped, started_at, kept, put_parked, taken}
 use Rattle.scx_world.specs.Ejecting.{put_builtin, overtaken, charged}
 use Rattle.scx_machine.specs.Steps.{State, Stepped, with_world, stays, after, joined}
 use Rattle.scx_machine.specs.Callbacks.{call_back, one_task, task_and_number, cpu_and_task}
@@ -79,13 +80,46 @@ pub data Fills (s : State) (q c : ℕ) (r : Stepped) : Type 0 where
   Moves : (t : ℕ) → local_len s.world c ≡ 0 → front_of s.world.queues q ≡ Some t
       → r ≡ noting s (with_queues s.world (pushed (popped s.world.queues q) (local_on c) t Fifo)) (note.Move t c) → Fills s q c r
 
+-- ---- supply
+
+-- the front of that queue, if there is one, may run
+abbrev pub FrontMayRun : State → ℕ → Type 0
+FrontMayRun s q = (t : ℕ) → front_of s.world.queues q ≡ Some t → is_throttled s.world.tree t ≡ false
+
+-- a task that is at hand is parked
+abbrev pub parking : State → ℕ → Stepped
+parking s t = noting s (put_parked s.world t) (note.Insert t parked)
+
+-- the front of that queue may not run, leaves the queue and is parked
+pub record Parks (s : State) (q t : ℕ) (r : Stepped) : Type 0 where
+  pub front : front_of s.world.queues q ≡ Some t
+  pub throttled : is_throttled s.world.tree t ≡ true
+  pub all : r ≡ parking (with_world s (taken s.world q)) t
+
+-- one front after another, until one may run or nobody is there
+pub data ParksFronts : ℕ → State → Stepped → Type 0 where
+  NoneLeft : (q : ℕ) (s : State) (r : Stepped) → FrontMayRun s q → r ≡ stays s → ParksFronts q s r
+  OneMore : (q : ℕ) (s : State) (t : ℕ) (gone more r : Stepped) → Parks s q t gone → ParksFronts q gone.state more → r ≡ joined gone more → ParksFronts q s r
+
+-- a local queue comes to have a front that may run, if it or the queue of all processors has such a task: it is
+-- filled wherever it is empty, and each front that may not run is parked
+pub data Supplies : ℕ → State → Stepped → Type 0 where
+  Supplied : (c : ℕ) (s : State) (filled r : Stepped) → Fills s global c filled → FrontMayRun filled.state (local_on c) → r ≡ joined filled (stays filled.state) → Supplies c s r
+  ParkedOne : (c : ℕ) (s : State) (t : ℕ) (filled gone more r : Stepped) → Fills s global c filled → Parks filled.state (local_on c) t gone → Supplies c gone.state more → r ≡ joined filled (joined gone more) → Supplies c s r
+
+-- dispatch of the built-in scheduler, where the local queue is empty: the front of its queue, once those that may
+-- not run are parked
+pub data FillsBuiltin (s : State) (c : ℕ) (r : Stepped) : Type 0 where
+  HasOne : 0 < local_len s.world c → r ≡ stays s → FillsBuiltin s c r
+  Looked : (gone filled : Stepped) → local_len s.world c ≡ 0 → ParksFronts builtin s gone → Fills gone.state builtin c filled → r ≡ joined gone filled → FillsBuiltin s c r
+
 -- ---- dispatch
 
--- a call of dispatch, and then the queue of all processors
+-- a call of dispatch, and then the local queue is supplied
 pub record Dispatches (s : State) (c : ℕ) (p : Option ℕ) (r : Stepped) : Type 0 where
-  pub filled : Stepped
-  pub fills : Fills (dispatch_called s c p).state global c filled
-  pub all : r ≡ joined (dispatch_called s c p) filled
+  pub supplied : Stepped
+  pub supplies : Supplies c (dispatch_called s c p).state supplied
+  pub all : r ≡ joined (dispatch_called s c p) supplied
 
 -- so many calls at most: one more where the local queue is still empty and the last call moved a task
 pub data Asks : ℕ → State → ℕ → Option ℕ → Stepped → Type 0 where
@@ -132,15 +166,15 @@ pub data SwapsOrRests (s : State) (c : ℕ) (p : Option ℕ) (ran : Bool) (r : S
   Swapped : 0 < local_len s.world c → Swaps s c p r → SwapsOrRests s c p ran r
   Kept : local_len s.world c ≡ 0 → Rests s c p ran r → SwapsOrRests s c p ran r
 
--- the local queue is filled from GLOBAL, or else from the built-in scheduler's queue
+-- the local queue is supplied from GLOBAL, or else filled from the built-in scheduler's queue
 pub record CyclesBuiltin (s : State) (c : ℕ) (p : Option ℕ) (ran : Bool) (r : Stepped) : Type 0 where
-  pub filled : Stepped
-  pub fills : Fills s global c filled
+  pub supplied : Stepped
+  pub supplies : Supplies c s supplied
   pub asked : Stepped
-  pub asks : Fills filled.state builtin c asked
+  pub asks : FillsBuiltin supplied.state c asked
   pub ended : Stepped
   pub ends : SwapsOrRests asked.state c p ran ended
-  pub all : r ≡ joined filled (joined asked ended)
+  pub all : r ≡ joined supplied (joined asked ended)
 
 -- ---- the policy's cycle
 
@@ -158,8 +192,8 @@ pub data Ends (s : State) (c : ℕ) (p : Option ℕ) (ran : Bool) (r : Stepped) 
 
 -- of a processor on which that task ran and may stay, or none
 pub data Seeks (s : State) (c : ℕ) (p : Option ℕ) (ran : Bool) (r : Stepped) : Type 0 where
-  Filled : (filled picked : Stepped) → Fills s global c filled → 0 < local_len filled.state.world c → Picks filled.state c p ran picked → r ≡ joined filled picked → Seeks s c p ran r
-  Asked : (filled asked ended : Stepped) → Fills s global c filled → local_len filled.state.world c ≡ 0 → Asks 32 filled.state c p asked → Ends asked.state c p ran ended
+  Filled : (filled picked : Stepped) → Supplies c s filled → 0 < local_len filled.state.world c → Picks filled.state c p ran picked → r ≡ joined filled picked → Seeks s c p ran r
+  Asked : (filled asked ended : Stepped) → Supplies c s filled → local_len filled.state.world c ≡ 0 → Asks 32 filled.state c p asked → Ends asked.state c p ran ended
       → r ≡ joined filled (joined asked ended) → Seeks s c p ran r
 
 -- of whichever scheduler is in force

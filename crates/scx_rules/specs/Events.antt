@@ -1,14 +1,17 @@
 -- What an accepted event does, by cases, over the steps of a cycle.
-use Rattle.std.specs.Prelude.{◌≡◌, ℕ, ◌<◌, ◌≤◌, true, false, [], ◌∷◌, length, Option, Some, None}
+use Rattle.std.specs.Prelude.{◌≡◌, ℕ, suc, ◌<◌, ◌≤◌, true, false, [], ◌∷◌, length, Option, Some, None}
+use Rattle.scx_dsq.specs.Queues.{len_of, front_of, behind_of}
 use Rattle.scx_weights.specs.Hierarchy.{with_weight}
+use Rattle.scx_weights.specs.Limits.{is_throttled}
 use Rattle.scx_semantics.specs.declared.callbacks.Callback.TheVariants as callback
 use Rattle.scx_safety.specs.Programs.{VerifiedProgram}
 use Rattle.scx_world.specs.declared.call.Insert.{Insert}
 use Rattle.scx_world.specs.declared.notes.What.TheVariants as note
+use Rattle.scx_world.specs.Ids.{parked}
 use Rattle.scx_world.specs.World.{with_tree, task_at, wait, running, cpu_of, is_idle, said}
 use Rattle.scx_world.specs.declared.eject.Eject.{Eject}
 use Rattle.scx_world.specs.declared.eject.Eject.TheVariants as cause
-use Rattle.scx_world.specs.Tasks.{for_cpu, woken, asleep, gone, ticked, later}
+use Rattle.scx_world.specs.Tasks.{for_cpu, woken, asleep, gone, let_go, ticked, used_ms, later, begun_periods}
 use Rattle.scx_world.specs.Waits.{IsFirstOverdue}
 use Rattle.scx_machine.specs.declared.events.Event.{Event}
 use Rattle.scx_machine.specs.declared.events.Event.TheVariants.{Wake, Sleep, Tick, Clock, SetWeight}
@@ -16,7 +19,7 @@ use Rattle.scx_machine.specs.Steps.{State, Stepped, with_world, stays, after, jo
 use Rattle.scx_machine.specs.Callbacks.{call_back, answered_by, task_cpu_and_0}
 use Rattle.scx_rules.specs.Helpers.{IsChoice}
 use Rattle.scx_rules.specs.Ejections.{Ejects}
-use Rattle.scx_rules.specs.Cycles.{noting, silent, entering, gone_off, HasStopped, Puts, Cycles}
+use Rattle.scx_rules.specs.Cycles.{noting, silent, entering, gone_off, HasStopped, Puts, parking, Cycles}
 
 abbrev pub awake : State → ℕ → State
 awake s t = with_world s (woken s.world t)
@@ -57,24 +60,54 @@ pub data Sleeps (s : State) (t : ℕ) (r : Stepped) : Type 0 where
       → Cycles (with_world left.state (asleep left.state.world t)) c None true found
       → r ≡ after (said s.world (note.Sleep t) ∷ said s.world (note.Stop t c) ∷ []) (joined left found) → Sleeps s t r
 
--- the task that runs there runs on while its slice lasts; else the processor looks for a task
+-- the task has run for a millisecond, which its groups have used
+abbrev pub ran_on : State → ℕ → State
+ran_on s t = with_world s (used_ms (ticked s.world t) t)
+
+-- a task that may not run any more leaves its processor and is parked, and the processor looks for another; else it
+-- runs on while its slice lasts, and then the processor looks for a task
 pub data Ticks (s : State) (c : ℕ) (r : Stepped) : Type 0 where
   NobodyRuns : running s.world c ≡ None → Cycles s c None false r → Ticks s c r
-  RunsOn : (t : ℕ) → running s.world c ≡ Some t → 0 < (task_at (ticked s.world t) t).slice → r ≡ silent s (ticked s.world t) → Ticks s c r
-  RunsOut : (t : ℕ) → running s.world c ≡ Some t → (task_at (ticked s.world t) t).slice ≡ 0 → Cycles (with_world s (ticked s.world t)) c (Some t) true r → Ticks s c r
+  IsThrottled : (t : ℕ) (left found : Stepped) → running s.world c ≡ Some t → is_throttled (ran_on s t).world.tree t ≡ true → HasStopped (gone_off (ran_on s t) c t) c t 1 left
+      → Cycles (parking left.state t).state c None true found
+      → r ≡ after (said s.world (note.Stop t c) ∷ []) (joined left (joined (parking left.state t) found)) → Ticks s c r
+  RunsOn : (t : ℕ) → running s.world c ≡ Some t → is_throttled (ran_on s t).world.tree t ≡ false → 0 < (task_at (ran_on s t).world t).slice → r ≡ stays (ran_on s t) → Ticks s c r
+  RunsOut : (t : ℕ) → running s.world c ≡ Some t → is_throttled (ran_on s t).world.tree t ≡ false → (task_at (ran_on s t).world t).slice ≡ 0 → Cycles (ran_on s t) c (Some t) true r → Ticks s c r
 
+-- of the parked, from that one on in their order, so many are looked at: who may run again is parked no more, waits
+-- from now on, and is put as for the processor on which it ran last
+pub data LetsGo : ℕ → State → Option ℕ → Stepped → Type 0 where
+  Enough : (s : State) (at : Option ℕ) (r : Stepped) → r ≡ stays s → LetsGo 0 s at r
+  NoMore : (n : ℕ) (s : State) (r : Stepped) → r ≡ stays s → LetsGo (suc n) s None r
+  StaysParked : (n : ℕ) (s : State) (t : ℕ) (r : Stepped) → is_throttled s.world.tree t ≡ true → LetsGo n s (behind_of s.world.queues t) r → LetsGo (suc n) s (Some t) r
+  IsLetGo : (n : ℕ) (s : State) (t : ℕ) (put more r : Stepped) → is_throttled s.world.tree t ≡ false → Puts (with_world s (let_go s.world t)) t (task_at s.world t).prev_cpu 0 put
+      → LetsGo n put.state (behind_of s.world.queues t) more → r ≡ joined put more → LetsGo (suc n) s (Some t) r
+
+-- the clock has grown, and periods have begun
 abbrev pub aged : State → State
-aged s = with_world s (later s.world)
+aged s = with_world s (begun_periods (later s.world))
+
+-- all who may run again are let go
+abbrev pub LetsAllGo : State → Stepped → Type 0
+LetsAllGo s r = LetsGo (len_of s.world.queues parked) s (front_of s.world.queues parked) r
 
 abbrev pub NobodyIsOverdue : State → Type 0
 NobodyIsOverdue s = (t : ℕ) → t < length s.world.tasks → wait s.world t ≤ s.policy.timeout_ms
 
--- the clock grows; where a task has waited longer by then than a policy in force may let it, the policy is
--- ejected, and the task of the least number is named
-pub data Ages (s : State) (r : Stepped) : Type 0 where
-  Is_out : (x : Eject) → s.world.ejected ≡ Some x → r ≡ stays (aged s) → Ages s r
-  In_time : s.world.ejected ≡ None → NobodyIsOverdue (aged s) → r ≡ stays (aged s) → Ages s r
-  Too_late : (t : ℕ) → s.world.ejected ≡ None → IsFirstOverdue (later s.world) s.policy.timeout_ms t → Ejects (aged s) (cause.Stall t (later s.world).clock) r → Ages s r
+-- then, where a task has waited longer than a policy in force may let it, the policy is ejected, and the task of the
+-- least number is named
+pub data Watches (s : State) (r : Stepped) : Type 0 where
+  Is_out : (x : Eject) → s.world.ejected ≡ Some x → r ≡ stays s → Watches s r
+  In_time : s.world.ejected ≡ None → NobodyIsOverdue s → r ≡ stays s → Watches s r
+  Too_late : (t : ℕ) → s.world.ejected ≡ None → IsFirstOverdue s.world s.policy.timeout_ms t → Ejects s (cause.Stall t s.world.clock) r → Watches s r
+
+-- the clock grows, who may run again is let go, and the watchdog looks
+pub record Ages (s : State) (r : Stepped) : Type 0 where
+  pub gone : Stepped
+  pub lets_go : LetsAllGo (aged s) gone
+  pub watched : Stepped
+  pub watches : Watches gone.state watched
+  pub all : r ≡ joined gone watched
 
 abbrev pub Happens : State → Event → Stepped → Type 0
 Happens s (Wake t) r = Wakes s t r

@@ -3,13 +3,14 @@
 use Rattle.std.proofs.Common.{◌≡◌, ℕ, zero, suc, ◌<◌, Bool, true, false, ◌==◌, nat_lt, if◌then◌else◌, List, [], ◌∷◌, ◌++◌, length, Option, Some, None, is_none, refl, sym, ap, ◌∙◌, subst, append_assoc, arith}
 use Rattle.std.proofs.lemmas.Bool.Decides.{nat_tests}
 use Rattle.std.proofs.lemmas.List.{append-nil}
-use Rattle.scx_dsq.specs.Queues.{front_of}
+use Rattle.scx_dsq.specs.Queues.{len_of, front_of, behind_of}
 use Rattle.scx_semantics.specs.declared.callbacks.Callback.{Callback}
 use Rattle.scx_semantics.specs.declared.callbacks.Callback.TheVariants as callback
 use Rattle.scx_semantics.specs.Endings.{Ending}
 use Rattle.scx_safety.specs.Programs.{VerifiedProgram}
 use Rattle.scx_vm.specs.declared.arguments.Args.{Args}
 use Rattle.scx_weights.specs.Hierarchy.{with_weight}
+use Rattle.scx_weights.specs.Limits.{with_use}
 use Rattle.scx_weights.specs.Refusals.{weight_fault}
 use Rattle.scx_world.specs.declared.call.Insert.{Insert}
 use Rattle.scx_world.specs.declared.eject.Eject.{Eject}
@@ -17,20 +18,23 @@ use Rattle.scx_world.specs.declared.eject.Eject.TheVariants as cause
 use Rattle.scx_world.specs.declared.faults.Fault.{Fault}
 use Rattle.scx_world.specs.declared.notes.Note.{Note}
 use Rattle.scx_world.specs.declared.notes.What.TheVariants as note
-use Rattle.scx_world.specs.Ids.{global, builtin, local_on}
-use Rattle.scx_world.specs.World.{WorldState, with_tree, task_at, running, cpu_of, is_idle, begun, quiet, said}
-use Rattle.scx_world.specs.Tasks.{woken, asleep, gone, entered, for_cpu, fill_front, filled, stopped, started_at, kept, ticked, reweighed}
+use Rattle.scx_world.specs.Ids.{global, builtin, parked, local_on}
+use Rattle.scx_world.specs.World.{WorldState, with_tree, task_at, is_throttled, running, cpu_of, is_idle, begun, quiet, said}
+use Rattle.scx_world.specs.Tasks.{woken, asleep, gone, entered, for_cpu, fill_front, filled, stopped, started_at, kept, put_parked, taken, let_go, ticked, used_ms, reweighed}
 use Rattle.scx_world.specs.Ejecting.{put_builtin, charged, overtaken}
 use Rattle.scx_machine.specs.Policy.{PolicyState, program_of}
 use Rattle.scx_machine.specs.Steps.{State, CallMade, Stepped, with_world, stays, after, joined, is_ejected}
 use Rattle.scx_machine.specs.Ejecting.{moves_over, eject, ejected_for}
 use Rattle.scx_machine.specs.Callbacks.{called, ended, answer_fault, fault_of, unless_ejected, acting, call_back, answered_by, one_task, task_cpu_and_0, task_and_number, cpu_and_task}
 use Rattle.scx_machine.specs.Put.{enters, wanted, enters_builtin, comes_in, put}
-use Rattle.scx_machine.specs.Cycle.{has_local, fill, dispatched, asks_again, tries, stopping, running_on, leave, started_if, start, rest, swap, swap_or_rest, builtin_ask, builtin_cycle, start_or_cycle, pick, pick_or_rest, conclude, ask, seek, look, cycling, cycle}
-use Rattle.scx_machine.specs.Events.{target, settled, settle, select, wake, sleep_from_cpu, sleep_from, sleep, count_down, tick_of, tick}
+use Rattle.scx_machine.specs.Filling.{fill}
+use Rattle.scx_machine.specs.Parking.{park, park_front, throttled_front, park_fronts, clear, in_reach, supply, let_go_one, let_go_from, let_all_go}
+use Rattle.scx_machine.specs.Cycle.{has_local, dispatched, asks_again, tries, stopping, running_on, leave, started_if, start, rest, swap, swap_or_rest, builtin_dispatch, builtin_fill, builtin_ask, builtin_cycle, start_or_cycle, pick, pick_or_rest, conclude, ask, seek, look, cycling, cycle}
+use Rattle.scx_machine.specs.Events.{target, settled, settle, select, wake, sleep_from_cpu, sleep_from, sleep, throttle, expire, count_down, tick_of, tick}
 use Rattle.scx_sched.specs.Causes.{IsLast}
 use Rattle.scx_sched.proofs.Entering.{keeps_if}
-use Rattle.scx_sched.proofs.Unchanged.{IsAsBefore, same_entered, same_put_builtin, same_called, eject_sets, same_brought, same_kept, same_asleep}
+use Rattle.scx_sched.proofs.Unchanged.{IsAsBefore, same_entered, same_put_builtin, same_put_parked, same_called, eject_sets, same_brought, same_kept, same_asleep}
+use Rattle.scx_sched.proofs.Supplying.{park_fronts_from, clear_from}
 use Rattle.scx_sched.proofs.Leaving.{run_back}
 
 -- of these calls the last one had a fault, for which the policy was ejected at that time
@@ -237,11 +241,43 @@ honest_fill : (s : State) (q c : ℕ) → IsHonest s (fill s q c)
 unfolding fill
 honest_fill s q c = honest_plain s (filled s.world q c) _ (same_brought (fill_front s.world q c) s.world q c)
 
+honest_park : (s : State) (t : ℕ) → IsHonest s (park s t)
+unfolding park
+honest_park s t = honest_plain s (put_parked s.world t) _ (same_put_parked s.world s.world t (refl, refl, refl))
+
+honest_park_front : (s : State) (q t : ℕ) → IsHonest s (park_front s q t)
+unfolding park_front
+honest_park_front s q t = honest_from s (taken s.world q) (park (with_world s (taken s.world q)) t) (refl, refl, refl) (honest_park (with_world s (taken s.world q)) t)
+
+honest_park_fronts : (j : ℕ) (s : State) (q : ℕ) → IsHonest s (park_fronts j s q)
+unfolding park_fronts
+honest_park_fronts zero s q = honest_stays s
+honest_park_fronts (suc j) s q = go (throttled_front s q) (λ t. honest_park_fronts j (park_front s q t).state q)
+  where
+    go : (o : Option ℕ) → ((t : ℕ) → IsHonest (park_front s q t).state (park_fronts j (park_front s q t).state q)) → IsHonest s (park_fronts_from j s q o)
+    go None more = honest_stays s
+    go (Some t) more = let p = park_front s q t in honest_joined s p (park_fronts j p.state q) (honest_park_front s q t) (more t)
+
+honest_clear : (j : ℕ) (s : State) (c : ℕ) → IsHonest s (clear j s c)
+unfolding clear
+honest_clear zero s c = honest_stays s
+honest_clear (suc j) s c =
+    let f = fill s global c in
+    honest_joined s f (clear_from j f.state c (throttled_front f.state (local_on c))) (honest_fill s global c) (go f.state (throttled_front f.state (local_on c)) (λ v. honest_clear j v c))
+  where
+    go : (v : State) (o : Option ℕ) → ((u : State) → IsHonest u (clear j u c)) → IsHonest v (clear_from j v c o)
+    go v None more = honest_stays v
+    go v (Some t) more = let p = park_front v (local_on c) t in honest_joined v p (clear j p.state c) (honest_park_front v (local_on c) t) (more p.state)
+
+pub honest_supply : (s : State) (c : ℕ) → IsHonest s (supply s c)
+unfolding supply
+honest_supply s c = honest_clear (in_reach s c) s c
+
 honest_dispatched : (s : State) (c : ℕ) (p : Option ℕ) → IsHonest s (dispatched s c p)
 unfolding dispatched
 honest_dispatched s c p =
     let r = call_back s callback.Dispatch (cpu_and_task c p) 0 c in
-    honest_joined s r (fill r.state global c) (honest_call_back s callback.Dispatch (cpu_and_task c p) 0 c (λ e. absurd (cc))) (honest_fill r.state global c)
+    honest_joined s r (supply r.state c) (honest_call_back s callback.Dispatch (cpu_and_task c p) 0 c (λ e. absurd (cc))) (honest_supply r.state c)
 
 honest_tries : (j : ℕ) (s : State) (c : ℕ) (p : Option ℕ) → IsHonest s (tries j s c p)
 unfolding tries
@@ -300,13 +336,20 @@ honest_swap_or_rest : (s : State) (c : ℕ) (p : Option ℕ) (ran : Bool) → Is
 unfolding swap_or_rest
 honest_swap_or_rest s c p ran = keeps_if (IsHonest s) (has_local s c) (swap s c p) (rest s c p ran) (honest_swap s c p) (honest_rest s c p ran)
 
+pub honest_builtin_fill : (s : State) (c : ℕ) → IsHonest s (builtin_fill s c)
+unfolding builtin_fill builtin_dispatch
+honest_builtin_fill s c =
+    let p = park_fronts (len_of s.world.queues builtin) s builtin in
+    keeps_if (IsHonest s) (has_local s c) (stays s) (joined p (fill p.state builtin c)) (honest_stays s)
+    (honest_joined s p (fill p.state builtin c) (honest_park_fronts (len_of s.world.queues builtin) s builtin) (honest_fill p.state builtin c))
+
 honest_builtin_ask : (s : State) (c : ℕ) (p : Option ℕ) (ran : Bool) → IsHonest s (builtin_ask s c p ran)
 unfolding builtin_ask
-honest_builtin_ask s c p ran = let f = fill s builtin c in honest_joined s f (swap_or_rest f.state c p ran) (honest_fill s builtin c) (honest_swap_or_rest f.state c p ran)
+honest_builtin_ask s c p ran = let f = builtin_fill s c in honest_joined s f (swap_or_rest f.state c p ran) (honest_builtin_fill s c) (honest_swap_or_rest f.state c p ran)
 
 honest_builtin_cycle : (s : State) (c : ℕ) (p : Option ℕ) (ran : Bool) → IsHonest s (builtin_cycle s c p ran)
 unfolding builtin_cycle
-honest_builtin_cycle s c p ran = let f = fill s global c in honest_joined s f (builtin_ask f.state c p ran) (honest_fill s global c) (honest_builtin_ask f.state c p ran)
+honest_builtin_cycle s c p ran = let f = supply s c in honest_joined s f (builtin_ask f.state c p ran) (honest_supply s c) (honest_builtin_ask f.state c p ran)
 
 -- ---- the policy
 
@@ -333,9 +376,9 @@ honest_ask s c p ran = let d = tries 32 s c p in honest_joined s d (conclude d.s
 honest_seek : (s : State) (c : ℕ) (p : Option ℕ) (ran : Bool) → IsHonest s (seek s c p ran)
 unfolding seek
 honest_seek s c p ran =
-    let f = fill s global c in
+    let f = supply s c in
     let r = if has_local f.state c then pick f.state c p ran else ask f.state c p ran in
-    honest_joined s f r (honest_fill s global c) (keeps_if (IsHonest f.state) (has_local f.state c) (pick f.state c p ran) (ask f.state c p ran) (honest_pick f.state c p ran) (honest_ask f.state c p ran))
+    honest_joined s f r (honest_supply s c) (keeps_if (IsHonest f.state) (has_local f.state c) (pick f.state c p ran) (ask f.state c p ran) (honest_pick f.state c p ran) (honest_ask f.state c p ran))
 
 honest_look : (s : State) (c : ℕ) (p : Option ℕ) (ran : Bool) → IsHonest s (look s c p ran)
 unfolding look
@@ -398,6 +441,22 @@ honest_sleep s t = honest_after s (said s.world (note.Sleep t) ∷ []) (sleep_fr
     go None = honest_plain s (asleep (gone s.world t) t) [] (same_asleep s.world (gone s.world t) t (refl, refl, refl))
     go (Some c) = honest_sleep_from_cpu s t c
 
+honest_throttle : (s : State) (c t : ℕ) → IsHonest s (throttle s c t)
+unfolding throttle
+honest_throttle s c t =
+    let w = stopped s.world c t in
+    let off = with_world s w in
+    let r = stopping off c t 1 in
+    let p = park r.state t in
+    let y = cycle p.state c None true in
+    let ns = said s.world (note.Stop t c) ∷ [] in
+    honest_from s w (after ns (joined r (joined p y))) (refl, refl, refl)
+    (honest_after off ns (joined r (joined p y)) (honest_joined off r (joined p y) (honest_stopping off c t 1) (honest_joined r.state p y (honest_park r.state t) (honest_cycle p.state c None true))))
+
+honest_expire : (s : State) (c t : ℕ) → IsHonest s (expire s c t)
+unfolding expire
+honest_expire s c t = keeps_if (IsHonest s) ((task_at s.world t).slice == 0) (cycle s c (Some t) true) (stays s) (honest_cycle s c (Some t) true) (honest_stays s)
+
 -- a processor that ran
 pub honest_tick : (s : State) (c : ℕ) → IsHonest s (tick s c)
 unfolding tick count_down
@@ -406,10 +465,33 @@ honest_tick s c = go (running s.world c)
     go : (o : Option ℕ) → IsHonest s (tick_of o s c)
     go None = honest_cycle s c None false
     go (Some t) =
-        let w = ticked s.world t in
+        let w = used_ms (ticked s.world t) t in
         let v = with_world s w in
-        let r = if (task_at v.world t).slice == 0 then cycle v c (Some t) true else stays v in
-        honest_from s w r (refl, refl, refl) (keeps_if (IsHonest v) ((task_at v.world t).slice == 0) (cycle v c (Some t) true) (stays v) (honest_cycle v c (Some t) true) (honest_stays v))
+        let r = if is_throttled v.world t then throttle v c t else expire v c t in
+        let x = ticked s.world t in
+        let same = keeps_if (IsAsBefore s.world) (nat_lt t (length x.tasks)) (with_tree x (with_use x.tree t)) x (refl, refl, refl) (refl, refl, refl) in
+        honest_from s w r same (keeps_if (IsHonest v) (is_throttled v.world t) (throttle v c t) (expire v c t) (honest_throttle v c t) (honest_expire v c t))
+
+-- who may run again is let go
+honest_let_go_one : (s : State) (t : ℕ) → IsHonest s (let_go_one s t)
+unfolding let_go_one
+honest_let_go_one s t =
+    let w = let_go s.world t in
+    honest_from s w (put (with_world s w) t (task_at s.world t).prev_cpu 0) (refl, refl, refl) (honest_put (with_world s w) t (task_at s.world t).prev_cpu 0)
+
+honest_let_go_from : (j : ℕ) (s : State) (at : Option ℕ) → IsHonest s (let_go_from j s at)
+unfolding let_go_from
+honest_let_go_from zero s at = honest_stays s
+honest_let_go_from (suc j) s None = honest_stays s
+honest_let_go_from (suc j) s (Some t) =
+    let next = behind_of s.world.queues t in
+    let r = let_go_one s t in
+    keeps_if (IsHonest s) (is_throttled s.world t) (let_go_from j s next) (joined r (let_go_from j r.state next)) (honest_let_go_from j s next)
+    (honest_joined s r (let_go_from j r.state next) (honest_let_go_one s t) (honest_let_go_from j r.state next))
+
+pub honest_let_all_go : (s : State) → IsHonest s (let_all_go s)
+unfolding let_all_go
+honest_let_all_go s = honest_let_go_from (len_of s.world.queues parked) s (front_of s.world.queues parked)
 
 -- a weight
 pub honest_weight : (s : State) (g x : ℕ) (ns : List Note) → IsHonest s (record { state = with_world s (reweighed s.world g x); notes = ns; calls = [] })

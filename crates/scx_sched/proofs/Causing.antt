@@ -1,6 +1,7 @@
 -- A policy is ejected for a cause.
 use Rattle.std.proofs.Common.{◌≡◌, ℕ, ◌+◌, ◌<◌, ◌≤◌, Bool, true, false, nat_lt, if◌then◌else◌, List, [], ◌∷◌, ◌++◌, length, Option, Some, None, is_some, refl, sym, ap, ◌∙◌, subst, arith}
 use Rattle.std.proofs.lemmas.Bool.Decides.{nat_tests}
+use Rattle.std.proofs.lemmas.List.{append-nil}
 use Rattle.std.proofs.lemmas.List.Quantifiers.{position-Some}
 use Rattle.scx_semantics.specs.declared.callbacks.Callback.{Callback}
 use Rattle.scx_semantics.specs.declared.callbacks.Callback.TheVariants as callback
@@ -16,21 +17,26 @@ use Rattle.scx_world.specs.declared.eject.Eject.TheVariants as cause
 use Rattle.scx_world.specs.declared.faults.Fault.{Fault}
 use Rattle.scx_world.specs.declared.faults.Fault.TheVariants.{NoSuchCpu}
 use Rattle.scx_world.specs.World.{WorldState, task_at}
-use Rattle.scx_world.specs.Tasks.{later}
+use Rattle.scx_world.specs.Tasks.{later, begun_periods}
 use Rattle.scx_world.specs.Waits.{first_overdue, IsFirstOverdue}
 use Rattle.scx_world.specs.Helpers.{or_fault, world_functions}
 use Rattle.scx_tasks.specs.Waits.{time_since}
 use Rattle.scx_machine.specs.Policy.{PolicyState, program_of, IsAs, AreAs}
-use Rattle.scx_machine.specs.Steps.{State, CallMade, with_world}
+use Rattle.scx_machine.specs.Steps.{State, CallMade, Stepped, with_world, stays, joined}
 use Rattle.scx_machine.specs.Ejecting.{eject}
 use Rattle.scx_machine.specs.Callbacks.{called, answer_fault, fault_of, IsAnswered, AreAnswered}
 use Rattle.scx_machine.specs.declared.events.Event.{Event}
 use Rattle.scx_machine.specs.declared.events.Event.TheVariants.{Wake, Sleep, Tick, Clock, SetWeight}
+use Rattle.scx_machine.specs.Parking.{let_all_go}
 use Rattle.scx_machine.specs.Events.{overdue, stalled, clock, happened}
-use Rattle.scx_sched.specs.Causes.{EndsIn, HasFault, Of_helper, Of_answer, IsLast, IsCause, Waited, Went_wrong, EjectsOnce}
+use Rattle.scx_sched.specs.Causes.{EndsIn, HasFault, Of_helper, Of_answer, IsLast, IsCause, Waited, Went_wrong, EjectsOnce, clock_in}
 use Rattle.scx_sched.specs.Sim.{SimState, refusal, calls_if, calls_of, IsValid}
 use Rattle.scx_sched.proofs.Unchanged.{eject_sets}
-use Rattle.scx_sched.proofs.Blaming.{IsHonest, apart, same_eject, honest_wake, honest_sleep, honest_tick, honest_weight}
+use Rattle.scx_sched.specs.Ranges.{IsFine}
+use Rattle.scx_sched.proofs.Blaming.{IsHonest, apart, same_eject, honest_wake, honest_sleep, honest_tick, honest_weight, honest_let_all_go}
+use Rattle.scx_sched.proofs.Lasting.{AreAsLong}
+use Rattle.scx_sched.proofs.Letting.{long_let_all_go}
+use Rattle.scx_sched.proofs.Events.{IsFineNow, fine_events, fine_inside, fine_later}
 use Rattle.scx_sched.proofs.Timely.{not_late}
 
 -- ---- a callback with a fault
@@ -123,41 +129,71 @@ module _ (s : State) (n : ℕ) where
   abbrev before_event : SimState
   before_event = record { state = s; events = n }
 
-  honest_cause : (v : Event) → refusal before_event v ≡ None → AreAs s.policy.callbacks → AreAnswered (happened s v).calls → IsHonest s (happened s v) → EjectsOnce before_event v (after_event s n v)
-  honest_cause v ok programs answered h = record { stays = h.stays; cause = λ x force out. for_fault x force out }
+  honest_cause : (v : Event) → clock_in before_event v ≡ s.world.clock → refusal before_event v ≡ None → AreAs s.policy.callbacks → AreAnswered (happened s v).calls → IsHonest s (happened s v) → EjectsOnce before_event v (after_event s n v)
+  honest_cause v now ok programs answered h = record { stays = h.stays; cause = λ x force out. for_fault x force out }
     where
       for_fault : (x : Eject) → s.world.ejected ≡ None → (happened s v).state.world.ejected ≡ Some x → IsCause before_event v x
       for_fault x force out =
           let b = h.blamed x force out in
           let i = last_answered b.last.0 b.call (subst AreAnswered b.last.1 answered) in
           let last : IsLast b.call (calls_of before_event v) = (b.last.0, ap (λ o. calls_if o before_event v) ok ∙ b.last.1) in
-          subst (IsCause before_event v) (sym b.named) (Went_wrong b.call b.fault last (has_fault b.call b.fault i b.of (as_callback s.policy b.of b.call.program programs b.program) b.wrong))
+          subst (IsCause before_event v) (ap (λ k. cause.Fault b.fault k) now ∙ sym b.named) (Went_wrong b.call b.fault last (has_fault b.call b.fault i b.of (as_callback s.policy b.of b.call.program programs b.program) b.wrong))
 
-  clock_cause : EjectsOnce before_event Clock (record { state = (clock s).state; events = n + 1 })
+  -- the clock: a callback as a task is let go, or the watchdog
+  clock_cause : refusal before_event Clock ≡ None → IsFineNow (length s.world.tasks) n n s.world → AreAs s.policy.callbacks → AreAnswered (clock s).calls → EjectsOnce before_event Clock (record { state = (clock s).state; events = n + 1 })
   unfolding clock
-  clock_cause = go (overdue v) refl
+  clock_cause ok fine programs answered = go (overdue r) refl answered (ap (λ o. calls_if o before_event Clock) ok)
     where
-      v : State
-      v = with_world s (later s.world)
+      many : ℕ
+      many = length s.world.tasks
 
-      go : (o : Option ℕ) → overdue v ≡ o → EjectsOnce before_event Clock (record { state = (stalled o v).state; events = n + 1 })
-      go None e = record { stays = λ x out. out; cause = λ x force out. absurd (apart s.world.ejected x force out) }
-      go (Some t) e =
-          let y = cause.Stall t v.world.clock in
-          let late = is_late_in v t e in
+      v : State
+      v = with_world s (begun_periods (later s.world))
+
+      l : Stepped
+      l = let_all_go v
+
+      r : State
+      r = l.state
+
+      honest : IsHonest v l
+      honest = honest_let_all_go v
+
+      long : AreAsLong v.world r.world
+      long = long_let_all_go many (IsFine many (n + 1)) (fine_inside many (n + 1)) (fine_events many (n + 1)).let_go n s.world.cpus v (fine_later many n n s.world fine)
+
+      -- who is found then would be found before
+      found : (t : ℕ) → first_overdue r.world r.policy.timeout_ms ≡ Some t → IsFirstOverdue (later s.world) s.policy.timeout_ms t
+      found t e =
+          let limit : r.policy.timeout_ms ≡ s.policy.timeout_ms = ap (λ (p : PolicyState). p.timeout_ms) honest.policy in
+          let f = first_late r.world r.policy.timeout_ms t e in
+          record { known = omega (arith, f.known, long.1); over = omega (arith, f.over, limit, long.2 t); least = λ u k. omega (arith, f.least u k, limit, long.2 u) }
+
+      go : (o : Option ℕ) → overdue r ≡ o → AreAnswered (joined l (stalled o r)).calls → calls_of before_event Clock ≡ (joined l (stalled o r)).calls → EjectsOnce before_event Clock (record { state = (stalled o r).state; events = n + 1 })
+      go None e answers calls = record { stays = honest.stays; cause = λ x force out. for_fault x force out }
+        where
+          for_fault : (x : Eject) → s.world.ejected ≡ None → r.world.ejected ≡ Some x → IsCause before_event Clock x
+          for_fault x force out =
+              let b = honest.blamed x force out in
+              let all : (joined l (stays r)).calls ≡ b.last.0 ++ b.call ∷ [] = append-nil l.calls ∙ b.last.1 in
+              let i = last_answered b.last.0 b.call (subst AreAnswered all answers) in
+              subst (IsCause before_event Clock) (sym b.named) (Went_wrong b.call b.fault (b.last.0, calls ∙ all) (has_fault b.call b.fault i b.of (as_callback s.policy b.of b.call.program programs b.program) b.wrong))
+      go (Some t) e answers calls =
+          let y = cause.Stall t r.world.clock in
+          let late = is_late_in r t e in
           record {
-            stays = λ x out. absurd (apart s.world.ejected x late.force out);
-            cause = λ x force out. subst (IsCause before_event Clock) (same_eject (eject v y).state.world.ejected y x (eject_sets v y).1 out) (Waited t refl (first_late v.world s.policy.timeout_ms t late.first));
+            stays = λ x out. absurd (apart r.world.ejected x late.force (honest.stays x out));
+            cause = λ x force out. subst (IsCause before_event Clock) (ap (λ k. cause.Stall t k) (sym honest.clock) ∙ same_eject (eject r y).state.world.ejected y x (eject_sets r y).1 out) (Waited t refl (found t late.first));
           }
 
   -- the law
-  pub ejects_once : (v : Event) → refusal before_event v ≡ None → 0 < length s.world.cpus → AreAs s.policy.callbacks → AreAnswered (happened s v).calls → EjectsOnce before_event v (after_event s n v)
-  ejects_once (Wake t) ok some programs answered = honest_cause (Wake t) ok programs answered (honest_wake s t some)
-  ejects_once (Sleep t) ok some programs answered = honest_cause (Sleep t) ok programs answered (honest_sleep s t)
-  ejects_once (Tick c) ok some programs answered = honest_cause (Tick c) ok programs answered (honest_tick s c)
-  ejects_once Clock ok some programs answered = clock_cause
-  ejects_once (SetWeight g x) ok some programs answered = honest_cause (SetWeight g x) ok programs answered (honest_weight s g x _)
+  pub ejects_once : (v : Event) → refusal before_event v ≡ None → IsFineNow (length s.world.tasks) n n s.world → AreAs s.policy.callbacks → AreAnswered (happened s v).calls → EjectsOnce before_event v (after_event s n v)
+  ejects_once (Wake t) ok fine programs answered = honest_cause (Wake t) refl ok programs answered (honest_wake s t (omega (arith, fine.sound.here)))
+  ejects_once (Sleep t) ok fine programs answered = honest_cause (Sleep t) refl ok programs answered (honest_sleep s t)
+  ejects_once (Tick c) ok fine programs answered = honest_cause (Tick c) refl ok programs answered (honest_tick s c)
+  ejects_once Clock ok fine programs answered = clock_cause ok fine programs answered
+  ejects_once (SetWeight g x) ok fine programs answered = honest_cause (SetWeight g x) refl ok programs answered (honest_weight s g x _)
 
 -- of a machine between two events
 pub step_cause : (s : State) (n : ℕ) (v : Event) → refusal (record { state = s; events = n }) v ≡ None → IsValid s n → AreAnswered (happened s v).calls → EjectsOnce (record { state = s; events = n }) v (record { state = (happened s v).state; events = n + 1 })
-step_cause s n v ok h answered = ejects_once s n v ok (omega (arith, h.fine.sound.here)) h.programs answered
+step_cause s n v ok h answered = ejects_once s n v ok h.fine h.programs answered

@@ -1,5 +1,5 @@
 -- Where a task may enter a queue: each push that the machine makes is accepted.
-use Rattle.std.proofs.Common.{◌≡◌, ℕ, ◌<◌, ◌≤◌, Bool, true, false, ◌==◌, ◌||◌, nat_lt, ◌⊎◌, inl, inr, cond, if◌then◌else◌, [], ◌∷◌, length, set, Option, Some, None, is_some, is_none, refl, sym, ap, subst, arith}
+use Rattle.std.proofs.Common.{◌≡◌, ℕ, ◌<◌, ◌≤◌, Bool, true, false, ◌==◌, ◌||◌, nat_lt, ◌⊎◌, inl, inr, cond, if◌then◌else◌, [], ◌∷◌, length, set, Option, Some, None, is_some, is_none, refl, sym, ◌∙◌, ◌+◌, ap, subst, arith}
 use Rattle.std.specs.List.{list_any}
 use Rattle.std.proofs.lemmas.Bool.{cases_eq, cases_lt, eq-eqb, ne_eqb}
 use Rattle.std.proofs.lemmas.Bool.Decides.{nat_tests}
@@ -12,7 +12,7 @@ use Rattle.scx_dsq.specs.Entries.{same_sort}
 use Rattle.scx_dsq.specs.declared.entries.Rank.{Rank}
 use Rattle.scx_dsq.specs.declared.entries.Rank.TheVariants.{Fifo, Vtime}
 use Rattle.scx_dsq.specs.declared.entries.Entry.{Entry}
-use Rattle.scx_dsq.specs.Laws.{one_if}
+use Rattle.scx_dsq.specs.Laws.{one_if, IsStamped}
 use Rattle.scx_dsq.proofs.Facts.{ids_pushed, ids_without, ids_removed}
 use Rattle.scx_world.specs.declared.call.Insert.{Insert}
 use Rattle.scx_world.specs.Ids.{global, held, builtin, local_on, policy_end, parked}
@@ -73,6 +73,47 @@ sorted_popped s q sorted = sorted_without s (front_of s q) sorted
 pub sorted_removed : (s : QueueState) (t : ℕ) → IsSorted s → IsSorted (removed s t)
 sorted_removed s t sorted = keeps_if IsSorted (is_some (entry_of s t)) (without_task s t) s (each_set fits_sort true s.entries t None refl sorted) sorted
 
+-- ---- the stamps of entries are below the number of pushes
+
+pub stamped_pushed : (s : QueueState) (q t : ℕ) (r : Rank) → IsStamped s → IsStamped (pushed s q t r)
+stamped_pushed s q t r h = keeps_if IsStamped (is_none (push_refusal s q t r)) (with_place s q t r) s (λ u p e. at u p e (cases_eq u t) (cases_lt t (length s.entries))) h
+  where
+    stamp : (a b : Entry) → Some a ≡ Some b → b.stamp ≡ a.stamp
+    stamp a b e = ap (λ (x : Entry). x.stamp) (sym (same a b e))
+      where
+        same : (a b : Entry) → Some a ≡ Some b → a ≡ b
+        same a b e = cc
+
+    at : (u : ℕ) (p : Entry) → entry_of (with_place s q t r) u ≡ Some p → (u ≡ t) ⊎ (u ≡ t → ⊥) → (t < length s.entries) ⊎ (length s.entries ≤ t) → p.stamp < s.pushes + 1
+    at u p e (inl x) (inl l) =
+        let here : entry_of (with_place s q t r) u ≡ Some (next_entry s q r) = ap (λ k. entry_of (with_place s q t r) k) x ∙ get_or-set_same {A = Option Entry} s.entries t (Some (next_entry s q r)) None l in
+        omega (arith, stamp (next_entry s q r) p (sym here ∙ e))
+    at u p e (inl x) (inr past) = let old : p.stamp < s.pushes = h u p (sym (ap (λ xs. entry_at xs u) (set_past s.entries t (Some (next_entry s q r)) past)) ∙ e) in omega (arith, old)
+    at u p e (inr d) l = let old : p.stamp < s.pushes = h u p (sym (get_or-set_other {A = Option Entry} s.entries t u (Some (next_entry s q r)) None d) ∙ e) in omega (arith, old)
+
+stamped_gone : (s : QueueState) (t : ℕ) → IsStamped s → IsStamped (without_task s t)
+stamped_gone s t h u p e = at (cases_eq u t) (cases_lt t (length s.entries))
+  where
+    at : (u ≡ t) ⊎ (u ≡ t → ⊥) → (t < length s.entries) ⊎ (length s.entries ≤ t) → p.stamp < s.pushes
+    at (inl x) (inl l) =
+        let here : entry_of (without_task s t) u ≡ None = ap (λ k. entry_of (without_task s t) k) x ∙ get_or-set_same {A = Option Entry} s.entries t None None l in
+        let bad : None ≡ Some p = sym here ∙ e in absurd (cc)
+    at (inl x) (inr past) = h u p (sym (ap (λ xs. entry_at xs u) (set_past s.entries t None past)) ∙ e)
+    at (inr d) l = h u p (sym (get_or-set_other {A = Option Entry} s.entries t u None None d) ∙ e)
+
+stamped_without : (s : QueueState) (o : Option ℕ) → IsStamped s → IsStamped (without s o)
+stamped_without s None h = h
+stamped_without s (Some t) h = stamped_gone s t h
+
+pub stamped_popped : (s : QueueState) (q : ℕ) → IsStamped s → IsStamped (popped s q)
+stamped_popped s q h = stamped_without s (front_of s q) h
+
+pub stamped_removed : (s : QueueState) (t : ℕ) → IsStamped s → IsStamped (removed s t)
+stamped_removed s t h = keeps_if IsStamped (is_some (entry_of s t)) (without_task s t) s (stamped_gone s t h) h
+
+pub stamped_created : (s : QueueState) (q : ℕ) → IsStamped s → IsStamped (created s q)
+stamped_created s q h = keeps_if IsStamped (is_none (create_refusal s q)) (with_queue s q) s h h
+
 -- ---- who waits in a queue was put there in one way
 
 alike_pushed : (s : QueueState) (q t : ℕ) (r : Rank) (q' : ℕ) (r' : Rank) → clashes q r (Some (next_entry s q' r')) ≡ false → IsAlike s q r → IsAlike (pushed s q' t r') q r
@@ -98,7 +139,7 @@ one_sort (Vtime j) Fifo c e f = absurd (cc)
 one_sort (Vtime j) (Vtime k) Fifo e f = f
 one_sort (Vtime j) (Vtime k) (Vtime l) e f = refl
 
-low_or : (q : ℕ) (b : Bool) → policy_end ≤ q → (nat_lt q policy_end || b) ≡ true → b ≡ true
+pub low_or : (q : ℕ) (b : Bool) → policy_end ≤ q → (nat_lt q policy_end || b) ≡ true → b ≡ true
 low_or q b past e = let no : nat_lt q policy_end ≡ false = grind (arith, nat_tests, past) in subst (λ x. (x || b) ≡ true) no e
 
 -- the machine's own queues hold those of their own sort

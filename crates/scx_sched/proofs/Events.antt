@@ -1,6 +1,6 @@
 -- Each event keeps what holds between two events.
-use Rattle.std.proofs.Common.{◌≡◌, ℕ, zero, suc, not, ◌+◌, ◌<◌, ◌≤◌, Bool, true, false, ◌&&◌, ◌==◌, nat_lt, ◌⊎◌, inl, inr, if◌then◌else◌, List, length, set, get_or, Option, Some, None, is_none, refl, sym, ap, subst, arith}
-use Rattle.std.proofs.lemmas.Bool.{cases_lt, eq-eqb}
+use Rattle.std.proofs.Common.{◌≡◌, ℕ, zero, suc, not, ◌+◌, ◌<◌, ◌≤◌, Bool, true, false, ◌&&◌, ◌==◌, nat_lt, ◌⊎◌, inl, inr, if◌then◌else◌, cond, List, length, set, get_or, Option, Some, None, is_none, refl, sym, ap, ◌∙◌, subst, arith}
+use Rattle.std.proofs.lemmas.Bool.{cases_lt, eq-eqb, lt-ltb}
 use Rattle.std.proofs.lemmas.Bool.Decides.{nat_tests}
 use Rattle.std.proofs.lemmas.List.{length-set, get_or-set_same, get_or_past}
 use Rattle.std.proofs.lemmas.List.Quantifiers.{position-Some}
@@ -8,23 +8,33 @@ use Rattle.std.proofs.lemmas.List.Sums.{sum_by-set}
 use Rattle.scx_dsq.specs.Laws.{one_if}
 use Rattle.scx_semantics.specs.declared.callbacks.Callback.TheVariants as callback
 use Rattle.scx_weights.specs.Hierarchy.{with_weight}
+use Rattle.scx_weights.specs.Limits.{with_use}
+use Rattle.scx_weights.specs.Limits as limits
 use Rattle.scx_weights.specs.Refusals.{weight_fault}
 use Rattle.scx_safety.specs.Programs.{VerifiedProgram}
-use Rattle.scx_world.specs.World.{WorldState, with_tree, task_at, is_this, is_runnable, running, cpu_of, is_idle, this_if, or_this, idle_below, first_idle, or_else, default_choice}
-use Rattle.scx_world.specs.Tasks.{woken, asleep, gone, stopped, ran_a_tick, ticked, later, reweighed}
+use Rattle.scx_world.specs.World.{WorldState, with_tree, task_at, is_this, is_runnable, is_throttled, running, cpu_of, is_idle, this_if, or_this, idle_below, first_idle, or_else, default_choice}
+use Rattle.scx_world.specs.Tasks.{woken, asleep, gone, stopped, let_go, ran_a_tick, ticked, used_ms, later, begun_periods, reweighed}
 use Rattle.scx_machine.specs.declared.events.Event.{Event}
 use Rattle.scx_machine.specs.declared.events.Event.TheVariants.{Wake, Sleep, Tick, Clock, SetWeight}
 use Rattle.scx_machine.specs.declared.events.Refused.TheVariants.{AlreadyRunnable, NotRunnable, UnknownTask, UnknownCpu}
 use Rattle.scx_machine.specs.Steps.{State, Stepped, with_world, stays, joined}
 use Rattle.scx_machine.specs.Callbacks.{acting, call_back, answered_by, task_cpu_and_0}
+use Rattle.scx_machine.specs.Parking.{park, let_all_go}
 use Rattle.scx_machine.specs.Cycle.{stopping, cycle}
-use Rattle.scx_machine.specs.Events.{refusal, target, settled, settle, select, wake, sleep_from_cpu, sleep_from, sleep, count_down, tick_of, tick, overdue, stalled, clock, happened}
+use Rattle.scx_machine.specs.Events.{refusal, target, settled, settle, select, wake, sleep_from_cpu, sleep_from, sleep, throttle, expire, count_down, tick_of, tick, overdue, stalled, clock, happened}
 use Rattle.scx_sched.specs.Once.{runs, IsSound}
 use Rattle.scx_sched.specs.Ranges.{IsFine}
+use Rattle.scx_sched.specs.Usages.{AreWithin}
 use Rattle.scx_sched.proofs.Entering.{keeps_if}
 use Rattle.scx_sched.specs.Kept.{IsKeptBySteps}
-use Rattle.scx_sched.proofs.Sound.{sound_woken, sound_left, sound_ticked, sound_later, sound_with_weight}
-use Rattle.scx_sched.proofs.Skeleton.{keeps_eject, keeps_call_back, keeps_stopping, keeps_settled, keeps_cycle}
+use Rattle.scx_sched.proofs.Sound.{sound_woken, sound_left, sound_stopped, sound_ticked, sound_later, sound_with_weight}
+use Rattle.scx_sched.proofs.Parking.{sound_let_go, sound_used_ms, sound_begun_periods}
+use Rattle.scx_sched.proofs.Bounded.{within_used, within_used_up, within_turned, within_reweighed, most_used, most_turned}
+use Rattle.scx_sched.proofs.Skeleton.{keeps_eject, keeps_call_back, keeps_stopping, keeps_settled}
+use Rattle.scx_sched.proofs.Clear.{tree_free, tree_used_up}
+use Rattle.scx_sched.proofs.Ready.{tree_stopping}
+use Rattle.scx_sched.proofs.Cycles.{IsKeptInside, keeps_park, keeps_cycle}
+use Rattle.scx_sched.proofs.Letting.{LetsGo, keeps_let_all_go}
 use Rattle.scx_sched.proofs.Fine.{IsRange, range_of, range_task, range_same, fine_of, fine_steps}
 
 -- What an event makes of a task before it comes to small steps. Whoever keeps these too keeps events; the fact
@@ -33,7 +43,15 @@ pub record IsKeptByEvents (n : ℕ) (I : ℕ → Option ℕ → List (Option ℕ
   pub steps : IsKeptBySteps n I
   pub sound : (m : ℕ) (hand : Option ℕ) (on : List (Option ℕ)) (w : WorldState) → I m hand on w → IsSound hand on n w
   pub woken : (m : ℕ) (on : List (Option ℕ)) (w : WorldState) (t : ℕ) → t < n → is_runnable w t ≡ false → I m None on w → I m (Some t) on (woken w t)
+  pub let_go : LetsGo n I
   pub left : (m : ℕ) (on : List (Option ℕ)) (w : WorldState) (t : ℕ) → t < n → is_runnable w t ≡ true → cpu_of w t ≡ None → I m None on w → I m None on (asleep (gone w t) t)
+
+pub inside_of : (n : ℕ) (I : ℕ → Option ℕ → List (Option ℕ) → WorldState → Type 0) → IsKeptByEvents n I → IsKeptInside n I
+inside_of n I k = record { steps = k.steps; sound = k.sound }
+
+-- a millisecond that is counted moves nobody
+pub cpus_used : (w : WorldState) (t : ℕ) → (used_ms w t).cpus ≡ w.cpus
+cpus_used w t = keeps_if (λ (x : WorldState). x.cpus ≡ w.cpus) (nat_lt t (length w.tasks)) (with_tree w (with_use w.tree t)) w refl refl
 
 -- ---- processors that there are
 
@@ -109,7 +127,7 @@ module _ (n : ℕ) (I : ℕ → Option ℕ → List (Option ℕ) → WorldState 
       free idle = subst (λ (xs : List (Option ℕ)). get_or xs c None ≡ None) (k.sound m None on r.state.world put_now).cpus (idle_is_free r.state.world c idle)
 
       go : (b : Bool) → is_idle r.state.world c ≡ b → I m None (if b then joined r (cycle r.state c None false) else r).state.world.cpus (if b then joined r (cycle r.state c None false) else r).state.world
-      go true idle = keeps_now m _ (keeps_cycle n I k.steps m on r.state c None false l tt (free idle) put_now)
+      go true idle = keeps_now m _ (keeps_cycle n I (inside_of n I k) m on r.state c None false l tt (free idle) put_now)
       go false idle = keeps_now m r.state.world (on, put_now)
 
   keeps_select : (m : ℕ) (on : List (Option ℕ)) (s : State) (t : ℕ) → t < n → I m (Some t) on s.world → I m None (select s t).state.world.cpus (select s t).state.world
@@ -144,7 +162,7 @@ module _ (n : ℕ) (I : ℕ → Option ℕ → List (Option ℕ) → WorldState 
 
   keeps_sleep_from_cpu : (m : ℕ) (s : State) (t c : ℕ) → t < n → c < length s.world.cpus → get_or s.world.cpus c None ≡ Some t → I m None s.world.cpus s.world → I (m + 1) None (sleep_from_cpu s t c).state.world.cpus (sleep_from_cpu s t c).state.world
   unfolding sleep_from_cpu
-  keeps_sleep_from_cpu m s t c within l runs h = keeps_now (m + 1) _ (keeps_cycle n I k.steps (m + 1) on d c None true l' tt (get_or-set_same s.world.cpus c None None l) down)
+  keeps_sleep_from_cpu m s t c within l runs h = keeps_now (m + 1) _ (keeps_cycle n I (inside_of n I k) (m + 1) on d c None true l' tt (get_or-set_same s.world.cpus c None None l) down)
     where
       on : List (Option ℕ)
       on = set s.world.cpus c None
@@ -178,37 +196,87 @@ module _ (n : ℕ) (I : ℕ → Option ℕ → List (Option ℕ) → WorldState 
   -- ---- tick
 
   keeps_cycle_now : (m : ℕ) (s : State) (c : ℕ) (p : Option ℕ) (ran : Bool) → c < length s.world.cpus → get_or s.world.cpus c None ≡ p → I m None s.world.cpus s.world → I (m + 1) None (cycle s c p ran).state.world.cpus (cycle s c p ran).state.world
-  keeps_cycle_now m s c None ran l at h = k.steps.more m None _ _ (keeps_now m _ (keeps_cycle n I k.steps m s.world.cpus s c None ran l tt at h))
-  keeps_cycle_now m s c (Some t) ran l at h = keeps_now (m + 1) _ (keeps_cycle n I k.steps m s.world.cpus s c (Some t) ran l (running_is_there n s.world c t l at (k.sound m None s.world.cpus s.world h)) at h)
+  keeps_cycle_now m s c None ran l at h = k.steps.more m None _ _ (keeps_now m _ (keeps_cycle n I (inside_of n I k) m s.world.cpus s c None ran l tt at h))
+  keeps_cycle_now m s c (Some t) ran l at h = keeps_now (m + 1) _ (keeps_cycle n I (inside_of n I k) m s.world.cpus s c (Some t) ran l (running_is_there n s.world c t l at (k.sound m None s.world.cpus s.world h)) at h)
 
-  keeps_count_down : (m : ℕ) (s : State) (c t : ℕ) → c < length s.world.cpus → get_or s.world.cpus c None ≡ Some t → I m None s.world.cpus (ticked s.world t) → I (m + 1) None (count_down s c t).state.world.cpus (count_down s c t).state.world
+  -- a task that may not run any more leaves and is parked
+  keeps_throttle : (m : ℕ) (s : State) (c t : ℕ) → t < n → c < length s.world.cpus → limits.is_throttled s.world.tree t ≡ true → I m (Some t) (set s.world.cpus c None) (stopped s.world c t) → I (m + 1) None (throttle s c t).state.world.cpus (throttle s c t).state.world
+  unfolding throttle
+  keeps_throttle m s c t within l throttled h = keeps_now (m + 1) _ (keeps_cycle n I (inside_of n I k) (m + 1) on (park r t).state c None true l' tt (get_or-set_same s.world.cpus c None None l) there)
+    where
+      on : List (Option ℕ)
+      on = set s.world.cpus c None
+
+      l' : c < length on
+      l' = rw (length-set s.world.cpus c None) l
+
+      off : State
+      off = with_world s (stopped s.world c t)
+
+      r : State
+      r = (stopping off c t 1).state
+
+      down : I (m + 1) (Some t) on r.world
+      down = keeps_stopping n I k.steps m (Some t) on off c t 1 l' h
+
+      there : I (m + 1) None on (park r t).state.world
+      there = keeps_park n I (inside_of n I k) (m + 1) on r t within (ap (λ x. limits.is_throttled x t) (tree_stopping n I k.steps k.sound c m (Some t) on off c t 1 l' h) ∙ throttled) down
+
+  keeps_expire : (m : ℕ) (s : State) (c t : ℕ) → c < length s.world.cpus → get_or s.world.cpus c None ≡ Some t → I m None s.world.cpus s.world → I (m + 1) None (expire s c t).state.world.cpus (expire s c t).state.world
+  unfolding expire
+  keeps_expire m s c t l at h =
+      keeps_if (λ (r : Stepped). I (m + 1) None r.state.world.cpus r.state.world) ((task_at s.world t).slice == 0) (cycle s c (Some t) true) (stays s) (keeps_cycle_now m s c (Some t) true l at h) (k.steps.more m None s.world.cpus s.world h)
+
+  -- what is kept as the task of a processor has run for a millisecond: it goes on, or leaves
+  pub record IsKeptByTick (m : ℕ) (w : WorldState) (c t : ℕ) : Type 0 where
+    pub goes_on : is_throttled (used_ms (ticked w t) t) t ≡ false → I m None w.cpus (used_ms (ticked w t) t)
+    pub leaves : is_throttled (used_ms (ticked w t) t) t ≡ true → I m (Some t) (set w.cpus c None) (stopped (used_ms (ticked w t) t) c t)
+
+  keeps_count_down : (m : ℕ) (s : State) (c t : ℕ) → t < n → c < length s.world.cpus → get_or s.world.cpus c None ≡ Some t → IsKeptByTick m s.world c t → I (m + 1) None (count_down s c t).state.world.cpus (count_down s c t).state.world
   unfolding count_down
-  keeps_count_down m s c t l at h =
-      let v = with_world s (ticked s.world t) in
-      keeps_if (λ (r : Stepped). I (m + 1) None r.state.world.cpus r.state.world) ((task_at v.world t).slice == 0) (cycle v c (Some t) true) (stays v) (keeps_cycle_now m v c (Some t) true l at h) (k.steps.more m None v.world.cpus v.world h)
+  keeps_count_down m s c t within l at h = go (is_throttled v.world t) refl
+    where
+      v : State
+      v = with_world s (used_ms (ticked s.world t) t)
+
+      same : v.world.cpus ≡ s.world.cpus
+      same = cpus_used (ticked s.world t) t
+
+      l' : c < length v.world.cpus
+      l' = subst (λ (xs : List (Option ℕ)). c < length xs) (sym same) l
+
+      at' : get_or v.world.cpus c None ≡ Some t
+      at' = ap (λ (xs : List (Option ℕ)). get_or xs c None) same ∙ at
+
+      go : (b : Bool) → is_throttled v.world t ≡ b → I (m + 1) None (if b then throttle v c t else expire v c t).state.world.cpus (if b then throttle v c t else expire v c t).state.world
+      go true e = keeps_throttle m v c t within l' (tree_used_up v.world t e) (subst (λ xs. I m (Some t) (set xs c None) (stopped v.world c t)) (sym same) (h.leaves e))
+      go false e = keeps_expire m v c t l' at' (subst (λ xs. I m None xs v.world) (sym same) (h.goes_on e))
 
   -- a processor that ran, where that a task has run is kept
-  pub keeps_tick : (m : ℕ) (s : State) (c : ℕ) → c < length s.world.cpus → I m None s.world.cpus s.world → ((t : ℕ) → I m None s.world.cpus (ticked s.world t)) → I (m + 1) None (tick s c).state.world.cpus (tick s c).state.world
+  pub keeps_tick : (m : ℕ) (s : State) (c : ℕ) → c < length s.world.cpus → I m None s.world.cpus s.world → ((t : ℕ) → get_or s.world.cpus c None ≡ Some t → IsKeptByTick m s.world c t) → I (m + 1) None (tick s c).state.world.cpus (tick s c).state.world
   unfolding tick
   keeps_tick m s c l h ran = go (running s.world c) refl
     where
       go : (o : Option ℕ) → running s.world c ≡ o → I (m + 1) None (tick_of o s c).state.world.cpus (tick_of o s c).state.world
       go None at = keeps_cycle_now m s c None false l at h
-      go (Some t) at = keeps_count_down m s c t l at (ran t)
+      go (Some t) at = keeps_count_down m s c t (running_is_there n s.world c t l at (k.sound m None s.world.cpus s.world h)) l at (ran t at)
 
   -- ---- the clock
 
-  -- where that the clock goes on is kept
-  pub keeps_clock : (m : ℕ) (s : State) → I m None s.world.cpus (later s.world) → I m None (clock s).state.world.cpus (clock s).state.world
+  -- where that the clock goes on and periods begin is kept
+  pub keeps_clock : (m : ℕ) (s : State) → I m None s.world.cpus (begun_periods (later s.world)) → I m None (clock s).state.world.cpus (clock s).state.world
   unfolding clock
   keeps_clock m s h = go (overdue v)
     where
       v : State
-      v = with_world s (later s.world)
+      v = (let_all_go (with_world s (begun_periods (later s.world)))).state
+
+      gone-on : I m None s.world.cpus v.world
+      gone-on = keeps_let_all_go n I (inside_of n I k) k.let_go m s.world.cpus (with_world s (begun_periods (later s.world))) h
 
       go : (o : Option ℕ) → I m None (stalled o v).state.world.cpus (stalled o v).state.world
-      go None = h
-      go (Some t) = keeps_now m _ (v.world.cpus, keeps_eject n I k.steps m None v.world.cpus v _ h)
+      go None = keeps_now m v.world (s.world.cpus, gone-on)
+      go (Some t) = keeps_now m _ (s.world.cpus, keeps_eject n I k.steps m None s.world.cpus v _ gone-on)
 
 -- ---- what an accepted event may be
 
@@ -250,27 +318,63 @@ pub fine_events : (n e : ℕ) → IsKeptByEvents n (IsFine n e)
 fine_events n e = record {
   steps = fine_steps n e;
   sound = λ m hand on w h. h.sound;
-  woken = λ m on w t within resting h. fine_of n e m (Some t) on (woken w t) (sound_woken on n w t within resting h.sound) (range_same e m w t _ refl refl (range_of n e m None on w h));
-  left = λ m on w t within runnable off h. let r = range_of n e m None on w h in fine_of n e m None on _ (sound_left on n w t within runnable off h.sound) (keeps_if (IsRange e m) (nat_lt t (length w.tasks)) _ (gone w t) (range_same e m (gone w t) t _ refl refl r) r);
+  woken = λ m on w t within resting h. fine_of n e m (Some t) on (woken w t) (sound_woken on n w t within resting h.sound) (range_same e m on w t _ refl refl (range_of n e m None on w h));
+  let_go = λ m on w t within there h. fine_of n e m (Some t) on (let_go w t) (sound_let_go on n w t within there h.sound) (range_same e m on w t _ refl refl (range_of n e m None on w h));
+  left = λ m on w t within runnable off h. let r = range_of n e m None on w h in fine_of n e m None on _ (sound_left on n w t within runnable off h.sound) (keeps_if (IsRange e m on) (nat_lt t (length w.tasks)) _ (gone w t) (range_same e m on (gone w t) t _ refl refl r) r);
 }
+
+pub fine_inside : (n e : ℕ) → IsKeptInside n (IsFine n e)
+fine_inside n e = inside_of n (IsFine n e) (fine_events n e)
 
 -- one more event was accepted
 pub one_more : (n e m : ℕ) (w : WorldState) → IsFineNow n e m w → IsFineNow n (e + 1) m w
-one_more n e m w h = record { sound = h.sound; clock = omega (arith, h.clock); runs = λ t. omega (arith, h.runs t); times = h.times; builtin_clock = h.builtin_clock; not_yet = h.not_yet }
+one_more n e m w h = record { sound = h.sound; clock = omega (arith, h.clock); runs = λ t. omega (arith, h.runs t); times = h.times; builtin_clock = h.builtin_clock; used = λ g. omega (arith, h.used g); within = h.within; not_yet = h.not_yet }
 
--- the time that a task ran
-pub fine_ticked : (n e m : ℕ) (w : WorldState) (t : ℕ) → IsFineNow n e m w → IsFineNow n (e + 1) m (ticked w t)
-fine_ticked n e m w t h =
-    fine_of n (e + 1) m None w.cpus (ticked w t) (sound_ticked w.cpus n w t h.sound) (range_task (e + 1) m w t (ran_a_tick (task_at w t)) (omega (arith, h.runs t)) refl (range_of n (e + 1) m None w.cpus w (one_more n e m w h)))
+-- a millisecond is counted of a task that there is
+used_is : (w : WorldState) (t : ℕ) → t < length w.tasks → used_ms w t ≡ with_tree w (with_use w.tree t)
+used_is w t l = ap (λ b. cond b (with_tree w (with_use w.tree t)) w) (lt-ltb t (length w.tasks) l)
 
-fine_later : (n e m : ℕ) (w : WorldState) → IsFineNow n e m w → IsFineNow n (e + 1) m (later w)
-fine_later n e m w h = record { sound = sound_later w.cpus n w h.sound; clock = omega (arith, h.clock); runs = λ t. omega (arith, h.runs t); times = h.times; builtin_clock = h.builtin_clock; not_yet = h.not_yet }
+ran_there : (w : WorldState) (t : ℕ) → t < length w.tasks → t < length (ticked w t).tasks
+ran_there w t l = rw (length-set w.tasks t (ran_a_tick (task_at w t))) l
+
+-- a task has run for a millisecond, which its groups have used
+range_ran : (e m : ℕ) (on on' : List (Option ℕ)) (w : WorldState) (t : ℕ) → t < length w.tasks → AreWithin (with_use w.tree t) on' → IsRange e m on w → IsRange (e + 1) m on' (used_ms (ticked w t) t)
+range_ran e m on on' w t there within r =
+    let x : IsRange (e + 1) m on (ticked w t) = range_task (e + 1) m on w t (ran_a_tick (task_at w t)) (omega (arith, r.1 t)) refl (omega (arith, r.0), (λ u. omega (arith, r.1 u)), r.2, r.3, r.4, (λ g. omega (arith, r.5 g)), r.6) in
+    subst (IsRange (e + 1) m on') (sym (used_is (ticked w t) t (ran_there w t there))) (x.0, x.1, x.2, x.3, x.4, most_used w.tree t e r.5, within)
+
+-- it goes on, or leaves
+pub fine_ticked : (n e m : ℕ) (w : WorldState) (c t : ℕ) → c < length w.cpus → get_or w.cpus c None ≡ Some t → IsFineNow n e m w → IsKeptByTick n (IsFine n (e + 1)) (fine_events n (e + 1)) m w c t
+fine_ticked n e m w c t l at h = record {
+  goes_on = λ free. fine_of n (e + 1) m None w.cpus v sound (range_ran e m w.cpus w.cpus w t there (within_used w.tree w.cpus c t at (ap (λ x. limits.is_throttled x t) (sym counted) ∙ tree_free v t v-there free) h.within) (range_of n e m None w.cpus w h));
+  leaves = λ up.
+      fine_of n (e + 1) m (Some t) (set w.cpus c None) (stopped v c t) (sound_stopped w.cpus n v c t l (running_is_there n w c t l at h.sound) at sound)
+      (range_same (e + 1) m (set w.cpus c None) v t _ refl refl (range_ran e m w.cpus (set w.cpus c None) w t there (within_used_up w.tree w.cpus c t at (ap (λ x. limits.is_throttled x t) (sym counted) ∙ tree_used_up v t up) h.within) (range_of n e m None w.cpus w h)));
+}
+  where
+    v : WorldState
+    v = used_ms (ticked w t) t
+
+    there : t < length w.tasks
+    there = omega (arith, running_is_there n w c t l at h.sound, h.sound.tasks)
+
+    counted : v.tree ≡ with_use w.tree t
+    counted = ap (λ (x : WorldState). x.tree) (used_is (ticked w t) t (ran_there w t there))
+
+    v-there : t < length v.tasks
+    v-there = subst (λ (x : WorldState). t < length x.tasks) (sym (used_is (ticked w t) t (ran_there w t there))) (ran_there w t there)
+
+    sound : IsSound None w.cpus n v
+    sound = sound_used_ms None w.cpus n (ticked w t) t (sound_ticked w.cpus n w t h.sound)
+
+pub fine_later : (n e m : ℕ) (w : WorldState) → IsFineNow n e m w → IsFineNow n (e + 1) m (begun_periods (later w))
+fine_later n e m w h = record { sound = sound_begun_periods None w.cpus n (later w) (sound_later w.cpus n w h.sound); clock = omega (arith, h.clock); runs = λ t. omega (arith, h.runs t); times = h.times; builtin_clock = h.builtin_clock; used = most_turned w.tree (w.clock + 1) (e + 1) (λ g. omega (arith, h.used g)); within = within_turned w.tree w.cpus (w.clock + 1) h.within; not_yet = h.not_yet }
 
 fine_reweighed : (n e m : ℕ) (w : WorldState) (g x : ℕ) → IsFineNow n e m w → IsFineNow n e m (reweighed w g x)
 fine_reweighed n e m w g x h = go (is_none (weight_fault w.tree g x))
   where
     go : (b : Bool) → IsFineNow n e m (if b then with_tree w (with_weight w.tree g x) else w)
-    go true = record { sound = sound_with_weight w.cpus n w g x h.sound; clock = h.clock; runs = h.runs; times = h.times; builtin_clock = h.builtin_clock; not_yet = h.not_yet }
+    go true = record { sound = sound_with_weight w.cpus n w g x h.sound; clock = h.clock; runs = h.runs; times = h.times; builtin_clock = h.builtin_clock; used = h.used; within = within_reweighed w.tree w.cpus g x h.within; not_yet = h.not_yet }
     go false = h
 
 -- who runs is a task that there is
@@ -293,6 +397,6 @@ fine_step n e s v tasks ok h = go v (is_taken s v ok)
     go : (v : Event) → IsTaken s v → IsFineNow n (e + 1) (e + 1) (happened s v).state.world
     go _ (Wakes t within resting) = k.steps.more e None _ _ (keeps_wake n I k e s t (omega (arith, within, tasks)) resting h')
     go _ (Sleeps t within runnable) = keeps_sleep n I k e s t (omega (arith, within, tasks)) runnable h'
-    go _ (Ticks c l) = keeps_tick n I k e s c l h' (λ t. fine_ticked n e e s.world t h)
+    go _ (Ticks c l) = keeps_tick n I k e s c l h' (λ t at. fine_ticked n e e s.world c t l at h)
     go _ Clocks = k.steps.more e None _ _ (keeps_clock n I k e s (fine_later n e e s.world h))
     go _ (Weighs g x) = k.steps.more e None _ _ (fine_reweighed n (e + 1) e s.world g x h')

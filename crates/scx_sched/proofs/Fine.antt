@@ -16,6 +16,7 @@ use Rattle.scx_vm.specs.Host.{after_query}
 use Rattle.scx_vm.specs.declared.arguments.Arg.{Arg}
 use Rattle.scx_tasks.specs.declared.task.Task.{Task}
 use Rattle.scx_tasks.specs.Tasks.{no_task}
+use Rattle.scx_weights.specs.Limits.{usage_of}
 use Rattle.scx_world.specs.declared.call.Insert.{Insert}
 use Rattle.scx_world.specs.declared.faults.Fault.{Fault}
 use Rattle.scx_world.specs.declared.faults.Fault.TheVariants.{NoSuchQueue, NoSuchCpu, CannotCreate}
@@ -26,7 +27,10 @@ use Rattle.scx_sched.specs.Once.{IsSound}
 use Rattle.scx_world.specs.Ejecting.{put_builtin, used, charged}
 use Rattle.scx_sched.specs.Ranges.{IsFresh, IsFine}
 use Rattle.scx_sched.specs.Kept.{IsKeptBySteps}
+use Rattle.scx_sched.specs.Usages.{AreWithin}
 use Rattle.scx_sched.proofs.Entering.{keeps_if}
+use Rattle.scx_sched.proofs.Bounded.{within_begun, within_ended}
+use Rattle.scx_sched.proofs.Parking.{sound_put_parked, sound_taken}
 use Rattle.scx_sched.proofs.Sound.{sound_query, sound_begun, sound_quiet, sound_cycling, sound_entered, sound_filled, sound_stopped, sound_started, sound_kept, sound_asleep, sound_put_out, sound_evict, sound_cut, sound_put_builtin, sound_overtaken, sound_charged}
 
 -- ---- each task
@@ -42,36 +46,42 @@ each_set P tasks t x new old u = go (cases_eq u t) (cases_lt t (length tasks))
 
 -- ---- ranges
 
--- the clock, run times and built-in times are in range
-abbrev pub IsRange : ℕ → ℕ → WorldState → Type 0
-IsRange e m w =
-    (w.clock ≤ e) × ((t : ℕ) → (task_at w t).run_ns ≤ 1000000 * e) × ((t : ℕ) → (task_at w t).builtin ≤ 2000000000 * m) × (w.builtin_clock ≤ 2000000000 * m) × (w.ejected ≡ None → IsFresh w)
+-- the clock, run times, built-in times and usages are in range
+abbrev pub IsRange : ℕ → ℕ → List (Option ℕ) → WorldState → Type 0
+IsRange e m on w =
+    (w.clock ≤ e) × ((t : ℕ) → (task_at w t).run_ns ≤ 1000000 * e) × ((t : ℕ) → (task_at w t).builtin ≤ 2000000000 * m) × (w.builtin_clock ≤ 2000000000 * m) × (w.ejected ≡ None → IsFresh w) × ((g : ℕ) → usage_of w.tree g ≤ e) × AreWithin w.tree on
 
 -- how far numbers have grown is part of it
-pub range_of : (n e m : ℕ) (hand : Option ℕ) (on : List (Option ℕ)) (w : WorldState) → IsFine n e m hand on w → IsRange e m w
-range_of n e m hand on w h = (h.clock, h.runs, h.times, h.builtin_clock, h.not_yet)
+pub range_of : (n e m : ℕ) (hand : Option ℕ) (on : List (Option ℕ)) (w : WorldState) → IsFine n e m hand on w → IsRange e m on w
+range_of n e m hand on w h = (h.clock, h.runs, h.times, h.builtin_clock, h.not_yet, h.used, h.within)
 
 -- and with what is sound it is all of it
-pub fine_of : (n e m : ℕ) (hand : Option ℕ) (on : List (Option ℕ)) (w : WorldState) → IsSound hand on n w → IsRange e m w → IsFine n e m hand on w
-fine_of n e m hand on w s r = record { sound = s; clock = r.0; runs = r.1; times = r.2; builtin_clock = r.3; not_yet = r.4 }
+pub fine_of : (n e m : ℕ) (hand : Option ℕ) (on : List (Option ℕ)) (w : WorldState) → IsSound hand on n w → IsRange e m on w → IsFine n e m hand on w
+fine_of n e m hand on w s r = record { sound = s; clock = r.0; runs = r.1; times = r.2; builtin_clock = r.3; not_yet = r.4; used = r.5; within = r.6 }
 
-module _ (e m : ℕ) where
+-- others run, and usages are within their bounds still
+pub range_on : (e m : ℕ) (on on' : List (Option ℕ)) (w : WorldState) → AreWithin w.tree on' → IsRange e m on w → IsRange e m on' w
+range_on e m on on' w within r = (r.0, r.1, r.2, r.3, r.4, r.5, within)
+
+module _ (e m : ℕ) (on : List (Option ℕ)) where
   -- another record of a task: how long it has run, and its built-in time, which is 0 up to an ejection
-  range_set : (w : WorldState) (t : ℕ) (x : Task) → x.run_ns ≤ 1000000 * e → x.builtin ≤ 2000000000 * m → (w.ejected ≡ None → x.builtin ≡ 0) → IsRange e m w → IsRange e m (with_task w t x)
+  range_set : (w : WorldState) (t : ℕ) (x : Task) → x.run_ns ≤ 1000000 * e → x.builtin ≤ 2000000000 * m → (w.ejected ≡ None → x.builtin ≡ 0) → IsRange e m on w → IsRange e m on (with_task w t x)
   range_set w t x run time none r = (
     r.0,
     each_set (λ y. y.run_ns ≤ 1000000 * e) w.tasks t x run r.1,
     each_set (λ y. y.builtin ≤ 2000000000 * m) w.tasks t x time r.2,
     r.3,
     λ force. let f = r.4 force in (f.0, each_set (λ y. y.builtin ≡ 0) w.tasks t x (none force) f.1),
+    r.5,
+    r.6,
   )
 
   -- a task whose built-in time stays
-  pub range_task : (w : WorldState) (t : ℕ) (x : Task) → x.run_ns ≤ 1000000 * e → x.builtin ≡ (task_at w t).builtin → IsRange e m w → IsRange e m (with_task w t x)
+  pub range_task : (w : WorldState) (t : ℕ) (x : Task) → x.run_ns ≤ 1000000 * e → x.builtin ≡ (task_at w t).builtin → IsRange e m on w → IsRange e m on (with_task w t x)
   range_task w t x new same r = range_set w t x new (rw same (r.2 t)) (λ force. same ∙ (r.4 force).1 t) r
 
   -- and that has run as long
-  pub range_same : (w : WorldState) (t : ℕ) (x : Task) → x.run_ns ≡ (task_at w t).run_ns → x.builtin ≡ (task_at w t).builtin → IsRange e m w → IsRange e m (with_task w t x)
+  pub range_same : (w : WorldState) (t : ℕ) (x : Task) → x.run_ns ≡ (task_at w t).run_ns → x.builtin ≡ (task_at w t).builtin → IsRange e m on w → IsRange e m on (with_task w t x)
   range_same w t x run same r = range_task w t x (rw run (r.1 t)) same r
 
   stored_run : (x : Task) (f : Field) (k : ℕ) → (stored_in x f k).run_ns ≡ x.run_ns
@@ -106,38 +116,38 @@ module _ (e m : ℕ) where
       vtime Fifo = refl
       vtime (Vtime k) = refl
 
-  range_entered : (w : WorldState) (t : ℕ) (i : Insert) → IsRange e m w → IsRange e m (entered w t i)
-  range_entered w t i r = keeps_if (IsRange e m) (nat_lt t (length w.tasks)) _ w (range_same w t (given (task_at w t) i) (given_run (task_at w t) i) (given_time (task_at w t) i) r) r
+  range_entered : (w : WorldState) (t : ℕ) (i : Insert) → IsRange e m on w → IsRange e m on (entered w t i)
+  range_entered w t i r = keeps_if (IsRange e m on) (nat_lt t (length w.tasks)) _ w (range_same w t (given (task_at w t) i) (given_run (task_at w t) i) (given_time (task_at w t) i) r) r
 
-  range_released : (w : WorldState) (t : Option ℕ) (i : Insert) → IsRange e m w → IsRange e m (released w t i)
+  range_released : (w : WorldState) (t : Option ℕ) (i : Insert) → IsRange e m on w → IsRange e m on (released w t i)
   range_released w None i r = r
-  range_released w (Some t) i r = let x = range_entered (gone w t) t i r in (x.0, x.1, x.2, x.3, x.4)
+  range_released w (Some t) i r = let x = range_entered (gone w t) t i r in (x.0, x.1, x.2, x.3, x.4, x.5, x.6)
 
-  range_inserted : (w : WorldState) (o : Option Fault) (t : Option ℕ) (i : Insert) → IsRange e m w → IsRange e m (inserted w o t i)
-  range_inserted w None t i r = keeps_if (IsRange e m) (is_dispatch w.call.callback) (released w t (for_cpu w.call.cpu i)) (with_insert w i) (range_released w t (for_cpu w.call.cpu i) r) r
+  range_inserted : (w : WorldState) (o : Option Fault) (t : Option ℕ) (i : Insert) → IsRange e m on w → IsRange e m on (inserted w o t i)
+  range_inserted w None t i r = keeps_if (IsRange e m on) (is_dispatch w.call.callback) (released w t (for_cpu w.call.cpu i)) (with_insert w i) (range_released w t (for_cpu w.call.cpu i) r) r
   range_inserted w (Some f) t i r = r
 
-  range_moved : (w : WorldState) (o : Option ℕ) (q : ℕ) → IsRange e m w → IsRange e m (moved w o q)
+  range_moved : (w : WorldState) (o : Option ℕ) (q : ℕ) → IsRange e m on w → IsRange e m on (moved w o q)
   range_moved w None q r = r
   range_moved w (Some t) q r = r
 
-  range_brought : (o : Option ℕ) (w : WorldState) (q c : ℕ) → IsRange e m w → IsRange e m (brought o w q c)
+  range_brought : (o : Option ℕ) (w : WorldState) (q c : ℕ) → IsRange e m on w → IsRange e m on (brought o w q c)
   range_brought None w q c r = r
   range_brought (Some t) w q c r = r
 
-  range_helper : (w : WorldState) (f : Helper) (a : List Arg) → IsRange e m w → IsRange e m (helper_after w f a)
-  range_helper w CreateDsq a r = keeps_if (IsRange e m) (can_create w (given_number a 0)) (with_queues w (created w.queues (given_number a 0))) (faulted w CannotCreate) r r
+  range_helper : (w : WorldState) (f : Helper) (a : List Arg) → IsRange e m on w → IsRange e m on (helper_after w f a)
+  range_helper w CreateDsq a r = keeps_if (IsRange e m on) (can_create w (given_number a 0)) (with_queues w (created w.queues (given_number a 0))) (faulted w CannotCreate) r r
   range_helper w DsqInsert a r = range_inserted w (insert_fault w (given_task a 0) (asked a) (given_number a 3)) (given_task a 0) (asked a) r
   range_helper w DsqInsertVtime a r = range_inserted w (insert_fault w (given_task a 0) (asked_by_vtime a) (given_number a 4)) (given_task a 0) (asked_by_vtime a) r
-  range_helper w DsqMoveToLocal a r = keeps_if (IsRange e m) (can_move w (given_number a 0)) (moved w (front_of w.queues (given_number a 0)) (given_number a 0)) (faulted w NoSuchQueue) (range_moved w (front_of w.queues (given_number a 0)) (given_number a 0) r) r
-  range_helper w CpuIdle a r = keeps_if (IsRange e m) (nat_lt (given_number a 0) (length w.cpus)) w (faulted w NoSuchCpu) r r
-  range_helper w DsqNrQueued a r = keeps_if (IsRange e m) (is_there w (given_number a 0)) w (faulted w NoSuchQueue) r r
+  range_helper w DsqMoveToLocal a r = keeps_if (IsRange e m on) (can_move w (given_number a 0)) (moved w (front_of w.queues (given_number a 0)) (given_number a 0)) (faulted w NoSuchQueue) (range_moved w (front_of w.queues (given_number a 0)) (given_number a 0) r) r
+  range_helper w CpuIdle a r = keeps_if (IsRange e m on) (nat_lt (given_number a 0) (length w.cpus)) w (faulted w NoSuchCpu) r r
+  range_helper w DsqNrQueued a r = keeps_if (IsRange e m on) (is_there w (given_number a 0)) w (faulted w NoSuchQueue) r r
   range_helper w KtimeGetNs a r = r
   range_helper w MapLookupElem a r = r
   range_helper w SelectCpuDfl a r = r
   range_helper w TaskByPid a r = r
 
-  range_query : (w : WorldState) (q : Query) → IsRange e m w → IsRange e m (after_query world_functions w q)
+  range_query : (w : WorldState) (q : Query) → IsRange e m on w → IsRange e m on (after_query world_functions w q)
   range_query w (Call f a) r = range_helper w f (map argument_of a) r
   range_query w (Load t f) r = r
   range_query w (Store t f k) r = range_same w t.0 (stored_in (task_at w t.0) f k) (stored_run (task_at w t.0) f k) (stored_time (task_at w t.0) f k) r
@@ -150,42 +160,46 @@ module _ (e m : ℕ) where
 
   -- ---- the built-in scheduler
 
-  range_put_builtin : (w : WorldState) (t : ℕ) → IsRange e m w → IsRange e m (put_builtin w t)
-  range_put_builtin w t r = keeps_if (IsRange e m) (nat_lt t (length w.tasks)) _ w (range_set w t _ (r.1 t) (omega (arith, r.2 t, r.3)) (λ force. let f = r.4 force in rw (f.0, f.1 t) refl) r) r
+  range_put_builtin : (w : WorldState) (t : ℕ) → IsRange e m on w → IsRange e m on (put_builtin w t)
+  range_put_builtin w t r = keeps_if (IsRange e m on) (nat_lt t (length w.tasks)) _ w (range_set w t _ (r.1 t) (omega (arith, r.2 t, r.3)) (λ force. let f = r.4 force in rw (f.0, f.1 t) refl) r) r
 
   -- nobody uses more than a whole slice at the least weight
   used_most : (w : WorldState) (t : ℕ) → used w t ≤ 2000000000
   used_most w t = omega arith
 
   -- an ejected scheduler's times may grow
-  range_charged : (w : WorldState) (t : ℕ) → used w t ≤ 2000000000 → (w.ejected ≡ None → ⊥) → IsRange e m w → IsRange e (m + 1) (charged w t)
+  range_charged : (w : WorldState) (t : ℕ) → used w t ≤ 2000000000 → (w.ejected ≡ None → ⊥) → IsRange e m on w → IsRange e (m + 1) on (charged w t)
   range_charged w t most out r = (
     r.0,
     each_set (λ y. y.run_ns ≤ 1000000 * e) w.tasks t _ (r.1 t) r.1,
     each_set (λ y. y.builtin ≤ 2000000000 * (m + 1)) w.tasks t _ (omega (arith, r.2 t, most)) (λ u. omega (arith, r.2 u)),
     omega (arith, r.3),
     λ force. absurd (out force),
+    r.5,
+    r.6,
   )
 
 -- the law of steps
 pub fine_steps : (n e : ℕ) → IsKeptBySteps n (IsFine n e)
 fine_steps n e = record {
-  more = λ m hand on w h. fine_of n e (m + 1) hand on w h.sound (h.clock, h.runs, λ t. omega (arith, h.times t), omega (arith, h.builtin_clock), h.not_yet);
+  more = λ m hand on w h. fine_of n e (m + 1) hand on w h.sound (h.clock, h.runs, λ t. omega (arith, h.times t), omega (arith, h.builtin_clock), h.not_yet, h.used, h.within);
   known = λ m hand on w h. h.sound.tasks;
-  query = λ m hand on w q h. fine_of n e m hand on _ (sound_query hand on n w q h.sound) (range_query e m w q (range_of n e m hand on w h));
+  query = λ m hand on w q h. fine_of n e m hand on _ (sound_query hand on n w q h.sound) (range_query e m on w q (range_of n e m hand on w h));
   begun = λ m hand on w b t c l h. fine_of n e m hand on _ (sound_begun hand on n w b t c l h.sound) (range_of n e m hand on w h);
   quiet = λ m hand on w h. fine_of n e m hand on _ (sound_quiet hand on n w h.sound) (range_of n e m hand on w h);
   cycling = λ m hand on w o h. fine_of n e m hand on _ (sound_cycling hand on n w o h.sound) (range_of n e m hand on w h);
-  entered = λ m on w t i l x h. fine_of n e m None on _ (sound_entered on n w t i l x h.sound) (range_entered e m w t i (range_of n e m (Some t) on w h));
-  filled = λ m on w q c apart l h. fine_of n e m None on _ (sound_filled on n w q c apart l h.sound) (range_brought e m (fill_front w q c) w q c (range_of n e m None on w h));
-  stopped = λ m on w c t l within runs h. fine_of n e m (Some t) (set on c None) _ (sound_stopped on n w c t l within runs h.sound) (range_same e m w t _ refl refl (range_of n e m None on w h));
-  started = λ m on w c t l free front h. fine_of n e m None (set on c (Some t)) _ (sound_started on n w c t l free front h.sound) (range_same e m w t _ refl refl (range_of n e m None on w h));
-  kept = λ m on w t h. fine_of n e m None on _ (sound_kept on n w t h.sound) (range_same e m w t (renewed (task_at w t)) (renewed_run e m (task_at w t)) (renewed_time e m (task_at w t)) (range_of n e m None on w h));
-  asleep = λ m on w t l h. let r = range_of n e m (Some t) on w h in fine_of n e m None on _ (sound_asleep on n w t l h.sound) (keeps_if (IsRange e m) (nat_lt t (length w.tasks)) _ w (range_same e m w t _ refl refl r) r);
-  put_out = λ m hand on w x h. fine_of n e m hand on _ (sound_put_out hand on n w x h.sound) (h.clock, h.runs, h.times, h.builtin_clock, λ force. absurd (cc));
-  evict = λ m hand on w t l h. let r = range_of n e m hand on w h in fine_of n e m hand on _ (sound_evict hand on n w t l h.sound) (keeps_if (IsRange e m) (waits w t) (put_builtin (gone w t) t) w (range_put_builtin e m (gone w t) t r) r);
-  cut = λ m hand on w t h. fine_of n e m hand on _ (sound_cut hand on n w t h.sound) (range_same e m w t _ refl refl (range_of n e m hand on w h));
-  put_builtin = λ m on w t l h. fine_of n e m None on _ (sound_put_builtin on n w t l h.sound) (range_put_builtin e m w t (range_of n e m (Some t) on w h));
-  overtaken = λ m hand on w t h. fine_of n e m hand on _ (sound_overtaken hand on n w t h.sound) (h.clock, h.runs, h.times, omega (arith, h.builtin_clock, h.times t), λ force. let f = h.not_yet force in (rw (f.0, f.1 t) refl, f.1));
-  charged = λ m hand on w t out h. fine_of n e (m + 1) hand on _ (sound_charged hand on n w t h.sound) (range_charged e m w t (used_most e m w t) (λ force. absurd (cc)) (range_of n e m hand on w h));
+  entered = λ m on w t i l x h. fine_of n e m None on _ (sound_entered on n w t i l x h.sound) (range_entered e m on w t i (range_of n e m (Some t) on w h));
+  filled = λ m on w q c apart l h. fine_of n e m None on _ (sound_filled on n w q c apart l h.sound) (range_brought e m on (fill_front w q c) w q c (range_of n e m None on w h));
+  stopped = λ m on w c t l within runs h. fine_of n e m (Some t) (set on c None) _ (sound_stopped on n w c t l within runs h.sound) (range_same e m (set on c None) w t _ refl refl (range_on e m on (set on c None) w (within_ended w.tree on c l h.within) (range_of n e m None on w h)));
+  started = λ m on w c t l free front may h. fine_of n e m None (set on c (Some t)) _ (sound_started on n w c t l free front h.sound) (range_same e m (set on c (Some t)) w t _ refl refl (range_on e m on (set on c (Some t)) w (within_begun w.tree on c t l free may h.within) (range_of n e m None on w h)));
+  put_parked = λ m on w t l may-not h. let r = range_of n e m (Some t) on w h in fine_of n e m None on _ (sound_put_parked on n w t l h.sound) (keeps_if (IsRange e m on) (nat_lt t (length w.tasks)) _ w (range_same e m on w t _ refl refl r) r);
+  taken = λ m on w q t apart front h. fine_of n e m (Some t) on _ (sound_taken on n w q t front apart h.sound) (range_of n e m None on w h);
+  kept = λ m on w t h. fine_of n e m None on _ (sound_kept on n w t h.sound) (range_same e m on w t (renewed (task_at w t)) (renewed_run e m on (task_at w t)) (renewed_time e m on (task_at w t)) (range_of n e m None on w h));
+  asleep = λ m on w t l h. let r = range_of n e m (Some t) on w h in fine_of n e m None on _ (sound_asleep on n w t l h.sound) (keeps_if (IsRange e m on) (nat_lt t (length w.tasks)) _ w (range_same e m on w t _ refl refl r) r);
+  put_out = λ m hand on w x h. fine_of n e m hand on _ (sound_put_out hand on n w x h.sound) (h.clock, h.runs, h.times, h.builtin_clock, (λ force. absurd (cc)), h.used, h.within);
+  evict = λ m hand on w t l h. let r = range_of n e m hand on w h in fine_of n e m hand on _ (sound_evict hand on n w t l h.sound) (keeps_if (IsRange e m on) (waits w t) (put_builtin (gone w t) t) w (range_put_builtin e m on (gone w t) t r) r);
+  cut = λ m hand on w t h. fine_of n e m hand on _ (sound_cut hand on n w t h.sound) (range_same e m on w t _ refl refl (range_of n e m hand on w h));
+  put_builtin = λ m on w t l h. fine_of n e m None on _ (sound_put_builtin on n w t l h.sound) (range_put_builtin e m on w t (range_of n e m (Some t) on w h));
+  overtaken = λ m hand on w t h. fine_of n e m hand on _ (sound_overtaken hand on n w t h.sound) (h.clock, h.runs, h.times, omega (arith, h.builtin_clock, h.times t), (λ force. let f = h.not_yet force in (rw (f.0, f.1 t) refl, f.1)), h.used, h.within);
+  charged = λ m hand on w t out h. fine_of n e (m + 1) hand on _ (sound_charged hand on n w t h.sound) (range_charged e m on w t (used_most e m on w t) (λ force. absurd (cc)) (range_of n e m hand on w h));
 }

@@ -1,5 +1,5 @@
 -- The first state: the machine's own queues are made, nobody runs or waits, and callbacks keep it so.
-use Rattle.std.proofs.Common.{◌≡◌, ℕ, zero, suc, ◌+◌, ◌<◌, ◌≤◌, Bool, true, false, ◌==◌, ◌||◌, nat_lt, ◌⊎◌, inl, inr, List, [], ◌∷◌, length, get_or, nat_le, Option, None, Ok, refl, ◌∙◌, ap, arith, is_none, length-append, replicate}
+use Rattle.std.proofs.Common.{◌≡◌, ℕ, zero, suc, ◌+◌, ◌<◌, ◌≤◌, Bool, true, false, ◌==◌, ◌||◌, nat_lt, ◌⊎◌, inl, inr, List, [], ◌∷◌, length, get_or, nat_le, Option, Some, None, Ok, refl, ◌∙◌, ap, arith, is_none, length-append, replicate}
 use Rattle.std.proofs.lemmas.Bool.{cases_eq, cases_lt, eq-eqb, ne_eqb}
 use Rattle.std.proofs.lemmas.Bool.Decides.{nat_tests}
 use Rattle.std.proofs.lemmas.List.Folds.{list_any-append}
@@ -33,6 +33,8 @@ use Rattle.scx_sched.proofs.Skeleton.{keeps_called}
 use Rattle.scx_sched.proofs.Fine.{fine_steps}
 use Rattle.scx_sched.proofs.Timely.{IsInTime, AreInTime, time_steps}
 use Rattle.scx_world.specs.First.{with_locals, own_queues, first_queues}
+use Rattle.scx_world.specs.Tasks.{begun_periods}
+use Rattle.scx_sched.proofs.Bounded.{most_first, within_first}
 
 or_false : (b : Bool) → (b || false) ≡ b
 or_false true = refl
@@ -175,7 +177,10 @@ has_shape tree cpus e = go (nat_lt cpus 1) (nat_lt 64 cpus) (any_below (length t
     go false true c x y z = absurd (cc)
     go true b c x y z = absurd (cc)
 
-first_is_fine : (tree : Hierarchy) (cpus : ℕ) → HasShape tree cpus → length tree.active ≡ length tree.homes → IsFine (length tree.homes) 0 0 None (replicate cpus None) (first_world tree cpus)
+both_are : (o : Option Entry) (p : Entry) → o ≡ None → o ≡ Some p → ⊥
+both_are o p x y = absurd (cc)
+
+first_is_fine : (tree : Hierarchy) (cpus : ℕ) → HasShape tree cpus → length tree.active ≡ length tree.homes → IsFine (length tree.homes) 0 0 None (replicate cpus None) (begun_periods (first_world tree cpus))
 first_is_fine tree cpus shape flags = record {
   sound = record {
     cpus = refl;
@@ -185,6 +190,7 @@ first_is_fine tree cpus shape flags = record {
     homes = λ t. rw (at_home (length tree.homes) t, length-replicate {A = Option ℕ} cpus None) shape.some;
     queues = rw (length-replicate {A = Option ℕ} cpus None) (first_has_queues cpus (length tree.homes));
     sorted = λ t. rw (nowhere cpus (length tree.homes) t) refl;
+    stamped = λ t p e. absurd (both_are (entry_of (first_queues cpus (length tree.homes)) t) p (nowhere cpus (length tree.homes) t) e);
     once = λ t. rw (nobody_runs cpus t, nowhere cpus (length tree.homes) t, sleeps t (cases_lt t (length tree.homes))) refl;
     here = rw (length-replicate {A = Option ℕ} cpus None) shape.some;
     goes = tt;
@@ -195,6 +201,8 @@ first_is_fine tree cpus shape flags = record {
   runs = λ t. rw (never_ran (length tree.homes) t) (omega arith);
   times = λ t. rw (never_charged (length tree.homes) t) (omega arith);
   builtin_clock = omega arith;
+  used = λ g. most_first tree g;
+  within = within_first tree cpus shape.some;
   not_yet = λ force. (refl, λ t. never_charged (length tree.homes) t);
 }
   where
@@ -206,7 +214,7 @@ first_is_fine tree cpus shape flags = record {
 
 -- whatever small steps keep, and holds of the first world, holds once a machine is made
 pub steps_started : (I : ℕ → Option ℕ → List (Option ℕ) → WorldState → Type 0) (p : PolicyState) (tree : Hierarchy) (cpus : ℕ) (t : State) → IsKeptBySteps (length tree.homes) I → is_bad_shape tree cpus ≡ false → started p tree cpus ≡ Ok t
-    → I 0 None (replicate cpus None) (first_world tree cpus) → I 0 None (replicate cpus None) t.world
+    → I 0 None (replicate cpus None) (begun_periods (first_world tree cpus)) → I 0 None (replicate cpus None) t.world
 steps_started I p tree cpus t k shape e h = keeps_started (λ s. I 0 None on s.world) keeps p tree cpus t e h
   where
     on : List (Option ℕ)

@@ -12,14 +12,15 @@ use Rattle.scx_world.specs.Ids.{builtin, parked}
 use Rattle.scx_world.specs.World.{WorldState, waits_in, waits, running}
 use Rattle.scx_world.specs.Tasks.{gone}
 use Rattle.scx_world.specs.Ejecting.{raised, put_builtin, put_out, evict, evicted, cut, cut_task}
+use Rattle.scx_world.specs.declared.eject.Eject.{Eject}
+use Rattle.scx_machine.specs.Steps.{State}
 use Rattle.scx_machine.specs.Ejecting.{moves_over, eject}
-use Rattle.scx_sched.specs.Ranges.{IsFine}
 use Rattle.scx_sched.specs.Laws.{EjectionLosesNobody}
+use Rattle.scx_sched.specs.Once.{IsSound}
+use Rattle.scx_sched.specs.Over.{GoesOver}
 use Rattle.scx_sched.proofs.Waiting.{waits_there, pushed_here, pushed_other, removed_other}
-use Rattle.scx_sched.proofs.Sound.{inside, waits_known}
-use Rattle.scx_sched.proofs.Fine.{fine_steps}
-use Rattle.scx_sched.proofs.Pushes.{is_push_accepted}
-use Rattle.scx_sched.proofs.Skeleton.{keeps_evicted}
+use Rattle.scx_sched.proofs.Sound.{inside, waits_known, sound_put_out, sound_evict}
+use Rattle.scx_sched.proofs.Pushes.{takes_evicted}
 
 -- ---- the first so many tasks
 
@@ -46,8 +47,8 @@ both : (b : Bool) → b ≡ true → b ≡ false → ⊥
 both true x y = absurd (cc)
 both false x y = absurd (cc)
 
-module _ (n e m : ℕ) (hand : Option ℕ) (on : List (Option ℕ)) where
-  one_goes : (j : ℕ) (w v : WorldState) → j < n → IsFine n e m hand on v → HasGone j w v → HasGone (suc j) w (evict v j)
+module _ (n : ℕ) (hand : Option ℕ) (on : List (Option ℕ)) where
+  one_goes : (j : ℕ) (w v : WorldState) → j < n → IsSound hand on n v → HasGone j w v → HasGone (suc j) w (evict v j)
   one_goes j w v l h g = go (waits v j) refl
     where
       s : QueueState
@@ -63,13 +64,13 @@ module _ (n e m : ℕ) (hand : Option ℕ) (on : List (Option ℕ)) where
       other t d = pushed_other s builtin j t r d ∙ removed_other v.queues j t d
 
       known : j < task_count s
-      known = rw (tasks_removed v.queues j, h.sound.even) l
+      known = rw (tasks_removed v.queues j, h.even) l
 
       over : waits v j ≡ true → HasGone (suc j) w (put_builtin (gone v j) j)
-      over here_now = rw (inside n v j l h.sound.tasks) record { done = λ t k. at t k (cases_eq t j); rest = λ t k. other t (λ x. omega (arith, x, k)) ∙ g.rest t (omega (arith, k)); running = g.running; tree = g.tree }
+      over here_now = rw (inside n v j l h.tasks) record { done = λ t k. at t k (cases_eq t j); rest = λ t k. other t (λ x. omega (arith, x, k)) ∙ g.rest t (omega (arith, k)); running = g.running; tree = g.tree }
         where
           ok : push_refusal s builtin j r ≡ None
-          ok = (is_push_accepted n e m).evict hand on v j here_now h
+          ok = takes_evicted hand on n v j here_now h
 
           waited : waits w j ≡ true
           waited = ap (λ o. waits_in (home_of o)) (sym here) ∙ here_now
@@ -97,9 +98,13 @@ module _ (n e m : ℕ) (hand : Option ℕ) (on : List (Option ℕ)) where
       go true x = over x
       go false x = none x
 
-  all_go : (j : ℕ) (w : WorldState) → j ≤ n → IsFine n e m hand on w → HasGone j w (evicted j w)
+  sound_evicted : (j : ℕ) (w : WorldState) → j ≤ n → IsSound hand on n w → IsSound hand on n (evicted j w)
+  sound_evicted zero w l h = h
+  sound_evicted (suc j) w l h = sound_evict hand on n (evicted j w) j (omega (arith, l)) (sound_evicted j w (omega (arith, l)) h)
+
+  all_go : (j : ℕ) (w : WorldState) → j ≤ n → IsSound hand on n w → HasGone j w (evicted j w)
   all_go zero w l h = record { done = λ t k. absurd (omega (arith, k)); rest = λ t k. refl; running = refl; tree = refl }
-  all_go (suc j) w l h = one_goes j w (evicted j w) (omega (arith, l)) (keeps_evicted n (IsFine n e) (fine_steps n e) m hand on j w (omega (arith, l)) h) (all_go j w (omega (arith, l)) h)
+  all_go (suc j) w l h = one_goes j w (evicted j w) (omega (arith, l)) (sound_evicted j w (omega (arith, l)) h) (all_go j w (omega (arith, l)) h)
 
 -- ---- slices that are cut
 
@@ -114,31 +119,28 @@ cut_all : (j : ℕ) (w : WorldState) → IsCut w (cut j w)
 cut_all zero w = (refl, refl, refl)
 cut_all (suc j) w = cut_one (running (cut j w) j) w (cut j w) (cut_all j w)
 
--- the law
-pub loses_nobody : EjectionLosesNobody
+-- who waits goes over
+pub goes_over : (n : ℕ) (hand : Option ℕ) (on : List (Option ℕ)) (s : State) (x : Eject) → IsSound hand on n s.world → GoesOver s.world (eject s x).state.world
 unfolding eject moves_over
-loses_nobody n e m hand s x h = record {
-  waiting = λ t there. ap (λ (q : QueueState). queue_of q t) c.0 ∙ (g.done t (omega (arith, waits_known s.world.queues t (waits_there s.world.queues t there), h.sound.even, h.sound.tasks))).over there;
+goes_over n hand on s x h = record {
+  waiting = λ t there. ap (λ (q : QueueState). queue_of q t) c.0 ∙ (g.done t (omega (arith, waits_known s.world.queues t (waits_there s.world.queues t there), h.even, h.tasks))).over there;
   others = λ t absent. others t absent (cases_lt t (length w.tasks));
   parked = λ t there. ap (λ (q : QueueState). queue_of q t) c.0 ∙ parks t there (cases_lt t (length w.tasks));
   running = c.1 ∙ g.running;
   tree = c.2 ∙ g.tree;
 }
   where
-    on : List (Option ℕ)
-    on = s.world.cpus
-
     w : WorldState
     w = put_out s.world x
 
     v : WorldState
     v = evicted (length w.tasks) w
 
-    out : IsFine n e m hand on w
-    out = (fine_steps n e).put_out m hand on s.world x h
+    out : IsSound hand on n w
+    out = sound_put_out hand on n s.world x h
 
     g : HasGone (length w.tasks) w v
-    g = all_go n e m hand on (length w.tasks) w (omega (arith, out.sound.tasks)) out
+    g = all_go n hand on (length w.tasks) w (omega (arith, out.tasks)) out
 
     c : IsCut v (cut (length v.cpus) v)
     c = cut_all (length v.cpus) v
@@ -150,3 +152,7 @@ loses_nobody n e m hand s x h = record {
     parks : (t : ℕ) → queue_of s.world.queues t ≡ Some parked → (t < length w.tasks) ⊎ (length w.tasks ≤ t) → queue_of v.queues t ≡ Some parked
     parks t there (inl l) = (g.done t l).parked there
     parks t there (inr past) = ap home_of (g.rest t past) ∙ there
+
+-- the law
+pub loses_nobody : EjectionLosesNobody
+loses_nobody n e m hand s x h = goes_over n hand s.world.cpus s x h.sound

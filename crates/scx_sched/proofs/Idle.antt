@@ -1,6 +1,6 @@
 -- After a tick that leaves a processor idle, no task is left behind for it.
-use Rattle.std.proofs.Common.{◌≡◌, ℕ, zero, suc, ◌+◌, ◌<◌, Bool, true, false, ◌==◌, not, nat_lt, if◌then◌else◌, List, length, set, get_or, Option, Some, None, is_none, is_some, refl, sym, ap, ◌∙◌, arith}
-use Rattle.std.proofs.lemmas.Bool.{eq-eqb}
+use Rattle.std.proofs.Common.{◌≡◌, ℕ, zero, suc, ◌+◌, ◌<◌, ◌≤◌, Bool, true, false, ◌==◌, nat_lt, if◌then◌else◌, List, length, set, get_or, Option, Some, None, is_none, is_some, refl, sym, ap, ◌∙◌, subst, arith}
+use Rattle.std.proofs.lemmas.Bool.{eq-eqb, ne_eqb}
 use Rattle.std.proofs.lemmas.Bool.Decides.{nat_tests}
 use Rattle.std.proofs.lemmas.List.{length-set, get_or-set_same}
 use Rattle.scx_dsq.specs.declared.entries.Rank.{Rank}
@@ -10,24 +10,34 @@ use Rattle.scx_dsq.specs.Calls.{push_refusal, next_entry, pushed, popped}
 use Rattle.scx_dsq.specs.Laws.{one_if}
 use Rattle.scx_dsq.proofs.Facts.{free_from, front_is_known, tasks_without}
 use Rattle.scx_semantics.specs.declared.callbacks.Callback.TheVariants as callback
-use Rattle.scx_world.specs.Ids.{global, builtin, local_on}
-use Rattle.scx_world.specs.World.{WorldState, task_at, running}
-use Rattle.scx_world.specs.Tasks.{local_len, brought, fill_front, started_at, ticked}
+use Rattle.scx_weights.specs.Limits as limits
+use Rattle.scx_world.specs.declared.eject.Eject.{Eject}
+use Rattle.scx_world.specs.Ids.{global, builtin, parked, local_on}
+use Rattle.scx_world.specs.World.{WorldState, task_at, is_throttled, running}
+use Rattle.scx_world.specs.Tasks.{local_len, brought, fill_front, stopped, started_at, ticked, used_ms}
 use Rattle.scx_machine.specs.Steps.{State, Stepped, with_world, stays, joined, is_ejected}
 use Rattle.scx_machine.specs.Callbacks.{call_back, cpu_and_task}
-use Rattle.scx_machine.specs.Cycle.{has_local, fill, dispatched, asks_again, tries, leave, started_if, start as run_front, rest, swap, swap_or_rest, builtin_ask, builtin_cycle, start_or_cycle, pick, pick_or_rest, conclude, ask, seek, look, cycling, cycle}
+use Rattle.scx_machine.specs.Filling.{fill}
+use Rattle.scx_machine.specs.Parking.{park, park_front, throttled_front, park_fronts, clear, in_reach, supply}
+use Rattle.scx_machine.specs.Cycle.{has_local, dispatched, asks_again, tries, stopping, leave, started_if, start as run_front, rest, swap, swap_or_rest, builtin_dispatch, builtin_fill, builtin_ask, builtin_cycle, start_or_cycle, pick, pick_or_rest, conclude, ask, seek, look, cycling, cycle}
 use Rattle.scx_machine.specs.declared.events.Event.{Event}
 use Rattle.scx_machine.specs.declared.events.Event.TheVariants.{Wake, Sleep, Tick, Clock, SetWeight}
 use Rattle.scx_machine.specs.declared.events.Refused.TheVariants.{UnknownCpu}
-use Rattle.scx_machine.specs.Events.{count_down, tick_of, tick, happened}
+use Rattle.scx_machine.specs.Events.{throttle, expire, count_down, tick_of, tick, happened}
 use Rattle.scx_sched.specs.Ranges.{IsFine}
 use Rattle.scx_sched.specs.Left.{LeavesNothing, LeavesNothingIdle}
 use Rattle.scx_sched.specs.Sim.{refusal, IsValid}
 use Rattle.scx_sched.proofs.Entering.{keeps_if, own_open, is_accepted, sorted_popped, stay_without, local_sort}
 use Rattle.scx_sched.proofs.Sound.{left_place}
-use Rattle.scx_sched.proofs.Skeleton.{IsKnown, once_for, keeps_call_back, keeps_running_on, keeps_fill, keeps_dispatched, keeps_tries, keeps_leave}
+use Rattle.scx_sched.proofs.Blaming.{honest_supply, honest_builtin_fill}
+use Rattle.scx_sched.proofs.Fronts.{front_same}
+use Rattle.scx_sched.proofs.Clear.{IsClear, MayStart, tree_used_up}
+use Rattle.scx_sched.proofs.Ready.{tree_stopping}
+use Rattle.scx_sched.proofs.Supplying.{clear_from, empty_no_front, throttled_is, IsLeft, left_park_fronts, reach_fill, reach_park_front, supply_clears, builtin_clears}
+use Rattle.scx_sched.proofs.Skeleton.{IsKnown, once_for, keeps_call_back, keeps_stopping, keeps_running_on}
+use Rattle.scx_sched.proofs.Cycles.{some_local, no_local, keeps_park, keeps_park_front, keeps_park_fronts, keeps_fill, keeps_supply, keeps_dispatched, keeps_tries, tries_clear, clear_now, keeps_leave, ready_left, keeps_builtin_fill}
 use Rattle.scx_sched.proofs.Fine.{fine_steps}
-use Rattle.scx_sched.proofs.Events.{known_running, fine_ticked}
+use Rattle.scx_sched.proofs.Events.{cpus_used, IsKeptByTick, fine_inside, fine_events, known_running, fine_ticked}
 use Rattle.scx_sched.proofs.Firsts.{no_front_is_empty}
 use Rattle.scx_sched.proofs.Lengths.{len_set}
 use Rattle.scx_sched.proofs.Leaving.{IsOut, local_leave}
@@ -45,18 +55,14 @@ out_any : (s : State) (p : Option ℕ) → is_ejected s ≡ true → IsOut p s
 out_any s None out = tt
 out_any s (Some t) out = out
 
--- a fill leaves in force or not what was so
-fill_out : (s : State) (q c : ℕ) → is_ejected s ≡ true → is_ejected (fill s q c).state ≡ true
-unfolding fill
-fill_out s q c out = go (fill_front s.world q c)
+-- what stays out of force lets the same leave
+out_stays : (s r : State) (p : Option ℕ) → ((x : Eject) → s.world.ejected ≡ Some x → r.world.ejected ≡ Some x) → IsOut p s → IsOut p r
+out_stays s r None f out = tt
+out_stays s r (Some t) f out = go s.world.ejected refl out
   where
-    go : (o : Option ℕ) → is_some (brought o s.world q c).ejected ≡ true
-    go None = out
-    go (Some t) = out
-
-out_filled : (s : State) (q c : ℕ) (p : Option ℕ) → IsOut p s → IsOut p (fill s q c).state
-out_filled s q c None out = tt
-out_filled s q c (Some t) out = fill_out s q c out
+    go : (o : Option Eject) → s.world.ejected ≡ o → is_some o ≡ true → is_some r.world.ejected ≡ true
+    go None e x = absurd (cc)
+    go (Some y) e x = ap (λ k. is_some k) (f y e)
 
 -- a fill that brings nobody: nobody waits in that queue
 abbrev IsVain : ℕ → ℕ → WorldState → WorldState → Type 0
@@ -73,33 +79,25 @@ LeavesIfIdle c w = is_none (running w c) ≡ true → LeavesNothing w c
 busy : (c : ℕ) (w : WorldState) → is_none (running w c) ≡ false → LeavesIfIdle c w
 busy c w e idle = let bad : false ≡ true = sym e ∙ idle in absurd (cc)
 
-some_local : (k : ℕ) (b : Bool) → (k == 0) ≡ b → not b ≡ true → 0 < k
-some_local k true x y = absurd (cc)
-some_local k false x y = grind (arith, nat_tests, x)
-
-no_local : (k : ℕ) (b : Bool) → (k == 0) ≡ b → not b ≡ false → k ≡ 0
-no_local k true x y = grind (arith, nat_tests, x)
-no_local k false x y = absurd (cc)
-
 module _ (n e : ℕ) (c : ℕ) where
   -- ---- who comes to run
 
-  start_busy : (m : ℕ) (on : List (Option ℕ)) (s : State) → c < length on → get_or on c None ≡ None → IsFine n e m None on s.world → 0 < local_len s.world c → is_none (running (run_front s c).state.world c) ≡ false
+  start_busy : (m : ℕ) (on : List (Option ℕ)) (s : State) → c < length on → get_or on c None ≡ None → IsClear c s.world → IsFine n e m None on s.world → 0 < local_len s.world c → is_none (running (run_front s c).state.world c) ≡ false
   unfolding run_front
-  start_busy m on s l free h some = go (front_of s.world.queues (local_on c)) refl
+  start_busy m on s l free clear-now h some = go (front_of s.world.queues (local_on c)) refl
     where
       go : (o : Option ℕ) → front_of s.world.queues (local_on c) ≡ o → is_none (running (started_if o s c).state.world c) ≡ false
       go None f = absurd (omega (arith, some, no_front_is_empty s.world.queues (local_on c) f))
       go (Some t) f =
           let l' : c < length (set on c (Some t)) = rw (length-set on c (Some t)) l in
-          let x = keeps_running_on n (IsFine n e) (fine_steps n e) m None (set on c (Some t)) (with_world s (started_at (Some t) s.world c)) c t l' ((fine_steps n e).started m on s.world c t l free f h) in
+          let x = keeps_running_on n (IsFine n e) (fine_steps n e) m None (set on c (Some t)) (with_world s (started_at (Some t) s.world c)) c t l' ((fine_steps n e).started m on s.world c t l free f (clear-now t f) h) in
           rw (x.sound.cpus, get_or-set_same on c (Some t) None l) refl
 
-  swap_busy : (m : ℕ) (on : List (Option ℕ)) (s : State) (p : Option ℕ) → c < length on → IsKnown n p → get_or on c None ≡ p → IsOut p s → IsFine n e m None on s.world → 0 < local_len s.world c → is_none (running (swap s c p).state.world c) ≡ false
+  swap_busy : (m : ℕ) (on : List (Option ℕ)) (s : State) (p : Option ℕ) → c < length on → IsKnown n p → get_or on c None ≡ p → IsOut p s → IsClear c s.world → IsFine n e m None on s.world → has_local s c ≡ true → is_none (running (swap s c p).state.world c) ≡ false
   unfolding swap
-  swap_busy m on s p l known runs out h some =
-      let x = keeps_leave n (IsFine n e) (fine_steps n e) m on s c p l known runs h in
-      start_busy (once_for p m) x.0 (leave s c p).state x.2 x.3 x.1 (local_leave c s c p out some)
+  swap_busy m on s p l known runs out clear-now h some =
+      let x = keeps_leave n (IsFine n e) (fine_inside n e) m on s c p l known runs h in
+      start_busy (once_for p m) x.0 (leave s c p).state x.2 x.3 (ready_left n (IsFine n e) (fine_inside n e) m on s c p l known runs some clear-now h) x.1 (local_leave c s c p out (some_local (local_len s.world c) (local_len s.world c == 0) refl some))
 
   -- ---- who is brought
 
@@ -123,6 +121,28 @@ module _ (n e : ℕ) (c : ℕ) where
   fill_global : (m : ℕ) (on : List (Option ℕ)) (s : State) → c < length on → IsFine n e m None on s.world → LeavesGlobal c (fill s global c).state.world
   fill_global m on s l h empty = let x = fill_leaves m on s global l h empty in ap (λ (q : QueueState). front_of q global) x.2 ∙ x.0
 
+  clear_leaves : (j m : ℕ) (on : List (Option ℕ)) (s : State) → c < length on → in_reach s c ≤ j → IsFine n e m None on s.world → LeavesGlobal c (clear j s c).state.world
+  unfolding clear
+  clear_leaves zero m on s l few h = λ empty. empty_no_front s.world.queues global (omega (arith, few))
+  clear_leaves (suc j) m on s l few h = go (throttled_front f (local_on c)) refl (λ t less x. clear_leaves j m on (park_front (fill s global c).state (local_on c) t).state l less x)
+    where
+      f : State
+      f = (fill s global c).state
+
+      filled : IsFine n e m None on f.world
+      filled = keeps_fill n (IsFine n e) (fine_inside n e) m on s global c refl l h
+
+      go : (o : Option ℕ) → throttled_front f (local_on c) ≡ o → ((t : ℕ) → in_reach (park_front f (local_on c) t).state c ≤ j → IsFine n e m None on (park_front f (local_on c) t).state.world → LeavesGlobal c (clear j (park_front f (local_on c) t).state c).state.world)
+          → LeavesGlobal c (clear_from j f c o).state.world
+      go None y more = fill_global m on s l h
+      go (Some t) y more =
+          more t (omega (arith, few, reach_fill s c, reach_park_front f c t (throttled_is f (local_on c) t y).front))
+          (keeps_park_front n (IsFine n e) (fine_inside n e) m on f (local_on c) t (ne_eqb (local_on c) parked (λ z. omega (arith, z))) y filled)
+
+  supply_leaves : (m : ℕ) (on : List (Option ℕ)) (s : State) → c < length on → IsFine n e m None on s.world → LeavesGlobal c (supply s c).state.world
+  unfolding supply
+  supply_leaves m on s l h = clear_leaves (in_reach s c) m on s l (omega arith) h
+
   -- ---- the built-in scheduler
 
   rest_leaves : (s : State) (p : Option ℕ) (ran : Bool) → LeavesNothing s.world c → LeavesIfIdle c (rest s c p ran).state.world
@@ -130,101 +150,129 @@ module _ (n e : ℕ) (c : ℕ) where
   rest_leaves s None ran h idle = h
   rest_leaves s (Some t) ran h idle = record { local = h.local; global = h.global; builtin = h.builtin }
 
+  -- where its dispatch leaves the local queue empty, its own is empty too
+  builtin_fill_leaves : (m : ℕ) (on : List (Option ℕ)) (s : State) → c < length on → IsFine n e m None on s.world → LeavesGlobal c s.world → local_len (builtin_fill s c).state.world c ≡ 0 → LeavesNothing (builtin_fill s c).state.world c
+  unfolding builtin_fill builtin_dispatch
+  builtin_fill_leaves m on s l h g = go (has_local s c) refl
+    where
+      p : State
+      p = (park_fronts (len_of s.world.queues builtin) s builtin).state
+
+      r : Stepped
+      r = joined (park_fronts (len_of s.world.queues builtin) s builtin) (fill p builtin c)
+
+      x : IsFine n e m None on p.world
+      x = keeps_park_fronts n (IsFine n e) (fine_inside n e) m on (len_of s.world.queues builtin) s builtin refl h
+
+      global_stays : IsLeft global s.world p.world
+      global_stays = left_park_fronts (len_of s.world.queues builtin) global s builtin refl refl
+
+      go : (b : Bool) → has_local s c ≡ b → local_len (if b then stays s else r).state.world c ≡ 0 → LeavesNothing (if b then stays s else r).state.world c
+      go true z empty = absurd (omega (arith, some_local (local_len s.world c) (local_len s.world c == 0) refl z, empty))
+      go false z empty =
+          let v = fill_leaves m on p builtin l x empty in
+          record {
+            local = empty;
+            global = ap (λ (q : QueueState). front_of q global) v.2 ∙ (front_same s.world.queues p.world.queues global global_stays.queue ∙ g (no_local (local_len s.world c) (local_len s.world c == 0) refl z));
+            builtin = λ gone. ap (λ (q : QueueState). front_of q builtin) v.2 ∙ v.0;
+          }
+
   builtin_cycle_leaves : (m : ℕ) (on : List (Option ℕ)) (s : State) (p : Option ℕ) (ran : Bool) → c < length on → IsKnown n p → get_or on c None ≡ p → IsOut p s → IsFine n e m None on s.world → LeavesIfIdle c (builtin_cycle s c p ran).state.world
   unfolding builtin_cycle builtin_ask swap_or_rest
   builtin_cycle_leaves m on s p ran l known runs out h = go (has_local g c) refl
     where
       f : State
-      f = (fill s global c).state
+      f = (supply s c).state
 
       g : State
-      g = (fill f builtin c).state
+      g = (builtin_fill f c).state
 
       x : IsFine n e m None on f.world
-      x = keeps_fill n (IsFine n e) (fine_steps n e) m on s global c refl l h
+      x = keeps_supply n (IsFine n e) (fine_inside n e) m on s c l h
 
       y : IsFine n e m None on g.world
-      y = keeps_fill n (IsFine n e) (fine_steps n e) m on f builtin c refl l x
+      y = keeps_builtin_fill n (IsFine n e) (fine_inside n e) m on f c l x
 
-      nothing : local_len g.world c ≡ 0 → LeavesNothing g.world c
-      nothing empty =
-          let v = fill_leaves m on f builtin l x empty in
-          let u = fill_leaves m on s global l h v.1 in
-          record {
-            local = empty;
-            global = ap (λ (q : QueueState). front_of q global) (v.2 ∙ u.2) ∙ u.0;
-            builtin = λ gone. ap (λ (q : QueueState). front_of q builtin) v.2 ∙ v.0;
-          }
+      out-now : IsOut p g
+      out-now = out_stays f g p (honest_builtin_fill f c).stays (out_stays s f p (honest_supply s c).stays out)
 
       go : (b : Bool) → has_local g c ≡ b → LeavesIfIdle c (if b then swap g c p else rest g c p ran).state.world
-      go true z = busy c (swap g c p).state.world (swap_busy m on g p l known runs (out_filled f builtin c p (out_filled s global c p out)) y (some_local (local_len g.world c) (local_len g.world c == 0) refl z))
-      go false z = rest_leaves g p ran (nothing (no_local (local_len g.world c) (local_len g.world c == 0) refl z))
+      go true z = busy c (swap g c p).state.world (swap_busy m on g p l known runs out-now (clear_now n (IsFine n e) (fine_inside n e) m on g c y (builtin_clears f c (supply_clears s c))) y z)
+      go false z = rest_leaves g p ran (builtin_fill_leaves m on f l x (supply_leaves m on s l h) (no_local (local_len g.world c) (local_len g.world c == 0) refl z))
 
   -- ---- the policy
 
-  start_or_cycle_leaves : (m : ℕ) (on : List (Option ℕ)) (s : State) (ran : Bool) → c < length on → get_or on c None ≡ None → IsFine n e m None on s.world → LeavesIfIdle c (start_or_cycle s c ran).state.world
+  start_or_cycle_leaves : (m : ℕ) (on : List (Option ℕ)) (s : State) (ran : Bool) → c < length on → get_or on c None ≡ None → IsClear c s.world → IsFine n e m None on s.world → LeavesIfIdle c (start_or_cycle s c ran).state.world
   unfolding start_or_cycle
-  start_or_cycle_leaves m on s ran l free h = go (has_local s c) refl
+  start_or_cycle_leaves m on s ran l free clear-now h = go (has_local s c) refl
     where
       go : (b : Bool) → has_local s c ≡ b → LeavesIfIdle c (if b then run_front s c else builtin_cycle s c None ran).state.world
-      go true z = busy c (run_front s c).state.world (start_busy m on s l free h (some_local (local_len s.world c) (local_len s.world c == 0) refl z))
+      go true z = busy c (run_front s c).state.world (start_busy m on s l free clear-now h (some_local (local_len s.world c) (local_len s.world c == 0) refl z))
       go false z = builtin_cycle_leaves m on s None ran l tt free tt h
 
-  pick_leaves : (m : ℕ) (on : List (Option ℕ)) (s : State) (p : Option ℕ) (ran : Bool) → c < length on → IsKnown n p → get_or on c None ≡ p → IsFine n e m None on s.world → LeavesIfIdle c (pick s c p ran).state.world
+  pick_leaves : (m : ℕ) (on : List (Option ℕ)) (s : State) (p : Option ℕ) (ran : Bool) → c < length on → IsKnown n p → get_or on c None ≡ p → has_local s c ≡ true → IsClear c s.world → IsFine n e m None on s.world → LeavesIfIdle c (pick s c p ran).state.world
   unfolding pick
-  pick_leaves m on s p ran l known runs h =
-      let x = keeps_leave n (IsFine n e) (fine_steps n e) m on s c p l known runs h in
-      start_or_cycle_leaves (once_for p m) x.0 (leave s c p).state ran x.2 x.3 x.1
+  pick_leaves m on s p ran l known runs some clear-now h =
+      let x = keeps_leave n (IsFine n e) (fine_inside n e) m on s c p l known runs h in
+      start_or_cycle_leaves (once_for p m) x.0 (leave s c p).state ran x.2 x.3 (ready_left n (IsFine n e) (fine_inside n e) m on s c p l known runs some clear-now h) x.1
 
-  pick_or_rest_leaves : (m : ℕ) (on : List (Option ℕ)) (s : State) (p : Option ℕ) (ran : Bool) → c < length on → IsKnown n p → get_or on c None ≡ p → is_ejected s ≡ false → IsFine n e m None on s.world → LeavesGlobal c s.world
+  pick_or_rest_leaves : (m : ℕ) (on : List (Option ℕ)) (s : State) (p : Option ℕ) (ran : Bool) → c < length on → IsKnown n p → get_or on c None ≡ p → is_ejected s ≡ false → IsClear c s.world → IsFine n e m None on s.world → LeavesGlobal c s.world
       → LeavesIfIdle c (pick_or_rest s c p ran).state.world
   unfolding pick_or_rest
-  pick_or_rest_leaves m on s p ran l known runs force h g = go (has_local s c) refl
+  pick_or_rest_leaves m on s p ran l known runs force clear-now h g = go (has_local s c) refl
     where
       in_force : is_some s.world.ejected ≡ true → front_of s.world.queues builtin ≡ None
       in_force gone = let bad : false ≡ true = sym force ∙ gone in absurd (cc)
 
       go : (b : Bool) → has_local s c ≡ b → LeavesIfIdle c (if b then pick s c p ran else rest s c p ran).state.world
-      go true z = pick_leaves m on s p ran l known runs h
+      go true z = pick_leaves m on s p ran l known runs z clear-now h
       go false z =
           let empty = no_local (local_len s.world c) (local_len s.world c == 0) refl z in
           rest_leaves s p ran (record { local = empty; global = g empty; builtin = in_force })
 
-  conclude_leaves : (m : ℕ) (on : List (Option ℕ)) (s : State) (p : Option ℕ) (ran : Bool) → c < length on → IsKnown n p → get_or on c None ≡ p → IsFine n e m None on s.world → LeavesGlobal c s.world → LeavesIfIdle c (conclude s c p ran).state.world
+  conclude_leaves : (m : ℕ) (on : List (Option ℕ)) (s : State) (p : Option ℕ) (ran : Bool) → c < length on → IsKnown n p → get_or on c None ≡ p → IsClear c s.world → IsFine n e m None on s.world → LeavesGlobal c s.world → LeavesIfIdle c (conclude s c p ran).state.world
   unfolding conclude
-  conclude_leaves m on s p ran l known runs h g = go (is_ejected s) refl
+  conclude_leaves m on s p ran l known runs clear-now h g = go (is_ejected s) refl
     where
       go : (b : Bool) → is_ejected s ≡ b → LeavesIfIdle c (if b then builtin_cycle s c p ran else pick_or_rest s c p ran).state.world
       go true out = builtin_cycle_leaves m on s p ran l known runs (out_any s p out) h
-      go false force = pick_or_rest_leaves m on s p ran l known runs force h g
+      go false force = pick_or_rest_leaves m on s p ran l known runs force clear-now h g
 
   dispatched_leaves : (m : ℕ) (on : List (Option ℕ)) (s : State) (p : Option ℕ) → c < length on → IsFine n e m None on s.world → LeavesGlobal c (dispatched s c p).state.world
   unfolding dispatched
   dispatched_leaves m on s p l h =
       let r = call_back s callback.Dispatch (cpu_and_task c p) 0 c in
-      fill_global m on r.state l (keeps_call_back n (IsFine n e) (fine_steps n e) m None on s callback.Dispatch (cpu_and_task c p) 0 c l h)
+      supply_leaves m on r.state l (keeps_call_back n (IsFine n e) (fine_steps n e) m None on s callback.Dispatch (cpu_and_task c p) 0 c l h)
 
   tries_leave : (j m : ℕ) (on : List (Option ℕ)) (s : State) (p : Option ℕ) → c < length on → IsFine n e m None on s.world → LeavesGlobal c s.world → LeavesGlobal c (tries j s c p).state.world
   unfolding tries
   tries_leave zero m on s p l h g = g
   tries_leave (suc j) m on s p l h g =
       let d = dispatched s c p in
-      let x = keeps_dispatched n (IsFine n e) (fine_steps n e) m on s c p l h in
+      let x = keeps_dispatched n (IsFine n e) (fine_inside n e) m on s c p l h in
       let y = dispatched_leaves m on s p l h in
       keeps_if (λ (r : Stepped). LeavesGlobal c r.state.world) (asks_again d.state c) (joined d (tries j d.state c p)) d (tries_leave j m on d.state p l x y) y
 
-  ask_leaves : (m : ℕ) (on : List (Option ℕ)) (s : State) (p : Option ℕ) (ran : Bool) → c < length on → IsKnown n p → get_or on c None ≡ p → IsFine n e m None on s.world → LeavesGlobal c s.world → LeavesIfIdle c (ask s c p ran).state.world
+  ask_leaves : (m : ℕ) (on : List (Option ℕ)) (s : State) (p : Option ℕ) (ran : Bool) → c < length on → IsKnown n p → get_or on c None ≡ p → MayStart c s.world → IsFine n e m None on s.world → LeavesGlobal c s.world → LeavesIfIdle c (ask s c p ran).state.world
   unfolding ask
-  ask_leaves m on s p ran l known runs h g =
+  ask_leaves m on s p ran l known runs may h g =
       let d = tries 32 s c p in
-      conclude_leaves m on d.state p ran l known runs (keeps_tries n (IsFine n e) (fine_steps n e) m on 32 s c p l h) (tries_leave 32 m on s p l h g)
+      let x = keeps_tries n (IsFine n e) (fine_inside n e) m on 32 s c p l h in
+      conclude_leaves m on d.state p ran l known runs (clear_now n (IsFine n e) (fine_inside n e) m on d.state c x (tries_clear n (IsFine n e) (fine_inside n e) m on 32 s c p may)) x (tries_leave 32 m on s p l h g)
 
   seek_leaves : (m : ℕ) (on : List (Option ℕ)) (s : State) (p : Option ℕ) (ran : Bool) → c < length on → IsKnown n p → get_or on c None ≡ p → IsFine n e m None on s.world → LeavesIfIdle c (seek s c p ran).state.world
   unfolding seek
-  seek_leaves m on s p ran l known runs h =
-      let f = fill s global c in
-      let x : IsFine n e m None on f.state.world = keeps_fill n (IsFine n e) (fine_steps n e) m on s global c refl l h in
-      keeps_if (λ (r : Stepped). LeavesIfIdle c r.state.world) (has_local f.state c) (pick f.state c p ran) (ask f.state c p ran) (pick_leaves m on f.state p ran l known runs x) (ask_leaves m on f.state p ran l known runs x (fill_global m on s l h))
+  seek_leaves m on s p ran l known runs h = go (has_local f c) refl
+    where
+      f : State
+      f = (supply s c).state
+
+      x : IsFine n e m None on f.world
+      x = keeps_supply n (IsFine n e) (fine_inside n e) m on s c l h
+
+      go : (b : Bool) → has_local f c ≡ b → LeavesIfIdle c (if b then pick f c p ran else ask f c p ran).state.world
+      go true z = pick_leaves m on f p ran l known runs z (clear_now n (IsFine n e) (fine_inside n e) m on f c x (supply_clears s c)) x
+      go false z = ask_leaves m on f p ran l known runs (supply_clears s c) x (supply_leaves m on s l h)
 
   -- ---- whichever is in force
 
@@ -244,16 +292,41 @@ module _ (n e : ℕ) (c : ℕ) where
 
 -- the law
 pub tick_leaves : (n e : ℕ) (s : State) (c : ℕ) → c < length s.world.cpus → IsFine n e e None s.world.cpus s.world → running (tick s c).state.world c ≡ None → LeavesNothing (tick s c).state.world c
-unfolding tick count_down
+unfolding tick count_down throttle expire
 tick_leaves n e s c l h idle = go (running s.world c) refl (ap (λ o. is_none o) idle)
   where
+    throttled_leaves : (v : State) (t : ℕ) → t < n → c < length v.world.cpus → limits.is_throttled v.world.tree t ≡ true → IsFine n (e + 1) e (Some t) (set v.world.cpus c None) (stopped v.world c t) → LeavesIfIdle c (throttle v c t).state.world
+    throttled_leaves v t within m up x =
+        let on = set v.world.cpus c None in
+        let l' : c < length on = rw (length-set v.world.cpus c None) m in
+        let off = with_world v (stopped v.world c t) in
+        let r = (stopping off c t 1).state in
+        let tree = tree_stopping n (IsFine n (e + 1)) (fine_steps n (e + 1)) (fine_inside n (e + 1)).sound c e (Some t) on off c t 1 l' x in
+        cycle_leaves n (e + 1) c (e + 1) on (park r t).state None true l' tt (get_or-set_same v.world.cpus c None None m)
+        (keeps_park n (IsFine n (e + 1)) (fine_inside n (e + 1)) (e + 1) on r t within (ap (λ k. limits.is_throttled k t) tree ∙ up) (keeps_stopping n (IsFine n (e + 1)) (fine_steps n (e + 1)) e (Some t) on off c t 1 l' x))
+
     go : (o : Option ℕ) → running s.world c ≡ o → LeavesIfIdle c (tick_of o s c).state.world
     go None at = cycle_leaves n e c e s.world.cpus s None false l tt at h
-    go (Some t) at =
-        let v = with_world s (ticked s.world t) in
-        keeps_if (λ (r : Stepped). LeavesIfIdle c r.state.world) ((task_at v.world t).slice == 0) (cycle v c (Some t) true) (stays v)
-        (cycle_leaves n (e + 1) c e s.world.cpus v (Some t) true l (known_running n e e s.world c t l at h) at (fine_ticked n e e s.world t h))
-        (busy c v.world (rw at refl))
+    go (Some t) at = by (is_throttled v.world t) refl
+      where
+        v : State
+        v = with_world s (used_ms (ticked s.world t) t)
+
+        same : v.world.cpus ≡ s.world.cpus
+        same = cpus_used (ticked s.world t) t
+
+        x : IsKeptByTick n (IsFine n (e + 1)) (fine_events n (e + 1)) e s.world c t
+        x = fine_ticked n e e s.world c t l at h
+
+        known : t < n
+        known = known_running n e e s.world c t l at h
+
+        by : (b : Bool) → is_throttled v.world t ≡ b → LeavesIfIdle c (if b then throttle v c t else expire v c t).state.world
+        by true up = throttled_leaves v t known (subst (λ (xs : List (Option ℕ)). c < length xs) (sym same) l) (tree_used_up v.world t up) (subst (λ xs. IsFine n (e + 1) e (Some t) (set xs c None) (stopped v.world c t)) (sym same) (x.leaves up))
+        by false free =
+            keeps_if (λ (r : Stepped). LeavesIfIdle c r.state.world) ((task_at v.world t).slice == 0) (cycle v c (Some t) true) (stays v)
+            (cycle_leaves n (e + 1) c e s.world.cpus v (Some t) true l known at (x.goes_on free))
+            (busy c v.world (ap (λ (xs : List (Option ℕ)). is_none (get_or xs c None)) same ∙ ap (λ o. is_none o) at))
 
 -- the same of an accepted event
 pub step_leaves : (s : State) (n : ℕ) (v : Event) → refusal (record { state = s; events = n }) v ≡ None → IsValid s n → LeavesNothingIdle v (happened s v).state.world

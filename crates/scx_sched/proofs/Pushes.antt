@@ -5,7 +5,7 @@ use Rattle.scx_dsq.proofs.Facts.{ids_removed}
 use Rattle.scx_dsq.specs.Calls.{push_refusal, popped, removed}
 use Rattle.scx_dsq.specs.declared.entries.Rank.TheVariants.{Fifo, Vtime}
 use Rattle.scx_world.specs.Ids.{builtin, local_on}
-use Rattle.scx_world.specs.World.{WorldState}
+use Rattle.scx_world.specs.World.{WorldState, waits}
 use Rattle.scx_world.specs.declared.call.Insert.{Insert}
 use Rattle.scx_world.specs.Tasks.{resolved}
 use Rattle.scx_world.specs.Helpers.{is_dispatch, insert_fault}
@@ -32,6 +32,11 @@ takes_held hand on n w t i flags x e h =
 takes_builtin : (s : QueueState) (t v : ℕ) → entry_of s t ≡ None → exists s builtin ≡ true → IsSorted s → push_refusal s builtin t (Vtime v) ≡ None
 takes_builtin s t v free there sorted = is_accepted s t builtin (Vtime v) free (own_open s builtin (Vtime v) there (omega arith) refl sorted)
 
+pub takes_evicted : (hand : Option ℕ) (on : List (Option ℕ)) (n : ℕ) (w : WorldState) (t : ℕ) → waits w t ≡ true → IsSound hand on n w → push_refusal (removed w.queues t) builtin t (Vtime (raised w t)) ≡ None
+takes_evicted hand on n w t waits-here h =
+    let stands = waits_there w.queues t waits-here in
+    takes_builtin (removed w.queues t) t (raised w t) (removed_place w.queues t stands (waits_known w.queues t stands)) (rw (ids_removed w.queues t) h.queues.builtin) (sorted_removed w.queues t h.sorted)
+
 -- the law
 pub is_push_accepted : (n e m : ℕ) → IsPushAccepted n e m
 is_push_accepted n e m = record {
@@ -39,6 +44,6 @@ is_push_accepted n e m = record {
   fill = λ on w q c t l x h. takes_front None on n w q c t l x h.sound;
   move = λ hand on w q t x h. takes_front hand on n w q w.call.cpu t h.sound.here x h.sound;
   put_builtin = λ on w t l h. takes_builtin w.queues t (raised w t) (nowhere w t h.sound.once) h.sound.queues.builtin h.sound.sorted;
-  evict = λ hand on w t waits h. takes_builtin (removed w.queues t) t (raised w t) (removed_place w.queues t (waits_there w.queues t waits) (waits_known w.queues t (waits_there w.queues t waits))) (rw (ids_removed w.queues t) h.sound.queues.builtin) (sorted_removed w.queues t h.sound.sorted);
+  evict = λ hand on w t waits-here h. takes_evicted hand on n w t waits-here h.sound;
   release = λ hand on w t i flags x e h. takes_held hand on n w t i flags x e h.sound;
 }

@@ -1,7 +1,5 @@
--- What each small step of a world keeps, callbacks, ejections and whole cycles keep.
-use Rattle.std.proofs.Common.{◌≡◌, ℕ, zero, suc, ◌+◌, ◌==◌, ◌<◌, ◌≤◌, Bool, true, false, if◌then◌else◌, List, length, set, get_or, Option, Some, None, refl, arith}
-use Rattle.std.proofs.lemmas.List.{length-set, get_or-set_same}
-use Rattle.scx_dsq.specs.Queues.{front_of}
+-- What each small step of a world keeps, callbacks and ejections keep, and a task that is put.
+use Rattle.std.proofs.Common.{◌≡◌, ℕ, zero, suc, ◌+◌, ◌<◌, ◌≤◌, Bool, true, false, if◌then◌else◌, List, length, Option, Some, None, refl, arith}
 use Rattle.scx_semantics.specs.declared.callbacks.Callback.{Callback}
 use Rattle.scx_semantics.specs.declared.callbacks.Callback.TheVariants as callback
 use Rattle.scx_semantics.specs.Code.{instruction_count}
@@ -15,17 +13,16 @@ use Rattle.scx_vm.specs.declared.arguments.Args.{Args}
 use Rattle.scx_vm.specs.Host.{answer_to, after_query}
 use Rattle.scx_world.specs.declared.eject.Eject.{Eject}
 use Rattle.scx_world.specs.declared.faults.Fault.{Fault}
-use Rattle.scx_world.specs.Ids.{global, builtin, parked, local_on}
 use Rattle.scx_world.specs.World.{WorldState, running, begun}
-use Rattle.scx_world.specs.Tasks.{for_cpu, stopped, started_at}
+use Rattle.scx_world.specs.Tasks.{for_cpu}
 use Rattle.scx_world.specs.Ejecting.{put_out, evicted, cut, cut_task, charged, overtaken}
 use Rattle.scx_world.specs.Helpers.{world_functions}
-use Rattle.scx_machine.specs.Steps.{State, Stepped, joined, stays, with_world, is_ejected}
+use Rattle.scx_machine.specs.Steps.{State, Stepped, stays, with_world, is_ejected}
 use Rattle.scx_machine.specs.Ejecting.{moves_over, eject, ejected_for}
-use Rattle.scx_machine.specs.Callbacks.{called, acting, ended, fault_of, call_back, one_task, task_and_number, cpu_and_task}
+use Rattle.scx_machine.specs.Callbacks.{called, acting, ended, fault_of, call_back, one_task, task_and_number}
 use Rattle.scx_world.specs.declared.call.Insert.{Insert}
 use Rattle.scx_machine.specs.Put.{enters, wanted, enters_builtin, comes_in, put}
-use Rattle.scx_machine.specs.Cycle.{has_local, fill, dispatched, asks_again, tries, stopping, running_on, leave, started_if, start as run_front, rest, swap, swap_or_rest, builtin_ask, builtin_cycle, start_or_cycle, pick, pick_or_rest, conclude, ask, seek, look, cycling, cycle}
+use Rattle.scx_machine.specs.Cycle.{stopping, running_on}
 use Rattle.scx_machine.specs.Events.{settled}
 use Rattle.scx_sched.specs.Kept.{IsKeptBySteps, IsWanted, ForAny, Nowhere, Inserted}
 use Rattle.scx_sched.proofs.Entering.{keeps_if}
@@ -41,7 +38,7 @@ once_for None m = m
 once_for (Some t) m = m + 1
 
 -- enqueue puts a task where it may go
-is_wanted : (cpus : ℕ) (w : WorldState) (p : Option VerifiedProgram) (c : ℕ) (o : Option Insert) → c < cpus → w.call.insert ≡ o → IsWanted cpus w (wanted p c o)
+pub is_wanted : (cpus : ℕ) (w : WorldState) (p : Option VerifiedProgram) (c : ℕ) (o : Option Insert) → c < cpus → w.call.insert ≡ o → IsWanted cpus w (wanted p c o)
 is_wanted cpus w None c o l e = ForAny refl
 is_wanted cpus w (Some p) c None l e = Nowhere refl
 is_wanted cpus w (Some p) c (Some i) l e = Inserted c i l e refl
@@ -123,121 +120,3 @@ module _ (n : ℕ) (I : ℕ → Option ℕ → List (Option ℕ) → WorldState 
     unfolding enters
     keeps_settled None s t c e within l h = keeps_put s t c 1 within l h
     keeps_settled (Some i) s t c e within l h = k.entered m on s.world t (for_cpu c i) within (Inserted c i l e refl) h
-
-    -- a local queue that is filled
-    pub keeps_fill : (s : State) (q c : ℕ) → (q == parked) ≡ false → c < length on → I m None on s.world → I m None on (fill s q c).state.world
-    unfolding fill
-    keeps_fill s q c apart l h = k.filled m on s.world q c apart l h
-
-    -- a call of dispatch
-    pub keeps_dispatched : (s : State) (c : ℕ) (p : Option ℕ) → c < length on → I m None on s.world → I m None on (dispatched s c p).state.world
-    unfolding dispatched
-    keeps_dispatched s c p l h =
-        let r = call_back s callback.Dispatch (cpu_and_task c p) 0 c in
-        keeps_fill r.state global c refl l (keeps_call_back m None on s callback.Dispatch (cpu_and_task c p) 0 c l h)
-
-    -- several of them
-    pub keeps_tries : (j : ℕ) (s : State) (c : ℕ) (p : Option ℕ) → c < length on → I m None on s.world → I m None on (tries j s c p).state.world
-    unfolding tries
-    keeps_tries zero s c p l h = h
-    keeps_tries (suc j) s c p l h =
-        let d = dispatched s c p in
-        let x = keeps_dispatched s c p l h in
-        keeps_if (λ (r : Stepped). I m None on r.state.world) (asks_again d.state c) (joined d (tries j d.state c p)) d (keeps_tries j d.state c p l x) x
-
-  -- somebody runs where
-  abbrev pub Some-on : ℕ → WorldState → Type 0
-  Some-on m w = (on : List (Option ℕ)) × I m None on w
-
-  keeps_start : (m : ℕ) (on : List (Option ℕ)) (s : State) (c : ℕ) → c < length on → get_or on c None ≡ None → I m None on s.world → Some-on m (run_front s c).state.world
-  unfolding run_front
-  keeps_start m on s c l free h = go (front_of s.world.queues (local_on c)) refl
-    where
-      go : (o : Option ℕ) → front_of s.world.queues (local_on c) ≡ o → Some-on m (started_if o s c).state.world
-      go None e = (on, h)
-      go (Some t) e =
-          let l' : c < length (set on c (Some t)) = rw (length-set on c (Some t)) l in
-          (set on c (Some t), keeps_running_on m None (set on c (Some t)) (with_world s (started_at (Some t) s.world c)) c t l' (k.started m on s.world c t l free e h))
-
-  keeps_rest : (m : ℕ) (on : List (Option ℕ)) (s : State) (c : ℕ) (p : Option ℕ) (ran : Bool) → I m None on s.world → Some-on (once_for p m) (rest s c p ran).state.world
-  unfolding rest
-  keeps_rest m on s c None ran h = (on, h)
-  keeps_rest m on s c (Some t) ran h = (on, k.more m None on _ (k.kept m on s.world t h))
-
-  abbrev pub Left : ℕ → ℕ → WorldState → Type 0
-  Left m c w = (on : List (Option ℕ)) × I m None on w × (c < length on) × (get_or on c None ≡ None)
-
-  -- a task that leaves its processor
-  pub keeps_leave : (m : ℕ) (on : List (Option ℕ)) (s : State) (c : ℕ) (p : Option ℕ) → c < length on → IsKnown n p → get_or on c None ≡ p → I m None on s.world → Left (once_for p m) c (leave s c p).state.world
-  unfolding leave
-  keeps_leave m on s c None l known runs h = (on, h, l, runs)
-  keeps_leave m on s c (Some t) l known runs h =
-      let off = with_world s (stopped s.world c t) in
-      let l' : c < length (set on c None) = rw (length-set on c None) l in
-      let r = stopping off c t 1 in
-      let x : I (m + 1) (Some t) (set on c None) r.state.world = keeps_stopping m (Some t) (set on c None) off c t 1 l' (k.stopped m on s.world c t l known runs h) in
-      (set on c None, keeps_put (m + 1) (set on c None) r.state t c 0 known l' x, l', get_or-set_same on c None None l)
-
-  -- ---- the built-in scheduler
-
-  keeps_swap : (m : ℕ) (on : List (Option ℕ)) (s : State) (c : ℕ) (p : Option ℕ) → c < length on → IsKnown n p → get_or on c None ≡ p → I m None on s.world → Some-on (once_for p m) (swap s c p).state.world
-  unfolding swap
-  keeps_swap m on s c p l known runs h = let x = keeps_leave m on s c p l known runs h in keeps_start (once_for p m) x.0 (leave s c p).state c x.2 x.3 x.1
-
-  keeps_swap_or_rest : (m : ℕ) (on : List (Option ℕ)) (s : State) (c : ℕ) (p : Option ℕ) (ran : Bool) → c < length on → IsKnown n p → get_or on c None ≡ p → I m None on s.world → Some-on (once_for p m) (swap_or_rest s c p ran).state.world
-  unfolding swap_or_rest
-  keeps_swap_or_rest m on s c p ran l known runs h =
-      keeps_if (λ (r : Stepped). Some-on (once_for p m) r.state.world) (has_local s c) (swap s c p) (rest s c p ran) (keeps_swap m on s c p l known runs h) (keeps_rest m on s c p ran h)
-
-  pub keeps_builtin_cycle : (m : ℕ) (on : List (Option ℕ)) (s : State) (c : ℕ) (p : Option ℕ) (ran : Bool) → c < length on → IsKnown n p → get_or on c None ≡ p → I m None on s.world → Some-on (once_for p m) (builtin_cycle s c p ran).state.world
-  unfolding builtin_cycle builtin_ask
-  keeps_builtin_cycle m on s c p ran l known runs h =
-      let f = fill s global c in
-      let g = fill f.state builtin c in
-      keeps_swap_or_rest m on g.state c p ran l known runs (keeps_fill m on f.state builtin c refl l (keeps_fill m on s global c refl l h))
-
-  -- ---- the policy
-
-  keeps_start_or_cycle : (m : ℕ) (on : List (Option ℕ)) (s : State) (c : ℕ) (ran : Bool) → c < length on → get_or on c None ≡ None → I m None on s.world → Some-on m (start_or_cycle s c ran).state.world
-  unfolding start_or_cycle
-  keeps_start_or_cycle m on s c ran l free h =
-      keeps_if (λ (r : Stepped). Some-on m r.state.world) (has_local s c) (run_front s c) (builtin_cycle s c None ran) (keeps_start m on s c l free h) (keeps_builtin_cycle m on s c None ran l tt free h)
-
-  keeps_pick : (m : ℕ) (on : List (Option ℕ)) (s : State) (c : ℕ) (p : Option ℕ) (ran : Bool) → c < length on → IsKnown n p → get_or on c None ≡ p → I m None on s.world → Some-on (once_for p m) (pick s c p ran).state.world
-  unfolding pick
-  keeps_pick m on s c p ran l known runs h = let x = keeps_leave m on s c p l known runs h in keeps_start_or_cycle (once_for p m) x.0 (leave s c p).state c ran x.2 x.3 x.1
-
-  keeps_pick_or_rest : (m : ℕ) (on : List (Option ℕ)) (s : State) (c : ℕ) (p : Option ℕ) (ran : Bool) → c < length on → IsKnown n p → get_or on c None ≡ p → I m None on s.world → Some-on (once_for p m) (pick_or_rest s c p ran).state.world
-  unfolding pick_or_rest
-  keeps_pick_or_rest m on s c p ran l known runs h =
-      keeps_if (λ (r : Stepped). Some-on (once_for p m) r.state.world) (has_local s c) (pick s c p ran) (rest s c p ran) (keeps_pick m on s c p ran l known runs h) (keeps_rest m on s c p ran h)
-
-  keeps_conclude : (m : ℕ) (on : List (Option ℕ)) (s : State) (c : ℕ) (p : Option ℕ) (ran : Bool) → c < length on → IsKnown n p → get_or on c None ≡ p → I m None on s.world → Some-on (once_for p m) (conclude s c p ran).state.world
-  unfolding conclude
-  keeps_conclude m on s c p ran l known runs h =
-      keeps_if (λ (r : Stepped). Some-on (once_for p m) r.state.world) (is_ejected s) (builtin_cycle s c p ran) (pick_or_rest s c p ran) (keeps_builtin_cycle m on s c p ran l known runs h) (keeps_pick_or_rest m on s c p ran l known runs h)
-
-  keeps_ask : (m : ℕ) (on : List (Option ℕ)) (s : State) (c : ℕ) (p : Option ℕ) (ran : Bool) → c < length on → IsKnown n p → get_or on c None ≡ p → I m None on s.world → Some-on (once_for p m) (ask s c p ran).state.world
-  unfolding ask
-  keeps_ask m on s c p ran l known runs h = keeps_conclude m on (tries 32 s c p).state c p ran l known runs (keeps_tries m on 32 s c p l h)
-
-  keeps_seek : (m : ℕ) (on : List (Option ℕ)) (s : State) (c : ℕ) (p : Option ℕ) (ran : Bool) → c < length on → IsKnown n p → get_or on c None ≡ p → I m None on s.world → Some-on (once_for p m) (seek s c p ran).state.world
-  unfolding seek
-  keeps_seek m on s c p ran l known runs h =
-      let f = fill s global c in
-      let x : I m None on f.state.world = keeps_fill m on s global c refl l h in
-      keeps_if (λ (r : Stepped). Some-on (once_for p m) r.state.world) (has_local f.state c) (pick f.state c p ran) (ask f.state c p ran) (keeps_pick m on f.state c p ran l known runs x) (keeps_ask m on f.state c p ran l known runs x)
-
-  -- ---- whichever is in force
-
-  keeps_look : (m : ℕ) (on : List (Option ℕ)) (s : State) (c : ℕ) (p : Option ℕ) (ran : Bool) → c < length on → IsKnown n p → get_or on c None ≡ p → I m None on s.world → Some-on (once_for p m) (look s c p ran).state.world
-  unfolding look
-  keeps_look m on s c p ran l known runs h =
-      keeps_if (λ (r : Stepped). Some-on (once_for p m) r.state.world) (is_ejected s) (builtin_cycle s c p ran) (seek s c p ran) (keeps_builtin_cycle m on s c p ran l known runs h) (keeps_seek m on s c p ran l known runs h)
-
-  -- a whole cycle
-  pub keeps_cycle : (m : ℕ) (on : List (Option ℕ)) (s : State) (c : ℕ) (p : Option ℕ) (ran : Bool) → c < length on → IsKnown n p → get_or on c None ≡ p → I m None on s.world → Some-on (once_for p m) (cycle s c p ran).state.world
-  unfolding cycle
-  keeps_cycle m on s c p ran l known runs h =
-      let x = keeps_look m on (cycling s (Some c)) c p ran l known runs (k.cycling m None on s.world (Some c) h) in
-      (x.0, k.cycling (once_for p m) None x.0 (look (cycling s (Some c)) c p ran).state.world None x.1)

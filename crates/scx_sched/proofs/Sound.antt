@@ -12,7 +12,7 @@ use Rattle.scx_dsq.specs.Entries.{same_sort}
 use Rattle.scx_dsq.specs.declared.entries.Rank.{Rank}
 use Rattle.scx_dsq.specs.declared.entries.Rank.TheVariants.{Fifo, Vtime}
 use Rattle.scx_dsq.specs.declared.entries.Entry.{Entry}
-use Rattle.scx_dsq.specs.Laws.{one_if, standing}
+use Rattle.scx_dsq.specs.Laws.{one_if, standing, IsStamped}
 use Rattle.scx_dsq.proofs.Facts.{front_is_known, standing_pushed, standing_popped, standing_removed, tasks_pushed, tasks_without, tasks_removed, tasks_created, others_change_none}
 use Rattle.scx_weights.specs.Hierarchy as tree
 use Rattle.scx_semantics.specs.declared.callbacks.Callback.{Callback}
@@ -40,11 +40,11 @@ use Rattle.scx_world.specs.Helpers.{is_there, can_create, faulted, is_dispatch, 
 use Rattle.scx_sched.specs.Once.{runs, appearances, IsOnce, HasQueues, sort_of, IsSorted, IsAlike, IsOpen, IsSound, GoesSomewhere}
 use Rattle.scx_sched.specs.Kept.{IsWanted, ForAny, Nowhere, Inserted}
 use Rattle.scx_sched.proofs.Waiting.{waiting, waits_there, without_other, removed_other, same_waiting, waiting_pushed, waiting_left, front_waits_here, set_since, one_same, waits_sum, waits_by_sum, since_set, stored_since, given_since, renewed_since, waits_at_hand, waits_asleep, waits_on_cpu}
-use Rattle.scx_sched.proofs.Entering.{keeps_if, nowhere, sorted_pushed, sorted_popped, sorted_removed, own_open, alike_from, is_accepted, Stay, stay_pushed, stay_without, stay_removed, stay_created, queues_stay, open_without, open_removed, open_created, open_own, open_same, goes_on, local_sort, low_fits}
+use Rattle.scx_sched.proofs.Entering.{keeps_if, nowhere, sorted_pushed, sorted_popped, sorted_removed, stamped_pushed, stamped_popped, stamped_removed, stamped_created, own_open, alike_from, is_accepted, Stay, stay_pushed, stay_without, stay_removed, stay_created, queues_stay, open_without, open_removed, open_created, open_own, open_same, goes_on, local_sort, low_fits}
 
 -- ---- changes of queues, tasks and the callback at hand
 
-homes_set : (tasks : List Task) (t : ℕ) (x : Task) (k : ℕ) → x.prev_cpu < k → ((u : ℕ) → (get_or tasks u no_task).prev_cpu < k) → (u : ℕ) → (get_or (set tasks t x) u no_task).prev_cpu < k
+pub homes_set : (tasks : List Task) (t : ℕ) (x : Task) (k : ℕ) → x.prev_cpu < k → ((u : ℕ) → (get_or tasks u no_task).prev_cpu < k) → (u : ℕ) → (get_or (set tasks t x) u no_task).prev_cpu < k
 homes_set tasks t x k new old u = go (cases_eq u t) (cases_lt t (length tasks))
   where
     go : (u ≡ t) ⊎ (u ≡ t → ⊥) → (t < length tasks) ⊎ (length tasks ≤ t) → (get_or (set tasks t x) u no_task).prev_cpu < k
@@ -63,9 +63,9 @@ stored_home x RunNs n = refl
 
 module _ (hand : Option ℕ) (on : List (Option ℕ)) (n : ℕ) where
   -- other queues, in which each task stands as often
-  sound_queues : (w : WorldState) (s : QueueState) → Stay w.queues s → IsSorted s → task_count s ≡ task_count w.queues → ((u : ℕ) → standing s u ≡ standing w.queues u) → ((u : ℕ) → waiting s u ≡ waiting w.queues u) → GoesSomewhere s (length on) w.call.insert
+  sound_queues : (w : WorldState) (s : QueueState) → Stay w.queues s → IsSorted s → IsStamped s → task_count s ≡ task_count w.queues → ((u : ℕ) → standing s u ≡ standing w.queues u) → ((u : ℕ) → waiting s u ≡ waiting w.queues u) → GoesSomewhere s (length on) w.call.insert
       → IsSound hand on n w → IsSound hand on n (with_queues w s)
-  sound_queues w s stay sorted even same waits-same goes h = record {
+  sound_queues w s stay sorted stamped even same waits-same goes h = record {
     cpus = h.cpus;
     tasks = h.tasks;
     even = even ∙ h.even;
@@ -73,6 +73,7 @@ module _ (hand : Option ℕ) (on : List (Option ℕ)) (n : ℕ) where
     homes = h.homes;
     queues = queues_stay w.queues s (length on) stay h.queues;
     sorted = sorted;
+    stamped = stamped;
     once = λ u. omega (arith, same u, h.once u);
     here = h.here;
     goes = goes;
@@ -81,29 +82,29 @@ module _ (hand : Option ℕ) (on : List (Option ℕ)) (n : ℕ) where
   }
 
   sound_task : (w : WorldState) (t : ℕ) (x : Task) → x.prev_cpu ≡ (task_at w t).prev_cpu → x.since ≡ (task_at w t).since → IsSound hand on n w → IsSound hand on n (with_task w t x)
-  sound_task w t x home since h = record { cpus = h.cpus; tasks = length-set w.tasks t x ∙ h.tasks; even = h.even; flags = h.flags; homes = homes_set w.tasks t x (length on) (rw home (h.homes t)) h.homes; queues = h.queues; sorted = h.sorted; once = h.once; here = h.here; goes = h.goes; waiting = λ u. ap is_some (since_set w.tasks t x since u) ∙ h.waiting u; at_once = h.at_once }
+  sound_task w t x home since h = record { cpus = h.cpus; tasks = length-set w.tasks t x ∙ h.tasks; even = h.even; flags = h.flags; homes = homes_set w.tasks t x (length on) (rw home (h.homes t)) h.homes; queues = h.queues; sorted = h.sorted; stamped = h.stamped; once = h.once; here = h.here; goes = h.goes; waiting = λ u. ap is_some (since_set w.tasks t x since u) ∙ h.waiting u; at_once = h.at_once }
 
   -- notes that are handed on
   pub sound_quiet : (w : WorldState) → IsSound hand on n w → IsSound hand on n (quiet w)
-  sound_quiet w h = record { cpus = h.cpus; tasks = h.tasks; even = h.even; flags = h.flags; homes = h.homes; queues = h.queues; sorted = h.sorted; once = h.once; here = h.here; goes = h.goes; waiting = h.waiting; at_once = h.at_once }
+  sound_quiet w h = record { cpus = h.cpus; tasks = h.tasks; even = h.even; flags = h.flags; homes = h.homes; queues = h.queues; sorted = h.sorted; stamped = h.stamped; once = h.once; here = h.here; goes = h.goes; waiting = h.waiting; at_once = h.at_once }
 
   -- a cycle that begins or ends
   pub sound_cycling : (w : WorldState) (o : Option ℕ) → IsSound hand on n w → IsSound hand on n (with_cycling w o)
-  sound_cycling w o h = record { cpus = h.cpus; tasks = h.tasks; even = h.even; flags = h.flags; homes = h.homes; queues = h.queues; sorted = h.sorted; once = h.once; here = h.here; goes = h.goes; waiting = h.waiting; at_once = h.at_once }
+  sound_cycling w o h = record { cpus = h.cpus; tasks = h.tasks; even = h.even; flags = h.flags; homes = h.homes; queues = h.queues; sorted = h.sorted; stamped = h.stamped; once = h.once; here = h.here; goes = h.goes; waiting = h.waiting; at_once = h.at_once }
 
   entry_created : (s : QueueState) (q u : ℕ) → entry_of (created s q) u ≡ entry_of s u
   entry_created s q u = keeps_if (λ (x : QueueState). entry_of x u ≡ entry_of s u) (is_none (create_refusal s q)) (with_queue s q) s refl refl
 
   sound_created : (w : WorldState) (q : ℕ) → IsSound hand on n w → IsSound hand on n (with_queues w (created w.queues q))
   sound_created w q h =
-      sound_queues w (created w.queues q) (stay_created w.queues q) (keeps_if IsSorted (is_none (create_refusal w.queues q)) (with_queue w.queues q) w.queues h.sorted h.sorted) (tasks_created w.queues q) (λ u. others_change_none.queue w.queues q u) (λ u. same_waiting w.queues (created w.queues q) u (entry_created w.queues q u))
+      sound_queues w (created w.queues q) (stay_created w.queues q) (keeps_if IsSorted (is_none (create_refusal w.queues q)) (with_queue w.queues q) w.queues h.sorted h.sorted) (stamped_created w.queues q h.stamped) (tasks_created w.queues q) (λ u. others_change_none.queue w.queues q u) (λ u. same_waiting w.queues (created w.queues q) u (entry_created w.queues q u))
       (goes_on w.queues (created w.queues q) (length on) w.call.insert (λ x r o. open_created w.queues q x r o) h.goes) h
 
 -- from one queue to another
 pub left_place : (s : QueueState) (q t : ℕ) → front_of s q ≡ Some t → entry_of (popped s q) t ≡ None
 left_place s q t e = rw e (get_or-set_same {A = Option Entry} s.entries t None None (front_is_known s q (Some t) (sym e)))
 
-popped_other : (s : QueueState) (q t u : ℕ) → front_of s q ≡ Some t → (u ≡ t → ⊥) → entry_of (popped s q) u ≡ entry_of s u
+pub popped_other : (s : QueueState) (q t u : ℕ) → front_of s q ≡ Some t → (u ≡ t → ⊥) → entry_of (popped s q) u ≡ entry_of s u
 popped_other s q t u e other = rw e (without_other s t u other)
 
 sound_brought : (hand : Option ℕ) (on : List (Option ℕ)) (n : ℕ) (w : WorldState) (o : Option ℕ) (q r : ℕ) → front_of w.queues q ≡ o → exists w.queues r ≡ true → policy_end ≤ r → same_sort Fifo (sort_of r) ≡ true → (q == parked) ≡ false → (r == parked) ≡ false
@@ -116,7 +117,7 @@ sound_brought hand on n w o q r front there own fits apart apart-there h t e =
     let ok : push_refusal (popped s q) r t Fifo ≡ None = is_accepted (popped s q) t r Fifo (left_place s q t is) ready in
     let known' : t < task_count (popped s q) = rw (tasks_without s (front_of s q)) known in
     sound_queues hand on n w (pushed (popped s q) r t Fifo) (λ x g. stay_pushed (popped s q) r t Fifo x (stay_without s (front_of s q) x g))
-    (sorted_pushed (popped s q) r t Fifo ready.fits (sorted_popped s q h.sorted)) (tasks_pushed (popped s q) r t Fifo ∙ tasks_without s (front_of s q))
+    (sorted_pushed (popped s q) r t Fifo ready.fits (sorted_popped s q h.sorted)) (stamped_pushed (popped s q) r t Fifo (stamped_popped s q h.stamped)) (tasks_pushed (popped s q) r t Fifo ∙ tasks_without s (front_of s q))
     (λ u. omega (arith, standing_pushed (popped s q) r t u Fifo known' ok, standing_popped s q t u is))
     (λ u. omega (arith, waiting_pushed (popped s q) r t u Fifo known' ok (left_place s q t is) apart-there, waiting_left s (popped s q) t u (front_waits_here s q t is apart) (left_place s q t is) (λ k d. popped_other s q t k is d)))
     (goes_on s (pushed (popped s q) r t Fifo) (length on) w.call.insert (λ x k o. open_own (popped s q) r t Fifo x k own fits (open_without s (front_of s q) x k o)) h.goes) h
@@ -202,7 +203,7 @@ fit_open on hand n w t i c l fit h =
     open_at w i.queue c i.rank all h.sorted here fit.queue x.0 x.1
 
 -- no callback may name the queue of parked tasks
-fit_apart : (w : WorldState) (q c : ℕ) → queue_fault w q ≡ None → (resolved c q == parked) ≡ false
+pub fit_apart : (w : WorldState) (q c : ℕ) → queue_fault w q ≡ None → (resolved c q == parked) ≡ false
 fit_apart w q c e = go (cases_eq q parked)
   where
     go : (q ≡ parked) ⊎ (q ≡ parked → ⊥) → (resolved c q == parked) ≡ false
@@ -251,7 +252,7 @@ inside n w t within e = let l : t < length w.tasks = rw e within in grind (arith
 
 module _ (hand : Option ℕ) (on : List (Option ℕ)) (n : ℕ) where
   sound_faulted : (w : WorldState) (f : Fault) → IsSound hand on n w → IsSound hand on n (faulted w f)
-  sound_faulted w f h = record { cpus = h.cpus; tasks = h.tasks; even = h.even; flags = h.flags; homes = h.homes; queues = h.queues; sorted = h.sorted; once = h.once; here = h.here; goes = h.goes; waiting = h.waiting; at_once = h.at_once }
+  sound_faulted w f h = record { cpus = h.cpus; tasks = h.tasks; even = h.even; flags = h.flags; homes = h.homes; queues = h.queues; sorted = h.sorted; stamped = h.stamped; once = h.once; here = h.here; goes = h.goes; waiting = h.waiting; at_once = h.at_once }
 
   -- a task goes from one queue to another
   sound_replaced : (w : WorldState) (t q : ℕ) (r : Rank) (x : Task) → x.prev_cpu ≡ (task_at w t).prev_cpu → x.since ≡ (task_at w t).since → waits_in (queue_of w.queues t) ≡ true → t < task_count w.queues → entry_of (removed w.queues t) t ≡ None → IsOpen w.queues q r → (q == parked) ≡ false
@@ -275,7 +276,7 @@ module _ (hand : Option ℕ) (on : List (Option ℕ)) (n : ℕ) where
 
       moved-now : IsSound hand on n (with_queues w s')
       moved-now =
-          sound_queues hand on n w s' (λ y g. stay_pushed s q t r y (stay_removed w.queues t y g)) (sorted_pushed s q t r ready'.fits (sorted_removed w.queues t h.sorted)) (tasks_pushed s q t r ∙ tasks_removed w.queues t)
+          sound_queues hand on n w s' (λ y g. stay_pushed s q t r y (stay_removed w.queues t y g)) (sorted_pushed s q t r ready'.fits (sorted_removed w.queues t h.sorted)) (stamped_pushed s q t r (stamped_removed w.queues t h.stamped)) (tasks_pushed s q t r ∙ tasks_removed w.queues t)
           (λ u. omega (arith, standing_pushed s q t u r known' ok, standing_removed w.queues t u (waits_there w.queues t waits-here)))
           (λ u. omega (arith, waiting_pushed s q t u r known' ok free apart, waiting_left w.queues s t u (ap one_if waits-here) free (λ k d. removed_other w.queues t k d))) goes h
 
@@ -288,7 +289,7 @@ module _ (hand : Option ℕ) (on : List (Option ℕ)) (n : ℕ) where
 
   -- what isn't of queues or tasks
   sound_moving : (w : WorldState) (x : What) → IsSound hand on n w → IsSound hand on n (noted (with_move w) x)
-  sound_moving w x h = record { cpus = h.cpus; tasks = h.tasks; even = h.even; flags = h.flags; homes = h.homes; queues = h.queues; sorted = h.sorted; once = h.once; here = h.here; goes = h.goes; waiting = h.waiting; at_once = h.at_once }
+  sound_moving w x h = record { cpus = h.cpus; tasks = h.tasks; even = h.even; flags = h.flags; homes = h.homes; queues = h.queues; sorted = h.sorted; stamped = h.stamped; once = h.once; here = h.here; goes = h.goes; waiting = h.waiting; at_once = h.at_once }
 
   sound_inserted : (w : WorldState) (o : Option Fault) (t : Option ℕ) (i : Insert) → (o ≡ None → IsFit w t i) → IsSound hand on n w → IsSound hand on n (inserted w o t i)
   sound_inserted w None t i fine h = go (is_dispatch w.call.callback) refl t (fine refl)
@@ -298,7 +299,7 @@ module _ (hand : Option ℕ) (on : List (Option ℕ)) (n : ℕ) where
       go true x (Some u) fit =
           sound_moving (entered (gone w u) u (for_cpu w.call.cpu i)) _
           (sound_released w u (resolved w.call.cpu i.queue) i (h.at_once x) (held_waits w u (held_in_dispatch w (Some u) x fit.may)) (fit_open on hand n w (Some u) i w.call.cpu h.here fit h) (fit_apart w i.queue w.call.cpu fit.queue) h)
-      go false x u fit = record { cpus = h.cpus; tasks = h.tasks; even = h.even; flags = h.flags; homes = h.homes; queues = h.queues; sorted = h.sorted; once = h.once; here = h.here; goes = λ c l. (fit_open on hand n w u i c l fit h, fit_apart w i.queue c fit.queue); waiting = h.waiting; at_once = λ y. absurd (cc (sym x ∙ y)) }
+      go false x u fit = record { cpus = h.cpus; tasks = h.tasks; even = h.even; flags = h.flags; homes = h.homes; queues = h.queues; sorted = h.sorted; stamped = h.stamped; once = h.once; here = h.here; goes = λ c l. (fit_open on hand n w u i c l fit h, fit_apart w i.queue c fit.queue); waiting = h.waiting; at_once = λ y. absurd (cc (sym x ∙ y)) }
   sound_inserted w (Some f) t i fine h = sound_faulted w f h
 
   sound_moved : (w : WorldState) (o : Option ℕ) (q : ℕ) → front_of w.queues q ≡ o → (q == parked) ≡ false → IsSound hand on n w → IsSound hand on n (moved w o q)
@@ -335,11 +336,11 @@ module _ (hand : Option ℕ) (on : List (Option ℕ)) (n : ℕ) where
 
   -- a callback that begins
   pub sound_begun : (w : WorldState) (b : Callback) (t c : ℕ) → c < length on → IsSound hand on n w → IsSound hand on n (begun w b t c)
-  sound_begun w b t c l h = record { cpus = h.cpus; tasks = h.tasks; even = h.even; flags = h.flags; homes = h.homes; queues = h.queues; sorted = h.sorted; once = h.once; here = l; goes = tt; waiting = h.waiting; at_once = λ e. refl }
+  sound_begun w b t c l h = record { cpus = h.cpus; tasks = h.tasks; even = h.even; flags = h.flags; homes = h.homes; queues = h.queues; sorted = h.sorted; stamped = h.stamped; once = h.once; here = l; goes = tt; waiting = h.waiting; at_once = λ e. refl }
 
 -- ---- the task at hand comes to wait
 
-once_pushed : (w : WorldState) (t q : ℕ) (r : Rank) → t < task_count w.queues → push_refusal w.queues q t r ≡ None → IsOnce (Some t) w → IsOnce None (with_queues w (pushed w.queues q t r))
+pub once_pushed : (w : WorldState) (t q : ℕ) (r : Rank) → t < task_count w.queues → push_refusal w.queues q t r ≡ None → IsOnce (Some t) w → IsOnce None (with_queues w (pushed w.queues q t r))
 once_pushed w t q r within ok once u = omega (arith, once u, standing_pushed w.queues q t u r within ok)
 
 renewed_home : (x : Task) → (renewed x).prev_cpu ≡ x.prev_cpu
@@ -360,6 +361,7 @@ module _ (on : List (Option ℕ)) (n : ℕ) where
         homes = homes_set w.tasks t x (length on) (rw home (h.homes t)) h.homes;
         queues = queues_stay w.queues (pushed w.queues q t r) (length on) (stay_pushed w.queues q t r) h.queues;
         sorted = sorted_pushed w.queues q t r ready.fits h.sorted;
+        stamped = stamped_pushed w.queues q t r h.stamped;
         once = once_pushed w t q r known ok h.once;
         here = h.here;
         goes = goes;
@@ -381,7 +383,7 @@ module _ (on : List (Option ℕ)) (n : ℕ) where
   pub said_open : (w : WorldState) (c : ℕ) (said : Insert) → c < length on → w.call.insert ≡ Some said → GoesSomewhere w.queues (length on) w.call.insert → IsOpen w.queues (resolved c said.queue) said.rank
   said_open w c said l e goes = (subst (λ (o : Option Insert). GoesSomewhere w.queues (length on) o) e goes c l).0
 
-  said_apart : (w : WorldState) (c : ℕ) (said : Insert) → c < length on → w.call.insert ≡ Some said → GoesSomewhere w.queues (length on) w.call.insert → (resolved c said.queue == parked) ≡ false
+  pub said_apart : (w : WorldState) (c : ℕ) (said : Insert) → c < length on → w.call.insert ≡ Some said → GoesSomewhere w.queues (length on) w.call.insert → (resolved c said.queue == parked) ≡ false
   said_apart w c said l e goes = (subst (λ (o : Option Insert). GoesSomewhere w.queues (length on) o) e goes c l).1
 
   sound_enters_said : (w : WorldState) (t c : ℕ) (said : Insert) → t < n → c < length on → w.call.insert ≡ Some said → IsSound (Some t) on n w → IsSound None on n (entered w t (for_cpu c said))
@@ -424,11 +426,11 @@ module _ (on : List (Option ℕ)) (n : ℕ) where
 
   -- a clock that goes on
   pub sound_later : (w : WorldState) → IsSound None on n w → IsSound None on n (later w)
-  sound_later w h = record { cpus = h.cpus; tasks = h.tasks; even = h.even; flags = h.flags; homes = h.homes; queues = h.queues; sorted = h.sorted; once = h.once; here = h.here; goes = h.goes; waiting = h.waiting; at_once = h.at_once }
+  sound_later w h = record { cpus = h.cpus; tasks = h.tasks; even = h.even; flags = h.flags; homes = h.homes; queues = h.queues; sorted = h.sorted; stamped = h.stamped; once = h.once; here = h.here; goes = h.goes; waiting = h.waiting; at_once = h.at_once }
 
   -- a weight
   pub sound_with_weight : (w : WorldState) (g x : ℕ) → IsSound None on n w → IsSound None on n (with_tree w (tree.with_weight w.tree g x))
-  sound_with_weight w g x h = record { cpus = h.cpus; tasks = h.tasks; even = h.even; flags = h.flags; homes = h.homes; queues = h.queues; sorted = h.sorted; once = h.once; here = h.here; goes = h.goes; waiting = h.waiting; at_once = h.at_once }
+  sound_with_weight w g x h = record { cpus = h.cpus; tasks = h.tasks; even = h.even; flags = h.flags; homes = h.homes; queues = h.queues; sorted = h.sorted; stamped = h.stamped; once = h.once; here = h.here; goes = h.goes; waiting = h.waiting; at_once = h.at_once }
 
   -- who leaves its processor is in no place
   pub sound_stopped : (w : WorldState) (c t : ℕ) → c < length on → t < n → get_or on c None ≡ Some t → IsSound None on n w → IsSound (Some t) (set on c None) n (stopped w c t)
@@ -440,6 +442,7 @@ module _ (on : List (Option ℕ)) (n : ℕ) where
     homes = rw (length-set on c None) (homes_set w.tasks t _ (length on) (h.homes t) h.homes);
     queues = subst (λ k. HasQueues w.queues k) (sym (length-set on c None)) h.queues;
     sorted = h.sorted;
+    stamped = h.stamped;
     once = λ u. omega (arith, h.once u, here u, sum_by-set (λ o. one_if (is_this u o)) w.cpus c None None l');
     here = rw (length-set on c None) h.here;
     goes = subst (λ k. GoesSomewhere w.queues k w.call.insert) (sym (length-set on c None)) h.goes;
@@ -463,6 +466,7 @@ module _ (on : List (Option ℕ)) (n : ℕ) where
     homes = rw same (homes_set w.tasks t _ (length on) l h.homes);
     queues = queues_stay w.queues (popped w.queues (local_on c)) (length (set on c (Some t))) (stay_without w.queues (front_of w.queues (local_on c))) (subst (λ k. HasQueues w.queues k) (sym same) h.queues);
     sorted = sorted_popped w.queues (local_on c) h.sorted;
+    stamped = stamped_popped w.queues (local_on c) h.stamped;
     once = λ u. omega (arith, h.once u, ap (λ o. one_if (is_this u o)) free', sum_by-set (λ o. one_if (is_this u o)) w.cpus c (Some t) None l', standing_popped w.queues (local_on c) t u e);
     here = rw same h.here;
     goes = subst (λ k. GoesSomewhere (popped w.queues (local_on c)) k w.call.insert) (sym same) (goes_on w.queues (popped w.queues (local_on c)) (length on) w.call.insert (λ x k o. open_without w.queues (front_of w.queues (local_on c)) x k o) h.goes);
@@ -523,6 +527,7 @@ module _ (on : List (Option ℕ)) (n : ℕ) where
     homes = homes_set w.tasks t _ (length on) (h.homes t) h.homes;
     queues = h.queues;
     sorted = h.sorted;
+    stamped = h.stamped;
     once = once_woken w t (rw h.flags within) asleep h.once;
     here = h.here;
     goes = h.goes;
@@ -554,6 +559,7 @@ module _ (on : List (Option ℕ)) (n : ℕ) where
     homes = homes_set w.tasks t _ (length on) (h.homes t) h.homes;
     queues = h.queues;
     sorted = h.sorted;
+    stamped = h.stamped;
     once = once_asleep w t (rw h.flags within) h.once;
     here = h.here;
     goes = h.goes;
@@ -571,6 +577,7 @@ module _ (on : List (Option ℕ)) (n : ℕ) where
     homes = homes_set w.tasks t _ (length on) (h.homes t) h.homes;
     queues = queues_stay w.queues (removed w.queues t) (length on) (stay_removed w.queues t) h.queues;
     sorted = sorted_removed w.queues t h.sorted;
+    stamped = stamped_removed w.queues t h.stamped;
     once = once_asleep (gone w t) t (rw h.flags within) (λ u. omega (arith, h.once u, standing_removed w.queues t u stands));
     here = h.here;
     goes = goes_on w.queues (removed w.queues t) (length on) w.call.insert (λ x k o. open_removed w.queues t x k o) h.goes;
@@ -604,7 +611,7 @@ waits_known s t e = go (cases_lt t (task_count s))
 module _ (hand : Option ℕ) (on : List (Option ℕ)) (n : ℕ) where
   -- what the callback at hand wanted is forgotten
   pub sound_put_out : (w : WorldState) (x : Eject) → IsSound hand on n w → IsSound hand on n (put_out w x)
-  sound_put_out w x h = record { cpus = h.cpus; tasks = h.tasks; even = h.even; flags = h.flags; homes = h.homes; queues = h.queues; sorted = h.sorted; once = h.once; here = h.here; goes = tt; waiting = h.waiting; at_once = λ e. refl }
+  sound_put_out w x h = record { cpus = h.cpus; tasks = h.tasks; even = h.even; flags = h.flags; homes = h.homes; queues = h.queues; sorted = h.sorted; stamped = h.stamped; once = h.once; here = h.here; goes = tt; waiting = h.waiting; at_once = λ e. refl }
 
   -- a task that waits goes over
   pub sound_evict : (w : WorldState) (t : ℕ) → t < n → IsSound hand on n w → IsSound hand on n (evict w t)
@@ -630,7 +637,7 @@ module _ (hand : Option ℕ) (on : List (Option ℕ)) (n : ℕ) where
 
   -- the clock of the built-in scheduler
   pub sound_overtaken : (w : WorldState) (t : ℕ) → IsSound hand on n w → IsSound hand on n (overtaken w t)
-  sound_overtaken w t h = record { cpus = h.cpus; tasks = h.tasks; even = h.even; flags = h.flags; homes = h.homes; queues = h.queues; sorted = h.sorted; once = h.once; here = h.here; goes = h.goes; waiting = h.waiting; at_once = h.at_once }
+  sound_overtaken w t h = record { cpus = h.cpus; tasks = h.tasks; even = h.even; flags = h.flags; homes = h.homes; queues = h.queues; sorted = h.sorted; stamped = h.stamped; once = h.once; here = h.here; goes = h.goes; waiting = h.waiting; at_once = h.at_once }
 
   -- its times
   pub sound_charged : (w : WorldState) (t : ℕ) → IsSound hand on n w → IsSound hand on n (charged w t)

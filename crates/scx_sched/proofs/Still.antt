@@ -1,17 +1,20 @@
 -- Between two events no cycle is under way.
-use Rattle.std.proofs.Common.{◌≡◌, ℕ, Bool, ◌==◌, true, false, nat_lt, length, Option, Some, None, is_none, Ok, refl, ◌∙◌}
+use Rattle.std.proofs.Common.{◌≡◌, ℕ, zero, suc, Bool, ◌==◌, true, false, nat_lt, length, Option, Some, None, is_none, Ok, refl, ◌∙◌}
+use Rattle.scx_dsq.specs.Queues.{len_of, front_of, behind_of}
 use Rattle.scx_semantics.specs.declared.callbacks.Callback.{Callback}
 use Rattle.scx_semantics.specs.declared.callbacks.Callback.TheVariants as callback
 use Rattle.scx_semantics.specs.Elements.{Maps}
 use Rattle.scx_safety.specs.Programs.{VerifiedProgram}
 use Rattle.scx_vm.specs.declared.arguments.Args.{Args}
 use Rattle.scx_weights.specs.Hierarchy.{Hierarchy, with_weight}
+use Rattle.scx_weights.specs.Limits.{with_use}
 use Rattle.scx_weights.specs.Refusals.{weight_fault}
 use Rattle.scx_world.specs.declared.call.Insert.{Insert}
 use Rattle.scx_world.specs.declared.faults.Fault.{Fault}
 use Rattle.scx_world.specs.declared.eject.Eject.{Eject}
-use Rattle.scx_world.specs.World.{WorldState, with_tree, task_at, running, cpu_of, is_idle, begun}
-use Rattle.scx_world.specs.Tasks.{woken, gone, entered, for_cpu, ticked, later}
+use Rattle.scx_world.specs.Ids.{parked}
+use Rattle.scx_world.specs.World.{WorldState, with_tree, task_at, is_throttled, running, cpu_of, is_idle, begun}
+use Rattle.scx_world.specs.Tasks.{woken, gone, entered, for_cpu, let_go, ticked, used_ms, later, begun_periods}
 use Rattle.scx_world.specs.Ejecting.{put_builtin}
 use Rattle.scx_machine.specs.declared.events.Event.{Event}
 use Rattle.scx_machine.specs.declared.events.Event.TheVariants.{Wake, Sleep, Tick, Clock, SetWeight}
@@ -20,8 +23,9 @@ use Rattle.scx_machine.specs.Steps.{State, Stepped, joined, stays, with_world, i
 use Rattle.scx_machine.specs.Ejecting.{eject, ejected_for}
 use Rattle.scx_machine.specs.Callbacks.{called, acting, fault_of, call_back, answered_by, ended, task_cpu_and_0, task_and_number}
 use Rattle.scx_machine.specs.Put.{enters, wanted, enters_builtin, comes_in, put}
+use Rattle.scx_machine.specs.Parking.{let_go_one, let_go_from, let_all_go}
 use Rattle.scx_machine.specs.Cycle.{cycle}
-use Rattle.scx_machine.specs.Events.{target, settled, settle, select, wake, sleep_from_cpu, sleep_from, sleep, count_down, tick_of, tick, overdue, stalled, clock, happened}
+use Rattle.scx_machine.specs.Events.{target, settled, settle, select, wake, sleep_from_cpu, sleep_from, sleep, throttle, expire, count_down, tick_of, tick, overdue, stalled, clock, happened}
 use Rattle.scx_machine.specs.Start.{started}
 use Rattle.scx_sched.proofs.Entering.{keeps_if}
 use Rattle.scx_sched.proofs.Unchanged.{same_called, eject_sets}
@@ -102,22 +106,38 @@ still_sleep s t h = go (cpu_of s.world t)
     go (Some c) = cycle_ends _ c None true
 
 still_tick : (s : State) (c : ℕ) → IsStill s.world → IsStill (tick s c).state.world
-unfolding tick count_down
+unfolding tick count_down throttle expire
 still_tick s c h = go (running s.world c)
   where
     go : (o : Option ℕ) → IsStill (tick_of o s c).state.world
     go None = cycle_ends s c None false
     go (Some t) =
-        let v = with_world s (ticked s.world t) in
-        keeps_if (λ (r : Stepped). IsStill r.state.world) ((task_at v.world t).slice == 0) (cycle v c (Some t) true) (stays v) (cycle_ends v c (Some t) true) h
+        let v = with_world s (used_ms (ticked s.world t) t) in
+        let x = ticked s.world t in
+        let now : IsStill v.world = keeps_if IsStill (nat_lt t (length x.tasks)) (with_tree x (with_use x.tree t)) x h h in
+        keeps_if (λ (r : Stepped). IsStill r.state.world) (is_throttled v.world t) (throttle v c t) (expire v c t) (cycle_ends _ c None true)
+        (keeps_if (λ (r : Stepped). IsStill r.state.world) ((task_at v.world t).slice == 0) (cycle v c (Some t) true) (stays v) (cycle_ends v c (Some t) true) now)
 
 still_stalled : (o : Option ℕ) (s : State) → IsStill s.world → IsStill (stalled o s).state.world
 still_stalled None s h = h
 still_stalled (Some t) s h = still_eject s _ h
 
+still_let_go : (j : ℕ) (s : State) (at : Option ℕ) → IsStill s.world → IsStill (let_go_from j s at).state.world
+unfolding let_go_from let_go_one
+still_let_go zero s at h = h
+still_let_go (suc j) s None h = h
+still_let_go (suc j) s (Some t) h =
+    let next = behind_of s.world.queues t in
+    let r = let_go_one s t in
+    keeps_if (λ (x : Stepped). IsStill x.state.world) (is_throttled s.world t) (let_go_from j s next) (joined r (let_go_from j r.state next)) (still_let_go j s next h)
+    (still_let_go j r.state next (still_put (with_world s (let_go s.world t)) t (task_at s.world t).prev_cpu 0 h))
+
 still_clock : (s : State) → IsStill s.world → IsStill (clock s).state.world
-unfolding clock
-still_clock s h = let v = with_world s (later s.world) in still_stalled (overdue v) v h
+unfolding clock let_all_go
+still_clock s h =
+    let v = with_world s (begun_periods (later s.world)) in
+    let r = (let_all_go v).state in
+    still_stalled (overdue r) r (still_let_go (len_of v.world.queues parked) v (front_of v.world.queues parked) h)
 
 -- after an event
 pub still_step : (s : State) (v : Event) → IsStill s.world → IsStill (happened s v).state.world

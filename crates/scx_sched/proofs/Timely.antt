@@ -20,7 +20,7 @@ use Rattle.scx_tasks.specs.declared.task.Task.{Task}
 use Rattle.scx_tasks.specs.Tasks.{no_task}
 use Rattle.scx_tasks.specs.Waits.{time_since, is_late, is_overdue}
 use Rattle.scx_world.specs.World.{WorldState, with_queues, with_task, task_at, waits, wait}
-use Rattle.scx_world.specs.Tasks.{woken, ran_a_tick, ticked, given, gone, entered, for_cpu, brought, fill_front, renewed}
+use Rattle.scx_world.specs.Tasks.{woken, stopped, let_go, ran_a_tick, ticked, given, gone, entered, for_cpu, brought, fill_front, renewed}
 use Rattle.scx_world.specs.Helpers.{is_there, can_create, faulted, is_dispatch, insert_fault, with_insert, released, inserted, asked, asked_by_vtime, can_move, moved, given_number, given_task, helper_after, stored_in, world_functions}
 use Rattle.scx_world.specs.Waits.{first_overdue}
 use Rattle.scx_world.specs.Ejecting.{put_builtin}
@@ -102,6 +102,12 @@ module _ (limit n : ℕ) where
   pub time_ticked : (w : WorldState) (t : ℕ) → AreInTime limit n w → AreInTime limit n (ticked w t)
   time_ticked w t h = time_same w t (ran_a_tick (task_at w t)) refl h
 
+  pub time_let_go : (w : WorldState) (t : ℕ) → AreInTime limit n w → AreInTime limit n (let_go w t)
+  time_let_go w t h = time_set w t _ (λ force. now_since w.clock limit) h
+
+  pub time_stopped : (w : WorldState) (c t : ℕ) → AreInTime limit n w → AreInTime limit n (stopped w c t)
+  time_stopped w c t h = time_set w t _ (λ force. now_since w.clock limit) h
+
   -- ---- an ejection, after which nothing is said
 
   time_put_builtin : (w : WorldState) (t : ℕ) → AreInTime limit n w → AreInTime limit n (put_builtin w t)
@@ -118,7 +124,9 @@ time_steps limit n = record {
   entered = λ m on w t i l x h. time_entered limit n w t i h;
   filled = λ m on w q c apart l h. time_brought limit n (fill_front w q c) w q c h;
   stopped = λ m on w c t l within runs h. time_set limit n w t _ (λ force. now_since w.clock limit) h;
-  started = λ m on w c t l free front h. time_set limit n w t _ (λ force. none_since w.clock limit) h;
+  started = λ m on w c t l free front may h. time_set limit n w t _ (λ force. none_since w.clock limit) h;
+  put_parked = λ m on w t l may-not h. keeps_if (AreInTime limit n) (nat_lt t (length w.tasks)) _ w (time_set limit n w t _ (λ force. none_since w.clock limit) h) h;
+  taken = λ m on w q t apart front h. h;
   kept = λ m on w t h. time_same limit n w t (renewed (task_at w t)) (renewed_since (task_at w t)) h;
   asleep = λ m on w t l h. keeps_if (AreInTime limit n) (nat_lt t (length w.tasks)) _ w (time_set limit n w t _ (λ force. none_since w.clock limit) h) h;
   put_out = λ m hand on w x h. (h.0, λ force. absurd (cc));

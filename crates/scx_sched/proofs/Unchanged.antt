@@ -21,7 +21,7 @@ use Rattle.scx_world.specs.declared.faults.Fault.{Fault}
 use Rattle.scx_world.specs.declared.faults.Fault.TheVariants.{NoSuchQueue, NoSuchCpu, CannotCreate}
 use Rattle.scx_world.specs.declared.eject.Eject.{Eject}
 use Rattle.scx_world.specs.World.{WorldState, with_queues, waits, running}
-use Rattle.scx_world.specs.Tasks.{gone, entered, for_cpu, brought, kept, asleep}
+use Rattle.scx_world.specs.Tasks.{gone, entered, for_cpu, brought, kept, put_parked, asleep}
 use Rattle.scx_world.specs.Ejecting.{put_out, put_builtin, evicted, cut, cut_task}
 use Rattle.scx_world.specs.Helpers.{is_there, can_create, faulted, is_dispatch, insert_fault, with_insert, released, inserted, asked, asked_by_vtime, can_move, moved, given_number, given_task, helper_after, world_functions}
 use Rattle.scx_machine.specs.Steps.{State}
@@ -70,6 +70,9 @@ module _ (v : WorldState) where
 
   pub same_put_builtin : (w : WorldState) (t : ℕ) → IsAsBefore v w → IsAsBefore v (put_builtin w t)
   same_put_builtin w t h = keeps_if (IsAsBefore v) (nat_lt t (length w.tasks)) _ w h h
+
+  pub same_put_parked : (w : WorldState) (t : ℕ) → IsAsBefore v w → IsAsBefore v (put_parked w t)
+  same_put_parked w t h = keeps_if (IsAsBefore v) (nat_lt t (length w.tasks)) _ w h h
 
   same_evicted : (j : ℕ) (w : WorldState) → IsAsBefore v w → IsAsBefore v (evicted j w)
   same_evicted zero w h = h

@@ -1,19 +1,20 @@
 -- What holds between two events holds at first, and after each accepted event.
-use Rattle.std.proofs.Common.{◌≡◌, ℕ, ◌+◌, ◌<◌, ◌≤◌, ◌^◌, Bool, true, false, ◌==◌, length, Option, Some, None, Ok, refl, sym, subst, arith, if◌then◌else◌}
+use Rattle.std.proofs.Common.{◌≡◌, ℕ, ◌+◌, ◌<◌, ◌≤◌, ◌^◌, Bool, true, false, ◌==◌, length, Option, Some, None, Ok, refl, sym, ◌∙◌, subst, arith, if◌then◌else◌}
 use Rattle.std.proofs.lemmas.Bool.Decides.{nat_tests}
 use Rattle.scx_weights.specs.Hierarchy.{Hierarchy}
 use Rattle.scx_world.specs.World.{WorldState}
-use Rattle.scx_world.specs.Tasks.{later}
+use Rattle.scx_world.specs.Tasks.{later, begun_periods}
 use Rattle.scx_machine.specs.declared.events.Event.{Event}
 use Rattle.scx_machine.specs.declared.events.Event.TheVariants.{Wake, Sleep, Tick, Clock, SetWeight}
 use Rattle.scx_machine.specs.declared.events.Refused.TheVariants.{RunOver}
 use Rattle.scx_machine.specs.Policy.{PolicyState, AreAs}
 use Rattle.scx_machine.specs.Steps.{State, with_world}
+use Rattle.scx_machine.specs.Parking.{let_all_go}
 use Rattle.scx_machine.specs.Events as machine
 use Rattle.scx_machine.specs.Start.{is_bad_shape, started}
 use Rattle.scx_sched.specs.Ranges.{IsFine}
 use Rattle.scx_sched.specs.Sim.{SimState, max_events, refusal, IsValid}
-use Rattle.scx_sched.proofs.Blaming.{honest_wake, honest_sleep, honest_tick, eject_policy}
+use Rattle.scx_sched.proofs.Blaming.{honest_wake, honest_sleep, honest_tick, honest_let_all_go, eject_policy}
 use Rattle.scx_sched.proofs.Events.{fine_step}
 use Rattle.scx_sched.proofs.First.{fine_started, time_started, policy_started}
 use Rattle.scx_sched.proofs.Timely.{IsInTime}
@@ -52,14 +53,17 @@ accepted s v e = go (s.events == max_events) refl e
 
 policy_clock : (s : State) → (machine.clock s).state.policy ≡ s.policy
 unfolding machine.clock
-policy_clock s = go (machine.overdue v)
+policy_clock s = go (machine.overdue r) ∙ (honest_let_all_go v).policy
   where
     v : State
-    v = with_world s (later s.world)
+    v = with_world s (begun_periods (later s.world))
 
-    go : (o : Option ℕ) → (machine.stalled o v).state.policy ≡ s.policy
+    r : State
+    r = (let_all_go v).state
+
+    go : (o : Option ℕ) → (machine.stalled o r).state.policy ≡ r.policy
     go None = refl
-    go (Some t) = eject_policy v _
+    go (Some t) = eject_policy r _
 
 policy_stays : (s : State) (v : Event) → 0 < length s.world.cpus → (machine.happened s v).state.policy ≡ s.policy
 policy_stays s (Wake t) some = (honest_wake s t some).policy
@@ -69,7 +73,7 @@ policy_stays s Clock some = policy_clock s
 policy_stays s (SetWeight g x) some = refl
 
 -- after each
-pub valid_step : (s : State) (n : ℕ) (v : Event) → refusal (record { state = s; events = n }) v ≡ None → IsValid s n → (machine.happened s v).state.world.queues.pushes ≤ s.world.queues.pushes + 2 ^ 18 → IsValid (machine.happened s v).state (n + 1)
+pub valid_step : (s : State) (n : ℕ) (v : Event) → refusal (record { state = s; events = n }) v ≡ None → IsValid s n → (machine.happened s v).state.world.queues.pushes ≤ s.world.queues.pushes + 2 ^ 19 → IsValid (machine.happened s v).state (n + 1)
 valid_step s n v e h few =
     let a = accepted (record { state = s; events = n }) v e in
     let t = (machine.happened s v).state in

@@ -1,24 +1,27 @@
 -- The watchdog: while a policy is in force no event lets a task wait longer than the policy may.
-use Rattle.std.proofs.Common.{◌≡◌, ℕ, ◌+◌, ◌≤◌, List, length, Option, Some, None, is_some, is_none, if◌then◌else◌, refl, sym, subst, arith}
+use Rattle.std.proofs.Common.{◌≡◌, ℕ, ◌+◌, ◌<◌, ◌≤◌, List, length, get_or, Option, Some, None, is_some, is_none, nat_lt, if◌then◌else◌, refl, sym, ap, ◌∙◌, subst, arith}
 use Rattle.scx_weights.specs.Hierarchy.{with_weight}
+use Rattle.scx_weights.specs.Limits.{with_use}
 use Rattle.scx_weights.specs.Refusals.{weight_fault}
 use Rattle.scx_world.specs.declared.eject.Eject.{Eject}
 use Rattle.scx_world.specs.declared.eject.Eject.TheVariants as cause
 use Rattle.scx_world.specs.World.{WorldState, with_tree, wait}
-use Rattle.scx_world.specs.Tasks.{gone, later}
+use Rattle.scx_world.specs.Tasks.{gone, ticked, used_ms, later, begun_periods}
 use Rattle.scx_world.specs.Waits.{first_overdue}
 use Rattle.scx_machine.specs.declared.events.Event.{Event}
+use Rattle.scx_machine.specs.Policy.{PolicyState}
 use Rattle.scx_machine.specs.Steps.{State, with_world}
+use Rattle.scx_machine.specs.Parking.{let_all_go}
 use Rattle.scx_machine.specs.Ejecting.{eject}
 use Rattle.scx_machine.specs.Events.{refusal, overdue, stalled, clock, happened}
 use Rattle.scx_sched.specs.Kept.{IsKeptBySteps}
 use Rattle.scx_sched.specs.Ranges.{IsFine}
 use Rattle.scx_sched.proofs.Entering.{keeps_if}
 use Rattle.scx_sched.proofs.Unchanged.{eject_sets}
-use Rattle.scx_sched.proofs.Blaming.{apart}
+use Rattle.scx_sched.proofs.Blaming.{apart, honest_let_all_go}
 use Rattle.scx_sched.proofs.Fine.{fine_steps}
-use Rattle.scx_sched.proofs.Timely.{IsInTime, AreInTime, time_woken, time_ticked, time_steps, nobody_late}
-use Rattle.scx_sched.proofs.Events.{IsKeptByEvents, IsTaken, Wakes, Sleeps, Ticks, Clocks, Weighs, is_taken, IsFineNow, fine_events, one_more, fine_ticked, keeps_wake, keeps_sleep, keeps_tick}
+use Rattle.scx_sched.proofs.Timely.{IsInTime, AreInTime, time_woken, time_ticked, time_let_go, time_stopped, time_steps, nobody_late}
+use Rattle.scx_sched.proofs.Events.{IsKeptByEvents, IsKeptByTick, IsTaken, Wakes, Sleeps, Ticks, Clocks, Weighs, is_taken, IsFineNow, fine_events, one_more, fine_ticked, keeps_wake, keeps_sleep, keeps_tick}
 
 -- ---- two facts at once
 
@@ -37,7 +40,9 @@ both_steps n I J a b = record {
   entered = λ m on w t i l x h. record { one = a.entered m on w t i l x h.one; two = b.entered m on w t i l x h.two };
   filled = λ m on w q c apart l h. record { one = a.filled m on w q c apart l h.one; two = b.filled m on w q c apart l h.two };
   stopped = λ m on w c t l within runs h. record { one = a.stopped m on w c t l within runs h.one; two = b.stopped m on w c t l within runs h.two };
-  started = λ m on w c t l free front h. record { one = a.started m on w c t l free front h.one; two = b.started m on w c t l free front h.two };
+  started = λ m on w c t l free front may h. record { one = a.started m on w c t l free front may h.one; two = b.started m on w c t l free front may h.two };
+  put_parked = λ m on w t l may-not h. record { one = a.put_parked m on w t l may-not h.one; two = b.put_parked m on w t l may-not h.two };
+  taken = λ m on w q t apart front h. record { one = a.taken m on w q t apart front h.one; two = b.taken m on w q t apart front h.two };
   kept = λ m on w t h. record { one = a.kept m on w t h.one; two = b.kept m on w t h.two };
   asleep = λ m on w t l h. record { one = a.asleep m on w t l h.one; two = b.asleep m on w t l h.two };
   put_out = λ m hand on w x h. record { one = a.put_out m hand on w x h.one; two = b.put_out m hand on w x h.two };
@@ -57,6 +62,7 @@ watched_events limit n e = record {
   steps = both_steps n (IsFine n e) (λ m hand on w. AreInTime limit n w) (fine_steps n e) (time_steps limit n);
   sound = λ m hand on w h. h.one.sound;
   woken = λ m on w t within resting h. record { one = (fine_events n e).woken m on w t within resting h.one; two = time_woken limit n w t h.two };
+  let_go = λ m on w t within there h. record { one = (fine_events n e).let_go m on w t within there h.one; two = time_let_go limit n w t h.two };
   left = λ m on w t within runnable off h. record { one = (fine_events n e).left m on w t within runnable off h.one; two = (time_steps limit n).asleep m on (gone w t) t within h.two };
 }
 
@@ -72,14 +78,20 @@ none_late s force e = go s.world.ejected force e
 
 time_clock : (limit : ℕ) (s : State) → limit ≡ s.policy.timeout_ms → IsInTime limit (clock s).state.world
 unfolding clock
-time_clock limit s is = go (overdue v) refl
+time_clock limit s is = go (overdue r) refl
   where
     v : State
-    v = with_world s (later s.world)
+    v = with_world s (begun_periods (later s.world))
 
-    go : (o : Option ℕ) → overdue v ≡ o → IsInTime limit (stalled o v).state.world
-    go None e force = subst (λ (k : ℕ). (t : ℕ) → wait v.world t ≤ k) (sym is) (nobody_late v.world s.policy.timeout_ms (none_late v force e))
-    go (Some t) e force = let x = cause.Stall t v.world.clock in absurd (apart (eject v x).state.world.ejected x force (eject_sets v x).1)
+    r : State
+    r = (let_all_go v).state
+
+    same : limit ≡ r.policy.timeout_ms
+    same = is ∙ ap (λ (p : PolicyState). p.timeout_ms) (sym (honest_let_all_go v).policy)
+
+    go : (o : Option ℕ) → overdue r ≡ o → IsInTime limit (stalled o r).state.world
+    go None e force = subst (λ (k : ℕ). (t : ℕ) → wait r.world t ≤ k) (sym same) (nobody_late r.world r.policy.timeout_ms (none_late r force e))
+    go (Some t) e force = let x = cause.Stall t r.world.clock in absurd (apart (eject r x).state.world.ejected x force (eject_sets r x).1)
 
 -- after any accepted event
 pub time_step : (limit n e : ℕ) (s : State) (v : Event) → length s.world.tasks ≡ n → refusal s v ≡ None → limit ≡ s.policy.timeout_ms → IsFineNow n e e s.world → IsInTime limit s.world → IsInTime limit (happened s v).state.world
@@ -97,9 +109,19 @@ time_step limit n e s v tasks ok is fine time = go v (is_taken s v ok)
     h : I e None s.world.cpus s.world
     h = record { one = one_more n e e s.world fine; two = old }
 
+    ticks : (c t : ℕ) → c < length s.world.cpus → get_or s.world.cpus c None ≡ Some t → IsKeptByTick n I k e s.world c t
+    ticks c t l at =
+        let x = fine_ticked n e e s.world c t l at fine in
+        let z = ticked s.world t in
+        let y = keeps_if (AreInTime limit n) (nat_lt t (length z.tasks)) (with_tree z (with_use z.tree t)) z (time_ticked limit n s.world t old) (time_ticked limit n s.world t old) in
+        record {
+          goes_on = λ free. record { one = x.goes_on free; two = y };
+          leaves = λ up. record { one = x.leaves up; two = time_stopped limit n (used_ms (ticked s.world t) t) c t y };
+        }
+
     go : (v : Event) → IsTaken s v → IsInTime limit (happened s v).state.world
     go _ (Wakes t within resting) = let x = (keeps_wake n I k e s t (omega (arith, within, tasks)) resting h).two in x.1
     go _ (Sleeps t within runnable) = let x = (keeps_sleep n I k e s t (omega (arith, within, tasks)) runnable h).two in x.1
-    go _ (Ticks c l) = let x = (keeps_tick n I k e s c l h (λ t. record { one = fine_ticked n e e s.world t fine; two = time_ticked limit n s.world t old })).two in x.1
+    go _ (Ticks c l) = let x = (keeps_tick n I k e s c l h (λ t at. ticks c t l at)).two in x.1
     go _ Clocks = time_clock limit s is
     go _ (Weighs g x) = keeps_if (IsInTime limit) (is_none (weight_fault s.world.tree g x)) (with_tree s.world (with_weight s.world.tree g x)) s.world time time

@@ -15,7 +15,7 @@ use Rattle.scx_world.specs.Tasks.{later}
 use Rattle.scx_world.specs.Waits.{IsFirstOverdue}
 use Rattle.scx_world.specs.Helpers.{world_functions}
 use Rattle.scx_machine.specs.declared.events.Event.{Event}
-use Rattle.scx_machine.specs.declared.events.Event.TheVariants.{Clock}
+use Rattle.scx_machine.specs.declared.events.Event.TheVariants.{Wake, Sleep, Tick, Clock, SetWeight}
 use Rattle.scx_machine.specs.Steps.{CallMade}
 use Rattle.scx_sched.specs.Sim.{SimState, calls_of}
 
@@ -33,10 +33,18 @@ pub data HasFault (m : CallMade) (f : Fault) : Type 0 where
 abbrev pub IsLast : CallMade → List CallMade → Type 0
 IsLast m calls = (before : List CallMade) × (calls ≡ before ++ m ∷ [])
 
+-- the clock by which things happen in an event: that of the clock comes once it has grown
+abbrev pub clock_in : SimState → Event → ℕ
+clock_in s (Wake t) = s.state.world.clock
+clock_in s (Sleep t) = s.state.world.clock
+clock_in s (Tick c) = s.state.world.clock
+clock_in s Clock = s.state.world.clock + 1
+clock_in s (SetWeight g x) = s.state.world.clock
+
 -- what put a policy out of force in an event
 pub data IsCause (s : SimState) (e : Event) : Eject → Type 0 where
   Waited : (t : ℕ) → e ≡ Clock → IsFirstOverdue (later s.state.world) s.state.policy.timeout_ms t → IsCause s e (cause.Stall t (s.state.world.clock + 1))
-  Went_wrong : (m : CallMade) (f : Fault) → IsLast m (calls_of s e) → HasFault m f → IsCause s e (cause.Fault f s.state.world.clock)
+  Went_wrong : (m : CallMade) (f : Fault) → IsLast m (calls_of s e) → HasFault m f → IsCause s e (cause.Fault f (clock_in s e))
 
 -- from before an event to after it
 pub record EjectsOnce (s : SimState) (e : Event) (t : SimState) : Type 0 where

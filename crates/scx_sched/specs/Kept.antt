@@ -2,6 +2,7 @@
 -- is in no place, of who runs where, and of the world.
 use Rattle.std.specs.Prelude.{◌≡◌, ℕ, ◌+◌, ◌==◌, ◌<◌, true, false, List, length, Option, Some, None, is_some, slice_index_or, slice_set}
 use Rattle.scx_dsq.specs.Queues.{front_of}
+use Rattle.scx_weights.specs.Limits.{is_throttled}
 use Rattle.scx_semantics.specs.declared.callbacks.Callback.{Callback}
 use Rattle.scx_semantics.specs.Effects.{Query}
 use Rattle.scx_vm.specs.Host.{after_query}
@@ -9,7 +10,7 @@ use Rattle.scx_world.specs.declared.call.Insert.{Insert}
 use Rattle.scx_world.specs.declared.eject.Eject.{Eject}
 use Rattle.scx_world.specs.Ids.{parked, local_on}
 use Rattle.scx_world.specs.World.{WorldState, with_cycling, begun, quiet}
-use Rattle.scx_world.specs.Tasks.{for_cpu, to_held, to_global, asleep, entered, filled, stopped, started_at, kept}
+use Rattle.scx_world.specs.Tasks.{for_cpu, to_held, to_global, asleep, entered, filled, stopped, started_at, kept, put_parked, taken}
 use Rattle.scx_world.specs.Helpers.{world_functions}
 use Rattle.scx_world.specs.Ejecting.{put_out, evict, cut_task, put_builtin, overtaken, charged}
 
@@ -31,7 +32,9 @@ pub record IsKeptBySteps (n : ℕ) (I : ℕ → Option ℕ → List (Option ℕ)
   pub entered : (m : ℕ) (on : List (Option ℕ)) (w : WorldState) (t : ℕ) (i : Insert) → t < n → IsWanted (length on) w i → I m (Some t) on w → I m None on (entered w t i)
   pub filled : (m : ℕ) (on : List (Option ℕ)) (w : WorldState) (q c : ℕ) → (q == parked) ≡ false → c < length on → I m None on w → I m None on (filled w q c)
   pub stopped : (m : ℕ) (on : List (Option ℕ)) (w : WorldState) (c t : ℕ) → c < length on → t < n → slice_index_or on c None ≡ Some t → I m None on w → I m (Some t) (slice_set on c None) (stopped w c t)
-  pub started : (m : ℕ) (on : List (Option ℕ)) (w : WorldState) (c t : ℕ) → c < length on → slice_index_or on c None ≡ None → front_of w.queues (local_on c) ≡ Some t → I m None on w → I m None (slice_set on c (Some t)) (started_at (Some t) w c)
+  pub started : (m : ℕ) (on : List (Option ℕ)) (w : WorldState) (c t : ℕ) → c < length on → slice_index_or on c None ≡ None → front_of w.queues (local_on c) ≡ Some t → is_throttled w.tree t ≡ false → I m None on w → I m None (slice_set on c (Some t)) (started_at (Some t) w c)
+  pub put_parked : (m : ℕ) (on : List (Option ℕ)) (w : WorldState) (t : ℕ) → t < n → is_throttled w.tree t ≡ true → I m (Some t) on w → I m None on (put_parked w t)
+  pub taken : (m : ℕ) (on : List (Option ℕ)) (w : WorldState) (q t : ℕ) → (q == parked) ≡ false → front_of w.queues q ≡ Some t → I m None on w → I m (Some t) on (taken w q)
   pub kept : (m : ℕ) (on : List (Option ℕ)) (w : WorldState) (t : ℕ) → I m None on w → I m None on (kept w (Some t))
   pub asleep : (m : ℕ) (on : List (Option ℕ)) (w : WorldState) (t : ℕ) → t < n → I m (Some t) on w → I m None on (asleep w t)
   -- an ejection, and the built-in scheduler

@@ -1,5 +1,7 @@
 pub mod Waits
 pub mod Once
+pub mod Usages
+pub mod Parked
 pub mod Kept
 pub mod Ranges
 pub mod Sim

@@ -7,7 +7,7 @@ use Rattle.scx_dsq.specs.Entries.{same_sort}
 use Rattle.scx_dsq.specs.declared.entries.Entry.{Entry}
 use Rattle.scx_dsq.specs.declared.entries.Rank.{Rank}
 use Rattle.scx_dsq.specs.declared.entries.Rank.TheVariants.{Fifo, Vtime}
-use Rattle.scx_dsq.specs.Laws.{one_if, standing}
+use Rattle.scx_dsq.specs.Laws.{one_if, standing, IsStamped}
 use Rattle.scx_world.specs.declared.call.Insert.{Insert}
 use Rattle.scx_world.specs.Ids.{policy_end, global, held, builtin, parked, local_on}
 use Rattle.scx_world.specs.World.{WorldState, task_at, is_this, is_runnable}
@@ -73,6 +73,7 @@ pub record IsSound (hand : Option ℕ) (on : List (Option ℕ)) (n : ℕ) (w : W
   pub homes : (t : ℕ) → (task_at w t).prev_cpu < length on
   pub queues : HasQueues w.queues (length on)
   pub sorted : IsSorted w.queues
+  pub stamped : IsStamped w.queues
   pub once : IsOnce hand w
   pub here : w.call.cpu < length on
   pub goes : GoesSomewhere w.queues (length on) w.call.insert

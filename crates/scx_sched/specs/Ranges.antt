@@ -1,8 +1,10 @@
--- Between two events: each task is where it should be, and no number has grown past what so many events
--- can make of it.
+-- Between two events: each task is where it should be, no number has grown past what so many events can make of
+-- it, and no usage past what its quota lets it.
 use Rattle.std.specs.Prelude.{◌≡◌, ℕ, ◌*◌, ◌≤◌, List, Option, None}
 use Rattle.scx_world.specs.World.{WorldState, task_at}
+use Rattle.scx_weights.specs.Limits.{usage_of}
 use Rattle.scx_sched.specs.Once.{IsSound}
+use Rattle.scx_sched.specs.Usages.{AreWithin}
 
 -- the built-in scheduler hasn't begun: all its times are 0
 abbrev pub IsFresh : WorldState → Type 0
@@ -15,4 +17,6 @@ pub record IsFine (n events charges : ℕ) (hand : Option ℕ) (on : List (Optio
   pub runs : (t : ℕ) → (task_at w t).run_ns ≤ 1000000 * events
   pub times : (t : ℕ) → (task_at w t).builtin ≤ 2000000000 * charges
   pub builtin_clock : w.builtin_clock ≤ 2000000000 * charges
+  pub used : (g : ℕ) → usage_of w.tree g ≤ events
+  pub within : AreWithin w.tree on
   pub not_yet : w.ejected ≡ None → IsFresh w

@@ -58,7 +58,7 @@ IsFirst p tree cpus s = (started p tree cpus ≡ Ok s.state) × (s.events ≡ 0)
 -- what holds between two events
 pub record IsValid (state : State) (events : ℕ) : Type 0 where
   pub over : events ≤ max_events
-  pub pushes : state.world.queues.pushes ≤ 2 ^ 23 + 2 ^ 18 * events
+  pub pushes : state.world.queues.pushes ≤ 2 ^ 23 + 2 ^ 19 * events
   pub still : state.world.cycling ≡ None
   pub programs : AreAs state.policy.callbacks
   pub timely : IsTimely state

@@ -1,7 +1,7 @@
 ghost use Rattle.std.specs.Prelude.{◌≡◌};
 ghost use Rattle.scx_sched.specs.Places.{queue_place, place_in};
 
-use scx_world::{BUILTIN, GLOBAL, HELD, POLICY_END};
+use scx_world::{BUILTIN, GLOBAL, HELD, PARKED, POLICY_END};
 
 /// Where a task is.
 #[derive(Clone, Copy, Debug, PartialEq, Eq)]
@@ -18,6 +18,8 @@ pub enum Place {
     Held,
     /// In the queue of the built-in scheduler.
     Builtin,
+    /// In the machine's own queue of tasks that are throttled: runnable, and without a wait.
+    Parked,
 }
 
 /// The queue of that id.
@@ -32,6 +34,8 @@ fn queue_place(queue: u64) -> Place
         Place::Held
     } else if queue == BUILTIN {
         Place::Builtin
+    } else if queue == PARKED {
+        Place::Parked
     } else {
         Place::Local((queue % 0x1_0000_0000) as u32)
     }

@@ -1,10 +1,12 @@
 ghost use Rattle.std.specs.Prelude.{◌≡◌, ℕ, ◌<◌, ◌≤◌, ◌^◌, length, None, IfOk, IfErr, OnOk, OnErr};
+ghost use Rattle.scx_weights.specs.Limits.{usage_of};
 ghost use Rattle.scx_world.specs.World.{task_at, is_runnable, running, wait};
 ghost use Rattle.scx_machine.specs.Notes.{Takes};
 ghost use Rattle.scx_machine.specs.Callbacks.{AreAnswered};
 ghost use Rattle.scx_machine.specs.Start.{IsRefusal, start_calls, AreAnsweredBefore};
 ghost use Rattle.scx_sched.specs.Causes.{EjectsOnce};
 ghost use Rattle.scx_sched.specs.Left.{LeavesNothingIdle};
+ghost use Rattle.scx_sched.specs.Usages.{AreBounded};
 ghost use Rattle.scx_sched.specs.Waits.{IsTimely, HasWaits};
 ghost use Rattle.scx_sched.specs.Once.{IsOnce};
 ghost use Rattle.scx_sched.specs.Places.{place};
@@ -66,7 +68,7 @@ impl Sim {
     }
 
     /// One event, with all that it causes. One that isn't accepted changes nothing, and has no notes.
-    #[tactic(auto, using(crate::proofs::Valid::valid_step, crate::proofs::Idle::step_leaves, crate::proofs::Causing::step_cause))]
+    #[tactic(auto, using(crate::proofs::Valid::valid_step, crate::proofs::Idle::step_leaves, crate::proofs::Causing::step_cause, crate::proofs::Bounded::are_bounded))]
     pub fn step<S: Sink>(&mut self, event: Event, sink: &mut S) -> Result<(), Refused>
         ensures answer { result ≡ answer_of (refusal self.old event) }
         ensures state { self.new ≡ stepped self.old event }
@@ -75,6 +77,7 @@ impl Sim {
         ensures answered { AreAnswered (calls_of self.old event) }
         ensures once { IsOnce None self.new.state.world }
         ensures timely { IsTimely self.new.state }
+        ensures bounded { AreBounded self.new.state.world }
         ensures cause { OnOk result (EjectsOnce self.old event self.new) }
         ensures idle { OnOk result (LeavesNothingIdle event self.new.state.world) }
     {
@@ -87,13 +90,15 @@ impl Sim {
     }
 
     /// What holds between two events: each runnable task is in one place, and no other task anywhere; a task
-    /// has a wait where it is in a queue, and no longer one than a policy in force may let it have; the times
+    /// has a wait where it is in a queue, and no longer one than a policy in force may let it have; no group with a
+    /// quota has used as much as that and one millisecond for each processor in its period; the times
     /// of the built-in scheduler are far from where they would be cut off; and no scheduling cycle is under
     /// way. The function does nothing: its contract is the law.
     pub fn is_sound(&self)
         ensures once { IsOnce None self.now.state.world }
         ensures waits { HasWaits None self.now.state.world }
         ensures timely { IsTimely self.now.state }
+        ensures bounded { AreBounded self.now.state.world }
         ensures times { (t : ℕ) → (task_at self.now.state.world t).builtin < 2 ^ 63 }
         ensures still { self.now.state.world.cycling ≡ None }
     {
@@ -190,5 +195,13 @@ impl Sim {
         ensures { result ≡ wait self.now.state.world task }
     {
         self.machine.world().wait(task)
+    }
+
+    /// How many milliseconds the tasks of the group and those below it have run since its period began.
+    pub fn usage(&self, group: u32) -> u64
+        requires { group < length self.now.state.world.tree.groups }
+        ensures { result ≡ usage_of self.now.state.world.tree group }
+    {
+        self.machine.world().usage(group)
     }
 }

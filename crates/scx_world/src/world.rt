@@ -7,6 +7,7 @@ ghost use Rattle.scx_world.specs.First.{with_locals, first_queues, first_world};
 ghost use Rattle.scx_world.specs.Helpers.{pointed};
 ghost use Rattle.scx_world.specs.Kept.{AreTaken};
 ghost use Rattle.scx_world.specs.Waits.{first_overdue};
+ghost use Rattle.scx_weights.specs.Limits.{usage_of};
 ghost use Rattle.scx_world.specs.World.{task_at, wait, with_task, is_runnable, is_throttled, waits, running, with_cpu, with_cycling, is_this, cpu_of, is_idle, first_idle, default_choice, begun, quiet, said};
 
 use crate::call::{Call, Insert};
@@ -283,6 +284,14 @@ impl World {
         ensures { result ≡ is_throttled self.now task }
     {
         self.has_task(task) && self.tree.throttled(u32::from(task))
+    }
+
+    /// How many milliseconds the tasks of the group and those below it have run since its period began.
+    pub fn usage(&self, group: u32) -> u64
+        requires { group < length self.now.tree.groups }
+        ensures { result ≡ usage_of self.now.tree group }
+    {
+        self.tree.usage(group)
     }
 
     /// How many groups there are.

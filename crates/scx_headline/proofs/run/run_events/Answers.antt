@@ -1,4 +1,4 @@
-use Rattle.scx_headline.proofs.Whole.{run_recorded, run_never_stuck, run_once, run_counted, run_timely}
+use Rattle.scx_headline.proofs.Whole.{run_recorded, run_never_stuck, run_once, run_counted, run_timely, run_bounded}
 use Rattle.scx_headline.proofs.run.run_events.Goals as goal
 
 pub returns-clause-recorded : goal.returns-clause-recorded
@@ -20,3 +20,7 @@ returns-clause-counted g c =
 pub returns-clause-timely : goal.returns-clause-timely
 returns-clause-timely g c =
     run_timely c.args.policy c.args.tree c.args.cpus c.args.events.now _ c.in_ok-sim.ensures.first c.go_through.ensures.timely
+
+pub returns-clause-bounded : goal.returns-clause-bounded
+returns-clause-bounded g c =
+    run_bounded c.args.policy c.args.tree c.args.cpus c.args.events.now _ c.in_ok-sim.ensures.first c.go_through.ensures.bounded

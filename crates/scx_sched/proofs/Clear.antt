@@ -1,0 +1,160 @@
+-- From the clearing of a local queue to the start of its front: the front may run, and stays the front.
+use Rattle.std.proofs.Common.{◌≡◌, ℕ, zero, suc, ◌+◌, ◌<◌, ◌≤◌, Bool, true, false, ◌==◌, ◌&&◌, not, nat_lt, ◌⊎◌, inl, inr, cond, List, [], ◌∷◌, length, set, get_or, Option, Some, None, is_some, option_map, refl, sym, ap, ◌∙◌, subst, arith}
+use Rattle.std.specs.List.{count_by}
+use Rattle.std.proofs.lemmas.Bool.{cases_eq, ne_eqb, eq-eqb, eqb-true, lt-ltb, and_parts}
+use Rattle.std.proofs.lemmas.Bool.Decides.{nat_tests}
+use Rattle.std.proofs.lemmas.List.Sums.{sum_by-cons}
+use Rattle.scx_dsq.specs.declared.entries.Entry.{Entry}
+use Rattle.scx_dsq.specs.declared.entries.Rank.{Rank}
+use Rattle.scx_dsq.specs.declared.entries.Rank.TheVariants.{Fifo, Vtime}
+use Rattle.scx_dsq.specs.Entries.{same_sort, is_before}
+use Rattle.scx_dsq.specs.Laws.{one_if}
+use Rattle.scx_dsq.specs.Queues.{Entries, QueueState, entry_of, queue_of, is_in, len_of, front_of}
+use Rattle.scx_dsq.specs.Calls.{next_entry, pushed}
+use Rattle.scx_weights.specs.Limits.{is_throttled}
+use Rattle.scx_tasks.specs.Tasks.{default_slice}
+use Rattle.scx_world.specs.declared.call.Insert.{Insert}
+use Rattle.scx_world.specs.Ids.{builtin, parked, local_on, policy_end}
+use Rattle.scx_world.specs.World.{WorldState, with_queues, with_task, task_at, waits_in, waits}
+use Rattle.scx_world.specs.World as world
+use Rattle.scx_dsq.proofs.Facts.{front_is_known}
+use Rattle.scx_world.specs.Tasks.{local_len, with_builtin, with_slice, given, entered}
+use Rattle.scx_world.specs.Ejecting.{raised, put_builtin}
+use Rattle.scx_sched.specs.Once.{IsSound, sort_of, fits_queue, fits_sort}
+use Rattle.scx_sched.specs.Kept.{IsWanted}
+use Rattle.scx_sched.specs.Over.{GoesOver}
+use Rattle.scx_sched.proofs.Entering.{keeps_if, low_or}
+use Rattle.scx_sched.proofs.Waiting.{front_in}
+use Rattle.scx_sched.proofs.Sound.{wanted_open}
+use Rattle.scx_sched.proofs.Firsts.{no_front_is_empty}
+use Rattle.scx_sched.proofs.Fronts.{AreSame, Equal, Outside, IsSameIn, front_same, same_here, same_pushed, front_pushed}
+use Rattle.scx_sched.proofs.Lengths.{len_pushed}
+use Rattle.scx_sched.proofs.Calm.{IsCalm}
+
+-- the front of the local queue, if there is one, may run
+abbrev pub IsClear : ℕ → WorldState → Type 0
+IsClear c w = (t : ℕ) → front_of w.queues (local_on c) ≡ Some t → is_throttled w.tree t ≡ false
+
+-- the same, in the words of the world
+abbrev pub MayStart : ℕ → WorldState → Type 0
+MayStart c w = (t : ℕ) → front_of w.queues (local_on c) ≡ Some t → world.is_throttled w t ≡ false
+
+-- of a task that there is
+pub tree_free : (w : WorldState) (t : ℕ) → t < length w.tasks → world.is_throttled w t ≡ false → is_throttled w.tree t ≡ false
+tree_free w t l e = sym (ap (λ b. b && is_throttled w.tree t) (lt-ltb t (length w.tasks) l)) ∙ e
+
+pub tree_used_up : (w : WorldState) (t : ℕ) → world.is_throttled w t ≡ true → is_throttled w.tree t ≡ true
+tree_used_up w t e = (and_parts (nat_lt t (length w.tasks)) (is_throttled w.tree t) e).1
+
+pub clear_of : (hand : Option ℕ) (on : List (Option ℕ)) (n c : ℕ) (w : WorldState) → IsSound hand on n w → MayStart c w → IsClear c w
+clear_of hand on n c w h may t e = tree_free w t (omega (arith, front_is_known w.queues (local_on c) (Some t) (sym e), h.even, h.tasks)) (may t e)
+
+-- and there is one, as long as the policy is in force
+pub record IsReady (c : ℕ) (w : WorldState) : Type 0 where
+  pub clear : IsClear c w
+  pub some : w.ejected ≡ None → 0 < local_len w c
+
+-- ---- the same queue
+
+count_same : (id : ℕ) (xs ys : Entries) → length ys ≡ length xs → ((k : ℕ) → is_in id (get_or ys k None) ≡ is_in id (get_or xs k None)) → count_by (is_in id) ys ≡ count_by (is_in id) xs
+count_same id [] [] e h = refl
+count_same id [] (y ∷ ys) e h = absurd (omega (arith, e))
+count_same id (x ∷ xs) [] e h = absurd (omega (arith, e))
+count_same id (x ∷ xs) (y ∷ ys) e h =
+    omega (arith, sum_by-cons (λ o. one_if (is_in id o)) x xs, sum_by-cons (λ o. one_if (is_in id o)) y ys, ap one_if (h 0), count_same id xs ys (omega (arith, e)) (λ k. h (suc k)))
+
+pub len_same : (id : ℕ) (s s' : QueueState) → IsSameIn id s s' → len_of s' id ≡ len_of s id
+len_same id s s' h = count_same id s.entries s'.entries h.count (λ k. one k (h.same k))
+  where
+    one : (k : ℕ) → AreSame id (entry_of s k) (entry_of s' k) → is_in id (entry_of s' k) ≡ is_in id (entry_of s k)
+    one k (Equal e) = ap (λ o. is_in id o) e
+    one k (Outside before after) = after ∙ sym before
+
+module _ (c : ℕ) where
+  pub clear_same : (w v : WorldState) → IsSameIn (local_on c) w.queues v.queues → v.tree ≡ w.tree → IsClear c w → IsClear c v
+  clear_same w v same tree h t e = ap (λ x. is_throttled x t) tree ∙ h t (sym (front_same w.queues v.queues (local_on c) same) ∙ e)
+
+  pub ready_same : (w v : WorldState) → IsSameIn (local_on c) w.queues v.queues → v.tree ≡ w.tree → v.ejected ≡ w.ejected → IsReady c w → IsReady c v
+  ready_same w v same tree out h = record { clear = clear_same w v same tree h.clear; some = λ force. omega (arith, len_same (local_on c) w.queues v.queues same, h.some (sym out ∙ force)) }
+
+  -- a callback that isn't dispatch
+  pub ready_calm : (w v : WorldState) → IsCalm w v → IsReady c w → IsReady c v
+  ready_calm w v calm h = ready_same w v (same_here (local_on c) w.queues v.queues calm.entries) calm.tree calm.ejected h
+
+  -- an ejection, after which nobody is there
+  pub ready_over : (w v : WorldState) → GoesOver w v → is_some v.ejected ≡ true → IsReady c v
+  ready_over w v over out = record { clear = λ t e. absurd (nobody t e (waits w t) refl); some = λ force. absurd (cc) }
+    where
+      both : (b : Bool) → b ≡ true → b ≡ false → ⊥
+      both true x y = absurd (cc)
+      both false x y = absurd (cc)
+
+      same_queue : (a b : ℕ) → Some a ≡ Some b → a ≡ b
+      same_queue a b e = cc
+
+      nobody : (t : ℕ) → front_of v.queues (local_on c) ≡ Some t → (b : Bool) → waits w t ≡ b → ⊥
+      nobody t e true x = let bad : local_on c ≡ builtin = same_queue (local_on c) builtin (sym (front_in v.queues (local_on c) t e) ∙ over.waiting t x) in omega (arith, bad)
+      nobody t e false x =
+          let there : waits v t ≡ true = ap waits_in (front_in v.queues (local_on c) t e) ∙ ap (λ b. not b) (ne_eqb (local_on c) parked (λ y. omega (arith, y))) in
+          both (waits v t) there (over.others t x)
+
+  -- a task that is put under the built-in scheduler
+  pub ready_put_builtin : (w : WorldState) (t : ℕ) → IsReady c w → IsReady c (put_builtin w t)
+  ready_put_builtin w t h = keeps_if (IsReady c) (nat_lt t (length w.tasks)) v w (ready_same w v (same_pushed (local_on c) w.queues builtin t (Vtime (raised w t)) (ne_eqb builtin (local_on c) (λ x. omega (arith, x)))) refl refl h) h
+    where
+      v : WorldState
+      v = with_queues (with_task w t (with_builtin (with_slice (task_at w t) default_slice) (raised w t))) (pushed w.queues builtin t (Vtime (raised w t)))
+
+  -- ---- a task that comes to wait behind the front
+
+  -- in a local queue in order of arrival
+  local_rank : (r : Rank) → fits_queue (local_on c) r ≡ true → r ≡ Fifo
+  local_rank r e = fifo r (subst (λ k. same_sort r k ≡ true) sort (low_or (local_on c) (same_sort r (sort_of (local_on c))) (omega arith) e))
+    where
+      sort : sort_of (local_on c) ≡ Fifo
+      sort = ap (λ b. cond b (Vtime 0) Fifo) (ne_eqb (local_on c) builtin (λ x. omega (arith, x)))
+
+      fifo : (k : Rank) → same_sort k Fifo ≡ true → k ≡ Fifo
+      fifo Fifo x = refl
+      fifo (Vtime n) x = absurd (cc)
+
+  arrives_later : (p e : Entry) → p.rank ≡ Fifo → e.rank ≡ Fifo → p.stamp < e.stamp → is_before p e ≡ true
+  arrives_later p e x y l = rw (x, y, lt-ltb p.stamp e.stamp l) refl
+
+  front_stays : (hand : Option ℕ) (on : List (Option ℕ)) (n : ℕ) (w : WorldState) (q t u : ℕ) (r : Rank) → fits_queue q r ≡ true → front_of w.queues (local_on c) ≡ Some t → IsSound hand on n w → front_of (pushed w.queues q u r) (local_on c) ≡ Some t
+  front_stays hand on n w q t u r fits front h = go (entry_of w.queues t) refl (front_in w.queues (local_on c) t front)
+    where
+      same_queue : (a b : ℕ) → Some a ≡ Some b → a ≡ b
+      same_queue a b e = cc
+
+      go : (o : Option Entry) → entry_of w.queues t ≡ o → option_map (λ p. p.queue) o ≡ Some (local_on c) → front_of (pushed w.queues q u r) (local_on c) ≡ Some t
+      go None e there = absurd (cc)
+      go (Some p) e there = front_pushed w.queues (local_on c) q t u r p front e after
+        where
+          here : p.queue ≡ local_on c
+          here = same_queue p.queue (local_on c) there
+
+          rank : p.rank ≡ Fifo
+          rank = local_rank p.rank (subst (λ k. fits_queue k p.rank ≡ true) here (ap fits_sort (sym e) ∙ h.sorted t))
+
+          after : (q == local_on c) ≡ true → is_before p (next_entry w.queues q r) ≡ true
+          after is = arrives_later p (next_entry w.queues q r) rank (local_rank r (subst (λ k. fits_queue k r ≡ true) (eqb-true q (local_on c) is) fits)) (h.stamped t p e)
+
+  pub ready_entered : (hand : Option ℕ) (on : List (Option ℕ)) (n : ℕ) (w : WorldState) (t : ℕ) (i : Insert) → IsWanted (length on) w i → IsSound hand on n w → w.ejected ≡ None → IsReady c w → IsReady c (entered w t i)
+  ready_entered hand on n w t i wanted sound force h = keeps_if (IsReady c) (nat_lt t (length w.tasks)) _ w (go (front_of w.queues (local_on c)) refl) h
+    where
+      s : QueueState
+      s = pushed w.queues i.queue t i.rank
+
+      fits : fits_queue i.queue i.rank ≡ true
+      fits = (wanted_open on n w i hand wanted sound).fits
+
+      same_task : (a b : ℕ) → Some a ≡ Some b → a ≡ b
+      same_task a b e = cc
+
+      go : (o : Option ℕ) → front_of w.queues (local_on c) ≡ o → IsReady c (with_queues (with_task w t (given (task_at w t) i)) s)
+      go None e = absurd (omega (arith, h.some force, no_front_is_empty w.queues (local_on c) e))
+      go (Some f) e = record {
+        clear = λ k there. let is : f ≡ k = same_task f k (sym (front_stays hand on n w i.queue f t i.rank fits e sound) ∙ there) in subst (λ x. is_throttled w.tree x ≡ false) is (h.clear f e);
+        some = λ x. omega (arith, h.some force, len_pushed w.queues i.queue (local_on c) t i.rank);
+      }

@@ -1,0 +1,239 @@
+-- What each small step of a world keeps, whole cycles keep. Before a front is started its queue is cleared, so that
+-- nobody comes to run who may not.
+use Rattle.std.proofs.Common.{◌≡◌, ℕ, zero, suc, ◌+◌, ◌==◌, ◌<◌, Bool, true, false, not, if◌then◌else◌, List, length, set, get_or, Option, Some, None, refl, sym, ap, ◌∙◌, arith}
+use Rattle.std.proofs.lemmas.Bool.{ne_eqb}
+use Rattle.std.proofs.lemmas.Bool.Decides.{nat_tests}
+use Rattle.std.proofs.lemmas.List.{length-set, get_or-set_same}
+use Rattle.scx_dsq.proofs.Facts.{front_is_known}
+use Rattle.scx_dsq.specs.Queues.{len_of, front_of}
+use Rattle.scx_semantics.specs.declared.callbacks.Callback.TheVariants as callback
+use Rattle.scx_weights.specs.Limits.{is_throttled}
+use Rattle.scx_world.specs.Ids.{global, builtin, parked, local_on}
+use Rattle.scx_world.specs.World.{WorldState}
+use Rattle.scx_world.specs.Tasks.{local_len, stopped, started_at, taken}
+use Rattle.scx_machine.specs.Steps.{State, Stepped, joined, stays, with_world, is_ejected}
+use Rattle.scx_machine.specs.Callbacks.{call_back, cpu_and_task}
+use Rattle.scx_machine.specs.Put.{put}
+use Rattle.scx_machine.specs.Filling.{fill}
+use Rattle.scx_machine.specs.Parking.{park, park_front, throttled_front, park_fronts, clear, in_reach, supply}
+use Rattle.scx_machine.specs.Cycle.{has_local, dispatched, asks_again, tries, stopping, leave, started_if, start as run_front, rest, swap, swap_or_rest, builtin_dispatch, builtin_fill, builtin_ask, builtin_cycle, start_or_cycle, pick, pick_or_rest, conclude, ask, seek, look, cycling, cycle}
+use Rattle.scx_sched.specs.Kept.{IsKeptBySteps}
+use Rattle.scx_sched.specs.Once.{IsSound}
+use Rattle.scx_sched.proofs.Entering.{keeps_if}
+use Rattle.scx_sched.proofs.Clear.{IsClear, MayStart, clear_of, IsReady}
+use Rattle.scx_sched.proofs.Ready.{ready_leave}
+use Rattle.scx_sched.proofs.Supplying.{park_fronts_from, clear_from, throttled_is, supply_clears, builtin_clears}
+use Rattle.scx_sched.proofs.Skeleton.{IsKnown, once_for, keeps_call_back, keeps_stopping, keeps_running_on, keeps_put}
+
+-- whoever keeps each small step knows where each task is
+pub record IsKeptInside (n : ℕ) (I : ℕ → Option ℕ → List (Option ℕ) → WorldState → Type 0) : Type 0 where
+  pub steps : IsKeptBySteps n I
+  pub sound : (m : ℕ) (hand : Option ℕ) (on : List (Option ℕ)) (w : WorldState) → I m hand on w → IsSound hand on n w
+
+pub some_local : (k : ℕ) (b : Bool) → (k == 0) ≡ b → not b ≡ true → 0 < k
+some_local k true x y = absurd (cc)
+some_local k false x y = grind (arith, nat_tests, x)
+
+pub no_local : (k : ℕ) (b : Bool) → (k == 0) ≡ b → not b ≡ false → k ≡ 0
+no_local k true x y = grind (arith, nat_tests, x)
+no_local k false x y = absurd (cc)
+
+module _ (n : ℕ) (I : ℕ → Option ℕ → List (Option ℕ) → WorldState → Type 0) (k : IsKeptInside n I) where
+  module _ (m : ℕ) (on : List (Option ℕ)) where
+    -- the task at hand is parked
+    pub keeps_park : (s : State) (t : ℕ) → t < n → is_throttled s.world.tree t ≡ true → I m (Some t) on s.world → I m None on (park s t).state.world
+    unfolding park
+    keeps_park s t within throttled h = k.steps.put_parked m on s.world t within throttled h
+
+    -- a front is parked
+    pub keeps_park_front : (s : State) (q t : ℕ) → (q == parked) ≡ false → throttled_front s q ≡ Some t → I m None on s.world → I m None on (park_front s q t).state.world
+    unfolding park_front
+    keeps_park_front s q t apart e h =
+        let x = throttled_is s q t e in
+        keeps_park (with_world s (taken s.world q)) t (omega (arith, front_is_known s.world.queues q (Some t) (sym x.front), (k.sound m None on s.world h).even)) x.throttled (k.steps.taken m on s.world q t apart x.front h)
+
+    pub keeps_park_fronts : (j : ℕ) (s : State) (q : ℕ) → (q == parked) ≡ false → I m None on s.world → I m None on (park_fronts j s q).state.world
+    unfolding park_fronts
+    keeps_park_fronts zero s q apart h = h
+    keeps_park_fronts (suc j) s q apart h = go (throttled_front s q) refl (λ t x. keeps_park_fronts j (park_front s q t).state q apart x)
+      where
+        go : (o : Option ℕ) → throttled_front s q ≡ o → ((t : ℕ) → I m None on (park_front s q t).state.world → I m None on (park_fronts j (park_front s q t).state q).state.world) → I m None on (park_fronts_from j s q o).state.world
+        go None e more = h
+        go (Some t) e more = more t (keeps_park_front s q t apart e h)
+
+    -- a local queue that is filled
+    pub keeps_fill : (s : State) (q c : ℕ) → (q == parked) ≡ false → c < length on → I m None on s.world → I m None on (fill s q c).state.world
+    unfolding fill
+    keeps_fill s q c apart l h = k.steps.filled m on s.world q c apart l h
+
+    -- and cleared
+    keeps_clear : (j : ℕ) (s : State) (c : ℕ) → c < length on → I m None on s.world → I m None on (clear j s c).state.world
+    unfolding clear
+    keeps_clear zero s c l h = h
+    keeps_clear (suc j) s c l h = go (fill s global c).state (keeps_fill s global c refl l h) (throttled_front (fill s global c).state (local_on c)) refl (λ t x. keeps_clear j (park_front (fill s global c).state (local_on c) t).state c l x)
+      where
+        go : (f : State) → I m None on f.world → (o : Option ℕ) → throttled_front f (local_on c) ≡ o
+            → ((t : ℕ) → I m None on (park_front f (local_on c) t).state.world → I m None on (clear j (park_front f (local_on c) t).state c).state.world) → I m None on (clear_from j f c o).state.world
+        go f x None e more = x
+        go f x (Some t) e more = more t (keeps_park_front f (local_on c) t (ne_eqb (local_on c) parked (λ y. omega (arith, y))) e x)
+
+    pub keeps_supply : (s : State) (c : ℕ) → c < length on → I m None on s.world → I m None on (supply s c).state.world
+    unfolding supply
+    keeps_supply s c l h = keeps_clear (in_reach s c) s c l h
+
+    -- a call of dispatch
+    pub keeps_dispatched : (s : State) (c : ℕ) (p : Option ℕ) → c < length on → I m None on s.world → I m None on (dispatched s c p).state.world
+    unfolding dispatched
+    keeps_dispatched s c p l h = keeps_supply (call_back s callback.Dispatch (cpu_and_task c p) 0 c).state c l (keeps_call_back n I k.steps m None on s callback.Dispatch (cpu_and_task c p) 0 c l h)
+
+    -- after which the local queue is clear
+    dispatched_clears : (s : State) (c : ℕ) (p : Option ℕ) → MayStart c (dispatched s c p).state.world
+    unfolding dispatched
+    dispatched_clears s c p = supply_clears (call_back s callback.Dispatch (cpu_and_task c p) 0 c).state c
+
+    -- several of them
+    pub keeps_tries : (j : ℕ) (s : State) (c : ℕ) (p : Option ℕ) → c < length on → I m None on s.world → I m None on (tries j s c p).state.world
+    unfolding tries
+    keeps_tries zero s c p l h = h
+    keeps_tries (suc j) s c p l h =
+        let d = dispatched s c p in
+        let x = keeps_dispatched s c p l h in
+        keeps_if (λ (r : Stepped). I m None on r.state.world) (asks_again d.state c) (joined d (tries j d.state c p)) d (keeps_tries j d.state c p l x) x
+
+    pub tries_clear : (j : ℕ) (s : State) (c : ℕ) (p : Option ℕ) → MayStart c s.world → MayStart c (tries j s c p).state.world
+    unfolding tries
+    tries_clear zero s c p clear-now = clear-now
+    tries_clear (suc j) s c p clear-now =
+        let d = dispatched s c p in
+        let x = dispatched_clears s c p in
+        keeps_if (λ (r : Stepped). MayStart c r.state.world) (asks_again d.state c) (joined d (tries j d.state c p)) d (tries_clear j d.state c p x) x
+
+  -- a front that may start, where each task is where it should be
+  pub clear_now : (m : ℕ) (on : List (Option ℕ)) (s : State) (c : ℕ) → I m None on s.world → MayStart c s.world → IsClear c s.world
+  clear_now m on s c h may = clear_of None on n c s.world (k.sound m None on s.world h) may
+
+  -- somebody runs where
+  abbrev pub Some-on : ℕ → WorldState → Type 0
+  Some-on m w = (on : List (Option ℕ)) × I m None on w
+
+  keeps_start : (m : ℕ) (on : List (Option ℕ)) (s : State) (c : ℕ) → c < length on → get_or on c None ≡ None → IsClear c s.world → I m None on s.world → Some-on m (run_front s c).state.world
+  unfolding run_front
+  keeps_start m on s c l free clear-now h = go (front_of s.world.queues (local_on c)) refl
+    where
+      go : (o : Option ℕ) → front_of s.world.queues (local_on c) ≡ o → Some-on m (started_if o s c).state.world
+      go None e = (on, h)
+      go (Some t) e =
+          let l' : c < length (set on c (Some t)) = rw (length-set on c (Some t)) l in
+          (set on c (Some t), keeps_running_on n I k.steps m None (set on c (Some t)) (with_world s (started_at (Some t) s.world c)) c t l' (k.steps.started m on s.world c t l free e (clear-now t e) h))
+
+  keeps_rest : (m : ℕ) (on : List (Option ℕ)) (s : State) (c : ℕ) (p : Option ℕ) (ran : Bool) → I m None on s.world → Some-on (once_for p m) (rest s c p ran).state.world
+  unfolding rest
+  keeps_rest m on s c None ran h = (on, h)
+  keeps_rest m on s c (Some t) ran h = (on, k.steps.more m None on _ (k.steps.kept m on s.world t h))
+
+  abbrev pub Left : ℕ → ℕ → WorldState → Type 0
+  Left m c w = (on : List (Option ℕ)) × I m None on w × (c < length on) × (get_or on c None ≡ None)
+
+  -- a task that leaves its processor
+  pub keeps_leave : (m : ℕ) (on : List (Option ℕ)) (s : State) (c : ℕ) (p : Option ℕ) → c < length on → IsKnown n p → get_or on c None ≡ p → I m None on s.world → Left (once_for p m) c (leave s c p).state.world
+  unfolding leave
+  keeps_leave m on s c None l known runs h = (on, h, l, runs)
+  keeps_leave m on s c (Some t) l known runs h =
+      let off = with_world s (stopped s.world c t) in
+      let l' : c < length (set on c None) = rw (length-set on c None) l in
+      let r = stopping off c t 1 in
+      let x : I (m + 1) (Some t) (set on c None) r.state.world = keeps_stopping n I k.steps m (Some t) (set on c None) off c t 1 l' (k.steps.stopped m on s.world c t l known runs h) in
+      (set on c None, keeps_put n I k.steps (m + 1) (set on c None) r.state t c 0 known l' x, l', get_or-set_same on c None None l)
+
+  -- and leaves the front of the local queue, or nobody in it
+  pub ready_left : (m : ℕ) (on : List (Option ℕ)) (s : State) (c : ℕ) (p : Option ℕ) → c < length on → IsKnown n p → get_or on c None ≡ p → has_local s c ≡ true → IsClear c s.world → I m None on s.world → IsClear c (leave s c p).state.world
+  ready_left m on s c p l known runs some clear-now h =
+      (ready_leave n I k.steps k.sound c m on s c p l known runs h (record { clear = clear-now; some = λ force. some_local (local_len s.world c) (local_len s.world c == 0) refl some })).clear
+
+  -- ---- the built-in scheduler
+
+  keeps_swap : (m : ℕ) (on : List (Option ℕ)) (s : State) (c : ℕ) (p : Option ℕ) → c < length on → IsKnown n p → get_or on c None ≡ p → has_local s c ≡ true → IsClear c s.world → I m None on s.world → Some-on (once_for p m) (swap s c p).state.world
+  unfolding swap
+  keeps_swap m on s c p l known runs some clear-now h = let x = keeps_leave m on s c p l known runs h in keeps_start (once_for p m) x.0 (leave s c p).state c x.2 x.3 (ready_left m on s c p l known runs some clear-now h) x.1
+
+  keeps_swap_or_rest : (m : ℕ) (on : List (Option ℕ)) (s : State) (c : ℕ) (p : Option ℕ) (ran : Bool) → c < length on → IsKnown n p → get_or on c None ≡ p → IsClear c s.world → I m None on s.world → Some-on (once_for p m) (swap_or_rest s c p ran).state.world
+  unfolding swap_or_rest
+  keeps_swap_or_rest m on s c p ran l known runs clear-now h = go (has_local s c) refl
+    where
+      go : (b : Bool) → has_local s c ≡ b → Some-on (once_for p m) (if b then swap s c p else rest s c p ran).state.world
+      go true some = keeps_swap m on s c p l known runs some clear-now h
+      go false none = keeps_rest m on s c p ran h
+
+  -- its dispatch
+  pub keeps_builtin_fill : (m : ℕ) (on : List (Option ℕ)) (s : State) (c : ℕ) → c < length on → I m None on s.world → I m None on (builtin_fill s c).state.world
+  unfolding builtin_fill builtin_dispatch
+  keeps_builtin_fill m on s c l h =
+      let p = park_fronts (len_of s.world.queues builtin) s builtin in
+      keeps_if (λ (r : Stepped). I m None on r.state.world) (has_local s c) (stays s) (joined p (fill p.state builtin c)) h (keeps_fill m on p.state builtin c refl l (keeps_park_fronts m on (len_of s.world.queues builtin) s builtin refl h))
+
+  pub keeps_builtin_cycle : (m : ℕ) (on : List (Option ℕ)) (s : State) (c : ℕ) (p : Option ℕ) (ran : Bool) → c < length on → IsKnown n p → get_or on c None ≡ p → I m None on s.world → Some-on (once_for p m) (builtin_cycle s c p ran).state.world
+  unfolding builtin_cycle builtin_ask
+  keeps_builtin_cycle m on s c p ran l known runs h =
+      let f = supply s c in
+      let x = keeps_builtin_fill m on f.state c l (keeps_supply m on s c l h) in
+      let b = (builtin_fill f.state c).state in
+      keeps_swap_or_rest m on b c p ran l known runs (clear_now m on b c x (builtin_clears f.state c (supply_clears s c))) x
+
+  -- ---- the policy
+
+  keeps_start_or_cycle : (m : ℕ) (on : List (Option ℕ)) (s : State) (c : ℕ) (ran : Bool) → c < length on → get_or on c None ≡ None → IsClear c s.world → I m None on s.world → Some-on m (start_or_cycle s c ran).state.world
+  unfolding start_or_cycle
+  keeps_start_or_cycle m on s c ran l free clear-now h =
+      keeps_if (λ (r : Stepped). Some-on m r.state.world) (has_local s c) (run_front s c) (builtin_cycle s c None ran) (keeps_start m on s c l free clear-now h) (keeps_builtin_cycle m on s c None ran l tt free h)
+
+  keeps_pick : (m : ℕ) (on : List (Option ℕ)) (s : State) (c : ℕ) (p : Option ℕ) (ran : Bool) → c < length on → IsKnown n p → get_or on c None ≡ p → has_local s c ≡ true → IsClear c s.world → I m None on s.world → Some-on (once_for p m) (pick s c p ran).state.world
+  unfolding pick
+  keeps_pick m on s c p ran l known runs some clear-now h = let x = keeps_leave m on s c p l known runs h in keeps_start_or_cycle (once_for p m) x.0 (leave s c p).state c ran x.2 x.3 (ready_left m on s c p l known runs some clear-now h) x.1
+
+  keeps_pick_or_rest : (m : ℕ) (on : List (Option ℕ)) (s : State) (c : ℕ) (p : Option ℕ) (ran : Bool) → c < length on → IsKnown n p → get_or on c None ≡ p → IsClear c s.world → I m None on s.world → Some-on (once_for p m) (pick_or_rest s c p ran).state.world
+  unfolding pick_or_rest
+  keeps_pick_or_rest m on s c p ran l known runs clear-now h = go (has_local s c) refl
+    where
+      go : (b : Bool) → has_local s c ≡ b → Some-on (once_for p m) (if b then pick s c p ran else rest s c p ran).state.world
+      go true some = keeps_pick m on s c p ran l known runs some clear-now h
+      go false none = keeps_rest m on s c p ran h
+
+  keeps_conclude : (m : ℕ) (on : List (Option ℕ)) (s : State) (c : ℕ) (p : Option ℕ) (ran : Bool) → c < length on → IsKnown n p → get_or on c None ≡ p → IsClear c s.world → I m None on s.world → Some-on (once_for p m) (conclude s c p ran).state.world
+  unfolding conclude
+  keeps_conclude m on s c p ran l known runs clear-now h =
+      keeps_if (λ (r : Stepped). Some-on (once_for p m) r.state.world) (is_ejected s) (builtin_cycle s c p ran) (pick_or_rest s c p ran) (keeps_builtin_cycle m on s c p ran l known runs h) (keeps_pick_or_rest m on s c p ran l known runs clear-now h)
+
+  keeps_ask : (m : ℕ) (on : List (Option ℕ)) (s : State) (c : ℕ) (p : Option ℕ) (ran : Bool) → c < length on → IsKnown n p → get_or on c None ≡ p → MayStart c s.world → I m None on s.world → Some-on (once_for p m) (ask s c p ran).state.world
+  unfolding ask
+  keeps_ask m on s c p ran l known runs may h =
+      let x = keeps_tries m on 32 s c p l h in
+      let d = (tries 32 s c p).state in
+      keeps_conclude m on d c p ran l known runs (clear_now m on d c x (tries_clear m on 32 s c p may)) x
+
+  keeps_seek : (m : ℕ) (on : List (Option ℕ)) (s : State) (c : ℕ) (p : Option ℕ) (ran : Bool) → c < length on → IsKnown n p → get_or on c None ≡ p → I m None on s.world → Some-on (once_for p m) (seek s c p ran).state.world
+  unfolding seek
+  keeps_seek m on s c p ran l known runs h = go (has_local f c) refl
+    where
+      f : State
+      f = (supply s c).state
+
+      x : I m None on f.world
+      x = keeps_supply m on s c l h
+
+      go : (b : Bool) → has_local f c ≡ b → Some-on (once_for p m) (if b then pick f c p ran else ask f c p ran).state.world
+      go true some = keeps_pick m on f c p ran l known runs some (clear_now m on f c x (supply_clears s c)) x
+      go false none = keeps_ask m on f c p ran l known runs (supply_clears s c) x
+
+  -- ---- whichever is in force
+
+  keeps_look : (m : ℕ) (on : List (Option ℕ)) (s : State) (c : ℕ) (p : Option ℕ) (ran : Bool) → c < length on → IsKnown n p → get_or on c None ≡ p → I m None on s.world → Some-on (once_for p m) (look s c p ran).state.world
+  unfolding look
+  keeps_look m on s c p ran l known runs h =
+      keeps_if (λ (r : Stepped). Some-on (once_for p m) r.state.world) (is_ejected s) (builtin_cycle s c p ran) (seek s c p ran) (keeps_builtin_cycle m on s c p ran l known runs h) (keeps_seek m on s c p ran l known runs h)
+
+  -- a whole cycle
+  pub keeps_cycle : (m : ℕ) (on : List (Option ℕ)) (s : State) (c : ℕ) (p : Option ℕ) (ran : Bool) → c < length on → IsKnown n p → get_or on c None ≡ p → I m None on s.world → Some-on (once_for p m) (cycle s c p ran).state.world
+  unfolding cycle
+  keeps_cycle m on s c p ran l known runs h =
+      let x = keeps_look m on (cycling s (Some c)) c p ran l known runs (k.steps.cycling m None on s.world (Some c) h) in
+      (x.0, k.steps.cycling (once_for p m) None x.0 (look (cycling s (Some c)) c p ran).state.world None x.1)

@@ -1,0 +1,161 @@
+-- Who may run again is let go, one after another: each small step keeps what whole walks keep.
+use Rattle.std.proofs.Common.{◌≡◌, ℕ, zero, suc, ◌+◌, ◌<◌, Bool, true, false, ◌==◌, ◌&&◌, ◌||◌, not, ◌⊎◌, List, length, get_or, Option, Some, None, is_some, option_map, refl, sym, ap, ◌∙◌, subst, arith, if◌then◌else◌}
+use Rattle.std.specs.List.{list_all, position}
+use Rattle.std.proofs.lemmas.Bool.{and_parts, eqb-true, both_ways, cases_lt}
+use Rattle.std.proofs.lemmas.List.Quantifiers.{position-Some}
+use Rattle.scx_dsq.specs.declared.entries.Entry.{Entry}
+use Rattle.scx_dsq.specs.declared.entries.Rank.{Rank}
+use Rattle.scx_dsq.specs.declared.entries.Rank.TheVariants.{Fifo, Vtime}
+use Rattle.scx_dsq.specs.Entries.{is_before}
+use Rattle.scx_dsq.specs.Queues.{QueueState, task_count, entry_of, queue_of, len_of, front_of, is_right_behind, next_by, right_behind, behind_of}
+use Rattle.scx_dsq.specs.Calls.{removed}
+use Rattle.scx_dsq.proofs.Orders.{before-asym}
+use Rattle.scx_world.specs.Ids.{parked}
+use Rattle.scx_tasks.specs.Waits.{time_since}
+use Rattle.scx_world.specs.World.{WorldState, task_at, waits_in, wait, is_throttled}
+use Rattle.scx_world.specs.Tasks.{let_go}
+use Rattle.scx_machine.specs.Steps.{State, Stepped, with_world, joined}
+use Rattle.scx_machine.specs.Put.{put}
+use Rattle.scx_machine.specs.Parking.{let_go_one, let_go_from, let_all_go}
+use Rattle.scx_sched.specs.Once.{IsSound}
+use Rattle.scx_sched.proofs.Entering.{keeps_if}
+use Rattle.scx_sched.proofs.Waiting.{front_in, removed_other}
+use Rattle.scx_sched.proofs.Sound.{waits_known}
+use Rattle.scx_sched.proofs.Parked.{IsAsParked}
+use Rattle.scx_sched.proofs.Staying.{stay_put}
+use Rattle.scx_sched.proofs.Lasting.{AreAsLong, long_here, long_then, long_let_go, long_put}
+use Rattle.scx_sched.proofs.Skeleton.{keeps_put}
+use Rattle.scx_sched.proofs.Cycles.{IsKeptInside}
+
+-- ---- whom a task has right behind it
+
+not_itself : (p : Entry) → is_before p p ≡ true → ⊥
+not_itself p e = both_ways (is_before p p) (before-asym p p e) e
+
+-- is in the same queue, and another one
+record IsBehind (s : QueueState) (q t u : ℕ) : Type 0 where
+  there : queue_of s u ≡ Some q
+  other : u ≡ t → ⊥
+
+same_queue : (a b : ℕ) → Some a ≡ Some b → a ≡ b
+same_queue a b e = cc
+
+same_entry : (a b : Entry) → Some a ≡ Some b → a ≡ b
+same_entry a b e = cc
+
+behind_in : (s : QueueState) (q t u : ℕ) → queue_of s t ≡ Some q → behind_of s t ≡ Some u → IsBehind s q t u
+unfolding behind_of
+behind_in s q t u here e = go (entry_of s t) refl here e
+  where
+    go : (o : Option Entry) → entry_of s t ≡ o → option_map (λ p. p.queue) o ≡ Some q → right_behind s.entries o ≡ Some u → IsBehind s q t u
+    go None x y z = absurd (cc)
+    go (Some p) x y z = by p.rank z
+      where
+        at : (o : Option Entry) → entry_of s u ≡ o → is_right_behind s.entries p o ≡ true → IsBehind s q t u
+        at None v w = absurd (cc)
+        at (Some r) v w =
+            let behind = and_parts (r.queue == p.queue) (is_before p r) (and_parts (r.queue == p.queue && is_before p r) _ w).0 in
+            record {
+              there = ap (λ (o : Option Entry). option_map (λ k. k.queue) o) v ∙ ap Some (eqb-true r.queue p.queue behind.0) ∙ y;
+              other = λ same. not_itself p (subst (λ k. is_before p k ≡ true) (same_entry r p (sym v ∙ ap (λ k. entry_of s k) same ∙ x)) behind.1);
+            }
+
+        by : (k : Rank) → next_by k s.entries p ≡ Some u → IsBehind s q t u
+        by Fifo w = at (entry_of s u) refl (position-Some (is_right_behind s.entries p) s.entries u None w).1
+        by (Vtime k) w = absurd (cc)
+
+-- ---- the walk
+
+-- whoever is looked at next is parked
+abbrev AtParked : QueueState → Option ℕ → Type 0
+AtParked s None = Unit {0}
+AtParked s (Some t) = queue_of s t ≡ Some parked
+
+at_front : (s : QueueState) (o : Option ℕ) → front_of s parked ≡ o → AtParked s o
+at_front s None e = tt
+at_front s (Some t) e = front_in s parked t e
+
+at_behind : (s : QueueState) (t : ℕ) (o : Option ℕ) → queue_of s t ≡ Some parked → behind_of s t ≡ o → AtParked s o
+at_behind s t None here e = tt
+at_behind s t (Some u) here e = (behind_in s parked t u here e).there
+
+-- who is parked is a task that there is
+parked_known : (s : QueueState) (t : ℕ) → queue_of s t ≡ Some parked → t < task_count s
+parked_known s t e = waits_known s t (go (entry_of s t) e)
+  where
+    go : (o : Option Entry) → option_map (λ p. p.queue) o ≡ Some parked → is_some o ≡ true
+    go None x = absurd (cc)
+    go (Some p) x = refl
+
+-- whoever keeps that one is let go
+abbrev pub LetsGo : (n : ℕ) (I : ℕ → Option ℕ → List (Option ℕ) → WorldState → Type 0) → Type 0
+LetsGo n I = (m : ℕ) (on : List (Option ℕ)) (w : WorldState) (t : ℕ) → t < n → queue_of w.queues t ≡ Some parked → I m None on w → I m (Some t) on (let_go w t)
+
+module _ (n : ℕ) (I : ℕ → Option ℕ → List (Option ℕ) → WorldState → Type 0) (k : IsKeptInside n I) (lets : LetsGo n I) (m : ℕ) (on : List (Option ℕ)) where
+  known : (s : State) (t : ℕ) → queue_of s.world.queues t ≡ Some parked → I m None on s.world → t < n
+  known s t here h = omega (arith, parked_known s.world.queues t here, (k.sound m None on s.world h).even)
+
+  at_hand : (s : State) (t : ℕ) → queue_of s.world.queues t ≡ Some parked → I m None on s.world → I m (Some t) on (let_go s.world t)
+  at_hand s t here h = lets m on s.world t (known s t here h) here h
+
+  keeps_let_go_one : (s : State) (t : ℕ) → queue_of s.world.queues t ≡ Some parked → I m None on s.world → I m None on (let_go_one s t).state.world
+  unfolding let_go_one
+  keeps_let_go_one s t here h =
+      keeps_put n I k.steps m on (with_world s (let_go s.world t)) t (task_at s.world t).prev_cpu 0 (known s t here h) ((k.sound m None on s.world h).homes t) (at_hand s t here h)
+
+  -- the others stay parked
+  one_leaves : (s : State) (t u : ℕ) → queue_of s.world.queues t ≡ Some parked → queue_of s.world.queues u ≡ Some parked → (u ≡ t → ⊥) → I m None on s.world → queue_of (let_go_one s t).state.world.queues u ≡ Some parked
+  unfolding let_go_one
+  one_leaves s t u here there other h =
+      let v = with_world s (let_go s.world t) in
+      let off : queue_of v.world.queues u ≡ Some parked = ap (λ (o : Option Entry). option_map (λ p. p.queue) o) (removed_other s.world.queues t u other) ∙ there in
+      let same = (stay_put n I k.steps k.sound m on v t (task_at s.world t).prev_cpu 0 ((k.sound m None on s.world h).homes t) (at_hand s t here h)).stay u off in
+      ap (λ (o : Option Entry). option_map (λ p. p.queue) o) same ∙ off
+
+  at_next : (s : State) (t : ℕ) → queue_of s.world.queues t ≡ Some parked → I m None on s.world → (o : Option ℕ) → behind_of s.world.queues t ≡ o → AtParked (let_go_one s t).state.world.queues o
+  at_next s t here h None e = tt
+  at_next s t here h (Some u) e = let b = behind_in s.world.queues parked t u here e in one_leaves s t u here b.there b.other h
+
+  keeps_let_go_from : (j : ℕ) (s : State) (at : Option ℕ) → AtParked s.world.queues at → I m None on s.world → I m None on (let_go_from j s at).state.world
+  unfolding let_go_from
+  keeps_let_go_from zero s at here h = h
+  keeps_let_go_from (suc j) s None here h = h
+  keeps_let_go_from (suc j) s (Some t) here h =
+      let next = behind_of s.world.queues t in
+      let r = let_go_one s t in
+      keeps_if (λ (x : Stepped). I m None on x.state.world) (is_throttled s.world t) (let_go_from j s next) (joined r (let_go_from j r.state next)) (keeps_let_go_from j s next (at_behind s.world.queues t next here refl) h)
+      (keeps_let_go_from j r.state next (at_next s t here h next refl) (keeps_let_go_one s t here h))
+
+  -- all who may run again
+  pub keeps_let_all_go : (s : State) → I m None on s.world → I m None on (let_all_go s).state.world
+  unfolding let_all_go
+  keeps_let_all_go s h = keeps_let_go_from (len_of s.world.queues parked) s (front_of s.world.queues parked) (at_front s.world.queues (front_of s.world.queues parked) refl) h
+
+  -- ---- how long each has waited
+
+  -- who is parked has no wait
+  parked_waits : (s : State) (t : ℕ) → queue_of s.world.queues t ≡ Some parked → I m None on s.world → wait s.world t ≡ 0
+  parked_waits s t here h = go (task_at s.world t).since ((k.sound m None on s.world h).waiting t ∙ ap (λ o. waits_in o || false) here)
+    where
+      go : (o : Option ℕ) → is_some o ≡ false → time_since s.world.clock o ≡ 0
+      go None e = refl
+      go (Some x) e = absurd (cc)
+
+  long_let_go_one : (s : State) (t : ℕ) → queue_of s.world.queues t ≡ Some parked → I m None on s.world → AreAsLong s.world (let_go_one s t).state.world
+  unfolding let_go_one
+  long_let_go_one s t here h = long_put s.world (with_world s (let_go s.world t)) t (task_at s.world t).prev_cpu 0 (long_let_go s.world t (parked_waits s t here h))
+
+  long_let_go_from : (j : ℕ) (s : State) (at : Option ℕ) → AtParked s.world.queues at → I m None on s.world → AreAsLong s.world (let_go_from j s at).state.world
+  unfolding let_go_from
+  long_let_go_from zero s at here h = long_here s.world
+  long_let_go_from (suc j) s None here h = long_here s.world
+  long_let_go_from (suc j) s (Some t) here h =
+      let next = behind_of s.world.queues t in
+      let r = let_go_one s t in
+      keeps_if (λ (x : Stepped). AreAsLong s.world x.state.world) (is_throttled s.world t) (let_go_from j s next) (joined r (let_go_from j r.state next)) (long_let_go_from j s next (at_behind s.world.queues t next here refl) h)
+      (long_then s.world r.state.world (let_go_from j r.state next).state.world (long_let_go_one s t here h) (long_let_go_from j r.state next (at_next s t here h next refl) (keeps_let_go_one s t here h)))
+
+  -- all who may run again
+  pub long_let_all_go : (s : State) → I m None on s.world → AreAsLong s.world (let_all_go s).state.world
+  unfolding let_all_go
+  long_let_all_go s h = long_let_go_from (len_of s.world.queues parked) s (front_of s.world.queues parked) (at_front s.world.queues (front_of s.world.queues parked) refl) h

@@ -1,0 +1,112 @@
+-- The steps of parking keep what holds of a world inside an event.
+use Rattle.std.proofs.Common.{◌≡◌, ℕ, ◌+◌, ◌<◌, ◌≤◌, Bool, true, false, ◌==◌, ◌||◌, nat_lt, List, length, set, get_or, Option, Some, None, is_some, option_map, refl, sym, ◌∙◌, ap, arith}
+use Rattle.std.proofs.lemmas.Bool.{eq-eqb, ne_eqb}
+use Rattle.std.proofs.lemmas.List.{length-set}
+use Rattle.scx_dsq.specs.declared.entries.Entry.{Entry}
+use Rattle.scx_dsq.specs.declared.entries.Rank.TheVariants.{Fifo}
+use Rattle.scx_dsq.specs.Queues.{QueueState, task_count, entry_of, queue_of, front_of}
+use Rattle.scx_dsq.specs.Calls.{push_refusal, pushed, popped, removed}
+use Rattle.scx_dsq.specs.Laws.{one_if, standing}
+use Rattle.scx_dsq.proofs.Facts.{front_is_known, standing_popped, standing_removed, tasks_pushed, tasks_without, tasks_removed}
+use Rattle.scx_tasks.specs.declared.task.Task.{Task}
+use Rattle.scx_weights.specs.Limits.{with_use}
+use Rattle.scx_world.specs.Ids.{parked}
+use Rattle.scx_world.specs.World.{WorldState, with_tree, task_at, waits_in, waits, is_this}
+use Rattle.scx_world.specs.Tasks.{with_since, put_parked, taken, let_go, used_ms, begun_periods}
+use Rattle.scx_sched.specs.Once.{IsSound}
+use Rattle.scx_sched.proofs.Entering.{keeps_if, nowhere, own_open, is_accepted, sorted_pushed, sorted_popped, sorted_removed, stamped_pushed, stamped_popped, stamped_removed, stay_pushed, stay_without, stay_removed, queues_stay, goes_on, open_own, open_without, open_removed}
+use Rattle.scx_sched.proofs.Waiting.{waiting, pushed_here, pushed_other, removed_other, waiting_left, front_waits_here, set_since, waits_sum, waits_by_sum}
+use Rattle.scx_sched.proofs.Sound.{inside, homes_set, once_pushed, left_place, popped_other, removed_place}
+
+module _ (on : List (Option ℕ)) (n : ℕ) where
+  -- the task at hand is parked
+  pub sound_put_parked : (w : WorldState) (t : ℕ) → t < n → IsSound (Some t) on n w → IsSound None on n (put_parked w t)
+  sound_put_parked w t within h = rw (inside n w t within h.tasks) record {
+    cpus = h.cpus;
+    tasks = length-set w.tasks t _ ∙ h.tasks;
+    even = tasks_pushed w.queues parked t Fifo ∙ h.even;
+    flags = h.flags;
+    homes = homes_set w.tasks t _ (length on) (h.homes t) h.homes;
+    queues = queues_stay w.queues s (length on) (stay_pushed w.queues parked t Fifo) h.queues;
+    sorted = sorted_pushed w.queues parked t Fifo refl h.sorted;
+    stamped = stamped_pushed w.queues parked t Fifo h.stamped;
+    once = once_pushed w t parked Fifo known ok h.once;
+    here = h.here;
+    goes = goes_on w.queues s (length on) w.call.insert (λ x k o. open_own w.queues parked t Fifo x k (omega arith) refl o) h.goes;
+    waiting = set_since w s (Some t) None t _ (rw h.tasks within) (rw here refl) (λ u d. rw (ne_eqb u t d) (ap (λ (o : Option Entry). waits_in (option_map (λ p. p.queue) o) || false) (sym (pushed_other w.queues parked t u Fifo d)))) h.waiting;
+    at_once = h.at_once;
+  }
+    where
+      s : QueueState
+      s = pushed w.queues parked t Fifo
+
+      known : t < task_count w.queues
+      known = rw h.even within
+
+      ok : push_refusal w.queues parked t Fifo ≡ None
+      ok = is_accepted w.queues t parked Fifo (nowhere w t h.once) (own_open w.queues parked Fifo h.queues.parked (omega arith) refl h.sorted)
+
+      here : queue_of s t ≡ Some parked
+      here = pushed_here w.queues parked t Fifo known ok
+
+  -- the front of a queue is at hand
+  pub sound_taken : (w : WorldState) (q t : ℕ) → front_of w.queues q ≡ Some t → (q == parked) ≡ false → IsSound None on n w → IsSound (Some t) on n (taken w q)
+  sound_taken w q t e apart h = record {
+    cpus = h.cpus;
+    tasks = h.tasks;
+    even = tasks_without w.queues (front_of w.queues q) ∙ h.even;
+    flags = h.flags;
+    homes = h.homes;
+    queues = queues_stay w.queues s (length on) (stay_without w.queues (front_of w.queues q)) h.queues;
+    sorted = sorted_popped w.queues q h.sorted;
+    stamped = stamped_popped w.queues q h.stamped;
+    once = λ u. omega (arith, h.once u, standing_popped w.queues q t u e);
+    here = h.here;
+    goes = goes_on w.queues s (length on) w.call.insert (λ x k o. open_without w.queues (front_of w.queues q) x k o) h.goes;
+    waiting = waits_by_sum (Some t) (taken w q) (λ u. omega (arith, waits_sum None w h.once h.waiting u, waiting_left w.queues s t u (front_waits_here w.queues q t e apart) (left_place w.queues q t e) (λ k d. popped_other w.queues q t k e d)));
+    at_once = h.at_once;
+  }
+    where
+      s : QueueState
+      s = popped w.queues q
+
+  -- a task that was parked is at hand
+  pub sound_let_go : (w : WorldState) (t : ℕ) → t < n → queue_of w.queues t ≡ Some parked → IsSound None on n w → IsSound (Some t) on n (let_go w t)
+  sound_let_go w t within there h = record {
+    cpus = h.cpus;
+    tasks = length-set w.tasks t _ ∙ h.tasks;
+    even = tasks_removed w.queues t ∙ h.even;
+    flags = h.flags;
+    homes = homes_set w.tasks t _ (length on) (h.homes t) h.homes;
+    queues = queues_stay w.queues s (length on) (stay_removed w.queues t) h.queues;
+    sorted = sorted_removed w.queues t h.sorted;
+    stamped = stamped_removed w.queues t h.stamped;
+    once = λ u. omega (arith, h.once u, standing_removed w.queues t u stands);
+    here = h.here;
+    goes = goes_on w.queues s (length on) w.call.insert (λ x k o. open_removed w.queues t x k o) h.goes;
+    waiting = set_since w s None (Some t) t _ (rw h.tasks within) (rw (gone-now, eq-eqb t t refl) refl) (λ u d. rw (ne_eqb u t d) (ap (λ (o : Option Entry). waits_in (option_map (λ p. p.queue) o) || false) (sym (removed_other w.queues t u d)))) h.waiting;
+    at_once = h.at_once;
+  }
+    where
+      s : QueueState
+      s = removed w.queues t
+
+      stands : is_some (entry_of w.queues t) ≡ true
+      stands = go (entry_of w.queues t) there
+        where
+          go : (o : Option Entry) → option_map (λ p. p.queue) o ≡ Some parked → is_some o ≡ true
+          go None x = absurd (cc)
+          go (Some p) x = refl
+
+      gone-now : entry_of s t ≡ None
+      gone-now = removed_place w.queues t stands (rw h.even within)
+
+-- a millisecond is used
+pub sound_used_ms : (hand : Option ℕ) (on : List (Option ℕ)) (n : ℕ) (w : WorldState) (t : ℕ) → IsSound hand on n w → IsSound hand on n (used_ms w t)
+sound_used_ms hand on n w t h =
+    keeps_if (IsSound hand on n) (nat_lt t (length w.tasks)) (with_tree w (with_use w.tree t)) w
+    (record { cpus = h.cpus; tasks = h.tasks; even = h.even; flags = h.flags; homes = h.homes; queues = h.queues; sorted = h.sorted; stamped = h.stamped; once = h.once; here = h.here; goes = h.goes; waiting = h.waiting; at_once = h.at_once }) h
+
+-- and periods begin
+pub sound_begun_periods : (hand : Option ℕ) (on : List (Option ℕ)) (n : ℕ) (w : WorldState) → IsSound hand on n w → IsSound hand on n (begun_periods w)
+sound_begun_periods hand on n w h = record { cpus = h.cpus; tasks = h.tasks; even = h.even; flags = h.flags; homes = h.homes; queues = h.queues; sorted = h.sorted; stamped = h.stamped; once = h.once; here = h.here; goes = h.goes; waiting = h.waiting; at_once = h.at_once }
