@@ -16,8 +16,8 @@ use Rattle.scx_machine.specs.Steps.{State, Stepped, with_world, stays, after, jo
 use Rattle.scx_machine.specs.Callbacks.{call_back, one_task, task_and_number}
 use Rattle.scx_machine.specs.Put.{enters, wanted, enters_builtin, comes_in, put}
 use Rattle.scx_machine.specs.Filling.{move_note, fill}
-use Rattle.scx_machine.specs.Parking.{park, park_front, if_throttled, throttled_front, park_fronts, park_fronts_from, clear, clear_from, in_reach, supply}
-use Rattle.scx_machine.proofs.Supplying.{empty_no_front, throttled_is, front_is_free, len_park_front, reach_fill, reach_park_front}
+use Rattle.scx_machine.specs.Parking.{park, park_front, if_throttled, throttled_front, park_fronts, clear, in_reach, supply}
+use Rattle.scx_sched.proofs.Supplying.{park_fronts_from, clear_from, empty_no_front, throttled_is, front_is_free, len_park_front, reach_fill, reach_park_front}
 use Rattle.scx_machine.specs.Cycle.{dispatched, tries, stopping, running_on, leave, started_if, start, rest, swap, swap_or_rest, builtin_dispatch, builtin_fill, builtin_ask, builtin_cycle, start_or_cycle, pick, pick_or_rest, conclude, ask, seek, look, cycling, cycle}
 use Rattle.scx_rules.specs.Cycles.{noting, silent, entering, enqueue_called, dispatch_called, gone_off, gone_on, HasStopped, Policy_hears, Is_charged, HasStarted, Policy_learns, Catches_up, Enters, For_builtin, Default, Held, Inserted, Puts, Fills, HasLocal, NoOther, Moves, FrontMayRun, Parks, ParksFronts, NoneLeft, OneMore, Supplies, Supplied, ParkedOne, FillsBuiltin, HasOne, Looked, Dispatches, Asks, Enough, Came, NothingMoved, Again, Leaves, Nobody, Stops, Starts, Empty, Front, Rests, Keeps, Idles, WasIdle, Swaps, SwapsOrRests, Swapped, Kept, CyclesBuiltin, Picks, Runs_front, Emptied, Ends, Anew, Picked, Rested, Seeks, Filled, Asked, Looks, Of_policy, Of_builtin, Cycles}
 
@@ -142,7 +142,7 @@ no_throttled_front s q h = go (front_of s.world.queues q) refl
 -- ---- fronts of a queue are parked
 
 parks_fronts : (j : ℕ) (s : State) (q : ℕ) → (parked == q) ≡ false → len_of s.world.queues q ≤ j → ParksFronts q s (park_fronts j s q)
-unfolding park_fronts park_fronts_from
+unfolding park_fronts
 parks_fronts zero s q apart few = NoneLeft q s _ (λ t e. let bad : None ≡ Some t = sym (empty_no_front s.world.queues q (omega (arith, few))) ∙ e in absurd (cc)) refl
 parks_fronts (suc j) s q apart few = go (throttled_front s q) refl (λ t l. parks_fronts j (park_front s q t).state q apart l)
   where
@@ -151,7 +151,7 @@ parks_fronts (suc j) s q apart few = go (throttled_front s q) refl (λ t l. park
     go (Some t) e more = OneMore q s t (park_front s q t) _ _ (parks s q t e) (more t (omega (arith, few, len_park_front s q t apart (throttled_is s q t e).front))) refl
 
 only_parks_fronts : (j : ℕ) (s : State) (q : ℕ) (r : Stepped) → (parked == q) ≡ false → len_of s.world.queues q ≤ j → ParksFronts q s r → r ≡ park_fronts j s q
-unfolding park_fronts park_fronts_from
+unfolding park_fronts
 only_parks_fronts zero s q r apart few (NoneLeft _ _ _ h k) = k
 only_parks_fronts (suc j) s q r apart few (NoneLeft _ _ _ h k) = k ∙ ap (λ o. park_fronts_from j s q o) (sym (no_throttled_front s q h))
 only_parks_fronts zero s q r apart few (OneMore _ _ t gone more _ h y k) = let bad : None ≡ Some t = sym (empty_no_front s.world.queues q (omega (arith, few))) ∙ h.front in absurd (cc)
@@ -169,7 +169,7 @@ fills_none : (s : State) (c : ℕ) → in_reach s c ≤ 0 → Fills s global c (
 fills_none s c few = NoOther (omega (arith, few)) (empty_no_front s.world.queues global (omega (arith, few))) refl
 
 clears : (j : ℕ) (s : State) (c : ℕ) → in_reach s c ≤ j → Supplies c s (clear j s c)
-unfolding clear clear_from
+unfolding clear
 clears zero s c few = Supplied c s (stays s) _ (fills_none s c few) (nobody_front s c few) refl
 clears (suc j) s c few = go (throttled_front (fill s global c).state (local_on c)) refl (λ t l. clears j (park_front (fill s global c).state (local_on c) t).state c l)
   where
@@ -187,7 +187,7 @@ unfolding supply
 supplies s c = clears (in_reach s c) s c (omega arith)
 
 only_clears : (j : ℕ) (s : State) (c : ℕ) (r : Stepped) → in_reach s c ≤ j → Supplies c s r → r ≡ clear j s c
-unfolding clear clear_from
+unfolding clear
 only_clears zero s c r few (Supplied _ _ f _ h x k) =
     let e : f ≡ stays s = only_fills s global c f h ∙ sym (only_fills s global c (stays s) (fills_none s c few)) in
     k ∙ ap (λ (y : Stepped). joined y (stays y.state)) e

@@ -4,7 +4,6 @@ use Rattle.std.proofs.lemmas.Bool.{cases_eq, eq-eqb, ne_eqb}
 use Rattle.std.proofs.lemmas.Bool.Decides.{nat_tests}
 use Rattle.scx_dsq.specs.Queues.{len_of, front_of, behind_of}
 use Rattle.scx_weights.specs.Hierarchy.{Hierarchy, with_weight}
-use Rattle.scx_weights.specs.Limits.{is_throttled}
 use Rattle.scx_weights.specs.Refusals.{max_weight, is_outside, weight_fault}
 use Rattle.scx_semantics.specs.declared.callbacks.Callback.TheVariants as callback
 use Rattle.scx_world.specs.declared.eject.Eject.{Eject}
@@ -12,7 +11,7 @@ use Rattle.scx_world.specs.declared.eject.Eject.TheVariants as cause
 use Rattle.scx_world.specs.declared.faults.Fault.{Fault}
 use Rattle.scx_world.specs.declared.notes.What.TheVariants as note
 use Rattle.scx_world.specs.Ids.{parked}
-use Rattle.scx_world.specs.World.{with_tree, task_at, running, cpu_of, is_idle, said, begun}
+use Rattle.scx_world.specs.World.{is_throttled, with_tree, task_at, running, cpu_of, is_idle, said, begun}
 use Rattle.scx_world.specs.Tasks.{asleep, let_go, ticked, used_ms, later, begun_periods, reweighed}
 use Rattle.scx_world.specs.Waits.{first_overdue}
 use Rattle.scx_machine.specs.declared.events.Event.TheVariants.{Wake, Sleep, Tick, Clock, SetWeight}
@@ -182,29 +181,29 @@ ticks : (s : State) (c : ℕ) → Ticks s c (tick s c)
 unfolding tick count_down throttle park
 ticks s c = go (running s.world c) refl
   where
-    out : (t : ℕ) → running s.world c ≡ Some t → is_throttled (ran_on s t).world.tree t ≡ false → ((task_at (ran_on s t).world t).slice ≡ 0) ⊎ ((task_at (ran_on s t).world t).slice ≡ 0 → ⊥) → Ticks s c (expire (ran_on s t) c t)
+    out : (t : ℕ) → running s.world c ≡ Some t → is_throttled (ran_on s t).world t ≡ false → ((task_at (ran_on s t).world t).slice ≡ 0) ⊎ ((task_at (ran_on s t).world t).slice ≡ 0 → ⊥) → Ticks s c (expire (ran_on s t) c t)
     out t e free (inl z) = rw (expires_out (ran_on s t) c t z) (RunsOut t e free z (cycles (ran_on s t) c (Some t) true))
     out t e free (inr x) = let l : 0 < (task_at (ran_on s t).world t).slice = omega (arith, x) in rw (expires_on (ran_on s t) c t l) (RunsOn t e free l refl)
 
-    up : (t : ℕ) → running s.world c ≡ Some t → is_throttled (ran_on s t).world.tree t ≡ true → Ticks s c (throttle (ran_on s t) c t)
+    up : (t : ℕ) → running s.world c ≡ Some t → is_throttled (ran_on s t).world t ≡ true → Ticks s c (throttle (ran_on s t) c t)
     up t e over =
         let l = stopping (gone_off (ran_on s t) c t) c t 1 in
         IsThrottled t l (cycle (parking l.state t).state c None true) e over (stops (gone_off (ran_on s t) c t) c t 1) (cycles (parking l.state t).state c None true) refl
 
-    by : (t : ℕ) → running s.world c ≡ Some t → (b : Bool) → is_throttled (ran_on s t).world.tree t ≡ b → Ticks s c (counted_as (ran_on s t) c t b)
+    by : (t : ℕ) → running s.world c ≡ Some t → (b : Bool) → is_throttled (ran_on s t).world t ≡ b → Ticks s c (counted_as (ran_on s t) c t b)
     by t e true x = up t e x
     by t e false x = out t e x (cases_eq (task_at (ran_on s t).world t).slice 0)
 
     go : (o : Option ℕ) → running s.world c ≡ o → Ticks s c (tick_of o s c)
     go None e = NobodyRuns e (cycles s c None false)
-    go (Some t) e = by t e (is_throttled (ran_on s t).world.tree t) refl
+    go (Some t) e = by t e (is_throttled (ran_on s t).world t) refl
 
 only_ticks : (s : State) (c : ℕ) (r : Stepped) → Ticks s c r → r ≡ tick s c
 unfolding tick count_down throttle park
 only_ticks s c r (NobodyRuns e y) = rw e (only_cycles s c None false r y)
 only_ticks s c r (IsThrottled t l found e over h y k) =
-    rw e (k ∙ ap (λ z. thrown s c t l z) (only_cycles (parking l.state t).state c None true found y)
-    ∙ ap (λ (z : Stepped). thrown s c t z (cycle (parking z.state t).state c None true)) (only_stops (gone_off (ran_on s t) c t) c t 1 l h) ∙ ap (λ b. counted_as (ran_on s t) c t b) (sym over))
+    rw e (k ∙ ap (λ z. thrown (ran_on s t) c t l z) (only_cycles (parking l.state t).state c None true found y)
+    ∙ ap (λ (z : Stepped). thrown (ran_on s t) c t z (cycle (parking z.state t).state c None true)) (only_stops (gone_off (ran_on s t) c t) c t 1 l h) ∙ ap (λ b. counted_as (ran_on s t) c t b) (sym over))
 only_ticks s c r (RunsOn t e free l k) = rw e (k ∙ sym (expires_on (ran_on s t) c t l) ∙ ap (λ b. counted_as (ran_on s t) c t b) (sym free))
 only_ticks s c r (RunsOut t e free z y) = rw e (only_cycles (ran_on s t) c (Some t) true r y ∙ sym (expires_out (ran_on s t) c t z) ∙ ap (λ b. counted_as (ran_on s t) c t b) (sym free))
 
@@ -214,7 +213,7 @@ lets_go : (n : ℕ) (s : State) (at : Option ℕ) → LetsGo n s at (let_go_from
 unfolding let_go_from let_go_one
 lets_go zero s at = Enough s at _ refl
 lets_go (suc n) s None = NoMore n s _ refl
-lets_go (suc n) s (Some t) = go (is_throttled s.world.tree t) refl (lets_go n s (behind_of s.world.queues t)) (lets_go n (let_go_one s t).state (behind_of s.world.queues t))
+lets_go (suc n) s (Some t) = go (is_throttled s.world t) refl (lets_go n s (behind_of s.world.queues t)) (lets_go n (let_go_one s t).state (behind_of s.world.queues t))
   where
     next : Option ℕ
     next = behind_of s.world.queues t
@@ -222,7 +221,7 @@ lets_go (suc n) s (Some t) = go (is_throttled s.world.tree t) refl (lets_go n s 
     r : Stepped
     r = let_go_one s t
 
-    go : (b : Bool) → is_throttled s.world.tree t ≡ b → LetsGo n s next (let_go_from n s next) → LetsGo n r.state next (let_go_from n r.state next) → LetsGo (suc n) s (Some t) (cond b (let_go_from n s next) (joined r (let_go_from n r.state next)))
+    go : (b : Bool) → is_throttled s.world t ≡ b → LetsGo n s next (let_go_from n s next) → LetsGo n r.state next (let_go_from n r.state next) → LetsGo (suc n) s (Some t) (cond b (let_go_from n s next) (joined r (let_go_from n r.state next)))
     go true e stay more = StaysParked n s t _ e stay
     go false e stay more = IsLetGo n s t r _ _ e (puts (with_world s (let_go s.world t)) t (task_at s.world t).prev_cpu 0) more refl
 

@@ -7,13 +7,12 @@ use Rattle.scx_dsq.specs.Calls.{pushed, popped}
 use Rattle.scx_dsq.specs.declared.entries.Rank.TheVariants.{Fifo}
 use Rattle.scx_semantics.specs.declared.callbacks.Callback.TheVariants as callback
 use Rattle.scx_safety.specs.Programs.{VerifiedProgram}
-use Rattle.scx_weights.specs.Limits.{is_throttled}
 use Rattle.scx_world.specs.declared.call.Insert.{Insert}
 use Rattle.scx_world.specs.declared.notes.What.{What}
 use Rattle.scx_world.specs.declared.notes.What.TheVariants as note
 use Rattle.scx_world.specs.declared.eject.Eject.{Eject}
 use Rattle.scx_world.specs.Ids.{global, builtin, parked, local_on}
-use Rattle.scx_world.specs.World.{WorldState, with_queues, said}
+use Rattle.scx_world.specs.World.{is_throttled, WorldState, with_queues, said}
 use Rattle.scx_world.specs.Tasks.{local_len, entered, for_cpu, to_held, to_global, stopped, started_at, kept, put_parked, taken}
 use Rattle.scx_world.specs.Ejecting.{put_builtin, overtaken, charged}
 use Rattle.scx_machine.specs.Steps.{State, Stepped, with_world, stays, after, joined}
@@ -84,7 +83,7 @@ pub data Fills (s : State) (q c : ℕ) (r : Stepped) : Type 0 where
 
 -- the front of that queue, if there is one, may run
 abbrev pub FrontMayRun : State → ℕ → Type 0
-FrontMayRun s q = (t : ℕ) → front_of s.world.queues q ≡ Some t → is_throttled s.world.tree t ≡ false
+FrontMayRun s q = (t : ℕ) → front_of s.world.queues q ≡ Some t → is_throttled s.world t ≡ false
 
 -- a task that is at hand is parked
 abbrev pub parking : State → ℕ → Stepped
@@ -93,7 +92,7 @@ parking s t = noting s (put_parked s.world t) (note.Insert t parked)
 -- the front of that queue may not run, leaves the queue and is parked
 pub record Parks (s : State) (q t : ℕ) (r : Stepped) : Type 0 where
   pub front : front_of s.world.queues q ≡ Some t
-  pub throttled : is_throttled s.world.tree t ≡ true
+  pub throttled : is_throttled s.world t ≡ true
   pub all : r ≡ parking (with_world s (taken s.world q)) t
 
 -- one front after another, until one may run or nobody is there

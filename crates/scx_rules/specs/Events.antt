@@ -2,13 +2,12 @@
 use Rattle.std.specs.Prelude.{◌≡◌, ℕ, suc, ◌<◌, ◌≤◌, true, false, [], ◌∷◌, length, Option, Some, None}
 use Rattle.scx_dsq.specs.Queues.{len_of, front_of, behind_of}
 use Rattle.scx_weights.specs.Hierarchy.{with_weight}
-use Rattle.scx_weights.specs.Limits.{is_throttled}
 use Rattle.scx_semantics.specs.declared.callbacks.Callback.TheVariants as callback
 use Rattle.scx_safety.specs.Programs.{VerifiedProgram}
 use Rattle.scx_world.specs.declared.call.Insert.{Insert}
 use Rattle.scx_world.specs.declared.notes.What.TheVariants as note
 use Rattle.scx_world.specs.Ids.{parked}
-use Rattle.scx_world.specs.World.{with_tree, task_at, wait, running, cpu_of, is_idle, said}
+use Rattle.scx_world.specs.World.{is_throttled, with_tree, task_at, wait, running, cpu_of, is_idle, said}
 use Rattle.scx_world.specs.declared.eject.Eject.{Eject}
 use Rattle.scx_world.specs.declared.eject.Eject.TheVariants as cause
 use Rattle.scx_world.specs.Tasks.{for_cpu, woken, asleep, gone, let_go, ticked, used_ms, later, begun_periods}
@@ -68,19 +67,19 @@ ran_on s t = with_world s (used_ms (ticked s.world t) t)
 -- runs on while its slice lasts, and then the processor looks for a task
 pub data Ticks (s : State) (c : ℕ) (r : Stepped) : Type 0 where
   NobodyRuns : running s.world c ≡ None → Cycles s c None false r → Ticks s c r
-  IsThrottled : (t : ℕ) (left found : Stepped) → running s.world c ≡ Some t → is_throttled (ran_on s t).world.tree t ≡ true → HasStopped (gone_off (ran_on s t) c t) c t 1 left
+  IsThrottled : (t : ℕ) (left found : Stepped) → running s.world c ≡ Some t → is_throttled (ran_on s t).world t ≡ true → HasStopped (gone_off (ran_on s t) c t) c t 1 left
       → Cycles (parking left.state t).state c None true found
-      → r ≡ after (said s.world (note.Stop t c) ∷ []) (joined left (joined (parking left.state t) found)) → Ticks s c r
-  RunsOn : (t : ℕ) → running s.world c ≡ Some t → is_throttled (ran_on s t).world.tree t ≡ false → 0 < (task_at (ran_on s t).world t).slice → r ≡ stays (ran_on s t) → Ticks s c r
-  RunsOut : (t : ℕ) → running s.world c ≡ Some t → is_throttled (ran_on s t).world.tree t ≡ false → (task_at (ran_on s t).world t).slice ≡ 0 → Cycles (ran_on s t) c (Some t) true r → Ticks s c r
+      → r ≡ after (said (ran_on s t).world (note.Stop t c) ∷ []) (joined left (joined (parking left.state t) found)) → Ticks s c r
+  RunsOn : (t : ℕ) → running s.world c ≡ Some t → is_throttled (ran_on s t).world t ≡ false → 0 < (task_at (ran_on s t).world t).slice → r ≡ stays (ran_on s t) → Ticks s c r
+  RunsOut : (t : ℕ) → running s.world c ≡ Some t → is_throttled (ran_on s t).world t ≡ false → (task_at (ran_on s t).world t).slice ≡ 0 → Cycles (ran_on s t) c (Some t) true r → Ticks s c r
 
 -- of the parked, from that one on in their order, so many are looked at: who may run again is parked no more, waits
 -- from now on, and is put as for the processor on which it ran last
 pub data LetsGo : ℕ → State → Option ℕ → Stepped → Type 0 where
   Enough : (s : State) (at : Option ℕ) (r : Stepped) → r ≡ stays s → LetsGo 0 s at r
   NoMore : (n : ℕ) (s : State) (r : Stepped) → r ≡ stays s → LetsGo (suc n) s None r
-  StaysParked : (n : ℕ) (s : State) (t : ℕ) (r : Stepped) → is_throttled s.world.tree t ≡ true → LetsGo n s (behind_of s.world.queues t) r → LetsGo (suc n) s (Some t) r
-  IsLetGo : (n : ℕ) (s : State) (t : ℕ) (put more r : Stepped) → is_throttled s.world.tree t ≡ false → Puts (with_world s (let_go s.world t)) t (task_at s.world t).prev_cpu 0 put
+  StaysParked : (n : ℕ) (s : State) (t : ℕ) (r : Stepped) → is_throttled s.world t ≡ true → LetsGo n s (behind_of s.world.queues t) r → LetsGo (suc n) s (Some t) r
+  IsLetGo : (n : ℕ) (s : State) (t : ℕ) (put more r : Stepped) → is_throttled s.world t ≡ false → Puts (with_world s (let_go s.world t)) t (task_at s.world t).prev_cpu 0 put
       → LetsGo n put.state (behind_of s.world.queues t) more → r ≡ joined put more → LetsGo (suc n) s (Some t) r
 
 -- the clock has grown, and periods have begun

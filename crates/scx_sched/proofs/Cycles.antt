@@ -20,7 +20,7 @@ use Rattle.scx_machine.specs.Cycle.{has_local, dispatched, asks_again, tries, st
 use Rattle.scx_sched.specs.Kept.{IsKeptBySteps}
 use Rattle.scx_sched.specs.Once.{IsSound}
 use Rattle.scx_sched.proofs.Entering.{keeps_if}
-use Rattle.scx_sched.proofs.Clear.{IsClear, MayStart, clear_of, IsReady}
+use Rattle.scx_sched.proofs.Clear.{IsClear, MayStart, tree_used_up, clear_of, IsReady}
 use Rattle.scx_sched.proofs.Ready.{ready_leave}
 use Rattle.scx_sched.proofs.Supplying.{park_fronts_from, clear_from, throttled_is, supply_clears, builtin_clears}
 use Rattle.scx_sched.proofs.Skeleton.{IsKnown, once_for, keeps_call_back, keeps_stopping, keeps_running_on, keeps_put}
@@ -50,7 +50,7 @@ module _ (n : ℕ) (I : ℕ → Option ℕ → List (Option ℕ) → WorldState 
     unfolding park_front
     keeps_park_front s q t apart e h =
         let x = throttled_is s q t e in
-        keeps_park (with_world s (taken s.world q)) t (omega (arith, front_is_known s.world.queues q (Some t) (sym x.front), (k.sound m None on s.world h).even)) x.throttled (k.steps.taken m on s.world q t apart x.front h)
+        keeps_park (with_world s (taken s.world q)) t (omega (arith, front_is_known s.world.queues q (Some t) (sym x.front), (k.sound m None on s.world h).even)) (tree_used_up s.world t x.throttled) (k.steps.taken m on s.world q t apart x.front h)
 
     pub keeps_park_fronts : (j : ℕ) (s : State) (q : ℕ) → (q == parked) ≡ false → I m None on s.world → I m None on (park_fronts j s q).state.world
     unfolding park_fronts

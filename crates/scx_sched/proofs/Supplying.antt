@@ -10,7 +10,6 @@ use Rattle.scx_dsq.specs.Laws.{one_if}
 use Rattle.scx_dsq.specs.Queues.{QueueState, entry_of, queue_of, is_in, len_of, front_of}
 use Rattle.scx_dsq.specs.Calls.{push_refusal, next_entry, with_task as with_place, pushed, popped}
 use Rattle.scx_dsq.proofs.Facts.{free_from, front_is_known}
-use Rattle.scx_weights.specs.Limits as limits
 use Rattle.scx_world.specs.Ids.{global, builtin, parked, local_on}
 use Rattle.scx_world.specs.World.{WorldState, is_throttled}
 use Rattle.scx_world.specs.Tasks.{local_len, brought, fill_front, filled, put_parked, taken}
@@ -23,7 +22,7 @@ use Rattle.scx_sched.proofs.Waiting.{front_in, pushed_other}
 use Rattle.scx_sched.proofs.Lengths.{len_set}
 use Rattle.scx_sched.proofs.Firsts.{no_front_is_empty}
 use Rattle.scx_sched.proofs.Fronts.{IsSameIn, same_here, same_then, same_pushed, same_popped, front_same}
-use Rattle.scx_sched.proofs.Clear.{MayStart, tree_used_up, len_same}
+use Rattle.scx_sched.proofs.Clear.{MayStart, len_same}
 
 -- ---- how many are in a queue
 
@@ -66,7 +65,7 @@ empty_no_front s id e = go (front_of s id) refl
 
 pub record IsThrottledFront (s : State) (q t : ℕ) : Type 0 where
   pub front : front_of s.world.queues q ≡ Some t
-  pub throttled : limits.is_throttled s.world.tree t ≡ true
+  pub throttled : is_throttled s.world t ≡ true
 
 same_task : (a b : ℕ) → Some a ≡ Some b → a ≡ b
 same_task a b e = cc
@@ -75,7 +74,7 @@ pub throttled_is : (s : State) (q t : ℕ) → throttled_front s q ≡ Some t �
 throttled_is s q t e = go (front_of s.world.queues q) refl e
   where
     at : (u : ℕ) (b : Bool) → is_throttled s.world u ≡ b → front_of s.world.queues q ≡ Some u → cond b (Some u) None ≡ Some t → IsThrottledFront s q t
-    at u true x f y = let same : u ≡ t = same_task u t y in record { front = f ∙ ap Some same; throttled = ap (λ k. limits.is_throttled s.world.tree k) (sym same) ∙ tree_used_up s.world u x }
+    at u true x f y = let same : u ≡ t = same_task u t y in record { front = f ∙ ap Some same; throttled = ap (λ k. is_throttled s.world k) (sym same) ∙ x }
     at u false x f y = absurd (cc)
 
     go : (o : Option ℕ) → front_of s.world.queues q ≡ o → if_throttled s.world o ≡ Some t → IsThrottledFront s q t
@@ -131,7 +130,7 @@ left_park_fronts (suc j) id s q apart other = go (throttled_front s q) (λ t. le
         left_then id s.world p.world (park_fronts j p q).state.world (left_park_front id s q t apart other) (more t)
 
 -- the queue itself has one task less
-len_park_front : (s : State) (q t : ℕ) → (parked == q) ≡ false → front_of s.world.queues q ≡ Some t → len_of (park_front s q t).state.world.queues q + 1 ≡ len_of s.world.queues q
+pub len_park_front : (s : State) (q t : ℕ) → (parked == q) ≡ false → front_of s.world.queues q ≡ Some t → len_of (park_front s q t).state.world.queues q + 1 ≡ len_of s.world.queues q
 unfolding park_front park
 len_park_front s q t apart front =
     let v = taken s.world q in

@@ -94,6 +94,7 @@ impl Sim {
     /// quota has used as much as that and one millisecond for each processor in its period; the times
     /// of the built-in scheduler are far from where they would be cut off; and no scheduling cycle is under
     /// way. The function does nothing: its contract is the law.
+    #[tactic(auto, using(crate::proofs::Bounded::are_bounded))]
     pub fn is_sound(&self)
         ensures once { IsOnce None self.now.state.world }
         ensures waits { HasWaits None self.now.state.world }
