@@ -1,7 +1,7 @@
 -- A scheduling cycle leaves the groups and tasks, who is active, and how many tasks and processors there are.
 use Rattle.std.proofs.Common.{◌≡◌, ℕ, zero, suc, Bool, true, false, nat_lt, cond, List, length, map, Option, Some, None, Result, Ok, Err, ℤ, refl, ◌∙◌, subst}
 use Rattle.std.proofs.lemmas.List.{length-set, length-replicate}
-use Rattle.scx_dsq.specs.Queues.{front_of}
+use Rattle.scx_dsq.specs.Queues.{len_of, front_of, behind_of}
 use Rattle.scx_dsq.specs.Calls.{created}
 use Rattle.scx_semantics.specs.declared.callbacks.Callback.{Callback}
 use Rattle.scx_semantics.specs.declared.callbacks.Callback.TheVariants as callback
@@ -23,9 +23,9 @@ use Rattle.scx_world.specs.declared.call.Insert.{Insert}
 use Rattle.scx_tasks.specs.declared.task.Task.{Task}
 use Rattle.scx_world.specs.declared.faults.Fault.{Fault}
 use Rattle.scx_world.specs.declared.faults.Fault.TheVariants.{NoSuchQueue, NoSuchCpu, CannotCreate}
-use Rattle.scx_world.specs.Ids.{global, builtin, local_on}
-use Rattle.scx_world.specs.World.{WorldState, with_queues, with_task, task_at, waits, running, begun}
-use Rattle.scx_world.specs.Tasks.{gone, entered, for_cpu, brought, fill_front, stopped, started_at}
+use Rattle.scx_world.specs.Ids.{global, builtin, parked, local_on}
+use Rattle.scx_world.specs.World.{WorldState, with_queues, with_task, task_at, is_throttled, waits, running, begun}
+use Rattle.scx_world.specs.Tasks.{gone, entered, for_cpu, brought, fill_front, stopped, started_at, put_parked, taken, let_go}
 use Rattle.scx_world.specs.Helpers.{is_there, can_create, faulted, is_dispatch, insert_fault, with_insert, released, inserted, asked, asked_by_vtime, can_move, moved, given_number, given_task, helper_after, stored_in, world_functions}
 use Rattle.scx_machine.specs.Policy.{PolicyState}
 use Rattle.scx_world.specs.declared.eject.Eject.{Eject}
@@ -35,7 +35,9 @@ use Rattle.scx_machine.specs.Ejecting.{moves_over, eject, ejected_for}
 use Rattle.scx_machine.specs.Callbacks.{called, acting, fault_of, call_back, ended, no_arguments, one_task, task_and_number, cpu_and_task}
 use Rattle.scx_machine.specs.Put.{enters, wanted, enters_builtin, comes_in, put}
 use Rattle.scx_machine.specs.Events.{settled}
-use Rattle.scx_machine.specs.Cycle.{has_local, fill, dispatched, asks_again, tries, stopping, running_on, leave, started_if, start as run_front, rest, swap, swap_or_rest, builtin_ask, builtin_cycle, start_or_cycle, pick, pick_or_rest, conclude, ask, seek, look, cycling, cycle}
+use Rattle.scx_machine.specs.Filling.{fill}
+use Rattle.scx_machine.specs.Parking.{park, park_front, throttled_front, park_then, park_fronts, clear, in_reach, supply, let_go_one, let_go_from, let_all_go}
+use Rattle.scx_machine.specs.Cycle.{has_local, dispatched, asks_again, tries, stopping, running_on, leave, started_if, start as run_front, rest, swap, swap_or_rest, builtin_dispatch, builtin_fill, builtin_ask, builtin_cycle, start_or_cycle, pick, pick_or_rest, conclude, ask, seek, look, cycling, cycle}
 use Rattle.scx_machine.specs.Start.{blank, init_ending, bad_answer, ok_unless, initialized, enable_ending, has_failed, enable, then_enable, enabled, ok_if, all_enabled, started}
 
 -- what both keep, a choice of them keeps
@@ -185,9 +187,63 @@ module _ (h : Hierarchy) (n c : ℕ) where
   unfolding fill
   like_fill s q d i = like_brought (fill_front s.world q d) s.world q d i
 
+  -- ---- parking
+
+  like_put_parked : (w : WorldState) (t : ℕ) → IsLike h n c w → IsLike h n c (put_parked w t)
+  like_put_parked w t i = keeps_if (IsLike h n c) (nat_lt t (length w.tasks)) _ w (like_task w t _ i) i
+
+  pub like_park : (s : State) (t : ℕ) → IsLike h n c s.world → IsLike h n c (park s t).state.world
+  unfolding park
+  like_park s t i = like_put_parked s.world t i
+
+  like_park_front : (s : State) (q t : ℕ) → IsLike h n c s.world → IsLike h n c (park_front s q t).state.world
+  unfolding park_front
+  like_park_front s q t i = like_park (with_world s (taken s.world q)) t i
+
+  -- the front that may not run, and then more
+  like_park_then : (more : State → Stepped) (s : State) (q : ℕ) (o : Option ℕ) → IsLike h n c s.world → ((v : State) → IsLike h n c v.world → IsLike h n c (more v).state.world) → IsLike h n c (park_then more s q o).state.world
+  like_park_then more s q None i f = i
+  like_park_then more s q (Some t) i f = f (park_front s q t).state (like_park_front s q t i)
+
+  like_park_fronts : (m : ℕ) (s : State) (q : ℕ) → IsLike h n c s.world → IsLike h n c (park_fronts m s q).state.world
+  unfolding park_fronts
+  like_park_fronts zero s q i = i
+  like_park_fronts (suc m) s q i = like_park_then (λ v. park_fronts m v q) s q (throttled_front s q) i (λ v x. like_park_fronts m v q x)
+
+  like_clear : (m : ℕ) (s : State) (d : ℕ) → IsLike h n c s.world → IsLike h n c (clear m s d).state.world
+  unfolding clear
+  like_clear zero s d i = i
+  like_clear (suc m) s d i =
+      let f = (fill s global d).state in
+      like_park_then (λ v. clear m v d) f (local_on d) (throttled_front f (local_on d)) (like_fill s global d i) (λ v x. like_clear m v d x)
+
+  like_supply : (s : State) (d : ℕ) → IsLike h n c s.world → IsLike h n c (supply s d).state.world
+  unfolding supply
+  like_supply s d i = like_clear (in_reach s d) s d i
+
+  like_let_go_one : (s : State) (t : ℕ) → IsLike h n c s.world → IsLike h n c (let_go_one s t).state.world
+  unfolding let_go_one
+  like_let_go_one s t i = like_put (with_world s (let_go s.world t)) t (task_at s.world t).prev_cpu 0 (like_task s.world t _ i)
+
+  like_let_go_from : (m : ℕ) (s : State) (at : Option ℕ) → IsLike h n c s.world → IsLike h n c (let_go_from m s at).state.world
+  unfolding let_go_from
+  like_let_go_from zero s at i = i
+  like_let_go_from (suc m) s None i = i
+  like_let_go_from (suc m) s (Some t) i =
+      let next = behind_of s.world.queues t in
+      let r = let_go_one s t in
+      keeps_if (λ (x : Stepped). IsLike h n c x.state.world) (is_throttled s.world t) (let_go_from m s next) (joined r (let_go_from m r.state next)) (like_let_go_from m s next i) (like_let_go_from m r.state next (like_let_go_one s t i))
+
+  -- all who may run again
+  pub like_let_all_go : (s : State) → IsLike h n c s.world → IsLike h n c (let_all_go s).state.world
+  unfolding let_all_go
+  like_let_all_go s i = like_let_go_from (len_of s.world.queues parked) s (front_of s.world.queues parked) i
+
+  -- ---- dispatch
+
   like_dispatched : (s : State) (d : ℕ) (p : Option ℕ) → IsLike h n c s.world → IsLike h n c (dispatched s d p).state.world
   unfolding dispatched
-  like_dispatched s d p i = like_fill (call_back s callback.Dispatch (cpu_and_task d p) 0 d).state global d (like_call_back s callback.Dispatch (cpu_and_task d p) 0 d i)
+  like_dispatched s d p i = like_supply (call_back s callback.Dispatch (cpu_and_task d p) 0 d).state d (like_call_back s callback.Dispatch (cpu_and_task d p) 0 d i)
 
   like_tries : (m : ℕ) (s : State) (d : ℕ) (p : Option ℕ) → IsLike h n c s.world → IsLike h n c (tries m s d p).state.world
   unfolding tries
@@ -221,12 +277,18 @@ module _ (h : Hierarchy) (n c : ℕ) where
   unfolding swap
   like_swap s d p i = like_start (leave s d p).state d (like_leave s d p i)
 
+  like_builtin_fill : (s : State) (d : ℕ) → IsLike h n c s.world → IsLike h n c (builtin_fill s d).state.world
+  unfolding builtin_fill builtin_dispatch
+  like_builtin_fill s d i =
+      let p = park_fronts (len_of s.world.queues builtin) s builtin in
+      keeps_if (λ (r : Stepped). IsLike h n c r.state.world) (has_local s d) (stays s) (joined p (fill p.state builtin d)) i (like_fill p.state builtin d (like_park_fronts (len_of s.world.queues builtin) s builtin i))
+
   like_builtin_cycle : (s : State) (d : ℕ) (p : Option ℕ) (ran : Bool) → IsLike h n c s.world → IsLike h n c (builtin_cycle s d p ran).state.world
   unfolding builtin_cycle builtin_ask swap_or_rest
   like_builtin_cycle s d p ran i =
-      let f = fill s global d in
-      let g = fill f.state builtin d in
-      let x : IsLike h n c g.state.world = like_fill f.state builtin d (like_fill s global d i) in
+      let f = supply s d in
+      let g = builtin_fill f.state d in
+      let x : IsLike h n c g.state.world = like_builtin_fill f.state d (like_supply s d i) in
       keeps_if (λ (r : Stepped). IsLike h n c r.state.world) (has_local g.state d) (swap g.state d p) (rest g.state d p ran) (like_swap g.state d p x) (like_rest g.state d p ran x)
 
   like_start_or_cycle : (s : State) (d : ℕ) (ran : Bool) → IsLike h n c s.world → IsLike h n c (start_or_cycle s d ran).state.world
@@ -254,8 +316,8 @@ module _ (h : Hierarchy) (n c : ℕ) where
   like_seek : (s : State) (d : ℕ) (p : Option ℕ) (ran : Bool) → IsLike h n c s.world → IsLike h n c (seek s d p ran).state.world
   unfolding seek
   like_seek s d p ran i =
-      let f = fill s global d in
-      let x : IsLike h n c f.state.world = like_fill s global d i in
+      let f = supply s d in
+      let x : IsLike h n c f.state.world = like_supply s d i in
       keeps_if (λ (r : Stepped). IsLike h n c r.state.world) (has_local f.state d) (pick f.state d p ran) (ask f.state d p ran) (like_pick f.state d p ran x) (like_ask f.state d p ran x)
 
   like_look : (s : State) (d : ℕ) (p : Option ℕ) (ran : Bool) → IsLike h n c s.world → IsLike h n c (look s d p ran).state.world

@@ -1,17 +1,19 @@
 -- What an event leaves of groups and tasks, and of how many tasks and processors there are.
-use Rattle.std.proofs.Common.{◌≡◌, ℕ, ◌<◌, Bool, true, false, ◌==◌, length, set, Option, Some, None, ◌∙◌, ap, arith}
+use Rattle.std.proofs.Common.{◌≡◌, ℕ, ◌<◌, Bool, true, false, ◌==◌, nat_lt, length, set, Option, Some, None, ◌∙◌, ap, arith}
 use Rattle.std.proofs.lemmas.Bool.{lt-ltb}
 use Rattle.std.proofs.lemmas.List.{length-set, get_or-set_other}
 use Rattle.scx_semantics.specs.declared.callbacks.Callback.TheVariants as callback
 use Rattle.scx_weights.specs.Hierarchy.{Hierarchy, is_active_task, with_weight}
 use Rattle.scx_weights.specs.Hierarchy as tree
-use Rattle.scx_world.specs.World.{WorldState, running, cpu_of, is_idle, task_at}
-use Rattle.scx_world.specs.Tasks.{woken, asleep, gone, stopped, ran_a_tick, ticked, later}
+use Rattle.scx_weights.specs.Limits.{with_use}
+use Rattle.scx_world.specs.World.{WorldState, with_tree, running, cpu_of, is_idle, is_throttled, task_at}
+use Rattle.scx_world.specs.Tasks.{woken, asleep, gone, stopped, ran_a_tick, ticked, used_ms, later, begun_periods}
 use Rattle.scx_machine.specs.Steps.{State, Stepped, with_world, stays, joined}
 use Rattle.scx_machine.specs.Callbacks.{acting, call_back, answered_by, task_cpu_and_0}
+use Rattle.scx_machine.specs.Parking.{park, let_all_go}
 use Rattle.scx_machine.specs.Cycle.{stopping, cycle}
-use Rattle.scx_machine.specs.Events.{target, settled, settle, select, wake, sleep_from_cpu, sleep_from, sleep, count_down, tick_of, tick, overdue, stalled, clock}
-use Rattle.scx_driver.proofs.Alike.{keeps_if, IsTreeLike, IsLike, like_eject, like_call_back, like_stopping, like_settled, like_cycle}
+use Rattle.scx_machine.specs.Events.{target, settled, settle, select, wake, sleep_from_cpu, sleep_from, sleep, throttle, expire, count_down, tick_of, tick, overdue, stalled, clock}
+use Rattle.scx_driver.proofs.Alike.{keeps_if, IsTreeLike, IsLike, like_eject, like_call_back, like_stopping, like_settled, like_park, like_let_all_go, like_cycle}
 
 -- a task is active, or not, in both
 tree_set : (h t : Hierarchy) (k : ℕ) (on : Bool) → IsTreeLike h t → IsTreeLike (tree.with_task h k on) (tree.with_task t k on)
@@ -32,13 +34,28 @@ like_select h n c s t i =
     like_settle h n c r.state t (target (acting r.state callback.SelectCpu) r.state.world t (answered_by s callback.SelectCpu (task_cpu_and_0 t d) t d)) (like_call_back h n c s callback.SelectCpu (task_cpu_and_0 t d) t d i)
 
 module _ (h : Hierarchy) (n c : ℕ) where
-  -- a tick changes neither
+  like_throttle : (s : State) (d t : ℕ) → IsLike h n c s.world → IsLike h n c (throttle s d t).state.world
+  unfolding throttle
+  like_throttle s d t i =
+      let off = with_world s (stopped s.world d t) in
+      let r = (stopping off d t 1).state in
+      let away : IsLike h n c off.world = (i.0, length-set s.world.tasks t _ ∙ i.1, length-set s.world.cpus d None ∙ i.2) in
+      like_cycle h n c (park r t).state d None true (like_park h n c r t (like_stopping h n c off d t 1 away))
+
+  like_expire : (s : State) (d t : ℕ) → IsLike h n c s.world → IsLike h n c (expire s d t).state.world
+  unfolding expire
+  like_expire s d t i = keeps_if (λ (r : Stepped). IsLike h n c r.state.world) ((task_at s.world t).slice == 0) (cycle s d (Some t) true) (stays s) (like_cycle h n c s d (Some t) true i) i
+
+  -- usages are no part of it
+  like_used_ms : (w : WorldState) (t : ℕ) → IsLike h n c w → IsLike h n c (used_ms w t)
+  like_used_ms w t i = keeps_if (IsLike h n c) (nat_lt t (length w.tasks)) (with_tree w (with_use w.tree t)) w i i
+
   like_count_down : (s : State) (d t : ℕ) → IsLike h n c s.world → IsLike h n c (count_down s d t).state.world
   unfolding count_down
   like_count_down s d t i =
-      let v = with_world s (ticked s.world t) in
-      let x : IsLike h n c v.world = (i.0, length-set s.world.tasks t (ran_a_tick (task_at s.world t)) ∙ i.1, i.2) in
-      keeps_if (λ (r : Stepped). IsLike h n c r.state.world) ((task_at v.world t).slice == 0) (cycle v d (Some t) true) (stays v) (like_cycle h n c v d (Some t) true x) x
+      let v = with_world s (used_ms (ticked s.world t) t) in
+      let x : IsLike h n c v.world = like_used_ms (ticked s.world t) t (i.0, length-set s.world.tasks t (ran_a_tick (task_at s.world t)) ∙ i.1, i.2) in
+      keeps_if (λ (r : Stepped). IsLike h n c r.state.world) (is_throttled v.world t) (throttle v d t) (expire v d t) (like_throttle v d t x) (like_expire v d t x)
 
   -- a tick leaves all of it
   pub like_tick : (s : State) (d : ℕ) → IsLike h n c s.world → IsLike h n c (tick s d).state.world
@@ -84,7 +101,10 @@ module _ (h : Hierarchy) (n c : ℕ) where
 
   pub like_clock : (s : State) → IsLike h n c s.world → IsLike h n c (clock s).state.world
   unfolding clock
-  like_clock s i = let v = with_world s (later s.world) in like_stalled (overdue v) v (i.0, i.1, i.2)
+  like_clock s i =
+      let v = with_world s (begun_periods (later s.world)) in
+      let r = (let_all_go v).state in
+      like_stalled (overdue r) r (like_let_all_go h n c v (i.0, i.1, i.2))
 
 -- whether other tasks are active stays
 pub others_stay : (h : Hierarchy) (t u : ℕ) (on : Bool) → (u ≡ t → ⊥) → is_active_task (tree.with_task h t on) u ≡ is_active_task h u
