@@ -9,7 +9,7 @@ use crate::names::Names;
 use arrayvec::ArrayString;
 use itoa::Buffer;
 use scx_output::{Failed, Out, write_named};
-use scx_world::{BUILTIN, GLOBAL, HELD, Note, POLICY_END, What};
+use scx_world::{BUILTIN, GLOBAL, HELD, Note, PARKED, POLICY_END, What};
 
 /// How many bytes the longest part of a line takes, and some more.
 const PART_CAPACITY: usize = 64;
@@ -112,6 +112,8 @@ fn queue_name(queue: u64) -> Part
         whole_part(" held\n")
     } else if queue == BUILTIN {
         whole_part(" builtin\n")
+    } else if queue == PARKED {
+        whole_part(" parked\n")
     } else {
         numbered(" local ", queue % 0x1_0000_0000)
     }
