@@ -1,14 +1,14 @@
 -- The policy of a machine stays the one that it was given, whatever happens.
 use Rattle.std.proofs.Common.{◌≡◌, ℕ, zero, suc, Bool, true, false, ◌==◌, if◌then◌else◌, Option, Some, None, refl, ◌∙◌}
-use Rattle.scx_dsq.specs.Queues.{front_of}
+use Rattle.scx_dsq.specs.Queues.{len_of, front_of, behind_of}
 use Rattle.scx_semantics.specs.declared.callbacks.Callback.{Callback}
 use Rattle.scx_semantics.specs.declared.callbacks.Callback.TheVariants as callback
 use Rattle.scx_vm.specs.declared.arguments.Args.{Args}
 use Rattle.scx_world.specs.declared.call.Insert.{Insert}
 use Rattle.scx_world.specs.declared.faults.Fault.{Fault}
-use Rattle.scx_world.specs.Ids.{global, builtin, local_on}
-use Rattle.scx_world.specs.World.{task_at, running, cpu_of, is_idle, begun}
-use Rattle.scx_world.specs.Tasks.{woken, asleep, for_cpu, stopped, started_at, ticked, later}
+use Rattle.scx_world.specs.Ids.{global, builtin, parked, local_on}
+use Rattle.scx_world.specs.World.{task_at, is_throttled, running, cpu_of, is_idle, begun}
+use Rattle.scx_world.specs.Tasks.{woken, asleep, for_cpu, stopped, started_at, let_go, ticked, used_ms, later, begun_periods}
 use Rattle.scx_world.specs.Ejecting.{charged, overtaken}
 use Rattle.scx_machine.specs.declared.events.Event.{Event}
 use Rattle.scx_machine.specs.declared.events.Event.TheVariants.{Wake, Sleep, Tick, Clock, SetWeight}
@@ -17,8 +17,10 @@ use Rattle.scx_machine.specs.Steps.{State, Stepped, with_world, stays, joined, i
 use Rattle.scx_machine.specs.Ejecting.{ejected_for}
 use Rattle.scx_machine.specs.Callbacks.{called, ended, fault_of, acting, call_back, answered_by, one_task, task_cpu_and_0, task_and_number, cpu_and_task}
 use Rattle.scx_machine.specs.Put.{enters, wanted, enters_builtin, comes_in, put}
-use Rattle.scx_machine.specs.Cycle.{has_local, fill, dispatched, asks_again, tries, stopping, running_on, leave, started_if, start, rest, swap, swap_or_rest, builtin_ask, builtin_cycle, start_or_cycle, pick, pick_or_rest, conclude, ask, seek, look, cycling, cycle}
-use Rattle.scx_machine.specs.Events.{target, settled, settle, select, wake, sleep_from_cpu, sleep_from, sleep, count_down, tick_of, tick, overdue, stalled, clock, happened}
+use Rattle.scx_machine.specs.Filling.{fill}
+use Rattle.scx_machine.specs.Parking.{park, park_front, throttled_front, park_then, park_fronts, clear, in_reach, supply, let_go_one, let_go_from, let_all_go}
+use Rattle.scx_machine.specs.Cycle.{has_local, dispatched, asks_again, tries, stopping, running_on, leave, started_if, start, rest, swap, swap_or_rest, builtin_dispatch, builtin_fill, builtin_ask, builtin_cycle, start_or_cycle, pick, pick_or_rest, conclude, ask, seek, look, cycling, cycle}
+use Rattle.scx_machine.specs.Events.{target, settled, settle, select, wake, sleep_from_cpu, sleep_from, sleep, throttle, expire, count_down, tick_of, tick, overdue, stalled, clock, happened}
 use Rattle.scx_sched.specs.Sim.{SimState, refusal, stepped, stepped_if}
 use Rattle.scx_sched.proofs.Entering.{keeps_if}
 use Rattle.scx_sched.proofs.Blaming.{eject_policy}
@@ -70,11 +72,56 @@ policy_fill : (s : State) (q c : ℕ) → Keeps s (fill s q c)
 unfolding fill
 policy_fill s q c = refl
 
+-- ---- parking
+
+policy_park_front : (s : State) (q t : ℕ) → Keeps s (park_front s q t)
+unfolding park_front park
+policy_park_front s q t = refl
+
+policy_park_then : (more : State → Stepped) (s : State) (q : ℕ) (o : Option ℕ) → ((v : State) → Keeps v (more v)) → Keeps s (park_then more s q o)
+policy_park_then more s q None f = refl
+policy_park_then more s q (Some t) f = f (park_front s q t).state ∙ policy_park_front s q t
+
+policy_park_fronts : (n : ℕ) (s : State) (q : ℕ) → Keeps s (park_fronts n s q)
+unfolding park_fronts
+policy_park_fronts zero s q = refl
+policy_park_fronts (suc n) s q = policy_park_then (λ v. park_fronts n v q) s q (throttled_front s q) (λ v. policy_park_fronts n v q)
+
+policy_clear : (n : ℕ) (s : State) (c : ℕ) → Keeps s (clear n s c)
+unfolding clear
+policy_clear zero s c = refl
+policy_clear (suc n) s c =
+    let v = (fill s global c).state in
+    policy_park_then (λ u. clear n u c) v (local_on c) (throttled_front v (local_on c)) (λ u. policy_clear n u c) ∙ policy_fill s global c
+
+policy_supply : (s : State) (c : ℕ) → Keeps s (supply s c)
+unfolding supply
+policy_supply s c = policy_clear (in_reach s c) s c
+
+policy_let_go_one : (s : State) (t : ℕ) → Keeps s (let_go_one s t)
+unfolding let_go_one
+policy_let_go_one s t = policy_put (with_world s (let_go s.world t)) t (task_at s.world t).prev_cpu 0
+
+policy_let_go_from : (n : ℕ) (s : State) (at : Option ℕ) → Keeps s (let_go_from n s at)
+unfolding let_go_from
+policy_let_go_from zero s at = refl
+policy_let_go_from (suc n) s None = refl
+policy_let_go_from (suc n) s (Some t) =
+    let next = behind_of s.world.queues t in
+    let r = let_go_one s t in
+    keeps_either s (is_throttled s.world t) (let_go_from n s next) (joined r (let_go_from n r.state next)) (policy_let_go_from n s next) (policy_let_go_from n r.state next ∙ policy_let_go_one s t)
+
+policy_let_all_go : (s : State) → Keeps s (let_all_go s)
+unfolding let_all_go
+policy_let_all_go s = policy_let_go_from (len_of s.world.queues parked) s (front_of s.world.queues parked)
+
+-- ---- calls of dispatch
+
 policy_dispatched : (s : State) (c : ℕ) (p : Option ℕ) → Keeps s (dispatched s c p)
 unfolding dispatched
 policy_dispatched s c p =
     let r = call_back s callback.Dispatch (cpu_and_task c p) 0 c in
-    policy_fill r.state global c ∙ policy_call_back s callback.Dispatch (cpu_and_task c p) 0 c
+    policy_supply r.state c ∙ policy_call_back s callback.Dispatch (cpu_and_task c p) 0 c
 
 policy_tries : (n : ℕ) (s : State) (c : ℕ) (p : Option ℕ) → Keeps s (tries n s c p)
 unfolding tries
@@ -126,13 +173,19 @@ policy_swap_or_rest : (s : State) (c : ℕ) (p : Option ℕ) (ran : Bool) → Ke
 unfolding swap_or_rest
 policy_swap_or_rest s c p ran = keeps_either s (has_local s c) (swap s c p) (rest s c p ran) (policy_swap s c p) (policy_rest s c p ran)
 
+policy_builtin_fill : (s : State) (c : ℕ) → Keeps s (builtin_fill s c)
+unfolding builtin_fill builtin_dispatch
+policy_builtin_fill s c =
+    let p = park_fronts (len_of s.world.queues builtin) s builtin in
+    keeps_either s (has_local s c) (stays s) (joined p (fill p.state builtin c)) refl (policy_fill p.state builtin c ∙ policy_park_fronts (len_of s.world.queues builtin) s builtin)
+
 policy_builtin_ask : (s : State) (c : ℕ) (p : Option ℕ) (ran : Bool) → Keeps s (builtin_ask s c p ran)
 unfolding builtin_ask
-policy_builtin_ask s c p ran = policy_swap_or_rest (fill s builtin c).state c p ran ∙ policy_fill s builtin c
+policy_builtin_ask s c p ran = policy_swap_or_rest (builtin_fill s c).state c p ran ∙ policy_builtin_fill s c
 
 policy_builtin_cycle : (s : State) (c : ℕ) (p : Option ℕ) (ran : Bool) → Keeps s (builtin_cycle s c p ran)
 unfolding builtin_cycle
-policy_builtin_cycle s c p ran = policy_builtin_ask (fill s global c).state c p ran ∙ policy_fill s global c
+policy_builtin_cycle s c p ran = policy_builtin_ask (supply s c).state c p ran ∙ policy_supply s c
 
 -- ---- the policy's cycle
 
@@ -159,8 +212,8 @@ policy_ask s c p ran = policy_conclude (tries 32 s c p).state c p ran ∙ policy
 policy_seek : (s : State) (c : ℕ) (p : Option ℕ) (ran : Bool) → Keeps s (seek s c p ran)
 unfolding seek
 policy_seek s c p ran =
-    let v = (fill s global c).state in
-    keeps_either v (has_local v c) (pick v c p ran) (ask v c p ran) (policy_pick v c p ran) (policy_ask v c p ran) ∙ policy_fill s global c
+    let v = (supply s c).state in
+    keeps_either v (has_local v c) (pick v c p ran) (ask v c p ran) (policy_pick v c p ran) (policy_ask v c p ran) ∙ policy_supply s c
 
 policy_look : (s : State) (c : ℕ) (p : Option ℕ) (ran : Bool) → Keeps s (look s c p ran)
 unfolding look
@@ -210,6 +263,16 @@ policy_sleep s t = go (cpu_of s.world t)
     go None = refl
     go (Some c) = policy_sleep_from_cpu s t c
 
+policy_throttle : (s : State) (c t : ℕ) → Keeps s (throttle s c t)
+unfolding throttle park
+policy_throttle s c t =
+    let off = with_world s (stopped s.world c t) in
+    policy_cycle (park (stopping off c t 1).state t).state c None true ∙ policy_stopping off c t 1
+
+policy_expire : (s : State) (c t : ℕ) → Keeps s (expire s c t)
+unfolding expire
+policy_expire s c t = keeps_either s ((task_at s.world t).slice == 0) (cycle s c (Some t) true) (stays s) (policy_cycle s c (Some t) true) refl
+
 policy_tick : (s : State) (c : ℕ) → Keeps s (tick s c)
 unfolding tick count_down
 policy_tick s c = go (running s.world c)
@@ -217,16 +280,22 @@ policy_tick s c = go (running s.world c)
     go : (o : Option ℕ) → Keeps s (tick_of o s c)
     go None = policy_cycle s c None false
     go (Some t) =
-        let v = with_world s (ticked s.world t) in
-        keeps_either s ((task_at v.world t).slice == 0) (cycle v c (Some t) true) (stays v) (policy_cycle v c (Some t) true) refl
+        let v = with_world s (used_ms (ticked s.world t) t) in
+        keeps_either s (is_throttled v.world t) (throttle v c t) (expire v c t) (policy_throttle v c t) (policy_expire v c t)
 
 policy_clock : (s : State) → Keeps s (clock s)
 unfolding clock
-policy_clock s = go (overdue (with_world s (later s.world)))
+policy_clock s = go (overdue r) ∙ policy_let_all_go v
   where
-    go : (o : Option ℕ) → Keeps s (stalled o (with_world s (later s.world)))
+    v : State
+    v = with_world s (begun_periods (later s.world))
+
+    r : State
+    r = (let_all_go v).state
+
+    go : (o : Option ℕ) → Keeps r (stalled o r)
     go None = refl
-    go (Some t) = eject_policy (with_world s (later s.world)) _
+    go (Some t) = eject_policy r _
 
 policy_happened : (s : State) (e : Event) → Keeps s (happened s e)
 policy_happened s (Wake t) = policy_wake s t

@@ -13,7 +13,9 @@ use Rattle.scx_machine.specs.Parking.{let_all_go}
 use Rattle.scx_machine.specs.Events as machine
 use Rattle.scx_machine.specs.Start.{is_bad_shape, started}
 use Rattle.scx_sched.specs.Ranges.{IsFine}
+use Rattle.scx_sched.specs.Usages.{AreBounded}
 use Rattle.scx_sched.specs.Sim.{SimState, max_events, refusal, IsValid}
+use Rattle.scx_sched.proofs.Bounded.{are_bounded}
 use Rattle.scx_sched.proofs.Blaming.{honest_wake, honest_sleep, honest_tick, honest_let_all_go, eject_policy}
 use Rattle.scx_sched.proofs.Events.{fine_step}
 use Rattle.scx_sched.proofs.First.{fine_started, time_started, policy_started}
@@ -87,3 +89,7 @@ valid_step s n v e h few =
       timely = subst (λ (q : PolicyState). IsInTime q.timeout_ms t.world) (sym same) time;
       fine = fine_with (length s.world.tasks) (n + 1) (machine.happened s v).state.world (fine_step (length s.world.tasks) n s v refl a.taken h.fine);
     }
+
+-- and then no usage is past its bound
+pub step_bounded : (s : State) (n : ℕ) (v : Event) → refusal (record { state = s; events = n }) v ≡ None → IsValid s n → AreBounded (machine.happened s v).state.world
+step_bounded s n v e h = are_bounded (machine.happened s v).state.world (fine_step (length s.world.tasks) n s v refl (accepted (record { state = s; events = n }) v e).taken h.fine).within

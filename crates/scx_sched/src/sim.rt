@@ -68,7 +68,7 @@ impl Sim {
     }
 
     /// One event, with all that it causes. One that isn't accepted changes nothing, and has no notes.
-    #[tactic(auto, using(crate::proofs::Valid::valid_step, crate::proofs::Idle::step_leaves, crate::proofs::Causing::step_cause, crate::proofs::Bounded::are_bounded))]
+    #[tactic(auto, using(crate::proofs::Valid::valid_step, crate::proofs::Idle::step_leaves, crate::proofs::Causing::step_cause))]
     pub fn step<S: Sink>(&mut self, event: Event, sink: &mut S) -> Result<(), Refused>
         ensures answer { result ≡ answer_of (refusal self.old event) }
         ensures state { self.new ≡ stepped self.old event }
