@@ -1,20 +1,19 @@
 -- From the clearing of a local queue to the start of its front: the front may run, and stays the front.
-use Rattle.std.proofs.Common.{◌≡◌, ℕ, zero, suc, ◌+◌, ◌<◌, ◌≤◌, Bool, true, false, ◌==◌, ◌&&◌, not, nat_lt, ◌⊎◌, inl, inr, cond, List, [], ◌∷◌, length, set, get_or, Option, Some, None, is_some, option_map, refl, sym, ap, ◌∙◌, subst, arith}
+use Rattle.std.proofs.Common.{◌≡◌, ℕ, suc, ◌<◌, Bool, true, false, ◌==◌, ◌&&◌, not, nat_lt, cond, List, [], ◌∷◌, length, get_or, Option, Some, None, is_some, option_map, refl, sym, ap, ◌∙◌, subst, arith}
 use Rattle.std.specs.List.{count_by}
-use Rattle.std.proofs.lemmas.Bool.{cases_eq, ne_eqb, eq-eqb, eqb-true, lt-ltb, and_parts}
-use Rattle.std.proofs.lemmas.Bool.Decides.{nat_tests}
+use Rattle.std.proofs.lemmas.Bool.{ne_eqb, eqb-true, lt-ltb, and_parts}
 use Rattle.std.proofs.lemmas.List.Sums.{sum_by-cons}
 use Rattle.scx_dsq.specs.declared.entries.Entry.{Entry}
 use Rattle.scx_dsq.specs.declared.entries.Rank.{Rank}
 use Rattle.scx_dsq.specs.declared.entries.Rank.TheVariants.{Fifo, Vtime}
 use Rattle.scx_dsq.specs.Entries.{same_sort, is_before}
 use Rattle.scx_dsq.specs.Laws.{one_if}
-use Rattle.scx_dsq.specs.Queues.{Entries, QueueState, entry_of, queue_of, is_in, len_of, front_of}
+use Rattle.scx_dsq.specs.Queues.{Entries, QueueState, entry_of, is_in, len_of, front_of}
 use Rattle.scx_dsq.specs.Calls.{next_entry, pushed}
 use Rattle.scx_weights.specs.Limits.{is_throttled}
 use Rattle.scx_tasks.specs.Tasks.{default_slice}
 use Rattle.scx_world.specs.declared.call.Insert.{Insert}
-use Rattle.scx_world.specs.Ids.{builtin, parked, local_on, policy_end}
+use Rattle.scx_world.specs.Ids.{builtin, parked, local_on}
 use Rattle.scx_world.specs.World.{WorldState, with_queues, with_task, task_at, waits_in, waits}
 use Rattle.scx_world.specs.World as world
 use Rattle.scx_dsq.proofs.Facts.{front_is_known}

@@ -1,6 +1,6 @@
 -- What each small step of a world keeps, whole cycles keep. Before a front is started its queue is cleared, so that
 -- nobody comes to run who may not.
-use Rattle.std.proofs.Common.{◌≡◌, ℕ, zero, suc, ◌+◌, ◌==◌, ◌<◌, Bool, true, false, not, if◌then◌else◌, List, length, set, get_or, Option, Some, None, refl, sym, ap, ◌∙◌, arith}
+use Rattle.std.proofs.Common.{◌≡◌, ℕ, zero, suc, ◌+◌, ◌==◌, ◌<◌, Bool, true, false, not, if◌then◌else◌, List, length, set, get_or, Option, Some, None, refl, sym, arith}
 use Rattle.std.proofs.lemmas.Bool.{ne_eqb}
 use Rattle.std.proofs.lemmas.Bool.Decides.{nat_tests}
 use Rattle.std.proofs.lemmas.List.{length-set, get_or-set_same}
@@ -13,14 +13,13 @@ use Rattle.scx_world.specs.World.{WorldState}
 use Rattle.scx_world.specs.Tasks.{local_len, stopped, started_at, taken}
 use Rattle.scx_machine.specs.Steps.{State, Stepped, joined, stays, with_world, is_ejected}
 use Rattle.scx_machine.specs.Callbacks.{call_back, cpu_and_task}
-use Rattle.scx_machine.specs.Put.{put}
 use Rattle.scx_machine.specs.Filling.{fill}
 use Rattle.scx_machine.specs.Parking.{park, park_front, throttled_front, park_fronts, clear, in_reach, supply}
 use Rattle.scx_machine.specs.Cycle.{has_local, dispatched, asks_again, tries, stopping, leave, started_if, start as run_front, rest, swap, swap_or_rest, builtin_dispatch, builtin_fill, builtin_ask, builtin_cycle, start_or_cycle, pick, pick_or_rest, conclude, ask, seek, look, cycling, cycle}
 use Rattle.scx_sched.specs.Kept.{IsKeptBySteps}
 use Rattle.scx_sched.specs.Once.{IsSound}
 use Rattle.scx_sched.proofs.Entering.{keeps_if}
-use Rattle.scx_sched.proofs.Clear.{IsClear, MayStart, tree_used_up, clear_of, IsReady}
+use Rattle.scx_sched.proofs.Clear.{IsClear, MayStart, tree_used_up, clear_of}
 use Rattle.scx_sched.proofs.Ready.{ready_leave}
 use Rattle.scx_sched.proofs.Supplying.{park_fronts_from, clear_from, throttled_is, supply_clears, builtin_clears}
 use Rattle.scx_sched.proofs.Skeleton.{IsKnown, once_for, keeps_call_back, keeps_stopping, keeps_running_on, keeps_put}

@@ -1,12 +1,11 @@
 -- An ejection loses no task: who waits in any queue goes over to the built-in scheduler, and who runs stays.
-use Rattle.std.proofs.Common.{◌≡◌, ℕ, zero, suc, ◌<◌, ◌≤◌, Bool, true, false, ◌⊎◌, inl, inr, if◌then◌else◌, List, length, Option, Some, None, is_some, is_none, option_map, refl, sym, ap, ◌∙◌, arith}
+use Rattle.std.proofs.Common.{◌≡◌, ℕ, zero, suc, ◌<◌, ◌≤◌, Bool, true, false, ◌⊎◌, inl, inr, if◌then◌else◌, List, length, Option, Some, None, option_map, refl, sym, ap, ◌∙◌, arith}
 use Rattle.std.proofs.lemmas.Bool.{cases_eq, cases_lt}
-use Rattle.std.proofs.lemmas.List.{get_or-set_same, get_or-set_other}
 use Rattle.scx_dsq.specs.declared.entries.Entry.{Entry}
 use Rattle.scx_dsq.specs.declared.entries.Rank.{Rank}
 use Rattle.scx_dsq.specs.declared.entries.Rank.TheVariants.{Vtime}
 use Rattle.scx_dsq.specs.Queues.{QueueState, task_count, entry_of, queue_of}
-use Rattle.scx_dsq.specs.Calls.{push_refusal, next_entry, with_task as with_place, without_task, pushed, removed}
+use Rattle.scx_dsq.specs.Calls.{push_refusal, pushed, removed}
 use Rattle.scx_dsq.proofs.Facts.{tasks_removed}
 use Rattle.scx_world.specs.Ids.{builtin, parked}
 use Rattle.scx_world.specs.World.{WorldState, waits_in, waits, running}

@@ -14,7 +14,7 @@ use Rattle.scx_weights.specs.Limits as limits
 use Rattle.scx_world.specs.declared.eject.Eject.{Eject}
 use Rattle.scx_world.specs.Ids.{global, builtin, parked, local_on}
 use Rattle.scx_world.specs.World.{WorldState, task_at, is_throttled, running}
-use Rattle.scx_world.specs.Tasks.{local_len, brought, fill_front, stopped, started_at, ticked, used_ms}
+use Rattle.scx_world.specs.Tasks.{local_len, brought, stopped, started_at, ticked, used_ms}
 use Rattle.scx_machine.specs.Steps.{State, Stepped, with_world, stays, joined, is_ejected}
 use Rattle.scx_machine.specs.Callbacks.{call_back, cpu_and_task}
 use Rattle.scx_machine.specs.Filling.{fill}

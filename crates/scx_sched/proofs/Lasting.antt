@@ -1,5 +1,5 @@
 -- Letting tasks go changes nobody's wait: who is parked has none, and one that begins is 0.
-use Rattle.std.proofs.Common.{◌≡◌, ℕ, zero, suc, ◌-◌, ◌<◌, ◌≤◌, ◌⊎◌, inl, inr, Bool, true, false, nat_lt, if◌then◌else◌, List, length, set, get_or, map, Option, Some, None, refl, sym, ap, ◌∙◌, arith}
+use Rattle.std.proofs.Common.{◌≡◌, ℕ, zero, suc, ◌<◌, ◌≤◌, ◌⊎◌, inl, inr, Bool, true, false, nat_lt, if◌then◌else◌, List, length, set, get_or, map, Option, Some, None, refl, sym, ap, ◌∙◌, arith}
 use Rattle.std.proofs.lemmas.Bool.{cases_eq, cases_lt}
 use Rattle.std.proofs.lemmas.List.{length-set, get_or-set_same, get_or-set_other, set_past}
 use Rattle.scx_dsq.specs.Queues.{front_of}
@@ -29,7 +29,7 @@ use Rattle.scx_world.specs.declared.faults.Fault.TheVariants.{NoSuchQueue, NoSuc
 use Rattle.scx_world.specs.World.{WorldState, with_queues, with_task, task_at, running, waits, wait, begun}
 use Rattle.scx_world.specs.Tasks.{with_since, let_go, given, gone, entered, for_cpu}
 use Rattle.scx_world.specs.Helpers.{is_there, can_create, faulted, is_dispatch, insert_fault, with_insert, released, inserted, asked, asked_by_vtime, can_move, moved, given_number, given_task, helper_after, stored_in, world_functions}
-use Rattle.scx_world.specs.Ejecting.{put_out, put_builtin, evict, evicted, cut, cut_task}
+use Rattle.scx_world.specs.Ejecting.{put_out, put_builtin, evicted, cut, cut_task}
 use Rattle.scx_machine.specs.Steps.{State, is_ejected}
 use Rattle.scx_machine.specs.Ejecting.{moves_over, eject, ejected_for}
 use Rattle.scx_machine.specs.Callbacks.{called, acting, ended, fault_of, call_back, task_and_number}

@@ -1,27 +1,22 @@
 -- Who may run again is let go, one after another: each small step keeps what whole walks keep.
-use Rattle.std.proofs.Common.{◌≡◌, ℕ, zero, suc, ◌+◌, ◌<◌, Bool, true, false, ◌==◌, ◌&&◌, ◌||◌, not, ◌⊎◌, List, length, get_or, Option, Some, None, is_some, option_map, refl, sym, ap, ◌∙◌, subst, arith, if◌then◌else◌}
-use Rattle.std.specs.List.{list_all, position}
-use Rattle.std.proofs.lemmas.Bool.{and_parts, eqb-true, both_ways, cases_lt}
+use Rattle.std.proofs.Common.{◌≡◌, ℕ, zero, suc, ◌<◌, true, false, ◌==◌, ◌&&◌, ◌||◌, List, Option, Some, None, is_some, option_map, refl, sym, ap, ◌∙◌, subst, arith}
+use Rattle.std.proofs.lemmas.Bool.{and_parts, eqb-true, both_ways}
 use Rattle.std.proofs.lemmas.List.Quantifiers.{position-Some}
 use Rattle.scx_dsq.specs.declared.entries.Entry.{Entry}
 use Rattle.scx_dsq.specs.declared.entries.Rank.{Rank}
 use Rattle.scx_dsq.specs.declared.entries.Rank.TheVariants.{Fifo, Vtime}
 use Rattle.scx_dsq.specs.Entries.{is_before}
 use Rattle.scx_dsq.specs.Queues.{QueueState, task_count, entry_of, queue_of, len_of, front_of, is_right_behind, next_by, right_behind, behind_of}
-use Rattle.scx_dsq.specs.Calls.{removed}
 use Rattle.scx_dsq.proofs.Orders.{before-asym}
 use Rattle.scx_world.specs.Ids.{parked}
 use Rattle.scx_tasks.specs.Waits.{time_since}
 use Rattle.scx_world.specs.World.{WorldState, task_at, waits_in, wait, is_throttled}
 use Rattle.scx_world.specs.Tasks.{let_go}
 use Rattle.scx_machine.specs.Steps.{State, Stepped, with_world, joined}
-use Rattle.scx_machine.specs.Put.{put}
 use Rattle.scx_machine.specs.Parking.{let_go_one, let_go_from, let_all_go}
-use Rattle.scx_sched.specs.Once.{IsSound}
 use Rattle.scx_sched.proofs.Entering.{keeps_if}
 use Rattle.scx_sched.proofs.Waiting.{front_in, removed_other}
 use Rattle.scx_sched.proofs.Sound.{waits_known}
-use Rattle.scx_sched.proofs.Parked.{IsAsParked}
 use Rattle.scx_sched.proofs.Staying.{stay_put}
 use Rattle.scx_sched.proofs.Lasting.{AreAsLong, long_here, long_then, long_let_go, long_put}
 use Rattle.scx_sched.proofs.Skeleton.{keeps_put}

@@ -1,6 +1,6 @@
 -- Who is parked stays parked in the same order, and nobody comes to be parked, in each small step but those of
 -- parking.
-use Rattle.std.proofs.Common.{◌≡◌, ℕ, zero, suc, ◌<◌, ◌≤◌, ◌⊎◌, inl, inr, Bool, true, false, ◌==◌, ◌&&◌, nat_lt, cond, List, length, set, get_or, map, Option, Some, None, is_some, is_none, option_map, refl, sym, ◌∙◌, ap, subst, arith}
+use Rattle.std.proofs.Common.{◌≡◌, ℕ, ◌<◌, ◌≤◌, ◌⊎◌, inl, inr, Bool, true, false, ◌==◌, ◌&&◌, nat_lt, cond, List, length, get_or, map, Option, Some, None, is_some, is_none, option_map, refl, sym, ◌∙◌, ap, subst, arith}
 use Rattle.std.proofs.lemmas.Bool.{cases_eq, cases_lt, ne_eqb, eq-eqb, eqb-true}
 use Rattle.std.proofs.lemmas.Bool.Decides.{nat_tests}
 use Rattle.std.proofs.lemmas.List.{get_or-set_same, get_or-set_other, set_past}
@@ -24,7 +24,7 @@ use Rattle.scx_world.specs.declared.faults.Fault.TheVariants.{NoSuchQueue, NoSuc
 use Rattle.scx_world.specs.Ids.{held, builtin, parked, local_on, policy_end}
 use Rattle.scx_world.specs.World.{WorldState, with_queues, with_tree, waits_in, waits}
 use Rattle.scx_world.specs.Tasks.{gone, entered, for_cpu, brought, put_parked}
-use Rattle.scx_world.specs.Helpers.{is_there, can_create, faulted, is_dispatch, is_held, insert_fault, with_insert, released, inserted, asked, asked_by_vtime, can_move, moved, given_number, given_task, helper_after, world_functions}
+use Rattle.scx_world.specs.Helpers.{is_there, can_create, faulted, is_dispatch, is_held, insert_fault, with_insert, released, inserted, asked, asked_by_vtime, moved, given_number, given_task, helper_after, world_functions}
 use Rattle.scx_world.specs.Ejecting.{raised, put_builtin, evict}
 use Rattle.scx_sched.specs.Once.{IsSound, GoesSomewhere}
 use Rattle.scx_sched.specs.Kept.{IsWanted, ForAny, Nowhere, Inserted}

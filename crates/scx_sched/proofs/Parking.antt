@@ -1,21 +1,19 @@
 -- The steps of parking keep what holds of a world inside an event.
-use Rattle.std.proofs.Common.{◌≡◌, ℕ, ◌+◌, ◌<◌, ◌≤◌, Bool, true, false, ◌==◌, ◌||◌, nat_lt, List, length, set, get_or, Option, Some, None, is_some, option_map, refl, sym, ◌∙◌, ap, arith}
+use Rattle.std.proofs.Common.{◌≡◌, ℕ, ◌<◌, true, false, ◌==◌, ◌||◌, nat_lt, List, length, Option, Some, None, is_some, option_map, refl, sym, ◌∙◌, ap, arith}
 use Rattle.std.proofs.lemmas.Bool.{eq-eqb, ne_eqb}
 use Rattle.std.proofs.lemmas.List.{length-set}
 use Rattle.scx_dsq.specs.declared.entries.Entry.{Entry}
 use Rattle.scx_dsq.specs.declared.entries.Rank.TheVariants.{Fifo}
 use Rattle.scx_dsq.specs.Queues.{QueueState, task_count, entry_of, queue_of, front_of}
 use Rattle.scx_dsq.specs.Calls.{push_refusal, pushed, popped, removed}
-use Rattle.scx_dsq.specs.Laws.{one_if, standing}
-use Rattle.scx_dsq.proofs.Facts.{front_is_known, standing_popped, standing_removed, tasks_pushed, tasks_without, tasks_removed}
-use Rattle.scx_tasks.specs.declared.task.Task.{Task}
+use Rattle.scx_dsq.proofs.Facts.{standing_popped, standing_removed, tasks_pushed, tasks_without, tasks_removed}
 use Rattle.scx_weights.specs.Limits.{with_use}
 use Rattle.scx_world.specs.Ids.{parked}
-use Rattle.scx_world.specs.World.{WorldState, with_tree, task_at, waits_in, waits, is_this}
-use Rattle.scx_world.specs.Tasks.{with_since, put_parked, taken, let_go, used_ms, begun_periods}
+use Rattle.scx_world.specs.World.{WorldState, with_tree, waits_in}
+use Rattle.scx_world.specs.Tasks.{put_parked, taken, let_go, used_ms, begun_periods}
 use Rattle.scx_sched.specs.Once.{IsSound}
 use Rattle.scx_sched.proofs.Entering.{keeps_if, nowhere, own_open, is_accepted, sorted_pushed, sorted_popped, sorted_removed, stamped_pushed, stamped_popped, stamped_removed, stay_pushed, stay_without, stay_removed, queues_stay, goes_on, open_own, open_without, open_removed}
-use Rattle.scx_sched.proofs.Waiting.{waiting, pushed_here, pushed_other, removed_other, waiting_left, front_waits_here, set_since, waits_sum, waits_by_sum}
+use Rattle.scx_sched.proofs.Waiting.{pushed_here, pushed_other, removed_other, waiting_left, front_waits_here, set_since, waits_sum, waits_by_sum}
 use Rattle.scx_sched.proofs.Sound.{inside, homes_set, once_pushed, left_place, popped_other, removed_place}
 
 module _ (on : List (Option ℕ)) (n : ℕ) where

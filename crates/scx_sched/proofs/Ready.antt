@@ -19,7 +19,7 @@ use Rattle.scx_world.specs.World.{WorldState, begun, quiet}
 use Rattle.scx_world.specs.Tasks.{stopped}
 use Rattle.scx_world.specs.Ejecting.{charged}
 use Rattle.scx_world.specs.Helpers.{is_dispatch, world_functions}
-use Rattle.scx_machine.specs.Steps.{State, Stepped, with_world, stays, is_ejected}
+use Rattle.scx_machine.specs.Steps.{State, with_world, stays, is_ejected}
 use Rattle.scx_machine.specs.Ejecting.{eject, ejected_for}
 use Rattle.scx_machine.specs.Callbacks.{called, acting, ended, fault_of, call_back, task_and_number}
 use Rattle.scx_machine.specs.Put.{enters, wanted, enters_builtin, comes_in, put}

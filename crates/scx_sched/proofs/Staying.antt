@@ -1,5 +1,5 @@
 -- A task that is put leaves those that are parked as they are.
-use Rattle.std.proofs.Common.{◌≡◌, ℕ, zero, suc, ◌<◌, Bool, true, false, if◌then◌else◌, List, length, Option, Some, None, refl, ap}
+use Rattle.std.proofs.Common.{ℕ, zero, suc, ◌<◌, Bool, true, false, if◌then◌else◌, List, length, Option, Some, None, refl}
 use Rattle.scx_semantics.specs.declared.callbacks.Callback.{Callback}
 use Rattle.scx_semantics.specs.declared.callbacks.Callback.TheVariants as callback
 use Rattle.scx_semantics.specs.Code.{instruction_count}
@@ -23,7 +23,7 @@ use Rattle.scx_machine.specs.Callbacks.{called, acting, ended, fault_of, call_ba
 use Rattle.scx_machine.specs.Put.{enters, wanted, enters_builtin, comes_in, put}
 use Rattle.scx_sched.specs.Kept.{IsKeptBySteps}
 use Rattle.scx_sched.specs.Once.{IsSound}
-use Rattle.scx_sched.proofs.Parked.{IsAsParked, StayParked, stay_here, as_then, as_query, as_evict, as_put_builtin, as_wanted}
+use Rattle.scx_sched.proofs.Parked.{StayParked, stay_here, as_then, as_query, as_evict, as_put_builtin, as_wanted}
 use Rattle.scx_sched.proofs.Skeleton.{is_wanted, keeps_call_back}
 
 module _ (w : WorldState) where

@@ -1,5 +1,5 @@
 -- A local queue that was supplied has a front that may run, or nobody in it.
-use Rattle.std.proofs.Common.{◌≡◌, ℕ, zero, suc, ◌+◌, ◌<◌, ◌≤◌, ◌⊎◌, inl, inr, Bool, true, false, ◌==◌, not, nat_lt, cond, List, length, set, Option, Some, None, is_some, is_none, option_map, refl, sym, ap, ◌∙◌, subst, arith, count_by}
+use Rattle.std.proofs.Common.{◌≡◌, ℕ, zero, suc, ◌+◌, ◌<◌, ◌≤◌, ◌⊎◌, inl, inr, Bool, true, false, ◌==◌, not, nat_lt, cond, length, set, Option, Some, None, is_none, option_map, refl, sym, ap, ◌∙◌, arith, count_by}
 use Rattle.std.proofs.lemmas.Bool.{cases_eq, cases_lt, ne_eqb, eq-eqb}
 use Rattle.std.proofs.lemmas.Bool.Decides.{nat_tests}
 use Rattle.std.proofs.lemmas.List.{get_or_past, set_past}
@@ -9,19 +9,18 @@ use Rattle.scx_dsq.specs.declared.entries.Rank.TheVariants.{Fifo}
 use Rattle.scx_dsq.specs.Laws.{one_if}
 use Rattle.scx_dsq.specs.Queues.{QueueState, entry_of, queue_of, is_in, len_of, front_of}
 use Rattle.scx_dsq.specs.Calls.{push_refusal, next_entry, with_task as with_place, pushed, popped}
-use Rattle.scx_dsq.proofs.Facts.{free_from, front_is_known}
+use Rattle.scx_dsq.proofs.Facts.{front_is_known}
 use Rattle.scx_world.specs.Ids.{global, builtin, parked, local_on}
 use Rattle.scx_world.specs.World.{WorldState, is_throttled}
-use Rattle.scx_world.specs.Tasks.{local_len, brought, fill_front, filled, put_parked, taken}
-use Rattle.scx_machine.specs.Steps.{State, Stepped, with_world, stays, joined}
+use Rattle.scx_world.specs.Tasks.{local_len, brought, put_parked, taken}
+use Rattle.scx_machine.specs.Steps.{State, Stepped, stays, joined}
 use Rattle.scx_machine.specs.Filling.{fill}
 use Rattle.scx_machine.specs.Parking.{park, park_front, if_throttled, throttled_front, park_then, park_fronts, clear, in_reach, supply}
 use Rattle.scx_machine.specs.Cycle.{has_local, builtin_dispatch, builtin_fill}
 use Rattle.scx_sched.proofs.Entering.{keeps_if}
 use Rattle.scx_sched.proofs.Waiting.{front_in, pushed_other}
 use Rattle.scx_sched.proofs.Lengths.{len_set}
-use Rattle.scx_sched.proofs.Firsts.{no_front_is_empty}
-use Rattle.scx_sched.proofs.Fronts.{IsSameIn, same_here, same_then, same_pushed, same_popped, front_same}
+use Rattle.scx_sched.proofs.Fronts.{IsSameIn, same_here, same_then, same_pushed, same_popped}
 use Rattle.scx_sched.proofs.Clear.{MayStart, len_same}
 
 -- ---- how many are in a queue
