@@ -198,6 +198,13 @@ impl Sim {
         self.machine.world().wait(task)
     }
 
+    /// How many groups there are; their numbers are below it.
+    pub fn groups(&self) -> u32
+        ensures { result ≡ length self.now.state.world.tree.groups }
+    {
+        self.machine.world().groups()
+    }
+
     /// How many milliseconds the tasks of the group and those below it have run since its period began.
     pub fn usage(&self, group: u32) -> u64
         requires { group < length self.now.state.world.tree.groups }
