@@ -31,6 +31,8 @@ pub(crate) enum Step {
     HasSlice(u16, u64),
     /// The task has waited so many milliseconds.
     HasWaited(u16, u64),
+    /// The group has used so many milliseconds of its period.
+    HasUsed(u32, u64),
     Ejected(Option<Eject>),
     Clock(u64),
     /// So many events were accepted.
@@ -86,6 +88,7 @@ fn look_at_a_task(rt: &impl Abort, session: &Session, step: Step) {
         Step::HasVtime(task, wanted) => session.has_vtime(rt, task, wanted),
         Step::HasSlice(task, wanted) => session.has_slice(rt, task, wanted),
         Step::HasWaited(task, wanted) => session.has_waited(rt, task, wanted),
+        Step::HasUsed(group, wanted) => session.has_used(rt, group, wanted),
         _ => {}
     }
 }

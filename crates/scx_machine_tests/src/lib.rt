@@ -12,6 +12,8 @@ mod ejecting;
 #[cfg(test)]
 mod faults;
 #[cfg(test)]
+mod parking;
+#[cfg(test)]
 mod policies;
 #[cfg(test)]
 mod recorder;

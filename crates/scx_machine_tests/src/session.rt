@@ -119,6 +119,13 @@ impl Session {
         expect_same(rt, self.sim.wait(task), wanted, task);
     }
 
+    /// The group has used so many milliseconds of its period.
+    pub(crate) fn has_used(&self, rt: &impl Abort, group: u32, wanted: u64) {
+        let known = group < self.sim.groups();
+        assert!(rt; known);
+        expect_same(rt, self.sim.usage(group), wanted, group);
+    }
+
     pub(crate) fn has_slice(&self, rt: &impl Abort, task: u16, wanted: u64) {
         let known = task < self.sim.tasks();
         assert!(rt; known);
