@@ -42,7 +42,8 @@ pub fn run_events<S: Sink>(
     ensures counted { OnOk result (EachWaitIsCounted (machine_run policy tree cpus events.now)) }
     ensures timely { OnOk result
         (NoneIsLate policy.timeout_ms (machine_run policy tree cpus events.now)) }
-    // In no period does a group with a quota use as much as its quota and one millisecond for each processor.
+    // In no period does a group with a quota use as much as its quota and one millisecond for each
+    // processor.
     ensures bounded { OnOk result (EachUsageIsBounded (machine_run policy tree cpus events.now)) }
 
     // Where no machine is made there is a cause, and no note. Its callbacks aren't stuck either.
