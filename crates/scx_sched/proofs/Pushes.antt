@@ -4,7 +4,7 @@ use Rattle.scx_dsq.specs.Queues.{QueueState, exists, entry_of, front_of}
 use Rattle.scx_dsq.proofs.Facts.{ids_removed}
 use Rattle.scx_dsq.specs.Calls.{push_refusal, popped, removed}
 use Rattle.scx_dsq.specs.declared.entries.Rank.TheVariants.{Fifo, Vtime}
-use Rattle.scx_world.specs.Ids.{builtin, local_on}
+use Rattle.scx_world.specs.Ids.{builtin, parked, local_on}
 use Rattle.scx_world.specs.World.{WorldState, waits}
 use Rattle.scx_world.specs.declared.call.Insert.{Insert}
 use Rattle.scx_world.specs.Tasks.{resolved}
@@ -44,6 +44,7 @@ is_push_accepted n e m = record {
   fill = λ on w q c t l x h. takes_front None on n w q c t l x h.sound;
   move = λ hand on w q t x h. takes_front hand on n w q w.call.cpu t h.sound.here x h.sound;
   put_builtin = λ on w t l h. takes_builtin w.queues t (raised w t) (nowhere w t h.sound.once) h.sound.queues.builtin h.sound.sorted;
+  park = λ on w t l h. is_accepted w.queues t parked Fifo (nowhere w t h.sound.once) (own_open w.queues parked Fifo h.sound.queues.parked (omega arith) refl h.sound.sorted);
   evict = λ hand on w t waits-here h. takes_evicted hand on n w t waits-here h.sound;
   release = λ hand on w t i flags x e h. takes_held hand on n w t i flags x e h.sound;
 }

@@ -5,7 +5,7 @@ use Rattle.scx_dsq.specs.Queues.{front_of}
 use Rattle.scx_dsq.specs.Calls.{push_refusal, popped, removed}
 use Rattle.scx_dsq.specs.declared.entries.Rank.TheVariants.{Fifo, Vtime}
 use Rattle.scx_world.specs.declared.call.Insert.{Insert}
-use Rattle.scx_world.specs.Ids.{local_on, builtin}
+use Rattle.scx_world.specs.Ids.{local_on, builtin, parked}
 use Rattle.scx_world.specs.World.{WorldState, waits}
 use Rattle.scx_world.specs.Tasks.{resolved}
 use Rattle.scx_world.specs.Helpers.{is_dispatch, insert_fault}
@@ -19,6 +19,8 @@ pub record IsPushAccepted (n e m : ℕ) : Type 0 where
       → push_refusal w.queues i.queue t i.rank ≡ None
   -- of a task that is put under the built-in scheduler
   pub put_builtin : (on : List (Option ℕ)) (w : WorldState) (t : ℕ) → t < n → IsFine n e m (Some t) on w → push_refusal w.queues builtin t (Vtime (raised w t)) ≡ None
+  -- of a task that is parked
+  pub park : (on : List (Option ℕ)) (w : WorldState) (t : ℕ) → t < n → IsFine n e m (Some t) on w → push_refusal w.queues parked t Fifo ≡ None
   -- of a task that goes over
   pub evict : (hand : Option ℕ) (on : List (Option ℕ)) (w : WorldState) (t : ℕ) → waits w t ≡ true → IsFine n e m hand on w → push_refusal (removed w.queues t) builtin t (Vtime (raised w t)) ≡ None
   -- of the front of a queue, to the local queue of a processor

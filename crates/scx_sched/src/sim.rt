@@ -90,10 +90,10 @@ impl Sim {
     }
 
     /// What holds between two events: each runnable task is in one place, and no other task anywhere; a task
-    /// has a wait where it is in a queue, and no longer one than a policy in force may let it have; no group with a
-    /// quota has used as much as that and one millisecond for each processor in its period; the times
-    /// of the built-in scheduler are far from where they would be cut off; and no scheduling cycle is under
-    /// way. The function does nothing: its contract is the law.
+    /// has a wait where it is in a queue and not parked, and no longer one than a policy in force may let it
+    /// have; no group with a quota has used as much as that and one millisecond for each processor in its
+    /// period; the times of the built-in scheduler are far from where they would be cut off; and no
+    /// scheduling cycle is under way. The function does nothing: its contract is the law.
     #[tactic(auto, using(crate::proofs::Bounded::are_bounded))]
     pub fn is_sound(&self)
         ensures once { IsOnce None self.now.state.world }
