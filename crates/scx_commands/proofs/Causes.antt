@@ -16,8 +16,8 @@ use Rattle.scx_outcomes.specs.Refusals.{fault_refusal, verify_refusal}
 use Rattle.scx_commands.specs.Exec.{alone, IsCause}
 
 fault_cause : (bytes : List ℕ) (code : Code) (fault : Fault) (slot : ℕ) → length bytes ≤ FILE_LIMIT → Spells bytes code → IsReason alone code fault slot → IsCause bytes (fault_refusal fault slot)
-fault_cause bytes code (Flow f) slot fits spelled reason = (fits, record { code = code; spelled = spelled; reason = reason })
-fault_cause bytes code (Rule why) slot fits spelled reason = (fits, record { code = code; spelled = spelled; reason = reason })
+fault_cause bytes code (Flow f) slot fits spelled reason = (fits, record { code = code; spelled = spelled; reason = reason; known = λ e. absurd (cc) })
+fault_cause bytes code (Rule why) slot fits spelled reason = (fits, record { code = code; spelled = spelled; reason = reason; known = λ e. absurd (cc) })
 fault_cause bytes code NoMemory slot fits spelled reason = program_has_length bytes code spelled
 
 -- its refusal has the verifier as its cause

@@ -1,12 +1,13 @@
 -- What `exec` finds in the bytes of a file: how the program that they spell runs, or why they are
 -- refused.
-use Rattle.std.specs.Prelude.{ℕ, ◌<◌, ◌≤◌, List, [], length}
+use Rattle.std.specs.Prelude.{◌≢◌, ℕ, ◌<◌, ◌≤◌, List, [], length}
 use Rattle.scx_semantics.specs.declared.callbacks.Callback.TheVariants as callback
 use Rattle.scx_semantics.specs.Code.{Code}
 use Rattle.scx_isa.specs.Spelling.{HasProgramLength, Spells}
 use Rattle.scx_isa.specs.FirstFault.{IsFirstFault}
 use Rattle.scx_safety.specs.declared.context.Context.{Context}
 use Rattle.scx_verify.specs.declared.faults.Fault as verifier
+use Rattle.scx_verify.specs.declared.faults.Fault.TheVariants as faults
 use Rattle.scx_safety.specs.Programs.{context}
 use Rattle.scx_verify.specs.Typing.{IsTyped}
 use Rattle.scx_verify.specs.Faults.{IsReason}
@@ -27,11 +28,12 @@ pub record HasRun (bytes : List ℕ) (done : Done) : Type 0 where
   pub typed : IsTyped alone code
   pub run : RunsAlone code done
 
--- the bytes spell a program, which has that fault first
+-- the bytes spell a program, which has that fault first; want of memory is none
 pub record HasFault (bytes : List ℕ) (fault : verifier.Fault) (slot : ℕ) : Type 0 where
   pub code : Code
   pub spelled : Spells bytes code
   pub reason : IsReason alone code fault slot
+  pub known : fault ≢ faults.NoMemory
 
 -- The bytes are refused for that cause. Memory is asked for only where they are as many as a program has.
 abbrev pub IsCause : List ℕ → Refusal → Type 0

@@ -1,5 +1,6 @@
-ghost use Rattle.std.specs.Prelude.{◌≡◌, IfOk, IfErr};
+ghost use Rattle.std.specs.Prelude.{◌≡◌, Some, IfOk, IfErr, OnErr};
 ghost use Rattle.scx_outcomes.specs.declared.refusal.Refusal.TheVariants.{NoMemory};
+ghost use Rattle.scx_policies.specs.Building.{AsksForMemory};
 ghost use Rattle.scx_verdicts.specs.Verdicts.{IsVerdict, IsVerdictOf, HasVerdicts, is_accepted, are_accepted};
 
 use scx_isa::{Callback, Program};
@@ -116,6 +117,7 @@ fn verdict_on(
 ) -> Result<Option<Verdict>, Refusal>
     ensures verdict { IfOk result (IsVerdictOf defs.now callback program) }
     ensures memory { IfErr result (λ refusal. refusal ≡ NoMemory) }
+    ensures asked { OnErr result (AsksForMemory program) }
 {
     match program {
         Some(program) => Ok(Some(judge(alloc, program, callback, defs)?)),
@@ -136,6 +138,7 @@ pub fn judge(
 ) -> Result<Verdict, Refusal>
     ensures verdict { IfOk result (IsVerdict defs.now callback program) }
     ensures memory { IfErr result (λ refusal. refusal ≡ NoMemory) }
+    ensures asked { OnErr result (AsksForMemory (Some program)) }
 {
     match verify(alloc, program, callback, defs) {
         Ok(verified) => Ok(Verdict::Accepted(verified.instructions())),
