@@ -1,2 +1,3 @@
 mod Shapes
 pub mod Running
+mod Passing

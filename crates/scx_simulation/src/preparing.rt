@@ -1,5 +1,6 @@
-ghost use Rattle.std.specs.Prelude.{◌≡◌, false, Ok, IfOk, IfErr};
+ghost use Rattle.std.specs.Prelude.{◌≡◌, ◌≢◌, false, Ok, IfOk, IfErr};
 ghost use Rattle.scx_weights.specs.Hierarchy.{idle};
+ghost use Rattle.scx_machine.specs.declared.start.NewError.TheVariants.{BadShape};
 ghost use Rattle.scx_machine.specs.Start.{is_bad_shape};
 ghost use Rattle.scx_sched.specs.Sim.{IsFirst};
 ghost use Rattle.scx_policies.specs.Reading.{policy_text};
@@ -8,9 +9,12 @@ ghost use Rattle.scx_driver.specs.Driver.{remaining};
 ghost use Rattle.scx_driver.specs.Events.{workload_events};
 ghost use Rattle.scx_driver.specs.Runs.{AreAccepted};
 ghost use Rattle.scx_outcomes.specs.declared.refusal.Refusal.TheVariants.{NoMemory};
+ghost use Rattle.scx_outcomes.specs.Refusals.{policy_refusal, workload_refusal};
 ghost use Rattle.scx_simulation.specs.Runs.{IsRun, IsCause, IsPolicyFault, IsWorkloadFault, IsStartFault};
+ghost use Rattle.scx_simulation.specs.Refusals.{or_refusal, IsStartRefusal};
 
 use scx_driver::Driver;
+use scx_files::LoadError;
 use scx_outcomes::Refusal;
 use scx_policies::{PolicyText, build, read_policy};
 use scx_sched::{NewError, Policy, Sim};
@@ -70,7 +74,14 @@ fn policy_in(alloc: Global, text: &str) -> Result<PolicyText, Refusal>
     ensures read { IfOk result (λ policy. policy_text text.now ≡ Ok policy) }
     ensures refused { IfErr result (IsPolicyFault text.now) }
 {
-    match read_policy(alloc, text) {
+    policy_or_refusal(read_policy(alloc, text))
+}
+
+/// A policy file that was read, or what it is refused for: its fault where one was found.
+fn policy_or_refusal(read: Result<PolicyText, LoadError>) -> Result<PolicyText, Refusal>
+    ensures { result ≡ or_refusal policy_refusal read }
+{
+    match read {
         Ok(policy) => Ok(policy),
         Err(error) => Err(Refusal::of_policy(error)),
     }
@@ -80,7 +91,14 @@ fn workload_in(alloc: Global, text: &str) -> Result<Workload, Refusal>
     ensures read { IfOk result (λ workload. workload_of text.now ≡ Ok workload) }
     ensures refused { IfErr result (IsWorkloadFault text.now) }
 {
-    match read_workload(alloc, text) {
+    workload_or_refusal(read_workload(alloc, text))
+}
+
+/// A workload file that was read, or what it is refused for: its fault where one was found.
+fn workload_or_refusal(read: Result<Workload, LoadError>) -> Result<Workload, Refusal>
+    ensures { result ≡ or_refusal workload_refusal read }
+{
+    match read {
         Ok(workload) => Ok(workload),
         Err(error) => Err(Refusal::of_workload(error)),
     }
@@ -107,8 +125,18 @@ fn machine(alloc: Global, policy: Policy, tree: Tree, cpus: u32) -> Result<Sim, 
 {
     match Sim::new(alloc, policy, tree, cpus) {
         Ok(sim) => Ok(sim),
-        Err(NewError::InitFailed(answer)) => Err(Refusal::Init(answer)),
-        Err(NewError::OutOfMemory) => Err(Refusal::NoMemory),
-        Err(NewError::BadShape) => unreachable!(),
+        Err(error) => Err(start_refusal(error)),
+    }
+}
+
+/// What a machine whose shape is right is refused for: what init answered where it failed.
+fn start_refusal(error: NewError) -> Refusal
+    requires { error ≢ BadShape }
+    ensures { IsStartRefusal error result }
+{
+    match error {
+        NewError::InitFailed(answer) => Refusal::Init(answer),
+        NewError::OutOfMemory => Refusal::NoMemory,
+        NewError::BadShape => unreachable!(),
     }
 }

@@ -1,0 +1,10 @@
+-- What a file was read as, behind a function that passes its error on.
+use Rattle.std.proofs.Common.{◌≡◌, Result, Ok, Err, IfOk}
+use Rattle.scx_files.specs.declared.fault.LoadError.{LoadError}
+use Rattle.scx_files.specs.Faults.{Reading, Gives}
+use Rattle.scx_outcomes.specs.declared.refusal.Refusal.{Refusal}
+use Rattle.scx_simulation.specs.Refusals.{or_refusal}
+
+pub read_is : {A : Type 0} (refusal_of : LoadError → Refusal) (read : Result A LoadError) (told : Result A Refusal) (means : Reading A) → Gives (λ x. x) read means → told ≡ or_refusal refusal_of read → IfOk told (λ x. means ≡ Ok x)
+read_is refusal_of (Ok made) told means gives is = rw is gives
+read_is refusal_of (Err e) told means gives is = rw is tt
