@@ -3,6 +3,8 @@
 #![tactic(auto)]
 
 #[cfg(test)]
+mod accesses;
+#[cfg(test)]
 mod checking;
 #[cfg(test)]
 mod commands;
@@ -15,9 +17,13 @@ mod finishing;
 #[cfg(test)]
 mod hints;
 #[cfg(test)]
+mod listings;
+#[cfg(test)]
 mod memory;
 #[cfg(test)]
 mod same;
+#[cfg(test)]
+mod sums;
 #[cfg(test)]
 mod texts;
 #[cfg(test)]
