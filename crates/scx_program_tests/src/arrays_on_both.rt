@@ -1,14 +1,8 @@
 //! Programs with masked and tested offsets into a value, run in operations and by the machine with tags.
 
-use crate::both_machines::{Random, leaves_the_same};
-use crate::same::expect_same;
-use scx_maps::{MapDefs, Shape};
+use crate::both_machines::{Random, Texts, expect_left_the_same};
+use scx_maps::Shape;
 use std::alloc::{AllocError, Global};
-
-/// How many programs are compared, and how many are tried at most.
-const COMPARED: u32 = 20_000;
-
-const TRIED: u32 = 200_000;
 
 /// Four values of 64 bytes.
 pub(crate) const ARRAYS: [Shape; 1] = [Shape {
@@ -162,24 +156,18 @@ pub(crate) fn random_array(alloc: Global, random: &mut Random) -> Result<String,
     Ok(text)
 }
 
-/// Whether a random program, if it is accepted, leaves the same on both machines.
-fn compare(alloc: Global, random: &mut Random, defs: &MapDefs) -> Option<bool> {
-    let text = random_array(alloc, random).ok()?;
-    leaves_the_same(alloc, text.as_str(), defs)
+/// Random programs with an array.
+#[derive(Drop)]
+struct Arrays(Random);
+
+impl Texts for Arrays {
+    fn next(&mut self, alloc: Global) -> Result<String, AllocError> {
+        let Arrays(random) = self;
+        random_array(alloc, random)
+    }
 }
 
 #[test]
 fn arrays_are_left_the_same(rt: HostRuntime) {
-    let defs = MapDefs::new(&ARRAYS).expect(&rt, "the map is within the limits");
-    let mut random = Random(5);
-    let mut compared = 0u32;
-    for _ in 0..TRIED {
-        if compared < COMPARED {
-            if let Some(same) = compare(rt.alloc(), &mut random, &defs) {
-                assert!(&rt; same);
-                compared = compared.wrapping_add(1);
-            }
-        }
-    }
-    expect_same(&rt, compared, COMPARED, "compared");
+    expect_left_the_same(&rt, &mut Arrays(Random(5)), &ARRAYS);
 }

@@ -200,32 +200,51 @@ fn is_left_by_both(alloc: Global, text: &str, verified: &Verified, defs: &MapDef
     }
 }
 
-/// Whether the program of a text, if it is accepted, leaves the same on both machines.
-pub(crate) fn leaves_the_same(alloc: Global, text: &str, defs: &MapDefs) -> Option<bool> {
-    let verified = verified(alloc, text, defs)?;
-    Some(is_left_by_both(alloc, text, &verified, defs))
+/// Random programs, text by text.
+pub(crate) trait Texts {
+    fn next(&mut self, alloc: Global) -> Result<String, AllocError>;
 }
 
-/// Whether a random program, if it is accepted, leaves the same on both machines.
-fn compare(alloc: Global, random: &mut Random, defs: &MapDefs) -> Option<bool> {
-    let text = random_text(alloc, random).ok()?;
-    leaves_the_same(alloc, text.as_str(), defs)
+/// Random programs of lines.
+#[derive(Drop)]
+struct Lines(Random);
+
+impl Texts for Lines {
+    fn next(&mut self, alloc: Global) -> Result<String, AllocError> {
+        let Lines(random) = self;
+        random_text(alloc, random)
+    }
 }
 
-#[test]
-fn random_programs_leave_the_same(rt: HostRuntime) {
-    let defs = MapDefs::new(&SHAPES).expect(&rt, "the map is within the limits");
-    let mut random = Random(1);
+/// Whether the next program, if it is accepted, leaves the same on both machines.
+fn compare<T: Texts>(alloc: Global, texts: &mut T, defs: &MapDefs) -> Option<bool> {
+    let text = texts.next(alloc).ok()?;
+    let verified = verified(alloc, text.as_str(), defs)?;
+    Some(is_left_by_both(alloc, text.as_str(), &verified, defs))
+}
+
+/// Compares what programs with these maps leave, until enough of those that are tried were accepted.
+pub(crate) fn expect_left_the_same<R: AllocGlobal + Abort, T: Texts>(
+    rt: &R,
+    texts: &mut T,
+    shapes: &[Shape],
+) {
+    let defs = MapDefs::new(shapes).expect(rt, "the map is within the limits");
     let mut compared = 0u32;
     for _ in 0..TRIED {
         if compared < COMPARED {
-            if let Some(same) = compare(rt.alloc(), &mut random, &defs) {
-                assert!(&rt; same);
+            if let Some(same) = compare(rt.alloc(), texts, &defs) {
+                assert!(rt; same);
                 compared = compared.wrapping_add(1);
             }
         }
     }
-    expect_same(&rt, compared, COMPARED, "compared");
+    expect_same(rt, compared, COMPARED, "compared");
+}
+
+#[test]
+fn random_programs_leave_the_same(rt: HostRuntime) {
+    expect_left_the_same(&rt, &mut Lines(Random(1)), &SHAPES);
 }
 
 /// How a program ends, if it is accepted and leaves the same on both machines.
