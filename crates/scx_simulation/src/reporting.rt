@@ -8,6 +8,7 @@ ghost use Rattle.scx_output.specs.Output.{HasFailed, AppendsBeginning};
 ghost use Rattle.scx_outcomes.specs.Outcome.{IfRefused, IsRefused};
 ghost use Rattle.scx_simulation.specs.Runs.{IsRun, IsCause, report_text};
 
+use crate::hearing::{Heard, Listener};
 use crate::preparing::{Run, prepare};
 use scx_outcomes::Fault;
 use scx_output::{Failed, Out};
@@ -20,10 +21,11 @@ use std::alloc::Global;
 /// # Errors
 ///
 /// The texts are refused, and then nothing is written, or writing the report fails.
-pub fn report<W: Out>(
+pub fn report<L: Listener, W: Out>(
     alloc: Global,
     policy: &str,
     workload: &str,
+    listener: &mut L,
     out: &mut W,
 ) -> Result<bool, Fault>
     ensures done { IfOk result (λ answer. (answer ≡ true)
@@ -43,12 +45,12 @@ pub fn report<W: Out>(
         → HasFailed (W.failure_count out.old) (W.failure_count out.new) }
 {
     let run = prepare(alloc, policy, workload)?;
-    write_end(run, out)?;
+    write_end(run, listener, out)?;
     Ok(true)
 }
 
 /// Goes through the run, and writes how long each task ran.
-fn write_end<W: Out>(run: Run, out: &mut W) -> Result<(), Failed>
+fn write_end<L: Listener, W: Out>(run: Run, listener: &mut L, out: &mut W) -> Result<(), Failed>
     requires { remaining run.driver run.sim ≡ workload_events run.workload run.sim }
     ensures ok { OnOk result
         (Appends (W.contents out.old) (W.contents out.new) (report_text run.workload run.sim)) }
@@ -61,9 +63,10 @@ fn write_end<W: Out>(run: Run, out: &mut W) -> Result<(), Failed>
 {
     let Run {
         workload,
-        mut driver,
+        driver,
         mut sim,
     } = run;
-    run_silently(&mut sim, &mut driver);
+    let mut events = Heard::new(driver, workload.ms(), listener);
+    run_silently(&mut sim, &mut events);
     write_report(&sim, &workload, out)
 }

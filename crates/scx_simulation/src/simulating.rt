@@ -8,6 +8,7 @@ ghost use Rattle.scx_output.specs.Output.{HasFailed, AppendsBeginning};
 ghost use Rattle.scx_outcomes.specs.Outcome.{IfRefused, IsRefused};
 ghost use Rattle.scx_simulation.specs.Runs.{IsRun, IsCause, trace_text};
 
+use crate::hearing::{Heard, Listener};
 use crate::preparing::{Run, prepare};
 use scx_outcomes::Fault;
 use scx_output::{Failed, Out};
@@ -20,10 +21,11 @@ use std::alloc::Global;
 /// # Errors
 ///
 /// The texts are refused, and then nothing is written, or writing the trace fails.
-pub fn simulate<W: Out>(
+pub fn simulate<L: Listener, W: Out>(
     alloc: Global,
     policy: &str,
     workload: &str,
+    listener: &mut L,
     out: &mut W,
 ) -> Result<bool, Fault>
     ensures done { IfOk result (λ answer. (answer ≡ true)
@@ -43,12 +45,12 @@ pub fn simulate<W: Out>(
         → HasFailed (W.failure_count out.old) (W.failure_count out.new) }
 {
     let run = prepare(alloc, policy, workload)?;
-    write_trace(run, out)?;
+    write_trace(run, listener, out)?;
     Ok(true)
 }
 
 /// Writes a line for each note of the run.
-fn write_trace<W: Out>(run: Run, out: &mut W) -> Result<(), Failed>
+fn write_trace<L: Listener, W: Out>(run: Run, listener: &mut L, out: &mut W) -> Result<(), Failed>
     requires { remaining run.driver run.sim ≡ workload_events run.workload run.sim }
     ensures ok { OnOk result
         (Appends (W.contents out.old) (W.contents out.new) (trace_text run.workload run.sim)) }
@@ -61,8 +63,9 @@ fn write_trace<W: Out>(run: Run, out: &mut W) -> Result<(), Failed>
 {
     let Run {
         workload,
-        mut driver,
+        driver,
         mut sim,
     } = run;
-    write_run(&mut sim, &mut driver, &workload, out)
+    let mut events = Heard::new(driver, workload.ms(), listener);
+    write_run(&mut sim, &mut events, &workload, out)
 }
