@@ -3,9 +3,9 @@ ghost use Rattle.std.specs.Result.{is_err};
 use crate::counting::WaitCounts;
 use crate::numbers::percent;
 use crate::shares::{Shares, WHOLE};
-use scx_driver::Driver;
 use scx_sched::{Event, Sim, What};
-use scx_simulation::Run;
+use scx_simulation::{Heard, Listener, Run};
+use scx_trace::Events;
 use scx_views::{View, Wait, Waits, watch};
 use scx_weights::MAX_DEPTH;
 use scx_workloads::Workload;
@@ -53,23 +53,28 @@ pub(crate) struct Figures {
 }
 
 /// Goes through the run, and answers its figures.
-pub(crate) fn gather(alloc: Global, run: Run) -> Result<Figures, AllocError> {
+pub(crate) fn gather<L: Listener>(
+    alloc: Global,
+    run: Run,
+    listener: &mut L,
+) -> Result<Figures, AllocError> {
     let Run {
         workload,
-        mut driver,
+        driver,
         mut sim,
     } = run;
-    gather_from(alloc, workload, &mut driver, &mut sim)
+    let mut events = Heard::new(driver, workload.ms(), listener);
+    gather_from(alloc, workload, &mut events, &mut sim)
 }
 
-fn gather_from(
+fn gather_from<E: Events>(
     alloc: Global,
     workload: Workload,
-    driver: &mut Driver,
+    events: &mut E,
     sim: &mut Sim,
 ) -> Result<Figures, AllocError> {
     let mut gathering = Gathering::new(alloc, workload)?;
-    watch(sim, driver, &mut gathering);
+    watch(sim, events, &mut gathering);
     gathering.end(sim);
     gathering.figures(alloc)
 }

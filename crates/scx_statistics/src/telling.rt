@@ -7,7 +7,7 @@ use crate::listing::write_list;
 use crate::tables::write_tables;
 use scx_outcomes::{Fault, Refusal};
 use scx_output::Out;
-use scx_simulation::prepare;
+use scx_simulation::{Listener, prepare};
 use scx_trace::Names;
 use scx_views::{Text, written};
 use std::alloc::Global;
@@ -28,10 +28,11 @@ impl Figures {
 /// # Errors
 ///
 /// The texts are refused, or memory runs out, and then nothing is written, or writing the tables fails.
-pub fn stats<W: Out>(
+pub fn stats<L: Listener, W: Out>(
     alloc: Global,
     policy: &str,
     workload: &str,
+    listener: &mut L,
     out: &mut W,
 ) -> Result<bool, Fault>
     ensures done { IfOk result (λ answer. answer ≡ true) }
@@ -40,7 +41,7 @@ pub fn stats<W: Out>(
     ensures refused { IfRefused result (IsCause policy.now workload.now) }
     ensures quiet { IsRefused result → out.new ≡ out.old }
 {
-    let figures = figures_of(alloc, policy, workload)?;
+    let figures = figures_of(alloc, policy, workload, listener)?;
     written(write_tables(&figures, &mut Text::new(out)))?;
     Ok(true)
 }
@@ -50,10 +51,11 @@ pub fn stats<W: Out>(
 /// # Errors
 ///
 /// The texts are refused, or memory runs out, and then nothing is written, or writing the values fails.
-pub fn stats_csv<W: Out>(
+pub fn stats_csv<L: Listener, W: Out>(
     alloc: Global,
     policy: &str,
     workload: &str,
+    listener: &mut L,
     out: &mut W,
 ) -> Result<bool, Fault>
     ensures done { IfOk result (λ answer. answer ≡ true) }
@@ -62,14 +64,19 @@ pub fn stats_csv<W: Out>(
     ensures refused { IfRefused result (IsCause policy.now workload.now) }
     ensures quiet { IsRefused result → out.new ≡ out.old }
 {
-    let figures = figures_of(alloc, policy, workload)?;
+    let figures = figures_of(alloc, policy, workload, listener)?;
     written(write_list(&figures, &mut Text::new(out)))?;
     Ok(true)
 }
 
-fn figures_of(alloc: Global, policy: &str, workload: &str) -> Result<Figures, Refusal>
+fn figures_of<L: Listener>(
+    alloc: Global,
+    policy: &str,
+    workload: &str,
+    listener: &mut L,
+) -> Result<Figures, Refusal>
     ensures { IfErr result (IsCause policy.now workload.now) }
 {
     let run = prepare(alloc, policy, workload)?;
-    Ok(gather(alloc, run)?)
+    Ok(gather(alloc, run, listener)?)
 }
