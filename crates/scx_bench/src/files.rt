@@ -3,7 +3,7 @@
 use crate::Sum;
 use scx_output::Counted;
 use scx_policies::read_policy;
-use scx_simulation::simulate;
+use scx_simulation::{Nobody, simulate};
 use scx_workloads::read_workload;
 use std::alloc::Global;
 use std::io;
@@ -34,7 +34,7 @@ pub(crate) fn read_workloads(alloc: Global, text: &str, times: u64) -> Sum {
 pub(crate) fn trace<R: AllocGlobal + Print>(rt: &R, policy: &str, workload: &str) -> Sum {
     let writer = BufWriter::with_capacity(rt.alloc(), BLOCK, io::writer(rt)).ok()?;
     let mut out = Counted::new(writer);
-    simulate(rt.alloc(), policy, workload, &mut out).ok()?;
+    simulate(rt.alloc(), policy, workload, &mut Nobody, &mut out).ok()?;
     out.flush().ok()?;
     Some(0)
 }

@@ -4,12 +4,11 @@ ghost use Rattle.scx_outcomes.specs.declared.refusal.Refusal.TheVariants.{NoMemo
 ghost use Rattle.scx_simulation.specs.Runs.{IsCause};
 
 use crate::frames::Frame;
-use scx_driver::Driver;
 use scx_outcomes::{Fault, Refusal};
 use scx_output::Out;
 use scx_sched::{Event, Sim, What};
-use scx_simulation::{Run, prepare};
-use scx_trace::Names;
+use scx_simulation::{Heard, Listener, Run, prepare};
+use scx_trace::{Events, Names};
 use scx_views::{Text, View, Wait, Waits, watch, written};
 use scx_workloads::Workload;
 use std::alloc::{AllocError, Global};
@@ -21,10 +20,11 @@ use std::fmt;
 /// # Errors
 ///
 /// The texts are refused, and then nothing is written, or writing the picture fails.
-pub fn picture<W: Out>(
+pub fn picture<L: Listener, W: Out>(
     alloc: Global,
     policy: &str,
     workload: &str,
+    listener: &mut L,
     out: &mut W,
 ) -> Result<bool, Fault>
     ensures done { IfOk result (λ answer. answer ≡ true) }
@@ -34,27 +34,33 @@ pub fn picture<W: Out>(
     ensures quiet { IsRefused result → out.new ≡ out.old }
 {
     let run = prepare(alloc, policy, workload)?;
-    draw(alloc, run, out)
+    draw(alloc, run, listener, out)
 }
 
 /// Goes through the run, and draws it. The answer is true.
-fn draw<W: Out>(alloc: Global, run: Run, out: &mut W) -> Result<bool, Fault>
+fn draw<L: Listener, W: Out>(
+    alloc: Global,
+    run: Run,
+    listener: &mut L,
+    out: &mut W,
+) -> Result<bool, Fault>
     ensures done { IfOk result (λ answer. answer ≡ true) }
     ensures refused { IfRefused result (λ refusal. refusal ≡ NoMemory) }
     ensures quiet { IsRefused result → out.new ≡ out.old }
 {
     let Run {
         workload,
-        mut driver,
+        driver,
         mut sim,
     } = run;
-    write_drawing(alloc, &workload, &mut driver, &mut sim, out)
+    let mut events = Heard::new(driver, workload.ms(), listener);
+    write_drawing(alloc, &workload, &mut events, &mut sim, out)
 }
 
-fn write_drawing<W: Out>(
+fn write_drawing<E: Events, W: Out>(
     alloc: Global,
     workload: &Workload,
-    driver: &mut Driver,
+    events: &mut E,
     sim: &mut Sim,
     out: &mut W,
 ) -> Result<bool, Fault>
@@ -66,7 +72,7 @@ fn write_drawing<W: Out>(
         return Err(Fault::Refused(Refusal::NoMemory));
     };
     let mut drawing = Drawing::new(workload, room, out);
-    written(drawing.draw(sim, driver))?;
+    written(drawing.draw(sim, events))?;
     Ok(true)
 }
 
@@ -128,9 +134,9 @@ impl<'a, W: Out> Drawing<'a, W> {
     }
 
     /// Goes through the run, and draws it.
-    fn draw(&mut self, sim: &mut Sim, driver: &mut Driver) -> fmt::Result {
+    fn draw<E: Events>(&mut self, sim: &mut Sim, events: &mut E) -> fmt::Result {
         self.frame.begin(self.workload, &mut self.text)?;
-        watch(sim, driver, self);
+        watch(sim, events, self);
         self.end(sim.clock())
     }
 

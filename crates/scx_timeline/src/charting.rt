@@ -7,12 +7,11 @@ use crate::documents::{Document, room_for_object};
 use crate::lengths::{Length, Lengths, queue_name};
 use crate::objects::{Complete, Counter, Instant, Title};
 use arrayvec::ArrayString;
-use scx_driver::Driver;
 use scx_outcomes::{Fault, Refusal};
 use scx_output::{Failed, Out};
 use scx_sched::{Event, Sim, What};
-use scx_simulation::{Run, prepare};
-use scx_trace::Names;
+use scx_simulation::{Heard, Listener, Run, prepare};
+use scx_trace::{Events, Names};
 use scx_views::{View, watch};
 use scx_workloads::Workload;
 use scx_world::LOCAL_ON;
@@ -47,10 +46,11 @@ type Label = ArrayString<64>;
 /// # Errors
 ///
 /// The texts are refused, and then nothing is written, or writing the timeline fails.
-pub fn timeline<W: Out>(
+pub fn timeline<L: Listener, W: Out>(
     alloc: Global,
     policy: &str,
     workload: &str,
+    listener: &mut L,
     out: &mut W,
 ) -> Result<bool, Fault>
     ensures done { IfOk result (λ answer. answer ≡ true) }
@@ -60,27 +60,33 @@ pub fn timeline<W: Out>(
     ensures quiet { IsRefused result → out.new ≡ out.old }
 {
     let run = prepare(alloc, policy, workload)?;
-    write_timeline(alloc, run, out)
+    write_timeline(alloc, run, listener, out)
 }
 
 /// Goes through the run, and writes its timeline. The answer is true.
-fn write_timeline<W: Out>(alloc: Global, run: Run, out: &mut W) -> Result<bool, Fault>
+fn write_timeline<L: Listener, W: Out>(
+    alloc: Global,
+    run: Run,
+    listener: &mut L,
+    out: &mut W,
+) -> Result<bool, Fault>
     ensures done { IfOk result (λ answer. answer ≡ true) }
     ensures refused { IfRefused result (λ refusal. refusal ≡ NoMemory) }
     ensures quiet { IsRefused result → out.new ≡ out.old }
 {
     let Run {
         workload,
-        mut driver,
+        driver,
         mut sim,
     } = run;
-    write_chart(alloc, &workload, &mut driver, &mut sim, out)
+    let mut events = Heard::new(driver, workload.ms(), listener);
+    write_chart(alloc, &workload, &mut events, &mut sim, out)
 }
 
-fn write_chart<W: Out>(
+fn write_chart<E: Events, W: Out>(
     alloc: Global,
     workload: &Workload,
-    driver: &mut Driver,
+    events: &mut E,
     sim: &mut Sim,
     out: &mut W,
 ) -> Result<bool, Fault>
@@ -92,7 +98,7 @@ fn write_chart<W: Out>(
         return Err(Fault::Refused(Refusal::NoMemory));
     };
     let mut chart = Chart::new(alloc, workload, room, out);
-    chart.write(sim, driver)?;
+    chart.write(sim, events)?;
     Ok(true)
 }
 
@@ -149,9 +155,9 @@ impl<'a, W: Out> Chart<'a, W> {
     }
 
     /// Goes through the run, and writes it.
-    fn write(&mut self, sim: &mut Sim, driver: &mut Driver) -> Result<(), Failed> {
+    fn write<E: Events>(&mut self, sim: &mut Sim, events: &mut E) -> Result<(), Failed> {
         self.begin()?;
-        watch(sim, driver, self);
+        watch(sim, events, self);
         self.end(sim.clock())
     }
 

@@ -4,7 +4,7 @@ use crate::memory::Memory;
 use crate::same::expect_same;
 use scx_outcomes::Fault;
 use scx_output::{Counted, Out};
-use scx_simulation::{report, simulate};
+use scx_simulation::{Nobody, report, simulate};
 use std::alloc::Global;
 use std::process::Abort;
 
@@ -24,8 +24,8 @@ pub(crate) fn execute<W: Out>(
     out: &mut W,
 ) -> Result<bool, Fault> {
     match command {
-        Command::Run => simulate(alloc, policy, workload, out),
-        Command::Report => report(alloc, policy, workload, out),
+        Command::Run => simulate(alloc, policy, workload, &mut Nobody, out),
+        Command::Report => report(alloc, policy, workload, &mut Nobody, out),
     }
 }
 

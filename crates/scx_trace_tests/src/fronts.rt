@@ -3,7 +3,7 @@
 use crate::memory::Memory;
 use scx_outcomes::{Fault, finish, text};
 use scx_output::{Counted, Out};
-use scx_simulation::simulate;
+use scx_simulation::{Nobody, simulate};
 use std::alloc::{AllocError, Global};
 use std::fmt::Write;
 use std::process::Abort;
@@ -55,7 +55,7 @@ fn simulate_bytes<W: Out>(
 ) -> Result<bool, Fault> {
     let policy = text(policy)?;
     let workload = text(workload)?;
-    simulate(alloc, policy, workload, out)
+    simulate(alloc, policy, workload, &mut Nobody, out)
 }
 
 /// The status, and what was written.

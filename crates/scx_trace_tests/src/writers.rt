@@ -3,7 +3,7 @@
 use crate::texts::{SHORT_SLICES, TWO_TASKS};
 use scx_outcomes::Fault;
 use scx_output::Counted;
-use scx_simulation::{report, simulate};
+use scx_simulation::{Nobody, report, simulate};
 use std::alloc::Global;
 use std::io;
 use std::io::{ErrorKind, Write};
@@ -82,9 +82,9 @@ impl Write for Narrow {
 fn write_all(alloc: Global, is_trace: bool, narrow: &mut Narrow) -> Result<bool, Fault> {
     let mut out = Counted::new(narrow);
     if is_trace {
-        simulate(alloc, SHORT_SLICES, TWO_TASKS, &mut out)
+        simulate(alloc, SHORT_SLICES, TWO_TASKS, &mut Nobody, &mut out)
     } else {
-        report(alloc, SHORT_SLICES, TWO_TASKS, &mut out)
+        report(alloc, SHORT_SLICES, TWO_TASKS, &mut Nobody, &mut out)
     }
 }
 

@@ -1,52 +1,26 @@
 //! Outputs that fail, and files that are refused.
 
+use crate::commands::{COMMANDS, Command, execute};
 use crate::memory::Memory;
 use crate::same::expect_same;
 use crate::texts::{SHORT_SLICES, TWO_TASKS, UNSAFE};
 use scx_outcomes::{FAILED, Fault, REFUSED, finish};
 use scx_output::{Counted, Out};
-use scx_picture::picture;
-use scx_simulation::simulate;
-use scx_statistics::{stats, stats_csv};
-use scx_timeline::timeline;
-use std::alloc::Global;
+use scx_simulation::{Nobody, simulate};
 use std::process::Abort;
-
-#[derive(Clone, Copy)]
-enum Command {
-    Stats,
-    StatsCsv,
-    Timeline,
-    Picture,
-}
-
-const COMMANDS: [Command; 4] = [
-    Command::Stats,
-    Command::StatsCsv,
-    Command::Timeline,
-    Command::Picture,
-];
-
-fn execute<W: Out>(
-    command: Command,
-    alloc: Global,
-    policy: &str,
-    workload: &str,
-    out: &mut W,
-) -> Result<bool, Fault> {
-    match command {
-        Command::Stats => stats(alloc, policy, workload, out),
-        Command::StatsCsv => stats_csv(alloc, policy, workload, out),
-        Command::Timeline => timeline(alloc, policy, workload, out),
-        Command::Picture => picture(alloc, policy, workload, out),
-    }
-}
 
 /// An output that fails at that write.
 fn expect_cut<R: AllocGlobal + Abort>(rt: &R, command: Command, fails_at: usize, whole: &[u8]) {
     let mut memory = Memory::failing(rt.alloc(), fails_at);
     let mut out = Counted::new(&mut memory);
-    let outcome = execute(command, rt.alloc(), SHORT_SLICES, TWO_TASKS, &mut out);
+    let outcome = execute(
+        command,
+        rt.alloc(),
+        SHORT_SLICES,
+        TWO_TASKS,
+        &mut Nobody,
+        &mut out,
+    );
     expect_same(rt, &outcome, &Err(Fault::WriteFailed), "outcome");
     expect_same(rt, out.failures(), 1, "failures");
     expect_same(rt, finish(outcome, &mut out), FAILED, "status");
@@ -59,7 +33,14 @@ fn expect_cut<R: AllocGlobal + Abort>(rt: &R, command: Command, fails_at: usize,
 fn expect_cuts<R: AllocGlobal + Abort>(rt: &R, command: Command) {
     let mut memory = Memory::new(rt.alloc());
     let mut out = Counted::new(&mut memory);
-    let done = execute(command, rt.alloc(), SHORT_SLICES, TWO_TASKS, &mut out);
+    let done = execute(
+        command,
+        rt.alloc(),
+        SHORT_SLICES,
+        TWO_TASKS,
+        &mut Nobody,
+        &mut out,
+    );
     expect_same(rt, done, Ok(true), "outcome");
     let calls = memory.calls;
     for &fails_at in &[0, 1, calls / 2, calls.saturating_sub(1)] {
@@ -84,7 +65,7 @@ fn expect_line<R: AllocGlobal + Abort>(
 ) {
     let mut memory = Memory::new(rt.alloc());
     let mut out = Counted::new(&mut memory);
-    let refused = execute(command, rt.alloc(), policy, workload, &mut out);
+    let refused = execute(command, rt.alloc(), policy, workload, &mut Nobody, &mut out);
     expect_same(rt, finish(refused, &mut out), REFUSED, "status");
     expect_same(rt, memory.bytes.as_slice(), line, "written");
 }
@@ -93,7 +74,7 @@ fn expect_line<R: AllocGlobal + Abort>(
 fn expect_refused<R: AllocGlobal + Abort>(rt: &R, policy: &str, workload: &str) {
     let mut wanted = Memory::new(rt.alloc());
     let mut out = Counted::new(&mut wanted);
-    let refused = simulate(rt.alloc(), policy, workload, &mut out);
+    let refused = simulate(rt.alloc(), policy, workload, &mut Nobody, &mut out);
     expect_same(rt, finish(refused, &mut out), REFUSED, "status");
     for &command in &COMMANDS {
         expect_line(rt, command, policy, workload, wanted.bytes.as_slice());

@@ -6,6 +6,7 @@ use crate::texts::{
     HOLDS, LONG, NESTED, ONE_SLEEPS, SHORT_SLICES, SLEEPER, STAYS, TWO_TASKS, WEIGHTS,
 };
 use scx_output::Counted;
+use scx_simulation::Nobody;
 use scx_statistics::{stats, stats_csv};
 use std::process::Abort;
 
@@ -136,7 +137,16 @@ const CASES: [Case; 6] = [
 fn expect_tables<R: AllocGlobal + Abort>(rt: &R, case: &Case) {
     let mut memory = Memory::new(rt.alloc());
     let mut out = Counted::new(&mut memory);
-    assert!(rt; stats(rt.alloc(), case.policy, case.workload, &mut out).is_ok());
+    assert!(rt;
+        stats(
+            rt.alloc(),
+            case.policy,
+            case.workload,
+            &mut Nobody,
+            &mut out
+        )
+        .is_ok()
+    );
     assert!(rt; memory.bytes.as_slice().ends_with(case.wanted.as_bytes()));
 }
 
@@ -151,6 +161,6 @@ fn figures_are_those_worked_by_hand(rt: HostRuntime) {
 fn figures_are_listed(rt: HostRuntime) {
     let mut memory = Memory::new(rt.alloc());
     let mut out = Counted::new(&mut memory);
-    assert!(rt; stats_csv(rt.alloc(), SHORT_SLICES, TWO_TASKS, &mut out).is_ok());
+    assert!(rt; stats_csv(rt.alloc(), SHORT_SLICES, TWO_TASKS, &mut Nobody, &mut out).is_ok());
     expect_same(&rt, memory.bytes.as_slice(), LIST.as_bytes(), "figures");
 }

@@ -1,6 +1,9 @@
-//! Tests of the views of a run: its figures, its timeline and its picture, and outputs that fail.
+//! Tests of the views of a run: its figures, its timeline and its picture, how far it is, and outputs that
+//! fail.
 #![tactic(auto)]
 
+#[cfg(test)]
+mod commands;
 #[cfg(test)]
 mod failures;
 #[cfg(test)]
@@ -9,6 +12,8 @@ mod figures;
 mod memory;
 #[cfg(test)]
 mod pictures;
+#[cfg(test)]
+mod progress;
 #[cfg(test)]
 mod same;
 #[cfg(test)]

@@ -5,6 +5,7 @@ use crate::same::expect_same;
 use crate::texts::{HOLDS, LONG, SHORT_SLICES, TWO_TASKS};
 use scx_output::Counted;
 use scx_picture::picture;
+use scx_simulation::Nobody;
 use std::process::Abort;
 
 /// A run, and what stands once in its picture.
@@ -53,7 +54,16 @@ const CASES: [Case; 2] = [TURNS, EJECTED];
 fn expect_parts<R: AllocGlobal + Abort>(rt: &R, case: &Case) {
     let mut memory = Memory::new(rt.alloc());
     let mut out = Counted::new(&mut memory);
-    assert!(rt; picture(rt.alloc(), case.policy, case.workload, &mut out).is_ok());
+    assert!(rt;
+        picture(
+            rt.alloc(),
+            case.policy,
+            case.workload,
+            &mut Nobody,
+            &mut out
+        )
+        .is_ok()
+    );
     for &part in &case.parts {
         expect_same(rt, count(memory.bytes.as_slice(), part.as_bytes()), 1, part);
     }

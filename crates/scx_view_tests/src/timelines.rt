@@ -4,6 +4,7 @@ use crate::memory::Memory;
 use crate::same::expect_same;
 use crate::texts::{HOLDS, LONG, SHORT_SLICES, SLEEPER, STAYS, TWO_CPUS, TWO_TASKS};
 use scx_output::Counted;
+use scx_simulation::Nobody;
 use scx_timeline::timeline;
 use serde_json::Value;
 use std::alloc::Global;
@@ -11,7 +12,8 @@ use std::process::Abort;
 
 fn read<R: AllocGlobal + Abort>(rt: &R, policy: &str, workload: &str) -> Value {
     let mut memory = Memory::new(rt.alloc());
-    let done = timeline(rt.alloc(), policy, workload, &mut Counted::new(&mut memory));
+    let mut out = Counted::new(&mut memory);
+    let done = timeline(rt.alloc(), policy, workload, &mut Nobody, &mut out);
     expect_same(rt, done, Ok(true), "outcome");
     Value::from_slice(rt.alloc(), memory.bytes.as_slice()).expect(rt, "the timeline is JSON")
 }

@@ -3,30 +3,27 @@
 //! `scx_commands`, `scx_verdicts`, `scx_explain` and `scx_simulation`, whose calls are passed on here.
 #![tactic(auto)]
 
-mod progress;
-
 ghost use Rattle.std.specs.Prelude.{◌≡◌, ◌⊎◌};
 ghost use Rattle.std.specs.Io.KnownBytes.{Appends};
 ghost use Rattle.scx_output.specs.Output.{HasFailed};
 
 use clap::error::ErrorKind as WordsErrorKind;
-use progress::{Console, Progress};
 pub use scx_commands::{Counted, Failed, Fault, Out, Refusal, asm, dis, exec, finish, text};
 use scx_commands::{
     FAILED, Hint, USAGE, hint_of_slots, hint_of_text, read_file, write_all, write_unread,
 };
 pub use scx_explain::explain;
 pub use scx_picture::picture;
-pub use scx_simulation::{report, simulate};
+use scx_progress::Progress;
+pub use scx_simulation::{Listener, report, simulate};
 pub use scx_statistics::{stats, stats_csv};
 pub use scx_timeline::timeline;
 pub use scx_verdicts::check;
 use scx_words::{Request, read_words};
-use scx_workloads::read_workload;
 use std::alloc::Global;
-use std::io::{BufWriter, ErrorKind};
+use std::io::{BufWriter, ErrorKind, IsTerminal};
 use std::process::ExitCode;
-use std::rt::{Env, Files};
+use std::rt::{Clock, Env, Files};
 use std::{env, io};
 
 /// How many bytes standard output is handed at once, but for the last ones.
@@ -37,6 +34,17 @@ const BLOCK: usize = 65_536;
 struct Ending {
     status: u8,
     hint: Option<Hint>,
+}
+
+/// What a command writes of a run.
+#[derive(Clone, Copy)]
+enum Account {
+    Trace,
+    Report,
+    Stats,
+    StatsCsv,
+    Timeline,
+    Picture,
 }
 
 /// The bytes of the files of a run.
@@ -51,6 +59,25 @@ struct RunFiles {
 enum Unread<'a> {
     NoMemory,
     At(&'a str),
+}
+
+/// A runtime that can tell what a person sees of it.
+trait Console: Clock + Eprint {
+    /// Whether standard error is a terminal.
+    fn shows_errors(&self) -> bool;
+
+    /// Whether standard output is one.
+    fn shows_output(&self) -> bool;
+}
+
+impl Console for HostRuntime {
+    fn shows_errors(&self) -> bool {
+        self.stderr().is_terminal()
+    }
+
+    fn shows_output(&self) -> bool {
+        self.stdout().is_terminal()
+    }
 }
 
 fn main(rt: HostRuntime) -> ExitCode {
@@ -147,96 +174,62 @@ fn do_request<'a, R: AllocGlobal + Files + Console, W: Out>(
             let outcome = explain(rt.alloc(), bytes.as_slice(), out);
             Ok(end(outcome, hint_of_text(bytes.as_slice()), out))
         }
-        Request::Run { policy, workload } => {
-            let files = files_of(rt, policy, workload)?;
-            let outcome = simulate_aloud(rt, &files, out);
-            Ok(end(outcome, hint_of_files(&files), out))
-        }
-        Request::Report { policy, workload } => {
-            let files = files_of(rt, policy, workload)?;
-            let outcome = report_files(rt.alloc(), &files, out);
-            Ok(end(outcome, hint_of_files(&files), out))
-        }
-        Request::Stats { policy, workload } => {
-            let files = files_of(rt, policy, workload)?;
-            let outcome = stats_files(rt.alloc(), &files, out);
-            Ok(end(outcome, hint_of_files(&files), out))
-        }
+        Request::Run { policy, workload } => tell(rt, Account::Trace, policy, workload, out),
+        Request::Report { policy, workload } => tell(rt, Account::Report, policy, workload, out),
+        Request::Stats { policy, workload } => tell(rt, Account::Stats, policy, workload, out),
         Request::StatsCsv { policy, workload } => {
-            let files = files_of(rt, policy, workload)?;
-            let outcome = stats_csv_files(rt.alloc(), &files, out);
-            Ok(end(outcome, hint_of_files(&files), out))
+            tell(rt, Account::StatsCsv, policy, workload, out)
         }
         Request::Timeline { policy, workload } => {
-            let files = files_of(rt, policy, workload)?;
-            let outcome = timeline_files(rt.alloc(), &files, out);
-            Ok(end(outcome, hint_of_files(&files), out))
+            tell(rt, Account::Timeline, policy, workload, out)
         }
-        Request::Picture { policy, workload } => {
-            let files = files_of(rt, policy, workload)?;
-            let outcome = picture_files(rt.alloc(), &files, out);
-            Ok(end(outcome, hint_of_files(&files), out))
-        }
+        Request::Picture { policy, workload } => tell(rt, Account::Picture, policy, workload, out),
     }
 }
 
-/// Writes the trace of a run, and says on standard error how far it is.
-fn simulate_aloud<R: AllocGlobal + Console, W: Out>(
+/// Writes an account of the run of these files, and says meanwhile on standard error how far it is.
+fn tell<'a, R: AllocGlobal + Files + Console, W: Out>(
     rt: &R,
+    account: Account,
+    policy: &'a str,
+    workload: &'a str,
+    out: &mut W,
+) -> Result<Ending, Unread<'a>> {
+    let files = files_of(rt, policy, workload)?;
+    let mut progress = Progress::new(rt, is_progress_seen(rt, account));
+    let outcome = write_account(rt.alloc(), account, &files, &mut progress, out);
+    progress.end();
+    Ok(end(outcome, hint_of_files(&files), out))
+}
+
+/// Whether a line on standard error is seen, and tears nothing. What is written as the run goes would be torn
+/// by it on the same terminal, and says itself how far the run is.
+fn is_progress_seen<R: Console>(rt: &R, account: Account) -> bool {
+    match account {
+        Account::Trace | Account::Timeline | Account::Picture => {
+            rt.shows_errors() && !rt.shows_output()
+        }
+        Account::Report | Account::Stats | Account::StatsCsv => rt.shows_errors(),
+    }
+}
+
+fn write_account<L: Listener, W: Out>(
+    alloc: Global,
+    account: Account,
     files: &RunFiles,
+    listener: &mut L,
     out: &mut W,
 ) -> Result<bool, Fault> {
-    let total = if rt.shows_errors_alone() {
-        length_of(rt.alloc(), files.workload.as_slice())
-    } else {
-        None
-    };
-    let mut progress = Progress::new(rt, out, total);
-    let outcome = simulate_files(rt.alloc(), files, &mut progress);
-    progress.end();
-    outcome
-}
-
-/// How many milliseconds a workload lasts, if these bytes are one.
-fn length_of(alloc: Global, workload: &[u8]) -> Option<u32> {
-    let text = text(workload).ok()?;
-    Some(read_workload(alloc, text).ok()?.ms())
-}
-
-fn simulate_files<W: Out>(alloc: Global, files: &RunFiles, out: &mut W) -> Result<bool, Fault> {
     let policy = text(files.policy.as_slice())?;
     let workload = text(files.workload.as_slice())?;
-    simulate(alloc, policy, workload, out)
-}
-
-fn report_files<W: Out>(alloc: Global, files: &RunFiles, out: &mut W) -> Result<bool, Fault> {
-    let policy = text(files.policy.as_slice())?;
-    let workload = text(files.workload.as_slice())?;
-    report(alloc, policy, workload, out)
-}
-
-fn stats_files<W: Out>(alloc: Global, files: &RunFiles, out: &mut W) -> Result<bool, Fault> {
-    let policy = text(files.policy.as_slice())?;
-    let workload = text(files.workload.as_slice())?;
-    stats(alloc, policy, workload, out)
-}
-
-fn stats_csv_files<W: Out>(alloc: Global, files: &RunFiles, out: &mut W) -> Result<bool, Fault> {
-    let policy = text(files.policy.as_slice())?;
-    let workload = text(files.workload.as_slice())?;
-    stats_csv(alloc, policy, workload, out)
-}
-
-fn timeline_files<W: Out>(alloc: Global, files: &RunFiles, out: &mut W) -> Result<bool, Fault> {
-    let policy = text(files.policy.as_slice())?;
-    let workload = text(files.workload.as_slice())?;
-    timeline(alloc, policy, workload, out)
-}
-
-fn picture_files<W: Out>(alloc: Global, files: &RunFiles, out: &mut W) -> Result<bool, Fault> {
-    let policy = text(files.policy.as_slice())?;
-    let workload = text(files.workload.as_slice())?;
-    picture(alloc, policy, workload, out)
+    match account {
+        Account::Trace => simulate(alloc, policy, workload, listener, out),
+        Account::Report => report(alloc, policy, workload, listener, out),
+        Account::Stats => stats(alloc, policy, workload, listener, out),
+        Account::StatsCsv => stats_csv(alloc, policy, workload, listener, out),
+        Account::Timeline => timeline(alloc, policy, workload, listener, out),
+        Account::Picture => picture(alloc, policy, workload, listener, out),
+    }
 }
 
 /// The bytes of both files of a run, of which the policy is read first.
