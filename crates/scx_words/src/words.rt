@@ -89,7 +89,7 @@ fn request_of_run<'a>(name: &str, policy: &'a str, workload: &'a str) -> Option<
 
 /// The commands and their words.
 fn scxsim<'a>(alloc: Global) -> Result<Command<'a>, AllocError> {
-    let program = Command::new(alloc, "scxsim")
+    let mut program = Command::new(alloc, "scxsim")
         .about(
             "Runs workloads on simulated processors under a CPU scheduling policy in BPF, after verifying it.",
         )
@@ -98,168 +98,125 @@ fn scxsim<'a>(alloc: Global) -> Result<Command<'a>, AllocError> {
         )
         .subcommand_required(true)
         .arg_required_else_help(true);
-    let program = with(program, verify(alloc))?;
-    let program = with(program, explain(alloc))?;
-    let program = with_runs(alloc, program)?;
-    let program = with(program, exec(alloc))?;
-    let program = with(program, asm(alloc))?;
-    with(program, dis(alloc))
+    for form in &FORMS {
+        let command = command_of(alloc, form)?;
+        program = program.subcommand(command)?;
+    }
+    Ok(program)
 }
 
-/// The program with the commands that run a workload under a policy.
-fn with_runs<'a>(alloc: Global, program: Command<'a>) -> Result<Command<'a>, AllocError> {
-    let program = with(program, run(alloc))?;
-    let program = with(program, report(alloc))?;
-    let program = with(program, stats(alloc))?;
-    let program = with(program, stats_csv(alloc))?;
-    let program = with(program, timeline(alloc))?;
-    with(program, picture(alloc))
+fn command_of<'a>(alloc: Global, form: &Form) -> Result<Command<'a>, AllocError> {
+    let command = Command::new(alloc, form.name)
+        .about(form.about)
+        .after_help(form.example);
+    match form.files {
+        Files::Slots => with_file(alloc, command, "FILE", SLOTS),
+        Files::Text => with_file(alloc, command, "FILE", TEXT),
+        Files::Policy => with_file(alloc, command, "POLICY", POLICY),
+        Files::PolicyAndWorkload => with_run(alloc, command),
+    }
 }
 
-/// The program with one command more.
-fn with<'a>(
-    program: Command<'a>,
-    command: Result<Command<'a>, AllocError>,
-) -> Result<Command<'a>, AllocError> {
-    program.subcommand(command?)
+/// The command, which reads a policy file and a workload file.
+fn with_run<'a>(alloc: Global, command: Command<'a>) -> Result<Command<'a>, AllocError> {
+    let command = with_file(alloc, command, "POLICY", POLICY)?;
+    with_file(alloc, command, "WORKLOAD", WORKLOAD)
 }
 
-/// A command that reads a file of slots or of assembler text.
-fn of_file<'a>(
+/// The command, which reads one file more.
+fn with_file<'a>(
     alloc: Global,
+    command: Command<'a>,
+    name: &'a str,
     contents: &'a str,
-    name: &'a str,
-    about: &'a str,
-    example: &'a str,
 ) -> Result<Command<'a>, AllocError> {
-    let command = named(alloc, name, about, example);
-    command.arg(Arg::new(alloc, "FILE").required(true).help(contents))
+    command.arg(Arg::new(alloc, name).required(true).help(contents))
 }
 
-/// A command that reads a policy file.
-fn of_policy<'a>(
-    alloc: Global,
-    name: &'a str,
-    about: &'a str,
-    example: &'a str,
-) -> Result<Command<'a>, AllocError> {
-    let command = named(alloc, name, about, example);
-    command.arg(Arg::new(alloc, "POLICY").required(true).help(POLICY))
+/// What a command reads.
+#[derive(Clone, Copy)]
+enum Files {
+    Slots,
+    Text,
+    Policy,
+    PolicyAndWorkload,
 }
 
-/// A command that reads a policy file and a workload file.
-fn of_run<'a>(
-    alloc: Global,
-    name: &'a str,
-    about: &'a str,
-    example: &'a str,
-) -> Result<Command<'a>, AllocError> {
-    let command = of_policy(alloc, name, about, example)?;
-    command.arg(Arg::new(alloc, "WORKLOAD").required(true).help(WORKLOAD))
+/// How a command is called, and its help.
+#[derive(Clone, Copy)]
+struct Form {
+    name: &'static str,
+    files: Files,
+    about: &'static str,
+    example: &'static str,
 }
 
-fn named<'a>(alloc: Global, name: &'a str, about: &'a str, example: &'a str) -> Command<'a> {
-    Command::new(alloc, name).about(about).after_help(example)
-}
-
-fn verify<'a>(alloc: Global) -> Result<Command<'a>, AllocError> {
-    of_policy(
-        alloc,
-        "verify",
-        "Reads a policy file, and says of each callback whether it is safe",
-        "Example: scxsim verify examples/policies/fifo.toml\nprints:  init ok 3\n         enqueue ok 5\n         dispatch ok 3\nOf a callback that isn't safe it prints the fault and its slot, as in\n         enqueue refused 5 UnusableRegister at 1\nand its status is 1. docs/VERIFIER.md says what is safe.",
-    )
-}
-
-fn explain<'a>(alloc: Global) -> Result<Command<'a>, AllocError> {
-    of_policy(
-        alloc,
-        "explain",
-        "Verifies the same, and shows what is known before each instruction, and why one is refused",
-        "Example: scxsim explain examples/policies/fifo.toml\nprints:  of each callback the line of verify, and then its instructions, as in\n         init ok 3\n            0  r1 = 0     nothing\n            1  call 1001  r1 number 0\n            2  exit       r0 number\nand below a refused instruction why. docs/FILES.md says how to read them.",
-    )
-}
-
-fn run<'a>(alloc: Global) -> Result<Command<'a>, AllocError> {
-    of_run(
-        alloc,
-        "run",
-        "Reads a policy file and a workload file, runs the workload under the policy, and prints its trace",
-        "Example: scxsim run examples/policies/short_slices.toml examples/workloads/two_tasks.toml\nprints:  a line for each thing that happens, with its millisecond, as in\n         0 wake a\n         0 insert a queue 0\n         0 move a local 0\n         0 run a cpu 0\ndocs/FILES.md has both formats and the lines of a trace.",
-    )
-}
-
-fn report<'a>(alloc: Global) -> Result<Command<'a>, AllocError> {
-    of_run(
-        alloc,
-        "report",
-        "Reads and runs the same, and prints how long each task ran in place of the trace",
-        "Example: scxsim report examples/policies/short_slices.toml examples/workloads/two_tasks.toml\nprints:  task a run 2 share 5000\n         task b run 2 share 5000\n         total 4\n         policy in force\nrun is in milliseconds, and share in parts of 10000.",
-    )
-}
-
-fn stats<'a>(alloc: Global) -> Result<Command<'a>, AllocError> {
-    of_run(
-        alloc,
-        "stats",
-        "Reads and runs the same, and prints how tasks ran and waited, and processors and groups got on",
-        "Example: scxsim stats examples/policies/short_slices.toml examples/workloads/two_tasks.toml\nprints:  a table of tasks, one of processors and one of groups\ndocs/FILES.md says what each figure is.",
-    )
-}
-
-fn stats_csv<'a>(alloc: Global) -> Result<Command<'a>, AllocError> {
-    of_run(
-        alloc,
-        "stats-csv",
-        "Reads and runs the same, and prints the figures of stats as comma-separated values",
-        "Example: scxsim stats-csv examples/policies/short_slices.toml examples/workloads/two_tasks.toml\nprints:  kind,name,figure,value\n         task,a,run_ms,2\nand a line for each other figure.",
-    )
-}
-
-fn timeline<'a>(alloc: Global) -> Result<Command<'a>, AllocError> {
-    of_run(
-        alloc,
-        "timeline",
-        "Reads and runs the same, and prints a timeline in the Chrome trace format",
-        "Example: scxsim timeline examples/policies/short_slices.toml examples/workloads/two_tasks.toml > timeline.json\nwrites:  a file that ui.perfetto.dev opens.",
-    )
-}
-
-fn picture<'a>(alloc: Global) -> Result<Command<'a>, AllocError> {
-    of_run(
-        alloc,
-        "picture",
-        "Reads and runs the same, and prints a picture in SVG",
-        "Example: scxsim picture examples/policies/short_slices.toml examples/workloads/two_tasks.toml > picture.svg\nwrites:  a file that browsers open.",
-    )
-}
-
-fn exec<'a>(alloc: Global) -> Result<Command<'a>, AllocError> {
-    of_file(
-        alloc,
-        SLOTS,
-        "exec",
-        "Reads raw slots, runs them as a program that is given nothing, and prints its answer",
-        "Example: scxsim exec examples/modulo.bin\nprints:  r0 = 7 in 4 steps",
-    )
-}
-
-fn asm<'a>(alloc: Global) -> Result<Command<'a>, AllocError> {
-    of_file(
-        alloc,
-        TEXT,
-        "asm",
-        "Reads assembler text, and writes its raw slots",
-        "Example: scxsim asm examples/root.asm > root.new && mv root.new root.bin\nwrites:  200 bytes, which scxsim exec root.bin runs",
-    )
-}
-
-fn dis<'a>(alloc: Global) -> Result<Command<'a>, AllocError> {
-    of_file(
-        alloc,
-        SLOTS,
-        "dis",
-        "Reads raw slots, and writes their assembler text",
-        "Example: scxsim dis examples/zero.bin\nwrites:  r0 = 0\n         exit",
-    )
-}
+/// The commands, as the help lists them.
+const FORMS: [Form; 11] = [
+    Form {
+        name: "verify",
+        files: Files::Policy,
+        about: "Reads a policy file, and says of each callback whether it is safe",
+        example: "Example: scxsim verify examples/policies/fifo.toml\nprints:  init ok 3\n         enqueue ok 5\n         dispatch ok 3\nOf a callback that isn't safe it prints the fault and its slot, as in\n         enqueue refused 5 UnusableRegister at 1\nand its status is 1. docs/VERIFIER.md says what is safe.",
+    },
+    Form {
+        name: "explain",
+        files: Files::Policy,
+        about: "Verifies the same, and shows what is known before each instruction, and why one is refused",
+        example: "Example: scxsim explain examples/policies/fifo.toml\nprints:  of each callback the line of verify, and then its instructions, as in\n         init ok 3\n            0  r1 = 0     nothing\n            1  call 1001  r1 number 0\n            2  exit       r0 number\nand below a refused instruction why. docs/FILES.md says how to read them.",
+    },
+    Form {
+        name: "run",
+        files: Files::PolicyAndWorkload,
+        about: "Reads a policy file and a workload file, runs the workload under the policy, and prints its trace",
+        example: "Example: scxsim run examples/policies/short_slices.toml examples/workloads/two_tasks.toml\nprints:  a line for each thing that happens, with its millisecond, as in\n         0 wake a\n         0 insert a queue 0\n         0 move a local 0\n         0 run a cpu 0\ndocs/FILES.md has both formats and the lines of a trace.",
+    },
+    Form {
+        name: "report",
+        files: Files::PolicyAndWorkload,
+        about: "Reads and runs the same, and prints how long each task ran in place of the trace",
+        example: "Example: scxsim report examples/policies/short_slices.toml examples/workloads/two_tasks.toml\nprints:  task a run 2 share 5000\n         task b run 2 share 5000\n         total 4\n         policy in force\nrun is in milliseconds, and share in parts of 10000.",
+    },
+    Form {
+        name: "stats",
+        files: Files::PolicyAndWorkload,
+        about: "Reads and runs the same, and prints how tasks ran and waited, and processors and groups got on",
+        example: "Example: scxsim stats examples/policies/short_slices.toml examples/workloads/two_tasks.toml\nprints:  a table of tasks, one of processors and one of groups\ndocs/FILES.md says what each figure is.",
+    },
+    Form {
+        name: "stats-csv",
+        files: Files::PolicyAndWorkload,
+        about: "Reads and runs the same, and prints the figures of stats as comma-separated values",
+        example: "Example: scxsim stats-csv examples/policies/short_slices.toml examples/workloads/two_tasks.toml\nprints:  kind,name,figure,value\n         task,a,run_ms,2\nand a line for each other figure.",
+    },
+    Form {
+        name: "timeline",
+        files: Files::PolicyAndWorkload,
+        about: "Reads and runs the same, and prints a timeline in the Chrome trace format",
+        example: "Example: scxsim timeline examples/policies/short_slices.toml examples/workloads/two_tasks.toml > timeline.json\nwrites:  a file that ui.perfetto.dev opens.",
+    },
+    Form {
+        name: "picture",
+        files: Files::PolicyAndWorkload,
+        about: "Reads and runs the same, and prints a picture in SVG",
+        example: "Example: scxsim picture examples/policies/short_slices.toml examples/workloads/two_tasks.toml > picture.svg\nwrites:  a file that browsers open.",
+    },
+    Form {
+        name: "exec",
+        files: Files::Slots,
+        about: "Reads raw slots, runs them as a program that is given nothing, and prints its answer",
+        example: "Example: scxsim exec examples/modulo.bin\nprints:  r0 = 7 in 4 steps",
+    },
+    Form {
+        name: "asm",
+        files: Files::Text,
+        about: "Reads assembler text, and writes its raw slots",
+        example: "Example: scxsim asm examples/root.asm > root.new && mv root.new root.bin\nwrites:  200 bytes, which scxsim exec root.bin runs",
+    },
+    Form {
+        name: "dis",
+        files: Files::Slots,
+        about: "Reads raw slots, and writes their assembler text",
+        example: "Example: scxsim dis examples/zero.bin\nwrites:  r0 = 0\n         exit",
+    },
+];
