@@ -69,9 +69,6 @@ enum Use {
 
 use Use::{Ran, Turned};
 
-/// What happens, then the usage of each group and whether each task is throttled.
-type Row = (Use, &'static [u64], &'static [bool]);
-
 fn happen(rt: &impl Abort, tree: &mut Counted, what: Use) {
     match what {
         Ran(task) => tree.charge(rt, task),
@@ -93,12 +90,17 @@ fn check_throttled(rt: &impl Abort, tree: &Counted, throttled: &[bool], case: (u
     }
 }
 
-fn expect_rows(rt: &impl Abort, tree: &mut Counted, rows: &[Row]) {
-    for (number, &(what, usages, throttled)) in rows.iter().enumerate() {
-        happen(rt, tree, what);
-        check_usages(rt, tree, usages, (number, what));
-        check_throttled(rt, tree, throttled, (number, what));
-    }
+/// What the tree says once the use of a row has happened.
+fn expect_after(
+    rt: &impl Abort,
+    tree: &mut Counted,
+    case: (usize, Use),
+    usages: &[u64],
+    throttled: &[bool],
+) {
+    happen(rt, tree, case.1);
+    check_usages(rt, tree, usages, case);
+    check_throttled(rt, tree, throttled, case);
 }
 
 /// A group's parent, quota and period.
@@ -117,39 +119,39 @@ fn groups_of(alloc: Global, limits: &[Limit]) -> Result<Vec<Group>, AllocError> 
     Ok(groups)
 }
 
-/// Makes a tree of those groups and tasks, and goes through the rows.
-fn expect<R: AllocGlobal + Abort>(
-    rt: &R,
-    limits: &[Limit],
-    tasks: &[u32],
-    rows: &[Row],
-) -> Result<(), TreeError> {
-    let groups = groups_of(rt.alloc(), limits)?;
-    let mut tree = Counted::new(rt.alloc(), &groups, tasks)?;
-    expect_rows(rt, &mut tree, rows);
-    drop(tree);
-    Ok(())
+/// The tree of those groups and tasks, which has counted nothing yet.
+fn tree_of(alloc: Global, limits: &[Limit], tasks: &[u32]) -> Result<Counted, TreeError> {
+    let groups = groups_of(alloc, limits)?;
+    Counted::new(alloc, &groups, tasks)
 }
 
-/// 2 ms of each 5.
-const ONE_GROUP: [Row; 11] = [
-    (Ran(0), &[1], &[false, false]),
-    (Ran(1), &[2], &[true, true]),
-    (Turned(1), &[2], &[true, true]),
-    (Turned(4), &[2], &[true, true]),
-    (Turned(5), &[0], &[false, false]),
-    (Ran(1), &[1], &[false, false]),
-    (Turned(6), &[1], &[false, false]),
-    (Ran(1), &[2], &[true, true]),
+/// 2 ms of each 5: what happens, then the usage of each group and whether each task is throttled.
+const ONE_GROUP: [(Use, [u64; 1], [bool; 2]); 11] = [
+    (Ran(0), [1], [false, false]),
+    (Ran(1), [2], [true, true]),
+    (Turned(1), [2], [true, true]),
+    (Turned(4), [2], [true, true]),
+    (Turned(5), [0], [false, false]),
+    (Ran(1), [1], [false, false]),
+    (Turned(6), [1], [false, false]),
+    (Ran(1), [2], [true, true]),
     // What runs on is counted on.
-    (Ran(0), &[3], &[true, true]),
-    (Turned(11), &[3], &[true, true]),
-    (Turned(15), &[0], &[false, false]),
+    (Ran(0), [3], [true, true]),
+    (Turned(11), [3], [true, true]),
+    (Turned(15), [0], [false, false]),
 ];
+
+fn go_through_one_group(rt: &impl Abort, tree: &mut Counted) {
+    for (number, (what, usages, throttled)) in ONE_GROUP.iter().enumerate() {
+        expect_after(rt, tree, (number, *what), usages, throttled);
+    }
+}
 
 #[test]
 fn a_group_is_throttled_until_its_period_begins(rt: HostRuntime) -> Result<(), Fail> {
-    expect(&rt, &[(None, Some(2), 5)], &[0, 0], &ONE_GROUP)?;
+    let mut tree = tree_of(rt.alloc(), &[(None, Some(2), 5)], &[0, 0])?;
+    go_through_one_group(&rt, &mut tree);
+    drop(tree);
     Ok(())
 }
 
@@ -162,23 +164,31 @@ const NESTED: [Limit; 4] = [
     (None, None, 100),
 ];
 
-const UNDER_ONE: [Row; 11] = [
-    (Turned(0), &[0, 0, 0, 0], &[false, false, false]),
-    (Ran(1), &[1, 0, 1, 0], &[false, false, false]),
-    (Ran(1), &[2, 0, 2, 0], &[false, true, false]),
-    (Ran(0), &[3, 1, 2, 0], &[true, true, false]),
-    (Ran(2), &[3, 1, 2, 1], &[true, true, false]),
-    (Turned(5), &[3, 1, 0, 1], &[true, true, false]),
-    (Ran(1), &[4, 1, 1, 1], &[true, true, false]),
-    (Turned(10), &[0, 1, 0, 1], &[false, false, false]),
-    (Ran(0), &[1, 2, 0, 1], &[false, false, false]),
-    (Turned(99), &[1, 2, 0, 1], &[false, false, false]),
-    (Turned(100), &[0, 0, 0, 0], &[false, false, false]),
+const UNDER_ONE: [(Use, [u64; 4], [bool; 3]); 11] = [
+    (Turned(0), [0, 0, 0, 0], [false, false, false]),
+    (Ran(1), [1, 0, 1, 0], [false, false, false]),
+    (Ran(1), [2, 0, 2, 0], [false, true, false]),
+    (Ran(0), [3, 1, 2, 0], [true, true, false]),
+    (Ran(2), [3, 1, 2, 1], [true, true, false]),
+    (Turned(5), [3, 1, 0, 1], [true, true, false]),
+    (Ran(1), [4, 1, 1, 1], [true, true, false]),
+    (Turned(10), [0, 1, 0, 1], [false, false, false]),
+    (Ran(0), [1, 2, 0, 1], [false, false, false]),
+    (Turned(99), [1, 2, 0, 1], [false, false, false]),
+    (Turned(100), [0, 0, 0, 0], [false, false, false]),
 ];
+
+fn go_under_one(rt: &impl Abort, tree: &mut Counted) {
+    for (number, (what, usages, throttled)) in UNDER_ONE.iter().enumerate() {
+        expect_after(rt, tree, (number, *what), usages, throttled);
+    }
+}
 
 #[test]
 fn a_group_uses_what_those_above_it_may(rt: HostRuntime) -> Result<(), Fail> {
-    expect(&rt, &NESTED, &[1, 2, 3], &UNDER_ONE)?;
+    let mut tree = tree_of(rt.alloc(), &NESTED, &[1, 2, 3])?;
+    go_under_one(&rt, &mut tree);
+    drop(tree);
     Ok(())
 }
 
@@ -200,26 +210,36 @@ fn a_quota_of_any_group_limits(rt: HostRuntime) -> Result<(), Fail> {
 /// The shortest period and the longest one, with the least quota and the greatest one.
 const EXTREMES: [Limit; 2] = [(None, Some(1), 1), (None, Some(1_000_000), 1000)];
 
-const AT_EXTREMES: [Row; 8] = [
-    (Ran(0), &[1, 0], &[true, false]),
-    (Ran(1), &[1, 1], &[true, false]),
-    (Turned(1), &[0, 1], &[false, false]),
-    (Ran(0), &[1, 1], &[true, false]),
-    (Turned(999), &[0, 1], &[false, false]),
-    (Turned(1000), &[0, 0], &[false, false]),
-    (Ran(1), &[0, 1], &[false, false]),
+const AT_EXTREMES: [(Use, [u64; 2], [bool; 2]); 8] = [
+    (Ran(0), [1, 0], [true, false]),
+    (Ran(1), [1, 1], [true, false]),
+    (Turned(1), [0, 1], [false, false]),
+    (Ran(0), [1, 1], [true, false]),
+    (Turned(999), [0, 1], [false, false]),
+    (Turned(1000), [0, 0], [false, false]),
+    (Ran(1), [0, 1], [false, false]),
     // The clock is a multiple of each period at 0 too.
-    (Turned(0), &[0, 0], &[false, false]),
+    (Turned(0), [0, 0], [false, false]),
 ];
+
+fn go_to_extremes(rt: &impl Abort, tree: &mut Counted) {
+    for (number, (what, usages, throttled)) in AT_EXTREMES.iter().enumerate() {
+        expect_after(rt, tree, (number, *what), usages, throttled);
+    }
+}
 
 #[test]
 fn periods_may_be_short_and_long(rt: HostRuntime) -> Result<(), Fail> {
-    expect(&rt, &EXTREMES, &[0, 1], &AT_EXTREMES)?;
+    let mut tree = tree_of(rt.alloc(), &EXTREMES, &[0, 1])?;
+    go_to_extremes(&rt, &mut tree);
+    drop(tree);
     Ok(())
 }
 
-fn refusal(alloc: Global, groups: &[Group]) -> Option<TreeError> {
-    Tree::new(alloc, groups, &[0]).err()
+/// Why groups with those limits and a task in the first make no tree, if they make none.
+fn refusal(alloc: Global, limits: &[Limit]) -> Result<Option<TreeError>, AllocError> {
+    let groups = groups_of(alloc, limits)?;
+    Ok(Tree::new(alloc, &groups, &[0]).err())
 }
 
 /// A group, and what is wrong with it.
@@ -245,8 +265,7 @@ const LIMITS: [Verdict; 12] = [
 #[test]
 fn quotas_and_periods_are_limited(rt: HostRuntime) -> Result<(), Fail> {
     for (number, &(limit, wanted)) in LIMITS.iter().enumerate() {
-        let groups = groups_of(rt.alloc(), &[limit])?;
-        expect_same(&rt, refusal(rt.alloc(), &groups), wanted, number);
+        expect_same(&rt, refusal(rt.alloc(), &[limit])?, wanted, number);
     }
     Ok(())
 }
@@ -261,12 +280,7 @@ const DEEP: [Limit; 4] = [
 
 #[test]
 fn a_bad_limit_goes_before_depth(rt: HostRuntime) -> Result<(), Fail> {
-    let groups = groups_of(rt.alloc(), &DEEP)?;
-    expect_same(
-        &rt,
-        refusal(rt.alloc(), &groups),
-        Some(TreeError::OutOfRange),
-        "deep",
-    );
+    let found = refusal(rt.alloc(), &DEEP)?;
+    expect_same(&rt, found, Some(TreeError::OutOfRange), "deep");
     Ok(())
 }

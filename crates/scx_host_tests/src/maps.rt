@@ -28,13 +28,18 @@ fn made(alloc: Global, sizes: &[Sizes]) -> Result<Result<MapDefs, BadShape>, All
     Ok(MapDefs::new(&shapes))
 }
 
+/// Why shapes of these sizes are refused, if they are.
+fn refusal(alloc: Global, sizes: &[Sizes]) -> Result<Option<BadShape>, AllocError> {
+    let made = made(alloc, sizes)?;
+    Ok(made.err())
+}
+
 /// Sizes, and why their shapes are refused, if they are.
 type Row<'a> = (&'a [Sizes], Option<BadShape>);
 
 fn refuse<R: AllocGlobal + Abort>(rt: &R, rows: &[Row<'_>]) -> Result<(), AllocError> {
     for &(sizes, wanted) in rows {
-        let made = made(rt.alloc(), sizes)?;
-        expect_same(rt, made.err(), wanted, sizes);
+        expect_same(rt, refusal(rt.alloc(), sizes)?, wanted, sizes);
     }
     Ok(())
 }
@@ -175,11 +180,20 @@ const TOLD: [(BadShape, &str); 2] = [
     (BadShape::TooLarge, "more than 16777216 bytes over all maps"),
 ];
 
+fn expect_told<R: AllocGlobal + Abort>(
+    rt: &R,
+    refusal: BadShape,
+    wanted: &str,
+) -> Result<(), Fail> {
+    let told = refusal.to_string(rt.alloc())?;
+    expect_same(rt, told.as_str(), wanted, refusal);
+    Ok(())
+}
+
 #[test]
 fn refusals_are_told(rt: HostRuntime) -> Result<(), Fail> {
     for &(refusal, wanted) in &TOLD {
-        let told = refusal.to_string(rt.alloc())?;
-        expect_same(&rt, told.as_str(), wanted, refusal);
+        expect_told(&rt, refusal, wanted)?;
     }
     Ok(())
 }

@@ -170,42 +170,81 @@ fn refusal(alloc: Global, pairs: &[Pair], tasks: &[u32]) -> Result<Option<TreeEr
     Ok(Tree::new(alloc, &groups, tasks).err())
 }
 
-/// Groups, the groups of tasks, and what is wrong with them.
-type Fault = (&'static [Pair], &'static [u32], TreeError);
+/// A group, the group of a task, and what is wrong with them: of several faults the first in the order of
+/// their numbers.
+type Fault = (Pair, u32, TreeError);
+
+/// One group and one task that make no tree.
+const FAULTY: [Fault; 5] = [
+    ((None, 1), 1, TreeError::UnknownGroup),
+    ((Some(0), 1), 0, TreeError::UnknownGroup),
+    ((Some(7), 1), 0, TreeError::UnknownGroup),
+    ((None, 0), 0, TreeError::OutOfRange),
+    ((None, 0), 5, TreeError::UnknownGroup),
+];
+
+#[test]
+fn a_faulty_group_is_refused(rt: HostRuntime) -> Result<(), Fail> {
+    for (number, &(pair, task, error)) in FAULTY.iter().enumerate() {
+        let found = refusal(rt.alloc(), &[pair], &[task])?;
+        expect_same(&rt, found, Some(error), number);
+    }
+    Ok(())
+}
+
+/// The same of two groups.
+const FAULTY_PAIRS: [([Pair; 2], u32, TreeError); 3] = [
+    ([(Some(1), 1), (None, 1)], 0, TreeError::UnknownGroup),
+    ([(None, 1), (None, 10_001)], 0, TreeError::OutOfRange),
+    ([(None, 1), (Some(0), 0)], 0, TreeError::OutOfRange),
+];
+
+#[test]
+fn faulty_pairs_of_groups_are_refused(rt: HostRuntime) -> Result<(), Fail> {
+    for (number, &(pairs, task, error)) in FAULTY_PAIRS.iter().enumerate() {
+        let found = refusal(rt.alloc(), &pairs, &[task])?;
+        expect_same(&rt, found, Some(error), number);
+    }
+    Ok(())
+}
 
 const CHAIN: [Pair; 4] = [(None, 1), (Some(0), 1), (Some(1), 1), (Some(2), 1)];
 
-/// Lists that make no tree.
-const FAULTY: [Fault; 15] = [
-    (&[(None, 1)], &[1], TreeError::UnknownGroup),
-    (&[(Some(0), 1)], &[0], TreeError::UnknownGroup),
-    (&[(Some(1), 1), (None, 1)], &[0], TreeError::UnknownGroup),
-    (&[(Some(7), 1)], &[0], TreeError::UnknownGroup),
+/// The same of four groups, of which the last is too deep.
+const FAULTY_CHAINS: [([Pair; 4], u32, TreeError); 3] = [
+    (CHAIN, 3, TreeError::TooDeep),
+    (CHAIN, 0, TreeError::TooDeep),
+    (
+        [(None, 0), (Some(0), 1), (Some(1), 1), (Some(2), 1)],
+        3,
+        TreeError::OutOfRange,
+    ),
+];
+
+#[test]
+fn faulty_chains_of_groups_are_refused(rt: HostRuntime) -> Result<(), Fail> {
+    for (number, &(pairs, task, error)) in FAULTY_CHAINS.iter().enumerate() {
+        let found = refusal(rt.alloc(), &pairs, &[task])?;
+        expect_same(&rt, found, Some(error), number);
+    }
+    Ok(())
+}
+
+/// Groups, the groups of tasks, and what is wrong with them.
+const FAULTY_LISTS: [(&[Pair], &[u32], TreeError); 4] = [
     (&[], &[0], TreeError::UnknownGroup),
     (&[], &[], TreeError::OutOfRange),
     (&[(None, 1)], &[], TreeError::OutOfRange),
-    (&[(None, 0)], &[0], TreeError::OutOfRange),
-    (&[(None, 1), (None, 10_001)], &[0], TreeError::OutOfRange),
-    (&CHAIN, &[3], TreeError::TooDeep),
     (
         &[(None, 1), (Some(0), 1), (Some(1), 1)],
         &[2, 1],
         TreeError::NotLeaf,
     ),
-    // Of several faults the first in the order of the numbers.
-    (&[(None, 0)], &[5], TreeError::UnknownGroup),
-    (&[(None, 1), (Some(0), 0)], &[0], TreeError::OutOfRange),
-    (
-        &[(None, 0), (Some(0), 1), (Some(1), 1), (Some(2), 1)],
-        &[3],
-        TreeError::OutOfRange,
-    ),
-    (&CHAIN, &[0], TreeError::TooDeep),
 ];
 
 #[test]
-fn faulty_trees_are_refused(rt: HostRuntime) -> Result<(), Fail> {
-    for (number, &(pairs, tasks, error)) in FAULTY.iter().enumerate() {
+fn faulty_lists_are_refused(rt: HostRuntime) -> Result<(), Fail> {
+    for (number, &(pairs, tasks, error)) in FAULTY_LISTS.iter().enumerate() {
         let found = refusal(rt.alloc(), pairs, tasks)?;
         expect_same(&rt, found, Some(error), number);
     }
