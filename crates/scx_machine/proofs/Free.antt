@@ -1,5 +1,5 @@
 -- Where no group has a quota nobody is parked.
-use Rattle.std.proofs.Common.{arith, ◌≡◌, ℕ, zero, suc, ◌+◌, ◌<◌, ◌&&◌, Bool, true, false, cond, ltb, List, [], ◌∷◌, ◌++◌, length, get_or, Option, Some, None, refl, sym, ap, ◌∙◌}
+use Rattle.std.proofs.Common.{arith, ◌≡◌, ℕ, zero, suc, ◌<◌, ◌&&◌, Bool, true, false, cond, ltb, [], ◌∷◌, ◌++◌, length, get_or, Option, Some, None, refl, sym, ap, ◌∙◌}
 use Rattle.std.specs.List.{count_by}
 use Rattle.std.proofs.lemmas.List.Sums.{sum_by-cons}
 use Rattle.scx_dsq.specs.Queues.{Entries, QueueState, is_in, len_of, is_first, front_of}
@@ -11,9 +11,9 @@ use Rattle.scx_weights.proofs.KnownLimits.{none_throttled}
 use Rattle.scx_world.specs.Ids.{global, local_on}
 use Rattle.scx_world.specs.World.{WorldState, is_throttled}
 use Rattle.scx_world.specs.Tasks.{local_len, brought, fill_front, filled}
-use Rattle.scx_machine.specs.Steps.{State, Stepped, stays, joined}
+use Rattle.scx_machine.specs.Steps.{State, stays}
 use Rattle.scx_machine.specs.Filling.{move_note, fill}
-use Rattle.scx_machine.specs.Parking.{if_throttled, throttled_front, clear, in_reach, supply}
+use Rattle.scx_machine.specs.Parking.{if_throttled, clear, in_reach, supply}
 
 -- ---- an empty queue has no front
 

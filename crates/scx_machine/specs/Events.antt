@@ -1,5 +1,5 @@
 -- Events: which are accepted, and what each one does.
-use Rattle.std.specs.Prelude.{ℕ, Bool, true, false, ◌==◌, nat_lt, [], ◌∷◌, length, if◌then◌else◌, Option, Some, None}
+use Rattle.std.specs.Prelude.{ℕ, true, false, ◌==◌, nat_lt, [], ◌∷◌, length, if◌then◌else◌, Option, Some, None}
 use Rattle.scx_weights.specs.Refusals.{max_weight, is_outside}
 use Rattle.scx_semantics.specs.declared.callbacks.Callback.TheVariants as callback
 use Rattle.scx_world.specs.declared.notes.What.TheVariants as note
