@@ -9,4 +9,3 @@ pub mod GrowingResults
 pub mod AllWidths
 pub mod ElementOffsets
 pub mod BuiltRanges
-mod KeptRanges

@@ -6,4 +6,3 @@ pub mod Laws
 pub mod ResultLaws
 pub mod OffsetLaws
 pub mod Steps
-pub mod Kept

@@ -2,12 +2,10 @@ ghost use Rattle.std.specs.Prelude.{◌≡◌};
 ghost use Rattle.scx_ranges.specs.Ranges.{IsRange, all, single, is_single, join_ranges};
 ghost use Rattle.scx_ranges.specs.Cuts.{cut};
 ghost use Rattle.scx_ranges.specs.Steps.{shift_of};
-ghost use Rattle.scx_ranges.specs.Kept.{kept_step};
 ghost use Rattle.scx_ranges.specs.Results.{computed_at, copied, negated_range, extended_range, swapped_range, loaded};
 
-use crate::ranges::{Range, between};
+use crate::ranges::Range;
 use crate::steps::Step;
-use scx_arithmetic::compute;
 use scx_semantics::{Access, ByteOrder, Comparison, Extension, Operation, SwapWidth, Width};
 use std::marker::Model;
 
@@ -18,28 +16,27 @@ use std::marker::Model;
 pub struct Numbers {
     low: u64,
     high: u64,
-    /// One where it is a single number, from which the range's step follows.
     step: Step,
 }
 
 impl Model for Numbers {
     ghost use Rattle.scx_ranges.specs.declared.ranges.Range.{Range};
-    ghost use Rattle.scx_ranges.specs.Kept.{IsKept, range_of, kept_step};
+    ghost use Rattle.scx_ranges.specs.Ranges.{IsRange};
+    ghost use Rattle.scx_ranges.specs.Steps.{shift_of, step_of, step_back};
 
     ghost Value = { Range };
 
-    ghost view = { λ s. range_of s.low s.high s.step };
+    ghost view = { λ s. record { low = s.low; high = s.high; shift = shift_of s.step } };
 
-    ghost invariant = { λ s. IsKept s.low s.high s.step };
+    ghost invariant = { λ s. IsRange (record { low = s.low; high = s.high; shift = shift_of s.step }) };
 
-    ghost inverse = { λ r. record { low = r.low; high = r.high; step = kept_step r } };
+    ghost inverse = { λ r. record { low = r.low; high = r.high; step = step_of r.shift } };
 
-    ghost inverse_ok = { λ s h. λ i. record { low = s.low; high = s.high; step = h.back i } };
+    ghost inverse_ok = { λ s h. λ i. record { low = s.low; high = s.high; step = step_back s.step i } };
 }
 
 impl Numbers {
     /// The numbers of a range.
-    #[tactic(auto, using(crate::proofs::KeptRanges::kept_range, crate::proofs::KeptRanges::kept_parts))]
     pub(crate) fn of(range: Range) -> Numbers
         requires { IsRange range }
         ensures { result ≡ range }
@@ -47,7 +44,7 @@ impl Numbers {
         Numbers {
             low: range.low,
             high: range.high,
-            step: step_of(range),
+            step: Step::of(range.shift),
         }
     }
 
@@ -56,7 +53,11 @@ impl Numbers {
         ensures same { result ≡ self }
         ensures range { IsRange result }
     {
-        between(self.low, self.high, self.step.shift())
+        Range {
+            low: self.low,
+            high: self.high,
+            shift: self.step.shift(),
+        }
     }
 
     /// All numbers: nothing is known.
@@ -68,15 +69,11 @@ impl Numbers {
     }
 
     /// One number.
-    #[tactic(auto, using(crate::proofs::KeptRanges::kept_single))]
+    #[tactic(auto, using(crate::proofs::Multiples::single_range))]
     pub fn single(n: u64) -> Numbers
         ensures { result ≡ single n }
     {
-        Numbers {
-            low: n,
-            high: n,
-            step: Step::One,
-        }
+        Numbers::of(Range::single(n))
     }
 
     /// Whether it is one number alone.
@@ -114,21 +111,8 @@ impl Numbers {
     }
 
     /// What arithmetic makes of a destination and an operand (RFC 9669, section 4.1).
-    #[inline(always)]
-    pub fn computed(self, width: Width, operation: Operation, operand: Numbers) -> Numbers
-        ensures { result ≡ computed_at width operation self operand }
-    {
-        // Of single numbers no range is needed.
-        if self.low == self.high && operand.low == operand.high {
-            Numbers::single(compute(width, operation, self.low, operand.low))
-        } else {
-            self.spread(width, operation, operand)
-        }
-    }
-
-    /// The same of any numbers.
     #[tactic(auto, using(crate::proofs::BuiltRanges::computed_range))]
-    fn spread(self, width: Width, operation: Operation, operand: Numbers) -> Numbers
+    pub fn computed(self, width: Width, operation: Operation, operand: Numbers) -> Numbers
         ensures { result ≡ computed_at width operation self operand }
     {
         Numbers::of(self.range().computed(width, operation, operand.range()))
@@ -172,16 +156,5 @@ impl Numbers {
         ensures { result ≡ loaded access }
     {
         Numbers::of(Range::loaded(access))
-    }
-}
-
-/// The step that is kept of a range.
-fn step_of(range: Range) -> Step
-    ensures { result ≡ kept_step range }
-{
-    if range.low == range.high {
-        Step::One
-    } else {
-        Step::of(range.shift)
     }
 }
