@@ -15,7 +15,6 @@ use scx_maps::MapDefs;
 use scx_ranges::{Numbers, Offsets};
 
 /// The kind of a register that is read.
-#[inline(always)]
 pub(crate) fn usable(kind: Kind) -> Result<Kind, Why>
     ensures { result ≡ usable kind }
 {
@@ -26,7 +25,6 @@ pub(crate) fn usable(kind: Kind) -> Result<Kind, Why>
 }
 
 /// The kind of an operand of that width.
-#[inline(always)]
 pub(crate) fn operand_kind(state: &AbsState, width: Width, operand: Operand) -> Result<Kind, Why>
     ensures { result ≡ operand_kind state.now width operand }
 {
@@ -101,7 +99,6 @@ fn moved_kind(width: Width, kind: Kind) -> Result<Kind, Why>
 }
 
 /// The kind that an operation leaves that reads its destination.
-#[inline(always)]
 fn combined_kind(
     state: &AbsState,
     width: Width,
@@ -118,7 +115,6 @@ fn combined_kind(
 }
 
 /// The kind that an operation makes of these two.
-#[inline(always)]
 fn arithmetic_kind(
     width: Width,
     operation: Operation,
@@ -139,7 +135,6 @@ fn arithmetic_kind(
 }
 
 /// The kind that an operation makes of a number and such an operand.
-#[inline(always)]
 fn computed_kind(
     width: Width,
     operation: Operation,
