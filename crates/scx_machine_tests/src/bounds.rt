@@ -167,11 +167,22 @@ const INSERTS: [(&str, &str, Option<Fault>); 11] = [
     ("13835058059577131008", "0", Some(Fault::NoSuchQueue)),
 ];
 
+fn expect_insert<R: AllocGlobal + Abort>(
+    rt: &R,
+    queue: &str,
+    flags: &str,
+    wanted: Option<Fault>,
+) -> Result<(), AllocError> {
+    let enqueue = inserting(rt.alloc(), queue, flags)?;
+    let found = fault_of(rt, enqueue.as_str());
+    expect_same(rt, found, wanted, (queue, flags));
+    Ok(())
+}
+
 #[test]
 fn each_insert_is_judged(rt: HostRuntime) -> Result<(), Fail> {
     for &(queue, flags, fault) in &INSERTS {
-        let enqueue = inserting(rt.alloc(), queue, flags)?;
-        expect_same(&rt, fault_of(&rt, enqueue.as_str()), fault, (queue, flags));
+        expect_insert(&rt, queue, flags, fault)?;
     }
     Ok(())
 }

@@ -237,13 +237,23 @@ fn expect<R: AllocGlobal + Abort>(rt: &R, callback: Callback, text: &str, wanted
     expect_same(rt, found, wanted, text);
 }
 
+/// What becomes of the calls as each callback.
+fn expect_codes<R: AllocGlobal + Abort>(
+    rt: &R,
+    calls: &str,
+    codes: &[u8; 7],
+) -> Result<(), AllocError> {
+    let text = text_of(rt.alloc(), calls)?;
+    for (&callback, &code) in CALLBACKS.iter().zip(codes) {
+        expect(rt, callback, text.as_str(), code);
+    }
+    Ok(())
+}
+
 #[test]
 fn each_fault_in_each_callback(rt: HostRuntime) -> Result<(), AllocError> {
     for (calls, codes) in &CALLS {
-        let text = text_of(rt.alloc(), calls)?;
-        for (&callback, &code) in CALLBACKS.iter().zip(codes) {
-            expect(&rt, callback, text.as_str(), code);
-        }
+        expect_codes(&rt, calls, codes)?;
     }
     Ok(())
 }
