@@ -276,19 +276,25 @@ const LONG_TEXTS: [LongText; 3] = [
     ("", "exit\n", 4097, AsmFault::TooLong, 4097),
 ];
 
-/// How many slots the program has that the text stands for.
-fn slots_of(alloc: Global, text: &str) -> Result<usize, AsmError> {
-    let program = assemble(alloc, text)?;
+fn expect_long<R: AllocGlobal + Abort>(rt: &R, row: &LongText) -> Result<(), AllocError> {
+    let &(first, text, times, fault, line) = row;
+    let long = repeated(rt.alloc(), first, text, times)?;
+    expect_fault(rt, long.as_str(), fault, line);
+    Ok(())
+}
+
+/// How many slots a program of so many instructions has.
+fn slots_of(alloc: Global, instructions: usize) -> Result<usize, Fail> {
+    let text = repeated(alloc, "", "exit\n", instructions)?;
+    let program = assemble(alloc, text.as_str())?;
     Ok(program.slots())
 }
 
 #[test]
 fn long_texts_are_read(rt: HostRuntime) -> Result<(), Fail> {
-    for &(first, text, times, fault, line) in &LONG_TEXTS {
-        let long = repeated(rt.alloc(), first, text, times)?;
-        expect_fault(&rt, long.as_str(), fault, line);
+    for row in &LONG_TEXTS {
+        expect_long(&rt, row)?;
     }
-    let most = repeated(rt.alloc(), "", "exit\n", 4096)?;
-    expect_same(&rt, slots_of(rt.alloc(), most.as_str())?, 4096, "slots");
+    expect_same(&rt, slots_of(rt.alloc(), 4096)?, 4096, "slots");
     Ok(())
 }
