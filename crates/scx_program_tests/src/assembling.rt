@@ -24,12 +24,11 @@ fn expect_slots<R: AllocGlobal + Abort>(rt: &R, text: &str, slots: &[u64]) -> Re
     Ok(())
 }
 
-fn expect_all_slots<R: AllocGlobal + Abort>(rt: &R, rows: &[(&str, &[u64])]) -> Result<(), Fail> {
-    for &(text, slots) in rows {
-        expect_slots(rt, text, slots)?;
-    }
-    Ok(())
-}
+/// A text, and the slot that it stands for.
+type Row<'a> = (&'a str, u64);
+
+/// A text, and the two slots that it stands for.
+type WideRow<'a> = (&'a str, [u64; 2]);
 
 /// The canonical text of the program with these slots.
 fn text_of(alloc: Global, slots: &[u64]) -> Result<String, Fail> {
@@ -51,9 +50,9 @@ fn expect_line<R: AllocGlobal + Abort>(rt: &R, line: &str, slots: &[u64]) -> Res
     expect_text(rt, slots, text.as_str())
 }
 
-fn expect_lines<R: AllocGlobal + Abort>(rt: &R, rows: &[(&str, &[u64])]) -> Result<(), Fail> {
-    for &(line, slots) in rows {
-        expect_line(rt, line, slots)?;
+fn expect_lines<R: AllocGlobal + Abort>(rt: &R, rows: &[Row<'_>]) -> Result<(), Fail> {
+    for &(line, slot) in rows {
+        expect_line(rt, line, &[slot])?;
     }
     Ok(())
 }
@@ -64,30 +63,30 @@ fn expect_fault<R: AllocGlobal + Abort>(rt: &R, text: &str, fault: AsmFault, lin
     expect_same(rt, found, Some(wanted), text);
 }
 
-const ARITHMETIC: [(&str, &[u64]); 23] = [
-    ("r1 += r2", &[0x0f21_0000_0000_0000]),
-    ("r1 += -4", &[0x0701_0000_fcff_ffff]),
-    ("w3 -= 1", &[0x1403_0000_0100_0000]),
-    ("r4 *= r5", &[0x2f54_0000_0000_0000]),
-    ("r6 /= 3", &[0x3706_0000_0300_0000]),
-    ("w7 s/= w8", &[0x3c87_0100_0000_0000]),
-    ("r9 |= 255", &[0x4709_0000_ff00_0000]),
-    ("r0 &= r10", &[0x5fa0_0000_0000_0000]),
-    ("r1 <<= 3", &[0x6701_0000_0300_0000]),
-    ("r1 >>= 3", &[0x7701_0000_0300_0000]),
-    ("w1 s>>= w2", &[0xcc21_0000_0000_0000]),
-    ("r1 %= r2", &[0x9f21_0000_0000_0000]),
-    ("r1 s%= 7", &[0x9701_0100_0700_0000]),
-    ("r1 ^= -2147483648", &[0xa701_0000_0000_0080]),
-    ("r1 = r2", &[0xbf21_0000_0000_0000]),
-    ("w1 = -5", &[0xb401_0000_fbff_ffff]),
-    ("r1 = (s32)r2", &[0xbf21_2000_0000_0000]),
-    ("w1 = (s16)w2", &[0xbc21_1000_0000_0000]),
-    ("r1 = -r1", &[0x8701_0000_0000_0000]),
-    ("w1 = -w1", &[0x8401_0000_0000_0000]),
-    ("r1 = le16 r1", &[0xd401_0000_1000_0000]),
-    ("r1 = be32 r1", &[0xdc01_0000_2000_0000]),
-    ("r1 = bswap64 r1", &[0xd701_0000_4000_0000]),
+const ARITHMETIC: [Row<'static>; 23] = [
+    ("r1 += r2", 0x0f21_0000_0000_0000),
+    ("r1 += -4", 0x0701_0000_fcff_ffff),
+    ("w3 -= 1", 0x1403_0000_0100_0000),
+    ("r4 *= r5", 0x2f54_0000_0000_0000),
+    ("r6 /= 3", 0x3706_0000_0300_0000),
+    ("w7 s/= w8", 0x3c87_0100_0000_0000),
+    ("r9 |= 255", 0x4709_0000_ff00_0000),
+    ("r0 &= r10", 0x5fa0_0000_0000_0000),
+    ("r1 <<= 3", 0x6701_0000_0300_0000),
+    ("r1 >>= 3", 0x7701_0000_0300_0000),
+    ("w1 s>>= w2", 0xcc21_0000_0000_0000),
+    ("r1 %= r2", 0x9f21_0000_0000_0000),
+    ("r1 s%= 7", 0x9701_0100_0700_0000),
+    ("r1 ^= -2147483648", 0xa701_0000_0000_0080),
+    ("r1 = r2", 0xbf21_0000_0000_0000),
+    ("w1 = -5", 0xb401_0000_fbff_ffff),
+    ("r1 = (s32)r2", 0xbf21_2000_0000_0000),
+    ("w1 = (s16)w2", 0xbc21_1000_0000_0000),
+    ("r1 = -r1", 0x8701_0000_0000_0000),
+    ("w1 = -w1", 0x8401_0000_0000_0000),
+    ("r1 = le16 r1", 0xd401_0000_1000_0000),
+    ("r1 = be32 r1", 0xdc01_0000_2000_0000),
+    ("r1 = bswap64 r1", 0xd701_0000_4000_0000),
 ];
 
 #[test]
@@ -95,33 +94,39 @@ fn arithmetic_is_assembled(rt: HostRuntime) -> Result<(), Fail> {
     expect_lines(&rt, &ARITHMETIC)
 }
 
-const ACCESSES: [(&str, &[u64]); 7] = [
+const WIDE: [WideRow<'static>; 2] = [
     (
         "r1 = 1311768467463790320 ll",
-        &[0x1801_0000_f0de_bc9a, 0x0000_0000_7856_3412],
+        [0x1801_0000_f0de_bc9a, 0x0000_0000_7856_3412],
     ),
-    ("r1 = map 3", &[0x1851_0000_0300_0000, 0]),
-    ("r1 = *(u8 *)(r2 + 1)", &[0x7121_0100_0000_0000]),
-    ("r1 = *(s16 *)(r2 - 6)", &[0x8921_faff_0000_0000]),
-    ("r1 = *(u64 *)(r10 - 32768)", &[0x79a1_0080_0000_0000]),
-    ("*(u32 *)(r10 - 4) = 0", &[0x620a_fcff_0000_0000]),
-    ("*(u16 *)(r1 + 2) = r2", &[0x6b21_0200_0000_0000]),
+    ("r1 = map 3", [0x1851_0000_0300_0000, 0]),
+];
+
+const ACCESSES: [Row<'static>; 5] = [
+    ("r1 = *(u8 *)(r2 + 1)", 0x7121_0100_0000_0000),
+    ("r1 = *(s16 *)(r2 - 6)", 0x8921_faff_0000_0000),
+    ("r1 = *(u64 *)(r10 - 32768)", 0x79a1_0080_0000_0000),
+    ("*(u32 *)(r10 - 4) = 0", 0x620a_fcff_0000_0000),
+    ("*(u16 *)(r1 + 2) = r2", 0x6b21_0200_0000_0000),
 ];
 
 #[test]
 fn accesses_are_assembled(rt: HostRuntime) -> Result<(), Fail> {
+    for (line, slots) in &WIDE {
+        expect_line(&rt, line, slots)?;
+    }
     expect_lines(&rt, &ACCESSES)
 }
 
-const JUMPS: [(&str, &[u64]); 8] = [
-    ("if r1 == r2 goto +1", &[0x1d21_0100_0000_0000]),
-    ("if w1 s> -5 goto +0", &[0x6601_0000_fbff_ffff]),
-    ("if r1 & 8 goto -2", &[0x4501_feff_0800_0000]),
-    ("if w1 s<= w2 goto +3", &[0xde21_0300_0000_0000]),
-    ("goto +32767", &[0x0500_ff7f_0000_0000]),
-    ("gotol -1", &[0x0600_0000_ffff_ffff]),
-    ("call 1001", &[0x8500_0000_e903_0000]),
-    ("exit", &[EXIT]),
+const JUMPS: [Row<'static>; 8] = [
+    ("if r1 == r2 goto +1", 0x1d21_0100_0000_0000),
+    ("if w1 s> -5 goto +0", 0x6601_0000_fbff_ffff),
+    ("if r1 & 8 goto -2", 0x4501_feff_0800_0000),
+    ("if w1 s<= w2 goto +3", 0xde21_0300_0000_0000),
+    ("goto +32767", 0x0500_ff7f_0000_0000),
+    ("gotol -1", 0x0600_0000_ffff_ffff),
+    ("call 1001", 0x8500_0000_e903_0000),
+    ("exit", EXIT),
 ];
 
 #[test]
@@ -146,35 +151,43 @@ const LABELS: [(&str, &[u64]); 5] = [
 
 #[test]
 fn labels_are_resolved(rt: HostRuntime) -> Result<(), Fail> {
-    expect_all_slots(&rt, &LABELS)?;
+    for &(text, slots) in &LABELS {
+        expect_slots(&rt, text, slots)?;
+    }
     expect_text(&rt, &OVER, "goto +1\nr0 = 1\nexit\n")
 }
 
-const SPELLINGS: [(&str, &[u64]); 10] = [
-    ("\t r1+=-0x4#!\n\nexit", &[0x0701_0000_fcff_ffff, EXIT]),
-    ("r1 = - r1", &[0x8701_0000_0000_0000]),
-    ("r1 s>>=007", &[0xc701_0000_0700_0000]),
+const SPELLINGS: [Row<'static>; 6] = [
+    ("r1 = - r1", 0x8701_0000_0000_0000),
+    ("r1 s>>=007", 0xc701_0000_0700_0000),
+    ("r1 = *( u8*)( r2+1 )", 0x7121_0100_0000_0000),
+    ("r1 = *(u8 *)(r2 -1)", 0x7121_ffff_0000_0000),
+    ("goto +0x5\r\n", 0x0500_0500_0000_0000),
+    ("exit # \r é", EXIT),
+];
+
+const WIDE_SPELLINGS: [WideRow<'static>; 4] = [
+    ("\t r1+=-0x4#!\n\nexit", [0x0701_0000_fcff_ffff, EXIT]),
     (
         "r1 = 0xFFFFffffFFFFffffll",
-        &[0x1801_0000_ffff_ffff, 0x0000_0000_ffff_ffff],
+        [0x1801_0000_ffff_ffff, 0x0000_0000_ffff_ffff],
     ),
-    (
-        "r1 = -1 ll",
-        &[0x1801_0000_ffff_ffff, 0x0000_0000_ffff_ffff],
-    ),
+    ("r1 = -1 ll", [0x1801_0000_ffff_ffff, 0x0000_0000_ffff_ffff]),
     (
         "r1 = -9223372036854775808 ll",
-        &[0x1801_0000_0000_0000, 0x0000_0000_0000_0080],
+        [0x1801_0000_0000_0000, 0x0000_0000_0000_0080],
     ),
-    ("r1 = *( u8*)( r2+1 )", &[0x7121_0100_0000_0000]),
-    ("r1 = *(u8 *)(r2 -1)", &[0x7121_ffff_0000_0000]),
-    ("goto +0x5\r\n", &[0x0500_0500_0000_0000]),
-    ("exit # \r é", &[EXIT]),
 ];
 
 #[test]
 fn spellings_may_differ(rt: HostRuntime) -> Result<(), Fail> {
-    expect_all_slots(&rt, &SPELLINGS)
+    for &(text, slot) in &SPELLINGS {
+        expect_slots(&rt, text, &[slot])?;
+    }
+    for (text, slots) in &WIDE_SPELLINGS {
+        expect_slots(&rt, text, slots)?;
+    }
+    Ok(())
 }
 
 fn expect_faults<R: AllocGlobal + Abort>(rt: &R, rows: &[(&str, AsmFault)]) {
