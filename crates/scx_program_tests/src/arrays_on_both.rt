@@ -3,6 +3,7 @@
 use crate::both_machines::{Random, Texts, expect_left_the_same};
 use scx_maps::Shape;
 use std::alloc::{AllocError, Global};
+use std::fmt::Write;
 
 /// Four values of 64 bytes.
 pub(crate) const ARRAYS: [Shape; 1] = [Shape {
@@ -136,15 +137,13 @@ const PARTS: [(&str, u64, &str); 24] = [
     ),
 ];
 
-fn push_random(alloc: Global, text: &mut String, random: &mut Random) -> Result<(), AllocError> {
-    let start = format!(in alloc; "{HEAD}{}", random.next())?;
-    text.push_str(start.as_str())?;
+fn push_random(text: &mut String, random: &mut Random) -> Result<(), AllocError> {
+    write!(text, "{HEAD}{}", random.next())?;
     let parts = 1 + random.next() % 4;
     for _ in 0..parts {
         let (before, bits, behind) = PARTS[(random.next() % 24) as usize];
         let number = random.next() & bits;
-        let part = format!(in alloc; "{NEXT}{before}{number}{behind}")?;
-        text.push_str(part.as_str())?;
+        write!(text, "{NEXT}{before}{number}{behind}")?;
     }
     text.push_str("\nout:\nr0 = r8\nexit\n")
 }
@@ -152,7 +151,7 @@ fn push_random(alloc: Global, text: &mut String, random: &mut Random) -> Result<
 /// The text of a random program with an array.
 pub(crate) fn random_array(alloc: Global, random: &mut Random) -> Result<String, AllocError> {
     let mut text = String::new(alloc);
-    push_random(alloc, &mut text, random)?;
+    push_random(&mut text, random)?;
     Ok(text)
 }
 

@@ -184,6 +184,17 @@ fn random_programs_are_judged_alike(rt: HostRuntime) -> Result<(), Fail> {
     Ok(())
 }
 
+/// The verdict of both on the next random program with an array, whose flow is accepted.
+fn compare_array<R: AllocGlobal + Abort>(
+    rt: &R,
+    random: &mut Random,
+    context: &Context,
+) -> Result<Option<(Why, usize)>, AllocError> {
+    let text = random_array(rt.alloc(), random)?;
+    let program = assemble(rt.alloc(), text.as_str()).expect(rt, "it is a program");
+    Ok(compare(rt, program, context).expect(rt, "its flow is accepted"))
+}
+
 /// Ranges are joined where ways meet, and cut where they part.
 #[test]
 fn arrays_are_judged_alike(rt: HostRuntime) -> Result<(), Fail> {
@@ -194,9 +205,7 @@ fn arrays_are_judged_alike(rt: HostRuntime) -> Result<(), Fail> {
     let mut random = Random(13);
     let mut accepted = 0u32;
     for _ in 0..COMPARED_ARRAYS {
-        let text = random_array(rt.alloc(), &mut random)?;
-        let program = assemble(rt.alloc(), text.as_str()).expect(&rt, "it is a program");
-        let verdict = compare(&rt, program, &context).expect(&rt, "its flow is accepted");
+        let verdict = compare_array(&rt, &mut random, &context)?;
         accepted = accepted.wrapping_add(u32::from(verdict.is_none()));
     }
     // Of both kinds there are thousands.

@@ -88,6 +88,27 @@ fn explained<R: AllocGlobal + Abort>(
     Ok(Some(accepted))
 }
 
+/// Explains the next random program.
+fn explained_random<R: AllocGlobal + Abort>(
+    rt: &R,
+    random: &mut Random,
+    context: &Context,
+) -> Result<Option<bool>, Fail> {
+    let text = random_text(rt.alloc(), random)?;
+    explained(rt, text.as_str(), context)
+}
+
+/// Explains the next random program with an array, whose flow is accepted.
+fn explained_array<R: AllocGlobal + Abort>(
+    rt: &R,
+    random: &mut Random,
+    context: &Context,
+) -> Result<bool, Fail> {
+    let text = random_array(rt.alloc(), random)?;
+    let is_accepted = explained(rt, text.as_str(), context)?;
+    Ok(is_accepted.expect(rt, "its flow is accepted"))
+}
+
 #[test]
 fn listings_end_where_programs_are_refused(rt: HostRuntime) -> Result<(), Fail> {
     let defs = MapDefs::new(&SHAPES).expect(&rt, "the map is within the limits");
@@ -99,8 +120,7 @@ fn listings_end_where_programs_are_refused(rt: HostRuntime) -> Result<(), Fail> 
     let mut accepted = 0u32;
     let mut refused = 0u32;
     for _ in 0..EXPLAINED {
-        let text = random_text(rt.alloc(), &mut random)?;
-        match explained(&rt, text.as_str(), &context)? {
+        match explained_random(&rt, &mut random, &context)? {
             Some(true) => accepted = accepted.wrapping_add(1),
             Some(false) => refused = refused.wrapping_add(1),
             None => (),
@@ -121,9 +141,7 @@ fn listings_of_arrays_end_where_they_are_refused(rt: HostRuntime) -> Result<(), 
     let mut random = Random(17);
     let mut accepted = 0u32;
     for _ in 0..EXPLAINED {
-        let text = random_array(rt.alloc(), &mut random)?;
-        let is_accepted = explained(&rt, text.as_str(), &context)?;
-        let is_accepted = is_accepted.expect(&rt, "its flow is accepted");
+        let is_accepted = explained_array(&rt, &mut random, &context)?;
         accepted = accepted.wrapping_add(u32::from(is_accepted));
     }
     // Of both kinds there are many.

@@ -52,11 +52,10 @@ fn defs<R: Abort>(rt: &R) -> MapDefs {
 }
 
 /// Control falls off each program that is cut short; the whole one is accepted.
-fn judge_beginnings<R: AllocGlobal + Abort>(rt: &R, text: &str, callback: Callback) {
+fn judge_beginnings<R: AllocGlobal + Abort>(rt: &R, code: &[u8], callback: Callback) {
     let defs = defs(rt);
-    let code = code_of(rt.alloc(), text).expect(rt, "the text stands for a program");
     for length in 0..=code.len() {
-        let accepted = judge(rt.alloc(), &defs, &code.as_slice()[..length], callback);
+        let accepted = judge(rt.alloc(), &defs, &code[..length], callback);
         expect_same(rt, accepted, Some(length == code.len()), length);
     }
 }
@@ -64,19 +63,19 @@ fn judge_beginnings<R: AllocGlobal + Abort>(rt: &R, text: &str, callback: Callba
 #[test]
 fn beginnings_are_judged(rt: HostRuntime) {
     for &(text, callback) in &CALLBACKS {
-        judge_beginnings(&rt, text, callback);
+        let code = code_of(rt.alloc(), text).expect(&rt, "the text stands for a program");
+        judge_beginnings(&rt, code.as_slice(), callback);
     }
 }
 
 /// Each program that has another value in one byte gets an answer.
-fn change_each_byte<R: AllocGlobal + Abort>(rt: &R, text: &str, callback: Callback) {
+fn change_each_byte<R: AllocGlobal + Abort>(rt: &R, code: &mut [u8], callback: Callback) {
     let defs = defs(rt);
-    let mut code = code_of(rt.alloc(), text).expect(rt, "the text stands for a program");
     for place in 0..code.len() {
-        let meant = code.as_slice()[place];
+        let meant = code[place];
         for value in 0..=255u8 {
             code[place] = value;
-            let judged = judge(rt.alloc(), &defs, code.as_slice(), callback);
+            let judged = judge(rt.alloc(), &defs, code, callback);
             expect_same(rt, judged.is_some(), true, (place, value));
         }
         code[place] = meant;
@@ -86,7 +85,8 @@ fn change_each_byte<R: AllocGlobal + Abort>(rt: &R, text: &str, callback: Callba
 #[test]
 fn changed_bytes_are_judged(rt: HostRuntime) {
     for &(text, callback) in &CALLBACKS {
-        change_each_byte(&rt, text, callback);
+        let mut code = code_of(rt.alloc(), text).expect(&rt, "the text stands for a program");
+        change_each_byte(&rt, code.as_mut_slice(), callback);
     }
 }
 
@@ -121,14 +121,19 @@ fn bytes_of_walk(alloc: Global, state: &mut u64) -> Result<Vec<u8>, AllocError> 
     Ok(bytes)
 }
 
+/// Whether the next bytes of the walk get an answer.
+fn is_judged(alloc: Global, defs: &MapDefs, state: &mut u64) -> Result<bool, AllocError> {
+    let bytes = bytes_of_walk(alloc, state)?;
+    let judged = judge(alloc, defs, bytes.as_slice(), Callback::Plain);
+    Ok(judged.is_some())
+}
+
 #[test]
 fn any_bytes_are_judged(rt: HostRuntime) -> Result<(), Fail> {
     let defs = defs(&rt);
     let mut state = 0x9e37_79b9_7f4a_7c15;
     for walk in 0..10_000 {
-        let bytes = bytes_of_walk(rt.alloc(), &mut state)?;
-        let judged = judge(rt.alloc(), &defs, bytes.as_slice(), Callback::Plain);
-        expect_same(&rt, judged.is_some(), true, walk);
+        expect_same(&rt, is_judged(rt.alloc(), &defs, &mut state)?, true, walk);
     }
     Ok(())
 }
