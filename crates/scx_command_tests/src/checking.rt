@@ -138,11 +138,20 @@ const UNTESTED: [(&str, &str); 4] = [
     ),
 ];
 
+fn expect_untested<R: AllocGlobal + Abort>(
+    rt: &R,
+    rest: &str,
+    verdict: &str,
+) -> Result<(), AllocError> {
+    let policy = looking_up(rt.alloc(), rest)?;
+    check(rt, &[(policy.as_str(), verdict, 1)]);
+    Ok(())
+}
+
 #[test]
 fn pointers_have_to_be_tested(rt: HostRuntime) -> Result<(), Fail> {
     for &(rest, verdict) in &UNTESTED {
-        let policy = looking_up(rt.alloc(), rest)?;
-        check(&rt, &[(policy.as_str(), verdict, 1)]);
+        expect_untested(&rt, rest, verdict)?;
     }
     Ok(())
 }

@@ -17,15 +17,21 @@ fn refuses<R: AllocGlobal + Abort>(rt: &R, bytes: &[u8], line: &str) {
 /// A program's slots, and the line that is written of it.
 type Row<'a> = (&'a [u64], &'a str);
 
+fn expect_row<R: AllocGlobal + Abort>(rt: &R, row: Row<'_>, status: u8) -> Result<(), AllocError> {
+    let (slots, line) = row;
+    let bytes = bytes_of(rt.alloc(), slots)?;
+    expect(rt, Command::Exec, bytes.as_slice(), line.as_bytes(), status);
+    Ok(())
+}
+
 /// Runs the programs, each with that status.
 fn expect_slots<R: AllocGlobal + Abort>(
     rt: &R,
     rows: &[Row<'_>],
     status: u8,
 ) -> Result<(), AllocError> {
-    for &(slots, line) in rows {
-        let bytes = bytes_of(rt.alloc(), slots)?;
-        expect(rt, Command::Exec, bytes.as_slice(), line.as_bytes(), status);
+    for &row in rows {
+        expect_row(rt, row, status)?;
     }
     Ok(())
 }

@@ -12,20 +12,32 @@ use std::test::Fail;
 /// A text and the slots of one program.
 type Row<'a> = (&'a str, &'a [u64]);
 
+fn assemble_row<R: AllocGlobal + Abort>(rt: &R, row: Row<'_>) -> Result<(), AllocError> {
+    let (text, slots) = row;
+    let wanted = bytes_of(rt.alloc(), slots)?;
+    expect(rt, Command::Asm, text.as_bytes(), wanted.as_slice(), 0);
+    Ok(())
+}
+
 /// Assembles each text, and compares the slots.
 fn assemble<R: AllocGlobal + Abort>(rt: &R, rows: &[Row<'_>]) -> Result<(), AllocError> {
-    for &(text, slots) in rows {
-        let wanted = bytes_of(rt.alloc(), slots)?;
-        expect(rt, Command::Asm, text.as_bytes(), wanted.as_slice(), 0);
+    for &row in rows {
+        assemble_row(rt, row)?;
     }
+    Ok(())
+}
+
+fn disassemble_row<R: AllocGlobal + Abort>(rt: &R, row: Row<'_>) -> Result<(), AllocError> {
+    let (text, slots) = row;
+    let bytes = bytes_of(rt.alloc(), slots)?;
+    expect(rt, Command::Dis, bytes.as_slice(), text.as_bytes(), 0);
     Ok(())
 }
 
 /// Disassembles the slots, and compares each text.
 fn disassemble<R: AllocGlobal + Abort>(rt: &R, rows: &[Row<'_>]) -> Result<(), AllocError> {
-    for &(text, slots) in rows {
-        let bytes = bytes_of(rt.alloc(), slots)?;
-        expect(rt, Command::Dis, bytes.as_slice(), text.as_bytes(), 0);
+    for &row in rows {
+        disassemble_row(rt, row)?;
     }
     Ok(())
 }
