@@ -25,15 +25,17 @@ fn refuse<R: AllocGlobal + Abort>(rt: &R, rows: &[(&str, &str, Cause)]) {
 /// cause of the first fault.
 type Around<'a> = (&'a str, &'a str, &'a str, Cause);
 
+fn refuse_row<R: AllocGlobal + Abort>(rt: &R, row: &Around<'_>) -> Result<(), AllocError> {
+    let &(front, back, path, cause) = row;
+    let text = format!(in rt.alloc(); "{front}{GROUP}{TASK}{back}")?;
+    let found = read_workload(rt.alloc(), text.as_str()).err();
+    is_at(rt, found, path, cause);
+    Ok(())
+}
+
 fn refuse_around<R: AllocGlobal + Abort>(rt: &R, rows: &[Around<'_>]) -> Result<(), AllocError> {
-    for &(front, back, path, cause) in rows {
-        let text = format!(in rt.alloc(); "{front}{GROUP}{TASK}{back}")?;
-        is_at(
-            rt,
-            read_workload(rt.alloc(), text.as_str()).err(),
-            path,
-            cause,
-        );
+    for row in rows {
+        refuse_row(rt, row)?;
     }
     Ok(())
 }
