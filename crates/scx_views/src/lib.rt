@@ -2,10 +2,10 @@
 //! keeps of them what it likes.
 #![tactic(auto)]
 
+mod pauses;
 mod texts;
-mod waits;
 mod watching;
 
+pub use pauses::{Pause, PauseKind, Pauses};
 pub use texts::{Text, written};
-pub use waits::{Wait, Waits};
 pub use watching::{View, watch};
