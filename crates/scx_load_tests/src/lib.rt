@@ -8,6 +8,8 @@ mod examples;
 #[cfg(test)]
 mod faults;
 #[cfg(test)]
+mod limits;
+#[cfg(test)]
 mod policies;
 #[cfg(test)]
 mod same;

@@ -15,7 +15,10 @@ use Rattle.scx_weights.specs.declared.group.Group.{Group}
 use Rattle.scx_weights.specs.Counting.{any_below}
 use Rattle.scx_weights.specs.Hierarchy.{parent_of}
 use Rattle.scx_weights.specs.Refusals.{is_outside, is_late, has_late_parent, has_unknown_home, has_bad_weight, max_period, is_bad_quota, has_bad_limit, above, has_deep_group, has_task_above, first_fault}
-use Rattle.scx_workloads.specs.Reading.{weight_limits, fold_from, some_of, some_elements, index_of, new_name, group_named, GroupList, no_groups, is_deep, if_shallow, parent_named, with_group, group_at, groups_in, TaskList, no_tasks, has_children, if_leaf, leaf_named, timing_in, with_task, task_at, tasks_in}
+use Rattle.scx_workloads.specs.Reading.{weight_limits, fold_from, some_of, some_elements, index_of, new_name, group_named, GroupList, no_groups, is_deep, if_shallow, parent_named, limit_read, with_group, group_at, groups_in, TaskList, no_tasks, has_children, if_leaf, leaf_named, timing_in, with_task, task_at, tasks_in}
+use Rattle.scx_workloads.specs.declared.limit.Limit.{Limit}
+use Rattle.scx_workloads.specs.Limit.{no_limit, limit_in}
+use Rattle.scx_workloads.proofs.Limits.{IsRight, says_right}
 use Rattle.scx_workloads.proofs.Values.{IsWithin, optional_within, few_items, place_below, same_items}
 
 -- ---- what was read in turn
@@ -191,20 +194,37 @@ with_one_more g name group f w quota period p = record {
     inside : (n : ℕ) → IsWithin weight_limits n → is_outside 10000 n ≡ false
     inside n w = let a : nat_lt n 1 ≡ false = grind (arith, nat_tests, w.least) in let b : nat_lt 10000 n ≡ false = grind (arith, nat_tests, w.most) in rw (a, b) refl
 
+-- a limit that was read is within its bounds
+is_right : (path key : List ℕ) (ms : Members) (limit : Limit) → optional limit_read no_limit path key ms ≡ Ok limit → IsRight limit
+is_right path key ms limit e = at (get_member key ms) e
+  where
+    said : (text : List ℕ) (o : Option Limit) → limit_in text ≡ o → found_or Ok (refusal (below path key) cause.OutOfRange) o ≡ Ok limit → IsRight limit
+    said text None x f = absurd (cc)
+    said text (Some l) x f = subst IsRight (same_ok l limit f) (says_right text l x)
+
+    at : (m : Option Data) → found_or (limit_read (below path key)) (Ok no_limit) m ≡ Ok limit → IsRight limit
+    at None f = subst IsRight (same_ok no_limit limit f) record { quota = refl; period = refl }
+    at (Some d) f =
+        let x = parts (text_of (below path key) d) (λ text. found_or Ok (refusal (below path key) cause.OutOfRange) (limit_in text)) limit f in
+        said x.value (limit_in x.value) refl x.second
+
 group_step : (g : GroupList) (path : List ℕ) (ms : Members) (h : GroupList) → with_group g path ms ≡ Ok h → IsForest g → IsForest h
 group_step g path ms h e f =
     let a = parts (new_name g.names path ms) _ h e in
     let b = parts (optional (integer_of weight_limits) 100 path (codes "weight") ms) _ h a.second in
     let c = parts (optional (parent_named g) None path (codes "parent") ms) _ h b.second in
+    let d = parts (optional limit_read no_limit path (codes "cpu_max") ms) _ h c.second in
     let w = optional_within weight_limits 100 path (codes "weight") ms b.value record { least = omega arith; most = omega arith } b.first in
-    subst IsForest (same_ok _ h c.second) (with_one_more g a.value (record { parent = c.value; weight = b.value; quota_ms = None; period_ms = 100 }) f w refl refl (is_parent g path (codes "parent") ms c.value f.even c.first))
+    let l = is_right path (codes "cpu_max") ms d.value d.first in
+    subst IsForest (same_ok _ h d.second) (with_one_more g a.value (record { parent = c.value; weight = b.value; quota_ms = d.value.quota_ms; period_ms = d.value.period_ms }) f w l.quota l.period (is_parent g path (codes "parent") ms c.value f.even c.first))
 
 group_count : (g : GroupList) (path : List ℕ) (ms : Members) (h : GroupList) → with_group g path ms ≡ Ok h → length h.groups ≡ length g.groups + 1
 group_count g path ms h e =
     let a = parts (new_name g.names path ms) _ h e in
     let b = parts (optional (integer_of weight_limits) 100 path (codes "weight") ms) _ h a.second in
     let c = parts (optional (parent_named g) None path (codes "parent") ms) _ h b.second in
-    subst (λ (y : GroupList). length y.groups ≡ length g.groups + 1) (same_ok _ h c.second) (length-append g.groups (record { parent = c.value; weight = b.value; quota_ms = None; period_ms = 100 } ∷ []))
+    let d = parts (optional limit_read no_limit path (codes "cpu_max") ms) _ h c.second in
+    subst (λ (y : GroupList). length y.groups ≡ length g.groups + 1) (same_ok _ h d.second) (length-append g.groups (record { parent = c.value; weight = b.value; quota_ms = d.value.quota_ms; period_ms = d.value.period_ms } ∷ []))
 
 -- ---- tasks
 

@@ -1,3 +1,4 @@
 pub mod Each
+pub mod Limits
 pub mod Values
 pub mod Forest

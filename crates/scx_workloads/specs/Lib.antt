@@ -1,3 +1,4 @@
+pub mod Limit
 pub mod Workload
 pub mod Reading
 pub mod Kept

@@ -13,8 +13,10 @@ use Rattle.scx_files.specs.Unknown.{known_alone, unknown, unknown_in_each}
 use Rattle.scx_files.specs.Values.{found_or, document, required, optional, table_of, text_of, name_of, integer_of, elements_of}
 use Rattle.scx_weights.specs.declared.group.Group.{Group}
 use Rattle.scx_weights.specs.Refusals.{above, is_parent}
+use Rattle.scx_workloads.specs.declared.limit.Limit.{Limit}
 use Rattle.scx_workloads.specs.declared.workload.Timing.{Timing}
 use Rattle.scx_workloads.specs.declared.workload.Change.{Change}
+use Rattle.scx_workloads.specs.Limit.{no_limit, limit_in}
 use Rattle.scx_workloads.specs.Workload.{WorkloadState}
 
 -- ---- limits
@@ -86,13 +88,18 @@ if_shallow groups path parent = if is_deep groups parent then refusal path cause
 abbrev pub parent_named : GroupList → List ℕ → Data → Reading (Option ℕ)
 parent_named g path d = group_named g.names path d >>= if_shallow g.groups path
 
+-- the limit that a text says
+abbrev pub limit_read : List ℕ → Data → Reading Limit
+limit_read path d = text_of path d >>= λ text. found_or Ok (refusal path cause.OutOfRange) (limit_in text)
+
 -- with one more group, which the table at a path says
 abbrev pub with_group : GroupList → List ℕ → Members → Reading GroupList
 with_group g path ms = do
   name ← new_name g.names path ms
   weight ← optional (integer_of weight_limits) 100 path (codes "weight") ms
   parent ← optional (parent_named g) None path (codes "parent") ms
-  Ok (record { names = g.names ++ name ∷ []; groups = g.groups ++ (record { parent = parent; weight = weight; quota_ms = None; period_ms = 100 }) ∷ [] })
+  limit ← optional limit_read no_limit path (codes "cpu_max") ms
+  Ok (record { names = g.names ++ name ∷ []; groups = g.groups ++ (record { parent = parent; weight = weight; quota_ms = limit.quota_ms; period_ms = limit.period_ms }) ∷ [] })
 
 abbrev pub group_at : GroupList → ℕ → Data → Reading GroupList
 group_at g n d = table_of (element (codes "group") n) d >>= with_group g (element (codes "group") n)
@@ -163,7 +170,7 @@ abbrev pub file_keys : List (List ℕ)
 file_keys = codes "cpus" ∷ codes "ms" ∷ codes "group" ∷ codes "task" ∷ codes "change" ∷ []
 
 abbrev pub group_keys : List (List ℕ)
-group_keys = codes "name" ∷ codes "weight" ∷ codes "parent" ∷ []
+group_keys = codes "name" ∷ codes "weight" ∷ codes "parent" ∷ codes "cpu_max" ∷ []
 
 abbrev pub task_keys : List (List ℕ)
 task_keys = codes "name" ∷ codes "group" ∷ codes "start" ∷ codes "run" ∷ codes "sleep" ∷ []

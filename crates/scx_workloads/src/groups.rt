@@ -11,6 +11,7 @@ ghost use Rattle.scx_workloads.specs.Reading.{new_name, is_deep, has_children, f
 ghost use Rattle.scx_workloads.specs.Kept.{texts};
 
 use crate::elements::{index_of, integer_or, some_elements};
+use crate::limit::read_limit;
 use scx_files::{Cause, Limits, LoadError, Section, element_path, refused};
 use scx_weights::{Group, MAX_GROUPS, MAX_WEIGHT};
 use std::alloc::{AllocError, Global};
@@ -112,7 +113,14 @@ impl Groups {
         let name = new_name(alloc, &self.names, section)?;
         let weight = integer_or(alloc, section, "weight", WEIGHT, DEFAULT_WEIGHT)?;
         let parent = self.parent(alloc, section)?;
-        Ok((name, Group::new(parent, weight)))
+        let limit = read_limit(alloc, section)?;
+        let group = Group {
+            parent,
+            weight,
+            quota_ms: limit.quota_ms,
+            period_ms: limit.period_ms,
+        };
+        Ok((name, group))
     }
 
     fn with(self, alloc: Global, name: &str, group: Group) -> Result<Groups, LoadError>

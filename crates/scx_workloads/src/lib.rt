@@ -5,6 +5,7 @@
 
 mod elements;
 mod groups;
+mod limit;
 mod reading;
 mod tasks;
 mod workload;

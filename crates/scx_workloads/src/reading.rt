@@ -44,7 +44,12 @@ fn check_keys(alloc: Global, file: Section<'_>) -> Result<(), LoadError>
 {
     let unknown = Unknown::none()
         .in_section(alloc, file, &["cpus", "ms", "group", "task", "change"])?
-        .below_each(alloc, file, "group", &["name", "weight", "parent"])?
+        .below_each(
+            alloc,
+            file,
+            "group",
+            &["name", "weight", "parent", "cpu_max"],
+        )?
         .below_each(
             alloc,
             file,
