@@ -9,7 +9,7 @@ use scx_output::Out;
 use scx_sched::{Event, Sim, What};
 use scx_simulation::{Heard, Listener, Run, prepare};
 use scx_trace::{Events, Names};
-use scx_views::{Text, View, Wait, Waits, watch, written};
+use scx_views::{Pause, PauseKind, Pauses, Text, View, watch, written};
 use scx_workloads::Workload;
 use std::alloc::{AllocError, Global};
 use std::fmt;
@@ -95,14 +95,14 @@ enum Ejection {
 struct Room {
     /// Who runs, by processor.
     running: Vec<Option<Running>>,
-    waits: Waits,
+    pauses: Pauses,
 }
 
 impl Room {
     fn new(alloc: Global, workload: &Workload) -> Result<Room, AllocError> {
         Ok(Room {
             running: vec![in alloc; None; workload.cpus() as usize]?,
-            waits: Waits::new(alloc, workload.tasks().len())?,
+            pauses: Pauses::new(alloc, workload.tasks().len())?,
         })
     }
 }
@@ -114,20 +114,23 @@ struct Drawing<'a, W> {
     text: Text<'a, W>,
     frame: Frame,
     running: Vec<Option<Running>>,
-    waits: Waits,
+    pauses: Pauses,
+    /// Whether a task was drawn that was parked.
+    has_parked: bool,
     ejection: Option<Ejection>,
     failed: bool,
 }
 
 impl<'a, W: Out> Drawing<'a, W> {
     fn new(workload: &'a Workload, room: Room, out: &'a mut W) -> Self {
-        let Room { running, waits } = room;
+        let Room { running, pauses } = room;
         Drawing {
             workload,
             text: Text::new(out),
             frame: Frame::new(workload),
             running,
-            waits,
+            pauses,
+            has_parked: false,
             ejection: None,
             failed: false,
         }
@@ -140,7 +143,7 @@ impl<'a, W: Out> Drawing<'a, W> {
         self.end(sim.clock())
     }
 
-    /// Draws who still runs and waits at that moment, and the ejection.
+    /// Draws who still runs, waits or is parked at that moment, and the ejection.
     fn end(&mut self, moment: u64) -> fmt::Result {
         if self.failed {
             return Err(fmt::Error);
@@ -149,12 +152,15 @@ impl<'a, W: Out> Drawing<'a, W> {
             self.stop(moment, cpu)?;
         }
         for task in 0..self.frame.tasks() {
-            if let Some(wait) = self.waits.unfinished(task, moment) {
-                self.draw_wait(wait)?;
+            if let Some(pause) = self.pauses.unfinished(task, moment) {
+                self.draw_pause(pause)?;
             }
         }
         self.frame.end_run(&mut self.text)?;
         self.draw_ejection()?;
+        if self.has_parked {
+            self.frame.write_legend(&mut self.text)?;
+        }
         self.frame.end(&mut self.text)
     }
 
@@ -180,8 +186,8 @@ impl<'a, W: Out> Drawing<'a, W> {
     }
 
     fn put(&mut self, moment: u64, what: What) -> fmt::Result {
-        if let Some(wait) = self.waits.show(moment, what) {
-            self.draw_wait(wait)?;
+        if let Some(pause) = self.pauses.show(moment, what) {
+            self.draw_pause(pause)?;
         }
         match what {
             What::Run(task, cpu) => {
@@ -209,9 +215,17 @@ impl<'a, W: Out> Drawing<'a, W> {
         }
     }
 
-    fn draw_wait(&mut self, wait: Wait) -> fmt::Result {
-        self.frame
-            .draw_wait(wait.task, wait.since, wait.until, &mut self.text)
+    fn draw_pause(&mut self, pause: Pause) -> fmt::Result {
+        if pause.length() == 0 {
+            return Ok(());
+        }
+        match pause.kind {
+            PauseKind::Wait => self.frame.draw_wait(pause, &mut self.text),
+            PauseKind::Parked => {
+                self.has_parked = true;
+                self.frame.draw_parked(pause, &mut self.text)
+            }
+        }
     }
 
     fn run(&mut self, moment: u64, task: u16, cpu: u32) {

@@ -1,7 +1,7 @@
 use crate::escapes::Escaped;
 use scx_output::Out;
 use scx_trace::Names;
-use scx_views::Text;
+use scx_views::{Pause, Text};
 use scx_workloads::Workload;
 use std::fmt;
 use std::fmt::Write;
@@ -196,24 +196,42 @@ impl Frame {
     }
 
     /// Draws that the task waited: as a thin line beside its name.
-    pub(crate) fn draw_wait<W: Out>(
-        self,
-        task: u16,
-        since: u64,
-        until: u64,
-        text: &mut Text<'_, W>,
-    ) -> fmt::Result {
-        let width = until.saturating_sub(since);
-        if width == 0 {
-            return Ok(());
-        }
+    pub(crate) fn draw_wait<W: Out>(self, pause: Pause, text: &mut Text<'_, W>) -> fmt::Result {
+        let task = pause.task;
         let line = Bar {
-            x: since,
+            x: pause.since,
             y: self.task_y(task).saturating_add(7),
-            width,
+            width: pause.length(),
             height: 2,
         };
         writeln!(text, "<path class=\"t{task}\" d=\"{line}\"/>")
+    }
+
+    /// Draws that the task was parked: as a pale bar beside its name.
+    pub(crate) fn draw_parked<W: Out>(self, pause: Pause, text: &mut Text<'_, W>) -> fmt::Result {
+        let task = pause.task;
+        let bar = Bar {
+            x: pause.since,
+            y: self.task_y(task).saturating_add(3),
+            width: pause.length(),
+            height: 10,
+        };
+        writeln!(
+            text,
+            "<path class=\"t{task}\" opacity=\"0.3\" d=\"{bar}\"/>"
+        )
+    }
+
+    /// Writes below the last task what a pale bar is.
+    pub(crate) fn write_legend<W: Out>(self, text: &mut Text<'_, W>) -> fmt::Result {
+        let y = TOP.saturating_add(self.height());
+        writeln!(
+            text,
+            "<rect x=\"{LEFT}\" y=\"{}\" width=\"20\" height=\"10\" opacity=\"0.3\"/><text x=\"{}\" y=\"{}\" fill=\"#555\">parked</text>",
+            y.saturating_add(5),
+            LEFT.saturating_add(26),
+            y.saturating_add(14)
+        )
     }
 
     /// Writes what stands behind the run.

@@ -12,7 +12,7 @@ use scx_output::{Failed, Out};
 use scx_sched::{Event, Sim, What};
 use scx_simulation::{Heard, Listener, Run, prepare};
 use scx_trace::{Events, Names};
-use scx_views::{View, watch};
+use scx_views::{Pause, PauseKind, Pauses, View, watch};
 use scx_workloads::Workload;
 use scx_world::LOCAL_ON;
 use std::alloc::{AllocError, Global};
@@ -21,12 +21,14 @@ use std::fmt::Write;
 /// A millisecond in microseconds.
 const MS: u64 = 1000;
 
-/// The groups of tracks: processors, what happens to tasks, and queues.
+/// The groups of tracks: processors, what happens to tasks, queues, and when tasks are parked.
 const CPUS: u32 = 0;
 
 const TASKS: u32 = 1;
 
 const QUEUES: u32 = 2;
+
+const PARKED: u32 = 3;
 
 /// The tracks of what happens to tasks.
 const WAKES: u32 = 0;
@@ -115,6 +117,7 @@ struct Room {
     object: Vec<u8>,
     /// Who runs, by processor.
     running: Vec<Option<Running>>,
+    pauses: Pauses,
     lengths: Lengths,
 }
 
@@ -123,6 +126,7 @@ impl Room {
         Ok(Room {
             object: room_for_object(alloc)?,
             running: vec![in alloc; None; workload.cpus() as usize]?,
+            pauses: Pauses::new(alloc, workload.tasks().len())?,
             lengths: Lengths::new(alloc, workload.tasks().len())?,
         })
     }
@@ -134,6 +138,7 @@ struct Chart<'a, W> {
     workload: &'a Workload,
     document: Document<'a, W>,
     running: Vec<Option<Running>>,
+    pauses: Pauses,
     lengths: Lengths,
     failed: bool,
 }
@@ -143,12 +148,14 @@ impl<'a, W: Out> Chart<'a, W> {
         let Room {
             object,
             running,
+            pauses,
             lengths,
         } = room;
         Chart {
             workload,
             document: Document::new(alloc, object, out),
             running,
+            pauses,
             lengths,
             failed: false,
         }
@@ -174,7 +181,23 @@ impl<'a, W: Out> Chart<'a, W> {
         self.title("thread_name", TASKS, INSERTS, "inserts")?;
         self.title("thread_name", TASKS, MOVES, "moves")?;
         self.title("thread_name", TASKS, EJECTIONS, "ejections")?;
-        self.title("process_name", QUEUES, 0, "queues")
+        self.title("process_name", QUEUES, 0, "queues")?;
+        if has_quotas(self.workload) {
+            self.begin_parked()?;
+        }
+        Ok(())
+    }
+
+    /// Names a track for each task.
+    fn begin_parked(&mut self) -> Result<(), Failed> {
+        self.title("process_name", PARKED, 0, "parked")?;
+        let workload = self.workload;
+        let mut task = 0u16;
+        for _group in workload.tasks() {
+            self.title("thread_name", PARKED, u32::from(task), workload.task(task))?;
+            task = task.saturating_add(1);
+        }
+        Ok(())
     }
 
     fn title(&mut self, what: &str, pid: u32, tid: u32, name: &str) -> Result<(), Failed> {
@@ -194,10 +217,24 @@ impl<'a, W: Out> Chart<'a, W> {
         for cpu in 0..self.workload.cpus() {
             self.stop(moment, cpu)?;
         }
+        self.end_pauses(moment)?;
         self.document.end()
     }
 
+    fn end_pauses(&mut self, moment: u64) -> Result<(), Failed> {
+        let workload = self.workload;
+        let mut task = 0u16;
+        for _group in workload.tasks() {
+            let pause = self.pauses.unfinished(task, moment);
+            self.put_pause(pause)?;
+            task = task.saturating_add(1);
+        }
+        Ok(())
+    }
+
     fn put(&mut self, moment: u64, what: What) -> Result<(), Failed> {
+        let pause = self.pauses.show(moment, what);
+        self.put_pause(pause)?;
         match what {
             What::Wake(task) => self.instant(moment, WAKES, "t", self.workload.task(task)),
             What::Sleep(task) => self.place(moment, task, None),
@@ -250,6 +287,23 @@ impl<'a, W: Out> Chart<'a, W> {
         })
     }
 
+    /// Writes for how long a task was parked, if it was and not for no time at all.
+    fn put_pause(&mut self, pause: Option<Pause>) -> Result<(), Failed> {
+        let Some(pause) = pause else {
+            return Ok(());
+        };
+        if pause.kind == PauseKind::Wait || pause.length() == 0 {
+            return Ok(());
+        }
+        self.document.put(&Complete {
+            pid: PARKED,
+            tid: u32::from(pause.task),
+            ts: pause.since.saturating_mul(MS),
+            dur: pause.length().saturating_mul(MS),
+            name: self.workload.task(pause.task),
+        })
+    }
+
     /// A task comes to that queue, and waits there from now on.
     fn enter(&mut self, moment: u64, track: u32, task: u16, queue: u64) -> Result<(), Failed> {
         let label = queue_label(self.workload.task(task), queue);
@@ -289,6 +343,14 @@ impl<'a, W: Out> Chart<'a, W> {
             tasks: length.tasks,
         })
     }
+}
+
+/// Whether a group of the workload has a quota.
+fn has_quotas(workload: &Workload) -> bool {
+    workload
+        .groups()
+        .iter()
+        .any(|group| group.quota_ms.is_some())
 }
 
 fn stall_label(task: &str) -> Label {

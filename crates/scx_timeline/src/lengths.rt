@@ -1,10 +1,10 @@
 use arrayvec::{ArrayString, ArrayVec};
-use scx_world::{BUILTIN, GLOBAL, HELD, POLICY_END};
+use scx_world::{BUILTIN, GLOBAL, HELD, PARKED, POLICY_END};
 use std::alloc::{AllocError, Global};
 use std::fmt::Write;
 
-/// The most queues that a run has: 16 of the policy, 3 for all processors, and 64 of single ones.
-const MAX_QUEUES: usize = 83;
+/// The most queues that a run has: 16 of the policy, 4 for all processors, and 64 of single ones.
+const MAX_QUEUES: usize = 84;
 
 /// How many tasks wait in the queue of that id.
 #[derive(Clone, Copy, Default)]
@@ -73,6 +73,8 @@ pub(crate) fn queue_name(queue: u64) -> ArrayString<32> {
         write!(name, "held")
     } else if queue == BUILTIN {
         write!(name, "builtin")
+    } else if queue == PARKED {
+        write!(name, "parked")
     } else {
         write!(name, "local {}", queue % 0x1_0000_0000)
     };
