@@ -1,4 +1,4 @@
-use scx_views::Wait;
+use scx_views::Pause;
 use std::alloc::{AllocError, Global};
 use std::collections::BTreeMap;
 
@@ -27,7 +27,7 @@ impl WaitCounts {
         }
     }
 
-    pub(crate) fn add(&mut self, wait: Wait) -> Result<(), AllocError> {
+    pub(crate) fn add(&mut self, wait: Pause) -> Result<(), AllocError> {
         let length = wait.length();
         let times = self.lengths.entry(length)?.or_insert(0);
         *times = times.saturating_add(1);

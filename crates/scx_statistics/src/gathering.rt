@@ -2,11 +2,12 @@ ghost use Rattle.std.specs.Result.{is_err};
 
 use crate::counting::WaitCounts;
 use crate::numbers::percent;
+use crate::quotas::Quotas;
 use crate::shares::{Shares, WHOLE};
 use scx_sched::{Event, Sim, What};
 use scx_simulation::{Heard, Listener, Run};
 use scx_trace::Events;
-use scx_views::{View, Wait, Waits, watch};
+use scx_views::{Pause, PauseKind, Pauses, View, watch};
 use scx_weights::MAX_DEPTH;
 use scx_workloads::Workload;
 use std::alloc::{AllocError, Global};
@@ -23,6 +24,8 @@ pub(crate) struct TaskFigures {
     pub(crate) wakes: u64,
     /// How often it had to stop although it had work to do.
     pub(crate) stopped: u64,
+    /// For how many milliseconds it was parked.
+    pub(crate) parked: u64,
 }
 
 /// What became of a processor.
@@ -50,6 +53,7 @@ pub(crate) struct Figures {
     pub(crate) tasks: Vec<TaskFigures>,
     pub(crate) cpus: Vec<CpuFigures>,
     pub(crate) groups: Vec<GroupFigures>,
+    pub(crate) quotas: Quotas,
 }
 
 /// Goes through the run, and answers its figures.
@@ -85,7 +89,8 @@ struct Room {
     tasks: Vec<TaskFigures>,
     cpus: Vec<CpuFigures>,
     shares: Shares,
-    waits: Waits,
+    quotas: Quotas,
+    pauses: Pauses,
 }
 
 impl Room {
@@ -94,7 +99,8 @@ impl Room {
             tasks: unused_tasks(alloc, workload.tasks().len())?,
             cpus: unused_cpus(alloc, workload.cpus() as usize)?,
             shares: Shares::new(alloc, workload)?,
-            waits: Waits::new(alloc, workload.tasks().len())?,
+            quotas: Quotas::new(alloc, workload)?,
+            pauses: Pauses::new(alloc, workload.tasks().len())?,
         })
     }
 }
@@ -107,6 +113,7 @@ fn unused_tasks(alloc: Global, count: usize) -> Result<Vec<TaskFigures>, AllocEr
             waits: WaitCounts::new(alloc),
             wakes: 0,
             stopped: 0,
+            parked: 0,
         })?;
     }
     Ok(tasks)
@@ -129,7 +136,8 @@ struct Gathering {
     tasks: Vec<TaskFigures>,
     cpus: Vec<CpuFigures>,
     shares: Shares,
-    waits: Waits,
+    quotas: Quotas,
+    pauses: Pauses,
     /// How many processors ran in the millisecond at hand, for which nothing is due yet.
     busy: u64,
     /// Whether there was memory for all.
@@ -143,14 +151,16 @@ impl Gathering {
             tasks,
             cpus,
             shares,
-            waits,
+            quotas,
+            pauses,
         } = room;
         Ok(Gathering {
             workload,
             tasks,
             cpus,
             shares,
-            waits,
+            quotas,
+            pauses,
             busy: 0,
             result: Ok(()),
         })
@@ -163,6 +173,7 @@ impl Gathering {
             workload,
             tasks,
             cpus,
+            quotas,
             ..
         } = self;
         Ok(Figures {
@@ -170,6 +181,7 @@ impl Gathering {
             tasks,
             cpus,
             groups,
+            quotas,
         })
     }
 
@@ -184,16 +196,39 @@ impl Gathering {
         self.workload.tasks().get(task as usize).copied()
     }
 
-    fn add_wait(&mut self, wait: Wait) -> Result<(), AllocError> {
-        match self.tasks.get_mut(wait.task as usize) {
-            Some(task) => task.waits.add(wait),
-            None => Ok(()),
+    fn add_pause(&mut self, pause: Pause) -> Result<(), AllocError> {
+        let Some(task) = self.tasks.get_mut(pause.task as usize) else {
+            return Ok(());
+        };
+        match pause.kind {
+            PauseKind::Wait => task.waits.add(pause),
+            PauseKind::Parked => {
+                task.parked = task.parked.saturating_add(pause.length());
+                Ok(())
+            }
         }
     }
 
     /// A processor is about to have run for a millisecond, or not to have.
     fn tick(&mut self, sim: &Sim, cpu: u32) {
-        let is_busy = cpu < sim.cpus() && sim.running(cpu).is_some();
+        let running = if cpu < sim.cpus() {
+            sim.running(cpu)
+        } else {
+            None
+        };
+        self.count_cpu(cpu, running.is_some());
+        if let Some(task) = running {
+            self.charge(task);
+        }
+    }
+
+    fn charge(&mut self, task: u16) {
+        if let Some(group) = self.home(task) {
+            self.quotas.charge(group);
+        }
+    }
+
+    fn count_cpu(&mut self, cpu: u32, is_busy: bool) {
         if let Some(figures) = self.cpus.get_mut(cpu as usize) {
             if is_busy {
                 figures.busy = figures.busy.saturating_add(1);
@@ -239,7 +274,7 @@ impl Gathering {
 
     /// A task stops. One that sleeps, which is noted first, doesn't have to.
     fn stop(&mut self, task: u16) {
-        if self.waits.is_asleep(task) {
+        if self.pauses.is_asleep(task) {
             return;
         }
         if let Some(figures) = self.tasks.get_mut(task as usize) {
@@ -262,20 +297,21 @@ impl Gathering {
         }
     }
 
-    /// Adds the waits that go on at the end, and how long each task ran.
+    /// Adds the pauses that go on at the end, how long each task ran, and periods that aren't over.
     fn end(&mut self, sim: &Sim) {
         for task in 0..sim.tasks() {
             if let Some(figures) = self.tasks.get_mut(task as usize) {
                 figures.run = sim.run_ns(task) / MS;
             }
-            self.end_wait(task, sim.clock());
+            self.end_pause(task, sim.clock());
         }
+        self.quotas.end(sim.clock());
     }
 
-    fn end_wait(&mut self, task: u16, clock: u64) {
-        if let Some(wait) = self.waits.unfinished(task, clock) {
+    fn end_pause(&mut self, task: u16, clock: u64) {
+        if let Some(pause) = self.pauses.unfinished(task, clock) {
             if self.result.is_ok() {
-                self.result = self.add_wait(wait);
+                self.result = self.add_pause(pause);
             }
         }
     }
@@ -287,14 +323,18 @@ impl View for Gathering {
     fn expect(&mut self, sim: &Sim, event: Event) {
         match event {
             Event::Tick(cpu) => self.tick(sim, cpu),
-            Event::Sleep(_) | Event::Clock => self.settle(),
+            Event::Sleep(_) => self.settle(),
+            Event::Clock => {
+                self.settle();
+                self.quotas.pass(sim.clock().saturating_add(1));
+            }
             Event::Wake(_) | Event::SetWeight(_, _) => {}
         }
     }
 
     fn show(&mut self, _moment: u64, clock: u64, what: What) {
-        if let Some(wait) = self.waits.show(clock, what) {
-            self.result = self.add_wait(wait);
+        if let Some(pause) = self.pauses.show(clock, what) {
+            self.result = self.add_pause(pause);
         }
         self.count(what);
     }

@@ -6,6 +6,7 @@ mod counting;
 mod gathering;
 mod listing;
 mod numbers;
+mod quotas;
 mod shares;
 mod tables;
 mod telling;

@@ -1,5 +1,6 @@
 use crate::gathering::{CpuFigures, Figures, GroupFigures, TaskFigures};
 use crate::numbers::{decimal, hundredths};
+use crate::quotas::QuotaFigures;
 use scx_output::Out;
 use scx_views::Text;
 use std::fmt;
@@ -11,7 +12,12 @@ pub(crate) fn write_list<W: Out>(figures: &Figures, text: &mut Text<'_, W>) -> f
     text.write_str("kind,name,figure,value\n")?;
     list_tasks(figures, text)?;
     list_cpus(figures.cpus.as_slice(), text)?;
-    list_groups(figures, text)
+    list_groups(figures, text)?;
+    if figures.quotas.are_some() {
+        list_parked(figures, text)?;
+        list_quotas(figures, text)?;
+    }
+    Ok(())
 }
 
 fn list_tasks<W: Out>(figures: &Figures, text: &mut Text<'_, W>) -> fmt::Result {
@@ -36,6 +42,34 @@ fn list_groups<W: Out>(figures: &Figures, text: &mut Text<'_, W>) -> fmt::Result
     let mut number = 0u32;
     for group in figures.groups.as_slice() {
         list_group(figures.group_name(number), group, text)?;
+        number = number.saturating_add(1);
+    }
+    Ok(())
+}
+
+/// Writes for how long each task was parked.
+fn list_parked<W: Out>(figures: &Figures, text: &mut Text<'_, W>) -> fmt::Result {
+    let mut number = 0u16;
+    for task in figures.tasks.as_slice() {
+        list(
+            text,
+            "task",
+            figures.task_name(number),
+            "parked_ms",
+            task.parked,
+        )?;
+        number = number.saturating_add(1);
+    }
+    Ok(())
+}
+
+/// Writes the figures of each group that has a quota.
+fn list_quotas<W: Out>(figures: &Figures, text: &mut Text<'_, W>) -> fmt::Result {
+    let mut number = 0u32;
+    for group in figures.quotas.groups.as_slice() {
+        if let Some(quota_ms) = group.quota_ms {
+            list_quota(figures.group_name(number), quota_ms, group, text)?;
+        }
         number = number.saturating_add(1);
     }
     Ok(())
@@ -74,6 +108,26 @@ fn list_cpu<W: Out>(name: &str, cpu: &CpuFigures, text: &mut Text<'_, W>) -> fmt
 fn list_group<W: Out>(name: &str, group: &GroupFigures, text: &mut Text<'_, W>) -> fmt::Result {
     list_hundredths(text, "group", name, "share_percent", group.reached)?;
     list_hundredths(text, "group", name, "due_percent", group.due)
+}
+
+fn list_quota<W: Out>(
+    name: &str,
+    quota_ms: u32,
+    group: &QuotaFigures,
+    text: &mut Text<'_, W>,
+) -> fmt::Result {
+    list(text, "group", name, "quota_ms", u64::from(quota_ms))?;
+    list(text, "group", name, "period_ms", u64::from(group.period_ms))?;
+    list(text, "group", name, "most_in_a_period_ms", group.most)?;
+    list(text, "group", name, "periods", group.periods)?;
+    list(
+        text,
+        "group",
+        name,
+        "throttled_periods",
+        group.throttled_periods,
+    )?;
+    list(text, "group", name, "throttled_ms", group.throttled)
 }
 
 /// Writes the line of a figure.
