@@ -3,7 +3,8 @@
 use crate::memory::Memory;
 use crate::same::expect_same;
 use crate::texts::{
-    HOLDS, LONG, NESTED, ONE_SLEEPS, SHORT_SLICES, SLEEPER, STAYS, TWO_TASKS, WEIGHTS,
+    HOLDS, LIMITED, LONG, NESTED, NO_CALLBACKS, ONE_SLEEPS, SHORT_SLICES, SLEEPER, STARVED, STAYS,
+    TWO_TASKS, WEIGHTS, WITHIN,
 };
 use scx_output::Counted;
 use scx_simulation::Nobody;
@@ -100,6 +101,76 @@ h                  33.33%   33.33%
 ",
 };
 
+/// As `TURNS`; the period isn't over at the end, and a millisecond of the quota is left.
+const QUOTA_LEFT: Case = Case {
+    policy: SHORT_SLICES,
+    workload: WITHIN,
+    wanted: "task                  run    waits        mean      99%  longest    since    wakes  stopped   parked
+a                       2        2        1.00        2        2        1        1        1        0
+b                       2        2        1.00        1        1        0        1        1        0
+
+cpu                  busy     idle     changes
+0                       4        0           2
+
+group               share      due
+g                 100.00%  100.00%
+
+group               quota   period     most  periods   throttled      for
+g                       5        5        4        1           0        0
+",
+};
+
+/// It runs in the milliseconds 0, 1 and 6, and is parked from 1 to 5.
+const PARKED: Case = Case {
+    policy: SHORT_SLICES,
+    workload: LIMITED,
+    wanted: "task                  run    waits        mean      99%  longest    since    wakes  stopped   parked
+a                       3        3        0.00        0        0        0        1        1        4
+
+cpu                  busy     idle     changes
+0                       3        4           0
+
+group               share      due
+g                 100.00%  100.00%
+
+group               quota   period     most  periods   throttled      for
+g                       2        5        2        2           1        4
+",
+};
+
+/// Task a runs in the milliseconds 0, 3, 5, 7, 9 and 11. Both are parked from 0 to 2, and from 3, 5, 7, 9 and 11
+/// for a millisecond; b waits for the millisecond between, and a begins to run at once.
+const NEVER_RUNS: Case = Case {
+    policy: NO_CALLBACKS,
+    workload: STARVED,
+    wanted: "task                  run    waits        mean      99%  longest    since    wakes  stopped   parked
+a                       6       13        0.00        0        0        0        1        6        7
+b                       0        7        0.71        1        1        2        1        0        7
+
+cpu                  busy     idle     changes
+0                       6        6           0
+
+group               share      due
+free                0.00%    0.00%
+g                 100.00%  100.00%
+
+group               quota   period     most  periods   throttled      for
+g                       1        2        1        6           6        7
+",
+};
+
+/// What stands behind the other figures of `NEVER_RUNS`, a line for each.
+const QUOTA_LIST: &str = "group,g,due_percent,100.00
+task,a,parked_ms,7
+task,b,parked_ms,7
+group,g,quota_ms,1
+group,g,period_ms,2
+group,g,most_in_a_period_ms,1
+group,g,periods,6
+group,g,throttled_periods,6
+group,g,throttled_ms,7
+";
+
 /// The figures of `TURNS`, a line for each.
 const LIST: &str = "kind,name,figure,value
 task,a,run_ms,2
@@ -125,13 +196,16 @@ group,g,share_percent,100.00
 group,g,due_percent,100.00
 ";
 
-const CASES: [Case; 6] = [
+const CASES: [Case; 9] = [
     TURNS,
     SLEEPS,
     EJECTED,
     WEIGHT_CHANGES,
     GROUPS_IN_GROUPS,
     ONE_LEFT,
+    QUOTA_LEFT,
+    PARKED,
+    NEVER_RUNS,
 ];
 
 fn expect_tables<R: AllocGlobal + Abort>(rt: &R, case: &Case) {
@@ -163,4 +237,12 @@ fn figures_are_listed(rt: HostRuntime) {
     let mut out = Counted::new(&mut memory);
     assert!(rt; stats_csv(rt.alloc(), SHORT_SLICES, TWO_TASKS, &mut Nobody, &mut out).is_ok());
     expect_same(&rt, memory.bytes.as_slice(), LIST.as_bytes(), "figures");
+}
+
+#[test]
+fn figures_of_quotas_are_listed_last(rt: HostRuntime) {
+    let mut memory = Memory::new(rt.alloc());
+    let mut out = Counted::new(&mut memory);
+    assert!(rt; stats_csv(rt.alloc(), NO_CALLBACKS, STARVED, &mut out).is_ok());
+    assert!(rt; memory.bytes.as_slice().ends_with(QUOTA_LIST.as_bytes()));
 }

@@ -11,6 +11,8 @@ mod figures;
 #[cfg(test)]
 mod memory;
 #[cfg(test)]
+mod pauses;
+#[cfg(test)]
 mod pictures;
 #[cfg(test)]
 mod progress;

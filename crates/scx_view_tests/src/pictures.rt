@@ -2,7 +2,7 @@
 
 use crate::memory::Memory;
 use crate::same::expect_same;
-use crate::texts::{HOLDS, LONG, SHORT_SLICES, TWO_TASKS};
+use crate::texts::{HOLDS, LIMITED, LONG, SHORT_SLICES, TWO_TASKS};
 use scx_output::Counted;
 use scx_picture::picture;
 use scx_simulation::Nobody;
@@ -49,7 +49,23 @@ const EJECTED: Case = Case {
     ],
 };
 
-const CASES: [Case; 2] = [TURNS, EJECTED];
+/// The task uses up its quota with the first two milliseconds, is let go at 5, and runs again from 6 on.
+const PARKED: Case = Case {
+    policy: SHORT_SLICES,
+    workload: LIMITED,
+    parts: [
+        "<path class=\"t0\" d=\"M0 2h2v20h-2zM0 47h2v10h-2z\"/>\n",
+        "<path class=\"t0\" opacity=\"0.3\" d=\"M2 47h3v10h-3z\"/>\n",
+        "<path class=\"t0\" d=\"M5 51h1v2h-1z\"/>\n",
+        "<path class=\"t0\" d=\"M6 2h1v20h-1zM6 47h1v10h-1z\"/>\n",
+        "<rect x=\"150\" y=\"121\" width=\"20\" height=\"10\" opacity=\"0.3\"/><text x=\"176\" y=\"130\" fill=\"#555\">parked</text>\n",
+        "</style>\n",
+        "y=\"112\">a</text>\n",
+        ">cpu 0</text>\n",
+    ],
+};
+
+const CASES: [Case; 3] = [TURNS, EJECTED, PARKED];
 
 fn expect_parts<R: AllocGlobal + Abort>(rt: &R, case: &Case) {
     let mut memory = Memory::new(rt.alloc());

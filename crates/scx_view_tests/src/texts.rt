@@ -126,3 +126,61 @@ ms = 2
 group = [{ name = 'g' }, { name = 'h' }]
 task = [{ name = 'a', group = 'g' }, { name = 'b', group = 'h', run = 1, sleep = 100 }]
 ";
+
+/// No callbacks, and no wait of more than a millisecond.
+pub(crate) const NO_CALLBACKS: &str = "
+timeout_ms = 1
+";
+
+/// A task whose group may use two of five milliseconds.
+pub(crate) const LIMITED: &str = "
+cpus = 1
+ms = 7
+
+[[group]]
+name = \"g\"
+cpu_max = \"2000 5000\"
+
+[[task]]
+name = \"a\"
+group = \"g\"
+";
+
+/// Two tasks whose group may use one of two milliseconds, beside a group without a quota.
+pub(crate) const STARVED: &str = "
+cpus = 1
+ms = 12
+
+[[group]]
+name = \"free\"
+
+[[group]]
+name = \"g\"
+cpu_max = \"1000 2000\"
+
+[[task]]
+name = \"a\"
+group = \"g\"
+
+[[task]]
+name = \"b\"
+group = \"g\"
+";
+
+/// Tasks a and b on one processor, for four milliseconds of the five that their group may use.
+pub(crate) const WITHIN: &str = "
+cpus = 1
+ms = 4
+
+[[group]]
+name = \"g\"
+cpu_max = \"5000 5000\"
+
+[[task]]
+name = \"a\"
+group = \"g\"
+
+[[task]]
+name = \"b\"
+group = \"g\"
+";

@@ -2,7 +2,7 @@
 
 use crate::memory::Memory;
 use crate::same::expect_same;
-use crate::texts::{HOLDS, LONG, SHORT_SLICES, SLEEPER, STAYS, TWO_CPUS, TWO_TASKS};
+use crate::texts::{HOLDS, LIMITED, LONG, SHORT_SLICES, SLEEPER, STAYS, TWO_CPUS, TWO_TASKS};
 use scx_output::Counted;
 use scx_simulation::Nobody;
 use scx_timeline::timeline;
@@ -32,12 +32,18 @@ fn number_at(event: &Value, key: &str) -> u64 {
     }
 }
 
-/// The sum of the lengths of a task's slices, in microseconds.
-fn slices(timeline: &Value, name: &str) -> u64 {
+/// The groups of tracks that have slices: those of processors, and those of parked tasks.
+const CPUS: u64 = 0;
+
+const PARKED: u64 = 3;
+
+/// The sum of the lengths of a task's slices in a group of tracks, in microseconds.
+fn slices(timeline: &Value, tracks: u64, name: &str) -> u64 {
     let mut sum = 0u64;
     if let Some(events) = timeline.get("traceEvents").and_then(Value::as_array) {
         for event in events.iter() {
-            if text_at(event, "ph") == "X" && text_at(event, "name") == name {
+            let is_slice = text_at(event, "ph") == "X" && number_at(event, "pid") == tracks;
+            if is_slice && text_at(event, "name") == name {
                 sum = sum.saturating_add(number_at(event, "dur"));
             }
         }
@@ -77,7 +83,26 @@ const SLICES: [Slices; 8] = [
 fn slices_are_run_times(rt: HostRuntime) {
     for &(policy, workload, name, wanted) in &SLICES {
         let timeline = read(&rt, policy, workload);
-        expect_same(&rt, slices(&timeline, name), wanted, name);
+        expect_same(&rt, slices(&timeline, CPUS, name), wanted, name);
+    }
+}
+
+/// What stands in the timeline of a task that is parked once.
+const PARKED_ONCE: [(&str, &str, u64); 5] = [
+    ("X", "a", 3),
+    ("i", "a to parked", 1),
+    ("C", "parked", 2),
+    ("M", "process_name", 4),
+    ("M", "thread_name", 6),
+];
+
+#[test]
+fn parked_tasks_have_slices_of_their_own(rt: HostRuntime) {
+    let parked = read(&rt, SHORT_SLICES, LIMITED);
+    expect_same(&rt, slices(&parked, CPUS, "a"), 3000, "runs");
+    expect_same(&rt, slices(&parked, PARKED, "a"), 3000, "parked");
+    for &(kind, name, wanted) in &PARKED_ONCE {
+        expect_same(&rt, count(&parked, kind, name), wanted, name);
     }
 }
 
