@@ -243,6 +243,6 @@ fn figures_are_listed(rt: HostRuntime) {
 fn figures_of_quotas_are_listed_last(rt: HostRuntime) {
     let mut memory = Memory::new(rt.alloc());
     let mut out = Counted::new(&mut memory);
-    assert!(rt; stats_csv(rt.alloc(), NO_CALLBACKS, STARVED, &mut out).is_ok());
+    assert!(rt; stats_csv(rt.alloc(), NO_CALLBACKS, STARVED, &mut Nobody, &mut out).is_ok());
     assert!(rt; memory.bytes.as_slice().ends_with(QUOTA_LIST.as_bytes()));
 }
