@@ -11,7 +11,7 @@ use Rattle.std.proofs.lemmas.Slice.Eq.{bytes_eq-Decides}
 use Rattle.std.proofs.lemmas.Str.Parse.{IsNumeralModel, numerals_by_value, tells_all_ascii_digits, parse_digits, not_in_digits}
 use Rattle.scx_weights.specs.Refusals.{max_quota, max_period, is_outside, is_bad_quota}
 use Rattle.scx_workloads.specs.declared.limit.Limit.{Limit}
-use Rattle.scx_workloads.specs.Limit.{is_numeral, IsTime, IsQuota, Says, Says.both, Says.alone, SaysJust, is_time, ms_in, quota_in, limit_of, limit_at, limit_in}
+use Rattle.scx_workloads.specs.Limit.{is_numeral, IsTime, IsQuota, Says, Says.both, Says.alone, SaysJust, TextsSayOneLimit, is_time, ms_in, quota_in, limit_of, limit_at, limit_in}
 
 own : IsNumeralModel (λ ds. all_ascii_digits ds ≡ true) (digits_value 10)
 own = numerals_by_value _ tells_all_ascii_digits
@@ -186,9 +186,12 @@ limit_says text limit e = go (cases_lt space (length text))
         let none : position (λ b. b == 32) text ≡ None = let b : nat_lt space (length text) ≡ false = grind (arith, nat_tests, l) in rw b refl in
         alone_says _ refl (ap (limit_at text) (sym none) ∙ e)
 
-pub says_just : (text : List ℕ) (limit : Option Limit) → limit ≡ limit_in text → SaysJust text limit
+says_just : (text : List ℕ) (limit : Option Limit) → limit_in text ≡ limit → SaysJust text limit
 says_just text None e = λ limit says. absurd (let f = limit_is text limit says in cc)
-says_just text (Some limit) e = (limit_says text limit (sym e), λ other says. same other limit (sym (limit_is text other says) ∙ sym e))
+says_just text (Some limit) e = (limit_says text limit e, λ other says. same other limit (sym (limit_is text other says) ∙ e))
+
+pub texts_say_one_limit_lem : TextsSayOneLimit
+texts_say_one_limit_lem = λ text. says_just text (limit_in text) refl
 
 -- ---- what holds of a limit that was read
 

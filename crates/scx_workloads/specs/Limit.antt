@@ -35,11 +35,6 @@ pub data Says (limit : Limit) : List ℕ → Type 0 where
   both : (quota period : List ℕ) → IsQuota quota limit.quota_ms → IsTime max_period period limit.period_ms → Says limit (quota ++ 32 ∷ period)
   alone : (quota : List ℕ) → IsQuota quota limit.quota_ms → limit.period_ms ≡ 100 → Says limit quota
 
--- a text says that limit and no other, or, where there is none, it says no limit at all
-abbrev pub SaysJust : List ℕ → Option Limit → Type 0
-SaysJust text None = (limit : Limit) → ¬ (Says limit text)
-SaysJust text (Some limit) = Says limit text × ((other : Limit) → Says other text → other ≡ limit)
-
 -- ---- how it is read
 
 -- so many microseconds are whole milliseconds, 1 to the greatest
@@ -72,3 +67,13 @@ limit_at text (Some space) = limit_of (quota_in (take space text)) (ms_in max_pe
 -- the limit that a text says
 abbrev pub limit_in : List ℕ → Option Limit
 limit_in text = limit_at text (position (λ b. b == 32) text)
+
+-- ---- what is read is what is said
+
+-- a text says that limit and no other, or, where there is none, it says no limit at all
+abbrev pub SaysJust : List ℕ → Option Limit → Type 0
+SaysJust text None = (limit : Limit) → ¬ (Says limit text)
+SaysJust text (Some limit) = Says limit text × ((other : Limit) → Says other text → other ≡ limit)
+
+abbrev pub TextsSayOneLimit : Type 0
+TextsSayOneLimit = (text : List ℕ) → SaysJust text (limit_in text)

@@ -6,7 +6,7 @@ ghost use Rattle.scx_files.specs.Faults.{Gives};
 ghost use Rattle.scx_files.specs.Paths.{below};
 ghost use Rattle.scx_files.specs.Values.{optional};
 ghost use Rattle.scx_workloads.specs.Reading.{limit_read};
-ghost use Rattle.scx_workloads.specs.Limit.{no_limit, is_numeral, whole_ms, ms_in, quota_in, limit_of, limit_in, SaysJust};
+ghost use Rattle.scx_workloads.specs.Limit.{no_limit, is_numeral, whole_ms, ms_in, quota_in, limit_of, limit_in, TextsSayOneLimit};
 
 use scx_files::{Cause, LoadError, Section, refused};
 use scx_weights::{DEFAULT_PERIOD_MS, MAX_PERIOD_MS, MAX_QUOTA_MS};
@@ -56,15 +56,7 @@ fn limit_at(
 }
 
 /// Reads `MAX PERIOD` or `MAX`: microseconds, whole milliseconds of them, and `max` for no quota.
-#[tactic(auto, using(crate::proofs::Limits::says_just))]
 fn limit_in(text: &str) -> Option<Limit>
-    ensures limit { result ≡ limit_in text.now }
-    ensures just { SaysJust text.now result }
-{
-    split_limit(text)
-}
-
-fn split_limit(text: &str) -> Option<Limit>
     ensures { result ≡ limit_in text.now }
 {
     let Some((quota, period)) = text.split_once(' ') else {
@@ -72,6 +64,11 @@ fn split_limit(text: &str) -> Option<Limit>
     };
     limit_of(quota, ms_in(period, MAX_PERIOD_MS)?)
 }
+
+/// What is read of a `cpu_max` is what its text says, and no text says two limits.
+pub fn texts_say_one_limit()
+    ensures { TextsSayOneLimit }
+{}
 
 fn limit_of(quota: &str, period_ms: u32) -> Option<Limit>
     ensures { result ≡ limit_of (quota_in quota.now) (Some period_ms) }
