@@ -211,11 +211,7 @@ impl Gathering {
 
     /// A processor is about to have run for a millisecond, or not to have.
     fn tick(&mut self, sim: &Sim, cpu: u32) {
-        let running = if cpu < sim.cpus() {
-            sim.running(cpu)
-        } else {
-            None
-        };
+        let running = running_on(sim, cpu);
         self.count_cpu(cpu, running.is_some());
         if let Some(task) = running {
             self.charge(task);
@@ -341,6 +337,15 @@ impl View for Gathering {
 
     fn failed(&self) -> bool {
         self.result.is_err()
+    }
+}
+
+/// Who runs on the processor.
+fn running_on(sim: &Sim, cpu: u32) -> Option<u16> {
+    if cpu < sim.cpus() {
+        sim.running(cpu)
+    } else {
+        None
     }
 }
 
