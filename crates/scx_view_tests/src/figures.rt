@@ -3,8 +3,8 @@
 use crate::memory::Memory;
 use crate::same::expect_same;
 use crate::texts::{
-    HOLDS, LIMITED, LONG, NESTED, NO_CALLBACKS, ONE_SLEEPS, SHORT_SLICES, SLEEPER, STARVED, STAYS,
-    TWO_TASKS, WEIGHTS, WITHIN,
+    HOLDS, LIMITED, LONG, NESTED, NO_CALLBACKS, ONE_SLEEPS, QUOTAS_NESTED, SHORT_SLICES, SLEEPER,
+    STARVED, STAYS, TWO_TASKS, WEIGHTS, WITHIN,
 };
 use scx_output::Counted;
 use scx_simulation::Nobody;
@@ -159,6 +159,30 @@ g                       1        2        1        6           6        7
 ",
 };
 
+/// Task a runs in the milliseconds 0 and 1, which is all that its group may use, and b in the next one, which
+/// uses up what both have together. So a is parked from 1 and b from 2 to 10, though a period of the group of a
+/// begins at 5; a runs again in the millisecond 11, and b waits from 10 on.
+const QUOTA_IN_QUOTA: Case = Case {
+    policy: "timeout_ms = 100",
+    workload: QUOTAS_NESTED,
+    wanted: "task                  run    waits        mean      99%  longest    since    wakes  stopped   parked
+a                       3        3        0.00        0        0        0        1        1        9
+b                       1        3        1.00        2        2       10        1        1        8
+
+cpu                  busy     idle     changes
+0                       4        8           2
+
+group               share      due
+top               100.00%  100.00%
+x                  75.00%   50.00%
+y                  25.00%   50.00%
+
+group               quota   period     most  periods   throttled      for
+top                     3       10        3        2           1        8
+x                       2        5        2        3           1        4
+",
+};
+
 /// What stands behind the other figures of `NEVER_RUNS`, a line for each.
 const QUOTA_LIST: &str = "group,g,due_percent,100.00
 task,a,parked_ms,7
@@ -196,17 +220,16 @@ group,g,share_percent,100.00
 group,g,due_percent,100.00
 ";
 
-const CASES: [Case; 9] = [
+const CASES: [Case; 6] = [
     TURNS,
     SLEEPS,
     EJECTED,
     WEIGHT_CHANGES,
     GROUPS_IN_GROUPS,
     ONE_LEFT,
-    QUOTA_LEFT,
-    PARKED,
-    NEVER_RUNS,
 ];
+
+const QUOTAS: [Case; 4] = [QUOTA_LEFT, PARKED, NEVER_RUNS, QUOTA_IN_QUOTA];
 
 fn expect_tables<R: AllocGlobal + Abort>(rt: &R, case: &Case) {
     let mut memory = Memory::new(rt.alloc());
@@ -227,6 +250,13 @@ fn expect_tables<R: AllocGlobal + Abort>(rt: &R, case: &Case) {
 #[test]
 fn figures_are_those_worked_by_hand(rt: HostRuntime) {
     for case in &CASES {
+        expect_tables(&rt, case);
+    }
+}
+
+#[test]
+fn figures_of_quotas_are_those_worked_by_hand(rt: HostRuntime) {
+    for case in &QUOTAS {
         expect_tables(&rt, case);
     }
 }

@@ -65,7 +65,7 @@ const PARKED: Case = Case {
     ],
 };
 
-const CASES: [Case; 3] = [TURNS, EJECTED, PARKED];
+const CASES: [Case; 2] = [TURNS, EJECTED];
 
 fn expect_parts<R: AllocGlobal + Abort>(rt: &R, case: &Case) {
     let mut memory = Memory::new(rt.alloc());
@@ -90,6 +90,11 @@ fn pictures_have_their_parts(rt: HostRuntime) {
     for case in &CASES {
         expect_parts(&rt, case);
     }
+}
+
+#[test]
+fn parked_tasks_have_bars_of_their_own(rt: HostRuntime) {
+    expect_parts(&rt, &PARKED);
 }
 
 /// At how many places of the text the part stands.

@@ -184,3 +184,15 @@ group = \"g\"
 name = \"b\"
 group = \"g\"
 ";
+
+/// Two tasks whose groups lie in one with a quota; one of them has its own.
+pub(crate) const QUOTAS_NESTED: &str = "
+cpus = 1
+ms = 12
+group = [
+    { name = 'top', cpu_max = '3000 10000' },
+    { name = 'x', parent = 'top', cpu_max = '2000 5000' },
+    { name = 'y', parent = 'top' },
+]
+task = [{ name = 'a', group = 'x' }, { name = 'b', group = 'y' }]
+";

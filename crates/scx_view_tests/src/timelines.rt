@@ -51,6 +51,18 @@ fn slices(timeline: &Value, tracks: u64, name: &str) -> u64 {
     sum
 }
 
+/// The same of a run.
+fn slices_of<R: AllocGlobal + Abort>(
+    rt: &R,
+    policy: &str,
+    workload: &str,
+    tracks: u64,
+    name: &str,
+) -> u64 {
+    let timeline = read(rt, policy, workload);
+    slices(&timeline, tracks, name)
+}
+
 /// How many events of a kind have that name.
 fn count(timeline: &Value, kind: &str, name: &str) -> u64 {
     let mut count = 0u64;
@@ -62,6 +74,18 @@ fn count(timeline: &Value, kind: &str, name: &str) -> u64 {
         }
     }
     count
+}
+
+/// The same of a run.
+fn count_of<R: AllocGlobal + Abort>(
+    rt: &R,
+    policy: &str,
+    workload: &str,
+    kind: &str,
+    name: &str,
+) -> u64 {
+    let timeline = read(rt, policy, workload);
+    count(&timeline, kind, name)
 }
 
 /// A run, a task, and how long it runs, in microseconds.
@@ -82,8 +106,8 @@ const SLICES: [Slices; 8] = [
 #[test]
 fn slices_are_run_times(rt: HostRuntime) {
     for &(policy, workload, name, wanted) in &SLICES {
-        let timeline = read(&rt, policy, workload);
-        expect_same(&rt, slices(&timeline, CPUS, name), wanted, name);
+        let found = slices_of(&rt, policy, workload, CPUS, name);
+        expect_same(&rt, found, wanted, name);
     }
 }
 
@@ -98,11 +122,13 @@ const PARKED_ONCE: [(&str, &str, u64); 5] = [
 
 #[test]
 fn parked_tasks_have_slices_of_their_own(rt: HostRuntime) {
-    let parked = read(&rt, SHORT_SLICES, LIMITED);
-    expect_same(&rt, slices(&parked, CPUS, "a"), 3000, "runs");
-    expect_same(&rt, slices(&parked, PARKED, "a"), 3000, "parked");
+    for &(tracks, wanted) in &[(CPUS, 3000), (PARKED, 3000)] {
+        let found = slices_of(&rt, SHORT_SLICES, LIMITED, tracks, "a");
+        expect_same(&rt, found, wanted, tracks);
+    }
     for &(kind, name, wanted) in &PARKED_ONCE {
-        expect_same(&rt, count(&parked, kind, name), wanted, name);
+        let found = count_of(&rt, SHORT_SLICES, LIMITED, kind, name);
+        expect_same(&rt, found, wanted, name);
     }
 }
 
@@ -118,8 +144,8 @@ const HELD: [(&str, &str, u64); 6] = [
 
 #[test]
 fn events_are_counted(rt: HostRuntime) {
-    let held = read(&rt, HOLDS, LONG);
     for &(kind, name, wanted) in &HELD {
-        expect_same(&rt, count(&held, kind, name), wanted, name);
+        let found = count_of(&rt, HOLDS, LONG, kind, name);
+        expect_same(&rt, found, wanted, name);
     }
 }
