@@ -1,7 +1,8 @@
 -- What is left of an output after many lines.
-use Rattle.std.proofs.Common.{◌≡◌, ℕ, Bool, true, false, List, [], ◌∷◌, ◌++◌, refl, sym, ap, subst, ◌∙◌, append_assoc}
+use Rattle.std.proofs.Common.{◌≡◌, ℕ, Bool, true, false, List, [], ◌∷◌, ◌++◌, Option, refl, sym, ap, subst, ◌∙◌, append_assoc}
 use Rattle.std.proofs.lemmas.List.{append-nil}
-use Rattle.scx_output.specs.Output.{HasFailed}
+use Rattle.std.specs.Io.KnownBytes.{Appends}
+use Rattle.scx_output.specs.Output.{HasFailed, AppendsBeginning}
 use Rattle.scx_output.proofs.Growth.{grows_by_none, grows_twice}
 use Rattle.scx_output.proofs.Beginnings.{beginning_of_more, beginning_behind}
 use Rattle.scx_world.specs.declared.notes.Note.{Note}
@@ -9,11 +10,12 @@ use Rattle.scx_machine.specs.Notes.{Takes}
 use Rattle.scx_trace.specs.Lines.{NameLists, note_line, note_lines}
 use Rattle.scx_trace.specs.Writing.{Seen, Written, WrittenAfter, WrittenUpTo}
 use Rattle.scx_machine.specs.declared.events.Event.{Event}
-use Rattle.scx_sched.specs.Sim.{SimState}
+use Rattle.scx_machine.specs.Callbacks.{AreAnswered}
+use Rattle.scx_sched.specs.Sim.{SimState, stepped, notes_of, calls_of}
 use Rattle.scx_driver.specs.Runs.{stepped_all, notes_of_all}
-use Rattle.scx_trace.specs.Runs.{GoesThrough}
+use Rattle.scx_trace.specs.Runs.{IsInOrder, StaysInOrder, GoesThrough, StopsAtFailure}
 use Rattle.scx_trace.specs.Tracing.{TakesLine}
-use Rattle.scx_trace.proofs.Going.{notes_of_all-append, what_is_done}
+use Rattle.scx_trace.proofs.Going.{notes_of_all-append, differ, what_is_done, done_all}
 
 nothing_after : (f : Bool) (s : Seen) → s.failed ≡ f → WrittenAfter f s [] s
 nothing_after true s e = refl
@@ -98,3 +100,72 @@ run_is_written output names seen f events s t a b fresh is went =
       subst R (sym text) (whole_or_cut f (seen a) (seen b) (note_lines x (notes_of_all s ran.done)) (note_lines x later)
           (λ going. ap (λ es. note_lines x (notes_of_all (stepped_all s ran.done) es)) (ran.all (is ∙ going))) (subst Q is (subst P fresh lines.2))),
     )
+
+-- where no write failed, all events were given to the machine
+pub run_is_done : {S G : Type 0} (output : S → G) (names : S → NameLists) (seen : S → Seen) (events : List Event) (s t : SimState) (a b : S)
+    → (seen b).failed ≡ false → GoesThrough (TakesLine output names seen) (λ x. (seen x).failed) events s a t b
+    → (t ≡ stepped_all s events) × StaysInOrder s events
+run_is_done output names seen events s t a b fine went =
+    done_all (TakesLine output names seen) (λ x. (seen x).failed) events s a t b went fine
+
+-- one event in front of others
+with_event : (x : NameLists) (e : Event) (es : List Event) (s t : SimState) (old between new : Option (List ℕ))
+    → IsInOrder s → AreAnswered (calls_of s e) → Appends old between (note_lines x (notes_of s e)) → StopsAtFailure x es (stepped s e) t between new
+    → StopsAtFailure x (e ∷ es) s t old new
+with_event x e es s t old between new now answered line h =
+    let P : List ℕ → Type 0 = λ text. Appends old h.lines.between text in
+    let first = note_lines x (notes_of s e) in
+    let behind = note_lines x (notes_of_all (stepped s e) h.done) in
+    let text : note_lines x (notes_of s e ++ notes_of_all (stepped s e) h.done) ≡ first ++ behind = note_lines-append x (notes_of s e) (notes_of_all (stepped s e) h.done) in
+    record {
+      done = e ∷ h.done;
+      event = h.event;
+      rest = h.rest;
+      whole = ap (λ fs. e ∷ fs) h.whole;
+      state = h.state;
+      in_order = (now, answered, h.in_order);
+      lines = record {
+        between = h.lines.between;
+        whole = subst P (sym text) (grows_twice old between h.lines.between first behind line h.lines.whole);
+        cut = h.lines.cut;
+      };
+    }
+
+-- where one failed, the events up to the one whose line it was
+pub run_stops : {S G : Type 0} (output : S → G) (names : S → NameLists) (seen : S → Seen) (events : List Event) (s t : SimState) (a b : S)
+    → (seen a).failed ≡ false → (seen b).failed ≡ true → GoesThrough (TakesLine output names seen) (λ x. (seen x).failed) events s a t b
+    → StopsAtFailure (names a) events s t (seen a).contents (seen b).contents
+run_stops output names seen [] s t a b fresh failed (state, same, now) =
+    absurd (differ (seen b).failed failed (ap (λ x. (seen x).failed) same ∙ fresh))
+run_stops {S} output names seen (e ∷ es) s t a b fresh failed (c, notes, now, answered, ends, goes) =
+    by_failure (seen c).failed refl (λ x. run_stops output names seen es (stepped s e) t c b x failed (goes x))
+  where
+    text : List ℕ
+    text = note_lines (names a) (notes_of s e)
+
+    lines : (output c ≡ output a) × (names c ≡ names a) × Written (seen a) text (seen c)
+    lines = takes_lines output names seen (notes_of s e) a c notes
+
+    written : (f : Bool) → (seen c).failed ≡ f → WrittenUpTo f (seen a) text (seen c)
+    written f is =
+        let P : Bool → Type 0 = λ g. WrittenAfter g (seen a) text (seen c) in
+        let Q : Bool → Type 0 = λ g. WrittenUpTo g (seen a) text (seen c) in
+        subst Q is (subst P fresh lines.2)
+
+    by_failure : (f : Bool) → (seen c).failed ≡ f → ((seen c).failed ≡ false → StopsAtFailure (names c) es (stepped s e) t (seen c).contents (seen b).contents)
+        → StopsAtFailure (names a) (e ∷ es) s t (seen a).contents (seen b).contents
+    by_failure true is further =
+        let end = ends is in
+        let P : S → Type 0 = λ y. AppendsBeginning (seen a).contents (seen y).contents text in
+        record {
+          done = [];
+          event = e;
+          rest = es;
+          whole = refl;
+          state = end.0;
+          in_order = (now, answered, end.2);
+          lines = record { between = (seen a).contents; whole = grows_by_none (seen a).contents []; cut = subst P (sym end.1) (written true is).0 };
+        }
+    by_failure false is further =
+        let P : NameLists → Type 0 = λ x. StopsAtFailure x es (stepped s e) t (seen c).contents (seen b).contents in
+        with_event (names a) e es s t (seen a).contents (seen c).contents (seen b).contents now answered (written false is).0 (subst P lines.1 (further is))

@@ -3,7 +3,7 @@ ghost use Rattle.std.specs.Io.KnownBytes.{Appends};
 ghost use Rattle.scx_output.specs.Output.{HasFailed, AppendsBeginning};
 ghost use Rattle.scx_trace.specs.Lines.{note_lines};
 ghost use Rattle.scx_driver.specs.Runs.{notes_of_all, stepped_all};
-ghost use Rattle.scx_trace.specs.Runs.{GoesThrough};
+ghost use Rattle.scx_trace.specs.Runs.{StaysInOrder, GoesThrough, StopsAtFailure};
 
 use crate::events::Events;
 use crate::names::Names;
@@ -18,8 +18,10 @@ fn go_through<E: Events, S: Sink>(sim: &mut Sim, events: &mut E, sink: &mut S)
     ensures { GoesThrough S.takes S.has_failed (E.remaining events.old sim.old) sim.old sink.old
         sim.new sink.new }
 {
+    sim.is_sound();
     while let Some(event) = events.next(sim) {
         let _ = sim.step(event, sink);
+        sim.is_sound();
         if sink.failed() {
             return;
         }
@@ -40,10 +42,16 @@ pub fn write_run<E: Events, N: Names, W: Out>(
     ensures ok { OnOk result (Appends (W.contents out.old) (W.contents out.new)
         (note_lines (N.lists names.now) (notes_of_all sim.old (E.remaining events.old sim.old)))) }
     ensures ok_failures { OnOk result (W.failure_count out.new ≡ W.failure_count out.old) }
+    ensures ok_state { OnOk result
+        (sim.new ≡ stepped_all sim.old (E.remaining events.old sim.old)) }
+    ensures ok_in_order { OnOk result (StaysInOrder sim.old (E.remaining events.old sim.old)) }
     ensures err { OnErr result (AppendsBeginning (W.contents out.old) (W.contents out.new)
         (note_lines (N.lists names.now) (notes_of_all sim.old (E.remaining events.old sim.old)))) }
     ensures err_failures { OnErr result
         (HasFailed (W.failure_count out.old) (W.failure_count out.new)) }
+    ensures err_stopped { OnErr result
+        (StopsAtFailure (N.lists names.now) (E.remaining events.old sim.old) sim.old sim.new
+        (W.contents out.old) (W.contents out.new)) }
 {
     let mut trace = Trace::new(names, out);
     go_through(sim, events, &mut trace);
@@ -55,7 +63,8 @@ pub fn write_run<E: Events, N: Names, W: Out>(
 
 /// Gives the events to the machine, one after another, up to the end.
 pub fn run_silently<E: Events>(sim: &mut Sim, events: &mut E)
-    ensures { sim.new ≡ stepped_all sim.old (E.remaining events.old sim.old) }
+    ensures state { sim.new ≡ stepped_all sim.old (E.remaining events.old sim.old) }
+    ensures in_order { StaysInOrder sim.old (E.remaining events.old sim.old) }
 {
     go_through(sim, events, &mut Silence);
 }

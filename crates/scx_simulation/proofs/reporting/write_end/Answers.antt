@@ -1,4 +1,4 @@
 use Rattle.scx_simulation.proofs.reporting.write_end.Goals as goal
 
 pub returns-clause-err : goal.returns-clause-err
-returns-clause-err g c = rw (c.run_silently.ensures, c.new-events.ensures, c.requires) at c.write_report.ensures.err
+returns-clause-err g c = rw (c.run_silently.ensures.state, c.new-events.ensures, c.requires) at c.write_report.ensures.err
