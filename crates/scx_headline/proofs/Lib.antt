@@ -1,4 +1,3 @@
 pub mod Going
 pub mod Policies
 pub mod Whole
-pub mod Law

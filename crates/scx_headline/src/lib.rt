@@ -3,12 +3,10 @@
 //! every runnable task appears exactly once on a processor or in a queue, and while the policy is in force
 //! no task has waited longer than its limit.
 //!
-//! `run_events` does such a run, and its contract says so. The runs that `simulate` and `report` write of are
-//! such runs.
+//! `run_events` does such a run, and its contract says so. The contracts of `simulate` and `report` say it of
+//! the runs that they write of.
 #![tactic(auto)]
 
-mod laws;
 mod run;
 
-pub use laws::files_stand_for_such_runs;
 pub use run::run_events;
