@@ -1,3 +1,4 @@
 mod Shapes
 pub mod Running
 mod Passing
+mod Holding

@@ -1,7 +1,8 @@
-ghost use Rattle.std.specs.Prelude.{◌≡◌, ◌≢◌, false, Ok, IfOk, IfErr};
+ghost use Rattle.std.specs.Prelude.{◌≡◌, ◌≢◌, false, Ok, IfOk, IfErr, OnOk};
 ghost use Rattle.scx_weights.specs.Hierarchy.{idle};
 ghost use Rattle.scx_machine.specs.declared.start.NewError.TheVariants.{BadShape};
-ghost use Rattle.scx_machine.specs.Start.{is_bad_shape};
+ghost use Rattle.scx_machine.specs.Callbacks.{AreAnswered};
+ghost use Rattle.scx_machine.specs.Start.{is_bad_shape, start_calls};
 ghost use Rattle.scx_sched.specs.Sim.{IsFirst};
 ghost use Rattle.scx_policies.specs.Reading.{policy_text};
 ghost use Rattle.scx_workloads.specs.Reading.{workload_of};
@@ -48,7 +49,7 @@ pub fn prepare(alloc: Global, policy: &str, workload: &str) -> Result<Run, Refus
 }
 
 /// The run of a workload under a policy. All of its memory is taken here.
-#[tactic(auto, using(crate::proofs::Shapes::shape_is_right, scx_driver::proofs::Law::none_is_refused))]
+#[tactic(auto, using(scx_driver::proofs::Law::none_is_refused))]
 fn begin(alloc: Global, policy: Policy, workload: Workload) -> Result<Run, Refusal>
     ensures workload { IfOk result (λ run. run.workload ≡ workload) }
     ensures first { IfOk result
@@ -56,18 +57,34 @@ fn begin(alloc: Global, policy: Policy, workload: Workload) -> Result<Run, Refus
     ensures events { IfOk result
         (λ run. remaining run.driver run.sim ≡ workload_events workload run.sim) }
     ensures accepted { IfOk result (λ run. AreAccepted run.sim (workload_events workload run.sim)) }
+    ensures answered { OnOk result (AreAnswered
+        (start_calls policy (idle workload.groups workload.homes) workload.cpus)) }
     ensures refused { IfErr result
         (IsStartFault policy (idle workload.groups workload.homes) workload.cpus) }
 {
     workload.is_whole();
-    let tree = tree_of(alloc, &workload)?;
     let driver = Driver::new(alloc, &workload)?;
-    let sim = machine(alloc, policy, tree, workload.cpus())?;
+    let sim = start(alloc, policy, &workload)?;
     Ok(Run {
         workload,
         driver,
         sim,
     })
+}
+
+/// The machine of a workload under a policy, before the first event.
+#[tactic(auto, using(crate::proofs::Shapes::shape_is_right))]
+fn start(alloc: Global, policy: Policy, workload: &Workload) -> Result<Sim, Refusal>
+    ensures first { IfOk result
+        (IsFirst policy (idle workload.now.groups workload.now.homes) workload.now.cpus) }
+    ensures answered { OnOk result (AreAnswered
+        (start_calls policy (idle workload.now.groups workload.now.homes) workload.now.cpus)) }
+    ensures refused { IfErr result
+        (IsStartFault policy (idle workload.now.groups workload.now.homes) workload.now.cpus) }
+{
+    workload.is_whole();
+    let tree = tree_of(alloc, workload)?;
+    machine(alloc, policy, tree, workload.cpus())
 }
 
 fn policy_in(alloc: Global, text: &str) -> Result<PolicyText, Refusal>
@@ -121,6 +138,7 @@ fn tree_of(alloc: Global, workload: &Workload) -> Result<Tree, Refusal>
 fn machine(alloc: Global, policy: Policy, tree: Tree, cpus: u32) -> Result<Sim, Refusal>
     requires { is_bad_shape tree cpus ≡ false }
     ensures first { IfOk result (IsFirst policy tree cpus) }
+    ensures answered { OnOk result (AreAnswered (start_calls policy tree cpus)) }
     ensures refused { IfErr result (IsStartFault policy tree cpus) }
 {
     match Sim::new(alloc, policy, tree, cpus) {

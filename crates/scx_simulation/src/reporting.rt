@@ -6,7 +6,8 @@ ghost use Rattle.scx_driver.specs.Driver.{remaining};
 ghost use Rattle.scx_driver.specs.Events.{workload_events};
 ghost use Rattle.scx_output.specs.Output.{HasFailed, AppendsBeginning};
 ghost use Rattle.scx_outcomes.specs.Outcome.{IfRefused, IsRefused};
-ghost use Rattle.scx_simulation.specs.Runs.{IsRun, IsCause, report_text};
+ghost use Rattle.scx_trace.specs.Runs.{StaysInOrder};
+ghost use Rattle.scx_simulation.specs.Runs.{IsRun, IsCause, IsOfHeadline, report_text};
 
 use crate::hearing::{Heard, Listener};
 use crate::preparing::{Run, prepare};
@@ -28,8 +29,10 @@ pub fn report<L: Listener, W: Out>(
     listener: &mut L,
     out: &mut W,
 ) -> Result<bool, Fault>
+    // The report is written of a run, and the headline holds of it.
     ensures done { IfOk result (λ answer. (answer ≡ true)
-        × (w : WorkloadState) × (s : SimState) × IsRun policy.now workload.now w s
+        × (w : WorkloadState) × (s : SimState) × (run : IsRun policy.now workload.now w s)
+        × IsOfHeadline run (workload_events w s)
         × Appends (W.contents out.old) (W.contents out.new) (report_text w s)) }
     ensures unfailed { OnOk result (W.failure_count out.new ≡ W.failure_count out.old) }
 
@@ -39,7 +42,8 @@ pub fn report<L: Listener, W: Out>(
 
     // The report is cut off where writing fails.
     ensures cut { result ≡ Err Fault.WriteFailed
-        → (w : WorkloadState) × (s : SimState) × IsRun policy.now workload.now w s
+        → (w : WorkloadState) × (s : SimState) × (run : IsRun policy.now workload.now w s)
+        × IsOfHeadline run (workload_events w s)
         × AppendsBeginning (W.contents out.old) (W.contents out.new) (report_text w s) }
     ensures counted { result ≡ Err Fault.WriteFailed
         → HasFailed (W.failure_count out.old) (W.failure_count out.new) }
@@ -60,6 +64,7 @@ fn write_end<L: Listener, W: Out>(run: Run, listener: &mut L, out: &mut W) -> Re
         (report_text run.workload run.sim)) }
     ensures err_failures { OnErr result
         (HasFailed (W.failure_count out.old) (W.failure_count out.new)) }
+    ensures in_order { StaysInOrder run.sim (workload_events run.workload run.sim) }
 {
     let Run {
         workload,

@@ -6,7 +6,9 @@ ghost use Rattle.scx_driver.specs.Driver.{remaining};
 ghost use Rattle.scx_driver.specs.Events.{workload_events};
 ghost use Rattle.scx_output.specs.Output.{HasFailed, AppendsBeginning};
 ghost use Rattle.scx_outcomes.specs.Outcome.{IfRefused, IsRefused};
-ghost use Rattle.scx_simulation.specs.Runs.{IsRun, IsCause, trace_text};
+ghost use Rattle.scx_trace.specs.Lines.{names_of};
+ghost use Rattle.scx_trace.specs.Runs.{StaysInOrder, StopsAtFailure};
+ghost use Rattle.scx_simulation.specs.Runs.{IsRun, IsCause, IsOfHeadline, IsCutOff, trace_text};
 
 use crate::hearing::{Heard, Listener};
 use crate::preparing::{Run, prepare};
@@ -28,8 +30,10 @@ pub fn simulate<L: Listener, W: Out>(
     listener: &mut L,
     out: &mut W,
 ) -> Result<bool, Fault>
+    // The trace is written of a run, and the headline holds of it.
     ensures done { IfOk result (λ answer. (answer ≡ true)
-        × (w : WorkloadState) × (s : SimState) × IsRun policy.now workload.now w s
+        × (w : WorkloadState) × (s : SimState) × (run : IsRun policy.now workload.now w s)
+        × IsOfHeadline run (workload_events w s)
         × Appends (W.contents out.old) (W.contents out.new) (trace_text w s)) }
     ensures unfailed { OnOk result (W.failure_count out.new ≡ W.failure_count out.old) }
 
@@ -37,9 +41,10 @@ pub fn simulate<L: Listener, W: Out>(
     ensures refused { IfRefused result (IsCause policy.now workload.now) }
     ensures quiet { IsRefused result → out.new ≡ out.old }
 
-    // The trace is cut off where writing fails.
+    // The trace is cut off where writing fails, and the run ends there.
     ensures cut { result ≡ Err Fault.WriteFailed
-        → (w : WorkloadState) × (s : SimState) × IsRun policy.now workload.now w s
+        → (w : WorkloadState) × (s : SimState) × (run : IsRun policy.now workload.now w s)
+        × IsCutOff run (W.contents out.old) (W.contents out.new)
         × AppendsBeginning (W.contents out.old) (W.contents out.new) (trace_text w s) }
     ensures counted { result ≡ Err Fault.WriteFailed
         → HasFailed (W.failure_count out.old) (W.failure_count out.new) }
@@ -55,11 +60,16 @@ fn write_trace<L: Listener, W: Out>(run: Run, listener: &mut L, out: &mut W) -> 
     ensures ok { OnOk result
         (Appends (W.contents out.old) (W.contents out.new) (trace_text run.workload run.sim)) }
     ensures ok_failures { OnOk result (W.failure_count out.new ≡ W.failure_count out.old) }
+    ensures ok_in_order { OnOk result
+        (StaysInOrder run.sim (workload_events run.workload run.sim)) }
     ensures err { OnErr result
         (AppendsBeginning (W.contents out.old) (W.contents out.new)
         (trace_text run.workload run.sim)) }
     ensures err_failures { OnErr result
         (HasFailed (W.failure_count out.old) (W.failure_count out.new)) }
+    ensures err_stopped { OnErr result ((end : SimState) ×
+        StopsAtFailure (names_of run.workload) (workload_events run.workload run.sim) run.sim end
+        (W.contents out.old) (W.contents out.new)) }
 {
     let Run {
         workload,
