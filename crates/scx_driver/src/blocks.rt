@@ -26,7 +26,7 @@ fn is_due(due: &[u32], now: u32, sim: &Sim, task: u16) -> bool
     requires { task < length due.now }
     ensures { result ≡ is_due due.now now sim.now.state.world task }
 {
-    !sim.is_runnable(task) && due[task as usize] == now
+    due[task as usize] == now && !sim.is_runnable(task)
 }
 
 /// Whether the task is runnable, and has run as long as it runs at once.
@@ -36,8 +36,8 @@ fn has_run_enough(timings: &[Timing], ran: &[u64], sim: &Sim, task: u16) -> bool
     ensures { result ≡ has_run_enough timings.now ran.now sim.now.state.world task }
 {
     let run = timings[task as usize].run;
-    sim.is_runnable(task)
-        && 0 < run
+    0 < run
+        && sim.is_runnable(task)
         && MS_NS * u64::from(run) <= run_ns(sim, task).saturating_sub(ran[task as usize])
 }
 
