@@ -7,7 +7,7 @@ use Rattle.scx_driver.specs.declared.driver.Phase.{Phase}
 use Rattle.scx_driver.specs.declared.driver.Phase.TheVariants as phase
 use Rattle.scx_driver.specs.declared.driver.Driver.TheInside.{Inside}
 use Rattle.scx_driver.specs.Runs.{stepped_all}
-use Rattle.scx_driver.specs.Blocks.{Plan, Memory, Block, Wakes, Ticks, Sleeps, Clock, block_events, remembered}
+use Rattle.scx_driver.specs.Blocks.{Plan, Memory, Block, Changes, Wakes, Ticks, Sleeps, Clock, block_events, remembered}
 use Rattle.scx_driver.specs.Events.{blocks_from, events_from}
 
 -- the events of the block at hand that are still to come, and the blocks behind it
@@ -45,6 +45,23 @@ blocks_left phase.Wakes m left = Wakes m ∷ Ticks ∷ Sleeps m ∷ Clock ∷ bl
 blocks_left phase.Ticks m left = Ticks ∷ Sleeps m ∷ Clock ∷ blocks_from left (m + 1)
 blocks_left phase.Sleeps m left = Sleeps m ∷ Clock ∷ blocks_from left (m + 1)
 blocks_left phase.Clock m left = Clock ∷ blocks_from left (m + 1)
+
+-- the order of blocks in a millisecond
+abbrev pub phase_number : Phase → ℕ
+phase_number phase.Changes = 0
+phase_number phase.Wakes = 1
+phase_number phase.Ticks = 2
+phase_number phase.Sleeps = 3
+phase_number phase.Clock = 4
+
+-- the number of the block that comes next; a greater one where none is left
+abbrev pub next_number : List Block → ℕ
+next_number [] = 5
+next_number (Changes m ∷ bs) = 0
+next_number (Wakes m ∷ bs) = 1
+next_number (Ticks ∷ bs) = 2
+next_number (Sleeps m ∷ bs) = 3
+next_number (Clock ∷ bs) = 4
 
 abbrev pub state_of : Inside → DriverState
 state_of d = record {

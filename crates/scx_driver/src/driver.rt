@@ -1,4 +1,4 @@
-ghost use Rattle.std.specs.Prelude.{◌≡◌, ◌∷◌, [], not, map, true, false, IfOk, IfSome, IfNone};
+ghost use Rattle.std.specs.Prelude.{◌≡◌, ◌≤◌, ◌<◌, ◌∷◌, [], not, map, true, false, IfOk, IfSome, IfNone};
 ghost use Rattle.scx_sched.specs.Sim.{SimState, stepped};
 ghost use Rattle.scx_workloads.specs.declared.workload.Timing.{Timing};
 ghost use Rattle.scx_driver.specs.Events.{workload_events};
@@ -10,7 +10,7 @@ use std::alloc::{AllocError, Global};
 use std::marker::Model;
 
 /// A block of the events of a millisecond.
-#[derive(Clone, Copy)]
+#[derive(Clone, Copy, PartialEq, Eq)]
 pub enum Phase {
     Changes,
     Wakes,
@@ -57,7 +57,7 @@ impl Model for Driver {
 }
 
 impl Driver {
-    ghost use Rattle.scx_driver.specs.Driver.{remaining, is_empty, with_pending, begun};
+    ghost use Rattle.scx_driver.specs.Driver.{remaining, is_empty, with_pending, begun, phase_number, next_number};
 
     /// All events of the workload are still to come, for a machine in any state. All memory is taken
     /// here.
@@ -84,7 +84,7 @@ impl Driver {
     }
 
     /// The event that comes next, for a machine that took exactly the events before it; none at the end.
-    #[tactic(auto, using(crate::proofs::Remaining::remaining_begun, crate::proofs::Remaining::remaining_taken, crate::proofs::Remaining::remaining_over, crate::proofs::Remaining::fewer_blocks))]
+    #[tactic(auto, using(crate::proofs::Remaining::remaining_taken, crate::proofs::Remaining::remaining_end))]
     pub fn next(&mut self, sim: &Sim) -> Option<Event>
         ensures next { IfSome result
             (λ event. remaining self.old sim.now
@@ -92,12 +92,12 @@ impl Driver {
         ensures end { IfNone result (remaining self.old sim.now ≡ []) }
         ensures over { IfNone result (remaining self.new sim.now ≡ []) }
     {
-        while self.is_spent() {
-            if !self.begin(sim) {
-                return None;
-            }
+        self.begin(sim);
+        if self.is_spent() {
+            None
+        } else {
+            Some(self.take())
         }
-        Some(self.take())
     }
 
     /// Whether all events of the block at hand were answered.
@@ -128,19 +128,46 @@ impl Driver {
         }
     }
 
-    /// The next block begins; answers whether there is one.
-    fn begin(&mut self, sim: &Sim) -> bool
-        ensures more { result ≡ not (is_empty self.old.blocks) }
-        ensures begun { self.new ≡ begun self.old sim.now }
+    /// Blocks begin, one after another, until there is an event to answer.
+    fn begin(&mut self, sim: &Sim)
+        ensures same { remaining self.new sim.now ≡ remaining self.old sim.now }
+        ensures over { is_empty self.new.pending ≡ true → is_empty self.new.blocks ≡ true }
     {
-        if !self.has_block() {
-            return false;
+        if self.is_spent() {
+            self.begin_blocks(sim);
         }
-        self.begin_block(sim);
-        true
+    }
+
+    /// Each block has its turn once.
+    #[tactic(auto, using(crate::proofs::Remaining::past_last))]
+    fn begin_blocks(&mut self, sim: &Sim)
+        ensures same { remaining self.new sim.now ≡ remaining self.old sim.now }
+        ensures over { is_empty self.new.pending ≡ true → is_empty self.new.blocks ≡ true }
+    {
+        self.begin_at(Phase::Changes, sim);
+        self.begin_at(Phase::Wakes, sim);
+        self.begin_at(Phase::Ticks, sim);
+        self.begin_at(Phase::Sleeps, sim);
+        self.begin_at(Phase::Clock, sim);
+    }
+
+    /// That block begins, if it comes next and all events before it were answered.
+    #[inline(always)]
+    #[tactic(auto, using(crate::proofs::Remaining::remaining_begun))]
+    fn begin_at(&mut self, phase: Phase, sim: &Sim)
+        requires turn { is_empty self.old.pending ≡ true
+            → phase_number phase ≤ next_number self.old.blocks }
+        ensures same { remaining self.new sim.now ≡ remaining self.old sim.now }
+        ensures past { is_empty self.new.pending ≡ true
+            → phase_number phase < next_number self.new.blocks }
+    {
+        if self.phase == phase && self.is_spent() && self.has_block() {
+            self.begin_block(sim);
+        }
     }
 
     /// The next block begins.
+    #[inline(always)]
     #[tactic(auto, using(crate::proofs::Remaining::begun_changes))]
     fn begin_block(&mut self, sim: &Sim)
         requires { not (is_empty self.old.blocks) ≡ true }
