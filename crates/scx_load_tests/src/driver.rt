@@ -10,7 +10,7 @@ use std::process::Abort;
 
 /// A sink that keeps nothing.
 #[derive(Drop)]
-struct Nowhere;
+pub(crate) struct Nowhere;
 
 impl Sink for Nowhere {
     ghost takes = { λ s n t. t ≡ s };

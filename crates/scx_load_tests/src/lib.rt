@@ -12,6 +12,8 @@ mod limits;
 #[cfg(test)]
 mod policies;
 #[cfg(test)]
+mod quotas;
+#[cfg(test)]
 mod same;
 #[cfg(test)]
 mod workloads;
