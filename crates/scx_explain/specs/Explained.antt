@@ -1,11 +1,14 @@
 -- What the explanations of programs are of.
-use Rattle.std.specs.Prelude.{◌≡◌, Option, None, IfSome}
+use Rattle.std.specs.Prelude.{◌≡◌, ℕ, List, map, Option, None, IfSome}
 use Rattle.scx_verify.specs.declared.faults.Fault.{Fault}
 use Rattle.scx_explanations.specs.declared.reasons.Explanation.{Explanation}
 use Rattle.scx_explanations.specs.Reasons.{fault_of}
 use Rattle.scx_verdicts.specs.declared.verdict.Verdict.{Verdict}
 use Rattle.scx_verdicts.specs.declared.verdict.Verdict.TheVariants.{Accepted, Refused}
+use Rattle.scx_verdicts.specs.Lines.{verdict_line}
 use Rattle.scx_explain.specs.declared.explained.Explained.{Explained}
+use Rattle.scx_explain.specs.declared.explained.ExplainedPolicy.{ExplainedPolicy}
+use Rattle.scx_explain.specs.Listed.{first_lines}
 
 -- An accepted program has no explanation. That of a refused one, if there is one, is of the fault and the
 -- slot of the verdict.
@@ -15,3 +18,11 @@ IsExplanation (Refused fault slot) explanation = IfSome explanation (λ e. (e.sl
 
 abbrev pub IsExplained : Explained → Type 0
 IsExplained explained = IsExplanation explained.verdict explained.explanation
+
+-- the line of the verdict on an explained program
+abbrev pub first_line : Explained → List ℕ
+first_line explained = verdict_line explained.listing.context.callback explained.verdict
+
+-- the programs of a policy are those that have verdicts
+abbrev pub ArePrograms : ExplainedPolicy → Type 0
+ArePrograms policy = map first_line policy.programs.items ≡ first_lines policy.verdicts

@@ -1,11 +1,13 @@
-ghost use Rattle.std.specs.Prelude.{◌≡◌, IfOk, IfErr};
+ghost use Rattle.std.specs.Prelude.{◌≡◌, [], ◌∷◌, ◌++◌, map, IfOk, IfErr, OnOk};
 ghost use Rattle.scx_outcomes.specs.declared.refusal.Refusal.TheVariants.{NoMemory};
 ghost use Rattle.scx_policies.specs.Policies.{program_of, without};
 ghost use Rattle.scx_safety.specs.Programs.{context};
 ghost use Rattle.scx_explanations.specs.Listings.{IsListing};
 ghost use Rattle.scx_verdicts.specs.Verdicts.{IsVerdict, IsVerdictOf, HasVerdicts};
-ghost use Rattle.scx_explain.specs.Explained.{IsExplained};
+ghost use Rattle.scx_explain.specs.Explained.{IsExplained, ArePrograms, first_line};
+ghost use Rattle.scx_explain.specs.Listed.{line_on, first_lines};
 
+use crate::writing::room_for_line;
 use scx_explanations::{Explanation, Jumps, Listing, explanation_of};
 use scx_isa::{Callback, Program};
 use scx_maps::MapDefs;
@@ -30,6 +32,8 @@ pub(crate) struct Explained {
 pub(crate) struct ExplainedPolicy {
     pub(crate) verdicts: Verdicts,
     pub(crate) programs: Vec<Explained>,
+    /// Room for a line of them.
+    pub(crate) line: String,
 }
 
 /// Explains the programs of a policy.
@@ -39,6 +43,7 @@ pub(crate) struct ExplainedPolicy {
 /// Memory ran out.
 pub(crate) fn explain_policy(alloc: Global, policy: PolicyText) -> Result<ExplainedPolicy, Refusal>
     ensures verdicts { IfOk result (λ explained. HasVerdicts policy explained.verdicts) }
+    ensures programs { IfOk result ArePrograms }
     ensures memory { IfErr result (λ refusal. refusal ≡ NoMemory) }
 {
     let mut policy = policy;
@@ -48,11 +53,17 @@ pub(crate) fn explain_policy(alloc: Global, policy: PolicyText) -> Result<Explai
 /// Takes the programs of a policy out, and explains them.
 fn explain_all(alloc: Global, policy: &mut PolicyText) -> Result<ExplainedPolicy, Refusal>
     ensures verdicts { IfOk result (λ explained. HasVerdicts policy.old explained.verdicts) }
+    ensures programs { IfOk result ArePrograms }
     ensures memory { IfErr result (λ refusal. refusal ≡ NoMemory) }
 {
+    let line = room_for_line(alloc)?;
     let mut programs = Vec::new(alloc);
     let verdicts = explain_programs(alloc, policy, &mut programs)?;
-    Ok(ExplainedPolicy { verdicts, programs })
+    Ok(ExplainedPolicy {
+        verdicts,
+        programs,
+        line,
+    })
 }
 
 /// Explains the programs one after another, and answers the verdicts on them.
@@ -62,6 +73,8 @@ fn explain_programs(
     programs: &mut Vec<Explained>,
 ) -> Result<Verdicts, Refusal>
     ensures verdicts { IfOk result (HasVerdicts policy.old) }
+    ensures programs { IfOk result (λ verdicts. map first_line programs.new.items
+        ≡ map first_line programs.old.items ++ first_lines verdicts) }
     ensures memory { IfErr result (λ refusal. refusal ≡ NoMemory) }
 {
     Ok(Verdicts {
@@ -84,6 +97,8 @@ fn explain_callback(
 ) -> Result<Option<Verdict>, Refusal>
     ensures verdict { IfOk result
         (IsVerdictOf policy.old.shapes callback (program_of policy.old callback)) }
+    ensures programs { IfOk result (λ verdict. map first_line programs.new.items
+        ≡ map first_line programs.old.items ++ line_on callback verdict) }
     ensures memory { IfErr result (λ refusal. refusal ≡ NoMemory) }
     ensures rest { policy.new ≡ without policy.old callback }
 {
@@ -99,7 +114,10 @@ fn explain_callback(
     }
 }
 
-fn keep(programs: &mut Vec<Explained>, explained: Explained) -> Result<(), AllocError> {
+fn keep(programs: &mut Vec<Explained>, explained: Explained) -> Result<(), AllocError>
+    ensures { OnOk result (map first_line programs.new.items
+        ≡ map first_line programs.old.items ++ first_line explained ∷ []) }
+{
     Ok(programs.push(explained)?)
 }
 

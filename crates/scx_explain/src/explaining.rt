@@ -1,19 +1,21 @@
-ghost use Rattle.std.specs.Prelude.{◌≡◌, ◌<◌, length, Err, IfOk, IfErr};
+ghost use Rattle.std.specs.Prelude.{◌≡◌, ◌<◌, ℕ, List, length, map, Err, IfOk, IfErr, OnOk, OnErr};
+ghost use Rattle.std.specs.Io.KnownBytes.{Appends};
+ghost use Rattle.scx_output.specs.Output.{HasFailed};
 ghost use Rattle.scx_outcomes.specs.declared.file.TheConstants.{FILE_LIMIT};
 ghost use Rattle.scx_outcomes.specs.Outcome.{IfRefused, IsRefused};
 ghost use Rattle.scx_outcomes.specs.Text.{IsText};
 ghost use Rattle.scx_verdicts.specs.declared.verdict.Verdicts.{Verdicts};
 ghost use Rattle.scx_verdicts.specs.Verdicts.{are_accepted};
 ghost use Rattle.scx_verdicts.specs.Check.{AreVerdicts, IsCheckCause};
+ghost use Rattle.scx_explain.specs.Explained.{ArePrograms, first_line};
+ghost use Rattle.scx_explain.specs.Listed.{IsListed, first_lines};
 
-use crate::explained::{Explained, ExplainedPolicy, explain_policy};
-use crate::lines::write_callback;
-use crate::page::Page;
+use crate::explained::{ExplainedPolicy, explain_policy};
+use crate::writing::write_programs;
 use scx_outcomes::{Fault, Refusal, text};
 use scx_output::Out;
 use scx_policies::read_policy;
 use std::alloc::Global;
-use std::fmt::{self, Write};
 
 /// Verifies each program of the policy file in `bytes`, and writes of each the verdict and the
 /// instructions, with what is known before them, and at a refusal why. The answer is whether all are
@@ -24,17 +26,22 @@ use std::fmt::{self, Write};
 /// The bytes are refused as a policy file, and then nothing is written, or writing fails.
 pub fn explain<W: Out>(alloc: Global, bytes: &[u8], out: &mut W) -> Result<bool, Fault>
     ensures done { IfOk result (λ answer. (verdicts : Verdicts) × AreVerdicts bytes.now verdicts
-        × (answer ≡ are_accepted verdicts)) }
+        × (answer ≡ are_accepted verdicts)
+        × (text : List ℕ) × IsListed (first_lines verdicts) text
+        × Appends (W.contents out.old) (W.contents out.new) text) }
+    ensures unfailed { OnOk result (W.failure_count out.new ≡ W.failure_count out.old) }
 
     // A refusal has its cause in the bytes, and comes before any byte is written.
     ensures refused { IfRefused result (IsCheckCause bytes.now) }
     ensures too_large { FILE_LIMIT < length bytes.now
         → result ≡ Err (Fault.Refused Refusal.TooLarge) }
     ensures quiet { IsRefused result → out.new ≡ out.old }
+    ensures counted { result ≡ Err Fault.WriteFailed
+        → HasFailed (W.failure_count out.old) (W.failure_count out.new) }
 {
     let text = text(bytes)?;
-    let policy = explained_in(alloc, text)?;
-    write_explained(&policy, out)
+    let mut policy = explained_in(alloc, text)?;
+    write_explained(&mut policy, out)
 }
 
 /// Explains the programs of a policy file. All memory is taken here, so that none runs out once a line
@@ -42,6 +49,7 @@ pub fn explain<W: Out>(alloc: Global, bytes: &[u8], out: &mut W) -> Result<bool,
 fn explained_in(alloc: Global, text: &str) -> Result<ExplainedPolicy, Refusal>
     requires { IsText text.now }
     ensures verdicts { IfOk result (λ policy. AreVerdicts text.now policy.verdicts) }
+    ensures programs { IfOk result ArePrograms }
     ensures refused { IfErr result (IsCheckCause text.now) }
 {
     match read_policy(alloc, text) {
@@ -51,24 +59,20 @@ fn explained_in(alloc: Global, text: &str) -> Result<ExplainedPolicy, Refusal>
 }
 
 /// Writes the programs, and answers whether all are safe.
-fn write_explained<W: Out>(policy: &ExplainedPolicy, out: &mut W) -> Result<bool, Fault>
-    ensures done { IfOk result (λ answer. answer ≡ are_accepted policy.now.verdicts) }
+fn write_explained<W: Out>(policy: &mut ExplainedPolicy, out: &mut W) -> Result<bool, Fault>
+    ensures done { IfOk result (λ answer. (answer ≡ are_accepted policy.old.verdicts)
+        × (text : List ℕ) × IsListed (map first_line policy.old.programs.items) text
+        × Appends (W.contents out.old) (W.contents out.new) text) }
+    ensures unfailed { OnOk result (W.failure_count out.new ≡ W.failure_count out.old) }
     ensures failed { IfErr result (λ fault. fault ≡ Fault.WriteFailed) }
+    ensures counted { OnErr result
+        (HasFailed (W.failure_count out.old) (W.failure_count out.new)) }
 {
-    match write_programs(policy.programs.as_slice(), out) {
-        Ok(()) => Ok(policy.verdicts.are_accepted()),
-        Err(_) => Err(Fault::WriteFailed),
-    }
-}
-
-/// Writes the programs in their order, with an empty line between two.
-fn write_programs<W: Out>(programs: &[Explained], out: &mut W) -> fmt::Result {
-    let mut page = Page::new(out);
-    let mut between = "";
-    for explained in programs {
-        page.write_str(between)?;
-        write_callback(&mut page, explained)?;
-        between = "\n";
-    }
-    Ok(())
+    let ExplainedPolicy {
+        verdicts,
+        programs,
+        line,
+    } = policy;
+    write_programs(programs.as_slice(), line, out)?;
+    Ok(verdicts.are_accepted())
 }

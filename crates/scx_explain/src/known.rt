@@ -1,75 +1,73 @@
-use crate::page::Page;
 use crate::words::{Brief, from_top};
 use scx_abs::{AbsState, Kind};
 use scx_explanations::{byte_kind, cell_of, is_pointer};
 use scx_isa::{REGISTERS, STACK_SIZE};
-use scx_output::Out;
-use std::fmt::{self, Write};
+use std::alloc::AllocError;
 
 /// How many registers are listed: all but r10, which is always the frame.
 const LISTED: usize = REGISTERS - 1;
 
 /// Items of a list, which commas stand between.
 #[derive(Drop)]
-struct Items<'a, 'b, W> {
-    page: &'a mut Page<'b, W>,
+struct Items<'a> {
+    line: &'a mut String,
     has_items: bool,
     has_stack: bool,
 }
 
-impl<W: Out> Items<'_, '_, W> {
+impl Items<'_> {
     /// Begins an item.
-    fn begin(&mut self) -> fmt::Result {
+    fn begin(&mut self) -> Result<(), AllocError> {
         let comma = if self.has_items { ", " } else { "" };
         self.has_items = true;
-        self.page.write_str(comma)
+        self.line.push_str(comma)
     }
 
     /// Registers of one kind.
-    fn registers(&mut self, first: usize, last: usize, kind: Kind) -> fmt::Result {
+    fn registers(&mut self, first: usize, last: usize, kind: Kind) -> Result<(), AllocError> {
         self.begin()?;
         let kind = Brief(kind);
         if first == last {
-            write!(self.page, "r{first} {kind}")
+            write!(self.line, "r{first} {kind}")
         } else {
-            write!(self.page, "r{first}..r{last} {kind}")
+            write!(self.line, "r{first}..r{last} {kind}")
         }
     }
 
     /// Bytes of the stack of which the same is known.
-    fn bytes(&mut self, first: u16, last: u16, kind: Kind) -> fmt::Result {
+    fn bytes(&mut self, first: u16, last: u16, kind: Kind) -> Result<(), AllocError> {
         self.begin()?;
         let stack = if self.has_stack { "" } else { "stack " };
         self.has_stack = true;
         let first = from_top(first);
         let last = from_top(last);
-        write!(self.page, "{stack}{first}..{last} ")?;
+        write!(self.line, "{stack}{first}..{last} ")?;
         match kind {
-            Kind::Num(_) => self.page.write_str("written"),
+            Kind::Num(_) => self.line.push_str("written"),
             kind => {
                 let kind = Brief(kind);
-                write!(self.page, "{kind}")
+                write!(self.line, "{kind}")
             }
         }
     }
 }
 
-/// Writes what is known: usable registers, and what is written of the stack.
-pub(crate) fn write_known<W: Out>(page: &mut Page<'_, W>, state: &AbsState) -> fmt::Result {
+/// Appends what is known: usable registers, and what is written of the stack.
+pub(crate) fn push_known(line: &mut String, state: &AbsState) -> Result<(), AllocError> {
     let mut items = Items {
-        page,
+        line,
         has_items: false,
         has_stack: false,
     };
-    write_registers(&mut items, state)?;
-    write_stack(&mut items, state)?;
+    push_registers(&mut items, state)?;
+    push_stack(&mut items, state)?;
     if !items.has_items {
-        items.page.write_str("nothing")?;
+        items.line.push_str("nothing")?;
     }
     Ok(())
 }
 
-fn write_registers<W: Out>(items: &mut Items<'_, '_, W>, state: &AbsState) -> fmt::Result {
+fn push_registers(items: &mut Items<'_>, state: &AbsState) -> Result<(), AllocError> {
     let mut first = 0;
     for number in 0..LISTED {
         let next = number.saturating_add(1);
@@ -92,7 +90,7 @@ fn kind_of(state: &AbsState, number: usize) -> Kind {
     }
 }
 
-fn write_stack<W: Out>(items: &mut Items<'_, '_, W>, state: &AbsState) -> fmt::Result {
+fn push_stack(items: &mut Items<'_>, state: &AbsState) -> Result<(), AllocError> {
     let mut first = 0;
     for byte in 0..STACK_SIZE {
         let next = byte.saturating_add(1);

@@ -7,8 +7,8 @@ mod explained;
 mod explaining;
 mod known;
 mod lines;
-mod page;
 mod sentences;
 mod words;
+mod writing;
 
 pub use explaining::explain;

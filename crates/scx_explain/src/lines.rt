@@ -1,14 +1,12 @@
 use crate::explained::Explained;
-use crate::known::write_known;
-use crate::page::Page;
-use crate::sentences::write_explanation;
+use crate::known::push_known;
+use crate::sentences::push_explanation;
 use arrayvec::ArrayString;
 use scx_explanations::{Listing, Way, target_of};
 use scx_isa::Insn;
-use scx_output::Out;
 use scx_text::Canonical;
-use scx_verdicts::verdict_line;
-use std::fmt::{self, Write};
+use std::alloc::AllocError;
+use std::fmt::Write;
 
 /// How many bytes the text of an instruction takes at most, with its target, and some more.
 const TEXT_CAPACITY: usize = 96;
@@ -16,23 +14,22 @@ const TEXT_CAPACITY: usize = 96;
 /// The text of an instruction. It takes no memory from the allocator.
 type Text = ArrayString<TEXT_CAPACITY>;
 
-/// Writes the verdict on a callback and its listing.
-pub(crate) fn write_callback<W: Out>(page: &mut Page<'_, W>, explained: &Explained) -> fmt::Result {
-    let listing = &explained.listing;
-    let callback = listing.context().callback;
-    page.write_str(verdict_line(callback, explained.verdict).as_str())?;
-    let width = width_of(listing);
-    for slot in 0..listing.slots() {
-        if let Some(insn) = listing.insn(slot) {
-            write_line(page, explained, slot, insn, width)?;
-            if let Some(explanation) = &explained.explanation
-                && explanation.slot == slot
-            {
-                write_explanation(page, explanation)?;
-            }
-        }
+/// Appends the line of the instruction at a slot, if one begins there, and below it why it is refused, if
+/// it is.
+pub(crate) fn push_slot(
+    line: &mut String,
+    explained: &Explained,
+    slot: usize,
+    width: usize,
+) -> Result<(), AllocError> {
+    let Some(insn) = explained.listing.insn(slot) else {
+        return Ok(());
+    };
+    push_line(line, explained, slot, insn, width)?;
+    match &explained.explanation {
+        Some(explanation) if explanation.slot == slot => push_explanation(line, explanation),
+        _ => Ok(()),
     }
-    Ok(())
 }
 
 /// The canonical text of an instruction, and the slot to which it jumps.
@@ -48,7 +45,7 @@ fn text_of(slot: usize, insn: Insn) -> Text {
 }
 
 /// How long the longest text of the listing is.
-fn width_of(listing: &Listing) -> usize {
+pub(crate) fn width_of(listing: &Listing) -> usize {
     let mut width = 0;
     for slot in 0..listing.slots() {
         if let Some(insn) = listing.insn(slot) {
@@ -58,67 +55,63 @@ fn width_of(listing: &Listing) -> usize {
     width
 }
 
-/// Writes a slot, its instruction, and what is known before it.
-fn write_line<W: Out>(
-    page: &mut Page<'_, W>,
+/// Appends a slot, its instruction, and what is known before it.
+fn push_line(
+    line: &mut String,
     explained: &Explained,
     slot: usize,
     insn: Insn,
     width: usize,
-) -> fmt::Result {
+) -> Result<(), AllocError> {
     let text = text_of(slot, insn);
-    write!(page, "{slot:>4}  {text}")?;
+    write!(line, "{slot:>4}  {text}")?;
     if explained.listing.is_looked_at(slot) {
         for _ in text.len()..width {
-            page.write_str(" ")?;
+            line.push_str(" ")?;
         }
-        page.write_str("  ")?;
-        write_state(page, explained, slot)?;
+        line.push_str("  ")?;
+        push_state(line, explained, slot)?;
     }
-    page.write_str("\n")
+    line.push_str("\n")
 }
 
-/// Writes what is known at a slot that the pass looked at.
-fn write_state<W: Out>(page: &mut Page<'_, W>, explained: &Explained, slot: usize) -> fmt::Result {
+/// Appends what is known at a slot that the pass looked at.
+fn push_state(line: &mut String, explained: &Explained, slot: usize) -> Result<(), AllocError> {
     match explained.listing.state(slot) {
         Some(state) => {
-            write_sources(page, explained, slot)?;
-            write_known(page, state)?;
-            write_only_way(page, &explained.listing, slot)
+            push_sources(line, explained, slot)?;
+            push_known(line, state)?;
+            push_only_way(line, &explained.listing, slot)
         }
-        None => page.write_str("nothing leads here"),
+        None => line.push_str("nothing leads here"),
     }
 }
 
-/// Writes which side of a conditional jump is followed, where the other isn't.
-fn write_only_way<W: Out>(page: &mut Page<'_, W>, listing: &Listing, slot: usize) -> fmt::Result {
+/// Appends which side of a conditional jump is followed, where the other isn't.
+fn push_only_way(line: &mut String, listing: &Listing, slot: usize) -> Result<(), AllocError> {
     match listing.only_way(slot) {
-        Some(Way::On) => page.write_str("; never jumps"),
-        Some(Way::Jump) => page.write_str("; always jumps"),
+        Some(Way::On) => line.push_str("; never jumps"),
+        Some(Way::Jump) => line.push_str("; always jumps"),
         None => Ok(()),
     }
 }
 
-/// Writes the slots from which control comes, in their order, where it jumps here from one.
-fn write_sources<W: Out>(
-    page: &mut Page<'_, W>,
-    explained: &Explained,
-    slot: usize,
-) -> fmt::Result {
+/// Appends the slots from which control comes, in their order, where it jumps here from one.
+fn push_sources(line: &mut String, explained: &Explained, slot: usize) -> Result<(), AllocError> {
     let Some(first) = explained.jumps.first(slot) else {
         return Ok(());
     };
-    write!(page, "from {first}")?;
+    write!(line, "from {first}")?;
     let mut last = first;
     for _ in first..slot {
         let Some(next) = explained.jumps.next(last) else {
             break;
         };
-        write!(page, ", {next}")?;
+        write!(line, ", {next}")?;
         last = next;
     }
     if let Some(before) = explained.listing.on_from(slot) {
-        write!(page, ", {before}")?;
+        write!(line, ", {before}")?;
     }
-    page.write_str(": ")
+    line.push_str(": ")
 }

@@ -1,5 +1,4 @@
 use crate::advice::Advice;
-use crate::page::Page;
 use crate::words::{FieldName, Members, Name, Spoken, Wanted, step_of};
 use scx_abs::Kind;
 use scx_explanations::{
@@ -7,9 +6,9 @@ use scx_explanations::{
     Place, Reach, Reason,
 };
 use scx_isa::{Register, STACK_SIZE};
-use scx_output::Out;
 use scx_policies::callback_name;
-use std::fmt::{self, Write};
+use std::alloc::AllocError;
+use std::fmt;
 
 /// What begins a line of an explanation.
 const MARGIN: &str = "      = ";
@@ -30,11 +29,11 @@ struct BroughtText(Brought);
 #[derive(Clone, Copy)]
 struct Bytes(Reach);
 
-/// Writes why a program is refused, and how control came there.
-pub(crate) fn write_explanation<W: Out>(
-    page: &mut Page<'_, W>,
+/// Appends why a program is refused, and how control came there.
+pub(crate) fn push_explanation(
+    line: &mut String,
     explanation: &Explanation,
-) -> fmt::Result {
+) -> Result<(), AllocError> {
     let (origin, is_copied) = match &explanation.trail {
         Some(trail) => (trail.origin, trail.is_copied),
         None => (None, false),
@@ -44,50 +43,50 @@ pub(crate) fn write_explanation<W: Out>(
         origin,
         is_copied,
     };
-    write_sentence(page, &advice)?;
+    push_sentence(line, &advice)?;
     if let Some(trail) = &explanation.trail {
-        write_way(page, &trail.legs)?;
+        push_way(line, &trail.legs)?;
     }
     Ok(())
 }
 
-fn write_sentence<W: Out>(page: &mut Page<'_, W>, advice: &Advice) -> fmt::Result {
+fn push_sentence(line: &mut String, advice: &Advice) -> Result<(), AllocError> {
     let reason = ReasonText(advice.reason);
-    write!(page, "{MARGIN}{reason}")?;
-    write_origin(page, advice.origin)?;
-    writeln!(page, "; {advice}")
+    write!(line, "{MARGIN}{reason}")?;
+    push_origin(line, advice.origin)?;
+    writeln!(line, "; {advice}")
 }
 
-/// Writes where the value at fault comes from, if that is known.
-fn write_origin<W: Out>(page: &mut Page<'_, W>, origin: Option<Origin>) -> fmt::Result {
+/// Appends where the value at fault comes from, if that is known.
+fn push_origin(line: &mut String, origin: Option<Origin>) -> Result<(), AllocError> {
     match origin {
         Some(origin) => {
             let origin = OriginText(origin);
-            write!(page, ": {origin}")
+            write!(line, ": {origin}")
         }
         None => Ok(()),
     }
 }
 
-/// Writes the way by which control came, from the first slot on.
-fn write_way<W: Out>(page: &mut Page<'_, W>, legs: &[Leg]) -> fmt::Result {
-    write!(page, "{MARGIN}control came by ")?;
+/// Appends the way by which control came, from the first slot on.
+fn push_way(line: &mut String, legs: &[Leg]) -> Result<(), AllocError> {
+    write!(line, "{MARGIN}control came by ")?;
     let mut left = None;
     for leg in legs.iter().rev() {
-        write_leg(page, left, *leg)?;
+        push_leg(line, left, *leg)?;
         left = Some(leg.last);
     }
-    page.write_str("\n")
+    line.push_str("\n")
 }
 
-/// Writes a part of the way. In front of it control jumped from the slot that it left, if it left one.
-fn write_leg<W: Out>(page: &mut Page<'_, W>, left: Option<usize>, leg: Leg) -> fmt::Result {
+/// Appends a part of the way. In front of it control jumped from the slot that it left, if it left one.
+fn push_leg(line: &mut String, left: Option<usize>, leg: Leg) -> Result<(), AllocError> {
     let Leg { first, last } = leg;
     match left {
-        Some(left) if first == last => write!(page, ", jump at {left} to {first}"),
-        Some(left) => write!(page, ", jump at {left} to {first}, {first}..{last}"),
-        None if first == last => write!(page, "{first}"),
-        None => write!(page, "{first}..{last}"),
+        Some(left) if first == last => write!(line, ", jump at {left} to {first}"),
+        Some(left) => write!(line, ", jump at {left} to {first}, {first}..{last}"),
+        None if first == last => write!(line, "{first}"),
+        None => write!(line, "{first}..{last}"),
     }
 }
 

@@ -1,0 +1,42 @@
+-- What `explain` writes: of each program the line of its verdict, and then its listing.
+use Rattle.std.specs.Prelude.{◌≡◌, ℕ, List, [], ◌∷◌, ◌++◌, codes, Option, Some, None}
+use Rattle.std.specs.Io.KnownBytes.{Appends}
+use Rattle.scx_semantics.specs.declared.callbacks.Callback.{Callback}
+use Rattle.scx_semantics.specs.declared.callbacks.Callback.TheVariants as callback
+use Rattle.scx_verdicts.specs.Lines.{verdict_line}
+use Rattle.scx_verdicts.specs.declared.verdict.Verdict.{Verdict}
+use Rattle.scx_verdicts.specs.declared.verdict.Verdicts.{Verdicts}
+
+-- known bytes grow by some bytes
+abbrev pub Grows : Option (List ℕ) → Option (List ℕ) → Type 0
+Grows old new = (bytes : List ℕ) × Appends old new bytes
+
+-- the line of a callback's verdict, if it has one
+abbrev pub line_on : Callback → Option Verdict → List (List ℕ)
+line_on b None = []
+line_on b (Some verdict) = verdict_line b verdict ∷ []
+
+-- the lines that `verify` writes, in the order of callbacks
+abbrev pub first_lines : Verdicts → List (List ℕ)
+first_lines v =
+    line_on callback.Init v.init
+    ++ line_on callback.Enable v.enable
+    ++ line_on callback.SelectCpu v.select_cpu
+    ++ line_on callback.Enqueue v.enqueue
+    ++ line_on callback.Dispatch v.dispatch
+    ++ line_on callback.Running v.running
+    ++ line_on callback.Stopping v.stopping
+
+-- a text of programs with these first lines: each behind an empty line, and with a listing below its first
+abbrev pub IsListedBehind : List (List ℕ) → List ℕ → Type 0
+IsListedBehind [] text = text ≡ []
+IsListedBehind (line ∷ lines) text =
+    (listing : List ℕ) × (later : List ℕ) × IsListedBehind lines later
+    × (text ≡ codes "\n" ++ (line ++ listing) ++ later)
+
+-- the same, with no empty line before the first program
+abbrev pub IsListed : List (List ℕ) → List ℕ → Type 0
+IsListed [] text = text ≡ []
+IsListed (line ∷ lines) text =
+    (listing : List ℕ) × (later : List ℕ) × IsListedBehind lines later
+    × (text ≡ (line ++ listing) ++ later)
