@@ -1,6 +1,5 @@
 -- What the explanations of programs are of.
 use Rattle.std.specs.Prelude.{◌≡◌, ℕ, List, map, Option, None, IfSome}
-use Rattle.scx_verify.specs.declared.faults.Fault.{Fault}
 use Rattle.scx_explanations.specs.declared.reasons.Explanation.{Explanation}
 use Rattle.scx_explanations.specs.Reasons.{fault_of}
 use Rattle.scx_verdicts.specs.declared.verdict.Verdict.{Verdict}

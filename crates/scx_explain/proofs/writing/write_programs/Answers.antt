@@ -1,4 +1,4 @@
-use Rattle.std.proofs.Common.{◌≡◌, sym, subst, map, List, ℕ}
+use Rattle.std.proofs.Common.{sym, subst, map, List, ℕ}
 use Rattle.std.specs.Prelude.{OnOk}
 use Rattle.std.specs.Io.KnownBytes.{Appends}
 use Rattle.scx_explain.specs.Explained.{first_line}

@@ -1,4 +1,4 @@
-use Rattle.std.proofs.Common.{rules, ◌≡◌, ◌<◌, length, get_or, sym, subst, List}
+use Rattle.std.proofs.Common.{rules, ◌≡◌, ◌<◌, length, get_or, sym, subst}
 use Rattle.scx_explain.proofs.Listing.{HasListed, listed_more, first_lines_more}
 use Rattle.scx_explain.proofs.writing.write_rest.Goals as goal
 
