@@ -12,4 +12,4 @@ returns-clause-ok g c =
     let its = c.in_ok-write_program.ensures.ok in
     let listed = listed_first c.write_rest.result _ _ _ _ its.0 _ its.1 c.write_rest.ensures.ok in
     subst (λ programs. OnOk c.write_rest.result ((text : List ℕ) × IsListed (map first_line programs) text
-        × Appends (g.W.Out.contents c.args.out.now) (g.W.Out.contents c.write_rest.new.out) text)) (sym parts.0) listed
+    × Appends (g.W.Out.contents c.args.out.now) (g.W.Out.contents c.write_rest.new.out) text)) (sym parts.0) listed
