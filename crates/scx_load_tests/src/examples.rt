@@ -5,7 +5,7 @@ ghost use Rattle.std.specs.Prelude.{◌≡◌, true};
 use crate::same::expect_same;
 use scx_load::{Driver, Workload, build, read_policy, read_workload};
 use scx_sched::{Note, Sim, Sink, What};
-use scx_weights::{Group, Tree};
+use scx_weights::Tree;
 use std::process::Abort;
 
 const HELD: u64 = 0x8000_0000_0000_0003;
@@ -231,16 +231,11 @@ impl Sink for Recorder {
     }
 }
 
-/// The machine of a workload under a policy, with these groups.
-pub(crate) fn machine<R: AllocGlobal + Abort>(
-    rt: &R,
-    policy: &str,
-    groups: &[Group],
-    workload: &Workload,
-) -> Sim {
+/// The machine of a workload under a policy.
+pub(crate) fn machine<R: AllocGlobal + Abort>(rt: &R, policy: &str, workload: &Workload) -> Sim {
     let text = read_policy(rt.alloc(), policy).expect(rt, "a policy");
     let policy = build(rt.alloc(), text).expect(rt, "its programs are safe");
-    let tree = Tree::new(rt.alloc(), groups, workload.tasks()).expect(rt, "a tree");
+    let tree = Tree::new(rt.alloc(), workload.groups(), workload.tasks()).expect(rt, "a tree");
     Sim::new(rt.alloc(), policy, tree, workload.cpus()).expect(rt, "a machine")
 }
 
@@ -278,7 +273,7 @@ fn expect_notes(rt: &impl Abort, notes: &[Note], wanted: &[(u64, What)]) {
 /// The notes of the workload under the policy are these.
 fn expect<R: AllocGlobal + Abort>(rt: &R, policy: &str, workload: &str, wanted: &[(u64, What)]) {
     let workload = read_workload(rt.alloc(), workload).expect(rt, "a workload");
-    let sim = machine(rt, policy, workload.groups(), &workload);
+    let sim = machine(rt, policy, &workload);
     let recorder = notes_of(rt, sim, &workload);
     expect_notes(rt, recorder.notes.as_slice(), wanted);
     drop(workload);

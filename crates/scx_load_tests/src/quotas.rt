@@ -261,7 +261,7 @@ fn seen_in<R: AllocGlobal + Abort>(
     text: &str,
 ) -> Option<Seen> {
     let workload = read_workload(rt.alloc(), text).expect(rt, "a workload");
-    let mut sim = machine(rt, policy, groups, &workload);
+    let mut sim = machine(rt, policy, &workload);
     let mut driver = Driver::new(rt.alloc(), &workload).expect(rt, "a driver");
     let mut counted = Counted {
         groups,
@@ -366,9 +366,18 @@ fn length(numbers: &mut Numbers) -> u32 {
     }
 }
 
-fn add_group(text: &mut String, number: usize, parent: Option<u32>) -> Result<(), AllocError> {
+/// Microseconds, as `cpu_max` wants them.
+fn add_limit(text: &mut String, quota_ms: Option<u32>, period_ms: u32) -> Result<(), AllocError> {
+    match quota_ms {
+        Some(quota_ms) => write!(text, "cpu_max = '{quota_ms}000 {period_ms}000'\n"),
+        None => write!(text, "cpu_max = 'max {period_ms}000'\n"),
+    }
+}
+
+fn add_group(text: &mut String, number: usize, group: &Group) -> Result<(), AllocError> {
     write!(text, "[[group]]\nname = 'g{number}'\n")?;
-    match parent {
+    add_limit(text, group.quota_ms, group.period_ms)?;
+    match group.parent {
         Some(parent) => write!(text, "parent = 'g{parent}'\n"),
         None => Ok(()),
     }
@@ -376,7 +385,7 @@ fn add_group(text: &mut String, number: usize, parent: Option<u32>) -> Result<()
 
 fn add_groups(text: &mut String, groups: &[Group]) -> Result<(), AllocError> {
     for (number, group) in groups.iter().enumerate() {
-        add_group(text, number, group.parent)?;
+        add_group(text, number, group)?;
     }
     Ok(())
 }
@@ -401,7 +410,7 @@ fn add_tasks(text: &mut String, numbers: &mut Numbers, groups: &[Group]) -> Resu
     Ok(())
 }
 
-/// The file of a workload with these groups, which says nothing of their quotas.
+/// The file of a workload with these groups.
 fn text(alloc: Global, numbers: &mut Numbers, groups: &[Group]) -> Result<String, AllocError> {
     let cpus = numbers.from(1, CPUS as u32);
     let ms = length(numbers);
