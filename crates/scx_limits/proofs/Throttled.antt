@@ -16,7 +16,7 @@ any_grows p q grows (x ∷ xs) e =
     (or_cases (p x) (list_any p xs) e)
 
 -- a group that is throttled is there
-there : (t : Hierarchy) (g : ℕ) → is_throttled_group t g ≡ true → g < length t.groups
+pub there : (t : Hierarchy) (g : ℕ) → is_throttled_group t g ≡ true → g < length t.groups
 there t g e =
     ⊎_elim
     (λ (lt : g < length t.groups). lt)

@@ -1,8 +1,10 @@
 -- Tasks are parked, and let go, one after another.
 use Rattle.std.proofs.Common.{arith, ◌≡◌, ℕ, zero, suc, ◌-◌, ◌<◌, Option, Some, None, true, false, refl, sub-one}
-use Rattle.scx_dsq.specs.Queues.{behind_of}
+use Rattle.scx_dsq.specs.Queues.{front_of, behind_of}
 use Rattle.scx_world.specs.World.{is_throttled}
-use Rattle.scx_world.specs.Ids.{global, local_on}
+use Rattle.scx_world.specs.Kept.{NobodyIsFree}
+use Rattle.scx_world.proofs.Fronts.{AtParked, at_front, at_behind}
+use Rattle.scx_world.specs.Ids.{global, local_on, parked}
 use Rattle.scx_machine.specs.Steps.{State, stays, joined}
 use Rattle.scx_machine.specs.Filling.{fill}
 use Rattle.scx_machine.specs.Parking.{park_front, throttled_front, park_fronts, clear, let_go_one, let_go_from}
@@ -72,5 +74,18 @@ pub go_one : (n t : ℕ) (s : State) → 0 < n → is_throttled s.world t ≡ fa
 unfolding let_go_from
 go_one zero t s l e = absurd (omega (arith, l))
 go_one (suc n) t s l e = rw (e, sub-one) refl
+
+-- nobody may, so nobody is
+pub go_nowhere : (n : ℕ) (s : State) (o : Option ℕ) → NobodyIsFree s.world → AtParked s.world.queues o → let_go_from n s o ≡ stays s
+unfolding let_go_from
+go_nowhere zero s o h at = refl
+go_nowhere (suc n) s None h at = refl
+go_nowhere (suc n) s (Some t) h at =
+    let next = behind_of s.world.queues t in
+    rw (h t at) (go_nowhere n s next h (at_behind s.world.queues t next at refl))
+
+-- from the front on
+pub all_stay : (n : ℕ) (s : State) (o : Option ℕ) → NobodyIsFree s.world → front_of s.world.queues parked ≡ o → let_go_from n s o ≡ stays s
+all_stay n s o h e = go_nowhere n s o h (at_front s.world.queues o e)
 
 pub ruleset let_go_steps = (go_none, go_nobody, go_past, go_one)

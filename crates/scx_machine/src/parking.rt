@@ -140,7 +140,7 @@ impl Machine {
     }
 
     /// All of the parked that may run again are let go.
-    #[tactic(auto, unfolding(crate::specs::Parking::let_all_go), using(crate::proofs::Taking::takings, crate::proofs::Parked::go_nobody, crate::proofs::Unchanged::left_few))]
+    #[tactic(auto, unfolding(crate::specs::Parking::let_all_go), using(crate::proofs::Taking::takings, crate::proofs::Parked::go_nobody, crate::proofs::Parked::all_stay, crate::proofs::Unchanged::left_few))]
     pub(crate) fn let_all_go<S: Sink>(&mut self, sink: &mut S)
         requires { HasRoom (let_go_pushes + put_pushes) self.old }
         ensures { Does S.takes let_go_pushes (let_all_go self.old)
@@ -149,6 +149,9 @@ impl Machine {
         let Some(first) = self.world.front(PARKED) else {
             return;
         };
+        if self.world.are_parked_throttled() {
+            return;
+        }
         let left = self.world.len(PARKED);
         self.let_go_from(left, Some(first), sink);
     }

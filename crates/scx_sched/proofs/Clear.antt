@@ -23,7 +23,7 @@ use Rattle.scx_sched.specs.Once.{IsSound, sort_of, fits_queue, fits_sort}
 use Rattle.scx_sched.specs.Kept.{IsWanted}
 use Rattle.scx_sched.specs.Over.{GoesOver}
 use Rattle.scx_sched.proofs.Entering.{keeps_if, low_or}
-use Rattle.scx_sched.proofs.Waiting.{front_in}
+use Rattle.scx_world.proofs.Fronts.{front_in}
 use Rattle.scx_sched.proofs.Sound.{wanted_open}
 use Rattle.scx_sched.proofs.Firsts.{no_front_is_empty}
 use Rattle.scx_sched.proofs.Fronts.{AreSame, Equal, Outside, IsSameIn, front_same, same_here, same_pushed, front_pushed}

@@ -1,78 +1,21 @@
 -- Who may run again is let go, one after another: each small step keeps what whole walks keep.
-use Rattle.std.proofs.Common.{◌≡◌, ℕ, zero, suc, ◌<◌, true, false, ◌==◌, ◌&&◌, ◌||◌, List, Option, Some, None, is_some, option_map, refl, sym, ap, ◌∙◌, subst, arith}
-use Rattle.std.proofs.lemmas.Bool.{and_parts, eqb-true, both_ways}
-use Rattle.std.proofs.lemmas.List.Quantifiers.{position-Some}
+use Rattle.std.proofs.Common.{◌≡◌, ℕ, zero, suc, ◌<◌, true, false, ◌||◌, List, Option, Some, None, is_some, option_map, refl, ap, ◌∙◌, arith}
 use Rattle.scx_dsq.specs.declared.entries.Entry.{Entry}
-use Rattle.scx_dsq.specs.declared.entries.Rank.{Rank}
-use Rattle.scx_dsq.specs.declared.entries.Rank.TheVariants.{Fifo, Vtime}
-use Rattle.scx_dsq.specs.Entries.{is_before}
-use Rattle.scx_dsq.specs.Queues.{QueueState, task_count, entry_of, queue_of, len_of, front_of, is_right_behind, next_by, right_behind, behind_of}
-use Rattle.scx_dsq.proofs.Orders.{before-asym}
+use Rattle.scx_dsq.specs.Queues.{QueueState, task_count, entry_of, queue_of, len_of, front_of, behind_of}
 use Rattle.scx_world.specs.Ids.{parked}
+use Rattle.scx_world.proofs.Fronts.{AtParked, at_front, at_behind, behind_in}
 use Rattle.scx_tasks.specs.Waits.{time_since}
 use Rattle.scx_world.specs.World.{WorldState, task_at, waits_in, wait, is_throttled}
 use Rattle.scx_world.specs.Tasks.{let_go}
 use Rattle.scx_machine.specs.Steps.{State, Stepped, with_world, joined}
 use Rattle.scx_machine.specs.Parking.{let_go_one, let_go_from, let_all_go}
 use Rattle.scx_sched.proofs.Entering.{keeps_if}
-use Rattle.scx_sched.proofs.Waiting.{front_in, removed_other}
+use Rattle.scx_sched.proofs.Waiting.{removed_other}
 use Rattle.scx_sched.proofs.Sound.{waits_known}
 use Rattle.scx_sched.proofs.Staying.{stay_put}
 use Rattle.scx_sched.proofs.Lasting.{AreAsLong, long_here, long_then, long_let_go, long_put}
 use Rattle.scx_sched.proofs.Skeleton.{keeps_put}
 use Rattle.scx_sched.proofs.Cycles.{IsKeptInside}
-
--- ---- whom a task has right behind it
-
-not_itself : (p : Entry) → is_before p p ≡ true → ⊥
-not_itself p e = both_ways (is_before p p) (before-asym p p e) e
-
--- is in the same queue, and another one
-record IsBehind (s : QueueState) (q t u : ℕ) : Type 0 where
-  there : queue_of s u ≡ Some q
-  other : u ≡ t → ⊥
-
-same_queue : (a b : ℕ) → Some a ≡ Some b → a ≡ b
-same_queue a b e = cc
-
-same_entry : (a b : Entry) → Some a ≡ Some b → a ≡ b
-same_entry a b e = cc
-
-behind_in : (s : QueueState) (q t u : ℕ) → queue_of s t ≡ Some q → behind_of s t ≡ Some u → IsBehind s q t u
-unfolding behind_of
-behind_in s q t u here e = go (entry_of s t) refl here e
-  where
-    go : (o : Option Entry) → entry_of s t ≡ o → option_map (λ p. p.queue) o ≡ Some q → right_behind s.entries o ≡ Some u → IsBehind s q t u
-    go None x y z = absurd (cc)
-    go (Some p) x y z = by p.rank z
-      where
-        at : (o : Option Entry) → entry_of s u ≡ o → is_right_behind s.entries p o ≡ true → IsBehind s q t u
-        at None v w = absurd (cc)
-        at (Some r) v w =
-            let behind = and_parts (r.queue == p.queue) (is_before p r) (and_parts (r.queue == p.queue && is_before p r) _ w).0 in
-            record {
-              there = ap (λ (o : Option Entry). option_map (λ k. k.queue) o) v ∙ ap Some (eqb-true r.queue p.queue behind.0) ∙ y;
-              other = λ same. not_itself p (subst (λ k. is_before p k ≡ true) (same_entry r p (sym v ∙ ap (λ k. entry_of s k) same ∙ x)) behind.1);
-            }
-
-        by : (k : Rank) → next_by k s.entries p ≡ Some u → IsBehind s q t u
-        by Fifo w = at (entry_of s u) refl (position-Some (is_right_behind s.entries p) s.entries u None w).1
-        by (Vtime k) w = absurd (cc)
-
--- ---- the walk
-
--- whoever is looked at next is parked
-abbrev AtParked : QueueState → Option ℕ → Type 0
-AtParked s None = Unit {0}
-AtParked s (Some t) = queue_of s t ≡ Some parked
-
-at_front : (s : QueueState) (o : Option ℕ) → front_of s parked ≡ o → AtParked s o
-at_front s None e = tt
-at_front s (Some t) e = front_in s parked t e
-
-at_behind : (s : QueueState) (t : ℕ) (o : Option ℕ) → queue_of s t ≡ Some parked → behind_of s t ≡ o → AtParked s o
-at_behind s t None here e = tt
-at_behind s t (Some u) here e = (behind_in s parked t u here e).there
 
 -- who is parked is a task that there is
 parked_known : (s : QueueState) (t : ℕ) → queue_of s t ≡ Some parked → t < task_count s

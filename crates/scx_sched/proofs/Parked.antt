@@ -30,7 +30,8 @@ use Rattle.scx_sched.specs.Once.{IsSound, GoesSomewhere}
 use Rattle.scx_sched.specs.Kept.{IsWanted, ForAny, Nowhere, Inserted}
 use Rattle.scx_sched.specs.Parked.{AreThrottled}
 use Rattle.scx_sched.proofs.Entering.{keeps_if}
-use Rattle.scx_sched.proofs.Waiting.{front_in, pushed_other, without_other}
+use Rattle.scx_world.proofs.Fronts.{front_in}
+use Rattle.scx_sched.proofs.Waiting.{pushed_other, without_other}
 use Rattle.scx_sched.proofs.Sound.{IsFit, is_fit, fit_apart, held_in_dispatch, said_apart}
 
 -- the same tasks are parked, in the same order

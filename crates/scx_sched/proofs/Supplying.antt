@@ -18,7 +18,8 @@ use Rattle.scx_machine.specs.Filling.{fill}
 use Rattle.scx_machine.specs.Parking.{park, park_front, if_throttled, throttled_front, park_then, park_fronts, clear, in_reach, supply}
 use Rattle.scx_machine.specs.Cycle.{has_local, builtin_dispatch, builtin_fill}
 use Rattle.scx_sched.proofs.Entering.{keeps_if}
-use Rattle.scx_sched.proofs.Waiting.{front_in, pushed_other}
+use Rattle.scx_world.proofs.Fronts.{front_in}
+use Rattle.scx_sched.proofs.Waiting.{pushed_other}
 use Rattle.scx_sched.proofs.Lengths.{len_set}
 use Rattle.scx_sched.proofs.Fronts.{IsSameIn, same_here, same_then, same_pushed, same_popped}
 use Rattle.scx_sched.proofs.Clear.{MayStart, len_same}

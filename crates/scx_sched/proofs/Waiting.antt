@@ -1,9 +1,8 @@
 -- Who has a wait is in a queue, or is the task at hand: how each small step of a world keeps that.
 use Rattle.std.proofs.Common.{◌≡◌, ℕ, ◌+◌, ◌<◌, ◌≤◌, Bool, true, false, ◌==◌, ◌||◌, ◌⊎◌, inl, inr, List, length, set, get_or, Option, Some, None, is_some, is_none, option_map, not, if◌then◌else◌, refl, sym, ap, ◌∙◌, arith}
-use Rattle.std.proofs.lemmas.Bool.{cases_eq, cases_lt, eq-eqb, ne_eqb, eqb-true, and_parts}
-use Rattle.std.proofs.lemmas.List.Quantifiers.{position-Some}
+use Rattle.std.proofs.lemmas.Bool.{cases_eq, cases_lt, eq-eqb, ne_eqb}
 use Rattle.std.proofs.lemmas.List.{get_or-set_same, get_or-set_other, set_past}
-use Rattle.scx_dsq.specs.Queues.{QueueState, task_count, entry_of, queue_of, is_first, front_of}
+use Rattle.scx_dsq.specs.Queues.{QueueState, task_count, entry_of, queue_of, front_of}
 use Rattle.scx_dsq.specs.Calls.{push_refusal, next_entry, with_task as with_place, without_task, pushed, removed}
 use Rattle.scx_dsq.specs.declared.entries.Entry.{Entry}
 use Rattle.scx_dsq.specs.Laws.{one_if, standing}
@@ -14,6 +13,7 @@ use Rattle.scx_semantics.specs.declared.host_tables.Field.TheVariants.{Pid, Weig
 use Rattle.scx_tasks.specs.declared.task.Task.{Task}
 use Rattle.scx_tasks.specs.Tasks.{no_task}
 use Rattle.scx_world.specs.declared.call.Insert.{Insert}
+use Rattle.scx_world.proofs.Fronts.{front_in}
 use Rattle.scx_world.specs.Ids.{parked}
 use Rattle.scx_world.specs.World.{WorldState, waits_in, with_queues, with_task, task_at, waits, is_this, is_runnable}
 use Rattle.scx_world.specs.Tasks.{given_slice, given_vtime, given, renewed}
@@ -113,16 +113,7 @@ waiting_left s s' t u one gone others = go (cases_eq u t)
     go (inl e) = rw (e, eq-eqb t t refl) (omega (arith, none, one))
     go (inr d) = omega (arith, same_waiting s s' u (others u d), ap one_if (ne_eqb u t d))
 
--- the front of a queue stands there
-pub front_in : (s : QueueState) (q t : ℕ) → front_of s q ≡ Some t → queue_of s t ≡ Some q
-unfolding front_of
-front_in s q t e = go (entry_of s t) (position-Some (is_first s.entries q) s.entries t None e).1
-  where
-    go : (o : Option Entry) → is_first s.entries q o ≡ true → option_map (λ (p : Entry). p.queue) o ≡ Some q
-    go None h = absurd (cc)
-    go (Some p) h = ap Some (eqb-true p.queue q (and_parts (p.queue == q) _ h).0)
-
--- and waits, if it isn't that of parked tasks
+-- the front of a queue waits, if it isn't that of parked tasks
 pub front_waits_here : (s : QueueState) (q t : ℕ) → front_of s q ≡ Some t → (q == parked) ≡ false → waiting s t ≡ 1
 front_waits_here s q t e apart = ap (λ (o : Option ℕ). one_if (waits_in o)) (front_in s q t e) ∙ ap (λ b. one_if (not b)) apart
 

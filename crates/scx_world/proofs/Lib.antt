@@ -1,2 +1,4 @@
 pub mod Busy
 pub mod Few
+mod Parked
+pub mod Fronts

@@ -32,6 +32,7 @@ impl World {
         queue < POLICY_END && self.queues.has(queue)
     }
 
+    #[tactic(auto, using(crate::proofs::Parked::known_created))]
     pub(crate) fn create(&mut self, queue: u64) -> u64
         ensures answer { result ≡ create_answer self.old queue }
         ensures world { self.new ≡ after_create self.old queue }
@@ -178,6 +179,7 @@ impl World {
         });
     }
 
+    #[tactic(auto, using(crate::proofs::Parked::known_pushed, crate::proofs::Parked::known_popped))]
     pub(crate) fn move_to_local(&mut self, queue: u64) -> u64
         requires notes { length self.old.notes < 4096 }
         requires few { self.old.queues.pushes < 2 ^ 63 }

@@ -15,6 +15,7 @@ use scx_tasks::{DEFAULT_SLICE, Task};
 /// What an event does to the world, one step at a time.
 impl World {
     /// The task is runnable, and waits from now on.
+    #[tactic(auto, using(crate::proofs::Parked::known_active))]
     pub fn wake(&mut self, task: u16)
         requires { task < length self.old.tasks }
         ensures world { self.new ≡ woken self.old task }
@@ -27,6 +28,7 @@ impl World {
     }
 
     /// The task isn't runnable, and waits no more.
+    #[tactic(auto, using(crate::proofs::Parked::known_active))]
     pub fn sleep(&mut self, task: u16)
         ensures world { self.new ≡ asleep self.old task }
         ensures few { self.new.queues.pushes ≡ self.old.queues.pushes }
@@ -40,6 +42,7 @@ impl World {
     }
 
     /// The task leaves the queue in which it waits.
+    #[tactic(auto, using(crate::proofs::Parked::known_removed))]
     pub fn leave_queue(&mut self, task: u16)
         ensures world { self.new ≡ gone self.old task }
         ensures few { self.new.queues.pushes ≡ self.old.queues.pushes }
@@ -50,6 +53,7 @@ impl World {
     }
 
     /// The task goes into a queue, as the insert wants it to.
+    #[tactic(auto, using(crate::proofs::Parked::known_pushed))]
     pub fn enter(&mut self, task: u16, insert: Insert)
         requires few { self.old.queues.pushes < 2 ^ 63 }
         ensures world { self.new ≡ entered self.old task insert }
@@ -58,6 +62,9 @@ impl World {
         if (task as usize) < self.tasks.len() {
             let facts = given(self.task(task), insert);
             self.set_task(task, facts);
+            if insert.queue == PARKED {
+                self.parked_throttled = false;
+            }
             counting::push(&mut self.queues, insert.queue, u32::from(task), insert.rank);
         }
     }
@@ -70,6 +77,7 @@ impl World {
     }
 
     /// Where the local queue is empty the front of another comes to it, and is answered.
+    #[tactic(auto, using(crate::proofs::Parked::known_pushed, crate::proofs::Parked::known_popped))]
     pub fn fill(&mut self, queue: u64, cpu: u32) -> Option<u16>
         requires few { self.old.queues.pushes < 2 ^ 63 }
         ensures answer { result ≡ fill_front self.old queue cpu }
@@ -96,6 +104,7 @@ impl World {
     }
 
     /// The front of the local queue runs, waits no more, and is answered.
+    #[tactic(auto, using(crate::proofs::Parked::known_popped))]
     pub fn start(&mut self, cpu: u32) -> Option<u16>
         ensures answer { result ≡ front_of self.old.queues (local_on cpu) }
         ensures world { self.new ≡ started self.old cpu }
@@ -125,6 +134,7 @@ impl World {
     }
 
     /// The task at hand is parked, and waits no more.
+    #[tactic(auto, using(crate::proofs::Parked::known_parked))]
     pub fn park(&mut self, task: u16)
         requires few { self.old.queues.pushes < 2 ^ 63 }
         ensures world { self.new ≡ put_parked self.old task }
@@ -134,11 +144,15 @@ impl World {
             let mut facts = self.task(task);
             facts.since = None;
             self.set_task(task, facts);
+            if !self.is_throttled(task) {
+                self.parked_throttled = false;
+            }
             let _refused = self.queues.push_fifo(PARKED, u32::from(task));
         }
     }
 
     /// The front of the queue leaves it, and is answered.
+    #[tactic(auto, using(crate::proofs::Parked::known_popped))]
     pub fn take(&mut self, queue: u64) -> Option<u16>
         ensures answer { result ≡ front_of self.old.queues queue }
         ensures world { self.new ≡ taken self.old queue }
@@ -205,6 +219,7 @@ impl World {
     }
 
     /// The task's groups have used a millisecond more.
+    #[tactic(auto, using(crate::proofs::Parked::known_used))]
     pub fn use_ms(&mut self, task: u16)
         requires { (g : ℕ) → usage_of self.old.tree g < 2 ^ 63 }
         ensures world { self.new ≡ used_ms self.old task }
@@ -216,11 +231,14 @@ impl World {
     }
 
     /// Periods of groups begin at this clock.
+    #[tactic(auto, using(crate::proofs::Parked::known_turned))]
     pub fn begin_periods(&mut self)
         ensures world { self.new ≡ begun_periods self.old }
         ensures few { self.new.queues.pushes ≡ self.old.queues.pushes }
     {
-        self.tree.turn(self.clock);
+        if self.tree.turn(self.clock) {
+            self.parked_throttled = false;
+        }
     }
 
     /// The clock grows by a millisecond.
@@ -235,6 +253,7 @@ impl World {
     pub fn set_weight(&mut self, group: u32, weight: u32)
         ensures { self.new ≡ reweighed self.old group weight }
     {
+        self.parked_throttled = false;
         let _refused = self.tree.set_weight(group, weight);
     }
 }

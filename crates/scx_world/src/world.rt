@@ -1,11 +1,11 @@
-ghost use Rattle.std.specs.Prelude.{◌≡◌, ◌≢◌, ℕ, ◌+◌, ◌≤◌, ◌<◌, nat_lt, length, position, IfSome, IfOk, OnOk};
+ghost use Rattle.std.specs.Prelude.{◌≡◌, ◌≢◌, ℕ, true, ◌+◌, ◌≤◌, ◌<◌, nat_lt, length, position, IfSome, IfOk, OnOk};
 ghost use Rattle.std.specs.Int.{bit_at};
 ghost use Rattle.scx_dsq.specs.Laws.{one_if};
 ghost use Rattle.scx_dsq.specs.Queues.{queue_of, task_count};
 ghost use Rattle.scx_weights.specs.Limits.{has_quota};
 ghost use Rattle.scx_world.specs.First.{with_locals, first_queues, first_world};
 ghost use Rattle.scx_world.specs.Helpers.{pointed};
-ghost use Rattle.scx_world.specs.Kept.{AreTaken};
+ghost use Rattle.scx_world.specs.Kept.{AreTaken, StaysParked, NobodyIsFree};
 ghost use Rattle.scx_world.specs.Waits.{first_overdue};
 ghost use Rattle.scx_weights.specs.Limits.{usage_of};
 ghost use Rattle.scx_world.specs.World.{task_at, wait, with_task, is_runnable, is_throttled, waits, running, with_cpu, with_cycling, is_this, cpu_of, is_idle, first_idle, default_choice, begun, quiet, said};
@@ -44,6 +44,8 @@ pub struct World {
     /// Why and when the policy was put out of force.
     pub(crate) ejected: Option<Eject>,
     pub(crate) notes: Vec<Note>,
+    /// Whether it is known that who is parked is throttled.
+    pub(crate) parked_throttled: bool,
 }
 
 impl Model for World {
@@ -79,6 +81,7 @@ impl World {
             builtin_clock: 0,
             ejected: None,
             notes: Vec::with_capacity(alloc, 4096)?,
+            parked_throttled: false,
         })
     }
 
@@ -284,6 +287,39 @@ impl World {
         ensures { result ≡ is_throttled self.now task }
     {
         self.has_task(task) && self.tree.throttled(u32::from(task))
+    }
+
+    /// Whether all of the parked are throttled. They are looked at only where that isn't known: since a period of a
+    /// throttled group has begun.
+    #[tactic(auto, using(crate::proofs::Parked::all_looked_at, crate::proofs::Parked::none_free))]
+    pub fn are_parked_throttled(&mut self) -> bool
+        ensures throttled { result ≡ true → NobodyIsFree self.old }
+        ensures world { self.new ≡ self.old }
+        ensures few { self.new.queues.pushes ≡ self.old.queues.pushes }
+    {
+        if !self.parked_throttled {
+            self.parked_throttled = self.is_nobody_free();
+        }
+        self.parked_throttled
+    }
+
+    /// Whether none of the parked may run again.
+    fn is_nobody_free(&self) -> bool
+        ensures { result ≡ true → (t : ℕ) → t < length self.now.tasks → StaysParked self.now t }
+    {
+        for task in 0..self.tasks() {
+            if !self.stays_parked(task) {
+                return false;
+            }
+        }
+        true
+    }
+
+    /// Whether the task may not run, if it is parked.
+    fn stays_parked(&self, task: u16) -> bool
+        ensures { result ≡ true → StaysParked self.now task }
+    {
+        self.queue_of(task) != Some(PARKED) || self.is_throttled(task)
     }
 
     /// How many milliseconds the tasks of the group and those below it have run since its period began.

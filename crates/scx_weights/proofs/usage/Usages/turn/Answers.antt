@@ -8,3 +8,8 @@ pub returns-then-clock-self-ne0-clause-counted : goal.returns-then-clock-self-ne
 returns-then-clock-self-ne0-clause-counted c g lt =
     let p = period_at c.args.groups.now g in
     rw (ne_eqb (c.args.clock % p) 0 (none_begins c.args.self.now.beat p c.args.clock (c.requires.limits.divides g lt) c.if-clock-self-ne0.true)) refl
+
+pub returns-then-clock-self-ne0-clause-freed : goal.returns-then-clock-self-ne0-clause-freed
+returns-then-clock-self-ne0-clause-freed c e g lt used =
+    let p = period_at c.args.groups.now g in
+    ne_eqb (c.args.clock % p) 0 (none_begins c.args.self.now.beat p c.args.clock (c.requires.limits.divides g lt) c.if-clock-self-ne0.true)

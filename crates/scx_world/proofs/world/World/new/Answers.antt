@@ -19,4 +19,5 @@ invariant_of-result-2 c =
       few_cpus = rw (cpus, length-replicate {A = Option ℕ} c.args.cpus None) c.requires;
       busy = rw cpus (none_busy c.args.cpus);
       early = omega arith;
+      parked = λ known. absurd (cc);
     }
