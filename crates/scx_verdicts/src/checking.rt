@@ -53,7 +53,10 @@ fn verdicts_in(alloc: Global, text: &str) -> Result<Verdicts, Refusal>
     ensures refused { IfErr result (IsCheckCause text.now) }
 {
     match read_policy(alloc, text) {
-        Ok(policy) => verdicts_of(alloc, policy),
+        Ok(policy) => {
+            let mut policy = policy;
+            verdicts_of(alloc, &mut policy)
+        }
         Err(error) => Err(Refusal::of_policy(error)),
     }
 }

@@ -1,6 +1,8 @@
 ghost use Rattle.std.specs.Prelude.{◌≡◌, Some, IfOk, IfErr, OnErr};
 ghost use Rattle.scx_outcomes.specs.declared.refusal.Refusal.TheVariants.{NoMemory};
 ghost use Rattle.scx_policies.specs.Building.{AsksForMemory};
+ghost use Rattle.scx_policies.specs.Policies.{program_of};
+ghost use Rattle.scx_semantics.specs.declared.callbacks.Callback.{Callback};
 ghost use Rattle.scx_verdicts.specs.Verdicts.{IsVerdict, IsVerdictOf, HasVerdicts, is_accepted, are_accepted};
 
 use scx_isa::{Callback, Program};
@@ -56,16 +58,16 @@ fn is_accepted(verdict: Option<Verdict>) -> bool
     }
 }
 
-/// Verifies the programs of a policy, in the order of its callbacks.
+/// Verifies the programs of a policy, in the order of its callbacks, and takes them out of it.
 ///
 /// # Errors
 ///
 /// Memory ran out.
-pub(crate) fn verdicts_of(alloc: Global, policy: PolicyText) -> Result<Verdicts, Refusal>
-    ensures verdicts { IfOk result (HasVerdicts policy) }
+pub(crate) fn verdicts_of(alloc: Global, policy: &mut PolicyText) -> Result<Verdicts, Refusal>
+    ensures verdicts { IfOk result (HasVerdicts policy.old) }
     ensures memory { IfErr result (λ refusal. refusal ≡ NoMemory) }
+    ensures asked { OnErr result ((b : Callback) × AsksForMemory (program_of policy.old b)) }
 {
-    let mut policy = policy;
     let defs = *policy.defs();
     Ok(Verdicts {
         init: verdict_on(alloc, policy.take(Callback::Init), Callback::Init, &defs)?,
