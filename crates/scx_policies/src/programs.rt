@@ -28,24 +28,24 @@ pub(crate) fn read_code(alloc: Global, code: Section<'_>) -> Result<Programs, Lo
     })
 }
 
-/// These programs, and those whose slots the table `slots` spells.
+/// Adds the programs whose slots the table `slots` spells.
 pub(crate) fn read_slots(
     alloc: Global,
     slots: Section<'_>,
-    programs: Programs,
-) -> Result<Programs, LoadError>
+    programs: &mut Programs,
+) -> Result<(), LoadError>
     requires { slots.path.now ≡ codes "slots" }
-    ensures { Gives (λ p. p) result (with_slots (table_view slots.entry.table.now) programs) }
+    ensures { Gives (λ _. programs.new) result
+        (with_slots (table_view slots.entry.table.now) programs.old) }
 {
-    Ok(Programs {
-        init: slots_at(alloc, slots, "init", programs.init)?,
-        enable: slots_at(alloc, slots, "enable", programs.enable)?,
-        select_cpu: slots_at(alloc, slots, "select_cpu", programs.select_cpu)?,
-        enqueue: slots_at(alloc, slots, "enqueue", programs.enqueue)?,
-        dispatch: slots_at(alloc, slots, "dispatch", programs.dispatch)?,
-        running: slots_at(alloc, slots, "running", programs.running)?,
-        stopping: slots_at(alloc, slots, "stopping", programs.stopping)?,
-    })
+    programs.init = slots_at(alloc, slots, "init", programs.init.take())?;
+    programs.enable = slots_at(alloc, slots, "enable", programs.enable.take())?;
+    programs.select_cpu = slots_at(alloc, slots, "select_cpu", programs.select_cpu.take())?;
+    programs.enqueue = slots_at(alloc, slots, "enqueue", programs.enqueue.take())?;
+    programs.dispatch = slots_at(alloc, slots, "dispatch", programs.dispatch.take())?;
+    programs.running = slots_at(alloc, slots, "running", programs.running.take())?;
+    programs.stopping = slots_at(alloc, slots, "stopping", programs.stopping.take())?;
+    Ok(())
 }
 
 fn code_at(alloc: Global, code: Section<'_>, key: &str) -> Result<Option<Program>, LoadError>

@@ -90,20 +90,20 @@ fn read_programs(alloc: Global, file: Section<'_>) -> Result<Programs, LoadError
 {
     let absent = Table::new(alloc);
     let code = section_or(alloc, file, "code", &absent)?;
-    let programs = read_code(alloc, code)?;
-    add_slots(alloc, file, programs)
+    let mut programs = read_code(alloc, code)?;
+    add_slots(alloc, file, &mut programs)?;
+    Ok(programs)
 }
 
-/// These programs, and those of the table `slots`.
-fn add_slots(alloc: Global, file: Section<'_>, programs: Programs) -> Result<Programs, LoadError>
+/// Adds the programs of the table `slots`.
+fn add_slots(alloc: Global, file: Section<'_>, programs: &mut Programs) -> Result<(), LoadError>
     requires { file.path.now ≡ [] }
-    ensures { Gives (λ p. p) result (with_slots_in (table_view file.entry.table.now) programs) }
+    ensures { Gives (λ _. programs.new) result
+        (with_slots_in (table_view file.entry.table.now) programs.old) }
 {
     let absent = Table::new(alloc);
-    match section_or(alloc, file, "slots", &absent) {
-        Ok(slots) => read_slots(alloc, slots, programs),
-        Err(error) => Err(error),
-    }
+    let slots = section_or(alloc, file, "slots", &absent)?;
+    read_slots(alloc, slots, programs)
 }
 
 /// The table at a key of the file; where there is none, this empty one.
