@@ -36,17 +36,9 @@ begun_with p es (b ∷ bs) k s = record { plan = p; pending = block_events p b k
 abbrev pub begun : DriverState → SimState → DriverState
 begun d s = begun_with d.plan d.pending d.blocks d.memory s
 
--- ---- fields
+-- ---- the blocks of a millisecond, in their order
 
--- the blocks from that one of millisecond m on, with so many milliseconds behind it
-abbrev pub blocks_left : Phase → ℕ → ℕ → List Block
-blocks_left phase.Changes m left = blocks_from left m
-blocks_left phase.Wakes m left = Wakes m ∷ Ticks ∷ Sleeps m ∷ Clock ∷ blocks_from left (m + 1)
-blocks_left phase.Ticks m left = Ticks ∷ Sleeps m ∷ Clock ∷ blocks_from left (m + 1)
-blocks_left phase.Sleeps m left = Sleeps m ∷ Clock ∷ blocks_from left (m + 1)
-blocks_left phase.Clock m left = Clock ∷ blocks_from left (m + 1)
-
--- the order of blocks in a millisecond
+-- where a block stands
 abbrev pub phase_number : Phase → ℕ
 phase_number phase.Changes = 0
 phase_number phase.Wakes = 1
@@ -62,6 +54,16 @@ next_number (Wakes m ∷ bs) = 1
 next_number (Ticks ∷ bs) = 2
 next_number (Sleeps m ∷ bs) = 3
 next_number (Clock ∷ bs) = 4
+
+-- ---- fields
+
+-- the blocks from that one of millisecond m on, with so many milliseconds behind it
+abbrev pub blocks_left : Phase → ℕ → ℕ → List Block
+blocks_left phase.Changes m left = blocks_from left m
+blocks_left phase.Wakes m left = Wakes m ∷ Ticks ∷ Sleeps m ∷ Clock ∷ blocks_from left (m + 1)
+blocks_left phase.Ticks m left = Ticks ∷ Sleeps m ∷ Clock ∷ blocks_from left (m + 1)
+blocks_left phase.Sleeps m left = Sleeps m ∷ Clock ∷ blocks_from left (m + 1)
+blocks_left phase.Clock m left = Clock ∷ blocks_from left (m + 1)
 
 abbrev pub state_of : Inside → DriverState
 state_of d = record {
