@@ -1,16 +1,18 @@
--- What a step does to the policy: it stays the one that it is, and is put out of force only for a fault of
--- the callback that was called last; once it is out of force none is called, and it stays so for that cause.
+-- What a step does to the policy: it stays the one that it is, and is put out of force for a fault of a callback,
+-- which is then the last that was called, and for nothing else; once it is out of force none is called, and it stays
+-- so for that cause. Nor does a step change the clock, and of the tree only what its event decides.
 use Rattle.std.proofs.Common.{◌≡◌, ℕ, zero, suc, ◌<◌, Bool, true, false, ◌==◌, nat_lt, if◌then◌else◌, List, [], ◌∷◌, ◌++◌, length, Option, Some, None, is_none, refl, sym, ap, ◌∙◌, subst, append_assoc, arith}
 use Rattle.std.proofs.lemmas.Bool.Decides.{nat_tests}
-use Rattle.std.proofs.lemmas.List.{append-nil}
+use Rattle.std.proofs.lemmas.List.{append-nil, length-set}
 use Rattle.scx_dsq.specs.Queues.{len_of, front_of, behind_of}
 use Rattle.scx_semantics.specs.declared.callbacks.Callback.{Callback}
 use Rattle.scx_semantics.specs.declared.callbacks.Callback.TheVariants as callback
 use Rattle.scx_semantics.specs.Endings.{Ending}
 use Rattle.scx_safety.specs.Programs.{VerifiedProgram}
 use Rattle.scx_vm.specs.declared.arguments.Args.{Args}
-use Rattle.scx_weights.specs.Hierarchy.{with_weight}
+use Rattle.scx_weights.specs.Hierarchy.{Hierarchy, with_task, with_weight}
 use Rattle.scx_weights.specs.Limits.{with_use}
+use Rattle.scx_weights.specs.declared.error.TreeError.{TreeError}
 use Rattle.scx_weights.specs.Refusals.{weight_fault}
 use Rattle.scx_world.specs.declared.call.Insert.{Insert}
 use Rattle.scx_world.specs.declared.eject.Eject.{Eject}
@@ -19,8 +21,8 @@ use Rattle.scx_world.specs.declared.faults.Fault.{Fault}
 use Rattle.scx_world.specs.declared.notes.Note.{Note}
 use Rattle.scx_world.specs.declared.notes.What.TheVariants as note
 use Rattle.scx_world.specs.Ids.{global, builtin, parked, local_on}
-use Rattle.scx_world.specs.World.{WorldState, with_tree, task_at, is_throttled, running, cpu_of, is_idle, begun, quiet, said}
-use Rattle.scx_world.specs.Tasks.{woken, asleep, gone, entered, for_cpu, fill_front, filled, stopped, started_at, kept, put_parked, taken, let_go, ticked, used_ms, reweighed}
+use Rattle.scx_world.specs.World.{WorldState, with_tree, with_task as set_task, task_at, is_throttled, running, cpu_of, is_idle, begun, quiet, said}
+use Rattle.scx_world.specs.Tasks.{with_since, woken, asleep, gone, entered, for_cpu, fill_front, filled, stopped, started_at, kept, put_parked, taken, let_go, ran_a_tick, ticked, used_ms, reweighed}
 use Rattle.scx_world.specs.Ejecting.{put_builtin, charged, overtaken}
 use Rattle.scx_machine.specs.Policy.{PolicyState, program_of}
 use Rattle.scx_machine.specs.Steps.{State, CallMade, Stepped, with_world, stays, after, joined, is_ejected}
@@ -32,8 +34,9 @@ use Rattle.scx_machine.specs.Parking.{park, park_front, throttled_front, park_fr
 use Rattle.scx_machine.specs.Cycle.{has_local, dispatched, asks_again, tries, stopping, running_on, leave, started_if, start, rest, swap, swap_or_rest, builtin_dispatch, builtin_fill, builtin_ask, builtin_cycle, start_or_cycle, pick, pick_or_rest, conclude, ask, seek, look, cycling, cycle}
 use Rattle.scx_machine.specs.Events.{target, settled, settle, select, wake, sleep_from_cpu, sleep_from, sleep, throttle, expire, count_down, tick_of, tick}
 use Rattle.scx_sched.specs.Causes.{IsLast}
+use Rattle.scx_sched.specs.Decided.{used_at_tick}
 use Rattle.scx_sched.proofs.Entering.{keeps_if}
-use Rattle.scx_sched.proofs.Unchanged.{IsAsBefore, same_entered, same_put_builtin, same_put_parked, same_called, eject_sets, same_brought, same_kept, same_asleep}
+use Rattle.scx_sched.proofs.Unchanged.{IsAsBefore, same_entered, same_put_builtin, same_put_parked, same_called, eject_sets, same_brought, same_kept}
 use Rattle.scx_sched.proofs.Supplying.{park_fronts_from, clear_from}
 use Rattle.scx_sched.proofs.Leaving.{run_back}
 
@@ -47,13 +50,29 @@ pub record IsBlamed (p : PolicyState) (now : ℕ) (calls : List CallMade) (x : E
   pub wrong : fault_of of (called (Some call.program) of call.arguments call.maps call.world) ≡ Some fault
   pub named : x ≡ cause.Fault fault now
 
+-- a call without a fault, of a callback of the policy
+pub record IsFaultless (p : PolicyState) (m : CallMade) : Type 0 where
+  pub of : Callback
+  pub program : program_of p of ≡ Some m.program
+  pub right : fault_of of (called (Some m.program) of m.arguments m.maps m.world) ≡ None
+
+abbrev pub AreFaultless : PolicyState → List CallMade → Type 0
+AreFaultless p [] = Unit {0}
+AreFaultless p (m ∷ ms) = IsFaultless p m × AreFaultless p ms
+
+pub faultless_append : (p : PolicyState) (xs ys : List CallMade) → AreFaultless p xs → AreFaultless p ys → AreFaultless p (xs ++ ys)
+faultless_append p [] ys h k = k
+faultless_append p (m ∷ ms) ys h k = (h.0, faultless_append p ms ys h.1 k)
+
 -- a step from a state
 pub record IsHonest (s : State) (r : Stepped) : Type 0 where
   pub policy : r.state.policy ≡ s.policy
   pub clock : r.state.world.clock ≡ s.world.clock
+  pub tree : r.state.world.tree ≡ s.world.tree
   pub silent : (x : Eject) → s.world.ejected ≡ Some x → r.calls ≡ []
   pub stays : (x : Eject) → s.world.ejected ≡ Some x → r.state.world.ejected ≡ Some x
   pub blamed : (x : Eject) → s.world.ejected ≡ None → r.state.world.ejected ≡ Some x → IsBlamed s.policy s.world.clock r.calls x
+  pub heard : r.state.world.ejected ≡ None → AreFaultless s.policy r.calls
 
 -- a policy is in force or out of it
 pub apart : (o : Option Eject) (x : Eject) → o ≡ None → o ≡ Some x → ⊥
@@ -71,7 +90,7 @@ last_of xs ys m (before, e) = (xs ++ before, ap (λ zs. xs ++ zs) e ∙ sym (app
 last_alone : (xs ys : List CallMade) (m : CallMade) → ys ≡ [] → IsLast m xs → IsLast m (xs ++ ys)
 last_alone xs ys m none (before, e) = (before, ap (λ zs. xs ++ zs) none ∙ (append-nil xs ∙ e))
 
-none_of : (xs ys : List CallMade) → xs ≡ [] → ys ≡ [] → xs ++ ys ≡ []
+pub none_of : (xs ys : List CallMade) → xs ≡ [] → ys ≡ [] → xs ++ ys ≡ []
 none_of xs ys e f = rw e f
 
 -- with other calls
@@ -82,11 +101,17 @@ honest_joined : (s : State) (a r : Stepped) → IsHonest s a → IsHonest a.stat
 honest_joined s a r h k = record {
   policy = k.policy ∙ h.policy;
   clock = k.clock ∙ h.clock;
+  tree = k.tree ∙ h.tree;
   silent = λ x out. none_of a.calls r.calls (h.silent x out) (k.silent x (h.stays x out));
   stays = λ x out. k.stays x (h.stays x out);
   blamed = λ x force out. go x force out a.state.world.ejected refl;
+  heard = λ force. hears force a.state.world.ejected refl;
 }
   where
+    hears : r.state.world.ejected ≡ None → (o : Option Eject) → a.state.world.ejected ≡ o → AreFaultless s.policy (a.calls ++ r.calls)
+    hears force None e = faultless_append s.policy a.calls r.calls (h.heard e) (subst (λ (p : PolicyState). AreFaultless p r.calls) h.policy (k.heard force))
+    hears force (Some y) e = absurd (apart r.state.world.ejected y force (k.stays y e))
+
     go : (x : Eject) → s.world.ejected ≡ None → r.state.world.ejected ≡ Some x → (o : Option Eject) → a.state.world.ejected ≡ o → IsBlamed s.policy s.world.clock (a.calls ++ r.calls) x
     go x force out None e =
         let b = blamed_as a.state.policy a.state.world.clock r.calls (a.calls ++ r.calls) x (λ m l. last_of a.calls r.calls m l) (k.blamed x e out) in
@@ -96,24 +121,44 @@ honest_joined s a r h k = record {
         subst (λ (z : Eject). IsBlamed s.policy s.world.clock (a.calls ++ r.calls) z) (same_eject r.state.world.ejected y x (k.stays y e) out) b
 
 honest_after : (s : State) (ns : List Note) (r : Stepped) → IsHonest s r → IsHonest s (after ns r)
-honest_after s ns r h = record { policy = h.policy; clock = h.clock; silent = h.silent; stays = h.stays; blamed = h.blamed }
+honest_after s ns r h = record { policy = h.policy; clock = h.clock; tree = h.tree; silent = h.silent; stays = h.stays; blamed = h.blamed; heard = h.heard }
 
 honest_stays : (s : State) → IsHonest s (stays s)
-honest_stays s = record { policy = refl; clock = refl; silent = λ x out. refl; stays = λ x out. out; blamed = λ x force out. absurd (apart s.world.ejected x force out) }
+honest_stays s = record { policy = refl; clock = refl; tree = refl; silent = λ x out. refl; stays = λ x out. out; blamed = λ x force out. absurd (apart s.world.ejected x force out); heard = λ force. tt }
 
 -- a change of the world in which no callback is called
 honest_plain : (s : State) (w : WorldState) (ns : List Note) → IsAsBefore s.world w → IsHonest s (record { state = with_world s w; notes = ns; calls = [] })
-honest_plain s w ns same = record { policy = refl; clock = same.0; silent = λ x out. refl; stays = λ x out. same.1 ∙ out; blamed = λ x force out. absurd (apart w.ejected x (same.1 ∙ force) out) }
+honest_plain s w ns same = record { policy = refl; clock = same.0; tree = same.3; silent = λ x out. refl; stays = λ x out. same.1 ∙ out; blamed = λ x force out. absurd (apart w.ejected x (same.1 ∙ force) out); heard = λ force. tt }
 
 -- a step from such a change
 honest_from : (s : State) (w : WorldState) (r : Stepped) → IsAsBefore s.world w → IsHonest (with_world s w) r → IsHonest s r
 honest_from s w r same h = record {
   policy = h.policy;
   clock = h.clock ∙ same.0;
+  tree = h.tree ∙ same.3;
   silent = λ x out. h.silent x (same.1 ∙ out);
   stays = λ x out. h.stays x (same.1 ∙ out);
   blamed = λ x force out. subst (λ (now : ℕ). IsBlamed s.policy now r.calls x) same.0 (h.blamed x (same.1 ∙ force) out);
+  heard = h.heard;
 }
+
+-- ---- another tree
+
+-- the state with that tree
+abbrev pub state_with_tree : State → Hierarchy → State
+state_with_tree s tree = with_world s (with_tree s.world tree)
+
+-- a step that ends with that tree
+abbrev pub step_with_tree : Stepped → Hierarchy → Stepped
+step_with_tree r tree = record { state = state_with_tree r.state tree; notes = r.notes; calls = r.calls }
+
+-- from that tree to it
+honest_with_tree : (s : State) (r : Stepped) (tree : Hierarchy) → IsHonest s r → IsHonest (state_with_tree s tree) (step_with_tree r tree)
+honest_with_tree s r tree h = record { policy = h.policy; clock = h.clock; tree = refl; silent = h.silent; stays = h.stays; blamed = h.blamed; heard = h.heard }
+
+-- a step that leaves the tree
+honest_same_tree : (s : State) (r : Stepped) → IsHonest s r → IsHonest (state_with_tree s s.world.tree) r
+honest_same_tree s r h = record { policy = h.policy; clock = h.clock; tree = h.tree; silent = h.silent; stays = h.stays; blamed = h.blamed; heard = h.heard }
 
 -- ---- a callback
 
@@ -121,7 +166,7 @@ pub eject_policy : (s : State) (x : Eject) → (eject s x).state.policy ≡ s.po
 unfolding eject moves_over
 eject_policy s x = refl
 
-eject_calls : (s : State) (x : Eject) → (eject s x).calls ≡ []
+pub eject_calls : (s : State) (x : Eject) → (eject s x).calls ≡ []
 unfolding eject moves_over
 eject_calls s x = refl
 
@@ -160,7 +205,7 @@ module _ (s : State) (b : Callback) (a : Args) (t c : ℕ) where
     where
       go : (o : Option Fault) → o ≡ None
           → IsHonest s (joined (record { state = record { policy = s.policy; maps = s.maps; world = quiet w }; notes = []; calls = [] }) (ejected_for o (record { policy = s.policy; maps = s.maps; world = quiet w })))
-      go None e = record { policy = refl; clock = refl; silent = λ x out. refl; stays = λ x out. out; blamed = λ x force out. absurd (apart s.world.ejected x force out) }
+      go None e = record { policy = refl; clock = refl; tree = refl; silent = λ x out. refl; stays = λ x out. out; blamed = λ x force out. absurd (apart s.world.ejected x force out); heard = λ force. tt }
       go (Some f) e = absurd (cc)
 
   honest_run : (p : VerifiedProgram) → IsActing s b p → IsHonest s (run_back (Some p) s b a t c)
@@ -182,9 +227,11 @@ module _ (s : State) (b : Callback) (a : Args) (t c : ℕ) where
       go None x = record {
         policy = refl;
         clock = same.0;
+        tree = same.3;
         silent = λ y out. absurd (apart s.world.ejected y acts.force out);
         stays = λ y out. same.1 ∙ out;
         blamed = λ y force out. absurd (apart e.outside.ejected y (same.1 ∙ force) out);
+        heard = λ force. (record { of = b; program = acts.program; right = x }, tt);
       }
       go (Some f) x =
           let y = cause.Fault f e.outside.clock in
@@ -192,8 +239,10 @@ module _ (s : State) (b : Callback) (a : Args) (t c : ℕ) where
           record {
             policy = eject_policy v y;
             clock = sets.0 ∙ same.0;
+            tree = sets.3 ∙ same.3;
             silent = λ z out. absurd (apart s.world.ejected z acts.force out);
             stays = λ z out. absurd (apart s.world.ejected z acts.force out);
+            heard = λ force. absurd (apart (eject v y).state.world.ejected y force sets.1);
             blamed = λ z force out. record {
               call = m;
               of = b;
@@ -217,11 +266,11 @@ honest_call_back s b a t c some = go (acting s b) refl
 
 honest_enters : (s : State) (t : ℕ) (i : Insert) → IsHonest s (enters s t i)
 unfolding enters
-honest_enters s t i = honest_plain s (entered s.world t i) _ (same_entered s.world s.world t i (refl, refl, refl))
+honest_enters s t i = honest_plain s (entered s.world t i) _ (same_entered s.world s.world t i (refl, refl, refl, refl))
 
 honest_enters_builtin : (s : State) (t : ℕ) → IsHonest s (enters_builtin s t)
 unfolding enters_builtin
-honest_enters_builtin s t = honest_plain s (put_builtin s.world t) _ (same_put_builtin s.world s.world t (refl, refl, refl))
+honest_enters_builtin s t = honest_plain s (put_builtin s.world t) _ (same_put_builtin s.world s.world t (refl, refl, refl, refl))
 
 honest_comes_in : (s : State) (t c : ℕ) → IsHonest s (comes_in s t c)
 unfolding comes_in
@@ -243,11 +292,11 @@ honest_fill s q c = honest_plain s (filled s.world q c) _ (same_brought (fill_fr
 
 honest_park : (s : State) (t : ℕ) → IsHonest s (park s t)
 unfolding park
-honest_park s t = honest_plain s (put_parked s.world t) _ (same_put_parked s.world s.world t (refl, refl, refl))
+honest_park s t = honest_plain s (put_parked s.world t) _ (same_put_parked s.world s.world t (refl, refl, refl, refl))
 
 honest_park_front : (s : State) (q t : ℕ) → IsHonest s (park_front s q t)
 unfolding park_front
-honest_park_front s q t = honest_from s (taken s.world q) (park (with_world s (taken s.world q)) t) (refl, refl, refl) (honest_park (with_world s (taken s.world q)) t)
+honest_park_front s q t = honest_from s (taken s.world q) (park (with_world s (taken s.world q)) t) (refl, refl, refl, refl) (honest_park (with_world s (taken s.world q)) t)
 
 honest_park_fronts : (j : ℕ) (s : State) (q : ℕ) → IsHonest s (park_fronts j s q)
 unfolding park_fronts
@@ -293,13 +342,13 @@ honest_stopping : (s : State) (c t n : ℕ) → IsHonest s (stopping s c t n)
 unfolding stopping
 honest_stopping s c t n =
     keeps_if (IsHonest s) (is_ejected s) (stays (with_world s (charged s.world t))) (call_back s callback.Stopping (task_and_number t n) t c)
-    (honest_plain s (charged s.world t) [] (refl, refl, refl)) (honest_call_back s callback.Stopping (task_and_number t n) t c (λ e. absurd (cc)))
+    (honest_plain s (charged s.world t) [] (refl, refl, refl, refl)) (honest_call_back s callback.Stopping (task_and_number t n) t c (λ e. absurd (cc)))
 
 honest_running_on : (s : State) (c t : ℕ) → IsHonest s (running_on s c t)
 unfolding running_on
 honest_running_on s c t =
     keeps_if (IsHonest s) (is_ejected s) (stays (with_world s (overtaken s.world t))) (call_back s callback.Running (one_task t) t c)
-    (honest_plain s (overtaken s.world t) [] (refl, refl, refl)) (honest_call_back s callback.Running (one_task t) t c (λ e. absurd (cc)))
+    (honest_plain s (overtaken s.world t) [] (refl, refl, refl, refl)) (honest_call_back s callback.Running (one_task t) t c (λ e. absurd (cc)))
 
 honest_leave : (s : State) (c : ℕ) (p : Option ℕ) → IsHonest s (leave s c p)
 unfolding leave
@@ -309,7 +358,7 @@ honest_leave s c (Some t) =
     let off = with_world s w in
     let r = stopping off c t 1 in
     let ns = said s.world (note.Stop t c) ∷ [] in
-    honest_from s w (after ns (joined r (put r.state t c 0))) (refl, refl, refl) (honest_after off ns (joined r (put r.state t c 0)) (honest_joined off r (put r.state t c 0) (honest_stopping off c t 1) (honest_put r.state t c 0)))
+    honest_from s w (after ns (joined r (put r.state t c 0))) (refl, refl, refl, refl) (honest_after off ns (joined r (put r.state t c 0)) (honest_joined off r (put r.state t c 0) (honest_stopping off c t 1) (honest_put r.state t c 0)))
 
 honest_start : (s : State) (c : ℕ) → IsHonest s (start s c)
 unfolding start
@@ -320,7 +369,7 @@ honest_start s c = go (front_of s.world.queues (local_on c))
     go (Some t) =
         let w = started_at (Some t) s.world c in
         let ns = said s.world (note.Run t c) ∷ [] in
-        honest_from s w (after ns (running_on (with_world s w) c t)) (refl, refl, refl) (honest_after (with_world s w) ns (running_on (with_world s w) c t) (honest_running_on (with_world s w) c t))
+        honest_from s w (after ns (running_on (with_world s w) c t)) (refl, refl, refl, refl) (honest_after (with_world s w) ns (running_on (with_world s w) c t) (honest_running_on (with_world s w) c t))
 
 honest_rest : (s : State) (c : ℕ) (p : Option ℕ) (ran : Bool) → IsHonest s (rest s c p ran)
 unfolding rest
@@ -389,7 +438,7 @@ unfolding cycle
 honest_cycle s c p ran =
     let v = cycling s (Some c) in
     let h = honest_look v c p ran in
-    record { policy = h.policy; clock = h.clock; silent = h.silent; stays = h.stays; blamed = h.blamed }
+    record { policy = h.policy; clock = h.clock; tree = h.tree; silent = h.silent; stays = h.stays; blamed = h.blamed; heard = h.heard }
 
 -- ---- events
 
@@ -413,33 +462,66 @@ honest_select s t some =
     honest_joined s r (settle r.state t d) (honest_call_back s callback.SelectCpu (task_cpu_and_0 t c) t c (λ e. some)) (honest_settle r.state t d)
 
 -- a task that wakes
-pub honest_wake : (s : State) (t : ℕ) → 0 < length s.world.cpus → IsHonest s (wake s t)
+pub honest_wake : (s : State) (t : ℕ) → 0 < length s.world.cpus → IsHonest (state_with_tree s (with_task s.world.tree t true)) (wake s t)
 unfolding wake
 honest_wake s t some =
     let w = woken s.world t in
     let ns = said s.world (note.Wake t) ∷ [] in
-    honest_from s w (after ns (select (with_world s w) t)) (refl, refl, refl) (honest_after (with_world s w) ns (select (with_world s w) t) (honest_select (with_world s w) t some))
+    honest_from (state_with_tree s (with_task s.world.tree t true)) w (after ns (select (with_world s w) t)) (refl, refl, refl, refl) (honest_after (with_world s w) ns (select (with_world s w) t) (honest_select (with_world s w) t some))
 
-honest_sleep_from_cpu : (s : State) (t c : ℕ) → IsHonest s (sleep_from_cpu s t c)
+-- a task that there is goes to sleep
+now_asleep : (w : WorldState) (t : ℕ) → t < length w.tasks → IsAsBefore (with_tree w (with_task w.tree t false)) (asleep w t)
+now_asleep w t known = go (nat_lt t (length w.tasks)) refl
+  where
+    go : (b : Bool) → nat_lt t (length w.tasks) ≡ b → IsAsBefore (with_tree w (with_task w.tree t false)) (if b then with_tree (set_task w t (with_since (task_at w t) None)) (with_task w.tree t false) else w)
+    go true e = (refl, refl, refl, refl)
+    go false e = absurd (grind (arith, nat_tests, e, known))
+
+-- once it has left its processor
+abbrev pub stopped_for_sleep : State → ℕ → ℕ → Stepped
+stopped_for_sleep s t c = stopping (with_world s (stopped s.world c t)) c t 0
+
+honest_sleep_from_cpu : (s : State) (t c : ℕ) → t < length (stopped_for_sleep s t c).state.world.tasks → IsHonest (state_with_tree s (with_task s.world.tree t false)) (sleep_from_cpu s t c)
 unfolding sleep_from_cpu
-honest_sleep_from_cpu s t c =
-    let w = stopped s.world c t in
-    let off = with_world s w in
-    let r = stopping off c t 0 in
-    let u = asleep r.state.world t in
-    let y = cycle (with_world r.state u) c None true in
-    let ns = said s.world (note.Stop t c) ∷ [] in
-    honest_from s w (after ns (joined r y)) (refl, refl, refl)
-    (honest_after off ns (joined r y) (honest_joined off r y (honest_stopping off c t 0) (honest_from r.state u y (same_asleep r.state.world r.state.world t (refl, refl, refl)) (honest_cycle (with_world r.state u) c None true))))
+honest_sleep_from_cpu s t c known =
+    honest_from (state_with_tree s tree) (with_tree off.world tree) (after ns (joined r y)) (refl, refl, refl, refl)
+    (honest_after (state_with_tree off tree) ns (joined r y) (honest_joined (state_with_tree off tree) (step_with_tree r tree) y (honest_with_tree off r tree left) (honest_from (state_with_tree r.state tree) u y same (honest_cycle (with_world r.state u) c None true))))
+  where
+    tree : Hierarchy
+    tree = with_task s.world.tree t false
+
+    off : State
+    off = with_world s (stopped s.world c t)
+
+    r : Stepped
+    r = stopping off c t 0
+
+    u : WorldState
+    u = asleep r.state.world t
+
+    y : Stepped
+    y = cycle (with_world r.state u) c None true
+
+    ns : List Note
+    ns = said s.world (note.Stop t c) ∷ []
+
+    left : IsHonest off r
+    left = honest_stopping off c t 0
+
+    same : IsAsBefore (with_tree r.state.world tree) u
+    same = let x = now_asleep r.state.world t known in (x.0, x.1, x.2, x.3 ∙ ap (λ (h : Hierarchy). with_task h t false) left.tree)
 
 -- one that goes to sleep
-pub honest_sleep : (s : State) (t : ℕ) → IsHonest s (sleep s t)
+pub honest_sleep : (s : State) (t : ℕ) → t < length s.world.tasks → ((c : ℕ) → cpu_of s.world t ≡ Some c → t < length (stopped_for_sleep s t c).state.world.tasks) → IsHonest (state_with_tree s (with_task s.world.tree t false)) (sleep s t)
 unfolding sleep
-honest_sleep s t = honest_after s (said s.world (note.Sleep t) ∷ []) (sleep_from (cpu_of s.world t) s t) (go (cpu_of s.world t))
+honest_sleep s t known still = honest_after (state_with_tree s tree) (said s.world (note.Sleep t) ∷ []) (sleep_from (cpu_of s.world t) s t) (go (cpu_of s.world t) refl)
   where
-    go : (o : Option ℕ) → IsHonest s (sleep_from o s t)
-    go None = honest_plain s (asleep (gone s.world t) t) [] (same_asleep s.world (gone s.world t) t (refl, refl, refl))
-    go (Some c) = honest_sleep_from_cpu s t c
+    tree : Hierarchy
+    tree = with_task s.world.tree t false
+
+    go : (o : Option ℕ) → cpu_of s.world t ≡ o → IsHonest (state_with_tree s tree) (sleep_from o s t)
+    go None e = let x = now_asleep (gone s.world t) t known in honest_plain (state_with_tree s tree) (asleep (gone s.world t) t) [] (x.0, x.1, x.2, x.3)
+    go (Some c) e = honest_sleep_from_cpu s t c (still c e)
 
 honest_throttle : (s : State) (c t : ℕ) → IsHonest s (throttle s c t)
 unfolding throttle
@@ -450,34 +532,46 @@ honest_throttle s c t =
     let p = park r.state t in
     let y = cycle p.state c None true in
     let ns = said s.world (note.Stop t c) ∷ [] in
-    honest_from s w (after ns (joined r (joined p y))) (refl, refl, refl)
+    honest_from s w (after ns (joined r (joined p y))) (refl, refl, refl, refl)
     (honest_after off ns (joined r (joined p y)) (honest_joined off r (joined p y) (honest_stopping off c t 1) (honest_joined r.state p y (honest_park r.state t) (honest_cycle p.state c None true))))
 
 honest_expire : (s : State) (c t : ℕ) → IsHonest s (expire s c t)
 unfolding expire
 honest_expire s c t = keeps_if (IsHonest s) ((task_at s.world t).slice == 0) (cycle s c (Some t) true) (stays s) (honest_cycle s c (Some t) true) (honest_stays s)
 
--- a processor that ran
-pub honest_tick : (s : State) (c : ℕ) → IsHonest s (tick s c)
-unfolding tick count_down
-honest_tick s c = go (running s.world c)
+-- a task that there is has run for a millisecond
+now_used : (w : WorldState) (t : ℕ) → t < length w.tasks → IsAsBefore (with_tree w (with_use w.tree t)) (used_ms (ticked w t) t)
+now_used w t known = go (nat_lt t (length x.tasks)) refl
   where
-    go : (o : Option ℕ) → IsHonest s (tick_of o s c)
-    go None = honest_cycle s c None false
-    go (Some t) =
+    x : WorldState
+    x = ticked w t
+
+    there : t < length x.tasks
+    there = rw (length-set w.tasks t (ran_a_tick (task_at w t))) known
+
+    go : (b : Bool) → nat_lt t (length x.tasks) ≡ b → IsAsBefore (with_tree w (with_use w.tree t)) (if b then with_tree x (with_use x.tree t) else x)
+    go true e = (refl, refl, refl, refl)
+    go false e = absurd (grind (arith, nat_tests, e, there))
+
+-- a processor that ran, on which a task that there is used a millisecond
+pub honest_tick : (s : State) (c : ℕ) → ((t : ℕ) → running s.world c ≡ Some t → t < length s.world.tasks) → IsHonest (state_with_tree s (used_at_tick (running s.world c) s.world.tree)) (tick s c)
+unfolding tick count_down
+honest_tick s c known = go (running s.world c) refl
+  where
+    go : (o : Option ℕ) → running s.world c ≡ o → IsHonest (state_with_tree s (used_at_tick o s.world.tree)) (tick_of o s c)
+    go None e = honest_same_tree s (cycle s c None false) (honest_cycle s c None false)
+    go (Some t) e =
         let w = used_ms (ticked s.world t) t in
         let v = with_world s w in
         let r = if is_throttled v.world t then throttle v c t else expire v c t in
-        let x = ticked s.world t in
-        let same = keeps_if (IsAsBefore s.world) (nat_lt t (length x.tasks)) (with_tree x (with_use x.tree t)) x (refl, refl, refl) (refl, refl, refl) in
-        honest_from s w r same (keeps_if (IsHonest v) (is_throttled v.world t) (throttle v c t) (expire v c t) (honest_throttle v c t) (honest_expire v c t))
+        honest_from (state_with_tree s (with_use s.world.tree t)) w r (now_used s.world t (known t e)) (keeps_if (IsHonest v) (is_throttled v.world t) (throttle v c t) (expire v c t) (honest_throttle v c t) (honest_expire v c t))
 
 -- who may run again is let go
 honest_let_go_one : (s : State) (t : ℕ) → IsHonest s (let_go_one s t)
 unfolding let_go_one
 honest_let_go_one s t =
     let w = let_go s.world t in
-    honest_from s w (put (with_world s w) t (task_at s.world t).prev_cpu 0) (refl, refl, refl) (honest_put (with_world s w) t (task_at s.world t).prev_cpu 0)
+    honest_from s w (put (with_world s w) t (task_at s.world t).prev_cpu 0) (refl, refl, refl, refl) (honest_put (with_world s w) t (task_at s.world t).prev_cpu 0)
 
 honest_let_go_from : (j : ℕ) (s : State) (at : Option ℕ) → IsHonest s (let_go_from j s at)
 unfolding let_go_from
@@ -493,6 +587,13 @@ pub honest_let_all_go : (s : State) → IsHonest s (let_all_go s)
 unfolding let_all_go
 honest_let_all_go s = honest_let_go_from (len_of s.world.queues parked) s (front_of s.world.queues parked)
 
--- a weight
-pub honest_weight : (s : State) (g x : ℕ) (ns : List Note) → IsHonest s (record { state = with_world s (reweighed s.world g x); notes = ns; calls = [] })
-honest_weight s g x ns = honest_plain s (reweighed s.world g x) ns (keeps_if (IsAsBefore s.world) (is_none (weight_fault s.world.tree g x)) (with_tree s.world (with_weight s.world.tree g x)) s.world (refl, refl, refl) (refl, refl, refl))
+-- a weight that can be set
+pub honest_weight : (s : State) (g x : ℕ) (ns : List Note) → weight_fault s.world.tree g x ≡ None → IsHonest (state_with_tree s (with_weight s.world.tree g x)) (record { state = with_world s (reweighed s.world g x); notes = ns; calls = [] })
+honest_weight s g x ns fine = go (weight_fault s.world.tree g x) fine
+  where
+    tree : Hierarchy
+    tree = with_weight s.world.tree g x
+
+    go : (o : Option TreeError) → o ≡ None → IsHonest (state_with_tree s tree) (record { state = with_world s (if is_none o then with_tree s.world tree else s.world); notes = ns; calls = [] })
+    go None e = honest_plain (state_with_tree s tree) (with_tree s.world tree) ns (refl, refl, refl, refl)
+    go (Some f) e = absurd (cc)

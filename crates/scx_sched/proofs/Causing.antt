@@ -22,21 +22,22 @@ use Rattle.scx_world.specs.Waits.{first_overdue, IsFirstOverdue}
 use Rattle.scx_world.specs.Helpers.{or_fault, world_functions}
 use Rattle.scx_tasks.specs.Waits.{time_since}
 use Rattle.scx_machine.specs.Policy.{PolicyState, program_of, IsAs, AreAs}
-use Rattle.scx_machine.specs.Steps.{State, CallMade, Stepped, with_world, stays, joined}
+use Rattle.scx_machine.specs.Steps.{State, CallMade, Stepped, with_world, joined}
 use Rattle.scx_machine.specs.Ejecting.{eject}
 use Rattle.scx_machine.specs.Callbacks.{called, answer_fault, fault_of, IsAnswered, AreAnswered}
 use Rattle.scx_machine.specs.declared.events.Event.{Event}
 use Rattle.scx_machine.specs.declared.events.Event.TheVariants.{Wake, Sleep, Tick, Clock, SetWeight}
 use Rattle.scx_machine.specs.Parking.{let_all_go}
 use Rattle.scx_machine.specs.Events.{overdue, stalled, clock, happened}
-use Rattle.scx_sched.specs.Causes.{EndsIn, HasFault, Of_helper, Of_answer, IsLast, IsCause, Waited, Went_wrong, EjectsOnce, clock_in}
+use Rattle.scx_sched.specs.Causes.{EndsIn, HasFault, Of_helper, Of_answer, IsLast, IsAmong, IsCause, Waited, Went_wrong, EjectsOnce, clock_in}
 use Rattle.scx_sched.specs.Sim.{SimState, refusal, calls_if, calls_of, IsValid}
 use Rattle.scx_sched.proofs.Unchanged.{eject_sets}
 use Rattle.scx_sched.specs.Ranges.{IsFine}
-use Rattle.scx_sched.proofs.Blaming.{IsHonest, apart, same_eject, honest_wake, honest_sleep, honest_tick, honest_weight, honest_let_all_go}
+use Rattle.scx_sched.proofs.Blaming.{IsFaultless, AreFaultless, IsHonest, apart, same_eject, honest_let_all_go}
+use Rattle.scx_sched.proofs.Deciding.{accepted, IsHonestEvent, wake_is_honest, sleep_is_honest, tick_is_honest, weight_is_honest}
 use Rattle.scx_sched.proofs.Lasting.{AreAsLong}
 use Rattle.scx_sched.proofs.Letting.{long_let_all_go}
-use Rattle.scx_sched.proofs.Events.{IsFineNow, fine_events, fine_inside, fine_later}
+use Rattle.scx_sched.proofs.Events.{IsFineNow, IsTaken, Wakes, Sleeps, Ticks, Clocks, Weighs, is_taken, fine_events, fine_inside, fine_later}
 use Rattle.scx_sched.proofs.Timely.{not_late}
 
 -- ---- a callback with a fault
@@ -59,7 +60,7 @@ as_callback p callback.Plain x all e = absurd (cc)
 
 module _ (m : CallMade) (f : Fault) (i : IsAnswered m) where
   ends : EndsIn m i.answer i.world
-  ends = record { steps = i.steps; maps = i.maps; run = i.run }
+  ends = record { steps = i.steps; maps = i.maps; run = i.run; in_bound = i.in_bound }
 
   of_answer : (b : Callback) → m.program.context.callback ≡ b → i.world.call.fault ≡ None → answer_fault b i.world i.answer ≡ Some f → HasFault m f
   of_answer callback.SelectCpu same none e = go (nat_lt i.answer (length i.world.cpus)) refl e
@@ -97,6 +98,46 @@ module _ (m : CallMade) (f : Fault) (i : IsAnswered m) where
       computed =
           run_is (answer_to world_functions) (after_query world_functions) m.program.context.callback m.program.code (given m.arguments) m.maps m.world i.answer i.steps i.maps i.world i.run i.in_bound ∙ ap ending same
 
+-- ---- a call without a fault
+
+-- what a run comes to is what is computed of the call
+computes : (m : CallMade) (b : Callback) (answer : ℕ) (w : WorldState) → m.program.context.callback ≡ b → (x : EndsIn m answer w) → record { answer = Some answer; maps = x.maps; outside = w } ≡ called (Some m.program) b m.arguments m.maps m.world
+unfolding called
+computes m b answer w same x =
+    let ending : Callback → Ending WorldState = λ d. run_of (answer_to world_functions) (after_query world_functions) d m.program.code (given m.arguments) m.maps m.world in
+    run_is (answer_to world_functions) (after_query world_functions) m.program.context.callback m.program.code (given m.arguments) m.maps m.world answer x.steps x.maps w x.run x.in_bound ∙ ap ending same
+
+right_in : (m : CallMade) (b : Callback) (answer : ℕ) (w : WorldState) → m.program.context.callback ≡ b → EndsIn m answer w → fault_of b (called (Some m.program) b m.arguments m.maps m.world) ≡ None → or_fault w.call.fault (answer_fault b w answer) ≡ None
+right_in m b answer w same x right = ap (λ (e : Ending WorldState). fault_of b e) (computes m b answer w same x) ∙ right
+
+no_fault_first : (o r : Option Fault) (f : Fault) → o ≡ Some f → or_fault o r ≡ None → ⊥
+no_fault_first (Some g) r f e h = absurd (cc)
+no_fault_first None r f e h = absurd (cc)
+
+no_fault_then : (w : WorldState) (answer : ℕ) (o : Option Fault) → o ≡ None → length w.cpus ≤ answer → or_fault o (answer_fault callback.SelectCpu w answer) ≡ None → ⊥
+no_fault_then w answer (Some g) e over h = absurd (cc)
+no_fault_then w answer None e over h = go (nat_lt answer (length w.cpus)) refl h
+  where
+    go : (b : Bool) → nat_lt answer (length w.cpus) ≡ b → (if b then None else Some NoSuchCpu) ≡ None → ⊥
+    go true x y = let less : answer < length w.cpus = grind (arith, nat_tests, x) in omega (arith, less, over)
+    go false x y = absurd (cc)
+
+has_none : (p : PolicyState) (m : CallMade) (f : Fault) → AreAs p.callbacks → IsFaultless p m → HasFault m f → ⊥
+has_none p m f programs x (Of_helper answer w ends e) =
+    no_fault_first w.call.fault (answer_fault x.of w answer) f e (right_in m x.of answer w (as_callback p x.of m.program programs x.program) ends x.right)
+has_none p m f programs x (Of_answer answer w ends none same over is) =
+    let this : x.of ≡ callback.SelectCpu = sym (as_callback p x.of m.program programs x.program) ∙ same in
+    no_fault_then w answer w.call.fault none over (right_in m callback.SelectCpu answer w same ends (subst (λ (b : Callback). fault_of b (called (Some m.program) b m.arguments m.maps m.world) ≡ None) this x.right))
+
+among_faultless : (p : PolicyState) (before : List CallMade) (m : CallMade) (after : List CallMade) → AreFaultless p (before ++ m ∷ after) → IsFaultless p m
+among_faultless p [] m after h = h.0
+among_faultless p (c ∷ cs) m after h = among_faultless p cs m after h.1
+
+-- so none of those has one
+none_heard : (p : PolicyState) (calls : List CallMade) (m : CallMade) (f : Fault) → AreAs p.callbacks → AreFaultless p calls → IsAmong m calls → HasFault m f → ⊥
+none_heard p calls m f programs right among wrong =
+    has_none p m f programs (among_faultless p among.0 m among.1 (subst (AreFaultless p) among.2 right)) wrong
+
 -- ---- who waited for too long
 
 late_is : (now limit : ℕ) (o : Option ℕ) → is_late now limit o ≡ true → limit < time_since now o
@@ -129,14 +170,20 @@ module _ (s : State) (n : ℕ) where
   abbrev before_event : SimState
   before_event = record { state = s; events = n }
 
-  honest_cause : (v : Event) → clock_in before_event v ≡ s.world.clock → refusal before_event v ≡ None → AreAs s.policy.callbacks → AreAnswered (happened s v).calls → IsHonest s (happened s v) → EjectsOnce before_event v (after_event s n v)
-  honest_cause v now ok programs answered h = record { stays = h.stays; cause = λ x force out. for_fault x force out }
+  honest_cause : (v : Event) → clock_in before_event v ≡ s.world.clock → refusal before_event v ≡ None → AreAs s.policy.callbacks → AreAnswered (happened s v).calls → IsHonestEvent s v → EjectsOnce before_event v (after_event s n v)
+  honest_cause v now ok programs answered h = record { stays = h.stays; cause = λ x force out. for_fault x force out; heard = λ force m f among wrong. no_fault force m f among wrong }
     where
+      calls : calls_of before_event v ≡ (happened s v).calls
+      calls = ap (λ o. calls_if o before_event v) ok
+
+      no_fault : (happened s v).state.world.ejected ≡ None → (m : CallMade) (f : Fault) → IsAmong m (calls_of before_event v) → HasFault m f → ⊥
+      no_fault force m f among wrong = none_heard s.policy (calls_of before_event v) m f programs (subst (AreFaultless s.policy) (sym calls) (h.heard force)) among wrong
+
       for_fault : (x : Eject) → s.world.ejected ≡ None → (happened s v).state.world.ejected ≡ Some x → IsCause before_event v x
       for_fault x force out =
           let b = h.blamed x force out in
           let i = last_answered b.last.0 b.call (subst AreAnswered b.last.1 answered) in
-          let last : IsLast b.call (calls_of before_event v) = (b.last.0, ap (λ o. calls_if o before_event v) ok ∙ b.last.1) in
+          let last : IsLast b.call (calls_of before_event v) = (b.last.0, calls ∙ b.last.1) in
           subst (IsCause before_event v) (ap (λ k. cause.Fault b.fault k) now ∙ sym b.named) (Went_wrong b.call b.fault last (has_fault b.call b.fault i b.of (as_callback s.policy b.of b.call.program programs b.program) b.wrong))
 
   -- the clock: a callback as a task is let go, or the watchdog
@@ -170,29 +217,38 @@ module _ (s : State) (n : ℕ) where
           record { known = omega (arith, f.known, long.1); over = omega (arith, f.over, limit, long.2 t); least = λ u k. omega (arith, f.least u k, limit, long.2 u) }
 
       go : (o : Option ℕ) → overdue r ≡ o → AreAnswered (joined l (stalled o r)).calls → calls_of before_event Clock ≡ (joined l (stalled o r)).calls → EjectsOnce before_event Clock (record { state = (stalled o r).state; events = n + 1 })
-      go None e answers calls = record { stays = honest.stays; cause = λ x force out. for_fault x force out }
+      go None e answers calls = record { stays = honest.stays; cause = λ x force out. for_fault x force out; heard = λ force m f among wrong. no_fault force m f among wrong }
         where
+          all : calls_of before_event Clock ≡ l.calls
+          all = calls ∙ append-nil l.calls
+
+          no_fault : r.world.ejected ≡ None → (m : CallMade) (f : Fault) → IsAmong m (calls_of before_event Clock) → HasFault m f → ⊥
+          no_fault force m f among wrong = none_heard s.policy (calls_of before_event Clock) m f programs (subst (AreFaultless s.policy) (sym all) (honest.heard force)) among wrong
+
           for_fault : (x : Eject) → s.world.ejected ≡ None → r.world.ejected ≡ Some x → IsCause before_event Clock x
           for_fault x force out =
               let b = honest.blamed x force out in
-              let all : (joined l (stays r)).calls ≡ b.last.0 ++ b.call ∷ [] = append-nil l.calls ∙ b.last.1 in
-              let i = last_answered b.last.0 b.call (subst AreAnswered all answers) in
-              subst (IsCause before_event Clock) (sym b.named) (Went_wrong b.call b.fault (b.last.0, calls ∙ all) (has_fault b.call b.fault i b.of (as_callback s.policy b.of b.call.program programs b.program) b.wrong))
+              let i = last_answered b.last.0 b.call (subst AreAnswered (append-nil l.calls ∙ b.last.1) answers) in
+              subst (IsCause before_event Clock) (sym b.named) (Went_wrong b.call b.fault (b.last.0, all ∙ b.last.1) (has_fault b.call b.fault i b.of (as_callback s.policy b.of b.call.program programs b.program) b.wrong))
       go (Some t) e answers calls =
           let y = cause.Stall t r.world.clock in
           let late = is_late_in r t e in
           record {
             stays = λ x out. absurd (apart r.world.ejected x late.force (honest.stays x out));
+            heard = λ force. absurd (apart (eject r y).state.world.ejected y force (eject_sets r y).1);
             cause = λ x force out. subst (IsCause before_event Clock) (ap (λ k. cause.Stall t k) (sym honest.clock) ∙ same_eject (eject r y).state.world.ejected y x (eject_sets r y).1 out) (Waited t refl (found t late.first));
           }
 
   -- the law
   pub ejects_once : (v : Event) → refusal before_event v ≡ None → IsFineNow (length s.world.tasks) n n s.world → AreAs s.policy.callbacks → AreAnswered (happened s v).calls → EjectsOnce before_event v (after_event s n v)
-  ejects_once (Wake t) ok fine programs answered = honest_cause (Wake t) refl ok programs answered (honest_wake s t (omega (arith, fine.sound.here)))
-  ejects_once (Sleep t) ok fine programs answered = honest_cause (Sleep t) refl ok programs answered (honest_sleep s t)
-  ejects_once (Tick c) ok fine programs answered = honest_cause (Tick c) refl ok programs answered (honest_tick s c)
-  ejects_once Clock ok fine programs answered = clock_cause ok fine programs answered
-  ejects_once (SetWeight g x) ok fine programs answered = honest_cause (SetWeight g x) refl ok programs answered (honest_weight s g x _)
+  ejects_once v ok fine programs answered = go v (is_taken s v (accepted before_event v ok).taken) ok answered
+    where
+      go : (v : Event) → IsTaken s v → refusal before_event v ≡ None → AreAnswered (happened s v).calls → EjectsOnce before_event v (after_event s n v)
+      go _ (Wakes t within resting) ok answered = honest_cause (Wake t) refl ok programs answered (wake_is_honest s n fine t)
+      go _ (Sleeps t within runnable) ok answered = honest_cause (Sleep t) refl ok programs answered (sleep_is_honest s n fine t within)
+      go _ (Ticks c l) ok answered = honest_cause (Tick c) refl ok programs answered (tick_is_honest s n fine c l)
+      go _ Clocks ok answered = clock_cause ok fine programs answered
+      go _ (Weighs g x) ok answered = honest_cause (SetWeight g x) refl ok programs answered (weight_is_honest s n fine g x (accepted before_event (SetWeight g x) ok).taken)
 
 -- of a machine between two events
 pub step_cause : (s : State) (n : ℕ) (v : Event) → refusal (record { state = s; events = n }) v ≡ None → IsValid s n → AreAnswered (happened s v).calls → EjectsOnce (record { state = s; events = n }) v (record { state = (happened s v).state; events = n + 1 })

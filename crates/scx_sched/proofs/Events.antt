@@ -89,7 +89,7 @@ idle_is_free w c e = go (nat_lt c (length w.cpus)) (get_or w.cpus c None) (not (
     go true (Some t) d e = absurd (cc)
     go false o d e = absurd (cc)
 
-is_task : (t : ℕ) (o : Option ℕ) → is_this t o ≡ true → o ≡ Some t
+pub is_task : (t : ℕ) (o : Option ℕ) → is_this t o ≡ true → o ≡ Some t
 is_task t None e = absurd (cc)
 is_task t (Some u) e = let same : t ≡ u = grind (arith, nat_tests, e) in ap Some (sym same)
 

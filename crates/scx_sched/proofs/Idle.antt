@@ -41,7 +41,7 @@ use Rattle.scx_sched.proofs.Events.{cpus_used, IsKeptByTick, fine_inside, fine_e
 use Rattle.scx_sched.proofs.Firsts.{no_front_is_empty}
 use Rattle.scx_sched.proofs.Lengths.{len_set}
 use Rattle.scx_sched.proofs.Leaving.{IsOut, local_leave}
-use Rattle.scx_sched.proofs.Valid.{accepted}
+use Rattle.scx_sched.proofs.Deciding.{accepted}
 
 -- an accepted push makes its queue longer
 len_entered : (s : QueueState) (q t : ℕ) (r : Rank) → t < task_count s → push_refusal s q t r ≡ None → len_of (pushed s q t r) q ≡ len_of s q + 1

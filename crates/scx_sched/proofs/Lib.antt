@@ -27,7 +27,9 @@ pub mod Events
 pub mod First
 pub mod Leaving
 pub mod Blaming
+pub mod Deciding
 pub mod Watching
 pub mod Causing
+pub mod Following
 pub mod Valid
 pub mod Idle

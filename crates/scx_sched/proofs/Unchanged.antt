@@ -1,4 +1,5 @@
--- What no query of a program changes: the clock, whether the policy is in force, and the cycle under way.
+-- What no query of a program changes: the clock, whether the policy is in force, the cycle under way, and the tree of
+-- weights with who is runnable in it.
 use Rattle.std.proofs.Common.{◌≡◌, ℕ, zero, suc, nat_lt, List, length, map, Option, Some, None, refl}
 use Rattle.scx_dsq.specs.Queues.{front_of}
 use Rattle.scx_dsq.specs.Calls.{created}
@@ -21,7 +22,7 @@ use Rattle.scx_world.specs.declared.faults.Fault.{Fault}
 use Rattle.scx_world.specs.declared.faults.Fault.TheVariants.{NoSuchQueue, NoSuchCpu, CannotCreate}
 use Rattle.scx_world.specs.declared.eject.Eject.{Eject}
 use Rattle.scx_world.specs.World.{WorldState, with_queues, waits, running}
-use Rattle.scx_world.specs.Tasks.{gone, entered, for_cpu, brought, kept, put_parked, asleep}
+use Rattle.scx_world.specs.Tasks.{gone, entered, for_cpu, brought, kept, put_parked}
 use Rattle.scx_world.specs.Ejecting.{put_out, put_builtin, evicted, cut, cut_task}
 use Rattle.scx_world.specs.Helpers.{is_there, can_create, faulted, is_dispatch, insert_fault, with_insert, released, inserted, asked, asked_by_vtime, can_move, moved, given_number, given_task, helper_after, world_functions}
 use Rattle.scx_machine.specs.Steps.{State}
@@ -31,7 +32,7 @@ use Rattle.scx_sched.proofs.Entering.{keeps_if}
 
 -- from the first world to the second
 abbrev pub IsAsBefore : WorldState → WorldState → Type 0
-IsAsBefore v w = (w.clock ≡ v.clock) × (w.ejected ≡ v.ejected) × (w.cycling ≡ v.cycling)
+IsAsBefore v w = (w.clock ≡ v.clock) × (w.ejected ≡ v.ejected) × (w.cycling ≡ v.cycling) × (w.tree ≡ v.tree)
 
 module _ (v : WorldState) where
   pub same_entered : (w : WorldState) (t : ℕ) (i : Insert) → IsAsBefore v w → IsAsBefore v (entered w t i)
@@ -92,9 +93,9 @@ module _ (v : WorldState) where
 -- nor does a run
 pub same_called : (p : Option VerifiedProgram) (b : Callback) (a : Args) (maps : Maps) (w : WorldState) → IsAsBefore w (called p b a maps w).outside
 unfolding called run_of
-same_called None b a maps w = (refl, refl, refl)
+same_called None b a maps w = (refl, refl, refl, refl)
 same_called (Some p) b a maps w =
-    run_keeps (answer_to world_functions) (after_query world_functions) (IsAsBefore w) (same_query w) b p.code (suc (instruction_count p.code)) 0 (start.start (given a) maps) w (refl, refl, refl)
+    run_keeps (answer_to world_functions) (after_query world_functions) (IsAsBefore w) (same_query w) b p.code (suc (instruction_count p.code)) 0 (start.start (given a) maps) w (refl, refl, refl, refl)
 
 -- an ejection puts the policy out of force, and changes no more of these
 pub eject_sets : (s : State) (x : Eject) → IsAsBefore (put_out s.world x) (eject s x).state.world
@@ -102,17 +103,14 @@ unfolding eject moves_over
 eject_sets s x =
     let w = put_out s.world x in
     let v = evicted (length w.tasks) w in
-    same_cut w (length v.cpus) v (same_evicted w (length w.tasks) w (refl, refl, refl))
+    same_cut w (length v.cpus) v (same_evicted w (length w.tasks) w (refl, refl, refl, refl))
 
 -- ---- other small steps
 
 pub same_brought : (o : Option ℕ) (w : WorldState) (q c : ℕ) → IsAsBefore w (brought o w q c)
-same_brought None w q c = (refl, refl, refl)
-same_brought (Some t) w q c = (refl, refl, refl)
+same_brought None w q c = (refl, refl, refl, refl)
+same_brought (Some t) w q c = (refl, refl, refl, refl)
 
 pub same_kept : (w : WorldState) (o : Option ℕ) → IsAsBefore w (kept w o)
-same_kept w None = (refl, refl, refl)
-same_kept w (Some t) = (refl, refl, refl)
-
-pub same_asleep : (v w : WorldState) (t : ℕ) → IsAsBefore v w → IsAsBefore v (asleep w t)
-same_asleep v w t h = keeps_if (IsAsBefore v) (nat_lt t (length w.tasks)) _ w h h
+same_kept w None = (refl, refl, refl, refl)
+same_kept w (Some t) = (refl, refl, refl, refl)

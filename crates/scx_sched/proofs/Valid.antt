@@ -1,22 +1,18 @@
 -- What holds between two events holds at first, and after each accepted event.
-use Rattle.std.proofs.Common.{◌≡◌, ℕ, ◌+◌, ◌<◌, ◌≤◌, ◌^◌, Bool, true, false, ◌==◌, length, Option, Some, None, Ok, refl, sym, ◌∙◌, subst, arith, if◌then◌else◌}
+use Rattle.std.proofs.Common.{◌≡◌, ℕ, ◌+◌, ◌≤◌, ◌^◌, false, length, None, Ok, refl, sym, subst, arith}
 use Rattle.std.proofs.lemmas.Bool.Decides.{nat_tests}
 use Rattle.scx_weights.specs.Hierarchy.{Hierarchy}
 use Rattle.scx_world.specs.World.{WorldState}
-use Rattle.scx_world.specs.Tasks.{later, begun_periods}
 use Rattle.scx_machine.specs.declared.events.Event.{Event}
-use Rattle.scx_machine.specs.declared.events.Event.TheVariants.{Wake, Sleep, Tick, Clock, SetWeight}
-use Rattle.scx_machine.specs.declared.events.Refused.TheVariants.{RunOver}
 use Rattle.scx_machine.specs.Policy.{PolicyState, AreAs}
-use Rattle.scx_machine.specs.Steps.{State, with_world}
-use Rattle.scx_machine.specs.Parking.{let_all_go}
+use Rattle.scx_machine.specs.Steps.{State}
 use Rattle.scx_machine.specs.Events as machine
 use Rattle.scx_machine.specs.Start.{is_bad_shape, started}
 use Rattle.scx_sched.specs.Ranges.{IsFine}
 use Rattle.scx_sched.specs.Usages.{AreBounded}
-use Rattle.scx_sched.specs.Sim.{SimState, max_events, refusal, IsValid}
+use Rattle.scx_sched.specs.Sim.{refusal, IsValid}
 use Rattle.scx_sched.proofs.Bounded.{are_bounded}
-use Rattle.scx_sched.proofs.Blaming.{honest_wake, honest_sleep, honest_tick, honest_let_all_go, eject_policy}
+use Rattle.scx_sched.proofs.Deciding.{accepted, decides}
 use Rattle.scx_sched.proofs.Events.{fine_step}
 use Rattle.scx_sched.proofs.First.{fine_started, time_started, policy_started}
 use Rattle.scx_sched.proofs.Timely.{IsInTime}
@@ -39,47 +35,12 @@ valid_first p tree cpus t shape flags programs e few =
       fine = fine_with (length tree.homes) 0 t.world (subst (λ on. IsFine (length tree.homes) 0 0 None on t.world) (sym h.sound.cpus) h);
     }
 
-pub record IsAccepted (s : SimState) (v : Event) : Type 0 where
-  pub not_over : (s.events == max_events) ≡ false
-  pub taken : machine.refusal s.state v ≡ None
-
--- the laws of an accepted event
-pub accepted : (s : SimState) (v : Event) → refusal s v ≡ None → IsAccepted s v
-accepted s v e = go (s.events == max_events) refl e
-  where
-    go : (b : Bool) → (s.events == max_events) ≡ b → (if b then Some RunOver else machine.refusal s.state v) ≡ None → IsAccepted s v
-    go true x e = absurd (cc)
-    go false x e = record { not_over = x; taken = e }
-
--- the policy is the same
-
-policy_clock : (s : State) → (machine.clock s).state.policy ≡ s.policy
-unfolding machine.clock
-policy_clock s = go (machine.overdue r) ∙ (honest_let_all_go v).policy
-  where
-    v : State
-    v = with_world s (begun_periods (later s.world))
-
-    r : State
-    r = (let_all_go v).state
-
-    go : (o : Option ℕ) → (machine.stalled o r).state.policy ≡ r.policy
-    go None = refl
-    go (Some t) = eject_policy r _
-
-policy_stays : (s : State) (v : Event) → 0 < length s.world.cpus → (machine.happened s v).state.policy ≡ s.policy
-policy_stays s (Wake t) some = (honest_wake s t some).policy
-policy_stays s (Sleep t) some = (honest_sleep s t).policy
-policy_stays s (Tick c) some = (honest_tick s c).policy
-policy_stays s Clock some = policy_clock s
-policy_stays s (SetWeight g x) some = refl
-
 -- after each
 pub valid_step : (s : State) (n : ℕ) (v : Event) → refusal (record { state = s; events = n }) v ≡ None → IsValid s n → (machine.happened s v).state.world.queues.pushes ≤ s.world.queues.pushes + 2 ^ 19 → IsValid (machine.happened s v).state (n + 1)
 valid_step s n v e h few =
     let a = accepted (record { state = s; events = n }) v e in
     let t = (machine.happened s v).state in
-    let same : t.policy ≡ s.policy = policy_stays s v (omega (arith, h.fine.sound.here)) in
+    let same : t.policy ≡ s.policy = (decides s n v a.taken h.fine).policy in
     let time = time_step s.policy.timeout_ms (length s.world.tasks) n s v refl a.taken refl h.fine h.timely in
     record {
       over = grind (arith, nat_tests, a.not_over, h.over);

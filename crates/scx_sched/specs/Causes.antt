@@ -1,7 +1,8 @@
 -- Ejected for a cause: a policy is put out of force because a task waited too long, or because a callback
--- that really ran had a fault; once, and for good.
+-- that really ran had a fault; once, and for good. And wherever a callback has a fault, it is.
 use Rattle.std.specs.Prelude.{◌≡◌, ℕ, ◌+◌, ◌≤◌, List, [], ◌∷◌, ◌++◌, length, Some, None}
 use Rattle.scx_semantics.specs.declared.callbacks.Callback.TheVariants.{SelectCpu}
+use Rattle.scx_semantics.specs.Code.{instruction_count}
 use Rattle.scx_semantics.specs.Elements.{Maps}
 use Rattle.scx_semantics.specs.Runs.{Runs}
 use Rattle.scx_vm.specs.Arguments.{given}
@@ -19,11 +20,12 @@ use Rattle.scx_machine.specs.declared.events.Event.TheVariants.{Wake, Sleep, Tic
 use Rattle.scx_machine.specs.Steps.{CallMade}
 use Rattle.scx_sched.specs.Sim.{SimState, calls_of}
 
--- the program comes to that answer, and to that world
+-- the program comes to that answer and to that world, in no more steps than it has instructions
 pub record EndsIn (m : CallMade) (answer : ℕ) (w : WorldState) : Type 0 where
   pub steps : ℕ
   pub maps : Maps
   pub run : Runs (host world_functions) m.program.context.callback m.program.code (given m.arguments) m.maps m.world answer steps maps w
+  pub in_bound : steps ≤ instruction_count m.program.code
 
 -- a callback with that fault: of its first helper call that has one, or else of its answer
 pub data HasFault (m : CallMade) (f : Fault) : Type 0 where
@@ -32,6 +34,10 @@ pub data HasFault (m : CallMade) (f : Fault) : Type 0 where
 
 abbrev pub IsLast : CallMade → List CallMade → Type 0
 IsLast m calls = (before : List CallMade) × (calls ≡ before ++ m ∷ [])
+
+-- one of the calls
+abbrev pub IsAmong : CallMade → List CallMade → Type 0
+IsAmong m calls = (before : List CallMade) × (after : List CallMade) × (calls ≡ before ++ m ∷ after)
 
 -- the clock by which things happen in an event: that of the clock comes once it has grown
 abbrev pub clock_in : SimState → Event → ℕ
@@ -50,3 +56,5 @@ pub data IsCause (s : SimState) (e : Event) : Eject → Type 0 where
 pub record EjectsOnce (s : SimState) (e : Event) (t : SimState) : Type 0 where
   pub stays : (x : Eject) → s.state.world.ejected ≡ Some x → t.state.world.ejected ≡ Some x
   pub cause : (x : Eject) → s.state.world.ejected ≡ None → t.state.world.ejected ≡ Some x → IsCause s e x
+  -- no callback has a fault after which the policy is in force
+  pub heard : t.state.world.ejected ≡ None → (m : CallMade) (f : Fault) → IsAmong m (calls_of s e) → HasFault m f → ⊥

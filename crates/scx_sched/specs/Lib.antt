@@ -9,5 +9,6 @@ pub mod Places
 pub mod Left
 pub mod Over
 pub mod Causes
+pub mod Decided
 pub mod Accepted
 pub mod Laws

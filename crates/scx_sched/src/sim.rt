@@ -1,11 +1,14 @@
-ghost use Rattle.std.specs.Prelude.{◌≡◌, ℕ, ◌<◌, ◌≤◌, ◌^◌, length, None, IfOk, IfErr, OnOk, OnErr};
+ghost use Rattle.std.specs.Prelude.{◌≡◌, ℕ, ◌<◌, ◌≤◌, ◌^◌, false, length, None, IfOk, IfErr, OnOk, OnErr};
 ghost use Rattle.scx_weights.specs.Limits.{usage_of};
 ghost use Rattle.scx_world.specs.World.{task_at, is_runnable, running, wait};
 ghost use Rattle.scx_machine.specs.Notes.{Takes};
 ghost use Rattle.scx_machine.specs.Callbacks.{AreAnswered};
-ghost use Rattle.scx_machine.specs.Start.{IsRefusal, start_calls, AreAnsweredBefore};
+ghost use Rattle.scx_machine.specs.Policy.{AreAs};
+ghost use Rattle.scx_machine.specs.Start.{is_bad_shape, IsRefusal, start_calls, AreAnsweredBefore};
 ghost use Rattle.scx_sched.specs.Causes.{EjectsOnce};
+ghost use Rattle.scx_sched.specs.Decided.{EventsDecide};
 ghost use Rattle.scx_sched.specs.Left.{LeavesNothingIdle};
+ghost use Rattle.scx_sched.specs.Ranges.{IsFresh};
 ghost use Rattle.scx_sched.specs.Usages.{AreBounded};
 ghost use Rattle.scx_sched.specs.Waits.{IsTimely, HasWaits};
 ghost use Rattle.scx_sched.specs.Once.{IsOnce};
@@ -48,6 +51,8 @@ impl Sim {
     /// task.
     pub fn new(alloc: Global, policy: Policy, tree: Tree, cpus: u32) -> Result<Sim, NewError>
         ensures first { IfOk result (IsFirst policy tree cpus) }
+        ensures shape { OnOk result (is_bad_shape tree cpus ≡ false) }
+        ensures programs { OnOk result (AreAs policy.callbacks) }
         ensures in_force { IfOk result (λ sim. sim.state.world.ejected ≡ None) }
         ensures refused { IfErr result (IsRefusal policy tree cpus) }
         ensures answered { OnOk result (AreAnswered (start_calls policy tree cpus)) }
@@ -68,7 +73,7 @@ impl Sim {
     }
 
     /// One event, with all that it causes. One that isn't accepted changes nothing, and has no notes.
-    #[tactic(auto, using(crate::proofs::Valid::valid_step, crate::proofs::Idle::step_leaves, crate::proofs::Causing::step_cause))]
+    #[tactic(auto, using(crate::proofs::Valid::valid_step, crate::proofs::Idle::step_leaves, crate::proofs::Causing::step_cause, crate::proofs::Deciding::step_decides))]
     pub fn step<S: Sink>(&mut self, event: Event, sink: &mut S) -> Result<(), Refused>
         ensures answer { result ≡ answer_of (refusal self.old event) }
         ensures state { self.new ≡ stepped self.old event }
@@ -79,6 +84,7 @@ impl Sim {
         ensures timely { IsTimely self.new.state }
         ensures bounded { AreBounded self.new.state.world }
         ensures cause { OnOk result (EjectsOnce self.old event self.new) }
+        ensures decided { OnOk result (EventsDecide self.old event self.new) }
         ensures idle { OnOk result (LeavesNothingIdle event self.new.state.world) }
     {
         if let Some(refused) = self.refusal(event) {
@@ -92,8 +98,9 @@ impl Sim {
     /// What holds between two events: each runnable task is in one place, and no other task anywhere; a task
     /// has a wait where it is in a queue and not parked, and no longer one than a policy in force may let it
     /// have; no group with a quota has used as much as that and one millisecond for each processor in its
-    /// period; the times of the built-in scheduler are far from where they would be cut off; and no
-    /// scheduling cycle is under way. The function does nothing: its contract is the law.
+    /// period; the times of the built-in scheduler are far from where they would be cut off, and 0 until it
+    /// begins; stamps of queues are far from theirs; no scheduling cycle is under way; and each program of the
+    /// policy was verified as its callback. The function does nothing: its contract is the law.
     #[tactic(auto, using(crate::proofs::Bounded::are_bounded))]
     pub fn is_sound(&self)
         ensures once { IsOnce None self.now.state.world }
@@ -102,6 +109,9 @@ impl Sim {
         ensures bounded { AreBounded self.now.state.world }
         ensures times { (t : ℕ) → (task_at self.now.state.world t).builtin < 2 ^ 63 }
         ensures still { self.now.state.world.cycling ≡ None }
+        ensures fresh { self.now.state.world.ejected ≡ None → IsFresh self.now.state.world }
+        ensures stamps { self.now.state.world.queues.pushes < 2 ^ 52 }
+        ensures programs { AreAs self.now.state.policy.callbacks }
     {
         let _events = self.events;
     }

@@ -1,0 +1,126 @@
+-- What events alone decide: the clock, who is runnable, the weights and what was used of quotas. No callback and no cycle
+-- changes these.
+use Rattle.std.proofs.Common.{◌≡◌, ℕ, ◌+◌, ◌<◌, Bool, true, false, ◌==◌, nat_lt, nat_le, if◌then◌else◌, List, [], length, set, get_or, Option, Some, None, refl, sym, ap, subst, ◌∙◌, arith}
+use Rattle.std.proofs.lemmas.Bool.Decides.{nat_tests}
+use Rattle.std.proofs.lemmas.List.{length-set}
+use Rattle.std.proofs.lemmas.List.Quantifiers.{position-Some}
+use Rattle.scx_weights.specs.Hierarchy.{Hierarchy}
+use Rattle.scx_weights.specs.Refusals.{max_weight, is_outside, weight_fault}
+use Rattle.scx_world.specs.declared.eject.Eject.{Eject}
+use Rattle.scx_world.specs.declared.eject.Eject.TheVariants as cause
+use Rattle.scx_world.specs.World.{is_this, cpu_of}
+use Rattle.scx_world.specs.Tasks.{stopped, later, begun_periods}
+use Rattle.scx_machine.specs.declared.events.Event.{Event}
+use Rattle.scx_machine.specs.declared.events.Event.TheVariants.{Wake, Sleep, Tick, Clock, SetWeight}
+use Rattle.scx_machine.specs.declared.events.Refused.TheVariants.{UnknownGroup, BadWeight, RunOver}
+use Rattle.scx_machine.specs.Steps.{State, Stepped, with_world, joined}
+use Rattle.scx_machine.specs.Parking.{let_all_go}
+use Rattle.scx_machine.specs.Events.{overdue, stalled, clock, happened}
+use Rattle.scx_machine.specs.Events as machine
+use Rattle.scx_sched.specs.Sim.{SimState, max_events, refusal, calls_if, IsValid}
+use Rattle.scx_sched.specs.Ranges.{IsFine}
+use Rattle.scx_sched.specs.Decided.{clock_after, tree_after, EventsDecide}
+use Rattle.scx_sched.proofs.Unchanged.{eject_sets}
+use Rattle.scx_sched.proofs.Fine.{fine_steps}
+use Rattle.scx_sched.proofs.Skeleton.{keeps_stopping}
+use Rattle.scx_sched.proofs.Events.{IsFineNow, IsTaken, Wakes, Sleeps, Ticks, Clocks, Weighs, is_task, is_taken, known_running}
+use Rattle.scx_sched.proofs.Blaming.{IsHonest, state_with_tree, stopped_for_sleep, none_of, eject_policy, eject_calls, honest_wake, honest_sleep, honest_tick, honest_weight, honest_let_all_go}
+
+pub record IsAccepted (s : SimState) (v : Event) : Type 0 where
+  pub not_over : (s.events == max_events) ≡ false
+  pub taken : machine.refusal s.state v ≡ None
+
+-- the laws of an accepted event
+pub accepted : (s : SimState) (v : Event) → refusal s v ≡ None → IsAccepted s v
+accepted s v e = go (s.events == max_events) refl e
+  where
+    go : (b : Bool) → (s.events == max_events) ≡ b → (if b then Some RunOver else machine.refusal s.state v) ≡ None → IsAccepted s v
+    go true x e = absurd (cc)
+    go false x e = record { not_over = x; taken = e }
+
+-- the weight of an accepted event can be set
+can_set : (h : Hierarchy) (g x : ℕ) → (if nat_lt g (length h.groups) then (if is_outside max_weight x then Some BadWeight else None) else Some UnknownGroup) ≡ None → weight_fault h g x ≡ None
+can_set h g x e = go (nat_lt g (length h.groups)) (is_outside max_weight x) refl refl e
+  where
+    go : (a b : Bool) → nat_lt g (length h.groups) ≡ a → is_outside max_weight x ≡ b → (if a then (if b then Some BadWeight else None) else Some UnknownGroup) ≡ None → weight_fault h g x ≡ None
+    go true false y z f = let known : nat_le (length h.groups) g ≡ false = grind (arith, nat_tests, y) in rw (known, z) refl
+    go true true y z f = absurd (cc)
+    go false b y z f = absurd (cc)
+
+-- what happened is honest, but for the tree that the event makes
+abbrev pub IsHonestEvent : State → Event → Type 0
+IsHonestEvent s v = IsHonest (state_with_tree s (tree_after v s.world)) (happened s v)
+
+module _ (s : State) (n : ℕ) (fine : IsFineNow (length s.world.tasks) n n s.world) where
+  abbrev many : ℕ
+  many = length s.world.tasks
+
+  -- who stops to sleep is still there
+  still_known : (t c : ℕ) → t < many → cpu_of s.world t ≡ Some c → t < length (stopped_for_sleep s t c).state.world.tasks
+  still_known t c within at =
+      let x = position-Some (is_this t) s.world.cpus c None at in
+      let on : List (Option ℕ) = set s.world.cpus c None in
+      let gone : IsFine many n n (Some t) on (stopped s.world c t) = (fine_steps many n).stopped n s.world.cpus s.world c t x.0 within (is_task t (get_or s.world.cpus c None) x.1) fine in
+      let off : IsFine many n (n + 1) (Some t) on (stopped_for_sleep s t c).state.world =
+      keeps_stopping many (IsFine many n) (fine_steps many n) n (Some t) on (with_world s (stopped s.world c t)) c t 0 (rw (length-set s.world.cpus c None) x.0) gone in
+      subst (λ k. t < k) (sym off.sound.tasks) within
+
+  pub wake_is_honest : (t : ℕ) → IsHonestEvent s (Wake t)
+  wake_is_honest t = honest_wake s t (omega (arith, fine.sound.here))
+
+  pub sleep_is_honest : (t : ℕ) → t < many → IsHonestEvent s (Sleep t)
+  sleep_is_honest t within = honest_sleep s t within (λ c at. still_known t c within at)
+
+  pub tick_is_honest : (c : ℕ) → c < length s.world.cpus → IsHonestEvent s (Tick c)
+  tick_is_honest c l = honest_tick s c (λ t at. known_running many n n s.world c t l at fine)
+
+  pub weight_is_honest : (g x : ℕ) → machine.refusal s (SetWeight g x) ≡ None → IsHonestEvent s (SetWeight g x)
+  weight_is_honest g x ok = honest_weight s g x _ (can_set s.world.tree g x ok)
+
+-- of an accepted event
+pub record IsDecided (e : Event) (s : State) (r : Stepped) : Type 0 where
+  pub clock : r.state.world.clock ≡ clock_after e s.world.clock
+  pub tree : r.state.world.tree ≡ tree_after e s.world
+  pub policy : r.state.policy ≡ s.policy
+  pub silent : (x : Eject) → s.world.ejected ≡ Some x → r.calls ≡ []
+
+-- the clock: tasks are let go, and the watchdog looks
+clock_decides : (s : State) → IsDecided Clock s (clock s)
+unfolding clock
+clock_decides s = go (overdue r.state)
+  where
+    v : State
+    v = with_world s (begun_periods (later s.world))
+
+    r : Stepped
+    r = let_all_go v
+
+    h : IsHonest v r
+    h = honest_let_all_go v
+
+    go : (o : Option ℕ) → IsDecided Clock s (joined r (stalled o r.state))
+    go None = record { clock = h.clock; tree = h.tree; policy = h.policy; silent = λ x out. none_of r.calls [] (h.silent x out) refl }
+    go (Some t) =
+        let y = cause.Stall t r.state.world.clock in
+        let sets = eject_sets r.state y in
+        record { clock = sets.0 ∙ h.clock; tree = sets.3 ∙ h.tree; policy = eject_policy r.state y ∙ h.policy; silent = λ x out. none_of r.calls (stalled (Some t) r.state).calls (h.silent x out) (eject_calls r.state y) }
+
+decided : (v : Event) (s : State) → IsHonestEvent s v → clock_after v s.world.clock ≡ s.world.clock → IsDecided v s (happened s v)
+decided v s h now = record { clock = h.clock ∙ sym now; tree = h.tree; policy = h.policy; silent = h.silent }
+
+pub decides : (s : State) (n : ℕ) (v : Event) → machine.refusal s v ≡ None → IsFineNow (length s.world.tasks) n n s.world → IsDecided v s (happened s v)
+decides s n v ok fine = go v (is_taken s v ok) ok
+  where
+    go : (v : Event) → IsTaken s v → machine.refusal s v ≡ None → IsDecided v s (happened s v)
+    go _ (Wakes t within resting) ok = decided (Wake t) s (wake_is_honest s n fine t) refl
+    go _ (Sleeps t within runnable) ok = decided (Sleep t) s (sleep_is_honest s n fine t within) refl
+    go _ (Ticks c l) ok = decided (Tick c) s (tick_is_honest s n fine c l) refl
+    go _ Clocks ok = clock_decides s
+    go _ (Weighs g x) ok = decided (SetWeight g x) s (weight_is_honest s n fine g x ok) refl
+
+-- of a machine between two events
+pub step_decides : (s : State) (n : ℕ) (v : Event) → refusal (record { state = s; events = n }) v ≡ None → IsValid s n → EventsDecide (record { state = s; events = n }) v (record { state = (happened s v).state; events = n + 1 })
+step_decides s n v ok h =
+    let before : SimState = record { state = s; events = n } in
+    let d = decides s n v (accepted before v ok).taken h.fine in
+    record { clock = d.clock; tree = d.tree; policy = d.policy; silent = λ x out. ap (λ o. calls_if o before v) ok ∙ d.silent x out; counted = refl }

@@ -1,0 +1,46 @@
+-- What events alone decide, whatever callbacks do: the clock, who is runnable, the weights of groups and what they have
+-- used of their quotas. The policy stays the one that it was, and once it is ejected none of it is called.
+use Rattle.std.specs.Prelude.{◌≡◌, ℕ, ◌+◌, true, false, [], Option, Some, None}
+use Rattle.scx_weights.specs.Hierarchy.{Hierarchy, with_task, with_weight}
+use Rattle.scx_weights.specs.Limits.{with_use, with_turn}
+use Rattle.scx_world.specs.declared.eject.Eject.{Eject}
+use Rattle.scx_world.specs.World.{WorldState, running}
+use Rattle.scx_machine.specs.declared.events.Event.{Event}
+use Rattle.scx_machine.specs.declared.events.Event.TheVariants.{Wake, Sleep, Tick, Clock, SetWeight}
+use Rattle.scx_machine.specs.declared.events.Refused.{Refused}
+use Rattle.scx_sched.specs.Causes.{EjectsOnce}
+use Rattle.scx_sched.specs.Sim.{SimState, calls_of}
+
+-- the clock grows by a millisecond at its own event, and at no other
+abbrev pub clock_after : Event → ℕ → ℕ
+clock_after Clock n = n + 1
+clock_after (Wake t) n = n
+clock_after (Sleep t) n = n
+clock_after (Tick c) n = n
+clock_after (SetWeight g x) n = n
+
+-- whoever runs has used a millisecond
+abbrev pub used_at_tick : Option ℕ → Hierarchy → Hierarchy
+used_at_tick None h = h
+used_at_tick (Some t) h = with_use h t
+
+-- a task is runnable from a wake on until it sleeps; periods of quotas begin with the clock
+abbrev pub tree_after : Event → WorldState → Hierarchy
+tree_after (Wake t) w = with_task w.tree t true
+tree_after (Sleep t) w = with_task w.tree t false
+tree_after (Tick c) w = used_at_tick (running w c) w.tree
+tree_after Clock w = with_turn w.tree (w.clock + 1)
+tree_after (SetWeight g x) w = with_weight w.tree g x
+
+-- from before an accepted event to after it
+pub record EventsDecide (s : SimState) (e : Event) (t : SimState) : Type 0 where
+  pub clock : t.state.world.clock ≡ clock_after e s.state.world.clock
+  pub tree : t.state.world.tree ≡ tree_after e s.state.world
+  pub policy : t.state.policy ≡ s.state.policy
+  pub silent : (x : Eject) → s.state.world.ejected ≡ Some x → calls_of s e ≡ []
+  pub counted : t.events ≡ s.events + 1
+
+-- from before any event to after it: one that is refused changes nothing
+abbrev pub Follows : Option Refused → SimState → Event → SimState → Type 0
+Follows None s e t = EventsDecide s e t × EjectsOnce s e t
+Follows (Some r) s e t = t ≡ s
