@@ -7,12 +7,13 @@ use Rattle.scx_machine.specs.declared.events.Event.{Event}
 use Rattle.scx_machine.specs.Notes.{Takes}
 use Rattle.scx_machine.specs.Callbacks.{AreAnswered}
 use Rattle.scx_machine.proofs.Taking.{Takes-append, answered_append}
-use Rattle.scx_sched.specs.Sim.{SimState, stepped, notes_of, calls_of}
+use Rattle.scx_sched.specs.Sim.{SimState, refusal, stepped, notes_of, calls_of}
+use Rattle.scx_sched.specs.Decided.{Follows}
 use Rattle.scx_sched.specs.Once.{IsOnce}
 use Rattle.scx_sched.specs.Waits.{IsTimely, HasWaits}
 use Rattle.scx_sched.specs.Usages.{AreBounded}
 use Rattle.scx_driver.specs.Runs.{stepped_all, notes_of_all}
-use Rattle.scx_headline.specs.Headline.{states_from, calls_of_all}
+use Rattle.scx_headline.specs.Headline.{states_from, calls_of_all, EachFollows}
 
 abbrev pub AreOnce : List SimState → Type 0
 AreOnce = AllByRecursion (λ s. IsOnce None s.state.world)
@@ -26,6 +27,11 @@ AreTimely = AllByRecursion (λ s. IsTimely s.state)
 abbrev pub AreAllBounded : List SimState → Type 0
 AreAllBounded = AllByRecursion (λ s. AreBounded s.state.world)
 
+-- one event before others
+pub follows_before : (s : SimState) (e : Event) (rest : List Event) → Follows (refusal s e) s e (stepped s e) → EachFollows rest (states_from (stepped s e) rest) → EachFollows (e ∷ rest) (states_from s (e ∷ rest))
+follows_before s e [] one more = (one, tt)
+follows_before s e (f ∷ es) one more = (one, more)
+
 -- from that state and sink, and those events on
 pub record IsOnItsWay {S : Type 0} (takes : S → Note → S → Type 0) (events : List Event) (s : SimState) (a : S) (rest : List Event) (t : SimState) (b : S) : Type 0 where
   pub state : stepped_all t rest ≡ stepped_all s events
@@ -35,6 +41,7 @@ pub record IsOnItsWay {S : Type 0} (takes : S → Note → S → Type 0) (events
   pub counted : AreCounted (states_from t rest) → AreCounted (states_from s events)
   pub timely : AreTimely (states_from t rest) → AreTimely (states_from s events)
   pub bounded : AreAllBounded (states_from t rest) → AreAllBounded (states_from s events)
+  pub follows : EachFollows rest (states_from t rest) → EachFollows events (states_from s events)
   pub now_once : IsOnce None t.state.world
   pub now_counted : HasWaits None t.state.world
   pub now_timely : IsTimely t.state
@@ -42,9 +49,9 @@ pub record IsOnItsWay {S : Type 0} (takes : S → Note → S → Type 0) (events
 
 -- one event further
 on_further : {S : Type 0} (takes : S → Note → S → Type 0) (events : List Event) (s : SimState) (a : S) (e : Event) (rest : List Event) (t : SimState) (b c : S)
-    → IsOnItsWay takes events s a (e ∷ rest) t b → Takes takes b (notes_of t e) c → AreAnswered (calls_of t e) → IsOnce None (stepped t e).state.world → HasWaits None (stepped t e).state.world → IsTimely (stepped t e).state → AreBounded (stepped t e).state.world
+    → IsOnItsWay takes events s a (e ∷ rest) t b → Takes takes b (notes_of t e) c → AreAnswered (calls_of t e) → IsOnce None (stepped t e).state.world → HasWaits None (stepped t e).state.world → IsTimely (stepped t e).state → AreBounded (stepped t e).state.world → Follows (refusal t e) t e (stepped t e)
     → IsOnItsWay takes events s a rest (stepped t e) c
-on_further takes events s a e rest t b c h noted answered once counted timely bounded = record {
+on_further takes events s a e rest t b c h noted answered once counted timely bounded follows = record {
   state = h.state;
   notes = λ z more. h.notes z (Takes-append takes b c z (notes_of t e) (notes_of_all (stepped t e) rest) noted more);
   answered = λ more. h.answered (answered_append (calls_of t e) (calls_of_all (stepped t e) rest) answered more);
@@ -52,6 +59,7 @@ on_further takes events s a e rest t b c h noted answered once counted timely bo
   counted = λ more. h.counted (h.now_counted, more);
   timely = λ more. h.timely (h.now_timely, more);
   bounded = λ more. h.bounded (h.now_bounded, more);
+  follows = λ more. h.follows (follows_before t e rest follows more);
   now_once = once;
   now_counted = counted;
   now_timely = timely;
@@ -60,16 +68,16 @@ on_further takes events s a e rest t b c h noted answered once counted timely bo
 
 -- the same, where the rest and the state are known by other names
 pub gone_further : {S : Type 0} (takes : S → Note → S → Type 0) (events : List Event) (s : SimState) (a : S) (e : Event) (was rest : List Event) (t u : SimState) (b c : S)
-    → IsOnItsWay takes events s a was t b → was ≡ e ∷ rest → u ≡ stepped t e → Takes takes b (notes_of t e) c → AreAnswered (calls_of t e) → IsOnce None u.state.world → HasWaits None u.state.world → IsTimely u.state → AreBounded u.state.world
+    → IsOnItsWay takes events s a was t b → was ≡ e ∷ rest → u ≡ stepped t e → Takes takes b (notes_of t e) c → AreAnswered (calls_of t e) → IsOnce None u.state.world → HasWaits None u.state.world → IsTimely u.state → AreBounded u.state.world → Follows (refusal t e) t e (stepped t e)
     → IsOnItsWay takes events s a rest u c
-gone_further {S} takes events s a e was rest t u b c h next state noted answered once counted timely bounded =
+gone_further {S} takes events s a e was rest t u b c h next state noted answered once counted timely bounded follows =
     let P : List Event → Type 0 = λ es. IsOnItsWay takes events s a es t b in
     let Q : SimState → Type 0 = λ x. IsOnItsWay takes events s a rest x c in
     let O : SimState → Type 0 = λ x. IsOnce None x.state.world in
     let C : SimState → Type 0 = λ x. HasWaits None x.state.world in
     let T : SimState → Type 0 = λ x. IsTimely x.state in
     let B : SimState → Type 0 = λ x. AreBounded x.state.world in
-    subst Q (sym state) (on_further takes events s a e rest t b c (subst P next h) noted answered (subst O state once) (subst C state counted) (subst T state timely) (subst B state bounded))
+    subst Q (sym state) (on_further takes events s a e rest t b c (subst P next h) noted answered (subst O state once) (subst C state counted) (subst T state timely) (subst B state bounded) follows)
 
 -- all of it
 pub record HasGone {S : Type 0} (takes : S → Note → S → Type 0) (events : List Event) (s : SimState) (a : S) (t : SimState) (b : S) : Type 0 where
@@ -80,10 +88,11 @@ pub record HasGone {S : Type 0} (takes : S → Note → S → Type 0) (events : 
   pub counted : AreCounted (states_from s events)
   pub timely : AreTimely (states_from s events)
   pub bounded : AreAllBounded (states_from s events)
+  pub follows : EachFollows events (states_from s events)
 
 gone_all : {S : Type 0} (takes : S → Note → S → Type 0) (events : List Event) (s : SimState) (a : S) (t : SimState) (b : S) → IsOnItsWay takes events s a [] t b → HasGone takes events s a t b
 gone_all takes events s a t b h =
-    record { state = h.state; notes = h.notes b refl; answered = h.answered tt; once = h.once (h.now_once, tt); counted = h.counted (h.now_counted, tt); timely = h.timely (h.now_timely, tt); bounded = h.bounded (h.now_bounded, tt) }
+    record { state = h.state; notes = h.notes b refl; answered = h.answered tt; once = h.once (h.now_once, tt); counted = h.counted (h.now_counted, tt); timely = h.timely (h.now_timely, tt); bounded = h.bounded (h.now_bounded, tt); follows = h.follows tt }
 
 pub gone_through : {S : Type 0} (takes : S → Note → S → Type 0) (events : List Event) (s : SimState) (a : S) (rest : List Event) (t : SimState) (b : S) → IsOnItsWay takes events s a rest t b → rest ≡ [] → HasGone takes events s a t b
 gone_through takes events s a rest t b h end =
@@ -93,4 +102,4 @@ gone_through takes events s a rest t b h end =
 -- before the first event
 pub gone_nowhere : {S : Type 0} (takes : S → Note → S → Type 0) (events : List Event) (s : SimState) (a : S) → IsOnce None s.state.world → HasWaits None s.state.world → IsTimely s.state → AreBounded s.state.world → IsOnItsWay takes events s a events s a
 gone_nowhere takes events s a once counted timely bounded =
-    record { state = refl; notes = λ z more. more; answered = λ more. more; once = λ more. more; counted = λ more. more; timely = λ more. more; bounded = λ more. more; now_once = once; now_counted = counted; now_timely = timely; now_bounded = bounded }
+    record { state = refl; notes = λ z more. more; answered = λ more. more; once = λ more. more; counted = λ more. more; timely = λ more. more; bounded = λ more. more; follows = λ more. more; now_once = once; now_counted = counted; now_timely = timely; now_bounded = bounded }

@@ -1,5 +1,5 @@
 -- The whole run of a machine, from its first state on.
-use Rattle.std.proofs.Common.{◌≡◌, ℕ, ◌≤◌, List, [], ◌∷◌, None, is_some, Bool, true, false, ◌||◌, refl, sym, ap, subst, ◌∙◌, arith}
+use Rattle.std.proofs.Common.{◌≡◌, ℕ, ◌≤◌, List, [], ◌∷◌, Option, None, Some, is_some, Bool, true, false, ◌||◌, refl, sym, ap, subst, ◌∙◌, arith}
 use Rattle.std.specs.List.{AllByRecursion}
 use Rattle.scx_dsq.specs.Laws.{one_if}
 use Rattle.scx_weights.specs.Hierarchy.{Hierarchy}
@@ -11,14 +11,15 @@ use Rattle.scx_machine.specs.Policy.{PolicyState}
 use Rattle.scx_machine.specs.Callbacks.{AreAnswered}
 use Rattle.scx_machine.specs.Start.{start_calls}
 use Rattle.scx_machine.proofs.Taking.{answered_append}
-use Rattle.scx_sched.specs.Sim.{SimState, stepped, IsFirst}
+use Rattle.scx_machine.specs.declared.events.Refused.{Refused}
+use Rattle.scx_sched.specs.Sim.{SimState, refusal, stepped, IsFirst}
+use Rattle.scx_sched.specs.Decided.{Follows}
 use Rattle.scx_sched.specs.Once.{appearances, IsOnce}
 use Rattle.scx_sched.specs.Waits.{IsTimely, HasWaits}
 use Rattle.scx_sched.proofs.First.{policy_started}
 use Rattle.scx_driver.specs.Runs.{stepped_all, notes_of_all}
-use Rattle.scx_headline.specs.Headline.{Run, states_from, calls_of_all, run_from, run_if, machine_run, IsLast, IsRecorded, NoneIsStuck, EachIsOnce, EachWaitIsCounted, NoneIsLate, EachUsageIsBounded}
+use Rattle.scx_headline.specs.Headline.{Run, states_from, calls_of_all, run_from, run_if, machine_run, IsLast, IsRecorded, NoneIsStuck, EachIsOnce, EachWaitIsCounted, NoneIsLate, EachUsageIsBounded, EachFollows}
 use Rattle.scx_headline.proofs.Going.{AreOnce, AreCounted, AreTimely, AreAllBounded}
-use Rattle.scx_headline.proofs.Policies.{policy_stays}
 
 -- ---- the states
 
@@ -58,9 +59,21 @@ in_time p s same h =
     let P : PolicyState → Type 0 = λ q. InTime q.timeout_ms s in
     subst P same h
 
-all_in_time : (p : PolicyState) (s : SimState) (events : List Event) → s.state.policy ≡ p → AreTimely (states_from s events) → AllByRecursion (InTime p.timeout_ms) (states_from s events)
-all_in_time p s [] same h = (in_time p s same h.0, tt)
-all_in_time p s (e ∷ es) same h = (in_time p s same h.0, all_in_time p (stepped s e) es (policy_stays s e ∙ same) h.1)
+-- whatever follows, the policy stays
+policy_stays : (o : Option Refused) (s : SimState) (e : Event) (t : SimState) → Follows o s e t → t.state.policy ≡ s.state.policy
+policy_stays None s e t h = h.0.policy
+policy_stays (Some r) s e t h = ap (λ (x : SimState). x.state.policy) h
+
+all_in_time : (p : PolicyState) (events : List Event) (s : SimState) (states : List SimState) → s.state.policy ≡ p → EachFollows events (s ∷ states) → AreTimely (s ∷ states) → AllByRecursion (InTime p.timeout_ms) (s ∷ states)
+all_in_time p [] s [] same follows h = (in_time p s same h.0, tt)
+all_in_time p [] s (t ∷ ss) same follows h = absurd follows
+all_in_time p (e ∷ es) s [] same follows h = absurd follows
+all_in_time p (e ∷ es) s (t ∷ ss) same follows h = (in_time p s same h.0, all_in_time p es t ss (policy_stays (refusal s e) s e t follows.0 ∙ same) follows.1 h.1)
+
+-- of the states from that one on
+in_time_from : (p : PolicyState) (s : SimState) (events : List Event) → s.state.policy ≡ p → EachFollows events (states_from s events) → AreTimely (states_from s events) → AllByRecursion (InTime p.timeout_ms) (states_from s events)
+in_time_from p s [] same follows h = all_in_time p [] s [] same follows h
+in_time_from p s (e ∷ es) same follows h = all_in_time p (e ∷ es) s (states_from (stepped s e) es) same follows h
 
 -- ---- the run
 
@@ -96,10 +109,13 @@ module _ (p : PolicyState) (tree : Hierarchy) (cpus : ℕ) (events : List Event)
   pub run_counted : AreCounted (states_from s events) → EachWaitIsCounted (machine_run p tree cpus events)
   run_counted h = subst EachWaitIsCounted is_machine_run (all_counted (states_from s events) h)
 
-  pub run_timely : AreTimely (states_from s events) → NoneIsLate p.timeout_ms (machine_run p tree cpus events)
-  run_timely h =
+  pub run_timely : EachFollows events (states_from s events) → AreTimely (states_from s events) → NoneIsLate p.timeout_ms (machine_run p tree cpus events)
+  run_timely follows h =
       let same : s.state.policy ≡ p = policy_started p tree cpus s.state first.0 in
-      subst (NoneIsLate p.timeout_ms) is_machine_run (all_in_time p s events same h)
+      subst (NoneIsLate p.timeout_ms) is_machine_run (in_time_from p s events same follows h)
 
   pub run_bounded : AreAllBounded (states_from s events) → EachUsageIsBounded (machine_run p tree cpus events)
   run_bounded h = subst EachUsageIsBounded is_machine_run h
+
+  pub run_follows : EachFollows events (states_from s events) → EachFollows events (machine_run p tree cpus events).states
+  run_follows h = subst (λ (r : Run). EachFollows events r.states) is_machine_run h

@@ -3,7 +3,7 @@
 -- every runnable task appears exactly once on a processor or in a queue, and while the policy is in force
 -- no task has waited longer than its limit. In no period does a group with a quota use as much as its quota and
 -- one millisecond for each processor.
-use Rattle.std.specs.Prelude.{◌≡◌, ℕ, ℤ, ◌+◌, ◌<◌, ◌≤◌, List, [], ◌∷◌, ◌++◌, length, None, Some, is_some, Result, Ok, Err}
+use Rattle.std.specs.Prelude.{◌≡◌, ℕ, ℤ, ⊤, ◌+◌, ◌<◌, ◌≤◌, List, [], ◌∷◌, ◌++◌, length, None, Some, is_some, Result, Ok, Err}
 use Rattle.std.specs.List.{AllByRecursion}
 use Rattle.scx_dsq.specs.Laws.{one_if}
 use Rattle.scx_weights.specs.Hierarchy.{Hierarchy, quota_at}
@@ -16,7 +16,8 @@ use Rattle.scx_machine.specs.Policy.{PolicyState}
 use Rattle.scx_machine.specs.Steps.{State, CallMade}
 use Rattle.scx_machine.specs.Callbacks.{AreAnswered}
 use Rattle.scx_machine.specs.Start.{started, start_calls}
-use Rattle.scx_sched.specs.Sim.{SimState, stepped, calls_of}
+use Rattle.scx_sched.specs.Sim.{SimState, refusal, stepped, calls_of}
+use Rattle.scx_sched.specs.Decided.{Follows}
 use Rattle.scx_sched.specs.Once.{appearances}
 use Rattle.scx_driver.specs.Runs.{notes_of_all}
 
@@ -81,3 +82,9 @@ NoneIsLate limit run = AllByRecursion (λ s. s.state.world.ejected ≡ None → 
 abbrev pub EachUsageIsBounded : Run → Type 0
 EachUsageIsBounded run =
     AllByRecursion (λ s. (g quota : ℕ) → quota_at s.state.world.tree.groups g ≡ Some quota → usage_of s.state.world.tree g < quota + length s.state.world.cpus) run.states
+
+-- of the states, one more than events, each follows from the one before and its event
+abbrev pub EachFollows : List Event → List SimState → Type 0
+EachFollows [] (s ∷ []) = ⊤
+EachFollows (e ∷ es) (s ∷ t ∷ ss) = Follows (refusal s e) s e t × EachFollows es (t ∷ ss)
+EachFollows es ss = ⊥

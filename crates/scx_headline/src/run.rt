@@ -1,13 +1,14 @@
-ghost use Rattle.std.specs.Prelude.{◌≡◌, ℕ, ◌≤◌, None, IfOk, IfErr, OnOk, OnErr};
+ghost use Rattle.std.specs.Prelude.{◌≡◌, ℕ, ◌≤◌, false, None, IfOk, IfErr, OnOk, OnErr};
 ghost use Rattle.std.specs.List.{AllByRecursion};
 ghost use Rattle.scx_machine.specs.Notes.{Takes};
 ghost use Rattle.scx_machine.specs.Callbacks.{AreAnswered};
-ghost use Rattle.scx_machine.specs.Start.{IsRefusal, AreAnsweredBefore};
+ghost use Rattle.scx_machine.specs.Policy.{AreAs};
+ghost use Rattle.scx_machine.specs.Start.{is_bad_shape, IsRefusal, AreAnsweredBefore};
 ghost use Rattle.scx_sched.specs.Once.{IsOnce};
 ghost use Rattle.scx_sched.specs.Usages.{AreBounded};
 ghost use Rattle.scx_sched.specs.Waits.{IsTimely, HasWaits};
 ghost use Rattle.scx_driver.specs.Runs.{stepped_all, notes_of_all};
-ghost use Rattle.scx_headline.specs.Headline.{states_from, calls_of_all, machine_run, IsRecorded, NoneIsStuck, EachIsOnce, EachWaitIsCounted, NoneIsLate, EachUsageIsBounded};
+ghost use Rattle.scx_headline.specs.Headline.{states_from, calls_of_all, machine_run, IsRecorded, NoneIsStuck, EachIsOnce, EachWaitIsCounted, NoneIsLate, EachUsageIsBounded, EachFollows};
 
 use scx_sched::{Event, NewError, Policy, Sim, Sink};
 use scx_weights::Tree;
@@ -45,7 +46,13 @@ pub fn run_events<S: Sink>(
     // In no period does a group with a quota use as much as its quota and one millisecond for each
     // processor.
     ensures bounded { OnOk result (EachUsageIsBounded (machine_run policy tree cpus events.now)) }
+    // Each event does what it alone decides, and a callback with a fault is the end of the policy.
+    ensures follows { OnOk result
+        (EachFollows events.now (machine_run policy tree cpus events.now).states) }
 
+    // A machine is made of a good shape, and each program was verified as the callback that it is.
+    ensures shape { OnOk result (is_bad_shape tree cpus ≡ false) }
+    ensures programs { OnOk result (AreAs policy.callbacks) }
     // Where no machine is made there is a cause, and no note. Its callbacks aren't stuck either.
     ensures refused { IfErr result (IsRefusal policy tree cpus) }
     ensures quiet { OnErr result (sink.new ≡ sink.old) }
@@ -68,6 +75,7 @@ fn go_through<S: Sink>(sim: &mut Sim, events: &[Event], sink: &mut S)
     ensures timely { AllByRecursion (λ s. IsTimely s.state) (states_from sim.old events.now) }
     ensures bounded { AllByRecursion (λ s. AreBounded s.state.world)
         (states_from sim.old events.now) }
+    ensures follows { EachFollows events.now (states_from sim.old events.now) }
 {
     sim.is_sound();
     for event in events {

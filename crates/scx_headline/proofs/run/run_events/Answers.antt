@@ -1,4 +1,4 @@
-use Rattle.scx_headline.proofs.Whole.{run_recorded, run_never_stuck, run_once, run_counted, run_timely, run_bounded}
+use Rattle.scx_headline.proofs.Whole.{run_recorded, run_never_stuck, run_once, run_counted, run_timely, run_bounded, run_follows}
 use Rattle.scx_headline.proofs.run.run_events.Goals as goal
 
 pub returns-clause-recorded : goal.returns-clause-recorded
@@ -19,8 +19,12 @@ returns-clause-counted g c =
 
 pub returns-clause-timely : goal.returns-clause-timely
 returns-clause-timely g c =
-    run_timely c.args.policy c.args.tree c.args.cpus c.args.events.now _ c.in_ok-sim.ensures.first c.go_through.ensures.timely
+    run_timely c.args.policy c.args.tree c.args.cpus c.args.events.now _ c.in_ok-sim.ensures.first c.go_through.ensures.follows c.go_through.ensures.timely
 
 pub returns-clause-bounded : goal.returns-clause-bounded
 returns-clause-bounded g c =
     run_bounded c.args.policy c.args.tree c.args.cpus c.args.events.now _ c.in_ok-sim.ensures.first c.go_through.ensures.bounded
+
+pub returns-clause-follows : goal.returns-clause-follows
+returns-clause-follows g c =
+    run_follows c.args.policy c.args.tree c.args.cpus c.args.events.now _ c.in_ok-sim.ensures.first c.go_through.ensures.follows
