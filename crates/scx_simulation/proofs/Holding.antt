@@ -7,33 +7,37 @@ use Rattle.scx_machine.proofs.Taking.{answered_append}
 use Rattle.scx_sched.specs.Sim.{SimState, stepped, calls_of}
 use Rattle.scx_workloads.specs.Workload.{WorkloadState}
 use Rattle.scx_driver.specs.Events.{workload_events}
-use Rattle.scx_headline.specs.Headline.{states_from, calls_of_all, NoneIsLate}
-use Rattle.scx_headline.proofs.Going.{AreOnce, AreCounted, AreTimely, AreAllBounded}
-use Rattle.scx_headline.proofs.Whole.{run_notes, run_last, run_never_stuck, run_once, run_counted, run_timely, run_bounded}
+use Rattle.scx_headline.specs.Headline.{states_from, calls_of_all, NoneIsLate, EachFollows}
+use Rattle.scx_headline.proofs.Going.{AreOnce, AreCounted, AreTimely, AreAllBounded, follows_before}
+use Rattle.scx_headline.proofs.Whole.{run_notes, run_last, run_never_stuck, run_once, run_counted, run_timely, run_bounded, run_follows}
 use Rattle.scx_trace.specs.Lines.{NameLists, names_of}
 use Rattle.scx_trace.specs.Runs.{StaysInOrder, StopsAtFailure}
 use Rattle.scx_simulation.specs.Runs.{IsRun, run_of, IsOfHeadline, IsCutOff}
 
 all_answered : (s : SimState) (events : List Event) → StaysInOrder s events → AreAnswered (calls_of_all s events)
 all_answered s [] h = tt
-all_answered s (e ∷ es) (now, answered, more) =
-    answered_append (calls_of s e) (calls_of_all (stepped s e) es) answered (all_answered (stepped s e) es more)
+all_answered s (e ∷ es) (now, well, more) =
+    answered_append (calls_of s e) (calls_of_all (stepped s e) es) well.0 (all_answered (stepped s e) es more)
 
 all_once : (s : SimState) (events : List Event) → StaysInOrder s events → AreOnce (states_from s events)
 all_once s [] h = (h.once, tt)
-all_once s (e ∷ es) (now, answered, more) = (now.once, all_once (stepped s e) es more)
+all_once s (e ∷ es) (now, well, more) = (now.once, all_once (stepped s e) es more)
 
 all_counted : (s : SimState) (events : List Event) → StaysInOrder s events → AreCounted (states_from s events)
 all_counted s [] h = (h.counted, tt)
-all_counted s (e ∷ es) (now, answered, more) = (now.counted, all_counted (stepped s e) es more)
+all_counted s (e ∷ es) (now, well, more) = (now.counted, all_counted (stepped s e) es more)
 
 all_timely : (s : SimState) (events : List Event) → StaysInOrder s events → AreTimely (states_from s events)
 all_timely s [] h = (h.timely, tt)
-all_timely s (e ∷ es) (now, answered, more) = (now.timely, all_timely (stepped s e) es more)
+all_timely s (e ∷ es) (now, well, more) = (now.timely, all_timely (stepped s e) es more)
 
 all_bounded : (s : SimState) (events : List Event) → StaysInOrder s events → AreAllBounded (states_from s events)
 all_bounded s [] h = (h.bounded, tt)
-all_bounded s (e ∷ es) (now, answered, more) = (now.bounded, all_bounded (stepped s e) es more)
+all_bounded s (e ∷ es) (now, well, more) = (now.bounded, all_bounded (stepped s e) es more)
+
+all_follow : (s : SimState) (events : List Event) → StaysInOrder s events → EachFollows events (states_from s events)
+all_follow s [] h = tt
+all_follow s (e ∷ es) (now, well, more) = follows_before s e es well.1 (all_follow (stepped s e) es more)
 
 pub headline_holds : {policy workload : List ℕ} {w : WorkloadState} {s : SimState} (x : IsRun policy workload w s) (events : List Event) → StaysInOrder s events → IsOfHeadline x events
 headline_holds {policy} {workload} {w} {s} x events h =
@@ -45,8 +49,9 @@ headline_holds {policy} {workload} {w} {s} x events h =
       never_stuck = run_never_stuck x.machine tree w.cpus events s x.first x.answered (all_answered s events h);
       once = run_once x.machine tree w.cpus events s x.first (all_once s events h);
       counted = run_counted x.machine tree w.cpus events s x.first (all_counted s events h);
-      timely = subst limit x.built.timeout (run_timely x.machine tree w.cpus events s x.first (all_timely s events h));
+      timely = subst limit x.built.timeout (run_timely x.machine tree w.cpus events s x.first (all_follow s events h) (all_timely s events h));
       bounded = run_bounded x.machine tree w.cpus events s x.first (all_bounded s events h);
+      follows = run_follows x.machine tree w.cpus events s x.first (all_follow s events h);
     }
 
 -- up to where writing failed

@@ -17,7 +17,7 @@ use Rattle.scx_workloads.specs.Workload.{WorkloadState}
 use Rattle.scx_workloads.specs.Reading.{workload_of}
 use Rattle.scx_driver.specs.Runs.{stepped_all, notes_of_all, AreAccepted}
 use Rattle.scx_driver.specs.Events.{workload_events}
-use Rattle.scx_headline.specs.Headline.{Run, machine_run, IsLast, NoneIsStuck, EachIsOnce, EachWaitIsCounted, NoneIsLate, EachUsageIsBounded}
+use Rattle.scx_headline.specs.Headline.{Run, machine_run, IsLast, NoneIsStuck, EachIsOnce, EachWaitIsCounted, NoneIsLate, EachUsageIsBounded, EachFollows}
 use Rattle.scx_trace.specs.Lines.{names_of, note_lines}
 use Rattle.scx_trace.specs.Runs.{IsCutIn}
 use Rattle.scx_trace.specs.Report as reports
@@ -58,7 +58,7 @@ run_of {policy} {workload} {w} {s} x events = machine_run x.machine (idle w.grou
 -- stuck or takes more steps than it has instructions, every runnable task appears exactly once on a processor
 -- or in a queue, each wait is counted, while the policy is in force no task has waited longer than the limit
 -- in the policy's text, and in no period does a group with a quota use as much as its quota and one millisecond
--- for each processor.
+-- for each processor. Each event does what it alone decides.
 pub record IsOfHeadline {policy workload : List ℕ} {w : WorkloadState} {s : SimState} (x : IsRun policy workload w s) (events : List Event) : Type 0 where
   pub notes : (run_of x events).notes ≡ notes_of_all s events
   pub last : IsLast (stepped_all s events) (run_of x events).states
@@ -67,6 +67,7 @@ pub record IsOfHeadline {policy workload : List ℕ} {w : WorkloadState} {s : Si
   pub counted : EachWaitIsCounted (run_of x events)
   pub timely : NoneIsLate x.file.timeout_ms (run_of x events)
   pub bounded : EachUsageIsBounded (run_of x events)
+  pub follows : EachFollows events (run_of x events).states
 
 -- The machine took the events up to the first one of which a line wasn't written whole, and none behind it.
 pub record IsCutOff {policy workload : List ℕ} {w : WorkloadState} {s : SimState} (x : IsRun policy workload w s) (old new : Option (List ℕ)) : Type 0 where

@@ -4,13 +4,12 @@ use Rattle.std.proofs.lemmas.List.{append-nil}
 use Rattle.scx_world.specs.declared.notes.Note.{Note}
 use Rattle.scx_machine.specs.declared.events.Event.{Event}
 use Rattle.scx_machine.specs.Notes.{Takes}
-use Rattle.scx_machine.specs.Callbacks.{AreAnswered}
-use Rattle.scx_sched.specs.Sim.{SimState, stepped, notes_of, calls_of}
+use Rattle.scx_sched.specs.Sim.{SimState, stepped, notes_of}
 use Rattle.scx_sched.specs.Once.{IsOnce}
 use Rattle.scx_sched.specs.Waits.{IsTimely, HasWaits}
 use Rattle.scx_sched.specs.Usages.{AreBounded}
 use Rattle.scx_driver.specs.Runs.{stepped_all, notes_of_all}
-use Rattle.scx_trace.specs.Runs.{IsInOrder, StaysInOrder, GoesThrough}
+use Rattle.scx_trace.specs.Runs.{IsInOrder, GoesWell, StaysInOrder, GoesThrough}
 
 -- the notes of two lists of events, one behind the other
 pub notes_of_all-append : (s : SimState) (es fs : List Event) → notes_of_all s (es ++ fs) ≡ notes_of_all s es ++ notes_of_all (stepped_all s es) fs
@@ -40,23 +39,23 @@ differ false x y = absurd (cc)
 
 -- one event, behind which the sink hasn't failed
 pub gone_further : {S : Type 0} (takes : S → Note → S → Type 0) (has_failed : S → Bool) (events rest : List Event) (later : SimState → List Event) (s t u : SimState) (a b c : S) (e : Event)
-    → HasGone takes has_failed events s a rest t b → IsInOrder t → rest ≡ e ∷ later (stepped t e) → u ≡ stepped t e → Takes takes b (notes_of t e) c → AreAnswered (calls_of t e) → has_failed c ≡ false
+    → HasGone takes has_failed events s a rest t b → IsInOrder t → rest ≡ e ∷ later (stepped t e) → u ≡ stepped t e → Takes takes b (notes_of t e) c → GoesWell t e → has_failed c ≡ false
     → HasGone takes has_failed events s a (later u) u c
-gone_further {S} takes has_failed events rest later s t u a b c e gone now next state notes answered going v d more =
+gone_further {S} takes has_failed events rest later s t u a b c e gone now next state notes well going v d more =
     let P : SimState → Type 0 = λ x. GoesThrough takes has_failed (later x) x c v d in
     let Q : List Event → Type 0 = λ es. GoesThrough takes has_failed es t b v d in
     let failed : has_failed c ≡ true → (v ≡ stepped t e) × (d ≡ c) × IsInOrder (stepped t e) = λ f. absurd (differ (has_failed c) f going) in
-    gone v d (subst Q (sym next) (c, notes, now, answered, failed, λ _. subst P state more))
+    gone v d (subst Q (sym next) (c, notes, now, well, failed, λ _. subst P state more))
 
 -- one event, behind which the sink has failed
 pub gone_until : {S : Type 0} (takes : S → Note → S → Type 0) (has_failed : S → Bool) (events rest later : List Event) (s t u : SimState) (a b c : S) (e : Event)
-    → HasGone takes has_failed events s a rest t b → IsInOrder t → rest ≡ e ∷ later → u ≡ stepped t e → Takes takes b (notes_of t e) c → AreAnswered (calls_of t e) → IsInOrder u → has_failed c ≡ true
+    → HasGone takes has_failed events s a rest t b → IsInOrder t → rest ≡ e ∷ later → u ≡ stepped t e → Takes takes b (notes_of t e) c → GoesWell t e → IsInOrder u → has_failed c ≡ true
     → GoesThrough takes has_failed events s a u c
-gone_until {S} takes has_failed events rest later s t u a b c e gone now next state notes answered behind failed =
+gone_until {S} takes has_failed events rest later s t u a b c e gone now next state notes well behind failed =
     let P : SimState → Type 0 = λ x. IsInOrder x in
     let Q : List Event → Type 0 = λ es. GoesThrough takes has_failed es t b u c in
     let going : has_failed c ≡ false → GoesThrough takes has_failed later (stepped t e) c u c = λ f. absurd (differ (has_failed c) failed f) in
-    gone u c (subst Q (sym next) (c, notes, now, answered, (λ _. (state, refl, subst P state behind)), going))
+    gone u c (subst Q (sym next) (c, notes, now, well, (λ _. (state, refl, subst P state behind)), going))
 
 -- no event is left
 pub gone_to_end : {S : Type 0} (takes : S → Note → S → Type 0) (has_failed : S → Bool) (events rest : List Event) (s t : SimState) (a b : S)
@@ -81,7 +80,7 @@ pub what_is_done : {S : Type 0} (takes : S → Note → S → Type 0) (has_faile
     → GoesThrough takes has_failed events s a t b → HasDone takes has_failed events s a t b
 what_is_done takes has_failed [] s a t b (state, sink, now) =
     record { done = []; rest = []; whole = refl; state = state; in_order = now; notes = sink; all = λ _. refl }
-what_is_done {S} takes has_failed (e ∷ es) s a t b (c, notes, now, answered, ends, goes) = by_failure (has_failed c) refl (λ x. what_is_done takes has_failed es (stepped s e) c t b (goes x))
+what_is_done {S} takes has_failed (e ∷ es) s a t b (c, notes, now, well, ends, goes) = by_failure (has_failed c) refl (λ x. what_is_done takes has_failed es (stepped s e) c t b (goes x))
   where
     by_failure : (f : Bool) → has_failed c ≡ f → (has_failed c ≡ false → HasDone takes has_failed es (stepped s e) c t b) → HasDone takes has_failed (e ∷ es) s a t b
     by_failure true x further =
@@ -89,7 +88,7 @@ what_is_done {S} takes has_failed (e ∷ es) s a t b (c, notes, now, answered, e
         let sink = end.1 in
         let P : S → Type 0 = λ y. Takes takes a (notes_of s e ++ []) y in
         let none : has_failed b ≡ false → es ≡ [] = λ y. absurd (differ (has_failed c) x (sym (ap has_failed sink) ∙ y)) in
-        record { done = e ∷ []; rest = es; whole = refl; state = end.0; in_order = (now, answered, end.2); notes = subst P (sym sink) (takes_both takes (notes_of s e) [] a c c notes refl); all = none }
+        record { done = e ∷ []; rest = es; whole = refl; state = end.0; in_order = (now, well, end.2); notes = subst P (sym sink) (takes_both takes (notes_of s e) [] a c c notes refl); all = none }
     by_failure false x further =
         let more = further x in
         record {
@@ -97,7 +96,7 @@ what_is_done {S} takes has_failed (e ∷ es) s a t b (c, notes, now, answered, e
           rest = more.rest;
           whole = ap (λ fs. e ∷ fs) more.whole;
           state = more.state;
-          in_order = (now, answered, more.in_order);
+          in_order = (now, well, more.in_order);
           notes = takes_both takes (notes_of s e) (notes_of_all (stepped s e) more.done) a c b notes more.notes;
           all = more.all;
         }

@@ -10,10 +10,9 @@ use Rattle.scx_machine.specs.Notes.{Takes}
 use Rattle.scx_trace.specs.Lines.{NameLists, note_line, note_lines}
 use Rattle.scx_trace.specs.Writing.{Seen, Written, WrittenAfter, WrittenUpTo}
 use Rattle.scx_machine.specs.declared.events.Event.{Event}
-use Rattle.scx_machine.specs.Callbacks.{AreAnswered}
-use Rattle.scx_sched.specs.Sim.{SimState, stepped, notes_of, calls_of}
+use Rattle.scx_sched.specs.Sim.{SimState, stepped, notes_of}
 use Rattle.scx_driver.specs.Runs.{stepped_all, notes_of_all}
-use Rattle.scx_trace.specs.Runs.{IsInOrder, StaysInOrder, GoesThrough, StopsAtFailure}
+use Rattle.scx_trace.specs.Runs.{IsInOrder, GoesWell, StaysInOrder, GoesThrough, StopsAtFailure}
 use Rattle.scx_trace.specs.Tracing.{TakesLine}
 use Rattle.scx_trace.proofs.Going.{notes_of_all-append, differ, what_is_done, done_all}
 
@@ -110,9 +109,9 @@ run_is_done output names seen events s t a b fine went =
 
 -- one event in front of others
 with_event : (x : NameLists) (e : Event) (es : List Event) (s t : SimState) (old between new : Option (List ℕ))
-    → IsInOrder s → AreAnswered (calls_of s e) → Appends old between (note_lines x (notes_of s e)) → StopsAtFailure x es (stepped s e) t between new
+    → IsInOrder s → GoesWell s e → Appends old between (note_lines x (notes_of s e)) → StopsAtFailure x es (stepped s e) t between new
     → StopsAtFailure x (e ∷ es) s t old new
-with_event x e es s t old between new now answered line h =
+with_event x e es s t old between new now well line h =
     let P : List ℕ → Type 0 = λ text. Appends old h.lines.between text in
     let first = note_lines x (notes_of s e) in
     let behind = note_lines x (notes_of_all (stepped s e) h.done) in
@@ -123,7 +122,7 @@ with_event x e es s t old between new now answered line h =
       rest = h.rest;
       whole = ap (λ fs. e ∷ fs) h.whole;
       state = h.state;
-      in_order = (now, answered, h.in_order);
+      in_order = (now, well, h.in_order);
       lines = record {
         between = h.lines.between;
         whole = subst P (sym text) (grows_twice old between h.lines.between first behind line h.lines.whole);
@@ -137,7 +136,7 @@ pub run_stops : {S G : Type 0} (output : S → G) (names : S → NameLists) (see
     → StopsAtFailure (names a) events s t (seen a).contents (seen b).contents
 run_stops output names seen [] s t a b fresh failed (state, same, now) =
     absurd (differ (seen b).failed failed (ap (λ x. (seen x).failed) same ∙ fresh))
-run_stops {S} output names seen (e ∷ es) s t a b fresh failed (c, notes, now, answered, ends, goes) =
+run_stops {S} output names seen (e ∷ es) s t a b fresh failed (c, notes, now, well, ends, goes) =
     by_failure (seen c).failed refl (λ x. run_stops output names seen es (stepped s e) t c b x failed (goes x))
   where
     text : List ℕ
@@ -163,9 +162,9 @@ run_stops {S} output names seen (e ∷ es) s t a b fresh failed (c, notes, now, 
           rest = es;
           whole = refl;
           state = end.0;
-          in_order = (now, answered, end.2);
+          in_order = (now, well, end.2);
           lines = record { between = (seen a).contents; whole = grows_by_none (seen a).contents []; cut = subst P (sym end.1) (written true is).0 };
         }
     by_failure false is further =
         let P : NameLists → Type 0 = λ x. StopsAtFailure x es (stepped s e) t (seen c).contents (seen b).contents in
-        with_event (names a) e es s t (seen a).contents (seen c).contents (seen b).contents now answered (written false is).0 (subst P lines.1 (further is))
+        with_event (names a) e es s t (seen a).contents (seen c).contents (seen b).contents now well (written false is).0 (subst P lines.1 (further is))

@@ -6,7 +6,8 @@ use Rattle.scx_world.specs.declared.notes.Note.{Note}
 use Rattle.scx_machine.specs.declared.events.Event.{Event}
 use Rattle.scx_machine.specs.Notes.{Takes}
 use Rattle.scx_machine.specs.Callbacks.{AreAnswered}
-use Rattle.scx_sched.specs.Sim.{SimState, stepped, notes_of, calls_of}
+use Rattle.scx_sched.specs.Sim.{SimState, refusal, stepped, notes_of, calls_of}
+use Rattle.scx_sched.specs.Decided.{Follows}
 use Rattle.scx_sched.specs.Once.{IsOnce}
 use Rattle.scx_sched.specs.Waits.{IsTimely, HasWaits}
 use Rattle.scx_sched.specs.Usages.{AreBounded}
@@ -23,10 +24,15 @@ pub record IsInOrder (s : SimState) : Type 0 where
   pub timely : IsTimely s.state
   pub bounded : AreBounded s.state.world
 
--- so it is at first and behind each event, and each callback that is called comes to an answer
+-- an event does what it alone decides, or is refused and changes nothing, and each callback that is called comes to an
+-- answer
+abbrev pub GoesWell : SimState → Event → Type 0
+GoesWell s e = AreAnswered (calls_of s e) × Follows (refusal s e) s e (stepped s e)
+
+-- so it is at first and behind each event, and each event goes well
 abbrev pub StaysInOrder : SimState → List Event → Type 0
 StaysInOrder s [] = IsInOrder s
-StaysInOrder s (e ∷ es) = IsInOrder s × AreAnswered (calls_of s e) × StaysInOrder (stepped s e) es
+StaysInOrder s (e ∷ es) = IsInOrder s × GoesWell s e × StaysInOrder (stepped s e) es
 
 -- ---- up to a failure
 
@@ -35,7 +41,7 @@ StaysInOrder s (e ∷ es) = IsInOrder s × AreAnswered (calls_of s e) × StaysIn
 abbrev pub GoesThrough : {S : Type 0} → (S → Note → S → Type 0) → (S → Bool) → List Event → SimState → S → SimState → S → Type 0
 GoesThrough takes has_failed [] s a t b = (t ≡ s) × (b ≡ a) × IsInOrder s
 GoesThrough {S} takes has_failed (e ∷ es) s a t b =
-    (c : S) × Takes takes a (notes_of s e) c × IsInOrder s × AreAnswered (calls_of s e)
+    (c : S) × Takes takes a (notes_of s e) c × IsInOrder s × GoesWell s e
     × (has_failed c ≡ true → (t ≡ stepped s e) × (b ≡ c) × IsInOrder (stepped s e))
     × (has_failed c ≡ false → GoesThrough takes has_failed es (stepped s e) c t b)
 
