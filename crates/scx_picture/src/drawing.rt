@@ -1,18 +1,20 @@
-ghost use Rattle.std.specs.Prelude.{◌≡◌, true, IfOk};
+ghost use Rattle.std.specs.Prelude.{◌≡◌, ℕ, List, true, Err, IfOk, OnOk};
+ghost use Rattle.std.specs.Io.KnownBytes.{Appends};
+ghost use Rattle.scx_output.specs.Output.{HasFailed};
 ghost use Rattle.scx_outcomes.specs.Outcome.{IfRefused, IsRefused};
 ghost use Rattle.scx_outcomes.specs.declared.refusal.Refusal.TheVariants.{NoMemory};
 ghost use Rattle.scx_simulation.specs.Runs.{IsCause};
+ghost use Rattle.scx_picture.specs.Pictures.{svg};
 
-use crate::frames::Frame;
+use crate::frames::{END, Frame, HEAD};
 use scx_outcomes::{Fault, Refusal};
 use scx_output::Out;
-use scx_sched::{Event, Sim, What};
+use scx_sched::{Sim, What};
 use scx_simulation::{Heard, Listener, Run, prepare};
-use scx_trace::{Events, Names};
-use scx_views::{Pause, PauseKind, Pauses, Text, View, watch, written};
+use scx_trace::Events;
+use scx_views::{Line, Page, Pause, PauseKind, Pauses, Sketch, write_sketch};
 use scx_workloads::Workload;
 use std::alloc::{AllocError, Global};
-use std::fmt;
 
 /// Writes the picture of the run that the texts of a policy file and of a workload file stand for. The
 /// answer is true.
@@ -27,11 +29,15 @@ pub fn picture<L: Listener, W: Out>(
     listener: &mut L,
     out: &mut W,
 ) -> Result<bool, Fault>
-    ensures done { IfOk result (λ answer. answer ≡ true) }
+    ensures done { IfOk result (λ answer. (answer ≡ true) × (drawn : List ℕ)
+        × Appends (W.contents out.old) (W.contents out.new) (svg drawn)) }
+    ensures unfailed { OnOk result (W.failure_count out.new ≡ W.failure_count out.old) }
 
     // A refusal has its cause in the texts, and comes before any byte is written.
     ensures refused { IfRefused result (IsCause policy.now workload.now) }
     ensures quiet { IsRefused result → out.new ≡ out.old }
+    ensures counted { result ≡ Err Fault.WriteFailed
+        → HasFailed (W.failure_count out.old) (W.failure_count out.new) }
 {
     let run = prepare(alloc, policy, workload)?;
     draw(alloc, run, listener, out)
@@ -44,9 +50,13 @@ fn draw<L: Listener, W: Out>(
     listener: &mut L,
     out: &mut W,
 ) -> Result<bool, Fault>
-    ensures done { IfOk result (λ answer. answer ≡ true) }
+    ensures done { IfOk result (λ answer. (answer ≡ true) × (drawn : List ℕ)
+        × Appends (W.contents out.old) (W.contents out.new) (svg drawn)) }
+    ensures unfailed { OnOk result (W.failure_count out.new ≡ W.failure_count out.old) }
     ensures refused { IfRefused result (λ refusal. refusal ≡ NoMemory) }
     ensures quiet { IsRefused result → out.new ≡ out.old }
+    ensures counted { result ≡ Err Fault.WriteFailed
+        → HasFailed (W.failure_count out.old) (W.failure_count out.new) }
 {
     let Run {
         workload,
@@ -64,15 +74,18 @@ fn write_drawing<E: Events, W: Out>(
     sim: &mut Sim,
     out: &mut W,
 ) -> Result<bool, Fault>
-    ensures done { IfOk result (λ answer. answer ≡ true) }
+    ensures done { IfOk result (λ answer. (answer ≡ true) × (drawn : List ℕ)
+        × Appends (W.contents out.old) (W.contents out.new) (svg drawn)) }
+    ensures unfailed { OnOk result (W.failure_count out.new ≡ W.failure_count out.old) }
     ensures refused { IfRefused result (λ refusal. refusal ≡ NoMemory) }
     ensures quiet { IsRefused result → out.new ≡ out.old }
+    ensures counted { result ≡ Err Fault.WriteFailed
+        → HasFailed (W.failure_count out.old) (W.failure_count out.new) }
 {
-    let Ok(room) = Room::new(alloc, workload) else {
+    let Ok(mut drawing) = Drawing::new(alloc, workload) else {
         return Err(Fault::Refused(Refusal::NoMemory));
     };
-    let mut drawing = Drawing::new(workload, room, out);
-    written(drawing.draw(sim, events))?;
+    write_sketch(sim, events, &mut drawing, workload, HEAD, END, out)?;
     Ok(true)
 }
 
@@ -87,145 +100,70 @@ struct Running {
 #[derive(Clone, Copy)]
 enum Ejection {
     Stall { moment: u64, task: u16 },
-    Fault { moment: u64, code: u64 },
-}
-
-/// All memory of a picture.
-#[derive(Drop)]
-struct Room {
-    /// Who runs, by processor.
-    running: Vec<Option<Running>>,
-    pauses: Pauses,
-}
-
-impl Room {
-    fn new(alloc: Global, workload: &Workload) -> Result<Room, AllocError> {
-        Ok(Room {
-            running: vec![in alloc; None; workload.cpus() as usize]?,
-            pauses: Pauses::new(alloc, workload.tasks().len())?,
-        })
-    }
+    Fault { moment: u64, code: u8 },
 }
 
 /// A picture on its way.
 #[derive(Drop)]
-struct Drawing<'a, W> {
-    workload: &'a Workload,
-    text: Text<'a, W>,
+struct Drawing {
     frame: Frame,
+    /// What stands before the run.
+    beginning: String,
+    page: Page,
+    /// Who runs, by processor.
     running: Vec<Option<Running>>,
     pauses: Pauses,
     /// Whether a task was drawn that was parked.
     has_parked: bool,
     ejection: Option<Ejection>,
-    failed: bool,
 }
 
-impl<'a, W: Out> Drawing<'a, W> {
-    fn new(workload: &'a Workload, room: Room, out: &'a mut W) -> Self {
-        let Room { running, pauses } = room;
-        Drawing {
-            workload,
-            text: Text::new(out),
-            frame: Frame::new(workload),
-            running,
-            pauses,
+impl Drawing {
+    /// A picture in which nothing has happened yet. All its memory is taken here.
+    fn new(alloc: Global, workload: &Workload) -> Result<Self, AllocError> {
+        let frame = Frame::new(workload);
+        Ok(Drawing {
+            frame,
+            beginning: beginning(alloc, frame, workload)?,
+            page: Page::new(),
+            running: vec![in alloc; None; workload.cpus() as usize]?,
+            pauses: Pauses::new(alloc, workload.tasks().len())?,
             has_parked: false,
             ejection: None,
-            failed: false,
-        }
+        })
     }
 
-    /// Goes through the run, and draws it.
-    fn draw<E: Events>(&mut self, sim: &mut Sim, events: &mut E) -> fmt::Result {
-        self.frame.begin(self.workload, &mut self.text)?;
-        watch(sim, events, self);
-        self.end(sim.clock())
-    }
-
-    /// Draws who still runs, waits or is parked at that moment, and the ejection.
-    fn end(&mut self, moment: u64) -> fmt::Result {
-        if self.failed {
-            return Err(fmt::Error);
-        }
-        for cpu in 0..self.workload.cpus() {
-            self.stop(moment, cpu)?;
-        }
-        for task in 0..self.frame.tasks() {
-            if let Some(pause) = self.pauses.unfinished(task, moment) {
-                self.draw_pause(pause)?;
-            }
-        }
-        self.frame.end_run(&mut self.text)?;
-        self.draw_ejection()?;
-        if self.has_parked {
-            self.frame.write_legend(&mut self.text)?;
-        }
-        self.frame.end(&mut self.text)
-    }
-
-    fn draw_ejection(&mut self) -> fmt::Result {
-        match self.ejection {
-            None => Ok(()),
-            Some(Ejection::Stall { moment, task }) => self.frame.draw_ejection(
-                moment,
-                "ejected: stall of ",
-                self.workload.task(task),
-                &mut self.text,
-            ),
-            Some(Ejection::Fault { moment, code }) => {
-                let mut words = itoa::Buffer::new();
-                self.frame.draw_ejection(
-                    moment,
-                    "ejected: fault ",
-                    words.format(code),
-                    &mut self.text,
-                )
-            }
-        }
-    }
-
-    fn put(&mut self, moment: u64, what: What) -> fmt::Result {
-        if let Some(pause) = self.pauses.show(moment, what) {
-            self.draw_pause(pause)?;
-        }
+    /// Keeps what happens, and draws what it ends.
+    fn put(&mut self, moment: u64, what: What) {
         match what {
-            What::Run(task, cpu) => {
-                self.run(moment, task, cpu);
-                Ok(())
-            }
+            What::Run(task, cpu) => self.run(moment, task, cpu),
             What::Stop(_, cpu) => self.stop(moment, cpu),
-            What::Stall(task) => {
-                self.ejection = Some(Ejection::Stall { moment, task });
-                Ok(())
-            }
+            What::Stall(task) => self.ejection = Some(Ejection::Stall { moment, task }),
             What::Fault(fault) => {
-                self.ejection = Some(Ejection::Fault {
-                    moment,
-                    code: u64::from(fault.code()),
-                });
-                Ok(())
+                let code = fault.code();
+                self.ejection = Some(Ejection::Fault { moment, code });
             }
             What::Wake(_)
             | What::Sleep(_)
             | What::Insert(_, _)
             | What::Move(_, _)
             | What::Idle(_)
-            | What::Weight(_, _) => Ok(()),
+            | What::Weight(_, _) => {}
         }
     }
 
-    fn draw_pause(&mut self, pause: Pause) -> fmt::Result {
+    /// Draws a pause in the first place, if it isn't empty.
+    fn put_pause(&mut self, pause: Option<Pause>) {
+        let Some(pause) = pause else {
+            return;
+        };
         if pause.length() == 0 {
-            return Ok(());
+            return;
         }
-        match pause.kind {
-            PauseKind::Wait => self.frame.draw_wait(pause, &mut self.text),
-            PauseKind::Parked => {
-                self.has_parked = true;
-                self.frame.draw_parked(pause, &mut self.text)
-            }
+        if pause.kind == PauseKind::Parked {
+            self.has_parked = true;
         }
+        self.page.first = Some(self.frame.pause(pause));
     }
 
     fn run(&mut self, moment: u64, task: u16, cpu: u32) {
@@ -237,32 +175,75 @@ impl<'a, W: Out> Drawing<'a, W> {
         }
     }
 
-    /// Draws who ran on the processor, if somebody did.
-    fn stop(&mut self, moment: u64, cpu: u32) -> fmt::Result {
+    /// Nobody runs on the processor any more. Who ran there is drawn in the second place, if somebody did.
+    fn stop(&mut self, moment: u64, cpu: u32) {
         let Some(place) = self.running.get_mut(cpu as usize) else {
-            return Ok(());
+            return;
         };
-        let Some(running) = place.take() else {
-            return Ok(());
-        };
-        self.frame
-            .draw_run(running.task, cpu, running.since, moment, &mut self.text)
-    }
-}
-
-impl<W: Out> View for Drawing<'_, W> {
-    ghost has_failed = { λ d. d.failed };
-
-    fn expect(&mut self, _sim: &Sim, _event: Event) {}
-
-    fn show(&mut self, moment: u64, _clock: u64, what: What) {
-        if self.put(moment, what).is_err() {
-            self.failed = true;
+        if let Some(running) = place.take() {
+            let Running { task, since } = running;
+            self.page.second = self.frame.run(task, cpu, since, moment);
         }
     }
 
-    fn failed(&self) -> bool {
-        let failed = self.failed;
-        failed
+    fn ejection(&self) -> Option<Line> {
+        match self.ejection? {
+            Ejection::Stall { moment, task } => Some(self.frame.stall(moment, task)),
+            Ejection::Fault { moment, code } => Some(self.frame.fault(moment, code)),
+        }
+    }
+
+    /// What a pale bar is, if there is one.
+    fn legend(&self) -> Option<Line> {
+        if self.has_parked {
+            Some(self.frame.legend())
+        } else {
+            None
+        }
+    }
+}
+
+/// What stands before the run.
+fn beginning(alloc: Global, frame: Frame, workload: &Workload) -> Result<String, AllocError> {
+    let mut text = String::new(alloc);
+    frame.begin(workload, &mut text)?;
+    Ok(text)
+}
+
+impl Sketch for Drawing {
+    ghost page_of = { λ d. d.page };
+
+    fn beginning(&self) -> &str {
+        self.beginning.as_str()
+    }
+
+    fn page(&self) -> &Page {
+        &self.page
+    }
+
+    fn show(&mut self, moment: u64, what: What) {
+        self.page.clear();
+        let pause = self.pauses.show(moment, what);
+        self.put_pause(pause);
+        self.put(moment, what);
+    }
+
+    fn end_cpu(&mut self, moment: u64, cpu: u32) {
+        self.page.clear();
+        self.stop(moment, cpu);
+    }
+
+    fn end_task(&mut self, moment: u64, task: u16) {
+        self.page.clear();
+        let pause = self.pauses.unfinished(task, moment);
+        self.put_pause(pause);
+    }
+
+    /// Draws the end of the run, the ejection and what a pale bar is.
+    fn end(&mut self, _moment: u64) {
+        self.page.clear();
+        self.page.first = Some(self.frame.end_of_run());
+        self.page.second = self.ejection();
+        self.page.third = self.legend();
     }
 }

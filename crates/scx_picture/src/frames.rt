@@ -1,10 +1,15 @@
-use crate::escapes::Escaped;
-use scx_output::Out;
+ghost use Rattle.std.specs.Prelude.{◌+◌, ◌≤◌, length};
+ghost use Rattle.arrayvec.specs.ArrayString.{array_string_len};
+
 use scx_trace::Names;
-use scx_views::{Pause, Text};
+use scx_views::{Line, Part, Pause, PauseKind, push_number};
 use scx_workloads::Workload;
-use std::fmt;
-use std::fmt::Write;
+use std::alloc::AllocError;
+
+/// What stands before the size of a picture, and behind all that is in it.
+pub(crate) const HEAD: &str = "<svg xmlns=\"http://www.w3.org/2000/svg\" ";
+
+pub(crate) const END: &str = "</svg>\n";
 
 /// What stands to the left of the first millisecond, in pixels, and what stands to the right of the last one.
 const LEFT: u64 = 150;
@@ -57,10 +62,6 @@ impl Frame {
         }
     }
 
-    pub(crate) fn tasks(self) -> u16 {
-        self.tasks
-    }
-
     /// How far from the left a moment is, in pixels.
     fn x(self, moment: u64) -> u64 {
         LEFT.saturating_add(moment.saturating_mul(self.width) / self.ms.max(1))
@@ -92,15 +93,16 @@ impl Frame {
         self.ms
     }
 
-    /// Writes all that stands before the run.
-    pub(crate) fn begin<W: Out>(self, names: &Workload, text: &mut Text<'_, W>) -> fmt::Result {
+    /// Writes all that stands before the run, from the head on. No name has a character that would have to be
+    /// quoted.
+    pub(crate) fn begin(self, names: &Workload, text: &mut String) -> Result<(), AllocError> {
         let width = LEFT.saturating_add(self.width).saturating_add(RIGHT);
         let height = TOP.saturating_add(self.height()).saturating_add(GAP);
         writeln!(
             text,
-            "<svg xmlns=\"http://www.w3.org/2000/svg\" width=\"{width}\" height=\"{height}\" viewBox=\"0 0 {width} {height}\" font-family=\"sans-serif\" font-size=\"12\">"
+            "width=\"{width}\" height=\"{height}\" viewBox=\"0 0 {width} {height}\" font-family=\"sans-serif\" font-size=\"12\">"
         )?;
-        text.write_str("<rect width=\"100%\" height=\"100%\" fill=\"#fff\"/>\n")?;
+        text.push_str("<rect width=\"100%\" height=\"100%\" fill=\"#fff\"/>\n")?;
         self.write_colours(text)?;
         self.write_scale(text)?;
         self.write_cpus(text)?;
@@ -109,7 +111,7 @@ impl Frame {
     }
 
     /// Begins the part of the picture in which a millisecond is one unit wide.
-    fn begin_run<W: Out>(self, text: &mut Text<'_, W>) -> fmt::Result {
+    fn begin_run(self, text: &mut String) -> Result<(), AllocError> {
         let Frame { ms, width, .. } = self;
         let height = self.height();
         writeln!(
@@ -119,21 +121,21 @@ impl Frame {
     }
 
     /// Writes a class of each task, which has its colour.
-    fn write_colours<W: Out>(self, text: &mut Text<'_, W>) -> fmt::Result {
-        text.write_str("<style>\n")?;
+    fn write_colours(self, text: &mut String) -> Result<(), AllocError> {
+        text.push_str("<style>\n")?;
         for task in 0..self.tasks {
             let hue = u64::from(task).saturating_mul(137) % 360;
             let light = 38 + u64::from(task % 3) * 12;
             writeln!(text, ".t{task}{{fill:hsl({hue},65%,{light}%)}}")?;
         }
-        text.write_str("</style>\n")
+        text.push_str("</style>\n")
     }
 
     /// Writes the scale of milliseconds, and a line down from each of its numbers.
-    fn write_scale<W: Out>(self, text: &mut Text<'_, W>) -> fmt::Result {
+    fn write_scale(self, text: &mut String) -> Result<(), AllocError> {
         let step = self.step().max(1);
         let bottom = TOP.saturating_add(self.height());
-        text.write_str("<text x=\"8\" y=\"44\" fill=\"#555\">ms</text>\n")?;
+        text.push_str("<text x=\"8\" y=\"44\" fill=\"#555\">ms</text>\n")?;
         for number in 0..(self.ms / step).saturating_add(1) {
             let moment = number.saturating_mul(step);
             let x = self.x(moment);
@@ -145,7 +147,7 @@ impl Frame {
         Ok(())
     }
 
-    fn write_cpus<W: Out>(self, text: &mut Text<'_, W>) -> fmt::Result {
+    fn write_cpus(self, text: &mut String) -> Result<(), AllocError> {
         for cpu in 0..self.cpus {
             let y = TOP.saturating_add(self.cpu_y(cpu)).saturating_add(16);
             writeln!(text, "<text x=\"8\" y=\"{y}\">cpu {cpu}</text>")?;
@@ -153,7 +155,7 @@ impl Frame {
         Ok(())
     }
 
-    fn write_tasks<W: Out>(self, names: &Workload, text: &mut Text<'_, W>) -> fmt::Result {
+    fn write_tasks(self, names: &Workload, text: &mut String) -> Result<(), AllocError> {
         for task in 0..self.tasks {
             let y = TOP.saturating_add(self.task_y(task));
             writeln!(
@@ -161,24 +163,18 @@ impl Frame {
                 "<rect class=\"t{task}\" x=\"8\" y=\"{}\" width=\"10\" height=\"10\"/><text x=\"24\" y=\"{}\">{}</text>",
                 y.saturating_add(3),
                 y.saturating_add(12),
-                Escaped(names.task(task))
+                names.task(task)
             )?;
         }
         Ok(())
     }
 
-    /// Draws that the task ran on the processor: as a bar beside the processor and one beside its name.
-    pub(crate) fn draw_run<W: Out>(
-        self,
-        task: u16,
-        cpu: u32,
-        since: u64,
-        until: u64,
-        text: &mut Text<'_, W>,
-    ) -> fmt::Result {
+    /// Draws that the task ran on the processor, if not for no time at all: as a bar beside the processor and
+    /// one beside its name.
+    pub(crate) fn run(self, task: u16, cpu: u32, since: u64, until: u64) -> Option<Line> {
         let width = until.saturating_sub(since);
         if width == 0 {
-            return Ok(());
+            return None;
         }
         let on_cpu = Bar {
             x: since,
@@ -192,77 +188,117 @@ impl Frame {
             width,
             height: 10,
         };
-        writeln!(text, "<path class=\"t{task}\" d=\"{on_cpu}{at_name}\"/>")
+        let mut path = Part::new();
+        push_number(&mut path, "<path class=\"t", u64::from(task));
+        path.push_str("\" d=\"");
+        push_bar(&mut path, on_cpu);
+        push_bar(&mut path, at_name);
+        Some(whole(path))
+    }
+
+    /// Draws that a task waited or was parked.
+    pub(crate) fn pause(self, pause: Pause) -> Line {
+        match pause.kind {
+            PauseKind::Wait => self.wait(pause),
+            PauseKind::Parked => self.parked(pause),
+        }
     }
 
     /// Draws that the task waited: as a thin line beside its name.
-    pub(crate) fn draw_wait<W: Out>(self, pause: Pause, text: &mut Text<'_, W>) -> fmt::Result {
-        let task = pause.task;
-        let line = Bar {
-            x: pause.since,
-            y: self.task_y(task).saturating_add(7),
-            width: pause.length(),
-            height: 2,
-        };
-        writeln!(text, "<path class=\"t{task}\" d=\"{line}\"/>")
+    fn wait(self, pause: Pause) -> Line {
+        let mut path = Part::new();
+        push_number(&mut path, "<path class=\"t", u64::from(pause.task));
+        path.push_str("\" d=\"");
+        push_bar(&mut path, self.pause_bar(pause, 7, 2));
+        whole(path)
     }
 
     /// Draws that the task was parked: as a pale bar beside its name.
-    pub(crate) fn draw_parked<W: Out>(self, pause: Pause, text: &mut Text<'_, W>) -> fmt::Result {
-        let task = pause.task;
-        let bar = Bar {
+    fn parked(self, pause: Pause) -> Line {
+        let mut path = Part::new();
+        push_number(&mut path, "<path class=\"t", u64::from(pause.task));
+        path.push_str("\" opacity=\"0.3\" d=\"");
+        push_bar(&mut path, self.pause_bar(pause, 3, 10));
+        whole(path)
+    }
+
+    /// A bar beside the name of a task.
+    fn pause_bar(self, pause: Pause, below: u64, height: u64) -> Bar {
+        Bar {
             x: pause.since,
-            y: self.task_y(task).saturating_add(3),
+            y: self.task_y(pause.task).saturating_add(below),
             width: pause.length(),
-            height: 10,
-        };
-        writeln!(
-            text,
-            "<path class=\"t{task}\" opacity=\"0.3\" d=\"{bar}\"/>"
-        )
+            height,
+        }
     }
 
-    /// Writes below the last task what a pale bar is.
-    pub(crate) fn write_legend<W: Out>(self, text: &mut Text<'_, W>) -> fmt::Result {
+    /// Says below the last task what a pale bar is.
+    pub(crate) fn legend(self) -> Line {
         let y = TOP.saturating_add(self.height());
-        writeln!(
-            text,
-            "<rect x=\"{LEFT}\" y=\"{}\" width=\"20\" height=\"10\" opacity=\"0.3\"/><text x=\"{}\" y=\"{}\" fill=\"#555\">parked</text>",
-            y.saturating_add(5),
-            LEFT.saturating_add(26),
-            y.saturating_add(14)
-        )
+        let mut text = Part::new();
+        push_number(&mut text, "<rect x=\"", LEFT);
+        push_number(&mut text, "\" y=\"", y.saturating_add(5));
+        text.push_str("\" width=\"20\" height=\"10\" opacity=\"0.3\"/>");
+        push_number(&mut text, "<text x=\"", LEFT.saturating_add(26));
+        push_number(&mut text, "\" y=\"", y.saturating_add(14));
+        text.push_str("\" fill=\"#555\">parked</text>\n");
+        Line::nameless(text)
     }
 
-    /// Writes what stands behind the run.
-    pub(crate) fn end_run<W: Out>(self, text: &mut Text<'_, W>) -> fmt::Result {
-        text.write_str("</svg>\n")
+    /// What stands behind the run.
+    pub(crate) fn end_of_run(self) -> Line {
+        let mut text = Part::new();
+        text.push_str("</svg>\n");
+        Line::nameless(text)
     }
 
-    /// Draws an ejection across all processors and tasks.
-    pub(crate) fn draw_ejection<W: Out>(
-        self,
-        moment: u64,
-        words: &str,
-        name: &str,
-        text: &mut Text<'_, W>,
-    ) -> fmt::Result {
+    /// Draws an ejection for a task that waited too long across all processors and tasks.
+    pub(crate) fn stall(self, moment: u64, task: u16) -> Line {
+        let mut start = self.ejection(moment);
+        start.push_str("stall of ");
+        let mut end = Part::new();
+        push_moment(&mut end, moment);
+        Line {
+            start,
+            task: Some(task),
+            end,
+        }
+    }
+
+    /// The same for the fault of that number.
+    pub(crate) fn fault(self, moment: u64, code: u8) -> Line {
+        let mut text = self.ejection(moment);
+        push_number(&mut text, "fault ", u64::from(code));
+        push_moment(&mut text, moment);
+        Line::nameless(text)
+    }
+
+    /// What stands before the cause of an ejection.
+    fn ejection(self, moment: u64) -> Part
+        ensures { array_string_len result ≤ 200 }
+    {
         let x = self.x(moment);
         let bottom = TOP.saturating_add(self.height());
-        let anchor = if moment.saturating_mul(2) < self.ms {
+        let mut text = Part::new();
+        push_number(&mut text, "<path d=\"M", x);
+        push_number(&mut text, " 26V", bottom);
+        text.push_str("\" stroke=\"#c00\" stroke-width=\"2\" stroke-dasharray=\"6 3\"/>");
+        push_number(&mut text, "<text x=\"", x);
+        text.push_str("\" y=\"20\" fill=\"#c00\" text-anchor=\"");
+        text.push_str(self.side(moment));
+        text.push_str("\">ejected: ");
+        text
+    }
+
+    /// On which side of the words about a moment it lies, as SVG calls it.
+    fn side(self, moment: u64) -> &'static str
+        ensures { length result.now ≤ 5 }
+    {
+        if moment.saturating_mul(2) < self.ms {
             "start"
         } else {
             "end"
-        };
-        writeln!(
-            text,
-            "<path d=\"M{x} 26V{bottom}\" stroke=\"#c00\" stroke-width=\"2\" stroke-dasharray=\"6 3\"/><text x=\"{x}\" y=\"20\" fill=\"#c00\" text-anchor=\"{anchor}\">{words}{} at {moment} ms</text>",
-            Escaped(name)
-        )
-    }
-
-    pub(crate) fn end<W: Out>(self, text: &mut Text<'_, W>) -> fmt::Result {
-        text.write_str("</svg>\n")
+        }
     }
 }
 
@@ -275,16 +311,34 @@ struct Bar {
     height: u64,
 }
 
-impl fmt::Display for Bar {
-    fn fmt<W: fmt::Write>(&self, f: &mut fmt::Formatter<W>) -> fmt::Result {
-        let Bar {
-            x,
-            y,
-            width,
-            height,
-        } = *self;
-        write!(f, "M{x} {y}h{width}v{height}h-{width}z")
-    }
+/// Appends a bar to a path.
+fn push_bar(path: &mut Part, bar: Bar)
+    requires { array_string_len path.old ≤ 150 }
+    ensures { array_string_len path.new ≤ array_string_len path.old + 107 }
+{
+    push_number(path, "M", bar.x);
+    push_number(path, " ", bar.y);
+    push_number(path, "h", bar.width);
+    push_number(path, "v", bar.height);
+    push_number(path, "h-", bar.width);
+    path.push_str("z");
+}
+
+/// A path that ends here.
+fn whole(path: Part) -> Line
+    requires { array_string_len path ≤ 300 }
+{
+    let mut text = path;
+    text.push_str("\"/>\n");
+    Line::nameless(text)
+}
+
+/// Appends when an ejection was.
+fn push_moment(text: &mut Part, moment: u64)
+    requires { array_string_len text.old ≤ 250 }
+{
+    push_number(text, " at ", moment);
+    text.push_str(" ms</text>\n");
 }
 
 /// How many tasks a workload has, 1 to 1024.

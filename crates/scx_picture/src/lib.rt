@@ -3,7 +3,6 @@
 #![tactic(auto)]
 
 mod drawing;
-mod escapes;
 mod frames;
 
 pub use drawing::picture;

@@ -1,58 +1,57 @@
 use crate::gathering::{CpuFigures, Figures, GroupFigures, TaskFigures};
 use crate::numbers::{decimal, hundredths};
 use crate::quotas::QuotaFigures;
-use scx_output::Out;
-use scx_views::Text;
-use std::fmt;
-use std::fmt::Write;
+use std::alloc::AllocError;
 
-/// Writes the figures as comma-separated values, a line for each figure. No name has a character that would
+/// What stands above the values.
+pub(crate) const COLUMNS: &str = "kind,name,figure,value\n";
+
+/// Makes the figures comma-separated values, a line for each figure. No name has a character that would
 /// have to be quoted.
-pub(crate) fn write_list<W: Out>(figures: &Figures, text: &mut Text<'_, W>) -> fmt::Result {
-    text.write_str("kind,name,figure,value\n")?;
-    list_tasks(figures, text)?;
-    list_cpus(figures.cpus.as_slice(), text)?;
-    list_groups(figures, text)?;
+pub(crate) fn write_list(figures: &Figures, page: &mut String) -> Result<(), AllocError> {
+    list_tasks(figures, page)?;
+    list_cpus(figures.cpus.as_slice(), page)?;
+    list_groups(figures, page)?;
     if figures.quotas.are_some() {
-        list_parked(figures, text)?;
-        list_quotas(figures, text)?;
+        list_parked(figures, page)?;
+        list_quotas(figures, page)?;
     }
     Ok(())
 }
 
-fn list_tasks<W: Out>(figures: &Figures, text: &mut Text<'_, W>) -> fmt::Result {
+fn list_tasks(figures: &Figures, page: &mut String) -> Result<(), AllocError> {
     let mut number = 0u16;
     for task in figures.tasks.as_slice() {
-        list_task(figures.task_name(number), task, text)?;
+        list_task(figures.task_name(number), task, page)?;
         number = number.saturating_add(1);
     }
     Ok(())
 }
 
-fn list_cpus<W: Out>(cpus: &[CpuFigures], text: &mut Text<'_, W>) -> fmt::Result {
+fn list_cpus(cpus: &[CpuFigures], page: &mut String) -> Result<(), AllocError> {
     let mut number = 0u32;
     for cpu in cpus {
-        list_cpu(decimal(number).as_str(), cpu, text)?;
+        list_cpu(decimal(number).as_str(), cpu, page)?;
         number = number.saturating_add(1);
     }
     Ok(())
 }
 
-fn list_groups<W: Out>(figures: &Figures, text: &mut Text<'_, W>) -> fmt::Result {
+fn list_groups(figures: &Figures, page: &mut String) -> Result<(), AllocError> {
     let mut number = 0u32;
     for group in figures.groups.as_slice() {
-        list_group(figures.group_name(number), group, text)?;
+        list_group(figures.group_name(number), group, page)?;
         number = number.saturating_add(1);
     }
     Ok(())
 }
 
 /// Writes for how long each task was parked.
-fn list_parked<W: Out>(figures: &Figures, text: &mut Text<'_, W>) -> fmt::Result {
+fn list_parked(figures: &Figures, page: &mut String) -> Result<(), AllocError> {
     let mut number = 0u16;
     for task in figures.tasks.as_slice() {
         list(
-            text,
+            page,
             "task",
             figures.task_name(number),
             "parked_ms",
@@ -64,91 +63,91 @@ fn list_parked<W: Out>(figures: &Figures, text: &mut Text<'_, W>) -> fmt::Result
 }
 
 /// Writes the figures of each group that has a quota.
-fn list_quotas<W: Out>(figures: &Figures, text: &mut Text<'_, W>) -> fmt::Result {
+fn list_quotas(figures: &Figures, page: &mut String) -> Result<(), AllocError> {
     let mut number = 0u32;
     for group in figures.quotas.groups.as_slice() {
         if let Some(quota_ms) = group.quota_ms {
-            list_quota(figures.group_name(number), quota_ms, group, text)?;
+            list_quota(figures.group_name(number), quota_ms, group, page)?;
         }
         number = number.saturating_add(1);
     }
     Ok(())
 }
 
-fn list_task<W: Out>(name: &str, task: &TaskFigures, text: &mut Text<'_, W>) -> fmt::Result {
+fn list_task(name: &str, task: &TaskFigures, page: &mut String) -> Result<(), AllocError> {
     let waits = &task.waits;
-    list(text, "task", name, "run_ms", task.run)?;
-    list(text, "task", name, "waits", waits.count())?;
-    list_hundredths(text, "task", name, "mean_wait_ms", waits.mean())?;
+    list(page, "task", name, "run_ms", task.run)?;
+    list(page, "task", name, "waits", waits.count())?;
+    list_hundredths(page, "task", name, "mean_wait_ms", waits.mean())?;
     list(
-        text,
+        page,
         "task",
         name,
         "wait_99_percent_ms",
         waits.percentile_99(),
     )?;
-    list(text, "task", name, "longest_wait_ms", waits.longest())?;
+    list(page, "task", name, "longest_wait_ms", waits.longest())?;
     list(
-        text,
+        page,
         "task",
         name,
         "longest_wait_since_ms",
         waits.longest_since(),
     )?;
-    list(text, "task", name, "wakes", task.wakes)?;
-    list(text, "task", name, "stopped", task.stopped)
+    list(page, "task", name, "wakes", task.wakes)?;
+    list(page, "task", name, "stopped", task.stopped)
 }
 
-fn list_cpu<W: Out>(name: &str, cpu: &CpuFigures, text: &mut Text<'_, W>) -> fmt::Result {
-    list(text, "cpu", name, "busy_ms", cpu.busy)?;
-    list(text, "cpu", name, "idle_ms", cpu.idle)?;
-    list(text, "cpu", name, "changes", cpu.changes)
+fn list_cpu(name: &str, cpu: &CpuFigures, page: &mut String) -> Result<(), AllocError> {
+    list(page, "cpu", name, "busy_ms", cpu.busy)?;
+    list(page, "cpu", name, "idle_ms", cpu.idle)?;
+    list(page, "cpu", name, "changes", cpu.changes)
 }
 
-fn list_group<W: Out>(name: &str, group: &GroupFigures, text: &mut Text<'_, W>) -> fmt::Result {
-    list_hundredths(text, "group", name, "share_percent", group.reached)?;
-    list_hundredths(text, "group", name, "due_percent", group.due)
+fn list_group(name: &str, group: &GroupFigures, page: &mut String) -> Result<(), AllocError> {
+    list_hundredths(page, "group", name, "share_percent", group.reached)?;
+    list_hundredths(page, "group", name, "due_percent", group.due)
 }
 
-fn list_quota<W: Out>(
+fn list_quota(
     name: &str,
     quota_ms: u32,
     group: &QuotaFigures,
-    text: &mut Text<'_, W>,
-) -> fmt::Result {
-    list(text, "group", name, "quota_ms", u64::from(quota_ms))?;
-    list(text, "group", name, "period_ms", u64::from(group.period_ms))?;
-    list(text, "group", name, "most_in_a_period_ms", group.most)?;
-    list(text, "group", name, "periods", group.periods)?;
+    page: &mut String,
+) -> Result<(), AllocError> {
+    list(page, "group", name, "quota_ms", u64::from(quota_ms))?;
+    list(page, "group", name, "period_ms", u64::from(group.period_ms))?;
+    list(page, "group", name, "most_in_a_period_ms", group.most)?;
+    list(page, "group", name, "periods", group.periods)?;
     list(
-        text,
+        page,
         "group",
         name,
         "throttled_periods",
         group.throttled_periods,
     )?;
-    list(text, "group", name, "throttled_ms", group.throttled)
+    list(page, "group", name, "throttled_ms", group.throttled)
 }
 
 /// Writes the line of a figure.
-fn list<W: Out>(
-    text: &mut Text<'_, W>,
+fn list(
+    page: &mut String,
     kind: &str,
     name: &str,
     figure: &str,
     value: u64,
-) -> fmt::Result {
-    writeln!(text, "{kind},{name},{figure},{value}")
+) -> Result<(), AllocError> {
+    writeln!(page, "{kind},{name},{figure},{value}")
 }
 
 /// Writes the line of a figure that is counted in hundredths.
-fn list_hundredths<W: Out>(
-    text: &mut Text<'_, W>,
+fn list_hundredths(
+    page: &mut String,
     kind: &str,
     name: &str,
     figure: &str,
     value: u64,
-) -> fmt::Result {
+) -> Result<(), AllocError> {
     let value = hundredths(value);
-    writeln!(text, "{kind},{name},{figure},{value}")
+    writeln!(page, "{kind},{name},{figure},{value}")
 }

@@ -1,13 +1,10 @@
 use crate::gathering::{CpuFigures, Figures, GroupFigures, TaskFigures};
 use crate::numbers::hundredths;
 use crate::quotas::QuotaFigures;
-use scx_output::Out;
-use scx_views::Text;
-use std::fmt;
-use std::fmt::Write;
+use std::alloc::AllocError;
 
 /// What stands above the tables.
-const TASKS: &str =
+pub(crate) const TASKS: &str =
     "task                  run    waits        mean      99%  longest    since    wakes  stopped";
 
 /// What stands behind that where a group has a quota.
@@ -19,67 +16,66 @@ const GROUPS: &str = "group               share      due\n";
 
 const QUOTAS: &str = "group               quota   period     most  periods   throttled      for\n";
 
-/// Writes the figures as tables for people.
-pub(crate) fn write_tables<W: Out>(figures: &Figures, text: &mut Text<'_, W>) -> fmt::Result {
-    write_tasks(figures, text)?;
-    text.write_str("\n")?;
-    write_cpus(figures.cpus.as_slice(), text)?;
-    text.write_str("\n")?;
-    write_groups(figures, text)?;
+/// Makes the figures tables for people, from the end of the first line on.
+pub(crate) fn write_tables(figures: &Figures, page: &mut String) -> Result<(), AllocError> {
+    write_tasks(figures, page)?;
+    page.push_str("\n")?;
+    write_cpus(figures.cpus.as_slice(), page)?;
+    page.push_str("\n")?;
+    write_groups(figures, page)?;
     if figures.quotas.are_some() {
-        text.write_str("\n")?;
-        write_quotas(figures, text)?;
+        page.push_str("\n")?;
+        write_quotas(figures, page)?;
     }
     Ok(())
 }
 
-fn write_tasks<W: Out>(figures: &Figures, text: &mut Text<'_, W>) -> fmt::Result {
+fn write_tasks(figures: &Figures, page: &mut String) -> Result<(), AllocError> {
     let are_parked = figures.quotas.are_some();
-    text.write_str(TASKS)?;
     if are_parked {
-        text.write_str(PARKED)?;
+        page.push_str(PARKED)?;
     }
-    text.write_str("\n")?;
+    page.push_str("\n")?;
     let mut number = 0u16;
     for task in figures.tasks.as_slice() {
-        write_task(figures.task_name(number), task, text)?;
+        write_task(figures.task_name(number), task, page)?;
         if are_parked {
-            write_numbers(&[task.parked], text)?;
+            write_numbers(&[task.parked], page)?;
         }
-        text.write_str("\n")?;
+        page.push_str("\n")?;
         number = number.saturating_add(1);
     }
     Ok(())
 }
 
-fn write_task<W: Out>(name: &str, task: &TaskFigures, text: &mut Text<'_, W>) -> fmt::Result {
+fn write_task(name: &str, task: &TaskFigures, page: &mut String) -> Result<(), AllocError> {
     let waits = &task.waits;
     let mean = hundredths(waits.mean());
-    write!(text, "{name:<16}")?;
-    write_numbers(&[task.run, waits.count()], text)?;
-    write!(text, "{mean:>12}")?;
+    write!(page, "{name:<16}")?;
+    write_numbers(&[task.run, waits.count()], page)?;
+    write!(page, "{mean:>12}")?;
     let waited = [
         waits.percentile_99(),
         waits.longest(),
         waits.longest_since(),
     ];
-    write_numbers(&waited, text)?;
-    write_numbers(&[task.wakes, task.stopped], text)
+    write_numbers(&waited, page)?;
+    write_numbers(&[task.wakes, task.stopped], page)
 }
 
-fn write_numbers<W: Out>(numbers: &[u64], text: &mut Text<'_, W>) -> fmt::Result {
+fn write_numbers(numbers: &[u64], page: &mut String) -> Result<(), AllocError> {
     for number in numbers {
-        write!(text, "{number:>9}")?;
+        write!(page, "{number:>9}")?;
     }
     Ok(())
 }
 
-fn write_cpus<W: Out>(cpus: &[CpuFigures], text: &mut Text<'_, W>) -> fmt::Result {
-    text.write_str(CPUS)?;
+fn write_cpus(cpus: &[CpuFigures], page: &mut String) -> Result<(), AllocError> {
+    page.push_str(CPUS)?;
     let mut number = 0u32;
     for cpu in cpus {
         writeln!(
-            text,
+            page,
             "{:<16}{:>9}{:>9}{:>12}",
             number, cpu.busy, cpu.idle, cpu.changes
         )?;
@@ -88,19 +84,19 @@ fn write_cpus<W: Out>(cpus: &[CpuFigures], text: &mut Text<'_, W>) -> fmt::Resul
     Ok(())
 }
 
-fn write_groups<W: Out>(figures: &Figures, text: &mut Text<'_, W>) -> fmt::Result {
-    text.write_str(GROUPS)?;
+fn write_groups(figures: &Figures, page: &mut String) -> Result<(), AllocError> {
+    page.push_str(GROUPS)?;
     let mut number = 0u32;
     for group in figures.groups.as_slice() {
-        write_group(figures.group_name(number), group, text)?;
+        write_group(figures.group_name(number), group, page)?;
         number = number.saturating_add(1);
     }
     Ok(())
 }
 
-fn write_group<W: Out>(name: &str, group: &GroupFigures, text: &mut Text<'_, W>) -> fmt::Result {
+fn write_group(name: &str, group: &GroupFigures, page: &mut String) -> Result<(), AllocError> {
     writeln!(
-        text,
+        page,
         "{:<16}{:>8}%{:>8}%",
         name,
         hundredths(group.reached),
@@ -109,26 +105,26 @@ fn write_group<W: Out>(name: &str, group: &GroupFigures, text: &mut Text<'_, W>)
 }
 
 /// Writes a line for each group that has a quota.
-fn write_quotas<W: Out>(figures: &Figures, text: &mut Text<'_, W>) -> fmt::Result {
-    text.write_str(QUOTAS)?;
+fn write_quotas(figures: &Figures, page: &mut String) -> Result<(), AllocError> {
+    page.push_str(QUOTAS)?;
     let mut number = 0u32;
     for group in figures.quotas.groups.as_slice() {
         if let Some(quota_ms) = group.quota_ms {
-            write_quota(figures.group_name(number), quota_ms, group, text)?;
+            write_quota(figures.group_name(number), quota_ms, group, page)?;
         }
         number = number.saturating_add(1);
     }
     Ok(())
 }
 
-fn write_quota<W: Out>(
+fn write_quota(
     name: &str,
     quota_ms: u32,
     group: &QuotaFigures,
-    text: &mut Text<'_, W>,
-) -> fmt::Result {
+    page: &mut String,
+) -> Result<(), AllocError> {
     writeln!(
-        text,
+        page,
         "{:<16}{:>9}{:>9}{:>9}{:>9}{:>12}{:>9}",
         name,
         quota_ms,

@@ -1,16 +1,18 @@
-ghost use Rattle.std.specs.Prelude.{◌≡◌, true, IfOk, IfErr};
+ghost use Rattle.std.specs.Prelude.{◌≡◌, ◌++◌, ℕ, List, true, Err, IfOk, IfErr, OnOk, OnErr};
+ghost use Rattle.std.specs.Io.KnownBytes.{Appends};
+ghost use Rattle.scx_output.specs.Output.{HasFailed};
 ghost use Rattle.scx_outcomes.specs.Outcome.{IfRefused, IsRefused};
 ghost use Rattle.scx_simulation.specs.Runs.{IsCause};
+ghost use Rattle.scx_statistics.specs.Figures.{tables, values};
 
 use crate::gathering::{Figures, gather};
-use crate::listing::write_list;
-use crate::tables::write_tables;
+use crate::listing::{COLUMNS, write_list};
+use crate::tables::{TASKS, write_tables};
 use scx_outcomes::{Fault, Refusal};
-use scx_output::Out;
+use scx_output::{Failed, Out, write_all};
 use scx_simulation::{Listener, prepare};
 use scx_trace::Names;
-use scx_views::{Text, written};
-use std::alloc::Global;
+use std::alloc::{AllocError, Global};
 
 impl Figures {
     pub(crate) fn task_name(&self, task: u16) -> &str {
@@ -35,14 +37,18 @@ pub fn stats<L: Listener, W: Out>(
     listener: &mut L,
     out: &mut W,
 ) -> Result<bool, Fault>
-    ensures done { IfOk result (λ answer. answer ≡ true) }
+    ensures done { IfOk result (λ answer. (answer ≡ true) × (rows : List ℕ)
+        × Appends (W.contents out.old) (W.contents out.new) (tables rows)) }
+    ensures unfailed { OnOk result (W.failure_count out.new ≡ W.failure_count out.old) }
 
     // A refusal has its cause in the texts, and comes before any byte is written.
     ensures refused { IfRefused result (IsCause policy.now workload.now) }
     ensures quiet { IsRefused result → out.new ≡ out.old }
+    ensures counted { result ≡ Err Fault.WriteFailed
+        → HasFailed (W.failure_count out.old) (W.failure_count out.new) }
 {
-    let figures = figures_of(alloc, policy, workload, listener)?;
-    written(write_tables(&figures, &mut Text::new(out)))?;
+    let rows = tables_of(alloc, policy, workload, listener)?;
+    write_rows(TASKS, rows.as_str(), out)?;
     Ok(true)
 }
 
@@ -58,15 +64,69 @@ pub fn stats_csv<L: Listener, W: Out>(
     listener: &mut L,
     out: &mut W,
 ) -> Result<bool, Fault>
-    ensures done { IfOk result (λ answer. answer ≡ true) }
+    ensures done { IfOk result (λ answer. (answer ≡ true) × (rows : List ℕ)
+        × Appends (W.contents out.old) (W.contents out.new) (values rows)) }
+    ensures unfailed { OnOk result (W.failure_count out.new ≡ W.failure_count out.old) }
 
     // A refusal has its cause in the texts, and comes before any byte is written.
     ensures refused { IfRefused result (IsCause policy.now workload.now) }
     ensures quiet { IsRefused result → out.new ≡ out.old }
+    ensures counted { result ≡ Err Fault.WriteFailed
+        → HasFailed (W.failure_count out.old) (W.failure_count out.new) }
+{
+    let rows = values_of(alloc, policy, workload, listener)?;
+    write_rows(COLUMNS, rows.as_str(), out)?;
+    Ok(true)
+}
+
+/// Writes what stands above rows, and then the rows.
+fn write_rows<W: Out>(head: &str, rows: &str, out: &mut W) -> Result<(), Failed>
+    ensures ok { OnOk result
+        (Appends (W.contents out.old) (W.contents out.new) (head.now ++ rows.now)) }
+    ensures ok_failures { OnOk result (W.failure_count out.new ≡ W.failure_count out.old) }
+    ensures err_failures { OnErr result
+        (HasFailed (W.failure_count out.old) (W.failure_count out.new)) }
+{
+    write_all(out, head.as_bytes())?;
+    write_all(out, rows.as_bytes())
+}
+
+/// The rows of the tables. All memory is taken before the first byte is written.
+fn tables_of<L: Listener>(
+    alloc: Global,
+    policy: &str,
+    workload: &str,
+    listener: &mut L,
+) -> Result<String, Refusal>
+    ensures { IfErr result (IsCause policy.now workload.now) }
 {
     let figures = figures_of(alloc, policy, workload, listener)?;
-    written(write_list(&figures, &mut Text::new(out)))?;
-    Ok(true)
+    Ok(table_rows(alloc, &figures)?)
+}
+
+fn table_rows(alloc: Global, figures: &Figures) -> Result<String, AllocError> {
+    let mut rows = String::new(alloc);
+    write_tables(figures, &mut rows)?;
+    Ok(rows)
+}
+
+/// The rows of the values.
+fn values_of<L: Listener>(
+    alloc: Global,
+    policy: &str,
+    workload: &str,
+    listener: &mut L,
+) -> Result<String, Refusal>
+    ensures { IfErr result (IsCause policy.now workload.now) }
+{
+    let figures = figures_of(alloc, policy, workload, listener)?;
+    Ok(value_rows(alloc, &figures)?)
+}
+
+fn value_rows(alloc: Global, figures: &Figures) -> Result<String, AllocError> {
+    let mut rows = String::new(alloc);
+    write_list(figures, &mut rows)?;
+    Ok(rows)
 }
 
 fn figures_of<L: Listener>(

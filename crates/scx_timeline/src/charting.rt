@@ -1,46 +1,24 @@
-ghost use Rattle.std.specs.Prelude.{◌≡◌, true, IfOk};
+ghost use Rattle.std.specs.Prelude.{◌≡◌, ℕ, List, true, Err, IfOk, OnOk};
+ghost use Rattle.std.specs.Io.KnownBytes.{Appends};
+ghost use Rattle.scx_output.specs.Output.{HasFailed};
 ghost use Rattle.scx_outcomes.specs.Outcome.{IfRefused, IsRefused};
 ghost use Rattle.scx_outcomes.specs.declared.refusal.Refusal.TheVariants.{NoMemory};
 ghost use Rattle.scx_simulation.specs.Runs.{IsCause};
+ghost use Rattle.scx_timeline.specs.Documents.{document};
 
-use crate::documents::{Document, room_for_object};
-use crate::lengths::{Length, Lengths, queue_name};
-use crate::objects::{Complete, Counter, Instant, Title};
-use arrayvec::ArrayString;
+use crate::documents::{END, HEAD, titles};
+use crate::lengths::Lengths;
+use crate::objects::{count, entry, fault, slice, stall, wake};
+use crate::tracks::{CPUS, INSERTS, MOVES, PARKED};
 use scx_outcomes::{Fault, Refusal};
-use scx_output::{Failed, Out};
-use scx_sched::{Event, Sim, What};
+use scx_output::Out;
+use scx_sched::{Sim, What};
 use scx_simulation::{Heard, Listener, Run, prepare};
-use scx_trace::{Events, Names};
-use scx_views::{Pause, PauseKind, Pauses, View, watch};
+use scx_trace::Events;
+use scx_views::{Line, Page, Pause, PauseKind, Pauses, Sketch, write_sketch};
 use scx_workloads::Workload;
 use scx_world::LOCAL_ON;
 use std::alloc::{AllocError, Global};
-use std::fmt::Write;
-
-/// A millisecond in microseconds.
-const MS: u64 = 1000;
-
-/// The groups of tracks: processors, what happens to tasks, queues, and when tasks are parked.
-const CPUS: u32 = 0;
-
-const TASKS: u32 = 1;
-
-const QUEUES: u32 = 2;
-
-const PARKED: u32 = 3;
-
-/// The tracks of what happens to tasks.
-const WAKES: u32 = 0;
-
-const INSERTS: u32 = 1;
-
-const MOVES: u32 = 2;
-
-const EJECTIONS: u32 = 3;
-
-/// The name of an instant.
-type Label = ArrayString<64>;
 
 /// Writes the timeline of the run that the texts of a policy file and of a workload file stand for. The
 /// answer is true.
@@ -55,11 +33,15 @@ pub fn timeline<L: Listener, W: Out>(
     listener: &mut L,
     out: &mut W,
 ) -> Result<bool, Fault>
-    ensures done { IfOk result (λ answer. answer ≡ true) }
+    ensures done { IfOk result (λ answer. (answer ≡ true) × (objects : List ℕ)
+        × Appends (W.contents out.old) (W.contents out.new) (document objects)) }
+    ensures unfailed { OnOk result (W.failure_count out.new ≡ W.failure_count out.old) }
 
     // A refusal has its cause in the texts, and comes before any byte is written.
     ensures refused { IfRefused result (IsCause policy.now workload.now) }
     ensures quiet { IsRefused result → out.new ≡ out.old }
+    ensures counted { result ≡ Err Fault.WriteFailed
+        → HasFailed (W.failure_count out.old) (W.failure_count out.new) }
 {
     let run = prepare(alloc, policy, workload)?;
     write_timeline(alloc, run, listener, out)
@@ -72,9 +54,13 @@ fn write_timeline<L: Listener, W: Out>(
     listener: &mut L,
     out: &mut W,
 ) -> Result<bool, Fault>
-    ensures done { IfOk result (λ answer. answer ≡ true) }
+    ensures done { IfOk result (λ answer. (answer ≡ true) × (objects : List ℕ)
+        × Appends (W.contents out.old) (W.contents out.new) (document objects)) }
+    ensures unfailed { OnOk result (W.failure_count out.new ≡ W.failure_count out.old) }
     ensures refused { IfRefused result (λ refusal. refusal ≡ NoMemory) }
     ensures quiet { IsRefused result → out.new ≡ out.old }
+    ensures counted { result ≡ Err Fault.WriteFailed
+        → HasFailed (W.failure_count out.old) (W.failure_count out.new) }
 {
     let Run {
         workload,
@@ -92,15 +78,18 @@ fn write_chart<E: Events, W: Out>(
     sim: &mut Sim,
     out: &mut W,
 ) -> Result<bool, Fault>
-    ensures done { IfOk result (λ answer. answer ≡ true) }
+    ensures done { IfOk result (λ answer. (answer ≡ true) × (objects : List ℕ)
+        × Appends (W.contents out.old) (W.contents out.new) (document objects)) }
+    ensures unfailed { OnOk result (W.failure_count out.new ≡ W.failure_count out.old) }
     ensures refused { IfRefused result (λ refusal. refusal ≡ NoMemory) }
     ensures quiet { IsRefused result → out.new ≡ out.old }
+    ensures counted { result ≡ Err Fault.WriteFailed
+        → HasFailed (W.failure_count out.old) (W.failure_count out.new) }
 {
-    let Ok(room) = Room::new(alloc, workload) else {
+    let Ok(mut chart) = Chart::new(alloc, workload) else {
         return Err(Fault::Refused(Refusal::NoMemory));
     };
-    let mut chart = Chart::new(alloc, workload, room, out);
-    chart.write(sim, events)?;
+    write_sketch(sim, events, &mut chart, workload, HEAD, END, out)?;
     Ok(true)
 }
 
@@ -111,151 +100,49 @@ struct Running {
     since: u64,
 }
 
-/// All memory of a timeline.
+/// A timeline on its way.
 #[derive(Drop)]
-struct Room {
-    object: Vec<u8>,
+struct Chart {
+    titles: String,
+    page: Page,
     /// Who runs, by processor.
     running: Vec<Option<Running>>,
     pauses: Pauses,
     lengths: Lengths,
 }
 
-impl Room {
-    fn new(alloc: Global, workload: &Workload) -> Result<Room, AllocError> {
-        Ok(Room {
-            object: room_for_object(alloc)?,
+impl Chart {
+    /// A timeline in which nothing has happened yet. All its memory is taken here.
+    fn new(alloc: Global, workload: &Workload) -> Result<Self, AllocError> {
+        Ok(Chart {
+            titles: titles(alloc, workload)?,
+            page: Page::new(),
             running: vec![in alloc; None; workload.cpus() as usize]?,
             pauses: Pauses::new(alloc, workload.tasks().len())?,
             lengths: Lengths::new(alloc, workload.tasks().len())?,
         })
     }
-}
 
-/// A timeline on its way.
-#[derive(Drop)]
-struct Chart<'a, W> {
-    workload: &'a Workload,
-    document: Document<'a, W>,
-    running: Vec<Option<Running>>,
-    pauses: Pauses,
-    lengths: Lengths,
-    failed: bool,
-}
-
-impl<'a, W: Out> Chart<'a, W> {
-    fn new(alloc: Global, workload: &'a Workload, room: Room, out: &'a mut W) -> Self {
-        let Room {
-            object,
-            running,
-            pauses,
-            lengths,
-        } = room;
-        Chart {
-            workload,
-            document: Document::new(alloc, object, out),
-            running,
-            pauses,
-            lengths,
-            failed: false,
-        }
-    }
-
-    /// Goes through the run, and writes it.
-    fn write<E: Events>(&mut self, sim: &mut Sim, events: &mut E) -> Result<(), Failed> {
-        self.begin()?;
-        watch(sim, events, self);
-        self.end(sim.clock())
-    }
-
-    /// Names the tracks.
-    fn begin(&mut self) -> Result<(), Failed> {
-        self.title("process_name", CPUS, 0, "processors")?;
-        for cpu in 0..self.workload.cpus() {
-            let mut name = Label::new();
-            let _ = write!(name, "cpu {cpu}");
-            self.title("thread_name", CPUS, cpu, name.as_str())?;
-        }
-        self.title("process_name", TASKS, 0, "tasks")?;
-        self.title("thread_name", TASKS, WAKES, "wakes")?;
-        self.title("thread_name", TASKS, INSERTS, "inserts")?;
-        self.title("thread_name", TASKS, MOVES, "moves")?;
-        self.title("thread_name", TASKS, EJECTIONS, "ejections")?;
-        self.title("process_name", QUEUES, 0, "queues")?;
-        if has_quotas(self.workload) {
-            self.begin_parked()?;
-        }
-        Ok(())
-    }
-
-    /// Names a track for each task.
-    fn begin_parked(&mut self) -> Result<(), Failed> {
-        self.title("process_name", PARKED, 0, "parked")?;
-        let workload = self.workload;
-        let mut task = 0u16;
-        for _group in workload.tasks() {
-            self.title("thread_name", PARKED, u32::from(task), workload.task(task))?;
-            task = task.saturating_add(1);
-        }
-        Ok(())
-    }
-
-    fn title(&mut self, what: &str, pid: u32, tid: u32, name: &str) -> Result<(), Failed> {
-        self.document.put(&Title {
-            pid,
-            tid,
-            what,
-            title: name,
-        })
-    }
-
-    /// Ends what still runs at that moment, and the timeline.
-    fn end(&mut self, moment: u64) -> Result<(), Failed> {
-        if self.failed {
-            return Err(Failed);
-        }
-        for cpu in 0..self.workload.cpus() {
-            self.stop(moment, cpu)?;
-        }
-        self.end_pauses(moment)?;
-        self.document.end()
-    }
-
-    fn end_pauses(&mut self, moment: u64) -> Result<(), Failed> {
-        let workload = self.workload;
-        let mut task = 0u16;
-        for _group in workload.tasks() {
-            let pause = self.pauses.unfinished(task, moment);
-            self.put_pause(pause)?;
-            task = task.saturating_add(1);
-        }
-        Ok(())
-    }
-
-    fn put(&mut self, moment: u64, what: What) -> Result<(), Failed> {
-        let pause = self.pauses.show(moment, what);
-        self.put_pause(pause)?;
+    /// Makes what happens in the second place, and how many wait then in the queue that is left and in the
+    /// one that is entered in the third and the fourth.
+    fn put(&mut self, moment: u64, what: What) {
         match what {
-            What::Wake(task) => self.instant(moment, WAKES, "t", self.workload.task(task)),
+            What::Wake(task) => self.page.second = Some(wake(moment, task)),
             What::Sleep(task) => self.place(moment, task, None),
             What::Insert(task, queue) => self.enter(moment, INSERTS, task, queue),
             What::Move(task, cpu) => {
                 let queue = LOCAL_ON.saturating_add(u64::from(cpu));
-                self.enter(moment, MOVES, task, queue)
+                self.enter(moment, MOVES, task, queue);
             }
             What::Run(task, cpu) => {
                 self.run(moment, task, cpu);
-                self.place(moment, task, None)
+                self.place(moment, task, None);
             }
             What::Stop(_, cpu) => self.stop(moment, cpu),
-            What::Idle(_) | What::Weight(_, _) => Ok(()),
-            What::Stall(task) => self.eject(moment, stall_label(self.workload.task(task))),
-            What::Fault(fault) => self.eject(moment, fault_label(fault.code())),
+            What::Idle(_) | What::Weight(_, _) => {}
+            What::Stall(task) => self.page.second = Some(stall(moment, task)),
+            What::Fault(reason) => self.page.second = Some(fault(moment, reason.code())),
         }
-    }
-
-    fn eject(&mut self, moment: u64, label: Label) -> Result<(), Failed> {
-        self.instant(moment, EJECTIONS, "g", label.as_str())
     }
 
     fn run(&mut self, moment: u64, task: u16, cpu: u32) {
@@ -267,124 +154,83 @@ impl<'a, W: Out> Chart<'a, W> {
         }
     }
 
-    /// Writes who ran on the processor, if somebody did and not for no time at all.
-    fn stop(&mut self, moment: u64, cpu: u32) -> Result<(), Failed> {
+    /// Nobody runs on the processor any more. Who ran there is in the second place, if somebody did and not
+    /// for no time at all.
+    fn stop(&mut self, moment: u64, cpu: u32) {
         let Some(place) = self.running.get_mut(cpu as usize) else {
-            return Ok(());
+            return;
         };
-        let Some(running) = place.take() else {
-            return Ok(());
-        };
-        if moment <= running.since {
-            return Ok(());
+        if let Some(running) = place.take() {
+            self.page.second = ran(running, cpu, moment);
         }
-        self.document.put(&Complete {
-            pid: CPUS,
-            tid: cpu,
-            ts: running.since.saturating_mul(MS),
-            dur: moment.saturating_sub(running.since).saturating_mul(MS),
-            name: self.workload.task(running.task),
-        })
-    }
-
-    /// Writes for how long a task was parked, if it was and not for no time at all.
-    fn put_pause(&mut self, pause: Option<Pause>) -> Result<(), Failed> {
-        let Some(pause) = pause else {
-            return Ok(());
-        };
-        if pause.kind == PauseKind::Wait || pause.length() == 0 {
-            return Ok(());
-        }
-        self.document.put(&Complete {
-            pid: PARKED,
-            tid: u32::from(pause.task),
-            ts: pause.since.saturating_mul(MS),
-            dur: pause.length().saturating_mul(MS),
-            name: self.workload.task(pause.task),
-        })
     }
 
     /// A task comes to that queue, and waits there from now on.
-    fn enter(&mut self, moment: u64, track: u32, task: u16, queue: u64) -> Result<(), Failed> {
-        let label = queue_label(self.workload.task(task), queue);
-        self.instant(moment, track, "t", label.as_str())?;
-        self.place(moment, task, Some(queue))
-    }
-
-    fn instant(&mut self, moment: u64, track: u32, scope: &str, name: &str) -> Result<(), Failed> {
-        self.document.put(&Instant {
-            pid: TASKS,
-            tid: track,
-            ts: moment.saturating_mul(MS),
-            scope,
-            name,
-        })
+    fn enter(&mut self, moment: u64, track: u32, task: u16, queue: u64) {
+        self.page.second = Some(entry(moment, track, task, queue));
+        self.place(moment, task, Some(queue));
+        self.page.fourth = Some(count(moment, self.lengths.add(queue)));
     }
 
     /// The task waits in that queue from now on, or nowhere.
-    fn place(&mut self, moment: u64, task: u16, queue: Option<u64>) -> Result<(), Failed> {
+    fn place(&mut self, moment: u64, task: u16, queue: Option<u64>) {
         if let Some(before) = self.lengths.replace(task, queue) {
-            let length = self.lengths.take(before);
-            self.count(moment, length)?;
-        }
-        if let Some(queue) = queue {
-            let length = self.lengths.add(queue);
-            self.count(moment, length)?;
-        }
-        Ok(())
-    }
-
-    fn count(&mut self, moment: u64, length: Length) -> Result<(), Failed> {
-        let name = queue_name(length.queue);
-        self.document.put(&Counter {
-            pid: QUEUES,
-            ts: moment.saturating_mul(MS),
-            name: name.as_str(),
-            tasks: length.tasks,
-        })
-    }
-}
-
-/// Whether a group of the workload has a quota.
-fn has_quotas(workload: &Workload) -> bool {
-    workload
-        .groups()
-        .iter()
-        .any(|group| group.quota_ms.is_some())
-}
-
-fn stall_label(task: &str) -> Label {
-    let mut label = Label::new();
-    let _ = write!(label, "eject stall {task}");
-    label
-}
-
-fn fault_label(code: u8) -> Label {
-    let mut label = Label::new();
-    let _ = write!(label, "eject fault {code}");
-    label
-}
-
-fn queue_label(task: &str, queue: u64) -> Label {
-    let queue = queue_name(queue);
-    let mut label = Label::new();
-    let _ = write!(label, "{task} to {queue}");
-    label
-}
-
-impl<W: Out> View for Chart<'_, W> {
-    ghost has_failed = { λ c. c.failed };
-
-    fn expect(&mut self, _sim: &Sim, _event: Event) {}
-
-    fn show(&mut self, moment: u64, _clock: u64, what: What) {
-        if self.put(moment, what).is_err() {
-            self.failed = true;
+            self.page.third = Some(count(moment, self.lengths.take(before)));
         }
     }
+}
 
-    fn failed(&self) -> bool {
-        let failed = self.failed;
-        failed
+/// Who ran on the processor, if not for no time at all.
+fn ran(running: Running, cpu: u32, moment: u64) -> Option<Line> {
+    if moment <= running.since {
+        return None;
+    }
+    Some(slice(CPUS, cpu, running.task, running.since, moment))
+}
+
+/// For how long a task was parked, if it was and not for no time at all.
+fn parked(pause: Option<Pause>) -> Option<Line> {
+    let pause = pause?;
+    if pause.kind == PauseKind::Wait || pause.length() == 0 {
+        return None;
+    }
+    let Pause {
+        task,
+        since,
+        until,
+        ..
+    } = pause;
+    Some(slice(PARKED, u32::from(task), task, since, until))
+}
+
+impl Sketch for Chart {
+    ghost page_of = { λ c. c.page };
+
+    fn beginning(&self) -> &str {
+        self.titles.as_str()
+    }
+
+    fn page(&self) -> &Page {
+        &self.page
+    }
+
+    fn show(&mut self, moment: u64, what: What) {
+        self.page.clear();
+        self.page.first = parked(self.pauses.show(moment, what));
+        self.put(moment, what);
+    }
+
+    fn end_cpu(&mut self, moment: u64, cpu: u32) {
+        self.page.clear();
+        self.stop(moment, cpu);
+    }
+
+    fn end_task(&mut self, moment: u64, task: u16) {
+        self.page.clear();
+        self.page.first = parked(self.pauses.unfinished(task, moment));
+    }
+
+    fn end(&mut self, _moment: u64) {
+        self.page.clear();
     }
 }

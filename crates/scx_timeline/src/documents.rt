@@ -1,64 +1,83 @@
-use crate::objects::Object;
-use json::Writer;
-use scx_output::{Failed, Out, write_all};
+use crate::tracks::{CPUS, EJECTIONS, INSERTS, MOVES, PARKED, QUEUES, TASKS, WAKES};
+use arrayvec::ArrayString;
+use scx_trace::Names;
+use scx_workloads::Workload;
 use std::alloc::{AllocError, Global};
-use std::mem;
+use std::fmt::Write;
 
-/// How many bytes an object takes at most, and many more.
-const OBJECT_CAPACITY: usize = 2048;
+/// What stands in a document of the Chrome trace format before its first object, and behind the last one.
+pub(crate) const HEAD: &str = "{\"displayTimeUnit\":\"ms\",\"traceEvents\":[\n";
 
-/// Room for an object.
-pub(crate) fn room_for_object(alloc: Global) -> Result<Vec<u8>, AllocError> {
-    Vec::with_capacity(alloc, OBJECT_CAPACITY)
+pub(crate) const END: &str = "\n]}\n";
+
+/// The titles of all tracks, which are the first objects of a document.
+pub(crate) fn titles(alloc: Global, workload: &Workload) -> Result<String, AllocError> {
+    let mut text = String::new(alloc);
+    push_cpus(&mut text, workload.cpus())?;
+    push_tasks(&mut text)?;
+    push_title(&mut text, "process_name", QUEUES, 0, "queues")?;
+    if has_quotas(workload) {
+        push_parked(&mut text, workload)?;
+    }
+    Ok(text)
 }
 
-/// A document of the Chrome trace format on its way: a line for each object.
-#[derive(Drop)]
-pub(crate) struct Document<'a, W> {
-    alloc: Global,
-    out: &'a mut W,
-    /// Room for an object, so that none takes memory in the course of a run.
-    room: Vec<u8>,
-    is_empty: bool,
+/// Whether a group of the workload has a quota.
+fn has_quotas(workload: &Workload) -> bool {
+    workload
+        .groups()
+        .iter()
+        .any(|group| group.quota_ms.is_some())
 }
 
-impl<'a, W: Out> Document<'a, W> {
-    pub(crate) fn new(alloc: Global, room: Vec<u8>, out: &'a mut W) -> Self {
-        Document {
-            alloc,
-            out,
-            room,
-            is_empty: true,
-        }
+fn push_cpus(text: &mut String, cpus: u32) -> Result<(), AllocError> {
+    push_title(text, "process_name", CPUS, 0, "processors")?;
+    for cpu in 0..cpus {
+        push_title(text, "thread_name", CPUS, cpu, cpu_name(cpu).as_str())?;
     }
+    Ok(())
+}
 
-    /// Writes one more object. An object that there is no memory for can't be written either.
-    pub(crate) fn put<T: Object>(&mut self, object: &T) -> Result<(), Failed> {
-        let mut room = mem::replace(&mut self.room, Vec::new(self.alloc));
-        room.clear();
-        let mut writer = Writer::new(room);
-        let made = object.write(&mut writer);
-        self.room = writer.into_inner();
-        if made.is_err() {
-            return Err(Failed);
-        }
-        self.write_object()
-    }
+fn cpu_name(cpu: u32) -> ArrayString<16> {
+    let mut name = ArrayString::new();
+    let _ = write!(name, "cpu {cpu}");
+    name
+}
 
-    /// Writes the object that stands in the room.
-    fn write_object(&mut self) -> Result<(), Failed> {
-        let before = if self.is_empty {
-            "{\"displayTimeUnit\":\"ms\",\"traceEvents\":[\n"
-        } else {
-            ",\n"
-        };
-        write_all(self.out, before.as_bytes())?;
-        self.is_empty = false;
-        write_all(self.out, self.room.as_slice())
-    }
+fn push_tasks(text: &mut String) -> Result<(), AllocError> {
+    push_title(text, "process_name", TASKS, 0, "tasks")?;
+    push_title(text, "thread_name", TASKS, WAKES, "wakes")?;
+    push_title(text, "thread_name", TASKS, INSERTS, "inserts")?;
+    push_title(text, "thread_name", TASKS, MOVES, "moves")?;
+    push_title(text, "thread_name", TASKS, EJECTIONS, "ejections")
+}
 
-    /// Writes what stands behind the last object.
-    pub(crate) fn end(&mut self) -> Result<(), Failed> {
-        write_all(self.out, b"\n]}\n")
+/// Each task has a track for when it is parked.
+fn push_parked(text: &mut String, workload: &Workload) -> Result<(), AllocError> {
+    push_title(text, "process_name", PARKED, 0, "parked")?;
+    let mut task = 0u16;
+    for _group in workload.tasks() {
+        let name = workload.task(task);
+        push_title(text, "thread_name", PARKED, u32::from(task), name)?;
+        task = task.saturating_add(1);
     }
+    Ok(())
+}
+
+/// Appends that a group of tracks, or a track, as `what` says, has that title. No title has a character that
+/// would have to be quoted.
+fn push_title(
+    text: &mut String,
+    what: &str,
+    pid: u32,
+    tid: u32,
+    title: &str,
+) -> Result<(), AllocError> {
+    if !text.is_empty() {
+        text.push_str(",\n")?;
+    }
+    write!(
+        text,
+        "{{\"ph\":\"M\",\"pid\":{pid},\"tid\":{tid},\"name\":\"{what}\",\"args\":{{\"name\":\"{title}\"}}}}"
+    )
 }

@@ -1,7 +1,5 @@
-use arrayvec::{ArrayString, ArrayVec};
-use scx_world::{BUILTIN, GLOBAL, HELD, PARKED, POLICY_END};
+use arrayvec::ArrayVec;
 use std::alloc::{AllocError, Global};
-use std::fmt::Write;
 
 /// The most queues that a run has: 16 of the policy, 4 for all processors, and 64 of single ones.
 const MAX_QUEUES: usize = 84;
@@ -60,23 +58,4 @@ impl Lengths {
         }
         Length { queue, tasks: 0 }
     }
-}
-
-/// What a queue is called, as in a trace.
-pub(crate) fn queue_name(queue: u64) -> ArrayString<32> {
-    let mut name = ArrayString::new();
-    let _ = if queue < POLICY_END {
-        write!(name, "queue {queue}")
-    } else if queue == GLOBAL {
-        write!(name, "global")
-    } else if queue == HELD {
-        write!(name, "held")
-    } else if queue == BUILTIN {
-        write!(name, "builtin")
-    } else if queue == PARKED {
-        write!(name, "parked")
-    } else {
-        write!(name, "local {}", queue % 0x1_0000_0000)
-    };
-    name
 }

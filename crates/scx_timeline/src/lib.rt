@@ -6,5 +6,6 @@ mod charting;
 mod documents;
 mod lengths;
 mod objects;
+mod tracks;
 
 pub use charting::timeline;

@@ -1,1 +1,3 @@
 pub mod Watching
+pub mod Pages
+pub mod Sketching

@@ -1,0 +1,20 @@
+-- The text of the lines on a page.
+use Rattle.std.specs.Prelude.{ℕ, List, [], ◌++◌, Option, None, Some}
+use Rattle.scx_trace.specs.Lines.{NameLists, task_name}
+use Rattle.scx_views.specs.declared.pages.Line.{Line}
+use Rattle.scx_views.specs.declared.pages.Page.{Page}
+
+abbrev pub name_text : NameLists → Option ℕ → List ℕ
+name_text x None = []
+name_text x (Some task) = task_name x task
+
+abbrev pub line_text : NameLists → Line → List ℕ
+line_text x line = line.start.bytes ++ name_text x line.task ++ line.end.bytes
+
+-- the line that stands there, if one does
+abbrev pub place_text : NameLists → Option Line → List ℕ
+place_text x None = []
+place_text x (Some line) = line_text x line
+
+abbrev pub page_text : NameLists → Page → List ℕ
+page_text x page = place_text x page.first ++ place_text x page.second ++ place_text x page.third ++ place_text x page.fourth
