@@ -2,7 +2,7 @@ ghost use Rattle.std.specs.Prelude.{◌≡◌, ℕ, ◌≤◌, false, None, IfOk
 ghost use Rattle.std.specs.List.{AllByRecursion};
 ghost use Rattle.scx_machine.specs.Notes.{Takes};
 ghost use Rattle.scx_machine.specs.Callbacks.{AreAnswered};
-ghost use Rattle.scx_machine.specs.Policy.{AreAs};
+ghost use Rattle.scx_machine.specs.Policy.{IsTimeout, AreAs};
 ghost use Rattle.scx_machine.specs.Start.{is_bad_shape, IsRefusal, AreAnsweredBefore};
 ghost use Rattle.scx_sched.specs.Once.{IsOnce};
 ghost use Rattle.scx_sched.specs.Usages.{AreBounded};
@@ -50,8 +50,10 @@ pub fn run_events<S: Sink>(
     ensures follows { OnOk result
         (EachFollows events.now (machine_run policy tree cpus events.now).states) }
 
-    // A machine is made of a good shape, and each program was verified as the callback that it is.
+    // A machine is made of a good shape, its limit is one of 1 to 30,000 ms, and each program was verified as
+    // the callback that it is.
     ensures shape { OnOk result (is_bad_shape tree cpus ≡ false) }
+    ensures limit { OnOk result (IsTimeout policy.timeout_ms) }
     ensures programs { OnOk result (AreAs policy.callbacks) }
     // Where no machine is made there is a cause, and no note. Its callbacks aren't stuck either.
     ensures refused { IfErr result (IsRefusal policy tree cpus) }

@@ -31,9 +31,9 @@ abbrev pub ended : PolicyState → Ending WorldState → State
 ended p e = record { policy = p; maps = e.maps; world = quiet e.outside }
 
 -- a program that is absent isn't called
-abbrev pub calls_of : Option VerifiedProgram → Args → Maps → WorldState → List CallMade
-calls_of None a maps w = []
-calls_of (Some p) a maps w = record { program = p; arguments = a; maps = maps; world = w } ∷ []
+abbrev pub calls_of : Option VerifiedProgram → Callback → Args → Maps → WorldState → List CallMade
+calls_of None b a maps w = []
+calls_of (Some p) b a maps w = record { callback = b; program = p; arguments = a; maps = maps; world = w } ∷ []
 
 -- ---- what is wrong with a callback
 
@@ -73,7 +73,7 @@ call_back s b a t c =
     let p = acting s b in
     let w = begun s.world b t c in
     let e = called p b a s.maps w in
-    joined (record { state = ended s.policy e; notes = e.outside.notes; calls = calls_of p a s.maps w }) (ejected_for (fault_of b e) (ended s.policy e))
+    joined (record { state = ended s.policy e; notes = e.outside.notes; calls = calls_of p b a s.maps w }) (ejected_for (fault_of b e) (ended s.policy e))
 
 -- what it answers, if it comes to an answer
 unfoldable pub answered_by : State → Callback → Args → ℕ → ℕ → Option ℕ
@@ -86,7 +86,7 @@ pub record IsAnswered (c : CallMade) : Type 0 where
   pub steps : ℕ
   pub maps : Maps
   pub world : WorldState
-  pub run : Runs (host world_functions) c.program.context.callback c.program.code (given c.arguments) c.maps c.world answer steps maps world
+  pub run : Runs (host world_functions) c.callback c.program.code (given c.arguments) c.maps c.world answer steps maps world
   pub in_bound : steps ≤ instruction_count c.program.code
 
 -- the same of each

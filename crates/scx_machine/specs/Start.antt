@@ -90,11 +90,11 @@ IsRefusal p tree cpus (InitFailed n) = (is_bad_shape tree cpus ≡ false) × (st
 -- ---- the callbacks that are called: none after one that fails
 
 abbrev pub init_calls : State → List CallMade
-init_calls s = calls_of (acting s callback.Init) no_arguments s.maps (begun s.world callback.Init 0 0)
+init_calls s = calls_of (acting s callback.Init) callback.Init no_arguments s.maps (begun s.world callback.Init 0 0)
 
 abbrev pub enable_calls : Option State → ℕ → List CallMade
 enable_calls None t = []
-enable_calls (Some s) t = calls_of (acting s callback.Enable) (one_task t) s.maps (begun s.world callback.Enable t 0)
+enable_calls (Some s) t = calls_of (acting s callback.Enable) callback.Enable (one_task t) s.maps (begun s.world callback.Enable t 0)
 
 -- of the first tasks
 abbrev pub calls_below : ℕ → State → List CallMade

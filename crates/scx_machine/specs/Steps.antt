@@ -1,5 +1,6 @@
 -- The state of the machine, and what a step of it leaves, notes and calls.
 use Rattle.std.specs.Prelude.{List, [], ◌++◌, Bool, is_some}
+use Rattle.scx_semantics.specs.declared.callbacks.Callback.{Callback}
 use Rattle.scx_semantics.specs.Elements.{Maps}
 use Rattle.scx_safety.specs.Programs.{VerifiedProgram}
 use Rattle.scx_vm.specs.declared.arguments.Args.{Args}
@@ -12,8 +13,9 @@ pub record State : Type 0 where
   pub maps : Maps
   pub world : WorldState
 
--- a callback that is called: its program, what it is given, and the maps and the world as it begins
+-- a callback that is called: which one, its program, what it is given, and the maps and the world as it begins
 pub record CallMade : Type 0 where
+  pub callback : Callback
   pub program : VerifiedProgram
   pub arguments : Args
   pub maps : Maps

@@ -60,8 +60,8 @@ pub(crate) fn run_callback(
         ≡ called (unless_ejected world.old.ejected (program_of policy.now callback)) callback
         arguments maps.old world.old }
     ensures answered { AreAnswered
-        (calls_of (unless_ejected world.old.ejected (program_of policy.now callback)) arguments
-        maps.old world.old) }
+        (calls_of (unless_ejected world.old.ejected (program_of policy.now callback)) callback
+        arguments maps.old world.old) }
     ensures shapes { HasShapes policy.now.shapes maps.new }
     ensures few { world.new.queues.pushes ≤ world.old.queues.pushes + program_pushes }
 {
@@ -88,6 +88,7 @@ fn run_program(
         program.now.context.callback program.now.code (given arguments) maps.old world.old }
     ensures answered { IsAnswered
         (record {
+          callback = program.now.context.callback;
           program = program.now;
           arguments = arguments;
           maps = maps.old;

@@ -40,13 +40,13 @@ pub struct Policy {
 }
 
 impl Model for Policy {
-    ghost use Rattle.scx_machine.specs.Policy.{PolicyState, AreAs, HaveMaps};
+    ghost use Rattle.scx_machine.specs.Policy.{PolicyState, IsTimeout, AreAs, HaveMaps};
 
     ghost Value = { PolicyState };
 
     ghost view = { λ p. record { shapes = p.defs; timeout_ms = p.timeout_ms; callbacks = p.callbacks } };
 
-    ghost invariant = { λ p. AreAs p.callbacks × HaveMaps p.defs p.callbacks };
+    ghost invariant = { λ p. IsTimeout p.timeout_ms × AreAs p.callbacks × HaveMaps p.defs p.callbacks };
 }
 
 impl Policy {
@@ -77,6 +77,7 @@ impl Policy {
     /// The shapes of its maps.
     pub fn defs(&self) -> &MapDefs
         ensures shapes { result.now ≡ self.now.shapes }
+        ensures timeout { IsTimeout self.now.timeout_ms }
         ensures programs { AreAs self.now.callbacks }
     {
         &self.defs

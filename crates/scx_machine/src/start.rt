@@ -2,7 +2,7 @@ ghost use Rattle.std.specs.Prelude.{◌≡◌, ◌+◌, ◌≤◌, ◌<◌, ◌^
 ghost use Rattle.scx_weights.specs.Counting.{any_below};
 ghost use Rattle.scx_weights.specs.Hierarchy.{is_active_task};
 ghost use Rattle.scx_machine.specs.declared.start.NewError.TheVariants.{OutOfMemory};
-ghost use Rattle.scx_machine.specs.Policy.{AreAs};
+ghost use Rattle.scx_machine.specs.Policy.{IsTimeout, AreAs};
 ghost use Rattle.scx_machine.specs.Budgets.{program_pushes};
 ghost use Rattle.scx_machine.specs.Callbacks.{AreAnswered};
 ghost use Rattle.scx_machine.specs.Start.{is_bad_shape, blank, fault_answer, initialized, enable, enabled, all_enabled, started, IsRefusal, init_calls, enable_calls, calls_below, calls_after_init, start_calls, AreAnsweredBefore};
@@ -52,6 +52,7 @@ impl Machine {
         ensures made { IfOk result (λ machine. started policy tree cpus ≡ Ok machine) }
         ensures few { IfOk result (λ machine. machine.world.queues.pushes ≤ 2 ^ 23) }
         ensures flags { OnOk result (length tree.active ≡ length tree.homes) }
+        ensures timeout { OnOk result (IsTimeout policy.timeout_ms) }
         ensures programs { OnOk result (AreAs policy.callbacks) }
         ensures refused { IfErr result (IsRefusal policy tree cpus) }
         ensures answered { OnOk result (AreAnswered (start_calls policy tree cpus)) }
@@ -73,6 +74,7 @@ impl Machine {
         ensures blank { IfOk result (λ machine. machine ≡ blank policy tree cpus) }
         ensures few { IfOk result (λ machine. machine.world.queues.pushes ≡ 0) }
         ensures flags { OnOk result (length tree.active ≡ length tree.homes) }
+        ensures timeout { OnOk result (IsTimeout policy.timeout_ms) }
         ensures programs { OnOk result (AreAs policy.callbacks) }
     {
         let maps = Maps::new(alloc, policy.defs())?;

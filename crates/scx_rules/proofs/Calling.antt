@@ -10,7 +10,6 @@ use Rattle.scx_vm.specs.Arguments.{given}
 use Rattle.scx_vm.specs.Host.{answer_to, after_query}
 use Rattle.scx_world.specs.World.{WorldState, begun}
 use Rattle.scx_world.specs.Helpers.{world_functions}
-use Rattle.scx_machine.specs.Policy.{IsAs}
 use Rattle.scx_machine.specs.Steps.{State, CallMade, Stepped, joined}
 use Rattle.scx_machine.specs.Ejecting.{ejected_for}
 use Rattle.scx_machine.specs.Callbacks.{acting, called, calls_of, ended, fault_of, call_back, answered_by, AreAnswered}
@@ -36,12 +35,12 @@ only_ends o b a maps w e (Sticks p slot steps left v x l gets k) =
     k ∙ stuck_is (answer_to world_functions) (after_query world_functions) b p.code (given a) maps w slot steps left v gets l ∙ sym (called_is p b a maps w o x)
 
 -- a program that is called, and comes to an answer, ends as the rules allow
-pub ends_as : (o : Option VerifiedProgram) (b : Callback) (a : Args) (maps : Maps) (w : WorldState) → IsAs b o → AreAnswered (calls_of o a maps w) → EndsAs o b a maps w (called o b a maps w)
-ends_as None b a maps w fits all = Absent refl (called_none b a maps w None refl)
-ends_as (Some p) b a maps w fits (h, more) = subst (λ (e : Ending WorldState). EndsAs (Some p) b a maps w e) (only_ends (Some p) b a maps w _ exits) exits
+pub ends_as : (o : Option VerifiedProgram) (b : Callback) (a : Args) (maps : Maps) (w : WorldState) → AreAnswered (calls_of o b a maps w) → EndsAs o b a maps w (called o b a maps w)
+ends_as None b a maps w all = Absent refl (called_none b a maps w None refl)
+ends_as (Some p) b a maps w (h, more) = subst (λ (e : Ending WorldState). EndsAs (Some p) b a maps w e) (only_ends (Some p) b a maps w _ exits) exits
   where
     exits : EndsAs (Some p) b a maps w (record { answer = Some h.answer; maps = h.maps; outside = h.world })
-    exits = Exits p h.answer h.steps h.maps h.world refl h.in_bound (rw (← fits) h.run) refl
+    exits = Exits p h.answer h.steps h.maps h.world refl h.in_bound h.run refl
 
 -- of calls that come to an answer the first do, and those after them
 pub answered_first : (xs ys : List CallMade) → AreAnswered (xs ++ ys) → AreAnswered xs
@@ -65,9 +64,9 @@ followed s b a w e = followed_by s b a w e (ejected_for (fault_of b e) (ended s.
 -- what is computed is allowed
 pub calls_back : RulesAllowCallbacks
 unfolding call_back answered_by
-calls_back s b a t c fits all = record {
+calls_back s b a t c all = record {
   ending = ending s b a t c;
-  ends = ends_as (acting s b) b a s.maps (begun s.world b t c) fits (answered_first (calls_of (acting s b) a s.maps (begun s.world b t c)) (ejected_for (fault_of b (ending s b a t c)) (ended s.policy (ending s b a t c))).calls all);
+  ends = ends_as (acting s b) b a s.maps (begun s.world b t c) (answered_first (calls_of (acting s b) b a s.maps (begun s.world b t c)) (ejected_for (fault_of b (ending s b a t c)) (ended s.policy (ending s b a t c))).calls all);
   answers = refl;
   fault = fault_of b (ending s b a t c);
   wrong = is_fault_of b (ending s b a t c);

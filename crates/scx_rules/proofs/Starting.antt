@@ -12,7 +12,7 @@ use Rattle.scx_world.specs.declared.eject.Eject.{Eject}
 use Rattle.scx_world.specs.declared.faults.Fault.{Fault}
 use Rattle.scx_world.specs.World.{WorldState, begun}
 use Rattle.scx_safety.specs.Programs.{VerifiedProgram}
-use Rattle.scx_machine.specs.Policy.{PolicyState, IsAs, AreAs}
+use Rattle.scx_machine.specs.Policy.{PolicyState}
 use Rattle.scx_machine.specs.Steps.{State}
 use Rattle.scx_machine.specs.Callbacks.{unless_ejected, acting, ended, AreAnswered, no_arguments, one_task}
 use Rattle.scx_machine.specs.Start.{blank, init_ending, bad_answer, ok_unless, initialized, enable_ending, has_failed, enable, then_enable, enabled, ok_if, all_enabled, init_calls, enable_calls, calls_below, calls_after_init}
@@ -100,16 +100,11 @@ only_judged s e r (Stuck x y k) = k ∙ ap (λ a. judged_as s e None a) (sym y) 
 only_judged s e r (Refuses n x y l k) = k ∙ sym (refused_as s e n l) ∙ ap (λ a. judged_as s e None a) (sym y) ∙ ap (λ o. judged_as s e o e.answer) (sym x)
 only_judged s e r (Accepts x y k) = k ∙ ap (λ a. judged_as s e None a) (sym y) ∙ ap (λ o. judged_as s e o e.answer) (sym x)
 
--- a policy that was ejected has no program
-acts_as : (x : Option Eject) (b : Callback) (p : Option VerifiedProgram) → IsAs b p → IsAs b (unless_ejected x p)
-acts_as None b p h = h
-acts_as (Some x) b p h = tt
-
-initializes : (s : State) → AreAs s.policy.callbacks → AreAnswered (init_calls s) → Initializes s (initialized s)
+initializes : (s : State) → AreAnswered (init_calls s) → Initializes s (initialized s)
 unfolding initialized
-initializes s fits all = record {
+initializes s all = record {
   ending = init_ending s;
-  ends = ends_as (acting s callback.Init) callback.Init no_arguments s.maps (begun s.world callback.Init 0 0) (acts_as s.world.ejected callback.Init s.policy.callbacks.init fits.init) all;
+  ends = ends_as (acting s callback.Init) callback.Init no_arguments s.maps (begun s.world callback.Init 0 0) all;
   judged = judged s (init_ending s);
 }
 
@@ -141,11 +136,11 @@ only_passes s e r (HasFault f x k) = k ∙ ap (λ o. passed_as s e o e.answer) (
 only_passes s e r (HasStuck x y k) = k ∙ ap (λ a. passed_as s e None a) (sym y) ∙ ap (λ o. passed_as s e o e.answer) (sym x)
 only_passes s e r (Answers n x y k) = k ∙ ap (λ a. passed_as s e None a) (sym y) ∙ ap (λ o. passed_as s e o e.answer) (sym x)
 
-enables : (s : State) (t : ℕ) → AreAs s.policy.callbacks → AreAnswered (enable_calls (Some s) t) → Enables s t (enable s t)
+enables : (s : State) (t : ℕ) → AreAnswered (enable_calls (Some s) t) → Enables s t (enable s t)
 unfolding enable
-enables s t fits all = record {
+enables s t all = record {
   ending = enable_ending s t;
-  ends = ends_as (acting s callback.Enable) callback.Enable (one_task t) s.maps (begun s.world callback.Enable t 0) (acts_as s.world.ejected callback.Enable s.policy.callbacks.enable fits.enable) all;
+  ends = ends_as (acting s callback.Enable) callback.Enable (one_task t) s.maps (begun s.world callback.Enable t 0) all;
   passes = passes s (enable_ending s t);
 }
 
@@ -160,61 +155,21 @@ only_enables_all zero s r (Nobody _ _ k) = k
 only_enables_all (suc n) s r (Failed _ _ _ h k) = k ∙ ap (λ o. then_enable o n) (only_enables_all n s None h)
 only_enables_all (suc n) s r (Next _ _ u _ h x) = only_enables u n r x ∙ ap (λ o. then_enable o n) (only_enables_all n s (Some u) h)
 
--- ---- the policy stays
-
-abbrev policy_in : PolicyState → Option State → PolicyState
-policy_in p None = p
-policy_in p (Some s) = s.policy
-
-nobody : (s : State) → None ≡ Some s → ⊥
-nobody s e = absurd (cc)
-
-after_enable : (s : State) (t : ℕ) (u : State) → enable s t ≡ Some u → u.policy ≡ s.policy
-unfolding enable
-after_enable s t u = go (has_failed (enable_ending s t))
-  where
-    go : (b : Bool) → (if b then None else Some (ended s.policy (enable_ending s t))) ≡ Some u → u.policy ≡ s.policy
-    go true e = absurd (nobody u e)
-    go false e = ap (λ o. policy_in s.policy o) (sym e)
-
-after_enabled : (n : ℕ) (s u : State) → enabled n s ≡ Some u → u.policy ≡ s.policy
-after_enabled zero s u e = ap (λ o. policy_in s.policy o) (sym e)
-after_enabled (suc n) s u e = go (λ v x. after_enabled n s v x) (enabled n s) refl e
-  where
-    go : ((v : State) → enabled n s ≡ Some v → v.policy ≡ s.policy) → (o : Option State) → enabled n s ≡ o → then_enable o n ≡ Some u → u.policy ≡ s.policy
-    go f None x k = absurd (nobody u k)
-    go f (Some v) x k = after_enable v n u k ∙ f v x
-
-abbrev policy_of : PolicyState → Result State ℤ → PolicyState
-policy_of p (Err n) = p
-policy_of p (Ok s) = s.policy
-
-err_is_no_ok : (n : ℤ) (u : State) → Err n ≡ Ok u → ⊥
-err_is_no_ok n u e = absurd (cc)
-
-after_init : (s u : State) → initialized s ≡ Ok u → u.policy ≡ s.policy
-unfolding initialized
-after_init s u = go (bad_answer (init_ending s).outside.call.fault (init_ending s).answer)
-  where
-    go : (o : Option ℤ) → ok_unless o (ended s.policy (init_ending s)) ≡ Ok u → u.policy ≡ s.policy
-    go (Some n) e = absurd (err_is_no_ok n u e)
-    go None e = ap (λ r. policy_of s.policy r) (sym e)
-
 -- ---- all of it
 
-enables_all : (n : ℕ) (s : State) → AreAs s.policy.callbacks → AreAnswered (calls_below n s) → EnablesAll n s (enabled n s)
-enables_all zero s fits all = Nobody s _ refl
-enables_all (suc n) s fits all =
-    go (enabled n s) refl (enables_all n s fits (answered_first (calls_below n s) (enable_calls (enabled n s) n) all)) (answered_second (calls_below n s) (enable_calls (enabled n s) n) all)
+enables_all : (n : ℕ) (s : State) → AreAnswered (calls_below n s) → EnablesAll n s (enabled n s)
+enables_all zero s all = Nobody s _ refl
+enables_all (suc n) s all =
+    go (enabled n s) refl (enables_all n s (answered_first (calls_below n s) (enable_calls (enabled n s) n) all)) (answered_second (calls_below n s) (enable_calls (enabled n s) n) all)
   where
     go : (o : Option State) → enabled n s ≡ o → EnablesAll n s o → AreAnswered (enable_calls o n) → EnablesAll (suc n) s (then_enable o n)
     go None x h a = Failed n s _ h refl
-    go (Some u) x h a = Next n s u _ h (enables u n (subst (λ (p : PolicyState). AreAs p.callbacks) (sym (after_enabled n s u x)) fits) a)
+    go (Some u) x h a = Next n s u _ h (enables u n a)
 
 -- a machine begins as it is computed
 pub begins : RulesAllowStarts
-begins p tree cpus fits all =
-    from (initialized (blank p tree cpus)) refl (initializes (blank p tree cpus) fits (answered_first (init_calls (blank p tree cpus)) (calls_after_init (initialized (blank p tree cpus))) all)) (answered_second (init_calls (blank p tree cpus)) (calls_after_init (initialized (blank p tree cpus))) all)
+begins p tree cpus all =
+    from (initialized (blank p tree cpus)) refl (initializes (blank p tree cpus) (answered_first (init_calls (blank p tree cpus)) (calls_after_init (initialized (blank p tree cpus))) all)) (answered_second (init_calls (blank p tree cpus)) (calls_after_init (initialized (blank p tree cpus))) all)
   where
     rest : (s : State) → Initializes (blank p tree cpus) (Ok s) → (o : Option State) → EnablesAll (length s.world.tasks) s o → Begins p tree cpus (ok_if o)
     rest s i None h = EnableFails s i h refl
@@ -222,7 +177,7 @@ begins p tree cpus fits all =
 
     from : (r : Result State ℤ) → initialized (blank p tree cpus) ≡ r → Initializes (blank p tree cpus) r → AreAnswered (calls_after_init r) → Begins p tree cpus (all_enabled r)
     from (Err n) x i a = InitFails n i refl
-    from (Ok s) x i a = rest s i (enabled (length s.world.tasks) s) (enables_all (length s.world.tasks) s (subst (λ (q : PolicyState). AreAs q.callbacks) (sym (after_init (blank p tree cpus) s x)) fits) a)
+    from (Ok s) x i a = rest s i (enabled (length s.world.tasks) s) (enables_all (length s.world.tasks) s a)
 
 -- and in no other way
 pub only_begins : RulesAllowStartsOnly

@@ -31,7 +31,7 @@ pub data EndsAs (program : Option VerifiedProgram) (b : Callback) (a : Args) (ma
 
 -- what the machine goes on from; what the world noted is handed on
 abbrev pub leaving : State → Callback → Args → WorldState → Ending WorldState → Stepped
-leaving s b a w e = record { state = ended s.policy e; notes = e.outside.notes; calls = calls_of (acting s b) a s.maps w }
+leaving s b a w e = record { state = ended s.policy e; notes = e.outside.notes; calls = calls_of (acting s b) b a s.maps w }
 
 -- with that task and processor at hand, it answers so, if it comes to an answer, and ejects the policy where
 -- it has a fault; none is called once the policy is ejected

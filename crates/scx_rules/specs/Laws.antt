@@ -12,8 +12,8 @@ use Rattle.scx_world.specs.Helpers.{helper_answer, helper_after}
 use Rattle.scx_machine.specs.declared.events.Event.{Event}
 use Rattle.scx_machine.specs.declared.events.Refused.{Refused}
 use Rattle.scx_machine.specs.Steps.{State, Stepped}
-use Rattle.scx_machine.specs.Policy.{PolicyState, IsAs, AreAs}
-use Rattle.scx_machine.specs.Callbacks.{acting, call_back, answered_by, AreAnswered}
+use Rattle.scx_machine.specs.Policy.{PolicyState}
+use Rattle.scx_machine.specs.Callbacks.{call_back, answered_by, AreAnswered}
 use Rattle.scx_machine.specs.Cycle.{cycle}
 use Rattle.scx_machine.specs.Events.{refusal, happened}
 use Rattle.scx_machine.specs.Start.{is_bad_shape, started, start_calls}
@@ -33,11 +33,10 @@ RulesAllowHelpersOnly =
     (w : WorldState) (h : Helper) (a : List Arg) (x : Answer) (v : WorldState) → IsEffect w h a x v
     → (x ≡ helper_answer w h a) × (v ≡ helper_after w h a)
 
--- a callback of which the program was verified as that callback and comes to an answer, as each does that
--- an event calls
+-- a callback that comes to an answer, as each does that an event calls
 abbrev pub RulesAllowCallbacks : Type 0
 RulesAllowCallbacks =
-    (s : State) (b : Callback) (a : Args) (t c : ℕ) → IsAs b (acting s b) → AreAnswered (call_back s b a t c).calls → CallsBack s b a t c (answered_by s b a t c) (call_back s b a t c)
+    (s : State) (b : Callback) (a : Args) (t c : ℕ) → AreAnswered (call_back s b a t c).calls → CallsBack s b a t c (answered_by s b a t c) (call_back s b a t c)
 
 abbrev pub RulesAllowCallbacksOnly : Type 0
 RulesAllowCallbacksOnly =
@@ -64,10 +63,9 @@ RulesRefuseEvents = (s : State) (v : Event) (r : Refused) → refusal s v ≡ So
 abbrev pub RulesRefuseEventsOnly : Type 0
 RulesRefuseEventsOnly = (s : State) (v : Event) (r : Refused) → Refuses s v r → refusal s v ≡ Some r
 
--- a start, of a policy of which each program was verified as its callback and comes to an answer, as each
--- does that is called
+-- a start, of a policy of which each program that is called comes to an answer, as each does
 abbrev pub RulesAllowStarts : Type 0
-RulesAllowStarts = (p : PolicyState) (tree : Hierarchy) (cpus : ℕ) → AreAs p.callbacks → AreAnswered (start_calls p tree cpus) → Begins p tree cpus (started p tree cpus)
+RulesAllowStarts = (p : PolicyState) (tree : Hierarchy) (cpus : ℕ) → AreAnswered (start_calls p tree cpus) → Begins p tree cpus (started p tree cpus)
 
 abbrev pub RulesAllowStartsOnly : Type 0
 RulesAllowStartsOnly = (p : PolicyState) (tree : Hierarchy) (cpus : ℕ) (r : Result State ℤ) → Begins p tree cpus r → r ≡ started p tree cpus

@@ -41,28 +41,25 @@ use Rattle.scx_sched.proofs.Supplying.{park_fronts_from, clear_from}
 use Rattle.scx_sched.proofs.Leaving.{run_back}
 
 -- of these calls the last one had a fault, for which the policy was ejected at that time
-pub record IsBlamed (p : PolicyState) (now : ℕ) (calls : List CallMade) (x : Eject) : Type 0 where
+pub record IsBlamed (now : ℕ) (calls : List CallMade) (x : Eject) : Type 0 where
   pub call : CallMade
-  pub of : Callback
   pub fault : Fault
   pub last : IsLast call calls
-  pub program : program_of p of ≡ Some call.program
-  pub wrong : fault_of of (called (Some call.program) of call.arguments call.maps call.world) ≡ Some fault
+  pub fresh : call.world.call.fault ≡ None
+  pub wrong : fault_of call.callback (called (Some call.program) call.callback call.arguments call.maps call.world) ≡ Some fault
   pub named : x ≡ cause.Fault fault now
 
--- a call without a fault, of a callback of the policy
-pub record IsFaultless (p : PolicyState) (m : CallMade) : Type 0 where
-  pub of : Callback
-  pub program : program_of p of ≡ Some m.program
-  pub right : fault_of of (called (Some m.program) of m.arguments m.maps m.world) ≡ None
+-- a call without a fault
+abbrev pub IsFaultless : CallMade → Type 0
+IsFaultless m = fault_of m.callback (called (Some m.program) m.callback m.arguments m.maps m.world) ≡ None
 
-abbrev pub AreFaultless : PolicyState → List CallMade → Type 0
-AreFaultless p [] = Unit {0}
-AreFaultless p (m ∷ ms) = IsFaultless p m × AreFaultless p ms
+abbrev pub AreFaultless : List CallMade → Type 0
+AreFaultless [] = Unit {0}
+AreFaultless (m ∷ ms) = IsFaultless m × AreFaultless ms
 
-pub faultless_append : (p : PolicyState) (xs ys : List CallMade) → AreFaultless p xs → AreFaultless p ys → AreFaultless p (xs ++ ys)
-faultless_append p [] ys h k = k
-faultless_append p (m ∷ ms) ys h k = (h.0, faultless_append p ms ys h.1 k)
+pub faultless_append : (xs ys : List CallMade) → AreFaultless xs → AreFaultless ys → AreFaultless (xs ++ ys)
+faultless_append [] ys h k = k
+faultless_append (m ∷ ms) ys h k = (h.0, faultless_append ms ys h.1 k)
 
 -- a step from a state
 pub record IsHonest (s : State) (r : Stepped) : Type 0 where
@@ -71,8 +68,8 @@ pub record IsHonest (s : State) (r : Stepped) : Type 0 where
   pub tree : r.state.world.tree ≡ s.world.tree
   pub silent : (x : Eject) → s.world.ejected ≡ Some x → r.calls ≡ []
   pub stays : (x : Eject) → s.world.ejected ≡ Some x → r.state.world.ejected ≡ Some x
-  pub blamed : (x : Eject) → s.world.ejected ≡ None → r.state.world.ejected ≡ Some x → IsBlamed s.policy s.world.clock r.calls x
-  pub heard : r.state.world.ejected ≡ None → AreFaultless s.policy r.calls
+  pub blamed : (x : Eject) → s.world.ejected ≡ None → r.state.world.ejected ≡ Some x → IsBlamed s.world.clock r.calls x
+  pub heard : r.state.world.ejected ≡ None → AreFaultless r.calls
 
 -- a policy is in force or out of it
 pub apart : (o : Option Eject) (x : Eject) → o ≡ None → o ≡ Some x → ⊥
@@ -94,8 +91,8 @@ pub none_of : (xs ys : List CallMade) → xs ≡ [] → ys ≡ [] → xs ++ ys �
 none_of xs ys e f = rw e f
 
 -- with other calls
-blamed_as : (p : PolicyState) (now : ℕ) (xs ys : List CallMade) (x : Eject) → ((m : CallMade) → IsLast m xs → IsLast m ys) → IsBlamed p now xs x → IsBlamed p now ys x
-blamed_as p now xs ys x f b = record { call = b.call; of = b.of; fault = b.fault; last = f b.call b.last; program = b.program; wrong = b.wrong; named = b.named }
+blamed_as : (now : ℕ) (xs ys : List CallMade) (x : Eject) → ((m : CallMade) → IsLast m xs → IsLast m ys) → IsBlamed now xs x → IsBlamed now ys x
+blamed_as now xs ys x f b = record { call = b.call; fault = b.fault; last = f b.call b.last; fresh = b.fresh; wrong = b.wrong; named = b.named }
 
 honest_joined : (s : State) (a r : Stepped) → IsHonest s a → IsHonest a.state r → IsHonest s (joined a r)
 honest_joined s a r h k = record {
@@ -108,17 +105,17 @@ honest_joined s a r h k = record {
   heard = λ force. hears force a.state.world.ejected refl;
 }
   where
-    hears : r.state.world.ejected ≡ None → (o : Option Eject) → a.state.world.ejected ≡ o → AreFaultless s.policy (a.calls ++ r.calls)
-    hears force None e = faultless_append s.policy a.calls r.calls (h.heard e) (subst (λ (p : PolicyState). AreFaultless p r.calls) h.policy (k.heard force))
+    hears : r.state.world.ejected ≡ None → (o : Option Eject) → a.state.world.ejected ≡ o → AreFaultless (a.calls ++ r.calls)
+    hears force None e = faultless_append a.calls r.calls (h.heard e) (k.heard force)
     hears force (Some y) e = absurd (apart r.state.world.ejected y force (k.stays y e))
 
-    go : (x : Eject) → s.world.ejected ≡ None → r.state.world.ejected ≡ Some x → (o : Option Eject) → a.state.world.ejected ≡ o → IsBlamed s.policy s.world.clock (a.calls ++ r.calls) x
+    go : (x : Eject) → s.world.ejected ≡ None → r.state.world.ejected ≡ Some x → (o : Option Eject) → a.state.world.ejected ≡ o → IsBlamed s.world.clock (a.calls ++ r.calls) x
     go x force out None e =
-        let b = blamed_as a.state.policy a.state.world.clock r.calls (a.calls ++ r.calls) x (λ m l. last_of a.calls r.calls m l) (k.blamed x e out) in
-        subst (λ (p : PolicyState). IsBlamed p s.world.clock (a.calls ++ r.calls) x) h.policy (subst (λ (now : ℕ). IsBlamed a.state.policy now (a.calls ++ r.calls) x) h.clock b)
+        let b = blamed_as a.state.world.clock r.calls (a.calls ++ r.calls) x (λ m l. last_of a.calls r.calls m l) (k.blamed x e out) in
+        subst (λ (now : ℕ). IsBlamed now (a.calls ++ r.calls) x) h.clock b
     go x force out (Some y) e =
-        let b = blamed_as s.policy s.world.clock a.calls (a.calls ++ r.calls) y (λ m l. last_alone a.calls r.calls m (k.silent y e) l) (h.blamed y force e) in
-        subst (λ (z : Eject). IsBlamed s.policy s.world.clock (a.calls ++ r.calls) z) (same_eject r.state.world.ejected y x (k.stays y e) out) b
+        let b = blamed_as s.world.clock a.calls (a.calls ++ r.calls) y (λ m l. last_alone a.calls r.calls m (k.silent y e) l) (h.blamed y force e) in
+        subst (λ (z : Eject). IsBlamed s.world.clock (a.calls ++ r.calls) z) (same_eject r.state.world.ejected y x (k.stays y e) out) b
 
 honest_after : (s : State) (ns : List Note) (r : Stepped) → IsHonest s r → IsHonest s (after ns r)
 honest_after s ns r h = record { policy = h.policy; clock = h.clock; tree = h.tree; silent = h.silent; stays = h.stays; blamed = h.blamed; heard = h.heard }
@@ -138,7 +135,7 @@ honest_from s w r same h = record {
   tree = h.tree ∙ same.3;
   silent = λ x out. h.silent x (same.1 ∙ out);
   stays = λ x out. h.stays x (same.1 ∙ out);
-  blamed = λ x force out. subst (λ (now : ℕ). IsBlamed s.policy now r.calls x) same.0 (h.blamed x (same.1 ∙ force) out);
+  blamed = λ x force out. subst (λ (now : ℕ). IsBlamed now r.calls x) same.0 (h.blamed x (same.1 ∙ force) out);
   heard = h.heard;
 }
 
@@ -184,15 +181,12 @@ no_answer callback.Dispatch w some = refl
 no_answer callback.Running w some = refl
 no_answer callback.Stopping w some = refl
 
-record IsActing (s : State) (b : Callback) (p : VerifiedProgram) : Type 0 where
-  force : s.world.ejected ≡ None
-  program : program_of s.policy b ≡ Some p
-
-is_acting : (s : State) (b : Callback) (p : VerifiedProgram) → acting s b ≡ Some p → IsActing s b p
-is_acting s b p e = go s.world.ejected refl e
+-- a policy of which a program is called is in force
+in_force : (s : State) (b : Callback) (p : VerifiedProgram) → acting s b ≡ Some p → s.world.ejected ≡ None
+in_force s b p e = go s.world.ejected refl e
   where
-    go : (o : Option Eject) → s.world.ejected ≡ o → unless_ejected o (program_of s.policy b) ≡ Some p → IsActing s b p
-    go None x y = record { force = x; program = y }
+    go : (o : Option Eject) → s.world.ejected ≡ o → unless_ejected o (program_of s.policy b) ≡ Some p → s.world.ejected ≡ None
+    go None x y = x
     go (Some z) x y = absurd (cc)
 
 module _ (s : State) (b : Callback) (a : Args) (t c : ℕ) where
@@ -208,14 +202,14 @@ module _ (s : State) (b : Callback) (a : Args) (t c : ℕ) where
       go None e = record { policy = refl; clock = refl; tree = refl; silent = λ x out. refl; stays = λ x out. out; blamed = λ x force out. absurd (apart s.world.ejected x force out); heard = λ force. tt }
       go (Some f) e = absurd (cc)
 
-  honest_run : (p : VerifiedProgram) → IsActing s b p → IsHonest s (run_back (Some p) s b a t c)
+  honest_run : (p : VerifiedProgram) → s.world.ejected ≡ None → IsHonest s (run_back (Some p) s b a t c)
   honest_run p acts = go (fault_of b e) refl
     where
       e : Ending WorldState
       e = called (Some p) b a s.maps w
 
       m : CallMade
-      m = record { program = p; arguments = a; maps = s.maps; world = w }
+      m = record { callback = b; program = p; arguments = a; maps = s.maps; world = w }
 
       v : State
       v = ended s.policy e
@@ -228,10 +222,10 @@ module _ (s : State) (b : Callback) (a : Args) (t c : ℕ) where
         policy = refl;
         clock = same.0;
         tree = same.3;
-        silent = λ y out. absurd (apart s.world.ejected y acts.force out);
+        silent = λ y out. absurd (apart s.world.ejected y acts out);
         stays = λ y out. same.1 ∙ out;
         blamed = λ y force out. absurd (apart e.outside.ejected y (same.1 ∙ force) out);
-        heard = λ force. (record { of = b; program = acts.program; right = x }, tt);
+        heard = λ force. (x, tt);
       }
       go (Some f) x =
           let y = cause.Fault f e.outside.clock in
@@ -240,15 +234,14 @@ module _ (s : State) (b : Callback) (a : Args) (t c : ℕ) where
             policy = eject_policy v y;
             clock = sets.0 ∙ same.0;
             tree = sets.3 ∙ same.3;
-            silent = λ z out. absurd (apart s.world.ejected z acts.force out);
-            stays = λ z out. absurd (apart s.world.ejected z acts.force out);
+            silent = λ z out. absurd (apart s.world.ejected z acts out);
+            stays = λ z out. absurd (apart s.world.ejected z acts out);
             heard = λ force. absurd (apart (eject v y).state.world.ejected y force sets.1);
             blamed = λ z force out. record {
               call = m;
-              of = b;
               fault = f;
               last = ([], ap (λ (cs : List CallMade). m ∷ cs) (eject_calls v y));
-              program = acts.program;
+              fresh = refl;
               wrong = x;
               named = same_eject (eject v y).state.world.ejected z y out sets.1 ∙ ap (λ (k : ℕ). cause.Fault f k) same.0;
             };
@@ -260,7 +253,7 @@ honest_call_back s b a t c some = go (acting s b) refl
   where
     go : (p : Option VerifiedProgram) → acting s b ≡ p → IsHonest s (run_back p s b a t c)
     go None e = honest_absent s b a t c some
-    go (Some p) e = honest_run s b a t c p (is_acting s b p e)
+    go (Some p) e = honest_run s b a t c p (in_force s b p e)
 
 -- ---- a task that is put
 

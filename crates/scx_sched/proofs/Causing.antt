@@ -21,7 +21,7 @@ use Rattle.scx_world.specs.Tasks.{later, begun_periods}
 use Rattle.scx_world.specs.Waits.{first_overdue, IsFirstOverdue}
 use Rattle.scx_world.specs.Helpers.{or_fault, world_functions}
 use Rattle.scx_tasks.specs.Waits.{time_since}
-use Rattle.scx_machine.specs.Policy.{PolicyState, program_of, IsAs, AreAs}
+use Rattle.scx_machine.specs.Policy.{PolicyState}
 use Rattle.scx_machine.specs.Steps.{State, CallMade, Stepped, with_world, joined}
 use Rattle.scx_machine.specs.Ejecting.{eject}
 use Rattle.scx_machine.specs.Callbacks.{called, answer_fault, fault_of, IsAnswered, AreAnswered}
@@ -43,26 +43,20 @@ use Rattle.scx_sched.proofs.Timely.{not_late}
 -- ---- a callback with a fault
 
 -- of calls that come to an answer the last one does
-last_answered : (before : List CallMade) (m : CallMade) → AreAnswered (before ++ m ∷ []) → IsAnswered m
+pub last_answered : (before : List CallMade) (m : CallMade) → AreAnswered (before ++ m ∷ []) → IsAnswered m
 last_answered [] m all = all.0
 last_answered (c ∷ cs) m all = last_answered cs m all.1
 
--- a policy's program is the callback in whose place it stands
-as_callback : (p : PolicyState) (b : Callback) (x : VerifiedProgram) → AreAs p.callbacks → program_of p b ≡ Some x → x.context.callback ≡ b
-as_callback p callback.Init x all e = subst (λ (o : Option VerifiedProgram). IsAs callback.Init o) e all.init
-as_callback p callback.Enable x all e = subst (λ (o : Option VerifiedProgram). IsAs callback.Enable o) e all.enable
-as_callback p callback.SelectCpu x all e = subst (λ (o : Option VerifiedProgram). IsAs callback.SelectCpu o) e all.select_cpu
-as_callback p callback.Enqueue x all e = subst (λ (o : Option VerifiedProgram). IsAs callback.Enqueue o) e all.enqueue
-as_callback p callback.Dispatch x all e = subst (λ (o : Option VerifiedProgram). IsAs callback.Dispatch o) e all.dispatch
-as_callback p callback.Running x all e = subst (λ (o : Option VerifiedProgram). IsAs callback.Running o) e all.running
-as_callback p callback.Stopping x all e = subst (λ (o : Option VerifiedProgram). IsAs callback.Stopping o) e all.stopping
-as_callback p callback.Plain x all e = absurd (cc)
+-- what a run comes to is what is computed of the call
+pub computes : (m : CallMade) (answer : ℕ) (w : WorldState) → (x : EndsIn m answer w) → record { answer = Some answer; maps = x.maps; outside = w } ≡ called (Some m.program) m.callback m.arguments m.maps m.world
+unfolding called
+computes m answer w x = run_is (answer_to world_functions) (after_query world_functions) m.callback m.program.code (given m.arguments) m.maps m.world answer x.steps x.maps w x.run x.in_bound
 
 module _ (m : CallMade) (f : Fault) (i : IsAnswered m) where
   ends : EndsIn m i.answer i.world
   ends = record { steps = i.steps; maps = i.maps; run = i.run; in_bound = i.in_bound }
 
-  of_answer : (b : Callback) → m.program.context.callback ≡ b → i.world.call.fault ≡ None → answer_fault b i.world i.answer ≡ Some f → HasFault m f
+  of_answer : (b : Callback) → m.callback ≡ b → i.world.call.fault ≡ None → answer_fault b i.world i.answer ≡ Some f → HasFault m f
   of_answer callback.SelectCpu same none e = go (nat_lt i.answer (length i.world.cpus)) refl e
     where
       wrong : Some NoSuchCpu ≡ Some f → f ≡ NoSuchCpu
@@ -79,7 +73,7 @@ module _ (m : CallMade) (f : Fault) (i : IsAnswered m) where
   of_answer callback.Running same none e = absurd (cc)
   of_answer callback.Stopping same none e = absurd (cc)
 
-  of_end : (b : Callback) → m.program.context.callback ≡ b → or_fault i.world.call.fault (answer_fault b i.world i.answer) ≡ Some f → HasFault m f
+  of_end : (b : Callback) → m.callback ≡ b → or_fault i.world.call.fault (answer_fault b i.world i.answer) ≡ Some f → HasFault m f
   of_end b same e = go i.world.call.fault refl e
     where
       go : (o : Option Fault) → i.world.call.fault ≡ o → or_fault o (answer_fault b i.world i.answer) ≡ Some f → HasFault m f
@@ -87,28 +81,13 @@ module _ (m : CallMade) (f : Fault) (i : IsAnswered m) where
       go None x y = of_answer b same x y
 
   -- what is computed of a call is what its run comes to
-  has_fault : (b : Callback) → m.program.context.callback ≡ b → fault_of b (called (Some m.program) b m.arguments m.maps m.world) ≡ Some f → HasFault m f
-  unfolding called
-  has_fault b same wrong = of_end b same (subst (λ (x : Ending WorldState). fault_of b x ≡ Some f) (sym computed) wrong)
-    where
-      ending : Callback → Ending WorldState
-      ending d = run_of (answer_to world_functions) (after_query world_functions) d m.program.code (given m.arguments) m.maps m.world
-
-      computed : record { answer = Some i.answer; maps = i.maps; outside = i.world } ≡ ending b
-      computed =
-          run_is (answer_to world_functions) (after_query world_functions) m.program.context.callback m.program.code (given m.arguments) m.maps m.world i.answer i.steps i.maps i.world i.run i.in_bound ∙ ap ending same
+  pub has_fault : fault_of m.callback (called (Some m.program) m.callback m.arguments m.maps m.world) ≡ Some f → HasFault m f
+  has_fault wrong = of_end m.callback refl (ap (λ (e : Ending WorldState). fault_of m.callback e) (computes m i.answer i.world ends) ∙ wrong)
 
 -- ---- a call without a fault
 
--- what a run comes to is what is computed of the call
-computes : (m : CallMade) (b : Callback) (answer : ℕ) (w : WorldState) → m.program.context.callback ≡ b → (x : EndsIn m answer w) → record { answer = Some answer; maps = x.maps; outside = w } ≡ called (Some m.program) b m.arguments m.maps m.world
-unfolding called
-computes m b answer w same x =
-    let ending : Callback → Ending WorldState = λ d. run_of (answer_to world_functions) (after_query world_functions) d m.program.code (given m.arguments) m.maps m.world in
-    run_is (answer_to world_functions) (after_query world_functions) m.program.context.callback m.program.code (given m.arguments) m.maps m.world answer x.steps x.maps w x.run x.in_bound ∙ ap ending same
-
-right_in : (m : CallMade) (b : Callback) (answer : ℕ) (w : WorldState) → m.program.context.callback ≡ b → EndsIn m answer w → fault_of b (called (Some m.program) b m.arguments m.maps m.world) ≡ None → or_fault w.call.fault (answer_fault b w answer) ≡ None
-right_in m b answer w same x right = ap (λ (e : Ending WorldState). fault_of b e) (computes m b answer w same x) ∙ right
+right_in : (m : CallMade) (answer : ℕ) (w : WorldState) → EndsIn m answer w → IsFaultless m → or_fault w.call.fault (answer_fault m.callback w answer) ≡ None
+right_in m answer w x right = ap (λ (e : Ending WorldState). fault_of m.callback e) (computes m answer w x) ∙ right
 
 no_fault_first : (o r : Option Fault) (f : Fault) → o ≡ Some f → or_fault o r ≡ None → ⊥
 no_fault_first (Some g) r f e h = absurd (cc)
@@ -122,21 +101,18 @@ no_fault_then w answer None e over h = go (nat_lt answer (length w.cpus)) refl h
     go true x y = let less : answer < length w.cpus = grind (arith, nat_tests, x) in omega (arith, less, over)
     go false x y = absurd (cc)
 
-has_none : (p : PolicyState) (m : CallMade) (f : Fault) → AreAs p.callbacks → IsFaultless p m → HasFault m f → ⊥
-has_none p m f programs x (Of_helper answer w ends e) =
-    no_fault_first w.call.fault (answer_fault x.of w answer) f e (right_in m x.of answer w (as_callback p x.of m.program programs x.program) ends x.right)
-has_none p m f programs x (Of_answer answer w ends none same over is) =
-    let this : x.of ≡ callback.SelectCpu = sym (as_callback p x.of m.program programs x.program) ∙ same in
-    no_fault_then w answer w.call.fault none over (right_in m callback.SelectCpu answer w same ends (subst (λ (b : Callback). fault_of b (called (Some m.program) b m.arguments m.maps m.world) ≡ None) this x.right))
+has_none : (m : CallMade) (f : Fault) → IsFaultless m → HasFault m f → ⊥
+has_none m f right (Of_helper answer w ends e) = no_fault_first w.call.fault (answer_fault m.callback w answer) f e (right_in m answer w ends right)
+has_none m f right (Of_answer answer w ends none same over is) =
+    no_fault_then w answer w.call.fault none over (subst (λ (b : Callback). or_fault w.call.fault (answer_fault b w answer) ≡ None) same (right_in m answer w ends right))
 
-among_faultless : (p : PolicyState) (before : List CallMade) (m : CallMade) (after : List CallMade) → AreFaultless p (before ++ m ∷ after) → IsFaultless p m
-among_faultless p [] m after h = h.0
-among_faultless p (c ∷ cs) m after h = among_faultless p cs m after h.1
+among_faultless : (before : List CallMade) (m : CallMade) (after : List CallMade) → AreFaultless (before ++ m ∷ after) → IsFaultless m
+among_faultless [] m after h = h.0
+among_faultless (c ∷ cs) m after h = among_faultless cs m after h.1
 
 -- so none of those has one
-none_heard : (p : PolicyState) (calls : List CallMade) (m : CallMade) (f : Fault) → AreAs p.callbacks → AreFaultless p calls → IsAmong m calls → HasFault m f → ⊥
-none_heard p calls m f programs right among wrong =
-    has_none p m f programs (among_faultless p among.0 m among.1 (subst (AreFaultless p) among.2 right)) wrong
+none_heard : (calls : List CallMade) (m : CallMade) (f : Fault) → AreFaultless calls → IsAmong m calls → HasFault m f → ⊥
+none_heard calls m f right among wrong = has_none m f (among_faultless among.0 m among.1 (subst AreFaultless among.2 right)) wrong
 
 -- ---- who waited for too long
 
@@ -170,26 +146,26 @@ module _ (s : State) (n : ℕ) where
   abbrev before_event : SimState
   before_event = record { state = s; events = n }
 
-  honest_cause : (v : Event) → clock_in before_event v ≡ s.world.clock → refusal before_event v ≡ None → AreAs s.policy.callbacks → AreAnswered (happened s v).calls → IsHonestEvent s v → EjectsOnce before_event v (after_event s n v)
-  honest_cause v now ok programs answered h = record { stays = h.stays; cause = λ x force out. for_fault x force out; heard = λ force m f among wrong. no_fault force m f among wrong }
+  honest_cause : (v : Event) → clock_in before_event v ≡ s.world.clock → refusal before_event v ≡ None → AreAnswered (happened s v).calls → IsHonestEvent s v → EjectsOnce before_event v (after_event s n v)
+  honest_cause v now ok answered h = record { stays = h.stays; cause = λ x force out. for_fault x force out; heard = λ force m f among wrong. no_fault force m f among wrong }
     where
       calls : calls_of before_event v ≡ (happened s v).calls
       calls = ap (λ o. calls_if o before_event v) ok
 
       no_fault : (happened s v).state.world.ejected ≡ None → (m : CallMade) (f : Fault) → IsAmong m (calls_of before_event v) → HasFault m f → ⊥
-      no_fault force m f among wrong = none_heard s.policy (calls_of before_event v) m f programs (subst (AreFaultless s.policy) (sym calls) (h.heard force)) among wrong
+      no_fault force m f among wrong = none_heard (calls_of before_event v) m f (subst AreFaultless (sym calls) (h.heard force)) among wrong
 
       for_fault : (x : Eject) → s.world.ejected ≡ None → (happened s v).state.world.ejected ≡ Some x → IsCause before_event v x
       for_fault x force out =
           let b = h.blamed x force out in
           let i = last_answered b.last.0 b.call (subst AreAnswered b.last.1 answered) in
           let last : IsLast b.call (calls_of before_event v) = (b.last.0, calls ∙ b.last.1) in
-          subst (IsCause before_event v) (ap (λ k. cause.Fault b.fault k) now ∙ sym b.named) (Went_wrong b.call b.fault last (has_fault b.call b.fault i b.of (as_callback s.policy b.of b.call.program programs b.program) b.wrong))
+          subst (IsCause before_event v) (ap (λ k. cause.Fault b.fault k) now ∙ sym b.named) (Went_wrong b.call b.fault last (has_fault b.call b.fault i b.wrong))
 
   -- the clock: a callback as a task is let go, or the watchdog
-  clock_cause : refusal before_event Clock ≡ None → IsFineNow (length s.world.tasks) n n s.world → AreAs s.policy.callbacks → AreAnswered (clock s).calls → EjectsOnce before_event Clock (record { state = (clock s).state; events = n + 1 })
+  clock_cause : refusal before_event Clock ≡ None → IsFineNow (length s.world.tasks) n n s.world → AreAnswered (clock s).calls → EjectsOnce before_event Clock (record { state = (clock s).state; events = n + 1 })
   unfolding clock
-  clock_cause ok fine programs answered = go (overdue r) refl answered (ap (λ o. calls_if o before_event Clock) ok)
+  clock_cause ok fine answered = go (overdue r) refl answered (ap (λ o. calls_if o before_event Clock) ok)
     where
       many : ℕ
       many = length s.world.tasks
@@ -223,13 +199,13 @@ module _ (s : State) (n : ℕ) where
           all = calls ∙ append-nil l.calls
 
           no_fault : r.world.ejected ≡ None → (m : CallMade) (f : Fault) → IsAmong m (calls_of before_event Clock) → HasFault m f → ⊥
-          no_fault force m f among wrong = none_heard s.policy (calls_of before_event Clock) m f programs (subst (AreFaultless s.policy) (sym all) (honest.heard force)) among wrong
+          no_fault force m f among wrong = none_heard (calls_of before_event Clock) m f (subst AreFaultless (sym all) (honest.heard force)) among wrong
 
           for_fault : (x : Eject) → s.world.ejected ≡ None → r.world.ejected ≡ Some x → IsCause before_event Clock x
           for_fault x force out =
               let b = honest.blamed x force out in
               let i = last_answered b.last.0 b.call (subst AreAnswered (append-nil l.calls ∙ b.last.1) answers) in
-              subst (IsCause before_event Clock) (sym b.named) (Went_wrong b.call b.fault (b.last.0, all ∙ b.last.1) (has_fault b.call b.fault i b.of (as_callback s.policy b.of b.call.program programs b.program) b.wrong))
+              subst (IsCause before_event Clock) (sym b.named) (Went_wrong b.call b.fault (b.last.0, all ∙ b.last.1) (has_fault b.call b.fault i b.wrong))
       go (Some t) e answers calls =
           let y = cause.Stall t r.world.clock in
           let late = is_late_in r t e in
@@ -240,16 +216,16 @@ module _ (s : State) (n : ℕ) where
           }
 
   -- the law
-  pub ejects_once : (v : Event) → refusal before_event v ≡ None → IsFineNow (length s.world.tasks) n n s.world → AreAs s.policy.callbacks → AreAnswered (happened s v).calls → EjectsOnce before_event v (after_event s n v)
-  ejects_once v ok fine programs answered = go v (is_taken s v (accepted before_event v ok).taken) ok answered
+  pub ejects_once : (v : Event) → refusal before_event v ≡ None → IsFineNow (length s.world.tasks) n n s.world → AreAnswered (happened s v).calls → EjectsOnce before_event v (after_event s n v)
+  ejects_once v ok fine answered = go v (is_taken s v (accepted before_event v ok).taken) ok answered
     where
       go : (v : Event) → IsTaken s v → refusal before_event v ≡ None → AreAnswered (happened s v).calls → EjectsOnce before_event v (after_event s n v)
-      go _ (Wakes t within resting) ok answered = honest_cause (Wake t) refl ok programs answered (wake_is_honest s n fine t)
-      go _ (Sleeps t within runnable) ok answered = honest_cause (Sleep t) refl ok programs answered (sleep_is_honest s n fine t within)
-      go _ (Ticks c l) ok answered = honest_cause (Tick c) refl ok programs answered (tick_is_honest s n fine c l)
-      go _ Clocks ok answered = clock_cause ok fine programs answered
-      go _ (Weighs g x) ok answered = honest_cause (SetWeight g x) refl ok programs answered (weight_is_honest s n fine g x (accepted before_event (SetWeight g x) ok).taken)
+      go _ (Wakes t within resting) ok answered = honest_cause (Wake t) refl ok answered (wake_is_honest s n fine t)
+      go _ (Sleeps t within runnable) ok answered = honest_cause (Sleep t) refl ok answered (sleep_is_honest s n fine t within)
+      go _ (Ticks c l) ok answered = honest_cause (Tick c) refl ok answered (tick_is_honest s n fine c l)
+      go _ Clocks ok answered = clock_cause ok fine answered
+      go _ (Weighs g x) ok answered = honest_cause (SetWeight g x) refl ok answered (weight_is_honest s n fine g x (accepted before_event (SetWeight g x) ok).taken)
 
 -- of a machine between two events
 pub step_cause : (s : State) (n : ℕ) (v : Event) → refusal (record { state = s; events = n }) v ≡ None → IsValid s n → AreAnswered (happened s v).calls → EjectsOnce (record { state = s; events = n }) v (record { state = (happened s v).state; events = n + 1 })
-step_cause s n v ok h answered = ejects_once s n v ok h.fine h.programs answered
+step_cause s n v ok h answered = ejects_once s n v ok h.fine answered

@@ -27,7 +27,7 @@ abbrev pub run_back : Option VerifiedProgram → State → Callback → Args →
 run_back p s b a t c =
     let w = begun s.world b t c in
     let e = called p b a s.maps w in
-    joined (record { state = ended s.policy e; notes = e.outside.notes; calls = calls_of p a s.maps w }) (ejected_for (fault_of b e) (ended s.policy e))
+    joined (record { state = ended s.policy e; notes = e.outside.notes; calls = calls_of p b a s.maps w }) (ejected_for (fault_of b e) (ended s.policy e))
 
 -- an ejected policy has no programs
 pub acting_out : (s : State) (b : Callback) → is_ejected s ≡ true → acting s b ≡ None

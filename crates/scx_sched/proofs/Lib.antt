@@ -31,5 +31,6 @@ pub mod Deciding
 pub mod Watching
 pub mod Causing
 pub mod Following
+pub mod Unstuck
 pub mod Valid
 pub mod Idle

@@ -2,19 +2,24 @@
 use Rattle.std.proofs.Common.{◌≡◌, ℕ, ◌+◌, ◌≤◌, ◌^◌, false, length, None, Ok, refl, sym, subst, arith}
 use Rattle.std.proofs.lemmas.Bool.Decides.{nat_tests}
 use Rattle.scx_weights.specs.Hierarchy.{Hierarchy}
+use Rattle.scx_world.specs.declared.eject.Eject.TheVariants as cause
+use Rattle.scx_world.specs.declared.faults.Fault.TheVariants.{Stuck}
 use Rattle.scx_world.specs.World.{WorldState}
 use Rattle.scx_machine.specs.declared.events.Event.{Event}
-use Rattle.scx_machine.specs.Policy.{PolicyState, AreAs}
+use Rattle.scx_machine.specs.Policy.{PolicyState, IsTimeout, AreAs}
 use Rattle.scx_machine.specs.Steps.{State}
+use Rattle.scx_machine.specs.Callbacks.{AreAnswered}
 use Rattle.scx_machine.specs.Events as machine
 use Rattle.scx_machine.specs.Start.{is_bad_shape, started}
 use Rattle.scx_sched.specs.Ranges.{IsFine}
 use Rattle.scx_sched.specs.Usages.{AreBounded}
 use Rattle.scx_sched.specs.Sim.{refusal, IsValid}
 use Rattle.scx_sched.proofs.Bounded.{are_bounded}
+use Rattle.scx_sched.proofs.Blaming.{apart}
 use Rattle.scx_sched.proofs.Deciding.{accepted, decides}
+use Rattle.scx_sched.proofs.Unstuck.{unstuck_step}
 use Rattle.scx_sched.proofs.Events.{fine_step}
-use Rattle.scx_sched.proofs.First.{fine_started, time_started, policy_started}
+use Rattle.scx_sched.proofs.First.{fine_started, time_started, policy_started, force_started}
 use Rattle.scx_sched.proofs.Timely.{IsInTime}
 use Rattle.scx_sched.proofs.Watching.{time_step}
 use Rattle.scx_sched.proofs.Still.{still_step, still_first}
@@ -23,21 +28,23 @@ fine_with : (n e : ℕ) (w : WorldState) → IsFine n e e None w.cpus w → IsFi
 fine_with n e w h = subst (λ k. IsFine k e e None w.cpus w) (sym h.sound.tasks) h
 
 -- at first
-pub valid_first : (p : PolicyState) (tree : Hierarchy) (cpus : ℕ) (t : State) → is_bad_shape tree cpus ≡ false → length tree.active ≡ length tree.homes → AreAs p.callbacks → started p tree cpus ≡ Ok t → t.world.queues.pushes ≤ 2 ^ 23 → IsValid t 0
-valid_first p tree cpus t shape flags programs e few =
+pub valid_first : (p : PolicyState) (tree : Hierarchy) (cpus : ℕ) (t : State) → is_bad_shape tree cpus ≡ false → length tree.active ≡ length tree.homes → IsTimeout p.timeout_ms → AreAs p.callbacks → started p tree cpus ≡ Ok t → t.world.queues.pushes ≤ 2 ^ 23 → IsValid t 0
+valid_first p tree cpus t shape flags timeout programs e few =
     let h = fine_started p tree cpus t shape flags e in
     record {
       over = omega arith;
       pushes = omega (arith, few);
       still = still_first p tree cpus t e;
+      timeout = subst (λ (q : PolicyState). IsTimeout q.timeout_ms) (sym (policy_started p tree cpus t e)) timeout;
       programs = subst (λ (q : PolicyState). AreAs q.callbacks) (sym (policy_started p tree cpus t e)) programs;
       timely = time_started t.policy.timeout_ms p tree cpus t shape e;
+      unstuck = λ n out. absurd (apart t.world.ejected (cause.Fault Stuck n) (force_started p tree cpus t e) out);
       fine = fine_with (length tree.homes) 0 t.world (subst (λ on. IsFine (length tree.homes) 0 0 None on t.world) (sym h.sound.cpus) h);
     }
 
 -- after each
-pub valid_step : (s : State) (n : ℕ) (v : Event) → refusal (record { state = s; events = n }) v ≡ None → IsValid s n → (machine.happened s v).state.world.queues.pushes ≤ s.world.queues.pushes + 2 ^ 19 → IsValid (machine.happened s v).state (n + 1)
-valid_step s n v e h few =
+pub valid_step : (s : State) (n : ℕ) (v : Event) → refusal (record { state = s; events = n }) v ≡ None → IsValid s n → AreAnswered (machine.happened s v).calls → (machine.happened s v).state.world.queues.pushes ≤ s.world.queues.pushes + 2 ^ 19 → IsValid (machine.happened s v).state (n + 1)
+valid_step s n v e h answered few =
     let a = accepted (record { state = s; events = n }) v e in
     let t = (machine.happened s v).state in
     let same : t.policy ≡ s.policy = (decides s n v a.taken h.fine).policy in
@@ -46,7 +53,9 @@ valid_step s n v e h few =
       over = grind (arith, nat_tests, a.not_over, h.over);
       pushes = omega (arith, few, h.pushes);
       still = still_step s v h.still;
+      timeout = subst (λ (q : PolicyState). IsTimeout q.timeout_ms) (sym same) h.timeout;
       programs = subst (λ (q : PolicyState). AreAs q.callbacks) (sym same) h.programs;
+      unstuck = unstuck_step s n v a.taken h.fine answered h.unstuck;
       timely = subst (λ (q : PolicyState). IsInTime q.timeout_ms t.world) (sym same) time;
       fine = fine_with (length s.world.tasks) (n + 1) (machine.happened s v).state.world (fine_step (length s.world.tasks) n s v refl a.taken h.fine);
     }

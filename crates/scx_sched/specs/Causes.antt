@@ -10,7 +10,7 @@ use Rattle.scx_vm.specs.Host.{host}
 use Rattle.scx_world.specs.declared.eject.Eject.{Eject}
 use Rattle.scx_world.specs.declared.eject.Eject.TheVariants as cause
 use Rattle.scx_world.specs.declared.faults.Fault.{Fault}
-use Rattle.scx_world.specs.declared.faults.Fault.TheVariants.{NoSuchCpu}
+use Rattle.scx_world.specs.declared.faults.Fault.TheVariants.{Stuck, NoSuchCpu}
 use Rattle.scx_world.specs.World.{WorldState}
 use Rattle.scx_world.specs.Tasks.{later}
 use Rattle.scx_world.specs.Waits.{IsFirstOverdue}
@@ -24,13 +24,13 @@ use Rattle.scx_sched.specs.Sim.{SimState, calls_of}
 pub record EndsIn (m : CallMade) (answer : ℕ) (w : WorldState) : Type 0 where
   pub steps : ℕ
   pub maps : Maps
-  pub run : Runs (host world_functions) m.program.context.callback m.program.code (given m.arguments) m.maps m.world answer steps maps w
+  pub run : Runs (host world_functions) m.callback m.program.code (given m.arguments) m.maps m.world answer steps maps w
   pub in_bound : steps ≤ instruction_count m.program.code
 
 -- a callback with that fault: of its first helper call that has one, or else of its answer
 pub data HasFault (m : CallMade) (f : Fault) : Type 0 where
   Of_helper : (answer : ℕ) (w : WorldState) → EndsIn m answer w → w.call.fault ≡ Some f → HasFault m f
-  Of_answer : (answer : ℕ) (w : WorldState) → EndsIn m answer w → w.call.fault ≡ None → m.program.context.callback ≡ SelectCpu → length w.cpus ≤ answer → f ≡ NoSuchCpu → HasFault m f
+  Of_answer : (answer : ℕ) (w : WorldState) → EndsIn m answer w → w.call.fault ≡ None → m.callback ≡ SelectCpu → length w.cpus ≤ answer → f ≡ NoSuchCpu → HasFault m f
 
 abbrev pub IsLast : CallMade → List CallMade → Type 0
 IsLast m calls = (before : List CallMade) × (calls ≡ before ++ m ∷ [])
@@ -58,3 +58,7 @@ pub record EjectsOnce (s : SimState) (e : Event) (t : SimState) : Type 0 where
   pub cause : (x : Eject) → s.state.world.ejected ≡ None → t.state.world.ejected ≡ Some x → IsCause s e x
   -- no callback has a fault after which the policy is in force
   pub heard : t.state.world.ejected ≡ None → (m : CallMade) (f : Fault) → IsAmong m (calls_of s e) → HasFault m f → ⊥
+
+-- no policy is out of force for a callback that was stuck
+abbrev pub IsNeverStuck : WorldState → Type 0
+IsNeverStuck w = (n : ℕ) → w.ejected ≡ Some (cause.Fault Stuck n) → ⊥

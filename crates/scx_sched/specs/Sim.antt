@@ -1,11 +1,13 @@
 -- The machine between two events, with the number of those that it accepted.
 use Rattle.std.specs.Prelude.{◌≡◌, ℕ, ◌==◌, ◌+◌, ◌*◌, ◌≤◌, ◌^◌, List, [], length, Option, Some, None, Result, Ok, Err, if◌then◌else◌}
+use Rattle.scx_world.specs.declared.eject.Eject.TheVariants as cause
+use Rattle.scx_world.specs.declared.faults.Fault.TheVariants.{Stuck}
 use Rattle.scx_world.specs.declared.notes.Note.{Note}
 use Rattle.scx_machine.specs.declared.events.Event.{Event}
 use Rattle.scx_machine.specs.declared.events.Refused.{Refused}
 use Rattle.scx_machine.specs.declared.events.Refused.TheVariants.{RunOver}
 use Rattle.scx_weights.specs.Hierarchy.{Hierarchy}
-use Rattle.scx_machine.specs.Policy.{PolicyState, AreAs}
+use Rattle.scx_machine.specs.Policy.{PolicyState, IsTimeout, AreAs}
 use Rattle.scx_machine.specs.Steps.{State, CallMade}
 use Rattle.scx_machine.specs.Start.{started}
 use Rattle.scx_machine.specs.Events as machine
@@ -60,6 +62,8 @@ pub record IsValid (state : State) (events : ℕ) : Type 0 where
   pub over : events ≤ max_events
   pub pushes : state.world.queues.pushes ≤ 2 ^ 23 + 2 ^ 19 * events
   pub still : state.world.cycling ≡ None
+  pub timeout : IsTimeout state.policy.timeout_ms
   pub programs : AreAs state.policy.callbacks
   pub timely : IsTimely state
+  pub unstuck : (n : ℕ) → state.world.ejected ≡ Some (cause.Fault Stuck n) → ⊥
   pub fine : IsFine (length state.world.tasks) events events None state.world.cpus state.world

@@ -3,9 +3,9 @@ ghost use Rattle.scx_weights.specs.Limits.{usage_of};
 ghost use Rattle.scx_world.specs.World.{task_at, is_runnable, running, wait};
 ghost use Rattle.scx_machine.specs.Notes.{Takes};
 ghost use Rattle.scx_machine.specs.Callbacks.{AreAnswered};
-ghost use Rattle.scx_machine.specs.Policy.{AreAs};
+ghost use Rattle.scx_machine.specs.Policy.{IsTimeout, AreAs};
 ghost use Rattle.scx_machine.specs.Start.{is_bad_shape, IsRefusal, start_calls, AreAnsweredBefore};
-ghost use Rattle.scx_sched.specs.Causes.{EjectsOnce};
+ghost use Rattle.scx_sched.specs.Causes.{EjectsOnce, IsNeverStuck};
 ghost use Rattle.scx_sched.specs.Decided.{EventsDecide};
 ghost use Rattle.scx_sched.specs.Left.{LeavesNothingIdle};
 ghost use Rattle.scx_sched.specs.Ranges.{IsFresh};
@@ -52,6 +52,7 @@ impl Sim {
     pub fn new(alloc: Global, policy: Policy, tree: Tree, cpus: u32) -> Result<Sim, NewError>
         ensures first { IfOk result (IsFirst policy tree cpus) }
         ensures shape { OnOk result (is_bad_shape tree cpus ≡ false) }
+        ensures timeout { OnOk result (IsTimeout policy.timeout_ms) }
         ensures programs { OnOk result (AreAs policy.callbacks) }
         ensures in_force { IfOk result (λ sim. sim.state.world.ejected ≡ None) }
         ensures refused { IfErr result (IsRefusal policy tree cpus) }
@@ -83,6 +84,7 @@ impl Sim {
         ensures once { IsOnce None self.new.state.world }
         ensures timely { IsTimely self.new.state }
         ensures bounded { AreBounded self.new.state.world }
+        ensures never_stuck { IsNeverStuck self.new.state.world }
         ensures cause { OnOk result (EjectsOnce self.old event self.new) }
         ensures decided { OnOk result (EventsDecide self.old event self.new) }
         ensures idle { OnOk result (LeavesNothingIdle event self.new.state.world) }
@@ -106,11 +108,13 @@ impl Sim {
         ensures once { IsOnce None self.now.state.world }
         ensures waits { HasWaits None self.now.state.world }
         ensures timely { IsTimely self.now.state }
+        ensures never_stuck { IsNeverStuck self.now.state.world }
         ensures bounded { AreBounded self.now.state.world }
         ensures times { (t : ℕ) → (task_at self.now.state.world t).builtin < 2 ^ 63 }
         ensures still { self.now.state.world.cycling ≡ None }
         ensures fresh { self.now.state.world.ejected ≡ None → IsFresh self.now.state.world }
         ensures stamps { self.now.state.world.queues.pushes < 2 ^ 52 }
+        ensures timeout { IsTimeout self.now.state.policy.timeout_ms }
         ensures programs { AreAs self.now.state.policy.callbacks }
     {
         let _events = self.events;

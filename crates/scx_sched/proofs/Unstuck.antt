@@ -1,0 +1,183 @@
+-- No policy is put out of force for being stuck: each callback comes to an answer, and no helper call has that fault.
+use Rattle.std.proofs.Common.{◌≡◌, ℕ, suc, Bool, true, false, ◌&&◌, ◌==◌, nat_lt, nat_le, if◌then◌else◌, List, [], ◌++◌, length, map, Option, Some, None, refl, sym, ap, ◌∙◌, subst}
+use Rattle.std.proofs.lemmas.List.{append-nil}
+use Rattle.std.specs.List.{list_any}
+use Rattle.scx_dsq.specs.Queues.{exists, front_of}
+use Rattle.scx_dsq.specs.Calls.{created, clashes}
+use Rattle.scx_dsq.specs.declared.entries.Rank.{Rank}
+use Rattle.scx_semantics.specs.declared.callbacks.Callback.{Callback}
+use Rattle.scx_semantics.specs.declared.host_tables.Helper.{Helper}
+use Rattle.scx_semantics.specs.declared.host_tables.Helper.TheVariants.{MapLookupElem, KtimeGetNs, CreateDsq, DsqInsert, DsqInsertVtime, DsqMoveToLocal, SelectCpuDfl, CpuIdle, TaskByPid, DsqNrQueued}
+use Rattle.scx_semantics.specs.Code.{instruction_count}
+use Rattle.scx_semantics.specs.Effects.{Query, Call, Load, Store}
+use Rattle.scx_semantics.specs.Elements.{Maps}
+use Rattle.scx_semantics.specs.Endings.{Ending, run_of}
+use Rattle.scx_semantics.proofs.EndedRuns.{run_keeps}
+use Rattle.scx_semantics.specs.Machine as start
+use Rattle.scx_safety.specs.Programs.{VerifiedProgram}
+use Rattle.scx_vm.specs.Arguments.{given, argument_of}
+use Rattle.scx_vm.specs.declared.arguments.Arg.{Arg}
+use Rattle.scx_vm.specs.declared.arguments.Args.{Args}
+use Rattle.scx_vm.specs.Host.{answer_to, after_query}
+use Rattle.scx_world.specs.declared.call.Insert.{Insert}
+use Rattle.scx_world.specs.declared.eject.Eject.{Eject}
+use Rattle.scx_world.specs.declared.eject.Eject.TheVariants as cause
+use Rattle.scx_world.specs.declared.faults.Fault.{Fault}
+use Rattle.scx_world.specs.declared.faults.Fault.TheVariants.{Stuck, NoSuchQueue, CannotInsert, NoSuchCpu, UnknownFlag, CannotCreate, BuiltinVtime, Mixed}
+use Rattle.scx_world.specs.Ids.{policy_end, global, local, local_on}
+use Rattle.scx_world.specs.World.{WorldState, with_queues}
+use Rattle.scx_world.specs.Tasks.{gone, entered, for_cpu, later, begun_periods}
+use Rattle.scx_world.specs.Helpers.{is_there, can_create, first_fault, faulted, is_dispatch, may_insert, is_vtime, queue_fault, rank_fault, or_fault, insert_fault, with_insert, released, inserted, asked, asked_by_vtime, can_move, moved, given_number, given_task, helper_after, world_functions}
+use Rattle.scx_machine.specs.declared.events.Event.{Event}
+use Rattle.scx_machine.specs.declared.events.Event.TheVariants.{Wake, Sleep, Tick, Clock, SetWeight}
+use Rattle.scx_machine.specs.Steps.{State, Stepped, CallMade, with_world, joined}
+use Rattle.scx_machine.specs.Ejecting.{eject}
+use Rattle.scx_machine.specs.Parking.{let_all_go}
+use Rattle.scx_machine.specs.Events.{refusal, overdue, stalled, clock, happened}
+use Rattle.scx_machine.specs.Callbacks.{called, IsAnswered, AreAnswered}
+use Rattle.scx_sched.specs.Causes.{EndsIn, HasFault, Of_helper, Of_answer, IsNeverStuck}
+use Rattle.scx_sched.proofs.Entering.{keeps_if}
+use Rattle.scx_sched.specs.Decided.{tree_after}
+use Rattle.scx_sched.proofs.Unchanged.{eject_sets}
+use Rattle.scx_sched.proofs.Events.{IsFineNow, IsTaken, Wakes, Sleeps, Ticks, Clocks, Weighs, is_taken}
+use Rattle.scx_sched.proofs.Blaming.{IsHonest, state_with_tree, same_eject, honest_let_all_go}
+use Rattle.scx_sched.proofs.Deciding.{IsHonestEvent, wake_is_honest, sleep_is_honest, tick_is_honest, weight_is_honest}
+use Rattle.scx_sched.proofs.Causing.{last_answered, computes, has_fault}
+
+-- some fault, or none, but not that one
+abbrev IsOther : Option Fault → Type 0
+IsOther o = o ≡ Some Stuck → ⊥
+
+-- of a helper call
+other_or : (o r : Option Fault) → IsOther o → IsOther r → IsOther (or_fault o r)
+other_or None r h k = k
+other_or (Some f) r h k = h
+
+no_fault : IsOther None
+no_fault e = absurd (cc)
+
+other_if : (b : Bool) (o r : Option Fault) → IsOther o → IsOther r → IsOther (if b then o else r)
+other_if b o r h k = keeps_if IsOther b o r h k
+
+other_queue : (w : WorldState) (q : ℕ) → IsOther (queue_fault w q)
+other_queue w q =
+    other_if (nat_lt q policy_end) _ _ (other_if (exists w.queues q) _ _ no_fault (λ e. absurd (cc)))
+    (other_if (q == global) _ _ no_fault
+    (other_if (q == local) _ _ no_fault
+    (other_if (nat_lt q (local_on 0)) _ _ (λ e. absurd (cc)) (other_if (nat_lt q (local_on (length w.cpus))) _ _ no_fault (other_if (nat_lt q (local_on 0x1_0000_0000)) _ _ (λ e. absurd (cc)) (λ e. absurd (cc)))))))
+
+other_rank : (w : WorldState) (q : ℕ) (r : Rank) → IsOther (rank_fault w q r)
+other_rank w q r = other_if (is_vtime r && nat_le policy_end q) _ _ (λ e. absurd (cc)) (other_if (list_any (clashes q r) w.queues.entries) _ _ (λ e. absurd (cc)) no_fault)
+
+other_insert : (w : WorldState) (t : Option ℕ) (i : Insert) (flags : ℕ) → IsOther (insert_fault w t i flags)
+other_insert w t i flags =
+    other_if (may_insert w t) _ _ (other_if (nat_lt 1 flags) _ _ (λ e. absurd (cc)) (other_or (queue_fault w i.queue) (rank_fault w i.queue i.rank) (other_queue w i.queue) (other_rank w i.queue i.rank))) (λ e. absurd (cc))
+
+-- ---- the run of a program
+
+abbrev IsUnstuck : WorldState → Type 0
+IsUnstuck w = IsOther w.call.fault
+
+unstuck_faulted : (w : WorldState) (f : Fault) → IsOther (Some f) → IsUnstuck w → IsUnstuck (faulted w f)
+unstuck_faulted w f other h = go w.call.fault h
+  where
+    go : (o : Option Fault) → IsOther o → IsOther (first_fault o f)
+    go None k = other
+    go (Some g) k = k
+
+unstuck_entered : (w : WorldState) (t : ℕ) (i : Insert) → IsUnstuck w → IsUnstuck (entered w t i)
+unstuck_entered w t i h = keeps_if IsUnstuck (nat_lt t (length w.tasks)) _ w h h
+
+unstuck_released : (w : WorldState) (t : Option ℕ) (i : Insert) → IsUnstuck w → IsUnstuck (released w t i)
+unstuck_released w None i h = h
+unstuck_released w (Some t) i h = unstuck_entered (gone w t) t i h
+
+unstuck_inserted : (w : WorldState) (o : Option Fault) (t : Option ℕ) (i : Insert) → IsOther o → IsUnstuck w → IsUnstuck (inserted w o t i)
+unstuck_inserted w None t i other h = keeps_if IsUnstuck (is_dispatch w.call.callback) (released w t (for_cpu w.call.cpu i)) (with_insert w i) (unstuck_released w t (for_cpu w.call.cpu i) h) h
+unstuck_inserted w (Some f) t i other h = unstuck_faulted w f other h
+
+unstuck_moved : (w : WorldState) (o : Option ℕ) (q : ℕ) → IsUnstuck w → IsUnstuck (moved w o q)
+unstuck_moved w None q h = h
+unstuck_moved w (Some t) q h = h
+
+unstuck_helper : (w : WorldState) (f : Helper) (a : List Arg) → IsUnstuck w → IsUnstuck (helper_after w f a)
+unstuck_helper w CreateDsq a h =
+    keeps_if IsUnstuck (can_create w (given_number a 0)) (with_queues w (created w.queues (given_number a 0))) (faulted w CannotCreate) h (unstuck_faulted w CannotCreate (λ e. absurd (cc)) h)
+unstuck_helper w DsqInsert a h = unstuck_inserted w (insert_fault w (given_task a 0) (asked a) (given_number a 3)) (given_task a 0) (asked a) (other_insert w (given_task a 0) (asked a) (given_number a 3)) h
+unstuck_helper w DsqInsertVtime a h =
+    unstuck_inserted w (insert_fault w (given_task a 0) (asked_by_vtime a) (given_number a 4)) (given_task a 0) (asked_by_vtime a) (other_insert w (given_task a 0) (asked_by_vtime a) (given_number a 4)) h
+unstuck_helper w DsqMoveToLocal a h =
+    keeps_if IsUnstuck (can_move w (given_number a 0)) (moved w (front_of w.queues (given_number a 0)) (given_number a 0)) (faulted w NoSuchQueue) (unstuck_moved w (front_of w.queues (given_number a 0)) (given_number a 0) h) (unstuck_faulted w NoSuchQueue (λ e. absurd (cc)) h)
+unstuck_helper w CpuIdle a h = keeps_if IsUnstuck (nat_lt (given_number a 0) (length w.cpus)) w (faulted w NoSuchCpu) h (unstuck_faulted w NoSuchCpu (λ e. absurd (cc)) h)
+unstuck_helper w DsqNrQueued a h = keeps_if IsUnstuck (is_there w (given_number a 0)) w (faulted w NoSuchQueue) h (unstuck_faulted w NoSuchQueue (λ e. absurd (cc)) h)
+unstuck_helper w KtimeGetNs a h = h
+unstuck_helper w SelectCpuDfl a h = h
+unstuck_helper w TaskByPid a h = h
+unstuck_helper w MapLookupElem a h = h
+
+unstuck_query : (w : WorldState) (q : Query) → IsUnstuck w → IsUnstuck (after_query world_functions w q)
+unstuck_query w (Call f a) h = unstuck_helper w f (map argument_of a) h
+unstuck_query w (Load t f) h = h
+unstuck_query w (Store t f k) h = h
+
+unstuck_called : (p : VerifiedProgram) (b : Callback) (a : Args) (maps : Maps) (w : WorldState) → w.call.fault ≡ None → IsUnstuck (called (Some p) b a maps w).outside
+unfolding called run_of
+unstuck_called p b a maps w fresh =
+    run_keeps (answer_to world_functions) (after_query world_functions) IsUnstuck unstuck_query b p.code (suc (instruction_count p.code)) 0 (start.start (given a) maps) w (subst IsOther (sym fresh) no_fault)
+
+-- ---- a callback that is called
+
+never_by : (m : CallMade) (f : Fault) → m.world.call.fault ≡ None → HasFault m f → f ≡ Stuck → ⊥
+never_by m f fresh (Of_helper answer w ends e) is =
+    let there : IsUnstuck w = subst IsUnstuck (sym (ap (λ (x : Ending WorldState). x.outside) (computes m answer w ends))) (unstuck_called m.program m.callback m.arguments m.maps m.world fresh) in
+    there (e ∙ ap Some is)
+never_by m f fresh (Of_answer answer w ends none same over what) is = absurd (cc)
+
+-- an ejection for a fault is named by it
+same_fault : (f g : Fault) (n k : ℕ) → cause.Fault f n ≡ cause.Fault g k → f ≡ g
+same_fault f g n k e = cc
+
+-- what is honest, and answers, leaves a policy that was never stuck
+pub never_stuck : (s : State) (r : Stepped) → IsHonest s r → AreAnswered r.calls → IsNeverStuck s.world → IsNeverStuck r.state.world
+never_stuck s r h answered before n out = go s.world.ejected refl
+  where
+    go : (o : Option Eject) → s.world.ejected ≡ o → ⊥
+    go (Some x) e = before n (e ∙ ap Some (same_eject r.state.world.ejected x (cause.Fault Stuck n) (h.stays x e) out))
+    go None e =
+        let b = h.blamed (cause.Fault Stuck n) e out in
+        let i = last_answered b.last.0 b.call (subst AreAnswered b.last.1 answered) in
+        never_by b.call b.fault b.fresh (has_fault b.call b.fault i b.wrong) (sym (same_fault Stuck b.fault n s.world.clock b.named))
+
+-- ---- an accepted event
+
+apart_causes : (t k n : ℕ) → cause.Stall t k ≡ cause.Fault Stuck n → ⊥
+apart_causes t k n e = absurd (cc)
+
+clock_unstuck : (s : State) → AreAnswered (clock s).calls → IsNeverStuck s.world → IsNeverStuck (clock s).state.world
+unfolding clock
+clock_unstuck s answered before = go (overdue r.state) answered
+  where
+    v : State
+    v = with_world s (begun_periods (later s.world))
+
+    r : Stepped
+    r = let_all_go v
+
+    go : (o : Option ℕ) → AreAnswered (joined r (stalled o r.state)).calls → IsNeverStuck (joined r (stalled o r.state)).state.world
+    go None all n out = never_stuck v r (honest_let_all_go v) (subst AreAnswered (append-nil r.calls) all) before n out
+    go (Some t) all n out =
+        let y = cause.Stall t r.state.world.clock in
+        apart_causes t r.state.world.clock n (same_eject (eject r.state y).state.world.ejected y (cause.Fault Stuck n) (eject_sets r.state y).1 out)
+
+pub unstuck_step : (s : State) (n : ℕ) (v : Event) → refusal s v ≡ None → IsFineNow (length s.world.tasks) n n s.world → AreAnswered (happened s v).calls → IsNeverStuck s.world → IsNeverStuck (happened s v).state.world
+unstuck_step s n v ok fine answered before = go v (is_taken s v ok) ok answered
+  where
+    plain : (v : Event) → IsHonestEvent s v → AreAnswered (happened s v).calls → IsNeverStuck (happened s v).state.world
+    plain v h answered = never_stuck (state_with_tree s (tree_after v s.world)) (happened s v) h answered before
+
+    go : (v : Event) → IsTaken s v → refusal s v ≡ None → AreAnswered (happened s v).calls → IsNeverStuck (happened s v).state.world
+    go _ (Wakes t within resting) ok answered = plain (Wake t) (wake_is_honest s n fine t) answered
+    go _ (Sleeps t within runnable) ok answered = plain (Sleep t) (sleep_is_honest s n fine t within) answered
+    go _ (Ticks c l) ok answered = plain (Tick c) (tick_is_honest s n fine c l) answered
+    go _ Clocks ok answered = clock_unstuck s answered before
+    go _ (Weighs g x) ok answered = plain (SetWeight g x) (weight_is_honest s n fine g x ok) answered
