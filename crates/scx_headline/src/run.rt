@@ -46,7 +46,8 @@ pub fn run_events<S: Sink>(
     // In no period does a group with a quota use as much as its quota and one millisecond for each
     // processor.
     ensures bounded { OnOk result (EachUsageIsBounded (machine_run policy tree cpus events.now)) }
-    // Each event does what it alone decides, and a callback with a fault is the end of the policy.
+    // Each event does what it alone decides, and a callback with a fault is the end of the policy. No policy is
+    // out of force for one that was stuck, and whoever is in a queue is in one that is there.
     ensures follows { OnOk result
         (EachFollows events.now (machine_run policy tree cpus events.now).states) }
 

@@ -24,6 +24,7 @@ use Rattle.scx_sched.proofs.Unchanged.{eject_sets}
 use Rattle.scx_sched.proofs.Fine.{fine_steps}
 use Rattle.scx_sched.proofs.Skeleton.{keeps_stopping}
 use Rattle.scx_sched.proofs.Events.{IsFineNow, IsTaken, Wakes, Sleeps, Ticks, Clocks, Weighs, is_task, is_taken, known_running}
+use Rattle.scx_sched.proofs.Tallies.{run_times}
 use Rattle.scx_sched.proofs.Blaming.{IsHonest, state_with_tree, stopped_for_sleep, none_of, eject_policy, eject_calls, honest_wake, honest_sleep, honest_tick, honest_weight, honest_let_all_go}
 
 pub record IsAccepted (s : SimState) (v : Event) : Type 0 where
@@ -123,4 +124,4 @@ pub step_decides : (s : State) (n : ℕ) (v : Event) → refusal (record { state
 step_decides s n v ok h =
     let before : SimState = record { state = s; events = n } in
     let d = decides s n v (accepted before v ok).taken h.fine in
-    record { clock = d.clock; tree = d.tree; policy = d.policy; silent = λ x out. ap (λ o. calls_if o before v) ok ∙ d.silent x out; counted = refl }
+    record { clock = d.clock; tree = d.tree; policy = d.policy; silent = λ x out. ap (λ o. calls_if o before v) ok ∙ d.silent x out; ran = run_times n s v (accepted before v ok).taken h.fine h.there; counted = refl }

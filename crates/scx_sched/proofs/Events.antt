@@ -195,7 +195,7 @@ module _ (n : ℕ) (I : ℕ → Option ℕ → List (Option ℕ) → WorldState 
 
   -- ---- tick
 
-  keeps_cycle_now : (m : ℕ) (s : State) (c : ℕ) (p : Option ℕ) (ran : Bool) → c < length s.world.cpus → get_or s.world.cpus c None ≡ p → I m None s.world.cpus s.world → I (m + 1) None (cycle s c p ran).state.world.cpus (cycle s c p ran).state.world
+  pub keeps_cycle_now : (m : ℕ) (s : State) (c : ℕ) (p : Option ℕ) (ran : Bool) → c < length s.world.cpus → get_or s.world.cpus c None ≡ p → I m None s.world.cpus s.world → I (m + 1) None (cycle s c p ran).state.world.cpus (cycle s c p ran).state.world
   keeps_cycle_now m s c None ran l at h = k.steps.more m None _ _ (keeps_now m _ (keeps_cycle n I (inside_of n I k) m s.world.cpus s c None ran l tt at h))
   keeps_cycle_now m s c (Some t) ran l at h = keeps_now (m + 1) _ (keeps_cycle n I (inside_of n I k) m s.world.cpus s c (Some t) ran l (running_is_there n s.world c t l at (k.sound m None s.world.cpus s.world h)) at h)
 
@@ -232,7 +232,7 @@ module _ (n : ℕ) (I : ℕ → Option ℕ → List (Option ℕ) → WorldState 
     pub goes_on : is_throttled (used_ms (ticked w t) t) t ≡ false → I m None w.cpus (used_ms (ticked w t) t)
     pub leaves : is_throttled (used_ms (ticked w t) t) t ≡ true → I m (Some t) (set w.cpus c None) (stopped (used_ms (ticked w t) t) c t)
 
-  keeps_count_down : (m : ℕ) (s : State) (c t : ℕ) → t < n → c < length s.world.cpus → get_or s.world.cpus c None ≡ Some t → IsKeptByTick m s.world c t → I (m + 1) None (count_down s c t).state.world.cpus (count_down s c t).state.world
+  pub keeps_count_down : (m : ℕ) (s : State) (c t : ℕ) → t < n → c < length s.world.cpus → get_or s.world.cpus c None ≡ Some t → IsKeptByTick m s.world c t → I (m + 1) None (count_down s c t).state.world.cpus (count_down s c t).state.world
   unfolding count_down
   keeps_count_down m s c t within l at h = go (is_throttled v.world t) refl
     where

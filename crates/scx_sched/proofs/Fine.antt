@@ -44,6 +44,27 @@ each_set P tasks t x new old u = go (cases_eq u t) (cases_lt t (length tasks))
     go (inl e) (inr past) = rw (set_past tasks t x past) (old u)
     go (inr d) l = rw (get_or-set_other tasks t u x no_task d) (old u)
 
+-- ---- how long a task has run
+
+pub stored_run : (x : Task) (f : Field) (k : ℕ) → (stored_in x f k).run_ns ≡ x.run_ns
+stored_run x Pid k = refl
+stored_run x Weight k = refl
+stored_run x Slice k = refl
+stored_run x DsqVtime k = refl
+stored_run x PrevCpu k = refl
+stored_run x Group k = refl
+stored_run x RunNs k = refl
+
+pub given_run : (x : Task) (i : Insert) → (given x i).run_ns ≡ x.run_ns
+given_run x i = vtime i.rank ∙ keeps_if (λ (y : Task). y.run_ns ≡ x.run_ns) (i.slice == 0) x _ refl refl
+  where
+    vtime : (r : Rank) → (given_vtime (given_slice x i.slice) r).run_ns ≡ (given_slice x i.slice).run_ns
+    vtime Fifo = refl
+    vtime (Vtime k) = refl
+
+pub renewed_run : (x : Task) → (renewed x).run_ns ≡ x.run_ns
+renewed_run x = keeps_if (λ (y : Task). y.run_ns ≡ x.run_ns) (x.slice == 0) _ x refl refl
+
 -- ---- ranges
 
 -- the clock, run times, built-in times and usages are in range
@@ -84,15 +105,6 @@ module _ (e m : ℕ) (on : List (Option ℕ)) where
   pub range_same : (w : WorldState) (t : ℕ) (x : Task) → x.run_ns ≡ (task_at w t).run_ns → x.builtin ≡ (task_at w t).builtin → IsRange e m on w → IsRange e m on (with_task w t x)
   range_same w t x run same r = range_task w t x (rw run (r.1 t)) same r
 
-  stored_run : (x : Task) (f : Field) (k : ℕ) → (stored_in x f k).run_ns ≡ x.run_ns
-  stored_run x Pid k = refl
-  stored_run x Weight k = refl
-  stored_run x Slice k = refl
-  stored_run x DsqVtime k = refl
-  stored_run x PrevCpu k = refl
-  stored_run x Group k = refl
-  stored_run x RunNs k = refl
-
   stored_time : (x : Task) (f : Field) (k : ℕ) → (stored_in x f k).builtin ≡ x.builtin
   stored_time x Pid k = refl
   stored_time x Weight k = refl
@@ -101,13 +113,6 @@ module _ (e m : ℕ) (on : List (Option ℕ)) where
   stored_time x PrevCpu k = refl
   stored_time x Group k = refl
   stored_time x RunNs k = refl
-
-  given_run : (x : Task) (i : Insert) → (given x i).run_ns ≡ x.run_ns
-  given_run x i = vtime i.rank ∙ keeps_if (λ (y : Task). y.run_ns ≡ x.run_ns) (i.slice == 0) x _ refl refl
-    where
-      vtime : (r : Rank) → (given_vtime (given_slice x i.slice) r).run_ns ≡ (given_slice x i.slice).run_ns
-      vtime Fifo = refl
-      vtime (Vtime k) = refl
 
   given_time : (x : Task) (i : Insert) → (given x i).builtin ≡ x.builtin
   given_time x i = vtime i.rank ∙ keeps_if (λ (y : Task). y.builtin ≡ x.builtin) (i.slice == 0) x _ refl refl
@@ -152,9 +157,6 @@ module _ (e m : ℕ) (on : List (Option ℕ)) where
   range_query w (Load t f) r = r
   range_query w (Store t f k) r = range_same w t.0 (stored_in (task_at w t.0) f k) (stored_run (task_at w t.0) f k) (stored_time (task_at w t.0) f k) r
 
-  renewed_run : (x : Task) → (renewed x).run_ns ≡ x.run_ns
-  renewed_run x = keeps_if (λ (y : Task). y.run_ns ≡ x.run_ns) (x.slice == 0) _ x refl refl
-
   renewed_time : (x : Task) → (renewed x).builtin ≡ x.builtin
   renewed_time x = keeps_if (λ (y : Task). y.builtin ≡ x.builtin) (x.slice == 0) _ x refl refl
 
@@ -194,7 +196,7 @@ fine_steps n e = record {
   started = λ m on w c t l free front may h. fine_of n e m None (set on c (Some t)) _ (sound_started on n w c t l free front h.sound) (range_same e m (set on c (Some t)) w t _ refl refl (range_on e m on (set on c (Some t)) w (within_begun w.tree on c t l free may h.within) (range_of n e m None on w h)));
   put_parked = λ m on w t l may-not h. let r = range_of n e m (Some t) on w h in fine_of n e m None on _ (sound_put_parked on n w t l h.sound) (keeps_if (IsRange e m on) (nat_lt t (length w.tasks)) _ w (range_same e m on w t _ refl refl r) r);
   taken = λ m on w q t apart front h. fine_of n e m (Some t) on _ (sound_taken on n w q t front apart h.sound) (range_of n e m None on w h);
-  kept = λ m on w t h. fine_of n e m None on _ (sound_kept on n w t h.sound) (range_same e m on w t (renewed (task_at w t)) (renewed_run e m on (task_at w t)) (renewed_time e m on (task_at w t)) (range_of n e m None on w h));
+  kept = λ m on w t h. fine_of n e m None on _ (sound_kept on n w t h.sound) (range_same e m on w t (renewed (task_at w t)) (renewed_run (task_at w t)) (renewed_time e m on (task_at w t)) (range_of n e m None on w h));
   asleep = λ m on w t l h. let r = range_of n e m (Some t) on w h in fine_of n e m None on _ (sound_asleep on n w t l h.sound) (keeps_if (IsRange e m on) (nat_lt t (length w.tasks)) _ w (range_same e m on w t _ refl refl r) r);
   put_out = λ m hand on w x h. fine_of n e m hand on _ (sound_put_out hand on n w x h.sound) (h.clock, h.runs, h.times, h.builtin_clock, (λ force. absurd (cc)), h.used, h.within);
   evict = λ m hand on w t l h. let r = range_of n e m hand on w h in fine_of n e m hand on _ (sound_evict hand on n w t l h.sound) (keeps_if (IsRange e m on) (waits w t) (put_builtin (gone w t) t) w (range_put_builtin e m on (gone w t) t r) r);

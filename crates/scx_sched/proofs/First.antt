@@ -124,7 +124,7 @@ locals_places (suc n) s = places_created (with_locals n s) (local_on n) ∙ loca
 first_places : (cpus tasks : ℕ) → (first_queues cpus tasks).entries ≡ replicate tasks None
 first_places cpus tasks = locals_places cpus (own_queues cpus tasks) ∙ ap (λ (s : QueueState). s.entries) (own cpus tasks)
 
-nowhere : (cpus tasks t : ℕ) → entry_of (first_queues cpus tasks) t ≡ None
+pub nowhere : (cpus tasks t : ℕ) → entry_of (first_queues cpus tasks) t ≡ None
 nowhere cpus tasks t = rw (first_places cpus tasks) (go (cases_lt t tasks))
   where
     go : (t < tasks) ⊎ (tasks ≤ t) → entry_at (replicate tasks None) t ≡ None

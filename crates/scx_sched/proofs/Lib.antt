@@ -29,6 +29,7 @@ pub mod Leaving
 pub mod Blaming
 pub mod Deciding
 pub mod Watching
+pub mod Tallies
 pub mod Causing
 pub mod Following
 pub mod Unstuck

@@ -22,6 +22,7 @@ use Rattle.scx_sched.proofs.Events.{fine_step}
 use Rattle.scx_sched.proofs.First.{fine_started, time_started, policy_started, force_started}
 use Rattle.scx_sched.proofs.Timely.{IsInTime}
 use Rattle.scx_sched.proofs.Watching.{time_step}
+use Rattle.scx_sched.proofs.Tallies.{queues_first, queues_there}
 use Rattle.scx_sched.proofs.Still.{still_step, still_first}
 
 fine_with : (n e : ℕ) (w : WorldState) → IsFine n e e None w.cpus w → IsFine (length w.tasks) e e None w.cpus w
@@ -39,6 +40,7 @@ valid_first p tree cpus t shape flags timeout programs e few =
       programs = subst (λ (q : PolicyState). AreAs q.callbacks) (sym (policy_started p tree cpus t e)) programs;
       timely = time_started t.policy.timeout_ms p tree cpus t shape e;
       unstuck = λ n out. absurd (apart t.world.ejected (cause.Fault Stuck n) (force_started p tree cpus t e) out);
+      there = queues_first p tree cpus t shape e;
       fine = fine_with (length tree.homes) 0 t.world (subst (λ on. IsFine (length tree.homes) 0 0 None on t.world) (sym h.sound.cpus) h);
     }
 
@@ -56,6 +58,7 @@ valid_step s n v e h answered few =
       timeout = subst (λ (q : PolicyState). IsTimeout q.timeout_ms) (sym same) h.timeout;
       programs = subst (λ (q : PolicyState). AreAs q.callbacks) (sym same) h.programs;
       unstuck = unstuck_step s n v a.taken h.fine answered h.unstuck;
+      there = queues_there n s v a.taken h.fine h.there;
       timely = subst (λ (q : PolicyState). IsInTime q.timeout_ms t.world) (sym same) time;
       fine = fine_with (length s.world.tasks) (n + 1) (machine.happened s v).state.world (fine_step (length s.world.tasks) n s v refl a.taken h.fine);
     }

@@ -25,11 +25,11 @@ use Rattle.scx_sched.proofs.Events.{IsKeptByEvents, IsKeptByTick, IsTaken, Wakes
 
 -- ---- two facts at once
 
-record Both (I J : ℕ → Option ℕ → List (Option ℕ) → WorldState → Type 0) (m : ℕ) (hand : Option ℕ) (on : List (Option ℕ)) (w : WorldState) : Type 0 where
-  one : I m hand on w
-  two : J m hand on w
+pub record Both (I J : ℕ → Option ℕ → List (Option ℕ) → WorldState → Type 0) (m : ℕ) (hand : Option ℕ) (on : List (Option ℕ)) (w : WorldState) : Type 0 where
+  pub one : I m hand on w
+  pub two : J m hand on w
 
-both_steps : (n : ℕ) (I J : ℕ → Option ℕ → List (Option ℕ) → WorldState → Type 0) → IsKeptBySteps n I → IsKeptBySteps n J → IsKeptBySteps n (Both I J)
+pub both_steps : (n : ℕ) (I J : ℕ → Option ℕ → List (Option ℕ) → WorldState → Type 0) → IsKeptBySteps n I → IsKeptBySteps n J → IsKeptBySteps n (Both I J)
 both_steps n I J a b = record {
   more = λ m hand on w h. record { one = a.more m hand on w h.one; two = b.more m hand on w h.two };
   known = λ m hand on w h. a.known m hand on w h.one;

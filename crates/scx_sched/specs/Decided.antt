@@ -1,14 +1,16 @@
 -- What events alone decide, whatever callbacks do: the clock, who is runnable, the weights of groups and what they have
 -- used of their quotas. The policy stays the one that it was, and once it is ejected none of it is called.
-use Rattle.std.specs.Prelude.{◌≡◌, ℕ, ◌+◌, true, false, [], Option, Some, None}
+use Rattle.std.specs.Prelude.{◌≡◌, ℕ, ◌+◌, true, false, [], Option, Some, None, if◌then◌else◌}
 use Rattle.scx_weights.specs.Hierarchy.{Hierarchy, with_task, with_weight}
 use Rattle.scx_weights.specs.Limits.{with_use, with_turn}
 use Rattle.scx_world.specs.declared.eject.Eject.{Eject}
-use Rattle.scx_world.specs.World.{WorldState, running}
+use Rattle.scx_world.specs.World.{WorldState, task_at, is_this, running}
+use Rattle.scx_world.specs.Tasks.{tick_ns}
 use Rattle.scx_machine.specs.declared.events.Event.{Event}
 use Rattle.scx_machine.specs.declared.events.Event.TheVariants.{Wake, Sleep, Tick, Clock, SetWeight}
 use Rattle.scx_machine.specs.declared.events.Refused.{Refused}
-use Rattle.scx_sched.specs.Causes.{EjectsOnce}
+use Rattle.scx_sched.specs.Causes.{EjectsOnce, IsNeverStuck}
+use Rattle.scx_sched.specs.Once.{AreInQueues}
 use Rattle.scx_sched.specs.Sim.{SimState, calls_of}
 
 -- the clock grows by a millisecond at its own event, and at no other
@@ -32,15 +34,21 @@ tree_after (Tick c) w = used_at_tick (running w c) w.tree
 tree_after Clock w = with_turn w.tree (w.clock + 1)
 tree_after (SetWeight g x) w = with_weight w.tree g x
 
+-- how much longer a task has run: for a millisecond where the event is a tick of its processor
+abbrev pub ran_in : Event → WorldState → ℕ → ℕ
+ran_in (Tick c) w t = if is_this t (running w c) then tick_ns else 0
+ran_in e w t = 0
+
 -- from before an accepted event to after it
 pub record EventsDecide (s : SimState) (e : Event) (t : SimState) : Type 0 where
   pub clock : t.state.world.clock ≡ clock_after e s.state.world.clock
   pub tree : t.state.world.tree ≡ tree_after e s.state.world
   pub policy : t.state.policy ≡ s.state.policy
   pub silent : (x : Eject) → s.state.world.ejected ≡ Some x → calls_of s e ≡ []
+  pub ran : (u : ℕ) → (task_at t.state.world u).run_ns ≡ (task_at s.state.world u).run_ns + ran_in e s.state.world u
   pub counted : t.events ≡ s.events + 1
 
 -- from before any event to after it: one that is refused changes nothing
 abbrev pub Follows : Option Refused → SimState → Event → SimState → Type 0
-Follows None s e t = EventsDecide s e t × EjectsOnce s e t
+Follows None s e t = EventsDecide s e t × EjectsOnce s e t × IsNeverStuck t.state.world × AreInQueues t.state.world
 Follows (Some r) s e t = t ≡ s

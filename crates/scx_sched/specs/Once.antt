@@ -1,7 +1,7 @@
 -- In how many places a task appears: on processors and in queues. Between two events a runnable task
 -- appears once, and a sleeping one nowhere; inside an event the task at hand may be in neither place.
 use Rattle.std.specs.Prelude.{◌≡◌, ℕ, ◌+◌, ◌<◌, Bool, true, false, ◌==◌, ◌||◌, nat_lt, List, length, Option, Some, None, sum_by, if◌then◌else◌}
-use Rattle.scx_dsq.specs.Queues.{QueueState, exists, task_count, entry_of}
+use Rattle.scx_dsq.specs.Queues.{QueueState, exists, task_count, entry_of, queue_of}
 use Rattle.scx_dsq.specs.Calls.{clashes}
 use Rattle.scx_dsq.specs.Entries.{same_sort}
 use Rattle.scx_dsq.specs.declared.entries.Entry.{Entry}
@@ -21,6 +21,10 @@ runs cpus t = sum_by (λ o. one_if (is_this t o)) cpus
 
 abbrev pub appearances : WorldState → ℕ → ℕ
 appearances w t = runs w.cpus t + standing w.queues t
+
+-- the queue in which a task is is there
+abbrev pub AreInQueues : WorldState → Type 0
+AreInQueues w = (t q : ℕ) → queue_of w.queues t ≡ Some q → exists w.queues q ≡ true
 
 -- the task at hand, if there is one, is in neither place; each other one where it should be
 abbrev pub IsOnce : Option ℕ → WorldState → Type 0

@@ -11,6 +11,7 @@ use Rattle.scx_machine.specs.Policy.{PolicyState, IsTimeout, AreAs}
 use Rattle.scx_machine.specs.Steps.{State, CallMade}
 use Rattle.scx_machine.specs.Start.{started}
 use Rattle.scx_machine.specs.Events as machine
+use Rattle.scx_sched.specs.Once.{AreInQueues}
 use Rattle.scx_sched.specs.Waits.{IsTimely}
 use Rattle.scx_sched.specs.Ranges.{IsFine}
 
@@ -66,4 +67,5 @@ pub record IsValid (state : State) (events : ℕ) : Type 0 where
   pub programs : AreAs state.policy.callbacks
   pub timely : IsTimely state
   pub unstuck : (n : ℕ) → state.world.ejected ≡ Some (cause.Fault Stuck n) → ⊥
+  pub there : AreInQueues state.world
   pub fine : IsFine (length state.world.tasks) events events None state.world.cpus state.world

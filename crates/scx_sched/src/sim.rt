@@ -11,7 +11,7 @@ ghost use Rattle.scx_sched.specs.Left.{LeavesNothingIdle};
 ghost use Rattle.scx_sched.specs.Ranges.{IsFresh};
 ghost use Rattle.scx_sched.specs.Usages.{AreBounded};
 ghost use Rattle.scx_sched.specs.Waits.{IsTimely, HasWaits};
-ghost use Rattle.scx_sched.specs.Once.{IsOnce};
+ghost use Rattle.scx_sched.specs.Once.{IsOnce, AreInQueues};
 ghost use Rattle.scx_sched.specs.Places.{place};
 ghost use Rattle.scx_sched.specs.Sim.{max_events, refusal, answer_of, stepped, notes_of, calls_of, IsFirst};
 
@@ -82,6 +82,7 @@ impl Sim {
         ensures notes { Takes S.takes sink.old (notes_of self.old event) sink.new }
         ensures answered { AreAnswered (calls_of self.old event) }
         ensures once { IsOnce None self.new.state.world }
+        ensures there { AreInQueues self.new.state.world }
         ensures timely { IsTimely self.new.state }
         ensures bounded { AreBounded self.new.state.world }
         ensures never_stuck { IsNeverStuck self.new.state.world }
@@ -106,6 +107,7 @@ impl Sim {
     #[tactic(auto, using(crate::proofs::Bounded::are_bounded))]
     pub fn is_sound(&self)
         ensures once { IsOnce None self.now.state.world }
+        ensures there { AreInQueues self.now.state.world }
         ensures waits { HasWaits None self.now.state.world }
         ensures timely { IsTimely self.now.state }
         ensures never_stuck { IsNeverStuck self.now.state.world }
