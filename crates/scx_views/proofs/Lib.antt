@@ -1,3 +1,5 @@
 mod Showing
+mod Pausing
+pub mod Keeping
 mod Growing
 mod Sketched

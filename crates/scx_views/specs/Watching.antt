@@ -46,6 +46,26 @@ pub record Watches {V : Type 0} (expects : V → SimState → Event → V → Ty
   pub shown : AreWatched expects has_failed shows s done v w
   pub all : has_failed w ≡ false → rest ≡ []
 
+-- ---- what a view keeps that counts
+
+-- notes, one after another, each of which changes what is kept
+abbrev pub noted_all : {K : Type 0} → (ℕ → What → K → K) → List Note → K → K
+noted_all noted [] k = k
+noted_all noted (n ∷ ns) k = noted_all noted ns (noted n.clock n.what k)
+
+-- events, one after another: each changes what is kept before the machine takes it, and then its notes do
+abbrev pub kept_of_all : {K : Type 0} → (SimState → Event → K → K) → (ℕ → What → K → K) → SimState → List Event → K → K
+kept_of_all expected noted s [] k = k
+kept_of_all expected noted s (e ∷ es) k = kept_of_all expected noted (stepped s e) es (noted_all noted (notes_of s e) (expected s e k))
+
+-- a view that counts changes what it keeps at an event, and fails at none
+abbrev pub CountsEvent : {V K : Type 0} → (V → Bool) → (V → K) → (SimState → Event → K → K) → V → SimState → Event → V → Type 0
+CountsEvent has_failed kept expected v s e w = (has_failed w ≡ has_failed v) × (kept w ≡ expected s e (kept v))
+
+-- and at a note, unless it fails there
+abbrev pub CountsNote : {V K : Type 0} → (V → Bool) → (V → K) → (ℕ → What → K → K) → V → ℕ → ℕ → What → V → Type 0
+CountsNote has_failed kept noted v moment clock what w = has_failed w ≡ false → kept w ≡ noted clock what (kept v)
+
 -- What a sink does that hands notes on to a view. Its states are of any type: what is said of them is said
 -- of which view they lead to, of when the event comes, and of the view's state.
 abbrev pub HandsOn : {S G V : Type 0} → (S → G) → (S → Bool) → (S → V) → (V → Bool) → (V → ℕ → ℕ → What → V → Type 0) → S → Note → S → Type 0

@@ -1,16 +1,50 @@
+ghost use Rattle.std.specs.Prelude.{◌≡◌, ◌-◌, replicate, slice_set, None, IfOk};
+ghost use Rattle.scx_views.specs.declared.pauses.Doing.TheVariants.{Sleeps};
+ghost use Rattle.scx_views.specs.Pauses.{sleeps, runs, is_parked, doing_at, stopped, inserted, ended_by_insert, doing_after, unfinished, ended_by};
+
 use scx_sched::What;
 use scx_world::PARKED;
 use std::alloc::{AllocError, Global};
+use std::marker::Model;
 
 /// What a task does.
-#[derive(Clone, Copy, PartialEq, Eq)]
-enum Doing {
+#[derive(Clone, Copy)]
+pub enum Doing {
     Sleeps,
     /// It has waited since then.
     Waits(u64),
     Runs,
     /// It has been parked since then.
     IsParked(u64),
+}
+
+impl Doing {
+    fn sleeps(self) -> bool
+        ensures { result ≡ sleeps self }
+    {
+        match self {
+            Doing::Sleeps => true,
+            Doing::Waits(_) | Doing::Runs | Doing::IsParked(_) => false,
+        }
+    }
+
+    fn runs(self) -> bool
+        ensures { result ≡ runs self }
+    {
+        match self {
+            Doing::Runs => true,
+            Doing::Sleeps | Doing::Waits(_) | Doing::IsParked(_) => false,
+        }
+    }
+
+    fn is_parked(self) -> bool
+        ensures { result ≡ is_parked self }
+    {
+        match self {
+            Doing::IsParked(_) => true,
+            Doing::Sleeps | Doing::Waits(_) | Doing::Runs => false,
+        }
+    }
 }
 
 /// Why a task that has work to do doesn't run.
@@ -32,27 +66,45 @@ pub struct Pause {
 }
 
 impl Pause {
-    pub fn length(self) -> u64 {
+    pub fn length(self) -> u64
+        ensures { result ≡ self.until - self.since }
+    {
         self.until.saturating_sub(self.since)
     }
 }
 
 /// Who waits or is parked, and since when: in clocks or in moments, as one likes.
+///
+/// In a contract it is the list of what each task does.
 #[derive(Drop)]
 pub struct Pauses {
     doing: Vec<Doing>,
 }
 
+impl Model for Pauses {
+    ghost use Rattle.std.specs.Prelude.{List};
+    ghost use Rattle.scx_views.specs.declared.pauses.Doing.{Doing};
+
+    ghost Value = { List Doing };
+
+    ghost view = { λ p. p.doing.items };
+}
+
 impl Pauses {
     /// So many tasks sleep.
-    pub fn new(alloc: Global, tasks: usize) -> Result<Pauses, AllocError> {
+    pub fn new(alloc: Global, tasks: usize) -> Result<Pauses, AllocError>
+        ensures { IfOk result (λ pauses. pauses ≡ replicate tasks Sleeps) }
+    {
         Ok(Pauses {
             doing: vec![in alloc; Doing::Sleeps; tasks]?,
         })
     }
 
     /// Something happens. The answer is the pause that it ends, if it ends one.
-    pub fn show(&mut self, now: u64, what: What) -> Option<Pause> {
+    pub fn show(&mut self, now: u64, what: What) -> Option<Pause>
+        ensures doing { self.new ≡ doing_after now what self.old }
+        ensures ended { result ≡ ended_by now what self.old }
+    {
         match what {
             What::Wake(task) => self.change(task, Doing::Waits(now), now),
             What::Sleep(task) => self.change(task, Doing::Sleeps, now),
@@ -71,29 +123,46 @@ impl Pauses {
     }
 
     /// The pause of that task, if it waits or is parked now.
-    pub fn unfinished(&self, task: u16, now: u64) -> Option<Pause> {
-        let (kind, since) = match *self.doing.get(task as usize)? {
-            Doing::Waits(since) => (PauseKind::Wait, since),
-            Doing::IsParked(since) => (PauseKind::Parked, since),
-            Doing::Sleeps | Doing::Runs => return None,
-        };
-        Some(Pause {
-            task,
-            kind,
-            since,
-            until: now,
-        })
-    }
-
-    /// Whether the task sleeps.
-    pub fn is_asleep(&self, task: u16) -> bool {
-        match self.doing.get(task as usize) {
-            Some(doing) => *doing == Doing::Sleeps,
-            None => true,
+    pub fn unfinished(&self, task: u16, now: u64) -> Option<Pause>
+        ensures { result ≡ unfinished now self.now task }
+    {
+        match self.doing_at(task) {
+            Doing::Waits(since) => Some(Pause {
+                task,
+                kind: PauseKind::Wait,
+                since,
+                until: now,
+            }),
+            Doing::IsParked(since) => Some(Pause {
+                task,
+                kind: PauseKind::Parked,
+                since,
+                until: now,
+            }),
+            Doing::Sleeps | Doing::Runs => None,
         }
     }
 
-    fn change(&mut self, task: u16, doing: Doing, now: u64) -> Option<Pause> {
+    /// Whether the task sleeps.
+    pub fn is_asleep(&self, task: u16) -> bool
+        ensures { result ≡ sleeps (doing_at self.now task) }
+    {
+        self.doing_at(task).sleeps()
+    }
+
+    fn doing_at(&self, task: u16) -> Doing
+        ensures { result ≡ doing_at self.now task }
+    {
+        match self.doing.get(task as usize) {
+            Some(doing) => *doing,
+            None => Doing::Sleeps,
+        }
+    }
+
+    fn change(&mut self, task: u16, doing: Doing, now: u64) -> Option<Pause>
+        ensures doing { self.new ≡ slice_set self.old task doing }
+        ensures ended { result ≡ unfinished now self.old task }
+    {
         let pause = self.unfinished(task, now);
         if let Some(place) = self.doing.get_mut(task as usize) {
             *place = doing;
@@ -103,29 +172,28 @@ impl Pauses {
 
     /// A task comes into a queue. There it waits as before, but it is parked in the queue of parked tasks,
     /// and one that was parked waits from now on.
-    fn insert(&mut self, task: u16, queue: u64, now: u64) -> Option<Pause> {
+    #[tactic(auto, using(crate::proofs::Pausing::set_as_it_is))]
+    fn insert(&mut self, task: u16, queue: u64, now: u64) -> Option<Pause>
+        ensures doing { self.new
+            ≡ slice_set self.old task (inserted now queue (doing_at self.old task)) }
+        ensures ended { result ≡ ended_by_insert now task queue (doing_at self.old task) }
+    {
         if queue == PARKED {
             return self.change(task, Doing::IsParked(now), now);
         }
-        if self.is_parked(task) {
+        if self.doing_at(task).is_parked() {
             return self.change(task, Doing::Waits(now), now);
         }
         None
     }
 
-    fn is_parked(&self, task: u16) -> bool {
-        match self.doing.get(task as usize) {
-            Some(Doing::IsParked(_)) => true,
-            Some(_) | None => false,
-        }
-    }
-
     /// A task that stops running waits from now on, unless it sleeps, which is noted first.
-    fn stop(&mut self, task: u16, now: u64) {
-        if let Some(place) = self.doing.get_mut(task as usize) {
-            if *place == Doing::Runs {
-                *place = Doing::Waits(now);
-            }
+    #[tactic(auto, using(crate::proofs::Pausing::set_as_it_is))]
+    fn stop(&mut self, task: u16, now: u64)
+        ensures { self.new ≡ slice_set self.old task (stopped now (doing_at self.old task)) }
+    {
+        if self.doing_at(task).runs() {
+            self.change(task, Doing::Waits(now), now);
         }
     }
 }
