@@ -1,59 +1,39 @@
-ghost use Rattle.std.specs.Result.{is_err};
+ghost use Rattle.std.specs.Prelude.{◌≡◌, false, length, is_err, IfOk, OnOk};
+ghost use Rattle.scx_world.specs.World.{running};
+ghost use Rattle.scx_driver.specs.Driver.{remaining};
+ghost use Rattle.scx_machine.specs.declared.events.Event.TheVariants.{Tick};
+ghost use Rattle.scx_views.specs.Watching.{CountsEvent, CountsNote};
+ghost use Rattle.scx_statistics.specs.Counting.{counts_of, nothing, expected, noted, ended};
+ghost use Rattle.scx_statistics.specs.Figures.{AreOfRun};
 
-use crate::counting::WaitCounts;
 use crate::numbers::percent;
 use crate::quotas::Quotas;
 use crate::shares::{Shares, WHOLE};
+use crate::tally::{CpuFigures, Tally, TaskFigures};
 use scx_sched::{Event, Sim, What};
 use scx_simulation::{Heard, Listener, Run};
 use scx_trace::Events;
-use scx_views::{Pause, PauseKind, Pauses, View, watch};
+use scx_views::{View, watch};
 use scx_weights::MAX_DEPTH;
 use scx_workloads::Workload;
 use std::alloc::{AllocError, Global};
 
-/// A millisecond in nanoseconds.
-const MS: u64 = 1_000_000;
-
-/// What became of a task.
-#[derive(Drop)]
-pub(crate) struct TaskFigures {
-    /// For how many milliseconds it ran.
-    pub(crate) run: u64,
-    pub(crate) waits: WaitCounts,
-    pub(crate) wakes: u64,
-    /// How often it had to stop although it had work to do.
-    pub(crate) stopped: u64,
-    /// For how many milliseconds it was parked.
-    pub(crate) parked: u64,
-}
-
-/// What became of a processor.
-#[derive(Clone, Copy)]
-pub(crate) struct CpuFigures {
-    /// For how many milliseconds it ran a task, and for how many it ran none.
-    pub(crate) busy: u64,
-    pub(crate) idle: u64,
-    /// How often another task began to run on it than the one that had run there last.
-    pub(crate) changes: u64,
-    last: Option<u16>,
-}
-
 /// What became of a group, in hundredths of a percent of all that ran.
 #[derive(Clone, Copy)]
-pub(crate) struct GroupFigures {
-    pub(crate) reached: u64,
-    pub(crate) due: u64,
+pub struct GroupFigures {
+    pub reached: u64,
+    pub due: u64,
 }
 
 /// The figures of a run.
 #[derive(Drop)]
-pub(crate) struct Figures {
-    pub(crate) workload: Workload,
-    pub(crate) tasks: Vec<TaskFigures>,
-    pub(crate) cpus: Vec<CpuFigures>,
-    pub(crate) groups: Vec<GroupFigures>,
-    pub(crate) quotas: Quotas,
+pub struct Figures {
+    pub workload: Workload,
+    pub tasks: Vec<TaskFigures>,
+    pub cpus: Vec<CpuFigures>,
+    /// Of each group in its order.
+    pub groups: Vec<GroupFigures>,
+    pub quotas: Quotas,
 }
 
 /// Goes through the run, and answers its figures.
@@ -61,177 +41,82 @@ pub(crate) fn gather<L: Listener>(
     alloc: Global,
     run: Run,
     listener: &mut L,
-) -> Result<Figures, AllocError> {
+) -> Result<Figures, AllocError>
+    ensures workload { IfOk result (λ figures. figures.workload ≡ run.workload) }
+    ensures of_run { IfOk result (λ figures.
+        AreOfRun run.workload run.sim (remaining run.driver run.sim) figures.tasks.items
+        figures.cpus.items) }
+{
     let Run {
         workload,
         driver,
         mut sim,
     } = run;
     let mut events = Heard::new(driver, workload.ms(), listener);
-    gather_from(alloc, workload, &mut events, &mut sim)
+    let gathered = gather_from(alloc, &workload, &mut events, &mut sim)?;
+    let Gathered {
+        tasks,
+        cpus,
+        groups,
+        quotas,
+    } = gathered;
+    Ok(Figures {
+        workload,
+        tasks,
+        cpus,
+        groups,
+        quotas,
+    })
+}
+
+/// The figures of a run, without its workload.
+#[derive(Drop)]
+struct Gathered {
+    tasks: Vec<TaskFigures>,
+    cpus: Vec<CpuFigures>,
+    groups: Vec<GroupFigures>,
+    quotas: Quotas,
 }
 
 fn gather_from<E: Events>(
     alloc: Global,
-    workload: Workload,
+    workload: &Workload,
     events: &mut E,
     sim: &mut Sim,
-) -> Result<Figures, AllocError> {
+) -> Result<Gathered, AllocError>
+    ensures { IfOk result (λ gathered.
+        AreOfRun workload.now sim.old (E.remaining events.old sim.old) gathered.tasks.items
+        gathered.cpus.items) }
+{
     let mut gathering = Gathering::new(alloc, workload)?;
     watch(sim, events, &mut gathering);
     gathering.end(sim);
-    gathering.figures(alloc)
+    gathering.gathered(alloc)
 }
 
-/// All memory that is taken before a run.
+/// What is due to groups, and what they use of their quotas.
 #[derive(Drop)]
-struct Room {
-    tasks: Vec<TaskFigures>,
-    cpus: Vec<CpuFigures>,
+struct Dues {
     shares: Shares,
     quotas: Quotas,
-    pauses: Pauses,
-}
-
-impl Room {
-    fn new(alloc: Global, workload: &Workload) -> Result<Room, AllocError> {
-        Ok(Room {
-            tasks: unused_tasks(alloc, workload.tasks().len())?,
-            cpus: unused_cpus(alloc, workload.cpus() as usize)?,
-            shares: Shares::new(alloc, workload)?,
-            quotas: Quotas::new(alloc, workload)?,
-            pauses: Pauses::new(alloc, workload.tasks().len())?,
-        })
-    }
-}
-
-fn unused_tasks(alloc: Global, count: usize) -> Result<Vec<TaskFigures>, AllocError> {
-    let mut tasks = Vec::with_capacity(alloc, count)?;
-    for _ in 0..count {
-        tasks.push(TaskFigures {
-            run: 0,
-            waits: WaitCounts::new(alloc),
-            wakes: 0,
-            stopped: 0,
-            parked: 0,
-        })?;
-    }
-    Ok(tasks)
-}
-
-fn unused_cpus(alloc: Global, count: usize) -> Result<Vec<CpuFigures>, AllocError> {
-    let unused = CpuFigures {
-        busy: 0,
-        idle: 0,
-        changes: 0,
-        last: None,
-    };
-    vec![in alloc; unused; count]
-}
-
-/// The figures of a run on their way.
-#[derive(Drop)]
-struct Gathering {
-    workload: Workload,
-    tasks: Vec<TaskFigures>,
-    cpus: Vec<CpuFigures>,
-    shares: Shares,
-    quotas: Quotas,
-    pauses: Pauses,
     /// How many processors ran in the millisecond at hand, for which nothing is due yet.
     busy: u64,
-    /// Whether there was memory for all.
-    result: Result<(), AllocError>,
 }
 
-impl Gathering {
-    fn new(alloc: Global, workload: Workload) -> Result<Self, AllocError> {
-        let room = Room::new(alloc, &workload)?;
-        let Room {
-            tasks,
-            cpus,
-            shares,
-            quotas,
-            pauses,
-        } = room;
-        Ok(Gathering {
-            workload,
-            tasks,
-            cpus,
-            shares,
-            quotas,
-            pauses,
+impl Dues {
+    fn new(alloc: Global, workload: &Workload) -> Result<Dues, AllocError> {
+        Ok(Dues {
+            shares: Shares::new(alloc, workload)?,
+            quotas: Quotas::new(alloc, workload)?,
             busy: 0,
-            result: Ok(()),
         })
     }
 
-    /// All figures, if there was memory for them.
-    fn figures(self, alloc: Global) -> Result<Figures, AllocError> {
-        let groups = self.groups(alloc)?;
-        let Gathering {
-            workload,
-            tasks,
-            cpus,
-            quotas,
-            ..
-        } = self;
-        Ok(Figures {
-            workload,
-            tasks,
-            cpus,
-            groups,
-            quotas,
-        })
-    }
-
-    /// The figures of all groups, if there was memory for all before them.
-    fn groups(&self, alloc: Global) -> Result<Vec<GroupFigures>, AllocError> {
-        self.result?;
-        group_figures(alloc, &self.workload, self.tasks.as_slice(), &self.shares)
-    }
-
-    /// The group of a task.
-    fn home(&self, task: u16) -> Option<u32> {
-        self.workload.tasks().get(task as usize).copied()
-    }
-
-    fn add_pause(&mut self, pause: Pause) -> Result<(), AllocError> {
-        let Some(task) = self.tasks.get_mut(pause.task as usize) else {
-            return Ok(());
-        };
-        match pause.kind {
-            PauseKind::Wait => task.waits.add(pause),
-            PauseKind::Parked => {
-                task.parked = task.parked.saturating_add(pause.length());
-                Ok(())
-            }
-        }
-    }
-
-    /// A processor is about to have run for a millisecond, or not to have.
-    fn tick(&mut self, sim: &Sim, cpu: u32) {
-        let running = running_on(sim, cpu);
-        self.count_cpu(cpu, running.is_some());
-        if let Some(task) = running {
-            self.charge(task);
-        }
-    }
-
-    fn charge(&mut self, task: u16) {
-        if let Some(group) = self.home(task) {
+    /// A processor is about to have run a task of that group for a millisecond.
+    fn charge(&mut self, group: Option<u32>) {
+        self.busy = self.busy.saturating_add(1);
+        if let Some(group) = group {
             self.quotas.charge(group);
-        }
-    }
-
-    fn count_cpu(&mut self, cpu: u32, is_busy: bool) {
-        if let Some(figures) = self.cpus.get_mut(cpu as usize) {
-            if is_busy {
-                figures.busy = figures.busy.saturating_add(1);
-                self.busy = self.busy.saturating_add(1);
-            } else {
-                figures.idle = figures.idle.saturating_add(1);
-            }
         }
     }
 
@@ -244,104 +129,147 @@ impl Gathering {
         }
     }
 
-    fn wake(&mut self, task: u16) {
-        if let Some(figures) = self.tasks.get_mut(task as usize) {
-            figures.wakes = figures.wakes.saturating_add(1);
-        }
-        if let Some(group) = self.home(task) {
-            self.shares.activate(group);
+    /// A millisecond has passed, and the clock comes to this.
+    fn pass(&mut self, clock: u64) {
+        self.settle();
+        self.quotas.pass(clock);
+    }
+}
+
+/// The figures of a run on their way.
+#[derive(Drop)]
+struct Gathering<'a> {
+    workload: &'a Workload,
+    tally: Tally,
+    dues: Dues,
+}
+
+impl<'a> Gathering<'a> {
+    /// All memory that a run takes before its first event is taken here.
+    fn new(alloc: Global, workload: &'a Workload) -> Result<Self, AllocError>
+        ensures counts { IfOk result (λ gathering. counts_of gathering.tally
+            ≡ nothing (length workload.now.homes) workload.now.cpus) }
+        ensures well { IfOk result (λ gathering. is_err gathering.tally.result ≡ false) }
+    {
+        let tally = Tally::new(alloc, workload.tasks().len(), workload.cpus() as usize)?;
+        let dues = Dues::new(alloc, workload)?;
+        Ok(Gathering {
+            workload,
+            tally,
+            dues,
+        })
+    }
+
+    /// All figures, if there was memory for them.
+    fn gathered(self, alloc: Global) -> Result<Gathered, AllocError>
+        ensures tasks { IfOk result (λ gathered. gathered.tasks ≡ self.entry.tally.tasks) }
+        ensures cpus { IfOk result (λ gathered. gathered.cpus ≡ self.entry.tally.cpus) }
+        ensures well { OnOk result (is_err self.entry.tally.result ≡ false) }
+    {
+        let groups = self.groups(alloc)?;
+        let Gathering { tally, dues, .. } = self;
+        let Tally { tasks, cpus, .. } = tally;
+        Ok(Gathered {
+            tasks,
+            cpus,
+            groups,
+            quotas: dues.quotas,
+        })
+    }
+
+    /// The figures of all groups, if there was memory for all before them.
+    fn groups(&self, alloc: Global) -> Result<Vec<GroupFigures>, AllocError>
+        ensures { OnOk result (is_err self.now.tally.result ≡ false) }
+    {
+        self.tally.result?;
+        let tasks = self.tally.tasks.as_slice();
+        group_figures(alloc, self.workload, tasks, &self.dues.shares)
+    }
+
+    /// The group of a task.
+    fn home(&self, task: u16) -> Option<u32> {
+        self.workload.tasks().get(task as usize).copied()
+    }
+
+    /// A processor is about to have run for a millisecond, or not to have.
+    fn tick(&mut self, sim: &Sim, cpu: u32)
+        ensures { CountsEvent (λ g. is_err g.tally.result) (λ g. counts_of g.tally) expected
+            self.old sim.now (Tick cpu) self.new }
+    {
+        let running = running_on(sim, cpu);
+        self.tally.tick(cpu, running.is_some());
+        if let Some(task) = running {
+            let group = self.home(task);
+            self.dues.charge(group);
         }
     }
 
-    fn sleep(&mut self, task: u16) {
-        if let Some(group) = self.home(task) {
-            self.shares.deactivate(group);
-        }
-    }
-
-    fn run(&mut self, task: u16, cpu: u32) {
-        if let Some(figures) = self.cpus.get_mut(cpu as usize) {
-            if figures.last.is_some() && figures.last != Some(task) {
-                figures.changes = figures.changes.saturating_add(1);
-            }
-            figures.last = Some(task);
-        }
-    }
-
-    /// A task stops. One that sleeps, which is noted first, doesn't have to.
-    fn stop(&mut self, task: u16) {
-        if self.pauses.is_asleep(task) {
-            return;
-        }
-        if let Some(figures) = self.tasks.get_mut(task as usize) {
-            figures.stopped = figures.stopped.saturating_add(1);
-        }
-    }
-
-    fn count(&mut self, what: What) {
+    /// What is due to groups goes by who is runnable, and by their weights.
+    fn weigh(&mut self, what: What)
+        ensures { self.new.tally ≡ self.old.tally }
+    {
         match what {
-            What::Wake(task) => self.wake(task),
-            What::Sleep(task) => self.sleep(task),
-            What::Run(task, cpu) => self.run(task, cpu),
-            What::Stop(task, _) => self.stop(task),
-            What::Weight(group, weight) => self.shares.weigh(group, weight),
+            What::Wake(task) => {
+                if let Some(group) = self.home(task) {
+                    self.dues.shares.activate(group);
+                }
+            }
+            What::Sleep(task) => {
+                if let Some(group) = self.home(task) {
+                    self.dues.shares.deactivate(group);
+                }
+            }
+            What::Weight(group, weight) => self.dues.shares.weigh(group, weight),
             What::Insert(_, _)
             | What::Move(_, _)
+            | What::Run(_, _)
+            | What::Stop(_, _)
             | What::Idle(_)
             | What::Stall(_)
             | What::Fault(_) => {}
         }
     }
 
-    /// Adds the pauses that go on at the end, how long each task ran, and periods that aren't over.
-    fn end(&mut self, sim: &Sim) {
-        for task in 0..sim.tasks() {
-            if let Some(figures) = self.tasks.get_mut(task as usize) {
-                figures.run = sim.run_ns(task) / MS;
-            }
-            self.end_pause(task, sim.clock());
-        }
-        self.quotas.end(sim.clock());
-    }
-
-    fn end_pause(&mut self, task: u16, clock: u64) {
-        if let Some(pause) = self.pauses.unfinished(task, clock) {
-            if self.result.is_ok() {
-                self.result = self.add_pause(pause);
-            }
-        }
+    /// Adds what goes on at the end, and periods that aren't over.
+    fn end(&mut self, sim: &Sim)
+        ensures { is_err self.new.tally.result ≡ false → (is_err self.old.tally.result ≡ false)
+            × (counts_of self.new.tally ≡ ended sim.now.state.world (counts_of self.old.tally)) }
+    {
+        self.tally.end(sim);
+        self.dues.quotas.end(sim.clock());
     }
 }
 
-impl View for Gathering {
-    ghost has_failed = { λ g. is_err g.result };
+impl View for Gathering<'_> {
+    ghost expects = { CountsEvent (λ g. is_err g.tally.result) (λ g. counts_of g.tally) expected };
+
+    ghost shows = { CountsNote (λ g. is_err g.tally.result) (λ g. counts_of g.tally) noted };
+
+    ghost has_failed = { λ g. is_err g.tally.result };
 
     fn expect(&mut self, sim: &Sim, event: Event) {
         match event {
             Event::Tick(cpu) => self.tick(sim, cpu),
-            Event::Sleep(_) => self.settle(),
-            Event::Clock => {
-                self.settle();
-                self.quotas.pass(sim.clock().saturating_add(1));
-            }
+            Event::Sleep(_) => self.dues.settle(),
+            Event::Clock => self.dues.pass(sim.clock().saturating_add(1)),
             Event::Wake(_) | Event::SetWeight(_, _) => {}
         }
     }
 
     fn show(&mut self, _moment: u64, clock: u64, what: What) {
-        if let Some(pause) = self.pauses.show(clock, what) {
-            self.result = self.add_pause(pause);
-        }
-        self.count(what);
+        self.tally.show(clock, what);
+        self.weigh(what);
     }
 
     fn failed(&self) -> bool {
-        self.result.is_err()
+        self.tally.result.is_err()
     }
 }
 
 /// Who runs on the processor.
-fn running_on(sim: &Sim, cpu: u32) -> Option<u16> {
+fn running_on(sim: &Sim, cpu: u32) -> Option<u16>
+    ensures { result ≡ running sim.now.state.world cpu }
+{
     if cpu < sim.cpus() {
         sim.running(cpu)
     } else {

@@ -9,6 +9,11 @@ mod numbers;
 mod quotas;
 mod shares;
 mod tables;
+mod tally;
 mod telling;
 
-pub use telling::{stats, stats_csv};
+pub use counting::WaitCounts;
+pub use gathering::{Figures, GroupFigures};
+pub use quotas::{QuotaFigures, Quotas};
+pub use tally::{CpuFigures, TaskFigures};
+pub use telling::{figures, stats, stats_csv};

@@ -1,6 +1,7 @@
-use crate::gathering::{CpuFigures, Figures, GroupFigures, TaskFigures};
+use crate::gathering::{Figures, GroupFigures};
 use crate::numbers::{decimal, hundredths};
 use crate::quotas::QuotaFigures;
+use crate::tally::{CpuFigures, TaskFigures};
 use std::alloc::AllocError;
 
 /// What stands above the values.

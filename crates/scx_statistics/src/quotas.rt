@@ -4,19 +4,19 @@ use std::alloc::{AllocError, Global};
 
 /// What became of the quota of a group, if it has one.
 #[derive(Clone, Copy)]
-pub(crate) struct QuotaFigures {
+pub struct QuotaFigures {
     parent: Option<u32>,
-    pub(crate) quota_ms: Option<u32>,
-    pub(crate) period_ms: u32,
+    pub quota_ms: Option<u32>,
+    pub period_ms: u32,
     /// For how many milliseconds tasks in it ran in the period at hand, also in groups within it.
     used: u64,
     /// The most that they ran in a period.
-    pub(crate) most: u64,
+    pub most: u64,
     /// How many periods there were, and in how many of them the quota was used up.
-    pub(crate) periods: u64,
-    pub(crate) throttled_periods: u64,
+    pub periods: u64,
+    pub throttled_periods: u64,
     /// For how many milliseconds of the clock it was used up.
-    pub(crate) throttled: u64,
+    pub throttled: u64,
 }
 
 impl QuotaFigures {
@@ -60,8 +60,8 @@ impl QuotaFigures {
 
 /// What became of the quotas of all groups.
 #[derive(Drop)]
-pub(crate) struct Quotas {
-    pub(crate) groups: Vec<QuotaFigures>,
+pub struct Quotas {
+    pub groups: Vec<QuotaFigures>,
     /// Whether a group has a quota; where none has, nothing is counted.
     are_some: bool,
 }
@@ -87,7 +87,7 @@ impl Quotas {
     }
 
     /// Whether a group has a quota.
-    pub(crate) fn are_some(&self) -> bool {
+    pub fn are_some(&self) -> bool {
         let are_some = self.are_some;
         are_some
     }

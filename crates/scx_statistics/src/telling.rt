@@ -3,7 +3,7 @@ ghost use Rattle.std.specs.Io.KnownBytes.{Appends};
 ghost use Rattle.scx_output.specs.Output.{HasFailed};
 ghost use Rattle.scx_outcomes.specs.Outcome.{IfRefused, IsRefused};
 ghost use Rattle.scx_simulation.specs.Runs.{IsCause};
-ghost use Rattle.scx_statistics.specs.Figures.{tables, values};
+ghost use Rattle.scx_statistics.specs.Figures.{tables, values, AreOfTexts};
 
 use crate::gathering::{Figures, gather};
 use crate::listing::{COLUMNS, write_list};
@@ -100,8 +100,8 @@ fn tables_of<L: Listener>(
 ) -> Result<String, Refusal>
     ensures { IfErr result (IsCause policy.now workload.now) }
 {
-    let figures = figures_of(alloc, policy, workload, listener)?;
-    Ok(table_rows(alloc, &figures)?)
+    let all = figures(alloc, policy, workload, listener)?;
+    Ok(table_rows(alloc, &all)?)
 }
 
 fn table_rows(alloc: Global, figures: &Figures) -> Result<String, AllocError> {
@@ -119,8 +119,8 @@ fn values_of<L: Listener>(
 ) -> Result<String, Refusal>
     ensures { IfErr result (IsCause policy.now workload.now) }
 {
-    let figures = figures_of(alloc, policy, workload, listener)?;
-    Ok(value_rows(alloc, &figures)?)
+    let all = figures(alloc, policy, workload, listener)?;
+    Ok(value_rows(alloc, &all)?)
 }
 
 fn value_rows(alloc: Global, figures: &Figures) -> Result<String, AllocError> {
@@ -129,13 +129,19 @@ fn value_rows(alloc: Global, figures: &Figures) -> Result<String, AllocError> {
     Ok(rows)
 }
 
-fn figures_of<L: Listener>(
+/// The figures of the run that the texts of a policy file and of a workload file stand for.
+///
+/// # Errors
+///
+/// The texts are refused, or memory runs out.
+pub fn figures<L: Listener>(
     alloc: Global,
     policy: &str,
     workload: &str,
     listener: &mut L,
 ) -> Result<Figures, Refusal>
-    ensures { IfErr result (IsCause policy.now workload.now) }
+    ensures of_texts { IfOk result (AreOfTexts policy.now workload.now) }
+    ensures refused { IfErr result (IsCause policy.now workload.now) }
 {
     let run = prepare(alloc, policy, workload)?;
     Ok(gather(alloc, run, listener)?)

@@ -31,9 +31,10 @@ pub all_kept : {V K : Type 0} (has_failed : V → Bool) (kept : V → K) (expect
 all_kept has_failed kept expected noted [] s v w same well = (sym (ap has_failed same) ∙ well, ap kept same)
 all_kept {V} {K} has_failed kept expected noted (e ∷ es) s v w (u, (x, (stays, at_event), shown), rest) well =
     let behind = all_kept has_failed kept expected noted es (stepped s e) u w rest well in
-    let notes = all_noted has_failed kept noted (is_at_end e) (notes_of s e) x u shown behind.0 in
-    (sym stays ∙ notes.0,
-    behind.1 ∙ ap (λ k. kept_of_all expected noted (stepped s e) es k) (notes.1 ∙ ap (λ k. noted_all noted (notes_of s e) k) at_event))
+    let notes = all_noted has_failed kept noted (is_at_end e) (notes_of s e) x u shown behind.0 in (
+      sym stays ∙ notes.0,
+      behind.1 ∙ ap (λ k. kept_of_all expected noted (stepped s e) es k) (notes.1 ∙ ap (λ k. noted_all noted (notes_of s e) k) at_event),
+    )
 
 append_nil : {A : Type 0} (xs : List A) → xs ++ [] ≡ xs
 append_nil [] = refl
@@ -44,6 +45,7 @@ pub run_is_kept : {V K : Type 0} (has_failed : V → Bool) (kept : V → K) (exp
     → Watches (CountsEvent has_failed kept expected) has_failed (CountsNote has_failed kept noted) events s v t w → has_failed w ≡ false
     → (t ≡ stepped_all s events) × (kept w ≡ kept_of_all expected noted s events (kept v))
 run_is_kept {V} {K} has_failed kept expected noted events s t v w watched well =
-    let whole : events ≡ watched.done = watched.whole ∙ ap (λ rest. watched.done ++ rest) (watched.all well) ∙ append_nil watched.done in
-    (watched.state ∙ ap (λ es. stepped_all s es) (sym whole),
-    (all_kept has_failed kept expected noted watched.done s v w watched.shown well).1 ∙ ap (λ es. kept_of_all expected noted s es (kept v)) (sym whole))
+    let whole : events ≡ watched.done = watched.whole ∙ ap (λ rest. watched.done ++ rest) (watched.all well) ∙ append_nil watched.done in (
+      watched.state ∙ ap (λ es. stepped_all s es) (sym whole),
+      (all_kept has_failed kept expected noted watched.done s v w watched.shown well).1 ∙ ap (λ es. kept_of_all expected noted s es (kept v)) (sym whole),
+    )

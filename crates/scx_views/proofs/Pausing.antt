@@ -1,5 +1,5 @@
 -- What a task does is written as it is.
-use Rattle.std.proofs.Common.{◌≡◌, ℕ, List, sym, get_or, set}
+use Rattle.std.proofs.Common.{◌≡◌, ℕ, List, get_or, set}
 use Rattle.std.proofs.lemmas.List.{set-get_or}
 
 pub set_as_it_is : {X : Type 0} (xs : List X) (i : ℕ) (d : X) → set xs i (get_or xs i d) ≡ xs

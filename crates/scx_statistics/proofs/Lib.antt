@@ -1,0 +1,7 @@
+pub mod Places
+mod Rows
+mod Told
+mod Processors
+mod Whole
+mod Staying
+mod Reading

@@ -1,0 +1,169 @@
+-- What is counted as the notes of a run come: of each task and of each processor, one note and one tick after another.
+use Rattle.std.specs.Prelude.{ℕ, zero, suc, ◌-◌, ◌==◌, if◌then◌else◌, Bool, true, false, List, length, replicate, Option, Some, None, is_some, slice_index_or, slice_set}
+use Rattle.scx_world.specs.declared.notes.What.{What}
+use Rattle.scx_world.specs.declared.notes.What.TheVariants.{Wake, Sleep, Insert, Move, Run, Stop, Idle, Weight, Stall, Fault}
+use Rattle.scx_world.specs.World.{WorldState, task_at, running}
+use Rattle.scx_machine.specs.declared.events.Event.{Event}
+use Rattle.scx_machine.specs.declared.events.Event.TheVariants as event
+use Rattle.scx_sched.specs.Sim.{SimState}
+use Rattle.scx_trace.specs.Report.{ran_ms}
+use Rattle.scx_views.specs.declared.pauses.Doing.{Doing}
+use Rattle.scx_views.specs.declared.pauses.Doing.TheVariants.{Sleeps}
+use Rattle.scx_views.specs.declared.pauses.Pause.{Pause}
+use Rattle.scx_views.specs.declared.pauses.PauseKind.{PauseKind}
+use Rattle.scx_views.specs.declared.pauses.PauseKind.TheVariants as kind
+use Rattle.scx_views.specs.Pauses.{sleeps, doing_at, doing_after, unfinished, ended_by}
+use Rattle.scx_statistics.specs.Waits.{no_waits, up, up_by, waited}
+use Rattle.scx_statistics.specs.declared.tally.TaskFigures.{TaskFigures}
+use Rattle.scx_statistics.specs.declared.tally.CpuFigures.{CpuFigures}
+use Rattle.scx_statistics.specs.declared.tally.Tally.{Tally}
+
+-- what is counted
+pub record Counts : Type 0 where
+  pub tasks : List TaskFigures
+  pub cpus : List CpuFigures
+  pub doing : List Doing
+
+abbrev pub counts_of : Tally → Counts
+counts_of t = record { tasks = t.tasks.items; cpus = t.cpus.items; doing = t.pauses }
+
+abbrev pub unused : TaskFigures
+unused = record { run = 0; waits = no_waits; wakes = 0; stopped = 0; parked = 0 }
+
+abbrev pub unused_cpu : CpuFigures
+unused_cpu = record { busy = 0; idle = 0; changes = 0; last = None }
+
+-- before the run
+abbrev pub nothing : ℕ → ℕ → Counts
+nothing tasks cpus = record { tasks = replicate tasks unused; cpus = replicate cpus unused_cpu; doing = replicate tasks Sleeps }
+
+abbrev pub figures_at : List TaskFigures → ℕ → TaskFigures
+figures_at tasks t = slice_index_or tasks t unused
+
+abbrev pub cpu_at : List CpuFigures → ℕ → CpuFigures
+cpu_at cpus c = slice_index_or cpus c unused_cpu
+
+-- ---- tasks
+
+abbrev pub with_wake : TaskFigures → TaskFigures
+with_wake x = record { run = x.run; waits = x.waits; wakes = up x.wakes; stopped = x.stopped; parked = x.parked }
+
+abbrev pub with_stop : TaskFigures → TaskFigures
+with_stop x = record { run = x.run; waits = x.waits; wakes = x.wakes; stopped = up x.stopped; parked = x.parked }
+
+abbrev pub with_run : ℕ → TaskFigures → TaskFigures
+with_run ms x = record { run = ms; waits = x.waits; wakes = x.wakes; stopped = x.stopped; parked = x.parked }
+
+abbrev pub with_pause_of : PauseKind → Pause → TaskFigures → TaskFigures
+with_pause_of kind.Wait p x = record { run = x.run; waits = waited p x.waits; wakes = x.wakes; stopped = x.stopped; parked = x.parked }
+with_pause_of kind.Parked p x = record { run = x.run; waits = x.waits; wakes = x.wakes; stopped = x.stopped; parked = up_by (p.until - p.since) x.parked }
+
+abbrev pub with_pause : Pause → TaskFigures → TaskFigures
+with_pause p x = with_pause_of p.kind p x
+
+-- the same of the task of that number; where there is none, nothing changes
+abbrev pub woken : List TaskFigures → ℕ → List TaskFigures
+woken tasks t = slice_set tasks t (with_wake (figures_at tasks t))
+
+abbrev pub cut_off : List TaskFigures → ℕ → List TaskFigures
+cut_off tasks t = slice_set tasks t (with_stop (figures_at tasks t))
+
+abbrev pub has_run : List TaskFigures → ℕ → ℕ → List TaskFigures
+has_run tasks t ms = slice_set tasks t (with_run ms (figures_at tasks t))
+
+abbrev pub paused : List TaskFigures → Pause → List TaskFigures
+paused tasks p = slice_set tasks p.task (with_pause p (figures_at tasks p.task))
+
+abbrev pub after_pause : Option Pause → List TaskFigures → List TaskFigures
+after_pause None tasks = tasks
+after_pause (Some p) tasks = paused tasks p
+
+-- what a note says of the task that it is of, which does so behind it: a wake is counted, and a stop of one that
+-- doesn't sleep
+abbrev pub counted_for : What → Doing → TaskFigures → TaskFigures
+counted_for (Wake t) d x = with_wake x
+counted_for (Stop t c) d x = if sleeps d then x else with_stop x
+counted_for (Sleep t) d x = x
+counted_for (Run t c) d x = x
+counted_for (Insert t queue) d x = x
+counted_for (Move t c) d x = x
+counted_for (Idle c) d x = x
+counted_for (Weight g y) d x = x
+counted_for (Stall t) d x = x
+counted_for (Fault f) d x = x
+
+abbrev pub stop_counted : List Doing → List TaskFigures → ℕ → List TaskFigures
+stop_counted ds tasks t = if sleeps (doing_at ds t) then tasks else cut_off tasks t
+
+abbrev pub tasks_counted : What → List Doing → List TaskFigures → List TaskFigures
+tasks_counted (Wake t) ds tasks = woken tasks t
+tasks_counted (Stop t c) ds tasks = stop_counted ds tasks t
+tasks_counted (Sleep t) ds tasks = tasks
+tasks_counted (Run t c) ds tasks = tasks
+tasks_counted (Insert t queue) ds tasks = tasks
+tasks_counted (Move t c) ds tasks = tasks
+tasks_counted (Idle c) ds tasks = tasks
+tasks_counted (Weight g x) ds tasks = tasks
+tasks_counted (Stall t) ds tasks = tasks
+tasks_counted (Fault f) ds tasks = tasks
+
+-- ---- processors
+
+abbrev pub with_tick : Bool → CpuFigures → CpuFigures
+with_tick true x = record { busy = up x.busy; idle = x.idle; changes = x.changes; last = x.last }
+with_tick false x = record { busy = x.busy; idle = up x.idle; changes = x.changes; last = x.last }
+
+abbrev pub ticked : List CpuFigures → ℕ → Bool → List CpuFigures
+ticked cpus c is_busy = slice_set cpus c (with_tick is_busy (cpu_at cpus c))
+
+abbrev pub changes_after : Option ℕ → ℕ → ℕ → ℕ
+changes_after None t n = n
+changes_after (Some last) t n = if last == t then n else up n
+
+abbrev pub with_begin : ℕ → CpuFigures → CpuFigures
+with_begin t x = record { busy = x.busy; idle = x.idle; changes = changes_after x.last t x.changes; last = Some t }
+
+abbrev pub begun_on : List CpuFigures → ℕ → ℕ → List CpuFigures
+begun_on cpus t c = slice_set cpus c (with_begin t (cpu_at cpus c))
+
+abbrev pub cpus_counted : What → List CpuFigures → List CpuFigures
+cpus_counted (Run t c) cpus = begun_on cpus t c
+cpus_counted (Wake t) cpus = cpus
+cpus_counted (Sleep t) cpus = cpus
+cpus_counted (Stop t c) cpus = cpus
+cpus_counted (Insert t queue) cpus = cpus
+cpus_counted (Move t c) cpus = cpus
+cpus_counted (Idle c) cpus = cpus
+cpus_counted (Weight g x) cpus = cpus
+cpus_counted (Stall t) cpus = cpus
+cpus_counted (Fault f) cpus = cpus
+
+-- ---- a run
+
+-- the pause that a note ends
+abbrev pub pause_counted : ℕ → What → Counts → Counts
+pause_counted clock what k = record { tasks = after_pause (ended_by clock what k.doing) k.tasks; cpus = k.cpus; doing = doing_after clock what k.doing }
+
+abbrev pub counted : What → Counts → Counts
+counted what k = record { tasks = tasks_counted what k.doing k.tasks; cpus = cpus_counted what k.cpus; doing = k.doing }
+
+-- a note
+abbrev pub noted : ℕ → What → Counts → Counts
+noted clock what k = counted what (pause_counted clock what k)
+
+-- a tick is of a processor that runs a task, or none, before it
+abbrev pub expected : SimState → Event → Counts → Counts
+expected s (event.Tick c) k = record { tasks = k.tasks; cpus = ticked k.cpus c (is_some (running s.state.world c)); doing = k.doing }
+expected s (event.Wake t) k = k
+expected s (event.Sleep t) k = k
+expected s event.Clock k = k
+expected s (event.SetWeight g x) k = k
+
+-- as the run ends, the pauses that go on end for the tasks below that number, and each has run as long as it has
+abbrev pub ended_below : ℕ → WorldState → List Doing → List TaskFigures → List TaskFigures
+ended_below zero w ds tasks = tasks
+ended_below (suc t) w ds tasks =
+    after_pause (unfinished w.clock ds t) (has_run (ended_below t w ds tasks) t (ran_ms (task_at w t)))
+
+abbrev pub ended : WorldState → Counts → Counts
+ended w k = record { tasks = ended_below (length w.tasks) w k.doing k.tasks; cpus = k.cpus; doing = k.doing }
