@@ -8,7 +8,7 @@ use crate::texts::{
 };
 use scx_output::Counted;
 use scx_simulation::Nobody;
-use scx_statistics::{stats, stats_csv};
+use scx_statistics::{figures, stats, stats_csv};
 use std::process::Abort;
 
 /// A run, and how the tables of its figures end.
@@ -259,6 +259,21 @@ fn figures_of_quotas_are_those_worked_by_hand(rt: HostRuntime) {
     for case in &QUOTAS {
         expect_tables(&rt, case);
     }
+}
+
+/// The run of `TURNS`.
+#[test]
+fn figures_are_answered(rt: HostRuntime) {
+    let all = figures(rt.alloc(), SHORT_SLICES, TWO_TASKS, &mut Nobody);
+    let all = all.expect(&rt, "the texts are right");
+    assert!(rt; all.tasks.len() == 2 && all.cpus.len() == 1 && all.groups.len() == 1);
+    for task in &all.tasks {
+        assert!(rt; task.run == 2 && task.wakes == 1 && task.stopped == 1);
+        assert!(rt; task.waits.count() == 2 && task.waits.mean() == 100);
+    }
+    assert!(rt; all.tasks[0].waits.longest() == 2 && all.tasks[1].waits.longest() == 1);
+    assert!(rt; all.cpus[0].busy == 4 && all.cpus[0].idle == 0 && all.cpus[0].changes == 2);
+    assert!(rt; !all.quotas.are_some());
 }
 
 #[test]
