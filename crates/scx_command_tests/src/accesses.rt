@@ -138,7 +138,7 @@ fn pointers_that_may_be_null_are_explained(rt: HostRuntime) -> Result<(), Fail> 
         "5 UnusableRegister at 7",
         "   6  if r0 != 0 goto +0 (to 7)  r0 element of map 0 or null, stack -4..-1 written
    7  r1 = *(u64 *)(r0 + 0)      stack -4..-1 written
-      = r0 is unusable here: at 7 ways meet that bring a pointer to an element of map 0 from 6 and a number from 6; bring the same kind on each way
+      = r0 is unusable here: the jump at 6 goes to the next instruction, so both of its sides meet at 7: a pointer to an element of map 0 where it jumps, a number where it doesn't; let it jump elsewhere
       = control came by 0..7
    8  exit
 ",
@@ -182,7 +182,20 @@ fn faults_of_elements_are_explained(rt: HostRuntime) -> Result<(), Fail> {
     )
 }
 
-const POINTERS: [Row<'_>; 6] = [
+const POINTERS: [Row<'_>; 7] = [
+    // Both sides of the test lead to the slot in front of the use.
+    (
+        "dispatch",
+        "if r2 == 0 goto +0\nr0 = 0\nr0 = *(u32 *)(r2 + 0)\nexit\n",
+        "dispatch refused 5 UnusableRegister at 2
+   0  if r2 == 0 goto +0 (to 1)  r1 number, r2 task or null
+   1  r0 = 0                     r1 number
+   2  r0 = *(u32 *)(r2 + 0)      r0 number 0, r1 number
+      = r2 is unusable here: the jump at 0 goes to the next instruction, so both of its sides meet at 1: a number where it jumps, a task where it doesn't; let it jump elsewhere
+      = control came by 0..2
+   3  exit
+",
+    ),
     (
         "dispatch",
         "r0 = *(u32 *)(r2 + 0)\nexit\n",

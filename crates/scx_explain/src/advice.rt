@@ -81,6 +81,7 @@ fn advice_on_unusable(origin: Option<Origin>) -> &'static str {
     match origin {
         Some(Origin::Lost { .. }) => "save it before the call, in r6 to r9 or on the stack",
         Some(Origin::Met { .. }) => "bring the same kind on each way",
+        Some(Origin::Sides { .. }) => "let it jump elsewhere",
         _ => "write it on each way here",
     }
 }

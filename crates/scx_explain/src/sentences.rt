@@ -315,8 +315,29 @@ impl fmt::Display for OriginText {
                 let second = BroughtText(second);
                 write!(f, "at {slot} ways meet that bring {first} and {second}")
             }
+            Origin::Sides {
+                slot,
+                jump,
+                jumped,
+                on,
+            } => write_sides(f, slot, jump, Spoken(jumped), Spoken(on)),
         }
     }
+}
+
+/// Writes that both sides of a jump meet, as it goes to the next instruction.
+fn write_sides<W: fmt::Write>(
+    f: &mut fmt::Formatter<W>,
+    slot: usize,
+    jump: usize,
+    jumped: Spoken,
+    on: Spoken,
+) -> fmt::Result {
+    write!(
+        f,
+        "the jump at {jump} goes to the next instruction, so both of its sides meet at {slot}: "
+    )?;
+    write!(f, "{jumped} where it jumps, {on} where it doesn't")
 }
 
 impl fmt::Display for BroughtText {

@@ -48,6 +48,14 @@ pub enum Origin {
         first: Brought,
         second: Brought,
     },
+    /// At that slot both sides of a jump meet, which goes to the next instruction: the one where it jumps
+    /// brings another kind than the one where it goes on.
+    Sides {
+        slot: usize,
+        jump: usize,
+        jumped: Kind,
+        on: Kind,
+    },
 }
 
 /// Where a value was before an instruction.

@@ -192,16 +192,30 @@ fn arrival_from(listing: &Listing, from: usize, slot: usize, wanted: &Wanted) ->
 
 /// Ways that meet at the slot, and bring different kinds of the subject.
 fn meeting(listing: &Listing, slot: usize, subject: Subject, nearest: &Arrival) -> Origin {
-    let second = brought(nearest, subject);
-    let other = Wanted::Without(subject, second.kind);
-    let first = match last_arrival(listing, slot, &other) {
-        Some(arrival) => brought(&arrival, subject),
-        None => second,
-    };
-    Origin::Met {
-        slot,
-        first,
-        second,
+    let kind = brought(nearest, subject).kind;
+    let unlike = Wanted::Without(subject, kind);
+    match last_arrival(listing, slot, &unlike) {
+        Some(other) => origin_of_two(slot, subject, &other, nearest),
+        None => origin_of_two(slot, subject, nearest, nearest),
+    }
+}
+
+/// Two ways that meet at the slot: from two instructions, or from one, which goes there in any case and
+/// has one side for each.
+fn origin_of_two(slot: usize, subject: Subject, first: &Arrival, second: &Arrival) -> Origin {
+    let (one, other) = (brought(first, subject), brought(second, subject));
+    match (first.way, second.way) {
+        (Way::Jump, Way::On) if one.from == other.from => Origin::Sides {
+            slot,
+            jump: one.from,
+            jumped: one.kind,
+            on: other.kind,
+        },
+        _ => Origin::Met {
+            slot,
+            first: one,
+            second: other,
+        },
     }
 }
 
