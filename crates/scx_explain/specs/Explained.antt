@@ -2,6 +2,7 @@
 use Rattle.std.specs.Prelude.{◌≡◌, ℕ, List, map, Option, None, IfSome}
 use Rattle.scx_explanations.specs.declared.reasons.Explanation.{Explanation}
 use Rattle.scx_explanations.specs.Reasons.{fault_of}
+use Rattle.scx_explanations.specs.Said.{IsSaid}
 use Rattle.scx_verdicts.specs.declared.verdict.Verdict.{Verdict}
 use Rattle.scx_verdicts.specs.declared.verdict.Verdict.TheVariants.{Accepted, Refused}
 use Rattle.scx_verdicts.specs.Lines.{verdict_line}
@@ -17,6 +18,10 @@ IsExplanation (Refused fault slot) explanation = IfSome explanation (λ e. (e.sl
 
 abbrev pub IsExplained : Explained → Type 0
 IsExplained explained = IsExplanation explained.verdict explained.explanation
+
+-- what its explanation says is so, if it has one
+abbrev pub IsSo : Explained → Type 0
+IsSo explained = IfSome explained.explanation (λ e. IsSaid explained.listing e.slot e.reason)
 
 -- the line of the verdict on an explained program
 abbrev pub first_line : Explained → List ℕ

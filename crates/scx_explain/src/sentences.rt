@@ -1,5 +1,5 @@
 use crate::advice::Advice;
-use crate::words::{FieldName, Members, Name, Spoken, Wanted, step_of};
+use crate::words::{FieldName, Members, Name, Spoken, Wanted, from_top, step_of};
 use scx_abs::Kind;
 use scx_explanations::{
     BadAccess, BadCall, BadField, BadFlow, BadValue, Brought, Explanation, Leg, Memory, Origin,
@@ -149,6 +149,7 @@ fn write_access<W: fmt::Write>(f: &mut fmt::Formatter<W>, access: BadAccess) -> 
     match access {
         BadAccess::Unwritten { reach, byte } => {
             let bytes = Bytes(reach);
+            let byte = from_top(byte);
             write!(
                 f,
                 "stack {bytes} is read here, and {byte} needn't hold a number"

@@ -1,3 +1,5 @@
 mod Lookups
 mod Ends
 mod Coming
+mod Said
+mod Sums

@@ -1,3 +1,6 @@
 pub mod Listings
+pub mod Named
+pub mod Places
 pub mod Reasons
+pub mod Said
 pub mod Laws

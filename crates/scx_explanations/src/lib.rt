@@ -10,7 +10,9 @@
 mod jumps;
 mod laws;
 mod listing;
+mod named;
 mod origins;
+mod places;
 mod reasons;
 mod trails;
 
@@ -18,8 +20,8 @@ pub use jumps::Jumps;
 pub use laws::listings_end_with_verify;
 pub use listing::{Arrival, Listing, Way, byte_kind, cell_of, is_pointer, target_of};
 pub use origins::{Brought, Origin, Subject};
+pub use places::{Memory, Place, Reach};
 pub use reasons::{
-    BadAccess, BadCall, BadField, BadFlow, BadValue, Explanation, Memory, Place, Reach, Reason,
-    explanation_of,
+    BadAccess, BadCall, BadField, BadFlow, BadValue, Explanation, Reason, explanation_of,
 };
 pub use trails::{Leg, Trail};

@@ -1,4 +1,5 @@
 use crate::listing::{Arrival, Listing, byte_kind, cell_of, is_pointer, plain};
+use crate::named::written;
 use scx_abs::{AbsState, Area, Kind, area_of};
 use scx_isa::{Access, Insn, Operand, Operation, Register, Size, Width};
 
@@ -180,14 +181,8 @@ fn source_of_byte(
 
 /// Whether the instruction, which is no call, writes the register.
 fn writes(insn: Insn, register: Register) -> bool {
-    match insn {
-        Insn::Binary(_, _, destination, _) => destination == register,
-        Insn::Negate(_, destination) => destination == register,
-        Insn::SignExtend(_, destination, _) => destination == register,
-        Insn::ByteSwap(_, _, destination) => destination == register,
-        Insn::LoadImmediate(destination, _, _) => destination == register,
-        Insn::LoadMapReference(destination, _) => destination == register,
-        Insn::Load(_, destination, _, _) => destination == register,
-        _ => false,
+    match written(insn) {
+        Some(destination) => destination == register,
+        None => false,
     }
 }

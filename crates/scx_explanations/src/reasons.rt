@@ -1,48 +1,35 @@
-ghost use Rattle.std.specs.Prelude.{◌≡◌, IfOk, IfSome};
-ghost use Rattle.scx_explanations.specs.Reasons.{flow_fault, value_fault, access_fault, call_fault, fault_of};
+ghost use Rattle.std.specs.Prelude.{◌≡◌, pos, ◌+◌, ◌+ℤ◌, ◌≤◌, Err, Some, true, IsFalse, IfOk, IfSome};
+ghost use Rattle.scx_semantics.specs.declared.instructions.Insn.TheVariants as Insn;
+ghost use Rattle.scx_semantics.specs.declared.registers.Register.TheVariants as Register;
+ghost use Rattle.scx_semantics.specs.Code.{size};
+ghost use Rattle.scx_semantics.specs.Registers.{number};
+ghost use Rattle.scx_semantics.specs.Steps.{distance};
+ghost use Rattle.scx_abs.specs.Rules.{map_kind};
+ghost use Rattle.scx_abs.specs.States.{kind_at};
+ghost use Rattle.scx_explanations.specs.Reasons.{flow_fault, value_fault, access_fault, call_fault};
+ghost use Rattle.scx_explanations.specs.Reasons.{fault_of};
+ghost use Rattle.scx_explanations.specs.Named.{Reads, Takes, HasArgument, LoadsMap, written};
+ghost use Rattle.scx_explanations.specs.Said.{IsOf, is_taken, IsUnwritten, IsFlowSaid, IsValueSaid};
+ghost use Rattle.scx_explanations.specs.Said.{IsAccessSaid, IsFieldSaid, IsCallSaid, IsRuleSaid};
+ghost use Rattle.scx_explanations.specs.Said.{IsSaid};
 
-use crate::listing::{Listing, byte_kind};
+use crate::listing::{Listing, byte_kind, is_pointer};
+use crate::named::{
+    Address, address_of, argument_of, called_in, distance_of, first_read, second_read, stored,
+    written,
+};
 use crate::origins::Subject;
+use crate::places::{Place, Reach, distances_of, place_of, reach_of, stack_bytes};
 use crate::trails::{Trail, trail_of};
-use scx_abs::{AbsState, Kind, Why};
-use scx_arithmetic::pointer_step;
+use scx_abs::{AbsState, Area, Context, Kind, Why, area_of, map_kind};
 use scx_isa::{
     Callback, Field, FlowFault, Helper, Insn, Operand, Operation, Parameter, Register, STACK_SIZE,
     Size, Width,
 };
 use scx_maps::MapDefs;
-use scx_ranges::{Offsets, Range};
 use scx_semantics::MAX_ARGUMENTS;
 use scx_verify::Fault;
 use std::alloc::{AllocError, Global};
-
-/// Memory that an address means.
-#[derive(Clone, Copy)]
-pub enum Memory {
-    Stack,
-    /// An element of that map, of so many bytes.
-    Element { map: u8, bytes: i64 },
-}
-
-/// Where a pointer points, or would: to one of these bytes of memory.
-#[derive(Clone, Copy)]
-pub struct Place {
-    pub memory: Memory,
-    /// The first of them: from the top of the stack, or from the beginning of an element.
-    pub from: i128,
-    /// The last of them.
-    pub to: i128,
-    /// From one of them to the next it is two to this power, 0 to 3, where there are more than one.
-    pub shift: u8,
-}
-
-/// Bytes that an instruction would read or write.
-#[derive(Clone, Copy)]
-pub struct Reach {
-    /// Where the first of them is.
-    pub place: Place,
-    pub count: u16,
-}
 
 /// Why an instruction is refused, with this case's values.
 #[derive(Clone, Copy)]
@@ -60,11 +47,11 @@ pub enum Reason {
 #[derive(Clone, Copy)]
 pub enum BadFlow {
     /// A jump goes back to that slot; below 0 there is none.
-    Back(i64),
+    Back(i128),
     /// A jump goes to that slot of a program of so many.
-    OutOfProgram { to: i64, slots: usize },
+    OutOfProgram { to: i128, slots: usize },
     /// A jump goes to that slot, which is a second half.
-    IntoWide(i64),
+    IntoWide(i128),
     FallsOff,
 }
 
@@ -88,8 +75,8 @@ pub enum BadValue {
 /// What is wrong with an address.
 #[derive(Clone, Copy)]
 pub enum BadAccess {
-    /// Of these bytes of the stack that one isn't written.
-    Unwritten { reach: Reach, byte: i128 },
+    /// Of these bytes of the stack that one isn't written, counted from the lowest.
+    Unwritten { reach: Reach, byte: u16 },
     /// These bytes of the stack aren't read as the whole of the pointer of which they are a part.
     PartOfPointer { reach: Reach, kind: Kind },
     /// What the register holds is no pointer to memory.
@@ -136,29 +123,12 @@ pub struct Explanation {
     pub trail: Option<Trail>,
 }
 
-/// An address that an instruction or a helper is given, and how many bytes it reads or writes there.
+/// Which registers are looked for, by what they hold.
 #[derive(Clone, Copy)]
-struct Address {
-    base: Register,
-    offset: i16,
-    size: Size,
-}
-
-impl Place {
-    /// Whether it is one byte alone.
-    pub fn is_single(self) -> bool {
-        self.from == self.to
-    }
-
-    /// The place, moved by at least and at most so many bytes.
-    fn moved(self, least: i128, most: i128) -> Place {
-        Place {
-            memory: self.memory,
-            from: self.from.saturating_add(least),
-            to: self.to.saturating_add(most),
-            shift: self.shift,
-        }
-    }
+pub(crate) enum Sort {
+    Unusable,
+    Pointer,
+    MayBeNull,
 }
 
 /// Explains a fault of the program at a slot. `None` where there is no instruction with that fault.
@@ -172,8 +142,10 @@ pub fn explanation_of(
     fault: Fault,
     slot: usize,
 ) -> Result<Option<Explanation>, AllocError>
-    ensures { IfOk result
+    ensures fault { IfOk result
         (λ found. IfSome found (λ e. (e.slot ≡ slot) × (fault_of e.reason ≡ fault))) }
+    ensures said { IfOk result
+        (λ found. IfSome found (λ e. IsSaid listing.now e.slot e.reason)) }
 {
     let Some(reason) = reason_of(listing, fault, slot) else {
         return Ok(None);
@@ -193,7 +165,7 @@ pub fn explanation_of(
 fn subject_of(reason: Reason) -> Option<Subject> {
     match reason {
         Reason::Value(value) => Some(Subject::Register(register_of(value)?)),
-        Reason::Access(BadAccess::Unwritten { byte, .. }) => Some(Subject::Byte(byte_of(byte)?)),
+        Reason::Access(BadAccess::Unwritten { byte, .. }) => Some(Subject::Byte(byte)),
         Reason::Access(BadAccess::NoPointer(register, _)) => Some(Subject::Register(register)),
         Reason::Call(BadCall::Argument { register, .. }) => Some(Subject::Register(register)),
         _ => None,
@@ -217,24 +189,24 @@ fn register_of(value: BadValue) -> Option<Register> {
     }
 }
 
-/// The byte of the stack at that distance from its top, counted from the lowest.
-fn byte_of(from_top: i128) -> Option<u16> {
-    u16::try_from(from_top.saturating_add(i128::from(STACK_SIZE))).ok()
-}
-
 fn reason_of(listing: &Listing, fault: Fault, slot: usize) -> Option<Reason>
-    ensures { IfSome result (λ reason. fault_of reason ≡ fault) }
+    ensures fault { IfSome result (λ reason. fault_of reason ≡ fault) }
+    ensures said { IfSome result (IsSaid listing.now slot) }
 {
     let insn = listing.insn(slot)?;
     match fault {
         Fault::Flow(fault) => Some(Reason::Flow(reason_of_flow(listing, fault, slot, insn))),
-        Fault::Rule(why) => reason_of_rule(listing, why, listing.state(slot)?, insn),
+        Fault::Rule(why) => {
+            let state = listing.state(slot)?;
+            reason_of_rule(listing.context(), why, state, insn)
+        }
         Fault::NoMemory => None,
     }
 }
 
 fn reason_of_flow(listing: &Listing, fault: FlowFault, slot: usize, insn: Insn) -> BadFlow
-    ensures { flow_fault result ≡ fault }
+    ensures fault { flow_fault result ≡ fault }
+    ensures said { IsFlowSaid listing.now.code.items slot insn result }
 {
     let to = jumped_to(slot, insn);
     match fault {
@@ -249,21 +221,17 @@ fn reason_of_flow(listing: &Listing, fault: FlowFault, slot: usize, insn: Insn) 
 }
 
 /// Where a jump leads, also one that goes back; the next slot of other instructions.
-fn jumped_to(slot: usize, insn: Insn) -> i64 {
-    let distance = match insn {
-        Insn::JumpIf { distance, .. } => i64::from(distance),
-        Insn::Goto(distance) => i64::from(distance),
-        Insn::GotoLong(distance) => i64::from(distance),
-        _ => 0,
-    };
-    let next = i64::try_from(slot.saturating_add(insn.size())).unwrap_or(i64::MAX);
-    next.saturating_add(distance)
+fn jumped_to(slot: usize, insn: Insn) -> i128
+    ensures { result ≡ pos (slot + size insn) +ℤ distance insn }
+{
+    let next = slot as u128 + insn.size() as u128;
+    next as i128 + i128::from(distance_of(insn))
 }
 
-fn reason_of_rule(listing: &Listing, why: Why, state: &AbsState, insn: Insn) -> Option<Reason>
-    ensures { IfSome result (λ reason. fault_of reason ≡ Fault.Rule why) }
+fn reason_of_rule(context: &Context, why: Why, state: &AbsState, insn: Insn) -> Option<Reason>
+    ensures fault { IfSome result (λ reason. fault_of reason ≡ Fault.Rule why) }
+    ensures said { IfSome result (IsRuleSaid context.now insn state.now) }
 {
-    let context = listing.context();
     let defs = &context.defs;
     match why {
         Why::UnusableRegister
@@ -275,25 +243,34 @@ fn reason_of_rule(listing: &Listing, why: Why, state: &AbsState, insn: Insn) -> 
         | Why::BadReturn => Some(Reason::Value(bad_value(state, why, insn, context.callback)?)),
         Why::UnwrittenStack => Some(Reason::Access(unwritten_in(state, insn, defs)?)),
         Why::OutOfBounds => Some(Reason::Access(out_of_bounds(state, insn, defs)?)),
-        Why::Misaligned => {
-            let reach = reach_of(state, address_of(insn)?, defs)?;
-            Some(Reason::Access(BadAccess::Misaligned(reach)))
-        }
-        Why::TaskField => Some(Reason::Field(bad_field(insn)?)),
+        Why::Misaligned => Some(Reason::Access(misaligned(state, insn, defs)?)),
+        Why::TaskField => Some(Reason::Field(bad_field(state, insn)?)),
         Why::UnknownHelper | Why::HelperNotHere | Why::BadArgument => {
-            Some(Reason::Call(bad_call(state, why, insn, context.callback)?))
+            let number = called_in(insn)?;
+            Some(Reason::Call(bad_call(state, why, number, context.callback)?))
         }
-        Why::UnknownMap => unknown_map(insn, defs),
+        Why::UnknownMap => {
+            let map = unknown_map(insn, defs)?;
+            Some(Reason::UnknownMap {
+                map,
+                maps: defs.count(),
+            })
+        }
     }
 }
 
 fn bad_value(state: &AbsState, why: Why, insn: Insn, callback: Callback) -> Option<BadValue>
-    ensures { IfSome result (λ value. value_fault value ≡ why) }
+    ensures fault { IfSome result (λ value. value_fault value ≡ why) }
+    ensures said { IfSome result (IsValueSaid callback insn state.now) }
 {
     match why {
-        Why::UnusableRegister => Some(BadValue::Unusable(unusable_in(state, insn)?)),
-        Why::WritesFrame => Some(BadValue::Frame),
-        Why::NullNotTested => Some(BadValue::MayBeNull(null_in(state, insn)?)),
+        Why::UnusableRegister => {
+            Some(BadValue::Unusable(read_that_is(Sort::Unusable, state, insn)?))
+        }
+        Why::WritesFrame if writes_frame(insn) => Some(BadValue::Frame),
+        Why::NullNotTested => {
+            Some(BadValue::MayBeNull(read_that_is(Sort::MayBeNull, state, insn)?))
+        }
         Why::PointerArithmetic => {
             let register = pointer_in(state, insn)?;
             Some(BadValue::Arithmetic(register, state.kind(register)))
@@ -303,120 +280,159 @@ fn bad_value(state: &AbsState, why: Why, insn: Insn, callback: Callback) -> Opti
             Some(BadValue::Comparison(register, state.kind(register)))
         }
         Why::PointerStore => {
-            let register = stored_in(insn)?;
+            let register = one_that_is(Sort::Pointer, state, stored(insn))?;
             Some(BadValue::Stored(register, state.kind(register)))
         }
-        Why::BadReturn => Some(BadValue::Answer {
-            kind: state.kind(Register::R0),
-            callback,
-        }),
+        Why::BadReturn => bad_answer(state, insn, callback),
         _ => None,
     }
 }
 
-fn bad_call(state: &AbsState, why: Why, insn: Insn, callback: Callback) -> Option<BadCall>
-    ensures { IfSome result (λ call. call_fault call ≡ why) }
+fn writes_frame(insn: Insn) -> bool
+    ensures { result ≡ true → written insn ≡ Some Register.R10 }
 {
-    let number = called_in(insn)?;
-    match why {
-        Why::UnknownHelper => Some(BadCall::Unknown(number)),
-        Why::HelperNotHere => Some(BadCall::NotHere { number, callback }),
-        Why::BadArgument => bad_argument(state, number),
+    match written(insn) {
+        Some(Register::R10) => true,
+        _ => false,
+    }
+}
+
+/// No number is answered.
+fn bad_answer(state: &AbsState, insn: Insn, callback: Callback) -> Option<BadValue>
+    ensures fault { IfSome result (λ value. value_fault value ≡ Why.BadReturn) }
+    ensures said { IfSome result (IsValueSaid callback insn state.now) }
+{
+    match (insn, state.kind(Register::R0)) {
+        (Insn::Exit, Kind::Num(_)) => None,
+        (Insn::Exit, kind) => Some(BadValue::Answer { kind, callback }),
         _ => None,
     }
 }
 
-/// The number of the helper that an instruction calls.
-fn called_in(insn: Insn) -> Option<i32> {
-    match insn {
-        Insn::Call(number) => Some(number),
-        _ => None,
+/// Whether a kind is of that sort.
+fn is_of(sort: Sort, kind: Kind) -> bool
+    ensures { result ≡ true → IsOf sort kind }
+{
+    match sort {
+        Sort::Unusable => matches!(kind, Kind::Unusable),
+        Sort::Pointer => is_pointer(kind),
+        Sort::MayBeNull => matches!(kind, Kind::ElemOrNull(_) | Kind::TaskOrNull),
     }
 }
 
-/// The register that an instruction stores.
-fn stored_in(insn: Insn) -> Option<Register> {
-    match insn {
-        Insn::Store(_, _, _, operand) => register_in(operand),
-        _ => None,
-    }
-}
-
-fn register_in(operand: Operand) -> Option<Register> {
-    match operand {
-        Operand::Immediate(_) => None,
-        Operand::Register(register) => Some(register),
-    }
-}
-
-/// The first register that an instruction reads which is unusable.
-fn unusable_in(state: &AbsState, insn: Insn) -> Option<Register> {
-    match insn {
-        Insn::Binary(_, Operation::Move, _, operand) => register_in(operand),
-        Insn::Binary(_, _, destination, operand) => first_unusable(state, destination, operand),
-        Insn::Negate(_, destination) | Insn::ByteSwap(_, _, destination) => Some(destination),
-        Insn::SignExtend(_, _, source) => Some(source),
-        Insn::Load(_, _, base, _) => Some(base),
-        Insn::Store(_, base, _, operand) => first_unusable(state, base, operand),
-        Insn::JumpIf {
-            register,
-            operand,
-            ..
-        } => first_unusable(state, register, operand),
-        Insn::Call(number) => unusable_argument(state, number),
-        _ => None,
-    }
-}
-
-/// The first of the two that is unusable.
-fn first_unusable(state: &AbsState, register: Register, operand: Operand) -> Option<Register> {
-    if state.kind(register) == Kind::Unusable {
+/// The register, if there is one, where it holds what is of that sort.
+fn one_that_is(sort: Sort, state: &AbsState, register: Option<Register>) -> Option<Register>
+    ensures same { IfSome result (λ found. register ≡ Some found) }
+    ensures sort { IfSome result (λ found. IsOf sort (kind_at state.now (number found))) }
+{
+    let register = register?;
+    if is_of(sort, state.kind(register)) {
         Some(register)
     } else {
-        register_in(operand)
+        None
     }
 }
 
-/// The register of an argument of a helper, and what the helper takes there.
-fn argument_of(helper: Helper, argument: usize) -> Option<(Register, Parameter)> {
-    let parameter = helper.parameter(argument)?;
-    let register = Register::new(u8::try_from(argument).ok()?.saturating_add(1))?;
-    Some((register, parameter))
+/// The first register that an instruction reads which holds what is of that sort.
+fn read_that_is(sort: Sort, state: &AbsState, insn: Insn) -> Option<Register>
+    ensures read { IfSome result (Reads insn) }
+    ensures sort { IfSome result (λ found. IsOf sort (kind_at state.now (number found))) }
+{
+    match called_in(insn) {
+        Some(called) => argument_that_is(sort, state, called),
+        None => operand_that_is(sort, state, insn),
+    }
 }
 
-fn unusable_argument(state: &AbsState, number: i32) -> Option<Register> {
-    let helper = Helper::new(number)?;
+/// The same of an instruction that is no call.
+fn operand_that_is(sort: Sort, state: &AbsState, insn: Insn) -> Option<Register>
+    ensures read { IfSome result (Reads insn) }
+    ensures sort { IfSome result (λ found. IsOf sort (kind_at state.now (number found))) }
+{
+    match one_that_is(sort, state, first_read(insn)) {
+        Some(register) => Some(register),
+        None => one_that_is(sort, state, second_read(insn)),
+    }
+}
+
+/// The same of the call of a helper.
+fn argument_that_is(sort: Sort, state: &AbsState, called: i32) -> Option<Register>
+    ensures taken { IfSome result (λ found. HasArgument (Insn.Call called) found) }
+    ensures sort { IfSome result (λ found. IsOf sort (kind_at state.now (number found))) }
+{
     for argument in 0..MAX_ARGUMENTS {
-        let (register, _) = argument_of(helper, argument)?;
-        if state.kind(register) == Kind::Unusable {
+        let (register, _) = argument_of(called, argument)?;
+        if is_of(sort, state.kind(register)) {
             return Some(register);
         }
     }
     None
 }
 
-/// The first argument of a helper that is of another kind than it takes.
-fn bad_argument(state: &AbsState, number: i32) -> Option<BadCall>
-    ensures { IfSome result (λ call. call_fault call ≡ Why.BadArgument) }
+/// The register that holds a pointer where a number is taken: the first one, or else the second, which
+/// is also the one that is added to a pointer to an element.
+fn pointer_in(state: &AbsState, insn: Insn) -> Option<Register>
+    ensures read { IfSome result (Reads insn) }
+    ensures sort { IfSome result (λ found. IsOf Sort.Pointer (kind_at state.now (number found))) }
 {
-    let helper = Helper::new(number)?;
-    for argument in 0..MAX_ARGUMENTS {
-        let (register, parameter) = argument_of(helper, argument)?;
-        let kind = state.kind(register);
-        if !is_taken(parameter, &kind) {
-            return Some(BadCall::Argument {
+    if adds_to_element(state, insn) {
+        one_that_is(Sort::Pointer, state, second_read(insn))
+    } else {
+        operand_that_is(Sort::Pointer, state, insn)
+    }
+}
+
+/// Whether it adds a register to a pointer to an element.
+fn adds_to_element(state: &AbsState, insn: Insn) -> bool {
+    match insn {
+        Insn::Binary(Width::Bits64, Operation::Add, destination, Operand::Register(_)) => {
+            matches!(state.kind(destination), Kind::Elem(_, _))
+        }
+        _ => false,
+    }
+}
+
+fn bad_call(state: &AbsState, why: Why, number: i32, callback: Callback) -> Option<BadCall>
+    ensures fault { IfSome result (λ call. call_fault call ≡ why) }
+    ensures said { IfSome result (IsCallSaid callback number state.now) }
+{
+    match (why, Helper::new(number)) {
+        (Why::UnknownHelper, None) => Some(BadCall::Unknown(number)),
+        (Why::HelperNotHere, Some(helper)) if !helper.is_allowed(callback) => {
+            Some(BadCall::NotHere { number, callback })
+        }
+        (Why::BadArgument, Some(_)) => {
+            let (register, parameter) = bad_argument(state, number)?;
+            Some(BadCall::Argument {
                 number,
                 register,
-                kind,
+                kind: state.kind(register),
                 parameter,
-            });
+            })
+        }
+        _ => None,
+    }
+}
+
+/// The first argument of a helper that is of another kind than it takes, and what it takes there.
+fn bad_argument(state: &AbsState, called: i32) -> Option<(Register, Parameter)>
+    ensures takes { IfSome result (λ bad. Takes called bad.0 bad.1) }
+    ensures bad { IfSome result
+        (λ bad. IsFalse (is_taken bad.1 (kind_at state.now (number bad.0)))) }
+{
+    for argument in 0..MAX_ARGUMENTS {
+        let (register, parameter) = argument_of(called, argument)?;
+        if !is_taken(parameter, state.kind(register)) {
+            return Some((register, parameter));
         }
     }
     None
 }
 
 /// Whether a register of that kind may be such an argument, null or not, wherever it points.
-fn is_taken(parameter: Parameter, kind: &Kind) -> bool {
+fn is_taken(parameter: Parameter, kind: Kind) -> bool
+    ensures { result ≡ is_taken parameter kind }
+{
     match parameter {
         Parameter::Map => matches!(kind, Kind::MapRef(_)),
         Parameter::Key => matches!(
@@ -428,117 +444,27 @@ fn is_taken(parameter: Parameter, kind: &Kind) -> bool {
     }
 }
 
-/// The register through which a pointer is used that may be null.
-fn null_in(state: &AbsState, insn: Insn) -> Option<Register> {
-    let Insn::Call(number) = insn else {
-        return Some(address_of(insn)?.base);
-    };
-    let helper = Helper::new(number)?;
-    for argument in 0..MAX_ARGUMENTS {
-        let (register, parameter) = argument_of(helper, argument)?;
-        match (parameter, state.kind(register)) {
-            (Parameter::Task, Kind::TaskOrNull) => return Some(register),
-            (Parameter::Key, Kind::ElemOrNull(_)) => return Some(register),
-            _ => (),
-        }
-    }
-    None
-}
-
-/// The register that holds a pointer where a number is taken: the first one, or else the second, which
-/// is also the one that is added to a pointer to an element.
-fn pointer_in(state: &AbsState, insn: Insn) -> Option<Register> {
-    match insn {
-        Insn::Binary(_, Operation::Move, _, operand) => register_in(operand),
-        Insn::Binary(Width::Bits64, Operation::Add, destination, Operand::Register(source))
-            if matches!(state.kind(destination), Kind::Elem(_, _)) => { Some(source) }
-        Insn::Binary(_, _, destination, operand) => first_pointer(state, destination, operand),
-        Insn::Negate(_, destination) | Insn::ByteSwap(_, _, destination) => Some(destination),
-        Insn::SignExtend(_, _, source) => Some(source),
-        Insn::JumpIf {
-            register,
-            operand,
-            ..
-        } => first_pointer(state, register, operand),
-        _ => None,
-    }
-}
-
-fn first_pointer(state: &AbsState, register: Register, operand: Operand) -> Option<Register> {
-    if matches!(state.kind(register), Kind::Num(_)) {
-        register_in(operand)
-    } else {
-        Some(register)
-    }
-}
-
-/// The address that an instruction reads or writes. Of a call it is that of the key.
-fn address_of(insn: Insn) -> Option<Address> {
-    match insn {
-        Insn::Load(access, _, base, offset) => Some(Address {
-            base,
-            offset,
-            size: access.size(),
-        }),
-        Insn::Store(size, base, offset, _) => Some(Address { base, offset, size }),
-        Insn::Call(_) => Some(Address {
-            base: Register::R2,
-            offset: 0,
-            size: Size::Word,
-        }),
-        _ => None,
-    }
-}
-
-/// Where a pointer of that kind points.
-fn place_of(kind: Kind, defs: &MapDefs) -> Option<Place> {
-    match kind {
-        Kind::Stack(at) => Some(place_on_stack(at)),
-        Kind::Elem(map, offsets) => {
-            let bytes = i64::from(defs.shape(map)?.value_size);
-            Some(place_in_element(map, bytes, offsets))
-        }
-        _ => None,
-    }
-}
-
-fn place_on_stack(at: u16) -> Place {
-    let from_top = i128::from(at).saturating_sub(i128::from(STACK_SIZE));
-    Place {
-        memory: Memory::Stack,
-        from: from_top,
-        to: from_top,
-        shift: 0,
-    }
-}
-
-fn place_in_element(map: u8, bytes: i64, offsets: Offsets) -> Place {
-    let Range { low, high, shift } = offsets.range();
-    Place {
-        memory: Memory::Element { map, bytes },
-        from: i128::from(low),
-        to: i128::from(high),
-        shift,
-    }
-}
-
-/// The bytes that an address means.
-fn reach_of(state: &AbsState, address: Address, defs: &MapDefs) -> Option<Reach> {
-    let distance = i128::from(address.offset);
-    Some(Reach {
-        place: place_of(state.kind(address.base), defs)?.moved(distance, distance),
-        count: address.size.bytes(),
-    })
-}
-
 /// What is read of the stack, and isn't written, or is a part of a pointer.
 fn unwritten_in(state: &AbsState, insn: Insn, defs: &MapDefs) -> Option<BadAccess>
-    ensures { IfSome result (λ access. access_fault access ≡ Why.UnwrittenStack) }
+    ensures fault { IfSome result (λ access. access_fault access ≡ Why.UnwrittenStack) }
+    ensures said { IfSome result (IsAccessSaid defs.now insn state.now) }
 {
-    let reach = reach_of(state, address_of(insn)?, defs)?;
-    for step in 0..reach.count {
-        let byte = reach.place.from.saturating_add(i128::from(step));
-        match byte_kind(state, byte_of(byte)?) {
+    let Address { base, offset, size } = address_of(insn)?;
+    match area_of(state.kind(base), offset, size, defs) {
+        Ok(Area::OnStack(first)) => unwritten_from(state, first, size.bytes()),
+        _ => None,
+    }
+}
+
+/// Of so many bytes of the stack, from that one on, the first that isn't written, or is a part of a
+/// pointer.
+fn unwritten_from(state: &AbsState, first: u16, count: u16) -> Option<BadAccess>
+    requires { first + count ≤ STACK_SIZE }
+    ensures { IfSome result (IsUnwritten state.now first count) }
+{
+    let reach = stack_bytes(first, count);
+    for byte in first..first + count {
+        match byte_kind(state, byte) {
             Kind::Num(_) => (),
             Kind::Unusable => return Some(BadAccess::Unwritten { reach, byte }),
             kind => return Some(BadAccess::PartOfPointer { reach, kind }),
@@ -547,14 +473,26 @@ fn unwritten_in(state: &AbsState, insn: Insn, defs: &MapDefs) -> Option<BadAcces
     None
 }
 
+/// An access that doesn't lie in its memory, or a pointer that would be moved out of it.
 fn out_of_bounds(state: &AbsState, insn: Insn, defs: &MapDefs) -> Option<BadAccess>
-    ensures { IfSome result (λ access. access_fault access ≡ Why.OutOfBounds) }
+    ensures fault { IfSome result (λ access. access_fault access ≡ Why.OutOfBounds) }
+    ensures said { IfSome result (IsAccessSaid defs.now insn state.now) }
 {
-    if let Insn::Binary(width, operation, register, operand) = insn {
-        let (least, most) = steps_of(state, width, operation, operand)?;
-        let place = place_of(state.kind(register), defs)?.moved(least, most);
-        return Some(BadAccess::MovedOut { register, place });
+    match insn {
+        Insn::Binary(width, operation, register, operand) => {
+            let distances = distances_of(state, width, operation, operand)?;
+            let place = place_of(state.kind(register), defs)?.moved(distances);
+            Some(BadAccess::MovedOut { register, place })
+        }
+        _ => access_outside(state, insn, defs),
     }
+}
+
+/// An access that doesn't lie in its memory.
+fn access_outside(state: &AbsState, insn: Insn, defs: &MapDefs) -> Option<BadAccess>
+    ensures fault { IfSome result (λ access. access_fault access ≡ Why.OutOfBounds) }
+    ensures said { IfSome result (IsAccessSaid defs.now insn state.now) }
+{
     let address = address_of(insn)?;
     match reach_of(state, address, defs) {
         Some(reach) => Some(BadAccess::Outside(reach)),
@@ -562,50 +500,45 @@ fn out_of_bounds(state: &AbsState, insn: Insn, defs: &MapDefs) -> Option<BadAcce
     }
 }
 
-/// By how many bytes an instruction moves a pointer, at least and at most.
-fn steps_of(
-    state: &AbsState,
-    width: Width,
-    operation: Operation,
-    operand: Operand,
-) -> Option<(i128, i128)> {
-    match operand {
-        Operand::Immediate(_) => {
-            let step = i128::from(pointer_step(width, operation, operand)?);
-            Some((step, step))
-        }
-        Operand::Register(source) => ends_of(state.kind(source)),
-    }
+/// An access at a place that is no multiple of its size.
+fn misaligned(state: &AbsState, insn: Insn, defs: &MapDefs) -> Option<BadAccess>
+    ensures fault { IfSome result (λ access. access_fault access ≡ Why.Misaligned) }
+    ensures said { IfSome result (IsAccessSaid defs.now insn state.now) }
+{
+    let address = address_of(insn)?;
+    let reach = reach_of(state, address, defs)?;
+    Some(BadAccess::Misaligned(reach))
 }
 
-/// The least and the greatest of the numbers of a kind.
-fn ends_of(kind: Kind) -> Option<(i128, i128)> {
-    match kind {
-        Kind::Num(numbers) => {
-            let range = numbers.range();
-            Some((i128::from(range.low), i128::from(range.high)))
+fn bad_field(state: &AbsState, insn: Insn) -> Option<BadField>
+    ensures { IfSome result (IsFieldSaid insn state.now) }
+{
+    let Address { base, offset, size } = address_of(insn)?;
+    let Kind::Task = state.kind(base) else {
+        return None;
+    };
+    match (Field::at(offset, size), insn) {
+        (None, _) => Some(BadField::Missing { offset, size }),
+        (Some(field), Insn::Store(..)) if !field.is_writable() => Some(BadField::ReadOnly(field)),
+        (Some(field), Insn::Load(access, ..)) if !access.is_plain() => {
+            Some(BadField::Signed(field))
         }
         _ => None,
     }
 }
 
-fn bad_field(insn: Insn) -> Option<BadField> {
-    let Address { offset, size, .. } = address_of(insn)?;
-    match (Field::at(offset, size), insn) {
-        (None, _) => Some(BadField::Missing { offset, size }),
-        (Some(field), Insn::Store(..)) => Some(BadField::ReadOnly(field)),
-        (Some(field), _) => Some(BadField::Signed(field)),
-    }
-}
-
-fn unknown_map(insn: Insn, defs: &MapDefs) -> Option<Reason>
-    ensures { IfSome result (λ reason. fault_of reason ≡ Fault.Rule Why.UnknownMap) }
+/// The number of a map that isn't there, to which an instruction loads a reference.
+fn unknown_map(insn: Insn, defs: &MapDefs) -> Option<i32>
+    ensures named { IfSome result (λ map. LoadsMap insn map) }
+    ensures unknown { IfSome result (λ map. map_kind defs.now map ≡ Err Why.UnknownMap) }
 {
     match insn {
-        Insn::LoadMapReference(_, map) => Some(Reason::UnknownMap {
-            map,
-            maps: defs.count(),
-        }),
+        Insn::LoadMapReference(_, map) => {
+            match map_kind(map, defs) {
+                Err(Why::UnknownMap) => Some(map),
+                _ => None,
+            }
+        }
         _ => None,
     }
 }
