@@ -3,10 +3,9 @@ use Rattle.std.proofs.Common.{◌≡◌, ℕ, ◌+◌, inl, inr, length, ap, ◌
 use Rattle.scx_semantics.specs.Code.{Code}
 use Rattle.scx_safety.specs.declared.context.Context.{Context}
 use Rattle.scx_abs.specs.declared.faults.Why.{Why}
-use Rattle.scx_isa.specs.declared.faults.FlowFault.{FlowFault}
 use Rattle.scx_isa.specs.Flow.{Flows}
 use Rattle.scx_isa.specs.Spelling.{IsProgram}
-use Rattle.scx_verify.specs.declared.faults.Fault.TheVariants.{Flow, Rule, NoMemory}
+use Rattle.scx_verify.specs.declared.faults.Fault.TheVariants.{Rule, NoMemory}
 use Rattle.scx_verify.specs.Typing.{States, IsTyped}
 use Rattle.scx_verify.specs.Forward.{IsFirstRefusal}
 use Rattle.scx_verify.proofs.Agreement.{first_refusals_agree, flows_faultless}

@@ -1,5 +1,5 @@
 mod Lookups
 mod Ends
 mod Coming
-mod Said
+mod Leading
 mod Sums

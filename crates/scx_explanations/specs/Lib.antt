@@ -3,4 +3,5 @@ pub mod Named
 pub mod Places
 pub mod Reasons
 pub mod Said
+pub mod Leading
 pub mod Laws

@@ -1,6 +1,6 @@
 -- What a reason says is so: it names registers that the instruction reads, writes or stores, with the kinds
 -- and bytes that are known before it, and its numbers.
-use Rattle.std.specs.Prelude.{◌≡◌, ℕ, ◌+◌, ◌<◌, ◌≤◌, ◌/◌, ◌%◌, ◌⊎◌, ℤ, pos, ◌+ℤ◌, ◌-ℤ◌, Bool, true, false, IsTrue, IsFalse, List, length, Option, Some, None, Ok, Err, if◌then◌else◌}
+use Rattle.std.specs.Prelude.{◌≡◌, ℕ, ◌+◌, ◌<◌, ◌≤◌, ◌/◌, ◌%◌, ℤ, pos, ◌+ℤ◌, Bool, true, false, IsTrue, IsFalse, List, length, Option, Some, None, Ok, Err, if◌then◌else◌}
 use Rattle.scx_semantics.specs.declared.instructions.Insn.{Insn}
 use Rattle.scx_semantics.specs.declared.instructions.Insn.TheVariants as insn
 use Rattle.scx_semantics.specs.declared.callbacks.Callback.{Callback}
@@ -8,7 +8,6 @@ use Rattle.scx_semantics.specs.declared.registers.Register.{Register}
 use Rattle.scx_semantics.specs.declared.registers.Register.TheVariants.{R10}
 use Rattle.scx_semantics.specs.Registers.{number}
 use Rattle.scx_semantics.specs.declared.instructions.Operand.{Operand}
-use Rattle.scx_semantics.specs.declared.operations.Access.{Access}
 use Rattle.scx_semantics.specs.declared.operations.Width.{Width}
 use Rattle.scx_semantics.specs.declared.operations.Operation.{Operation}
 use Rattle.scx_semantics.specs.declared.operations.Size.{Size}
