@@ -3,6 +3,7 @@ use Rattle.std.specs.Prelude.{◌≡◌, ℕ, List, map, Option, None, IfSome}
 use Rattle.scx_explanations.specs.declared.reasons.Explanation.{Explanation}
 use Rattle.scx_explanations.specs.Reasons.{fault_of}
 use Rattle.scx_explanations.specs.Said.{IsSaid}
+use Rattle.scx_explanations.specs.Leading.{AreJumps}
 use Rattle.scx_verdicts.specs.declared.verdict.Verdict.{Verdict}
 use Rattle.scx_verdicts.specs.declared.verdict.Verdict.TheVariants.{Accepted, Refused}
 use Rattle.scx_verdicts.specs.Lines.{verdict_line}
@@ -22,6 +23,10 @@ IsExplained explained = IsExplanation explained.verdict explained.explanation
 -- what its explanation says is so, if it has one
 abbrev pub IsSo : Explained → Type 0
 IsSo explained = IfSome explained.explanation (λ e. IsSaid explained.listing e.slot e.reason)
+
+-- the jumps that are named in its listing are all of them
+abbrev pub HasJumps : Explained → Type 0
+HasJumps explained = AreJumps explained.listing explained.jumps
 
 -- the line of the verdict on an explained program
 abbrev pub first_line : Explained → List ℕ

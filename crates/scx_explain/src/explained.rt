@@ -4,7 +4,8 @@ ghost use Rattle.scx_policies.specs.Policies.{program_of, without};
 ghost use Rattle.scx_safety.specs.Programs.{context};
 ghost use Rattle.scx_explanations.specs.Listings.{IsListing};
 ghost use Rattle.scx_verdicts.specs.Verdicts.{IsVerdict, IsVerdictOf, HasVerdicts};
-ghost use Rattle.scx_explain.specs.Explained.{IsExplained, IsSo, ArePrograms, first_line};
+ghost use Rattle.scx_explain.specs.Explained.{IsExplained, IsSo, HasJumps, ArePrograms};
+ghost use Rattle.scx_explain.specs.Explained.{first_line};
 ghost use Rattle.scx_explain.specs.Listed.{line_on, first_lines};
 
 use crate::writing::room_for_line;
@@ -134,6 +135,7 @@ fn explain_program(
         (λ explained. IsListing (context callback defs.now) program explained.listing) }
     ensures explanation { IfOk result IsExplained }
     ensures so { IfOk result IsSo }
+    ensures jumps { IfOk result HasJumps }
     ensures memory { IfErr result (λ refusal. refusal ≡ NoMemory) }
 {
     let context = Context {
@@ -151,6 +153,7 @@ fn explain_verdict(alloc: Global, listing: Listing, verdict: Verdict) -> Result<
     ensures listing { IfOk result (λ explained. explained.listing ≡ listing) }
     ensures explanation { IfOk result IsExplained }
     ensures so { IfOk result IsSo }
+    ensures jumps { IfOk result HasJumps }
     ensures memory { IfErr result (λ refusal. refusal ≡ NoMemory) }
 {
     let jumps = Jumps::new(alloc, &listing)?;
