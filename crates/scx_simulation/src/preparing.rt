@@ -31,6 +31,9 @@ pub struct Run {
     pub sim: Sim,
 }
 
+/// Gives back the memory of a run.
+pub(crate) fn let_go(_workload: Workload, _sim: Sim) {}
+
 /// The run that the texts of a policy file and of a workload file stand for.
 ///
 /// # Errors

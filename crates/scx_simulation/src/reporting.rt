@@ -10,7 +10,7 @@ ghost use Rattle.scx_trace.specs.Runs.{StaysInOrder};
 ghost use Rattle.scx_simulation.specs.Runs.{IsRun, IsCause, IsOfHeadline, report_text};
 
 use crate::hearing::{Heard, Listener};
-use crate::preparing::{Run, prepare};
+use crate::preparing::{Run, let_go, prepare};
 use scx_outcomes::Fault;
 use scx_output::{Failed, Out};
 use scx_trace::{run_silently, write_report};
@@ -73,5 +73,7 @@ fn write_end<L: Listener, W: Out>(run: Run, listener: &mut L, out: &mut W) -> Re
     } = run;
     let mut events = Heard::new(driver, workload.ms(), listener);
     run_silently(&mut sim, &mut events);
-    write_report(&sim, &workload, out)
+    let written = write_report(&sim, &workload, out);
+    let_go(workload, sim);
+    written
 }
