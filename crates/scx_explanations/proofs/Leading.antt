@@ -69,9 +69,9 @@ one_here jumps n slots to heads links within inside e h = record {
         let goes : jumps n ≡ Some t = subst (λ k. jumps k ≡ Some t) same f in
         let target : t ≡ to = same_slot t to (sym goes ∙ e) in
         let here : slice_index_or (set links n (slice_index_or heads to None)) s None ≡ slice_index_or heads t None =
-            ap (λ k. slice_index_or (set links n (slice_index_or heads to None)) k None) same
-            ∙ get_or-set_same links n (slice_index_or heads to None) None (omega (arith, within, h.links_long))
-            ∙ ap (λ k. slice_index_or heads k None) (sym target) in
+        ap (λ k. slice_index_or (set links n (slice_index_or heads to None)) k None) same
+        ∙ get_or-set_same links n (slice_index_or heads to None) None (omega (arith, within, h.links_long))
+        ∙ ap (λ k. slice_index_or heads k None) (sym target) in
         let behind : IsFirstFrom jumps (n + 1) t (slice_index_or heads t None) = h.first t lt in
         subst (IsFirstFrom jumps (s + 1) t) (sym here) (subst (λ k. IsFirstFrom jumps (k + 1) t (slice_index_or heads t None)) (sym same) behind)
     next s t le lt f (inr apart) =
