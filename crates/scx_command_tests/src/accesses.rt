@@ -3,7 +3,7 @@
 use crate::explaining::{Row, explain, explain_behind};
 use std::test::Fail;
 
-const MEMORY: [Row<'_>; 8] = [
+const MEMORY: [Row<'_>; 9] = [
     (
         "running",
         "r10 = 0\nexit\n",
@@ -42,6 +42,19 @@ const MEMORY: [Row<'_>; 8] = [
       = stack -8..-1 is read here, and -8 needn't hold a number: at 4 ways meet that bring a task from 2 and a number from 3; bring the same kind on each way
       = control came by 0, jump at 0 to 3, 3..4
    5  exit
+",
+    ),
+    // A number is stored over the lower half of a pointer.
+    (
+        "enqueue",
+        "*(u64 *)(r10 - 8) = r1\n*(u32 *)(r10 - 8) = 0\nr3 = *(u64 *)(r10 - 8)\nexit\n",
+        "enqueue refused 7 UnwrittenStack at 2
+   0  *(u64 *)(r10 - 8) = r1  r1 task, r2 number
+   1  *(u32 *)(r10 - 8) = 0   r1 task, r2 number, stack -8..-1 task
+   2  r3 = *(u64 *)(r10 - 8)  r1 task, r2 number, stack -8..-5 written
+      = stack -8..-1 is read here, and -4 needn't hold a number: the store at 1 writes over another part of the pointer there; write all of it first
+      = control came by 0..2
+   3  exit
 ",
     ),
     (
@@ -182,7 +195,21 @@ fn faults_of_elements_are_explained(rt: HostRuntime) -> Result<(), Fail> {
     )
 }
 
-const POINTERS: [Row<'_>; 7] = [
+const POINTERS: [Row<'_>; 8] = [
+    // Ways that bring pointers to different bytes of the stack.
+    (
+        "enqueue",
+        "r6 = r10\nif r2 == 0 goto both\nr6 += -8\nboth:\nr0 = r6\nexit\n",
+        "enqueue refused 5 UnusableRegister at 3
+   0  r6 = r10                   r1 task, r2 number
+   1  if r2 == 0 goto +1 (to 3)  r1 task, r2 number, r6 frame
+   2  r6 += -8                   r1 task, r2 number 1..18446744073709551615, r6 frame
+   3  r0 = r6                    from 1, 2: r1 task, r2 number
+      = r6 is unusable here: at 3 ways meet that bring the frame pointer from 1 and a pointer to stack -8 from 2; bring the same kind on each way
+      = control came by 0..3
+   4  exit
+",
+    ),
     // Both sides of the test lead to the slot in front of the use.
     (
         "dispatch",

@@ -302,6 +302,12 @@ impl fmt::Display for OriginText {
             Origin::Argument => f.write_str("it is an argument"),
             Origin::Frame => f.write_str("it comes from r10"),
             Origin::Written(slot) => write!(f, "it was written at {slot}"),
+            Origin::Torn(slot) => {
+                write!(
+                    f,
+                    "the store at {slot} writes over another part of the pointer there"
+                )
+            }
             Origin::Answered { number, slot } => write!(f, "it comes from call {number} at {slot}"),
             Origin::Lost { number, slot } => {
                 write!(f, "call {number} at {slot} leaves it unusable")
@@ -344,7 +350,16 @@ fn write_sides<W: fmt::Write>(
 impl fmt::Display for BroughtText {
     fn fmt<W: fmt::Write>(&self, f: &mut fmt::Formatter<W>) -> fmt::Result {
         let Brought { from, kind } = self.0;
-        let kind = Spoken(kind);
-        write!(f, "{kind} from {from}")
+        match kind {
+            Kind::Stack(STACK_SIZE) => write!(f, "the frame pointer from {from}"),
+            Kind::Stack(byte) => {
+                let offset = from_top(byte);
+                write!(f, "a pointer to stack {offset} from {from}")
+            }
+            kind => {
+                let kind = Spoken(kind);
+                write!(f, "{kind} from {from}")
+            }
+        }
     }
 }

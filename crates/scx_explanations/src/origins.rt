@@ -31,6 +31,8 @@ pub enum Origin {
     Frame,
     /// The instruction at that slot wrote it.
     Written(usize),
+    /// The store at that slot wrote over another part of the pointer that it was a part of.
+    Torn(usize),
     /// The call at that slot of the helper of that number answered it.
     Answered {
         number: i32,
@@ -174,8 +176,19 @@ fn source_of_byte(
             if cell_of(at) == cell_of(byte) && is_pointer(after) => {
             Source::Copied(Subject::Register(source))
         }
-        _ if byte_kind(before, byte) != after => Source::Begins(Origin::Written(arrival.from)),
-        _ => Source::Same,
+        _ if byte_kind(before, byte) == after => Source::Same,
+        (Ok(Area::OnStack(at)), _) if !is_within(byte, at, size) => {
+            Source::Begins(Origin::Torn(arrival.from))
+        }
+        _ => Source::Begins(Origin::Written(arrival.from)),
+    }
+}
+
+/// Whether the byte is one of those that an access at that byte is to.
+fn is_within(byte: u16, at: u16, size: Size) -> bool {
+    match byte.checked_sub(at) {
+        Some(distance) => distance < size.bytes(),
+        None => false,
     }
 }
 
