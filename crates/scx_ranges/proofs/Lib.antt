@@ -9,3 +9,4 @@ pub mod GrowingResults
 pub mod AllWidths
 pub mod ElementOffsets
 pub mod BuiltRanges
+mod KeptRanges

@@ -6,3 +6,4 @@ pub mod Laws
 pub mod ResultLaws
 pub mod OffsetLaws
 pub mod Steps
+pub mod Kept

@@ -1,10 +1,11 @@
-ghost use Rattle.std.specs.Prelude.{◌≡◌};
+ghost use Rattle.std.specs.Prelude.{◌≡◌, None, IfSome, false};
 ghost use Rattle.scx_ranges.specs.Ranges.{IsRange, all, single, is_single, join_ranges};
 ghost use Rattle.scx_ranges.specs.Cuts.{cut};
 ghost use Rattle.scx_ranges.specs.Steps.{shift_of};
+ghost use Rattle.scx_ranges.specs.Kept.{kept_step};
 ghost use Rattle.scx_ranges.specs.Results.{computed_at, copied, negated_range, extended_range, swapped_range, loaded};
 
-use crate::ranges::Range;
+use crate::ranges::{Range, between};
 use crate::steps::Step;
 use scx_semantics::{Access, ByteOrder, Comparison, Extension, Operation, SwapWidth, Width};
 use std::marker::Model;
@@ -16,27 +17,28 @@ use std::marker::Model;
 pub struct Numbers {
     low: u64,
     high: u64,
+    /// One where it is a single number, from which the range's step follows.
     step: Step,
 }
 
 impl Model for Numbers {
     ghost use Rattle.scx_ranges.specs.declared.ranges.Range.{Range};
-    ghost use Rattle.scx_ranges.specs.Ranges.{IsRange};
-    ghost use Rattle.scx_ranges.specs.Steps.{shift_of, step_of, step_back};
+    ghost use Rattle.scx_ranges.specs.Kept.{IsKept, range_of, kept_step};
 
     ghost Value = { Range };
 
-    ghost view = { λ s. record { low = s.low; high = s.high; shift = shift_of s.step } };
+    ghost view = { λ s. range_of s.low s.high s.step };
 
-    ghost invariant = { λ s. IsRange (record { low = s.low; high = s.high; shift = shift_of s.step }) };
+    ghost invariant = { λ s. IsKept s.low s.high s.step };
 
-    ghost inverse = { λ r. record { low = r.low; high = r.high; step = step_of r.shift } };
+    ghost inverse = { λ r. record { low = r.low; high = r.high; step = kept_step r } };
 
-    ghost inverse_ok = { λ s h. λ i. record { low = s.low; high = s.high; step = step_back s.step i } };
+    ghost inverse_ok = { λ s h. λ i. record { low = s.low; high = s.high; step = h.back i } };
 }
 
 impl Numbers {
     /// The numbers of a range.
+    #[tactic(auto, using(crate::proofs::KeptRanges::kept_range, crate::proofs::KeptRanges::kept_parts))]
     pub(crate) fn of(range: Range) -> Numbers
         requires { IsRange range }
         ensures { result ≡ range }
@@ -44,7 +46,7 @@ impl Numbers {
         Numbers {
             low: range.low,
             high: range.high,
-            step: Step::of(range.shift),
+            step: step_of(range),
         }
     }
 
@@ -53,11 +55,7 @@ impl Numbers {
         ensures same { result ≡ self }
         ensures range { IsRange result }
     {
-        Range {
-            low: self.low,
-            high: self.high,
-            shift: self.step.shift(),
-        }
+        between(self.low, self.high, self.step.shift())
     }
 
     /// All numbers: nothing is known.
@@ -69,11 +67,15 @@ impl Numbers {
     }
 
     /// One number.
-    #[tactic(auto, using(crate::proofs::Multiples::single_range))]
+    #[tactic(auto, using(crate::proofs::KeptRanges::kept_single))]
     pub fn single(n: u64) -> Numbers
         ensures { result ≡ single n }
     {
-        Numbers::of(Range::single(n))
+        Numbers {
+            low: n,
+            high: n,
+            step: Step::One,
+        }
     }
 
     /// Whether it is one number alone.
@@ -81,6 +83,20 @@ impl Numbers {
         ensures { result ≡ is_single self }
     {
         self.low == self.high
+    }
+
+    /// The number, if it is one alone.
+    #[inline(always)]
+    #[tactic(auto, using(crate::proofs::KeptRanges::single_is))]
+    pub fn number(self) -> Option<u64>
+        ensures one { IfSome result (λ n. self ≡ single n) }
+        ensures several { result ≡ None → is_single self ≡ false }
+    {
+        if self.low == self.high {
+            Some(self.low)
+        } else {
+            None
+        }
     }
 
     /// The least of them; of a single number the number.
@@ -156,5 +172,16 @@ impl Numbers {
         ensures { result ≡ loaded access }
     {
         Numbers::of(Range::loaded(access))
+    }
+}
+
+/// The step that is kept of a range.
+fn step_of(range: Range) -> Step
+    ensures { result ≡ kept_step range }
+{
+    if range.low == range.high {
+        Step::One
+    } else {
+        Step::of(range.shift)
     }
 }

@@ -97,6 +97,7 @@ impl Offsets {
     }
 
     /// The offsets moved by a number of a range, or none where a sum would leave the element.
+    #[inline(always)]
     pub fn advanced(self, value_size: u16, numbers: Numbers) -> Option<Offsets>
         ensures { result ≡ advanced value_size self numbers }
     {
