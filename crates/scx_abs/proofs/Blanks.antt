@@ -9,8 +9,8 @@ use Rattle.scx_abs.specs.declared.states.AbsState.{AbsState}
 use Rattle.scx_abs.specs.declared.changes.Change.{Change}
 use Rattle.scx_abs.specs.declared.changes.Change.TheVariants as change
 use Rattle.scx_abs.specs.Cells.{no_bytes, join_cell}
-use Rattle.scx_abs.specs.States.{start_of}
-use Rattle.scx_abs.specs.Changes.{AreBlank, IsBlankBelow, changed, lowest}
+use Rattle.scx_abs.specs.States.{start_of, with_cell}
+use Rattle.scx_abs.specs.Changes.{AreBlank, AreKept, IsBlankBelow, changed, lowest}
 
 join_blank : (x y : Cell) → x ≡ Bytes no_bytes → y ≡ Bytes no_bytes → join_cell x y ≡ Bytes no_bytes
 join_blank x y e f = rw (e, f) refl
@@ -55,6 +55,18 @@ changed_blank a (change.Stored n cell) low new h le lt = record {
   within = omega (arith, h.within);
   blank = λ j below. get_or-set_other a.cells n j cell (Bytes []) (λ e. omega (arith, e, below)) ∙ h.blank j (omega arith);
 }
+
+-- a cell that is written leaves those below it
+pub kept_below : (a : AbsState) (n : ℕ) (cell : Cell) → AreKept n a (with_cell a n cell)
+kept_below a n cell c lt = get_or-set_other a.cells n c cell (Bytes []) (λ e. omega (arith, e, lt))
+
+-- where the cells stay
+pub blank_same : (a b : AbsState) (low : ℕ) → b.cells ≡ a.cells → IsBlankBelow low a → IsBlankBelow low b
+blank_same a b low e h = record { within = h.within; blank = rw e h.blank }
+
+-- where those below that one stay
+pub blank_stored : (a b : AbsState) (low n new : ℕ) → IsBlankBelow low a → AreKept n a b → new ≤ low → new ≤ n → IsBlankBelow new b
+blank_stored a b low n new h kept le lt = record { within = omega (arith, h.within, le); blank = λ c below. kept c (omega (arith, below, lt)) ∙ h.blank c (omega (arith, below, le)) }
 
 blank_at : (n k : ℕ) → k < n → slice_index_or (replicate n (Bytes no_bytes)) k (Bytes []) ≡ Bytes no_bytes
 blank_at zero k lt = absurd (omega arith)

@@ -1,5 +1,5 @@
 -- The join of two kinds, of two cells, and of two states is the least that covers both.
-use Rattle.std.proofs.Common.{◌≡◌, ℕ, ◌<◌, ◌≤◌, ◌⊎◌, inl, inr, [], arith, Bool, true, false, ◌&&◌, nat_eq, List, set, length, slice_index_or, min, max, Option, Some, None, refl, sym, ap, subst, ◌∙◌}
+use Rattle.std.proofs.Common.{◌≡◌, ℕ, ◌<◌, ◌≤◌, ◌⊎◌, inl, inr, [], arith, Bool, true, false, ◌&&◌, nat_eq, List, set, length, slice_index_or, min, max, Option, Some, None, refl, sym, ap, ◌∙◌}
 use Rattle.std.proofs.lemmas.Bool.{eqb-true, eq-eqb, and_parts, and_from, both_ways, cases_lt}
 use Rattle.std.proofs.lemmas.List.{get_or_past, get_or_default, set-get_or}
 use Rattle.scx_ranges.specs.declared.ranges.Range.{Range}
@@ -69,11 +69,6 @@ join_itself Task = refl
 join_itself TaskOrNull = refl
 join_itself (MapRef m) = same_if m (MapRef m)
 
-pub same_parts : (r s : Range) → r.low ≡ s.low → r.high ≡ s.high → r.shift ≡ s.shift → r ≡ s
-same_parts r s l h t =
-    ap (λ n. record { low = n; high = r.high; shift = r.shift }) l
-    ∙ (ap (λ n. record { low = s.low; high = n; shift = r.shift }) h ∙ ap (λ n. record { low = s.low; high = s.high; shift = n }) t)
-
 pub join_same : (j k : Kind) → j ≡ k → join_kind j k ≡ j
 join_same j k e = ap (join_kind j) (sym e) ∙ join_itself j
 
@@ -88,6 +83,17 @@ joined_kept xs ys r d e lx ly same =
     sym (ap (λ k. join_kind k (slice_index_or ys r Unusable)) first)
     ∙ (sym (ap (join_kind (slice_index_or xs r d)) second) ∙ (same ∙ first)) in
     sym (ap (set xs r) kept ∙ set-get_or xs r Unusable)
+
+-- joined with nothing
+pub join_nothing : (k : Kind) → Unusable ≡ join_kind k Unusable
+join_nothing Unusable = refl
+join_nothing (Num r) = refl
+join_nothing (Stack o) = refl
+join_nothing (Elem m r) = refl
+join_nothing (ElemOrNull m) = refl
+join_nothing Task = refl
+join_nothing TaskOrNull = refl
+join_nothing (MapRef m) = refl
 
 -- a join of kinds covers the first
 pub kind_covers_first : (j k : Kind) → CoversKind (join_kind j k) j

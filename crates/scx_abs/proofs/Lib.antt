@@ -9,6 +9,8 @@ mod Parameters
 mod Registers
 mod Elements
 mod Operations
+mod SingleNumbers
+mod Stores
 pub mod Accesses
 mod Branches
 mod HelperCalls

@@ -41,7 +41,7 @@ use Rattle.scx_abs.specs.Kinds.{IsProperKind, IsUsable}
 use Rattle.scx_abs.specs.States.{kind_at, with_kind, IsProper}
 use Rattle.scx_abs.specs.Stands.{Stands, IsMember}
 use Rattle.scx_semantics.specs.Results.{◌>>=◌}
-use Rattle.scx_abs.specs.Checks.{goes_on, usable, operand_kind, sets}
+use Rattle.scx_abs.specs.Checks.{goes_on, usable, operand_kind, sets, gets}
 use Rattle.scx_abs.specs.Laws.{IsSoundFor}
 use Rattle.scx_abs.proofs.Lists.{set_each}
 use Rattle.scx_abs.proofs.Proper.{kind_is_proper}
@@ -53,6 +53,12 @@ pub frame_refused : (a : AbsState) (r : Register) (k : Result Kind Why) → true
 frame_refused a R10 (Ok k) e = refl
 frame_refused a R10 (Err why) e = refl
 frame_refused a r k e = absurd (cc)
+
+-- another register gets it
+pub gets_kind : (a : AbsState) (r : Register) (k : Result Kind Why) → false ≡ sameb the_type r R10 → gets a (number r) k ≡ sets a (number r) k
+gets_kind a R10 k e = absurd (cc)
+gets_kind a r (Ok k) e = refl
+gets_kind a r (Err why) e = refl
 
 -- what a rule gives for a register against the value that is put there
 abbrev pub Gives : Maps → Result Kind Why → Option Value → Type 0

@@ -1,6 +1,6 @@
 -- What an instruction changes of the state before it, on each way that control goes on: little, so that
 -- one state can be kept and changed in place.
-use Rattle.std.specs.Prelude.{ℕ, ◌<◌, ◌≤◌, ◌≡◌, List, [], slice_index_or, Some, None, Result, Ok, Err}
+use Rattle.std.specs.Prelude.{ℕ, ◌/◌, ◌<◌, ◌≤◌, ◌≡◌, List, [], slice_index_or, Some, None, Result, Ok, Err}
 use Rattle.scx_semantics.specs.Registers.{number}
 use Rattle.scx_abs.specs.declared.faults.Why.{Why}
 use Rattle.scx_abs.specs.declared.kinds.Cell.{Cell}
@@ -12,10 +12,11 @@ use Rattle.scx_abs.specs.declared.changes.Flow.{Flow}
 use Rattle.scx_abs.specs.declared.changes.Flow.TheVariants.{End, On, Jump, Both}
 use Rattle.scx_abs.specs.declared.rules.Next.{Next}
 use Rattle.scx_abs.specs.Cells.{no_bytes}
-use Rattle.scx_abs.specs.States.{with_kind, with_cell}
+use Rattle.scx_abs.specs.States.{cell_at, with_kind, with_cell}
+use Rattle.scx_abs.specs.declared.memory.Area.{Area}
+use Rattle.scx_abs.specs.declared.memory.Area.TheVariants.{OnStack}
 use Rattle.scx_abs.specs.Calls.{after_call}
 use Rattle.scx_abs.specs.Checks.{flows, goes_on}
-use Rattle.scx_abs.specs.declared.memory.Accessed.{Accessed}
 
 abbrev pub changed : AbsState → Change → AbsState
 changed a change.Nothing = a
@@ -40,10 +41,10 @@ abbrev pub went_on : AbsState → Result Change Why → Result Next Why
 went_on a (Ok c) = goes_on (changed a c)
 went_on a (Err why) = Err why
 
--- the same of an access
-abbrev pub accessed_on : AbsState → Result Accessed Why → Result Next Why
-accessed_on a (Ok x) = goes_on (changed a x.change)
-accessed_on a (Err why) = Err why
+-- the same where the state was changed in place, and what was done answers something
+abbrev pub done_on : {A : Type 0} → AbsState → Result A Why → Result Next Why
+done_on a (Ok x) = goes_on a
+done_on a (Err why) = Err why
 
 -- where the program ends
 abbrev pub ended_on : Result (Unit {0}) Why → Result Next Why
@@ -51,6 +52,15 @@ ended_on (Ok u) = Ok (flows None None)
 ended_on (Err why) = Err why
 
 -- ---- how much of the stack is known of
+
+-- the lowest cell that a store there writes; 64 where it writes none
+abbrev pub lowest_in : Area → ℕ
+lowest_in (OnStack at) = at / 8
+lowest_in area = 64
+
+-- the cells below that one stay
+abbrev pub AreKept : ℕ → AbsState → AbsState → Type 0
+AreKept n before after = (c : ℕ) → c < n → cell_at after c ≡ cell_at before c
 
 -- of the cells below that one nothing is known
 abbrev pub AreBlank : ℕ → List Cell → Type 0

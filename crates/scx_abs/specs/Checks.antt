@@ -44,6 +44,11 @@ abbrev pub sets : AbsState → ℕ → Result Kind Why → Result Next Why
 sets a r (Err why) = if nat_eq r 10 then Err WritesFrame else Err why
 sets a r (Ok k) = if nat_eq r 10 then Err WritesFrame else goes_on (with_kind a r k)
 
+-- the same of another register than r10
+abbrev pub gets : AbsState → ℕ → Result Kind Why → Result Next Why
+gets a r (Err why) = Err why
+gets a r (Ok k) = goes_on (with_kind a r k)
+
 -- ---- offsets
 
 -- how many bytes the elements of a map have; those of a map that isn't there have none

@@ -3,9 +3,11 @@ pub mod Cells
 pub mod States
 pub mod Faults
 pub mod Areas
+pub mod Singles
 pub mod Checks
 pub mod Calls
 pub mod Rules
+pub mod Pieces
 pub mod Stands
 pub mod Laws
 pub mod Monotone

@@ -1,20 +1,29 @@
-ghost use Rattle.std.specs.Prelude.{◌≡◌, Some};
+ghost use Rattle.std.specs.Prelude.{◌≡◌, ◌&&◌, false, List, Ok, Some, None, IfSome};
 ghost use Rattle.scx_semantics.specs.Registers.{number};
-ghost use Rattle.scx_abs.specs.Checks.{usable, operand_kind};
+ghost use Rattle.scx_abs.specs.Changes.{done_on};
+ghost use Rattle.scx_abs.specs.Checks.{gets, sets, usable, operand_kind};
 ghost use Rattle.scx_abs.specs.declared.kinds.Kind.TheVariants as Kind;
-ghost use Rattle.scx_ranges.specs.Results.{negated_range, extended_range, swapped_range};
+ghost use Rattle.scx_maps.specs.declared.shape.Shape.{Shape};
+ghost use Rattle.scx_ranges.specs.Ranges.{single};
+ghost use Rattle.scx_semantics.specs.declared.operations.Operation.{Operation};
+ghost use Rattle.scx_ranges.specs.declared.ranges.Range.{Range};
+ghost use Rattle.scx_ranges.specs.Results.{computed_at, negated_range, extended_range, swapped_range};
+ghost use Rattle.scx_abs.specs.Pieces.{advanced_kind, copied_kind, combined_numbers, combined_with};
 ghost use Rattle.scx_abs.specs.Rules.{in_element, moved_by, moved_kind, computed_kind, advanced_by, element_kind, arithmetic_kind, combined_kind, binary_kind, numbers_of, number_kind, map_kind};
+ghost use Rattle.scx_abs.specs.Singles.{is_single_number, is_single_operand, reads_singles};
+ghost use Rattle.scx_abs.specs.States.{kind_at};
 
 use crate::faults::Why;
 use crate::kinds::Kind;
 use crate::offsets::{element_size, offset_within};
 use crate::states::AbsState;
-use scx_arithmetic::{immediate, pointer_step, shifted};
+use scx_arithmetic::{compute, immediate, low, pointer_step, shifted};
 use scx_isa::{ByteOrder, Extension, Operand, Operation, Register, STACK_SIZE, SwapWidth, Width};
 use scx_maps::MapDefs;
 use scx_ranges::{Numbers, Offsets};
 
 /// The kind of a register that is read.
+#[inline(always)]
 pub(crate) fn usable(kind: Kind) -> Result<Kind, Why>
     ensures { result ≡ usable kind }
 {
@@ -25,6 +34,7 @@ pub(crate) fn usable(kind: Kind) -> Result<Kind, Why>
 }
 
 /// The kind of an operand of that width.
+#[inline(always)]
 pub(crate) fn operand_kind(state: &AbsState, width: Width, operand: Operand) -> Result<Kind, Why>
     ensures { result ≡ operand_kind state.now width operand }
 {
@@ -69,32 +79,273 @@ pub fn swapped_kind(kind: Kind, order: ByteOrder, width: SwapWidth) -> Result<Ki
     Ok(Kind::Num(numbers_of(kind)?.byte_swapped(order, width)))
 }
 
-/// The kind that an operation leaves in its destination.
+impl AbsState {
+    /// Arithmetic: the destination gets its kind, where the checks pass. That r10 is written goes
+    /// before what is wrong with what is read.
+    #[inline(always)]
+    #[tactic(auto, using(crate::proofs::Registers::frame_refused, crate::proofs::Registers::gets_kind))]
+    pub(crate) fn compute(
+        &mut self,
+        width: Width,
+        operation: Operation,
+        destination: Register,
+        operand: Operand,
+        defs: &MapDefs,
+    ) -> Result<(), Why>
+        ensures done { done_on self.new result
+            ≡ sets self.old (number destination)
+            (binary_kind defs.now self.old width operation destination operand) }
+        ensures cells { self.new.cells ≡ self.old.cells }
+    {
+        if destination == Register::R10 {
+            return Err(Why::WritesFrame);
+        }
+        self.compute_other(width, operation, destination, operand, defs)
+    }
+
+    /// The same of another register than r10.
+    #[inline(always)]
+    fn compute_other(
+        &mut self,
+        width: Width,
+        operation: Operation,
+        destination: Register,
+        operand: Operand,
+        defs: &MapDefs,
+    ) -> Result<(), Why>
+        ensures done { done_on self.new result
+            ≡ gets self.old (number destination)
+            (binary_kind defs.now self.old width operation destination operand) }
+        ensures cells { self.new.cells ≡ self.old.cells }
+    {
+        match single_computed(self, width, operation, destination, operand) {
+            // Most numbers are single.
+            Some(n) => {
+                self.set(destination, Kind::Num(Numbers::single(n)));
+                Ok(())
+            }
+            None => self.compute_any(width, operation, destination, operand, defs),
+        }
+    }
+
+    /// The same of any kinds.
+    #[inline(always)]
+    fn compute_any(
+        &mut self,
+        width: Width,
+        operation: Operation,
+        destination: Register,
+        operand: Operand,
+        defs: &MapDefs,
+    ) -> Result<(), Why>
+        ensures done { done_on self.new result
+            ≡ gets self.old (number destination)
+            (binary_kind defs.now self.old width operation destination operand) }
+        ensures cells { self.new.cells ≡ self.old.cells }
+    {
+        match operation {
+            Operation::Move => self.copy(width, destination, operand),
+            _ => self.combine(width, operation, destination, operand, defs),
+        }
+    }
+
+    /// Copies a number, and at 64 bits a pointer too.
+    #[inline(always)]
+    fn copy(&mut self, width: Width, destination: Register, operand: Operand) -> Result<(), Why>
+        ensures done { done_on self.new result
+            ≡ gets self.old (number destination)
+            (copied_kind self.old width operand) }
+        ensures cells { self.new.cells ≡ self.old.cells }
+    {
+        let kind = operand_kind(self, width, operand)?;
+        match (width, kind) {
+            (Width::Bits64, _) => {
+                self.set(destination, kind);
+                Ok(())
+            }
+            (Width::Bits32, Kind::Num(numbers)) => {
+                self.set(destination, Kind::Num(numbers.copied(width)));
+                Ok(())
+            }
+            (Width::Bits32, _) => Err(Why::PointerArithmetic),
+        }
+    }
+
+    /// An operation that reads its destination.
+    #[inline(always)]
+    fn combine(
+        &mut self,
+        width: Width,
+        operation: Operation,
+        destination: Register,
+        operand: Operand,
+        defs: &MapDefs,
+    ) -> Result<(), Why>
+        ensures done { done_on self.new result
+            ≡ gets self.old (number destination)
+            (combined_kind defs.now self.old width operation destination operand) }
+        ensures cells { self.new.cells ≡ self.old.cells }
+    {
+        match self.kind(destination) {
+            Kind::Num(numbers) => {
+                self.combine_numbers(width, operation, destination, numbers, operand)
+            }
+            Kind::Elem(map, offsets) => match (width, operation, operand) {
+                (Width::Bits64, Operation::Add, Operand::Register(register)) => {
+                    self.advance(destination, map, offsets, register, defs)
+                }
+                _ => self.combine_any(width, operation, destination, operand, defs),
+            },
+            _ => self.combine_any(width, operation, destination, operand, defs),
+        }
+    }
+
+    /// The same where the destination has a number of these.
+    #[inline(always)]
+    fn combine_numbers(
+        &mut self,
+        width: Width,
+        operation: Operation,
+        destination: Register,
+        numbers: Numbers,
+        operand: Operand,
+    ) -> Result<(), Why>
+        ensures done { done_on self.new result
+            ≡ gets self.old (number destination)
+            (combined_with self.old width operation numbers operand) }
+        ensures cells { self.new.cells ≡ self.old.cells }
+    {
+        match operand_numbers(self, width, operand) {
+            Ok(others) => {
+                let left = numbers.computed(width, operation, others);
+                self.set(destination, Kind::Num(left));
+                Ok(())
+            }
+            Err(why) => Err(why),
+        }
+    }
+
+    /// A pointer into an element goes as far on as a register says.
+    #[inline(never)]
+    fn advance(
+        &mut self,
+        destination: Register,
+        map: u8,
+        offsets: Offsets,
+        register: Register,
+        defs: &MapDefs,
+    ) -> Result<(), Why>
+        ensures done { done_on self.new result
+            ≡ gets self.old (number destination)
+            (advanced_kind defs.now self.old map offsets register) }
+        ensures cells { self.new.cells ≡ self.old.cells }
+    {
+        match self.kind(register) {
+            Kind::Num(numbers) => {
+                let offsets = offsets.advanced(element_size(defs, map), numbers);
+                let kind = in_element(map, offsets)?;
+                self.set(destination, kind);
+                Ok(())
+            }
+            Kind::Unusable => Err(Why::UnusableRegister),
+            _ => Err(Why::PointerArithmetic),
+        }
+    }
+
+    /// The same of any kinds.
+    #[inline(never)]
+    fn combine_any(
+        &mut self,
+        width: Width,
+        operation: Operation,
+        destination: Register,
+        operand: Operand,
+        defs: &MapDefs,
+    ) -> Result<(), Why>
+        ensures done { done_on self.new result
+            ≡ gets self.old (number destination)
+            (combined_kind defs.now self.old width operation destination operand) }
+        ensures cells { self.new.cells ≡ self.old.cells }
+    {
+        let kind = combined_kind(self, width, operation, destination, operand, defs)?;
+        self.set(destination, kind);
+        Ok(())
+    }
+}
+
+/// What is known of an operand that has to be a number.
 #[inline(always)]
-pub fn binary_kind(
+#[tactic(auto, using(crate::proofs::SingleNumbers::numbers_usable))]
+fn operand_numbers(state: &AbsState, width: Width, operand: Operand) -> Result<Numbers, Why>
+    ensures { (o : Operation) → (r : Range) → combined_numbers width o r result
+        ≡ combined_with state.now width o r operand }
+{
+    match operand {
+        Operand::Immediate(k) => Ok(Numbers::single(immediate(width, k))),
+        Operand::Register(register) => numbers_of(state.kind(register)),
+    }
+}
+
+/// The single number that an operation leaves in its destination, if it is made of single numbers.
+#[inline(always)]
+#[tactic(auto, using(crate::proofs::SingleNumbers::single_moved))]
+fn single_computed(
     state: &AbsState,
     width: Width,
     operation: Operation,
     destination: Register,
     operand: Operand,
-    defs: &MapDefs,
-) -> Result<Kind, Why>
-    ensures { result ≡ binary_kind defs.now state.now width operation destination operand }
+) -> Option<u64>
+    ensures one { IfSome result (λ n. (shapes : List Shape)
+        → binary_kind shapes state.now width operation destination operand
+        ≡ Ok (Kind.Num (single n))) }
+    ensures several { result ≡ None
+        → reads_singles state.now operation destination operand ≡ false }
 {
     match operation {
-        Operation::Move => moved_kind(width, operand_kind(state, width, operand)?),
-        _ => combined_kind(state, width, operation, destination, operand, defs),
+        Operation::Move => match single_operand(state, width, operand) {
+            Some(n) => Some(low(width, n)),
+            None => None,
+        },
+        _ => single_combined(state, width, operation, destination, operand),
     }
 }
 
-/// The kind of a copy: of a number, and at 64 bits of a pointer too.
-fn moved_kind(width: Width, kind: Kind) -> Result<Kind, Why>
-    ensures { result ≡ moved_kind width kind }
+/// The single number that is made by an operation which reads its destination.
+#[inline(always)]
+#[tactic(auto, using(crate::proofs::SingleNumbers::single_combined))]
+fn single_combined(
+    state: &AbsState,
+    width: Width,
+    operation: Operation,
+    destination: Register,
+    operand: Operand,
+) -> Option<u64>
+    ensures one { IfSome result (λ n. (shapes : List Shape)
+        → combined_kind shapes state.now width operation destination operand
+        ≡ Ok (Kind.Num (single n))) }
+    ensures several { result ≡ None → (is_single_number (kind_at state.now (number destination))
+        && is_single_operand state.now operand) ≡ false }
 {
-    match (width, kind) {
-        (Width::Bits64, _) => Ok(kind),
-        (Width::Bits32, Kind::Num(numbers)) => Ok(Kind::Num(numbers.copied(width))),
-        (Width::Bits32, _) => Err(Why::PointerArithmetic),
+    let Some(a) = state.kind(destination).single() else {
+        return None;
+    };
+    match single_operand(state, width, operand) {
+        Some(b) => Some(compute(width, operation, a, b)),
+        None => None,
+    }
+}
+
+/// The operand of that width, if it is a single number.
+#[inline(always)]
+fn single_operand(state: &AbsState, width: Width, operand: Operand) -> Option<u64>
+    ensures one { IfSome result (λ n. operand_kind state.now width operand
+        ≡ Ok (Kind.Num (single n))) }
+    ensures several { result ≡ None → is_single_operand state.now operand ≡ false }
+{
+    match operand {
+        Operand::Immediate(k) => Some(immediate(width, k)),
+        Operand::Register(register) => state.kind(register).single(),
     }
 }
 
@@ -185,6 +436,7 @@ fn advanced_by(map: u8, offsets: Offsets, operand: Kind, defs: &MapDefs) -> Resu
 }
 
 /// The kind of a pointer to one of these offsets, where all of them stayed in the element.
+#[inline(always)]
 fn in_element(map: u8, offsets: Option<Offsets>) -> Result<Kind, Why>
     ensures { result ≡ in_element map offsets }
 {

@@ -42,14 +42,14 @@ impl AbsState {
     {
         match *change {
             Change::Nothing => (),
-            Change::Register(register, kind) => self.registers[register.number() as usize] = kind,
-            Change::Stored(number, cell) => self.store(usize::from(number), cell),
+            Change::Register(register, kind) => self.set(register, kind),
+            Change::Stored(number, cell) => self.write(usize::from(number), cell),
             Change::Called(answer) => self.call(answer),
         }
     }
 
     /// Writes a cell, if there is one of that number.
-    fn store(&mut self, number: usize, cell: Cell)
+    fn write(&mut self, number: usize, cell: Cell)
         ensures { self.new ≡ with_cell self.old number cell }
     {
         if number < CELLS {

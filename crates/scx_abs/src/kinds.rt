@@ -1,10 +1,12 @@
-ghost use Rattle.std.specs.Prelude.{◌≡◌, ◌+◌, ◌≤◌, true};
+ghost use Rattle.std.specs.Prelude.{◌≡◌, ◌+◌, ◌≤◌, true, false, None, IfSome};
+ghost use Rattle.scx_ranges.specs.Ranges.{single};
 ghost use Rattle.scx_abs.specs.Kinds.{join_kind};
 ghost use Rattle.scx_abs.specs.declared.kinds.Kind.TheVariants as Kind;
 ghost use Rattle.scx_abs.specs.Cells.{kind_of, held_of, cell_of, common, marked, join_pointers, join_cell};
 ghost use Rattle.scx_abs.specs.Cells.{all_written, written_in};
+ghost use Rattle.scx_abs.specs.Singles.{is_single_number};
 
-use scx_ranges::{Numbers, Offsets, Range};
+use scx_ranges::{Numbers, Offsets};
 
 /// How many bytes a cell stands for.
 pub const CELL_BYTES: usize = 8;
@@ -58,6 +60,7 @@ pub enum Cell {
 
 impl Kind {
     /// The least kind that covers both.
+    #[inline(never)]
     pub(crate) fn join(self, other: Kind) -> Kind
         ensures { result ≡ join_kind self other }
     {
@@ -70,6 +73,43 @@ impl Kind {
             Kind::Task => join_task(other),
             Kind::TaskOrNull => join_task_or_null(other),
             Kind::MapRef(map) => join_map(map, other),
+        }
+    }
+
+    /// Joins another one in.
+    #[inline(never)]
+    #[tactic(auto, using(crate::proofs::Joins::join_nothing))]
+    pub(crate) fn join_in(&mut self, other: &Kind)
+        ensures { self.new ≡ join_kind self.old other.now }
+    {
+        let kind = *self;
+        let other = *other;
+        match other {
+            Kind::Unusable => *self = Kind::Unusable,
+            _ => *self = kind.joined(other),
+        }
+    }
+
+    /// The least kind that covers both, with the join of numbers in place.
+    #[inline(always)]
+    fn joined(self, other: Kind) -> Kind
+        ensures { result ≡ join_kind self other }
+    {
+        match self {
+            Kind::Num(numbers) => join_numbers(numbers, other),
+            _ => self.join(other),
+        }
+    }
+
+    /// The number, if it is a single one.
+    #[inline(always)]
+    pub(crate) fn single(self) -> Option<u64>
+        ensures one { IfSome result (λ n. self ≡ Kind.Num (single n)) }
+        ensures several { result ≡ None → is_single_number self ≡ false }
+    {
+        match self {
+            Kind::Num(numbers) => numbers.number(),
+            _ => None,
         }
     }
 
@@ -101,7 +141,7 @@ impl Kind {
     }
 }
 
-/// Whether they are the same numbers, or pointers to the same byte of the stack.
+/// Whether they are the same numbers, or pointers to the same byte of the stack or bytes of an element.
 #[inline(always)]
 fn are_same(kind: Kind, other: Kind) -> bool
     ensures { result ≡ true → kind ≡ other }
@@ -109,6 +149,7 @@ fn are_same(kind: Kind, other: Kind) -> bool
     match kind {
         Kind::Num(numbers) => is_number_of(numbers, other),
         Kind::Stack(at) => is_stack_at(at, other),
+        Kind::Elem(map, offsets) => is_element_at(map, offsets, other),
         _ => false,
     }
 }
@@ -119,7 +160,7 @@ fn is_number_of(numbers: Numbers, kind: Kind) -> bool
     ensures { result ≡ true → Kind.Num numbers ≡ kind }
 {
     match kind {
-        Kind::Num(others) => are_same_ranges(numbers.range(), others.range()),
+        Kind::Num(others) => numbers == others,
         _ => false,
     }
 }
@@ -135,15 +176,19 @@ fn is_stack_at(at: u16, kind: Kind) -> bool
     }
 }
 
+/// Whether the kind is that of a pointer to one of these offsets in an element of that map.
 #[inline(always)]
-#[tactic(auto, using(crate::proofs::Joins::same_parts))]
-fn are_same_ranges(range: Range, other: Range) -> bool
-    ensures { result ≡ true → range ≡ other }
+fn is_element_at(map: u8, offsets: Offsets, kind: Kind) -> bool
+    ensures { result ≡ true → Kind.Elem map offsets ≡ kind }
 {
-    range.low == other.low && range.high == other.high && range.shift == other.shift
+    match kind {
+        Kind::Elem(same, others) => map == same && offsets == others,
+        _ => false,
+    }
 }
 
 /// The least kind that covers a number of these and another kind.
+#[inline(always)]
 fn join_numbers(numbers: Numbers, other: Kind) -> Kind
     ensures { result ≡ join_kind (Kind.Num numbers) other }
 {
@@ -283,6 +328,7 @@ fn common(first: [bool; CELL_BYTES], second: [bool; CELL_BYTES]) -> [bool; CELL_
 }
 
 /// The set with so many bytes from one on.
+#[inline(always)]
 pub(crate) fn marked(set: [bool; CELL_BYTES], first: usize, count: usize) -> [bool; CELL_BYTES]
     requires { first + count ≤ CELL_BYTES }
     ensures { result ≡ marked set first count }

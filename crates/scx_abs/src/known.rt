@@ -1,20 +1,29 @@
-ghost use Rattle.std.specs.Prelude.{◌≡◌};
-ghost use Rattle.scx_abs.specs.Changes.{changed};
+ghost use Rattle.std.specs.Prelude.{◌≡◌, Ok, IfOk};
+ghost use Rattle.scx_semantics.specs.Memory.{access_size, size_bytes};
+ghost use Rattle.scx_semantics.specs.Registers.{number};
+ghost use Rattle.scx_abs.specs.Changes.{changed, done_on, lowest_in};
+ghost use Rattle.scx_abs.specs.Checks.{sets};
 ghost use Rattle.scx_abs.specs.Kinds.{IsLeastCover};
-ghost use Rattle.scx_abs.specs.States.{CoversState, IsProper, start_of};
+ghost use Rattle.scx_abs.specs.Rules.{area_of, binary_kind, load_kind, store_rule};
+ghost use Rattle.scx_abs.specs.States.{CoversState, IsProper, kind_at, start_of};
 
 use crate::changes::Change;
+use crate::faults::Why;
+use crate::kinds::CELL_BYTES;
+use crate::memory::Area;
 use crate::states::{AbsState, CELLS, start};
-use scx_isa::Callback;
+use scx_isa::{Access, Callback, Operand, Operation, Register, Size, Width};
+use scx_maps::MapDefs;
+use std::alloc::{AllocError, Global};
 use std::marker::Model;
 
-/// A state that is changed in place. It knows how deep the stack was ever written, so that joins look
-/// at no more.
+/// A state that is changed in place, and handed over without being copied. It knows how deep the stack
+/// was ever written, so that joins look at no more.
 ///
 /// In a contract it is the state.
 #[derive(Drop)]
 pub struct Known {
-    state: AbsState,
+    state: Box<AbsState>,
     /// No cell below this one was ever written.
     low: usize,
 }
@@ -25,20 +34,20 @@ impl Model for Known {
 
     ghost Value = { AbsState };
 
-    ghost view = { λ k. k.state };
+    ghost view = { λ k. k.state.value };
 
-    ghost invariant = { λ k. IsBlankBelow k.low k.state };
+    ghost invariant = { λ k. IsBlankBelow k.low k.state.value };
 }
 
 impl Known {
     /// The state in which a callback begins.
-    pub fn start(callback: Callback) -> Known
-        ensures { result ≡ start_of callback }
+    pub fn start(alloc: Global, callback: Callback) -> Result<Known, AllocError>
+        ensures { IfOk result (λ known. known ≡ start_of callback) }
     {
-        Known {
-            state: start(callback),
+        Ok(Known {
+            state: Box::new(alloc, start(callback))?,
             low: CELLS,
-        }
+        })
     }
 
     /// What is known, without how deep the stack was written.
@@ -49,13 +58,13 @@ impl Known {
     }
 
     /// The same once more.
-    pub fn copy(&self) -> Known
-        ensures { result ≡ self.now }
+    pub fn copy(&self, alloc: Global) -> Result<Known, AllocError>
+        ensures { IfOk result (λ known. known ≡ self.now) }
     {
-        Known {
-            state: self.state,
+        Ok(Known {
+            state: Box::new(alloc, *self.state)?,
             low: self.low,
-        }
+        })
     }
 
     /// Becomes the other.
@@ -65,6 +74,69 @@ impl Known {
         let low = self.low.min(other.low);
         self.state.copy_from(&other.state, low);
         self.low = other.low;
+    }
+
+    /// Arithmetic, where its checks pass.
+    #[inline(always)]
+    #[tactic(auto, using(crate::proofs::Blanks::blank_same))]
+    pub fn compute(
+        &mut self,
+        width: Width,
+        operation: Operation,
+        destination: Register,
+        operand: Operand,
+        defs: &MapDefs,
+    ) -> Result<(), Why>
+        ensures { done_on self.new result
+            ≡ sets self.old (number destination)
+            (binary_kind defs.now self.old width operation destination operand) }
+    {
+        self.state
+            .compute(width, operation, destination, operand, defs)
+    }
+
+    /// A load, where its checks pass. The memory that it takes is answered.
+    #[inline(always)]
+    #[tactic(auto, using(crate::proofs::Blanks::blank_same))]
+    pub fn load(
+        &mut self,
+        access: Access,
+        destination: Register,
+        base: Register,
+        offset: i16,
+        defs: &MapDefs,
+    ) -> Result<Area, Why>
+        ensures done { done_on self.new result
+            ≡ sets self.old (number destination) (load_kind defs.now self.old access base offset) }
+        ensures area { IfOk result (λ area. area_of defs.now (kind_at self.old (number base)) offset
+            (size_bytes (access_size access)) ≡ Ok area) }
+    {
+        self.state.load(access, destination, base, offset, defs)
+    }
+
+    /// A store, where its checks pass. The memory that it takes is answered.
+    #[inline(always)]
+    #[tactic(auto, using(crate::proofs::Blanks::blank_stored))]
+    pub fn store(
+        &mut self,
+        size: Size,
+        base: Register,
+        offset: i16,
+        operand: Operand,
+        defs: &MapDefs,
+    ) -> Result<Area, Why>
+        ensures done { done_on self.new result
+            ≡ store_rule defs.now self.old size base offset operand }
+        ensures area { IfOk result (λ area. area_of defs.now (kind_at self.old (number base)) offset
+            (size_bytes size) ≡ Ok area) }
+    {
+        match self.state.store(size, base, offset, operand, defs) {
+            Ok(area) => {
+                self.low = self.low.min(lowest_in(area));
+                Ok(area)
+            }
+            Err(why) => Err(why),
+        }
     }
 
     /// Changes the state in place.
@@ -86,5 +158,16 @@ impl Known {
         let low = self.low.min(other.low);
         self.state.join_from(&other.state, low);
         self.low = low;
+    }
+}
+
+/// The lowest cell that a store there writes, or how many there are where it writes none.
+#[inline(always)]
+fn lowest_in(area: Area) -> usize
+    ensures { result ≡ lowest_in area }
+{
+    match area {
+        Area::OnStack(at) => usize::from(at) / CELL_BYTES,
+        _ => CELLS,
     }
 }

@@ -21,7 +21,7 @@ mod offsets;
 mod rules;
 mod states;
 
-pub use arithmetic::{binary_kind, extended_kind, map_kind, negated_kind, swapped_kind};
+pub use arithmetic::{extended_kind, map_kind, negated_kind, swapped_kind};
 pub use calls::called;
 pub use changes::{Change, Flow};
 pub use faults::Why;
@@ -32,7 +32,7 @@ pub use laws::{
     calls_and_null_tests_are_sound, joins_are_least, plain_rules_are_sound, rules_are_monotone,
     rules_are_sound, states_are_proper,
 };
-pub use memory::{Accessed, Area, area_of, loaded, stored};
+pub use memory::{Area, area_of};
 pub use rules::{Next, assigned, ended, transfer};
 pub use scx_isa::REGISTERS;
 pub use scx_safety::Context;

@@ -1,19 +1,24 @@
-ghost use Rattle.std.specs.Prelude.{◌≡◌, ◌+◌, ◌≤◌, Ok, IfOk};
+ghost use Rattle.std.specs.Prelude.{◌≡◌, ◌+◌, ◌<◌, ◌≤◌, Ok, IfOk, IfErr};
 ghost use Rattle.scx_semantics.specs.Registers.{number};
 ghost use Rattle.scx_semantics.specs.Memory.{size_bytes, access_size};
+ghost use Rattle.scx_ranges.specs.declared.ranges.Range.{Range};
+ghost use Rattle.scx_abs.specs.declared.kinds.Kind.TheVariants as Kind;
+ghost use Rattle.scx_abs.specs.declared.kinds.Cell.TheVariants as Cell;
+ghost use Rattle.scx_abs.specs.declared.states.AbsState.{AbsState};
 ghost use Rattle.scx_abs.specs.Areas.{IsAlignedIn};
-ghost use Rattle.scx_abs.specs.Changes.{accessed_on, went_on};
+ghost use Rattle.scx_abs.specs.Cells.{marked, written_in};
+ghost use Rattle.scx_abs.specs.Changes.{AreKept, done_on, lowest_in};
 ghost use Rattle.scx_abs.specs.Checks.{sets};
-ghost use Rattle.scx_abs.specs.States.{kind_at};
+ghost use Rattle.scx_abs.specs.States.{cell_at, kind_at, with_cell};
+ghost use Rattle.scx_abs.specs.Pieces.{kind_stored, operand_stored};
 ghost use Rattle.scx_abs.specs.Rules.{area_of, field_area, loaded_kind, kind_in, load_kind, pointer_cell, stored_cell, number_stored, stored_in, store_rule};
 
-use crate::arithmetic::{operand_kind, usable};
-use crate::changes::Change;
+use crate::arithmetic::usable;
 use crate::faults::Why;
 use crate::kinds::{CELL_BYTES, Cell, Held, Kind, all_written, marked};
 use crate::offsets::{check_offsets, element_size, offset_for};
-use crate::states::AbsState;
-use scx_arithmetic::shifted;
+use crate::states::{AbsState, CELLS};
+use scx_arithmetic::{immediate, shifted};
 use scx_isa::{Access, Field, Operand, Register, STACK_SIZE, Size, Width};
 use scx_maps::MapDefs;
 use scx_ranges::Numbers;
@@ -29,59 +34,199 @@ pub enum Area {
     InTask(Field),
 }
 
-/// What an access that passes its checks does.
-#[derive(Clone, Copy)]
-pub struct Accessed {
-    /// The memory that it takes.
-    pub area: Area,
-    pub change: Change,
-}
-
-/// What a load does. That r10 is written goes before what is wrong with the access.
-#[inline(always)]
-pub fn loaded(
-    state: &AbsState,
-    access: Access,
-    destination: Register,
-    base: Register,
-    offset: i16,
-    defs: &MapDefs,
-) -> Result<Accessed, Why>
-    ensures change { accessed_on state.now result
-        ≡ sets state.now (number destination) (load_kind defs.now state.now access base offset) }
-    ensures area { IfOk result (λ accessed. area_of defs.now (kind_at state.now (number base)) offset
-        (size_bytes (access_size access)) ≡ Ok accessed.area) }
-{
-    if destination == Register::R10 {
-        return Err(Why::WritesFrame);
+impl AbsState {
+    /// A load: the destination gets what is known of what it takes, where the checks pass, and the
+    /// memory is answered. That r10 is written goes before what is wrong with the access.
+    #[inline(always)]
+    #[tactic(auto, using(crate::proofs::Registers::frame_refused))]
+    pub(crate) fn load(
+        &mut self,
+        access: Access,
+        destination: Register,
+        base: Register,
+        offset: i16,
+        defs: &MapDefs,
+    ) -> Result<Area, Why>
+        ensures done { done_on self.new result
+            ≡ sets self.old (number destination) (load_kind defs.now self.old access base offset) }
+        ensures area { IfOk result (λ area. area_of defs.now (kind_at self.old (number base)) offset
+            (size_bytes (access_size access)) ≡ Ok area) }
+        ensures cells { self.new.cells ≡ self.old.cells }
+    {
+        if destination == Register::R10 {
+            return Err(Why::WritesFrame);
+        }
+        let base = usable(self.kind(base))?;
+        let area = area_of(base, offset, access.size(), defs)?;
+        let kind = kind_in(self, access, area)?;
+        self.set(destination, kind);
+        Ok(area)
     }
-    let base = usable(state.kind(base))?;
-    let area = area_of(base, offset, access.size(), defs)?;
-    let kind = kind_in(state, access, area)?;
-    let change = Change::Register(destination, kind);
-    Ok(Accessed { area, change })
+
+    /// A store, where the checks pass; the memory that it takes is answered. The registers are checked
+    /// first, then the address, then what is stored.
+    #[inline(always)]
+    pub(crate) fn store(
+        &mut self,
+        size: Size,
+        base: Register,
+        offset: i16,
+        operand: Operand,
+        defs: &MapDefs,
+    ) -> Result<Area, Why>
+        ensures done { done_on self.new result
+            ≡ store_rule defs.now self.old size base offset operand }
+        ensures area { IfOk result (λ area. area_of defs.now (kind_at self.old (number base)) offset
+            (size_bytes size) ≡ Ok area) }
+        ensures kept { IfOk result (λ area. AreKept (lowest_in area) self.old self.new) }
+        ensures same { IfErr result (λ why. self.new ≡ self.old) }
+    {
+        let base = usable(self.kind(base))?;
+        self.store_operand(size, base, offset, operand, defs)
+    }
+
+    /// A store to an address of that kind.
+    #[inline(always)]
+    fn store_operand(
+        &mut self,
+        size: Size,
+        base: Kind,
+        offset: i16,
+        operand: Operand,
+        defs: &MapDefs,
+    ) -> Result<Area, Why>
+        ensures done { done_on self.new result
+            ≡ operand_stored defs.now self.old size base offset operand }
+        ensures area { IfOk result (λ area. area_of defs.now base offset (size_bytes size)
+            ≡ Ok area) }
+        ensures kept { IfOk result (λ area. AreKept (lowest_in area) self.old self.new) }
+        ensures same { IfErr result (λ why. self.new ≡ self.old) }
+    {
+        match operand {
+            Operand::Immediate(k) => {
+                let kind = Kind::Num(Numbers::single(immediate(Width::Bits64, k)));
+                self.store_kind(size, base, offset, kind, defs)
+            }
+            Operand::Register(register) => {
+                let kind = usable(self.kind(register))?;
+                self.store_kind(size, base, offset, kind, defs)
+            }
+        }
+    }
+
+    /// A store of a value of that kind.
+    #[inline(always)]
+    fn store_kind(
+        &mut self,
+        size: Size,
+        base: Kind,
+        offset: i16,
+        kind: Kind,
+        defs: &MapDefs,
+    ) -> Result<Area, Why>
+        ensures done { done_on self.new result
+            ≡ kind_stored defs.now self.old size base offset kind }
+        ensures area { IfOk result (λ area. area_of defs.now base offset (size_bytes size)
+            ≡ Ok area) }
+        ensures kept { IfOk result (λ area. AreKept (lowest_in area) self.old self.new) }
+        ensures same { IfErr result (λ why. self.new ≡ self.old) }
+    {
+        let area = area_of(base, offset, size, defs)?;
+        self.store_in(size, kind, area)?;
+        Ok(area)
+    }
+
+    /// The same there.
+    #[inline(always)]
+    fn store_in(&mut self, size: Size, kind: Kind, area: Area) -> Result<(), Why>
+        requires { IsAlignedIn (size_bytes size) area }
+        ensures done { done_on self.new result ≡ stored_in self.old size kind area }
+        ensures kept { AreKept (lowest_in area) self.old self.new }
+        ensures same { IfErr result (λ why. self.new ≡ self.old) }
+    {
+        match kind {
+            Kind::Num(_) => self.store_number(size, area),
+            _ => self.store_pointer(size, kind, area),
+        }
+    }
+
+    /// A store of a number there.
+    #[inline(always)]
+    #[tactic(auto, using(crate::proofs::Bytes::fits_cell))]
+    fn store_number(&mut self, size: Size, area: Area) -> Result<(), Why>
+        requires { IsAlignedIn (size_bytes size) area }
+        ensures done { (r : Range)
+            → done_on self.new result ≡ stored_in self.old size (Kind.Num r) area }
+        ensures kept { AreKept (lowest_in area) self.old self.new }
+        ensures same { IfErr result (λ why. self.new ≡ self.old) }
+    {
+        match area {
+            Area::OnStack(at) => {
+                let at = usize::from(at);
+                self.mark(at / CELL_BYTES, size, at % CELL_BYTES);
+                Ok(())
+            }
+            Area::InElement => Ok(()),
+            Area::InTask(field) if field.is_writable() => Ok(()),
+            Area::InTask(_) => Err(Why::TaskField),
+        }
+    }
+
+    /// A number is written from that byte of a cell on.
+    #[inline(always)]
+    #[tactic(auto, using(crate::proofs::Blanks::kept_below))]
+    fn mark(&mut self, cell: usize, size: Size, byte: usize)
+        requires cell { cell < CELLS }
+        requires byte { byte + size_bytes size ≤ CELL_BYTES }
+        ensures marked { self.new ≡ with_cell self.old cell
+            (Cell.Bytes (marked (written_in (cell_at self.old cell)) byte (size_bytes size))) }
+        ensures kept { AreKept cell self.old self.new }
+    {
+        let written = self.cell(cell).written();
+        match size {
+            Size::DoubleWord => self.set_cell(cell, Cell::Bytes(marked(written, byte, CELL_BYTES))),
+            _ => {
+                let count = usize::from(size.bytes());
+                self.set_cell(cell, Cell::Bytes(marked(written, byte, count)));
+            }
+        }
+    }
+
+    /// A store of what isn't a number there.
+    #[inline(never)]
+    #[tactic(auto, using(crate::proofs::Bytes::fits_cell, crate::proofs::Blanks::kept_below))]
+    fn store_pointer(&mut self, size: Size, kind: Kind, area: Area) -> Result<(), Why>
+        requires { IsAlignedIn (size_bytes size) area }
+        ensures done { done_on self.new result ≡ stored_in self.old size kind area }
+        ensures kept { AreKept (lowest_in area) self.old self.new }
+        ensures same { IfErr result (λ why. self.new ≡ self.old) }
+    {
+        match area {
+            Area::OnStack(at) => {
+                let at = usize::from(at);
+                match stored_cell(self.cell(at / CELL_BYTES), size, at % CELL_BYTES, kind) {
+                    Ok(cell) => {
+                        self.set_cell(at / CELL_BYTES, cell);
+                        Ok(())
+                    }
+                    Err(why) => Err(why),
+                }
+            }
+            Area::InElement => check_number(kind),
+            Area::InTask(field) if field.is_writable() => check_number(kind),
+            Area::InTask(_) => Err(Why::TaskField),
+        }
+    }
 }
 
-/// What a store does. The registers are checked first, then the address, then what is stored.
-#[inline(always)]
-pub fn stored(
-    state: &AbsState,
-    size: Size,
-    base: Register,
-    offset: i16,
-    operand: Operand,
-    defs: &MapDefs,
-) -> Result<Accessed, Why>
-    ensures change { accessed_on state.now result
-        ≡ store_rule defs.now state.now size base offset operand }
-    ensures area { IfOk result (λ accessed. area_of defs.now (kind_at state.now (number base)) offset
-        (size_bytes size) ≡ Ok accessed.area) }
+/// Checks what is stored where numbers alone are.
+fn check_number(kind: Kind) -> Result<(), Why>
+    ensures { (a : AbsState) → done_on a result ≡ number_stored a kind }
 {
-    let base = usable(state.kind(base))?;
-    let kind = operand_kind(state, Width::Bits64, operand)?;
-    let area = area_of(base, offset, size, defs)?;
-    let change = stored_in(state, size, kind, area)?;
-    Ok(Accessed { area, change })
+    match kind {
+        Kind::Num(_) => Ok(()),
+        _ => Err(Why::PointerStore),
+    }
 }
 
 /// The memory that an address means, for an access of that size.
@@ -133,35 +278,6 @@ fn kind_in(state: &AbsState, access: Access, area: Area) -> Result<Kind, Why>
         Area::InElement => Ok(Kind::Num(Numbers::loaded(access))),
         Area::InTask(_) if access.is_plain() => Ok(Kind::Num(Numbers::loaded(access))),
         Area::InTask(_) => Err(Why::TaskField),
-    }
-}
-
-/// What a store there changes.
-#[inline(always)]
-#[tactic(auto, using(crate::proofs::Bytes::fits_cell))]
-fn stored_in(state: &AbsState, size: Size, kind: Kind, area: Area) -> Result<Change, Why>
-    requires { IsAlignedIn (size_bytes size) area }
-    ensures { went_on state.now result ≡ stored_in state.now size kind area }
-{
-    match area {
-        Area::OnStack(at) => {
-            let at = usize::from(at);
-            let cell = stored_cell(state.cell(at / CELL_BYTES), size, at % CELL_BYTES, kind)?;
-            Ok(Change::Stored((at / CELL_BYTES) as u8, cell))
-        }
-        Area::InElement => number_stored(state, kind),
-        Area::InTask(field) if field.is_writable() => number_stored(state, kind),
-        Area::InTask(_) => Err(Why::TaskField),
-    }
-}
-
-/// What a store changes that takes numbers alone.
-fn number_stored(state: &AbsState, kind: Kind) -> Result<Change, Why>
-    ensures { went_on state.now result ≡ number_stored state.now kind }
-{
-    match kind {
-        Kind::Num(_) => Ok(Change::Nothing),
-        _ => Err(Why::PointerStore),
     }
 }
 

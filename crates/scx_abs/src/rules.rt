@@ -1,19 +1,19 @@
-ghost use Rattle.std.specs.Prelude.{◌≡◌};
+ghost use Rattle.std.specs.Prelude.{◌≡◌, Some, None};
 ghost use Rattle.scx_semantics.specs.Registers.{number};
-ghost use Rattle.scx_abs.specs.Changes.{accessed_on, ended_on, flowed, went_on};
-ghost use Rattle.scx_abs.specs.Checks.{sets};
-ghost use Rattle.scx_abs.specs.Rules.{end_rule, rule};
+ghost use Rattle.scx_abs.specs.Changes.{ended_on, flowed, went_on};
+ghost use Rattle.scx_abs.specs.Checks.{flows, sets};
+ghost use Rattle.scx_abs.specs.Rules.{binary_kind, end_rule, load_kind, rule, store_rule};
 
-use crate::arithmetic::{binary_kind, extended_kind, map_kind, negated_kind, swapped_kind};
+use crate::arithmetic::{extended_kind, map_kind, negated_kind, swapped_kind};
 use crate::calls::called;
 use crate::changes::{Change, Flow, next_of};
 use crate::faults::Why;
 use crate::jumps::flow_of_jump;
 use crate::kinds::Kind;
-use crate::memory::{Accessed, loaded, stored};
 use crate::states::AbsState;
 use scx_arithmetic::wide_immediate;
-use scx_isa::{Insn, Register};
+use scx_isa::{Access, Insn, Operand, Operation, Register, Size, Width};
+use scx_maps::MapDefs;
 use scx_ranges::Numbers;
 use scx_safety::Context;
 
@@ -32,22 +32,10 @@ pub struct Next {
 pub fn transfer(state: &AbsState, insn: &Insn, context: &Context) -> Result<Next, Why>
     ensures { result ≡ rule context.now.defs context.now.callback insn.now state.now }
 {
-    match flow_of(state, insn, context) {
-        Ok(flow) => Ok(next_of(state, &flow)),
-        Err(why) => Err(why),
-    }
-}
-
-/// The same as what changes of the state.
-fn flow_of(state: &AbsState, insn: &Insn, context: &Context) -> Result<Flow, Why>
-    ensures { flowed state.now result
-        ≡ rule context.now.defs context.now.callback insn.now state.now }
-{
     let defs = &context.defs;
     match *insn {
         Insn::Binary(width, operation, destination, operand) => {
-            let kind = binary_kind(state, width, operation, destination, operand, defs);
-            on(state, assigned(state, destination, kind))
+            computed(state, width, operation, destination, operand, defs)
         }
         Insn::Negate(width, destination) => {
             let kind = negated_kind(state.kind(destination), width);
@@ -69,13 +57,10 @@ fn flow_of(state: &AbsState, insn: &Insn, context: &Context) -> Result<Flow, Why
             on(state, assigned(state, destination, map_kind(map, defs)))
         }
         Insn::Load(access, destination, base, offset) => {
-            on_access(
-                state,
-                loaded(state, access, destination, base, offset, defs),
-            )
+            loaded(state, access, destination, base, offset, defs)
         }
         Insn::Store(size, base, offset, operand) => {
-            on_access(state, stored(state, size, base, offset, operand, defs))
+            stored(state, size, base, offset, operand, defs)
         }
         Insn::JumpIf {
             width,
@@ -83,10 +68,81 @@ fn flow_of(state: &AbsState, insn: &Insn, context: &Context) -> Result<Flow, Why
             register,
             operand,
             ..
-        } => { flow_of_jump(state, width, comparison, register, operand) }
-        Insn::Goto(_) | Insn::GotoLong(_) => Ok(Flow::Jump(Change::Nothing)),
+        } => {
+            let flow = flow_of_jump(state, width, comparison, register, operand);
+            followed(state, flow)
+        }
+        Insn::Goto(_) | Insn::GotoLong(_) => followed(state, Ok(Flow::Jump(Change::Nothing))),
         Insn::Call(number) => on(state, called(state, number, context)),
         Insn::Exit => end(state, context),
+    }
+}
+
+/// What flows on from arithmetic.
+fn computed(
+    state: &AbsState,
+    width: Width,
+    operation: Operation,
+    destination: Register,
+    operand: Operand,
+    defs: &MapDefs,
+) -> Result<Next, Why>
+    ensures { result
+        ≡ sets state.now (number destination)
+        (binary_kind defs.now state.now width operation destination operand) }
+{
+    let mut next = *state;
+    let done = next.compute(width, operation, destination, operand, defs);
+    match done {
+        Ok(()) => Ok(goes_on(next)),
+        Err(why) => Err(why),
+    }
+}
+
+/// What flows on from a load.
+fn loaded(
+    state: &AbsState,
+    access: Access,
+    destination: Register,
+    base: Register,
+    offset: i16,
+    defs: &MapDefs,
+) -> Result<Next, Why>
+    ensures { result
+        ≡ sets state.now (number destination) (load_kind defs.now state.now access base offset) }
+{
+    let mut next = *state;
+    match next.load(access, destination, base, offset, defs) {
+        Ok(_) => Ok(goes_on(next)),
+        Err(why) => Err(why),
+    }
+}
+
+/// What flows on from a store.
+fn stored(
+    state: &AbsState,
+    size: Size,
+    base: Register,
+    offset: i16,
+    operand: Operand,
+    defs: &MapDefs,
+) -> Result<Next, Why>
+    ensures { result ≡ store_rule defs.now state.now size base offset operand }
+{
+    let mut next = *state;
+    match next.store(size, base, offset, operand, defs) {
+        Ok(_) => Ok(goes_on(next)),
+        Err(why) => Err(why),
+    }
+}
+
+/// To the next instruction alone.
+fn goes_on(state: AbsState) -> Next
+    ensures { result ≡ flows (Some state) None }
+{
+    Next {
+        on: Some(state),
+        jump: None,
     }
 }
 
@@ -107,17 +163,20 @@ pub fn assigned(
 }
 
 /// What flows on where control goes on to the next instruction alone.
-fn on(state: &AbsState, change: Result<Change, Why>) -> Result<Flow, Why>
-    ensures { flowed state.now result ≡ went_on state.now change }
+fn on(state: &AbsState, change: Result<Change, Why>) -> Result<Next, Why>
+    ensures { result ≡ went_on state.now change }
 {
-    Ok(Flow::On(change?))
+    Ok(next_of(state, &Flow::On(change?)))
 }
 
-/// The same of an access.
-fn on_access(state: &AbsState, accessed: Result<Accessed, Why>) -> Result<Flow, Why>
-    ensures { flowed state.now result ≡ accessed_on state.now accessed }
+/// What flows on, as two states.
+fn followed(state: &AbsState, flow: Result<Flow, Why>) -> Result<Next, Why>
+    ensures { result ≡ flowed state.now flow }
 {
-    Ok(Flow::On(accessed?.change))
+    match flow {
+        Ok(flow) => Ok(next_of(state, &flow)),
+        Err(why) => Err(why),
+    }
 }
 
 /// Checks the end of the program, at which the callbacks that answer a number have one in r0.
@@ -142,10 +201,9 @@ fn check_answer(kind: Kind) -> Result<(), Why>
 }
 
 /// What flows on from the end, which is nothing.
-fn end(state: &AbsState, context: &Context) -> Result<Flow, Why>
-    ensures { flowed state.now result
-        ≡ rule context.now.defs context.now.callback Insn.Exit state.now }
+fn end(state: &AbsState, context: &Context) -> Result<Next, Why>
+    ensures { result ≡ rule context.now.defs context.now.callback Insn.Exit state.now }
 {
     ended(state, context)?;
-    Ok(Flow::End)
+    Ok(next_of(state, &Flow::End))
 }

@@ -25,13 +25,21 @@ pub struct AbsState {
 
 impl AbsState {
     ghost use Rattle.scx_abs.specs.Changes.{IsBlankBelow};
-    ghost use Rattle.scx_abs.specs.States.{kind_at, cell_at};
+    ghost use Rattle.scx_abs.specs.States.{kind_at, cell_at, with_kind, with_cell};
 
     /// The kind of a register.
     pub fn kind(&self, register: Register) -> Kind
         ensures { result ≡ kind_at self.now (number register) }
     {
         self.registers[register.number() as usize]
+    }
+
+    /// The register gets a kind.
+    #[inline(always)]
+    pub(crate) fn set(&mut self, register: Register, kind: Kind)
+        ensures { self.new ≡ with_kind self.old (number register) kind }
+    {
+        self.registers[register.number() as usize] = kind;
     }
 
     /// The kind of the register of that number.
@@ -48,6 +56,15 @@ impl AbsState {
         ensures { result ≡ cell_at self.now cell }
     {
         self.cells[cell]
+    }
+
+    /// The cell of that number becomes another.
+    #[inline(always)]
+    pub(crate) fn set_cell(&mut self, number: usize, cell: Cell)
+        requires { number < CELLS }
+        ensures { self.new ≡ with_cell self.old number cell }
+    {
+        self.cells[number] = cell;
     }
 
     /// Becomes the other: below that cell nothing is known in both.
@@ -129,7 +146,7 @@ fn join_register(registers: &mut [Kind; REGISTERS], others: &[Kind; REGISTERS], 
         (slice_index_or others.now register Unusable)) }
 {
     if !registers[register].keeps(&others[register]) {
-        registers[register] = registers[register].join(others[register]);
+        registers[register].join_in(&others[register]);
     }
 }
 

@@ -285,6 +285,14 @@ module _ (indices : List (Option ℕ)) (states : List AbsState) (now : List (Opt
       (apart_freed (set indices slot None) free (length states) i (apart_left indices free (length states) slot h lt) (fresh_left indices free (length states) slot i h lt there) small)
   freed_apart free left lt h (inr e) = subst (λ l. IsApart (set indices slot None) l (length states)) (sym e) (apart_left indices free (length states) slot h lt)
 
+  -- and another state is left there
+  pub exchanged_apart : (j : ℕ) (x : AbsState) (free left : List ℕ) → slot < length indices → IsApart indices free (length states) → (left ≡ free ++ i ∷ []) ⊎ (left ≡ free) → IsApart (set indices slot None) left (length (set states j x))
+  exchanged_apart j x free left lt h pushed = subst (λ n. IsApart (set indices slot None) left n) (sym (length-set states j x)) (freed_apart free left lt h pushed)
+
+  pub exchanged_others : (x : AbsState) (free : List ℕ) → IsApart indices free (length states) → (t : ℕ) → (t ≡ slot → ⊥) → states_of (known_of (set indices slot None) (set states i x)) t ≡ states_of now t
+  exchanged_others x free h t n =
+      known_at (set indices slot None) (set states i x) t ∙ ap (λ o. state_of (set states i x) o) (get_or-set_other indices slot t None None n) ∙ sym (known_at indices (set states i x) t) ∙ joined_others free h x t n
+
 -- where memory is short the index is not among the free ones
 pub pushed_or_not : (b : Bool) (free left : List ℕ) (i : ℕ) → left ≡ (if b then free ++ i ∷ [] else free) → (left ≡ free ++ i ∷ []) ⊎ (left ≡ free)
 pushed_or_not true free left i e = inl e
@@ -293,7 +301,3 @@ pushed_or_not false free left i e = inr e
 -- a slot that was reached
 pub freed_there : (indices : List (Option ℕ)) (states : List AbsState) (slot : ℕ) → slot < length indices → states_of (known_of (set indices slot None) states) slot ≡ None
 freed_there indices states slot lt = known_at (set indices slot None) states slot ∙ ap (λ o. state_of states o) (get_or-set_same indices slot None None lt)
-
-pub freed_others : (indices : List (Option ℕ)) (states : List AbsState) (now : List (Option AbsState)) (slot : ℕ) → known_of indices states ≡ now → (t : ℕ) → (t ≡ slot → ⊥) → states_of (known_of (set indices slot None) states) t ≡ states_of now t
-freed_others indices states now slot view t n =
-    known_at (set indices slot None) states t ∙ ap (λ o. state_of states o) (get_or-set_other indices slot t None None n) ∙ sym (known_at indices states t) ∙ ap (λ l. states_of l t) view

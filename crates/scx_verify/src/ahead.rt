@@ -6,9 +6,10 @@ ghost use Rattle.scx_verify.specs.Indices.{IsKept};
 ghost use Rattle.scx_verify.specs.Pass.{IsAdded, states_of};
 
 use scx_abs::{Change, Known};
-use scx_isa::MAX_SLOTS;
+use scx_isa::{Callback, MAX_SLOTS};
 use std::alloc::{AllocError, Global};
 use std::marker::Model;
+use std::mem::swap;
 
 /// What jumps sent to the slots ahead. The states are kept apart, each for one slot at most, and
 /// written over once their slot was reached.
@@ -16,6 +17,9 @@ use std::marker::Model;
 /// In a contract it is the list of what is known of each slot so far.
 #[derive(Drop)]
 pub(crate) struct Ahead {
+    alloc: Global,
+    /// Where a state is changed that is joined into another one.
+    spare: Known,
     /// For each slot, and the end, the index of its state, if it has one.
     indices: Vec<Option<u16>>,
     states: Vec<Known>,
@@ -43,6 +47,8 @@ impl Ahead {
         ensures long { IfOk result (λ ahead. length ahead ≡ slots + 1) }
     {
         Ok(Ahead {
+            alloc,
+            spare: Known::start(alloc, Callback::Plain)?,
             indices: vec![in alloc; None; slots + 1]?,
             states: Vec::new(alloc),
             free: Vec::new(alloc),
@@ -65,9 +71,31 @@ impl Ahead {
         ensures long { length self.new ≡ length self.old }
     {
         match self.indices[slot] {
-            Some(index) => join_changed(&mut self.states[usize::from(index)], state, change),
+            Some(index) => {
+                write_over(&mut self.spare, state, change);
+                self.states[usize::from(index)].join_in(&self.spare);
+            }
             None => {
-                let index = keep(&mut self.states, &mut self.free, state, change)?;
+                let index = keep(self.alloc, &mut self.states, &mut self.free, state, change)?;
+                self.indices[slot] = Some(index);
+            }
+        }
+        Ok(())
+    }
+
+    /// Gives the state away to a slot. What is left of it is any state.
+    pub(crate) fn hand(&mut self, slot: usize, state: &mut Known) -> Result<(), AllocError>
+        requires { slot < length self.old }
+        ensures sent { OnOk result
+            (IsAdded (states_of self.old slot) (Some state.old) (states_of self.new slot)) }
+        ensures apart { OnOk result
+            ((t : ℕ) → (t ≡ slot → ⊥) → states_of self.new t ≡ states_of self.old t) }
+        ensures long { length self.new ≡ length self.old }
+    {
+        match self.indices[slot] {
+            Some(index) => self.states[usize::from(index)].join_in(state),
+            None => {
+                let index = give(self.alloc, &mut self.states, &mut self.free, state)?;
                 self.indices[slot] = Some(index);
             }
         }
@@ -106,7 +134,7 @@ impl Ahead {
         let Some(index) = self.indices[slot] else {
             return live;
         };
-        merge(&self.states[usize::from(index)], state, live);
+        merge(&mut self.states[usize::from(index)], state, live);
         self.indices[slot] = None;
         // Where memory is short it is let go.
         let _ = self.free.push(index);
@@ -114,30 +142,20 @@ impl Ahead {
     }
 }
 
-/// Joins a state that was kept into the one at hand, if there is one.
-fn merge(kept: &Known, state: &mut Known, live: bool)
-    ensures { IsAdded (Some kept.now) (if live then Some state.old else None) (Some state.new) }
+/// Joins a state that was kept into the one at hand, if there is one; else they change places.
+fn merge(kept: &mut Known, state: &mut Known, live: bool)
+    ensures { IsAdded (Some kept.old) (if live then Some state.old else None) (Some state.new) }
 {
     if live {
         state.join_in(kept);
     } else {
-        state.copy_from(kept);
+        swap(kept, state);
     }
-}
-
-/// Joins a state, changed, into one that is kept.
-fn join_changed(kept: &mut Known, state: &Known, change: &Change)
-    ensures least { IsLeastCover CoversState kept.new kept.old (changed state.now change.now) }
-    ensures proper { IsProper kept.old → IsProper (changed state.now change.now)
-        → IsProper kept.new }
-{
-    let mut sent = state.copy();
-    sent.change(change);
-    kept.join_in(&sent);
 }
 
 /// Keeps a state, changed, at an index of its own, which is the result.
 fn keep(
+    alloc: Global,
     states: &mut Vec<Known>,
     free: &mut Vec<u16>,
     state: &Known,
@@ -155,7 +173,30 @@ fn keep(
             write_over(&mut states[usize::from(index)], state, change);
             Ok(index)
         }
-        None => add(states, state, change),
+        None => add(alloc, states, state, change),
+    }
+}
+
+/// Keeps a state, which changes places with one that no slot has any more; the result is its index.
+fn give(
+    alloc: Global,
+    states: &mut Vec<Known>,
+    free: &mut Vec<u16>,
+    state: &mut Known,
+) -> Result<u16, AllocError>
+    requires { All (λ i. i < length states.old.items) free.old.items }
+    ensures kept { IfOk result (λ index.
+        IsKept states.old.items free.old.items index state.old
+        states.new.items free.new.items) }
+    ensures states { OnErr result (states.new.items ≡ states.old.items) }
+    ensures free { OnErr result (free.new.items ≡ free.old.items) }
+{
+    match free.pop() {
+        Some(index) => {
+            swap(&mut states[usize::from(index)], state);
+            Ok(index)
+        }
+        None => add(alloc, states, state, &Change::Nothing),
     }
 }
 
@@ -168,7 +209,12 @@ fn write_over(kept: &mut Known, state: &Known, change: &Change)
 }
 
 /// Keeps a state, changed, behind the others, of which there may be 65535; the result is its index.
-fn add(states: &mut Vec<Known>, state: &Known, change: &Change) -> Result<u16, AllocError>
+fn add(
+    alloc: Global,
+    states: &mut Vec<Known>,
+    state: &Known,
+    change: &Change,
+) -> Result<u16, AllocError>
     ensures index { IfOk result (λ index. index ≡ length states.old.items) }
     ensures added { OnOk result
         (states.new.items ≡ states.old.items ++ changed state.now change.now ∷ []) }
@@ -177,7 +223,7 @@ fn add(states: &mut Vec<Known>, state: &Known, change: &Change) -> Result<u16, A
     let Ok(index) = u16::try_from(states.len()) else {
         return Err(AllocError);
     };
-    let mut copy = state.copy();
+    let mut copy = state.copy(alloc)?;
     copy.change(change);
     states.push(copy)?;
     Ok(index)

@@ -23,10 +23,12 @@ returns-in-Some-clause-sent c =
     let indices = c.self.inside.indices.items in
     let states = c.self.inside.states.items in
     let now = c.args.self.now in
-    let x = c.join_changed.new.kept in
+    let x = c.join_in.new.self in
     let at = found indices states c.self.inside.free.items now c.args.slot c.from.result _ _ c.self.invariant c.self.view_is c.requires c.index.ensures (c.in-Some.is ∙ ap Some (sym c.from.ensures)) in
     let some = some_there indices states now c.args.slot c.from.result c.self.view_is at.0 c.index_mut.result.now _ at.1 c.index_mut.ensures.value in
-    (x, subst (λ o. IsMerged o (changed c.args.state.now c.args.change.now) x) (sym some) (c.join_changed.ensures.least, c.join_changed.ensures.proper), joined_there indices states now c.args.slot c.from.result c.self.view_is at.0 x at.1)
+    let a = changed c.args.state.now c.args.change.now in
+    let sent : c.write_over.new.kept ≡ a = c.write_over.ensures in
+    (x, subst (λ o. IsMerged o a x) (sym some) (subst (λ a. IsMerged (Some c.index_mut.result.now) a x) sent (c.join_in.ensures.least, c.join_in.ensures.proper)), joined_there indices states now c.args.slot c.from.result c.self.view_is at.0 x at.1)
 
 pub returns-in-Some-clause-apart : goal.returns-in-Some-clause-apart
 returns-in-Some-clause-apart c =
@@ -34,7 +36,7 @@ returns-in-Some-clause-apart c =
     let states = c.self.inside.states.items in
     let free = c.self.inside.free.items in
     let at = found indices states free c.args.self.now c.args.slot c.from.result _ _ c.self.invariant c.self.view_is c.requires c.index.ensures (c.in-Some.is ∙ ap Some (sym c.from.ensures)) in
-    joined_others indices states c.args.self.now c.args.slot c.from.result c.self.view_is at.0 free c.self.invariant c.join_changed.new.kept
+    joined_others indices states c.args.self.now c.args.slot c.from.result c.self.view_is at.0 free c.self.invariant c.join_in.new.self
 
 pub returns-in_ok-index-in-None-clause-sent : goal.returns-in_ok-index-in-None-clause-sent
 returns-in_ok-index-in-None-clause-sent c =
