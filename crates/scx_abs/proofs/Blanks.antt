@@ -10,7 +10,7 @@ use Rattle.scx_abs.specs.declared.changes.Change.{Change}
 use Rattle.scx_abs.specs.declared.changes.Change.TheVariants as change
 use Rattle.scx_abs.specs.Cells.{no_bytes, join_cell}
 use Rattle.scx_abs.specs.States.{start_of, with_cell}
-use Rattle.scx_abs.specs.Changes.{AreBlank, AreKept, IsBlankBelow, changed, lowest}
+use Rattle.scx_abs.specs.Changes.{AreBlank, AreKept, IsBlankBelow, changed}
 
 join_blank : (x y : Cell) → x ≡ Bytes no_bytes → y ≡ Bytes no_bytes → join_cell x y ≡ Bytes no_bytes
 join_blank x y e f = rw (e, f) refl
@@ -46,15 +46,11 @@ joined_blank joined xs ys low within h g each k lt = each k (omega arith) ∙ jo
 pub blank_lower : (a : AbsState) (low new : ℕ) → IsBlankBelow low a → new ≤ low → IsBlankBelow new a
 blank_lower a low new h le = record { within = omega (arith, h.within); blank = λ k lt. h.blank k (omega arith) }
 
--- a change leaves what is below the lowest cell that it writes
-pub changed_blank : (a : AbsState) (c : Change) (low new : ℕ) → IsBlankBelow low a → new ≤ low → new ≤ lowest c → IsBlankBelow new (changed a c)
-changed_blank a change.Nothing low new h le lt = blank_lower a low new h le
-changed_blank a (change.Register r k) low new h le lt = record { within = omega (arith, h.within); blank = λ j below. h.blank j (omega arith) }
-changed_blank a (change.Called k) low new h le lt = record { within = omega (arith, h.within); blank = λ j below. h.blank j (omega arith) }
-changed_blank a (change.Stored n cell) low new h le lt = record {
-  within = omega (arith, h.within);
-  blank = λ j below. get_or-set_other a.cells n j cell (Bytes []) (λ e. omega (arith, e, below)) ∙ h.blank j (omega arith);
-}
+-- a change leaves the cells
+pub changed_blank : (a : AbsState) (c : Change) (low : ℕ) → IsBlankBelow low a → IsBlankBelow low (changed a c)
+changed_blank a change.Nothing low h = h
+changed_blank a (change.Register r k) low h = record { within = h.within; blank = h.blank }
+changed_blank a (change.Called k) low h = record { within = h.within; blank = h.blank }
 
 -- a cell that is written leaves those below it
 pub kept_below : (a : AbsState) (n : ℕ) (cell : Cell) → AreKept n a (with_cell a n cell)

@@ -12,7 +12,7 @@ use Rattle.scx_abs.specs.declared.changes.Flow.{Flow}
 use Rattle.scx_abs.specs.declared.changes.Flow.TheVariants.{End, On, Jump, Both}
 use Rattle.scx_abs.specs.declared.rules.Next.{Next}
 use Rattle.scx_abs.specs.Cells.{no_bytes}
-use Rattle.scx_abs.specs.States.{cell_at, with_kind, with_cell}
+use Rattle.scx_abs.specs.States.{cell_at, with_kind}
 use Rattle.scx_abs.specs.declared.memory.Area.{Area}
 use Rattle.scx_abs.specs.declared.memory.Area.TheVariants.{OnStack}
 use Rattle.scx_abs.specs.Calls.{after_call}
@@ -21,7 +21,6 @@ use Rattle.scx_abs.specs.Checks.{flows, goes_on}
 abbrev pub changed : AbsState → Change → AbsState
 changed a change.Nothing = a
 changed a (change.Register r k) = with_kind a (number r) k
-changed a (change.Stored c cell) = with_cell a c cell
 changed a (change.Called k) = after_call a k
 
 -- what flows on from that state, changed
@@ -69,8 +68,3 @@ AreBlank low cells = (c : ℕ) → c < low → slice_index_or cells c (Bytes [])
 pub record IsBlankBelow (low : ℕ) (a : AbsState) : Type 0 where
   pub within : low ≤ 64
   pub blank : AreBlank low a.cells
-
--- the lowest cell that a change writes; 64 where it writes none
-abbrev pub lowest : Change → ℕ
-lowest (change.Stored c cell) = c
-lowest c = 64

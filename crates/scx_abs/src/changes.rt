@@ -1,19 +1,17 @@
 ghost use Rattle.std.specs.Prelude.{◌≡◌};
 ghost use Rattle.scx_abs.specs.Changes.{changed, next_of};
 
-use crate::kinds::{Cell, Kind};
+use crate::kinds::Kind;
 use crate::rules::Next;
-use crate::states::{AbsState, CELLS};
+use crate::states::AbsState;
 use scx_isa::Register;
 
-/// What changes of a state.
+/// What changes of a state's registers.
 #[derive(Clone, Copy)]
 pub enum Change {
     Nothing,
     /// The register gets that kind.
     Register(Register, Kind),
-    /// The cell of that number is written.
-    Stored(u8, Cell),
     /// A helper answered a value of that kind.
     Called(Kind),
 }
@@ -32,7 +30,6 @@ pub enum Flow {
 }
 
 impl AbsState {
-    ghost use Rattle.scx_abs.specs.States.{with_cell};
     ghost use Rattle.scx_abs.specs.Calls.{after_call};
 
     /// Changes the state in place.
@@ -43,17 +40,7 @@ impl AbsState {
         match *change {
             Change::Nothing => (),
             Change::Register(register, kind) => self.set(register, kind),
-            Change::Stored(number, cell) => self.write(usize::from(number), cell),
             Change::Called(answer) => self.call(answer),
-        }
-    }
-
-    /// Writes a cell, if there is one of that number.
-    fn write(&mut self, number: usize, cell: Cell)
-        ensures { self.new ≡ with_cell self.old number cell }
-    {
-        if number < CELLS {
-            self.cells[number] = cell;
         }
     }
 

@@ -145,9 +145,6 @@ impl Known {
         ensures { self.new ≡ changed self.old change.now }
     {
         self.state.change(change);
-        if let Change::Stored(number, _) = *change {
-            self.low = self.low.min(usize::from(number));
-        }
     }
 
     /// Joins another state in.
