@@ -28,7 +28,10 @@ pub struct Heard<'a, E, L> {
 
 impl<'a, E: Events, L: Listener> Heard<'a, E, L> {
     pub fn new(events: E, total: u32, listener: &'a mut L) -> Self
-        ensures { result.events ≡ events }
+        ensures events { result.events ≡ events }
+        ensures total { result.total ≡ total }
+        ensures same_listener { result.listener.ghost_name ≡ listener.entry.ghost_name }
+        ensures listener { result.listener.now ≡ listener.old }
     {
         Heard {
             events,
