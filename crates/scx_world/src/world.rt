@@ -294,6 +294,7 @@ impl World {
     #[tactic(auto, using(crate::proofs::Parked::all_looked_at, crate::proofs::Parked::none_free))]
     pub fn are_parked_throttled(&mut self) -> bool
         ensures throttled { result ≡ true → NobodyIsFree self.old }
+        ensures all { NobodyIsFree self.old → result ≡ true }
         ensures world { self.new ≡ self.old }
         ensures few { self.new.queues.pushes ≡ self.old.queues.pushes }
     {
@@ -305,7 +306,9 @@ impl World {
 
     /// Whether none of the parked may run again.
     fn is_nobody_free(&self) -> bool
-        ensures { result ≡ true → (t : ℕ) → t < length self.now.tasks → StaysParked self.now t }
+        ensures throttled { result ≡ true
+            → (t : ℕ) → t < length self.now.tasks → StaysParked self.now t }
+        ensures all { NobodyIsFree self.now → result ≡ true }
     {
         for task in 0..self.tasks() {
             if !self.stays_parked(task) {
@@ -317,7 +320,8 @@ impl World {
 
     /// Whether the task may not run, if it is parked.
     fn stays_parked(&self, task: u16) -> bool
-        ensures { result ≡ true → StaysParked self.now task }
+        ensures throttled { result ≡ true → StaysParked self.now task }
+        ensures all { StaysParked self.now task → result ≡ true }
     {
         self.queue_of(task) != Some(PARKED) || self.is_throttled(task)
     }

@@ -9,5 +9,5 @@ loop-task-preserved c t l =
     (λ (before : t < c.loop-task.task). c.loop-task.invariant t before)
     (λ (last : c.loop-task.task ≤ t).
     let same : c.loop-task.task ≡ t = omega (arith, last, l) in
-    subst (λ k. StaysParked c.args.self.now k) same (c.stays_parked.ensures (search rules)))
+    subst (λ k. StaysParked c.args.self.now k) same (c.stays_parked.ensures.throttled (search rules)))
     (cases_lt t c.loop-task.task)
