@@ -3,6 +3,7 @@ use Rattle.std.specs.Prelude.{ℕ, ◌+◌, ◌%◌, nat_eq, nat_le, ℤ, List, 
 use Rattle.scx_semantics.specs.declared.instructions.Operand.{Operand}
 use Rattle.scx_semantics.specs.declared.instructions.Operand.TheVariants as operand
 use Rattle.scx_semantics.specs.declared.operations.Width.{Width}
+use Rattle.scx_semantics.specs.declared.operations.Width.TheVariants.{Bits64}
 use Rattle.scx_semantics.specs.Arithmetic.{immediate}
 use Rattle.scx_semantics.specs.Registers.{number}
 use Rattle.scx_semantics.specs.Memory.{within}
@@ -38,6 +39,11 @@ usable k = Ok k
 abbrev pub operand_kind : AbsState → Width → Operand → Result Kind Why
 operand_kind a w (operand.Immediate k) = Ok (Num (single (immediate w k)))
 operand_kind a w (operand.Register r) = usable (kind_at a (number r))
+
+-- the constant that all 64 bits of a register are compared with
+abbrev pub constant_of : Width → Operand → Option ℕ
+constant_of Bits64 (operand.Immediate k) = Some (immediate Bits64 k)
+constant_of w o = None
 
 -- a register gets a kind; r10 gets none
 abbrev pub sets : AbsState → ℕ → Result Kind Why → Result Next Why

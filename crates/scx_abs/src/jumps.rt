@@ -4,7 +4,7 @@ ghost use Rattle.scx_ranges.specs.Ranges.{single};
 ghost use Rattle.scx_abs.specs.declared.changes.Change.TheVariants as Change;
 ghost use Rattle.scx_abs.specs.declared.kinds.Kind.TheVariants.{Elem, Num, Task};
 ghost use Rattle.scx_abs.specs.Changes.{changed, next_of, flowed};
-ghost use Rattle.scx_abs.specs.Checks.{flows};
+ghost use Rattle.scx_abs.specs.Checks.{flows, constant_of};
 ghost use Rattle.scx_abs.specs.States.{kind_at};
 ghost use Rattle.scx_abs.specs.Rules.{null_test, if_null, if_not_null, tested, side, sides, numbers_compared, jump_rule};
 
@@ -30,7 +30,8 @@ pub fn constant_compared(
     operand: Operand,
 ) -> Option<u64>
     requires { kind_at state.now (number register) ≡ Num numbers }
-    ensures { IfSome result (λ c. jump_rule state.now width comparison register operand
+    ensures constant { result ≡ constant_of width operand }
+    ensures sides { IfSome result (λ c. jump_rule state.now width comparison register operand
         ≡ Ok (flows (side state.now (number register) comparison false c numbers)
         (side state.now (number register) comparison true c numbers))) }
 {
