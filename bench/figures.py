@@ -1,8 +1,7 @@
-#!/usr/bin/env python3
 """How many slots a second are decoded, encoded, assembled, disassembled and verified, how many numbers of
 an array map are loaded and stored, how many pushes, pops and removals a queue takes, how many callbacks
-are verified, how many events a machine does, and how many instructions a run takes, beside plain Rust that
-does the same work.
+are verified, how many lines of a trace are written, and how many instructions an event of a machine and a
+run take, beside plain Rust that does the same work.
 
 Straight-line, branching and stack-heavy programs of 40, 400 and 4000 slots are worked on by the program of
 crates/scx_bench and by bench/plain.rs, in turn; for `asm` their text, in which jumps go to labels.
@@ -12,27 +11,34 @@ time of the best of some runs, of which the start of the process is taken off; f
 decoding, since each takes a program of its own. Two more programs that are verified load 1000 times from a
 value of 64 bytes, as far on as a number says that was masked, or tested. The callbacks are the six of
 scx_simple with one map of one element, each in its turn; to verify one counts as decoding it and verifying
-it, and to run one as a run over a host of one task. A machine has all its tasks runnable, and its
-processors and the clock tick in turn: under a policy of one queue and slices of 2 ms, and under the
-callbacks of scx_simple. Its events are counted, and beside them the callbacks that they call. The lines of
-a trace are those of such a machine under slices of 2 ms, written to /dev/null in blocks of 64 KiB by both;
-ours reads a policy and a workload file for it. Files of nearly 1 MB are read by ours alone, since plain
-Rust has no reader of TOML. The ratio is our time to that of plain Rust. Needs rustc.
+it, and to run one as a run over a host of one task. The ratio is our time to that of plain Rust.
+
+Machines are those of `scxsim run` and `scxsim report`, on policy and workload files that are made here: all
+tasks are runnable, and the processors and the clock tick in turn, under a policy of one queue and slices of
+2 ms, and under the callbacks of scx_simple. Ours and plain Rust write the same for these files, which is
+compared first. `machines` counts instructions for each tick and clock, in the difference of two lengths of
+the workload, and beside their ratio prints that of the processor times. `traces` are the lines of `run`
+that are written to /dev/null in a second. `files` of nearly 1 MB are read by ours alone, since plain Rust
+has no reader of TOML: each belongs to a run that is refused as soon as both files are read.
 
 Runs are short, so their figures are instructions of the processor, counted by callgrind: for each
 instruction of the program that is done, or for each callback. Beside ours stand two interpreters in plain
 Rust, one with a tag on each value, which tests all that could go wrong, and one over programs that were
 decoded once and that tests nothing. The work `counts` gives the same for each slot that is decoded,
 encoded, assembled, disassembled and verified, of the programs that are verified, and for each callback
-that is verified. Needs valgrind too.
+that is verified.
 
-  bench/figures.py [--only WORK] [PATH_OF_scx_bench]     (default: all work; builds scx_bench)
+  bench/figures.py [--only WORK] [--scxsim PATH] [--bench PATH]
+
+Without --only all work is done. --scxsim is bin/scxsim where none is named; scx_bench is built where none is
+named and one is needed. Wants rustc, and valgrind for what is counted.
 """
+import argparse
+import functools
 import os
 import re
 import resource
 import subprocess
-import sys
 import tempfile
 
 TOP = os.path.dirname(os.path.dirname(os.path.abspath(__file__)))
@@ -116,13 +122,10 @@ QUEUE_TIMES = {"queues_fifo": 10_000_000, "queues_vtime": 2_000_000}
 CALLBACKS = 6
 CALLBACK_TIMES = 100_000
 COUNTING_STEPS = 32  # instructions that the program that counts in a map does
-SHAPES = {"small": (1, 2), "middle": (8, 64), "large": (64, 1024)}
-ROUNDS = {"small": 2_000_000, "middle": 400_000, "large": 50_000}
-# how many ticks of a processor pass from one switch to the next, and how many callbacks that takes
-POLICIES = {"two_ms": (2, 2), "simple": (20, 4)}
-# processors, tasks, and for how many milliseconds a trace goes, which has two lines for each of both
-TRACES = {"small": (1, 2, 1_000_000), "middle": (8, 64, 625_000), "large": (64, 1024, 78_125)}
-LINES = 2
+SHAPES = {"small": (1, 2), "middle": (8, 64), "large": (64, 1024)}  # processors and tasks
+LENGTHS = (400, 800)  # milliseconds of a workload, of which each policy has whole rounds of slices
+LONG = {"small": 1_000_000, "middle": 300_000, "large": 40_000}  # for times by the clock
+LINES = 2  # of a trace under slices of 2 ms, for each processor and millisecond
 UNITS = {"decode": 10_000_000, "encode": 10_000_000, "asm": 1_000_000, "dis": 2_000_000}
 
 
@@ -151,10 +154,20 @@ def spent():
     return usage.ru_utime + usage.ru_stime
 
 
-def seconds(binary, work, path, times):
+def seconds(words, out=subprocess.PIPE, status=0):
+    """The processor time of a program that ends with that status, and what it wrote."""
     start = spent()
-    run = subprocess.run([binary, work, path, str(times)], capture_output=True, text=True, check=True)
+    run = subprocess.run(words, stdout=out, stderr=subprocess.DEVNULL)
+    assert run.returncode == status, (words, run.returncode)
     return spent() - start, run.stdout
+
+
+def counted(words, status=0):
+    """How many instructions of the processor a program takes that ends with that status."""
+    command = ["valgrind", "--tool=callgrind", "--callgrind-out-file=/dev/null", *words]
+    run = subprocess.run(command, stdout=subprocess.DEVNULL, stderr=subprocess.PIPE, text=True)
+    assert run.returncode == status, (words, run.returncode)
+    return int(re.search(r"Collected : (\d+)", run.stderr)[1])
 
 
 def build():
@@ -172,8 +185,8 @@ def compare(binaries, path, work, before, runs):
     for _ in range(runs):
         sums = []
         for i, binary in enumerate(binaries):
-            start[i] = min(start[i], seconds(binary, before[0], path, before[1])[0])
-            taken, total = seconds(binary, work[0], path, work[1])
+            start[i] = min(start[i], seconds([binary, before[0], path, str(before[1])])[0])
+            taken, total = seconds([binary, work[0], path, str(work[1])])
             best[i] = min(best[i], taken)
             sums.append(total)
         assert sums[0] == sums[1], (work, path, sums)
@@ -183,6 +196,12 @@ def compare(binaries, path, work, before, runs):
 def show(work, name, slots, units, taken):
     a, b = taken
     print("%-8s %-14s %6s %15.0f %15.0f %7.2f" % (work, name, slots, units / a, units / b, a / b), flush=True)
+
+
+def show_counts(work, name, size, counts, taken):
+    """How many instructions both take, and the ratios of these and of the times."""
+    figures = (*counts, counts[0] / counts[1], taken[0] / taken[1])
+    print("%-8s %-14s %6s %12.1f %12.1f %7.2f %8.2f" % (work, name, size, *figures), flush=True)
 
 
 def measure(work, binaries, path):
@@ -207,20 +226,29 @@ def measure_verify(binaries, path):
             show("verify", name, slots, slots, taken)
 
 
-def measure_queues(binaries):
+def measure_maps(binaries, _):
+    times = 20_000_000
+    show("maps", "add one", "", times, compare(binaries, "-", ("maps", times), ("maps", 1), 5))
+
+
+def measure_callbacks(binaries, _):
+    times = CALLBACK_TIMES
+    taken = compare(binaries, "-", ("verify_callbacks", times), ("verify_callbacks", 1), 5)
+    show("callback", "verify", "", CALLBACKS * times, taken)
+
+
+def measure_queues(binaries, _):
+    """Instructions for each call."""
     for work, times in QUEUE_TIMES.items():
         for tasks in TASKS:
+            counts = [instructions(binary, work, str(tasks), 10_000) / CALLS for binary in binaries]
             taken = compare(binaries, str(tasks), (work, times), (work, 1), 5)
-            show("queues", work.split("_")[1], tasks, CALLS * times, taken)
+            show_counts("queues", work.split("_")[1], tasks, counts, taken)
 
 
 def instructions(binary, work, path, more=100):
     """How many instructions of the processor one more piece of the work takes."""
-    counts = []
-    for times in (1, 1 + more):
-        command = ["valgrind", "--tool=callgrind", "--callgrind-out-file=/dev/null", binary, work, path, str(times)]
-        run = subprocess.run(command, capture_output=True, text=True, check=True)
-        counts.append(int(re.search(r"Collected : (\d+)", run.stderr)[1]))
+    counts = [counted([binary, work, path, str(times)]) for times in (1, 1 + more)]
     return (counts[1] - counts[0]) / more
 
 
@@ -234,7 +262,6 @@ def show_run(work, name, slots, binaries, words, path, units):
 
 
 def measure_run(binaries, path):
-    print("%-8s %-10s %6s %12s %12s %12s %8s %8s" % ("work", "program", "slots", "scxsim", "tagged", "predecoded", "ratio", "ratio"))
     for name, body in PROGRAMS.items():
         for slots in SIZES:
             with open(path, "wb") as file:
@@ -270,7 +297,6 @@ def count_verify(binaries, path, name, spelled):
 
 def measure_counts(binaries, path):
     """For each slot, and for each callback that is verified."""
-    print("%-8s %-8s %9s %9s %7s" % ("work", "program", "scxsim", "plain", "ratio"))
     for work in UNITS:
         for name in VERIFIED:
             spelled, text = verified_program(name)
@@ -284,15 +310,24 @@ def measure_counts(binaries, path):
     show_count("callback", "verify", *(instructions(binary, "verify_callbacks", "-") / CALLBACKS for binary in binaries))
 
 
-def measure_machines(binaries):
-    """Rows of events, and of callbacks, a second."""
-    for policy, (ticks, callbacks) in POLICIES.items():
-        for shape, (cpus, tasks) in SHAPES.items():
-            rounds = ROUNDS[shape]
-            taken = compare(binaries, shape, (policy, rounds), (policy, 1), 5)
-            name = "%s %s" % (policy, shape)
-            show("events", name, tasks, rounds * (cpus + 1), taken)
-            show("calls", name, tasks, rounds * cpus // ticks * callbacks, taken)
+def callbacks_of_simple():
+    """The texts of scx_simple's callbacks, without select_cpu, by the keys of a policy file."""
+    with open(os.path.join(TOP, "crates", "scx_examples", "src", "simple.rt")) as file:
+        texts = re.findall(r'pub const (\w+): &str = "([^"]*)"', file.read())
+    return {name.lower(): text for name, text in texts if name not in ("SELECT_CPU", "ENQUEUE_BY_VTIME")}
+
+
+def policies():
+    """The files: one queue and slices of 2 ms, and scx_simple."""
+    simple = callbacks_of_simple()
+    two_ms = {name: simple[name] for name in ("init", "enqueue", "dispatch")}
+    two_ms["enqueue"] = two_ms["enqueue"].replace("r3 = 20000000", "r3 = 2000000")
+    one_map = "[[map]]\nentries = 1\nvalue_size = 8\n"
+    return {"two_ms": policy(two_ms), "simple": one_map + policy(simple)}
+
+
+def policy(texts):
+    return "[code]\n" + "".join('%s = """\n%s"""\n' % item for item in texts.items())
 
 
 def workload(cpus, tasks, ms, padding=""):
@@ -301,84 +336,131 @@ def workload(cpus, tasks, ms, padding=""):
     return head + "".join("[[task]]\nname = 't%d'\ngroup = 'g'\n%s" % (n, padding) for n in range(tasks))
 
 
-def best_trace(commands, runs):
-    best = [9e9, 9e9]
-    for _ in range(runs):
-        for i, command in enumerate(commands):
-            start = spent()
-            subprocess.run(command, stdout=subprocess.DEVNULL, check=True)
-            best[i] = min(best[i], spent() - start)
-    return best
+def write(folder, name, text):
+    path = os.path.join(folder, name)
+    with open(path, "w") as file:
+        file.write(text)
+    return path
 
 
-def measure_traces(binaries, path):
+class Machines:
+    """Runs of workloads under policies, by ours and by plain Rust."""
+
+    def __init__(self, scxsim, plain, folder):
+        self.programs = [[scxsim], [plain, "simulate"]]
+        self.folder = folder
+        self.policies = {name: write(folder, name, text) for name, text in policies().items()}
+
+    def commands(self, command, policy, shape, ms):
+        """The words of a run of so many milliseconds: ours, and those of plain Rust."""
+        path = write(self.folder, "%s.%d" % (shape, ms), workload(*SHAPES[shape], ms))
+        return [[*program, command, self.policies[policy], path] for program in self.programs]
+
+    def check(self, command, policy, shape):
+        """Both have to write the same."""
+        texts = [seconds(words)[1] for words in self.commands(command, policy, shape, LENGTHS[0])]
+        assert texts[0] == texts[1], (command, policy, shape)
+
+    def counts(self, command, policy, shape):
+        """Instructions of one more millisecond."""
+        short, long = (self.commands(command, policy, shape, ms) for ms in LENGTHS)
+        return [(counted(long[i]) - counted(short[i])) / (LENGTHS[1] - LENGTHS[0]) for i in (0, 1)]
+
+    def times(self, command, policy, shape, runs=3):
+        """Seconds of so many milliseconds as a workload for times has."""
+        taken = []
+        for ms in (1, LONG[shape]):
+            commands = self.commands(command, policy, shape, ms)
+            found = [[seconds(words, subprocess.DEVNULL)[0] for words in commands] for _ in range(runs)]
+            taken.append([min(times) for times in zip(*found)])
+        return [after - before for before, after in zip(*taken)]
+
+
+def measure_machines(scxsim, plain, folder):
+    """Instructions for each event."""
+    machines = Machines(scxsim, plain, folder)
+    for command in ("report", "run"):
+        for policy in machines.policies:
+            for shape, (cpus, tasks) in SHAPES.items():
+                machines.check(command, policy, shape)
+                counts = [count / (cpus + 1) for count in machines.counts(command, policy, shape)]
+                taken = machines.times(command, policy, shape)
+                show_counts(command, "%s %s" % (policy, shape), tasks, counts, taken)
+
+
+def measure_traces(scxsim, plain, folder):
     """Lines of a trace a second."""
-    policy = os.path.join(TOP, "examples", "policies", "short_slices.toml")
-
-    def commands(shape, ms):
-        cpus, tasks, _ = TRACES[shape]
-        with open(path, "w") as file:
-            file.write(workload(cpus, tasks, ms))
-        return [binaries[0], "trace", policy, path], [binaries[1], "trace", shape, str(ms)]
-
-    for shape, (cpus, tasks, most) in TRACES.items():
-        texts = [subprocess.run(command, capture_output=True, check=True).stdout for command in commands(shape, 100)]
-        assert texts[0] == texts[1], shape
-        start = best_trace(commands(shape, 1), 3)
-        taken = best_trace(commands(shape, most), 3)
-        show("trace", shape, tasks, LINES * cpus * most, [taken[i] - start[i] for i in (0, 1)])
+    machines = Machines(scxsim, plain, folder)
+    for shape, (cpus, tasks) in SHAPES.items():
+        machines.check("run", "two_ms", shape)
+        show("trace", shape, tasks, LINES * cpus * LONG[shape], machines.times("run", "two_ms", shape))
 
 
-def measure_files(ours, path):
-    """How long reading a file of nearly 1 MB takes."""
-    line = "r0 = 7  # for people who read the program"
-    code = "".join(
-        "%s = \"\"\"\n%s\n\"\"\"\n" % (callback, "\n".join(4096 * [line]))
-        for callback in ("init", "enable", "enqueue", "dispatch", "running", "stopping")
-    )
-    files = {"policy": "[code]\n" + code, "workload": workload(64, 1024, 1000, "# " + 970 * "-" + "\n")}
-    for work, text in files.items():
-        with open(path, "w") as file:
-            file.write(text)
-        taken = min(seconds(ours, work, path, 21)[0] for _ in range(5)) - min(seconds(ours, work, path, 1)[0] for _ in range(5))
-        print("%-8s %-14s %6s %12.2f ms a file of %d bytes" % ("read", work, "", taken / 20 * 1000, len(text)), flush=True)
+def measure_files(scxsim, _, folder):
+    """How long reading a file of nearly 1 MB takes, in a run whose first callback is refused at once."""
+    line = "r0 = 7  # for people who read the program\n"
+    names = ("init", "enable", "enqueue", "dispatch", "running", "stopping")
+    small = {"policy": policy({"init": "r0 = 7\n"}), "workload": workload(1, 1, 1)}
+    large = {"policy": policy({name: MOST * line for name in names}), "workload": workload(64, 1024, 1, "# " + 970 * "-" + "\n")}
+    for work, text in large.items():
+        runs = []
+        for files in (small, small | {work: text}):
+            paths = [write(folder, name, files[name]) for name in ("policy", "workload")]
+            words = [scxsim, "report", *paths]
+            runs.append((min(seconds(words, status=1)[0] for _ in range(20)), counted(words, status=1)))
+        ms, count = ((after - before) for before, after in zip(*runs))
+        figures = (work, "", 1000 * ms, count / len(text), len(text))
+        print("read     %-14s %6s %12.2f ms, %.1f instructions a byte, a file of %d bytes" % figures, flush=True)
+
+
+def compiled_plain(folder):
+    plain = os.path.join(folder, "plain")
+    source = os.path.join(TOP, "bench", "plain.rs")
+    subprocess.run(["rustc", "-O", "--edition", "2021", "-o", plain, source], check=True)
+    return plain
+
+
+# Works of scx_bench, by what does them with it and plain Rust, and a path for a program.
+OF_BENCH = {work: functools.partial(measure, work) for work in UNITS} | {
+    "verify": measure_verify,
+    "maps": measure_maps,
+    "callbacks": measure_callbacks,
+    "queues": measure_queues,
+    "counts": measure_counts,
+    "run": measure_run,
+}
+# Works of scxsim, by what does them with it and plain Rust, and a folder for files.
+OF_SCXSIM = {"machines": measure_machines, "traces": measure_traces, "files": measure_files}
+
+
+RATES = "work     program          size scxsim a second  plain a second   ratio"
+COUNTS = "work     program          size       scxsim        plain   ratio  by time"
+HEADS = {work: RATES for work in (*UNITS, "verify", "maps", "callbacks", "traces")} | {
+    "queues": COUNTS,
+    "machines": COUNTS,
+    "counts": "work     program     scxsim     plain   ratio",
+    "run": "work     program     slots       scxsim       tagged   predecoded    ratio    ratio",
+    "files": "work     file",
+}
 
 
 def main():
-    words = sys.argv[1:]
-    only = words[1] if words[:1] == ["--only"] else None
-    words = words[2:] if only else words
-    ours = words[0] if words else build()
+    parser = argparse.ArgumentParser(description=__doc__, formatter_class=argparse.RawDescriptionHelpFormatter)
+    parser.add_argument("--only", metavar="WORK", choices=[*OF_BENCH, *OF_SCXSIM])
+    parser.add_argument("--scxsim", metavar="PATH", default=os.path.join(TOP, "bin", "scxsim"))
+    parser.add_argument("--bench", metavar="PATH")
+    words = parser.parse_args()
+    names = [words.only] if words.only else [*OF_BENCH, *OF_SCXSIM]
     with tempfile.TemporaryDirectory() as folder:
-        plain, path = os.path.join(folder, "plain"), os.path.join(folder, "program")
-        source = os.path.join(TOP, "bench", "plain.rs")
-        subprocess.run(["rustc", "-O", "--edition", "2021", "-o", plain, source], check=True)
-        if only not in ("run", "counts"):
-            print("%-8s %-14s %6s %15s %15s %7s" % ("work", "program", "size", "scxsim a second", "plain a second", "ratio"))
-        for work in UNITS:
-            if only in (None, work):
-                measure(work, [ours, plain], path)
-        if only in (None, "verify"):
-            measure_verify([ours, plain], path)
-        if only in (None, "maps"):
-            times = 20_000_000
-            show("maps", "add one", "", times, compare([ours, plain], "-", ("maps", times), ("maps", 1), 5))
-        if only in (None, "queues"):
-            measure_queues([ours, plain])
-        if only in (None, "callbacks"):
-            times = CALLBACK_TIMES
-            taken = compare([ours, plain], "-", ("verify_callbacks", times), ("verify_callbacks", 1), 5)
-            show("callback", "verify", "", CALLBACKS * times, taken)
-        if only in (None, "machines"):
-            measure_machines([ours, plain])
-        if only in (None, "traces"):
-            measure_traces([ours, plain], path)
-        if only in (None, "files"):
-            measure_files(ours, path)
-        if only in (None, "counts"):
-            measure_counts([ours, plain], path)
-        if only in (None, "run"):
-            measure_run([ours, plain], path)
+        plain, path = compiled_plain(folder), os.path.join(folder, "program")
+        bench = words.bench
+        for name in names:
+            print(HEADS[name], flush=True)
+            if name in OF_SCXSIM:
+                OF_SCXSIM[name](words.scxsim, plain, folder)
+            else:
+                bench = bench or build()
+                OF_BENCH[name]([bench, plain], path)
 
 
 main()

@@ -1,10 +1,10 @@
-//! The machine in plain Rust, as far as the benchmark needs it: tasks that wake, ticks, the clock, and the
-//! callbacks and notes that they give. The work is that of `scx_bench two_ms|simple SHAPE TIMES`.
+//! The machine in plain Rust, as far as the benchmark needs it: tasks that wake and sleep, ticks, the clock,
+//! and the callbacks and notes that they give; one group, no select_cpu. The work is that of `scxsim run` and
+//! `scxsim report`, on policy and workload files as `bench/figures.py` writes them.
 
-use crate::plain_callbacks::{Callback, Callback::*, Field, Helper, text};
+use crate::plain_callbacks::{Callback, Callback::*, Field, Helper};
 use crate::{ArrayMap, Host, Insn, Value, flow, plain_text, run_callback};
 use std::collections::VecDeque;
-use std::hint::black_box;
 use std::io::{self, BufWriter, Stdout, Write};
 
 const POLICY_END: u64 = 1 << 63;
@@ -23,29 +23,20 @@ enum What {
     Run(u16, u32),
     Stop(u16, u32),
     Idle(u32),
+    Sleep(u16),
 }
 
-/// Takes notes, and makes one number of them or writes a line for each.
+/// Takes notes, and writes a line for each if that is wanted.
 #[derive(Default)]
 struct Notes {
-    sum: u64,
     lines: Option<BufWriter<Stdout>>,
 }
 
 impl Notes {
     fn take(&mut self, clock: u64, what: What) {
         if let Some(lines) = &mut self.lines {
-            return write_line(lines, clock, what).expect("an output that takes all");
+            write_line(lines, clock, what).expect("an output that takes all");
         }
-        let number = match what {
-            What::Wake(task) => 1 + u64::from(task),
-            What::Insert(task, queue) => (2 + u64::from(task)).wrapping_add(queue),
-            What::Move(task, cpu) => 3 + u64::from(task) + u64::from(cpu),
-            What::Run(task, cpu) => 4 + u64::from(task) + u64::from(cpu),
-            What::Stop(task, cpu) => 5 + u64::from(task) + u64::from(cpu),
-            What::Idle(cpu) => 6 + u64::from(cpu),
-        };
-        self.sum = self.sum.wrapping_mul(31).wrapping_add(clock).wrapping_add(number);
     }
 }
 
@@ -63,6 +54,7 @@ fn write_line(out: &mut BufWriter<Stdout>, clock: u64, what: What) -> io::Result
         What::Run(task, cpu) => writeln!(out, "{clock} run t{task} cpu {cpu}"),
         What::Stop(task, cpu) => writeln!(out, "{clock} stop t{task} cpu {cpu}"),
         What::Idle(cpu) => writeln!(out, "{clock} idle cpu {cpu}"),
+        What::Sleep(task) => writeln!(out, "{clock} sleep t{task}"),
     }
 }
 
@@ -182,6 +174,15 @@ impl World {
         !self.locals[cpu as usize].is_empty()
     }
 
+    /// The task leaves the queue in which it waits.
+    fn leave(&mut self, task: u16) {
+        let own = self.own.iter_mut().map(|(_, queue)| queue);
+        let others = [&mut self.global, &mut self.held];
+        for queue in own.chain(others).chain(&mut self.locals) {
+            queue.retain(|other| *other != task);
+        }
+    }
+
     fn is_idle(&self, cpu: u32) -> bool {
         self.cpus[cpu as usize].is_none()
     }
@@ -291,12 +292,16 @@ impl Machine {
         false
     }
 
+    fn stop(&mut self, task: u16, cpu: u32, is_runnable: bool) {
+        self.world.note(What::Stop(task, cpu));
+        self.world.tasks[usize::from(task)].since = self.world.clock;
+        self.world.cpus[cpu as usize] = None;
+        self.call_back(Stopping, [Value::Task(task), Value::Number(is_runnable.into())], task, cpu);
+    }
+
     fn pick(&mut self, cpu: u32, before: Option<u16>) {
         if let Some(task) = before {
-            self.world.note(What::Stop(task, cpu));
-            self.world.tasks[usize::from(task)].since = self.world.clock;
-            self.world.cpus[cpu as usize] = None;
-            self.call_back(Stopping, [Value::Task(task), Value::Number(1)], task, cpu);
+            self.stop(task, cpu, true);
             self.put(task, cpu, 0);
         }
         if let Some(task) = self.world.locals[cpu as usize].pop_front() {
@@ -346,56 +351,141 @@ impl Machine {
             self.cycle(cpu, Some(task), true);
         }
     }
-}
 
-const TWO_MS: [(Callback, &str); 3] = [
-    (Init, "r1 = 0\ncall 1001\nexit\n"),
-    (Enqueue, "r4 = r2\nr2 = 0\nr3 = 2000000\ncall 1002\nexit\n"),
-    (Dispatch, "r1 = 0\ncall 1004\nexit\n"),
-];
-
-fn sizes(shape: &str) -> (u32, u16) {
-    match shape {
-        "small" => (1, 2),
-        "middle" => (8, 64),
-        _ => (64, 1024),
-    }
-}
-
-fn go_round(machine: &mut Machine, cpus: u32, tasks: u16, times: u64) {
-    for task in 0..tasks {
-        machine.wake(task);
-    }
-    for _ in 0..times {
-        for cpu in 0..cpus {
-            black_box(&mut *machine).tick(cpu);
+    fn sleep(&mut self, task: u16) {
+        self.world.note(What::Sleep(task));
+        let cpu = self.world.cpus.iter().position(|running| *running == Some(task));
+        match cpu {
+            Some(cpu) => self.stop(task, cpu as u32, false),
+            None => self.world.leave(task),
         }
+        self.world.tasks[usize::from(task)].is_runnable = false;
+        self.world.runnable -= 1;
+        if let Some(cpu) = cpu {
+            self.cycle(cpu as u32, None, true);
+        }
+    }
+}
+
+/// When a task wakes first, for how long it runs at once, if it ever sleeps, and for how long it sleeps.
+#[derive(Default)]
+struct Timing {
+    start: u64,
+    run: u64,
+    sleep: u64,
+}
+
+/// What a workload file says.
+#[derive(Default)]
+struct Workload {
+    cpus: usize,
+    ms: u64,
+    timings: Vec<Timing>,
+}
+
+impl Workload {
+    fn new(text: &str) -> Workload {
+        let mut workload = Workload::default();
+        for line in text.lines() {
+            if line == "[[task]]" {
+                workload.timings.push(Timing::default());
+            } else if let Some((key, value)) = line.split_once(" = ") {
+                workload.set(key, value);
+            }
+        }
+        workload
+    }
+
+    fn set(&mut self, key: &str, value: &str) {
+        let number = || value.parse::<u64>().expect("a number");
+        match (key, self.timings.last_mut()) {
+            ("cpus", _) => self.cpus = number() as usize,
+            ("ms", _) => self.ms = number(),
+            ("start", Some(timing)) => timing.start = number(),
+            ("run", Some(timing)) => timing.run = number(),
+            ("sleep", Some(timing)) => timing.sleep = number(),
+            _ => {}
+        }
+    }
+}
+
+/// The programs of a policy file, each of which stands between two `"""`, behind its name.
+fn programs(text: &str) -> Vec<(Callback, &str)> {
+    let pieces: Vec<&str> = text.split("\"\"\"").collect();
+    let name = |before: &str| before.lines().last().and_then(|line| line.split(' ').next().map(str::to_string));
+    pieces
+        .chunks_exact(2)
+        .map(|pair| (Callback::named(&name(pair[0]).expect("a name")).expect("a callback"), pair[1]))
+        .collect()
+}
+
+/// Gives a machine the events of a workload.
+struct Driver {
+    timings: Vec<Timing>,
+    /// When each task wakes, in milliseconds, and how long it had run then.
+    due: Vec<u64>,
+    ran: Vec<u64>,
+}
+
+impl Driver {
+    fn new(timings: Vec<Timing>) -> Driver {
+        let due = timings.iter().map(|timing| timing.start).collect();
+        let ran = vec![0; timings.len()];
+        Driver { timings, due, ran }
+    }
+
+    fn wake(&mut self, machine: &mut Machine) {
+        for task in 0..self.due.len() {
+            let facts = &machine.world.tasks[task];
+            if self.due[task] == machine.world.clock && !facts.is_runnable {
+                self.ran[task] = facts.run_ns;
+                machine.wake(task as u16);
+            }
+        }
+    }
+
+    fn sleep(&mut self, machine: &mut Machine) {
+        for (task, timing) in self.timings.iter().enumerate() {
+            let facts = &machine.world.tasks[task];
+            if timing.run != 0 && facts.is_runnable && timing.run * TICK <= facts.run_ns - self.ran[task] {
+                self.due[task] = machine.world.clock + 1 + timing.sleep;
+                machine.sleep(task as u16);
+            }
+        }
+    }
+
+    fn millisecond(&mut self, machine: &mut Machine) {
+        self.wake(machine);
+        for cpu in 0..machine.world.cpus.len() as u32 {
+            machine.tick(cpu);
+        }
+        self.sleep(machine);
         machine.world.clock += 1;
     }
 }
 
-pub fn events(policy: &str, shape: &str, times: u64) -> u64 {
-    let simple = [
-        (Init, text("INIT")),
-        (Enable, text("ENABLE")),
-        (Enqueue, text("ENQUEUE")),
-        (Dispatch, text("DISPATCH")),
-        (Running, text("RUNNING")),
-        (Stopping, text("STOPPING")),
-    ];
-    let texts: &[(Callback, &str)] = if policy == "two_ms" { &TWO_MS } else { &simple };
-    let (cpus, tasks) = sizes(shape);
-    let mut machine = Machine::new(texts, cpus as usize, tasks.into());
-    go_round(&mut machine, cpus, tasks, times);
-    let vtimes = machine.world.tasks.iter().fold(0u64, |sum, task| sum.wrapping_add(task.vtime));
-    machine.world.notes.sum.wrapping_add(vtimes)
+/// How long each task ran.
+fn write_report(machine: &Machine, out: &mut impl Write) -> io::Result<()> {
+    let runs: Vec<u64> = machine.world.tasks.iter().map(|task| task.run_ns / TICK).collect();
+    let total: u64 = runs.iter().sum();
+    for (task, run) in runs.iter().enumerate() {
+        writeln!(out, "task t{task} run {run} share {}", (10_000 * run).checked_div(total).unwrap_or(0))?;
+    }
+    writeln!(out, "total {total}\npolicy in force")
 }
 
-/// Writes the trace of slices of 2 ms.
-pub fn trace(shape: &str, times: u64) -> io::Result<()> {
-    let (cpus, tasks) = sizes(shape);
-    let mut machine = Machine::new(&TWO_MS, cpus as usize, tasks.into());
-    machine.world.notes.lines = Some(BufWriter::with_capacity(65_536, io::stdout()));
-    go_round(&mut machine, cpus, tasks, times);
+/// Writes the trace, or the report, of a workload under a policy.
+pub fn simulate(command: &str, policy: &str, workload: &str) -> io::Result<()> {
+    let Workload { cpus, ms, timings } = Workload::new(workload);
+    let mut machine = Machine::new(&programs(policy), cpus, timings.len());
+    let mut driver = Driver::new(timings);
+    let out = BufWriter::with_capacity(65_536, io::stdout());
+    let (lines, report) = if command == "run" { (Some(out), None) } else { (None, Some(out)) };
+    machine.world.notes.lines = lines;
+    (0..ms).for_each(|_| driver.millisecond(&mut machine));
+    if let Some(mut out) = report {
+        write_report(&machine, &mut out)?;
+        out.flush()?;
+    }
     machine.world.notes.lines.take().map_or(Ok(()), |mut lines| lines.flush())
 }

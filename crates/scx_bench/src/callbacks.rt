@@ -4,10 +4,10 @@
 ghost use Rattle.scx_semantics.specs.Arguments.{FitsCallback};
 ghost use Rattle.scx_vm.specs.Arguments as values;
 
-use crate::{Sum, verdict};
+use crate::{Sum, verify_times};
 use scx_asm::assemble;
 use scx_examples::{DISPATCH, ENABLE, ENQUEUE, INIT, OneTask, RUNNING, STOPPING};
-use scx_isa::{Callback, TaskId, decode, encode};
+use scx_isa::{Callback, TaskId, encode};
 use scx_maps::{MapDefs, Maps, Shape};
 use scx_run::{Core, run_on};
 use scx_verify::{Verified, verify};
@@ -75,17 +75,17 @@ pub(crate) fn verify_callbacks(alloc: Global, times: u64) -> Sum {
     Some(sum)
 }
 
-/// Each time the program is decoded anew, since `verify` takes it.
+/// Verifies a callback so many times.
 fn verify_one(alloc: Global, callback: Callback, text: &str, times: u64) -> Sum {
     let defs = MapDefs::new(&CLOCK).ok()?;
-    let assembled = assemble(alloc, text).ok()?;
-    let bytes = encode(alloc, &assembled).ok()?;
-    let mut sum = 0u64;
-    for _ in 0..times {
-        let program = decode(alloc, bytes.as_slice()).ok()?;
-        sum = sum.wrapping_add(verdict(alloc, program, callback, &defs)?);
-    }
-    Some(sum)
+    let bytes = slots_of(alloc, text)?;
+    verify_times(alloc, bytes.as_slice(), callback, &defs, times)
+}
+
+/// The raw slots that the text stands for.
+fn slots_of(alloc: Global, text: &str) -> Option<Vec<u8>> {
+    let program = assemble(alloc, text).ok()?;
+    encode(alloc, &program).ok()
 }
 
 /// Runs each callback so many times.
@@ -104,10 +104,13 @@ pub(crate) fn run_counting(alloc: Global, times: u64) -> Sum {
 
 /// Runs a callback so many times.
 fn run_one(alloc: Global, callback: Callback, text: &str, times: u64) -> Sum {
-    let defs = MapDefs::new(&CLOCK).ok()?;
-    let program = assemble(alloc, text).ok()?;
-    let verified = verify(alloc, program, callback, &defs).ok()?;
+    let verified = verified(alloc, callback, text)?;
     run_times(alloc, &verified, times)
+}
+
+fn verified(alloc: Global, callback: Callback, text: &str) -> Option<Verified> {
+    let defs = MapDefs::new(&CLOCK).ok()?;
+    verify(alloc, assemble(alloc, text).ok()?, callback, &defs).ok()
 }
 
 /// Runs a program so many times, over maps and a host of its own, which keep what a run leaves.

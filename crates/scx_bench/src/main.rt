@@ -1,16 +1,13 @@
 //! The program `scx_bench`, which does one piece of work over and over, so that `bench/figures.py` can
-//! time it: `scx_bench decode|encode|run|verify|dis FILE TIMES` on a file of raw slots, `scx_bench asm
-//! FILE TIMES` on a text, `scx_bench maps - TIMES` on an array map, `scx_bench
+//! count what it takes: `scx_bench decode|encode|run|verify|dis FILE TIMES` on a file of raw slots,
+//! `scx_bench asm FILE TIMES` on a text, `scx_bench maps - TIMES` on an array map, `scx_bench
 //! verify_callbacks|run_callbacks - TIMES` on the callbacks of scx_simple, `scx_bench run_counting - TIMES`
-//! on a program that counts in a map, `scx_bench queues_fifo|queues_vtime TASKS TIMES` on a queue,
-//! `scx_bench two_ms|simple SHAPE TIMES` on a machine, its shape being small, middle or large, and
-//! `scx_bench policy|workload FILE TIMES` on such a file. It prints a number that depends on all of the
-//! work. `scx_bench trace POLICY WORKLOAD` writes the trace of a run, and then 0.
+//! on a program that counts in a map, and `scx_bench queues_fifo|queues_vtime TASKS TIMES` on a queue. It
+//! prints a number that depends on all of the work. What machines, files and traces take is counted in
+//! `scxsim` itself.
 #![tactic(auto)]
 
 mod callbacks;
-mod files;
-mod machine;
 mod queues;
 
 ghost use Rattle.std.specs.Prelude.{◌≡◌, [], IfSome};
@@ -18,11 +15,9 @@ ghost use Rattle.scx_semantics.specs.declared.callbacks.Callback.TheVariants.{Pl
 ghost use Rattle.scx_safety.specs.Programs.{context};
 
 use crate::callbacks::{run_callbacks, run_counting, verify_callbacks};
-use crate::files::{read_policies, read_workloads, trace};
-use crate::machine::events;
 use crate::queues::{Order, go_round};
 use scx_asm::{assemble, disassemble};
-use scx_isa::{Callback, Program, decode, encode};
+use scx_isa::{Callback, decode, encode};
 use scx_maps::{MapDefs, Maps, Shape, Size};
 use scx_run::run_alone;
 use scx_verify::{Fault, Verified, verify};
@@ -47,52 +42,39 @@ fn main(rt: HostRuntime) -> ExitCode {
 }
 
 /// Does the work that the process's words name.
-fn bench<R: AllocGlobal + Env + Files + Print>(rt: &R) -> Sum {
+fn bench<R: AllocGlobal + Env + Files>(rt: &R) -> Sum {
     let words: Vec<String> = env::args(rt).ok()?.collect(rt.alloc()).ok()?;
-    let [_, work, path, times] = words.as_slice() else {
+    let [_, work, on, times] = words.as_slice() else {
         return None;
     };
-    if work.as_str() == "trace" {
-        return trace_of(rt, path.as_str(), times.as_str());
-    }
-    let times = times.as_str().parse::<u64>().ok()?;
-    match work.as_str() {
-        "maps" => counts(rt.alloc(), times),
-        "verify_callbacks" => verify_callbacks(rt.alloc(), times),
-        "run_callbacks" => run_callbacks(rt.alloc(), times),
-        "run_counting" => run_counting(rt.alloc(), times),
-        "queues_fifo" => go_round(rt.alloc(), Order::Fifo, path.as_str().parse().ok()?, times),
-        "queues_vtime" => go_round(rt.alloc(), Order::Vtime, path.as_str().parse().ok()?, times),
-        "two_ms" | "simple" => events(rt.alloc(), work.as_str(), path.as_str(), times),
-        _ => on_file(rt, work.as_str(), path.as_str(), times),
+    done(rt, work.as_str(), on.as_str(), times.as_str().parse().ok()?)
+}
+
+/// Does the work of that name so many times.
+fn done<R: AllocGlobal + Files>(rt: &R, work: &str, on: &str, times: u64) -> Sum {
+    let alloc = rt.alloc();
+    match work {
+        "maps" => counts(alloc, times),
+        "verify_callbacks" => verify_callbacks(alloc, times),
+        "run_callbacks" => run_callbacks(alloc, times),
+        "run_counting" => run_counting(alloc, times),
+        "queues_fifo" => go_round(alloc, Order::Fifo, on.parse().ok()?, times),
+        "queues_vtime" => go_round(alloc, Order::Vtime, on.parse().ok()?, times),
+        _ => on_bytes(alloc, work, read(rt, on)?.as_slice(), times),
     }
 }
 
-/// Does the work that the word names on a file.
-fn on_file<R: AllocGlobal + Files>(rt: &R, work: &str, path: &str, times: u64) -> Sum {
-    let bytes = read(rt, path)?;
+/// Does the work of that name so many times on the bytes of a file.
+fn on_bytes(alloc: Global, work: &str, bytes: &[u8], times: u64) -> Sum {
     match work {
-        "decode" => decodes(rt.alloc(), bytes.as_slice(), times),
-        "encode" => encodes(rt.alloc(), bytes.as_slice(), times),
-        "run" => runs(rt.alloc(), bytes.as_slice(), times),
-        "verify" => verifies(rt.alloc(), bytes.as_slice(), times),
-        "asm" => assembles(rt.alloc(), bytes.as_slice(), times),
-        "dis" => disassembles(rt.alloc(), bytes.as_slice(), times),
-        "policy" => read_policies(rt.alloc(), str::from_utf8(bytes.as_slice()).ok()?, times),
-        "workload" => read_workloads(rt.alloc(), str::from_utf8(bytes.as_slice()).ok()?, times),
+        "decode" => decodes(alloc, bytes, times),
+        "encode" => encodes(alloc, bytes, times),
+        "run" => runs(alloc, bytes, times),
+        "verify" => verifies(alloc, bytes, times),
+        "asm" => assembles(alloc, bytes, times),
+        "dis" => disassembles(alloc, bytes, times),
         _ => None,
     }
-}
-
-/// Writes the trace of the run that two files stand for.
-fn trace_of<R: AllocGlobal + Files + Print>(rt: &R, policy: &str, workload: &str) -> Sum {
-    let policy = read(rt, policy)?;
-    let workload = read(rt, workload)?;
-    trace(
-        rt,
-        str::from_utf8(policy.as_slice()).ok()?,
-        str::from_utf8(workload.as_slice()).ok()?,
-    )
 }
 
 fn read<R: AllocGlobal + Files>(rt: &R, path: &str) -> Option<Vec<u8>> {
@@ -144,25 +126,34 @@ fn accepted(alloc: Global, bytes: &[u8]) -> Option<Verified>
     verify(alloc, program, Callback::Plain, &MapDefs::none()).ok()
 }
 
-/// Verifies the program that the bytes spell, as init with a map of one value of 64 bytes. Each time it
-/// is decoded anew, since `verify` takes it.
+/// Verifies the program that the bytes spell, as init with a map of one value of 64 bytes.
 fn verifies(alloc: Global, bytes: &[u8], times: u64) -> Sum {
     let shapes = [Shape {
         entries: 1,
         value_size: 64,
     }];
     let defs = MapDefs::new(&shapes).ok()?;
+    verify_times(alloc, bytes, Callback::Init, &defs, times)
+}
+
+/// Verifies a program so many times. Each time it is decoded anew, since `verify` takes it.
+pub(crate) fn verify_times(
+    alloc: Global,
+    bytes: &[u8],
+    callback: Callback,
+    defs: &MapDefs,
+    times: u64,
+) -> Sum {
     let mut sum = 0u64;
     for _ in 0..times {
-        let program = decode(alloc, bytes).ok()?;
-        sum = sum.wrapping_add(verdict(alloc, program, Callback::Init, &defs)?);
+        sum = sum.wrapping_add(verdict(alloc, bytes, callback, defs)?);
     }
     Some(sum)
 }
 
-/// A number that depends on what is said of a program.
-fn verdict(alloc: Global, program: Program, callback: Callback, defs: &MapDefs) -> Sum {
-    match verify(alloc, program, callback, defs) {
+/// A number that depends on what is said of the program that the bytes spell.
+fn verdict(alloc: Global, bytes: &[u8], callback: Callback, defs: &MapDefs) -> Sum {
+    match verify(alloc, decode(alloc, bytes).ok()?, callback, defs) {
         Ok(verified) => Some(verified.instructions() as u64),
         Err(error) if matches!(error.fault, Fault::NoMemory) => None,
         Err(error) => Some(error.slot as u64),
@@ -197,10 +188,14 @@ fn counts(alloc: Global, times: u64) -> Sum {
     }];
     let defs = MapDefs::new(&shapes).ok()?;
     let mut maps = Maps::new(alloc, &defs).ok()?;
+    count_times(&mut maps, times)
+}
+
+fn count_times(maps: &mut Maps, times: u64) -> Sum {
     let mut sum = 0u64;
     for time in 0..times {
         let index = (time.wrapping_mul(40503) % 4096) as u32;
-        sum = sum.wrapping_add(count(&mut maps, index)?);
+        sum = sum.wrapping_add(count(maps, index)?);
     }
     Some(sum)
 }

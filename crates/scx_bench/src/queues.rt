@@ -33,20 +33,42 @@ fn go_round_counted<L: Ledger>(
 {
     let mut steps = Steps::<L>::new(blank);
     let mut queues = Queues::new(alloc, 1, tasks as usize).ok()?;
+    turn(&mut queues, order, tasks, times, &mut steps)
+}
+
+/// Creates the queue, and puts all tasks into it.
+fn fill<L: Ledger>(
+    queues: &mut Queues,
+    order: Order,
+    tasks: u32,
+    steps: &mut Steps<L>,
+) -> Option<()> {
     queues.create(0).ok()?;
     for task in 0..tasks {
-        push(&mut queues, order, task, u64::from(task), &mut steps)?;
+        push(queues, order, task, u64::from(task), steps)?;
     }
+    Some(())
+}
+
+/// Puts all tasks into the queue, and lets them go round that often.
+fn turn<L: Ledger>(
+    queues: &mut Queues,
+    order: Order,
+    tasks: u32,
+    times: u64,
+    steps: &mut Steps<L>,
+) -> Sum {
+    fill(queues, order, tasks, steps)?;
     let mut sum = 0u64;
     for time in 0..times {
-        let front = queues.pop(0, &mut steps)?;
-        push(&mut queues, order, front, time, &mut steps)?;
+        let front = queues.pop(0, steps)?;
+        push(queues, order, front, time, steps)?;
         let other = (time % u64::from(tasks.max(1))) as u32;
         if other as usize >= queues.tasks() {
             return None;
         }
-        queues.remove(other, &mut steps);
-        push(&mut queues, order, other, time, &mut steps)?;
+        queues.remove(other, steps);
+        push(queues, order, other, time, steps)?;
         sum = sum.wrapping_mul(31).wrapping_add(u64::from(front));
     }
     Some(sum)
