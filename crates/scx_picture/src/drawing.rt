@@ -64,7 +64,11 @@ fn draw<L: Listener, W: Out>(
         mut sim,
     } = run;
     let mut events = Heard::new(driver, workload.ms(), listener);
-    write_drawing(alloc, &workload, &mut events, &mut sim, out)
+    let written = write_drawing(alloc, &workload, &mut events, &mut sim, out);
+    drop(events);
+    drop(sim);
+    drop(workload);
+    written
 }
 
 fn write_drawing<E: Events, W: Out>(
@@ -85,7 +89,9 @@ fn write_drawing<E: Events, W: Out>(
     let Ok(mut drawing) = Drawing::new(alloc, workload) else {
         return Err(Fault::Refused(Refusal::NoMemory));
     };
-    write_sketch(sim, events, &mut drawing, workload, HEAD, END, out)?;
+    let written = write_sketch(sim, events, &mut drawing, workload, HEAD, END, out);
+    drop(drawing);
+    written?;
     Ok(true)
 }
 

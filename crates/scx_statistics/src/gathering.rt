@@ -53,20 +53,36 @@ pub(crate) fn gather<L: Listener>(
         mut sim,
     } = run;
     let mut events = Heard::new(driver, workload.ms(), listener);
-    let gathered = gather_from(alloc, &workload, &mut events, &mut sim)?;
+    let gathered = gather_from(alloc, &workload, &mut events, &mut sim);
+    drop(events);
+    drop(sim);
+    match gathered {
+        Ok(gathered) => Ok(figures_of(workload, gathered)),
+        Err(error) => {
+            drop(workload);
+            Err(error)
+        }
+    }
+}
+
+fn figures_of(workload: Workload, gathered: Gathered) -> Figures
+    ensures workload { result.workload ≡ workload }
+    ensures tasks { result.tasks ≡ gathered.tasks }
+    ensures cpus { result.cpus ≡ gathered.cpus }
+{
     let Gathered {
         tasks,
         cpus,
         groups,
         quotas,
     } = gathered;
-    Ok(Figures {
+    Figures {
         workload,
         tasks,
         cpus,
         groups,
         quotas,
-    })
+    }
 }
 
 /// The figures of a run, without its workload.

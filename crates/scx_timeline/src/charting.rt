@@ -68,7 +68,11 @@ fn write_timeline<L: Listener, W: Out>(
         mut sim,
     } = run;
     let mut events = Heard::new(driver, workload.ms(), listener);
-    write_chart(alloc, &workload, &mut events, &mut sim, out)
+    let written = write_chart(alloc, &workload, &mut events, &mut sim, out);
+    drop(events);
+    drop(sim);
+    drop(workload);
+    written
 }
 
 fn write_chart<E: Events, W: Out>(
