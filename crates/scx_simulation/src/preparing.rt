@@ -21,7 +21,7 @@ use scx_policies::{PolicyText, build, read_policy};
 use scx_sched::{NewError, Policy, Sim};
 use scx_weights::{Tree, TreeError};
 use scx_workloads::{Workload, read_workload};
-use std::alloc::Global;
+use std::alloc::{AllocError, Global};
 
 /// A run that is about to begin.
 #[derive(Drop)]
@@ -30,9 +30,6 @@ pub struct Run {
     pub driver: Driver,
     pub sim: Sim,
 }
-
-/// Gives back the memory of a run.
-pub(crate) fn let_go(_workload: Workload, _sim: Sim) {}
 
 /// The run that the texts of a policy file and of a workload file stand for.
 ///
@@ -66,13 +63,44 @@ fn begin(alloc: Global, policy: Policy, workload: Workload) -> Result<Run, Refus
         (IsStartFault policy (idle workload.groups workload.homes) workload.cpus) }
 {
     workload.is_whole();
-    let driver = Driver::new(alloc, &workload)?;
-    let sim = start(alloc, policy, &workload)?;
-    Ok(Run {
-        workload,
-        driver,
-        sim,
-    })
+    match Driver::new(alloc, &workload) {
+        Ok(driver) => begin_at(alloc, policy, workload, driver),
+        Err(AllocError) => {
+            drop(policy);
+            drop(workload);
+            Err(Refusal::NoMemory)
+        }
+    }
+}
+
+/// The run of a workload under a policy, whose events are at hand.
+fn begin_at(
+    alloc: Global,
+    policy: Policy,
+    workload: Workload,
+    driver: Driver,
+) -> Result<Run, Refusal>
+    ensures workload { IfOk result (λ run. run.workload ≡ workload) }
+    ensures driver { IfOk result (λ run. run.driver ≡ driver) }
+    ensures first { IfOk result
+        (λ run. IsFirst policy (idle workload.groups workload.homes) workload.cpus run.sim) }
+    ensures answered { OnOk result (AreAnswered
+        (start_calls policy (idle workload.groups workload.homes) workload.cpus)) }
+    ensures refused { IfErr result
+        (IsStartFault policy (idle workload.groups workload.homes) workload.cpus) }
+{
+    match start(alloc, policy, &workload) {
+        Ok(sim) => Ok(Run {
+            workload,
+            driver,
+            sim,
+        }),
+        Err(refusal) => {
+            drop(workload);
+            drop(driver);
+            Err(refusal)
+        }
+    }
 }
 
 /// The machine of a workload under a policy, before the first event.
@@ -86,8 +114,13 @@ fn start(alloc: Global, policy: Policy, workload: &Workload) -> Result<Sim, Refu
         (IsStartFault policy (idle workload.now.groups workload.now.homes) workload.now.cpus) }
 {
     workload.is_whole();
-    let tree = tree_of(alloc, workload)?;
-    machine(alloc, policy, tree, workload.cpus())
+    match tree_of(alloc, workload) {
+        Ok(tree) => machine(alloc, policy, tree, workload.cpus()),
+        Err(refusal) => {
+            drop(policy);
+            Err(refusal)
+        }
+    }
 }
 
 fn policy_in(alloc: Global, text: &str) -> Result<PolicyText, Refusal>

@@ -10,7 +10,7 @@ ghost use Rattle.scx_trace.specs.Runs.{StaysInOrder};
 ghost use Rattle.scx_simulation.specs.Runs.{IsRun, IsCause, IsOfHeadline, report_text};
 
 use crate::hearing::{Heard, Listener};
-use crate::preparing::{Run, let_go, prepare};
+use crate::preparing::{Run, prepare};
 use scx_outcomes::Fault;
 use scx_output::{Failed, Out};
 use scx_trace::{run_silently, write_report};
@@ -74,6 +74,8 @@ fn write_end<L: Listener, W: Out>(run: Run, listener: &mut L, out: &mut W) -> Re
     let mut events = Heard::new(driver, workload.ms(), listener);
     run_silently(&mut sim, &mut events);
     let written = write_report(&sim, &workload, out);
-    let_go(workload, sim);
+    drop(events);
+    drop(sim);
+    drop(workload);
     written
 }
