@@ -1,4 +1,4 @@
-ghost use Rattle.std.specs.Prelude.{◌≡◌, ◌↔◌, option_map, IsTrue, IfOk, OnOk, IfErr};
+ghost use Rattle.std.specs.Prelude.{◌≡◌, ◌↔◌, option_map, IsTrue, IfOk, OnOk, IfErr, None, IfSome};
 ghost use Rattle.scx_machine.specs.Policy.{IsTimeout, IsAs, HasMaps, AreAs, HaveMaps, IsFault, program_of, policy_of};
 
 use scx_isa::Callback;
@@ -58,20 +58,17 @@ impl Policy {
         ensures maps { OnOk result (HaveMaps defs callbacks) }
         ensures refused { IfErr result (IsFault defs timeout_ms callbacks) }
     {
-        if timeout_ms < 1 || timeout_ms > 30_000 {
-            return Err(BadPolicy::BadTimeout);
+        match fault_of(&defs, timeout_ms, &callbacks) {
+            None => Ok(Policy {
+                defs,
+                timeout_ms,
+                callbacks,
+            }),
+            Some(fault) => {
+                drop(callbacks);
+                Err(fault)
+            }
         }
-        if !are_as(&callbacks) {
-            return Err(BadPolicy::OtherCallback);
-        }
-        if !have_maps(&callbacks, &defs) {
-            return Err(BadPolicy::OtherMaps);
-        }
-        Ok(Policy {
-            defs,
-            timeout_ms,
-            callbacks,
-        })
     }
 
     /// The shapes of its maps.
@@ -107,6 +104,25 @@ impl Policy {
             Callback::Plain => None,
         }
     }
+}
+
+/// What is wrong with a policy of these programs.
+fn fault_of(defs: &MapDefs, timeout_ms: u32, callbacks: &Callbacks) -> Option<BadPolicy>
+    ensures fault { IfSome result (IsFault defs.now timeout_ms callbacks.now) }
+    ensures timeout { result ≡ None → IsTimeout timeout_ms }
+    ensures programs { result ≡ None → AreAs callbacks.now }
+    ensures maps { result ≡ None → HaveMaps defs.now callbacks.now }
+{
+    if timeout_ms < 1 || timeout_ms > 30_000 {
+        return Some(BadPolicy::BadTimeout);
+    }
+    if !are_as(callbacks) {
+        return Some(BadPolicy::OtherCallback);
+    }
+    if !have_maps(callbacks, defs) {
+        return Some(BadPolicy::OtherMaps);
+    }
+    None
 }
 
 /// Whether each program was verified as the callback whose program it is.

@@ -59,12 +59,17 @@ impl Machine {
         ensures answered_before { IfErr result (AreAnsweredBefore policy tree cpus) }
     {
         if is_bad_shape(&tree, cpus) {
+            drop(policy);
+            drop(tree);
             return Err(NewError::BadShape);
         }
         let mut machine = Machine::blank(alloc, policy, tree, cpus)?;
         match machine.begin() {
             Ok(()) => Ok(machine),
-            Err(answer) => Err(NewError::InitFailed(answer)),
+            Err(answer) => {
+                drop(machine);
+                Err(NewError::InitFailed(answer))
+            }
         }
     }
 
@@ -77,15 +82,24 @@ impl Machine {
         ensures timeout { OnOk result (IsTimeout policy.timeout_ms) }
         ensures programs { OnOk result (AreAs policy.callbacks) }
     {
-        let maps = Maps::new(alloc, policy.defs())?;
-        let mut world = World::new(alloc, tree, cpus)?;
-        world.begin_periods();
-        Ok(Machine {
-            policy,
-            maps,
-            world,
-            core: Core::new(),
-        })
+        let maps = Maps::new(alloc, policy.defs());
+        match (maps, World::new(alloc, tree, cpus)) {
+            (Ok(maps), Ok(mut world)) => {
+                world.begin_periods();
+                Ok(Machine {
+                    policy,
+                    maps,
+                    world,
+                    core: Core::new(),
+                })
+            }
+            (maps, world) => {
+                drop(policy);
+                drop(maps);
+                drop(world);
+                Err(AllocError)
+            }
+        }
     }
 
     /// Runs init, and enable of each task; where one fails, answers the number that stands for it.
