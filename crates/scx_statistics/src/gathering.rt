@@ -65,6 +65,7 @@ pub(crate) fn gather<L: Listener>(
     }
 }
 
+/// The figures with the workload that they are of.
 fn figures_of(workload: Workload, gathered: Gathered) -> Figures
     ensures workload { result.workload ≡ workload }
     ensures tasks { result.tasks ≡ gathered.tasks }

@@ -93,7 +93,9 @@ fn write_chart<E: Events, W: Out>(
     let Ok(mut chart) = Chart::new(alloc, workload) else {
         return Err(Fault::Refused(Refusal::NoMemory));
     };
-    write_sketch(sim, events, &mut chart, workload, HEAD, END, out)?;
+    let written = write_sketch(sim, events, &mut chart, workload, HEAD, END, out);
+    drop(chart);
+    written?;
     Ok(true)
 }
 
