@@ -1,6 +1,6 @@
 //! Commands that read one file and write to memory.
 
-use crate::memory::Memory;
+use crate::memory::{Memory, Way};
 use crate::same::expect_same;
 use scx_commands::{Counted, Fault, Out, asm, dis, exec, finish};
 use scx_explain::explain;
@@ -58,9 +58,14 @@ fn expect_cut<R: AllocGlobal + Abort>(
     command: Command,
     bytes: &[u8],
     written: &[u8],
-    fails_by_zero: bool,
+    has_error: bool,
 ) {
-    let mut memory = Memory::failing(rt.alloc(), 1, written.len(), fails_by_zero);
+    let way = Way {
+        most: 1,
+        fails_at: written.len(),
+        has_error,
+    };
+    let mut memory = Memory::by(rt.alloc(), way);
     let mut out = Counted::new(&mut memory);
     expect_same(rt, run(rt.alloc(), command, bytes, &mut out), 3, written);
     expect_same(rt, out.failures(), 1, "failures");
@@ -75,7 +80,7 @@ pub(crate) fn expect_cuts<R: AllocGlobal + Abort>(
     line: &[u8],
 ) {
     for fails_at in 0..line.len() {
-        expect_cut(rt, command, bytes, &line[..fails_at], false);
         expect_cut(rt, command, bytes, &line[..fails_at], true);
+        expect_cut(rt, command, bytes, &line[..fails_at], false);
     }
 }

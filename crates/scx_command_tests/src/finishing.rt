@@ -5,7 +5,7 @@ use crate::same::expect_same;
 use scx_asm::AsmFault;
 use scx_files::Cause;
 use scx_isa::{Callback, DecodeFault, Exclusion, FlowFault};
-use scx_outcomes::{Fault, Refusal, finish, write_unread};
+use scx_outcomes::{Fault, Refusal, finish};
 use scx_output::Counted;
 use scx_verify as verifier;
 use std::alloc::AllocError;
@@ -143,18 +143,5 @@ fn causes_in_files_are_named(rt: HostRuntime) -> Result<(), Fail> {
         expect_in_policy(&rt, cause, text)?;
         expect_in_workload(&rt, cause, text)?;
     }
-    Ok(())
-}
-
-#[test]
-fn an_unread_file_is_reported(rt: HostRuntime) -> Result<(), Fail> {
-    let mut memory = Memory::new(rt.alloc());
-    write_unread("some/file.bin", &mut Counted::new(&mut memory))?;
-    expect_same(
-        &rt,
-        memory.bytes.as_slice(),
-        b"failed: reading some/file.bin\n".as_slice(),
-        "written",
-    );
     Ok(())
 }

@@ -1,30 +1,35 @@
-//! Tests of the program's commands: what they write, to outputs that take all, little or nothing, and
-//! the words that name them.
+//! Tests of what no file of cases can show: outputs that fail or take little, files as large as there may be, and
+//! calls of the libraries below: the lines of refusals and of notes, how tasks wait, figures, how far a run is, and
+//! timelines as a reader of JSON sees them.
 #![tactic(auto)]
 
 #[cfg(test)]
-mod accesses;
-#[cfg(test)]
-mod checking;
+mod beginnings;
 #[cfg(test)]
 mod commands;
 #[cfg(test)]
-mod executing;
+mod failures;
 #[cfg(test)]
-mod explaining;
+mod figures;
 #[cfg(test)]
 mod finishing;
 #[cfg(test)]
-mod hints;
+mod limits;
 #[cfg(test)]
-mod listings;
+mod lines;
 #[cfg(test)]
 mod memory;
 #[cfg(test)]
-mod same;
+mod pauses;
 #[cfg(test)]
-mod sums;
+mod progress;
+#[cfg(test)]
+mod runs;
+#[cfg(test)]
+mod same;
 #[cfg(test)]
 mod texts;
 #[cfg(test)]
-mod words;
+mod timelines;
+#[cfg(test)]
+mod writers;

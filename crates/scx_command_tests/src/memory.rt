@@ -2,29 +2,51 @@ use std::alloc::Global;
 use std::io;
 use std::io::{ErrorKind, Write};
 
-/// A writer over memory that takes at most `most` bytes a call, and fails at the call `fails_at`,
-/// counted from 0: by an error, or by taking nothing.
+/// How a writer takes bytes: at most `most` a call, until it fails at the call `fails_at`, counted from 0: by an
+/// error, or by taking nothing.
+#[derive(Clone, Copy)]
+pub(crate) struct Way {
+    pub(crate) most: usize,
+    pub(crate) fails_at: usize,
+    pub(crate) has_error: bool,
+}
+
+impl Way {
+    /// It never fails.
+    pub(crate) fn taking(most: usize) -> Way {
+        Way::failing(most, usize::MAX)
+    }
+
+    /// It fails by an error.
+    pub(crate) fn failing(most: usize, fails_at: usize) -> Way {
+        Way {
+            most,
+            fails_at,
+            has_error: true,
+        }
+    }
+}
+
+/// A writer over memory.
 #[derive(Drop)]
-pub struct Memory {
-    pub bytes: Vec<u8>,
-    most: usize,
-    calls: usize,
-    fails_at: usize,
-    fails_by_zero: bool,
+pub(crate) struct Memory {
+    pub(crate) bytes: Vec<u8>,
+    /// How many times it was called.
+    pub(crate) calls: usize,
+    way: Way,
 }
 
 impl Memory {
-    pub fn new(alloc: Global) -> Self {
-        Memory::failing(alloc, usize::MAX, usize::MAX, false)
+    /// It takes all that it is given.
+    pub(crate) fn new(alloc: Global) -> Self {
+        Memory::by(alloc, Way::taking(usize::MAX))
     }
 
-    pub fn failing(alloc: Global, most: usize, fails_at: usize, fails_by_zero: bool) -> Self {
+    pub(crate) fn by(alloc: Global, way: Way) -> Self {
         Memory {
             bytes: Vec::new(alloc),
-            most,
             calls: 0,
-            fails_at,
-            fails_by_zero,
+            way,
         }
     }
 }
@@ -33,14 +55,14 @@ impl Write for Memory {
     fn write(&mut self, buf: &[u8]) -> io::Result<usize> {
         let call = self.calls;
         self.calls = call.saturating_add(1);
-        if call == self.fails_at {
-            return if self.fails_by_zero {
-                Ok(0)
-            } else {
+        if call == self.way.fails_at {
+            return if self.way.has_error {
                 Err(io::Error::from(ErrorKind::Other))
+            } else {
+                Ok(0)
             };
         }
-        let count = buf.len().min(self.most);
+        let count = buf.len().min(self.way.most);
         self.bytes.extend_from_slice(&buf[..count])?;
         Ok(count)
     }

@@ -4,11 +4,10 @@
 use crate::arrays_on_both::{ARRAYS, random_array};
 use crate::both_machines::{LINES, Random, SHAPES};
 use crate::same::expect_same;
-use crate::verdicts::program_of;
 use scx_abs::{AbsState, Context, Why, join, start, transfer};
 use scx_asm::assemble;
-use scx_examples::EXIT;
-use scx_isa::{Callback, Insn, Program, flow};
+use scx_examples::{EXIT, bytes_of};
+use scx_isa::{Callback, Insn, Program, decode, flow};
 use scx_maps::MapDefs;
 use scx_verify::{Fault, verify};
 use std::alloc::{AllocError, Global};
@@ -229,7 +228,8 @@ fn push_slots(slots: &mut Vec<u64>, body: &[u64]) -> Result<(), AllocError> {
 fn long_program(alloc: Global, body: &[u64]) -> Result<Program, Fail> {
     let mut slots = Vec::new(alloc);
     push_slots(&mut slots, body)?;
-    program_of(alloc, slots.as_slice())
+    let bytes = bytes_of(alloc, slots.as_slice())?;
+    Ok(decode(alloc, &bytes)?)
 }
 
 fn expect_accepted<R: AllocGlobal + Abort>(rt: &R, body: &[u64]) -> Result<(), Fail> {

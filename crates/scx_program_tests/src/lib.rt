@@ -1,13 +1,8 @@
-//! Tests of programs: read from bytes and texts, verified, and run. Each program of docs/VERIFIER.md
-//! stands here with its verdict.
+//! Tests of programs: read from bytes and texts, verified, run, and compared with plainer ways of doing so.
 #![tactic(auto)]
 
 #[cfg(test)]
-mod arrays;
-#[cfg(test)]
 mod arrays_on_both;
-#[cfg(test)]
-mod assembling;
 #[cfg(test)]
 mod both_machines;
 #[cfg(test)]
@@ -21,12 +16,8 @@ mod programs;
 #[cfg(test)]
 mod ranges;
 #[cfg(test)]
-mod refusals;
-#[cfg(test)]
 mod runs;
 #[cfg(test)]
 mod same;
 #[cfg(test)]
-mod verdicts;
-#[cfg(test)]
-mod verifying;
+mod telling;

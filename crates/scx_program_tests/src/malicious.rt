@@ -3,7 +3,6 @@
 //! to the same bytes.
 
 use crate::same::expect_same;
-use crate::verdicts::expect;
 use scx_asm::assemble;
 use scx_examples::{DISPATCH, ENABLE, ENQUEUE, INIT, RUNNING, STOPPING};
 use scx_isa::{Callback, decode, encode, flow};
@@ -136,33 +135,4 @@ fn any_bytes_are_judged(rt: HostRuntime) -> Result<(), Fail> {
         expect_same(&rt, is_judged(rt.alloc(), &defs, &mut state)?, true, walk);
     }
     Ok(())
-}
-
-/// Two kinds that differ are joined to what can't be read, which is no fault unless it is read.
-#[test]
-fn a_pointer_joined_with_a_number_is_unusable(rt: HostRuntime) -> Result<(), Fail> {
-    let read = "r6 = r10\nif r2 == 0 goto j\nr6 = 0\nj:\nr0 = r6\nexit";
-    let unread = "r6 = r10\nif r2 == 0 goto j\nr6 = 0\nj:\nr0 = 0\nexit";
-    expect(
-        &rt,
-        &[
-            (Callback::Enqueue, read, "verify 5 UnusableRegister at 3"),
-            (Callback::Enqueue, unread, "ok 5"),
-        ],
-    )
-}
-
-/// A program that no run of gets stuck, and that is refused, since both sides of a 32-bit comparison are
-/// followed. Of 64 bits the comparison has one side.
-#[test]
-fn a_safe_program_may_be_refused(rt: HostRuntime) -> Result<(), Fail> {
-    let skips = "r1 = 1\nif w1 != 1 goto +1\n*(u64 *)(r10 - 8) = 5\nr0 = *(u64 *)(r10 - 8)\nexit";
-    let stays = "r1 = 1\nif r1 != 1 goto +1\n*(u64 *)(r10 - 8) = 5\nr0 = *(u64 *)(r10 - 8)\nexit";
-    expect(
-        &rt,
-        &[
-            (Callback::Plain, skips, "verify 7 UnwrittenStack at 3"),
-            (Callback::Plain, stays, "ok 5"),
-        ],
-    )
 }

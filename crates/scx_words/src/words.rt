@@ -9,6 +9,8 @@ const TEXT: &str = "A file of assembler text, as docs/ASSEMBLY.md has it";
 const WORKLOAD: &str =
     "A workload file in TOML: processors, groups and tasks, as docs/FILES.md has it";
 
+const CASES: &str = "Files of cases, as docs/CASES.md has them";
+
 const POLICY: &str =
     "A policy file in TOML: programs by callback, and maps, as docs/FILES.md has it";
 
@@ -26,6 +28,8 @@ pub enum Request<'a> {
     StatsCsv { policy: &'a str, workload: &'a str },
     Timeline { policy: &'a str, workload: &'a str },
     Picture { policy: &'a str, workload: &'a str },
+    /// Of the files that the words behind the command name.
+    Cases,
 }
 
 /// What the words ask for. `clap` refuses words that name no command and no file, so there is a
@@ -50,6 +54,7 @@ fn request_of<'a>(name: &str, command: &ArgMatches<'a>) -> Option<Request<'a>> {
     match name {
         "exec" | "asm" | "dis" => request_of_file(name, command.get_str("FILE")?),
         "verify" | "explain" => request_of_policy(name, command.get_str("POLICY")?),
+        "cases" => Some(Request::Cases),
         _ => request_of_run(
             name,
             command.get_str("POLICY")?,
@@ -114,6 +119,7 @@ fn command_of<'a>(alloc: Global, form: &Form) -> Result<Command<'a>, AllocError>
         Files::Text => with_file(alloc, command, "FILE", TEXT),
         Files::Policy => with_file(alloc, command, "POLICY", POLICY),
         Files::PolicyAndWorkload => with_run(alloc, command),
+        Files::Cases => with_cases(alloc, command),
     }
 }
 
@@ -121,6 +127,16 @@ fn command_of<'a>(alloc: Global, form: &Form) -> Result<Command<'a>, AllocError>
 fn with_run<'a>(alloc: Global, command: Command<'a>) -> Result<Command<'a>, AllocError> {
     let command = with_file(alloc, command, "POLICY", POLICY)?;
     with_file(alloc, command, "WORKLOAD", WORKLOAD)
+}
+
+/// The command, which reads files of cases, one or more.
+fn with_cases<'a>(alloc: Global, command: Command<'a>) -> Result<Command<'a>, AllocError> {
+    command.arg(
+        Arg::new(alloc, "FILE")
+            .required(true)
+            .num_args(1..)
+            .help(CASES),
+    )
 }
 
 /// The command, which reads one file more.
@@ -140,6 +156,7 @@ enum Files {
     Text,
     Policy,
     PolicyAndWorkload,
+    Cases,
 }
 
 /// How a command is called, and its help.
@@ -152,7 +169,7 @@ struct Form {
 }
 
 /// The commands, as the help lists them.
-const FORMS: [Form; 11] = [
+const FORMS: [Form; 12] = [
     Form {
         name: "verify",
         files: Files::Policy,
@@ -218,5 +235,11 @@ const FORMS: [Form; 11] = [
         files: Files::Slots,
         about: "Reads raw slots, and writes their assembler text",
         example: "Example: scxsim dis examples/zero.bin\nwrites:  r0 = 0\n         exit",
+    },
+    Form {
+        name: "cases",
+        files: Files::Cases,
+        about: "Runs the commands in files of cases, and compares what they write with what stands there",
+        example: "Example: scxsim cases crates/scxsim/data/traces.txt\nprints:  each command that does something else, and last how many were run, as in\n         31 commands, 0 differ\nIts status is 1 where one differs. docs/CASES.md has the format.",
     },
 ];

@@ -1,0 +1,45 @@
+use crate::console::Console;
+use scx_commands::{Hint, hint_of_text};
+use std::io::ErrorKind;
+
+/// The bytes of the files of a run.
+#[derive(Drop)]
+pub(crate) struct RunFiles {
+    pub(crate) policy: Vec<u8>,
+    pub(crate) workload: Vec<u8>,
+}
+
+/// Why there are no bytes of a file.
+#[derive(Drop)]
+pub(crate) enum Unread<'a> {
+    NoMemory,
+    At(&'a str),
+}
+
+/// The bytes of both files of a run, of which the policy is read first.
+pub(crate) fn files_of<'a, R: Console>(
+    rt: &R,
+    policy: &'a str,
+    workload: &'a str,
+) -> Result<RunFiles, Unread<'a>> {
+    let policy = bytes_of(rt, policy)?;
+    let workload = bytes_of(rt, workload)?;
+    Ok(RunFiles { policy, workload })
+}
+
+/// What a person may have meant by a refused one of these files.
+pub(crate) fn hint_of_files(files: &RunFiles) -> Option<Hint> {
+    match hint_of_text(files.policy.as_slice()) {
+        Some(hint) => Some(hint),
+        None => hint_of_text(files.workload.as_slice()),
+    }
+}
+
+/// The bytes of the file at a path.
+pub(crate) fn bytes_of<'a, R: Console>(rt: &R, path: &'a str) -> Result<Vec<u8>, Unread<'a>> {
+    match rt.read(path) {
+        Ok(bytes) => Ok(bytes),
+        Err(error) if error.kind() == ErrorKind::OutOfMemory => Err(Unread::NoMemory),
+        Err(_) => Err(Unread::At(path)),
+    }
+}

@@ -1,0 +1,70 @@
+use crate::cases::run_files;
+use crate::console::Console;
+use crate::ending::{Ending, end_without_memory, without_hint};
+use crate::requests::run_request;
+use crate::usage::{explain_usage, write_usage};
+use clap::Error;
+use clap::error::ErrorKind as WordsErrorKind;
+use scx_commands::{Out, USAGE};
+use scx_words::{Request, read_words};
+use std::convert::AsStr;
+use std::io::ErrorKind;
+use std::rt::Env;
+use std::{env, io};
+
+/// How many words stand before the files of `cases`: the program's name and the command's.
+const WORDS_BEFORE_FILES: usize = 2;
+
+/// Does what the process's words ask for.
+pub(crate) fn run<R: AllocGlobal + Env + Console + Print, W: Out>(rt: &R, out: &mut W) -> Ending {
+    match words_of(rt) {
+        Ok(words) => run_process_words(rt, words.as_slice(), out),
+        Err(error) if error.kind() == ErrorKind::OutOfMemory => {
+            without_hint(end_without_memory(out))
+        }
+        Err(_) => without_hint(write_usage("error: a word is not UTF-8\n", out)),
+    }
+}
+
+fn words_of<R: AllocGlobal + Env>(rt: &R) -> io::Result<Vec<String>> {
+    Ok(env::args(rt)?.collect(rt.alloc())?)
+}
+
+fn run_process_words<R: AllocGlobal + Console + Print, W: Out>(
+    rt: &R,
+    words: &[String],
+    out: &mut W,
+) -> Ending {
+    match read_words(rt.alloc(), words) {
+        Ok(Some(Request::Cases)) => match words.get(WORDS_BEFORE_FILES..) {
+            Some(files) => run_files(rt, files, out),
+            None => without_hint(USAGE),
+        },
+        read => run_read(rt, read, out),
+    }
+}
+
+/// Does what the words of a command in a file of cases ask for, of which the first names the program.
+pub(crate) fn run_words<R: AllocGlobal + Console, S: AsStr, W: Out>(
+    rt: &R,
+    words: &[S],
+    out: &mut W,
+) -> Ending {
+    run_read(rt, read_words(rt.alloc(), words), out)
+}
+
+/// Does what was read of the words.
+fn run_read<R: AllocGlobal + Console, W: Out>(
+    rt: &R,
+    read: Result<Option<Request<'_>>, Error>,
+    out: &mut W,
+) -> Ending {
+    match read {
+        Ok(Some(request)) => run_request(rt, request, out),
+        Ok(None) => without_hint(USAGE),
+        Err(error) if error.kind() == WordsErrorKind::OutOfMemory => {
+            without_hint(end_without_memory(out))
+        }
+        Err(error) => without_hint(explain_usage(rt.alloc(), &error, out)),
+    }
+}

@@ -1,0 +1,27 @@
+ghost use Rattle.std.specs.Prelude.{◌≡◌, ◌⊎◌};
+ghost use Rattle.std.specs.Io.KnownBytes.{Appends};
+ghost use Rattle.scx_output.specs.Output.{HasFailed};
+
+use crate::ending::end_without_memory;
+use scx_commands::{FAILED, Out, USAGE, write_all};
+use std::alloc::Global;
+
+/// Writes why `clap` refused the words, or the help that they ask for.
+pub(crate) fn explain_usage<W: Out>(alloc: Global, error: &clap::Error, out: &mut W) -> u8 {
+    match error.to_string(alloc) {
+        Ok(text) => write_usage(text.as_str(), out),
+        Err(_) => end_without_memory(out),
+    }
+}
+
+pub(crate) fn write_usage<W: Out>(text: &str, out: &mut W) -> u8
+    ensures status { (result ≡ USAGE) ⊎ (result ≡ FAILED) }
+    ensures written { result ≡ USAGE → Appends (W.contents out.old) (W.contents out.new) text.now }
+    ensures failed { result ≡ FAILED
+        → HasFailed (W.failure_count out.old) (W.failure_count out.new) }
+{
+    match write_all(out, text.as_bytes()) {
+        Ok(()) => USAGE,
+        Err(_) => FAILED,
+    }
+}
