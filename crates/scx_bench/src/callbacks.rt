@@ -4,13 +4,13 @@
 ghost use Rattle.scx_semantics.specs.Arguments.{FitsCallback};
 ghost use Rattle.scx_vm.specs.Arguments as values;
 
-use crate::{Sum, verify_times};
-use scx_asm::assemble;
+use crate::Sum;
+use crate::programs::{accepted, assembled, encoded, verify_times};
 use scx_examples::{DISPATCH, ENABLE, ENQUEUE, INIT, OneTask, RUNNING, STOPPING};
-use scx_isa::{Callback, TaskId, encode};
-use scx_maps::{MapDefs, Maps, Shape};
+use scx_isa::{Callback, TaskId};
+use scx_maps::{Maps, Shape};
 use scx_run::{Core, run_on};
-use scx_verify::{Verified, verify};
+use scx_verify::Verified;
 use scx_vm::{Arg, Args};
 use std::alloc::Global;
 
@@ -77,15 +77,14 @@ pub(crate) fn verify_callbacks(alloc: Global, times: u64) -> Sum {
 
 /// Verifies a callback so many times.
 fn verify_one(alloc: Global, callback: Callback, text: &str, times: u64) -> Sum {
-    let defs = MapDefs::new(&CLOCK).ok()?;
     let bytes = slots_of(alloc, text)?;
-    verify_times(alloc, bytes.as_slice(), callback, &defs, times)
+    verify_times(alloc, bytes.as_slice(), callback, &CLOCK, times)
 }
 
 /// The raw slots that the text stands for.
 fn slots_of(alloc: Global, text: &str) -> Option<Vec<u8>> {
-    let program = assemble(alloc, text).ok()?;
-    encode(alloc, &program).ok()
+    let program = assembled(alloc, text)?;
+    encoded(alloc, &program)
 }
 
 /// Runs each callback so many times.
@@ -104,13 +103,9 @@ pub(crate) fn run_counting(alloc: Global, times: u64) -> Sum {
 
 /// Runs a callback so many times.
 fn run_one(alloc: Global, callback: Callback, text: &str, times: u64) -> Sum {
-    let verified = verified(alloc, callback, text)?;
+    let program = assembled(alloc, text)?;
+    let verified = accepted(alloc, program, callback, &CLOCK)?;
     run_times(alloc, &verified, times)
-}
-
-fn verified(alloc: Global, callback: Callback, text: &str) -> Option<Verified> {
-    let defs = MapDefs::new(&CLOCK).ok()?;
-    verify(alloc, assemble(alloc, text).ok()?, callback, &defs).ok()
 }
 
 /// Runs a program so many times, over maps and a host of its own, which keep what a run leaves.

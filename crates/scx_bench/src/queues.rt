@@ -16,7 +16,8 @@ pub enum Order {
 }
 
 /// Goes round that often with so many tasks: a pop, a removal and two pushes a time.
-pub fn go_round(alloc: Global, order: Order, tasks: u32, times: u64) -> Sum {
+pub fn go_round(alloc: Global, order: Order, tasks: &str, times: u64) -> Sum {
+    let tasks = tasks.parse().ok()?;
     go_round_counted::<Brand>(alloc, order, tasks, times, Blank::new(1))
 }
 
