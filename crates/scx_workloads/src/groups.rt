@@ -1,5 +1,5 @@
 //! The groups of a workload file.
-ghost use Rattle.std.specs.Prelude.{◌≡◌, ◌+◌, ◌<◌, ◌≤◌, ◌++◌, ◌∷◌, [], None, Some, codes, length, IfOk, IfErr};
+ghost use Rattle.std.specs.Prelude.{◌≡◌, ◌+◌, ◌<◌, ◌≤◌, ◌++◌, ◌∷◌, [], None, Some, codes, length, IfOk, OnOk, IfErr};
 ghost use Rattle.toml.specs.View.{view, table_view, items_view};
 ghost use Rattle.scx_files.specs.declared.fault.LoadError.TheVariants.{NoMemory};
 ghost use Rattle.scx_files.specs.Faults.{Gives};
@@ -14,7 +14,7 @@ use crate::elements::{index_of, integer_or, some_elements};
 use crate::limit::read_limit;
 use scx_files::{Cause, Limits, LoadError, Section, element_path, refused};
 use scx_weights::{Group, MAX_GROUPS, MAX_WEIGHT};
-use std::alloc::{AllocError, Global};
+use std::alloc::Global;
 use std::marker::Model;
 use toml::Value;
 
@@ -53,19 +53,28 @@ impl Groups {
         ensures { Gives (λ g. g) result (groups_in (table_view file.entry.table.now)) }
     {
         let values = some_elements(alloc, file, "group", MAX_GROUPS)?;
-        Groups::read_all(alloc, values)
+        let mut groups = Groups::none(alloc);
+        match groups.push_all(alloc, values) {
+            Ok(()) => Ok(groups),
+            Err(error) => {
+                drop(groups);
+                Err(error)
+            }
+        }
     }
 
+    /// Adds the groups that elements say, behind none.
     #[tactic(auto, using(crate::proofs::Each::goes_on, crate::proofs::Each::ends, crate::proofs::Each::is_done))]
-    fn read_all(alloc: Global, values: &[Value]) -> Result<Groups, LoadError>
-        requires { length values.now ≤ 256 }
-        ensures { Gives (λ g. g) result (fold_from group_at no_groups 0 (items_view values.now)) }
+    fn push_all(&mut self, alloc: Global, values: &[Value]) -> Result<(), LoadError>
+        requires none { self.old ≡ no_groups }
+        requires few { length values.now ≤ 256 }
+        ensures { Gives (λ _. self.new) result
+            (fold_from group_at no_groups 0 (items_view values.now)) }
     {
-        let mut groups = Groups::none(alloc);
         for (number, value) in values.iter().enumerate() {
-            groups = groups.with_element(alloc, number, value)?;
+            self.push_element(alloc, number, value)?;
         }
-        Ok(groups)
+        Ok(())
     }
 
     fn none(alloc: Global) -> Groups
@@ -77,25 +86,26 @@ impl Groups {
         }
     }
 
-    /// With one more group, which an element says.
-    fn with_element(self, alloc: Global, number: usize, value: &Value) -> Result<Groups, LoadError>
-        requires { length self.groups < 256 }
-        ensures groups { Gives (λ g. g) result (group_at self number (view value.now)) }
-        ensures count { IfOk result (λ g. length g.groups ≡ length self.groups + 1) }
+    /// Adds the group that an element says.
+    fn push_element(&mut self, alloc: Global, number: usize, value: &Value) -> Result<(), LoadError>
+        requires { length self.old.groups < 256 }
+        ensures groups { Gives (λ _. self.new) result
+            (group_at self.old number (view value.now)) }
+        ensures count { OnOk result (length self.new.groups ≡ length self.old.groups + 1) }
     {
         let path = element_path(alloc, "group", number)?;
         let section = Section::of(alloc, &path, value)?;
-        self.with_section(alloc, section)
+        self.push_section(alloc, section)
     }
 
-    fn with_section(self, alloc: Global, section: Section<'_>) -> Result<Groups, LoadError>
-        requires { length self.groups < 256 }
-        ensures groups { Gives (λ g. g) result
-            (with_group self section.entry.path.now (table_view section.entry.table.now)) }
-        ensures count { IfOk result (λ g. length g.groups ≡ length self.groups + 1) }
+    fn push_section(&mut self, alloc: Global, section: Section<'_>) -> Result<(), LoadError>
+        requires { length self.old.groups < 256 }
+        ensures groups { Gives (λ _. self.new) result
+            (with_group self.old section.entry.path.now (table_view section.entry.table.now)) }
+        ensures count { OnOk result (length self.new.groups ≡ length self.old.groups + 1) }
     {
         let (name, group) = self.read_group(alloc, section)?;
-        self.with(alloc, name, group)
+        self.push(alloc, name, group)
     }
 
     /// The name and the group that an element says.
@@ -123,21 +133,23 @@ impl Groups {
         Ok((name, group))
     }
 
-    fn with(self, alloc: Global, name: &str, group: Group) -> Result<Groups, LoadError>
-        requires { length self.groups < 256 }
-        ensures groups { IfOk result
-            (λ g. g
+    fn push(&mut self, alloc: Global, name: &str, group: Group) -> Result<(), LoadError>
+        requires { length self.old.groups < 256 }
+        ensures groups { OnOk result
+            (self.new
             ≡ (record {
-              names = self.names ++ name.now ∷ [];
-              groups = self.groups ++ group
+              names = self.old.names ++ name.now ∷ [];
+              groups = self.old.groups ++ group
                   ∷ [];
             })) }
         ensures memory { IfErr result (λ e. e ≡ NoMemory) }
     {
-        let Groups { names, mut groups } = self;
-        groups.push(group)?;
-        let names = with_name(alloc, names, name)?;
-        Ok(Groups { names, groups })
+        let name = String::from_str(alloc, name)?;
+        self.names.reserve(1)?;
+        self.groups.reserve(1)?;
+        self.names.push_reserved(name);
+        self.groups.push_reserved(group);
+        Ok(())
     }
 
     /// The parent that an element names; it may have none. `NoSuchGroup` or `TooDeep`.
@@ -211,14 +223,6 @@ impl Groups {
     {
         (self.groups, self.names)
     }
-}
-
-/// The names with one more.
-fn with_name(alloc: Global, mut names: Vec<String>, name: &str) -> Result<Vec<String>, AllocError>
-    ensures { IfOk result (λ all. texts all.items ≡ texts names.items ++ name.now ∷ []) }
-{
-    names.push(String::from_str(alloc, name)?)?;
-    Ok(names)
 }
 
 /// The name of an element, which none of these is. `Missing`, `WrongType`, `BadName` or `Twice`.

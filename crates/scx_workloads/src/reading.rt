@@ -3,7 +3,7 @@ ghost use Rattle.toml.specs.View.{view, table_view, items_view};
 ghost use Rattle.scx_files.specs.Faults.{Gives};
 ghost use Rattle.scx_files.specs.Unknown.{known_alone};
 ghost use Rattle.scx_workloads.specs.Workload.{IsChange, change_at};
-ghost use Rattle.scx_workloads.specs.Reading.{unknown_keys, workload_in, workload_of, changes_in, change_from, with_change, fold_from};
+ghost use Rattle.scx_workloads.specs.Reading.{unknown_keys, workload_in, workload_file, workload_of, changes_in, change_from, with_change, fold_from};
 
 use crate::elements::{elements, integer};
 use crate::groups::{Groups, WEIGHT};
@@ -32,7 +32,17 @@ pub fn read_workload(alloc: Global, text: &str) -> Result<Workload, LoadError>
     ensures { Gives (λ workload. workload) result (workload_of text.now) }
 {
     let table = read_document(alloc, text)?;
-    let file = Section::whole(&table);
+    let workload = read_table(alloc, Section::whole(&table));
+    drop(table);
+    workload
+}
+
+/// Reads the table of a file.
+fn read_table(alloc: Global, file: Section<'_>) -> Result<Workload, LoadError>
+    requires { file.path.now ≡ [] }
+    ensures { Gives (λ workload. workload) result
+        (workload_file (table_view file.entry.table.now)) }
+{
     check_keys(alloc, file)?;
     read_file(alloc, file)
 }
@@ -69,20 +79,33 @@ fn read_file(alloc: Global, file: Section<'_>) -> Result<Workload, LoadError>
     let cpus = integer(alloc, file, "cpus", CPUS)?;
     let ms = integer(alloc, file, "ms", LENGTH)?;
     let groups = Groups::read(alloc, file)?;
-    let tasks = Tasks::read(alloc, file, &groups)?;
-    let changes = read_changes(alloc, file, &groups)?;
-    let (groups, group_names) = groups.into_parts();
-    let (homes, task_names, timings) = tasks.into_parts();
-    Ok(Workload {
-        cpus,
-        ms,
-        groups,
-        group_names,
-        homes,
-        task_names,
-        timings,
-        changes,
-    })
+    match Tasks::read(alloc, file, &groups) {
+        Ok(tasks) => match read_changes(alloc, file, &groups) {
+            Ok(changes) => {
+                let (groups, group_names) = groups.into_parts();
+                let (homes, task_names, timings) = tasks.into_parts();
+                Ok(Workload {
+                    cpus,
+                    ms,
+                    groups,
+                    group_names,
+                    homes,
+                    task_names,
+                    timings,
+                    changes,
+                })
+            }
+            Err(error) => {
+                drop(groups);
+                drop(tasks);
+                Err(error)
+            }
+        },
+        Err(error) => {
+            drop(groups);
+            Err(error)
+        }
+    }
 }
 
 fn read_changes(alloc: Global, file: Section<'_>, groups: &Groups) -> Result<Vec<Change>, LoadError>

@@ -1,5 +1,5 @@
 //! The tasks of a workload file.
-ghost use Rattle.std.specs.Prelude.{◌≡◌, ℕ, ◌+◌, ◌<◌, ◌≤◌, ◌++◌, ◌∷◌, [], length, IfOk, IfErr};
+ghost use Rattle.std.specs.Prelude.{◌≡◌, ℕ, ◌+◌, ◌<◌, ◌≤◌, ◌++◌, ◌∷◌, [], length, IfOk, OnOk, IfErr};
 ghost use Rattle.toml.specs.View.{view, table_view, items_view};
 ghost use Rattle.scx_files.specs.declared.fault.LoadError.TheVariants.{NoMemory};
 ghost use Rattle.scx_files.specs.Faults.{Gives};
@@ -57,20 +57,33 @@ impl Tasks {
         ensures few { IfOk result (λ t. length t.homes ≤ 1024) }
     {
         let values = some_elements(alloc, file, "task", MAX_TASKS)?;
-        Tasks::read_all(alloc, values, groups)
+        let mut tasks = Tasks::none(alloc);
+        match tasks.push_all(alloc, values, groups) {
+            Ok(()) => Ok(tasks),
+            Err(error) => {
+                drop(tasks);
+                Err(error)
+            }
+        }
     }
 
+    /// Adds the tasks that elements say, behind none.
     #[tactic(auto, using(crate::proofs::Each::goes_on, crate::proofs::Each::ends, crate::proofs::Each::is_done))]
-    fn read_all(alloc: Global, values: &[Value], groups: &Groups) -> Result<Tasks, LoadError>
-        ensures tasks { Gives (λ t. t) result
+    fn push_all(
+        &mut self,
+        alloc: Global,
+        values: &[Value],
+        groups: &Groups,
+    ) -> Result<(), LoadError>
+        requires { self.old ≡ no_tasks }
+        ensures tasks { Gives (λ _. self.new) result
             (fold_from (task_at groups.now) no_tasks 0 (items_view values.now)) }
-        ensures count { IfOk result (λ t. length t.homes ≡ length values.now) }
+        ensures count { OnOk result (length self.new.homes ≡ length values.now) }
     {
-        let mut tasks = Tasks::none(alloc);
         for (number, value) in values.iter().enumerate() {
-            tasks = tasks.with_element(alloc, groups, number, value)?;
+            self.push_element(alloc, groups, number, value)?;
         }
-        Ok(tasks)
+        Ok(())
     }
 
     fn none(alloc: Global) -> Tasks
@@ -83,65 +96,67 @@ impl Tasks {
         }
     }
 
-    /// With one more task, which an element says.
-    fn with_element(
-        self,
+    /// Adds the task that an element says.
+    fn push_element(
+        &mut self,
         alloc: Global,
         groups: &Groups,
         number: usize,
         value: &Value,
-    ) -> Result<Tasks, LoadError>
-        ensures tasks { Gives (λ t. t) result (task_at groups.now self number (view value.now)) }
-        ensures count { IfOk result (λ t. length t.homes ≡ length self.homes + 1) }
+    ) -> Result<(), LoadError>
+        ensures tasks { Gives (λ _. self.new) result
+            (task_at groups.now self.old number (view value.now)) }
+        ensures count { OnOk result (length self.new.homes ≡ length self.old.homes + 1) }
     {
         let path = element_path(alloc, "task", number)?;
         let section = Section::of(alloc, &path, value)?;
-        self.with_section(alloc, groups, section)
+        self.push_section(alloc, groups, section)
     }
 
-    fn with_section(
-        self,
+    fn push_section(
+        &mut self,
         alloc: Global,
         groups: &Groups,
         section: Section<'_>,
-    ) -> Result<Tasks, LoadError>
-        ensures tasks { Gives (λ t. t) result
-            (with_task groups.now self section.entry.path.now
+    ) -> Result<(), LoadError>
+        ensures tasks { Gives (λ _. self.new) result
+            (with_task groups.now self.old section.entry.path.now
             (table_view section.entry.table.now)) }
-        ensures count { IfOk result (λ t. length t.homes ≡ length self.homes + 1) }
+        ensures count { OnOk result (length self.new.homes ≡ length self.old.homes + 1) }
     {
         let name = new_name(alloc, &self.names, section)?;
         let home = groups.leaf(alloc, section)?;
         let timing = read_timing(alloc, section)?;
-        self.with(alloc, name, home, timing)
+        self.push(alloc, name, home, timing)
     }
 
     #[tactic(auto, using(crate::proofs::Values::timings_more))]
-    fn with(self, alloc: Global, name: &str, home: u32, timing: Timing) -> Result<Tasks, LoadError>
+    fn push(
+        &mut self,
+        alloc: Global,
+        name: &str,
+        home: u32,
+        timing: Timing,
+    ) -> Result<(), LoadError>
         requires { IsTiming timing }
-        ensures tasks { IfOk result
-            (λ t. t
+        ensures tasks { OnOk result
+            (self.new
             ≡ (record {
-              names = self.names ++ name.now ∷ [];
-              homes = self.homes ++ home
+              names = self.old.names ++ name.now ∷ [];
+              homes = self.old.homes ++ home
                   ∷ [];
-              timings = self.timings ++ timing ∷ [];
+              timings = self.old.timings ++ timing ∷ [];
             })) }
         ensures memory { IfErr result (λ e. e ≡ NoMemory) }
     {
-        let Tasks {
-            mut names,
-            mut homes,
-            mut timings,
-        } = self;
-        names.push(String::from_str(alloc, name)?)?;
-        homes.push(home)?;
-        timings.push(timing)?;
-        Ok(Tasks {
-            names,
-            homes,
-            timings,
-        })
+        let name = String::from_str(alloc, name)?;
+        self.names.reserve(1)?;
+        self.homes.reserve(1)?;
+        self.timings.reserve(1)?;
+        self.names.push_reserved(name);
+        self.homes.push_reserved(home);
+        self.timings.push_reserved(timing);
+        Ok(())
     }
 
     pub(crate) fn into_parts(self) -> (Vec<u32>, Vec<String>, Vec<Timing>)
