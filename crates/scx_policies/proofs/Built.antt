@@ -1,5 +1,5 @@
 -- What is verified callback by callback makes a policy, or is refused at the first that isn't safe.
-use Rattle.std.proofs.Common.{◌≡◌, refl}
+use Rattle.std.proofs.Common.{◌≡◌, Result, Ok, Err, IfErr, refl}
 use Rattle.scx_semantics.specs.declared.callbacks.Callback.{Callback}
 use Rattle.scx_semantics.specs.declared.callbacks.Callback.TheVariants as callback
 use Rattle.scx_machine.specs.declared.policy.Callbacks.{Callbacks}
@@ -8,22 +8,18 @@ use Rattle.scx_machine.specs.Policy.{PolicyState, policy_of}
 use Rattle.scx_policies.specs.declared.building.BuildError.{BuildError}
 use Rattle.scx_policies.specs.declared.building.BuildError.TheVariants as errors
 use Rattle.scx_policies.specs.Policies.{PolicyFile, program_of}
-use Rattle.scx_policies.specs.Building.{IsAccepted, earlier, AreAccepted, IsFirstRefused, code_of, IsBuilt, IsVerified, IsRefusedAs}
+use Rattle.scx_policies.specs.Building.{IsAccepted, earlier, AreAccepted, IsFirstRefused, code_of, IsBuilt, AreVerified, IsRefusedAs}
 
 -- the first that is refused is the refusal
 pub refused_at : (text : PolicyFile) (b : Callback) (e : BuildError) → AreAccepted text (earlier b) → IsRefusedAs text.shapes (program_of text b) b e → IsFirstRefused text e
 refused_at text b (errors.Refused a fault slot) before (is, refused) = rw is (before, refused)
 refused_at text b errors.NoMemory before asked = record { callback = b; before = before; asked = asked }
 
--- each program, at its callback
-pub record AreVerified (text : PolicyFile) (c : Callbacks) : Type 0 where
-  pub init : IsVerified text.shapes text.programs.init callback.Init c.init
-  pub enable : IsVerified text.shapes text.programs.enable callback.Enable c.enable
-  pub select_cpu : IsVerified text.shapes text.programs.select_cpu callback.SelectCpu c.select_cpu
-  pub enqueue : IsVerified text.shapes text.programs.enqueue callback.Enqueue c.enqueue
-  pub dispatch : IsVerified text.shapes text.programs.dispatch callback.Dispatch c.dispatch
-  pub running : IsVerified text.shapes text.programs.running callback.Running c.running
-  pub stopping : IsVerified text.shapes text.programs.stopping callback.Stopping c.stopping
+-- and what is no refusal says nothing
+pub refused_in : {T : Type 0} (result : Result T BuildError) (text : PolicyFile) (b : Callback) → AreAccepted text (earlier b) → IfErr result (IsRefusedAs text.shapes (program_of text b) b)
+    → IfErr result (IsFirstRefused text)
+refused_in (Ok t) text b before asked = tt
+refused_in (Err e) text b before asked = refused_at text b e before asked
 
 -- where all are verified the policy is built
 pub built_of : (text : PolicyFile) (p : PolicyState) (c : Callbacks) → p ≡ policy_of text.shapes text.timeout_ms c → AreVerified text c → IsBuilt text p

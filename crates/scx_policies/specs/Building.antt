@@ -11,6 +11,7 @@ use Rattle.scx_verify.specs.declared.faults.Fault.TheVariants.{NoMemory}
 use Rattle.scx_safety.specs.Programs.{VerifiedProgram, context}
 use Rattle.scx_verify.specs.Typing.{IsTyped}
 use Rattle.scx_verify.specs.Faults.{IsRefusal}
+use Rattle.scx_machine.specs.declared.policy.Callbacks.{Callbacks}
 use Rattle.scx_machine.specs.Policy as machine
 use Rattle.scx_machine.specs.Policy.{PolicyState}
 use Rattle.scx_policies.specs.declared.building.BuildError.{BuildError}
@@ -87,3 +88,15 @@ pub record IsVerified (shapes : List Shape) (program : Option Code) (b : Callbac
 abbrev pub IsRefusedAs : List Shape → Option Code → Callback → BuildError → Type 0
 IsRefusedAs shapes program b (errors.Refused a fault slot) = (a ≡ b) × IsRefusedFor shapes program b fault slot
 IsRefusedAs shapes program b errors.NoMemory = AsksForMemory program
+
+-- ---- all callbacks
+
+-- what `verify` makes of all programs, each at its callback
+pub record AreVerified (text : PolicyFile) (c : Callbacks) : Type 0 where
+  pub init : IsVerified text.shapes text.programs.init callback.Init c.init
+  pub enable : IsVerified text.shapes text.programs.enable callback.Enable c.enable
+  pub select_cpu : IsVerified text.shapes text.programs.select_cpu callback.SelectCpu c.select_cpu
+  pub enqueue : IsVerified text.shapes text.programs.enqueue callback.Enqueue c.enqueue
+  pub dispatch : IsVerified text.shapes text.programs.dispatch callback.Dispatch c.dispatch
+  pub running : IsVerified text.shapes text.programs.running callback.Running c.running
+  pub stopping : IsVerified text.shapes text.programs.stopping callback.Stopping c.stopping

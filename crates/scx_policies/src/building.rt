@@ -1,5 +1,6 @@
 ghost use Rattle.std.specs.Prelude.{◌≡◌, IfOk, IfErr};
-ghost use Rattle.scx_policies.specs.Building.{IsBuilt, IsFirstRefused, IsVerified, IsRefusedAs};
+ghost use Rattle.scx_policies.specs.Building.{IsBuilt, IsFirstRefused, AreVerified, IsVerified, IsRefusedAs};
+ghost use Rattle.scx_policies.specs.Policies.{program_of, without};
 
 use crate::policy_text::{PolicyText, callback_name};
 use scx_isa::{Callback, Program};
@@ -30,30 +31,74 @@ impl fmt::Debug for BuildError {
     }
 }
 
+const NO_CALLBACKS: Callbacks = Callbacks {
+    init: None,
+    enable: None,
+    select_cpu: None,
+    enqueue: None,
+    dispatch: None,
+    running: None,
+    stopping: None,
+};
+
 /// Makes the policy of what was read. The programs are verified in the order init, enable, select_cpu,
 /// enqueue, dispatch, running, stopping.
 pub fn build(alloc: Global, text: PolicyText) -> Result<Policy, BuildError>
     ensures built { IfOk result (IsBuilt text) }
     ensures refused { IfErr result (IsFirstRefused text) }
 {
-    let PolicyText {
-        defs,
-        timeout_ms,
-        programs,
-    } = text;
-    let callbacks = Callbacks {
-        init: verified(alloc, programs.init, Callback::Init, &defs)?,
-        enable: verified(alloc, programs.enable, Callback::Enable, &defs)?,
-        select_cpu: verified(alloc, programs.select_cpu, Callback::SelectCpu, &defs)?,
-        enqueue: verified(alloc, programs.enqueue, Callback::Enqueue, &defs)?,
-        dispatch: verified(alloc, programs.dispatch, Callback::Dispatch, &defs)?,
-        running: verified(alloc, programs.running, Callback::Running, &defs)?,
-        stopping: verified(alloc, programs.stopping, Callback::Stopping, &defs)?,
-    };
-    match Policy::new(defs, timeout_ms, callbacks) {
-        Ok(policy) => Ok(policy),
-        Err(_) => unreachable!(),
+    let defs = *text.defs();
+    let timeout_ms = text.timeout_ms();
+    let mut text = text;
+    let mut callbacks = NO_CALLBACKS;
+    let verified = verify_all(alloc, &mut text, &mut callbacks);
+    drop(text);
+    match verified {
+        Ok(()) => match Policy::new(defs, timeout_ms, callbacks) {
+            Ok(policy) => Ok(policy),
+            Err(_) => unreachable!(),
+        },
+        Err(error) => {
+            drop(callbacks);
+            Err(error)
+        }
     }
+}
+
+/// Takes the programs out, and puts each, verified, into its place.
+fn verify_all(
+    alloc: Global,
+    text: &mut PolicyText,
+    callbacks: &mut Callbacks,
+) -> Result<(), BuildError>
+    ensures ok { IfOk result (λ _. AreVerified text.old callbacks.new) }
+    ensures refused { IfErr result (IsFirstRefused text.old) }
+{
+    verify_at(alloc, text, Callback::Init, &mut callbacks.init)?;
+    verify_at(alloc, text, Callback::Enable, &mut callbacks.enable)?;
+    verify_at(alloc, text, Callback::SelectCpu, &mut callbacks.select_cpu)?;
+    verify_at(alloc, text, Callback::Enqueue, &mut callbacks.enqueue)?;
+    verify_at(alloc, text, Callback::Dispatch, &mut callbacks.dispatch)?;
+    verify_at(alloc, text, Callback::Running, &mut callbacks.running)?;
+    verify_at(alloc, text, Callback::Stopping, &mut callbacks.stopping)
+}
+
+/// Takes the program of a callback out, and puts it, verified, into its place.
+fn verify_at(
+    alloc: Global,
+    text: &mut PolicyText,
+    callback: Callback,
+    place: &mut Option<Verified>,
+) -> Result<(), BuildError>
+    ensures ok { IfOk result
+        (λ _. IsVerified text.old.shapes (program_of text.old callback) callback place.new) }
+    ensures refused { IfErr result
+        (IsRefusedAs text.old.shapes (program_of text.old callback) callback) }
+    ensures rest { text.new ≡ without text.old callback }
+{
+    let program = text.take(callback);
+    *place = verified(alloc, program, callback, text.defs())?;
+    Ok(())
 }
 
 /// The program of a callback, verified; none where it has none.

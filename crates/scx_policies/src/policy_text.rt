@@ -18,6 +18,16 @@ pub struct Programs {
     pub stopping: Option<Program>,
 }
 
+pub(crate) const NO_PROGRAMS: Programs = Programs {
+    init: None,
+    enable: None,
+    select_cpu: None,
+    enqueue: None,
+    dispatch: None,
+    running: None,
+    stopping: None,
+};
+
 /// What a policy file says, which `read_policy` alone makes.
 #[derive(Drop)]
 pub struct PolicyText {

@@ -12,24 +12,27 @@ use scx_files::{Cause, LoadError, Section, refused};
 use scx_isa::{DecodeError, Program, decode};
 use std::alloc::{AllocError, Global};
 
-/// The programs that the texts of the table `code` spell.
-pub(crate) fn read_code(alloc: Global, code: Section<'_>) -> Result<Programs, LoadError>
+/// Puts the programs that the texts of the table `code` spell into their places.
+pub(crate) fn put_code(
+    alloc: Global,
+    code: Section<'_>,
+    programs: &mut Programs,
+) -> Result<(), LoadError>
     requires { code.path.now ≡ codes "code" }
-    ensures { Gives (λ p. p) result (code_programs (table_view code.entry.table.now)) }
+    ensures { Gives (λ _. programs.new) result
+        (code_programs (table_view code.entry.table.now)) }
 {
-    Ok(Programs {
-        init: code_at(alloc, code, "init")?,
-        enable: code_at(alloc, code, "enable")?,
-        select_cpu: code_at(alloc, code, "select_cpu")?,
-        enqueue: code_at(alloc, code, "enqueue")?,
-        dispatch: code_at(alloc, code, "dispatch")?,
-        running: code_at(alloc, code, "running")?,
-        stopping: code_at(alloc, code, "stopping")?,
-    })
+    put_code_at(alloc, code, "init", &mut programs.init)?;
+    put_code_at(alloc, code, "enable", &mut programs.enable)?;
+    put_code_at(alloc, code, "select_cpu", &mut programs.select_cpu)?;
+    put_code_at(alloc, code, "enqueue", &mut programs.enqueue)?;
+    put_code_at(alloc, code, "dispatch", &mut programs.dispatch)?;
+    put_code_at(alloc, code, "running", &mut programs.running)?;
+    put_code_at(alloc, code, "stopping", &mut programs.stopping)
 }
 
 /// Adds the programs whose slots the table `slots` spells.
-pub(crate) fn read_slots(
+pub(crate) fn put_slots(
     alloc: Global,
     slots: Section<'_>,
     programs: &mut Programs,
@@ -38,13 +41,27 @@ pub(crate) fn read_slots(
     ensures { Gives (λ _. programs.new) result
         (with_slots (table_view slots.entry.table.now) programs.old) }
 {
-    programs.init = slots_at(alloc, slots, "init", programs.init.take())?;
-    programs.enable = slots_at(alloc, slots, "enable", programs.enable.take())?;
-    programs.select_cpu = slots_at(alloc, slots, "select_cpu", programs.select_cpu.take())?;
-    programs.enqueue = slots_at(alloc, slots, "enqueue", programs.enqueue.take())?;
-    programs.dispatch = slots_at(alloc, slots, "dispatch", programs.dispatch.take())?;
-    programs.running = slots_at(alloc, slots, "running", programs.running.take())?;
-    programs.stopping = slots_at(alloc, slots, "stopping", programs.stopping.take())?;
+    put_slots_at(alloc, slots, "init", &mut programs.init)?;
+    put_slots_at(alloc, slots, "enable", &mut programs.enable)?;
+    put_slots_at(alloc, slots, "select_cpu", &mut programs.select_cpu)?;
+    put_slots_at(alloc, slots, "enqueue", &mut programs.enqueue)?;
+    put_slots_at(alloc, slots, "dispatch", &mut programs.dispatch)?;
+    put_slots_at(alloc, slots, "running", &mut programs.running)?;
+    put_slots_at(alloc, slots, "stopping", &mut programs.stopping)
+}
+
+/// Puts the program at a key of `code` into its place, or none where there is no such key.
+fn put_code_at(
+    alloc: Global,
+    code: Section<'_>,
+    key: &str,
+    program: &mut Option<Program>,
+) -> Result<(), LoadError>
+    requires { code.path.now ≡ codes "code" }
+    ensures { Gives (λ _. program.new) result
+        (code_at (table_view code.entry.table.now) key.now) }
+{
+    *program = code_at(alloc, code, key)?;
     Ok(())
 }
 
@@ -65,24 +82,26 @@ fn code_at(alloc: Global, code: Section<'_>, key: &str) -> Result<Option<Program
     }
 }
 
-/// The program at a key of `slots`, or else the one that `code` has; not both.
-fn slots_at(
+/// Puts the program at a key of `slots` into its place, if there is such a key; not where `code` has one.
+fn put_slots_at(
     alloc: Global,
     slots: Section<'_>,
     key: &str,
-    code: Option<Program>,
-) -> Result<Option<Program>, LoadError>
+    program: &mut Option<Program>,
+) -> Result<(), LoadError>
     requires { slots.path.now ≡ codes "slots" }
-    ensures { Gives (λ p. p) result (slots_at (table_view slots.entry.table.now) key.now code) }
+    ensures { Gives (λ _. program.new) result
+        (slots_at (table_view slots.entry.table.now) key.now program.old) }
 {
     let Some(value) = slots.value(key) else {
-        return Ok(code);
+        return Ok(());
     };
-    if code.is_some() {
+    if program.is_some() {
         return refused(alloc, slots.path, key, Cause::Twice);
     }
     let text = slots.text_in(alloc, key, value)?;
-    spelled(alloc, slots.path, key, text)
+    *program = spelled(alloc, slots.path, key, text)?;
+    Ok(())
 }
 
 /// The program whose slots the text spells in pairs of hexadecimal digits.

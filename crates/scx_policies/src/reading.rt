@@ -3,11 +3,11 @@ ghost use Rattle.toml.specs.Data.{no_members};
 ghost use Rattle.toml.specs.View.{table_view};
 ghost use Rattle.scx_files.specs.Faults.{Gives};
 ghost use Rattle.scx_files.specs.Unknown.{known_alone};
-ghost use Rattle.scx_policies.specs.Reading.{unknown_keys, checked_name, table_in, programs_in, with_slots_in, policy_in, policy_text};
+ghost use Rattle.scx_policies.specs.Reading.{unknown_keys, checked_name, table_in, programs_in, policy_in, policy_file, policy_text};
 
 use crate::maps::read_maps;
-use crate::policy_text::{PolicyText, Programs};
-use crate::programs::{read_code, read_slots};
+use crate::policy_text::{NO_PROGRAMS, PolicyText, Programs};
+use crate::programs::{put_code, put_slots};
 use scx_files::{Limits, LoadError, Section, Unknown, read_document};
 use std::alloc::Global;
 use toml::Table;
@@ -29,7 +29,16 @@ pub fn read_policy(alloc: Global, text: &str) -> Result<PolicyText, LoadError>
     ensures { Gives (λ policy. policy) result (policy_text text.now) }
 {
     let table = read_document(alloc, text)?;
-    let file = Section::whole(&table);
+    let policy = read_table(alloc, Section::whole(&table));
+    drop(table);
+    policy
+}
+
+/// Reads the table of a file.
+fn read_table(alloc: Global, file: Section<'_>) -> Result<PolicyText, LoadError>
+    requires { file.path.now ≡ [] }
+    ensures { Gives (λ policy. policy) result (policy_file (table_view file.entry.table.now)) }
+{
     check_keys(alloc, file)?;
     read_file(alloc, file)
 }
@@ -88,22 +97,42 @@ fn read_programs(alloc: Global, file: Section<'_>) -> Result<Programs, LoadError
     requires { file.path.now ≡ [] }
     ensures { Gives (λ p. p) result (programs_in (table_view file.entry.table.now)) }
 {
-    let absent = Table::new(alloc);
-    let code = section_or(alloc, file, "code", &absent)?;
-    let mut programs = read_code(alloc, code)?;
-    add_slots(alloc, file, &mut programs)?;
-    Ok(programs)
+    let mut programs = NO_PROGRAMS;
+    match put_programs(alloc, file, &mut programs) {
+        Ok(()) => Ok(programs),
+        Err(error) => {
+            drop(programs);
+            Err(error)
+        }
+    }
 }
 
-/// Adds the programs of the table `slots`.
-fn add_slots(alloc: Global, file: Section<'_>, programs: &mut Programs) -> Result<(), LoadError>
+/// Puts the programs of both tables into their places.
+fn put_programs(alloc: Global, file: Section<'_>, programs: &mut Programs) -> Result<(), LoadError>
     requires { file.path.now ≡ [] }
-    ensures { Gives (λ _. programs.new) result
-        (with_slots_in (table_view file.entry.table.now) programs.old) }
+    ensures { Gives (λ _. programs.new) result (programs_in (table_view file.entry.table.now)) }
 {
     let absent = Table::new(alloc);
-    let slots = section_or(alloc, file, "slots", &absent)?;
-    read_slots(alloc, slots, programs)
+    let put = put_both(alloc, file, &absent, programs);
+    drop(absent);
+    put
+}
+
+/// The same, where a table that is absent is this empty one.
+fn put_both(
+    alloc: Global,
+    file: Section<'_>,
+    absent: &Table,
+    programs: &mut Programs,
+) -> Result<(), LoadError>
+    requires whole { file.path.now ≡ [] }
+    requires absent { table_view absent.now ≡ no_members }
+    ensures { Gives (λ _. programs.new) result (programs_in (table_view file.entry.table.now)) }
+{
+    let code = section_or(alloc, file, "code", absent)?;
+    put_code(alloc, code, programs)?;
+    let slots = section_or(alloc, file, "slots", absent)?;
+    put_slots(alloc, slots, programs)
 }
 
 /// The table at a key of the file; where there is none, this empty one.
