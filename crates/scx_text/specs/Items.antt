@@ -69,11 +69,15 @@ read_offset (Mark Plus ∷ Number touches n ∷ ts) = Some (written false n, ts)
 read_offset (Mark Minus ∷ Number touches n ∷ ts) = Some (written true n, ts)
 read_offset ts = None
 
+-- how far a jump goes; the number touches its sign
+abbrev pub read_distance : List Lexeme → Read Literal
+read_distance (Mark Plus ∷ Number true n ∷ ts) = Some (written false n, ts)
+read_distance (Mark Minus ∷ Number true n ∷ ts) = Some (written true n, ts)
+read_distance ts = None
+
 abbrev pub read_destination : List Lexeme → Read Destination
 read_destination (Word l ∷ ts) = Some (Label l, ts)
-read_destination (Mark Plus ∷ Number true n ∷ ts) = Some (Distance (written false n), ts)
-read_destination (Mark Minus ∷ Number true n ∷ ts) = Some (Distance (written true n), ts)
-read_destination ts = None
+read_destination ts = read_distance ts >>= λ n. Some (Distance n.0, n.1)
 
 abbrev pub read_word : List Lexeme → Read (List ℕ)
 read_word (Word w ∷ ts) = Some (w, ts)
@@ -226,15 +230,21 @@ abbrev pub read_goto : List Lexeme → Read Destination
 read_goto (Word name ∷ ts) = if bytes_eq name (codes "goto") then read_destination ts else None
 read_goto ts = None
 
+-- the comparison of a register, behind its name
+abbrev pub compared : Width → Register → List Lexeme → Read Jump
+compared w r ts = do
+  c ← read_comparison ts
+  x ← read_operand w c.1
+  Some (jump.If w c.0 r x.0, x.1)
+
 -- `if rD C rS goto T`, behind the `if`
 abbrev pub condition : List Lexeme → Option ItemValue
 condition ts = do
   name ← read_word ts
   r ← register_named name.0
-  c ← read_comparison name.1
-  x ← read_operand r.0 c.1
-  t ← read_goto x.1
-  end t.1 (Jumps (jump.If r.0 c.0 r.1 x.0) t.0)
+  j ← compared r.0 r.1 name.1
+  t ← read_goto j.1
+  end t.1 (Jumps j.0 t.0)
 
 abbrev pub jumped : Jump → List Lexeme → Option ItemValue
 jumped j ts = read_destination ts >>= λ t. end t.1 (Jumps j t.0)

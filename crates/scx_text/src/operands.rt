@@ -1,11 +1,11 @@
 ghost use Rattle.std.specs.Prelude.{◌≡◌, option_map};
 ghost use Rattle.scx_text.specs.Tokens.{lexemes};
-ghost use Rattle.scx_text.specs.Items.{destination_of, written, read_literal, read_offset, read_destination, read_word, read_register, read_operand, read_comparison, star, opening, closing, read_access, read_address, read_memory_operand, read_given, read_goto};
+ghost use Rattle.scx_text.specs.Items.{destination_of, written, read_literal, read_offset, read_distance, read_destination, read_word, read_register, read_operand, read_comparison, star, opening, closing, read_access, read_address, read_memory_operand, read_given, read_goto};
 
 use crate::items::{Literal, MemoryOperand, Target, WrittenOperand};
 use crate::lexer::Token;
 use crate::symbols::Symbol;
-use crate::words::{access_named, register_in};
+use crate::words::{access_named, is_word, register_in};
 use scx_semantics::{Access, Comparison, Operation, Register, Width};
 
 /// What the front of a line says, and the tokens behind it.
@@ -54,23 +54,35 @@ pub(crate) fn read_offset<'t, 'a>(tokens: &'t [Token<'a>]) -> Read<'t, 'a, Liter
     }
 }
 
+/// How far a jump goes; the sign is a token of its own, which the number touches.
+fn read_distance<'t, 'a>(tokens: &'t [Token<'a>]) -> Read<'t, 'a, Literal>
+    ensures { option_map (λ x. (x.0, lexemes x.1.now)) result ≡ read_distance (lexemes tokens.now) }
+{
+    match tokens {
+        [
+            Token::Mark(Symbol::Plus),
+            Token::Number(true, magnitude),
+            rest @ ..,
+        ] => Some((written(false, *magnitude), rest)),
+        [
+            Token::Mark(Symbol::Minus),
+            Token::Number(true, magnitude),
+            rest @ ..,
+        ] => Some((written(true, *magnitude), rest)),
+        _ => None,
+    }
+}
+
 pub(crate) fn read_target<'t, 'a>(tokens: &'t [Token<'a>]) -> Read<'t, 'a, Target<'a>>
     ensures { option_map (λ x. (destination_of x.0, lexemes x.1.now)) result
         ≡ read_destination (lexemes tokens.now) }
 {
     match tokens {
         [Token::Word(label), rest @ ..] => Some((Target::Label(label), rest)),
-        [
-            Token::Mark(Symbol::Plus),
-            Token::Number(true, magnitude),
-            rest @ ..,
-        ] => Some((Target::Distance(written(false, *magnitude)), rest)),
-        [
-            Token::Mark(Symbol::Minus),
-            Token::Number(true, magnitude),
-            rest @ ..,
-        ] => Some((Target::Distance(written(true, *magnitude)), rest)),
-        _ => None,
+        _ => {
+            let (distance, rest) = read_distance(tokens)?;
+            Some((Target::Distance(distance), rest))
+        }
     }
 }
 
@@ -200,7 +212,7 @@ pub(crate) fn read_goto<'t, 'a>(tokens: &'t [Token<'a>]) -> Read<'t, 'a, Target<
         ≡ read_goto (lexemes tokens.now) }
 {
     match tokens {
-        [Token::Word(name), rest @ ..] if *name == b"goto".as_slice() => read_target(rest),
+        [Token::Word(name), rest @ ..] if is_word(name, "goto") => read_target(rest),
         _ => None,
     }
 }

@@ -4,16 +4,16 @@ ghost use Rattle.scx_text.specs.Options.{either};
 ghost use Rattle.scx_text.specs.Names.{register_in};
 ghost use Rattle.scx_text.specs.declared.items.Statement.TheVariants.{Binary};
 ghost use Rattle.scx_semantics.specs.declared.operations.Operation.TheVariants.{Move};
-ghost use Rattle.scx_text.specs.Items.{Says, item_value, copied, negated, extended, loaded, load_immediate, byte_swapped, mapped, special, computed, given, operated, assigned, stored, condition, jumped, called, keyword, statement_of, item_of, end, same};
+ghost use Rattle.scx_text.specs.Items.{Says, item_value, copied, negated, extended, loaded, load_immediate, byte_swapped, mapped, special, computed, given, operated, assigned, stored, compared, condition, jumped, called, keyword, statement_of, item_of, end, same};
 
 use crate::items::{Item, Jump, Literal, Statement, WrittenOperand};
 use crate::lexer::Token;
 use crate::operands::{
-    behind_closing, read_access, read_comparison, read_given, read_goto, read_literal,
+    Read, behind_closing, read_access, read_comparison, read_given, read_goto, read_literal,
     read_memory_operand, read_operand, read_register, read_target, read_word,
 };
 use crate::symbols::Symbol;
-use crate::words::{extension_of, order_named, register_in, register_named, stored_size};
+use crate::words::{extension_of, is_word, order_named, register_in, register_named, stored_size};
 use scx_semantics::{Operation, Register, Width};
 
 /// The item, if no token is left behind it.
@@ -90,7 +90,7 @@ fn load_immediate<'a>(
 {
     match (width, tokens) {
         (Width::Bits64, [Token::Word(name), rest @ ..]) => {
-            if *name == b"ll".as_slice() {
+            if is_word(name, "ll") {
                 says(Statement::LoadImmediate(register, number), rest)
             } else {
                 None
@@ -146,7 +146,7 @@ fn special<'a>(
     match width {
         Width::Bits32 => None,
         Width::Bits64 => {
-            if name == b"map".as_slice() {
+            if is_word(name, "map") {
                 mapped(register, tokens)
             } else {
                 byte_swapped(register, name, tokens)
@@ -239,16 +239,24 @@ fn stored<'a>(tokens: &[Token<'a>]) -> Option<Item<'a>>
     says(store, rest)
 }
 
+/// The comparison of a register, behind its name.
+fn compared<'t, 'a>(width: Width, register: Register, tokens: &'t [Token<'a>]) -> Read<'t, 'a, Jump>
+    ensures { option_map (λ x. (x.0, lexemes x.1.now)) result
+        ≡ compared width register (lexemes tokens.now) }
+{
+    let (comparison, rest) = read_comparison(tokens)?;
+    let (argument, rest) = read_operand(width, rest)?;
+    Some((Jump::If(width, comparison, register, argument), rest))
+}
+
 /// `if rD C rS goto T`, behind the `if`.
 fn condition<'a>(tokens: &[Token<'a>]) -> Option<Item<'a>>
     ensures { option_map item_value result ≡ condition (lexemes tokens.now) }
 {
     let (name, rest) = read_word(tokens)?;
     let (width, register) = register_named(name)?;
-    let (comparison, rest) = read_comparison(rest)?;
-    let (argument, rest) = read_operand(width, rest)?;
+    let (jump, rest) = compared(width, register, rest)?;
     let (target, rest) = read_goto(rest)?;
-    let jump = Jump::If(width, comparison, register, argument);
     end(rest, Item::Jump(jump, target))
 }
 
@@ -270,15 +278,15 @@ fn called<'a>(tokens: &[Token<'a>]) -> Option<Item<'a>>
 fn keyword<'a>(name: &[u8], tokens: &[Token<'a>]) -> Option<Item<'a>>
     ensures { option_map item_value result ≡ keyword name.now (lexemes tokens.now) }
 {
-    if name == b"if".as_slice() {
+    if is_word(name, "if") {
         condition(tokens)
-    } else if name == b"goto".as_slice() {
+    } else if is_word(name, "goto") {
         jumped(Jump::Goto, tokens)
-    } else if name == b"gotol".as_slice() {
+    } else if is_word(name, "gotol") {
         jumped(Jump::GotoLong, tokens)
-    } else if name == b"call".as_slice() {
+    } else if is_word(name, "call") {
         called(tokens)
-    } else if name == b"exit".as_slice() {
+    } else if is_word(name, "exit") {
         says(Statement::Exit, tokens)
     } else {
         None

@@ -1,4 +1,5 @@
 ghost use Rattle.std.specs.Prelude.{◌≡◌};
+ghost use Rattle.std.specs.Str.{bytes_eq};
 ghost use Rattle.scx_text.specs.Names.{access_text, accesses, access_named, width_named, register_numbered, register_named, register_in, stored_size, stored_access, extension_of, extension_access, order_text, orders, order_named};
 
 use scx_semantics::{Access, ByteOrder, Extension, Register, Size, SwapWidth, Width};
@@ -24,6 +25,13 @@ const ORDERS: [(ByteOrder, SwapWidth); 9] = [
     (ByteOrder::Swapped, SwapWidth::Bits32),
     (ByteOrder::Swapped, SwapWidth::Bits64),
 ];
+
+/// Whether that is the word.
+pub(crate) fn is_word(name: &[u8], word: &str) -> bool
+    ensures { result ≡ bytes_eq name.now word.now }
+{
+    name == word.as_bytes()
+}
 
 fn width_named(letter: u8) -> Option<Width>
     ensures { result ≡ width_named letter }
