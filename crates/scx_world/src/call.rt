@@ -8,7 +8,7 @@ use scx_isa::Callback;
 use scx_tasks::DEFAULT_SLICE;
 
 /// Where a callback wants a task to wait.
-#[derive(Clone, Copy, Debug, PartialEq, Eq)]
+#[derive(Clone, Copy)]
 pub struct Insert {
     pub queue: u64,
     /// Its slice from then on; 0 keeps the one that it has.

@@ -35,6 +35,7 @@ fn push_counted<L: Ledger>(queues: &mut Queues, id: u64, task: u32, key: u64, bl
 {
     let mut steps = Steps::<L>::new(blank);
     let _refused = queues.push_vtime(id, task, key, &mut steps);
+    drop(steps);
 }
 
 /// Takes the front of the queue out and answers it. Nobody asks for the comparisons.
@@ -59,7 +60,9 @@ fn pop_counted<L: Ledger>(queues: &mut Queues, id: u64, blank: Blank) -> Option<
     ensures pushes { queues.new.state.pushes ≡ queues.old.state.pushes }
 {
     let mut steps = Steps::<L>::new(blank);
-    queues.pop(id, &mut steps)
+    let front = queues.pop(id, &mut steps);
+    drop(steps);
+    front
 }
 
 /// Takes the task out of the queue in which it waits. Nobody asks for the comparisons.
@@ -84,5 +87,7 @@ fn remove_counted<L: Ledger>(queues: &mut Queues, task: u32, blank: Blank) -> bo
     ensures pushes { queues.new.state.pushes ≡ queues.old.state.pushes }
 {
     let mut steps = Steps::<L>::new(blank);
-    queues.remove(task, &mut steps)
+    let was_there = queues.remove(task, &mut steps);
+    drop(steps);
+    was_there
 }

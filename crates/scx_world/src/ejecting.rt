@@ -2,7 +2,6 @@ ghost use Rattle.std.specs.Prelude.{◌≡◌, ◌+◌, ◌^◌, ◌<◌, ◌≤
 ghost use Rattle.scx_world.specs.World.{running};
 ghost use Rattle.scx_world.specs.Ejecting.{put_builtin, overtaken, used, charged, put_out, evict, cut_task, cut};
 
-use crate::counting;
 use crate::eject::Eject;
 use crate::ids::BUILTIN;
 use crate::world::World;
@@ -71,7 +70,6 @@ impl World {
     }
 
     /// The task waits for the built-in scheduler, at most a slice behind its clock.
-    #[tactic(auto, using(crate::proofs::Parked::known_pushed))]
     pub fn put_builtin(&mut self, task: u16)
         requires few { self.old.queues.pushes < 2 ^ 63 }
         ensures world { self.new ≡ put_builtin self.old task }
@@ -83,8 +81,7 @@ impl World {
             facts.builtin = cmp::max(facts.builtin, earliest);
             facts.slice = DEFAULT_SLICE;
             self.set_task(task, facts);
-            let rank = Rank::Vtime(facts.builtin);
-            counting::push(&mut self.queues, BUILTIN, u32::from(task), rank);
+            self.push(BUILTIN, task, Rank::Vtime(facts.builtin));
         }
     }
 

@@ -3,7 +3,6 @@ ghost use Rattle.scx_semantics.specs.HostTables.{field_width};
 ghost use Rattle.scx_world.specs.Helpers.{invalid, faulted, is_there, create_answer, after_create, queued_answer, after_queued, is_held, may_insert, queue_fault, rank_fault, insert_fault, insert_answer, after_insert, released, choice_answer, idle_answer, after_idle, pid_answer, move_answer, after_move, weight_at, group_at, field_of};
 
 use crate::call::Insert;
-use crate::counting;
 use crate::faults::Fault;
 use crate::ids::{GLOBAL, HELD, INVALID, LOCAL, LOCAL_IDS, LOCAL_ON, POLICY_END};
 use crate::notes::{Note, What};
@@ -179,7 +178,6 @@ impl World {
         });
     }
 
-    #[tactic(auto, using(crate::proofs::Parked::known_pushed, crate::proofs::Parked::known_popped))]
     pub(crate) fn move_to_local(&mut self, queue: u64) -> u64
         requires notes { length self.old.notes < 4096 }
         requires few { self.old.queues.pushes < 2 ^ 63 }
@@ -191,15 +189,15 @@ impl World {
         if self.call.callback != Callback::Dispatch || !self.is_there(queue) {
             return self.fault(Fault::NoSuchQueue);
         }
-        let Some(task) = counting::pop(&mut self.queues, queue) else {
+        let Some(task) = self.pop(queue) else {
             return 0;
         };
         let cpu = self.call.cpu;
-        let _refused = self.queues.push_fifo(LOCAL_ON + u64::from(cpu), task);
+        self.push(LOCAL_ON + u64::from(cpu), task, Rank::Fifo);
         self.call.has_moved = true;
         self.notes.push_reserved(Note {
             clock: self.clock,
-            what: What::Move(task as u16, cpu),
+            what: What::Move(task, cpu),
         });
         1
     }

@@ -1,8 +1,9 @@
-ghost use Rattle.std.specs.Prelude.{◌≡◌, ℕ, ◌+◌, ◌^◌, ◌<◌, ◌≤◌, length};
+ghost use Rattle.std.specs.Prelude.{◌≡◌, ℕ, ◌+◌, ◌^◌, ◌<◌, ◌≤◌, length, IfSome};
+ghost use Rattle.scx_dsq.specs.Calls.{pushed};
 ghost use Rattle.scx_dsq.specs.Queues.{front_of, len_of, behind_of};
 ghost use Rattle.scx_weights.specs.Limits.{usage_of};
 ghost use Rattle.scx_world.specs.Ids.{local_on};
-ghost use Rattle.scx_world.specs.World.{task_at};
+ghost use Rattle.scx_world.specs.World.{task_at, with_queues};
 ghost use Rattle.scx_world.specs.Tasks.{woken, asleep, gone, given, entered, local_len, fill_front, filled, stopped, started, kept, put_parked, taken, let_go, ticked, later, used_ms, begun_periods, reweighed};
 
 use crate::call::Insert;
@@ -41,6 +42,34 @@ impl World {
         }
     }
 
+    /// The task comes into a queue, if that takes it so.
+    #[inline(always)]
+    #[tactic(auto, using(crate::proofs::Parked::known_pushed))]
+    pub(crate) fn push(&mut self, queue: u64, task: u16, rank: Rank)
+        requires task { task < length self.old.tasks }
+        requires few { self.old.queues.pushes < 2 ^ 63 }
+        ensures world { self.new ≡ with_queues self.old (pushed self.old.queues queue task rank) }
+        ensures few { self.new.queues.pushes ≤ self.old.queues.pushes + 1 }
+    {
+        if queue == PARKED {
+            self.parked_throttled = false;
+        }
+        counting::push(&mut self.queues, queue, u32::from(task), rank);
+    }
+
+    /// The front of the queue leaves it, and is answered.
+    #[inline(always)]
+    #[tactic(auto, using(crate::proofs::Parked::known_popped))]
+    pub(crate) fn pop(&mut self, queue: u64) -> Option<u16>
+        ensures answer { result ≡ front_of self.old.queues queue }
+        ensures known { IfSome result (λ t. t < length self.old.tasks) }
+        ensures world { self.new ≡ taken self.old queue }
+        ensures few { self.new.queues.pushes ≡ self.old.queues.pushes }
+    {
+        let task = counting::pop(&mut self.queues, queue)?;
+        Some(task as u16)
+    }
+
     /// The task leaves the queue in which it waits.
     #[tactic(auto, using(crate::proofs::Parked::known_removed))]
     pub fn leave_queue(&mut self, task: u16)
@@ -53,7 +82,6 @@ impl World {
     }
 
     /// The task goes into a queue, as the insert wants it to.
-    #[tactic(auto, using(crate::proofs::Parked::known_pushed))]
     pub fn enter(&mut self, task: u16, insert: Insert)
         requires few { self.old.queues.pushes < 2 ^ 63 }
         ensures world { self.new ≡ entered self.old task insert }
@@ -62,10 +90,7 @@ impl World {
         if (task as usize) < self.tasks.len() {
             let facts = given(self.task(task), insert);
             self.set_task(task, facts);
-            if insert.queue == PARKED {
-                self.parked_throttled = false;
-            }
-            counting::push(&mut self.queues, insert.queue, u32::from(task), insert.rank);
+            self.push(insert.queue, task, insert.rank);
         }
     }
 
@@ -77,7 +102,6 @@ impl World {
     }
 
     /// Where the local queue is empty the front of another comes to it, and is answered.
-    #[tactic(auto, using(crate::proofs::Parked::known_pushed, crate::proofs::Parked::known_popped))]
     pub fn fill(&mut self, queue: u64, cpu: u32) -> Option<u16>
         requires few { self.old.queues.pushes < 2 ^ 63 }
         ensures answer { result ≡ fill_front self.old queue cpu }
@@ -87,9 +111,9 @@ impl World {
         if self.local_len(cpu) > 0 {
             return None;
         }
-        let task = counting::pop(&mut self.queues, queue)?;
-        let _refused = self.queues.push_fifo(LOCAL_ON + u64::from(cpu), task);
-        Some(task as u16)
+        let task = self.pop(queue)?;
+        self.push(LOCAL_ON + u64::from(cpu), task, Rank::Fifo);
+        Some(task)
     }
 
     /// The task leaves its processor, and waits from now on.
@@ -104,13 +128,12 @@ impl World {
     }
 
     /// The front of the local queue runs, waits no more, and is answered.
-    #[tactic(auto, using(crate::proofs::Parked::known_popped))]
     pub fn start(&mut self, cpu: u32) -> Option<u16>
         ensures answer { result ≡ front_of self.old.queues (local_on cpu) }
         ensures world { self.new ≡ started self.old cpu }
         ensures few { self.new.queues.pushes ≡ self.old.queues.pushes }
     {
-        let task = counting::pop(&mut self.queues, LOCAL_ON + u64::from(cpu))? as u16;
+        let task = self.pop(LOCAL_ON + u64::from(cpu))?;
         let mut facts = self.task(task);
         facts.prev_cpu = cpu;
         facts.since = None;
@@ -152,14 +175,12 @@ impl World {
     }
 
     /// The front of the queue leaves it, and is answered.
-    #[tactic(auto, using(crate::proofs::Parked::known_popped))]
     pub fn take(&mut self, queue: u64) -> Option<u16>
         ensures answer { result ≡ front_of self.old.queues queue }
         ensures world { self.new ≡ taken self.old queue }
         ensures few { self.new.queues.pushes ≡ self.old.queues.pushes }
     {
-        let task = counting::pop(&mut self.queues, queue)?;
-        Some(task as u16)
+        self.pop(queue)
     }
 
     /// The front of the queue.

@@ -69,20 +69,34 @@ impl World {
         ensures flags { OnOk result (length tree.active ≡ length tree.homes) }
     {
         let count = tree.tasks() as usize;
-        Ok(World {
-            clock: 0,
-            tasks: Tasks::new(alloc, count)?,
-            cpus: vec![in alloc; None; cpus]?,
-            busy: 0,
-            cycling: None,
-            queues: own_queues(alloc, cpus, count)?,
-            tree,
-            call: Call::NONE,
-            builtin_clock: 0,
-            ejected: None,
-            notes: Vec::with_capacity(alloc, 4096)?,
-            parked_throttled: false,
-        })
+        let tasks = Tasks::new(alloc, count);
+        let running = vec![in alloc; None; cpus];
+        let queues = own_queues(alloc, cpus, count);
+        let notes = Vec::with_capacity(alloc, 4096);
+        match (tasks, running, queues, notes) {
+            (Ok(tasks), Ok(cpus), Ok(queues), Ok(notes)) => Ok(World {
+                clock: 0,
+                tasks,
+                cpus,
+                busy: 0,
+                cycling: None,
+                queues,
+                tree,
+                call: Call::NONE,
+                builtin_clock: 0,
+                ejected: None,
+                notes,
+                parked_throttled: false,
+            }),
+            (tasks, cpus, queues, notes) => {
+                drop(tasks);
+                drop(cpus);
+                drop(queues);
+                drop(notes);
+                drop(tree);
+                Err(AllocError)
+            }
+        }
     }
 
     pub fn clock(&self) -> u64

@@ -1,21 +1,24 @@
-use Rattle.std.proofs.Common.{◌≡◌, ◌∙◌, ◌≤◌, ℕ, List, length, ap, sym, refl, arith, rules, Option, None}
+use Rattle.std.proofs.Common.{◌≡◌, ◌∙◌, ℕ, length, ap, sym, arith, rules, Option, None}
 use Rattle.std.proofs.lemmas.List.{length-replicate}
 use Rattle.scx_tasks.specs.Tasks.{new_task}
-use Rattle.scx_weights.specs.Hierarchy.{Hierarchy}
 use Rattle.scx_world.proofs.Busy.{none_busy}
 use Rattle.scx_world.proofs.world.World.new.Goals as goal
 
-pub invariant_of-result-2 : goal.invariant_of-result-2
-invariant_of-result-2 c =
-    let cpus = c.in_ok-vec.ensures.items_if_clones_equal (λ y e. search rules) in
+pub invariant_of-result : goal.invariant_of-result
+invariant_of-result c =
+    let made = c.in-Ok-Ok-Ok-Ok in
+    let tasks = rw made.is-0 at c.new-tasks.ensures in
+    let cpus = (rw made.is-1 at c.vec-running.ensures.items_if_clones_equal) (λ y e. search rules) in
+    let queued = rw made.is-2 at c.own_queues-queues.ensures.tasks in
+    let notes = rw made.is-3 at c.with_capacity-notes.ensures.items in
     let few = c.tasks-count.ensures in
-    let count : length c.in_ok-new.field-0 ≡ c.tasks-count.result = ap length c.in_ok-new.ensures ∙ length-replicate c.tasks-count.result new_task in
+    let count : length made.tasks ≡ c.tasks-count.result = ap length tasks ∙ length-replicate c.tasks-count.result new_task in
     record {
-      notes = c.in_ok-with_capacity.ensures.capacity;
-      few_notes = rw c.in_ok-with_capacity.ensures.items (omega arith);
-      queued = c.in_ok-own_queues.ensures.tasks ∙ sym count;
-      weighed = ap (λ (x : Hierarchy). length x.homes) c.tree.view_is ∙ sym (count ∙ few.tasks);
-      few_tasks = omega arith;
+      notes = rw made.is-3 at c.with_capacity-notes.ensures.capacity;
+      few_notes = rw notes (omega arith);
+      queued = queued ∙ sym count;
+      weighed = sym (count ∙ few.tasks);
+      few_tasks = omega (arith, count, few.few);
       few_cpus = rw (cpus, length-replicate {A = Option ℕ} c.args.cpus None) c.requires;
       busy = rw cpus (none_busy c.args.cpus);
       early = omega arith;
