@@ -3,10 +3,9 @@ ghost use Rattle.scx_weights.specs.Limits.{usage_of};
 
 use crate::same::expect_same;
 use scx_weights::{Group, Tree, TreeError};
-use std::alloc::{AllocError, Global};
+use std::alloc::Global;
 use std::marker::Model;
 use std::process::Abort;
-use std::test::Fail;
 
 /// A tree, and how many milliseconds it has counted since it was made.
 #[derive(Drop)]
@@ -30,9 +29,9 @@ impl Model for Counted {
 
 impl Counted {
     #[tactic(auto, using(crate::proofs::Usages::most_idle))]
-    fn new(alloc: Global, groups: &[Group], tasks: &[u32]) -> Result<Counted, TreeError> {
-        let tree = Tree::new(alloc, groups, tasks)?;
-        Ok(Counted { tree, ms: 0 })
+    fn new<R: AllocGlobal + Abort>(rt: &R, groups: &[Group], tasks: &[u32]) -> Counted {
+        let tree = Tree::new(rt.alloc(), groups, tasks).expect(rt, "each task is in a group");
+        Counted { tree, ms: 0 }
     }
 
     fn charge(&mut self, rt: &impl Abort, task: u32) {
@@ -103,26 +102,15 @@ fn expect_after(
     check_throttled(rt, tree, throttled, case);
 }
 
-/// A group's parent, quota and period.
-type Limit = (Option<u32>, Option<u32>, u32);
-
-fn groups_of(alloc: Global, limits: &[Limit]) -> Result<Vec<Group>, AllocError> {
-    let mut groups = Vec::new(alloc);
-    for &(parent, quota_ms, period_ms) in limits {
-        groups.push(Group {
-            parent,
+macro_rules! limited {
+    ($parent:expr, $quota_ms:expr, $period_ms:expr) => {
+        Group {
+            parent: $parent,
             weight: 100,
-            quota_ms,
-            period_ms,
-        })?;
-    }
-    Ok(groups)
-}
-
-/// The tree of those groups and tasks, which has counted nothing yet.
-fn tree_of(alloc: Global, limits: &[Limit], tasks: &[u32]) -> Result<Counted, TreeError> {
-    let groups = groups_of(alloc, limits)?;
-    Counted::new(alloc, &groups, tasks)
+            quota_ms: $quota_ms,
+            period_ms: $period_ms,
+        }
+    };
 }
 
 /// 2 ms of each 5: what happens, then the usage of each group and whether each task is throttled.
@@ -148,20 +136,19 @@ fn go_through_one_group(rt: &impl Abort, tree: &mut Counted) {
 }
 
 #[test]
-fn a_group_is_throttled_until_its_period_begins(rt: HostRuntime) -> Result<(), Fail> {
-    let mut tree = tree_of(rt.alloc(), &[(None, Some(2), 5)], &[0, 0])?;
+fn a_group_is_throttled_until_its_period_begins(rt: HostRuntime) {
+    let mut tree = Counted::new(&rt, &[limited!(None, Some(2), 5)], &[0, 0]);
     go_through_one_group(&rt, &mut tree);
     drop(tree);
-    Ok(())
 }
 
 /// At the top 3 ms of each 10; below it a group without a quota and one of 2 ms of each 5; beside it one
 /// without a quota.
-const NESTED: [Limit; 4] = [
-    (None, Some(3), 10),
-    (Some(0), None, 100),
-    (Some(0), Some(2), 5),
-    (None, None, 100),
+const NESTED: [Group; 4] = [
+    limited!(None, Some(3), 10),
+    limited!(Some(0), None, 100),
+    limited!(Some(0), Some(2), 5),
+    limited!(None, None, 100),
 ];
 
 const UNDER_ONE: [(Use, [u64; 4], [bool; 3]); 11] = [
@@ -185,30 +172,32 @@ fn go_under_one(rt: &impl Abort, tree: &mut Counted) {
 }
 
 #[test]
-fn a_group_uses_what_those_above_it_may(rt: HostRuntime) -> Result<(), Fail> {
-    let mut tree = tree_of(rt.alloc(), &NESTED, &[1, 2, 3])?;
+fn a_group_uses_what_those_above_it_may(rt: HostRuntime) {
+    let mut tree = Counted::new(&rt, &NESTED, &[1, 2, 3]);
     go_under_one(&rt, &mut tree);
     drop(tree);
-    Ok(())
 }
 
-fn is_limited(alloc: Global, limits: &[Limit], home: u32) -> Result<bool, TreeError> {
-    let groups = groups_of(alloc, limits)?;
-    let tree = Tree::new(alloc, &groups, &[home])?;
-    Ok(tree.is_limited())
+fn expect_limited<R: AllocGlobal + Abort>(rt: &R, groups: &[Group], home: u32, wanted: bool) {
+    let tree = Tree::new(rt.alloc(), groups, &[home]).expect(rt, "the task is in a group");
+    expect_same(rt, tree.is_limited(), wanted, home);
+    drop(tree);
 }
+
+/// A group below one, neither of which has a quota.
+const FREE: [Group; 2] = [limited!(None, None, 100), limited!(Some(0), None, 5)];
 
 #[test]
-fn a_quota_of_any_group_limits(rt: HostRuntime) -> Result<(), Fail> {
-    let free = is_limited(rt.alloc(), &[(None, None, 100), (Some(0), None, 5)], 1)?;
-    expect_same(&rt, free, false, "no quota");
-    let nested = is_limited(rt.alloc(), &NESTED, 1)?;
-    expect_same(&rt, nested, true, "two quotas");
-    Ok(())
+fn a_quota_of_any_group_limits(rt: HostRuntime) {
+    expect_limited(&rt, &FREE, 1, false);
+    expect_limited(&rt, &NESTED, 1, true);
 }
 
 /// The shortest period and the longest one, with the least quota and the greatest one.
-const EXTREMES: [Limit; 2] = [(None, Some(1), 1), (None, Some(1_000_000), 1000)];
+const EXTREMES: [Group; 2] = [
+    limited!(None, Some(1), 1),
+    limited!(None, Some(1_000_000), 1000),
+];
 
 const AT_EXTREMES: [(Use, [u64; 2], [bool; 2]); 8] = [
     (Ran(0), [1, 0], [true, false]),
@@ -229,58 +218,60 @@ fn go_to_extremes(rt: &impl Abort, tree: &mut Counted) {
 }
 
 #[test]
-fn periods_may_be_short_and_long(rt: HostRuntime) -> Result<(), Fail> {
-    let mut tree = tree_of(rt.alloc(), &EXTREMES, &[0, 1])?;
+fn periods_may_be_short_and_long(rt: HostRuntime) {
+    let mut tree = Counted::new(&rt, &EXTREMES, &[0, 1]);
     go_to_extremes(&rt, &mut tree);
     drop(tree);
-    Ok(())
 }
 
-/// Why groups with those limits and a task in the first make no tree, if they make none.
-fn refusal(alloc: Global, limits: &[Limit]) -> Result<Option<TreeError>, AllocError> {
-    let groups = groups_of(alloc, limits)?;
-    Ok(Tree::new(alloc, &groups, &[0]).err())
+/// Why those groups and a task in the first make no tree, if they make none.
+fn refusal(alloc: Global, groups: &[Group]) -> Option<TreeError> {
+    Tree::new(alloc, groups, &[0]).err()
 }
 
 /// A group, and what is wrong with it.
-type Verdict = (Limit, Option<TreeError>);
+type Verdict = (Group, Option<TreeError>);
 
 const LIMITS: [Verdict; 12] = [
-    ((None, Some(0), 100), Some(TreeError::OutOfRange)),
-    ((None, Some(1), 100), None),
-    ((None, Some(1_000_000), 100), None),
-    ((None, Some(1_000_001), 100), Some(TreeError::OutOfRange)),
-    ((None, Some(u32::MAX), 100), Some(TreeError::OutOfRange)),
-    ((None, Some(1), 0), Some(TreeError::OutOfRange)),
-    ((None, Some(1), 1), None),
-    ((None, Some(1), 1000), None),
-    ((None, Some(1), 1001), Some(TreeError::OutOfRange)),
+    (limited!(None, Some(0), 100), Some(TreeError::OutOfRange)),
+    (limited!(None, Some(1), 100), None),
+    (limited!(None, Some(1_000_000), 100), None),
+    (
+        limited!(None, Some(1_000_001), 100),
+        Some(TreeError::OutOfRange),
+    ),
+    (
+        limited!(None, Some(u32::MAX), 100),
+        Some(TreeError::OutOfRange),
+    ),
+    (limited!(None, Some(1), 0), Some(TreeError::OutOfRange)),
+    (limited!(None, Some(1), 1), None),
+    (limited!(None, Some(1), 1000), None),
+    (limited!(None, Some(1), 1001), Some(TreeError::OutOfRange)),
     // A group without a quota has periods too.
-    ((None, None, 0), Some(TreeError::OutOfRange)),
-    ((None, None, 1001), Some(TreeError::OutOfRange)),
+    (limited!(None, None, 0), Some(TreeError::OutOfRange)),
+    (limited!(None, None, 1001), Some(TreeError::OutOfRange)),
     // Of several faults the first in the order of their numbers.
-    ((Some(0), Some(0), 0), Some(TreeError::UnknownGroup)),
+    (limited!(Some(0), Some(0), 0), Some(TreeError::UnknownGroup)),
 ];
 
 #[test]
-fn quotas_and_periods_are_limited(rt: HostRuntime) -> Result<(), Fail> {
-    for (number, &(limit, wanted)) in LIMITS.iter().enumerate() {
-        expect_same(&rt, refusal(rt.alloc(), &[limit])?, wanted, number);
+fn quotas_and_periods_are_limited(rt: HostRuntime) {
+    for (number, &(group, wanted)) in LIMITS.iter().enumerate() {
+        expect_same(&rt, refusal(rt.alloc(), &[group]), wanted, number);
     }
-    Ok(())
 }
 
 /// The last of four levels has no quota that it may have.
-const DEEP: [Limit; 4] = [
-    (None, None, 100),
-    (Some(0), None, 100),
-    (Some(1), None, 100),
-    (Some(2), Some(0), 100),
+const DEEP: [Group; 4] = [
+    limited!(None, None, 100),
+    limited!(Some(0), None, 100),
+    limited!(Some(1), None, 100),
+    limited!(Some(2), Some(0), 100),
 ];
 
 #[test]
-fn a_bad_limit_goes_before_depth(rt: HostRuntime) -> Result<(), Fail> {
-    let found = refusal(rt.alloc(), &DEEP)?;
+fn a_bad_limit_goes_before_depth(rt: HostRuntime) {
+    let found = refusal(rt.alloc(), &DEEP);
     expect_same(&rt, found, Some(TreeError::OutOfRange), "deep");
-    Ok(())
 }

@@ -1,55 +1,35 @@
 use crate::same::expect_same;
 use scx_maps::{BadShape, MapDefs, Maps, Shape, Size};
-use std::alloc::{AllocError, Global};
 use std::process::Abort;
 use std::test::Fail;
 
-/// How many entries a map has, and how many bytes each value.
-type Sizes = (u32, u32);
+macro_rules! shape {
+    ($entries:expr, $value_size:expr) => {
+        Shape {
+            entries: $entries,
+            value_size: $value_size,
+        }
+    };
+}
 
-const LEAST: Sizes = (1, 1);
+const LEAST: Shape = shape!(1, 1);
 
 /// As many bytes as all maps may have.
-const FULL: Sizes = (65536, 256);
+const FULL: Shape = shape!(65536, 256);
 
-fn shapes_of(alloc: Global, sizes: &[Sizes]) -> Result<Vec<Shape>, AllocError> {
-    let mut shapes = Vec::new(alloc);
-    for &(entries, value_size) in sizes {
-        shapes.push(Shape {
-            entries,
-            value_size,
-        })?;
+/// Shapes, and why they are refused, if they are.
+type Row<'a> = (&'a [Shape], Option<BadShape>);
+
+fn refuse(rt: &impl Abort, rows: &[Row<'_>]) {
+    for &(shapes, wanted) in rows {
+        expect_same(rt, MapDefs::new(shapes).err(), wanted, shapes);
     }
-    Ok(shapes)
-}
-
-fn made(alloc: Global, sizes: &[Sizes]) -> Result<Result<MapDefs, BadShape>, AllocError> {
-    let shapes = shapes_of(alloc, sizes)?;
-    Ok(MapDefs::new(&shapes))
-}
-
-/// Why shapes of these sizes are refused, if they are.
-fn refusal(alloc: Global, sizes: &[Sizes]) -> Result<Option<BadShape>, AllocError> {
-    let made = made(alloc, sizes)?;
-    Ok(made.err())
-}
-
-/// Sizes, and why their shapes are refused, if they are.
-type Row<'a> = (&'a [Sizes], Option<BadShape>);
-
-fn refuse<R: AllocGlobal + Abort>(rt: &R, rows: &[Row<'_>]) -> Result<(), AllocError> {
-    for &(sizes, wanted) in rows {
-        expect_same(rt, refusal(rt.alloc(), sizes)?, wanted, sizes);
-    }
-    Ok(())
 }
 
 /// The number at an offset of an element, if its bytes are there.
 fn load(maps: &Maps, map: u8, index: u32, offset: u16, size: Size) -> Option<u64> {
-    if usize::from(map) < maps.count()
-        && maps.lookup(map, index)
-        && usize::from(offset) + usize::from(size.bytes()) <= maps.value(map, index).len()
-    {
+    let held = maps.value_size(map, index);
+    if 0 < held && usize::from(offset) + usize::from(size.bytes()) <= usize::from(held) {
         Some(maps.load(map, index, offset, size))
     } else {
         None
@@ -58,10 +38,8 @@ fn load(maps: &Maps, map: u8, index: u32, offset: u16, size: Size) -> Option<u64
 
 /// Stores a number at an offset of an element; false if its bytes aren't there.
 fn store(maps: &mut Maps, map: u8, index: u32, offset: u16, size: Size, number: u64) -> bool {
-    if usize::from(map) < maps.count()
-        && maps.lookup(map, index)
-        && usize::from(offset) + usize::from(size.bytes()) <= maps.value(map, index).len()
-    {
+    let held = maps.value_size(map, index);
+    if 0 < held && usize::from(offset) + usize::from(size.bytes()) <= usize::from(held) {
         maps.store(map, index, offset, size, number);
         true
     } else {
@@ -80,14 +58,13 @@ fn bytes(maps: &Maps, map: u8, index: u32) -> &[u8] {
 
 /// Writes a byte over each byte of an element.
 fn fill(maps: &mut Maps, map: u8, index: u32, byte: u8) {
-    if usize::from(map) < maps.count() && maps.lookup(map, index) {
+    if 0 < maps.value_size(map, index) {
         maps.value_mut(map, index).fill(byte);
     }
 }
 
-fn defs<R: AllocGlobal + Abort>(rt: &R, sizes: &[Sizes]) -> Result<MapDefs, AllocError> {
-    let made = made(rt.alloc(), sizes)?;
-    Ok(made.expect(rt, "the shapes are within the limits"))
+fn defs(rt: &impl Abort, shapes: &[Shape]) -> MapDefs {
+    MapDefs::new(shapes).expect(rt, "the shapes are within the limits")
 }
 
 /// The shapes by their numbers are these.
@@ -97,79 +74,72 @@ fn expect_shapes(rt: &impl Abort, defs: &MapDefs, rows: &[(u8, Option<Shape>)]) 
     }
 }
 
-const TWO: [Sizes; 2] = [(3, 8), (1, 4096)];
+/// These shapes are held, of which there are so many.
+fn expect_held(rt: &impl Abort, shapes: &[Shape], count: usize, rows: &[(u8, Option<Shape>)]) {
+    let defs = defs(rt, shapes);
+    expect_same(rt, defs.count(), count, "maps");
+    expect_shapes(rt, &defs, rows);
+}
+
+const TWO: [Shape; 2] = [shape!(3, 8), shape!(1, 4096)];
 
 const SHAPES_OF_TWO: [(u8, Option<Shape>); 4] = [
-    (
-        0,
-        Some(Shape {
-            entries: 3,
-            value_size: 8,
-        }),
-    ),
-    (
-        1,
-        Some(Shape {
-            entries: 1,
-            value_size: 4096,
-        }),
-    ),
+    (0, Some(shape!(3, 8))),
+    (1, Some(shape!(1, 4096))),
     (2, None),
     (16, None),
 ];
 
-const LARGEST: [Row<'static>; 2] = [(&[FULL], None), (&[(4096, 4096)], None)];
+const LARGEST: [Row<'static>; 2] = [(&[FULL], None), (&[shape!(4096, 4096)], None)];
 
 #[test]
-fn shapes_within_the_limits_are_held(rt: HostRuntime) -> Result<(), Fail> {
-    let none = defs(&rt, &[])?;
-    expect_same(&rt, none.count(), 0, "no map");
-    expect_shapes(&rt, &none, &[(0, None)]);
-    let two = defs(&rt, &TWO)?;
-    expect_same(&rt, two.count(), 2, "two maps");
-    expect_shapes(&rt, &two, &SHAPES_OF_TWO);
-    let most = defs(&rt, &[LEAST; 16])?;
-    expect_same(&rt, most.count(), 16, "as many maps as there may be");
-    refuse(&rt, &LARGEST)?;
-    assert!(&rt; two == two && two != none);
-    Ok(())
+fn shapes_within_the_limits_are_held(rt: HostRuntime) {
+    expect_held(&rt, &[], 0, &[(0, None)]);
+    expect_held(&rt, &TWO, 2, &SHAPES_OF_TWO);
+    expect_held(&rt, &[LEAST; 16], 16, &[]);
+    refuse(&rt, &LARGEST);
+}
+
+#[test]
+fn shapes_are_compared(rt: HostRuntime) {
+    let none = defs(&rt, &[]);
+    let two = defs(&rt, &TWO);
+    expect_same(&rt, (two == two, two == none), (true, false), "shapes");
 }
 
 const REFUSED: [Row<'static>; 9] = [
     (&[LEAST; 17], Some(BadShape::TooManyMaps)),
-    (&[(0, 0); 17], Some(BadShape::TooManyMaps)),
-    (&[(0, 8)], Some(BadShape::Entries { map: 0 })),
-    (&[(65537, 1)], Some(BadShape::Entries { map: 0 })),
-    (&[(u32::MAX, 1)], Some(BadShape::Entries { map: 0 })),
-    (&[(1, 0)], Some(BadShape::ValueSize { map: 0 })),
-    (&[(1, 4097)], Some(BadShape::ValueSize { map: 0 })),
+    (&[shape!(0, 0); 17], Some(BadShape::TooManyMaps)),
+    (&[shape!(0, 8)], Some(BadShape::Entries { map: 0 })),
+    (&[shape!(65537, 1)], Some(BadShape::Entries { map: 0 })),
+    (&[shape!(u32::MAX, 1)], Some(BadShape::Entries { map: 0 })),
+    (&[shape!(1, 0)], Some(BadShape::ValueSize { map: 0 })),
+    (&[shape!(1, 4097)], Some(BadShape::ValueSize { map: 0 })),
     (
-        &[LEAST, (1, 0), (0, 1)],
+        &[LEAST, shape!(1, 0), shape!(0, 1)],
         Some(BadShape::ValueSize { map: 1 }),
     ),
     (
-        &[(65536, 4096), LEAST, (0, 0)],
+        &[shape!(65536, 4096), LEAST, shape!(0, 0)],
         Some(BadShape::Entries { map: 2 }),
     ),
 ];
 
 #[test]
-fn the_first_broken_limit_is_named(rt: HostRuntime) -> Result<(), Fail> {
-    refuse(&rt, &REFUSED)?;
-    Ok(())
+fn the_first_broken_limit_is_named(rt: HostRuntime) {
+    refuse(&rt, &REFUSED);
 }
 
 const OF_ALL_MAPS: [Row<'static>; 4] = [
     (&[FULL, LEAST], Some(BadShape::TooLarge)),
     (&[LEAST, FULL], Some(BadShape::TooLarge)),
-    (&[(65536, 4096); 16], Some(BadShape::TooLarge)),
-    (&[(256, 4096); 16], None),
+    (&[shape!(65536, 4096); 16], Some(BadShape::TooLarge)),
+    (&[shape!(256, 4096); 16], None),
 ];
 
 #[test]
-fn the_bytes_of_all_maps_are_limited(rt: HostRuntime) -> Result<(), Fail> {
-    refuse(&rt, &OF_ALL_MAPS)?;
-    Ok(())
+fn the_bytes_of_all_maps_are_limited(rt: HostRuntime) {
+    refuse(&rt, &OF_ALL_MAPS);
 }
 
 const TOLD: [(BadShape, &str); 2] = [
@@ -198,10 +168,9 @@ fn refusals_are_told(rt: HostRuntime) -> Result<(), Fail> {
     Ok(())
 }
 
-/// Maps of these sizes.
-fn maps<R: AllocGlobal + Abort>(rt: &R, sizes: &[Sizes]) -> Result<Maps, AllocError> {
-    let defs = defs(rt, sizes)?;
-    Maps::new(rt.alloc(), &defs)
+/// Maps of these shapes.
+fn maps<R: AllocGlobal + Abort>(rt: &R, shapes: &[Shape]) -> Maps {
+    Maps::new(rt.alloc(), &defs(rt, shapes)).expect(rt, "memory is ample")
 }
 
 /// An element of a map, and its bytes.
@@ -245,14 +214,23 @@ const ZEROS: [Element<'static>; 5] = [
     (1, 1, &[]),
 ];
 
+/// New maps of these shapes, of which there are so many, have these elements.
+fn expect_new<R: AllocGlobal + Abort>(
+    rt: &R,
+    shapes: &[Shape],
+    count: usize,
+    rows: &[Element<'_>],
+) {
+    let maps = maps(rt, shapes);
+    expect_same(rt, maps.count(), count, "maps");
+    expect_elements(rt, &maps, rows);
+    drop(maps);
+}
+
 #[test]
-fn new_maps_are_zero(rt: HostRuntime) -> Result<(), Fail> {
-    let two = maps(&rt, &[(2, 3), LEAST])?;
-    expect_same(&rt, two.count(), 2, "two maps");
-    expect_elements(&rt, &two, &ZEROS);
-    let none = maps(&rt, &[])?;
-    expect_same(&rt, none.count(), 0, "no map");
-    Ok(())
+fn new_maps_are_zero(rt: HostRuntime) {
+    expect_new(&rt, &[shape!(2, 3), LEAST], 2, &ZEROS);
+    expect_new(&rt, &[], 0, &[]);
 }
 
 const NUMBER: u64 = 0x0102_0304_0506_0708;
@@ -272,12 +250,12 @@ const PARTS_OF_NUMBER: [Load; 5] = [
 ];
 
 #[test]
-fn a_number_is_stored_low_byte_first(rt: HostRuntime) -> Result<(), Fail> {
-    let mut maps = maps(&rt, &[(3, 10)])?;
+fn a_number_is_stored_low_byte_first(rt: HostRuntime) {
+    let mut maps = maps(&rt, &[shape!(3, 10)]);
     expect_stores(&rt, &mut maps, &[(1, 1, Size::DoubleWord, NUMBER, true)]);
     expect_elements(&rt, &maps, &BYTES_OF_NUMBER);
     expect_loads(&rt, &maps, &PARTS_OF_NUMBER);
-    Ok(())
+    drop(maps);
 }
 
 const STORES: [Store; 4] = [
@@ -290,12 +268,12 @@ const STORES: [Store; 4] = [
 const STORED: [u8; 8] = [0x11, 255, 0x22, 0x33, 0x44, 0x55, 0x66, 0x77];
 
 #[test]
-fn a_store_takes_the_lowest_bytes(rt: HostRuntime) -> Result<(), Fail> {
-    let mut maps = maps(&rt, &[(1, 8)])?;
+fn a_store_takes_the_lowest_bytes(rt: HostRuntime) {
+    let mut maps = maps(&rt, &[shape!(1, 8)]);
     fill(&mut maps, 0, 0, 255);
     expect_stores(&rt, &mut maps, &STORES);
     expect_elements(&rt, &maps, &[(0, 0, &STORED)]);
-    Ok(())
+    drop(maps);
 }
 
 const WRITTEN: [Element<'static>; 6] = [
@@ -308,12 +286,12 @@ const WRITTEN: [Element<'static>; 6] = [
 ];
 
 #[test]
-fn a_write_stays_in_its_element(rt: HostRuntime) -> Result<(), Fail> {
-    let mut maps = maps(&rt, &[(2, 2), (3, 1), (1, 4)])?;
+fn a_write_stays_in_its_element(rt: HostRuntime) {
+    let mut maps = maps(&rt, &[shape!(2, 2), shape!(3, 1), shape!(1, 4)]);
     fill(&mut maps, 1, 1, 9);
     fill(&mut maps, 0, 1, 7);
     expect_elements(&rt, &maps, &WRITTEN);
-    Ok(())
+    drop(maps);
 }
 
 const LAST: [Store; 1] = [(65535, 248, Size::DoubleWord, u64::MAX, true)];
@@ -325,9 +303,9 @@ const AT_THE_END: [Load; 3] = [
 ];
 
 #[test]
-fn the_largest_map_can_be_made(rt: HostRuntime) -> Result<(), Fail> {
-    let mut maps = maps(&rt, &[FULL])?;
+fn the_largest_map_can_be_made(rt: HostRuntime) {
+    let mut maps = maps(&rt, &[FULL]);
     expect_stores(&rt, &mut maps, &LAST);
     expect_loads(&rt, &maps, &AT_THE_END);
-    Ok(())
+    drop(maps);
 }

@@ -2,11 +2,9 @@ ghost use Rattle.std.specs.Prelude.{◌≡◌, ◌<◌};
 
 use crate::same::expect_same;
 use scx_dsq::{QueueError, Queues, Steps};
-use std::alloc::{AllocError, Global};
 use std::marker::Brand;
 use std::process::Abort;
 use std::sync::ledger::{Blank, Ledger};
-use std::test::Fail;
 
 /// A call of `Queues`, with its queue, its task and its key.
 #[derive(Clone, Copy)]
@@ -126,17 +124,16 @@ fn expect_replies(rt: &impl Abort, queues: &mut Queues, rows: &[Row]) {
     }
 }
 
+/// Queues for so many queues and tasks.
+fn queues<R: AllocGlobal + Abort>(rt: &R, room: usize, tasks: usize) -> Queues {
+    Queues::new(rt.alloc(), room, tasks).expect(rt, "memory is ample")
+}
+
 /// Carries out commands one by one, on queues for so many queues and tasks, and compares their replies.
-fn expect<R: AllocGlobal + Abort>(
-    rt: &R,
-    room: usize,
-    tasks: usize,
-    rows: &[Row],
-) -> Result<(), AllocError> {
-    let mut queues = Queues::new(rt.alloc(), room, tasks)?;
+fn expect<R: AllocGlobal + Abort>(rt: &R, room: usize, tasks: usize, rows: &[Row]) {
+    let mut queues = queues(rt, room, tasks);
     expect_replies(rt, &mut queues, rows);
     drop(queues);
-    Ok(())
 }
 
 const ERRORS: [(QueueError, u8, &str); 4] = [
@@ -173,9 +170,8 @@ const BY_KEY: [Row; 15] = [
 ];
 
 #[test]
-fn tasks_leave_by_key_and_then_by_stamp(rt: HostRuntime) -> Result<(), Fail> {
-    expect(&rt, 1, 5, &BY_KEY)?;
-    Ok(())
+fn tasks_leave_by_key_and_then_by_stamp(rt: HostRuntime) {
+    expect(&rt, 1, 5, &BY_KEY);
 }
 
 const KEPT_APART: [Row; 18] = [
@@ -200,9 +196,8 @@ const KEPT_APART: [Row; 18] = [
 ];
 
 #[test]
-fn two_queues_are_kept_apart(rt: HostRuntime) -> Result<(), Fail> {
-    expect(&rt, 2, 5, &KEPT_APART)?;
-    Ok(())
+fn two_queues_are_kept_apart(rt: HostRuntime) {
+    expect(&rt, 2, 5, &KEPT_APART);
 }
 
 const FIRST_CAUSES: [Row; 24] = [
@@ -238,9 +233,8 @@ const FIRST_CAUSES: [Row; 24] = [
 ];
 
 #[test]
-fn the_first_cause_is_told(rt: HostRuntime) -> Result<(), Fail> {
-    expect(&rt, 2, 4, &FIRST_CAUSES)?;
-    Ok(())
+fn the_first_cause_is_told(rt: HostRuntime) {
+    expect(&rt, 2, 4, &FIRST_CAUSES);
 }
 
 const NO_ROOM: [Row; 3] = [
@@ -250,138 +244,168 @@ const NO_ROOM: [Row; 3] = [
 ];
 
 #[test]
-fn queues_may_have_no_room(rt: HostRuntime) -> Result<(), Fail> {
-    expect(&rt, 0, 0, &NO_ROOM)?;
-    Ok(())
+fn queues_may_have_no_room(rt: HostRuntime) {
+    expect(&rt, 0, 0, &NO_ROOM);
 }
 
-/// A task that waits, in a plain queue.
+/// A task that waits in a queue.
 #[derive(Clone, Copy)]
 struct Waiting {
-    key: u64,
     task: u32,
-}
-
-/// A queue as a vector, the next to leave first.
-#[derive(Drop)]
-struct PlainQueue {
-    id: u64,
+    queue: u64,
     by_vtime: bool,
-    waiting: Vec<Waiting>,
+    key: u64,
+    /// How many tasks had come to queues before it.
+    stamp: u64,
 }
 
-impl PlainQueue {
-    fn push(&mut self, task: u32, by_vtime: bool, key: u64) -> Result<Reply, AllocError> {
-        if !self.waiting.is_empty() && self.by_vtime != by_vtime {
-            return Ok(MIXED);
-        }
-        self.by_vtime = by_vtime;
-        let behind = self.waiting.iter().filter(|w| w.key <= key).count();
-        self.waiting.insert(behind, Waiting { key, task })?;
-        Ok(DONE)
+impl Waiting {
+    /// Whether it leaves its queue before another task of that queue.
+    fn is_before(&self, other: &Waiting) -> bool {
+        self.key < other.key || (self.key == other.key && self.stamp < other.stamp)
     }
 }
 
-/// The same queues as sorted vectors.
-#[derive(Drop)]
+/// The task that leaves first of the one that did so far and of the next task, if that waits in the queue.
+fn first_of(first: Option<Waiting>, next: Option<Waiting>, queue: u64) -> Option<Waiting> {
+    let Some(waiting) = next else {
+        return first;
+    };
+    match first {
+        _ if waiting.queue != queue => first,
+        Some(first) if first.is_before(&waiting) => Some(first),
+        _ => next,
+    }
+}
+
+/// The same queues as a list of all tasks, in which the one that leaves next is looked for each time.
+#[derive(Clone, Copy)]
 struct Plain {
-    alloc: Global,
     room: usize,
-    queues: Vec<PlainQueue>,
+    created: usize,
+    is_queue: [bool; 17],
+    tasks: [Option<Waiting>; 1024],
     pushes: u64,
 }
 
 impl Plain {
-    fn new(alloc: Global, room: usize) -> Plain {
+    fn new(room: usize) -> Plain {
         Plain {
-            alloc,
             room,
-            queues: Vec::new(alloc),
+            created: 0,
+            is_queue: [false; 17],
+            tasks: [None; 1024],
             pushes: 0,
         }
     }
 
-    fn queue(&self, id: u64) -> Option<&PlainQueue> {
-        self.queues.iter().find(|q| q.id == id)
+    fn has(&self, queue: u64) -> bool {
+        self.is_queue.get(queue as usize) == Some(&true)
     }
 
-    fn create(&mut self, id: u64) -> Result<Reply, AllocError> {
-        if self.queue(id).is_some() {
-            return Ok(ALREADY_THERE);
+    fn create(&mut self, queue: u64) -> Reply {
+        if self.has(queue) {
+            return ALREADY_THERE;
         }
-        if self.queues.len() >= self.room {
-            return Ok(TOO_MANY_QUEUES);
+        if self.created >= self.room {
+            return TOO_MANY_QUEUES;
         }
-        self.queues.push(PlainQueue {
-            id,
-            by_vtime: false,
-            waiting: Vec::new(self.alloc),
-        })?;
-        Ok(DONE)
+        if let Some(is_queue) = self.is_queue.get_mut(queue as usize) {
+            *is_queue = true;
+        }
+        self.created = self.created.saturating_add(1);
+        DONE
     }
 
-    fn push(&mut self, id: u64, task: u32, by_vtime: bool, key: u64) -> Result<Reply, AllocError> {
-        let waits = self.queue_of(task).is_some();
-        let Some(index) = self.queues.iter().position(|q| q.id == id) else {
-            return Ok(NO_SUCH_QUEUE);
+    fn waiting(&self, task: u32) -> Option<Waiting> {
+        self.tasks.get(task as usize).copied().flatten()
+    }
+
+    /// The task that leaves the queue next.
+    fn first(&self, queue: u64) -> Option<Waiting> {
+        let mut first = None;
+        for &next in &self.tasks {
+            first = first_of(first, next, queue);
+        }
+        first
+    }
+
+    fn set(&mut self, task: u32, waiting: Option<Waiting>) {
+        if let Some(place) = self.tasks.get_mut(task as usize) {
+            *place = waiting;
+        }
+    }
+
+    fn push(&mut self, queue: u64, task: u32, by_vtime: bool, key: u64) -> Reply {
+        if !self.has(queue) {
+            return NO_SUCH_QUEUE;
+        }
+        if self.waiting(task).is_some() {
+            return ALREADY_THERE;
+        }
+        match self.first(queue) {
+            Some(first) if first.by_vtime != by_vtime => MIXED,
+            _ => self.put(queue, task, by_vtime, key),
+        }
+    }
+
+    fn put(&mut self, queue: u64, task: u32, by_vtime: bool, key: u64) -> Reply {
+        let waiting = Waiting {
+            task,
+            queue,
+            by_vtime,
+            key,
+            stamp: self.pushes,
         };
-        if waits {
-            return Ok(ALREADY_THERE);
-        }
-        let reply = self.queues[index].push(task, by_vtime, key)?;
-        if reply == DONE {
-            self.pushes = self.pushes.wrapping_add(1);
-        }
-        Ok(reply)
+        self.set(task, Some(waiting));
+        self.pushes = self.pushes.wrapping_add(1);
+        DONE
     }
 
-    fn front(&self, id: u64) -> Option<u32> {
-        let first = self.queue(id)?.waiting.first()?;
-        Some(first.task)
+    fn front(&self, queue: u64) -> Option<u32> {
+        Some(self.first(queue)?.task)
     }
 
-    fn len(&self, id: u64) -> usize {
-        match self.queue(id) {
-            Some(queue) => queue.waiting.len(),
-            None => 0,
+    fn len(&self, queue: u64) -> usize {
+        let mut length = 0usize;
+        for waiting in &self.tasks {
+            if let Some(waiting) = waiting {
+                if waiting.queue == queue {
+                    length = length.saturating_add(1);
+                }
+            }
         }
+        length
     }
 
     fn queue_of(&self, task: u32) -> Option<u64> {
-        for queue in self.queues.as_slice() {
-            if queue.waiting.iter().any(|w| w.task == task) {
-                return Some(queue.id);
-            }
-        }
-        None
+        Some(self.waiting(task)?.queue)
     }
 
     fn remove(&mut self, task: u32) -> bool {
-        let waits = self.queue_of(task).is_some();
-        for queue in self.queues.as_mut_slice() {
-            queue.waiting.retain(|w| w.task != task);
-        }
+        let waits = self.waiting(task).is_some();
+        self.set(task, None);
         waits
     }
 
-    fn pop(&mut self, id: u64) -> Option<u32> {
-        let task = self.front(id)?;
-        self.remove(task);
+    fn pop(&mut self, queue: u64) -> Option<u32> {
+        let task = self.front(queue)?;
+        self.set(task, None);
         Some(task)
     }
 
-    fn answer(&mut self, command: Command) -> Result<Reply, AllocError> {
-        Ok(match command {
-            Create(queue) => self.create(queue)?,
-            PushFifo(queue, task) => self.push(queue, task, false, 0)?,
-            PushVtime(queue, task, key) => self.push(queue, task, true, key)?,
+    fn answer(&mut self, command: Command) -> Reply {
+        match command {
+            Create(queue) => self.create(queue),
+            PushFifo(queue, task) => self.push(queue, task, false, 0),
+            PushVtime(queue, task, key) => self.push(queue, task, true, key),
             Front(queue) => Reply::Task(self.front(queue)),
             Pop(queue) => Reply::Task(self.pop(queue)),
             Remove(task) => Reply::Removed(self.remove(task)),
             Len(queue) => Reply::Len(self.len(queue)),
             QueueOf(task) => Reply::Queue(self.queue_of(task)),
             Pushes => Reply::Pushes(self.pushes),
-        })
+        }
     }
 }
 
@@ -414,95 +438,57 @@ fn command_of(number: u64) -> Command {
 }
 
 /// Makes a call of both, and compares what they answer.
-fn compare(
-    rt: &impl Abort,
-    queues: &mut Queues,
-    plain: &mut Plain,
-    command: Command,
-    step: u32,
-) -> Result<(), AllocError> {
-    let wanted = plain.answer(command)?;
+fn compare(rt: &impl Abort, queues: &mut Queues, plain: &mut Plain, command: Command, step: u32) {
+    let wanted = plain.answer(command);
     expect_same(rt, ask(rt, queues, command), wanted, step);
-    Ok(())
 }
 
 /// Makes commands of the walk.
-fn compare_walk(rt: &impl Abort, queues: &mut Queues, plain: &mut Plain) -> Result<(), AllocError> {
+fn compare_walk(rt: &impl Abort, queues: &mut Queues, plain: &mut Plain) {
     let mut state = 0x9e37_79b9_7f4a_7c15;
     for step in 0..10_000 {
         let command = command_of(next(&mut state));
-        compare(rt, queues, plain, command, step)?;
-        compare(rt, queues, plain, Pushes, step)?;
+        compare(rt, queues, plain, command, step);
+        compare(rt, queues, plain, Pushes, step);
     }
-    Ok(())
-}
-
-fn compare_room<R: AllocGlobal + Abort>(rt: &R, plain: &mut Plain) -> Result<(), AllocError> {
-    let mut queues = Queues::new(rt.alloc(), plain.room, 1024)?;
-    compare_walk(rt, &mut queues, plain)?;
-    drop(queues);
-    Ok(())
 }
 
 #[test]
-fn queues_agree_with_sorted_vectors(rt: HostRuntime) -> Result<(), Fail> {
-    let mut plain = Plain::new(rt.alloc(), 16);
-    compare_room(&rt, &mut plain)?;
-    drop(plain);
-    Ok(())
+fn queues_agree_with_plain_ones(rt: HostRuntime) {
+    let mut queues = queues(&rt, 16, 1024);
+    compare_walk(&rt, &mut queues, &mut Plain::new(16));
+    drop(queues);
 }
 
 /// Puts 1024 tasks into queue 0 by keys, of which each stands twice or so.
-fn compare_pushes(
-    rt: &impl Abort,
-    queues: &mut Queues,
-    plain: &mut Plain,
-) -> Result<(), AllocError> {
+fn compare_pushes(rt: &impl Abort, queues: &mut Queues, plain: &mut Plain) {
     let mut state = 0x9e37_79b9_7f4a_7c15;
     for task in 0..1024 {
         let command = PushVtime(0, task, next(&mut state) % 512);
-        compare(rt, queues, plain, command, task)?;
+        compare(rt, queues, plain, command, task);
     }
-    Ok(())
 }
 
 /// Takes five tasks out of it, and then all others in order.
-fn compare_leaving(
-    rt: &impl Abort,
-    queues: &mut Queues,
-    plain: &mut Plain,
-) -> Result<(), AllocError> {
+fn compare_leaving(rt: &impl Abort, queues: &mut Queues, plain: &mut Plain) {
     for &task in &[512, 511, 700, 0, 1023] {
-        compare(rt, queues, plain, Remove(task), task)?;
-        compare(rt, queues, plain, Front(0), task)?;
+        compare(rt, queues, plain, Remove(task), task);
+        compare(rt, queues, plain, Front(0), task);
     }
     for step in 0..1020 {
-        compare(rt, queues, plain, Pop(0), step)?;
+        compare(rt, queues, plain, Pop(0), step);
     }
-    Ok(())
 }
 
-fn compare_middle(
-    rt: &impl Abort,
-    queues: &mut Queues,
-    plain: &mut Plain,
-) -> Result<(), AllocError> {
-    compare(rt, queues, plain, Create(0), 0)?;
-    compare_pushes(rt, queues, plain)?;
-    compare_leaving(rt, queues, plain)
-}
-
-fn compare_one_queue<R: AllocGlobal + Abort>(rt: &R, plain: &mut Plain) -> Result<(), AllocError> {
-    let mut queues = Queues::new(rt.alloc(), plain.room, 1024)?;
-    compare_middle(rt, &mut queues, plain)?;
-    drop(queues);
-    Ok(())
+fn compare_middle(rt: &impl Abort, queues: &mut Queues, plain: &mut Plain) {
+    compare(rt, queues, plain, Create(0), 0);
+    compare_pushes(rt, queues, plain);
+    compare_leaving(rt, queues, plain);
 }
 
 #[test]
-fn a_task_leaves_from_the_middle_of_many(rt: HostRuntime) -> Result<(), Fail> {
-    let mut plain = Plain::new(rt.alloc(), 1);
-    compare_one_queue(&rt, &mut plain)?;
-    drop(plain);
-    Ok(())
+fn a_task_leaves_from_the_middle_of_many(rt: HostRuntime) {
+    let mut queues = queues(&rt, 1, 1024);
+    compare_middle(&rt, &mut queues, &mut Plain::new(1));
+    drop(queues);
 }

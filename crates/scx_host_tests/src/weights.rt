@@ -1,18 +1,17 @@
 use crate::same::expect_same;
 use scx_weights::{Group, Tree, TreeError};
-use std::alloc::{AllocError, Global};
+use std::alloc::Global;
 use std::process::Abort;
-use std::test::Fail;
 
-/// A group's parent and weight.
-type Pair = (Option<u32>, u32);
-
-fn groups_of(alloc: Global, pairs: &[Pair]) -> Result<Vec<Group>, AllocError> {
-    let mut groups = Vec::new(alloc);
-    for &(parent, weight) in pairs {
-        groups.push(Group::new(parent, weight))?;
-    }
-    Ok(groups)
+macro_rules! group {
+    ($parent:expr, $weight:expr) => {
+        Group {
+            parent: $parent,
+            weight: $weight,
+            quota_ms: None,
+            period_ms: 100,
+        }
+    };
 }
 
 /// Makes a task active or inactive.
@@ -49,29 +48,31 @@ fn check_weights(rt: &impl Abort, tree: &Tree, weights: &[u32]) {
 }
 
 /// A tree all of whose tasks are asleep.
-fn asleep(alloc: Global, pairs: &[Pair], tasks: &[u32]) -> Result<Tree, TreeError> {
-    let groups = groups_of(alloc, pairs)?;
-    Tree::new(alloc, &groups, tasks)
+fn asleep<R: AllocGlobal + Abort>(rt: &R, groups: &[Group], tasks: &[u32]) -> Tree {
+    Tree::new(rt.alloc(), groups, tasks).expect(rt, "each task is in a group")
+}
+
+fn wake_all(rt: &impl Abort, tree: &mut Tree) {
+    for task in 0..tree.tasks() {
+        set_task(rt, tree, task, true);
+    }
 }
 
 /// A tree all of whose tasks are active.
-fn awake<R: AllocGlobal + Abort>(rt: &R, pairs: &[Pair], tasks: &[u32]) -> Result<Tree, TreeError> {
-    let mut tree = asleep(rt.alloc(), pairs, tasks)?;
-    for task in 0..tree.tasks() {
-        set_task(rt, &mut tree, task, true);
-    }
-    Ok(tree)
+fn awake<R: AllocGlobal + Abort>(rt: &R, groups: &[Group], tasks: &[u32]) -> Tree {
+    let mut tree = asleep(rt, groups, tasks);
+    wake_all(rt, &mut tree);
+    tree
 }
 
 /// The tree of these groups and tasks, all of them active, gives these weights.
-type Row = (&'static [Pair], &'static [u32], &'static [u32]);
+type Row = (&'static [Group], &'static [u32], &'static [u32]);
 
-fn expect_awake<R: AllocGlobal + Abort>(rt: &R, row: &Row) -> Result<(), TreeError> {
-    let &(pairs, tasks, weights) = row;
-    let tree = awake(rt, pairs, tasks)?;
+fn expect_awake<R: AllocGlobal + Abort>(rt: &R, row: &Row) {
+    let &(groups, tasks, weights) = row;
+    let tree = awake(rt, groups, tasks);
     check_weights(rt, &tree, weights);
     drop(tree);
-    Ok(())
 }
 
 /// A task becomes active or inactive.
@@ -94,40 +95,56 @@ const ONE_SLEEPS: [Step; 2] = [
     (&[(2, false)], &[5000, 5000, 7500]),
 ];
 
-#[test]
-fn two_groups_share_by_weight(rt: HostRuntime) -> Result<(), Fail> {
-    let mut tree = awake(&rt, &[(None, 100), (None, 300)], &[0, 0, 1])?;
-    expect_same(
-        &rt,
-        (tree.groups(), tree.tasks()),
-        (2, 3),
-        "groups and tasks",
-    );
-    set_tasks(&rt, &mut tree, &ONE_SLEEPS);
-    set_task(&rt, &mut tree, 2, true);
-    set_weights(&rt, &mut tree, &[(0, 300, Ok(()))]);
-    check_weights(&rt, &tree, &[2500, 2500, 5000]);
-    drop(tree);
-    Ok(())
+/// A group weighs as much as another one, and then three times as much.
+const ONE_TO_THREE: [Group; 2] = [group!(None, 100), group!(None, 300)];
+
+fn share_by_weight(rt: &impl Abort, tree: &mut Tree) {
+    let size = (tree.groups(), tree.tasks());
+    expect_same(rt, size, (2, 3), "groups and tasks");
+    set_tasks(rt, tree, &ONE_SLEEPS);
+    set_task(rt, tree, 2, true);
+    set_weights(rt, tree, &[(0, 300, Ok(()))]);
+    check_weights(rt, tree, &[2500, 2500, 5000]);
 }
 
-const TWO_LEVELS: [Pair; 4] = [(None, 100), (Some(0), 100), (Some(0), 300), (None, 100)];
+#[test]
+fn two_groups_share_by_weight(rt: HostRuntime) {
+    let mut tree = awake(&rt, &ONE_TO_THREE, &[0, 0, 1]);
+    share_by_weight(&rt, &mut tree);
+    drop(tree);
+}
 
-const THIRDS: [Pair; 4] = [(None, 1), (None, 2), (Some(0), 3), (Some(0), 1)];
+const TWO_LEVELS: [Group; 4] = [
+    group!(None, 100),
+    group!(Some(0), 100),
+    group!(Some(0), 300),
+    group!(None, 100),
+];
 
-const THREE_LEVELS: [Pair; 6] = [
-    (None, 1),
-    (None, 1),
-    (Some(0), 1),
-    (Some(0), 2),
-    (Some(2), 1),
-    (Some(2), 6),
+const THIRDS: [Group; 4] = [
+    group!(None, 1),
+    group!(None, 2),
+    group!(Some(0), 3),
+    group!(Some(0), 1),
+];
+
+const THREE_LEVELS: [Group; 6] = [
+    group!(None, 1),
+    group!(None, 1),
+    group!(Some(0), 1),
+    group!(Some(0), 2),
+    group!(Some(2), 1),
+    group!(Some(2), 6),
 ];
 
 const SHARES: [Row; 5] = [
     (&TWO_LEVELS, &[1, 2, 3], &[1250, 3750, 5000]),
-    (&[(None, 1), (None, 10_000)], &[0, 1], &[1, 9999]),
-    (&[(None, 7)], &[0, 0, 0], &[3333, 3333, 3333]),
+    (
+        &[group!(None, 1), group!(None, 10_000)],
+        &[0, 1],
+        &[1, 9999],
+    ),
+    (&[group!(None, 7)], &[0, 0, 0], &[3333, 3333, 3333]),
     // One third of three quarters; rounded down at each level it would be 2499.
     (&THIRDS, &[1, 2, 3], &[6666, 2500, 833]),
     // 1 / 2 * 1 / 3 * 1 / 7 and 1 / 2 * 1 / 3 * 6 / 7.
@@ -135,11 +152,10 @@ const SHARES: [Row; 5] = [
 ];
 
 #[test]
-fn groups_share_what_is_above_them(rt: HostRuntime) -> Result<(), Fail> {
+fn groups_share_what_is_above_them(rt: HostRuntime) {
     for row in &SHARES {
-        expect_awake(&rt, row)?;
+        expect_awake(&rt, row);
     }
-    Ok(())
 }
 
 /// A task that sleeps weighs what it would if it were active.
@@ -153,108 +169,128 @@ const SLEEPERS: [Step; 4] = [
     ),
 ];
 
+fn sleep_and_wake(rt: &impl Abort, tree: &mut Tree) {
+    set_tasks(rt, tree, &SLEEPERS);
+    expect_same(rt, is_active(rt, tree, 3), true, "task 3");
+    expect_same(rt, is_active(rt, tree, 1), false, "task 1");
+    expect_same(rt, group_of(rt, tree, 3), 3, "the group of task 3");
+}
+
 #[test]
-fn sleeping_tasks_take_no_share(rt: HostRuntime) -> Result<(), Fail> {
-    let mut tree = asleep(rt.alloc(), &TWO_LEVELS, &[1, 2, 3, 3])?;
-    set_tasks(&rt, &mut tree, &SLEEPERS);
-    expect_same(&rt, is_active(&rt, &tree, 3), true, "task 3");
-    expect_same(&rt, is_active(&rt, &tree, 1), false, "task 1");
-    expect_same(&rt, group_of(&rt, &tree, 3), 3, "the group of task 3");
+fn sleeping_tasks_take_no_share(rt: HostRuntime) {
+    let mut tree = asleep(&rt, &TWO_LEVELS, &[1, 2, 3, 3]);
+    sleep_and_wake(&rt, &mut tree);
     drop(tree);
-    Ok(())
 }
 
 /// Why groups and the groups of tasks make no tree, if they make none.
-fn refusal(alloc: Global, pairs: &[Pair], tasks: &[u32]) -> Result<Option<TreeError>, AllocError> {
-    let groups = groups_of(alloc, pairs)?;
-    Ok(Tree::new(alloc, &groups, tasks).err())
+fn refusal(alloc: Global, groups: &[Group], tasks: &[u32]) -> Option<TreeError> {
+    Tree::new(alloc, groups, tasks).err()
 }
 
 /// A group, the group of a task, and what is wrong with them: of several faults the first in the order of
 /// their numbers.
-type Fault = (Pair, u32, TreeError);
+type Fault = (Group, u32, TreeError);
 
 /// One group and one task that make no tree.
 const FAULTY: [Fault; 5] = [
-    ((None, 1), 1, TreeError::UnknownGroup),
-    ((Some(0), 1), 0, TreeError::UnknownGroup),
-    ((Some(7), 1), 0, TreeError::UnknownGroup),
-    ((None, 0), 0, TreeError::OutOfRange),
-    ((None, 0), 5, TreeError::UnknownGroup),
+    (group!(None, 1), 1, TreeError::UnknownGroup),
+    (group!(Some(0), 1), 0, TreeError::UnknownGroup),
+    (group!(Some(7), 1), 0, TreeError::UnknownGroup),
+    (group!(None, 0), 0, TreeError::OutOfRange),
+    (group!(None, 0), 5, TreeError::UnknownGroup),
 ];
 
 #[test]
-fn a_faulty_group_is_refused(rt: HostRuntime) -> Result<(), Fail> {
-    for (number, &(pair, task, error)) in FAULTY.iter().enumerate() {
-        let found = refusal(rt.alloc(), &[pair], &[task])?;
+fn a_faulty_group_is_refused(rt: HostRuntime) {
+    for (number, &(group, task, error)) in FAULTY.iter().enumerate() {
+        let found = refusal(rt.alloc(), &[group], &[task]);
         expect_same(&rt, found, Some(error), number);
     }
-    Ok(())
 }
 
 /// The same of two groups.
-const FAULTY_PAIRS: [([Pair; 2], u32, TreeError); 3] = [
-    ([(Some(1), 1), (None, 1)], 0, TreeError::UnknownGroup),
-    ([(None, 1), (None, 10_001)], 0, TreeError::OutOfRange),
-    ([(None, 1), (Some(0), 0)], 0, TreeError::OutOfRange),
+const FAULTY_PAIRS: [([Group; 2], u32, TreeError); 3] = [
+    (
+        [group!(Some(1), 1), group!(None, 1)],
+        0,
+        TreeError::UnknownGroup,
+    ),
+    (
+        [group!(None, 1), group!(None, 10_001)],
+        0,
+        TreeError::OutOfRange,
+    ),
+    (
+        [group!(None, 1), group!(Some(0), 0)],
+        0,
+        TreeError::OutOfRange,
+    ),
 ];
 
 #[test]
-fn faulty_pairs_of_groups_are_refused(rt: HostRuntime) -> Result<(), Fail> {
-    for (number, &(pairs, task, error)) in FAULTY_PAIRS.iter().enumerate() {
-        let found = refusal(rt.alloc(), &pairs, &[task])?;
+fn faulty_pairs_of_groups_are_refused(rt: HostRuntime) {
+    for (number, &(groups, task, error)) in FAULTY_PAIRS.iter().enumerate() {
+        let found = refusal(rt.alloc(), &groups, &[task]);
         expect_same(&rt, found, Some(error), number);
     }
-    Ok(())
 }
 
-const CHAIN: [Pair; 4] = [(None, 1), (Some(0), 1), (Some(1), 1), (Some(2), 1)];
+const CHAIN: [Group; 4] = [
+    group!(None, 1),
+    group!(Some(0), 1),
+    group!(Some(1), 1),
+    group!(Some(2), 1),
+];
 
 /// The same of four groups, of which the last is too deep.
-const FAULTY_CHAINS: [([Pair; 4], u32, TreeError); 3] = [
+const FAULTY_CHAINS: [([Group; 4], u32, TreeError); 3] = [
     (CHAIN, 3, TreeError::TooDeep),
     (CHAIN, 0, TreeError::TooDeep),
     (
-        [(None, 0), (Some(0), 1), (Some(1), 1), (Some(2), 1)],
+        [
+            group!(None, 0),
+            group!(Some(0), 1),
+            group!(Some(1), 1),
+            group!(Some(2), 1),
+        ],
         3,
         TreeError::OutOfRange,
     ),
 ];
 
 #[test]
-fn faulty_chains_of_groups_are_refused(rt: HostRuntime) -> Result<(), Fail> {
-    for (number, &(pairs, task, error)) in FAULTY_CHAINS.iter().enumerate() {
-        let found = refusal(rt.alloc(), &pairs, &[task])?;
+fn faulty_chains_of_groups_are_refused(rt: HostRuntime) {
+    for (number, &(groups, task, error)) in FAULTY_CHAINS.iter().enumerate() {
+        let found = refusal(rt.alloc(), &groups, &[task]);
         expect_same(&rt, found, Some(error), number);
     }
-    Ok(())
 }
 
 /// Groups, the groups of tasks, and what is wrong with them.
-const FAULTY_LISTS: [(&[Pair], &[u32], TreeError); 4] = [
+const FAULTY_LISTS: [(&[Group], &[u32], TreeError); 4] = [
     (&[], &[0], TreeError::UnknownGroup),
     (&[], &[], TreeError::OutOfRange),
-    (&[(None, 1)], &[], TreeError::OutOfRange),
+    (&[group!(None, 1)], &[], TreeError::OutOfRange),
     (
-        &[(None, 1), (Some(0), 1), (Some(1), 1)],
+        &[group!(None, 1), group!(Some(0), 1), group!(Some(1), 1)],
         &[2, 1],
         TreeError::NotLeaf,
     ),
 ];
 
 #[test]
-fn faulty_lists_are_refused(rt: HostRuntime) -> Result<(), Fail> {
-    for (number, &(pairs, tasks, error)) in FAULTY_LISTS.iter().enumerate() {
-        let found = refusal(rt.alloc(), pairs, tasks)?;
+fn faulty_lists_are_refused(rt: HostRuntime) {
+    for (number, &(groups, tasks, error)) in FAULTY_LISTS.iter().enumerate() {
+        let found = refusal(rt.alloc(), groups, tasks);
         expect_same(&rt, found, Some(error), number);
     }
-    Ok(())
 }
 
 /// Groups and tasks, and what is wrong with their number, if anything.
-type Size = (&'static [Pair], &'static [u32], Option<TreeError>);
+type Size = (&'static [Group], &'static [u32], Option<TreeError>);
 
-const HEAVY: Pair = (None, 10_000);
+const HEAVY: Group = group!(None, 10_000);
 
 /// Numbers of groups and of tasks at their limits and past them.
 const SIZES: [Size; 3] = [
@@ -264,12 +300,11 @@ const SIZES: [Size; 3] = [
 ];
 
 #[test]
-fn groups_and_tasks_are_limited(rt: HostRuntime) -> Result<(), Fail> {
-    for &(pairs, tasks, wanted) in &SIZES {
-        let found = refusal(rt.alloc(), pairs, tasks)?;
+fn groups_and_tasks_are_limited(rt: HostRuntime) {
+    for &(groups, tasks, wanted) in &SIZES {
+        let found = refusal(rt.alloc(), groups, tasks);
         expect_same(&rt, found, wanted, tasks.len());
     }
-    Ok(())
 }
 
 /// A weight for a group, and what is answered.
@@ -290,23 +325,26 @@ const REFUSED: [Setting; 4] = [
 
 const MOST_AND_LEAST: [Setting; 2] = [(0, 10_000, Ok(())), (1, 1, Ok(()))];
 
+fn reach_limits(rt: &impl Abort, tree: &mut Tree) {
+    set_weights(rt, tree, &REFUSED);
+    check_weights(rt, tree, &[2500, 7500]);
+    set_weights(rt, tree, &MOST_AND_LEAST);
+    check_weights(rt, tree, &[9999, 1]);
+}
+
 #[test]
-fn weights_are_limited(rt: HostRuntime) -> Result<(), Fail> {
-    let mut tree = awake(&rt, &[(None, 100), (None, 300)], &[0, 1])?;
-    set_weights(&rt, &mut tree, &REFUSED);
-    check_weights(&rt, &tree, &[2500, 7500]);
-    set_weights(&rt, &mut tree, &MOST_AND_LEAST);
-    check_weights(&rt, &tree, &[9999, 1]);
+fn weights_are_limited(rt: HostRuntime) {
+    let mut tree = awake(&rt, &ONE_TO_THREE, &[0, 1]);
+    reach_limits(&rt, &mut tree);
     drop(tree);
-    Ok(())
 }
 
 /// The lists of a tree, from which each weight is computed anew.
-#[derive(Drop)]
+#[derive(Clone, Copy)]
 struct Plain {
-    groups: Vec<Group>,
-    homes: Vec<u32>,
-    active: Vec<bool>,
+    groups: [Group; 256],
+    homes: [u32; 1024],
+    active: [bool; 1024],
 }
 
 impl Plain {
@@ -317,23 +355,31 @@ impl Plain {
             .unwrap_or(Group::new(None, 1))
     }
 
-    /// Which groups have an active task in them or below them, that task counted.
-    fn active_groups(&self, alloc: Global, task: usize) -> Result<Vec<bool>, AllocError> {
-        let mut marks = vec![in alloc; false; self.groups.len()]?;
-        for (number, home) in self.homes.iter().enumerate() {
-            if number == task || self.active.get(number) == Some(&true) {
-                let mut at = Some(*home);
-                for _ in 0..10 {
-                    if let Some(group) = at {
-                        if let Some(mark) = marks.get_mut(group as usize) {
-                            *mark = true;
-                        }
-                        at = self.group(group).parent;
-                    }
+    /// Whether the task of that number is active, or the one that is counted in any case.
+    fn counts(&self, number: usize, task: usize) -> bool {
+        number == task || self.active.get(number) == Some(&true)
+    }
+
+    /// Marks a group and those above it.
+    fn mark(&self, marks: &mut [bool], group: u32) {
+        let mut at = Some(group);
+        for _ in 0..10 {
+            if let Some(group) = at {
+                if let Some(mark) = marks.get_mut(group as usize) {
+                    *mark = true;
                 }
+                at = self.group(group).parent;
             }
         }
-        Ok(marks)
+    }
+
+    /// Marks the groups that have an active task in them or below them, that task counted.
+    fn mark_active(&self, marks: &mut [bool], task: usize) {
+        for (number, home) in self.homes.iter().enumerate() {
+            if self.counts(number, task) {
+                self.mark(marks, *home);
+            }
+        }
     }
 
     /// The weights of the marked groups under that parent.
@@ -351,17 +397,18 @@ impl Plain {
     fn sharers(&self, task: usize, home: u32) -> u128 {
         let mut sharers = 0u128;
         for (number, other) in self.homes.iter().enumerate() {
-            if *other == home && (number == task || self.active.get(number) == Some(&true)) {
+            if *other == home && self.counts(number, task) {
                 sharers = sharers.saturating_add(1);
             }
         }
         sharers
     }
 
-    fn weight_of(&self, alloc: Global, task: usize) -> Result<u32, AllocError> {
-        let marks = self.active_groups(alloc, task)?;
+    fn weight_of(&self, task: usize) -> u32 {
+        let mut marks = [false; 256];
+        self.mark_active(&mut marks, task);
         let home = self.homes.get(task).copied().unwrap_or(0);
-        Ok(self.share(&marks, home, self.sharers(task, home)))
+        self.share(&marks, home, self.sharers(task, home))
     }
 
     /// The share of each of so many tasks of a group, of 10,000.
@@ -400,39 +447,41 @@ impl Numbers {
 }
 
 /// 16 groups at the top, 48 below the first 12 of them, 192 below the first 40 of those.
-fn many_groups(alloc: Global, numbers: &mut Numbers) -> Result<Vec<Group>, AllocError> {
-    let mut groups = Vec::new(alloc);
-    for group in 0..256u32 {
-        let weight = numbers.below(10_000).saturating_add(1);
-        let parent = match group {
-            0..16 => None,
-            16..64 => Some(group % 12),
-            _ => Some(16u32.saturating_add(group % 40)),
-        };
-        groups.push(Group::new(parent, weight))?;
+fn parent_of(group: u32) -> Option<u32> {
+    match group {
+        0..16 => None,
+        16..64 => Some(group % 12),
+        _ => Some(16u32.saturating_add(group % 40)),
     }
-    Ok(groups)
+}
+
+fn many_groups(numbers: &mut Numbers) -> [Group; 256] {
+    let mut groups = [Group::new(None, 1); 256];
+    for (number, group) in groups.iter_mut().enumerate() {
+        let weight = numbers.below(10_000).saturating_add(1);
+        *group = Group::new(parent_of(number as u32), weight);
+    }
+    groups
 }
 
 /// The groups of 1024 tasks, each one that none is below.
-fn many_homes(alloc: Global, numbers: &mut Numbers) -> Result<Vec<u32>, AllocError> {
-    let mut homes = Vec::new(alloc);
-    for _ in 0..1024 {
+fn many_homes(numbers: &mut Numbers) -> [u32; 1024] {
+    let mut homes = [0; 1024];
+    for home in &mut homes {
         let leaf = numbers.below(204);
-        homes.push(leaf.saturating_add(if leaf < 4 { 12 } else { 52 }))?;
+        *home = leaf.saturating_add(if leaf < 4 { 12 } else { 52 });
     }
-    Ok(homes)
+    homes
 }
 
-fn large(alloc: Global, numbers: &mut Numbers) -> Result<Plain, AllocError> {
-    let groups = many_groups(alloc, numbers)?;
-    let homes = many_homes(alloc, numbers)?;
-    let active = vec![in alloc; false; 1024]?;
-    Ok(Plain {
+fn large(numbers: &mut Numbers) -> Plain {
+    let groups = many_groups(numbers);
+    let homes = many_homes(numbers);
+    Plain {
         groups,
         homes,
-        active,
-    })
+        active: [false; 1024],
+    }
 }
 
 /// Changes one task, in the tree and in the plain lists.
@@ -456,49 +505,25 @@ fn change_weight(rt: &impl Abort, numbers: &mut Numbers, tree: &mut Tree, plain:
 }
 
 /// Compares the weight of a task.
-fn compare<R: AllocGlobal + Abort>(
-    rt: &R,
-    tree: &Tree,
-    plain: &Plain,
-    task: u32,
-    step: u32,
-) -> Result<(), AllocError> {
-    let wanted = plain.weight_of(rt.alloc(), task as usize)?;
+fn compare(rt: &impl Abort, tree: &Tree, plain: &Plain, task: u32, step: u32) {
+    let wanted = plain.weight_of(task as usize);
     expect_same(rt, weight_of(rt, tree, task), wanted, (task, step));
-    Ok(())
 }
 
 /// Compares the weights after each of many changes.
-fn compare_many<R: AllocGlobal + Abort>(
-    rt: &R,
-    numbers: &mut Numbers,
-    tree: &mut Tree,
-    plain: &mut Plain,
-) -> Result<(), AllocError> {
+fn compare_many(rt: &impl Abort, numbers: &mut Numbers, tree: &mut Tree, plain: &mut Plain) {
     for step in 0..1500 {
         change_task(rt, numbers, tree, plain);
         change_weight(rt, numbers, tree, plain);
-        compare(rt, tree, plain, numbers.below(1024), step)?;
+        compare(rt, tree, plain, numbers.below(1024), step);
     }
-    Ok(())
-}
-
-/// Compares the tree of those lists with them.
-fn compare_tree<R: AllocGlobal + Abort>(
-    rt: &R,
-    numbers: &mut Numbers,
-    plain: &mut Plain,
-) -> Result<(), TreeError> {
-    let mut tree = Tree::new(rt.alloc(), &plain.groups, &plain.homes)?;
-    compare_many(rt, numbers, &mut tree, plain)?;
-    drop(tree);
-    Ok(())
 }
 
 #[test]
-fn running_sums_agree_with_the_whole_tree(rt: HostRuntime) -> Result<(), Fail> {
+fn running_sums_agree_with_the_whole_tree(rt: HostRuntime) {
     let mut numbers = Numbers { state: 1 };
-    let mut plain = large(rt.alloc(), &mut numbers)?;
-    compare_tree(&rt, &mut numbers, &mut plain)?;
-    Ok(())
+    let mut plain = large(&mut numbers);
+    let mut tree = asleep(&rt, &plain.groups, &plain.homes);
+    compare_many(&rt, &mut numbers, &mut tree, &mut plain);
+    drop(tree);
 }
