@@ -11,6 +11,8 @@ use Rattle.scx_abs.specs.Rules.{rule}
 use Rattle.scx_verify.specs.declared.faults.Fault.TheVariants.{Rule, NoMemory}
 use Rattle.scx_verify.specs.declared.faults.VerifyError.{VerifyError}
 use Rattle.scx_verify.specs.declared.pass.Walk.{Walk}
+use Rattle.scx_verify.specs.declared.position_table.Positions.{Positions}
+use Rattle.scx_verify.specs.declared.position_table.Positions.TheVariants.{Slots, Counted}
 use Rattle.scx_isa.specs.Flow.{Flows}
 use Rattle.scx_isa.specs.Spelling.{IsProgram}
 use Rattle.scx_verify.specs.Operations.{position, IsBuilt}
@@ -44,14 +46,19 @@ IsGiven states t (Some a) after = (x : AbsState) × IsMerged (states_of states t
 
 -- ---- where the pass is
 
+-- what is kept of the positions of a program's slots and of its end
+abbrev pub ArePositions : Code → Positions → Type 0
+ArePositions code Slots = (t : ℕ) → t ≤ length code → t ≡ position code t
+ArePositions code (Counted ps) =
+    (length ps.items ≡ length code + 1) × ((t : ℕ) → t ≤ length code → slice_index ps.items t ≡ position code t)
+
 -- An instruction begins at the slot, in a program whose control goes forward, and these are the positions
 -- of its slots and of its end.
-pub record IsPlace (code : Code) (ps : List ℕ) (s : ℕ) (i : Insn) : Type 0 where
+pub record IsPlace (code : Code) (ps : Positions) (s : ℕ) (i : Insn) : Type 0 where
   pub flows : Flows code
   pub program : IsProgram code
   pub there : at code s ≡ Some i
-  pub long : length ps ≡ length code + 1
-  pub positions : (t : ℕ) → t ≤ length code → slice_index ps t ≡ position code t
+  pub positions : ArePositions code ps
 
 -- ---- what the pass holds
 

@@ -9,6 +9,7 @@ mod ahead;
 mod faults;
 mod laws;
 mod pass;
+mod position_table;
 mod programs;
 mod translate;
 
