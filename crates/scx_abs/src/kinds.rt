@@ -77,28 +77,38 @@ impl Kind {
     }
 
     /// Joins another one in.
-    #[inline(never)]
+    #[inline(always)]
     #[tactic(auto, using(crate::proofs::Joins::join_nothing))]
     pub(crate) fn join_in(&mut self, other: &Kind)
         ensures { self.new ≡ join_kind self.old other.now }
     {
-        let kind = *self;
         let other = *other;
         match other {
             Kind::Unusable => *self = Kind::Unusable,
-            _ => *self = kind.joined(other),
+            Kind::Num(others) => self.join_numbers_in(others),
+            _ => self.join_pointer_in(other),
         }
     }
 
-    /// The least kind that covers both, with the join of numbers in place.
+    /// Joins a number of these in.
     #[inline(always)]
-    fn joined(self, other: Kind) -> Kind
-        ensures { result ≡ join_kind self other }
+    fn join_numbers_in(&mut self, others: Numbers)
+        ensures { self.new ≡ join_kind self.old (Kind.Num others) }
     {
-        match self {
-            Kind::Num(numbers) => join_numbers(numbers, other),
-            _ => self.join(other),
+        let kind = *self;
+        match kind {
+            Kind::Num(numbers) => *self = Kind::Num(numbers.join(others)),
+            _ => *self = Kind::Unusable,
         }
+    }
+
+    /// Joins what is mostly a pointer in.
+    #[inline(never)]
+    fn join_pointer_in(&mut self, other: Kind)
+        ensures { self.new ≡ join_kind self.old other }
+    {
+        let kind = *self;
+        *self = kind.join(other);
     }
 
     /// The number, if it is a single one.
