@@ -1,5 +1,5 @@
 -- What is built is a range, function by function.
-use Rattle.std.proofs.Common.{◌≡◌, ℕ, ℤ, ◌^◌, ◌<◌, ◌≤◌, Bool, Some, subst, arith}
+use Rattle.std.proofs.Common.{◌≡◌, ℕ, ℤ, ◌^◌, ◌<◌, ◌≤◌, min, max, nat_eq, if◌then◌else◌, Bool, true, false, Some, refl, ap, subst, arith}
 use Rattle.scx_semantics.specs.declared.operations.Width.{Width}
 use Rattle.scx_semantics.specs.declared.operations.Operation.{Operation}
 use Rattle.scx_semantics.specs.declared.operations.Comparison.{Comparison}
@@ -8,12 +8,16 @@ use Rattle.scx_semantics.specs.declared.operations.ByteOrder.{ByteOrder}
 use Rattle.scx_semantics.specs.declared.operations.SwapWidth.{SwapWidth}
 use Rattle.scx_semantics.specs.declared.operations.Access.{Access}
 use Rattle.scx_ranges.specs.declared.ranges.Range.{Range}
+use Rattle.scx_ranges.specs.declared.steps.Step.TheVariants.{One}
 use Rattle.scx_ranges.specs.Ranges.{IsRange, join_ranges}
+use Rattle.scx_ranges.specs.Steps.{step_of}
+use Rattle.scx_ranges.specs.Kept.{IsKept, range_of}
 use Rattle.scx_ranges.specs.Cuts.{cut}
 use Rattle.scx_ranges.specs.Laws.{IsCutRange}
 use Rattle.scx_ranges.specs.Results.{computed_at, copied, negated_range, extended_range, swapped_range, loaded}
 use Rattle.scx_ranges.specs.Offsets.{moved, advanced}
 use Rattle.scx_ranges.specs.OffsetLaws.{IsWithin}
+use Rattle.scx_ranges.proofs.KeptRanges.{kept_range, kept_parts}
 use Rattle.scx_ranges.proofs.Order.{join_is_least_cover}
 use Rattle.scx_ranges.proofs.KeptByCuts.{cuts_are_ranges}
 use Rattle.scx_ranges.proofs.AllWidths.{arithmetic_is_sound, copies_are_sound, negatives_are_sound, extensions_are_sound, swaps_are_sound, loads_are_sound}
@@ -21,6 +25,23 @@ use Rattle.scx_ranges.proofs.ElementOffsets.{moves_stay_within, advances_stay_wi
 
 pub joined_range : (r s : Range) → IsRange r → IsRange s → IsRange (join_ranges r s)
 joined_range r s wr ws = (join_is_least_cover r s wr ws).range
+
+-- a join whose step is 1 keeps it
+finest : (b : Bool) (s : ℕ) → s ≡ 0 → (if b then One else step_of s) ≡ One
+finest true s e = refl
+finest false s e = ap step_of e
+
+pub joined_finely : (r s : Range) → IsRange r → IsRange s → min r.shift s.shift ≡ 0
+    → range_of (min r.low s.low) (max r.high s.high) One ≡ join_ranges r s
+joined_finely r s wr ws e =
+    let q = join_ranges r s in
+    subst (λ t. range_of q.low q.high t ≡ q) (finest (nat_eq q.low q.high) q.shift e) (kept_range q (joined_range r s wr ws))
+
+pub joined_fine_parts : (r s : Range) → IsRange r → IsRange s → min r.shift s.shift ≡ 0
+    → IsKept (min r.low s.low) (max r.high s.high) One
+joined_fine_parts r s wr ws e =
+    let q = join_ranges r s in
+    subst (IsKept q.low q.high) (finest (nat_eq q.low q.high) q.shift e) (kept_parts q (joined_range r s wr ws))
 
 pub cut_range : (o : Comparison) (b : Bool) (c : ℕ) (r q : Range) → IsRange r → cut o b c r ≡ Some q → IsRange q
 cut_range o b c r q w e = subst IsCutRange e (cuts_are_ranges o b c r w)

@@ -1,6 +1,6 @@
-ghost use Rattle.std.specs.Prelude.{◌≡◌, None, IfSome, false};
+ghost use Rattle.std.specs.Prelude.{◌≡◌, None, IfSome, true, false, min};
 ghost use Rattle.scx_ranges.specs.Ranges.{IsRange, all, single, is_single, join_ranges};
-ghost use Rattle.scx_ranges.specs.Cuts.{cut};
+ghost use Rattle.scx_ranges.specs.Cuts.{cut, equal, unequal};
 ghost use Rattle.scx_ranges.specs.Steps.{shift_of};
 ghost use Rattle.scx_ranges.specs.Kept.{kept_step};
 ghost use Rattle.scx_ranges.specs.Results.{computed_at, copied, negated_range, extended_range, swapped_range, loaded};
@@ -111,13 +111,76 @@ impl Numbers {
     pub fn join(self, other: Numbers) -> Numbers
         ensures { result ≡ join_ranges self other }
     {
-        Numbers::of(self.range().join(other.range()))
+        if self.is_fine() || other.is_fine() {
+            self.join_finely(other)
+        } else {
+            Numbers::of(self.range().join(other.range()))
+        }
+    }
+
+    /// Whether they are several, each the next of the one before.
+    fn is_fine(self) -> bool
+        ensures { result ≡ true → self.shift ≡ 0 }
+    {
+        match self.step {
+            Step::One => self.low < self.high,
+            _ => false,
+        }
+    }
+
+    /// The least range that holds both, where that has the step 1.
+    #[tactic(auto, using(crate::proofs::BuiltRanges::joined_finely, crate::proofs::BuiltRanges::joined_fine_parts))]
+    fn join_finely(self, other: Numbers) -> Numbers
+        requires { min self.shift other.shift ≡ 0 }
+        ensures { result ≡ join_ranges self other }
+    {
+        Numbers {
+            low: self.low.min(other.low),
+            high: self.high.max(other.high),
+            step: Step::One,
+        }
     }
 
     /// The numbers for which the 64-bit comparison with `c` has that answer (RFC 9669, section 4.3),
     /// or none if there are none. `!=` takes only an end away; signed comparisons and bit tests take
     /// nothing.
     pub fn cut(self, comparison: Comparison, answer: bool, c: u64) -> Option<Numbers>
+        ensures { result ≡ cut comparison answer c self }
+    {
+        match comparison {
+            Comparison::Equal if answer => self.equal(c),
+            Comparison::Equal => self.unequal(c),
+            _ => self.cut_any(comparison, answer, c),
+        }
+    }
+
+    /// The one that is that number.
+    #[inline(always)]
+    fn equal(self, c: u64) -> Option<Numbers>
+        ensures { result ≡ equal c self }
+    {
+        if self.range().contains(c) {
+            Some(Numbers::single(c))
+        } else {
+            None
+        }
+    }
+
+    /// Those but that number, if it is at an end, which is seldom so.
+    #[inline(always)]
+    fn unequal(self, c: u64) -> Option<Numbers>
+        ensures { result ≡ unequal c self }
+    {
+        if self.low < c && c < self.high {
+            Some(self)
+        } else {
+            self.cut_any(Comparison::Equal, false, c)
+        }
+    }
+
+    /// The same of any comparison.
+    #[inline(always)]
+    fn cut_any(self, comparison: Comparison, answer: bool, c: u64) -> Option<Numbers>
         ensures { result ≡ cut comparison answer c self }
     {
         match self.range().cut(comparison, answer, c) {
