@@ -172,7 +172,12 @@ impl Numbers {
         ensures { result ≡ unequal c self }
     {
         if self.low < c && c < self.high {
-            Some(self)
+            // Part by part; as a whole its padding would be copied too.
+            Some(Numbers {
+                low: self.low,
+                high: self.high,
+                step: self.step,
+            })
         } else {
             self.cut_any(Comparison::Equal, false, c)
         }
