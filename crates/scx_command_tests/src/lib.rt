@@ -1,6 +1,5 @@
 //! Tests of what no file of cases can show: outputs that fail or take little, files as large as there may be, and
-//! calls of the libraries below: the lines of refusals and of notes, how tasks wait, figures, how far a run is, and
-//! timelines as a reader of JSON sees them.
+//! calls of the libraries below: the lines of refusals and of notes, how tasks wait, figures, and how far a run is.
 #![tactic(auto)]
 
 #[cfg(test)]
@@ -29,7 +28,5 @@ mod runs;
 mod same;
 #[cfg(test)]
 mod texts;
-#[cfg(test)]
-mod timelines;
 #[cfg(test)]
 mod writers;
