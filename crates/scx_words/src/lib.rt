@@ -1,6 +1,9 @@
 //! The words that the program `scxsim` is given: its commands, read by `clap`.
 #![tactic(auto)]
 
+mod forms;
+mod requests;
 mod words;
 
-pub use words::{Request, read_words};
+pub use requests::{Account, Course, PolicyCommand, ProgramCommand, Request, Summary};
+pub use words::read_words;

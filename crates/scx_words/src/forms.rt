@@ -1,0 +1,99 @@
+use crate::requests::{Account, Course, PolicyCommand, ProgramCommand, Summary};
+
+/// Which command it is.
+#[derive(Clone, Copy)]
+pub(crate) enum Kind {
+    Program(ProgramCommand),
+    Policy(PolicyCommand),
+    Run(Account),
+    Cases,
+}
+
+/// How a command is called, and its help.
+#[derive(Clone, Copy)]
+pub(crate) struct Form {
+    pub(crate) name: &'static str,
+    pub(crate) kind: Kind,
+    pub(crate) about: &'static str,
+    pub(crate) example: &'static str,
+}
+
+/// The commands, as the help lists them.
+pub(crate) fn forms() -> &'static [Form] {
+    &FORMS
+}
+
+const FORMS: [Form; 12] = [
+    Form {
+        name: "verify",
+        kind: Kind::Policy(PolicyCommand::Verify),
+        about: "Reads a policy file, and says of each callback whether it is safe",
+        example: "Example: scxsim verify examples/policies/fifo.toml\nprints:  init ok 3\n         enqueue ok 5\n         dispatch ok 3\nOf a callback that isn't safe it prints the fault and its slot, as in\n         enqueue refused 5 UnusableRegister at 1\nand its status is 1. docs/VERIFIER.md says what is safe.",
+    },
+    Form {
+        name: "explain",
+        kind: Kind::Policy(PolicyCommand::Explain),
+        about: "Verifies the same, and shows what is known before each instruction, and why one is refused",
+        example: "Example: scxsim explain examples/policies/fifo.toml\nprints:  of each callback the line of verify, and then its instructions, as in\n         init ok 3\n            0  r1 = 0     nothing\n            1  call 1001  r1 number 0\n            2  exit       r0 number\nand below a refused instruction why. docs/FILES.md says how to read them.",
+    },
+    Form {
+        name: "run",
+        kind: Kind::Run(Account::Course(Course::Trace)),
+        about: "Reads a policy file and a workload file, runs the workload under the policy, and prints its trace",
+        example: "Example: scxsim run examples/policies/short_slices.toml examples/workloads/two_tasks.toml\nprints:  a line for each thing that happens, with its millisecond, as in\n         0 wake a\n         0 insert a queue 0\n         0 move a local 0\n         0 run a cpu 0\ndocs/FILES.md has both formats and the lines of a trace.",
+    },
+    Form {
+        name: "report",
+        kind: Kind::Run(Account::Summary(Summary::Report)),
+        about: "Reads and runs the same, and prints how long each task ran in place of the trace",
+        example: "Example: scxsim report examples/policies/short_slices.toml examples/workloads/two_tasks.toml\nprints:  task a run 2 share 5000\n         task b run 2 share 5000\n         total 4\n         policy in force\nrun is in milliseconds, and share in parts of 10000.",
+    },
+    Form {
+        name: "stats",
+        kind: Kind::Run(Account::Summary(Summary::Stats)),
+        about: "Reads and runs the same, and prints how tasks ran and waited, and processors and groups got on",
+        example: "Example: scxsim stats examples/policies/short_slices.toml examples/workloads/two_tasks.toml\nprints:  a table of tasks, one of processors and one of groups\ndocs/FILES.md says what each figure is.",
+    },
+    Form {
+        name: "stats-csv",
+        kind: Kind::Run(Account::Summary(Summary::StatsCsv)),
+        about: "Reads and runs the same, and prints the figures of stats as comma-separated values",
+        example: "Example: scxsim stats-csv examples/policies/short_slices.toml examples/workloads/two_tasks.toml\nprints:  kind,name,figure,value\n         task,a,run_ms,2\nand a line for each other figure.",
+    },
+    Form {
+        name: "timeline",
+        kind: Kind::Run(Account::Course(Course::Timeline)),
+        about: "Reads and runs the same, and prints a timeline in the Chrome trace format",
+        example: "Example: scxsim timeline examples/policies/short_slices.toml examples/workloads/two_tasks.toml > timeline.json\nwrites:  a file that ui.perfetto.dev opens.",
+    },
+    Form {
+        name: "picture",
+        kind: Kind::Run(Account::Course(Course::Picture)),
+        about: "Reads and runs the same, and prints a picture in SVG",
+        example: "Example: scxsim picture examples/policies/short_slices.toml examples/workloads/two_tasks.toml > picture.svg\nwrites:  a file that browsers open.",
+    },
+    Form {
+        name: "exec",
+        kind: Kind::Program(ProgramCommand::Exec),
+        about: "Reads raw slots, runs them as a program that is given nothing, and prints its answer",
+        example: "Example: scxsim exec examples/modulo.bin\nprints:  r0 = 7 in 4 steps",
+    },
+    Form {
+        name: "asm",
+        kind: Kind::Program(ProgramCommand::Asm),
+        about: "Reads assembler text, and writes its raw slots",
+        example: "Example: scxsim asm examples/root.asm > root.new && mv root.new root.bin\nwrites:  200 bytes, which scxsim exec root.bin runs",
+    },
+    Form {
+        name: "dis",
+        kind: Kind::Program(ProgramCommand::Dis),
+        about: "Reads raw slots, and writes their assembler text",
+        example: "Example: scxsim dis examples/zero.bin\nwrites:  r0 = 0\n         exit",
+    },
+    Form {
+        name: "cases",
+        kind: Kind::Cases,
+        about: "Runs the commands in files of cases, and compares what they write with what stands there",
+        example: "Example: scxsim cases crates/scxsim/data/traces.txt\nprints:  each command that does something else, and last how many were run, as in\n         31 commands, 0 differ\nIts status is 1 where one differs. docs/CASES.md has the format.",
+    },
+];

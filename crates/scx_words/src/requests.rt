@@ -1,0 +1,57 @@
+/// What is done with the file of a program.
+#[derive(Clone, Copy)]
+pub enum ProgramCommand {
+    Exec,
+    Asm,
+    Dis,
+}
+
+/// What is done with a policy file.
+#[derive(Clone, Copy)]
+pub enum PolicyCommand {
+    Verify,
+    Explain,
+}
+
+/// What is written of a run.
+#[derive(Clone, Copy)]
+pub enum Account {
+    Course(Course),
+    Summary(Summary),
+}
+
+/// What is written as the run goes.
+#[derive(Clone, Copy)]
+pub enum Course {
+    Trace,
+    Timeline,
+    Picture,
+}
+
+/// What is written at its end.
+#[derive(Clone, Copy)]
+pub enum Summary {
+    Report,
+    Stats,
+    StatsCsv,
+}
+
+/// A command, with the paths of its files.
+#[derive(Clone, Copy)]
+pub enum Request<'a> {
+    Program {
+        command: ProgramCommand,
+        path: &'a str,
+    },
+    Policy {
+        command: PolicyCommand,
+        path: &'a str,
+    },
+    Run {
+        account: Account,
+        policy: &'a str,
+        workload: &'a str,
+    },
+    /// Of the files that the words behind the command name.
+    Cases,
+}
