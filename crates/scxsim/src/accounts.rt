@@ -7,17 +7,14 @@ use scx_progress::Progress;
 use scx_simulation::{Listener, report, simulate};
 use scx_statistics::{stats, stats_csv};
 use scx_timeline::timeline;
+use scx_words::{Account, Course, Summary};
 use std::alloc::Global;
 
-/// What a command writes of a run.
+/// The texts of the files of a run.
 #[derive(Clone, Copy)]
-pub(crate) enum Account {
-    Trace,
-    Report,
-    Stats,
-    StatsCsv,
-    Timeline,
-    Picture,
+struct RunTexts<'a> {
+    policy: &'a str,
+    workload: &'a str,
 }
 
 /// Writes an account of the run of these files, and says meanwhile on standard error how far it is.
@@ -39,10 +36,8 @@ pub(crate) fn tell<'a, R: AllocGlobal + Console, W: Out>(
 /// by it on the same terminal, and says itself how far the run is.
 fn is_progress_seen<R: Console>(rt: &R, account: Account) -> bool {
     match account {
-        Account::Trace | Account::Timeline | Account::Picture => {
-            rt.shows_errors() && !rt.shows_output()
-        }
-        Account::Report | Account::Stats | Account::StatsCsv => rt.shows_errors(),
+        Account::Course(_) => rt.shows_errors() && !rt.shows_output(),
+        Account::Summary(_) => rt.shows_errors(),
     }
 }
 
@@ -53,14 +48,45 @@ fn write_account<L: Listener, W: Out>(
     listener: &mut L,
     out: &mut W,
 ) -> Result<bool, Fault> {
+    let texts = texts_of(files)?;
+    match account {
+        Account::Course(course) => write_course(alloc, course, texts, listener, out),
+        Account::Summary(summary) => write_summary(alloc, summary, texts, listener, out),
+    }
+}
+
+fn texts_of(files: &RunFiles) -> Result<RunTexts<'_>, Fault> {
     let policy = text(files.policy.as_slice())?;
     let workload = text(files.workload.as_slice())?;
-    match account {
-        Account::Trace => simulate(alloc, policy, workload, listener, out),
-        Account::Report => report(alloc, policy, workload, listener, out),
-        Account::Stats => stats(alloc, policy, workload, listener, out),
-        Account::StatsCsv => stats_csv(alloc, policy, workload, listener, out),
-        Account::Timeline => timeline(alloc, policy, workload, listener, out),
-        Account::Picture => picture(alloc, policy, workload, listener, out),
+    Ok(RunTexts { policy, workload })
+}
+
+fn write_course<L: Listener, W: Out>(
+    alloc: Global,
+    course: Course,
+    texts: RunTexts<'_>,
+    listener: &mut L,
+    out: &mut W,
+) -> Result<bool, Fault> {
+    let RunTexts { policy, workload } = texts;
+    match course {
+        Course::Trace => simulate(alloc, policy, workload, listener, out),
+        Course::Timeline => timeline(alloc, policy, workload, listener, out),
+        Course::Picture => picture(alloc, policy, workload, listener, out),
+    }
+}
+
+fn write_summary<L: Listener, W: Out>(
+    alloc: Global,
+    summary: Summary,
+    texts: RunTexts<'_>,
+    listener: &mut L,
+    out: &mut W,
+) -> Result<bool, Fault> {
+    let RunTexts { policy, workload } = texts;
+    match summary {
+        Summary::Report => report(alloc, policy, workload, listener, out),
+        Summary::Stats => stats(alloc, policy, workload, listener, out),
+        Summary::StatsCsv => stats_csv(alloc, policy, workload, listener, out),
     }
 }

@@ -89,6 +89,15 @@ fn run_cases<R: AllocGlobal + Print>(
     tally: Tally,
 ) -> io::Result<Tally> {
     let parts = parts_of(rt.alloc(), text)?;
+    run_parts(rt, path, parts.as_slice(), tally)
+}
+
+fn run_parts<R: AllocGlobal + Print>(
+    rt: &R,
+    path: &str,
+    parts: &[Part<'_>],
+    tally: Tally,
+) -> io::Result<Tally> {
     let mut cases = Cases {
         rt,
         path,
@@ -96,10 +105,11 @@ fn run_cases<R: AllocGlobal + Print>(
         files: Vec::new(rt.alloc()),
         tally,
     };
-    for (place, &part) in parts.iter().enumerate() {
-        cases.take(part, said_behind(parts.as_slice(), place))?;
-    }
-    Ok(cases.tally)
+    let taken = cases.take_all(parts);
+    let tally = cases.tally;
+    drop(cases);
+    taken?;
+    Ok(tally)
 }
 
 /// What the part behind says that is written to standard error.
@@ -112,6 +122,13 @@ fn said_behind<'a>(parts: &[Part<'a>], place: usize) -> Option<&'a str> {
 }
 
 impl<'a, R: AllocGlobal + Print> Cases<'a, R> {
+    fn take_all(&mut self, parts: &[Part<'a>]) -> io::Result<()> {
+        for (place, &part) in parts.iter().enumerate() {
+            self.take(part, said_behind(parts, place))?;
+        }
+        Ok(())
+    }
+
     fn take(&mut self, part: Part<'a>, said: Option<&str>) -> io::Result<()> {
         match mark_of(part.mark) {
             Some(Mark::Case(name)) => {

@@ -1,12 +1,13 @@
-use crate::accounts::{Account, tell};
+use crate::accounts::tell;
 use crate::console::Console;
 use crate::ending::{Ending, end, end_without_memory, without_hint};
 use crate::files::{Unread, bytes_of};
 use crate::usage::write_usage;
-use scx_commands::{FAILED, Out, asm, dis, exec, hint_of_slots, hint_of_text, write_unread};
+use scx_commands::{FAILED, Fault, Out, asm, dis, exec, hint_of_slots, hint_of_text, write_unread};
 use scx_explain::explain;
 use scx_verdicts::check;
-use scx_words::Request;
+use scx_words::{PolicyCommand, ProgramCommand, Request};
+use std::alloc::Global;
 
 pub(crate) fn run_request<R: AllocGlobal + Console, W: Out>(
     rt: &R,
@@ -30,44 +31,67 @@ fn do_request<'a, R: AllocGlobal + Console, W: Out>(
     out: &mut W,
 ) -> Result<Ending, Unread<'a>> {
     match request {
-        Request::Exec { slots } => {
-            let bytes = bytes_of(rt, slots)?;
-            let outcome = exec(rt.alloc(), bytes.as_slice(), out);
-            Ok(end(outcome, hint_of_slots(bytes.as_slice()), out))
-        }
-        Request::Asm { text } => {
-            let bytes = bytes_of(rt, text)?;
-            let outcome = asm(rt.alloc(), bytes.as_slice(), out);
-            Ok(end(outcome, hint_of_text(bytes.as_slice()), out))
-        }
-        Request::Dis { slots } => {
-            let bytes = bytes_of(rt, slots)?;
-            let outcome = dis(rt.alloc(), bytes.as_slice(), out);
-            Ok(end(outcome, hint_of_slots(bytes.as_slice()), out))
-        }
-        Request::Verify { policy } => {
-            let bytes = bytes_of(rt, policy)?;
-            let outcome = check(rt.alloc(), bytes.as_slice(), out);
-            Ok(end(outcome, hint_of_text(bytes.as_slice()), out))
-        }
-        Request::Explain { policy } => {
-            let bytes = bytes_of(rt, policy)?;
-            let outcome = explain(rt.alloc(), bytes.as_slice(), out);
-            Ok(end(outcome, hint_of_text(bytes.as_slice()), out))
-        }
-        Request::Run { policy, workload } => tell(rt, Account::Trace, policy, workload, out),
-        Request::Report { policy, workload } => tell(rt, Account::Report, policy, workload, out),
-        Request::Stats { policy, workload } => tell(rt, Account::Stats, policy, workload, out),
-        Request::StatsCsv { policy, workload } => {
-            tell(rt, Account::StatsCsv, policy, workload, out)
-        }
-        Request::Timeline { policy, workload } => {
-            tell(rt, Account::Timeline, policy, workload, out)
-        }
-        Request::Picture { policy, workload } => tell(rt, Account::Picture, policy, workload, out),
+        Request::Program { command, path } => work_on_program(rt, command, path, out),
+        Request::Policy { command, path } => work_on_policy(rt, command, path, out),
+        Request::Run {
+            account,
+            policy,
+            workload,
+        } => tell(rt, account, policy, workload, out),
         Request::Cases => Ok(without_hint(write_usage(
             "error: a file of cases can't run files of cases\n",
             out,
         ))),
+    }
+}
+
+fn work_on_program<'a, R: AllocGlobal + Console, W: Out>(
+    rt: &R,
+    command: ProgramCommand,
+    path: &'a str,
+    out: &mut W,
+) -> Result<Ending, Unread<'a>> {
+    let bytes = bytes_of(rt, path)?;
+    let outcome = do_program(rt.alloc(), command, bytes.as_slice(), out);
+    let hint = match command {
+        ProgramCommand::Exec | ProgramCommand::Dis => hint_of_slots(bytes.as_slice()),
+        ProgramCommand::Asm => hint_of_text(bytes.as_slice()),
+    };
+    Ok(end(outcome, hint, out))
+}
+
+fn do_program<W: Out>(
+    alloc: Global,
+    command: ProgramCommand,
+    bytes: &[u8],
+    out: &mut W,
+) -> Result<bool, Fault> {
+    match command {
+        ProgramCommand::Exec => exec(alloc, bytes, out),
+        ProgramCommand::Asm => asm(alloc, bytes, out),
+        ProgramCommand::Dis => dis(alloc, bytes, out),
+    }
+}
+
+fn work_on_policy<'a, R: AllocGlobal + Console, W: Out>(
+    rt: &R,
+    command: PolicyCommand,
+    path: &'a str,
+    out: &mut W,
+) -> Result<Ending, Unread<'a>> {
+    let bytes = bytes_of(rt, path)?;
+    let outcome = do_policy(rt.alloc(), command, bytes.as_slice(), out);
+    Ok(end(outcome, hint_of_text(bytes.as_slice()), out))
+}
+
+fn do_policy<W: Out>(
+    alloc: Global,
+    command: PolicyCommand,
+    bytes: &[u8],
+    out: &mut W,
+) -> Result<bool, Fault> {
+    match command {
+        PolicyCommand::Verify => check(alloc, bytes, out),
+        PolicyCommand::Explain => explain(alloc, bytes, out),
     }
 }
