@@ -10,12 +10,32 @@ use std::process::Abort;
 
 #[derive(Clone, Copy)]
 pub(crate) enum Command {
+    Program(ProgramCommand),
+    Policy(PolicyCommand),
+}
+
+#[derive(Clone, Copy)]
+pub(crate) enum ProgramCommand {
     Asm,
     Dis,
     Exec,
+}
+
+#[derive(Clone, Copy)]
+pub(crate) enum PolicyCommand {
     Check,
     Explain,
 }
+
+pub(crate) const ASM: Command = Command::Program(ProgramCommand::Asm);
+
+pub(crate) const DIS: Command = Command::Program(ProgramCommand::Dis);
+
+pub(crate) const EXEC: Command = Command::Program(ProgramCommand::Exec);
+
+pub(crate) const CHECK: Command = Command::Policy(PolicyCommand::Check);
+
+pub(crate) const EXPLAIN: Command = Command::Policy(PolicyCommand::Explain);
 
 fn outcome<W: Out>(
     alloc: Global,
@@ -24,11 +44,33 @@ fn outcome<W: Out>(
     out: &mut W,
 ) -> Result<bool, Fault> {
     match command {
-        Command::Asm => asm(alloc, bytes, out),
-        Command::Dis => dis(alloc, bytes, out),
-        Command::Exec => exec(alloc, bytes, out),
-        Command::Check => check(alloc, bytes, out),
-        Command::Explain => explain(alloc, bytes, out),
+        Command::Program(command) => work_on_program(alloc, command, bytes, out),
+        Command::Policy(command) => work_on_policy(alloc, command, bytes, out),
+    }
+}
+
+fn work_on_program<W: Out>(
+    alloc: Global,
+    command: ProgramCommand,
+    bytes: &[u8],
+    out: &mut W,
+) -> Result<bool, Fault> {
+    match command {
+        ProgramCommand::Asm => asm(alloc, bytes, out),
+        ProgramCommand::Dis => dis(alloc, bytes, out),
+        ProgramCommand::Exec => exec(alloc, bytes, out),
+    }
+}
+
+fn work_on_policy<W: Out>(
+    alloc: Global,
+    command: PolicyCommand,
+    bytes: &[u8],
+    out: &mut W,
+) -> Result<bool, Fault> {
+    match command {
+        PolicyCommand::Check => check(alloc, bytes, out),
+        PolicyCommand::Explain => explain(alloc, bytes, out),
     }
 }
 

@@ -1,8 +1,8 @@
 //! Outputs that fail.
 
-use crate::commands::{Command, expect_cuts, run};
+use crate::commands::{CHECK, EXEC, EXPLAIN, expect_cuts, run};
 use crate::memory::{Memory, Way};
-use crate::runs::{ACCOUNTS, Account, execute};
+use crate::runs::{ACCOUNTS, Account, Summary, execute};
 use crate::same::expect_same;
 use crate::texts::{SHORT_SLICES, TWO_CPUS, TWO_TASKS};
 use scx_examples::{EXIT, bytes_of};
@@ -23,7 +23,7 @@ fn a_writer_may_take_byte_by_byte(rt: HostRuntime) -> Result<(), Fail> {
     let bytes = short_program(rt.alloc())?;
     let mut memory = Memory::by(rt.alloc(), Way::taking(1));
     let mut out = Counted::new(&mut memory);
-    let status = run(rt.alloc(), Command::Exec, bytes.as_slice(), &mut out);
+    let status = run(rt.alloc(), EXEC, bytes.as_slice(), &mut out);
     expect_same(&rt, status, 0, "status");
     expect_same(
         &rt,
@@ -37,8 +37,8 @@ fn a_writer_may_take_byte_by_byte(rt: HostRuntime) -> Result<(), Fail> {
 #[test]
 fn a_failed_write_of_an_answer_is_the_last(rt: HostRuntime) -> Result<(), Fail> {
     let runs = short_program(rt.alloc())?;
-    expect_cuts(&rt, Command::Exec, runs.as_slice(), b"r0 = 0 in 2 steps\n");
-    expect_cuts(&rt, Command::Exec, &[], b"refused: decode 1 Empty at 0\n");
+    expect_cuts(&rt, EXEC, runs.as_slice(), b"r0 = 0 in 2 steps\n");
+    expect_cuts(&rt, EXEC, &[], b"refused: decode 1 Empty at 0\n");
     Ok(())
 }
 
@@ -51,8 +51,8 @@ const REFUSAL: &[u8] = b"refused: policy timeout_ms: out of range\n";
 fn a_failed_write_of_verdicts_is_the_last(rt: HostRuntime) {
     let verdicts = b"init refused 18 BadReturn at 0\nenqueue ok 1\n";
     let policy = b"[code]\ninit = 'exit'\nenqueue = 'exit'";
-    expect_cuts(&rt, Command::Check, policy, verdicts);
-    expect_cuts(&rt, Command::Check, FAULTY, REFUSAL);
+    expect_cuts(&rt, CHECK, policy, verdicts);
+    expect_cuts(&rt, CHECK, FAULTY, REFUSAL);
 }
 
 const LISTED: &[u8] = b"init refused 18 BadReturn at 0
@@ -67,8 +67,8 @@ dispatch ok 1
 #[test]
 fn a_failed_write_of_explanations_is_the_last(rt: HostRuntime) {
     let policy = b"[code]\ndispatch = 'exit'\ninit = 'exit'\n";
-    expect_cuts(&rt, Command::Explain, policy, LISTED);
-    expect_cuts(&rt, Command::Explain, FAULTY, REFUSAL);
+    expect_cuts(&rt, EXPLAIN, policy, LISTED);
+    expect_cuts(&rt, EXPLAIN, FAULTY, REFUSAL);
 }
 
 /// The run's output fails at that write, and is a beginning of the whole one.
@@ -121,5 +121,5 @@ fn outputs_of_runs_are_cut_off(rt: HostRuntime) {
     for &account in &ACCOUNTS {
         cut_run(&rt, account, TWO_TASKS);
     }
-    cut_run(&rt, Account::Report, TWO_CPUS);
+    cut_run(&rt, Account::Summary(Summary::Report), TWO_CPUS);
 }

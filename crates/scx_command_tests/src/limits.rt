@@ -1,7 +1,7 @@
 //! Files that are as large as there may be, and larger ones, programs as long, and workloads of as many tasks.
 
 use crate::beginnings::run;
-use crate::commands::{Command, expect};
+use crate::commands::{ASM, CHECK, Command, DIS, EXEC, expect};
 use crate::same::expect_same;
 use scx_examples::{EXIT, bytes_of};
 use scx_outcomes::{FILE_LIMIT, Fault, Refusal, text};
@@ -17,10 +17,10 @@ fn refuses<R: AllocGlobal + Abort>(rt: &R, command: Command, bytes: &[u8], line:
 /// As many bytes as there may be, and more.
 fn limit_policies<R: AllocGlobal + Abort>(rt: &R) -> Result<(), AllocError> {
     let largest = vec![in rt.alloc(); b'\n'; FILE_LIMIT]?;
-    expect(rt, Command::Check, largest.as_slice(), b"", 0);
+    expect(rt, CHECK, largest.as_slice(), b"", 0);
     let too_large = vec![in rt.alloc(); b'\xff'; FILE_LIMIT + 1]?;
     let line = b"refused: too large\n";
-    expect(rt, Command::Check, too_large.as_slice(), line, 1);
+    expect(rt, CHECK, too_large.as_slice(), line, 1);
     Ok(())
 }
 
@@ -48,11 +48,11 @@ fn long_program(alloc: Global, slots: usize) -> Result<Vec<u8>, AllocError> {
 fn slots_are_limited(rt: HostRuntime) -> Result<(), Fail> {
     let longest = long_program(rt.alloc(), 4096)?;
     let line = b"r0 = 0 in 4096 steps\n";
-    expect(&rt, Command::Exec, longest.as_slice(), line, 0);
+    expect(&rt, EXEC, longest.as_slice(), line, 0);
     let too_long = long_program(rt.alloc(), 4097)?;
     refuses(
         &rt,
-        Command::Exec,
+        EXEC,
         too_long.as_slice(),
         "refused: decode 2 TooLong at 4096\n",
     );
@@ -64,17 +64,12 @@ fn slots_of_a_file_are_limited(rt: HostRuntime) -> Result<(), Fail> {
     let largest = vec![in rt.alloc(); 0u8; FILE_LIMIT]?;
     refuses(
         &rt,
-        Command::Exec,
+        EXEC,
         largest.as_slice(),
         "refused: decode 2 TooLong at 4096\n",
     );
     let too_large = vec![in rt.alloc(); 0u8; FILE_LIMIT + 1]?;
-    refuses(
-        &rt,
-        Command::Exec,
-        too_large.as_slice(),
-        "refused: too large\n",
-    );
+    refuses(&rt, EXEC, too_large.as_slice(), "refused: too large\n");
     Ok(())
 }
 
@@ -86,8 +81,8 @@ fn is_no_text(rt: &impl Abort, bytes: &[u8], refusal: Refusal) {
 /// Both commands refuse bytes that are too many.
 fn refuse_large<R: AllocGlobal + Abort>(rt: &R, bytes: &[u8]) {
     is_no_text(rt, bytes, Refusal::TooLarge);
-    refuses(rt, Command::Asm, bytes, "refused: too large\n");
-    refuses(rt, Command::Dis, bytes, "refused: too large\n");
+    refuses(rt, ASM, bytes, "refused: too large\n");
+    refuses(rt, DIS, bytes, "refused: too large\n");
 }
 
 #[test]
@@ -116,14 +111,9 @@ fn texts_are_limited(rt: HostRuntime) -> Result<(), Fail> {
     let largest = commented_program(rt.alloc(), FILE_LIMIT)?;
     expect_same(&rt, largest.len(), FILE_LIMIT, "bytes");
     let slots = bytes_of(rt.alloc(), &[0xb700_0000_0100_0000, EXIT])?;
-    expect(&rt, Command::Asm, largest.as_slice(), slots.as_slice(), 0);
+    expect(&rt, ASM, largest.as_slice(), slots.as_slice(), 0);
     let too_large = commented_program(rt.alloc(), FILE_LIMIT + 1)?;
-    refuses(
-        &rt,
-        Command::Asm,
-        too_large.as_slice(),
-        "refused: too large\n",
-    );
+    refuses(&rt, ASM, too_large.as_slice(), "refused: too large\n");
     Ok(())
 }
 

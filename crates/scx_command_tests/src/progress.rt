@@ -27,7 +27,8 @@ impl Listener for Record {
     }
 }
 
-fn expect_heard<R: AllocGlobal + Abort>(rt: &R, account: Account) {
+/// The account that stands there is told of each millisecond.
+fn expect_heard<R: AllocGlobal + Abort>(rt: &R, place: usize, account: Account) {
     let mut record = Record {
         heard: Vec::new(rt.alloc()),
     };
@@ -41,15 +42,15 @@ fn expect_heard<R: AllocGlobal + Abort>(rt: &R, account: Account) {
         &mut record,
         &mut out,
     );
-    expect_same(rt, done, Ok(true), account);
+    expect_same(rt, done, Ok(true), place);
     let wanted = [(1, 4), (2, 4), (3, 4), (4, 4)];
-    expect_same(rt, record.heard.as_slice(), wanted.as_slice(), account);
+    expect_same(rt, record.heard.as_slice(), wanted.as_slice(), place);
 }
 
 #[test]
 fn each_millisecond_is_heard(rt: HostRuntime) {
-    for &account in &ACCOUNTS {
-        expect_heard(&rt, account);
+    for (place, &account) in ACCOUNTS.iter().enumerate() {
+        expect_heard(&rt, place, account);
     }
 }
 

@@ -8,23 +8,35 @@ use scx_statistics::{stats, stats_csv};
 use scx_timeline::timeline;
 use std::alloc::Global;
 
-#[derive(Clone, Copy, Debug)]
+#[derive(Clone, Copy)]
 pub(crate) enum Account {
+    Course(Course),
+    Summary(Summary),
+}
+
+/// What is written as the run goes.
+#[derive(Clone, Copy)]
+pub(crate) enum Course {
     Trace,
-    Report,
-    Stats,
-    StatsCsv,
     Timeline,
     Picture,
 }
 
+/// What is written at its end.
+#[derive(Clone, Copy)]
+pub(crate) enum Summary {
+    Report,
+    Stats,
+    StatsCsv,
+}
+
 pub(crate) const ACCOUNTS: [Account; 6] = [
-    Account::Trace,
-    Account::Report,
-    Account::Stats,
-    Account::StatsCsv,
-    Account::Timeline,
-    Account::Picture,
+    Account::Course(Course::Trace),
+    Account::Summary(Summary::Report),
+    Account::Summary(Summary::Stats),
+    Account::Summary(Summary::StatsCsv),
+    Account::Course(Course::Timeline),
+    Account::Course(Course::Picture),
 ];
 
 pub(crate) fn execute<L: Listener, W: Out>(
@@ -36,11 +48,37 @@ pub(crate) fn execute<L: Listener, W: Out>(
     out: &mut W,
 ) -> Result<bool, Fault> {
     match account {
-        Account::Trace => simulate(alloc, policy, workload, listener, out),
-        Account::Report => report(alloc, policy, workload, listener, out),
-        Account::Stats => stats(alloc, policy, workload, listener, out),
-        Account::StatsCsv => stats_csv(alloc, policy, workload, listener, out),
-        Account::Timeline => timeline(alloc, policy, workload, listener, out),
-        Account::Picture => picture(alloc, policy, workload, listener, out),
+        Account::Course(course) => write_course(course, alloc, policy, workload, listener, out),
+        Account::Summary(summary) => write_summary(summary, alloc, policy, workload, listener, out),
+    }
+}
+
+fn write_course<L: Listener, W: Out>(
+    course: Course,
+    alloc: Global,
+    policy: &str,
+    workload: &str,
+    listener: &mut L,
+    out: &mut W,
+) -> Result<bool, Fault> {
+    match course {
+        Course::Trace => simulate(alloc, policy, workload, listener, out),
+        Course::Timeline => timeline(alloc, policy, workload, listener, out),
+        Course::Picture => picture(alloc, policy, workload, listener, out),
+    }
+}
+
+fn write_summary<L: Listener, W: Out>(
+    summary: Summary,
+    alloc: Global,
+    policy: &str,
+    workload: &str,
+    listener: &mut L,
+    out: &mut W,
+) -> Result<bool, Fault> {
+    match summary {
+        Summary::Report => report(alloc, policy, workload, listener, out),
+        Summary::Stats => stats(alloc, policy, workload, listener, out),
+        Summary::StatsCsv => stats_csv(alloc, policy, workload, listener, out),
     }
 }
