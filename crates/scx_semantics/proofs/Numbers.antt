@@ -76,6 +76,7 @@ positive : (w : Width) → 0 < 2 ^ bits w
 positive Bits32 = omega arith
 positive Bits64 = omega arith
 
+-- what arithmetic makes of two numbers that its width can hold, the width can hold
 pub operated : (w : Width) (o : Operation) (a b : ℕ) → a < 2 ^ bits w → b < 2 ^ bits w → operate w o a b < 2 ^ bits w
 operated w Add a b p q = let some = positive w in omega arith
 operated w Subtract a b p q = let some = positive w in omega arith
@@ -107,6 +108,7 @@ width_below : (w : Width) (n : ℕ) → n < 2 ^ bits w → n < 2 ^ 64
 width_below Bits32 n h = omega arith
 width_below Bits64 n h = h
 
+-- the part of a 64-bit operand that an instruction takes, its width can hold
 pub low_fits : (w : Width) (n : ℕ) → n < 2 ^ 64 → low w n < 2 ^ bits w
 low_fits Bits32 n h = omega arith
 low_fits Bits64 n h = h

@@ -17,6 +17,7 @@ OneEnd W =
     → Runs (graph answer-of after) c code a maps w answer' steps' left' v'
     → (answer ≡ answer') × (steps ≡ steps') × (left ≡ left') × (v ≡ v')
 
+-- where each query has one answer, runs that get stuck agree in slot, steps, maps and outside
 abbrev pub OneStuck : Type 0 → Type 0
 OneStuck W =
     (answer-of : W → Query → Value) (after : W → Query → W) (c : Callback) (code : Code) (a : Arguments) (maps : Maps) (w : W) (slot slot' steps steps' : ℕ) (left left' : Maps) (v v' : W)
@@ -24,6 +25,7 @@ OneStuck W =
     → GetsStuck (graph answer-of after) c code a maps w slot' steps' left' v'
     → (slot ≡ slot') × (steps ≡ steps') × (left ≡ left') × (v ≡ v')
 
+-- where each query has one answer, no run both ends and gets stuck
 abbrev pub EndsOrGetsStuck : Type 0 → Type 0
 EndsOrGetsStuck W =
     (answer-of : W → Query → Value) (after : W → Query → W) (c : Callback) (code : Code) (a : Arguments) (maps : Maps) (w : W) (answer steps slot steps' : ℕ) (left left' : Maps) (v v' : W)
@@ -38,6 +40,7 @@ EndCarriesOver {W} {V} O P =
     (seen : W → V) (c : Callback) (code : Code) (a : Arguments) (maps : Maps) (w : W) (answer steps : ℕ) (left : Maps) (w' : W)
     → AllowsAs O P seen → Runs O c code a maps w answer steps left w' → Runs P c code a maps (seen w) answer steps left (seen w')
 
+-- where a second outside allows as much, what gets stuck over the first does over the second
 abbrev pub StuckCarriesOver : {W V : Type 0} → Outside W → Outside V → Type 0
 StuckCarriesOver {W} {V} O P =
     (seen : W → V) (c : Callback) (code : Code) (a : Arguments) (maps : Maps) (w : W) (slot steps : ℕ) (left : Maps) (w' : W)

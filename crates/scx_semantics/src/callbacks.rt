@@ -5,13 +5,21 @@ ghost use Rattle.scx_semantics.specs.HostTables.{answers};
 /// with no policy around it.
 #[derive(Clone, Copy, PartialEq, Eq)]
 pub enum Callback {
+    /// No callback: a program that is run alone and calls no helper.
     Plain,
+    /// Once, before anything else.
     Init,
+    /// For each task, after `init`.
     Enable,
+    /// As a task wakes; it answers the processor for which the task is meant.
     SelectCpu,
+    /// For a task that has to wait and that `select_cpu` didn't insert.
     Enqueue,
+    /// For a processor that has nothing in its own queue, nor in GLOBAL.
     Dispatch,
+    /// As a task begins to run.
     Running,
+    /// As a task leaves its processor.
     Stopping,
 }
 
