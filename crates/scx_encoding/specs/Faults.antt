@@ -6,6 +6,7 @@ use Rattle.scx_encoding.specs.declared.faults.Exclusion.TheVariants.{Atomic32, A
 use Rattle.scx_encoding.specs.declared.faults.DecodeFault.{DecodeFault}
 use Rattle.scx_encoding.specs.declared.faults.DecodeFault.TheVariants.{Empty, TooLong, NotWholeSlots, UnknownOpcode, NotInProfile, BadRegister, UnusedField, HalfWide, BadOffset, BadWidth}
 
+-- the number by which a refusal names a fault; all that is left out has the same
 abbrev pub decode_number : DecodeFault → ℕ
 decode_number Empty = 1
 decode_number TooLong = 2
@@ -18,6 +19,7 @@ decode_number HalfWide = 8
 decode_number BadOffset = 9
 decode_number BadWidth = 10
 
+-- the name of a refusal for an instruction that is left out, which says what that is
 abbrev pub exclusion_name : Exclusion → List ℕ
 exclusion_name Atomic32 = codes "NotInProfile(atomic32)"
 exclusion_name Atomic64 = codes "NotInProfile(atomic64)"
@@ -30,6 +32,7 @@ exclusion_name VariableAddress = codes "NotInProfile(variable address)"
 exclusion_name CodeAddress = codes "NotInProfile(code address)"
 exclusion_name MapValueByIndex = codes "NotInProfile(map value by index)"
 
+-- the name of a fault in a refusal
 abbrev pub decode_name : DecodeFault → List ℕ
 decode_name Empty = codes "Empty"
 decode_name TooLong = codes "TooLong"

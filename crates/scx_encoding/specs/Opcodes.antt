@@ -47,10 +47,12 @@ abbrev pub store_class : Source → ℕ
 store_class Immediate = 2
 store_class Register = 3
 
+-- the source bit of an opcode, K or X: whether the operand is an immediate or a register
 abbrev pub source_bit : Source → ℕ
 source_bit Immediate = 0
 source_bit Register = 8
 
+-- the high four bits for arithmetic; the offset alone tells signed from unsigned division
 abbrev pub operation_code : Operation → ℕ
 operation_code Add = 0
 operation_code Subtract = 1
@@ -67,6 +69,7 @@ operation_code Xor = 0xa
 operation_code Move = 0xb
 operation_code ShiftRightSigned = 0xc
 
+-- the high four bits for a conditional jump
 abbrev pub comparison_code : Comparison → ℕ
 comparison_code Equal = 1
 comparison_code Greater = 2
@@ -103,6 +106,7 @@ access_code access.SignedWord = 0x80
 access_code access.SignedHalfWord = 0x88
 access_code access.SignedByte = 0x90
 
+-- the eight bits of a form; both wide loads have the same, and the source field tells them apart
 abbrev pub opcode : Form → ℕ
 opcode (Binary w o x) = arithmetic_class w + source_bit x + 16 * operation_code o
 opcode (Negate Bits32) = 0x84
@@ -126,6 +130,7 @@ base SignedDivide = Divide
 base SignedModulo = Modulo
 base o = o
 
+-- whether an operand is an immediate or a register
 abbrev pub source_of : Operand → Source
 source_of (operand.Immediate k) = Immediate
 source_of (operand.Register r) = Register
@@ -148,17 +153,21 @@ form insn.Exit = Exit
 
 -- ---- forms of opcodes
 
+-- the operations of arithmetic that an opcode tells apart: all but the signed divisions
 abbrev pub base_operations : List Operation
 base_operations = Add ∷ Subtract ∷ Multiply ∷ Divide ∷ Or ∷ And ∷ ShiftLeft ∷ ShiftRight ∷ Modulo ∷ Xor ∷ Move ∷ ShiftRightSigned ∷ []
 
+-- all comparisons of conditional jumps
 abbrev pub comparisons : List Comparison
 comparisons =
     Equal ∷ Greater ∷ GreaterOrEqual ∷ BitTest ∷ NotEqual ∷ SignedGreater ∷ SignedGreaterOrEqual
     ∷ Less ∷ LessOrEqual ∷ SignedLess ∷ SignedLessOrEqual ∷ []
 
+-- all sizes of stores
 abbrev pub sizes : List Size
 sizes = size.Word ∷ size.HalfWord ∷ size.Byte ∷ size.DoubleWord ∷ []
 
+-- all ways in which a load reads
 abbrev pub accesses : List Access
 accesses =
     access.Word ∷ access.HalfWord ∷ access.Byte ∷ access.DoubleWord
@@ -168,6 +177,7 @@ accesses =
 abbrev pub lone_forms : List Form
 lone_forms = Negate Bits32 ∷ Negate Bits64 ∷ ByteSwap Little ∷ ByteSwap Big ∷ ByteSwap Swapped ∷ Goto ∷ GotoLong ∷ Exit ∷ []
 
+-- what an opcode has as its operand, by its source bit: an immediate or a register
 abbrev pub source_at : ℕ → Source
 source_at n = if nat_eq (n / 8 % 2) 0 then Immediate else Register
 
@@ -175,6 +185,7 @@ source_at n = if nat_eq (n / 8 % 2) 0 then Immediate else Register
 abbrev pub binary_form : Width → ℕ → Option Form
 binary_form w n = option_map (λ o. Binary w o (source_at n)) (coded operation_code base_operations (n / 16))
 
+-- a conditional jump, by the comparison in the high four bits
 abbrev pub jump_form : Width → ℕ → Option Form
 jump_form w n = option_map (λ c. JumpIf w c (source_at n)) (coded comparison_code comparisons (n / 16))
 
@@ -182,6 +193,7 @@ jump_form w n = option_map (λ c. JumpIf w c (source_at n)) (coded comparison_co
 abbrev pub load_form : ℕ → Option Form
 load_form n = option_map Load (coded access_code accesses n)
 
+-- a store of an immediate or of a register, by the opcode without its class
 abbrev pub store_form : Source → ℕ → Option Form
 store_form x n = option_map (λ s. Store s x) (coded size_code sizes n)
 
@@ -196,10 +208,12 @@ class_form class n =
     if nat_eq class 6 then jump_form Bits32 n else (
     if nat_eq class 7 then binary_form Bits64 n else None))))))
 
+-- the first of two if it is there, or else the second
 abbrev pub first_some : {A : Type 0} → Option A → Option A → Option A
 first_some None y = y
 first_some (Some x) y = Some x
 
+-- whether a number is in the list
 abbrev pub among : List ℕ → ℕ → Bool
 among ns n = list_any (λ m. nat_eq n m) ns
 
@@ -210,6 +224,7 @@ opcode_fault n =
     if nat_eq n 0xdb then NotInProfile Atomic64 else (
     if among (0x20 ∷ 0x28 ∷ 0x30 ∷ 0x40 ∷ 0x48 ∷ 0x50 ∷ []) n then NotInProfile Packet else UnknownOpcode))
 
+-- the form of an opcode, or why it has none, where the source field tells no forms apart
 abbrev pub plain_form : ℕ → Result Form DecodeFault
 plain_form n = ok_or (first_some (coded opcode lone_forms n) (class_form (n % 8) n)) (opcode_fault n)
 
@@ -218,6 +233,7 @@ abbrev pub look_up : {A : Type 0} → A → List (ℕ × A) → ℕ → A
 look_up other [] n = other
 look_up other (row ∷ rows) n = if nat_eq n row.0 then row.1 else look_up other rows n
 
+-- no form, by that fault
 abbrev pub refused : DecodeFault → Result Form DecodeFault
 refused fault = Err fault
 

@@ -32,9 +32,11 @@ use Rattle.scx_encoding.specs.Opcodes.{form_of}
 use Rattle.scx_semantics.specs.Code.{is_wide}
 use Rattle.scx_encoding.specs.Spelling.{extension_offset, order_bits, first_slot, second_slot}
 
+-- the register that a field of a slot names, or a fault above 10
 abbrev pub register : ℕ → Result Register DecodeFault
 register n = ok_or (register_at n) BadRegister
 
+-- the operand from a slot's fields: its immediate with a sign, or its source register
 abbrev pub operand_at : Source → Slot → Result Operand DecodeFault
 operand_at source.Immediate s = Ok (operand.Immediate (cast_signed w32 s.immediate))
 operand_at source.Register s = do
@@ -58,6 +60,7 @@ binary_at w Modulo d x n = if nat_eq n 0 then Some (insn.Binary w Modulo d x) el
 binary_at w Move d x n = if nat_eq n 0 then Some (insn.Binary w Move d x) else extension_at w d x n
 binary_at w o d x n = Some (insn.Binary w o d x)
 
+-- all widths of byte swaps
 abbrev pub order_widths : List SwapWidth
 order_widths = order.Bits16 ∷ order.Bits32 ∷ order.Bits64 ∷ []
 
@@ -66,9 +69,11 @@ abbrev pub high_half : Option Slot → ℕ
 high_half None = 0
 high_half (Some t) = t.immediate
 
+-- a slot's immediate, as a number with a sign
 abbrev pub number_at : Slot → ℤ
 number_at s = cast_signed w32 s.immediate
 
+-- a slot's offset, as a number with a sign
 abbrev pub offset_at : Slot → ℤ
 offset_at s = cast_signed w16 s.offset
 

@@ -33,15 +33,18 @@ extension_offset Low8To64 = 8
 extension_offset Low16To64 = 16
 extension_offset Low32To64 = 32
 
+-- the immediate of a byte swap: how many low bits it keeps
 abbrev pub order_bits : SwapWidth → ℕ
 order_bits Bits16 = 16
 order_bits Bits32 = 32
 order_bits Bits64 = 64
 
+-- the source field for an operand: its register's number, or 0 beside an immediate
 abbrev pub operand_register : Operand → ℕ
 operand_register (Immediate k) = 0
 operand_register (Register r) = number r
 
+-- the immediate field for an operand: its 32 bits, or 0 beside a register
 abbrev pub operand_immediate : Operand → ℕ
 operand_immediate (Immediate k) = cast_unsigned w32 k
 operand_immediate (Register r) = 0
@@ -69,6 +72,7 @@ source_field (Store s r offset x) = operand_register x
 source_field (JumpIf w c r x offset) = operand_register x
 source_field i = 0
 
+-- a distance, an address's offset, or what tells operations of one opcode apart, else 0
 abbrev pub offset_field : Insn → ℕ
 offset_field (Binary w o d x) = operation_offset o
 offset_field (SignExtend e d r) = extension_offset e
@@ -78,6 +82,7 @@ offset_field (JumpIf w c r x offset) = cast_unsigned w16 offset
 offset_field (Goto offset) = cast_unsigned w16 offset
 offset_field i = 0
 
+-- an operand, a swap's width, a long distance, a helper's number or a wide load's low half, else 0
 abbrev pub immediate_field : Insn → ℕ
 immediate_field (Binary w o d x) = operand_immediate x
 immediate_field (ByteSwap o w d) = order_bits w
@@ -105,16 +110,19 @@ first_slot i = record {
 abbrev pub half : ℕ → Slot
 half k = record { opcode = 0; destination = 0; source = 0; offset = 0; immediate = k }
 
+-- the second half of a wide instruction; other instructions have none
 abbrev pub second_slot : Insn → Option Slot
 second_slot (LoadImmediate d low high) = Some (half (cast_unsigned w32 high))
 second_slot (LoadMapReference d k) = Some (half 0)
 second_slot i = None
 
+-- the one slot that spells an instruction, or both halves of a wide one
 abbrev pub insn_slots : Insn → List Slot
 insn_slots i = first_slot i ∷ option_to_list (second_slot i)
 
 -- ---- numbers
 
+-- an operand whose immediate, if it is one, fits in 32 bits with its sign
 abbrev pub IsOperand : Operand → Type 0
 IsOperand (Immediate k) = FitsSigned w32 k
 IsOperand (Register r) = Unit {0}

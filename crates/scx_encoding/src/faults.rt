@@ -5,15 +5,25 @@ ghost use Rattle.scx_encoding.specs.Faults.{exclusion_name, decode_number, decod
 /// packet loads, calls and 64-bit immediates that need a loader (RFC 9669, sections 4.3 and 5).
 #[derive(Clone, Copy, Debug, PartialEq, Eq)]
 pub enum Exclusion {
+    /// An atomic operation on 32 bits of memory.
     Atomic32,
+    /// An atomic operation on 64 bits of memory.
     Atomic64,
+    /// A legacy load from a packet.
     Packet,
+    /// A call of a function in the program itself.
     LocalCall,
+    /// A call of a helper by its BTF id.
     BtfCall,
+    /// A 64-bit immediate that stands for a map, by its file descriptor.
     MapByFd,
+    /// A 64-bit immediate that stands for an address in a map's value, by a file descriptor.
     MapValueByFd,
+    /// A 64-bit immediate that stands for the address of a variable of the platform.
     VariableAddress,
+    /// A 64-bit immediate that stands for the address of an instruction.
     CodeAddress,
+    /// A 64-bit immediate that stands for an address in a map's value, by the map's index.
     MapValueByIndex,
 }
 
@@ -30,7 +40,9 @@ pub enum DecodeFault {
     TooLong,
     /// The bytes end within a slot.
     NotWholeSlots,
+    /// No instruction has this opcode, or none with this source field.
     UnknownOpcode,
+    /// RFC 9669 has the instruction, but it is left out here.
     NotInProfile(Exclusion),
     /// A register that is used is above 10.
     BadRegister,
