@@ -17,6 +17,7 @@ abbrev pub at_slot : {A : Type 0} → ℕ → Result A DecodeFault → Result A 
 at_slot k (Ok x) = Ok x
 at_slot k (Err e) = Err (e, k)
 
+-- the slot at the front, if any is left
 abbrev pub first : List Slot → Option Slot
 first [] = None
 first (s ∷ slots) = Some s
@@ -29,6 +30,7 @@ read_slots k due (s ∷ slots) = do
   code ← read_slots (suc k) (due_after occupant) slots
   Ok (occupant ∷ code)
 
+-- the program that bytes spell, or its first fault and where that is
 abbrev pub read_program : List ℕ → Result Code (DecodeFault × ℕ)
 read_program bytes =
     let n = length bytes / 8 in
@@ -41,6 +43,7 @@ abbrev pub Fails : {Y : Type 0} → DecodeError → Result Y (DecodeFault × ℕ
 Fails (errors.Refused fault slot) read = read ≡ Err (fault, slot)
 Fails errors.OutOfMemory read = Unit {0}
 
+-- a function returned what reading gives, where that is seen by view, or ran out of memory
 abbrev pub Gives : {X Y : Type 0} → (X → Y) → Result X DecodeError → Result Y (DecodeFault × ℕ) → Type 0
 Gives view (Ok x) read = read ≡ Ok (view x)
 Gives view (Err e) read = Fails e read

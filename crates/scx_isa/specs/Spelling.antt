@@ -18,6 +18,7 @@ occupant_slots (Some i) = insn_slots i
 abbrev pub code_slots : Code → List Slot
 code_slots code = flat_map occupant_slots code
 
+-- the bytes of a program's slots, in order
 abbrev pub spelling : Code → List ℕ
 spelling code = flat_map slot_bytes (code_slots code)
 

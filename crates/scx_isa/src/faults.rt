@@ -12,8 +12,10 @@ use thiserror::Error;
 /// A fault in the second half of a wide instruction has that half's slot; `HalfWide` has the first's.
 #[derive(Clone, Copy, Debug, PartialEq, Eq, Error)]
 pub enum DecodeError {
+    /// The bytes spell no program, by that fault.
     #[error("decode {} {} at {slot}", fault.number(), fault.name())]
     Refused { fault: DecodeFault, slot: usize },
+    /// There was no memory for the program.
     #[error("no memory")]
     OutOfMemory,
 }
