@@ -14,6 +14,7 @@ use Rattle.scx_text.specs.declared.symbols.Symbol.TheVariants.{Assign, Compare}
 use Rattle.scx_text.specs.Symbols.{spelled}
 use Rattle.scx_text.specs.Names.{register_text, access_text, stored_access, extension_access, order_text}
 
+-- a decimal number with its sign if it is negative, or a register of the width
 abbrev pub operand_text : Width → Operand → List ℕ
 operand_text w (operand.Immediate k) = signed_decimal k
 operand_text w (operand.Register r) = register_text w r
@@ -23,13 +24,16 @@ abbrev pub offset_text : ℤ → List ℕ
 offset_text (pos n) = codes "+ " ++ decimal n
 offset_text (negsuc n) = codes "- " ++ decimal (suc n)
 
+-- a jump's distance, always with a sign that touches the number
 abbrev pub distance_text : ℤ → List ℕ
 distance_text (pos n) = codes "+" ++ decimal n
 distance_text (negsuc n) = codes "-" ++ decimal (suc n)
 
+-- memory by how it is accessed, the register that points to it and the offset
 abbrev pub memory_operand_text : List ℕ → Register → ℤ → List ℕ
 memory_operand_text access r o = codes "*(" ++ access ++ codes " *)(" ++ register_text Bits64 r ++ codes " " ++ offset_text o ++ codes ")"
 
+-- the line of an instruction, without a line feed; a jump's target is written as a distance
 abbrev pub insn_text : Insn → List ℕ
 insn_text (insn.Binary w o d x) = register_text w d ++ codes " " ++ spelled (Assign o) ++ codes " " ++ operand_text w x
 insn_text (insn.Negate w d) = register_text w d ++ codes " = -" ++ register_text w d

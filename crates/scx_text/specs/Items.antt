@@ -39,10 +39,12 @@ pub data ItemValue : Type 0 where
   Says : Statement → ItemValue
   Jumps : Jump → Destination → ItemValue
 
+-- where a jump goes, with its label's bytes
 abbrev pub destination_of : Target → Destination
 destination_of (target.Label l) = Label l.now
 destination_of (target.Distance n) = Distance n
 
+-- what a line of the code says, with its label's bytes
 abbrev pub item_value : Item → ItemValue
 item_value item.Blank = Blank
 item_value (item.Label l) = DefinesLabel l.now
@@ -51,9 +53,11 @@ item_value (item.Jump j t) = Jumps j (destination_of t)
 
 -- ---- what the front of a line says, and what stands behind it
 
+-- what was read, with the tokens behind it; none where the front is something else
 abbrev pub Read : Type 0 → Type 0
 Read A = Option (A × List Lexeme)
 
+-- a number by its sign and its magnitude, which is missing from 2^64 on
 abbrev pub written : Bool → Option ℕ → Literal
 written is_negative magnitude = record { is_negative = is_negative; magnitude = magnitude }
 
@@ -75,10 +79,12 @@ read_distance (Mark Plus ∷ Number true n ∷ ts) = Some (written false n, ts)
 read_distance (Mark Minus ∷ Number true n ∷ ts) = Some (written true n, ts)
 read_distance ts = None
 
+-- where a jump goes: a word is a label, and a number behind its sign a distance
 abbrev pub read_destination : List Lexeme → Read Destination
 read_destination (Word l ∷ ts) = Some (Label l, ts)
 read_destination ts = read_distance ts >>= λ n. Some (Distance n.0, n.1)
 
+-- the word at the front
 abbrev pub read_word : List Lexeme → Read (List ℕ)
 read_word (Word w ∷ ts) = Some (w, ts)
 read_word ts = None
@@ -93,18 +99,22 @@ abbrev pub read_operand : Width → List Lexeme → Read WrittenOperand
 read_operand w (Word name ∷ ts) = register_in w name >>= λ r. Some (argument.Register r, ts)
 read_operand w ts = read_literal ts >>= λ n. Some (argument.Number n.0, n.1)
 
+-- the comparison at the front
 abbrev pub read_comparison : List Lexeme → Read Comparison
 read_comparison (Mark (Compare c) ∷ ts) = Some (c, ts)
 read_comparison ts = None
 
+-- the tokens behind a star; none where none stands at the front
 abbrev pub star : List Lexeme → Option (List Lexeme)
 star (Mark Star ∷ ts) = Some ts
 star ts = None
 
+-- the tokens behind an opening parenthesis; none where none stands at the front
 abbrev pub opening : List Lexeme → Option (List Lexeme)
 opening (Mark Opening ∷ ts) = Some ts
 opening ts = None
 
+-- the tokens behind a closing parenthesis; none where none stands at the front
 abbrev pub closing : List Lexeme → Option (List Lexeme)
 closing (Mark Closing ∷ ts) = Some ts
 closing ts = None
@@ -140,6 +150,7 @@ abbrev pub end : List Lexeme → ItemValue → Option ItemValue
 end [] l = Some l
 end ts l = None
 
+-- whether two registers are one
 abbrev pub same : Register → Register → Bool
 same r s = nat_eq (number r) (number s)
 
@@ -246,9 +257,11 @@ condition ts = do
   t ← read_goto j.1
   end t.1 (Jumps j.0 t.0)
 
+-- a line that is a jump without a condition, behind `goto` or `gotol`
 abbrev pub jumped : Jump → List Lexeme → Option ItemValue
 jumped j ts = read_destination ts >>= λ t. end t.1 (Jumps j t.0)
 
+-- `call N`, behind the `call`
 abbrev pub called : List Lexeme → Option ItemValue
 called ts = read_literal ts >>= λ n. end n.1 (Says (statement.Call n.0))
 
@@ -261,9 +274,11 @@ keyword name ts =
     else (if bytes_eq name (codes "call") then called ts
     else (if bytes_eq name (codes "exit") then end ts (Says statement.Exit) else None))))
 
+-- a line by its first word: the name of a register, or a word of the language
 abbrev pub statement_of : List ℕ → List Lexeme → Option ItemValue
 statement_of name ts = either (register_named name) (λ r. assigned r.0 r.1 ts) (keyword name ts)
 
+-- what a line's tokens say, a blank line without any; none where the language has no such line
 abbrev pub item_of : List Lexeme → Option ItemValue
 item_of [] = Some Blank
 item_of (Word l ∷ Mark Colon ∷ ts) = end ts (DefinesLabel l)

@@ -9,6 +9,7 @@ use Rattle.scx_text.specs.declared.lexer.Class.TheVariants as class
 use Rattle.scx_text.specs.Symbols.{spelled}
 use Rattle.scx_text.specs.Tokens.{Lexeme, Word, Number, Mark, is_in, radix, bounded, token_at}
 
+-- each byte is of the class
 abbrev pub AllIn : Class → List ℕ → Type 0
 AllIn c text = AllByRecursion (λ b. is_in c b ≡ true) text
 
@@ -36,5 +37,6 @@ abbrev pub IsLongest : List ℕ → Option (Lexeme × ℕ) → Type 0
 IsLongest text None = (t : Lexeme) (front rest : List ℕ) → text ≡ front ++ rest → IsToken t front → ⊥
 IsLongest text (Some found) = (found.1 ≤ length text) × IsToken found.0 (take found.1 text) × ((t : Lexeme) (front rest : List ℕ) → text ≡ front ++ rest → IsToken t front → length front ≤ found.1)
 
+-- at the front of any text the longest token is read, or none where no token begins there
 abbrev pub LongestToken : Type 0
 LongestToken = (touches : Bool) (text : List ℕ) → IsLongest text (token_at touches text)

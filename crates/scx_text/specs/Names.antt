@@ -27,21 +27,26 @@ named text (x ∷ xs) name = if bytes_eq name (text x) then Some x else named te
 
 -- ---- registers: r0 to r10, and w0 to w10 for their low halves
 
+-- the letter before a register's number, which tells how much of it is taken
 abbrev pub width_text : Width → List ℕ
 width_text Bits64 = codes "r"
 width_text Bits32 = codes "w"
 
+-- a register as it is written, all 64 bits of it or its low 32
 abbrev pub register_text : Width → Register → List ℕ
 register_text w r = width_text w ++ decimal (number r)
 
+-- how much of a register is taken, by the first byte of its name, `r` or `w`
 abbrev pub width_named : ℕ → Option Width
 width_named b = if nat_eq b 114 then Some Bits64 else (if nat_eq b 119 then Some Bits32 else None)
 
+-- the register by the decimal digits of its number, without a 0 in front
 abbrev pub register_numbered : List ℕ → Option Register
 register_numbered (d ∷ []) = if is_ascii_digit d then register_at (d - 48) else None
 register_numbered (a ∷ b ∷ []) = if nat_eq a 49 && nat_eq b 48 then Some R10 else None
 register_numbered digits = None
 
+-- how much of a register a word names, and which; none where it is no register's name
 abbrev pub register_named : List ℕ → Option (Width × Register)
 register_named [] = None
 register_named (b ∷ digits) = do
@@ -55,11 +60,13 @@ of_width Bits32 (Bits32, r) = Some r
 of_width Bits64 (Bits64, r) = Some r
 of_width w x = None
 
+-- the register that a word names, if it takes so much of it
 abbrev pub register_in : Width → List ℕ → Option Register
 register_in w name = register_named name >>= of_width w
 
 -- ---- memory
 
+-- what stands for a size and a sign in the place of a C type, such as `u8`
 abbrev pub access_text : Access → List ℕ
 access_text access.Byte = codes "u8"
 access_text access.HalfWord = codes "u16"
@@ -69,9 +76,11 @@ access_text access.SignedByte = codes "s8"
 access_text access.SignedHalfWord = codes "s16"
 access_text access.SignedWord = codes "s32"
 
+-- all ways in which memory is read, in the order in which names are compared
 abbrev pub accesses : List Access
 accesses = access.Byte ∷ access.HalfWord ∷ access.Word ∷ access.DoubleWord ∷ access.SignedByte ∷ access.SignedHalfWord ∷ access.SignedWord ∷ []
 
+-- how memory of that name is read; none of any other word
 abbrev pub access_named : List ℕ → Option Access
 access_named name = named access_text accesses name
 
@@ -83,6 +92,7 @@ stored_size access.Word = Some size.Word
 stored_size access.DoubleWord = Some size.DoubleWord
 stored_size a = None
 
+-- the name of what is stored is that of a load of its size without a sign
 abbrev pub stored_access : Size → Access
 stored_access size.Byte = access.Byte
 stored_access size.HalfWord = access.HalfWord
@@ -98,6 +108,7 @@ extension_of Bits64 access.SignedHalfWord = Some Low16To64
 extension_of Bits64 access.SignedWord = Some Low32To64
 extension_of w a = None
 
+-- a sign-extending move names the load that takes as many bits with their sign
 abbrev pub extension_access : Extension → Access
 extension_access Low8To32 = access.SignedByte
 extension_access Low16To32 = access.SignedHalfWord
@@ -107,6 +118,7 @@ extension_access Low32To64 = access.SignedWord
 
 -- ---- byte orders
 
+-- the word for a byte swap, with its bits behind the order
 abbrev pub order_text : ByteOrder × SwapWidth → List ℕ
 order_text (Little, order.Bits16) = codes "le16"
 order_text (Little, order.Bits32) = codes "le32"
@@ -118,6 +130,7 @@ order_text (Swapped, order.Bits16) = codes "bswap16"
 order_text (Swapped, order.Bits32) = codes "bswap32"
 order_text (Swapped, order.Bits64) = codes "bswap64"
 
+-- all byte swaps: each order with each count of bits
 abbrev pub orders : List (ByteOrder × SwapWidth)
 orders =
     (Little, order.Bits16) ∷ (Little, order.Bits32) ∷ (Little, order.Bits64)
@@ -125,5 +138,6 @@ orders =
     ∷ (Swapped, order.Bits16) ∷ (Swapped, order.Bits32) ∷ (Swapped, order.Bits64)
     ∷ []
 
+-- the byte swap for which the word stands; none of any other word
 abbrev pub order_named : List ℕ → Option (ByteOrder × SwapWidth)
 order_named name = named order_text orders name

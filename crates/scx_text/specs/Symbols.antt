@@ -8,6 +8,7 @@ use Rattle.scx_semantics.specs.declared.operations.Comparison.TheVariants.{Equal
 use Rattle.scx_text.specs.declared.symbols.Symbol.{Symbol}
 use Rattle.scx_text.specs.declared.symbols.Symbol.TheVariants.{Assign, Compare, Plus, Minus, Star, Opening, Closing, Colon}
 
+-- the bytes that spell a symbol
 abbrev pub spelled : Symbol → List ℕ
 spelled (Assign Add) = codes "+="
 spelled (Assign Subtract) = codes "-="

@@ -18,16 +18,19 @@ pub data Lexeme : Type 0 where
   Number : Bool → Option ℕ → Lexeme
   Mark : Symbol → Lexeme
 
+-- a token of the code, with its word's bytes
 abbrev pub lexeme : Token → Lexeme
 lexeme (token.Word w) = Word w.now
 lexeme (token.Number touches value) = Number touches value
 lexeme (token.Mark s) = Mark s
 
+-- the tokens of the code, each with its word's bytes
 abbrev pub lexemes : List Token → List Lexeme
 lexemes ts = map lexeme ts
 
 -- ---- runs of bytes
 
+-- a space or a tab, which stand between tokens
 abbrev pub is_blank : ℕ → Bool
 is_blank b = nat_eq b 32 || nat_eq b 9
 
@@ -35,6 +38,7 @@ is_blank b = nat_eq b 32 || nat_eq b 9
 abbrev pub is_word : ℕ → Bool
 is_word b = (is_ascii_alphabetic b || is_ascii_digit b) || nat_eq b 95
 
+-- whether a byte may stand in a word, in a decimal number or in a hexadecimal one
 abbrev pub is_in : Class → ℕ → Bool
 is_in class.Word b = is_word b
 is_in class.Decimal b = is_ascii_digit b
@@ -47,13 +51,16 @@ run c (b ∷ bs) = if is_in c b then suc (run c bs) else 0
 
 -- ---- one token, and how many bytes it has
 
+-- the number, if it is below 2^64
 abbrev pub bounded : ℕ → Option ℕ
 bounded n = if nat_lt n (2 ^ 64) then Some n else None
 
+-- the base of numbers with digits of the class
 abbrev pub radix : Class → ℕ
 radix class.Hexadecimal = 16
 radix c = 10
 
+-- the number whose digits stand behind a prefix of so many bytes, and the length with the prefix
 abbrev pub digits_at : Bool → Class → ℕ → List ℕ → Lexeme × ℕ
 digits_at touches c prefix text =
     let n = run c (drop prefix text) in
@@ -63,12 +70,15 @@ digits_at touches c prefix text =
 abbrev pub is_hexadecimal : List ℕ → Bool
 is_hexadecimal text = (nat_eq (slice_index text 0) 48 && nat_eq (slice_index text 1) 120) && is_ascii_hexdigit (slice_index text 2)
 
+-- the number with which the text begins, hexadecimal if by `0x` and a digit, and its length
 abbrev pub number_at : Bool → List ℕ → Lexeme × ℕ
 number_at touches text = if is_hexadecimal text then digits_at touches class.Hexadecimal 2 text else digits_at touches class.Decimal 0 text
 
+-- the word with which the text begins, and its length
 abbrev pub word_at : List ℕ → Lexeme × ℕ
 word_at text = (Word (take (run class.Word text) text), run class.Word text)
 
+-- what a letter or a digit at the front begins, and its length; none of any other byte
 abbrev pub word_or_number : Bool → List ℕ → Option (Lexeme × ℕ)
 word_or_number touches text =
     if is_ascii_alphabetic (slice_index text 0) then Some (word_at text)
@@ -80,6 +90,7 @@ token_at touches text = either (symbol_at text) (λ s. Some (Mark s, length (spe
 
 -- ---- the tokens of a line
 
+-- a token before the tokens of the rest, if those are tokens
 abbrev pub followed_by : Lexeme → Option (List Lexeme) → Option (List Lexeme)
 followed_by t rest = rest >>= λ ts. Some (t ∷ ts)
 
@@ -92,5 +103,6 @@ tokens_from touches zero (b ∷ bs) =
     else (if is_blank b then tokens_from false zero bs
     else (token_at touches (b ∷ bs) >>= λ t. followed_by t.0 (tokens_from true (t.1 - 1) bs)))
 
+-- all tokens of a line up to its comment; none where some bytes are no token
 abbrev pub tokens : List ℕ → Option (List Lexeme)
 tokens text = tokens_from false zero text
