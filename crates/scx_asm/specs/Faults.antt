@@ -3,6 +3,7 @@ use Rattle.std.specs.Prelude.{ℕ, List, codes}
 use Rattle.scx_asm.specs.declared.faults.AsmFault.{AsmFault}
 use Rattle.scx_asm.specs.declared.faults.AsmFault.TheVariants.{Syntax, UnknownLabel, TwiceLabel, OutOfRange, TooLong}
 
+-- the number by which a refusal names a fault of a text
 abbrev pub asm_number : AsmFault → ℕ
 asm_number Syntax = 1
 asm_number UnknownLabel = 2
@@ -10,6 +11,7 @@ asm_number TwiceLabel = 3
 asm_number OutOfRange = 4
 asm_number TooLong = 5
 
+-- the name of a fault of a text in a refusal
 abbrev pub asm_name : AsmFault → List ℕ
 asm_name Syntax = codes "Syntax"
 asm_name UnknownLabel = codes "UnknownLabel"

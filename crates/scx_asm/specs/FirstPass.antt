@@ -24,9 +24,11 @@ pub record FirstPassState : Type 0 where
   pub labels : Labels
   pub unresolved : List UnresolvedLine
 
+-- the first pass before the first line
 abbrev pub nothing_read : FirstPassState
 nothing_read = record { slots = 0; labels = []; unresolved = [] }
 
+-- an unresolved line of the code, with the bytes of its label if it goes to one
 abbrev pub unresolved_of : Unresolved → UnresolvedLine
 unresolved_of e = record { line = e.line; slot = e.slot; says = item_value e.item }
 
@@ -35,11 +37,13 @@ abbrev pub at_line : {A : Type 0} → ℕ → Result A AsmFault → Result A (As
 at_line n (Ok x) = Ok x
 at_line n (Err e) = Err (e, n)
 
+-- the first pass with a label more, which names the next slot; a fault where it is defined twice
 abbrev pub with_label : FirstPassState → List ℕ → Result FirstPassState AsmFault
 with_label p l =
     if is_some (find l p.labels) then Err TwiceLabel
     else Ok (record { slots = p.slots; labels = p.labels ++ (l, p.slots) ∷ []; unresolved = p.unresolved })
 
+-- the first pass with a line's instruction more; a fault if a number doesn't fit or no slot is left
 abbrev pub with_unresolved : ℕ → FirstPassState → ItemValue → Result FirstPassState AsmFault
 with_unresolved n p l =
     if fits l then (if nat_lt MAX_SLOTS (p.slots + slots l) then Err TooLong
@@ -52,6 +56,7 @@ with_line n p Blank = Ok p
 with_line n p (DefinesLabel l) = with_label p l
 with_line n p l = with_unresolved n p l
 
+-- the first pass with a line more, from its bytes; a fault if they aren't of the language
 abbrev pub with_text : ℕ → FirstPassState → List ℕ → Result FirstPassState AsmFault
 with_text n p text = either (read_line text) (with_line n p) (Err Syntax)
 
@@ -65,6 +70,7 @@ abbrev pub Fails : {Y : Type 0} → AsmError → Result Y (AsmFault × ℕ) → 
 Fails (errors.Refused fault line) read = read ≡ Err (fault, line)
 Fails errors.OutOfMemory read = Unit {0}
 
+-- a function returned what reading gives, where that is seen by view, or ran out of memory
 abbrev pub Gives : {X Y : Type 0} → (X → Y) → Result X AsmError → Result Y (AsmFault × ℕ) → Type 0
 Gives view (Ok x) read = read ≡ Ok (view x)
 Gives view (Err e) read = Fails e read

@@ -5,9 +5,11 @@ use Rattle.scx_semantics.specs.declared.instructions.Insn.{Insn}
 use Rattle.scx_semantics.specs.Code.{Code}
 use Rattle.scx_text.specs.Canonical.{insn_text}
 
+-- the line of the instruction that begins at a slot, with its line feed; none in a second half
 abbrev pub occupant_text : Option Insn → List ℕ
 occupant_text None = []
 occupant_text (Some i) = insn_text i ++ codes "\n"
 
+-- the canonical text of a program, one line for each instruction
 abbrev pub program_text : Code → List ℕ
 program_text code = flat_map occupant_text code

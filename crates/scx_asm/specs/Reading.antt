@@ -19,6 +19,7 @@ second_pass labels (d ∷ ds) = do
   is ← second_pass labels ds
   Ok (i ∷ is)
 
+-- the instructions of all lines, at least one, or the first fault of the second pass
 abbrev pub insns_of : FirstPassState → Result (List Insn) (AsmFault × ℕ)
 insns_of p = if nat_eq p.slots 0 then Err (Syntax, 1) else second_pass p.labels p.unresolved
 
@@ -30,8 +31,10 @@ read_insns text = first_pass 1 nothing_read (lines text) >>= insns_of
 abbrev pub insn_occupants : Insn → Code
 insn_occupants i = if is_wide i then (Some i ∷ None ∷ []) else (Some i ∷ [])
 
+-- the slots of a program with these instructions, in order
 abbrev pub code_of : List Insn → Code
 code_of is = flat_map insn_occupants is
 
+-- the program that a text stands for, or its first fault and the line of that
 abbrev pub read_text : List ℕ → Result Code (AsmFault × ℕ)
 read_text text = read_insns text >>= λ is. Ok (code_of is)

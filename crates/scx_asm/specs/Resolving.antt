@@ -45,10 +45,12 @@ long n = do
 
 -- ---- lines without a label
 
+-- the operand that is written, if it is a register or a number of 32 bits
 abbrev pub operand_of : WrittenOperand → Option Operand
 operand_of (argument.Register r) = Some (operand.Register r)
 operand_of (argument.Number n) = immediate n >>= λ k. Some (operand.Immediate k)
 
+-- the instruction that is written, if its numbers fit their fields
 abbrev pub insn_of : Statement → Option Insn
 insn_of (statement.Binary w o d x) = operand_of x >>= λ y. Some (insn.Binary w o d y)
 insn_of (statement.Negate w d) = Some (insn.Negate w d)
@@ -77,6 +79,7 @@ jump_of (jump.If w c r x) z = do
 jump_of jump.Goto z = short z >>= λ o. Some (insn.Goto o)
 jump_of jump.GotoLong z = wide z >>= λ o. Some (insn.GotoLong o)
 
+-- a jump of the distance that is written, if its numbers fit their fields
 abbrev pub distant : Jump → Literal → Option Insn
 distant j n = immediate n >>= jump_of j
 
@@ -101,6 +104,7 @@ slots l = 1
 abbrev pub Labels : Type 0
 Labels = List (List ℕ × ℕ)
 
+-- the slot of the label's first definition, if there is one
 unfoldable pub find : List ℕ → Labels → Option ℕ
 find l [] = None
 find l (e ∷ es) = if bytes_eq l e.0 then Some e.1 else find l es
@@ -109,9 +113,11 @@ find l (e ∷ es) = if bytes_eq l e.0 then Some e.1 else find l es
 abbrev pub distance : ℕ → ℕ → ℤ
 distance slot target = pos target -ℤ pos (slot + 1)
 
+-- the instruction, or the fault where a number of it doesn't fit
 abbrev pub or_out_of_range : Option Insn → Result Insn AsmFault
 or_out_of_range i = ok_or i OutOfRange
 
+-- a jump at a slot to the label's slot; a fault without such a label, or where a number doesn't fit
 abbrev pub to_label : Labels → ℕ → Jump → List ℕ → Result Insn AsmFault
 to_label labels slot j l = either (find l labels) (λ target. or_out_of_range (jump_of j (distance slot target))) (Err UnknownLabel)
 

@@ -24,6 +24,7 @@ abbrev pub definitions : ℕ → List ItemValue → Labels
 definitions s [] = []
 definitions s (l ∷ ls) = defined s l ++ definitions (s + slots l) ls
 
+-- the labels alone, without their slots
 abbrev pub names : Labels → List (List ℕ)
 names labels = map (λ e. e.0) labels
 

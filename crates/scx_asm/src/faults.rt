@@ -26,8 +26,10 @@ pub enum AsmFault {
 /// Why `assemble` gave no program: the first fault and its line, from 1, or want of memory.
 #[derive(Clone, Copy, Debug, PartialEq, Eq, Error)]
 pub enum AsmError {
+    /// The text stands for no program, by that fault.
     #[error("asm {} {} at {line}", fault.number(), fault.name())]
     Refused { fault: AsmFault, line: usize },
+    /// There was no memory for the labels, the lines or the program.
     #[error("no memory")]
     OutOfMemory,
 }
