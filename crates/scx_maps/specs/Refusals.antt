@@ -24,6 +24,7 @@ pub record AreOnlyTooLarge (shapes : List Shape) : Type 0 where
   pub each : All IsWithinLimits shapes
   pub total : MAX_BYTES < total_bytes shapes
 
+-- the shapes break that limit, and none that is judged before it
 abbrev pub Breaks : List Shape → BadShape → Type 0
 Breaks shapes TooManyMaps = MAX_MAPS < length shapes
 Breaks shapes (Entries m) = IsFirstToBreak (λ s. ¬ HasEntries s) shapes m

@@ -4,12 +4,15 @@ use Rattle.scx_maps.specs.declared.shape.Shape.{Shape}
 use Rattle.scx_maps.specs.declared.defs.TheConstants.{MAX_MAPS}
 use Rattle.scx_maps.specs.Limits.{AreWithinLimits}
 
+-- the shape of no map: it has no entry, and no map may have it
 abbrev pub unused_shape : Shape
 unused_shape = record { entries = 0; value_size = 0 }
 
+-- the shapes of a policy's maps with unused ones behind them, sixteen in all
 abbrev pub filled_up : List Shape → List Shape
 filled_up shapes = shapes ++ replicate (MAX_MAPS - length shapes) unused_shape
 
+-- the sixteen begin with the shapes of so many maps, within the limits, and the rest is unused
 pub record IsFilledUp (padded : List Shape) (count : ℕ) : Type 0 where
   pub held : length (take count padded) ≡ count
   pub unused : filled_up (take count padded) ≡ padded
