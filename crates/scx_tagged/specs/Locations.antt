@@ -7,16 +7,19 @@ use Rattle.scx_semantics.specs.Locations as locations
 use Rattle.scx_tagged.specs.declared.memory.Location.{Location}
 use Rattle.scx_tagged.specs.declared.memory.Location.TheVariants.{Nowhere, OnStack, InElement, InTask}
 
+-- a location of the interpreter, as the definitions have it
 abbrev pub location_of : Location → locations.Location
 location_of Nowhere = locations.Nowhere
 location_of (OnStack at) = locations.OnStack at
 location_of (InElement m i at) = locations.InElement m i at
 location_of (InTask t f) = locations.InTask t f
 
+-- so many bytes from an offset on are on the stack, and the offset is a multiple of their number
 pub record LiesOnStack (at n : ℕ) : Type 0 where
   pub within : at + n ≤ stack_size
   pub aligned : at % n ≡ 0
 
+-- so many bytes from an offset on are in an element of a map, and both of these are there
 pub record LiesInElement (maps : Maps) (m i at n : ℕ) : Type 0 where
   pub map : m < length maps
   pub index : i < length (elements maps m)

@@ -25,10 +25,12 @@ LeadsNearer code slot outcome.Stuck = ⊤
 LeadsNearer code slot (outcome.At next) = instructions_from code next < instructions_from code slot
 LeadsNearer code slot (outcome.Ended answer) = ⊤
 
+-- if the run came to its end, this holds of what it came to; of a stuck one nothing is said
 abbrev pub IfDone : Ran → (Done → Type 0) → Type 0
 IfDone (ran.Done done) P = P done
 IfDone (ran.Stuck slot) P = ⊤
 
+-- if the run got stuck, this holds of the slot; of one that came to its end nothing is said
 abbrev pub IfStuck : Ran → (ℕ → Type 0) → Type 0
 IfStuck (ran.Done done) P = ⊤
 IfStuck (ran.Stuck slot) P = P slot

@@ -21,5 +21,6 @@ byte_of mark n p j = if nat_eq mark 1 then Byte n else if nat_eq mark 0 then par
 unfoldable pub stack_of : List ℕ → List ℕ → List (Option Pointer) → memory.Stack
 stack_of marks bytes pointers k = byte_of (slice_index marks k) (slice_index bytes k) (slice_index_or pointers (k / 8) None) (k % 8)
 
+-- the interpreter's stack as one of the definitions, by its marks, bytes and pointers
 abbrev pub seen_stack : Stack → memory.Stack
 seen_stack s = stack_of s.marks s.bytes s.pointers
