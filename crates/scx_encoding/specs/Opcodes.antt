@@ -185,7 +185,7 @@ source_at n = if nat_eq (n / 8 % 2) 0 then Immediate else Register
 abbrev pub binary_form : Width → ℕ → Option Form
 binary_form w n = option_map (λ o. Binary w o (source_at n)) (coded operation_code base_operations (n / 16))
 
--- a conditional jump, by the comparison in the high four bits
+-- a conditional jump by the comparison that the high four bits stand for, if they do
 abbrev pub jump_form : Width → ℕ → Option Form
 jump_form w n = option_map (λ c. JumpIf w c (source_at n)) (coded comparison_code comparisons (n / 16))
 
@@ -193,7 +193,7 @@ jump_form w n = option_map (λ c. JumpIf w c (source_at n)) (coded comparison_co
 abbrev pub load_form : ℕ → Option Form
 load_form n = option_map Load (coded access_code accesses n)
 
--- a store of an immediate or of a register, by the opcode without its class
+-- a store by the size that the opcode stands for without its class, if it does
 abbrev pub store_form : Source → ℕ → Option Form
 store_form x n = option_map (λ s. Store s x) (coded size_code sizes n)
 

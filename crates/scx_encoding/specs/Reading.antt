@@ -32,7 +32,7 @@ use Rattle.scx_encoding.specs.Opcodes.{form_of}
 use Rattle.scx_semantics.specs.Code.{is_wide}
 use Rattle.scx_encoding.specs.Spelling.{extension_offset, order_bits, first_slot, second_slot}
 
--- the register that a field of a slot names, or a fault above 10
+-- the register that a field of a slot names; above 10 a fault
 abbrev pub register : ℕ → Result Register DecodeFault
 register n = ok_or (register_at n) BadRegister
 
