@@ -43,7 +43,7 @@ abbrev pub Fails : {Y : Type 0} → DecodeError → Result Y (DecodeFault × ℕ
 Fails (errors.Refused fault slot) read = read ≡ Err (fault, slot)
 Fails errors.OutOfMemory read = Unit {0}
 
--- a function returned what reading gives, where that is seen by view, or ran out of memory
+-- a function's answer, seen by view, is what reading gives; want of memory says nothing of it
 abbrev pub Gives : {X Y : Type 0} → (X → Y) → Result X DecodeError → Result Y (DecodeFault × ℕ) → Type 0
 Gives view (Ok x) read = read ≡ Ok (view x)
 Gives view (Err e) read = Fails e read
