@@ -70,7 +70,7 @@ abbrev pub Fails : {Y : Type 0} → AsmError → Result Y (AsmFault × ℕ) → 
 Fails (errors.Refused fault line) read = read ≡ Err (fault, line)
 Fails errors.OutOfMemory read = Unit {0}
 
--- a function returned what reading gives, where that is seen by view, or ran out of memory
+-- a function's answer, seen by view, is what reading gives; want of memory says nothing of it
 abbrev pub Gives : {X Y : Type 0} → (X → Y) → Result X AsmError → Result Y (AsmFault × ℕ) → Type 0
 Gives view (Ok x) read = read ≡ Ok (view x)
 Gives view (Err e) read = Fails e read
