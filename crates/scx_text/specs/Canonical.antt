@@ -29,7 +29,7 @@ abbrev pub distance_text : ℤ → List ℕ
 distance_text (pos n) = codes "+" ++ decimal n
 distance_text (negsuc n) = codes "-" ++ decimal (suc n)
 
--- memory by how it is accessed, the register that points to it and the offset
+-- memory as it is written: the name of its access, the register that points to it, the offset
 abbrev pub memory_operand_text : List ℕ → Register → ℤ → List ℕ
 memory_operand_text access r o = codes "*(" ++ access ++ codes " *)(" ++ register_text Bits64 r ++ codes " " ++ offset_text o ++ codes ")"
 

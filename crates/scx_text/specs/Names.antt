@@ -66,7 +66,7 @@ register_in w name = register_named name >>= of_width w
 
 -- ---- memory
 
--- what stands for a size and a sign in the place of a C type, such as `u8`
+-- the name of an access: `u` or `s`, which has a sign, and how many bits it takes
 abbrev pub access_text : Access → List ℕ
 access_text access.Byte = codes "u8"
 access_text access.HalfWord = codes "u16"
@@ -76,7 +76,7 @@ access_text access.SignedByte = codes "s8"
 access_text access.SignedHalfWord = codes "s16"
 access_text access.SignedWord = codes "s32"
 
--- all ways in which memory is read, in the order in which names are compared
+-- all ways in which memory is read, each of which has a name
 abbrev pub accesses : List Access
 accesses = access.Byte ∷ access.HalfWord ∷ access.Word ∷ access.DoubleWord ∷ access.SignedByte ∷ access.SignedHalfWord ∷ access.SignedWord ∷ []
 
@@ -92,7 +92,7 @@ stored_size access.Word = Some size.Word
 stored_size access.DoubleWord = Some size.DoubleWord
 stored_size a = None
 
--- the name of what is stored is that of a load of its size without a sign
+-- the load of as many bytes without a sign, by whose name a store is written
 abbrev pub stored_access : Size → Access
 stored_access size.Byte = access.Byte
 stored_access size.HalfWord = access.HalfWord
@@ -108,7 +108,7 @@ extension_of Bits64 access.SignedHalfWord = Some Low16To64
 extension_of Bits64 access.SignedWord = Some Low32To64
 extension_of w a = None
 
--- a sign-extending move names the load that takes as many bits with their sign
+-- the load of as many bits with their sign, by whose name a sign-extending move is written
 abbrev pub extension_access : Extension → Access
 extension_access Low8To32 = access.SignedByte
 extension_access Low16To32 = access.SignedHalfWord
@@ -118,7 +118,7 @@ extension_access Low32To64 = access.SignedWord
 
 -- ---- byte orders
 
--- the word for a byte swap, with its bits behind the order
+-- the word for a byte swap: its order, and behind that how many bits it keeps
 abbrev pub order_text : ByteOrder × SwapWidth → List ℕ
 order_text (Little, order.Bits16) = codes "le16"
 order_text (Little, order.Bits32) = codes "le32"
