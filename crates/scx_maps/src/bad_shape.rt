@@ -11,7 +11,7 @@ pub enum BadShape {
     /// The first map that breaks a limit has no entries, or too many; maps count from 0.
     #[error("map {map}: not 1 to 65536 entries")]
     Entries { map: u8 },
-    /// The first map that breaks a limit has entries enough, but values of no byte or of too many.
+    /// The first map that breaks a limit does so by its values alone, of no byte or of too many.
     #[error("map {map}: values of not 1 to 4096 bytes")]
     ValueSize { map: u8 },
     /// Each map is within its limits, but they are too large together.
