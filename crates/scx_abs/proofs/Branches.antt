@@ -177,6 +177,7 @@ jump_sound shapes a m w c r x fits p h =
 
 -- ---- comparisons with a constant
 
+-- a 64-bit comparison of a number with a constant tells on each side which the register's are
 pub constant_compared : (a : AbsState) (o : Comparison) (r : Register) (k : ℤ) (c : ℕ) (s : Range) → kind_at a (number r) ≡ Num s → c ≡ immediate Bits64 k
     → jump_rule a Bits64 o r (operand.Immediate k) ≡ Ok (flows (side a (number r) o false c s) (side a (number r) o true c s))
 constant_compared a o r k c s e f =

@@ -69,6 +69,7 @@ join_itself Task = refl
 join_itself TaskOrNull = refl
 join_itself (MapRef m) = same_if m (MapRef m)
 
+-- a kind joined with the same one stays
 pub join_same : (j k : Kind) → j ≡ k → join_kind j k ≡ j
 join_same j k e = ap (join_kind j) (sym e) ∙ join_itself j
 

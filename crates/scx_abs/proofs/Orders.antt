@@ -21,6 +21,7 @@ use Rattle.scx_abs.specs.Laws.{CoversMore, CoversItself, CoversThrough}
 
 -- ---- ranges
 
+-- a range covers itself
 pub range_itself : (r : Range) → CoversRange r r
 range_itself r = record { low = omega arith; high = omega arith; shift = omega arith }
 

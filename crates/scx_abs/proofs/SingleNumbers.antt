@@ -33,10 +33,12 @@ copied_single : (w : Width) (n : ℕ) → moved_kind w (Num (single n)) ≡ Ok (
 copied_single Bits32 n = ap (λ b. Ok (Num (if b then single (low Bits32 n) else words))) (eq-eqb n n refl)
 copied_single Bits64 n = refl
 
+-- a move of a single number leaves it, cut to the width
 pub single_moved : (shapes : List Shape) (a : AbsState) (w : Width) (d : Register) (x : Operand) (n : ℕ) → operand_kind a w x ≡ Ok (Num (single n))
     → binary_kind shapes a w Move d x ≡ Ok (Num (single (low w n)))
 single_moved shapes a w d x n e = ap (λ k. k >>= moved_kind w) e ∙ copied_single w n
 
+-- arithmetic of two single numbers leaves the number that it computes
 pub single_combined : (shapes : List Shape) (a : AbsState) (w : Width) (o : Operation) (d : Register) (x : Operand) (m n : ℕ)
     → kind_at a (number d) ≡ Num (single m) → operand_kind a w x ≡ Ok (Num (single n))
     → combined_kind shapes a w o d x ≡ Ok (Num (single (compute w o m n)))

@@ -5,10 +5,12 @@ use Rattle.scx_semantics.specs.Memory.{stack_size}
 use Rattle.scx_abs.specs.declared.memory.Area.{Area}
 use Rattle.scx_abs.specs.declared.memory.Area.TheVariants.{OnStack, InElement, InTask}
 
+-- n bytes from an offset on lie in so many bytes of memory, and the offset is a multiple of n
 pub record IsAlignedWithin (size n at : ℕ) : Type 0 where
   pub inside : at + n ≤ size
   pub aligned : at % n ≡ 0
 
+-- so many bytes of the stack lie in it, at a multiple of them; of other memory this asks nothing
 abbrev pub IsAlignedIn : ℕ → Area → Type 0
 IsAlignedIn n (OnStack at) = IsAlignedWithin stack_size n at
 IsAlignedIn n InElement = Unit {0}

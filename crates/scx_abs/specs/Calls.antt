@@ -37,19 +37,23 @@ key_check shapes a (Elem m r) = offsets_for (element_size shapes m) 4 r (pos 0)
 key_check shapes a (ElemOrNull m) = Err NullNotTested
 key_check shapes a k = Err BadArgument
 
+-- a parameter for a task takes a pointer to one that was tested, if it may have been null
 abbrev pub task_check : Kind → Result (Unit {0}) Why
 task_check Task = Ok tt
 task_check TaskOrNull = Err NullNotTested
 task_check k = Err BadArgument
 
+-- a parameter for a map takes a reference to one, whichever it is
 abbrev pub map_check : Kind → Result (Unit {0}) Why
 map_check (MapRef m) = Ok tt
 map_check k = Err BadArgument
 
+-- a parameter for a number takes any, whatever its range
 abbrev pub number_check : Kind → Result (Unit {0}) Why
 number_check (Num r) = Ok tt
 number_check k = Err BadArgument
 
+-- the check of what a parameter takes, on an argument of a usable kind
 abbrev pub takes : List Shape → AbsState → Parameter → Kind → Result (Unit {0}) Why
 takes shapes a parameter.Map k = map_check k
 takes shapes a parameter.Key k = key_check shapes a k
@@ -70,10 +74,12 @@ arguments_check shapes a (p ∷ ps) r = do
 
 -- ---- after a call
 
+-- the state with r1 to r5 unusable
 abbrev pub without_arguments : AbsState → AbsState
 without_arguments a =
     with_kind (with_kind (with_kind (with_kind (with_kind a 1 Unusable) 2 Unusable) 3 Unusable) 4 Unusable) 5 Unusable
 
+-- the state after a helper was called: its answer's kind in r0, r1 to r5 unusable, the stack kept
 abbrev pub after_call : AbsState → Kind → AbsState
 after_call a k = with_kind (without_arguments a) 0 k
 
@@ -90,11 +96,13 @@ answer_kind h k = Num all
 
 -- ---- calls
 
+-- the rule of a call that the callback allows: each argument is checked, then the call is made
 abbrev pub call_allowed : List Shape → Helper → AbsState → Result Next Why
 call_allowed shapes h a = do
   fine ← arguments_check shapes a (parameters h) 1
   goes_on (after_call a (answer_kind h (kind_at a 1)))
 
+-- the rule of a call of that helper, if there is one and the callback allows it
 abbrev pub call_rule : List Shape → Callback → Option Helper → AbsState → Result Next Why
 call_rule shapes c None a = Err UnknownHelper
 call_rule shapes c (Some h) a = if is_allowed h c then call_allowed shapes h a else Err HelperNotHere

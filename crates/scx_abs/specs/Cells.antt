@@ -42,6 +42,7 @@ is_written set j = slice_index_or set j false
 abbrev pub each_byte : (ℕ → Bool) → List Bool
 each_byte f = f 0 ∷ f 1 ∷ f 2 ∷ f 3 ∷ f 4 ∷ f 5 ∷ f 6 ∷ f 7 ∷ []
 
+-- eight bytes none of which is known to be written
 abbrev pub no_bytes : List Bool
 no_bytes = each_byte (λ j. false)
 
@@ -65,6 +66,7 @@ written_in (Pointer k) = no_bytes
 
 -- ---- order
 
+-- those of the eight bytes that the first says are written the second says are written too
 abbrev pub IsPartOf : List Bool → List Bool → Type 0
 IsPartOf b a = (j : ℕ) → j < 8 → IsTrue (is_written b j) → IsTrue (is_written a j)
 
@@ -94,6 +96,7 @@ cell_of (Some k) = Pointer k
 abbrev pub join_pointers : Held → Held → Cell
 join_pointers j k = cell_of (held_of (join_kind (kind_of j) (kind_of k)))
 
+-- the least cell that covers both; it knows nothing of bytes joined with a pointer
 abbrev pub join_cell : Cell → Cell → Cell
 join_cell (Bytes a) (Bytes b) = Bytes (common a b)
 join_cell (Pointer j) (Pointer k) = join_pointers j k

@@ -18,6 +18,7 @@ use Rattle.scx_abs.specs.declared.memory.Area.TheVariants.{OnStack}
 use Rattle.scx_abs.specs.Calls.{after_call}
 use Rattle.scx_abs.specs.Checks.{flows, goes_on}
 
+-- the state with that change of its registers; the cells stay
 abbrev pub changed : AbsState → Change → AbsState
 changed a change.Nothing = a
 changed a (change.Register r k) = with_kind a (number r) k
@@ -65,6 +66,7 @@ AreKept n before after = (c : ℕ) → c < n → cell_at after c ≡ cell_at bef
 abbrev pub AreBlank : ℕ → List Cell → Type 0
 AreBlank low cells = (c : ℕ) → c < low → slice_index_or cells c (Bytes []) ≡ Bytes no_bytes
 
+-- nothing is known of the cells below that one, which is at most 64, the end of the stack
 pub record IsBlankBelow (low : ℕ) (a : AbsState) : Type 0 where
   pub within : low ≤ 64
   pub blank : AreBlank low a.cells

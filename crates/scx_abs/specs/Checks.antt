@@ -21,6 +21,7 @@ use Rattle.scx_abs.specs.States.{kind_at, with_kind}
 
 -- ---- what flows on
 
+-- what flows on: a state to the next instruction, one to the jump's target, or none
 abbrev pub flows : Option AbsState → Option AbsState → Next
 flows on jump = record { on = on; jump = jump }
 
@@ -62,6 +63,7 @@ abbrev pub size_of : Option Shape → ℕ
 size_of None = 0
 size_of (Some s) = s.value_size
 
+-- how many bytes the elements of the map of that number have; 0 where there is no such map
 abbrev pub element_size : List Shape → ℕ → ℕ
 element_size shapes m = size_of (slice_get shapes m)
 

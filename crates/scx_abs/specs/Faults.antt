@@ -4,6 +4,7 @@ use Rattle.std.specs.Prelude.{ℕ, List, codes}
 use Rattle.scx_abs.specs.declared.faults.Why.{Why}
 use Rattle.scx_abs.specs.declared.faults.Why.TheVariants.{UnusableRegister, WritesFrame, UnwrittenStack, OutOfBounds, Misaligned, NullNotTested, PointerArithmetic, PointerCompare, PointerStore, TaskField, UnknownHelper, HelperNotHere, BadArgument, BadReturn, UnknownMap}
 
+-- the number of a failed check in a refusal, 5 to 19
 abbrev pub why_number : Why → ℕ
 why_number UnusableRegister = 5
 why_number WritesFrame = 6
@@ -21,6 +22,7 @@ why_number BadArgument = 17
 why_number BadReturn = 18
 why_number UnknownMap = 19
 
+-- the name of a failed check in a refusal, that of its variant
 abbrev pub why_name : Why → List ℕ
 why_name UnusableRegister = codes "UnusableRegister"
 why_name WritesFrame = codes "WritesFrame"

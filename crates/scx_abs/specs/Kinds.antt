@@ -42,6 +42,7 @@ IsProperKind k = Unit {0}
 abbrev pub kind_if : Bool → Kind → Kind
 kind_if b k = if b then k else Unusable
 
+-- the least kind that covers both
 abbrev pub join_kind : Kind → Kind → Kind
 join_kind (Num r) (Num s) = Num (join_ranges r s)
 join_kind (Stack o) (Stack p) = kind_if (nat_eq o p) (Stack o)

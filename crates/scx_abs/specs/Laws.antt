@@ -81,6 +81,7 @@ CoversMore = (shapes : List Shape) (b a : AbsState) (m : Machine) → CoversStat
 abbrev pub CoversItself : Type 0
 CoversItself = (a : AbsState) → CoversState a a
 
+-- a state that covers a cover of another covers the other too
 abbrev pub CoversThrough : Type 0
 CoversThrough = (c b a : AbsState) → CoversState c b → CoversState b a → CoversState c a
 

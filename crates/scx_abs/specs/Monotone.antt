@@ -33,6 +33,8 @@ pub record CoversFlows (next other : Next) : Type 0 where
   pub on : CoversIfAny next.on other.on
   pub jump : CoversIfAny next.jump other.jump
 
+-- An instruction that passes in a proper state passes in each proper one that this covers, and what
+-- flows on is covered. The instruction's numbers fit their fields.
 abbrev pub RulesAreMonotone : Type 0
 RulesAreMonotone =
     (shapes : List Shape) (c : Callback) (i : Insn) (b a : AbsState)
@@ -40,9 +42,11 @@ RulesAreMonotone =
 
 -- ---- joins
 
+-- `join_kind` gives the least kind that covers both
 abbrev pub JoinOfKindsIsLeast : Type 0
 JoinOfKindsIsLeast = (j k : Kind) → IsLeastCover CoversKind (join_kind j k) j k
 
+-- `join_cell` gives the least cell that covers both
 abbrev pub JoinOfCellsIsLeast : Type 0
 JoinOfCellsIsLeast = (x y : Cell) → IsLeastCover CoversCell (join_cell x y) x y
 

@@ -91,12 +91,14 @@ arithmetic_kind shapes w o x (Num r) k = computed_kind w o r k
 arithmetic_kind shapes w o x (Elem m r) k = element_kind shapes w o x m r k
 arithmetic_kind shapes w o x j k = moved_by shapes j (pointer_step w o x)
 
+-- what arithmetic leaves that reads its destination before the operand: all but a move
 abbrev pub combined_kind : List Shape → AbsState → Width → Operation → Register → Operand → Result Kind Why
 combined_kind shapes a w o d x = do
   j ← usable (kind_at a (number d))
   k ← operand_kind a w x
   arithmetic_kind shapes w o x j k
 
+-- what arithmetic leaves in its destination; a move reads the operand alone
 abbrev pub binary_kind : List Shape → AbsState → Width → Operation → Register → Operand → Result Kind Why
 binary_kind shapes a w Move d x = do
   k ← operand_kind a w x
@@ -154,6 +156,7 @@ kind_in a access (OnStack at) = loaded_kind (cell_at a (at / 8)) access (at % 8)
 kind_in a access InElement = Ok (Num (loaded access))
 kind_in a access (InTask f) = if is_plain access then Ok (Num (loaded access)) else Err TaskField
 
+-- what a load leaves, from the address in a register with an offset added
 abbrev pub load_kind : List Shape → AbsState → Access → Register → ℤ → Result Kind Why
 load_kind shapes a access r offset = do
   base ← usable (kind_at a (number r))
@@ -176,6 +179,7 @@ abbrev pub number_stored : AbsState → Kind → Result Next Why
 number_stored a (Num r) = goes_on a
 number_stored a k = Err PointerStore
 
+-- the rule of a store to that area: the state with a value of that kind stored there goes on
 abbrev pub stored_in : AbsState → Size → Kind → Area → Result Next Why
 stored_in a s k (OnStack at) = do
   cell ← stored_cell (cell_at a (at / 8)) s (at % 8) k
@@ -183,6 +187,7 @@ stored_in a s k (OnStack at) = do
 stored_in a s k InElement = number_stored a k
 stored_in a s k (InTask f) = if is_writable f then number_stored a k else Err TaskField
 
+-- the rule of a store of an operand to the address in a register with an offset added
 abbrev pub store_rule : List Shape → AbsState → Size → Register → ℤ → Operand → Result Next Why
 store_rule shapes a s r offset x = do
   base ← usable (kind_at a (number r))
@@ -210,6 +215,8 @@ if_not_null a r (ElemOrNull m) = with_kind a r (Elem m (single 0))
 if_not_null a r TaskOrNull = with_kind a r Task
 if_not_null a r k = a
 
+-- what flows on from a pointer's comparison: each side of a test for 0, by whether it jumps at 0;
+-- any other comparison is refused
 abbrev pub tested : AbsState → ℕ → Kind → Option Bool → Result Next Why
 tested a r k None = Err PointerCompare
 tested a r k (Some true) = Ok (flows (Some (if_not_null a r k)) (if_null a r k))
@@ -236,6 +243,7 @@ abbrev pub compared : AbsState → ℕ → Width → Comparison → Option Bool 
 compared a r w o test (Num s) k = numbers_compared a r w o s k
 compared a r w o test j k = tested a r j test
 
+-- the rule of a jump that compares a register with an operand
 abbrev pub jump_rule : AbsState → Width → Comparison → Register → Operand → Result Next Why
 jump_rule a w c r x = do
   j ← usable (kind_at a (number r))
@@ -244,12 +252,14 @@ jump_rule a w c r x = do
 
 -- ---- the end
 
+-- the rule of the end where a callback answers a number: r0 has this kind, which is a number's
 abbrev pub end_rule : Kind → Result Next Why
 end_rule (Num r) = Ok (flows None None)
 end_rule k = Err BadReturn
 
 -- ---- all instructions
 
+-- the rule of an instruction in a callback, with maps of these shapes: what flows on, or a refusal
 abbrev pub rule : List Shape → Callback → Insn → AbsState → Result Next Why
 rule shapes c (insn.Binary w o d x) a = sets a (number d) (binary_kind shapes a w o d x)
 rule shapes c (insn.Negate w d) a = sets a (number d) (number_kind (negated_range w) (kind_at a (number d)))

@@ -17,6 +17,7 @@ abbrev pub is_single_number : Kind → Bool
 is_single_number (Num r) = is_single r
 is_single_number k = false
 
+-- it is known which number the operand is: an immediate, or a register of a single number
 abbrev pub is_single_operand : AbsState → Operand → Bool
 is_single_operand a (operand.Immediate k) = true
 is_single_operand a (operand.Register r) = is_single_number (kind_at a (number r))

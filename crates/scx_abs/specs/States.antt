@@ -21,9 +21,11 @@ kind_at a r = slice_index_or a.registers r Unusable
 abbrev pub cell_at : AbsState → ℕ → Cell
 cell_at a c = slice_index_or a.cells c (Bytes [])
 
+-- the state with that kind for a register, by its number; there is no change past r10
 abbrev pub with_kind : AbsState → ℕ → Kind → AbsState
 with_kind a r k = record { registers = set a.registers r k; cells = a.cells }
 
+-- the state with another cell of that number; there is no change past the last
 abbrev pub with_cell : AbsState → ℕ → Cell → AbsState
 with_cell a c cell = record { registers = a.registers; cells = set a.cells c cell }
 
@@ -61,6 +63,7 @@ pub record ArgumentKinds : Type 0 where
   pub second : Kind
   pub third : Kind
 
+-- what is known of a callback's arguments; unusable where it has none
 abbrev pub argument_kinds : Callback → ArgumentKinds
 argument_kinds callback.Plain = record { first = Unusable; second = Unusable; third = Unusable }
 argument_kinds callback.Init = record { first = Unusable; second = Unusable; third = Unusable }
@@ -79,5 +82,6 @@ start_kinds a = record {
   cells = replicate 64 (Bytes no_bytes);
 }
 
+-- the state in which that callback begins
 abbrev pub start_of : Callback → AbsState
 start_of c = start_kinds (argument_kinds c)

@@ -9,6 +9,7 @@ use scx_isa::Register;
 /// What changes of a state's registers.
 #[derive(Clone, Copy)]
 pub enum Change {
+    /// No register gets another kind.
     Nothing,
     /// The register gets that kind.
     Register(Register, Kind),

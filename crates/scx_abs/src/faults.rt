@@ -16,18 +16,23 @@ pub enum Why {
     Misaligned,
     /// A pointer that may be null is used before it was tested.
     NullNotTested,
+    /// A pointer is in arithmetic that neither copies it whole nor moves it.
     PointerArithmetic,
+    /// A pointer is in a comparison that is no 64-bit test of it for 0.
     PointerCompare,
     /// A pointer is stored elsewhere than in eight bytes of the stack.
     PointerStore,
     /// No field of a task is meant, or not one that may be written.
     TaskField,
+    /// The number that is called is no helper's.
     UnknownHelper,
     /// The helper may not be called in this callback.
     HelperNotHere,
+    /// An argument isn't of the kind that the helper takes.
     BadArgument,
     /// A callback that answers a number ends with something else in r0.
     BadReturn,
+    /// The number in a map reference load is no map's.
     UnknownMap,
 }
 
