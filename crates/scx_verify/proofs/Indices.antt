@@ -69,6 +69,7 @@ index_read [] t o d lt e = absurd (omega arith)
 index_read (x ∷ xs) zero o d lt e = sym e
 index_read (x ∷ xs) (suc t) o d lt e = index_read xs t o d (omega arith) e
 
+-- the index that is read at a slot is the one that the slot has
 pub read_there : (indices : List (Option ℕ)) (states : List AbsState) (now : List (Option AbsState)) (slot : ℕ) (o d : Option ℕ) → known_of indices states ≡ now → slot < length now → o ≡ slice_index_or indices slot d → index_at indices slot ≡ o
 read_there indices states now slot o d view lt e = index_read indices slot o d (within indices states now slot view lt) e
 
@@ -78,6 +79,7 @@ none_at zero t o e = refl
 none_at (suc n) zero o e = e
 none_at (suc n) (suc t) o e = none_at n t o e
 
+-- no slot has a state where none has an index
 pub nothing_known : (n : ℕ) (indices : List (Option ℕ)) (states : List AbsState) (o : Option ℕ) → o ≡ None → indices ≡ replicate n o → (t : ℕ) → states_of (known_of indices states) t ≡ None
 nothing_known n indices states o e all t = known_at indices states t ∙ ap (λ j. state_of states j) (ap (λ l. index_at l t) all ∙ none_at n t o e)
 

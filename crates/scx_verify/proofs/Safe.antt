@@ -127,6 +127,7 @@ reached c code program typed a maps n s m shaped fits l =
     let first = covered_at c.defs typed.states 0 (start_of c.callback) (start a maps) typed.typing.start (start_sound c.defs c.callback a maps shaped fits) in
     steps_at c code typed.states n 0 s (start a maps) m program typed.typing first l
 
+-- a program without a fault in its flow is typed by a typing
 abbrev pub typed_by : (c : Context) (code : Code) (states : States) → Flows code → IsTyping c code states → IsTyped c code
 typed_by c code states flows typing = record { flows = flows; states = states; typing = typing }
 

@@ -39,6 +39,7 @@ flows_forward c code states s t a flows f = sent_forward code s t f.insn f.next 
 
 -- ---- before the first slot
 
+-- the state of a slot to which nothing has flowed: none
 abbrev pub no_state : Option AbsState
 no_state = None
 

@@ -12,6 +12,7 @@ use Rattle.scx_abs.specs.declared.rules.Next.{Next}
 use Rattle.scx_abs.specs.States.{CoversSome, IsProper, start_of}
 use Rattle.scx_abs.specs.Rules.{rule}
 
+-- at each slot an abstract state, or none where no control is known to come
 abbrev pub States : Type 0
 States = ℕ → Option AbsState
 
@@ -31,6 +32,7 @@ pub record Passes (c : Context) (states : States) (s : ℕ) (i : Insn) (a : AbsS
   pub passes : rule c.defs c.callback i a ≡ Ok next
   pub covered : CoversNext states s i next
 
+-- the states are a typing: proper, covering the start, with all checks passed and all flows covered
 pub record IsTyping (c : Context) (code : Code) (states : States) : Type 0 where
   pub proper : (s : ℕ) (a : AbsState) → states s ≡ Some a → IsProper a
   pub start : CoversSome (states 0) (start_of c.callback)
