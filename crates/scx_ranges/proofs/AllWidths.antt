@@ -23,12 +23,14 @@ use Rattle.scx_ranges.proofs.GrowingResults.{results_grow, single_below, both_si
 
 -- ---- from 0 up to a number
 
+-- the numbers up to one from 1 to 2^64 - 1 are a range
 pub below_range : (hi : ℕ) → 0 < hi → hi < 2 ^ 64 → IsRange (record { low = 0; high = hi; shift = 0 })
 below_range hi some fits = record {
   formed = record { ordered = omega arith; small = omega arith; low_multiple = refl; high_multiple = mod-one hi; greatest = λ e. absurd (omega arith) };
   fits = fits;
 }
 
+-- a number that isn't greater is one of those up to it
 pub in_below : (hi n : ℕ) → n ≤ hi → IsIn n (record { low = 0; high = hi; shift = 0 })
 in_below hi n l = record { from_low = omega arith; to_high = l; multiple = mod-one n }
 
@@ -119,6 +121,7 @@ results_of f w ww inside =
 compute_word : (o : Operation) (n m : ℕ) → n < 2 ^ 64 → m < 2 ^ 64 → compute Bits32 o n m < 2 ^ 32
 compute_word o n m p q = operated Bits32 o (low Bits32 n) (low Bits32 m) (low_fits Bits32 n p) (low_fits Bits32 m q)
 
+-- what is known of arithmetic, of either width, holds its results, is a range and grows
 pub arithmetic_is_sound : ArithmeticIsSound
 arithmetic_is_sound Bits32 o = results_of (compute Bits32 o) words words_range (λ n m p q. in_words (compute Bits32 o n m) (compute_word o n m p q))
 arithmetic_is_sound Bits64 o = record {
@@ -127,6 +130,7 @@ arithmetic_is_sound Bits64 o = record {
   grow = λ r' s' r s wr' ws' wr ws c d. results_grow o r' s' r s wr' ws' wr ws (λ n m p q. compute_below Bits64 o n m p q) c d;
 }
 
+-- what is known of a move, of either width, holds what it copies, is a range and grows
 pub copies_are_sound : CopiesAreSound
 copies_are_sound Bits32 = images (low Bits32) words words_range (λ n p. in_words (low Bits32 n) (low_fits Bits32 n p))
 copies_are_sound Bits64 = record { kept = λ r n wr h. h; ranges = λ r wr. wr; grow = λ r' r wr' wr c. c }
@@ -134,6 +138,7 @@ copies_are_sound Bits64 = record { kept = λ r n wr h. h; ranges = λ r wr. wr; 
 negated_word : (n : ℕ) → negated Bits32 n < 2 ^ 32
 negated_word n = omega arith
 
+-- what is known of a negation, of either width, holds its results, is a range and grows
 pub negatives_are_sound : NegativesAreSound
 negatives_are_sound Bits32 = images (negated Bits32) words words_range (λ n p. in_words (negated Bits32 n) (negated_word n))
 negatives_are_sound Bits64 = images (negated Bits64) all all_range (λ n p. in_all (negated Bits64 n) (negated_below Bits64 n))
@@ -144,6 +149,7 @@ extended_8 n = omega (arith, ints)
 extended_16 : (n : ℕ) → extended Low16To32 n < 2 ^ 32
 extended_16 n = omega (arith, ints)
 
+-- what is known of a move that extends a sign holds its results, is a range and grows
 pub extensions_are_sound : ExtensionsAreSound
 extensions_are_sound Low8To32 = images (extended Low8To32) words words_range (λ n p. in_words (extended Low8To32 n) (extended_8 n))
 extensions_are_sound Low16To32 = images (extended Low16To32) words words_range (λ n p. in_words (extended Low16To32 n) (extended_16 n))
@@ -151,9 +157,11 @@ extensions_are_sound Low8To64 = images (extended Low8To64) all all_range (λ n p
 extensions_are_sound Low16To64 = images (extended Low16To64) all all_range (λ n p. in_all (extended Low16To64 n) (extended_below Low16To64 n))
 extensions_are_sound Low32To64 = images (extended Low32To64) all all_range (λ n p. in_all (extended Low32To64 n) (extended_below Low32To64 n))
 
+-- what is known of a byte swap holds its results, is a range and grows
 pub swaps_are_sound : SwapsAreSound
 swaps_are_sound o w = images (byte_swapped o w) all all_range (λ n p. in_all (byte_swapped o w n) (byte_swapped_below o w n p))
 
+-- what is known of a load of a number is a range that holds all that it may read
 pub loads_are_sound : LoadsAreSound
 loads_are_sound access.Byte = record { range = below_range 255 (omega arith) (omega arith); kept = λ n l. in_below 255 n (omega arith) }
 loads_are_sound access.HalfWord = record { range = below_range 65535 (omega arith) (omega arith); kept = λ n l. in_below 65535 n (omega arith) }

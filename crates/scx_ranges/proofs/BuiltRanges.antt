@@ -23,6 +23,7 @@ use Rattle.scx_ranges.proofs.KeptByCuts.{cuts_are_ranges}
 use Rattle.scx_ranges.proofs.AllWidths.{arithmetic_is_sound, copies_are_sound, negatives_are_sound, extensions_are_sound, swaps_are_sound, loads_are_sound}
 use Rattle.scx_ranges.proofs.ElementOffsets.{moves_stay_within, advances_stay_within}
 
+-- the join of two ranges is a range
 pub joined_range : (r s : Range) → IsRange r → IsRange s → IsRange (join_ranges r s)
 joined_range r s wr ws = (join_is_least_cover r s wr ws).range
 
@@ -43,24 +44,31 @@ joined_fine_parts r s wr ws e =
     let q = join_ranges r s in
     subst (IsKept q.low q.high) (finest (nat_eq q.low q.high) q.shift e) (kept_parts q (joined_range r s wr ws))
 
+-- what a cut leaves is a range
 pub cut_range : (o : Comparison) (b : Bool) (c : ℕ) (r q : Range) → IsRange r → cut o b c r ≡ Some q → IsRange q
 cut_range o b c r q w e = subst IsCutRange e (cuts_are_ranges o b c r w)
 
+-- what is known of arithmetic on members of ranges is a range
 pub computed_range : (w : Width) (o : Operation) (r s : Range) → IsRange r → IsRange s → IsRange (computed_at w o r s)
 computed_range w o r s wr ws = (arithmetic_is_sound w o).ranges r s wr ws
 
+-- what is known of a move of members of a range is a range
 pub copied_range : (w : Width) (r : Range) → IsRange r → IsRange (copied w r)
 copied_range w r wr = (copies_are_sound w).ranges r wr
 
+-- what is known of the negation of members of a range is a range
 pub negative_range : (w : Width) (r : Range) → IsRange r → IsRange (negated_range w r)
 negative_range w r wr = (negatives_are_sound w).ranges r wr
 
+-- what is known of a sign extension of members of a range is a range
 pub extension_range : (e : Extension) (r : Range) → IsRange r → IsRange (extended_range e r)
 extension_range e r wr = (extensions_are_sound e).ranges r wr
 
+-- what is known of a byte swap of members of a range is a range
 pub swap_range : (o : ByteOrder) (w : SwapWidth) (r : Range) → IsRange r → IsRange (swapped_range o w r)
 swap_range o w r wr = (swaps_are_sound o w).ranges r wr
 
+-- what is known of a load of a number is a range
 pub load_range : (a : Access) → IsRange (loaded a)
 load_range a = (loads_are_sound a).range
 
@@ -68,8 +76,10 @@ load_range a = (loads_are_sound a).range
 range_within : (size : ℕ) (q : Range) → size < 2 ^ 64 → IsWithin size (Some q) → IsRange q × (q.high ≤ size)
 range_within size q f h = (record { formed = h.0; fits = omega (arith, f, h.1) }, h.1)
 
+-- offsets that were moved by a constant are a range up to the element's size
 pub moved_within : (size : ℕ) (r q : Range) (k : ℤ) → IsRange r → size < 2 ^ 64 → moved size r k ≡ Some q → IsRange q × (q.high ≤ size)
 moved_within size r q k w f e = range_within size q f (subst (IsWithin size) e (moves_stay_within size r k w.formed))
 
+-- offsets that were moved by a range of numbers are a range up to the element's size
 pub advanced_within : (size : ℕ) (r s q : Range) → IsRange r → IsRange s → size < 2 ^ 64 → advanced size r s ≡ Some q → IsRange q × (q.high ≤ size)
 advanced_within size r s q wr ws f e = range_within size q f (subst (IsWithin size) e (advances_stay_within size r s wr.formed ws.formed))

@@ -101,6 +101,7 @@ moved_case P size r k none some = go (shifted r.low k) (within size (shifted r.h
     go (Some lo) None e f = none
     go (Some lo) (Some hi) e f = some lo hi e f
 
+-- each offset is kept
 pub moves_are_sound : MovesAreSound
 moves_are_sound size r k n w h =
     moved_case (IsMoved size n k) size r k tt
@@ -119,6 +120,7 @@ moved_formed r k lo hi w e f =
     between_formed lo hi (min r.shift (trailing (unsigned_abs k))) (shift_order r.low r.high lo hi k w.ordered e f) (min_small r.shift (trailing (unsigned_abs k)) w.small)
     (shift_multiple r.shift r.low lo k w.small w.low_multiple e) (shift_multiple r.shift r.high hi k w.small w.high_multiple f)
 
+-- offsets that were moved by a constant are a range in the element, or up to its end
 pub moves_stay_within : MovesStayWithin
 moves_stay_within size r k w =
     moved_case (IsWithin size) size r k tt
@@ -137,6 +139,7 @@ between_covers lo' lo hi hi' s' s wb wa l h c m =
 mins_grow : (a a' b : ℕ) → a ≤ a' → min a b ≤ min a' b
 mins_grow a a' b f = omega arith
 
+-- where offsets may be moved by a constant, fewer may too, and what they give is covered
 pub moves_are_monotone : MovesAreMonotone
 moves_are_monotone size b a k wb wa c =
     moved_case (λ q. PassesMove q (moved size a k)) size b k tt
@@ -162,6 +165,7 @@ sum_multiple : (a b n m : ℕ) → a ≤ 3 → n % 2 ^ a ≡ 0 → m % 2 ^ b ≡
 sum_multiple a b n m l f g =
     multiples_added (min a b) n m (min_small a b l) (multiple_of_less n a (min a b) (min_left a b) f) (multiple_of_less m b (min a b) (min_right a b) g)
 
+-- each sum is kept
 pub advances_are_sound : AdvancesAreSound
 advances_are_sound size r s n m wr ws h g =
     if_case (IsAdvanced size (n + m)) (nat_le (r.high + s.high) size) (Some (between (r.low + s.low) (r.high + s.high) (min r.shift s.shift))) None
@@ -181,6 +185,7 @@ advanced_formed r s wr ws =
     between_formed (r.low + s.low) (r.high + s.high) (min r.shift s.shift) (omega arith) (min_small r.shift s.shift wr.small)
     (sum_multiple r.shift s.shift r.low s.low wr.small wr.low_multiple ws.low_multiple) (sum_multiple r.shift s.shift r.high s.high wr.small wr.high_multiple ws.high_multiple)
 
+-- offsets that were moved by a range of numbers are a range in the element, or up to its end
 pub advances_stay_within : AdvancesStayWithin
 advances_stay_within size r s wr ws =
     if_case (IsWithin size) (nat_le (r.high + s.high) size) (Some (between (r.low + s.low) (r.high + s.high) (min r.shift s.shift))) None
@@ -189,6 +194,7 @@ advances_stay_within size r s wr ws =
 least_grow : (a b c d : ℕ) → a ≤ c → b ≤ d → min a b ≤ min c d
 least_grow a b c d f g = omega arith
 
+-- where offsets may be moved by a range of numbers, fewer may by fewer; what they give is covered
 pub advances_are_monotone : AdvancesAreMonotone
 advances_are_monotone size b d a c wb wd wa wc f g =
     let lows : b.low ≤ a.low = f.low in
@@ -207,6 +213,7 @@ advances_are_monotone size b d a c wb wd wa wc f g =
 
 -- ---- moves are refused only where an offset leaves the element
 
+-- there is a range where each offset stays in the element
 pub moves_are_exact : MovesAreExact
 moves_are_exact size r k w f =
     let first = f r.low (low_in r w) in
@@ -214,6 +221,7 @@ moves_are_exact size r k w f =
     let there = within_is size (shifted r.low k) first.0 first.1 in
     ap is_some (moved_is size r k first.0 last.0 there.0 last.1)
 
+-- there is a range where each sum stays in the element
 pub advances_are_exact : AdvancesAreExact
 advances_are_exact size r s wr ws f =
     ap (λ b. is_some (if b then Some (between (r.low + s.low) (r.high + s.high) (min r.shift s.shift)) else None)) (le-leb (r.high + s.high) size (f r.high s.high (high_in r wr) (high_in s ws)))
@@ -245,6 +253,7 @@ all_inside size n r k w f =
     and_from (is_some (shifted r.low k)) (ends_within size n (shifted r.high k)) (ap is_some first.1.there)
     (ap (ends_within size n) last.1.there ∙ le-leb (last.0 + n) size last.1.inside)
 
+-- what is tested is that of each offset
 pub inside_is_exact : InsideIsExact
 inside_is_exact size n r k w = (inside_all size n r k, all_inside size n r k w)
 
@@ -307,12 +316,14 @@ all_aligned t r k l w f =
     either_second (is_single r) (nat_eq (2 ^ r.shift % 2 ^ t) 0)
     (eq-eqb (2 ^ r.shift % 2 ^ t) 0 (subst (λ d. d % 2 ^ t ≡ 0) whole (multiples_taken t second.0 first.0 l (omega arith) second.2 first.2)))))
 
+-- the test of alignment passes exactly where each of the offsets is a multiple of an access's bytes
 pub aligned_is_exact : AlignedIsExact
 aligned_is_exact size.Byte r k w = (aligned_all 0 r k (omega arith) w, all_aligned 0 r k (omega arith) w)
 aligned_is_exact size.HalfWord r k w = (aligned_all 1 r k (omega arith) w, all_aligned 1 r k (omega arith) w)
 aligned_is_exact size.Word r k w = (aligned_all 2 r k (omega arith) w, all_aligned 2 r k (omega arith) w)
 aligned_is_exact size.DoubleWord r k w = (aligned_all 3 r k (omega arith) w, all_aligned 3 r k (omega arith) w)
 
+-- what passes for a range passes for each that it covers
 pub accesses_are_monotone : AccessesAreMonotone
 accesses_are_monotone size s b a k wb wa c =
     let inside = inside_is_exact size (size_bytes s) in

@@ -13,6 +13,7 @@ not_less a b l = by_bool (nat_lt a b) (λ e. let f : a < b = ltb-true a b e in a
 not_up_to : (a b : ℕ) → b < a → nat_le a b ≡ false
 not_up_to a b l = by_bool (nat_le a b) (λ e. let f : a ≤ b = leb-true a b e in absurd (omega arith)) (λ e. e)
 
+-- a cut that takes the rest leaves only members for which the comparison has the answer
 pub cuts_are_exact : CutsAreExact
 cuts_are_exact Equal true c n r w t h = eq-eqb n c (equal_only c n r h).1
 cuts_are_exact Equal false c n r w t h = absurd (cc)

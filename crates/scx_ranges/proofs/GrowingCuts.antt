@@ -21,12 +21,14 @@ cut_covers (Some b) (Some a) wq wp f = in_covers b a wq wp f
 
 -- ---- nothing else is kept
 
+-- the cut from a number on has only members that aren't below it
 pub from_only : (c n : ℕ) (r : Range) → IsRange r → IsInCut n (from c r) → IsIn n r × (c ≤ n)
 from_only c n r w =
     if_case (λ q. IsInCut n q → IsIn n r × (c ≤ n)) (nat_eq c 0) (Some r) (above (c - 1) r)
     (λ e h. let zero_first : c ≡ 0 = eqb-true c 0 e in (h, omega arith))
     (λ e h. let p = above_only (c - 1) n r w h in let more : c - 1 < n = p.1 in (p.0, omega arith))
 
+-- the cut below a number has only members below it
 pub below_only : (c n : ℕ) (r : Range) → IsRange r → IsInCut n (below c r) → IsIn n r × (n < c)
 below_only c n r w =
     if_case (λ q. IsInCut n q → IsIn n r × (n < c)) (nat_eq c 0) None (up_to (c - 1) r)
@@ -52,6 +54,7 @@ alone_in c n h =
     let u : n ≤ c = h.to_high in
     omega arith
 
+-- the cut to a number has only the member that is the number
 pub equal_only : (c n : ℕ) (r : Range) → IsInCut n (equal c r) → IsIn n r × (n ≡ c)
 equal_only c n r =
     if_case (λ q. IsInCut n q → IsIn n r × (n ≡ c)) (contains c r) (Some (single c)) None
@@ -61,17 +64,20 @@ equal_only c n r =
 room_above : (r : Range) → IsRange r → (r.low ≡ r.high → ⊥) → r.low + 2 ^ r.shift ≤ r.high
 room_above r w other = next_multiple r.shift r.low r.high w.formed.small w.formed.low_multiple w.formed.high_multiple (strictly r.low r.high (λ s. other (sym s)) w.formed.ordered)
 
+-- the second member of a range of several is a 64-bit number
 pub second_fits : (r : Range) → IsRange r → r.low < r.high → r.low + 2 ^ r.shift < 2 ^ 64
 second_fits r w l =
     let room = next_multiple r.shift r.low r.high w.formed.small w.formed.low_multiple w.formed.high_multiple l in
     let fits : r.high < 2 ^ 64 = w.fits in
     omega arith
 
+-- the step of a range of several members is at most its high
 pub step_below : (r : Range) → IsRange r → r.low < r.high → 2 ^ r.shift ≤ r.high
 step_below r w l =
     let room = next_multiple r.shift r.low r.high w.formed.small w.formed.low_multiple w.formed.high_multiple l in
     omega arith
 
+-- the cut without a number has only members of the range
 pub unequal_only : (c n : ℕ) (r : Range) → IsRange r → IsInCut n (unequal c r) → IsIn n r
 unequal_only c n r w =
     if_case (λ q. IsInCut n q → IsIn n r) (nat_eq c r.low) (if nat_eq c r.high then None else Some (between (r.low + 2 ^ r.shift) r.high r.shift))
@@ -161,6 +167,7 @@ equal_grows c s r ws wr d = cut_covers (equal c s) (equal c r) (equal_range c s 
 unequal_grows : (c : ℕ) (s r : Range) → IsRange s → IsRange r → CoversRange s r → CoversCut (unequal c s) (unequal c r)
 unequal_grows c s r ws wr d = cut_covers (unequal c s) (unequal c r) (unequal_range c s ws) (unequal_range c r wr) (λ n h. unequal_in c n s r ws wr d h)
 
+-- of more, more is left
 pub cuts_grow : CutsGrow
 cuts_grow Equal true c s r ws wr d = equal_grows c s r ws wr d
 cuts_grow Equal false c s r ws wr d = unequal_grows c s r ws wr d
@@ -196,5 +203,6 @@ cut_only LessOrEqual true c n r w h = (up_to_only c n r w h).0
 cut_only LessOrEqual false c n r w h = (above_only c n r w h).0
 cut_only o b c n r w h = h
 
+-- no more is left than there was
 pub cuts_narrow : CutsNarrow
 cuts_narrow o b c r w = narrower (cut o b c r) r (cuts_are_ranges o b c r w) w (λ n h. cut_only o b c n r w h)

@@ -130,6 +130,7 @@ constant_grows o k r' r x w' w c fits h = h
 apart : (b : Bool) → b ≡ true → b ≡ false → ⊥
 apart b e f = absurd (cc)
 
+-- a range that a single one covers is single
 pub single_below : (r' r : Range) → IsRange r → CoversRange r' r → is_single r' ≡ true → is_single r ≡ true
 single_below r' r w c e =
     let same : r'.low ≡ r'.high = eqb-true r'.low r'.high e in
@@ -163,6 +164,7 @@ spread_grows Move r' s' r s x wr' wr ws c d fits h = covers_in s' s x d h
 spread_grows Add r' s' r s x wr' wr ws c d fits h = added_grows r' s' r s x wr ws c d fits h
 spread_grows o r' s' r s x wr' wr ws c d fits h = constants_grow o r' s' r s x wr' wr ws c d fits h
 
+-- where each of two tests follows from another, both follow from both
 pub both_single : (b' d' b d : Bool) → (b' ≡ true → b ≡ true) → (d' ≡ true → d ≡ true) → (b' && d') ≡ true → (b && d) ≡ true
 both_single b' d' b d f g e = let both = and_parts b' d' e in let x = f both.0 in let y = g both.1 in rw (x, y) refl
 
@@ -181,11 +183,13 @@ result_grows o r' s' r s x wr' ws' wr ws below c d fits =
 low_fits : (r : Range) → IsRange r → r.low < 2 ^ 64
 low_fits r w = below_through r.low r.high (2 ^ 64) w.formed.ordered w.fits
 
+-- what is known of a 64-bit operation grows with what is known of its numbers
 abbrev pub ResultsGrow : Type 0
 ResultsGrow =
     (o : Operation) (r' s' r s : Range) → IsRange r' → IsRange s' → IsRange r → IsRange s → ((n m : ℕ) → n < 2 ^ 64 → m < 2 ^ 64 → compute Bits64 o n m < 2 ^ 64)
     → CoversRange r' r → CoversRange s' s → CoversRange (computed o r' s') (computed o r s)
 
+-- what is known of 64-bit operations grows
 pub results_grow : ResultsGrow
 results_grow o r' s' r s wr' ws' wr ws fits c d =
     let big = results_are_ranges o r' s' wr' ws' (fits r'.low s'.low (low_fits r' wr') (low_fits s' ws')) in

@@ -21,6 +21,7 @@ lower a b c f g = omega arith
 apart : (b : Bool) → b ≡ true → b ≡ false → ⊥
 apart b e f = absurd (cc)
 
+-- a number that is at most another and differs from it is less
 pub strictly : (a b : ℕ) → (b ≡ a → ⊥) → a ≤ b → a < b
 strictly a b f l = by_less a b (λ h. h) (λ h. absurd (f (omega arith)))
 
@@ -32,6 +33,7 @@ agree n c e = by_bool (nat_eq n c) (λ f. eqb-true n c f) (λ f. absurd (apart (
 
 -- ---- what is kept
 
+-- a member above the number is kept by the cut above it
 pub above_keeps : (c n : ℕ) (r : Range) → IsRange r → IsIn n r → c < n → IsInCut n (above c r)
 above_keeps c n r w h l =
     let low : r.low ≤ n = h.from_low in
@@ -42,6 +44,7 @@ above_keeps c n r w h l =
     (λ e. in_between (max r.low (floor c r.shift + 2 ^ r.shift)) r.high r.shift n (largest r.low (floor c r.shift + 2 ^ r.shift) n low next) high h.multiple)
     (λ e. let f : r.high ≤ c = ltb-false c r.high e in absurd (omega arith))
 
+-- a member that isn't above the number is kept by the cut up to it
 pub up_to_keeps : (c n : ℕ) (r : Range) → IsRange r → IsIn n r → n ≤ c → IsInCut n (up_to c r)
 up_to_keeps c n r w h l =
     let low : r.low ≤ n = h.from_low in
@@ -49,26 +52,31 @@ up_to_keeps c n r w h l =
     (λ e. in_between r.low (min r.high (floor c r.shift)) r.shift n low (least_of r.high (floor c r.shift) n h.to_high (floor_greatest r.shift n c w.formed.small h.multiple l)) h.multiple)
     (λ e. let f : c < r.low = leb-false r.low c e in absurd (omega arith))
 
+-- a member that isn't below the number is kept by the cut from it on
 pub from_keeps : (c n : ℕ) (r : Range) → IsRange r → IsIn n r → c ≤ n → IsInCut n (from c r)
 from_keeps c n r w h l =
     if_case (IsInCut n) (nat_eq c 0) (Some r) (above (c - 1) r) (λ e. h)
     (λ e. let f : c ≢ 0 = eqb-false c 0 e in above_keeps (c - 1) n r w h (omega arith))
 
+-- a member below the number is kept by the cut below it
 pub below_keeps : (c n : ℕ) (r : Range) → IsRange r → IsIn n r → n < c → IsInCut n (below c r)
 below_keeps c n r w h l =
     if_case (IsInCut n) (nat_eq c 0) None (up_to (c - 1) r) (λ e. let f : c ≡ 0 = eqb-true c 0 e in absurd (omega arith))
     (λ e. up_to_keeps (c - 1) n r w h (omega arith))
 
+-- the test for members passes for each
 pub contains_is : (n : ℕ) (r : Range) → IsIn n r → contains n r ≡ true
 contains_is n r h =
     ap (λ b. b && nat_le n r.high && nat_eq (n % 2 ^ r.shift) 0) (le-leb r.low n h.from_low)
     ∙ ap (λ b. b && nat_eq (n % 2 ^ r.shift) 0) (le-leb n r.high h.to_high)
     ∙ eq-eqb (n % 2 ^ r.shift) 0 h.multiple
 
+-- a member that is the number is kept by the cut to it
 pub equal_keeps : (c n : ℕ) (r : Range) → IsIn n r → n ≡ c → IsInCut n (equal c r)
 equal_keeps c n r h e =
     rw (← e) (if_case (IsInCut n) (contains n r) (Some (single n)) None (λ f. in_single n) (λ f. absurd (apart (contains n r) (contains_is n r h) f)))
 
+-- a member that isn't the number is kept by the cut without it
 pub unequal_keeps : (c n : ℕ) (r : Range) → IsRange r → IsIn n r → n ≢ c → IsInCut n (unequal c r)
 unequal_keeps c n r w h other =
     let low : r.low ≤ n = h.from_low in
@@ -88,6 +96,7 @@ unequal_keeps c n r w h other =
     in_between r.low (r.high - 2 ^ r.shift) r.shift n low (omega arith) h.multiple)
     (λ f. h))
 
+-- members for which the comparison has the answer are kept
 pub cuts_keep : CutsKeep
 cuts_keep Equal true c n r w h e = equal_keeps c n r h (eqb-true n c e)
 cuts_keep Equal false c n r w h e = unequal_keeps c n r w h (eqb-false n c e)
@@ -103,6 +112,7 @@ cuts_keep LessOrEqual true c n r w h e = up_to_keeps c n r w h (leb-true n c e)
 cuts_keep LessOrEqual false c n r w h e = above_keeps c n r w h (leb-false n c e)
 cuts_keep o b c n r w h e = h
 
+-- the next multiple above a number below the range's high is a 64-bit number
 pub next_fits : (c : ℕ) (r : Range) → IsRange r → c < r.high → floor c r.shift + 2 ^ r.shift < 2 ^ 64
 next_fits c r w l =
     let f : floor c r.shift ≤ c = floor_below c r.shift in
@@ -120,6 +130,7 @@ lesser_multiple a b s f g = by_less a b (λ l. let e : min a b ≡ a = omega ari
 least_lower : (a b c : ℕ) → a < c → min a b < c
 least_lower a b c f = omega arith
 
+-- the cut above a number leaves nothing, or a range
 pub above_range : (c : ℕ) (r : Range) → IsRange r → IsCutRange (above c r)
 above_range c r w =
     if_case IsCutRange (nat_lt c r.high) (Some (between (max r.low (floor c r.shift + 2 ^ r.shift)) r.high r.shift)) None
@@ -131,6 +142,7 @@ above_range c r w =
     (multiples_added r.shift (floor c r.shift) (2 ^ r.shift) w.formed.small (floor_multiple r.shift c w.formed.small) (step_multiple r.shift w.formed.small))) w.formed.high_multiple)
     (λ e. tt)
 
+-- the cut up to a number leaves nothing, or a range
 pub up_to_range : (c : ℕ) (r : Range) → IsRange r → IsCutRange (up_to c r)
 up_to_range c r w =
     if_case IsCutRange (nat_le r.low c) (Some (between r.low (min r.high (floor c r.shift)) r.shift)) None
@@ -139,9 +151,11 @@ up_to_range c r w =
     (least_lower r.high (floor c r.shift) (2 ^ 64) w.fits) w.formed.small w.formed.low_multiple (lesser_multiple r.high (floor c r.shift) r.shift w.formed.high_multiple (floor_multiple r.shift c w.formed.small)))
     (λ e. tt)
 
+-- the cut from a number on leaves nothing, or a range
 pub from_range : (c : ℕ) (r : Range) → IsRange r → IsCutRange (from c r)
 from_range c r w = if_case IsCutRange (nat_eq c 0) (Some r) (above (c - 1) r) (λ e. w) (λ e. above_range (c - 1) r w)
 
+-- the cut below a number leaves nothing, or a range
 pub below_range : (c : ℕ) (r : Range) → IsRange r → IsCutRange (below c r)
 below_range c r w = if_case IsCutRange (nat_eq c 0) None (up_to (c - 1) r) (λ e. tt) (λ e. up_to_range (c - 1) r w)
 
@@ -150,11 +164,13 @@ contained_below c r e =
     let last = and_parts (nat_le r.low c && nat_le c r.high) (nat_eq (c % 2 ^ r.shift) 0) e in
     leb-true c r.high (and_parts (nat_le r.low c) (nat_le c r.high) last.0).1
 
+-- the cut to a number leaves nothing, or a range
 pub equal_range : (c : ℕ) (r : Range) → IsRange r → IsCutRange (equal c r)
 equal_range c r w =
     if_case IsCutRange (contains c r) (Some (single c)) None
     (λ e. single_range c (lower c r.high (2 ^ 64) (contained_below c r e) w.fits)) (λ e. tt)
 
+-- the cut without a number leaves nothing, or a range
 pub unequal_range : (c : ℕ) (r : Range) → IsRange r → IsCutRange (unequal c r)
 unequal_range c r w =
     if_case IsCutRange (nat_eq c r.low) (if nat_eq c r.high then None else Some (between (r.low + 2 ^ r.shift) r.high r.shift))
@@ -175,6 +191,7 @@ unequal_range c r w =
     (multiples_taken r.shift r.high (2 ^ r.shift) w.formed.small (omega arith) w.formed.high_multiple (step_multiple r.shift w.formed.small)))
     (λ f. w))
 
+-- what is left is a range
 pub cuts_are_ranges : CutsAreRanges
 cuts_are_ranges Equal true c r w = equal_range c r w
 cuts_are_ranges Equal false c r w = unequal_range c r w
@@ -207,6 +224,7 @@ min_right a b n f = omega arith
 less_through : (a b c : ℕ) → a < b → b ≤ c → a < c
 less_through a b c f g = omega arith
 
+-- the cut above a number has only members above it
 pub above_only : (c n : ℕ) (r : Range) → IsRange r → IsInCut n (above c r) → IsIn n r × (c < n)
 above_only c n r w =
     let next = floor c r.shift + 2 ^ r.shift in
@@ -218,6 +236,7 @@ above_only c n r w =
 through : (a b c : ℕ) → a ≤ b → b ≤ c → a ≤ c
 through a b c f g = omega arith
 
+-- the cut up to a number has only members that aren't above it
 pub up_to_only : (c n : ℕ) (r : Range) → IsRange r → IsInCut n (up_to c r) → IsIn n r × (n ≤ c)
 up_to_only c n r w =
     if_case (λ q. IsInCut n q → IsIn n r × (n ≤ c)) (nat_le r.low c) (Some (between r.low (min r.high (floor c r.shift)) r.shift)) None

@@ -133,6 +133,7 @@ constant_keeps And r n c w h f g = masked_keeps r n c w h
 constant_keeps Modulo r n c w h f g = remainder_keeps r n c w h f
 constant_keeps o r n c w h f g = in_all (compute Bits64 o n c) g
 
+-- a member of a single range is its low end
 pub alone : (s : Range) (m : ℕ) → is_single s ≡ true → IsIn m s → m ≡ s.low
 alone s m e h =
     let same : s.low ≡ s.high = eqb-true s.low s.high e in
@@ -153,11 +154,13 @@ spread_keeps Move r s n m wr ws h g f fits = g
 spread_keeps Add r s n m wr ws h g f fits = added_keeps r s n m wr ws h g
 spread_keeps o r s n m wr ws h g f fits = constants_keep o r s n m wr h g f fits
 
+-- what a 64-bit operation computes of members is in the range that is known of it
 abbrev pub MembersAreKept : Type 0
 MembersAreKept =
     (o : Operation) (r s : Range) (n m : ℕ) → IsRange r → IsRange s → IsIn n r → IsIn m s
     → compute Bits64 o n m < 2 ^ 64 → IsIn (compute Bits64 o n m) (computed o r s)
 
+-- 64-bit operations on members give members of what is known
 pub members_are_kept : MembersAreKept
 members_are_kept o r s n m wr ws h g fits =
     let below : n < 2 ^ 64 = below_through n r.high (2 ^ 64) h.to_high wr.fits in

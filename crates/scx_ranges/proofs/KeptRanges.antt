@@ -13,6 +13,7 @@ shift_back : (b : Bool) (t s : ℕ) → s ≤ 3 → (b ≡ true → s ≡ t) →
 shift_back true t s l h = sym (h refl)
 shift_back false t s l h = by_shift (λ s. shift_of (step_of s) ≡ s) refl refl refl refl s l
 
+-- a range is that of its ends and the step that is kept
 pub kept_range : (r : Range) → IsRange r → range_of r.low r.high (kept_step r) ≡ r
 kept_range r w =
     ap (λ s. record { low = r.low; high = r.high; shift = s })
@@ -21,6 +22,7 @@ kept_range r w =
 pub kept_parts : (r : Range) → IsRange r → IsKept r.low r.high (kept_step r)
 kept_parts r w = record { range = subst IsRange (sym (kept_range r w)) w; back = ap kept_step (kept_range r w) }
 
+-- a 64-bit number is kept as a range of two same ends with the step One
 pub kept_single : (n : ℕ) → n < 2 ^ 64 → IsKept n n One
 kept_single n l = record {
   range = single_range n l;

@@ -5,6 +5,7 @@ use Rattle.scx_ranges.specs.Ranges.{IsIn, IsWellFormed, IsRange, CoversRange, tr
 use Rattle.scx_ranges.specs.Laws.{OrderIsInclusion, JoinIsLeastCover}
 use Rattle.scx_ranges.proofs.Multiples.{by_less, multiple_of_less, most_trailing, next_multiple, multiples_added, step_multiple, step_divides}
 
+-- a range that covers another has each of its members
 pub covers_in : (b a : Range) (n : ℕ) → CoversRange b a → IsIn n a → IsIn n b
 covers_in b a n c h =
     let low : b.low ≤ a.low = c.low in
@@ -13,12 +14,15 @@ covers_in b a n c h =
     let u : n ≤ a.high = h.to_high in
     record { from_low = omega arith; to_high = omega arith; multiple = multiple_of_less n a.shift b.shift c.shift h.multiple }
 
+-- a range has its low end as a member
 pub low_in : (a : Range) → IsWellFormed a → IsIn a.low a
 low_in a w = record { from_low = omega arith; to_high = w.ordered; multiple = w.low_multiple }
 
+-- a range has its high end as a member
 pub high_in : (a : Range) → IsWellFormed a → IsIn a.high a
 high_in a w = record { from_low = w.ordered; to_high = omega arith; multiple = w.high_multiple }
 
+-- a range of several members has the one behind its low end
 pub next_in : (a : Range) → IsWellFormed a → a.low < a.high → IsIn (a.low + 2 ^ a.shift) a
 next_in a w l = record {
   from_low = omega arith;
@@ -42,6 +46,7 @@ members_cover b a wb wa f =
 pub in_covers : (b a : Range) → IsRange b → IsRange a → ((n : ℕ) → IsIn n a → IsIn n b) → CoversRange b a
 in_covers b a wb wa f = members_cover b a wb.formed wa.formed f
 
+-- one range covers another exactly where it has all of its members
 pub order_is_inclusion : OrderIsInclusion
 order_is_inclusion b a wb wa = (λ c n. covers_in b a n c, in_covers b a wb wa)
 
@@ -84,6 +89,7 @@ join_range a b wa wb =
     let fb : b.high < 2 ^ 64 = wb.fits in
     record { formed = join_formed a b wa.formed wb.formed; fits = omega arith }
 
+-- the join of two ranges is the least range that covers both
 pub join_is_least_cover : JoinIsLeastCover
 join_is_least_cover a b wa wb = record {
   range = join_range a b wa wb;
@@ -108,5 +114,6 @@ least_same n = omega arith
 greatest_same : (n : ℕ) → max n n ≡ n
 greatest_same n = omega arith
 
+-- a range joined with itself stays
 pub join_same : (r : Range) → join_ranges r r ≡ r
 join_same r = rw (least_same r.low, greatest_same r.high, least_same r.shift) refl

@@ -87,10 +87,12 @@ spread_range Move r s wr ws = ws
 spread_range Add r s wr ws = added_range r s wr ws
 spread_range o r s wr ws = constants_range o r s wr
 
+-- what is known of a 64-bit operation on members of ranges is a range
 abbrev pub ResultsAreRanges : Type 0
 ResultsAreRanges =
     (o : Operation) (r s : Range) → IsRange r → IsRange s → compute Bits64 o r.low s.low < 2 ^ 64 → IsRange (computed o r s)
 
+-- what is known of 64-bit operations is a range
 pub results_are_ranges : ResultsAreRanges
 results_are_ranges o r s wr ws fits =
     if_case IsRange (is_single r && is_single s) (single (compute Bits64 o r.low s.low)) (spread o r s)

@@ -24,19 +24,23 @@ pub record IsLeast (j a b : Range) : Type 0 where
   pub covers_second : CoversRange j b
   pub least : (c : Range) → CoversRange c a → CoversRange c b → CoversRange c j
 
+-- the join of two ranges is the least range that covers both
 abbrev pub JoinIsLeastCover : Type 0
 JoinIsLeastCover = (a b : Range) → IsRange a → IsRange b → IsLeast (join_ranges a b) a b
 
 -- ---- cuts
 
+-- the number is among those that a cut leaves
 abbrev pub IsInCut : ℕ → Option Range → Type 0
 IsInCut n None = ⊥
 IsInCut n (Some r) = IsIn n r
 
+-- a cut leaves nothing, or a range
 abbrev pub IsCutRange : Option Range → Type 0
 IsCutRange None = Unit {0}
 IsCutRange (Some r) = IsRange r
 
+-- where the second cut leaves a range, the first leaves one that covers it
 abbrev pub CoversCut : Option Range → Option Range → Type 0
 CoversCut b None = Unit {0}
 CoversCut None (Some a) = ⊥

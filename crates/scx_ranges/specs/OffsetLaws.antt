@@ -39,9 +39,11 @@ MovesAreExact =
     (size : ℕ) (r : Range) (k : ℤ) → IsWellFormed r
     → ((n : ℕ) → IsIn n r → (to : ℕ) × (within size (shifted n k) ≡ Some to)) → is_some (moved size r k) ≡ true
 
+-- offsets that were moved by a constant are a range in the element, or up to its end
 abbrev pub MovesStayWithin : Type 0
 MovesStayWithin = (size : ℕ) (r : Range) (k : ℤ) → IsWellFormed r → IsWithin size (moved size r k)
 
+-- where offsets may be moved by a constant, fewer may too, and what they give is covered
 abbrev pub MovesAreMonotone : Type 0
 MovesAreMonotone =
     (size : ℕ) (b a : Range) (k : ℤ) → IsWellFormed b → IsWellFormed a
@@ -66,10 +68,12 @@ AdvancesAreExact =
     (size : ℕ) (r s : Range) → IsWellFormed r → IsWellFormed s
     → ((n m : ℕ) → IsIn n r → IsIn m s → n + m ≤ size) → is_some (advanced size r s) ≡ true
 
+-- offsets that were moved by a range of numbers are a range in the element, or up to its end
 abbrev pub AdvancesStayWithin : Type 0
 AdvancesStayWithin =
     (size : ℕ) (r s : Range) → IsWellFormed r → IsWellFormed s → IsWithin size (advanced size r s)
 
+-- where offsets may be moved by a range of numbers, fewer may by fewer; what they give is covered
 abbrev pub AdvancesAreMonotone : Type 0
 AdvancesAreMonotone =
     (size : ℕ) (b d a c : Range) → IsWellFormed b → IsWellFormed d → IsWellFormed a → IsWellFormed c
@@ -82,9 +86,11 @@ pub record IsInside (size n : ℕ) (k : ℤ) (at to : ℕ) : Type 0 where
   pub there : shifted at k ≡ Some to
   pub inside : to + n ≤ size
 
+-- so many bytes lie in the element, that distance from each of the offsets
 abbrev pub AllInside : ℕ → ℕ → Range → ℤ → Type 0
 AllInside size n r k = (at : ℕ) → IsIn at r → (to : ℕ) × IsInside size n k at to
 
+-- each of the offsets, that distance on, isn't below 0 and is a multiple
 abbrev pub AllAligned : ℕ → Range → ℤ → Type 0
 AllAligned n r k = (at : ℕ) → IsIn at r → (to : ℕ) × (shifted at k ≡ Some to) × (to % n ≡ 0)
 
@@ -94,6 +100,7 @@ InsideIsExact =
     (size n : ℕ) (r : Range) (k : ℤ) → IsWellFormed r
     → (are_inside size n r k ≡ true → AllInside size n r k) × (AllInside size n r k → are_inside size n r k ≡ true)
 
+-- the test of alignment passes exactly where each of the offsets is a multiple of an access's bytes
 abbrev pub AlignedIsExact : Type 0
 AlignedIsExact =
     (s : Size) (r : Range) (k : ℤ) → IsWellFormed r

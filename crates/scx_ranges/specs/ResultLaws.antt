@@ -27,18 +27,23 @@ pub record AreImages (f : ℕ → ℕ) (known : Range → Range) : Type 0 where
   pub ranges : (r : Range) → IsRange r → IsRange (known r)
   pub grow : (r' r : Range) → IsRange r' → IsRange r → CoversRange r' r → CoversRange (known r') (known r)
 
+-- what is known of arithmetic, of either width, holds its results, is a range and grows
 abbrev pub ArithmeticIsSound : Type 0
 ArithmeticIsSound = (w : Width) (o : Operation) → AreResults (compute w o) (computed_at w o)
 
+-- what is known of a move, of either width, holds what it copies, is a range and grows
 abbrev pub CopiesAreSound : Type 0
 CopiesAreSound = (w : Width) → AreImages (low w) (copied w)
 
+-- what is known of a negation, of either width, holds its results, is a range and grows
 abbrev pub NegativesAreSound : Type 0
 NegativesAreSound = (w : Width) → AreImages (negated w) (negated_range w)
 
+-- what is known of a move that extends a sign holds its results, is a range and grows
 abbrev pub ExtensionsAreSound : Type 0
 ExtensionsAreSound = (e : Extension) → AreImages (extended e) (extended_range e)
 
+-- what is known of a byte swap holds its results, is a range and grows
 abbrev pub SwapsAreSound : Type 0
 SwapsAreSound = (o : ByteOrder) (w : SwapWidth) → AreImages (byte_swapped o w) (swapped_range o w)
 
@@ -47,5 +52,6 @@ pub record IsLoaded (a : Access) : Type 0 where
   pub range : IsRange (loaded a)
   pub kept : (n : ℕ) → n < 256 ^ size_bytes (access_size a) → IsIn (read_as a n) (loaded a)
 
+-- what is known of a load of a number is a range that holds all that it may read
 abbrev pub LoadsAreSound : Type 0
 LoadsAreSound = (a : Access) → IsLoaded a

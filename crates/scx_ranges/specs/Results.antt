@@ -58,12 +58,15 @@ computed o r s = if is_single r && is_single s then single (compute Bits64 o r.l
 
 -- ---- both widths
 
+-- the numbers of 8 bits
 abbrev pub bytes : Range
 bytes = record { low = 0; high = 255; shift = 0 }
 
+-- the numbers of 16 bits
 abbrev pub half_words : Range
 half_words = record { low = 0; high = 65535; shift = 0 }
 
+-- the numbers of 32 bits
 abbrev pub words : Range
 words = record { low = 0; high = 4294967295; shift = 0 }
 
