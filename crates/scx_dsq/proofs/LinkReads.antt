@@ -6,6 +6,7 @@ use Rattle.scx_dsq.specs.declared.links.Link.{Link}
 use Rattle.scx_dsq.specs.declared.links.Ends.{Ends}
 use Rattle.scx_dsq.specs.Links.{no_link, link_at, with_ahead, with_behind, links_appended, links_unlinked}
 
+-- there is no task, or one of a number below that one
 abbrev pub IsWithin : ℕ → Option ℕ → Type 0
 IsWithin n o = MatchOption o (Unit {0}) (λ t. t < n)
 

@@ -8,6 +8,7 @@ use Rattle.scx_dsq.specs.declared.heap.Item.{Item}
 use Rattle.scx_dsq.specs.Queues.{QueueState, Waits}
 use Rattle.scx_dsq.specs.Heaps.{IsCheap}
 
+-- what `Queues` are in contracts: their state, and the arrays beside it
 pub record QueuesValue : Type 0 where
   pub state : QueueState  -- who waits where
   pub arrays : List (List Item)  -- the array of each queue, in the order of its ids

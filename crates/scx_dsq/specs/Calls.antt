@@ -9,19 +9,23 @@ use Rattle.scx_dsq.specs.declared.errors.QueueError.TheVariants.{NoSuchQueue, Al
 use Rattle.scx_dsq.specs.Entries.{same_sort}
 use Rattle.scx_dsq.specs.Queues.{QueueState, exists, entry_of, is_in, front_of}
 
+-- what a call answers: why it is refused, if it is
 abbrev pub refused_or_done : Option QueueError → Result (Unit {0}) QueueError
 refused_or_done None = Ok tt
 refused_or_done (Some e) = Err e
 
 -- ---- creating a queue
 
+-- why a queue isn't created: it is there already, or else there is no room for another
 abbrev pub create_refusal : QueueState → ℕ → Option QueueError
 create_refusal s id =
     if exists s id then Some AlreadyThere else (if nat_le s.room (length s.ids) then Some TooManyQueues else None)
 
+-- the state with another queue, the last of the ids
 abbrev pub with_queue : QueueState → ℕ → QueueState
 with_queue s id = record { room = s.room; ids = s.ids ++ id ∷ []; entries = s.entries; pushes = s.pushes }
 
+-- the state after the call that creates a queue; as it was where that is refused
 abbrev pub created : QueueState → ℕ → QueueState
 created s id = if is_none (create_refusal s id) then with_queue s id else s
 
@@ -32,6 +36,7 @@ abbrev pub clashes : ℕ → Rank → Option Entry → Bool
 clashes id rank None = false
 clashes id rank (Some p) = is_in id (Some p) && not (same_sort p.rank rank)
 
+-- why a task isn't pushed: no such queue, it waits already, or tasks of the other sort wait there
 abbrev pub push_refusal : QueueState → ℕ → ℕ → Rank → Option QueueError
 push_refusal s id t rank =
     if not (exists s id) then Some NoSuchQueue
@@ -47,6 +52,7 @@ abbrev pub with_task : QueueState → ℕ → ℕ → Rank → QueueState
 with_task s id t rank =
     record { room = s.room; ids = s.ids; entries = slice_set s.entries t (Some (next_entry s id rank)); pushes = s.pushes + 1 }
 
+-- the state after the push of a task; as it was where that is refused
 abbrev pub pushed : QueueState → ℕ → ℕ → Rank → QueueState
 pushed s id t rank = if is_none (push_refusal s id t rank) then with_task s id t rank else s
 
@@ -56,13 +62,16 @@ pushed s id t rank = if is_none (push_refusal s id t rank) then with_task s id t
 abbrev pub without_task : QueueState → ℕ → QueueState
 without_task s t = record { room = s.room; ids = s.ids; entries = slice_set s.entries t None; pushes = s.pushes }
 
+-- the state after the removal of a task; as it was where the task waits nowhere
 abbrev pub removed : QueueState → ℕ → QueueState
 removed s t = if is_some (entry_of s t) then without_task s t else s
 
+-- the state without that task's entry, or as it was for none
 abbrev pub without : QueueState → Option ℕ → QueueState
 without s None = s
 without s (Some t) = without_task s t
 
+-- the state after a pop: the queue's front waits nowhere; as it was where there is no front
 abbrev pub popped : QueueState → ℕ → QueueState
 popped s id = without s (front_of s id)
 

@@ -5,10 +5,12 @@ use Rattle.std.specs.List.{list_any}
 use Rattle.scx_dsq.specs.declared.priority.Priority.{Priority}
 use Rattle.scx_dsq.specs.declared.heap.Item.{Item}
 
+-- the array of a queue by virtual time, and how many items there is memory for
 pub record HeapState : Type 0 where
   pub room : ℕ  -- how many items it has memory for
   pub items : List Item
 
+-- the task of the first item; none of an empty array
 abbrev pub first_item : List Item → Option ℕ
 first_item [] = None
 first_item (x ∷ xs) = Some x.task
@@ -17,6 +19,7 @@ first_item (x ∷ xs) = Some x.task
 abbrev pub comes_before : Priority → Priority → Bool
 comes_before p q = nat_lt p.key q.key || (p.key == q.key && nat_lt p.stamp q.stamp)
 
+-- the position of a position's parent; 0 for the first, which has none
 abbrev pub parent : ℕ → ℕ
 parent k = (k - 1) / 2
 
@@ -28,6 +31,7 @@ IsBehind items k j = (d e : Item) → comes_before (slice_index_or items k d).pr
 abbrev pub Leads : List Item → ℕ → ℕ → Type 0
 Leads items k j = (d e : Item) → comes_before (slice_index_or items k d).priority (slice_index_or items j e).priority ≡ true
 
+-- no item but the first leaves before the one at its parent's position
 abbrev pub IsHeap : List Item → Type 0
 IsHeap items = (k : ℕ) → 0 < k → k < length items → IsBehind items k (parent k)
 
@@ -59,6 +63,7 @@ abbrev pub HasSpots : List Item → List ℕ → Type 0
 HasSpots items spots =
     (k : ℕ) (d : Item) (e : ℕ) → k < length items → ((slice_index_or items k d).task < length spots) × (slice_index_or spots (slice_index_or items k d).task e ≡ k)
 
+-- an item of the array is of that task
 pub record IsIn (items : List Item) (t : ℕ) : Type 0 where
   pub position : ℕ
   pub inside : position < length items
@@ -77,6 +82,7 @@ pub record KeepsOthers (items : List Item) (old new : List ℕ) : Type 0 where
 abbrev pub with_item : List Item → Item → ℕ → List Item
 with_item items x k = slice_set items k x
 
+-- the spots with that position for the item's task
 abbrev pub with_spot : List ℕ → Item → ℕ → List ℕ
 with_spot spots x k = slice_set spots x.task k
 

@@ -19,9 +19,11 @@ use Rattle.scx_dsq.specs.Holdings.{Holds}
 use Rattle.scx_dsq.specs.Arrays.{QueuesValue}
 use Rattle.scx_dsq.specs.Order.{IsOrder}
 
+-- the ids of the queues, in their order
 abbrev pub ids_of : List Queue → List ℕ
 ids_of live = map (λ q. q.id) live
 
+-- the items in each queue's heap, in the order of the queues
 abbrev pub arrays_of : List Queue → List (List Item)
 arrays_of live = map (λ q. q.heap.items) live
 
@@ -43,12 +45,15 @@ pub record Keeps (entries : Entries) (links : List Link) (spots : List ℕ) (q :
 
 -- ---- what a queue answers
 
+-- the task that leaves a kept queue first: the first of its links, or else of its heap
 abbrev pub front_in : Queue → Option ℕ
 front_in q = or_else q.ends.first (first_item q.heap.items)
 
+-- how many tasks a kept queue has: those of its links, or else those of its heap
 abbrev pub len_in : Queue → ℕ
 len_in q = if is_some q.ends.first then q.ends.count else length q.heap.items
 
+-- whether a kept queue has tasks of the other sort than this rank
 abbrev pub mixes : Rank → Queue → Bool
 mixes Fifo q = is_some (first_item q.heap.items)
 mixes (Vtime k) q = is_some q.ends.first
@@ -70,6 +75,7 @@ pub record IsMixed (live : List Queue) (id : ℕ) (rank : Rank) : Type 0 where
   pub is : HoldsAt (λ q. q.id ≡ id) live entry
   pub mixed : HoldsAt (λ q. mixes rank q ≡ true) live entry
 
+-- a push is refused for that reason, which is never want of room for a queue
 abbrev pub IsRefused : List Queue → Entries → ℕ → ℕ → Rank → QueueError → Type 0
 IsRefused live entries id t rank NoSuchQueue = list_any (λ other. other == id) (ids_of live) ≡ false
 IsRefused live entries id t rank AlreadyThere = (list_any (λ other. other == id) (ids_of live) ≡ true) × (is_some (entry_at entries t) ≡ true)
@@ -78,6 +84,7 @@ IsRefused live entries id t rank TooManyQueues = ⊥
 
 -- ---- a task that enters
 
+-- the task and the last one of the queue have links, and there are more links than tasks in it
 pub record CanAppend (links : List Link) (q : Queue) (t : ℕ) : Type 0 where
   pub task : t < length links
   pub last : MatchOption q.ends.last (Unit {0}) (λ u. u < length links)
@@ -87,6 +94,7 @@ pub record CanAppend (links : List Link) (q : Queue) (t : ℕ) : Type 0 where
 abbrev pub appended : Queue → ℕ → Queue
 appended q t = record { id = q.id; ends = ends_appended q.ends t; heap = q.heap }
 
+-- the queue's heap has room for the item, whose task has a spot and isn't in it
 pub record CanInsert (spots : List ℕ) (q : Queue) (x : Item) : Type 0 where
   pub room : length q.heap.items < q.heap.room
   pub task : x.task < length spots
@@ -106,24 +114,29 @@ pub record Inserted (spots : List ℕ) (q : Queue) (x : Item) (stood : List ℕ)
 
 -- ---- a task that leaves
 
+-- the task and those beside it have links, and the queue counts some
 pub record CanUnlink (links : List Link) (q : Queue) (t : ℕ) : Type 0 where
   pub task : t < length links
   pub ahead : MatchOption (link_at links t).ahead (Unit {0}) (λ u. u < length links)
   pub behind : MatchOption (link_at links t).behind (Unit {0}) (λ u. u < length links)
   pub count : 0 < q.ends.count
 
+-- the queue without that task, which stood among its links
 abbrev pub unlinked : List Link → Queue → ℕ → Queue
 unlinked links q t = record { id = q.id; ends = ends_unlinked links q.ends t; heap = q.heap }
 
+-- the task is in the queue's heap, where each task has its spot
 pub record CanTakeOut (spots : List ℕ) (q : Queue) (t : ℕ) : Type 0 where
   pub task : IsIn q.heap.items t
   pub stand : HasSpots q.heap.items spots
   pub heap : IsHeap q.heap.items
 
+-- the task may be taken out of the queue, by the sort of its rank
 abbrev pub CanLeave : Rank → List Link → List ℕ → Queue → ℕ → Type 0
 CanLeave Fifo links spots q t = CanUnlink links q t
 CanLeave (Vtime k) links spots q t = CanTakeOut spots q t
 
+-- the task was taken out of the queue's links, and no spot has changed
 pub record Unlinked (links : List Link) (spots : List ℕ) (q : Queue) (t : ℕ) (linked : List Link) (stood : List ℕ) (new : Queue) : Type 0 where
   pub queue : new ≡ unlinked links q t
   pub threads : linked ≡ links_unlinked links t
@@ -142,15 +155,18 @@ pub record TakenOut (spots : List ℕ) (q : Queue) (t : ℕ) (stood : List ℕ) 
   pub same : IsPermutation q.heap.items (item ∷ new.heap.items)
   pub gone : IsAbsent new.heap.items t
 
+-- the task was taken out of the queue, by the sort of its rank
 abbrev pub Left : Rank → List Link → List ℕ → Queue → ℕ → List Link → List ℕ → Queue → Type 0
 Left Fifo links spots q t linked stood new = Unlinked links spots q t linked stood new
 Left (Vtime k) links spots q t linked stood new = TakenOut spots q t stood new × (linked ≡ links)
 
 -- ---- all of them
 
+-- an empty heap with room for all tasks that there are
 abbrev pub IsSpare : Entries → HeapState → Type 0
 IsSpare entries h = (h.items ≡ []) × (length entries ≤ h.room)
 
+-- the state that the fields of `Queues` stand for
 abbrev pub state_of : Inside → QueueState
 state_of i = record {
   room = length i.live.items + length i.spare.items;
@@ -159,9 +175,11 @@ state_of i = record {
   pushes = i.pushes;
 }
 
+-- what the fields of `Queues` stand for in contracts: the state and the arrays
 abbrev pub value_of : Inside → QueuesValue
 value_of i = record { state = state_of i; arrays = arrays_of i.live.items }
 
+-- what always holds of the fields of `Queues`
 pub record IsKept (i : Inside) : Type 0 where
   pub sound : IsSound (state_of i)
   pub live : All (Keeps i.entries.items i.links.items i.spots.items) i.live.items

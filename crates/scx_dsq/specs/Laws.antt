@@ -31,6 +31,7 @@ abbrev pub HasOwnStamps : QueueState → Type 0
 HasOwnStamps s =
     (t u : ℕ) (p q : Entry) → t ≢ u → entry_of s t ≡ Some p → entry_of s u ≡ Some q → p.stamp ≢ q.stamp
 
+-- all that holds of the queues after any calls
 pub record IsSound (s : QueueState) : Type 0 where
   pub queues : HasOneOfEach s
   pub homes : WaitsInAQueue s
@@ -40,6 +41,7 @@ pub record IsSound (s : QueueState) : Type 0 where
 
 -- ---- in how many queues a task waits
 
+-- 1 where it is so, else 0
 abbrev pub one_if : Bool → ℕ
 one_if b = if b then 1 else 0
 

@@ -7,12 +7,15 @@ use Rattle.scx_dsq.specs.declared.links.Link.{Link}
 use Rattle.scx_dsq.specs.declared.links.Ends.{Ends}
 use Rattle.scx_dsq.specs.Queues.{Entries, entry_at, is_in}
 
+-- a link with nobody ahead and nobody behind
 abbrev pub no_link : Link
 no_link = record { ahead = None; behind = None }
 
+-- the ends of an empty queue
 abbrev pub no_ends : Ends
 no_ends = record { first = None; last = None; count = 0 }
 
+-- the link of a task, by its number; nobody ahead or behind where there is none
 abbrev pub link_at : List Link → ℕ → Link
 link_at links t = slice_index_or links t no_link
 
@@ -28,6 +31,7 @@ abbrev pub with_behind : List Link → Option ℕ → Option ℕ → List Link
 with_behind links None behind = links
 with_behind links (Some t) behind = slice_set links t (record { ahead = (link_at links t).ahead; behind = behind })
 
+-- the first task, or the second where there is no first
 abbrev pub or_else : Option ℕ → Option ℕ → Option ℕ
 or_else None other = other
 or_else (Some t) other = Some t
@@ -41,6 +45,7 @@ instead (Some t) if_not if_so = if_so
 abbrev pub links_appended : List Link → Ends → ℕ → List Link
 links_appended links ends t = with_behind (slice_set links t (record { ahead = ends.last; behind = None })) ends.last (Some t)
 
+-- the ends of a queue with that task put at its end
 abbrev pub ends_appended : Ends → ℕ → Ends
 ends_appended ends t = record { first = instead ends.last (Some t) ends.first; last = Some t; count = ends.count + 1 }
 
@@ -49,6 +54,7 @@ abbrev pub links_unlinked : List Link → ℕ → List Link
 links_unlinked links t =
     with_behind (with_ahead links (link_at links t).behind (link_at links t).ahead) (link_at links t).ahead (link_at links t).behind
 
+-- the ends of a queue with that task taken out
 abbrev pub ends_unlinked : List Link → Ends → ℕ → Ends
 ends_unlinked links ends t = record {
   first = instead (link_at links t).ahead (link_at links t).behind ends.first;
@@ -62,14 +68,17 @@ ends_unlinked links ends t = record {
 abbrev pub In : Entries → ℕ → ℕ → Entry → Type 0
 In entries id t p = (entry_at entries t ≡ Some p) × (p.queue ≡ id)
 
+-- no task waits in the queue
 abbrev pub NobodyIsIn : Entries → ℕ → Type 0
 NobodyIsIn entries id = (t : ℕ) (p : Entry) → In entries id t p → ⊥
 
+-- the task waits in the queue, and none there has a lesser stamp
 pub record IsFirst (entries : Entries) (id t : ℕ) : Type 0 where
   pub entry : Entry
   pub waits : In entries id t entry
   pub first : (u : ℕ) (q : Entry) → In entries id u q → entry.stamp ≤ q.stamp
 
+-- the task waits in the queue, and none there has a greater stamp
 pub record IsLast (entries : Entries) (id t : ℕ) : Type 0 where
   pub entry : Entry
   pub waits : In entries id t entry

@@ -12,6 +12,7 @@ use Rattle.scx_dsq.specs.Entries.{is_before}
 abbrev pub Entries : Type 0
 Entries = List (Option Entry)
 
+-- the state of the queues: which there are, and who waits where
 pub record QueueState : Type 0 where
   pub room : ℕ  -- how many queues there may be
   pub ids : List ℕ  -- the queues that were created
@@ -22,6 +23,7 @@ pub record QueueState : Type 0 where
 abbrev pub task_count : QueueState → ℕ
 task_count s = length s.entries
 
+-- whether a queue of that id was created
 abbrev pub exists : QueueState → ℕ → Bool
 exists s id = list_any (λ other. other == id) s.ids
 
@@ -29,6 +31,7 @@ exists s id = list_any (λ other. other == id) s.ids
 abbrev pub entry_at : Entries → ℕ → Option Entry
 entry_at entries t = slice_index_or entries t None
 
+-- where a task waits; none where it waits nowhere
 abbrev pub entry_of : QueueState → ℕ → Option Entry
 entry_of s t = entry_at s.entries t
 
@@ -84,6 +87,7 @@ abbrev pub next_by : Rank → Entries → Entry → Option ℕ
 next_by Fifo entries p = position (is_right_behind entries p) entries
 next_by (Vtime key) entries p = None
 
+-- whom an entry in order of arrival has right behind it in its queue; none behind no entry
 abbrev pub right_behind : Entries → Option Entry → Option ℕ
 right_behind entries None = None
 right_behind entries (Some p) = next_by p.rank entries p

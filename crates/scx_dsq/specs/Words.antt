@@ -1,10 +1,12 @@
 -- A task's number, or none, as one word. No public clause cites it.
 use Rattle.std.proofs.Common.{◌≡◌, ℕ, zero, suc, ◌+◌, ◌-◌, ◌<◌, Option, Some, None, refl, arith}
 
+-- the task of a word, one below it; none of 0
 abbrev pub task_in : ℕ → Option ℕ
 task_in zero = None
 task_in (suc t) = Some t
 
+-- the word of a task, one above its number; 0 of none
 abbrev pub word_of : Option ℕ → ℕ
 word_of None = 0
 word_of (Some t) = suc t

@@ -7,6 +7,7 @@ use thiserror::Error;
 /// answered, and nothing has changed.
 #[derive(Clone, Copy, Debug, PartialEq, Eq, Error)]
 pub enum QueueError {
+    /// No queue of that id was created.
     #[error("no queue has this id")]
     NoSuchQueue,
     /// The task waits in some queue, or the queue exists.
