@@ -58,6 +58,7 @@ none_any test none (x ∷ xs) = rw (none x) (none_any test none xs)
 pub free_way : (groups : List Group) (used way : List ℕ) → has_quota groups ≡ false → list_any (λ g. is_used_up (quota_at groups g) (get_or used g 0)) way ≡ false
 free_way groups used way none = none_any (λ g. is_used_up (quota_at groups g) (get_or used g 0)) (λ g. ap (λ o. is_used_up o (get_or used g 0)) (free_of groups none g)) way
 
+-- where no group has a quota, no task is throttled
 pub none_throttled : (t : Hierarchy) (k : ℕ) → has_quota t.groups ≡ false → is_throttled t k ≡ false
 none_throttled t k none = free_way t.groups t.usages (path t.groups (home_of t k)) none
 
