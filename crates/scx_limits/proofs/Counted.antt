@@ -15,6 +15,7 @@ groups_after t [] = refl
 groups_after t (Ran k ∷ past) = groups_after t past
 groups_after t (Turned clock ∷ past) = groups_after t past
 
+-- uses change no task's group
 pub homes_after : (t : Hierarchy) (past : List Use) → (after t past).homes ≡ t.homes
 homes_after t [] = refl
 homes_after t (Ran k ∷ past) = homes_after t past

@@ -25,6 +25,7 @@ there t g e =
     absurd (both_ways (is_throttled_group t g) never e))
     (cases_lt g (length t.groups))
 
+-- a throttled task stays so, whoever runs for a ms
 pub uses_keep_throttled : UsesKeepThrottled
 uses_keep_throttled t k j e =
     any_grows (λ g. is_throttled_group t g) (λ g. is_throttled_group (with_use t j) g) still (path t.groups (home_of t k)) e
@@ -34,6 +35,7 @@ uses_keep_throttled t k j e =
         let more : usage_of (with_use t j) g ≡ usage_of t g + cond (lies_in t.groups (home_of t j) g) 1 0 = usage_used t j g (there t g was) in
         used_up_grows (quota_at t.groups g) (usage_of t g) (usage_of (with_use t j) g) (omega (arith, more)) was
 
+-- where no period of a throttled group begins
 pub clocks_keep_throttled : ClocksKeepThrottled
 clocks_keep_throttled t k clock none e =
     any_grows (λ g. is_throttled_group t g) (λ g. is_throttled_group (with_turn t clock) g) still (path t.groups (home_of t k)) e
@@ -44,6 +46,7 @@ clocks_keep_throttled t k clock none e =
         let same : usage_of (with_turn t clock) g ≡ usage_of t g = turned ∙ ap (λ b. cond b 0 (usage_of t g)) (none g was) in
         ap (λ n. is_used_up (quota_at t.groups g) n) same ∙ was
 
+-- a task that isn't throttled stays so, whatever the clock comes to show
 pub clocks_throttle_nobody : ClocksThrottleNobody
 clocks_throttle_nobody t k clock e =
     ⊎_elim

@@ -4,16 +4,19 @@ use Rattle.scx_weights.specs.Hierarchy.{Hierarchy}
 use Rattle.scx_weights.specs.Limits.{is_throttled, with_use, with_turn}
 use Rattle.scx_limits.specs.Uses.{Use, Ran, Turned}
 
+-- the tree, and on each processor the task that runs there, if one does
 pub record Machine : Type 0 where
   pub tree : Hierarchy
   pub cpus : List (Option ℕ)
 
+-- what happens on a machine
 pub data Step : Type 0 where
   Begin : ℕ → ℕ → Step  -- on that processor that task begins to run
   End : ℕ → Step  -- who runs there stops
   Tick : ℕ → Step  -- who runs there has run for a ms
   Turn : ℕ → Step  -- the clock comes to show so many ms
 
+-- the task that runs on a processor; none where there is no such processor
 abbrev pub running : Machine → ℕ → Option ℕ
 running m c = slice_index_or m.cpus c None
 
@@ -30,6 +33,7 @@ abbrev pub ticked : Option ℕ → Machine → ℕ → Machine
 ticked None m c = m
 ticked (Some k) m c = record { tree = with_use m.tree k; cpus = left (with_use m.tree k) k m.cpus c }
 
+-- the machine after a step
 abbrev pub stepped : Machine → Step → Machine
 stepped m (Begin c k) = record { tree = m.tree; cpus = slice_set m.cpus c (Some k) }
 stepped m (End c) = record { tree = m.tree; cpus = slice_set m.cpus c None }
@@ -48,6 +52,7 @@ abbrev pub run_of : Machine → List Step → Machine
 run_of m [] = m
 run_of m (s ∷ past) = stepped (run_of m past) s
 
+-- each of these steps, the latest first, is allowed where it is done
 abbrev pub are_allowed : Machine → List Step → Bool
 are_allowed m [] = true
 are_allowed m (s ∷ past) = is_allowed (run_of m past) s && are_allowed m past
@@ -57,12 +62,14 @@ abbrev pub ran_now : Option ℕ → List Use → List Use
 ran_now None past = past
 ran_now (Some k) past = Ran k ∷ past
 
+-- what happened to usages with a step too: a task ran for a ms, the clock turned, or nothing
 abbrev pub used_by : Machine → Step → List Use → List Use
 used_by m (Begin c k) past = past
 used_by m (End c) past = past
 used_by m (Tick c) past = ran_now (running m c) past
 used_by m (Turn clock) past = Turned clock ∷ past
 
+-- what these steps, the latest first, did to usages
 abbrev pub uses_of : Machine → List Step → List Use
 uses_of m [] = []
 uses_of m (s ∷ past) = used_by (run_of m past) s (uses_of m past)

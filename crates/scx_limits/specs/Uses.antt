@@ -4,6 +4,7 @@ use Rattle.std.specs.List.{count_by, take_while}
 use Rattle.scx_weights.specs.Hierarchy.{Hierarchy, lies_in, home_of}
 use Rattle.scx_weights.specs.Limits.{with_use, with_turn, begins_period}
 
+-- what happens to usages: a task runs for a ms, or the clock turns
 pub data Use : Type 0 where
   Ran : ℕ → Use  -- that task ran for a ms
   Turned : ℕ → Use  -- the clock came to show so many ms
