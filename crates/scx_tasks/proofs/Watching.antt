@@ -20,6 +20,7 @@ none_waits n t = go (cases_lt t n)
     go (inl l) = rw (get_or-replicate n t new_task no_task l) refl
     go (inr l) = rw (get_or_past (replicate n new_task) t no_task (rw (length-replicate n new_task) l)) refl
 
+-- a watch whose clocks are all the same is right of new tasks, of whom nobody waits
 pub none_watched : (w : Watch) (k n : ℕ) → w.oldest ≤ k → w.blocks ≡ replicate 32 k → AreWatched w (replicate n new_task)
 none_watched w k n l e = record {
   count = rw (e, length-replicate 32 k) refl;

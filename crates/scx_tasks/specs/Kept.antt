@@ -5,6 +5,7 @@ use Rattle.scx_tasks.specs.declared.watch.Watch.{Watch}
 use Rattle.scx_tasks.specs.declared.tasks.Tasks.TheInside.{Inside}
 use Rattle.scx_tasks.specs.Tasks.{no_task}
 
+-- the records that the fields of `Tasks` stand for, by the tasks' numbers
 abbrev pub records_of : Inside → List Task
 records_of x = x.records.items
 
@@ -27,6 +28,7 @@ lowered w t (Some n) = record {
   blocks = slice_set w.blocks (t / 32) (min (slice_index_or w.blocks (t / 32) 0) n);
 }
 
+-- what always holds of the fields of `Tasks`
 pub record IsKept (x : Inside) : Type 0 where
   pub few : length x.records.items ≤ 1024
   pub watched : AreWatched x.watch x.records.items

@@ -6,6 +6,7 @@ use Rattle.scx_tasks.specs.declared.task.Task.{Task}
 abbrev pub no_task : Task
 no_task = record { since = None; slice = 0; vtime = 0; prev_cpu = 0; run_ns = 0; builtin = 0 }
 
+-- the slice that a task has at the start, in ns: 20 ms
 abbrev pub default_slice : ℕ
 default_slice = 20000000
 
