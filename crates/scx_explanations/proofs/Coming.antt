@@ -28,6 +28,7 @@ known_at_refusal : (c : Context) (code : Code) (states : States) (slots : ℕ) (
 known_at_refusal c code states slots why slot program (inl h) flow first = ends_at_refusal c code states slots why slot program flow h.1.ends first
 known_at_refusal c code states slots why slot program (inr h) flow first = absurd (flows_faultless code h.0 h.1 flow h.2)
 
+-- The last slot that is looked at is the one that is refused for a check.
 pub listings_end : ListingsEndAtRefusals
 listings_end c program listing why slot fits h reason = known_at_refusal c program _ listing.pass.slots why slot fits h.known reason.0 reason.1
 
@@ -35,6 +36,7 @@ known_without_flow : (c : Context) (code : Code) (states : States) (slots : ℕ)
 known_without_flow c code states slots (inl h) none = absurd (none h.0)
 known_without_flow c code states slots (inr h) none = h.3
 
+-- Where the flow is refused, no slot is looked at.
 pub listings_need_flow : ListingsNeedFlow
 listings_need_flow c program listing fault slot h reason = known_without_flow c program _ listing.pass.slots h.known (λ flow. flows_faultless program fault slot flow reason)
 
@@ -46,5 +48,6 @@ known_whole : (c : Context) (code : Code) (states : States) (slots : ℕ) → Is
 known_whole c code states slots program (inl h) typed = ends_whole c code states slots program h.1.ends typed
 known_whole c code states slots program (inr h) typed = absurd (flows_faultless code h.0 h.1 typed.flows h.2)
 
+-- Of a program that is accepted all slots are looked at.
 pub listings_whole : ListingsAreWhole
 listings_whole c program listing fits h typed = known_whole c program _ listing.pass.slots fits h.known typed

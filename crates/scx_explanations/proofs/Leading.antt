@@ -10,9 +10,11 @@ use Rattle.scx_explanations.specs.declared.listing.Listing.{Listing}
 use Rattle.scx_explanations.specs.Listings.{known_at}
 use Rattle.scx_explanations.specs.Leading.{IsFirstFrom, AreFrom, jump_of, jump_from}
 
+-- a slot that is there is one slot alone
 pub same_slot : (s t : ℕ) → Some s ≡ Some t → s ≡ t
 same_slot s t e = cc
 
+-- a slot that isn't there is none
 pub no_slot : (t : ℕ) (o : Option ℕ) → o ≡ None → o ≡ Some t → ⊥
 no_slot t o e f = let bad : None ≡ Some t = sym e ∙ f in absurd (cc)
 
@@ -80,6 +82,7 @@ one_here jumps n slots to heads links within inside e h = record {
 
 -- ---- instructions
 
+-- a slot at which an instruction begins lies in the program
 pub at_within : (code : Code) (s : ℕ) (i : Insn) → at code s ≡ Some i → s < length code
 at_within [] s i e = let bad : None ≡ Some i = e in absurd (cc)
 at_within (x ∷ code) zero i e = omega arith

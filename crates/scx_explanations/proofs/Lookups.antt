@@ -9,9 +9,11 @@ use Rattle.scx_verify.specs.Pass.{states_of}
 pub read_state : (states : List (Option AbsState)) (s : ℕ) (o : Option AbsState) → s < length states → o ≡ slice_index_or states s o → states_of states s ≡ o
 read_state states s o lt e = sym (get_or_read states s o lt e None)
 
+-- an instruction that isn't there is none
 pub no_insn : (i : Insn) (o : Option Insn) → o ≡ None → o ≡ Some i → ⊥
 no_insn i o e f = let bad : None ≡ Some i = sym e ∙ f in absurd (cc)
 
+-- a state that isn't there is none
 pub no_state_there : (a : AbsState) (o : Option AbsState) → o ≡ None → o ≡ Some a → ⊥
 no_state_there a o e f = let bad : None ≡ Some a = sym e ∙ f in absurd (cc)
 

@@ -34,6 +34,7 @@ abbrev pub sent_by_jump : ℕ → Insn → Result Next Why → Option ℕ
 sent_by_jump s i (Err why) = None
 sent_by_jump s i (Ok next) = if is_some next.jump then apart (s + size i) (is_some next.on) (target_of s i) else None
 
+-- where control jumps from that instruction in that state; nowhere where either isn't there
 abbrev pub jump_of : Context → ℕ → Option Insn → Option AbsState → Option ℕ
 jump_of c s None a = None
 jump_of c s (Some i) None = None
@@ -53,6 +54,7 @@ IsFirstFrom jumps n t (Some s) = (n ≤ s) × (jumps s ≡ Some t) × ((r : ℕ)
 abbrev pub first_at : Jumps → ℕ → Option ℕ
 first_at j t = slice_index_or j.first.items t None
 
+-- what `Jumps::next` answers: the next slot that jumps where this one does; none past the last
 abbrev pub next_at : Jumps → ℕ → Option ℕ
 next_at j s = slice_index_or j.next.items s None
 
@@ -64,6 +66,7 @@ pub record AreFrom (jumps : ℕ → Option ℕ) (n slots : ℕ) (heads links : L
   pub first : (t : ℕ) → t < slots → IsFirstFrom jumps n t (slice_index_or heads t None)
   pub next : (s t : ℕ) → n ≤ s → t < slots → jumps s ≡ Some t → IsFirstFrom jumps (s + 1) t (slice_index_or links s None)
 
+-- these are the jumps of a listing from the n-th slot on
 abbrev pub AreJumpsFrom : Listing → ℕ → Jumps → Type 0
 AreJumpsFrom l n j = AreFrom (jump_from l) n (length l.code.items) j.first.items j.next.items
 

@@ -16,6 +16,7 @@ use Rattle.scx_semantics.specs.HostTables.{helper_at, parameters}
 use Rattle.scx_semantics.specs.Memory.{access_size}
 use Rattle.scx_explanations.specs.declared.named.Address.{Address}
 
+-- the register of an operand; none of an immediate
 abbrev pub register_in : Operand → Option Register
 register_in (operand.Immediate k) = None
 register_in (operand.Register r) = Some r
@@ -27,6 +28,7 @@ abbrev pub first_of : Operation → Register → Operand → Option Register
 first_of Move d x = register_in x
 first_of o d x = Some d
 
+-- the second register that an operation reads, that of its operand; a move reads no second one
 abbrev pub second_of : Operation → Operand → Option Register
 second_of Move x = None
 second_of o x = register_in x
@@ -42,6 +44,7 @@ first_read (insn.Store s r offset x) = Some r
 first_read (insn.JumpIf w k r x offset) = Some r
 first_read i = None
 
+-- of an instruction that is no call, the second register that it reads
 abbrev pub second_read : Insn → Option Register
 second_read (insn.Binary w o d x) = second_of o x
 second_read (insn.Store s r offset x) = register_in x
@@ -80,6 +83,7 @@ written (insn.LoadMapReference d k) = Some d
 written (insn.Load access d r offset) = Some d
 written i = None
 
+-- the register that a store stores; none of an immediate
 abbrev pub stored : Insn → Option Register
 stored (insn.Store s r offset x) = register_in x
 stored i = None

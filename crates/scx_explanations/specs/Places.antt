@@ -51,6 +51,7 @@ moved p s = record p { from = p.from +ℤ s.least; to = p.to +ℤ s.most; shift 
 
 -- ---- accesses
 
+-- the bytes that an address means whose register points to that place
 abbrev pub reach_from : Address → Place → Reach
 reach_from x p = record { place = moved p (one_distance x.offset); count = size_bytes x.size }
 
@@ -64,12 +65,14 @@ stack_bytes first n = record { place = stack_place first; count = n }
 
 -- ---- numbers that 128 bits have room to add
 
+-- both ends of the place are from -512 to 65535
 pub record IsNear (p : Place) : Type 0 where
   pub from_low : negsuc 511 ≤ℤ p.from
   pub from_high : p.from ≤ℤ pos 65535
   pub to_low : negsuc 511 ≤ℤ p.to
   pub to_high : p.to ≤ℤ pos 65535
 
+-- the least and the most of the distances are from -2^64 to 2^64 - 1
 pub record AreShort (s : Distances) : Type 0 where
   pub least_low : negsuc 18446744073709551615 ≤ℤ s.least
   pub least_high : s.least ≤ℤ pos 18446744073709551615

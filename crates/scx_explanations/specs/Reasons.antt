@@ -16,12 +16,14 @@ use Rattle.scx_explanations.specs.declared.reasons.BadCall.TheVariants as call
 use Rattle.scx_explanations.specs.declared.reasons.Reason.{Reason}
 use Rattle.scx_explanations.specs.declared.reasons.Reason.TheVariants as reason
 
+-- the fault of the flow that a reason is of
 abbrev pub flow_fault : BadFlow → FlowFault
 flow_fault (flow.Back to) = BackJump
 flow_fault (flow.OutOfProgram to slots) = OutOfProgram
 flow_fault (flow.IntoWide to) = IntoWide
 flow_fault flow.FallsOff = FallsOff
 
+-- the failed check that a reason about a value is of
 abbrev pub value_fault : BadValue → Why
 value_fault (value.Unusable r) = why.UnusableRegister
 value_fault value.Frame = why.WritesFrame
@@ -31,6 +33,7 @@ value_fault (value.Comparison r kind) = why.PointerCompare
 value_fault (value.Stored r kind) = why.PointerStore
 value_fault (value.Answer kind callback) = why.BadReturn
 
+-- the failed check that a reason about an access or a moved pointer is of
 abbrev pub access_fault : BadAccess → Why
 access_fault (access.Unwritten reach byte) = why.UnwrittenStack
 access_fault (access.PartOfPointer reach kind) = why.UnwrittenStack
@@ -39,11 +42,13 @@ access_fault (access.Outside reach) = why.OutOfBounds
 access_fault (access.MovedOut r place) = why.OutOfBounds
 access_fault (access.Misaligned reach) = why.Misaligned
 
+-- the failed check that a reason about a call is of
 abbrev pub call_fault : BadCall → Why
 call_fault (call.Unknown number) = why.UnknownHelper
 call_fault (call.NotHere number callback) = why.HelperNotHere
 call_fault (call.Argument number r kind parameter) = why.BadArgument
 
+-- the fault that a reason is of
 abbrev pub fault_of : Reason → Fault
 fault_of (reason.Flow b) = fault.Flow (flow_fault b)
 fault_of (reason.Value b) = fault.Rule (value_fault b)

@@ -59,15 +59,18 @@ use Rattle.scx_explanations.specs.Places.{place_of, distances_of, moved, reach_o
 
 -- ---- kinds
 
+-- whether it is known to be a number
 abbrev pub is_number : Kind → Bool
 is_number (Num r) = true
 is_number k = false
 
+-- whether it is known to be a pointer, null or not, or a reference to a map
 abbrev pub is_pointer : Kind → Bool
 is_pointer Unusable = false
 is_pointer (Num r) = false
 is_pointer k = true
 
+-- whether it is a pointer that may be null
 abbrev pub may_be_null : Kind → Bool
 may_be_null (ElemOrNull m) = true
 may_be_null TaskOrNull = true
@@ -90,6 +93,7 @@ is_taken parameter.Task TaskOrNull = true
 is_taken parameter.Number (Num r) = true
 is_taken p k = false
 
+-- the kind is of the sort that is looked for
 abbrev pub IsOf : Sort → Kind → Type 0
 IsOf sort.Unusable k = k ≡ Unusable
 IsOf sort.Pointer k = IsTrue (is_pointer k)
@@ -120,6 +124,7 @@ IsUnwritten a first n said = ⊥
 
 -- ---- of each sort of reason
 
+-- what is said of the target of a jump is so; falling off the end says nothing more
 abbrev pub IsFlowSaid : Code → ℕ → Insn → BadFlow → Type 0
 IsFlowSaid code s i (flow.Back to) = to ≡ pos (s + size i) +ℤ distance i
 IsFlowSaid code s i (flow.OutOfProgram to slots) = (to ≡ pos (s + size i) +ℤ distance i) × (slots ≡ length code)
@@ -132,6 +137,7 @@ pub record ReadsPointer (i : Insn) (a : AbsState) (r : Register) (k : Kind) : Ty
   pub holds : kind_at a (number r) ≡ k
   pub pointer : IsTrue (is_pointer k)
 
+-- what is said of a value that an instruction reads, writes, stores or answers is so
 abbrev pub IsValueSaid : Callback → Insn → AbsState → BadValue → Type 0
 IsValueSaid c i a (value.Unusable r) = Reads i r × (kind_at a (number r) ≡ Unusable)
 IsValueSaid c i a value.Frame = written i ≡ Some R10
@@ -175,6 +181,7 @@ pub record MovesTo (shapes : List Shape) (i : Insn) (a : AbsState) (r : Register
   pub far : distances_of a width operation operand ≡ Some distances
   pub place : to ≡ moved from distances
 
+-- what is said of the bytes that an instruction accesses or moves a pointer to is so
 abbrev pub IsAccessSaid : List Shape → Insn → AbsState → BadAccess → Type 0
 IsAccessSaid shapes i a (access.Unwritten reach byte) = IsOnStack shapes i a (access.Unwritten reach byte)
 IsAccessSaid shapes i a (access.PartOfPointer reach k) = IsOnStack shapes i a (access.PartOfPointer reach k)
@@ -196,14 +203,17 @@ pub record AccessesField (i : Insn) (a : AbsState) (f : Field) : Type 0 where
   pub accesses : AccessesTask i a offset bytes
   pub there : field_at (size_bytes bytes) (shifted 0 offset) ≡ Some f
 
+-- whether it loads with a sign
 abbrev pub has_sign : Insn → Bool
 has_sign (insn.Load x d r offset) = if is_plain x then false else true
 has_sign i = false
 
+-- whether it is a store
 abbrev pub is_store : Insn → Bool
 is_store (insn.Store s r offset x) = true
 is_store i = false
 
+-- what is said of the field of a task that an instruction accesses is so
 abbrev pub IsFieldSaid : Insn → AbsState → BadField → Type 0
 IsFieldSaid i a (field.Missing offset s) = AccessesTask i a offset s × (field_at (size_bytes s) (shifted 0 offset) ≡ None)
 IsFieldSaid i a (field.Signed f) = AccessesField i a f × IsTrue (has_sign i)

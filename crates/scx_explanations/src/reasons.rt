@@ -34,10 +34,15 @@ use std::alloc::{AllocError, Global};
 /// Why an instruction is refused, with this case's values.
 #[derive(Clone, Copy)]
 pub enum Reason {
+    /// Control would go where it may not.
     Flow(BadFlow),
+    /// A register's value isn't what the instruction needs.
     Value(BadValue),
+    /// Bytes may not be accessed, or a pointer not be moved there.
     Access(BadAccess),
+    /// A task is accessed otherwise than its fields may be.
     Field(BadField),
+    /// A helper may not be called, or not so.
     Call(BadCall),
     /// There is no map of that number among so many.
     UnknownMap { map: i32, maps: usize },
@@ -52,15 +57,18 @@ pub enum BadFlow {
     OutOfProgram { to: i128, slots: usize },
     /// A jump goes to that slot, which is a second half.
     IntoWide(i128),
+    /// Control goes on past the last instruction.
     FallsOff,
 }
 
 /// What is wrong with what a register holds, or with what is done with it.
 #[derive(Clone, Copy)]
 pub enum BadValue {
+    /// It is read, and nothing is known of its value.
     Unusable(Register),
     /// r10 is written.
     Frame,
+    /// It is used as a pointer before it was tested for null.
     MayBeNull(Register),
     /// A pointer that is computed with.
     Arithmetic(Register, Kind),
@@ -81,9 +89,11 @@ pub enum BadAccess {
     PartOfPointer { reach: Reach, kind: Kind },
     /// What the register holds is no pointer to memory.
     NoPointer(Register, Kind),
+    /// They lie, or may lie, outside their memory.
     Outside(Reach),
     /// There a pointer would lie outside of its memory.
     MovedOut { register: Register, place: Place },
+    /// They begin, or may begin, at no multiple of how many they are.
     Misaligned(Reach),
 }
 
@@ -101,11 +111,14 @@ pub enum BadField {
 /// What is wrong with the call of the helper of a number.
 #[derive(Clone, Copy)]
 pub enum BadCall {
+    /// No helper has the number.
     Unknown(i32),
+    /// It may not be called in this callback.
     NotHere {
         number: i32,
         callback: Callback,
     },
+    /// The register holds something else than the helper takes in it.
     Argument {
         number: i32,
         register: Register,
