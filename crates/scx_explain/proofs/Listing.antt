@@ -8,9 +8,11 @@ use Rattle.scx_explain.specs.declared.explained.Explained.{Explained}
 use Rattle.scx_explain.specs.Explained.{first_line}
 use Rattle.scx_explain.specs.Listed.{Grows, IsListed, IsListedBehind}
 
+-- known bytes grow by no bytes
 pub grown_by_none : (known : Option (List ℕ)) → Grows known known
 grown_by_none known = ([], grows_by_none known [])
 
+-- what has grown by some bytes and then by others has grown
 pub grown_more : (a b c : Option (List ℕ)) (bytes : List ℕ) → Grows a b → Appends b c bytes → Grows a c
 grown_more a b c bytes (before, grown) more = (before ++ bytes, grows_twice a b c before bytes grown more)
 

@@ -17,6 +17,7 @@ abbrev pub IsExplanation : Verdict → Option Explanation → Type 0
 IsExplanation (Accepted count) explanation = explanation ≡ None
 IsExplanation (Refused fault slot) explanation = IfSome explanation (λ e. (e.slot ≡ slot) × (fault_of e.reason ≡ fault))
 
+-- a program's explanation is of its verdict: none of an accepted one
 abbrev pub IsExplained : Explained → Type 0
 IsExplained explained = IsExplanation explained.verdict explained.explanation
 
