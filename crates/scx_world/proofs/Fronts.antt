@@ -32,6 +32,7 @@ pub record IsBehind (s : QueueState) (q t u : ℕ) : Type 0 where
 same_entry : (a b : Entry) → Some a ≡ Some b → a ≡ b
 same_entry a b e = cc
 
+-- whoever is right behind a task is in the same queue, and another task
 pub behind_in : (s : QueueState) (q t u : ℕ) → queue_of s t ≡ Some q → behind_of s t ≡ Some u → IsBehind s q t u
 unfolding behind_of
 behind_in s q t u here e = go (entry_of s t) refl here e
@@ -60,10 +61,12 @@ abbrev pub AtParked : QueueState → Option ℕ → Type 0
 AtParked s None = Unit {0}
 AtParked s (Some t) = queue_of s t ≡ Some parked
 
+-- the front of the queue of parked tasks, if there is one, is parked
 pub at_front : (s : QueueState) (o : Option ℕ) → front_of s parked ≡ o → AtParked s o
 at_front s None e = tt
 at_front s (Some t) e = front_in s parked t e
 
+-- whoever is right behind a parked task, if anyone, is parked
 pub at_behind : (s : QueueState) (t : ℕ) (o : Option ℕ) → queue_of s t ≡ Some parked → behind_of s t ≡ o → AtParked s o
 at_behind s t None here e = tt
 at_behind s t (Some u) here e = (behind_in s parked t u here e).there

@@ -57,6 +57,7 @@ parked_without s t u e = go (set_either s.entries t u None) e
 abbrev IsKnown : Bool → QueueState → Hierarchy → Type 0
 IsKnown known queues tree = known ≡ true → AreThrottled queues tree
 
+-- if it is known that the parked are throttled, it stays so after a push to another queue
 pub known_pushed : (known : Bool) (s : QueueState) (tree : Hierarchy) (q t : ℕ) (r : Rank) → (q ≡ parked → ⊥) → (known ≡ true → AreThrottled s tree) → known ≡ true → AreThrottled (pushed s q t r) tree
 known_pushed known s tree q t r apart h k u e = h k u (parked_pushed s q t u r apart e)
 
@@ -72,6 +73,7 @@ known_parked known s tree t now h k u e = go (cases_eq u t)
     go (inl x) = ap (λ j. is_throttled tree j) x ∙ now
     go (inr d) = h k u (other (is_none (push_refusal s parked t Fifo)) d e)
 
+-- if it is known that the parked are throttled, it stays so after a task has left its queue
 pub known_removed : (known : Bool) (s : QueueState) (tree : Hierarchy) (t : ℕ) → (known ≡ true → AreThrottled s tree) → known ≡ true → AreThrottled (removed s t) tree
 known_removed known s tree t h k u e = h k u (go (is_some (entry_of s t)) e)
   where
@@ -79,6 +81,7 @@ known_removed known s tree t h k u e = h k u (go (is_some (entry_of s t)) e)
     go true y = parked_without s t u y
     go false y = y
 
+-- if it is known that the parked are throttled, it stays so after a front has left its queue
 pub known_popped : (known : Bool) (s : QueueState) (tree : Hierarchy) (q : ℕ) → (known ≡ true → AreThrottled s tree) → known ≡ true → AreThrottled (popped s q) tree
 known_popped known s tree q h k u e = h k u (go (front_of s q) e)
   where
@@ -86,6 +89,7 @@ known_popped known s tree q h k u e = h k u (go (front_of s q) e)
     go None y = y
     go (Some t) y = parked_without s t u y
 
+-- if it is known that the parked are throttled, it stays so after a queue was created
 pub known_created : (known : Bool) (s : QueueState) (tree : Hierarchy) (q : ℕ) → (known ≡ true → AreThrottled s tree) → known ≡ true → AreThrottled (created s q) tree
 known_created known s tree q h k u e = h k u (go (is_none (create_refusal s q)) e)
   where
@@ -99,6 +103,7 @@ known_created known s tree q h k u e = h k u (go (is_none (create_refusal s q)) 
 pub known_active : (known : Bool) (s : QueueState) (tree : Hierarchy) (t : ℕ) (on : Bool) → (known ≡ true → AreThrottled s tree) → known ≡ true → AreThrottled s (with_task tree t on)
 known_active known s tree t on h k u e = h k u e
 
+-- if it is known that the parked are throttled, it stays so after groups have used more time
 pub known_used : (known : Bool) (s : QueueState) (tree : Hierarchy) (t : ℕ) → (known ≡ true → AreThrottled s tree) → known ≡ true → AreThrottled s (with_use tree t)
 known_used known s tree t h k u e = uses_keep_throttled tree u t (h k u e)
 
@@ -114,6 +119,7 @@ known_turned known s tree clock none h k u e = clocks_keep_throttled tree u cloc
 none_past : (s : QueueState) (t : ℕ) → task_count s ≤ t → queue_of s t ≡ Some parked → ⊥
 none_past s t past e = let none : None ≡ Some parked = sym (ap (λ (o : Option Entry). option_map (λ p. p.queue) o) (get_or_past s.entries t None past)) ∙ e in absurd (cc)
 
+-- where all who are parked are throttled, nobody who is parked may run
 pub none_free : (w : WorldState) → task_count w.queues ≡ length w.tasks → AreThrottled w.queues w.tree → NobodyIsFree w
 none_free w same h t e = go (cases_lt t (length w.tasks))
   where
@@ -121,6 +127,7 @@ none_free w same h t e = go (cases_lt t (length w.tasks))
     go (inl l) = ap (λ b. b && is_throttled w.tree t) (lt-ltb t (length w.tasks) l) ∙ h t e
     go (inr past) = absurd (none_past w.queues t (omega (arith, same, past)) e)
 
+-- where each task may not run if it is parked, all who are parked are throttled
 pub all_looked_at : (w : WorldState) → task_count w.queues ≡ length w.tasks
     → ((t : ℕ) → t < length w.tasks → StaysParked w t) → AreThrottled w.queues w.tree
 all_looked_at w same h t e = go (cases_lt t (length w.tasks))

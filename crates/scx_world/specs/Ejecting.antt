@@ -63,9 +63,11 @@ abbrev pub evicted : ℕ → WorldState → WorldState
 evicted zero w = w
 evicted (suc n) w = evict (evicted n w) n
 
+-- what is noted of a task that goes over: its insert into the built-in queue; of any other nothing
 abbrev pub evict_note : WorldState → ℕ → List Note
 evict_note w t = if waits w t then said w (note.Insert t builtin) ∷ [] else []
 
+-- what is noted as the first so many tasks go over, by number
 abbrev pub evict_notes : ℕ → WorldState → List Note
 evict_notes zero w = []
 evict_notes (suc n) w = evict_notes n w ++ evict_note (evicted n w) n
@@ -80,6 +82,7 @@ abbrev pub cut : ℕ → WorldState → WorldState
 cut zero w = w
 cut (suc n) w = let v = cut n w in cut_task (running v n) v
 
+-- what is noted of an ejection: the task that waited too long, or the fault, without the clock
 abbrev pub eject_note : Eject → What
 eject_note (cause.Stall t clock) = note.Stall t
 eject_note (cause.Fault fault clock) = note.Fault fault

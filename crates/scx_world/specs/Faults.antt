@@ -3,6 +3,7 @@ use Rattle.std.specs.Prelude.{ℕ}
 use Rattle.scx_world.specs.declared.faults.Fault.{Fault}
 use Rattle.scx_world.specs.declared.faults.Fault.TheVariants.{Stuck, NoSuchQueue, CannotInsert, Mixed, BuiltinVtime, NoSuchCpu, UnknownFlag, CannotCreate}
 
+-- the number of a fault, by which traces and reports name it
 abbrev pub code_of : Fault → ℕ
 code_of Stuck = 0
 code_of NoSuchQueue = 1

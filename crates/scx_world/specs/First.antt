@@ -16,9 +16,11 @@ with_locals (suc n) s = created (with_locals n s) (local_on n)
 abbrev pub own_queues : ℕ → ℕ → QueueState
 own_queues cpus tasks = created (created (created (created (empty (20 + cpus) tasks) global) held) builtin) parked
 
+-- the queues at the start, for so many processors and tasks: the machine's own alone, all empty
 abbrev pub first_queues : ℕ → ℕ → QueueState
 first_queues cpus tasks = with_locals cpus (own_queues cpus tasks)
 
+-- the world at the start, over a tree of groups and tasks and with so many processors
 abbrev pub first_world : Hierarchy → ℕ → WorldState
 first_world tree cpus = record {
   clock = 0;

@@ -1,6 +1,7 @@
 -- Ids of queues (sched-ext.rst, "Dispatch Queues"). A policy's own are below the end.
 use Rattle.std.specs.Prelude.{ℕ, ◌+◌}
 
+-- the ids of a policy's own queues are below this
 abbrev pub policy_end : ℕ
 policy_end = 0x8000_0000_0000_0000
 
@@ -16,6 +17,7 @@ local = 0x8000_0000_0000_0002
 abbrev pub held : ℕ
 held = 0x8000_0000_0000_0003
 
+-- the machine's own: of the tasks that wait for the built-in scheduler, by virtual time
 abbrev pub builtin : ℕ
 builtin = 0x8000_0000_0000_0004
 

@@ -9,6 +9,7 @@ use Rattle.scx_world.specs.Ids.{parked}
 use Rattle.scx_world.specs.declared.world.World.TheInside.{Inside}
 use Rattle.scx_world.specs.World.{WorldState, is_idle, is_throttled}
 
+-- the state for which a world's fields stand, without what is kept beside to find answers sooner
 abbrev pub state_of : Inside → WorldState
 state_of w = record { clock = w.clock; tasks = w.tasks; cpus = w.cpus.items; cycling = w.cycling; queues = w.queues.state; tree = w.tree; call = w.call; builtin_clock = w.builtin_clock; ejected = w.ejected; notes = w.notes.items }
 

@@ -15,18 +15,23 @@ use Rattle.scx_world.specs.World.{WorldState, with_clock, with_queues, with_tree
 
 -- ---- one field of a task changed
 
+-- the record of a task that waits since that clock, or doesn't wait
 abbrev pub with_since : Task → Option ℕ → Task
 with_since x o = record { since = o; slice = x.slice; vtime = x.vtime; prev_cpu = x.prev_cpu; run_ns = x.run_ns; builtin = x.builtin }
 
+-- the record of a task with that much left of its slice, in nanoseconds
 abbrev pub with_slice : Task → ℕ → Task
 with_slice x n = record { since = x.since; slice = n; vtime = x.vtime; prev_cpu = x.prev_cpu; run_ns = x.run_ns; builtin = x.builtin }
 
+-- the record of a task with that virtual time, as programs see it
 abbrev pub with_vtime : Task → ℕ → Task
 with_vtime x n = record { since = x.since; slice = x.slice; vtime = n; prev_cpu = x.prev_cpu; run_ns = x.run_ns; builtin = x.builtin }
 
+-- the record of a task that ran last on that processor
 abbrev pub with_prev_cpu : Task → ℕ → Task
 with_prev_cpu x n = record { since = x.since; slice = x.slice; vtime = x.vtime; prev_cpu = n; run_ns = x.run_ns; builtin = x.builtin }
 
+-- the record of a task with that virtual time under the built-in scheduler
 abbrev pub with_builtin : Task → ℕ → Task
 with_builtin x n = record { since = x.since; slice = x.slice; vtime = x.vtime; prev_cpu = x.prev_cpu; run_ns = x.run_ns; builtin = n }
 
@@ -67,6 +72,7 @@ entered w t i = if nat_lt t (length w.tasks) then with_queues (with_task w t (gi
 abbrev pub resolved : ℕ → ℕ → ℕ
 resolved c q = if q == local then local_on c else q
 
+-- the same insert, where LOCAL is the local queue of that processor
 abbrev pub for_cpu : ℕ → Insert → Insert
 for_cpu c i = record { queue = resolved c i.queue; slice = i.slice; rank = i.rank }
 
@@ -80,6 +86,7 @@ to_global = record { queue = global; slice = default_slice; rank = Fifo }
 
 -- ---- local queues
 
+-- how many tasks wait in the local queue of a processor
 abbrev pub local_len : WorldState → ℕ → ℕ
 local_len w c = len_of w.queues (local_on c)
 
@@ -92,6 +99,7 @@ brought (Some t) w q c = with_queues w (pushed (popped w.queues q) (local_on c) 
 abbrev pub fill_front : WorldState → ℕ → ℕ → Option ℕ
 fill_front w q c = if nat_lt 0 (local_len w c) then None else front_of w.queues q
 
+-- the front of a queue goes to a local queue that is empty; else nothing is changed
 abbrev pub filled : WorldState → ℕ → ℕ → WorldState
 filled w q c = brought (fill_front w q c) w q c
 
@@ -105,6 +113,7 @@ stopped w c t = with_cpu (with_task w t (with_since (task_at w t) (Some w.clock)
 abbrev pub on_cpu : Task → ℕ → Task
 on_cpu x c = with_since (with_prev_cpu x c) None
 
+-- that task, the front of the local queue, leaves it and runs on the processor; or none does
 abbrev pub started_at : Option ℕ → WorldState → ℕ → WorldState
 started_at None w c = w
 started_at (Some t) w c = with_cpu (with_task (with_queues w (popped w.queues (local_on c))) t (on_cpu (task_at w t) c)) c (Some t)
@@ -113,6 +122,7 @@ started_at (Some t) w c = with_cpu (with_task (with_queues w (popped w.queues (l
 abbrev pub started : WorldState → ℕ → WorldState
 started w c = started_at (front_of w.queues (local_on c)) w c
 
+-- the record of a task that keeps its processor: one whose slice has run out gets a new one
 abbrev pub renewed : Task → Task
 renewed x = if x.slice == 0 then with_slice x default_slice else x
 
@@ -137,6 +147,7 @@ let_go w t = gone (with_task w t (with_since (task_at w t) (Some w.clock))) t
 
 -- ---- time and weights
 
+-- how long a task runs in one tick, in nanoseconds: a millisecond
 abbrev pub tick_ns : ℕ
 tick_ns = 1000000
 
@@ -144,12 +155,15 @@ tick_ns = 1000000
 abbrev pub counted_down : ℕ → ℕ
 counted_down n = if n == 0xffff_ffff_ffff_ffff then n else n - tick_ns
 
+-- the record of a task that has run for one more tick
 abbrev pub ran_a_tick : Task → Task
 ran_a_tick x = record { since = x.since; slice = counted_down x.slice; vtime = x.vtime; prev_cpu = x.prev_cpu; run_ns = x.run_ns + tick_ns; builtin = x.builtin }
 
+-- a task has run for one more tick
 abbrev pub ticked : WorldState → ℕ → WorldState
 ticked w t = with_task w t (ran_a_tick (task_at w t))
 
+-- the clock is a millisecond later
 abbrev pub later : WorldState → WorldState
 later w = with_clock w (w.clock + 1)
 

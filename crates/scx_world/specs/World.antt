@@ -14,6 +14,7 @@ use Rattle.scx_tasks.specs.Waits.{time_since}
 use Rattle.scx_world.specs.declared.call.Call.{Call}
 use Rattle.scx_world.specs.declared.eject.Eject.{Eject}
 
+-- what a world is at one time, with tasks and processors by number and the clock in milliseconds
 pub record WorldState : Type 0 where
   pub clock : ℕ
   pub tasks : List Task
@@ -28,38 +29,49 @@ pub record WorldState : Type 0 where
 
 -- ---- one part changed
 
+-- the world at that clock, in milliseconds
 abbrev pub with_clock : WorldState → ℕ → WorldState
 with_clock w x = record { clock = x; tasks = w.tasks; cpus = w.cpus; cycling = w.cycling; queues = w.queues; tree = w.tree; call = w.call; builtin_clock = w.builtin_clock; ejected = w.ejected; notes = w.notes }
 
+-- the world with these records of tasks
 abbrev pub with_tasks : WorldState → List Task → WorldState
 with_tasks w x = record { clock = w.clock; tasks = x; cpus = w.cpus; cycling = w.cycling; queues = w.queues; tree = w.tree; call = w.call; builtin_clock = w.builtin_clock; ejected = w.ejected; notes = w.notes }
 
+-- the world with these tasks, or none, on its processors
 abbrev pub with_cpus : WorldState → List (Option ℕ) → WorldState
 with_cpus w x = record { clock = w.clock; tasks = w.tasks; cpus = x; cycling = w.cycling; queues = w.queues; tree = w.tree; call = w.call; builtin_clock = w.builtin_clock; ejected = w.ejected; notes = w.notes }
 
+-- the world with a scheduling cycle under way on that processor, or with none
 abbrev pub with_cycling : WorldState → Option ℕ → WorldState
 with_cycling w x = record { clock = w.clock; tasks = w.tasks; cpus = w.cpus; cycling = x; queues = w.queues; tree = w.tree; call = w.call; builtin_clock = w.builtin_clock; ejected = w.ejected; notes = w.notes }
 
+-- the world with these dispatch queues
 abbrev pub with_queues : WorldState → QueueState → WorldState
 with_queues w x = record { clock = w.clock; tasks = w.tasks; cpus = w.cpus; cycling = w.cycling; queues = x; tree = w.tree; call = w.call; builtin_clock = w.builtin_clock; ejected = w.ejected; notes = w.notes }
 
+-- the world with these groups, weights and active tasks
 abbrev pub with_tree : WorldState → Hierarchy → WorldState
 with_tree w x = record { clock = w.clock; tasks = w.tasks; cpus = w.cpus; cycling = w.cycling; queues = w.queues; tree = x; call = w.call; builtin_clock = w.builtin_clock; ejected = w.ejected; notes = w.notes }
 
+-- the world with that callback at hand, and what it did so far
 abbrev pub with_call : WorldState → Call → WorldState
 with_call w x = record { clock = w.clock; tasks = w.tasks; cpus = w.cpus; cycling = w.cycling; queues = w.queues; tree = w.tree; call = x; builtin_clock = w.builtin_clock; ejected = w.ejected; notes = w.notes }
 
+-- the world with these notes of the callback at hand
 abbrev pub with_notes : WorldState → List Note → WorldState
 with_notes w x = record { clock = w.clock; tasks = w.tasks; cpus = w.cpus; cycling = w.cycling; queues = w.queues; tree = w.tree; call = w.call; builtin_clock = w.builtin_clock; ejected = w.ejected; notes = x }
 
+-- the world with that virtual time of the built-in scheduler
 abbrev pub with_builtin_clock : WorldState → ℕ → WorldState
 with_builtin_clock w x = record { clock = w.clock; tasks = w.tasks; cpus = w.cpus; cycling = w.cycling; queues = w.queues; tree = w.tree; call = w.call; builtin_clock = x; ejected = w.ejected; notes = w.notes }
 
+-- the world with that ejection of its policy, or with the policy in force
 abbrev pub with_ejected : WorldState → Option Eject → WorldState
 with_ejected w x = record { clock = w.clock; tasks = w.tasks; cpus = w.cpus; cycling = w.cycling; queues = w.queues; tree = w.tree; call = w.call; builtin_clock = w.builtin_clock; ejected = x; notes = w.notes }
 
 -- ---- tasks and processors
 
+-- the record of a task; where there is no such task all is 0, and it doesn't wait
 abbrev pub task_at : WorldState → ℕ → Task
 task_at w t = slice_index_or w.tasks t no_task
 
@@ -67,6 +79,7 @@ task_at w t = slice_index_or w.tasks t no_task
 abbrev pub with_task : WorldState → ℕ → Task → WorldState
 with_task w t x = with_tasks w (slice_set w.tasks t x)
 
+-- whether a task has work to do, as it has from a wake on until it sleeps
 abbrev pub is_runnable : WorldState → ℕ → Bool
 is_runnable w t = is_active_task w.tree t
 
@@ -92,9 +105,11 @@ wait w t = time_since w.clock (task_at w t).since
 abbrev pub running : WorldState → ℕ → Option ℕ
 running w c = slice_index_or w.cpus c None
 
+-- a processor runs that task, or none; where there is no such processor nothing is changed
 abbrev pub with_cpu : WorldState → ℕ → Option ℕ → WorldState
 with_cpu w c o = with_cpus w (slice_set w.cpus c o)
 
+-- whether a task or a processor is the given one; false where none is given
 abbrev pub is_this : ℕ → Option ℕ → Bool
 is_this t None = false
 is_this t (Some u) = t == u
@@ -107,9 +122,11 @@ cpu_of w t = position (is_this t) w.cpus
 abbrev pub is_idle : WorldState → ℕ → Bool
 is_idle w c = nat_lt c (length w.cpus) && is_none (running w c) && not (is_this c w.cycling)
 
+-- a processor where the test holds, else none
 abbrev pub this_if : Bool → ℕ → Option ℕ
 this_if b c = if b then Some c else None
 
+-- the first of two processors, where the first one, or either, may be missing
 abbrev pub or_this : Option ℕ → Option ℕ → Option ℕ
 or_this None o = o
 or_this (Some c) o = Some c
@@ -119,9 +136,11 @@ abbrev pub idle_below : ℕ → WorldState → Option ℕ
 idle_below zero w = None
 idle_below (suc n) w = or_this (idle_below n w) (this_if (is_idle w n) n)
 
+-- the lowest processor that is idle, if one is
 abbrev pub first_idle : WorldState → Option ℕ
 first_idle w = idle_below (length w.cpus) w
 
+-- a processor, and where it is missing that other one
 abbrev pub or_else : Option ℕ → ℕ → ℕ
 or_else None d = d
 or_else (Some c) d = c
@@ -134,9 +153,11 @@ default_choice w t =
 
 -- ---- the callback at hand
 
+-- what is at hand before the first callback
 abbrev pub no_call : Call
 no_call = record { callback = callback.Plain; task = 0; cpu = 0; insert = None; has_moved = false; fault = None }
 
+-- no notes of a callback are left
 abbrev pub quiet : WorldState → WorldState
 quiet w = with_notes w []
 
@@ -148,5 +169,6 @@ begun w b t c = with_call (quiet w) (record { callback = b; task = t; cpu = c; i
 abbrev pub said : WorldState → What → Note
 said w x = record { clock = w.clock; what = x }
 
+-- the callback at hand has noted one thing more, at this clock
 abbrev pub noted : WorldState → What → WorldState
 noted w x = with_notes w (w.notes ++ said w x ∷ [])

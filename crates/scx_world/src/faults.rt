@@ -16,6 +16,7 @@ pub enum Fault {
     BuiltinVtime,
     /// A processor that isn't there, or its local queue.
     NoSuchCpu,
+    /// An insert has flags that are greater than 1.
     UnknownFlag,
     /// The id is no policy's, a queue has it, or there is no room for another.
     CannotCreate,
