@@ -64,6 +64,7 @@ free_tasks w none t = go (ltb t (length w.tasks))
     go true = none_throttled w.tree t none
     go false = refl
 
+-- where no group has a quota, a local queue is supplied by one fill from the global queue
 pub supply_free : (s : State) (c : ℕ) → has_quota s.world.tree.groups ≡ false → supply s c ≡ fill s global c
 unfolding supply clear fill
 supply_free s c none = go (in_reach s c) refl

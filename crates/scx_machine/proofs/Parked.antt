@@ -33,16 +33,19 @@ pub ruleset park_fronts_steps = (fronts_none, fronts_last, fronts_more)
 
 -- ---- fronts of a local queue, which is filled
 
+-- with no round left, nothing more of a local queue is filled or parked
 pub clear_none : (n c : ℕ) (s : State) → n ≡ 0 → clear n s c ≡ stays s
 unfolding clear
 clear_none zero c s e = refl
 clear_none (suc n) c s e = absurd (omega (arith, e))
 
+-- once a fill leaves no front that may not run, no round is needed any more
 pub clear_last : (n c : ℕ) (s : State) → 0 < n → throttled_front (fill s global c).state (local_on c) ≡ None → clear n s c ≡ joined (fill s global c) (stays (fill s global c).state)
 unfolding clear
 clear_last zero c s l e = absurd (omega (arith, l))
 clear_last (suc n) c s l e = rw e refl
 
+-- a front that may not run after a fill is parked, and one round less is left
 pub clear_more : (n c t : ℕ) (s : State) → 0 < n → throttled_front (fill s global c).state (local_on c) ≡ Some t
     → clear n s c ≡ joined (fill s global c) (joined (park_front (fill s global c).state (local_on c) t) (clear (n - 1) (park_front (fill s global c).state (local_on c) t).state c))
 unfolding clear
@@ -53,11 +56,13 @@ pub ruleset clear_steps = (clear_none, clear_last, clear_more)
 
 -- ---- the parked
 
+-- with no task left to look at, nobody is let go
 pub go_none : (n : ℕ) (s : State) (o : Option ℕ) → n ≡ 0 → let_go_from n s o ≡ stays s
 unfolding let_go_from
 go_none zero s o e = refl
 go_none (suc n) s o e = absurd (omega (arith, e))
 
+-- behind the last of the parked, nobody is let go
 pub go_nobody : (n : ℕ) (s : State) (o : Option ℕ) → o ≡ None → let_go_from n s o ≡ stays s
 unfolding let_go_from
 go_nobody zero s o e = refl

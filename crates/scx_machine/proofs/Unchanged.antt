@@ -144,6 +144,7 @@ left_as : (s u : State) → u.world.ejected ≡ s.world.ejected → eject_left u
 unfolding eject_left
 left_as s u e = ap (λ (o : Option Eject). cond (is_some o) 0 eject_pushes) e
 
+-- the pushes that an ejection may still make are no more than one for each task there can be
 pub left_few : (s : State) → eject_left s ≤ eject_pushes
 unfolding eject_left
 left_few s = go (is_ejected s)

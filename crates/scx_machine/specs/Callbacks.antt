@@ -53,6 +53,7 @@ fault_of b e = or_fault e.outside.call.fault (end_fault b e.outside e.answer)
 
 -- ---- a callback of the policy
 
+-- a program of the policy, or none once the policy is ejected
 abbrev pub unless_ejected : Option Eject → Option VerifiedProgram → Option VerifiedProgram
 unless_ejected None p = p
 unless_ejected (Some x) p = None
@@ -96,9 +97,11 @@ AreAnswered (c ∷ cs) = IsAnswered c × AreAnswered cs
 
 -- ---- what callbacks are given
 
+-- nothing in r1 to r3, as init is given
 abbrev pub no_arguments : Args
 no_arguments = record { first = Unset; second = Unset; third = Unset }
 
+-- a task in r1 and nothing else, as enable and running are given
 abbrev pub one_task : ℕ → Args
 one_task t = record { first = pointed t; second = Unset; third = Unset }
 
@@ -110,6 +113,7 @@ task_cpu_and_0 t c = record { first = pointed t; second = Num c; third = Num 0 }
 abbrev pub task_and_number : ℕ → ℕ → Args
 task_and_number t n = record { first = pointed t; second = Num n; third = Unset }
 
+-- a pointer to a task, or the number 0 where there is no task
 abbrev pub task_or_0 : Option ℕ → Arg
 task_or_0 None = Num 0
 task_or_0 (Some t) = pointed t

@@ -15,6 +15,7 @@ use Rattle.scx_machine.specs.Put.{put}
 use Rattle.scx_machine.specs.Filling.{fill}
 use Rattle.scx_machine.specs.Parking.{park_fronts, supply}
 
+-- whether a task waits in the local queue of the processor
 abbrev pub has_local : State → ℕ → Bool
 has_local s c = not (local_len s.world c == 0)
 
@@ -26,6 +27,7 @@ dispatched s c p =
     let r = call_back s callback.Dispatch (cpu_and_task c p) 0 c in
     joined r (supply r.state c)
 
+-- whether dispatch is asked again: nobody is in the local queue, but the last call moved a task
 abbrev pub asks_again : State → ℕ → Bool
 asks_again s c = (local_len s.world c == 0) && s.world.call.has_moved
 
@@ -54,6 +56,7 @@ leave s c (Some t) =
     let r = stopping (with_world s (stopped s.world c t)) c t 1 in
     after (said s.world (Stop t c) ∷ []) (joined r (put r.state t c 0))
 
+-- that task, the front of the local queue, leaves it and runs; without one nothing is done
 abbrev pub started_if : Option ℕ → State → ℕ → Stepped
 started_if None s c = stays s
 started_if (Some t) s c = after (said s.world (Run t c) ∷ []) (running_on (with_world s (started_at (Some t) s.world c)) c t)
@@ -64,6 +67,7 @@ start s c = started_if (front_of s.world.queues (local_on c)) s c
 
 -- ---- rest
 
+-- what is noted where nobody comes: idle, if none may stay and one ran as the event began
 abbrev pub idle_note : WorldState → Option ℕ → Bool → ℕ → List Note
 idle_note w None true c = said w (Idle c) ∷ []
 idle_note w None false c = []
@@ -79,6 +83,7 @@ rest s c p ran = record { state = with_world s (kept s.world p); notes = idle_no
 unfoldable pub swap : State → ℕ → Option ℕ → Stepped
 swap s c p = let l = leave s c p in joined l (start l.state c)
 
+-- the front of the local queue runs; where there is none, the task before stays or nobody runs
 unfoldable pub swap_or_rest : State → ℕ → Option ℕ → Bool → Stepped
 swap_or_rest s c p ran = if has_local s c then swap s c p else rest s c p ran
 
@@ -92,9 +97,11 @@ builtin_dispatch s c =
 unfoldable pub builtin_fill : State → ℕ → Stepped
 builtin_fill s c = if has_local s c then stays s else builtin_dispatch s c
 
+-- a local queue that is empty is filled from the built-in one, and then its front runs, if any
 unfoldable pub builtin_ask : State → ℕ → Option ℕ → Bool → Stepped
 builtin_ask s c p ran = let f = builtin_fill s c in joined f (swap_or_rest f.state c p ran)
 
+-- a cycle of the built-in scheduler: the local queue and the global one go before its own
 unfoldable pub builtin_cycle : State → ℕ → Option ℕ → Bool → Stepped
 builtin_cycle s c p ran = let f = supply s c in joined f (builtin_ask f.state c p ran)
 
@@ -109,6 +116,7 @@ start_or_cycle s c ran = if has_local s c then start s c else builtin_cycle s c 
 unfoldable pub pick : State → ℕ → Option ℕ → Bool → Stepped
 pick s c p ran = let l = leave s c p in joined l (start_or_cycle l.state c ran)
 
+-- under a policy, the front of the local queue is picked; where there is none, nobody comes
 unfoldable pub pick_or_rest : State → ℕ → Option ℕ → Bool → Stepped
 pick_or_rest s c p ran = if has_local s c then pick s c p ran else rest s c p ran
 
@@ -129,6 +137,7 @@ seek s c p ran =
 
 -- ---- whichever is in force
 
+-- the cycle of the policy, or that of the built-in scheduler once the policy is ejected
 unfoldable pub look : State → ℕ → Option ℕ → Bool → Stepped
 look s c p ran = if is_ejected s then builtin_cycle s c p ran else seek s c p ran
 

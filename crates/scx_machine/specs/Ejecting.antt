@@ -16,6 +16,7 @@ moves_over s = record { state = with_world s (evicted (length s.world.tasks) s.w
 abbrev pub cuts : Stepped → Stepped
 cuts r = record { state = with_world r.state (cut (length r.state.world.cpus) r.state.world); notes = r.notes; calls = r.calls }
 
+-- the cause is noted and the policy put out of force; who waits goes over, and slices are cut
 unfoldable pub eject : State → Eject → Stepped
 eject s x = after (said s.world (eject_note x) ∷ []) (cuts (moves_over (with_world s (put_out s.world x))))
 

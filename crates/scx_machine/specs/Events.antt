@@ -22,6 +22,7 @@ use Rattle.scx_machine.specs.Cycle.{stopping, cycle}
 
 -- ---- refusals
 
+-- why an event is refused; none where it is accepted
 abbrev pub refusal : State → Event → Option Refused
 refusal s (Wake t) = if nat_lt t (length s.world.tasks) then (if is_runnable s.world t then Some AlreadyRunnable else None) else Some UnknownTask
 refusal s (Sleep t) = if nat_lt t (length s.world.tasks) then (if is_runnable s.world t then None else Some NotRunnable) else Some UnknownTask
@@ -60,6 +61,7 @@ select s t =
     let r = call_back s callback.SelectCpu (task_cpu_and_0 t c) t c in
     joined r (settle r.state t (target (acting r.state callback.SelectCpu) r.state.world t (answered_by s callback.SelectCpu (task_cpu_and_0 t c) t c)))
 
+-- a task wakes: it is noted, the task waits from now on, and select_cpu is asked
 unfoldable pub wake : State → ℕ → Stepped
 wake s t = after (said s.world (note.Wake t) ∷ []) (select (with_world s (woken s.world t)) t)
 
@@ -69,10 +71,12 @@ sleep_from_cpu s t c =
     let r = stopping (with_world s (stopped s.world c t)) c t 0 in
     after (said s.world (note.Stop t c) ∷ []) (joined r (cycle (with_world r.state (asleep r.state.world t)) c None true))
 
+-- a task goes to sleep from that processor, or, where it runs on none, from its queue
 abbrev pub sleep_from : Option ℕ → State → ℕ → Stepped
 sleep_from None s t = stays (with_world s (asleep (gone s.world t) t))
 sleep_from (Some c) s t = sleep_from_cpu s t c
 
+-- a task goes to sleep, from where it is, and that is noted first
 unfoldable pub sleep : State → ℕ → Stepped
 sleep s t = after (said s.world (note.Sleep t) ∷ []) (sleep_from (cpu_of s.world t) s t)
 
@@ -93,10 +97,12 @@ count_down s c t =
     let v = with_world s (used_ms (ticked s.world t) t) in
     if is_throttled v.world t then throttle v c t else expire v c t
 
+-- a processor ran that task for a millisecond; where it ran none, it looks for one
 abbrev pub tick_of : Option ℕ → State → ℕ → Stepped
 tick_of None s c = cycle s c None false
 tick_of (Some t) s c = count_down s c t
 
+-- a processor ran for a millisecond, whether a task runs on it or none does
 unfoldable pub tick : State → ℕ → Stepped
 tick s c = tick_of (running s.world c) s c
 
@@ -106,6 +112,7 @@ tick s c = tick_of (running s.world c) s c
 abbrev pub overdue : State → Option ℕ
 overdue s = if is_ejected s then None else first_overdue s.world s.policy.timeout_ms
 
+-- the policy is ejected for that task, which waited too long; without one nothing is done
 abbrev pub stalled : Option ℕ → State → Stepped
 stalled None s = stays s
 stalled (Some t) s = eject s (cause.Stall t s.world.clock)
@@ -116,6 +123,7 @@ clock s =
     let r = let_all_go (with_world s (begun_periods (later s.world))) in
     joined r (stalled (overdue r.state) r.state)
 
+-- what an accepted event does
 abbrev pub happened : State → Event → Stepped
 happened s (Wake t) = wake s t
 happened s (Sleep t) = sleep s t

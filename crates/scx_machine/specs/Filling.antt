@@ -6,6 +6,7 @@ use Rattle.scx_world.specs.World.{WorldState, said}
 use Rattle.scx_world.specs.Tasks.{fill_front, filled}
 use Rattle.scx_machine.specs.Steps.{State, Stepped, with_world}
 
+-- what is noted of that task: it goes to that processor's local queue; without one nothing
 abbrev pub move_note : WorldState → Option ℕ → ℕ → List Note
 move_note w None c = []
 move_note w (Some t) c = said w (Move t c) ∷ []

@@ -8,11 +8,13 @@ use Rattle.scx_machine.specs.declared.policy.Callbacks.{Callbacks}
 use Rattle.scx_machine.specs.declared.policy.BadPolicy.{BadPolicy}
 use Rattle.scx_machine.specs.declared.policy.BadPolicy.TheVariants.{BadTimeout, OtherCallback, OtherMaps}
 
+-- a policy: the shapes of its maps, how many milliseconds a task may wait, and its programs
 pub record PolicyState : Type 0 where
   pub shapes : List Shape
   pub timeout_ms : ℕ
   pub callbacks : Callbacks
 
+-- the policy with these shapes of maps, that timeout in milliseconds, and these programs
 abbrev pub policy_of : List Shape → ℕ → Callbacks → PolicyState
 policy_of shapes timeout callbacks = record { shapes = shapes; timeout_ms = timeout; callbacks = callbacks }
 
@@ -29,6 +31,7 @@ program_of p callback.Plain = None
 
 -- ---- what a policy may not be made of
 
+-- a policy lets a task wait for 1 to 30000 milliseconds
 abbrev pub IsTimeout : ℕ → Type 0
 IsTimeout n = (1 ≤ n) × (n ≤ 30000)
 
@@ -37,6 +40,7 @@ abbrev pub IsAs : Callback → Option VerifiedProgram → Type 0
 IsAs b None = ⊤
 IsAs b (Some p) = p.context.callback ≡ b
 
+-- each program that there is was verified as the callback for which it stands
 pub record AreAs (c : Callbacks) : Type 0 where
   pub init : IsAs callback.Init c.init
   pub enable : IsAs callback.Enable c.enable
@@ -51,6 +55,7 @@ abbrev pub HasMaps : List Shape → Option VerifiedProgram → Type 0
 HasMaps shapes None = ⊤
 HasMaps shapes (Some p) = p.context.defs ≡ shapes
 
+-- each program that there is was verified for maps of these shapes
 pub record HaveMaps (shapes : List Shape) (c : Callbacks) : Type 0 where
   pub init : HasMaps shapes c.init
   pub enable : HasMaps shapes c.enable

@@ -30,6 +30,7 @@ enters_builtin s t = record { state = with_world s (put_builtin s.world t); note
 unfoldable pub comes_in : State → ℕ → ℕ → Stepped
 comes_in s t c = if is_ejected s then enters_builtin s t else enters s t (wanted s.policy.callbacks.enqueue c s.world.call.insert)
 
+-- enqueue is called, with these flags and that processor at hand, and then the task comes to wait
 unfoldable pub put : State → ℕ → ℕ → ℕ → Stepped
 put s t c flags =
     let r = call_back s callback.Enqueue (task_and_number t flags) t c in

@@ -30,6 +30,7 @@ blank p tree cpus = record { policy = p; maps = zeros p.shapes; world = begun_pe
 abbrev pub fault_answer : ℤ
 fault_answer = negsuc 21
 
+-- how init ends, called in that state
 abbrev pub init_ending : State → Ending WorldState
 init_ending s = called (acting s callback.Init) callback.Init no_arguments s.maps (begun s.world callback.Init 0 0)
 
@@ -39,6 +40,7 @@ bad_answer (Some f) a = Some fault_answer
 bad_answer None None = Some fault_answer
 bad_answer None (Some n) = if n == 0 then None else Some (cast_signed w64 n)
 
+-- that state, or, where there is one, the answer with which the machine can't begin
 abbrev pub ok_unless : Option ℤ → State → Result State ℤ
 ok_unless None s = Ok s
 ok_unless (Some n) s = Err n
@@ -49,6 +51,7 @@ initialized s = ok_unless (bad_answer (init_ending s).outside.call.fault (init_e
 
 -- ---- enable of each task
 
+-- how enable of that task ends, called in that state
 abbrev pub enable_ending : State → ℕ → Ending WorldState
 enable_ending s t = called (acting s callback.Enable) callback.Enable (one_task t) s.maps (begun s.world callback.Enable t 0)
 
@@ -56,9 +59,11 @@ enable_ending s t = called (acting s callback.Enable) callback.Enable (one_task 
 abbrev pub has_failed : Ending WorldState → Bool
 has_failed e = is_some e.outside.call.fault || is_none e.answer
 
+-- after enable of that task; none where it had a fault or got stuck
 unfoldable pub enable : State → ℕ → Option State
 enable s t = if has_failed (enable_ending s t) then None else Some (ended s.policy (enable_ending s t))
 
+-- after enable of one more task; none where one before it has failed, or it does
 abbrev pub then_enable : Option State → ℕ → Option State
 then_enable None t = None
 then_enable (Some s) t = enable s t
@@ -70,14 +75,17 @@ enabled (suc n) s = then_enable (enabled n s) n
 
 -- ---- all of it
 
+-- that state, or -22 where enable of a task has failed
 abbrev pub ok_if : Option State → Result State ℤ
 ok_if None = Err fault_answer
 ok_if (Some s) = Ok s
 
+-- after enable of each task, by number; where init has failed, its answer
 abbrev pub all_enabled : Result State ℤ → Result State ℤ
 all_enabled (Err n) = Err n
 all_enabled (Ok s) = ok_if (enabled (length s.world.tasks) s)
 
+-- the first state of a policy's machine; where it can't begin, init's answer or -22
 abbrev pub started : PolicyState → Hierarchy → ℕ → Result State ℤ
 started p tree cpus = all_enabled (initialized (blank p tree cpus))
 
@@ -89,9 +97,11 @@ IsRefusal p tree cpus (InitFailed n) = (is_bad_shape tree cpus ≡ false) × (st
 
 -- ---- the callbacks that are called: none after one that fails
 
+-- the call of init, if the policy has one
 abbrev pub init_calls : State → List CallMade
 init_calls s = calls_of (acting s callback.Init) callback.Init no_arguments s.maps (begun s.world callback.Init 0 0)
 
+-- the call of enable of that task, if the policy has one; none where something failed before
 abbrev pub enable_calls : Option State → ℕ → List CallMade
 enable_calls None t = []
 enable_calls (Some s) t = calls_of (acting s callback.Enable) callback.Enable (one_task t) s.maps (begun s.world callback.Enable t 0)
@@ -101,10 +111,12 @@ abbrev pub calls_below : ℕ → State → List CallMade
 calls_below zero s = []
 calls_below (suc n) s = calls_below n s ++ enable_calls (enabled n s) n
 
+-- the calls of enable, once init has not failed
 abbrev pub calls_after_init : Result State ℤ → List CallMade
 calls_after_init (Err n) = []
 calls_after_init (Ok s) = calls_below (length s.world.tasks) s
 
+-- the callbacks that are called as a machine begins: init, and then enable of each task
 abbrev pub start_calls : PolicyState → Hierarchy → ℕ → List CallMade
 start_calls p tree cpus = init_calls (blank p tree cpus) ++ calls_after_init (initialized (blank p tree cpus))
 

@@ -8,6 +8,7 @@ use Rattle.scx_world.specs.declared.notes.Note.{Note}
 use Rattle.scx_world.specs.World.{WorldState}
 use Rattle.scx_machine.specs.Policy.{PolicyState}
 
+-- a machine at one time: its policy, what its maps hold, and its world
 pub record State : Type 0 where
   pub policy : PolicyState
   pub maps : Maps
@@ -21,11 +22,13 @@ pub record CallMade : Type 0 where
   pub maps : Maps
   pub world : WorldState
 
+-- what a step comes to: the state that it leaves, its notes, and the callbacks that it calls
 pub record Stepped : Type 0 where
   pub state : State
   pub notes : List Note
   pub calls : List CallMade
 
+-- the same policy and maps, with that world
 abbrev pub with_world : State → WorldState → State
 with_world s w = record { policy = s.policy; maps = s.maps; world = w }
 
@@ -33,6 +36,7 @@ with_world s w = record { policy = s.policy; maps = s.maps; world = w }
 abbrev pub is_ejected : State → Bool
 is_ejected s = is_some s.world.ejected
 
+-- the step that changes nothing, notes nothing and calls no callback
 abbrev pub stays : State → Stepped
 stays s = record { state = s; notes = []; calls = [] }
 

@@ -36,18 +36,25 @@ pub enum Event {
 /// Why an event isn't accepted. Nothing has changed, and nothing was noted.
 #[derive(Clone, Copy, Debug, PartialEq, Eq, Error)]
 pub enum Refused {
+    /// A task is to wake that has not gone to sleep since it woke last.
     #[error("the task is runnable already")]
     AlreadyRunnable,
+    /// A task is to go to sleep that sleeps.
     #[error("the task isn't runnable")]
     NotRunnable,
+    /// A wake or a sleep is of a task that isn't there.
     #[error("there is no such task")]
     UnknownTask,
+    /// A tick is of a processor that isn't there.
     #[error("there is no such processor")]
     UnknownCpu,
+    /// A weight is for a group that isn't there.
     #[error("there is no such group")]
     UnknownGroup,
+    /// A group that is there is to have a weight that is out of range.
     #[error("a weight is one of 1 to 10000")]
     BadWeight,
+    /// A machine has accepted 2^32 events: this goes before any other cause.
     #[error("as many events were accepted as may be")]
     RunOver,
 }

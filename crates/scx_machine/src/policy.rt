@@ -22,10 +22,13 @@ pub struct Callbacks {
 /// Why programs don't make a policy. Of several causes the least number is answered.
 #[derive(Clone, Copy, Debug, PartialEq, Eq, Error)]
 pub enum BadPolicy {
+    /// A task might wait for no time at all, or for longer than half a minute.
     #[error("the timeout isn't one of 1 to 30000 milliseconds")]
     BadTimeout,
+    /// A program stands for a callback, but was verified as another.
     #[error("a program was verified for another callback")]
     OtherCallback,
+    /// A program was verified for maps of other shapes than the policy's.
     #[error("a program was verified for other maps")]
     OtherMaps,
 }

@@ -25,8 +25,10 @@ pub enum NewError {
     /// init answered that number, or init or enable had a fault: -22.
     #[error("init answered {0}")]
     InitFailed(i64),
+    /// The number of processors is out of range, or a task is active before anything has happened.
     #[error("there must be 1 to 64 processors, and no task may be active")]
     BadShape,
+    /// Memory ran out, after the shape was looked at and before any callback ran.
     #[error("out of memory")]
     OutOfMemory,
 }
