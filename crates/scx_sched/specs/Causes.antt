@@ -32,6 +32,7 @@ pub data HasFault (m : CallMade) (f : Fault) : Type 0 where
   Of_helper : (answer : ℕ) (w : WorldState) → EndsIn m answer w → w.call.fault ≡ Some f → HasFault m f
   Of_answer : (answer : ℕ) (w : WorldState) → EndsIn m answer w → w.call.fault ≡ None → m.callback ≡ SelectCpu → length w.cpus ≤ answer → f ≡ NoSuchCpu → HasFault m f
 
+-- the call is the last one of these
 abbrev pub IsLast : CallMade → List CallMade → Type 0
 IsLast m calls = (before : List CallMade) × (calls ≡ before ++ m ∷ [])
 

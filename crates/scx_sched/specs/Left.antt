@@ -8,6 +8,7 @@ use Rattle.scx_world.specs.Tasks.{local_len}
 use Rattle.scx_machine.specs.declared.events.Event.{Event}
 use Rattle.scx_machine.specs.declared.events.Event.TheVariants.{Wake, Sleep, Tick, Clock, SetWeight}
 
+-- nobody is in the local queue, the global one, or, once the policy is ejected, the built-in one
 pub record LeavesNothing (w : WorldState) (c : ℕ) : Type 0 where
   pub local : local_len w c ≡ 0
   pub global : front_of w.queues global ≡ None

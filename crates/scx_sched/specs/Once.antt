@@ -19,6 +19,7 @@ use Rattle.scx_sched.specs.Waits.{HasWaits}
 abbrev pub runs : List (Option ℕ) → ℕ → ℕ
 runs cpus t = sum_by (λ o. one_if (is_this t o)) cpus
 
+-- on how many processors and in how many queues a task is, added up
 abbrev pub appearances : WorldState → ℕ → ℕ
 appearances w t = runs w.cpus t + standing w.queues t
 
@@ -46,10 +47,12 @@ sort_of q = if q == builtin then Vtime 0 else Fifo
 abbrev pub fits_queue : ℕ → Rank → Bool
 fits_queue q r = nat_lt q policy_end || same_sort r (sort_of q)
 
+-- whether an entry is of a sort that its queue takes; true where there is no entry
 abbrev pub fits_sort : Option Entry → Bool
 fits_sort None = true
 fits_sort (Some p) = fits_queue p.queue p.rank
 
+-- each task that is in a queue is there by a rank that its queue takes
 abbrev pub IsSorted : QueueState → Type 0
 IsSorted s = (t : ℕ) → fits_sort (entry_of s t) ≡ true
 

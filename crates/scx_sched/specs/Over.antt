@@ -5,6 +5,7 @@ use Rattle.scx_dsq.specs.Queues.{queue_of}
 use Rattle.scx_world.specs.Ids.{builtin, parked}
 use Rattle.scx_world.specs.World.{WorldState, waits}
 
+-- from world to world: all who wait go over, no other comes to wait, who runs or is parked stays so
 pub record GoesOver (w v : WorldState) : Type 0 where
   pub waiting : (t : ℕ) → waits w t ≡ true → queue_of v.queues t ≡ Some builtin
   pub others : (t : ℕ) → waits w t ≡ false → waits v t ≡ false

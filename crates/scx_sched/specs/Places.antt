@@ -21,5 +21,6 @@ place_in (Some c) q = Cpu c
 place_in None (Some q) = queue_place q
 place_in None None = Asleep
 
+-- where a task is: on a processor, else in its queue, else asleep
 abbrev pub place : WorldState → ℕ → Place
 place w t = place_in (cpu_of w t) (queue_of w.queues t)

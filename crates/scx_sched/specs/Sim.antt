@@ -15,6 +15,7 @@ use Rattle.scx_sched.specs.Once.{AreInQueues}
 use Rattle.scx_sched.specs.Waits.{IsTimely}
 use Rattle.scx_sched.specs.Ranges.{IsFine}
 
+-- a machine between two events, and how many events it has accepted
 pub record SimState : Type 0 where
   pub state : State
   pub events : ℕ
@@ -23,9 +24,11 @@ pub record SimState : Type 0 where
 abbrev pub max_events : ℕ
 max_events = 2 ^ 32
 
+-- why an event is refused, if it is: after 2^32 accepted ones each is, before any other cause
 abbrev pub refusal : SimState → Event → Option Refused
 refusal s e = if s.events == max_events then Some RunOver else machine.refusal s.state e
 
+-- the state after an event that is refused for that cause, or accepted
 abbrev pub stepped_if : Option Refused → SimState → Event → SimState
 stepped_if None s e = record { state = (machine.happened s.state e).state; events = s.events + 1 }
 stepped_if (Some r) s e = s
@@ -34,6 +37,7 @@ stepped_if (Some r) s e = s
 abbrev pub stepped : SimState → Event → SimState
 stepped s e = stepped_if (refusal s e) s e
 
+-- the notes of an event that is refused for that cause, or accepted
 abbrev pub notes_if : Option Refused → SimState → Event → List Note
 notes_if None s e = (machine.happened s.state e).notes
 notes_if (Some r) s e = []
@@ -42,6 +46,7 @@ notes_if (Some r) s e = []
 abbrev pub notes_of : SimState → Event → List Note
 notes_of s e = notes_if (refusal s e) s e
 
+-- the callbacks that are called in an event that is refused for that cause, or accepted
 abbrev pub calls_if : Option Refused → SimState → Event → List CallMade
 calls_if None s e = (machine.happened s.state e).calls
 calls_if (Some r) s e = []
@@ -50,6 +55,7 @@ calls_if (Some r) s e = []
 abbrev pub calls_of : SimState → Event → List CallMade
 calls_of s e = calls_if (refusal s e) s e
 
+-- what is answered to an event: nothing more where it is accepted, else the refusal
 abbrev pub answer_of : Option Refused → Result (Unit {0}) Refused
 answer_of None = Ok tt
 answer_of (Some r) = Err r

@@ -3,6 +3,7 @@ use Rattle.std.specs.Prelude.{◌≡◌, ℕ, ◌≤◌, ◌||◌, Option, None,
 use Rattle.scx_world.specs.World.{WorldState, task_at, is_this, waits, wait}
 use Rattle.scx_machine.specs.Steps.{State}
 
+-- while the policy is in force, no task has waited for longer than its timeout
 abbrev pub IsTimely : State → Type 0
 IsTimely s = s.world.ejected ≡ None → (t : ℕ) → wait s.world t ≤ s.policy.timeout_ms
 
