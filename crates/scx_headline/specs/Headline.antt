@@ -30,10 +30,12 @@ pub record Run : Type 0 where
   pub notes : List Note
   pub calls : List CallMade
 
+-- the state in which the events begin, and the one after each of them
 abbrev pub states_from : SimState → List Event → List SimState
 states_from s [] = s ∷ []
 states_from s (e ∷ es) = s ∷ states_from (stepped s e) es
 
+-- the callbacks that are called in these events, one after another
 abbrev pub calls_of_all : SimState → List Event → List CallMade
 calls_of_all s [] = []
 calls_of_all s (e ∷ es) = calls_of s e ++ calls_of_all (stepped s e) es
@@ -53,6 +55,7 @@ machine_run p tree cpus events = run_if (started p tree cpus) (start_calls p tre
 
 -- ---- the sentence
 
+-- the state is the last one of these
 abbrev pub IsLast : SimState → List SimState → Type 0
 IsLast s states = (earlier : List SimState) × (states ≡ earlier ++ s ∷ [])
 
