@@ -29,9 +29,11 @@ silent s w = record { state = with_world s w; notes = []; calls = [] }
 
 -- ---- callbacks of a cycle
 
+-- enqueue is called for a task, with these flags and that processor at hand
 abbrev pub enqueue_called : State → ℕ → ℕ → ℕ → Stepped
 enqueue_called s t c flags = call_back s callback.Enqueue (task_and_number t flags) t c
 
+-- dispatch is called for a processor, and given the task before or 0
 abbrev pub dispatch_called : State → ℕ → Option ℕ → Stepped
 dispatch_called s c p = call_back s callback.Dispatch (cpu_and_task c p) 0 c
 
@@ -45,14 +47,17 @@ pub data HasStarted (s : State) (c t : ℕ) (r : Stepped) : Type 0 where
   Policy_learns : s.world.ejected ≡ None → r ≡ call_back s callback.Running (one_task t) t c → HasStarted s c t r
   Catches_up : (x : Eject) → s.world.ejected ≡ Some x → r ≡ silent s (overtaken s.world t) → HasStarted s c t r
 
+-- the state in which a task is off its processor, and waits from now on
 abbrev pub gone_off : State → ℕ → ℕ → State
 gone_off s c t = with_world s (stopped s.world c t)
 
+-- the state in which a task, the front of the local queue, is on that processor
 abbrev pub gone_on : State → ℕ → ℕ → State
 gone_on s c t = with_world s (started_at (Some t) s.world c)
 
 -- ---- put
 
+-- a task comes to wait as an insert wants it to, and that is noted
 abbrev pub entering : State → ℕ → Insert → Stepped
 entering s t i = noting s (entered s.world t i) (note.Insert t i.queue)
 
@@ -65,6 +70,7 @@ pub data Enters (s : State) (t c : ℕ) (r : Stepped) : Type 0 where
   Held : (p : VerifiedProgram) → s.world.ejected ≡ None → s.policy.callbacks.enqueue ≡ Some p → s.world.call.insert ≡ None → r ≡ entering s t to_held → Enters s t c r
   Inserted : (p : VerifiedProgram) (i : Insert) → s.world.ejected ≡ None → s.policy.callbacks.enqueue ≡ Some p → s.world.call.insert ≡ Some i → r ≡ entering s t (for_cpu c i) → Enters s t c r
 
+-- enqueue is called for a task, and then the task comes to wait
 pub record Puts (s : State) (t c flags : ℕ) (r : Stepped) : Type 0 where
   pub put : Stepped
   pub enters : Enters (enqueue_called s t c flags).state t c put
@@ -161,6 +167,7 @@ pub record Swaps (s : State) (c : ℕ) (p : Option ℕ) (r : Stepped) : Type 0 w
   pub starts : Starts left.state c started
   pub all : r ≡ joined left started
 
+-- the front of the local queue runs; where there is none, nobody comes
 pub data SwapsOrRests (s : State) (c : ℕ) (p : Option ℕ) (ran : Bool) (r : Stepped) : Type 0 where
   Swapped : 0 < local_len s.world c → Swaps s c p r → SwapsOrRests s c p ran r
   Kept : local_len s.world c ≡ 0 → Rests s c p ran r → SwapsOrRests s c p ran r

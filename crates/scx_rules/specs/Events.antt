@@ -20,6 +20,7 @@ use Rattle.scx_rules.specs.Helpers.{IsChoice}
 use Rattle.scx_rules.specs.Ejections.{Ejects}
 use Rattle.scx_rules.specs.Cycles.{noting, silent, entering, gone_off, HasStopped, Puts, parking, Cycles}
 
+-- the state in which a task has become runnable, and waits from now on
 abbrev pub awake : State → ℕ → State
 awake s t = with_world s (woken s.world t)
 
@@ -27,6 +28,7 @@ awake s t = with_world s (woken s.world t)
 abbrev pub select_called : State → ℕ → Stepped
 select_called s t = call_back s callback.SelectCpu (task_cpu_and_0 t (task_at s.world t).prev_cpu) t (task_at s.world t).prev_cpu
 
+-- what select_cpu answers once the task is runnable, if it comes to an answer
 abbrev pub select_answered : State → ℕ → Option ℕ
 select_answered s t = answered_by s callback.SelectCpu (task_cpu_and_0 t (task_at s.world t).prev_cpu) t (task_at s.world t).prev_cpu
 
@@ -90,6 +92,7 @@ aged s = with_world s (begun_periods (later s.world))
 abbrev pub LetsAllGo : State → Stepped → Type 0
 LetsAllGo s r = LetsGo (len_of s.world.queues parked) s (front_of s.world.queues parked) r
 
+-- no task has waited for longer than the policy's timeout
 abbrev pub NobodyIsOverdue : State → Type 0
 NobodyIsOverdue s = (t : ℕ) → t < length s.world.tasks → wait s.world t ≤ s.policy.timeout_ms
 
@@ -108,6 +111,7 @@ pub record Ages (s : State) (r : Stepped) : Type 0 where
   pub watches : Watches gone.state watched
   pub all : r ≡ joined gone watched
 
+-- what an accepted event does, each kind by its own cases
 abbrev pub Happens : State → Event → Stepped → Type 0
 Happens s (Wake t) r = Wakes s t r
 Happens s (Sleep t) r = Sleeps s t r

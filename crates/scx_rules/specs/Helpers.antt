@@ -87,6 +87,7 @@ JudgesInsert w t i flags None = MayInsert w t × (flags ≤ 1) × IsDestination 
 JudgesInsert w t i flags (Some CannotCreate) = ⊥
 JudgesInsert w t i flags (Some Stuck) = ⊥
 
+-- a call that wants to create a queue: it can, or CannotCreate is the fault
 abbrev pub JudgesCreate : WorldState → ℕ → Option Fault → Type 0
 JudgesCreate w q None = CanCreate w q
 JudgesCreate w q (Some CannotCreate) = ¬ CanCreate w q
@@ -162,6 +163,7 @@ pub data Chooses (w : WorldState) (n : ℕ) : Option ℕ → Type 0 where
   OfTask : (t : ℕ) → IsChoice w t n → Chooses w n (Some t)
   OfNobody : n ≡ 0 → Chooses w n None
 
+-- whether a processor is idle, as 1 or 0; one that isn't there is not idle
 pub data Tells (w : WorldState) (c n : ℕ) : Type 0 where
   TellsIdle : is_idle w c ≡ true → n ≡ 1 → Tells w c n
   TellsBusy : is_idle w c ≡ false → n ≡ 0 → Tells w c n
@@ -171,6 +173,7 @@ pub data Finds (w : WorldState) (n : ℕ) (x : Answer) : Type 0 where
   Found : (t : ℕ) → t < length w.tasks → n ≡ t + 1 → x ≡ Task (record { 0 = t }) → Finds w n x
   Nobody : ((t : ℕ) → t < length w.tasks → n ≡ t + 1 → ⊥) → x ≡ Num 0 → Finds w n x
 
+-- what a call that answers a number does without a fault: the answer, and the world after it
 abbrev pub Does : WorldState → Helper → List Arg → ℕ → WorldState → Type 0
 Does w KtimeGetNs a n v = (n ≡ w.clock * 1000000) × (v ≡ w)
 Does w CreateDsq a n v = (n ≡ 0) × (v ≡ with_queues w (with_queue w.queues (given_number a 0)))

@@ -28,6 +28,7 @@ use Rattle.scx_rules.specs.Starts.{HasBadShape, Begins}
 abbrev pub RulesAllowHelpers : Type 0
 RulesAllowHelpers = (w : WorldState) (h : Helper) (a : List Arg) → ¬ (h ≡ MapLookupElem) → IsEffect w h a (helper_answer w h a) (helper_after w h a)
 
+-- of a helper call the rules allow no other answer, and no other world, than are computed
 abbrev pub RulesAllowHelpersOnly : Type 0
 RulesAllowHelpersOnly =
     (w : WorldState) (h : Helper) (a : List Arg) (x : Answer) (v : WorldState) → IsEffect w h a x v
@@ -38,6 +39,7 @@ abbrev pub RulesAllowCallbacks : Type 0
 RulesAllowCallbacks =
     (s : State) (b : Callback) (a : Args) (t c : ℕ) → AreAnswered (call_back s b a t c).calls → CallsBack s b a t c (answered_by s b a t c) (call_back s b a t c)
 
+-- of a callback the rules allow no other answer, and no other step, than are computed
 abbrev pub RulesAllowCallbacksOnly : Type 0
 RulesAllowCallbacksOnly =
     (s : State) (b : Callback) (a : Args) (t c : ℕ) (answer : Option ℕ) (r : Stepped) → CallsBack s b a t c answer r → (answer ≡ answered_by s b a t c) × (r ≡ call_back s b a t c)
@@ -46,6 +48,7 @@ RulesAllowCallbacksOnly =
 abbrev pub RulesAllowCycles : Type 0
 RulesAllowCycles = (s : State) (c : ℕ) (p : Option ℕ) (ran : Bool) → Cycles s c p ran (cycle s c p ran)
 
+-- of a cycle the rules allow no other step than the one that is computed
 abbrev pub RulesAllowCyclesOnly : Type 0
 RulesAllowCyclesOnly = (s : State) (c : ℕ) (p : Option ℕ) (ran : Bool) (r : Stepped) → Cycles s c p ran r → r ≡ cycle s c p ran
 
@@ -53,6 +56,7 @@ RulesAllowCyclesOnly = (s : State) (c : ℕ) (p : Option ℕ) (ran : Bool) (r : 
 abbrev pub RulesAllowEvents : Type 0
 RulesAllowEvents = (s : State) (v : Event) → refusal s v ≡ None → Happens s v (happened s v)
 
+-- of an accepted event the rules allow no other step than the one that is computed
 abbrev pub RulesAllowEventsOnly : Type 0
 RulesAllowEventsOnly = (s : State) (v : Event) (r : Stepped) → refusal s v ≡ None → Happens s v r → r ≡ happened s v
 
@@ -60,6 +64,7 @@ RulesAllowEventsOnly = (s : State) (v : Event) (r : Stepped) → refusal s v ≡
 abbrev pub RulesRefuseEvents : Type 0
 RulesRefuseEvents = (s : State) (v : Event) (r : Refused) → refusal s v ≡ Some r → Refuses s v r
 
+-- the rules refuse no event that isn't refused, and none for another cause
 abbrev pub RulesRefuseEventsOnly : Type 0
 RulesRefuseEventsOnly = (s : State) (v : Event) (r : Refused) → Refuses s v r → refusal s v ≡ Some r
 
@@ -67,6 +72,7 @@ RulesRefuseEventsOnly = (s : State) (v : Event) (r : Refused) → Refuses s v r 
 abbrev pub RulesAllowStarts : Type 0
 RulesAllowStarts = (p : PolicyState) (tree : Hierarchy) (cpus : ℕ) → AreAnswered (start_calls p tree cpus) → Begins p tree cpus (started p tree cpus)
 
+-- of a start the rules allow no other state or failure than the one that is computed
 abbrev pub RulesAllowStartsOnly : Type 0
 RulesAllowStartsOnly = (p : PolicyState) (tree : Hierarchy) (cpus : ℕ) (r : Result State ℤ) → Begins p tree cpus r → r ≡ started p tree cpus
 
@@ -74,5 +80,6 @@ RulesAllowStartsOnly = (p : PolicyState) (tree : Hierarchy) (cpus : ℕ) (r : Re
 abbrev pub RulesRefuseShapes : Type 0
 RulesRefuseShapes = (tree : Hierarchy) (cpus : ℕ) → is_bad_shape tree cpus ≡ true → HasBadShape tree cpus
 
+-- the rules call no other shape bad than those that are computed as bad
 abbrev pub RulesRefuseShapesOnly : Type 0
 RulesRefuseShapesOnly = (tree : Hierarchy) (cpus : ℕ) → HasBadShape tree cpus → is_bad_shape tree cpus ≡ true

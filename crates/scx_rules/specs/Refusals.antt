@@ -16,10 +16,12 @@ pub data RefusesTask (s : State) (t : ℕ) (already : Bool) (why r : Refused) : 
 abbrev pub IsWeight : ℕ → Type 0
 IsWeight x = (1 ≤ x) × (x ≤ 10000)
 
+-- a group that isn't there, or else a weight that no group may have
 pub data RefusesWeight (s : State) (g x : ℕ) (r : Refused) : Type 0 where
   NoGroup : length s.world.tree.groups ≤ g → r ≡ UnknownGroup → RefusesWeight s g x r
   NoWeight : g < length s.world.tree.groups → ¬ IsWeight x → r ≡ BadWeight → RefusesWeight s g x r
 
+-- that cause is why an event is refused; an event of the clock never is
 abbrev pub Refuses : State → Event → Refused → Type 0
 Refuses s (Wake t) r = RefusesTask s t true AlreadyRunnable r
 Refuses s (Sleep t) r = RefusesTask s t false NotRunnable r

@@ -27,6 +27,7 @@ pub data Judged (s : State) (e : Ending WorldState) (r : Result State ℤ) : Typ
   Refuses : (n : ℕ) → e.outside.call.fault ≡ None → e.answer ≡ Some n → 0 < n → r ≡ Err (cast_signed w64 n) → Judged s e r
   Accepts : e.outside.call.fault ≡ None → e.answer ≡ Some 0 → r ≡ Ok (ended s.policy e) → Judged s e r
 
+-- init is called: the state after it, or the number with which it fails
 pub record Initializes (s : State) (r : Result State ℤ) : Type 0 where
   pub ending : Ending WorldState
   pub ends : EndsAs (acting s callback.Init) callback.Init no_arguments s.maps (begun s.world callback.Init 0 0) ending
@@ -40,6 +41,7 @@ pub data Passes (s : State) (e : Ending WorldState) (r : Option State) : Type 0 
   HasStuck : e.outside.call.fault ≡ None → e.answer ≡ None → r ≡ None → Passes s e r
   Answers : (n : ℕ) → e.outside.call.fault ≡ None → e.answer ≡ Some n → r ≡ Some (ended s.policy e) → Passes s e r
 
+-- enable is called for a task: the state after it, or none where it fails
 pub record Enables (s : State) (t : ℕ) (r : Option State) : Type 0 where
   pub ending : Ending WorldState
   pub ends : EndsAs (acting s callback.Enable) callback.Enable (one_task t) s.maps (begun s.world callback.Enable t 0) ending
@@ -53,6 +55,7 @@ pub data EnablesAll : ℕ → State → Option State → Type 0 where
 
 -- ---- both
 
+-- the first state of a machine, or the number with which init or enable fails
 pub data Begins (p : PolicyState) (tree : Hierarchy) (cpus : ℕ) (r : Result State ℤ) : Type 0 where
   InitFails : (n : ℤ) → Initializes (blank p tree cpus) (Err n) → r ≡ Err n → Begins p tree cpus r
   EnableFails : (s : State) → Initializes (blank p tree cpus) (Ok s) → EnablesAll (length s.world.tasks) s None → r ≡ Err fault_answer → Begins p tree cpus r
