@@ -42,6 +42,7 @@ set_below (suc n) test value xs = if test n then slice_set (set_below n test val
 
 -- ---- tests
 
+-- whether the change at that index of the list is due in that millisecond
 abbrev pub is_at : List Change → ℕ → ℕ → Bool
 is_at changes m i = (change_at changes i).at == m
 
@@ -60,15 +61,19 @@ has_run_enough timings ran w t =
 abbrev pub changes_at : List Change → ℕ → List Event
 changes_at changes m = events_below (length changes) (is_at changes m) (λ i. event.SetWeight (change_at changes i).group (change_at changes i).weight)
 
+-- the tasks that sleep and are due in that millisecond wake, by number
 abbrev pub wakes_at : List ℕ → ℕ → WorldState → List Event
 wakes_at due m w = events_below (length due) (is_due due m w) event.Wake
 
+-- a tick of each processor, by number
 abbrev pub ticks_of : ℕ → List Event
 ticks_of cpus = events_below cpus (λ c. true) event.Tick
 
+-- the tasks that have run enough since they woke last go to sleep, by number
 abbrev pub sleeps_at : List Timing → List ℕ → WorldState → List Event
 sleeps_at timings ran w = events_below (length timings) (has_run_enough timings ran w) event.Sleep
 
+-- the events of a block that begins in that world, by what is planned and remembered
 abbrev pub block_events : Plan → Block → Memory → WorldState → List Event
 block_events p (Changes m) k w = changes_at p.changes m
 block_events p (Wakes m) k w = wakes_at k.due m w

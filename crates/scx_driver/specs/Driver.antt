@@ -21,10 +21,12 @@ pub record DriverState : Type 0 where
 abbrev pub remaining : DriverState → SimState → List Event
 remaining d s = d.pending ++ events_from d.plan d.blocks d.memory (stepped_all s d.pending)
 
+-- whether a list has no items
 abbrev pub is_empty : {A : Type 0} → List A → Bool
 is_empty [] = true
 is_empty (x ∷ xs) = false
 
+-- the same driver, with these events of the block at hand still to come
 abbrev pub with_pending : DriverState → List Event → DriverState
 with_pending d es = record { plan = d.plan; pending = es; blocks = d.blocks; memory = d.memory }
 
@@ -33,6 +35,7 @@ abbrev pub begun_with : Plan → List Event → List Block → Memory → SimSta
 begun_with p es [] k s = record { plan = p; pending = es; blocks = []; memory = k }
 begun_with p es (b ∷ bs) k s = record { plan = p; pending = block_events p b k s.state.world; blocks = bs; memory = remembered p b k s.state.world }
 
+-- the driver as its next block begins; it stays as it is where no block is left
 abbrev pub begun : DriverState → SimState → DriverState
 begun d s = begun_with d.plan d.pending d.blocks d.memory s
 
@@ -65,6 +68,7 @@ blocks_left phase.Ticks m left = Ticks ∷ Sleeps m ∷ Clock ∷ blocks_from le
 blocks_left phase.Sleeps m left = Sleeps m ∷ Clock ∷ blocks_from left (m + 1)
 blocks_left phase.Clock m left = Clock ∷ blocks_from left (m + 1)
 
+-- the state for which a driver's fields stand: events that are pending, blocks behind them, memory
 abbrev pub state_of : Inside → DriverState
 state_of d = record {
   plan = record { cpus = d.cpus; timings = d.timings.items; changes = d.changes.items };

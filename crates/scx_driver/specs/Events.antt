@@ -19,6 +19,7 @@ events_from p [] k s = []
 events_from p (b ∷ bs) k s =
     block_events p b k s.state.world ++ events_from p bs (remembered p b k s.state.world) (stepped_all s (block_events p b k s.state.world))
 
+-- what a workload plans: its processors, when each task runs and sleeps, and changes of weights
 abbrev pub plan_of : WorkloadState → Plan
 plan_of w = record { cpus = w.cpus; timings = w.timings; changes = w.changes }
 
