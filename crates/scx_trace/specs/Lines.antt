@@ -8,6 +8,7 @@ use Rattle.scx_world.specs.declared.notes.What.{What}
 use Rattle.scx_world.specs.declared.notes.What.TheVariants.{Wake, Sleep, Insert, Move, Run, Stop, Idle, Weight, Stall, Fault}
 use Rattle.scx_workloads.specs.Workload.{WorkloadState}
 
+-- the names of all tasks and of all groups
 pub record NameLists : Type 0 where
   pub tasks : List (List ℕ)
   pub groups : List (List ℕ)
@@ -20,9 +21,11 @@ names_of w = record { tasks = w.task_names; groups = w.group_names }
 abbrev pub name_at : List (List ℕ) → ℕ → List ℕ
 name_at names n = slice_index_or names n []
 
+-- the name of a task; empty where there is no such task
 abbrev pub task_name : NameLists → ℕ → List ℕ
 task_name x t = name_at x.tasks t
 
+-- the name of a group; empty where there is no such group
 abbrev pub group_name : NameLists → ℕ → List ℕ
 group_name x g = name_at x.groups g
 
@@ -35,6 +38,7 @@ queue_text q =
     else (if q == builtin then codes "builtin"
     else (if q == parked then codes "parked" else codes "local " ++ decimal (q % 2 ^ 32)))))
 
+-- the words for what happened, with a space behind them
 abbrev pub verb : What → List ℕ
 verb (Wake t) = codes "wake "
 verb (Sleep t) = codes "sleep "

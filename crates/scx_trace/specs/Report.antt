@@ -12,6 +12,7 @@ use Rattle.scx_trace.specs.Lines.{NameLists, task_name}
 abbrev pub ran_ms : Task → ℕ
 ran_ms t = t.run_ns / 1000000
 
+-- how many milliseconds each task ran, by number
 abbrev pub times : WorldState → List ℕ
 times w = map ran_ms w.tasks
 
@@ -19,6 +20,7 @@ times w = map ran_ms w.tasks
 abbrev pub share : ℕ → ℕ → ℕ
 share ms total = if total == 0 then 0 else 10000 * ms / total
 
+-- the line of a task: its name, the milliseconds that it ran, and its part of all running
 abbrev pub task_line : List ℕ → ℕ → ℕ → List ℕ
 task_line name ms total =
     codes "task " ++ name ++ (codes " run " ++ decimal ms ++ codes " share " ++ decimal (share ms total) ++ codes "\n")
@@ -28,6 +30,7 @@ abbrev pub task_lines : NameLists → ℕ → ℕ → List ℕ → List ℕ
 task_lines x total t [] = []
 task_lines x total t (ms ∷ later) = task_line (task_name x t) ms total ++ task_lines x total (t + 1) later
 
+-- the line that says for how many milliseconds all tasks together ran
 abbrev pub total_line : ℕ → List ℕ
 total_line total = codes "total " ++ decimal total ++ codes "\n"
 
@@ -39,16 +42,19 @@ policy_start None = codes "policy in force"
 policy_start (Some (Stall t clock)) = codes "policy ejected stall "
 policy_start (Some (Fault f clock)) = codes "policy ejected fault " ++ decimal (code_of f)
 
+-- the name of the task that waited too long; empty where there was no stall
 abbrev pub policy_name : NameLists → Option Eject → List ℕ
 policy_name x None = []
 policy_name x (Some (Stall t clock)) = task_name x t
 policy_name x (Some (Fault f clock)) = []
 
+-- the clock at which the policy was ejected, if it was, and the end of the line
 abbrev pub policy_end : Option Eject → List ℕ
 policy_end None = codes "\n"
 policy_end (Some (Stall t clock)) = codes " at " ++ decimal clock ++ codes "\n"
 policy_end (Some (Fault f clock)) = codes " at " ++ decimal clock ++ codes "\n"
 
+-- the line that says whether the policy is in force, and if not, why and since when
 abbrev pub policy_line : NameLists → Option Eject → List ℕ
 policy_line x o = policy_start o ++ policy_name x o ++ policy_end o
 
