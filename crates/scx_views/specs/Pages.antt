@@ -4,10 +4,12 @@ use Rattle.scx_trace.specs.Lines.{NameLists, task_name}
 use Rattle.scx_views.specs.declared.pages.Line.{Line}
 use Rattle.scx_views.specs.declared.pages.Page.{Page}
 
+-- the name of the task that a line names; empty where it names none
 abbrev pub name_text : NameLists → Option ℕ → List ℕ
 name_text x None = []
 name_text x (Some task) = task_name x task
 
+-- the text of a line: its start, the name of its task, if it has one, and its end
 abbrev pub line_text : NameLists → Line → List ℕ
 line_text x line = line.start.bytes ++ name_text x line.task ++ line.end.bytes
 
@@ -16,5 +18,6 @@ abbrev pub place_text : NameLists → Option Line → List ℕ
 place_text x None = []
 place_text x (Some line) = line_text x line
 
+-- the text of a page: its lines, in the order of their places
 abbrev pub page_text : NameLists → Page → List ℕ
 page_text x page = place_text x page.first ++ place_text x page.second ++ place_text x page.third ++ place_text x page.fourth

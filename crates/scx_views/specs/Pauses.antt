@@ -8,18 +8,21 @@ use Rattle.scx_views.specs.declared.pauses.Doing.TheVariants.{Sleeps, Waits, Run
 use Rattle.scx_views.specs.declared.pauses.Pause.{Pause}
 use Rattle.scx_views.specs.declared.pauses.PauseKind.TheVariants as kind
 
+-- whether the task has no work to do
 abbrev pub sleeps : Doing → Bool
 sleeps Sleeps = true
 sleeps (Waits since) = false
 sleeps Runs = false
 sleeps (IsParked since) = false
 
+-- whether the task is on a processor
 abbrev pub runs : Doing → Bool
 runs Sleeps = false
 runs (Waits since) = false
 runs Runs = true
 runs (IsParked since) = false
 
+-- whether the task is parked
 abbrev pub is_parked : Doing → Bool
 is_parked Sleeps = false
 is_parked (Waits since) = false
@@ -73,6 +76,7 @@ pause_of now t (Waits since) = Some (record { task = t; kind = kind.Wait; since 
 pause_of now t Runs = None
 pause_of now t (IsParked since) = Some (record { task = t; kind = kind.Parked; since = since; until = now })
 
+-- the pause that ends as a task comes into a queue: a wait where it is parked, parking always
 abbrev pub ended_by_insert : ℕ → ℕ → ℕ → Doing → Option Pause
 ended_by_insert now t queue d = if queue == parked then pause_of now t d else if is_parked d then pause_of now t d else None
 
@@ -91,6 +95,7 @@ ended now t (Fault f) d = None
 
 -- ---- all tasks
 
+-- what each task does after a note of that task, or of none
 abbrev pub doing_with : Option ℕ → ℕ → What → List Doing → List Doing
 doing_with None now what ds = ds
 doing_with (Some t) now what ds = slice_set ds t (does now what (doing_at ds t))
@@ -99,6 +104,7 @@ doing_with (Some t) now what ds = slice_set ds t (does now what (doing_at ds t))
 abbrev pub doing_after : ℕ → What → List Doing → List Doing
 doing_after now what ds = doing_with (of_task what) now what ds
 
+-- the pause that is ended by a note of that task, or of none
 abbrev pub ended_with : Option ℕ → ℕ → What → List Doing → Option Pause
 ended_with None now what ds = None
 ended_with (Some t) now what ds = ended now t what (doing_at ds t)
