@@ -57,6 +57,7 @@ abbrev pub AreFaultless : List CallMade → Type 0
 AreFaultless [] = Unit {0}
 AreFaultless (m ∷ ms) = IsFaultless m × AreFaultless ms
 
+-- calls without a fault are so one list behind the other
 pub faultless_append : (xs ys : List CallMade) → AreFaultless xs → AreFaultless ys → AreFaultless (xs ++ ys)
 faultless_append [] ys h k = k
 faultless_append (m ∷ ms) ys h k = (h.0, faultless_append ms ys h.1 k)
@@ -87,6 +88,7 @@ last_of xs ys m (before, e) = (xs ++ before, ap (λ zs. xs ++ zs) e ∙ sym (app
 last_alone : (xs ys : List CallMade) (m : CallMade) → ys ≡ [] → IsLast m xs → IsLast m (xs ++ ys)
 last_alone xs ys m none (before, e) = (before, ap (λ zs. xs ++ zs) none ∙ (append-nil xs ∙ e))
 
+-- two lists without calls have none one behind the other
 pub none_of : (xs ys : List CallMade) → xs ≡ [] → ys ≡ [] → xs ++ ys ≡ []
 none_of xs ys e f = rw e f
 
@@ -159,10 +161,12 @@ honest_same_tree s r h = record { policy = h.policy; clock = h.clock; tree = h.t
 
 -- ---- a callback
 
+-- an ejection leaves the policy the one that it was
 pub eject_policy : (s : State) (x : Eject) → (eject s x).state.policy ≡ s.policy
 unfolding eject moves_over
 eject_policy s x = refl
 
+-- an ejection calls no callback
 pub eject_calls : (s : State) (x : Eject) → (eject s x).calls ≡ []
 unfolding eject moves_over
 eject_calls s x = refl
@@ -311,6 +315,7 @@ honest_clear (suc j) s c =
     go v None more = honest_stays v
     go v (Some t) more = let p = park_front v (local_on c) t in honest_joined v p (clear j p.state c) (honest_park_front v (local_on c) t) (more p.state)
 
+-- supplying a local queue does no more to the policy than a step may
 pub honest_supply : (s : State) (c : ℕ) → IsHonest s (supply s c)
 unfolding supply
 honest_supply s c = honest_clear (in_reach s c) s c
@@ -378,6 +383,7 @@ honest_swap_or_rest : (s : State) (c : ℕ) (p : Option ℕ) (ran : Bool) → Is
 unfolding swap_or_rest
 honest_swap_or_rest s c p ran = keeps_if (IsHonest s) (has_local s c) (swap s c p) (rest s c p ran) (honest_swap s c p) (honest_rest s c p ran)
 
+-- filling from the built-in queue does no more to the policy than a step may
 pub honest_builtin_fill : (s : State) (c : ℕ) → IsHonest s (builtin_fill s c)
 unfolding builtin_fill builtin_dispatch
 honest_builtin_fill s c =
@@ -576,6 +582,7 @@ honest_let_go_from (suc j) s (Some t) =
     keeps_if (IsHonest s) (is_throttled s.world t) (let_go_from j s next) (joined r (let_go_from j r.state next)) (honest_let_go_from j s next)
     (honest_joined s r (let_go_from j r.state next) (honest_let_go_one s t) (honest_let_go_from j r.state next))
 
+-- letting all go who may run again does no more to the policy than a step may
 pub honest_let_all_go : (s : State) → IsHonest s (let_all_go s)
 unfolding let_all_go
 honest_let_all_go s = honest_let_go_from (len_of s.world.queues parked) s (front_of s.world.queues parked)

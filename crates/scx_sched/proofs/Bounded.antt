@@ -81,6 +81,7 @@ cpus_same t u g h (o ∷ cpus) =
     same None = refl
     same (Some k) = ap (λ b. cond {A = ℕ} b 1 0) (h k)
 
+-- usages that are within their quotas stay so as a group gets another weight
 pub within_reweighed : (t : Hierarchy) (on : List (Option ℕ)) (g x : ℕ) → AreWithin t on → AreWithin (with_weight t g x) on
 within_reweighed t on g x h k quota lt is =
     let there : k < length t.groups = omega (arith, lt, length-set t.groups g (record { parent = parent_of t.groups g; weight = x; quota_ms = quota_at t.groups g; period_ms = period_at t.groups g })) in
@@ -108,6 +109,7 @@ nobody_runs t g (suc n) = nobody_runs t g n
 none_used : (t : Hierarchy) (g : ℕ) → g < length t.groups → usage_of (with_turn t 0) g ≡ 0
 none_used t g l = usage_turned t 0 g l ∙ ap (λ b. cond b 0 (usage_of t g)) (eq-eqb (0 % period_at t.groups g) 0 (zero-mod (period_at t.groups g)))
 
+-- at first, as periods begin and nobody runs, all usages are within their quotas
 pub within_first : (t : Hierarchy) (cpus : ℕ) → 0 < cpus → AreWithin (with_turn t 0) (replicate cpus None)
 within_first t cpus some g quota lt is =
     let none : usage_of (with_turn t 0) g ≡ 0 = none_used t g lt in

@@ -42,9 +42,11 @@ MayStart c w = (t : ℕ) → front_of w.queues (local_on c) ≡ Some t → world
 pub tree_free : (w : WorldState) (t : ℕ) → t < length w.tasks → world.is_throttled w t ≡ false → is_throttled w.tree t ≡ false
 tree_free w t l e = sym (ap (λ b. b && is_throttled w.tree t) (lt-ltb t (length w.tasks) l)) ∙ e
 
+-- who is throttled in the world is throttled by the tree
 pub tree_used_up : (w : WorldState) (t : ℕ) → world.is_throttled w t ≡ true → is_throttled w.tree t ≡ true
 tree_used_up w t e = (and_parts (nat_lt t (length w.tasks)) (is_throttled w.tree t) e).1
 
+-- in a sound world, a front that may run as the world has it may run as the tree has it
 pub clear_of : (hand : Option ℕ) (on : List (Option ℕ)) (n c : ℕ) (w : WorldState) → IsSound hand on n w → MayStart c w → IsClear c w
 clear_of hand on n c w h may t e = tree_free w t (omega (arith, front_is_known w.queues (local_on c) (Some t) (sym e), h.even, h.tasks)) (may t e)
 
@@ -62,6 +64,7 @@ count_same id (x ∷ xs) [] e h = absurd (omega (arith, e))
 count_same id (x ∷ xs) (y ∷ ys) e h =
     omega (arith, sum_by-cons (λ o. one_if (is_in id o)) x xs, sum_by-cons (λ o. one_if (is_in id o)) y ys, ap one_if (h 0), count_same id xs ys (omega (arith, e)) (λ k. h (suc k)))
 
+-- a queue in which the same tasks are is as long as before
 pub len_same : (id : ℕ) (s s' : QueueState) → IsSameIn id s s' → len_of s' id ≡ len_of s id
 len_same id s s' h = count_same id s.entries s'.entries h.count (λ k. one k (h.same k))
   where

@@ -29,10 +29,12 @@ pub record IsKeptInside (n : ℕ) (I : ℕ → Option ℕ → List (Option ℕ) 
   pub steps : IsKeptBySteps n I
   pub sound : (m : ℕ) (hand : Option ℕ) (on : List (Option ℕ)) (w : WorldState) → I m hand on w → IsSound hand on n w
 
+-- where the test says that a number isn't 0, it is greater
 pub some_local : (k : ℕ) (b : Bool) → (k == 0) ≡ b → not b ≡ true → 0 < k
 some_local k true x y = absurd (cc)
 some_local k false x y = grind (arith, nat_tests, x)
 
+-- where the test says that a number is 0, it is
 pub no_local : (k : ℕ) (b : Bool) → (k == 0) ≡ b → not b ≡ false → k ≡ 0
 no_local k true x y = grind (arith, nat_tests, x)
 no_local k false x y = absurd (cc)

@@ -109,6 +109,7 @@ clock_decides s = go (overdue r.state)
 decided : (v : Event) (s : State) → IsHonestEvent s v → clock_after v s.world.clock ≡ s.world.clock → IsDecided v s (happened s v)
 decided v s h now = record { clock = h.clock ∙ sym now; tree = h.tree; policy = h.policy; silent = h.silent }
 
+-- after an accepted event clock, tree and policy are as it alone decides
 pub decides : (s : State) (n : ℕ) (v : Event) → machine.refusal s v ≡ None → IsFineNow (length s.world.tasks) n n s.world → IsDecided v s (happened s v)
 decides s n v ok fine = go v (is_taken s v ok) ok
   where

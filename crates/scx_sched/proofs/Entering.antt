@@ -75,6 +75,7 @@ sorted_removed s t sorted = keeps_if IsSorted (is_some (entry_of s t)) (without_
 
 -- ---- the stamps of entries are below the number of pushes
 
+-- after a push each stamp is still that of an accepted push
 pub stamped_pushed : (s : QueueState) (q t : ℕ) (r : Rank) → IsStamped s → IsStamped (pushed s q t r)
 stamped_pushed s q t r h = keeps_if IsStamped (is_none (push_refusal s q t r)) (with_place s q t r) s (λ u p e. at u p e (cases_eq u t) (cases_lt t (length s.entries))) h
   where
@@ -105,12 +106,15 @@ stamped_without : (s : QueueState) (o : Option ℕ) → IsStamped s → IsStampe
 stamped_without s None h = h
 stamped_without s (Some t) h = stamped_gone s t h
 
+-- after a front has left its queue each stamp is still that of an accepted push
 pub stamped_popped : (s : QueueState) (q : ℕ) → IsStamped s → IsStamped (popped s q)
 stamped_popped s q h = stamped_without s (front_of s q) h
 
+-- after a task has left its queue each stamp is still that of an accepted push
 pub stamped_removed : (s : QueueState) (t : ℕ) → IsStamped s → IsStamped (removed s t)
 stamped_removed s t h = keeps_if IsStamped (is_some (entry_of s t)) (without_task s t) s (stamped_gone s t h) h
 
+-- after a queue was created each stamp is still that of an accepted push
 pub stamped_created : (s : QueueState) (q : ℕ) → IsStamped s → IsStamped (created s q)
 stamped_created s q h = keeps_if IsStamped (is_none (create_refusal s q)) (with_queue s q) s h h
 
@@ -139,6 +143,7 @@ one_sort (Vtime j) Fifo c e f = absurd (cc)
 one_sort (Vtime j) (Vtime k) Fifo e f = f
 one_sort (Vtime j) (Vtime k) (Vtime l) e f = refl
 
+-- where an id isn't one of the policy's, the other test holds
 pub low_or : (q : ℕ) (b : Bool) → policy_end ≤ q → (nat_lt q policy_end || b) ≡ true → b ≡ true
 low_or q b past e = let no : nat_lt q policy_end ≡ false = grind (arith, nat_tests, past) in subst (λ x. (x || b) ≡ true) no e
 

@@ -46,6 +46,7 @@ pub record IsKeptByEvents (n : ℕ) (I : ℕ → Option ℕ → List (Option ℕ
   pub let_go : LetsGo n I
   pub left : (m : ℕ) (on : List (Option ℕ)) (w : WorldState) (t : ℕ) → t < n → is_runnable w t ≡ true → cpu_of w t ≡ None → I m None on w → I m None on (asleep (gone w t) t)
 
+-- what events keep is kept inside of them
 pub inside_of : (n : ℕ) (I : ℕ → Option ℕ → List (Option ℕ) → WorldState → Type 0) → IsKeptByEvents n I → IsKeptInside n I
 inside_of n I k = record { steps = k.steps; sound = k.sound }
 
@@ -89,6 +90,7 @@ idle_is_free w c e = go (nat_lt c (length w.cpus)) (get_or w.cpus c None) (not (
     go true (Some t) d e = absurd (cc)
     go false o d e = absurd (cc)
 
+-- the task that is the given one is given
 pub is_task : (t : ℕ) (o : Option ℕ) → is_this t o ≡ true → o ≡ Some t
 is_task t None e = absurd (cc)
 is_task t (Some u) e = let same : t ≡ u = grind (arith, nat_tests, e) in ap Some (sym same)
@@ -287,6 +289,7 @@ pub data IsTaken (s : State) : Event → Type 0 where
   Clocks : IsTaken s Clock
   Weighs : (g x : ℕ) → IsTaken s (SetWeight g x)
 
+-- what an accepted event is about is there, and a task isn't already as it would make it
 pub is_taken : (s : State) (v : Event) → refusal s v ≡ None → IsTaken s v
 is_taken s (Wake t) ok = go (nat_lt t (length s.world.tasks)) (is_runnable s.world t) refl refl ok
   where
@@ -314,6 +317,7 @@ is_taken s (SetWeight g x) ok = Weighs g x
 abbrev pub IsFineNow : ℕ → ℕ → ℕ → WorldState → Type 0
 IsFineNow n e m w = IsFine n e m None w.cpus w
 
+-- events keep what is fine between them
 pub fine_events : (n e : ℕ) → IsKeptByEvents n (IsFine n e)
 fine_events n e = record {
   steps = fine_steps n e;
@@ -323,6 +327,7 @@ fine_events n e = record {
   left = λ m on w t within runnable off h. let r = range_of n e m None on w h in fine_of n e m None on _ (sound_left on n w t within runnable off h.sound) (keeps_if (IsRange e m on) (nat_lt t (length w.tasks)) _ (gone w t) (range_same e m on (gone w t) t _ refl refl r) r);
 }
 
+-- what is fine is kept inside of an event
 pub fine_inside : (n e : ℕ) → IsKeptInside n (IsFine n e)
 fine_inside n e = inside_of n (IsFine n e) (fine_events n e)
 
@@ -367,6 +372,7 @@ fine_ticked n e m w c t l at h = record {
     sound : IsSound None w.cpus n v
     sound = sound_used_ms None w.cpus n (ticked w t) t (sound_ticked w.cpus n w t h.sound)
 
+-- it stays fine as the clock grows and periods begin, with one event more
 pub fine_later : (n e m : ℕ) (w : WorldState) → IsFineNow n e m w → IsFineNow n (e + 1) m (begun_periods (later w))
 fine_later n e m w h = record { sound = sound_begun_periods None w.cpus n (later w) (sound_later w.cpus n w h.sound); clock = omega (arith, h.clock); runs = λ t. omega (arith, h.runs t); times = h.times; builtin_clock = h.builtin_clock; used = most_turned w.tree (w.clock + 1) (e + 1) (λ g. omega (arith, h.used g)); within = within_turned w.tree w.cpus (w.clock + 1) h.within; not_yet = h.not_yet }
 

@@ -46,6 +46,7 @@ each_set P tasks t x new old u = go (cases_eq u t) (cases_lt t (length tasks))
 
 -- ---- how long a task has run
 
+-- a store of a program leaves it how long the task has run
 pub stored_run : (x : Task) (f : Field) (k : ℕ) → (stored_in x f k).run_ns ≡ x.run_ns
 stored_run x Pid k = refl
 stored_run x Weight k = refl
@@ -55,6 +56,7 @@ stored_run x PrevCpu k = refl
 stored_run x Group k = refl
 stored_run x RunNs k = refl
 
+-- an insert leaves it how long the task has run
 pub given_run : (x : Task) (i : Insert) → (given x i).run_ns ≡ x.run_ns
 given_run x i = vtime i.rank ∙ keeps_if (λ (y : Task). y.run_ns ≡ x.run_ns) (i.slice == 0) x _ refl refl
   where
@@ -62,6 +64,7 @@ given_run x i = vtime i.rank ∙ keeps_if (λ (y : Task). y.run_ns ≡ x.run_ns)
     vtime Fifo = refl
     vtime (Vtime k) = refl
 
+-- a new slice leaves it how long the task has run
 pub renewed_run : (x : Task) → (renewed x).run_ns ≡ x.run_ns
 renewed_run x = keeps_if (λ (y : Task). y.run_ns ≡ x.run_ns) (x.slice == 0) _ x refl refl
 

@@ -124,6 +124,7 @@ locals_places (suc n) s = places_created (with_locals n s) (local_on n) ∙ loca
 first_places : (cpus tasks : ℕ) → (first_queues cpus tasks).entries ≡ replicate tasks None
 first_places cpus tasks = locals_places cpus (own_queues cpus tasks) ∙ ap (λ (s : QueueState). s.entries) (own cpus tasks)
 
+-- at first no task is in a queue
 pub nowhere : (cpus tasks t : ℕ) → entry_of (first_queues cpus tasks) t ≡ None
 nowhere cpus tasks t = rw (first_places cpus tasks) (go (cases_lt t tasks))
   where
@@ -243,5 +244,6 @@ time_started limit p tree cpus t shape e =
 pub policy_started : (p : PolicyState) (tree : Hierarchy) (cpus : ℕ) (t : State) → started p tree cpus ≡ Ok t → t.policy ≡ p
 policy_started p tree cpus t e = keeps_started (λ s. s.policy ≡ p) (λ s b a u h. h) p tree cpus t e refl
 
+-- as a machine begins, its policy is in force
 pub force_started : (p : PolicyState) (tree : Hierarchy) (cpus : ℕ) (t : State) → started p tree cpus ≡ Ok t → t.world.ejected ≡ None
 force_started p tree cpus t e = keeps_started (λ s. s.world.ejected ≡ None) (λ s b a u h. (same_called (acting s b) b a s.maps (begun s.world b u 0)).1 ∙ h) p tree cpus t e refl

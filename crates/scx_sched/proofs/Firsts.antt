@@ -37,6 +37,7 @@ not_in id (x ∷ xs) e zero l = go (is_in id x) refl
     go false y = y
 not_in id (x ∷ xs) e (suc k) l = not_in id xs (omega (arith, count_cons id x xs, e)) k (omega (arith, l))
 
+-- an entry that isn't in the queue is ahead of none there
 pub out_is_not_ahead : (id : ℕ) (p : Entry) (o : Option Entry) → is_in id o ≡ false → is_ahead id p o ≡ false
 out_is_not_ahead id p None e = refl
 out_is_not_ahead id p (Some q) e = rw e refl

@@ -7,6 +7,7 @@ use Rattle.scx_sched.specs.Causes.{EjectsOnce, IsNeverStuck}
 use Rattle.scx_sched.specs.Once.{AreInQueues}
 use Rattle.scx_sched.specs.Decided.{EventsDecide, Follows}
 
+-- what the contract of a step says of an event is that the state after it follows
 pub follows : (s : SimState) (e : Event) (t : SimState) (r : Result (Unit {0}) Refused) → r ≡ answer_of (refusal s e) → t ≡ stepped s e → OnOk r (EventsDecide s e t) → OnOk r (EjectsOnce s e t) → IsNeverStuck t.state.world → AreInQueues t.state.world → Follows (refusal s e) s e t
 follows s e t r answer state decided ejects unstuck there = go (refusal s e) state (subst (λ (x : Result (Unit {0}) Refused). OnOk x (EventsDecide s e t)) answer decided) (subst (λ (x : Result (Unit {0}) Refused). OnOk x (EjectsOnce s e t)) answer ejects)
   where

@@ -91,9 +91,11 @@ front_same s s' id h = rw (at, h.count) refl
 
 -- ---- which changes those are
 
+-- where no entry has changed, the same tasks are in the queue
 pub same_here : (id : ℕ) (s s' : QueueState) → s'.entries ≡ s.entries → IsSameIn id s s'
 same_here id s s' e = record { count = ap length e; same = λ k. Equal (ap (λ xs. entry_at xs k) e) }
 
+-- where two changes leave the same tasks in a queue, they do one after the other
 pub same_then : (id : ℕ) (s s' s'' : QueueState) → IsSameIn id s s' → IsSameIn id s' s'' → IsSameIn id s s''
 same_then id s s' s'' a b = record { count = b.count ∙ a.count; same = λ k. go k (a.same k) (b.same k) }
   where

@@ -41,9 +41,11 @@ use Rattle.scx_sched.proofs.Waiting.{since_set, stored_since, given_since}
 abbrev pub AreAsLong : WorldState → WorldState → Type 0
 AreAsLong w v = (v.clock ≡ w.clock) × (length v.tasks ≡ length w.tasks) × ((t : ℕ) → wait v t ≡ wait w t)
 
+-- in the same world each task has waited as long
 pub long_here : (w : WorldState) → AreAsLong w w
 long_here w = (refl, refl, λ t. refl)
 
+-- where waits are as long from each of three worlds to the next, they are from first to last
 pub long_then : (u w v : WorldState) → AreAsLong u w → AreAsLong w v → AreAsLong u v
 long_then u w v a b = (b.0 ∙ a.0, b.1 ∙ a.1, λ t. b.2 t ∙ a.2 t)
 

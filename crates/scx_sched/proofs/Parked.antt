@@ -39,12 +39,14 @@ pub record IsAsParked (s s' : QueueState) : Type 0 where
   pub stay : (u : ℕ) → queue_of s u ≡ Some parked → entry_of s' u ≡ entry_of s u
   pub none : (u : ℕ) → queue_of s' u ≡ Some parked → entry_of s' u ≡ entry_of s u
 
+-- where all have the same entries, the same tasks are parked
 pub as_same : (s s' : QueueState) → ((u : ℕ) → entry_of s' u ≡ entry_of s u) → IsAsParked s s'
 as_same s s' h = record { stay = λ u e. h u; none = λ u e. h u }
 
 abbrev home_of : Option Entry → Option ℕ
 home_of o = option_map (λ p. p.queue) o
 
+-- where two changes leave the same tasks parked, they do one after the other
 pub as_then : (s s' s'' : QueueState) → IsAsParked s s' → IsAsParked s' s'' → IsAsParked s s''
 as_then s s' s'' a b = record {
   stay = λ u e. b.stay u (ap home_of (a.stay u e) ∙ e) ∙ a.stay u e;
@@ -79,6 +81,7 @@ none_from o is e = let bad : None ≡ Some parked = sym (ap home_of is) ∙ e in
 
 -- ---- queues
 
+-- after a push to another queue the same tasks are parked
 pub as_pushed : (s : QueueState) (q t : ℕ) (r : Rank) → (q == parked) ≡ false → IsAsParked s (pushed s q t r)
 as_pushed s q t r apart = go (push_refusal s q t r) refl
   where
@@ -93,6 +96,7 @@ as_pushed s q t r apart = go (push_refusal s q t r) refl
     go None ok = as_but s s' t (none_from (entry_of s t) (free_from s q t r ok)) (after (cases_lt t (length s.entries)) ok) (λ u d. get_or-set_other {A = Option Entry} s.entries t u (Some (next_entry s q r)) None d)
     go (Some f) x = as_same s s (λ u. refl)
 
+-- without the entry of a task that isn't parked the same tasks are parked
 pub as_without : (s : QueueState) (t : ℕ) → (queue_of s t ≡ Some parked → ⊥) → IsAsParked s (without_task s t)
 as_without s t before = as_but s (without_task s t) t before (after (cases_lt t (length s.entries))) (λ u d. without_other s t u d)
   where
@@ -100,9 +104,11 @@ as_without s t before = as_but s (without_task s t) t before (after (cases_lt t 
     after (inl l) e = none_from (entry_of (without_task s t) t) (get_or-set_same {A = Option Entry} s.entries t None None l) e
     after (inr past) e = before (ap (λ (xs : List (Option Entry)). home_of (get_or xs t None)) (sym (set_past s.entries t None past)) ∙ e)
 
+-- after a task that isn't parked has left its queue the same tasks are parked
 pub as_removed : (s : QueueState) (t : ℕ) → (queue_of s t ≡ Some parked → ⊥) → IsAsParked s (removed s t)
 as_removed s t before = keeps_if (IsAsParked s) (is_some (entry_of s t)) (without_task s t) s (as_without s t before) (as_same s s (λ u. refl))
 
+-- after the front of another queue has left it the same tasks are parked
 pub as_popped : (s : QueueState) (q : ℕ) → (q == parked) ≡ false → IsAsParked s (popped s q)
 as_popped s q apart = go (front_of s q) refl
   where
@@ -122,6 +128,7 @@ local_apart c = ne_eqb (local_on c) parked (λ x. omega (arith, x))
 abbrev pub StayParked : WorldState → WorldState → Type 0
 StayParked w v = IsAsParked w.queues v.queues
 
+-- in the same world the same tasks are parked
 pub stay_here : (w : WorldState) → StayParked w w
 stay_here w = as_same w.queues w.queues (λ u. refl)
 
@@ -130,20 +137,25 @@ wanted_apart on n w i (ForAny e) g = rw e refl
 wanted_apart on n w i (Nowhere e) g = rw e refl
 wanted_apart on n w i (Inserted c said l x e) g = rw e (said_apart on n w c said l x g)
 
+-- as a task comes to wait in another queue, the same tasks stay parked
 pub as_entered : (w : WorldState) (t : ℕ) (i : Insert) → (i.queue == parked) ≡ false → StayParked w (entered w t i)
 as_entered w t i apart = keeps_if (StayParked w) (nat_lt t (length w.tasks)) _ w (as_pushed w.queues i.queue t i.rank apart) (stay_here w)
 
+-- as the task at hand comes to wait where it may, the same tasks stay parked
 pub as_wanted : (on : List (Option ℕ)) (n : ℕ) (hand : Option ℕ) (w : WorldState) (t : ℕ) (i : Insert) → IsWanted (length on) w i → IsSound hand on n w → StayParked w (entered w t i)
 as_wanted on n hand w t i x h = as_entered w t i (wanted_apart on n w i x h.goes)
 
+-- as a front goes from another queue to a local one, the same tasks stay parked
 pub as_brought : (o : Option ℕ) (w : WorldState) (q c : ℕ) → (q == parked) ≡ false → StayParked w (brought o w q c)
 as_brought None w q c apart = stay_here w
 as_brought (Some t) w q c apart =
     as_then w.queues (popped w.queues q) (pushed (popped w.queues q) (local_on c) t Fifo) (as_popped w.queues q apart) (as_pushed (popped w.queues q) (local_on c) t Fifo (local_apart c))
 
+-- as a task comes to wait for the built-in scheduler, the same tasks stay parked
 pub as_put_builtin : (w : WorldState) (t : ℕ) → StayParked w (put_builtin w t)
 as_put_builtin w t = keeps_if (StayParked w) (nat_lt t (length w.tasks)) _ w (as_pushed w.queues builtin t (Vtime (raised w t)) refl) (stay_here w)
 
+-- as a task goes over, if it waits, the same tasks stay parked
 pub as_evict : (w : WorldState) (t : ℕ) → StayParked w (evict w t)
 as_evict w t = go (waits w t) refl
   where
@@ -196,6 +208,7 @@ as_helper w SelectCpuDfl a = stay_here w
 as_helper w TaskByPid a = stay_here w
 as_helper w MapLookupElem a = stay_here w
 
+-- as a program asks something of the world, the same tasks stay parked
 pub as_query : (w : WorldState) (q : Query) → StayParked w (after_query world_functions w q)
 as_query w (Call f a) = as_helper w f (map argument_of a)
 as_query w (Load t f) = stay_here w

@@ -32,6 +32,7 @@ takes_held hand on n w t i flags x e h =
 takes_builtin : (s : QueueState) (t v : ℕ) → entry_of s t ≡ None → exists s builtin ≡ true → IsSorted s → push_refusal s builtin t (Vtime v) ≡ None
 takes_builtin s t v free there sorted = is_accepted s t builtin (Vtime v) free (own_open s builtin (Vtime v) there (omega arith) refl sorted)
 
+-- in a sound world, the built-in queue takes a task that goes over
 pub takes_evicted : (hand : Option ℕ) (on : List (Option ℕ)) (n : ℕ) (w : WorldState) (t : ℕ) → waits w t ≡ true → IsSound hand on n w → push_refusal (removed w.queues t) builtin t (Vtime (raised w t)) ≡ None
 takes_evicted hand on n w t waits-here h =
     let stands = waits_there w.queues t waits-here in

@@ -44,6 +44,7 @@ use Rattle.scx_sched.proofs.Entering.{keeps_if, nowhere, sorted_pushed, sorted_p
 
 -- ---- changes of queues, tasks and the callback at hand
 
+-- once a record was set, still each task ran last on a processor that is there
 pub homes_set : (tasks : List Task) (t : ℕ) (x : Task) (k : ℕ) → x.prev_cpu < k → ((u : ℕ) → (get_or tasks u no_task).prev_cpu < k) → (u : ℕ) → (get_or (set tasks t x) u no_task).prev_cpu < k
 homes_set tasks t x k new old u = go (cases_eq u t) (cases_lt t (length tasks))
   where
@@ -104,6 +105,7 @@ module _ (hand : Option ℕ) (on : List (Option ℕ)) (n : ℕ) where
 pub left_place : (s : QueueState) (q t : ℕ) → front_of s q ≡ Some t → entry_of (popped s q) t ≡ None
 left_place s q t e = rw e (get_or-set_same {A = Option Entry} s.entries t None None (front_is_known s q (Some t) (sym e)))
 
+-- once the front has left its queue, the entry of every other task is as before
 pub popped_other : (s : QueueState) (q t u : ℕ) → front_of s q ≡ Some t → (u ≡ t → ⊥) → entry_of (popped s q) u ≡ entry_of s u
 popped_other s q t u e other = rw e (without_other s t u other)
 
@@ -340,6 +342,7 @@ module _ (hand : Option ℕ) (on : List (Option ℕ)) (n : ℕ) where
 
 -- ---- the task at hand comes to wait
 
+-- once the task at hand was pushed, each task is where it should be, with none at hand
 pub once_pushed : (w : WorldState) (t q : ℕ) (r : Rank) → t < task_count w.queues → push_refusal w.queues q t r ≡ None → IsOnce (Some t) w → IsOnce None (with_queues w (pushed w.queues q t r))
 once_pushed w t q r within ok once u = omega (arith, once u, standing_pushed w.queues q t u r within ok)
 

@@ -38,6 +38,7 @@ len_popped s id t e =
     inside None x = absurd (cc)
     inside (Some p) x = eq-eqb p.queue id (same p.queue id x)
 
+-- a push makes each queue longer by one task at most
 pub len_pushed_most : (s : QueueState) (q id t : ℕ) (r : Rank) → len_of (pushed s q t r) id ≤ len_of s id + 1
 len_pushed_most s q id t r = go (push_refusal s q t r) refl
   where
@@ -70,6 +71,7 @@ pub record IsThrottledFront (s : State) (q t : ℕ) : Type 0 where
 same_task : (a b : ℕ) → Some a ≡ Some b → a ≡ b
 same_task a b e = cc
 
+-- a front that is found to be throttled is the front, and throttled
 pub throttled_is : (s : State) (q t : ℕ) → throttled_front s q ≡ Some t → IsThrottledFront s q t
 throttled_is s q t e = go (front_of s.world.queues q) refl e
   where
@@ -107,17 +109,20 @@ pub record IsLeft (id : ℕ) (w v : WorldState) : Type 0 where
 left_here : (id : ℕ) (w : WorldState) → IsLeft id w w
 left_here id w = record { queue = same_here id w.queues w.queues refl; tree = refl }
 
+-- where two changes leave a queue and the tree alike, they do one after the other
 pub left_then : (id : ℕ) (u w v : WorldState) → IsLeft id u w → IsLeft id w v → IsLeft id u v
 left_then id u w v a b = record { queue = same_then id u.queues w.queues v.queues a.queue b.queue; tree = b.tree ∙ a.tree }
 
 left_put_parked : (id : ℕ) (w : WorldState) (t : ℕ) → (parked == id) ≡ false → IsLeft id w (put_parked w t)
 left_put_parked id w t apart = keeps_if (IsLeft id w) (nat_lt t (length w.tasks)) _ w (record { queue = same_pushed id w.queues parked t Fifo apart; tree = refl }) (left_here id w)
 
+-- as the front of another queue is parked, a queue and the tree stay, but for that of the parked
 pub left_park_front : (id : ℕ) (s : State) (q t : ℕ) → (q == id) ≡ false → (parked == id) ≡ false → IsLeft id s.world (park_front s q t).state.world
 unfolding park_front park
 left_park_front id s q t apart other =
     left_then id s.world (taken s.world q) (put_parked (taken s.world q) t) (record { queue = same_popped id s.world.queues q apart; tree = refl }) (left_put_parked id (taken s.world q) t other)
 
+-- as fronts of another queue are parked, a queue and the tree stay, but for that of the parked
 pub left_park_fronts : (j id : ℕ) (s : State) (q : ℕ) → (q == id) ≡ false → (parked == id) ≡ false → IsLeft id s.world (park_fronts j s q).state.world
 unfolding park_fronts
 left_park_fronts zero id s q apart other = left_here id s.world
@@ -146,6 +151,7 @@ no_front_at s q t empty e = let bad : None ≡ Some t = sym (empty_no_front s.wo
 abbrev FrontMayRun : State → ℕ → Type 0
 FrontMayRun s q = (t : ℕ) → front_of s.world.queues q ≡ Some t → is_throttled s.world t ≡ false
 
+-- after as many rounds as tasks are in a queue, its front, if there is one, may run
 pub fronts_parked : (j : ℕ) (s : State) (q : ℕ) → (parked == q) ≡ false → len_of s.world.queues q ≤ j → FrontMayRun (park_fronts j s q).state q
 unfolding park_fronts
 fronts_parked zero s q apart few = λ t e. absurd (no_front_at s q t (omega (arith, few)) e)
@@ -163,12 +169,14 @@ apart_local c q = (q == local_on c) ≡ false
 abbrev reach : ℕ → WorldState → ℕ
 reach c v = len_of v.queues (local_on c) + len_of v.queues global
 
+-- as the front of a local queue is parked, one task less is in it or in the global one
 pub reach_park_front : (s : State) (c t : ℕ) → front_of s.world.queues (local_on c) ≡ Some t → in_reach (park_front s (local_on c) t).state c + 1 ≡ in_reach s c
 reach_park_front s c t front =
     let v = (park_front s (local_on c) t).state.world in
     let others : len_of v.queues global ≡ len_of s.world.queues global = len_same global s.world.queues v.queues (left_park_front global s (local_on c) t (ne_eqb (local_on c) global (λ x. omega (arith, x))) refl).queue in
     omega (arith, len_park_front s (local_on c) t (ne_eqb parked (local_on c) (λ x. omega (arith, x))) front, others)
 
+-- after a fill no more tasks than before are in the local queue and the global one
 pub reach_fill : (s : State) (c : ℕ) → in_reach (fill s global c).state c ≤ in_reach s c
 unfolding fill
 reach_fill s c = go (nat_lt 0 (local_len s.world c)) refl (front_of s.world.queues global) refl
@@ -197,6 +205,7 @@ clear_clears (suc j) s c few = go (fill s global c).state (reach_fill s c) (thro
     go f less None x more = front_is_free f (local_on c) x
     go f less (Some u) x more = more u (omega (arith, few, less, reach_park_front f c u (throttled_is f (local_on c) u x).front))
 
+-- once a local queue was supplied, its front, if there is one, may run
 pub supply_clears : (s : State) (c : ℕ) → MayStart c (supply s c).state.world
 unfolding supply
 supply_clears s c = clear_clears (in_reach s c) s c (omega arith)

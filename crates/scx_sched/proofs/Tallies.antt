@@ -303,6 +303,7 @@ module _ (n e : ℕ) (s : State) (tasks : length s.world.tasks ≡ n) (fine : Is
 pub run_times : (n : ℕ) (s : State) (v : Event) → refusal s v ≡ None → IsFineNow (length s.world.tasks) n n s.world → AreInQueues s.world → (u : ℕ) → (task_at (happened s v).state.world u).run_ns ≡ (task_at s.world u).run_ns + ran_in v s.world u
 run_times n s v ok fine there = let x = tally_step (length s.world.tasks) n s refl fine (at_home s.world there) v ok in x.1
 
+-- after an accepted event, the queue in which a task is is there, if it was so before
 pub queues_there : (n : ℕ) (s : State) (v : Event) → refusal s v ≡ None → IsFineNow (length s.world.tasks) n n s.world → AreInQueues s.world → AreInQueues (happened s v).state.world
 queues_there n s v ok fine there = let x = tally_step (length s.world.tasks) n s refl fine (at_home s.world there) v ok in in_queues (happened s v).state.world x.2
 

@@ -113,6 +113,7 @@ module _ (limit n : ℕ) where
   time_put_builtin : (w : WorldState) (t : ℕ) → AreInTime limit n w → AreInTime limit n (put_builtin w t)
   time_put_builtin w t h = keeps_if (AreInTime limit n) (nat_lt t (length w.tasks)) _ w (time_same w t _ refl h) h
 
+-- small steps keep it that under a policy in force nobody has waited for longer than the limit
 pub time_steps : (limit n : ℕ) → IsKeptBySteps n (λ m hand on w. AreInTime limit n w)
 time_steps limit n = record {
   more = λ m hand on w h. h;
@@ -139,6 +140,7 @@ time_steps limit n = record {
 
 -- ---- the clock
 
+-- what is found not to be late has waited no longer than the limit
 pub not_late : (now limit : ℕ) (o : Option ℕ) → is_late now limit o ≡ false → time_since now o ≤ limit
 not_late now limit None e = omega arith
 not_late now limit (Some n) e = grind (arith, nat_tests, e)

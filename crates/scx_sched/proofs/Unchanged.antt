@@ -107,10 +107,12 @@ eject_sets s x =
 
 -- ---- other small steps
 
+-- as a front goes to a local queue, clock, ejection, cycle and tree stay as they are
 pub same_brought : (o : Option ℕ) (w : WorldState) (q c : ℕ) → IsAsBefore w (brought o w q c)
 same_brought None w q c = (refl, refl, refl, refl)
 same_brought (Some t) w q c = (refl, refl, refl, refl)
 
+-- as a task keeps its processor, clock, ejection, cycle and tree stay as they are
 pub same_kept : (w : WorldState) (o : Option ℕ) → IsAsBefore w (kept w o)
 same_kept w None = (refl, refl, refl, refl)
 same_kept w (Some t) = (refl, refl, refl, refl)

@@ -169,6 +169,7 @@ clock_unstuck s answered before = go (overdue r.state) answered
         let y = cause.Stall t r.state.world.clock in
         apart_causes t r.state.world.clock n (same_eject (eject r.state y).state.world.ejected y (cause.Fault Stuck n) (eject_sets r.state y).1 out)
 
+-- no accepted event whose calls are answered ejects a policy for a callback that was stuck
 pub unstuck_step : (s : State) (n : ℕ) (v : Event) → refusal s v ≡ None → IsFineNow (length s.world.tasks) n n s.world → AreAnswered (happened s v).calls → IsNeverStuck s.world → IsNeverStuck (happened s v).state.world
 unstuck_step s n v ok fine answered before = go v (is_taken s v ok) ok answered
   where

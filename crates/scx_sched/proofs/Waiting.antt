@@ -24,6 +24,7 @@ use Rattle.scx_sched.proofs.Entering.{keeps_if, one_le, nowhere}
 
 -- ---- truth values that are counted
 
+-- two tests that count as the same number have the same answer
 pub one_same : (a b : Bool) → one_if a ≡ one_if b → a ≡ b
 one_same true true e = refl
 one_same true false e = absurd (omega (arith, e))
@@ -62,6 +63,7 @@ waits_stands s u = go (entry_of s u)
     go None = omega arith
     go (Some p) = one_le (not (p.queue == parked))
 
+-- a task that waits has an entry
 pub waits_there : (s : QueueState) (u : ℕ) → waits_in (queue_of s u) ≡ true → is_some (entry_of s u) ≡ true
 waits_there s u e = go (entry_of s u) e
   where
@@ -69,6 +71,7 @@ waits_there s u e = go (entry_of s u) e
     go None x = absurd (cc)
     go (Some p) x = refl
 
+-- a push leaves the entries of other tasks as they are
 pub pushed_other : (s : QueueState) (q t u : ℕ) (r : Rank) → (u ≡ t → ⊥) → entry_of (pushed s q t r) u ≡ entry_of s u
 pushed_other s q t u r other = go (is_none (push_refusal s q t r))
   where
@@ -76,15 +79,19 @@ pushed_other s q t u r other = go (is_none (push_refusal s q t r))
     go true = get_or-set_other {A = Option Entry} s.entries t u (Some (next_entry s q r)) None other
     go false = refl
 
+-- a task whose push is accepted is in that queue then
 pub pushed_here : (s : QueueState) (q t : ℕ) (r : Rank) → t < task_count s → push_refusal s q t r ≡ None → queue_of (pushed s q t r) t ≡ Some q
 pushed_here s q t r within ok = rw (ok, get_or-set_same {A = Option Entry} s.entries t (Some (next_entry s q r)) None within) refl
 
+-- a task without its entry leaves those of other tasks as they are
 pub without_other : (s : QueueState) (t u : ℕ) → (u ≡ t → ⊥) → entry_of (without_task s t) u ≡ entry_of s u
 without_other s t u other = get_or-set_other {A = Option Entry} s.entries t u None None other
 
+-- a task that leaves its queue leaves the entries of other tasks as they are
 pub removed_other : (s : QueueState) (t u : ℕ) → (u ≡ t → ⊥) → entry_of (removed s t) u ≡ entry_of s u
 removed_other s t u other = keeps_if (λ (x : QueueState). entry_of x u ≡ entry_of s u) (is_some (entry_of s t)) (without_task s t) s (without_other s t u other) refl
 
+-- a task whose entry stays the same waits as it did
 pub same_waiting : (s s' : QueueState) (u : ℕ) → entry_of s' u ≡ entry_of s u → waiting s' u ≡ waiting s u
 same_waiting s s' u e = ap (λ (o : Option Entry). one_if (waits_in (option_map (λ p. p.queue) o))) e
 
@@ -162,6 +169,7 @@ renewed_since x = keeps_if (λ (y : Task). y.since ≡ x.since) (x.slice == 0) _
 
 -- ---- a task that begins to wait, or waits no more
 
+-- waits are counted still as one task's record and queue change, if they are for it and all others
 pub set_since : (w : WorldState) (s : QueueState) (hand hand' : Option ℕ) (t : ℕ) (x : Task) → t < length w.tasks → is_some x.since ≡ (waits_in (queue_of s t) || is_this t hand')
     → ((u : ℕ) → (u ≡ t → ⊥) → (waits w u || is_this u hand) ≡ (waits_in (queue_of s u) || is_this u hand')) → HasWaits hand w → HasWaits hand' (with_queues (with_task w t x) s)
 set_since w s hand hand' t x within new others h u = go (cases_eq u t)

@@ -29,6 +29,7 @@ pub record Both (I J : ℕ → Option ℕ → List (Option ℕ) → WorldState �
   pub one : I m hand on w
   pub two : J m hand on w
 
+-- where small steps keep each of two facts, they keep both
 pub both_steps : (n : ℕ) (I J : ℕ → Option ℕ → List (Option ℕ) → WorldState → Type 0) → IsKeptBySteps n I → IsKeptBySteps n J → IsKeptBySteps n (Both I J)
 both_steps n I J a b = record {
   more = λ m hand on w h. record { one = a.more m hand on w h.one; two = b.more m hand on w h.two };
