@@ -94,6 +94,7 @@ gone_all : {S : Type 0} (takes : S → Note → S → Type 0) (events : List Eve
 gone_all takes events s a t b h =
     record { state = h.state; notes = h.notes b refl; answered = h.answered tt; once = h.once (h.now_once, tt); counted = h.counted (h.now_counted, tt); timely = h.timely (h.now_timely, tt); bounded = h.bounded (h.now_bounded, tt); follows = h.follows tt }
 
+-- where no event is left, the whole run was gone through
 pub gone_through : {S : Type 0} (takes : S → Note → S → Type 0) (events : List Event) (s : SimState) (a : S) (rest : List Event) (t : SimState) (b : S) → IsOnItsWay takes events s a rest t b → rest ≡ [] → HasGone takes events s a t b
 gone_through takes events s a rest t b h end =
     let P : List Event → Type 0 = λ es. IsOnItsWay takes events s a es t b in
