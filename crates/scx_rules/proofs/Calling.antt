@@ -47,6 +47,7 @@ pub answered_first : (xs ys : List CallMade) → AreAnswered (xs ++ ys) → AreA
 answered_first [] ys h = tt
 answered_first (x ∷ xs) ys (h, hs) = (h, answered_first xs ys hs)
 
+-- of calls that come to an answer, those behind the first ones do
 pub answered_second : (xs ys : List CallMade) → AreAnswered (xs ++ ys) → AreAnswered ys
 answered_second [] ys h = h
 answered_second (x ∷ xs) ys (h, hs) = answered_second xs ys hs

@@ -182,6 +182,7 @@ clears (suc j) s c few = go (throttled_front (fill s global c).state (local_on c
     go (Some t) e more =
         ParkedOne c s t f (park_front f.state (local_on c) t) _ _ (fills s global c) (parks f.state (local_on c) t e) (more t (omega (arith, few, reach_fill s c, reach_park_front f.state c t (throttled_is f.state (local_on c) t e).front))) refl
 
+-- how a local queue is supplied is as the rules allow
 pub supplies : (s : State) (c : ℕ) → Supplies c s (supply s c)
 unfolding supply
 supplies s c = clears (in_reach s c) s c (omega arith)

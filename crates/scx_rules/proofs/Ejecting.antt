@@ -150,6 +150,7 @@ pub judges : (s : State) (f : Option Fault) → Judges s f (ejected_for f s)
 judges s None = Stays _ refl
 judges s (Some f) = Ejected f _ (ejects s (cause.Fault f s.world.clock))
 
+-- after a callback the rules allow no other step than the one that is computed
 pub only_judges : (s : State) (f : Option Fault) (r : Stepped) → Judges s f r → r ≡ ejected_for f s
 only_judges s None r (Stays _ k) = k
 only_judges s (Some f) r (Ejected _ _ h) = only_ejects s (cause.Fault f s.world.clock) r h
