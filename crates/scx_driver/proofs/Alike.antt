@@ -53,9 +53,11 @@ IsTreeLike h t = (t.groups ≡ h.groups) × (t.homes ≡ h.homes) × (t.active �
 abbrev pub IsLike : Hierarchy → ℕ → ℕ → WorldState → Type 0
 IsLike tree n c w = IsTreeLike tree w.tree × (length w.tasks ≡ n) × (length w.cpus ≡ c)
 
+-- a world like a tree has its groups
 pub like_groups : (h : Hierarchy) (n c : ℕ) (w : WorldState) → IsLike h n c w → w.tree.groups ≡ h.groups
 like_groups h n c w i = let t : IsTreeLike h w.tree = i.0 in t.0
 
+-- in a world like a tree the same tasks are active
 pub like_active : (h : Hierarchy) (n c : ℕ) (w : WorldState) → IsLike h n c w → w.tree.active ≡ h.active
 like_active h n c w i = let t : IsTreeLike h w.tree = i.0 in t.2
 

@@ -66,6 +66,7 @@ next_begun phase.Ticks m n p es k s some none = omega arith
 next_begun phase.Sleeps m n p es k s some none = omega arith
 next_begun phase.Clock m n p es k s some none = absurd (cc)
 
+-- behind a block that has no event comes a later one of its millisecond, if any block is left
 pub begun_past : (p q : Phase) (m n : ℕ) (d after : DriverState) (s : SimState) → blocks_left q m n ≡ d.blocks → q ≡ p → not (is_empty d.blocks) ≡ true → after ≡ begun d s
     → is_empty after.pending ≡ true → phase_number p < next_number after.blocks
 begun_past p q m n d after s blocks is some new none =
