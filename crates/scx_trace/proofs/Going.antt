@@ -33,6 +33,7 @@ abbrev pub HasGone : {S : Type 0} → (S → Note → S → Type 0) → (S → B
 HasGone {S} takes has_failed events s a rest t b =
     (u : SimState) (c : S) → GoesThrough takes has_failed rest t b u c → GoesThrough takes has_failed events s a u c
 
+-- a test doesn't both hold and fail
 pub differ : (f : Bool) → f ≡ true → f ≡ false → ⊥
 differ true x y = absurd (cc)
 differ false x y = absurd (cc)
@@ -76,6 +77,7 @@ pub record HasDone {S : Type 0} (takes : S → Note → S → Type 0) (has_faile
   pub notes : Takes takes a (notes_of_all s done) b
   pub all : has_failed b ≡ false → rest ≡ []
 
+-- of events that are gone through the first ones were taken, and all unless the sink has failed
 pub what_is_done : {S : Type 0} (takes : S → Note → S → Type 0) (has_failed : S → Bool) (events : List Event) (s : SimState) (a : S) (t : SimState) (b : S)
     → GoesThrough takes has_failed events s a t b → HasDone takes has_failed events s a t b
 what_is_done takes has_failed [] s a t b (state, sink, now) =
