@@ -6,6 +6,7 @@ use Rattle.std.specs.Io.KnownBytes.{Appends}
 use Rattle.scx_output.proofs.Growth.{grows_twice}
 use Rattle.scx_views.specs.Sketching.{Grows}
 
+-- known bytes to which nothing is written stay as they are
 pub nothing_written : (known : Option (List ℕ)) → Appends known known []
 nothing_written known = Appends-nil known
 
@@ -17,9 +18,11 @@ written_in_order (Ok x) a b c d e first second third fourth ab bc cd de =
     grows_twice a d e (first ++ second ++ third) fourth (grows_twice a c d (first ++ second) third (grows_twice a b c first second ab bc) cd) de
 written_in_order (Err x) a b c d e first second third fourth ab bc cd de = de
 
+-- known bytes that stay as they are have grown, by none
 pub grown_by_none : (known : Option (List ℕ)) → Grows known known
 grown_by_none known = ([], Appends-nil known)
 
+-- known bytes that have grown, and then by some more, have grown
 pub grown_more : (a b c : Option (List ℕ)) (bytes : List ℕ) → Grows a b → Appends b c bytes → Grows a c
 grown_more a b c bytes (before, grown) more = (before ++ bytes, grows_twice a b c before bytes grown more)
 

@@ -25,6 +25,7 @@ all_noted {V} {K} has_failed kept noted at_end (n ∷ ns) v w (u, one, rest) wel
     let first = before_note has_failed kept noted at_end (has_failed v) n v u refl one behind.0 in
     (first.0, behind.1 ∙ ap (λ k. noted_all noted ns k) first.1)
 
+-- a view that counts, and hasn't failed, keeps of all events and notes what the definition says
 pub all_kept : {V K : Type 0} (has_failed : V → Bool) (kept : V → K) (expected : SimState → Event → K → K) (noted : ℕ → What → K → K) (es : List Event) (s : SimState) (v w : V)
     → AreWatched (CountsEvent has_failed kept expected) has_failed (CountsNote has_failed kept noted) s es v w → has_failed w ≡ false
     → (has_failed v ≡ false) × (kept w ≡ kept_of_all expected noted s es (kept v))

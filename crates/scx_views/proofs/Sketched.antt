@@ -92,6 +92,7 @@ grown_or : (f : Bool) (s t : Seen) (text : List ℕ) → IsWholeOr f s text t �
 grown_or false s t text (grown, same) = ((text, grown), same)
 grown_or true s t text failed = failed
 
+-- behind a run that was sketched the output's known bytes have grown, or a write has failed
 pub run_is_sketched : {S G : Type 0} (output : S → G) (seen : S → Seen) (page : S → List ℕ) (f : Bool) (events : List Event) (m n : SimState) (s t : S)
     → (seen s).failed ≡ false → (seen t).failed ≡ f
     → Watches (λ x _ _ y. y ≡ x) (λ x. (seen x).failed) (λ x _ _ _ y. WritesPage output seen page x y) events m s n t
