@@ -104,7 +104,7 @@ queued_answer w q = if is_there w q then len_of w.queues q else invalid
 
 -- ---- inserts
 
--- whether a helper was given the task that the callback is about; false where it got no task
+-- whether a helper was given the task at hand; false where it was given no task
 abbrev pub is_at_hand : WorldState → Option ℕ → Bool
 is_at_hand w None = false
 is_at_hand w (Some t) = t == w.call.task
@@ -153,7 +153,7 @@ rank_fault w q r =
     if is_vtime r && nat_le policy_end q then Some BuiltinVtime
     else (if list_any (clashes q r) w.queues.entries then Some Mixed else None)
 
--- the first of two faults, where the first one, or either, may be missing
+-- the first fault, if there is one, else the second one, if there is one
 abbrev pub or_fault : Option Fault → Option Fault → Option Fault
 or_fault None o = o
 or_fault (Some f) o = Some f
@@ -321,6 +321,6 @@ world_functions = record { answer = helper_answer; after_call = helper_after; nu
 abbrev pub room_of : WorldState → ℕ
 room_of w = min (4096 - length w.notes) (2 ^ 63 - w.queues.pushes)
 
--- how many pushes were accepted so far, of which a helper call adds one at most
+-- how many pushes were accepted so far, to which a helper call adds one at most
 abbrev pub spent_of : WorldState → ℕ
 spent_of w = w.queues.pushes

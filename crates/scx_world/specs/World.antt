@@ -79,7 +79,7 @@ task_at w t = slice_index_or w.tasks t no_task
 abbrev pub with_task : WorldState → ℕ → Task → WorldState
 with_task w t x = with_tasks w (slice_set w.tasks t x)
 
--- whether a task has work to do, as it has from a wake on until it sleeps
+-- whether a task is runnable, as from a wake until it sleeps; false where there is no such task
 abbrev pub is_runnable : WorldState → ℕ → Bool
 is_runnable w t = is_active_task w.tree t
 
@@ -126,7 +126,7 @@ is_idle w c = nat_lt c (length w.cpus) && is_none (running w c) && not (is_this 
 abbrev pub this_if : Bool → ℕ → Option ℕ
 this_if b c = if b then Some c else None
 
--- the first of two processors, where the first one, or either, may be missing
+-- the first processor, if there is one, else the second one, if there is one
 abbrev pub or_this : Option ℕ → Option ℕ → Option ℕ
 or_this None o = o
 or_this (Some c) o = Some c
