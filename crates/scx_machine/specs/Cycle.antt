@@ -27,7 +27,7 @@ dispatched s c p =
     let r = call_back s callback.Dispatch (cpu_and_task c p) 0 c in
     joined r (supply r.state c)
 
--- whether dispatch is asked again: nobody is in the local queue, but the last call moved a task
+-- whether dispatch is asked again: it moved or inserted a task, and the local queue is empty still
 abbrev pub asks_again : State → ℕ → Bool
 asks_again s c = (local_len s.world c == 0) && s.world.call.has_moved
 
