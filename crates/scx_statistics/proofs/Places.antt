@@ -3,6 +3,7 @@ use Rattle.std.proofs.Common.{◌≡◌, ℕ, ◌<◌, Bool, true, false, cond, 
 use Rattle.std.proofs.lemmas.Bool.{cases_eq, eq-eqb, ne_eqb}
 use Rattle.std.proofs.lemmas.List.{get_or-set_same, get_or-set_other, get_or_read, set-get_or}
 
+-- a list stays as it is where what stands at a place is put there again
 pub set_as_it_is : {X : Type 0} (xs : List X) (i : ℕ) (d : X) → set xs i (get_or xs i d) ≡ xs
 set_as_it_is xs i d = set-get_or xs i d
 
@@ -28,6 +29,7 @@ at_changed_by {X} f xs u t d within = go (cases_eq t u)
     go (inl e) = rw (eq-eqb t u e) (rw e (get_or-set_same xs u (f u (get_or xs u d)) d (subst (λ k. k < length xs) e within)))
     go (inr other) = rw (ne_eqb t u other) (get_or-set_other xs u t (f u (get_or xs u d)) d other)
 
+-- one place is changed, by what stood there, and every other is as it was
 pub at_changed : {X : Type 0} (f : X → X) (xs : List X) (u t : ℕ) (d : X) → t < length xs
     → get_or (set xs u (f (get_or xs u d))) t d ≡ cond (eqb t u) (f (get_or xs t d)) (get_or xs t d)
 at_changed f xs u t d within = at_changed_by (λ k x. f x) xs u t d within

@@ -105,6 +105,7 @@ added a m n = omega arith
 none : (a : ℕ) → a ≡ a + 0
 none a = omega arith
 
+-- a processor's busy and idle ticks in a run are added to those that were counted before
 pub cpu_told : (c : ℕ) (es : List Event) (s : SimState) (k : Counts) (a b : ℕ) → c < length k.cpus
     → (cpu_at k.cpus c).busy ≡ capped a → (cpu_at k.cpus c).idle ≡ capped b
     → ((cpu_at (kept_of_all expected noted s es k).cpus c).busy ≡ capped (a + busy_in c s es)) × ((cpu_at (kept_of_all expected noted s es k).cpus c).idle ≡ capped (b + idle_in c s es))

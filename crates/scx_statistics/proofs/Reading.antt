@@ -15,6 +15,7 @@ all_there : (policy workload : List ℕ) (w : WorkloadState) (s : SimState) → 
 all_there policy workload w s run =
     tasks_stay (workload_events w s) s run.accepted ∙ (like_first run.machine (idle w.groups w.homes) w.cpus s.state run.first.0).1
 
+-- figures of the run that two texts stand for, through all its events, are figures of the texts
 pub of_texts : (policy workload : List ℕ) (w : WorkloadState) (s : SimState) (es : List Event) (f : Figures)
     → f.workload ≡ w → IsRun policy workload w s → es ≡ workload_events w s → AreOfRun w s es f.tasks.items f.cpus.items → AreOfTexts policy workload f
 of_texts policy workload w s es f same run events figures =

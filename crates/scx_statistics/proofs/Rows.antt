@@ -37,6 +37,7 @@ abbrev pub IsOfTask : ℕ → Option Pause → Type 0
 IsOfTask u None = Unit {0}
 IsOfTask u (Some p) = p.task ≡ u
 
+-- the pause that is told of what a task does is a pause of this task
 pub of_pause : (now u : ℕ) (d : Doing) → IsOfTask u (pause_of now u d)
 of_pause now u Sleeps = tt
 of_pause now u (Waits since) = refl
@@ -61,12 +62,14 @@ of_ended now u (Weight g x) d = tt
 of_ended now u (Stall t) d = tt
 of_ended now u (Fault f) d = tt
 
+-- a pause of a task that is there changes its figures as the pause says
 pub pause_here : (q : Option Pause) (tasks : List TaskFigures) (u : ℕ) → IsOfTask u q → u < length tasks → figures_at (after_pause q tasks) u ≡ with_option q (figures_at tasks u)
 pause_here None tasks u is within = refl
 pause_here (Some p) tasks u is within =
     let P : ℕ → Type 0 = λ k. figures_at (set tasks k (with_pause p (figures_at tasks k))) u ≡ with_pause p (figures_at tasks u) in
     subst P (sym is) (get_or-set_same tasks u (with_pause p (figures_at tasks u)) unused within)
 
+-- a pause of a task changes the figures of no other
 pub pause_there : (q : Option Pause) (tasks : List TaskFigures) (u t : ℕ) → IsOfTask u q → (t ≡ u → ⊥) → figures_at (after_pause q tasks) t ≡ figures_at tasks t
 pause_there None tasks u t is other = refl
 pause_there (Some p) tasks u t is other =
@@ -173,6 +176,7 @@ pub record IsThere (t : ℕ) (k : Counts) : Type 0 where
   pub tasks : t < length k.tasks
   pub doing : t < length k.doing
 
+-- a task that is there is there after a note too
 pub there_noted : (t now : ℕ) (what : What) (k : Counts) → IsThere t k → IsThere t (noted now what k)
 there_noted t now what k there = record {
   tasks = subst (λ n. t < n) (sym (length_counted what (doing_after now what k.doing) (after_pause (ended_by now what k.doing) k.tasks) ∙ length_paused (ended_by now what k.doing) k.tasks)) there.tasks;
@@ -202,6 +206,7 @@ row_one t n k there =
 
 -- ---- notes and events
 
+-- a task's row after what is counted of notes is what these notes make of its row alone
 pub row_of_notes : (t : ℕ) (ns : List Note) (k : Counts) → IsThere t k → IsThere t (noted_all noted ns k) × (row t (noted_all noted ns k) ≡ row_all t ns (row t k))
 row_of_notes t [] k there = (there, refl)
 row_of_notes t (n ∷ ns) k there =
@@ -215,10 +220,12 @@ same_rows t s (event.Tick c) k there = (record { tasks = there.tasks; doing = th
 same_rows t s event.Clock k there = (there, refl)
 same_rows t s (event.SetWeight g x) k there = (there, refl)
 
+-- the notes of two lists change a row as those of one and then those of the other do
 pub row_all_append : (t : ℕ) (ns ms : List Note) (r : Row) → row_all t (ns ++ ms) r ≡ row_all t ms (row_all t ns r)
 row_all_append t [] ms r = refl
 row_all_append t (n ∷ ns) ms r = row_all_append t ns ms (row_noted t n r)
 
+-- a task's row after what is counted of a run is what the notes of the run make of it
 pub row_of_run : (t : ℕ) (es : List Event) (s : SimState) (k : Counts) → IsThere t k
     → IsThere t (kept_of_all expected noted s es k) × (row t (kept_of_all expected noted s es k) ≡ row_all t (notes_of_all s es) (row t k))
 row_of_run t [] s k there = (there, refl)
@@ -245,6 +252,7 @@ event_keeps s (event.Tick c) k = refl
 event_keeps s event.Clock k = refl
 event_keeps s (event.SetWeight g x) k = refl
 
+-- what is counted of a run has as many tasks as before it
 pub tasks_kept : (es : List Event) (s : SimState) (k : Counts) → length (kept_of_all expected noted s es k).tasks ≡ length k.tasks
 tasks_kept [] s k = refl
 tasks_kept (e ∷ es) s k =

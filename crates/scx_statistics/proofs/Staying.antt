@@ -46,6 +46,7 @@ one_event v s accepted =
     ap (λ o. length (stepped_if o s v).state.world.tasks) accepted
     ∙ as_many v s.state (by_machine (eqb s.events max_events) (machine.refusal s.state v) accepted)
 
+-- events that are accepted leave as many tasks as there were
 pub tasks_stay : (es : List Event) (s : SimState) → AreAccepted s es → length (stepped_all s es).state.world.tasks ≡ length s.state.world.tasks
 tasks_stay [] s accepted = refl
 tasks_stay (e ∷ es) s accepted = tasks_stay es (stepped s e) accepted.1 ∙ one_event e s accepted.0

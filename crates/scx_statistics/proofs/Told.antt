@@ -19,6 +19,7 @@ use Rattle.scx_statistics.proofs.Rows.{with_option, Row, figures_noted, row_note
 
 -- ---- a count that is capped
 
+-- a capped count, counted up by one, is the capped count of one more
 pub one_more : (v a : ℕ) → v ≡ capped a → up v ≡ capped (a + 1)
 one_more v a e = rw e (twice_capped a (2 ^ 64 - 1))
   where
@@ -81,6 +82,7 @@ none a = omega arith
 added : (a m n : ℕ) → (a + m) + n ≡ a + (m + n)
 added a m n = omega arith
 
+-- the wakes of a task in notes are added to those that were counted before
 pub wakes_told : (t : ℕ) (ns : List Note) (r : Row) (a : ℕ) → r.figures.wakes ≡ capped a → (row_all t ns r).figures.wakes ≡ capped (a + wakes_of t ns)
 wakes_told t [] r a is = is ∙ ap capped (none a)
 wakes_told t (n ∷ ns) r a is =
@@ -110,6 +112,7 @@ stops_one now t (Weight g v) d x = refl
 stops_one now t (Stall u) d x = refl
 stops_one now t (Fault f) d x = refl
 
+-- a task's stops in notes, but for those asleep, are added to those that were counted before
 pub stops_told : (t : ℕ) (ns : List Note) (r : Row) (a : ℕ) → r.figures.stopped ≡ capped a → (row_all t ns r).figures.stopped ≡ capped (a + stops_in t r.doing ns)
 stops_told t [] r a is = is ∙ ap capped (none a)
 stops_told t (n ∷ ns) r a is =
@@ -119,6 +122,7 @@ stops_told t (n ∷ ns) r a is =
 
 -- ---- pauses
 
+-- what a row says that its task does after notes is what the task does behind them
 pub does_told : (t : ℕ) (ns : List Note) (r : Row) → (row_all t ns r).doing ≡ does_after t r.doing ns
 does_told t [] r = refl
 does_told t (n ∷ ns) r = does_told t ns (row_noted t n r)
@@ -132,10 +136,12 @@ abbrev pub waited_all : List Pause → w.Waits → w.Waits
 waited_all [] x = x
 waited_all (p ∷ ps) x = waited_all ps (waited_if (is_wait p) p x)
 
+-- the pauses of two lists count in waits as those of one and then those of the other do
 pub waited_append : (ps qs : List Pause) (x : w.Waits) → waited_all (ps ++ qs) x ≡ waited_all qs (waited_all ps x)
 waited_append [] qs x = refl
 waited_append (p ∷ ps) qs x = waited_append ps qs (waited_if (is_wait p) p x)
 
+-- a pause, if there is one, counts in a task's waits as a list of it alone does
 pub pause_said : (q : Option Pause) (x : TaskFigures) → (with_option q x).waits ≡ waited_all (to_list q) x.waits
 pause_said None x = refl
 pause_said (Some p) x = by_kind p.kind
@@ -165,6 +171,7 @@ waits_one : (b : Bool) (now t : ℕ) (what : What) (d : Doing) (x : TaskFigures)
 waits_one true now t what d x = count_keeps_waits what (does now what d) (with_option (ended now t what d) x) ∙ pause_said (ended now t what d) x
 waits_one false now t what d x = refl
 
+-- a task's waits after notes are those before with the pauses counted that end in the notes
 pub waits_told : (t : ℕ) (ns : List Note) (r : Row) → (row_all t ns r).figures.waits ≡ waited_all (pauses_in t r.doing ns) r.figures.waits
 waits_told t [] r = refl
 waits_told t (n ∷ ns) r =
@@ -182,6 +189,7 @@ length_filtered : (b : Bool) (p : Pause) (ps : List Pause) (a : ℕ) → (a + on
 length_filtered true p ps a = omega arith
 length_filtered false p ps a = omega arith
 
+-- the waits among some pauses are added to as many as were counted before
 pub count_told : (ps : List Pause) (x : w.Waits) (a : ℕ) → x.count ≡ capped a → (waited_all ps x).count ≡ capped (a + length (filter is_wait ps))
 count_told [] x a is = is ∙ ap capped (none a)
 count_told (p ∷ ps) x a is =
@@ -210,6 +218,7 @@ max_none a = omega arith
 max_shifted : (a b c : ℕ) → max (max a b) c ≡ max a (max b c)
 max_shifted a b c = omega arith
 
+-- the longest wait after some pauses is the longest of those before and of those among them
 pub longest_told : (ps : List Pause) (x : w.Waits) → IsLongest x → (waited_all ps x).longest ≡ max x.longest (longest_of (filter is_wait ps))
 longest_told [] x first = max_none x.longest
 longest_told (p ∷ ps) x first = by_test (is_wait p) (longest_told ps (waited p x) (longest_stays p x)) (longest_told ps x first)

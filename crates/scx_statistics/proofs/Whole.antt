@@ -66,6 +66,7 @@ not_ended (suc n) t w ds tasks le =
     ended_there (ended_below n w ds tasks) n t (ran_ms (task_at w n)) w.clock (doing_at ds n) (λ e. omega (arith, e, le))
     ∙ not_ended n t w ds tasks (omega (arith, le))
 
+-- as a run ends, a task's figures get how long it ran and then the pause that goes on
 pub is_ended : (n t : ℕ) (w : WorldState) (ds : List Doing) (tasks : List TaskFigures) → t < n → t < length tasks
     → figures_at (ended_below n w ds tasks) t ≡ with_option (pause_of w.clock t (doing_at ds t)) (with_run (ran_ms (task_at w t)) (figures_at tasks t))
 is_ended zero t w ds tasks below within = absurd (omega (arith, below))
@@ -161,6 +162,7 @@ cpu_of_run wl s es c below =
     (ap (λ (x : CpuFigures). x.busy) unused_there) (ap (λ (x : CpuFigures). x.idle) unused_there) in
     record { busy = told.0 ∙ ap capped (from_0 (busy_in c s es)); idle = told.1 ∙ ap capped (from_0 (idle_in c s es)) }
 
+-- what is counted in a whole run are the figures of that run
 pub figures_told : (wl : WorkloadState) (s : SimState) (es : List Event) (tasks : List TaskFigures) (cpus : List CpuFigures)
     → tasks ≡ (final wl s es).tasks → cpus ≡ (final wl s es).cpus → AreOfRun wl s es tasks cpus
 figures_told wl s es tasks cpus same_tasks same_cpus = record {
@@ -178,6 +180,7 @@ figures_told wl s es tasks cpus same_tasks same_cpus = record {
 
 -- ---- what was gathered
 
+-- a view that was shown a whole run, and had memory to its end, has counted all of the run
 pub gathered : {G : Type 0} (tally : G → Tally) (wl : WorkloadState) (s t : SimState) (es : List Event) (first shown last : G)
     → counts_of (tally first) ≡ nothing (length wl.homes) wl.cpus
     → Watches (CountsEvent (λ g. is_err (tally g).result) (λ g. counts_of (tally g)) expected) (λ g. is_err (tally g).result) (CountsNote (λ g. is_err (tally g).result) (λ g. counts_of (tally g)) noted) es s first t shown
@@ -189,6 +192,7 @@ gathered tally wl s t es first shown last begins watched ends well =
     at_end.1 ∙ ap (λ (x : SimState). ended x.state.world (counts_of (tally shown))) kept.0
     ∙ ap (λ k. ended (stepped_all s es).state.world k) (kept.1 ∙ ap (λ k. kept_of_all expected noted s es k) begins)
 
+-- an answer with the figures of a tally that counted all of a run has the figures of the run
 pub answered : {E : Type 0} (r : Result Gathered E) (x : Tally) (wl : WorkloadState) (s : SimState) (es : List Event)
     → IfOk r (λ f. f.tasks ≡ x.tasks) → IfOk r (λ f. f.cpus ≡ x.cpus) → OnOk r (is_err x.result ≡ false)
     → (is_err x.result ≡ false → counts_of x ≡ final wl s es) → IfOk r (λ f. AreOfRun wl s es f.tasks.items f.cpus.items)

@@ -24,12 +24,15 @@ pub record Counts : Type 0 where
   pub cpus : List CpuFigures
   pub doing : List Doing
 
+-- what a tally has counted
 abbrev pub counts_of : Tally → Counts
 counts_of t = record { tasks = t.tasks.items; cpus = t.cpus.items; doing = t.pauses }
 
+-- the figures of a task before a run: nothing has been counted of it
 abbrev pub unused : TaskFigures
 unused = record { run = 0; waits = no_waits; wakes = 0; stopped = 0; parked = 0 }
 
+-- the figures of a processor before a run: nothing has been counted, and no task has begun on it
 abbrev pub unused_cpu : CpuFigures
 unused_cpu = record { busy = 0; idle = 0; changes = 0; last = None }
 
@@ -37,27 +40,34 @@ unused_cpu = record { busy = 0; idle = 0; changes = 0; last = None }
 abbrev pub nothing : ℕ → ℕ → Counts
 nothing tasks cpus = record { tasks = replicate tasks unused; cpus = replicate cpus unused_cpu; doing = replicate tasks Sleeps }
 
+-- the figures of the task of that number; those before a run where there is none
 abbrev pub figures_at : List TaskFigures → ℕ → TaskFigures
 figures_at tasks t = slice_index_or tasks t unused
 
+-- the figures of the processor of that number; those before a run where there is none
 abbrev pub cpu_at : List CpuFigures → ℕ → CpuFigures
 cpu_at cpus c = slice_index_or cpus c unused_cpu
 
 -- ---- tasks
 
+-- a task's figures with one wake more
 abbrev pub with_wake : TaskFigures → TaskFigures
 with_wake x = record { run = x.run; waits = x.waits; wakes = up x.wakes; stopped = x.stopped; parked = x.parked }
 
+-- a task's figures with one stop more although it had work to do
 abbrev pub with_stop : TaskFigures → TaskFigures
 with_stop x = record { run = x.run; waits = x.waits; wakes = x.wakes; stopped = up x.stopped; parked = x.parked }
 
+-- a task's figures with so many milliseconds that it ran, in place of those before
 abbrev pub with_run : ℕ → TaskFigures → TaskFigures
 with_run ms x = record { run = ms; waits = x.waits; wakes = x.wakes; stopped = x.stopped; parked = x.parked }
 
+-- a task's figures with a pause of that kind more: one more wait, or more parked milliseconds
 abbrev pub with_pause_of : PauseKind → Pause → TaskFigures → TaskFigures
 with_pause_of kind.Wait p x = record { run = x.run; waits = waited p x.waits; wakes = x.wakes; stopped = x.stopped; parked = x.parked }
 with_pause_of kind.Parked p x = record { run = x.run; waits = x.waits; wakes = x.wakes; stopped = x.stopped; parked = up_by (p.until - p.since) x.parked }
 
+-- a task's figures with one pause more, a wait or parked as the pause says
 abbrev pub with_pause : Pause → TaskFigures → TaskFigures
 with_pause p x = with_pause_of p.kind p x
 
@@ -65,15 +75,19 @@ with_pause p x = with_pause_of p.kind p x
 abbrev pub woken : List TaskFigures → ℕ → List TaskFigures
 woken tasks t = slice_set tasks t (with_wake (figures_at tasks t))
 
+-- one more stop, although there was work to do, of the task of that number, if it is there
 abbrev pub cut_off : List TaskFigures → ℕ → List TaskFigures
 cut_off tasks t = slice_set tasks t (with_stop (figures_at tasks t))
 
+-- the task of that number, if it is there, ran for so many milliseconds in all
 abbrev pub has_run : List TaskFigures → ℕ → ℕ → List TaskFigures
 has_run tasks t ms = slice_set tasks t (with_run ms (figures_at tasks t))
 
+-- the pause of a task is counted in the figures of that task, if it is there
 abbrev pub paused : List TaskFigures → Pause → List TaskFigures
 paused tasks p = slice_set tasks p.task (with_pause p (figures_at tasks p.task))
 
+-- the pause, if there is one, is counted in the figures of its task
 abbrev pub after_pause : Option Pause → List TaskFigures → List TaskFigures
 after_pause None tasks = tasks
 after_pause (Some p) tasks = paused tasks p
@@ -92,9 +106,11 @@ counted_for (Weight g y) d x = x
 counted_for (Stall t) d x = x
 counted_for (Fault f) d x = x
 
+-- the task of that number stops, and that is counted unless it sleeps or isn't there
 abbrev pub stop_counted : List Doing → List TaskFigures → ℕ → List TaskFigures
 stop_counted ds tasks t = if sleeps (doing_at ds t) then tasks else cut_off tasks t
 
+-- tasks' figures with the wake counted that a note tells, or a stop of one that doesn't sleep then
 abbrev pub tasks_counted : What → List Doing → List TaskFigures → List TaskFigures
 tasks_counted (Wake t) ds tasks = woken tasks t
 tasks_counted (Stop t c) ds tasks = stop_counted ds tasks t
@@ -109,23 +125,29 @@ tasks_counted (Fault f) ds tasks = tasks
 
 -- ---- processors
 
+-- a processor's figures with one tick more: busy where it ran a task before it, or else idle
 abbrev pub with_tick : Bool → CpuFigures → CpuFigures
 with_tick true x = record { busy = up x.busy; idle = x.idle; changes = x.changes; last = x.last }
 with_tick false x = record { busy = x.busy; idle = up x.idle; changes = x.changes; last = x.last }
 
+-- one tick more of the processor of that number; where there is none, nothing changes
 abbrev pub ticked : List CpuFigures → ℕ → Bool → List CpuFigures
 ticked cpus c is_busy = slice_set cpus c (with_tick is_busy (cpu_at cpus c))
 
+-- the count of changes as a task begins to run: one more where the last to begin was another
 abbrev pub changes_after : Option ℕ → ℕ → ℕ → ℕ
 changes_after None t n = n
 changes_after (Some last) t n = if last == t then n else up n
 
+-- a processor's figures as that task begins to run on it
 abbrev pub with_begin : ℕ → CpuFigures → CpuFigures
 with_begin t x = record { busy = x.busy; idle = x.idle; changes = changes_after x.last t x.changes; last = Some t }
 
+-- that task begins to run on the processor of that number; where there is none, nothing changes
 abbrev pub begun_on : List CpuFigures → ℕ → ℕ → List CpuFigures
 begun_on cpus t c = slice_set cpus c (with_begin t (cpu_at cpus c))
 
+-- processors' figures after a note: where it tells that a task runs, the task begins to run there
 abbrev pub cpus_counted : What → List CpuFigures → List CpuFigures
 cpus_counted (Run t c) cpus = begun_on cpus t c
 cpus_counted (Wake t) cpus = cpus
@@ -144,6 +166,7 @@ cpus_counted (Fault f) cpus = cpus
 abbrev pub pause_counted : ℕ → What → Counts → Counts
 pause_counted clock what k = record { tasks = after_pause (ended_by clock what k.doing) k.tasks; cpus = k.cpus; doing = doing_after clock what k.doing }
 
+-- what a note counts beside the pause that it ends, of tasks that already do what it says
 abbrev pub counted : What → Counts → Counts
 counted what k = record { tasks = tasks_counted what k.doing k.tasks; cpus = cpus_counted what k.cpus; doing = k.doing }
 
@@ -165,5 +188,6 @@ ended_below zero w ds tasks = tasks
 ended_below (suc t) w ds tasks =
     after_pause (unfinished w.clock ds t) (has_run (ended_below t w ds tasks) t (ran_ms (task_at w t)))
 
+-- what is counted once the run has ended in that world
 abbrev pub ended : WorldState → Counts → Counts
 ended w k = record { tasks = ended_below (length w.tasks) w k.doing k.tasks; cpus = k.cpus; doing = k.doing }

@@ -25,14 +25,17 @@ use Rattle.scx_statistics.specs.declared.tally.TaskFigures.{TaskFigures}
 use Rattle.scx_statistics.specs.declared.tally.CpuFigures.{CpuFigures}
 use Rattle.scx_statistics.specs.declared.gathering.Figures.{Figures}
 
+-- what `stats` writes: the heads of columns above the tasks' figures, and then all the rest
 abbrev pub tables : List ℕ → List ℕ
 tables rows = codes "task                  run    waits        mean      99%  longest    since    wakes  stopped" ++ rows
 
+-- what `stats-csv` writes: the line that names the columns, and then the lines of values
 abbrev pub values : List ℕ → List ℕ
 values rows = codes "kind,name,figure,value\n" ++ rows
 
 -- ---- what a task does, and its pauses
 
+-- there is a task, and it has that number
 abbrev pub is_that : ℕ → Option ℕ → Bool
 is_that t None = false
 is_that t (Some u) = t == u
@@ -45,14 +48,17 @@ is_of t what = is_that t (of_task what)
 abbrev pub does_at : ℕ → Note → Doing → Doing
 does_at t n d = if is_of t n.what then does n.clock n.what d else d
 
+-- what the task does behind notes, one after the other, if it did so before them
 abbrev pub does_after : ℕ → Doing → List Note → Doing
 does_after t d [] = d
 does_after t d (n ∷ ns) = does_after t (does_at t n d) ns
 
+-- one pause or none, as a list
 abbrev pub to_list : Option Pause → List Pause
 to_list None = []
 to_list (Some p) = p ∷ []
 
+-- the pause of a task that a note ends, by what the task did before; none where it ends none
 abbrev pub ended_at : ℕ → Note → Doing → Option Pause
 ended_at t n d = if is_of t n.what then ended n.clock t n.what d else None
 
@@ -65,22 +71,27 @@ pauses_in t d (n ∷ ns) = to_list (ended_at t n d) ++ pauses_in t (does_at t n 
 abbrev pub pauses_of : ℕ → ℕ → List Note → List Pause
 pauses_of t clock ns = pauses_in t Sleeps ns ++ to_list (pause_of clock t (does_after t Sleeps ns))
 
+-- a pause of this kind is a wait for a processor; a parked task doesn't wait
 abbrev pub is_wait_kind : PauseKind → Bool
 is_wait_kind kind.Wait = true
 is_wait_kind kind.Parked = false
 
+-- in this pause its task waits, and isn't parked
 abbrev pub is_wait : Pause → Bool
 is_wait p = is_wait_kind p.kind
 
+-- all waits of a task in a run that ends at that clock, in the order in which they end
 abbrev pub waits_of : ℕ → ℕ → List Note → List Pause
 waits_of t clock ns = filter is_wait (pauses_of t clock ns)
 
+-- how many milliseconds the longest of some pauses took; 0 of none
 abbrev pub longest_of : List Pause → ℕ
 longest_of [] = 0
 longest_of (p ∷ ps) = max (length_of p) (longest_of ps)
 
 -- ---- wakes and stops
 
+-- the note says that this task wakes
 abbrev pub is_wake : ℕ → What → Bool
 is_wake t (Wake u) = t == u
 is_wake t (Sleep u) = false
@@ -93,6 +104,7 @@ is_wake t (Weight g x) = false
 is_wake t (Stall u) = false
 is_wake t (Fault f) = false
 
+-- the note says that this task stops, on whatever processor
 abbrev pub is_stop : ℕ → What → Bool
 is_stop t (Stop u c) = t == u
 is_stop t (Wake u) = false
@@ -105,10 +117,12 @@ is_stop t (Weight g x) = false
 is_stop t (Stall u) = false
 is_stop t (Fault f) = false
 
+-- 1 where something holds, and 0 where it doesn't
 abbrev pub one_if : Bool → ℕ
 one_if true = 1
 one_if false = 0
 
+-- how often a task wakes in these notes
 abbrev pub wakes_of : ℕ → List Note → ℕ
 wakes_of t [] = 0
 wakes_of t (n ∷ ns) = one_if (is_wake t n.what) + wakes_of t ns
@@ -120,6 +134,7 @@ stops_in t d (n ∷ ns) = one_if (is_stop t n.what && not (sleeps d)) + stops_in
 
 -- ---- processors
 
+-- the event is a tick of this processor
 abbrev pub is_tick : ℕ → Event → Bool
 is_tick c (event.Tick b) = c == b
 is_tick c (event.Wake t) = false
@@ -132,6 +147,7 @@ abbrev pub busy_in : ℕ → SimState → List Event → ℕ
 busy_in c s [] = 0
 busy_in c s (e ∷ es) = one_if (is_tick c e && is_some (running s.state.world c)) + busy_in c (stepped s e) es
 
+-- ticks of a processor that runs no task before them, in these events from that state on
 abbrev pub idle_in : ℕ → SimState → List Event → ℕ
 idle_in c s [] = 0
 idle_in c s (e ∷ es) = one_if (is_tick c e && not (is_some (running s.state.world c))) + idle_in c (stepped s e) es
@@ -146,6 +162,7 @@ pub record IsOfTask (t : ℕ) (w : WorldState) (ns : List Note) (x : TaskFigures
   pub waits : x.waits.count ≡ capped (length (waits_of t w.clock ns))
   pub longest : x.waits.longest ≡ longest_of (waits_of t w.clock ns)
 
+-- the figures of a processor in a run from that state through these events: its ticks, busy or idle
 pub record IsOfCpu (c : ℕ) (s : SimState) (es : List Event) (x : CpuFigures) : Type 0 where
   pub busy : x.busy ≡ capped (busy_in c s es)
   pub idle : x.idle ≡ capped (idle_in c s es)

@@ -2,6 +2,7 @@
 use Rattle.std.specs.Prelude.{ℕ, ◌+◌, ◌-◌, ◌*◌, ◌/◌, ◌^◌, ◌==◌, ◌||◌, nat_lt, min, Bool, if◌then◌else◌}
 use Rattle.scx_views.specs.declared.pauses.Pause.{Pause}
 
+-- what is counted of waits: how many, their milliseconds in all, and the longest with its beginning
 pub record Waits : Type 0 where
   pub count : ℕ
   pub total : ℕ
@@ -12,21 +13,27 @@ pub record Waits : Type 0 where
 abbrev pub capped : ℕ → ℕ
 capped n = min n (2 ^ 64 - 1)
 
+-- a count with so many more, up to the greatest number of 64 bits
 abbrev pub up_by : ℕ → ℕ → ℕ
 up_by more n = capped (n + more)
 
+-- a count with one more, up to the greatest number of 64 bits
 abbrev pub up : ℕ → ℕ
 up n = up_by 1 n
 
+-- what is counted before the first wait
 abbrev pub no_waits : Waits
 no_waits = record { count = 0; total = 0; longest = 0; longest_since = 0 }
 
+-- how many milliseconds a pause took
 abbrev pub length_of : Pause → ℕ
 length_of p = p.until - p.since
 
+-- a wait of that length is longer than all before it; the first is, whatever its length
 abbrev pub is_longest : ℕ → Waits → Bool
 is_longest length w = (w.count == 0) || nat_lt w.longest length
 
+-- what is counted with this pause as one wait more
 abbrev pub waited : Pause → Waits → Waits
 waited p w = record {
   count = up w.count;
