@@ -42,6 +42,7 @@ big most us l h =
     go true false false e = absurd (cc)
     go false b c e = refl
 
+-- digits of a number that takes more than 32 bits say no time
 pub too_long : (most : ℕ) (text : List ℕ) → most ≤ 1000000 → is_numeral text ≡ true → ¬ (IsNumeral 10 (without_leading_plus text) × (digits_value 10 (without_leading_plus text) < 2 ^ 32)) → None ≡ ms_in most text
 too_long most text l n p =
     let digits = are_digits text n in
@@ -190,6 +191,7 @@ says_just : (text : List ℕ) (limit : Option Limit) → limit_in text ≡ limit
 says_just text None e = λ limit says. absurd (let f = limit_is text limit says in cc)
 says_just text (Some limit) e = (limit_says text limit e, λ other says. same other limit (sym (limit_is text other says) ∙ e))
 
+-- each text says the limit that is read in it and no other, or none where none is read
 pub texts_say_one_limit_lem : TextsSayOneLimit
 texts_say_one_limit_lem = λ text. says_just text (limit_in text) refl
 
@@ -209,6 +211,7 @@ quota_within : (text : List ℕ) (quota : Option ℕ) → IsQuota text quota →
 quota_within text None q = refl
 quota_within text (Some ms) q = within max_quota ms q.least q.greatest
 
+-- the quota and the period of a limit that is read are in their limits
 pub says_right : (text : List ℕ) (limit : Limit) → limit_in text ≡ Some limit → IsRight limit
 says_right text limit e = go text (limit_says text limit e)
   where

@@ -7,9 +7,11 @@ use Rattle.scx_workloads.specs.declared.tasks.Tasks.TheInside.{Inside as InsideT
 use Rattle.scx_workloads.specs.Workload.{WorkloadState, IsTiming, timing_at}
 use Rattle.scx_workloads.specs.Reading.{GroupList, TaskList}
 
+-- the bytes of each of some names
 abbrev pub texts : List (String Global) → List (List ℕ)
 texts names = map (λ name. string_bytes name) names
 
+-- the workload that the fields of a `Workload` stand for
 abbrev pub state_of : Inside → WorkloadState
 state_of w = record {
   cpus = w.cpus;
@@ -24,16 +26,20 @@ state_of w = record {
 
 -- ---- as they are read
 
+-- the groups, with their names, that the fields of a `Groups` stand for
 abbrev pub groups_of : InsideGroups → GroupList
 groups_of g = record { names = texts g.names.items; groups = g.groups.items }
 
+-- what holds of groups as they are read: each has a name, and there are 256 at most
 pub record AreGroups (g : InsideGroups) : Type 0 where
   pub even : length g.names.items ≡ length g.groups.items
   pub few : length g.groups.items ≤ 256
 
+-- the tasks, with their names, that the fields of a `Tasks` stand for
 abbrev pub tasks_of : InsideTasks → TaskList
 tasks_of t = record { names = texts t.names.items; homes = t.homes.items; timings = t.timings.items }
 
+-- what holds of tasks as they are read: each has a name, and times that are in their limits
 pub record AreTasks (t : InsideTasks) : Type 0 where
   pub named : length t.names.items ≡ length t.homes.items
   pub timed : length t.timings.items ≡ length t.homes.items

@@ -75,5 +75,6 @@ abbrev pub SaysJust : List ℕ → Option Limit → Type 0
 SaysJust text None = (limit : Limit) → ¬ (Says limit text)
 SaysJust text (Some limit) = Says limit text × ((other : Limit) → Says other text → other ≡ limit)
 
+-- each text says the limit that is read in it and no other, or none where none is read
 abbrev pub TextsSayOneLimit : Type 0
 TextsSayOneLimit = (text : List ℕ) → SaysJust text (limit_in text)

@@ -5,9 +5,11 @@ use Rattle.scx_weights.specs.Refusals.{first_fault}
 use Rattle.scx_workloads.specs.declared.workload.Timing.{Timing}
 use Rattle.scx_workloads.specs.declared.workload.Change.{Change}
 
+-- the most milliseconds of a workload, and of each time of a task
 abbrev pub max_ms : ℕ
 max_ms = 1000000
 
+-- what a workload file says: processors, milliseconds, groups, tasks, and changes of weights
 pub record WorkloadState : Type 0 where
   pub cpus : ℕ
   pub ms : ℕ
@@ -18,12 +20,15 @@ pub record WorkloadState : Type 0 where
   pub timings : List Timing  -- of each task
   pub changes : List Change
 
+-- when the task of that number works; all times are 0 where there is none
 abbrev pub timing_at : List Timing → ℕ → Timing
 timing_at timings t = slice_index_or timings t (record { start = 0; run = 0; sleep = 0 })
 
+-- the change of that number in the order of the file; all of it is 0 where there is none
 abbrev pub change_at : List Change → ℕ → Change
 change_at changes i = slice_index_or changes i (record { at = 0; group = 0; weight = 0 })
 
+-- no time of a task exceeds the most milliseconds of a workload
 pub record IsTiming (t : Timing) : Type 0 where
   pub start : t.start ≤ max_ms
   pub run : t.run ≤ max_ms
@@ -35,6 +40,7 @@ pub record IsChange (groups : ℕ) (c : Change) : Type 0 where
   pub least : 1 ≤ c.weight
   pub greatest : c.weight ≤ 10000
 
+-- what holds of every workload: its numbers and lists are in their limits, its groups make a tree
 pub record IsWorkload (w : WorkloadState) : Type 0 where
   pub some_cpus : 1 ≤ w.cpus
   pub few_cpus : w.cpus ≤ 64
