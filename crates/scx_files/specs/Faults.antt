@@ -4,6 +4,7 @@ use Rattle.scx_files.specs.declared.fault.Cause.{Cause}
 use Rattle.scx_files.specs.declared.fault.LoadError.{LoadError}
 use Rattle.scx_files.specs.declared.fault.LoadError.TheVariants as errors
 
+-- the first fault of a file: the path of what is wrong, and the cause
 pub record Fault : Type 0 where
   pub path : List ℕ
   pub cause : Cause
@@ -12,6 +13,7 @@ pub record Fault : Type 0 where
 abbrev pub Reading : Type 0 → Type 0
 Reading A = Result A Fault
 
+-- the reading of what stands at that path, which is refused for that cause
 abbrev pub refusal : {A : Type 0} → List ℕ → Cause → Reading A
 refusal path cause = Err (record { path = path; cause = cause })
 
@@ -20,6 +22,7 @@ abbrev pub Fails : {A : Type 0} → LoadError → Reading A → Type 0
 Fails (errors.At path cause) read = read ≡ Err (record { path = string_bytes path; cause = cause })
 Fails errors.NoMemory read = Unit {0}
 
+-- what a function answered, its value seen by a view, is what reading gives, or memory ran out
 abbrev pub Gives : {T A : Type 0} → (T → A) → Result T LoadError → Reading A → Type 0
 Gives view (Ok x) read = read ≡ Ok (view x)
 Gives view (Err e) read = Fails e read

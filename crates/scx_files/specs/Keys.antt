@@ -8,9 +8,11 @@ use Rattle.std.specs.List.{list_any}
 abbrev pub is_control : ℕ → Bool
 is_control c = nat_lt c 32 || c == 127
 
+-- a control character as TOML escapes it: `\u00` and two hexadecimal digits in small letters
 abbrev pub control_escape : ℕ → List ℕ
 control_escape c = codes "\\u00" ++ digit_glyph false (c / 16) ∷ digit_glyph false (c % 16) ∷ []
 
+-- a character in UTF-8, or the escape of a control character
 abbrev pub character : ℕ → List ℕ
 character c = if is_control c then control_escape c else encode_utf8 c
 
@@ -26,11 +28,14 @@ escape c =
     else if c == 92 then codes "\\\\"
     else character c
 
+-- the content of a basic string that stands for a text in UTF-8
 abbrev pub escaped : List ℕ → List ℕ
 escaped text = flat_map escape (chars text)
 
+-- a text as a basic string, its two quotation marks included
 abbrev pub quoted : List ℕ → List ℕ
 quoted text = codes "\"" ++ escaped text ++ codes "\""
 
+-- a key as paths show it: as it is, or as a basic string if it has a control character
 abbrev pub shown : List ℕ → List ℕ
 shown key = if list_any is_control key then quoted key else key

@@ -15,6 +15,7 @@ use Rattle.scx_files.specs.Values.{found_or}
 
 -- ---- which keys are unknown
 
+-- the key is one of those that the format has
 abbrev pub is_known : List (List ℕ) → List ℕ → Bool
 is_known [] key = false
 is_known (k ∷ known) key = bytes_eq k key || is_known known key
@@ -44,15 +45,18 @@ unknown_of_each known path _ = []
 abbrev pub unknown_in : List (List ℕ) → List ℕ → List ℕ → Members → List (List ℕ)
 unknown_in known path key ms = found_or (unknown_of known (below path key)) [] (get_member key ms)
 
+-- the paths of the unknown keys of the tables in the array at a key; none without an array
 abbrev pub unknown_in_each : List (List ℕ) → List ℕ → List ℕ → Members → List (List ℕ)
 unknown_in_each known path key ms = found_or (unknown_of_each known (below path key)) [] (get_member key ms)
 
 -- ---- the least of some paths, by their bytes
 
+-- of a path and another, if there is another, the one that is less by its bytes
 abbrev pub lesser : List ℕ → Option (List ℕ) → List ℕ
 lesser p None = p
 lesser p (Some q) = if is_lt (slice_cmp nat_cmp p q) then p else q
 
+-- the least of some paths and of one found before, if one was; none where there are no paths
 abbrev pub least_with : Option (List ℕ) → List (List ℕ) → Option (List ℕ)
 least_with least [] = least
 least_with least (p ∷ paths) = least_with (Some (lesser p least)) paths
@@ -71,9 +75,11 @@ abbrev pub refuse_least : Option (List ℕ) → Reading ⊤
 refuse_least None = Ok tt
 refuse_least (Some path) = refusal path cause.Unknown
 
+-- of the paths of unknown keys the least is refused; nothing is where there are none
 abbrev pub known_alone : List (List ℕ) → Reading ⊤
 known_alone paths = refuse_least (least_with None paths)
 
+-- the bytes of each of some borrowed texts
 abbrev pub words : List (Bor (List ℕ)) → List (List ℕ)
 words texts = map (λ t. t.now) texts
 

@@ -20,17 +20,21 @@ document text = found_or Ok (refusal (codes "file") cause.NotToml) (parse_docume
 
 -- ---- what a value is read as; its path stands first
 
+-- the table that a value is; a value of another type is refused
 abbrev pub table_of : List ℕ → Data → Reading Members
 table_of path (table ms) = Ok ms
 table_of path _ = refusal path cause.WrongType
 
+-- the text that a value is; a value of another type is refused
 abbrev pub text_of : List ℕ → Data → Reading (List ℕ)
 text_of path (string s) = Ok s
 text_of path _ = refusal path cause.WrongType
 
+-- a text that is a name; any other is refused
 abbrev pub named : List ℕ → List ℕ → Reading (List ℕ)
 named path text = if is_name text then Ok text else refusal path cause.BadName
 
+-- the name that a value is; another type is refused, and so is a text that is no name
 abbrev pub name_of : List ℕ → Data → Reading (List ℕ)
 name_of path d = text_of path d >>= named path
 
@@ -39,10 +43,12 @@ abbrev pub within : Limits → ℤ → Option ℕ
 within limits (pos n) = if nat_le limits.least n && nat_le n limits.most then Some n else None
 within limits (negsuc n) = None
 
+-- the integer that a value is; another type is refused, and so is a number outside its limits
 abbrev pub integer_of : Limits → List ℕ → Data → Reading ℕ
 integer_of limits path (integer z) = found_or Ok (refusal path cause.OutOfRange) (within limits z)
 integer_of limits path _ = refusal path cause.WrongType
 
+-- how many elements an array has
 abbrev pub item_count : Items → ℕ
 item_count no_items = 0
 item_count (item d ds) = suc (item_count ds)

@@ -59,8 +59,10 @@ pub enum Cause {
 /// Why a file gave nothing: its first fault and the path of the key that has it, or want of memory.
 #[derive(Debug, Drop, Error)]
 pub enum LoadError {
+    /// Memory ran out.
     #[error("no memory")]
     NoMemory,
+    /// The first fault: the path of what is wrong, and the cause.
     #[error("{path}: {cause}")]
     At { path: String, cause: Cause },
 }
