@@ -41,6 +41,7 @@ earlier callback.Running = callback.Init ∷ callback.Enable ∷ callback.Select
 earlier callback.Stopping = callback.Init ∷ callback.Enable ∷ callback.SelectCpu ∷ callback.Enqueue ∷ callback.Dispatch ∷ callback.Running ∷ []
 earlier callback.Plain = []
 
+-- of these callbacks each that has a program has one with a typing
 abbrev pub AreAccepted : PolicyFile → List Callback → Type 0
 AreAccepted text [] = ⊤
 AreAccepted text (b ∷ bs) = IsAccepted text.shapes (program_of text b) b × AreAccepted text bs
@@ -85,6 +86,7 @@ pub record IsVerified (shapes : List Shape) (program : Option Code) (b : Callbac
   pub for_maps : machine.HasMaps shapes v
   pub accepted : IsAccepted shapes program b
 
+-- `build` ends so at this callback: its program is refused, or verifying it asks for memory
 abbrev pub IsRefusedAs : List Shape → Option Code → Callback → BuildError → Type 0
 IsRefusedAs shapes program b (errors.Refused a fault slot) = (a ≡ b) × IsRefusedFor shapes program b fault slot
 IsRefusedAs shapes program b errors.NoMemory = AsksForMemory program

@@ -13,9 +13,11 @@ use Rattle.scx_files.specs.Faults.{Reading, refusal}
 use Rattle.scx_files.specs.Paths.{element}
 use Rattle.scx_files.specs.Values.{required, optional, integer_of, table_of, elements_of, each_from}
 
+-- how many entries a map has, 1 to 65536
 abbrev pub entry_limits : Limits
 entry_limits = record { least = 1; most = MAX_ENTRIES }
 
+-- how many bytes an element of a map has, 1 to 4096
 abbrev pub size_limits : Limits
 size_limits = record { least = 1; most = MAX_VALUE_SIZE }
 
@@ -34,6 +36,7 @@ map_at n d = table_of (element (codes "map") n) d >>= shape_in (element (codes "
 abbrev pub fitting : List Shape → Reading (List Shape)
 fitting shapes = if nat_le (total_bytes shapes) MAX_BYTES then Ok shapes else refusal (codes "map") cause.OutOfRange
 
+-- the shapes of the maps that a file says, in the order of its array `map`, which may be absent
 abbrev pub maps : Members → Reading (List Shape)
 maps ms = do
   elements ← optional (elements_of MAX_MAPS) no_items [] (codes "map") ms

@@ -6,6 +6,7 @@ use Rattle.scx_semantics.specs.declared.callbacks.Callback.{Callback}
 use Rattle.scx_semantics.specs.declared.callbacks.Callback.TheVariants as callback
 use Rattle.scx_policies.specs.declared.policy_text.Programs.{Programs}
 
+-- what a policy file says, without its name: maps, the milliseconds of its timeout, and programs
 pub record PolicyFile : Type 0 where
   pub shapes : List Shape
   pub timeout_ms : ℕ
@@ -22,6 +23,7 @@ program_of p callback.Running = p.programs.running
 program_of p callback.Stopping = p.programs.stopping
 program_of p callback.Plain = None
 
+-- the programs without the one of that callback; all of them for a plain program
 abbrev pub programs_without : Programs → Callback → Programs
 programs_without p callback.Init = record { init = None; enable = p.enable; select_cpu = p.select_cpu; enqueue = p.enqueue; dispatch = p.dispatch; running = p.running; stopping = p.stopping }
 programs_without p callback.Enable = record { init = p.init; enable = None; select_cpu = p.select_cpu; enqueue = p.enqueue; dispatch = p.dispatch; running = p.running; stopping = p.stopping }

@@ -17,6 +17,7 @@ use Rattle.scx_policies.specs.declared.policy_text.Programs.{Programs}
 
 -- ---- in `code`
 
+-- the program that an assembler text gave, or else its first fault and line, at that path
 abbrev pub assembled : List ℕ → Result Code (AsmFault × ℕ) → Reading (Option Code)
 assembled path (Ok code) = Ok (Some code)
 assembled path (Err e) = refusal path (cause.Asm e.0 e.1)
@@ -25,6 +26,7 @@ assembled path (Err e) = refusal path (cause.Asm e.0 e.1)
 abbrev pub code_of : List ℕ → Data → Reading (Option Code)
 code_of path d = text_of path d >>= λ text. assembled path (read_text text)
 
+-- the program at a callback's key in the table `code`; none where the key is absent
 abbrev pub code_at : Members → List ℕ → Reading (Option Code)
 code_at ms key = optional code_of None (codes "code") key ms
 
@@ -46,14 +48,17 @@ code_programs ms = do
 abbrev pub is_blank : ℕ → Bool
 is_blank b = (b == 32) || (b == 9) || (b == 10) || (b == 13)
 
+-- a text without spaces, tabs, line feeds and carriage returns
 abbrev pub without_blanks : List ℕ → List ℕ
 without_blanks [] = []
 without_blanks (b ∷ bytes) = if is_blank b then without_blanks bytes else b ∷ without_blanks bytes
 
+-- the program that bytes gave, or else their first fault and its slot, at that path
 abbrev pub decoded : List ℕ → Result Code (DecodeFault × ℕ) → Reading (Option Code)
 decoded path (Ok code) = Ok (Some code)
 decoded path (Err e) = refusal path (cause.Decode e.0 e.1)
 
+-- the bytes that pairs of hexadecimal digits gave; a text that isn't such pairs is refused
 abbrev pub paired : List ℕ → Result (List ℕ) FromHexError → Reading (List ℕ)
 paired path (Ok bytes) = Ok bytes
 paired path (Err e) = refusal path cause.BadHex
@@ -67,6 +72,7 @@ abbrev pub slots_of : Option Code → List ℕ → Data → Reading (Option Code
 slots_of None path d = text_of path d >>= spelled path
 slots_of (Some code) path d = refusal path cause.Twice
 
+-- a callback's program after its key in the table `slots`; where that is absent, the one before
 abbrev pub slots_at : Members → List ℕ → Option Code → Reading (Option Code)
 slots_at ms key code = optional (slots_of code) code (codes "slots") key ms
 

@@ -12,12 +12,15 @@ use Rattle.scx_policies.specs.Policies.{PolicyFile}
 use Rattle.scx_policies.specs.Maps.{maps}
 use Rattle.scx_policies.specs.Programs.{code_programs, with_slots}
 
+-- the keys that the table of a whole file may have
 abbrev pub file_keys : List (List ℕ)
 file_keys = codes "name" ∷ codes "timeout_ms" ∷ codes "map" ∷ codes "code" ∷ codes "slots" ∷ []
 
+-- the keys that an element of the array `map` may have
 abbrev pub map_keys : List (List ℕ)
 map_keys = codes "entries" ∷ codes "value_size" ∷ []
 
+-- the keys that the tables `code` and `slots` may have, one for each callback
 abbrev pub callback_keys : List (List ℕ)
 callback_keys = codes "init" ∷ codes "enable" ∷ codes "select_cpu" ∷ codes "enqueue" ∷ codes "dispatch" ∷ codes "running" ∷ codes "stopping" ∷ []
 
@@ -29,6 +32,7 @@ unknown_keys ms =
     ++ unknown_in callback_keys [] (codes "code") ms
     ++ unknown_in callback_keys [] (codes "slots") ms
 
+-- how many milliseconds a task may wait at most, 1 to 30000
 abbrev pub timeout_limits : Limits
 timeout_limits = record { least = 1; most = 30000 }
 
@@ -60,6 +64,7 @@ policy_in ms = do
   programs ← programs_in ms
   Ok (record { shapes = shapes; timeout_ms = timeout; programs = programs })
 
+-- what the table of a file says; an unknown key is refused before any other fault
 abbrev pub policy_file : Members → Reading PolicyFile
 policy_file ms = known_alone (unknown_keys ms) >>= λ known. policy_in ms
 

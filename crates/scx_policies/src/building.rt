@@ -15,12 +15,14 @@ use thiserror::Error;
 /// and its slot, or want of memory.
 #[derive(Clone, Copy, PartialEq, Eq, Error)]
 pub enum BuildError {
+    /// The first callback whose program is refused, for this fault at this slot.
     #[error("verify {} {} {} at {slot}", callback_name(*callback), fault.number(), fault.name())]
     Refused {
         callback: Callback,
         fault: Fault,
         slot: usize,
     },
+    /// Memory ran out.
     #[error("no memory")]
     NoMemory,
 }
