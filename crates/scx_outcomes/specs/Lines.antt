@@ -54,16 +54,19 @@ unread_line path = codes "failed: reading " ++ path ++ codes "\n"
 
 -- ---- the same in three parts: what stands before the path of a key, the path, and what stands behind it
 
+-- what stands before the path of a key; the whole line of a refusal that has no path
 abbrev pub start : Refusal → List ℕ
 start (Policy path cause) = codes "refused: policy "
 start (Workload path cause) = codes "refused: workload "
 start refusal = refusal_line refusal
 
+-- the path of the key that is refused in a file; empty of a refusal that has none
 abbrev pub path_of : Refusal → List ℕ
 path_of (Policy path cause) = string_bytes path
 path_of (Workload path cause) = string_bytes path
 path_of refusal = []
 
+-- what stands behind the path of a key, with the line feed; empty of a refusal that has no path
 abbrev pub end : Refusal → List ℕ
 end (Policy path cause) = codes ": " ++ cause_text cause ++ codes "\n"
 end (Workload path cause) = codes ": " ++ cause_text cause ++ codes "\n"

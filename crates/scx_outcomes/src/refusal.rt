@@ -17,22 +17,28 @@ use thiserror::Error;
 /// that of a key in a file.
 #[derive(PartialEq, Eq, Drop, Error)]
 pub enum Refusal {
+    /// There are more than `FILE_LIMIT` bytes.
     #[error("the file is too large")]
     TooLarge,
+    /// The bytes of a text aren't UTF-8.
     #[error("the text is not UTF-8")]
     NotUtf8,
+    /// Memory ran out.
     #[error("no memory is left")]
     NoMemory,
+    /// The bytes spell no program: their first fault and its slot.
     #[error("slot {slot} is no instruction")]
     Decode {
         fault: DecodeFault,
         slot: usize,
     },
+    /// The verifier refuses a program, for this fault at this slot.
     #[error("the program is unsafe at slot {slot}")]
     Verify {
         fault: verifier::Fault,
         slot: usize,
     },
+    /// A text doesn't assemble: its first fault and the line.
     #[error("line {line} is wrong")]
     Assemble {
         fault: AsmFault,
@@ -45,11 +51,13 @@ pub enum Refusal {
         fault: verifier::Fault,
         slot: usize,
     },
+    /// The first fault of a policy file: the path of what is wrong, and the cause.
     #[error("the policy's {path}: {cause}")]
     Policy {
         path: String,
         cause: Cause,
     },
+    /// The first fault of a workload file: the path of what is wrong, and the cause.
     #[error("the workload's {path}: {cause}")]
     Workload {
         path: String,
@@ -69,8 +77,10 @@ impl fmt::Debug for Refusal {
 /// Why a command ended early.
 #[derive(Debug, PartialEq, Eq, Drop, Error)]
 pub enum Fault {
+    /// The input was refused.
     #[error("{0}")]
     Refused(Refusal),
+    /// The output took no more.
     #[error("writing failed")]
     WriteFailed,
 }
