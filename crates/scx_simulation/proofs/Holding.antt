@@ -39,6 +39,7 @@ all_follow : (s : SimState) (events : List Event) → StaysInOrder s events → 
 all_follow s [] h = tt
 all_follow s (e ∷ es) (now, well, more) = follows_before s e es well.1 (all_follow (stepped s e) es more)
 
+-- the headline holds of a run through events that leave its machine in order after each
 pub headline_holds : {policy workload : List ℕ} {w : WorkloadState} {s : SimState} (x : IsRun policy workload w s) (events : List Event) → StaysInOrder s events → IsOfHeadline x events
 headline_holds {policy} {workload} {w} {s} x events h =
     let tree = idle w.groups w.homes in

@@ -5,6 +5,7 @@ use Rattle.scx_files.specs.Faults.{Reading, Gives}
 use Rattle.scx_outcomes.specs.declared.refusal.Refusal.{Refusal}
 use Rattle.scx_simulation.specs.Refusals.{or_refusal}
 
+-- a value that is passed on from reading a file is what reading the file gives
 pub read_is : {A : Type 0} (refusal_of : LoadError → Refusal) (read : Result A LoadError) (told : Result A Refusal) (means : Reading A) → Gives (λ x. x) read means → told ≡ or_refusal refusal_of read → IfOk told (λ x. means ≡ Ok x)
 read_is refusal_of (Ok made) told means gives is = rw is gives
 read_is refusal_of (Err e) told means gives is = rw is tt

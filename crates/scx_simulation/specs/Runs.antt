@@ -116,6 +116,7 @@ pub record HasBadStart (policy workload : List ℕ) (answer : ℤ) : Type 0 wher
   pub built : IsBuilt file machine
   pub failed : started machine (idle w.groups w.homes) w.cpus ≡ Err answer
 
+-- the texts are refused for that cause, with nothing wrong before; want of memory says nothing
 abbrev pub IsCause : List ℕ → List ℕ → Refusal → Type 0
 IsCause policy workload (Policy path cause) = IsPolicyFault policy (Policy path cause)
 IsCause policy workload (Workload path cause) = IsOk (policy_text policy) × IsWorkloadFault workload (Workload path cause)
