@@ -9,10 +9,12 @@ use Rattle.scx_verdicts.specs.declared.verdict.Verdict.{Verdict}
 use Rattle.scx_verdicts.specs.declared.verdict.Verdict.TheVariants.{Accepted, Refused}
 use Rattle.scx_verdicts.specs.declared.verdict.Verdicts.{Verdicts}
 
+-- a callback and `ok` with the number of instructions, or `refused` with the fault and its slot
 abbrev pub verdict_line : Callback → Verdict → List ℕ
 verdict_line b (Accepted count) = callback_name b ++ codes " ok " ++ decimal count ++ codes "\n"
 verdict_line b (Refused fault slot) = callback_name b ++ codes " refused " ++ fault_text (fault_number fault) (fault_name fault) slot ++ codes "\n"
 
+-- the line of a callback that has a verdict; nothing where it has none
 abbrev pub line_of : Callback → Option Verdict → List ℕ
 line_of b None = []
 line_of b (Some verdict) = verdict_line b verdict

@@ -27,6 +27,7 @@ IsVerdictOf shapes b None (Some verdict) = ⊥
 IsVerdictOf shapes b (Some code) None = ⊥
 IsVerdictOf shapes b (Some code) (Some verdict) = IsVerdict shapes b code verdict
 
+-- the verdict on the program of a callback, if it has one; a plain program has none
 abbrev pub verdict_of : Verdicts → Callback → Option Verdict
 verdict_of v callback.Init = v.init
 verdict_of v callback.Enable = v.enable
@@ -41,6 +42,7 @@ verdict_of v callback.Plain = None
 abbrev pub HasVerdicts : PolicyFile → Verdicts → Type 0
 HasVerdicts policy v = (b : Callback) → IsVerdictOf policy.shapes b (program_of policy b) (verdict_of v b)
 
+-- the program isn't refused: it is accepted, or there is none
 abbrev pub is_accepted : Option Verdict → Bool
 is_accepted None = true
 is_accepted (Some (Accepted count)) = true
