@@ -32,9 +32,11 @@ one_more (other ∷ lines) line listing text (its, later, rest, whole) = (
 abbrev pub HasListed : Option (List ℕ) → Option (List ℕ) → List (List ℕ) → Type 0
 HasListed old new lines = (text : List ℕ) × IsListedBehind lines text × Appends old new text
 
+-- behind the first program nothing is written yet
 pub listed_none : (known : Option (List ℕ)) → HasListed known known []
 listed_none known = ([], refl, grows_by_none known [])
 
+-- one program more is written behind those before, on a line of its own
 pub listed_more : (a b c d : Option (List ℕ)) (lines : List (List ℕ)) (line listing : List ℕ)
     → HasListed a b lines → Appends b c (codes "\n") → Appends c d (line ++ listing) → HasListed a d (lines ++ line ∷ [])
 listed_more a b c d lines line listing (text, listed, grown) feed more =
@@ -52,11 +54,13 @@ listed_all a b c line listing lines first (text, listed, grown) =
 
 -- ---- in the case of success
 
+-- a line that was written is followed by what is written below it, where no write fails
 pub grown_below : {A E : Type 0} (r : Result A E) (a b c : Option (List ℕ)) (line : List ℕ)
     → Appends a b line → OnOk r (Grows b c) → OnOk r ((listing : List ℕ) × Appends a c (line ++ listing))
 grown_below (Ok x) a b c line first (listing, grown) = (listing, grows_twice a b c line listing first grown)
 grown_below (Err e) a b c line first below = below
 
+-- the first program's text is followed by the others', where no write fails
 pub listed_first : {A E : Type 0} (r : Result A E) (a b c : Option (List ℕ)) (line listing : List ℕ) (lines : List (List ℕ))
     → Appends a b (line ++ listing) → OnOk r (HasListed b c lines) → OnOk r ((text : List ℕ) × IsListed (line ∷ lines) text × Appends a c text)
 listed_first (Ok x) a b c line listing lines first rest = listed_all a b c line listing lines first rest

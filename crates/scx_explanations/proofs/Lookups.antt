@@ -17,6 +17,7 @@ no_insn i o e f = let bad : None ≡ Some i = sym e ∙ f in absurd (cc)
 pub no_state_there : (a : AbsState) (o : Option AbsState) → o ≡ None → o ≡ Some a → ⊥
 no_state_there a o e f = let bad : None ≡ Some a = sym e ∙ f in absurd (cc)
 
+-- what follows of a state that is there holds wherever one is there
 pub if_some : (o : Option AbsState) (P : Type 0) → ((a : AbsState) → o ≡ Some a → P) → OnSome o P
 if_some None P f = tt
 if_some (Some a) P f = f a refl

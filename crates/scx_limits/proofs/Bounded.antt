@@ -152,6 +152,7 @@ step_stays t n m (End c) s = record { groups = s.groups; cpus = length-set m.cpu
 step_stays t n m (Tick c) s = ticked_stays t n m c (running m c) s
 step_stays t n m (Turn clock) s = record { groups = s.groups; cpus = s.cpus }
 
+-- no step changes which groups there are, or how many processors
 pub run_stays : (t : Hierarchy) (n : ℕ) (past : List Step) → Stays t n (run_of (idle_machine t n) past)
 run_stays t n [] = record { groups = refl; cpus = length-replicate {A = Option ℕ} n None }
 run_stays t n (s ∷ past) = step_stays t n (run_of (idle_machine t n) past) s (run_stays t n past)
@@ -179,6 +180,7 @@ nobody_runs t g n = count_none n
     count_none zero = refl
     count_none (suc n) = count_none n
 
+-- from an idle machine on, allowed steps keep a group's usage and running tasks below its quota plus the processors
 pub run_within : (t : Hierarchy) (n : ℕ) (past : List Step) (g quota : ℕ) → g < length t.groups → quota_at t.groups g ≡ Some quota → 0 < quota
     → usage_of t g ≡ 0 → are_allowed (idle_machine t n) past ≡ true
     → IsWithin (run_of (idle_machine t n) past).tree (run_of (idle_machine t n) past).cpus g quota

@@ -32,12 +32,14 @@ finest : (b : Bool) (s : ℕ) → s ≡ 0 → (if b then One else step_of s) ≡
 finest true s e = refl
 finest false s e = ap step_of e
 
+-- where one of two ranges has the step 1, their join is built with the step 1
 pub joined_finely : (r s : Range) → IsRange r → IsRange s → min r.shift s.shift ≡ 0
     → range_of (min r.low s.low) (max r.high s.high) One ≡ join_ranges r s
 joined_finely r s wr ws e =
     let q = join_ranges r s in
     subst (λ t. range_of q.low q.high t ≡ q) (finest (nat_eq q.low q.high) q.shift e) (kept_range q (joined_range r s wr ws))
 
+-- where one of two ranges has the step 1, their join may be kept by its ends and the step 1
 pub joined_fine_parts : (r s : Range) → IsRange r → IsRange s → min r.shift s.shift ≡ 0
     → IsKept (min r.low s.low) (max r.high s.high) One
 joined_fine_parts r s wr ws e =

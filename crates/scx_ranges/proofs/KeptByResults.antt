@@ -38,6 +38,7 @@ at_most_through a b c f g = omega arith
 largest : (a b n : ℕ) → a ≤ n → b ≤ n → max a b ≤ n
 largest a b n f g = omega arith
 
+-- a shift to the right keeps the order
 pub div_grows : (n h k : ℕ) → n ≤ h → n / 2 ^ k ≤ h / 2 ^ k
 div_grows n h k l =
     let down : n / 2 ^ k * 2 ^ k ≤ n = div-mul-le_self n (2 ^ k) in
@@ -45,6 +46,7 @@ div_grows n h k l =
 
 -- ---- multiples
 
+-- a multiple of one power of two, times a constant, is one of both powers, as far as 8
 pub scaled_multiple : (n c s : ℕ) → n % 2 ^ s ≡ 0 → n * c % 2 ^ min 3 (s + trailing c) ≡ 0
 scaled_multiple n c s h =
     let whole : n * c % 2 ^ (s + trailing c) ≡ 0 = ap (λ k. n * c % k) (pow-add 2 s (trailing c)) ∙ mod-eq-zero_of_dvd (2 ^ s * 2 ^ trailing c) (mul-dvd-mul (2 ^ s) (2 ^ trailing c) (dvd_of_mod-eq-zero (2 ^ s) h) (dvd_of_mod-eq-zero (2 ^ trailing c) (trailing_divides c))) in
@@ -56,12 +58,14 @@ and_left n c s h = and_mod n c s ∙ ap (λ x. bit_and x (c % 2 ^ s)) h ∙ and_
 and_right : (n c s : ℕ) → c % 2 ^ s ≡ 0 → bit_and n c % 2 ^ s ≡ 0
 and_right n c s h = and_mod n c s ∙ ap (λ x. bit_and (n % 2 ^ s) x) h ∙ and_zero_r (n % 2 ^ s)
 
+-- a multiple, masked by a constant, is one of the greater power of two of both
 pub masked_multiple : (n c s : ℕ) → n % 2 ^ s ≡ 0 → bit_and n c % 2 ^ max s (trailing c) ≡ 0
 masked_multiple n c s h =
     by_less s (trailing c)
     (λ l. let e : max s (trailing c) ≡ trailing c = omega arith in rw e (and_right n c (trailing c) (trailing_divides c)))
     (λ l. let e : max s (trailing c) ≡ s = omega arith in rw e (and_left n c s h))
 
+-- a multiple's remainder by a constant is one of the lesser power of two of both
 pub remainder_multiple : (n c s : ℕ) → n % 2 ^ s ≡ 0 → n % c % 2 ^ min s (trailing c) ≡ 0
 remainder_multiple n c s h =
     mod-mod_of_dvd (2 ^ min s (trailing c)) n (dvd_of_mod-eq-zero (2 ^ min s (trailing c)) (multiple_of_less c (trailing c) (min s (trailing c)) (omega arith) (trailing_divides c)))

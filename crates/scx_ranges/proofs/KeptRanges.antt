@@ -19,6 +19,7 @@ kept_range r w =
     ap (λ s. record { low = r.low; high = r.high; shift = s })
     (shift_back (nat_eq r.low r.high) (trailing r.low) r.shift w.formed.small (λ e. w.formed.greatest (eqb-true r.low r.high e)))
 
+-- a range may be kept by its ends and its step
 pub kept_parts : (r : Range) → IsRange r → IsKept r.low r.high (kept_step r)
 kept_parts r w = record { range = subst IsRange (sym (kept_range r w)) w; back = ap kept_step (kept_range r w) }
 

@@ -30,6 +30,7 @@ next_in a w l = record {
   multiple = multiples_added a.shift a.low (2 ^ a.shift) w.small w.low_multiple (step_multiple a.shift w.small);
 }
 
+-- a well-formed range that has all members of another covers it
 pub members_cover : (b a : Range) → IsWellFormed b → IsWellFormed a → ((n : ℕ) → IsIn n a → IsIn n b) → CoversRange b a
 members_cover b a wb wa f =
     let low = f a.low (low_in a wa) in
@@ -43,6 +44,7 @@ members_cover b a wb wa f =
           (λ l. let o : a.low ≤ a.high = wa.ordered in let same : a.low ≡ a.high = omega arith in rw (wa.greatest same) (most_trailing a.low b.shift wb.small low.multiple));
     }
 
+-- a range that has all members of another covers it
 pub in_covers : (b a : Range) → IsRange b → IsRange a → ((n : ℕ) → IsIn n a → IsIn n b) → CoversRange b a
 in_covers b a wb wa f = members_cover b a wb.formed wa.formed f
 

@@ -71,6 +71,7 @@ remainder_range c r w =
     (λ e. between_range 0 (floor (min r.high (c - 1)) a) a (none_less (floor (min r.high (c - 1)) a))
     (below_through (floor (min r.high (c - 1)) a) (min r.high (c - 1)) (2 ^ 64) (floor_below (min r.high (c - 1)) a) (least_below r.high (c - 1) (2 ^ 64) w.fits)) small (zero-mod (2 ^ a)) (floor_multiple a (min r.high (c - 1)) small))
 
+-- what an operation by a constant makes of a range is a range
 pub constant_range : (o : Operation) (c : ℕ) (r : Range) → IsRange r → IsRange (by_constant o c r)
 constant_range Multiply c r w = scaled_range c r w
 constant_range ShiftLeft c r w = scaled_range (2 ^ (c % 64)) r w
@@ -79,9 +80,11 @@ constant_range And c r w = masked_range c r w
 constant_range Modulo c r w = remainder_range c r w
 constant_range o c r w = all_range
 
+-- by a single range the constant's result is a range, and by any other one all numbers are
 pub constants_range : (o : Operation) (r s : Range) → IsRange r → IsRange (if is_single s then by_constant o s.low r else all)
 constants_range o r s w = if_case IsRange (is_single s) (by_constant o s.low r) all (λ e. constant_range o s.low r w) (λ e. all_range)
 
+-- what an operation makes of two ranges is a range
 pub spread_range : (o : Operation) (r s : Range) → IsRange r → IsRange s → IsRange (spread o r s)
 spread_range Move r s wr ws = ws
 spread_range Add r s wr ws = added_range r s wr ws

@@ -71,7 +71,7 @@ with_pause_of kind.Parked p x = record { run = x.run; waits = x.waits; wakes = x
 abbrev pub with_pause : Pause → TaskFigures → TaskFigures
 with_pause p x = with_pause_of p.kind p x
 
--- the same of the task of that number; where there is none, nothing changes
+-- one more wake of the task of that number, if it is there
 abbrev pub woken : List TaskFigures → ℕ → List TaskFigures
 woken tasks t = slice_set tasks t (with_wake (figures_at tasks t))
 

@@ -25,7 +25,7 @@ pub record WorldState : Type 0 where
   pub call : Call  -- the callback at hand, or the last one
   pub builtin_clock : ℕ  -- the virtual time of the built-in scheduler
   pub ejected : Option Eject  -- why and when the policy was put out of force, if it was
-  pub notes : List Note  -- what it noted
+  pub notes : List Note  -- what was noted and not handed on yet
 
 -- ---- one part changed
 
