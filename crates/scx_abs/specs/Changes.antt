@@ -31,22 +31,22 @@ next_of a (On c) = flows (Some (changed a c)) None
 next_of a (Jump c) = flows None (Some (changed a c))
 next_of a (Both c d) = flows (Some (changed a c)) (Some (changed a d))
 
--- the same, where no check failed
+-- what flows on from that state, changed, where no check failed
 abbrev pub flowed : AbsState → Result Flow Why → Result Next Why
 flowed a (Ok f) = Ok (next_of a f)
 flowed a (Err why) = Err why
 
--- where control goes on to the next instruction alone
+-- the state, changed, goes on to the next instruction alone, where no check failed
 abbrev pub went_on : AbsState → Result Change Why → Result Next Why
 went_on a (Ok c) = goes_on (changed a c)
 went_on a (Err why) = Err why
 
--- the same where the state was changed in place, and what was done answers something
+-- a state that was changed in place goes on to the next instruction alone, where no check failed
 abbrev pub done_on : {A : Type 0} → AbsState → Result A Why → Result Next Why
 done_on a (Ok x) = goes_on a
 done_on a (Err why) = Err why
 
--- where the program ends
+-- nothing flows on where the program ends, if no check failed
 abbrev pub ended_on : Result (Unit {0}) Why → Result Next Why
 ended_on (Ok u) = Ok (flows None None)
 ended_on (Err why) = Err why

@@ -46,12 +46,12 @@ abbrev pub constant_of : Width → Operand → Option ℕ
 constant_of Bits64 (operand.Immediate k) = Some (immediate Bits64 k)
 constant_of w o = None
 
--- a register gets a kind; r10 gets none
+-- a register gets the kind that a check answers; r10 gets none
 abbrev pub sets : AbsState → ℕ → Result Kind Why → Result Next Why
 sets a r (Err why) = if nat_eq r 10 then Err WritesFrame else Err why
 sets a r (Ok k) = if nat_eq r 10 then Err WritesFrame else goes_on (with_kind a r k)
 
--- the same of another register than r10
+-- a register that isn't r10 gets the kind that a check answers
 abbrev pub gets : AbsState → ℕ → Result Kind Why → Result Next Why
 gets a r (Err why) = Err why
 gets a r (Ok k) = goes_on (with_kind a r k)

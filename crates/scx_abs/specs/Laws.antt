@@ -36,7 +36,7 @@ FlowsIn shapes next (effect.Jumped m) = Receives shapes next.jump m
 FlowsIn shapes next (effect.Ask q go) = (v : Value) → Fits q v → Receives shapes next.on (go v)
 FlowsIn shapes next (effect.Ended n) = Unit {0}
 
--- the same, where no check failed
+-- where no check failed, what an instruction does is among what flows on from it
 abbrev pub IsSoundFor : List Shape → Result Next Why → Effect → Type 0
 IsSoundFor shapes (Err why) e = Unit {0}
 IsSoundFor shapes (Ok next) e = FlowsIn shapes next e
@@ -55,13 +55,13 @@ is_call_or_null_test (insn.Call k) = true
 is_call_or_null_test (insn.JumpIf w k r x offset) = is_some (null_test w k x)
 is_call_or_null_test i = false
 
--- The same of all instructions but those.
+-- The rule is sound for each instruction but calls of helpers and tests for 0.
 abbrev pub PlainRulesAreSound : Type 0
 PlainRulesAreSound =
     (shapes : List Shape) (c : Callback) (i : Insn) (a : AbsState) (m : Machine)
     → IsFalse (is_call_or_null_test i) → IsInsn i → IsProper a → IsMember shapes a m → IsSoundFor shapes (rule shapes c i a) (act c i m)
 
--- The same of those.
+-- The rule is sound for calls of helpers and for jumps that test a register for 0.
 abbrev pub CallsAndNullTestsAreSound : Type 0
 CallsAndNullTestsAreSound =
     (shapes : List Shape) (c : Callback) (i : Insn) (a : AbsState) (m : Machine)

@@ -26,7 +26,7 @@ abbrev pub with_ahead : List Link → Option ℕ → Option ℕ → List Link
 with_ahead links None ahead = links
 with_ahead links (Some t) ahead = slice_set links t (record { ahead = ahead; behind = (link_at links t).behind })
 
--- the same of the task behind it
+-- the links with another task behind one, if there is one
 abbrev pub with_behind : List Link → Option ℕ → Option ℕ → List Link
 with_behind links None behind = links
 with_behind links (Some t) behind = slice_set links t (record { ahead = (link_at links t).ahead; behind = behind })

@@ -34,7 +34,7 @@ IsListedBehind (line ∷ lines) text =
     (listing : List ℕ) × (later : List ℕ) × IsListedBehind lines later
     × (text ≡ codes "\n" ++ (line ++ listing) ++ later)
 
--- the same, with no empty line before the first program
+-- a text of programs with these first lines, with no empty line before the first program
 abbrev pub IsListed : List (List ℕ) → List ℕ → Type 0
 IsListed [] text = text ≡ []
 IsListed (line ∷ lines) text =

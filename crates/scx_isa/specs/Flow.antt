@@ -42,7 +42,7 @@ insn_fault code s i = end_fault code s
 abbrev pub flow_fault : Code → ℕ → Insn → Option FlowFault
 flow_fault code s i = insn_fault code (s + size i) i
 
--- the same for what stands at a slot
+-- the first fault of the instruction that begins at a slot, if one does
 abbrev pub occupant_fault : Code → ℕ → Option Insn → Option FlowFault
 occupant_fault code s None = None
 occupant_fault code s (Some i) = flow_fault code s i

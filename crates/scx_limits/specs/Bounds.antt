@@ -14,6 +14,6 @@ runs_in t g (Some k) = lies_in t.groups (home_of t k) g
 abbrev pub cpus_in : Hierarchy → ℕ → List (Option ℕ) → ℕ
 cpus_in t g cpus = count_by (runs_in t g) cpus
 
--- a group's usage and its tasks on processors together stay below the quota plus the number of processors
+-- a group's usage and its running tasks together stay below the quota plus the number of processors
 abbrev pub IsWithin : Hierarchy → List (Option ℕ) → ℕ → ℕ → Type 0
 IsWithin t cpus g quota = usage_of t g + cpus_in t g cpus < quota + length cpus

@@ -1,10 +1,19 @@
 -- How many pushes each step of the machine makes at most: of all that it may do, one after another.
 use Rattle.std.specs.Prelude.{ℕ, ◌+◌, ◌*◌, ◌≤◌, ◌^◌, if◌then◌else◌}
+use Rattle.scx_world.specs.World.{WorldState}
 use Rattle.scx_machine.specs.Steps.{State, is_ejected}
 
--- so many pushes are left; they are counted up to 2^63
+-- so many pushes are counted at most
+abbrev pub most_pushes : ℕ
+most_pushes = 2 ^ 63
+
+-- so many pushes more can be counted in that world
+abbrev pub CanPush : ℕ → WorldState → Type 0
+CanPush n w = w.queues.pushes + n ≤ most_pushes
+
+-- so many pushes more can be counted in that state
 abbrev pub HasRoom : ℕ → State → Type 0
-HasRoom n s = s.world.queues.pushes + n ≤ 2 ^ 63
+HasRoom n s = CanPush n s.world
 
 -- ---- parts of a step
 
@@ -27,6 +36,14 @@ eject_pushes = most_tasks
 -- a program runs: it has 4096 instructions at most, each of which pushes once at most
 abbrev pub program_pushes : ℕ
 program_pushes = 4096
+
+-- enable is called for each task
+abbrev pub enable_pushes : ℕ
+enable_pushes = program_pushes * most_tasks
+
+-- init is called, and then enable for each task
+abbrev pub start_pushes : ℕ
+start_pushes = program_pushes + enable_pushes
 
 -- a program runs, and the policy is ejected
 abbrev pub callback_pushes : ℕ
@@ -114,7 +131,7 @@ committed s = s.world.queues.pushes + eject_left s
 
 -- that so many tasks are let go, each of which is put
 abbrev pub CanLetGo : ℕ → State → Type 0
-CanLetGo n s = committed s + enter_pushes * n + put_pushes ≤ 2 ^ 63
+CanLetGo n s = committed s + enter_pushes * n + put_pushes ≤ most_pushes
 
 -- all parked tasks are let go, and the policy is ejected once
 abbrev pub let_go_pushes : ℕ

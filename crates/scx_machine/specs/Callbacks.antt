@@ -90,7 +90,7 @@ pub record IsAnswered (c : CallMade) : Type 0 where
   pub run : Runs (host world_functions) c.callback c.program.code (given c.arguments) c.maps c.world answer steps maps world
   pub in_bound : steps ≤ instruction_count c.program.code
 
--- the same of each
+-- each callback that is called comes to an answer, in no more steps than its program has instructions
 abbrev pub AreAnswered : List CallMade → Type 0
 AreAnswered [] = ⊤
 AreAnswered (c ∷ cs) = IsAnswered c × AreAnswered cs

@@ -7,7 +7,7 @@ ghost use Rattle.scx_vm.specs.Arguments.{given};
 ghost use Rattle.scx_vm.specs.Host.{answer_to, after_query};
 ghost use Rattle.scx_world.specs.World.{quiet};
 ghost use Rattle.scx_world.specs.Helpers.{world_functions};
-ghost use Rattle.scx_machine.specs.Budgets.{HasRoom, callback_pushes, committed, eject_pushes, program_pushes};
+ghost use Rattle.scx_machine.specs.Budgets.{CanPush, HasRoom, callback_pushes, committed, eject_pushes, program_pushes};
 ghost use Rattle.scx_machine.specs.Does.{Does};
 ghost use Rattle.scx_machine.specs.Notes.{Takes};
 ghost use Rattle.scx_world.specs.Helpers.{or_fault};
@@ -55,7 +55,7 @@ pub(crate) fn run_callback(
     requires shapes { HasShapes policy.now.shapes maps.old }
     requires arguments { FitsCallback callback (given arguments) }
     requires quiet { world.old.notes ≡ [] }
-    requires few { world.old.queues.pushes + program_pushes ≤ 2 ^ 63 }
+    requires room { CanPush program_pushes world.old }
     ensures ended { record { answer = Some result; maps = maps.new; outside = world.new }
         ≡ called (unless_ejected world.old.ejected (program_of policy.now callback)) callback
         arguments maps.old world.old }
@@ -82,7 +82,7 @@ fn run_program(
     requires shapes { HasShapes program.now.context.defs maps.old }
     requires arguments { FitsCallback program.now.context.callback (given arguments) }
     requires quiet { world.old.notes ≡ [] }
-    requires few { world.old.queues.pushes + program_pushes ≤ 2 ^ 63 }
+    requires room { CanPush program_pushes world.old }
     ensures ended { record { answer = Some result; maps = maps.new; outside = world.new }
         ≡ run_of (answer_to world_functions) (after_query world_functions)
         program.now.context.callback program.now.code (given arguments) maps.old world.old }

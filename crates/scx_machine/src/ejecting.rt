@@ -1,6 +1,6 @@
 ghost use Rattle.std.specs.Prelude.{◌≡◌, ◌+◌, ◌≤◌, ◌^◌};
 ghost use Rattle.scx_world.specs.Ejecting.{evict, evict_note};
-ghost use Rattle.scx_machine.specs.Budgets.{HasRoom, eject_pushes};
+ghost use Rattle.scx_machine.specs.Budgets.{HasRoom, eject_pushes, enter_pushes};
 ghost use Rattle.scx_machine.specs.Does.{Does};
 ghost use Rattle.scx_machine.specs.Notes.{Takes};
 ghost use Rattle.scx_machine.specs.Steps.{with_world, is_ejected};
@@ -46,9 +46,9 @@ impl Machine {
     /// A task that waits goes over.
     #[tactic(auto, using(crate::proofs::Taking::takings))]
     fn evict<S: Sink>(&mut self, task: u16, sink: &mut S)
-        requires few { self.old.world.queues.pushes + 1 ≤ 2 ^ 63 }
+        requires { HasRoom enter_pushes self.old }
         ensures state { self.new ≡ with_world self.old (evict self.old.world task) }
-        ensures few { self.new.world.queues.pushes ≤ self.old.world.queues.pushes + 1 }
+        ensures few { self.new.world.queues.pushes ≤ self.old.world.queues.pushes + enter_pushes }
         ensures notes { Takes S.takes sink.old (evict_note self.old.world task) sink.new }
     {
         if self.world.waits(task) {

@@ -323,11 +323,9 @@ impl Machine {
         requires early { self.old.world.clock < 2 ^ 32 }
         requires runs { (t : ℕ) → (task_at self.old.world t).run_ns < 2 ^ 63 }
         requires used { (g : ℕ) → usage_of self.old.world.tree g < 2 ^ 63 }
-        requires few { self.old.world.queues.pushes + event_pushes ≤ 2 ^ 63 }
-        ensures state { self.new ≡ (happened self.old event).state }
-        ensures few { self.new.world.queues.pushes ≤ self.old.world.queues.pushes + event_pushes }
-        ensures notes { Takes S.takes sink.old (happened self.old event).notes sink.new }
-        ensures answered { AreAnswered (happened self.old event).calls }
+        requires room { HasRoom event_pushes self.old }
+        ensures { Does S.takes event_pushes (happened self.old event)
+            self.old sink.old self.new sink.new }
     {
         match event {
             Event::Wake(task) => self.wake(task, sink),

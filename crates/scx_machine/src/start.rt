@@ -3,7 +3,7 @@ ghost use Rattle.scx_weights.specs.Counting.{any_below};
 ghost use Rattle.scx_weights.specs.Hierarchy.{is_active_task};
 ghost use Rattle.scx_machine.specs.declared.start.NewError.TheVariants.{OutOfMemory};
 ghost use Rattle.scx_machine.specs.Policy.{IsTimeout, AreAs};
-ghost use Rattle.scx_machine.specs.Budgets.{program_pushes};
+ghost use Rattle.scx_machine.specs.Budgets.{HasRoom, enable_pushes, program_pushes, start_pushes};
 ghost use Rattle.scx_machine.specs.Callbacks.{AreAnswered};
 ghost use Rattle.scx_machine.specs.Start.{is_bad_shape, blank, fault_answer, initialized, enable, enabled, all_enabled, started, IsRefusal, init_calls, enable_calls, calls_below, calls_after_init, start_calls, AreAnsweredBefore};
 
@@ -52,7 +52,7 @@ impl Machine {
     pub fn new(alloc: Global, policy: Policy, tree: Tree, cpus: usize) -> Result<Machine, NewError>
         ensures shape { OnOk result (is_bad_shape tree cpus ≡ false) }
         ensures made { IfOk result (λ machine. started policy tree cpus ≡ Ok machine) }
-        ensures few { IfOk result (λ machine. machine.world.queues.pushes ≤ 2 ^ 23) }
+        ensures few { IfOk result (λ machine. machine.world.queues.pushes ≤ start_pushes) }
         ensures flags { OnOk result (length tree.active ≡ length tree.homes) }
         ensures timeout { OnOk result (IsTimeout policy.timeout_ms) }
         ensures programs { OnOk result (AreAs policy.callbacks) }
@@ -110,7 +110,7 @@ impl Machine {
         requires { self.old.world.queues.pushes ≡ 0 }
         ensures done { OnOk result (all_enabled (initialized self.old) ≡ Ok self.new) }
         ensures failed { IfErr result (λ answer. all_enabled (initialized self.old) ≡ Err answer) }
-        ensures few { self.new.world.queues.pushes ≤ 2 ^ 23 }
+        ensures few { self.new.world.queues.pushes ≤ start_pushes }
         ensures answered { AreAnswered
             (init_calls self.old ++ calls_after_init (initialized self.old)) }
     {
@@ -121,7 +121,7 @@ impl Machine {
     /// Runs init. Where it fails, answers the number that stands for it.
     #[tactic(auto, unfolding(crate::specs::Start::initialized))]
     fn initialize(&mut self) -> Result<(), i64>
-        requires few { self.old.world.queues.pushes + program_pushes ≤ 2 ^ 63 }
+        requires { HasRoom program_pushes self.old }
         ensures done { OnOk result (initialized self.old ≡ Ok self.new) }
         ensures failed { IfErr result (λ answer. initialized self.old ≡ Err answer) }
         ensures few { self.new.world.queues.pushes ≤ self.old.world.queues.pushes + program_pushes }
@@ -149,12 +149,12 @@ impl Machine {
     /// Runs enable of each task, by number.
     #[tactic(auto, using(crate::proofs::Enabling::answered_next))]
     fn enable_all(&mut self) -> Result<(), i64>
-        requires few { self.old.world.queues.pushes + 2 ^ 22 ≤ 2 ^ 63 }
+        requires { HasRoom enable_pushes self.old }
         ensures done { OnOk result
             (enabled (length self.old.world.tasks) self.old ≡ Some self.new) }
         ensures failed { OnErr result (enabled (length self.old.world.tasks) self.old ≡ None) }
         ensures answer { IfErr result (λ answer. answer ≡ fault_answer) }
-        ensures few { self.new.world.queues.pushes ≤ self.old.world.queues.pushes + 2 ^ 22 }
+        ensures few { self.new.world.queues.pushes ≤ self.old.world.queues.pushes + enable_pushes }
         ensures answered { AreAnswered (calls_below (length self.old.world.tasks) self.old) }
     {
         for task in 0..self.world.tasks() {
@@ -168,7 +168,7 @@ impl Machine {
     /// Runs enable of a task.
     #[tactic(auto, unfolding(crate::specs::Start::enable))]
     fn enable(&mut self, task: u16) -> Result<(), i64>
-        requires few { self.old.world.queues.pushes + program_pushes ≤ 2 ^ 63 }
+        requires { HasRoom program_pushes self.old }
         ensures done { OnOk result (enable self.old task ≡ Some self.new) }
         ensures failed { OnErr result (enable self.old task ≡ None) }
         ensures answer { IfErr result (λ answer. answer ≡ fault_answer) }

@@ -12,7 +12,7 @@ zeros shapes = map (λ (s : Shape). replicate s.entries (replicate s.value_size 
 abbrev pub lengths : List (List ℕ) → List ℕ
 lengths entries = map (λ (value : List ℕ). length value) entries
 
--- the same of all maps
+-- how many bytes each element of each map has
 abbrev pub lengths_of : Maps → List (List ℕ)
 lengths_of maps = map lengths maps
 

@@ -67,7 +67,7 @@ paired path (Err e) = refusal path cause.BadHex
 abbrev pub spelled : List ℕ → List ℕ → Reading (Option Code)
 spelled path text = paired path (decode_of (without_blanks text)) >>= λ bytes. decoded path (read_program bytes)
 
--- the same of the value at a path, where the callback has no program yet
+-- the program whose slots the value at a path spells, where the callback has no program yet
 abbrev pub slots_of : Option Code → List ℕ → Data → Reading (Option Code)
 slots_of None path d = text_of path d >>= spelled path
 slots_of (Some code) path d = refusal path cause.Twice

@@ -13,7 +13,7 @@ use Rattle.scx_ranges.specs.declared.ranges.Range.{Range}
 use Rattle.scx_ranges.specs.Ranges.{IsIn, IsRange, CoversRange}
 use Rattle.scx_ranges.specs.Results.{computed_at, copied, negated_range, extended_range, swapped_range, loaded}
 
--- of an operation on two numbers, and what is known of its results
+-- what is known of an operation on two numbers: it holds its results, is a range and grows
 pub record AreResults (f : ℕ → ℕ → ℕ) (known : Range → Range → Range) : Type 0 where
   pub kept : (r s : Range) (n m : ℕ) → IsRange r → IsRange s → IsIn n r → IsIn m s → IsIn (f n m) (known r s)
   pub ranges : (r s : Range) → IsRange r → IsRange s → IsRange (known r s)
@@ -21,7 +21,7 @@ pub record AreResults (f : ℕ → ℕ → ℕ) (known : Range → Range → Ran
       (r' s' r s : Range) → IsRange r' → IsRange s' → IsRange r → IsRange s
       → CoversRange r' r → CoversRange s' s → CoversRange (known r' s') (known r s)
 
--- the same of one
+-- what is known of an operation on one number: it holds its results, is a range and grows
 pub record AreImages (f : ℕ → ℕ) (known : Range → Range) : Type 0 where
   pub kept : (r : Range) (n : ℕ) → IsRange r → IsIn n r → IsIn (f n) (known r)
   pub ranges : (r : Range) → IsRange r → IsRange (known r)

@@ -11,6 +11,7 @@ use Rattle.scx_machine.specs.Steps.{State}
 use Rattle.scx_machine.specs.Callbacks.{AreAnswered}
 use Rattle.scx_machine.specs.Events as machine
 use Rattle.scx_machine.specs.Start.{is_bad_shape, started}
+use Rattle.scx_machine.specs.Budgets.{start_pushes, event_pushes}
 use Rattle.scx_sched.specs.Ranges.{IsFine}
 use Rattle.scx_sched.specs.Usages.{AreBounded}
 use Rattle.scx_sched.specs.Sim.{refusal, IsValid}
@@ -29,7 +30,7 @@ fine_with : (n e : ℕ) (w : WorldState) → IsFine n e e None w.cpus w → IsFi
 fine_with n e w h = subst (λ k. IsFine k e e None w.cpus w) (sym h.sound.tasks) h
 
 -- at first
-pub valid_first : (p : PolicyState) (tree : Hierarchy) (cpus : ℕ) (t : State) → is_bad_shape tree cpus ≡ false → length tree.active ≡ length tree.homes → IsTimeout p.timeout_ms → AreAs p.callbacks → started p tree cpus ≡ Ok t → t.world.queues.pushes ≤ 2 ^ 23 → IsValid t 0
+pub valid_first : (p : PolicyState) (tree : Hierarchy) (cpus : ℕ) (t : State) → is_bad_shape tree cpus ≡ false → length tree.active ≡ length tree.homes → IsTimeout p.timeout_ms → AreAs p.callbacks → started p tree cpus ≡ Ok t → t.world.queues.pushes ≤ start_pushes → IsValid t 0
 valid_first p tree cpus t shape flags timeout programs e few =
     let h = fine_started p tree cpus t shape flags e in
     record {
@@ -45,7 +46,7 @@ valid_first p tree cpus t shape flags timeout programs e few =
     }
 
 -- after each
-pub valid_step : (s : State) (n : ℕ) (v : Event) → refusal (record { state = s; events = n }) v ≡ None → IsValid s n → AreAnswered (machine.happened s v).calls → (machine.happened s v).state.world.queues.pushes ≤ s.world.queues.pushes + 2 ^ 19 → IsValid (machine.happened s v).state (n + 1)
+pub valid_step : (s : State) (n : ℕ) (v : Event) → refusal (record { state = s; events = n }) v ≡ None → IsValid s n → AreAnswered (machine.happened s v).calls → (machine.happened s v).state.world.queues.pushes ≤ s.world.queues.pushes + event_pushes → IsValid (machine.happened s v).state (n + 1)
 valid_step s n v e h answered few =
     let a = accepted (record { state = s; events = n }) v e in
     let t = (machine.happened s v).state in

@@ -10,6 +10,7 @@ use Rattle.scx_weights.specs.Hierarchy.{Hierarchy}
 use Rattle.scx_machine.specs.Policy.{PolicyState, IsTimeout, AreAs}
 use Rattle.scx_machine.specs.Steps.{State, CallMade}
 use Rattle.scx_machine.specs.Start.{started}
+use Rattle.scx_machine.specs.Budgets.{start_pushes, event_pushes}
 use Rattle.scx_machine.specs.Events as machine
 use Rattle.scx_sched.specs.Once.{AreInQueues}
 use Rattle.scx_sched.specs.Waits.{IsTimely}
@@ -67,7 +68,7 @@ IsFirst p tree cpus s = (started p tree cpus ≡ Ok s.state) × (s.events ≡ 0)
 -- what holds between two events
 pub record IsValid (state : State) (events : ℕ) : Type 0 where
   pub over : events ≤ max_events
-  pub pushes : state.world.queues.pushes ≤ 2 ^ 23 + 2 ^ 19 * events
+  pub pushes : state.world.queues.pushes ≤ start_pushes + event_pushes * events
   pub still : state.world.cycling ≡ None
   pub timeout : IsTimeout state.policy.timeout_ms
   pub programs : AreAs state.policy.callbacks

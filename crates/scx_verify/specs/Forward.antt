@@ -40,7 +40,7 @@ pub record IsLeastOf (x : AbsState) (P : AbsState → Type 0) : Type 0 where
   pub least : (y : AbsState) → ((a : AbsState) → P a → CoversState y a) → CoversState y x
   pub some : (a : AbsState) × P a
 
--- the same, or none where there are none
+-- the least state that covers all of these, or none where there are none
 abbrev pub IsLeast : Option AbsState → (AbsState → Type 0) → Type 0
 IsLeast None P = (a : AbsState) → P a → ⊥
 IsLeast (Some x) P = IsLeastOf x P

@@ -113,7 +113,7 @@ IsStopped r slot error =
     (error ≡ record { fault = NoMemory; slot = 0 })
     ⊎ ((why : Why) × (r ≡ Err why) × (error ≡ record { fault = Rule why; slot = slot }))
 
--- the same of an instruction in the state, if there is one
+-- an instruction's check failed in the state, if there is one, or memory ran out
 abbrev pub IsStoppedAt : Context → Insn → ℕ → Option AbsState → VerifyError → Type 0
 IsStoppedAt c i slot None error = ⊥
 IsStoppedAt c i slot (Some a) error = IsStopped (rule c.defs c.callback i a) slot error
