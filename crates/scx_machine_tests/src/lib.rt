@@ -1,4 +1,5 @@
-//! Tests of the machine: events, and the notes that they give.
+//! Tests of the machine: events, and the notes that they give; and of files of policies and workloads, and
+//! the events of a workload.
 #![tactic(auto)]
 
 #[cfg(test)]
@@ -8,13 +9,19 @@ mod cases;
 #[cfg(test)]
 mod crowds;
 #[cfg(test)]
+mod driving;
+#[cfg(test)]
 mod ejecting;
 #[cfg(test)]
 mod faults;
 #[cfg(test)]
+mod files;
+#[cfg(test)]
 mod parking;
 #[cfg(test)]
 mod policies;
+#[cfg(test)]
+mod quotas;
 #[cfg(test)]
 mod recorder;
 #[cfg(test)]

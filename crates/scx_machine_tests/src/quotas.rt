@@ -1,12 +1,14 @@
 //! Generated workloads whose groups have quotas: what each group has used, who is parked and who may begin to
 //! run is what is counted here, from who runs before each tick.
 
-use crate::driver::Nowhere;
-use crate::examples::machine;
+ghost use Rattle.std.specs.Prelude.{◌≡◌, false};
+
+use crate::policies::{TWO_MILLISECONDS, policy_within};
 use crate::same::expect_same;
-use scx_load::{Driver, read_workload};
-use scx_sched::{Event, Place, Sim};
-use scx_weights::Group;
+use scx_isa::Callback;
+use scx_load::{Driver, Workload, read_workload};
+use scx_sched::{Event, Note, Place, Sim, Sink};
+use scx_weights::{Group, Tree};
 use std::alloc::{AllocError, Global};
 use std::fmt::Write;
 use std::process::Abort;
@@ -232,6 +234,24 @@ impl Counted<'_> {
     }
 }
 
+/// A sink that keeps nothing.
+#[derive(Drop)]
+struct Nowhere;
+
+impl Sink for Nowhere {
+    ghost takes = { λ s n t. t ≡ s };
+
+    ghost has_failed = { λ s. false };
+
+    ghost failed_stays = { λ s t n failed takes. takes };
+
+    fn take(&mut self, _note: Note) {}
+
+    fn failed(&self) -> bool {
+        false
+    }
+}
+
 /// The event happens; answers whether the machine is as it was counted.
 fn follow(sim: &mut Sim, counted: &mut Counted<'_>, event: Event) -> bool {
     let before = running(sim);
@@ -253,15 +273,25 @@ fn follow_all(sim: &mut Sim, driver: &mut Driver, counted: &mut Counted<'_>) -> 
     false
 }
 
+/// A policy: how long a task may wait, and the texts of its callbacks.
+type Rules = (u32, &'static [(Callback, &'static str)]);
+
+fn machine<R: AllocGlobal + Abort>(rt: &R, rules: Rules, workload: &Workload) -> Sim {
+    let (timeout_ms, texts) = rules;
+    let tree = Tree::new(rt.alloc(), workload.groups(), workload.tasks()).expect(rt, "a tree");
+    let policy = policy_within(rt, timeout_ms, texts);
+    Sim::new(rt.alloc(), policy, tree, workload.cpus()).expect(rt, "a machine")
+}
+
 /// What happens as the workload is run, if the machine always is as it was counted.
 fn seen_in<R: AllocGlobal + Abort>(
     rt: &R,
-    policy: &str,
+    rules: Rules,
     groups: &[Group],
     text: &str,
 ) -> Option<Seen> {
     let workload = read_workload(rt.alloc(), text).expect(rt, "a workload");
-    let mut sim = machine(rt, policy, &workload);
+    let mut sim = machine(rt, rules, &workload);
     let mut driver = Driver::new(rt.alloc(), &workload).expect(rt, "a driver");
     let mut counted = Counted {
         groups,
@@ -420,50 +450,21 @@ fn text(alloc: Global, numbers: &mut Numbers, groups: &[Group]) -> Result<String
     Ok(text)
 }
 
-/// Tasks wait in one queue and run for 2 ms at once.
-const TURNS: &str = r#"[code]
-init = """
-r1 = 0
-call 1001
-exit
-"""
-enqueue = """
-r4 = r2
-r2 = 0
-r3 = 2000000
-call 1002
-exit
-"""
-dispatch = """
-r1 = 0
-call 1004
-exit
-"""
-"#;
-
 /// Tasks wait where they are put, and run for 3 ms at once.
-const LOCAL: &str = r#"[code]
-enqueue = """
-r4 = r2
-r2 = 9223372036854775810 ll
-r3 = 3000000
-call 1002
-exit
-"""
-"#;
+const LOCAL: &[(Callback, &str)] = &[(
+    Callback::Enqueue,
+    "r4 = r2\nr2 = 9223372036854775810 ll\nr3 = 3000000\ncall 1002\nexit",
+)];
 
 /// Nobody who waits is put anywhere, until the policy is ejected.
-const HOLDS: &str = r#"timeout_ms = 3
-[code]
-enqueue = "exit"
-"#;
+const HOLDS: &[(Callback, &str)] = &[(Callback::Enqueue, "exit")];
 
-fn policy(numbers: &mut Numbers) -> &'static str {
+fn rules(numbers: &mut Numbers) -> Rules {
     match numbers.below(4) {
-        0 => "",
-        1 => TURNS,
-        2 => LOCAL,
-        _ => HOLDS,
+        0 => (30_000, &[]),
+        1 => (30_000, TWO_MILLISECONDS),
+        2 => (30_000, LOCAL),
+        _ => (3, HOLDS),
     }
 }
 
@@ -471,7 +472,7 @@ fn policy(numbers: &mut Numbers) -> &'static str {
 fn next<R: AllocGlobal + Abort>(rt: &R, numbers: &mut Numbers) -> Option<Seen> {
     let groups = groups(rt.alloc(), numbers).expect(rt, "memory is ample");
     let text = text(rt.alloc(), numbers, &groups).expect(rt, "memory is ample");
-    seen_in(rt, policy(numbers), &groups, text.as_str())
+    seen_in(rt, rules(numbers), &groups, text.as_str())
 }
 
 /// In how many workloads it happened.
