@@ -1,11 +1,13 @@
 -- The first queues, and a queue more.
 use Rattle.std.proofs.Common.{◌≡◌, ℕ, zero, suc, ◌+◌, ◌≤◌, false, List, [], ◌∷◌, ◌++◌, length, insert, All, Some, None, vec_capacity, replicate, refl, sym, ap, ◌∙◌, subst, arith}
+use Rattle.std.proofs.lemmas.Bool.{lt-leb}
 use Rattle.std.proofs.lemmas.List.{length_push, length-replicate, length-map, map-append}
 use Rattle.std.proofs.lemmas.List.Elements.{All-append, All-cons, All-nil, All-pop}
 use Rattle.scx_dsq.specs.declared.entries.Entry.{Entry}
 use Rattle.scx_dsq.specs.declared.queue.Queue.{Queue}
 use Rattle.scx_dsq.specs.declared.queues.Queues.TheInside.{Inside}
-use Rattle.scx_dsq.specs.Queues.{Entries, exists, entry_at}
+use Rattle.scx_dsq.specs.Queues.{Entries, QueueState, exists, entry_at}
+use Rattle.scx_dsq.specs.Calls.{created}
 use Rattle.scx_dsq.specs.Laws.{IsSound}
 use Rattle.scx_dsq.specs.Links.{no_ends}
 use Rattle.scx_dsq.specs.Heaps.{HeapState, IsHeap, HasSpots}
@@ -77,6 +79,16 @@ created_keeps i j id gap heap h g order order_capacity spare live capacity entri
       heap = subst IsHeap (sym heaps.1.0) heap_of_none;
       stand = subst (λ items. HasSpots items i.spots.items) (sym heaps.1.0) (no_spots i.spots.items);
     }
+
+-- the state is then that of the call
+pub created_state : (i : Inside) (live : List Queue) (spare : List HeapState) (id : ℕ) (heap : HeapState) → exists (state_of i) id ≡ false → i.spare.items ≡ spare ++ heap ∷ [] → live ≡ i.live.items ++ record { id = id; ends = no_ends; heap = heap } ∷ []
+    → ◌≡◌ {A = QueueState} (record { room = length live + length spare; ids = ids_of live; entries = i.entries.items; pushes = i.pushes }) (created (state_of i) id)
+created_state i live spare id heap new popped is =
+    let queue : Queue = record { id = id; ends = no_ends; heap = heap } in
+    let fewer : length i.spare.items ≡ length spare + 1 = ap length popped ∙ length_push spare heap in
+    let more : length live ≡ length i.live.items + 1 = ap length is ∙ length_push i.live.items queue in
+    let roomy = lt-leb (length i.live.items + length i.spare.items) (length (ids_of i.live.items)) (omega (arith, fewer, length-map i.live.items (λ (q : Queue). q.id))) in
+    rw (new, roomy) (same_state _ _ _ _ _ _ _ _ (omega (arith, fewer, more)) (ap ids_of is ∙ map-append (λ (q : Queue). q.id) i.live.items (queue ∷ [])) refl refl)
 
 -- its array is empty
 pub created_arrays : (i : Inside) (live : List Queue) (id : ℕ) (heap : HeapState) → IsKept i → (spare : List HeapState) → i.spare.items ≡ spare ++ heap ∷ [] → live ≡ i.live.items ++ record { id = id; ends = no_ends; heap = heap } ∷ []

@@ -1,12 +1,12 @@
 /// How a task was put into a queue: at its end, or by a virtual time.
-#[derive(Clone, Copy, Debug, PartialEq, Eq)]
+#[derive(Clone, Copy, PartialEq, Eq)]
 pub enum Rank {
     Fifo,
     Vtime(u64),
 }
 
 /// Where a task waits: in which queue, by which rank, and how many pushes were accepted before it.
-#[derive(Clone, Copy, Debug, PartialEq, Eq)]
+#[derive(Clone, Copy)]
 pub struct Entry {
     pub queue: u64,
     pub rank: Rank,

@@ -9,14 +9,14 @@ use std::marker::Model;
 use std::sync::ledger::Ledger;
 
 /// A task that waits by virtual time.
-#[derive(Clone, Copy, Debug)]
+#[derive(Clone, Copy)]
 pub struct Item {
     pub task: u32,
     pub priority: Priority,
 }
 
 /// The tasks of one queue by virtual time. It never takes more memory than it was made with.
-#[derive(Debug, Drop)]
+#[derive(Drop)]
 pub struct Heap {
     items: Vec<Item>,
 }

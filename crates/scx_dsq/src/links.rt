@@ -4,14 +4,14 @@ ghost use Rattle.scx_dsq.specs.Links.{link_at, no_link, no_ends, instead, with_a
 use crate::optional_task::OptionalTask;
 
 /// Whom a task in a FIFO queue waits right behind, and who waits right behind it.
-#[derive(Clone, Copy, Debug)]
+#[derive(Clone, Copy)]
 pub struct Link {
     pub ahead: OptionalTask,
     pub behind: OptionalTask,
 }
 
 /// Who waits first and last in a FIFO queue, and how many wait there.
-#[derive(Clone, Copy, Debug)]
+#[derive(Clone, Copy)]
 pub struct Ends {
     pub first: OptionalTask,
     pub last: OptionalTask,

@@ -3,7 +3,7 @@ ghost use Rattle.std.specs.Prelude.{◌≡◌, Some, None};
 use std::marker::Model;
 
 /// A task's number, or none, in one word.
-#[derive(Clone, Copy, Debug)]
+#[derive(Clone, Copy)]
 pub struct OptionalTask {
     /// One more than the number; 0 for none.
     word: usize,

@@ -6,7 +6,7 @@ use std::sync::ledger::Ledger;
 
 /// When a task leaves a queue by virtual time: by its key, and among equal keys by how many pushes were
 /// accepted before it. Two of them can only be compared, which is counted.
-#[derive(Clone, Copy, Debug)]
+#[derive(Clone, Copy)]
 pub struct Priority {
     key: u64,
     stamp: u64,

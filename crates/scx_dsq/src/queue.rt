@@ -12,7 +12,7 @@ use std::sync::ledger::Ledger;
 
 /// A queue that was created. Its tasks are threaded between its ends if they wait in FIFO order, and
 /// stand in its heap if they wait by virtual time.
-#[derive(Debug, Drop)]
+#[derive(Drop)]
 pub struct Queue {
     pub id: u64,
     pub ends: Ends,

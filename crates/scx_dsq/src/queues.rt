@@ -36,7 +36,7 @@ struct Front {
 /// In a contract it is two things. Its state is how many queues there may be, the ids of those that were
 /// created, for each task its entry or none, and how many pushes were accepted. Beside it stand the arrays
 /// of the queues by virtual time. Tasks are numbered from 0.
-#[derive(Debug, Drop)]
+#[derive(Drop)]
 pub struct Queues {
     live: Vec<Queue>,
     /// Where the queues stand in `live`, those of lesser ids first.
@@ -86,7 +86,6 @@ impl Queues {
     }
 
     /// Adds an empty queue: `AlreadyThere` if one has the id, else `TooManyQueues` if there is no room.
-    #[tactic(auto, using(crate::proofs::Facts::tasks_created, crate::proofs::Facts::pushes_created))]
     pub fn create(&mut self, id: u64) -> Result<(), QueueError>
         ensures answer { result ≡ refused_or_done (create_refusal self.old.state id) }
         ensures state { self.new.state ≡ created self.old.state id }
@@ -116,7 +115,6 @@ impl Queues {
 
     /// Puts a task at the end of a FIFO queue: `NoSuchQueue`, `AlreadyThere` if the task waits in any
     /// queue, `Mixed` if tasks wait in this one by virtual time.
-    #[tactic(auto, using(crate::proofs::Facts::tasks_pushed, crate::proofs::Facts::pushes_pushed))]
     pub fn push_fifo(&mut self, id: u64, task: u32) -> Result<(), QueueError>
         requires task { task < task_count self.old.state }
         requires few { self.old.state.pushes < 2 ^ 63 }
@@ -149,7 +147,6 @@ impl Queues {
     /// Puts a task into a queue by virtual time, behind those of the same key. Keys compare as unsigned
     /// numbers. `NoSuchQueue`, `AlreadyThere` if the task waits in any queue, `Mixed` if tasks wait in
     /// this one in FIFO order. Comparisons are counted in `steps`.
-    #[tactic(auto, using(crate::proofs::Facts::tasks_pushed, crate::proofs::Facts::pushes_pushed))]
     pub fn push_vtime<L: Ledger>(
         &mut self,
         id: u64,
@@ -242,7 +239,6 @@ impl Queues {
 
     /// Takes the front of the queue out and answers it; none if the queue is empty or isn't there.
     /// Comparisons are counted in `steps`.
-    #[tactic(auto, using(crate::proofs::Facts::tasks_without, crate::proofs::Facts::pushes_without))]
     pub fn pop<L: Ledger>(&mut self, id: u64, steps: &mut Steps<L>) -> Option<u32>
         ensures answer { result ≡ front_of self.old.state id }
         ensures known { IfSome result (λ t. t < task_count self.old.state) }
@@ -265,7 +261,6 @@ impl Queues {
 
     /// Takes the task out of the queue in which it waits, and tells whether it waited in any.
     /// Comparisons are counted in `steps`.
-    #[tactic(auto, using(crate::proofs::Facts::tasks_removed, crate::proofs::Facts::pushes_removed))]
     pub fn remove<L: Ledger>(&mut self, task: u32, steps: &mut Steps<L>) -> bool
         requires { task < task_count self.old.state }
         ensures answer { result ≡ is_some (entry_of self.old.state task) }

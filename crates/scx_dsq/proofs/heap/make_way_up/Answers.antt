@@ -1,8 +1,8 @@
-use Rattle.std.proofs.Common.{◌≡◌, ◌≢◌, ◌+◌, ◌-◌, ◌<◌, ◌≤◌, length, true, sym, ◌∙◌, arith}
+use Rattle.std.proofs.Common.{◌≡◌, ◌≢◌, ◌+◌, ◌-◌, ◌<◌, ◌≤◌, length, true, false, sym, ◌∙◌, arith}
 use Rattle.std.proofs.lemmas.List.{length-set}
 use Rattle.std.proofs.lemmas.List.Sorted.{IsPermutation-refl, IsPermutation-trans}
 use Rattle.scx_dsq.specs.Heaps.{parent, with_item, with_spot}
-use Rattle.scx_dsq.proofs.Heaps.{rises_none, rises_more, rose, rose_here, exchanged}
+use Rattle.scx_dsq.proofs.Heaps.{rises_none, rises_more, rose, rose_here, exchanged, heap_here}
 use Rattle.scx_dsq.proofs.Spots.{keeps_none, keeps_more}
 use Rattle.scx_dsq.proofs.Shifts.{moved, held_before, task_within, no_item}
 use Rattle.scx_dsq.proofs.heap.make_way_up.Goals as goal
@@ -38,11 +38,41 @@ loop-at-preserved g c =
       cost = rises_more (with_item c.args.items.now c.args.item c.args.start) (with_item c.loop-at.items c.args.item c.loop-at.at) (with_item c.put.new.items c.args.item (parent c.loop-at.at)) c.args.start c.loop-at.at _ _ inv.cost few up s.swapped;
     }
 
+pub returns-then-not-is_before-clause-heap : goal.returns-then-not-is_before-clause-heap
+returns-then-not-is_before-clause-heap g c =
+    let inv = c.loop-at.invariant in
+    let up = c.loop-at-test.true in
+    let within : c.loop-at.at < length c.loop-at.items = let inside = inv.inside in omega (arith, inside, length-set c.loop-at.items c.loop-at.at c.args.item) in
+    let above : parent c.loop-at.at < length c.loop-at.items = omega arith in
+    heap_here (with_item c.loop-at.items c.args.item c.loop-at.at) c.loop-at.at inv.heap
+    (held_before c.loop-at.items c.args.item no_item c.loop-at.at (parent c.loop-at.at) false (λ e. absurd (omega (arith, e))) within above (sym c.is_before.ensures.answer ∙ c.if-not-is_before.true))
+
+pub returns-then-not-is_before-clause-spots : goal.returns-then-not-is_before-clause-spots
+returns-then-not-is_before-clause-spots g c = c.loop-at.invariant.spots_kept
+
+pub returns-then-not-is_before-clause-others : goal.returns-then-not-is_before-clause-others
+returns-then-not-is_before-clause-others g c = c.loop-at.invariant.others
+
+pub returns-then-not-is_before-clause-same : goal.returns-then-not-is_before-clause-same
+returns-then-not-is_before-clause-same g c = c.loop-at.invariant.same
+
 pub returns-then-not-is_before-clause-cost : goal.returns-then-not-is_before-clause-cost
 returns-then-not-is_before-clause-cost g c =
     let inv = c.loop-at.invariant in
     let few : c.is_before.new.steps - c.args.steps.now ≤ c.loop-at.steps - c.args.steps.now + 1 = let more = inv.more in omega (arith, c.is_before.ensures.counted) in
     rose (with_item c.args.items.now c.args.item c.args.start) (with_item c.loop-at.items c.args.item c.loop-at.at) c.args.start c.loop-at.at _ _ inv.cost few c.loop-at-test.true
+
+pub returns-after-loop-at-clause-heap : goal.returns-after-loop-at-clause-heap
+returns-after-loop-at-clause-heap g c = λ k some lt. c.loop-at.invariant.heap.others k some lt (λ e. absurd (omega (arith, e)))
+
+pub returns-after-loop-at-clause-spots : goal.returns-after-loop-at-clause-spots
+returns-after-loop-at-clause-spots g c = c.loop-at.invariant.spots_kept
+
+pub returns-after-loop-at-clause-others : goal.returns-after-loop-at-clause-others
+returns-after-loop-at-clause-others g c = c.loop-at.invariant.others
+
+pub returns-after-loop-at-clause-same : goal.returns-after-loop-at-clause-same
+returns-after-loop-at-clause-same g c = c.loop-at.invariant.same
 
 pub returns-after-loop-at-clause-cost : goal.returns-after-loop-at-clause-cost
 returns-after-loop-at-clause-cost g c = rose_here (with_item c.args.items.now c.args.item c.args.start) (with_item c.loop-at.items c.args.item c.loop-at.at) c.args.start c.loop-at.at _ c.loop-at.invariant.cost

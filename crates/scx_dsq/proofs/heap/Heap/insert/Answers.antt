@@ -26,3 +26,14 @@ returns-clause-cost g c =
     let last : c.len-last.result ≡ length c.args.self.now.items = rw (← c.self.view_is) (search rules) in
     let same = written_back c.push_reserved.new.self.len c.rise.new.items c.push_reserved.new.self.items (omega (arith, c.rise.auto.items, c.deref_mut.ensures.len)) in
     rw same (cheap_pushed c.args.self.now.items c.args.item c.rise.new.items _ (rw (sym pushed, sym last) c.rise.ensures.cost))
+
+pub returns-clause-heap : goal.returns-clause-heap
+returns-clause-heap g c =
+    let same = written_back c.push_reserved.new.self.len c.rise.new.items c.push_reserved.new.self.items (omega (arith, c.rise.auto.items, c.deref_mut.ensures.len)) in
+    rw same c.rise.ensures.heap
+
+pub returns-clause-same : goal.returns-clause-same
+returns-clause-same g c =
+    let pushed : c.deref_mut.result.now ≡ c.args.self.now.items ++ c.args.item ∷ [] = c.deref_mut.ensures.value ∙ c.push_reserved.ensures.items ∙ ap (λ (h : HeapState). h.items ++ c.args.item ∷ []) c.self.view_is in
+    let same = written_back c.push_reserved.new.self.len c.rise.new.items c.push_reserved.new.self.items (omega (arith, c.rise.auto.items, c.deref_mut.ensures.len)) in
+    rw same (rw pushed at c.rise.ensures.same)

@@ -100,3 +100,8 @@ returns-else-at-len-clause-gone g c =
     let inside : slice_index_or c.args.spots.now c.args.task 0 < length c.self.inside.items.items = rw (← c.self.view_is) at (spot_within c.args.self.now.items c.args.spots.now c.args.task c.requires.spots c.requires.task) in
     let taken = taken_out c.self.inside.items.items c.swap_remove-item.new.self.items (slice_index_or c.args.spots.now c.args.task 0) c.swap_remove-item.result inside c.swap_remove-item.ensures.items in
     gone c.self.inside.items.items c.swap_remove-item.new.self.items (slice_index_or c.args.spots.now c.args.task 0) taken c.args.spots.now c.args.task (rw (← c.self.view_is) at c.requires.spots) refl
+
+pub returns-then-at-len-clause-heap : goal.returns-then-at-len-clause-heap
+returns-then-at-len-clause-heap g c =
+    let whole = written_back c.swap_remove-item.new.self.len c.settle.new.items c.swap_remove-item.new.self.items (omega (arith, c.settle.auto.items, c.deref_mut.ensures.len)) in
+    rw whole c.settle.ensures.heap

@@ -1,7 +1,9 @@
-use Rattle.std.proofs.Common.{◌≡◌, ◌∙◌, length, insert, ap, refl, rules}
-use Rattle.scx_dsq.specs.Kept.{ids_of}
+use Rattle.std.proofs.Common.{◌≡◌, ◌∙◌, false, length, insert, sym, ap, refl, rules}
+use Rattle.scx_dsq.specs.Queues.{exists, task_count}
+use Rattle.scx_dsq.specs.Arrays.{QueuesValue}
+use Rattle.scx_dsq.specs.Kept.{ids_of, state_of}
 use Rattle.scx_dsq.specs.Order.{IsGap}
-use Rattle.scx_dsq.proofs.Makings.{created_keeps, created_arrays}
+use Rattle.scx_dsq.proofs.Makings.{created_keeps, created_state, created_arrays}
 use Rattle.scx_dsq.proofs.queues.Queues.create.Goals as goal
 
 pub invariant_of-self-2 : goal.invariant_of-self-2
@@ -16,3 +18,21 @@ pub returns-clause-arrays : goal.returns-clause-arrays
 returns-clause-arrays c =
     let pushed = rw c.none.ensures at c.push_reserved.ensures.items in
     rw (← c.self.view_is) (created_arrays c.self.inside _ c.args.id c.in-Some.heap c.self.invariant _ c.in-Some.ensures.items pushed)
+
+pub returns-clause-state : goal.returns-clause-state
+returns-clause-state c =
+    let new : exists (state_of c.self.inside) c.args.id ≡ false = rw (← c.deref.ensures.value) (sym c.in-Err.ensures.named) in
+    let pushed = rw c.none.ensures at c.push_reserved.ensures.items in
+    rw (← c.self.view_is) (created_state c.self.inside c.push_reserved.new.self.items c.pop.new.self.items c.args.id c.in-Some.heap new c.in-Some.ensures.items pushed)
+
+pub returns-in_default-pop-clause-tasks : goal.returns-in_default-pop-clause-tasks
+returns-in_default-pop-clause-tasks c = ap (λ (v : QueuesValue). task_count v.state) c.self.view_is
+
+pub returns-in_default-pop-clause-pushes : goal.returns-in_default-pop-clause-pushes
+returns-in_default-pop-clause-pushes c = ap (λ (v : QueuesValue). v.state.pushes) c.self.view_is
+
+pub returns-clause-tasks : goal.returns-clause-tasks
+returns-clause-tasks c = ap (λ (v : QueuesValue). task_count v.state) c.self.view_is
+
+pub returns-clause-pushes : goal.returns-clause-pushes
+returns-clause-pushes c = ap (λ (v : QueuesValue). v.state.pushes) c.self.view_is

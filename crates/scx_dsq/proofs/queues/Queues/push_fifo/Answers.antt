@@ -1,7 +1,9 @@
-use Rattle.std.proofs.Common.{◌<◌, refl}
+use Rattle.std.proofs.Common.{◌<◌, ◌∙◌, ap, refl, arith}
+use Rattle.std.proofs.lemmas.List.{length-set}
 use Rattle.std.proofs.lemmas.Result.{err_from_is_err_and}
 use Rattle.scx_dsq.specs.declared.entries.Rank.TheVariants.{Fifo}
 use Rattle.scx_dsq.specs.Queues.{task_count}
+use Rattle.scx_dsq.specs.Arrays.{QueuesValue}
 use Rattle.scx_dsq.specs.Kept.{state_of}
 use Rattle.scx_dsq.proofs.QueueReads.{opened, not_refused, refused}
 use Rattle.scx_dsq.proofs.Pushes.{can_push_fifo, pushed_fifo, pushed_fifo_state, entered_fifo}
@@ -47,3 +49,9 @@ returns-clause-state c =
 pub returns-clause-arrays : goal.returns-clause-arrays
 returns-clause-arrays c =
     rw (← c.self.view_is) (arrays_same c.self.inside.live.items c.in_ok-index.index c.index_mut.result.now c.append_to.new.queue c.index_mut.ensures.value (rw c.append_to.ensures.queue refl))
+
+pub returns-clause-tasks : goal.returns-clause-tasks
+returns-clause-tasks c = length-set c.self.inside.entries.items c.args.task _ ∙ ap (λ (v : QueuesValue). task_count v.state) c.self.view_is
+
+pub returns-clause-pushes : goal.returns-clause-pushes
+returns-clause-pushes c = rw (← c.self.view_is) (omega arith)

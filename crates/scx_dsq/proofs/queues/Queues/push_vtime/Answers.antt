@@ -1,9 +1,12 @@
-use Rattle.std.proofs.Common.{◌-◌, ◌<◌, refl}
+use Rattle.std.proofs.Common.{◌-◌, ◌<◌, ◌∙◌, ap, refl, arith}
+use Rattle.std.proofs.lemmas.List.{length-set}
 use Rattle.std.proofs.lemmas.Result.{err_from_is_err_and}
 use Rattle.scx_dsq.specs.declared.entries.Rank.TheVariants.{Vtime}
 use Rattle.scx_dsq.specs.declared.heap.Item.{Item}
 use Rattle.scx_dsq.specs.Queues.{task_count}
+use Rattle.scx_dsq.specs.Arrays.{QueuesValue}
 use Rattle.scx_dsq.specs.Kept.{state_of, Inserted}
+use Rattle.scx_dsq.proofs.Costs.{paid_none}
 use Rattle.scx_dsq.proofs.QueueReads.{opened, not_refused, refused}
 use Rattle.scx_dsq.proofs.Pushes.{can_push_vtime, pushed_vtime, pushed_vtime_state, pushed_vtime_paid, entered_vtime}
 use Rattle.scx_dsq.proofs.queues.Queues.push_vtime.Goals as goal
@@ -57,3 +60,12 @@ returns-clause-cost g c =
     let entered : Inserted c.self.inside.spots.items c.index_mut.result.now x c.insert_into.new.spots c.insert_into.new.queue = rw c.deref_mut.ensures.value at c.insert_into.ensures.entered in
     let changed = entered_vtime c.self.inside c.in_ok-index.index c.args.id x c.index_mut.result.now c.insert_into.new.queue c.deref_mut.result.now c.insert_into.new.spots c.deref_mut.ensures.value c.insert_into.ensures.entered in
     rw (← c.self.view_is, ← c.new.ensures.key) (pushed_vtime_paid c.self.inside _ c.in_ok-index.index c.args.id x c.index_mut.result.now c.insert_into.new.queue c.insert_into.new.spots c.self.invariant within open_to entered c.new.ensures.stamp changed (c.insert_into.new.steps - c.args.steps.now) c.insert_into.ensures.cost)
+
+pub returns-in_err-index-clause-cost : goal.returns-in_err-index-clause-cost
+returns-in_err-index-clause-cost g c = paid_none c.args.self.now c.args.self.now c.args.id _ refl (omega arith)
+
+pub returns-clause-tasks : goal.returns-clause-tasks
+returns-clause-tasks g c = length-set c.self.inside.entries.items c.args.task _ ∙ ap (λ (v : QueuesValue). task_count v.state) c.self.view_is
+
+pub returns-clause-pushes : goal.returns-clause-pushes
+returns-clause-pushes g c = rw (← c.self.view_is) (omega arith)

@@ -1,8 +1,9 @@
-use Rattle.std.proofs.Common.{◌≡◌, ◌<◌, false, sym, ◌∙◌}
+use Rattle.std.proofs.Common.{◌≡◌, ◌<◌, false, Some, sym, ap, ◌∙◌}
 use Rattle.std.proofs.lemmas.Bool.{both_ways}
-use Rattle.scx_dsq.specs.Queues.{exists, task_count}
+use Rattle.scx_dsq.specs.Queues.{QueueState, exists, task_count}
 use Rattle.scx_dsq.specs.Kept.{state_of}
 use Rattle.scx_dsq.proofs.QueueReads.{entry_read, stands_at}
+use Rattle.scx_dsq.proofs.Facts.{tasks_without}
 use Rattle.scx_dsq.proofs.queues.Queues.remove.Goals as goal
 
 pub unreachable-requires : goal.unreachable-requires
@@ -14,3 +15,9 @@ unreachable-requires g c =
 
 pub take_out-requires-clause-stands : goal.take_out-requires-clause-stands
 take_out-requires-clause-stands g c = rw (← c.self.view_is) (stands_at c.self.inside _ c.in-Some-find.index c.in-Some.entry.queue c.deref.ensures.value c.in-Some-find.ensures.at)
+
+pub returns-clause-tasks : goal.returns-clause-tasks
+returns-clause-tasks g c = ap (λ (s : QueueState). task_count s) c.take_out.ensures.state ∙ tasks_without c.args.self.now.state (Some c.args.task)
+
+pub returns-clause-pushes : goal.returns-clause-pushes
+returns-clause-pushes g c = ap (λ (s : QueueState). s.pushes) c.take_out.ensures.state
