@@ -195,7 +195,6 @@ impl Numbers {
     }
 
     /// What arithmetic makes of a destination and an operand (RFC 9669, section 4.1).
-    #[tactic(auto, using(crate::proofs::BuiltRanges::computed_range))]
     pub fn computed(self, width: Width, operation: Operation, operand: Numbers) -> Numbers
         ensures { result ≡ computed_at width operation self operand }
     {
@@ -203,7 +202,6 @@ impl Numbers {
     }
 
     /// What a move makes of its operand (RFC 9669, section 4.1), whatever its destination was.
-    #[tactic(auto, using(crate::proofs::BuiltRanges::copied_range))]
     pub fn copied(self, width: Width) -> Numbers
         ensures { result ≡ copied width self }
     {
@@ -211,7 +209,6 @@ impl Numbers {
     }
 
     /// What negation makes of them (RFC 9669, section 4.1).
-    #[tactic(auto, using(crate::proofs::BuiltRanges::negative_range))]
     pub fn negated(self, width: Width) -> Numbers
         ensures { result ≡ negated_range width self }
     {
@@ -219,7 +216,6 @@ impl Numbers {
     }
 
     /// What a move that extends a sign makes of its operand (RFC 9669, section 4.1).
-    #[tactic(auto, using(crate::proofs::BuiltRanges::extension_range))]
     pub fn extended(self, extension: Extension) -> Numbers
         ensures { result ≡ extended_range extension self }
     {
@@ -227,7 +223,6 @@ impl Numbers {
     }
 
     /// What a byte swap makes of them (RFC 9669, section 4.2).
-    #[tactic(auto, using(crate::proofs::BuiltRanges::swap_range))]
     pub fn byte_swapped(self, order: ByteOrder, width: SwapWidth) -> Numbers
         ensures { result ≡ swapped_range order width self }
     {
