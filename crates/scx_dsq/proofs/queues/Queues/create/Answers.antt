@@ -1,4 +1,7 @@
-use Rattle.std.proofs.Common.{◌≡◌, ◌∙◌, false, length, insert, sym, ap, refl, rules}
+use Rattle.std.proofs.Common.{◌≡◌, ◌+◌, ◌∙◌, true, false, nat_le, length, insert, sym, ap, refl, arith, rules}
+use Rattle.std.proofs.lemmas.Bool.{le-leb}
+use Rattle.std.proofs.lemmas.List.{append-nil, length-map}
+use Rattle.scx_dsq.specs.declared.queue.Queue.{Queue}
 use Rattle.scx_dsq.specs.Queues.{exists, task_count}
 use Rattle.scx_dsq.specs.Arrays.{QueuesValue}
 use Rattle.scx_dsq.specs.Kept.{ids_of, state_of}
@@ -36,3 +39,21 @@ returns-clause-tasks c = ap (λ (v : QueuesValue). task_count v.state) c.self.vi
 
 pub returns-clause-pushes : goal.returns-clause-pushes
 returns-clause-pushes c = ap (λ (v : QueuesValue). v.state.pushes) c.self.view_is
+
+pub returns-in_default-clause-state : goal.returns-in_default-clause-state
+returns-in_default-clause-state c =
+    let there : exists (state_of c.self.inside) c.args.id ≡ true = rw (← c.deref.ensures.value) (sym c.in_default.ensures.named) in
+    rw (← c.self.view_is, there) refl
+
+pub returns-in_default-pop-clause-state : goal.returns-in_default-pop-clause-state
+returns-in_default-pop-clause-state c =
+    let new : exists (state_of c.self.inside) c.args.id ≡ false = rw (← c.deref.ensures.value) (sym c.in-Err.ensures.named) in
+    let same : c.pop.new.self.items ≡ c.self.inside.spare.items = sym (c.in_default-pop.ensures.items ∙ append-nil c.pop.new.self.items) in
+    let none : length c.self.inside.spare.items ≡ 0 = search rules in
+    let full : nat_le (length c.self.inside.live.items + length c.self.inside.spare.items) (length (ids_of c.self.inside.live.items)) ≡ true = le-leb _ _ (omega (arith, none, length-map c.self.inside.live.items (λ (q : Queue). q.id))) in
+    rw (same, ← c.self.view_is, new, full) refl
+
+pub returns-in_default-pop-clause-unchanged : goal.returns-in_default-pop-clause-unchanged
+returns-in_default-pop-clause-unchanged c =
+    let same : c.pop.new.self.items ≡ c.self.inside.spare.items = sym (c.in_default-pop.ensures.items ∙ append-nil c.pop.new.self.items) in
+    rw same c.self.view_is

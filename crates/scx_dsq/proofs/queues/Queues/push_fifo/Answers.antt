@@ -55,3 +55,6 @@ returns-clause-tasks c = length-set c.self.inside.entries.items c.args.task _ âˆ
 
 pub returns-clause-pushes : goal.returns-clause-pushes
 returns-clause-pushes c = rw (â† c.self.view_is) (omega arith)
+
+pub returns-in_err-index-clause-unchanged : goal.returns-in_err-index-clause-unchanged
+returns-in_err-index-clause-unchanged c = rw (err_from_is_err_and c.from_residual.result c.from_residual.ensures.1).1 refl

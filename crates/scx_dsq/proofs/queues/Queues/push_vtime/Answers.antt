@@ -69,3 +69,9 @@ returns-clause-tasks g c = length-set c.self.inside.entries.items c.args.task _ 
 
 pub returns-clause-pushes : goal.returns-clause-pushes
 returns-clause-pushes g c = rw (← c.self.view_is) (omega arith)
+
+pub returns-in_err-index-clause-unchanged : goal.returns-in_err-index-clause-unchanged
+returns-in_err-index-clause-unchanged g c = rw (err_from_is_err_and c.from_residual.result c.from_residual.ensures.1).1 refl
+
+pub returns-in_err-index-clause-free : goal.returns-in_err-index-clause-free
+returns-in_err-index-clause-free g c = rw (err_from_is_err_and c.from_residual.result c.from_residual.ensures.1).1 refl
