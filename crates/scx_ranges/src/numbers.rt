@@ -107,7 +107,6 @@ impl Numbers {
     }
 
     /// The least range that holds both.
-    #[tactic(auto, using(crate::proofs::BuiltRanges::joined_range))]
     pub fn join(self, other: Numbers) -> Numbers
         ensures { result ≡ join_ranges self other }
     {
@@ -129,7 +128,6 @@ impl Numbers {
     }
 
     /// The least range that holds both, where that has the step 1.
-    #[tactic(auto, using(crate::proofs::BuiltRanges::joined_finely, crate::proofs::BuiltRanges::joined_fine_parts))]
     fn join_finely(self, other: Numbers) -> Numbers
         requires { min self.shift other.shift ≡ 0 }
         ensures { result ≡ join_ranges self other }

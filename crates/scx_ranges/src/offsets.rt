@@ -79,7 +79,6 @@ impl Offsets {
     }
 
     /// The least range that holds both.
-    #[tactic(auto, using(crate::proofs::BuiltRanges::joined_range))]
     pub fn join(self, other: Offsets) -> Offsets
         ensures { result ≡ join_ranges self other }
     {
