@@ -4,6 +4,16 @@
 //! a second one makes the instructions, with distances for labels. What it gives was written as slots
 //! and decoded.
 //! `disassemble` gives the canonical text, which `assemble` reads as the same program.
+//!
+//! A text is made into slots, in `crates/scx_program_tests/src/malicious.rt`:
+//!
+//! ```rust
+//! /// The bytes of a callback.
+//! fn code_of(alloc: Global, text: &str) -> Option<Vec<u8>> {
+//!     let program = assemble(alloc, text).ok()?;
+//!     encode(alloc, &program).ok()
+//! }
+//! ```
 #![tactic(auto)]
 
 mod assembling;

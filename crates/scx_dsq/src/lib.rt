@@ -3,6 +3,19 @@
 //!
 //! A queue has an id and is either FIFO or ordered by virtual time. `Queues` holds all of them, and
 //! each task waits in at most one. All memory is taken by `Queues::new`: no later call takes any.
+//!
+//! A task is put into queue 0, if there is room and it is one of the tasks, in `crates/scx_bench/src/queues.rt`:
+//!
+//! ```rust
+//! if task as usize >= queues.tasks() || queues.pushes() >= 1 << 62 {
+//!     return None;
+//! }
+//! let key = number.wrapping_mul(0x9e37_79b9_7f4a_7c15) >> 54;
+//! match order {
+//!     Order::Fifo => queues.push_fifo(0, task).ok(),
+//!     Order::Vtime => queues.push_vtime(0, task, key, steps).ok(),
+//! }
+//! ```
 #![tactic(auto)]
 
 mod entries;

@@ -6,6 +6,19 @@
 //!
 //! The types of instructions and what programs mean stand in `scx_semantics`, and the encoding of one
 //! instruction in `scx_encoding`; their types are passed on here.
+//!
+//! Bytes are read as a program, and written back, in `crates/scx_program_tests/src/programs.rt`:
+//!
+//! ```rust
+//! let program = decode(rt.alloc(), &PROGRAM)?;
+//! expect_same(&rt, program.slots(), 6, "slots");
+//! expect_same(&rt, program.instructions(), 6, "instructions");
+//! assert!(rt; is_signed_modulo(program.at(2)));
+//! assert!(rt; matches!(program.at(4), Some(Insn::Goto(0))));
+//! assert!(rt; program.at(6).is_none());
+//! let bytes = encode(rt.alloc(), &program)?;
+//! expect_same(&rt, bytes.as_slice(), PROGRAM.as_slice(), "bytes");
+//! ```
 #![tactic(auto)]
 
 mod decoding;

@@ -5,6 +5,17 @@
 //! their values. In contracts it is the list of maps, each the list of its elements, each the list of
 //! its bytes; a call reads or changes one element. All values stand in one block, which
 //! `Maps::new` alone takes; each other call takes constant time.
+//!
+//! A number in an element of map 0 grows by 1, if its bytes are there, in `crates/scx_bench/src/maps.rt`:
+//!
+//! ```rust
+//! if maps.count() == 0 || !maps.lookup(0, index) || maps.value(0, index).len() < 16 {
+//!     return None;
+//! }
+//! let number = maps.load(0, index, 8, Size::DoubleWord);
+//! maps.store(0, index, 8, Size::DoubleWord, number.wrapping_add(1));
+//! Some(number)
+//! ```
 #![tactic(auto)]
 
 mod bad_shape;

@@ -4,6 +4,17 @@
 //! `Sim::step` is given an event, and does all that it causes; what happened goes to a `Sink` as notes.
 //! Between two events each runnable task is in one place, on a processor or in a queue. A policy that has a
 //! fault, or lets a task wait too long, is ejected, and a scheduler of the machine's own goes on.
+//!
+//! A machine is given the next event of a workload, in `crates/scx_stepping/src/main.rt`:
+//!
+//! ```rust
+//! let Some(event) = driver.next(sim) else {
+//!     break;
+//! };
+//! if sim.step(event, &mut stops).is_err() {
+//!     break;
+//! }
+//! ```
 #![tactic(auto)]
 
 mod laws;

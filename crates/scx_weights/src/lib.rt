@@ -4,6 +4,26 @@
 //! answers a task's share, computed exactly from the whole tree as it is now. Sums that are kept up
 //! along the way to the top make every call but `new` cost at most three levels, however many groups
 //! and tasks there are.
+//!
+//! A tree is made, in `crates/scx_host_tests/src/weights.rt`:
+//!
+//! ```rust
+//! /// A tree all of whose tasks are asleep.
+//! fn asleep<R: AllocGlobal + Abort>(rt: &R, groups: &[Group], tasks: &[u32]) -> Tree {
+//!     Tree::new(rt.alloc(), groups, tasks).expect(rt, "each task is in a group")
+//! }
+//! ```
+//!
+//! Its tasks begin to have work, or sleep, in `crates/scx_host_tests/src/weights.rt`:
+//!
+//! ```rust
+//! assert!(rt; task < tree.tasks());
+//! if is_active {
+//!     tree.activate(task);
+//! } else {
+//!     tree.deactivate(task);
+//! }
+//! ```
 #![tactic(auto)]
 
 mod admission;

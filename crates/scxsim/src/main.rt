@@ -2,6 +2,17 @@
 //! disassembles BPF programs. Its words are read by `scx_words`; what the commands do stands in
 //! `scx_commands`, `scx_verdicts`, `scx_explain` and `scx_simulation`, whose calls are passed on here. All that it
 //! reaches outside is a `Console`, so a command can be run whole in memory, as those of files of cases are.
+//!
+//! A policy is verified, in `crates/scxsim/data/verdicts.txt`:
+//!
+//! ```text
+//! [slots]
+//! dispatch = 'b701000000000000 85000000ec030000 9500000000000000'
+//! -- scxsim verify policy.toml --
+//! init ok 3
+//! enqueue ok 5
+//! dispatch ok 3
+//! ```
 #![tactic(auto)]
 
 mod accounts;
