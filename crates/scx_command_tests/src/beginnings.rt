@@ -1,7 +1,7 @@
 //! Files that end too early.
 
 use crate::memory::Memory;
-use scx_outcomes::{Fault, finish, text};
+use scx_commands::{Fault, finish, text};
 use scx_output::{Counted, Out};
 use scx_simulation::{Nobody, simulate};
 use std::alloc::Global;

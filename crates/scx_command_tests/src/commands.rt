@@ -2,9 +2,8 @@
 
 use crate::memory::{Memory, Way};
 use crate::same::expect_same;
-use scx_commands::{Counted, Fault, Out, asm, dis, exec, finish};
+use scx_commands::{Counted, Fault, Out, asm, check, dis, exec, finish};
 use scx_explain::explain;
-use scx_verdicts::check;
 use std::alloc::Global;
 use std::process::Abort;
 

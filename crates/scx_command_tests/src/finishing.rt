@@ -3,9 +3,9 @@
 use crate::memory::Memory;
 use crate::same::expect_same;
 use scx_asm::AsmFault;
+use scx_commands::{Fault, Refusal, finish};
 use scx_files::Cause;
 use scx_isa::{Callback, DecodeFault, Exclusion, FlowFault};
-use scx_outcomes::{Fault, Refusal, finish};
 use scx_output::Counted;
 use scx_verify as verifier;
 use std::alloc::AllocError;

@@ -3,8 +3,8 @@
 use crate::beginnings::run;
 use crate::commands::{ASM, CHECK, Command, DIS, EXEC, expect};
 use crate::same::expect_same;
+use scx_commands::{FILE_LIMIT, Fault, Refusal, text};
 use scx_examples::{EXIT, bytes_of};
-use scx_outcomes::{FILE_LIMIT, Fault, Refusal, text};
 use std::alloc::{AllocError, Global};
 use std::fmt::Write;
 use std::process::Abort;

@@ -1,6 +1,6 @@
 //! The commands that run a workload.
 
-use scx_outcomes::Fault;
+use scx_commands::Fault;
 use scx_output::Out;
 use scx_picture::picture;
 use scx_simulation::{Listener, report, simulate};

@@ -2,7 +2,7 @@
 
 use crate::memory::{Memory, Way};
 use crate::texts::{SHORT_SLICES, TWO_TASKS};
-use scx_outcomes::Fault;
+use scx_commands::Fault;
 use scx_output::Counted;
 use scx_simulation::{Nobody, report, simulate};
 use std::alloc::Global;

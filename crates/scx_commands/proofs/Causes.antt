@@ -10,17 +10,17 @@ use Rattle.scx_verify.specs.declared.faults.Fault.TheVariants.{Flow, Rule, NoMem
 use Rattle.scx_verify.specs.declared.faults.VerifyError.{VerifyError}
 use Rattle.scx_safety.specs.Programs.{context}
 use Rattle.scx_verify.specs.Faults.{IsReason, IsRefusal}
-use Rattle.scx_outcomes.specs.declared.refusal.Refusal.{Refusal}
-use Rattle.scx_outcomes.specs.declared.file.TheConstants.{FILE_LIMIT}
-use Rattle.scx_outcomes.specs.Refusals.{fault_refusal, verify_refusal}
-use Rattle.scx_commands.specs.Exec.{alone, IsCause}
+use Rattle.scx_commands.specs.declared.refusal.Refusal.{Refusal}
+use Rattle.scx_commands.specs.declared.file.TheConstants.{FILE_LIMIT}
+use Rattle.scx_commands.specs.Refusals.{fault_refusal, verify_refusal}
+use Rattle.scx_commands.specs.Exec.{alone, IsExecCause}
 
-fault_cause : (bytes : List ℕ) (code : Code) (fault : Fault) (slot : ℕ) → length bytes ≤ FILE_LIMIT → Spells bytes code → IsReason alone code fault slot → IsCause bytes (fault_refusal fault slot)
+fault_cause : (bytes : List ℕ) (code : Code) (fault : Fault) (slot : ℕ) → length bytes ≤ FILE_LIMIT → Spells bytes code → IsReason alone code fault slot → IsExecCause bytes (fault_refusal fault slot)
 fault_cause bytes code (Flow f) slot fits spelled reason = (fits, record { code = code; spelled = spelled; reason = reason; known = λ e. absurd (cc) })
 fault_cause bytes code (Rule why) slot fits spelled reason = (fits, record { code = code; spelled = spelled; reason = reason; known = λ e. absurd (cc) })
 fault_cause bytes code NoMemory slot fits spelled reason = program_has_length bytes code spelled
 
 -- its refusal has the verifier as its cause
 pub verify_cause : (bytes : List ℕ) (code : Code) (shapes : List Shape) (error : VerifyError) (refusal : Refusal) → length bytes ≤ FILE_LIMIT → Spells bytes code → shapes ≡ []
-    → IsRefusal (context Plain shapes) code error → refusal ≡ verify_refusal error → IsCause bytes refusal
+    → IsRefusal (context Plain shapes) code error → refusal ≡ verify_refusal error → IsExecCause bytes refusal
 verify_cause bytes code shapes error refusal fits spelled none refused is = rw is (fault_cause bytes code error.fault error.slot fits spelled (rw none at refused))

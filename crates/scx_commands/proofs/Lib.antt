@@ -1,1 +1,3 @@
+mod Parts
 pub mod Causes
+mod Asked

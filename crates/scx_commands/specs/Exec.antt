@@ -13,9 +13,9 @@ use Rattle.scx_verify.specs.Typing.{IsTyped}
 use Rattle.scx_verify.specs.Faults.{IsReason}
 use Rattle.scx_vm.specs.Alone.{RunsAlone}
 use Rattle.scx_vm.specs.declared.ending.Done.{Done}
-use Rattle.scx_outcomes.specs.declared.refusal.Refusal.{Refusal}
-use Rattle.scx_outcomes.specs.declared.refusal.Refusal.TheVariants.{TooLarge, NoMemory, Decode, Verify}
-use Rattle.scx_outcomes.specs.declared.file.TheConstants.{FILE_LIMIT}
+use Rattle.scx_commands.specs.declared.refusal.Refusal.{Refusal}
+use Rattle.scx_commands.specs.declared.refusal.Refusal.TheVariants.{TooLarge, NoMemory, Decode, Verify}
+use Rattle.scx_commands.specs.declared.file.TheConstants.{FILE_LIMIT}
 
 -- a plain program with no maps
 abbrev pub alone : Context
@@ -36,9 +36,9 @@ pub record HasFault (bytes : List ℕ) (fault : verifier.Fault) (slot : ℕ) : T
   pub known : fault ≢ faults.NoMemory
 
 -- The bytes are refused for that cause. Memory is asked for only where they are as many as a program has.
-abbrev pub IsCause : List ℕ → Refusal → Type 0
-IsCause bytes TooLarge = FILE_LIMIT < length bytes
-IsCause bytes NoMemory = HasProgramLength bytes
-IsCause bytes (Decode fault slot) = (length bytes ≤ FILE_LIMIT) × IsFirstFault bytes fault slot
-IsCause bytes (Verify fault slot) = (length bytes ≤ FILE_LIMIT) × HasFault bytes fault slot
-IsCause bytes r = ⊥
+abbrev pub IsExecCause : List ℕ → Refusal → Type 0
+IsExecCause bytes TooLarge = FILE_LIMIT < length bytes
+IsExecCause bytes NoMemory = HasProgramLength bytes
+IsExecCause bytes (Decode fault slot) = (length bytes ≤ FILE_LIMIT) × IsFirstFault bytes fault slot
+IsExecCause bytes (Verify fault slot) = (length bytes ≤ FILE_LIMIT) × HasFault bytes fault slot
+IsExecCause bytes r = ⊥

@@ -1,3 +1,11 @@
+pub mod Refusals
+pub mod Outcome
 pub mod Lines
-pub mod Exec
+pub mod RefusalLines
 pub mod Text
+pub mod Exec
+pub mod Asm
+pub mod Dis
+pub mod Verdicts
+pub mod VerdictLines
+pub mod Check

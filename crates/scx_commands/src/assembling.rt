@@ -1,14 +1,15 @@
 ghost use Rattle.std.specs.Prelude.{◌≡◌, ℕ, ◌<◌, List, length, true, Err, IfOk, IfErr, OnOk};
 ghost use Rattle.std.specs.Io.KnownBytes.{Appends};
-ghost use Rattle.scx_outcomes.specs.declared.file.TheConstants.{FILE_LIMIT};
+ghost use Rattle.scx_commands.specs.declared.file.TheConstants.{FILE_LIMIT};
 ghost use Rattle.scx_output.specs.Output.{HasFailed, AppendsBeginning};
-ghost use Rattle.scx_outcomes.specs.Outcome.{IfRefused, IsRefused};
-ghost use Rattle.scx_outcomes.specs.Text.{IsText};
-ghost use Rattle.scx_commands.specs.Text.{IsAssembled, IsAsmCause};
+ghost use Rattle.scx_commands.specs.Outcome.{IfRefused, IsRefused};
+ghost use Rattle.scx_commands.specs.Text.{IsText};
+ghost use Rattle.scx_commands.specs.Asm.{IsAssembled, IsAsmCause};
 
+use crate::refusal::{Fault, Refusal};
+use crate::texts::text;
 use scx_asm::assemble;
 use scx_isa::encode;
-use scx_outcomes::{Fault, Refusal, text};
 use scx_output::{Out, write_all};
 use std::alloc::Global;
 

@@ -2,12 +2,13 @@ ghost use Rattle.std.specs.Prelude.{◌≡◌, ℕ, ◌<◌, List, length, true,
 ghost use Rattle.std.specs.Io.KnownBytes.{Appends};
 ghost use Rattle.std.specs.String.{string_bytes};
 ghost use Rattle.scx_output.specs.Output.{HasFailed, AppendsBeginning};
-ghost use Rattle.scx_outcomes.specs.Outcome.{IfRefused, IsRefused};
-ghost use Rattle.scx_commands.specs.Text.{IsDisassembled, IsDisCause};
+ghost use Rattle.scx_commands.specs.Outcome.{IfRefused, IsRefused};
+ghost use Rattle.scx_commands.specs.Dis.{IsDisassembled, IsDisCause};
 
+use crate::file::FILE_LIMIT;
+use crate::refusal::{Fault, Refusal};
 use scx_asm::disassemble;
 use scx_isa::decode;
-use scx_outcomes::{FILE_LIMIT, Fault, Refusal};
 use scx_output::{Out, write_all};
 use std::alloc::Global;
 

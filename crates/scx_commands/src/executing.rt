@@ -2,14 +2,15 @@ ghost use Rattle.std.specs.Prelude.{◌≡◌, ℕ, ◌<◌, length, true, Err, 
 ghost use Rattle.std.specs.Io.KnownBytes.{Appends};
 ghost use Rattle.scx_vm.specs.declared.ending.Done.{Done};
 ghost use Rattle.scx_output.specs.Output.{HasFailed, AppendsBeginning};
-ghost use Rattle.scx_outcomes.specs.Outcome.{IfRefused, IsRefused};
-ghost use Rattle.scx_commands.specs.Exec.{HasRun, IsCause};
+ghost use Rattle.scx_commands.specs.Outcome.{IfRefused, IsRefused};
+ghost use Rattle.scx_commands.specs.Exec.{HasRun, IsExecCause};
 ghost use Rattle.scx_commands.specs.Lines as lines;
 
+use crate::file::FILE_LIMIT;
 use crate::lines::done_line;
+use crate::refusal::{Fault, Refusal};
 use scx_isa::{Callback, decode};
 use scx_maps::MapDefs;
-use scx_outcomes::{FILE_LIMIT, Fault, Refusal};
 use scx_output::{Out, write_all};
 use scx_run::run_alone;
 use scx_verify::verify;
@@ -28,7 +29,7 @@ pub fn exec<W: Out>(alloc: Global, bytes: &[u8], out: &mut W) -> Result<bool, Fa
     ensures unfailed { OnOk result (W.failure_count out.new ≡ W.failure_count out.old) }
 
     // A refusal has its cause in the bytes, and comes before any byte is written.
-    ensures refused { IfRefused result (IsCause bytes.now) }
+    ensures refused { IfRefused result (IsExecCause bytes.now) }
     ensures too_large { FILE_LIMIT < length bytes.now
         → result ≡ Err (Fault.Refused Refusal.TooLarge) }
     ensures quiet { IsRefused result → out.new ≡ out.old }
@@ -49,7 +50,7 @@ pub fn exec<W: Out>(alloc: Global, bytes: &[u8], out: &mut W) -> Result<bool, Fa
 #[tactic(auto, using(scx_isa::proofs::Programs::program_has_length))]
 fn run(alloc: Global, bytes: &[u8]) -> Result<Done, Refusal>
     ensures done { IfOk result (HasRun bytes.now) }
-    ensures refused { IfErr result (IsCause bytes.now) }
+    ensures refused { IfErr result (IsExecCause bytes.now) }
     ensures too_large { FILE_LIMIT < length bytes.now → result ≡ Err Refusal.TooLarge }
 {
     if bytes.len() > FILE_LIMIT {

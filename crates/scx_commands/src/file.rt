@@ -1,8 +1,10 @@
-use scx_outcomes::FILE_LIMIT;
 use std::fs::File;
 use std::io;
 use std::io::Read;
 use std::rt::Files;
+
+/// How many bytes a file may have.
+pub const FILE_LIMIT: usize = 1_048_576;
 
 /// Reads a file, but no more of it than one byte past the limit, which shows it to be too large.
 ///

@@ -4,9 +4,9 @@ use Rattle.scx_explanations.specs.declared.reasons.Explanation.{Explanation}
 use Rattle.scx_explanations.specs.Reasons.{fault_of}
 use Rattle.scx_explanations.specs.Said.{IsSaid}
 use Rattle.scx_explanations.specs.Leading.{AreJumps}
-use Rattle.scx_verdicts.specs.declared.verdict.Verdict.{Verdict}
-use Rattle.scx_verdicts.specs.declared.verdict.Verdict.TheVariants.{Accepted, Refused}
-use Rattle.scx_verdicts.specs.Lines.{verdict_line}
+use Rattle.scx_commands.specs.declared.verdict.Verdict.{Verdict}
+use Rattle.scx_commands.specs.declared.verdict.Verdict.TheVariants.{Accepted, Refused}
+use Rattle.scx_commands.specs.VerdictLines.{verdict_line}
 use Rattle.scx_explain.specs.declared.explained.Explained.{Explained}
 use Rattle.scx_explain.specs.declared.explained.ExplainedPolicy.{ExplainedPolicy}
 use Rattle.scx_explain.specs.Listed.{first_lines}

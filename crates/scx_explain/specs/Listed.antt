@@ -3,9 +3,9 @@ use Rattle.std.specs.Prelude.{◌≡◌, ℕ, List, [], ◌∷◌, ◌++◌, cod
 use Rattle.std.specs.Io.KnownBytes.{Appends}
 use Rattle.scx_semantics.specs.declared.callbacks.Callback.{Callback}
 use Rattle.scx_semantics.specs.declared.callbacks.Callback.TheVariants as callback
-use Rattle.scx_verdicts.specs.Lines.{verdict_line}
-use Rattle.scx_verdicts.specs.declared.verdict.Verdict.{Verdict}
-use Rattle.scx_verdicts.specs.declared.verdict.Verdicts.{Verdicts}
+use Rattle.scx_commands.specs.VerdictLines.{verdict_line}
+use Rattle.scx_commands.specs.declared.verdict.Verdict.{Verdict}
+use Rattle.scx_commands.specs.declared.verdict.Verdicts.{Verdicts}
 
 -- known bytes grow by some bytes
 abbrev pub Grows : Option (List ℕ) → Option (List ℕ) → Type 0

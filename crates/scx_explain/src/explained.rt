@@ -1,21 +1,20 @@
 ghost use Rattle.std.specs.Prelude.{◌≡◌, [], ◌∷◌, ◌++◌, map, IfOk, IfErr, OnOk};
-ghost use Rattle.scx_outcomes.specs.declared.refusal.Refusal.TheVariants.{NoMemory};
+ghost use Rattle.scx_commands.specs.declared.refusal.Refusal.TheVariants.{NoMemory};
 ghost use Rattle.scx_policies.specs.Policies.{program_of, without};
 ghost use Rattle.scx_safety.specs.Programs.{context};
 ghost use Rattle.scx_explanations.specs.Listings.{IsListing};
-ghost use Rattle.scx_verdicts.specs.Verdicts.{IsVerdict, IsVerdictOf, HasVerdicts};
+ghost use Rattle.scx_commands.specs.Verdicts.{IsVerdict, IsVerdictOf, HasVerdicts};
 ghost use Rattle.scx_explain.specs.Explained.{IsExplained, IsSo, HasJumps, ArePrograms};
 ghost use Rattle.scx_explain.specs.Explained.{first_line};
 ghost use Rattle.scx_explain.specs.Listed.{line_on, first_lines};
 
 use crate::writing::room_for_line;
+use scx_commands::{Refusal, Verdict, Verdicts, judge};
 use scx_explanations::{Explanation, Jumps, Listing, explanation_of};
 use scx_isa::{Callback, Program};
 use scx_maps::MapDefs;
-use scx_outcomes::Refusal;
 use scx_policies::PolicyText;
 use scx_safety::Context;
-use scx_verdicts::{Verdict, Verdicts, judge};
 use std::alloc::{AllocError, Global};
 
 /// A program, the verdict on it, and why it is refused, if it is.

@@ -1,18 +1,18 @@
 ghost use Rattle.std.specs.Prelude.{◌≡◌, ◌<◌, ℕ, List, length, map, Err, IfOk, IfErr, OnOk, OnErr};
 ghost use Rattle.std.specs.Io.KnownBytes.{Appends};
 ghost use Rattle.scx_output.specs.Output.{HasFailed};
-ghost use Rattle.scx_outcomes.specs.declared.file.TheConstants.{FILE_LIMIT};
-ghost use Rattle.scx_outcomes.specs.Outcome.{IfRefused, IsRefused};
-ghost use Rattle.scx_outcomes.specs.Text.{IsText};
-ghost use Rattle.scx_verdicts.specs.declared.verdict.Verdicts.{Verdicts};
-ghost use Rattle.scx_verdicts.specs.Verdicts.{are_accepted};
-ghost use Rattle.scx_verdicts.specs.Check.{AreVerdicts, IsCheckCause};
+ghost use Rattle.scx_commands.specs.declared.file.TheConstants.{FILE_LIMIT};
+ghost use Rattle.scx_commands.specs.Outcome.{IfRefused, IsRefused};
+ghost use Rattle.scx_commands.specs.Text.{IsText};
+ghost use Rattle.scx_commands.specs.declared.verdict.Verdicts.{Verdicts};
+ghost use Rattle.scx_commands.specs.Verdicts.{are_accepted};
+ghost use Rattle.scx_commands.specs.Check.{AreVerdicts, IsCheckCause};
 ghost use Rattle.scx_explain.specs.Explained.{ArePrograms, first_line};
 ghost use Rattle.scx_explain.specs.Listed.{IsListed, first_lines};
 
 use crate::explained::{ExplainedPolicy, explain_policy};
 use crate::writing::write_programs;
-use scx_outcomes::{Fault, Refusal, text};
+use scx_commands::{Fault, Refusal, text};
 use scx_output::Out;
 use scx_policies::read_policy;
 use std::alloc::Global;

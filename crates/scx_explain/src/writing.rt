@@ -6,8 +6,8 @@ ghost use Rattle.scx_explain.specs.Listed.{Grows, IsListed, IsListedBehind};
 
 use crate::explained::Explained;
 use crate::lines::{push_slot, width_of};
+use scx_commands::verdict_line;
 use scx_output::{Failed, Out, write_all};
-use scx_verdicts::verdict_line;
 use std::alloc::{AllocError, Global};
 
 /// How many bytes a line takes at most, and many more.

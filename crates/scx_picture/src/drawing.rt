@@ -1,13 +1,13 @@
 ghost use Rattle.std.specs.Prelude.{◌≡◌, ℕ, List, true, Err, IfOk, OnOk};
 ghost use Rattle.std.specs.Io.KnownBytes.{Appends};
 ghost use Rattle.scx_output.specs.Output.{HasFailed};
-ghost use Rattle.scx_outcomes.specs.Outcome.{IfRefused, IsRefused};
-ghost use Rattle.scx_outcomes.specs.declared.refusal.Refusal.TheVariants.{NoMemory};
+ghost use Rattle.scx_commands.specs.Outcome.{IfRefused, IsRefused};
+ghost use Rattle.scx_commands.specs.declared.refusal.Refusal.TheVariants.{NoMemory};
 ghost use Rattle.scx_simulation.specs.Runs.{IsCause};
 ghost use Rattle.scx_picture.specs.Pictures.{svg};
 
 use crate::frames::{END, Frame, HEAD};
-use scx_outcomes::{Fault, Refusal};
+use scx_commands::{Fault, Refusal};
 use scx_output::Out;
 use scx_sched::{Sim, What};
 use scx_simulation::{Heard, Listener, Run, prepare};

@@ -2,7 +2,7 @@
 use Rattle.std.proofs.Common.{◌≡◌, Result, Ok, Err, IfOk}
 use Rattle.scx_files.specs.declared.fault.LoadError.{LoadError}
 use Rattle.scx_files.specs.Faults.{Reading, Gives}
-use Rattle.scx_outcomes.specs.declared.refusal.Refusal.{Refusal}
+use Rattle.scx_commands.specs.declared.refusal.Refusal.{Refusal}
 use Rattle.scx_simulation.specs.Refusals.{or_refusal}
 
 -- a value that is passed on from reading a file is what reading the file gives

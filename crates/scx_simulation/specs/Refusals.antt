@@ -3,8 +3,8 @@
 use Rattle.std.specs.Prelude.{◌≡◌, Result, Ok, Err}
 use Rattle.scx_machine.specs.declared.start.NewError.{NewError}
 use Rattle.scx_machine.specs.declared.start.NewError.TheVariants.{InitFailed, BadShape, OutOfMemory}
-use Rattle.scx_outcomes.specs.declared.refusal.Refusal.{Refusal}
-use Rattle.scx_outcomes.specs.declared.refusal.Refusal.TheVariants.{NoMemory, Init}
+use Rattle.scx_commands.specs.declared.refusal.Refusal.{Refusal}
+use Rattle.scx_commands.specs.declared.refusal.Refusal.TheVariants.{NoMemory, Init}
 
 -- what was made, or what its error stands for
 abbrev pub or_refusal : {A E : Type 0} → (E → Refusal) → Result A E → Result A Refusal

@@ -21,8 +21,8 @@ use Rattle.scx_headline.specs.Headline.{Run, machine_run, IsLast, NoneIsStuck, E
 use Rattle.scx_trace.specs.Lines.{names_of, note_lines}
 use Rattle.scx_trace.specs.Runs.{IsCutIn}
 use Rattle.scx_trace.specs.Report as reports
-use Rattle.scx_outcomes.specs.declared.refusal.Refusal.{Refusal}
-use Rattle.scx_outcomes.specs.declared.refusal.Refusal.TheVariants.{NoMemory, Policy, Workload, Callback, Init}
+use Rattle.scx_commands.specs.declared.refusal.Refusal.{Refusal}
+use Rattle.scx_commands.specs.declared.refusal.Refusal.TheVariants.{NoMemory, Policy, Workload, Callback, Init}
 
 -- the texts stand for the run of that workload from that first state on; none of its events is refused, and
 -- no callback got stuck before the first one

@@ -9,14 +9,14 @@ ghost use Rattle.scx_workloads.specs.Reading.{workload_of};
 ghost use Rattle.scx_driver.specs.Driver.{remaining};
 ghost use Rattle.scx_driver.specs.Events.{workload_events};
 ghost use Rattle.scx_driver.specs.Runs.{AreAccepted};
-ghost use Rattle.scx_outcomes.specs.declared.refusal.Refusal.TheVariants.{NoMemory};
-ghost use Rattle.scx_outcomes.specs.Refusals.{policy_refusal, workload_refusal};
+ghost use Rattle.scx_commands.specs.declared.refusal.Refusal.TheVariants.{NoMemory};
+ghost use Rattle.scx_commands.specs.Refusals.{policy_refusal, workload_refusal};
 ghost use Rattle.scx_simulation.specs.Runs.{IsRun, IsCause, IsPolicyFault, IsWorkloadFault, IsStartFault};
 ghost use Rattle.scx_simulation.specs.Refusals.{or_refusal, IsStartRefusal};
 
+use scx_commands::Refusal;
 use scx_driver::Driver;
 use scx_files::LoadError;
-use scx_outcomes::Refusal;
 use scx_policies::{PolicyText, build, read_policy};
 use scx_sched::{NewError, Policy, Sim};
 use scx_weights::{Tree, TreeError};

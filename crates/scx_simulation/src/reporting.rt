@@ -5,13 +5,13 @@ ghost use Rattle.scx_workloads.specs.Workload.{WorkloadState};
 ghost use Rattle.scx_driver.specs.Driver.{remaining};
 ghost use Rattle.scx_driver.specs.Events.{workload_events};
 ghost use Rattle.scx_output.specs.Output.{HasFailed, AppendsBeginning};
-ghost use Rattle.scx_outcomes.specs.Outcome.{IfRefused, IsRefused};
+ghost use Rattle.scx_commands.specs.Outcome.{IfRefused, IsRefused};
 ghost use Rattle.scx_trace.specs.Runs.{StaysInOrder};
 ghost use Rattle.scx_simulation.specs.Runs.{IsRun, IsCause, IsOfHeadline, report_text};
 
 use crate::hearing::{Heard, Listener};
 use crate::preparing::{Run, prepare};
-use scx_outcomes::Fault;
+use scx_commands::Fault;
 use scx_output::{Failed, Out};
 use scx_trace::{run_silently, write_report};
 use std::alloc::Global;

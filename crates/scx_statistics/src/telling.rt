@@ -1,14 +1,14 @@
 ghost use Rattle.std.specs.Prelude.{◌≡◌, ◌++◌, ℕ, List, true, Err, IfOk, IfErr, OnOk, OnErr};
 ghost use Rattle.std.specs.Io.KnownBytes.{Appends};
 ghost use Rattle.scx_output.specs.Output.{HasFailed};
-ghost use Rattle.scx_outcomes.specs.Outcome.{IfRefused, IsRefused};
+ghost use Rattle.scx_commands.specs.Outcome.{IfRefused, IsRefused};
 ghost use Rattle.scx_simulation.specs.Runs.{IsCause};
 ghost use Rattle.scx_statistics.specs.Figures.{tables, values, AreOfTexts};
 
 use crate::gathering::{Figures, gather};
 use crate::listing::{COLUMNS, write_list};
 use crate::tables::{TASKS, write_tables};
-use scx_outcomes::{Fault, Refusal};
+use scx_commands::{Fault, Refusal};
 use scx_output::{Failed, Out, write_all};
 use scx_simulation::{Listener, prepare};
 use scx_trace::Names;

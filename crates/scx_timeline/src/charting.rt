@@ -1,8 +1,8 @@
 ghost use Rattle.std.specs.Prelude.{◌≡◌, ℕ, List, true, Err, IfOk, OnOk};
 ghost use Rattle.std.specs.Io.KnownBytes.{Appends};
 ghost use Rattle.scx_output.specs.Output.{HasFailed};
-ghost use Rattle.scx_outcomes.specs.Outcome.{IfRefused, IsRefused};
-ghost use Rattle.scx_outcomes.specs.declared.refusal.Refusal.TheVariants.{NoMemory};
+ghost use Rattle.scx_commands.specs.Outcome.{IfRefused, IsRefused};
+ghost use Rattle.scx_commands.specs.declared.refusal.Refusal.TheVariants.{NoMemory};
 ghost use Rattle.scx_simulation.specs.Runs.{IsCause};
 ghost use Rattle.scx_timeline.specs.Documents.{document};
 
@@ -10,7 +10,7 @@ use crate::documents::{END, HEAD, titles};
 use crate::lengths::Lengths;
 use crate::objects::{count, entry, fault, slice, stall, wake};
 use crate::tracks::{CPUS, INSERTS, MOVES, PARKED};
-use scx_outcomes::{Fault, Refusal};
+use scx_commands::{Fault, Refusal};
 use scx_output::Out;
 use scx_sched::{Sim, What};
 use scx_simulation::{Heard, Listener, Run, prepare};

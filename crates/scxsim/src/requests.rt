@@ -3,9 +3,10 @@ use crate::console::Console;
 use crate::ending::{Ending, end, end_without_memory, without_hint};
 use crate::files::{Unread, bytes_of};
 use crate::usage::write_usage;
-use scx_commands::{FAILED, Fault, Out, asm, dis, exec, hint_of_slots, hint_of_text, write_unread};
+use scx_commands::{
+    FAILED, Fault, Out, asm, check, dis, exec, hint_of_slots, hint_of_text, write_unread,
+};
 use scx_explain::explain;
-use scx_verdicts::check;
 use scx_words::{PolicyCommand, ProgramCommand, Request};
 use std::alloc::Global;
 

@@ -1,5 +1,5 @@
 use Rattle.scx_policies.specs.Reading.{policy_text}
-use Rattle.scx_outcomes.specs.Refusals.{policy_refusal}
+use Rattle.scx_commands.specs.Refusals.{policy_refusal}
 use Rattle.scx_simulation.proofs.Passing.{read_is}
 use Rattle.scx_simulation.proofs.preparing.policy_in.Goals as goal
 

@@ -1,5 +1,5 @@
 use Rattle.scx_workloads.specs.Reading.{workload_of}
-use Rattle.scx_outcomes.specs.Refusals.{workload_refusal}
+use Rattle.scx_commands.specs.Refusals.{workload_refusal}
 use Rattle.scx_simulation.proofs.Passing.{read_is}
 use Rattle.scx_simulation.proofs.preparing.workload_in.Goals as goal
 

@@ -4,10 +4,10 @@ use Rattle.scx_semantics.specs.declared.callbacks.Callback.{Callback}
 use Rattle.scx_semantics.specs.declared.callbacks.Callback.TheVariants as callback
 use Rattle.scx_verify.specs.Faults.{fault_number, fault_name}
 use Rattle.scx_policies.specs.Policies.{callback_name}
-use Rattle.scx_outcomes.specs.Lines.{fault_text}
-use Rattle.scx_verdicts.specs.declared.verdict.Verdict.{Verdict}
-use Rattle.scx_verdicts.specs.declared.verdict.Verdict.TheVariants.{Accepted, Refused}
-use Rattle.scx_verdicts.specs.declared.verdict.Verdicts.{Verdicts}
+use Rattle.scx_commands.specs.Lines.{fault_text}
+use Rattle.scx_commands.specs.declared.verdict.Verdict.{Verdict}
+use Rattle.scx_commands.specs.declared.verdict.Verdict.TheVariants.{Accepted, Refused}
+use Rattle.scx_commands.specs.declared.verdict.Verdicts.{Verdicts}
 
 -- a callback and `ok` with the number of instructions, or `refused` with the fault and its slot
 abbrev pub verdict_line : Callback → Verdict → List ℕ

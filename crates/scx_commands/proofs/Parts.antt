@@ -1,9 +1,9 @@
 -- A refusal's line is its parts, one after the other.
 use Rattle.std.proofs.Common.{◌≡◌, ℕ, List, [], ◌++◌, sym, ap, ◌∙◌, append_assoc, codes, string_bytes}
 use Rattle.std.proofs.lemmas.List.{append-nil}
-use Rattle.scx_outcomes.specs.declared.refusal.Refusal.{Refusal}
-use Rattle.scx_outcomes.specs.declared.refusal.Refusal.TheVariants.{TooLarge, NotUtf8, NoMemory, Decode, Verify, Assemble, Callback, Policy, Workload, Init}
-use Rattle.scx_outcomes.specs.Lines.{refusal_line, cause_text, start, path_of, end}
+use Rattle.scx_commands.specs.declared.refusal.Refusal.{Refusal}
+use Rattle.scx_commands.specs.declared.refusal.Refusal.TheVariants.{TooLarge, NotUtf8, NoMemory, Decode, Verify, Assemble, Callback, Policy, Workload, Init}
+use Rattle.scx_commands.specs.RefusalLines.{refusal_line, cause_text, start, path_of, end}
 
 alone : (line : List ℕ) → line ++ [] ++ [] ≡ line
 alone line = append-nil (line ++ []) ∙ append-nil line

@@ -4,12 +4,12 @@ use Rattle.std.specs.Prelude.{◌≡◌, ℕ, ◌<◌, ◌≤◌, List, length, 
 use Rattle.scx_files.specs.Faults.{refusal}
 use Rattle.scx_policies.specs.Policies.{PolicyFile}
 use Rattle.scx_policies.specs.Reading.{policy_text}
-use Rattle.scx_outcomes.specs.declared.file.TheConstants.{FILE_LIMIT}
-use Rattle.scx_outcomes.specs.declared.refusal.Refusal.{Refusal}
-use Rattle.scx_outcomes.specs.declared.refusal.Refusal.TheVariants.{TooLarge, NotUtf8, NoMemory, Policy}
-use Rattle.scx_outcomes.specs.Text.{IsText}
-use Rattle.scx_verdicts.specs.declared.verdict.Verdicts.{Verdicts}
-use Rattle.scx_verdicts.specs.Verdicts.{HasVerdicts}
+use Rattle.scx_commands.specs.declared.file.TheConstants.{FILE_LIMIT}
+use Rattle.scx_commands.specs.declared.refusal.Refusal.{Refusal}
+use Rattle.scx_commands.specs.declared.refusal.Refusal.TheVariants.{TooLarge, NotUtf8, NoMemory, Policy}
+use Rattle.scx_commands.specs.Text.{IsText}
+use Rattle.scx_commands.specs.declared.verdict.Verdicts.{Verdicts}
+use Rattle.scx_commands.specs.Verdicts.{HasVerdicts}
 
 -- the bytes are a policy file, whose programs have these verdicts
 pub record AreVerdicts (bytes : List ℕ) (verdicts : Verdicts) : Type 0 where

@@ -1,16 +1,17 @@
 ghost use Rattle.std.specs.Prelude.{◌≡◌, ◌<◌, length, Err, IfOk, IfErr, OnOk};
 ghost use Rattle.std.specs.Io.KnownBytes.{Appends};
 ghost use Rattle.scx_output.specs.Output.{HasFailed, AppendsBeginning};
-ghost use Rattle.scx_outcomes.specs.declared.file.TheConstants.{FILE_LIMIT};
-ghost use Rattle.scx_outcomes.specs.Outcome.{IfRefused, IsRefused};
-ghost use Rattle.scx_outcomes.specs.Text.{IsText};
-ghost use Rattle.scx_verdicts.specs.Lines.{verdict_lines};
-ghost use Rattle.scx_verdicts.specs.Verdicts.{are_accepted};
-ghost use Rattle.scx_verdicts.specs.Check.{AreVerdicts, IsCheckCause};
+ghost use Rattle.scx_commands.specs.declared.file.TheConstants.{FILE_LIMIT};
+ghost use Rattle.scx_commands.specs.Outcome.{IfRefused, IsRefused};
+ghost use Rattle.scx_commands.specs.Text.{IsText};
+ghost use Rattle.scx_commands.specs.VerdictLines.{verdict_lines};
+ghost use Rattle.scx_commands.specs.Verdicts.{are_accepted};
+ghost use Rattle.scx_commands.specs.Check.{AreVerdicts, IsCheckCause};
 
-use crate::lines::lines_of;
+use crate::refusal::{Fault, Refusal};
+use crate::texts::text;
 use crate::verdict::{Verdicts, verdicts_of};
-use scx_outcomes::{Fault, Refusal, text};
+use crate::verdict_lines::lines_of;
 use scx_output::{Out, write_all};
 use scx_policies::read_policy;
 use std::alloc::Global;

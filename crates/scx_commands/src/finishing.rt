@@ -1,11 +1,11 @@
 ghost use Rattle.std.specs.Prelude.{◌≡◌, ◌⊎◌, Bool, true, false, Ok, Err, Result, OnOk};
 ghost use Rattle.std.specs.Io.KnownBytes.{Appends};
 ghost use Rattle.scx_output.specs.Output.{HasFailed, AppendsBeginning};
-ghost use Rattle.scx_outcomes.specs.Lines.{refusal_line};
-ghost use Rattle.scx_outcomes.specs.Outcome.{IfRefused, IsRefused};
+ghost use Rattle.scx_commands.specs.RefusalLines.{refusal_line};
+ghost use Rattle.scx_commands.specs.Outcome.{IfRefused, IsRefused};
 
-use crate::lines::write_refusal;
 use crate::refusal::Fault;
+use crate::refusal_lines::write_refusal;
 use crate::status::{DONE, FAILED, REFUSED};
 use scx_output::Out;
 

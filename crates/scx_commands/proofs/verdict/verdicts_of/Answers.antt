@@ -1,7 +1,7 @@
 use Rattle.std.proofs.Common.{rules}
 use Rattle.scx_semantics.specs.declared.callbacks.Callback.TheVariants as callback
-use Rattle.scx_verdicts.proofs.Asked.{asks}
-use Rattle.scx_verdicts.proofs.verdict.verdicts_of.Goals as goal
+use Rattle.scx_commands.proofs.Asked.{asks}
+use Rattle.scx_commands.proofs.verdict.verdicts_of.Goals as goal
 
 pub returns-in_err-verdict_on-clause-asked : goal.returns-in_err-verdict_on-clause-asked
 returns-in_err-verdict_on-clause-asked c = asks c.from_residual.result c.args.policy.now callback.Init c.take.result (search rules) c.in_err-verdict_on.ensures.asked

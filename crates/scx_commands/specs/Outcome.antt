@@ -1,8 +1,8 @@
 -- What a command comes to.
 use Rattle.std.specs.Prelude.{Bool, Result, Ok, Err, ⊤}
-use Rattle.scx_outcomes.specs.declared.refusal.Fault.{Fault}
-use Rattle.scx_outcomes.specs.declared.refusal.Fault.TheVariants.{Refused, WriteFailed}
-use Rattle.scx_outcomes.specs.declared.refusal.Refusal.{Refusal}
+use Rattle.scx_commands.specs.declared.refusal.Fault.{Fault}
+use Rattle.scx_commands.specs.declared.refusal.Fault.TheVariants.{Refused, WriteFailed}
+use Rattle.scx_commands.specs.declared.refusal.Refusal.{Refusal}
 
 -- a fact of the cause, where the input was refused
 abbrev pub IfRefused : Result Bool Fault → (Refusal → Type 0) → Type 0

@@ -1,7 +1,7 @@
 ghost use Rattle.std.specs.Prelude.{◌≡◌};
-ghost use Rattle.scx_outcomes.specs.Refusals.{decode_refusal, verify_refusal, asm_refusal, build_refusal, policy_refusal, workload_refusal};
-ghost use Rattle.scx_outcomes.specs.declared.refusal.Refusal.TheVariants.{NoMemory};
-ghost use Rattle.scx_outcomes.specs.declared.refusal.Fault.TheVariants.{Refused, WriteFailed};
+ghost use Rattle.scx_commands.specs.Refusals.{decode_refusal, verify_refusal, asm_refusal, build_refusal, policy_refusal, workload_refusal};
+ghost use Rattle.scx_commands.specs.declared.refusal.Refusal.TheVariants.{NoMemory};
+ghost use Rattle.scx_commands.specs.declared.refusal.Fault.TheVariants.{Refused, WriteFailed};
 
 use scx_asm::{AsmError, AsmFault};
 use scx_files::{Cause, LoadError};

@@ -1,26 +1,14 @@
-ghost use Rattle.std.specs.Prelude.{◌≡◌, ◌+◌, ◌≤◌, ◌++◌, length, codes, decimal, OnOk, OnErr};
+ghost use Rattle.std.specs.Prelude.{◌≡◌, ◌+◌, ◌≤◌, ◌++◌, length, codes, OnOk, OnErr};
 ghost use Rattle.std.specs.Io.KnownBytes.{Appends};
-ghost use Rattle.arrayvec.specs.ArrayString.{array_string_len};
-ghost use Rattle.scx_verify.specs.Faults.{fault_number, fault_name};
-ghost use Rattle.scx_policies.specs.Policies.{callback_name as name_of};
 ghost use Rattle.scx_output.specs.Output.{HasFailed, AppendsBeginning};
-ghost use Rattle.scx_outcomes.specs.Lines as lines;
+ghost use Rattle.scx_commands.specs.Lines.{fault_text};
+ghost use Rattle.scx_commands.specs.RefusalLines as lines;
 
+use crate::lines::{LINE_CAPACITY, Line, callback_line, push_fault};
 use crate::refusal::Refusal;
-use arrayvec::ArrayString;
 use itoa::Buffer;
 use scx_files::Cause;
-use scx_isa::Callback;
 use scx_output::{Failed, Out, write_named};
-use scx_policies::callback_name;
-use scx_verify::Fault;
-
-/// How many bytes the longest line takes, without a path.
-const LINE_CAPACITY: usize = 128;
-
-/// The text of one line, its line feed included, or what stands before a path or behind it. It takes no
-/// memory from the allocator.
-pub type Line = ArrayString<LINE_CAPACITY>;
 
 /// Writes the line of a refusal.
 #[tactic(auto, using(crate::proofs::Parts::line_in_parts))]
@@ -113,59 +101,6 @@ fn cause_end(cause: Cause) -> Line
     }
 }
 
-/// The line of a refused callback: its name between two words, and then the fault and its slot.
-pub fn callback_line(
-    before: &str,
-    callback: Callback,
-    behind: &str,
-    fault: Fault,
-    slot: usize,
-) -> Line
-    requires { length before.now + length behind.now ≤ 20 }
-    ensures { result.bytes
-        ≡ before.now ++ name_of callback ++ behind.now
-        ++ lines.fault_text (fault_number fault) (fault_name fault) slot ++ codes "\n" }
-{
-    let mut line = Line::new();
-    line.push_str(before);
-    line.push_str(short_name(callback));
-    line.push_str(behind);
-    push_fault(&mut line, fault.number(), short_fault(fault), slot);
-    line
-}
-
-/// Writes the line of a file that could not be read.
-pub fn write_unread<W: Out>(path: &str, out: &mut W) -> Result<(), Failed>
-    ensures ok { OnOk result
-        (Appends (W.contents out.old) (W.contents out.new) (lines.unread_line path.now)) }
-    ensures err { OnErr result (HasFailed (W.failure_count out.old) (W.failure_count out.new)) }
-{
-    write_named(out, "failed: reading ", path, "\n")
-}
-
-fn short_name(callback: Callback) -> &'static str
-    ensures name { result.now ≡ name_of callback }
-    ensures short { length result.now ≤ 10 }
-{
-    callback_name(callback)
-}
-
-fn short_fault(fault: Fault) -> &'static str
-    ensures name { result.now ≡ fault_name fault }
-    ensures short { length result.now ≤ 20 }
-{
-    fault.name()
-}
-
-fn whole_line(text: &str) -> Line
-    requires { length text.now ≤ LINE_CAPACITY }
-    ensures { result.bytes ≡ text.now }
-{
-    let mut line = Line::new();
-    line.push_str(text);
-    line
-}
-
 fn init_line(answer: i64) -> Line
     ensures { result.bytes ≡ lines.init_line answer }
 {
@@ -179,7 +114,7 @@ fn init_line(answer: i64) -> Line
 
 fn fault_line(start: &str, number: u8, name: &str, at: usize) -> Line
     requires { length start.now + length name.now ≤ 50 }
-    ensures { result.bytes ≡ start.now ++ lines.fault_text number name.now at ++ codes "\n" }
+    ensures { result.bytes ≡ start.now ++ fault_text number name.now at ++ codes "\n" }
 {
     let mut line = Line::new();
     line.push_str(start);
@@ -187,17 +122,11 @@ fn fault_line(start: &str, number: u8, name: &str, at: usize) -> Line
     line
 }
 
-/// Appends a fault by its number and name, where it was found, and the line feed.
-fn push_fault(line: &mut Line, number: u8, name: &str, at: usize)
-    requires { array_string_len line.old + length name.now ≤ 60 }
-    ensures { line.new.bytes
-        ≡ line.old.bytes ++ lines.fault_text number name.now at ++ codes "\n" }
+fn whole_line(text: &str) -> Line
+    requires { length text.now ≤ LINE_CAPACITY }
+    ensures { result.bytes ≡ text.now }
 {
-    let mut digits = Buffer::new();
-    line.push_str(digits.format(number));
-    line.push_str(" ");
-    line.push_str(name);
-    line.push_str(" at ");
-    line.push_str(digits.format(at));
-    line.push_str("\n");
+    let mut line = Line::new();
+    line.push_str(text);
+    line
 }

@@ -12,8 +12,8 @@ use Rattle.scx_files.specs.declared.fault.LoadError.{LoadError}
 use Rattle.scx_files.specs.declared.fault.LoadError.TheVariants as load
 use Rattle.scx_policies.specs.declared.building.BuildError.{BuildError}
 use Rattle.scx_policies.specs.declared.building.BuildError.TheVariants as build
-use Rattle.scx_outcomes.specs.declared.refusal.Refusal.{Refusal}
-use Rattle.scx_outcomes.specs.declared.refusal.Refusal.TheVariants.{NoMemory, Decode, Verify, Assemble, Callback, Policy, Workload}
+use Rattle.scx_commands.specs.declared.refusal.Refusal.{Refusal}
+use Rattle.scx_commands.specs.declared.refusal.Refusal.TheVariants.{NoMemory, Decode, Verify, Assemble, Callback, Policy, Workload}
 
 -- why bytes aren't decoded: their first fault and its slot, or want of memory
 abbrev pub decode_refusal : DecodeError → Refusal

@@ -1,14 +1,13 @@
 ghost use Rattle.std.specs.Prelude.{◌≡◌, ◌+◌, ◌≤◌, ◌++◌, length, codes, decimal};
 ghost use Rattle.arrayvec.specs.ArrayString.{array_string_len};
 ghost use Rattle.scx_policies.specs.Policies.{callback_name as name_of};
-ghost use Rattle.scx_verdicts.specs.Lines.{verdict_line, line_of, verdict_lines};
+ghost use Rattle.scx_commands.specs.VerdictLines.{verdict_line, line_of, verdict_lines};
 
+use crate::lines::{Line, callback_line, short_name};
 use crate::verdict::{Verdict, Verdicts};
 use arrayvec::ArrayString;
 use itoa::Buffer;
 use scx_isa::Callback;
-use scx_outcomes::{Line, callback_line};
-use scx_policies::callback_name;
 
 /// How many bytes the lines of all callbacks take at most, and some more.
 const LINES_CAPACITY: usize = 1024;
@@ -58,7 +57,7 @@ fn accepted_line(callback: Callback, instructions: usize) -> Line
 {
     let mut digits = Buffer::new();
     let mut line = Line::new();
-    line.push_str(callback_name(callback));
+    line.push_str(short_name(callback));
     line.push_str(" ok ");
     line.push_str(digits.format(instructions));
     line.push_str("\n");

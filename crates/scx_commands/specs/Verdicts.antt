@@ -10,9 +10,9 @@ use Rattle.scx_safety.specs.Programs.{context}
 use Rattle.scx_verify.specs.Typing.{IsTyped}
 use Rattle.scx_verify.specs.Faults.{IsRefusal}
 use Rattle.scx_policies.specs.Policies.{PolicyFile, program_of}
-use Rattle.scx_verdicts.specs.declared.verdict.Verdict.{Verdict}
-use Rattle.scx_verdicts.specs.declared.verdict.Verdict.TheVariants.{Accepted, Refused}
-use Rattle.scx_verdicts.specs.declared.verdict.Verdicts.{Verdicts}
+use Rattle.scx_commands.specs.declared.verdict.Verdict.{Verdict}
+use Rattle.scx_commands.specs.declared.verdict.Verdict.TheVariants.{Accepted, Refused}
+use Rattle.scx_commands.specs.declared.verdict.Verdicts.{Verdicts}
 
 -- the verdict on a program as that callback, with maps of these shapes
 abbrev pub IsVerdict : List Shape → Callback → Code → Verdict → Type 0

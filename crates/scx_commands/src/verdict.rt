@@ -1,13 +1,13 @@
 ghost use Rattle.std.specs.Prelude.{◌≡◌, Some, IfOk, IfErr, OnErr};
-ghost use Rattle.scx_outcomes.specs.declared.refusal.Refusal.TheVariants.{NoMemory};
 ghost use Rattle.scx_policies.specs.Building.{AsksForMemory};
 ghost use Rattle.scx_policies.specs.Policies.{program_of};
 ghost use Rattle.scx_semantics.specs.declared.callbacks.Callback.{Callback};
-ghost use Rattle.scx_verdicts.specs.Verdicts.{IsVerdict, IsVerdictOf, HasVerdicts, is_accepted, are_accepted};
+ghost use Rattle.scx_commands.specs.declared.refusal.Refusal.TheVariants.{NoMemory};
+ghost use Rattle.scx_commands.specs.Verdicts.{IsVerdict, IsVerdictOf, HasVerdicts, is_accepted, are_accepted};
 
+use crate::refusal::Refusal;
 use scx_isa::{Callback, Program};
 use scx_maps::MapDefs;
-use scx_outcomes::Refusal;
 use scx_policies::PolicyText;
 use scx_verify::{Fault, verify};
 use std::alloc::Global;

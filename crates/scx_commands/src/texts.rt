@@ -1,5 +1,5 @@
 ghost use Rattle.std.specs.Prelude.{◌≡◌, IfOk, IfErr};
-ghost use Rattle.scx_outcomes.specs.Text.{IsText, IsNoText};
+ghost use Rattle.scx_commands.specs.Text.{IsText, IsNoText};
 
 use crate::file::FILE_LIMIT;
 use crate::refusal::{Fault, Refusal};

@@ -1,5 +1,5 @@
--- The lines of refusals and of a file that can't be read, each with the line feed that ends it.
-use Rattle.std.specs.Prelude.{ℕ, ℤ, List, [], ◌++◌, codes, decimal, string_bytes}
+-- The lines of refusals, each with the line feed that ends it.
+use Rattle.std.specs.Prelude.{ℕ, ℤ, List, [], ◌++◌, codes, string_bytes}
 use Rattle.std.specs.Fmt.{signed_decimal}
 use Rattle.scx_encoding.specs.Faults.{decode_number, decode_name}
 use Rattle.scx_verify.specs.Faults.{fault_number, fault_name}
@@ -7,12 +7,9 @@ use Rattle.scx_asm.specs.Faults.{asm_number, asm_name}
 use Rattle.scx_files.specs.declared.fault.Cause.{Cause}
 use Rattle.scx_files.specs.declared.fault.Cause.TheVariants as causes
 use Rattle.scx_policies.specs.Policies.{callback_name}
-use Rattle.scx_outcomes.specs.declared.refusal.Refusal.{Refusal}
-use Rattle.scx_outcomes.specs.declared.refusal.Refusal.TheVariants.{TooLarge, NotUtf8, NoMemory, Decode, Verify, Assemble, Callback, Policy, Workload, Init}
-
--- a fault by its number and name, and the slot or line where it was found
-abbrev pub fault_text : ℕ → List ℕ → ℕ → List ℕ
-fault_text number name at = decimal number ++ codes " " ++ name ++ codes " at " ++ decimal at
+use Rattle.scx_commands.specs.declared.refusal.Refusal.{Refusal}
+use Rattle.scx_commands.specs.declared.refusal.Refusal.TheVariants.{TooLarge, NotUtf8, NoMemory, Decode, Verify, Assemble, Callback, Policy, Workload, Init}
+use Rattle.scx_commands.specs.Lines.{fault_text}
 
 -- what is wrong with a file
 abbrev pub cause_text : Cause → List ℕ
@@ -47,10 +44,6 @@ refusal_line (Callback callback fault slot) = codes "refused: verify " ++ callba
 refusal_line (Policy path cause) = codes "refused: policy " ++ string_bytes path ++ codes ": " ++ cause_text cause ++ codes "\n"
 refusal_line (Workload path cause) = codes "refused: workload " ++ string_bytes path ++ codes ": " ++ cause_text cause ++ codes "\n"
 refusal_line (Init answer) = init_line answer
-
--- the line of a file that could not be read
-abbrev pub unread_line : List ℕ → List ℕ
-unread_line path = codes "failed: reading " ++ path ++ codes "\n"
 
 -- ---- the same in three parts: what stands before the path of a key, the path, and what stands behind it
 

@@ -1,4 +1,0 @@
-pub mod Refusals
-pub mod Outcome
-pub mod Lines
-pub mod Text
