@@ -2,10 +2,9 @@
 
 use scx_commands::Fault;
 use scx_output::Out;
-use scx_picture::picture;
+use scx_pictures::{picture, timeline};
 use scx_simulation::{Listener, report, simulate};
 use scx_statistics::{stats, stats_csv};
-use scx_timeline::timeline;
 use std::alloc::Global;
 
 #[derive(Clone, Copy)]

@@ -2,11 +2,10 @@ use crate::console::Console;
 use crate::ending::{Ending, end};
 use crate::files::{RunFiles, Unread, files_of, hint_of_files};
 use scx_commands::{Fault, Out, text};
-use scx_picture::picture;
+use scx_pictures::{picture, timeline};
 use scx_progress::Progress;
 use scx_simulation::{Listener, report, simulate};
 use scx_statistics::{stats, stats_csv};
-use scx_timeline::timeline;
 use scx_words::{Account, Course, Summary};
 use std::alloc::Global;
 

@@ -2,20 +2,20 @@ ghost use Rattle.std.specs.Prelude.{◌≡◌, ℕ, List, true, Err, IfOk, OnOk}
 ghost use Rattle.std.specs.Io.KnownBytes.{Appends};
 ghost use Rattle.scx_output.specs.Output.{HasFailed};
 ghost use Rattle.scx_commands.specs.Outcome.{IfRefused, IsRefused};
-ghost use Rattle.scx_commands.specs.declared.refusal.Refusal.TheVariants.{NoMemory};
 ghost use Rattle.scx_simulation.specs.Runs.{IsCause};
-ghost use Rattle.scx_timeline.specs.Documents.{document};
+ghost use Rattle.scx_pictures.specs.Documents.{document};
 
 use crate::documents::{END, HEAD, titles};
 use crate::lengths::Lengths;
 use crate::objects::{count, entry, fault, slice, stall, wake};
+use crate::running::{Runners, Running};
 use crate::tracks::{CPUS, INSERTS, MOVES, PARKED};
-use scx_commands::{Fault, Refusal};
+use crate::writing::write_document;
+use scx_commands::Fault;
 use scx_output::Out;
-use scx_sched::{Sim, What};
-use scx_simulation::{Heard, Listener, Run, prepare};
-use scx_trace::Events;
-use scx_views::{Line, Page, Pause, PauseKind, Pauses, Sketch, write_sketch};
+use scx_sched::What;
+use scx_simulation::{Listener, prepare};
+use scx_views::{Line, Page, Pause, PauseKind, Pauses, Sketch};
 use scx_workloads::Workload;
 use scx_world::LOCAL_ON;
 use std::alloc::{AllocError, Global};
@@ -44,66 +44,8 @@ pub fn timeline<L: Listener, W: Out>(
         → HasFailed (W.failure_count out.old) (W.failure_count out.new) }
 {
     let run = prepare(alloc, policy, workload)?;
-    write_timeline(alloc, run, listener, out)
-}
-
-/// Goes through the run, and writes its timeline. The answer is true.
-fn write_timeline<L: Listener, W: Out>(
-    alloc: Global,
-    run: Run,
-    listener: &mut L,
-    out: &mut W,
-) -> Result<bool, Fault>
-    ensures done { IfOk result (λ answer. (answer ≡ true) × (objects : List ℕ)
-        × Appends (W.contents out.old) (W.contents out.new) (document objects)) }
-    ensures unfailed { OnOk result (W.failure_count out.new ≡ W.failure_count out.old) }
-    ensures refused { IfRefused result (λ refusal. refusal ≡ NoMemory) }
-    ensures quiet { IsRefused result → out.new ≡ out.old }
-    ensures counted { result ≡ Err Fault.WriteFailed
-        → HasFailed (W.failure_count out.old) (W.failure_count out.new) }
-{
-    let Run {
-        workload,
-        driver,
-        mut sim,
-    } = run;
-    let mut events = Heard::new(driver, workload.ms(), listener);
-    let written = write_chart(alloc, &workload, &mut events, &mut sim, out);
-    drop(events);
-    drop(sim);
-    drop(workload);
-    written
-}
-
-fn write_chart<E: Events, W: Out>(
-    alloc: Global,
-    workload: &Workload,
-    events: &mut E,
-    sim: &mut Sim,
-    out: &mut W,
-) -> Result<bool, Fault>
-    ensures done { IfOk result (λ answer. (answer ≡ true) × (objects : List ℕ)
-        × Appends (W.contents out.old) (W.contents out.new) (document objects)) }
-    ensures unfailed { OnOk result (W.failure_count out.new ≡ W.failure_count out.old) }
-    ensures refused { IfRefused result (λ refusal. refusal ≡ NoMemory) }
-    ensures quiet { IsRefused result → out.new ≡ out.old }
-    ensures counted { result ≡ Err Fault.WriteFailed
-        → HasFailed (W.failure_count out.old) (W.failure_count out.new) }
-{
-    let Ok(mut chart) = Chart::new(alloc, workload) else {
-        return Err(Fault::Refused(Refusal::NoMemory));
-    };
-    let written = write_sketch(sim, events, &mut chart, workload, HEAD, END, out);
-    drop(chart);
-    written?;
-    Ok(true)
-}
-
-/// A task that runs, and since which moment.
-#[derive(Clone, Copy)]
-struct Running {
-    task: u16,
-    since: u64,
+    let chart = Chart::new(alloc, &run.workload);
+    write_document(run, chart, HEAD, END, listener, out)
 }
 
 /// A timeline on its way.
@@ -111,8 +53,7 @@ struct Running {
 struct Chart {
     titles: String,
     page: Page,
-    /// Who runs, by processor.
-    running: Vec<Option<Running>>,
+    runners: Runners,
     pauses: Pauses,
     lengths: Lengths,
 }
@@ -123,7 +64,7 @@ impl Chart {
         Ok(Chart {
             titles: titles(alloc, workload)?,
             page: Page::new(),
-            running: vec![in alloc; None; workload.cpus() as usize]?,
+            runners: Runners::new(alloc, workload.cpus())?,
             pauses: Pauses::new(alloc, workload.tasks().len())?,
             lengths: Lengths::new(alloc, workload.tasks().len())?,
         })
@@ -141,7 +82,7 @@ impl Chart {
                 self.enter(moment, MOVES, task, queue);
             }
             What::Run(task, cpu) => {
-                self.run(moment, task, cpu);
+                self.runners.run(moment, task, cpu);
                 self.place(moment, task, None);
             }
             What::Stop(_, cpu) => self.stop(moment, cpu),
@@ -151,22 +92,10 @@ impl Chart {
         }
     }
 
-    fn run(&mut self, moment: u64, task: u16, cpu: u32) {
-        if let Some(running) = self.running.get_mut(cpu as usize) {
-            *running = Some(Running {
-                task,
-                since: moment,
-            });
-        }
-    }
-
     /// Nobody runs on the processor any more. Who ran there is in the second place, if somebody did and not
     /// for no time at all.
     fn stop(&mut self, moment: u64, cpu: u32) {
-        let Some(place) = self.running.get_mut(cpu as usize) else {
-            return;
-        };
-        if let Some(running) = place.take() {
+        if let Some(running) = self.runners.stop(cpu) {
             self.page.second = ran(running, cpu, moment);
         }
     }

@@ -2,17 +2,17 @@ ghost use Rattle.std.specs.Prelude.{◌≡◌, ℕ, List, true, Err, IfOk, OnOk}
 ghost use Rattle.std.specs.Io.KnownBytes.{Appends};
 ghost use Rattle.scx_output.specs.Output.{HasFailed};
 ghost use Rattle.scx_commands.specs.Outcome.{IfRefused, IsRefused};
-ghost use Rattle.scx_commands.specs.declared.refusal.Refusal.TheVariants.{NoMemory};
 ghost use Rattle.scx_simulation.specs.Runs.{IsCause};
-ghost use Rattle.scx_picture.specs.Pictures.{svg};
+ghost use Rattle.scx_pictures.specs.Documents.{svg};
 
 use crate::frames::{END, Frame, HEAD};
-use scx_commands::{Fault, Refusal};
+use crate::running::{Runners, Running};
+use crate::writing::write_document;
+use scx_commands::Fault;
 use scx_output::Out;
-use scx_sched::{Sim, What};
-use scx_simulation::{Heard, Listener, Run, prepare};
-use scx_trace::Events;
-use scx_views::{Line, Page, Pause, PauseKind, Pauses, Sketch, write_sketch};
+use scx_sched::What;
+use scx_simulation::{Listener, prepare};
+use scx_views::{Line, Page, Pause, PauseKind, Pauses, Sketch};
 use scx_workloads::Workload;
 use std::alloc::{AllocError, Global};
 
@@ -40,66 +40,8 @@ pub fn picture<L: Listener, W: Out>(
         → HasFailed (W.failure_count out.old) (W.failure_count out.new) }
 {
     let run = prepare(alloc, policy, workload)?;
-    draw(alloc, run, listener, out)
-}
-
-/// Goes through the run, and draws it. The answer is true.
-fn draw<L: Listener, W: Out>(
-    alloc: Global,
-    run: Run,
-    listener: &mut L,
-    out: &mut W,
-) -> Result<bool, Fault>
-    ensures done { IfOk result (λ answer. (answer ≡ true) × (drawn : List ℕ)
-        × Appends (W.contents out.old) (W.contents out.new) (svg drawn)) }
-    ensures unfailed { OnOk result (W.failure_count out.new ≡ W.failure_count out.old) }
-    ensures refused { IfRefused result (λ refusal. refusal ≡ NoMemory) }
-    ensures quiet { IsRefused result → out.new ≡ out.old }
-    ensures counted { result ≡ Err Fault.WriteFailed
-        → HasFailed (W.failure_count out.old) (W.failure_count out.new) }
-{
-    let Run {
-        workload,
-        driver,
-        mut sim,
-    } = run;
-    let mut events = Heard::new(driver, workload.ms(), listener);
-    let written = write_drawing(alloc, &workload, &mut events, &mut sim, out);
-    drop(events);
-    drop(sim);
-    drop(workload);
-    written
-}
-
-fn write_drawing<E: Events, W: Out>(
-    alloc: Global,
-    workload: &Workload,
-    events: &mut E,
-    sim: &mut Sim,
-    out: &mut W,
-) -> Result<bool, Fault>
-    ensures done { IfOk result (λ answer. (answer ≡ true) × (drawn : List ℕ)
-        × Appends (W.contents out.old) (W.contents out.new) (svg drawn)) }
-    ensures unfailed { OnOk result (W.failure_count out.new ≡ W.failure_count out.old) }
-    ensures refused { IfRefused result (λ refusal. refusal ≡ NoMemory) }
-    ensures quiet { IsRefused result → out.new ≡ out.old }
-    ensures counted { result ≡ Err Fault.WriteFailed
-        → HasFailed (W.failure_count out.old) (W.failure_count out.new) }
-{
-    let Ok(mut drawing) = Drawing::new(alloc, workload) else {
-        return Err(Fault::Refused(Refusal::NoMemory));
-    };
-    let written = write_sketch(sim, events, &mut drawing, workload, HEAD, END, out);
-    drop(drawing);
-    written?;
-    Ok(true)
-}
-
-/// A task that runs, and since which moment.
-#[derive(Clone, Copy)]
-struct Running {
-    task: u16,
-    since: u64,
+    let drawing = Drawing::new(alloc, &run.workload);
+    write_document(run, drawing, HEAD, END, listener, out)
 }
 
 /// When and why the policy was ejected.
@@ -116,8 +58,7 @@ struct Drawing {
     /// What stands before the run.
     beginning: String,
     page: Page,
-    /// Who runs, by processor.
-    running: Vec<Option<Running>>,
+    runners: Runners,
     pauses: Pauses,
     /// Whether a task was drawn that was parked.
     has_parked: bool,
@@ -132,7 +73,7 @@ impl Drawing {
             frame,
             beginning: beginning(alloc, frame, workload)?,
             page: Page::new(),
-            running: vec![in alloc; None; workload.cpus() as usize]?,
+            runners: Runners::new(alloc, workload.cpus())?,
             pauses: Pauses::new(alloc, workload.tasks().len())?,
             has_parked: false,
             ejection: None,
@@ -142,7 +83,7 @@ impl Drawing {
     /// Keeps what happens, and draws what it ends.
     fn put(&mut self, moment: u64, what: What) {
         match what {
-            What::Run(task, cpu) => self.run(moment, task, cpu),
+            What::Run(task, cpu) => self.runners.run(moment, task, cpu),
             What::Stop(_, cpu) => self.stop(moment, cpu),
             What::Stall(task) => self.ejection = Some(Ejection::Stall { moment, task }),
             What::Fault(fault) => {
@@ -172,21 +113,9 @@ impl Drawing {
         self.page.first = Some(self.frame.pause(pause));
     }
 
-    fn run(&mut self, moment: u64, task: u16, cpu: u32) {
-        if let Some(running) = self.running.get_mut(cpu as usize) {
-            *running = Some(Running {
-                task,
-                since: moment,
-            });
-        }
-    }
-
     /// Nobody runs on the processor any more. Who ran there is drawn in the second place, if somebody did.
     fn stop(&mut self, moment: u64, cpu: u32) {
-        let Some(place) = self.running.get_mut(cpu as usize) else {
-            return;
-        };
-        if let Some(running) = place.take() {
+        if let Some(running) = self.runners.stop(cpu) {
             let Running { task, since } = running;
             self.page.second = self.frame.run(task, cpu, since, moment);
         }
