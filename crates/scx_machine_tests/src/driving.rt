@@ -65,7 +65,7 @@ fn a_task_runs_and_sleeps(rt: HostRuntime) {
     expect_events(&rt, SLEEPER, &SLEEPS);
 }
 
-/// Changes in another order than that of their times, and a task that wakes behind another of a greater number.
+/// Changes that are not in the order of their times, and a task that wakes first behind one of a greater number.
 const CHANGES: &str = "cpus = 2
 ms = 2
 group = [{ name = 'g' }, { name = 'h' }]
