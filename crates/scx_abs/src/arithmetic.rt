@@ -313,7 +313,6 @@ fn single_computed(
 
 /// The single number that is made by an operation which reads its destination.
 #[inline(always)]
-#[tactic(auto, using(crate::proofs::SingleNumbers::single_combined))]
 fn single_combined(
     state: &AbsState,
     width: Width,

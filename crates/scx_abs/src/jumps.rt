@@ -20,7 +20,6 @@ use scx_ranges::{Numbers, Offsets};
 /// The constant that a jump compares all 64 bits of a register's number with, if it does: each side has
 /// then the numbers that `Numbers::cut` leaves.
 #[inline(always)]
-#[tactic(auto, using(crate::proofs::Branches::constant_compared))]
 pub fn constant_compared(
     state: &AbsState,
     width: Width,
