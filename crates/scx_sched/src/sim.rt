@@ -74,7 +74,6 @@ impl Sim {
     }
 
     /// One event, with all that it causes. One that isn't accepted changes nothing, and has no notes.
-    #[tactic(auto, using(crate::proofs::Valid::valid_step, crate::proofs::Idle::step_leaves, crate::proofs::Causing::step_cause, crate::proofs::Deciding::step_decides))]
     pub fn step<S: Sink>(&mut self, event: Event, sink: &mut S) -> Result<(), Refused>
         ensures answer { result ≡ answer_of (refusal self.old event) }
         ensures state { self.new ≡ stepped self.old event }
