@@ -7,54 +7,69 @@ use crate::path::key_path;
 use scx_asm::AsmFault;
 use scx_encoding::DecodeFault;
 use std::alloc::{AllocError, AllocFailed, Global};
+use std::fmt;
 use thiserror::Error;
 
 /// What is wrong with a file.
-#[derive(Clone, Copy, Debug, PartialEq, Eq, Error)]
+#[derive(Clone, Copy, Debug, PartialEq, Eq)]
 pub enum Cause {
     /// The file is no TOML document; its path is `file`.
-    #[error("not TOML")]
     NotToml,
     /// The format has no such key.
-    #[error("unknown")]
     Unknown,
     /// The format asks for this key.
-    #[error("missing")]
     Missing,
     /// The value is of another type than the format asks for.
-    #[error("wrong type")]
     WrongType,
     /// A number is outside its limits.
-    #[error("out of range")]
     OutOfRange,
     /// A name isn't 1 to 16 of `a` to `z`, `0` to `9` and `_` with a letter first.
-    #[error("bad name")]
     BadName,
     /// What may stand once stood before.
-    #[error("twice")]
     Twice,
     /// An array has more elements than it may have.
-    #[error("too many")]
     TooMany,
     /// No group has this name, or none before it.
-    #[error("no such group")]
     NoSuchGroup,
     /// The group has groups below it, and so no tasks.
-    #[error("not a leaf")]
     NotALeaf,
     /// The group lies more than three levels below the root.
-    #[error("too deep")]
     TooDeep,
     /// The text isn't pairs of hexadecimal digits.
-    #[error("bad hex")]
     BadHex,
     /// The text doesn't assemble: the fault and its line, from 1.
-    #[error("asm {} {} at {line}", fault.number(), fault.name())]
     Asm { fault: AsmFault, line: usize },
     /// The bytes don't decode: the fault and its slot.
-    #[error("decode {} {} at {slot}", fault.number(), fault.name())]
     Decode { fault: DecodeFault, slot: usize },
 }
+
+impl fmt::Display for Cause {
+    fn fmt<W: fmt::Write>(&self, f: &mut fmt::Formatter<W>) -> fmt::Result {
+        let text = match *self {
+            Cause::NotToml => "not TOML",
+            Cause::Unknown => "unknown",
+            Cause::Missing => "missing",
+            Cause::WrongType => "wrong type",
+            Cause::OutOfRange => "out of range",
+            Cause::BadName => "bad name",
+            Cause::Twice => "twice",
+            Cause::TooMany => "too many",
+            Cause::NoSuchGroup => "no such group",
+            Cause::NotALeaf => "not a leaf",
+            Cause::TooDeep => "too deep",
+            Cause::BadHex => "bad hex",
+            Cause::Asm { fault, line } => {
+                return write!(f, "asm {} {} at {line}", fault.number(), fault.name());
+            }
+            Cause::Decode { fault, slot } => {
+                return write!(f, "decode {} {} at {slot}", fault.number(), fault.name());
+            }
+        };
+        f.write_str(text)
+    }
+}
+
+impl std::error::Error for Cause {}
 
 /// Why a file gave nothing: its first fault and the path of the key that has it, or want of memory.
 #[derive(Debug, Drop, Error)]
