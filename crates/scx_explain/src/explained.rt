@@ -47,7 +47,9 @@ pub(crate) fn explain_policy(alloc: Global, policy: PolicyText) -> Result<Explai
     ensures memory { IfErr result (λ refusal. refusal ≡ NoMemory) }
 {
     let mut policy = policy;
-    explain_all(alloc, &mut policy)
+    let explained = explain_all(alloc, &mut policy);
+    drop(policy);
+    explained
 }
 
 /// Takes the programs of a policy out, and explains them.

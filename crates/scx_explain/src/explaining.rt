@@ -41,7 +41,9 @@ pub fn explain<W: Out>(alloc: Global, bytes: &[u8], out: &mut W) -> Result<bool,
 {
     let text = text(bytes)?;
     let mut policy = explained_in(alloc, text)?;
-    write_explained(&mut policy, out)
+    let written = write_explained(&mut policy, out);
+    drop(policy);
+    written
 }
 
 /// Explains the programs of a policy file. All memory is taken here, so that none runs out once a line
