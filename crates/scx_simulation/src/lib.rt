@@ -9,6 +9,6 @@ mod reporting;
 mod simulating;
 
 pub use hearing::{Heard, Listener, Nobody};
-pub use preparing::{Run, prepare};
+pub use preparing::{Run, give_back, prepare};
 pub use reporting::report;
 pub use simulating::simulate;

@@ -14,6 +14,7 @@ ghost use Rattle.scx_commands.specs.Refusals.{policy_refusal, workload_refusal};
 ghost use Rattle.scx_simulation.specs.Runs.{IsRun, IsCause, IsPolicyFault, IsWorkloadFault, IsStartFault};
 ghost use Rattle.scx_simulation.specs.Refusals.{or_refusal, IsStartRefusal};
 
+use crate::hearing::{Heard, Listener};
 use scx_commands::Refusal;
 use scx_driver::Driver;
 use scx_files::LoadError;
@@ -29,6 +30,12 @@ pub struct Run {
     pub workload: Workload,
     pub driver: Driver,
     pub sim: Sim,
+}
+
+/// Gives back the memory of a machine, and of the events that it was run through.
+pub fn give_back<L: Listener>(events: Heard<'_, Driver, L>, sim: Sim) {
+    drop(events);
+    drop(sim);
 }
 
 /// The run that the texts of a policy file and of a workload file stand for.

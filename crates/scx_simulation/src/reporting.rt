@@ -10,7 +10,7 @@ ghost use Rattle.scx_trace.specs.Runs.{StaysInOrder};
 ghost use Rattle.scx_simulation.specs.Runs.{IsRun, IsCause, IsOfHeadline, report_text};
 
 use crate::hearing::{Heard, Listener};
-use crate::preparing::{Run, prepare};
+use crate::preparing::{Run, give_back, prepare};
 use scx_commands::Fault;
 use scx_output::{Failed, Out};
 use scx_trace::{run_silently, write_report};
@@ -74,8 +74,7 @@ fn write_end<L: Listener, W: Out>(run: Run, listener: &mut L, out: &mut W) -> Re
     let mut events = Heard::new(driver, workload.ms(), listener);
     run_silently(&mut sim, &mut events);
     let written = write_report(&sim, &workload, out);
-    drop(events);
-    drop(sim);
+    give_back(events, sim);
     drop(workload);
     written
 }

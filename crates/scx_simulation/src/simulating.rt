@@ -11,7 +11,7 @@ ghost use Rattle.scx_trace.specs.Runs.{StaysInOrder, StopsAtFailure};
 ghost use Rattle.scx_simulation.specs.Runs.{IsRun, IsCause, IsOfHeadline, IsCutOff, trace_text};
 
 use crate::hearing::{Heard, Listener};
-use crate::preparing::{Run, prepare};
+use crate::preparing::{Run, give_back, prepare};
 use scx_commands::Fault;
 use scx_output::{Failed, Out};
 use scx_trace::write_run;
@@ -78,8 +78,7 @@ fn write_trace<L: Listener, W: Out>(run: Run, listener: &mut L, out: &mut W) -> 
     } = run;
     let mut events = Heard::new(driver, workload.ms(), listener);
     let written = write_run(&mut sim, &mut events, &workload, out);
-    drop(events);
-    drop(sim);
+    give_back(events, sim);
     drop(workload);
     written
 }
