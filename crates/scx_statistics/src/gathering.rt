@@ -11,7 +11,7 @@ use crate::quotas::Quotas;
 use crate::shares::{Shares, WHOLE};
 use crate::tally::{CpuFigures, Tally, TaskFigures};
 use scx_sched::{Event, Sim, What};
-use scx_simulation::{Heard, Listener, Run};
+use scx_simulation::{Heard, Listener, Run, give_back};
 use scx_trace::Events;
 use scx_views::{View, watch};
 use scx_weights::MAX_DEPTH;
@@ -54,8 +54,7 @@ pub(crate) fn gather<L: Listener>(
     } = run;
     let mut events = Heard::new(driver, workload.ms(), listener);
     let gathered = gather_from(alloc, &workload, &mut events, &mut sim);
-    drop(events);
-    drop(sim);
+    give_back(events, sim);
     match gathered {
         Ok(gathered) => Ok(figures_of(workload, gathered)),
         Err(error) => {
