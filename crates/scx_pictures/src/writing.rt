@@ -7,7 +7,7 @@ ghost use Rattle.scx_commands.specs.declared.refusal.Refusal.TheVariants.{NoMemo
 use scx_commands::{Fault, Refusal};
 use scx_output::Out;
 use scx_sched::Sim;
-use scx_simulation::{Heard, Listener, Run};
+use scx_simulation::{Heard, Listener, Run, give_back};
 use scx_trace::Events;
 use scx_views::{Sketch, write_sketch};
 use scx_workloads::Workload;
@@ -38,8 +38,7 @@ pub(crate) fn write_document<S: Sketch + Drop, L: Listener, W: Out>(
     } = run;
     let mut events = Heard::new(driver, workload.ms(), listener);
     let written = write_events(&mut sim, &mut events, sketch, &workload, head, end, out);
-    drop(events);
-    drop(sim);
+    give_back(events, sim);
     drop(workload);
     written
 }
