@@ -4,14 +4,13 @@
 //! `read_policy` and `build` make a policy of a text, `read_workload` a workload, and a `Driver` gives the
 //! workload's events to a machine, one after another.
 //!
-//! A policy is read from its text, and its callbacks are verified, in `crates/scx_stepping/src/main.rt`:
+//! A workload is read, and its driver gives its events, in `crates/scx_machine_tests/src/driving.rt`:
 //!
 //! ```rust
-//! /// The policy, whose programs were read and verified.
-//! fn policy(alloc: Global) -> Option<Policy> {
-//!     let text = read_policy(alloc, POLICY).ok()?;
-//!     build(alloc, text).ok()
-//! }
+//! let workload = read_workload(rt.alloc(), text).expect(rt, "a workload");
+//! let mut session = session_for(rt, &workload);
+//! let mut driver = Driver::new(rt.alloc(), &workload).expect(rt, "a driver");
+//! run(rt, &mut session, &mut driver, events);
 //! ```
 #![tactic(auto)]
 

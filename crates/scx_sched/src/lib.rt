@@ -5,14 +5,12 @@
 //! Between two events each runnable task is in one place, on a processor or in a queue. A policy that has a
 //! fault, or lets a task wait too long, is ejected, and a scheduler of the machine's own goes on.
 //!
-//! A machine is given the next event of a workload, in `crates/scx_stepping/src/main.rt`:
+//! A machine is given one event after another, in `crates/scx_machine_tests/src/session.rt`:
 //!
 //! ```rust
-//! let Some(event) = driver.next(sim) else {
-//!     break;
-//! };
-//! if sim.step(event, &mut stops).is_err() {
-//!     break;
+//! for &event in events {
+//!     let answer = self.sim.step(event, &mut self.recorder);
+//!     expect_same(rt, answer, Ok(()), event);
 //! }
 //! ```
 #![tactic(auto)]
