@@ -36,7 +36,7 @@ pub use laws::{first_fault_is_unique, spelling_is_one_to_one};
 pub use program::{MAX_SLOTS, Program};
 pub use scx_encoding::{DecodeFault, Exclusion};
 pub use scx_semantics::{
-    Access, ByteOrder, Callback, Comparison, Extension, Field, Helper, Insn, Operand, Operation,
-    Parameter, Pointer, REGISTERS, Register, STACK_SIZE, Size, StackByte, SwapWidth, TaskId, Value,
-    Width,
+    Access, ByteOrder, CALLBACKS, Callback, Comparison, Extension, Field, Helper, Insn, Operand,
+    Operation, Parameter, PerCallback, Pointer, REGISTERS, Register, STACK_SIZE, Size, StackByte,
+    SwapWidth, TaskId, Value, Width,
 };

@@ -1,6 +1,7 @@
 pub mod Results
 pub mod Tables
 pub mod Registers
+pub mod Callbacks
 pub mod Code
 pub mod Arithmetic
 pub mod Memory

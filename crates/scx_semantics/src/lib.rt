@@ -11,13 +11,15 @@ mod host_tables;
 mod instructions;
 mod laws;
 mod operations;
+mod per_callback;
 mod registers;
 mod values;
 
-pub use callbacks::Callback;
+pub use callbacks::{CALLBACKS, Callback};
 pub use host_tables::{Field, Helper, MAX_ARGUMENTS, Parameter, TaskId};
 pub use instructions::{Insn, Operand};
 pub use laws::{Responder, run_carries_over, run_has_one_outcome};
 pub use operations::{Access, ByteOrder, Comparison, Extension, Operation, Size, SwapWidth, Width};
+pub use per_callback::PerCallback;
 pub use registers::{REGISTERS, Register};
 pub use values::{Pointer, STACK_SIZE, StackByte, Value};
