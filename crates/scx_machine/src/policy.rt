@@ -1,23 +1,14 @@
 ghost use Rattle.std.specs.Prelude.{◌≡◌, ◌↔◌, option_map, IsTrue, IfOk, OnOk, IfErr, None, IfSome};
 ghost use Rattle.scx_machine.specs.Policy.{IsTimeout, IsAs, HasMaps, AreAs, HaveMaps, IsFault, program_of, policy_of};
 
-use scx_isa::Callback;
+use scx_isa::{Callback, PerCallback};
 use scx_maps::MapDefs;
 use scx_verify::Verified;
 use std::marker::Model;
 use thiserror::Error;
 
 /// The programs of a policy. Each may be absent.
-#[derive(Drop)]
-pub struct Callbacks {
-    pub init: Option<Verified>,
-    pub enable: Option<Verified>,
-    pub select_cpu: Option<Verified>,
-    pub enqueue: Option<Verified>,
-    pub dispatch: Option<Verified>,
-    pub running: Option<Verified>,
-    pub stopping: Option<Verified>,
-}
+pub type Callbacks = PerCallback<Option<Verified>>;
 
 /// Why programs don't make a policy. Of several causes the least number is answered.
 #[derive(Clone, Copy, Debug, PartialEq, Eq, Error)]
@@ -96,16 +87,7 @@ impl Policy {
         ensures callback { IsAs callback (program_of self.now callback) }
         ensures maps { HasMaps self.now.shapes (program_of self.now callback) }
     {
-        match callback {
-            Callback::Init => self.callbacks.init.as_ref(),
-            Callback::Enable => self.callbacks.enable.as_ref(),
-            Callback::SelectCpu => self.callbacks.select_cpu.as_ref(),
-            Callback::Enqueue => self.callbacks.enqueue.as_ref(),
-            Callback::Dispatch => self.callbacks.dispatch.as_ref(),
-            Callback::Running => self.callbacks.running.as_ref(),
-            Callback::Stopping => self.callbacks.stopping.as_ref(),
-            Callback::Plain => None,
-        }
+        self.callbacks.get(callback)
     }
 }
 
@@ -132,42 +114,12 @@ fn fault_of(defs: &MapDefs, timeout_ms: u32, callbacks: &Callbacks) -> Option<Ba
 fn are_as(callbacks: &Callbacks) -> bool
     ensures { IsTrue result ↔ AreAs callbacks.now }
 {
-    is_as(&callbacks.init, Callback::Init)
-        && is_as(&callbacks.enable, Callback::Enable)
-        && is_as(&callbacks.select_cpu, Callback::SelectCpu)
-        && is_as(&callbacks.enqueue, Callback::Enqueue)
-        && is_as(&callbacks.dispatch, Callback::Dispatch)
-        && is_as(&callbacks.running, Callback::Running)
-        && is_as(&callbacks.stopping, Callback::Stopping)
-}
-
-fn is_as(program: &Option<Verified>, callback: Callback) -> bool
-    ensures { IsTrue result ↔ IsAs callback program.now }
-{
-    match program {
-        Some(program) => program.callback() == callback,
-        None => true,
-    }
+    callbacks.all(|callback, program| program.callback() == callback)
 }
 
 /// Whether each program was verified for these maps.
 fn have_maps(callbacks: &Callbacks, defs: &MapDefs) -> bool
     ensures { IsTrue result ↔ HaveMaps defs.now callbacks.now }
 {
-    has_maps(&callbacks.init, defs)
-        && has_maps(&callbacks.enable, defs)
-        && has_maps(&callbacks.select_cpu, defs)
-        && has_maps(&callbacks.enqueue, defs)
-        && has_maps(&callbacks.dispatch, defs)
-        && has_maps(&callbacks.running, defs)
-        && has_maps(&callbacks.stopping, defs)
-}
-
-fn has_maps(program: &Option<Verified>, defs: &MapDefs) -> bool
-    ensures { IsTrue result ↔ HasMaps defs.now program.now }
-{
-    match program {
-        Some(program) => *program.defs() == *defs,
-        None => true,
-    }
+    callbacks.all(|_callback, program| *program.defs() == *defs)
 }
