@@ -1,3 +1,4 @@
 mod Keys
 mod Within
 mod Built
+mod Placing

@@ -5,15 +5,14 @@ use Rattle.scx_maps.specs.declared.shape.Shape.{Shape}
 use Rattle.scx_semantics.specs.Code.{Code}
 use Rattle.scx_isa.specs.Flow.{Flows}
 use Rattle.scx_semantics.specs.declared.callbacks.Callback.{Callback}
-use Rattle.scx_semantics.specs.declared.callbacks.Callback.TheVariants as callback
+use Rattle.scx_semantics.specs.Callbacks.{at, earlier}
 use Rattle.scx_verify.specs.declared.faults.Fault.{Fault}
 use Rattle.scx_verify.specs.declared.faults.Fault.TheVariants.{NoMemory}
 use Rattle.scx_safety.specs.Programs.{VerifiedProgram, context}
 use Rattle.scx_verify.specs.Typing.{IsTyped}
 use Rattle.scx_verify.specs.Faults.{IsRefusal}
-use Rattle.scx_machine.specs.declared.policy.Callbacks.{Callbacks}
 use Rattle.scx_machine.specs.Policy as machine
-use Rattle.scx_machine.specs.Policy.{PolicyState}
+use Rattle.scx_machine.specs.Policy.{Programs, PolicyState}
 use Rattle.scx_policies.specs.declared.building.BuildError.{BuildError}
 use Rattle.scx_policies.specs.declared.building.BuildError.TheVariants as errors
 use Rattle.scx_policies.specs.Policies.{PolicyFile, program_of}
@@ -29,17 +28,6 @@ pub record IsRefusedFor (shapes : List Shape) (program : Option Code) (b : Callb
   pub there : program ≡ Some code
   pub refused : IsRefusal (context b shapes) code (record { fault = fault; slot = slot })
   pub known : fault ≢ NoMemory
-
--- the callbacks before this one, in the order in which programs are verified
-abbrev pub earlier : Callback → List Callback
-earlier callback.Init = []
-earlier callback.Enable = callback.Init ∷ []
-earlier callback.SelectCpu = callback.Init ∷ callback.Enable ∷ []
-earlier callback.Enqueue = callback.Init ∷ callback.Enable ∷ callback.SelectCpu ∷ []
-earlier callback.Dispatch = callback.Init ∷ callback.Enable ∷ callback.SelectCpu ∷ callback.Enqueue ∷ []
-earlier callback.Running = callback.Init ∷ callback.Enable ∷ callback.SelectCpu ∷ callback.Enqueue ∷ callback.Dispatch ∷ []
-earlier callback.Stopping = callback.Init ∷ callback.Enable ∷ callback.SelectCpu ∷ callback.Enqueue ∷ callback.Dispatch ∷ callback.Running ∷ []
-earlier callback.Plain = []
 
 -- of these callbacks each that has a program has one with a typing
 abbrev pub AreAccepted : PolicyFile → List Callback → Type 0
@@ -94,11 +82,5 @@ IsRefusedAs shapes program b errors.NoMemory = AsksForMemory program
 -- ---- all callbacks
 
 -- what `verify` makes of all programs, each at its callback
-pub record AreVerified (text : PolicyFile) (c : Callbacks) : Type 0 where
-  pub init : IsVerified text.shapes text.programs.init callback.Init c.init
-  pub enable : IsVerified text.shapes text.programs.enable callback.Enable c.enable
-  pub select_cpu : IsVerified text.shapes text.programs.select_cpu callback.SelectCpu c.select_cpu
-  pub enqueue : IsVerified text.shapes text.programs.enqueue callback.Enqueue c.enqueue
-  pub dispatch : IsVerified text.shapes text.programs.dispatch callback.Dispatch c.dispatch
-  pub running : IsVerified text.shapes text.programs.running callback.Running c.running
-  pub stopping : IsVerified text.shapes text.programs.stopping callback.Stopping c.stopping
+abbrev pub AreVerified : PolicyFile → Programs → Type 0
+AreVerified text c = (b : Callback) → IsVerified text.shapes (program_of text b) b (at c b)

@@ -5,6 +5,8 @@ use Rattle.toml.specs.Data.{Data, Members}
 use Rattle.hex.specs.declared.error.FromHexError.{FromHexError}
 use Rattle.hex.specs.Hex.{decode_of}
 use Rattle.scx_encoding.specs.declared.faults.DecodeFault.{DecodeFault}
+use Rattle.scx_semantics.specs.declared.callbacks.Callback.{Callback}
+use Rattle.scx_semantics.specs.Callbacks.{callbacks, at, with_at}
 use Rattle.scx_semantics.specs.Code.{Code}
 use Rattle.scx_isa.specs.Reading.{read_program}
 use Rattle.scx_asm.specs.declared.faults.AsmFault.{AsmFault}
@@ -13,7 +15,12 @@ use Rattle.scx_files.specs.declared.fault.Cause.TheVariants as cause
 use Rattle.scx_semantics.specs.Results.{◌>>=◌}
 use Rattle.scx_files.specs.Faults.{Reading, refusal}
 use Rattle.scx_files.specs.Values.{optional, text_of}
-use Rattle.scx_policies.specs.declared.policy_text.Programs.{Programs}
+use Rattle.scx_policies.specs.Policies.{Programs, callback_name}
+
+-- the programs, of each of these callbacks in turn the one that is read there
+abbrev pub with_each : (Callback → Programs → Reading (Option Code)) → List Callback → Programs → Reading Programs
+with_each read [] p = Ok p
+with_each read (b ∷ bs) p = read b p >>= λ code. with_each read bs (with_at p b code)
 
 -- ---- in `code`
 
@@ -27,20 +34,12 @@ abbrev pub code_of : List ℕ → Data → Reading (Option Code)
 code_of path d = text_of path d >>= λ text. assembled path (read_text text)
 
 -- the program at a callback's key in the table `code`; none where the key is absent
-abbrev pub code_at : Members → List ℕ → Reading (Option Code)
-code_at ms key = optional code_of None (codes "code") key ms
+abbrev pub code_at : Members → Callback → Reading (Option Code)
+code_at ms b = optional code_of None (codes "code") (callback_name b) ms
 
--- the programs of the table `code`, in the order of callbacks
-abbrev pub code_programs : Members → Reading Programs
-code_programs ms = do
-  init ← code_at ms (codes "init")
-  enable ← code_at ms (codes "enable")
-  select_cpu ← code_at ms (codes "select_cpu")
-  enqueue ← code_at ms (codes "enqueue")
-  dispatch ← code_at ms (codes "dispatch")
-  running ← code_at ms (codes "running")
-  stopping ← code_at ms (codes "stopping")
-  Ok (record { init = init; enable = enable; select_cpu = select_cpu; enqueue = enqueue; dispatch = dispatch; running = running; stopping = stopping })
+-- the programs as the table `code` has them, in the order of callbacks
+abbrev pub with_code : Members → Programs → Reading Programs
+with_code ms p = with_each (λ b old. code_at ms b) callbacks p
 
 -- ---- in `slots`
 
@@ -73,17 +72,9 @@ slots_of None path d = text_of path d >>= spelled path
 slots_of (Some code) path d = refusal path cause.Twice
 
 -- a callback's program after its key in the table `slots`; where that is absent, the one before
-abbrev pub slots_at : Members → List ℕ → Option Code → Reading (Option Code)
-slots_at ms key code = optional (slots_of code) code (codes "slots") key ms
+abbrev pub slots_at : Members → Callback → Option Code → Reading (Option Code)
+slots_at ms b code = optional (slots_of code) code (codes "slots") (callback_name b) ms
 
 -- the programs with those of the table `slots`, in the order of callbacks
 abbrev pub with_slots : Members → Programs → Reading Programs
-with_slots ms p = do
-  init ← slots_at ms (codes "init") p.init
-  enable ← slots_at ms (codes "enable") p.enable
-  select_cpu ← slots_at ms (codes "select_cpu") p.select_cpu
-  enqueue ← slots_at ms (codes "enqueue") p.enqueue
-  dispatch ← slots_at ms (codes "dispatch") p.dispatch
-  running ← slots_at ms (codes "running") p.running
-  stopping ← slots_at ms (codes "stopping") p.stopping
-  Ok (record { init = init; enable = enable; select_cpu = select_cpu; enqueue = enqueue; dispatch = dispatch; running = running; stopping = stopping })
+with_slots ms p = with_each (λ b old. slots_at ms b (at old b)) callbacks p

@@ -7,10 +7,10 @@ use Rattle.scx_semantics.specs.Results.{◌>>=◌}
 use Rattle.scx_files.specs.Faults.{Reading}
 use Rattle.scx_files.specs.Values.{document, optional, table_of, name_of, integer_of}
 use Rattle.scx_files.specs.Unknown.{known_alone, unknown, unknown_in, unknown_in_each}
-use Rattle.scx_policies.specs.declared.policy_text.Programs.{Programs}
-use Rattle.scx_policies.specs.Policies.{PolicyFile}
+use Rattle.scx_semantics.specs.Callbacks.{none}
+use Rattle.scx_policies.specs.Policies.{PolicyFile, Programs, callback_keys}
 use Rattle.scx_policies.specs.Maps.{maps}
-use Rattle.scx_policies.specs.Programs.{code_programs, with_slots}
+use Rattle.scx_policies.specs.Programs.{with_code, with_slots}
 
 -- the keys that the table of a whole file may have
 abbrev pub file_keys : List (List ℕ)
@@ -19,10 +19,6 @@ file_keys = codes "name" ∷ codes "timeout_ms" ∷ codes "map" ∷ codes "code"
 -- the keys that an element of the array `map` may have
 abbrev pub map_keys : List (List ℕ)
 map_keys = codes "entries" ∷ codes "value_size" ∷ []
-
--- the keys that the tables `code` and `slots` may have, one for each callback
-abbrev pub callback_keys : List (List ℕ)
-callback_keys = codes "init" ∷ codes "enable" ∷ codes "select_cpu" ∷ codes "enqueue" ∷ codes "dispatch" ∷ codes "running" ∷ codes "stopping" ∷ []
 
 -- the paths of all unknown keys of a file
 abbrev pub unknown_keys : Members → List (List ℕ)
@@ -48,12 +44,16 @@ table_in key ms = optional table_of no_members [] key ms
 abbrev pub with_slots_in : Members → Programs → Reading Programs
 with_slots_in ms programs = table_in (codes "slots") ms >>= λ slots. with_slots slots programs
 
+-- these programs, and those of both tables
+abbrev pub programs_with : Members → Programs → Reading Programs
+programs_with ms before = do
+  code ← table_in (codes "code") ms
+  programs ← with_code code before
+  with_slots_in ms programs
+
 -- the programs of both tables
 abbrev pub programs_in : Members → Reading Programs
-programs_in ms = do
-  code ← table_in (codes "code") ms
-  programs ← code_programs code
-  with_slots_in ms programs
+programs_in ms = programs_with ms none
 
 -- what the known keys of a file say
 abbrev pub policy_in : Members → Reading PolicyFile

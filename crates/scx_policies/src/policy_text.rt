@@ -1,32 +1,13 @@
-ghost use Rattle.std.specs.Prelude.{◌≡◌};
+ghost use Rattle.std.specs.Prelude.{◌≡◌, map};
 ghost use Rattle.scx_machine.specs.Policy.{IsTimeout};
-ghost use Rattle.scx_policies.specs.Policies.{callback_name, program_of, without};
+ghost use Rattle.scx_policies.specs.Policies.{callback_name, callback_keys, program_of, without};
 
-use scx_isa::{Callback, Program};
+use scx_isa::{CALLBACKS, Callback, PerCallback, Program};
 use scx_maps::MapDefs;
 use std::marker::Model;
 
 /// The programs of a policy file. Each may be absent.
-#[derive(Drop)]
-pub struct Programs {
-    pub init: Option<Program>,
-    pub enable: Option<Program>,
-    pub select_cpu: Option<Program>,
-    pub enqueue: Option<Program>,
-    pub dispatch: Option<Program>,
-    pub running: Option<Program>,
-    pub stopping: Option<Program>,
-}
-
-pub(crate) const NO_PROGRAMS: Programs = Programs {
-    init: None,
-    enable: None,
-    select_cpu: None,
-    enqueue: None,
-    dispatch: None,
-    running: None,
-    stopping: None,
-};
+pub type Programs = PerCallback<Option<Program>>;
 
 /// What a policy file says, which `read_policy` alone makes.
 #[derive(Drop)]
@@ -63,21 +44,19 @@ impl PolicyText {
         self.timeout_ms
     }
 
+    /// Its programs.
+    pub fn into_programs(self) -> Programs
+        ensures { result ≡ self.programs }
+    {
+        self.programs
+    }
+
     /// Takes the program of a callback out; `None` where there is none, or no more.
     pub fn take(&mut self, callback: Callback) -> Option<Program>
         ensures program { result ≡ program_of self.old callback }
         ensures rest { self.new ≡ without self.old callback }
     {
-        match callback {
-            Callback::Init => self.programs.init.take(),
-            Callback::Enable => self.programs.enable.take(),
-            Callback::SelectCpu => self.programs.select_cpu.take(),
-            Callback::Enqueue => self.programs.enqueue.take(),
-            Callback::Dispatch => self.programs.dispatch.take(),
-            Callback::Running => self.programs.running.take(),
-            Callback::Stopping => self.programs.stopping.take(),
-            Callback::Plain => None,
-        }
+        self.programs.take(callback)
     }
 }
 
@@ -95,4 +74,11 @@ pub fn callback_name(callback: Callback) -> &'static str
         Callback::Running => "running",
         Callback::Stopping => "stopping",
     }
+}
+
+/// The keys of all callbacks.
+pub(crate) fn callback_keys() -> [&'static str; 7]
+    ensures { map (λ key. key.now) result ≡ callback_keys }
+{
+    CALLBACKS.map(callback_name)
 }

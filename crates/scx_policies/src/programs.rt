@@ -3,16 +3,16 @@ ghost use Rattle.toml.specs.View.{view, table_view};
 ghost use Rattle.scx_files.specs.Faults.{Gives};
 ghost use Rattle.scx_files.specs.Paths.{below};
 ghost use Rattle.hex.specs.Hex.{decode_of};
-ghost use Rattle.scx_policies.specs.Programs.{code_at, code_programs, is_blank, without_blanks, spelled, slots_at, with_slots, paired};
+ghost use Rattle.scx_policies.specs.Programs.{code_at, with_code, is_blank, without_blanks, spelled, slots_at, with_slots, paired};
 
-use crate::policy_text::Programs;
+use crate::policy_text::{Programs, callback_name};
 use hex::FromHexError;
 use scx_asm::{AsmError, assemble};
 use scx_files::{Cause, LoadError, Section, refused};
-use scx_isa::{DecodeError, Program, decode};
+use scx_isa::{CALLBACKS, Callback, DecodeError, Program, decode};
 use std::alloc::{AllocError, Global};
 
-/// Puts the programs that the texts of the table `code` spell into their places.
+/// Puts the programs that the texts of the table `code` spell into their places, and none into the others.
 pub(crate) fn put_code(
     alloc: Global,
     code: Section<'_>,
@@ -20,15 +20,13 @@ pub(crate) fn put_code(
 ) -> Result<(), LoadError>
     requires { code.path.now ≡ codes "code" }
     ensures { Gives (λ _. programs.new) result
-        (code_programs (table_view code.entry.table.now)) }
+        (with_code (table_view code.entry.table.now) programs.old) }
 {
-    put_code_at(alloc, code, "init", &mut programs.init)?;
-    put_code_at(alloc, code, "enable", &mut programs.enable)?;
-    put_code_at(alloc, code, "select_cpu", &mut programs.select_cpu)?;
-    put_code_at(alloc, code, "enqueue", &mut programs.enqueue)?;
-    put_code_at(alloc, code, "dispatch", &mut programs.dispatch)?;
-    put_code_at(alloc, code, "running", &mut programs.running)?;
-    put_code_at(alloc, code, "stopping", &mut programs.stopping)
+    for callback in CALLBACKS {
+        let program = code_at(alloc, code, callback)?;
+        programs.set(callback, program);
+    }
+    Ok(())
 }
 
 /// Adds the programs whose slots the table `slots` spells.
@@ -41,34 +39,24 @@ pub(crate) fn put_slots(
     ensures { Gives (λ _. programs.new) result
         (with_slots (table_view slots.entry.table.now) programs.old) }
 {
-    put_slots_at(alloc, slots, "init", &mut programs.init)?;
-    put_slots_at(alloc, slots, "enable", &mut programs.enable)?;
-    put_slots_at(alloc, slots, "select_cpu", &mut programs.select_cpu)?;
-    put_slots_at(alloc, slots, "enqueue", &mut programs.enqueue)?;
-    put_slots_at(alloc, slots, "dispatch", &mut programs.dispatch)?;
-    put_slots_at(alloc, slots, "running", &mut programs.running)?;
-    put_slots_at(alloc, slots, "stopping", &mut programs.stopping)
-}
-
-/// Puts the program at a key of `code` into its place, or none where there is no such key.
-fn put_code_at(
-    alloc: Global,
-    code: Section<'_>,
-    key: &str,
-    program: &mut Option<Program>,
-) -> Result<(), LoadError>
-    requires { code.path.now ≡ codes "code" }
-    ensures { Gives (λ _. program.new) result
-        (code_at (table_view code.entry.table.now) key.now) }
-{
-    *program = code_at(alloc, code, key)?;
+    for callback in CALLBACKS {
+        let before = programs.take(callback);
+        let program = slots_at(alloc, slots, callback, before)?;
+        programs.set(callback, program);
+    }
     Ok(())
 }
 
-fn code_at(alloc: Global, code: Section<'_>, key: &str) -> Result<Option<Program>, LoadError>
+/// The program at the key of a callback in `code`.
+fn code_at(
+    alloc: Global,
+    code: Section<'_>,
+    callback: Callback,
+) -> Result<Option<Program>, LoadError>
     requires { code.path.now ≡ codes "code" }
-    ensures { Gives (λ p. p) result (code_at (table_view code.entry.table.now) key.now) }
+    ensures { Gives (λ p. p) result (code_at (table_view code.entry.table.now) callback) }
 {
+    let key = callback_name(callback);
     let Some(value) = code.value(key) else {
         return Ok(None);
     };
@@ -82,26 +70,27 @@ fn code_at(alloc: Global, code: Section<'_>, key: &str) -> Result<Option<Program
     }
 }
 
-/// Puts the program at a key of `slots` into its place, if there is such a key; not where `code` has one.
-fn put_slots_at(
+/// The program at the key of a callback in `slots`, if there is such a key, else the one before; not where
+/// `code` has one too.
+fn slots_at(
     alloc: Global,
     slots: Section<'_>,
-    key: &str,
-    program: &mut Option<Program>,
-) -> Result<(), LoadError>
+    callback: Callback,
+    before: Option<Program>,
+) -> Result<Option<Program>, LoadError>
     requires { slots.path.now ≡ codes "slots" }
-    ensures { Gives (λ _. program.new) result
-        (slots_at (table_view slots.entry.table.now) key.now program.old) }
+    ensures { Gives (λ p. p) result
+        (slots_at (table_view slots.entry.table.now) callback before) }
 {
+    let key = callback_name(callback);
     let Some(value) = slots.value(key) else {
-        return Ok(());
+        return Ok(before);
     };
-    if program.is_some() {
+    if before.is_some() {
         return refused(alloc, slots.path, key, Cause::Twice);
     }
     let text = slots.text_in(alloc, key, value)?;
-    *program = spelled(alloc, slots.path, key, text)?;
-    Ok(())
+    spelled(alloc, slots.path, key, text)
 }
 
 /// The program whose slots the text spells in pairs of hexadecimal digits.

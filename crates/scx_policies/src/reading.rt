@@ -3,10 +3,10 @@ ghost use Rattle.toml.specs.Data.{no_members};
 ghost use Rattle.toml.specs.View.{table_view};
 ghost use Rattle.scx_files.specs.Faults.{Gives};
 ghost use Rattle.scx_files.specs.Unknown.{known_alone};
-ghost use Rattle.scx_policies.specs.Reading.{unknown_keys, checked_name, table_in, programs_in, policy_in, policy_file, policy_text};
+ghost use Rattle.scx_policies.specs.Reading.{unknown_keys, checked_name, table_in, programs_in, programs_with, policy_in, policy_file, policy_text};
 
 use crate::maps::read_maps;
-use crate::policy_text::{NO_PROGRAMS, PolicyText, Programs};
+use crate::policy_text::{PolicyText, Programs, callback_keys};
 use crate::programs::{put_code, put_slots};
 use scx_files::{Limits, LoadError, Section, Unknown, read_document};
 use std::alloc::Global;
@@ -23,8 +23,8 @@ const TIMEOUT: Limits = Limits {
 /// Reads a policy file, or names its first fault.
 ///
 /// Unknown keys are faults before all others, the least path by bytes first. Then the order is the
-/// name, the timeout, each map, the programs in `code` and those in `slots`, both in the order init,
-/// enable, select_cpu, enqueue, dispatch, running, stopping.
+/// name, the timeout, each map, the programs in `code` and those in `slots`, both in the order of
+/// callbacks.
 pub fn read_policy(alloc: Global, text: &str) -> Result<PolicyText, LoadError>
     ensures { Gives (λ policy. policy) result (policy_text text.now) }
 {
@@ -48,15 +48,7 @@ fn check_keys(alloc: Global, file: Section<'_>) -> Result<(), LoadError>
     requires { file.path.now ≡ [] }
     ensures { Gives (λ t. t) result (known_alone (unknown_keys (table_view file.entry.table.now))) }
 {
-    let callbacks = [
-        "init",
-        "enable",
-        "select_cpu",
-        "enqueue",
-        "dispatch",
-        "running",
-        "stopping",
-    ];
+    let callbacks = callback_keys();
     let unknown = Unknown::none()
         .in_section(alloc, file, &["name", "timeout_ms", "map", "code", "slots"])?
         .below_each(alloc, file, "map", &["entries", "value_size"])?
@@ -97,7 +89,7 @@ fn read_programs(alloc: Global, file: Section<'_>) -> Result<Programs, LoadError
     requires { file.path.now ≡ [] }
     ensures { Gives (λ p. p) result (programs_in (table_view file.entry.table.now)) }
 {
-    let mut programs = NO_PROGRAMS;
+    let mut programs = Programs::none();
     match put_programs(alloc, file, &mut programs) {
         Ok(()) => Ok(programs),
         Err(error) => {
@@ -110,7 +102,8 @@ fn read_programs(alloc: Global, file: Section<'_>) -> Result<Programs, LoadError
 /// Puts the programs of both tables into their places.
 fn put_programs(alloc: Global, file: Section<'_>, programs: &mut Programs) -> Result<(), LoadError>
     requires { file.path.now ≡ [] }
-    ensures { Gives (λ _. programs.new) result (programs_in (table_view file.entry.table.now)) }
+    ensures { Gives (λ _. programs.new) result
+        (programs_with (table_view file.entry.table.now) programs.old) }
 {
     let absent = Table::new(alloc);
     let put = put_both(alloc, file, &absent, programs);
@@ -127,7 +120,8 @@ fn put_both(
 ) -> Result<(), LoadError>
     requires whole { file.path.now ≡ [] }
     requires absent { table_view absent.now ≡ no_members }
-    ensures { Gives (λ _. programs.new) result (programs_in (table_view file.entry.table.now)) }
+    ensures { Gives (λ _. programs.new) result
+        (programs_with (table_view file.entry.table.now) programs.old) }
 {
     let code = section_or(alloc, file, "code", absent)?;
     put_code(alloc, code, programs)?;
