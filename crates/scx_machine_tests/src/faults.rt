@@ -7,22 +7,11 @@ use crate::same::expect_same;
 use crate::session::Session;
 use scx_asm::assemble;
 use scx_examples::INIT;
-use scx_isa::Callback;
+use scx_isa::{CALLBACKS, Callback};
 use scx_sched::{Eject, Event, Fault, NewError, Sim};
 use scx_verify::verify;
 use std::alloc::{AllocError, Global};
 use std::process::Abort;
-
-/// In the order of the columns below.
-const CALLBACKS: [Callback; 7] = [
-    Callback::Init,
-    Callback::Enable,
-    Callback::SelectCpu,
-    Callback::Enqueue,
-    Callback::Dispatch,
-    Callback::Running,
-    Callback::Stopping,
-];
 
 /// The machine can't begin, as init or enable failed with -22.
 const FAILS: u8 = 22;
@@ -51,7 +40,7 @@ out:
 r0 = 0
 exit";
 
-/// Calls of which the last has a fault, and what becomes of them as each callback: 16 where the verifier refuses
+/// Calls of which the last has a fault, and what becomes of them as each callback, in their order: 16 where the verifier refuses
 /// a helper there, `FAILS`, or the code for which the policy is ejected. One processor is there, and queue 0,
 /// which is empty.
 const CALLS: [(&str, [u8; 7]); 32] = [

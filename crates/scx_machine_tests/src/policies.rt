@@ -12,17 +12,6 @@ use std::process::Abort;
 /// Inserts into queue 0, with a slice of 2 ms.
 pub(crate) const SHORT_SLICES: &str = "r4 = r2\nr2 = 0\nr3 = 2000000\ncall 1002\nexit";
 
-/// No callback at all.
-pub(crate) const NONE: Callbacks = Callbacks {
-    init: None,
-    enable: None,
-    select_cpu: None,
-    enqueue: None,
-    dispatch: None,
-    running: None,
-    stopping: None,
-};
-
 pub(crate) fn defs(rt: &impl Abort) -> MapDefs {
     let shape = Shape {
         entries: 1,
@@ -37,35 +26,13 @@ pub(crate) fn program<R: AllocGlobal + Abort>(rt: &R, callback: Callback, text: 
     verify(rt.alloc(), program, callback, &defs(rt)).expect(rt, "the program is safe")
 }
 
-/// The program of the last of the texts for that callback, if there is one.
-fn program_among<R: AllocGlobal + Abort>(
-    rt: &R,
-    texts: &[(Callback, &str)],
-    callback: Callback,
-) -> Option<Verified> {
-    let mut found = None;
-    for &(other, text) in texts {
-        if other == callback {
-            found = Some(text);
-        }
-    }
-    match found {
-        Some(text) => Some(program(rt, callback, text)),
-        None => None,
-    }
-}
-
-/// The callbacks with these texts.
+/// The callbacks with these texts, of several for one callback with the last.
 pub(crate) fn callbacks<R: AllocGlobal + Abort>(rt: &R, texts: &[(Callback, &str)]) -> Callbacks {
-    Callbacks {
-        init: program_among(rt, texts, Callback::Init),
-        enable: program_among(rt, texts, Callback::Enable),
-        select_cpu: program_among(rt, texts, Callback::SelectCpu),
-        enqueue: program_among(rt, texts, Callback::Enqueue),
-        dispatch: program_among(rt, texts, Callback::Dispatch),
-        running: program_among(rt, texts, Callback::Running),
-        stopping: program_among(rt, texts, Callback::Stopping),
+    let mut callbacks = Callbacks::none();
+    for &(callback, text) in texts {
+        callbacks.set(callback, Some(program(rt, callback, text)));
     }
+    callbacks
 }
 
 /// The policy whose callbacks have these texts.

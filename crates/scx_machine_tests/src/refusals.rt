@@ -1,9 +1,7 @@
 //! What no policy, no machine and no event is made of.
 
 use crate::cases::{Case, Step, expect};
-use crate::policies::{
-    NONE, SHORT_SLICES, TWO_MILLISECONDS, callbacks, defs, policy, program, tree,
-};
+use crate::policies::{SHORT_SLICES, TWO_MILLISECONDS, callbacks, defs, policy, program, tree};
 use crate::same::expect_same;
 use scx_isa::Callback;
 use scx_maps::MapDefs;
@@ -12,7 +10,7 @@ use scx_weights::Tree;
 use std::process::Abort;
 
 fn expect_timeout(rt: &impl Abort, timeout_ms: u32, wanted: Option<BadPolicy>) {
-    let found = Policy::new(defs(rt), timeout_ms, NONE).err();
+    let found = Policy::new(defs(rt), timeout_ms, Callbacks::none()).err();
     expect_same(rt, found, wanted, timeout_ms);
 }
 
@@ -26,10 +24,11 @@ fn bad_timeouts_are_refused(rt: HostRuntime) {
 
 #[test]
 fn a_program_of_another_callback_is_refused(rt: HostRuntime) {
-    let misplaced = Callbacks {
-        stopping: Some(program(&rt, Callback::Enqueue, SHORT_SLICES)),
-        ..NONE
-    };
+    let mut misplaced = Callbacks::none();
+    misplaced.set(
+        Callback::Stopping,
+        Some(program(&rt, Callback::Enqueue, SHORT_SLICES)),
+    );
     let found = Policy::new(defs(&rt), 1, misplaced).err();
     expect_same(
         &rt,
