@@ -6,23 +6,13 @@ ghost use Rattle.scx_vm.specs.Arguments as values;
 
 use crate::Sum;
 use crate::programs::{accepted, assembled, encoded, verify_times};
-use scx_examples::{DISPATCH, ENABLE, ENQUEUE, INIT, OneTask, RUNNING, STOPPING};
+use scx_examples::{OneTask, WITHOUT_SELECT_CPU};
 use scx_isa::{Callback, TaskId};
 use scx_maps::{Maps, Shape};
 use scx_run::{Core, run_on};
 use scx_verify::Verified;
 use scx_vm::{Arg, Args};
 use std::alloc::Global;
-
-/// The callbacks, with their texts.
-const CALLBACKS: [(Callback, &str); 6] = [
-    (Callback::Init, INIT),
-    (Callback::Enable, ENABLE),
-    (Callback::Enqueue, ENQUEUE),
-    (Callback::Dispatch, DISPATCH),
-    (Callback::Running, RUNNING),
-    (Callback::Stopping, STOPPING),
-];
 
 /// Adds to the value of map 0, eight times.
 pub const COUNTING: &str = "*(u32 *)(r10 - 4) = 0
@@ -69,7 +59,7 @@ const CLOCK: [Shape; 1] = [Shape {
 /// Verifies each callback so many times.
 pub(crate) fn verify_callbacks(alloc: Global, times: u64) -> Sum {
     let mut sum = 0u64;
-    for (callback, text) in CALLBACKS {
+    for (callback, text) in WITHOUT_SELECT_CPU {
         sum = sum.wrapping_add(verify_one(alloc, callback, text, times)?);
     }
     Some(sum)
@@ -90,7 +80,7 @@ fn slots_of(alloc: Global, text: &str) -> Option<Vec<u8>> {
 /// Runs each callback so many times.
 pub(crate) fn run_callbacks(alloc: Global, times: u64) -> Sum {
     let mut sum = 0u64;
-    for (callback, text) in CALLBACKS {
+    for (callback, text) in WITHOUT_SELECT_CPU {
         sum = sum.wrapping_add(run_one(alloc, callback, text, times)?);
     }
     Some(sum)

@@ -9,5 +9,6 @@ mod slots;
 pub use one_task::OneTask;
 pub use simple::{
     DISPATCH, ENABLE, ENQUEUE, ENQUEUE_BY_VTIME, INIT, RUNNING, SELECT_CPU, STOPPING,
+    WITHOUT_SELECT_CPU,
 };
 pub use slots::{EXIT, bytes_of};

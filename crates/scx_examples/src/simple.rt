@@ -1,6 +1,18 @@
 //! The callbacks of scx_simple, the kernel's example of a policy, in this project's assembler. Map 0 has
 //! one element of eight bytes, the virtual time of now.
 
+use scx_isa::Callback;
+
+/// The callbacks without select_cpu, each with its text.
+pub const WITHOUT_SELECT_CPU: [(Callback, &str); 6] = [
+    (Callback::Init, INIT),
+    (Callback::Enable, ENABLE),
+    (Callback::Enqueue, ENQUEUE),
+    (Callback::Dispatch, DISPATCH),
+    (Callback::Running, RUNNING),
+    (Callback::Stopping, STOPPING),
+];
+
 /// Creates queue 0.
 pub const INIT: &str = "r1 = 0
 call 1001

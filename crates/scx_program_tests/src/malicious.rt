@@ -4,22 +4,13 @@
 
 use crate::same::expect_same;
 use scx_asm::assemble;
-use scx_examples::{DISPATCH, ENABLE, ENQUEUE, INIT, RUNNING, STOPPING};
+use scx_examples::WITHOUT_SELECT_CPU;
 use scx_isa::{Callback, decode, encode, flow};
 use scx_maps::{MapDefs, Shape};
 use scx_verify::verify;
 use std::alloc::{AllocError, Global};
 use std::process::Abort;
 use std::test::Fail;
-
-const CALLBACKS: [(&str, Callback); 6] = [
-    (INIT, Callback::Init),
-    (ENABLE, Callback::Enable),
-    (ENQUEUE, Callback::Enqueue),
-    (DISPATCH, Callback::Dispatch),
-    (RUNNING, Callback::Running),
-    (STOPPING, Callback::Stopping),
-];
 
 /// The bytes of a callback.
 fn code_of(alloc: Global, text: &str) -> Option<Vec<u8>> {
@@ -61,7 +52,7 @@ fn judge_beginnings<R: AllocGlobal + Abort>(rt: &R, code: &[u8], callback: Callb
 
 #[test]
 fn beginnings_are_judged(rt: HostRuntime) {
-    for &(text, callback) in &CALLBACKS {
+    for &(callback, text) in &WITHOUT_SELECT_CPU {
         let code = code_of(rt.alloc(), text).expect(&rt, "the text stands for a program");
         judge_beginnings(&rt, code.as_slice(), callback);
     }
@@ -83,7 +74,7 @@ fn change_each_byte<R: AllocGlobal + Abort>(rt: &R, code: &mut [u8], callback: C
 
 #[test]
 fn changed_bytes_are_judged(rt: HostRuntime) {
-    for &(text, callback) in &CALLBACKS {
+    for &(callback, text) in &WITHOUT_SELECT_CPU {
         let mut code = code_of(rt.alloc(), text).expect(&rt, "the text stands for a program");
         change_each_byte(&rt, code.as_mut_slice(), callback);
     }
