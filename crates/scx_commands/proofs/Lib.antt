@@ -1,3 +1,4 @@
 mod Parts
+mod Accepting
 pub mod Causes
-mod Asked
+mod Judging

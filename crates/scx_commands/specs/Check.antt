@@ -8,8 +8,7 @@ use Rattle.scx_commands.specs.declared.file.TheConstants.{FILE_LIMIT}
 use Rattle.scx_commands.specs.declared.refusal.Refusal.{Refusal}
 use Rattle.scx_commands.specs.declared.refusal.Refusal.TheVariants.{TooLarge, NotUtf8, NoMemory, Policy}
 use Rattle.scx_commands.specs.Text.{IsText}
-use Rattle.scx_commands.specs.declared.verdict.Verdicts.{Verdicts}
-use Rattle.scx_commands.specs.Verdicts.{HasVerdicts}
+use Rattle.scx_commands.specs.Verdicts.{Verdicts, HasVerdicts}
 
 -- the bytes are a policy file, whose programs have these verdicts
 pub record AreVerdicts (bytes : List ℕ) (verdicts : Verdicts) : Type 0 where

@@ -1,13 +1,13 @@
 -- The lines of verdicts, one for each callback that is there.
-use Rattle.std.specs.Prelude.{ℕ, List, [], ◌++◌, codes, decimal, Option, Some, None}
+use Rattle.std.specs.Prelude.{ℕ, List, [], ◌∷◌, ◌++◌, codes, decimal, Option, Some, None}
 use Rattle.scx_semantics.specs.declared.callbacks.Callback.{Callback}
-use Rattle.scx_semantics.specs.declared.callbacks.Callback.TheVariants as callback
+use Rattle.scx_semantics.specs.Callbacks.{callbacks, at}
 use Rattle.scx_verify.specs.Faults.{fault_number, fault_name}
 use Rattle.scx_policies.specs.Policies.{callback_name}
 use Rattle.scx_commands.specs.Lines.{fault_text}
 use Rattle.scx_commands.specs.declared.verdict.Verdict.{Verdict}
 use Rattle.scx_commands.specs.declared.verdict.Verdict.TheVariants.{Accepted, Refused}
-use Rattle.scx_commands.specs.declared.verdict.Verdicts.{Verdicts}
+use Rattle.scx_commands.specs.Verdicts.{Verdicts}
 
 -- a callback and `ok` with the number of instructions, or `refused` with the fault and its slot
 abbrev pub verdict_line : Callback → Verdict → List ℕ
@@ -19,13 +19,11 @@ abbrev pub line_of : Callback → Option Verdict → List ℕ
 line_of b None = []
 line_of b (Some verdict) = verdict_line b verdict
 
+-- the lines of these callbacks, one after another
+abbrev pub lines_of : Verdicts → List Callback → List ℕ
+lines_of v [] = []
+lines_of v (b ∷ bs) = line_of b (at v b) ++ lines_of v bs
+
 -- in the order of callbacks
 abbrev pub verdict_lines : Verdicts → List ℕ
-verdict_lines v =
-    line_of callback.Init v.init
-    ++ line_of callback.Enable v.enable
-    ++ line_of callback.SelectCpu v.select_cpu
-    ++ line_of callback.Enqueue v.enqueue
-    ++ line_of callback.Dispatch v.dispatch
-    ++ line_of callback.Running v.running
-    ++ line_of callback.Stopping v.stopping
+verdict_lines v = lines_of v callbacks

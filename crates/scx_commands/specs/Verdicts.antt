@@ -1,8 +1,9 @@
 -- Verdicts on the programs of a policy: each is accepted, and then has a typing, or refused for its first
 -- fault.
-use Rattle.std.specs.Prelude.{◌≡◌, ◌≢◌, ℕ, Bool, true, false, ◌&&◌, ⊤, List, Option, Some, None}
+use Rattle.std.specs.Prelude.{◌≡◌, ◌≢◌, ℕ, Bool, true, false, ◌&&◌, ⊤, List, [], ◌∷◌, Option, Some, None}
 use Rattle.scx_semantics.specs.declared.callbacks.Callback.{Callback}
-use Rattle.scx_semantics.specs.declared.callbacks.Callback.TheVariants as callback
+use Rattle.scx_semantics.specs.declared.per_callback.PerCallback.{PerCallback}
+use Rattle.scx_semantics.specs.Callbacks.{callbacks, at}
 use Rattle.scx_semantics.specs.Code.{Code, instruction_count}
 use Rattle.scx_maps.specs.declared.shape.Shape.{Shape}
 use Rattle.scx_verify.specs.declared.faults.Fault.TheVariants.{NoMemory}
@@ -12,7 +13,6 @@ use Rattle.scx_verify.specs.Faults.{IsRefusal}
 use Rattle.scx_policies.specs.Policies.{PolicyFile, program_of}
 use Rattle.scx_commands.specs.declared.verdict.Verdict.{Verdict}
 use Rattle.scx_commands.specs.declared.verdict.Verdict.TheVariants.{Accepted, Refused}
-use Rattle.scx_commands.specs.declared.verdict.Verdicts.{Verdicts}
 
 -- the verdict on a program as that callback, with maps of these shapes
 abbrev pub IsVerdict : List Shape → Callback → Code → Verdict → Type 0
@@ -27,20 +27,13 @@ IsVerdictOf shapes b None (Some verdict) = ⊥
 IsVerdictOf shapes b (Some code) None = ⊥
 IsVerdictOf shapes b (Some code) (Some verdict) = IsVerdict shapes b code verdict
 
--- the verdict on the program of a callback, if it has one; a plain program has none
-abbrev pub verdict_of : Verdicts → Callback → Option Verdict
-verdict_of v callback.Init = v.init
-verdict_of v callback.Enable = v.enable
-verdict_of v callback.SelectCpu = v.select_cpu
-verdict_of v callback.Enqueue = v.enqueue
-verdict_of v callback.Dispatch = v.dispatch
-verdict_of v callback.Running = v.running
-verdict_of v callback.Stopping = v.stopping
-verdict_of v callback.Plain = None
+-- the verdicts on the programs of a policy, one for each callback or none
+abbrev pub Verdicts : Type 0
+Verdicts = PerCallback (Option Verdict)
 
 -- the verdicts on all programs of a policy
 abbrev pub HasVerdicts : PolicyFile → Verdicts → Type 0
-HasVerdicts policy v = (b : Callback) → IsVerdictOf policy.shapes b (program_of policy b) (verdict_of v b)
+HasVerdicts policy v = (b : Callback) → IsVerdictOf policy.shapes b (program_of policy b) (at v b)
 
 -- the program isn't refused: it is accepted, or there is none
 abbrev pub is_accepted : Option Verdict → Bool
@@ -48,6 +41,11 @@ is_accepted None = true
 is_accepted (Some (Accepted count)) = true
 is_accepted (Some (Refused fault slot)) = false
 
+-- of these callbacks none is refused
+abbrev pub accepted_each : Verdicts → List Callback → Bool
+accepted_each v [] = true
+accepted_each v (b ∷ bs) = is_accepted (at v b) && accepted_each v bs
+
 -- none is refused
 abbrev pub are_accepted : Verdicts → Bool
-are_accepted v = is_accepted v.init && is_accepted v.enable && is_accepted v.select_cpu && is_accepted v.enqueue && is_accepted v.dispatch && is_accepted v.running && is_accepted v.stopping
+are_accepted v = accepted_each v callbacks

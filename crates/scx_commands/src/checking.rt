@@ -5,12 +5,12 @@ ghost use Rattle.scx_commands.specs.declared.file.TheConstants.{FILE_LIMIT};
 ghost use Rattle.scx_commands.specs.Outcome.{IfRefused, IsRefused};
 ghost use Rattle.scx_commands.specs.Text.{IsText};
 ghost use Rattle.scx_commands.specs.VerdictLines.{verdict_lines};
-ghost use Rattle.scx_commands.specs.Verdicts.{are_accepted};
+ghost use Rattle.scx_commands.specs.Verdicts.{Verdicts, are_accepted};
 ghost use Rattle.scx_commands.specs.Check.{AreVerdicts, IsCheckCause};
 
 use crate::refusal::{Fault, Refusal};
 use crate::texts::text;
-use crate::verdict::{Verdicts, verdicts_of};
+use crate::verdict::{Verdicts, are_accepted, verdicts_of};
 use crate::verdict_lines::lines_of;
 use scx_output::{Out, write_all};
 use scx_policies::read_policy;
@@ -43,8 +43,8 @@ pub fn check<W: Out>(alloc: Global, bytes: &[u8], out: &mut W) -> Result<bool, F
 {
     let text = text(bytes)?;
     let verdicts = verdicts_in(alloc, text)?;
-    write_all(out, lines_of(verdicts).as_str().as_bytes())?;
-    Ok(verdicts.are_accepted())
+    write_all(out, lines_of(&verdicts).as_str().as_bytes())?;
+    Ok(are_accepted(&verdicts))
 }
 
 /// The verdicts on the programs of a policy file.
@@ -54,10 +54,7 @@ fn verdicts_in(alloc: Global, text: &str) -> Result<Verdicts, Refusal>
     ensures refused { IfErr result (IsCheckCause text.now) }
 {
     match read_policy(alloc, text) {
-        Ok(policy) => {
-            let mut policy = policy;
-            verdicts_of(alloc, &mut policy)
-        }
+        Ok(policy) => verdicts_of(alloc, policy),
         Err(error) => Err(Refusal::of_policy(error)),
     }
 }

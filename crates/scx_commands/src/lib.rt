@@ -32,5 +32,5 @@ pub use refusal::{Fault, Refusal};
 pub use scx_output::{Counted, Failed, Out, write_all};
 pub use status::{DONE, FAILED, REFUSED, USAGE};
 pub use texts::text;
-pub use verdict::{Verdict, Verdicts, judge};
+pub use verdict::{Verdict, Verdicts, are_accepted, judge};
 pub use verdict_lines::verdict_line;

@@ -1,4 +1,4 @@
-ghost use Rattle.std.specs.Prelude.{◌≡◌, ◌+◌, ◌≤◌, ◌++◌, length, codes, decimal};
+ghost use Rattle.std.specs.Prelude.{◌≡◌, ◌+◌, ◌≤◌, ◌++◌, length, codes, decimal, option_map};
 ghost use Rattle.arrayvec.specs.ArrayString.{array_string_len};
 ghost use Rattle.scx_policies.specs.Policies.{callback_name as name_of};
 ghost use Rattle.scx_commands.specs.VerdictLines.{verdict_line, line_of, verdict_lines};
@@ -7,7 +7,7 @@ use crate::lines::{Line, callback_line, short_name};
 use crate::verdict::{Verdict, Verdicts};
 use arrayvec::ArrayString;
 use itoa::Buffer;
-use scx_isa::Callback;
+use scx_isa::{CALLBACKS, Callback};
 
 /// How many bytes the lines of all callbacks take at most, and some more.
 const LINES_CAPACITY: usize = 1024;
@@ -16,28 +16,25 @@ const LINES_CAPACITY: usize = 1024;
 pub(crate) type Lines = ArrayString<LINES_CAPACITY>;
 
 /// The lines of all verdicts, in the order of callbacks.
-pub(crate) fn lines_of(verdicts: Verdicts) -> Lines
-    ensures { result.bytes ≡ verdict_lines verdicts }
+pub(crate) fn lines_of(verdicts: &Verdicts) -> Lines
+    ensures { result.bytes ≡ verdict_lines verdicts.now }
 {
     let mut lines = Lines::new();
-    push_line(&mut lines, Callback::Init, verdicts.init);
-    push_line(&mut lines, Callback::Enable, verdicts.enable);
-    push_line(&mut lines, Callback::SelectCpu, verdicts.select_cpu);
-    push_line(&mut lines, Callback::Enqueue, verdicts.enqueue);
-    push_line(&mut lines, Callback::Dispatch, verdicts.dispatch);
-    push_line(&mut lines, Callback::Running, verdicts.running);
-    push_line(&mut lines, Callback::Stopping, verdicts.stopping);
+    for callback in CALLBACKS {
+        push_line(&mut lines, callback, verdicts.get(callback));
+    }
     lines
 }
 
 /// Appends the line of a callback, if it has a verdict.
-fn push_line(lines: &mut Lines, callback: Callback, verdict: Option<Verdict>)
+fn push_line(lines: &mut Lines, callback: Callback, verdict: Option<&Verdict>)
     requires { array_string_len lines.old ≤ 896 }
-    ensures bytes { lines.new.bytes ≡ lines.old.bytes ++ line_of callback verdict }
+    ensures bytes { lines.new.bytes
+        ≡ lines.old.bytes ++ line_of callback (option_map (λ v. v.now) verdict.entry) }
     ensures room { array_string_len lines.new ≤ array_string_len lines.old + 128 }
 {
     if let Some(verdict) = verdict {
-        lines.push_str(verdict_line(callback, verdict).as_str());
+        lines.push_str(verdict_line(callback, *verdict).as_str());
     }
 }
 
