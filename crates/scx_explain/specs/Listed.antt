@@ -2,10 +2,10 @@
 use Rattle.std.specs.Prelude.{◌≡◌, ℕ, List, [], ◌∷◌, ◌++◌, codes, Option, Some, None}
 use Rattle.std.specs.Io.KnownBytes.{Appends}
 use Rattle.scx_semantics.specs.declared.callbacks.Callback.{Callback}
-use Rattle.scx_semantics.specs.declared.callbacks.Callback.TheVariants as callback
+use Rattle.scx_semantics.specs.Callbacks.{callbacks, at}
 use Rattle.scx_commands.specs.VerdictLines.{verdict_line}
 use Rattle.scx_commands.specs.declared.verdict.Verdict.{Verdict}
-use Rattle.scx_commands.specs.declared.verdict.Verdicts.{Verdicts}
+use Rattle.scx_commands.specs.Verdicts.{Verdicts}
 
 -- known bytes grow by some bytes
 abbrev pub Grows : Option (List ℕ) → Option (List ℕ) → Type 0
@@ -16,16 +16,14 @@ abbrev pub line_on : Callback → Option Verdict → List (List ℕ)
 line_on b None = []
 line_on b (Some verdict) = verdict_line b verdict ∷ []
 
+-- the lines that `verify` writes of these callbacks, one after another
+abbrev pub first_lines_of : Verdicts → List Callback → List (List ℕ)
+first_lines_of v [] = []
+first_lines_of v (b ∷ bs) = line_on b (at v b) ++ first_lines_of v bs
+
 -- the lines that `verify` writes, in the order of callbacks
 abbrev pub first_lines : Verdicts → List (List ℕ)
-first_lines v =
-    line_on callback.Init v.init
-    ++ line_on callback.Enable v.enable
-    ++ line_on callback.SelectCpu v.select_cpu
-    ++ line_on callback.Enqueue v.enqueue
-    ++ line_on callback.Dispatch v.dispatch
-    ++ line_on callback.Running v.running
-    ++ line_on callback.Stopping v.stopping
+first_lines v = first_lines_of v callbacks
 
 -- a text of programs with these first lines: each behind an empty line, and with a listing below its first
 abbrev pub IsListedBehind : List (List ℕ) → List ℕ → Type 0

@@ -1,7 +1,7 @@
 use crate::words::FieldName;
 use scx_abs::Kind;
 use scx_explanations::{BadAccess, BadCall, BadField, BadFlow, BadValue, Origin, Reason};
-use scx_isa::{Callback, Field, Helper, Size};
+use scx_isa::{CALLBACKS, Field, Helper, Size};
 use scx_policies::callback_name;
 use std::fmt;
 
@@ -124,15 +124,7 @@ fn write_callbacks<W: fmt::Write>(f: &mut fmt::Formatter<W>, number: i32) -> fmt
         return Ok(());
     };
     let mut before = "";
-    for callback in [
-        Callback::Init,
-        Callback::Enable,
-        Callback::SelectCpu,
-        Callback::Enqueue,
-        Callback::Dispatch,
-        Callback::Running,
-        Callback::Stopping,
-    ] {
+    for callback in CALLBACKS {
         if helper.is_allowed(callback) {
             let name = callback_name(callback);
             write!(f, "{before}{name}")?;

@@ -11,7 +11,7 @@ ghost use Rattle.scx_explain.specs.Listed.{line_on, first_lines};
 use crate::writing::room_for_line;
 use scx_commands::{Refusal, Verdict, Verdicts, judge};
 use scx_explanations::{Explanation, Jumps, Listing, explanation_of};
-use scx_isa::{Callback, Program};
+use scx_isa::{Callback, PerCallback, Program};
 use scx_maps::MapDefs;
 use scx_policies::PolicyText;
 use scx_safety::Context;
@@ -79,7 +79,7 @@ fn explain_programs(
         ≡ map first_line programs.old.items ++ first_lines verdicts) }
     ensures memory { IfErr result (λ refusal. refusal ≡ NoMemory) }
 {
-    Ok(Verdicts {
+    Ok(PerCallback {
         init: explain_callback(alloc, policy, Callback::Init, programs)?,
         enable: explain_callback(alloc, policy, Callback::Enable, programs)?,
         select_cpu: explain_callback(alloc, policy, Callback::SelectCpu, programs)?,

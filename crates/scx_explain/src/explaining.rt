@@ -4,15 +4,14 @@ ghost use Rattle.scx_output.specs.Output.{HasFailed};
 ghost use Rattle.scx_commands.specs.declared.file.TheConstants.{FILE_LIMIT};
 ghost use Rattle.scx_commands.specs.Outcome.{IfRefused, IsRefused};
 ghost use Rattle.scx_commands.specs.Text.{IsText};
-ghost use Rattle.scx_commands.specs.declared.verdict.Verdicts.{Verdicts};
-ghost use Rattle.scx_commands.specs.Verdicts.{are_accepted};
+ghost use Rattle.scx_commands.specs.Verdicts.{Verdicts, are_accepted};
 ghost use Rattle.scx_commands.specs.Check.{AreVerdicts, IsCheckCause};
 ghost use Rattle.scx_explain.specs.Explained.{ArePrograms, first_line};
 ghost use Rattle.scx_explain.specs.Listed.{IsListed, first_lines};
 
 use crate::explained::{ExplainedPolicy, explain_policy};
 use crate::writing::write_programs;
-use scx_commands::{Fault, Refusal, text};
+use scx_commands::{Fault, Refusal, are_accepted, text};
 use scx_output::Out;
 use scx_policies::read_policy;
 use std::alloc::Global;
@@ -76,5 +75,5 @@ fn write_explained<W: Out>(policy: &mut ExplainedPolicy, out: &mut W) -> Result<
         line,
     } = policy;
     write_programs(programs.as_slice(), line, out)?;
-    Ok(verdicts.are_accepted())
+    Ok(are_accepted(verdicts))
 }
