@@ -41,7 +41,7 @@ at_line n (Err e) = Err (e, n)
 abbrev pub with_label : FirstPassState → List ℕ → Result FirstPassState AsmFault
 with_label p l =
     if is_some (find l p.labels) then Err TwiceLabel
-    else Ok (record { slots = p.slots; labels = p.labels ++ (l, p.slots) ∷ []; unresolved = p.unresolved })
+    else Ok (record p { labels = p.labels ++ (l, p.slots) ∷ [] })
 
 -- the first pass with a line's instruction more; a fault if a number doesn't fit or no slot is left
 abbrev pub with_unresolved : ℕ → FirstPassState → ItemValue → Result FirstPassState AsmFault

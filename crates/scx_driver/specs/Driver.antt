@@ -28,7 +28,7 @@ is_empty (x ∷ xs) = false
 
 -- the same driver, with these events of the block at hand still to come
 abbrev pub with_pending : DriverState → List Event → DriverState
-with_pending d es = record { plan = d.plan; pending = es; blocks = d.blocks; memory = d.memory }
+with_pending d es = record d { pending = es }
 
 -- the next block begins
 abbrev pub begun_with : Plan → List Event → List Block → Memory → SimState → DriverState

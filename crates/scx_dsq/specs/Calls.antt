@@ -23,7 +23,7 @@ create_refusal s id =
 
 -- the state with another queue, the last of the ids
 abbrev pub with_queue : QueueState → ℕ → QueueState
-with_queue s id = record { room = s.room; ids = s.ids ++ id ∷ []; entries = s.entries; pushes = s.pushes }
+with_queue s id = record s { ids = s.ids ++ id ∷ [] }
 
 -- the state after the call that creates a queue; as it was where that is refused
 abbrev pub created : QueueState → ℕ → QueueState
@@ -50,7 +50,7 @@ next_entry s id rank = record { queue = id; rank = rank; stamp = s.pushes }
 -- the task waits by the next entry, and all others as they did
 abbrev pub with_task : QueueState → ℕ → ℕ → Rank → QueueState
 with_task s id t rank =
-    record { room = s.room; ids = s.ids; entries = slice_set s.entries t (Some (next_entry s id rank)); pushes = s.pushes + 1 }
+    record s { entries = slice_set s.entries t (Some (next_entry s id rank)); pushes = s.pushes + 1 }
 
 -- the state after the push of a task; as it was where that is refused
 abbrev pub pushed : QueueState → ℕ → ℕ → Rank → QueueState
@@ -60,7 +60,7 @@ pushed s id t rank = if is_none (push_refusal s id t rank) then with_task s id t
 
 -- the task waits nowhere, and all others as they did
 abbrev pub without_task : QueueState → ℕ → QueueState
-without_task s t = record { room = s.room; ids = s.ids; entries = slice_set s.entries t None; pushes = s.pushes }
+without_task s t = record s { entries = slice_set s.entries t None }
 
 -- the state after the removal of a task; as it was where the task waits nowhere
 abbrev pub removed : QueueState → ℕ → QueueState

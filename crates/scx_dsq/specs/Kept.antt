@@ -92,7 +92,7 @@ pub record CanAppend (links : List Link) (q : Queue) (t : ℕ) : Type 0 where
 
 -- the queue with that task at its end
 abbrev pub appended : Queue → ℕ → Queue
-appended q t = record { id = q.id; ends = ends_appended q.ends t; heap = q.heap }
+appended q t = record q { ends = ends_appended q.ends t }
 
 -- the queue's heap has room for the item, whose task has a spot and isn't in it
 pub record CanInsert (spots : List ℕ) (q : Queue) (x : Item) : Type 0 where
@@ -123,7 +123,7 @@ pub record CanUnlink (links : List Link) (q : Queue) (t : ℕ) : Type 0 where
 
 -- the queue without that task, which stood among its links
 abbrev pub unlinked : List Link → Queue → ℕ → Queue
-unlinked links q t = record { id = q.id; ends = ends_unlinked links q.ends t; heap = q.heap }
+unlinked links q t = record q { ends = ends_unlinked links q.ends t }
 
 -- the task is in the queue's heap, where each task has its spot
 pub record CanTakeOut (spots : List ℕ) (q : Queue) (t : ℕ) : Type 0 where

@@ -149,4 +149,4 @@ cycling s o = with_world s (with_cycling s.world o)
 unfoldable pub cycle : State → ℕ → Option ℕ → Bool → Stepped
 cycle s c p ran =
     let r = look (cycling s (Some c)) c p ran in
-    record { state = cycling r.state None; notes = r.notes; calls = r.calls }
+    record r { state = cycling r.state None }

@@ -14,7 +14,7 @@ moves_over s = record { state = with_world s (evicted (length s.world.tasks) s.w
 
 -- the tasks that run stay, with slices that are cut
 abbrev pub cuts : Stepped → Stepped
-cuts r = record { state = with_world r.state (cut (length r.state.world.cpus) r.state.world); notes = r.notes; calls = r.calls }
+cuts r = record r { state = with_world r.state (cut (length r.state.world.cpus) r.state.world) }
 
 -- the cause is noted and the policy put out of force; who waits goes over, and slices are cut
 unfoldable pub eject : State → Eject → Stepped

@@ -30,7 +30,7 @@ pub record Stepped : Type 0 where
 
 -- the same policy and maps, with that world
 abbrev pub with_world : State → WorldState → State
-with_world s w = record { policy = s.policy; maps = s.maps; world = w }
+with_world s w = record s { world = w }
 
 -- the policy was put out of force
 abbrev pub is_ejected : State → Bool
@@ -42,7 +42,7 @@ stays s = record { state = s; notes = []; calls = [] }
 
 -- a step with notes in front
 abbrev pub after : List Note → Stepped → Stepped
-after ns r = record { state = r.state; notes = ns ++ r.notes; calls = r.calls }
+after ns r = record r { notes = ns ++ r.notes }
 
 -- one step after another, the second one from where the first one leads
 abbrev pub joined : Stepped → Stepped → Stepped

@@ -23,7 +23,7 @@ program_of p b = at p.programs b
 
 -- the same without the program of that callback
 abbrev pub without : PolicyFile → Callback → PolicyFile
-without p b = record { shapes = p.shapes; timeout_ms = p.timeout_ms; programs = with_at p.programs b None }
+without p b = record p { programs = with_at p.programs b None }
 
 -- the keys of callbacks
 abbrev pub callback_name : Callback → List ℕ

@@ -211,4 +211,4 @@ pub data Looks (s : State) (c : ℕ) (p : Option ℕ) (ran : Bool) (r : Stepped)
 pub record Cycles (s : State) (c : ℕ) (p : Option ℕ) (ran : Bool) (r : Stepped) : Type 0 where
   pub found : Stepped
   pub looks : Looks (cycling s (Some c)) c p ran found
-  pub all : r ≡ record { state = cycling found.state None; notes = found.notes; calls = found.calls }
+  pub all : r ≡ record found { state = cycling found.state None }

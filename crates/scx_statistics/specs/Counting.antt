@@ -52,20 +52,20 @@ cpu_at cpus c = slice_index_or cpus c unused_cpu
 
 -- a task's figures with one wake more
 abbrev pub with_wake : TaskFigures → TaskFigures
-with_wake x = record { run = x.run; waits = x.waits; wakes = up x.wakes; stopped = x.stopped; parked = x.parked }
+with_wake x = record x { wakes = up x.wakes }
 
 -- a task's figures with one stop more although it had work to do
 abbrev pub with_stop : TaskFigures → TaskFigures
-with_stop x = record { run = x.run; waits = x.waits; wakes = x.wakes; stopped = up x.stopped; parked = x.parked }
+with_stop x = record x { stopped = up x.stopped }
 
 -- a task's figures with so many milliseconds that it ran, in place of those before
 abbrev pub with_run : ℕ → TaskFigures → TaskFigures
-with_run ms x = record { run = ms; waits = x.waits; wakes = x.wakes; stopped = x.stopped; parked = x.parked }
+with_run ms x = record x { run = ms }
 
 -- a task's figures with a pause of that kind more: one more wait, or more parked milliseconds
 abbrev pub with_pause_of : PauseKind → Pause → TaskFigures → TaskFigures
-with_pause_of kind.Wait p x = record { run = x.run; waits = waited p x.waits; wakes = x.wakes; stopped = x.stopped; parked = x.parked }
-with_pause_of kind.Parked p x = record { run = x.run; waits = x.waits; wakes = x.wakes; stopped = x.stopped; parked = up_by (p.until - p.since) x.parked }
+with_pause_of kind.Wait p x = record x { waits = waited p x.waits }
+with_pause_of kind.Parked p x = record x { parked = up_by (p.until - p.since) x.parked }
 
 -- a task's figures with one pause more, a wait or parked as the pause says
 abbrev pub with_pause : Pause → TaskFigures → TaskFigures
@@ -127,8 +127,8 @@ tasks_counted (Fault f) ds tasks = tasks
 
 -- a processor's figures with one tick more: busy where it ran a task before it, or else idle
 abbrev pub with_tick : Bool → CpuFigures → CpuFigures
-with_tick true x = record { busy = up x.busy; idle = x.idle; changes = x.changes; last = x.last }
-with_tick false x = record { busy = x.busy; idle = up x.idle; changes = x.changes; last = x.last }
+with_tick true x = record x { busy = up x.busy }
+with_tick false x = record x { idle = up x.idle }
 
 -- one tick more of the processor of that number; where there is none, nothing changes
 abbrev pub ticked : List CpuFigures → ℕ → Bool → List CpuFigures
@@ -141,7 +141,7 @@ changes_after (Some last) t n = if last == t then n else up n
 
 -- a processor's figures as that task begins to run on it
 abbrev pub with_begin : ℕ → CpuFigures → CpuFigures
-with_begin t x = record { busy = x.busy; idle = x.idle; changes = changes_after x.last t x.changes; last = Some t }
+with_begin t x = record x { changes = changes_after x.last t x.changes; last = Some t }
 
 -- that task begins to run on the processor of that number; where there is none, nothing changes
 abbrev pub begun_on : List CpuFigures → ℕ → ℕ → List CpuFigures
@@ -176,7 +176,7 @@ noted clock what k = counted what (pause_counted clock what k)
 
 -- a tick is of a processor that runs a task, or none, before it
 abbrev pub expected : SimState → Event → Counts → Counts
-expected s (event.Tick c) k = record { tasks = k.tasks; cpus = ticked k.cpus c (is_some (running s.state.world c)); doing = k.doing }
+expected s (event.Tick c) k = record k { cpus = ticked k.cpus c (is_some (running s.state.world c)) }
 expected s (event.Wake t) k = k
 expected s (event.Sleep t) k = k
 expected s event.Clock k = k
@@ -190,4 +190,4 @@ ended_below (suc t) w ds tasks =
 
 -- what is counted once the run has ended in that world
 abbrev pub ended : WorldState → Counts → Counts
-ended w k = record { tasks = ended_below (length w.tasks) w k.doing k.tasks; cpus = k.cpus; doing = k.doing }
+ended w k = record k { tasks = ended_below (length w.tasks) w k.doing k.tasks }

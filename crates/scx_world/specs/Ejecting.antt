@@ -48,7 +48,7 @@ charged w t = with_task w t (with_builtin (task_at w t) (capped ((task_at w t).b
 
 -- what the callback at hand wanted is forgotten
 abbrev pub dropped : Call → Call
-dropped c = record { callback = c.callback; task = c.task; cpu = c.cpu; insert = None; has_moved = false; fault = c.fault }
+dropped c = record c { insert = None; has_moved = false }
 
 -- the policy is out of force, for that cause
 abbrev pub put_out : WorldState → Eject → WorldState

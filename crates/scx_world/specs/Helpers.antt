@@ -69,7 +69,7 @@ first_fault (Some first) f = Some first
 
 -- the callback at hand has that fault, unless it had one before; nothing else is changed
 abbrev pub faulted : WorldState → Fault → WorldState
-faulted w f = with_call w (record { callback = w.call.callback; task = w.call.task; cpu = w.call.cpu; insert = w.call.insert; has_moved = w.call.has_moved; fault = first_fault w.call.fault f })
+faulted w f = with_call w (record w.call { fault = first_fault w.call.fault f })
 
 -- what a call answers that only does something: -22 where it has a fault, else 0
 abbrev pub invalid_if : Option Fault → ℕ
@@ -165,11 +165,11 @@ insert_fault w t i flags =
 
 -- the insert is kept until the callback ends
 abbrev pub with_insert : WorldState → Insert → WorldState
-with_insert w i = with_call w (record { callback = w.call.callback; task = w.call.task; cpu = w.call.cpu; insert = Some i; has_moved = w.call.has_moved; fault = w.call.fault })
+with_insert w i = with_call w (record w.call { insert = Some i })
 
 -- the callback brought a task to a queue
 abbrev pub with_move : WorldState → WorldState
-with_move w = with_call w (record { callback = w.call.callback; task = w.call.task; cpu = w.call.cpu; insert = w.call.insert; has_moved = true; fault = w.call.fault })
+with_move w = with_call w (record w.call { has_moved = true })
 
 -- a held task goes at once to where the insert wants it
 abbrev pub released : WorldState → Option ℕ → Insert → WorldState

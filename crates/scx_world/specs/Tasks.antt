@@ -17,23 +17,23 @@ use Rattle.scx_world.specs.World.{WorldState, with_clock, with_queues, with_tree
 
 -- the record of a task that waits since that clock, or doesn't wait
 abbrev pub with_since : Task → Option ℕ → Task
-with_since x o = record { since = o; slice = x.slice; vtime = x.vtime; prev_cpu = x.prev_cpu; run_ns = x.run_ns; builtin = x.builtin }
+with_since x o = record x { since = o }
 
 -- the record of a task with that much left of its slice, in nanoseconds
 abbrev pub with_slice : Task → ℕ → Task
-with_slice x n = record { since = x.since; slice = n; vtime = x.vtime; prev_cpu = x.prev_cpu; run_ns = x.run_ns; builtin = x.builtin }
+with_slice x n = record x { slice = n }
 
 -- the record of a task with that virtual time, as programs see it
 abbrev pub with_vtime : Task → ℕ → Task
-with_vtime x n = record { since = x.since; slice = x.slice; vtime = n; prev_cpu = x.prev_cpu; run_ns = x.run_ns; builtin = x.builtin }
+with_vtime x n = record x { vtime = n }
 
 -- the record of a task that ran last on that processor
 abbrev pub with_prev_cpu : Task → ℕ → Task
-with_prev_cpu x n = record { since = x.since; slice = x.slice; vtime = x.vtime; prev_cpu = n; run_ns = x.run_ns; builtin = x.builtin }
+with_prev_cpu x n = record x { prev_cpu = n }
 
 -- the record of a task with that virtual time under the built-in scheduler
 abbrev pub with_builtin : Task → ℕ → Task
-with_builtin x n = record { since = x.since; slice = x.slice; vtime = x.vtime; prev_cpu = x.prev_cpu; run_ns = x.run_ns; builtin = n }
+with_builtin x n = record x { builtin = n }
 
 -- ---- waking, sleeping, waiting
 
@@ -74,7 +74,7 @@ resolved c q = if q == local then local_on c else q
 
 -- the same insert, where LOCAL is the local queue of that processor
 abbrev pub for_cpu : ℕ → Insert → Insert
-for_cpu c i = record { queue = resolved c i.queue; slice = i.slice; rank = i.rank }
+for_cpu c i = record i { queue = resolved c i.queue }
 
 -- of a task that a policy took and put nowhere
 abbrev pub to_held : Insert
@@ -157,7 +157,7 @@ counted_down n = if n == 0xffff_ffff_ffff_ffff then n else n - tick_ns
 
 -- the record of a task that has run for one more tick
 abbrev pub ran_a_tick : Task → Task
-ran_a_tick x = record { since = x.since; slice = counted_down x.slice; vtime = x.vtime; prev_cpu = x.prev_cpu; run_ns = x.run_ns + tick_ns; builtin = x.builtin }
+ran_a_tick x = record x { slice = counted_down x.slice; run_ns = x.run_ns + tick_ns }
 
 -- a task has run for one more tick
 abbrev pub ticked : WorldState → ℕ → WorldState

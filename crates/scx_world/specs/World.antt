@@ -31,43 +31,43 @@ pub record WorldState : Type 0 where
 
 -- the world at that clock, in milliseconds
 abbrev pub with_clock : WorldState → ℕ → WorldState
-with_clock w x = record { clock = x; tasks = w.tasks; cpus = w.cpus; cycling = w.cycling; queues = w.queues; tree = w.tree; call = w.call; builtin_clock = w.builtin_clock; ejected = w.ejected; notes = w.notes }
+with_clock w x = record w { clock = x }
 
 -- the world with these records of tasks
 abbrev pub with_tasks : WorldState → List Task → WorldState
-with_tasks w x = record { clock = w.clock; tasks = x; cpus = w.cpus; cycling = w.cycling; queues = w.queues; tree = w.tree; call = w.call; builtin_clock = w.builtin_clock; ejected = w.ejected; notes = w.notes }
+with_tasks w x = record w { tasks = x }
 
 -- the world with these tasks, or none, on its processors
 abbrev pub with_cpus : WorldState → List (Option ℕ) → WorldState
-with_cpus w x = record { clock = w.clock; tasks = w.tasks; cpus = x; cycling = w.cycling; queues = w.queues; tree = w.tree; call = w.call; builtin_clock = w.builtin_clock; ejected = w.ejected; notes = w.notes }
+with_cpus w x = record w { cpus = x }
 
 -- the world with a scheduling cycle under way on that processor, or with none
 abbrev pub with_cycling : WorldState → Option ℕ → WorldState
-with_cycling w x = record { clock = w.clock; tasks = w.tasks; cpus = w.cpus; cycling = x; queues = w.queues; tree = w.tree; call = w.call; builtin_clock = w.builtin_clock; ejected = w.ejected; notes = w.notes }
+with_cycling w x = record w { cycling = x }
 
 -- the world with these dispatch queues
 abbrev pub with_queues : WorldState → QueueState → WorldState
-with_queues w x = record { clock = w.clock; tasks = w.tasks; cpus = w.cpus; cycling = w.cycling; queues = x; tree = w.tree; call = w.call; builtin_clock = w.builtin_clock; ejected = w.ejected; notes = w.notes }
+with_queues w x = record w { queues = x }
 
 -- the world with these groups, weights and active tasks
 abbrev pub with_tree : WorldState → Hierarchy → WorldState
-with_tree w x = record { clock = w.clock; tasks = w.tasks; cpus = w.cpus; cycling = w.cycling; queues = w.queues; tree = x; call = w.call; builtin_clock = w.builtin_clock; ejected = w.ejected; notes = w.notes }
+with_tree w x = record w { tree = x }
 
 -- the world with that callback at hand, and what it did so far
 abbrev pub with_call : WorldState → Call → WorldState
-with_call w x = record { clock = w.clock; tasks = w.tasks; cpus = w.cpus; cycling = w.cycling; queues = w.queues; tree = w.tree; call = x; builtin_clock = w.builtin_clock; ejected = w.ejected; notes = w.notes }
+with_call w x = record w { call = x }
 
 -- the world with these notes of the callback at hand
 abbrev pub with_notes : WorldState → List Note → WorldState
-with_notes w x = record { clock = w.clock; tasks = w.tasks; cpus = w.cpus; cycling = w.cycling; queues = w.queues; tree = w.tree; call = w.call; builtin_clock = w.builtin_clock; ejected = w.ejected; notes = x }
+with_notes w x = record w { notes = x }
 
 -- the world with that virtual time of the built-in scheduler
 abbrev pub with_builtin_clock : WorldState → ℕ → WorldState
-with_builtin_clock w x = record { clock = w.clock; tasks = w.tasks; cpus = w.cpus; cycling = w.cycling; queues = w.queues; tree = w.tree; call = w.call; builtin_clock = x; ejected = w.ejected; notes = w.notes }
+with_builtin_clock w x = record w { builtin_clock = x }
 
 -- the world with that ejection of its policy, or with the policy in force
 abbrev pub with_ejected : WorldState → Option Eject → WorldState
-with_ejected w x = record { clock = w.clock; tasks = w.tasks; cpus = w.cpus; cycling = w.cycling; queues = w.queues; tree = w.tree; call = w.call; builtin_clock = w.builtin_clock; ejected = x; notes = w.notes }
+with_ejected w x = record w { ejected = x }
 
 -- ---- tasks and processors
 
