@@ -39,11 +39,7 @@ use Rattle.scx_machine.specs.Filling.{fill}
 use Rattle.scx_machine.specs.Parking.{park, park_front, throttled_front, park_then, park_fronts, clear, in_reach, supply, let_go_one, let_go_from, let_all_go}
 use Rattle.scx_machine.specs.Cycle.{has_local, dispatched, asks_again, tries, stopping, running_on, leave, started_if, start as run_front, rest, swap, swap_or_rest, builtin_dispatch, builtin_fill, builtin_ask, builtin_cycle, start_or_cycle, pick, pick_or_rest, conclude, ask, seek, look, cycling, cycle}
 use Rattle.scx_machine.specs.Start.{blank, init_ending, bad_answer, ok_unless, initialized, enable_ending, has_failed, enable, then_enable, enabled, ok_if, all_enabled, started}
-
--- what both keep, a choice of them keeps
-pub keeps_if : {A : Type 0} (P : A → Type 0) (b : Bool) (x y : A) → P x → P y → P (cond b x y)
-keeps_if P true x y p q = p
-keeps_if P false x y p q = q
+use Rattle.scx_machine.proofs.Unchanged.{keeps_if}
 
 -- the same groups and tasks, of which the same are active
 abbrev pub IsTreeLike : Hierarchy → Hierarchy → Type 0

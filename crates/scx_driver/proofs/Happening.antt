@@ -13,7 +13,8 @@ use Rattle.scx_machine.specs.Callbacks.{acting, call_back, answered_by, task_cpu
 use Rattle.scx_machine.specs.Parking.{park, let_all_go}
 use Rattle.scx_machine.specs.Cycle.{stopping, cycle}
 use Rattle.scx_machine.specs.Events.{target, settled, settle, select, wake, sleep_from_cpu, sleep_from, sleep, throttle, expire, count_down, tick_of, tick, overdue, stalled, clock}
-use Rattle.scx_driver.proofs.Alike.{keeps_if, IsTreeLike, IsLike, like_eject, like_call_back, like_stopping, like_settled, like_park, like_let_all_go, like_cycle}
+use Rattle.scx_machine.proofs.Unchanged.{keeps_if}
+use Rattle.scx_driver.proofs.Alike.{IsTreeLike, IsLike, like_eject, like_call_back, like_stopping, like_settled, like_park, like_let_all_go, like_cycle}
 
 -- a task is active, or not, in both
 tree_set : (h t : Hierarchy) (k : ℕ) (on : Bool) → IsTreeLike h t → IsTreeLike (tree.with_task h k on) (tree.with_task t k on)

@@ -74,3 +74,7 @@ least_behind q (p ∷ paths) = lesser_is_enough p q paths _ (least_behind (lesse
 pub least_is_found : (paths : List (List ℕ)) → IsLeast paths (least_with None paths)
 least_is_found [] = refl
 least_is_found (p ∷ paths) = least_behind p paths
+
+-- it is the least of all of them
+pub four_looks : (ps qs rs ss : List (List ℕ)) → least_with (least_with (least_with (least_with None ps) qs) rs) ss ≡ least_with None (ps ++ qs ++ rs ++ ss)
+four_looks ps qs rs ss = rw (least_with-append None (ps ++ qs ++ rs) ss, least_with-append None (ps ++ qs) rs, least_with-append None ps qs) refl

@@ -34,7 +34,7 @@ use Rattle.scx_machine.specs.Callbacks.{called, call_back, acting, unless_ejecte
 use Rattle.scx_machine.specs.Put.{enters, enters_builtin, comes_in, wanted}
 
 -- what both keep, a choice of them keeps
-keeps_if : {A : Type 0} (P : A → Type 0) (b : Bool) (x y : A) → P x → P y → P (cond b x y)
+pub keeps_if : {A : Type 0} (P : A → Type 0) (b : Bool) (x y : A) → P x → P y → P (cond b x y)
 keeps_if P true x y p q = p
 keeps_if P false x y p q = q
 

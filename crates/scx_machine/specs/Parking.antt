@@ -1,6 +1,6 @@
 -- Tasks whose groups have used what they may are parked: they go to a queue of the machine's own, until a
 -- period begins (`cpu.max` of Linux Documentation/admin-guide/cgroup-v2.rst).
-use Rattle.std.specs.Prelude.{ℕ, zero, suc, ◌+◌, [], ◌∷◌, if◌then◌else◌, Option, Some, None}
+use Rattle.std.specs.Prelude.{ℕ, zero, suc, ◌+◌, [], ◌∷◌, if◌then◌else◌, Option, Some, None, ◌≡◌, false}
 use Rattle.scx_dsq.specs.Queues.{front_of, len_of, behind_of}
 use Rattle.scx_world.specs.declared.notes.What.TheVariants as note
 use Rattle.scx_world.specs.Ids.{global, parked, local_on}
@@ -74,3 +74,7 @@ let_go_from (suc n) s (Some t) =
 -- all who may run again
 unfoldable pub let_all_go : State → Stepped
 let_all_go s = let_go_from (len_of s.world.queues parked) s (front_of s.world.queues parked)
+
+-- the front of that queue, if there is one, may run
+abbrev pub FrontMayRun : State → ℕ → Type 0
+FrontMayRun s q = (t : ℕ) → front_of s.world.queues q ≡ Some t → is_throttled s.world t ≡ false

@@ -16,10 +16,10 @@ use Rattle.scx_machine.specs.Steps.{State, Stepped, with_world, stays, after, jo
 use Rattle.scx_machine.specs.Callbacks.{call_back, one_task, task_and_number}
 use Rattle.scx_machine.specs.Put.{enters, wanted, enters_builtin, comes_in, put}
 use Rattle.scx_machine.specs.Filling.{move_note, fill}
-use Rattle.scx_machine.specs.Parking.{park, park_front, if_throttled, throttled_front, park_fronts, clear, in_reach, supply}
+use Rattle.scx_machine.specs.Parking.{park, park_front, if_throttled, throttled_front, park_fronts, clear, in_reach, supply, FrontMayRun}
 use Rattle.scx_sched.proofs.Supplying.{park_fronts_from, clear_from, empty_no_front, throttled_is, front_is_free, len_park_front, reach_fill, reach_park_front}
 use Rattle.scx_machine.specs.Cycle.{dispatched, tries, stopping, running_on, leave, started_if, start, rest, swap, swap_or_rest, builtin_dispatch, builtin_fill, builtin_ask, builtin_cycle, start_or_cycle, pick, pick_or_rest, conclude, ask, seek, look, cycling, cycle}
-use Rattle.scx_rules.specs.Cycles.{noting, silent, entering, enqueue_called, dispatch_called, gone_off, gone_on, HasStopped, Policy_hears, Is_charged, HasStarted, Policy_learns, Catches_up, Enters, For_builtin, Default, Held, Inserted, Puts, Fills, HasLocal, NoOther, Moves, FrontMayRun, Parks, ParksFronts, NoneLeft, OneMore, Supplies, Supplied, ParkedOne, FillsBuiltin, HasOne, Looked, Dispatches, Asks, Enough, Came, NothingMoved, Again, Leaves, Nobody, Stops, Starts, Empty, Front, Rests, Keeps, Idles, WasIdle, Swaps, SwapsOrRests, Swapped, Kept, CyclesBuiltin, Picks, Runs_front, Emptied, Ends, Anew, Picked, Rested, Seeks, Filled, Asked, Looks, Of_policy, Of_builtin, Cycles}
+use Rattle.scx_rules.specs.Cycles.{noting, silent, entering, enqueue_called, dispatch_called, gone_off, gone_on, HasStopped, Policy_hears, Is_charged, HasStarted, Policy_learns, Catches_up, Enters, For_builtin, Default, Held, Inserted, Puts, Fills, HasLocal, NoOther, Moves, Parks, ParksFronts, NoneLeft, OneMore, Supplies, Supplied, ParkedOne, FillsBuiltin, HasOne, Looked, Dispatches, Asks, Enough, Came, NothingMoved, Again, Leaves, Nobody, Stops, Starts, Empty, Front, Rests, Keeps, Idles, WasIdle, Swaps, SwapsOrRests, Swapped, Kept, CyclesBuiltin, Picks, Runs_front, Emptied, Ends, Anew, Picked, Rested, Seeks, Filled, Asked, Looks, Of_policy, Of_builtin, Cycles}
 
 -- ---- put
 

@@ -18,6 +18,7 @@ use Rattle.scx_world.specs.Ejecting.{put_builtin, overtaken, charged}
 use Rattle.scx_machine.specs.Steps.{State, Stepped, with_world, stays, after, joined}
 use Rattle.scx_machine.specs.Callbacks.{call_back, one_task, task_and_number, cpu_and_task}
 use Rattle.scx_machine.specs.Cycle.{cycling}
+use Rattle.scx_machine.specs.Parking.{FrontMayRun}
 
 -- to that world, with one note of it
 abbrev pub noting : State → WorldState → What → Stepped
@@ -86,10 +87,6 @@ pub data Fills (s : State) (q c : ℕ) (r : Stepped) : Type 0 where
       → r ≡ noting s (with_queues s.world (pushed (popped s.world.queues q) (local_on c) t Fifo)) (note.Move t c) → Fills s q c r
 
 -- ---- supply
-
--- the front of that queue, if there is one, may run
-abbrev pub FrontMayRun : State → ℕ → Type 0
-FrontMayRun s q = (t : ℕ) → front_of s.world.queues q ≡ Some t → is_throttled s.world t ≡ false
 
 -- a task that is at hand is parked
 abbrev pub parking : State → ℕ → Stepped

@@ -15,7 +15,7 @@ use Rattle.scx_world.specs.Ids.{policy_end}
 use Rattle.scx_world.specs.World.{WorldState, with_queues}
 use Rattle.scx_world.specs.Tasks.{for_cpu}
 use Rattle.scx_world.specs.Helpers.{is_there, can_create, faulted, is_dispatch, insert_fault, with_insert, released, inserted, asked, asked_by_vtime, moved, given_number, given_task, helper_after, world_functions}
-use Rattle.scx_sched.proofs.Entering.{keeps_if}
+use Rattle.scx_machine.proofs.Unchanged.{keeps_if}
 
 -- from the first world to the second, with a callback at hand that isn't dispatch
 pub record IsCalm (v w : WorldState) : Type 0 where

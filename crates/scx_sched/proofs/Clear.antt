@@ -19,10 +19,11 @@ use Rattle.scx_world.specs.World as world
 use Rattle.scx_dsq.proofs.Facts.{front_is_known}
 use Rattle.scx_world.specs.Tasks.{local_len, with_builtin, with_slice, given, entered}
 use Rattle.scx_world.specs.Ejecting.{raised, put_builtin}
+use Rattle.scx_machine.proofs.Unchanged.{keeps_if}
 use Rattle.scx_sched.specs.Once.{IsSound, sort_of, fits_queue, fits_sort}
 use Rattle.scx_sched.specs.Kept.{IsWanted}
 use Rattle.scx_sched.specs.Over.{GoesOver}
-use Rattle.scx_sched.proofs.Entering.{keeps_if, low_or}
+use Rattle.scx_sched.proofs.Entering.{low_or}
 use Rattle.scx_world.proofs.Fronts.{front_in}
 use Rattle.scx_sched.proofs.Sound.{wanted_open}
 use Rattle.scx_sched.proofs.Firsts.{no_front_is_empty}

@@ -16,9 +16,9 @@ use Rattle.scx_machine.specs.Callbacks.{call_back, cpu_and_task}
 use Rattle.scx_machine.specs.Filling.{fill}
 use Rattle.scx_machine.specs.Parking.{park, park_front, throttled_front, park_fronts, clear, in_reach, supply}
 use Rattle.scx_machine.specs.Cycle.{has_local, dispatched, asks_again, tries, stopping, leave, started_if, start as run_front, rest, swap, swap_or_rest, builtin_dispatch, builtin_fill, builtin_ask, builtin_cycle, start_or_cycle, pick, pick_or_rest, conclude, ask, seek, look, cycling, cycle}
+use Rattle.scx_machine.proofs.Unchanged.{keeps_if}
 use Rattle.scx_sched.specs.Kept.{IsKeptBySteps}
 use Rattle.scx_sched.specs.Once.{IsSound}
-use Rattle.scx_sched.proofs.Entering.{keeps_if}
 use Rattle.scx_sched.proofs.Clear.{IsClear, MayStart, tree_used_up, clear_of}
 use Rattle.scx_sched.proofs.Ready.{ready_leave}
 use Rattle.scx_sched.proofs.Supplying.{park_fronts_from, clear_from, throttled_is, supply_clears, builtin_clears}

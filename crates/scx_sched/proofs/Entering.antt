@@ -18,12 +18,8 @@ use Rattle.scx_world.specs.declared.call.Insert.{Insert}
 use Rattle.scx_world.specs.Ids.{global, held, builtin, local_on, policy_end, parked}
 use Rattle.scx_world.specs.World.{WorldState, is_runnable}
 use Rattle.scx_world.specs.Tasks.{resolved}
+use Rattle.scx_machine.proofs.Unchanged.{keeps_if}
 use Rattle.scx_sched.specs.Once.{IsOnce, HasQueues, sort_of, fits_queue, fits_sort, IsSorted, IsAlike, IsOpen, GoesSomewhere}
-
--- what both keep, a choice of them keeps
-pub keeps_if : {A : Type 0} (P : A → Type 0) (b : Bool) (x y : A) → P x → P y → P (cond b x y)
-keeps_if P true x y p q = p
-keeps_if P false x y p q = q
 
 -- ---- where a task may enter
 

@@ -23,12 +23,12 @@ use Rattle.scx_world.specs.declared.faults.Fault.TheVariants.{NoSuchQueue, NoSuc
 use Rattle.scx_world.specs.World.{WorldState, with_queues, with_task, task_at, waits}
 use Rattle.scx_world.specs.Tasks.{given_slice, given_vtime, given, gone, entered, for_cpu, brought, fill_front, renewed}
 use Rattle.scx_world.specs.Helpers.{is_there, can_create, faulted, is_dispatch, insert_fault, with_insert, released, inserted, asked, asked_by_vtime, can_move, moved, given_number, given_task, helper_after, stored_in, world_functions}
+use Rattle.scx_machine.proofs.Unchanged.{keeps_if}
 use Rattle.scx_sched.specs.Once.{IsSound}
 use Rattle.scx_world.specs.Ejecting.{put_builtin, used, charged}
 use Rattle.scx_sched.specs.Ranges.{IsFresh, IsFine}
 use Rattle.scx_sched.specs.Kept.{IsKeptBySteps}
 use Rattle.scx_sched.specs.Usages.{AreWithin}
-use Rattle.scx_sched.proofs.Entering.{keeps_if}
 use Rattle.scx_sched.proofs.Bounded.{within_begun, within_ended}
 use Rattle.scx_sched.proofs.Parking.{sound_put_parked, sound_taken}
 use Rattle.scx_sched.proofs.Sound.{sound_query, sound_begun, sound_quiet, sound_cycling, sound_entered, sound_filled, sound_stopped, sound_started, sound_kept, sound_asleep, sound_put_out, sound_evict, sound_cut, sound_put_builtin, sound_overtaken, sound_charged}

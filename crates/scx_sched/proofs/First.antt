@@ -23,10 +23,10 @@ use Rattle.scx_machine.specs.Policy.{PolicyState}
 use Rattle.scx_machine.specs.Steps.{State}
 use Rattle.scx_machine.specs.Callbacks.{called, acting}
 use Rattle.scx_machine.specs.Start.{is_bad_shape, started}
+use Rattle.scx_machine.proofs.Unchanged.{keeps_if}
 use Rattle.scx_sched.specs.Once.{runs, HasQueues}
 use Rattle.scx_sched.specs.Ranges.{IsFine}
 use Rattle.scx_sched.specs.Kept.{IsKeptBySteps}
-use Rattle.scx_sched.proofs.Entering.{keeps_if}
 use Rattle.scx_sched.proofs.Unchanged.{same_called}
 use Rattle.scx_sched.proofs.Begins.{left_by, keeps_started}
 use Rattle.scx_sched.proofs.Skeleton.{keeps_called}

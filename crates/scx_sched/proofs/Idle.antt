@@ -24,10 +24,11 @@ use Rattle.scx_machine.specs.declared.events.Event.{Event}
 use Rattle.scx_machine.specs.declared.events.Event.TheVariants.{Wake, Sleep, Tick, Clock, SetWeight}
 use Rattle.scx_machine.specs.declared.events.Refused.TheVariants.{UnknownCpu}
 use Rattle.scx_machine.specs.Events.{throttle, expire, count_down, tick_of, tick, happened}
+use Rattle.scx_machine.proofs.Unchanged.{keeps_if}
 use Rattle.scx_sched.specs.Ranges.{IsFine}
 use Rattle.scx_sched.specs.Left.{LeavesNothing, LeavesNothingIdle}
 use Rattle.scx_sched.specs.Sim.{refusal, IsValid}
-use Rattle.scx_sched.proofs.Entering.{keeps_if, own_open, is_accepted, sorted_popped, stay_without, local_sort}
+use Rattle.scx_sched.proofs.Entering.{own_open, is_accepted, sorted_popped, stay_without, local_sort}
 use Rattle.scx_sched.proofs.Sound.{left_place}
 use Rattle.scx_sched.proofs.Blaming.{honest_supply, honest_builtin_fill}
 use Rattle.scx_sched.proofs.Fronts.{front_same}

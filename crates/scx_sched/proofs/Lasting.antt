@@ -34,7 +34,7 @@ use Rattle.scx_machine.specs.Steps.{State, is_ejected}
 use Rattle.scx_machine.specs.Ejecting.{moves_over, eject, ejected_for}
 use Rattle.scx_machine.specs.Callbacks.{called, acting, ended, fault_of, call_back, task_and_number}
 use Rattle.scx_machine.specs.Put.{enters, wanted, enters_builtin, comes_in, put}
-use Rattle.scx_sched.proofs.Entering.{keeps_if}
+use Rattle.scx_machine.proofs.Unchanged.{keeps_if}
 use Rattle.scx_sched.proofs.Waiting.{since_set, stored_since, given_since}
 
 -- from the first world to the second: the clock, how many tasks there are, and how long each has waited

@@ -17,7 +17,7 @@ use Rattle.scx_machine.specs.Ejecting.{ejected_for}
 use Rattle.scx_machine.specs.Callbacks.{called, calls_of, ended, fault_of, unless_ejected, acting, call_back, task_and_number}
 use Rattle.scx_machine.specs.Put.{enters, wanted, enters_builtin, comes_in, put}
 use Rattle.scx_machine.specs.Cycle.{stopping, leave}
-use Rattle.scx_sched.proofs.Entering.{keeps_if}
+use Rattle.scx_machine.proofs.Unchanged.{keeps_if}
 use Rattle.scx_sched.proofs.Lengths.{len_pushed}
 
 -- ---- no callback runs

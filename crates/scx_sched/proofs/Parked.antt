@@ -26,10 +26,10 @@ use Rattle.scx_world.specs.World.{WorldState, with_queues, with_tree, waits_in, 
 use Rattle.scx_world.specs.Tasks.{gone, entered, for_cpu, brought, put_parked}
 use Rattle.scx_world.specs.Helpers.{is_there, can_create, faulted, is_dispatch, is_held, insert_fault, with_insert, released, inserted, asked, asked_by_vtime, moved, given_number, given_task, helper_after, world_functions}
 use Rattle.scx_world.specs.Ejecting.{raised, put_builtin, evict}
+use Rattle.scx_machine.proofs.Unchanged.{keeps_if}
 use Rattle.scx_sched.specs.Once.{IsSound, GoesSomewhere}
 use Rattle.scx_sched.specs.Kept.{IsWanted, ForAny, Nowhere, Inserted}
 use Rattle.scx_sched.specs.Parked.{AreThrottled}
-use Rattle.scx_sched.proofs.Entering.{keeps_if}
 use Rattle.scx_world.proofs.Fronts.{front_in}
 use Rattle.scx_sched.proofs.Waiting.{pushed_other, without_other}
 use Rattle.scx_sched.proofs.Sound.{IsFit, is_fit, fit_apart, held_in_dispatch, said_apart}

@@ -24,8 +24,8 @@ use Rattle.scx_world.specs.declared.call.Insert.{Insert}
 use Rattle.scx_machine.specs.Put.{enters, wanted, enters_builtin, comes_in, put}
 use Rattle.scx_machine.specs.Cycle.{stopping, running_on}
 use Rattle.scx_machine.specs.Events.{settled}
+use Rattle.scx_machine.proofs.Unchanged.{keeps_if}
 use Rattle.scx_sched.specs.Kept.{IsKeptBySteps, IsWanted, ForAny, Nowhere, Inserted}
-use Rattle.scx_sched.proofs.Entering.{keeps_if}
 
 -- the task before, if there is one, is a task that there is
 abbrev pub IsKnown : ℕ → Option ℕ → Type 0

@@ -37,10 +37,11 @@ use Rattle.scx_world.specs.Ejecting.{put_out, raised, put_builtin, evict, cut_ta
 use Rattle.scx_world.specs.World.{WorldState, with_queues, with_tree, with_cycling, with_task, task_at, waits_in, waits, is_this, is_runnable, cpu_of, quiet, begun, noted}
 use Rattle.scx_world.specs.Tasks.{woken, asleep, gone, given_slice, given_vtime, given, entered, resolved, for_cpu, to_held, to_global, brought, fill_front, filled, local_len, stopped, started_at, renewed, kept, ran_a_tick, ticked, later}
 use Rattle.scx_world.specs.Helpers.{is_there, can_create, faulted, is_dispatch, is_held, may_insert_in, may_insert, queue_fault, is_vtime, rank_fault, or_fault, insert_fault, with_insert, with_move, released, inserted, asked, asked_by_vtime, moved, given_number, given_task, helper_after, stored_in, world_functions}
+use Rattle.scx_machine.proofs.Unchanged.{keeps_if}
 use Rattle.scx_sched.specs.Once.{runs, appearances, IsOnce, HasQueues, sort_of, IsSorted, IsAlike, IsOpen, IsSound, GoesSomewhere}
 use Rattle.scx_sched.specs.Kept.{IsWanted, ForAny, Nowhere, Inserted}
 use Rattle.scx_sched.proofs.Waiting.{waiting, waits_there, without_other, removed_other, same_waiting, waiting_pushed, waiting_left, front_waits_here, set_since, one_same, waits_sum, waits_by_sum, since_set, stored_since, given_since, renewed_since, waits_at_hand, waits_asleep, waits_on_cpu}
-use Rattle.scx_sched.proofs.Entering.{keeps_if, nowhere, sorted_pushed, sorted_popped, sorted_removed, stamped_pushed, stamped_popped, stamped_removed, stamped_created, own_open, alike_from, is_accepted, Stay, stay_pushed, stay_without, stay_removed, stay_created, queues_stay, open_without, open_removed, open_created, open_own, open_same, goes_on, local_sort, low_fits}
+use Rattle.scx_sched.proofs.Entering.{nowhere, sorted_pushed, sorted_popped, sorted_removed, stamped_pushed, stamped_popped, stamped_removed, stamped_created, own_open, alike_from, is_accepted, Stay, stay_pushed, stay_without, stay_removed, stay_created, queues_stay, open_without, open_removed, open_created, open_own, open_same, goes_on, local_sort, low_fits}
 
 -- ---- changes of queues, tasks and the callback at hand
 

@@ -15,9 +15,9 @@ use Rattle.scx_world.specs.World.{WorldState, is_throttled}
 use Rattle.scx_world.specs.Tasks.{local_len, brought, put_parked, taken}
 use Rattle.scx_machine.specs.Steps.{State, Stepped, stays, joined}
 use Rattle.scx_machine.specs.Filling.{fill}
-use Rattle.scx_machine.specs.Parking.{park, park_front, if_throttled, throttled_front, park_then, park_fronts, clear, in_reach, supply}
+use Rattle.scx_machine.specs.Parking.{park, park_front, if_throttled, throttled_front, park_then, park_fronts, clear, in_reach, supply, FrontMayRun}
 use Rattle.scx_machine.specs.Cycle.{has_local, builtin_dispatch, builtin_fill}
-use Rattle.scx_sched.proofs.Entering.{keeps_if}
+use Rattle.scx_machine.proofs.Unchanged.{keeps_if}
 use Rattle.scx_world.proofs.Fronts.{front_in}
 use Rattle.scx_sched.proofs.Waiting.{pushed_other}
 use Rattle.scx_sched.proofs.Lengths.{len_set}
@@ -146,10 +146,6 @@ no_front_at : (s : State) (q t : ℕ) → len_of s.world.queues q ≡ 0 → fron
 no_front_at s q t empty e = let bad : None ≡ Some t = sym (empty_no_front s.world.queues q empty) ∙ e in absurd (cc)
 
 -- ---- all that may not run are parked
-
--- the front of that queue, if there is one, may run
-abbrev FrontMayRun : State → ℕ → Type 0
-FrontMayRun s q = (t : ℕ) → front_of s.world.queues q ≡ Some t → is_throttled s.world t ≡ false
 
 -- after as many rounds as tasks are in a queue, its front, if there is one, may run
 pub fronts_parked : (j : ℕ) (s : State) (q : ℕ) → (parked == q) ≡ false → len_of s.world.queues q ≤ j → FrontMayRun (park_fronts j s q).state q

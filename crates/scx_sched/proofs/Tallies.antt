@@ -39,11 +39,12 @@ use Rattle.scx_machine.specs.Start.{is_bad_shape, started}
 use Rattle.scx_machine.specs.Steps.{State}
 use Rattle.scx_machine.specs.Cycle.{cycle}
 use Rattle.scx_machine.specs.Events.{refusal, tick_of, tick, happened}
+use Rattle.scx_machine.proofs.Unchanged.{keeps_if}
 use Rattle.scx_sched.specs.Once.{AreInQueues}
 use Rattle.scx_sched.specs.Kept.{IsKeptBySteps}
 use Rattle.scx_sched.specs.Ranges.{IsFine}
 use Rattle.scx_sched.specs.Decided.{ran_in}
-use Rattle.scx_sched.proofs.Entering.{keeps_if, each_set}
+use Rattle.scx_sched.proofs.Entering.{each_set}
 use Rattle.scx_sched.proofs.Fine.{stored_run, given_run, renewed_run, fine_steps}
 use Rattle.scx_sched.proofs.First.{nowhere, steps_started}
 use Rattle.scx_sched.proofs.Watching.{Both, both_steps}

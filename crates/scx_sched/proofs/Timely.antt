@@ -24,9 +24,9 @@ use Rattle.scx_world.specs.Tasks.{woken, stopped, let_go, ran_a_tick, ticked, gi
 use Rattle.scx_world.specs.Helpers.{is_there, can_create, faulted, is_dispatch, insert_fault, with_insert, released, inserted, asked, asked_by_vtime, can_move, moved, given_number, given_task, helper_after, stored_in, world_functions}
 use Rattle.scx_world.specs.Waits.{first_overdue}
 use Rattle.scx_world.specs.Ejecting.{put_builtin}
+use Rattle.scx_machine.proofs.Unchanged.{keeps_if}
 use Rattle.scx_sched.specs.Kept.{IsKeptBySteps}
 use Rattle.scx_sched.proofs.Waiting.{stored_since, given_since, renewed_since}
-use Rattle.scx_sched.proofs.Entering.{keeps_if}
 
 abbrev pub IsInTime : ℕ → WorldState → Type 0
 IsInTime limit w = w.ejected ≡ None → (t : ℕ) → wait w t ≤ limit

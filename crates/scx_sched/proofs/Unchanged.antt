@@ -28,7 +28,7 @@ use Rattle.scx_world.specs.Helpers.{is_there, can_create, faulted, is_dispatch, 
 use Rattle.scx_machine.specs.Steps.{State}
 use Rattle.scx_machine.specs.Callbacks.{called}
 use Rattle.scx_machine.specs.Ejecting.{moves_over, eject}
-use Rattle.scx_sched.proofs.Entering.{keeps_if}
+use Rattle.scx_machine.proofs.Unchanged.{keeps_if}
 
 -- from the first world to the second
 abbrev pub IsAsBefore : WorldState → WorldState → Type 0

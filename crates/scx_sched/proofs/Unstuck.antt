@@ -35,8 +35,8 @@ use Rattle.scx_machine.specs.Ejecting.{eject}
 use Rattle.scx_machine.specs.Parking.{let_all_go}
 use Rattle.scx_machine.specs.Events.{refusal, overdue, stalled, clock, happened}
 use Rattle.scx_machine.specs.Callbacks.{called, IsAnswered, AreAnswered}
+use Rattle.scx_machine.proofs.Unchanged.{keeps_if}
 use Rattle.scx_sched.specs.Causes.{EndsIn, HasFault, Of_helper, Of_answer, IsNeverStuck}
-use Rattle.scx_sched.proofs.Entering.{keeps_if}
 use Rattle.scx_sched.specs.Decided.{tree_after}
 use Rattle.scx_sched.proofs.Unchanged.{eject_sets}
 use Rattle.scx_sched.proofs.Events.{IsFineNow, IsTaken, Wakes, Sleeps, Ticks, Clocks, Weighs, is_taken}

@@ -18,9 +18,10 @@ use Rattle.scx_world.specs.Ids.{parked}
 use Rattle.scx_world.specs.World.{WorldState, waits_in, with_queues, with_task, task_at, waits, is_this, is_runnable}
 use Rattle.scx_world.specs.Tasks.{given_slice, given_vtime, given, renewed}
 use Rattle.scx_world.specs.Helpers.{stored_in}
+use Rattle.scx_machine.proofs.Unchanged.{keeps_if}
 use Rattle.scx_sched.specs.Waits.{HasWaits}
 use Rattle.scx_sched.specs.Once.{IsOnce}
-use Rattle.scx_sched.proofs.Entering.{keeps_if, one_le, nowhere}
+use Rattle.scx_sched.proofs.Entering.{one_le, nowhere}
 
 -- ---- truth values that are counted
 

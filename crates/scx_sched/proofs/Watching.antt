@@ -14,9 +14,9 @@ use Rattle.scx_machine.specs.Steps.{State, with_world}
 use Rattle.scx_machine.specs.Parking.{let_all_go}
 use Rattle.scx_machine.specs.Ejecting.{eject}
 use Rattle.scx_machine.specs.Events.{refusal, overdue, stalled, clock, happened}
+use Rattle.scx_machine.proofs.Unchanged.{keeps_if}
 use Rattle.scx_sched.specs.Kept.{IsKeptBySteps}
 use Rattle.scx_sched.specs.Ranges.{IsFine}
-use Rattle.scx_sched.proofs.Entering.{keeps_if}
 use Rattle.scx_sched.proofs.Unchanged.{eject_sets}
 use Rattle.scx_sched.proofs.Blaming.{apart, honest_let_all_go}
 use Rattle.scx_sched.proofs.Fine.{fine_steps}

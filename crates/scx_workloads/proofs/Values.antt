@@ -120,10 +120,6 @@ some_is_missing path (v ∷ vs) l = absurd (grind (arith, nat_tests, l))
 
 -- ---- unknown keys
 
--- the least of what four looks at a file found, one after the other
-pub four_looks : (ps qs rs ss : List (List ℕ)) → least_with (least_with (least_with (least_with None ps) qs) rs) ss ≡ least_with None (ps ++ qs ++ rs ++ ss)
-four_looks ps qs rs ss = rw (least_with-append None (ps ++ qs ++ rs) ss, least_with-append None (ps ++ qs) rs, least_with-append None ps qs) refl
-
 -- ---- names
 
 -- a name that is found stands among those before

@@ -1,9 +1,9 @@
 use Rattle.std.proofs.Common.{◌≡◌, [], None, codes, ◌∙◌}
 use Rattle.toml.specs.View.{table_view}
 use Rattle.scx_files.specs.Unknown.{words, least_path, least_with, unknown, unknown_in, unknown_in_each}
+use Rattle.scx_files.proofs.Least.{four_looks}
 use Rattle.scx_policies.specs.Policies.{callback_keys}
 use Rattle.scx_policies.specs.Reading.{unknown_keys, file_keys, map_keys}
-use Rattle.scx_policies.proofs.Keys.{four_looks}
 use Rattle.scx_policies.proofs.reading.check_keys.Goals as goal
 
 pub returns : goal.returns

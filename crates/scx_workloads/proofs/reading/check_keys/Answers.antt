@@ -1,8 +1,8 @@
 use Rattle.std.proofs.Common.{◌≡◌, [], None, codes}
 use Rattle.toml.specs.View.{table_view}
 use Rattle.scx_files.specs.Unknown.{least_path, least_with, unknown, unknown_in_each}
+use Rattle.scx_files.proofs.Least.{four_looks}
 use Rattle.scx_workloads.specs.Reading.{file_keys, group_keys, task_keys, change_keys}
-use Rattle.scx_workloads.proofs.Values.{four_looks}
 use Rattle.scx_workloads.proofs.reading.check_keys.Goals as goal
 
 pub returns : goal.returns
