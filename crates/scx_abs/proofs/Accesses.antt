@@ -16,7 +16,7 @@ use Rattle.scx_semantics.specs.declared.values.Pointer.TheVariants as pointer
 use Rattle.scx_semantics.specs.declared.values.StackByte.{StackByte}
 use Rattle.scx_semantics.specs.declared.registers.Register.{Register}
 use Rattle.scx_semantics.specs.Registers.{number}
-use Rattle.scx_semantics.specs.Arithmetic.{shifted}
+use Rattle.scx_semantics.specs.Arithmetic.{at_distance}
 use Rattle.scx_semantics.specs.Memory.{Stack, stack_size, aligned_within, bytes_at, write, number_bytes, parts, value_in, value_bytes, load, read_as, size_bytes, access_size}
 use Rattle.scx_semantics.specs.HostTables.{field_width, field_offset, found_field, field_at, is_writable}
 use Rattle.scx_semantics.specs.Elements.{Maps, element, number_at, with_element, with_number}
@@ -25,7 +25,7 @@ use Rattle.scx_semantics.specs.Locations.{Location, on_stack, in_element, in_tas
 use Rattle.scx_semantics.specs.Machine.{Machine, with_stack}
 use Rattle.scx_semantics.specs.Effects as effect
 use Rattle.scx_semantics.specs.Effects.{set_register, set_register_by_answer}
-use Rattle.scx_semantics.specs.Meaning.{operand_value, is_plain, loaded, stored}
+use Rattle.scx_semantics.specs.Meaning.{operand_value, is_plain, load_effect, store_effect}
 use Rattle.scx_semantics.proofs.Bytes.{with_number_bytes, with_element_bytes}
 use Rattle.scx_encoding.specs.Spelling.{IsOperand}
 use Rattle.scx_maps.specs.declared.shape.Shape.{Shape}
@@ -47,7 +47,7 @@ use Rattle.scx_abs.specs.declared.states.AbsState.{AbsState}
 use Rattle.scx_abs.specs.declared.memory.Area.{Area}
 use Rattle.scx_abs.specs.declared.memory.Area.TheVariants.{OnStack, InElement, InTask}
 use Rattle.scx_abs.specs.Kinds.{IsProperKind, IsUsable}
-use Rattle.scx_abs.specs.Cells.{kind_of, held_of, marked, all_written, written_in}
+use Rattle.scx_abs.specs.Cells.{kind_of, held_of, with_bytes, all_written, written_in}
 use Rattle.scx_abs.specs.States.{kind_at, cell_at, with_cell, IsProper}
 use Rattle.scx_abs.specs.Stands.{HasElement, Stands, IsByte, CellStands, IsMember}
 use Rattle.scx_semantics.specs.Results.{◌>>=◌}
@@ -79,7 +79,7 @@ stack_found maps n t =
     offset_cases stack_size n t (λ r o. Finds maps n (r >>= λ at. Ok (OnStack at)) (on_stack o)) (λ why o. tt) (λ at inside aligned. (refl, aligned))
 
 element_found : (maps : Maps) (m i size p : ℕ) (s : Size) (r : Range) (k : ℤ) → IsWellFormed r → IsIn p r → HasElement maps m i → length (element maps m i) ≡ size
-    → Finds maps (size_bytes s) (offsets_for size (size_bytes s) r k >>= λ fine. Ok InElement) (in_element m i (aligned_within (length (element maps m i)) (size_bytes s) (shifted p k)))
+    → Finds maps (size_bytes s) (offsets_for size (size_bytes s) r k >>= λ fine. Ok InElement) (in_element m i (aligned_within (length (element maps m i)) (size_bytes s) (at_distance p k)))
 element_found maps m i size p s r k w h there long =
     rw (← long) (offsets_cases (length (element maps m i)) s r k p (λ x o. Finds maps (size_bytes s) (x >>= λ fine. Ok InElement) (in_element m i o)) w h (λ why o. tt) (λ at inside. (there, inside)))
 
@@ -109,12 +109,12 @@ field_found maps n t at = go (field_at n at) refl
 -- the memory that a kind means is where an address of its value points
 pub area_found : (shapes : List Shape) (maps : Maps) (k : Kind) (v : Value) (offset : ℤ) (s : Size) → HasShapes shapes maps → IsProperKind k → Stands maps k v
     → Finds maps (size_bytes s) (area_of shapes k offset (size_bytes s)) (address maps v offset (size_bytes s))
-area_found shapes maps (kind.Stack o) (value.Pointer (pointer.Stack p)) offset s shaped w h = rw h (stack_found maps (size_bytes s) (shifted p offset))
+area_found shapes maps (kind.Stack o) (value.Pointer (pointer.Stack p)) offset s shaped w h = rw h (stack_found maps (size_bytes s) (at_distance p offset))
 area_found shapes maps (kind.Stack o) v offset s shaped w h = absurd h
 area_found shapes maps (Elem m r) (value.Pointer (pointer.Element k i p)) offset s shaped w h =
     rw h.0 (element_found maps k i _ p s r offset w h.1 h.2 (element_sized shapes maps k i shaped h.2))
 area_found shapes maps (Elem m r) v offset s shaped w h = absurd h
-area_found shapes maps Task (value.Pointer (pointer.Task t)) offset s shaped w h = field_found maps (size_bytes s) t (shifted 0 offset)
+area_found shapes maps Task (value.Pointer (pointer.Task t)) offset s shaped w h = field_found maps (size_bytes s) t (at_distance 0 offset)
 area_found shapes maps Task v offset s shaped w h = absurd h
 area_found shapes maps k v offset s shaped w h = tt
 
@@ -137,7 +137,7 @@ loads : (maps : Maps) (cell : Cell) (stack : Stack) (a : Access) (at : ℕ) → 
     → Gives maps (loaded_kind cell a (at % 8)) (load stack a at)
 loads maps (Bytes set) stack a at h fits = go (all_written set (at % 8) (size_bytes (access_size a))) refl
   where
-    go : (b : Bool) → all_written set (at % 8) (size_bytes (access_size a)) ≡ b → Gives maps (if b then Ok (Num (results.loaded a)) else Err UnwrittenStack) (load stack a at)
+    go : (b : Bool) → all_written set (at % 8) (size_bytes (access_size a)) ≡ b → Gives maps (if b then Ok (Num (results.loaded_range a)) else Err UnwrittenStack) (load stack a at)
     go true e =
         let here = bytes_stand maps set stack at (size_bytes (access_size a)) h fits e in
         let read = bytes_read stack at (size_bytes (access_size a)) here in
@@ -151,22 +151,22 @@ loads maps (Pointer k) stack access.DoubleWord at h fits =
 loads maps (Pointer k) stack a at h fits = tt
 
 field_loaded : (shapes : List Shape) (a : AbsState) (m : Machine) (r : ℕ) (access : Access) (t : TaskId) (f : Field) → IsMember shapes a m → field_width f ≡ size_bytes (access_size access)
-    → IsSoundFor shapes (sets a r (kind_in a access (InTask f))) (loaded m r access (location.InTask t f))
+    → IsSoundFor shapes (sets a r (kind_in a access (InTask f))) (load_effect m r access (location.InTask t f))
 field_loaded shapes a m r access t f h wide = go (is_plain access) refl
   where
     go : (b : Bool) → is_plain access ≡ b
-        → IsSoundFor shapes (sets a r (if b then Ok (Num (results.loaded access)) else Err TaskField)) (if b then set_register_by_answer m r (effect.Load t f) else effect.Stuck)
-    go true e = answer_sound shapes a m r (Num (results.loaded access)) (effect.Load t f) h (λ v fits. field_stands m.maps t f access v e wide fits)
+        → IsSoundFor shapes (sets a r (if b then Ok (Num (results.loaded_range access)) else Err TaskField)) (if b then set_register_by_answer m r (effect.Load t f) else effect.Stuck)
+    go true e = answer_sound shapes a m r (Num (results.loaded_range access)) (effect.Load t f) h (λ v fits. field_stands m.maps t f access v e wide fits)
     go false e = refused_sound shapes a r TaskField effect.Stuck
 
 load_in : (shapes : List Shape) (a : AbsState) (m : Machine) (r : ℕ) (access : Access) (area : Area) (to : Location) → IsMember shapes a m
-    → Means m.maps (size_bytes (access_size access)) area to → IsSoundFor shapes (sets a r (kind_in a access area)) (loaded m r access to)
+    → Means m.maps (size_bytes (access_size access)) area to → IsSoundFor shapes (sets a r (kind_in a access area)) (load_effect m r access to)
 load_in shapes a m r access (OnStack at) (location.OnStack to) h g =
     rw (← g.0) (set_sound shapes a m r (loaded_kind (cell_at a (at / 8)) access (at % 8)) (load m.stack access at) h
     (loads m.maps (cell_at a (at / 8)) m.stack access at (h.cells (at / 8)) (fits_cell (access_size access) at g.1)))
 load_in shapes a m r access (OnStack at) to h g = absurd g
 load_in shapes a m r access InElement (location.InElement k i at) h g =
-    set_sound shapes a m r (Ok (Num (results.loaded access))) (Some (value.Number (read_as access (number_at (element m.maps k i) at (size_bytes (access_size access)))))) h
+    set_sound shapes a m r (Ok (Num (results.loaded_range access))) (Some (value.Number (read_as access (number_at (element m.maps k i) at (size_bytes (access_size access)))))) h
     ((loads_are_sound access).kept (number_at (element m.maps k i) at (size_bytes (access_size access))) (element_below (element m.maps k i) at (size_bytes (access_size access)) (h.maps.bytes k i)))
 load_in shapes a m r access InElement to h g = absurd g
 load_in shapes a m r access (InTask f) (location.InTask t e) h g = field_loaded shapes a m r access t e h (ap field_width (sym g.0) ∙ g.1)
@@ -174,16 +174,16 @@ load_in shapes a m r access (InTask f) to h g = absurd g
 
 -- the rule of loads is sound
 pub load_sound : (shapes : List Shape) (a : AbsState) (m : Machine) (access : Access) (d r : Register) (offset : ℤ) → IsProper a → IsMember shapes a m
-    → IsSoundFor shapes (sets a (number d) (load_kind shapes a access r offset)) (loaded m (number d) access (address m.maps (m.registers (number r)) offset (size_bytes (access_size access))))
+    → IsSoundFor shapes (sets a (number d) (load_kind shapes a access r offset)) (load_effect m (number d) access (address m.maps (m.registers (number r)) offset (size_bytes (access_size access))))
 load_sound shapes a m access d r offset p h =
     let n = size_bytes (access_size access) in
     let to = address m.maps (m.registers (number r)) offset n in
     checked m.maps (usable (kind_at a (number r))) (m.registers (number r))
     (λ base. area_of shapes base offset n >>= λ area. kind_in a access area)
-    (λ res. IsSoundFor shapes (sets a (number d) res) (loaded m (number d) access to)) (λ why. refused_sound shapes a (number d) why (loaded m (number d) access to))
+    (λ res. IsSoundFor shapes (sets a (number d) res) (load_effect m (number d) access to)) (λ why. refused_sound shapes a (number d) why (load_effect m (number d) access to))
     (register_allows shapes a m r p h)
     (λ base ub pb hb. area_cases m.maps n (area_of shapes base offset n) to (λ area. kind_in a access area)
-    (λ res. IsSoundFor shapes (sets a (number d) res) (loaded m (number d) access to)) (λ why. refused_sound shapes a (number d) why (loaded m (number d) access to))
+    (λ res. IsSoundFor shapes (sets a (number d) res) (load_effect m (number d) access to)) (λ why. refused_sound shapes a (number d) why (load_effect m (number d) access to))
     (area_found shapes m.maps base (m.registers (number r)) offset (access_size access) h.maps pb hb)
     (λ area means. load_in shapes a m (number d) access area to h means))
 
@@ -198,11 +198,11 @@ cell_member shapes a m c cell stack h new old = record {
 }
 
 after_number : (shapes : List Shape) (a : AbsState) (m : Machine) (s : Size) (at n : ℕ) → IsMember shapes a m → at % 8 + size_bytes s ≤ 8
-    → IsMember shapes (with_cell a (at / 8) (Bytes (marked (written_in (cell_at a (at / 8))) (at % 8) (size_bytes s)))) (with_stack m (write m.stack at (number_bytes (size_bytes s) n)))
+    → IsMember shapes (with_cell a (at / 8) (Bytes (with_bytes (written_in (cell_at a (at / 8))) (at % 8) (size_bytes s)))) (with_stack m (write m.stack at (number_bytes (size_bytes s) n)))
 after_number shapes a m s at n h fits =
     let place : at ≡ 8 * (at / 8) + at % 8 = omega arith in
     let long : length (number_bytes (size_bytes s) n) ≡ size_bytes s = length-number_bytes (size_bytes s) n in
-    cell_member shapes a m (at / 8) (Bytes (marked (written_in (cell_at a (at / 8))) (at % 8) (size_bytes s))) (write m.stack at (number_bytes (size_bytes s) n)) h
+    cell_member shapes a m (at / 8) (Bytes (with_bytes (written_in (cell_at a (at / 8))) (at % 8) (size_bytes s))) (write m.stack at (number_bytes (size_bytes s) n)) h
     (bytes.number_stored m.maps (cell_at a (at / 8)) m.stack at (at / 8) (at % 8) (size_bytes s) n place (h.cells (at / 8)))
     (λ i other. cell_apart m.maps (cell_at a i) m.stack at (number_bytes (size_bytes s) n) i other (omega arith) (h.cells i))
 
@@ -234,14 +234,14 @@ kept maps (Num r) v h = tt
 kept maps k v h = h
 
 pointer_held : (shapes : List Shape) (a : AbsState) (m : Machine) (at : ℕ) (o : Option Held) (v : Value) → IsMember shapes a m → at % 8 + 8 ≤ 8 → Keeps m.maps o v
-    → IsSoundFor shapes (pointer_cell o >>= λ cell. goes_on (with_cell a (at / 8) cell)) (stored m size.DoubleWord v (location.OnStack at))
+    → IsSoundFor shapes (pointer_cell o >>= λ cell. goes_on (with_cell a (at / 8) cell)) (store_effect m size.DoubleWord v (location.OnStack at))
 pointer_held shapes a m at None v h fits g = tt
 pointer_held shapes a m at (Some k) (value.Number n) h fits g = after_pointer shapes a m at k (value.Number n) (number_bytes 8 n) h fits g refl
 pointer_held shapes a m at (Some k) (value.Pointer p) h fits g = after_pointer shapes a m at k (value.Pointer p) (parts p) h fits g refl
 pointer_held shapes a m at (Some k) value.Unset h fits g = absurd (no_value m.maps k g)
 
 stack_stored : (shapes : List Shape) (a : AbsState) (m : Machine) (s : Size) (at : ℕ) (k : Kind) (v : Value) → IsMember shapes a m → at % 8 + size_bytes s ≤ 8 → IsUsable k → Stands m.maps k v
-    → IsSoundFor shapes (stored_in a s k (OnStack at)) (stored m s v (location.OnStack at))
+    → IsSoundFor shapes (stored_in a s k (OnStack at)) (store_effect m s v (location.OnStack at))
 stack_stored shapes a m s at (Num r) (value.Number n) h fits u g = after_number shapes a m s at n h fits
 stack_stored shapes a m s at (Num r) v h fits u g = absurd g
 stack_stored shapes a m size.DoubleWord at Unusable v h fits u g = absurd u
@@ -250,7 +250,7 @@ stack_stored shapes a m size.DoubleWord at k v h fits u g = pointer_held shapes 
 stack_stored shapes a m s at k v h fits u g = tt
 
 element_stored : (shapes : List Shape) (a : AbsState) (m : Machine) (s : Size) (e i at : ℕ) (k : Kind) (v : Value) → IsMember shapes a m → HasElement m.maps e i
-    → at + size_bytes s ≤ length (element m.maps e i) → Stands m.maps k v → IsSoundFor shapes (number_stored a k) (stored m s v (location.InElement e i at))
+    → at + size_bytes s ≤ length (element m.maps e i) → Stands m.maps k v → IsSoundFor shapes (number_stored a k) (store_effect m s v (location.InElement e i at))
 element_stored shapes a m s e i at (Num r) (value.Number n) h there room g =
     let bytes = with_number (element m.maps e i) at (size_bytes s) n in
     maps_member shapes a m (with_element m.maps e i bytes) h (with_number-lengths m.maps e i at (size_bytes s) n there room)
@@ -259,19 +259,19 @@ element_stored shapes a m s e i at (Num r) v h there room g = absurd g
 element_stored shapes a m s e i at k v h there room g = tt
 
 field_stored : (shapes : List Shape) (a : AbsState) (m : Machine) (s : Size) (t : TaskId) (f : Field) (k : Kind) (v : Value) → IsMember shapes a m → Stands m.maps k v
-    → IsSoundFor shapes (stored_in a s k (InTask f)) (stored m s v (location.InTask t f))
+    → IsSoundFor shapes (stored_in a s k (InTask f)) (store_effect m s v (location.InTask t f))
 field_stored shapes a m s t f (Num r) (value.Number n) h g =
     elim (is_writable f) as (λ b. IsSoundFor shapes (if b then goes_on a else Err TaskField) (if b then effect.Ask (effect.Store t f n) (λ v. m) else effect.Stuck))
     [ true ↦ λ v fits. h | false ↦ tt ]
 field_stored shapes a m s t f (Num r) v h g = absurd g
 field_stored shapes a m s t f k v h g = refused (is_writable f)
   where
-    refused : (b : Bool) → IsSoundFor shapes (if b then number_stored a k else Err TaskField) (stored m s v (location.InTask t f))
+    refused : (b : Bool) → IsSoundFor shapes (if b then number_stored a k else Err TaskField) (store_effect m s v (location.InTask t f))
     refused true = tt
     refused false = tt
 
 store_in : (shapes : List Shape) (a : AbsState) (m : Machine) (s : Size) (k : Kind) (v : Value) (area : Area) (to : Location) → IsMember shapes a m → IsUsable k → Stands m.maps k v
-    → Means m.maps (size_bytes s) area to → IsSoundFor shapes (stored_in a s k area) (stored m s v to)
+    → Means m.maps (size_bytes s) area to → IsSoundFor shapes (stored_in a s k area) (store_effect m s v to)
 store_in shapes a m s k v (OnStack at) (location.OnStack to) h u g means = rw (← means.0) (stack_stored shapes a m s at k v h (fits_cell s at means.1) u g)
 store_in shapes a m s k v (OnStack at) to h u g means = absurd means
 store_in shapes a m s k v InElement (location.InElement e i at) h u g means = element_stored shapes a m s e i at k v h means.0 means.1 g
@@ -281,20 +281,20 @@ store_in shapes a m s k v (InTask f) to h u g means = absurd means
 
 -- and that of stores
 pub store_sound : (shapes : List Shape) (a : AbsState) (m : Machine) (s : Size) (r : Register) (offset : ℤ) (x : Operand) → IsOperand x → IsProper a → IsMember shapes a m
-    → IsSoundFor shapes (store_rule shapes a s r offset x) (stored m s (operand_value m Bits64 x) (address m.maps (m.registers (number r)) offset (size_bytes s)))
+    → IsSoundFor shapes (store_rule shapes a s r offset x) (store_effect m s (operand_value m Bits64 x) (address m.maps (m.registers (number r)) offset (size_bytes s)))
 store_sound shapes a m s r offset x fits p h =
     let n = size_bytes s in
     let v = operand_value m Bits64 x in
     let to = address m.maps (m.registers (number r)) offset n in
     checked m.maps (usable (kind_at a (number r))) (m.registers (number r))
     (λ base. operand_kind a Bits64 x >>= λ k. area_of shapes base offset n >>= λ area. stored_in a s k area)
-    (λ res. IsSoundFor shapes res (stored m s v to)) (λ why. tt)
+    (λ res. IsSoundFor shapes res (store_effect m s v to)) (λ why. tt)
     (register_allows shapes a m r p h)
     (λ base ub pb hb. checked m.maps (operand_kind a Bits64 x) v
     (λ k. area_of shapes base offset n >>= λ area. stored_in a s k area)
-    (λ res. IsSoundFor shapes res (stored m s v to)) (λ why. tt)
+    (λ res. IsSoundFor shapes res (store_effect m s v to)) (λ why. tt)
     (operand_allows shapes a m Bits64 x fits p h)
     (λ k uk pk hk. area_cases m.maps n (area_of shapes base offset n) to (λ area. stored_in a s k area)
-    (λ res. IsSoundFor shapes res (stored m s v to)) (λ why. tt)
+    (λ res. IsSoundFor shapes res (store_effect m s v to)) (λ why. tt)
     (area_found shapes m.maps base (m.registers (number r)) offset s h.maps pb hb)
     (λ area means. store_in shapes a m s k v area to h uk hk means)))

@@ -10,7 +10,7 @@ use Rattle.scx_abs.specs.declared.changes.Change.{Change}
 use Rattle.scx_abs.specs.declared.changes.Change.TheVariants as change
 use Rattle.scx_abs.specs.Cells.{no_bytes, join_cell}
 use Rattle.scx_abs.specs.States.{start_of, with_cell}
-use Rattle.scx_abs.specs.Changes.{AreBlank, AreKept, IsBlankBelow, changed}
+use Rattle.scx_abs.specs.Changes.{AreBlank, AreKept, IsBlankBelow, after_change}
 
 join_blank : (x y : Cell) → x ≡ Bytes no_bytes → y ≡ Bytes no_bytes → join_cell x y ≡ Bytes no_bytes
 join_blank x y e f = rw (e, f) refl
@@ -47,7 +47,7 @@ pub blank_lower : (a : AbsState) (low new : ℕ) → IsBlankBelow low a → new 
 blank_lower a low new h le = record { within = omega (arith, h.within); blank = λ k lt. h.blank k (omega arith) }
 
 -- a change leaves the cells
-pub changed_blank : (a : AbsState) (c : Change) (low : ℕ) → IsBlankBelow low a → IsBlankBelow low (changed a c)
+pub changed_blank : (a : AbsState) (c : Change) (low : ℕ) → IsBlankBelow low a → IsBlankBelow low (after_change a c)
 changed_blank a change.Nothing low h = h
 changed_blank a (change.Register r k) low h = record { within = h.within; blank = h.blank }
 changed_blank a (change.Called k) low h = record { within = h.within; blank = h.blank }

@@ -18,7 +18,7 @@ use Rattle.scx_semantics.specs.Arithmetic.{immediate, compares}
 use Rattle.scx_semantics.specs.Elements.{Maps}
 use Rattle.scx_semantics.specs.Machine.{Machine}
 use Rattle.scx_semantics.specs.Effects.{branch}
-use Rattle.scx_semantics.specs.Meaning.{operand_value, numbers_compared, compared}
+use Rattle.scx_semantics.specs.Meaning.{operand_value, numbers_compared, comparison_answer}
 use Rattle.scx_encoding.specs.Spelling.{IsOperand}
 use Rattle.scx_maps.specs.declared.shape.Shape.{Shape}
 use Rattle.scx_ranges.specs.declared.ranges.Range.{Range}
@@ -36,7 +36,7 @@ use Rattle.scx_abs.specs.Stands.{Stands, IsMember}
 use Rattle.scx_semantics.specs.Results.{◌>>=◌}
 use Rattle.scx_abs.specs.Checks.{flows, usable, operand_kind}
 use Rattle.scx_abs.specs.Rules as rules
-use Rattle.scx_abs.specs.Rules.{null_test, if_null, if_not_null, tested, side, sides, jump_rule}
+use Rattle.scx_abs.specs.Rules.{null_test, if_null, if_not_null, null_test_rule, side, sides, jump_rule}
 use Rattle.scx_abs.specs.Laws.{Receives, IsSoundFor}
 use Rattle.scx_abs.proofs.Registers.{register_allows, operand_allows, checked, refined}
 
@@ -116,49 +116,49 @@ zero_immediate (pos n) e = rw e refl
 zero_immediate (negsuc n) e = absurd (omega arith)
 
 equal_sound : (shapes : List Shape) (a : AbsState) (m : Machine) (r : ℕ) (j : Kind) (k : ℤ) (v : Value) → IsMember shapes a m → IsPointerKind j → m.registers r ≡ v → Stands m.maps j v
-    → IsSoundFor shapes (tested a r j (null_test Bits64 Equal (operand.Immediate k))) (branch m (compared m Bits64 Equal v (operand.Immediate k)))
+    → IsSoundFor shapes (null_test_rule a r j (null_test Bits64 Equal (operand.Immediate k))) (branch m (comparison_answer m Bits64 Equal v (operand.Immediate k)))
 equal_sound shapes a m r j k value.Unset h u e g = unset j u g
   where
-    unset : (i : Kind) → IsPointerKind i → Stands m.maps i value.Unset → IsSoundFor shapes (tested a r j (null_test Bits64 Equal (operand.Immediate k))) (branch m (compared m Bits64 Equal value.Unset (operand.Immediate k)))
+    unset : (i : Kind) → IsPointerKind i → Stands m.maps i value.Unset → IsSoundFor shapes (null_test_rule a r j (null_test Bits64 Equal (operand.Immediate k))) (branch m (comparison_answer m Bits64 Equal value.Unset (operand.Immediate k)))
     unset Unusable u g = absurd u
     unset i u g = absurd g
 equal_sound shapes a m r j k (value.Number n) h u e g = go (nat_eq (unsigned_abs k) 0) refl
   where
-    go : (b : Bool) → nat_eq (unsigned_abs k) 0 ≡ b → IsSoundFor shapes (tested a r j (if b then Some true else None)) (branch m (Some (nat_eq n (immediate Bits64 k))))
+    go : (b : Bool) → nat_eq (unsigned_abs k) 0 ≡ b → IsSoundFor shapes (null_test_rule a r j (if b then Some true else None)) (branch m (Some (nat_eq n (immediate Bits64 k))))
     go true t =
         let same : nat_eq n (immediate Bits64 k) ≡ true = eq-eqb n (immediate Bits64 k) (is_null m.maps j n u g ∙ sym (zero_immediate k (eqb-true (unsigned_abs k) 0 t))) in
         rw same (null_side shapes a m r j n h u e g)
     go false t = tt
 equal_sound shapes a m r j k (value.Pointer p) h u e g =
-    elim (nat_eq (unsigned_abs k) 0) as (λ b. IsSoundFor shapes (tested a r j (if b then Some true else None)) (branch m (if b then Some false else None)))
+    elim (nat_eq (unsigned_abs k) 0) as (λ b. IsSoundFor shapes (null_test_rule a r j (if b then Some true else None)) (branch m (if b then Some false else None)))
     [ true ↦ pointer_side shapes a m r j p h e g | false ↦ tt ]
 
 not_equal_sound : (shapes : List Shape) (a : AbsState) (m : Machine) (r : ℕ) (j : Kind) (k : ℤ) (v : Value) → IsMember shapes a m → IsPointerKind j → m.registers r ≡ v → Stands m.maps j v
-    → IsSoundFor shapes (tested a r j (null_test Bits64 NotEqual (operand.Immediate k))) (branch m (compared m Bits64 NotEqual v (operand.Immediate k)))
+    → IsSoundFor shapes (null_test_rule a r j (null_test Bits64 NotEqual (operand.Immediate k))) (branch m (comparison_answer m Bits64 NotEqual v (operand.Immediate k)))
 not_equal_sound shapes a m r j k value.Unset h u e g = unset j u g
   where
-    unset : (i : Kind) → IsPointerKind i → Stands m.maps i value.Unset → IsSoundFor shapes (tested a r j (null_test Bits64 NotEqual (operand.Immediate k))) (branch m (compared m Bits64 NotEqual value.Unset (operand.Immediate k)))
+    unset : (i : Kind) → IsPointerKind i → Stands m.maps i value.Unset → IsSoundFor shapes (null_test_rule a r j (null_test Bits64 NotEqual (operand.Immediate k))) (branch m (comparison_answer m Bits64 NotEqual value.Unset (operand.Immediate k)))
     unset Unusable u g = absurd u
     unset i u g = absurd g
 not_equal_sound shapes a m r j k (value.Number n) h u e g = go (nat_eq (unsigned_abs k) 0) refl
   where
-    go : (b : Bool) → nat_eq (unsigned_abs k) 0 ≡ b → IsSoundFor shapes (tested a r j (if b then Some false else None)) (branch m (Some (not (nat_eq n (immediate Bits64 k)))))
+    go : (b : Bool) → nat_eq (unsigned_abs k) 0 ≡ b → IsSoundFor shapes (null_test_rule a r j (if b then Some false else None)) (branch m (Some (not (nat_eq n (immediate Bits64 k)))))
     go true t =
         let same : nat_eq n (immediate Bits64 k) ≡ true = eq-eqb n (immediate Bits64 k) (is_null m.maps j n u g ∙ sym (zero_immediate k (eqb-true (unsigned_abs k) 0 t))) in
         rw same (null_side shapes a m r j n h u e g)
     go false t = tt
 not_equal_sound shapes a m r j k (value.Pointer p) h u e g =
-    elim (nat_eq (unsigned_abs k) 0) as (λ b. IsSoundFor shapes (tested a r j (if b then Some false else None)) (branch m (if b then Some true else None)))
+    elim (nat_eq (unsigned_abs k) 0) as (λ b. IsSoundFor shapes (null_test_rule a r j (if b then Some false else None)) (branch m (if b then Some true else None)))
     [ true ↦ pointer_side shapes a m r j p h e g | false ↦ tt ]
 
 test_sound : (shapes : List Shape) (a : AbsState) (m : Machine) (r : ℕ) (w : Width) (c : Comparison) (x : Operand) (j : Kind) (v : Value) → IsMember shapes a m → IsPointerKind j → m.registers r ≡ v → Stands m.maps j v
-    → IsSoundFor shapes (tested a r j (null_test w c x)) (branch m (compared m w c v x))
+    → IsSoundFor shapes (null_test_rule a r j (null_test w c x)) (branch m (comparison_answer m w c v x))
 test_sound shapes a m r Bits64 Equal (operand.Immediate k) j v h u e g = equal_sound shapes a m r j k v h u e g
 test_sound shapes a m r Bits64 NotEqual (operand.Immediate k) j v h u e g = not_equal_sound shapes a m r j k v h u e g
 test_sound shapes a m r w c x j v h u e g = tt
 
 compare_sound : (shapes : List Shape) (a : AbsState) (m : Machine) (r : ℕ) (w : Width) (c : Comparison) (x : Operand) (j k : Kind) (v : Value) → IsMember shapes a m → IsUsable j → IsProperKind j → m.registers r ≡ v → Stands m.maps j v
-    → Stands m.maps k (operand_value m w x) → IsSoundFor shapes (rules.compared a r w c (null_test w c x) j k) (branch m (compared m w c v x))
+    → Stands m.maps k (operand_value m w x) → IsSoundFor shapes (rules.comparison_rule a r w c (null_test w c x) j k) (branch m (comparison_answer m w c v x))
 compare_sound shapes a m r w c x (Num s) k (value.Number n) h u p e g f = numbers_sound shapes a m r w c n s k (operand_value m w x) h e p g f
 compare_sound shapes a m r w c x (Num s) k v h u p e g f = absurd g
 compare_sound shapes a m r w c x Unusable k v h u p e g f = absurd u
@@ -166,13 +166,13 @@ compare_sound shapes a m r w c x j k v h u p e g f = test_sound shapes a m r w c
 
 -- the rule of jumps on a condition is sound
 pub jump_sound : (shapes : List Shape) (a : AbsState) (m : Machine) (w : Width) (c : Comparison) (r : Register) (x : Operand) → IsOperand x → IsProper a → IsMember shapes a m
-    → IsSoundFor shapes (jump_rule a w c r x) (branch m (compared m w c (m.registers (number r)) x))
+    → IsSoundFor shapes (jump_rule a w c r x) (branch m (comparison_answer m w c (m.registers (number r)) x))
 jump_sound shapes a m w c r x fits p h =
-    checked m.maps (usable (kind_at a (number r))) (m.registers (number r)) (λ j. operand_kind a w x >>= λ k. rules.compared a (number r) w c (null_test w c x) j k)
-    (λ res. IsSoundFor shapes res (branch m (compared m w c (m.registers (number r)) x))) (λ why. tt)
+    checked m.maps (usable (kind_at a (number r))) (m.registers (number r)) (λ j. operand_kind a w x >>= λ k. rules.comparison_rule a (number r) w c (null_test w c x) j k)
+    (λ res. IsSoundFor shapes res (branch m (comparison_answer m w c (m.registers (number r)) x))) (λ why. tt)
     (register_allows shapes a m r p h)
-    (λ j uj pj hj. checked m.maps (operand_kind a w x) (operand_value m w x) (λ k. rules.compared a (number r) w c (null_test w c x) j k)
-    (λ res. IsSoundFor shapes res (branch m (compared m w c (m.registers (number r)) x))) (λ why. tt) (operand_allows shapes a m w x fits p h)
+    (λ j uj pj hj. checked m.maps (operand_kind a w x) (operand_value m w x) (λ k. rules.comparison_rule a (number r) w c (null_test w c x) j k)
+    (λ res. IsSoundFor shapes res (branch m (comparison_answer m w c (m.registers (number r)) x))) (λ why. tt) (operand_allows shapes a m w x fits p h)
     (λ k uk pk hk. compare_sound shapes a m (number r) w c x j k (m.registers (number r)) h uj pj refl hj hk))
 
 -- ---- comparisons with a constant
@@ -183,5 +183,5 @@ pub constant_compared : (a : AbsState) (o : Comparison) (r : Register) (k : ℤ)
 constant_compared a o r k c s e f =
     let n = immediate Bits64 k in
     subst (λ c. jump_rule a Bits64 o r (operand.Immediate k) ≡ Ok (flows (side a (number r) o false c s) (side a (number r) o true c s))) (sym f)
-    (ap (λ j. usable j >>= (λ j. rules.compared a (number r) Bits64 o (null_test Bits64 o (operand.Immediate k)) j (Num (single n)))) e
+    (ap (λ j. usable j >>= (λ j. rules.comparison_rule a (number r) Bits64 o (null_test Bits64 o (operand.Immediate k)) j (Num (single n)))) e
     ∙ ap (λ b. Ok (if b then flows (side a (number r) o false n s) (side a (number r) o true n s) else flows (Some a) (Some a))) (eq-eqb n n refl))

@@ -21,7 +21,7 @@ use Rattle.scx_abs.specs.declared.kinds.Held.{Held}
 use Rattle.scx_abs.specs.declared.kinds.Held.TheVariants as held
 use Rattle.scx_abs.specs.declared.kinds.Cell.{Cell}
 use Rattle.scx_abs.specs.declared.kinds.Cell.TheVariants.{Bytes, Pointer}
-use Rattle.scx_abs.specs.Cells.{kind_of, is_written, marked, all_written, written_in}
+use Rattle.scx_abs.specs.Cells.{kind_of, is_written, with_bytes, all_written, written_in}
 use Rattle.scx_abs.specs.Stands.{Stands, IsByte, CellStands}
 use Rattle.scx_abs.proofs.Orders.{each_byte_at, none_written}
 
@@ -198,7 +198,7 @@ cell_apart maps (Pointer k) stack at bytes c other fits h =
 
 -- a number adds its bytes to those of its cell
 pub number_stored : (maps : Maps) (cell : Cell) (stack : Stack) (at c j n x : ℕ) → at ≡ 8 * c + j → CellStands maps cell stack (8 * c)
-    → CellStands maps (Bytes (marked (written_in cell) j n)) (write stack at (number_bytes n x)) (8 * c)
+    → CellStands maps (Bytes (with_bytes (written_in cell) j n)) (write stack at (number_bytes n x)) (8 * c)
 number_stored maps cell stack at c j n x e h i lt w =
     number_written stack at n x (8 * c + i) (which cell h (or_cases (is_written (written_in cell) i) (nat_le j i && nat_lt i (j + n)) (sym (each_byte_at (λ k. is_written (written_in cell) k || (nat_le j k && nat_lt k (j + n))) i lt) ∙ w)))
   where

@@ -8,7 +8,7 @@ use Rattle.scx_semantics.specs.declared.operations.Size.{Size}
 use Rattle.scx_semantics.specs.declared.values.Value.{Value}
 use Rattle.scx_semantics.specs.declared.values.Value.TheVariants as value
 use Rattle.scx_semantics.specs.declared.values.Pointer.TheVariants as pointer
-use Rattle.scx_semantics.specs.Arithmetic.{shifted}
+use Rattle.scx_semantics.specs.Arithmetic.{at_distance}
 use Rattle.scx_semantics.specs.Memory.{Stack, within, aligned_within, size_bytes}
 use Rattle.scx_semantics.specs.Elements.{Maps, elements, element, with_element, with_number, HoldBytes}
 use Rattle.scx_semantics.specs.Machine.{Machine, with_maps}
@@ -63,11 +63,11 @@ aligned_at size n at t e inside aligned =
 
 -- what holds of every refusal, and of an offset that is allowed, holds of one of several offsets
 pub offsets_cases : (size : ℕ) (s : Size) (r : Range) (k : ℤ) (p : ℕ) (P : Result (Unit {0}) Why → Option ℕ → Type 0) → IsWellFormed r → IsIn p r → ((why : Why) (o : Option ℕ) → P (Err why) o)
-    → ((at : ℕ) → at + size_bytes s ≤ size → P (Ok tt) (Some at)) → P (offsets_for size (size_bytes s) r k) (aligned_within size (size_bytes s) (shifted p k))
+    → ((at : ℕ) → at + size_bytes s ≤ size → P (Ok tt) (Some at)) → P (offsets_for size (size_bytes s) r k) (aligned_within size (size_bytes s) (at_distance p k))
 offsets_cases size s r k p P w i none ok = go (are_inside size (size_bytes s) r k) (are_aligned (size_bytes s) r k) refl refl
   where
     place : Option ℕ
-    place = aligned_within size (size_bytes s) (shifted p k)
+    place = aligned_within size (size_bytes s) (at_distance p k)
 
     found : are_inside size (size_bytes s) r k ≡ true → are_aligned (size_bytes s) r k ≡ true → P (Ok tt) place
     found d e =
@@ -75,7 +75,7 @@ offsets_cases size s r k p P w i none ok = go (are_inside size (size_bytes s) r 
         let aligned = (aligned_is_exact s r k w).0 e p i in
         let same : aligned.0 ≡ inside.0 = some_is aligned.0 inside.0 (sym aligned.1 ∙ inside.1.there) in
         let multiple : inside.0 % size_bytes s ≡ 0 = subst (λ at. at % size_bytes s ≡ 0) same aligned.2 in
-        subst (P (Ok tt)) (sym (aligned_at size (size_bytes s) inside.0 (shifted p k) inside.1.there inside.1.inside multiple)) (ok inside.0 inside.1.inside)
+        subst (P (Ok tt)) (sym (aligned_at size (size_bytes s) inside.0 (at_distance p k) inside.1.there inside.1.inside multiple)) (ok inside.0 inside.1.inside)
 
     go : (a b : Bool) → are_inside size (size_bytes s) r k ≡ a → are_aligned (size_bytes s) r k ≡ b → P (if a then if b then Ok tt else Err Misaligned else Err OutOfBounds) place
     go true true d e = found d e

@@ -11,7 +11,7 @@ use Rattle.scx_semantics.specs.declared.host_tables.Parameter.TheVariants as par
 use Rattle.scx_semantics.specs.declared.values.Value.{Value}
 use Rattle.scx_semantics.specs.declared.values.Value.TheVariants as value
 use Rattle.scx_semantics.specs.declared.values.Pointer.TheVariants as pointer
-use Rattle.scx_semantics.specs.Arithmetic.{shifted}
+use Rattle.scx_semantics.specs.Arithmetic.{at_distance}
 use Rattle.scx_semantics.specs.Memory.{Stack, stack_size, aligned_within, load}
 use Rattle.scx_semantics.specs.HostTables.{parameters, is_allowed}
 use Rattle.scx_semantics.specs.Elements.{Maps, elements, element}
@@ -20,7 +20,7 @@ use Rattle.scx_semantics.specs.Locations.{on_stack, in_element, address}
 use Rattle.scx_semantics.specs.Machine.{Machine, with_register}
 use Rattle.scx_semantics.specs.Effects as effect
 use Rattle.scx_semantics.specs.Calls as meaning
-use Rattle.scx_semantics.specs.Calls.{number_of, key_at, key, takes_all, arguments, found, looked_up, called, call_helper}
+use Rattle.scx_semantics.specs.Calls.{number_of, key_at, key, takes_all, arguments, element_or_0, looked_up, call_effect, call_helper}
 use Rattle.scx_maps.specs.declared.shape.Shape.{Shape}
 use Rattle.scx_abs.specs.declared.faults.Why.{Why}
 use Rattle.scx_abs.specs.declared.faults.Why.TheVariants.{UnwrittenStack, HelperNotHere}
@@ -70,7 +70,7 @@ stack_key shapes a m at h aligned = go (all_written (written_in (cell_at a (at /
     go false e = tt
 
 element_key : (m : Machine) (k i size p : ℕ) (r : Range) → IsWellFormed r → IsIn p r → length (element m.maps k i) ≡ size
-    → Passes (offsets_for size 4 r (pos 0)) (is_some (key_at m (in_element k i (aligned_within (length (element m.maps k i)) 4 (shifted p (pos 0))))))
+    → Passes (offsets_for size 4 r (pos 0)) (is_some (key_at m (in_element k i (aligned_within (length (element m.maps k i)) 4 (at_distance p (pos 0))))))
 element_key m k i size p r w h long =
     rw (← long) (offsets_cases (length (element m.maps k i)) sizes.Word r (pos 0) p (λ x o. Passes x (is_some (key_at m (in_element k i o)))) w h (λ why o. tt) (λ at inside. refl))
 
@@ -151,20 +151,20 @@ found_stands : (maps : Maps) (j n x : ℕ) (b : Bool) → j ≡ n → nat_lt x (
 found_stands maps j n x true e lt = (e, refl, ltb-true x (length (elements maps n)) lt)
 found_stands maps j n x false e lt = refl
 
-element_stands : (maps : Maps) (k : Kind) (n x : ℕ) → Stands maps k (value.Pointer (pointer.Map n)) → Stands maps (element_of k) (found maps n x)
+element_stands : (maps : Maps) (k : Kind) (n x : ℕ) → Stands maps k (value.Pointer (pointer.Map n)) → Stands maps (element_of k) (element_or_0 maps n x)
 element_stands maps (MapRef j) n x h = found_stands maps j n x (nat_lt x (length (elements maps n))) h.0 refl
 element_stands maps k n x h = tt
 
 look_up_sound : (shapes : List Shape) (a : AbsState) (m : Machine) (k : Kind) (v : Value) (key : Option ℕ) → IsMember shapes a m → Stands m.maps k v
     → meaning.takes m parameter.Map v ≡ true → is_some key ≡ true → IsSoundFor shapes (goes_on (rules.after_call a (element_of k))) (looked_up m v key)
-look_up_sound shapes a m k (value.Pointer (pointer.Map n)) (Some x) h g t s = after_member shapes a m (element_of k) (found m.maps n x) h (element_stands m.maps k n x g)
+look_up_sound shapes a m k (value.Pointer (pointer.Map n)) (Some x) h g t s = after_member shapes a m (element_of k) (element_or_0 m.maps n x) h (element_stands m.maps k n x g)
 look_up_sound shapes a m k (value.Pointer (pointer.Map n)) None h g t s = absurd (cc)
 look_up_sound shapes a m k v key h g t s = absurd (cc)
 
 -- ---- calls
 
 called_sound : (shapes : List Shape) (h : Helper) (a : AbsState) (m : Machine) → IsMember shapes a m → takes_all m (parameters h) 1 ≡ true
-    → IsSoundFor shapes (goes_on (rules.after_call a (answer_kind h (kind_at a 1)))) (called m h)
+    → IsSoundFor shapes (goes_on (rules.after_call a (answer_kind h (kind_at a 1)))) (call_effect m h)
 called_sound shapes helper.MapLookupElem a m g t =
     let map = and_parts (meaning.takes m parameter.Map (m.registers 1)) (meaning.takes m parameter.Key (m.registers 2) && true) t in
     let second = and_parts (is_some (key m (m.registers 2))) true map.1 in
@@ -173,7 +173,7 @@ called_sound shapes helper.TaskByPid a m g t = λ v fits. after_member shapes a 
 called_sound shapes h a m g t = λ v fits. after_member shapes a m (Num all) v g (number_stands m.maps v fits)
 
 allowed_sound : (shapes : List Shape) (h : Helper) (a : AbsState) (m : Machine) (r : Result (Unit {0}) Why) (b : Bool) → IsMember shapes a m → Passes r b → takes_all m (parameters h) 1 ≡ b
-    → IsSoundFor shapes (r >>= λ fine. goes_on (rules.after_call a (answer_kind h (kind_at a 1)))) (if b then called m h else effect.Stuck)
+    → IsSoundFor shapes (r >>= λ fine. goes_on (rules.after_call a (answer_kind h (kind_at a 1)))) (if b then call_effect m h else effect.Stuck)
 allowed_sound shapes h a m (Err why) b g p e = tt
 allowed_sound shapes h a m (Ok fine) b g p e = rw p (called_sound shapes h a m g (e ∙ p))
 
@@ -181,5 +181,5 @@ allowed_sound shapes h a m (Ok fine) b g p e = rw p (called_sound shapes h a m g
 pub call_sound : (shapes : List Shape) (c : Callback) (h : Option Helper) (a : AbsState) (m : Machine) → IsProper a → IsMember shapes a m → IsSoundFor shapes (call_rule shapes c h a) (call_helper c m h)
 call_sound shapes c None a m w g = tt
 call_sound shapes c (Some h) a m w g =
-    elim (is_allowed h c) as (λ b. IsSoundFor shapes (if b then call_allowed shapes h a else Err HelperNotHere) (if b && takes_all m (parameters h) 1 then called m h else effect.Stuck))
+    elim (is_allowed h c) as (λ b. IsSoundFor shapes (if b then call_allowed shapes h a else Err HelperNotHere) (if b && takes_all m (parameters h) 1 then call_effect m h else effect.Stuck))
     [ true ↦ allowed_sound shapes h a m (arguments_check shapes a (parameters h) 1) (takes_all m (parameters h) 1) g (arguments_pass shapes a m (parameters h) 1 w g) refl | false ↦ tt ]

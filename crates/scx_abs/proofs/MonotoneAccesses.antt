@@ -9,7 +9,7 @@ use Rattle.scx_semantics.specs.declared.operations.Access.{Access}
 use Rattle.scx_semantics.specs.declared.operations.Access.TheVariants as access
 use Rattle.scx_semantics.specs.declared.registers.Register.{Register}
 use Rattle.scx_semantics.specs.Registers.{number}
-use Rattle.scx_semantics.specs.Arithmetic.{shifted}
+use Rattle.scx_semantics.specs.Arithmetic.{at_distance}
 use Rattle.scx_semantics.specs.Memory.{size_bytes, access_size, stack_size}
 use Rattle.scx_semantics.specs.declared.host_tables.Field.{Field}
 use Rattle.scx_semantics.specs.HostTables.{is_writable, field_at}
@@ -22,7 +22,7 @@ use Rattle.scx_ranges.specs.declared.ranges.Range.{Range}
 use Rattle.scx_ranges.specs.Ranges.{IsWellFormed, CoversRange}
 use Rattle.scx_ranges.specs.Offsets.{are_inside, are_aligned}
 use Rattle.scx_ranges.proofs.ElementOffsets.{accesses_are_monotone}
-use Rattle.scx_ranges.specs.Results.{loaded}
+use Rattle.scx_ranges.specs.Results.{loaded_range}
 use Rattle.scx_abs.specs.declared.kinds.Kind.{Kind}
 use Rattle.scx_abs.specs.declared.kinds.Kind.TheVariants as kind
 use Rattle.scx_abs.specs.declared.kinds.Kind.TheVariants.{Unusable, Num, Elem, Task}
@@ -32,9 +32,9 @@ use Rattle.scx_abs.specs.declared.states.AbsState.{AbsState}
 use Rattle.scx_abs.specs.declared.memory.Area.{Area}
 use Rattle.scx_abs.specs.declared.memory.Area.TheVariants.{OnStack, InElement, InTask}
 use Rattle.scx_abs.specs.Kinds.{CoversKind}
-use Rattle.scx_abs.specs.Cells.{is_written, no_bytes, marked, all_written, written_in, IsPartOf, CoversCell}
+use Rattle.scx_abs.specs.Cells.{is_written, no_bytes, with_bytes, all_written, written_in, IsPartOf, CoversCell}
 use Rattle.scx_abs.specs.States.{CoversState, IsProper, kind_at, cell_at, with_cell}
-use Rattle.scx_abs.specs.Areas.{IsAlignedWithin, IsAlignedIn}
+use Rattle.scx_abs.specs.Areas.{IsAlignedWithin, IsAlignedOnStack}
 use Rattle.scx_semantics.specs.Results.{◌>>=◌}
 use Rattle.scx_abs.specs.Checks.{goes_on, usable, operand_kind, element_size, offset_for, offsets_for}
 use Rattle.scx_abs.specs.Rules.{field_area, area_of, loaded_kind, kind_in, load_kind, stored_cell, number_stored, stored_in, store_rule}
@@ -52,7 +52,7 @@ abbrev pub SamePlace : ℕ → ℕ → ℕ → ℕ → Type 0
 SamePlace size n x y = (x ≡ y) × IsAlignedWithin size n y
 
 abbrev SameArea : ℕ → Area → Area → Type 0
-SameArea n x y = (x ≡ y) × IsAlignedIn n y
+SameArea n x y = (x ≡ y) × IsAlignedOnStack n y
 
 -- an offset for an access, which lies within and is aligned
 pub offset_monotone : (size n : ℕ) (t : Option ℕ) → PassesToo (SamePlace size n) (offset_for size n t) (offset_for size n t)
@@ -96,11 +96,11 @@ field_monotone n None = tt
 field_monotone n (Some f) = (refl, tt)
 
 area_monotone : (shapes : List Shape) (j k : Kind) (offset : ℤ) (s : Size) → CoversUsable j k → PassesToo (SameArea (size_bytes s)) (area_of shapes j offset (size_bytes s)) (area_of shapes k offset (size_bytes s))
-area_monotone shapes (kind.Stack o) (kind.Stack p) offset s h = rw h.1 (stack_monotone (size_bytes s) (shifted p offset))
+area_monotone shapes (kind.Stack o) (kind.Stack p) offset s h = rw h.1 (stack_monotone (size_bytes s) (at_distance p offset))
 area_monotone shapes (kind.Stack o) k offset s h = absurd h.1
 area_monotone shapes (Elem m c) (Elem q r) offset s h = rw h.1.0 (element_monotone (element_size shapes q) s c r offset h.2 h.3 h.1.1)
 area_monotone shapes (Elem m c) k offset s h = absurd h.1
-area_monotone shapes Task Task offset s h = field_monotone (size_bytes s) (field_at (size_bytes s) (shifted 0 offset))
+area_monotone shapes Task Task offset s h = field_monotone (size_bytes s) (field_at (size_bytes s) (at_distance 0 offset))
 area_monotone shapes Task k offset s h = absurd h.1
 area_monotone shapes j k offset s h = tt
 
@@ -141,8 +141,8 @@ read_nothing k b j n r le some h = go (all_written b j n) refl
     go false e = tt
 
 loaded_monotone : (x y : Cell) (a : Access) (j : ℕ) → j + size_bytes (access_size a) ≤ 8 → CoversCell x y → PassesToo CoversKind (loaded_kind x a j) (loaded_kind y a j)
-loaded_monotone (Bytes s) (Bytes t) a j le h = read_monotone CoversKind (Num (loaded a)) s t j (size_bytes (access_size a)) (kind_itself (Num (loaded a))) le h
-loaded_monotone (Bytes s) (Pointer k) a j le h = read_nothing (Num (loaded a)) s j (size_bytes (access_size a)) (loaded_kind (Pointer k) a j) le (size-positive (access_size a)) h
+loaded_monotone (Bytes s) (Bytes t) a j le h = read_monotone CoversKind (Num (loaded_range a)) s t j (size_bytes (access_size a)) (kind_itself (Num (loaded_range a))) le h
+loaded_monotone (Bytes s) (Pointer k) a j le h = read_nothing (Num (loaded_range a)) s j (size_bytes (access_size a)) (loaded_kind (Pointer k) a j) le (size-positive (access_size a)) h
 loaded_monotone (Pointer k) (Bytes t) a j le h = absurd h
 loaded_monotone (Pointer k) (Pointer l) access.DoubleWord j le h = h
 loaded_monotone (Pointer k) (Pointer l) a j le h = tt
@@ -150,10 +150,10 @@ loaded_monotone (Pointer k) (Pointer l) a j le h = tt
 kind_in_monotone : (b a : AbsState) (access : Access) (x y : Area) → CoversState b a → SameArea (size_bytes (access_size access)) x y → PassesToo CoversKind (kind_in b access x) (kind_in a access y)
 kind_in_monotone b a access x (OnStack at) h g =
     rw g.0 (loaded_monotone (cell_at b (at / 8)) (cell_at a (at / 8)) access (at % 8) (fits_cell (access_size access) at g.1.aligned) (h.cells (at / 8)))
-kind_in_monotone b a access x InElement h g = rw g.0 (kind_itself (Num (loaded access)))
+kind_in_monotone b a access x InElement h g = rw g.0 (kind_itself (Num (loaded_range access)))
 kind_in_monotone b a access x (InTask f) h g =
-    rw g.0 (elim (is_plain access) as (λ t. PassesToo CoversKind (if t then Ok (Num (loaded access)) else Err TaskField) (if t then Ok (Num (loaded access)) else Err TaskField))
-    [ true ↦ kind_itself (Num (loaded access)) | false ↦ tt ])
+    rw g.0 (elim (is_plain access) as (λ t. PassesToo CoversKind (if t then Ok (Num (loaded_range access)) else Err TaskField) (if t then Ok (Num (loaded_range access)) else Err TaskField))
+    [ true ↦ kind_itself (Num (loaded_range access)) | false ↦ tt ])
 
 -- loads
 pub load_monotone : (shapes : List Shape) (b a : AbsState) (access : Access) (r : Register) (offset : ℤ) → IsProper b → IsProper a → CoversState b a
@@ -175,7 +175,7 @@ written_covers (Bytes s) (Pointer k) h = h
 written_covers (Pointer j) (Pointer k) h = λ i lt w. w
 written_covers (Pointer j) (Bytes t) h = absurd h
 
-marked_part : (b a : List Bool) (j n : ℕ) → IsPartOf b a → IsPartOf (marked b j n) (marked a j n)
+marked_part : (b a : List Bool) (j n : ℕ) → IsPartOf b a → IsPartOf (with_bytes b j n) (with_bytes a j n)
 marked_part b a j n h i lt w =
     let old : (is_written b i || (nat_le j i && nat_lt i (j + n))) ≡ true = sym (each_byte_at (λ i. is_written b i || (nat_le j i && nat_lt i (j + n))) i lt) ∙ w in
     each_byte_at (λ i. is_written a i || (nat_le j i && nat_lt i (j + n))) i lt ∙ go (or_cases (is_written b i) (nat_le j i && nat_lt i (j + n)) old)

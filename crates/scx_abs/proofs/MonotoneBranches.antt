@@ -20,7 +20,7 @@ use Rattle.scx_abs.specs.Kinds.{CoversKind, IsProperKind}
 use Rattle.scx_abs.specs.States.{CoversState, IsProper, kind_at, with_kind}
 use Rattle.scx_semantics.specs.Results.{◌>>=◌}
 use Rattle.scx_abs.specs.Checks.{flows, usable, operand_kind}
-use Rattle.scx_abs.specs.Rules.{null_test, if_null, if_not_null, tested, side, sides, numbers_compared, compared, jump_rule}
+use Rattle.scx_abs.specs.Rules.{null_test, if_null, if_not_null, null_test_rule, side, sides, numbers_compared, comparison_rule, jump_rule}
 use Rattle.scx_abs.specs.Monotone.{PassesToo, CoversIfAny, CoversFlows}
 use Rattle.scx_abs.proofs.Orders.{range_itself, kind_itself, kind_through}
 use Rattle.scx_abs.proofs.Proper.{kind_is_proper}
@@ -55,7 +55,7 @@ pointer_monotone b a r j TaskOrNull p h e g = absurd g.1
 pointer_monotone b a r j k p h e g = h
 
 tested_monotone : (b a : AbsState) (r : Register) (j k : Kind) (test : Option Bool) → IsProper a → CoversState b a → kind_at a (number r) ≡ k → CoversUsable j k
-    → PassesToo CoversFlows (tested b (number r) j test) (tested a (number r) k test)
+    → PassesToo CoversFlows (null_test_rule b (number r) j test) (null_test_rule a (number r) k test)
 tested_monotone b a r j k None p h e g = tt
 tested_monotone b a r j k (Some true) p h e g = record { on = pointer_monotone b a r j k p h e g; jump = null_monotone b a r j k p h g }
 tested_monotone b a r j k (Some false) p h e g = record { on = null_monotone b a r j k p h g; jump = pointer_monotone b a r j k p h e g }
@@ -112,7 +112,7 @@ numbers_monotone b a d w o s r (Num t) m p h e u v g f = absurd f.1
 numbers_monotone b a d w o s r l m p h e u v g f = tt
 
 compared_monotone : (b a : AbsState) (r : Register) (w : Width) (o : Comparison) (test : Option Bool) (j k l m : Kind) → IsProper a → CoversState b a → kind_at a (number r) ≡ k → CoversUsable j k → CoversUsable l m
-    → PassesToo CoversFlows (compared b (number r) w o test j l) (compared a (number r) w o test k m)
+    → PassesToo CoversFlows (comparison_rule b (number r) w o test j l) (comparison_rule a (number r) w o test k m)
 compared_monotone b a r w o test (Num s) (Num t) l m p h e g f = numbers_monotone b a r w o s t l m p h e g.2 g.3 g.1 f
 compared_monotone b a r w o test (Num s) k l m p h e g f = absurd g.1
 compared_monotone b a r w o test Unusable k l m p h e g f = absurd g.0
@@ -129,8 +129,8 @@ read_register j k h p q = ((tt, h, p, q), refl)
 pub jump_monotone : (b a : AbsState) (w : Width) (c : Comparison) (r : Register) (x : Operand) → IsOperand x → IsProper b → IsProper a → CoversState b a → PassesToo CoversFlows (jump_rule b w c r x) (jump_rule a w c r x)
 jump_monotone b a w c r x fits q p h =
     passes_then (λ j k. CoversUsable j k × (kind_at a (number r) ≡ k)) CoversFlows (usable (kind_at b (number r))) (usable (kind_at a (number r)))
-    (λ j. operand_kind b w x >>= λ k. compared b (number r) w c (null_test w c x) j k) (λ j. operand_kind a w x >>= λ k. compared a (number r) w c (null_test w c x) j k)
+    (λ j. operand_kind b w x >>= λ k. comparison_rule b (number r) w c (null_test w c x) j k) (λ j. operand_kind a w x >>= λ k. comparison_rule a (number r) w c (null_test w c x) j k)
     (read_register (kind_at b (number r)) (kind_at a (number r)) (h.registers (number r)) (kind_is_proper b (number r) q) (kind_is_proper a (number r) p))
     (λ j k g. passes_then CoversUsable CoversFlows (operand_kind b w x) (operand_kind a w x)
-    (λ l. compared b (number r) w c (null_test w c x) j l) (λ l. compared a (number r) w c (null_test w c x) k l) (operand_monotone b a w x fits q p h)
+    (λ l. comparison_rule b (number r) w c (null_test w c x) j l) (λ l. comparison_rule a (number r) w c (null_test w c x) k l) (operand_monotone b a w x fits q p h)
     (λ l m f. compared_monotone b a r w c (null_test w c x) j k l m p h g.1 g.0 f))

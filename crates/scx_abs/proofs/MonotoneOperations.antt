@@ -45,7 +45,7 @@ moved_by_monotone : (shapes : List Shape) (j k : Kind) (d : Option ℤ) → Cove
 moved_by_monotone shapes (Stack o) (Stack p) (Some d) h = rw h.1 (passes_itself CoversKind (moved_by shapes (Stack p) (Some d)) kind_itself)
 moved_by_monotone shapes (Stack o) k (Some d) h = absurd h.1
 moved_by_monotone shapes (Elem m c) (Elem n r) (Some d) h =
-    rw h.1.0 (in_element_monotone n (offsets.moved (element_size shapes n) c d) (offsets.moved (element_size shapes n) r d) (moves_are_monotone (element_size shapes n) c r d h.2 h.3 h.1.1))
+    rw h.1.0 (in_element_monotone n (offsets.offsets_plus_constant (element_size shapes n) c d) (offsets.offsets_plus_constant (element_size shapes n) r d) (moves_are_monotone (element_size shapes n) c r d h.2 h.3 h.1.1))
 moved_by_monotone shapes (Elem m c) k (Some d) h = absurd h.1
 moved_by_monotone shapes j k d h = tt
 
@@ -58,7 +58,7 @@ computed_monotone w o s r l m h p q g = tt
 advanced_monotone : (shapes : List Shape) (m n : ℕ) (c r : Range) (l k : Kind) → m ≡ n → CoversRange c r → IsWellFormed c → IsWellFormed r → CoversUsable l k
     → PassesToo CoversKind (advanced_by shapes m c l) (advanced_by shapes n r k)
 advanced_monotone shapes m n c r (Num t) (Num u) e h p q g =
-    rw e (in_element_monotone n (offsets.advanced (element_size shapes n) c t) (offsets.advanced (element_size shapes n) r u)
+    rw e (in_element_monotone n (offsets.offsets_plus_range (element_size shapes n) c t) (offsets.offsets_plus_range (element_size shapes n) r u)
     (advances_are_monotone (element_size shapes n) c t r u p g.2.formed q g.3.formed h g.1))
 advanced_monotone shapes m n c r (Num t) k e h p q g = absurd g.1
 advanced_monotone shapes m n c r l k e h p q g = tt

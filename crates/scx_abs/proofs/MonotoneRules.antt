@@ -3,7 +3,7 @@ use Rattle.std.proofs.Common.{true, false, None, Ok, if◌then◌else◌}
 use Rattle.scx_semantics.specs.declared.instructions.Insn.TheVariants as insn
 use Rattle.scx_semantics.specs.Registers.{number}
 use Rattle.scx_semantics.specs.HostTables.{helper_at, answers}
-use Rattle.scx_semantics.specs.Arithmetic.{negated, extended, byte_swapped, wide_immediate}
+use Rattle.scx_semantics.specs.Arithmetic.{negative, sign_extension, byte_swapped, wide_immediate}
 use Rattle.scx_ranges.specs.Ranges.{single}
 use Rattle.scx_ranges.specs.Results.{negated_range, extended_range, swapped_range}
 use Rattle.scx_ranges.proofs.AllWidths.{negatives_are_sound, extensions_are_sound, swaps_are_sound}
@@ -32,10 +32,10 @@ pub rules_monotone : RulesAreMonotone
 rules_monotone shapes c (insn.Binary w o d x) b a fits q p h = sets_monotone b a d (binary_kind shapes b w o d x) (binary_kind shapes a w o d x) p h (binary_monotone shapes b a w o d x fits q p h)
 rules_monotone shapes c (insn.Negate w d) b a fits q p h =
     sets_monotone b a d (number_kind (negated_range w) (kind_at b (number d))) (number_kind (negated_range w) (kind_at a (number d))) p h
-    (number_monotone (negated w) (negated_range w) (kind_at b (number d)) (kind_at a (number d)) (negatives_are_sound w) (kind_is_proper b (number d) q) (kind_is_proper a (number d) p) (h.registers (number d)))
+    (number_monotone (negative w) (negated_range w) (kind_at b (number d)) (kind_at a (number d)) (negatives_are_sound w) (kind_is_proper b (number d) q) (kind_is_proper a (number d) p) (h.registers (number d)))
 rules_monotone shapes c (insn.SignExtend e d r) b a fits q p h =
     sets_monotone b a d (number_kind (extended_range e) (kind_at b (number r))) (number_kind (extended_range e) (kind_at a (number r))) p h
-    (number_monotone (extended e) (extended_range e) (kind_at b (number r)) (kind_at a (number r)) (extensions_are_sound e) (kind_is_proper b (number r) q) (kind_is_proper a (number r) p) (h.registers (number r)))
+    (number_monotone (sign_extension e) (extended_range e) (kind_at b (number r)) (kind_at a (number r)) (extensions_are_sound e) (kind_is_proper b (number r) q) (kind_is_proper a (number r) p) (h.registers (number r)))
 rules_monotone shapes c (insn.ByteSwap o w d) b a fits q p h =
     sets_monotone b a d (number_kind (swapped_range o w) (kind_at b (number d))) (number_kind (swapped_range o w) (kind_at a (number d))) p h
     (number_monotone (byte_swapped o w) (swapped_range o w) (kind_at b (number d)) (kind_at a (number d)) (swaps_are_sound o w) (kind_is_proper b (number d) q) (kind_is_proper a (number d) p) (h.registers (number d)))

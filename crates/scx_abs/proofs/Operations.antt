@@ -13,12 +13,12 @@ use Rattle.scx_semantics.specs.declared.values.Pointer as pointers
 use Rattle.scx_semantics.specs.declared.values.Pointer.TheVariants as pointer
 use Rattle.scx_semantics.specs.declared.registers.Register.{Register}
 use Rattle.scx_semantics.specs.Registers.{number}
-use Rattle.scx_semantics.specs.Arithmetic.{shifted}
+use Rattle.scx_semantics.specs.Arithmetic.{at_distance}
 use Rattle.scx_semantics.specs.Memory.{stack_size, within}
 use Rattle.scx_semantics.specs.Elements.{Maps, element}
 use Rattle.scx_semantics.specs.Machine.{Machine}
 use Rattle.scx_semantics.specs.Meaning as meaning
-use Rattle.scx_semantics.specs.Meaning.{operand_value, moved, combined, arithmetic, binary, pointer_step, pointer_moved, pointer_combined, on_number, map_reference}
+use Rattle.scx_semantics.specs.Meaning.{operand_value, copy_of, number_arithmetic, arithmetic, binary, pointer_step, pointer_moved, pointer_combined, on_number, map_reference}
 use Rattle.scx_encoding.specs.Spelling.{IsOperand}
 use Rattle.scx_maps.specs.declared.shape.Shape.{Shape}
 use Rattle.scx_maps.specs.Contents.{HasShapes}
@@ -44,7 +44,7 @@ use Rattle.scx_abs.specs.Rules.{in_element, moved_by, moved_kind, computed_kind,
 use Rattle.scx_abs.proofs.Registers.{Gives, register_allows, operand_allows, checked}
 use Rattle.scx_abs.proofs.Elements.{within_cases, element_sized}
 
-moved_gives : (maps : Maps) (w : Width) (k : Kind) (v : Value) → IsUsable k → IsProperKind k → Stands maps k v → Gives maps (moved_kind w k) (moved w v)
+moved_gives : (maps : Maps) (w : Width) (k : Kind) (v : Value) → IsUsable k → IsProperKind k → Stands maps k v → Gives maps (moved_kind w k) (copy_of w v)
 moved_gives maps Bits64 k (value.Number n) u p h = h
 moved_gives maps Bits64 k (value.Pointer q) u p h = h
 moved_gives maps Bits64 Unusable value.Unset u p h = absurd u
@@ -59,7 +59,7 @@ number_gives maps f known (Num r) (value.Number n) sound p h = sound.kept r n p 
 number_gives maps f known (Num r) v sound p h = absurd h
 number_gives maps f known k v sound p h = tt
 
-computed_gives : (maps : Maps) (w : Width) (o : Operation) (r : Range) (k : Kind) (a : ℕ) (v : Value) → IsRange r → IsProperKind k → IsIn a r → Stands maps k v → Gives maps (computed_kind w o r k) (combined w o a v)
+computed_gives : (maps : Maps) (w : Width) (o : Operation) (r : Range) (k : Kind) (a : ℕ) (v : Value) → IsRange r → IsProperKind k → IsIn a r → Stands maps k v → Gives maps (computed_kind w o r k) (number_arithmetic w o a v)
 computed_gives maps w o r (Num s) a (value.Number b) p q g h = (arithmetic_is_sound w o).kept r s a b p q g h
 computed_gives maps w o r (Num s) a v p q g h = absurd h
 computed_gives maps w o r k a v p q g h = tt
@@ -76,13 +76,13 @@ stack_moved maps t =
 abbrev pointer_at : ℕ → ℕ → Option ℕ → Option Value
 pointer_at m i t = option_map (λ to. value.Pointer (pointer.Element m i to)) t
 
-moved_to : (maps : Maps) (m i size p : ℕ) (d : ℤ) (q : Option Range) → HasElement maps m i → IsMoved size p d q → Gives maps (in_element m q) (pointer_at m i (within size (shifted p d)))
+moved_to : (maps : Maps) (m i size p : ℕ) (d : ℤ) (q : Option Range) → HasElement maps m i → IsMoved size p d q → Gives maps (in_element m q) (pointer_at m i (within size (at_distance p d)))
 moved_to maps m i size p d None there h = tt
 moved_to maps m i size p d (Some q) there h = subst (λ t. Gives maps (Ok (Elem m q)) (pointer_at m i t)) (sym h.1) (refl, h.2, there)
 
 element_moved : (maps : Maps) (m i size p : ℕ) (d : ℤ) (r : Range) → HasElement maps m i → length (element maps m i) ≡ size → IsWellFormed r → IsIn p r
-    → Gives maps (in_element m (offsets.moved size r d)) (pointer_at m i (within (length (element maps m i)) (shifted p d)))
-element_moved maps m i size p d r there long w h = rw long (moved_to maps m i size p d (offsets.moved size r d) there (moves_are_sound size r d p w h))
+    → Gives maps (in_element m (offsets.offsets_plus_constant size r d)) (pointer_at m i (within (length (element maps m i)) (at_distance p d)))
+element_moved maps m i size p d r there long w h = rw long (moved_to maps m i size p d (offsets.offsets_plus_constant size r d) there (moves_are_sound size r d p w h))
 
 advanced_to : (maps : Maps) (m i size to : ℕ) (q : Option Range) → HasElement maps m i → IsAdvanced size to q → Gives maps (in_element m q) (pointer_at m i (within size (Some to)))
 advanced_to maps m i size to None there h = tt
@@ -90,13 +90,13 @@ advanced_to maps m i size to (Some q) there h =
     subst (λ b. Gives maps (Ok (Elem m q)) (pointer_at m i (if b then Some to else None))) (sym (le-leb to size h.0)) (refl, h.1, there)
 
 element_advanced : (maps : Maps) (m i size p n : ℕ) (r s : Range) → HasElement maps m i → length (element maps m i) ≡ size → IsWellFormed r → IsRange s → IsIn p r → IsIn n s
-    → Gives maps (in_element m (offsets.advanced size r s)) (pointer_at m i (within (length (element maps m i)) (Some (p + n))))
+    → Gives maps (in_element m (offsets.offsets_plus_range size r s)) (pointer_at m i (within (length (element maps m i)) (Some (p + n))))
 element_advanced maps m i size p n r s there long w v h g =
-    rw long (advanced_to maps m i size (p + n) (offsets.advanced size r s) there (advances_are_sound size r s p n w v.formed h g))
+    rw long (advanced_to maps m i size (p + n) (offsets.offsets_plus_range size r s) there (advances_are_sound size r s p n w v.formed h g))
 
 moved_by_gives : (shapes : List Shape) (maps : Maps) (k : Kind) (p : pointers.Pointer) (d : Option ℤ) → HasShapes shapes maps → IsProperKind k → Stands maps k (value.Pointer p)
     → Gives maps (moved_by shapes k d) (pointer_moved maps p d)
-moved_by_gives shapes maps (kind.Stack o) (pointer.Stack p) (Some d) shaped w h = rw h (stack_moved maps (shifted p d))
+moved_by_gives shapes maps (kind.Stack o) (pointer.Stack p) (Some d) shaped w h = rw h (stack_moved maps (at_distance p d))
 moved_by_gives shapes maps (kind.Stack o) p (Some d) shaped w h = absurd h
 moved_by_gives shapes maps (Elem m r) (pointer.Element n i p) (Some d) shaped w h =
     rw h.0 (element_moved maps n i _ p d r h.2 (element_sized shapes maps n i shaped h.2) w h.1)
@@ -104,7 +104,7 @@ moved_by_gives shapes maps (Elem m r) p (Some d) shaped w h = absurd h
 moved_by_gives shapes maps k p d shaped w h = tt
 
 advanced_gives : (shapes : List Shape) (maps : Maps) (n l i at : ℕ) (r : Range) (k : Kind) (v : Value) → HasShapes shapes maps → IsWellFormed r → IsProperKind k
-    → Stands maps (Elem n r) (value.Pointer (pointer.Element l i at)) → Stands maps k v → Gives maps (advanced_by shapes n r k) (meaning.advanced maps l i at v)
+    → Stands maps (Elem n r) (value.Pointer (pointer.Element l i at)) → Stands maps k v → Gives maps (advanced_by shapes n r k) (meaning.pointer_plus_number maps l i at v)
 advanced_gives shapes maps n l i at r (Num s) (value.Number b) shaped p q h g =
     rw h.0 (element_advanced maps l i _ at b r s h.2 (element_sized shapes maps l i shaped h.2) p q h.1 g)
 advanced_gives shapes maps n l i at r (Num s) v shaped p q h g = absurd g
@@ -148,7 +148,7 @@ combined_kind_gives shapes a m w o d x fits p h =
 pub binary_gives : (shapes : List Shape) (a : AbsState) (m : Machine) (w : Width) (o : Operation) (d : Register) (x : Operand) → IsOperand x → IsProper a → IsMember shapes a m
     → Gives m.maps (binary_kind shapes a w o d x) (binary m w o (m.registers (number d)) x)
 binary_gives shapes a m w Move d x fits p h =
-    checked m.maps (operand_kind a w x) (operand_value m w x) (λ k. moved_kind w k) (λ r. Gives m.maps r (moved w (operand_value m w x))) (λ why. tt) (operand_allows shapes a m w x fits p h)
+    checked m.maps (operand_kind a w x) (operand_value m w x) (λ k. moved_kind w k) (λ r. Gives m.maps r (copy_of w (operand_value m w x))) (λ why. tt) (operand_allows shapes a m w x fits p h)
     (λ k uk pk hk. moved_gives m.maps w k (operand_value m w x) uk pk hk)
 binary_gives shapes a m w o d x fits p h = combined_kind_gives shapes a m w o d x fits p h
 

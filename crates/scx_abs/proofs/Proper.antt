@@ -22,7 +22,7 @@ use Rattle.scx_semantics.specs.declared.callbacks.Callback.TheVariants as callba
 use Rattle.scx_semantics.specs.declared.host_tables.Helper.{Helper}
 use Rattle.scx_semantics.specs.declared.host_tables.Helper.TheVariants as helper
 use Rattle.scx_semantics.specs.Registers.{number}
-use Rattle.scx_semantics.specs.Arithmetic.{immediate, wide_immediate, shifted}
+use Rattle.scx_semantics.specs.Arithmetic.{immediate, wide_immediate, at_distance}
 use Rattle.scx_semantics.specs.Memory.{size_bytes, access_size, stack_size}
 use Rattle.scx_semantics.specs.Meaning.{pointer_step, is_plain}
 use Rattle.scx_semantics.proofs.Numbers.{immediate_below, wide_immediate_below}
@@ -32,13 +32,13 @@ use Rattle.scx_maps.specs.declared.shape.Shape.{Shape}
 use Rattle.scx_ranges.specs.declared.ranges.Range.{Range}
 use Rattle.scx_ranges.specs.Ranges.{IsWellFormed, IsRange, CoversRange, join_ranges, single, is_single}
 use Rattle.scx_ranges.specs.Offsets as offsets
-use Rattle.scx_ranges.specs.OffsetLaws.{IsWithin}
+use Rattle.scx_ranges.specs.OffsetLaws.{IsInElement}
 use Rattle.scx_ranges.proofs.Order.{join_formed}
 use Rattle.scx_ranges.proofs.ElementOffsets.{moves_stay_within, advances_stay_within}
 use Rattle.scx_ranges.specs.Cuts.{cut}
 use Rattle.scx_ranges.specs.Laws.{IsCutRange}
 use Rattle.scx_ranges.proofs.KeptByCuts.{cuts_are_ranges}
-use Rattle.scx_ranges.specs.Results.{negated_range, extended_range, swapped_range, loaded}
+use Rattle.scx_ranges.specs.Results.{negated_range, extended_range, swapped_range, loaded_range}
 use Rattle.scx_ranges.proofs.Multiples.{single_range, all_range}
 use Rattle.scx_ranges.proofs.BuiltRanges.{joined_range, computed_range, copied_range, negative_range, extension_range, swap_range, load_range}
 use Rattle.scx_abs.specs.declared.faults.Why.{Why}
@@ -54,12 +54,12 @@ use Rattle.scx_abs.specs.declared.rules.Next.{Next}
 use Rattle.scx_abs.specs.declared.memory.Area.{Area}
 use Rattle.scx_abs.specs.declared.memory.Area.TheVariants.{OnStack, InElement, InTask}
 use Rattle.scx_abs.specs.Kinds.{CoversKind, IsProperKind, kind_if, join_kind}
-use Rattle.scx_abs.specs.Cells.{kind_of, held_of, is_written, no_bytes, marked, all_written, written_in, IsPartOf, CoversCell, IsProperCell, cell_of, join_cell}
+use Rattle.scx_abs.specs.Cells.{kind_of, held_of, is_written, no_bytes, with_bytes, all_written, written_in, IsPartOf, CoversCell, IsProperCell, cell_of, join_cell}
 use Rattle.scx_abs.specs.States.{kind_at, cell_at, with_kind, with_cell, IsWhole, IsProper, ArgumentKinds, argument_kinds, start_kinds}
 use Rattle.scx_semantics.specs.Results.{◌>>=◌}
 use Rattle.scx_abs.specs.Checks.{flows, goes_on, usable, operand_kind, sets, element_size, offset_within}
 use Rattle.scx_abs.specs.Calls.{arguments_check, after_call, element_of, answer_kind, call_allowed, call_rule}
-use Rattle.scx_abs.specs.Rules.{in_element, moved_by, moved_kind, computed_kind, advanced_by, element_kind, arithmetic_kind, combined_kind, binary_kind, number_kind, map_kind, area_of, loaded_kind, kind_in, load_kind, pointer_cell, stored_cell, number_stored, stored_in, null_test, if_null, if_not_null, tested, side, sides, numbers_compared, compared, end_rule}
+use Rattle.scx_abs.specs.Rules.{in_element, moved_by, moved_kind, computed_kind, advanced_by, element_kind, arithmetic_kind, combined_kind, binary_kind, number_kind, map_kind, area_of, loaded_kind, kind_in, load_kind, pointer_cell, stored_cell, number_stored, stored_in, null_test, if_null, if_not_null, null_test_rule, side, sides, numbers_compared, comparison_rule, end_rule}
 use Rattle.scx_abs.specs.Laws.{CoversBothWays, StartIsProper, FlowsProper, RulesKeepProper}
 
 -- ---- the start
@@ -231,18 +231,18 @@ computed_is_proper : (w : Width) (o : Operation) (r : Range) (k : Kind) → IsRa
 computed_is_proper w o r (Num s) p q = computed_range w o r s p q
 computed_is_proper w o r k p q = tt
 
-in_element_proper : (m size : ℕ) (o : Option Range) → IsWithin size o → IsKind (in_element m o)
+in_element_proper : (m size : ℕ) (o : Option Range) → IsInElement size o → IsKind (in_element m o)
 in_element_proper m size None h = tt
 in_element_proper m size (Some r) h = h.0
 
 moved_by_proper : (shapes : List Shape) (k : Kind) (d : Option ℤ) → IsProperKind k → IsKind (moved_by shapes k d)
-moved_by_proper shapes (Stack o) (Some d) p = kind_then (offset_within stack_size (shifted o d)) (λ to. Ok (Stack to)) (λ to. tt)
-moved_by_proper shapes (Elem m r) (Some d) p = in_element_proper m (element_size shapes m) (offsets.moved (element_size shapes m) r d) (moves_stay_within (element_size shapes m) r d p)
+moved_by_proper shapes (Stack o) (Some d) p = kind_then (offset_within stack_size (at_distance o d)) (λ to. Ok (Stack to)) (λ to. tt)
+moved_by_proper shapes (Elem m r) (Some d) p = in_element_proper m (element_size shapes m) (offsets.offsets_plus_constant (element_size shapes m) r d) (moves_stay_within (element_size shapes m) r d p)
 moved_by_proper shapes k d p = tt
 
 advanced_by_proper : (shapes : List Shape) (m : ℕ) (r : Range) (k : Kind) → IsWellFormed r → IsProperKind k → IsKind (advanced_by shapes m r k)
 advanced_by_proper shapes m r (Num s) p q =
-    in_element_proper m (element_size shapes m) (offsets.advanced (element_size shapes m) r s) (advances_stay_within (element_size shapes m) r s p q.formed)
+    in_element_proper m (element_size shapes m) (offsets.offsets_plus_range (element_size shapes m) r s) (advances_stay_within (element_size shapes m) r s p q.formed)
 advanced_by_proper shapes m r k p q = tt
 
 element_is_proper : (shapes : List Shape) (w : Width) (o : Operation) (x : Operand) (m : ℕ) (r : Range) (k : Kind) → IsWellFormed r → IsProperKind k → IsKind (element_kind shapes w o x m r k)
@@ -272,14 +272,14 @@ map_is_proper shapes (pos m) = elim (nat_lt m (length shapes)) as (λ t. IsKind 
 map_is_proper shapes k = tt
 
 loaded_is_proper : (cell : Cell) (a : Access) (j : ℕ) → KeepsProper cell → IsKind (loaded_kind cell a j)
-loaded_is_proper (Bytes b) a j p = elim (all_written b j (size_bytes (access_size a))) as (λ t. IsKind (if t then Ok (Num (loaded a)) else Err UnwrittenStack)) [ true ↦ load_range a | false ↦ tt ]
+loaded_is_proper (Bytes b) a j p = elim (all_written b j (size_bytes (access_size a))) as (λ t. IsKind (if t then Ok (Num (loaded_range a)) else Err UnwrittenStack)) [ true ↦ load_range a | false ↦ tt ]
 loaded_is_proper (Pointer k) access.DoubleWord j p = p
 loaded_is_proper (Pointer k) a j p = tt
 
 kind_in_proper : (a : AbsState) (access : Access) (x : Area) → IsProper a → IsKind (kind_in a access x)
 kind_in_proper a access (OnStack at) p = loaded_is_proper (cell_at a (at / 8)) access (at % 8) (cell_keeps a (at / 8) p)
 kind_in_proper a access InElement p = load_range access
-kind_in_proper a access (InTask f) p = elim (is_plain access) as (λ t. IsKind (if t then Ok (Num (loaded access)) else Err TaskField)) [ true ↦ load_range access | false ↦ tt ]
+kind_in_proper a access (InTask f) p = elim (is_plain access) as (λ t. IsKind (if t then Ok (Num (loaded_range access)) else Err TaskField)) [ true ↦ load_range access | false ↦ tt ]
 
 load_is_proper : (shapes : List Shape) (a : AbsState) (access : Access) (r : Register) (offset : ℤ) → IsProper a → IsKind (load_kind shapes a access r offset)
 load_is_proper shapes a access r offset p =
@@ -313,7 +313,7 @@ pointer_cell_proper None f p h = tt
 pointer_cell_proper (Some k) f p h = h (Pointer k) p
 
 stored_cell_proper : (cell : Cell) (s : Size) (j : ℕ) (k : Kind) (f : Cell → Result Next Why) → IsProperKind k → ((c : Cell) → IsProperCell c → FlowsIn (f c)) → FlowsIn (stored_cell cell s j k >>= f)
-stored_cell_proper cell s j (Num r) f p h = h (Bytes (marked (written_in cell) j (size_bytes s))) refl
+stored_cell_proper cell s j (Num r) f p h = h (Bytes (with_bytes (written_in cell) j (size_bytes s))) refl
 stored_cell_proper cell size.DoubleWord j k f p h = pointer_cell_proper (held_of k) f (held_proper k p) h
 stored_cell_proper cell s j k f p h = tt
 
@@ -333,7 +333,7 @@ pointer_proper a r (ElemOrNull m) p = kind_proper a r (Elem m (single 0)) p (sin
 pointer_proper a r TaskOrNull p = kind_proper a r Task p tt
 pointer_proper a r k p = p
 
-tested_proper : (a : AbsState) (r : ℕ) (k : Kind) (test : Option Bool) → IsProper a → FlowsIn (tested a r k test)
+tested_proper : (a : AbsState) (r : ℕ) (k : Kind) (test : Option Bool) → IsProper a → FlowsIn (null_test_rule a r k test)
 tested_proper a r k None p = tt
 tested_proper a r k (Some true) p = (pointer_proper a r k p, null_proper a r k p)
 tested_proper a r k (Some false) p = (null_proper a r k p, pointer_proper a r k p)
@@ -355,7 +355,7 @@ numbers_compared_proper : (a : AbsState) (r : ℕ) (w : Width) (o : Comparison) 
 numbers_compared_proper a r w o s (Num t) p q = sides_proper a r w o s t p q
 numbers_compared_proper a r w o s k p q = tt
 
-compared_proper : (a : AbsState) (r : ℕ) (w : Width) (o : Comparison) (test : Option Bool) (j k : Kind) → IsProper a → IsProperKind j → FlowsIn (compared a r w o test j k)
+compared_proper : (a : AbsState) (r : ℕ) (w : Width) (o : Comparison) (test : Option Bool) (j k : Kind) → IsProper a → IsProperKind j → FlowsIn (comparison_rule a r w o test j k)
 compared_proper a r w o test (Num s) k p q = numbers_compared_proper a r w o s k p q
 compared_proper a r w o test j k p q = tested_proper a r j test p
 
@@ -409,8 +409,8 @@ rule_proper shapes c (insn.Store s r offset x) a fits p =
     (λ base. then_kept (operand_kind a Bits64 x) (λ k. area_of shapes base offset (size_bytes s) >>= λ t. stored_in a s k t) (operand_is_proper a Bits64 x fits.1 p)
     (λ k q. then_proper (area_of shapes base offset (size_bytes s)) (λ t. stored_in a s k t) (λ t. stored_proper a s k t p q)))
 rule_proper shapes c (insn.JumpIf w k r x offset) a fits p =
-    then_kept (usable (kind_at a (number r))) (λ j. operand_kind a w x >>= λ l. compared a (number r) w k (null_test w k x) j l) (usable_kind (kind_at a (number r)) (kind_is_proper a (number r) p))
-    (λ j q. then_proper (operand_kind a w x) (λ l. compared a (number r) w k (null_test w k x) j l) (λ l. compared_proper a (number r) w k (null_test w k x) j l p q))
+    then_kept (usable (kind_at a (number r))) (λ j. operand_kind a w x >>= λ l. comparison_rule a (number r) w k (null_test w k x) j l) (usable_kind (kind_at a (number r)) (kind_is_proper a (number r) p))
+    (λ j q. then_proper (operand_kind a w x) (λ l. comparison_rule a (number r) w k (null_test w k x) j l) (λ l. compared_proper a (number r) w k (null_test w k x) j l p q))
 rule_proper shapes c (insn.Goto offset) a fits p = (tt, p)
 rule_proper shapes c (insn.GotoLong offset) a fits p = (tt, p)
 rule_proper shapes c (insn.Call k) a fits p = call_proper shapes c (helper_at k) a p

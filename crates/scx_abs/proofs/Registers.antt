@@ -15,7 +15,7 @@ use Rattle.scx_semantics.specs.declared.registers.Register.{Register}
 use Rattle.scx_semantics.specs.declared.registers.Register.TheVariants.{R10}
 use Rattle.scx_semantics.specs.Registers.{number}
 use Rattle.scx_semantics.specs.Elements.{Maps}
-use Rattle.scx_semantics.specs.Machine.{Machine, put, with_register}
+use Rattle.scx_semantics.specs.Machine.{Machine, with_value_at, with_register}
 use Rattle.scx_semantics.specs.Effects as effect
 use Rattle.scx_semantics.specs.Effects.{Query, Load, Effect, set_register, set_register_by_answer}
 use Rattle.scx_semantics.specs.Meaning.{operand_value, is_plain}
@@ -31,7 +31,7 @@ use Rattle.scx_maps.specs.declared.shape.Shape.{Shape}
 use Rattle.scx_abs.specs.declared.faults.Why.{Why}
 use Rattle.scx_abs.specs.declared.faults.Why.TheVariants.{WritesFrame}
 use Rattle.scx_ranges.specs.Ranges.{IsIn, all}
-use Rattle.scx_ranges.specs.Results.{loaded}
+use Rattle.scx_ranges.specs.Results.{loaded_range}
 use Rattle.scx_ranges.proofs.Multiples.{single_range, in_single, in_all}
 use Rattle.scx_ranges.proofs.AllWidths.{loads_are_sound}
 use Rattle.scx_abs.specs.declared.kinds.Kind.{Kind}
@@ -70,7 +70,7 @@ Gives maps (Ok k) (Some v) = Stands maps k v
 pub kind_member : (shapes : List Shape) (a : AbsState) (m : Machine) (r : ℕ) (k : Kind) (v : Value) → IsMember shapes a m → Stands m.maps k v
     → IsMember shapes (with_kind a r k) (with_register m r v)
 kind_member shapes a m r k v h g = record {
-  registers = set_each (λ j d. Stands m.maps d (put m.registers r v j)) a.registers Unusable r k
+  registers = set_each (λ j d. Stands m.maps d (with_value_at m.registers r v j)) a.registers Unusable r k
       (λ j. tt)
       (let here : nat_eq r r ≡ true = eq-eqb r r refl in rw here g)
       (λ j n. let other : nat_eq j r ≡ false = ne_eqb j r n in rw other (h.registers j));
@@ -112,7 +112,7 @@ number_stands maps (value.Number n) h = in_all n h
 number_stands maps v h = absurd h
 
 -- a number of so many bytes is one that a load without a sign may give
-plain_in : (a : Access) (n : ℕ) → is_plain a ≡ true → n < 2 ^ (8 * size_bytes (access_size a)) → IsIn n (loaded a)
+plain_in : (a : Access) (n : ℕ) → is_plain a ≡ true → n < 2 ^ (8 * size_bytes (access_size a)) → IsIn n (loaded_range a)
 plain_in access.Byte n p h = (loads_are_sound access.Byte).kept n (omega (arith, h))
 plain_in access.HalfWord n p h = (loads_are_sound access.HalfWord).kept n (omega (arith, h))
 plain_in access.Word n p h = (loads_are_sound access.Word).kept n (omega (arith, h))
@@ -120,7 +120,7 @@ plain_in access.DoubleWord n p h = in_all n h
 plain_in a n p h = absurd (cc)
 
 -- what a field holds is a number of its bytes
-pub field_stands : (maps : Maps) (t : TaskId) (f : Field) (a : Access) (v : Value) → is_plain a ≡ true → field_width f ≡ size_bytes (access_size a) → Fits (Load t f) v → Stands maps (Num (loaded a)) v
+pub field_stands : (maps : Maps) (t : TaskId) (f : Field) (a : Access) (v : Value) → is_plain a ≡ true → field_width f ≡ size_bytes (access_size a) → Fits (Load t f) v → Stands maps (Num (loaded_range a)) v
 field_stands maps t f a (value.Number n) p e h = plain_in a n p (subst (λ w. n < 2 ^ (8 * w)) e h)
 field_stands maps t f a v p e h = absurd h
 

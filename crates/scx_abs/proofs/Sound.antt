@@ -4,11 +4,11 @@ use Rattle.scx_semantics.specs.declared.instructions.Insn.TheVariants as insn
 use Rattle.scx_semantics.specs.declared.values.Value.{Value}
 use Rattle.scx_semantics.specs.declared.values.Value.TheVariants as value
 use Rattle.scx_semantics.specs.Registers.{number}
-use Rattle.scx_semantics.specs.Arithmetic.{negated, extended, byte_swapped, wide_immediate}
+use Rattle.scx_semantics.specs.Arithmetic.{negative, sign_extension, byte_swapped, wide_immediate}
 use Rattle.scx_semantics.specs.HostTables.{helper_at, answers}
 use Rattle.scx_semantics.specs.Elements.{Maps}
 use Rattle.scx_semantics.specs.Effects as effect
-use Rattle.scx_semantics.specs.Meaning.{binary, on_number, map_reference, answered}
+use Rattle.scx_semantics.specs.Meaning.{binary, on_number, map_reference, end_with}
 use Rattle.scx_maps.specs.declared.shape.Shape.{Shape}
 use Rattle.scx_ranges.specs.Ranges.{single}
 use Rattle.scx_ranges.specs.Results.{negated_range, extended_range, swapped_range}
@@ -29,7 +29,7 @@ use Rattle.scx_abs.proofs.Branches.{jump_sound}
 use Rattle.scx_abs.proofs.HelperCalls.{call_sound}
 use Rattle.scx_abs.proofs.Starts.{begins_sound}
 
-end_sound : (shapes : List Shape) (maps : Maps) (k : Kind) (v : Value) → Stands maps k v → IsSoundFor shapes (end_rule k) (answered v)
+end_sound : (shapes : List Shape) (maps : Maps) (k : Kind) (v : Value) → Stands maps k v → IsSoundFor shapes (end_rule k) (end_with v)
 end_sound shapes maps (Num r) (value.Number n) h = tt
 end_sound shapes maps (Num r) v h = absurd h
 end_sound shapes maps k v h = tt
@@ -39,11 +39,11 @@ pub rules_sound : RulesAreSound
 rules_sound shapes c (insn.Binary w o d x) a m fits p h =
     set_sound shapes a m (number d) (binary_kind shapes a w o d x) (binary m w o (m.registers (number d)) x) h (binary_gives shapes a m w o d x fits p h)
 rules_sound shapes c (insn.Negate w d) a m fits p h =
-    set_sound shapes a m (number d) (number_kind (negated_range w) (kind_at a (number d))) (on_number (negated w) (m.registers (number d))) h
-    (number_gives m.maps (negated w) (negated_range w) (kind_at a (number d)) (m.registers (number d)) (negatives_are_sound w) (kind_is_proper a (number d) p) (h.registers (number d)))
+    set_sound shapes a m (number d) (number_kind (negated_range w) (kind_at a (number d))) (on_number (negative w) (m.registers (number d))) h
+    (number_gives m.maps (negative w) (negated_range w) (kind_at a (number d)) (m.registers (number d)) (negatives_are_sound w) (kind_is_proper a (number d) p) (h.registers (number d)))
 rules_sound shapes c (insn.SignExtend e d r) a m fits p h =
-    set_sound shapes a m (number d) (number_kind (extended_range e) (kind_at a (number r))) (on_number (extended e) (m.registers (number r))) h
-    (number_gives m.maps (extended e) (extended_range e) (kind_at a (number r)) (m.registers (number r)) (extensions_are_sound e) (kind_is_proper a (number r) p) (h.registers (number r)))
+    set_sound shapes a m (number d) (number_kind (extended_range e) (kind_at a (number r))) (on_number (sign_extension e) (m.registers (number r))) h
+    (number_gives m.maps (sign_extension e) (extended_range e) (kind_at a (number r)) (m.registers (number r)) (extensions_are_sound e) (kind_is_proper a (number r) p) (h.registers (number r)))
 rules_sound shapes c (insn.ByteSwap o w d) a m fits p h =
     set_sound shapes a m (number d) (number_kind (swapped_range o w) (kind_at a (number d))) (on_number (byte_swapped o w) (m.registers (number d))) h
     (number_gives m.maps (byte_swapped o w) (swapped_range o w) (kind_at a (number d)) (m.registers (number d)) (swaps_are_sound o w) (kind_is_proper a (number d) p) (h.registers (number d)))
@@ -58,7 +58,7 @@ rules_sound shapes c (insn.Goto offset) a m fits p h = h
 rules_sound shapes c (insn.GotoLong offset) a m fits p h = h
 rules_sound shapes c (insn.Call k) a m fits p h = call_sound shapes c (helper_at k) a m p h
 rules_sound shapes c insn.Exit a m fits p h =
-    elim (answers c) as (λ b. IsSoundFor shapes (if b then end_rule (kind_at a 0) else Ok (flows None None)) (if b then answered (m.registers 0) else effect.Ended 0))
+    elim (answers c) as (λ b. IsSoundFor shapes (if b then end_rule (kind_at a 0) else Ok (flows None None)) (if b then end_with (m.registers 0) else effect.Ended 0))
     [ true ↦ end_sound shapes m.maps (kind_at a 0) (m.registers 0) (h.registers 0) | false ↦ tt ]
 
 -- the law of the start

@@ -11,7 +11,7 @@ pub record IsAlignedWithin (size n at : ℕ) : Type 0 where
   pub aligned : at % n ≡ 0
 
 -- so many bytes of the stack lie in it, at a multiple of them; of other memory this asks nothing
-abbrev pub IsAlignedIn : ℕ → Area → Type 0
-IsAlignedIn n (OnStack at) = IsAlignedWithin stack_size n at
-IsAlignedIn n InElement = Unit {0}
-IsAlignedIn n (InTask f) = Unit {0}
+abbrev pub IsAlignedOnStack : ℕ → Area → Type 0
+IsAlignedOnStack n (OnStack at) = IsAlignedWithin stack_size n at
+IsAlignedOnStack n InElement = Unit {0}
+IsAlignedOnStack n (InTask f) = Unit {0}

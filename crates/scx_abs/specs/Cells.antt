@@ -51,8 +51,8 @@ abbrev pub common : List Bool → List Bool → List Bool
 common a b = each_byte (λ j. is_written a j && is_written b j)
 
 -- the set with so many bytes from one on
-abbrev pub marked : List Bool → ℕ → ℕ → List Bool
-marked set first count = each_byte (λ j. is_written set j || (nat_le first j && nat_lt j (first + count)))
+abbrev pub with_bytes : List Bool → ℕ → ℕ → List Bool
+with_bytes set first count = each_byte (λ j. is_written set j || (nat_le first j && nat_lt j (first + count)))
 
 -- so many bytes from one on are known to be written
 abbrev pub all_written : List Bool → ℕ → ℕ → Bool

@@ -19,26 +19,26 @@ use Rattle.scx_abs.specs.Calls.{after_call}
 use Rattle.scx_abs.specs.Checks.{flows, goes_on}
 
 -- the state with that change of its registers; the cells stay
-abbrev pub changed : AbsState → Change → AbsState
-changed a change.Nothing = a
-changed a (change.Register r k) = with_kind a (number r) k
-changed a (change.Called k) = after_call a k
+abbrev pub after_change : AbsState → Change → AbsState
+after_change a change.Nothing = a
+after_change a (change.Register r k) = with_kind a (number r) k
+after_change a (change.Called k) = after_call a k
 
 -- what flows on from that state, changed
 abbrev pub next_of : AbsState → Flow → Next
 next_of a End = flows None None
-next_of a (On c) = flows (Some (changed a c)) None
-next_of a (Jump c) = flows None (Some (changed a c))
-next_of a (Both c d) = flows (Some (changed a c)) (Some (changed a d))
+next_of a (On c) = flows (Some (after_change a c)) None
+next_of a (Jump c) = flows None (Some (after_change a c))
+next_of a (Both c d) = flows (Some (after_change a c)) (Some (after_change a d))
 
 -- what flows on from that state, changed, where no check failed
-abbrev pub flowed : AbsState → Result Flow Why → Result Next Why
-flowed a (Ok f) = Ok (next_of a f)
-flowed a (Err why) = Err why
+abbrev pub next_states : AbsState → Result Flow Why → Result Next Why
+next_states a (Ok f) = Ok (next_of a f)
+next_states a (Err why) = Err why
 
 -- the state, changed, goes on to the next instruction alone, where no check failed
 abbrev pub went_on : AbsState → Result Change Why → Result Next Why
-went_on a (Ok c) = goes_on (changed a c)
+went_on a (Ok c) = goes_on (after_change a c)
 went_on a (Err why) = Err why
 
 -- a state that was changed in place goes on to the next instruction alone, where no check failed

@@ -20,7 +20,7 @@ use Rattle.scx_semantics.specs.declared.operations.Access.TheVariants as access
 use Rattle.scx_semantics.specs.declared.callbacks.Callback.{Callback}
 use Rattle.scx_semantics.specs.declared.registers.Register.{Register}
 use Rattle.scx_semantics.specs.Registers.{number}
-use Rattle.scx_semantics.specs.Arithmetic.{shifted, wide_immediate}
+use Rattle.scx_semantics.specs.Arithmetic.{at_distance, wide_immediate}
 use Rattle.scx_semantics.specs.Memory.{size_bytes, access_size, stack_size}
 use Rattle.scx_semantics.specs.declared.host_tables.Field.{Field}
 use Rattle.scx_semantics.specs.HostTables.{field_at, is_writable, helper_at, answers}
@@ -29,8 +29,8 @@ use Rattle.scx_maps.specs.declared.shape.Shape.{Shape}
 use Rattle.scx_ranges.specs.declared.ranges.Range.{Range}
 use Rattle.scx_ranges.specs.Ranges.{single, is_single}
 use Rattle.scx_ranges.specs.Cuts.{cut}
-use Rattle.scx_ranges.specs.Offsets.{moved, advanced}
-use Rattle.scx_ranges.specs.Results.{computed_at, copied, negated_range, extended_range, swapped_range, loaded}
+use Rattle.scx_ranges.specs.Offsets.{offsets_plus_constant, offsets_plus_range}
+use Rattle.scx_ranges.specs.Results.{computed_at, move_range, negated_range, extended_range, swapped_range, loaded_range}
 use Rattle.scx_abs.specs.declared.faults.Why.{Why}
 use Rattle.scx_abs.specs.declared.faults.Why.TheVariants.{UnusableRegister, UnwrittenStack, OutOfBounds, NullNotTested, PointerArithmetic, PointerCompare, PointerStore, TaskField, BadReturn, UnknownMap}
 use Rattle.scx_abs.specs.declared.kinds.Kind.{Kind}
@@ -42,7 +42,7 @@ use Rattle.scx_abs.specs.declared.states.AbsState.{AbsState}
 use Rattle.scx_abs.specs.declared.rules.Next.{Next}
 use Rattle.scx_abs.specs.declared.memory.Area.{Area}
 use Rattle.scx_abs.specs.declared.memory.Area.TheVariants.{OnStack, InElement, InTask}
-use Rattle.scx_abs.specs.Cells.{kind_of, held_of, marked, all_written, written_in}
+use Rattle.scx_abs.specs.Cells.{kind_of, held_of, with_bytes, all_written, written_in}
 use Rattle.scx_abs.specs.States.{kind_at, cell_at, with_kind, with_cell}
 use Rattle.scx_semantics.specs.Results.{◌>>=◌}
 use Rattle.scx_abs.specs.Checks.{flows, goes_on, usable, operand_kind, sets, element_size, offset_within, offset_for, offsets_for}
@@ -58,15 +58,15 @@ in_element m (Some r) = Ok (Elem m r)
 -- a pointer that is moved stays in its memory, or comes to its end, right behind the last byte
 abbrev pub moved_by : List Shape → Kind → Option ℤ → Result Kind Why
 moved_by shapes (Stack o) (Some k) = do
-  to ← offset_within stack_size (shifted o k)
+  to ← offset_within stack_size (at_distance o k)
   Ok (Stack to)
-moved_by shapes (Elem m r) (Some k) = in_element m (moved (element_size shapes m) r k)
+moved_by shapes (Elem m r) (Some k) = in_element m (offsets_plus_constant (element_size shapes m) r k)
 moved_by shapes k distance = Err PointerArithmetic
 
 -- a move copies a number, and one of 64 bits a pointer too
 abbrev pub moved_kind : Width → Kind → Result Kind Why
 moved_kind Bits64 k = Ok k
-moved_kind Bits32 (Num r) = Ok (Num (copied Bits32 r))
+moved_kind Bits32 (Num r) = Ok (Num (move_range Bits32 r))
 moved_kind Bits32 k = Err PointerArithmetic
 
 -- what other arithmetic makes of a number and the operand's kind
@@ -76,7 +76,7 @@ computed_kind w o r k = Err PointerArithmetic
 
 -- a pointer into an element, a number of the operand's further on
 abbrev pub advanced_by : List Shape → ℕ → Range → Kind → Result Kind Why
-advanced_by shapes m r (Num s) = in_element m (advanced (element_size shapes m) r s)
+advanced_by shapes m r (Num s) = in_element m (offsets_plus_range (element_size shapes m) r s)
 advanced_by shapes m r k = Err PointerArithmetic
 
 -- A 64-bit sum with a register takes a pointer into an element that far on. Other arithmetic moves it
@@ -132,12 +132,12 @@ field_area (Some f) = Ok (InTask f)
 -- the memory that an address means, for so many bytes
 abbrev pub area_of : List Shape → Kind → ℤ → ℕ → Result Area Why
 area_of shapes (Stack o) offset n = do
-  at ← offset_for stack_size n (shifted o offset)
+  at ← offset_for stack_size n (at_distance o offset)
   Ok (OnStack at)
 area_of shapes (Elem m r) offset n = do
   fine ← offsets_for (element_size shapes m) n r offset
   Ok InElement
-area_of shapes Task offset n = field_area (field_at n (shifted 0 offset))
+area_of shapes Task offset n = field_area (field_at n (at_distance 0 offset))
 area_of shapes (ElemOrNull m) offset n = Err NullNotTested
 area_of shapes TaskOrNull offset n = Err NullNotTested
 area_of shapes (Num r) offset n = Err OutOfBounds
@@ -146,15 +146,15 @@ area_of shapes Unusable offset n = Err UnusableRegister
 
 -- what a load gives that begins at that byte of the cell
 abbrev pub loaded_kind : Cell → Access → ℕ → Result Kind Why
-loaded_kind (Bytes set) a j = if all_written set j (size_bytes (access_size a)) then Ok (Num (loaded a)) else Err UnwrittenStack
+loaded_kind (Bytes set) a j = if all_written set j (size_bytes (access_size a)) then Ok (Num (loaded_range a)) else Err UnwrittenStack
 loaded_kind (Pointer k) access.DoubleWord j = Ok (kind_of k)
 loaded_kind (Pointer k) a j = Err UnwrittenStack
 
 -- Elements and fields hold numbers. A field is loaded without a sign.
 abbrev pub kind_in : AbsState → Access → Area → Result Kind Why
 kind_in a access (OnStack at) = loaded_kind (cell_at a (at / 8)) access (at % 8)
-kind_in a access InElement = Ok (Num (loaded access))
-kind_in a access (InTask f) = if is_plain access then Ok (Num (loaded access)) else Err TaskField
+kind_in a access InElement = Ok (Num (loaded_range access))
+kind_in a access (InTask f) = if is_plain access then Ok (Num (loaded_range access)) else Err TaskField
 
 -- what a load leaves, from the address in a register with an offset added
 abbrev pub load_kind : List Shape → AbsState → Access → Register → ℤ → Result Kind Why
@@ -170,7 +170,7 @@ pointer_cell (Some k) = Ok (Pointer k)
 
 -- the cell after a store that begins at that byte of it; a pointer takes all eight
 abbrev pub stored_cell : Cell → Size → ℕ → Kind → Result Cell Why
-stored_cell cell s j (Num r) = Ok (Bytes (marked (written_in cell) j (size_bytes s)))
+stored_cell cell s j (Num r) = Ok (Bytes (with_bytes (written_in cell) j (size_bytes s)))
 stored_cell cell size.DoubleWord j k = pointer_cell (held_of k)
 stored_cell cell s j k = Err PointerStore
 
@@ -217,10 +217,10 @@ if_not_null a r k = a
 
 -- what flows on from a pointer's comparison: each side of a test for 0, by whether it jumps at 0;
 -- any other comparison is refused
-abbrev pub tested : AbsState → ℕ → Kind → Option Bool → Result Next Why
-tested a r k None = Err PointerCompare
-tested a r k (Some true) = Ok (flows (Some (if_not_null a r k)) (if_null a r k))
-tested a r k (Some false) = Ok (flows (if_null a r k) (Some (if_not_null a r k)))
+abbrev pub null_test_rule : AbsState → ℕ → Kind → Option Bool → Result Next Why
+null_test_rule a r k None = Err PointerCompare
+null_test_rule a r k (Some true) = Ok (flows (Some (if_not_null a r k)) (if_null a r k))
+null_test_rule a r k (Some false) = Ok (flows (if_null a r k) (Some (if_not_null a r k)))
 
 -- the state where a comparison of the register's numbers with c has that answer; there is none where no
 -- number is left
@@ -239,16 +239,16 @@ numbers_compared a r w o s (Num t) = Ok (sides a r w o s t)
 numbers_compared a r w o s k = Err PointerCompare
 
 -- a pointer is only tested for 0
-abbrev pub compared : AbsState → ℕ → Width → Comparison → Option Bool → Kind → Kind → Result Next Why
-compared a r w o test (Num s) k = numbers_compared a r w o s k
-compared a r w o test j k = tested a r j test
+abbrev pub comparison_rule : AbsState → ℕ → Width → Comparison → Option Bool → Kind → Kind → Result Next Why
+comparison_rule a r w o test (Num s) k = numbers_compared a r w o s k
+comparison_rule a r w o test j k = null_test_rule a r j test
 
 -- the rule of a jump that compares a register with an operand
 abbrev pub jump_rule : AbsState → Width → Comparison → Register → Operand → Result Next Why
 jump_rule a w c r x = do
   j ← usable (kind_at a (number r))
   k ← operand_kind a w x
-  compared a (number r) w c (null_test w c x) j k
+  comparison_rule a (number r) w c (null_test w c x) j k
 
 -- ---- the end
 

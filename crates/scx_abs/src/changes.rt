@@ -1,5 +1,5 @@
 ghost use Rattle.std.specs.Prelude.{◌≡◌};
-ghost use Rattle.scx_abs.specs.Changes.{changed, next_of};
+ghost use Rattle.scx_abs.specs.Changes.{after_change, next_of};
 
 use crate::kinds::Kind;
 use crate::rules::Next;
@@ -36,7 +36,7 @@ impl AbsState {
     /// Changes the state in place.
     #[inline(always)]
     pub(crate) fn change(&mut self, change: &Change)
-        ensures { self.new ≡ changed self.old change.now }
+        ensures { self.new ≡ after_change self.old change.now }
     {
         match *change {
             Change::Nothing => (),
@@ -59,7 +59,7 @@ impl AbsState {
 
     /// The state, changed.
     fn changed(&self, change: &Change) -> AbsState
-        ensures { result ≡ changed self.now change.now }
+        ensures { result ≡ after_change self.now change.now }
     {
         let mut state = *self;
         state.change(change);

@@ -3,10 +3,10 @@ ghost use Rattle.scx_semantics.specs.Registers.{number};
 ghost use Rattle.scx_ranges.specs.Ranges.{single};
 ghost use Rattle.scx_abs.specs.declared.changes.Change.TheVariants as Change;
 ghost use Rattle.scx_abs.specs.declared.kinds.Kind.TheVariants.{Elem, Num, Task};
-ghost use Rattle.scx_abs.specs.Changes.{changed, next_of, flowed};
+ghost use Rattle.scx_abs.specs.Changes.{after_change, next_of, next_states};
 ghost use Rattle.scx_abs.specs.Checks.{flows, constant_of};
 ghost use Rattle.scx_abs.specs.States.{kind_at};
-ghost use Rattle.scx_abs.specs.Rules.{null_test, if_null, if_not_null, tested, side, sides, numbers_compared, jump_rule};
+ghost use Rattle.scx_abs.specs.Rules.{null_test, if_null, if_not_null, null_test_rule, side, sides, numbers_compared, jump_rule};
 
 use crate::arithmetic::{operand_kind, usable};
 use crate::changes::{Change, Flow};
@@ -49,7 +49,7 @@ pub fn flow_of_jump(
     register: Register,
     operand: Operand,
 ) -> Result<Flow, Why>
-    ensures { flowed state.now result ≡ jump_rule state.now width comparison register operand }
+    ensures { next_states state.now result ≡ jump_rule state.now width comparison register operand }
 {
     let kind = usable(state.kind(register))?;
     let other = operand_kind(state, width, operand)?;
@@ -81,7 +81,7 @@ fn numbers_compared(
     numbers: Numbers,
     other: Kind,
 ) -> Result<Flow, Why>
-    ensures { flowed state.now result
+    ensures { next_states state.now result
         ≡ numbers_compared state.now (number register) width comparison numbers other }
 {
     match other {
@@ -146,7 +146,7 @@ fn side(
     numbers: Numbers,
     c: u64,
 ) -> Option<Change>
-    ensures { option_map (changed state.now) result
+    ensures { option_map (after_change state.now) result
         ≡ side state.now (number register) comparison answer c numbers }
 {
     match numbers.cut(comparison, answer, c) {
@@ -158,7 +158,7 @@ fn side(
 /// What flows on from a test for 0 of a pointer of that kind.
 #[inline(always)]
 fn tested(state: &AbsState, register: Register, kind: Kind, test: Option<bool>) -> Result<Flow, Why>
-    ensures { flowed state.now result ≡ tested state.now (number register) kind test }
+    ensures { next_states state.now result ≡ null_test_rule state.now (number register) kind test }
 {
     match test {
         Some(true) => Ok(jump_at_null(state, register, kind)),

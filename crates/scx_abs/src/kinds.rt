@@ -2,7 +2,7 @@ ghost use Rattle.std.specs.Prelude.{◌≡◌, ◌+◌, ◌≤◌, true, false, 
 ghost use Rattle.scx_ranges.specs.Ranges.{single};
 ghost use Rattle.scx_abs.specs.Kinds.{join_kind};
 ghost use Rattle.scx_abs.specs.declared.kinds.Kind.TheVariants as Kind;
-ghost use Rattle.scx_abs.specs.Cells.{kind_of, held_of, cell_of, common, marked, join_pointers, join_cell};
+ghost use Rattle.scx_abs.specs.Cells.{kind_of, held_of, cell_of, common, with_bytes, join_pointers, join_cell};
 ghost use Rattle.scx_abs.specs.Cells.{all_written, written_in};
 ghost use Rattle.scx_abs.specs.Singles.{is_single_number};
 
@@ -341,7 +341,7 @@ fn common(first: [bool; CELL_BYTES], second: [bool; CELL_BYTES]) -> [bool; CELL_
 #[inline(always)]
 pub(crate) fn marked(set: [bool; CELL_BYTES], first: usize, count: usize) -> [bool; CELL_BYTES]
     requires { first + count ≤ CELL_BYTES }
-    ensures { result ≡ marked set first count }
+    ensures { result ≡ with_bytes set first count }
 {
     if count == CELL_BYTES {
         return [true; CELL_BYTES];

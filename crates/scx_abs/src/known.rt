@@ -1,7 +1,7 @@
 ghost use Rattle.std.specs.Prelude.{◌≡◌, Ok, IfOk};
 ghost use Rattle.scx_semantics.specs.Memory.{access_size, size_bytes};
 ghost use Rattle.scx_semantics.specs.Registers.{number};
-ghost use Rattle.scx_abs.specs.Changes.{changed, done_on, lowest_in};
+ghost use Rattle.scx_abs.specs.Changes.{after_change, done_on, lowest_in};
 ghost use Rattle.scx_abs.specs.Checks.{sets};
 ghost use Rattle.scx_abs.specs.Kinds.{IsLeastCover};
 ghost use Rattle.scx_abs.specs.Rules.{area_of, binary_kind, load_kind, store_rule};
@@ -142,7 +142,7 @@ impl Known {
     /// Changes the state in place.
     #[inline(always)]
     pub fn change(&mut self, change: &Change)
-        ensures { self.new ≡ changed self.old change.now }
+        ensures { self.new ≡ after_change self.old change.now }
     {
         self.state.change(change);
     }

@@ -5,8 +5,8 @@ ghost use Rattle.scx_ranges.specs.declared.ranges.Range.{Range};
 ghost use Rattle.scx_abs.specs.declared.kinds.Kind.TheVariants as Kind;
 ghost use Rattle.scx_abs.specs.declared.kinds.Cell.TheVariants as Cell;
 ghost use Rattle.scx_abs.specs.declared.states.AbsState.{AbsState};
-ghost use Rattle.scx_abs.specs.Areas.{IsAlignedIn};
-ghost use Rattle.scx_abs.specs.Cells.{marked, written_in};
+ghost use Rattle.scx_abs.specs.Areas.{IsAlignedOnStack};
+ghost use Rattle.scx_abs.specs.Cells.{with_bytes, written_in};
 ghost use Rattle.scx_abs.specs.Changes.{AreKept, done_on, lowest_in};
 ghost use Rattle.scx_abs.specs.Checks.{sets};
 ghost use Rattle.scx_abs.specs.States.{cell_at, kind_at, with_cell};
@@ -139,7 +139,7 @@ impl AbsState {
     /// The same there.
     #[inline(always)]
     fn store_in(&mut self, size: Size, kind: Kind, area: Area) -> Result<(), Why>
-        requires { IsAlignedIn (size_bytes size) area }
+        requires { IsAlignedOnStack (size_bytes size) area }
         ensures done { done_on self.new result ≡ stored_in self.old size kind area }
         ensures kept { AreKept (lowest_in area) self.old self.new }
         ensures same { IfErr result (λ why. self.new ≡ self.old) }
@@ -154,7 +154,7 @@ impl AbsState {
     #[inline(always)]
     #[tactic(auto, using(crate::proofs::Bytes::fits_cell))]
     fn store_number(&mut self, size: Size, area: Area) -> Result<(), Why>
-        requires { IsAlignedIn (size_bytes size) area }
+        requires { IsAlignedOnStack (size_bytes size) area }
         ensures done { (r : Range)
             → done_on self.new result ≡ stored_in self.old size (Kind.Num r) area }
         ensures kept { AreKept (lowest_in area) self.old self.new }
@@ -179,7 +179,7 @@ impl AbsState {
         requires cell { cell < CELLS }
         requires byte { byte + size_bytes size ≤ CELL_BYTES }
         ensures marked { self.new ≡ with_cell self.old cell
-            (Cell.Bytes (marked (written_in (cell_at self.old cell)) byte (size_bytes size))) }
+            (Cell.Bytes (with_bytes (written_in (cell_at self.old cell)) byte (size_bytes size))) }
         ensures kept { AreKept cell self.old self.new }
     {
         let written = self.cell(cell).written();
@@ -196,7 +196,7 @@ impl AbsState {
     #[inline(never)]
     #[tactic(auto, using(crate::proofs::Bytes::fits_cell, crate::proofs::Blanks::kept_below))]
     fn store_pointer(&mut self, size: Size, kind: Kind, area: Area) -> Result<(), Why>
-        requires { IsAlignedIn (size_bytes size) area }
+        requires { IsAlignedOnStack (size_bytes size) area }
         ensures done { done_on self.new result ≡ stored_in self.old size kind area }
         ensures kept { AreKept (lowest_in area) self.old self.new }
         ensures same { IfErr result (λ why. self.new ≡ self.old) }
@@ -233,7 +233,7 @@ fn check_number(kind: Kind) -> Result<(), Why>
 #[inline(always)]
 pub fn area_of(base: Kind, offset: i16, size: Size, defs: &MapDefs) -> Result<Area, Why>
     ensures area { result ≡ area_of defs.now base offset (size_bytes size) }
-    ensures aligned { IfOk result (IsAlignedIn (size_bytes size)) }
+    ensures aligned { IfOk result (IsAlignedOnStack (size_bytes size)) }
 {
     let distance = i64::from(offset);
     match base {
@@ -255,7 +255,7 @@ pub fn area_of(base: Kind, offset: i16, size: Size, defs: &MapDefs) -> Result<Ar
 /// A field of a task, if an access takes one whole.
 fn field_area(field: Option<Field>) -> Result<Area, Why>
     ensures area { result ≡ field_area field }
-    ensures aligned { IfOk result (IsAlignedIn 0) }
+    ensures aligned { IfOk result (IsAlignedOnStack 0) }
 {
     match field {
         Some(field) => Ok(Area::InTask(field)),
@@ -267,7 +267,7 @@ fn field_area(field: Option<Field>) -> Result<Area, Why>
 #[inline(always)]
 #[tactic(auto, using(crate::proofs::Bytes::fits_cell))]
 fn kind_in(state: &AbsState, access: Access, area: Area) -> Result<Kind, Why>
-    requires { IsAlignedIn (size_bytes (access_size access)) area }
+    requires { IsAlignedOnStack (size_bytes (access_size access)) area }
     ensures { result ≡ kind_in state.now access area }
 {
     match area {

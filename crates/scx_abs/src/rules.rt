@@ -1,6 +1,6 @@
 ghost use Rattle.std.specs.Prelude.{◌≡◌, Some, None};
 ghost use Rattle.scx_semantics.specs.Registers.{number};
-ghost use Rattle.scx_abs.specs.Changes.{ended_on, flowed, went_on};
+ghost use Rattle.scx_abs.specs.Changes.{ended_on, next_states, went_on};
 ghost use Rattle.scx_abs.specs.Checks.{flows, sets};
 ghost use Rattle.scx_abs.specs.Rules.{binary_kind, end_rule, load_kind, rule, store_rule};
 
@@ -171,7 +171,7 @@ fn on(state: &AbsState, change: Result<Change, Why>) -> Result<Next, Why>
 
 /// What flows on, as two states.
 fn followed(state: &AbsState, flow: Result<Flow, Why>) -> Result<Next, Why>
-    ensures { result ≡ flowed state.now flow }
+    ensures { result ≡ next_states state.now flow }
 {
     match flow {
         Ok(flow) => Ok(next_of(state, &flow)),

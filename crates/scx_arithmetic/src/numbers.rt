@@ -1,7 +1,7 @@
 ghost use Rattle.std.specs.Prelude.{◌≡◌, ◌%◌, ◌^◌};
 ghost use Rattle.scx_semantics.specs.Memory.{within};
 ghost use Rattle.scx_semantics.specs.Meaning.{pointer_step};
-ghost use Rattle.scx_semantics.specs.Arithmetic.{compute, operate, low, negated, extended, low_bytes, reversed_bytes, byte_swapped, immediate, wide_immediate, compares, holds, shifted};
+ghost use Rattle.scx_semantics.specs.Arithmetic.{compute, operate, low, negative, sign_extension, low_bytes, reversed_bytes, byte_swapped, immediate, wide_immediate, compares, holds, at_distance};
 ghost use Rattle.scx_semantics.specs.declared.operations.Width.TheVariants.{Bits32, Bits64};
 
 use scx_semantics::{ByteOrder, Comparison, Extension, Operand, Operation, SwapWidth, Width};
@@ -80,7 +80,7 @@ fn operate32(operation: Operation, a: u32, b: u32) -> u32
 
 /// The two's complement negative (RFC 9669, section 4.1).
 pub fn negated(width: Width, n: u64) -> u64
-    ensures { result ≡ negated width n }
+    ensures { result ≡ negative width n }
 {
     match width {
         Width::Bits32 => u64::from(low_half(n).wrapping_neg()),
@@ -90,7 +90,7 @@ pub fn negated(width: Width, n: u64) -> u64
 
 /// The low bits, extended with their sign (RFC 9669, section 4.1).
 pub fn extended(extension: Extension, n: u64) -> u64
-    ensures { result ≡ extended extension n }
+    ensures { result ≡ sign_extension extension n }
 {
     match extension {
         Extension::Low8To32 => u64::from(i32::from(low_byte(n).cast_signed()).cast_unsigned()),
@@ -244,7 +244,7 @@ pub fn pointer_step(width: Width, operation: Operation, operand: Operand) -> Opt
 
 /// The offset that far on, or back; `None` below 0.
 pub fn shifted(at: u16, distance: i64) -> Option<u64>
-    ensures { result ≡ shifted at distance }
+    ensures { result ≡ at_distance at distance }
 {
     let length = distance.unsigned_abs();
     if distance < 0 {

@@ -14,10 +14,10 @@ use Rattle.scx_asm.specs.declared.faults.AsmFault.{AsmFault}
 use Rattle.scx_asm.specs.declared.faults.AsmFault.TheVariants.{Syntax, UnknownLabel, TwiceLabel, OutOfRange, TooLong}
 use Rattle.scx_asm.specs.declared.faults.AsmError.{AsmError}
 use Rattle.scx_asm.specs.declared.faults.AsmError.TheVariants.{Refused, OutOfMemory}
-use Rattle.scx_asm.specs.Resolving.{insn_of, jump_of, distant, distance, fits, slots, or_out_of_range, Labels, find, resolved}
+use Rattle.scx_asm.specs.Resolving.{insn_of, jump_of, distant, distance, fits, slots, or_out_of_range, Labels, find, insn_for}
 use Rattle.scx_asm.specs.FirstPass.{UnresolvedLine, FirstPassState, nothing_read, at_line, with_label, with_unresolved, with_line, with_text, first_pass, Gives, Fails}
 use Rattle.scx_asm.specs.Reading.{second_pass, insns_of, read_insns, read_text, code_of}
-use Rattle.scx_asm.specs.Standing.{defined, definitions, names, AreSaid}
+use Rattle.scx_asm.specs.Standing.{label_at, definitions, names, AreSaid}
 use Rattle.scx_asm.specs.FirstFault.{slots_of, AreFine, IsWrong, FailsAt, IsLost, IsFirstFault, AtLine, NoInsn, AtJump, Answers}
 use Rattle.scx_asm.proofs.Fitting.{bind_ok, located_ok}
 use Rattle.scx_asm.proofs.Standing.{there, found, unresolved_lines, after, plus_none, line_was, text_was, first_pass_was, nothing_less, resolved_was, jump_to, read_as, read_was}
@@ -39,13 +39,13 @@ slots_more : (ls : List ItemValue) (l : ItemValue) → slots_of (ls ++ l ∷ [])
 slots_more [] l = omega arith
 slots_more (x ∷ xs) l = omega (arith, slots_more xs l)
 
-definitions_more : (s : ℕ) (ls : List ItemValue) (l : ItemValue) → definitions s (ls ++ l ∷ []) ≡ definitions s ls ++ defined (s + slots_of ls) l
-definitions_more s [] l = append-nil (defined s l) ∙ ap (λ (k : ℕ). defined k l) (sym (plus_none s))
+definitions_more : (s : ℕ) (ls : List ItemValue) (l : ItemValue) → definitions s (ls ++ l ∷ []) ≡ definitions s ls ++ label_at (s + slots_of ls) l
+definitions_more s [] l = append-nil (label_at s l) ∙ ap (λ (k : ℕ). label_at k l) (sym (plus_none s))
 definitions_more s (x ∷ xs) l =
     let sum : (s + slots x) + slots_of xs ≡ s + (slots x + slots_of xs) = omega arith in
-    ap (λ (es : Labels). defined s x ++ es) (definitions_more (s + slots x) xs l)
-    ∙ (sym (append_assoc (defined s x) (definitions (s + slots x) xs) (defined ((s + slots x) + slots_of xs) l))
-    ∙ ap (λ (k : ℕ). (defined s x ++ definitions (s + slots x) xs) ++ defined k l) sum)
+    ap (λ (es : Labels). label_at s x ++ es) (definitions_more (s + slots x) xs l)
+    ∙ (sym (append_assoc (label_at s x) (definitions (s + slots x) xs) (label_at ((s + slots x) + slots_of xs) l))
+    ∙ ap (λ (k : ℕ). (label_at s x ++ definitions (s + slots x) xs) ++ label_at k l) sum)
 
 all_more : (ls : List ItemValue) (l : ItemValue) → AllByRecursion (λ l. fits l ≡ true) ls → fits l ≡ true → AllByRecursion (λ l. fits l ≡ true) (ls ++ l ∷ [])
 all_more [] l h e = (e, tt)
@@ -91,11 +91,11 @@ one_more n p q before earlier text l b e w =
     let distinct = subst (λ (es : Labels). IsDistinct bytes_eq (names es)) (sym b.labels) b.fine.once in
     let added = line_was n p q l w distinct in
     let count : p.slots + slots l ≡ q.slots = ap (λ (p : FirstPassState). p.slots) added.is in
-    let table : p.labels ++ defined p.slots l ≡ q.labels = ap (λ (p : FirstPassState). p.labels) added.is in
+    let table : p.labels ++ label_at p.slots l ≡ q.labels = ap (λ (p : FirstPassState). p.labels) added.is in
     let room = line_room n p q l w (omega (arith, b.slots, b.fine.within)) in
     let start : p.slots ≡ 0 + slots_of earlier = omega (arith, b.slots) in
     let labels : q.labels ≡ definitions 0 (earlier ++ l ∷ []) =
-    sym table ∙ (ap (λ (es : Labels). es ++ defined p.slots l) b.labels ∙ (ap (λ (k : ℕ). definitions 0 earlier ++ defined k l) start ∙ sym (definitions_more 0 earlier l))) in
+    sym table ∙ (ap (λ (es : Labels). es ++ label_at p.slots l) b.labels ∙ (ap (λ (k : ℕ). definitions 0 earlier ++ label_at k l) start ∙ sym (definitions_more 0 earlier l))) in
     record {
       slots = omega (arith, count, b.slots, slots_more earlier l);
       labels = labels;
@@ -243,7 +243,7 @@ not_some None x e = cc
 not_some (Some i) x e = cc
 
 -- only a jump to a label can fail
-lost_line : (labels : Labels) (s : ℕ) (l : ItemValue) (f : AsmFault) → IsDistinct bytes_eq (names labels) → fits l ≡ true → (l ≡ Blank → ⊥) → ((n : List ℕ) → l ≡ DefinesLabel n → ⊥) → resolved labels s l ≡ no_insn f → IsLost labels s l f
+lost_line : (labels : Labels) (s : ℕ) (l : ItemValue) (f : AsmFault) → IsDistinct bytes_eq (names labels) → fits l ≡ true → (l ≡ Blank → ⊥) → ((n : List ℕ) → l ≡ DefinesLabel n → ⊥) → insn_for labels s l ≡ no_insn f → IsLost labels s l f
 lost_line labels s Blank f d fit blank place e = absurd (blank refl)
 lost_line labels s (DefinesLabel n) f d fit blank place e = absurd (place n refl)
 lost_line labels s (Says x) f d fit blank place e = absurd (not_some (insn_of x) fit (in_range_err (insn_of x) f e).0)
@@ -265,11 +265,11 @@ lost_line labels s (Jumps j (Label l)) f d fit blank place e = go (find l labels
         differs e = cc
 
 -- an unresolved line has no instruction, or a later one has none
-build_fails : (labels : Labels) (d : UnresolvedLine) (ds : List UnresolvedLine) (f : AsmFault) (m : ℕ) → second_pass labels (d ∷ ds) ≡ fails (List Insn) f m → {P : Type 0} → (resolved labels d.slot d.says ≡ no_insn f → m ≡ d.line → P) → ((i : Insn) → resolved labels d.slot d.says ≡ insn_is i → second_pass labels ds ≡ fails (List Insn) f m → P) → P
+build_fails : (labels : Labels) (d : UnresolvedLine) (ds : List UnresolvedLine) (f : AsmFault) (m : ℕ) → second_pass labels (d ∷ ds) ≡ fails (List Insn) f m → {P : Type 0} → (insn_for labels d.slot d.says ≡ no_insn f → m ≡ d.line → P) → ((i : Insn) → insn_for labels d.slot d.says ≡ insn_is i → second_pass labels ds ≡ fails (List Insn) f m → P) → P
 unfolding second_pass
-build_fails labels d ds f m e {P} first later = go (resolved labels d.slot d.says) refl
+build_fails labels d ds f m e {P} first later = go (insn_for labels d.slot d.says) refl
   where
-    go : (r : Result Insn AsmFault) → resolved labels d.slot d.says ≡ r → P
+    go : (r : Result Insn AsmFault) → insn_for labels d.slot d.says ≡ r → P
     go (Err g) h =
         let one : fails (List Insn) g d.line ≡ fails (List Insn) f m = rw h at e in
         let both = same_fault (List Insn) g f d.line m one in

@@ -25,7 +25,7 @@ use Rattle.scx_text.specs.Options.{either, ◌>>=◌ as ◌>>-◌}
 use Rattle.scx_text.specs.Items.{Label, Distance, ItemValue, Blank, DefinesLabel, Says, Jumps, read_line}
 use Rattle.scx_asm.specs.declared.faults.AsmFault.{AsmFault}
 use Rattle.scx_asm.specs.declared.faults.AsmFault.TheVariants.{Syntax, UnknownLabel, TwiceLabel, OutOfRange, TooLong}
-use Rattle.scx_asm.specs.Resolving.{immediate, short, wide, long, operand_of, insn_of, jump_of, distant, fits, slots, Labels, find, distance, or_out_of_range, resolved}
+use Rattle.scx_asm.specs.Resolving.{immediate, short, wide, long, operand_of, insn_of, jump_of, distant, fits, slots, Labels, find, distance, or_out_of_range, insn_for}
 use Rattle.scx_semantics.specs.Results.{◌>>=◌}
 use Rattle.scx_asm.specs.FirstPass.{UnresolvedLine, FirstPassState, nothing_read, at_line, with_label, with_unresolved, with_line, with_text, first_pass}
 use Rattle.scx_asm.specs.Reading.{second_pass, insns_of, read_insns, code_of}
@@ -189,7 +189,7 @@ label_fits None slot j i e = absurd (cc)
 label_fits (Some target) slot j i e = jump_fits j (distance slot target) i (in_range_ok _ i e)
 
 -- the instruction of a line fits its fields, and takes its slots
-pub line_fits : (labels : Labels) (slot : ℕ) (l : ItemValue) (i : Insn) → resolved labels slot l ≡ Ok i → IsInsn i × (size i ≡ slots l)
+pub line_fits : (labels : Labels) (slot : ℕ) (l : ItemValue) (i : Insn) → insn_for labels slot l ≡ Ok i → IsInsn i × (size i ≡ slots l)
 line_fits labels slot (Says s) i e = insn_fits s i (in_range_ok _ i e)
 line_fits labels slot (Jumps j (Distance n)) i e =
     let k = bind_some (immediate n) _ i (in_range_ok (distant j n) i e) in
@@ -225,7 +225,7 @@ built_fits : (labels : Labels) (ds : List UnresolvedLine) (is : List Insn) → s
 unfolding second_pass
 built_fits labels [] is e = let same : [] ≡ is = cc in subst (λ (is : List Insn). Fit is 0) same (record { insns = tt; code = tt; length = refl })
 built_fits labels (d ∷ ds) is e =
-    let i = bind_ok (at_line d.line (resolved labels d.slot d.says)) _ is e in
+    let i = bind_ok (at_line d.line (insn_for labels d.slot d.says)) _ is e in
     let rest = bind_ok (second_pass labels ds) _ is i.2 in
     let same : i.0 ∷ rest.0 ≡ is = cc in
     let h = line_fits labels d.slot d.says i.0 (located_ok d.line _ i.0 i.1) in

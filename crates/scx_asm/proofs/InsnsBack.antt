@@ -17,7 +17,7 @@ use Rattle.scx_encoding.specs.Spelling.{IsOperand, IsInsn}
 use Rattle.scx_text.specs.declared.symbols.Symbol.{Symbol}
 use Rattle.scx_text.specs.declared.symbols.Symbol.TheVariants.{Assign, Compare, Plus, Minus, Star, Opening, Closing}
 use Rattle.scx_semantics.specs.declared.operations.Operation.TheVariants.{Move}
-use Rattle.scx_text.specs.Symbols.{spelled}
+use Rattle.scx_text.specs.Symbols.{spelling}
 use Rattle.scx_text.specs.Names.{register_text, access_text, stored_access, extension_access, order_text}
 use Rattle.scx_text.specs.Tokens.{Lexeme, Word, Number, Mark, followed_by, tokens_from, tokens}
 use Rattle.scx_text.specs.Canonical.{operand_text, offset_text, distance_text, memory_operand_text, insn_text}
@@ -39,7 +39,7 @@ gap near text ts h = record { read = h.read }
 followed : (t : Lexeme) (text : List ℕ) (ts : List Lexeme) → Gives true text ts → followed_by t (tokens_from true 0 text) ≡ Some (t ∷ ts)
 followed t text ts h = rw h.read refl
 
-mark : (near : Bool) (s : Symbol) (text : List ℕ) (ts : List Lexeme) → ends_symbol text ≡ true → Gives true text ts → Gives near (spelled s ++ text) (Mark s ∷ ts)
+mark : (near : Bool) (s : Symbol) (text : List ℕ) (ts : List Lexeme) → ends_symbol text ≡ true → Gives true text ts → Gives near (spelling s ++ text) (Mark s ∷ ts)
 mark near s text ts e h = record { read = symbol_read near s text e ∙ followed (Mark s) text ts h }
 
 name : (near : Bool) (w text : List ℕ) (ts : List Lexeme) → IsName w → ends_word text ≡ true → Gives true text ts → Gives near (w ++ text) (Word w ∷ ts)
@@ -81,16 +81,16 @@ distance_tokens (pos n) ts = Mark Plus ∷ Number true (Some n) ∷ ts
 distance_tokens (negsuc n) ts = Mark Minus ∷ Number true (Some (suc n)) ∷ ts
 
 distance : (near : Bool) (z : ℤ) → Small z → Gives near (distance_text z ++ []) (distance_tokens z [])
-distance near (pos n) fits = same_text near _ (spelled Plus ++ (decimal n ++ [])) _ refl (mark near Plus (decimal n ++ []) _ (digits_end_symbol n [] fits) (digits true n [] [] fits refl (nothing true)))
-distance near (negsuc n) fits = same_text near _ (spelled Minus ++ (decimal (suc n) ++ [])) _ refl (mark near Minus (decimal (suc n) ++ []) _ (digits_end_symbol (suc n) [] fits) (digits true (suc n) [] [] fits refl (nothing true)))
+distance near (pos n) fits = same_text near _ (spelling Plus ++ (decimal n ++ [])) _ refl (mark near Plus (decimal n ++ []) _ (digits_end_symbol n [] fits) (digits true n [] [] fits refl (nothing true)))
+distance near (negsuc n) fits = same_text near _ (spelling Minus ++ (decimal (suc n) ++ [])) _ refl (mark near Minus (decimal (suc n) ++ []) _ (digits_end_symbol (suc n) [] fits) (digits true (suc n) [] [] fits refl (nothing true)))
 
 abbrev pub offset_tokens : ℤ → List Lexeme → List Lexeme
 offset_tokens (pos n) ts = Mark Plus ∷ Number false (Some n) ∷ ts
 offset_tokens (negsuc n) ts = Mark Minus ∷ Number false (Some (suc n)) ∷ ts
 
 offset : (near : Bool) (z : ℤ) (text : List ℕ) (ts : List Lexeme) → Small z → ends_word text ≡ true → Gives true text ts → Gives near (offset_text z ++ text) (offset_tokens z ts)
-offset near (pos n) text ts fits e h = same_text near _ (spelled Plus ++ (32 ∷ (decimal n ++ text))) _ refl (mark near Plus (32 ∷ (decimal n ++ text)) _ refl (gap true (decimal n ++ text) _ (digits false n text ts fits e h)))
-offset near (negsuc n) text ts fits e h = same_text near _ (spelled Minus ++ (32 ∷ (decimal (suc n) ++ text))) _ refl (mark near Minus (32 ∷ (decimal (suc n) ++ text)) _ refl (gap true (decimal (suc n) ++ text) _ (digits false (suc n) text ts fits e h)))
+offset near (pos n) text ts fits e h = same_text near _ (spelling Plus ++ (32 ∷ (decimal n ++ text))) _ refl (mark near Plus (32 ∷ (decimal n ++ text)) _ refl (gap true (decimal n ++ text) _ (digits false n text ts fits e h)))
+offset near (negsuc n) text ts fits e h = same_text near _ (spelling Minus ++ (32 ∷ (decimal (suc n) ++ text))) _ refl (mark near Minus (32 ∷ (decimal (suc n) ++ text)) _ refl (gap true (decimal (suc n) ++ text) _ (digits false (suc n) text ts fits e h)))
 
 abbrev pub operand_tokens : Bool → Width → Operand → List Lexeme → List Lexeme
 operand_tokens near w (operand.Immediate k) ts = signed_tokens near k ts
@@ -125,34 +125,34 @@ right9 a b c d e f g h k = append_assoc ((((((a ++ b) ++ c) ++ d) ++ e) ++ f) ++
 abbrev pub memory_operand_tokens : List ℕ → Register → ℤ → List Lexeme → List Lexeme
 memory_operand_tokens a r o ts = Mark Star ∷ Mark Opening ∷ Word a ∷ Mark Star ∷ Mark Closing ∷ Mark Opening ∷ Word (register_text Bits64 r) ∷ offset_tokens o (Mark Closing ∷ ts)
 
-memory_operand_grouped : (a r o t : List ℕ) → (codes "*(" ++ a ++ codes " *)(" ++ r ++ codes " " ++ o ++ codes ")") ++ t ≡ spelled Star ++ (spelled Opening ++ (a ++ (32 ∷ (spelled Star ++ (spelled Closing ++ (spelled Opening ++ (r ++ (32 ∷ (o ++ (spelled Closing ++ t))))))))))
+memory_operand_grouped : (a r o t : List ℕ) → (codes "*(" ++ a ++ codes " *)(" ++ r ++ codes " " ++ o ++ codes ")") ++ t ≡ spelling Star ++ (spelling Opening ++ (a ++ (32 ∷ (spelling Star ++ (spelling Closing ++ (spelling Opening ++ (r ++ (32 ∷ (o ++ (spelling Closing ++ t))))))))))
 memory_operand_grouped a r o t = right8 (codes "*(") a (codes " *)(") r (codes " ") o (codes ")") t
 
 memory_operand : (near : Bool) (a : List ℕ) (r : Register) (o : ℤ) (text : List ℕ) (ts : List Lexeme) → IsName a → Small o → ends_symbol text ≡ true → Gives true text ts → Gives near (memory_operand_text a r o ++ text) (memory_operand_tokens a r o ts)
 memory_operand near a r o text ts is fits e h =
     let closed = mark true Closing text ts e h in
-    let shifted = offset false o (spelled Closing ++ text) _ fits refl closed in
-    let based = name true (register_text Bits64 r) (32 ∷ (offset_text o ++ (spelled Closing ++ text))) _ (name_register Bits64 r) refl (gap true (offset_text o ++ (spelled Closing ++ text)) _ shifted) in
-    let address = mark true Opening (register_text Bits64 r ++ (32 ∷ (offset_text o ++ (spelled Closing ++ text)))) _ ((name_register Bits64 r).front (32 ∷ (offset_text o ++ (spelled Closing ++ text)))) based in
-    let closing = mark true Closing (spelled Opening ++ (register_text Bits64 r ++ (32 ∷ (offset_text o ++ (spelled Closing ++ text))))) _ refl address in
-    let star = mark false Star (spelled Closing ++ (spelled Opening ++ (register_text Bits64 r ++ (32 ∷ (offset_text o ++ (spelled Closing ++ text)))))) _ refl closing in
-    let sized = name true a (32 ∷ (spelled Star ++ (spelled Closing ++ (spelled Opening ++ (register_text Bits64 r ++ (32 ∷ (offset_text o ++ (spelled Closing ++ text)))))))) _ is refl (gap true _ _ star) in
-    let inner = mark true Opening (a ++ (32 ∷ (spelled Star ++ (spelled Closing ++ (spelled Opening ++ (register_text Bits64 r ++ (32 ∷ (offset_text o ++ (spelled Closing ++ text))))))))) _ (is.front _) sized in
-    same_text near _ (spelled Star ++ (spelled Opening ++ (a ++ (32 ∷ (spelled Star ++ (spelled Closing ++ (spelled Opening ++ (register_text Bits64 r ++ (32 ∷ (offset_text o ++ (spelled Closing ++ text))))))))))) _ (memory_operand_grouped a (register_text Bits64 r) (offset_text o) text)
-    (mark near Star (spelled Opening ++ (a ++ (32 ∷ (spelled Star ++ (spelled Closing ++ (spelled Opening ++ (register_text Bits64 r ++ (32 ∷ (offset_text o ++ (spelled Closing ++ text)))))))))) _ refl inner)
+    let shifted = offset false o (spelling Closing ++ text) _ fits refl closed in
+    let based = name true (register_text Bits64 r) (32 ∷ (offset_text o ++ (spelling Closing ++ text))) _ (name_register Bits64 r) refl (gap true (offset_text o ++ (spelling Closing ++ text)) _ shifted) in
+    let address = mark true Opening (register_text Bits64 r ++ (32 ∷ (offset_text o ++ (spelling Closing ++ text)))) _ ((name_register Bits64 r).front (32 ∷ (offset_text o ++ (spelling Closing ++ text)))) based in
+    let closing = mark true Closing (spelling Opening ++ (register_text Bits64 r ++ (32 ∷ (offset_text o ++ (spelling Closing ++ text))))) _ refl address in
+    let star = mark false Star (spelling Closing ++ (spelling Opening ++ (register_text Bits64 r ++ (32 ∷ (offset_text o ++ (spelling Closing ++ text)))))) _ refl closing in
+    let sized = name true a (32 ∷ (spelling Star ++ (spelling Closing ++ (spelling Opening ++ (register_text Bits64 r ++ (32 ∷ (offset_text o ++ (spelling Closing ++ text)))))))) _ is refl (gap true _ _ star) in
+    let inner = mark true Opening (a ++ (32 ∷ (spelling Star ++ (spelling Closing ++ (spelling Opening ++ (register_text Bits64 r ++ (32 ∷ (offset_text o ++ (spelling Closing ++ text))))))))) _ (is.front _) sized in
+    same_text near _ (spelling Star ++ (spelling Opening ++ (a ++ (32 ∷ (spelling Star ++ (spelling Closing ++ (spelling Opening ++ (register_text Bits64 r ++ (32 ∷ (offset_text o ++ (spelling Closing ++ text))))))))))) _ (memory_operand_grouped a (register_text Bits64 r) (offset_text o) text)
+    (mark near Star (spelling Opening ++ (a ++ (32 ∷ (spelling Star ++ (spelling Closing ++ (spelling Opening ++ (register_text Bits64 r ++ (32 ∷ (offset_text o ++ (spelling Closing ++ text)))))))))) _ refl inner)
 
 -- ---- whole lines
 
 abbrev equals : List ℕ
-equals = spelled (Assign Move)
+equals = spelling (Assign Move)
 
 by_operator : (a b c : List ℕ) → a ++ codes " " ++ b ++ codes " " ++ c ≡ a ++ (32 ∷ (b ++ (32 ∷ (c ++ []))))
 by_operator a b c = sym (append-nil _) ∙ right6 a (codes " ") b (codes " ") c []
 
-by_minus : (a b : List ℕ) → a ++ codes " = -" ++ b ≡ a ++ (32 ∷ (equals ++ (32 ∷ (spelled Minus ++ (b ++ [])))))
+by_minus : (a b : List ℕ) → a ++ codes " = -" ++ b ≡ a ++ (32 ∷ (equals ++ (32 ∷ (spelling Minus ++ (b ++ [])))))
 by_minus a b = sym (append-nil _) ∙ right4 a (codes " = -") b []
 
-by_extension : (a b c : List ℕ) → a ++ codes " = (" ++ b ++ codes ")" ++ c ≡ a ++ (32 ∷ (equals ++ (32 ∷ (spelled Opening ++ (b ++ (spelled Closing ++ (c ++ [])))))))
+by_extension : (a b c : List ℕ) → a ++ codes " = (" ++ b ++ codes ")" ++ c ≡ a ++ (32 ∷ (equals ++ (32 ∷ (spelling Opening ++ (b ++ (spelling Closing ++ (c ++ [])))))))
 by_extension a b c = sym (append-nil _) ∙ right6 a (codes " = (") b (codes ")") c []
 
 by_order : (a b c : List ℕ) → a ++ codes " = " ++ b ++ codes " " ++ c ≡ a ++ (32 ∷ (equals ++ (32 ∷ (b ++ (32 ∷ (c ++ []))))))
@@ -198,13 +198,13 @@ wide_immediate_small low high f g = omega (arith, half_small low f, half_small h
 
 -- from left to right
 pub insn_gives : (i : Insn) → IsInsn i → Gives false (insn_text i) (insn_tokens i)
-insn_gives (insn.Binary w o d x) h = same_text false _ _ _ (by_operator (register_text w d) (spelled (Assign o)) (operand_text w x))
+insn_gives (insn.Binary w o d x) h = same_text false _ _ _ (by_operator (register_text w d) (spelling (Assign o)) (operand_text w x))
     (name false (register_text w d) _ _ (name_register w d) refl (gap true _ _ (mark false (Assign o) (32 ∷ (operand_text w x ++ [])) _ refl (gap true _ _ (given false w x [] [] h refl (nothing true))))))
 insn_gives (insn.Negate w d) h = same_text false _ _ _ (by_minus (register_text w d) (register_text w d))
     (assigned w d _ _ (mark false Minus (register_text w d ++ []) _ ((name_register w d).front []) (name true (register_text w d) [] [] (name_register w d) refl (nothing true))))
 insn_gives (insn.SignExtend e d r) h = same_text false _ _ _ (by_extension (register_text (extension_width e) d) (access_text (extension_access e)) (register_text (extension_width e) r))
-    (assigned (extension_width e) d _ _ (mark false Opening (access_text (extension_access e) ++ (spelled Closing ++ (register_text (extension_width e) r ++ []))) _ ((name_access (extension_access e)).front _)
-    (name true (access_text (extension_access e)) (spelled Closing ++ (register_text (extension_width e) r ++ [])) _ (name_access (extension_access e)) refl
+    (assigned (extension_width e) d _ _ (mark false Opening (access_text (extension_access e) ++ (spelling Closing ++ (register_text (extension_width e) r ++ []))) _ ((name_access (extension_access e)).front _)
+    (name true (access_text (extension_access e)) (spelling Closing ++ (register_text (extension_width e) r ++ [])) _ (name_access (extension_access e)) refl
     (mark true Closing (register_text (extension_width e) r ++ []) _ ((name_register (extension_width e) r).front []) (name true (register_text (extension_width e) r) [] [] (name_register (extension_width e) r) refl (nothing true))))))
 insn_gives (insn.ByteSwap o w d) h = same_text false _ _ _ (by_order (register_text Bits64 d) (order_text (o, w)) (register_text Bits64 d))
     (assigned Bits64 d _ _ (name false (order_text (o, w)) (32 ∷ (register_text Bits64 d ++ [])) _ (name_order o w) refl (gap true _ _ (name false (register_text Bits64 d) [] [] (name_register Bits64 d) refl (nothing true)))))
@@ -217,7 +217,7 @@ insn_gives (insn.Load a d r o) h = same_text false _ _ _ (by_equals (register_te
 insn_gives (insn.Store s r o x) h = same_text false _ _ _ (by_equals (memory_operand_text (access_text (stored_access s)) r o) (operand_text Bits64 x))
     (memory_operand false (access_text (stored_access s)) r o (32 ∷ (equals ++ (32 ∷ (operand_text Bits64 x ++ [])))) _ (name_access (stored_access s)) (small16 o h.0) refl
     (gap true _ _ (mark false (Assign Move) (32 ∷ (operand_text Bits64 x ++ [])) _ refl (gap true _ _ (given false Bits64 x [] [] h.1 refl (nothing true))))))
-insn_gives (insn.JumpIf w c r x o) h = same_text false _ _ _ (by_condition (register_text w r) (spelled (Compare c)) (operand_text w x) (distance_text o))
+insn_gives (insn.JumpIf w c r x o) h = same_text false _ _ _ (by_condition (register_text w r) (spelling (Compare c)) (operand_text w x) (distance_text o))
     (name false (codes "if") _ _ name_if refl (gap true _ _ (name false (register_text w r) _ _ (name_register w r) refl
     (gap true _ _ (mark false (Compare c) (32 ∷ (operand_text w x ++ (32 ∷ (codes "goto" ++ (32 ∷ (distance_text o ++ [])))))) _ refl
     (gap true _ _ (given false w x (32 ∷ (codes "goto" ++ (32 ∷ (distance_text o ++ [])))) _ h.1 refl (gap true _ _ (name false (codes "goto") (32 ∷ (distance_text o ++ [])) _ name_goto refl (gap true _ _ (distance false o (small16 o h.0))))))))))))

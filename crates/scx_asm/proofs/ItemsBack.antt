@@ -29,17 +29,17 @@ use Rattle.scx_text.specs.declared.items.WrittenOperand.TheVariants as argument
 use Rattle.scx_text.specs.declared.items.Statement.TheVariants as statement
 use Rattle.scx_text.specs.declared.items.Jump.TheVariants as jump
 use Rattle.scx_text.specs.declared.symbols.Symbol.TheVariants.{Assign, Minus, Star, Opening, Closing}
-use Rattle.scx_text.specs.Names.{named, register_text, register_in, access_text, stored_access, stored_size, extension_of, extension_access, order_text}
+use Rattle.scx_text.specs.Names.{first_with_name, register_text, register_in, access_text, stored_access, stored_size, extension_of, extension_access, order_text}
 use Rattle.scx_text.specs.Tokens.{Lexeme, Word, Number, Mark}
-use Rattle.scx_text.specs.Items.{Distance, ItemValue, Says, Jumps, written, read_literal, read_offset, read_destination, read_operand, read_memory_operand, same, assigned, item_of, read_line}
+use Rattle.scx_text.specs.Items.{Distance, ItemValue, Says, Jumps, literal, read_literal, read_offset, read_destination, read_operand, read_memory_operand, same, behind_register, item_of, read_line}
 use Rattle.scx_asm.proofs.NamesBack.{register_again, access_again}
 use Rattle.scx_asm.proofs.InsnsBack.{signed_tokens, distance_tokens, offset_tokens, operand_tokens, memory_operand_tokens, insn_tokens, insn_read}
 
 -- ---- the instruction, as a line says it
 
 abbrev pub literal_as : ℤ → Literal
-literal_as (pos n) = written false (Some n)
-literal_as (negsuc n) = written true (Some (suc n))
+literal_as (pos n) = literal false (Some n)
+literal_as (negsuc n) = literal true (Some (suc n))
 
 abbrev pub argument_as : Operand → WrittenOperand
 argument_as (operand.Immediate k) = argument.Number (literal_as k)
@@ -50,7 +50,7 @@ line_as (insn.Binary w o d x) = Says (statement.Binary w o d (argument_as x))
 line_as (insn.Negate w d) = Says (statement.Negate w d)
 line_as (insn.SignExtend e d r) = Says (statement.SignExtend e d r)
 line_as (insn.ByteSwap o w d) = Says (statement.ByteSwap o w d)
-line_as (insn.LoadImmediate d low high) = Says (statement.LoadImmediate d (written false (Some (arithmetic.wide_immediate low high))))
+line_as (insn.LoadImmediate d low high) = Says (statement.LoadImmediate d (literal false (Some (arithmetic.wide_immediate low high))))
 line_as (insn.LoadMapReference d k) = Says (statement.LoadMapReference d (literal_as k))
 line_as (insn.Load a d r o) = Says (statement.Load a d r (literal_as o))
 line_as (insn.Store s r o x) = Says (statement.Store s r (literal_as o) (argument_as x))
@@ -116,10 +116,10 @@ size_again size.DoubleWord = refl
 -- ---- lines that begin with a register
 
 -- a line of a register and more is what its rest is
-begun : (w : Width) (d : Register) (o : Operation) (ts : List Lexeme) → item_of (Word (register_text w d) ∷ Mark (Assign o) ∷ ts) ≡ assigned w d (Mark (Assign o) ∷ ts)
+begun : (w : Width) (d : Register) (o : Operation) (ts : List Lexeme) → item_of (Word (register_text w d) ∷ Mark (Assign o) ∷ ts) ≡ behind_register w d (Mark (Assign o) ∷ ts)
 begun w d o ts = rw (register_again w d) refl
 
-operated_read : (w : Width) (o : Operation) (d : Register) (x : Operand) → assigned w d (Mark (Assign o) ∷ operand_tokens false w x []) ≡ Some (Says (statement.Binary w o d (argument_as x)))
+operated_read : (w : Width) (o : Operation) (d : Register) (x : Operand) → behind_register w d (Mark (Assign o) ∷ operand_tokens false w x []) ≡ Some (Says (statement.Binary w o d (argument_as x)))
 operated_read w Add d x = rw (argument_read w x []) refl
 operated_read w Subtract d x = rw (argument_read w x []) refl
 operated_read w Multiply d x = rw (argument_read w x []) refl
@@ -139,8 +139,8 @@ operated_read Bits64 Move d (operand.Immediate (pos n)) = refl
 operated_read Bits32 Move d (operand.Immediate (negsuc n)) = refl
 operated_read Bits64 Move d (operand.Immediate (negsuc n)) = refl
 
-byte_swapped_read : (o : ByteOrder) (w : SwapWidth) (d : Register) → assigned Bits64 d (Mark (Assign Move) ∷ Word (order_text (o, w)) ∷ Word (register_text Bits64 d) ∷ []) ≡ Some (Says (statement.ByteSwap o w d))
-unfolding named
+byte_swapped_read : (o : ByteOrder) (w : SwapWidth) (d : Register) → behind_register Bits64 d (Mark (Assign Move) ∷ Word (order_text (o, w)) ∷ Word (register_text Bits64 d) ∷ []) ≡ Some (Says (statement.ByteSwap o w d))
+unfolding first_with_name
 byte_swapped_read Little order.Bits16 d = rw (in_width Bits64 d, same_is d) refl
 byte_swapped_read Little order.Bits32 d = rw (in_width Bits64 d, same_is d) refl
 byte_swapped_read Little order.Bits64 d = rw (in_width Bits64 d, same_is d) refl
@@ -151,7 +151,7 @@ byte_swapped_read Swapped order.Bits16 d = rw (in_width Bits64 d, same_is d) ref
 byte_swapped_read Swapped order.Bits32 d = rw (in_width Bits64 d, same_is d) refl
 byte_swapped_read Swapped order.Bits64 d = rw (in_width Bits64 d, same_is d) refl
 
-mapped_read : (d : Register) (k : ℤ) → assigned Bits64 d (Mark (Assign Move) ∷ Word (codes "map") ∷ signed_tokens false k []) ≡ Some (Says (statement.LoadMapReference d (literal_as k)))
+mapped_read : (d : Register) (k : ℤ) → behind_register Bits64 d (Mark (Assign Move) ∷ Word (codes "map") ∷ signed_tokens false k []) ≡ Some (Says (statement.LoadMapReference d (literal_as k)))
 mapped_read d (pos n) = refl
 mapped_read d (negsuc n) = refl
 

@@ -29,7 +29,7 @@ use Rattle.scx_semantics.specs.Arithmetic.{extension_width}
 use Rattle.scx_encoding.specs.Spelling.{IsOperand, IsInsn}
 use Rattle.scx_text.specs.declared.symbols.Symbol.{Symbol}
 use Rattle.scx_text.specs.declared.symbols.Symbol.TheVariants.{Assign, Compare, Plus, Minus, Star, Opening, Closing, Colon}
-use Rattle.scx_text.specs.Symbols.{spelled}
+use Rattle.scx_text.specs.Symbols.{spelling}
 use Rattle.scx_text.specs.Names.{width_text, register_text, access_text, stored_access, extension_access, order_text}
 use Rattle.scx_text.specs.Canonical.{operand_text, offset_text, distance_text, memory_operand_text, insn_text}
 use Rattle.scx_asm.proofs.TokensBack.{and_true}
@@ -93,7 +93,7 @@ plain_operand : (w : Width) (x : Operand) → IsOperand x → plain (operand_tex
 plain_operand w (operand.Immediate k) h = plain_signed k (small32 k h)
 plain_operand w (operand.Register r) h = plain_register w r
 
-plain_spelled : (s : Symbol) → plain (spelled s) ≡ true
+plain_spelled : (s : Symbol) → plain (spelling s) ≡ true
 plain_spelled (Assign Add) = refl
 plain_spelled (Assign Subtract) = refl
 plain_spelled (Assign Multiply) = refl
@@ -162,7 +162,7 @@ plain_memory_operand a r o x h =
 
 -- no byte of its text ends a line
 pub plain_insn : (i : Insn) → IsInsn i → plain (insn_text i) ≡ true
-plain_insn (insn.Binary w o d x) h = both5 (register_text w d) (codes " ") (spelled (Assign o)) (codes " ") (operand_text w x) (plain_register w d) refl (plain_spelled (Assign o)) refl (plain_operand w x h)
+plain_insn (insn.Binary w o d x) h = both5 (register_text w d) (codes " ") (spelling (Assign o)) (codes " ") (operand_text w x) (plain_register w d) refl (plain_spelled (Assign o)) refl (plain_operand w x h)
 plain_insn (insn.Negate w d) h = both3 (register_text w d) (codes " = -") (register_text w d) (plain_register w d) refl (plain_register w d)
 plain_insn (insn.SignExtend e d r) h = both5 (register_text (extension_width e) d) (codes " = (") (access_text (extension_access e)) (codes ")") (register_text (extension_width e) r) (plain_register (extension_width e) d) refl (plain_access (extension_access e)) refl (plain_register (extension_width e) r)
 plain_insn (insn.ByteSwap o w d) h = both5 (register_text Bits64 d) (codes " = ") (order_text (o, w)) (codes " ") (register_text Bits64 d) (plain_register Bits64 d) refl (plain_order o w) refl (plain_register Bits64 d)
@@ -171,8 +171,8 @@ plain_insn (insn.LoadMapReference d k) h = both3 (register_text Bits64 d) (codes
 plain_insn (insn.Load a d r o) h = both3 (register_text Bits64 d) (codes " = ") (memory_operand_text (access_text a) r o) (plain_register Bits64 d) refl (plain_memory_operand (access_text a) r o (plain_access a) (small16 o h))
 plain_insn (insn.Store s r o x) h = both3 (memory_operand_text (access_text (stored_access s)) r o) (codes " = ") (operand_text Bits64 x) (plain_memory_operand (access_text (stored_access s)) r o (plain_access (stored_access s)) (small16 o h.0)) refl (plain_operand Bits64 x h.1)
 plain_insn (insn.JumpIf w c r x o) h =
-    both4 (codes "if " ++ register_text w r ++ codes " " ++ spelled (Compare c) ++ codes " ") (operand_text w x) (codes " goto ") (distance_text o)
-    (both5 (codes "if ") (register_text w r) (codes " ") (spelled (Compare c)) (codes " ") refl (plain_register w r) refl (plain_spelled (Compare c)) refl) (plain_operand w x h.1) refl (plain_distance o (small16 o h.0))
+    both4 (codes "if " ++ register_text w r ++ codes " " ++ spelling (Compare c) ++ codes " ") (operand_text w x) (codes " goto ") (distance_text o)
+    (both5 (codes "if ") (register_text w r) (codes " ") (spelling (Compare c)) (codes " ") refl (plain_register w r) refl (plain_spelled (Compare c)) refl) (plain_operand w x h.1) refl (plain_distance o (small16 o h.0))
 plain_insn (insn.Goto o) h = both (codes "goto ") (distance_text o) refl (plain_distance o (small16 o h))
 plain_insn (insn.GotoLong o) h = both (codes "gotol ") (distance_text o) refl (plain_distance o (small32 o h))
 plain_insn (insn.Call k) h = both (codes "call ") (signed_decimal k) refl (plain_signed k (small32 k h))

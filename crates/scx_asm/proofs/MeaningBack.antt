@@ -17,7 +17,7 @@ use Rattle.scx_text.specs.declared.items.Jump.{Jump}
 use Rattle.scx_text.specs.Canonical.{insn_text}
 use Rattle.scx_text.specs.Items.{Distance, ItemValue, Says, Jumps, read_line}
 use Rattle.scx_asm.specs.Resolving.{immediate, short, operand_of, insn_of, distant, slots, Labels}
-use Rattle.scx_asm.specs.Standing.{defined, definitions, AreSaid}
+use Rattle.scx_asm.specs.Standing.{label_at, definitions, AreSaid}
 use Rattle.scx_asm.proofs.Fitting.{wide_is}
 use Rattle.scx_asm.proofs.ItemsBack.{literal_as, argument_as, line_as, insn_line}
 
@@ -54,7 +54,7 @@ half_again z f = to_z-of_z {w = w32} {z = z} f
 -- the line says the instruction at every slot, before any lines, and defines no label
 pub record Means (l : ItemValue) (i : Insn) : Type 0 where
   pub more : (labels : Labels) (s : ℕ) (ls : List ItemValue) (is : List Insn) → AreSaid labels (s + slots l) ls is → AreSaid labels s (l ∷ ls) (i ∷ is)
-  pub nameless : (s : ℕ) → defined s l ≡ []
+  pub nameless : (s : ℕ) → label_at s l ≡ []
 
 says : (s : Statement) (i : Insn) → insn_of s ≡ Some i → Means (Says s) i
 says s i e = record { more = λ labels s ls is h. (e, h); nameless = λ s. refl }

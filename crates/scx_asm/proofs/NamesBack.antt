@@ -14,43 +14,43 @@ use Rattle.scx_semantics.specs.declared.registers.Register.{Register}
 use Rattle.scx_semantics.specs.declared.registers.Register.TheVariants.{R0, R1, R2, R3, R4, R5, R6, R7, R8, R9, R10}
 use Rattle.scx_semantics.specs.Registers.{number}
 use Rattle.scx_text.specs.Symbols.{first_of}
-use Rattle.scx_text.specs.Tokens.{run}
-use Rattle.scx_text.specs.Names.{named, width_text, register_text, register_named, access_text, access_named, order_text, order_named}
+use Rattle.scx_text.specs.Tokens.{class_length}
+use Rattle.scx_text.specs.Names.{first_with_name, width_text, register_text, register_named, access_text, access_named, order_text, order_named}
 use Rattle.scx_asm.proofs.TokensBack.{IsName}
 
 -- the word if
 pub name_if : IsName (codes "if")
-unfolding first_of run
+unfolding first_of class_length
 name_if = record { some = lit< tt; token = λ near rest e. rw e refl; front = λ rest. refl }
 
 -- the word goto
 pub name_goto : IsName (codes "goto")
-unfolding first_of run
+unfolding first_of class_length
 name_goto = record { some = lit< tt; token = λ near rest e. rw e refl; front = λ rest. refl }
 
 -- the word gotol
 pub name_gotol : IsName (codes "gotol")
-unfolding first_of run
+unfolding first_of class_length
 name_gotol = record { some = lit< tt; token = λ near rest e. rw e refl; front = λ rest. refl }
 
 -- the word call
 pub name_call : IsName (codes "call")
-unfolding first_of run
+unfolding first_of class_length
 name_call = record { some = lit< tt; token = λ near rest e. rw e refl; front = λ rest. refl }
 
 -- the word exit
 pub name_exit : IsName (codes "exit")
-unfolding first_of run
+unfolding first_of class_length
 name_exit = record { some = lit< tt; token = λ near rest e. rw e refl; front = λ rest. refl }
 
 -- the word map
 pub name_map : IsName (codes "map")
-unfolding first_of run
+unfolding first_of class_length
 name_map = record { some = lit< tt; token = λ near rest e. rw e refl; front = λ rest. refl }
 
 -- the word ll
 pub name_ll : IsName (codes "ll")
-unfolding first_of run
+unfolding first_of class_length
 name_ll = record { some = lit< tt; token = λ near rest e. rw e refl; front = λ rest. refl }
 
 -- ---- registers
@@ -88,7 +88,7 @@ digits_are R9 = decimal_digit 9 (lit< tt)
 digits_are R10 = ten
 
 is_register : (w : Width) (r : Register) → IsName (width_text w ++ digits_of r)
-unfolding first_of run
+unfolding first_of class_length
 is_register Bits32 R0 = record { some = lit< tt; token = λ near rest e. rw e refl; front = λ rest. refl }
 is_register Bits32 R1 = record { some = lit< tt; token = λ near rest e. rw e refl; front = λ rest. refl }
 is_register Bits32 R2 = record { some = lit< tt; token = λ near rest e. rw e refl; front = λ rest. refl }
@@ -148,7 +148,7 @@ register_again w r = ap (λ (ds : List ℕ). register_named (width_text w ++ ds)
 
 -- the names of what memory is read as
 pub name_access : (a : Access) → IsName (access_text a)
-unfolding first_of run
+unfolding first_of class_length
 name_access access.Byte = record { some = lit< tt; token = λ near rest e. rw e refl; front = λ rest. refl }
 name_access access.HalfWord = record { some = lit< tt; token = λ near rest e. rw e refl; front = λ rest. refl }
 name_access access.Word = record { some = lit< tt; token = λ near rest e. rw e refl; front = λ rest. refl }
@@ -159,7 +159,7 @@ name_access access.SignedWord = record { some = lit< tt; token = λ near rest e.
 
 -- name that
 pub access_again : (a : Access) → access_named (access_text a) ≡ Some a
-unfolding named
+unfolding first_with_name
 access_again access.Byte = refl
 access_again access.HalfWord = refl
 access_again access.Word = refl
@@ -170,7 +170,7 @@ access_again access.SignedWord = refl
 
 -- the names of byte orders
 pub name_order : (o : ByteOrder) (w : SwapWidth) → IsName (order_text (o, w))
-unfolding first_of run
+unfolding first_of class_length
 name_order Little order.Bits16 = record { some = lit< tt; token = λ near rest e. rw e refl; front = λ rest. refl }
 name_order Little order.Bits32 = record { some = lit< tt; token = λ near rest e. rw e refl; front = λ rest. refl }
 name_order Little order.Bits64 = record { some = lit< tt; token = λ near rest e. rw e refl; front = λ rest. refl }
@@ -183,7 +183,7 @@ name_order Swapped order.Bits64 = record { some = lit< tt; token = λ near rest 
 
 -- name them
 pub order_again : (o : ByteOrder) (w : SwapWidth) → order_named (order_text (o, w)) ≡ Some (o, w)
-unfolding named
+unfolding first_with_name
 order_again Little order.Bits16 = refl
 order_again Little order.Bits32 = refl
 order_again Little order.Bits64 = refl

@@ -5,7 +5,7 @@ use Rattle.scx_semantics.specs.declared.instructions.Insn.{Insn}
 use Rattle.scx_asm.specs.declared.faults.AsmFault.{AsmFault}
 use Rattle.scx_asm.specs.declared.scanning.Unresolved.{Unresolved}
 use Rattle.scx_text.specs.Items.{item_value}
-use Rattle.scx_asm.specs.Resolving.{Labels, resolved}
+use Rattle.scx_asm.specs.Resolving.{Labels, insn_for}
 use Rattle.scx_semantics.specs.Results.{◌>>=◌}
 use Rattle.scx_asm.specs.FirstPass.{unresolved_of}
 use Rattle.scx_asm.specs.Reading.{second_pass}
@@ -23,7 +23,7 @@ regroup front i (Err e) = refl
 
 -- one line more stands for an instruction
 pub goes_on : (labels : Labels) (entries : List Unresolved) (k : ℕ) (d : Unresolved) (front : List Insn) (i : Insn) (total : Result (List Insn) (AsmFault × ℕ)) → k < length entries
-    → resolved labels (get_or entries k d).slot (item_value (get_or entries k d).item) ≡ Ok i
+    → insn_for labels (get_or entries k d).slot (item_value (get_or entries k d).item) ≡ Ok i
     → left labels entries k front ≡ total → left labels entries (k + 1) (front ++ i ∷ []) ≡ total
 unfolding second_pass
 goes_on labels entries k d front i total lt e so_far =
@@ -32,7 +32,7 @@ goes_on labels entries k d front i total lt e so_far =
 
 -- a line that stands for none ends the pass
 pub ends : (labels : Labels) (entries : List Unresolved) (k : ℕ) (d : Unresolved) (front : List Insn) (fault : AsmFault) (total : Result (List Insn) (AsmFault × ℕ)) → k < length entries
-    → resolved labels (get_or entries k d).slot (item_value (get_or entries k d).item) ≡ Err fault
+    → insn_for labels (get_or entries k d).slot (item_value (get_or entries k d).item) ≡ Err fault
     → left labels entries k front ≡ total → total ≡ Err (fault, (get_or entries k d).line)
 unfolding second_pass
 ends labels entries k d front fault total lt e so_far =

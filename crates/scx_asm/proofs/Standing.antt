@@ -10,7 +10,7 @@ use Rattle.std.specs.Str.{bytes_eq}
 use Rattle.std.specs.Str.Lines.{lines}
 use Rattle.scx_semantics.specs.declared.instructions.Insn.{Insn}
 use Rattle.scx_semantics.specs.declared.instructions.Insn.TheVariants as insn
-use Rattle.scx_semantics.specs.Arithmetic.{shifted}
+use Rattle.scx_semantics.specs.Arithmetic.{at_distance}
 use Rattle.scx_semantics.specs.Code.{Code, is_wide, size}
 use Rattle.scx_semantics.specs.Steps.{target}
 use Rattle.scx_isa.specs.declared.program.TheConstants.{MAX_SLOTS}
@@ -20,12 +20,12 @@ use Rattle.scx_text.specs.Options.{either}
 use Rattle.scx_text.specs.Items.{Label, Distance, ItemValue, Blank, DefinesLabel, Says, Jumps, read_line}
 use Rattle.scx_asm.specs.declared.faults.AsmFault.{AsmFault}
 use Rattle.scx_asm.specs.declared.faults.AsmFault.TheVariants.{Syntax, UnknownLabel, TwiceLabel, OutOfRange, TooLong}
-use Rattle.scx_asm.specs.Resolving.{operand_of, short, wide, jump_of, distant, distance, fits, slots, or_out_of_range, Labels, find, resolved}
+use Rattle.scx_asm.specs.Resolving.{operand_of, short, wide, jump_of, distant, distance, fits, slots, or_out_of_range, Labels, find, insn_for}
 use Rattle.scx_semantics.specs.Results.{◌>>=◌}
 use Rattle.scx_asm.specs.FirstPass.{UnresolvedLine, FirstPassState, nothing_read, at_line, with_label, with_unresolved, with_line, with_text, first_pass}
 use Rattle.scx_asm.specs.Reading.{second_pass, insns_of, read_insns, read_text, code_of}
 use Rattle.scx_asm.specs.FirstFault.{slots_of}
-use Rattle.scx_asm.specs.Standing.{defined, definitions, names, IsJump, IsSaid, AreSaid, StandsFor}
+use Rattle.scx_asm.specs.Standing.{label_at, definitions, names, IsJump, IsSaid, AreSaid, StandsFor}
 use Rattle.scx_asm.proofs.Fitting.{bind_some, bind_ok, located_ok, in_range_ok, line_fits, assembled}
 
 -- ---- labels
@@ -127,7 +127,7 @@ unresolved_lines n s (l ∷ ls) = unresolved_line n s l ++ unresolved_lines (suc
 
 -- the state with one line more, and with lines more from the n-th on
 abbrev pub after_one : ℕ → FirstPassState → ItemValue → FirstPassState
-after_one n p l = record { slots = p.slots + slots l; labels = p.labels ++ defined p.slots l; unresolved = p.unresolved ++ unresolved_line n p.slots l }
+after_one n p l = record { slots = p.slots + slots l; labels = p.labels ++ label_at p.slots l; unresolved = p.unresolved ++ unresolved_line n p.slots l }
 
 abbrev pub after : ℕ → FirstPassState → List ItemValue → FirstPassState
 after n p ls = record { slots = p.slots + slots_of ls; labels = p.labels ++ definitions p.slots ls; unresolved = p.unresolved ++ unresolved_lines n p.slots ls }
@@ -146,7 +146,7 @@ unchanged : (p : FirstPassState) → pass (p.slots + 0) (p.labels ++ []) (p.unre
 unchanged p = same_pass _ _ _ _ _ _ (plus_none p.slots) (append-nil p.labels) (append-nil p.unresolved)
 
 after_more : (n : ℕ) (p : FirstPassState) (l : ItemValue) (ls : List ItemValue) → after (suc n) (after_one n p l) ls ≡ after n p (l ∷ ls)
-after_more n p l ls = same_pass _ _ _ _ _ _ (omega arith) (append_assoc p.labels (defined p.slots l) (definitions (p.slots + slots l) ls)) (append_assoc p.unresolved (unresolved_line n p.slots l) (unresolved_lines (suc n) (p.slots + slots l) ls))
+after_more n p l ls = same_pass _ _ _ _ _ _ (omega arith) (append_assoc p.labels (label_at p.slots l) (definitions (p.slots + slots l) ls)) (append_assoc p.unresolved (unresolved_line n p.slots l) (unresolved_lines (suc n) (p.slots + slots l) ls))
 
 -- ---- the first pass over one line
 
@@ -156,7 +156,7 @@ done p = Ok p
 abbrev refused : AsmFault → Result FirstPassState AsmFault
 refused f = Err f
 
-line_as : (n : ℕ) (p : FirstPassState) (rest : Labels) (l : ItemValue) → IsDistinct bytes_eq (names (p.labels ++ (defined p.slots l ++ rest))) → fits l ≡ true → p.slots + slots l ≤ MAX_SLOTS → with_line n p l ≡ done (after_one n p l)
+line_as : (n : ℕ) (p : FirstPassState) (rest : Labels) (l : ItemValue) → IsDistinct bytes_eq (names (p.labels ++ (label_at p.slots l ++ rest))) → fits l ≡ true → p.slots + slots l ≤ MAX_SLOTS → with_line n p l ≡ done (after_one n p l)
 line_as n p rest Blank d fit le = ap done (sym (unchanged p))
 line_as n p rest (DefinesLabel l) d fit le = rw (new p.labels rest (l, p.slots) d) (ap done (same_pass _ _ _ _ _ _ (sym (plus_none p.slots)) refl (sym (append-nil p.unresolved))))
 line_as n p rest (Says s) d fit le = rw (fit, le-ltb _ _ le) (ap done (same_pass _ _ _ _ _ _ refl (sym (append-nil p.labels)) refl))
@@ -271,24 +271,24 @@ long_is (negsuc n) o e = go (nat_lt n (2 ^ 31)) refl
 
 -- the slot behind a jump is the next, and the target lies its distance from there
 abbrev Lands : ℕ → ℤ → Insn → Type 0
-Lands s z i = target s i ≡ shifted (s + 1) z
+Lands s z i = target s i ≡ at_distance (s + 1) z
 
 lands : (s : ℕ) (j : Jump) (z : ℤ) (i : Insn) → jump_of j z ≡ Some i → Lands s z i
 lands s (jump.If w c r x) z i e =
     let o = bind_some (short z) _ i e in
     let y = bind_some (operand_of x) _ i o.2 in
     let same : insn.JumpIf w c r y.0 o.0 ≡ i = cc in
-    subst (λ (i : Insn). Lands s z i) same (ap (λ (z : ℤ). shifted (s + 1) z) (short_is z o.0 o.1))
+    subst (λ (i : Insn). Lands s z i) same (ap (λ (z : ℤ). at_distance (s + 1) z) (short_is z o.0 o.1))
 lands s jump.Goto z i e =
     let o = bind_some (short z) _ i e in
     let same : insn.Goto o.0 ≡ i = cc in
-    subst (λ (i : Insn). Lands s z i) same (ap (λ (z : ℤ). shifted (s + 1) z) (short_is z o.0 o.1))
+    subst (λ (i : Insn). Lands s z i) same (ap (λ (z : ℤ). at_distance (s + 1) z) (short_is z o.0 o.1))
 lands s jump.GotoLong z i e =
     let o = bind_some (wide z) _ i e in
     let same : insn.GotoLong o.0 ≡ i = cc in
-    subst (λ (i : Insn). Lands s z i) same (ap (λ (z : ℤ). shifted (s + 1) z) (long_is z o.0 o.1))
+    subst (λ (i : Insn). Lands s z i) same (ap (λ (z : ℤ). at_distance (s + 1) z) (long_is z o.0 o.1))
 
-shifted_from : (n t : ℕ) (z : ℤ) → shifted n z ≡ Some t → z ≡ pos t -ℤ pos n
+shifted_from : (n t : ℕ) (z : ℤ) → at_distance n z ≡ Some t → z ≡ pos t -ℤ pos n
 shifted_from n t (pos k) e =
     let sum : n + k ≡ t = cc in
     omega (arith, ints)
@@ -302,7 +302,7 @@ shifted_from n t (negsuc k) e = go (nat_lt k n) refl
         omega (arith, ints)
     go false h = let bad : no_slot ≡ Some t = rw h at e in absurd (cc)
 
-shifted_to : (n t : ℕ) (z : ℤ) → z ≡ pos t -ℤ pos n → shifted n z ≡ Some t
+shifted_to : (n t : ℕ) (z : ℤ) → z ≡ pos t -ℤ pos n → at_distance n z ≡ Some t
 shifted_to n t (pos k) e =
     let sum : n + k ≡ t = omega (arith, ints) in
     ap (λ (t : ℕ). Some t) sum
@@ -336,7 +336,7 @@ said_fits labels s (Jumps j (Label l)) i h = jump_placed j h.3.0 i h.3.1
 said_fits labels s Blank i h = refl
 said_fits labels s (DefinesLabel l) i h = refl
 
-resolved_as : (labels : Labels) (s : ℕ) (l : ItemValue) (i : Insn) → IsDistinct bytes_eq (names labels) → IsSaid labels s l i → resolved labels s l ≡ Ok i
+resolved_as : (labels : Labels) (s : ℕ) (l : ItemValue) (i : Insn) → IsDistinct bytes_eq (names labels) → IsSaid labels s l i → insn_for labels s l ≡ Ok i
 resolved_as labels s (Says x) i d h = ap (λ (r : Option Insn). or_out_of_range r) h
 resolved_as labels s (Jumps j (Distance n)) i d h = ap (λ (r : Option Insn). or_out_of_range r) h
 resolved_as labels s (Jumps j (Label l)) i d h = rw (found l h.0 labels d h.1) (ap (λ (r : Option Insn). or_out_of_range r) (jump_to s h.0 j i h.2 h.3))
@@ -344,7 +344,7 @@ resolved_as labels s Blank i d h = absurd h
 resolved_as labels s (DefinesLabel l) i d h = absurd h
 
 -- an instruction that is resolved is what its line says
-pub resolved_was : (labels : Labels) (s : ℕ) (l : ItemValue) (i : Insn) → resolved labels s l ≡ Ok i → IsSaid labels s l i
+pub resolved_was : (labels : Labels) (s : ℕ) (l : ItemValue) (i : Insn) → insn_for labels s l ≡ Ok i → IsSaid labels s l i
 resolved_was labels s (Says x) i e = in_range_ok _ i e
 resolved_was labels s (Jumps j (Distance n)) i e = in_range_ok (distant j n) i e
 resolved_was labels s (Jumps j (Label l)) i e = go (find l labels) refl e
@@ -384,7 +384,7 @@ first_pass_as n p (text ∷ texts) (l ∷ ls) labels is e d h le =
     let others : map read_line texts ≡ map Some ls = cc in
     let k = left labels p.slots l ls is h in
     let one : with_line n p l ≡ done (after_one n p l) = line_as n p (definitions (p.slots + slots l) ls) l d k.fit (omega arith) in
-    let once = subst (λ (es : Labels). IsDistinct bytes_eq (names es)) (sym (append_assoc p.labels (defined p.slots l) (definitions (p.slots + slots l) ls))) d in
+    let once = subst (λ (es : Labels). IsDistinct bytes_eq (names es)) (sym (append_assoc p.labels (label_at p.slots l) (definitions (p.slots + slots l) ls))) d in
     let more = first_pass_as (suc n) (after_one n p l) texts ls labels k.insns others once k.rest (omega arith) in
     go first one more
   where
@@ -393,7 +393,7 @@ first_pass_as n p (text ∷ texts) (l ∷ ls) labels is e d h le =
 
 -- ---- the second pass
 
-build : (labels : Labels) (d : UnresolvedLine) (ds : List UnresolvedLine) (i : Insn) (is : List Insn) → resolved labels d.slot d.says ≡ Ok i → second_pass labels ds ≡ Ok is → second_pass labels (d ∷ ds) ≡ Ok (i ∷ is)
+build : (labels : Labels) (d : UnresolvedLine) (ds : List UnresolvedLine) (i : Insn) (is : List Insn) → insn_for labels d.slot d.says ≡ Ok i → second_pass labels ds ≡ Ok is → second_pass labels (d ∷ ds) ≡ Ok (i ∷ is)
 unfolding second_pass
 build labels d ds i is e f = rw (e, f) refl
 
@@ -411,14 +411,14 @@ built_as labels n s (Jumps j t ∷ ls) (i ∷ is) d h = build labels (record { l
 record Built (labels : Labels) (d : UnresolvedLine) (ds : List UnresolvedLine) (is : List Insn) : Type 0 where
   pub first : Insn
   pub others : List Insn
-  pub one : resolved labels d.slot d.says ≡ Ok first
+  pub one : insn_for labels d.slot d.says ≡ Ok first
   pub rest : second_pass labels ds ≡ Ok others
   pub both : first ∷ others ≡ is
 
 build_was : (labels : Labels) (d : UnresolvedLine) (ds : List UnresolvedLine) (is : List Insn) → second_pass labels (d ∷ ds) ≡ Ok is → Built labels d ds is
 unfolding second_pass
 build_was labels d ds is e =
-    let i = bind_ok (at_line d.line (resolved labels d.slot d.says)) _ is e in
+    let i = bind_ok (at_line d.line (insn_for labels d.slot d.says)) _ is e in
     let rest = bind_ok (second_pass labels ds) _ is i.2 in
     let same : i.0 ∷ rest.0 ≡ is = cc in
     record { first = i.0; others = rest.0; one = located_ok d.line _ i.0 i.1; rest = rest.1; both = same }

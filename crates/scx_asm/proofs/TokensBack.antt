@@ -15,8 +15,8 @@ use Rattle.scx_semantics.specs.declared.operations.Comparison.TheVariants.{Equal
 use Rattle.scx_text.specs.declared.symbols.Symbol.{Symbol}
 use Rattle.scx_text.specs.declared.symbols.Symbol.TheVariants.{Assign, Compare, Plus, Minus, Star, Opening, Closing, Colon}
 use Rattle.scx_text.specs.declared.lexer.Class.TheVariants as class
-use Rattle.scx_text.specs.Symbols.{spelled, first_of, symbol_at}
-use Rattle.scx_text.specs.Tokens.{Lexeme, Word, Number, Mark, is_blank, is_word, run, bounded, is_hexadecimal, number_at, token_at, followed_by, tokens_from}
+use Rattle.scx_text.specs.Symbols.{spelling, first_of, symbol_at}
+use Rattle.scx_text.specs.Tokens.{Lexeme, Word, Number, Mark, is_blank, is_word, class_length, if_64_bits, is_hexadecimal, number_lexeme, token_at, followed_by, tokens_from}
 use Rattle.scx_text.proofs.Search.{spelled_positive}
 use Rattle.scx_text.proofs.Lexing.{passed}
 
@@ -41,8 +41,8 @@ and_true true b e = (refl, e)
 and_true false b e = absurd (cc)
 
 -- no word goes on past its end
-pub run_none : (rest : List ℕ) → ends_word rest ≡ true → run class.Word rest ≡ 0
-unfolding run
+pub run_none : (rest : List ℕ) → ends_word rest ≡ true → class_length class.Word rest ≡ 0
+unfolding class_length
 run_none [] e = refl
 run_none (b ∷ bs) e = rw (not_true (is_word b) e) refl
 
@@ -86,7 +86,7 @@ token_read near (b ∷ bs) rest t some e =
 
 -- ---- symbols
 
-symbol_last : (s : Symbol) → symbol_at (spelled s ++ []) ≡ Some s
+symbol_last : (s : Symbol) → symbol_at (spelling s ++ []) ≡ Some s
 unfolding first_of
 symbol_last (Assign Add) = refl
 symbol_last (Assign Subtract) = refl
@@ -120,7 +120,7 @@ symbol_last Opening = refl
 symbol_last Closing = refl
 symbol_last Colon = refl
 
-symbol_here : (s : Symbol) (b : ℕ) (bs : List ℕ) → nat_eq 60 b ≡ false → nat_eq 61 b ≡ false → nat_eq 62 b ≡ false → symbol_at (spelled s ++ b ∷ bs) ≡ Some s
+symbol_here : (s : Symbol) (b : ℕ) (bs : List ℕ) → nat_eq 60 b ≡ false → nat_eq 61 b ≡ false → nat_eq 62 b ≡ false → symbol_at (spelling s ++ b ∷ bs) ≡ Some s
 unfolding first_of
 symbol_here (Assign Add) b bs x y z = refl
 symbol_here (Assign Subtract) b bs x y z = refl
@@ -155,13 +155,13 @@ symbol_here Closing b bs x y z = refl
 symbol_here Colon b bs x y z = refl
 
 -- a symbol
-pub symbol_read : (near : Bool) (s : Symbol) (rest : List ℕ) → ends_symbol rest ≡ true → tokens_from near 0 (spelled s ++ rest) ≡ followed_by (Mark s) (tokens_from true 0 rest)
-symbol_read near s [] e = token_read near (spelled s) [] (Mark s) (spelled_positive s) (rw (symbol_last s) refl)
+pub symbol_read : (near : Bool) (s : Symbol) (rest : List ℕ) → ends_symbol rest ≡ true → tokens_from near 0 (spelling s ++ rest) ≡ followed_by (Mark s) (tokens_from true 0 rest)
+symbol_read near s [] e = token_read near (spelling s) [] (Mark s) (spelled_positive s) (rw (symbol_last s) refl)
 symbol_read near s (b ∷ bs) e =
     let first = and_true (not (nat_eq 60 b)) (not (nat_eq 61 b) && not (nat_eq 62 b)) e in
     let others = and_true (not (nat_eq 61 b)) (not (nat_eq 62 b)) first.1 in
     let here = symbol_here s b bs (not_true _ first.0) (not_true _ others.0) (not_true _ others.1) in
-    token_read near (spelled s) (b ∷ bs) (Mark s) (spelled_positive s) (rw here refl)
+    token_read near (spelling s) (b ∷ bs) (Mark s) (spelled_positive s) (rw here refl)
 
 -- ---- numbers
 
@@ -200,8 +200,8 @@ is_digit d h = let low = h.0 in let high = h.1 in grind (arith, nat_tests)
 no_letter : (d : ℕ) → IsInRange 48 57 d → is_ascii_alphabetic d ≡ false
 no_letter d h = let low = h.0 in let high = h.1 in grind (arith, nat_tests)
 
-no_more_digits : (rest : List ℕ) → ends_word rest ≡ true → run class.Decimal rest ≡ 0
-unfolding run
+no_more_digits : (rest : List ℕ) → ends_word rest ≡ true → class_length class.Decimal rest ≡ 0
+unfolding class_length
 no_more_digits [] e = refl
 no_more_digits (b ∷ bs) e =
     let words : is_word b ≡ false = not_true (is_word b) e in
@@ -215,8 +215,8 @@ no_more_digits (b ∷ bs) e =
         go true true h k = let bad : true ≡ false = rw h at w in absurd (cc)
         go false true h k = let bad : true ≡ false = rw (h, k) at w in absurd (cc)
 
-run_digits : (ds rest : List ℕ) → AllDigits 10 ds → ends_word rest ≡ true → run class.Decimal (ds ++ rest) ≡ length ds
-unfolding run
+run_digits : (ds rest : List ℕ) → AllDigits 10 ds → ends_word rest ≡ true → class_length class.Decimal (ds ++ rest) ≡ length ds
+unfolding class_length
 run_digits [] rest h e = no_more_digits rest e
 run_digits (d ∷ ds) rest h e =
     let parts = tells_digits.parts d ds h in
@@ -251,13 +251,13 @@ number_token near n (d ∷ ds) rest some h v fits e =
     let parts = tells_digits.parts d ds h in
     let runs = run_digits (d ∷ ds) rest h e in
     let taken : take (length (d ∷ ds)) (d ∷ (ds ++ rest)) ≡ d ∷ ds = take-append_seam (d ∷ ds) rest in
-    let value : bounded (digits_value 10 (d ∷ ds)) ≡ Some n = rw (v, lt-ltb _ _ fits) refl in
-    let number : bounded (digits_value 10 (take (length (d ∷ ds)) (d ∷ (ds ++ rest)))) ≡ Some n = ap (λ (x : List ℕ). bounded (digits_value 10 x)) taken ∙ value in
+    let value : if_64_bits (digits_value 10 (d ∷ ds)) ≡ Some n = rw (v, lt-ltb _ _ fits) refl in
+    let number : if_64_bits (digits_value 10 (take (length (d ∷ ds)) (d ∷ (ds ++ rest)))) ≡ Some n = ap (λ (x : List ℕ). if_64_bits (digits_value 10 x)) taken ∙ value in
     let plus : 0 + length (d ∷ ds) ≡ length (d ∷ ds) = omega arith in
-    let decimal_here : number_at near (d ∷ (ds ++ rest)) ≡ numbered near (bounded (digits_value 10 (take (run class.Decimal (d ∷ (ds ++ rest))) (d ∷ (ds ++ rest))))) (0 + run class.Decimal (d ∷ (ds ++ rest))) =
+    let decimal_here : number_lexeme near (d ∷ (ds ++ rest)) ≡ numbered near (if_64_bits (digits_value 10 (take (class_length class.Decimal (d ∷ (ds ++ rest))) (d ∷ (ds ++ rest))))) (0 + class_length class.Decimal (d ∷ (ds ++ rest))) =
     rw (no_hexadecimal d ds rest parts.1 e) refl in
-    let counted = ap (λ (k : ℕ). numbered near (bounded (digits_value 10 (take k (d ∷ (ds ++ rest))))) (0 + k)) runs in
-    let read : number_at near (d ∷ (ds ++ rest)) ≡ numbered near (Some n) (length (d ∷ ds)) =
+    let counted = ap (λ (k : ℕ). numbered near (if_64_bits (digits_value 10 (take k (d ∷ (ds ++ rest))))) (0 + k)) runs in
+    let read : number_lexeme near (d ∷ (ds ++ rest)) ≡ numbered near (Some n) (length (d ∷ ds)) =
     decimal_here ∙ (counted ∙ (ap (λ (x : Option ℕ). numbered near x (0 + length (d ∷ ds))) number ∙ ap (λ (k : ℕ). numbered near (Some n) k) plus)) in
     rw (digit_no_symbol d (ds ++ rest) parts.0, no_letter d parts.0, is_digit d parts.0) (ap (λ (x : Lexeme × ℕ). Some x) read)
 
@@ -286,7 +286,7 @@ digits_end_symbol n rest fits = go (decimal n) (decimal_is_IsNumeral n fits).0.0
 -- a word that is read as a word, and goes on with no symbol
 pub record IsName (w : List ℕ) : Type 0 where
   pub some : 0 < length w
-  pub token : (near : Bool) (rest : List ℕ) → run class.Word rest ≡ 0 → token_at near (w ++ rest) ≡ Some (Word w, length w)
+  pub token : (near : Bool) (rest : List ℕ) → class_length class.Word rest ≡ 0 → token_at near (w ++ rest) ≡ Some (Word w, length w)
   pub front : (rest : List ℕ) → ends_symbol (w ++ rest) ≡ true
 
 -- a word

@@ -7,7 +7,7 @@ use Rattle.scx_semantics.specs.declared.instructions.Insn.{Insn}
 use Rattle.scx_semantics.specs.Code.{Code, is_wide}
 use Rattle.scx_asm.specs.declared.faults.AsmFault.{AsmFault}
 use Rattle.scx_asm.specs.declared.faults.AsmFault.TheVariants.{Syntax}
-use Rattle.scx_asm.specs.Resolving.{Labels, resolved}
+use Rattle.scx_asm.specs.Resolving.{Labels, insn_for}
 use Rattle.scx_semantics.specs.Results.{◌>>=◌}
 use Rattle.scx_asm.specs.FirstPass.{UnresolvedLine, FirstPassState, nothing_read, at_line, first_pass}
 
@@ -15,7 +15,7 @@ use Rattle.scx_asm.specs.FirstPass.{UnresolvedLine, FirstPassState, nothing_read
 unfoldable pub second_pass : Labels → List UnresolvedLine → Result (List Insn) (AsmFault × ℕ)
 second_pass labels [] = Ok []
 second_pass labels (d ∷ ds) = do
-  i ← at_line d.line (resolved labels d.slot d.says)
+  i ← at_line d.line (insn_for labels d.slot d.says)
   is ← second_pass labels ds
   Ok (i ∷ is)
 

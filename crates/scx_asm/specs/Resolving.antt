@@ -122,8 +122,8 @@ abbrev pub to_label : Labels → ℕ → Jump → List ℕ → Result Insn AsmFa
 to_label labels slot j l = either (find l labels) (λ target. or_out_of_range (jump_of j (distance slot target))) (Err UnknownLabel)
 
 -- the instruction that the line stands for at a slot; a line without one is out of range
-abbrev pub resolved : Labels → ℕ → ItemValue → Result Insn AsmFault
-resolved labels slot (Says s) = or_out_of_range (insn_of s)
-resolved labels slot (Jumps j (Distance n)) = or_out_of_range (distant j n)
-resolved labels slot (Jumps j (Label l)) = to_label labels slot j l
-resolved labels slot l = Err OutOfRange
+abbrev pub insn_for : Labels → ℕ → ItemValue → Result Insn AsmFault
+insn_for labels slot (Says s) = or_out_of_range (insn_of s)
+insn_for labels slot (Jumps j (Distance n)) = or_out_of_range (distant j n)
+insn_for labels slot (Jumps j (Label l)) = to_label labels slot j l
+insn_for labels slot l = Err OutOfRange

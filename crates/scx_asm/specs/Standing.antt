@@ -15,14 +15,14 @@ use Rattle.scx_asm.specs.Resolving.{insn_of, jump_of, distant, slots, Labels}
 use Rattle.scx_asm.specs.Reading.{code_of}
 
 -- the label that a line defines at a slot
-abbrev pub defined : ℕ → ItemValue → Labels
-defined s (DefinesLabel l) = (l, s) ∷ []
-defined s l = []
+abbrev pub label_at : ℕ → ItemValue → Labels
+label_at s (DefinesLabel l) = (l, s) ∷ []
+label_at s l = []
 
 -- the labels that lines define, each with the slot that it names, where the lines begin at a slot
 abbrev pub definitions : ℕ → List ItemValue → Labels
 definitions s [] = []
-definitions s (l ∷ ls) = defined s l ++ definitions (s + slots l) ls
+definitions s (l ∷ ls) = label_at s l ++ definitions (s + slots l) ls
 
 -- the labels alone, without their slots
 abbrev pub names : Labels → List (List ℕ)

@@ -3,7 +3,7 @@ ghost use Rattle.std.specs.Str.Lines.{lines};
 ghost use Rattle.scx_encoding.specs.Spelling.{IsInsn};
 ghost use Rattle.scx_isa.specs.Spelling.{IsProgram, spelling};
 ghost use Rattle.scx_text.specs.Items.{item_value};
-ghost use Rattle.scx_asm.specs.Resolving.{resolved, to_label};
+ghost use Rattle.scx_asm.specs.Resolving.{insn_for, to_label};
 ghost use Rattle.scx_asm.specs.FirstPass.{Gives, unresolved_of};
 ghost use Rattle.scx_asm.specs.Passes.{table, first_pass_of};
 ghost use Rattle.scx_asm.specs.Reading.{second_pass, insns_of, code_of, read_insns, read_text};
@@ -40,7 +40,7 @@ fn insn_at<'a>(
     unresolved: &Unresolved<'a>,
 ) -> Result<Insn, AsmFault>
     ensures { result
-        ≡ resolved (table labels.now.entries) unresolved.now.slot (item_value unresolved.now.item) }
+        ≡ insn_for (table labels.now.entries) unresolved.now.slot (item_value unresolved.now.item) }
 {
     match unresolved.item {
         Item::Statement(statement) => said(statement),

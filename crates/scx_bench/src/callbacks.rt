@@ -126,7 +126,7 @@ fn host() -> OneTask {
 
 /// What a callback is given.
 fn given(callback: Callback) -> Args
-    ensures { FitsCallback callback (values.given result) }
+    ensures { FitsCallback callback (values.program_arguments result) }
 {
     let first = match callback {
         Callback::Init => return Args::NONE,

@@ -10,7 +10,7 @@ use Rattle.scx_world.specs.World.{is_runnable}
 use Rattle.scx_machine.specs.declared.events.Event.{Event}
 use Rattle.scx_machine.specs.declared.events.Event.TheVariants.{Wake, Sleep, Tick, Clock, SetWeight}
 use Rattle.scx_machine.specs.Events as machine
-use Rattle.scx_sched.specs.Sim.{SimState, max_events, refusal, stepped, stepped_if}
+use Rattle.scx_sched.specs.Sim.{SimState, max_events, refusal, after_event, stepped_if}
 use Rattle.scx_driver.specs.Runs.{stepped_all, AreAccepted}
 use Rattle.scx_driver.specs.Blocks.{events_below}
 use Rattle.scx_driver.proofs.Alike.{IsLike, like_groups, like_active}
@@ -21,12 +21,12 @@ use Rattle.scx_driver.proofs.Happening.{like_clock, like_tick, like_wake, like_s
 -- two lists of events, one behind the other
 pub stepped_behind : (xs ys : List Event) (s : SimState) → stepped_all s (xs ++ ys) ≡ stepped_all (stepped_all s xs) ys
 stepped_behind [] ys s = refl
-stepped_behind (x ∷ xs) ys s = stepped_behind xs ys (stepped s x)
+stepped_behind (x ∷ xs) ys s = stepped_behind xs ys (after_event s x)
 
 -- are accepted where each is
 pub accepted_behind : (xs ys : List Event) (s : SimState) → AreAccepted s xs → AreAccepted (stepped_all s xs) ys → AreAccepted s (xs ++ ys)
 accepted_behind [] ys s a b = b
-accepted_behind (x ∷ xs) ys s a b = (a.0, accepted_behind xs ys (stepped s x) a.1 b)
+accepted_behind (x ∷ xs) ys s a b = (a.0, accepted_behind xs ys (after_event s x) a.1 b)
 
 -- ---- what holds between two events
 
@@ -40,8 +40,8 @@ pub record IsOf (n c g e : ℕ) (s : SimState) : Type 0 where
 -- an event that is accepted leads on
 pub record Goes (v : Event) (s : SimState) : Type 0 where
   pub accepted : refusal s v ≡ None
-  pub state : (stepped s v).state ≡ (machine.happened s.state v).state
-  pub events : (stepped s v).events ≡ s.events + 1
+  pub state : (after_event s v).state ≡ (machine.event_step s.state v).state
+  pub events : (after_event s v).events ≡ s.events + 1
 
 goes : (v : Event) (s : SimState) → s.events < max_events → machine.refusal s.state v ≡ None → Goes v s
 goes v s l e = rec ok
@@ -58,18 +58,18 @@ goes v s l e = rec ok
 
 module _ (n c g e : ℕ) where
   -- a tree with as many groups
-  is_of : (h : Hierarchy) (v : Event) (s : SimState) → length h.groups ≡ g → Goes v s → IsLike h n c (machine.happened s.state v).state.world → s.events ≤ e → IsOf n c g (e + 1) (stepped s v)
+  is_of : (h : Hierarchy) (v : Event) (s : SimState) → length h.groups ≡ g → Goes v s → IsLike h n c (machine.event_step s.state v).state.world → s.events ≤ e → IsOf n c g (e + 1) (after_event s v)
   is_of h v s groups go i l = record {
     tasks = ap (λ x. length x.world.tasks) go.state ∙ i.1;
     cpus = ap (λ x. length x.world.cpus) go.state ∙ i.2;
-    groups = ap (λ x. length x.world.tree.groups) go.state ∙ ap (λ gs. length gs) (like_groups h n c (machine.happened s.state v).state.world i) ∙ groups;
+    groups = ap (λ x. length x.world.tree.groups) go.state ∙ ap (λ gs. length gs) (like_groups h n c (machine.event_step s.state v).state.world i) ∙ groups;
     events = omega (arith, go.events, l);
   }
 
   -- the machine is of as many, and these tasks are runnable as before
   abbrev pub Leads : Event → SimState → (ℕ → Type 0) → Type 0
   Leads v s P =
-      (refusal s v ≡ None) × IsOf n c g (e + 1) (stepped s v) × ((u : ℕ) → P u → is_runnable (stepped s v).state.world u ≡ is_runnable s.state.world u)
+      (refusal s v ≡ None) × IsOf n c g (e + 1) (after_event s v) × ((u : ℕ) → P u → is_runnable (after_event s v).state.world u ≡ is_runnable s.state.world u)
 
   like_now : (s : SimState) → IsOf n c g e s → IsLike s.state.world.tree n c s.state.world
   like_now s h = ((refl, refl, refl), h.tasks, h.cpus)
@@ -81,11 +81,11 @@ module _ (n c g e : ℕ) where
       x : Goes (Wake t) s
       x = goes (Wake t) s (omega (arith, few, h.events)) (rw (lt-ltb t (length s.state.world.tasks) (omega (arith, l, h.tasks)), sleeps) refl)
 
-      i : IsLike (tree.with_task s.state.world.tree t true) n c (machine.happened s.state (Wake t)).state.world
+      i : IsLike (tree.with_task s.state.world.tree t true) n c (machine.event_step s.state (Wake t)).state.world
       i = like_wake s.state.world.tree n c s.state t (like_now s h)
 
-      same : (u : ℕ) → (u ≡ t → ⊥) → is_runnable (stepped s (Wake t)).state.world u ≡ is_runnable s.state.world u
-      same u d = ap (λ y. is_runnable y.world u) x.state ∙ ap (λ xs. get_or xs u false) (like_active (tree.with_task s.state.world.tree t true) n c (machine.happened s.state (Wake t)).state.world i) ∙ others_stay s.state.world.tree t u true d
+      same : (u : ℕ) → (u ≡ t → ⊥) → is_runnable (after_event s (Wake t)).state.world u ≡ is_runnable s.state.world u
+      same u d = ap (λ y. is_runnable y.world u) x.state ∙ ap (λ xs. get_or xs u false) (like_active (tree.with_task s.state.world.tree t true) n c (machine.event_step s.state (Wake t)).state.world i) ∙ others_stay s.state.world.tree t u true d
 
   -- a task that is runnable may sleep
   pub sleep_leads : (s : SimState) (t : ℕ) → e < max_events → t < n → is_runnable s.state.world t ≡ true → IsOf n c g e s → Leads (Sleep t) s (λ u. u ≡ t → ⊥)
@@ -94,27 +94,27 @@ module _ (n c g e : ℕ) where
       x : Goes (Sleep t) s
       x = goes (Sleep t) s (omega (arith, few, h.events)) (rw (lt-ltb t (length s.state.world.tasks) (omega (arith, l, h.tasks)), runs) refl)
 
-      i : IsLike (tree.with_task s.state.world.tree t false) n c (machine.happened s.state (Sleep t)).state.world
+      i : IsLike (tree.with_task s.state.world.tree t false) n c (machine.event_step s.state (Sleep t)).state.world
       i = like_sleep s.state.world.tree n c s.state t l (like_now s h)
 
-      same : (u : ℕ) → (u ≡ t → ⊥) → is_runnable (stepped s (Sleep t)).state.world u ≡ is_runnable s.state.world u
-      same u d = ap (λ y. is_runnable y.world u) x.state ∙ ap (λ xs. get_or xs u false) (like_active (tree.with_task s.state.world.tree t false) n c (machine.happened s.state (Sleep t)).state.world i) ∙ others_stay s.state.world.tree t u false d
+      same : (u : ℕ) → (u ≡ t → ⊥) → is_runnable (after_event s (Sleep t)).state.world u ≡ is_runnable s.state.world u
+      same u d = ap (λ y. is_runnable y.world u) x.state ∙ ap (λ xs. get_or xs u false) (like_active (tree.with_task s.state.world.tree t false) n c (machine.event_step s.state (Sleep t)).state.world i) ∙ others_stay s.state.world.tree t u false d
 
   -- a processor may tick
-  pub tick_leads : (s : SimState) (d : ℕ) → e < max_events → d < c → IsOf n c g e s → (refusal s (Tick d) ≡ None) × IsOf n c g (e + 1) (stepped s (Tick d))
+  pub tick_leads : (s : SimState) (d : ℕ) → e < max_events → d < c → IsOf n c g e s → (refusal s (Tick d) ≡ None) × IsOf n c g (e + 1) (after_event s (Tick d))
   tick_leads s d few l h = (x.accepted, is_of s.state.world.tree (Tick d) s h.groups x (like_tick s.state.world.tree n c s.state d (like_now s h)) h.events)
     where
       x : Goes (Tick d) s
       x = goes (Tick d) s (omega (arith, few, h.events)) (rw (lt-ltb d (length s.state.world.cpus) (omega (arith, l, h.cpus))) refl)
 
   -- the clock may go on
-  pub clock_leads : (s : SimState) → e < max_events → IsOf n c g e s → (refusal s Clock ≡ None) × IsOf n c g (e + 1) (stepped s Clock)
+  pub clock_leads : (s : SimState) → e < max_events → IsOf n c g e s → (refusal s Clock ≡ None) × IsOf n c g (e + 1) (after_event s Clock)
   clock_leads s few h =
       let x : Goes Clock s = goes Clock s (omega (arith, few, h.events)) refl in
       (x.accepted, is_of s.state.world.tree Clock s h.groups x (like_clock s.state.world.tree n c s.state (like_now s h)) h.events)
 
   -- a group may get a weight
-  pub weight_leads : (s : SimState) (k y : ℕ) → e < max_events → k < g → 1 ≤ y → y ≤ 10000 → IsOf n c g e s → (refusal s (SetWeight k y) ≡ None) × IsOf n c g (e + 1) (stepped s (SetWeight k y))
+  pub weight_leads : (s : SimState) (k y : ℕ) → e < max_events → k < g → 1 ≤ y → y ≤ 10000 → IsOf n c g e s → (refusal s (SetWeight k y) ≡ None) × IsOf n c g (e + 1) (after_event s (SetWeight k y))
   weight_leads s k y few l least greatest h = (x.accepted, go (is_none (weight_fault s.state.world.tree k y)) refl)
     where
       right : is_outside max_weight y ≡ false
@@ -126,7 +126,7 @@ module _ (n c g e : ℕ) where
       x : Goes (SetWeight k y) s
       x = goes (SetWeight k y) s (omega (arith, few, h.events)) (rw (lt-ltb k (length s.state.world.tree.groups) (omega (arith, l, h.groups)), right) refl)
 
-      go : (b : Bool) → is_none (weight_fault s.state.world.tree k y) ≡ b → IsOf n c g (e + 1) (stepped s (SetWeight k y))
+      go : (b : Bool) → is_none (weight_fault s.state.world.tree k y) ≡ b → IsOf n c g (e + 1) (after_event s (SetWeight k y))
       go true w = is_of (with_weight s.state.world.tree k y) (SetWeight k y) s (length-set s.state.world.tree.groups k _ ∙ h.groups) x (rw w ((refl, refl, refl), h.tasks, h.cpus)) h.events
       go false w = is_of s.state.world.tree (SetWeight k y) s h.groups x (rw w ((refl, refl, refl), h.tasks, h.cpus)) h.events
 
@@ -134,7 +134,7 @@ module _ (n c g e : ℕ) where
 
 -- what holds before each number is looked at
 pub record IsLed (n : ℕ) (test : ℕ → Bool) (event : ℕ → Event) (I : ℕ → SimState → Type 0) : Type 0 where
-  pub passed : (k : ℕ) (v : SimState) → k < n → test k ≡ true → I k v → (refusal v (event k) ≡ None) × I (k + 1) (stepped v (event k))
+  pub passed : (k : ℕ) (v : SimState) → k < n → test k ≡ true → I k v → (refusal v (event k) ≡ None) × I (k + 1) (after_event v (event k))
   pub left_out : (k : ℕ) (v : SimState) → k < n → test k ≡ false → I k v → I (k + 1) v
 
 abbrev pub Led : (ℕ → SimState → Type 0) → ℕ → SimState → List Event → Type 0

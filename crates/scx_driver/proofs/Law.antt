@@ -6,11 +6,11 @@ use Rattle.scx_weights.specs.Hierarchy.{idle}
 use Rattle.scx_world.specs.World.{WorldState, is_runnable}
 use Rattle.scx_machine.specs.declared.events.Event.TheVariants as event
 use Rattle.scx_machine.specs.Policy.{PolicyState}
-use Rattle.scx_sched.specs.Sim.{SimState, max_events, IsFirst}
+use Rattle.scx_sched.specs.Sim.{SimState, max_events, IsFirstState}
 use Rattle.scx_workloads.specs.declared.workload.Timing.{Timing}
 use Rattle.scx_workloads.specs.Workload.{WorkloadState, IsWorkload, IsChange, change_at}
 use Rattle.scx_driver.specs.Runs.{stepped_all, AreAccepted}
-use Rattle.scx_driver.specs.Blocks.{Plan, Memory, Block, Changes, Wakes, Ticks, Sleeps, Clock, events_below, set_below, is_at, is_due, has_run_enough, block_events, remembered}
+use Rattle.scx_driver.specs.Blocks.{Plan, Memory, Block, Changes, Wakes, Ticks, Sleeps, Clock, events_below, set_below, is_at, is_due, has_run_enough, block_events, memory_after}
 use Rattle.scx_driver.specs.Events.{blocks_from, events_from, plan_of, first_memory, workload_events}
 use Rattle.scx_driver.proofs.Alike.{IsLike, like_groups, like_first}
 use Rattle.scx_driver.proofs.Accepting.{accepted_behind, IsOf, wake_leads, sleep_leads, tick_leads, clock_leads, weight_leads, Led, led}
@@ -64,7 +64,7 @@ not_true false e = refl
 not_true true e = absurd (cc)
 
 module _ (n c g : ℕ) (p : Plan) (plan : IsPlan n c g p) where
-  still_due : (k : Memory) (b : Block) (w : WorldState) → length k.due ≡ n → length (remembered p b k w).due ≡ n
+  still_due : (k : Memory) (b : Block) (w : WorldState) → length k.due ≡ n → length (memory_after p b k w).due ≡ n
   still_due k (Changes m) w l = l
   still_due k (Wakes m) w l = l
   still_due k Ticks w l = l
@@ -145,13 +145,13 @@ module _ (n c g : ℕ) (p : Plan) (plan : IsPlan n c g p) where
   all_blocks (b ∷ bs) k s even h room =
       let x = block s h b k even (omega (arith, room)) in
       let after = stepped_all s (block_events p b k s.state.world) in
-      accepted_behind (block_events p b k s.state.world) (events_from p bs (remembered p b k s.state.world) after) s x.0
-      (all_blocks bs (remembered p b k s.state.world) after (still_due k b s.state.world even) (counted_now _ after x.1) (omega (arith, room, x.1.events)))
+      accepted_behind (block_events p b k s.state.world) (events_from p bs (memory_after p b k s.state.world) after) s x.0
+      (all_blocks bs (memory_after p b k s.state.world) after (still_due k b s.state.world even) (counted_now _ after x.1) (omega (arith, room, x.1.events)))
 
 -- ---- a workload's
 
 -- the law
-pub none_is_refused : (w : WorkloadState) (p : PolicyState) (s : SimState) → IsWorkload w → IsFirst p (idle w.groups w.homes) w.cpus s → AreAccepted s (workload_events w s)
+pub none_is_refused : (w : WorkloadState) (p : PolicyState) (s : SimState) → IsWorkload w → IsFirstState p (idle w.groups w.homes) w.cpus s → AreAccepted s (workload_events w s)
 none_is_refused w p s whole first =
     all_blocks (length w.homes) w.cpus (length w.groups) (plan_of w) plan (blocks_from w.ms 0) (first_memory w.timings) s (length-map w.timings (λ (t : Timing). t.start) ∙ whole.timed) now (omega (arith, first.1, most_from w.ms 0, whole.few_ms))
   where

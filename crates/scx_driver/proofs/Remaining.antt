@@ -5,14 +5,14 @@ use Rattle.std.proofs.lemmas.Bool.{cases_eq, lt-ltb, eq-eqb, ne_eqb}
 use Rattle.std.proofs.lemmas.List.{drop_all, drop_more}
 use Rattle.scx_machine.specs.declared.events.Event.{Event}
 use Rattle.scx_machine.specs.declared.events.Event.TheVariants as event
-use Rattle.scx_sched.specs.Sim.{SimState, stepped}
+use Rattle.scx_sched.specs.Sim.{SimState, after_event}
 use Rattle.scx_driver.specs.contracts.driver.Phase.{the_type}
 use Rattle.scx_driver.specs.declared.driver.Phase.{Phase}
 use Rattle.scx_driver.specs.declared.driver.Phase.TheVariants as phase
 use Rattle.scx_driver.specs.Runs.{stepped_all}
 use Rattle.scx_driver.specs.Blocks.{Plan, Memory, Block, Changes, Wakes, Ticks, Sleeps, Clock, changes_at}
 use Rattle.scx_driver.specs.Events.{blocks_from, events_from}
-use Rattle.scx_driver.specs.Driver.{DriverState, remaining, is_empty, with_pending, begun_with, begun, blocks_left, phase_number, next_number}
+use Rattle.scx_driver.specs.Driver.{DriverState, remaining, is_empty, with_pending, at_next_block_with, at_next_block, blocks_left, phase_number, next_number}
 
 -- there are blocks where some are left
 pub some_blocks : (n m : ℕ) → not (is_empty (blocks_from n m)) ≡ nat_lt 0 n
@@ -21,21 +21,21 @@ some_blocks (suc n) m = sym (lt-ltb 0 (suc n) (omega arith))
 
 -- after the changes comes what follows them
 pub begun_changes : (p : Plan) (k : Memory) (es : List Event) (m left : ℕ) (s : SimState) → not (is_empty (blocks_left phase.Changes m left)) ≡ true
-    → begun_with p es (blocks_left phase.Changes m left) k s ≡ record { plan = p; pending = changes_at p.changes m; blocks = blocks_left phase.Wakes m (left - 1); memory = k }
+    → at_next_block_with p es (blocks_left phase.Changes m left) k s ≡ record { plan = p; pending = changes_at p.changes m; blocks = blocks_left phase.Wakes m (left - 1); memory = k }
 begun_changes p k es m zero s some = absurd (cc)
 begun_changes p k es m (suc n) s some = let e : suc n - 1 ≡ n = omega arith in rw e refl
 
 -- a block that begins leaves what is still to come
-pub remaining_begun : (d : DriverState) (s : SimState) → is_empty d.pending ≡ true → remaining (begun d s) s ≡ remaining d s
+pub remaining_begun : (d : DriverState) (s : SimState) → is_empty d.pending ≡ true → remaining (at_next_block d s) s ≡ remaining d s
 remaining_begun d s none = go d.pending d.blocks none
   where
-    go : (es : List Event) (bs : List Block) → is_empty es ≡ true → remaining (begun_with d.plan es bs d.memory s) s ≡ es ++ events_from d.plan bs d.memory (stepped_all s es)
+    go : (es : List Event) (bs : List Block) → is_empty es ≡ true → remaining (at_next_block_with d.plan es bs d.memory s) s ≡ es ++ events_from d.plan bs d.memory (stepped_all s es)
     go [] [] e = refl
     go [] (b ∷ bs) e = refl
     go (x ∷ es) bs e = absurd (cc)
 
 -- an event that is taken comes first
-pub remaining_taken : (d after : DriverState) (e : Event) (s : SimState) → d ≡ with_pending after (e ∷ after.pending) → remaining d s ≡ e ∷ remaining after (stepped s e)
+pub remaining_taken : (d after : DriverState) (e : Event) (s : SimState) → d ≡ with_pending after (e ∷ after.pending) → remaining d s ≡ e ∷ remaining after (after_event s e)
 remaining_taken d after e s is = rw is refl
 
 -- past the last block nothing comes
@@ -58,7 +58,7 @@ none_left p (b ∷ bs) e = absurd (cc)
 
 -- a block that begins and has no event has the next one behind it
 next_begun : (q : Phase) (m n : ℕ) (p : Plan) (es : List Event) (k : Memory) (s : SimState) → not (is_empty (blocks_left q m n)) ≡ true
-    → is_empty (begun_with p es (blocks_left q m n) k s).pending ≡ true → phase_number q < next_number (begun_with p es (blocks_left q m n) k s).blocks
+    → is_empty (at_next_block_with p es (blocks_left q m n) k s).pending ≡ true → phase_number q < next_number (at_next_block_with p es (blocks_left q m n) k s).blocks
 next_begun phase.Changes m zero p es k s some none = absurd (cc)
 next_begun phase.Changes m (suc n) p es k s some none = omega arith
 next_begun phase.Wakes m n p es k s some none = omega arith
@@ -67,12 +67,12 @@ next_begun phase.Sleeps m n p es k s some none = omega arith
 next_begun phase.Clock m n p es k s some none = absurd (cc)
 
 -- behind a block that has no event comes a later one of its millisecond, if any block is left
-pub begun_past : (p q : Phase) (m n : ℕ) (d after : DriverState) (s : SimState) → blocks_left q m n ≡ d.blocks → q ≡ p → not (is_empty d.blocks) ≡ true → after ≡ begun d s
+pub begun_past : (p q : Phase) (m n : ℕ) (d after : DriverState) (s : SimState) → blocks_left q m n ≡ d.blocks → q ≡ p → not (is_empty d.blocks) ≡ true → after ≡ at_next_block d s
     → is_empty after.pending ≡ true → phase_number p < next_number after.blocks
 begun_past p q m n d after s blocks is some new none =
     subst (λ x. phase_number x < next_number after.blocks) is
     (subst (λ (x : DriverState). phase_number q < next_number x.blocks) (sym new)
-    (subst (λ (bs : List Block). not (is_empty bs) ≡ true → is_empty (begun_with d.plan d.pending bs d.memory s).pending ≡ true → phase_number q < next_number (begun_with d.plan d.pending bs d.memory s).blocks) blocks
+    (subst (λ (bs : List Block). not (is_empty bs) ≡ true → is_empty (at_next_block_with d.plan d.pending bs d.memory s).pending ≡ true → phase_number q < next_number (at_next_block_with d.plan d.pending bs d.memory s).blocks) blocks
     (next_begun q m n d.plan d.pending d.memory s) some (subst (λ (x : DriverState). is_empty x.pending ≡ true) new none)))
 
 -- the block of that number

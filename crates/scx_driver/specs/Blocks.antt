@@ -90,9 +90,9 @@ abbrev pub due_after : List Timing → List ℕ → List ℕ → ℕ → WorldSt
 due_after timings due ran m w = set_below (length timings) (has_run_enough timings ran w) (λ t. m + 1 + (timing_at timings t).sleep) due
 
 -- what is remembered after a block that begins in that state
-abbrev pub remembered : Plan → Block → Memory → WorldState → Memory
-remembered p (Changes m) k w = k
-remembered p (Wakes m) k w = record { due = k.due; ran = ran_after k.due k.ran m w }
-remembered p Ticks k w = k
-remembered p (Sleeps m) k w = record { due = due_after p.timings k.due k.ran m w; ran = k.ran }
-remembered p Clock k w = k
+abbrev pub memory_after : Plan → Block → Memory → WorldState → Memory
+memory_after p (Changes m) k w = k
+memory_after p (Wakes m) k w = record { due = k.due; ran = ran_after k.due k.ran m w }
+memory_after p Ticks k w = k
+memory_after p (Sleeps m) k w = record { due = due_after p.timings k.due k.ran m w; ran = k.ran }
+memory_after p Clock k w = k

@@ -7,7 +7,7 @@ use Rattle.scx_driver.specs.declared.driver.Phase.{Phase}
 use Rattle.scx_driver.specs.declared.driver.Phase.TheVariants as phase
 use Rattle.scx_driver.specs.declared.driver.Driver.TheInside.{Inside}
 use Rattle.scx_driver.specs.Runs.{stepped_all}
-use Rattle.scx_driver.specs.Blocks.{Plan, Memory, Block, Changes, Wakes, Ticks, Sleeps, Clock, block_events, remembered}
+use Rattle.scx_driver.specs.Blocks.{Plan, Memory, Block, Changes, Wakes, Ticks, Sleeps, Clock, block_events, memory_after}
 use Rattle.scx_driver.specs.Events.{blocks_from, events_from}
 
 -- the events of the block at hand that are still to come, and the blocks behind it
@@ -31,13 +31,13 @@ abbrev pub with_pending : DriverState → List Event → DriverState
 with_pending d es = record d { pending = es }
 
 -- the next block begins
-abbrev pub begun_with : Plan → List Event → List Block → Memory → SimState → DriverState
-begun_with p es [] k s = record { plan = p; pending = es; blocks = []; memory = k }
-begun_with p es (b ∷ bs) k s = record { plan = p; pending = block_events p b k s.state.world; blocks = bs; memory = remembered p b k s.state.world }
+abbrev pub at_next_block_with : Plan → List Event → List Block → Memory → SimState → DriverState
+at_next_block_with p es [] k s = record { plan = p; pending = es; blocks = []; memory = k }
+at_next_block_with p es (b ∷ bs) k s = record { plan = p; pending = block_events p b k s.state.world; blocks = bs; memory = memory_after p b k s.state.world }
 
 -- the driver as its next block begins; it stays as it is where no block is left
-abbrev pub begun : DriverState → SimState → DriverState
-begun d s = begun_with d.plan d.pending d.blocks d.memory s
+abbrev pub at_next_block : DriverState → SimState → DriverState
+at_next_block d s = at_next_block_with d.plan d.pending d.blocks d.memory s
 
 -- ---- the blocks of a millisecond, in their order
 

@@ -6,7 +6,7 @@ use Rattle.scx_sched.specs.Sim.{SimState}
 use Rattle.scx_workloads.specs.declared.workload.Timing.{Timing}
 use Rattle.scx_workloads.specs.Workload.{WorkloadState}
 use Rattle.scx_driver.specs.Runs.{stepped_all}
-use Rattle.scx_driver.specs.Blocks.{Plan, Memory, Block, Changes, Wakes, Ticks, Sleeps, Clock, block_events, remembered}
+use Rattle.scx_driver.specs.Blocks.{Plan, Memory, Block, Changes, Wakes, Ticks, Sleeps, Clock, block_events, memory_after}
 
 -- the blocks of so many milliseconds from m on
 abbrev pub blocks_from : ℕ → ℕ → List Block
@@ -17,7 +17,7 @@ blocks_from (suc n) m = Changes m ∷ Wakes m ∷ Ticks ∷ Sleeps m ∷ Clock �
 abbrev pub events_from : Plan → List Block → Memory → SimState → List Event
 events_from p [] k s = []
 events_from p (b ∷ bs) k s =
-    block_events p b k s.state.world ++ events_from p bs (remembered p b k s.state.world) (stepped_all s (block_events p b k s.state.world))
+    block_events p b k s.state.world ++ events_from p bs (memory_after p b k s.state.world) (stepped_all s (block_events p b k s.state.world))
 
 -- what a workload plans: its processors, when each task runs and sleeps, and changes of weights
 abbrev pub plan_of : WorkloadState → Plan

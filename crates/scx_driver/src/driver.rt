@@ -1,5 +1,5 @@
 ghost use Rattle.std.specs.Prelude.{◌≡◌, ◌≤◌, ◌<◌, ◌∷◌, [], not, map, true, false, IfOk, IfSome, IfNone};
-ghost use Rattle.scx_sched.specs.Sim.{SimState, stepped};
+ghost use Rattle.scx_sched.specs.Sim.{SimState, after_event};
 ghost use Rattle.scx_workloads.specs.declared.workload.Timing.{Timing};
 ghost use Rattle.scx_driver.specs.Events.{workload_events};
 
@@ -57,7 +57,7 @@ impl Model for Driver {
 }
 
 impl Driver {
-    ghost use Rattle.scx_driver.specs.Driver.{remaining, is_empty, with_pending, begun, phase_number, next_number};
+    ghost use Rattle.scx_driver.specs.Driver.{remaining, is_empty, with_pending, at_next_block, phase_number, next_number};
 
     /// All events of the workload are still to come, for a machine in any state. All memory is taken
     /// here.
@@ -88,7 +88,7 @@ impl Driver {
     pub fn next(&mut self, sim: &Sim) -> Option<Event>
         ensures next { IfSome result
             (λ event. remaining self.old sim.now
-            ≡ event ∷ remaining self.new (stepped sim.now event)) }
+            ≡ event ∷ remaining self.new (after_event sim.now event)) }
         ensures end { IfNone result (remaining self.old sim.now ≡ []) }
         ensures over { IfNone result (remaining self.new sim.now ≡ []) }
     {
@@ -171,7 +171,7 @@ impl Driver {
     #[tactic(auto, using(crate::proofs::Remaining::begun_changes))]
     fn begin_block(&mut self, sim: &Sim)
         requires { not (is_empty self.old.blocks) ≡ true }
-        ensures { self.new ≡ begun self.old sim.now }
+        ensures { self.new ≡ at_next_block self.old sim.now }
     {
         let now = self.clock;
         self.events.clear();

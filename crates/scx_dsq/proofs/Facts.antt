@@ -10,13 +10,13 @@ use Rattle.scx_dsq.specs.declared.entries.Entry.{Entry}
 use Rattle.scx_dsq.specs.declared.errors.QueueError.{QueueError}
 use Rattle.scx_dsq.specs.declared.errors.QueueError.TheVariants.{NoSuchQueue, AlreadyThere, Mixed}
 use Rattle.scx_dsq.specs.Queues.{Entries, QueueState, exists, task_count, entry_at, entry_of, is_first, front_of}
-use Rattle.scx_dsq.specs.Calls.{clashes, create_refusal, with_queue, created, push_refusal, pushed, with_task, without, without_task, removed, next_entry}
+use Rattle.scx_dsq.specs.Calls.{clashes, create_refusal, with_queue, after_create, push_refusal, after_push, with_task, without, without_task, after_remove, next_entry}
 use Rattle.scx_dsq.specs.Laws.{one_if, standing, PushAddsOne, PopTakesOne, RemovalTakesOne, OthersChangeNone}
 
 -- ---- what a call leaves as it was
 
 -- there are as many tasks after a queue is created
-pub tasks_created : (s : QueueState) (id : ℕ) → task_count (created s id) ≡ task_count s
+pub tasks_created : (s : QueueState) (id : ℕ) → task_count (after_create s id) ≡ task_count s
 tasks_created s id = go (is_none (create_refusal s id))
   where
     go : (b : Bool) → task_count (if b then with_queue s id else s) ≡ task_count s
@@ -24,7 +24,7 @@ tasks_created s id = go (is_none (create_refusal s id))
     go false = refl
 
 -- after a push
-pub tasks_pushed : (s : QueueState) (id t : ℕ) (rank : Rank) → task_count (pushed s id t rank) ≡ task_count s
+pub tasks_pushed : (s : QueueState) (id t : ℕ) (rank : Rank) → task_count (after_push s id t rank) ≡ task_count s
 tasks_pushed s id t rank = go (is_none (push_refusal s id t rank))
   where
     go : (b : Bool) → task_count (if b then with_task s id t rank else s) ≡ task_count s
@@ -37,7 +37,7 @@ tasks_without s None = refl
 tasks_without s (Some t) = length-set {A = Option Entry} s.entries t None
 
 -- after a removal
-pub tasks_removed : (s : QueueState) (t : ℕ) → task_count (removed s t) ≡ task_count s
+pub tasks_removed : (s : QueueState) (t : ℕ) → task_count (after_remove s t) ≡ task_count s
 tasks_removed s t = go (is_some (entry_of s t))
   where
     go : (b : Bool) → task_count (if b then without_task s t else s) ≡ task_count s
@@ -45,7 +45,7 @@ tasks_removed s t = go (is_some (entry_of s t))
     go false = refl
 
 -- there are the same queues after a push
-pub ids_pushed : (s : QueueState) (id t : ℕ) (rank : Rank) → (pushed s id t rank).ids ≡ s.ids
+pub ids_pushed : (s : QueueState) (id t : ℕ) (rank : Rank) → (after_push s id t rank).ids ≡ s.ids
 ids_pushed s id t rank = go (is_none (push_refusal s id t rank))
   where
     go : (b : Bool) → (if b then with_task s id t rank else s).ids ≡ s.ids
@@ -58,7 +58,7 @@ ids_without s None = refl
 ids_without s (Some t) = refl
 
 -- after a removal
-pub ids_removed : (s : QueueState) (t : ℕ) → (removed s t).ids ≡ s.ids
+pub ids_removed : (s : QueueState) (t : ℕ) → (after_remove s t).ids ≡ s.ids
 ids_removed s t = go (is_some (entry_of s t))
   where
     go : (b : Bool) → (if b then without_task s t else s).ids ≡ s.ids
@@ -66,7 +66,7 @@ ids_removed s t = go (is_some (entry_of s t))
     go false = refl
 
 -- as many pushes were accepted after a queue is created
-pub pushes_created : (s : QueueState) (id : ℕ) → (created s id).pushes ≡ s.pushes
+pub pushes_created : (s : QueueState) (id : ℕ) → (after_create s id).pushes ≡ s.pushes
 pushes_created s id = go (is_none (create_refusal s id))
   where
     go : (b : Bool) → (if b then with_queue s id else s).pushes ≡ s.pushes
@@ -74,7 +74,7 @@ pushes_created s id = go (is_none (create_refusal s id))
     go false = refl
 
 -- one more at most after a push
-pub pushes_pushed : (s : QueueState) (id t : ℕ) (rank : Rank) → (pushed s id t rank).pushes ≤ s.pushes + 1
+pub pushes_pushed : (s : QueueState) (id t : ℕ) (rank : Rank) → (after_push s id t rank).pushes ≤ s.pushes + 1
 pushes_pushed s id t rank = go (is_none (push_refusal s id t rank))
   where
     go : (b : Bool) → (if b then with_task s id t rank else s).pushes ≤ s.pushes + 1
@@ -87,7 +87,7 @@ pushes_without s None = refl
 pushes_without s (Some t) = refl
 
 -- after a removal
-pub pushes_removed : (s : QueueState) (t : ℕ) → (removed s t).pushes ≡ s.pushes
+pub pushes_removed : (s : QueueState) (t : ℕ) → (after_remove s t).pushes ≡ s.pushes
 pushes_removed s t = go (is_some (entry_of s t))
   where
     go : (b : Bool) → (if b then without_task s t else s).pushes ≡ s.pushes
@@ -170,7 +170,7 @@ others_change_none = record {
   queue = λ s id t. created_same s id t (is_none (create_refusal s id));
 }
   where
-    refused : (s : QueueState) (id t : ℕ) (rank : Rank) (o : Option QueueError) → push_refusal s id t rank ≡ o → is_some o ≡ true → pushed s id t rank ≡ s
+    refused : (s : QueueState) (id t : ℕ) (rank : Rank) (o : Option QueueError) → push_refusal s id t rank ≡ o → is_some o ≡ true → after_push s id t rank ≡ s
     refused s id t rank None e h = absurd (cc)
     refused s id t rank (Some x) e h = rw e refl
 

@@ -12,10 +12,10 @@ use Rattle.scx_dsq.specs.declared.links.Ends.{Ends}
 use Rattle.scx_dsq.specs.declared.queue.Queue.{Queue}
 use Rattle.scx_dsq.specs.Queues.{Entries, QueueState, entry_at, is_in}
 use Rattle.scx_dsq.specs.Laws.{HasOwnStamps}
-use Rattle.scx_dsq.specs.Links.{no_ends, link_at, links_appended, links_unlinked, In, NobodyIsIn, IsFirst, IsLast, IsNext, IsThreaded}
+use Rattle.scx_dsq.specs.Links.{no_ends, link_at, links_appended, links_unlinked, In, NobodyIsIn, HasLeastStamp, IsLast, IsNext, IsThreaded}
 use Rattle.scx_dsq.specs.Heaps.{IsHeap, HasSpots, IsAbsent, first_item}
 use Rattle.scx_dsq.specs.Holdings.{Holds, entry_for}
-use Rattle.scx_dsq.specs.Kept.{IsOfOneSort, by_links, by_heap, mixes, CanAppend, appended, CanInsert, Inserted, CanLeave, TakenOut, unlinked}
+use Rattle.scx_dsq.specs.Kept.{IsOfOneSort, by_links, by_heap, mixes, CanAppend, with_last, CanInsert, Inserted, CanLeave, TakenOut, without_linked}
 use Rattle.scx_dsq.proofs.Standing.{Changed, this, other, changed, unchanged, waits_below, is_in_from, another, same_entry, count-set}
 use Rattle.scx_dsq.proofs.Holdings.{holds_empty, holds_others, holds_with, holds_without, holds_vtime, holds_absent}
 use Rattle.scx_dsq.proofs.Fronts.{NobodyIn, nobody_counts}
@@ -78,7 +78,7 @@ module _ (s : QueueState) (links : List Link) (q : Queue) (t : ℕ) (p : Entry) 
       }
 
   -- such a queue keeps its tasks, with this one at its end
-  pub form_appended : p.rank ≡ Fifo → IsOfOneSort (set s.entries t (Some p)) (links_appended links q.ends t) (appended q t)
+  pub form_appended : p.rank ≡ Fifo → IsOfOneSort (set s.entries t (Some p)) (links_appended links q.ends t) (with_last q t)
   form_appended is =
       let h = as_threaded form in
       by_links (threaded_with s.entries q.id t p here free within late links q.ends long stamps is h.0) h.1
@@ -105,7 +105,7 @@ pub as_held : (s : QueueState) (links : List Link) (q : Queue) (k : ℕ) → mix
 as_held s links q k fits (by_heap h none) = (h, none)
 as_held s links q k fits (by_links h empty) =
     let first = not_some q.ends.first fits in
-    let nobody : NobodyIn s q.id = subst (λ o. MatchOption o (NobodyIsIn s.entries q.id) (IsFirst s.entries q.id)) first h.first in
+    let nobody : NobodyIn s q.id = subst (λ o. MatchOption o (NobodyIsIn s.entries q.id) (HasLeastStamp s.entries q.id)) first h.first in
     (subst (Holds s.entries q.id) (sym empty) (holds_empty s q.id nobody), ends_of_nobody s links q.id q.ends nobody first h)
 
 module _ (s : QueueState) (links : List Link) (q : Queue) (x : Item) (within : x.task < length s.entries) (free : entry_at s.entries x.task ≡ None) (fits : mixes (Vtime x.priority.key) q ≡ false) (form : IsOfOneSort s.entries links q) where
@@ -162,7 +162,7 @@ module _ (s : QueueState) (links : List Link) (q : Queue) (t : ℕ) (p : Entry) 
   can_leave (Vtime k) spots is stand heap form = record { task = (left_held k is form).0.all t p waits; stand = stand; heap = heap }
 
   -- the queue of a FIFO task keeps the others after it was taken out
-  pub form_unlinked : p.rank ≡ Fifo → IsOfOneSort s.entries links q → IsOfOneSort (set s.entries t None) (links_unlinked links t) (unlinked links q t)
+  pub form_unlinked : p.rank ≡ Fifo → IsOfOneSort s.entries links q → IsOfOneSort (set s.entries t None) (links_unlinked links t) (without_linked links q t)
   form_unlinked is form =
       let h = left_threaded is form in
       by_links (threaded_without s.entries q.id t p waits stamps links q.ends long h.0) h.1
@@ -189,7 +189,7 @@ module _ (s : QueueState) (links : List Link) (q : Queue) (t : ℕ) (p : Entry) 
       unlinked_others links t (subst (λ m. IsWithin m (link_at links t).ahead) (sym long) (ahead_within s.entries q.id t (link_at links t).ahead ahead))
       (subst (λ m. IsWithin m (link_at links t).behind) (sym long) (behind_within s.entries q.id t (link_at links t).behind behind)) u (not_ahead (link_at links t).ahead ahead) (not_behind (link_at links t).behind behind)
     where
-      not_ahead : (a : Option ℕ) → MatchOption a (IsFirst s.entries q.id t) (λ v. IsNext s.entries q.id v t) → a ≢ Some u
+      not_ahead : (a : Option ℕ) → MatchOption a (HasLeastStamp s.entries q.id t) (λ v. IsNext s.entries q.id v t) → a ≢ Some u
       not_ahead None h e = absurd (cc)
       not_ahead (Some v) h e = let same : v ≡ u = cc in in_one_queue id u o h.entry n w (subst (λ x. In s.entries q.id x h.entry) same h.waits)
 

@@ -16,7 +16,7 @@ use Rattle.scx_dsq.specs.Calls.{clashes}
 use Rattle.scx_dsq.specs.Laws.{HasOwnStamps}
 use Rattle.scx_dsq.specs.Heaps.{IsHeap, first_item}
 use Rattle.scx_dsq.specs.Holdings.{Holds, entry_for}
-use Rattle.scx_dsq.specs.Links.{no_ends, or_else, In, NobodyIsIn, IsFirst, IsThreaded}
+use Rattle.scx_dsq.specs.Links.{no_ends, or_else, In, NobodyIsIn, HasLeastStamp, IsThreaded}
 use Rattle.scx_dsq.specs.Kept.{IsOfOneSort, by_links, by_heap, front_in, len_in, mixes}
 use Rattle.scx_dsq.proofs.Standing.{waits_below}
 use Rattle.scx_dsq.proofs.Orders.{before_from}
@@ -38,7 +38,7 @@ threaded_empty s links id nobody = record {
 
 -- ---- the front
 
-first_is_front : (s : QueueState) (id f : ℕ) → HasOwnStamps s → ((t : ℕ) (p : Entry) → In s.entries id t p → p.rank ≡ Fifo) → IsFirst s.entries id f → IsFront s id f
+first_is_front : (s : QueueState) (id f : ℕ) → HasOwnStamps s → ((t : ℕ) (p : Entry) → In s.entries id t p → p.rank ≡ Fifo) → HasLeastStamp s.entries id f → IsFront s id f
 first_is_front s id f stamps sort h = record {
   entry = h.entry;
   waits = h.waits;
@@ -55,7 +55,7 @@ first_is_front s id f stamps sort h = record {
 pub form_front : (s : QueueState) (links : List Link) (q : Queue) → HasOwnStamps s → IsHeap q.heap.items → IsOfOneSort s.entries links q → MatchOption (front_in q) (NobodyIn s q.id) (IsFront s q.id)
 form_front s links q stamps heap (by_links h empty) = go q.ends.first q.heap.items empty h.first
   where
-    go : (o : Option ℕ) (items : List Item) → items ≡ [] → MatchOption o (NobodyIsIn s.entries q.id) (IsFirst s.entries q.id) → MatchOption (or_else o (first_item items)) (NobodyIn s q.id) (IsFront s q.id)
+    go : (o : Option ℕ) (items : List Item) → items ≡ [] → MatchOption o (NobodyIsIn s.entries q.id) (HasLeastStamp s.entries q.id) → MatchOption (or_else o (first_item items)) (NobodyIn s q.id) (IsFront s q.id)
     go None items e nobody = rw e nobody
     go (Some f) items e k = first_is_front s q.id f stamps h.sort k
 form_front s links q stamps heap (by_heap h none) = rw none (holds_front s q.id q.heap.items stamps heap h)
@@ -81,7 +81,7 @@ front_none s id (Some t) f = tt
 pub form_len : (s : QueueState) (links : List Link) (q : Queue) → IsOfOneSort s.entries links q → len_in q ≡ len_of s q.id
 form_len s links q (by_links h empty) = go q.ends.first q.heap.items empty h.first
   where
-    go : (o : Option ℕ) (items : List Item) → items ≡ [] → MatchOption o (NobodyIsIn s.entries q.id) (IsFirst s.entries q.id) → (if is_some o then q.ends.count else length items) ≡ len_of s q.id
+    go : (o : Option ℕ) (items : List Item) → items ≡ [] → MatchOption o (NobodyIsIn s.entries q.id) (HasLeastStamp s.entries q.id) → (if is_some o then q.ends.count else length items) ≡ len_of s q.id
     go None items e nobody = rw e (sym (nobody_counts s q.id nobody))
     go (Some f) items e k = h.count
 form_len s links q (by_heap h none) = rw none h.count
@@ -117,7 +117,7 @@ pub form_clash : (s : QueueState) (rank : Rank) (links : List Link) (q : Queue) 
 form_clash s Fifo links q (by_links h empty) = rw empty (sym (sorted_out s q.id Fifo (λ t p w. rw (h.sort t p w) refl)))
 form_clash s (Vtime k) links q (by_links h empty) = go q.ends.first h.first
   where
-    go : (o : Option ℕ) → MatchOption o (NobodyIsIn s.entries q.id) (IsFirst s.entries q.id) → is_some o ≡ list_any (clashes q.id (Vtime k)) s.entries
+    go : (o : Option ℕ) → MatchOption o (NobodyIsIn s.entries q.id) (HasLeastStamp s.entries q.id) → is_some o ≡ list_any (clashes q.id (Vtime k)) s.entries
     go None nobody = sym (nobody_clashes s q.id (Vtime k) nobody)
     go (Some f) first = sym (clash_at s q.id f first.entry (Vtime k) first.waits (rw (h.sort f first.entry first.waits) refl))
 form_clash s Fifo links q (by_heap h none) = array_mixes s q.id q.heap.items h

@@ -7,7 +7,7 @@ use Rattle.scx_dsq.specs.declared.entries.Entry.{Entry}
 use Rattle.scx_dsq.specs.declared.queue.Queue.{Queue}
 use Rattle.scx_dsq.specs.declared.queues.Queues.TheInside.{Inside}
 use Rattle.scx_dsq.specs.Queues.{Entries, QueueState, exists, entry_at}
-use Rattle.scx_dsq.specs.Calls.{created}
+use Rattle.scx_dsq.specs.Calls.{after_create}
 use Rattle.scx_dsq.specs.Laws.{IsSound}
 use Rattle.scx_dsq.specs.Links.{no_ends}
 use Rattle.scx_dsq.specs.Heaps.{HeapState, IsHeap, HasSpots}
@@ -82,7 +82,7 @@ created_keeps i j id gap heap h g order order_capacity spare live capacity entri
 
 -- the state is then that of the call
 pub created_state : (i : Inside) (live : List Queue) (spare : List HeapState) (id : ℕ) (heap : HeapState) → exists (state_of i) id ≡ false → i.spare.items ≡ spare ++ heap ∷ [] → live ≡ i.live.items ++ record { id = id; ends = no_ends; heap = heap } ∷ []
-    → ◌≡◌ {A = QueueState} (record { room = length live + length spare; ids = ids_of live; entries = i.entries.items; pushes = i.pushes }) (created (state_of i) id)
+    → ◌≡◌ {A = QueueState} (record { room = length live + length spare; ids = ids_of live; entries = i.entries.items; pushes = i.pushes }) (after_create (state_of i) id)
 created_state i live spare id heap new popped is =
     let queue : Queue = record { id = id; ends = no_ends; heap = heap } in
     let fewer : length i.spare.items ≡ length spare + 1 = ap length popped ∙ length_push spare heap in

@@ -12,12 +12,12 @@ use Rattle.scx_dsq.specs.declared.queue.Queue.{Queue}
 use Rattle.scx_dsq.specs.declared.queues.Queues.TheInside.{Inside}
 use Rattle.scx_dsq.specs.Entries.{same_sort}
 use Rattle.scx_dsq.specs.Queues.{QueueState, entry_at}
-use Rattle.scx_dsq.specs.Calls.{pushed, next_entry}
+use Rattle.scx_dsq.specs.Calls.{after_push, next_entry}
 use Rattle.scx_dsq.specs.Links.{links_appended}
 use Rattle.scx_dsq.specs.Heaps.{HasSpots, KeepsOthers, IsCheap}
 use Rattle.scx_dsq.specs.Arrays.{IsPaid}
 use Rattle.scx_dsq.specs.Holdings.{Holds, entry_for}
-use Rattle.scx_dsq.specs.Kept.{IsOfOneSort, by_links, by_heap, Keeps, CanAppend, appended, CanInsert, Inserted, state_of, value_of, IsKept}
+use Rattle.scx_dsq.specs.Kept.{IsOfOneSort, by_links, by_heap, Keeps, CanAppend, with_last, CanInsert, Inserted, state_of, value_of, IsKept}
 use Rattle.scx_dsq.proofs.LinkReads.{length-with_behind}
 use Rattle.scx_dsq.proofs.Holdings.{spots_elsewhere, holds_apart_with, holds_vtime}
 use Rattle.scx_dsq.proofs.FormChanges.{can_append, form_appended, appended_agree, as_held, can_insert, form_inserted}
@@ -37,11 +37,11 @@ can_push_fifo i k id t q h within a =
     can_append (state_of i) i.links.items q t (next_entry (state_of i) id Fifo) h.sound.stamps within a.free (sym a.is) (λ u p e. h.sound.stamped u p e) h.links a.fits (row_at i k q h a.inside a.read).tasks
 
 module _ (i j : Inside) (k id t : ℕ) (q : Queue) (h : IsKept i) (within : t < length i.entries.items) (a : IsOpen i k id t Fifo q)
-    (c : IsChanged i j k t (appended q t) (Some (next_entry (state_of i) id Fifo)) (links_appended i.links.items q.ends t) i.spots.items (i.pushes + 1)) where
+    (c : IsChanged i j k t (with_last q t) (Some (next_entry (state_of i) id Fifo)) (links_appended i.links.items q.ends t) i.spots.items (i.pushes + 1)) where
   -- the queues are kept
   pub pushed_fifo : IsKept j
   pushed_fifo =
-      changed_keeps i j k t q (appended q t) (Some new) (links_appended i.links.items q.ends t) i.spots.items (i.pushes + 1) a.inside a.read refl c h within (links_long i.links.items q t) refl
+      changed_keeps i j k t q (with_last q t) (Some new) (links_appended i.links.items q.ends t) i.spots.items (i.pushes + 1) a.inside a.read refl c h within (links_long i.links.items q t) refl
       (λ other n. (rw a.free refl, ne_eqb id other (λ e. n (sym e ∙ sym a.is))))
       (λ other n u o w. appended_agree (state_of i) i.links.items q t new h.sound.stamps within a.free (sym a.is) late h.links a.fits row.tasks other n u o w)
       (λ r n keeps. keeps.stand)
@@ -63,12 +63,12 @@ module _ (i j : Inside) (k id t : ℕ) (q : Queue) (h : IsKept i) (within : t < 
       row = row_at i k q h a.inside a.read
 
   -- and their state is that after the push
-  pub pushed_fifo_state : state_of j ≡ pushed (state_of i) id t Fifo
+  pub pushed_fifo_state : state_of j ≡ after_push (state_of i) id t Fifo
   pushed_fifo_state =
-      changed_state i j k t q (appended q t) (Some (next_entry (state_of i) id Fifo)) (links_appended i.links.items q.ends t) i.spots.items (i.pushes + 1) a.inside a.read refl c ∙ rw (not_refused i k id t Fifo q a) refl
+      changed_state i j k t q (with_last q t) (Some (next_entry (state_of i) id Fifo)) (links_appended i.links.items q.ends t) i.spots.items (i.pushes + 1) a.inside a.read refl c ∙ rw (not_refused i k id t Fifo q a) refl
 
 -- what the code leaves of the queues
-pub entered_fifo : (i : Inside) (k id t : ℕ) (q new : Queue) (links linked : List Link) → links ≡ i.links.items → new ≡ appended q t → linked ≡ links_appended links q.ends t
+pub entered_fifo : (i : Inside) (k id t : ℕ) (q new : Queue) (links linked : List Link) → links ≡ i.links.items → new ≡ with_last q t → linked ≡ links_appended links q.ends t
     → IsChanged i (record {
       live = with_item i.live k new;
       order = i.order;
@@ -78,7 +78,7 @@ pub entered_fifo : (i : Inside) (k id t : ℕ) (q new : Queue) (links linked : L
       spots = i.spots;
       guesses = i.guesses;
       pushes = i.pushes + 1;
-    }) k t (appended q t) (Some (next_entry (state_of i) id Fifo)) (links_appended i.links.items q.ends t) i.spots.items (i.pushes + 1)
+    }) k t (with_last q t) (Some (next_entry (state_of i) id Fifo)) (links_appended i.links.items q.ends t) i.spots.items (i.pushes + 1)
 entered_fifo i k id t q new links linked same is are = record {
   live = ap (λ x. set i.live.items k x) is;
   capacity = refl;
@@ -145,7 +145,7 @@ module _ (i j : Inside) (k id : ℕ) (x : Item) (q new : Queue) (stood : List �
       here = rw (a.is, late) refl
 
   -- and their state is that after the push
-  pub pushed_vtime_state : state_of j ≡ pushed (state_of i) id x.task (Vtime x.priority.key)
+  pub pushed_vtime_state : state_of j ≡ after_push (state_of i) id x.task (Vtime x.priority.key)
   pushed_vtime_state =
       changed_state i j k x.task q new (Some (next_entry (state_of i) id (Vtime x.priority.key))) i.links.items stood (i.pushes + 1) a.inside a.read e.id c ∙ rw (not_refused i k id x.task (Vtime x.priority.key) q a) refl
 

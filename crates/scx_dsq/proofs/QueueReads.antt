@@ -12,7 +12,7 @@ use Rattle.scx_dsq.specs.declared.errors.QueueError.TheVariants.{NoSuchQueue, Al
 use Rattle.scx_dsq.specs.Queues.{QueueState, exists, entry_at, entry_of, task_count, IsFront, len_of}
 use Rattle.scx_dsq.specs.Laws.{IsSound}
 use Rattle.scx_dsq.specs.Calls.{clashes, push_refusal}
-use Rattle.scx_dsq.specs.Kept.{ids_of, Stands, Keeps, front_in, len_in, mixes, IsAdmitted, IsRefused, state_of, IsKept}
+use Rattle.scx_dsq.specs.Kept.{ids_of, IsQueueAt, Keeps, front_in, len_in, mixes, IsAdmitted, IsRefused, state_of, IsKept}
 use Rattle.scx_dsq.specs.Links.{no_ends}
 use Rattle.scx_dsq.proofs.Fronts.{NobodyIn}
 use Rattle.scx_dsq.proofs.Forms.{form_front, form_len, form_clash}
@@ -48,7 +48,7 @@ queue_read i live k id q e at read =
     (rw (← e) at.0, ap (λ (x : Queue). x.id) read ∙ subst (λ qs. (get_or qs k q).id ≡ id) e (at.1 q))
 
 -- and stands there among the ids
-pub stands_at : (i : Inside) (live : List Queue) (k id : ℕ) → live ≡ i.live.items → (k < length live) × ((d : Queue) → (get_or live k d).id ≡ id) → Stands (state_of i) k id
+pub stands_at : (i : Inside) (live : List Queue) (k id : ℕ) → live ≡ i.live.items → (k < length live) × ((d : Queue) → (get_or live k d).id ≡ id) → IsQueueAt (state_of i) k id
 stands_at i live k id e at =
     let any : Queue = record { id = id; ends = no_ends; heap = record { room = 0; items = [] } } in
     let there : k < length i.live.items = rw (← e) at.0 in

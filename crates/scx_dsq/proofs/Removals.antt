@@ -16,7 +16,7 @@ use Rattle.scx_dsq.specs.Links.{link_at, with_ahead, links_unlinked}
 use Rattle.scx_dsq.specs.Heaps.{HasSpots, KeepsOthers, IsCheap}
 use Rattle.scx_dsq.specs.Arrays.{IsPaid}
 use Rattle.scx_dsq.specs.Holdings.{Holds}
-use Rattle.scx_dsq.specs.Kept.{Stands, IsOfOneSort, by_links, by_heap, Keeps, CanLeave, Left, state_of, value_of, IsKept}
+use Rattle.scx_dsq.specs.Kept.{IsQueueAt, IsOfOneSort, by_links, by_heap, Keeps, CanLeave, Left, state_of, value_of, IsKept}
 use Rattle.scx_dsq.proofs.Standing.{waits_below}
 use Rattle.scx_dsq.proofs.LinkReads.{length-with_ahead, length-with_behind}
 use Rattle.scx_dsq.proofs.Holdings.{spots_elsewhere, holds_apart}
@@ -46,7 +46,7 @@ pub record IsWaiting (i : Inside) (k t : ℕ) (p : Entry) (q : Queue) : Type 0 w
   pub waits : entry_at i.entries.items t ≡ Some p
 
 -- a task with an entry in the queue that was read waits there
-pub waiting : (i : Inside) (k t : ℕ) (p : Entry) (q : Queue) → Stands (state_of i) k p.queue → entry_of (state_of i) t ≡ Some p → q ≡ get_or i.live.items k q → IsWaiting i k t p q
+pub waiting : (i : Inside) (k t : ℕ) (p : Entry) (q : Queue) → IsQueueAt (state_of i) k p.queue → entry_of (state_of i) t ≡ Some p → q ≡ get_or i.live.items k q → IsWaiting i k t p q
 waiting i k t p q at waits read = record {
   inside = let within = at.0 in omega (arith, length-map i.live.items (λ (x : Queue). x.id));
   read = read;

@@ -6,7 +6,7 @@ use Rattle.scx_dsq.specs.declared.entries.Entry.{Entry}
 use Rattle.scx_dsq.specs.declared.links.Link.{Link}
 use Rattle.scx_dsq.specs.declared.links.Ends.{Ends}
 use Rattle.scx_dsq.specs.Queues.{Entries, entry_at, is_in}
-use Rattle.scx_dsq.specs.Links.{link_at, In, NobodyIsIn, IsFirst, IsLast, IsNext, IsThreaded}
+use Rattle.scx_dsq.specs.Links.{link_at, In, NobodyIsIn, HasLeastStamp, IsLast, IsNext, IsThreaded}
 use Rattle.scx_dsq.proofs.Standing.{waits_below, same_entry}
 use Rattle.scx_dsq.proofs.LinkReads.{IsWithin}
 
@@ -35,7 +35,7 @@ last_within entries id None h = tt
 last_within entries id (Some t) h = waits_below entries t h.entry h.waits.0
 
 -- who is ahead is
-pub ahead_within : (entries : Entries) (id t : ℕ) (o : Option ℕ) → MatchOption o (IsFirst entries id t) (λ u. IsNext entries id u t) → IsWithin (length entries) o
+pub ahead_within : (entries : Entries) (id t : ℕ) (o : Option ℕ) → MatchOption o (HasLeastStamp entries id t) (λ u. IsNext entries id u t) → IsWithin (length entries) o
 ahead_within entries id t None h = tt
 ahead_within entries id t (Some u) h = waits_below entries u h.entry h.waits.0
 
@@ -89,7 +89,7 @@ module _ (entries : Entries) (id : ℕ) (distinct : AreDistinct entries) where
 -- ---- another queue changes
 
 module _ (entries new : Entries) (id : ℕ) (to : (u : ℕ) (q : Entry) → In entries id u q → In new id u q) (from : (u : ℕ) (q : Entry) → In new id u q → In entries id u q) where
-  first_same : (f : ℕ) → IsFirst entries id f → IsFirst new id f
+  first_same : (f : ℕ) → HasLeastStamp entries id f → HasLeastStamp new id f
   first_same f h = record { entry = h.entry; waits = to f h.entry h.waits; first = λ u q w. h.first u q (from u q w) }
 
   last_same : (l : ℕ) → IsLast entries id l → IsLast new id l

@@ -6,7 +6,7 @@ use Rattle.scx_dsq.specs.declared.entries.Entry.{Entry}
 use Rattle.scx_dsq.specs.declared.links.Link.{Link}
 use Rattle.scx_dsq.specs.declared.links.Ends.{Ends}
 use Rattle.scx_dsq.specs.Queues.{Entries, entry_at, is_in}
-use Rattle.scx_dsq.specs.Links.{link_at, instead, links_appended, ends_appended, In, NobodyIsIn, IsFirst, IsLast, IsNext, IsThreaded}
+use Rattle.scx_dsq.specs.Links.{link_at, instead, links_appended, ends_appended, In, NobodyIsIn, HasLeastStamp, IsLast, IsNext, IsThreaded}
 use Rattle.scx_dsq.proofs.Standing.{Changed, this, other, changed, unchanged, is_in_from, count-set}
 use Rattle.scx_dsq.proofs.LinkReads.{IsWithin, appended_others, appended_ahead, appended_behind, appended_ahead-other, appended_behind-last}
 use Rattle.scx_dsq.proofs.Threads.{AreDistinct, is_some_of, last_within, one_last}
@@ -27,14 +27,14 @@ module _ (entries : Entries) (id t : ℕ) (new : Entry) (here : new.queue ≡ id
   new_stamp : (p : Entry) → Some new ≡ Some p → new.stamp ≡ p.stamp
   new_stamp p e = let same : new ≡ p = cc in ap (λ (x : Entry). x.stamp) same
 
-  first_stays : (f : ℕ) → IsFirst entries id f → IsFirst after id f
+  first_stays : (f : ℕ) → HasLeastStamp entries id f → HasLeastStamp after id f
   first_stays f h = record { entry = h.entry; waits = in_old f h.entry h.waits; first = λ u q w. go u q w.1 (changed entries t (Some new) u q w.0) }
     where
       go : (u : ℕ) (q : Entry) → q.queue ≡ id → Changed entries t (Some new) u q → h.entry.stamp ≤ q.stamp
       go u q i (this e n) = let less = late f h.entry h.waits.0 in let same = new_stamp q n in omega arith
       go u q i (other n e) = h.first u q (e, i)
 
-  first_alone : NobodyIsIn entries id → IsFirst after id t
+  first_alone : NobodyIsIn entries id → HasLeastStamp after id t
   first_alone nobody = record { entry = new; waits = in_new; first = λ u q w. go u q w.1 (changed entries t (Some new) u q w.0) }
     where
       go : (u : ℕ) (q : Entry) → q.queue ≡ id → Changed entries t (Some new) u q → new.stamp ≤ q.stamp
@@ -69,22 +69,22 @@ module _ (entries : Entries) (id t : ℕ) (new : Entry) (here : new.queue ≡ id
     last_in_links : IsWithin (length links) ends.last
     last_in_links = subst (λ n. IsWithin n ends.last) (sym long) (last_within entries id ends.last h.last)
 
-    first_after : (l f : Option ℕ) → MatchOption l (NobodyIsIn entries id) (IsLast entries id) → MatchOption f (NobodyIsIn entries id) (IsFirst entries id)
-        → MatchOption (instead l (Some t) f) (NobodyIsIn after id) (IsFirst after id)
+    first_after : (l f : Option ℕ) → MatchOption l (NobodyIsIn entries id) (IsLast entries id) → MatchOption f (NobodyIsIn entries id) (HasLeastStamp entries id)
+        → MatchOption (instead l (Some t) f) (NobodyIsIn after id) (HasLeastStamp after id)
     first_after None f nobody k = first_alone nobody
     first_after (Some l) None last nobody = absurd (nobody l last.entry last.waits)
     first_after (Some l) (Some f) last k = first_stays f k
 
-    ahead_new : (o : Option ℕ) → MatchOption o (NobodyIsIn entries id) (IsLast entries id) → MatchOption o (IsFirst after id t) (λ u. IsNext after id u t)
+    ahead_new : (o : Option ℕ) → MatchOption o (NobodyIsIn entries id) (IsLast entries id) → MatchOption o (HasLeastStamp after id t) (λ u. IsNext after id u t)
     ahead_new None f = first_alone f
     ahead_new (Some l) k = next_new l k
 
-    ahead_stays : (u : ℕ) (o : Option ℕ) → MatchOption o (IsFirst entries id u) (λ v. IsNext entries id v u) → MatchOption o (IsFirst after id u) (λ v. IsNext after id v u)
+    ahead_stays : (u : ℕ) (o : Option ℕ) → MatchOption o (HasLeastStamp entries id u) (λ v. IsNext entries id v u) → MatchOption o (HasLeastStamp after id u) (λ v. IsNext after id v u)
     ahead_stays u None k = first_stays u k
     ahead_stays u (Some v) k = next_stays v u k
 
     ahead_after : (u : ℕ) (p : Entry) → p.queue ≡ id → Changed entries t (Some new) u p
-        → MatchOption (link_at (links_appended links ends t) u).ahead (IsFirst after id u) (λ v. IsNext after id v u)
+        → MatchOption (link_at (links_appended links ends t) u).ahead (HasLeastStamp after id u) (λ v. IsNext after id v u)
     ahead_after u p i (this e n) = rw (e, appended_ahead links ends t in_links last_in_links) (ahead_new ends.last h.last)
     ahead_after u p i (other n e) = rw (appended_ahead-other links ends t in_links last_in_links u n) (ahead_stays u (link_at links u).ahead (h.ahead u p (e, i)))
 

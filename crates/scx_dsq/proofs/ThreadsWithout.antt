@@ -4,7 +4,7 @@ use Rattle.scx_dsq.specs.declared.entries.Entry.{Entry}
 use Rattle.scx_dsq.specs.declared.links.Link.{Link}
 use Rattle.scx_dsq.specs.declared.links.Ends.{Ends}
 use Rattle.scx_dsq.specs.Queues.{Entries, entry_at, is_in}
-use Rattle.scx_dsq.specs.Links.{link_at, instead, links_unlinked, ends_unlinked, In, NobodyIsIn, IsFirst, IsLast, IsNext, IsThreaded}
+use Rattle.scx_dsq.specs.Links.{link_at, instead, links_unlinked, ends_unlinked, In, NobodyIsIn, HasLeastStamp, IsLast, IsNext, IsThreaded}
 use Rattle.scx_dsq.proofs.Standing.{Changed, this, other, changed, unchanged, waits_below, is_in_from, count-set}
 use Rattle.scx_dsq.proofs.LinkReads.{IsWithin, unlinked_ahead, unlinked_behind, unlinked_ahead-other, unlinked_behind-other}
 use Rattle.scx_dsq.proofs.Threads.{AreDistinct, one_stamp, is_some_of, ahead_within, behind_within, one_ahead, one_behind}
@@ -32,7 +32,7 @@ module _ (entries : Entries) (id t : ℕ) (p : Entry) (here : In entries id t p)
   another : (u : ℕ) (q : Entry) → In entries id u q → q.stamp ≢ p.stamp → u ≢ t
   another u q w n e = n (one_stamp entries id t q p (subst (λ v. In entries id v q) e w) here)
 
-  nobody_left : IsFirst entries id t → IsLast entries id t → NobodyIsIn after id
+  nobody_left : HasLeastStamp entries id t → IsLast entries id t → NobodyIsIn after id
   nobody_left f l u q w =
       let old = before u q w in
       let low = f.first u q old.1 in
@@ -41,7 +41,7 @@ module _ (entries : Entries) (id t : ℕ) (p : Entry) (here : In entries id t p)
       let last = own_stamp l.entry l.waits in
       other_stamp u q old.1 old.0 (omega arith)
 
-  first_next : (b : ℕ) → IsFirst entries id t → IsNext entries id t b → IsFirst after id b
+  first_next : (b : ℕ) → HasLeastStamp entries id t → IsNext entries id t b → HasLeastStamp after id b
   first_next b f h = record {
     entry = h.entry_behind;
     waits = still b h.entry_behind (another b h.entry_behind h.waits_behind (λ e. absurd (let x = h.before in omega (arith, e, x, own_stamp h.entry h.waits)))) h.waits_behind;
@@ -79,7 +79,7 @@ module _ (entries : Entries) (id t : ℕ) (p : Entry) (here : In entries id t p)
       go u q n w (inr ge) (inr le) = inr le
       go u q n w (inr ge) (inl le) = absurd (other_stamp u q w n (omega (arith, ge, le, own_stamp h.entry_behind h.waits_behind, own_stamp k.entry k.waits)))
 
-  first_stays : (f : ℕ) → f ≢ t → IsFirst entries id f → IsFirst after id f
+  first_stays : (f : ℕ) → f ≢ t → HasLeastStamp entries id f → HasLeastStamp after id f
   first_stays f n h = record { entry = h.entry; waits = still f h.entry n h.waits; first = λ u q w. h.first u q (before u q w).1 }
 
   last_stays : (l : ℕ) → l ≢ t → IsLast entries id l → IsLast after id l
@@ -96,7 +96,7 @@ module _ (entries : Entries) (id t : ℕ) (p : Entry) (here : In entries id t p)
   }
 
   -- who is ahead of it isn't behind all, nor is it the first of all
-  not_first : (a f : ℕ) → IsNext entries id a t → IsFirst entries id f → f ≢ t
+  not_first : (a f : ℕ) → IsNext entries id a t → HasLeastStamp entries id f → f ≢ t
   not_first a f h k e =
       let low = k.first a h.entry h.waits in
       let same = own_stamp k.entry (subst (λ v. In entries id v k.entry) e k.waits) in
@@ -118,7 +118,7 @@ module _ (entries : Entries) (id t : ℕ) (p : Entry) (here : In entries id t p)
     b = (link_at links t).behind
 
     abbrev AheadOf : ℕ → Option ℕ → Type 0
-    AheadOf u o = MatchOption o (IsFirst entries id u) (λ v. IsNext entries id v u)
+    AheadOf u o = MatchOption o (HasLeastStamp entries id u) (λ v. IsNext entries id v u)
 
     abbrev BehindOf : ℕ → Option ℕ → Type 0
     BehindOf u o = MatchOption o (IsLast entries id u) (IsNext entries id u)
@@ -135,7 +135,7 @@ module _ (entries : Entries) (id t : ℕ) (p : Entry) (here : In entries id t p)
     behind_in : IsWithin (length links) b
     behind_in = subst (λ n. IsWithin n b) (sym long) (behind_within entries id t b behind_fits)
 
-    first_after : (x y f : Option ℕ) → AheadOf t x → BehindOf t y → MatchOption f (NobodyIsIn entries id) (IsFirst entries id) → MatchOption (instead x y f) (NobodyIsIn after id) (IsFirst after id)
+    first_after : (x y f : Option ℕ) → AheadOf t x → BehindOf t y → MatchOption f (NobodyIsIn entries id) (HasLeastStamp entries id) → MatchOption (instead x y f) (NobodyIsIn after id) (HasLeastStamp after id)
     first_after None None f i j k = nobody_left i j
     first_after None (Some v) f i j k = first_next v i j
     first_after (Some u) y None i j k = absurd (k t p here)
@@ -152,7 +152,7 @@ module _ (entries : Entries) (id t : ℕ) (p : Entry) (here : In entries id t p)
     joins_behind u None i j = last_next u j i
     joins_behind u (Some v) i j = joined u v i j
 
-    joins_ahead : (u : ℕ) (x : Option ℕ) → IsNext entries id t u → AheadOf t x → MatchOption x (IsFirst after id u) (λ v. IsNext after id v u)
+    joins_ahead : (u : ℕ) (x : Option ℕ) → IsNext entries id t u → AheadOf t x → MatchOption x (HasLeastStamp after id u) (λ v. IsNext after id v u)
     joins_ahead u None i j = first_next u j i
     joins_ahead u (Some v) i j = joined v u j i
 
@@ -165,7 +165,7 @@ module _ (entries : Entries) (id t : ℕ) (p : Entry) (here : In entries id t p)
         not_next None i m j = not_first u t j i refl
         not_next (Some w) i m j = m (ap Some (one_ahead entries id distinct w u t i j))
 
-    ahead_stays : (u : ℕ) (y o : Option ℕ) → u ≢ t → BehindOf t y → y ≢ Some u → AheadOf u o → MatchOption o (IsFirst after id u) (λ v. IsNext after id v u)
+    ahead_stays : (u : ℕ) (y o : Option ℕ) → u ≢ t → BehindOf t y → y ≢ Some u → AheadOf u o → MatchOption o (HasLeastStamp after id u) (λ v. IsNext after id v u)
     ahead_stays u y None n i m j = first_stays u n j
     ahead_stays u y (Some v) n i m j = next_stays v u (λ e. not_next y i m (subst (λ w. IsNext entries id w u) e j)) n j
       where
@@ -180,10 +180,10 @@ module _ (entries : Entries) (id t : ℕ) (p : Entry) (here : In entries id t p)
         go (inl is) = rw (unlinked_behind links t ahead_in behind_in u is) (joins_behind u b (subst (AheadOf t) is ahead_fits) behind_fits)
         go (inr isnt) = rw (unlinked_behind-other links t ahead_in behind_in u isnt) (behind_stays u a (link_at links u).behind n ahead_fits isnt (h.behind u q w))
 
-    ahead_after : (u : ℕ) (q : Entry) → u ≢ t → In entries id u q → MatchOption (link_at (links_unlinked links t) u).ahead (IsFirst after id u) (λ v. IsNext after id v u)
+    ahead_after : (u : ℕ) (q : Entry) → u ≢ t → In entries id u q → MatchOption (link_at (links_unlinked links t) u).ahead (HasLeastStamp after id u) (λ v. IsNext after id v u)
     ahead_after u q n w = go (is_some_of b u)
       where
-        go : (b ≡ Some u) ⊎ (b ≢ Some u) → MatchOption (link_at (links_unlinked links t) u).ahead (IsFirst after id u) (λ v. IsNext after id v u)
+        go : (b ≡ Some u) ⊎ (b ≢ Some u) → MatchOption (link_at (links_unlinked links t) u).ahead (HasLeastStamp after id u) (λ v. IsNext after id v u)
         go (inl is) = rw (unlinked_ahead links t ahead_in behind_in u is) (joins_ahead u a (subst (BehindOf t) is behind_fits) ahead_fits)
         go (inr isnt) = rw (unlinked_ahead-other links t ahead_in behind_in u isnt) (ahead_stays u b (link_at links u).ahead n behind_fits isnt (h.ahead u q w))
 

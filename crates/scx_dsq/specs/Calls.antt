@@ -26,8 +26,8 @@ abbrev pub with_queue : QueueState → ℕ → QueueState
 with_queue s id = record s { ids = s.ids ++ id ∷ [] }
 
 -- the state after the call that creates a queue; as it was where that is refused
-abbrev pub created : QueueState → ℕ → QueueState
-created s id = if is_none (create_refusal s id) then with_queue s id else s
+abbrev pub after_create : QueueState → ℕ → QueueState
+after_create s id = if is_none (create_refusal s id) then with_queue s id else s
 
 -- ---- pushing a task
 
@@ -53,8 +53,8 @@ with_task s id t rank =
     record s { entries = slice_set s.entries t (Some (next_entry s id rank)); pushes = s.pushes + 1 }
 
 -- the state after the push of a task; as it was where that is refused
-abbrev pub pushed : QueueState → ℕ → ℕ → Rank → QueueState
-pushed s id t rank = if is_none (push_refusal s id t rank) then with_task s id t rank else s
+abbrev pub after_push : QueueState → ℕ → ℕ → Rank → QueueState
+after_push s id t rank = if is_none (push_refusal s id t rank) then with_task s id t rank else s
 
 -- ---- removing a task
 
@@ -63,8 +63,8 @@ abbrev pub without_task : QueueState → ℕ → QueueState
 without_task s t = record s { entries = slice_set s.entries t None }
 
 -- the state after the removal of a task; as it was where the task waits nowhere
-abbrev pub removed : QueueState → ℕ → QueueState
-removed s t = if is_some (entry_of s t) then without_task s t else s
+abbrev pub after_remove : QueueState → ℕ → QueueState
+after_remove s t = if is_some (entry_of s t) then without_task s t else s
 
 -- the state without that task's entry, or as it was for none
 abbrev pub without : QueueState → Option ℕ → QueueState
@@ -72,8 +72,8 @@ without s None = s
 without s (Some t) = without_task s t
 
 -- the state after a pop: the queue's front waits nowhere; as it was where there is no front
-abbrev pub popped : QueueState → ℕ → QueueState
-popped s id = without s (front_of s id)
+abbrev pub after_pop : QueueState → ℕ → QueueState
+after_pop s id = without s (front_of s id)
 
 -- ---- the first state
 

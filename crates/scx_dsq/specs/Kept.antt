@@ -28,8 +28,8 @@ abbrev pub arrays_of : List Queue → List (List Item)
 arrays_of live = map (λ q. q.heap.items) live
 
 -- a queue with that id stands at the position
-abbrev pub Stands : QueueState → ℕ → ℕ → Type 0
-Stands s k id = (k < length s.ids) × HoldsAt (λ other. other ≡ id) s.ids k
+abbrev pub IsQueueAt : QueueState → ℕ → ℕ → Type 0
+IsQueueAt s k id = (k < length s.ids) × HoldsAt (λ other. other ≡ id) s.ids k
 
 -- a queue has its tasks between its ends, or in its heap; an empty one may be either
 pub data IsOfOneSort (entries : Entries) (links : List Link) (q : Queue) : Type 0 where
@@ -91,8 +91,8 @@ pub record CanAppend (links : List Link) (q : Queue) (t : ℕ) : Type 0 where
   pub count : q.ends.count < length links
 
 -- the queue with that task at its end
-abbrev pub appended : Queue → ℕ → Queue
-appended q t = record q { ends = ends_appended q.ends t }
+abbrev pub with_last : Queue → ℕ → Queue
+with_last q t = record q { ends = ends_appended q.ends t }
 
 -- the queue's heap has room for the item, whose task has a spot and isn't in it
 pub record CanInsert (spots : List ℕ) (q : Queue) (x : Item) : Type 0 where
@@ -122,8 +122,8 @@ pub record CanUnlink (links : List Link) (q : Queue) (t : ℕ) : Type 0 where
   pub count : 0 < q.ends.count
 
 -- the queue without that task, which stood among its links
-abbrev pub unlinked : List Link → Queue → ℕ → Queue
-unlinked links q t = record q { ends = ends_unlinked links q.ends t }
+abbrev pub without_linked : List Link → Queue → ℕ → Queue
+without_linked links q t = record q { ends = ends_unlinked links q.ends t }
 
 -- the task is in the queue's heap, where each task has its spot
 pub record CanTakeOut (spots : List ℕ) (q : Queue) (t : ℕ) : Type 0 where
@@ -138,7 +138,7 @@ CanLeave (Vtime k) links spots q t = CanTakeOut spots q t
 
 -- the task was taken out of the queue's links, and no spot has changed
 pub record Unlinked (links : List Link) (spots : List ℕ) (q : Queue) (t : ℕ) (linked : List Link) (stood : List ℕ) (new : Queue) : Type 0 where
-  pub queue : new ≡ unlinked links q t
+  pub queue : new ≡ without_linked links q t
   pub threads : linked ≡ links_unlinked links t
   pub stays : stood ≡ spots
 

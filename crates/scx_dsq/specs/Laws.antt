@@ -6,7 +6,7 @@ use Rattle.scx_dsq.specs.declared.entries.Rank.{Rank}
 use Rattle.scx_dsq.specs.declared.entries.Entry.{Entry}
 use Rattle.scx_dsq.specs.Entries.{same_sort}
 use Rattle.scx_dsq.specs.Queues.{QueueState, exists, task_count, entry_of, is_in, IsFront, front_of}
-use Rattle.scx_dsq.specs.Calls.{created, push_refusal, pushed, removed, popped}
+use Rattle.scx_dsq.specs.Calls.{after_create, push_refusal, after_push, after_remove, after_pop}
 
 -- no two queues have one id, and there are no more than there is room for
 pub record HasOneOfEach (s : QueueState) : Type 0 where
@@ -57,25 +57,25 @@ StandsInSoMany s = (t : ℕ) → count_by (λ id. is_in id (entry_of s t)) s.ids
 abbrev pub PushAddsOne : Type 0
 PushAddsOne =
     (s : QueueState) (id t u : ℕ) (rank : Rank) → t < task_count s → push_refusal s id t rank ≡ None
-    → standing (pushed s id t rank) u ≡ standing s u + one_if (u == t)
+    → standing (after_push s id t rank) u ≡ standing s u + one_if (u == t)
 
 -- a pop takes one of the front, and none of others
 abbrev pub PopTakesOne : Type 0
 PopTakesOne =
-    (s : QueueState) (id t u : ℕ) → front_of s id ≡ Some t → standing (popped s id) u + one_if (u == t) ≡ standing s u
+    (s : QueueState) (id t u : ℕ) → front_of s id ≡ Some t → standing (after_pop s id) u + one_if (u == t) ≡ standing s u
 
 -- the removal of a task that waits takes one of it, and none of others
 abbrev pub RemovalTakesOne : Type 0
 RemovalTakesOne =
-    (s : QueueState) (t u : ℕ) → IsSome (entry_of s t) → standing (removed s t) u + one_if (u == t) ≡ standing s u
+    (s : QueueState) (t u : ℕ) → IsSome (entry_of s t) → standing (after_remove s t) u + one_if (u == t) ≡ standing s u
 
 -- what is refused, a pop of nobody and the removal of a task that doesn't wait change nothing, nor
 -- does a new queue change where tasks wait
 pub record OthersChangeNone : Type 0 where
-  pub refused : (s : QueueState) (id t : ℕ) (rank : Rank) → IsSome (push_refusal s id t rank) → pushed s id t rank ≡ s
-  pub nobody : (s : QueueState) (id : ℕ) → front_of s id ≡ None → popped s id ≡ s
-  pub absent : (s : QueueState) (t : ℕ) → entry_of s t ≡ None → removed s t ≡ s
-  pub queue : (s : QueueState) (id t : ℕ) → standing (created s id) t ≡ standing s t
+  pub refused : (s : QueueState) (id t : ℕ) (rank : Rank) → IsSome (push_refusal s id t rank) → after_push s id t rank ≡ s
+  pub nobody : (s : QueueState) (id : ℕ) → front_of s id ≡ None → after_pop s id ≡ s
+  pub absent : (s : QueueState) (t : ℕ) → entry_of s t ≡ None → after_remove s t ≡ s
+  pub queue : (s : QueueState) (id t : ℕ) → standing (after_create s id) t ≡ standing s t
 
 -- a queue has one front
 abbrev pub HasOneFront : Type 0

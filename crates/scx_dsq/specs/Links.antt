@@ -73,7 +73,7 @@ abbrev pub NobodyIsIn : Entries → ℕ → Type 0
 NobodyIsIn entries id = (t : ℕ) (p : Entry) → In entries id t p → ⊥
 
 -- the task waits in the queue, and none there has a lesser stamp
-pub record IsFirst (entries : Entries) (id t : ℕ) : Type 0 where
+pub record HasLeastStamp (entries : Entries) (id t : ℕ) : Type 0 where
   pub entry : Entry
   pub waits : In entries id t entry
   pub first : (u : ℕ) (q : Entry) → In entries id u q → entry.stamp ≤ q.stamp
@@ -95,9 +95,9 @@ pub record IsNext (entries : Entries) (id t u : ℕ) : Type 0 where
 
 -- links and ends of a queue lead through the tasks that wait there, all of them in FIFO order
 pub record IsThreaded (entries : Entries) (links : List Link) (id : ℕ) (ends : Ends) : Type 0 where
-  pub first : MatchOption ends.first (NobodyIsIn entries id) (IsFirst entries id)
+  pub first : MatchOption ends.first (NobodyIsIn entries id) (HasLeastStamp entries id)
   pub last : MatchOption ends.last (NobodyIsIn entries id) (IsLast entries id)
-  pub ahead : (t : ℕ) (p : Entry) → In entries id t p → MatchOption (link_at links t).ahead (IsFirst entries id t) (λ u. IsNext entries id u t)
+  pub ahead : (t : ℕ) (p : Entry) → In entries id t p → MatchOption (link_at links t).ahead (HasLeastStamp entries id t) (λ u. IsNext entries id u t)
   pub behind : (t : ℕ) (p : Entry) → In entries id t p → MatchOption (link_at links t).behind (IsLast entries id t) (IsNext entries id t)
   pub count : ends.count ≡ count_by (is_in id) entries
   pub sort : (t : ℕ) (p : Entry) → In entries id t p → p.rank ≡ Fifo

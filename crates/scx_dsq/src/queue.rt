@@ -1,7 +1,7 @@
 ghost use Rattle.std.specs.Prelude.{◌≡◌, ◌-◌, ◌≤◌};
 ghost use Rattle.scx_dsq.specs.declared.entries.Rank.TheVariants.{Fifo};
 ghost use Rattle.scx_dsq.specs.Heaps.{IsCheap};
-ghost use Rattle.scx_dsq.specs.Kept.{front_in, len_in, mixes, CanAppend, appended, CanInsert, Inserted, CanTakeOut, TakenOut, CanLeave, Left};
+ghost use Rattle.scx_dsq.specs.Kept.{front_in, len_in, mixes, CanAppend, with_last, CanInsert, Inserted, CanTakeOut, TakenOut, CanLeave, Left};
 ghost use Rattle.scx_dsq.specs.Links.{links_appended};
 
 use crate::entries::Rank;
@@ -52,7 +52,7 @@ impl Queue {
 /// Puts a task at the end of a queue in FIFO order.
 pub fn append_to(links: &mut [Link], queue: &mut Queue, task: u32)
     requires { CanAppend links.old queue.old task }
-    ensures queue { queue.new ≡ appended queue.old task }
+    ensures queue { queue.new ≡ with_last queue.old task }
     ensures links { links.new ≡ links_appended links.old queue.old.ends task }
 {
     append(links, &mut queue.ends, task);

@@ -3,12 +3,12 @@ ghost use Rattle.std.specs.List.{list_any};
 ghost use Rattle.scx_dsq.specs.declared.entries.Entry.{Entry};
 ghost use Rattle.scx_dsq.specs.declared.entries.Rank.TheVariants.{Fifo, Vtime};
 ghost use Rattle.scx_dsq.specs.Queues.{Waits, IsFront, exists, task_count, entry_of, queue_of, len_of, front_of, behind_of};
-ghost use Rattle.scx_dsq.specs.Calls.{refused_or_done, create_refusal, created, clashes, push_refusal, pushed, without_task, removed, popped, empty};
+ghost use Rattle.scx_dsq.specs.Calls.{refused_or_done, create_refusal, after_create, clashes, push_refusal, after_push, without_task, after_remove, after_pop, empty};
 ghost use Rattle.scx_dsq.specs.Laws.{HasOneOfEach, WaitsInAQueue, HasOneSort, IsStamped, HasOwnStamps, StandsInSoMany};
 ghost use Rattle.scx_dsq.specs.Arrays.{IsPaid};
 ghost use Rattle.scx_dsq.specs.Holdings.{HasArrays};
 ghost use Rattle.scx_dsq.specs.Order.{IsOrder, IsGap};
-ghost use Rattle.scx_dsq.specs.Kept.{ids_of, Stands, IsAdmitted, IsRefused};
+ghost use Rattle.scx_dsq.specs.Kept.{ids_of, IsQueueAt, IsAdmitted, IsRefused};
 
 use crate::entries::{Entry, Rank};
 use crate::errors::QueueError;
@@ -88,7 +88,7 @@ impl Queues {
     /// Adds an empty queue: `AlreadyThere` if one has the id, else `TooManyQueues` if there is no room.
     pub fn create(&mut self, id: u64) -> Result<(), QueueError>
         ensures answer { result ≡ refused_or_done (create_refusal self.old.state id) }
-        ensures state { self.new.state ≡ created self.old.state id }
+        ensures state { self.new.state ≡ after_create self.old.state id }
         ensures arrays { OnOk result (self.new.arrays ≡ self.old.arrays ++ [] ∷ []) }
         ensures unchanged { OnErr result (self.new ≡ self.old) }
         ensures tasks { task_count self.new.state ≡ task_count self.old.state }
@@ -119,7 +119,7 @@ impl Queues {
         requires task { task < task_count self.old.state }
         requires few { self.old.state.pushes < 2 ^ 63 }
         ensures answer { result ≡ refused_or_done (push_refusal self.old.state id task Fifo) }
-        ensures state { self.new.state ≡ pushed self.old.state id task Fifo }
+        ensures state { self.new.state ≡ after_push self.old.state id task Fifo }
         ensures arrays { self.new.arrays ≡ self.old.arrays }
         ensures unchanged { OnErr result (self.new ≡ self.old) }
         ensures tasks { task_count self.new.state ≡ task_count self.old.state }
@@ -158,7 +158,7 @@ impl Queues {
         requires few { self.old.state.pushes < 2 ^ 63 }
         ensures answer { result
             ≡ refused_or_done (push_refusal self.old.state id task (Vtime key)) }
-        ensures state { self.new.state ≡ pushed self.old.state id task (Vtime key) }
+        ensures state { self.new.state ≡ after_push self.old.state id task (Vtime key) }
         ensures cost { IsPaid self.old self.new id (steps.new - steps.old) }
         ensures unchanged { OnErr result (self.new ≡ self.old) }
         ensures free { OnErr result (steps.new ≡ steps.old) }
@@ -225,7 +225,7 @@ impl Queues {
         ensures answer { option_map (λ f. f.task) result ≡ front_of self.now.state id }
         ensures known { IfSome result (λ f. f.task < task_count self.now.state) }
         ensures first { IfSome result (λ f. IsFront self.now.state id f.task) }
-        ensures stands { IfSome result (λ f. Stands self.now.state f.index id) }
+        ensures stands { IfSome result (λ f. IsQueueAt self.now.state f.index id) }
         ensures empty { IfNone result ((t : ℕ) (p : Entry) → ¬ Waits self.now.state id t p) }
     {
         let Some(index) = find(&self.live, &self.order, &self.guesses, id) else {
@@ -243,7 +243,7 @@ impl Queues {
         ensures answer { result ≡ front_of self.old.state id }
         ensures known { IfSome result (λ t. t < task_count self.old.state) }
         ensures first { IfSome result (IsFront self.old.state id) }
-        ensures state { self.new.state ≡ popped self.old.state id }
+        ensures state { self.new.state ≡ after_pop self.old.state id }
         ensures cost { IsPaid self.old self.new id (steps.new - steps.old) }
         ensures more { steps.old ≤ steps.new }
         ensures tasks { task_count self.new.state ≡ task_count self.old.state }
@@ -264,7 +264,7 @@ impl Queues {
     pub fn remove<L: Ledger>(&mut self, task: u32, steps: &mut Steps<L>) -> bool
         requires { task < task_count self.old.state }
         ensures answer { result ≡ is_some (entry_of self.old.state task) }
-        ensures state { self.new.state ≡ removed self.old.state task }
+        ensures state { self.new.state ≡ after_remove self.old.state task }
         ensures cost { IfSome (queue_of self.old.state task)
             (λ id. IsPaid self.old self.new id (steps.new - steps.old)) }
         ensures unchanged { result ≡ false → self.new ≡ self.old }
@@ -286,7 +286,7 @@ impl Queues {
     /// Takes out a task that waits by that entry, in the queue that stands there in `live`.
     fn take_out<L: Ledger>(&mut self, index: usize, task: u32, entry: Entry, steps: &mut Steps<L>)
         requires task { task < task_count self.old.state }
-        requires stands { Stands self.old.state index entry.queue }
+        requires stands { IsQueueAt self.old.state index entry.queue }
         requires waits { entry_of self.old.state task ≡ Some entry }
         ensures state { self.new.state ≡ without_task self.old.state task }
         ensures cost { IsPaid self.old self.new entry.queue (steps.new - steps.old) }

@@ -32,13 +32,13 @@ use Rattle.scx_encoding.specs.declared.forms.Form.TheVariants.{Binary, Negate, B
 use Rattle.scx_encoding.specs.declared.faults.DecodeFault.TheVariants.{UnusedField, HalfWide, BadWidth}
 use Rattle.scx_semantics.specs.Registers.{number, register_at}
 use Rattle.scx_encoding.specs.Slots.{same_slot, IsSlot}
-use Rattle.scx_semantics.specs.Tables.{coded}
+use Rattle.scx_semantics.specs.Tables.{first_with_code}
 use Rattle.scx_encoding.specs.Opcodes.{opcode, form, base, source_of, arithmetic_class, jump_class, store_class, source_bit, operation_code, comparison_code, size_code, access_code, form_of}
 use Rattle.scx_semantics.specs.Code.{is_wide}
 use Rattle.scx_encoding.specs.Spelling.{first_slot, second_slot, half, destination_field, source_field, offset_field, immediate_field, operation_offset, extension_offset, order_bits, operand_register, operand_immediate, IsOperand, IsInsn}
 use Rattle.scx_encoding.proofs.Bytes.{same_fields}
 use Rattle.scx_semantics.specs.Results.{◌>>=◌}
-use Rattle.scx_encoding.specs.Reading.{register, operand_at, extensions, extension_at, binary_at, order_widths, high_half, built, whole, insn_at}
+use Rattle.scx_encoding.specs.Reading.{register_of_field, operand_at, extensions, extension_at, binary_at, order_widths, high_half, insn_of_form, whole, insn_at}
 
 -- ---- tools
 
@@ -93,7 +93,7 @@ fits_16 n h = search rules
 operand_fits : (x : Source) (s : Slot) (y : Operand) → IsSlot s → operand_at x s ≡ Ok y → IsOperand y
 operand_fits source.Immediate s y fits e = subst IsOperand (ok_is _ _ e) (fits_32 s.immediate fits.immediate)
 operand_fits source.Register s y fits e =
-    let p = bind_ok (register s.source) _ y e in
+    let p = bind_ok (register_of_field s.source) _ y e in
     subst IsOperand (ok_is _ _ p.2) tt
 
 -- the number of the second half, if it is there, fits
@@ -115,9 +115,9 @@ none_fits i e = absurd (cc)
 
 extension_fits : (w : Width) (d : Register) (x : Operand) (n : ℕ) (i : Insn) → extension_at w d x n ≡ Some i → IsInsn i
 extension_fits w d (operand.Immediate k) n i e = none_fits i e
-extension_fits w d (operand.Register r) n i e = go (coded extension_offset (extensions w) n) refl
+extension_fits w d (operand.Register r) n i e = go (first_with_code extension_offset (extensions w) n) refl
   where
-    go : (o : Option Extension) → coded extension_offset (extensions w) n ≡ o → IsInsn i
+    go : (o : Option Extension) → first_with_code extension_offset (extensions w) n ≡ o → IsInsn i
     go None t = let bad : None ≡ Some i = rw t at e in absurd (cc)
     go (Some x) t =
         let good : Some (insn.SignExtend x d r) ≡ Some i = rw t at e in
@@ -131,37 +131,37 @@ binary_fits w Move d x n i h e = test_fits (nat_eq n 0) (insn.Binary w Move d x)
 binary_fits w o d x n i h e = let same : insn.Binary w o d x ≡ i = cc in subst IsInsn same h
 
 abbrev Builds : Form → Type 0
-Builds f = (s : Slot) (next : Option Slot) (i : Insn) → IsSlot s → HalfFits next → built f s next ≡ Ok i → IsInsn i
+Builds f = (s : Slot) (next : Option Slot) (i : Insn) → IsSlot s → HalfFits next → insn_of_form f s next ≡ Ok i → IsInsn i
 
 -- the numbers of an instruction that is built fit their fields
 builds : (f : Form) → Builds f
 builds (Binary w o x) s next i fits half e =
-    let p = bind_ok (register s.destination) _ i e in
+    let p = bind_ok (register_of_field s.destination) _ i e in
     let q = bind_ok (operand_at x s) _ i p.2 in
     binary_fits w o p.0 q.0 s.offset i (operand_fits x s q.0 fits q.1) (ok_or_ok _ _ _ q.2)
 builds (Negate w) s next i fits half e =
-    let p = bind_ok (register s.destination) _ i e in
+    let p = bind_ok (register_of_field s.destination) _ i e in
     subst IsInsn (ok_is _ _ p.2) tt
 builds (ByteSwap o) s next i fits half e =
-    let p = bind_ok (register s.destination) _ i e in
-    let q = bind_ok (ok_or (coded order_bits order_widths s.immediate) BadWidth) _ i p.2 in
+    let p = bind_ok (register_of_field s.destination) _ i e in
+    let q = bind_ok (ok_or (first_with_code order_bits order_widths s.immediate) BadWidth) _ i p.2 in
     subst IsInsn (ok_is _ _ q.2) tt
 builds LoadImmediate s next i fits half e =
-    let p = bind_ok (register s.destination) _ i e in
+    let p = bind_ok (register_of_field s.destination) _ i e in
     subst IsInsn (ok_is _ _ p.2) (fits_32 s.immediate fits.immediate, fits_32 (high_half next) (half_fits next half))
 builds LoadMapReference s next i fits half e =
-    let p = bind_ok (register s.destination) _ i e in
+    let p = bind_ok (register_of_field s.destination) _ i e in
     subst IsInsn (ok_is _ _ p.2) (fits_32 s.immediate fits.immediate)
 builds (Load a) s next i fits half e =
-    let p = bind_ok (register s.destination) _ i e in
-    let q = bind_ok (register s.source) _ i p.2 in
+    let p = bind_ok (register_of_field s.destination) _ i e in
+    let q = bind_ok (register_of_field s.source) _ i p.2 in
     subst IsInsn (ok_is _ _ q.2) (fits_16 s.offset fits.offset)
 builds (Store z x) s next i fits half e =
-    let p = bind_ok (register s.destination) _ i e in
+    let p = bind_ok (register_of_field s.destination) _ i e in
     let q = bind_ok (operand_at x s) _ i p.2 in
     subst IsInsn (ok_is _ _ q.2) (fits_16 s.offset fits.offset, operand_fits x s q.0 fits q.1)
 builds (JumpIf w c x) s next i fits half e =
-    let p = bind_ok (register s.destination) _ i e in
+    let p = bind_ok (register_of_field s.destination) _ i e in
     let q = bind_ok (operand_at x s) _ i p.2 in
     subst IsInsn (ok_is _ _ q.2) (fits_16 s.offset fits.offset, operand_fits x s q.0 fits q.1)
 builds Goto s next i fits half e = subst IsInsn (ok_is _ _ e) (fits_16 s.offset fits.offset)
@@ -194,7 +194,7 @@ pub record Reads (s : Slot) (next : Option Slot) (i : Insn) : Type 0 where
 pub insn_is_spelled : (s : Slot) (next : Option Slot) (i : Insn) → IsSlot s → HalfFits next → insn_at s next ≡ Ok i → Reads s next i
 insn_is_spelled s next i fits half e =
     let p = bind_ok (form_of s.opcode s.source) _ i e in
-    let q = bind_ok (built p.0 s next) _ i p.2 in
+    let q = bind_ok (insn_of_form p.0 s next) _ i p.2 in
     let r = whole_reads s next q.0 i q.2 in
     let here : Reads s next q.0 = record { slot = r.slot; insn = builds p.0 s next q.0 fits half q.1; second = r.second } in
     subst (Reads s next) r.same here
@@ -295,7 +295,7 @@ register_again R8 = refl
 register_again R9 = refl
 register_again R10 = refl
 
-register_reads : (r : Register) → register (number r) ≡ Ok r
+register_reads : (r : Register) → register_of_field (number r) ≡ Ok r
 register_reads r = rw (register_again r) refl
 
 -- a signed field gives the number back that it was written from
@@ -325,7 +325,7 @@ offset_again w Modulo d x = refl
 offset_again w SignedModulo d x = refl
 offset_again w Move d x = refl
 
-bits_again : (w : SwapWidth) → coded order_bits order_widths (order_bits w) ≡ Some w
+bits_again : (w : SwapWidth) → first_with_code order_bits order_widths (order_bits w) ≡ Some w
 bits_again order.Bits16 = refl
 bits_again order.Bits32 = refl
 bits_again order.Bits64 = refl
@@ -334,7 +334,7 @@ abbrev pub Follows : Option Slot → Option Slot → Type 0
 Follows None next = Unit {0}
 Follows (Some t) next = next ≡ Some t
 
-built_again : (i : Insn) (next : Option Slot) → IsInsn i → Follows (second_slot i) next → built (form i) (first_slot i) next ≡ Ok i
+built_again : (i : Insn) (next : Option Slot) → IsInsn i → Follows (second_slot i) next → insn_of_form (form i) (first_slot i) next ≡ Ok i
 built_again (insn.Binary w o d x) next h t = rw (register_again d, operand_again x (first_slot (insn.Binary w o d x)) refl refl h, offset_again w o d x) refl
 built_again (insn.Negate w d) next h t = rw (register_again d) refl
 built_again (insn.SignExtend Low8To32 d r) next h t = rw (register_again d, register_again r) refl

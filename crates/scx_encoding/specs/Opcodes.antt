@@ -20,7 +20,7 @@ use Rattle.scx_semantics.specs.declared.operations.Access.{Access}
 use Rattle.scx_semantics.specs.declared.operations.Access.TheVariants as access
 use Rattle.scx_semantics.specs.declared.operations.Comparison.{Comparison}
 use Rattle.scx_semantics.specs.declared.operations.Comparison.TheVariants.{Equal, Greater, GreaterOrEqual, BitTest, NotEqual, SignedGreater, SignedGreaterOrEqual, Less, LessOrEqual, SignedLess, SignedLessOrEqual}
-use Rattle.scx_semantics.specs.Tables.{coded}
+use Rattle.scx_semantics.specs.Tables.{first_with_code}
 use Rattle.scx_semantics.specs.Arithmetic.{extension_width}
 use Rattle.scx_encoding.specs.declared.forms.Source.{Source}
 use Rattle.scx_encoding.specs.declared.forms.Source.TheVariants.{Immediate, Register}
@@ -183,19 +183,19 @@ source_at n = if nat_eq (n / 8 % 2) 0 then Immediate else Register
 
 -- arithmetic, by the operation in the high four bits
 abbrev pub binary_form : Width → ℕ → Option Form
-binary_form w n = option_map (λ o. Binary w o (source_at n)) (coded operation_code base_operations (n / 16))
+binary_form w n = option_map (λ o. Binary w o (source_at n)) (first_with_code operation_code base_operations (n / 16))
 
 -- a conditional jump by the comparison that the high four bits stand for, if they do
 abbrev pub jump_form : Width → ℕ → Option Form
-jump_form w n = option_map (λ c. JumpIf w c (source_at n)) (coded comparison_code comparisons (n / 16))
+jump_form w n = option_map (λ c. JumpIf w c (source_at n)) (first_with_code comparison_code comparisons (n / 16))
 
 -- an access by the opcode without its class
 abbrev pub load_form : ℕ → Option Form
-load_form n = option_map Load (coded access_code accesses n)
+load_form n = option_map Load (first_with_code access_code accesses n)
 
 -- a store by the size that the opcode stands for without its class, if it does
 abbrev pub store_form : Source → ℕ → Option Form
-store_form x n = option_map (λ s. Store s x) (coded size_code sizes n)
+store_form x n = option_map (λ s. Store s x) (first_with_code size_code sizes n)
 
 -- the form of an opcode by its class, the low three bits
 abbrev pub class_form : ℕ → ℕ → Option Form
@@ -226,7 +226,7 @@ opcode_fault n =
 
 -- the form of an opcode, or why it has none, where the source field tells no forms apart
 abbrev pub plain_form : ℕ → Result Form DecodeFault
-plain_form n = ok_or (first_some (coded opcode lone_forms n) (class_form (n % 8) n)) (opcode_fault n)
+plain_form n = ok_or (first_some (first_with_code opcode lone_forms n) (class_form (n % 8) n)) (opcode_fault n)
 
 -- what stands in a table's row for the number
 abbrev pub look_up : {A : Type 0} → A → List (ℕ × A) → ℕ → A
@@ -234,12 +234,12 @@ look_up other [] n = other
 look_up other (row ∷ rows) n = if nat_eq n row.0 then row.1 else look_up other rows n
 
 -- no form, by that fault
-abbrev pub refused : DecodeFault → Result Form DecodeFault
-refused fault = Err fault
+abbrev pub no_form : DecodeFault → Result Form DecodeFault
+no_form fault = Err fault
 
 -- a load of a 64-bit immediate, by its source field
 abbrev pub wide_form : ℕ → Result Form DecodeFault
-wide_form s = look_up (refused UnknownOpcode) ((0, Ok LoadImmediate)
+wide_form s = look_up (no_form UnknownOpcode) ((0, Ok LoadImmediate)
     ∷ (1, Err (NotInProfile MapByFd))
     ∷ (2, Err (NotInProfile MapValueByFd))
     ∷ (3, Err (NotInProfile VariableAddress))
@@ -250,7 +250,7 @@ wide_form s = look_up (refused UnknownOpcode) ((0, Ok LoadImmediate)
 
 -- a call, by its source field
 abbrev pub call_form : ℕ → Result Form DecodeFault
-call_form s = look_up (refused UnknownOpcode) ((0, Ok Call) ∷ (1, Err (NotInProfile LocalCall)) ∷ (2, Err (NotInProfile BtfCall)) ∷ []) s
+call_form s = look_up (no_form UnknownOpcode) ((0, Ok Call) ∷ (1, Err (NotInProfile LocalCall)) ∷ (2, Err (NotInProfile BtfCall)) ∷ []) s
 
 -- the form of an opcode with that source field, or why it has none
 abbrev pub form_of : ℕ → ℕ → Result Form DecodeFault

@@ -27,20 +27,20 @@ use Rattle.scx_encoding.specs.declared.faults.DecodeFault.TheVariants.{BadRegist
 use Rattle.scx_semantics.specs.Results.{◌>>=◌}
 use Rattle.scx_semantics.specs.Registers.{register_at}
 use Rattle.scx_encoding.specs.Slots.{same_slot}
-use Rattle.scx_semantics.specs.Tables.{coded}
+use Rattle.scx_semantics.specs.Tables.{first_with_code}
 use Rattle.scx_encoding.specs.Opcodes.{form_of}
 use Rattle.scx_semantics.specs.Code.{is_wide}
 use Rattle.scx_encoding.specs.Spelling.{extension_offset, order_bits, first_slot, second_slot}
 
 -- the register that a field of a slot names; above 10 a fault
-abbrev pub register : ℕ → Result Register DecodeFault
-register n = ok_or (register_at n) BadRegister
+abbrev pub register_of_field : ℕ → Result Register DecodeFault
+register_of_field n = ok_or (register_at n) BadRegister
 
 -- the operand from a slot's fields: its immediate with a sign, or its source register
 abbrev pub operand_at : Source → Slot → Result Operand DecodeFault
 operand_at source.Immediate s = Ok (operand.Immediate (cast_signed w32 s.immediate))
 operand_at source.Register s = do
-  r ← register s.source
+  r ← register_of_field s.source
   Ok (operand.Register r)
 
 -- the sign-extending moves of a width
@@ -51,7 +51,7 @@ extensions Bits64 = Low8To64 ∷ Low16To64 ∷ Low32To64 ∷ []
 -- the sign-extending move that the offset chooses, of a register alone
 abbrev pub extension_at : Width → Register → Operand → ℕ → Option Insn
 extension_at w d (operand.Immediate k) n = None
-extension_at w d (operand.Register r) n = option_map (λ e. insn.SignExtend e d r) (coded extension_offset (extensions w) n)
+extension_at w d (operand.Register r) n = option_map (λ e. insn.SignExtend e d r) (first_with_code extension_offset (extensions w) n)
 
 -- the arithmetic that the offset chooses; none where the form doesn't list the offset
 abbrev pub binary_at : Width → Operation → Register → Operand → ℕ → Option Insn
@@ -70,48 +70,48 @@ high_half None = 0
 high_half (Some t) = t.immediate
 
 -- a slot's immediate, as a number with a sign
-abbrev pub number_at : Slot → ℤ
-number_at s = cast_signed w32 s.immediate
+abbrev pub immediate_at : Slot → ℤ
+immediate_at s = cast_signed w32 s.immediate
 
 -- a slot's offset, as a number with a sign
 abbrev pub offset_at : Slot → ℤ
 offset_at s = cast_signed w16 s.offset
 
 -- the instruction of that form with the fields of a slot
-abbrev pub built : Form → Slot → Option Slot → Result Insn DecodeFault
-built (Binary w o x) s next = do
-  d ← register s.destination
+abbrev pub insn_of_form : Form → Slot → Option Slot → Result Insn DecodeFault
+insn_of_form (Binary w o x) s next = do
+  d ← register_of_field s.destination
   y ← operand_at x s
   ok_or (binary_at w o d y s.offset) BadOffset
-built (Negate w) s next = do
-  d ← register s.destination
+insn_of_form (Negate w) s next = do
+  d ← register_of_field s.destination
   Ok (insn.Negate w d)
-built (ByteSwap o) s next = do
-  d ← register s.destination
-  w ← ok_or (coded order_bits order_widths s.immediate) BadWidth
+insn_of_form (ByteSwap o) s next = do
+  d ← register_of_field s.destination
+  w ← ok_or (first_with_code order_bits order_widths s.immediate) BadWidth
   Ok (insn.ByteSwap o w d)
-built LoadImmediate s next = do
-  d ← register s.destination
-  Ok (insn.LoadImmediate d (number_at s) (cast_signed w32 (high_half next)))
-built LoadMapReference s next = do
-  d ← register s.destination
-  Ok (insn.LoadMapReference d (number_at s))
-built (Load a) s next = do
-  d ← register s.destination
-  r ← register s.source
+insn_of_form LoadImmediate s next = do
+  d ← register_of_field s.destination
+  Ok (insn.LoadImmediate d (immediate_at s) (cast_signed w32 (high_half next)))
+insn_of_form LoadMapReference s next = do
+  d ← register_of_field s.destination
+  Ok (insn.LoadMapReference d (immediate_at s))
+insn_of_form (Load a) s next = do
+  d ← register_of_field s.destination
+  r ← register_of_field s.source
   Ok (insn.Load a d r (offset_at s))
-built (Store z x) s next = do
-  r ← register s.destination
+insn_of_form (Store z x) s next = do
+  r ← register_of_field s.destination
   y ← operand_at x s
   Ok (insn.Store z r (offset_at s) y)
-built (JumpIf w c x) s next = do
-  r ← register s.destination
+insn_of_form (JumpIf w c x) s next = do
+  r ← register_of_field s.destination
   y ← operand_at x s
   Ok (insn.JumpIf w c r y (offset_at s))
-built Goto s next = Ok (insn.Goto (offset_at s))
-built GotoLong s next = Ok (insn.GotoLong (number_at s))
-built Call s next = Ok (insn.Call (number_at s))
-built Exit s next = Ok insn.Exit
+insn_of_form Goto s next = Ok (insn.Goto (offset_at s))
+insn_of_form GotoLong s next = Ok (insn.GotoLong (immediate_at s))
+insn_of_form Call s next = Ok (insn.Call (immediate_at s))
+insn_of_form Exit s next = Ok insn.Exit
 
 -- what the slot and the one behind it, if any, make of an instruction
 abbrev pub whole : Slot → Option Slot → Insn → Result Insn DecodeFault
@@ -121,7 +121,7 @@ whole s next i = if same_slot s (first_slot i) then (if is_wide i && is_none nex
 abbrev pub insn_at : Slot → Option Slot → Result Insn DecodeFault
 insn_at s next = do
   f ← form_of s.opcode s.source
-  i ← built f s next
+  i ← insn_of_form f s next
   whole s next i
 
 -- whether the slot is the second half that is due

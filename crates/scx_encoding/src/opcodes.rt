@@ -1,5 +1,5 @@
 ghost use Rattle.std.specs.Prelude.{◌≡◌, ◌%◌};
-ghost use Rattle.scx_semantics.specs.Tables.{coded};
+ghost use Rattle.scx_semantics.specs.Tables.{first_with_code};
 ghost use Rattle.scx_encoding.specs.Opcodes.{form_of, wide_form, call_form, plain_form, class_form, lone_forms, binary_form, jump_form, load_form, store_form, opcode_fault, source_at, base_operations, comparisons, accesses, sizes};
 ghost use Rattle.scx_encoding.specs.Opcodes.{opcode, arithmetic_class, jump_class, store_class, source_bit, operation_code, comparison_code, order_code, size_code, access_code};
 
@@ -61,7 +61,7 @@ fn plain(opcode: u8) -> Result<Form, DecodeFault>
 
 /// The forms that are alone with their operation.
 fn lone(code: u8) -> Option<Form>
-    ensures { result ≡ coded opcode lone_forms code }
+    ensures { result ≡ first_with_code opcode lone_forms code }
 {
     match code {
         0x84 => Some(Form::Negate(Width::Bits32)),
@@ -129,7 +129,7 @@ fn source_in(opcode: u8) -> Source
 }
 
 fn operation_of(code: u8) -> Option<Operation>
-    ensures { result ≡ coded operation_code base_operations code }
+    ensures { result ≡ first_with_code operation_code base_operations code }
 {
     match code {
         0x0 => Some(Operation::Add),
@@ -149,7 +149,7 @@ fn operation_of(code: u8) -> Option<Operation>
 }
 
 fn comparison_of(code: u8) -> Option<Comparison>
-    ensures { result ≡ coded comparison_code comparisons code }
+    ensures { result ≡ first_with_code comparison_code comparisons code }
 {
     match code {
         0x1 => Some(Comparison::Equal),
@@ -169,7 +169,7 @@ fn comparison_of(code: u8) -> Option<Comparison>
 
 /// How an opcode of class LDX reads, by its mode and size.
 fn access_of(code: u8) -> Option<Access>
-    ensures { result ≡ coded access_code accesses code }
+    ensures { result ≡ first_with_code access_code accesses code }
 {
     match code {
         0x60 => Some(Access::Word),
@@ -185,7 +185,7 @@ fn access_of(code: u8) -> Option<Access>
 
 /// How many bytes an opcode of class ST or STX writes, by its mode and size.
 fn size_of(code: u8) -> Option<Size>
-    ensures { result ≡ coded size_code sizes code }
+    ensures { result ≡ first_with_code size_code sizes code }
 {
     match code {
         0x60 => Some(Size::Word),

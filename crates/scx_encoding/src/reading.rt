@@ -1,11 +1,11 @@
 ghost use Rattle.std.specs.Prelude.{◌≡◌, None, Ok, IfOk, IfSome};
 ghost use Rattle.std.specs.Int.{w32, cast_signed};
 ghost use Rattle.scx_encoding.specs.Slots.{front_slot};
-ghost use Rattle.scx_semantics.specs.Tables.{coded};
+ghost use Rattle.scx_semantics.specs.Tables.{first_with_code};
 ghost use Rattle.scx_semantics.specs.Arithmetic.{extension_width};
 ghost use Rattle.scx_encoding.specs.Opcodes.{opcode, form, form_of, source_of};
 ghost use Rattle.scx_encoding.specs.Spelling.{extension_offset, order_bits, first_slot};
-ghost use Rattle.scx_encoding.specs.Reading.{register, operand_at, extensions, extension_at, binary_at, order_widths, high_half, built, whole, insn_at, half_at, occupant_at, due_after};
+ghost use Rattle.scx_encoding.specs.Reading.{register_of_field, operand_at, extensions, extension_at, binary_at, order_widths, high_half, insn_of_form, whole, insn_at, half_at, occupant_at, due_after};
 
 use crate::faults::DecodeFault;
 use crate::forms::{Form, Source};
@@ -153,7 +153,7 @@ fn high_of(behind: &[u8]) -> i32
 /// The register in the destination field.
 #[inline(always)]
 fn first(slot: &Slot) -> Result<Register, DecodeFault>
-    ensures { result ≡ register slot.now.destination }
+    ensures { result ≡ register_of_field slot.now.destination }
 {
     Register::new(slot.destination).ok_or(DecodeFault::BadRegister)
 }
@@ -161,7 +161,7 @@ fn first(slot: &Slot) -> Result<Register, DecodeFault>
 /// The register in the source field.
 #[inline(always)]
 fn second(slot: &Slot) -> Result<Register, DecodeFault>
-    ensures { result ≡ register slot.now.source }
+    ensures { result ≡ register_of_field slot.now.source }
 {
     Register::new(slot.source).ok_or(DecodeFault::BadRegister)
 }
@@ -180,7 +180,7 @@ fn operand(source: Source, slot: &Slot) -> Result<Operand, DecodeFault>
 /// A store.
 #[inline(always)]
 fn build_store(size: Size, source: Source, slot: &Slot) -> Result<Insn, DecodeFault>
-    ensures built { result ≡ built (Form.Store size source) slot.now None }
+    ensures built { result ≡ insn_of_form (Form.Store size source) slot.now None }
     ensures form { IfOk result (λ i. form i ≡ Form.Store size source) }
 {
     let base = first(slot)?;
@@ -196,7 +196,7 @@ fn build_jump(
     source: Source,
     slot: &Slot,
 ) -> Result<Insn, DecodeFault>
-    ensures built { result ≡ built (Form.JumpIf width comparison source) slot.now None }
+    ensures built { result ≡ insn_of_form (Form.JumpIf width comparison source) slot.now None }
     ensures form { IfOk result (λ i. form i ≡ Form.JumpIf width comparison source) }
 {
     let register = first(slot)?;
@@ -218,7 +218,7 @@ fn build_binary(
     source: Source,
     slot: &Slot,
 ) -> Result<Insn, DecodeFault>
-    ensures built { result ≡ built (Form.Binary width operation source) slot.now None }
+    ensures built { result ≡ insn_of_form (Form.Binary width operation source) slot.now None }
     ensures opcode { IfOk result (λ i. opcode (form i)
         ≡ opcode (Form.Binary width operation source)) }
 {
@@ -267,7 +267,7 @@ fn extension(width: Width, destination: Register, operand: Operand, offset: u16)
 }
 
 fn extension_of(width: Width, offset: u16) -> Option<Extension>
-    ensures chosen { result ≡ coded extension_offset (extensions width) offset }
+    ensures chosen { result ≡ first_with_code extension_offset (extensions width) offset }
     ensures width { IfSome result (λ e. extension_width e ≡ width) }
 {
     match (width, offset) {
@@ -282,7 +282,7 @@ fn extension_of(width: Width, offset: u16) -> Option<Extension>
 
 #[inline(always)]
 fn build_byte_swap(order: ByteOrder, slot: &Slot) -> Result<Insn, DecodeFault>
-    ensures built { result ≡ built (Form.ByteSwap order) slot.now None }
+    ensures built { result ≡ insn_of_form (Form.ByteSwap order) slot.now None }
     ensures form { IfOk result (λ i. form i ≡ Form.ByteSwap order) }
 {
     let register = first(slot)?;
@@ -291,7 +291,7 @@ fn build_byte_swap(order: ByteOrder, slot: &Slot) -> Result<Insn, DecodeFault>
 }
 
 fn order_width_of(bits: u32) -> Option<SwapWidth>
-    ensures { result ≡ coded order_bits order_widths bits }
+    ensures { result ≡ first_with_code order_bits order_widths bits }
 {
     match bits {
         16 => Some(SwapWidth::Bits16),

@@ -73,20 +73,20 @@ Reads i r = (first_read i ≡ Some r) ⊎ (second_read i ≡ Some r) ⊎ HasArgu
 -- ---- registers that are written or stored
 
 -- the register that an instruction writes, other than those of a call
-abbrev pub written : Insn → Option Register
-written (insn.Binary w o d x) = Some d
-written (insn.Negate w d) = Some d
-written (insn.SignExtend e d r) = Some d
-written (insn.ByteSwap o w d) = Some d
-written (insn.LoadImmediate d low_half high_half) = Some d
-written (insn.LoadMapReference d k) = Some d
-written (insn.Load access d r offset) = Some d
-written i = None
+abbrev pub written_register : Insn → Option Register
+written_register (insn.Binary w o d x) = Some d
+written_register (insn.Negate w d) = Some d
+written_register (insn.SignExtend e d r) = Some d
+written_register (insn.ByteSwap o w d) = Some d
+written_register (insn.LoadImmediate d low_half high_half) = Some d
+written_register (insn.LoadMapReference d k) = Some d
+written_register (insn.Load access d r offset) = Some d
+written_register i = None
 
 -- the register that a store stores; none of an immediate
-abbrev pub stored : Insn → Option Register
-stored (insn.Store s r offset x) = register_in x
-stored i = None
+abbrev pub stored_register : Insn → Option Register
+stored_register (insn.Store s r offset x) = register_in x
+stored_register i = None
 
 -- the instruction loads a reference to the map of that number
 abbrev pub LoadsMap : Insn → ℤ → Type 0

@@ -46,14 +46,14 @@ distances_of a w o (operand.Immediate k) = option_map one_distance (pointer_step
 distances_of a w o (operand.Register r) = distances_in (kind_at a (number r))
 
 -- a place that far on
-abbrev pub moved : Place → Distances → Place
-moved p s = record p { from = p.from +ℤ s.least; to = p.to +ℤ s.most; shift = min p.shift s.shift }
+abbrev pub place_at_distances : Place → Distances → Place
+place_at_distances p s = record p { from = p.from +ℤ s.least; to = p.to +ℤ s.most; shift = min p.shift s.shift }
 
 -- ---- accesses
 
 -- the bytes that an address means whose register points to that place
 abbrev pub reach_from : Address → Place → Reach
-reach_from x p = record { place = moved p (one_distance x.offset); count = size_bytes x.size }
+reach_from x p = record { place = place_at_distances p (one_distance x.offset); count = size_bytes x.size }
 
 -- the bytes that an address means
 abbrev pub reach_of : List Shape → AbsState → Address → Option Reach

@@ -16,7 +16,7 @@ use Rattle.scx_semantics.specs.declared.host_tables.Helper.{Helper}
 use Rattle.scx_semantics.specs.declared.host_tables.Parameter.{Parameter}
 use Rattle.scx_semantics.specs.declared.host_tables.Parameter.TheVariants as parameter
 use Rattle.scx_semantics.specs.HostTables.{field_at, is_writable, helper_at, is_allowed}
-use Rattle.scx_semantics.specs.Arithmetic.{shifted}
+use Rattle.scx_semantics.specs.Arithmetic.{at_distance}
 use Rattle.scx_semantics.specs.Code.{Code, at, size}
 use Rattle.scx_semantics.specs.Meaning.{is_plain}
 use Rattle.scx_semantics.specs.Memory.{size_bytes}
@@ -54,8 +54,8 @@ use Rattle.scx_explanations.specs.declared.reasons.BadCall.TheVariants as call
 use Rattle.scx_explanations.specs.declared.reasons.Reason.{Reason}
 use Rattle.scx_explanations.specs.declared.reasons.Reason.TheVariants as reason
 use Rattle.scx_explanations.specs.Listings.{known_at}
-use Rattle.scx_explanations.specs.Named.{Reads, Takes, LoadsMap, written, stored, address_of}
-use Rattle.scx_explanations.specs.Places.{place_of, distances_of, moved, reach_of, stack_bytes}
+use Rattle.scx_explanations.specs.Named.{Reads, Takes, LoadsMap, written_register, stored_register, address_of}
+use Rattle.scx_explanations.specs.Places.{place_of, distances_of, place_at_distances, reach_of, stack_bytes}
 
 -- ---- kinds
 
@@ -140,11 +140,11 @@ pub record ReadsPointer (i : Insn) (a : AbsState) (r : Register) (k : Kind) : Ty
 -- what is said of a value that an instruction reads, writes, stores or answers is so
 abbrev pub IsValueSaid : Callback → Insn → AbsState → BadValue → Type 0
 IsValueSaid c i a (value.Unusable r) = Reads i r × (kind_at a (number r) ≡ Unusable)
-IsValueSaid c i a value.Frame = written i ≡ Some R10
+IsValueSaid c i a value.Frame = written_register i ≡ Some R10
 IsValueSaid c i a (value.MayBeNull r) = Reads i r × IsTrue (may_be_null (kind_at a (number r)))
 IsValueSaid c i a (value.Arithmetic r k) = ReadsPointer i a r k
 IsValueSaid c i a (value.Comparison r k) = ReadsPointer i a r k
-IsValueSaid c i a (value.Stored r k) = (stored i ≡ Some r) × (kind_at a (number r) ≡ k) × IsTrue (is_pointer k)
+IsValueSaid c i a (value.Stored r k) = (stored_register i ≡ Some r) × (kind_at a (number r) ≡ k) × IsTrue (is_pointer k)
 IsValueSaid c i a (value.Answer k b) = (i ≡ insn.Exit) × (kind_at a 0 ≡ k) × IsFalse (is_number k) × (b ≡ c)
 
 -- the instruction is given an address in the stack, from that byte on
@@ -179,7 +179,7 @@ pub record MovesTo (shapes : List Shape) (i : Insn) (a : AbsState) (r : Register
   pub moves : i ≡ insn.Binary width operation r operand
   pub was : place_of shapes (kind_at a (number r)) ≡ Some from
   pub far : distances_of a width operation operand ≡ Some distances
-  pub place : to ≡ moved from distances
+  pub place : to ≡ place_at_distances from distances
 
 -- what is said of the bytes that an instruction accesses or moves a pointer to is so
 abbrev pub IsAccessSaid : List Shape → Insn → AbsState → BadAccess → Type 0
@@ -201,7 +201,7 @@ pub record AccessesField (i : Insn) (a : AbsState) (f : Field) : Type 0 where
   pub offset : ℤ
   pub bytes : Size
   pub accesses : AccessesTask i a offset bytes
-  pub there : field_at (size_bytes bytes) (shifted 0 offset) ≡ Some f
+  pub there : field_at (size_bytes bytes) (at_distance 0 offset) ≡ Some f
 
 -- whether it loads with a sign
 abbrev pub has_sign : Insn → Bool
@@ -215,7 +215,7 @@ is_store i = false
 
 -- what is said of the field of a task that an instruction accesses is so
 abbrev pub IsFieldSaid : Insn → AbsState → BadField → Type 0
-IsFieldSaid i a (field.Missing offset s) = AccessesTask i a offset s × (field_at (size_bytes s) (shifted 0 offset) ≡ None)
+IsFieldSaid i a (field.Missing offset s) = AccessesTask i a offset s × (field_at (size_bytes s) (at_distance 0 offset) ≡ None)
 IsFieldSaid i a (field.Signed f) = AccessesField i a f × IsTrue (has_sign i)
 IsFieldSaid i a (field.ReadOnly f) = AccessesField i a f × IsTrue (is_store i) × IsFalse (is_writable f)
 

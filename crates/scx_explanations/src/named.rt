@@ -3,7 +3,7 @@ ghost use Rattle.scx_semantics.specs.declared.instructions.Insn.TheVariants as I
 ghost use Rattle.scx_semantics.specs.Registers.{number};
 ghost use Rattle.scx_semantics.specs.Steps.{distance};
 ghost use Rattle.scx_explanations.specs.Named.{register_in, first_of, second_of, first_read, second_read};
-ghost use Rattle.scx_explanations.specs.Named.{Takes, written, stored, address_of};
+ghost use Rattle.scx_explanations.specs.Named.{Takes, written_register, stored_register, address_of};
 
 use scx_isa::{Helper, Insn, Operand, Operation, Parameter, Register, Size};
 
@@ -72,7 +72,7 @@ pub(crate) fn second_read(insn: Insn) -> Option<Register>
 
 /// The register that an instruction writes; `None` of a call.
 pub(crate) fn written(insn: Insn) -> Option<Register>
-    ensures { result ≡ written insn }
+    ensures { result ≡ written_register insn }
 {
     match insn {
         Insn::Binary(_, _, register, _) => Some(register),
@@ -88,7 +88,7 @@ pub(crate) fn written(insn: Insn) -> Option<Register>
 
 /// The register that an instruction stores.
 pub(crate) fn stored(insn: Insn) -> Option<Register>
-    ensures { result ≡ stored insn }
+    ensures { result ≡ stored_register insn }
 {
     match insn {
         Insn::Store(_, _, _, operand) => register_in(operand),

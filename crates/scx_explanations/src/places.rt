@@ -1,7 +1,7 @@
 ghost use Rattle.std.specs.Prelude.{◌≡◌, pos, ◌+ℤ◌, ◌-ℤ◌, IfSome};
 ghost use Rattle.scx_abs.specs.Checks.{element_size};
 ghost use Rattle.scx_explanations.specs.Places.{stack_place, place_of, one_distance, distances_in, distances_of};
-ghost use Rattle.scx_explanations.specs.Places.{moved, reach_of, stack_bytes, IsNear, AreShort};
+ghost use Rattle.scx_explanations.specs.Places.{place_at_distances, reach_of, stack_bytes, IsNear, AreShort};
 
 use crate::named::Address;
 use scx_abs::{AbsState, Kind};
@@ -71,7 +71,7 @@ impl Place {
     pub(crate) fn moved(self, distances: Distances) -> Place
         requires near { IsNear self }
         requires short { AreShort distances }
-        ensures { result ≡ moved self distances }
+        ensures { result ≡ place_at_distances self distances }
     {
         Place {
             memory: self.memory,

@@ -8,7 +8,7 @@ ghost use Rattle.scx_abs.specs.Rules.{map_kind};
 ghost use Rattle.scx_abs.specs.States.{kind_at};
 ghost use Rattle.scx_explanations.specs.Reasons.{flow_fault, value_fault, access_fault, call_fault};
 ghost use Rattle.scx_explanations.specs.Reasons.{fault_of};
-ghost use Rattle.scx_explanations.specs.Named.{Reads, Takes, HasArgument, LoadsMap, written};
+ghost use Rattle.scx_explanations.specs.Named.{Reads, Takes, HasArgument, LoadsMap, written_register};
 ghost use Rattle.scx_explanations.specs.Said.{IsOf, is_taken, IsUnwritten, IsFlowSaid, IsValueSaid};
 ghost use Rattle.scx_explanations.specs.Said.{IsAccessSaid, IsFieldSaid, IsCallSaid, IsRuleSaid};
 ghost use Rattle.scx_explanations.specs.Said.{IsSaid};
@@ -302,7 +302,7 @@ fn bad_value(state: &AbsState, why: Why, insn: Insn, callback: Callback) -> Opti
 }
 
 fn writes_frame(insn: Insn) -> bool
-    ensures { result ≡ true → written insn ≡ Some Register.R10 }
+    ensures { result ≡ true → written_register insn ≡ Some Register.R10 }
 {
     match written(insn) {
         Some(Register::R10) => true,

@@ -29,13 +29,13 @@ escape c =
     else character c
 
 -- the content of a basic string that stands for a text in UTF-8
-abbrev pub escaped : List ℕ → List ℕ
-escaped text = flat_map escape (chars text)
+abbrev pub basic_content : List ℕ → List ℕ
+basic_content text = flat_map escape (chars text)
 
 -- a text as a basic string, its two quotation marks included
-abbrev pub quoted : List ℕ → List ℕ
-quoted text = codes "\"" ++ escaped text ++ codes "\""
+abbrev pub basic_string : List ℕ → List ℕ
+basic_string text = codes "\"" ++ basic_content text ++ codes "\""
 
 -- a key as paths show it: as it is, or as a basic string if it has a control character
-abbrev pub shown : List ℕ → List ℕ
-shown key = if list_any is_control key then quoted key else key
+abbrev pub key_text : List ℕ → List ℕ
+key_text key = if list_any is_control key then basic_string key else key

@@ -9,7 +9,7 @@ use Rattle.toml.specs.Data.{Data, array, table, Items, no_items, item, Members, 
 use Rattle.scx_files.specs.declared.unknown.Unknown.{Unknown as UnknownKeys}
 use Rattle.scx_files.specs.declared.fault.Cause.TheVariants as cause
 use Rattle.scx_files.specs.Faults.{Reading, refusal}
-use Rattle.scx_files.specs.Keys.{shown}
+use Rattle.scx_files.specs.Keys.{key_text}
 use Rattle.scx_files.specs.Paths.{below, element}
 use Rattle.scx_files.specs.Values.{found_or}
 
@@ -24,7 +24,7 @@ is_known (k ∷ known) key = bytes_eq k key || is_known known key
 abbrev pub unknown : List (List ℕ) → List ℕ → Members → List (List ℕ)
 unknown known path no_members = []
 unknown known path (member key d ms) =
-    if is_known known key then unknown known path ms else below path (shown key) ∷ unknown known path ms
+    if is_known known key then unknown known path ms else below path (key_text key) ∷ unknown known path ms
 
 -- of a value at a path, if it is a table
 abbrev pub unknown_of : List (List ℕ) → List ℕ → Data → List (List ℕ)

@@ -31,12 +31,12 @@ text_of path (string s) = Ok s
 text_of path _ = refusal path cause.WrongType
 
 -- a text that is a name; any other is refused
-abbrev pub named : List ℕ → List ℕ → Reading (List ℕ)
-named path text = if is_name text then Ok text else refusal path cause.BadName
+abbrev pub if_name : List ℕ → List ℕ → Reading (List ℕ)
+if_name path text = if is_name text then Ok text else refusal path cause.BadName
 
 -- the name that a value is; another type is refused, and so is a text that is no name
 abbrev pub name_of : List ℕ → Data → Reading (List ℕ)
-name_of path d = text_of path d >>= named path
+name_of path d = text_of path d >>= if_name path
 
 -- the number, if it is within limits
 abbrev pub within : Limits → ℤ → Option ℕ

@@ -1,7 +1,7 @@
 ghost use Rattle.std.specs.Prelude.{◌≡◌, ◌<◌, false, IfOk, OnOk, ◌++◌, string_bytes};
 ghost use Rattle.std.specs.Fmt.{digit_glyph};
 ghost use Rattle.std.specs.List.{list_any};
-ghost use Rattle.scx_files.specs.Keys.{is_control, control_escape, character, escape, escaped, quoted, shown};
+ghost use Rattle.scx_files.specs.Keys.{is_control, control_escape, character, escape, basic_content, basic_string, key_text};
 ghost use Rattle.scx_files.specs.Paths.{below};
 
 use crate::path::key_path;
@@ -10,7 +10,7 @@ use std::alloc::{AllocError, Global};
 /// The path of an unknown key in the table at `path`. A key that has a control character in it stands
 /// there as a basic string of TOML, so that a path is one line.
 pub(crate) fn shown_path(alloc: Global, path: &str, key: &str) -> Result<String, AllocError>
-    ensures { IfOk result (λ joined. string_bytes joined ≡ below path.now (shown key.now)) }
+    ensures { IfOk result (λ joined. string_bytes joined ≡ below path.now (key_text key.now)) }
 {
     if !has_control(key.as_bytes()) {
         return key_path(alloc, path, key);
@@ -32,7 +32,7 @@ fn is_control(byte: u8) -> bool
 }
 
 fn quoted(alloc: Global, text: &str) -> Result<String, AllocError>
-    ensures { IfOk result (λ found. string_bytes found ≡ quoted text.now) }
+    ensures { IfOk result (λ found. string_bytes found ≡ basic_string text.now) }
 {
     let content = escaped(alloc, text)?;
     let mut found = String::from_str(alloc, "\"")?;
@@ -42,7 +42,7 @@ fn quoted(alloc: Global, text: &str) -> Result<String, AllocError>
 }
 
 fn escaped(alloc: Global, text: &str) -> Result<String, AllocError>
-    ensures { IfOk result (λ found. string_bytes found ≡ escaped text.now) }
+    ensures { IfOk result (λ found. string_bytes found ≡ basic_content text.now) }
 {
     let mut found = String::new(alloc);
     for c in text.chars() {

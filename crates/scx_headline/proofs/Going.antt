@@ -7,7 +7,7 @@ use Rattle.scx_machine.specs.declared.events.Event.{Event}
 use Rattle.scx_machine.specs.Notes.{Takes}
 use Rattle.scx_machine.specs.Callbacks.{AreAnswered}
 use Rattle.scx_machine.proofs.Taking.{Takes-append, answered_append}
-use Rattle.scx_sched.specs.Sim.{SimState, refusal, stepped, notes_of, calls_of}
+use Rattle.scx_sched.specs.Sim.{SimState, refusal, after_event, notes_of, calls_of}
 use Rattle.scx_sched.specs.Decided.{Follows}
 use Rattle.scx_sched.specs.Once.{IsOnce}
 use Rattle.scx_sched.specs.Waits.{IsTimely, HasWaits}
@@ -28,7 +28,7 @@ abbrev pub AreAllBounded : List SimState → Type 0
 AreAllBounded = AllByRecursion (λ s. AreBounded s.state.world)
 
 -- one event before others
-pub follows_before : (s : SimState) (e : Event) (rest : List Event) → Follows (refusal s e) s e (stepped s e) → EachFollows rest (states_from (stepped s e) rest) → EachFollows (e ∷ rest) (states_from s (e ∷ rest))
+pub follows_before : (s : SimState) (e : Event) (rest : List Event) → Follows (refusal s e) s e (after_event s e) → EachFollows rest (states_from (after_event s e) rest) → EachFollows (e ∷ rest) (states_from s (e ∷ rest))
 follows_before s e [] one more = (one, tt)
 follows_before s e (f ∷ es) one more = (one, more)
 
@@ -49,12 +49,12 @@ pub record IsOnItsWay {S : Type 0} (takes : S → Note → S → Type 0) (events
 
 -- one event further
 on_further : {S : Type 0} (takes : S → Note → S → Type 0) (events : List Event) (s : SimState) (a : S) (e : Event) (rest : List Event) (t : SimState) (b c : S)
-    → IsOnItsWay takes events s a (e ∷ rest) t b → Takes takes b (notes_of t e) c → AreAnswered (calls_of t e) → IsOnce None (stepped t e).state.world → HasWaits None (stepped t e).state.world → IsTimely (stepped t e).state → AreBounded (stepped t e).state.world → Follows (refusal t e) t e (stepped t e)
-    → IsOnItsWay takes events s a rest (stepped t e) c
+    → IsOnItsWay takes events s a (e ∷ rest) t b → Takes takes b (notes_of t e) c → AreAnswered (calls_of t e) → IsOnce None (after_event t e).state.world → HasWaits None (after_event t e).state.world → IsTimely (after_event t e).state → AreBounded (after_event t e).state.world → Follows (refusal t e) t e (after_event t e)
+    → IsOnItsWay takes events s a rest (after_event t e) c
 on_further takes events s a e rest t b c h noted answered once counted timely bounded follows = record {
   state = h.state;
-  notes = λ z more. h.notes z (Takes-append takes b c z (notes_of t e) (notes_of_all (stepped t e) rest) noted more);
-  answered = λ more. h.answered (answered_append (calls_of t e) (calls_of_all (stepped t e) rest) answered more);
+  notes = λ z more. h.notes z (Takes-append takes b c z (notes_of t e) (notes_of_all (after_event t e) rest) noted more);
+  answered = λ more. h.answered (answered_append (calls_of t e) (calls_of_all (after_event t e) rest) answered more);
   once = λ more. h.once (h.now_once, more);
   counted = λ more. h.counted (h.now_counted, more);
   timely = λ more. h.timely (h.now_timely, more);
@@ -68,7 +68,7 @@ on_further takes events s a e rest t b c h noted answered once counted timely bo
 
 -- the same, where the rest and the state are known by other names
 pub gone_further : {S : Type 0} (takes : S → Note → S → Type 0) (events : List Event) (s : SimState) (a : S) (e : Event) (was rest : List Event) (t u : SimState) (b c : S)
-    → IsOnItsWay takes events s a was t b → was ≡ e ∷ rest → u ≡ stepped t e → Takes takes b (notes_of t e) c → AreAnswered (calls_of t e) → IsOnce None u.state.world → HasWaits None u.state.world → IsTimely u.state → AreBounded u.state.world → Follows (refusal t e) t e (stepped t e)
+    → IsOnItsWay takes events s a was t b → was ≡ e ∷ rest → u ≡ after_event t e → Takes takes b (notes_of t e) c → AreAnswered (calls_of t e) → IsOnce None u.state.world → HasWaits None u.state.world → IsTimely u.state → AreBounded u.state.world → Follows (refusal t e) t e (after_event t e)
     → IsOnItsWay takes events s a rest u c
 gone_further {S} takes events s a e was rest t u b c h next state noted answered once counted timely bounded follows =
     let P : List Event → Type 0 = λ es. IsOnItsWay takes events s a es t b in

@@ -12,7 +12,7 @@ use Rattle.scx_machine.specs.Callbacks.{AreAnswered}
 use Rattle.scx_machine.specs.Start.{start_calls}
 use Rattle.scx_machine.proofs.Taking.{answered_append}
 use Rattle.scx_machine.specs.declared.events.Refused.{Refused}
-use Rattle.scx_sched.specs.Sim.{SimState, refusal, stepped, IsFirst}
+use Rattle.scx_sched.specs.Sim.{SimState, refusal, after_event, IsFirstState}
 use Rattle.scx_sched.specs.Decided.{Follows}
 use Rattle.scx_sched.specs.Once.{appearances, IsOnce}
 use Rattle.scx_sched.specs.Waits.{IsTimely, HasWaits}
@@ -27,7 +27,7 @@ use Rattle.scx_headline.proofs.Going.{AreOnce, AreCounted, AreTimely, AreAllBoun
 last_state : (s : SimState) (events : List Event) → IsLast (stepped_all s events) (states_from s events)
 last_state s [] = ([], refl)
 last_state s (e ∷ es) =
-    let h = last_state (stepped s e) es in
+    let h = last_state (after_event s e) es in
     (s ∷ h.0, ap (λ ss. s ∷ ss) h.1)
 
 -- in one place
@@ -73,11 +73,11 @@ all_in_time p (e ∷ es) s (t ∷ ss) same follows h = (in_time p s same h.0, al
 -- of the states from that one on
 in_time_from : (p : PolicyState) (s : SimState) (events : List Event) → s.state.policy ≡ p → EachFollows events (states_from s events) → AreTimely (states_from s events) → AllByRecursion (InTime p.timeout_ms) (states_from s events)
 in_time_from p s [] same follows h = all_in_time p [] s [] same follows h
-in_time_from p s (e ∷ es) same follows h = all_in_time p (e ∷ es) s (states_from (stepped s e) es) same follows h
+in_time_from p s (e ∷ es) same follows h = all_in_time p (e ∷ es) s (states_from (after_event s e) es) same follows h
 
 -- ---- the run
 
-module _ (p : PolicyState) (tree : Hierarchy) (cpus : ℕ) (events : List Event) (s : SimState) (first : IsFirst p tree cpus s) where
+module _ (p : PolicyState) (tree : Hierarchy) (cpus : ℕ) (events : List Event) (s : SimState) (first : IsFirstState p tree cpus s) where
   abbrev the_run : Run
   the_run = run_from (start_calls p tree cpus) s events
 

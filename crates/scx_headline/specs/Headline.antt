@@ -15,8 +15,8 @@ use Rattle.scx_machine.specs.Notes.{Takes}
 use Rattle.scx_machine.specs.Policy.{PolicyState}
 use Rattle.scx_machine.specs.Steps.{State, CallMade}
 use Rattle.scx_machine.specs.Callbacks.{AreAnswered}
-use Rattle.scx_machine.specs.Start.{started, start_calls}
-use Rattle.scx_sched.specs.Sim.{SimState, refusal, stepped, calls_of}
+use Rattle.scx_machine.specs.Start.{first_state, start_calls}
+use Rattle.scx_sched.specs.Sim.{SimState, refusal, after_event, calls_of}
 use Rattle.scx_sched.specs.Decided.{Follows}
 use Rattle.scx_sched.specs.Once.{appearances}
 use Rattle.scx_driver.specs.Runs.{notes_of_all}
@@ -33,12 +33,12 @@ pub record Run : Type 0 where
 -- the state in which the events begin, and the one after each of them
 abbrev pub states_from : SimState → List Event → List SimState
 states_from s [] = s ∷ []
-states_from s (e ∷ es) = s ∷ states_from (stepped s e) es
+states_from s (e ∷ es) = s ∷ states_from (after_event s e) es
 
 -- the callbacks that are called in these events, one after another
 abbrev pub calls_of_all : SimState → List Event → List CallMade
 calls_of_all s [] = []
-calls_of_all s (e ∷ es) = calls_of s e ++ calls_of_all (stepped s e) es
+calls_of_all s (e ∷ es) = calls_of s e ++ calls_of_all (after_event s e) es
 
 -- after the callbacks that were called before
 abbrev pub run_from : List CallMade → SimState → List Event → Run
@@ -51,7 +51,7 @@ run_if (Ok s) before events = run_from before (record { state = s; events = 0 })
 
 -- the run of a policy's machine through a list of events; one that is refused changes nothing
 abbrev pub machine_run : PolicyState → Hierarchy → ℕ → List Event → Run
-machine_run p tree cpus events = run_if (started p tree cpus) (start_calls p tree cpus) events
+machine_run p tree cpus events = run_if (first_state p tree cpus) (start_calls p tree cpus) events
 
 -- ---- the sentence
 

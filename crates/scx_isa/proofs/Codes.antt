@@ -18,7 +18,7 @@ use Rattle.scx_semantics.specs.Code.{Code, is_wide, instruction_count}
 use Rattle.scx_encoding.specs.Spelling.{first_slot, second_slot, insn_slots, IsInsn}
 use Rattle.scx_isa.specs.Spelling.{occupant_slots, code_slots, spelling, IsCode}
 use Rattle.scx_encoding.specs.Reading.{insn_at, half_at, occupant_at, due_after}
-use Rattle.scx_isa.specs.Reading.{first, at_slot, read_slots}
+use Rattle.scx_isa.specs.Reading.{slot_in_front, at_slot, read_slots}
 use Rattle.scx_encoding.proofs.Insns.{bind_ok, done, ok_is, is_same, same_is, HalfFits, Reads, insn_is_spelled, Follows, insn_is_read, first_is_slot, second_is_slot}
 
 -- wide instructions are those with a second slot
@@ -41,7 +41,7 @@ count_is code = is_count_by instruction_count is_some refl (λ occupant code. mo
 
 -- ---- what is read
 
-first_fits : (slots : List Slot) → AllByRecursion IsSlot slots → HalfFits (first slots)
+first_fits : (slots : List Slot) → AllByRecursion IsSlot slots → HalfFits (slot_in_front slots)
 first_fits [] h = tt
 first_fits (s ∷ slots) h = h.0
 
@@ -55,9 +55,9 @@ half_reads s due p e = go (same_slot s due) refl
 -- where a second half is due there is a slot for it
 abbrev HasSecondHalf : Option Slot → List Slot → Type 0
 HasSecondHalf None slots = Unit {0}
-HasSecondHalf (Some due) slots = is_none (first slots) ≡ false
+HasSecondHalf (Some due) slots = is_none (slot_in_front slots) ≡ false
 
-second_half_behind : (t : Option Slot) (slots : List Slot) → (is_some t ≡ true → is_none (first slots) ≡ false) → HasSecondHalf t slots
+second_half_behind : (t : Option Slot) (slots : List Slot) → (is_some t ≡ true → is_none (slot_in_front slots) ≡ false) → HasSecondHalf t slots
 second_half_behind None slots h = tt
 second_half_behind (Some due) slots h = h refl
 
@@ -79,14 +79,14 @@ holds_insn s slots i code e h rest = record {
 record Splits (k : ℕ) (due : Option Slot) (s : Slot) (slots : List Slot) (code : Code) : Type 0 where
   occupant : Option Insn
   rest : Code
-  read : occupant_at due s (first slots) ≡ Ok occupant
+  read : occupant_at due s (slot_in_front slots) ≡ Ok occupant
   goes : read_slots (suc k) (due_after occupant) slots ≡ Ok rest
   whole : occupant ∷ rest ≡ code
 
 splits : (k : ℕ) (due : Option Slot) (s : Slot) (slots : List Slot) (code : Code) → read_slots k due (s ∷ slots) ≡ Ok code → Splits k due s slots code
 unfolding read_slots
 splits k due s slots code e =
-    let p = bind_ok (at_slot k (occupant_at due s (first slots))) _ code e in
+    let p = bind_ok (at_slot k (occupant_at due s (slot_in_front slots))) _ code e in
     let q = bind_ok (read_slots (suc k) (due_after p.0) slots) _ code p.2 in
     record { occupant = p.0; rest = q.0; read = placed_ok k _ _ p.1; goes = q.1; whole = ok_is _ _ q.2 }
 
@@ -102,7 +102,7 @@ occupant_reads s next p e =
     record { insn = r.0; read = r.1; occupant = ok_is _ _ r.2 }
 
 holds_read : (k : ℕ) (s : Slot) (slots : List Slot) (code : Code) (i : Insn) (p : Option Insn) (rest : Code)
-    → Reads s (first slots) i → Some i ≡ p → read_slots (suc k) (due_after p) slots ≡ Ok rest → p ∷ rest ≡ code
+    → Reads s (slot_in_front slots) i → Some i ≡ p → read_slots (suc k) (due_after p) slots ≡ Ok rest → p ∷ rest ≡ code
     → (HasSecondHalf (second_slot i) slots → read_slots (suc k) (second_slot i) slots ≡ Ok rest → Holds (second_slot i) slots rest)
     → Holds None (s ∷ slots) code
 holds_read k s slots code i p rest reads occupant goes whole others =
@@ -129,8 +129,8 @@ code_is_spelled k None [] code fits room e =
 code_is_spelled k (Some due) [] code fits room e = absurd (cc)
 code_is_spelled k None (s ∷ slots) code fits room e =
     let p = splits k None s slots code e in
-    let r = occupant_reads s (first slots) p.occupant p.read in
-    let reads = insn_is_spelled s (first slots) r.insn fits.0 (first_fits slots fits.1) r.read in
+    let r = occupant_reads s (slot_in_front slots) p.occupant p.read in
+    let reads = insn_is_spelled s (slot_in_front slots) r.insn fits.0 (first_fits slots fits.1) r.read in
     holds_read k s slots code r.insn p.occupant p.rest reads r.occupant p.goes p.whole
     (λ room goes. code_is_spelled (suc k) (second_slot r.insn) slots p.rest fits.1 room goes)
 code_is_spelled k (Some due) (s ∷ slots) code fits room e =
@@ -158,7 +158,7 @@ code_slots_fit false (Some i ∷ code) h = slots_fit_insn i (code_slots code) h.
 code_slots_fit true (Some i ∷ code) h = absurd h
 
 -- a second slot stands in front of what follows it
-pub follows_first : (t : Option Slot) (slots : List Slot) → Follows t (first (option_to_list t ++ slots))
+pub follows_first : (t : Option Slot) (slots : List Slot) → Follows t (slot_in_front (option_to_list t ++ slots))
 follows_first None slots = tt
 follows_first (Some t) slots = refl
 
@@ -172,7 +172,7 @@ code_is_read k (Some due) (None ∷ code) h =
     rw (same_is due, code_is_read (suc k) None code h) refl
 code_is_read k None (Some i ∷ code) h =
     let rest : IsCode (is_some (second_slot i)) code = rw (← wide_is i) h.1 in
-    let read = insn_is_read i (first (option_to_list (second_slot i) ++ code_slots code)) h.0 (follows_first (second_slot i) (code_slots code)) in
+    let read = insn_is_read i (slot_in_front (option_to_list (second_slot i) ++ code_slots code)) h.0 (follows_first (second_slot i) (code_slots code)) in
     rw (read, code_is_read (suc k) (second_slot i) code rest) refl
 code_is_read k (Some due) (Some i ∷ code) h = absurd h
 

@@ -16,7 +16,7 @@ use Rattle.scx_isa.specs.Spelling.{code_slots, IsCode, HasProgramLength, Spells}
 use Rattle.scx_isa.specs.declared.program.TheConstants.{MAX_SLOTS}
 use Rattle.scx_semantics.specs.Results.{◌>>=◌}
 use Rattle.scx_encoding.specs.Reading.{insn_at}
-use Rattle.scx_isa.specs.Reading.{Gives, first, read_slots, read_program}
+use Rattle.scx_isa.specs.Reading.{Gives, slot_in_front, read_slots, read_program}
 use Rattle.scx_isa.specs.FirstFault.{IsRest, FailsAtInsn, FailsInHalf, IsFirstFault, NoByte, CutSlot, PastLimit, AtInsn, InHalf, IsRefusal}
 use Rattle.scx_encoding.proofs.Bytes.{IsBytes, slots_fit}
 use Rattle.scx_encoding.proofs.Insns.{insn_is_spelled, insn_is_read, is_same, same_is}
@@ -39,14 +39,14 @@ behind_fails p (Err e) fault j h = let same : e ≡ (fault, j) = cc in ap (λ d.
 
 -- reading fails at the first slot, or behind the instruction that begins there
 data Fails_first (k : ℕ) (s : Slot) (slots : List Slot) (fault : DecodeFault) (j : ℕ) : Type 0 where
-  Here : insn_at s (first slots) ≡ Err fault → j ≡ k → Fails_first k s slots fault j
-  Behind : (i : Insn) → insn_at s (first slots) ≡ Ok i → read_slots (suc k) (second_slot i) slots ≡ Err (fault, j) → Fails_first k s slots fault j
+  Here : insn_at s (slot_in_front slots) ≡ Err fault → j ≡ k → Fails_first k s slots fault j
+  Behind : (i : Insn) → insn_at s (slot_in_front slots) ≡ Ok i → read_slots (suc k) (second_slot i) slots ≡ Err (fault, j) → Fails_first k s slots fault j
 
 fails_first : (k : ℕ) (s : Slot) (slots : List Slot) (fault : DecodeFault) (j : ℕ) → read_slots k None (s ∷ slots) ≡ Err (fault, j) → Fails_first k s slots fault j
 unfolding read_slots
-fails_first k s slots fault j e = go (insn_at s (first slots)) refl
+fails_first k s slots fault j e = go (insn_at s (slot_in_front slots)) refl
   where
-    go : (r : Result Insn DecodeFault) → insn_at s (first slots) ≡ r → Fails_first k s slots fault j
+    go : (r : Result Insn DecodeFault) → insn_at s (slot_in_front slots) ≡ r → Fails_first k s slots fault j
     go (Ok i) t = Behind i t (behind_fails (Some i) (read_slots (suc k) (second_slot i) slots) fault j (rw t at e))
     go (Err d) t =
         let here : failed {A = Code} d k ≡ failed fault j = rw t at e in
@@ -118,7 +118,7 @@ fails_behind m k from slots longer fault j c more (FromHalf n e d f) =
 starts : (slots : List Slot) → IsRest slots 0 slots
 starts slots = record { front = []; insns = tt; split = refl; number = refl }
 
-fails_here : (k : ℕ) (s : Slot) (slots : List Slot) (fault : DecodeFault) (j : ℕ) → insn_at s (first slots) ≡ Err fault → j ≡ k → FailsFrom k (s ∷ slots) fault j
+fails_here : (k : ℕ) (s : Slot) (slots : List Slot) (fault : DecodeFault) (j : ℕ) → insn_at s (slot_in_front slots) ≡ Err fault → j ≡ k → FailsFrom k (s ∷ slots) fault j
 fails_here k s slots fault j e same = FromInsn 0 (omega arith) (record { slot = s; behind = slots; rest = starts (s ∷ slots); fails = e })
 
 -- what reading fails by behind an instruction is the first fault there
@@ -167,7 +167,7 @@ front_is_read k n (Some due) (None ∷ front) rest e h m fails =
     rw (same_is due, front_is_read (suc k) n None front rest e h (omega arith) fails) refl
 front_is_read k n None (Some i ∷ front) rest e h m fails =
     let code : IsCode (is_some (second_slot i)) front = rw (← wide_is i) h.1 in
-    let read = insn_is_read i (first (option_to_list (second_slot i) ++ (code_slots front ++ rest))) h.0 (follows_first (second_slot i) (code_slots front ++ rest)) in
+    let read = insn_is_read i (slot_in_front (option_to_list (second_slot i) ++ (code_slots front ++ rest))) h.0 (follows_first (second_slot i) (code_slots front ++ rest)) in
     let cons : read_slots k None (first_slot i ∷ (option_to_list (second_slot i) ++ (code_slots front ++ rest))) ≡ Err e =
     rw (read, front_is_read (suc k) n (second_slot i) front rest e code (omega arith) fails) refl in
     subst (λ slots. read_slots k None (first_slot i ∷ slots) ≡ Err e) (sym (append_assoc (option_to_list (second_slot i)) (code_slots front) rest)) cons
@@ -177,7 +177,7 @@ front_is_read k n (Some due) (Some i ∷ front) rest e h m fails = absurd h
 rest_fails : (slots rest : List Slot) (k : ℕ) (e : DecodeFault × ℕ) → IsRest slots k rest → read_slots k None rest ≡ Err e → read_slots 0 None slots ≡ Err e
 rest_fails slots rest k e r fails = rw r.split (front_is_read 0 k None r.front rest e r.insns (omega (arith, r.number)) fails)
 
-no_insn : (k : ℕ) (s : Slot) (slots : List Slot) (fault : DecodeFault) → insn_at s (first slots) ≡ Err fault → read_slots k None (s ∷ slots) ≡ Err (fault, k)
+no_insn : (k : ℕ) (s : Slot) (slots : List Slot) (fault : DecodeFault) → insn_at s (slot_in_front slots) ≡ Err fault → read_slots k None (s ∷ slots) ≡ Err (fault, k)
 unfolding read_slots
 no_insn k s slots fault e = rw e refl
 
@@ -249,8 +249,8 @@ one_first_fault bytes fault other slot place p q =
 
 -- bytes with a first fault spell no program
 pub faulty_bytes_spell_nothing : (bytes : List ℕ) (fault : DecodeFault) (slot : ℕ) (code : Code) → IsFirstFault bytes fault slot → ¬ Spells bytes code
-faulty_bytes_spell_nothing bytes fault slot code first spells =
-    let bad : Ok code ≡ failed fault slot = sym (program_is_read bytes code spells) ∙ first_fault_is_read bytes fault slot first in
+faulty_bytes_spell_nothing bytes fault slot code slot_in_front spells =
+    let bad : Ok code ≡ failed fault slot = sym (program_is_read bytes code spells) ∙ first_fault_is_read bytes fault slot slot_in_front in
     absurd (cc)
 
 -- ---- what a decoder that gives this reading ensures

@@ -10,7 +10,7 @@ use Rattle.scx_semantics.specs.Code.{Code}
 use Rattle.scx_encoding.specs.Slots.{slot_at, slots_in, front_slot}
 use Rattle.scx_semantics.specs.Results.{◌>>=◌}
 use Rattle.scx_encoding.specs.Reading.{occupant_at, due_after}
-use Rattle.scx_isa.specs.Reading.{Fails, first, at_slot, read_slots}
+use Rattle.scx_isa.specs.Reading.{Fails, slot_in_front, at_slot, read_slots}
 
 -- what was read before, and what is still read
 abbrev pub with_front : Code → Result Code (DecodeFault × ℕ) → Result Code (DecodeFault × ℕ)
@@ -25,7 +25,7 @@ regroup front p (Ok code) = ap (λ (c : Code). Ok c) (simp append_assoc)
 regroup front p (Err e) = refl
 
 -- the first slot, as the bytes show it
-pub front_is : (n : ℕ) (bytes : List ℕ) → length bytes ≡ 8 * n → first (slots_in n bytes) ≡ front_slot bytes
+pub front_is : (n : ℕ) (bytes : List ℕ) → length bytes ≡ 8 * n → slot_in_front (slots_in n bytes) ≡ front_slot bytes
 front_is zero bytes e =
     let short : nat_lt (length bytes) 8 ≡ true = rw e refl in
     rw short refl

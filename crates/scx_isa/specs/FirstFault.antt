@@ -14,7 +14,7 @@ use Rattle.scx_encoding.specs.Spelling.{second_slot}
 use Rattle.scx_isa.specs.Spelling.{IsCode, code_slots, HasProgramLength}
 use Rattle.scx_isa.specs.declared.program.TheConstants.{MAX_SLOTS}
 use Rattle.scx_encoding.specs.Reading.{insn_at}
-use Rattle.scx_isa.specs.Reading.{first}
+use Rattle.scx_isa.specs.Reading.{slot_in_front}
 
 -- the slots from the k-th on, where those in front of it spell whole instructions
 pub record IsRest (slots : List Slot) (k : ℕ) (rest : List Slot) : Type 0 where
@@ -28,7 +28,7 @@ pub record FailsAtInsn (slots : List Slot) (fault : DecodeFault) (k : ℕ) : Typ
   pub slot : Slot
   pub behind : List Slot
   pub rest : IsRest slots k (slot ∷ behind)
-  pub fails : insn_at slot (first behind) ≡ Err fault
+  pub fails : insn_at slot (slot_in_front behind) ≡ Err fault
 
 -- the k-th slot begins a wide instruction, and the next slot isn't the second half that is due
 pub record FailsInHalf (slots : List Slot) (k : ℕ) : Type 0 where

@@ -18,15 +18,15 @@ at_slot k (Ok x) = Ok x
 at_slot k (Err e) = Err (e, k)
 
 -- the slot at the front, if any is left
-abbrev pub first : List Slot → Option Slot
-first [] = None
-first (s ∷ slots) = Some s
+abbrev pub slot_in_front : List Slot → Option Slot
+slot_in_front [] = None
+slot_in_front (s ∷ slots) = Some s
 
 -- What the slots from the k-th on hold. The option is the second half that is due first.
 unfoldable pub read_slots : ℕ → Option Slot → List Slot → Result Code (DecodeFault × ℕ)
 read_slots k due [] = Ok []
 read_slots k due (s ∷ slots) = do
-  occupant ← at_slot k (occupant_at due s (first slots))
+  occupant ← at_slot k (occupant_at due s (slot_in_front slots))
   code ← read_slots (suc k) (due_after occupant) slots
   Ok (occupant ∷ code)
 

@@ -9,8 +9,8 @@ use Rattle.scx_weights.specs.declared.group.Group.{Group}
 use Rattle.scx_weights.specs.Hierarchy.{Hierarchy, quota_at, path, lies_in, home_of}
 use Rattle.scx_weights.specs.Limits.{usage_of, is_throttled_group, is_throttled, begins_period, with_use, with_turn}
 use Rattle.scx_limits.specs.Uses.{Use, after, runs_in_period}
-use Rattle.scx_limits.specs.Machine.{Machine, Step, Begin, End, Tick, Turn, running, idle_machine, left, ticked, stepped, is_allowed, run_of, are_allowed, uses_of, used_by, ran_now}
-use Rattle.scx_limits.specs.Bounds.{runs_in, cpus_in, IsWithin}
+use Rattle.scx_limits.specs.Machine.{QuotaMachine, Step, Begin, End, Tick, Turn, running, idle_machine, without_throttled, after_ms, after_step, is_allowed, run_of, are_allowed, uses_of, used_by, ran_now}
+use Rattle.scx_limits.specs.Bounds.{runs_in, cpus_in, StaysBelowQuota}
 use Rattle.scx_limits.specs.Laws.{UsagesAreBounded, RunsAreBounded}
 use Rattle.scx_limits.proofs.Usages.{usage_used, usage_turned, something_left}
 use Rattle.scx_limits.proofs.Counted.{usages_count_runs_lem}
@@ -58,7 +58,7 @@ not_true false e = refl
 
 -- a task that isn't throttled begins to run on a free processor
 pub begins_within : (t : Hierarchy) (cpus : List (Option ℕ)) (c k g quota : ℕ) → quota_at t.groups g ≡ Some quota → c < length cpus
-    → get_or cpus c None ≡ None → is_throttled t k ≡ false → IsWithin t cpus g quota → IsWithin t (set cpus c (Some k)) g quota
+    → get_or cpus c None ≡ None → is_throttled t k ≡ false → StaysBelowQuota t cpus g quota → StaysBelowQuota t (set cpus c (Some k)) g quota
 begins_within t cpus c k g quota is lt free unthrottled within =
     let changed : cpus_in t g (set cpus c (Some k)) + cond (runs_in t g (get_or cpus c None)) 1 0 ≡ cpus_in t g cpus + cond (lies_in t.groups (home_of t k) g) 1 0 = cpu_set t g cpus c (Some k) lt in
     let nobody : cond {A = ℕ} (runs_in t g (get_or cpus c None)) 1 0 ≡ 0 = ap (λ o. cond {A = ℕ} (runs_in t g o) 1 0) free in
@@ -74,7 +74,7 @@ begins_within t cpus c k g quota is lt free unthrottled within =
     (cases_Bool (lies_in t.groups (home_of t k) g))
 
 -- a task stops
-pub ends_within : (t : Hierarchy) (cpus : List (Option ℕ)) (c g quota : ℕ) → c < length cpus → IsWithin t cpus g quota → IsWithin t (set cpus c None) g quota
+pub ends_within : (t : Hierarchy) (cpus : List (Option ℕ)) (c g quota : ℕ) → c < length cpus → StaysBelowQuota t cpus g quota → StaysBelowQuota t (set cpus c None) g quota
 ends_within t cpus c g quota lt within =
     let changed : cpus_in t g (set cpus c None) + cond (runs_in t g (get_or cpus c None)) 1 0 ≡ cpus_in t g cpus + 0 = cpu_set t g cpus c None lt in
     let same : length (set cpus c None) ≡ length cpus = length-set cpus c None in
@@ -82,16 +82,16 @@ ends_within t cpus c g quota lt within =
 
 -- a task has run for a ms, and leaves if it is throttled then
 pub ticks_within : (t : Hierarchy) (cpus : List (Option ℕ)) (c k g quota : ℕ) → g < length t.groups → quota_at t.groups g ≡ Some quota
-    → get_or cpus c None ≡ Some k → IsWithin t cpus g quota → IsWithin (with_use t k) (left (with_use t k) k cpus c) g quota
+    → get_or cpus c None ≡ Some k → StaysBelowQuota t cpus g quota → StaysBelowQuota (with_use t k) (without_throttled (with_use t k) k cpus c) g quota
 ticks_within t cpus c k g quota g_lt is here within =
     ⊎_elim
     (λ (e : is_throttled (with_use t k) k ≡ true).
-    subst (λ (b : Bool). IsWithin (with_use t k) (cond b (set cpus c None) cpus) g quota) (sym e)
+    subst (λ (b : Bool). StaysBelowQuota (with_use t k) (cond b (set cpus c None) cpus) g quota) (sym e)
     (let same : length (set cpus c None) ≡ length cpus = length-set cpus c None in
     let gone : cpus_in t g (set cpus c None) + one ≡ cpus_in t g cpus = goes in
     omega (arith, used, same, gone, within)))
     (λ (e : is_throttled (with_use t k) k ≡ false).
-    subst (λ (b : Bool). IsWithin (with_use t k) (cond b (set cpus c None) cpus) g quota) (sym e)
+    subst (λ (b : Bool). StaysBelowQuota (with_use t k) (cond b (set cpus c None) cpus) g quota) (sym e)
     (stays e))
     (cases_Bool (is_throttled (with_use t k) k))
   where
@@ -107,7 +107,7 @@ ticks_within t cpus c k g quota g_lt is here within =
         let who : cond {A = ℕ} (runs_in t g (get_or cpus c None)) 1 0 ≡ one = ap (λ o. cond {A = ℕ} (runs_in t g o) 1 0) here in
         omega (arith, changed, who)
 
-    stays : is_throttled (with_use t k) k ≡ false → IsWithin (with_use t k) cpus g quota
+    stays : is_throttled (with_use t k) k ≡ false → StaysBelowQuota (with_use t k) cpus g quota
     stays e =
         ⊎_elim
         (λ (there : lies_in t.groups (home_of t k) g ≡ true).
@@ -120,7 +120,7 @@ ticks_within t cpus c k g quota g_lt is here within =
         (cases_Bool (lies_in t.groups (home_of t k) g))
 
 -- the clock grows
-pub turns_within : (t : Hierarchy) (cpus : List (Option ℕ)) (clock g quota : ℕ) → g < length t.groups → IsWithin t cpus g quota → IsWithin (with_turn t clock) cpus g quota
+pub turns_within : (t : Hierarchy) (cpus : List (Option ℕ)) (clock g quota : ℕ) → g < length t.groups → StaysBelowQuota t cpus g quota → StaysBelowQuota (with_turn t clock) cpus g quota
 turns_within t cpus clock g quota lt within =
     let turned : usage_of (with_turn t clock) g ≡ cond (begins_period t g clock) 0 (usage_of t g) = usage_turned t clock g lt in
     let less : cond (begins_period t g clock) 0 (usage_of t g) ≤ usage_of t g = at_most (begins_period t g clock) (usage_of t g) in
@@ -131,11 +131,11 @@ turns_within t cpus clock g quota lt within =
     at_most false n = omega arith
 
 -- what never changes
-pub record Stays (t : Hierarchy) (n : ℕ) (m : Machine) : Type 0 where
+pub record Stays (t : Hierarchy) (n : ℕ) (m : QuotaMachine) : Type 0 where
   pub groups : m.tree.groups ≡ t.groups
   pub cpus : length m.cpus ≡ n
 
-ticked_stays : (t : Hierarchy) (n : ℕ) (m : Machine) (c : ℕ) (o : Option ℕ) → Stays t n m → Stays t n (ticked o m c)
+ticked_stays : (t : Hierarchy) (n : ℕ) (m : QuotaMachine) (c : ℕ) (o : Option ℕ) → Stays t n m → Stays t n (after_ms o m c)
 ticked_stays t n m c None s = s
 ticked_stays t n m c (Some k) s = record {
   groups = s.groups;
@@ -146,7 +146,7 @@ ticked_stays t n m c (Some k) s = record {
     which true = length-set m.cpus c None ∙ s.cpus
     which false = s.cpus
 
-step_stays : (t : Hierarchy) (n : ℕ) (m : Machine) (s : Step) → Stays t n m → Stays t n (stepped m s)
+step_stays : (t : Hierarchy) (n : ℕ) (m : QuotaMachine) (s : Step) → Stays t n m → Stays t n (after_step m s)
 step_stays t n m (Begin c k) s = record { groups = s.groups; cpus = length-set m.cpus c (Some k) ∙ s.cpus }
 step_stays t n m (End c) s = record { groups = s.groups; cpus = length-set m.cpus c None ∙ s.cpus }
 step_stays t n m (Tick c) s = ticked_stays t n m c (running m c) s
@@ -157,14 +157,14 @@ pub run_stays : (t : Hierarchy) (n : ℕ) (past : List Step) → Stays t n (run_
 run_stays t n [] = record { groups = refl; cpus = length-replicate {A = Option ℕ} n None }
 run_stays t n (s ∷ past) = step_stays t n (run_of (idle_machine t n) past) s (run_stays t n past)
 
-ticked_within : (m : Machine) (c g quota : ℕ) (o : Option ℕ) → running m c ≡ o → g < length m.tree.groups → quota_at m.tree.groups g ≡ Some quota
-    → IsWithin m.tree m.cpus g quota → IsWithin (ticked o m c).tree (ticked o m c).cpus g quota
+ticked_within : (m : QuotaMachine) (c g quota : ℕ) (o : Option ℕ) → running m c ≡ o → g < length m.tree.groups → quota_at m.tree.groups g ≡ Some quota
+    → StaysBelowQuota m.tree m.cpus g quota → StaysBelowQuota (after_ms o m c).tree (after_ms o m c).cpus g quota
 ticked_within m c g quota None is lt quota_is within = within
 ticked_within m c g quota (Some k) is lt quota_is within = ticks_within m.tree m.cpus c k g quota lt quota_is is within
 
 -- a step that is allowed keeps it
-pub step_within : (m : Machine) (s : Step) (g quota : ℕ) → g < length m.tree.groups → quota_at m.tree.groups g ≡ Some quota → is_allowed m s ≡ true
-    → IsWithin m.tree m.cpus g quota → IsWithin (stepped m s).tree (stepped m s).cpus g quota
+pub step_within : (m : QuotaMachine) (s : Step) (g quota : ℕ) → g < length m.tree.groups → quota_at m.tree.groups g ≡ Some quota → is_allowed m s ≡ true
+    → StaysBelowQuota m.tree m.cpus g quota → StaysBelowQuota (after_step m s).tree (after_step m s).cpus g quota
 step_within m (Begin c k) g quota lt is ok within =
     let parts = and_parts (ltb c (length m.cpus) && is_none (running m c)) (not (is_throttled m.tree k)) ok in
     let place = and_parts (ltb c (length m.cpus)) (is_none (running m c)) parts.0 in
@@ -183,12 +183,12 @@ nobody_runs t g n = count_none n
 -- from an idle machine on, allowed steps keep a group's usage and running tasks below its quota plus the processors
 pub run_within : (t : Hierarchy) (n : ℕ) (past : List Step) (g quota : ℕ) → g < length t.groups → quota_at t.groups g ≡ Some quota → 0 < quota
     → usage_of t g ≡ 0 → are_allowed (idle_machine t n) past ≡ true
-    → IsWithin (run_of (idle_machine t n) past).tree (run_of (idle_machine t n) past).cpus g quota
+    → StaysBelowQuota (run_of (idle_machine t n) past).tree (run_of (idle_machine t n) past).cpus g quota
 run_within t n [] g quota lt is some none ok =
     let nobody : cpus_in t g (replicate n None) ≡ 0 = nobody_runs t g n in
     omega (arith, nobody, none, some)
 run_within t n (s ∷ past) g quota lt is some none ok =
-    let m : Machine = run_of (idle_machine t n) past in
+    let m : QuotaMachine = run_of (idle_machine t n) past in
     let parts = and_parts (is_allowed m s) (are_allowed (idle_machine t n) past) ok in
     let same : m.tree.groups ≡ t.groups = (run_stays t n past).groups in
     step_within m s g quota (subst (λ (gs : List Group). g < length gs) (sym same) lt) (ap (λ gs. quota_at gs g) same ∙ is) parts.0
@@ -197,16 +197,16 @@ run_within t n (s ∷ past) g quota lt is some none ok =
 -- the law
 pub usages_are_bounded_lem : UsagesAreBounded
 usages_are_bounded_lem t n past g quota lt is some none ok =
-    let m : Machine = run_of (idle_machine t n) past in
+    let m : QuotaMachine = run_of (idle_machine t n) past in
     let within : usage_of m.tree g + cpus_in m.tree g m.cpus < quota + length m.cpus = run_within t n past g quota lt is some none ok in
     let same : length m.cpus ≡ n = (run_stays t n past).cpus in
     omega (arith, within, same)
 
-ticked_tree : (t : Hierarchy) (m : Machine) (c : ℕ) (o : Option ℕ) (us : List Use) → m.tree ≡ after t us → (ticked o m c).tree ≡ after t (ran_now o us)
+ticked_tree : (t : Hierarchy) (m : QuotaMachine) (c : ℕ) (o : Option ℕ) (us : List Use) → m.tree ≡ after t us → (after_ms o m c).tree ≡ after t (ran_now o us)
 ticked_tree t m c None us is = is
 ticked_tree t m c (Some k) us is = ap (λ x. with_use x k) is
 
-step_tree : (t : Hierarchy) (m : Machine) (s : Step) (us : List Use) → m.tree ≡ after t us → (stepped m s).tree ≡ after t (used_by m s us)
+step_tree : (t : Hierarchy) (m : QuotaMachine) (s : Step) (us : List Use) → m.tree ≡ after t us → (after_step m s).tree ≡ after t (used_by m s us)
 step_tree t m (Begin c k) us is = is
 step_tree t m (End c) us is = is
 step_tree t m (Tick c) us is = ticked_tree t m c (running m c) us is

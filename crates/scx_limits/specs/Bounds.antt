@@ -15,5 +15,5 @@ abbrev pub cpus_in : Hierarchy → ℕ → List (Option ℕ) → ℕ
 cpus_in t g cpus = count_by (runs_in t g) cpus
 
 -- a group's usage and its running tasks together stay below the quota plus the number of processors
-abbrev pub IsWithin : Hierarchy → List (Option ℕ) → ℕ → ℕ → Type 0
-IsWithin t cpus g quota = usage_of t g + cpus_in t g cpus < quota + length cpus
+abbrev pub StaysBelowQuota : Hierarchy → List (Option ℕ) → ℕ → ℕ → Type 0
+StaysBelowQuota t cpus g quota = usage_of t g + cpus_in t g cpus < quota + length cpus

@@ -10,7 +10,7 @@ use Rattle.scx_weights.specs.Limits.{has_quota}
 use Rattle.scx_weights.proofs.KnownLimits.{none_throttled}
 use Rattle.scx_world.specs.Ids.{global, local_on}
 use Rattle.scx_world.specs.World.{WorldState, is_throttled}
-use Rattle.scx_world.specs.Tasks.{local_len, brought, fill_front, filled}
+use Rattle.scx_world.specs.Tasks.{local_len, brought, fill_front, after_fill}
 use Rattle.scx_machine.specs.Steps.{State, stays}
 use Rattle.scx_machine.specs.Filling.{move_note, fill}
 use Rattle.scx_machine.specs.Parking.{if_throttled, clear, in_reach, supply}
@@ -69,7 +69,7 @@ pub supply_free : (s : State) (c : ℕ) → has_quota s.world.tree.groups ≡ fa
 unfolding supply clear fill
 supply_free s c none = go (in_reach s c) refl
   where
-    free : (t : ℕ) → is_throttled (filled s.world global c) t ≡ false
+    free : (t : ℕ) → is_throttled (after_fill s.world global c) t ≡ false
     free t = throttled_brought (fill_front s.world global c) s.world global c t ∙ free_tasks s.world none t
 
     go : (n : ℕ) → in_reach s c ≡ n → clear n s c ≡ fill s global c
@@ -77,5 +77,5 @@ supply_free s c none = go (in_reach s c) refl
         let empty : len_of s.world.queues global ≡ 0 = omega (arith, e) in
         sym (fill_nobody s c (nobody_comes (ltb 0 (local_len s.world c)) (front_of s.world.queues global) (empty_front s.world.queues global empty)))
     go (suc n) e =
-        rw (free_front (filled s.world global c) (front_of (filled s.world global c).queues (local_on c)) free)
+        rw (free_front (after_fill s.world global c) (front_of (after_fill s.world global c).queues (local_on c)) free)
         (ap (λ notes. record { state = (fill s global c).state; notes = notes; calls = [] }) (no_more (fill_front s.world global c) s.world c))

@@ -4,8 +4,8 @@ use Rattle.scx_dsq.specs.Queues.{front_of, behind_of}
 use Rattle.scx_world.specs.World.{is_throttled}
 use Rattle.scx_world.specs.Kept.{NobodyIsFree}
 use Rattle.scx_world.proofs.Fronts.{AtParked, at_front, at_behind}
-use Rattle.scx_world.specs.Ids.{global, local_on, parked}
-use Rattle.scx_machine.specs.Steps.{State, stays, joined}
+use Rattle.scx_world.specs.Ids.{global, local_on, parked_queue}
+use Rattle.scx_machine.specs.Steps.{State, stays, one_after_other}
 use Rattle.scx_machine.specs.Filling.{fill}
 use Rattle.scx_machine.specs.Parking.{park_front, throttled_front, park_fronts, clear, let_go_one, let_go_from}
 
@@ -24,7 +24,7 @@ fronts_last zero q s e = refl
 fronts_last (suc n) q s e = rw e refl
 
 -- the front is parked
-pub fronts_more : (n q t : ℕ) (s : State) → 0 < n → throttled_front s q ≡ Some t → park_fronts n s q ≡ joined (park_front s q t) (park_fronts (n - 1) (park_front s q t).state q)
+pub fronts_more : (n q t : ℕ) (s : State) → 0 < n → throttled_front s q ≡ Some t → park_fronts n s q ≡ one_after_other (park_front s q t) (park_fronts (n - 1) (park_front s q t).state q)
 unfolding park_fronts
 fronts_more zero q t s l e = absurd (omega (arith, l))
 fronts_more (suc n) q t s l e = rw (e, sub-one) refl
@@ -40,14 +40,14 @@ clear_none zero c s e = refl
 clear_none (suc n) c s e = absurd (omega (arith, e))
 
 -- once a fill leaves no front that may not run, no round is needed any more
-pub clear_last : (n c : ℕ) (s : State) → 0 < n → throttled_front (fill s global c).state (local_on c) ≡ None → clear n s c ≡ joined (fill s global c) (stays (fill s global c).state)
+pub clear_last : (n c : ℕ) (s : State) → 0 < n → throttled_front (fill s global c).state (local_on c) ≡ None → clear n s c ≡ one_after_other (fill s global c) (stays (fill s global c).state)
 unfolding clear
 clear_last zero c s l e = absurd (omega (arith, l))
 clear_last (suc n) c s l e = rw e refl
 
 -- a front that may not run after a fill is parked, and one round less is left
 pub clear_more : (n c t : ℕ) (s : State) → 0 < n → throttled_front (fill s global c).state (local_on c) ≡ Some t
-    → clear n s c ≡ joined (fill s global c) (joined (park_front (fill s global c).state (local_on c) t) (clear (n - 1) (park_front (fill s global c).state (local_on c) t).state c))
+    → clear n s c ≡ one_after_other (fill s global c) (one_after_other (park_front (fill s global c).state (local_on c) t) (clear (n - 1) (park_front (fill s global c).state (local_on c) t).state c))
 unfolding clear
 clear_more zero c t s l e = absurd (omega (arith, l))
 clear_more (suc n) c t s l e = rw (e, sub-one) refl
@@ -75,7 +75,7 @@ go_past zero t s l e = absurd (omega (arith, l))
 go_past (suc n) t s l e = rw (e, sub-one) refl
 
 -- one that may is let go
-pub go_one : (n t : ℕ) (s : State) → 0 < n → is_throttled s.world t ≡ false → let_go_from n s (Some t) ≡ joined (let_go_one s t) (let_go_from (n - 1) (let_go_one s t).state (behind_of s.world.queues t))
+pub go_one : (n t : ℕ) (s : State) → 0 < n → is_throttled s.world t ≡ false → let_go_from n s (Some t) ≡ one_after_other (let_go_one s t) (let_go_from (n - 1) (let_go_one s t).state (behind_of s.world.queues t))
 unfolding let_go_from
 go_one zero t s l e = absurd (omega (arith, l))
 go_one (suc n) t s l e = rw (e, sub-one) refl
@@ -90,7 +90,7 @@ go_nowhere (suc n) s (Some t) h at =
     rw (h t at) (go_nowhere n s next h (at_behind s.world.queues t next at refl))
 
 -- from the front on
-pub all_stay : (n : ℕ) (s : State) (o : Option ℕ) → NobodyIsFree s.world → front_of s.world.queues parked ≡ o → let_go_from n s o ≡ stays s
+pub all_stay : (n : ℕ) (s : State) (o : Option ℕ) → NobodyIsFree s.world → front_of s.world.queues parked_queue ≡ o → let_go_from n s o ≡ stays s
 all_stay n s o h e = go_nowhere n s o h (at_front s.world.queues o e)
 
 pub ruleset let_go_steps = (go_none, go_nobody, go_past, go_one)

@@ -126,12 +126,12 @@ unfoldable pub eject_left : State → ℕ
 eject_left s = if is_ejected s then 0 else eject_pushes
 
 -- pushes that were made, or that an ejection may make
-abbrev pub committed : State → ℕ
-committed s = s.world.queues.pushes + eject_left s
+abbrev pub pushes_due : State → ℕ
+pushes_due s = s.world.queues.pushes + eject_left s
 
 -- that so many tasks are let go, each of which is put
 abbrev pub CanLetGo : ℕ → State → Type 0
-CanLetGo n s = committed s + enter_pushes * n + put_pushes ≤ most_pushes
+CanLetGo n s = pushes_due s + enter_pushes * n + put_pushes ≤ most_pushes
 
 -- all parked tasks are let go, and the policy is ejected once
 abbrev pub let_go_pushes : ℕ

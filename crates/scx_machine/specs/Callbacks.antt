@@ -10,25 +10,25 @@ use Rattle.scx_safety.specs.Programs.{VerifiedProgram}
 use Rattle.scx_vm.specs.declared.arguments.Arg.{Arg}
 use Rattle.scx_vm.specs.declared.arguments.Arg.TheVariants.{Unset, Num}
 use Rattle.scx_vm.specs.declared.arguments.Args.{Args}
-use Rattle.scx_vm.specs.Arguments.{given}
+use Rattle.scx_vm.specs.Arguments.{program_arguments}
 use Rattle.scx_vm.specs.Host.{host, answer_to, after_query}
 use Rattle.scx_world.specs.declared.eject.Eject.{Eject}
 use Rattle.scx_world.specs.declared.faults.Fault.{Fault}
 use Rattle.scx_world.specs.declared.faults.Fault.TheVariants.{Stuck, NoSuchCpu}
-use Rattle.scx_world.specs.World.{WorldState, begun, quiet}
-use Rattle.scx_world.specs.Helpers.{or_fault, pointed, world_functions}
+use Rattle.scx_world.specs.World.{WorldState, at_callback, quiet}
+use Rattle.scx_world.specs.Helpers.{or_fault, task_argument, world_functions}
 use Rattle.scx_machine.specs.Policy.{PolicyState, program_of}
-use Rattle.scx_machine.specs.Steps.{State, CallMade, Stepped, joined}
+use Rattle.scx_machine.specs.Steps.{State, CallMade, Stepped, one_after_other}
 use Rattle.scx_machine.specs.Ejecting.{ejected_for}
 
 -- the program is run with the world as its outside; one that is absent does nothing, and answers 0
-unfoldable pub called : Option VerifiedProgram → Callback → Args → Maps → WorldState → Ending WorldState
-called None b a maps w = record { answer = Some 0; maps = maps; outside = w }
-called (Some p) b a maps w = run_of (answer_to world_functions) (after_query world_functions) b p.code (given a) maps w
+unfoldable pub call_ending : Option VerifiedProgram → Callback → Args → Maps → WorldState → Ending WorldState
+call_ending None b a maps w = record { answer = Some 0; maps = maps; outside = w }
+call_ending (Some p) b a maps w = run_of (answer_to world_functions) (after_query world_functions) b p.code (program_arguments a) maps w
 
 -- what a callback leaves, when its notes are handed on
-abbrev pub ended : PolicyState → Ending WorldState → State
-ended p e = record { policy = p; maps = e.maps; world = quiet e.outside }
+abbrev pub after_callback : PolicyState → Ending WorldState → State
+after_callback p e = record { policy = p; maps = e.maps; world = quiet e.outside }
 
 -- a program that is absent isn't called
 abbrev pub calls_of : Option VerifiedProgram → Callback → Args → Maps → WorldState → List CallMade
@@ -72,13 +72,13 @@ is_calm b = true
 unfoldable pub call_back : State → Callback → Args → ℕ → ℕ → Stepped
 call_back s b a t c =
     let p = acting s b in
-    let w = begun s.world b t c in
-    let e = called p b a s.maps w in
-    joined (record { state = ended s.policy e; notes = e.outside.notes; calls = calls_of p b a s.maps w }) (ejected_for (fault_of b e) (ended s.policy e))
+    let w = at_callback s.world b t c in
+    let e = call_ending p b a s.maps w in
+    one_after_other (record { state = after_callback s.policy e; notes = e.outside.notes; calls = calls_of p b a s.maps w }) (ejected_for (fault_of b e) (after_callback s.policy e))
 
 -- what it answers, if it comes to an answer
 unfoldable pub answered_by : State → Callback → Args → ℕ → ℕ → Option ℕ
-answered_by s b a t c = (called (acting s b) b a s.maps (begun s.world b t c)).answer
+answered_by s b a t c = (call_ending (acting s b) b a s.maps (at_callback s.world b t c)).answer
 
 -- a callback that is called is never stuck: it comes to an answer, in no more steps than its program has
 -- instructions
@@ -87,7 +87,7 @@ pub record IsAnswered (c : CallMade) : Type 0 where
   pub steps : ℕ
   pub maps : Maps
   pub world : WorldState
-  pub run : Runs (host world_functions) c.callback c.program.code (given c.arguments) c.maps c.world answer steps maps world
+  pub run : Runs (host world_functions) c.callback c.program.code (program_arguments c.arguments) c.maps c.world answer steps maps world
   pub in_bound : steps ≤ instruction_count c.program.code
 
 -- each callback that is called comes to an answer, in no more steps than its program has instructions
@@ -103,20 +103,20 @@ no_arguments = record { first = Unset; second = Unset; third = Unset }
 
 -- a task in r1 and nothing else, as enable and running are given
 abbrev pub one_task : ℕ → Args
-one_task t = record { first = pointed t; second = Unset; third = Unset }
+one_task t = record { first = task_argument t; second = Unset; third = Unset }
 
 -- a task, the processor on which it ran last, and 0
 abbrev pub task_cpu_and_0 : ℕ → ℕ → Args
-task_cpu_and_0 t c = record { first = pointed t; second = Num c; third = Num 0 }
+task_cpu_and_0 t c = record { first = task_argument t; second = Num c; third = Num 0 }
 
 -- a task and a number: the flags of enqueue, or whether the task stays runnable
 abbrev pub task_and_number : ℕ → ℕ → Args
-task_and_number t n = record { first = pointed t; second = Num n; third = Unset }
+task_and_number t n = record { first = task_argument t; second = Num n; third = Unset }
 
 -- a pointer to a task, or the number 0 where there is no task
 abbrev pub task_or_0 : Option ℕ → Arg
 task_or_0 None = Num 0
-task_or_0 (Some t) = pointed t
+task_or_0 (Some t) = task_argument t
 
 -- a processor, and the task before or 0
 abbrev pub cpu_and_task : ℕ → Option ℕ → Args

@@ -3,20 +3,20 @@
 use Rattle.std.specs.Prelude.{ℕ, zero, suc, ◌+◌, [], ◌∷◌, if◌then◌else◌, Option, Some, None, ◌≡◌, false}
 use Rattle.scx_dsq.specs.Queues.{front_of, len_of, behind_of}
 use Rattle.scx_world.specs.declared.notes.What.TheVariants as note
-use Rattle.scx_world.specs.Ids.{global, parked, local_on}
-use Rattle.scx_world.specs.World.{WorldState, task_at, is_throttled, said}
-use Rattle.scx_world.specs.Tasks.{put_parked, taken, let_go}
-use Rattle.scx_machine.specs.Steps.{State, Stepped, with_world, stays, joined}
+use Rattle.scx_world.specs.Ids.{global, parked_queue, local_on}
+use Rattle.scx_world.specs.World.{WorldState, task_at, is_throttled, note_now}
+use Rattle.scx_world.specs.Tasks.{put_parked, after_take, let_go}
+use Rattle.scx_machine.specs.Steps.{State, Stepped, with_world, stays, one_after_other}
 use Rattle.scx_machine.specs.Filling.{fill}
 use Rattle.scx_machine.specs.Put.{put}
 
 -- the task at hand is parked
 unfoldable pub park : State → ℕ → Stepped
-park s t = record { state = with_world s (put_parked s.world t); notes = said s.world (note.Insert t parked) ∷ []; calls = [] }
+park s t = record { state = with_world s (put_parked s.world t); notes = note_now s.world (note.Insert t parked_queue) ∷ []; calls = [] }
 
 -- the front of a queue leaves it, and is parked
 unfoldable pub park_front : State → ℕ → ℕ → Stepped
-park_front s q t = park (with_world s (taken s.world q)) t
+park_front s q t = park (with_world s (after_take s.world q)) t
 
 -- that task, if it may not run
 abbrev pub if_throttled : WorldState → Option ℕ → Option ℕ
@@ -32,7 +32,7 @@ throttled_front s q = if_throttled s.world (front_of s.world.queues q)
 -- the front of a queue is parked, if it may not run, and what follows that
 abbrev pub park_then : (State → Stepped) → State → ℕ → Option ℕ → Stepped
 park_then next s q None = stays s
-park_then next s q (Some t) = let p = park_front s q t in joined p (next p.state)
+park_then next s q (Some t) = let p = park_front s q t in one_after_other p (next p.state)
 
 -- as long as the front of a queue may not run, it is parked, at most so often
 unfoldable pub park_fronts : ℕ → State → ℕ → Stepped
@@ -45,7 +45,7 @@ unfoldable pub clear : ℕ → State → ℕ → Stepped
 clear zero s c = stays s
 clear (suc n) s c =
     let f = fill s global c in
-    joined f (park_then (λ r. clear n r c) f.state (local_on c) (throttled_front f.state (local_on c)))
+    one_after_other f (park_then (λ r. clear n r c) f.state (local_on c) (throttled_front f.state (local_on c)))
 
 -- how many tasks wait in the two queues
 abbrev pub in_reach : State → ℕ → ℕ
@@ -69,11 +69,11 @@ let_go_from (suc n) s None = stays s
 let_go_from (suc n) s (Some t) =
     let next = behind_of s.world.queues t in
     if is_throttled s.world t then let_go_from n s next
-    else (let r = let_go_one s t in joined r (let_go_from n r.state next))
+    else (let r = let_go_one s t in one_after_other r (let_go_from n r.state next))
 
 -- all who may run again
 unfoldable pub let_all_go : State → Stepped
-let_all_go s = let_go_from (len_of s.world.queues parked) s (front_of s.world.queues parked)
+let_all_go s = let_go_from (len_of s.world.queues parked_queue) s (front_of s.world.queues parked_queue)
 
 -- the front of that queue, if there is one, may run
 abbrev pub FrontMayRun : State → ℕ → Type 0

@@ -3,17 +3,17 @@ ghost use Rattle.scx_maps.specs.Contents.{HasShapes};
 ghost use Rattle.scx_semantics.specs.Arguments.{FitsCallback};
 ghost use Rattle.scx_semantics.specs.declared.callbacks.Callback.TheVariants.{Enable, SelectCpu, Enqueue, Dispatch, Running, Stopping};
 ghost use Rattle.scx_semantics.specs.Endings.{run_of};
-ghost use Rattle.scx_vm.specs.Arguments.{given};
+ghost use Rattle.scx_vm.specs.Arguments.{program_arguments};
 ghost use Rattle.scx_vm.specs.Host.{answer_to, after_query};
 ghost use Rattle.scx_world.specs.World.{quiet};
 ghost use Rattle.scx_world.specs.Helpers.{world_functions};
-ghost use Rattle.scx_machine.specs.Budgets.{CanPush, HasRoom, callback_pushes, committed, eject_pushes, program_pushes};
+ghost use Rattle.scx_machine.specs.Budgets.{CanPush, HasRoom, callback_pushes, pushes_due, eject_pushes, program_pushes};
 ghost use Rattle.scx_machine.specs.Does.{Does};
 ghost use Rattle.scx_machine.specs.Notes.{Takes};
 ghost use Rattle.scx_world.specs.Helpers.{or_fault};
 ghost use Rattle.scx_machine.specs.Policy.{IsAs, HasMaps, program_of};
 ghost use Rattle.scx_machine.specs.Ejecting.{ejected_for};
-ghost use Rattle.scx_machine.specs.Callbacks.{called, call_back, end_fault, unless_ejected, answered_by, calls_of, IsAnswered, AreAnswered, is_calm, one_task, task_cpu_and_0, task_and_number, task_or_0, cpu_and_task};
+ghost use Rattle.scx_machine.specs.Callbacks.{call_ending, call_back, end_fault, unless_ejected, answered_by, calls_of, IsAnswered, AreAnswered, is_calm, one_task, task_cpu_and_0, task_and_number, task_or_0, cpu_and_task};
 
 use crate::machine::Machine;
 use crate::policy::Policy;
@@ -43,7 +43,7 @@ fn acting<'a>(policy: &'a Policy, world: &World, callback: Callback) -> Option<&
 
 /// Runs a callback of the policy, and answers what its program does. One that is absent, or of a policy that
 /// is ejected, answers 0.
-#[tactic(auto, unfolding(crate::specs::Callbacks::called))]
+#[tactic(auto, unfolding(crate::specs::Callbacks::call_ending))]
 pub(crate) fn run_callback(
     core: &mut Core,
     policy: &Policy,
@@ -53,11 +53,11 @@ pub(crate) fn run_callback(
     world: &mut World,
 ) -> u64
     requires shapes { HasShapes policy.now.shapes maps.old }
-    requires arguments { FitsCallback callback (given arguments) }
+    requires arguments { FitsCallback callback (program_arguments arguments) }
     requires quiet { world.old.notes ≡ [] }
     requires room { CanPush program_pushes world.old }
     ensures ended { record { answer = Some result; maps = maps.new; outside = world.new }
-        ≡ called (unless_ejected world.old.ejected (program_of policy.now callback)) callback
+        ≡ call_ending (unless_ejected world.old.ejected (program_of policy.now callback)) callback
         arguments maps.old world.old }
     ensures answered { AreAnswered
         (calls_of (unless_ejected world.old.ejected (program_of policy.now callback)) callback
@@ -80,12 +80,12 @@ fn run_program(
     world: &mut World,
 ) -> u64
     requires shapes { HasShapes program.now.context.defs maps.old }
-    requires arguments { FitsCallback program.now.context.callback (given arguments) }
+    requires arguments { FitsCallback program.now.context.callback (program_arguments arguments) }
     requires quiet { world.old.notes ≡ [] }
     requires room { CanPush program_pushes world.old }
     ensures ended { record { answer = Some result; maps = maps.new; outside = world.new }
         ≡ run_of (answer_to world_functions) (after_query world_functions)
-        program.now.context.callback program.now.code (given arguments) maps.old world.old }
+        program.now.context.callback program.now.code (program_arguments arguments) maps.old world.old }
     ensures answered { IsAnswered
         (record {
           callback = program.now.context.callback;
@@ -116,8 +116,8 @@ fn flush<S: Sink>(world: &mut World, sink: &mut S)
 /// A task, for a callback that takes no more.
 pub(crate) fn one_task(task: u16) -> Args
     ensures task { result ≡ one_task task }
-    ensures enable { FitsCallback Enable (given result) }
-    ensures running { FitsCallback Running (given result) }
+    ensures enable { FitsCallback Enable (program_arguments result) }
+    ensures running { FitsCallback Running (program_arguments result) }
 {
     Args {
         first: World::pointer(task),
@@ -129,7 +129,7 @@ pub(crate) fn one_task(task: u16) -> Args
 /// A task, the processor on which it ran last, and 0.
 pub(crate) fn task_cpu_and_0(task: u16, cpu: u32) -> Args
     ensures all { result ≡ task_cpu_and_0 task cpu }
-    ensures select_cpu { FitsCallback SelectCpu (given result) }
+    ensures select_cpu { FitsCallback SelectCpu (program_arguments result) }
 {
     Args {
         first: World::pointer(task),
@@ -141,8 +141,8 @@ pub(crate) fn task_cpu_and_0(task: u16, cpu: u32) -> Args
 /// A task and a number.
 pub(crate) fn task_and_number(task: u16, number: u64) -> Args
     ensures both { result ≡ task_and_number task number }
-    ensures enqueue { FitsCallback Enqueue (given result) }
-    ensures stopping { FitsCallback Stopping (given result) }
+    ensures enqueue { FitsCallback Enqueue (program_arguments result) }
+    ensures stopping { FitsCallback Stopping (program_arguments result) }
 {
     Args {
         first: World::pointer(task),
@@ -163,7 +163,7 @@ fn task_or_0(task: Option<u16>) -> Arg
 /// A processor, and the task before or 0.
 pub(crate) fn cpu_and_task(cpu: u32, before: Option<u16>) -> Args
     ensures both { result ≡ cpu_and_task cpu before }
-    ensures dispatch { FitsCallback Dispatch (given result) }
+    ensures dispatch { FitsCallback Dispatch (program_arguments result) }
 {
     Args {
         first: Arg::Num(u64::from(cpu)),
@@ -211,12 +211,12 @@ impl Machine {
         cpu: u32,
         sink: &mut S,
     ) -> u64
-        requires arguments { FitsCallback callback (given arguments) }
+        requires arguments { FitsCallback callback (program_arguments arguments) }
         requires room { HasRoom callback_pushes self.old }
         ensures answer { Some result ≡ answered_by self.old callback arguments task cpu }
         ensures does { Does S.takes callback_pushes (call_back self.old callback arguments task cpu)
             self.old sink.old self.new sink.new }
-        ensures calm { is_calm callback ≡ true → committed self.new ≤ committed self.old }
+        ensures calm { is_calm callback ≡ true → pushes_due self.new ≤ pushes_due self.old }
     {
         self.world.begin(callback, task, cpu);
         let answer = run_callback(

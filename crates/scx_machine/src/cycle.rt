@@ -2,7 +2,7 @@ ghost use Rattle.std.specs.Prelude.{◌*◌};
 ghost use Rattle.scx_machine.specs.Budgets.{HasRoom, ask_pushes, builtin_ask_pushes, builtin_cycle_pushes, builtin_dispatch_pushes, callback_pushes, cycle_pushes, dispatch_pushes, fill_pushes, leave_pushes, pick_pushes, swap_pushes};
 ghost use Rattle.scx_machine.specs.Does.{Does};
 ghost use Rattle.scx_machine.specs.Filling.{fill};
-ghost use Rattle.scx_machine.specs.Cycle.{dispatched, tries, stopping, running_on, leave, start, rest, swap, swap_or_rest, builtin_dispatch, builtin_fill, builtin_ask, builtin_cycle, start_or_cycle, pick, pick_or_rest, conclude, ask, seek, look, cycle};
+ghost use Rattle.scx_machine.specs.Cycle.{after_dispatch, tries, stopping, running_on, leave, start, rest, swap, swap_or_rest, builtin_dispatch, builtin_fill, builtin_ask, builtin_cycle, start_or_cycle, pick, pick_or_rest, conclude, ask, seek, look, cycle};
 
 use crate::callbacks::{cpu_and_task, one_task, task_and_number};
 use crate::machine::Machine;
@@ -24,10 +24,10 @@ impl Machine {
     }
 
     /// Asks dispatch once, and then supplies the local queue.
-    #[tactic(auto, unfolding(crate::specs::Cycle::dispatched), using(crate::proofs::Taking::takings))]
+    #[tactic(auto, unfolding(crate::specs::Cycle::after_dispatch), using(crate::proofs::Taking::takings))]
     fn dispatch<S: Sink>(&mut self, cpu: u32, before: Option<u16>, sink: &mut S)
         requires { HasRoom dispatch_pushes self.old }
-        ensures { Does S.takes dispatch_pushes (dispatched self.old cpu before)
+        ensures { Does S.takes dispatch_pushes (after_dispatch self.old cpu before)
             self.old sink.old self.new sink.new }
     {
         self.call_back(Callback::Dispatch, cpu_and_task(cpu, before), 0, cpu, sink);

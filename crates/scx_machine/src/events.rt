@@ -8,7 +8,7 @@ ghost use Rattle.scx_machine.specs.Notes.{Takes};
 ghost use Rattle.scx_semantics.specs.declared.callbacks.Callback.TheVariants.{SelectCpu};
 ghost use Rattle.scx_machine.specs.Callbacks.{acting, AreAnswered};
 ghost use Rattle.scx_machine.specs.declared.events.Event.TheVariants.{Wake, Sleep, SetWeight};
-ghost use Rattle.scx_machine.specs.Events.{refusal, target, settled, settle, select, wake, sleep_from_cpu, sleep, throttle, expire, count_down, tick, overdue, stalled, clock, happened};
+ghost use Rattle.scx_machine.specs.Events.{refusal, target, insert_or_put, settle, select, wake, sleep_from_cpu, sleep, throttle, expire, count_down, tick, overdue, eject_if_stalled, clock, event_step};
 
 use crate::callbacks::task_cpu_and_0;
 use crate::machine::Machine;
@@ -139,7 +139,7 @@ impl Machine {
     #[tactic(auto, using(crate::proofs::Taking::takings))]
     fn apply_or_put<S: Sink>(&mut self, task: u16, cpu: u32, sink: &mut S)
         requires { HasRoom put_pushes self.old }
-        ensures { Does S.takes put_pushes (settled self.old.world.call.insert self.old task cpu)
+        ensures { Does S.takes put_pushes (insert_or_put self.old.world.call.insert self.old task cpu)
             self.old sink.old self.new sink.new }
     {
         match self.world.insert() {
@@ -293,7 +293,7 @@ impl Machine {
     #[tactic(auto, using(crate::proofs::Taking::takings))]
     fn watch<S: Sink>(&mut self, sink: &mut S)
         requires { HasRoom eject_pushes self.old }
-        ensures { Does S.takes eject_pushes (stalled (overdue self.old) self.old)
+        ensures { Does S.takes eject_pushes (eject_if_stalled (overdue self.old) self.old)
             self.old sink.old self.new sink.new }
     {
         if let Some(task) = self.overdue() {
@@ -324,7 +324,7 @@ impl Machine {
         requires runs { (t : ℕ) → (task_at self.old.world t).run_ns < 2 ^ 63 }
         requires used { (g : ℕ) → usage_of self.old.world.tree g < 2 ^ 63 }
         requires room { HasRoom event_pushes self.old }
-        ensures { Does S.takes event_pushes (happened self.old event)
+        ensures { Does S.takes event_pushes (event_step self.old event)
             self.old sink.old self.new sink.new }
     {
         match event {

@@ -1,6 +1,6 @@
 //! Tasks that may not run: they are parked, and let go once periods begin.
 ghost use Rattle.std.specs.Prelude.{◌≡◌, ℕ, ◌+◌, ◌*◌, ◌≤◌};
-ghost use Rattle.scx_machine.specs.Budgets.{HasRoom, CanLetGo, clear_pushes, committed, eject_pushes, enter_pushes, let_go_pushes, put_pushes, supply_pushes};
+ghost use Rattle.scx_machine.specs.Budgets.{HasRoom, CanLetGo, clear_pushes, pushes_due, eject_pushes, enter_pushes, let_go_pushes, put_pushes, supply_pushes};
 ghost use Rattle.scx_machine.specs.Does.{Does};
 ghost use Rattle.scx_machine.specs.Parking.{park, park_front, throttled_front, park_fronts, clear, supply, let_go_one, let_go_from, let_all_go};
 
@@ -109,7 +109,7 @@ impl Machine {
         requires { HasRoom put_pushes self.old }
         ensures does { Does S.takes put_pushes (let_go_one self.old task)
             self.old sink.old self.new sink.new }
-        ensures committed { committed self.new ≤ committed self.old + enter_pushes }
+        ensures committed { pushes_due self.new ≤ pushes_due self.old + enter_pushes }
     {
         let cpu = self.world.task(task).prev_cpu;
         self.world.let_go(task);
@@ -123,7 +123,7 @@ impl Machine {
         requires { CanLetGo left self.old }
         ensures does { Does S.takes (eject_pushes + enter_pushes * left) (let_go_from left self.old at)
             self.old sink.old self.new sink.new }
-        ensures committed { committed self.new ≤ committed self.old + enter_pushes * left }
+        ensures committed { pushes_due self.new ≤ pushes_due self.old + enter_pushes * left }
     {
         if left == 0 {
             return;

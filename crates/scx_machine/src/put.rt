@@ -1,7 +1,7 @@
 ghost use Rattle.std.specs.Prelude.{◌≡◌, ◌+◌, ◌≤◌};
-ghost use Rattle.scx_machine.specs.Budgets.{HasRoom, committed, enter_pushes, put_pushes};
+ghost use Rattle.scx_machine.specs.Budgets.{HasRoom, pushes_due, enter_pushes, put_pushes};
 ghost use Rattle.scx_machine.specs.Does.{Does};
-ghost use Rattle.scx_machine.specs.Put.{enters, wanted, enters_builtin, comes_in, put};
+ghost use Rattle.scx_machine.specs.Put.{enters, enqueue_choice, enters_builtin, comes_in, put};
 
 use crate::callbacks::task_and_number;
 use crate::machine::Machine;
@@ -23,7 +23,7 @@ impl Machine {
 
     /// Where enqueue wanted the task at hand to wait, for that processor.
     fn wanted(&self, cpu: u32) -> Insert
-        ensures { result ≡ wanted self.now.policy.callbacks.enqueue cpu self.now.world.call.insert }
+        ensures { result ≡ enqueue_choice self.now.policy.callbacks.enqueue cpu self.now.world.call.insert }
     {
         if self.policy.program(Callback::Enqueue).is_none() {
             return Insert::global();
@@ -65,7 +65,7 @@ impl Machine {
         requires { HasRoom put_pushes self.old }
         ensures does { Does S.takes put_pushes (put self.old task cpu flags)
             self.old sink.old self.new sink.new }
-        ensures committed { committed self.new ≤ committed self.old + enter_pushes }
+        ensures committed { pushes_due self.new ≤ pushes_due self.old + enter_pushes }
     {
         self.call_back(
             Callback::Enqueue,

@@ -5,7 +5,7 @@ ghost use Rattle.scx_machine.specs.declared.start.NewError.TheVariants.{OutOfMem
 ghost use Rattle.scx_machine.specs.Policy.{IsTimeout, AreAs};
 ghost use Rattle.scx_machine.specs.Budgets.{HasRoom, enable_pushes, program_pushes, start_pushes};
 ghost use Rattle.scx_machine.specs.Callbacks.{AreAnswered};
-ghost use Rattle.scx_machine.specs.Start.{is_bad_shape, blank, fault_answer, initialized, enable, enabled, all_enabled, started, IsRefusal, init_calls, enable_calls, calls_below, calls_after_init, start_calls, AreAnsweredBefore};
+ghost use Rattle.scx_machine.specs.Start.{is_bad_shape, blank, fault_answer, after_init, enable, after_enables, all_enabled, first_state, IsRefusal, init_calls, enable_calls, calls_below, calls_after_init, start_calls, AreAnsweredBefore};
 
 use crate::callbacks::{one_task, run_callback};
 use crate::machine::Machine;
@@ -51,7 +51,7 @@ impl Machine {
     /// then init runs.
     pub fn new(alloc: Global, policy: Policy, tree: Tree, cpus: usize) -> Result<Machine, NewError>
         ensures shape { OnOk result (is_bad_shape tree cpus ≡ false) }
-        ensures made { IfOk result (λ machine. started policy tree cpus ≡ Ok machine) }
+        ensures made { IfOk result (λ machine. first_state policy tree cpus ≡ Ok machine) }
         ensures few { IfOk result (λ machine. machine.world.queues.pushes ≤ start_pushes) }
         ensures flags { OnOk result (length tree.active ≡ length tree.homes) }
         ensures timeout { OnOk result (IsTimeout policy.timeout_ms) }
@@ -108,22 +108,22 @@ impl Machine {
     #[tactic(auto, using(crate::proofs::Taking::answered_append))]
     fn begin(&mut self) -> Result<(), i64>
         requires { self.old.world.queues.pushes ≡ 0 }
-        ensures done { OnOk result (all_enabled (initialized self.old) ≡ Ok self.new) }
-        ensures failed { IfErr result (λ answer. all_enabled (initialized self.old) ≡ Err answer) }
+        ensures done { OnOk result (all_enabled (after_init self.old) ≡ Ok self.new) }
+        ensures failed { IfErr result (λ answer. all_enabled (after_init self.old) ≡ Err answer) }
         ensures few { self.new.world.queues.pushes ≤ start_pushes }
         ensures answered { AreAnswered
-            (init_calls self.old ++ calls_after_init (initialized self.old)) }
+            (init_calls self.old ++ calls_after_init (after_init self.old)) }
     {
         self.initialize()?;
         self.enable_all()
     }
 
     /// Runs init. Where it fails, answers the number that stands for it.
-    #[tactic(auto, unfolding(crate::specs::Start::initialized))]
+    #[tactic(auto, unfolding(crate::specs::Start::after_init))]
     fn initialize(&mut self) -> Result<(), i64>
         requires { HasRoom program_pushes self.old }
-        ensures done { OnOk result (initialized self.old ≡ Ok self.new) }
-        ensures failed { IfErr result (λ answer. initialized self.old ≡ Err answer) }
+        ensures done { OnOk result (after_init self.old ≡ Ok self.new) }
+        ensures failed { IfErr result (λ answer. after_init self.old ≡ Err answer) }
         ensures few { self.new.world.queues.pushes ≤ self.old.world.queues.pushes + program_pushes }
         ensures answered { AreAnswered (init_calls self.old) }
     {
@@ -151,8 +151,8 @@ impl Machine {
     fn enable_all(&mut self) -> Result<(), i64>
         requires { HasRoom enable_pushes self.old }
         ensures done { OnOk result
-            (enabled (length self.old.world.tasks) self.old ≡ Some self.new) }
-        ensures failed { OnErr result (enabled (length self.old.world.tasks) self.old ≡ None) }
+            (after_enables (length self.old.world.tasks) self.old ≡ Some self.new) }
+        ensures failed { OnErr result (after_enables (length self.old.world.tasks) self.old ≡ None) }
         ensures answer { IfErr result (λ answer. answer ≡ fault_answer) }
         ensures few { self.new.world.queues.pushes ≤ self.old.world.queues.pushes + enable_pushes }
         ensures answered { AreAnswered (calls_below (length self.old.world.tasks) self.old) }

@@ -7,7 +7,7 @@ use Rattle.scx_maps.specs.declared.shape.Shape.{Shape}
 use Rattle.scx_maps.specs.Limits.{total_bytes}
 use Rattle.scx_semantics.specs.Elements.{Maps, elements, element, with_element}
 use Rattle.scx_maps.specs.Layout.{contents_in, shape_at, offset_of, IsBlockOf}
-use Rattle.scx_maps.specs.Lending.{written_over, spilled, given_back}
+use Rattle.scx_maps.specs.Lending.{written_over, with_bytes_from, given_back}
 use Rattle.scx_maps.proofs.Over.{over}
 use Rattle.scx_maps.proofs.Blocks.{map_there, element_is_there, value_of-contents_in, contents_in-over, offset_of-fits, all_bytes-contents_in, shapes_of-contents_in}
 
@@ -39,7 +39,7 @@ pub lent : (shapes : List Shape) (m index : ℕ) (w block : List ℕ) → IsBloc
 lent shapes m index w block holds below within = go _ refl
   where
     same : contents_in shapes (take (length block) (over (offset_of shapes m index) w block))
-        ≡ spilled (contents_in shapes block) m index w
+        ≡ with_bytes_from (contents_in shapes block) m index w
     same =
         let all = all_bytes-contents_in shapes block ∙ take_all (total_bytes shapes) block (omega (arith, holds.full)) in
         let those = shapes_of-contents_in shapes block holds.limits.each (omega (arith, holds.full)) in
@@ -47,7 +47,7 @@ lent shapes m index w block holds below within = go _ refl
 
     go : (b : Bool) → (length w == length (element (contents_in shapes block) m index)) ≡ b
         → contents_in shapes (kept (offset_of shapes m index) w block)
-        ≡ (if b then with_element (contents_in shapes block) m index w else spilled (contents_in shapes block) m index w)
+        ≡ (if b then with_element (contents_in shapes block) m index w else with_bytes_from (contents_in shapes block) m index w)
     go true e =
         let long : length w ≡ (shape_at shapes m).value_size = eqb-true _ _ e ∙ length-value_of shapes m index block (omega (arith, holds.full)) below within in
         let full : length (over (offset_of shapes m index) w block) ≡ length block =

@@ -25,7 +25,7 @@ program_of p b = at p.programs b
 abbrev pub without : PolicyFile → Callback → PolicyFile
 without p b = record p { programs = with_at p.programs b None }
 
--- the keys of callbacks
+-- the names of callbacks, which are their keys in a policy file; a plain program has no key there
 abbrev pub callback_name : Callback → List ℕ
 callback_name callback.Plain = codes "plain"
 callback_name callback.Init = codes "init"

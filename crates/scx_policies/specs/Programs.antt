@@ -25,13 +25,13 @@ with_each read (b ∷ bs) p = read b p >>= λ code. with_each read bs (with_at p
 -- ---- in `code`
 
 -- the program that an assembler text gave, or else its first fault and line, at that path
-abbrev pub assembled : List ℕ → Result Code (AsmFault × ℕ) → Reading (Option Code)
-assembled path (Ok code) = Ok (Some code)
-assembled path (Err e) = refusal path (cause.Asm e.0 e.1)
+abbrev pub from_assembly : List ℕ → Result Code (AsmFault × ℕ) → Reading (Option Code)
+from_assembly path (Ok code) = Ok (Some code)
+from_assembly path (Err e) = refusal path (cause.Asm e.0 e.1)
 
 -- the program that the value at a path spells in assembler
 abbrev pub code_of : List ℕ → Data → Reading (Option Code)
-code_of path d = text_of path d >>= λ text. assembled path (read_text text)
+code_of path d = text_of path d >>= λ text. from_assembly path (read_text text)
 
 -- the program at a callback's key in the table `code`; none where the key is absent
 abbrev pub code_at : Members → Callback → Reading (Option Code)
@@ -53,22 +53,22 @@ without_blanks [] = []
 without_blanks (b ∷ bytes) = if is_blank b then without_blanks bytes else b ∷ without_blanks bytes
 
 -- the program that bytes gave, or else their first fault and its slot, at that path
-abbrev pub decoded : List ℕ → Result Code (DecodeFault × ℕ) → Reading (Option Code)
-decoded path (Ok code) = Ok (Some code)
-decoded path (Err e) = refusal path (cause.Decode e.0 e.1)
+abbrev pub from_slots : List ℕ → Result Code (DecodeFault × ℕ) → Reading (Option Code)
+from_slots path (Ok code) = Ok (Some code)
+from_slots path (Err e) = refusal path (cause.Decode e.0 e.1)
 
 -- the bytes that pairs of hexadecimal digits gave; a text that isn't such pairs is refused
-abbrev pub paired : List ℕ → Result (List ℕ) FromHexError → Reading (List ℕ)
-paired path (Ok bytes) = Ok bytes
-paired path (Err e) = refusal path cause.BadHex
+abbrev pub from_hex : List ℕ → Result (List ℕ) FromHexError → Reading (List ℕ)
+from_hex path (Ok bytes) = Ok bytes
+from_hex path (Err e) = refusal path cause.BadHex
 
 -- the program whose slots the text at a path spells
-abbrev pub spelled : List ℕ → List ℕ → Reading (Option Code)
-spelled path text = paired path (decode_of (without_blanks text)) >>= λ bytes. decoded path (read_program bytes)
+abbrev pub program_of_hex : List ℕ → List ℕ → Reading (Option Code)
+program_of_hex path text = from_hex path (decode_of (without_blanks text)) >>= λ bytes. from_slots path (read_program bytes)
 
 -- the program whose slots the value at a path spells, where the callback has no program yet
 abbrev pub slots_of : Option Code → List ℕ → Data → Reading (Option Code)
-slots_of None path d = text_of path d >>= spelled path
+slots_of None path d = text_of path d >>= program_of_hex path
 slots_of (Some code) path d = refusal path cause.Twice
 
 -- a callback's program after its key in the table `slots`; where that is absent, the one before

@@ -3,7 +3,7 @@ ghost use Rattle.toml.specs.View.{view, table_view};
 ghost use Rattle.scx_files.specs.Faults.{Gives};
 ghost use Rattle.scx_files.specs.Paths.{below};
 ghost use Rattle.hex.specs.Hex.{decode_of};
-ghost use Rattle.scx_policies.specs.Programs.{code_at, with_code, is_blank, without_blanks, spelled, slots_at, with_slots, paired};
+ghost use Rattle.scx_policies.specs.Programs.{code_at, with_code, is_blank, without_blanks, program_of_hex, slots_at, with_slots, from_hex};
 
 use crate::policy_text::{Programs, callback_name};
 use hex::FromHexError;
@@ -95,7 +95,7 @@ fn slots_at(
 
 /// The program whose slots the text spells in pairs of hexadecimal digits.
 fn spelled(alloc: Global, path: &str, key: &str, text: &str) -> Result<Option<Program>, LoadError>
-    ensures { Gives (λ p. p) result (spelled (below path.now key.now) text.now) }
+    ensures { Gives (λ p. p) result (program_of_hex (below path.now key.now) text.now) }
 {
     let bytes = bytes_in(alloc, path, key, text)?;
     match decode(alloc, &bytes) {
@@ -109,7 +109,7 @@ fn spelled(alloc: Global, path: &str, key: &str, text: &str) -> Result<Option<Pr
 
 fn bytes_in(alloc: Global, path: &str, key: &str, text: &str) -> Result<Vec<u8>, LoadError>
     ensures { Gives (λ bytes. bytes.items) result
-        (paired (below path.now key.now) (decode_of (without_blanks text.now))) }
+        (from_hex (below path.now key.now) (decode_of (without_blanks text.now))) }
 {
     let digits = without_blanks(alloc, text)?;
     match hex::decode(alloc, &digits) {

@@ -7,7 +7,7 @@ use Rattle.scx_semantics.specs.declared.operations.Width.TheVariants.{Bits32, Bi
 use Rattle.scx_semantics.specs.declared.operations.Operation.{Operation}
 use Rattle.scx_semantics.specs.declared.operations.Extension.TheVariants.{Low8To32, Low16To32, Low8To64, Low16To64, Low32To64}
 use Rattle.scx_semantics.specs.declared.operations.Access.TheVariants as access
-use Rattle.scx_semantics.specs.Arithmetic.{low, compute, negated, extended, byte_swapped}
+use Rattle.scx_semantics.specs.Arithmetic.{low, compute, negative, sign_extension, byte_swapped}
 use Rattle.scx_semantics.specs.Memory.{read_as}
 use Rattle.scx_semantics.proofs.Numbers.{operated, low_fits, compute_below, negated_below, extended_below, byte_swapped_below}
 use Rattle.scx_semantics.proofs.Bytes.{read_as_below}
@@ -135,27 +135,27 @@ pub copies_are_sound : CopiesAreSound
 copies_are_sound Bits32 = images (low Bits32) words words_range (λ n p. in_words (low Bits32 n) (low_fits Bits32 n p))
 copies_are_sound Bits64 = record { kept = λ r n wr h. h; ranges = λ r wr. wr; grow = λ r' r wr' wr c. c }
 
-negated_word : (n : ℕ) → negated Bits32 n < 2 ^ 32
+negated_word : (n : ℕ) → negative Bits32 n < 2 ^ 32
 negated_word n = omega arith
 
 -- what is known of a negation, of either width, holds its results, is a range and grows
 pub negatives_are_sound : NegativesAreSound
-negatives_are_sound Bits32 = images (negated Bits32) words words_range (λ n p. in_words (negated Bits32 n) (negated_word n))
-negatives_are_sound Bits64 = images (negated Bits64) all all_range (λ n p. in_all (negated Bits64 n) (negated_below Bits64 n))
+negatives_are_sound Bits32 = images (negative Bits32) words words_range (λ n p. in_words (negative Bits32 n) (negated_word n))
+negatives_are_sound Bits64 = images (negative Bits64) all all_range (λ n p. in_all (negative Bits64 n) (negated_below Bits64 n))
 
-extended_8 : (n : ℕ) → extended Low8To32 n < 2 ^ 32
+extended_8 : (n : ℕ) → sign_extension Low8To32 n < 2 ^ 32
 extended_8 n = omega (arith, ints)
 
-extended_16 : (n : ℕ) → extended Low16To32 n < 2 ^ 32
+extended_16 : (n : ℕ) → sign_extension Low16To32 n < 2 ^ 32
 extended_16 n = omega (arith, ints)
 
 -- what is known of a move that extends a sign holds its results, is a range and grows
 pub extensions_are_sound : ExtensionsAreSound
-extensions_are_sound Low8To32 = images (extended Low8To32) words words_range (λ n p. in_words (extended Low8To32 n) (extended_8 n))
-extensions_are_sound Low16To32 = images (extended Low16To32) words words_range (λ n p. in_words (extended Low16To32 n) (extended_16 n))
-extensions_are_sound Low8To64 = images (extended Low8To64) all all_range (λ n p. in_all (extended Low8To64 n) (extended_below Low8To64 n))
-extensions_are_sound Low16To64 = images (extended Low16To64) all all_range (λ n p. in_all (extended Low16To64 n) (extended_below Low16To64 n))
-extensions_are_sound Low32To64 = images (extended Low32To64) all all_range (λ n p. in_all (extended Low32To64 n) (extended_below Low32To64 n))
+extensions_are_sound Low8To32 = images (sign_extension Low8To32) words words_range (λ n p. in_words (sign_extension Low8To32 n) (extended_8 n))
+extensions_are_sound Low16To32 = images (sign_extension Low16To32) words words_range (λ n p. in_words (sign_extension Low16To32 n) (extended_16 n))
+extensions_are_sound Low8To64 = images (sign_extension Low8To64) all all_range (λ n p. in_all (sign_extension Low8To64 n) (extended_below Low8To64 n))
+extensions_are_sound Low16To64 = images (sign_extension Low16To64) all all_range (λ n p. in_all (sign_extension Low16To64 n) (extended_below Low16To64 n))
+extensions_are_sound Low32To64 = images (sign_extension Low32To64) all all_range (λ n p. in_all (sign_extension Low32To64 n) (extended_below Low32To64 n))
 
 -- what is known of a byte swap holds its results, is a range and grows
 pub swaps_are_sound : SwapsAreSound

@@ -11,12 +11,12 @@ use Rattle.scx_ranges.specs.declared.ranges.Range.{Range}
 use Rattle.scx_ranges.specs.declared.steps.Step.TheVariants.{One}
 use Rattle.scx_ranges.specs.Ranges.{IsRange, join_ranges}
 use Rattle.scx_ranges.specs.Steps.{step_of}
-use Rattle.scx_ranges.specs.Kept.{IsKept, range_of}
+use Rattle.scx_ranges.specs.Kept.{IsKeptRange, range_of}
 use Rattle.scx_ranges.specs.Cuts.{cut}
 use Rattle.scx_ranges.specs.Laws.{IsCutRange}
-use Rattle.scx_ranges.specs.Results.{computed_at, copied, negated_range, extended_range, swapped_range, loaded}
-use Rattle.scx_ranges.specs.Offsets.{moved, advanced}
-use Rattle.scx_ranges.specs.OffsetLaws.{IsWithin}
+use Rattle.scx_ranges.specs.Results.{computed_at, move_range, negated_range, extended_range, swapped_range, loaded_range}
+use Rattle.scx_ranges.specs.Offsets.{offsets_plus_constant, offsets_plus_range}
+use Rattle.scx_ranges.specs.OffsetLaws.{IsInElement}
 use Rattle.scx_ranges.proofs.KeptRanges.{kept_range, kept_parts}
 use Rattle.scx_ranges.proofs.Order.{join_is_least_cover}
 use Rattle.scx_ranges.proofs.KeptByCuts.{cuts_are_ranges}
@@ -41,10 +41,10 @@ joined_finely r s wr ws e =
 
 -- where one of two ranges has the step 1, their join may be kept by its ends and the step 1
 pub joined_fine_parts : (r s : Range) → IsRange r → IsRange s → min r.shift s.shift ≡ 0
-    → IsKept (min r.low s.low) (max r.high s.high) One
+    → IsKeptRange (min r.low s.low) (max r.high s.high) One
 joined_fine_parts r s wr ws e =
     let q = join_ranges r s in
-    subst (IsKept q.low q.high) (finest (nat_eq q.low q.high) q.shift e) (kept_parts q (joined_range r s wr ws))
+    subst (IsKeptRange q.low q.high) (finest (nat_eq q.low q.high) q.shift e) (kept_parts q (joined_range r s wr ws))
 
 -- what a cut leaves is a range
 pub cut_range : (o : Comparison) (b : Bool) (c : ℕ) (r q : Range) → IsRange r → cut o b c r ≡ Some q → IsRange q
@@ -55,7 +55,7 @@ pub computed_range : (w : Width) (o : Operation) (r s : Range) → IsRange r →
 computed_range w o r s wr ws = (arithmetic_is_sound w o).ranges r s wr ws
 
 -- what is known of a move of members of a range is a range
-pub copied_range : (w : Width) (r : Range) → IsRange r → IsRange (copied w r)
+pub copied_range : (w : Width) (r : Range) → IsRange r → IsRange (move_range w r)
 copied_range w r wr = (copies_are_sound w).ranges r wr
 
 -- what is known of the negation of members of a range is a range
@@ -71,17 +71,17 @@ pub swap_range : (o : ByteOrder) (w : SwapWidth) (r : Range) → IsRange r → I
 swap_range o w r wr = (swaps_are_sound o w).ranges r wr
 
 -- what is known of a load of a number is a range
-pub load_range : (a : Access) → IsRange (loaded a)
+pub load_range : (a : Access) → IsRange (loaded_range a)
 load_range a = (loads_are_sound a).range
 
 -- offsets in an element of less than 2^64 bytes
-range_within : (size : ℕ) (q : Range) → size < 2 ^ 64 → IsWithin size (Some q) → IsRange q × (q.high ≤ size)
+range_within : (size : ℕ) (q : Range) → size < 2 ^ 64 → IsInElement size (Some q) → IsRange q × (q.high ≤ size)
 range_within size q f h = (record { formed = h.0; fits = omega (arith, f, h.1) }, h.1)
 
 -- offsets that were moved by a constant are a range up to the element's size
-pub moved_within : (size : ℕ) (r q : Range) (k : ℤ) → IsRange r → size < 2 ^ 64 → moved size r k ≡ Some q → IsRange q × (q.high ≤ size)
-moved_within size r q k w f e = range_within size q f (subst (IsWithin size) e (moves_stay_within size r k w.formed))
+pub moved_within : (size : ℕ) (r q : Range) (k : ℤ) → IsRange r → size < 2 ^ 64 → offsets_plus_constant size r k ≡ Some q → IsRange q × (q.high ≤ size)
+moved_within size r q k w f e = range_within size q f (subst (IsInElement size) e (moves_stay_within size r k w.formed))
 
 -- offsets that were moved by a range of numbers are a range up to the element's size
-pub advanced_within : (size : ℕ) (r s q : Range) → IsRange r → IsRange s → size < 2 ^ 64 → advanced size r s ≡ Some q → IsRange q × (q.high ≤ size)
-advanced_within size r s q wr ws f e = range_within size q f (subst (IsWithin size) e (advances_stay_within size r s wr.formed ws.formed))
+pub advanced_within : (size : ℕ) (r s q : Range) → IsRange r → IsRange s → size < 2 ^ 64 → offsets_plus_range size r s ≡ Some q → IsRange q × (q.high ≤ size)
+advanced_within size r s q wr ws f e = range_within size q f (subst (IsInElement size) e (advances_stay_within size r s wr.formed ws.formed))

@@ -3,12 +3,12 @@
 use Rattle.std.proofs.Common.{◌≡◌, ◌≢◌, ℕ, suc, ◌+◌, ◌-◌, ◌%◌, ◌^◌, ◌<◌, ◌≤◌, ℤ, pos, negsuc, unsigned_abs, min, Bool, true, false, ◌||◌, nat_eq, nat_le, nat_lt, Option, Some, None, is_some, if◌then◌else◌, refl, sym, ap, subst, ◌∙◌, arith}
 use Rattle.std.proofs.lemmas.Bool.{eqb-true, eqb-false, ltb-true, leb-true, and_parts, and_from, le-leb, lt-ltb, eq-eqb}
 use Rattle.scx_semantics.specs.declared.operations.Size.TheVariants as size
-use Rattle.scx_semantics.specs.Arithmetic.{shifted}
+use Rattle.scx_semantics.specs.Arithmetic.{at_distance}
 use Rattle.scx_semantics.specs.Memory.{within, size_bytes}
 use Rattle.scx_ranges.specs.declared.ranges.Range.{Range}
 use Rattle.scx_ranges.specs.Ranges.{IsIn, IsWellFormed, CoversRange, trailing, between, is_single}
-use Rattle.scx_ranges.specs.Offsets.{between_some, moved, advanced, ends_within, are_inside, is_multiple, are_aligned}
-use Rattle.scx_ranges.specs.OffsetLaws.{IsMoved, IsAdvanced, IsWithin, PassesMove, MovesAreSound, MovesAreExact, MovesStayWithin, MovesAreMonotone, AdvancesAreSound, AdvancesAreExact, AdvancesStayWithin, AdvancesAreMonotone, AllInside, AllAligned, InsideIsExact, AlignedIsExact, AccessesAreMonotone}
+use Rattle.scx_ranges.specs.Offsets.{between_some, offsets_plus_constant, offsets_plus_range, ends_within, are_inside, is_multiple, are_aligned}
+use Rattle.scx_ranges.specs.OffsetLaws.{IsMoved, IsAdvanced, IsInElement, PassesMove, MovesAreSound, MovesAreExact, MovesStayWithin, MovesAreMonotone, AdvancesAreSound, AdvancesAreExact, AdvancesStayWithin, AdvancesAreMonotone, AllInside, AllAligned, InsideIsExact, AlignedIsExact, AccessesAreMonotone}
 use Rattle.scx_ranges.proofs.Multiples.{by_bool, by_shift, if_case, in_between, multiple_between, between_formed, multiples_added, multiples_taken, multiple_of_less, trailing_divides}
 use Rattle.scx_ranges.proofs.Order.{covers_in, members_cover, low_in, high_in, next_in}
 use Rattle.scx_ranges.proofs.KeptByCuts.{strictly}
@@ -21,18 +21,18 @@ some_is x y e = cc
 none_is : {P : Type 0} (y : ℕ) → None ≡ Some y → P
 none_is y e = absurd (cc)
 
-fewer : (n k x : ℕ) → shifted n (negsuc k) ≡ Some x → (k < n) × (x ≡ n - suc k)
+fewer : (n k x : ℕ) → at_distance n (negsuc k) ≡ Some x → (k < n) × (x ≡ n - suc k)
 fewer n k x = go (nat_lt k n) refl
   where
     go : (b : Bool) → nat_lt k n ≡ b → (if b then Some (n - suc k) else None) ≡ Some x → (k < n) × (x ≡ n - suc k)
     go true e f = (ltb-true k n e, sym (some_is (n - suc k) x f))
     go false e f = none_is x f
 
-reached : (n k : ℕ) → k < n → shifted n (negsuc k) ≡ Some (n - suc k)
+reached : (n k : ℕ) → k < n → at_distance n (negsuc k) ≡ Some (n - suc k)
 reached n k l = ap (λ b. if b then Some (n - suc k) else None) (lt-ltb k n l)
 
 -- a greater offset has one too, greater by as much
-shift_up : (n m x : ℕ) (k : ℤ) → n ≤ m → shifted n k ≡ Some x → shifted m k ≡ Some (x + (m - n))
+shift_up : (n m x : ℕ) (k : ℤ) → n ≤ m → at_distance n k ≡ Some x → at_distance m k ≡ Some (x + (m - n))
 shift_up n m x (pos k) l e = let here : n + k ≡ x = some_is (n + k) x e in ap Some (omega arith)
 shift_up n m x (negsuc k) l e =
     let f = fewer n k x e in
@@ -40,10 +40,10 @@ shift_up n m x (negsuc k) l e =
     let here : x ≡ n - suc k = f.1 in
     reached m k (omega arith) ∙ ap Some (omega arith)
 
-shift_gap : (n m x y : ℕ) (k : ℤ) → n ≤ m → shifted n k ≡ Some x → shifted m k ≡ Some y → y ≡ x + (m - n)
+shift_gap : (n m x y : ℕ) (k : ℤ) → n ≤ m → at_distance n k ≡ Some x → at_distance m k ≡ Some y → y ≡ x + (m - n)
 shift_gap n m x y k l e f = some_is y (x + (m - n)) (sym f ∙ shift_up n m x k l e)
 
-shift_order : (n m x y : ℕ) (k : ℤ) → n ≤ m → shifted n k ≡ Some x → shifted m k ≡ Some y → x ≤ y
+shift_order : (n m x y : ℕ) (k : ℤ) → n ≤ m → at_distance n k ≡ Some x → at_distance m k ≡ Some y → x ≤ y
 shift_order n m x y k l e f = let gap = shift_gap n m x y k l e f in omega arith
 
 min_left : (a b : ℕ) → min a b ≤ a
@@ -55,7 +55,7 @@ min_right a b = omega arith
 min_small : (a b : ℕ) → a ≤ 3 → min a b ≤ 3
 min_small a b l = omega arith
 
-shift_multiple : (a n x : ℕ) (k : ℤ) → a ≤ 3 → n % 2 ^ a ≡ 0 → shifted n k ≡ Some x → x % 2 ^ min a (trailing (unsigned_abs k)) ≡ 0
+shift_multiple : (a n x : ℕ) (k : ℤ) → a ≤ 3 → n % 2 ^ a ≡ 0 → at_distance n k ≡ Some x → x % 2 ^ min a (trailing (unsigned_abs k)) ≡ 0
 shift_multiple a n x (pos k) l m e =
     let s = min a (trailing k) in
     subst (λ y. y % 2 ^ s ≡ 0) (some_is (n + k) x e)
@@ -85,18 +85,18 @@ to_within size x o e l = ap (within size) e ∙ ap (λ b. if b then Some x else 
 
 -- ---- moves by a constant
 
-moved_is : (size : ℕ) (r : Range) (k : ℤ) (lo hi : ℕ) → shifted r.low k ≡ Some lo → within size (shifted r.high k) ≡ Some hi
-    → moved size r k ≡ Some (between lo hi (min r.shift (trailing (unsigned_abs k))))
+moved_is : (size : ℕ) (r : Range) (k : ℤ) (lo hi : ℕ) → at_distance r.low k ≡ Some lo → within size (at_distance r.high k) ≡ Some hi
+    → offsets_plus_constant size r k ≡ Some (between lo hi (min r.shift (trailing (unsigned_abs k))))
 moved_is size r k lo hi e f =
-    ap (λ x. between_some x (within size (shifted r.high k)) (min r.shift (trailing (unsigned_abs k)))) e
+    ap (λ x. between_some x (within size (at_distance r.high k)) (min r.shift (trailing (unsigned_abs k)))) e
     ∙ ap (λ y. between_some (Some lo) y (min r.shift (trailing (unsigned_abs k)))) f
 
 moved_case : (P : Option Range → Type 0) (size : ℕ) (r : Range) (k : ℤ) → P None
-    → ((lo hi : ℕ) → shifted r.low k ≡ Some lo → within size (shifted r.high k) ≡ Some hi → P (Some (between lo hi (min r.shift (trailing (unsigned_abs k))))))
-    → P (moved size r k)
-moved_case P size r k none some = go (shifted r.low k) (within size (shifted r.high k)) refl refl
+    → ((lo hi : ℕ) → at_distance r.low k ≡ Some lo → within size (at_distance r.high k) ≡ Some hi → P (Some (between lo hi (min r.shift (trailing (unsigned_abs k))))))
+    → P (offsets_plus_constant size r k)
+moved_case P size r k none some = go (at_distance r.low k) (within size (at_distance r.high k)) refl refl
   where
-    go : (x y : Option ℕ) → shifted r.low k ≡ x → within size (shifted r.high k) ≡ y → P (between_some x y (min r.shift (trailing (unsigned_abs k))))
+    go : (x y : Option ℕ) → at_distance r.low k ≡ x → within size (at_distance r.high k) ≡ y → P (between_some x y (min r.shift (trailing (unsigned_abs k))))
     go None y e f = none
     go (Some lo) None e f = none
     go (Some lo) (Some hi) e f = some lo hi e f
@@ -107,14 +107,14 @@ moves_are_sound size r k n w h =
     moved_case (IsMoved size n k) size r k tt
     (λ lo hi e f.
     let s = min r.shift (trailing (unsigned_abs k)) in
-    let top = within_is size (shifted r.high k) hi f in
+    let top = within_is size (at_distance r.high k) hi f in
     let here = shift_up r.low n lo k h.from_low e in
     let low = shift_order r.low n lo (lo + (n - r.low)) k h.from_low e here in
     let high : lo + (n - r.low) ≤ hi = shift_order n r.high (lo + (n - r.low)) hi k h.to_high here top.0 in
     let end : hi ≤ size = top.1 in
-    (lo + (n - r.low), to_within size (lo + (n - r.low)) (shifted n k) here (omega arith), in_between lo hi s (lo + (n - r.low)) low high (shift_multiple r.shift n (lo + (n - r.low)) k w.small h.multiple here)))
+    (lo + (n - r.low), to_within size (lo + (n - r.low)) (at_distance n k) here (omega arith), in_between lo hi s (lo + (n - r.low)) low high (shift_multiple r.shift n (lo + (n - r.low)) k w.small h.multiple here)))
 
-moved_formed : (r : Range) (k : ℤ) (lo hi : ℕ) → IsWellFormed r → shifted r.low k ≡ Some lo → shifted r.high k ≡ Some hi
+moved_formed : (r : Range) (k : ℤ) (lo hi : ℕ) → IsWellFormed r → at_distance r.low k ≡ Some lo → at_distance r.high k ≡ Some hi
     → IsWellFormed (between lo hi (min r.shift (trailing (unsigned_abs k))))
 moved_formed r k lo hi w e f =
     between_formed lo hi (min r.shift (trailing (unsigned_abs k))) (shift_order r.low r.high lo hi k w.ordered e f) (min_small r.shift (trailing (unsigned_abs k)) w.small)
@@ -123,8 +123,8 @@ moved_formed r k lo hi w e f =
 -- offsets that were moved by a constant are a range in the element, or up to its end
 pub moves_stay_within : MovesStayWithin
 moves_stay_within size r k w =
-    moved_case (IsWithin size) size r k tt
-    (λ lo hi e f. let top = within_is size (shifted r.high k) hi f in (moved_formed r k lo hi w e top.0, top.1))
+    moved_case (IsInElement size) size r k tt
+    (λ lo hi e f. let top = within_is size (at_distance r.high k) hi f in (moved_formed r k lo hi w e top.0, top.1))
 
 -- between two numbers is covered between two that are further apart
 between_covers : (lo' lo hi hi' s' s : ℕ) → IsWellFormed (between lo' hi' s') → IsWellFormed (between lo hi s) → lo' ≤ lo → hi ≤ hi' → s' ≤ s → lo % 2 ^ s ≡ 0
@@ -142,10 +142,10 @@ mins_grow a a' b f = omega arith
 -- where offsets may be moved by a constant, fewer may too, and what they give is covered
 pub moves_are_monotone : MovesAreMonotone
 moves_are_monotone size b a k wb wa c =
-    moved_case (λ q. PassesMove q (moved size a k)) size b k tt
+    moved_case (λ q. PassesMove q (offsets_plus_constant size a k)) size b k tt
     (λ lo hi e f.
     let t = trailing (unsigned_abs k) in
-    let top = within_is size (shifted b.high k) hi f in
+    let top = within_is size (at_distance b.high k) hi f in
     let end : hi ≤ size = top.1 in
     let ordered : a.low ≤ a.high = wa.ordered in
     let low : b.low ≤ a.low = c.low in
@@ -154,7 +154,7 @@ moves_are_monotone size b a k wb wa c =
     let lower = shift_order b.low a.low lo (lo + (a.low - b.low)) k low e first in
     let upper : lo + (a.high - b.low) ≤ hi = shift_order a.high b.high (lo + (a.high - b.low)) hi k c.high last top.0 in
     let within_size : lo + (a.high - b.low) ≤ size = omega arith in
-    subst (PassesMove (Some (between lo hi (min b.shift t)))) (sym (moved_is size a k (lo + (a.low - b.low)) (lo + (a.high - b.low)) first (to_within size (lo + (a.high - b.low)) (shifted a.high k) last within_size)))
+    subst (PassesMove (Some (between lo hi (min b.shift t)))) (sym (moved_is size a k (lo + (a.low - b.low)) (lo + (a.high - b.low)) first (to_within size (lo + (a.high - b.low)) (at_distance a.high k) last within_size)))
     (between_covers lo (lo + (a.low - b.low)) (lo + (a.high - b.low)) hi (min b.shift t) (min a.shift t) (moved_formed b k lo hi wb e top.0)
     (moved_formed a k (lo + (a.low - b.low)) (lo + (a.high - b.low)) wa first last) lower upper (mins_grow b.shift a.shift t c.shift)
     (shift_multiple a.shift a.low (lo + (a.low - b.low)) k wa.small wa.low_multiple first)))
@@ -188,7 +188,7 @@ advanced_formed r s wr ws =
 -- offsets that were moved by a range of numbers are a range in the element, or up to its end
 pub advances_stay_within : AdvancesStayWithin
 advances_stay_within size r s wr ws =
-    if_case (IsWithin size) (nat_le (r.high + s.high) size) (Some (between (r.low + s.low) (r.high + s.high) (min r.shift s.shift))) None
+    if_case (IsInElement size) (nat_le (r.high + s.high) size) (Some (between (r.low + s.low) (r.high + s.high) (min r.shift s.shift))) None
     (λ e. (advanced_formed r s wr ws, leb-true (r.high + s.high) size e)) (λ e. tt)
 
 least_grow : (a b c d : ℕ) → a ≤ c → b ≤ d → min a b ≤ min c d
@@ -201,7 +201,7 @@ advances_are_monotone size b d a c wb wd wa wc f g =
     let more_lows : d.low ≤ c.low = g.low in
     let highs : a.high ≤ b.high = f.high in
     let more_highs : c.high ≤ d.high = g.high in
-    if_case (λ q. PassesMove q (advanced size a c)) (nat_le (b.high + d.high) size) (Some (between (b.low + d.low) (b.high + d.high) (min b.shift d.shift))) None
+    if_case (λ q. PassesMove q (offsets_plus_range size a c)) (nat_le (b.high + d.high) size) (Some (between (b.low + d.low) (b.high + d.high) (min b.shift d.shift))) None
     (λ e.
     let l : b.high + d.high ≤ size = leb-true (b.high + d.high) size e in
     let m : a.high + c.high ≤ size = omega arith in
@@ -218,7 +218,7 @@ pub moves_are_exact : MovesAreExact
 moves_are_exact size r k w f =
     let first = f r.low (low_in r w) in
     let last = f r.high (high_in r w) in
-    let there = within_is size (shifted r.low k) first.0 first.1 in
+    let there = within_is size (at_distance r.low k) first.0 first.1 in
     ap is_some (moved_is size r k first.0 last.0 there.0 last.1)
 
 -- there is a range where each sum stays in the element
@@ -238,9 +238,9 @@ end_of size n (Some x) e = (x, refl, leb-true (x + n) size e)
 
 inside_all : (size n : ℕ) (r : Range) (k : ℤ) → are_inside size n r k ≡ true → AllInside size n r k
 inside_all size n r k e at h =
-    let both = and_parts (is_some (shifted r.low k)) (ends_within size n (shifted r.high k)) e in
-    let first = some_of (shifted r.low k) both.0 in
-    let last = end_of size n (shifted r.high k) both.1 in
+    let both = and_parts (is_some (at_distance r.low k)) (ends_within size n (at_distance r.high k)) e in
+    let first = some_of (at_distance r.low k) both.0 in
+    let last = end_of size n (at_distance r.high k) both.1 in
     let here = shift_up r.low at first.0 k h.from_low first.1 in
     let less : first.0 + (at - r.low) ≤ last.0 = shift_order at r.high (first.0 + (at - r.low)) last.0 k h.to_high here last.1 in
     let end : last.0 + n ≤ size = last.2 in
@@ -250,7 +250,7 @@ all_inside : (size n : ℕ) (r : Range) (k : ℤ) → IsWellFormed r → AllInsi
 all_inside size n r k w f =
     let first = f r.low (low_in r w) in
     let last = f r.high (high_in r w) in
-    and_from (is_some (shifted r.low k)) (ends_within size n (shifted r.high k)) (ap is_some first.1.there)
+    and_from (is_some (at_distance r.low k)) (ends_within size n (at_distance r.high k)) (ap is_some first.1.there)
     (ap (ends_within size n) last.1.there ∙ le-leb (last.0 + n) size last.1.inside)
 
 -- what is tested is that of each offset
@@ -292,8 +292,8 @@ single_here r at e h =
 
 aligned_all : (t : ℕ) (r : Range) (k : ℤ) → t ≤ 3 → IsWellFormed r → are_aligned (2 ^ t) r k ≡ true → AllAligned (2 ^ t) r k
 aligned_all t r k l w e at h =
-    let both = and_parts (is_multiple (2 ^ t) (shifted r.low k)) (is_single r || nat_eq (2 ^ r.shift % 2 ^ t) 0) e in
-    let first = multiple_of (2 ^ t) (shifted r.low k) both.0 in
+    let both = and_parts (is_multiple (2 ^ t) (at_distance r.low k)) (is_single r || nat_eq (2 ^ r.shift % 2 ^ t) 0) e in
+    let first = multiple_of (2 ^ t) (at_distance r.low k) both.0 in
     let here = shift_up r.low at first.0 k h.from_low first.1 in
     let low : r.low ≤ at = h.from_low in
     let gap : (at - r.low) % 2 ^ t ≡ 0
@@ -305,7 +305,7 @@ aligned_all t r k l w e at h =
 all_aligned : (t : ℕ) (r : Range) (k : ℤ) → t ≤ 3 → IsWellFormed r → AllAligned (2 ^ t) r k → are_aligned (2 ^ t) r k ≡ true
 all_aligned t r k l w f =
     let first = f r.low (low_in r w) in
-    and_from (is_multiple (2 ^ t) (shifted r.low k)) (is_single r || nat_eq (2 ^ r.shift % 2 ^ t) 0)
+    and_from (is_multiple (2 ^ t) (at_distance r.low k)) (is_single r || nat_eq (2 ^ r.shift % 2 ^ t) 0)
     (ap (is_multiple (2 ^ t)) first.1 ∙ eq-eqb (first.0 % 2 ^ t) 0 first.2)
     (by_bool (is_single r) (λ e. either_first (is_single r) (nat_eq (2 ^ r.shift % 2 ^ t) 0) e)
     (λ e.

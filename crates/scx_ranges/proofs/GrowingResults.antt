@@ -8,7 +8,7 @@ use Rattle.scx_semantics.specs.declared.operations.Operation.TheVariants.{Add, M
 use Rattle.scx_semantics.specs.Arithmetic.{compute}
 use Rattle.scx_ranges.specs.declared.ranges.Range.{Range}
 use Rattle.scx_ranges.specs.Ranges.{IsIn, IsRange, CoversRange, trailing, floor, between, single, all, is_single}
-use Rattle.scx_ranges.specs.Results.{added, scaled, shifted_right, masked, remainder, by_constant, spread, computed}
+use Rattle.scx_ranges.specs.Results.{sum_range, multiple_range, shifted_right, mask_range, remainder, by_constant, spread, operation_range}
 use Rattle.scx_ranges.proofs.Multiples.{if_case, in_between, multiple_between, in_all, multiples_added, multiple_of_less, floor_greatest, floor_below, trailing_small}
 use Rattle.scx_ranges.proofs.Order.{covers_in, in_covers, low_in}
 use Rattle.scx_ranges.proofs.KeptByResults.{div_grows, scaled_multiple, alone, members_are_kept}
@@ -62,11 +62,11 @@ sum_multiple r s wr ws =
     (multiple_of_less r.low r.shift (min r.shift s.shift) (least_left r.shift s.shift) wr.formed.low_multiple)
     (multiple_of_less s.low s.shift (min r.shift s.shift) (least_right r.shift s.shift) ws.formed.low_multiple)
 
-added_grows : (r' s' r s : Range) (x : ℕ) → IsRange r → IsRange s → CoversRange r' r → CoversRange s' s → x < 2 ^ 64 → IsIn x (added r s) → IsIn x (added r' s')
+added_grows : (r' s' r s : Range) (x : ℕ) → IsRange r → IsRange s → CoversRange r' r → CoversRange s' s → x < 2 ^ 64 → IsIn x (sum_range r s) → IsIn x (sum_range r' s')
 added_grows r' s' r s x wr ws c d fits =
     let lows = sum_grows r'.low r.low s'.low s.low c.low d.low in
     let highs = sum_grows r.high r'.high s.high s'.high c.high d.high in
-    if_case (λ q. IsIn x (added r s) → IsIn x q) (nat_lt (r'.high + s'.high) (2 ^ 64)) (between (r'.low + s'.low) (r'.high + s'.high) (min r'.shift s'.shift)) all
+    if_case (λ q. IsIn x (sum_range r s) → IsIn x q) (nat_lt (r'.high + s'.high) (2 ^ 64)) (between (r'.low + s'.low) (r'.high + s'.high) (min r'.shift s'.shift)) all
     (λ e.
     let small = below_through (r.high + s.high) (r'.high + s'.high) (2 ^ 64) highs (ltb-true (r'.high + s'.high) (2 ^ 64) e) in
     if_case (λ q. IsIn x q → IsIn x (between (r'.low + s'.low) (r'.high + s'.high) (min r'.shift s'.shift))) (nat_lt (r.high + s.high) (2 ^ 64)) (between (r.low + s.low) (r.high + s.high) (min r.shift s.shift)) all
@@ -76,11 +76,11 @@ added_grows r' s' r s x wr ws c d fits =
     (λ f h. let g : 2 ^ 64 ≤ r.high + s.high = ltb-false (r.high + s.high) (2 ^ 64) f in absurd (omega arith)))
     (λ e h. in_all x fits)
 
-scaled_grows : (k : ℕ) (r' r : Range) (x : ℕ) → IsRange r → CoversRange r' r → x < 2 ^ 64 → IsIn x (scaled k r) → IsIn x (scaled k r')
+scaled_grows : (k : ℕ) (r' r : Range) (x : ℕ) → IsRange r → CoversRange r' r → x < 2 ^ 64 → IsIn x (multiple_range k r) → IsIn x (multiple_range k r')
 scaled_grows k r' r x wr c fits =
     let lows = mul-le-mul c.low (same_least k) in
     let highs = mul-le-mul c.high (same_least k) in
-    if_case (λ q. IsIn x (scaled k r) → IsIn x q) (nat_lt (r'.high * k) (2 ^ 64)) (between (r'.low * k) (r'.high * k) (min 3 (r'.shift + trailing k))) all
+    if_case (λ q. IsIn x (multiple_range k r) → IsIn x q) (nat_lt (r'.high * k) (2 ^ 64)) (between (r'.low * k) (r'.high * k) (min 3 (r'.shift + trailing k))) all
     (λ e.
     let small = below_through (r.high * k) (r'.high * k) (2 ^ 64) highs (ltb-true (r'.high * k) (2 ^ 64) e) in
     if_case (λ q. IsIn x q → IsIn x (between (r'.low * k) (r'.high * k) (min 3 (r'.shift + trailing k)))) (nat_lt (r.high * k) (2 ^ 64)) (between (r.low * k) (r.high * k) (min 3 (r.shift + trailing k))) all
@@ -103,7 +103,7 @@ cut_grows b b' a a' x small f g h =
     let up = through x b b' (through x (floor b a) b h.to_high (floor_below b a)) f in
     in_between 0 (floor b' a') a' x (none_less x) (floor_greatest a' x b' small m up) m
 
-masked_grows : (k : ℕ) (r' r : Range) (x : ℕ) → IsRange r' → CoversRange r' r → IsIn x (masked k r) → IsIn x (masked k r')
+masked_grows : (k : ℕ) (r' r : Range) (x : ℕ) → IsRange r' → CoversRange r' r → IsIn x (mask_range k r) → IsIn x (mask_range k r')
 masked_grows k r' r x w c h =
     cut_grows (min r.high k) (min r'.high k) (max r.shift (trailing k)) (max r'.shift (trailing k)) x (largest r'.shift (trailing k) 3 w.formed.small (trailing_small k)) (min_grows r.high r'.high k c.high)
     (max_grows r'.shift r.shift (trailing k) c.shift) h
@@ -169,9 +169,9 @@ pub both_single : (b' d' b d : Bool) → (b' ≡ true → b ≡ true) → (d' �
 both_single b' d' b d f g e = let both = and_parts b' d' e in let x = f both.0 in let y = g both.1 in rw (x, y) refl
 
 result_grows : (o : Operation) (r' s' r s : Range) (x : ℕ) → IsRange r' → IsRange s' → IsRange r → IsRange s → compute Bits64 o r.low s.low < 2 ^ 64 → CoversRange r' r → CoversRange s' s → x < 2 ^ 64
-    → IsIn x (computed o r s) → IsIn x (computed o r' s')
+    → IsIn x (operation_range o r s) → IsIn x (operation_range o r' s')
 result_grows o r' s' r s x wr' ws' wr ws below c d fits =
-    if_case (λ q. IsIn x q → IsIn x (computed o r' s')) (is_single r && is_single s) (single (compute Bits64 o r.low s.low)) (spread o r s)
+    if_case (λ q. IsIn x q → IsIn x (operation_range o r' s')) (is_single r && is_single s) (single (compute Bits64 o r.low s.low)) (spread o r s)
     (λ e h.
     let here : x ≡ compute Bits64 o r.low s.low = alone (single (compute Bits64 o r.low s.low)) x (eq-eqb (compute Bits64 o r.low s.low) (compute Bits64 o r.low s.low) refl) h in
     rw here (members_are_kept o r' s' r.low s.low wr' ws' (covers_in r' r r.low c (low_in r wr.formed)) (covers_in s' s s.low d (low_in s ws.formed)) below))
@@ -187,12 +187,12 @@ low_fits r w = below_through r.low r.high (2 ^ 64) w.formed.ordered w.fits
 abbrev pub ResultsGrow : Type 0
 ResultsGrow =
     (o : Operation) (r' s' r s : Range) → IsRange r' → IsRange s' → IsRange r → IsRange s → ((n m : ℕ) → n < 2 ^ 64 → m < 2 ^ 64 → compute Bits64 o n m < 2 ^ 64)
-    → CoversRange r' r → CoversRange s' s → CoversRange (computed o r' s') (computed o r s)
+    → CoversRange r' r → CoversRange s' s → CoversRange (operation_range o r' s') (operation_range o r s)
 
 -- what is known of 64-bit operations grows
 pub results_grow : ResultsGrow
 results_grow o r' s' r s wr' ws' wr ws fits c d =
     let big = results_are_ranges o r' s' wr' ws' (fits r'.low s'.low (low_fits r' wr') (low_fits s' ws')) in
     let small = results_are_ranges o r s wr ws (fits r.low s.low (low_fits r wr) (low_fits s ws)) in
-    in_covers (computed o r' s') (computed o r s) big small
-    (λ x h. result_grows o r' s' r s x wr' ws' wr ws (fits r.low s.low (low_fits r wr) (low_fits s ws)) c d (member_fits x (computed o r s) small h) h)
+    in_covers (operation_range o r' s') (operation_range o r s) big small
+    (λ x h. result_grows o r' s' r s x wr' ws' wr ws (fits r.low s.low (low_fits r wr) (low_fits s ws)) c d (member_fits x (operation_range o r s) small h) h)

@@ -11,7 +11,7 @@ use Rattle.scx_semantics.specs.declared.operations.Operation.TheVariants.{Add, M
 use Rattle.scx_semantics.specs.Arithmetic.{compute}
 use Rattle.scx_ranges.specs.declared.ranges.Range.{Range}
 use Rattle.scx_ranges.specs.Ranges.{IsIn, IsRange, trailing, floor, between, single, all, is_single}
-use Rattle.scx_ranges.specs.Results.{added, scaled, shifted_right, masked, remainder, by_constant, spread, computed}
+use Rattle.scx_ranges.specs.Results.{sum_range, multiple_range, shifted_right, mask_range, remainder, by_constant, spread, operation_range}
 use Rattle.scx_ranges.proofs.Multiples.{by_less, if_case, in_between, in_single, in_all, multiples_added, multiple_of_less, floor_greatest, trailing_small, trailing_divides}
 
 least_of : (a b n : ℕ) → n ≤ a → n ≤ b → n ≤ min a b
@@ -73,7 +73,7 @@ remainder_multiple n c s h =
 
 -- ---- each operation
 
-added_keeps : (r s : Range) (n m : ℕ) → IsRange r → IsRange s → IsIn n r → IsIn m s → IsIn ((n + m) % 2 ^ 64) (added r s)
+added_keeps : (r s : Range) (n m : ℕ) → IsRange r → IsRange s → IsIn n r → IsIn m s → IsIn ((n + m) % 2 ^ 64) (sum_range r s)
 added_keeps r s n m wr ws h g =
     let hn : n ≤ r.high = h.to_high in
     let gm : m ≤ s.high = g.to_high in
@@ -89,7 +89,7 @@ added_keeps r s n m wr ws h g =
     (multiples_added (min r.shift s.shift) n m (omega arith) (multiple_of_less n r.shift (min r.shift s.shift) (omega arith) h.multiple) (multiple_of_less m s.shift (min r.shift s.shift) (omega arith) g.multiple))))
     (λ e. in_all ((n + m) % 2 ^ 64) (mod_below (n + m) (2 ^ 64) (omega arith)))
 
-scaled_keeps : (r : Range) (n c : ℕ) → IsIn n r → IsIn (n * c % 2 ^ 64) (scaled c r)
+scaled_keeps : (r : Range) (n c : ℕ) → IsIn n r → IsIn (n * c % 2 ^ 64) (multiple_range c r)
 scaled_keeps r n c h =
     let up : n * c ≤ r.high * c = mul-le-mul h.to_high (same_least c) in
     let low : r.low * c ≤ n * c = mul-le-mul h.from_low (same_least c) in
@@ -105,7 +105,7 @@ shifted_keeps : (r : Range) (n c : ℕ) → IsIn n r → IsIn (n / 2 ^ (c % 64))
 shifted_keeps r n c h =
     in_between (r.low / 2 ^ (c % 64)) (r.high / 2 ^ (c % 64)) 0 (n / 2 ^ (c % 64)) (div_grows r.low n (c % 64) h.from_low) (div_grows n r.high (c % 64) h.to_high) (mod-one (n / 2 ^ (c % 64)))
 
-masked_keeps : (r : Range) (n c : ℕ) → IsRange r → IsIn n r → IsIn (bit_and n c) (masked c r)
+masked_keeps : (r : Range) (n c : ℕ) → IsRange r → IsIn n r → IsIn (bit_and n c) (mask_range c r)
 masked_keeps r n c w h =
     let a = max r.shift (trailing c) in
     let up : bit_and n c ≤ min r.high c = least_of r.high c (bit_and n c) (at_most_through (bit_and n c) n r.high (and_le_l n c) h.to_high) (and_le_r n c) in
@@ -162,7 +162,7 @@ spread_keeps o r s n m wr ws h g f fits = constants_keep o r s n m wr h g f fits
 abbrev pub MembersAreKept : Type 0
 MembersAreKept =
     (o : Operation) (r s : Range) (n m : ℕ) → IsRange r → IsRange s → IsIn n r → IsIn m s
-    → compute Bits64 o n m < 2 ^ 64 → IsIn (compute Bits64 o n m) (computed o r s)
+    → compute Bits64 o n m < 2 ^ 64 → IsIn (compute Bits64 o n m) (operation_range o r s)
 
 -- 64-bit operations on members give members of what is known
 pub members_are_kept : MembersAreKept

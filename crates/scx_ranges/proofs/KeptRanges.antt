@@ -6,7 +6,7 @@ use Rattle.scx_ranges.specs.declared.steps.Step.{Step}
 use Rattle.scx_ranges.specs.declared.steps.Step.TheVariants.{One}
 use Rattle.scx_ranges.specs.Ranges.{IsRange, single, trailing}
 use Rattle.scx_ranges.specs.Steps.{shift_of, step_of}
-use Rattle.scx_ranges.specs.Kept.{IsKept, range_of, kept_step}
+use Rattle.scx_ranges.specs.Kept.{IsKeptRange, range_of, kept_step}
 use Rattle.scx_ranges.proofs.Multiples.{by_shift, if_case, single_range}
 
 shift_back : (b : Bool) (t s : ℕ) → s ≤ 3 → (b ≡ true → s ≡ t) → (if b then t else shift_of (if b then One else step_of s)) ≡ s
@@ -20,11 +20,11 @@ kept_range r w =
     (shift_back (nat_eq r.low r.high) (trailing r.low) r.shift w.formed.small (λ e. w.formed.greatest (eqb-true r.low r.high e)))
 
 -- a range may be kept by its ends and its step
-pub kept_parts : (r : Range) → IsRange r → IsKept r.low r.high (kept_step r)
+pub kept_parts : (r : Range) → IsRange r → IsKeptRange r.low r.high (kept_step r)
 kept_parts r w = record { range = subst IsRange (sym (kept_range r w)) w; back = ap kept_step (kept_range r w) }
 
 -- a 64-bit number is kept as a range of two same ends with the step One
-pub kept_single : (n : ℕ) → n < 2 ^ 64 → IsKept n n One
+pub kept_single : (n : ℕ) → n < 2 ^ 64 → IsKeptRange n n One
 kept_single n l = record {
   range = single_range n l;
   back = if_case (λ s. s ≡ One) (nat_eq n n) One (step_of (if nat_eq n n then trailing n else 0)) (λ e. refl) (λ e. absurd (eqb-false n n e refl));

@@ -8,7 +8,7 @@ use Rattle.scx_semantics.specs.declared.operations.Operation.TheVariants.{Add, M
 use Rattle.scx_semantics.specs.Arithmetic.{compute}
 use Rattle.scx_ranges.specs.declared.ranges.Range.{Range}
 use Rattle.scx_ranges.specs.Ranges.{IsRange, trailing, floor, between, single, all, is_single}
-use Rattle.scx_ranges.specs.Results.{added, scaled, shifted_right, masked, remainder, by_constant, spread, computed}
+use Rattle.scx_ranges.specs.Results.{sum_range, multiple_range, shifted_right, mask_range, remainder, by_constant, spread, operation_range}
 use Rattle.scx_ranges.proofs.Multiples.{if_case, between_range, single_range, all_range, multiples_added, multiple_of_less, floor_multiple, floor_below, trailing_small}
 use Rattle.scx_ranges.proofs.KeptByResults.{div_grows, scaled_multiple}
 
@@ -27,7 +27,7 @@ largest a b n f g = omega arith
 none_less : (c : ℕ) → 0 ≤ c
 none_less c = omega arith
 
-added_range : (r s : Range) → IsRange r → IsRange s → IsRange (added r s)
+added_range : (r s : Range) → IsRange r → IsRange s → IsRange (sum_range r s)
 added_range r s wr ws =
     let or : r.low ≤ r.high = wr.formed.ordered in
     let os : s.low ≤ s.high = ws.formed.ordered in
@@ -41,7 +41,7 @@ added_range r s wr ws =
 least_left : (a b : ℕ) → min a b ≤ a
 least_left a b = omega arith
 
-scaled_range : (c : ℕ) (r : Range) → IsRange r → IsRange (scaled c r)
+scaled_range : (c : ℕ) (r : Range) → IsRange r → IsRange (multiple_range c r)
 scaled_range c r w =
     if_case IsRange (nat_lt (r.high * c) (2 ^ 64)) (between (r.low * c) (r.high * c) (min 3 (r.shift + trailing c))) all
     (λ e. between_range (r.low * c) (r.high * c) (min 3 (r.shift + trailing c)) (mul-le-mul w.formed.ordered (same_least c)) (ltb-true (r.high * c) (2 ^ 64) e) (least_left 3 (r.shift + trailing c))
@@ -53,7 +53,7 @@ shifted_range c r w =
     between_range (r.low / 2 ^ (c % 64)) (r.high / 2 ^ (c % 64)) 0 (div_grows r.low r.high (c % 64) w.formed.ordered) (below_through (r.high / 2 ^ (c % 64)) r.high (2 ^ 64) (div-le_self r.high (2 ^ (c % 64))) w.fits)
     (none_less 3) (mod-one (r.low / 2 ^ (c % 64))) (mod-one (r.high / 2 ^ (c % 64)))
 
-masked_range : (c : ℕ) (r : Range) → IsRange r → IsRange (masked c r)
+masked_range : (c : ℕ) (r : Range) → IsRange r → IsRange (mask_range c r)
 masked_range c r w =
     let a = max r.shift (trailing c) in
     let small : max r.shift (trailing c) ≤ 3 = largest r.shift (trailing c) 3 w.formed.small (trailing_small c) in
@@ -93,7 +93,7 @@ spread_range o r s wr ws = constants_range o r s wr
 -- what is known of a 64-bit operation on members of ranges is a range
 abbrev pub ResultsAreRanges : Type 0
 ResultsAreRanges =
-    (o : Operation) (r s : Range) → IsRange r → IsRange s → compute Bits64 o r.low s.low < 2 ^ 64 → IsRange (computed o r s)
+    (o : Operation) (r s : Range) → IsRange r → IsRange s → compute Bits64 o r.low s.low < 2 ^ 64 → IsRange (operation_range o r s)
 
 -- what is known of 64-bit operations is a range
 pub results_are_ranges : ResultsAreRanges

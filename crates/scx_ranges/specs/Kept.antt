@@ -15,6 +15,6 @@ abbrev pub kept_step : Range → Step
 kept_step r = if nat_eq r.low r.high then One else step_of r.shift
 
 -- what is kept is a range, and no other step stands for it
-pub record IsKept (low high : ℕ) (step : Step) : Type 0 where
+pub record IsKeptRange (low high : ℕ) (step : Step) : Type 0 where
   pub range : IsRange (range_of low high step)
   pub back : kept_step (range_of low high step) ≡ step

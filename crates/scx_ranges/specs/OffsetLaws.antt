@@ -3,23 +3,23 @@
 -- An element may have any size.
 use Rattle.std.specs.Prelude.{ℕ, ◌+◌, ◌%◌, ◌≡◌, ◌≤◌, ℤ, true, Option, Some, None, is_some}
 use Rattle.scx_semantics.specs.declared.operations.Size.{Size}
-use Rattle.scx_semantics.specs.Arithmetic.{shifted}
+use Rattle.scx_semantics.specs.Arithmetic.{at_distance}
 use Rattle.scx_semantics.specs.Memory.{within, size_bytes}
 use Rattle.scx_ranges.specs.declared.ranges.Range.{Range}
 use Rattle.scx_ranges.specs.Ranges.{IsIn, IsWellFormed, CoversRange}
-use Rattle.scx_ranges.specs.Offsets.{moved, advanced, are_inside, are_aligned}
+use Rattle.scx_ranges.specs.Offsets.{offsets_plus_constant, offsets_plus_range, are_inside, are_aligned}
 
 -- ---- moves by a constant
 
 -- the offset stays in the element, that distance on, and is in the range
 abbrev pub IsMoved : ℕ → ℕ → ℤ → Option Range → Type 0
 IsMoved size n k None = Unit {0}
-IsMoved size n k (Some q) = (to : ℕ) × (within size (shifted n k) ≡ Some to) × IsIn to q
+IsMoved size n k (Some q) = (to : ℕ) × (within size (at_distance n k) ≡ Some to) × IsIn to q
 
 -- where there is a range, it is one of offsets in the element
-abbrev pub IsWithin : ℕ → Option Range → Type 0
-IsWithin size None = Unit {0}
-IsWithin size (Some q) = IsWellFormed q × (q.high ≤ size)
+abbrev pub IsInElement : ℕ → Option Range → Type 0
+IsInElement size None = Unit {0}
+IsInElement size (Some q) = IsWellFormed q × (q.high ≤ size)
 
 -- where the first is a range, so is the second, and is covered by it
 abbrev pub PassesMove : Option Range → Option Range → Type 0
@@ -31,23 +31,23 @@ PassesMove (Some b) (Some a) = CoversRange b a
 abbrev pub MovesAreSound : Type 0
 MovesAreSound =
     (size : ℕ) (r : Range) (k : ℤ) (n : ℕ) → IsWellFormed r → IsIn n r
-    → IsMoved size n k (moved size r k)
+    → IsMoved size n k (offsets_plus_constant size r k)
 
 -- there is a range where each offset stays in the element
 abbrev pub MovesAreExact : Type 0
 MovesAreExact =
     (size : ℕ) (r : Range) (k : ℤ) → IsWellFormed r
-    → ((n : ℕ) → IsIn n r → (to : ℕ) × (within size (shifted n k) ≡ Some to)) → is_some (moved size r k) ≡ true
+    → ((n : ℕ) → IsIn n r → (to : ℕ) × (within size (at_distance n k) ≡ Some to)) → is_some (offsets_plus_constant size r k) ≡ true
 
 -- offsets that were moved by a constant are a range in the element, or up to its end
 abbrev pub MovesStayWithin : Type 0
-MovesStayWithin = (size : ℕ) (r : Range) (k : ℤ) → IsWellFormed r → IsWithin size (moved size r k)
+MovesStayWithin = (size : ℕ) (r : Range) (k : ℤ) → IsWellFormed r → IsInElement size (offsets_plus_constant size r k)
 
 -- where offsets may be moved by a constant, fewer may too, and what they give is covered
 abbrev pub MovesAreMonotone : Type 0
 MovesAreMonotone =
     (size : ℕ) (b a : Range) (k : ℤ) → IsWellFormed b → IsWellFormed a
-    → CoversRange b a → PassesMove (moved size b k) (moved size a k)
+    → CoversRange b a → PassesMove (offsets_plus_constant size b k) (offsets_plus_constant size a k)
 
 -- ---- moves by a range of numbers
 
@@ -60,30 +60,30 @@ IsAdvanced size to (Some q) = (to ≤ size) × IsIn to q
 abbrev pub AdvancesAreSound : Type 0
 AdvancesAreSound =
     (size : ℕ) (r s : Range) (n m : ℕ) → IsWellFormed r → IsWellFormed s → IsIn n r → IsIn m s
-    → IsAdvanced size (n + m) (advanced size r s)
+    → IsAdvanced size (n + m) (offsets_plus_range size r s)
 
 -- there is a range where each sum stays in the element
 abbrev pub AdvancesAreExact : Type 0
 AdvancesAreExact =
     (size : ℕ) (r s : Range) → IsWellFormed r → IsWellFormed s
-    → ((n m : ℕ) → IsIn n r → IsIn m s → n + m ≤ size) → is_some (advanced size r s) ≡ true
+    → ((n m : ℕ) → IsIn n r → IsIn m s → n + m ≤ size) → is_some (offsets_plus_range size r s) ≡ true
 
 -- offsets that were moved by a range of numbers are a range in the element, or up to its end
 abbrev pub AdvancesStayWithin : Type 0
 AdvancesStayWithin =
-    (size : ℕ) (r s : Range) → IsWellFormed r → IsWellFormed s → IsWithin size (advanced size r s)
+    (size : ℕ) (r s : Range) → IsWellFormed r → IsWellFormed s → IsInElement size (offsets_plus_range size r s)
 
 -- where offsets may be moved by a range of numbers, fewer may by fewer; what they give is covered
 abbrev pub AdvancesAreMonotone : Type 0
 AdvancesAreMonotone =
     (size : ℕ) (b d a c : Range) → IsWellFormed b → IsWellFormed d → IsWellFormed a → IsWellFormed c
-    → CoversRange b a → CoversRange d c → PassesMove (advanced size b d) (advanced size a c)
+    → CoversRange b a → CoversRange d c → PassesMove (offsets_plus_range size b d) (offsets_plus_range size a c)
 
 -- ---- accesses
 
 -- so many bytes lie in the element, at that distance from the offset
 pub record IsInside (size n : ℕ) (k : ℤ) (at to : ℕ) : Type 0 where
-  pub there : shifted at k ≡ Some to
+  pub there : at_distance at k ≡ Some to
   pub inside : to + n ≤ size
 
 -- so many bytes lie in the element, that distance from each of the offsets
@@ -92,7 +92,7 @@ AllInside size n r k = (at : ℕ) → IsIn at r → (to : ℕ) × IsInside size 
 
 -- each of the offsets, that distance on, isn't below 0 and is a multiple
 abbrev pub AllAligned : ℕ → Range → ℤ → Type 0
-AllAligned n r k = (at : ℕ) → IsIn at r → (to : ℕ) × (shifted at k ≡ Some to) × (to % n ≡ 0)
+AllAligned n r k = (at : ℕ) → IsIn at r → (to : ℕ) × (at_distance at k ≡ Some to) × (to % n ≡ 0)
 
 -- what is tested is that of each offset
 abbrev pub InsideIsExact : Type 0

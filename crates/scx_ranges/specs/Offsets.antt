@@ -2,7 +2,7 @@
 -- is at most the element's size; it is moved by a constant or by a range of numbers, and an access is
 -- checked at each offset of the range.
 use Rattle.std.specs.Prelude.{ℕ, ◌+◌, ◌%◌, ◌^◌, ℤ, unsigned_abs, min, Bool, false, ◌&&◌, ◌||◌, nat_eq, nat_le, Option, Some, None, is_some, if◌then◌else◌}
-use Rattle.scx_semantics.specs.Arithmetic.{shifted}
+use Rattle.scx_semantics.specs.Arithmetic.{at_distance}
 use Rattle.scx_semantics.specs.Memory.{within}
 use Rattle.scx_ranges.specs.declared.ranges.Range.{Range}
 use Rattle.scx_ranges.specs.Ranges.{trailing, between, is_single}
@@ -16,12 +16,12 @@ between_some (Some low) None shift = None
 between_some (Some low) (Some high) shift = Some (between low high shift)
 
 -- the offsets moved by a constant, where all of them stay in the element
-abbrev pub moved : ℕ → Range → ℤ → Option Range
-moved size r k = between_some (shifted r.low k) (within size (shifted r.high k)) (min r.shift (trailing (unsigned_abs k)))
+abbrev pub offsets_plus_constant : ℕ → Range → ℤ → Option Range
+offsets_plus_constant size r k = between_some (at_distance r.low k) (within size (at_distance r.high k)) (min r.shift (trailing (unsigned_abs k)))
 
 -- the offsets moved by a range of numbers, where all of them stay in it
-abbrev pub advanced : ℕ → Range → Range → Option Range
-advanced size r s = if nat_le (r.high + s.high) size then Some (between (r.low + s.low) (r.high + s.high) (min r.shift s.shift)) else None
+abbrev pub offsets_plus_range : ℕ → Range → Range → Option Range
+offsets_plus_range size r s = if nat_le (r.high + s.high) size then Some (between (r.low + s.low) (r.high + s.high) (min r.shift s.shift)) else None
 
 -- ---- accesses
 
@@ -32,7 +32,7 @@ ends_within size n (Some at) = nat_le (at + n) size
 
 -- whether so many bytes lie in the element, at that distance from each of the offsets
 abbrev pub are_inside : ℕ → ℕ → Range → ℤ → Bool
-are_inside size n r k = is_some (shifted r.low k) && ends_within size n (shifted r.high k)
+are_inside size n r k = is_some (at_distance r.low k) && ends_within size n (at_distance r.high k)
 
 -- the offset is a multiple
 abbrev pub is_multiple : ℕ → Option ℕ → Bool
@@ -41,4 +41,4 @@ is_multiple n (Some at) = nat_eq (at % n) 0
 
 -- whether each of the offsets is a multiple, that distance on: the first is, and so is each step
 abbrev pub are_aligned : ℕ → Range → ℤ → Bool
-are_aligned n r k = is_multiple n (shifted r.low k) && (is_single r || nat_eq (2 ^ r.shift % n) 0)
+are_aligned n r k = is_multiple n (at_distance r.low k) && (is_single r || nat_eq (2 ^ r.shift % n) 0)

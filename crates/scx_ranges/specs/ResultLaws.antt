@@ -7,11 +7,11 @@ use Rattle.scx_semantics.specs.declared.operations.Extension.{Extension}
 use Rattle.scx_semantics.specs.declared.operations.ByteOrder.{ByteOrder}
 use Rattle.scx_semantics.specs.declared.operations.SwapWidth.{SwapWidth}
 use Rattle.scx_semantics.specs.declared.operations.Access.{Access}
-use Rattle.scx_semantics.specs.Arithmetic.{low, compute, negated, extended, byte_swapped}
+use Rattle.scx_semantics.specs.Arithmetic.{low, compute, negative, sign_extension, byte_swapped}
 use Rattle.scx_semantics.specs.Memory.{size_bytes, access_size, read_as}
 use Rattle.scx_ranges.specs.declared.ranges.Range.{Range}
 use Rattle.scx_ranges.specs.Ranges.{IsIn, IsRange, CoversRange}
-use Rattle.scx_ranges.specs.Results.{computed_at, copied, negated_range, extended_range, swapped_range, loaded}
+use Rattle.scx_ranges.specs.Results.{computed_at, move_range, negated_range, extended_range, swapped_range, loaded_range}
 
 -- what is known of an operation on two numbers: it holds its results, is a range and grows
 pub record AreResults (f : ℕ → ℕ → ℕ) (known : Range → Range → Range) : Type 0 where
@@ -33,15 +33,15 @@ ArithmeticIsSound = (w : Width) (o : Operation) → AreResults (compute w o) (co
 
 -- what is known of a move, of either width, holds what it copies, is a range and grows
 abbrev pub CopiesAreSound : Type 0
-CopiesAreSound = (w : Width) → AreImages (low w) (copied w)
+CopiesAreSound = (w : Width) → AreImages (low w) (move_range w)
 
 -- what is known of a negation, of either width, holds its results, is a range and grows
 abbrev pub NegativesAreSound : Type 0
-NegativesAreSound = (w : Width) → AreImages (negated w) (negated_range w)
+NegativesAreSound = (w : Width) → AreImages (negative w) (negated_range w)
 
 -- what is known of a move that extends a sign holds its results, is a range and grows
 abbrev pub ExtensionsAreSound : Type 0
-ExtensionsAreSound = (e : Extension) → AreImages (extended e) (extended_range e)
+ExtensionsAreSound = (e : Extension) → AreImages (sign_extension e) (extended_range e)
 
 -- what is known of a byte swap holds its results, is a range and grows
 abbrev pub SwapsAreSound : Type 0
@@ -49,8 +49,8 @@ SwapsAreSound = (o : ByteOrder) (w : SwapWidth) → AreImages (byte_swapped o w)
 
 -- what a load makes of a number of its size
 pub record IsLoaded (a : Access) : Type 0 where
-  pub range : IsRange (loaded a)
-  pub kept : (n : ℕ) → n < 256 ^ size_bytes (access_size a) → IsIn (read_as a n) (loaded a)
+  pub range : IsRange (loaded_range a)
+  pub kept : (n : ℕ) → n < 256 ^ size_bytes (access_size a) → IsIn (read_as a n) (loaded_range a)
 
 -- what is known of a load of a number is a range that holds all that it may read
 abbrev pub LoadsAreSound : Type 0

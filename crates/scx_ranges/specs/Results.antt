@@ -11,27 +11,27 @@ use Rattle.scx_semantics.specs.declared.operations.ByteOrder.{ByteOrder}
 use Rattle.scx_semantics.specs.declared.operations.SwapWidth.{SwapWidth}
 use Rattle.scx_semantics.specs.declared.operations.Access.{Access}
 use Rattle.scx_semantics.specs.declared.operations.Access.TheVariants as access
-use Rattle.scx_semantics.specs.Arithmetic.{low, compute, negated, extension_width, extended, byte_swapped}
+use Rattle.scx_semantics.specs.Arithmetic.{low, compute, negative, extension_width, sign_extension, byte_swapped}
 use Rattle.scx_ranges.specs.declared.ranges.Range.{Range}
 use Rattle.scx_ranges.specs.Ranges.{trailing, floor, between, single, all, is_single}
 
 -- ---- 64-bit arithmetic
 
 -- the sums, where none wraps
-abbrev pub added : Range → Range → Range
-added r s = if nat_lt (r.high + s.high) (2 ^ 64) then between (r.low + s.low) (r.high + s.high) (min r.shift s.shift) else all
+abbrev pub sum_range : Range → Range → Range
+sum_range r s = if nat_lt (r.high + s.high) (2 ^ 64) then between (r.low + s.low) (r.high + s.high) (min r.shift s.shift) else all
 
 -- the products with a number, where none wraps
-abbrev pub scaled : ℕ → Range → Range
-scaled c r = if nat_lt (r.high * c) (2 ^ 64) then between (r.low * c) (r.high * c) (min 3 (r.shift + trailing c)) else all
+abbrev pub multiple_range : ℕ → Range → Range
+multiple_range c r = if nat_lt (r.high * c) (2 ^ 64) then between (r.low * c) (r.high * c) (min 3 (r.shift + trailing c)) else all
 
 -- the quotients by two to the power of a number
 abbrev pub shifted_right : ℕ → Range → Range
 shifted_right c r = between (r.low / 2 ^ (c % 64)) (r.high / 2 ^ (c % 64)) 0
 
 -- the bits that are set in a number too
-abbrev pub masked : ℕ → Range → Range
-masked c r = between 0 (floor (min r.high c) (max r.shift (trailing c))) (max r.shift (trailing c))
+abbrev pub mask_range : ℕ → Range → Range
+mask_range c r = between 0 (floor (min r.high c) (max r.shift (trailing c))) (max r.shift (trailing c))
 
 -- the remainders by a number; by 0 they are what was divided
 abbrev pub remainder : ℕ → Range → Range
@@ -39,22 +39,22 @@ remainder c r = if nat_eq c 0 then all else between 0 (floor (min r.high (c - 1)
 
 -- an operation with a single number as operand
 abbrev pub by_constant : Operation → ℕ → Range → Range
-by_constant Multiply c r = scaled c r
-by_constant ShiftLeft c r = scaled (2 ^ (c % 64)) r
+by_constant Multiply c r = multiple_range c r
+by_constant ShiftLeft c r = multiple_range (2 ^ (c % 64)) r
 by_constant ShiftRight c r = shifted_right c r
-by_constant And c r = masked c r
+by_constant And c r = mask_range c r
 by_constant Modulo c r = remainder c r
 by_constant o c r = all
 
 -- an operation on a destination and an operand that aren't both single
 abbrev pub spread : Operation → Range → Range → Range
 spread Move r s = s
-spread Add r s = added r s
+spread Add r s = sum_range r s
 spread o r s = if is_single s then by_constant o s.low r else all
 
 -- a 64-bit operation on a destination and an operand
-abbrev pub computed : Operation → Range → Range → Range
-computed o r s = if is_single r && is_single s then single (compute Bits64 o r.low s.low) else spread o r s
+abbrev pub operation_range : Operation → Range → Range → Range
+operation_range o r s = if is_single r && is_single s then single (compute Bits64 o r.low s.low) else spread o r s
 
 -- ---- both widths
 
@@ -86,28 +86,28 @@ of_two f w r s = if is_single r && is_single s then single (f r.low s.low) else 
 -- arithmetic on a destination and an operand
 abbrev pub computed_at : Width → Operation → Range → Range → Range
 computed_at Bits32 o r s = of_two (compute Bits32 o) words r s
-computed_at Bits64 o r s = computed o r s
+computed_at Bits64 o r s = operation_range o r s
 
 -- a move, which reads the operand alone
-abbrev pub copied : Width → Range → Range
-copied Bits32 s = of_one (low Bits32) words s
-copied Bits64 s = s
+abbrev pub move_range : Width → Range → Range
+move_range Bits32 s = of_one (low Bits32) words s
+move_range Bits64 s = s
 
 -- negation
 abbrev pub negated_range : Width → Range → Range
-negated_range w r = of_one (negated w) (widest w) r
+negated_range w r = of_one (negative w) (widest w) r
 
 -- a move that extends a sign
 abbrev pub extended_range : Extension → Range → Range
-extended_range e r = of_one (extended e) (widest (extension_width e)) r
+extended_range e r = of_one (sign_extension e) (widest (extension_width e)) r
 
 -- a byte swap
 abbrev pub swapped_range : ByteOrder → SwapWidth → Range → Range
 swapped_range o w r = of_one (byte_swapped o w) all r
 
 -- a load of a number
-abbrev pub loaded : Access → Range
-loaded access.Byte = bytes
-loaded access.HalfWord = half_words
-loaded access.Word = words
-loaded a = all
+abbrev pub loaded_range : Access → Range
+loaded_range access.Byte = bytes
+loaded_range access.HalfWord = half_words
+loaded_range access.Word = words
+loaded_range a = all

@@ -1,7 +1,7 @@
 ghost use Rattle.std.specs.Prelude.{◌≡◌, ◌≤◌};
 ghost use Rattle.scx_semantics.specs.Memory.{size_bytes};
 ghost use Rattle.scx_ranges.specs.Ranges.{IsRange};
-ghost use Rattle.scx_ranges.specs.Offsets.{moved, advanced, are_inside, are_aligned};
+ghost use Rattle.scx_ranges.specs.Offsets.{offsets_plus_constant, offsets_plus_range, are_inside, are_aligned};
 
 use crate::ranges::{Range, between, step, trailing};
 use scx_arithmetic::{shifted, within};
@@ -13,7 +13,7 @@ impl Range {
     pub(crate) fn moved(self, value_size: u16, distance: i64) -> Option<Range>
         requires range { IsRange self }
         requires small { self.high ≤ 65535 }
-        ensures { result ≡ moved value_size self distance }
+        ensures { result ≡ offsets_plus_constant value_size self distance }
     {
         let low = shifted(self.low as u16, distance);
         let high = within(value_size, shifted(self.high as u16, distance));
@@ -28,7 +28,7 @@ impl Range {
     pub(crate) fn advanced(self, value_size: u16, numbers: Range) -> Option<Range>
         requires range { IsRange self }
         requires numbers { IsRange numbers }
-        ensures { result ≡ advanced value_size self numbers }
+        ensures { result ≡ offsets_plus_range value_size self numbers }
     {
         match self.high.checked_add(numbers.high) {
             Some(high) if high <= u64::from(value_size) => {

@@ -3,7 +3,7 @@ ghost use Rattle.scx_ranges.specs.Ranges.{IsRange, all, single, is_single, join_
 ghost use Rattle.scx_ranges.specs.Cuts.{cut, equal, unequal};
 ghost use Rattle.scx_ranges.specs.Steps.{shift_of};
 ghost use Rattle.scx_ranges.specs.Kept.{kept_step};
-ghost use Rattle.scx_ranges.specs.Results.{computed_at, copied, negated_range, extended_range, swapped_range, loaded};
+ghost use Rattle.scx_ranges.specs.Results.{computed_at, move_range, negated_range, extended_range, swapped_range, loaded_range};
 
 use crate::ranges::{Range, between};
 use crate::steps::Step;
@@ -23,13 +23,13 @@ pub struct Numbers {
 
 impl Model for Numbers {
     ghost use Rattle.scx_ranges.specs.declared.ranges.Range.{Range};
-    ghost use Rattle.scx_ranges.specs.Kept.{IsKept, range_of, kept_step};
+    ghost use Rattle.scx_ranges.specs.Kept.{IsKeptRange, range_of, kept_step};
 
     ghost Value = { Range };
 
     ghost view = { λ s. range_of s.low s.high s.step };
 
-    ghost invariant = { λ s. IsKept s.low s.high s.step };
+    ghost invariant = { λ s. IsKeptRange s.low s.high s.step };
 
     ghost inverse = { λ r. record { low = r.low; high = r.high; step = kept_step r } };
 
@@ -201,7 +201,7 @@ impl Numbers {
 
     /// What a move makes of its operand (RFC 9669, section 4.1), whatever its destination was.
     pub fn copied(self, width: Width) -> Numbers
-        ensures { result ≡ copied width self }
+        ensures { result ≡ move_range width self }
     {
         Numbers::of(self.range().copied(width))
     }
@@ -230,7 +230,7 @@ impl Numbers {
     /// What a load of a number gives (RFC 9669, section 5).
     #[tactic(auto, using(crate::proofs::BuiltRanges::load_range))]
     pub fn loaded(access: Access) -> Numbers
-        ensures { result ≡ loaded access }
+        ensures { result ≡ loaded_range access }
     {
         Numbers::of(Range::loaded(access))
     }

@@ -2,7 +2,7 @@ ghost use Rattle.std.specs.Prelude.{◌≡◌, ◌≤◌};
 ghost use Rattle.scx_semantics.specs.Memory.{size_bytes};
 ghost use Rattle.scx_ranges.specs.Ranges.{IsRange, single, join_ranges};
 ghost use Rattle.scx_ranges.specs.Steps.{shift_of};
-ghost use Rattle.scx_ranges.specs.Offsets.{moved, advanced, are_inside, are_aligned};
+ghost use Rattle.scx_ranges.specs.Offsets.{offsets_plus_constant, offsets_plus_range, are_inside, are_aligned};
 
 use crate::numbers::Numbers;
 use crate::ranges::Range;
@@ -87,7 +87,7 @@ impl Offsets {
 
     /// The offsets moved by a constant, or none where one of them would leave the element.
     pub fn moved(self, value_size: u16, distance: i64) -> Option<Offsets>
-        ensures { result ≡ moved value_size self distance }
+        ensures { result ≡ offsets_plus_constant value_size self distance }
     {
         match self.range().moved(value_size, distance) {
             Some(range) => Some(Offsets::of(range)),
@@ -98,7 +98,7 @@ impl Offsets {
     /// The offsets moved by a number of a range, or none where a sum would leave the element.
     #[inline(always)]
     pub fn advanced(self, value_size: u16, numbers: Numbers) -> Option<Offsets>
-        ensures { result ≡ advanced value_size self numbers }
+        ensures { result ≡ offsets_plus_range value_size self numbers }
     {
         match self.range().advanced(value_size, numbers.range()) {
             Some(range) => Some(Offsets::of(range)),

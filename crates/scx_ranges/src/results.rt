@@ -1,6 +1,6 @@
 ghost use Rattle.std.specs.Prelude.{◌≡◌};
 ghost use Rattle.scx_ranges.specs.Ranges.{IsRange};
-ghost use Rattle.scx_ranges.specs.Results.{added, scaled, shifted_right, masked, remainder, by_constant, spread, computed, widest, computed_at, copied, negated_range, extended_range, swapped_range, loaded};
+ghost use Rattle.scx_ranges.specs.Results.{sum_range, multiple_range, shifted_right, mask_range, remainder, by_constant, spread, operation_range, widest, computed_at, move_range, negated_range, extended_range, swapped_range, loaded_range};
 ghost use Rattle.scx_semantics.specs.declared.operations.Width.TheVariants.{Bits32};
 
 use crate::ranges::{Range, between, floor, trailing};
@@ -43,7 +43,7 @@ impl Range {
 
     /// What a move makes of its operand (RFC 9669, section 4.1).
     pub(crate) fn copied(self, width: Width) -> Range
-        ensures { result ≡ copied width self }
+        ensures { result ≡ move_range width self }
     {
         match width {
             Width::Bits32 => copied32(self),
@@ -86,7 +86,7 @@ impl Range {
 
     /// What a load of a number gives (RFC 9669, section 5).
     pub(crate) fn loaded(access: Access) -> Range
-        ensures { result ≡ loaded access }
+        ensures { result ≡ loaded_range access }
     {
         match access {
             Access::Byte => BYTES,
@@ -109,7 +109,7 @@ fn widest(width: Width) -> Range
 
 /// What a 32-bit move makes of its operand.
 fn copied32(range: Range) -> Range
-    ensures { result ≡ copied Bits32 range }
+    ensures { result ≡ move_range Bits32 range }
 {
     if range.is_single() {
         Range::single(low(Width::Bits32, range.low))
@@ -133,7 +133,7 @@ fn computed32(operation: Operation, range: Range, operand: Range) -> Range
 fn computed64(operation: Operation, range: Range, operand: Range) -> Range
     requires first { IsRange range }
     requires second { IsRange operand }
-    ensures { result ≡ computed operation range operand }
+    ensures { result ≡ operation_range operation range operand }
 {
     if range.is_single() && operand.is_single() {
         Range::single(compute(Width::Bits64, operation, range.low, operand.low))
@@ -175,7 +175,7 @@ fn by_constant(operation: Operation, c: u64, range: Range) -> Range
 fn added(range: Range, other: Range) -> Range
     requires first { IsRange range }
     requires second { IsRange other }
-    ensures { result ≡ added range other }
+    ensures { result ≡ sum_range range other }
 {
     match range.high.checked_add(other.high) {
         Some(high) => between(range.low + other.low, high, range.shift.min(other.shift)),
@@ -186,7 +186,7 @@ fn added(range: Range, other: Range) -> Range
 /// The members times a constant, where none of the products wraps.
 fn scaled(c: u64, range: Range) -> Range
     requires { IsRange range }
-    ensures { result ≡ scaled c range }
+    ensures { result ≡ multiple_range c range }
 {
     match range.high.checked_mul(c) {
         Some(high) => between(range.low * c, high, 3u8.min(range.shift + trailing(c))),
@@ -204,7 +204,7 @@ fn shifted_right(c: u64, range: Range) -> Range
 /// The members' bits that are set in a constant.
 fn masked(c: u64, range: Range) -> Range
     requires { IsRange range }
-    ensures { result ≡ masked c range }
+    ensures { result ≡ mask_range c range }
 {
     let shift = range.shift.max(trailing(c));
     between(0, floor(range.high.min(c), shift), shift)

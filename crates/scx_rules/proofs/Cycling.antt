@@ -8,23 +8,23 @@ use Rattle.scx_semantics.specs.declared.callbacks.Callback.TheVariants as callba
 use Rattle.scx_world.specs.declared.call.Insert.{Insert}
 use Rattle.scx_world.specs.declared.eject.Eject.{Eject}
 use Rattle.scx_world.specs.declared.notes.What.TheVariants as note
-use Rattle.scx_world.specs.Ids.{global, builtin, parked, local_on}
-use Rattle.scx_world.specs.World.{said}
+use Rattle.scx_world.specs.Ids.{global, builtin_queue, parked_queue, local_on}
+use Rattle.scx_world.specs.World.{note_now}
 use Rattle.scx_world.specs.Tasks.{local_len, brought}
-use Rattle.scx_world.specs.Ejecting.{put_builtin, overtaken, charged}
-use Rattle.scx_machine.specs.Steps.{State, Stepped, with_world, stays, after, joined}
+use Rattle.scx_world.specs.Ejecting.{put_builtin, after_catch_up, after_charge}
+use Rattle.scx_machine.specs.Steps.{State, Stepped, with_world, stays, after, one_after_other}
 use Rattle.scx_machine.specs.Callbacks.{call_back, one_task, task_and_number}
-use Rattle.scx_machine.specs.Put.{enters, wanted, enters_builtin, comes_in, put}
+use Rattle.scx_machine.specs.Put.{enters, enqueue_choice, enters_builtin, comes_in, put}
 use Rattle.scx_machine.specs.Filling.{move_note, fill}
 use Rattle.scx_machine.specs.Parking.{park, park_front, if_throttled, throttled_front, park_fronts, clear, in_reach, supply, FrontMayRun}
 use Rattle.scx_sched.proofs.Supplying.{park_fronts_from, clear_from, empty_no_front, throttled_is, front_is_free, len_park_front, reach_fill, reach_park_front}
-use Rattle.scx_machine.specs.Cycle.{dispatched, tries, stopping, running_on, leave, started_if, start, rest, swap, swap_or_rest, builtin_dispatch, builtin_fill, builtin_ask, builtin_cycle, start_or_cycle, pick, pick_or_rest, conclude, ask, seek, look, cycling, cycle}
+use Rattle.scx_machine.specs.Cycle.{after_dispatch, tries, stopping, running_on, leave, started_if, start, rest, swap, swap_or_rest, builtin_dispatch, builtin_fill, builtin_ask, builtin_cycle, start_or_cycle, pick, pick_or_rest, conclude, ask, seek, look, cycling, cycle}
 use Rattle.scx_rules.specs.Cycles.{noting, silent, entering, enqueue_called, dispatch_called, gone_off, gone_on, HasStopped, Policy_hears, Is_charged, HasStarted, Policy_learns, Catches_up, Enters, For_builtin, Default, Held, Inserted, Puts, Fills, HasLocal, NoOther, Moves, Parks, ParksFronts, NoneLeft, OneMore, Supplies, Supplied, ParkedOne, FillsBuiltin, HasOne, Looked, Dispatches, Asks, Enough, Came, NothingMoved, Again, Leaves, Nobody, Stops, Starts, Empty, Front, Rests, Keeps, Idles, WasIdle, Swaps, SwapsOrRests, Swapped, Kept, CyclesBuiltin, Picks, Runs_front, Emptied, Ends, Anew, Picked, Rested, Seeks, Filled, Asked, Looks, Of_policy, Of_builtin, Cycles}
 
 -- ---- put
 
 abbrev placed_as : State → ℕ → ℕ → Option Eject → Option VerifiedProgram → Option Insert → Stepped
-placed_as s t c x p i = if is_some x then noting s (put_builtin s.world t) (note.Insert t builtin) else entering s t (wanted p c i)
+placed_as s t c x p i = if is_some x then noting s (put_builtin s.world t) (note.Insert t builtin_queue) else entering s t (enqueue_choice p c i)
 
 comes : (s : State) (t c : ℕ) → Enters s t c (comes_in s t c)
 unfolding comes_in enters enters_builtin
@@ -56,12 +56,12 @@ puts s t c flags = record { put = comes_in (enqueue_called s t c flags).state t 
 -- and in no other way
 pub only_puts : (s : State) (t c flags : ℕ) (r : Stepped) → Puts s t c flags r → r ≡ put s t c flags
 unfolding put
-only_puts s t c flags r h = h.all ∙ ap (λ x. joined (enqueue_called s t c flags) x) (only_comes (enqueue_called s t c flags).state t c h.put h.enters)
+only_puts s t c flags r h = h.all ∙ ap (λ x. one_after_other (enqueue_called s t c flags) x) (only_comes (enqueue_called s t c flags).state t c h.put h.enters)
 
 -- ---- on and off a processor
 
 abbrev stopped_as : State → ℕ → ℕ → ℕ → Option Eject → Stepped
-stopped_as s c t n x = if is_some x then silent s (charged s.world t) else call_back s callback.Stopping (task_and_number t n) t c
+stopped_as s c t n x = if is_some x then silent s (after_charge s.world t) else call_back s callback.Stopping (task_and_number t n) t c
 
 -- a task leaves its processor as it is computed
 pub stops : (s : State) (c t n : ℕ) → HasStopped s c t n (stopping s c t n)
@@ -79,7 +79,7 @@ only_stops s c t n r (Policy_hears e k) = k ∙ ap (λ o. stopped_as s c t n o) 
 only_stops s c t n r (Is_charged x e k) = k ∙ ap (λ o. stopped_as s c t n o) (sym e)
 
 abbrev started_as : State → ℕ → ℕ → Option Eject → Stepped
-started_as s c t x = if is_some x then silent s (overtaken s.world t) else call_back s callback.Running (one_task t) t c
+started_as s c t x = if is_some x then silent s (after_catch_up s.world t) else call_back s callback.Running (one_task t) t c
 
 runs : (s : State) (c t : ℕ) → HasStarted s c t (running_on s c t)
 unfolding running_on
@@ -141,7 +141,7 @@ no_throttled_front s q h = go (front_of s.world.queues q) refl
 
 -- ---- fronts of a queue are parked
 
-parks_fronts : (j : ℕ) (s : State) (q : ℕ) → (parked == q) ≡ false → len_of s.world.queues q ≤ j → ParksFronts q s (park_fronts j s q)
+parks_fronts : (j : ℕ) (s : State) (q : ℕ) → (parked_queue == q) ≡ false → len_of s.world.queues q ≤ j → ParksFronts q s (park_fronts j s q)
 unfolding park_fronts
 parks_fronts zero s q apart few = NoneLeft q s _ (λ t e. let bad : None ≡ Some t = sym (empty_no_front s.world.queues q (omega (arith, few))) ∙ e in absurd (cc)) refl
 parks_fronts (suc j) s q apart few = go (throttled_front s q) refl (λ t l. parks_fronts j (park_front s q t).state q apart l)
@@ -150,7 +150,7 @@ parks_fronts (suc j) s q apart few = go (throttled_front s q) refl (λ t l. park
     go None e more = NoneLeft q s _ (front_is_free s q e) refl
     go (Some t) e more = OneMore q s t (park_front s q t) _ _ (parks s q t e) (more t (omega (arith, few, len_park_front s q t apart (throttled_is s q t e).front))) refl
 
-only_parks_fronts : (j : ℕ) (s : State) (q : ℕ) (r : Stepped) → (parked == q) ≡ false → len_of s.world.queues q ≤ j → ParksFronts q s r → r ≡ park_fronts j s q
+only_parks_fronts : (j : ℕ) (s : State) (q : ℕ) (r : Stepped) → (parked_queue == q) ≡ false → len_of s.world.queues q ≤ j → ParksFronts q s r → r ≡ park_fronts j s q
 unfolding park_fronts
 only_parks_fronts zero s q r apart few (NoneLeft _ _ _ h k) = k
 only_parks_fronts (suc j) s q r apart few (NoneLeft _ _ _ h k) = k ∙ ap (λ o. park_fronts_from j s q o) (sym (no_throttled_front s q h))
@@ -158,7 +158,7 @@ only_parks_fronts zero s q r apart few (OneMore _ _ t gone more _ h y k) = let b
 only_parks_fronts (suc j) s q r apart few (OneMore _ _ t gone more _ h y k) =
     let e = only_parks s q t gone h in
     let l : len_of gone.state.world.queues q ≤ j = subst (λ (x : Stepped). len_of x.state.world.queues q ≤ j) (sym e) (omega (arith, few, len_park_front s q t apart h.front)) in
-    k ∙ ap (λ x. joined gone x) (only_parks_fronts j gone.state q more apart l y) ∙ ap (λ (x : Stepped). joined x (park_fronts j x.state q)) e ∙ ap (λ o. park_fronts_from j s q o) (sym (is_throttled_front s q t gone h))
+    k ∙ ap (λ x. one_after_other gone x) (only_parks_fronts j gone.state q more apart l y) ∙ ap (λ (x : Stepped). one_after_other x (park_fronts j x.state q)) e ∙ ap (λ o. park_fronts_from j s q o) (sym (is_throttled_front s q t gone h))
 
 -- ---- a local queue
 
@@ -177,7 +177,7 @@ clears (suc j) s c few = go (throttled_front (fill s global c).state (local_on c
     f = fill s global c
 
     go : (o : Option ℕ) → throttled_front f.state (local_on c) ≡ o → ((t : ℕ) → in_reach (park_front f.state (local_on c) t).state c ≤ j → Supplies c (park_front f.state (local_on c) t).state (clear j (park_front f.state (local_on c) t).state c))
-        → Supplies c s (joined f (clear_from j f.state c o))
+        → Supplies c s (one_after_other f (clear_from j f.state c o))
     go None e more = Supplied c s f _ (fills s global c) (front_is_free f.state (local_on c) e) refl
     go (Some t) e more =
         ParkedOne c s t f (park_front f.state (local_on c) t) _ _ (fills s global c) (parks f.state (local_on c) t e) (more t (omega (arith, few, reach_fill s c, reach_park_front f.state c t (throttled_is f.state (local_on c) t e).front))) refl
@@ -191,9 +191,9 @@ only_clears : (j : ℕ) (s : State) (c : ℕ) (r : Stepped) → in_reach s c ≤
 unfolding clear
 only_clears zero s c r few (Supplied _ _ f _ h x k) =
     let e : f ≡ stays s = only_fills s global c f h ∙ sym (only_fills s global c (stays s) (fills_none s c few)) in
-    k ∙ ap (λ (y : Stepped). joined y (stays y.state)) e
+    k ∙ ap (λ (y : Stepped). one_after_other y (stays y.state)) e
 only_clears (suc j) s c r few (Supplied _ _ f _ h x k) =
-    k ∙ ap (λ o. joined f (clear_from j f.state c o)) (sym (no_throttled_front f.state (local_on c) x)) ∙ ap (λ (y : Stepped). joined y (clear_from j y.state c (throttled_front y.state (local_on c)))) (only_fills s global c f h)
+    k ∙ ap (λ o. one_after_other f (clear_from j f.state c o)) (sym (no_throttled_front f.state (local_on c) x)) ∙ ap (λ (y : Stepped). one_after_other y (clear_from j y.state c (throttled_front y.state (local_on c)))) (only_fills s global c f h)
 only_clears zero s c r few (ParkedOne _ _ t f gone more _ h y z k) =
     let e = only_fills s global c f h in
     let less : in_reach f.state c ≤ in_reach s c = subst (λ (x : Stepped). in_reach x.state c ≤ in_reach s c) (sym e) (reach_fill s c) in
@@ -203,8 +203,8 @@ only_clears (suc j) s c r few (ParkedOne _ _ t f gone more _ h y z k) =
     let less : in_reach f.state c ≤ in_reach s c = subst (λ (x : Stepped). in_reach x.state c ≤ in_reach s c) (sym e) (reach_fill s c) in
     let d = only_parks f.state (local_on c) t gone y in
     let l : in_reach gone.state c ≤ j = subst (λ (x : Stepped). in_reach x.state c ≤ j) (sym d) (omega (arith, few, less, reach_park_front f.state c t y.front)) in
-    k ∙ ap (λ x. joined f (joined gone x)) (only_clears j gone.state c more l z) ∙ ap (λ (x : Stepped). joined f (joined x (clear j x.state c))) d
-    ∙ ap (λ o. joined f (clear_from j f.state c o)) (sym (is_throttled_front f.state (local_on c) t gone y)) ∙ ap (λ (x : Stepped). joined x (clear_from j x.state c (throttled_front x.state (local_on c)))) e
+    k ∙ ap (λ x. one_after_other f (one_after_other gone x)) (only_clears j gone.state c more l z) ∙ ap (λ (x : Stepped). one_after_other f (one_after_other x (clear j x.state c))) d
+    ∙ ap (λ o. one_after_other f (clear_from j f.state c o)) (sym (is_throttled_front f.state (local_on c) t gone y)) ∙ ap (λ (x : Stepped). one_after_other x (clear_from j x.state c (throttled_front x.state (local_on c)))) e
 
 only_supplies : (s : State) (c : ℕ) (r : Stepped) → Supplies c s r → r ≡ supply s c
 unfolding supply
@@ -212,13 +212,13 @@ only_supplies s c r h = only_clears (in_reach s c) s c r (omega arith) h
 
 -- ---- dispatch
 
-dispatches : (s : State) (c : ℕ) (p : Option ℕ) → Dispatches s c p (dispatched s c p)
-unfolding dispatched
+dispatches : (s : State) (c : ℕ) (p : Option ℕ) → Dispatches s c p (after_dispatch s c p)
+unfolding after_dispatch
 dispatches s c p = record { supplied = supply (dispatch_called s c p).state c; supplies = supplies (dispatch_called s c p).state c; all = refl }
 
-only_dispatches : (s : State) (c : ℕ) (p : Option ℕ) (r : Stepped) → Dispatches s c p r → r ≡ dispatched s c p
-unfolding dispatched
-only_dispatches s c p r h = h.all ∙ ap (λ x. joined (dispatch_called s c p) x) (only_supplies (dispatch_called s c p).state c h.supplied h.supplies)
+only_dispatches : (s : State) (c : ℕ) (p : Option ℕ) (r : Stepped) → Dispatches s c p r → r ≡ after_dispatch s c p
+unfolding after_dispatch
+only_dispatches s c p r h = h.all ∙ ap (λ x. one_after_other (dispatch_called s c p) x) (only_supplies (dispatch_called s c p).state c h.supplied h.supplies)
 
 asks : (n : ℕ) (s : State) (c : ℕ) (p : Option ℕ) → Asks n s c p (tries n s c p)
 unfolding tries
@@ -226,10 +226,10 @@ asks zero s c p = Enough s c p _ refl
 asks (suc n) s c p = go (asks n d.state c p) (cases_eq (local_len d.state.world c) 0) d.state.world.call.has_moved refl
   where
     d : Stepped
-    d = dispatched s c p
+    d = after_dispatch s c p
 
     go : Asks n d.state c p (tries n d.state c p) → (local_len d.state.world c ≡ 0) ⊎ (local_len d.state.world c ≡ 0 → ⊥) → (b : Bool) → d.state.world.call.has_moved ≡ b
-        → Asks (suc n) s c p (if (local_len d.state.world c == 0) && b then joined d (tries n d.state c p) else d)
+        → Asks (suc n) s c p (if (local_len d.state.world c == 0) && b then one_after_other d (tries n d.state c p) else d)
     go more (inl z) true e = rw (eq-eqb (local_len d.state.world c) 0 z) (Again n s c p d (tries n d.state c p) _ (dispatches s c p) z e more refl)
     go more (inl z) false e = rw (eq-eqb (local_len d.state.world c) 0 z) (NothingMoved n s c p d (dispatches s c p) z e)
     go more (inr x) b e = rw (ne_eqb (local_len d.state.world c) 0 x) (Came n s c p d (dispatches s c p) (omega (arith, x)))
@@ -244,7 +244,7 @@ leaves s c (Some t) =
     Stops t l (put l.state t c 0) refl (stops (gone_off s c t) c t 1) (puts l.state t c 0) refl
 
 abbrev left_as : State → ℕ → ℕ → Stepped → Stepped → Stepped
-left_as s c t l x = after (said s.world (note.Stop t c) ∷ []) (joined l x)
+left_as s c t l x = after (note_now s.world (note.Stop t c) ∷ []) (one_after_other l x)
 
 only_leaves : (s : State) (c : ℕ) (p : Option ℕ) (r : Stepped) → Leaves s c p r → r ≡ leave s c p
 unfolding leave
@@ -261,7 +261,7 @@ starts s c = go (front_of s.world.queues (local_on c)) refl
     go (Some t) e = Front t (running_on (gone_on s c t) c t) e (runs (gone_on s c t) c t) refl
 
 abbrev run_note : State → ℕ → ℕ → Stepped → Stepped
-run_note s c t x = after (said s.world (note.Run t c) ∷ []) x
+run_note s c t x = after (note_now s.world (note.Run t c) ∷ []) x
 
 only_starts : (s : State) (c : ℕ) (r : Stepped) → Starts s c r → r ≡ start s c
 unfolding start
@@ -309,7 +309,7 @@ swaps s c p = record { left = leave s c p; leaves = leaves s c p; started = star
 only_swaps : (s : State) (c : ℕ) (p : Option ℕ) (r : Stepped) → Swaps s c p r → r ≡ swap s c p
 unfolding swap
 only_swaps s c p r h =
-    h.all ∙ ap (λ x. joined h.left x) (only_starts h.left.state c h.started h.starts) ∙ ap (λ (x : Stepped). joined x (start x.state c)) (only_leaves s c p h.left h.leaves)
+    h.all ∙ ap (λ x. one_after_other h.left x) (only_starts h.left.state c h.started h.starts) ∙ ap (λ (x : Stepped). one_after_other x (start x.state c)) (only_leaves s c p h.left h.leaves)
 
 abbrev swap_if : State → ℕ → Option ℕ → Bool → Bool → Stepped
 swap_if s c p ran b = if b then swap s c p else rest s c p ran
@@ -332,22 +332,22 @@ unfolding builtin_fill builtin_dispatch
 fills_builtin s c = go (any_here s c)
   where
     p : Stepped
-    p = park_fronts (len_of s.world.queues builtin) s builtin
+    p = park_fronts (len_of s.world.queues builtin_queue) s builtin_queue
 
-    go : HasAny s c → FillsBuiltin s c (if not (local_len s.world c == 0) then stays s else joined p (fill p.state builtin c))
+    go : HasAny s c → FillsBuiltin s c (if not (local_len s.world c == 0) then stays s else one_after_other p (fill p.state builtin_queue c))
     go (inl l) = rw (has_some s c l) (HasOne l refl)
-    go (inr z) = rw (is_empty s c z) (Looked p (fill p.state builtin c) z (parks_fronts (len_of s.world.queues builtin) s builtin refl (omega arith)) (fills p.state builtin c) refl)
+    go (inr z) = rw (is_empty s c z) (Looked p (fill p.state builtin_queue c) z (parks_fronts (len_of s.world.queues builtin_queue) s builtin_queue refl (omega arith)) (fills p.state builtin_queue c) refl)
 
 abbrev builtin_if : State → ℕ → Bool → Stepped → Stepped
-builtin_if s c b p = if b then stays s else joined p (fill p.state builtin c)
+builtin_if s c b p = if b then stays s else one_after_other p (fill p.state builtin_queue c)
 
 only_fills_builtin : (s : State) (c : ℕ) (r : Stepped) → FillsBuiltin s c r → r ≡ builtin_fill s c
 unfolding builtin_fill builtin_dispatch
-only_fills_builtin s c r (HasOne l k) = k ∙ ap (λ b. builtin_if s c b (park_fronts (len_of s.world.queues builtin) s builtin)) (sym (has_some s c l))
+only_fills_builtin s c r (HasOne l k) = k ∙ ap (λ b. builtin_if s c b (park_fronts (len_of s.world.queues builtin_queue) s builtin_queue)) (sym (has_some s c l))
 only_fills_builtin s c r (Looked gone filled z h y k) =
-    let d = only_parks_fronts (len_of s.world.queues builtin) s builtin gone refl (omega arith) h in
-    k ∙ ap (λ x. joined gone x) (only_fills gone.state builtin c filled y) ∙ ap (λ (x : Stepped). joined x (fill x.state builtin c)) d
-    ∙ ap (λ b. builtin_if s c b (park_fronts (len_of s.world.queues builtin) s builtin)) (sym (is_empty s c z))
+    let d = only_parks_fronts (len_of s.world.queues builtin_queue) s builtin_queue gone refl (omega arith) h in
+    k ∙ ap (λ x. one_after_other gone x) (only_fills gone.state builtin_queue c filled y) ∙ ap (λ (x : Stepped). one_after_other x (fill x.state builtin_queue c)) d
+    ∙ ap (λ b. builtin_if s c b (park_fronts (len_of s.world.queues builtin_queue) s builtin_queue)) (sym (is_empty s c z))
 
 cycles_builtin : (s : State) (c : ℕ) (p : Option ℕ) (ran : Bool) → CyclesBuiltin s c p ran (builtin_cycle s c p ran)
 unfolding builtin_cycle builtin_ask
@@ -368,12 +368,12 @@ cycles_builtin s c p ran = record {
     a = builtin_fill f.state c
 
 abbrev asked_builtin : Stepped → ℕ → Option ℕ → Bool → Stepped → Stepped
-asked_builtin f c p ran a = joined f (joined a (swap_or_rest a.state c p ran))
+asked_builtin f c p ran a = one_after_other f (one_after_other a (swap_or_rest a.state c p ran))
 
 only_cycles_builtin : (s : State) (c : ℕ) (p : Option ℕ) (ran : Bool) (r : Stepped) → CyclesBuiltin s c p ran r → r ≡ builtin_cycle s c p ran
 unfolding builtin_cycle builtin_ask
 only_cycles_builtin s c p ran r h =
-    h.all ∙ ap (λ x. joined h.supplied (joined h.asked x)) (only_swaps_or_rests h.asked.state c p ran h.ended h.ends)
+    h.all ∙ ap (λ x. one_after_other h.supplied (one_after_other h.asked x)) (only_swaps_or_rests h.asked.state c p ran h.ended h.ends)
     ∙ ap (λ (a : Stepped). asked_builtin h.supplied c p ran a) (only_fills_builtin h.supplied.state c h.asked h.asks)
     ∙ ap (λ (f : Stepped). asked_builtin f c p ran (builtin_fill f.state c)) (only_supplies s c h.supplied h.supplies)
 
@@ -389,7 +389,7 @@ picks s c p ran = go (any_here l.state c)
     l : Stepped
     l = leave s c p
 
-    go : HasAny l.state c → Picks s c p ran (joined l (start_if l.state c ran (not (local_len l.state.world c == 0))))
+    go : HasAny l.state c → Picks s c p ran (one_after_other l (start_if l.state c ran (not (local_len l.state.world c == 0))))
     go (inl x) = rw (has_some l.state c x) (Runs_front l (start l.state c) (leaves s c p) x (starts l.state c) refl)
     go (inr z) = rw (is_empty l.state c z) (Emptied l (builtin_cycle l.state c None ran) (leaves s c p) z (cycles_builtin l.state c None ran) refl)
 
@@ -404,9 +404,9 @@ anew_is s c ran z = ap (λ b. start_if s c ran b) (sym (is_empty s c z))
 only_picks : (s : State) (c : ℕ) (p : Option ℕ) (ran : Bool) (r : Stepped) → Picks s c p ran r → r ≡ pick s c p ran
 unfolding pick
 only_picks s c p ran r (Runs_front l x h n y k) =
-    k ∙ ap (λ z. joined l z) (only_starts l.state c x y ∙ start_is l.state c ran n) ∙ ap (λ (z : Stepped). joined z (start_or_cycle z.state c ran)) (only_leaves s c p l h)
+    k ∙ ap (λ z. one_after_other l z) (only_starts l.state c x y ∙ start_is l.state c ran n) ∙ ap (λ (z : Stepped). one_after_other z (start_or_cycle z.state c ran)) (only_leaves s c p l h)
 only_picks s c p ran r (Emptied l x h n y k) =
-    k ∙ ap (λ z. joined l z) (only_cycles_builtin l.state c None ran x y ∙ anew_is l.state c ran n) ∙ ap (λ (z : Stepped). joined z (start_or_cycle z.state c ran)) (only_leaves s c p l h)
+    k ∙ ap (λ z. one_after_other l z) (only_cycles_builtin l.state c None ran x y ∙ anew_is l.state c ran n) ∙ ap (λ (z : Stepped). one_after_other z (start_or_cycle z.state c ran)) (only_leaves s c p l h)
 
 abbrev pick_if : State → ℕ → Option ℕ → Bool → Bool → Stepped
 pick_if s c p ran b = if b then pick s c p ran else rest s c p ran
@@ -438,7 +438,7 @@ only_ends s c p ran r (Picked e l h) = only_picks s c p ran r h ∙ pick_is s c 
 only_ends s c p ran r (Rested e z h) = only_rests s c p ran r h ∙ rest_is s c p ran z ∙ ap (λ o. concluded_as s c p ran o) (sym e)
 
 abbrev seek_if : Stepped → ℕ → Option ℕ → Bool → Bool → Stepped
-seek_if f c p ran b = joined f (if b then pick f.state c p ran else ask f.state c p ran)
+seek_if f c p ran b = one_after_other f (if b then pick f.state c p ran else ask f.state c p ran)
 
 seeks : (s : State) (c : ℕ) (p : Option ℕ) (ran : Bool) → Seeks s c p ran (seek s c p ran)
 unfolding seek ask
@@ -456,18 +456,18 @@ seeks s c p ran = go (any_here f.state c)
 
 -- ---- and nothing else
 
-tries_came : (n : ℕ) (s : State) (c : ℕ) (p : Option ℕ) → 0 < local_len (dispatched s c p).state.world c → tries (suc n) s c p ≡ dispatched s c p
+tries_came : (n : ℕ) (s : State) (c : ℕ) (p : Option ℕ) → 0 < local_len (after_dispatch s c p).state.world c → tries (suc n) s c p ≡ after_dispatch s c p
 unfolding tries
-tries_came n s c p l = rw (ne_eqb (local_len (dispatched s c p).state.world c) 0 (λ e. omega (arith, e, l))) refl
+tries_came n s c p l = rw (ne_eqb (local_len (after_dispatch s c p).state.world c) 0 (λ e. omega (arith, e, l))) refl
 
-tries_moved_none : (n : ℕ) (s : State) (c : ℕ) (p : Option ℕ) → local_len (dispatched s c p).state.world c ≡ 0 → (dispatched s c p).state.world.call.has_moved ≡ false → tries (suc n) s c p ≡ dispatched s c p
+tries_moved_none : (n : ℕ) (s : State) (c : ℕ) (p : Option ℕ) → local_len (after_dispatch s c p).state.world c ≡ 0 → (after_dispatch s c p).state.world.call.has_moved ≡ false → tries (suc n) s c p ≡ after_dispatch s c p
 unfolding tries
-tries_moved_none n s c p z e = rw (eq-eqb (local_len (dispatched s c p).state.world c) 0 z, e) refl
+tries_moved_none n s c p z e = rw (eq-eqb (local_len (after_dispatch s c p).state.world c) 0 z, e) refl
 
-tries_again : (n : ℕ) (s : State) (c : ℕ) (p : Option ℕ) → local_len (dispatched s c p).state.world c ≡ 0 → (dispatched s c p).state.world.call.has_moved ≡ true
-    → tries (suc n) s c p ≡ joined (dispatched s c p) (tries n (dispatched s c p).state c p)
+tries_again : (n : ℕ) (s : State) (c : ℕ) (p : Option ℕ) → local_len (after_dispatch s c p).state.world c ≡ 0 → (after_dispatch s c p).state.world.call.has_moved ≡ true
+    → tries (suc n) s c p ≡ one_after_other (after_dispatch s c p) (tries n (after_dispatch s c p).state c p)
 unfolding tries
-tries_again n s c p z e = rw (eq-eqb (local_len (dispatched s c p).state.world c) 0 z, e) refl
+tries_again n s c p z e = rw (eq-eqb (local_len (after_dispatch s c p).state.world c) 0 z, e) refl
 
 tries_none : (s : State) (c : ℕ) (p : Option ℕ) → tries 0 s c p ≡ stays s
 unfolding tries
@@ -483,7 +483,7 @@ only_asks (suc n) s c p r (NothingMoved _ _ _ _ _ h z f) =
     e ∙ sym (tries_moved_none n s c p (subst (λ (x : Stepped). local_len x.state.world c ≡ 0) e z) (subst (λ (x : Stepped). x.state.world.call.has_moved ≡ false) e f))
 only_asks (suc n) s c p r (Again _ _ _ _ d more _ h z f a k) =
     let e = only_dispatches s c p d h in
-    k ∙ ap (λ x. joined d x) (only_asks n d.state c p more a) ∙ ap (λ (x : Stepped). joined x (tries n x.state c p)) e
+    k ∙ ap (λ x. one_after_other d x) (only_asks n d.state c p more a) ∙ ap (λ (x : Stepped). one_after_other x (tries n x.state c p)) e
     ∙ sym (tries_again n s c p (subst (λ (x : Stepped). local_len x.state.world c ≡ 0) e z) (subst (λ (x : Stepped). x.state.world.call.has_moved ≡ true) e f))
 
 abbrev sought : Stepped → ℕ → Option ℕ → Bool → Stepped
@@ -495,17 +495,17 @@ sought_is s c p ran f e = ap (λ (g : Stepped). sought g c p ran) e
 
 -- the rest of a cycle, once dispatch is asked
 abbrev asked_from : Stepped → ℕ → Option ℕ → Bool → Stepped → Stepped
-asked_from f c p ran a = joined f (joined a (conclude a.state c p ran))
+asked_from f c p ran a = one_after_other f (one_after_other a (conclude a.state c p ran))
 
-asked_is : (f : Stepped) (c : ℕ) (p : Option ℕ) (ran : Bool) → asked_from f c p ran (tries 32 f.state c p) ≡ joined f (ask f.state c p ran)
+asked_is : (f : Stepped) (c : ℕ) (p : Option ℕ) (ran : Bool) → asked_from f c p ran (tries 32 f.state c p) ≡ one_after_other f (ask f.state c p ran)
 unfolding ask
 asked_is f c p ran = refl
 
 only_seeks : (s : State) (c : ℕ) (p : Option ℕ) (ran : Bool) (r : Stepped) → Seeks s c p ran r → r ≡ seek s c p ran
 only_seeks s c p ran r (Filled f x h l y k) =
-    k ∙ ap (λ z. joined f z) (only_picks f.state c p ran x y) ∙ ap (λ b. seek_if f c p ran b) (sym (has_some f.state c l)) ∙ sought_is s c p ran f (only_supplies s c f h)
+    k ∙ ap (λ z. one_after_other f z) (only_picks f.state c p ran x y) ∙ ap (λ b. seek_if f c p ran b) (sym (has_some f.state c l)) ∙ sought_is s c p ran f (only_supplies s c f h)
 only_seeks s c p ran r (Asked f a x h z b y k) =
-    k ∙ ap (λ u. joined f (joined a u)) (only_ends a.state c p ran x y) ∙ ap (λ (u : Stepped). asked_from f c p ran u) (only_asks 32 f.state c p a b) ∙ asked_is f c p ran
+    k ∙ ap (λ u. one_after_other f (one_after_other a u)) (only_ends a.state c p ran x y) ∙ ap (λ (u : Stepped). asked_from f c p ran u) (only_asks 32 f.state c p a b) ∙ asked_is f c p ran
     ∙ ap (λ e. seek_if f c p ran e) (sym (is_empty f.state c z)) ∙ sought_is s c p ran f (only_supplies s c f h)
 
 -- ---- whichever is in force

@@ -12,11 +12,11 @@ use Rattle.scx_world.specs.declared.faults.Fault.{Fault}
 use Rattle.scx_world.specs.declared.faults.Fault.TheVariants as fault
 use Rattle.scx_world.specs.declared.notes.Note.{Note}
 use Rattle.scx_world.specs.declared.notes.What.TheVariants as note
-use Rattle.scx_world.specs.Ids.{builtin}
-use Rattle.scx_world.specs.World.{WorldState, waits, running, said}
-use Rattle.scx_world.specs.Tasks.{gone}
+use Rattle.scx_world.specs.Ids.{builtin_queue}
+use Rattle.scx_world.specs.World.{WorldState, waits, running, note_now}
+use Rattle.scx_world.specs.Tasks.{after_leave}
 use Rattle.scx_world.specs.Helpers.{or_fault}
-use Rattle.scx_world.specs.Ejecting.{put_out, put_builtin, evict, evicted, evict_note, evict_notes, cut_task, cut, eject_note}
+use Rattle.scx_world.specs.Ejecting.{put_out, put_builtin, evict, after_evictions, evict_note, evict_notes, cut_task, after_cut, eject_note}
 use Rattle.scx_machine.specs.Steps.{State, Stepped, with_world}
 use Rattle.scx_machine.specs.Ejecting.{moves_over, eject, ejected_for}
 use Rattle.scx_machine.specs.Callbacks.{answer_fault, end_fault, fault_of}
@@ -86,23 +86,23 @@ only_fault_of b e f (Of_no_answer n x y other) = sym (no_answer_fault b e.outsid
 
 -- ---- who goes where
 
-goes_over : (n : ℕ) (w : WorldState) → GoOver w n (evict_notes n w) (evicted n w)
+goes_over : (n : ℕ) (w : WorldState) → GoOver w n (evict_notes n w) (after_evictions n w)
 goes_over zero w = Begins [] w refl refl
 goes_over (suc n) w = go (waits u n) refl (goes_over n w)
   where
     u : WorldState
-    u = evicted n w
+    u = after_evictions n w
 
     go : (b : Bool) → waits u n ≡ b → GoOver w n (evict_notes n w) u
-        → GoOver w (suc n) (evict_notes n w ++ (if b then said u (note.Insert n builtin) ∷ [] else [])) (if b then put_builtin (gone u n) n else u)
+        → GoOver w (suc n) (evict_notes n w ++ (if b then note_now u (note.Insert n builtin_queue) ∷ [] else [])) (if b then put_builtin (after_leave u n) n else u)
     go true e h = Waits n (evict_notes n w) _ u _ h e refl refl
     go false e h = rw (append-nil (evict_notes n w)) (Passes n (evict_notes n w) u h e)
 
 abbrev went : WorldState → ℕ → Bool → WorldState
-went u n b = if b then put_builtin (gone u n) n else u
+went u n b = if b then put_builtin (after_leave u n) n else u
 
 abbrev told : WorldState → ℕ → Bool → List Note
-told u n b = if b then said u (note.Insert n builtin) ∷ [] else []
+told u n b = if b then note_now u (note.Insert n builtin_queue) ∷ [] else []
 
 went_is : (u : WorldState) (n : ℕ) (b : Bool) → waits u n ≡ b → went u n b ≡ evict u n
 went_is u n b e = ap (λ x. went u n x) (sym e)
@@ -110,7 +110,7 @@ went_is u n b e = ap (λ x. went u n x) (sym e)
 told_is : (u : WorldState) (n : ℕ) (b : Bool) → waits u n ≡ b → told u n b ≡ evict_note u n
 told_is u n b e = ap (λ x. told u n x) (sym e)
 
-only_over : (n : ℕ) (w : WorldState) (notes : List Note) (v : WorldState) → GoOver w n notes v → (notes ≡ evict_notes n w) × (v ≡ evicted n w)
+only_over : (n : ℕ) (w : WorldState) (notes : List Note) (v : WorldState) → GoOver w n notes v → (notes ≡ evict_notes n w) × (v ≡ after_evictions n w)
 only_over zero w notes v (Begins _ _ e k) = (e, k)
 only_over (suc n) w notes v (Waits _ before _ u _ h x e k) =
     let f = only_over n w before u h in (
@@ -126,14 +126,14 @@ only_over (suc n) w notes v (Passes _ _ _ h x) =
 -- ---- ejections
 
 abbrev left_by : State → Eject → List Note → WorldState → Stepped
-left_by s x notes v = record { state = with_world s (cut (length v.cpus) v); notes = said s.world (eject_note x) ∷ notes; calls = [] }
+left_by s x notes v = record { state = with_world s (after_cut (length v.cpus) v); notes = note_now s.world (eject_note x) ∷ notes; calls = [] }
 
 -- a policy is ejected as it is computed
 pub ejects : (s : State) (x : Eject) → Ejects s x (eject s x)
 unfolding eject moves_over
 ejects s x = record {
   notes = evict_notes (length s.world.tasks) (put_out s.world x);
-  over = evicted (length s.world.tasks) (put_out s.world x);
+  over = after_evictions (length s.world.tasks) (put_out s.world x);
   all_go = goes_over (length s.world.tasks) (put_out s.world x);
   all = refl;
 }
@@ -164,24 +164,24 @@ if_stays false v w x p q = q
 put_stays : (w : WorldState) (t : ℕ) → (put_builtin w t).ejected ≡ w.ejected
 put_stays w t = if_stays (nat_lt t (length w.tasks)) _ w w.ejected refl refl
 
-evicted_stays : (n : ℕ) (w : WorldState) → (evicted n w).ejected ≡ w.ejected
+evicted_stays : (n : ℕ) (w : WorldState) → (after_evictions n w).ejected ≡ w.ejected
 evicted_stays zero w = refl
 evicted_stays (suc n) w =
-    let u = evicted n w in
-    if_stays (waits u n) (put_builtin (gone u n) n) u w.ejected (put_stays (gone u n) n ∙ evicted_stays n w) (evicted_stays n w)
+    let u = after_evictions n w in
+    if_stays (waits u n) (put_builtin (after_leave u n) n) u w.ejected (put_stays (after_leave u n) n ∙ evicted_stays n w) (evicted_stays n w)
 
-cut_stays : (n : ℕ) (w : WorldState) → (cut n w).ejected ≡ w.ejected
+cut_stays : (n : ℕ) (w : WorldState) → (after_cut n w).ejected ≡ w.ejected
 cut_stays zero w = refl
-cut_stays (suc n) w = go (running (cut n w) n) ∙ cut_stays n w
+cut_stays (suc n) w = go (running (after_cut n w) n) ∙ cut_stays n w
   where
-    go : (o : Option ℕ) → (cut_task o (cut n w)).ejected ≡ (cut n w).ejected
+    go : (o : Option ℕ) → (cut_task o (after_cut n w)).ejected ≡ (after_cut n w).ejected
     go None = refl
     go (Some t) = refl
 
 stays_out : (s : State) (x : Eject) → (eject s x).state.world.ejected ≡ Some x
 unfolding eject moves_over
 stays_out s x =
-    let v = evicted (length s.world.tasks) (put_out s.world x) in
+    let v = after_evictions (length s.world.tasks) (put_out s.world x) in
     cut_stays (length v.cpus) v ∙ evicted_stays (length s.world.tasks) (put_out s.world x)
 
 some_eject : (x : Eject) → Some x ≡ None → ⊥

@@ -10,23 +10,23 @@ use Rattle.scx_world.specs.declared.eject.Eject.{Eject}
 use Rattle.scx_world.specs.declared.eject.Eject.TheVariants as cause
 use Rattle.scx_world.specs.declared.faults.Fault.{Fault}
 use Rattle.scx_world.specs.declared.notes.What.TheVariants as note
-use Rattle.scx_world.specs.Ids.{parked}
-use Rattle.scx_world.specs.World.{is_throttled, with_tree, task_at, running, cpu_of, is_idle, said, begun}
-use Rattle.scx_world.specs.Tasks.{asleep, let_go, ticked, used_ms, later, begun_periods, reweighed}
+use Rattle.scx_world.specs.Ids.{parked_queue}
+use Rattle.scx_world.specs.World.{is_throttled, with_tree, task_at, running, cpu_of, is_idle, note_now, at_callback}
+use Rattle.scx_world.specs.Tasks.{after_sleep, let_go, after_tick, used_ms, later, begun_periods, after_reweigh}
 use Rattle.scx_world.specs.Waits.{first_overdue}
 use Rattle.scx_machine.specs.declared.events.Event.TheVariants.{Wake, Sleep, Tick, Clock, SetWeight}
-use Rattle.scx_machine.specs.Steps.{State, Stepped, with_world, stays, after, joined}
+use Rattle.scx_machine.specs.Steps.{State, Stepped, with_world, stays, after, one_after_other}
 use Rattle.scx_machine.specs.Ejecting.{ejected_for}
-use Rattle.scx_machine.specs.Callbacks.{called, ended, fault_of, unless_ejected, acting, call_back, answered_by, task_cpu_and_0}
+use Rattle.scx_machine.specs.Callbacks.{call_ending, after_callback, fault_of, unless_ejected, acting, call_back, answered_by, task_cpu_and_0}
 use Rattle.scx_machine.specs.Put.{enters, put}
 use Rattle.scx_machine.specs.Parking.{park, let_go_one, let_go_from, let_all_go}
 use Rattle.scx_machine.specs.Cycle.{stopping, cycle}
 use Rattle.scx_machine.specs.declared.events.Refused.TheVariants.{UnknownGroup, BadWeight}
-use Rattle.scx_machine.specs.Events.{refusal, answered_cpu, target, settled, settle, select, wake, sleep_from_cpu, sleep_from, sleep, throttle, expire, count_down, tick_of, tick, overdue, stalled, clock}
+use Rattle.scx_machine.specs.Events.{refusal, answered_cpu, target, insert_or_put, settle, select, wake, sleep_from_cpu, sleep_from, sleep, throttle, expire, count_down, tick_of, tick, overdue, eject_if_stalled, clock}
 use Rattle.scx_rules.specs.Cycles.{noting, silent, gone_off, parking}
 use Rattle.scx_safety.specs.Programs.{VerifiedProgram}
 use Rattle.scx_world.specs.declared.call.Insert.{Insert}
-use Rattle.scx_rules.specs.Events.{awake, select_called, select_answered, IsTarget, Is_ejected, NoCallback, Named, Settles, WasInserted, WasPut, Wakes, IdleTarget, BusyTarget, Sleeps, FromQueue, FromCpu, ran_on, Ticks, NobodyRuns, IsThrottled, RunsOn, RunsOut, aged, LetsGo, Enough, NoMore, StaysParked, IsLetGo, LetsAllGo, Watches, Is_out, In_time, Too_late, Ages}
+use Rattle.scx_rules.specs.Events.{after_waking, select_called, select_answered, IsTarget, Is_ejected, NoCallback, Named, Settles, WasInserted, WasPut, Wakes, IdleTarget, BusyTarget, Sleeps, FromQueue, FromCpu, ran_on, Ticks, NobodyRuns, IsThrottled, RunsOn, RunsOut, after_clock, LetsGo, Enough, NoMore, StaysParked, IsLetGo, LetsAllGo, Watches, Is_out, In_time, Too_late, Ages}
 use Rattle.scx_rules.specs.Laws.{RulesAllowEvents, RulesAllowEventsOnly}
 use Rattle.scx_rules.proofs.Choosing.{is_choice, only_choice}
 use Rattle.scx_rules.proofs.Ejecting.{ejects, only_ejects, no_fault, NamesCpu, names_cpu}
@@ -35,18 +35,18 @@ use Rattle.scx_rules.proofs.Cycling.{puts, only_puts, stops, only_stops, cycles,
 
 -- ---- wake
 
-settles : (s : State) (t c : ℕ) → Settles s t c (settled s.world.call.insert s t c)
+settles : (s : State) (t c : ℕ) → Settles s t c (insert_or_put s.world.call.insert s t c)
 unfolding enters
 settles s t c = go s.world.call.insert refl
   where
-    go : (o : Option Insert) → s.world.call.insert ≡ o → Settles s t c (settled o s t c)
+    go : (o : Option Insert) → s.world.call.insert ≡ o → Settles s t c (insert_or_put o s t c)
     go None e = WasPut e (puts s t c 1)
     go (Some i) e = WasInserted i e refl
 
-only_settles : (s : State) (t c : ℕ) (r : Stepped) → Settles s t c r → r ≡ settled s.world.call.insert s t c
+only_settles : (s : State) (t c : ℕ) (r : Stepped) → Settles s t c r → r ≡ insert_or_put s.world.call.insert s t c
 unfolding enters
-only_settles s t c r (WasPut e h) = only_puts s t c 1 r h ∙ ap (λ (o : Option Insert). settled o s t c) (sym e)
-only_settles s t c r (WasInserted i e k) = k ∙ ap (λ (o : Option Insert). settled o s t c) (sym e)
+only_settles s t c r (WasPut e h) = only_puts s t c 1 r h ∙ ap (λ (o : Option Insert). insert_or_put o s t c) (sym e)
+only_settles s t c r (WasInserted i e k) = k ∙ ap (λ (o : Option Insert). insert_or_put o s t c) (sym e)
 
 abbrev target_of : State → ℕ → Option ℕ → ℕ
 target_of s t a = target (acting s callback.SelectCpu) s.world t a
@@ -62,10 +62,10 @@ selects : (s : State) (t : ℕ) → (select_called s t).state.world.ejected ≡ 
 unfolding call_back answered_by
 selects s t out =
     let d = (task_at s.world t).prev_cpu in
-    let e = called (acting s callback.SelectCpu) callback.SelectCpu (task_cpu_and_0 t d) s.maps (begun s.world callback.SelectCpu t d) in
-    let none = no_fault (fault_of callback.SelectCpu e) (ended s.policy e) out in
+    let e = call_ending (acting s callback.SelectCpu) callback.SelectCpu (task_cpu_and_0 t d) s.maps (at_callback s.world callback.SelectCpu t d) in
+    let none = no_fault (fault_of callback.SelectCpu e) (after_callback s.policy e) out in
     let h = names_cpu e none in
-    (h.0, h.1, subst (λ (f : Option Fault). h.0 < length (ejected_for f (ended s.policy e)).state.world.cpus) (sym none) h.2)
+    (h.0, h.1, subst (λ (f : Option Fault). h.0 < length (ejected_for f (after_callback s.policy e)).state.world.cpus) (sym none) h.2)
 
 is_target : (s : State) (t : ℕ) (a : Option ℕ) → (s.world.ejected ≡ None → NamesCpu (length s.world.cpus) a) → IsTarget s t a (target_of s t a)
 is_target s t a names = go s.world.ejected refl s.policy.callbacks.select_cpu refl
@@ -91,64 +91,64 @@ only_target s t a c (Named p d e x l) = named (below c (length s.world.cpus) l) 
     named k = rw k refl
 
 abbrev wake_note : State → ℕ → Stepped → Stepped
-wake_note s t r = after (said s.world (note.Wake t) ∷ []) r
+wake_note s t r = after (note_now s.world (note.Wake t) ∷ []) r
 
 abbrev chosen : State → ℕ → ℕ
-chosen s t = target_of (select_called (awake s t) t).state t (select_answered (awake s t) t)
+chosen s t = target_of (select_called (after_waking s t) t).state t (select_answered (after_waking s t) t)
 
 wakes : (s : State) (t : ℕ) → Wakes s t (wake s t)
 unfolding wake select settle
 wakes s t = go (is_idle x.state.world c) refl
   where
     r : Stepped
-    r = select_called (awake s t) t
+    r = select_called (after_waking s t) t
 
     c : ℕ
     c = chosen s t
 
     x : Stepped
-    x = settled r.state.world.call.insert r.state t c
+    x = insert_or_put r.state.world.call.insert r.state t c
 
-    go : (b : Bool) → is_idle x.state.world c ≡ b → Wakes s t (wake_note s t (joined r (if b then joined x (cycle x.state c None false) else x)))
-    go true e = IdleTarget c x (cycle x.state c None false) (is_target r.state t (select_answered (awake s t) t) (selects (awake s t) t)) (settles r.state t c) e (cycles x.state c None false) refl
-    go false e = BusyTarget c x (is_target r.state t (select_answered (awake s t) t) (selects (awake s t) t)) (settles r.state t c) e refl
+    go : (b : Bool) → is_idle x.state.world c ≡ b → Wakes s t (wake_note s t (one_after_other r (if b then one_after_other x (cycle x.state c None false) else x)))
+    go true e = IdleTarget c x (cycle x.state c None false) (is_target r.state t (select_answered (after_waking s t) t) (selects (after_waking s t) t)) (settles r.state t c) e (cycles x.state c None false) refl
+    go false e = BusyTarget c x (is_target r.state t (select_answered (after_waking s t) t) (selects (after_waking s t) t)) (settles r.state t c) e refl
 
-wake_is : (s : State) (t : ℕ) → wake s t ≡ wake_note s t (joined (select_called (awake s t) t) (settle (select_called (awake s t) t).state t (chosen s t)))
+wake_is : (s : State) (t : ℕ) → wake s t ≡ wake_note s t (one_after_other (select_called (after_waking s t) t) (settle (select_called (after_waking s t) t).state t (chosen s t)))
 unfolding wake select
 wake_is s t = refl
 
-settle_idle : (s : State) (t c : ℕ) (x : Stepped) → x ≡ settled s.world.call.insert s t c → is_idle x.state.world c ≡ true → settle s t c ≡ joined x (cycle x.state c None false)
+settle_idle : (s : State) (t c : ℕ) (x : Stepped) → x ≡ insert_or_put s.world.call.insert s t c → is_idle x.state.world c ≡ true → settle s t c ≡ one_after_other x (cycle x.state c None false)
 unfolding settle
-settle_idle s t c x e idle = let i = subst (λ (y : Stepped). is_idle y.state.world c ≡ true) e idle in rw i (ap (λ (y : Stepped). joined y (cycle y.state c None false)) (sym e))
+settle_idle s t c x e idle = let i = subst (λ (y : Stepped). is_idle y.state.world c ≡ true) e idle in rw i (ap (λ (y : Stepped). one_after_other y (cycle y.state c None false)) (sym e))
 
-settle_busy : (s : State) (t c : ℕ) (x : Stepped) → x ≡ settled s.world.call.insert s t c → is_idle x.state.world c ≡ false → settle s t c ≡ x
+settle_busy : (s : State) (t c : ℕ) (x : Stepped) → x ≡ insert_or_put s.world.call.insert s t c → is_idle x.state.world c ≡ false → settle s t c ≡ x
 unfolding settle
 settle_busy s t c x e idle = let i = subst (λ (y : Stepped). is_idle y.state.world c ≡ false) e idle in rw i (sym e)
 
 only_wakes : (s : State) (t : ℕ) (r : Stepped) → Wakes s t r → r ≡ wake s t
 only_wakes s t r (IdleTarget c x found tg st i y k) =
-    let v = select_called (awake s t) t in
-    k ∙ ap (λ z. wake_note s t (joined v (joined x z))) (only_cycles x.state c None false found y)
-    ∙ ap (λ z. wake_note s t (joined v z)) (sym (settle_idle v.state t c x (only_settles v.state t c x st) i))
-    ∙ ap (λ d. wake_note s t (joined v (settle v.state t d))) (only_target v.state t (select_answered (awake s t) t) c tg) ∙ sym (wake_is s t)
+    let v = select_called (after_waking s t) t in
+    k ∙ ap (λ z. wake_note s t (one_after_other v (one_after_other x z))) (only_cycles x.state c None false found y)
+    ∙ ap (λ z. wake_note s t (one_after_other v z)) (sym (settle_idle v.state t c x (only_settles v.state t c x st) i))
+    ∙ ap (λ d. wake_note s t (one_after_other v (settle v.state t d))) (only_target v.state t (select_answered (after_waking s t) t) c tg) ∙ sym (wake_is s t)
 only_wakes s t r (BusyTarget c x tg st i k) =
-    let v = select_called (awake s t) t in
-    k ∙ ap (λ z. wake_note s t (joined v z)) (sym (settle_busy v.state t c x (only_settles v.state t c x st) i))
-    ∙ ap (λ d. wake_note s t (joined v (settle v.state t d))) (only_target v.state t (select_answered (awake s t) t) c tg) ∙ sym (wake_is s t)
+    let v = select_called (after_waking s t) t in
+    k ∙ ap (λ z. wake_note s t (one_after_other v z)) (sym (settle_busy v.state t c x (only_settles v.state t c x st) i))
+    ∙ ap (λ d. wake_note s t (one_after_other v (settle v.state t d))) (only_target v.state t (select_answered (after_waking s t) t) c tg) ∙ sym (wake_is s t)
 
 -- ---- sleep
 
 abbrev asleep_after : Stepped → ℕ → State
-asleep_after r t = with_world r.state (asleep r.state.world t)
+asleep_after r t = with_world r.state (after_sleep r.state.world t)
 
 abbrev slept : State → ℕ → ℕ → Stepped → Stepped → Stepped
-slept s t c l x = after (said s.world (note.Sleep t) ∷ said s.world (note.Stop t c) ∷ []) (joined l x)
+slept s t c l x = after (note_now s.world (note.Sleep t) ∷ note_now s.world (note.Stop t c) ∷ []) (one_after_other l x)
 
 sleeps : (s : State) (t : ℕ) → Sleeps s t (sleep s t)
 unfolding sleep sleep_from_cpu
 sleeps s t = go (cpu_of s.world t) refl
   where
-    go : (o : Option ℕ) → cpu_of s.world t ≡ o → Sleeps s t (after (said s.world (note.Sleep t) ∷ []) (sleep_from o s t))
+    go : (o : Option ℕ) → cpu_of s.world t ≡ o → Sleeps s t (after (note_now s.world (note.Sleep t) ∷ []) (sleep_from o s t))
     go None e = FromQueue e refl
     go (Some c) e =
         let l = stopping (gone_off s c t) c t 0 in
@@ -164,7 +164,7 @@ only_sleeps s t r (FromCpu c l found e h y k) =
 -- ---- tick
 
 abbrev thrown : State → ℕ → ℕ → Stepped → Stepped → Stepped
-thrown s c t l x = after (said s.world (note.Stop t c) ∷ []) (joined l (joined (parking l.state t) x))
+thrown s c t l x = after (note_now s.world (note.Stop t c) ∷ []) (one_after_other l (one_after_other (parking l.state t) x))
 
 abbrev counted_as : State → ℕ → ℕ → Bool → Stepped
 counted_as v c t b = if b then throttle v c t else expire v c t
@@ -221,12 +221,12 @@ lets_go (suc n) s (Some t) = go (is_throttled s.world t) refl (lets_go n s (behi
     r : Stepped
     r = let_go_one s t
 
-    go : (b : Bool) → is_throttled s.world t ≡ b → LetsGo n s next (let_go_from n s next) → LetsGo n r.state next (let_go_from n r.state next) → LetsGo (suc n) s (Some t) (cond b (let_go_from n s next) (joined r (let_go_from n r.state next)))
+    go : (b : Bool) → is_throttled s.world t ≡ b → LetsGo n s next (let_go_from n s next) → LetsGo n r.state next (let_go_from n r.state next) → LetsGo (suc n) s (Some t) (cond b (let_go_from n s next) (one_after_other r (let_go_from n r.state next)))
     go true e stay more = StaysParked n s t _ e stay
     go false e stay more = IsLetGo n s t r _ _ e (puts (with_world s (let_go s.world t)) t (task_at s.world t).prev_cpu 0) more refl
 
 abbrev let_if : ℕ → State → ℕ → Bool → Stepped → Stepped
-let_if n s t b r = if b then let_go_from n s (behind_of s.world.queues t) else joined r (let_go_from n r.state (behind_of s.world.queues t))
+let_if n s t b r = if b then let_go_from n s (behind_of s.world.queues t) else one_after_other r (let_go_from n r.state (behind_of s.world.queues t))
 
 only_lets_go : (n : ℕ) (s : State) (at : Option ℕ) (r : Stepped) → LetsGo n s at r → r ≡ let_go_from n s at
 unfolding let_go_from let_go_one
@@ -234,24 +234,24 @@ only_lets_go zero s at r (Enough _ _ _ k) = k
 only_lets_go (suc n) s None r (NoMore _ _ _ k) = k
 only_lets_go (suc n) s (Some t) r (StaysParked _ _ _ _ e h) = only_lets_go n s (behind_of s.world.queues t) r h ∙ ap (λ b. let_if n s t b (let_go_one s t)) (sym e)
 only_lets_go (suc n) s (Some t) r (IsLetGo _ _ _ x more _ e h y k) =
-    k ∙ ap (λ z. joined x z) (only_lets_go n x.state (behind_of s.world.queues t) more y)
-    ∙ ap (λ (z : Stepped). joined z (let_go_from n z.state (behind_of s.world.queues t))) (only_puts (with_world s (let_go s.world t)) t (task_at s.world t).prev_cpu 0 x h)
+    k ∙ ap (λ z. one_after_other x z) (only_lets_go n x.state (behind_of s.world.queues t) more y)
+    ∙ ap (λ (z : Stepped). one_after_other z (let_go_from n z.state (behind_of s.world.queues t))) (only_puts (with_world s (let_go s.world t)) t (task_at s.world t).prev_cpu 0 x h)
     ∙ ap (λ b. let_if n s t b (let_go_one s t)) (sym e)
 
 lets_all_go : (s : State) → LetsAllGo s (let_all_go s)
 unfolding let_all_go
-lets_all_go s = lets_go (len_of s.world.queues parked) s (front_of s.world.queues parked)
+lets_all_go s = lets_go (len_of s.world.queues parked_queue) s (front_of s.world.queues parked_queue)
 
 only_lets_all_go : (s : State) (r : Stepped) → LetsAllGo s r → r ≡ let_all_go s
 unfolding let_all_go
-only_lets_all_go s r h = only_lets_go (len_of s.world.queues parked) s (front_of s.world.queues parked) r h
+only_lets_all_go s r h = only_lets_go (len_of s.world.queues parked_queue) s (front_of s.world.queues parked_queue) r h
 
 -- ---- the clock
 
 abbrev watched_as : State → Option Eject → Option ℕ → Stepped
-watched_as s x o = stalled (if is_some x then None else o) s
+watched_as s x o = eject_if_stalled (if is_some x then None else o) s
 
-watches : (s : State) → Watches s (stalled (overdue s) s)
+watches : (s : State) → Watches s (eject_if_stalled (overdue s) s)
 watches s = go s.world.ejected refl (first_overdue s.world s.policy.timeout_ms) refl
   where
     go : (x : Option Eject) → s.world.ejected ≡ x → (o : Option ℕ) → first_overdue s.world s.policy.timeout_ms ≡ o → Watches s (watched_as s x o)
@@ -259,23 +259,23 @@ watches s = go s.world.ejected refl (first_overdue s.world s.policy.timeout_ms) 
     go None d None e = In_time d (nobody_late s.world s.policy.timeout_ms e) refl
     go None d (Some t) e = Too_late t d (is_first s.world s.policy.timeout_ms t e) (ejects s (cause.Stall t s.world.clock))
 
-watched_at : (s : State) (x : Option Eject) (o : Option ℕ) → s.world.ejected ≡ x → first_overdue s.world s.policy.timeout_ms ≡ o → watched_as s x o ≡ stalled (overdue s) s
+watched_at : (s : State) (x : Option Eject) (o : Option ℕ) → s.world.ejected ≡ x → first_overdue s.world s.policy.timeout_ms ≡ o → watched_as s x o ≡ eject_if_stalled (overdue s) s
 watched_at s x o d e = ap (λ k. watched_as s x k) (sym e) ∙ ap (λ k. watched_as s k (first_overdue s.world s.policy.timeout_ms)) (sym d)
 
-only_watches : (s : State) (r : Stepped) → Watches s r → r ≡ stalled (overdue s) s
+only_watches : (s : State) (r : Stepped) → Watches s r → r ≡ eject_if_stalled (overdue s) s
 only_watches s r (Is_out x d k) = k ∙ watched_at s (Some x) (first_overdue s.world s.policy.timeout_ms) d refl
 only_watches s r (In_time d nobody k) = k ∙ watched_at s None None d (only_nobody s.world s.policy.timeout_ms nobody)
 only_watches s r (Too_late t d first h) = only_ejects s (cause.Stall t s.world.clock) r h ∙ watched_at s None (Some t) d (only_first s.world s.policy.timeout_ms t first)
 
 ages : (s : State) → Ages s (clock s)
 unfolding clock
-ages s = record { gone = let_all_go (aged s); lets_go = lets_all_go (aged s); watched = stalled (overdue (let_all_go (aged s)).state) (let_all_go (aged s)).state; watches = watches (let_all_go (aged s)).state; all = refl }
+ages s = record { gone = let_all_go (after_clock s); lets_go = lets_all_go (after_clock s); watched = eject_if_stalled (overdue (let_all_go (after_clock s)).state) (let_all_go (after_clock s)).state; watches = watches (let_all_go (after_clock s)).state; all = refl }
 
 only_ages : (s : State) (r : Stepped) → Ages s r → r ≡ clock s
 unfolding clock
 only_ages s r h =
-    h.all ∙ ap (λ x. joined h.gone x) (only_watches h.gone.state h.watched h.watches)
-    ∙ ap (λ (x : Stepped). joined x (stalled (overdue x.state) x.state)) (only_lets_all_go (aged s) h.gone h.lets_go)
+    h.all ∙ ap (λ x. one_after_other h.gone x) (only_watches h.gone.state h.watched h.watches)
+    ∙ ap (λ (x : Stepped). one_after_other x (eject_if_stalled (overdue x.state) x.state)) (only_lets_all_go (after_clock s) h.gone h.lets_go)
 
 -- ---- weights
 
@@ -288,7 +288,7 @@ no_weight_fault t g x e = go (nat_lt g (length t.groups)) (is_outside max_weight
     go true true y z f = absurd (cc)
     go false b y z f = absurd (cc)
 
-reweighed_is : (s : State) (g x : ℕ) → refusal s (SetWeight g x) ≡ None → reweighed s.world g x ≡ with_tree s.world (with_weight s.world.tree g x)
+reweighed_is : (s : State) (g x : ℕ) → refusal s (SetWeight g x) ≡ None → after_reweigh s.world g x ≡ with_tree s.world (with_weight s.world.tree g x)
 reweighed_is s g x e = rw (no_weight_fault s.world.tree g x e) refl
 
 -- ---- all events

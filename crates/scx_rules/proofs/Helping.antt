@@ -6,7 +6,7 @@ use Rattle.std.proofs.lemmas.List.Folds.{list_any_at}
 use Rattle.std.proofs.lemmas.Bool.Decides.{nat_tests}
 use Rattle.std.proofs.lemmas.Bool.{cases_eq, cases_lt, eq-eqb, ne_eqb}
 use Rattle.scx_dsq.specs.Queues.{Entries, exists, entry_of, is_in, front_of, len_of}
-use Rattle.scx_dsq.specs.Calls.{create_refusal, created, clashes, with_queue}
+use Rattle.scx_dsq.specs.Calls.{create_refusal, after_create, clashes, with_queue}
 use Rattle.scx_dsq.specs.Laws.{one_if}
 use Rattle.scx_dsq.specs.Entries.{same_sort}
 use Rattle.scx_dsq.specs.declared.entries.Entry.{Entry}
@@ -23,10 +23,10 @@ use Rattle.scx_vm.specs.declared.arguments.Answer.TheVariants.{Num, Task}
 use Rattle.scx_world.specs.declared.call.Insert.{Insert}
 use Rattle.scx_world.specs.declared.faults.Fault.{Fault}
 use Rattle.scx_world.specs.declared.faults.Fault.TheVariants.{Stuck, NoSuchQueue, CannotInsert, NoSuchCpu, UnknownFlag, CannotCreate, BuiltinVtime, Mixed}
-use Rattle.scx_world.specs.Ids.{policy_end, global, local, held, local_on}
+use Rattle.scx_world.specs.Ids.{policy_end, global, local, held_queue, local_on}
 use Rattle.scx_world.specs.World.{WorldState, with_queues, is_idle, or_else}
-use Rattle.scx_world.specs.Helpers.{invalid, faulted, given_number, given_task, is_there, can_create, is_at_hand, is_held, is_dispatch, may_insert_in, may_insert, queue_fault, is_vtime, rank_fault, or_fault, insert_fault, inserted, invalid_if, asked, asked_by_vtime, choice_answer, pid_answer, can_move, moved, one_if_some, helper_answer, helper_after}
-use Rattle.scx_rules.specs.Helpers.{IsPolicyQueue, IsDestination, Own, Global, Local, LocalOn, NamesNoCpu, CanCreate, MayInsert, InSelectCpu, InEnqueue, InDispatch, IsBuiltinVtime, IsMixed, MayMove, JudgesInsert, Judges, Inserts, Keeps, Releases, Moves, Front, Empty, Chooses, OfTask, OfNobody, Tells, TellsIdle, TellsBusy, Finds, Found, Nobody, IsEffect, Done, FindsElement, Wrong}
+use Rattle.scx_world.specs.Helpers.{invalid, with_fault, given_number, given_task, is_there, can_create, is_at_hand, is_held, is_dispatch, may_insert_in, may_insert, queue_fault, is_vtime, rank_fault, or_fault, insert_fault, insert_or_fault, invalid_if, insert_of, insert_of_vtime, choice_answer, pid_answer, can_move, front_moved_to_local, one_if_some, helper_answer, helper_after}
+use Rattle.scx_rules.specs.Helpers.{IsPolicyQueue, IsDestination, Own, Global, Local, LocalOn, NamesNoCpu, CanCreate, MayInsert, InSelectCpu, InEnqueue, InDispatch, IsBuiltinVtime, IsMixed, MayMove, JudgesInsert, Judges, Inserts, Keeps, Releases, Moves, Front, Empty, Chooses, OfTask, OfNobody, Tells, TellsIdle, TellsBusy, Finds, Found, Nobody, IsEffect, Done, FindsTask, Wrong}
 use Rattle.scx_rules.specs.Laws.{RulesAllowHelpers, RulesAllowHelpersOnly}
 use Rattle.scx_rules.proofs.Choosing.{is_choice, only_choice}
 
@@ -202,13 +202,13 @@ rank_fault_from w q r (Some Stuck) h = absurd h
 
 -- ---- the fault of an insert
 
-held_is : (o : Option Entry) → is_in held o ≡ true → option_map (λ p. p.queue) o ≡ Some held
+held_is : (o : Option Entry) → is_in held_queue o ≡ true → option_map (λ p. p.queue) o ≡ Some held_queue
 held_is None e = absurd (cc)
 held_is (Some p) e = ap Some (grind (arith, nat_tests, e))
 
-held_of : (o : Option Entry) → option_map (λ p. p.queue) o ≡ Some held → is_in held o ≡ true
+held_of : (o : Option Entry) → option_map (λ p. p.queue) o ≡ Some held_queue → is_in held_queue o ≡ true
 held_of None e = absurd (cc)
-held_of (Some p) e = let is : p.queue ≡ held = ap (λ x. or_else x 0) e in eq-eqb p.queue held is
+held_of (Some p) e = let is : p.queue ≡ held_queue = ap (λ x. or_else x 0) e in eq-eqb p.queue held_queue is
 
 insert_is : (w : WorldState) (t : Option ℕ) → may_insert w t ≡ true → MayInsert w t
 insert_is w t e = go w.call.callback refl e
@@ -342,20 +342,20 @@ insert_fault_from w t i flags o j = go o j
 is_dispatch_of : (b : Callback) → b ≡ callback.Dispatch → is_dispatch b ≡ true
 is_dispatch_of b e = rw e refl
 
-inserts : (w : WorldState) (t : Option ℕ) (i : Insert) → MayInsert w t → Inserts w t i (inserted w None t i)
+inserts : (w : WorldState) (t : Option ℕ) (i : Insert) → MayInsert w t → Inserts w t i (insert_or_fault w None t i)
 inserts w t i m = go m
   where
-    kept : (b : Callback) → w.call.callback ≡ b → is_dispatch b ≡ false → Inserts w t i (inserted w None t i)
+    kept : (b : Callback) → w.call.callback ≡ b → is_dispatch b ≡ false → Inserts w t i (insert_or_fault w None t i)
     kept b x other =
         let d : is_dispatch w.call.callback ≡ false = rw x other in
         rw d (Keeps (λ e. not_both (is_dispatch w.call.callback) d (is_dispatch_of w.call.callback e)) refl)
 
-    go : MayInsert w t → Inserts w t i (inserted w None t i)
+    go : MayInsert w t → Inserts w t i (insert_or_fault w None t i)
     go (InSelectCpu x y z) = kept callback.SelectCpu x refl
     go (InEnqueue x y z) = kept callback.Enqueue x refl
     go (InDispatch u x y z) = rw (is_dispatch_of w.call.callback x, y) (Releases u x refl refl)
 
-only_inserts : (w : WorldState) (t : Option ℕ) (i : Insert) (v : WorldState) → Inserts w t i v → v ≡ inserted w None t i
+only_inserts : (w : WorldState) (t : Option ℕ) (i : Insert) (v : WorldState) → Inserts w t i v → v ≡ insert_or_fault w None t i
 only_inserts w t i v (Keeps n k) = rw (is_false (is_dispatch w.call.callback) (λ e. n (dispatch_is w.call.callback e))) k
 only_inserts w t i v (Releases u x y k) = rw (is_dispatch_of w.call.callback x, y) k
 
@@ -378,7 +378,7 @@ can_create_of w q h =
     let free : nat_le w.queues.room (length w.queues.ids) ≡ false = grind (arith, nat_tests, h.room) in
     rw (l, h.free, free) refl
 
-created_is : (w : WorldState) (q : ℕ) → CanCreate w q → created w.queues q ≡ with_queue w.queues q
+created_is : (w : WorldState) (q : ℕ) → CanCreate w q → after_create w.queues q ≡ with_queue w.queues q
 created_is w q h = let free : nat_le w.queues.room (length w.queues.ids) ≡ false = grind (arith, nat_tests, h.room) in rw (h.free, free) refl
 
 -- ---- moving
@@ -389,7 +389,7 @@ move_is w q e = let x = both (is_dispatch w.call.callback) (is_there w q) e in r
 can_move_of : (w : WorldState) (q : ℕ) → MayMove w q → can_move w q ≡ true
 can_move_of w q h = rw (h.here, is_there_of w q h.there) refl
 
-moves_is : (w : WorldState) (q : ℕ) (o : Option ℕ) → front_of w.queues q ≡ o → Moves w q (one_if_some o) (moved w o q)
+moves_is : (w : WorldState) (q : ℕ) (o : Option ℕ) → front_of w.queues q ≡ o → Moves w q (one_if_some o) (front_moved_to_local w o q)
 moves_is w q None e = Empty e refl refl
 moves_is w q (Some t) e = Front t e refl refl
 
@@ -404,22 +404,22 @@ create_allowed w a = go (can_create w q) refl
     q : ℕ
     q = given_number a 0
 
-    go : (b : Bool) → can_create w q ≡ b → IsEffect w CreateDsq a (Num (if b then 0 else invalid)) (if b then with_queues w (created w.queues q) else faulted w CannotCreate)
+    go : (b : Bool) → can_create w q ≡ b → IsEffect w CreateDsq a (Num (if b then 0 else invalid)) (if b then with_queues w (after_create w.queues q) else with_fault w CannotCreate)
     go true e = let h = create_is w q e in Done 0 h (refl, ap (λ s. with_queues w s) (created_is w q h)) refl
     go false e = Wrong CannotCreate (λ h. not_both (can_create w q) e (can_create_of w q h)) refl refl
 
 insert_allowed : (w : WorldState) (a : List Arg) → Is-effect w DsqInsert a
-insert_allowed w a = go (insert_fault w (given_task a 0) (asked a) (given_number a 3)) (insert_fault_is w (given_task a 0) (asked a) (given_number a 3))
+insert_allowed w a = go (insert_fault w (given_task a 0) (insert_of a) (given_number a 3)) (insert_fault_is w (given_task a 0) (insert_of a) (given_number a 3))
   where
-    go : (o : Option Fault) → Judges w DsqInsert a o → IsEffect w DsqInsert a (Num (invalid_if o)) (inserted w o (given_task a 0) (asked a))
-    go None j = Done 0 j (refl, inserts w (given_task a 0) (asked a) j.0) refl
+    go : (o : Option Fault) → Judges w DsqInsert a o → IsEffect w DsqInsert a (Num (invalid_if o)) (insert_or_fault w o (given_task a 0) (insert_of a))
+    go None j = Done 0 j (refl, inserts w (given_task a 0) (insert_of a) j.0) refl
     go (Some f) j = Wrong f j refl refl
 
 insert_vtime_allowed : (w : WorldState) (a : List Arg) → Is-effect w DsqInsertVtime a
-insert_vtime_allowed w a = go (insert_fault w (given_task a 0) (asked_by_vtime a) (given_number a 4)) (insert_fault_is w (given_task a 0) (asked_by_vtime a) (given_number a 4))
+insert_vtime_allowed w a = go (insert_fault w (given_task a 0) (insert_of_vtime a) (given_number a 4)) (insert_fault_is w (given_task a 0) (insert_of_vtime a) (given_number a 4))
   where
-    go : (o : Option Fault) → Judges w DsqInsertVtime a o → IsEffect w DsqInsertVtime a (Num (invalid_if o)) (inserted w o (given_task a 0) (asked_by_vtime a))
-    go None j = Done 0 j (refl, inserts w (given_task a 0) (asked_by_vtime a) j.0) refl
+    go : (o : Option Fault) → Judges w DsqInsertVtime a o → IsEffect w DsqInsertVtime a (Num (invalid_if o)) (insert_or_fault w o (given_task a 0) (insert_of_vtime a))
+    go None j = Done 0 j (refl, inserts w (given_task a 0) (insert_of_vtime a) j.0) refl
     go (Some f) j = Wrong f j refl refl
 
 move_allowed : (w : WorldState) (a : List Arg) → Is-effect w DsqMoveToLocal a
@@ -428,7 +428,7 @@ move_allowed w a = go (can_move w q) refl
     q : ℕ
     q = given_number a 0
 
-    go : (b : Bool) → can_move w q ≡ b → IsEffect w DsqMoveToLocal a (Num (if b then one_if_some (front_of w.queues q) else invalid)) (if b then moved w (front_of w.queues q) q else faulted w NoSuchQueue)
+    go : (b : Bool) → can_move w q ≡ b → IsEffect w DsqMoveToLocal a (Num (if b then one_if_some (front_of w.queues q) else invalid)) (if b then front_moved_to_local w (front_of w.queues q) q else with_fault w NoSuchQueue)
     go true e = Done (one_if_some (front_of w.queues q)) (move_is w q e) (moves_is w q (front_of w.queues q) refl) refl
     go false e = Wrong NoSuchQueue (λ h. not_both (can_move w q) e (can_move_of w q h)) refl refl
 
@@ -438,7 +438,7 @@ queued_allowed w a = go (is_there w q) refl
     q : ℕ
     q = given_number a 0
 
-    go : (b : Bool) → is_there w q ≡ b → IsEffect w DsqNrQueued a (Num (if b then len_of w.queues q else invalid)) (if b then w else faulted w NoSuchQueue)
+    go : (b : Bool) → is_there w q ≡ b → IsEffect w DsqNrQueued a (Num (if b then len_of w.queues q else invalid)) (if b then w else with_fault w NoSuchQueue)
     go true e = Done (len_of w.queues q) (there_is w q e) (refl, refl) refl
     go false e = Wrong NoSuchQueue (λ h. not_both (is_there w q) e (is_there_of w q h)) refl refl
 
@@ -459,7 +459,7 @@ idle_allowed w a = go (nat_lt c (length w.cpus)) refl
     c : ℕ
     c = given_number a 0
 
-    go : (b : Bool) → nat_lt c (length w.cpus) ≡ b → IsEffect w CpuIdle a (Num (if b then one_if (is_idle w c) else invalid)) (if b then w else faulted w NoSuchCpu)
+    go : (b : Bool) → nat_lt c (length w.cpus) ≡ b → IsEffect w CpuIdle a (Num (if b then one_if (is_idle w c) else invalid)) (if b then w else with_fault w NoSuchCpu)
     go true e = Done (one_if (is_idle w c)) (grind (arith, nat_tests, e)) (tells w c, refl) refl
     go false e = Wrong NoSuchCpu (grind (arith, nat_tests, e)) refl refl
 
@@ -483,7 +483,7 @@ helper_allowed w DsqInsertVtime a own = insert_vtime_allowed w a
 helper_allowed w DsqMoveToLocal a own = move_allowed w a
 helper_allowed w SelectCpuDfl a own = Done (choice_answer w (given_task a 0)) refl (chooses w (given_task a 0), refl) refl
 helper_allowed w CpuIdle a own = idle_allowed w a
-helper_allowed w TaskByPid a own = FindsElement refl (finds w (given_number a 0)) refl
+helper_allowed w TaskByPid a own = FindsTask refl (finds w (given_number a 0)) refl
 helper_allowed w DsqNrQueued a own = queued_allowed w a
 helper_allowed w MapLookupElem a own = absurd (own refl)
 
@@ -494,7 +494,7 @@ Is-this w h a x v = (x ≡ helper_answer w h a) × (v ≡ helper_after w h a)
 
 only_create : (w : WorldState) (a : List Arg) (x : Answer) (v : WorldState) → IsEffect w CreateDsq a x v → Is-this w CreateDsq a x v
 only_create w a x v (Done n j d e) = let b = can_create_of w (given_number a 0) j in rw b (e ∙ ap Num d.0, d.1 ∙ ap (λ s. with_queues w s) (sym (created_is w (given_number a 0) j)))
-only_create w a x v (FindsElement h f e) = absurd (cc)
+only_create w a x v (FindsTask h f e) = absurd (cc)
 only_create w a x v (Wrong CannotCreate j e k) = let b = is_false (can_create w (given_number a 0)) (λ y. j (create_is w (given_number a 0) y)) in rw b (e, k)
 only_create w a x v (Wrong CannotInsert j e k) = absurd j
 only_create w a x v (Wrong UnknownFlag j e k) = absurd j
@@ -505,14 +505,14 @@ only_create w a x v (Wrong Mixed j e k) = absurd j
 only_create w a x v (Wrong Stuck j e k) = absurd j
 
 only_insert : (w : WorldState) (a : List Arg) (x : Answer) (v : WorldState) → IsEffect w DsqInsert a x v → Is-this w DsqInsert a x v
-only_insert w a x v (Done n j d e) = let b = insert_fault_from w (given_task a 0) (asked a) (given_number a 3) None j in rw b (e ∙ ap Num d.0, only_inserts w (given_task a 0) (asked a) v d.1)
-only_insert w a x v (FindsElement h f e) = absurd (cc)
-only_insert w a x v (Wrong f j e k) = let b = insert_fault_from w (given_task a 0) (asked a) (given_number a 3) (Some f) j in rw b (e, k)
+only_insert w a x v (Done n j d e) = let b = insert_fault_from w (given_task a 0) (insert_of a) (given_number a 3) None j in rw b (e ∙ ap Num d.0, only_inserts w (given_task a 0) (insert_of a) v d.1)
+only_insert w a x v (FindsTask h f e) = absurd (cc)
+only_insert w a x v (Wrong f j e k) = let b = insert_fault_from w (given_task a 0) (insert_of a) (given_number a 3) (Some f) j in rw b (e, k)
 
 only_insert_vtime : (w : WorldState) (a : List Arg) (x : Answer) (v : WorldState) → IsEffect w DsqInsertVtime a x v → Is-this w DsqInsertVtime a x v
-only_insert_vtime w a x v (Done n j d e) = let b = insert_fault_from w (given_task a 0) (asked_by_vtime a) (given_number a 4) None j in rw b (e ∙ ap Num d.0, only_inserts w (given_task a 0) (asked_by_vtime a) v d.1)
-only_insert_vtime w a x v (FindsElement h f e) = absurd (cc)
-only_insert_vtime w a x v (Wrong f j e k) = let b = insert_fault_from w (given_task a 0) (asked_by_vtime a) (given_number a 4) (Some f) j in rw b (e, k)
+only_insert_vtime w a x v (Done n j d e) = let b = insert_fault_from w (given_task a 0) (insert_of_vtime a) (given_number a 4) None j in rw b (e ∙ ap Num d.0, only_inserts w (given_task a 0) (insert_of_vtime a) v d.1)
+only_insert_vtime w a x v (FindsTask h f e) = absurd (cc)
+only_insert_vtime w a x v (Wrong f j e k) = let b = insert_fault_from w (given_task a 0) (insert_of_vtime a) (given_number a 4) (Some f) j in rw b (e, k)
 
 only_chooses : (w : WorldState) (n : ℕ) (o : Option ℕ) → Chooses w n o → n ≡ choice_answer w o
 only_chooses w n o (OfTask t h) = only_choice w t n h
@@ -528,16 +528,16 @@ only_idle w a x v (Done n j d e) = go (nat_lt c (length w.cpus)) refl
     c : ℕ
     c = given_number a 0
 
-    go : (b : Bool) → nat_lt c (length w.cpus) ≡ b → (x ≡ Num (if b then one_if (is_idle w c) else invalid)) × (v ≡ (if b then w else faulted w NoSuchCpu))
+    go : (b : Bool) → nat_lt c (length w.cpus) ≡ b → (x ≡ Num (if b then one_if (is_idle w c) else invalid)) × (v ≡ (if b then w else with_fault w NoSuchCpu))
     go true y = (e ∙ ap Num (only_tells w c n d.0), d.1)
     go false y = let past : length w.cpus ≤ c = grind (arith, nat_tests, y) in absurd (omega (arith, j, past))
-only_idle w a x v (FindsElement h f e) = absurd (cc)
+only_idle w a x v (FindsTask h f e) = absurd (cc)
 only_idle w a x v (Wrong NoSuchCpu j e k) = go (nat_lt c (length w.cpus)) refl
   where
     c : ℕ
     c = given_number a 0
 
-    go : (b : Bool) → nat_lt c (length w.cpus) ≡ b → (x ≡ Num (if b then one_if (is_idle w c) else invalid)) × (v ≡ (if b then w else faulted w NoSuchCpu))
+    go : (b : Bool) → nat_lt c (length w.cpus) ≡ b → (x ≡ Num (if b then one_if (is_idle w c) else invalid)) × (v ≡ (if b then w else with_fault w NoSuchCpu))
     go true y = let l : c < length w.cpus = grind (arith, nat_tests, y) in absurd (omega (arith, j, l))
     go false y = (e, k)
 only_idle w a x v (Wrong NoSuchQueue j e k) = absurd j
@@ -564,7 +564,7 @@ only_finds w n x (Nobody none k) = go (nat_lt 0 n) (nat_le n (length w.tasks)) r
     go true false y z = k
     go false b y z = k
 
-only_moves : (w : WorldState) (q n : ℕ) (v : WorldState) → Moves w q n v → (n ≡ one_if_some (front_of w.queues q)) × (v ≡ moved w (front_of w.queues q) q)
+only_moves : (w : WorldState) (q n : ℕ) (v : WorldState) → Moves w q n v → (n ≡ one_if_some (front_of w.queues q)) × (v ≡ front_moved_to_local w (front_of w.queues q) q)
 only_moves w q n v (Front t f e k) = rw f (e, k)
 only_moves w q n v (Empty f e k) = rw f (e, k)
 
@@ -573,7 +573,7 @@ only_move w a x v (Done n j d e) =
     let b = can_move_of w (given_number a 0) j in
     let m = only_moves w (given_number a 0) n v d in
     rw b (e ∙ ap Num m.0, m.1)
-only_move w a x v (FindsElement h f e) = absurd (cc)
+only_move w a x v (FindsTask h f e) = absurd (cc)
 only_move w a x v (Wrong NoSuchQueue j e k) = let b = is_false (can_move w (given_number a 0)) (λ y. j (move_is w (given_number a 0) y)) in rw b (e, k)
 only_move w a x v (Wrong CannotInsert j e k) = absurd j
 only_move w a x v (Wrong UnknownFlag j e k) = absurd j
@@ -585,7 +585,7 @@ only_move w a x v (Wrong Mixed j e k) = absurd j
 
 only_queued : (w : WorldState) (a : List Arg) (x : Answer) (v : WorldState) → IsEffect w DsqNrQueued a x v → Is-this w DsqNrQueued a x v
 only_queued w a x v (Done n j d e) = let b = is_there_of w (given_number a 0) j in rw b (e ∙ ap Num d.0, d.1)
-only_queued w a x v (FindsElement h f e) = absurd (cc)
+only_queued w a x v (FindsTask h f e) = absurd (cc)
 only_queued w a x v (Wrong NoSuchQueue j e k) = let b = is_false (is_there w (given_number a 0)) (λ y. j (there_is w (given_number a 0) y)) in rw b (e, k)
 only_queued w a x v (Wrong CannotInsert j e k) = absurd j
 only_queued w a x v (Wrong UnknownFlag j e k) = absurd j
@@ -601,20 +601,20 @@ some_fault f e = absurd (cc)
 -- and nothing else is
 pub only_helper : RulesAllowHelpersOnly
 only_helper w KtimeGetNs a x v (Done n j d e) = (e ∙ ap Num d.0, d.1)
-only_helper w KtimeGetNs a x v (FindsElement h f e) = absurd (cc)
+only_helper w KtimeGetNs a x v (FindsTask h f e) = absurd (cc)
 only_helper w KtimeGetNs a x v (Wrong f j e k) = absurd (some_fault f j)
 only_helper w CreateDsq a x v e = only_create w a x v e
 only_helper w DsqInsert a x v e = only_insert w a x v e
 only_helper w DsqInsertVtime a x v e = only_insert_vtime w a x v e
 only_helper w DsqMoveToLocal a x v e = only_move w a x v e
 only_helper w SelectCpuDfl a x v (Done n j d e) = (e ∙ ap Num (only_chooses w n (given_task a 0) d.0), d.1)
-only_helper w SelectCpuDfl a x v (FindsElement h f e) = absurd (cc)
+only_helper w SelectCpuDfl a x v (FindsTask h f e) = absurd (cc)
 only_helper w SelectCpuDfl a x v (Wrong f j e k) = absurd (some_fault f j)
 only_helper w CpuIdle a x v e = only_idle w a x v e
 only_helper w TaskByPid a x v (Done n j d e) = absurd d
-only_helper w TaskByPid a x v (FindsElement h f e) = (only_finds w (given_number a 0) x f, e)
+only_helper w TaskByPid a x v (FindsTask h f e) = (only_finds w (given_number a 0) x f, e)
 only_helper w TaskByPid a x v (Wrong f j e k) = absurd (some_fault f j)
 only_helper w DsqNrQueued a x v e = only_queued w a x v e
 only_helper w MapLookupElem a x v (Done n j d e) = absurd j
-only_helper w MapLookupElem a x v (FindsElement h f e) = absurd (cc)
+only_helper w MapLookupElem a x v (FindsTask h f e) = absurd (cc)
 only_helper w MapLookupElem a x v (Wrong f j e k) = absurd j

@@ -10,12 +10,12 @@ use Rattle.scx_semantics.specs.declared.callbacks.Callback.TheVariants as callba
 use Rattle.scx_semantics.specs.Endings.{Ending}
 use Rattle.scx_world.specs.declared.eject.Eject.{Eject}
 use Rattle.scx_world.specs.declared.faults.Fault.{Fault}
-use Rattle.scx_world.specs.World.{WorldState, begun}
+use Rattle.scx_world.specs.World.{WorldState, at_callback}
 use Rattle.scx_safety.specs.Programs.{VerifiedProgram}
 use Rattle.scx_machine.specs.Policy.{PolicyState}
 use Rattle.scx_machine.specs.Steps.{State}
-use Rattle.scx_machine.specs.Callbacks.{unless_ejected, acting, ended, AreAnswered, no_arguments, one_task}
-use Rattle.scx_machine.specs.Start.{blank, init_ending, bad_answer, ok_unless, initialized, enable_ending, has_failed, enable, then_enable, enabled, ok_if, all_enabled, init_calls, enable_calls, calls_below, calls_after_init}
+use Rattle.scx_machine.specs.Callbacks.{unless_ejected, acting, after_callback, AreAnswered, no_arguments, one_task}
+use Rattle.scx_machine.specs.Start.{blank, init_ending, bad_answer, ok_unless, after_init, enable_ending, has_failed, enable, then_enable, after_enables, ok_if, all_enabled, init_calls, enable_calls, calls_below, calls_after_init}
 use Rattle.scx_rules.specs.Starts.{HasBadShape, NoCpu, ManyCpus, Active, Judged, Faults, Stuck, Refuses, Accepts, Initializes, Passes, HasFault, HasStuck, Answers, Enables, EnablesAll, Nobody, Failed, Next, Begins, InitFails, EnableFails, Succeeds}
 use Rattle.scx_rules.specs.Laws.{RulesAllowStarts, RulesAllowStartsOnly, RulesRefuseShapes, RulesRefuseShapesOnly}
 use Rattle.scx_rules.proofs.Calling.{only_ends, ends_as, answered_first, answered_second}
@@ -77,7 +77,7 @@ only_bad_shape tree cpus (Active t l e) = rw (is_below (length tree.homes) t (λ
 -- ---- init
 
 abbrev judged_as : State → Ending WorldState → Option Fault → Option ℕ → Result State ℤ
-judged_as s e f a = ok_unless (bad_answer f a) (ended s.policy e)
+judged_as s e f a = ok_unless (bad_answer f a) (after_callback s.policy e)
 
 judged : (s : State) (e : Ending WorldState) → Judged s e (judged_as s e e.outside.call.fault e.answer)
 judged s e = go e.outside.call.fault refl e.answer refl
@@ -100,25 +100,25 @@ only_judged s e r (Stuck x y k) = k ∙ ap (λ a. judged_as s e None a) (sym y) 
 only_judged s e r (Refuses n x y l k) = k ∙ sym (refused_as s e n l) ∙ ap (λ a. judged_as s e None a) (sym y) ∙ ap (λ o. judged_as s e o e.answer) (sym x)
 only_judged s e r (Accepts x y k) = k ∙ ap (λ a. judged_as s e None a) (sym y) ∙ ap (λ o. judged_as s e o e.answer) (sym x)
 
-initializes : (s : State) → AreAnswered (init_calls s) → Initializes s (initialized s)
-unfolding initialized
+initializes : (s : State) → AreAnswered (init_calls s) → Initializes s (after_init s)
+unfolding after_init
 initializes s all = record {
   ending = init_ending s;
-  ends = ends_as (acting s callback.Init) callback.Init no_arguments s.maps (begun s.world callback.Init 0 0) all;
+  ends = ends_as (acting s callback.Init) callback.Init no_arguments s.maps (at_callback s.world callback.Init 0 0) all;
   judged = judged s (init_ending s);
 }
 
-only_initializes : (s : State) (r : Result State ℤ) → Initializes s r → r ≡ initialized s
-unfolding initialized
+only_initializes : (s : State) (r : Result State ℤ) → Initializes s r → r ≡ after_init s
+unfolding after_init
 only_initializes s r h =
     only_judged s h.ending r h.judged
-    ∙ ap (λ (e : Ending WorldState). ok_unless (bad_answer e.outside.call.fault e.answer) (ended s.policy e))
-    (only_ends (acting s callback.Init) callback.Init no_arguments s.maps (begun s.world callback.Init 0 0) h.ending h.ends)
+    ∙ ap (λ (e : Ending WorldState). ok_unless (bad_answer e.outside.call.fault e.answer) (after_callback s.policy e))
+    (only_ends (acting s callback.Init) callback.Init no_arguments s.maps (at_callback s.world callback.Init 0 0) h.ending h.ends)
 
 -- ---- enable
 
 abbrev passed_as : State → Ending WorldState → Option Fault → Option ℕ → Option State
-passed_as s e f a = if is_some f || is_none a then None else Some (ended s.policy e)
+passed_as s e f a = if is_some f || is_none a then None else Some (after_callback s.policy e)
 
 abbrev passed : State → Ending WorldState → Option State
 passed s e = passed_as s e e.outside.call.fault e.answer
@@ -140,7 +140,7 @@ enables : (s : State) (t : ℕ) → AreAnswered (enable_calls (Some s) t) → En
 unfolding enable
 enables s t all = record {
   ending = enable_ending s t;
-  ends = ends_as (acting s callback.Enable) callback.Enable (one_task t) s.maps (begun s.world callback.Enable t 0) all;
+  ends = ends_as (acting s callback.Enable) callback.Enable (one_task t) s.maps (at_callback s.world callback.Enable t 0) all;
   passes = passes s (enable_ending s t);
 }
 
@@ -148,36 +148,36 @@ only_enables : (s : State) (t : ℕ) (r : Option State) → Enables s t r → r 
 unfolding enable
 only_enables s t r h =
     only_passes s h.ending r h.passes
-    ∙ ap (λ e. passed s e) (only_ends (acting s callback.Enable) callback.Enable (one_task t) s.maps (begun s.world callback.Enable t 0) h.ending h.ends)
+    ∙ ap (λ e. passed s e) (only_ends (acting s callback.Enable) callback.Enable (one_task t) s.maps (at_callback s.world callback.Enable t 0) h.ending h.ends)
 
-only_enables_all : (n : ℕ) (s : State) (r : Option State) → EnablesAll n s r → r ≡ enabled n s
+only_enables_all : (n : ℕ) (s : State) (r : Option State) → EnablesAll n s r → r ≡ after_enables n s
 only_enables_all zero s r (Nobody _ _ k) = k
 only_enables_all (suc n) s r (Failed _ _ _ h k) = k ∙ ap (λ o. then_enable o n) (only_enables_all n s None h)
 only_enables_all (suc n) s r (Next _ _ u _ h x) = only_enables u n r x ∙ ap (λ o. then_enable o n) (only_enables_all n s (Some u) h)
 
 -- ---- all of it
 
-enables_all : (n : ℕ) (s : State) → AreAnswered (calls_below n s) → EnablesAll n s (enabled n s)
+enables_all : (n : ℕ) (s : State) → AreAnswered (calls_below n s) → EnablesAll n s (after_enables n s)
 enables_all zero s all = Nobody s _ refl
 enables_all (suc n) s all =
-    go (enabled n s) refl (enables_all n s (answered_first (calls_below n s) (enable_calls (enabled n s) n) all)) (answered_second (calls_below n s) (enable_calls (enabled n s) n) all)
+    go (after_enables n s) refl (enables_all n s (answered_first (calls_below n s) (enable_calls (after_enables n s) n) all)) (answered_second (calls_below n s) (enable_calls (after_enables n s) n) all)
   where
-    go : (o : Option State) → enabled n s ≡ o → EnablesAll n s o → AreAnswered (enable_calls o n) → EnablesAll (suc n) s (then_enable o n)
+    go : (o : Option State) → after_enables n s ≡ o → EnablesAll n s o → AreAnswered (enable_calls o n) → EnablesAll (suc n) s (then_enable o n)
     go None x h a = Failed n s _ h refl
     go (Some u) x h a = Next n s u _ h (enables u n a)
 
 -- a machine begins as it is computed
 pub begins : RulesAllowStarts
 begins p tree cpus all =
-    from (initialized (blank p tree cpus)) refl (initializes (blank p tree cpus) (answered_first (init_calls (blank p tree cpus)) (calls_after_init (initialized (blank p tree cpus))) all)) (answered_second (init_calls (blank p tree cpus)) (calls_after_init (initialized (blank p tree cpus))) all)
+    from (after_init (blank p tree cpus)) refl (initializes (blank p tree cpus) (answered_first (init_calls (blank p tree cpus)) (calls_after_init (after_init (blank p tree cpus))) all)) (answered_second (init_calls (blank p tree cpus)) (calls_after_init (after_init (blank p tree cpus))) all)
   where
     rest : (s : State) → Initializes (blank p tree cpus) (Ok s) → (o : Option State) → EnablesAll (length s.world.tasks) s o → Begins p tree cpus (ok_if o)
     rest s i None h = EnableFails s i h refl
     rest s i (Some u) h = Succeeds s u i h refl
 
-    from : (r : Result State ℤ) → initialized (blank p tree cpus) ≡ r → Initializes (blank p tree cpus) r → AreAnswered (calls_after_init r) → Begins p tree cpus (all_enabled r)
+    from : (r : Result State ℤ) → after_init (blank p tree cpus) ≡ r → Initializes (blank p tree cpus) r → AreAnswered (calls_after_init r) → Begins p tree cpus (all_enabled r)
     from (Err n) x i a = InitFails n i refl
-    from (Ok s) x i a = rest s i (enabled (length s.world.tasks) s) (enables_all (length s.world.tasks) s a)
+    from (Ok s) x i a = rest s i (after_enables (length s.world.tasks) s) (enables_all (length s.world.tasks) s a)
 
 -- and in no other way
 pub only_begins : RulesAllowStartsOnly

@@ -9,10 +9,10 @@ use Rattle.scx_world.specs.declared.faults.Fault.{Fault}
 use Rattle.scx_world.specs.declared.faults.Fault.TheVariants.{Stuck, NoSuchCpu}
 use Rattle.scx_world.specs.declared.notes.Note.{Note}
 use Rattle.scx_world.specs.declared.notes.What.TheVariants as note
-use Rattle.scx_world.specs.Ids.{builtin}
-use Rattle.scx_world.specs.World.{WorldState, waits, said}
-use Rattle.scx_world.specs.Tasks.{gone}
-use Rattle.scx_world.specs.Ejecting.{put_out, put_builtin, cut, eject_note}
+use Rattle.scx_world.specs.Ids.{builtin_queue}
+use Rattle.scx_world.specs.World.{WorldState, waits, note_now}
+use Rattle.scx_world.specs.Tasks.{after_leave}
+use Rattle.scx_world.specs.Ejecting.{put_out, put_builtin, after_cut, eject_note}
 use Rattle.scx_machine.specs.Steps.{State, Stepped, with_world, stays}
 
 -- ---- faults
@@ -32,7 +32,7 @@ pub data FaultOf (b : Callback) (e : Ending WorldState) : Option Fault → Type 
 pub data GoOver (w : WorldState) : ℕ → List Note → WorldState → Type 0 where
   Begins : (notes : List Note) (v : WorldState) → notes ≡ [] → v ≡ w → GoOver w 0 notes v
   Waits : (n : ℕ) (before notes : List Note) (u v : WorldState) → GoOver w n before u → waits u n ≡ true
-      → notes ≡ before ++ said u (note.Insert n builtin) ∷ [] → v ≡ put_builtin (gone u n) n → GoOver w (suc n) notes v
+      → notes ≡ before ++ note_now u (note.Insert n builtin_queue) ∷ [] → v ≡ put_builtin (after_leave u n) n → GoOver w (suc n) notes v
   Passes : (n : ℕ) (notes : List Note) (v : WorldState) → GoOver w n notes v → waits v n ≡ false → GoOver w (suc n) notes v
 
 -- the ejection is noted, all go over, and the slices of those who run are cut
@@ -40,7 +40,7 @@ pub record Ejects (s : State) (x : Eject) (r : Stepped) : Type 0 where
   pub notes : List Note
   pub over : WorldState
   pub all_go : GoOver (put_out s.world x) (length s.world.tasks) notes over
-  pub all : r ≡ record { state = with_world s (cut (length over.cpus) over); notes = said s.world (eject_note x) ∷ notes; calls = [] }
+  pub all : r ≡ record { state = with_world s (after_cut (length over.cpus) over); notes = note_now s.world (eject_note x) ∷ notes; calls = [] }
 
 -- after a callback
 pub data Judges (s : State) : Option Fault → Stepped → Type 0 where

@@ -3,7 +3,7 @@
 -- here, and that nothing else is.
 use Rattle.std.specs.Prelude.{◌≡◌, ℕ, ◌+◌, ◌<◌, ◌≤◌, ◌^◌, ◌*◌, true, false, List, length, Option, Some, None}
 use Rattle.scx_dsq.specs.Queues.{exists, queue_of, front_of, len_of, Waits}
-use Rattle.scx_dsq.specs.Calls.{with_queue, pushed, popped}
+use Rattle.scx_dsq.specs.Calls.{with_queue, after_push, after_pop}
 use Rattle.scx_dsq.specs.Entries.{same_sort}
 use Rattle.scx_dsq.specs.declared.entries.Entry.{Entry}
 use Rattle.scx_dsq.specs.declared.entries.Rank.{Rank}
@@ -18,10 +18,10 @@ use Rattle.scx_world.specs.declared.call.Insert.{Insert}
 use Rattle.scx_world.specs.declared.faults.Fault.{Fault}
 use Rattle.scx_world.specs.declared.faults.Fault.TheVariants.{Stuck, NoSuchQueue, CannotInsert, NoSuchCpu, UnknownFlag, CannotCreate, BuiltinVtime, Mixed}
 use Rattle.scx_world.specs.declared.notes.What.TheVariants as notes
-use Rattle.scx_world.specs.Ids.{policy_end, global, local, held, local_on}
-use Rattle.scx_world.specs.World.{WorldState, with_queues, task_at, is_idle, noted}
-use Rattle.scx_world.specs.Tasks.{gone, entered, resolved, for_cpu}
-use Rattle.scx_world.specs.Helpers.{invalid, faulted, with_insert, with_move, given_number, given_task, asked, asked_by_vtime}
+use Rattle.scx_world.specs.Ids.{policy_end, global, local, held_queue, local_on}
+use Rattle.scx_world.specs.World.{WorldState, with_queues, task_at, is_idle, with_note}
+use Rattle.scx_world.specs.Tasks.{after_leave, after_enter, queue_for, for_cpu}
+use Rattle.scx_world.specs.Helpers.{invalid, with_fault, with_insert, with_move, given_number, given_task, insert_of, insert_of_vtime}
 
 -- ---- queues that a call names
 
@@ -55,7 +55,7 @@ pub record CanCreate (w : WorldState) (q : ℕ) : Type 0 where
 pub data MayInsert (w : WorldState) (t : Option ℕ) : Type 0 where
   InSelectCpu : w.call.callback ≡ SelectCpu → w.call.insert ≡ None → t ≡ Some w.call.task → MayInsert w t
   InEnqueue : w.call.callback ≡ Enqueue → w.call.insert ≡ None → t ≡ Some w.call.task → MayInsert w t
-  InDispatch : (u : ℕ) → w.call.callback ≡ Dispatch → t ≡ Some u → queue_of w.queues u ≡ Some held → MayInsert w t
+  InDispatch : (u : ℕ) → w.call.callback ≡ Dispatch → t ≡ Some u → queue_of w.queues u ≡ Some held_queue → MayInsert w t
 
 -- by virtual time into one of the machine's own queues
 pub record IsBuiltinVtime (q : ℕ) (r : Rank) : Type 0 where
@@ -128,8 +128,8 @@ JudgesCpu w c (Some Stuck) = ⊥
 abbrev pub Judges : WorldState → Helper → List Arg → Option Fault → Type 0
 Judges w KtimeGetNs a o = o ≡ None
 Judges w CreateDsq a o = JudgesCreate w (given_number a 0) o
-Judges w DsqInsert a o = JudgesInsert w (given_task a 0) (asked a) (given_number a 3) o
-Judges w DsqInsertVtime a o = JudgesInsert w (given_task a 0) (asked_by_vtime a) (given_number a 4) o
+Judges w DsqInsert a o = JudgesInsert w (given_task a 0) (insert_of a) (given_number a 3) o
+Judges w DsqInsertVtime a o = JudgesInsert w (given_task a 0) (insert_of_vtime a) (given_number a 4) o
 Judges w DsqMoveToLocal a o = JudgesQueue (MayMove w (given_number a 0)) o
 Judges w SelectCpuDfl a o = o ≡ None
 Judges w CpuIdle a o = JudgesCpu w (given_number a 0) o
@@ -143,12 +143,12 @@ Judges w MapLookupElem a o = ⊥
 -- that is noted
 pub data Inserts (w : WorldState) (t : Option ℕ) (i : Insert) (v : WorldState) : Type 0 where
   Keeps : ¬ (w.call.callback ≡ Dispatch) → v ≡ with_insert w i → Inserts w t i v
-  Releases : (u : ℕ) → w.call.callback ≡ Dispatch → t ≡ Some u → v ≡ noted (with_move (entered (gone w u) u (for_cpu w.call.cpu i))) (notes.Insert u (resolved w.call.cpu i.queue)) → Inserts w t i v
+  Releases : (u : ℕ) → w.call.callback ≡ Dispatch → t ≡ Some u → v ≡ with_note (with_move (after_enter (after_leave w u) u (for_cpu w.call.cpu i))) (notes.Insert u (queue_for w.call.cpu i.queue)) → Inserts w t i v
 
 -- the front of the queue goes to the local queue of the processor at hand, and that is noted; an empty
 -- queue stays
 pub data Moves (w : WorldState) (q n : ℕ) (v : WorldState) : Type 0 where
-  Front : (t : ℕ) → front_of w.queues q ≡ Some t → n ≡ 1 → v ≡ noted (with_move (with_queues w (pushed (popped w.queues q) (local_on w.call.cpu) t Fifo))) (notes.Move t w.call.cpu) → Moves w q n v
+  Front : (t : ℕ) → front_of w.queues q ≡ Some t → n ≡ 1 → v ≡ with_note (with_move (with_queues w (after_push (after_pop w.queues q) (local_on w.call.cpu) t Fifo))) (notes.Move t w.call.cpu) → Moves w q n v
   Empty : front_of w.queues q ≡ None → n ≡ 0 → v ≡ w → Moves w q n v
 
 -- the processor for which a task is put: where it ran last if that is idle, else the lowest idle one, else
@@ -177,8 +177,8 @@ pub data Finds (w : WorldState) (n : ℕ) (x : Answer) : Type 0 where
 abbrev pub Does : WorldState → Helper → List Arg → ℕ → WorldState → Type 0
 Does w KtimeGetNs a n v = (n ≡ w.clock * 1000000) × (v ≡ w)
 Does w CreateDsq a n v = (n ≡ 0) × (v ≡ with_queues w (with_queue w.queues (given_number a 0)))
-Does w DsqInsert a n v = (n ≡ 0) × Inserts w (given_task a 0) (asked a) v
-Does w DsqInsertVtime a n v = (n ≡ 0) × Inserts w (given_task a 0) (asked_by_vtime a) v
+Does w DsqInsert a n v = (n ≡ 0) × Inserts w (given_task a 0) (insert_of a) v
+Does w DsqInsertVtime a n v = (n ≡ 0) × Inserts w (given_task a 0) (insert_of_vtime a) v
 Does w DsqMoveToLocal a n v = Moves w (given_number a 0) n v
 Does w SelectCpuDfl a n v = Chooses w n (given_task a 0) × (v ≡ w)
 Does w CpuIdle a n v = Tells w (given_number a 0) n × (v ≡ w)
@@ -189,5 +189,5 @@ Does w MapLookupElem a n v = ⊥
 -- ---- both together: a call with a fault is invalid, and leaves the fault alone
 pub data IsEffect (w : WorldState) (h : Helper) (a : List Arg) (x : Answer) (v : WorldState) : Type 0 where
   Done : (n : ℕ) → Judges w h a None → Does w h a n v → x ≡ Num n → IsEffect w h a x v
-  FindsElement : h ≡ TaskByPid → Finds w (given_number a 0) x → v ≡ w → IsEffect w h a x v
-  Wrong : (f : Fault) → Judges w h a (Some f) → x ≡ Num invalid → v ≡ faulted w f → IsEffect w h a x v
+  FindsTask : h ≡ TaskByPid → Finds w (given_number a 0) x → v ≡ w → IsEffect w h a x v
+  Wrong : (f : Fault) → Judges w h a (Some f) → x ≡ Num invalid → v ≡ with_fault w f → IsEffect w h a x v

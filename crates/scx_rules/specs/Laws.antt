@@ -15,8 +15,8 @@ use Rattle.scx_machine.specs.Steps.{State, Stepped}
 use Rattle.scx_machine.specs.Policy.{PolicyState}
 use Rattle.scx_machine.specs.Callbacks.{call_back, answered_by, AreAnswered}
 use Rattle.scx_machine.specs.Cycle.{cycle}
-use Rattle.scx_machine.specs.Events.{refusal, happened}
-use Rattle.scx_machine.specs.Start.{is_bad_shape, started, start_calls}
+use Rattle.scx_machine.specs.Events.{refusal, event_step}
+use Rattle.scx_machine.specs.Start.{is_bad_shape, first_state, start_calls}
 use Rattle.scx_rules.specs.Helpers.{IsEffect}
 use Rattle.scx_rules.specs.Callbacks.{CallsBack}
 use Rattle.scx_rules.specs.Cycles.{Cycles}
@@ -54,11 +54,11 @@ RulesAllowCyclesOnly = (s : State) (c : ℕ) (p : Option ℕ) (ran : Bool) (r : 
 
 -- an accepted event
 abbrev pub RulesAllowEvents : Type 0
-RulesAllowEvents = (s : State) (v : Event) → refusal s v ≡ None → Happens s v (happened s v)
+RulesAllowEvents = (s : State) (v : Event) → refusal s v ≡ None → Happens s v (event_step s v)
 
 -- of an accepted event the rules allow no other step than the one that is computed
 abbrev pub RulesAllowEventsOnly : Type 0
-RulesAllowEventsOnly = (s : State) (v : Event) (r : Stepped) → refusal s v ≡ None → Happens s v r → r ≡ happened s v
+RulesAllowEventsOnly = (s : State) (v : Event) (r : Stepped) → refusal s v ≡ None → Happens s v r → r ≡ event_step s v
 
 -- a refusal
 abbrev pub RulesRefuseEvents : Type 0
@@ -70,11 +70,11 @@ RulesRefuseEventsOnly = (s : State) (v : Event) (r : Refused) → Refuses s v r 
 
 -- a start, of a policy of which each program that is called comes to an answer, as each does
 abbrev pub RulesAllowStarts : Type 0
-RulesAllowStarts = (p : PolicyState) (tree : Hierarchy) (cpus : ℕ) → AreAnswered (start_calls p tree cpus) → Begins p tree cpus (started p tree cpus)
+RulesAllowStarts = (p : PolicyState) (tree : Hierarchy) (cpus : ℕ) → AreAnswered (start_calls p tree cpus) → Begins p tree cpus (first_state p tree cpus)
 
 -- of a start the rules allow no other state or failure than the one that is computed
 abbrev pub RulesAllowStartsOnly : Type 0
-RulesAllowStartsOnly = (p : PolicyState) (tree : Hierarchy) (cpus : ℕ) (r : Result State ℤ) → Begins p tree cpus r → r ≡ started p tree cpus
+RulesAllowStartsOnly = (p : PolicyState) (tree : Hierarchy) (cpus : ℕ) (r : Result State ℤ) → Begins p tree cpus r → r ≡ first_state p tree cpus
 
 -- and of what no machine is made
 abbrev pub RulesRefuseShapes : Type 0

@@ -5,10 +5,10 @@ use Rattle.scx_weights.specs.Hierarchy.{Hierarchy, is_active_task}
 use Rattle.scx_semantics.specs.declared.callbacks.Callback.TheVariants as callback
 use Rattle.scx_semantics.specs.Endings.{Ending}
 use Rattle.scx_world.specs.declared.faults.Fault.{Fault}
-use Rattle.scx_world.specs.World.{WorldState, begun}
+use Rattle.scx_world.specs.World.{WorldState, at_callback}
 use Rattle.scx_machine.specs.Policy.{PolicyState}
 use Rattle.scx_machine.specs.Steps.{State}
-use Rattle.scx_machine.specs.Callbacks.{acting, ended, no_arguments, one_task}
+use Rattle.scx_machine.specs.Callbacks.{acting, after_callback, no_arguments, one_task}
 use Rattle.scx_machine.specs.Start.{blank, fault_answer}
 use Rattle.scx_rules.specs.Callbacks.{EndsAs}
 
@@ -25,12 +25,12 @@ pub data Judged (s : State) (e : Ending WorldState) (r : Result State ℤ) : Typ
   Faults : (f : Fault) → e.outside.call.fault ≡ Some f → r ≡ Err fault_answer → Judged s e r
   Stuck : e.outside.call.fault ≡ None → e.answer ≡ None → r ≡ Err fault_answer → Judged s e r
   Refuses : (n : ℕ) → e.outside.call.fault ≡ None → e.answer ≡ Some n → 0 < n → r ≡ Err (cast_signed w64 n) → Judged s e r
-  Accepts : e.outside.call.fault ≡ None → e.answer ≡ Some 0 → r ≡ Ok (ended s.policy e) → Judged s e r
+  Accepts : e.outside.call.fault ≡ None → e.answer ≡ Some 0 → r ≡ Ok (after_callback s.policy e) → Judged s e r
 
 -- init is called: the state after it, or the number with which it fails
 pub record Initializes (s : State) (r : Result State ℤ) : Type 0 where
   pub ending : Ending WorldState
-  pub ends : EndsAs (acting s callback.Init) callback.Init no_arguments s.maps (begun s.world callback.Init 0 0) ending
+  pub ends : EndsAs (acting s callback.Init) callback.Init no_arguments s.maps (at_callback s.world callback.Init 0 0) ending
   pub judged : Judged s ending r
 
 -- ---- enable
@@ -39,12 +39,12 @@ pub record Initializes (s : State) (r : Result State ℤ) : Type 0 where
 pub data Passes (s : State) (e : Ending WorldState) (r : Option State) : Type 0 where
   HasFault : (f : Fault) → e.outside.call.fault ≡ Some f → r ≡ None → Passes s e r
   HasStuck : e.outside.call.fault ≡ None → e.answer ≡ None → r ≡ None → Passes s e r
-  Answers : (n : ℕ) → e.outside.call.fault ≡ None → e.answer ≡ Some n → r ≡ Some (ended s.policy e) → Passes s e r
+  Answers : (n : ℕ) → e.outside.call.fault ≡ None → e.answer ≡ Some n → r ≡ Some (after_callback s.policy e) → Passes s e r
 
 -- enable is called for a task: the state after it, or none where it fails
 pub record Enables (s : State) (t : ℕ) (r : Option State) : Type 0 where
   pub ending : Ending WorldState
-  pub ends : EndsAs (acting s callback.Enable) callback.Enable (one_task t) s.maps (begun s.world callback.Enable t 0) ending
+  pub ends : EndsAs (acting s callback.Enable) callback.Enable (one_task t) s.maps (at_callback s.world callback.Enable t 0) ending
   pub passes : Passes s ending r
 
 -- of the first tasks; none after one that fails

@@ -20,19 +20,19 @@ use Rattle.scx_world.specs.declared.eject.Eject.TheVariants as cause
 use Rattle.scx_world.specs.declared.faults.Fault.{Fault}
 use Rattle.scx_world.specs.declared.notes.Note.{Note}
 use Rattle.scx_world.specs.declared.notes.What.TheVariants as note
-use Rattle.scx_world.specs.Ids.{global, builtin, parked, local_on}
-use Rattle.scx_world.specs.World.{WorldState, with_tree, with_task as set_task, task_at, is_throttled, running, cpu_of, is_idle, begun, quiet, said}
-use Rattle.scx_world.specs.Tasks.{with_since, woken, asleep, gone, entered, for_cpu, fill_front, filled, stopped, started_at, kept, put_parked, taken, let_go, ran_a_tick, ticked, used_ms, reweighed}
-use Rattle.scx_world.specs.Ejecting.{put_builtin, charged, overtaken}
+use Rattle.scx_world.specs.Ids.{global, builtin_queue, parked_queue, local_on}
+use Rattle.scx_world.specs.World.{WorldState, with_tree, with_task as set_task, task_at, is_throttled, running, cpu_of, is_idle, at_callback, quiet, note_now}
+use Rattle.scx_world.specs.Tasks.{with_since, after_wake, after_sleep, after_leave, after_enter, for_cpu, fill_front, after_fill, after_stop, started_at, after_keep, put_parked, after_take, let_go, ran_a_tick, after_tick, used_ms, after_reweigh}
+use Rattle.scx_world.specs.Ejecting.{put_builtin, after_charge, after_catch_up}
 use Rattle.scx_machine.specs.Policy.{PolicyState, program_of}
-use Rattle.scx_machine.specs.Steps.{State, CallMade, Stepped, with_world, stays, after, joined, is_ejected}
+use Rattle.scx_machine.specs.Steps.{State, CallMade, Stepped, with_world, stays, after, one_after_other, is_ejected}
 use Rattle.scx_machine.specs.Ejecting.{moves_over, eject, ejected_for}
-use Rattle.scx_machine.specs.Callbacks.{called, ended, answer_fault, fault_of, unless_ejected, acting, call_back, answered_by, one_task, task_cpu_and_0, task_and_number, cpu_and_task}
-use Rattle.scx_machine.specs.Put.{enters, wanted, enters_builtin, comes_in, put}
+use Rattle.scx_machine.specs.Callbacks.{call_ending, after_callback, answer_fault, fault_of, unless_ejected, acting, call_back, answered_by, one_task, task_cpu_and_0, task_and_number, cpu_and_task}
+use Rattle.scx_machine.specs.Put.{enters, enqueue_choice, enters_builtin, comes_in, put}
 use Rattle.scx_machine.specs.Filling.{fill}
 use Rattle.scx_machine.specs.Parking.{park, park_front, throttled_front, park_fronts, clear, in_reach, supply, let_go_one, let_go_from, let_all_go}
-use Rattle.scx_machine.specs.Cycle.{has_local, dispatched, asks_again, tries, stopping, running_on, leave, started_if, start, rest, swap, swap_or_rest, builtin_dispatch, builtin_fill, builtin_ask, builtin_cycle, start_or_cycle, pick, pick_or_rest, conclude, ask, seek, look, cycling, cycle}
-use Rattle.scx_machine.specs.Events.{target, settled, settle, select, wake, sleep_from_cpu, sleep_from, sleep, throttle, expire, count_down, tick_of, tick}
+use Rattle.scx_machine.specs.Cycle.{has_local, after_dispatch, asks_again, tries, stopping, running_on, leave, started_if, start, rest, swap, swap_or_rest, builtin_dispatch, builtin_fill, builtin_ask, builtin_cycle, start_or_cycle, pick, pick_or_rest, conclude, ask, seek, look, cycling, cycle}
+use Rattle.scx_machine.specs.Events.{target, insert_or_put, settle, select, wake, sleep_from_cpu, sleep_from, sleep, throttle, expire, count_down, tick_of, tick}
 use Rattle.scx_machine.proofs.Unchanged.{keeps_if}
 use Rattle.scx_sched.specs.Causes.{IsLast}
 use Rattle.scx_sched.specs.Decided.{used_at_tick}
@@ -46,12 +46,12 @@ pub record IsBlamed (now : ℕ) (calls : List CallMade) (x : Eject) : Type 0 whe
   pub fault : Fault
   pub last : IsLast call calls
   pub fresh : call.world.call.fault ≡ None
-  pub wrong : fault_of call.callback (called (Some call.program) call.callback call.arguments call.maps call.world) ≡ Some fault
+  pub wrong : fault_of call.callback (call_ending (Some call.program) call.callback call.arguments call.maps call.world) ≡ Some fault
   pub named : x ≡ cause.Fault fault now
 
 -- a call without a fault
 abbrev pub IsFaultless : CallMade → Type 0
-IsFaultless m = fault_of m.callback (called (Some m.program) m.callback m.arguments m.maps m.world) ≡ None
+IsFaultless m = fault_of m.callback (call_ending (Some m.program) m.callback m.arguments m.maps m.world) ≡ None
 
 abbrev pub AreFaultless : List CallMade → Type 0
 AreFaultless [] = Unit {0}
@@ -96,7 +96,7 @@ none_of xs ys e f = rw e f
 blamed_as : (now : ℕ) (xs ys : List CallMade) (x : Eject) → ((m : CallMade) → IsLast m xs → IsLast m ys) → IsBlamed now xs x → IsBlamed now ys x
 blamed_as now xs ys x f b = record { call = b.call; fault = b.fault; last = f b.call b.last; fresh = b.fresh; wrong = b.wrong; named = b.named }
 
-honest_joined : (s : State) (a r : Stepped) → IsHonest s a → IsHonest a.state r → IsHonest s (joined a r)
+honest_joined : (s : State) (a r : Stepped) → IsHonest s a → IsHonest a.state r → IsHonest s (one_after_other a r)
 honest_joined s a r h k = record {
   policy = k.policy ∙ h.policy;
   clock = k.clock ∙ h.clock;
@@ -195,14 +195,14 @@ in_force s b p e = go s.world.ejected refl e
 
 module _ (s : State) (b : Callback) (a : Args) (t c : ℕ) where
   abbrev w : WorldState
-  w = begun s.world b t c
+  w = at_callback s.world b t c
 
   honest_absent : (b ≡ callback.SelectCpu → 0 < length s.world.cpus) → IsHonest s (run_back None s b a t c)
-  unfolding called
+  unfolding call_ending
   honest_absent some = go (answer_fault b w 0) (no_answer b w some)
     where
       go : (o : Option Fault) → o ≡ None
-          → IsHonest s (joined (record { state = record { policy = s.policy; maps = s.maps; world = quiet w }; notes = []; calls = [] }) (ejected_for o (record { policy = s.policy; maps = s.maps; world = quiet w })))
+          → IsHonest s (one_after_other (record { state = record { policy = s.policy; maps = s.maps; world = quiet w }; notes = []; calls = [] }) (ejected_for o (record { policy = s.policy; maps = s.maps; world = quiet w })))
       go None e = record { policy = refl; clock = refl; tree = refl; silent = λ x out. refl; stays = λ x out. out; blamed = λ x force out. absurd (apart s.world.ejected x force out); heard = λ force. tt }
       go (Some f) e = absurd (cc)
 
@@ -210,18 +210,18 @@ module _ (s : State) (b : Callback) (a : Args) (t c : ℕ) where
   honest_run p acts = go (fault_of b e) refl
     where
       e : Ending WorldState
-      e = called (Some p) b a s.maps w
+      e = call_ending (Some p) b a s.maps w
 
       m : CallMade
       m = record { callback = b; program = p; arguments = a; maps = s.maps; world = w }
 
       v : State
-      v = ended s.policy e
+      v = after_callback s.policy e
 
       same : IsAsBefore w e.outside
       same = same_called (Some p) b a s.maps w
 
-      go : (o : Option Fault) → fault_of b e ≡ o → IsHonest s (joined (record { state = v; notes = e.outside.notes; calls = m ∷ [] }) (ejected_for o v))
+      go : (o : Option Fault) → fault_of b e ≡ o → IsHonest s (one_after_other (record { state = v; notes = e.outside.notes; calls = m ∷ [] }) (ejected_for o v))
       go None x = record {
         policy = refl;
         clock = same.0;
@@ -263,7 +263,7 @@ honest_call_back s b a t c some = go (acting s b) refl
 
 honest_enters : (s : State) (t : ℕ) (i : Insert) → IsHonest s (enters s t i)
 unfolding enters
-honest_enters s t i = honest_plain s (entered s.world t i) _ (same_entered s.world s.world t i (refl, refl, refl, refl))
+honest_enters s t i = honest_plain s (after_enter s.world t i) _ (same_entered s.world s.world t i (refl, refl, refl, refl))
 
 honest_enters_builtin : (s : State) (t : ℕ) → IsHonest s (enters_builtin s t)
 unfolding enters_builtin
@@ -272,7 +272,7 @@ honest_enters_builtin s t = honest_plain s (put_builtin s.world t) _ (same_put_b
 honest_comes_in : (s : State) (t c : ℕ) → IsHonest s (comes_in s t c)
 unfolding comes_in
 honest_comes_in s t c =
-    let i = wanted s.policy.callbacks.enqueue c s.world.call.insert in
+    let i = enqueue_choice s.policy.callbacks.enqueue c s.world.call.insert in
     keeps_if (IsHonest s) (is_ejected s) (enters_builtin s t) (enters s t i) (honest_enters_builtin s t) (honest_enters s t i)
 
 honest_put : (s : State) (t c flags : ℕ) → IsHonest s (put s t c flags)
@@ -285,7 +285,7 @@ honest_put s t c flags =
 
 honest_fill : (s : State) (q c : ℕ) → IsHonest s (fill s q c)
 unfolding fill
-honest_fill s q c = honest_plain s (filled s.world q c) _ (same_brought (fill_front s.world q c) s.world q c)
+honest_fill s q c = honest_plain s (after_fill s.world q c) _ (same_brought (fill_front s.world q c) s.world q c)
 
 honest_park : (s : State) (t : ℕ) → IsHonest s (park s t)
 unfolding park
@@ -293,7 +293,7 @@ honest_park s t = honest_plain s (put_parked s.world t) _ (same_put_parked s.wor
 
 honest_park_front : (s : State) (q t : ℕ) → IsHonest s (park_front s q t)
 unfolding park_front
-honest_park_front s q t = honest_from s (taken s.world q) (park (with_world s (taken s.world q)) t) (refl, refl, refl, refl) (honest_park (with_world s (taken s.world q)) t)
+honest_park_front s q t = honest_from s (after_take s.world q) (park (with_world s (after_take s.world q)) t) (refl, refl, refl, refl) (honest_park (with_world s (after_take s.world q)) t)
 
 honest_park_fronts : (j : ℕ) (s : State) (q : ℕ) → IsHonest s (park_fronts j s q)
 unfolding park_fronts
@@ -320,8 +320,8 @@ pub honest_supply : (s : State) (c : ℕ) → IsHonest s (supply s c)
 unfolding supply
 honest_supply s c = honest_clear (in_reach s c) s c
 
-honest_dispatched : (s : State) (c : ℕ) (p : Option ℕ) → IsHonest s (dispatched s c p)
-unfolding dispatched
+honest_dispatched : (s : State) (c : ℕ) (p : Option ℕ) → IsHonest s (after_dispatch s c p)
+unfolding after_dispatch
 honest_dispatched s c p =
     let r = call_back s callback.Dispatch (cpu_and_task c p) 0 c in
     honest_joined s r (supply r.state c) (honest_call_back s callback.Dispatch (cpu_and_task c p) 0 c (λ e. absurd (cc))) (honest_supply r.state c)
@@ -330,33 +330,33 @@ honest_tries : (j : ℕ) (s : State) (c : ℕ) (p : Option ℕ) → IsHonest s (
 unfolding tries
 honest_tries zero s c p = honest_stays s
 honest_tries (suc j) s c p =
-    let d = dispatched s c p in
+    let d = after_dispatch s c p in
     let x = honest_dispatched s c p in
-    keeps_if (IsHonest s) (asks_again d.state c) (joined d (tries j d.state c p)) d (honest_joined s d (tries j d.state c p) x (honest_tries j d.state c p)) x
+    keeps_if (IsHonest s) (asks_again d.state c) (one_after_other d (tries j d.state c p)) d (honest_joined s d (tries j d.state c p) x (honest_tries j d.state c p)) x
 
 -- ---- on and off a processor
 
 honest_stopping : (s : State) (c t n : ℕ) → IsHonest s (stopping s c t n)
 unfolding stopping
 honest_stopping s c t n =
-    keeps_if (IsHonest s) (is_ejected s) (stays (with_world s (charged s.world t))) (call_back s callback.Stopping (task_and_number t n) t c)
-    (honest_plain s (charged s.world t) [] (refl, refl, refl, refl)) (honest_call_back s callback.Stopping (task_and_number t n) t c (λ e. absurd (cc)))
+    keeps_if (IsHonest s) (is_ejected s) (stays (with_world s (after_charge s.world t))) (call_back s callback.Stopping (task_and_number t n) t c)
+    (honest_plain s (after_charge s.world t) [] (refl, refl, refl, refl)) (honest_call_back s callback.Stopping (task_and_number t n) t c (λ e. absurd (cc)))
 
 honest_running_on : (s : State) (c t : ℕ) → IsHonest s (running_on s c t)
 unfolding running_on
 honest_running_on s c t =
-    keeps_if (IsHonest s) (is_ejected s) (stays (with_world s (overtaken s.world t))) (call_back s callback.Running (one_task t) t c)
-    (honest_plain s (overtaken s.world t) [] (refl, refl, refl, refl)) (honest_call_back s callback.Running (one_task t) t c (λ e. absurd (cc)))
+    keeps_if (IsHonest s) (is_ejected s) (stays (with_world s (after_catch_up s.world t))) (call_back s callback.Running (one_task t) t c)
+    (honest_plain s (after_catch_up s.world t) [] (refl, refl, refl, refl)) (honest_call_back s callback.Running (one_task t) t c (λ e. absurd (cc)))
 
 honest_leave : (s : State) (c : ℕ) (p : Option ℕ) → IsHonest s (leave s c p)
 unfolding leave
 honest_leave s c None = honest_stays s
 honest_leave s c (Some t) =
-    let w = stopped s.world c t in
+    let w = after_stop s.world c t in
     let off = with_world s w in
     let r = stopping off c t 1 in
-    let ns = said s.world (note.Stop t c) ∷ [] in
-    honest_from s w (after ns (joined r (put r.state t c 0))) (refl, refl, refl, refl) (honest_after off ns (joined r (put r.state t c 0)) (honest_joined off r (put r.state t c 0) (honest_stopping off c t 1) (honest_put r.state t c 0)))
+    let ns = note_now s.world (note.Stop t c) ∷ [] in
+    honest_from s w (after ns (one_after_other r (put r.state t c 0))) (refl, refl, refl, refl) (honest_after off ns (one_after_other r (put r.state t c 0)) (honest_joined off r (put r.state t c 0) (honest_stopping off c t 1) (honest_put r.state t c 0)))
 
 honest_start : (s : State) (c : ℕ) → IsHonest s (start s c)
 unfolding start
@@ -366,12 +366,12 @@ honest_start s c = go (front_of s.world.queues (local_on c))
     go None = honest_stays s
     go (Some t) =
         let w = started_at (Some t) s.world c in
-        let ns = said s.world (note.Run t c) ∷ [] in
+        let ns = note_now s.world (note.Run t c) ∷ [] in
         honest_from s w (after ns (running_on (with_world s w) c t)) (refl, refl, refl, refl) (honest_after (with_world s w) ns (running_on (with_world s w) c t) (honest_running_on (with_world s w) c t))
 
 honest_rest : (s : State) (c : ℕ) (p : Option ℕ) (ran : Bool) → IsHonest s (rest s c p ran)
 unfolding rest
-honest_rest s c p ran = honest_plain s (kept s.world p) _ (same_kept s.world p)
+honest_rest s c p ran = honest_plain s (after_keep s.world p) _ (same_kept s.world p)
 
 -- ---- the built-in scheduler
 
@@ -387,9 +387,9 @@ honest_swap_or_rest s c p ran = keeps_if (IsHonest s) (has_local s c) (swap s c 
 pub honest_builtin_fill : (s : State) (c : ℕ) → IsHonest s (builtin_fill s c)
 unfolding builtin_fill builtin_dispatch
 honest_builtin_fill s c =
-    let p = park_fronts (len_of s.world.queues builtin) s builtin in
-    keeps_if (IsHonest s) (has_local s c) (stays s) (joined p (fill p.state builtin c)) (honest_stays s)
-    (honest_joined s p (fill p.state builtin c) (honest_park_fronts (len_of s.world.queues builtin) s builtin) (honest_fill p.state builtin c))
+    let p = park_fronts (len_of s.world.queues builtin_queue) s builtin_queue in
+    keeps_if (IsHonest s) (has_local s c) (stays s) (one_after_other p (fill p.state builtin_queue c)) (honest_stays s)
+    (honest_joined s p (fill p.state builtin_queue c) (honest_park_fronts (len_of s.world.queues builtin_queue) s builtin_queue) (honest_fill p.state builtin_queue c))
 
 honest_builtin_ask : (s : State) (c : ℕ) (p : Option ℕ) (ran : Bool) → IsHonest s (builtin_ask s c p ran)
 unfolding builtin_ask
@@ -441,16 +441,16 @@ honest_cycle s c p ran =
 
 -- ---- events
 
-honest_settled : (o : Option Insert) (s : State) (t c : ℕ) → IsHonest s (settled o s t c)
+honest_settled : (o : Option Insert) (s : State) (t c : ℕ) → IsHonest s (insert_or_put o s t c)
 honest_settled None s t c = honest_put s t c 1
 honest_settled (Some i) s t c = honest_enters s t (for_cpu c i)
 
 honest_settle : (s : State) (t c : ℕ) → IsHonest s (settle s t c)
 unfolding settle
 honest_settle s t c =
-    let r = settled s.world.call.insert s t c in
+    let r = insert_or_put s.world.call.insert s t c in
     let h = honest_settled s.world.call.insert s t c in
-    keeps_if (IsHonest s) (is_idle r.state.world c) (joined r (cycle r.state c None false)) r (honest_joined s r (cycle r.state c None false) h (honest_cycle r.state c None false)) h
+    keeps_if (IsHonest s) (is_idle r.state.world c) (one_after_other r (cycle r.state c None false)) r (honest_joined s r (cycle r.state c None false) h (honest_cycle r.state c None false)) h
 
 honest_select : (s : State) (t : ℕ) → 0 < length s.world.cpus → IsHonest s (select s t)
 unfolding select
@@ -464,12 +464,12 @@ honest_select s t some =
 pub honest_wake : (s : State) (t : ℕ) → 0 < length s.world.cpus → IsHonest (state_with_tree s (with_task s.world.tree t true)) (wake s t)
 unfolding wake
 honest_wake s t some =
-    let w = woken s.world t in
-    let ns = said s.world (note.Wake t) ∷ [] in
+    let w = after_wake s.world t in
+    let ns = note_now s.world (note.Wake t) ∷ [] in
     honest_from (state_with_tree s (with_task s.world.tree t true)) w (after ns (select (with_world s w) t)) (refl, refl, refl, refl) (honest_after (with_world s w) ns (select (with_world s w) t) (honest_select (with_world s w) t some))
 
 -- a task that there is goes to sleep
-now_asleep : (w : WorldState) (t : ℕ) → t < length w.tasks → IsAsBefore (with_tree w (with_task w.tree t false)) (asleep w t)
+now_asleep : (w : WorldState) (t : ℕ) → t < length w.tasks → IsAsBefore (with_tree w (with_task w.tree t false)) (after_sleep w t)
 now_asleep w t known = go (nat_lt t (length w.tasks)) refl
   where
     go : (b : Bool) → nat_lt t (length w.tasks) ≡ b → IsAsBefore (with_tree w (with_task w.tree t false)) (if b then with_tree (set_task w t (with_since (task_at w t) None)) (with_task w.tree t false) else w)
@@ -478,31 +478,31 @@ now_asleep w t known = go (nat_lt t (length w.tasks)) refl
 
 -- once it has left its processor
 abbrev pub stopped_for_sleep : State → ℕ → ℕ → Stepped
-stopped_for_sleep s t c = stopping (with_world s (stopped s.world c t)) c t 0
+stopped_for_sleep s t c = stopping (with_world s (after_stop s.world c t)) c t 0
 
 honest_sleep_from_cpu : (s : State) (t c : ℕ) → t < length (stopped_for_sleep s t c).state.world.tasks → IsHonest (state_with_tree s (with_task s.world.tree t false)) (sleep_from_cpu s t c)
 unfolding sleep_from_cpu
 honest_sleep_from_cpu s t c known =
-    honest_from (state_with_tree s tree) (with_tree off.world tree) (after ns (joined r y)) (refl, refl, refl, refl)
-    (honest_after (state_with_tree off tree) ns (joined r y) (honest_joined (state_with_tree off tree) (step_with_tree r tree) y (honest_with_tree off r tree left) (honest_from (state_with_tree r.state tree) u y same (honest_cycle (with_world r.state u) c None true))))
+    honest_from (state_with_tree s tree) (with_tree off.world tree) (after ns (one_after_other r y)) (refl, refl, refl, refl)
+    (honest_after (state_with_tree off tree) ns (one_after_other r y) (honest_joined (state_with_tree off tree) (step_with_tree r tree) y (honest_with_tree off r tree left) (honest_from (state_with_tree r.state tree) u y same (honest_cycle (with_world r.state u) c None true))))
   where
     tree : Hierarchy
     tree = with_task s.world.tree t false
 
     off : State
-    off = with_world s (stopped s.world c t)
+    off = with_world s (after_stop s.world c t)
 
     r : Stepped
     r = stopping off c t 0
 
     u : WorldState
-    u = asleep r.state.world t
+    u = after_sleep r.state.world t
 
     y : Stepped
     y = cycle (with_world r.state u) c None true
 
     ns : List Note
-    ns = said s.world (note.Stop t c) ∷ []
+    ns = note_now s.world (note.Stop t c) ∷ []
 
     left : IsHonest off r
     left = honest_stopping off c t 0
@@ -513,37 +513,37 @@ honest_sleep_from_cpu s t c known =
 -- one that goes to sleep
 pub honest_sleep : (s : State) (t : ℕ) → t < length s.world.tasks → ((c : ℕ) → cpu_of s.world t ≡ Some c → t < length (stopped_for_sleep s t c).state.world.tasks) → IsHonest (state_with_tree s (with_task s.world.tree t false)) (sleep s t)
 unfolding sleep
-honest_sleep s t known still = honest_after (state_with_tree s tree) (said s.world (note.Sleep t) ∷ []) (sleep_from (cpu_of s.world t) s t) (go (cpu_of s.world t) refl)
+honest_sleep s t known still = honest_after (state_with_tree s tree) (note_now s.world (note.Sleep t) ∷ []) (sleep_from (cpu_of s.world t) s t) (go (cpu_of s.world t) refl)
   where
     tree : Hierarchy
     tree = with_task s.world.tree t false
 
     go : (o : Option ℕ) → cpu_of s.world t ≡ o → IsHonest (state_with_tree s tree) (sleep_from o s t)
-    go None e = let x = now_asleep (gone s.world t) t known in honest_plain (state_with_tree s tree) (asleep (gone s.world t) t) [] (x.0, x.1, x.2, x.3)
+    go None e = let x = now_asleep (after_leave s.world t) t known in honest_plain (state_with_tree s tree) (after_sleep (after_leave s.world t) t) [] (x.0, x.1, x.2, x.3)
     go (Some c) e = honest_sleep_from_cpu s t c (still c e)
 
 honest_throttle : (s : State) (c t : ℕ) → IsHonest s (throttle s c t)
 unfolding throttle
 honest_throttle s c t =
-    let w = stopped s.world c t in
+    let w = after_stop s.world c t in
     let off = with_world s w in
     let r = stopping off c t 1 in
     let p = park r.state t in
     let y = cycle p.state c None true in
-    let ns = said s.world (note.Stop t c) ∷ [] in
-    honest_from s w (after ns (joined r (joined p y))) (refl, refl, refl, refl)
-    (honest_after off ns (joined r (joined p y)) (honest_joined off r (joined p y) (honest_stopping off c t 1) (honest_joined r.state p y (honest_park r.state t) (honest_cycle p.state c None true))))
+    let ns = note_now s.world (note.Stop t c) ∷ [] in
+    honest_from s w (after ns (one_after_other r (one_after_other p y))) (refl, refl, refl, refl)
+    (honest_after off ns (one_after_other r (one_after_other p y)) (honest_joined off r (one_after_other p y) (honest_stopping off c t 1) (honest_joined r.state p y (honest_park r.state t) (honest_cycle p.state c None true))))
 
 honest_expire : (s : State) (c t : ℕ) → IsHonest s (expire s c t)
 unfolding expire
 honest_expire s c t = keeps_if (IsHonest s) ((task_at s.world t).slice == 0) (cycle s c (Some t) true) (stays s) (honest_cycle s c (Some t) true) (honest_stays s)
 
 -- a task that there is has run for a millisecond
-now_used : (w : WorldState) (t : ℕ) → t < length w.tasks → IsAsBefore (with_tree w (with_use w.tree t)) (used_ms (ticked w t) t)
+now_used : (w : WorldState) (t : ℕ) → t < length w.tasks → IsAsBefore (with_tree w (with_use w.tree t)) (used_ms (after_tick w t) t)
 now_used w t known = go (nat_lt t (length x.tasks)) refl
   where
     x : WorldState
-    x = ticked w t
+    x = after_tick w t
 
     there : t < length x.tasks
     there = rw (length-set w.tasks t (ran_a_tick (task_at w t))) known
@@ -560,7 +560,7 @@ honest_tick s c known = go (running s.world c) refl
     go : (o : Option ℕ) → running s.world c ≡ o → IsHonest (state_with_tree s (used_at_tick o s.world.tree)) (tick_of o s c)
     go None e = honest_same_tree s (cycle s c None false) (honest_cycle s c None false)
     go (Some t) e =
-        let w = used_ms (ticked s.world t) t in
+        let w = used_ms (after_tick s.world t) t in
         let v = with_world s w in
         let r = if is_throttled v.world t then throttle v c t else expire v c t in
         honest_from (state_with_tree s (with_use s.world.tree t)) w r (now_used s.world t (known t e)) (keeps_if (IsHonest v) (is_throttled v.world t) (throttle v c t) (expire v c t) (honest_throttle v c t) (honest_expire v c t))
@@ -579,16 +579,16 @@ honest_let_go_from (suc j) s None = honest_stays s
 honest_let_go_from (suc j) s (Some t) =
     let next = behind_of s.world.queues t in
     let r = let_go_one s t in
-    keeps_if (IsHonest s) (is_throttled s.world t) (let_go_from j s next) (joined r (let_go_from j r.state next)) (honest_let_go_from j s next)
+    keeps_if (IsHonest s) (is_throttled s.world t) (let_go_from j s next) (one_after_other r (let_go_from j r.state next)) (honest_let_go_from j s next)
     (honest_joined s r (let_go_from j r.state next) (honest_let_go_one s t) (honest_let_go_from j r.state next))
 
 -- letting all go who may run again does no more to the policy than a step may
 pub honest_let_all_go : (s : State) → IsHonest s (let_all_go s)
 unfolding let_all_go
-honest_let_all_go s = honest_let_go_from (len_of s.world.queues parked) s (front_of s.world.queues parked)
+honest_let_all_go s = honest_let_go_from (len_of s.world.queues parked_queue) s (front_of s.world.queues parked_queue)
 
 -- a weight that can be set
-pub honest_weight : (s : State) (g x : ℕ) (ns : List Note) → weight_fault s.world.tree g x ≡ None → IsHonest (state_with_tree s (with_weight s.world.tree g x)) (record { state = with_world s (reweighed s.world g x); notes = ns; calls = [] })
+pub honest_weight : (s : State) (g x : ℕ) (ns : List Note) → weight_fault s.world.tree g x ≡ None → IsHonest (state_with_tree s (with_weight s.world.tree g x)) (record { state = with_world s (after_reweigh s.world g x); notes = ns; calls = [] })
 honest_weight s g x ns fine = go (weight_fault s.world.tree g x) fine
   where
     tree : Hierarchy

@@ -7,10 +7,10 @@ use Rattle.std.proofs.lemmas.List.FromFn.{get_or-map-range_with_len, length-map-
 use Rattle.std.proofs.lemmas.List.Sums.{sum_by-cons}
 use Rattle.std.proofs.Math.Nat.{zero-mod}
 use Rattle.scx_weights.specs.declared.group.Group.{Group}
-use Rattle.scx_weights.specs.Hierarchy.{Hierarchy, parent_of, quota_at, period_at, upward, path, lies_in, home_of, reweighed, with_weight}
+use Rattle.scx_weights.specs.Hierarchy.{Hierarchy, parent_of, quota_at, period_at, upward, path, lies_in, home_of, with_weight_of, with_weight}
 use Rattle.scx_weights.specs.Limits.{usage_of, is_used_up, is_throttled_group, is_throttled, begins_period, with_use, with_turn}
 use Rattle.scx_weights.proofs.Reweighed.{parent_reweighed}
-use Rattle.scx_limits.specs.Bounds.{runs_in, cpus_in, IsWithin}
+use Rattle.scx_limits.specs.Bounds.{runs_in, cpus_in, StaysBelowQuota}
 use Rattle.scx_limits.proofs.Usages.{usage_turned, no_quota}
 use Rattle.scx_limits.proofs.Bounded.{begins_within, ends_within, ticks_within, turns_within}
 use Rattle.scx_world.specs.World.{WorldState}
@@ -31,12 +31,12 @@ within_ended t on c l h g quota lt is = ends_within t on c g quota l (h g quota 
 -- a task that may go on stays
 pub within_used : (t : Hierarchy) (on : List (Option ℕ)) (c k : ℕ) → get_or on c None ≡ Some k → is_throttled (with_use t k) k ≡ false → AreWithin t on → AreWithin (with_use t k) on
 within_used t on c k runs free h g quota lt is =
-    subst (λ (b : Bool). IsWithin (with_use t k) (cond b (set on c None) on) g quota) free (ticks_within t on c k g quota lt is runs (h g quota lt is))
+    subst (λ (b : Bool). StaysBelowQuota (with_use t k) (cond b (set on c None) on) g quota) free (ticks_within t on c k g quota lt is runs (h g quota lt is))
 
 -- and one that may not leaves
 pub within_used_up : (t : Hierarchy) (on : List (Option ℕ)) (c k : ℕ) → get_or on c None ≡ Some k → is_throttled (with_use t k) k ≡ true → AreWithin t on → AreWithin (with_use t k) (set on c None)
 within_used_up t on c k runs throttled h g quota lt is =
-    subst (λ (b : Bool). IsWithin (with_use t k) (cond b (set on c None) on) g quota) throttled (ticks_within t on c k g quota lt is runs (h g quota lt is))
+    subst (λ (b : Bool). StaysBelowQuota (with_use t k) (cond b (set on c None) on) g quota) throttled (ticks_within t on c k g quota lt is runs (h g quota lt is))
 
 -- periods begin
 pub within_turned : (t : Hierarchy) (on : List (Option ℕ)) (clock : ℕ) → AreWithin t on → AreWithin (with_turn t clock) on
@@ -44,7 +44,7 @@ within_turned t on clock h g quota lt is = turns_within t on clock g quota lt (h
 
 -- ---- a weight
 
-quota_reweighed : (groups : List Group) (g x k : ℕ) → quota_at (reweighed groups g x) k ≡ quota_at groups k
+quota_reweighed : (groups : List Group) (g x k : ℕ) → quota_at (with_weight_of groups g x) k ≡ quota_at groups k
 quota_reweighed groups g x k = go (cases_eq k g) (cases_lt g (length groups))
   where
     none : Group
@@ -58,17 +58,17 @@ quota_reweighed groups g x k = go (cases_eq k g) (cases_lt g (length groups))
     go (inl e) (inr past) = ap (λ gs. quota_at gs k) (set_past groups g new past)
     go (inr d) l = ap (λ (y : Group). y.quota_ms) (get_or-set_other groups g k new none d)
 
-upward_reweighed : (groups : List Group) (g x : ℕ) → g < length groups → (n : ℕ) (at : Option ℕ) → upward (reweighed groups g x) n at ≡ upward groups n at
+upward_reweighed : (groups : List Group) (g x : ℕ) → g < length groups → (n : ℕ) (at : Option ℕ) → upward (with_weight_of groups g x) n at ≡ upward groups n at
 upward_reweighed groups g x l zero at = refl
 upward_reweighed groups g x l (suc n) None = refl
 upward_reweighed groups g x l (suc n) (Some k) =
-    ap (λ p. k ∷ upward (reweighed groups g x) n p) (parent_reweighed groups g x k l) ∙ ap (λ ks. k ∷ ks) (upward_reweighed groups g x l n (parent_of groups k))
+    ap (λ p. k ∷ upward (with_weight_of groups g x) n p) (parent_reweighed groups g x k l) ∙ ap (λ ks. k ∷ ks) (upward_reweighed groups g x l n (parent_of groups k))
 
 -- who lies where stays
-path_reweighed : (groups : List Group) (g x k : ℕ) → path (reweighed groups g x) k ≡ path groups k
+path_reweighed : (groups : List Group) (g x k : ℕ) → path (with_weight_of groups g x) k ≡ path groups k
 path_reweighed groups g x k = go (cases_lt g (length groups))
   where
-    go : (g < length groups) ⊎ (length groups ≤ g) → path (reweighed groups g x) k ≡ path groups k
+    go : (g < length groups) ⊎ (length groups ≤ g) → path (with_weight_of groups g x) k ≡ path groups k
     go (inl l) = upward_reweighed groups g x l 3 (Some k)
     go (inr past) = ap (λ gs. path gs k) (set_past groups g _ past)
 

@@ -1,7 +1,7 @@
 -- A callback that isn't dispatch moves nobody: it changes no entry and pushes nothing, and leaves the tree as it is.
 use Rattle.std.proofs.Common.{◌≡◌, ℕ, Bool, true, false, ◌&&◌, nat_lt, cond, List, length, map, Option, Some, None, is_none}
 use Rattle.scx_dsq.specs.Queues.{QueueState, exists, front_of}
-use Rattle.scx_dsq.specs.Calls.{create_refusal, with_queue, created}
+use Rattle.scx_dsq.specs.Calls.{create_refusal, with_queue, after_create}
 use Rattle.scx_semantics.specs.declared.host_tables.Helper.{Helper}
 use Rattle.scx_semantics.specs.declared.host_tables.Helper.TheVariants.{MapLookupElem, KtimeGetNs, CreateDsq, DsqInsert, DsqInsertVtime, DsqMoveToLocal, SelectCpuDfl, CpuIdle, TaskByPid, DsqNrQueued}
 use Rattle.scx_semantics.specs.Effects.{Query, Call, Load, Store}
@@ -14,7 +14,7 @@ use Rattle.scx_world.specs.declared.faults.Fault.TheVariants.{NoSuchQueue, NoSuc
 use Rattle.scx_world.specs.Ids.{policy_end}
 use Rattle.scx_world.specs.World.{WorldState, with_queues}
 use Rattle.scx_world.specs.Tasks.{for_cpu}
-use Rattle.scx_world.specs.Helpers.{is_there, can_create, faulted, is_dispatch, insert_fault, with_insert, released, inserted, asked, asked_by_vtime, moved, given_number, given_task, helper_after, world_functions}
+use Rattle.scx_world.specs.Helpers.{is_there, can_create, with_fault, is_dispatch, insert_fault, with_insert, after_release, insert_or_fault, insert_of, insert_of_vtime, front_moved_to_local, given_number, given_task, helper_after, world_functions}
 use Rattle.scx_machine.proofs.Unchanged.{keeps_if}
 
 -- from the first world to the second, with a callback at hand that isn't dispatch
@@ -26,34 +26,34 @@ pub record IsCalm (v w : WorldState) : Type 0 where
   pub callback : is_dispatch w.call.callback ≡ false
 
 module _ (v : WorldState) where
-  calm_created : (w : WorldState) (q : ℕ) → IsCalm v w → IsCalm v (with_queues w (created w.queues q))
+  calm_created : (w : WorldState) (q : ℕ) → IsCalm v w → IsCalm v (with_queues w (after_create w.queues q))
   calm_created w q h = keeps_if (λ (s : QueueState). IsCalm v (with_queues w s)) (is_none (create_refusal w.queues q)) (with_queue w.queues q) w.queues (record { entries = h.entries; pushes = h.pushes; tree = h.tree; ejected = h.ejected; callback = h.callback }) (record { entries = h.entries; pushes = h.pushes; tree = h.tree; ejected = h.ejected; callback = h.callback })
 
-  calm_faulted : (w : WorldState) (f : Fault) → IsCalm v w → IsCalm v (faulted w f)
+  calm_faulted : (w : WorldState) (f : Fault) → IsCalm v w → IsCalm v (with_fault w f)
   calm_faulted w f h = record { entries = h.entries; pushes = h.pushes; tree = h.tree; ejected = h.ejected; callback = h.callback }
 
-  calm_inserted : (w : WorldState) (o : Option Fault) (t : Option ℕ) (i : Insert) → IsCalm v w → IsCalm v (inserted w o t i)
+  calm_inserted : (w : WorldState) (o : Option Fault) (t : Option ℕ) (i : Insert) → IsCalm v w → IsCalm v (insert_or_fault w o t i)
   calm_inserted w None t i h = go (is_dispatch w.call.callback) h.callback
     where
-      go : (b : Bool) → b ≡ false → IsCalm v (cond b (released w t (for_cpu w.call.cpu i)) (with_insert w i))
+      go : (b : Bool) → b ≡ false → IsCalm v (cond b (after_release w t (for_cpu w.call.cpu i)) (with_insert w i))
       go true e = absurd (cc)
       go false e = record { entries = h.entries; pushes = h.pushes; tree = h.tree; ejected = h.ejected; callback = h.callback }
   calm_inserted w (Some f) t i h = calm_faulted w f h
 
   calm_helper : (w : WorldState) (f : Helper) (a : List Arg) → IsCalm v w → IsCalm v (helper_after w f a)
-  calm_helper w CreateDsq a h = keeps_if (IsCalm v) (can_create w (given_number a 0)) (with_queues w (created w.queues (given_number a 0))) (faulted w CannotCreate) (calm_created w (given_number a 0) h) (calm_faulted w CannotCreate h)
-  calm_helper w DsqInsert a h = calm_inserted w (insert_fault w (given_task a 0) (asked a) (given_number a 3)) (given_task a 0) (asked a) h
-  calm_helper w DsqInsertVtime a h = calm_inserted w (insert_fault w (given_task a 0) (asked_by_vtime a) (given_number a 4)) (given_task a 0) (asked_by_vtime a) h
+  calm_helper w CreateDsq a h = keeps_if (IsCalm v) (can_create w (given_number a 0)) (with_queues w (after_create w.queues (given_number a 0))) (with_fault w CannotCreate) (calm_created w (given_number a 0) h) (calm_faulted w CannotCreate h)
+  calm_helper w DsqInsert a h = calm_inserted w (insert_fault w (given_task a 0) (insert_of a) (given_number a 3)) (given_task a 0) (insert_of a) h
+  calm_helper w DsqInsertVtime a h = calm_inserted w (insert_fault w (given_task a 0) (insert_of_vtime a) (given_number a 4)) (given_task a 0) (insert_of_vtime a) h
   calm_helper w DsqMoveToLocal a h = go (is_dispatch w.call.callback) (nat_lt q policy_end && exists w.queues q) h.callback
     where
       q : ℕ
       q = given_number a 0
 
-      go : (b c : Bool) → b ≡ false → IsCalm v (cond (b && c) (moved w (front_of w.queues q) q) (faulted w NoSuchQueue))
+      go : (b c : Bool) → b ≡ false → IsCalm v (cond (b && c) (front_moved_to_local w (front_of w.queues q) q) (with_fault w NoSuchQueue))
       go true c e = absurd (cc)
       go false c e = calm_faulted w NoSuchQueue h
-  calm_helper w CpuIdle a h = keeps_if (IsCalm v) (nat_lt (given_number a 0) (length w.cpus)) w (faulted w NoSuchCpu) h (calm_faulted w NoSuchCpu h)
-  calm_helper w DsqNrQueued a h = keeps_if (IsCalm v) (is_there w (given_number a 0)) w (faulted w NoSuchQueue) h (calm_faulted w NoSuchQueue h)
+  calm_helper w CpuIdle a h = keeps_if (IsCalm v) (nat_lt (given_number a 0) (length w.cpus)) w (with_fault w NoSuchCpu) h (calm_faulted w NoSuchCpu h)
+  calm_helper w DsqNrQueued a h = keeps_if (IsCalm v) (is_there w (given_number a 0)) w (with_fault w NoSuchQueue) h (calm_faulted w NoSuchQueue h)
   calm_helper w KtimeGetNs a h = h
   calm_helper w SelectCpuDfl a h = h
   calm_helper w TaskByPid a h = h

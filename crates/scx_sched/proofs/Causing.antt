@@ -8,7 +8,7 @@ use Rattle.scx_semantics.specs.declared.callbacks.Callback.TheVariants as callba
 use Rattle.scx_semantics.specs.Endings.{Ending, run_of}
 use Rattle.scx_semantics.proofs.EndedRuns.{run_is}
 use Rattle.scx_safety.specs.Programs.{VerifiedProgram}
-use Rattle.scx_vm.specs.Arguments.{given}
+use Rattle.scx_vm.specs.Arguments.{program_arguments}
 use Rattle.scx_vm.specs.Host.{answer_to, after_query}
 use Rattle.scx_tasks.specs.Tasks.{no_task}
 use Rattle.scx_tasks.specs.Waits.{is_late, is_overdue}
@@ -22,13 +22,13 @@ use Rattle.scx_world.specs.Waits.{first_overdue, IsFirstOverdue}
 use Rattle.scx_world.specs.Helpers.{or_fault, world_functions}
 use Rattle.scx_tasks.specs.Waits.{time_since}
 use Rattle.scx_machine.specs.Policy.{PolicyState}
-use Rattle.scx_machine.specs.Steps.{State, CallMade, Stepped, with_world, joined}
+use Rattle.scx_machine.specs.Steps.{State, CallMade, Stepped, with_world, one_after_other}
 use Rattle.scx_machine.specs.Ejecting.{eject}
-use Rattle.scx_machine.specs.Callbacks.{called, answer_fault, fault_of, IsAnswered, AreAnswered}
+use Rattle.scx_machine.specs.Callbacks.{call_ending, answer_fault, fault_of, IsAnswered, AreAnswered}
 use Rattle.scx_machine.specs.declared.events.Event.{Event}
 use Rattle.scx_machine.specs.declared.events.Event.TheVariants.{Wake, Sleep, Tick, Clock, SetWeight}
 use Rattle.scx_machine.specs.Parking.{let_all_go}
-use Rattle.scx_machine.specs.Events.{overdue, stalled, clock, happened}
+use Rattle.scx_machine.specs.Events.{overdue, eject_if_stalled, clock, event_step}
 use Rattle.scx_sched.specs.Causes.{EndsIn, HasFault, Of_helper, Of_answer, IsLast, IsAmong, IsCause, Waited, Went_wrong, EjectsOnce, clock_in}
 use Rattle.scx_sched.specs.Sim.{SimState, refusal, calls_if, calls_of, IsValid}
 use Rattle.scx_sched.proofs.Unchanged.{eject_sets}
@@ -48,9 +48,9 @@ last_answered [] m all = all.0
 last_answered (c ∷ cs) m all = last_answered cs m all.1
 
 -- what a run comes to is what is computed of the call
-pub computes : (m : CallMade) (answer : ℕ) (w : WorldState) → (x : EndsIn m answer w) → record { answer = Some answer; maps = x.maps; outside = w } ≡ called (Some m.program) m.callback m.arguments m.maps m.world
-unfolding called
-computes m answer w x = run_is (answer_to world_functions) (after_query world_functions) m.callback m.program.code (given m.arguments) m.maps m.world answer x.steps x.maps w x.run x.in_bound
+pub computes : (m : CallMade) (answer : ℕ) (w : WorldState) → (x : EndsIn m answer w) → record { answer = Some answer; maps = x.maps; outside = w } ≡ call_ending (Some m.program) m.callback m.arguments m.maps m.world
+unfolding call_ending
+computes m answer w x = run_is (answer_to world_functions) (after_query world_functions) m.callback m.program.code (program_arguments m.arguments) m.maps m.world answer x.steps x.maps w x.run x.in_bound
 
 module _ (m : CallMade) (f : Fault) (i : IsAnswered m) where
   ends : EndsIn m i.answer i.world
@@ -81,7 +81,7 @@ module _ (m : CallMade) (f : Fault) (i : IsAnswered m) where
       go None x y = of_answer b same x y
 
   -- what is computed of a call is what its run comes to
-  pub has_fault : fault_of m.callback (called (Some m.program) m.callback m.arguments m.maps m.world) ≡ Some f → HasFault m f
+  pub has_fault : fault_of m.callback (call_ending (Some m.program) m.callback m.arguments m.maps m.world) ≡ Some f → HasFault m f
   has_fault wrong = of_end m.callback refl (ap (λ (e : Ending WorldState). fault_of m.callback e) (computes m i.answer i.world ends) ∙ wrong)
 
 -- ---- a call without a fault
@@ -140,22 +140,22 @@ is_late_in s t e = go s.world.ejected refl e
 
 -- the state after it
 abbrev after_event : State → ℕ → Event → SimState
-after_event s n v = record { state = (happened s v).state; events = n + 1 }
+after_event s n v = record { state = (event_step s v).state; events = n + 1 }
 
 module _ (s : State) (n : ℕ) where
   abbrev before_event : SimState
   before_event = record { state = s; events = n }
 
-  honest_cause : (v : Event) → clock_in before_event v ≡ s.world.clock → refusal before_event v ≡ None → AreAnswered (happened s v).calls → IsHonestEvent s v → EjectsOnce before_event v (after_event s n v)
+  honest_cause : (v : Event) → clock_in before_event v ≡ s.world.clock → refusal before_event v ≡ None → AreAnswered (event_step s v).calls → IsHonestEvent s v → EjectsOnce before_event v (after_event s n v)
   honest_cause v now ok answered h = record { stays = h.stays; cause = λ x force out. for_fault x force out; heard = λ force m f among wrong. no_fault force m f among wrong }
     where
-      calls : calls_of before_event v ≡ (happened s v).calls
+      calls : calls_of before_event v ≡ (event_step s v).calls
       calls = ap (λ o. calls_if o before_event v) ok
 
-      no_fault : (happened s v).state.world.ejected ≡ None → (m : CallMade) (f : Fault) → IsAmong m (calls_of before_event v) → HasFault m f → ⊥
+      no_fault : (event_step s v).state.world.ejected ≡ None → (m : CallMade) (f : Fault) → IsAmong m (calls_of before_event v) → HasFault m f → ⊥
       no_fault force m f among wrong = none_heard (calls_of before_event v) m f (subst AreFaultless (sym calls) (h.heard force)) among wrong
 
-      for_fault : (x : Eject) → s.world.ejected ≡ None → (happened s v).state.world.ejected ≡ Some x → IsCause before_event v x
+      for_fault : (x : Eject) → s.world.ejected ≡ None → (event_step s v).state.world.ejected ≡ Some x → IsCause before_event v x
       for_fault x force out =
           let b = h.blamed x force out in
           let i = last_answered b.last.0 b.call (subst AreAnswered b.last.1 answered) in
@@ -192,7 +192,7 @@ module _ (s : State) (n : ℕ) where
           let f = first_late r.world r.policy.timeout_ms t e in
           record { known = omega (arith, f.known, long.1); over = omega (arith, f.over, limit, long.2 t); least = λ u k. omega (arith, f.least u k, limit, long.2 u) }
 
-      go : (o : Option ℕ) → overdue r ≡ o → AreAnswered (joined l (stalled o r)).calls → calls_of before_event Clock ≡ (joined l (stalled o r)).calls → EjectsOnce before_event Clock (record { state = (stalled o r).state; events = n + 1 })
+      go : (o : Option ℕ) → overdue r ≡ o → AreAnswered (one_after_other l (eject_if_stalled o r)).calls → calls_of before_event Clock ≡ (one_after_other l (eject_if_stalled o r)).calls → EjectsOnce before_event Clock (record { state = (eject_if_stalled o r).state; events = n + 1 })
       go None e answers calls = record { stays = honest.stays; cause = λ x force out. for_fault x force out; heard = λ force m f among wrong. no_fault force m f among wrong }
         where
           all : calls_of before_event Clock ≡ l.calls
@@ -216,10 +216,10 @@ module _ (s : State) (n : ℕ) where
           }
 
   -- the law
-  pub ejects_once : (v : Event) → refusal before_event v ≡ None → IsFineNow (length s.world.tasks) n n s.world → AreAnswered (happened s v).calls → EjectsOnce before_event v (after_event s n v)
+  pub ejects_once : (v : Event) → refusal before_event v ≡ None → IsFineNow (length s.world.tasks) n n s.world → AreAnswered (event_step s v).calls → EjectsOnce before_event v (after_event s n v)
   ejects_once v ok fine answered = go v (is_taken s v (accepted before_event v ok).taken) ok answered
     where
-      go : (v : Event) → IsTaken s v → refusal before_event v ≡ None → AreAnswered (happened s v).calls → EjectsOnce before_event v (after_event s n v)
+      go : (v : Event) → IsTaken s v → refusal before_event v ≡ None → AreAnswered (event_step s v).calls → EjectsOnce before_event v (after_event s n v)
       go _ (Wakes t within resting) ok answered = honest_cause (Wake t) refl ok answered (wake_is_honest s n fine t)
       go _ (Sleeps t within runnable) ok answered = honest_cause (Sleep t) refl ok answered (sleep_is_honest s n fine t within)
       go _ (Ticks c l) ok answered = honest_cause (Tick c) refl ok answered (tick_is_honest s n fine c l)
@@ -227,5 +227,5 @@ module _ (s : State) (n : ℕ) where
       go _ (Weighs g x) ok answered = honest_cause (SetWeight g x) refl ok answered (weight_is_honest s n fine g x (accepted before_event (SetWeight g x) ok).taken)
 
 -- of a machine between two events
-pub step_cause : (s : State) (n : ℕ) (v : Event) → refusal (record { state = s; events = n }) v ≡ None → IsValid s n → AreAnswered (happened s v).calls → EjectsOnce (record { state = s; events = n }) v (record { state = (happened s v).state; events = n + 1 })
+pub step_cause : (s : State) (n : ℕ) (v : Event) → refusal (record { state = s; events = n }) v ≡ None → IsValid s n → AreAnswered (event_step s v).calls → EjectsOnce (record { state = s; events = n }) v (record { state = (event_step s v).state; events = n + 1 })
 step_cause s n v ok h answered = ejects_once s n v ok h.fine answered

@@ -9,16 +9,16 @@ use Rattle.scx_dsq.specs.declared.entries.Rank.TheVariants.{Fifo, Vtime}
 use Rattle.scx_dsq.specs.Entries.{same_sort, is_before}
 use Rattle.scx_dsq.specs.Laws.{one_if}
 use Rattle.scx_dsq.specs.Queues.{Entries, QueueState, entry_of, is_in, len_of, front_of}
-use Rattle.scx_dsq.specs.Calls.{next_entry, pushed}
+use Rattle.scx_dsq.specs.Calls.{next_entry, after_push}
 use Rattle.scx_weights.specs.Limits.{is_throttled}
 use Rattle.scx_tasks.specs.Tasks.{default_slice}
 use Rattle.scx_world.specs.declared.call.Insert.{Insert}
-use Rattle.scx_world.specs.Ids.{builtin, parked, local_on}
+use Rattle.scx_world.specs.Ids.{builtin_queue, parked_queue, local_on}
 use Rattle.scx_world.specs.World.{WorldState, with_queues, with_task, task_at, waits_in, waits}
 use Rattle.scx_world.specs.World as world
 use Rattle.scx_dsq.proofs.Facts.{front_is_known}
-use Rattle.scx_world.specs.Tasks.{local_len, with_builtin, with_slice, given, entered}
-use Rattle.scx_world.specs.Ejecting.{raised, put_builtin}
+use Rattle.scx_world.specs.Tasks.{local_len, with_builtin, with_slice, task_after_insert, after_enter}
+use Rattle.scx_world.specs.Ejecting.{builtin_vtime, put_builtin}
 use Rattle.scx_machine.proofs.Unchanged.{keeps_if}
 use Rattle.scx_sched.specs.Once.{IsSound, sort_of, fits_queue, fits_sort}
 use Rattle.scx_sched.specs.Kept.{IsWanted}
@@ -96,17 +96,17 @@ module _ (c : ℕ) where
       same_queue a b e = cc
 
       nobody : (t : ℕ) → front_of v.queues (local_on c) ≡ Some t → (b : Bool) → waits w t ≡ b → ⊥
-      nobody t e true x = let bad : local_on c ≡ builtin = same_queue (local_on c) builtin (sym (front_in v.queues (local_on c) t e) ∙ over.waiting t x) in omega (arith, bad)
+      nobody t e true x = let bad : local_on c ≡ builtin_queue = same_queue (local_on c) builtin_queue (sym (front_in v.queues (local_on c) t e) ∙ over.waiting t x) in omega (arith, bad)
       nobody t e false x =
-          let there : waits v t ≡ true = ap waits_in (front_in v.queues (local_on c) t e) ∙ ap (λ b. not b) (ne_eqb (local_on c) parked (λ y. omega (arith, y))) in
+          let there : waits v t ≡ true = ap waits_in (front_in v.queues (local_on c) t e) ∙ ap (λ b. not b) (ne_eqb (local_on c) parked_queue (λ y. omega (arith, y))) in
           both (waits v t) there (over.others t x)
 
   -- a task that is put under the built-in scheduler
   pub ready_put_builtin : (w : WorldState) (t : ℕ) → IsReady c w → IsReady c (put_builtin w t)
-  ready_put_builtin w t h = keeps_if (IsReady c) (nat_lt t (length w.tasks)) v w (ready_same w v (same_pushed (local_on c) w.queues builtin t (Vtime (raised w t)) (ne_eqb builtin (local_on c) (λ x. omega (arith, x)))) refl refl h) h
+  ready_put_builtin w t h = keeps_if (IsReady c) (nat_lt t (length w.tasks)) v w (ready_same w v (same_pushed (local_on c) w.queues builtin_queue t (Vtime (builtin_vtime w t)) (ne_eqb builtin_queue (local_on c) (λ x. omega (arith, x)))) refl refl h) h
     where
       v : WorldState
-      v = with_queues (with_task w t (with_builtin (with_slice (task_at w t) default_slice) (raised w t))) (pushed w.queues builtin t (Vtime (raised w t)))
+      v = with_queues (with_task w t (with_builtin (with_slice (task_at w t) default_slice) (builtin_vtime w t))) (after_push w.queues builtin_queue t (Vtime (builtin_vtime w t)))
 
   -- ---- a task that comes to wait behind the front
 
@@ -115,7 +115,7 @@ module _ (c : ℕ) where
   local_rank r e = fifo r (subst (λ k. same_sort r k ≡ true) sort (low_or (local_on c) (same_sort r (sort_of (local_on c))) (omega arith) e))
     where
       sort : sort_of (local_on c) ≡ Fifo
-      sort = ap (λ b. cond b (Vtime 0) Fifo) (ne_eqb (local_on c) builtin (λ x. omega (arith, x)))
+      sort = ap (λ b. cond b (Vtime 0) Fifo) (ne_eqb (local_on c) builtin_queue (λ x. omega (arith, x)))
 
       fifo : (k : Rank) → same_sort k Fifo ≡ true → k ≡ Fifo
       fifo Fifo x = refl
@@ -124,13 +124,13 @@ module _ (c : ℕ) where
   arrives_later : (p e : Entry) → p.rank ≡ Fifo → e.rank ≡ Fifo → p.stamp < e.stamp → is_before p e ≡ true
   arrives_later p e x y l = rw (x, y, lt-ltb p.stamp e.stamp l) refl
 
-  front_stays : (hand : Option ℕ) (on : List (Option ℕ)) (n : ℕ) (w : WorldState) (q t u : ℕ) (r : Rank) → fits_queue q r ≡ true → front_of w.queues (local_on c) ≡ Some t → IsSound hand on n w → front_of (pushed w.queues q u r) (local_on c) ≡ Some t
+  front_stays : (hand : Option ℕ) (on : List (Option ℕ)) (n : ℕ) (w : WorldState) (q t u : ℕ) (r : Rank) → fits_queue q r ≡ true → front_of w.queues (local_on c) ≡ Some t → IsSound hand on n w → front_of (after_push w.queues q u r) (local_on c) ≡ Some t
   front_stays hand on n w q t u r fits front h = go (entry_of w.queues t) refl (front_in w.queues (local_on c) t front)
     where
       same_queue : (a b : ℕ) → Some a ≡ Some b → a ≡ b
       same_queue a b e = cc
 
-      go : (o : Option Entry) → entry_of w.queues t ≡ o → option_map (λ p. p.queue) o ≡ Some (local_on c) → front_of (pushed w.queues q u r) (local_on c) ≡ Some t
+      go : (o : Option Entry) → entry_of w.queues t ≡ o → option_map (λ p. p.queue) o ≡ Some (local_on c) → front_of (after_push w.queues q u r) (local_on c) ≡ Some t
       go None e there = absurd (cc)
       go (Some p) e there = front_pushed w.queues (local_on c) q t u r p front e after
         where
@@ -143,11 +143,11 @@ module _ (c : ℕ) where
           after : (q == local_on c) ≡ true → is_before p (next_entry w.queues q r) ≡ true
           after is = arrives_later p (next_entry w.queues q r) rank (local_rank r (subst (λ k. fits_queue k r ≡ true) (eqb-true q (local_on c) is) fits)) (h.stamped t p e)
 
-  pub ready_entered : (hand : Option ℕ) (on : List (Option ℕ)) (n : ℕ) (w : WorldState) (t : ℕ) (i : Insert) → IsWanted (length on) w i → IsSound hand on n w → w.ejected ≡ None → IsReady c w → IsReady c (entered w t i)
+  pub ready_entered : (hand : Option ℕ) (on : List (Option ℕ)) (n : ℕ) (w : WorldState) (t : ℕ) (i : Insert) → IsWanted (length on) w i → IsSound hand on n w → w.ejected ≡ None → IsReady c w → IsReady c (after_enter w t i)
   ready_entered hand on n w t i wanted sound force h = keeps_if (IsReady c) (nat_lt t (length w.tasks)) _ w (go (front_of w.queues (local_on c)) refl) h
     where
       s : QueueState
-      s = pushed w.queues i.queue t i.rank
+      s = after_push w.queues i.queue t i.rank
 
       fits : fits_queue i.queue i.rank ≡ true
       fits = (wanted_open on n w i hand wanted sound).fits
@@ -155,7 +155,7 @@ module _ (c : ℕ) where
       same_task : (a b : ℕ) → Some a ≡ Some b → a ≡ b
       same_task a b e = cc
 
-      go : (o : Option ℕ) → front_of w.queues (local_on c) ≡ o → IsReady c (with_queues (with_task w t (given (task_at w t) i)) s)
+      go : (o : Option ℕ) → front_of w.queues (local_on c) ≡ o → IsReady c (with_queues (with_task w t (task_after_insert (task_at w t) i)) s)
       go None e = absurd (omega (arith, h.some force, no_front_is_empty w.queues (local_on c) e))
       go (Some f) e = record {
         clear = λ k there. let is : f ≡ k = same_task f k (sym (front_stays hand on n w i.queue f t i.rank fits e sound) ∙ there) in subst (λ x. is_throttled w.tree x ≡ false) is (h.clear f e);

@@ -8,14 +8,14 @@ use Rattle.scx_dsq.proofs.Facts.{front_is_known}
 use Rattle.scx_dsq.specs.Queues.{len_of, front_of}
 use Rattle.scx_semantics.specs.declared.callbacks.Callback.TheVariants as callback
 use Rattle.scx_weights.specs.Limits.{is_throttled}
-use Rattle.scx_world.specs.Ids.{global, builtin, parked, local_on}
+use Rattle.scx_world.specs.Ids.{global, builtin_queue, parked_queue, local_on}
 use Rattle.scx_world.specs.World.{WorldState}
-use Rattle.scx_world.specs.Tasks.{local_len, stopped, started_at, taken}
-use Rattle.scx_machine.specs.Steps.{State, Stepped, joined, stays, with_world, is_ejected}
+use Rattle.scx_world.specs.Tasks.{local_len, after_stop, started_at, after_take}
+use Rattle.scx_machine.specs.Steps.{State, Stepped, one_after_other, stays, with_world, is_ejected}
 use Rattle.scx_machine.specs.Callbacks.{call_back, cpu_and_task}
 use Rattle.scx_machine.specs.Filling.{fill}
 use Rattle.scx_machine.specs.Parking.{park, park_front, throttled_front, park_fronts, clear, in_reach, supply}
-use Rattle.scx_machine.specs.Cycle.{has_local, dispatched, asks_again, tries, stopping, leave, started_if, start as run_front, rest, swap, swap_or_rest, builtin_dispatch, builtin_fill, builtin_ask, builtin_cycle, start_or_cycle, pick, pick_or_rest, conclude, ask, seek, look, cycling, cycle}
+use Rattle.scx_machine.specs.Cycle.{has_local, after_dispatch, asks_again, tries, stopping, leave, started_if, start as run_front, rest, swap, swap_or_rest, builtin_dispatch, builtin_fill, builtin_ask, builtin_cycle, start_or_cycle, pick, pick_or_rest, conclude, ask, seek, look, cycling, cycle}
 use Rattle.scx_machine.proofs.Unchanged.{keeps_if}
 use Rattle.scx_sched.specs.Kept.{IsKeptBySteps}
 use Rattle.scx_sched.specs.Once.{IsSound}
@@ -47,13 +47,13 @@ module _ (n : ℕ) (I : ℕ → Option ℕ → List (Option ℕ) → WorldState 
     keeps_park s t within throttled h = k.steps.put_parked m on s.world t within throttled h
 
     -- a front is parked
-    pub keeps_park_front : (s : State) (q t : ℕ) → (q == parked) ≡ false → throttled_front s q ≡ Some t → I m None on s.world → I m None on (park_front s q t).state.world
+    pub keeps_park_front : (s : State) (q t : ℕ) → (q == parked_queue) ≡ false → throttled_front s q ≡ Some t → I m None on s.world → I m None on (park_front s q t).state.world
     unfolding park_front
     keeps_park_front s q t apart e h =
         let x = throttled_is s q t e in
-        keeps_park (with_world s (taken s.world q)) t (omega (arith, front_is_known s.world.queues q (Some t) (sym x.front), (k.sound m None on s.world h).even)) (tree_used_up s.world t x.throttled) (k.steps.taken m on s.world q t apart x.front h)
+        keeps_park (with_world s (after_take s.world q)) t (omega (arith, front_is_known s.world.queues q (Some t) (sym x.front), (k.sound m None on s.world h).even)) (tree_used_up s.world t x.throttled) (k.steps.taken m on s.world q t apart x.front h)
 
-    pub keeps_park_fronts : (j : ℕ) (s : State) (q : ℕ) → (q == parked) ≡ false → I m None on s.world → I m None on (park_fronts j s q).state.world
+    pub keeps_park_fronts : (j : ℕ) (s : State) (q : ℕ) → (q == parked_queue) ≡ false → I m None on s.world → I m None on (park_fronts j s q).state.world
     unfolding park_fronts
     keeps_park_fronts zero s q apart h = h
     keeps_park_fronts (suc j) s q apart h = go (throttled_front s q) refl (λ t x. keeps_park_fronts j (park_front s q t).state q apart x)
@@ -63,7 +63,7 @@ module _ (n : ℕ) (I : ℕ → Option ℕ → List (Option ℕ) → WorldState 
         go (Some t) e more = more t (keeps_park_front s q t apart e h)
 
     -- a local queue that is filled
-    pub keeps_fill : (s : State) (q c : ℕ) → (q == parked) ≡ false → c < length on → I m None on s.world → I m None on (fill s q c).state.world
+    pub keeps_fill : (s : State) (q c : ℕ) → (q == parked_queue) ≡ false → c < length on → I m None on s.world → I m None on (fill s q c).state.world
     unfolding fill
     keeps_fill s q c apart l h = k.steps.filled m on s.world q c apart l h
 
@@ -76,20 +76,20 @@ module _ (n : ℕ) (I : ℕ → Option ℕ → List (Option ℕ) → WorldState 
         go : (f : State) → I m None on f.world → (o : Option ℕ) → throttled_front f (local_on c) ≡ o
             → ((t : ℕ) → I m None on (park_front f (local_on c) t).state.world → I m None on (clear j (park_front f (local_on c) t).state c).state.world) → I m None on (clear_from j f c o).state.world
         go f x None e more = x
-        go f x (Some t) e more = more t (keeps_park_front f (local_on c) t (ne_eqb (local_on c) parked (λ y. omega (arith, y))) e x)
+        go f x (Some t) e more = more t (keeps_park_front f (local_on c) t (ne_eqb (local_on c) parked_queue (λ y. omega (arith, y))) e x)
 
     pub keeps_supply : (s : State) (c : ℕ) → c < length on → I m None on s.world → I m None on (supply s c).state.world
     unfolding supply
     keeps_supply s c l h = keeps_clear (in_reach s c) s c l h
 
     -- a call of dispatch
-    pub keeps_dispatched : (s : State) (c : ℕ) (p : Option ℕ) → c < length on → I m None on s.world → I m None on (dispatched s c p).state.world
-    unfolding dispatched
+    pub keeps_dispatched : (s : State) (c : ℕ) (p : Option ℕ) → c < length on → I m None on s.world → I m None on (after_dispatch s c p).state.world
+    unfolding after_dispatch
     keeps_dispatched s c p l h = keeps_supply (call_back s callback.Dispatch (cpu_and_task c p) 0 c).state c l (keeps_call_back n I k.steps m None on s callback.Dispatch (cpu_and_task c p) 0 c l h)
 
     -- after which the local queue is clear
-    dispatched_clears : (s : State) (c : ℕ) (p : Option ℕ) → MayStart c (dispatched s c p).state.world
-    unfolding dispatched
+    dispatched_clears : (s : State) (c : ℕ) (p : Option ℕ) → MayStart c (after_dispatch s c p).state.world
+    unfolding after_dispatch
     dispatched_clears s c p = supply_clears (call_back s callback.Dispatch (cpu_and_task c p) 0 c).state c
 
     -- several of them
@@ -97,17 +97,17 @@ module _ (n : ℕ) (I : ℕ → Option ℕ → List (Option ℕ) → WorldState 
     unfolding tries
     keeps_tries zero s c p l h = h
     keeps_tries (suc j) s c p l h =
-        let d = dispatched s c p in
+        let d = after_dispatch s c p in
         let x = keeps_dispatched s c p l h in
-        keeps_if (λ (r : Stepped). I m None on r.state.world) (asks_again d.state c) (joined d (tries j d.state c p)) d (keeps_tries j d.state c p l x) x
+        keeps_if (λ (r : Stepped). I m None on r.state.world) (asks_again d.state c) (one_after_other d (tries j d.state c p)) d (keeps_tries j d.state c p l x) x
 
     pub tries_clear : (j : ℕ) (s : State) (c : ℕ) (p : Option ℕ) → MayStart c s.world → MayStart c (tries j s c p).state.world
     unfolding tries
     tries_clear zero s c p clear-now = clear-now
     tries_clear (suc j) s c p clear-now =
-        let d = dispatched s c p in
+        let d = after_dispatch s c p in
         let x = dispatched_clears s c p in
-        keeps_if (λ (r : Stepped). MayStart c r.state.world) (asks_again d.state c) (joined d (tries j d.state c p)) d (tries_clear j d.state c p x) x
+        keeps_if (λ (r : Stepped). MayStart c r.state.world) (asks_again d.state c) (one_after_other d (tries j d.state c p)) d (tries_clear j d.state c p x) x
 
   -- a front that may start, where each task is where it should be
   pub clear_now : (m : ℕ) (on : List (Option ℕ)) (s : State) (c : ℕ) → I m None on s.world → MayStart c s.world → IsClear c s.world
@@ -140,7 +140,7 @@ module _ (n : ℕ) (I : ℕ → Option ℕ → List (Option ℕ) → WorldState 
   unfolding leave
   keeps_leave m on s c None l known runs h = (on, h, l, runs)
   keeps_leave m on s c (Some t) l known runs h =
-      let off = with_world s (stopped s.world c t) in
+      let off = with_world s (after_stop s.world c t) in
       let l' : c < length (set on c None) = rw (length-set on c None) l in
       let r = stopping off c t 1 in
       let x : I (m + 1) (Some t) (set on c None) r.state.world = keeps_stopping n I k.steps m (Some t) (set on c None) off c t 1 l' (k.steps.stopped m on s.world c t l known runs h) in
@@ -169,8 +169,8 @@ module _ (n : ℕ) (I : ℕ → Option ℕ → List (Option ℕ) → WorldState 
   pub keeps_builtin_fill : (m : ℕ) (on : List (Option ℕ)) (s : State) (c : ℕ) → c < length on → I m None on s.world → I m None on (builtin_fill s c).state.world
   unfolding builtin_fill builtin_dispatch
   keeps_builtin_fill m on s c l h =
-      let p = park_fronts (len_of s.world.queues builtin) s builtin in
-      keeps_if (λ (r : Stepped). I m None on r.state.world) (has_local s c) (stays s) (joined p (fill p.state builtin c)) h (keeps_fill m on p.state builtin c refl l (keeps_park_fronts m on (len_of s.world.queues builtin) s builtin refl h))
+      let p = park_fronts (len_of s.world.queues builtin_queue) s builtin_queue in
+      keeps_if (λ (r : Stepped). I m None on r.state.world) (has_local s c) (stays s) (one_after_other p (fill p.state builtin_queue c)) h (keeps_fill m on p.state builtin_queue c refl l (keeps_park_fronts m on (len_of s.world.queues builtin_queue) s builtin_queue refl h))
 
   pub keeps_builtin_cycle : (m : ℕ) (on : List (Option ℕ)) (s : State) (c : ℕ) (p : Option ℕ) (ran : Bool) → c < length on → IsKnown n p → get_or on c None ≡ p → I m None on s.world → Some-on (once_for p m) (builtin_cycle s c p ran).state.world
   unfolding builtin_cycle builtin_ask

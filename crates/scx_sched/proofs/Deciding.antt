@@ -9,13 +9,13 @@ use Rattle.scx_weights.specs.Refusals.{max_weight, is_outside, weight_fault}
 use Rattle.scx_world.specs.declared.eject.Eject.{Eject}
 use Rattle.scx_world.specs.declared.eject.Eject.TheVariants as cause
 use Rattle.scx_world.specs.World.{is_this, cpu_of}
-use Rattle.scx_world.specs.Tasks.{stopped, later, begun_periods}
+use Rattle.scx_world.specs.Tasks.{after_stop, later, begun_periods}
 use Rattle.scx_machine.specs.declared.events.Event.{Event}
 use Rattle.scx_machine.specs.declared.events.Event.TheVariants.{Wake, Sleep, Tick, Clock, SetWeight}
 use Rattle.scx_machine.specs.declared.events.Refused.TheVariants.{UnknownGroup, BadWeight, RunOver}
-use Rattle.scx_machine.specs.Steps.{State, Stepped, with_world, joined}
+use Rattle.scx_machine.specs.Steps.{State, Stepped, with_world, one_after_other}
 use Rattle.scx_machine.specs.Parking.{let_all_go}
-use Rattle.scx_machine.specs.Events.{overdue, stalled, clock, happened}
+use Rattle.scx_machine.specs.Events.{overdue, eject_if_stalled, clock, event_step}
 use Rattle.scx_machine.specs.Events as machine
 use Rattle.scx_sched.specs.Sim.{SimState, max_events, refusal, calls_if, IsValid}
 use Rattle.scx_sched.specs.Ranges.{IsFine}
@@ -50,7 +50,7 @@ can_set h g x e = go (nat_lt g (length h.groups)) (is_outside max_weight x) refl
 
 -- what happened is honest, but for the tree that the event makes
 abbrev pub IsHonestEvent : State → Event → Type 0
-IsHonestEvent s v = IsHonest (state_with_tree s (tree_after v s.world)) (happened s v)
+IsHonestEvent s v = IsHonest (state_with_tree s (tree_after v s.world)) (event_step s v)
 
 module _ (s : State) (n : ℕ) (fine : IsFineNow (length s.world.tasks) n n s.world) where
   abbrev many : ℕ
@@ -61,9 +61,9 @@ module _ (s : State) (n : ℕ) (fine : IsFineNow (length s.world.tasks) n n s.wo
   still_known t c within at =
       let x = position-Some (is_this t) s.world.cpus c None at in
       let on : List (Option ℕ) = set s.world.cpus c None in
-      let gone : IsFine many n n (Some t) on (stopped s.world c t) = (fine_steps many n).stopped n s.world.cpus s.world c t x.0 within (is_task t (get_or s.world.cpus c None) x.1) fine in
+      let gone : IsFine many n n (Some t) on (after_stop s.world c t) = (fine_steps many n).stopped n s.world.cpus s.world c t x.0 within (is_task t (get_or s.world.cpus c None) x.1) fine in
       let off : IsFine many n (n + 1) (Some t) on (stopped_for_sleep s t c).state.world =
-      keeps_stopping many (IsFine many n) (fine_steps many n) n (Some t) on (with_world s (stopped s.world c t)) c t 0 (rw (length-set s.world.cpus c None) x.0) gone in
+      keeps_stopping many (IsFine many n) (fine_steps many n) n (Some t) on (with_world s (after_stop s.world c t)) c t 0 (rw (length-set s.world.cpus c None) x.0) gone in
       subst (λ k. t < k) (sym off.sound.tasks) within
 
   pub wake_is_honest : (t : ℕ) → IsHonestEvent s (Wake t)
@@ -99,21 +99,21 @@ clock_decides s = go (overdue r.state)
     h : IsHonest v r
     h = honest_let_all_go v
 
-    go : (o : Option ℕ) → IsDecided Clock s (joined r (stalled o r.state))
+    go : (o : Option ℕ) → IsDecided Clock s (one_after_other r (eject_if_stalled o r.state))
     go None = record { clock = h.clock; tree = h.tree; policy = h.policy; silent = λ x out. none_of r.calls [] (h.silent x out) refl }
     go (Some t) =
         let y = cause.Stall t r.state.world.clock in
         let sets = eject_sets r.state y in
-        record { clock = sets.0 ∙ h.clock; tree = sets.3 ∙ h.tree; policy = eject_policy r.state y ∙ h.policy; silent = λ x out. none_of r.calls (stalled (Some t) r.state).calls (h.silent x out) (eject_calls r.state y) }
+        record { clock = sets.0 ∙ h.clock; tree = sets.3 ∙ h.tree; policy = eject_policy r.state y ∙ h.policy; silent = λ x out. none_of r.calls (eject_if_stalled (Some t) r.state).calls (h.silent x out) (eject_calls r.state y) }
 
-decided : (v : Event) (s : State) → IsHonestEvent s v → clock_after v s.world.clock ≡ s.world.clock → IsDecided v s (happened s v)
+decided : (v : Event) (s : State) → IsHonestEvent s v → clock_after v s.world.clock ≡ s.world.clock → IsDecided v s (event_step s v)
 decided v s h now = record { clock = h.clock ∙ sym now; tree = h.tree; policy = h.policy; silent = h.silent }
 
 -- after an accepted event clock, tree and policy are as it alone decides
-pub decides : (s : State) (n : ℕ) (v : Event) → machine.refusal s v ≡ None → IsFineNow (length s.world.tasks) n n s.world → IsDecided v s (happened s v)
+pub decides : (s : State) (n : ℕ) (v : Event) → machine.refusal s v ≡ None → IsFineNow (length s.world.tasks) n n s.world → IsDecided v s (event_step s v)
 decides s n v ok fine = go v (is_taken s v ok) ok
   where
-    go : (v : Event) → IsTaken s v → machine.refusal s v ≡ None → IsDecided v s (happened s v)
+    go : (v : Event) → IsTaken s v → machine.refusal s v ≡ None → IsDecided v s (event_step s v)
     go _ (Wakes t within resting) ok = decided (Wake t) s (wake_is_honest s n fine t) refl
     go _ (Sleeps t within runnable) ok = decided (Sleep t) s (sleep_is_honest s n fine t within) refl
     go _ (Ticks c l) ok = decided (Tick c) s (tick_is_honest s n fine c l) refl
@@ -121,7 +121,7 @@ decides s n v ok fine = go v (is_taken s v ok) ok
     go _ (Weighs g x) ok = decided (SetWeight g x) s (weight_is_honest s n fine g x ok) refl
 
 -- of a machine between two events
-pub step_decides : (s : State) (n : ℕ) (v : Event) → refusal (record { state = s; events = n }) v ≡ None → IsValid s n → EventsDecide (record { state = s; events = n }) v (record { state = (happened s v).state; events = n + 1 })
+pub step_decides : (s : State) (n : ℕ) (v : Event) → refusal (record { state = s; events = n }) v ≡ None → IsValid s n → EventsDecide (record { state = s; events = n }) v (record { state = (event_step s v).state; events = n + 1 })
 step_decides s n v ok h =
     let before : SimState = record { state = s; events = n } in
     let d = decides s n v (accepted before v ok).taken h.fine in

@@ -7,7 +7,7 @@ use Rattle.std.proofs.lemmas.List.{get_or-set_same, get_or-set_other, get_or_pas
 use Rattle.std.proofs.lemmas.List.Elements.{All-from_get_or}
 use Rattle.std.proofs.lemmas.List.Folds.{list_any-append, list_any_at, list_any_none}
 use Rattle.scx_dsq.specs.Queues.{Entries, entry_at, QueueState, exists, entry_of, front_of}
-use Rattle.scx_dsq.specs.Calls.{clashes, push_refusal, pushed, popped, removed, without, with_queue, created, create_refusal, with_task as with_place, without_task, next_entry}
+use Rattle.scx_dsq.specs.Calls.{clashes, push_refusal, after_push, after_pop, after_remove, without, with_queue, after_create, create_refusal, with_task as with_place, without_task, next_entry}
 use Rattle.scx_dsq.specs.Entries.{same_sort}
 use Rattle.scx_dsq.specs.declared.entries.Rank.{Rank}
 use Rattle.scx_dsq.specs.declared.entries.Rank.TheVariants.{Fifo, Vtime}
@@ -15,9 +15,9 @@ use Rattle.scx_dsq.specs.declared.entries.Entry.{Entry}
 use Rattle.scx_dsq.specs.Laws.{one_if, IsStamped}
 use Rattle.scx_dsq.proofs.Facts.{ids_pushed, ids_without, ids_removed}
 use Rattle.scx_world.specs.declared.call.Insert.{Insert}
-use Rattle.scx_world.specs.Ids.{global, held, builtin, local_on, policy_end, parked}
+use Rattle.scx_world.specs.Ids.{global, held_queue, builtin_queue, local_on, policy_end, parked_queue}
 use Rattle.scx_world.specs.World.{WorldState, is_runnable}
-use Rattle.scx_world.specs.Tasks.{resolved}
+use Rattle.scx_world.specs.Tasks.{queue_for}
 use Rattle.scx_machine.proofs.Unchanged.{keeps_if}
 use Rattle.scx_sched.specs.Once.{IsOnce, HasQueues, sort_of, fits_queue, fits_sort, IsSorted, IsAlike, IsOpen, GoesSomewhere}
 
@@ -49,7 +49,7 @@ each_set f b places t o new old u = go (cases_eq u t) (cases_lt t (length places
     go (inr n) l = rw (get_or-set_other places t u o None n) (old u)
 
 -- a push that fits leaves each queue of its sort
-pub sorted_pushed : (s : QueueState) (q t : ℕ) (r : Rank) → fits_queue q r ≡ true → IsSorted s → IsSorted (pushed s q t r)
+pub sorted_pushed : (s : QueueState) (q t : ℕ) (r : Rank) → fits_queue q r ≡ true → IsSorted s → IsSorted (after_push s q t r)
 sorted_pushed s q t r fits sorted = go (is_none (push_refusal s q t r))
   where
     go : (b : Bool) → IsSorted (if b then with_place s q t r else s)
@@ -62,17 +62,17 @@ sorted_without s None sorted = sorted
 sorted_without s (Some t) sorted = each_set fits_sort true s.entries t None refl sorted
 
 -- a pop
-pub sorted_popped : (s : QueueState) (q : ℕ) → IsSorted s → IsSorted (popped s q)
+pub sorted_popped : (s : QueueState) (q : ℕ) → IsSorted s → IsSorted (after_pop s q)
 sorted_popped s q sorted = sorted_without s (front_of s q) sorted
 
 -- and a removal
-pub sorted_removed : (s : QueueState) (t : ℕ) → IsSorted s → IsSorted (removed s t)
+pub sorted_removed : (s : QueueState) (t : ℕ) → IsSorted s → IsSorted (after_remove s t)
 sorted_removed s t sorted = keeps_if IsSorted (is_some (entry_of s t)) (without_task s t) s (each_set fits_sort true s.entries t None refl sorted) sorted
 
 -- ---- the stamps of entries are below the number of pushes
 
 -- after a push each stamp is still that of an accepted push
-pub stamped_pushed : (s : QueueState) (q t : ℕ) (r : Rank) → IsStamped s → IsStamped (pushed s q t r)
+pub stamped_pushed : (s : QueueState) (q t : ℕ) (r : Rank) → IsStamped s → IsStamped (after_push s q t r)
 stamped_pushed s q t r h = keeps_if IsStamped (is_none (push_refusal s q t r)) (with_place s q t r) s (λ u p e. at u p e (cases_eq u t) (cases_lt t (length s.entries))) h
   where
     stamp : (a b : Entry) → Some a ≡ Some b → b.stamp ≡ a.stamp
@@ -103,20 +103,20 @@ stamped_without s None h = h
 stamped_without s (Some t) h = stamped_gone s t h
 
 -- after a front has left its queue each stamp is still that of an accepted push
-pub stamped_popped : (s : QueueState) (q : ℕ) → IsStamped s → IsStamped (popped s q)
+pub stamped_popped : (s : QueueState) (q : ℕ) → IsStamped s → IsStamped (after_pop s q)
 stamped_popped s q h = stamped_without s (front_of s q) h
 
 -- after a task has left its queue each stamp is still that of an accepted push
-pub stamped_removed : (s : QueueState) (t : ℕ) → IsStamped s → IsStamped (removed s t)
+pub stamped_removed : (s : QueueState) (t : ℕ) → IsStamped s → IsStamped (after_remove s t)
 stamped_removed s t h = keeps_if IsStamped (is_some (entry_of s t)) (without_task s t) s (stamped_gone s t h) h
 
 -- after a queue was created each stamp is still that of an accepted push
-pub stamped_created : (s : QueueState) (q : ℕ) → IsStamped s → IsStamped (created s q)
+pub stamped_created : (s : QueueState) (q : ℕ) → IsStamped s → IsStamped (after_create s q)
 stamped_created s q h = keeps_if IsStamped (is_none (create_refusal s q)) (with_queue s q) s h h
 
 -- ---- who waits in a queue was put there in one way
 
-alike_pushed : (s : QueueState) (q t : ℕ) (r : Rank) (q' : ℕ) (r' : Rank) → clashes q r (Some (next_entry s q' r')) ≡ false → IsAlike s q r → IsAlike (pushed s q' t r') q r
+alike_pushed : (s : QueueState) (q t : ℕ) (r : Rank) (q' : ℕ) (r' : Rank) → clashes q r (Some (next_entry s q' r')) ≡ false → IsAlike s q r → IsAlike (after_push s q' t r') q r
 alike_pushed s q t r q' r' new old =
     keeps_if (λ (x : QueueState). IsAlike x q r) (is_none (push_refusal s q' t r')) (with_place s q' t r') s (each_set (clashes q r) false s.entries t (Some (next_entry s q' r')) new old) old
 
@@ -124,10 +124,10 @@ alike_without : (s : QueueState) (o : Option ℕ) (q : ℕ) (r : Rank) → IsAli
 alike_without s None q r old = old
 alike_without s (Some t) q r old = each_set (clashes q r) false s.entries t None refl old
 
-alike_removed : (s : QueueState) (t q : ℕ) (r : Rank) → IsAlike s q r → IsAlike (removed s t) q r
+alike_removed : (s : QueueState) (t q : ℕ) (r : Rank) → IsAlike s q r → IsAlike (after_remove s t) q r
 alike_removed s t q r old = keeps_if (λ (x : QueueState). IsAlike x q r) (is_some (entry_of s t)) (without_task s t) s (each_set (clashes q r) false s.entries t None refl old) old
 
-alike_created : (s : QueueState) (q' q : ℕ) (r : Rank) → IsAlike s q r → IsAlike (created s q') q r
+alike_created : (s : QueueState) (q' q : ℕ) (r : Rank) → IsAlike s q r → IsAlike (after_create s q') q r
 alike_created s q' q r old = keeps_if (λ (x : QueueState). IsAlike x q r) (is_none (create_refusal s q')) (with_queue s q') s old old
 
 -- two of the sort of a third are of one sort
@@ -194,7 +194,7 @@ abbrev pub Stay : QueueState → QueueState → Type 0
 Stay s s' = (r : ℕ) → exists s r ≡ true → exists s' r ≡ true
 
 -- a push leaves the queues that there are
-pub stay_pushed : (s : QueueState) (q t : ℕ) (k : Rank) → Stay s (pushed s q t k)
+pub stay_pushed : (s : QueueState) (q t : ℕ) (k : Rank) → Stay s (after_push s q t k)
 stay_pushed s q t k r h = rw (ids_pushed s q t k) h
 
 -- a task that leaves does
@@ -202,16 +202,16 @@ pub stay_without : (s : QueueState) (o : Option ℕ) → Stay s (without s o)
 stay_without s o r h = rw (ids_without s o) h
 
 -- a removal does
-pub stay_removed : (s : QueueState) (t : ℕ) → Stay s (removed s t)
+pub stay_removed : (s : QueueState) (t : ℕ) → Stay s (after_remove s t)
 stay_removed s t r h = rw (ids_removed s t) h
 
 -- a queue that is created leaves the others
-pub stay_created : (s : QueueState) (q : ℕ) → Stay s (created s q)
+pub stay_created : (s : QueueState) (q : ℕ) → Stay s (after_create s q)
 stay_created s q r h = keeps_if (λ x. exists x r ≡ true) (is_none (create_refusal s q)) (with_queue s q) s (rw (list_any-append (λ other. other == r) s.ids (q ∷ []), h) refl) h
 
 -- so the machine's own stay
 pub queues_stay : (s s' : QueueState) (n : ℕ) → Stay s s' → HasQueues s n → HasQueues s' n
-queues_stay s s' n stay h = record { global = stay global h.global; held = stay held h.held; builtin = stay builtin h.builtin; parked = stay parked h.parked; locals = λ c l. stay (local_on c) (h.locals c l) }
+queues_stay s s' n stay h = record { global = stay global h.global; held = stay held_queue h.held; builtin = stay builtin_queue h.builtin; parked = stay parked_queue h.parked; locals = λ c l. stay (local_on c) (h.locals c l) }
 
 -- ---- what takes a task takes it still
 
@@ -220,18 +220,18 @@ pub open_without : (s : QueueState) (o : Option ℕ) (q : ℕ) (r : Rank) → Is
 open_without s o q r h = record { there = stay_without s o q h.there; fits = h.fits; alike = alike_without s o q r h.alike }
 
 -- and where one is removed
-pub open_removed : (s : QueueState) (t q : ℕ) (r : Rank) → IsOpen s q r → IsOpen (removed s t) q r
+pub open_removed : (s : QueueState) (t q : ℕ) (r : Rank) → IsOpen s q r → IsOpen (after_remove s t) q r
 open_removed s t q r h = record { there = stay_removed s t q h.there; fits = h.fits; alike = alike_removed s t q r h.alike }
 
 -- and where a queue is created
-pub open_created : (s : QueueState) (q' q : ℕ) (r : Rank) → IsOpen s q r → IsOpen (created s q') q r
+pub open_created : (s : QueueState) (q' q : ℕ) (r : Rank) → IsOpen s q r → IsOpen (after_create s q') q r
 open_created s q' q r h = record { there = stay_created s q' q h.there; fits = h.fits; alike = alike_created s q' q r h.alike }
 
-open_pushed : (s : QueueState) (q' t : ℕ) (r' : Rank) (q : ℕ) (r : Rank) → clashes q r (Some (next_entry s q' r')) ≡ false → IsOpen s q r → IsOpen (pushed s q' t r') q r
+open_pushed : (s : QueueState) (q' t : ℕ) (r' : Rank) (q : ℕ) (r : Rank) → clashes q r (Some (next_entry s q' r')) ≡ false → IsOpen s q r → IsOpen (after_push s q' t r') q r
 open_pushed s q' t r' q r new h = record { there = stay_pushed s q' t r' q h.there; fits = h.fits; alike = alike_pushed s q t r q' r' new h.alike }
 
 -- a push into one of the machine's own queues
-pub open_own : (s : QueueState) (q' t : ℕ) (r' : Rank) (q : ℕ) (r : Rank) → policy_end ≤ q' → same_sort r' (sort_of q') ≡ true → IsOpen s q r → IsOpen (pushed s q' t r') q r
+pub open_own : (s : QueueState) (q' t : ℕ) (r' : Rank) (q : ℕ) (r : Rank) → policy_end ≤ q' → same_sort r' (sort_of q') ≡ true → IsOpen s q r → IsOpen (after_push s q' t r') q r
 open_own s q' t r' q r past fits h = open_pushed s q' t r' q r (go (cases_eq q' q)) h
   where
     go : (q' ≡ q) ⊎ (q' ≡ q → ⊥) → clashes q r (Some (next_entry s q' r')) ≡ false
@@ -245,7 +245,7 @@ same_itself Fifo = refl
 same_itself (Vtime k) = refl
 
 -- or one in the same way
-pub open_same : (s : QueueState) (q' t q : ℕ) (r : Rank) → IsOpen s q r → IsOpen (pushed s q' t r) q r
+pub open_same : (s : QueueState) (q' t q : ℕ) (r : Rank) → IsOpen s q r → IsOpen (after_push s q' t r) q r
 open_same s q' t q r h = open_pushed s q' t r q r (go (cases_eq q' q)) h
   where
     go : (q' ≡ q) ⊎ (q' ≡ q → ⊥) → clashes q r (Some (next_entry s q' r)) ≡ false
@@ -255,11 +255,11 @@ open_same s q' t q r h = open_pushed s q' t r q r (go (cases_eq q' q)) h
 -- so an insert still goes somewhere
 pub goes_on : (s s' : QueueState) (n : ℕ) (o : Option Insert) → ((q : ℕ) (r : Rank) → IsOpen s q r → IsOpen s' q r) → GoesSomewhere s n o → GoesSomewhere s' n o
 goes_on s s' n None f g = tt
-goes_on s s' n (Some i) f g = λ c l. (f (resolved c i.queue) i.rank (g c l).0, (g c l).1)
+goes_on s s' n (Some i) f g = λ c l. (f (queue_for c i.queue) i.rank (g c l).0, (g c l).1)
 
 -- local queues are in order of arrival
 pub local_sort : (c : ℕ) → same_sort Fifo (sort_of (local_on c)) ≡ true
-local_sort c = let e : (local_on c == builtin) ≡ false = ne_eqb (local_on c) builtin (λ x. omega (arith, x)) in rw e refl
+local_sort c = let e : (local_on c == builtin_queue) ≡ false = ne_eqb (local_on c) builtin_queue (λ x. omega (arith, x)) in rw e refl
 
 -- a policy's own queue takes any sort
 pub low_fits : (q : ℕ) (r : Rank) → nat_lt q policy_end ≡ true → fits_queue q r ≡ true

@@ -13,15 +13,15 @@ use Rattle.scx_weights.specs.Limits as limits
 use Rattle.scx_weights.specs.Refusals.{weight_fault}
 use Rattle.scx_safety.specs.Programs.{VerifiedProgram}
 use Rattle.scx_world.specs.World.{WorldState, with_tree, task_at, is_this, is_runnable, is_throttled, running, cpu_of, is_idle, this_if, or_this, idle_below, first_idle, or_else, default_choice}
-use Rattle.scx_world.specs.Tasks.{woken, asleep, gone, stopped, let_go, ran_a_tick, ticked, used_ms, later, begun_periods, reweighed}
+use Rattle.scx_world.specs.Tasks.{after_wake, after_sleep, after_leave, after_stop, let_go, ran_a_tick, after_tick, used_ms, later, begun_periods, after_reweigh}
 use Rattle.scx_machine.specs.declared.events.Event.{Event}
 use Rattle.scx_machine.specs.declared.events.Event.TheVariants.{Wake, Sleep, Tick, Clock, SetWeight}
 use Rattle.scx_machine.specs.declared.events.Refused.TheVariants.{AlreadyRunnable, NotRunnable, UnknownTask, UnknownCpu}
-use Rattle.scx_machine.specs.Steps.{State, Stepped, with_world, stays, joined}
+use Rattle.scx_machine.specs.Steps.{State, Stepped, with_world, stays, one_after_other}
 use Rattle.scx_machine.specs.Callbacks.{acting, call_back, answered_by, task_cpu_and_0}
 use Rattle.scx_machine.specs.Parking.{park, let_all_go}
 use Rattle.scx_machine.specs.Cycle.{stopping, cycle}
-use Rattle.scx_machine.specs.Events.{refusal, target, settled, settle, select, wake, sleep_from_cpu, sleep_from, sleep, throttle, expire, count_down, tick_of, tick, overdue, stalled, clock, happened}
+use Rattle.scx_machine.specs.Events.{refusal, target, insert_or_put, settle, select, wake, sleep_from_cpu, sleep_from, sleep, throttle, expire, count_down, tick_of, tick, overdue, eject_if_stalled, clock, event_step}
 use Rattle.scx_machine.proofs.Unchanged.{keeps_if}
 use Rattle.scx_sched.specs.Once.{runs, IsSound}
 use Rattle.scx_sched.specs.Ranges.{IsFine}
@@ -44,7 +44,7 @@ pub record IsKeptByEvents (n : ℕ) (I : ℕ → Option ℕ → List (Option ℕ
   pub sound : (m : ℕ) (hand : Option ℕ) (on : List (Option ℕ)) (w : WorldState) → I m hand on w → IsSound hand on n w
   pub woken : (m : ℕ) (on : List (Option ℕ)) (w : WorldState) (t : ℕ) → t < n → is_runnable w t ≡ false → I m None on w → I m (Some t) on (woken w t)
   pub let_go : LetsGo n I
-  pub left : (m : ℕ) (on : List (Option ℕ)) (w : WorldState) (t : ℕ) → t < n → is_runnable w t ≡ true → cpu_of w t ≡ None → I m None on w → I m None on (asleep (gone w t) t)
+  pub left : (m : ℕ) (on : List (Option ℕ)) (w : WorldState) (t : ℕ) → t < n → is_runnable w t ≡ true → cpu_of w t ≡ None → I m None on w → I m None on (after_sleep (after_leave w t) t)
 
 -- what events keep is kept inside of them
 pub inside_of : (n : ℕ) (I : ℕ → Option ℕ → List (Option ℕ) → WorldState → Type 0) → IsKeptByEvents n I → IsKeptInside n I
@@ -120,7 +120,7 @@ module _ (n : ℕ) (I : ℕ → Option ℕ → List (Option ℕ) → WorldState 
   keeps_settle m on s t c within l h = go (is_idle r.state.world c) refl
     where
       r : Stepped
-      r = settled s.world.call.insert s t c
+      r = insert_or_put s.world.call.insert s t c
 
       put_now : I m None on r.state.world
       put_now = keeps_settled n I k.steps m on s.world.call.insert s t c refl within l h
@@ -128,7 +128,7 @@ module _ (n : ℕ) (I : ℕ → Option ℕ → List (Option ℕ) → WorldState 
       free : is_idle r.state.world c ≡ true → get_or on c None ≡ None
       free idle = subst (λ (xs : List (Option ℕ)). get_or xs c None ≡ None) (k.sound m None on r.state.world put_now).cpus (idle_is_free r.state.world c idle)
 
-      go : (b : Bool) → is_idle r.state.world c ≡ b → I m None (if b then joined r (cycle r.state c None false) else r).state.world.cpus (if b then joined r (cycle r.state c None false) else r).state.world
+      go : (b : Bool) → is_idle r.state.world c ≡ b → I m None (if b then one_after_other r (cycle r.state c None false) else r).state.world.cpus (if b then one_after_other r (cycle r.state c None false) else r).state.world
       go true idle = keeps_now m _ (keeps_cycle n I (inside_of n I k) m on r.state c None false l tt (free idle) put_now)
       go false idle = keeps_now m r.state.world (on, put_now)
 
@@ -158,7 +158,7 @@ module _ (n : ℕ) (I : ℕ → Option ℕ → List (Option ℕ) → WorldState 
   -- a task that wakes
   pub keeps_wake : (m : ℕ) (s : State) (t : ℕ) → t < n → is_runnable s.world t ≡ false → I m None s.world.cpus s.world → I m None (wake s t).state.world.cpus (wake s t).state.world
   unfolding wake
-  keeps_wake m s t within resting h = keeps_select m s.world.cpus (with_world s (woken s.world t)) t within (k.woken m s.world.cpus s.world t within resting h)
+  keeps_wake m s t within resting h = keeps_select m s.world.cpus (with_world s (after_wake s.world t)) t within (k.woken m s.world.cpus s.world t within resting h)
 
   -- ---- sleep
 
@@ -173,13 +173,13 @@ module _ (n : ℕ) (I : ℕ → Option ℕ → List (Option ℕ) → WorldState 
       l' = rw (length-set s.world.cpus c None) l
 
       r : Stepped
-      r = stopping (with_world s (stopped s.world c t)) c t 0
+      r = stopping (with_world s (after_stop s.world c t)) c t 0
 
       d : State
-      d = with_world r.state (asleep r.state.world t)
+      d = with_world r.state (after_sleep r.state.world t)
 
       off : I (m + 1) (Some t) on r.state.world
-      off = keeps_stopping n I k.steps m (Some t) on (with_world s (stopped s.world c t)) c t 0 l' (k.steps.stopped m s.world.cpus s.world c t l within runs h)
+      off = keeps_stopping n I k.steps m (Some t) on (with_world s (after_stop s.world c t)) c t 0 l' (k.steps.stopped m s.world.cpus s.world c t l within runs h)
 
       down : I (m + 1) None on d.world
       down = k.steps.asleep (m + 1) on r.state.world t within off
@@ -202,7 +202,7 @@ module _ (n : ℕ) (I : ℕ → Option ℕ → List (Option ℕ) → WorldState 
   keeps_cycle_now m s c (Some t) ran l at h = keeps_now (m + 1) _ (keeps_cycle n I (inside_of n I k) m s.world.cpus s c (Some t) ran l (running_is_there n s.world c t l at (k.sound m None s.world.cpus s.world h)) at h)
 
   -- a task that may not run any more leaves and is parked
-  keeps_throttle : (m : ℕ) (s : State) (c t : ℕ) → t < n → c < length s.world.cpus → limits.is_throttled s.world.tree t ≡ true → I m (Some t) (set s.world.cpus c None) (stopped s.world c t) → I (m + 1) None (throttle s c t).state.world.cpus (throttle s c t).state.world
+  keeps_throttle : (m : ℕ) (s : State) (c t : ℕ) → t < n → c < length s.world.cpus → limits.is_throttled s.world.tree t ≡ true → I m (Some t) (set s.world.cpus c None) (after_stop s.world c t) → I (m + 1) None (throttle s c t).state.world.cpus (throttle s c t).state.world
   unfolding throttle
   keeps_throttle m s c t within l throttled h = keeps_now (m + 1) _ (keeps_cycle n I (inside_of n I k) (m + 1) on (park r t).state c None true l' tt (get_or-set_same s.world.cpus c None None l) there)
     where
@@ -213,7 +213,7 @@ module _ (n : ℕ) (I : ℕ → Option ℕ → List (Option ℕ) → WorldState 
       l' = rw (length-set s.world.cpus c None) l
 
       off : State
-      off = with_world s (stopped s.world c t)
+      off = with_world s (after_stop s.world c t)
 
       r : State
       r = (stopping off c t 1).state
@@ -231,18 +231,18 @@ module _ (n : ℕ) (I : ℕ → Option ℕ → List (Option ℕ) → WorldState 
 
   -- what is kept as the task of a processor has run for a millisecond: it goes on, or leaves
   pub record IsKeptByTick (m : ℕ) (w : WorldState) (c t : ℕ) : Type 0 where
-    pub goes_on : is_throttled (used_ms (ticked w t) t) t ≡ false → I m None w.cpus (used_ms (ticked w t) t)
-    pub leaves : is_throttled (used_ms (ticked w t) t) t ≡ true → I m (Some t) (set w.cpus c None) (stopped (used_ms (ticked w t) t) c t)
+    pub goes_on : is_throttled (used_ms (after_tick w t) t) t ≡ false → I m None w.cpus (used_ms (after_tick w t) t)
+    pub leaves : is_throttled (used_ms (after_tick w t) t) t ≡ true → I m (Some t) (set w.cpus c None) (after_stop (used_ms (after_tick w t) t) c t)
 
   pub keeps_count_down : (m : ℕ) (s : State) (c t : ℕ) → t < n → c < length s.world.cpus → get_or s.world.cpus c None ≡ Some t → IsKeptByTick m s.world c t → I (m + 1) None (count_down s c t).state.world.cpus (count_down s c t).state.world
   unfolding count_down
   keeps_count_down m s c t within l at h = go (is_throttled v.world t) refl
     where
       v : State
-      v = with_world s (used_ms (ticked s.world t) t)
+      v = with_world s (used_ms (after_tick s.world t) t)
 
       same : v.world.cpus ≡ s.world.cpus
-      same = cpus_used (ticked s.world t) t
+      same = cpus_used (after_tick s.world t) t
 
       l' : c < length v.world.cpus
       l' = subst (λ (xs : List (Option ℕ)). c < length xs) (sym same) l
@@ -251,7 +251,7 @@ module _ (n : ℕ) (I : ℕ → Option ℕ → List (Option ℕ) → WorldState 
       at' = ap (λ (xs : List (Option ℕ)). get_or xs c None) same ∙ at
 
       go : (b : Bool) → is_throttled v.world t ≡ b → I (m + 1) None (if b then throttle v c t else expire v c t).state.world.cpus (if b then throttle v c t else expire v c t).state.world
-      go true e = keeps_throttle m v c t within l' (tree_used_up v.world t e) (subst (λ xs. I m (Some t) (set xs c None) (stopped v.world c t)) (sym same) (h.leaves e))
+      go true e = keeps_throttle m v c t within l' (tree_used_up v.world t e) (subst (λ xs. I m (Some t) (set xs c None) (after_stop v.world c t)) (sym same) (h.leaves e))
       go false e = keeps_expire m v c t l' at' (subst (λ xs. I m None xs v.world) (sym same) (h.goes_on e))
 
   -- a processor that ran, where that a task has run is kept
@@ -276,7 +276,7 @@ module _ (n : ℕ) (I : ℕ → Option ℕ → List (Option ℕ) → WorldState 
       gone-on : I m None s.world.cpus v.world
       gone-on = keeps_let_all_go n I (inside_of n I k) k.let_go m s.world.cpus (with_world s (begun_periods (later s.world))) h
 
-      go : (o : Option ℕ) → I m None (stalled o v).state.world.cpus (stalled o v).state.world
+      go : (o : Option ℕ) → I m None (eject_if_stalled o v).state.world.cpus (eject_if_stalled o v).state.world
       go None = keeps_now m v.world (s.world.cpus, gone-on)
       go (Some t) = keeps_now m _ (s.world.cpus, keeps_eject n I k.steps m None s.world.cpus v _ gone-on)
 
@@ -322,9 +322,9 @@ pub fine_events : (n e : ℕ) → IsKeptByEvents n (IsFine n e)
 fine_events n e = record {
   steps = fine_steps n e;
   sound = λ m hand on w h. h.sound;
-  woken = λ m on w t within resting h. fine_of n e m (Some t) on (woken w t) (sound_woken on n w t within resting h.sound) (range_same e m on w t _ refl refl (range_of n e m None on w h));
+  woken = λ m on w t within resting h. fine_of n e m (Some t) on (after_wake w t) (sound_woken on n w t within resting h.sound) (range_same e m on w t _ refl refl (range_of n e m None on w h));
   let_go = λ m on w t within there h. fine_of n e m (Some t) on (let_go w t) (sound_let_go on n w t within there h.sound) (range_same e m on w t _ refl refl (range_of n e m None on w h));
-  left = λ m on w t within runnable off h. let r = range_of n e m None on w h in fine_of n e m None on _ (sound_left on n w t within runnable off h.sound) (keeps_if (IsRange e m on) (nat_lt t (length w.tasks)) _ (gone w t) (range_same e m on (gone w t) t _ refl refl r) r);
+  left = λ m on w t within runnable off h. let r = range_of n e m None on w h in fine_of n e m None on _ (sound_left on n w t within runnable off h.sound) (keeps_if (IsRange e m on) (nat_lt t (length w.tasks)) _ (after_leave w t) (range_same e m on (after_leave w t) t _ refl refl r) r);
 }
 
 -- what is fine is kept inside of an event
@@ -339,44 +339,44 @@ one_more n e m w h = record { sound = h.sound; clock = omega (arith, h.clock); r
 used_is : (w : WorldState) (t : ℕ) → t < length w.tasks → used_ms w t ≡ with_tree w (with_use w.tree t)
 used_is w t l = ap (λ b. cond b (with_tree w (with_use w.tree t)) w) (lt-ltb t (length w.tasks) l)
 
-ran_there : (w : WorldState) (t : ℕ) → t < length w.tasks → t < length (ticked w t).tasks
+ran_there : (w : WorldState) (t : ℕ) → t < length w.tasks → t < length (after_tick w t).tasks
 ran_there w t l = rw (length-set w.tasks t (ran_a_tick (task_at w t))) l
 
 -- a task has run for a millisecond, which its groups have used
-range_ran : (e m : ℕ) (on on' : List (Option ℕ)) (w : WorldState) (t : ℕ) → t < length w.tasks → AreWithin (with_use w.tree t) on' → IsRange e m on w → IsRange (e + 1) m on' (used_ms (ticked w t) t)
+range_ran : (e m : ℕ) (on on' : List (Option ℕ)) (w : WorldState) (t : ℕ) → t < length w.tasks → AreWithin (with_use w.tree t) on' → IsRange e m on w → IsRange (e + 1) m on' (used_ms (after_tick w t) t)
 range_ran e m on on' w t there within r =
-    let x : IsRange (e + 1) m on (ticked w t) = range_task (e + 1) m on w t (ran_a_tick (task_at w t)) (omega (arith, r.1 t)) refl (omega (arith, r.0), (λ u. omega (arith, r.1 u)), r.2, r.3, r.4, (λ g. omega (arith, r.5 g)), r.6) in
-    subst (IsRange (e + 1) m on') (sym (used_is (ticked w t) t (ran_there w t there))) (x.0, x.1, x.2, x.3, x.4, most_used w.tree t e r.5, within)
+    let x : IsRange (e + 1) m on (after_tick w t) = range_task (e + 1) m on w t (ran_a_tick (task_at w t)) (omega (arith, r.1 t)) refl (omega (arith, r.0), (λ u. omega (arith, r.1 u)), r.2, r.3, r.4, (λ g. omega (arith, r.5 g)), r.6) in
+    subst (IsRange (e + 1) m on') (sym (used_is (after_tick w t) t (ran_there w t there))) (x.0, x.1, x.2, x.3, x.4, most_used w.tree t e r.5, within)
 
 -- it goes on, or leaves
 pub fine_ticked : (n e m : ℕ) (w : WorldState) (c t : ℕ) → c < length w.cpus → get_or w.cpus c None ≡ Some t → IsFineNow n e m w → IsKeptByTick n (IsFine n (e + 1)) (fine_events n (e + 1)) m w c t
 fine_ticked n e m w c t l at h = record {
   goes_on = λ free. fine_of n (e + 1) m None w.cpus v sound (range_ran e m w.cpus w.cpus w t there (within_used w.tree w.cpus c t at (ap (λ x. limits.is_throttled x t) (sym counted) ∙ tree_free v t v-there free) h.within) (range_of n e m None w.cpus w h));
   leaves = λ up.
-      fine_of n (e + 1) m (Some t) (set w.cpus c None) (stopped v c t) (sound_stopped w.cpus n v c t l (running_is_there n w c t l at h.sound) at sound)
+      fine_of n (e + 1) m (Some t) (set w.cpus c None) (after_stop v c t) (sound_stopped w.cpus n v c t l (running_is_there n w c t l at h.sound) at sound)
       (range_same (e + 1) m (set w.cpus c None) v t _ refl refl (range_ran e m w.cpus (set w.cpus c None) w t there (within_used_up w.tree w.cpus c t at (ap (λ x. limits.is_throttled x t) (sym counted) ∙ tree_used_up v t up) h.within) (range_of n e m None w.cpus w h)));
 }
   where
     v : WorldState
-    v = used_ms (ticked w t) t
+    v = used_ms (after_tick w t) t
 
     there : t < length w.tasks
     there = omega (arith, running_is_there n w c t l at h.sound, h.sound.tasks)
 
     counted : v.tree ≡ with_use w.tree t
-    counted = ap (λ (x : WorldState). x.tree) (used_is (ticked w t) t (ran_there w t there))
+    counted = ap (λ (x : WorldState). x.tree) (used_is (after_tick w t) t (ran_there w t there))
 
     v-there : t < length v.tasks
-    v-there = subst (λ (x : WorldState). t < length x.tasks) (sym (used_is (ticked w t) t (ran_there w t there))) (ran_there w t there)
+    v-there = subst (λ (x : WorldState). t < length x.tasks) (sym (used_is (after_tick w t) t (ran_there w t there))) (ran_there w t there)
 
     sound : IsSound None w.cpus n v
-    sound = sound_used_ms None w.cpus n (ticked w t) t (sound_ticked w.cpus n w t h.sound)
+    sound = sound_used_ms None w.cpus n (after_tick w t) t (sound_ticked w.cpus n w t h.sound)
 
 -- it stays fine as the clock grows and periods begin, with one event more
 pub fine_later : (n e m : ℕ) (w : WorldState) → IsFineNow n e m w → IsFineNow n (e + 1) m (begun_periods (later w))
 fine_later n e m w h = record { sound = sound_begun_periods None w.cpus n (later w) (sound_later w.cpus n w h.sound); clock = omega (arith, h.clock); runs = λ t. omega (arith, h.runs t); times = h.times; builtin_clock = h.builtin_clock; used = most_turned w.tree (w.clock + 1) (e + 1) (λ g. omega (arith, h.used g)); within = within_turned w.tree w.cpus (w.clock + 1) h.within; not_yet = h.not_yet }
 
-fine_reweighed : (n e m : ℕ) (w : WorldState) (g x : ℕ) → IsFineNow n e m w → IsFineNow n e m (reweighed w g x)
+fine_reweighed : (n e m : ℕ) (w : WorldState) (g x : ℕ) → IsFineNow n e m w → IsFineNow n e m (after_reweigh w g x)
 fine_reweighed n e m w g x h = go (is_none (weight_fault w.tree g x))
   where
     go : (b : Bool) → IsFineNow n e m (if b then with_tree w (with_weight w.tree g x) else w)
@@ -388,7 +388,7 @@ pub known_running : (n e m : ℕ) (w : WorldState) (c t : ℕ) → c < length w.
 known_running n e m w c t l at h = running_is_there n w c t l at h.sound
 
 -- all events
-pub fine_step : (n e : ℕ) (s : State) (v : Event) → length s.world.tasks ≡ n → refusal s v ≡ None → IsFineNow n e e s.world → IsFineNow n (e + 1) (e + 1) (happened s v).state.world
+pub fine_step : (n e : ℕ) (s : State) (v : Event) → length s.world.tasks ≡ n → refusal s v ≡ None → IsFineNow n e e s.world → IsFineNow n (e + 1) (e + 1) (event_step s v).state.world
 fine_step n e s v tasks ok h = go v (is_taken s v ok)
   where
     I : ℕ → Option ℕ → List (Option ℕ) → WorldState → Type 0
@@ -400,7 +400,7 @@ fine_step n e s v tasks ok h = go v (is_taken s v ok)
     h' : IsFineNow n (e + 1) e s.world
     h' = one_more n e e s.world h
 
-    go : (v : Event) → IsTaken s v → IsFineNow n (e + 1) (e + 1) (happened s v).state.world
+    go : (v : Event) → IsTaken s v → IsFineNow n (e + 1) (e + 1) (event_step s v).state.world
     go _ (Wakes t within resting) = k.steps.more e None _ _ (keeps_wake n I k e s t (omega (arith, within, tasks)) resting h')
     go _ (Sleeps t within runnable) = keeps_sleep n I k e s t (omega (arith, within, tasks)) runnable h'
     go _ (Ticks c l) = keeps_tick n I k e s c l h' (λ t at. fine_ticked n e e s.world c t l at h)

@@ -3,7 +3,7 @@ use Rattle.std.proofs.Common.{◌≡◌, ℕ, ◌+◌, ◌*◌, ◌<◌, ◌≤�
 use Rattle.std.proofs.lemmas.Bool.{cases_eq, cases_lt}
 use Rattle.std.proofs.lemmas.List.{get_or-set_same, get_or-set_other, set_past}
 use Rattle.scx_dsq.specs.Queues.{front_of}
-use Rattle.scx_dsq.specs.Calls.{created}
+use Rattle.scx_dsq.specs.Calls.{after_create}
 use Rattle.scx_dsq.specs.declared.entries.Rank.{Rank}
 use Rattle.scx_dsq.specs.declared.entries.Rank.TheVariants.{Fifo, Vtime}
 use Rattle.scx_semantics.specs.declared.host_tables.Field.{Field}
@@ -21,11 +21,11 @@ use Rattle.scx_world.specs.declared.call.Insert.{Insert}
 use Rattle.scx_world.specs.declared.faults.Fault.{Fault}
 use Rattle.scx_world.specs.declared.faults.Fault.TheVariants.{NoSuchQueue, NoSuchCpu, CannotCreate}
 use Rattle.scx_world.specs.World.{WorldState, with_queues, with_task, task_at, waits}
-use Rattle.scx_world.specs.Tasks.{given_slice, given_vtime, given, gone, entered, for_cpu, brought, fill_front, renewed}
-use Rattle.scx_world.specs.Helpers.{is_there, can_create, faulted, is_dispatch, insert_fault, with_insert, released, inserted, asked, asked_by_vtime, can_move, moved, given_number, given_task, helper_after, stored_in, world_functions}
+use Rattle.scx_world.specs.Tasks.{given_slice, given_vtime, task_after_insert, after_leave, after_enter, for_cpu, brought, fill_front, with_new_slice}
+use Rattle.scx_world.specs.Helpers.{is_there, can_create, with_fault, is_dispatch, insert_fault, with_insert, after_release, insert_or_fault, insert_of, insert_of_vtime, can_move, front_moved_to_local, given_number, given_task, helper_after, stored_in, world_functions}
 use Rattle.scx_machine.proofs.Unchanged.{keeps_if}
 use Rattle.scx_sched.specs.Once.{IsSound}
-use Rattle.scx_world.specs.Ejecting.{put_builtin, used, charged}
+use Rattle.scx_world.specs.Ejecting.{put_builtin, used_vtime, after_charge}
 use Rattle.scx_sched.specs.Ranges.{IsFresh, IsFine}
 use Rattle.scx_sched.specs.Kept.{IsKeptBySteps}
 use Rattle.scx_sched.specs.Usages.{AreWithin}
@@ -57,7 +57,7 @@ stored_run x Group k = refl
 stored_run x RunNs k = refl
 
 -- an insert leaves it how long the task has run
-pub given_run : (x : Task) (i : Insert) → (given x i).run_ns ≡ x.run_ns
+pub given_run : (x : Task) (i : Insert) → (task_after_insert x i).run_ns ≡ x.run_ns
 given_run x i = vtime i.rank ∙ keeps_if (λ (y : Task). y.run_ns ≡ x.run_ns) (i.slice == 0) x _ refl refl
   where
     vtime : (r : Rank) → (given_vtime (given_slice x i.slice) r).run_ns ≡ (given_slice x i.slice).run_ns
@@ -65,7 +65,7 @@ given_run x i = vtime i.rank ∙ keeps_if (λ (y : Task). y.run_ns ≡ x.run_ns)
     vtime (Vtime k) = refl
 
 -- a new slice leaves it how long the task has run
-pub renewed_run : (x : Task) → (renewed x).run_ns ≡ x.run_ns
+pub renewed_run : (x : Task) → (with_new_slice x).run_ns ≡ x.run_ns
 renewed_run x = keeps_if (λ (y : Task). y.run_ns ≡ x.run_ns) (x.slice == 0) _ x refl refl
 
 -- ---- ranges
@@ -117,25 +117,25 @@ module _ (e m : ℕ) (on : List (Option ℕ)) where
   stored_time x Group k = refl
   stored_time x RunNs k = refl
 
-  given_time : (x : Task) (i : Insert) → (given x i).builtin ≡ x.builtin
+  given_time : (x : Task) (i : Insert) → (task_after_insert x i).builtin ≡ x.builtin
   given_time x i = vtime i.rank ∙ keeps_if (λ (y : Task). y.builtin ≡ x.builtin) (i.slice == 0) x _ refl refl
     where
       vtime : (r : Rank) → (given_vtime (given_slice x i.slice) r).builtin ≡ (given_slice x i.slice).builtin
       vtime Fifo = refl
       vtime (Vtime k) = refl
 
-  range_entered : (w : WorldState) (t : ℕ) (i : Insert) → IsRange e m on w → IsRange e m on (entered w t i)
-  range_entered w t i r = keeps_if (IsRange e m on) (nat_lt t (length w.tasks)) _ w (range_same w t (given (task_at w t) i) (given_run (task_at w t) i) (given_time (task_at w t) i) r) r
+  range_entered : (w : WorldState) (t : ℕ) (i : Insert) → IsRange e m on w → IsRange e m on (after_enter w t i)
+  range_entered w t i r = keeps_if (IsRange e m on) (nat_lt t (length w.tasks)) _ w (range_same w t (task_after_insert (task_at w t) i) (given_run (task_at w t) i) (given_time (task_at w t) i) r) r
 
-  range_released : (w : WorldState) (t : Option ℕ) (i : Insert) → IsRange e m on w → IsRange e m on (released w t i)
+  range_released : (w : WorldState) (t : Option ℕ) (i : Insert) → IsRange e m on w → IsRange e m on (after_release w t i)
   range_released w None i r = r
-  range_released w (Some t) i r = let x = range_entered (gone w t) t i r in (x.0, x.1, x.2, x.3, x.4, x.5, x.6)
+  range_released w (Some t) i r = let x = range_entered (after_leave w t) t i r in (x.0, x.1, x.2, x.3, x.4, x.5, x.6)
 
-  range_inserted : (w : WorldState) (o : Option Fault) (t : Option ℕ) (i : Insert) → IsRange e m on w → IsRange e m on (inserted w o t i)
-  range_inserted w None t i r = keeps_if (IsRange e m on) (is_dispatch w.call.callback) (released w t (for_cpu w.call.cpu i)) (with_insert w i) (range_released w t (for_cpu w.call.cpu i) r) r
+  range_inserted : (w : WorldState) (o : Option Fault) (t : Option ℕ) (i : Insert) → IsRange e m on w → IsRange e m on (insert_or_fault w o t i)
+  range_inserted w None t i r = keeps_if (IsRange e m on) (is_dispatch w.call.callback) (after_release w t (for_cpu w.call.cpu i)) (with_insert w i) (range_released w t (for_cpu w.call.cpu i) r) r
   range_inserted w (Some f) t i r = r
 
-  range_moved : (w : WorldState) (o : Option ℕ) (q : ℕ) → IsRange e m on w → IsRange e m on (moved w o q)
+  range_moved : (w : WorldState) (o : Option ℕ) (q : ℕ) → IsRange e m on w → IsRange e m on (front_moved_to_local w o q)
   range_moved w None q r = r
   range_moved w (Some t) q r = r
 
@@ -144,12 +144,12 @@ module _ (e m : ℕ) (on : List (Option ℕ)) where
   range_brought (Some t) w q c r = r
 
   range_helper : (w : WorldState) (f : Helper) (a : List Arg) → IsRange e m on w → IsRange e m on (helper_after w f a)
-  range_helper w CreateDsq a r = keeps_if (IsRange e m on) (can_create w (given_number a 0)) (with_queues w (created w.queues (given_number a 0))) (faulted w CannotCreate) r r
-  range_helper w DsqInsert a r = range_inserted w (insert_fault w (given_task a 0) (asked a) (given_number a 3)) (given_task a 0) (asked a) r
-  range_helper w DsqInsertVtime a r = range_inserted w (insert_fault w (given_task a 0) (asked_by_vtime a) (given_number a 4)) (given_task a 0) (asked_by_vtime a) r
-  range_helper w DsqMoveToLocal a r = keeps_if (IsRange e m on) (can_move w (given_number a 0)) (moved w (front_of w.queues (given_number a 0)) (given_number a 0)) (faulted w NoSuchQueue) (range_moved w (front_of w.queues (given_number a 0)) (given_number a 0) r) r
-  range_helper w CpuIdle a r = keeps_if (IsRange e m on) (nat_lt (given_number a 0) (length w.cpus)) w (faulted w NoSuchCpu) r r
-  range_helper w DsqNrQueued a r = keeps_if (IsRange e m on) (is_there w (given_number a 0)) w (faulted w NoSuchQueue) r r
+  range_helper w CreateDsq a r = keeps_if (IsRange e m on) (can_create w (given_number a 0)) (with_queues w (after_create w.queues (given_number a 0))) (with_fault w CannotCreate) r r
+  range_helper w DsqInsert a r = range_inserted w (insert_fault w (given_task a 0) (insert_of a) (given_number a 3)) (given_task a 0) (insert_of a) r
+  range_helper w DsqInsertVtime a r = range_inserted w (insert_fault w (given_task a 0) (insert_of_vtime a) (given_number a 4)) (given_task a 0) (insert_of_vtime a) r
+  range_helper w DsqMoveToLocal a r = keeps_if (IsRange e m on) (can_move w (given_number a 0)) (front_moved_to_local w (front_of w.queues (given_number a 0)) (given_number a 0)) (with_fault w NoSuchQueue) (range_moved w (front_of w.queues (given_number a 0)) (given_number a 0) r) r
+  range_helper w CpuIdle a r = keeps_if (IsRange e m on) (nat_lt (given_number a 0) (length w.cpus)) w (with_fault w NoSuchCpu) r r
+  range_helper w DsqNrQueued a r = keeps_if (IsRange e m on) (is_there w (given_number a 0)) w (with_fault w NoSuchQueue) r r
   range_helper w KtimeGetNs a r = r
   range_helper w MapLookupElem a r = r
   range_helper w SelectCpuDfl a r = r
@@ -160,7 +160,7 @@ module _ (e m : ℕ) (on : List (Option ℕ)) where
   range_query w (Load t f) r = r
   range_query w (Store t f k) r = range_same w t.0 (stored_in (task_at w t.0) f k) (stored_run (task_at w t.0) f k) (stored_time (task_at w t.0) f k) r
 
-  renewed_time : (x : Task) → (renewed x).builtin ≡ x.builtin
+  renewed_time : (x : Task) → (with_new_slice x).builtin ≡ x.builtin
   renewed_time x = keeps_if (λ (y : Task). y.builtin ≡ x.builtin) (x.slice == 0) _ x refl refl
 
   -- ---- the built-in scheduler
@@ -169,11 +169,11 @@ module _ (e m : ℕ) (on : List (Option ℕ)) where
   range_put_builtin w t r = keeps_if (IsRange e m on) (nat_lt t (length w.tasks)) _ w (range_set w t _ (r.1 t) (omega (arith, r.2 t, r.3)) (λ force. let f = r.4 force in rw (f.0, f.1 t) refl) r) r
 
   -- nobody uses more than a whole slice at the least weight
-  used_most : (w : WorldState) (t : ℕ) → used w t ≤ 2000000000
+  used_most : (w : WorldState) (t : ℕ) → used_vtime w t ≤ 2000000000
   used_most w t = omega arith
 
   -- an ejected scheduler's times may grow
-  range_charged : (w : WorldState) (t : ℕ) → used w t ≤ 2000000000 → (w.ejected ≡ None → ⊥) → IsRange e m on w → IsRange e (m + 1) on (charged w t)
+  range_charged : (w : WorldState) (t : ℕ) → used_vtime w t ≤ 2000000000 → (w.ejected ≡ None → ⊥) → IsRange e m on w → IsRange e (m + 1) on (after_charge w t)
   range_charged w t most out r = (
     r.0,
     each_set (λ y. y.run_ns ≤ 1000000 * e) w.tasks t _ (r.1 t) r.1,
@@ -199,10 +199,10 @@ fine_steps n e = record {
   started = λ m on w c t l free front may h. fine_of n e m None (set on c (Some t)) _ (sound_started on n w c t l free front h.sound) (range_same e m (set on c (Some t)) w t _ refl refl (range_on e m on (set on c (Some t)) w (within_begun w.tree on c t l free may h.within) (range_of n e m None on w h)));
   put_parked = λ m on w t l may-not h. let r = range_of n e m (Some t) on w h in fine_of n e m None on _ (sound_put_parked on n w t l h.sound) (keeps_if (IsRange e m on) (nat_lt t (length w.tasks)) _ w (range_same e m on w t _ refl refl r) r);
   taken = λ m on w q t apart front h. fine_of n e m (Some t) on _ (sound_taken on n w q t front apart h.sound) (range_of n e m None on w h);
-  kept = λ m on w t h. fine_of n e m None on _ (sound_kept on n w t h.sound) (range_same e m on w t (renewed (task_at w t)) (renewed_run (task_at w t)) (renewed_time e m on (task_at w t)) (range_of n e m None on w h));
+  kept = λ m on w t h. fine_of n e m None on _ (sound_kept on n w t h.sound) (range_same e m on w t (with_new_slice (task_at w t)) (renewed_run (task_at w t)) (renewed_time e m on (task_at w t)) (range_of n e m None on w h));
   asleep = λ m on w t l h. let r = range_of n e m (Some t) on w h in fine_of n e m None on _ (sound_asleep on n w t l h.sound) (keeps_if (IsRange e m on) (nat_lt t (length w.tasks)) _ w (range_same e m on w t _ refl refl r) r);
   put_out = λ m hand on w x h. fine_of n e m hand on _ (sound_put_out hand on n w x h.sound) (h.clock, h.runs, h.times, h.builtin_clock, (λ force. absurd (cc)), h.used, h.within);
-  evict = λ m hand on w t l h. let r = range_of n e m hand on w h in fine_of n e m hand on _ (sound_evict hand on n w t l h.sound) (keeps_if (IsRange e m on) (waits w t) (put_builtin (gone w t) t) w (range_put_builtin e m on (gone w t) t r) r);
+  evict = λ m hand on w t l h. let r = range_of n e m hand on w h in fine_of n e m hand on _ (sound_evict hand on n w t l h.sound) (keeps_if (IsRange e m on) (waits w t) (put_builtin (after_leave w t) t) w (range_put_builtin e m on (after_leave w t) t r) r);
   cut = λ m hand on w t h. fine_of n e m hand on _ (sound_cut hand on n w t h.sound) (range_same e m on w t _ refl refl (range_of n e m hand on w h));
   put_builtin = λ m on w t l h. fine_of n e m None on _ (sound_put_builtin on n w t l h.sound) (range_put_builtin e m on w t (range_of n e m (Some t) on w h));
   overtaken = λ m hand on w t h. fine_of n e m hand on _ (sound_overtaken hand on n w t h.sound) (h.clock, h.runs, h.times, omega (arith, h.builtin_clock, h.times t), (λ force. let f = h.not_yet force in (rw (f.0, f.1 t) refl, f.1)), h.used, h.within);

@@ -4,8 +4,8 @@ use Rattle.std.proofs.lemmas.Bool.{cases_eq, cases_lt, eq-eqb, ne_eqb}
 use Rattle.std.proofs.lemmas.Bool.Decides.{nat_tests}
 use Rattle.std.proofs.lemmas.List.Folds.{list_any-append}
 use Rattle.scx_dsq.specs.Queues.{QueueState, exists}
-use Rattle.scx_dsq.specs.Calls.{created, create_refusal, with_queue, empty}
-use Rattle.scx_world.specs.Ids.{global, held, builtin, parked, local_on}
+use Rattle.scx_dsq.specs.Calls.{after_create, create_refusal, with_queue, empty}
+use Rattle.scx_world.specs.Ids.{global, held_queue, builtin_queue, parked_queue, local_on}
 use Rattle.std.proofs.lemmas.List.{length-replicate, get_or-replicate, get_or_past}
 use Rattle.std.proofs.lemmas.List.Folds.{sum_by-replicate}
 use Rattle.scx_dsq.specs.Queues.{entry_at, entry_of}
@@ -15,14 +15,14 @@ use Rattle.scx_semantics.specs.declared.callbacks.Callback.{Callback}
 use Rattle.scx_vm.specs.declared.arguments.Args.{Args}
 use Rattle.scx_weights.specs.Hierarchy.{Hierarchy, is_active_task}
 use Rattle.scx_weights.specs.Counting.{any_below}
-use Rattle.scx_world.specs.World.{WorldState, is_this, begun}
+use Rattle.scx_world.specs.World.{WorldState, is_this, at_callback}
 use Rattle.scx_tasks.specs.declared.task.Task.{Task}
 use Rattle.scx_tasks.specs.Tasks.{no_task, new_task}
 use Rattle.scx_world.specs.First.{first_world}
 use Rattle.scx_machine.specs.Policy.{PolicyState}
 use Rattle.scx_machine.specs.Steps.{State}
-use Rattle.scx_machine.specs.Callbacks.{called, acting}
-use Rattle.scx_machine.specs.Start.{is_bad_shape, started}
+use Rattle.scx_machine.specs.Callbacks.{call_ending, acting}
+use Rattle.scx_machine.specs.Start.{is_bad_shape, first_state}
 use Rattle.scx_machine.proofs.Unchanged.{keeps_if}
 use Rattle.scx_sched.specs.Once.{runs, HasQueues}
 use Rattle.scx_sched.specs.Ranges.{IsFine}
@@ -52,7 +52,7 @@ exists_with s q r = list_any-append (λ other. other == r) s.ids (q ∷ []) ∙ 
     one b = or_false b
 
 -- a new id with room is taken
-is_made : (s : QueueState) (q : ℕ) → exists s q ≡ false → length s.ids < s.room → created s q ≡ with_queue s q
+is_made : (s : QueueState) (q : ℕ) → exists s q ≡ false → length s.ids < s.room → after_create s q ≡ with_queue s q
 is_made s q new room = let free : nat_le s.room (length s.ids) ≡ false = grind (arith, nat_tests, room) in rw (new, free) refl
 
 -- after so many local queues
@@ -63,7 +63,7 @@ pub record HasLocals (n : ℕ) (s t : QueueState) : Type 0 where
   pub made : (c : ℕ) → c < n → exists t (local_on c) ≡ true
   pub later : (c : ℕ) → n ≤ c → exists t (local_on c) ≡ false
 
-one_more : (n : ℕ) (s t : QueueState) → length s.ids + suc n ≤ s.room → HasLocals n s t → HasLocals (suc n) s (created t (local_on n))
+one_more : (n : ℕ) (s t : QueueState) → length s.ids + suc n ≤ s.room → HasLocals n s t → HasLocals (suc n) s (after_create t (local_on n))
 one_more n s t room h = rw made record {
   count = length-append t.ids (local_on n ∷ []) ∙ omega (arith, h.count);
   room = h.room;
@@ -72,7 +72,7 @@ one_more n s t room h = rw made record {
   later = λ c l. rw (exists_with t (local_on n) (local_on c), h.later c (omega (arith, l)), ne_eqb (local_on n) (local_on c) (λ e. omega (arith, e, l))) refl;
 }
   where
-    made : created t (local_on n) ≡ with_queue t (local_on n)
+    made : after_create t (local_on n) ≡ with_queue t (local_on n)
     made = is_made t (local_on n) (h.later n (omega arith)) (omega (arith, h.count, h.room, room))
 
     here : (c : ℕ) → c < suc n → (c ≡ n) ⊎ (c ≡ n → ⊥) → exists (with_queue t (local_on n)) (local_on c) ≡ true
@@ -83,38 +83,38 @@ locals : (n : ℕ) (s : QueueState) → ((c : ℕ) → exists s (local_on c) ≡
 locals zero s none room = record { count = omega arith; room = refl; stay = λ r e. e; made = λ c l. absurd (omega (arith, l)); later = λ c l. none c }
 locals (suc n) s none room = one_more n s (with_locals n s) room (locals n s none (omega (arith, room)))
 
-own : (cpus tasks : ℕ) → own_queues cpus tasks ≡ record { room = 20 + cpus; ids = global ∷ held ∷ builtin ∷ parked ∷ []; entries = replicate tasks None; pushes = 0 }
+own : (cpus tasks : ℕ) → own_queues cpus tasks ≡ record { room = 20 + cpus; ids = global ∷ held_queue ∷ builtin_queue ∷ parked_queue ∷ []; entries = replicate tasks None; pushes = 0 }
 own cpus tasks =
     let a = is_made (empty (20 + cpus) tasks) global refl (omega arith) in
     rw (
       a,
-      is_made (with_queue (empty (20 + cpus) tasks) global) held refl (omega arith),
-      is_made (with_queue (with_queue (empty (20 + cpus) tasks) global) held) builtin refl (omega arith),
-      is_made (with_queue (with_queue (with_queue (empty (20 + cpus) tasks) global) held) builtin) parked refl (omega arith),
+      is_made (with_queue (empty (20 + cpus) tasks) global) held_queue refl (omega arith),
+      is_made (with_queue (with_queue (empty (20 + cpus) tasks) global) held_queue) builtin_queue refl (omega arith),
+      is_made (with_queue (with_queue (with_queue (empty (20 + cpus) tasks) global) held_queue) builtin_queue) parked_queue refl (omega arith),
     ) refl
 
 -- the queues are there
 pub first_has_queues : (cpus tasks : ℕ) → HasQueues (first_queues cpus tasks) cpus
 first_has_queues cpus tasks = rw (own cpus tasks) record {
   global = l.stay global refl;
-  held = l.stay held refl;
-  builtin = l.stay builtin refl;
-  parked = l.stay parked refl;
+  held = l.stay held_queue refl;
+  builtin = l.stay builtin_queue refl;
+  parked = l.stay parked_queue refl;
   locals = λ c k. l.made c k;
 }
   where
     s : QueueState
-    s = record { room = 20 + cpus; ids = global ∷ held ∷ builtin ∷ parked ∷ []; entries = replicate tasks None; pushes = 0 }
+    s = record { room = 20 + cpus; ids = global ∷ held_queue ∷ builtin_queue ∷ parked_queue ∷ []; entries = replicate tasks None; pushes = 0 }
 
     none : (c : ℕ) → exists s (local_on c) ≡ false
-    none c = rw (ne_eqb global (local_on c) (λ e. omega (arith, e)), ne_eqb held (local_on c) (λ e. omega (arith, e)), ne_eqb builtin (local_on c) (λ e. omega (arith, e)), ne_eqb parked (local_on c) (λ e. omega (arith, e))) refl
+    none c = rw (ne_eqb global (local_on c) (λ e. omega (arith, e)), ne_eqb held_queue (local_on c) (λ e. omega (arith, e)), ne_eqb builtin_queue (local_on c) (λ e. omega (arith, e)), ne_eqb parked_queue (local_on c) (λ e. omega (arith, e))) refl
 
     l : HasLocals cpus s (with_locals cpus s)
     l = locals cpus s none (omega arith)
 
 -- ---- nobody waits, runs or is active
 
-places_created : (s : QueueState) (q : ℕ) → (created s q).entries ≡ s.entries
+places_created : (s : QueueState) (q : ℕ) → (after_create s q).entries ≡ s.entries
 places_created s q = keeps_if (λ (t : QueueState). t.entries ≡ s.entries) (is_none (create_refusal s q)) (with_queue s q) s refl refl
 
 locals_places : (n : ℕ) (s : QueueState) → (with_locals n s).entries ≡ s.entries
@@ -214,7 +214,7 @@ first_is_fine tree cpus shape flags = record {
 -- ---- init and enable
 
 -- whatever small steps keep, and holds of the first world, holds once a machine is made
-pub steps_started : (I : ℕ → Option ℕ → List (Option ℕ) → WorldState → Type 0) (p : PolicyState) (tree : Hierarchy) (cpus : ℕ) (t : State) → IsKeptBySteps (length tree.homes) I → is_bad_shape tree cpus ≡ false → started p tree cpus ≡ Ok t
+pub steps_started : (I : ℕ → Option ℕ → List (Option ℕ) → WorldState → Type 0) (p : PolicyState) (tree : Hierarchy) (cpus : ℕ) (t : State) → IsKeptBySteps (length tree.homes) I → is_bad_shape tree cpus ≡ false → first_state p tree cpus ≡ Ok t
     → I 0 None (replicate cpus None) (begun_periods (first_world tree cpus)) → I 0 None (replicate cpus None) t.world
 steps_started I p tree cpus t k shape e h = keeps_started (λ s. I 0 None on s.world) keeps p tree cpus t e h
   where
@@ -226,24 +226,24 @@ steps_started I p tree cpus t k shape e h = keeps_started (λ s. I 0 None on s.w
 
     keeps : (s : State) (b : Callback) (a : Args) (t : ℕ) → I 0 None on s.world → I 0 None on (left_by s b a t).world
     keeps s b a t h =
-        let w = begun s.world b t 0 in
-        k.quiet 0 None on (called (acting s b) b a s.maps w).outside (keeps_called (length tree.homes) I k 0 None on (acting s b) b a s.maps w (k.begun 0 None on s.world b t 0 some h))
+        let w = at_callback s.world b t 0 in
+        k.quiet 0 None on (call_ending (acting s b) b a s.maps w).outside (keeps_called (length tree.homes) I k 0 None on (acting s b) b a s.maps w (k.begun 0 None on s.world b t 0 some h))
 
 -- what holds between two events holds at first
-pub fine_started : (p : PolicyState) (tree : Hierarchy) (cpus : ℕ) (t : State) → is_bad_shape tree cpus ≡ false → length tree.active ≡ length tree.homes → started p tree cpus ≡ Ok t → IsFine (length tree.homes) 0 0 None (replicate cpus None) t.world
+pub fine_started : (p : PolicyState) (tree : Hierarchy) (cpus : ℕ) (t : State) → is_bad_shape tree cpus ≡ false → length tree.active ≡ length tree.homes → first_state p tree cpus ≡ Ok t → IsFine (length tree.homes) 0 0 None (replicate cpus None) t.world
 fine_started p tree cpus t shape flags e = steps_started (IsFine (length tree.homes) 0) p tree cpus t (fine_steps (length tree.homes) 0) shape e (first_is_fine tree cpus (has_shape tree cpus shape) flags)
 
 -- nobody waits too long at first
-pub time_started : (limit : ℕ) (p : PolicyState) (tree : Hierarchy) (cpus : ℕ) (t : State) → is_bad_shape tree cpus ≡ false → started p tree cpus ≡ Ok t → IsInTime limit t.world
+pub time_started : (limit : ℕ) (p : PolicyState) (tree : Hierarchy) (cpus : ℕ) (t : State) → is_bad_shape tree cpus ≡ false → first_state p tree cpus ≡ Ok t → IsInTime limit t.world
 time_started limit p tree cpus t shape e =
     let n = length tree.homes in
     let h = steps_started (λ m hand on w. AreInTime limit n w) p tree cpus t (time_steps limit n) shape e (length-replicate n new_task, λ force u. rw (never_waited n u) (omega arith)) in
     h.1
 
 -- its policy is the one that it was given, and in force
-pub policy_started : (p : PolicyState) (tree : Hierarchy) (cpus : ℕ) (t : State) → started p tree cpus ≡ Ok t → t.policy ≡ p
+pub policy_started : (p : PolicyState) (tree : Hierarchy) (cpus : ℕ) (t : State) → first_state p tree cpus ≡ Ok t → t.policy ≡ p
 policy_started p tree cpus t e = keeps_started (λ s. s.policy ≡ p) (λ s b a u h. h) p tree cpus t e refl
 
 -- as a machine begins, its policy is in force
-pub force_started : (p : PolicyState) (tree : Hierarchy) (cpus : ℕ) (t : State) → started p tree cpus ≡ Ok t → t.world.ejected ≡ None
-force_started p tree cpus t e = keeps_started (λ s. s.world.ejected ≡ None) (λ s b a u h. (same_called (acting s b) b a s.maps (begun s.world b u 0)).1 ∙ h) p tree cpus t e refl
+pub force_started : (p : PolicyState) (tree : Hierarchy) (cpus : ℕ) (t : State) → first_state p tree cpus ≡ Ok t → t.world.ejected ≡ None
+force_started p tree cpus t e = keeps_started (λ s. s.world.ejected ≡ None) (λ s b a u h. (same_called (acting s b) b a s.maps (at_callback s.world b u 0)).1 ∙ h) p tree cpus t e refl

@@ -10,7 +10,7 @@ use Rattle.scx_dsq.specs.declared.entries.Entry.{Entry}
 use Rattle.scx_dsq.specs.declared.entries.Rank.{Rank}
 use Rattle.scx_dsq.specs.Entries.{is_before}
 use Rattle.scx_dsq.specs.Queues.{Entries, entry_at, QueueState, entry_of, is_in, is_ahead, is_first, front_of}
-use Rattle.scx_dsq.specs.Calls.{push_refusal, next_entry, with_task as with_place, pushed, without_task, without, popped}
+use Rattle.scx_dsq.specs.Calls.{push_refusal, next_entry, with_task as with_place, after_push, without_task, without, after_pop}
 use Rattle.scx_dsq.proofs.Facts.{free_from}
 use Rattle.scx_dsq.proofs.Orders.{before-asym}
 use Rattle.scx_world.proofs.Fronts.{front_in}
@@ -119,7 +119,7 @@ same_set id s s' t o e before after = record { count = ap length e ∙ length-se
     go k (inr d) l = Equal (at k ∙ get_or-set_other {A = Option Entry} s.entries t k o None d)
 
 -- a push to another queue
-pub same_pushed : (id : ℕ) (s : QueueState) (q t : ℕ) (r : Rank) → (q == id) ≡ false → IsSameIn id s (pushed s q t r)
+pub same_pushed : (id : ℕ) (s : QueueState) (q t : ℕ) (r : Rank) → (q == id) ≡ false → IsSameIn id s (after_push s q t r)
 same_pushed id s q t r apart = go (push_refusal s q t r) refl
   where
     go : (o : Option _) → push_refusal s q t r ≡ o → IsSameIn id s (cond (is_none o) (with_place s q t r) s)
@@ -131,7 +131,7 @@ pub same_without : (id : ℕ) (s : QueueState) (t : ℕ) → is_in id (entry_of 
 same_without id s t out = same_set id s (without_task s t) t None refl out refl
 
 -- the front of another queue
-pub same_popped : (id : ℕ) (s : QueueState) (q : ℕ) → (q == id) ≡ false → IsSameIn id s (popped s q)
+pub same_popped : (id : ℕ) (s : QueueState) (q : ℕ) → (q == id) ≡ false → IsSameIn id s (after_pop s q)
 same_popped id s q apart = go (front_of s q) refl
   where
     there : (t : ℕ) (o : Option Entry) → option_map (λ p. p.queue) o ≡ Some q → is_in id o ≡ false
@@ -230,7 +230,7 @@ module _ (s : QueueState) (id q t u : ℕ) (r : Rank) (p : Entry) (front : front
       rw (i, lt-ltb t (length s'.entries) (omega (arith, was.0, many))) refl
 
 -- it leaves the front that is there, if the new entry comes after that
-pub front_pushed : (s : QueueState) (id q t u : ℕ) (r : Rank) (p : Entry) → front_of s id ≡ Some t → entry_of s t ≡ Some p → ((q == id) ≡ true → is_before p (next_entry s q r) ≡ true) → front_of (pushed s q u r) id ≡ Some t
+pub front_pushed : (s : QueueState) (id q t u : ℕ) (r : Rank) (p : Entry) → front_of s id ≡ Some t → entry_of s t ≡ Some p → ((q == id) ≡ true → is_before p (next_entry s q r) ≡ true) → front_of (after_push s q u r) id ≡ Some t
 unfolding front_of
 front_pushed s id q t u r p front is after = go (push_refusal s q u r) refl
   where

@@ -6,24 +6,24 @@ use Rattle.std.proofs.lemmas.List.{length-set, get_or-set_same}
 use Rattle.scx_dsq.specs.declared.entries.Rank.{Rank}
 use Rattle.scx_dsq.specs.declared.entries.Rank.TheVariants.{Fifo}
 use Rattle.scx_dsq.specs.Queues.{QueueState, task_count, entry_of, is_in, len_of, front_of}
-use Rattle.scx_dsq.specs.Calls.{push_refusal, next_entry, pushed, popped}
+use Rattle.scx_dsq.specs.Calls.{push_refusal, next_entry, after_push, after_pop}
 use Rattle.scx_dsq.specs.Laws.{one_if}
 use Rattle.scx_dsq.proofs.Facts.{free_from, front_is_known, tasks_without}
 use Rattle.scx_semantics.specs.declared.callbacks.Callback.TheVariants as callback
 use Rattle.scx_weights.specs.Limits as limits
 use Rattle.scx_world.specs.declared.eject.Eject.{Eject}
-use Rattle.scx_world.specs.Ids.{global, builtin, parked, local_on}
+use Rattle.scx_world.specs.Ids.{global, builtin_queue, parked_queue, local_on}
 use Rattle.scx_world.specs.World.{WorldState, task_at, is_throttled, running}
-use Rattle.scx_world.specs.Tasks.{local_len, brought, stopped, started_at, ticked, used_ms}
-use Rattle.scx_machine.specs.Steps.{State, Stepped, with_world, stays, joined, is_ejected}
+use Rattle.scx_world.specs.Tasks.{local_len, brought, after_stop, started_at, after_tick, used_ms}
+use Rattle.scx_machine.specs.Steps.{State, Stepped, with_world, stays, one_after_other, is_ejected}
 use Rattle.scx_machine.specs.Callbacks.{call_back, cpu_and_task}
 use Rattle.scx_machine.specs.Filling.{fill}
 use Rattle.scx_machine.specs.Parking.{park, park_front, throttled_front, park_fronts, clear, in_reach, supply}
-use Rattle.scx_machine.specs.Cycle.{has_local, dispatched, asks_again, tries, stopping, leave, started_if, start as run_front, rest, swap, swap_or_rest, builtin_dispatch, builtin_fill, builtin_ask, builtin_cycle, start_or_cycle, pick, pick_or_rest, conclude, ask, seek, look, cycling, cycle}
+use Rattle.scx_machine.specs.Cycle.{has_local, after_dispatch, asks_again, tries, stopping, leave, started_if, start as run_front, rest, swap, swap_or_rest, builtin_dispatch, builtin_fill, builtin_ask, builtin_cycle, start_or_cycle, pick, pick_or_rest, conclude, ask, seek, look, cycling, cycle}
 use Rattle.scx_machine.specs.declared.events.Event.{Event}
 use Rattle.scx_machine.specs.declared.events.Event.TheVariants.{Wake, Sleep, Tick, Clock, SetWeight}
 use Rattle.scx_machine.specs.declared.events.Refused.TheVariants.{UnknownCpu}
-use Rattle.scx_machine.specs.Events.{throttle, expire, count_down, tick_of, tick, happened}
+use Rattle.scx_machine.specs.Events.{throttle, expire, count_down, tick_of, tick, event_step}
 use Rattle.scx_machine.proofs.Unchanged.{keeps_if}
 use Rattle.scx_sched.specs.Ranges.{IsFine}
 use Rattle.scx_sched.specs.Left.{LeavesNothing, LeavesNothingIdle}
@@ -45,7 +45,7 @@ use Rattle.scx_sched.proofs.Leaving.{IsOut, local_leave}
 use Rattle.scx_sched.proofs.Deciding.{accepted}
 
 -- an accepted push makes its queue longer
-len_entered : (s : QueueState) (q t : ℕ) (r : Rank) → t < task_count s → push_refusal s q t r ≡ None → len_of (pushed s q t r) q ≡ len_of s q + 1
+len_entered : (s : QueueState) (q t : ℕ) (r : Rank) → t < task_count s → push_refusal s q t r ≡ None → len_of (after_push s q t r) q ≡ len_of s q + 1
 len_entered s q t r l ok =
     let here : one_if (q == q) ≡ 1 = rw (eq-eqb q q refl) refl in
     let free : one_if (is_in q (entry_of s t)) ≡ 0 = rw (free_from s q t r ok) refl in
@@ -113,7 +113,7 @@ module _ (n e : ℕ) (c : ℕ) where
       go true x o f empty = let some : 0 < local_len w c = grind (arith, nat_tests, x) in absurd (omega (arith, some, empty))
       go false x None f empty = (f, empty, refl)
       go false x (Some t) f empty =
-          let s' = popped w.queues q in
+          let s' = after_pop w.queues q in
           let known : t < task_count s' = rw (tasks_without w.queues (front_of w.queues q)) (front_is_known w.queues q (Some t) (sym f)) in
           let there = stay_without w.queues (front_of w.queues q) (local_on c) (h.sound.queues.locals c l) in
           let ok = is_accepted s' t (local_on c) Fifo (left_place w.queues q t f) (own_open s' (local_on c) Fifo there (omega arith) (local_sort c) (sorted_popped w.queues q h.sound.sorted)) in
@@ -138,7 +138,7 @@ module _ (n e : ℕ) (c : ℕ) where
       go None y more = fill_global m on s l h
       go (Some t) y more =
           more t (omega (arith, few, reach_fill s c, reach_park_front f c t (throttled_is f (local_on c) t y).front))
-          (keeps_park_front n (IsFine n e) (fine_inside n e) m on f (local_on c) t (ne_eqb (local_on c) parked (λ z. omega (arith, z))) y filled)
+          (keeps_park_front n (IsFine n e) (fine_inside n e) m on f (local_on c) t (ne_eqb (local_on c) parked_queue (λ z. omega (arith, z))) y filled)
 
   supply_leaves : (m : ℕ) (on : List (Option ℕ)) (s : State) → c < length on → IsFine n e m None on s.world → LeavesGlobal c (supply s c).state.world
   unfolding supply
@@ -157,25 +157,25 @@ module _ (n e : ℕ) (c : ℕ) where
   builtin_fill_leaves m on s l h g = go (has_local s c) refl
     where
       p : State
-      p = (park_fronts (len_of s.world.queues builtin) s builtin).state
+      p = (park_fronts (len_of s.world.queues builtin_queue) s builtin_queue).state
 
       r : Stepped
-      r = joined (park_fronts (len_of s.world.queues builtin) s builtin) (fill p builtin c)
+      r = one_after_other (park_fronts (len_of s.world.queues builtin_queue) s builtin_queue) (fill p builtin_queue c)
 
       x : IsFine n e m None on p.world
-      x = keeps_park_fronts n (IsFine n e) (fine_inside n e) m on (len_of s.world.queues builtin) s builtin refl h
+      x = keeps_park_fronts n (IsFine n e) (fine_inside n e) m on (len_of s.world.queues builtin_queue) s builtin_queue refl h
 
       global_stays : IsLeft global s.world p.world
-      global_stays = left_park_fronts (len_of s.world.queues builtin) global s builtin refl refl
+      global_stays = left_park_fronts (len_of s.world.queues builtin_queue) global s builtin_queue refl refl
 
       go : (b : Bool) → has_local s c ≡ b → local_len (if b then stays s else r).state.world c ≡ 0 → LeavesNothing (if b then stays s else r).state.world c
       go true z empty = absurd (omega (arith, some_local (local_len s.world c) (local_len s.world c == 0) refl z, empty))
       go false z empty =
-          let v = fill_leaves m on p builtin l x empty in
+          let v = fill_leaves m on p builtin_queue l x empty in
           record {
             local = empty;
             global = ap (λ (q : QueueState). front_of q global) v.2 ∙ (front_same s.world.queues p.world.queues global global_stays.queue ∙ g (no_local (local_len s.world c) (local_len s.world c == 0) refl z));
-            builtin = λ gone. ap (λ (q : QueueState). front_of q builtin) v.2 ∙ v.0;
+            builtin = λ gone. ap (λ (q : QueueState). front_of q builtin_queue) v.2 ∙ v.0;
           }
 
   builtin_cycle_leaves : (m : ℕ) (on : List (Option ℕ)) (s : State) (p : Option ℕ) (ran : Bool) → c < length on → IsKnown n p → get_or on c None ≡ p → IsOut p s → IsFine n e m None on s.world → LeavesIfIdle c (builtin_cycle s c p ran).state.world
@@ -222,7 +222,7 @@ module _ (n e : ℕ) (c : ℕ) where
   unfolding pick_or_rest
   pick_or_rest_leaves m on s p ran l known runs force clear-now h g = go (has_local s c) refl
     where
-      in_force : is_some s.world.ejected ≡ true → front_of s.world.queues builtin ≡ None
+      in_force : is_some s.world.ejected ≡ true → front_of s.world.queues builtin_queue ≡ None
       in_force gone = let bad : false ≡ true = sym force ∙ gone in absurd (cc)
 
       go : (b : Bool) → has_local s c ≡ b → LeavesIfIdle c (if b then pick s c p ran else rest s c p ran).state.world
@@ -239,8 +239,8 @@ module _ (n e : ℕ) (c : ℕ) where
       go true out = builtin_cycle_leaves m on s p ran l known runs (out_any s p out) h
       go false force = pick_or_rest_leaves m on s p ran l known runs force clear-now h g
 
-  dispatched_leaves : (m : ℕ) (on : List (Option ℕ)) (s : State) (p : Option ℕ) → c < length on → IsFine n e m None on s.world → LeavesGlobal c (dispatched s c p).state.world
-  unfolding dispatched
+  dispatched_leaves : (m : ℕ) (on : List (Option ℕ)) (s : State) (p : Option ℕ) → c < length on → IsFine n e m None on s.world → LeavesGlobal c (after_dispatch s c p).state.world
+  unfolding after_dispatch
   dispatched_leaves m on s p l h =
       let r = call_back s callback.Dispatch (cpu_and_task c p) 0 c in
       supply_leaves m on r.state l (keeps_call_back n (IsFine n e) (fine_steps n e) m None on s callback.Dispatch (cpu_and_task c p) 0 c l h)
@@ -249,10 +249,10 @@ module _ (n e : ℕ) (c : ℕ) where
   unfolding tries
   tries_leave zero m on s p l h g = g
   tries_leave (suc j) m on s p l h g =
-      let d = dispatched s c p in
+      let d = after_dispatch s c p in
       let x = keeps_dispatched n (IsFine n e) (fine_inside n e) m on s c p l h in
       let y = dispatched_leaves m on s p l h in
-      keeps_if (λ (r : Stepped). LeavesGlobal c r.state.world) (asks_again d.state c) (joined d (tries j d.state c p)) d (tries_leave j m on d.state p l x y) y
+      keeps_if (λ (r : Stepped). LeavesGlobal c r.state.world) (asks_again d.state c) (one_after_other d (tries j d.state c p)) d (tries_leave j m on d.state p l x y) y
 
   ask_leaves : (m : ℕ) (on : List (Option ℕ)) (s : State) (p : Option ℕ) (ran : Bool) → c < length on → IsKnown n p → get_or on c None ≡ p → MayStart c s.world → IsFine n e m None on s.world → LeavesGlobal c s.world → LeavesIfIdle c (ask s c p ran).state.world
   unfolding ask
@@ -296,11 +296,11 @@ pub tick_leaves : (n e : ℕ) (s : State) (c : ℕ) → c < length s.world.cpus 
 unfolding tick count_down throttle expire
 tick_leaves n e s c l h idle = go (running s.world c) refl (ap (λ o. is_none o) idle)
   where
-    throttled_leaves : (v : State) (t : ℕ) → t < n → c < length v.world.cpus → limits.is_throttled v.world.tree t ≡ true → IsFine n (e + 1) e (Some t) (set v.world.cpus c None) (stopped v.world c t) → LeavesIfIdle c (throttle v c t).state.world
+    throttled_leaves : (v : State) (t : ℕ) → t < n → c < length v.world.cpus → limits.is_throttled v.world.tree t ≡ true → IsFine n (e + 1) e (Some t) (set v.world.cpus c None) (after_stop v.world c t) → LeavesIfIdle c (throttle v c t).state.world
     throttled_leaves v t within m up x =
         let on = set v.world.cpus c None in
         let l' : c < length on = rw (length-set v.world.cpus c None) m in
-        let off = with_world v (stopped v.world c t) in
+        let off = with_world v (after_stop v.world c t) in
         let r = (stopping off c t 1).state in
         let tree = tree_stopping n (IsFine n (e + 1)) (fine_steps n (e + 1)) (fine_inside n (e + 1)).sound c e (Some t) on off c t 1 l' x in
         cycle_leaves n (e + 1) c (e + 1) on (park r t).state None true l' tt (get_or-set_same v.world.cpus c None None m)
@@ -311,10 +311,10 @@ tick_leaves n e s c l h idle = go (running s.world c) refl (ap (λ o. is_none o)
     go (Some t) at = by (is_throttled v.world t) refl
       where
         v : State
-        v = with_world s (used_ms (ticked s.world t) t)
+        v = with_world s (used_ms (after_tick s.world t) t)
 
         same : v.world.cpus ≡ s.world.cpus
-        same = cpus_used (ticked s.world t) t
+        same = cpus_used (after_tick s.world t) t
 
         x : IsKeptByTick n (IsFine n (e + 1)) (fine_events n (e + 1)) e s.world c t
         x = fine_ticked n e e s.world c t l at h
@@ -323,14 +323,14 @@ tick_leaves n e s c l h idle = go (running s.world c) refl (ap (λ o. is_none o)
         known = known_running n e e s.world c t l at h
 
         by : (b : Bool) → is_throttled v.world t ≡ b → LeavesIfIdle c (if b then throttle v c t else expire v c t).state.world
-        by true up = throttled_leaves v t known (subst (λ (xs : List (Option ℕ)). c < length xs) (sym same) l) (tree_used_up v.world t up) (subst (λ xs. IsFine n (e + 1) e (Some t) (set xs c None) (stopped v.world c t)) (sym same) (x.leaves up))
+        by true up = throttled_leaves v t known (subst (λ (xs : List (Option ℕ)). c < length xs) (sym same) l) (tree_used_up v.world t up) (subst (λ xs. IsFine n (e + 1) e (Some t) (set xs c None) (after_stop v.world c t)) (sym same) (x.leaves up))
         by false free =
             keeps_if (λ (r : Stepped). LeavesIfIdle c r.state.world) ((task_at v.world t).slice == 0) (cycle v c (Some t) true) (stays v)
             (cycle_leaves n (e + 1) c e s.world.cpus v (Some t) true l known at (x.goes_on free))
             (busy c v.world (ap (λ (xs : List (Option ℕ)). is_none (get_or xs c None)) same ∙ ap (λ o. is_none o) at))
 
 -- the same of an accepted event
-pub step_leaves : (s : State) (n : ℕ) (v : Event) → refusal (record { state = s; events = n }) v ≡ None → IsValid s n → LeavesNothingIdle v (happened s v).state.world
+pub step_leaves : (s : State) (n : ℕ) (v : Event) → refusal (record { state = s; events = n }) v ≡ None → IsValid s n → LeavesNothingIdle v (event_step s v).state.world
 step_leaves s n (Tick c) e h = tick_leaves (length s.world.tasks) n s c (known (nat_lt c (length s.world.cpus)) refl (accepted (record { state = s; events = n }) (Tick c) e).taken) h.fine
   where
     known : (b : Bool) → nat_lt c (length s.world.cpus) ≡ b → (if b then None else Some UnknownCpu) ≡ None → c < length s.world.cpus

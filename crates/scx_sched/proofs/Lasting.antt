@@ -3,7 +3,7 @@ use Rattle.std.proofs.Common.{◌≡◌, ℕ, zero, suc, ◌<◌, ◌≤◌, ◌
 use Rattle.std.proofs.lemmas.Bool.{cases_eq, cases_lt}
 use Rattle.std.proofs.lemmas.List.{length-set, get_or-set_same, get_or-set_other, set_past}
 use Rattle.scx_dsq.specs.Queues.{front_of}
-use Rattle.scx_dsq.specs.Calls.{created}
+use Rattle.scx_dsq.specs.Calls.{after_create}
 use Rattle.scx_semantics.specs.declared.callbacks.Callback.{Callback}
 use Rattle.scx_semantics.specs.declared.callbacks.Callback.TheVariants as callback
 use Rattle.scx_semantics.specs.declared.host_tables.Helper.{Helper}
@@ -15,7 +15,7 @@ use Rattle.scx_semantics.specs.Endings.{run_of}
 use Rattle.scx_semantics.proofs.EndedRuns.{run_keeps}
 use Rattle.scx_semantics.specs.Machine as start
 use Rattle.scx_safety.specs.Programs.{VerifiedProgram}
-use Rattle.scx_vm.specs.Arguments.{given as registers, argument_of}
+use Rattle.scx_vm.specs.Arguments.{program_arguments as registers, argument_of}
 use Rattle.scx_vm.specs.declared.arguments.Arg.{Arg}
 use Rattle.scx_vm.specs.declared.arguments.Args.{Args}
 use Rattle.scx_vm.specs.Host.{answer_to, after_query}
@@ -26,14 +26,14 @@ use Rattle.scx_world.specs.declared.call.Insert.{Insert}
 use Rattle.scx_world.specs.declared.eject.Eject.{Eject}
 use Rattle.scx_world.specs.declared.faults.Fault.{Fault}
 use Rattle.scx_world.specs.declared.faults.Fault.TheVariants.{NoSuchQueue, NoSuchCpu, CannotCreate}
-use Rattle.scx_world.specs.World.{WorldState, with_queues, with_task, task_at, running, waits, wait, begun}
-use Rattle.scx_world.specs.Tasks.{with_since, let_go, given, gone, entered, for_cpu}
-use Rattle.scx_world.specs.Helpers.{is_there, can_create, faulted, is_dispatch, insert_fault, with_insert, released, inserted, asked, asked_by_vtime, can_move, moved, given_number, given_task, helper_after, stored_in, world_functions}
-use Rattle.scx_world.specs.Ejecting.{put_out, put_builtin, evicted, cut, cut_task}
+use Rattle.scx_world.specs.World.{WorldState, with_queues, with_task, task_at, running, waits, wait, at_callback}
+use Rattle.scx_world.specs.Tasks.{with_since, let_go, task_after_insert, after_leave, after_enter, for_cpu}
+use Rattle.scx_world.specs.Helpers.{is_there, can_create, with_fault, is_dispatch, insert_fault, with_insert, after_release, insert_or_fault, insert_of, insert_of_vtime, can_move, front_moved_to_local, given_number, given_task, helper_after, stored_in, world_functions}
+use Rattle.scx_world.specs.Ejecting.{put_out, put_builtin, after_evictions, after_cut, cut_task}
 use Rattle.scx_machine.specs.Steps.{State, is_ejected}
 use Rattle.scx_machine.specs.Ejecting.{moves_over, eject, ejected_for}
-use Rattle.scx_machine.specs.Callbacks.{called, acting, ended, fault_of, call_back, task_and_number}
-use Rattle.scx_machine.specs.Put.{enters, wanted, enters_builtin, comes_in, put}
+use Rattle.scx_machine.specs.Callbacks.{call_ending, acting, after_callback, fault_of, call_back, task_and_number}
+use Rattle.scx_machine.specs.Put.{enters, enqueue_choice, enters_builtin, comes_in, put}
 use Rattle.scx_machine.proofs.Unchanged.{keeps_if}
 use Rattle.scx_sched.proofs.Waiting.{since_set, stored_since, given_since}
 
@@ -72,28 +72,28 @@ module _ (w : WorldState) where
 
   -- ---- helpers
 
-  long_entered : (v : WorldState) (t : ℕ) (i : Insert) → AreAsLong w v → AreAsLong w (entered v t i)
-  long_entered v t i h = keeps_if (AreAsLong w) (nat_lt t (length v.tasks)) _ v (long_set v t (given (task_at v t) i) (given_since (task_at v t) i) h) h
+  long_entered : (v : WorldState) (t : ℕ) (i : Insert) → AreAsLong w v → AreAsLong w (after_enter v t i)
+  long_entered v t i h = keeps_if (AreAsLong w) (nat_lt t (length v.tasks)) _ v (long_set v t (task_after_insert (task_at v t) i) (given_since (task_at v t) i) h) h
 
-  long_released : (v : WorldState) (t : Option ℕ) (i : Insert) → AreAsLong w v → AreAsLong w (released v t i)
+  long_released : (v : WorldState) (t : Option ℕ) (i : Insert) → AreAsLong w v → AreAsLong w (after_release v t i)
   long_released v None i h = h
-  long_released v (Some t) i h = let x = long_entered (gone v t) t i h in (x.0, x.1, x.2)
+  long_released v (Some t) i h = let x = long_entered (after_leave v t) t i h in (x.0, x.1, x.2)
 
-  long_inserted : (v : WorldState) (o : Option Fault) (t : Option ℕ) (i : Insert) → AreAsLong w v → AreAsLong w (inserted v o t i)
-  long_inserted v None t i h = keeps_if (AreAsLong w) (is_dispatch v.call.callback) (released v t (for_cpu v.call.cpu i)) (with_insert v i) (long_released v t (for_cpu v.call.cpu i) h) h
+  long_inserted : (v : WorldState) (o : Option Fault) (t : Option ℕ) (i : Insert) → AreAsLong w v → AreAsLong w (insert_or_fault v o t i)
+  long_inserted v None t i h = keeps_if (AreAsLong w) (is_dispatch v.call.callback) (after_release v t (for_cpu v.call.cpu i)) (with_insert v i) (long_released v t (for_cpu v.call.cpu i) h) h
   long_inserted v (Some f) t i h = h
 
-  long_moved : (v : WorldState) (o : Option ℕ) (q : ℕ) → AreAsLong w v → AreAsLong w (moved v o q)
+  long_moved : (v : WorldState) (o : Option ℕ) (q : ℕ) → AreAsLong w v → AreAsLong w (front_moved_to_local v o q)
   long_moved v None q h = h
   long_moved v (Some t) q h = h
 
   long_helper : (v : WorldState) (f : Helper) (a : List Arg) → AreAsLong w v → AreAsLong w (helper_after v f a)
-  long_helper v CreateDsq a h = keeps_if (AreAsLong w) (can_create v (given_number a 0)) (with_queues v (created v.queues (given_number a 0))) (faulted v CannotCreate) h h
-  long_helper v DsqInsert a h = long_inserted v (insert_fault v (given_task a 0) (asked a) (given_number a 3)) (given_task a 0) (asked a) h
-  long_helper v DsqInsertVtime a h = long_inserted v (insert_fault v (given_task a 0) (asked_by_vtime a) (given_number a 4)) (given_task a 0) (asked_by_vtime a) h
-  long_helper v DsqMoveToLocal a h = keeps_if (AreAsLong w) (can_move v (given_number a 0)) (moved v (front_of v.queues (given_number a 0)) (given_number a 0)) (faulted v NoSuchQueue) (long_moved v (front_of v.queues (given_number a 0)) (given_number a 0) h) h
-  long_helper v CpuIdle a h = keeps_if (AreAsLong w) (nat_lt (given_number a 0) (length v.cpus)) v (faulted v NoSuchCpu) h h
-  long_helper v DsqNrQueued a h = keeps_if (AreAsLong w) (is_there v (given_number a 0)) v (faulted v NoSuchQueue) h h
+  long_helper v CreateDsq a h = keeps_if (AreAsLong w) (can_create v (given_number a 0)) (with_queues v (after_create v.queues (given_number a 0))) (with_fault v CannotCreate) h h
+  long_helper v DsqInsert a h = long_inserted v (insert_fault v (given_task a 0) (insert_of a) (given_number a 3)) (given_task a 0) (insert_of a) h
+  long_helper v DsqInsertVtime a h = long_inserted v (insert_fault v (given_task a 0) (insert_of_vtime a) (given_number a 4)) (given_task a 0) (insert_of_vtime a) h
+  long_helper v DsqMoveToLocal a h = keeps_if (AreAsLong w) (can_move v (given_number a 0)) (front_moved_to_local v (front_of v.queues (given_number a 0)) (given_number a 0)) (with_fault v NoSuchQueue) (long_moved v (front_of v.queues (given_number a 0)) (given_number a 0) h) h
+  long_helper v CpuIdle a h = keeps_if (AreAsLong w) (nat_lt (given_number a 0) (length v.cpus)) v (with_fault v NoSuchCpu) h h
+  long_helper v DsqNrQueued a h = keeps_if (AreAsLong w) (is_there v (given_number a 0)) v (with_fault v NoSuchQueue) h h
   long_helper v KtimeGetNs a h = h
   long_helper v MapLookupElem a h = h
   long_helper v SelectCpuDfl a h = h
@@ -109,24 +109,24 @@ module _ (w : WorldState) where
   long_put_builtin : (v : WorldState) (t : ℕ) → AreAsLong w v → AreAsLong w (put_builtin v t)
   long_put_builtin v t h = keeps_if (AreAsLong w) (nat_lt t (length v.tasks)) _ v (long_set v t _ refl h) h
 
-  long_evicted : (j : ℕ) (v : WorldState) → AreAsLong w v → AreAsLong w (evicted j v)
+  long_evicted : (j : ℕ) (v : WorldState) → AreAsLong w v → AreAsLong w (after_evictions j v)
   long_evicted zero v h = h
   long_evicted (suc j) v h =
-      let u = evicted j v in
-      keeps_if (AreAsLong w) (waits u j) (put_builtin (gone u j) j) u (long_put_builtin (gone u j) j (long_evicted j v h)) (long_evicted j v h)
+      let u = after_evictions j v in
+      keeps_if (AreAsLong w) (waits u j) (put_builtin (after_leave u j) j) u (long_put_builtin (after_leave u j) j (long_evicted j v h)) (long_evicted j v h)
 
   long_cut_task : (o : Option ℕ) (v : WorldState) → AreAsLong w v → AreAsLong w (cut_task o v)
   long_cut_task None v h = h
   long_cut_task (Some t) v h = long_set v t _ refl h
 
-  long_cut : (j : ℕ) (v : WorldState) → AreAsLong w v → AreAsLong w (cut j v)
+  long_cut : (j : ℕ) (v : WorldState) → AreAsLong w v → AreAsLong w (after_cut j v)
   long_cut zero v h = h
-  long_cut (suc j) v h = long_cut_task (running (cut j v) j) (cut j v) (long_cut j v h)
+  long_cut (suc j) v h = long_cut_task (running (after_cut j v) j) (after_cut j v) (long_cut j v h)
 
   long_eject : (s : State) (x : Eject) → AreAsLong w s.world → AreAsLong w (eject s x).state.world
   unfolding eject moves_over
   long_eject s x h =
-      let v = evicted (length s.world.tasks) (put_out s.world x) in
+      let v = after_evictions (length s.world.tasks) (put_out s.world x) in
       long_cut (length v.cpus) v (long_evicted (length s.world.tasks) (put_out s.world x) h)
 
   long_ejected_for : (o : Option Fault) (s : State) → AreAsLong w s.world → AreAsLong w (ejected_for o s).state.world
@@ -135,8 +135,8 @@ module _ (w : WorldState) where
 
   -- ---- a task that is put
 
-  long_called : (p : Option VerifiedProgram) (b : Callback) (a : Args) (maps : Maps) (v : WorldState) → AreAsLong w v → AreAsLong w (called p b a maps v).outside
-  unfolding called run_of
+  long_called : (p : Option VerifiedProgram) (b : Callback) (a : Args) (maps : Maps) (v : WorldState) → AreAsLong w v → AreAsLong w (call_ending p b a maps v).outside
+  unfolding call_ending run_of
   long_called None b a maps v h = h
   long_called (Some p) b a maps v h =
       run_keeps (answer_to world_functions) (after_query world_functions) (AreAsLong w) long_query b p.code (suc (instruction_count p.code)) 0 (start.start (registers a) maps) v h
@@ -144,16 +144,16 @@ module _ (w : WorldState) where
   long_call_back : (s : State) (b : Callback) (a : Args) (t c : ℕ) → AreAsLong w s.world → AreAsLong w (call_back s b a t c).state.world
   unfolding call_back
   long_call_back s b a t c h =
-      let e = called (acting s b) b a s.maps (begun s.world b t c) in
-      long_ejected_for (fault_of b e) (ended s.policy e) (long_called (acting s b) b a s.maps (begun s.world b t c) h)
+      let e = call_ending (acting s b) b a s.maps (at_callback s.world b t c) in
+      long_ejected_for (fault_of b e) (after_callback s.policy e) (long_called (acting s b) b a s.maps (at_callback s.world b t c) h)
 
   long_comes_in : (s : State) (t c : ℕ) → AreAsLong w s.world → AreAsLong w (comes_in s t c).state.world
   unfolding comes_in enters enters_builtin
   long_comes_in s t c h = go (is_ejected s)
     where
-      go : (b : Bool) → AreAsLong w (if b then enters_builtin s t else enters s t (wanted s.policy.callbacks.enqueue c s.world.call.insert)).state.world
+      go : (b : Bool) → AreAsLong w (if b then enters_builtin s t else enters s t (enqueue_choice s.policy.callbacks.enqueue c s.world.call.insert)).state.world
       go true = long_put_builtin s.world t h
-      go false = long_entered s.world t (wanted s.policy.callbacks.enqueue c s.world.call.insert) h
+      go false = long_entered s.world t (enqueue_choice s.policy.callbacks.enqueue c s.world.call.insert) h
 
   pub long_put : (s : State) (t c flags : ℕ) → AreAsLong w s.world → AreAsLong w (put s t c flags).state.world
   unfolding put

@@ -6,7 +6,7 @@ use Rattle.std.proofs.lemmas.List.Sums.{sum_by-set}
 use Rattle.scx_dsq.specs.declared.entries.Entry.{Entry}
 use Rattle.scx_dsq.specs.declared.entries.Rank.{Rank}
 use Rattle.scx_dsq.specs.Queues.{QueueState, entry_of, is_in, len_of}
-use Rattle.scx_dsq.specs.Calls.{push_refusal, next_entry, with_task, pushed}
+use Rattle.scx_dsq.specs.Calls.{push_refusal, next_entry, with_task, after_push}
 use Rattle.scx_dsq.specs.Laws.{one_if}
 use Rattle.scx_dsq.proofs.Facts.{free_from}
 
@@ -15,7 +15,7 @@ pub len_set : (s : QueueState) (id t : ℕ) (o : Option Entry) → t < length s.
 len_set s id t o l = sum_by-set (λ x. one_if (is_in id x)) s.entries t o None l
 
 -- a push takes nobody out
-pub len_pushed : (s : QueueState) (q id t : ℕ) (r : Rank) → len_of s id ≤ len_of (pushed s q t r) id
+pub len_pushed : (s : QueueState) (q id t : ℕ) (r : Rank) → len_of s id ≤ len_of (after_push s q t r) id
 len_pushed s q id t r = go (push_refusal s q t r) refl
   where
     go : (o : Option _) → push_refusal s q t r ≡ o → len_of s id ≤ len_of (if is_none o then with_task s q t r else s) id

@@ -2,12 +2,12 @@
 use Rattle.std.proofs.Common.{◌≡◌, ℕ, zero, suc, ◌<◌, true, false, ◌||◌, List, Option, Some, None, is_some, option_map, refl, ap, ◌∙◌, arith}
 use Rattle.scx_dsq.specs.declared.entries.Entry.{Entry}
 use Rattle.scx_dsq.specs.Queues.{QueueState, task_count, entry_of, queue_of, len_of, front_of, behind_of}
-use Rattle.scx_world.specs.Ids.{parked}
+use Rattle.scx_world.specs.Ids.{parked_queue}
 use Rattle.scx_world.proofs.Fronts.{AtParked, at_front, at_behind, behind_in}
 use Rattle.scx_tasks.specs.Waits.{time_since}
 use Rattle.scx_world.specs.World.{WorldState, task_at, waits_in, wait, is_throttled}
 use Rattle.scx_world.specs.Tasks.{let_go}
-use Rattle.scx_machine.specs.Steps.{State, Stepped, with_world, joined}
+use Rattle.scx_machine.specs.Steps.{State, Stepped, with_world, one_after_other}
 use Rattle.scx_machine.specs.Parking.{let_go_one, let_go_from, let_all_go}
 use Rattle.scx_machine.proofs.Unchanged.{keeps_if}
 use Rattle.scx_sched.proofs.Waiting.{removed_other}
@@ -18,41 +18,41 @@ use Rattle.scx_sched.proofs.Skeleton.{keeps_put}
 use Rattle.scx_sched.proofs.Cycles.{IsKeptInside}
 
 -- who is parked is a task that there is
-parked_known : (s : QueueState) (t : ℕ) → queue_of s t ≡ Some parked → t < task_count s
+parked_known : (s : QueueState) (t : ℕ) → queue_of s t ≡ Some parked_queue → t < task_count s
 parked_known s t e = waits_known s t (go (entry_of s t) e)
   where
-    go : (o : Option Entry) → option_map (λ p. p.queue) o ≡ Some parked → is_some o ≡ true
+    go : (o : Option Entry) → option_map (λ p. p.queue) o ≡ Some parked_queue → is_some o ≡ true
     go None x = absurd (cc)
     go (Some p) x = refl
 
 -- whoever keeps that one is let go
 abbrev pub LetsGo : (n : ℕ) (I : ℕ → Option ℕ → List (Option ℕ) → WorldState → Type 0) → Type 0
-LetsGo n I = (m : ℕ) (on : List (Option ℕ)) (w : WorldState) (t : ℕ) → t < n → queue_of w.queues t ≡ Some parked → I m None on w → I m (Some t) on (let_go w t)
+LetsGo n I = (m : ℕ) (on : List (Option ℕ)) (w : WorldState) (t : ℕ) → t < n → queue_of w.queues t ≡ Some parked_queue → I m None on w → I m (Some t) on (let_go w t)
 
 module _ (n : ℕ) (I : ℕ → Option ℕ → List (Option ℕ) → WorldState → Type 0) (k : IsKeptInside n I) (lets : LetsGo n I) (m : ℕ) (on : List (Option ℕ)) where
-  known : (s : State) (t : ℕ) → queue_of s.world.queues t ≡ Some parked → I m None on s.world → t < n
+  known : (s : State) (t : ℕ) → queue_of s.world.queues t ≡ Some parked_queue → I m None on s.world → t < n
   known s t here h = omega (arith, parked_known s.world.queues t here, (k.sound m None on s.world h).even)
 
-  at_hand : (s : State) (t : ℕ) → queue_of s.world.queues t ≡ Some parked → I m None on s.world → I m (Some t) on (let_go s.world t)
+  at_hand : (s : State) (t : ℕ) → queue_of s.world.queues t ≡ Some parked_queue → I m None on s.world → I m (Some t) on (let_go s.world t)
   at_hand s t here h = lets m on s.world t (known s t here h) here h
 
-  keeps_let_go_one : (s : State) (t : ℕ) → queue_of s.world.queues t ≡ Some parked → I m None on s.world → I m None on (let_go_one s t).state.world
+  keeps_let_go_one : (s : State) (t : ℕ) → queue_of s.world.queues t ≡ Some parked_queue → I m None on s.world → I m None on (let_go_one s t).state.world
   unfolding let_go_one
   keeps_let_go_one s t here h =
       keeps_put n I k.steps m on (with_world s (let_go s.world t)) t (task_at s.world t).prev_cpu 0 (known s t here h) ((k.sound m None on s.world h).homes t) (at_hand s t here h)
 
   -- the others stay parked
-  one_leaves : (s : State) (t u : ℕ) → queue_of s.world.queues t ≡ Some parked → queue_of s.world.queues u ≡ Some parked → (u ≡ t → ⊥) → I m None on s.world → queue_of (let_go_one s t).state.world.queues u ≡ Some parked
+  one_leaves : (s : State) (t u : ℕ) → queue_of s.world.queues t ≡ Some parked_queue → queue_of s.world.queues u ≡ Some parked_queue → (u ≡ t → ⊥) → I m None on s.world → queue_of (let_go_one s t).state.world.queues u ≡ Some parked_queue
   unfolding let_go_one
   one_leaves s t u here there other h =
       let v = with_world s (let_go s.world t) in
-      let off : queue_of v.world.queues u ≡ Some parked = ap (λ (o : Option Entry). option_map (λ p. p.queue) o) (removed_other s.world.queues t u other) ∙ there in
+      let off : queue_of v.world.queues u ≡ Some parked_queue = ap (λ (o : Option Entry). option_map (λ p. p.queue) o) (removed_other s.world.queues t u other) ∙ there in
       let same = (stay_put n I k.steps k.sound m on v t (task_at s.world t).prev_cpu 0 ((k.sound m None on s.world h).homes t) (at_hand s t here h)).stay u off in
       ap (λ (o : Option Entry). option_map (λ p. p.queue) o) same ∙ off
 
-  at_next : (s : State) (t : ℕ) → queue_of s.world.queues t ≡ Some parked → I m None on s.world → (o : Option ℕ) → behind_of s.world.queues t ≡ o → AtParked (let_go_one s t).state.world.queues o
+  at_next : (s : State) (t : ℕ) → queue_of s.world.queues t ≡ Some parked_queue → I m None on s.world → (o : Option ℕ) → behind_of s.world.queues t ≡ o → AtParked (let_go_one s t).state.world.queues o
   at_next s t here h None e = tt
-  at_next s t here h (Some u) e = let b = behind_in s.world.queues parked t u here e in one_leaves s t u here b.there b.other h
+  at_next s t here h (Some u) e = let b = behind_in s.world.queues parked_queue t u here e in one_leaves s t u here b.there b.other h
 
   keeps_let_go_from : (j : ℕ) (s : State) (at : Option ℕ) → AtParked s.world.queues at → I m None on s.world → I m None on (let_go_from j s at).state.world
   unfolding let_go_from
@@ -61,25 +61,25 @@ module _ (n : ℕ) (I : ℕ → Option ℕ → List (Option ℕ) → WorldState 
   keeps_let_go_from (suc j) s (Some t) here h =
       let next = behind_of s.world.queues t in
       let r = let_go_one s t in
-      keeps_if (λ (x : Stepped). I m None on x.state.world) (is_throttled s.world t) (let_go_from j s next) (joined r (let_go_from j r.state next)) (keeps_let_go_from j s next (at_behind s.world.queues t next here refl) h)
+      keeps_if (λ (x : Stepped). I m None on x.state.world) (is_throttled s.world t) (let_go_from j s next) (one_after_other r (let_go_from j r.state next)) (keeps_let_go_from j s next (at_behind s.world.queues t next here refl) h)
       (keeps_let_go_from j r.state next (at_next s t here h next refl) (keeps_let_go_one s t here h))
 
   -- all who may run again
   pub keeps_let_all_go : (s : State) → I m None on s.world → I m None on (let_all_go s).state.world
   unfolding let_all_go
-  keeps_let_all_go s h = keeps_let_go_from (len_of s.world.queues parked) s (front_of s.world.queues parked) (at_front s.world.queues (front_of s.world.queues parked) refl) h
+  keeps_let_all_go s h = keeps_let_go_from (len_of s.world.queues parked_queue) s (front_of s.world.queues parked_queue) (at_front s.world.queues (front_of s.world.queues parked_queue) refl) h
 
   -- ---- how long each has waited
 
   -- who is parked has no wait
-  parked_waits : (s : State) (t : ℕ) → queue_of s.world.queues t ≡ Some parked → I m None on s.world → wait s.world t ≡ 0
+  parked_waits : (s : State) (t : ℕ) → queue_of s.world.queues t ≡ Some parked_queue → I m None on s.world → wait s.world t ≡ 0
   parked_waits s t here h = go (task_at s.world t).since ((k.sound m None on s.world h).waiting t ∙ ap (λ o. waits_in o || false) here)
     where
       go : (o : Option ℕ) → is_some o ≡ false → time_since s.world.clock o ≡ 0
       go None e = refl
       go (Some x) e = absurd (cc)
 
-  long_let_go_one : (s : State) (t : ℕ) → queue_of s.world.queues t ≡ Some parked → I m None on s.world → AreAsLong s.world (let_go_one s t).state.world
+  long_let_go_one : (s : State) (t : ℕ) → queue_of s.world.queues t ≡ Some parked_queue → I m None on s.world → AreAsLong s.world (let_go_one s t).state.world
   unfolding let_go_one
   long_let_go_one s t here h = long_put s.world (with_world s (let_go s.world t)) t (task_at s.world t).prev_cpu 0 (long_let_go s.world t (parked_waits s t here h))
 
@@ -90,10 +90,10 @@ module _ (n : ℕ) (I : ℕ → Option ℕ → List (Option ℕ) → WorldState 
   long_let_go_from (suc j) s (Some t) here h =
       let next = behind_of s.world.queues t in
       let r = let_go_one s t in
-      keeps_if (λ (x : Stepped). AreAsLong s.world x.state.world) (is_throttled s.world t) (let_go_from j s next) (joined r (let_go_from j r.state next)) (long_let_go_from j s next (at_behind s.world.queues t next here refl) h)
+      keeps_if (λ (x : Stepped). AreAsLong s.world x.state.world) (is_throttled s.world t) (let_go_from j s next) (one_after_other r (let_go_from j r.state next)) (long_let_go_from j s next (at_behind s.world.queues t next here refl) h)
       (long_then s.world r.state.world (let_go_from j r.state next).state.world (long_let_go_one s t here h) (long_let_go_from j r.state next (at_next s t here h next refl) (keeps_let_go_one s t here h)))
 
   -- all who may run again
   pub long_let_all_go : (s : State) → I m None on s.world → AreAsLong s.world (let_all_go s).state.world
   unfolding let_all_go
-  long_let_all_go s h = long_let_go_from (len_of s.world.queues parked) s (front_of s.world.queues parked) (at_front s.world.queues (front_of s.world.queues parked) refl) h
+  long_let_all_go s h = long_let_go_from (len_of s.world.queues parked_queue) s (front_of s.world.queues parked_queue) (at_front s.world.queues (front_of s.world.queues parked_queue) refl) h

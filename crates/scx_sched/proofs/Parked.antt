@@ -8,7 +8,7 @@ use Rattle.scx_dsq.specs.declared.entries.Entry.{Entry}
 use Rattle.scx_dsq.specs.declared.entries.Rank.{Rank}
 use Rattle.scx_dsq.specs.declared.entries.Rank.TheVariants.{Fifo, Vtime}
 use Rattle.scx_dsq.specs.Queues.{QueueState, exists, entry_of, queue_of, front_of, is_in}
-use Rattle.scx_dsq.specs.Calls.{create_refusal, with_queue, created, push_refusal, next_entry, with_task as with_place, pushed, without_task, removed, without, popped}
+use Rattle.scx_dsq.specs.Calls.{create_refusal, with_queue, after_create, push_refusal, next_entry, with_task as with_place, after_push, without_task, after_remove, without, after_pop}
 use Rattle.scx_dsq.proofs.Facts.{free_from}
 use Rattle.scx_semantics.specs.declared.host_tables.Helper.{Helper}
 use Rattle.scx_semantics.specs.declared.host_tables.Helper.TheVariants.{MapLookupElem, KtimeGetNs, CreateDsq, DsqInsert, DsqInsertVtime, DsqMoveToLocal, SelectCpuDfl, CpuIdle, TaskByPid, DsqNrQueued}
@@ -21,11 +21,11 @@ use Rattle.scx_limits.proofs.Throttled.{uses_keep_throttled}
 use Rattle.scx_world.specs.declared.call.Insert.{Insert}
 use Rattle.scx_world.specs.declared.faults.Fault.{Fault}
 use Rattle.scx_world.specs.declared.faults.Fault.TheVariants.{NoSuchQueue, NoSuchCpu, CannotCreate}
-use Rattle.scx_world.specs.Ids.{held, builtin, parked, local_on, policy_end}
+use Rattle.scx_world.specs.Ids.{held_queue, builtin_queue, parked_queue, local_on, policy_end}
 use Rattle.scx_world.specs.World.{WorldState, with_queues, with_tree, waits_in, waits}
-use Rattle.scx_world.specs.Tasks.{gone, entered, for_cpu, brought, put_parked}
-use Rattle.scx_world.specs.Helpers.{is_there, can_create, faulted, is_dispatch, is_held, insert_fault, with_insert, released, inserted, asked, asked_by_vtime, moved, given_number, given_task, helper_after, world_functions}
-use Rattle.scx_world.specs.Ejecting.{raised, put_builtin, evict}
+use Rattle.scx_world.specs.Tasks.{after_leave, after_enter, for_cpu, brought, put_parked}
+use Rattle.scx_world.specs.Helpers.{is_there, can_create, with_fault, is_dispatch, is_held, insert_fault, with_insert, after_release, insert_or_fault, insert_of, insert_of_vtime, front_moved_to_local, given_number, given_task, helper_after, world_functions}
+use Rattle.scx_world.specs.Ejecting.{builtin_vtime, put_builtin, evict}
 use Rattle.scx_machine.proofs.Unchanged.{keeps_if}
 use Rattle.scx_sched.specs.Once.{IsSound, GoesSomewhere}
 use Rattle.scx_sched.specs.Kept.{IsWanted, ForAny, Nowhere, Inserted}
@@ -36,8 +36,8 @@ use Rattle.scx_sched.proofs.Sound.{IsFit, is_fit, fit_apart, held_in_dispatch, s
 
 -- the same tasks are parked, in the same order
 pub record IsAsParked (s s' : QueueState) : Type 0 where
-  pub stay : (u : ℕ) → queue_of s u ≡ Some parked → entry_of s' u ≡ entry_of s u
-  pub none : (u : ℕ) → queue_of s' u ≡ Some parked → entry_of s' u ≡ entry_of s u
+  pub stay : (u : ℕ) → queue_of s u ≡ Some parked_queue → entry_of s' u ≡ entry_of s u
+  pub none : (u : ℕ) → queue_of s' u ≡ Some parked_queue → entry_of s' u ≡ entry_of s u
 
 -- where all have the same entries, the same tasks are parked
 pub as_same : (s s' : QueueState) → ((u : ℕ) → entry_of s' u ≡ entry_of s u) → IsAsParked s s'
@@ -54,15 +54,15 @@ as_then s s' s'' a b = record {
 }
 
 -- the only entry that changes is that of a task which isn't parked before or after
-as_but : (s s' : QueueState) (t : ℕ) → (queue_of s t ≡ Some parked → ⊥) → (queue_of s' t ≡ Some parked → ⊥) → ((u : ℕ) → (u ≡ t → ⊥) → entry_of s' u ≡ entry_of s u) → IsAsParked s s'
+as_but : (s s' : QueueState) (t : ℕ) → (queue_of s t ≡ Some parked_queue → ⊥) → (queue_of s' t ≡ Some parked_queue → ⊥) → ((u : ℕ) → (u ≡ t → ⊥) → entry_of s' u ≡ entry_of s u) → IsAsParked s s'
 as_but s s' t before after others = record { stay = λ u e. stay u e (cases_eq u t); none = λ u e. none u e (cases_eq u t) }
   where
-    stay : (u : ℕ) → queue_of s u ≡ Some parked → (u ≡ t) ⊎ (u ≡ t → ⊥) → entry_of s' u ≡ entry_of s u
-    stay u e (inl x) = absurd (before (subst (λ k. queue_of s k ≡ Some parked) x e))
+    stay : (u : ℕ) → queue_of s u ≡ Some parked_queue → (u ≡ t) ⊎ (u ≡ t → ⊥) → entry_of s' u ≡ entry_of s u
+    stay u e (inl x) = absurd (before (subst (λ k. queue_of s k ≡ Some parked_queue) x e))
     stay u e (inr d) = others u d
 
-    none : (u : ℕ) → queue_of s' u ≡ Some parked → (u ≡ t) ⊎ (u ≡ t → ⊥) → entry_of s' u ≡ entry_of s u
-    none u e (inl x) = absurd (after (subst (λ k. queue_of s' k ≡ Some parked) x e))
+    none : (u : ℕ) → queue_of s' u ≡ Some parked_queue → (u ≡ t) ⊎ (u ≡ t → ⊥) → entry_of s' u ≡ entry_of s u
+    none u e (inl x) = absurd (after (subst (λ k. queue_of s' k ≡ Some parked_queue) x e))
     none u e (inr d) = others u d
 
 same_some : (a b : ℕ) → Some a ≡ Some b → a ≡ b
@@ -73,22 +73,22 @@ both true x y = absurd (cc)
 both false x y = absurd (cc)
 
 -- in another queue, so not parked
-apart_from : (q : ℕ) (o : Option ℕ) → o ≡ Some q → (q == parked) ≡ false → o ≡ Some parked → ⊥
-apart_from q o is apart e = both (q == parked) (eq-eqb q parked (same_some q parked (sym is ∙ e))) apart
+apart_from : (q : ℕ) (o : Option ℕ) → o ≡ Some q → (q == parked_queue) ≡ false → o ≡ Some parked_queue → ⊥
+apart_from q o is apart e = both (q == parked_queue) (eq-eqb q parked_queue (same_some q parked_queue (sym is ∙ e))) apart
 
-none_from : (o : Option Entry) → o ≡ None → home_of o ≡ Some parked → ⊥
-none_from o is e = let bad : None ≡ Some parked = sym (ap home_of is) ∙ e in absurd (cc)
+none_from : (o : Option Entry) → o ≡ None → home_of o ≡ Some parked_queue → ⊥
+none_from o is e = let bad : None ≡ Some parked_queue = sym (ap home_of is) ∙ e in absurd (cc)
 
 -- ---- queues
 
 -- after a push to another queue the same tasks are parked
-pub as_pushed : (s : QueueState) (q t : ℕ) (r : Rank) → (q == parked) ≡ false → IsAsParked s (pushed s q t r)
+pub as_pushed : (s : QueueState) (q t : ℕ) (r : Rank) → (q == parked_queue) ≡ false → IsAsParked s (after_push s q t r)
 as_pushed s q t r apart = go (push_refusal s q t r) refl
   where
     s' : QueueState
     s' = with_place s q t r
 
-    after : (t < length s.entries) ⊎ (length s.entries ≤ t) → push_refusal s q t r ≡ None → queue_of s' t ≡ Some parked → ⊥
+    after : (t < length s.entries) ⊎ (length s.entries ≤ t) → push_refusal s q t r ≡ None → queue_of s' t ≡ Some parked_queue → ⊥
     after (inl l) ok e = apart_from q (queue_of s' t) (ap home_of (get_or-set_same {A = Option Entry} s.entries t (Some (next_entry s q r)) None l)) apart e
     after (inr past) ok e = none_from (entry_of s t) (free_from s q t r ok) (ap (λ (xs : List (Option Entry)). home_of (get_or xs t None)) (sym (set_past s.entries t (Some (next_entry s q r)) past)) ∙ e)
 
@@ -97,30 +97,30 @@ as_pushed s q t r apart = go (push_refusal s q t r) refl
     go (Some f) x = as_same s s (λ u. refl)
 
 -- without the entry of a task that isn't parked the same tasks are parked
-pub as_without : (s : QueueState) (t : ℕ) → (queue_of s t ≡ Some parked → ⊥) → IsAsParked s (without_task s t)
+pub as_without : (s : QueueState) (t : ℕ) → (queue_of s t ≡ Some parked_queue → ⊥) → IsAsParked s (without_task s t)
 as_without s t before = as_but s (without_task s t) t before (after (cases_lt t (length s.entries))) (λ u d. without_other s t u d)
   where
-    after : (t < length s.entries) ⊎ (length s.entries ≤ t) → queue_of (without_task s t) t ≡ Some parked → ⊥
+    after : (t < length s.entries) ⊎ (length s.entries ≤ t) → queue_of (without_task s t) t ≡ Some parked_queue → ⊥
     after (inl l) e = none_from (entry_of (without_task s t) t) (get_or-set_same {A = Option Entry} s.entries t None None l) e
     after (inr past) e = before (ap (λ (xs : List (Option Entry)). home_of (get_or xs t None)) (sym (set_past s.entries t None past)) ∙ e)
 
 -- after a task that isn't parked has left its queue the same tasks are parked
-pub as_removed : (s : QueueState) (t : ℕ) → (queue_of s t ≡ Some parked → ⊥) → IsAsParked s (removed s t)
+pub as_removed : (s : QueueState) (t : ℕ) → (queue_of s t ≡ Some parked_queue → ⊥) → IsAsParked s (after_remove s t)
 as_removed s t before = keeps_if (IsAsParked s) (is_some (entry_of s t)) (without_task s t) s (as_without s t before) (as_same s s (λ u. refl))
 
 -- after the front of another queue has left it the same tasks are parked
-pub as_popped : (s : QueueState) (q : ℕ) → (q == parked) ≡ false → IsAsParked s (popped s q)
+pub as_popped : (s : QueueState) (q : ℕ) → (q == parked_queue) ≡ false → IsAsParked s (after_pop s q)
 as_popped s q apart = go (front_of s q) refl
   where
     go : (o : Option ℕ) → front_of s q ≡ o → IsAsParked s (without s o)
     go None e = as_same s s (λ u. refl)
     go (Some t) e = as_without s t (apart_from q (queue_of s t) (front_in s q t e) apart)
 
-as_created : (s : QueueState) (q : ℕ) → IsAsParked s (created s q)
+as_created : (s : QueueState) (q : ℕ) → IsAsParked s (after_create s q)
 as_created s q = keeps_if (IsAsParked s) (is_none (create_refusal s q)) (with_queue s q) s (as_same s (with_queue s q) (λ u. refl)) (as_same s s (λ u. refl))
 
-local_apart : (c : ℕ) → (local_on c == parked) ≡ false
-local_apart c = ne_eqb (local_on c) parked (λ x. omega (arith, x))
+local_apart : (c : ℕ) → (local_on c == parked_queue) ≡ false
+local_apart c = ne_eqb (local_on c) parked_queue (λ x. omega (arith, x))
 
 -- ---- small steps of a world
 
@@ -132,77 +132,77 @@ StayParked w v = IsAsParked w.queues v.queues
 pub stay_here : (w : WorldState) → StayParked w w
 stay_here w = as_same w.queues w.queues (λ u. refl)
 
-wanted_apart : (on : List (Option ℕ)) (n : ℕ) (w : WorldState) (i : Insert) → IsWanted (length on) w i → GoesSomewhere w.queues (length on) w.call.insert → (i.queue == parked) ≡ false
+wanted_apart : (on : List (Option ℕ)) (n : ℕ) (w : WorldState) (i : Insert) → IsWanted (length on) w i → GoesSomewhere w.queues (length on) w.call.insert → (i.queue == parked_queue) ≡ false
 wanted_apart on n w i (ForAny e) g = rw e refl
 wanted_apart on n w i (Nowhere e) g = rw e refl
 wanted_apart on n w i (Inserted c said l x e) g = rw e (said_apart on n w c said l x g)
 
 -- as a task comes to wait in another queue, the same tasks stay parked
-pub as_entered : (w : WorldState) (t : ℕ) (i : Insert) → (i.queue == parked) ≡ false → StayParked w (entered w t i)
+pub as_entered : (w : WorldState) (t : ℕ) (i : Insert) → (i.queue == parked_queue) ≡ false → StayParked w (after_enter w t i)
 as_entered w t i apart = keeps_if (StayParked w) (nat_lt t (length w.tasks)) _ w (as_pushed w.queues i.queue t i.rank apart) (stay_here w)
 
 -- as the task at hand comes to wait where it may, the same tasks stay parked
-pub as_wanted : (on : List (Option ℕ)) (n : ℕ) (hand : Option ℕ) (w : WorldState) (t : ℕ) (i : Insert) → IsWanted (length on) w i → IsSound hand on n w → StayParked w (entered w t i)
+pub as_wanted : (on : List (Option ℕ)) (n : ℕ) (hand : Option ℕ) (w : WorldState) (t : ℕ) (i : Insert) → IsWanted (length on) w i → IsSound hand on n w → StayParked w (after_enter w t i)
 as_wanted on n hand w t i x h = as_entered w t i (wanted_apart on n w i x h.goes)
 
 -- as a front goes from another queue to a local one, the same tasks stay parked
-pub as_brought : (o : Option ℕ) (w : WorldState) (q c : ℕ) → (q == parked) ≡ false → StayParked w (brought o w q c)
+pub as_brought : (o : Option ℕ) (w : WorldState) (q c : ℕ) → (q == parked_queue) ≡ false → StayParked w (brought o w q c)
 as_brought None w q c apart = stay_here w
 as_brought (Some t) w q c apart =
-    as_then w.queues (popped w.queues q) (pushed (popped w.queues q) (local_on c) t Fifo) (as_popped w.queues q apart) (as_pushed (popped w.queues q) (local_on c) t Fifo (local_apart c))
+    as_then w.queues (after_pop w.queues q) (after_push (after_pop w.queues q) (local_on c) t Fifo) (as_popped w.queues q apart) (as_pushed (after_pop w.queues q) (local_on c) t Fifo (local_apart c))
 
 -- as a task comes to wait for the built-in scheduler, the same tasks stay parked
 pub as_put_builtin : (w : WorldState) (t : ℕ) → StayParked w (put_builtin w t)
-as_put_builtin w t = keeps_if (StayParked w) (nat_lt t (length w.tasks)) _ w (as_pushed w.queues builtin t (Vtime (raised w t)) refl) (stay_here w)
+as_put_builtin w t = keeps_if (StayParked w) (nat_lt t (length w.tasks)) _ w (as_pushed w.queues builtin_queue t (Vtime (builtin_vtime w t)) refl) (stay_here w)
 
 -- as a task goes over, if it waits, the same tasks stay parked
 pub as_evict : (w : WorldState) (t : ℕ) → StayParked w (evict w t)
 as_evict w t = go (waits w t) refl
   where
-    go : (b : Bool) → waits w t ≡ b → StayParked w (cond b (put_builtin (gone w t) t) w)
-    go true e = as_then w.queues (gone w t).queues (put_builtin (gone w t) t).queues (as_removed w.queues t (λ x. both (waits w t) e (ap waits_in x))) (as_put_builtin (gone w t) t)
+    go : (b : Bool) → waits w t ≡ b → StayParked w (cond b (put_builtin (after_leave w t) t) w)
+    go true e = as_then w.queues (after_leave w t).queues (put_builtin (after_leave w t) t).queues (as_removed w.queues t (λ x. both (waits w t) e (ap waits_in x))) (as_put_builtin (after_leave w t) t)
     go false e = stay_here w
 
 -- ---- helpers
 
-held_apart : (w : WorldState) (t : ℕ) → is_held w (Some t) ≡ true → queue_of w.queues t ≡ Some parked → ⊥
+held_apart : (w : WorldState) (t : ℕ) → is_held w (Some t) ≡ true → queue_of w.queues t ≡ Some parked_queue → ⊥
 held_apart w t e x = go (entry_of w.queues t) e x
   where
-    go : (o : Option Entry) → is_in held o ≡ true → home_of o ≡ Some parked → ⊥
+    go : (o : Option Entry) → is_in held_queue o ≡ true → home_of o ≡ Some parked_queue → ⊥
     go None y z = absurd (cc)
-    go (Some p) y z = let bad : held ≡ parked = sym (eqb-true p.queue held y) ∙ same_some p.queue parked z in absurd (omega (arith, bad))
+    go (Some p) y z = let bad : held_queue ≡ parked_queue = sym (eqb-true p.queue held_queue y) ∙ same_some p.queue parked_queue z in absurd (omega (arith, bad))
 
-as_inserted : (w : WorldState) (o : Option Fault) (t : Option ℕ) (i : Insert) → (o ≡ None → IsFit w t i) → StayParked w (inserted w o t i)
+as_inserted : (w : WorldState) (o : Option Fault) (t : Option ℕ) (i : Insert) → (o ≡ None → IsFit w t i) → StayParked w (insert_or_fault w o t i)
 as_inserted w None t i fine = go (is_dispatch w.call.callback) refl t (fine refl)
   where
-    go : (b : Bool) → is_dispatch w.call.callback ≡ b → (u : Option ℕ) → IsFit w u i → StayParked w (cond b (released w u (for_cpu w.call.cpu i)) (with_insert w i))
+    go : (b : Bool) → is_dispatch w.call.callback ≡ b → (u : Option ℕ) → IsFit w u i → StayParked w (cond b (after_release w u (for_cpu w.call.cpu i)) (with_insert w i))
     go true x None fit = stay_here w
     go true x (Some u) fit =
-        as_then w.queues (gone w u).queues (entered (gone w u) u (for_cpu w.call.cpu i)).queues (as_removed w.queues u (held_apart w u (held_in_dispatch w (Some u) x fit.may)))
-        (as_entered (gone w u) u (for_cpu w.call.cpu i) (fit_apart w i.queue w.call.cpu fit.queue))
+        as_then w.queues (after_leave w u).queues (after_enter (after_leave w u) u (for_cpu w.call.cpu i)).queues (as_removed w.queues u (held_apart w u (held_in_dispatch w (Some u) x fit.may)))
+        (as_entered (after_leave w u) u (for_cpu w.call.cpu i) (fit_apart w i.queue w.call.cpu fit.queue))
     go false x u fit = stay_here w
 as_inserted w (Some f) t i fine = stay_here w
 
-as_moved : (w : WorldState) (o : Option ℕ) (q : ℕ) → (q == parked) ≡ false → StayParked w (moved w o q)
+as_moved : (w : WorldState) (o : Option ℕ) (q : ℕ) → (q == parked_queue) ≡ false → StayParked w (front_moved_to_local w o q)
 as_moved w None q apart = stay_here w
 as_moved w (Some t) q apart = as_brought (Some t) w q w.call.cpu apart
 
 as_helper : (w : WorldState) (f : Helper) (a : List Arg) → StayParked w (helper_after w f a)
-as_helper w CreateDsq a = keeps_if (StayParked w) (can_create w (given_number a 0)) (with_queues w (created w.queues (given_number a 0))) (faulted w CannotCreate) (as_created w.queues (given_number a 0)) (stay_here w)
-as_helper w DsqInsert a = as_inserted w (insert_fault w (given_task a 0) (asked a) (given_number a 3)) (given_task a 0) (asked a) (λ e. is_fit w (given_task a 0) (asked a) (given_number a 3) e)
-as_helper w DsqInsertVtime a = as_inserted w (insert_fault w (given_task a 0) (asked_by_vtime a) (given_number a 4)) (given_task a 0) (asked_by_vtime a) (λ e. is_fit w (given_task a 0) (asked_by_vtime a) (given_number a 4) e)
+as_helper w CreateDsq a = keeps_if (StayParked w) (can_create w (given_number a 0)) (with_queues w (after_create w.queues (given_number a 0))) (with_fault w CannotCreate) (as_created w.queues (given_number a 0)) (stay_here w)
+as_helper w DsqInsert a = as_inserted w (insert_fault w (given_task a 0) (insert_of a) (given_number a 3)) (given_task a 0) (insert_of a) (λ e. is_fit w (given_task a 0) (insert_of a) (given_number a 3) e)
+as_helper w DsqInsertVtime a = as_inserted w (insert_fault w (given_task a 0) (insert_of_vtime a) (given_number a 4)) (given_task a 0) (insert_of_vtime a) (λ e. is_fit w (given_task a 0) (insert_of_vtime a) (given_number a 4) e)
 as_helper w DsqMoveToLocal a = go (is_dispatch w.call.callback) (nat_lt q policy_end) (exists w.queues q) refl
   where
     q : ℕ
     q = given_number a 0
 
-    go : (b c d : Bool) → nat_lt q policy_end ≡ c → StayParked w (cond (b && (c && d)) (moved w (front_of w.queues q) q) (faulted w NoSuchQueue))
-    go true true true low = let l : q < policy_end = grind (arith, nat_tests, low) in as_moved w (front_of w.queues q) q (ne_eqb q parked (λ x. omega (arith, x, l)))
+    go : (b c d : Bool) → nat_lt q policy_end ≡ c → StayParked w (cond (b && (c && d)) (front_moved_to_local w (front_of w.queues q) q) (with_fault w NoSuchQueue))
+    go true true true low = let l : q < policy_end = grind (arith, nat_tests, low) in as_moved w (front_of w.queues q) q (ne_eqb q parked_queue (λ x. omega (arith, x, l)))
     go true true false low = stay_here w
     go true false d low = stay_here w
     go false c d low = stay_here w
-as_helper w CpuIdle a = keeps_if (StayParked w) (nat_lt (given_number a 0) (length w.cpus)) w (faulted w NoSuchCpu) (stay_here w) (stay_here w)
-as_helper w DsqNrQueued a = keeps_if (StayParked w) (is_there w (given_number a 0)) w (faulted w NoSuchQueue) (stay_here w) (stay_here w)
+as_helper w CpuIdle a = keeps_if (StayParked w) (nat_lt (given_number a 0) (length w.cpus)) w (with_fault w NoSuchCpu) (stay_here w) (stay_here w)
+as_helper w DsqNrQueued a = keeps_if (StayParked w) (is_there w (given_number a 0)) w (with_fault w NoSuchQueue) (stay_here w) (stay_here w)
 as_helper w KtimeGetNs a = stay_here w
 as_helper w SelectCpuDfl a = stay_here w
 as_helper w TaskByPid a = stay_here w
@@ -224,9 +224,9 @@ throttled_as w v a grows h t e = grows t (h t (ap home_of (sym (a.none t e)) ∙
 pub throttled_parked : (w : WorldState) (t : ℕ) → is_throttled w.tree t ≡ true → AreThrottled w → AreThrottled (put_parked w t)
 throttled_parked w t now h = keeps_if AreThrottled (nat_lt t (length w.tasks)) _ w (λ u e. go u e (cases_eq u t)) h
   where
-    go : (u : ℕ) → queue_of (pushed w.queues parked t Fifo) u ≡ Some parked → (u ≡ t) ⊎ (u ≡ t → ⊥) → is_throttled w.tree u ≡ true
+    go : (u : ℕ) → queue_of (after_push w.queues parked_queue t Fifo) u ≡ Some parked_queue → (u ≡ t) ⊎ (u ≡ t → ⊥) → is_throttled w.tree u ≡ true
     go u e (inl x) = rw x now
-    go u e (inr d) = h u (ap home_of (sym (pushed_other w.queues parked t u Fifo d)) ∙ e)
+    go u e (inr d) = h u (ap home_of (sym (pushed_other w.queues parked_queue t u Fifo d)) ∙ e)
 
 -- as milliseconds go by
 pub throttled_used : (w : WorldState) (t : ℕ) → AreThrottled w → AreThrottled (with_tree w (with_use w.tree t))

@@ -5,12 +5,12 @@ use Rattle.std.proofs.lemmas.List.{length-set}
 use Rattle.scx_dsq.specs.declared.entries.Entry.{Entry}
 use Rattle.scx_dsq.specs.declared.entries.Rank.TheVariants.{Fifo}
 use Rattle.scx_dsq.specs.Queues.{QueueState, task_count, entry_of, queue_of, front_of}
-use Rattle.scx_dsq.specs.Calls.{push_refusal, pushed, popped, removed}
+use Rattle.scx_dsq.specs.Calls.{push_refusal, after_push, after_pop, after_remove}
 use Rattle.scx_dsq.proofs.Facts.{standing_popped, standing_removed, tasks_pushed, tasks_without, tasks_removed}
 use Rattle.scx_weights.specs.Limits.{with_use}
-use Rattle.scx_world.specs.Ids.{parked}
+use Rattle.scx_world.specs.Ids.{parked_queue}
 use Rattle.scx_world.specs.World.{WorldState, with_tree, waits_in}
-use Rattle.scx_world.specs.Tasks.{put_parked, taken, let_go, used_ms, begun_periods}
+use Rattle.scx_world.specs.Tasks.{put_parked, after_take, let_go, used_ms, begun_periods}
 use Rattle.scx_machine.proofs.Unchanged.{keeps_if}
 use Rattle.scx_sched.specs.Once.{IsSound}
 use Rattle.scx_sched.proofs.Entering.{nowhere, own_open, is_accepted, sorted_pushed, sorted_popped, sorted_removed, stamped_pushed, stamped_popped, stamped_removed, stay_pushed, stay_without, stay_removed, queues_stay, goes_on, open_own, open_without, open_removed}
@@ -23,33 +23,33 @@ module _ (on : List (Option ℕ)) (n : ℕ) where
   sound_put_parked w t within h = rw (inside n w t within h.tasks) record {
     cpus = h.cpus;
     tasks = length-set w.tasks t _ ∙ h.tasks;
-    even = tasks_pushed w.queues parked t Fifo ∙ h.even;
+    even = tasks_pushed w.queues parked_queue t Fifo ∙ h.even;
     flags = h.flags;
     homes = homes_set w.tasks t _ (length on) (h.homes t) h.homes;
-    queues = queues_stay w.queues s (length on) (stay_pushed w.queues parked t Fifo) h.queues;
-    sorted = sorted_pushed w.queues parked t Fifo refl h.sorted;
-    stamped = stamped_pushed w.queues parked t Fifo h.stamped;
-    once = once_pushed w t parked Fifo known ok h.once;
+    queues = queues_stay w.queues s (length on) (stay_pushed w.queues parked_queue t Fifo) h.queues;
+    sorted = sorted_pushed w.queues parked_queue t Fifo refl h.sorted;
+    stamped = stamped_pushed w.queues parked_queue t Fifo h.stamped;
+    once = once_pushed w t parked_queue Fifo known ok h.once;
     here = h.here;
-    goes = goes_on w.queues s (length on) w.call.insert (λ x k o. open_own w.queues parked t Fifo x k (omega arith) refl o) h.goes;
-    waiting = set_since w s (Some t) None t _ (rw h.tasks within) (rw here refl) (λ u d. rw (ne_eqb u t d) (ap (λ (o : Option Entry). waits_in (option_map (λ p. p.queue) o) || false) (sym (pushed_other w.queues parked t u Fifo d)))) h.waiting;
+    goes = goes_on w.queues s (length on) w.call.insert (λ x k o. open_own w.queues parked_queue t Fifo x k (omega arith) refl o) h.goes;
+    waiting = set_since w s (Some t) None t _ (rw h.tasks within) (rw here refl) (λ u d. rw (ne_eqb u t d) (ap (λ (o : Option Entry). waits_in (option_map (λ p. p.queue) o) || false) (sym (pushed_other w.queues parked_queue t u Fifo d)))) h.waiting;
     at_once = h.at_once;
   }
     where
       s : QueueState
-      s = pushed w.queues parked t Fifo
+      s = after_push w.queues parked_queue t Fifo
 
       known : t < task_count w.queues
       known = rw h.even within
 
-      ok : push_refusal w.queues parked t Fifo ≡ None
-      ok = is_accepted w.queues t parked Fifo (nowhere w t h.once) (own_open w.queues parked Fifo h.queues.parked (omega arith) refl h.sorted)
+      ok : push_refusal w.queues parked_queue t Fifo ≡ None
+      ok = is_accepted w.queues t parked_queue Fifo (nowhere w t h.once) (own_open w.queues parked_queue Fifo h.queues.parked (omega arith) refl h.sorted)
 
-      here : queue_of s t ≡ Some parked
-      here = pushed_here w.queues parked t Fifo known ok
+      here : queue_of s t ≡ Some parked_queue
+      here = pushed_here w.queues parked_queue t Fifo known ok
 
   -- the front of a queue is at hand
-  pub sound_taken : (w : WorldState) (q t : ℕ) → front_of w.queues q ≡ Some t → (q == parked) ≡ false → IsSound None on n w → IsSound (Some t) on n (taken w q)
+  pub sound_taken : (w : WorldState) (q t : ℕ) → front_of w.queues q ≡ Some t → (q == parked_queue) ≡ false → IsSound None on n w → IsSound (Some t) on n (after_take w q)
   sound_taken w q t e apart h = record {
     cpus = h.cpus;
     tasks = h.tasks;
@@ -62,15 +62,15 @@ module _ (on : List (Option ℕ)) (n : ℕ) where
     once = λ u. omega (arith, h.once u, standing_popped w.queues q t u e);
     here = h.here;
     goes = goes_on w.queues s (length on) w.call.insert (λ x k o. open_without w.queues (front_of w.queues q) x k o) h.goes;
-    waiting = waits_by_sum (Some t) (taken w q) (λ u. omega (arith, waits_sum None w h.once h.waiting u, waiting_left w.queues s t u (front_waits_here w.queues q t e apart) (left_place w.queues q t e) (λ k d. popped_other w.queues q t k e d)));
+    waiting = waits_by_sum (Some t) (after_take w q) (λ u. omega (arith, waits_sum None w h.once h.waiting u, waiting_left w.queues s t u (front_waits_here w.queues q t e apart) (left_place w.queues q t e) (λ k d. popped_other w.queues q t k e d)));
     at_once = h.at_once;
   }
     where
       s : QueueState
-      s = popped w.queues q
+      s = after_pop w.queues q
 
   -- a task that was parked is at hand
-  pub sound_let_go : (w : WorldState) (t : ℕ) → t < n → queue_of w.queues t ≡ Some parked → IsSound None on n w → IsSound (Some t) on n (let_go w t)
+  pub sound_let_go : (w : WorldState) (t : ℕ) → t < n → queue_of w.queues t ≡ Some parked_queue → IsSound None on n w → IsSound (Some t) on n (let_go w t)
   sound_let_go w t within there h = record {
     cpus = h.cpus;
     tasks = length-set w.tasks t _ ∙ h.tasks;
@@ -88,12 +88,12 @@ module _ (on : List (Option ℕ)) (n : ℕ) where
   }
     where
       s : QueueState
-      s = removed w.queues t
+      s = after_remove w.queues t
 
       stands : is_some (entry_of w.queues t) ≡ true
       stands = go (entry_of w.queues t) there
         where
-          go : (o : Option Entry) → option_map (λ p. p.queue) o ≡ Some parked → is_some o ≡ true
+          go : (o : Option Entry) → option_map (λ p. p.queue) o ≡ Some parked_queue → is_some o ≡ true
           go None x = absurd (cc)
           go (Some p) x = refl
 

@@ -10,19 +10,19 @@ use Rattle.scx_semantics.specs.Endings.{run_of}
 use Rattle.scx_semantics.proofs.EndedRuns.{run_keeps}
 use Rattle.scx_semantics.specs.Machine as start
 use Rattle.scx_safety.specs.Programs.{VerifiedProgram}
-use Rattle.scx_vm.specs.Arguments.{given}
+use Rattle.scx_vm.specs.Arguments.{program_arguments}
 use Rattle.scx_vm.specs.declared.arguments.Args.{Args}
 use Rattle.scx_vm.specs.Host.{answer_to, after_query}
 use Rattle.scx_world.specs.declared.eject.Eject.{Eject}
 use Rattle.scx_world.specs.declared.faults.Fault.{Fault}
-use Rattle.scx_world.specs.World.{WorldState, begun, quiet}
-use Rattle.scx_world.specs.Tasks.{stopped}
-use Rattle.scx_world.specs.Ejecting.{charged}
+use Rattle.scx_world.specs.World.{WorldState, at_callback, quiet}
+use Rattle.scx_world.specs.Tasks.{after_stop}
+use Rattle.scx_world.specs.Ejecting.{after_charge}
 use Rattle.scx_world.specs.Helpers.{is_dispatch, world_functions}
 use Rattle.scx_machine.specs.Steps.{State, with_world, stays, is_ejected}
 use Rattle.scx_machine.specs.Ejecting.{eject, ejected_for}
-use Rattle.scx_machine.specs.Callbacks.{called, acting, ended, fault_of, call_back, task_and_number}
-use Rattle.scx_machine.specs.Put.{enters, wanted, enters_builtin, comes_in, put}
+use Rattle.scx_machine.specs.Callbacks.{call_ending, acting, after_callback, fault_of, call_back, task_and_number}
+use Rattle.scx_machine.specs.Put.{enters, enqueue_choice, enters_builtin, comes_in, put}
 use Rattle.scx_machine.specs.Cycle.{stopping, leave}
 use Rattle.scx_sched.specs.Kept.{IsKeptBySteps}
 use Rattle.scx_sched.specs.Once.{IsSound}
@@ -34,11 +34,11 @@ use Rattle.scx_sched.proofs.Going.{goes_over}
 use Rattle.scx_sched.proofs.Skeleton.{IsKnown, is_wanted, keeps_called, keeps_call_back, keeps_stopping}
 
 -- a callback that isn't dispatch moves nobody
-pub calm_called : (p : Option VerifiedProgram) (b : Callback) (a : Args) (maps : Maps) (w : WorldState) (t c : ℕ) → is_dispatch b ≡ false → IsCalm w (called p b a maps (begun w b t c)).outside
-unfolding called run_of
+pub calm_called : (p : Option VerifiedProgram) (b : Callback) (a : Args) (maps : Maps) (w : WorldState) (t c : ℕ) → is_dispatch b ≡ false → IsCalm w (call_ending p b a maps (at_callback w b t c)).outside
+unfolding call_ending run_of
 calm_called None b a maps w t c e = record { entries = refl; pushes = refl; tree = refl; ejected = refl; callback = e }
 calm_called (Some p) b a maps w t c e =
-    run_keeps (answer_to world_functions) (after_query world_functions) (IsCalm w) (calm_query w) b p.code (suc (instruction_count p.code)) 0 (start.start (given a) maps) (begun w b t c) (record { entries = refl; pushes = refl; tree = refl; ejected = refl; callback = e })
+    run_keeps (answer_to world_functions) (after_query world_functions) (IsCalm w) (calm_query w) b p.code (suc (instruction_count p.code)) 0 (start.start (program_arguments a) maps) (at_callback w b t c) (record { entries = refl; pushes = refl; tree = refl; ejected = refl; callback = e })
 
 calm_quiet : (v w : WorldState) → IsCalm v w → IsCalm v (quiet w)
 calm_quiet v w h = record { entries = h.entries; pushes = h.pushes; tree = h.tree; ejected = h.ejected; callback = h.callback }
@@ -58,26 +58,26 @@ module _ (n : ℕ) (I : ℕ → Option ℕ → List (Option ℕ) → WorldState 
   pub ready_call_back : (m : ℕ) (hand : Option ℕ) (on : List (Option ℕ)) (s : State) (b : Callback) (a : Args) (t d : ℕ) → is_dispatch b ≡ false → d < length on → I m hand on s.world → IsReady c s.world → IsReady c (call_back s b a t d).state.world
   unfolding call_back
   ready_call_back m hand on s b a t d calm l h r =
-      let e = called (acting s b) b a s.maps (begun s.world b t d) in
-      ready_ejected_for m hand on (fault_of b e) (ended s.policy e) (k.quiet m hand on e.outside (keeps_called n I k m hand on (acting s b) b a s.maps (begun s.world b t d) (k.begun m hand on s.world b t d l h)))
+      let e = call_ending (acting s b) b a s.maps (at_callback s.world b t d) in
+      ready_ejected_for m hand on (fault_of b e) (after_callback s.policy e) (k.quiet m hand on e.outside (keeps_called n I k m hand on (acting s b) b a s.maps (at_callback s.world b t d) (k.begun m hand on s.world b t d l h)))
       (ready_calm c s.world (quiet e.outside) (calm_quiet s.world e.outside (calm_called (acting s b) b a s.maps s.world t d calm)) r)
 
   ready_stopping : (m : ℕ) (hand : Option ℕ) (on : List (Option ℕ)) (s : State) (d t x : ℕ) → d < length on → I m hand on s.world → IsReady c s.world → IsReady c (stopping s d t x).state.world
   unfolding stopping
   ready_stopping m hand on s d t x l h r = go (is_ejected s)
     where
-      go : (b : Bool) → IsReady c (if b then stays (with_world s (charged s.world t)) else call_back s callback.Stopping (task_and_number t x) t d).state.world
-      go true = ready_same c s.world (charged s.world t) (same_here _ s.world.queues s.world.queues refl) refl refl r
+      go : (b : Bool) → IsReady c (if b then stays (with_world s (after_charge s.world t)) else call_back s callback.Stopping (task_and_number t x) t d).state.world
+      go true = ready_same c s.world (after_charge s.world t) (same_here _ s.world.queues s.world.queues refl) refl refl r
       go false = ready_call_back m hand on s callback.Stopping (task_and_number t x) t d refl l h r
 
   ready_comes_in : (m : ℕ) (on : List (Option ℕ)) (s : State) (t d : ℕ) → d < length on → I m (Some t) on s.world → IsReady c s.world → IsReady c (comes_in s t d).state.world
   unfolding comes_in enters enters_builtin
   ready_comes_in m on s t d l h r = go (is_ejected s) refl
     where
-      go : (b : Bool) → is_ejected s ≡ b → IsReady c (if b then enters_builtin s t else enters s t (wanted s.policy.callbacks.enqueue d s.world.call.insert)).state.world
+      go : (b : Bool) → is_ejected s ≡ b → IsReady c (if b then enters_builtin s t else enters s t (enqueue_choice s.policy.callbacks.enqueue d s.world.call.insert)).state.world
       go true out = ready_put_builtin c s.world t r
       go false force =
-          ready_entered c (Some t) on n s.world t (wanted s.policy.callbacks.enqueue d s.world.call.insert) (is_wanted (length on) s.world s.policy.callbacks.enqueue d s.world.call.insert l refl) (sound m (Some t) on s.world h) (in_force s force) r
+          ready_entered c (Some t) on n s.world t (enqueue_choice s.policy.callbacks.enqueue d s.world.call.insert) (is_wanted (length on) s.world s.policy.callbacks.enqueue d s.world.call.insert l refl) (sound m (Some t) on s.world h) (in_force s force) r
 
   ready_put : (m : ℕ) (on : List (Option ℕ)) (s : State) (t d flags : ℕ) → d < length on → I m (Some t) on s.world → IsReady c s.world → IsReady c (put s t d flags).state.world
   unfolding put
@@ -90,7 +90,7 @@ module _ (n : ℕ) (I : ℕ → Option ℕ → List (Option ℕ) → WorldState 
   unfolding leave
   ready_leave m on s d None l known runs h r = r
   ready_leave m on s d (Some t) l known runs h r =
-      let off = with_world s (stopped s.world d t) in
+      let off = with_world s (after_stop s.world d t) in
       let l' : d < length (set on d None) = rw (length-set on d None) l in
       let away : I m (Some t) (set on d None) off.world = k.stopped m on s.world d t l known runs h in
       let first : IsReady c off.world = ready_same c s.world off.world (same_here _ s.world.queues s.world.queues refl) refl refl r in
@@ -106,14 +106,14 @@ module _ (n : ℕ) (I : ℕ → Option ℕ → List (Option ℕ) → WorldState 
   tree_call_back : (m : ℕ) (hand : Option ℕ) (on : List (Option ℕ)) (s : State) (b : Callback) (a : Args) (t d : ℕ) → is_dispatch b ≡ false → d < length on → I m hand on s.world → (call_back s b a t d).state.world.tree ≡ s.world.tree
   unfolding call_back
   tree_call_back m hand on s b a t d calm l h =
-      let e = called (acting s b) b a s.maps (begun s.world b t d) in
-      tree_ejected_for m hand on (fault_of b e) (ended s.policy e) (k.quiet m hand on e.outside (keeps_called n I k m hand on (acting s b) b a s.maps (begun s.world b t d) (k.begun m hand on s.world b t d l h)))
+      let e = call_ending (acting s b) b a s.maps (at_callback s.world b t d) in
+      tree_ejected_for m hand on (fault_of b e) (after_callback s.policy e) (k.quiet m hand on e.outside (keeps_called n I k m hand on (acting s b) b a s.maps (at_callback s.world b t d) (k.begun m hand on s.world b t d l h)))
       ∙ (calm_called (acting s b) b a s.maps s.world t d calm).tree
 
   pub tree_stopping : (m : ℕ) (hand : Option ℕ) (on : List (Option ℕ)) (s : State) (d t x : ℕ) → d < length on → I m hand on s.world → (stopping s d t x).state.world.tree ≡ s.world.tree
   unfolding stopping
   tree_stopping m hand on s d t x l h = go (is_ejected s)
     where
-      go : (b : Bool) → (if b then stays (with_world s (charged s.world t)) else call_back s callback.Stopping (task_and_number t x) t d).state.world.tree ≡ s.world.tree
+      go : (b : Bool) → (if b then stays (with_world s (after_charge s.world t)) else call_back s callback.Stopping (task_and_number t x) t d).state.world.tree ≡ s.world.tree
       go true = refl
       go false = tree_call_back m hand on s callback.Stopping (task_and_number t x) t d refl l h

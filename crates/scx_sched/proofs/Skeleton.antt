@@ -8,22 +8,22 @@ use Rattle.scx_semantics.specs.Endings.{run_of}
 use Rattle.scx_semantics.proofs.EndedRuns.{run_keeps}
 use Rattle.scx_semantics.specs.Machine as start
 use Rattle.scx_safety.specs.Programs.{VerifiedProgram}
-use Rattle.scx_vm.specs.Arguments.{given}
+use Rattle.scx_vm.specs.Arguments.{program_arguments}
 use Rattle.scx_vm.specs.declared.arguments.Args.{Args}
 use Rattle.scx_vm.specs.Host.{answer_to, after_query}
 use Rattle.scx_world.specs.declared.eject.Eject.{Eject}
 use Rattle.scx_world.specs.declared.faults.Fault.{Fault}
-use Rattle.scx_world.specs.World.{WorldState, running, begun}
+use Rattle.scx_world.specs.World.{WorldState, running, at_callback}
 use Rattle.scx_world.specs.Tasks.{for_cpu}
-use Rattle.scx_world.specs.Ejecting.{put_out, evicted, cut, cut_task, charged, overtaken}
+use Rattle.scx_world.specs.Ejecting.{put_out, after_evictions, after_cut, cut_task, after_charge, after_catch_up}
 use Rattle.scx_world.specs.Helpers.{world_functions}
 use Rattle.scx_machine.specs.Steps.{State, Stepped, stays, with_world, is_ejected}
 use Rattle.scx_machine.specs.Ejecting.{moves_over, eject, ejected_for}
-use Rattle.scx_machine.specs.Callbacks.{called, acting, ended, fault_of, call_back, one_task, task_and_number}
+use Rattle.scx_machine.specs.Callbacks.{call_ending, acting, after_callback, fault_of, call_back, one_task, task_and_number}
 use Rattle.scx_world.specs.declared.call.Insert.{Insert}
-use Rattle.scx_machine.specs.Put.{enters, wanted, enters_builtin, comes_in, put}
+use Rattle.scx_machine.specs.Put.{enters, enqueue_choice, enters_builtin, comes_in, put}
 use Rattle.scx_machine.specs.Cycle.{stopping, running_on}
-use Rattle.scx_machine.specs.Events.{settled}
+use Rattle.scx_machine.specs.Events.{insert_or_put}
 use Rattle.scx_machine.proofs.Unchanged.{keeps_if}
 use Rattle.scx_sched.specs.Kept.{IsKeptBySteps, IsWanted, ForAny, Nowhere, Inserted}
 
@@ -38,7 +38,7 @@ once_for None m = m
 once_for (Some t) m = m + 1
 
 -- enqueue puts a task where it may go
-pub is_wanted : (cpus : ℕ) (w : WorldState) (p : Option VerifiedProgram) (c : ℕ) (o : Option Insert) → c < cpus → w.call.insert ≡ o → IsWanted cpus w (wanted p c o)
+pub is_wanted : (cpus : ℕ) (w : WorldState) (p : Option VerifiedProgram) (c : ℕ) (o : Option Insert) → c < cpus → w.call.insert ≡ o → IsWanted cpus w (enqueue_choice p c o)
 is_wanted cpus w None c o l e = ForAny refl
 is_wanted cpus w (Some p) c None l e = Nowhere refl
 is_wanted cpus w (Some p) c (Some i) l e = Inserted c i l e refl
@@ -47,30 +47,30 @@ module _ (n : ℕ) (I : ℕ → Option ℕ → List (Option ℕ) → WorldState 
   -- with somebody at hand or nobody, and the same on the processors
   module _ (m : ℕ) (hand : Option ℕ) (on : List (Option ℕ)) where
     -- the run of a callback
-    pub keeps_called : (p : Option VerifiedProgram) (b : Callback) (a : Args) (maps : Maps) (w : WorldState) → I m hand on w → I m hand on (called p b a maps w).outside
-    unfolding called run_of
+    pub keeps_called : (p : Option VerifiedProgram) (b : Callback) (a : Args) (maps : Maps) (w : WorldState) → I m hand on w → I m hand on (call_ending p b a maps w).outside
+    unfolding call_ending run_of
     keeps_called None b a maps w h = h
     keeps_called (Some p) b a maps w h =
-        run_keeps (answer_to world_functions) (after_query world_functions) (I m hand on) (λ v q. k.query m hand on v q) b p.code (suc (instruction_count p.code)) 0 (start.start (given a) maps) w h
+        run_keeps (answer_to world_functions) (after_query world_functions) (I m hand on) (λ v q. k.query m hand on v q) b p.code (suc (instruction_count p.code)) 0 (start.start (program_arguments a) maps) w h
 
-    pub keeps_evicted : (j : ℕ) (w : WorldState) → j ≤ n → I m hand on w → I m hand on (evicted j w)
+    pub keeps_evicted : (j : ℕ) (w : WorldState) → j ≤ n → I m hand on w → I m hand on (after_evictions j w)
     keeps_evicted zero w l h = h
-    keeps_evicted (suc j) w l h = k.evict m hand on (evicted j w) j (omega (arith, l)) (keeps_evicted j w (omega (arith, l)) h)
+    keeps_evicted (suc j) w l h = k.evict m hand on (after_evictions j w) j (omega (arith, l)) (keeps_evicted j w (omega (arith, l)) h)
 
     keeps_cut_task : (o : Option ℕ) (w : WorldState) → I m hand on w → I m hand on (cut_task o w)
     keeps_cut_task None w h = h
     keeps_cut_task (Some t) w h = k.cut m hand on w t h
 
-    keeps_cut : (j : ℕ) (w : WorldState) → I m hand on w → I m hand on (cut j w)
+    keeps_cut : (j : ℕ) (w : WorldState) → I m hand on w → I m hand on (after_cut j w)
     keeps_cut zero w h = h
-    keeps_cut (suc j) w h = keeps_cut_task (running (cut j w) j) (cut j w) (keeps_cut j w h)
+    keeps_cut (suc j) w h = keeps_cut_task (running (after_cut j w) j) (after_cut j w) (keeps_cut j w h)
 
     pub keeps_eject : (s : State) (x : Eject) → I m hand on s.world → I m hand on (eject s x).state.world
     unfolding eject moves_over
     keeps_eject s x h =
         let w = put_out s.world x in
         let out : I m hand on w = k.put_out m hand on s.world x h in
-        let v = evicted (length w.tasks) w in
+        let v = after_evictions (length w.tasks) w in
         keeps_cut (length v.cpus) v (keeps_evicted (length w.tasks) w (omega (arith, k.known m hand on w out)) out)
 
     keeps_ejected_for : (o : Option Fault) (s : State) → I m hand on s.world → I m hand on (ejected_for o s).state.world
@@ -81,8 +81,8 @@ module _ (n : ℕ) (I : ℕ → Option ℕ → List (Option ℕ) → WorldState 
     pub keeps_call_back : (s : State) (b : Callback) (a : Args) (t c : ℕ) → c < length on → I m hand on s.world → I m hand on (call_back s b a t c).state.world
     unfolding call_back
     keeps_call_back s b a t c l h =
-        let e = called (acting s b) b a s.maps (begun s.world b t c) in
-        keeps_ejected_for (fault_of b e) (ended s.policy e) (k.quiet m hand on e.outside (keeps_called (acting s b) b a s.maps (begun s.world b t c) (k.begun m hand on s.world b t c l h)))
+        let e = call_ending (acting s b) b a s.maps (at_callback s.world b t c) in
+        keeps_ejected_for (fault_of b e) (after_callback s.policy e) (k.quiet m hand on e.outside (keeps_called (acting s b) b a s.maps (at_callback s.world b t c) (k.begun m hand on s.world b t c l h)))
 
     pub keeps_stopping : (s : State) (c t x : ℕ) → c < length on → I m hand on s.world → I (m + 1) hand on (stopping s c t x).state.world
     unfolding stopping
@@ -91,14 +91,14 @@ module _ (n : ℕ) (I : ℕ → Option ℕ → List (Option ℕ) → WorldState 
         r : Stepped
         r = call_back s callback.Stopping (task_and_number t x) t c
 
-        go : (b : Bool) → is_ejected s ≡ b → I (m + 1) hand on (if b then stays (with_world s (charged s.world t)) else r).state.world
+        go : (b : Bool) → is_ejected s ≡ b → I (m + 1) hand on (if b then stays (with_world s (after_charge s.world t)) else r).state.world
         go true out = k.charged m hand on s.world t out h
         go false force = k.more m hand on r.state.world (keeps_call_back s callback.Stopping (task_and_number t x) t c l h)
 
     pub keeps_running_on : (s : State) (c t : ℕ) → c < length on → I m hand on s.world → I m hand on (running_on s c t).state.world
     unfolding running_on
     keeps_running_on s c t l h =
-        keeps_if (λ (r : Stepped). I m hand on r.state.world) (is_ejected s) (stays (with_world s (overtaken s.world t))) (call_back s callback.Running (one_task t) t c) (k.overtaken m hand on s.world t h) (keeps_call_back s callback.Running (one_task t) t c l h)
+        keeps_if (λ (r : Stepped). I m hand on r.state.world) (is_ejected s) (stays (with_world s (after_catch_up s.world t))) (call_back s callback.Running (one_task t) t c) (k.overtaken m hand on s.world t h) (keeps_call_back s callback.Running (one_task t) t c l h)
 
   module _ (m : ℕ) (on : List (Option ℕ)) where
     keeps_comes_in : (s : State) (t c : ℕ) → t < n → c < length on → I m (Some t) on s.world → I m None on (comes_in s t c).state.world
@@ -106,7 +106,7 @@ module _ (n : ℕ) (I : ℕ → Option ℕ → List (Option ℕ) → WorldState 
     keeps_comes_in s t c within l h =
         let p = s.policy.callbacks.enqueue in
         let o = s.world.call.insert in
-        keeps_if (λ (r : Stepped). I m None on r.state.world) (is_ejected s) (enters_builtin s t) (enters s t (wanted p c o)) (k.put_builtin m on s.world t within h) (k.entered m on s.world t (wanted p c o) within (is_wanted (length on) s.world p c o l refl) h)
+        keeps_if (λ (r : Stepped). I m None on r.state.world) (is_ejected s) (enters_builtin s t) (enters s t (enqueue_choice p c o)) (k.put_builtin m on s.world t within h) (k.entered m on s.world t (enqueue_choice p c o) within (is_wanted (length on) s.world p c o l refl) h)
 
     -- a task that is put
     pub keeps_put : (s : State) (t c flags : ℕ) → t < n → c < length on → I m (Some t) on s.world → I m None on (put s t c flags).state.world
@@ -116,7 +116,7 @@ module _ (n : ℕ) (I : ℕ → Option ℕ → List (Option ℕ) → WorldState 
         keeps_comes_in r.state t c within l (keeps_call_back m (Some t) on s callback.Enqueue (task_and_number t flags) t c l h)
 
     -- an insert of select_cpu
-    pub keeps_settled : (o : Option Insert) (s : State) (t c : ℕ) → s.world.call.insert ≡ o → t < n → c < length on → I m (Some t) on s.world → I m None on (settled o s t c).state.world
+    pub keeps_settled : (o : Option Insert) (s : State) (t c : ℕ) → s.world.call.insert ≡ o → t < n → c < length on → I m (Some t) on s.world → I m None on (insert_or_put o s t c).state.world
     unfolding enters
     keeps_settled None s t c e within l h = keeps_put s t c 1 within l h
     keeps_settled (Some i) s t c e within l h = k.entered m on s.world t (for_cpu c i) within (Inserted c i l e refl) h

@@ -7,7 +7,7 @@ use Rattle.std.specs.List.{list_any, position_or_len}
 use Rattle.std.proofs.lemmas.List.Sums.{sum_by-cons}
 use Rattle.std.proofs.lemmas.List.Sums.{sum_by-set, fails_before_first}
 use Rattle.scx_dsq.specs.Queues.{QueueState, exists, task_count, entry_of, queue_of, is_in, front_of}
-use Rattle.scx_dsq.specs.Calls.{clashes, push_refusal, pushed, popped, removed, with_queue, created, create_refusal}
+use Rattle.scx_dsq.specs.Calls.{clashes, push_refusal, after_push, after_pop, after_remove, with_queue, after_create, create_refusal}
 use Rattle.scx_dsq.specs.Entries.{same_sort}
 use Rattle.scx_dsq.specs.declared.entries.Rank.{Rank}
 use Rattle.scx_dsq.specs.declared.entries.Rank.TheVariants.{Fifo, Vtime}
@@ -32,11 +32,11 @@ use Rattle.scx_world.specs.declared.notes.What.{What}
 use Rattle.scx_world.specs.declared.faults.Fault.{Fault}
 use Rattle.scx_world.specs.declared.faults.Fault.TheVariants.{NoSuchQueue, CannotInsert, NoSuchCpu, UnknownFlag, CannotCreate, BuiltinVtime, Mixed}
 use Rattle.scx_world.specs.declared.eject.Eject.{Eject}
-use Rattle.scx_world.specs.Ids.{global, local, held, builtin, parked, local_on, policy_end}
-use Rattle.scx_world.specs.Ejecting.{put_out, raised, put_builtin, evict, cut_task, overtaken, charged}
-use Rattle.scx_world.specs.World.{WorldState, with_queues, with_tree, with_cycling, with_task, task_at, waits_in, waits, is_this, is_runnable, cpu_of, quiet, begun, noted}
-use Rattle.scx_world.specs.Tasks.{woken, asleep, gone, given_slice, given_vtime, given, entered, resolved, for_cpu, to_held, to_global, brought, fill_front, filled, local_len, stopped, started_at, renewed, kept, ran_a_tick, ticked, later}
-use Rattle.scx_world.specs.Helpers.{is_there, can_create, faulted, is_dispatch, is_held, may_insert_in, may_insert, queue_fault, is_vtime, rank_fault, or_fault, insert_fault, with_insert, with_move, released, inserted, asked, asked_by_vtime, moved, given_number, given_task, helper_after, stored_in, world_functions}
+use Rattle.scx_world.specs.Ids.{global, local, held_queue, builtin_queue, parked_queue, local_on, policy_end}
+use Rattle.scx_world.specs.Ejecting.{put_out, builtin_vtime, put_builtin, evict, cut_task, after_catch_up, after_charge}
+use Rattle.scx_world.specs.World.{WorldState, with_queues, with_tree, with_cycling, with_task, task_at, waits_in, waits, is_this, is_runnable, cpu_of, quiet, at_callback, with_note}
+use Rattle.scx_world.specs.Tasks.{after_wake, after_sleep, after_leave, given_slice, given_vtime, task_after_insert, after_enter, queue_for, for_cpu, to_held, to_global, brought, fill_front, after_fill, local_len, after_stop, started_at, with_new_slice, after_keep, ran_a_tick, after_tick, later}
+use Rattle.scx_world.specs.Helpers.{is_there, can_create, with_fault, is_dispatch, is_held, may_insert_in, may_insert, queue_fault, is_vtime, rank_fault, or_fault, insert_fault, with_insert, with_move, after_release, insert_or_fault, insert_of, insert_of_vtime, front_moved_to_local, given_number, given_task, helper_after, stored_in, world_functions}
 use Rattle.scx_machine.proofs.Unchanged.{keeps_if}
 use Rattle.scx_sched.specs.Once.{runs, appearances, IsOnce, HasQueues, sort_of, IsSorted, IsAlike, IsOpen, IsSound, GoesSomewhere}
 use Rattle.scx_sched.specs.Kept.{IsWanted, ForAny, Nowhere, Inserted}
@@ -94,36 +94,36 @@ module _ (hand : Option ℕ) (on : List (Option ℕ)) (n : ℕ) where
   pub sound_cycling : (w : WorldState) (o : Option ℕ) → IsSound hand on n w → IsSound hand on n (with_cycling w o)
   sound_cycling w o h = record { cpus = h.cpus; tasks = h.tasks; even = h.even; flags = h.flags; homes = h.homes; queues = h.queues; sorted = h.sorted; stamped = h.stamped; once = h.once; here = h.here; goes = h.goes; waiting = h.waiting; at_once = h.at_once }
 
-  entry_created : (s : QueueState) (q u : ℕ) → entry_of (created s q) u ≡ entry_of s u
+  entry_created : (s : QueueState) (q u : ℕ) → entry_of (after_create s q) u ≡ entry_of s u
   entry_created s q u = keeps_if (λ (x : QueueState). entry_of x u ≡ entry_of s u) (is_none (create_refusal s q)) (with_queue s q) s refl refl
 
-  sound_created : (w : WorldState) (q : ℕ) → IsSound hand on n w → IsSound hand on n (with_queues w (created w.queues q))
+  sound_created : (w : WorldState) (q : ℕ) → IsSound hand on n w → IsSound hand on n (with_queues w (after_create w.queues q))
   sound_created w q h =
-      sound_queues w (created w.queues q) (stay_created w.queues q) (keeps_if IsSorted (is_none (create_refusal w.queues q)) (with_queue w.queues q) w.queues h.sorted h.sorted) (stamped_created w.queues q h.stamped) (tasks_created w.queues q) (λ u. others_change_none.queue w.queues q u) (λ u. same_waiting w.queues (created w.queues q) u (entry_created w.queues q u))
-      (goes_on w.queues (created w.queues q) (length on) w.call.insert (λ x r o. open_created w.queues q x r o) h.goes) h
+      sound_queues w (after_create w.queues q) (stay_created w.queues q) (keeps_if IsSorted (is_none (create_refusal w.queues q)) (with_queue w.queues q) w.queues h.sorted h.sorted) (stamped_created w.queues q h.stamped) (tasks_created w.queues q) (λ u. others_change_none.queue w.queues q u) (λ u. same_waiting w.queues (after_create w.queues q) u (entry_created w.queues q u))
+      (goes_on w.queues (after_create w.queues q) (length on) w.call.insert (λ x r o. open_created w.queues q x r o) h.goes) h
 
 -- from one queue to another
-pub left_place : (s : QueueState) (q t : ℕ) → front_of s q ≡ Some t → entry_of (popped s q) t ≡ None
+pub left_place : (s : QueueState) (q t : ℕ) → front_of s q ≡ Some t → entry_of (after_pop s q) t ≡ None
 left_place s q t e = rw e (get_or-set_same {A = Option Entry} s.entries t None None (front_is_known s q (Some t) (sym e)))
 
 -- once the front has left its queue, the entry of every other task is as before
-pub popped_other : (s : QueueState) (q t u : ℕ) → front_of s q ≡ Some t → (u ≡ t → ⊥) → entry_of (popped s q) u ≡ entry_of s u
+pub popped_other : (s : QueueState) (q t u : ℕ) → front_of s q ≡ Some t → (u ≡ t → ⊥) → entry_of (after_pop s q) u ≡ entry_of s u
 popped_other s q t u e other = rw e (without_other s t u other)
 
-sound_brought : (hand : Option ℕ) (on : List (Option ℕ)) (n : ℕ) (w : WorldState) (o : Option ℕ) (q r : ℕ) → front_of w.queues q ≡ o → exists w.queues r ≡ true → policy_end ≤ r → same_sort Fifo (sort_of r) ≡ true → (q == parked) ≡ false → (r == parked) ≡ false
-    → IsSound hand on n w → (t : ℕ) → o ≡ Some t → IsSound hand on n (with_queues w (pushed (popped w.queues q) r t Fifo))
+sound_brought : (hand : Option ℕ) (on : List (Option ℕ)) (n : ℕ) (w : WorldState) (o : Option ℕ) (q r : ℕ) → front_of w.queues q ≡ o → exists w.queues r ≡ true → policy_end ≤ r → same_sort Fifo (sort_of r) ≡ true → (q == parked_queue) ≡ false → (r == parked_queue) ≡ false
+    → IsSound hand on n w → (t : ℕ) → o ≡ Some t → IsSound hand on n (with_queues w (after_push (after_pop w.queues q) r t Fifo))
 sound_brought hand on n w o q r front there own fits apart apart-there h t e =
     let s = w.queues in
     let is : front_of s q ≡ Some t = front ∙ e in
     let known : t < task_count s = front_is_known s q (Some t) (sym is) in
-    let ready : IsOpen (popped s q) r Fifo = own_open (popped s q) r Fifo (stay_without s (front_of s q) r there) own fits (sorted_popped s q h.sorted) in
-    let ok : push_refusal (popped s q) r t Fifo ≡ None = is_accepted (popped s q) t r Fifo (left_place s q t is) ready in
-    let known' : t < task_count (popped s q) = rw (tasks_without s (front_of s q)) known in
-    sound_queues hand on n w (pushed (popped s q) r t Fifo) (λ x g. stay_pushed (popped s q) r t Fifo x (stay_without s (front_of s q) x g))
-    (sorted_pushed (popped s q) r t Fifo ready.fits (sorted_popped s q h.sorted)) (stamped_pushed (popped s q) r t Fifo (stamped_popped s q h.stamped)) (tasks_pushed (popped s q) r t Fifo ∙ tasks_without s (front_of s q))
-    (λ u. omega (arith, standing_pushed (popped s q) r t u Fifo known' ok, standing_popped s q t u is))
-    (λ u. omega (arith, waiting_pushed (popped s q) r t u Fifo known' ok (left_place s q t is) apart-there, waiting_left s (popped s q) t u (front_waits_here s q t is apart) (left_place s q t is) (λ k d. popped_other s q t k is d)))
-    (goes_on s (pushed (popped s q) r t Fifo) (length on) w.call.insert (λ x k o. open_own (popped s q) r t Fifo x k own fits (open_without s (front_of s q) x k o)) h.goes) h
+    let ready : IsOpen (after_pop s q) r Fifo = own_open (after_pop s q) r Fifo (stay_without s (front_of s q) r there) own fits (sorted_popped s q h.sorted) in
+    let ok : push_refusal (after_pop s q) r t Fifo ≡ None = is_accepted (after_pop s q) t r Fifo (left_place s q t is) ready in
+    let known' : t < task_count (after_pop s q) = rw (tasks_without s (front_of s q)) known in
+    sound_queues hand on n w (after_push (after_pop s q) r t Fifo) (λ x g. stay_pushed (after_pop s q) r t Fifo x (stay_without s (front_of s q) x g))
+    (sorted_pushed (after_pop s q) r t Fifo ready.fits (sorted_popped s q h.sorted)) (stamped_pushed (after_pop s q) r t Fifo (stamped_popped s q h.stamped)) (tasks_pushed (after_pop s q) r t Fifo ∙ tasks_without s (front_of s q))
+    (λ u. omega (arith, standing_pushed (after_pop s q) r t u Fifo known' ok, standing_popped s q t u is))
+    (λ u. omega (arith, waiting_pushed (after_pop s q) r t u Fifo known' ok (left_place s q t is) apart-there, waiting_left s (after_pop s q) t u (front_waits_here s q t is apart) (left_place s q t is) (λ k d. popped_other s q t k is d)))
+    (goes_on s (after_push (after_pop s q) r t Fifo) (length on) w.call.insert (λ x k o. open_own (after_pop s q) r t Fifo x k own fits (open_without s (front_of s q) x k o)) h.goes) h
 
 -- ---- helpers
 
@@ -142,18 +142,18 @@ fault_of w q a b g l m k =
     else (if nat_lt q (local_on 0x1_0000_0000) then Some NoSuchCpu else Some NoSuchQueue)))))
 
 -- what a callback may name takes a task so
-open_at : (w : WorldState) (q c : ℕ) (r : Rank) → HasQueues w.queues (length w.cpus) → IsSorted w.queues → c < length w.cpus → queue_fault w q ≡ None → (policy_end ≤ q → r ≡ Fifo) → IsAlike w.queues q r → IsOpen w.queues (resolved c q) r
+open_at : (w : WorldState) (q c : ℕ) (r : Rank) → HasQueues w.queues (length w.cpus) → IsSorted w.queues → c < length w.cpus → queue_fault w q ≡ None → (policy_end ≤ q → r ≡ Fifo) → IsAlike w.queues q r → IsOpen w.queues (queue_for c q) r
 open_at w q c r h sorted here e fifo alike = go (nat_lt q policy_end) (exists w.queues q) (q == global) (q == local) (nat_lt q (local_on 0)) (nat_lt q (local_on (length w.cpus))) refl refl refl refl refl refl e
   where
     go : (a b g l m k : Bool) → nat_lt q policy_end ≡ a → exists w.queues q ≡ b → (q == global) ≡ g → (q == local) ≡ l → nat_lt q (local_on 0) ≡ m → nat_lt q (local_on (length w.cpus)) ≡ k
-        → fault_of w q a b g l m k ≡ None → IsOpen w.queues (resolved c q) r
+        → fault_of w q a b g l m k ≡ None → IsOpen w.queues (queue_for c q) r
     go true true g l m k ea eb eg el em ek e =
         let low : q < policy_end = grind (arith, nat_tests, ea) in
         rw (ne_eqb q local (λ x. omega (arith, x, low))) record { there = eb; fits = low_fits q r ea; alike = alike }
     go true false g l m k ea eb eg el em ek e = absurd (cc)
     go false b true l m k ea eb eg el em ek e =
         let is : global ≡ q = grind (arith, nat_tests, eg) in
-        rw (fifo (omega (arith, is))) (subst (λ x. IsOpen w.queues (resolved c x) Fifo) is (own_open w.queues global Fifo h.global (omega arith) refl sorted))
+        rw (fifo (omega (arith, is))) (subst (λ x. IsOpen w.queues (queue_for c x) Fifo) is (own_open w.queues global Fifo h.global (omega arith) refl sorted))
     go false b false true m k ea eb eg el em ek e =
         let is : local ≡ q = grind (arith, nat_tests, el) in
         rw (fifo (omega (arith, is)), el) (own_open w.queues (local_on c) Fifo (h.locals c here) (omega arith) (local_sort c) sorted)
@@ -164,7 +164,7 @@ open_at w q c r h sorted here e fifo alike = go (nat_lt q policy_end) (exists w.
         rw (fifo (omega (arith, low)), el) (local_is_open w.queues (length w.cpus) q h sorted low high)
     go false b false false false false ea eb eg el em ek e = more (nat_lt q (local_on 0x1_0000_0000)) e
       where
-        more : (x : Bool) → (if x then Some NoSuchCpu else Some NoSuchQueue) ≡ None → IsOpen w.queues (resolved c q) r
+        more : (x : Bool) → (if x then Some NoSuchCpu else Some NoSuchQueue) ≡ None → IsOpen w.queues (queue_for c q) r
         more true e = absurd (cc)
         more false e = absurd (cc)
 
@@ -198,7 +198,7 @@ rank_alike w q r e = go (is_vtime r && nat_le policy_end q) (list_any (clashes q
     go false false x y e = (λ past. fifo r (nat_le policy_end q) (grind (arith, nat_tests, past)) x, alike_from w.queues q r y)
 
 -- and its queue is open
-pub fit_open : (on : List (Option ℕ)) (hand : Option ℕ) (n : ℕ) (w : WorldState) (t : Option ℕ) (i : Insert) (c : ℕ) → c < length on → IsFit w t i → IsSound hand on n w → IsOpen w.queues (resolved c i.queue) i.rank
+pub fit_open : (on : List (Option ℕ)) (hand : Option ℕ) (n : ℕ) (w : WorldState) (t : Option ℕ) (i : Insert) (c : ℕ) → c < length on → IsFit w t i → IsSound hand on n w → IsOpen w.queues (queue_for c i.queue) i.rank
 fit_open on hand n w t i c l fit h =
     let all : HasQueues w.queues (length w.cpus) = rw h.cpus h.queues in
     let here : c < length w.cpus = rw h.cpus l in
@@ -206,26 +206,26 @@ fit_open on hand n w t i c l fit h =
     open_at w i.queue c i.rank all h.sorted here fit.queue x.0 x.1
 
 -- no callback may name the queue of parked tasks
-pub fit_apart : (w : WorldState) (q c : ℕ) → queue_fault w q ≡ None → (resolved c q == parked) ≡ false
-fit_apart w q c e = go (cases_eq q parked)
+pub fit_apart : (w : WorldState) (q c : ℕ) → queue_fault w q ≡ None → (queue_for c q == parked_queue) ≡ false
+fit_apart w q c e = go (cases_eq q parked_queue)
   where
-    go : (q ≡ parked) ⊎ (q ≡ parked → ⊥) → (resolved c q == parked) ≡ false
+    go : (q ≡ parked_queue) ⊎ (q ≡ parked_queue → ⊥) → (queue_for c q == parked_queue) ≡ false
     go (inl is) = let bad : Some NoSuchQueue ≡ None = subst (λ x. queue_fault w x ≡ None) is e in absurd (cc)
-    go (inr d) = keeps_if (λ x. (x == parked) ≡ false) (q == local) (local_on c) q (ne_eqb (local_on c) parked (λ x. omega (arith, x))) (ne_eqb q parked d)
+    go (inr d) = keeps_if (λ x. (x == parked_queue) ≡ false) (q == local) (local_on c) q (ne_eqb (local_on c) parked_queue (λ x. omega (arith, x))) (ne_eqb q parked_queue d)
 
 -- who is held waits, and is a task that there is
 pub record IsHeld (w : WorldState) (t : ℕ) : Type 0 where
   pub waits : waits_in (queue_of w.queues t) ≡ true
   pub known : t < task_count w.queues
-  pub free : entry_of (removed w.queues t) t ≡ None
+  pub free : entry_of (after_remove w.queues t) t ≡ None
 
 -- a task that is held waits
 pub held_waits : (w : WorldState) (t : ℕ) → is_held w (Some t) ≡ true → IsHeld w t
 held_waits w t e = go (cases_lt t (length w.queues.entries)) (entry_of w.queues t) refl e
   where
-    go : (t < length w.queues.entries) ⊎ (length w.queues.entries ≤ t) → (o : Option Entry) → entry_of w.queues t ≡ o → is_in held o ≡ true → IsHeld w t
+    go : (t < length w.queues.entries) ⊎ (length w.queues.entries ≤ t) → (o : Option Entry) → entry_of w.queues t ≡ o → is_in held_queue o ≡ true → IsHeld w t
     go l None x y = absurd (cc)
-    go (inl l) (Some p) x y = record { waits = rw (x, eqb-true p.queue held y) refl; known = l; free = rw x (get_or-set_same {A = Option Entry} w.queues.entries t None None l) }
+    go (inl l) (Some p) x y = record { waits = rw (x, eqb-true p.queue held_queue y) refl; known = l; free = rw x (get_or-set_same {A = Option Entry} w.queues.entries t None None l) }
     go (inr past) (Some p) x y = let none : entry_of w.queues t ≡ None = get_or_past {X = Option Entry} w.queues.entries t None past in absurd (cc (sym x ∙ none))
 
 -- and in dispatch only such a one may be inserted
@@ -242,7 +242,7 @@ held_in_dispatch w t = go w.call.callback
     go callback.Running x y = absurd (cc)
     go callback.Stopping x y = absurd (cc)
 
-given_home : (x : Task) (i : Insert) → (given x i).prev_cpu ≡ x.prev_cpu
+given_home : (x : Task) (i : Insert) → (task_after_insert x i).prev_cpu ≡ x.prev_cpu
 given_home x i = vtime i.rank ∙ keeps_if (λ (y : Task). y.prev_cpu ≡ x.prev_cpu) (i.slice == 0) x _ refl refl
   where
     vtime : (r : Rank) → (given_vtime (given_slice x i.slice) r).prev_cpu ≡ (given_slice x i.slice).prev_cpu
@@ -254,19 +254,19 @@ pub inside : (n : ℕ) (w : WorldState) (t : ℕ) → t < n → length w.tasks �
 inside n w t within e = let l : t < length w.tasks = rw e within in grind (arith, nat_tests, l)
 
 module _ (hand : Option ℕ) (on : List (Option ℕ)) (n : ℕ) where
-  sound_faulted : (w : WorldState) (f : Fault) → IsSound hand on n w → IsSound hand on n (faulted w f)
+  sound_faulted : (w : WorldState) (f : Fault) → IsSound hand on n w → IsSound hand on n (with_fault w f)
   sound_faulted w f h = record { cpus = h.cpus; tasks = h.tasks; even = h.even; flags = h.flags; homes = h.homes; queues = h.queues; sorted = h.sorted; stamped = h.stamped; once = h.once; here = h.here; goes = h.goes; waiting = h.waiting; at_once = h.at_once }
 
   -- a task goes from one queue to another
-  sound_replaced : (w : WorldState) (t q : ℕ) (r : Rank) (x : Task) → x.prev_cpu ≡ (task_at w t).prev_cpu → x.since ≡ (task_at w t).since → waits_in (queue_of w.queues t) ≡ true → t < task_count w.queues → entry_of (removed w.queues t) t ≡ None → IsOpen w.queues q r → (q == parked) ≡ false
-      → GoesSomewhere (pushed (removed w.queues t) q t r) (length on) w.call.insert → IsSound hand on n w → IsSound hand on n (with_queues (with_task w t x) (pushed (removed w.queues t) q t r))
+  sound_replaced : (w : WorldState) (t q : ℕ) (r : Rank) (x : Task) → x.prev_cpu ≡ (task_at w t).prev_cpu → x.since ≡ (task_at w t).since → waits_in (queue_of w.queues t) ≡ true → t < task_count w.queues → entry_of (after_remove w.queues t) t ≡ None → IsOpen w.queues q r → (q == parked_queue) ≡ false
+      → GoesSomewhere (after_push (after_remove w.queues t) q t r) (length on) w.call.insert → IsSound hand on n w → IsSound hand on n (with_queues (with_task w t x) (after_push (after_remove w.queues t) q t r))
   sound_replaced w t q r x home since waits-here known free ready apart goes h = sound_task hand on n (with_queues w s') t x home since moved-now
     where
       s : QueueState
-      s = removed w.queues t
+      s = after_remove w.queues t
 
       s' : QueueState
-      s' = pushed s q t r
+      s' = after_push s q t r
 
       ready' : IsOpen s q r
       ready' = open_removed w.queues t q r ready
@@ -284,48 +284,48 @@ module _ (hand : Option ℕ) (on : List (Option ℕ)) (n : ℕ) where
           (λ u. omega (arith, waiting_pushed s q t u r known' ok free apart, waiting_left w.queues s t u (ap one_if waits-here) free (λ k d. removed_other w.queues t k d))) goes h
 
   -- a held task
-  sound_released : (w : WorldState) (t : ℕ) (q : ℕ) (i : Insert) → w.call.insert ≡ None → IsHeld w t → IsOpen w.queues q i.rank → (q == parked) ≡ false → IsSound hand on n w → IsSound hand on n (entered (gone w t) t (record { queue = q; slice = i.slice; rank = i.rank }))
+  sound_released : (w : WorldState) (t : ℕ) (q : ℕ) (i : Insert) → w.call.insert ≡ None → IsHeld w t → IsOpen w.queues q i.rank → (q == parked_queue) ≡ false → IsSound hand on n w → IsSound hand on n (after_enter (after_leave w t) t (record { queue = q; slice = i.slice; rank = i.rank }))
   sound_released w t q i none held-here ready apart h =
       let k : Insert = record { queue = q; slice = i.slice; rank = i.rank } in
       rw (inside n w t (subst (λ k. t < k) h.even held-here.known) h.tasks)
-      (sound_replaced w t q i.rank (given (task_at w t) k) (given_home (task_at w t) k) (given_since (task_at w t) k) held-here.waits held-here.known held-here.free ready apart (subst (λ o. GoesSomewhere (pushed (removed w.queues t) q t i.rank) (length on) o) (sym none) tt) h)
+      (sound_replaced w t q i.rank (task_after_insert (task_at w t) k) (given_home (task_at w t) k) (given_since (task_at w t) k) held-here.waits held-here.known held-here.free ready apart (subst (λ o. GoesSomewhere (after_push (after_remove w.queues t) q t i.rank) (length on) o) (sym none) tt) h)
 
   -- what isn't of queues or tasks
-  sound_moving : (w : WorldState) (x : What) → IsSound hand on n w → IsSound hand on n (noted (with_move w) x)
+  sound_moving : (w : WorldState) (x : What) → IsSound hand on n w → IsSound hand on n (with_note (with_move w) x)
   sound_moving w x h = record { cpus = h.cpus; tasks = h.tasks; even = h.even; flags = h.flags; homes = h.homes; queues = h.queues; sorted = h.sorted; stamped = h.stamped; once = h.once; here = h.here; goes = h.goes; waiting = h.waiting; at_once = h.at_once }
 
-  sound_inserted : (w : WorldState) (o : Option Fault) (t : Option ℕ) (i : Insert) → (o ≡ None → IsFit w t i) → IsSound hand on n w → IsSound hand on n (inserted w o t i)
+  sound_inserted : (w : WorldState) (o : Option Fault) (t : Option ℕ) (i : Insert) → (o ≡ None → IsFit w t i) → IsSound hand on n w → IsSound hand on n (insert_or_fault w o t i)
   sound_inserted w None t i fine h = go (is_dispatch w.call.callback) refl t (fine refl)
     where
-      go : (b : Bool) → is_dispatch w.call.callback ≡ b → (u : Option ℕ) → IsFit w u i → IsSound hand on n (if b then released w u (for_cpu w.call.cpu i) else with_insert w i)
+      go : (b : Bool) → is_dispatch w.call.callback ≡ b → (u : Option ℕ) → IsFit w u i → IsSound hand on n (if b then after_release w u (for_cpu w.call.cpu i) else with_insert w i)
       go true x None fit = h
       go true x (Some u) fit =
-          sound_moving (entered (gone w u) u (for_cpu w.call.cpu i)) _
-          (sound_released w u (resolved w.call.cpu i.queue) i (h.at_once x) (held_waits w u (held_in_dispatch w (Some u) x fit.may)) (fit_open on hand n w (Some u) i w.call.cpu h.here fit h) (fit_apart w i.queue w.call.cpu fit.queue) h)
+          sound_moving (after_enter (after_leave w u) u (for_cpu w.call.cpu i)) _
+          (sound_released w u (queue_for w.call.cpu i.queue) i (h.at_once x) (held_waits w u (held_in_dispatch w (Some u) x fit.may)) (fit_open on hand n w (Some u) i w.call.cpu h.here fit h) (fit_apart w i.queue w.call.cpu fit.queue) h)
       go false x u fit = record { cpus = h.cpus; tasks = h.tasks; even = h.even; flags = h.flags; homes = h.homes; queues = h.queues; sorted = h.sorted; stamped = h.stamped; once = h.once; here = h.here; goes = λ c l. (fit_open on hand n w u i c l fit h, fit_apart w i.queue c fit.queue); waiting = h.waiting; at_once = λ y. absurd (cc (sym x ∙ y)) }
   sound_inserted w (Some f) t i fine h = sound_faulted w f h
 
-  sound_moved : (w : WorldState) (o : Option ℕ) (q : ℕ) → front_of w.queues q ≡ o → (q == parked) ≡ false → IsSound hand on n w → IsSound hand on n (moved w o q)
+  sound_moved : (w : WorldState) (o : Option ℕ) (q : ℕ) → front_of w.queues q ≡ o → (q == parked_queue) ≡ false → IsSound hand on n w → IsSound hand on n (front_moved_to_local w o q)
   sound_moved w None q e apart h = h
   sound_moved w (Some t) q e apart h =
-      sound_moving (with_queues w (pushed (popped w.queues q) (local_on w.call.cpu) t Fifo)) _ (sound_brought hand on n w (Some t) q (local_on w.call.cpu) e (h.queues.locals w.call.cpu h.here) (omega arith) (local_sort w.call.cpu) apart (ne_eqb (local_on w.call.cpu) parked (λ x. omega (arith, x))) h t refl)
+      sound_moving (with_queues w (after_push (after_pop w.queues q) (local_on w.call.cpu) t Fifo)) _ (sound_brought hand on n w (Some t) q (local_on w.call.cpu) e (h.queues.locals w.call.cpu h.here) (omega arith) (local_sort w.call.cpu) apart (ne_eqb (local_on w.call.cpu) parked_queue (λ x. omega (arith, x))) h t refl)
 
   sound_helper : (w : WorldState) (f : Helper) (a : List Arg) → IsSound hand on n w → IsSound hand on n (helper_after w f a)
-  sound_helper w CreateDsq a h = keeps_if (IsSound hand on n) (can_create w (given_number a 0)) (with_queues w (created w.queues (given_number a 0))) (faulted w CannotCreate) (sound_created hand on n w (given_number a 0) h) (sound_faulted w CannotCreate h)
-  sound_helper w DsqInsert a h = sound_inserted w (insert_fault w (given_task a 0) (asked a) (given_number a 3)) (given_task a 0) (asked a) (λ e. is_fit w (given_task a 0) (asked a) (given_number a 3) e) h
-  sound_helper w DsqInsertVtime a h = sound_inserted w (insert_fault w (given_task a 0) (asked_by_vtime a) (given_number a 4)) (given_task a 0) (asked_by_vtime a) (λ e. is_fit w (given_task a 0) (asked_by_vtime a) (given_number a 4) e) h
+  sound_helper w CreateDsq a h = keeps_if (IsSound hand on n) (can_create w (given_number a 0)) (with_queues w (after_create w.queues (given_number a 0))) (with_fault w CannotCreate) (sound_created hand on n w (given_number a 0) h) (sound_faulted w CannotCreate h)
+  sound_helper w DsqInsert a h = sound_inserted w (insert_fault w (given_task a 0) (insert_of a) (given_number a 3)) (given_task a 0) (insert_of a) (λ e. is_fit w (given_task a 0) (insert_of a) (given_number a 3) e) h
+  sound_helper w DsqInsertVtime a h = sound_inserted w (insert_fault w (given_task a 0) (insert_of_vtime a) (given_number a 4)) (given_task a 0) (insert_of_vtime a) (λ e. is_fit w (given_task a 0) (insert_of_vtime a) (given_number a 4) e) h
   sound_helper w DsqMoveToLocal a h = go (is_dispatch w.call.callback) (nat_lt q policy_end) (exists w.queues q) refl
     where
       q : ℕ
       q = given_number a 0
 
-      go : (b c d : Bool) → nat_lt q policy_end ≡ c → IsSound hand on n (if b && (c && d) then moved w (front_of w.queues q) q else faulted w NoSuchQueue)
-      go true true true low = let l : q < policy_end = grind (arith, nat_tests, low) in sound_moved w (front_of w.queues q) q refl (ne_eqb q parked (λ x. omega (arith, x, l))) h
+      go : (b c d : Bool) → nat_lt q policy_end ≡ c → IsSound hand on n (if b && (c && d) then front_moved_to_local w (front_of w.queues q) q else with_fault w NoSuchQueue)
+      go true true true low = let l : q < policy_end = grind (arith, nat_tests, low) in sound_moved w (front_of w.queues q) q refl (ne_eqb q parked_queue (λ x. omega (arith, x, l))) h
       go true true false low = sound_faulted w NoSuchQueue h
       go true false d low = sound_faulted w NoSuchQueue h
       go false c d low = sound_faulted w NoSuchQueue h
-  sound_helper w CpuIdle a h = keeps_if (IsSound hand on n) (nat_lt (given_number a 0) (length w.cpus)) w (faulted w NoSuchCpu) h (sound_faulted w NoSuchCpu h)
-  sound_helper w DsqNrQueued a h = keeps_if (IsSound hand on n) (is_there w (given_number a 0)) w (faulted w NoSuchQueue) h (sound_faulted w NoSuchQueue h)
+  sound_helper w CpuIdle a h = keeps_if (IsSound hand on n) (nat_lt (given_number a 0) (length w.cpus)) w (with_fault w NoSuchCpu) h (sound_faulted w NoSuchCpu h)
+  sound_helper w DsqNrQueued a h = keeps_if (IsSound hand on n) (is_there w (given_number a 0)) w (with_fault w NoSuchQueue) h (sound_faulted w NoSuchQueue h)
   sound_helper w KtimeGetNs a h = h
   sound_helper w SelectCpuDfl a h = h
   sound_helper w TaskByPid a h = h
@@ -338,22 +338,22 @@ module _ (hand : Option ℕ) (on : List (Option ℕ)) (n : ℕ) where
   sound_query w (Store t f k) h = sound_task hand on n w t.0 (stored_in (task_at w t.0) f k) (stored_home (task_at w t.0) f k) (stored_since (task_at w t.0) f k) h
 
   -- a callback that begins
-  pub sound_begun : (w : WorldState) (b : Callback) (t c : ℕ) → c < length on → IsSound hand on n w → IsSound hand on n (begun w b t c)
+  pub sound_begun : (w : WorldState) (b : Callback) (t c : ℕ) → c < length on → IsSound hand on n w → IsSound hand on n (at_callback w b t c)
   sound_begun w b t c l h = record { cpus = h.cpus; tasks = h.tasks; even = h.even; flags = h.flags; homes = h.homes; queues = h.queues; sorted = h.sorted; stamped = h.stamped; once = h.once; here = l; goes = tt; waiting = h.waiting; at_once = λ e. refl }
 
 -- ---- the task at hand comes to wait
 
 -- once the task at hand was pushed, each task is where it should be, with none at hand
-pub once_pushed : (w : WorldState) (t q : ℕ) (r : Rank) → t < task_count w.queues → push_refusal w.queues q t r ≡ None → IsOnce (Some t) w → IsOnce None (with_queues w (pushed w.queues q t r))
+pub once_pushed : (w : WorldState) (t q : ℕ) (r : Rank) → t < task_count w.queues → push_refusal w.queues q t r ≡ None → IsOnce (Some t) w → IsOnce None (with_queues w (after_push w.queues q t r))
 once_pushed w t q r within ok once u = omega (arith, once u, standing_pushed w.queues q t u r within ok)
 
-renewed_home : (x : Task) → (renewed x).prev_cpu ≡ x.prev_cpu
+renewed_home : (x : Task) → (with_new_slice x).prev_cpu ≡ x.prev_cpu
 renewed_home x = keeps_if (λ (y : Task). y.prev_cpu ≡ x.prev_cpu) (x.slice == 0) _ x refl refl
 
 module _ (on : List (Option ℕ)) (n : ℕ) where
   -- with another record
-  sound_placed : (w : WorldState) (t q : ℕ) (r : Rank) (x : Task) → x.prev_cpu ≡ (task_at w t).prev_cpu → x.since ≡ (task_at w t).since → t < n → IsOpen w.queues q r → (q == parked) ≡ false → GoesSomewhere (pushed w.queues q t r) (length on) w.call.insert → IsSound (Some t) on n w
-      → IsSound None on n (with_queues (with_task w t x) (pushed w.queues q t r))
+  sound_placed : (w : WorldState) (t q : ℕ) (r : Rank) (x : Task) → x.prev_cpu ≡ (task_at w t).prev_cpu → x.since ≡ (task_at w t).since → t < n → IsOpen w.queues q r → (q == parked_queue) ≡ false → GoesSomewhere (after_push w.queues q t r) (length on) w.call.insert → IsSound (Some t) on n w
+      → IsSound None on n (with_queues (with_task w t x) (after_push w.queues q t r))
   sound_placed w t q r x home since within ready apart goes h =
       let known : t < task_count w.queues = rw h.even within in
       let ok : push_refusal w.queues q t r ≡ None = is_accepted w.queues t q r (nowhere w t h.once) ready in
@@ -363,53 +363,53 @@ module _ (on : List (Option ℕ)) (n : ℕ) where
         even = tasks_pushed w.queues q t r ∙ h.even;
         flags = h.flags;
         homes = homes_set w.tasks t x (length on) (rw home (h.homes t)) h.homes;
-        queues = queues_stay w.queues (pushed w.queues q t r) (length on) (stay_pushed w.queues q t r) h.queues;
+        queues = queues_stay w.queues (after_push w.queues q t r) (length on) (stay_pushed w.queues q t r) h.queues;
         sorted = sorted_pushed w.queues q t r ready.fits h.sorted;
         stamped = stamped_pushed w.queues q t r h.stamped;
         once = once_pushed w t q r known ok h.once;
         here = h.here;
         goes = goes;
-        waiting = waits_by_sum None (with_queues (with_task w t x) (pushed w.queues q t r)) (λ u. omega (arith, ap (λ o. one_if (is_some o)) (since_set w.tasks t x since u), waits_sum (Some t) w h.once h.waiting u, waiting_pushed w.queues q t u r known ok (nowhere w t h.once) apart));
+        waiting = waits_by_sum None (with_queues (with_task w t x) (after_push w.queues q t r)) (λ u. omega (arith, ap (λ o. one_if (is_some o)) (since_set w.tasks t x since u), waits_sum (Some t) w h.once h.waiting u, waiting_pushed w.queues q t u r known ok (nowhere w t h.once) apart));
         at_once = h.at_once;
       }
 
-  sound_enters : (w : WorldState) (t : ℕ) (i : Insert) → t < n → IsOpen w.queues i.queue i.rank → (i.queue == parked) ≡ false → GoesSomewhere (pushed w.queues i.queue t i.rank) (length on) w.call.insert → IsSound (Some t) on n w → IsSound None on n (entered w t i)
+  sound_enters : (w : WorldState) (t : ℕ) (i : Insert) → t < n → IsOpen w.queues i.queue i.rank → (i.queue == parked_queue) ≡ false → GoesSomewhere (after_push w.queues i.queue t i.rank) (length on) w.call.insert → IsSound (Some t) on n w → IsSound None on n (after_enter w t i)
   sound_enters w t i within ready apart goes h =
-      rw (inside n w t within h.tasks) (sound_placed w t i.queue i.rank (given (task_at w t) i) (given_home (task_at w t) i) (given_since (task_at w t) i) within ready apart goes h)
+      rw (inside n w t within h.tasks) (sound_placed w t i.queue i.rank (task_after_insert (task_at w t) i) (given_home (task_at w t) i) (given_since (task_at w t) i) within ready apart goes h)
 
   -- into one of the machine's own queues
-  sound_enters_own : (w : WorldState) (t : ℕ) (i : Insert) → t < n → exists w.queues i.queue ≡ true → policy_end ≤ i.queue → same_sort i.rank (sort_of i.queue) ≡ true → (i.queue == parked) ≡ false → IsSound (Some t) on n w → IsSound None on n (entered w t i)
+  sound_enters_own : (w : WorldState) (t : ℕ) (i : Insert) → t < n → exists w.queues i.queue ≡ true → policy_end ≤ i.queue → same_sort i.rank (sort_of i.queue) ≡ true → (i.queue == parked_queue) ≡ false → IsSound (Some t) on n w → IsSound None on n (after_enter w t i)
   sound_enters_own w t i within there own fits apart h =
       sound_enters w t i within (own_open w.queues i.queue i.rank there own fits h.sorted) apart
-      (goes_on w.queues (pushed w.queues i.queue t i.rank) (length on) w.call.insert (λ x k o. open_own w.queues i.queue t i.rank x k own fits o) h.goes) h
+      (goes_on w.queues (after_push w.queues i.queue t i.rank) (length on) w.call.insert (λ x k o. open_own w.queues i.queue t i.rank x k own fits o) h.goes) h
 
   -- where a callback said
-  pub said_open : (w : WorldState) (c : ℕ) (said : Insert) → c < length on → w.call.insert ≡ Some said → GoesSomewhere w.queues (length on) w.call.insert → IsOpen w.queues (resolved c said.queue) said.rank
+  pub said_open : (w : WorldState) (c : ℕ) (said : Insert) → c < length on → w.call.insert ≡ Some said → GoesSomewhere w.queues (length on) w.call.insert → IsOpen w.queues (queue_for c said.queue) said.rank
   said_open w c said l e goes = (subst (λ (o : Option Insert). GoesSomewhere w.queues (length on) o) e goes c l).0
 
-  pub said_apart : (w : WorldState) (c : ℕ) (said : Insert) → c < length on → w.call.insert ≡ Some said → GoesSomewhere w.queues (length on) w.call.insert → (resolved c said.queue == parked) ≡ false
+  pub said_apart : (w : WorldState) (c : ℕ) (said : Insert) → c < length on → w.call.insert ≡ Some said → GoesSomewhere w.queues (length on) w.call.insert → (queue_for c said.queue == parked_queue) ≡ false
   said_apart w c said l e goes = (subst (λ (o : Option Insert). GoesSomewhere w.queues (length on) o) e goes c l).1
 
-  sound_enters_said : (w : WorldState) (t c : ℕ) (said : Insert) → t < n → c < length on → w.call.insert ≡ Some said → IsSound (Some t) on n w → IsSound None on n (entered w t (for_cpu c said))
+  sound_enters_said : (w : WorldState) (t c : ℕ) (said : Insert) → t < n → c < length on → w.call.insert ≡ Some said → IsSound (Some t) on n w → IsSound None on n (after_enter w t (for_cpu c said))
   sound_enters_said w t c said within l e h =
       sound_enters w t (for_cpu c said) within (said_open w c said l e h.goes) (said_apart w c said l e h.goes)
-      (subst (λ (o : Option Insert). GoesSomewhere (pushed w.queues (resolved c said.queue) t said.rank) (length on) o) (sym e)
-      (λ d m. (open_same w.queues (resolved c said.queue) t (resolved d said.queue) said.rank (said_open w d said m e h.goes), said_apart w d said m e h.goes))) h
+      (subst (λ (o : Option Insert). GoesSomewhere (after_push w.queues (queue_for c said.queue) t said.rank) (length on) o) (sym e)
+      (λ d m. (open_same w.queues (queue_for c said.queue) t (queue_for d said.queue) said.rank (said_open w d said m e h.goes), said_apart w d said m e h.goes))) h
 
   -- the queue that is wanted is open
   pub wanted_open : (w : WorldState) (i : Insert) (hand : Option ℕ) → IsWanted (length on) w i → IsSound hand on n w → IsOpen w.queues i.queue i.rank
   wanted_open w i hand (ForAny e) h = rw e (own_open w.queues global Fifo h.queues.global (omega arith) refl h.sorted)
-  wanted_open w i hand (Nowhere e) h = rw e (own_open w.queues held Fifo h.queues.held (omega arith) refl h.sorted)
+  wanted_open w i hand (Nowhere e) h = rw e (own_open w.queues held_queue Fifo h.queues.held (omega arith) refl h.sorted)
   wanted_open w i hand (Inserted c said l x e) h = rw e (said_open w c said l x h.goes)
 
   -- a task that enters it
-  pub sound_entered : (w : WorldState) (t : ℕ) (i : Insert) → t < n → IsWanted (length on) w i → IsSound (Some t) on n w → IsSound None on n (entered w t i)
+  pub sound_entered : (w : WorldState) (t : ℕ) (i : Insert) → t < n → IsWanted (length on) w i → IsSound (Some t) on n w → IsSound None on n (after_enter w t i)
   sound_entered w t i within (ForAny e) h = rw e (sound_enters_own w t to_global within h.queues.global (omega arith) refl refl h)
   sound_entered w t i within (Nowhere e) h = rw e (sound_enters_own w t to_held within h.queues.held (omega arith) refl refl h)
   sound_entered w t i within (Inserted c said l x e) h = rw e (sound_enters_said w t c said within l x h)
 
   -- a local queue that is filled
-  pub sound_filled : (w : WorldState) (q c : ℕ) → (q == parked) ≡ false → c < length on → IsSound None on n w → IsSound None on n (filled w q c)
+  pub sound_filled : (w : WorldState) (q c : ℕ) → (q == parked_queue) ≡ false → c < length on → IsSound None on n w → IsSound None on n (after_fill w q c)
   sound_filled w q c apart l h = go (fill_front w q c) (λ t e. front t (nat_lt 0 (local_len w c)) e)
     where
       front : (t : ℕ) (b : Bool) → (if b then None else front_of w.queues q) ≡ Some t → front_of w.queues q ≡ Some t
@@ -418,14 +418,14 @@ module _ (on : List (Option ℕ)) (n : ℕ) where
 
       go : (o : Option ℕ) → ((t : ℕ) → o ≡ Some t → front_of w.queues q ≡ Some t) → IsSound None on n (brought o w q c)
       go None f = h
-      go (Some t) f = sound_brought None on n w (Some t) q (local_on c) (f t refl) (h.queues.locals c l) (omega arith) (local_sort c) apart (ne_eqb (local_on c) parked (λ x. omega (arith, x))) h t refl
+      go (Some t) f = sound_brought None on n w (Some t) q (local_on c) (f t refl) (h.queues.locals c l) (omega arith) (local_sort c) apart (ne_eqb (local_on c) parked_queue (λ x. omega (arith, x))) h t refl
 
   -- a task that is kept
-  pub sound_kept : (w : WorldState) (t : ℕ) → IsSound None on n w → IsSound None on n (kept w (Some t))
-  sound_kept w t h = sound_task None on n w t (renewed (task_at w t)) (renewed_home (task_at w t)) (renewed_since (task_at w t)) h
+  pub sound_kept : (w : WorldState) (t : ℕ) → IsSound None on n w → IsSound None on n (after_keep w (Some t))
+  sound_kept w t h = sound_task None on n w t (with_new_slice (task_at w t)) (renewed_home (task_at w t)) (renewed_since (task_at w t)) h
 
   -- a tick
-  pub sound_ticked : (w : WorldState) (t : ℕ) → IsSound None on n w → IsSound None on n (ticked w t)
+  pub sound_ticked : (w : WorldState) (t : ℕ) → IsSound None on n w → IsSound None on n (after_tick w t)
   sound_ticked w t h = sound_task None on n w t (ran_a_tick (task_at w t)) refl refl h
 
   -- a clock that goes on
@@ -437,7 +437,7 @@ module _ (on : List (Option ℕ)) (n : ℕ) where
   sound_with_weight w g x h = record { cpus = h.cpus; tasks = h.tasks; even = h.even; flags = h.flags; homes = h.homes; queues = h.queues; sorted = h.sorted; stamped = h.stamped; once = h.once; here = h.here; goes = h.goes; waiting = h.waiting; at_once = h.at_once }
 
   -- who leaves its processor is in no place
-  pub sound_stopped : (w : WorldState) (c t : ℕ) → c < length on → t < n → get_or on c None ≡ Some t → IsSound None on n w → IsSound (Some t) (set on c None) n (stopped w c t)
+  pub sound_stopped : (w : WorldState) (c t : ℕ) → c < length on → t < n → get_or on c None ≡ Some t → IsSound None on n w → IsSound (Some t) (set on c None) n (after_stop w c t)
   sound_stopped w c t l within runs h = record {
     cpus = ap (λ (xs : List (Option ℕ)). set xs c None) h.cpus;
     tasks = length-set w.tasks t _ ∙ h.tasks;
@@ -468,13 +468,13 @@ module _ (on : List (Option ℕ)) (n : ℕ) where
     even = tasks_without w.queues (front_of w.queues (local_on c)) ∙ h.even;
     flags = h.flags;
     homes = rw same (homes_set w.tasks t _ (length on) l h.homes);
-    queues = queues_stay w.queues (popped w.queues (local_on c)) (length (set on c (Some t))) (stay_without w.queues (front_of w.queues (local_on c))) (subst (λ k. HasQueues w.queues k) (sym same) h.queues);
+    queues = queues_stay w.queues (after_pop w.queues (local_on c)) (length (set on c (Some t))) (stay_without w.queues (front_of w.queues (local_on c))) (subst (λ k. HasQueues w.queues k) (sym same) h.queues);
     sorted = sorted_popped w.queues (local_on c) h.sorted;
     stamped = stamped_popped w.queues (local_on c) h.stamped;
     once = λ u. omega (arith, h.once u, ap (λ o. one_if (is_this u o)) free', sum_by-set (λ o. one_if (is_this u o)) w.cpus c (Some t) None l', standing_popped w.queues (local_on c) t u e);
     here = rw same h.here;
-    goes = subst (λ k. GoesSomewhere (popped w.queues (local_on c)) k w.call.insert) (sym same) (goes_on w.queues (popped w.queues (local_on c)) (length on) w.call.insert (λ x k o. open_without w.queues (front_of w.queues (local_on c)) x k o) h.goes);
-    waiting = waits_on_cpu w (popped w.queues (local_on c)) t _ known refl (left_place w.queues (local_on c) t e) (λ u d. popped_other w.queues (local_on c) t u e d) h.waiting;
+    goes = subst (λ k. GoesSomewhere (after_pop w.queues (local_on c)) k w.call.insert) (sym same) (goes_on w.queues (after_pop w.queues (local_on c)) (length on) w.call.insert (λ x k o. open_without w.queues (front_of w.queues (local_on c)) x k o) h.goes);
+    waiting = waits_on_cpu w (after_pop w.queues (local_on c)) t _ known refl (left_place w.queues (local_on c) t e) (λ u d. popped_other w.queues (local_on c) t u e d) h.waiting;
     at_once = h.at_once;
   }
     where
@@ -491,16 +491,16 @@ module _ (on : List (Option ℕ)) (n : ℕ) where
       l' = rw h.cpus l
 
 -- who was taken out of its queue waits nowhere
-pub removed_place : (s : QueueState) (t : ℕ) → is_some (entry_of s t) ≡ true → t < task_count s → entry_of (removed s t) t ≡ None
+pub removed_place : (s : QueueState) (t : ℕ) → is_some (entry_of s t) ≡ true → t < task_count s → entry_of (after_remove s t) t ≡ None
 removed_place s t waits-here known = rw waits-here (get_or-set_same {A = Option Entry} s.entries t None None known)
 
 -- ---- waking and sleeping
 
-once_woken : (w : WorldState) (t : ℕ) → t < length w.tree.active → is_runnable w t ≡ false → IsOnce None w → IsOnce (Some t) (woken w t)
-once_woken w t known asleep once u = go (cases_eq u t)
+once_woken : (w : WorldState) (t : ℕ) → t < length w.tree.active → is_runnable w t ≡ false → IsOnce None w → IsOnce (Some t) (after_wake w t)
+once_woken w t known after_sleep once u = go (cases_eq u t)
   where
     go : (u ≡ t) ⊎ (u ≡ t → ⊥) → appearances w u + one_if (u == t) ≡ one_if (get_or (set w.tree.active t true) u false)
-    go (inl e) = rw (e, eq-eqb t t refl, get_or-set_same w.tree.active t true false known) (omega (arith, once t, ap one_if asleep))
+    go (inl e) = rw (e, eq-eqb t t refl, get_or-set_same w.tree.active t true false known) (omega (arith, once t, ap one_if after_sleep))
     go (inr d) = rw (ne_eqb u t d, get_or-set_other w.tree.active t u true false d) (omega (arith, once u))
 
 sum_none : (cpus : List (Option ℕ)) (t : ℕ) → ((k : ℕ) → k < length cpus → is_this t (get_or cpus k None) ≡ false) → runs cpus t ≡ 0
@@ -522,8 +522,8 @@ not_running cpus t e = sum_none cpus t (λ k l. fails_before_first (is_this t) c
 
 module _ (on : List (Option ℕ)) (n : ℕ) where
   -- a task that wakes is at hand
-  pub sound_woken : (w : WorldState) (t : ℕ) → t < n → is_runnable w t ≡ false → IsSound None on n w → IsSound (Some t) on n (woken w t)
-  sound_woken w t within asleep h = record {
+  pub sound_woken : (w : WorldState) (t : ℕ) → t < n → is_runnable w t ≡ false → IsSound None on n w → IsSound (Some t) on n (after_wake w t)
+  sound_woken w t within after_sleep h = record {
     cpus = h.cpus;
     tasks = length-set w.tasks t _ ∙ h.tasks;
     even = h.even;
@@ -532,7 +532,7 @@ module _ (on : List (Option ℕ)) (n : ℕ) where
     queues = h.queues;
     sorted = h.sorted;
     stamped = h.stamped;
-    once = once_woken w t (rw h.flags within) asleep h.once;
+    once = once_woken w t (rw h.flags within) after_sleep h.once;
     here = h.here;
     goes = h.goes;
     waiting = waits_at_hand w t w.clock _ (rw h.tasks within) refl h.waiting;
@@ -554,7 +554,7 @@ module _ (on : List (Option ℕ)) (n : ℕ) where
       go (inr d) = rw (get_or-set_other w.tree.active t u false false d) (omega (arith, once u, ap one_if (ne_eqb u t d)))
 
   -- a task that sleeps no longer is
-  pub sound_asleep : (w : WorldState) (t : ℕ) → t < n → IsSound (Some t) on n w → IsSound None on n (asleep w t)
+  pub sound_asleep : (w : WorldState) (t : ℕ) → t < n → IsSound (Some t) on n w → IsSound None on n (after_sleep w t)
   sound_asleep w t within h = rw (inside n w t within h.tasks) record {
     cpus = h.cpus;
     tasks = length-set w.tasks t _ ∙ h.tasks;
@@ -572,20 +572,20 @@ module _ (on : List (Option ℕ)) (n : ℕ) where
   }
 
   -- who is runnable and doesn't run is in a queue, leaves it and sleeps
-  pub sound_left : (w : WorldState) (t : ℕ) → t < n → is_runnable w t ≡ true → cpu_of w t ≡ None → IsSound None on n w → IsSound None on n (asleep (gone w t) t)
+  pub sound_left : (w : WorldState) (t : ℕ) → t < n → is_runnable w t ≡ true → cpu_of w t ≡ None → IsSound None on n w → IsSound None on n (after_sleep (after_leave w t) t)
   sound_left w t within runnable off h = rw (inside n w t within h.tasks) record {
     cpus = h.cpus;
     tasks = length-set w.tasks t _ ∙ h.tasks;
     even = tasks_removed w.queues t ∙ h.even;
     flags = length-set w.tree.active t false ∙ h.flags;
     homes = homes_set w.tasks t _ (length on) (h.homes t) h.homes;
-    queues = queues_stay w.queues (removed w.queues t) (length on) (stay_removed w.queues t) h.queues;
+    queues = queues_stay w.queues (after_remove w.queues t) (length on) (stay_removed w.queues t) h.queues;
     sorted = sorted_removed w.queues t h.sorted;
     stamped = stamped_removed w.queues t h.stamped;
-    once = once_asleep (gone w t) t (rw h.flags within) (λ u. omega (arith, h.once u, standing_removed w.queues t u stands));
+    once = once_asleep (after_leave w t) t (rw h.flags within) (λ u. omega (arith, h.once u, standing_removed w.queues t u stands));
     here = h.here;
-    goes = goes_on w.queues (removed w.queues t) (length on) w.call.insert (λ x k o. open_removed w.queues t x k o) h.goes;
-    waiting = set_since w (removed w.queues t) None None t _ (rw h.tasks within) (rw gone-now refl) (λ u d. ap (λ (o : Option Entry). waits_in (option_map (λ p. p.queue) o) || false) (sym (removed_other w.queues t u d))) h.waiting;
+    goes = goes_on w.queues (after_remove w.queues t) (length on) w.call.insert (λ x k o. open_removed w.queues t x k o) h.goes;
+    waiting = set_since w (after_remove w.queues t) None None t _ (rw h.tasks within) (rw gone-now refl) (λ u d. ap (λ (o : Option Entry). waits_in (option_map (λ p. p.queue) o) || false) (sym (removed_other w.queues t u d))) h.waiting;
     at_once = h.at_once;
   }
     where
@@ -596,7 +596,7 @@ module _ (on : List (Option ℕ)) (n : ℕ) where
           go true e one = e
           go false e one = absurd (omega (arith, one, ap one_if e))
 
-      gone-now : entry_of (removed w.queues t) t ≡ None
+      gone-now : entry_of (after_remove w.queues t) t ≡ None
       gone-now = removed_place w.queues t stands (rw h.even within)
 
 -- ---- an ejection, and the built-in scheduler
@@ -622,16 +622,16 @@ module _ (hand : Option ℕ) (on : List (Option ℕ)) (n : ℕ) where
   sound_evict w t within h = go (waits w t) refl
     where
       r : Rank
-      r = Vtime (raised w t)
+      r = Vtime (builtin_vtime w t)
 
-      over : waits w t ≡ true → IsSound hand on n (put_builtin (gone w t) t)
+      over : waits w t ≡ true → IsSound hand on n (put_builtin (after_leave w t) t)
       over waits-here =
           let known : t < task_count w.queues = rw h.even within in
           rw (inside n w t within h.tasks)
-          (sound_replaced hand on n w t builtin r _ refl refl waits-here known (removed_place w.queues t (waits_there w.queues t waits-here) known) (own_open w.queues builtin r h.queues.builtin (omega arith) refl h.sorted) refl
-          (goes_on w.queues (pushed (removed w.queues t) builtin t r) (length on) w.call.insert (λ x k o. open_own (removed w.queues t) builtin t r x k (omega arith) refl (open_removed w.queues t x k o)) h.goes) h)
+          (sound_replaced hand on n w t builtin_queue r _ refl refl waits-here known (removed_place w.queues t (waits_there w.queues t waits-here) known) (own_open w.queues builtin_queue r h.queues.builtin (omega arith) refl h.sorted) refl
+          (goes_on w.queues (after_push (after_remove w.queues t) builtin_queue t r) (length on) w.call.insert (λ x k o. open_own (after_remove w.queues t) builtin_queue t r x k (omega arith) refl (open_removed w.queues t x k o)) h.goes) h)
 
-      go : (b : Bool) → waits w t ≡ b → IsSound hand on n (if b then put_builtin (gone w t) t else w)
+      go : (b : Bool) → waits w t ≡ b → IsSound hand on n (if b then put_builtin (after_leave w t) t else w)
       go true e = over e
       go false e = h
 
@@ -640,17 +640,17 @@ module _ (hand : Option ℕ) (on : List (Option ℕ)) (n : ℕ) where
   sound_cut w t h = sound_task hand on n w t _ refl refl h
 
   -- the clock of the built-in scheduler
-  pub sound_overtaken : (w : WorldState) (t : ℕ) → IsSound hand on n w → IsSound hand on n (overtaken w t)
+  pub sound_overtaken : (w : WorldState) (t : ℕ) → IsSound hand on n w → IsSound hand on n (after_catch_up w t)
   sound_overtaken w t h = record { cpus = h.cpus; tasks = h.tasks; even = h.even; flags = h.flags; homes = h.homes; queues = h.queues; sorted = h.sorted; stamped = h.stamped; once = h.once; here = h.here; goes = h.goes; waiting = h.waiting; at_once = h.at_once }
 
   -- its times
-  pub sound_charged : (w : WorldState) (t : ℕ) → IsSound hand on n w → IsSound hand on n (charged w t)
+  pub sound_charged : (w : WorldState) (t : ℕ) → IsSound hand on n w → IsSound hand on n (after_charge w t)
   sound_charged w t h = sound_task hand on n w t _ refl refl h
 
 -- a task that is put under the built-in scheduler
 pub sound_put_builtin : (on : List (Option ℕ)) (n : ℕ) (w : WorldState) (t : ℕ) → t < n → IsSound (Some t) on n w → IsSound None on n (put_builtin w t)
 sound_put_builtin on n w t within h =
-    let r = Vtime (raised w t) in
+    let r = Vtime (builtin_vtime w t) in
     rw (inside n w t within h.tasks)
-    (sound_placed on n w t builtin r _ refl refl within (own_open w.queues builtin r h.queues.builtin (omega arith) refl h.sorted) refl
-    (goes_on w.queues (pushed w.queues builtin t r) (length on) w.call.insert (λ x k o. open_own w.queues builtin t r x k (omega arith) refl o) h.goes) h)
+    (sound_placed on n w t builtin_queue r _ refl refl within (own_open w.queues builtin_queue r h.queues.builtin (omega arith) refl h.sorted) refl
+    (goes_on w.queues (after_push w.queues builtin_queue t r) (length on) w.call.insert (λ x k o. open_own w.queues builtin_queue t r x k (omega arith) refl o) h.goes) h)

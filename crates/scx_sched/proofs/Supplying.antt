@@ -8,12 +8,12 @@ use Rattle.scx_dsq.specs.declared.entries.Rank.{Rank}
 use Rattle.scx_dsq.specs.declared.entries.Rank.TheVariants.{Fifo}
 use Rattle.scx_dsq.specs.Laws.{one_if}
 use Rattle.scx_dsq.specs.Queues.{QueueState, entry_of, queue_of, is_in, len_of, front_of}
-use Rattle.scx_dsq.specs.Calls.{push_refusal, next_entry, with_task as with_place, pushed, popped}
+use Rattle.scx_dsq.specs.Calls.{push_refusal, next_entry, with_task as with_place, after_push, after_pop}
 use Rattle.scx_dsq.proofs.Facts.{front_is_known}
-use Rattle.scx_world.specs.Ids.{global, builtin, parked, local_on}
+use Rattle.scx_world.specs.Ids.{global, builtin_queue, parked_queue, local_on}
 use Rattle.scx_world.specs.World.{WorldState, is_throttled}
-use Rattle.scx_world.specs.Tasks.{local_len, brought, put_parked, taken}
-use Rattle.scx_machine.specs.Steps.{State, Stepped, stays, joined}
+use Rattle.scx_world.specs.Tasks.{local_len, brought, put_parked, after_take}
+use Rattle.scx_machine.specs.Steps.{State, Stepped, stays, one_after_other}
 use Rattle.scx_machine.specs.Filling.{fill}
 use Rattle.scx_machine.specs.Parking.{park, park_front, if_throttled, throttled_front, park_then, park_fronts, clear, in_reach, supply, FrontMayRun}
 use Rattle.scx_machine.specs.Cycle.{has_local, builtin_dispatch, builtin_fill}
@@ -27,7 +27,7 @@ use Rattle.scx_sched.proofs.Clear.{MayStart, len_same}
 -- ---- how many are in a queue
 
 -- a front is counted
-pub len_popped : (s : QueueState) (id t : ℕ) → front_of s id ≡ Some t → len_of (popped s id) id + 1 ≡ len_of s id
+pub len_popped : (s : QueueState) (id t : ℕ) → front_of s id ≡ Some t → len_of (after_pop s id) id + 1 ≡ len_of s id
 len_popped s id t e =
     rw e (omega (arith, len_set s id t None (front_is_known s id (Some t) (sym e)), ap one_if (inside (entry_of s t) (front_in s id t e))))
   where
@@ -39,7 +39,7 @@ len_popped s id t e =
     inside (Some p) x = eq-eqb p.queue id (same p.queue id x)
 
 -- a push makes each queue longer by one task at most
-pub len_pushed_most : (s : QueueState) (q id t : ℕ) (r : Rank) → len_of (pushed s q t r) id ≤ len_of s id + 1
+pub len_pushed_most : (s : QueueState) (q id t : ℕ) (r : Rank) → len_of (after_push s q t r) id ≤ len_of s id + 1
 len_pushed_most s q id t r = go (push_refusal s q t r) refl
   where
     one_le : (b : Bool) → one_if b ≤ 1
@@ -113,17 +113,17 @@ left_here id w = record { queue = same_here id w.queues w.queues refl; tree = re
 pub left_then : (id : ℕ) (u w v : WorldState) → IsLeft id u w → IsLeft id w v → IsLeft id u v
 left_then id u w v a b = record { queue = same_then id u.queues w.queues v.queues a.queue b.queue; tree = b.tree ∙ a.tree }
 
-left_put_parked : (id : ℕ) (w : WorldState) (t : ℕ) → (parked == id) ≡ false → IsLeft id w (put_parked w t)
-left_put_parked id w t apart = keeps_if (IsLeft id w) (nat_lt t (length w.tasks)) _ w (record { queue = same_pushed id w.queues parked t Fifo apart; tree = refl }) (left_here id w)
+left_put_parked : (id : ℕ) (w : WorldState) (t : ℕ) → (parked_queue == id) ≡ false → IsLeft id w (put_parked w t)
+left_put_parked id w t apart = keeps_if (IsLeft id w) (nat_lt t (length w.tasks)) _ w (record { queue = same_pushed id w.queues parked_queue t Fifo apart; tree = refl }) (left_here id w)
 
 -- as the front of another queue is parked, a queue and the tree stay, but for that of the parked
-pub left_park_front : (id : ℕ) (s : State) (q t : ℕ) → (q == id) ≡ false → (parked == id) ≡ false → IsLeft id s.world (park_front s q t).state.world
+pub left_park_front : (id : ℕ) (s : State) (q t : ℕ) → (q == id) ≡ false → (parked_queue == id) ≡ false → IsLeft id s.world (park_front s q t).state.world
 unfolding park_front park
 left_park_front id s q t apart other =
-    left_then id s.world (taken s.world q) (put_parked (taken s.world q) t) (record { queue = same_popped id s.world.queues q apart; tree = refl }) (left_put_parked id (taken s.world q) t other)
+    left_then id s.world (after_take s.world q) (put_parked (after_take s.world q) t) (record { queue = same_popped id s.world.queues q apart; tree = refl }) (left_put_parked id (after_take s.world q) t other)
 
 -- as fronts of another queue are parked, a queue and the tree stay, but for that of the parked
-pub left_park_fronts : (j id : ℕ) (s : State) (q : ℕ) → (q == id) ≡ false → (parked == id) ≡ false → IsLeft id s.world (park_fronts j s q).state.world
+pub left_park_fronts : (j id : ℕ) (s : State) (q : ℕ) → (q == id) ≡ false → (parked_queue == id) ≡ false → IsLeft id s.world (park_fronts j s q).state.world
 unfolding park_fronts
 left_park_fronts zero id s q apart other = left_here id s.world
 left_park_fronts (suc j) id s q apart other = go (throttled_front s q) (λ t. left_park_fronts j id (park_front s q t).state q apart other)
@@ -135,10 +135,10 @@ left_park_fronts (suc j) id s q apart other = go (throttled_front s q) (λ t. le
         left_then id s.world p.world (park_fronts j p q).state.world (left_park_front id s q t apart other) (more t)
 
 -- the queue itself has one task less
-pub len_park_front : (s : State) (q t : ℕ) → (parked == q) ≡ false → front_of s.world.queues q ≡ Some t → len_of (park_front s q t).state.world.queues q + 1 ≡ len_of s.world.queues q
+pub len_park_front : (s : State) (q t : ℕ) → (parked_queue == q) ≡ false → front_of s.world.queues q ≡ Some t → len_of (park_front s q t).state.world.queues q + 1 ≡ len_of s.world.queues q
 unfolding park_front park
 len_park_front s q t apart front =
-    let v = taken s.world q in
+    let v = after_take s.world q in
     omega (arith, len_popped s.world.queues q t front, len_same q v.queues (put_parked v t).queues (left_put_parked q v t apart).queue)
 
 -- an empty queue has no front
@@ -148,7 +148,7 @@ no_front_at s q t empty e = let bad : None ≡ Some t = sym (empty_no_front s.wo
 -- ---- all that may not run are parked
 
 -- after as many rounds as tasks are in a queue, its front, if there is one, may run
-pub fronts_parked : (j : ℕ) (s : State) (q : ℕ) → (parked == q) ≡ false → len_of s.world.queues q ≤ j → FrontMayRun (park_fronts j s q).state q
+pub fronts_parked : (j : ℕ) (s : State) (q : ℕ) → (parked_queue == q) ≡ false → len_of s.world.queues q ≤ j → FrontMayRun (park_fronts j s q).state q
 unfolding park_fronts
 fronts_parked zero s q apart few = λ t e. absurd (no_front_at s q t (omega (arith, few)) e)
 fronts_parked (suc j) s q apart few = go (throttled_front s q) refl (λ u l. fronts_parked j (park_front s q u).state q apart l)
@@ -170,7 +170,7 @@ pub reach_park_front : (s : State) (c t : ℕ) → front_of s.world.queues (loca
 reach_park_front s c t front =
     let v = (park_front s (local_on c) t).state.world in
     let others : len_of v.queues global ≡ len_of s.world.queues global = len_same global s.world.queues v.queues (left_park_front global s (local_on c) t (ne_eqb (local_on c) global (λ x. omega (arith, x))) refl).queue in
-    omega (arith, len_park_front s (local_on c) t (ne_eqb parked (local_on c) (λ x. omega (arith, x))) front, others)
+    omega (arith, len_park_front s (local_on c) t (ne_eqb parked_queue (local_on c) (λ x. omega (arith, x))) front, others)
 
 -- after a fill no more tasks than before are in the local queue and the global one
 pub reach_fill : (s : State) (c : ℕ) → in_reach (fill s global c).state c ≤ in_reach s c
@@ -184,10 +184,10 @@ reach_fill s c = go (nat_lt 0 (local_len s.world c)) refl (front_of s.world.queu
     go true x o f = omega arith
     go false x None f = omega arith
     go false x (Some t) f =
-        let q = popped w.queues global in
+        let q = after_pop w.queues global in
         let more = len_pushed_most q (local_on c) (local_on c) t Fifo in
         let local_stays : len_of q (local_on c) ≡ len_of w.queues (local_on c) = len_same (local_on c) w.queues q (same_popped (local_on c) w.queues global (ne_eqb global (local_on c) (λ y. omega (arith, y)))) in
-        let global_stays : len_of (pushed q (local_on c) t Fifo) global ≡ len_of q global = len_same global q (pushed q (local_on c) t Fifo) (same_pushed global q (local_on c) t Fifo (ne_eqb (local_on c) global (λ y. omega (arith, y)))) in
+        let global_stays : len_of (after_push q (local_on c) t Fifo) global ≡ len_of q global = len_same global q (after_push q (local_on c) t Fifo) (same_pushed global q (local_on c) t Fifo (ne_eqb (local_on c) global (λ y. omega (arith, y)))) in
         omega (arith, more, local_stays, global_stays, len_popped w.queues global t f)
 
 -- no front that may not run is left
@@ -219,7 +219,7 @@ stands_counted s q u e = go (entry_of s u) refl e (cases_lt u (length s.entries)
     go (Some p) x y (inr past) = let bad : Some p ≡ None = sym x ∙ get_or_past {X = Option Entry} s.entries u None past in absurd (cc)
 
 -- who is pushed to an empty queue is alone there
-only_pushed : (s : QueueState) (q t u : ℕ) (r : Rank) → len_of s q ≡ 0 → queue_of (pushed s q t r) u ≡ Some q → u ≡ t
+only_pushed : (s : QueueState) (q t u : ℕ) (r : Rank) → len_of s q ≡ 0 → queue_of (after_push s q t r) u ≡ Some q → u ≡ t
 only_pushed s q t u r empty e = go (cases_eq u t)
   where
     go : (u ≡ t) ⊎ (u ≡ t → ⊥) → u ≡ t
@@ -232,25 +232,25 @@ unfolding builtin_fill builtin_dispatch fill
 builtin_clears s c h = go (has_local s c) refl
   where
     p : State
-    p = (park_fronts (len_of s.world.queues builtin) s builtin).state
+    p = (park_fronts (len_of s.world.queues builtin_queue) s builtin_queue).state
 
     left : IsLeft (local_on c) s.world p.world
-    left = left_park_fronts (len_of s.world.queues builtin) (local_on c) s builtin (ne_eqb builtin (local_on c) (λ x. omega (arith, x))) (ne_eqb parked (local_on c) (λ x. omega (arith, x)))
+    left = left_park_fronts (len_of s.world.queues builtin_queue) (local_on c) s builtin_queue (ne_eqb builtin_queue (local_on c) (λ x. omega (arith, x))) (ne_eqb parked_queue (local_on c) (λ x. omega (arith, x)))
 
     none_there : (k : ℕ) (b : Bool) → (k == 0) ≡ b → not b ≡ false → k ≡ 0
     none_there k true x y = grind (arith, nat_tests, x)
     none_there k false x y = absurd (cc)
 
-    bring : local_len p.world c ≡ 0 → (b : Bool) (o : Option ℕ) → front_of p.world.queues builtin ≡ o → MayStart c (brought (cond b None o) p.world builtin c)
+    bring : local_len p.world c ≡ 0 → (b : Bool) (o : Option ℕ) → front_of p.world.queues builtin_queue ≡ o → MayStart c (brought (cond b None o) p.world builtin_queue c)
     bring empty true o e t x = let bad : None ≡ Some t = sym (empty_no_front p.world.queues (local_on c) empty) ∙ x in absurd (cc)
     bring empty false None e t x = let bad : None ≡ Some t = sym (empty_no_front p.world.queues (local_on c) empty) ∙ x in absurd (cc)
     bring empty false (Some u) e t x =
-        let q = popped p.world.queues builtin in
-        let alone : len_of q (local_on c) ≡ 0 = len_same (local_on c) p.world.queues q (same_popped (local_on c) p.world.queues builtin (ne_eqb builtin (local_on c) (λ y. omega (arith, y)))) ∙ empty in
-        let same : t ≡ u = only_pushed q (local_on c) u t Fifo alone (front_in (pushed q (local_on c) u Fifo) (local_on c) t x) in
-        ap (λ k. is_throttled p.world k) same ∙ fronts_parked (len_of s.world.queues builtin) s builtin refl (omega arith) u e
+        let q = after_pop p.world.queues builtin_queue in
+        let alone : len_of q (local_on c) ≡ 0 = len_same (local_on c) p.world.queues q (same_popped (local_on c) p.world.queues builtin_queue (ne_eqb builtin_queue (local_on c) (λ y. omega (arith, y)))) ∙ empty in
+        let same : t ≡ u = only_pushed q (local_on c) u t Fifo alone (front_in (after_push q (local_on c) u Fifo) (local_on c) t x) in
+        ap (λ k. is_throttled p.world k) same ∙ fronts_parked (len_of s.world.queues builtin_queue) s builtin_queue refl (omega arith) u e
 
-    go : (b : Bool) → has_local s c ≡ b → MayStart c (cond b (stays s) (joined (park_fronts (len_of s.world.queues builtin) s builtin) (fill p builtin c))).state.world
+    go : (b : Bool) → has_local s c ≡ b → MayStart c (cond b (stays s) (one_after_other (park_fronts (len_of s.world.queues builtin_queue) s builtin_queue) (fill p builtin_queue c))).state.world
     go true some = h
     go false none =
-        bring (len_same (local_on c) s.world.queues p.world.queues left.queue ∙ none_there (local_len s.world c) (local_len s.world c == 0) refl none) (nat_lt 0 (local_len p.world c)) (front_of p.world.queues builtin) refl
+        bring (len_same (local_on c) s.world.queues p.world.queues left.queue ∙ none_there (local_len s.world c) (local_len s.world c == 0) refl none) (nat_lt 0 (local_len p.world c)) (front_of p.world.queues builtin_queue) refl

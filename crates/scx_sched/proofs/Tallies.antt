@@ -11,7 +11,7 @@ use Rattle.scx_dsq.specs.declared.entries.Rank.TheVariants.{Fifo, Vtime}
 use Rattle.scx_dsq.specs.declared.errors.QueueError.{QueueError}
 use Rattle.scx_dsq.specs.declared.errors.QueueError.TheVariants.{NoSuchQueue, AlreadyThere, Mixed}
 use Rattle.scx_dsq.specs.Queues.{QueueState, exists, entry_of, front_of}
-use Rattle.scx_dsq.specs.Calls.{clashes, create_refusal, with_queue, created, push_refusal, pushed, popped, removed, without, without_task, next_entry, with_task as with_place}
+use Rattle.scx_dsq.specs.Calls.{clashes, create_refusal, with_queue, after_create, push_refusal, after_push, after_pop, after_remove, without, without_task, next_entry, with_task as with_place}
 use Rattle.scx_semantics.specs.declared.host_tables.Helper.{Helper}
 use Rattle.scx_semantics.specs.declared.host_tables.Helper.TheVariants.{MapLookupElem, KtimeGetNs, CreateDsq, DsqInsert, DsqInsertVtime, DsqMoveToLocal, SelectCpuDfl, CpuIdle, TaskByPid, DsqNrQueued}
 use Rattle.scx_semantics.specs.Effects.{Query, Call, Load, Store}
@@ -27,18 +27,18 @@ use Rattle.scx_world.specs.declared.call.Insert.{Insert}
 use Rattle.scx_world.specs.declared.faults.Fault.{Fault}
 use Rattle.scx_world.specs.declared.faults.Fault.TheVariants.{NoSuchQueue as NoQueue, NoSuchCpu, CannotCreate}
 use Rattle.scx_world.specs.First.{first_queues, first_world}
-use Rattle.scx_world.specs.Ids.{builtin, parked, local_on}
+use Rattle.scx_world.specs.Ids.{builtin_queue, parked_queue, local_on}
 use Rattle.scx_world.specs.World.{WorldState, with_queues, with_tree, with_task, task_at, waits, is_this, running}
-use Rattle.scx_world.specs.Tasks.{with_since, with_slice, with_builtin, given, gone, entered, for_cpu, brought, fill_front, on_cpu, started_at, renewed, put_parked, let_go, tick_ns, ran_a_tick, ticked, used_ms, begun_periods}
-use Rattle.scx_world.specs.Helpers.{is_there, can_create, faulted, is_dispatch, insert_fault, with_insert, released, inserted, asked, asked_by_vtime, can_move, moved, given_number, given_task, helper_after, stored_in, world_functions}
-use Rattle.scx_world.specs.Ejecting.{raised, put_builtin}
+use Rattle.scx_world.specs.Tasks.{with_since, with_slice, with_builtin, task_after_insert, after_leave, after_enter, for_cpu, brought, fill_front, on_cpu, started_at, with_new_slice, put_parked, let_go, tick_ns, ran_a_tick, after_tick, used_ms, begun_periods}
+use Rattle.scx_world.specs.Helpers.{is_there, can_create, with_fault, is_dispatch, insert_fault, with_insert, after_release, insert_or_fault, insert_of, insert_of_vtime, can_move, front_moved_to_local, given_number, given_task, helper_after, stored_in, world_functions}
+use Rattle.scx_world.specs.Ejecting.{builtin_vtime, put_builtin}
 use Rattle.scx_machine.specs.declared.events.Event.{Event}
 use Rattle.scx_machine.specs.declared.events.Event.TheVariants.{Wake, Sleep, Tick, Clock, SetWeight}
 use Rattle.scx_machine.specs.Policy.{PolicyState}
-use Rattle.scx_machine.specs.Start.{is_bad_shape, started}
+use Rattle.scx_machine.specs.Start.{is_bad_shape, first_state}
 use Rattle.scx_machine.specs.Steps.{State}
 use Rattle.scx_machine.specs.Cycle.{cycle}
-use Rattle.scx_machine.specs.Events.{refusal, tick_of, tick, happened}
+use Rattle.scx_machine.specs.Events.{refusal, tick_of, tick, event_step}
 use Rattle.scx_machine.proofs.Unchanged.{keeps_if}
 use Rattle.scx_sched.specs.Once.{AreInQueues}
 use Rattle.scx_sched.specs.Kept.{IsKeptBySteps}
@@ -61,7 +61,7 @@ abbrev AreHome : QueueState → Type 0
 AreHome s = (t : ℕ) → is_home s.ids (entry_of s t) ≡ true
 
 -- a push into another queue is refused
-home_pushed : (s : QueueState) (q t : ℕ) (r : Rank) → AreHome s → AreHome (pushed s q t r)
+home_pushed : (s : QueueState) (q t : ℕ) (r : Rank) → AreHome s → AreHome (after_push s q t r)
 home_pushed s q t r h = go (exists s q) refl
   where
     rest : Option QueueError
@@ -75,13 +75,13 @@ home_without : (s : QueueState) (o : Option ℕ) → AreHome s → AreHome (with
 home_without s None h = h
 home_without s (Some t) h = each_set (is_home s.ids) true s.entries t None refl h
 
-home_popped : (s : QueueState) (q : ℕ) → AreHome s → AreHome (popped s q)
+home_popped : (s : QueueState) (q : ℕ) → AreHome s → AreHome (after_pop s q)
 home_popped s q h = home_without s (front_of s q) h
 
-home_removed : (s : QueueState) (t : ℕ) → AreHome s → AreHome (removed s t)
+home_removed : (s : QueueState) (t : ℕ) → AreHome s → AreHome (after_remove s t)
 home_removed s t h = keeps_if AreHome (is_some (entry_of s t)) (without_task s t) s (home_without s (Some t) h) h
 
-home_created : (s : QueueState) (q : ℕ) → AreHome s → AreHome (created s q)
+home_created : (s : QueueState) (q : ℕ) → AreHome s → AreHome (after_create s q)
 home_created s q h = keeps_if AreHome (is_none (create_refusal s q)) (with_queue s q) s (λ t. more (entry_of s t) (h t)) h
   where
     more : (o : Option Entry) → is_home s.ids o ≡ true → is_home (s.ids ++ q ∷ []) o ≡ true
@@ -126,27 +126,27 @@ module _ (n : ℕ) (ran : ℕ → ℕ) where
   tally_queues : (w : WorldState) (s : QueueState) → AreHome s → IsTallied n ran w → IsTallied n ran (with_queues w s)
   tally_queues w s homes h = (h.0, h.1, homes)
 
-  tally_gone : (w : WorldState) (t : ℕ) → IsTallied n ran w → IsTallied n ran (gone w t)
-  tally_gone w t h = tally_queues w (removed w.queues t) (home_removed w.queues t h.2) h
+  tally_gone : (w : WorldState) (t : ℕ) → IsTallied n ran w → IsTallied n ran (after_leave w t)
+  tally_gone w t h = tally_queues w (after_remove w.queues t) (home_removed w.queues t h.2) h
 
-  tally_entered : (w : WorldState) (t : ℕ) (i : Insert) → IsTallied n ran w → IsTallied n ran (entered w t i)
+  tally_entered : (w : WorldState) (t : ℕ) (i : Insert) → IsTallied n ran w → IsTallied n ran (after_enter w t i)
   tally_entered w t i h =
-      let x = given (task_at w t) i in
-      keeps_if (IsTallied n ran) (nat_lt t (length w.tasks)) _ w (tally_queues (with_task w t x) (pushed w.queues i.queue t i.rank) (home_pushed w.queues i.queue t i.rank h.2) (tally_set w t x (given_run (task_at w t) i) h)) h
+      let x = task_after_insert (task_at w t) i in
+      keeps_if (IsTallied n ran) (nat_lt t (length w.tasks)) _ w (tally_queues (with_task w t x) (after_push w.queues i.queue t i.rank) (home_pushed w.queues i.queue t i.rank h.2) (tally_set w t x (given_run (task_at w t) i) h)) h
 
-  tally_released : (w : WorldState) (t : Option ℕ) (i : Insert) → IsTallied n ran w → IsTallied n ran (released w t i)
+  tally_released : (w : WorldState) (t : Option ℕ) (i : Insert) → IsTallied n ran w → IsTallied n ran (after_release w t i)
   tally_released w None i h = h
-  tally_released w (Some t) i h = let x = tally_entered (gone w t) t i (tally_gone w t h) in (x.0, x.1, x.2)
+  tally_released w (Some t) i h = let x = tally_entered (after_leave w t) t i (tally_gone w t h) in (x.0, x.1, x.2)
 
-  tally_inserted : (w : WorldState) (o : Option Fault) (t : Option ℕ) (i : Insert) → IsTallied n ran w → IsTallied n ran (inserted w o t i)
-  tally_inserted w None t i h = keeps_if (IsTallied n ran) (is_dispatch w.call.callback) (released w t (for_cpu w.call.cpu i)) (with_insert w i) (tally_released w t (for_cpu w.call.cpu i) h) h
+  tally_inserted : (w : WorldState) (o : Option Fault) (t : Option ℕ) (i : Insert) → IsTallied n ran w → IsTallied n ran (insert_or_fault w o t i)
+  tally_inserted w None t i h = keeps_if (IsTallied n ran) (is_dispatch w.call.callback) (after_release w t (for_cpu w.call.cpu i)) (with_insert w i) (tally_released w t (for_cpu w.call.cpu i) h) h
   tally_inserted w (Some f) t i h = h
 
   -- the front of a queue comes to another
-  tally_between : (w : WorldState) (q r t : ℕ) → IsTallied n ran w → IsTallied n ran (with_queues w (pushed (popped w.queues q) r t Fifo))
-  tally_between w q r t h = tally_queues w (pushed (popped w.queues q) r t Fifo) (home_pushed (popped w.queues q) r t Fifo (home_popped w.queues q h.2)) h
+  tally_between : (w : WorldState) (q r t : ℕ) → IsTallied n ran w → IsTallied n ran (with_queues w (after_push (after_pop w.queues q) r t Fifo))
+  tally_between w q r t h = tally_queues w (after_push (after_pop w.queues q) r t Fifo) (home_pushed (after_pop w.queues q) r t Fifo (home_popped w.queues q h.2)) h
 
-  tally_moved : (w : WorldState) (o : Option ℕ) (q : ℕ) → IsTallied n ran w → IsTallied n ran (moved w o q)
+  tally_moved : (w : WorldState) (o : Option ℕ) (q : ℕ) → IsTallied n ran w → IsTallied n ran (front_moved_to_local w o q)
   tally_moved w None q h = h
   tally_moved w (Some t) q h = tally_between w q (local_on w.call.cpu) t h
 
@@ -157,14 +157,14 @@ module _ (n : ℕ) (ran : ℕ → ℕ) where
   tally_helper : (w : WorldState) (f : Helper) (a : List Arg) → IsTallied n ran w → IsTallied n ran (helper_after w f a)
   tally_helper w CreateDsq a h =
       let q = given_number a 0 in
-      keeps_if (IsTallied n ran) (can_create w q) (with_queues w (created w.queues q)) (faulted w CannotCreate) (tally_queues w (created w.queues q) (home_created w.queues q h.2) h) h
-  tally_helper w DsqInsert a h = tally_inserted w (insert_fault w (given_task a 0) (asked a) (given_number a 3)) (given_task a 0) (asked a) h
-  tally_helper w DsqInsertVtime a h = tally_inserted w (insert_fault w (given_task a 0) (asked_by_vtime a) (given_number a 4)) (given_task a 0) (asked_by_vtime a) h
+      keeps_if (IsTallied n ran) (can_create w q) (with_queues w (after_create w.queues q)) (with_fault w CannotCreate) (tally_queues w (after_create w.queues q) (home_created w.queues q h.2) h) h
+  tally_helper w DsqInsert a h = tally_inserted w (insert_fault w (given_task a 0) (insert_of a) (given_number a 3)) (given_task a 0) (insert_of a) h
+  tally_helper w DsqInsertVtime a h = tally_inserted w (insert_fault w (given_task a 0) (insert_of_vtime a) (given_number a 4)) (given_task a 0) (insert_of_vtime a) h
   tally_helper w DsqMoveToLocal a h =
       let q = given_number a 0 in
-      keeps_if (IsTallied n ran) (can_move w q) (moved w (front_of w.queues q) q) (faulted w NoQueue) (tally_moved w (front_of w.queues q) q h) h
-  tally_helper w CpuIdle a h = keeps_if (IsTallied n ran) (nat_lt (given_number a 0) (length w.cpus)) w (faulted w NoSuchCpu) h h
-  tally_helper w DsqNrQueued a h = keeps_if (IsTallied n ran) (is_there w (given_number a 0)) w (faulted w NoQueue) h h
+      keeps_if (IsTallied n ran) (can_move w q) (front_moved_to_local w (front_of w.queues q) q) (with_fault w NoQueue) (tally_moved w (front_of w.queues q) q h) h
+  tally_helper w CpuIdle a h = keeps_if (IsTallied n ran) (nat_lt (given_number a 0) (length w.cpus)) w (with_fault w NoSuchCpu) h h
+  tally_helper w DsqNrQueued a h = keeps_if (IsTallied n ran) (is_there w (given_number a 0)) w (with_fault w NoQueue) h h
   tally_helper w KtimeGetNs a h = h
   tally_helper w MapLookupElem a h = h
   tally_helper w SelectCpuDfl a h = h
@@ -177,14 +177,14 @@ module _ (n : ℕ) (ran : ℕ → ℕ) where
 
   tally_put_builtin : (w : WorldState) (t : ℕ) → IsTallied n ran w → IsTallied n ran (put_builtin w t)
   tally_put_builtin w t h =
-      let x = with_builtin (with_slice (task_at w t) default_slice) (raised w t) in
-      let r = Vtime (raised w t) in
-      keeps_if (IsTallied n ran) (nat_lt t (length w.tasks)) _ w (tally_queues (with_task w t x) (pushed w.queues builtin t r) (home_pushed w.queues builtin t r h.2) (tally_set w t x refl h)) h
+      let x = with_builtin (with_slice (task_at w t) default_slice) (builtin_vtime w t) in
+      let r = Vtime (builtin_vtime w t) in
+      keeps_if (IsTallied n ran) (nat_lt t (length w.tasks)) _ w (tally_queues (with_task w t x) (after_push w.queues builtin_queue t r) (home_pushed w.queues builtin_queue t r h.2) (tally_set w t x refl h)) h
 
   tally_put_parked : (w : WorldState) (t : ℕ) → IsTallied n ran w → IsTallied n ran (put_parked w t)
   tally_put_parked w t h =
       let x = with_since (task_at w t) None in
-      keeps_if (IsTallied n ran) (nat_lt t (length w.tasks)) _ w (tally_queues (with_task w t x) (pushed w.queues parked t Fifo) (home_pushed w.queues parked t Fifo h.2) (tally_set w t x refl h)) h
+      keeps_if (IsTallied n ran) (nat_lt t (length w.tasks)) _ w (tally_queues (with_task w t x) (after_push w.queues parked_queue t Fifo) (home_pushed w.queues parked_queue t Fifo h.2) (tally_set w t x refl h)) h
 
   tally_started : (w : WorldState) (c t : ℕ) → IsTallied n ran w → IsTallied n ran (started_at (Some t) w c)
   tally_started w c t h = let x = tally_set w t (on_cpu (task_at w t) c) refl h in (x.0, x.1, home_popped w.queues (local_on c) h.2)
@@ -206,10 +206,10 @@ tally_steps n ran = record {
   started = λ m on w c t l free front may h. tally_started n ran w c t h;
   put_parked = λ m on w t l may-not h. tally_put_parked n ran w t h;
   taken = λ m on w q t apart front h. (h.0, h.1, home_popped w.queues q h.2);
-  kept = λ m on w t h. tally_set n ran w t (renewed (task_at w t)) (renewed_run (task_at w t)) h;
+  kept = λ m on w t h. tally_set n ran w t (with_new_slice (task_at w t)) (renewed_run (task_at w t)) h;
   asleep = λ m on w t l h. keeps_if (IsTallied n ran) (nat_lt t (length w.tasks)) _ w (tally_set n ran w t _ refl h) h;
   put_out = λ m hand on w x h. h;
-  evict = λ m hand on w t l h. keeps_if (IsTallied n ran) (waits w t) (put_builtin (gone w t) t) w (tally_put_builtin n ran (gone w t) t (tally_gone n ran w t h)) h;
+  evict = λ m hand on w t l h. keeps_if (IsTallied n ran) (waits w t) (put_builtin (after_leave w t) t) w (tally_put_builtin n ran (after_leave w t) t (tally_gone n ran w t h)) h;
   cut = λ m hand on w t h. tally_set n ran w t _ refl h;
   put_builtin = λ m on w t l h. tally_put_builtin n ran w t h;
   overtaken = λ m hand on w t h. h;
@@ -228,7 +228,7 @@ tallied_events n e ran = record {
   sound = λ m hand on w h. h.one.sound;
   woken = λ m on w t within resting h. record { one = (fine_events n e).woken m on w t within resting h.one; two = tally_set n ran w t _ refl h.two };
   let_go = λ m on w t within there h. record { one = (fine_events n e).let_go m on w t within there h.one; two = tally_let_go n ran w t h.two };
-  left = λ m on w t within runnable off h. record { one = (fine_events n e).left m on w t within runnable off h.one; two = (tally_steps n ran).asleep m on (gone w t) t within (tally_gone n ran w t h.two) };
+  left = λ m on w t within runnable off h. record { one = (fine_events n e).left m on w t within runnable off h.one; two = (tally_steps n ran).asleep m on (after_leave w t) t within (tally_gone n ran w t h.two) };
 }
 
 module _ (n e : ℕ) (s : State) (tasks : length s.world.tasks ≡ n) (fine : IsFineNow n e e s.world) (homes : AreHome s.world.queues) where
@@ -247,7 +247,7 @@ module _ (n e : ℕ) (s : State) (tasks : length s.world.tasks ≡ n) (fine : Is
   nobody w h = (h.0, (λ u. omega (arith, h.1 u)), h.2)
 
   -- a task has run for a millisecond
-  one_ran : (t : ℕ) → t < length s.world.tasks → IsTallied n (ran_by (Some t)) (ticked s.world t)
+  one_ran : (t : ℕ) → t < length s.world.tasks → IsTallied n (ran_by (Some t)) (after_tick s.world t)
   one_ran t within = (length-set s.world.tasks t x ∙ tasks, (λ u. go u (cases_eq u t)), homes)
     where
       x : Task
@@ -258,9 +258,9 @@ module _ (n e : ℕ) (s : State) (tasks : length s.world.tasks ≡ n) (fine : Is
       go u (inr d) = rw (get_or-set_other s.world.tasks t u x no_task d, ne_eqb u t d) (omega arith)
 
   -- and its groups have used it
-  one_used : (t : ℕ) → t < length s.world.tasks → IsTallied n (ran_by (Some t)) (used_ms (ticked s.world t) t)
+  one_used : (t : ℕ) → t < length s.world.tasks → IsTallied n (ran_by (Some t)) (used_ms (after_tick s.world t) t)
   one_used t within =
-      let z = ticked s.world t in
+      let z = after_tick s.world t in
       keeps_if (IsTallied n (ran_by (Some t))) (nat_lt t (length z.tasks)) (with_tree z (with_use z.tree t)) z (one_ran t within) (one_ran t within)
 
   tally_tick : (c : ℕ) → c < length s.world.cpus → IsTallied n (ran_by (running s.world c)) (tick s c).state.world
@@ -276,13 +276,13 @@ module _ (n e : ℕ) (s : State) (tasks : length s.world.tasks ≡ n) (fine : Is
           let there = known_running n e e s.world c t l at fine in
           let within : t < length s.world.tasks = omega (arith, there, tasks) in
           let x = fine_ticked n e e s.world c t l at fine in
-          let z = used_ms (ticked s.world t) t in
+          let z = used_ms (after_tick s.world t) t in
           (keeps_count_down n (I ran) (tallied_events n (e + 1) ran) e s c t there l at (record {
             goes_on = λ free. record { one = x.goes_on free; two = one_used t within };
             leaves = λ up. record { one = x.leaves up; two = tally_set n ran z t _ refl (one_used t within) };
           })).two
 
-  tally_step : (v : Event) → refusal s v ≡ None → IsTallied n (λ u. (task_at s.world u).run_ns + ran_in v s.world u) (happened s v).state.world
+  tally_step : (v : Event) → refusal s v ≡ None → IsTallied n (λ u. (task_at s.world u).run_ns + ran_in v s.world u) (event_step s v).state.world
   tally_step v ok = go v (is_taken s v ok)
     where
       ran : ℕ → ℕ
@@ -291,25 +291,25 @@ module _ (n e : ℕ) (s : State) (tasks : length s.world.tasks ≡ n) (fine : Is
       k : IsKeptByEvents n (I ran)
       k = tallied_events n (e + 1) ran
 
-      go : (v : Event) → IsTaken s v → IsTallied n (λ u. (task_at s.world u).run_ns + ran_in v s.world u) (happened s v).state.world
-      go _ (Wakes t within resting) = nobody (happened s (Wake t)).state.world (keeps_wake n (I ran) k e s t (omega (arith, within, tasks)) resting before).two
-      go _ (Sleeps t within runnable) = nobody (happened s (Sleep t)).state.world (keeps_sleep n (I ran) k e s t (omega (arith, within, tasks)) runnable before).two
+      go : (v : Event) → IsTaken s v → IsTallied n (λ u. (task_at s.world u).run_ns + ran_in v s.world u) (event_step s v).state.world
+      go _ (Wakes t within resting) = nobody (event_step s (Wake t)).state.world (keeps_wake n (I ran) k e s t (omega (arith, within, tasks)) resting before).two
+      go _ (Sleeps t within runnable) = nobody (event_step s (Sleep t)).state.world (keeps_sleep n (I ran) k e s t (omega (arith, within, tasks)) runnable before).two
       go _ (Ticks c l) = tally_tick c l
-      go _ Clocks = nobody (happened s Clock).state.world (keeps_clock n (I ran) k e s (record { one = fine_later n e e s.world fine; two = (tasks, (λ u. refl), homes) })).two
+      go _ Clocks = nobody (event_step s Clock).state.world (keeps_clock n (I ran) k e s (record { one = fine_later n e e s.world fine; two = (tasks, (λ u. refl), homes) })).two
       go _ (Weighs g x) =
           let same : IsTallied n ran s.world = (tasks, (λ u. refl), homes) in
-          nobody (happened s (SetWeight g x)).state.world (keeps_if (IsTallied n ran) (is_none (weight_fault s.world.tree g x)) (with_tree s.world (with_weight s.world.tree g x)) s.world same same)
+          nobody (event_step s (SetWeight g x)).state.world (keeps_if (IsTallied n ran) (is_none (weight_fault s.world.tree g x)) (with_tree s.world (with_weight s.world.tree g x)) s.world same same)
 
 -- after an accepted event
-pub run_times : (n : ℕ) (s : State) (v : Event) → refusal s v ≡ None → IsFineNow (length s.world.tasks) n n s.world → AreInQueues s.world → (u : ℕ) → (task_at (happened s v).state.world u).run_ns ≡ (task_at s.world u).run_ns + ran_in v s.world u
+pub run_times : (n : ℕ) (s : State) (v : Event) → refusal s v ≡ None → IsFineNow (length s.world.tasks) n n s.world → AreInQueues s.world → (u : ℕ) → (task_at (event_step s v).state.world u).run_ns ≡ (task_at s.world u).run_ns + ran_in v s.world u
 run_times n s v ok fine there = let x = tally_step (length s.world.tasks) n s refl fine (at_home s.world there) v ok in x.1
 
 -- after an accepted event, the queue in which a task is is there, if it was so before
-pub queues_there : (n : ℕ) (s : State) (v : Event) → refusal s v ≡ None → IsFineNow (length s.world.tasks) n n s.world → AreInQueues s.world → AreInQueues (happened s v).state.world
-queues_there n s v ok fine there = let x = tally_step (length s.world.tasks) n s refl fine (at_home s.world there) v ok in in_queues (happened s v).state.world x.2
+pub queues_there : (n : ℕ) (s : State) (v : Event) → refusal s v ≡ None → IsFineNow (length s.world.tasks) n n s.world → AreInQueues s.world → AreInQueues (event_step s v).state.world
+queues_there n s v ok fine there = let x = tally_step (length s.world.tasks) n s refl fine (at_home s.world there) v ok in in_queues (event_step s v).state.world x.2
 
 -- at first
-pub queues_first : (p : PolicyState) (tree : Hierarchy) (cpus : ℕ) (t : State) → is_bad_shape tree cpus ≡ false → started p tree cpus ≡ Ok t → AreInQueues t.world
+pub queues_first : (p : PolicyState) (tree : Hierarchy) (cpus : ℕ) (t : State) → is_bad_shape tree cpus ≡ false → first_state p tree cpus ≡ Ok t → AreInQueues t.world
 queues_first p tree cpus t shape e =
     let n = length tree.homes in
     let w = begun_periods (first_world tree cpus) in

@@ -6,7 +6,7 @@ use Rattle.std.specs.List.{position, position_or_len}
 use Rattle.std.proofs.lemmas.List.Sums.{fails_before_first}
 use Rattle.std.proofs.lemmas.List.{length-set, get_or-set_same, get_or-set_other, get_or_past, set_past}
 use Rattle.scx_dsq.specs.Queues.{front_of}
-use Rattle.scx_dsq.specs.Calls.{created}
+use Rattle.scx_dsq.specs.Calls.{after_create}
 use Rattle.scx_semantics.specs.declared.host_tables.Helper.{Helper}
 use Rattle.scx_semantics.specs.declared.host_tables.Helper.TheVariants.{MapLookupElem, KtimeGetNs, CreateDsq, DsqInsert, DsqInsertVtime, DsqMoveToLocal, SelectCpuDfl, CpuIdle, TaskByPid, DsqNrQueued}
 use Rattle.scx_semantics.specs.Effects.{Query, Call, Load, Store}
@@ -20,8 +20,8 @@ use Rattle.scx_tasks.specs.declared.task.Task.{Task}
 use Rattle.scx_tasks.specs.Tasks.{no_task}
 use Rattle.scx_tasks.specs.Waits.{time_since, is_late, is_overdue}
 use Rattle.scx_world.specs.World.{WorldState, with_queues, with_task, task_at, waits, wait}
-use Rattle.scx_world.specs.Tasks.{woken, stopped, let_go, ran_a_tick, ticked, given, gone, entered, for_cpu, brought, fill_front, renewed}
-use Rattle.scx_world.specs.Helpers.{is_there, can_create, faulted, is_dispatch, insert_fault, with_insert, released, inserted, asked, asked_by_vtime, can_move, moved, given_number, given_task, helper_after, stored_in, world_functions}
+use Rattle.scx_world.specs.Tasks.{after_wake, after_stop, let_go, ran_a_tick, after_tick, task_after_insert, after_leave, after_enter, for_cpu, brought, fill_front, with_new_slice}
+use Rattle.scx_world.specs.Helpers.{is_there, can_create, with_fault, is_dispatch, insert_fault, with_insert, after_release, insert_or_fault, insert_of, insert_of_vtime, can_move, front_moved_to_local, given_number, given_task, helper_after, stored_in, world_functions}
 use Rattle.scx_world.specs.Waits.{first_overdue}
 use Rattle.scx_world.specs.Ejecting.{put_builtin}
 use Rattle.scx_machine.proofs.Unchanged.{keeps_if}
@@ -58,18 +58,18 @@ module _ (limit n : ℕ) where
 
   -- ---- helpers
 
-  time_entered : (w : WorldState) (t : ℕ) (i : Insert) → AreInTime limit n w → AreInTime limit n (entered w t i)
-  time_entered w t i h = keeps_if (AreInTime limit n) (nat_lt t (length w.tasks)) _ w (time_same w t (given (task_at w t) i) (given_since (task_at w t) i) h) h
+  time_entered : (w : WorldState) (t : ℕ) (i : Insert) → AreInTime limit n w → AreInTime limit n (after_enter w t i)
+  time_entered w t i h = keeps_if (AreInTime limit n) (nat_lt t (length w.tasks)) _ w (time_same w t (task_after_insert (task_at w t) i) (given_since (task_at w t) i) h) h
 
-  time_released : (w : WorldState) (t : Option ℕ) (i : Insert) → AreInTime limit n w → AreInTime limit n (released w t i)
+  time_released : (w : WorldState) (t : Option ℕ) (i : Insert) → AreInTime limit n w → AreInTime limit n (after_release w t i)
   time_released w None i h = h
-  time_released w (Some t) i h = let x = time_entered (gone w t) t i h in (x.0, x.1)
+  time_released w (Some t) i h = let x = time_entered (after_leave w t) t i h in (x.0, x.1)
 
-  time_inserted : (w : WorldState) (o : Option Fault) (t : Option ℕ) (i : Insert) → AreInTime limit n w → AreInTime limit n (inserted w o t i)
-  time_inserted w None t i h = keeps_if (AreInTime limit n) (is_dispatch w.call.callback) (released w t (for_cpu w.call.cpu i)) (with_insert w i) (time_released w t (for_cpu w.call.cpu i) h) h
+  time_inserted : (w : WorldState) (o : Option Fault) (t : Option ℕ) (i : Insert) → AreInTime limit n w → AreInTime limit n (insert_or_fault w o t i)
+  time_inserted w None t i h = keeps_if (AreInTime limit n) (is_dispatch w.call.callback) (after_release w t (for_cpu w.call.cpu i)) (with_insert w i) (time_released w t (for_cpu w.call.cpu i) h) h
   time_inserted w (Some f) t i h = h
 
-  time_moved : (w : WorldState) (o : Option ℕ) (q : ℕ) → AreInTime limit n w → AreInTime limit n (moved w o q)
+  time_moved : (w : WorldState) (o : Option ℕ) (q : ℕ) → AreInTime limit n w → AreInTime limit n (front_moved_to_local w o q)
   time_moved w None q h = h
   time_moved w (Some t) q h = h
 
@@ -78,12 +78,12 @@ module _ (limit n : ℕ) where
   time_brought (Some t) w q c h = h
 
   time_helper : (w : WorldState) (f : Helper) (a : List Arg) → AreInTime limit n w → AreInTime limit n (helper_after w f a)
-  time_helper w CreateDsq a h = keeps_if (AreInTime limit n) (can_create w (given_number a 0)) (with_queues w (created w.queues (given_number a 0))) (faulted w CannotCreate) h h
-  time_helper w DsqInsert a h = time_inserted w (insert_fault w (given_task a 0) (asked a) (given_number a 3)) (given_task a 0) (asked a) h
-  time_helper w DsqInsertVtime a h = time_inserted w (insert_fault w (given_task a 0) (asked_by_vtime a) (given_number a 4)) (given_task a 0) (asked_by_vtime a) h
-  time_helper w DsqMoveToLocal a h = keeps_if (AreInTime limit n) (can_move w (given_number a 0)) (moved w (front_of w.queues (given_number a 0)) (given_number a 0)) (faulted w NoSuchQueue) (time_moved w (front_of w.queues (given_number a 0)) (given_number a 0) h) h
-  time_helper w CpuIdle a h = keeps_if (AreInTime limit n) (nat_lt (given_number a 0) (length w.cpus)) w (faulted w NoSuchCpu) h h
-  time_helper w DsqNrQueued a h = keeps_if (AreInTime limit n) (is_there w (given_number a 0)) w (faulted w NoSuchQueue) h h
+  time_helper w CreateDsq a h = keeps_if (AreInTime limit n) (can_create w (given_number a 0)) (with_queues w (after_create w.queues (given_number a 0))) (with_fault w CannotCreate) h h
+  time_helper w DsqInsert a h = time_inserted w (insert_fault w (given_task a 0) (insert_of a) (given_number a 3)) (given_task a 0) (insert_of a) h
+  time_helper w DsqInsertVtime a h = time_inserted w (insert_fault w (given_task a 0) (insert_of_vtime a) (given_number a 4)) (given_task a 0) (insert_of_vtime a) h
+  time_helper w DsqMoveToLocal a h = keeps_if (AreInTime limit n) (can_move w (given_number a 0)) (front_moved_to_local w (front_of w.queues (given_number a 0)) (given_number a 0)) (with_fault w NoSuchQueue) (time_moved w (front_of w.queues (given_number a 0)) (given_number a 0) h) h
+  time_helper w CpuIdle a h = keeps_if (AreInTime limit n) (nat_lt (given_number a 0) (length w.cpus)) w (with_fault w NoSuchCpu) h h
+  time_helper w DsqNrQueued a h = keeps_if (AreInTime limit n) (is_there w (given_number a 0)) w (with_fault w NoSuchQueue) h h
   time_helper w KtimeGetNs a h = h
   time_helper w MapLookupElem a h = h
   time_helper w SelectCpuDfl a h = h
@@ -96,16 +96,16 @@ module _ (limit n : ℕ) where
 
   -- ---- what an event does before it comes to small steps
 
-  pub time_woken : (w : WorldState) (t : ℕ) → AreInTime limit n w → AreInTime limit n (woken w t)
+  pub time_woken : (w : WorldState) (t : ℕ) → AreInTime limit n w → AreInTime limit n (after_wake w t)
   time_woken w t h = time_set w t _ (λ force. now_since w.clock limit) h
 
-  pub time_ticked : (w : WorldState) (t : ℕ) → AreInTime limit n w → AreInTime limit n (ticked w t)
+  pub time_ticked : (w : WorldState) (t : ℕ) → AreInTime limit n w → AreInTime limit n (after_tick w t)
   time_ticked w t h = time_same w t (ran_a_tick (task_at w t)) refl h
 
   pub time_let_go : (w : WorldState) (t : ℕ) → AreInTime limit n w → AreInTime limit n (let_go w t)
   time_let_go w t h = time_set w t _ (λ force. now_since w.clock limit) h
 
-  pub time_stopped : (w : WorldState) (c t : ℕ) → AreInTime limit n w → AreInTime limit n (stopped w c t)
+  pub time_stopped : (w : WorldState) (c t : ℕ) → AreInTime limit n w → AreInTime limit n (after_stop w c t)
   time_stopped w c t h = time_set w t _ (λ force. now_since w.clock limit) h
 
   -- ---- an ejection, after which nothing is said
@@ -128,10 +128,10 @@ time_steps limit n = record {
   started = λ m on w c t l free front may h. time_set limit n w t _ (λ force. none_since w.clock limit) h;
   put_parked = λ m on w t l may-not h. keeps_if (AreInTime limit n) (nat_lt t (length w.tasks)) _ w (time_set limit n w t _ (λ force. none_since w.clock limit) h) h;
   taken = λ m on w q t apart front h. h;
-  kept = λ m on w t h. time_same limit n w t (renewed (task_at w t)) (renewed_since (task_at w t)) h;
+  kept = λ m on w t h. time_same limit n w t (with_new_slice (task_at w t)) (renewed_since (task_at w t)) h;
   asleep = λ m on w t l h. keeps_if (AreInTime limit n) (nat_lt t (length w.tasks)) _ w (time_set limit n w t _ (λ force. none_since w.clock limit) h) h;
   put_out = λ m hand on w x h. (h.0, λ force. absurd (cc));
-  evict = λ m hand on w t l h. keeps_if (AreInTime limit n) (waits w t) (put_builtin (gone w t) t) w (time_put_builtin limit n (gone w t) t h) h;
+  evict = λ m hand on w t l h. keeps_if (AreInTime limit n) (waits w t) (put_builtin (after_leave w t) t) w (time_put_builtin limit n (after_leave w t) t h) h;
   cut = λ m hand on w t h. time_same limit n w t _ refl h;
   put_builtin = λ m on w t l h. time_put_builtin limit n w t h;
   overtaken = λ m hand on w t h. h;

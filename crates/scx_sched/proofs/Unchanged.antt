@@ -2,7 +2,7 @@
 -- weights with who is runnable in it.
 use Rattle.std.proofs.Common.{◌≡◌, ℕ, zero, suc, nat_lt, List, length, map, Option, Some, None, refl}
 use Rattle.scx_dsq.specs.Queues.{front_of}
-use Rattle.scx_dsq.specs.Calls.{created}
+use Rattle.scx_dsq.specs.Calls.{after_create}
 use Rattle.scx_semantics.specs.declared.callbacks.Callback.{Callback}
 use Rattle.scx_semantics.specs.declared.host_tables.Helper.{Helper}
 use Rattle.scx_semantics.specs.declared.host_tables.Helper.TheVariants.{MapLookupElem, KtimeGetNs, CreateDsq, DsqInsert, DsqInsertVtime, DsqMoveToLocal, SelectCpuDfl, CpuIdle, TaskByPid, DsqNrQueued}
@@ -13,7 +13,7 @@ use Rattle.scx_semantics.specs.Endings.{run_of}
 use Rattle.scx_semantics.proofs.EndedRuns.{run_keeps}
 use Rattle.scx_semantics.specs.Machine as start
 use Rattle.scx_safety.specs.Programs.{VerifiedProgram}
-use Rattle.scx_vm.specs.Arguments.{given, argument_of}
+use Rattle.scx_vm.specs.Arguments.{program_arguments, argument_of}
 use Rattle.scx_vm.specs.declared.arguments.Arg.{Arg}
 use Rattle.scx_vm.specs.declared.arguments.Args.{Args}
 use Rattle.scx_vm.specs.Host.{answer_to, after_query}
@@ -22,11 +22,11 @@ use Rattle.scx_world.specs.declared.faults.Fault.{Fault}
 use Rattle.scx_world.specs.declared.faults.Fault.TheVariants.{NoSuchQueue, NoSuchCpu, CannotCreate}
 use Rattle.scx_world.specs.declared.eject.Eject.{Eject}
 use Rattle.scx_world.specs.World.{WorldState, with_queues, waits, running}
-use Rattle.scx_world.specs.Tasks.{gone, entered, for_cpu, brought, kept, put_parked}
-use Rattle.scx_world.specs.Ejecting.{put_out, put_builtin, evicted, cut, cut_task}
-use Rattle.scx_world.specs.Helpers.{is_there, can_create, faulted, is_dispatch, insert_fault, with_insert, released, inserted, asked, asked_by_vtime, can_move, moved, given_number, given_task, helper_after, world_functions}
+use Rattle.scx_world.specs.Tasks.{after_leave, after_enter, for_cpu, brought, after_keep, put_parked}
+use Rattle.scx_world.specs.Ejecting.{put_out, put_builtin, after_evictions, after_cut, cut_task}
+use Rattle.scx_world.specs.Helpers.{is_there, can_create, with_fault, is_dispatch, insert_fault, with_insert, after_release, insert_or_fault, insert_of, insert_of_vtime, can_move, front_moved_to_local, given_number, given_task, helper_after, world_functions}
 use Rattle.scx_machine.specs.Steps.{State}
-use Rattle.scx_machine.specs.Callbacks.{called}
+use Rattle.scx_machine.specs.Callbacks.{call_ending}
 use Rattle.scx_machine.specs.Ejecting.{moves_over, eject}
 use Rattle.scx_machine.proofs.Unchanged.{keeps_if}
 
@@ -35,28 +35,28 @@ abbrev pub IsAsBefore : WorldState → WorldState → Type 0
 IsAsBefore v w = (w.clock ≡ v.clock) × (w.ejected ≡ v.ejected) × (w.cycling ≡ v.cycling) × (w.tree ≡ v.tree)
 
 module _ (v : WorldState) where
-  pub same_entered : (w : WorldState) (t : ℕ) (i : Insert) → IsAsBefore v w → IsAsBefore v (entered w t i)
+  pub same_entered : (w : WorldState) (t : ℕ) (i : Insert) → IsAsBefore v w → IsAsBefore v (after_enter w t i)
   same_entered w t i h = keeps_if (IsAsBefore v) (nat_lt t (length w.tasks)) _ w h h
 
-  same_released : (w : WorldState) (t : Option ℕ) (i : Insert) → IsAsBefore v w → IsAsBefore v (released w t i)
+  same_released : (w : WorldState) (t : Option ℕ) (i : Insert) → IsAsBefore v w → IsAsBefore v (after_release w t i)
   same_released w None i h = h
-  same_released w (Some t) i h = same_entered (gone w t) t i h
+  same_released w (Some t) i h = same_entered (after_leave w t) t i h
 
-  same_inserted : (w : WorldState) (o : Option Fault) (t : Option ℕ) (i : Insert) → IsAsBefore v w → IsAsBefore v (inserted w o t i)
-  same_inserted w None t i h = keeps_if (IsAsBefore v) (is_dispatch w.call.callback) (released w t (for_cpu w.call.cpu i)) (with_insert w i) (same_released w t (for_cpu w.call.cpu i) h) h
+  same_inserted : (w : WorldState) (o : Option Fault) (t : Option ℕ) (i : Insert) → IsAsBefore v w → IsAsBefore v (insert_or_fault w o t i)
+  same_inserted w None t i h = keeps_if (IsAsBefore v) (is_dispatch w.call.callback) (after_release w t (for_cpu w.call.cpu i)) (with_insert w i) (same_released w t (for_cpu w.call.cpu i) h) h
   same_inserted w (Some f) t i h = h
 
-  same_moved : (w : WorldState) (o : Option ℕ) (q : ℕ) → IsAsBefore v w → IsAsBefore v (moved w o q)
+  same_moved : (w : WorldState) (o : Option ℕ) (q : ℕ) → IsAsBefore v w → IsAsBefore v (front_moved_to_local w o q)
   same_moved w None q h = h
   same_moved w (Some t) q h = h
 
   same_helper : (w : WorldState) (f : Helper) (a : List Arg) → IsAsBefore v w → IsAsBefore v (helper_after w f a)
-  same_helper w CreateDsq a h = keeps_if (IsAsBefore v) (can_create w (given_number a 0)) (with_queues w (created w.queues (given_number a 0))) (faulted w CannotCreate) h h
-  same_helper w DsqInsert a h = same_inserted w (insert_fault w (given_task a 0) (asked a) (given_number a 3)) (given_task a 0) (asked a) h
-  same_helper w DsqInsertVtime a h = same_inserted w (insert_fault w (given_task a 0) (asked_by_vtime a) (given_number a 4)) (given_task a 0) (asked_by_vtime a) h
-  same_helper w DsqMoveToLocal a h = keeps_if (IsAsBefore v) (can_move w (given_number a 0)) (moved w (front_of w.queues (given_number a 0)) (given_number a 0)) (faulted w NoSuchQueue) (same_moved w (front_of w.queues (given_number a 0)) (given_number a 0) h) h
-  same_helper w CpuIdle a h = keeps_if (IsAsBefore v) (nat_lt (given_number a 0) (length w.cpus)) w (faulted w NoSuchCpu) h h
-  same_helper w DsqNrQueued a h = keeps_if (IsAsBefore v) (is_there w (given_number a 0)) w (faulted w NoSuchQueue) h h
+  same_helper w CreateDsq a h = keeps_if (IsAsBefore v) (can_create w (given_number a 0)) (with_queues w (after_create w.queues (given_number a 0))) (with_fault w CannotCreate) h h
+  same_helper w DsqInsert a h = same_inserted w (insert_fault w (given_task a 0) (insert_of a) (given_number a 3)) (given_task a 0) (insert_of a) h
+  same_helper w DsqInsertVtime a h = same_inserted w (insert_fault w (given_task a 0) (insert_of_vtime a) (given_number a 4)) (given_task a 0) (insert_of_vtime a) h
+  same_helper w DsqMoveToLocal a h = keeps_if (IsAsBefore v) (can_move w (given_number a 0)) (front_moved_to_local w (front_of w.queues (given_number a 0)) (given_number a 0)) (with_fault w NoSuchQueue) (same_moved w (front_of w.queues (given_number a 0)) (given_number a 0) h) h
+  same_helper w CpuIdle a h = keeps_if (IsAsBefore v) (nat_lt (given_number a 0) (length w.cpus)) w (with_fault w NoSuchCpu) h h
+  same_helper w DsqNrQueued a h = keeps_if (IsAsBefore v) (is_there w (given_number a 0)) w (with_fault w NoSuchQueue) h h
   same_helper w KtimeGetNs a h = h
   same_helper w SelectCpuDfl a h = h
   same_helper w TaskByPid a h = h
@@ -75,34 +75,34 @@ module _ (v : WorldState) where
   pub same_put_parked : (w : WorldState) (t : ℕ) → IsAsBefore v w → IsAsBefore v (put_parked w t)
   same_put_parked w t h = keeps_if (IsAsBefore v) (nat_lt t (length w.tasks)) _ w h h
 
-  same_evicted : (j : ℕ) (w : WorldState) → IsAsBefore v w → IsAsBefore v (evicted j w)
+  same_evicted : (j : ℕ) (w : WorldState) → IsAsBefore v w → IsAsBefore v (after_evictions j w)
   same_evicted zero w h = h
   same_evicted (suc j) w h =
-      let u = evicted j w in
+      let u = after_evictions j w in
       let x = same_evicted j w h in
-      keeps_if (IsAsBefore v) (waits u j) (put_builtin (gone u j) j) u (same_put_builtin (gone u j) j x) x
+      keeps_if (IsAsBefore v) (waits u j) (put_builtin (after_leave u j) j) u (same_put_builtin (after_leave u j) j x) x
 
   same_cut_task : (o : Option ℕ) (w : WorldState) → IsAsBefore v w → IsAsBefore v (cut_task o w)
   same_cut_task None w h = h
   same_cut_task (Some t) w h = h
 
-  same_cut : (j : ℕ) (w : WorldState) → IsAsBefore v w → IsAsBefore v (cut j w)
+  same_cut : (j : ℕ) (w : WorldState) → IsAsBefore v w → IsAsBefore v (after_cut j w)
   same_cut zero w h = h
-  same_cut (suc j) w h = same_cut_task (running (cut j w) j) (cut j w) (same_cut j w h)
+  same_cut (suc j) w h = same_cut_task (running (after_cut j w) j) (after_cut j w) (same_cut j w h)
 
 -- nor does a run
-pub same_called : (p : Option VerifiedProgram) (b : Callback) (a : Args) (maps : Maps) (w : WorldState) → IsAsBefore w (called p b a maps w).outside
-unfolding called run_of
+pub same_called : (p : Option VerifiedProgram) (b : Callback) (a : Args) (maps : Maps) (w : WorldState) → IsAsBefore w (call_ending p b a maps w).outside
+unfolding call_ending run_of
 same_called None b a maps w = (refl, refl, refl, refl)
 same_called (Some p) b a maps w =
-    run_keeps (answer_to world_functions) (after_query world_functions) (IsAsBefore w) (same_query w) b p.code (suc (instruction_count p.code)) 0 (start.start (given a) maps) w (refl, refl, refl, refl)
+    run_keeps (answer_to world_functions) (after_query world_functions) (IsAsBefore w) (same_query w) b p.code (suc (instruction_count p.code)) 0 (start.start (program_arguments a) maps) w (refl, refl, refl, refl)
 
 -- an ejection puts the policy out of force, and changes no more of these
 pub eject_sets : (s : State) (x : Eject) → IsAsBefore (put_out s.world x) (eject s x).state.world
 unfolding eject moves_over
 eject_sets s x =
     let w = put_out s.world x in
-    let v = evicted (length w.tasks) w in
+    let v = after_evictions (length w.tasks) w in
     same_cut w (length v.cpus) v (same_evicted w (length w.tasks) w (refl, refl, refl, refl))
 
 -- ---- other small steps
@@ -113,6 +113,6 @@ same_brought None w q c = (refl, refl, refl, refl)
 same_brought (Some t) w q c = (refl, refl, refl, refl)
 
 -- as a task keeps its processor, clock, ejection, cycle and tree stay as they are
-pub same_kept : (w : WorldState) (o : Option ℕ) → IsAsBefore w (kept w o)
+pub same_kept : (w : WorldState) (o : Option ℕ) → IsAsBefore w (after_keep w o)
 same_kept w None = (refl, refl, refl, refl)
 same_kept w (Some t) = (refl, refl, refl, refl)

@@ -3,7 +3,7 @@ use Rattle.std.proofs.Common.{◌≡◌, ℕ, suc, Bool, true, false, ◌&&◌, 
 use Rattle.std.proofs.lemmas.List.{append-nil}
 use Rattle.std.specs.List.{list_any}
 use Rattle.scx_dsq.specs.Queues.{exists, front_of}
-use Rattle.scx_dsq.specs.Calls.{created, clashes}
+use Rattle.scx_dsq.specs.Calls.{after_create, clashes}
 use Rattle.scx_dsq.specs.declared.entries.Rank.{Rank}
 use Rattle.scx_semantics.specs.declared.callbacks.Callback.{Callback}
 use Rattle.scx_semantics.specs.declared.host_tables.Helper.{Helper}
@@ -15,7 +15,7 @@ use Rattle.scx_semantics.specs.Endings.{Ending, run_of}
 use Rattle.scx_semantics.proofs.EndedRuns.{run_keeps}
 use Rattle.scx_semantics.specs.Machine as start
 use Rattle.scx_safety.specs.Programs.{VerifiedProgram}
-use Rattle.scx_vm.specs.Arguments.{given, argument_of}
+use Rattle.scx_vm.specs.Arguments.{program_arguments, argument_of}
 use Rattle.scx_vm.specs.declared.arguments.Arg.{Arg}
 use Rattle.scx_vm.specs.declared.arguments.Args.{Args}
 use Rattle.scx_vm.specs.Host.{answer_to, after_query}
@@ -26,15 +26,15 @@ use Rattle.scx_world.specs.declared.faults.Fault.{Fault}
 use Rattle.scx_world.specs.declared.faults.Fault.TheVariants.{Stuck, NoSuchQueue, CannotInsert, NoSuchCpu, UnknownFlag, CannotCreate, BuiltinVtime, Mixed}
 use Rattle.scx_world.specs.Ids.{policy_end, global, local, local_on}
 use Rattle.scx_world.specs.World.{WorldState, with_queues}
-use Rattle.scx_world.specs.Tasks.{gone, entered, for_cpu, later, begun_periods}
-use Rattle.scx_world.specs.Helpers.{is_there, can_create, first_fault, faulted, is_dispatch, may_insert, is_vtime, queue_fault, rank_fault, or_fault, insert_fault, with_insert, released, inserted, asked, asked_by_vtime, can_move, moved, given_number, given_task, helper_after, world_functions}
+use Rattle.scx_world.specs.Tasks.{after_leave, after_enter, for_cpu, later, begun_periods}
+use Rattle.scx_world.specs.Helpers.{is_there, can_create, first_fault, with_fault, is_dispatch, may_insert, is_vtime, queue_fault, rank_fault, or_fault, insert_fault, with_insert, after_release, insert_or_fault, insert_of, insert_of_vtime, can_move, front_moved_to_local, given_number, given_task, helper_after, world_functions}
 use Rattle.scx_machine.specs.declared.events.Event.{Event}
 use Rattle.scx_machine.specs.declared.events.Event.TheVariants.{Wake, Sleep, Tick, Clock, SetWeight}
-use Rattle.scx_machine.specs.Steps.{State, Stepped, CallMade, with_world, joined}
+use Rattle.scx_machine.specs.Steps.{State, Stepped, CallMade, with_world, one_after_other}
 use Rattle.scx_machine.specs.Ejecting.{eject}
 use Rattle.scx_machine.specs.Parking.{let_all_go}
-use Rattle.scx_machine.specs.Events.{refusal, overdue, stalled, clock, happened}
-use Rattle.scx_machine.specs.Callbacks.{called, IsAnswered, AreAnswered}
+use Rattle.scx_machine.specs.Events.{refusal, overdue, eject_if_stalled, clock, event_step}
+use Rattle.scx_machine.specs.Callbacks.{call_ending, IsAnswered, AreAnswered}
 use Rattle.scx_machine.proofs.Unchanged.{keeps_if}
 use Rattle.scx_sched.specs.Causes.{EndsIn, HasFault, Of_helper, Of_answer, IsNeverStuck}
 use Rattle.scx_sched.specs.Decided.{tree_after}
@@ -78,38 +78,38 @@ other_insert w t i flags =
 abbrev IsUnstuck : WorldState → Type 0
 IsUnstuck w = IsOther w.call.fault
 
-unstuck_faulted : (w : WorldState) (f : Fault) → IsOther (Some f) → IsUnstuck w → IsUnstuck (faulted w f)
+unstuck_faulted : (w : WorldState) (f : Fault) → IsOther (Some f) → IsUnstuck w → IsUnstuck (with_fault w f)
 unstuck_faulted w f other h = go w.call.fault h
   where
     go : (o : Option Fault) → IsOther o → IsOther (first_fault o f)
     go None k = other
     go (Some g) k = k
 
-unstuck_entered : (w : WorldState) (t : ℕ) (i : Insert) → IsUnstuck w → IsUnstuck (entered w t i)
+unstuck_entered : (w : WorldState) (t : ℕ) (i : Insert) → IsUnstuck w → IsUnstuck (after_enter w t i)
 unstuck_entered w t i h = keeps_if IsUnstuck (nat_lt t (length w.tasks)) _ w h h
 
-unstuck_released : (w : WorldState) (t : Option ℕ) (i : Insert) → IsUnstuck w → IsUnstuck (released w t i)
+unstuck_released : (w : WorldState) (t : Option ℕ) (i : Insert) → IsUnstuck w → IsUnstuck (after_release w t i)
 unstuck_released w None i h = h
-unstuck_released w (Some t) i h = unstuck_entered (gone w t) t i h
+unstuck_released w (Some t) i h = unstuck_entered (after_leave w t) t i h
 
-unstuck_inserted : (w : WorldState) (o : Option Fault) (t : Option ℕ) (i : Insert) → IsOther o → IsUnstuck w → IsUnstuck (inserted w o t i)
-unstuck_inserted w None t i other h = keeps_if IsUnstuck (is_dispatch w.call.callback) (released w t (for_cpu w.call.cpu i)) (with_insert w i) (unstuck_released w t (for_cpu w.call.cpu i) h) h
+unstuck_inserted : (w : WorldState) (o : Option Fault) (t : Option ℕ) (i : Insert) → IsOther o → IsUnstuck w → IsUnstuck (insert_or_fault w o t i)
+unstuck_inserted w None t i other h = keeps_if IsUnstuck (is_dispatch w.call.callback) (after_release w t (for_cpu w.call.cpu i)) (with_insert w i) (unstuck_released w t (for_cpu w.call.cpu i) h) h
 unstuck_inserted w (Some f) t i other h = unstuck_faulted w f other h
 
-unstuck_moved : (w : WorldState) (o : Option ℕ) (q : ℕ) → IsUnstuck w → IsUnstuck (moved w o q)
+unstuck_moved : (w : WorldState) (o : Option ℕ) (q : ℕ) → IsUnstuck w → IsUnstuck (front_moved_to_local w o q)
 unstuck_moved w None q h = h
 unstuck_moved w (Some t) q h = h
 
 unstuck_helper : (w : WorldState) (f : Helper) (a : List Arg) → IsUnstuck w → IsUnstuck (helper_after w f a)
 unstuck_helper w CreateDsq a h =
-    keeps_if IsUnstuck (can_create w (given_number a 0)) (with_queues w (created w.queues (given_number a 0))) (faulted w CannotCreate) h (unstuck_faulted w CannotCreate (λ e. absurd (cc)) h)
-unstuck_helper w DsqInsert a h = unstuck_inserted w (insert_fault w (given_task a 0) (asked a) (given_number a 3)) (given_task a 0) (asked a) (other_insert w (given_task a 0) (asked a) (given_number a 3)) h
+    keeps_if IsUnstuck (can_create w (given_number a 0)) (with_queues w (after_create w.queues (given_number a 0))) (with_fault w CannotCreate) h (unstuck_faulted w CannotCreate (λ e. absurd (cc)) h)
+unstuck_helper w DsqInsert a h = unstuck_inserted w (insert_fault w (given_task a 0) (insert_of a) (given_number a 3)) (given_task a 0) (insert_of a) (other_insert w (given_task a 0) (insert_of a) (given_number a 3)) h
 unstuck_helper w DsqInsertVtime a h =
-    unstuck_inserted w (insert_fault w (given_task a 0) (asked_by_vtime a) (given_number a 4)) (given_task a 0) (asked_by_vtime a) (other_insert w (given_task a 0) (asked_by_vtime a) (given_number a 4)) h
+    unstuck_inserted w (insert_fault w (given_task a 0) (insert_of_vtime a) (given_number a 4)) (given_task a 0) (insert_of_vtime a) (other_insert w (given_task a 0) (insert_of_vtime a) (given_number a 4)) h
 unstuck_helper w DsqMoveToLocal a h =
-    keeps_if IsUnstuck (can_move w (given_number a 0)) (moved w (front_of w.queues (given_number a 0)) (given_number a 0)) (faulted w NoSuchQueue) (unstuck_moved w (front_of w.queues (given_number a 0)) (given_number a 0) h) (unstuck_faulted w NoSuchQueue (λ e. absurd (cc)) h)
-unstuck_helper w CpuIdle a h = keeps_if IsUnstuck (nat_lt (given_number a 0) (length w.cpus)) w (faulted w NoSuchCpu) h (unstuck_faulted w NoSuchCpu (λ e. absurd (cc)) h)
-unstuck_helper w DsqNrQueued a h = keeps_if IsUnstuck (is_there w (given_number a 0)) w (faulted w NoSuchQueue) h (unstuck_faulted w NoSuchQueue (λ e. absurd (cc)) h)
+    keeps_if IsUnstuck (can_move w (given_number a 0)) (front_moved_to_local w (front_of w.queues (given_number a 0)) (given_number a 0)) (with_fault w NoSuchQueue) (unstuck_moved w (front_of w.queues (given_number a 0)) (given_number a 0) h) (unstuck_faulted w NoSuchQueue (λ e. absurd (cc)) h)
+unstuck_helper w CpuIdle a h = keeps_if IsUnstuck (nat_lt (given_number a 0) (length w.cpus)) w (with_fault w NoSuchCpu) h (unstuck_faulted w NoSuchCpu (λ e. absurd (cc)) h)
+unstuck_helper w DsqNrQueued a h = keeps_if IsUnstuck (is_there w (given_number a 0)) w (with_fault w NoSuchQueue) h (unstuck_faulted w NoSuchQueue (λ e. absurd (cc)) h)
 unstuck_helper w KtimeGetNs a h = h
 unstuck_helper w SelectCpuDfl a h = h
 unstuck_helper w TaskByPid a h = h
@@ -120,10 +120,10 @@ unstuck_query w (Call f a) h = unstuck_helper w f (map argument_of a) h
 unstuck_query w (Load t f) h = h
 unstuck_query w (Store t f k) h = h
 
-unstuck_called : (p : VerifiedProgram) (b : Callback) (a : Args) (maps : Maps) (w : WorldState) → w.call.fault ≡ None → IsUnstuck (called (Some p) b a maps w).outside
-unfolding called run_of
+unstuck_called : (p : VerifiedProgram) (b : Callback) (a : Args) (maps : Maps) (w : WorldState) → w.call.fault ≡ None → IsUnstuck (call_ending (Some p) b a maps w).outside
+unfolding call_ending run_of
 unstuck_called p b a maps w fresh =
-    run_keeps (answer_to world_functions) (after_query world_functions) IsUnstuck unstuck_query b p.code (suc (instruction_count p.code)) 0 (start.start (given a) maps) w (subst IsOther (sym fresh) no_fault)
+    run_keeps (answer_to world_functions) (after_query world_functions) IsUnstuck unstuck_query b p.code (suc (instruction_count p.code)) 0 (start.start (program_arguments a) maps) w (subst IsOther (sym fresh) no_fault)
 
 -- ---- a callback that is called
 
@@ -163,20 +163,20 @@ clock_unstuck s answered before = go (overdue r.state) answered
     r : Stepped
     r = let_all_go v
 
-    go : (o : Option ℕ) → AreAnswered (joined r (stalled o r.state)).calls → IsNeverStuck (joined r (stalled o r.state)).state.world
+    go : (o : Option ℕ) → AreAnswered (one_after_other r (eject_if_stalled o r.state)).calls → IsNeverStuck (one_after_other r (eject_if_stalled o r.state)).state.world
     go None all n out = never_stuck v r (honest_let_all_go v) (subst AreAnswered (append-nil r.calls) all) before n out
     go (Some t) all n out =
         let y = cause.Stall t r.state.world.clock in
         apart_causes t r.state.world.clock n (same_eject (eject r.state y).state.world.ejected y (cause.Fault Stuck n) (eject_sets r.state y).1 out)
 
 -- no accepted event whose calls are answered ejects a policy for a callback that was stuck
-pub unstuck_step : (s : State) (n : ℕ) (v : Event) → refusal s v ≡ None → IsFineNow (length s.world.tasks) n n s.world → AreAnswered (happened s v).calls → IsNeverStuck s.world → IsNeverStuck (happened s v).state.world
+pub unstuck_step : (s : State) (n : ℕ) (v : Event) → refusal s v ≡ None → IsFineNow (length s.world.tasks) n n s.world → AreAnswered (event_step s v).calls → IsNeverStuck s.world → IsNeverStuck (event_step s v).state.world
 unstuck_step s n v ok fine answered before = go v (is_taken s v ok) ok answered
   where
-    plain : (v : Event) → IsHonestEvent s v → AreAnswered (happened s v).calls → IsNeverStuck (happened s v).state.world
-    plain v h answered = never_stuck (state_with_tree s (tree_after v s.world)) (happened s v) h answered before
+    plain : (v : Event) → IsHonestEvent s v → AreAnswered (event_step s v).calls → IsNeverStuck (event_step s v).state.world
+    plain v h answered = never_stuck (state_with_tree s (tree_after v s.world)) (event_step s v) h answered before
 
-    go : (v : Event) → IsTaken s v → refusal s v ≡ None → AreAnswered (happened s v).calls → IsNeverStuck (happened s v).state.world
+    go : (v : Event) → IsTaken s v → refusal s v ≡ None → AreAnswered (event_step s v).calls → IsNeverStuck (event_step s v).state.world
     go _ (Wakes t within resting) ok answered = plain (Wake t) (wake_is_honest s n fine t) answered
     go _ (Sleeps t within runnable) ok answered = plain (Sleep t) (sleep_is_honest s n fine t within) answered
     go _ (Ticks c l) ok answered = plain (Tick c) (tick_is_honest s n fine c l) answered

@@ -10,7 +10,7 @@ use Rattle.scx_machine.specs.Policy.{PolicyState, IsTimeout, AreAs}
 use Rattle.scx_machine.specs.Steps.{State}
 use Rattle.scx_machine.specs.Callbacks.{AreAnswered}
 use Rattle.scx_machine.specs.Events as machine
-use Rattle.scx_machine.specs.Start.{is_bad_shape, started}
+use Rattle.scx_machine.specs.Start.{is_bad_shape, first_state}
 use Rattle.scx_machine.specs.Budgets.{start_pushes, event_pushes}
 use Rattle.scx_sched.specs.Ranges.{IsFine}
 use Rattle.scx_sched.specs.Usages.{AreBounded}
@@ -30,7 +30,7 @@ fine_with : (n e : ℕ) (w : WorldState) → IsFine n e e None w.cpus w → IsFi
 fine_with n e w h = subst (λ k. IsFine k e e None w.cpus w) (sym h.sound.tasks) h
 
 -- at first
-pub valid_first : (p : PolicyState) (tree : Hierarchy) (cpus : ℕ) (t : State) → is_bad_shape tree cpus ≡ false → length tree.active ≡ length tree.homes → IsTimeout p.timeout_ms → AreAs p.callbacks → started p tree cpus ≡ Ok t → t.world.queues.pushes ≤ start_pushes → IsValid t 0
+pub valid_first : (p : PolicyState) (tree : Hierarchy) (cpus : ℕ) (t : State) → is_bad_shape tree cpus ≡ false → length tree.active ≡ length tree.homes → IsTimeout p.timeout_ms → AreAs p.callbacks → first_state p tree cpus ≡ Ok t → t.world.queues.pushes ≤ start_pushes → IsValid t 0
 valid_first p tree cpus t shape flags timeout programs e few =
     let h = fine_started p tree cpus t shape flags e in
     record {
@@ -46,10 +46,10 @@ valid_first p tree cpus t shape flags timeout programs e few =
     }
 
 -- after each
-pub valid_step : (s : State) (n : ℕ) (v : Event) → refusal (record { state = s; events = n }) v ≡ None → IsValid s n → AreAnswered (machine.happened s v).calls → (machine.happened s v).state.world.queues.pushes ≤ s.world.queues.pushes + event_pushes → IsValid (machine.happened s v).state (n + 1)
+pub valid_step : (s : State) (n : ℕ) (v : Event) → refusal (record { state = s; events = n }) v ≡ None → IsValid s n → AreAnswered (machine.event_step s v).calls → (machine.event_step s v).state.world.queues.pushes ≤ s.world.queues.pushes + event_pushes → IsValid (machine.event_step s v).state (n + 1)
 valid_step s n v e h answered few =
     let a = accepted (record { state = s; events = n }) v e in
-    let t = (machine.happened s v).state in
+    let t = (machine.event_step s v).state in
     let same : t.policy ≡ s.policy = (decides s n v a.taken h.fine).policy in
     let time = time_step s.policy.timeout_ms (length s.world.tasks) n s v refl a.taken refl h.fine h.timely in
     record {
@@ -61,9 +61,9 @@ valid_step s n v e h answered few =
       unstuck = unstuck_step s n v a.taken h.fine answered h.unstuck;
       there = queues_there n s v a.taken h.fine h.there;
       timely = subst (λ (q : PolicyState). IsInTime q.timeout_ms t.world) (sym same) time;
-      fine = fine_with (length s.world.tasks) (n + 1) (machine.happened s v).state.world (fine_step (length s.world.tasks) n s v refl a.taken h.fine);
+      fine = fine_with (length s.world.tasks) (n + 1) (machine.event_step s v).state.world (fine_step (length s.world.tasks) n s v refl a.taken h.fine);
     }
 
 -- and then no usage is past its bound
-pub step_bounded : (s : State) (n : ℕ) (v : Event) → refusal (record { state = s; events = n }) v ≡ None → IsValid s n → AreBounded (machine.happened s v).state.world
-step_bounded s n v e h = are_bounded (machine.happened s v).state.world (fine_step (length s.world.tasks) n s v refl (accepted (record { state = s; events = n }) v e).taken h.fine).within
+pub step_bounded : (s : State) (n : ℕ) (v : Event) → refusal (record { state = s; events = n }) v ≡ None → IsValid s n → AreBounded (machine.event_step s v).state.world
+step_bounded s n v e h = are_bounded (machine.event_step s v).state.world (fine_step (length s.world.tasks) n s v refl (accepted (record { state = s; events = n }) v e).taken h.fine).within

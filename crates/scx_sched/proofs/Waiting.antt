@@ -3,7 +3,7 @@ use Rattle.std.proofs.Common.{◌≡◌, ℕ, ◌+◌, ◌<◌, ◌≤◌, Bool,
 use Rattle.std.proofs.lemmas.Bool.{cases_eq, cases_lt, eq-eqb, ne_eqb}
 use Rattle.std.proofs.lemmas.List.{get_or-set_same, get_or-set_other, set_past}
 use Rattle.scx_dsq.specs.Queues.{QueueState, task_count, entry_of, queue_of, front_of}
-use Rattle.scx_dsq.specs.Calls.{push_refusal, next_entry, with_task as with_place, without_task, pushed, removed}
+use Rattle.scx_dsq.specs.Calls.{push_refusal, next_entry, with_task as with_place, without_task, after_push, after_remove}
 use Rattle.scx_dsq.specs.declared.entries.Entry.{Entry}
 use Rattle.scx_dsq.specs.Laws.{one_if, standing}
 use Rattle.scx_dsq.specs.declared.entries.Rank.{Rank}
@@ -14,9 +14,9 @@ use Rattle.scx_tasks.specs.declared.task.Task.{Task}
 use Rattle.scx_tasks.specs.Tasks.{no_task}
 use Rattle.scx_world.specs.declared.call.Insert.{Insert}
 use Rattle.scx_world.proofs.Fronts.{front_in}
-use Rattle.scx_world.specs.Ids.{parked}
+use Rattle.scx_world.specs.Ids.{parked_queue}
 use Rattle.scx_world.specs.World.{WorldState, waits_in, with_queues, with_task, task_at, waits, is_this, is_runnable}
-use Rattle.scx_world.specs.Tasks.{given_slice, given_vtime, given, renewed}
+use Rattle.scx_world.specs.Tasks.{given_slice, given_vtime, task_after_insert, with_new_slice}
 use Rattle.scx_world.specs.Helpers.{stored_in}
 use Rattle.scx_machine.proofs.Unchanged.{keeps_if}
 use Rattle.scx_sched.specs.Waits.{HasWaits}
@@ -62,7 +62,7 @@ waits_stands s u = go (entry_of s u)
   where
     go : (o : Option Entry) → one_if (waits_in (option_map (λ p. p.queue) o)) ≤ one_if (is_some o)
     go None = omega arith
-    go (Some p) = one_le (not (p.queue == parked))
+    go (Some p) = one_le (not (p.queue == parked_queue))
 
 -- a task that waits has an entry
 pub waits_there : (s : QueueState) (u : ℕ) → waits_in (queue_of s u) ≡ true → is_some (entry_of s u) ≡ true
@@ -73,7 +73,7 @@ waits_there s u e = go (entry_of s u) e
     go (Some p) x = refl
 
 -- a push leaves the entries of other tasks as they are
-pub pushed_other : (s : QueueState) (q t u : ℕ) (r : Rank) → (u ≡ t → ⊥) → entry_of (pushed s q t r) u ≡ entry_of s u
+pub pushed_other : (s : QueueState) (q t u : ℕ) (r : Rank) → (u ≡ t → ⊥) → entry_of (after_push s q t r) u ≡ entry_of s u
 pushed_other s q t u r other = go (is_none (push_refusal s q t r))
   where
     go : (b : Bool) → entry_of (if b then with_place s q t r else s) u ≡ entry_of s u
@@ -81,7 +81,7 @@ pushed_other s q t u r other = go (is_none (push_refusal s q t r))
     go false = refl
 
 -- a task whose push is accepted is in that queue then
-pub pushed_here : (s : QueueState) (q t : ℕ) (r : Rank) → t < task_count s → push_refusal s q t r ≡ None → queue_of (pushed s q t r) t ≡ Some q
+pub pushed_here : (s : QueueState) (q t : ℕ) (r : Rank) → t < task_count s → push_refusal s q t r ≡ None → queue_of (after_push s q t r) t ≡ Some q
 pushed_here s q t r within ok = rw (ok, get_or-set_same {A = Option Entry} s.entries t (Some (next_entry s q r)) None within) refl
 
 -- a task without its entry leaves those of other tasks as they are
@@ -89,7 +89,7 @@ pub without_other : (s : QueueState) (t u : ℕ) → (u ≡ t → ⊥) → entry
 without_other s t u other = get_or-set_other {A = Option Entry} s.entries t u None None other
 
 -- a task that leaves its queue leaves the entries of other tasks as they are
-pub removed_other : (s : QueueState) (t u : ℕ) → (u ≡ t → ⊥) → entry_of (removed s t) u ≡ entry_of s u
+pub removed_other : (s : QueueState) (t u : ℕ) → (u ≡ t → ⊥) → entry_of (after_remove s t) u ≡ entry_of s u
 removed_other s t u other = keeps_if (λ (x : QueueState). entry_of x u ≡ entry_of s u) (is_some (entry_of s t)) (without_task s t) s (without_other s t u other) refl
 
 -- a task whose entry stays the same waits as it did
@@ -97,18 +97,18 @@ pub same_waiting : (s s' : QueueState) (u : ℕ) → entry_of s' u ≡ entry_of 
 same_waiting s s' u e = ap (λ (o : Option Entry). one_if (waits_in (option_map (λ p. p.queue) o))) e
 
 -- a task that stood nowhere waits where it is put
-pub waiting_pushed : (s : QueueState) (q t u : ℕ) (r : Rank) → t < task_count s → push_refusal s q t r ≡ None → entry_of s t ≡ None → (q == parked) ≡ false → waiting (pushed s q t r) u ≡ waiting s u + one_if (u == t)
+pub waiting_pushed : (s : QueueState) (q t u : ℕ) (r : Rank) → t < task_count s → push_refusal s q t r ≡ None → entry_of s t ≡ None → (q == parked_queue) ≡ false → waiting (after_push s q t r) u ≡ waiting s u + one_if (u == t)
 waiting_pushed s q t u r within ok free apart = go (cases_eq u t)
   where
     none : waiting s t ≡ 0
     none = rw free refl
 
-    one : waiting (pushed s q t r) t ≡ 1
+    one : waiting (after_push s q t r) t ≡ 1
     one = ap (λ (o : Option ℕ). one_if (waits_in o)) (pushed_here s q t r within ok) ∙ ap (λ b. one_if (not b)) apart
 
-    go : (u ≡ t) ⊎ (u ≡ t → ⊥) → waiting (pushed s q t r) u ≡ waiting s u + one_if (u == t)
+    go : (u ≡ t) ⊎ (u ≡ t → ⊥) → waiting (after_push s q t r) u ≡ waiting s u + one_if (u == t)
     go (inl e) = rw (e, eq-eqb t t refl) (omega (arith, none, one))
-    go (inr d) = omega (arith, same_waiting s (pushed s q t r) u (pushed_other s q t u r d), ap one_if (ne_eqb u t d))
+    go (inr d) = omega (arith, same_waiting s (after_push s q t r) u (pushed_other s q t u r d), ap one_if (ne_eqb u t d))
 
 -- one that waited is taken out
 pub waiting_left : (s s' : QueueState) (t u : ℕ) → waiting s t ≡ 1 → entry_of s' t ≡ None → ((k : ℕ) → (k ≡ t → ⊥) → entry_of s' k ≡ entry_of s k) → waiting s' u + one_if (u == t) ≡ waiting s u
@@ -122,7 +122,7 @@ waiting_left s s' t u one gone others = go (cases_eq u t)
     go (inr d) = omega (arith, same_waiting s s' u (others u d), ap one_if (ne_eqb u t d))
 
 -- the front of a queue waits, if it isn't that of parked tasks
-pub front_waits_here : (s : QueueState) (q t : ℕ) → front_of s q ≡ Some t → (q == parked) ≡ false → waiting s t ≡ 1
+pub front_waits_here : (s : QueueState) (q t : ℕ) → front_of s q ≡ Some t → (q == parked_queue) ≡ false → waiting s t ≡ 1
 front_waits_here s q t e apart = ap (λ (o : Option ℕ). one_if (waits_in o)) (front_in s q t e) ∙ ap (λ b. one_if (not b)) apart
 
 -- ---- the wait of one task
@@ -157,7 +157,7 @@ stored_since x Group k = refl
 stored_since x RunNs k = refl
 
 -- an insert
-pub given_since : (x : Task) (i : Insert) → (given x i).since ≡ x.since
+pub given_since : (x : Task) (i : Insert) → (task_after_insert x i).since ≡ x.since
 given_since x i = vtime i.rank ∙ keeps_if (λ (y : Task). y.since ≡ x.since) (i.slice == 0) x _ refl refl
   where
     vtime : (r : Rank) → (given_vtime (given_slice x i.slice) r).since ≡ (given_slice x i.slice).since
@@ -165,7 +165,7 @@ given_since x i = vtime i.rank ∙ keeps_if (λ (y : Task). y.since ≡ x.since)
     vtime (Vtime k) = refl
 
 -- a slice
-pub renewed_since : (x : Task) → (renewed x).since ≡ x.since
+pub renewed_since : (x : Task) → (with_new_slice x).since ≡ x.since
 renewed_since x = keeps_if (λ (y : Task). y.since ≡ x.since) (x.slice == 0) _ x refl refl
 
 -- ---- a task that begins to wait, or waits no more

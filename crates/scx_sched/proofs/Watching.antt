@@ -6,14 +6,14 @@ use Rattle.scx_weights.specs.Refusals.{weight_fault}
 use Rattle.scx_world.specs.declared.eject.Eject.{Eject}
 use Rattle.scx_world.specs.declared.eject.Eject.TheVariants as cause
 use Rattle.scx_world.specs.World.{WorldState, with_tree, wait}
-use Rattle.scx_world.specs.Tasks.{gone, ticked, used_ms, later, begun_periods}
+use Rattle.scx_world.specs.Tasks.{after_leave, after_tick, used_ms, later, begun_periods}
 use Rattle.scx_world.specs.Waits.{first_overdue}
 use Rattle.scx_machine.specs.declared.events.Event.{Event}
 use Rattle.scx_machine.specs.Policy.{PolicyState}
 use Rattle.scx_machine.specs.Steps.{State, with_world}
 use Rattle.scx_machine.specs.Parking.{let_all_go}
 use Rattle.scx_machine.specs.Ejecting.{eject}
-use Rattle.scx_machine.specs.Events.{refusal, overdue, stalled, clock, happened}
+use Rattle.scx_machine.specs.Events.{refusal, overdue, eject_if_stalled, clock, event_step}
 use Rattle.scx_machine.proofs.Unchanged.{keeps_if}
 use Rattle.scx_sched.specs.Kept.{IsKeptBySteps}
 use Rattle.scx_sched.specs.Ranges.{IsFine}
@@ -64,7 +64,7 @@ watched_events limit n e = record {
   sound = λ m hand on w h. h.one.sound;
   woken = λ m on w t within resting h. record { one = (fine_events n e).woken m on w t within resting h.one; two = time_woken limit n w t h.two };
   let_go = λ m on w t within there h. record { one = (fine_events n e).let_go m on w t within there h.one; two = time_let_go limit n w t h.two };
-  left = λ m on w t within runnable off h. record { one = (fine_events n e).left m on w t within runnable off h.one; two = (time_steps limit n).asleep m on (gone w t) t within h.two };
+  left = λ m on w t within runnable off h. record { one = (fine_events n e).left m on w t within runnable off h.one; two = (time_steps limit n).asleep m on (after_leave w t) t within h.two };
 }
 
 -- ---- the clock
@@ -90,12 +90,12 @@ time_clock limit s is = go (overdue r) refl
     same : limit ≡ r.policy.timeout_ms
     same = is ∙ ap (λ (p : PolicyState). p.timeout_ms) (sym (honest_let_all_go v).policy)
 
-    go : (o : Option ℕ) → overdue r ≡ o → IsInTime limit (stalled o r).state.world
+    go : (o : Option ℕ) → overdue r ≡ o → IsInTime limit (eject_if_stalled o r).state.world
     go None e force = subst (λ (k : ℕ). (t : ℕ) → wait r.world t ≤ k) (sym same) (nobody_late r.world r.policy.timeout_ms (none_late r force e))
     go (Some t) e force = let x = cause.Stall t r.world.clock in absurd (apart (eject r x).state.world.ejected x force (eject_sets r x).1)
 
 -- after any accepted event
-pub time_step : (limit n e : ℕ) (s : State) (v : Event) → length s.world.tasks ≡ n → refusal s v ≡ None → limit ≡ s.policy.timeout_ms → IsFineNow n e e s.world → IsInTime limit s.world → IsInTime limit (happened s v).state.world
+pub time_step : (limit n e : ℕ) (s : State) (v : Event) → length s.world.tasks ≡ n → refusal s v ≡ None → limit ≡ s.policy.timeout_ms → IsFineNow n e e s.world → IsInTime limit s.world → IsInTime limit (event_step s v).state.world
 time_step limit n e s v tasks ok is fine time = go v (is_taken s v ok)
   where
     I : ℕ → Option ℕ → List (Option ℕ) → WorldState → Type 0
@@ -113,14 +113,14 @@ time_step limit n e s v tasks ok is fine time = go v (is_taken s v ok)
     ticks : (c t : ℕ) → c < length s.world.cpus → get_or s.world.cpus c None ≡ Some t → IsKeptByTick n I k e s.world c t
     ticks c t l at =
         let x = fine_ticked n e e s.world c t l at fine in
-        let z = ticked s.world t in
+        let z = after_tick s.world t in
         let y = keeps_if (AreInTime limit n) (nat_lt t (length z.tasks)) (with_tree z (with_use z.tree t)) z (time_ticked limit n s.world t old) (time_ticked limit n s.world t old) in
         record {
           goes_on = λ free. record { one = x.goes_on free; two = y };
-          leaves = λ up. record { one = x.leaves up; two = time_stopped limit n (used_ms (ticked s.world t) t) c t y };
+          leaves = λ up. record { one = x.leaves up; two = time_stopped limit n (used_ms (after_tick s.world t) t) c t y };
         }
 
-    go : (v : Event) → IsTaken s v → IsInTime limit (happened s v).state.world
+    go : (v : Event) → IsTaken s v → IsInTime limit (event_step s v).state.world
     go _ (Wakes t within resting) = let x = (keeps_wake n I k e s t (omega (arith, within, tasks)) resting h).two in x.1
     go _ (Sleeps t within runnable) = let x = (keeps_sleep n I k e s t (omega (arith, within, tasks)) runnable h).two in x.1
     go _ (Ticks c l) = let x = (keeps_tick n I k e s c l h (λ t at. ticks c t l at)).two in x.1

@@ -5,7 +5,7 @@ use Rattle.scx_semantics.specs.declared.callbacks.Callback.TheVariants.{SelectCp
 use Rattle.scx_semantics.specs.Code.{instruction_count}
 use Rattle.scx_semantics.specs.Elements.{Maps}
 use Rattle.scx_semantics.specs.Runs.{Runs}
-use Rattle.scx_vm.specs.Arguments.{given}
+use Rattle.scx_vm.specs.Arguments.{program_arguments}
 use Rattle.scx_vm.specs.Host.{host}
 use Rattle.scx_world.specs.declared.eject.Eject.{Eject}
 use Rattle.scx_world.specs.declared.eject.Eject.TheVariants as cause
@@ -24,7 +24,7 @@ use Rattle.scx_sched.specs.Sim.{SimState, calls_of}
 pub record EndsIn (m : CallMade) (answer : ℕ) (w : WorldState) : Type 0 where
   pub steps : ℕ
   pub maps : Maps
-  pub run : Runs (host world_functions) m.callback m.program.code (given m.arguments) m.maps m.world answer steps maps w
+  pub run : Runs (host world_functions) m.callback m.program.code (program_arguments m.arguments) m.maps m.world answer steps maps w
   pub in_bound : steps ≤ instruction_count m.program.code
 
 -- a callback with that fault: of its first helper call that has one, or else of its answer

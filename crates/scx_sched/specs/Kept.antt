@@ -8,11 +8,11 @@ use Rattle.scx_semantics.specs.Effects.{Query}
 use Rattle.scx_vm.specs.Host.{after_query}
 use Rattle.scx_world.specs.declared.call.Insert.{Insert}
 use Rattle.scx_world.specs.declared.eject.Eject.{Eject}
-use Rattle.scx_world.specs.Ids.{parked, local_on}
-use Rattle.scx_world.specs.World.{WorldState, with_cycling, begun, quiet}
-use Rattle.scx_world.specs.Tasks.{for_cpu, to_held, to_global, asleep, entered, filled, stopped, started_at, kept, put_parked, taken}
+use Rattle.scx_world.specs.Ids.{parked_queue, local_on}
+use Rattle.scx_world.specs.World.{WorldState, with_cycling, at_callback, quiet}
+use Rattle.scx_world.specs.Tasks.{for_cpu, to_held, to_global, after_sleep, after_enter, after_fill, after_stop, started_at, after_keep, put_parked, after_take}
 use Rattle.scx_world.specs.Helpers.{world_functions}
-use Rattle.scx_world.specs.Ejecting.{put_out, evict, cut_task, put_builtin, overtaken, charged}
+use Rattle.scx_world.specs.Ejecting.{put_out, evict, cut_task, put_builtin, after_catch_up, after_charge}
 
 -- where the task at hand may come to wait: for any processor, held, or where a callback inserted it
 pub data IsWanted (cpus : ℕ) (w : WorldState) (i : Insert) : Type 0 where
@@ -30,11 +30,11 @@ pub record IsKeptBySteps (n : ℕ) (I : ℕ → Option ℕ → List (Option ℕ)
   pub quiet : (m : ℕ) (hand : Option ℕ) (on : List (Option ℕ)) (w : WorldState) → I m hand on w → I m hand on (quiet w)
   pub cycling : (m : ℕ) (hand : Option ℕ) (on : List (Option ℕ)) (w : WorldState) (o : Option ℕ) → I m hand on w → I m hand on (with_cycling w o)
   pub entered : (m : ℕ) (on : List (Option ℕ)) (w : WorldState) (t : ℕ) (i : Insert) → t < n → IsWanted (length on) w i → I m (Some t) on w → I m None on (entered w t i)
-  pub filled : (m : ℕ) (on : List (Option ℕ)) (w : WorldState) (q c : ℕ) → (q == parked) ≡ false → c < length on → I m None on w → I m None on (filled w q c)
+  pub filled : (m : ℕ) (on : List (Option ℕ)) (w : WorldState) (q c : ℕ) → (q == parked_queue) ≡ false → c < length on → I m None on w → I m None on (filled w q c)
   pub stopped : (m : ℕ) (on : List (Option ℕ)) (w : WorldState) (c t : ℕ) → c < length on → t < n → slice_index_or on c None ≡ Some t → I m None on w → I m (Some t) (slice_set on c None) (stopped w c t)
   pub started : (m : ℕ) (on : List (Option ℕ)) (w : WorldState) (c t : ℕ) → c < length on → slice_index_or on c None ≡ None → front_of w.queues (local_on c) ≡ Some t → is_throttled w.tree t ≡ false → I m None on w → I m None (slice_set on c (Some t)) (started_at (Some t) w c)
   pub put_parked : (m : ℕ) (on : List (Option ℕ)) (w : WorldState) (t : ℕ) → t < n → is_throttled w.tree t ≡ true → I m (Some t) on w → I m None on (put_parked w t)
-  pub taken : (m : ℕ) (on : List (Option ℕ)) (w : WorldState) (q t : ℕ) → (q == parked) ≡ false → front_of w.queues q ≡ Some t → I m None on w → I m (Some t) on (taken w q)
+  pub taken : (m : ℕ) (on : List (Option ℕ)) (w : WorldState) (q t : ℕ) → (q == parked_queue) ≡ false → front_of w.queues q ≡ Some t → I m None on w → I m (Some t) on (taken w q)
   pub kept : (m : ℕ) (on : List (Option ℕ)) (w : WorldState) (t : ℕ) → I m None on w → I m None on (kept w (Some t))
   pub asleep : (m : ℕ) (on : List (Option ℕ)) (w : WorldState) (t : ℕ) → t < n → I m (Some t) on w → I m None on (asleep w t)
   -- an ejection, and the built-in scheduler

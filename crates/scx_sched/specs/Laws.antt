@@ -3,7 +3,7 @@ use Rattle.std.specs.Prelude.{◌≡◌, ℕ, ◌+◌, ◌<◌, length, Option, 
 use Rattle.scx_machine.specs.declared.events.Event.{Event}
 use Rattle.scx_machine.specs.Steps.{State}
 use Rattle.scx_world.specs.World.{running}
-use Rattle.scx_machine.specs.Events.{refusal, happened, tick}
+use Rattle.scx_machine.specs.Events.{refusal, event_step, tick}
 use Rattle.scx_world.specs.declared.eject.Eject.{Eject}
 use Rattle.scx_machine.specs.Ejecting.{eject}
 use Rattle.scx_sched.specs.Over.{GoesOver}
@@ -16,7 +16,7 @@ use Rattle.scx_sched.specs.Accepted.{IsPushAccepted}
 abbrev pub StepKeepsFine : Type 0
 StepKeepsFine =
     (n e : ℕ) (s : State) (v : Event) → length s.world.tasks ≡ n → refusal s v ≡ None → IsFine n e e None s.world.cpus s.world
-    → IsFine n (e + 1) (e + 1) None (happened s v).state.world.cpus (happened s v).state.world
+    → IsFine n (e + 1) (e + 1) None (event_step s v).state.world.cpus (event_step s v).state.world
 
 -- after a tick that leaves its processor idle, no task is left behind for it
 abbrev pub TickLeavesNothing : Type 0

@@ -2,7 +2,7 @@
 -- processors has a task for it, nor, once the policy is ejected, that of the built-in scheduler.
 use Rattle.std.specs.Prelude.{◌≡◌, ℕ, ⊤, true, None, is_some}
 use Rattle.scx_dsq.specs.Queues.{front_of}
-use Rattle.scx_world.specs.Ids.{global, builtin}
+use Rattle.scx_world.specs.Ids.{global, builtin_queue}
 use Rattle.scx_world.specs.World.{WorldState, running}
 use Rattle.scx_world.specs.Tasks.{local_len}
 use Rattle.scx_machine.specs.declared.events.Event.{Event}

@@ -9,9 +9,9 @@ use Rattle.scx_dsq.specs.declared.entries.Rank.{Rank}
 use Rattle.scx_dsq.specs.declared.entries.Rank.TheVariants.{Fifo, Vtime}
 use Rattle.scx_dsq.specs.Laws.{one_if, standing, IsStamped}
 use Rattle.scx_world.specs.declared.call.Insert.{Insert}
-use Rattle.scx_world.specs.Ids.{policy_end, global, held, builtin, parked, local_on}
+use Rattle.scx_world.specs.Ids.{policy_end, global, held_queue, builtin_queue, parked_queue, local_on}
 use Rattle.scx_world.specs.World.{WorldState, task_at, is_this, is_runnable}
-use Rattle.scx_world.specs.Tasks.{resolved}
+use Rattle.scx_world.specs.Tasks.{queue_for}
 use Rattle.scx_world.specs.Helpers.{is_dispatch}
 use Rattle.scx_sched.specs.Waits.{HasWaits}
 
@@ -41,7 +41,7 @@ pub record HasQueues (s : QueueState) (cpus : ℕ) : Type 0 where
 
 -- of the machine's own queues the built-in one is by time, the others in order of arrival
 abbrev pub sort_of : ℕ → Rank
-sort_of q = if q == builtin then Vtime 0 else Fifo
+sort_of q = if q == builtin_queue then Vtime 0 else Fifo
 
 -- a queue of the policy takes tasks of either sort
 abbrev pub fits_queue : ℕ → Rank → Bool
@@ -69,7 +69,7 @@ pub record IsOpen (s : QueueState) (q : ℕ) (r : Rank) : Type 0 where
 -- where the callback wants its task to go, for each processor that LOCAL may mean; to no parked ones
 abbrev pub GoesSomewhere : QueueState → ℕ → Option Insert → Type 0
 GoesSomewhere s cpus None = Unit {0}
-GoesSomewhere s cpus (Some i) = (c : ℕ) → c < cpus → IsOpen s (resolved c i.queue) i.rank × ((resolved c i.queue == parked) ≡ false)
+GoesSomewhere s cpus (Some i) = (c : ℕ) → c < cpus → IsOpen s (queue_for c i.queue) i.rank × ((queue_for c i.queue == parked_queue) ≡ false)
 
 -- what holds of a world of so many tasks with these on its processors, and that task in no place
 pub record IsSound (hand : Option ℕ) (on : List (Option ℕ)) (n : ℕ) (w : WorldState) : Type 0 where

@@ -1,7 +1,7 @@
 -- What the accessors of the machine answer.
 use Rattle.std.specs.Prelude.{ℕ, ◌==◌, ◌%◌, ◌^◌, nat_lt, if◌then◌else◌, Option, Some, None}
 use Rattle.scx_dsq.specs.Queues.{queue_of}
-use Rattle.scx_world.specs.Ids.{policy_end, global, held, builtin, parked}
+use Rattle.scx_world.specs.Ids.{policy_end, global, held_queue, builtin_queue, parked_queue}
 use Rattle.scx_world.specs.World.{WorldState, cpu_of}
 use Rattle.scx_sched.specs.declared.places.Place.{Place}
 use Rattle.scx_sched.specs.declared.places.Place.TheVariants.{Asleep, Cpu, Policy, Global, Local, Held, Builtin, Parked}
@@ -11,9 +11,9 @@ abbrev pub queue_place : ℕ → Place
 queue_place q =
     if nat_lt q policy_end then Policy q
     else (if q == global then Global
-    else (if q == held then Held
-    else (if q == builtin then Builtin
-    else (if q == parked then Parked else Local (q % 2 ^ 32)))))
+    else (if q == held_queue then Held
+    else (if q == builtin_queue then Builtin
+    else (if q == parked_queue then Parked else Local (q % 2 ^ 32)))))
 
 -- on a processor, in a queue, or in neither place
 abbrev pub place_in : Option ℕ → Option ℕ → Place

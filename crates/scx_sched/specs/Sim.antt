@@ -9,7 +9,7 @@ use Rattle.scx_machine.specs.declared.events.Refused.TheVariants.{RunOver}
 use Rattle.scx_weights.specs.Hierarchy.{Hierarchy}
 use Rattle.scx_machine.specs.Policy.{PolicyState, IsTimeout, AreAs}
 use Rattle.scx_machine.specs.Steps.{State, CallMade}
-use Rattle.scx_machine.specs.Start.{started}
+use Rattle.scx_machine.specs.Start.{first_state}
 use Rattle.scx_machine.specs.Budgets.{start_pushes, event_pushes}
 use Rattle.scx_machine.specs.Events as machine
 use Rattle.scx_sched.specs.Once.{AreInQueues}
@@ -31,16 +31,16 @@ refusal s e = if s.events == max_events then Some RunOver else machine.refusal s
 
 -- the state after an event that is refused for that cause, or accepted
 abbrev pub stepped_if : Option Refused → SimState → Event → SimState
-stepped_if None s e = record { state = (machine.happened s.state e).state; events = s.events + 1 }
+stepped_if None s e = record { state = (machine.event_step s.state e).state; events = s.events + 1 }
 stepped_if (Some r) s e = s
 
 -- the state after an event; one that is refused changes nothing
-abbrev pub stepped : SimState → Event → SimState
-stepped s e = stepped_if (refusal s e) s e
+abbrev pub after_event : SimState → Event → SimState
+after_event s e = stepped_if (refusal s e) s e
 
 -- the notes of an event that is refused for that cause, or accepted
 abbrev pub notes_if : Option Refused → SimState → Event → List Note
-notes_if None s e = (machine.happened s.state e).notes
+notes_if None s e = (machine.event_step s.state e).notes
 notes_if (Some r) s e = []
 
 -- its notes; one that is refused has none
@@ -49,7 +49,7 @@ notes_of s e = notes_if (refusal s e) s e
 
 -- the callbacks that are called in an event that is refused for that cause, or accepted
 abbrev pub calls_if : Option Refused → SimState → Event → List CallMade
-calls_if None s e = (machine.happened s.state e).calls
+calls_if None s e = (machine.event_step s.state e).calls
 calls_if (Some r) s e = []
 
 -- the callbacks that it calls
@@ -62,8 +62,8 @@ answer_of None = Ok tt
 answer_of (Some r) = Err r
 
 -- the machine of a policy, before any event
-abbrev pub IsFirst : PolicyState → Hierarchy → ℕ → SimState → Type 0
-IsFirst p tree cpus s = (started p tree cpus ≡ Ok s.state) × (s.events ≡ 0)
+abbrev pub IsFirstState : PolicyState → Hierarchy → ℕ → SimState → Type 0
+IsFirstState p tree cpus s = (first_state p tree cpus ≡ Ok s.state) × (s.events ≡ 0)
 
 -- what holds between two events
 pub record IsValid (state : State) (events : ℕ) : Type 0 where

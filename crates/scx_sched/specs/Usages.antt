@@ -3,12 +3,12 @@
 use Rattle.std.specs.Prelude.{◌≡◌, ℕ, ◌+◌, ◌<◌, List, length, Option, Some}
 use Rattle.scx_weights.specs.Hierarchy.{Hierarchy, quota_at}
 use Rattle.scx_weights.specs.Limits.{usage_of}
-use Rattle.scx_limits.specs.Bounds.{IsWithin}
+use Rattle.scx_limits.specs.Bounds.{StaysBelowQuota}
 use Rattle.scx_world.specs.World.{WorldState}
 
 -- of each group
 abbrev pub AreWithin : Hierarchy → List (Option ℕ) → Type 0
-AreWithin t cpus = (g quota : ℕ) → g < length t.groups → quota_at t.groups g ≡ Some quota → IsWithin t cpus g quota
+AreWithin t cpus = (g quota : ℕ) → g < length t.groups → quota_at t.groups g ≡ Some quota → StaysBelowQuota t cpus g quota
 
 -- each usage is below its quota plus the number of processors
 abbrev pub AreBounded : WorldState → Type 0

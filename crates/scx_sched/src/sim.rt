@@ -13,7 +13,7 @@ ghost use Rattle.scx_sched.specs.Usages.{AreBounded};
 ghost use Rattle.scx_sched.specs.Waits.{IsTimely, HasWaits};
 ghost use Rattle.scx_sched.specs.Once.{IsOnce, AreInQueues};
 ghost use Rattle.scx_sched.specs.Places.{place};
-ghost use Rattle.scx_sched.specs.Sim.{max_events, refusal, answer_of, stepped, notes_of, calls_of, IsFirst};
+ghost use Rattle.scx_sched.specs.Sim.{max_events, refusal, answer_of, after_event, notes_of, calls_of, IsFirstState};
 
 use crate::places::{Place, place_in};
 use scx_machine::{Event, Machine, NewError, Policy, Refused, Sink};
@@ -50,7 +50,7 @@ impl Sim {
     /// `BadShape` is looked at first, then all memory is taken, and then init runs, and enable of each
     /// task.
     pub fn new(alloc: Global, policy: Policy, tree: Tree, cpus: u32) -> Result<Sim, NewError>
-        ensures first { IfOk result (IsFirst policy tree cpus) }
+        ensures first { IfOk result (IsFirstState policy tree cpus) }
         ensures shape { OnOk result (is_bad_shape tree cpus ≡ false) }
         ensures timeout { OnOk result (IsTimeout policy.timeout_ms) }
         ensures programs { OnOk result (AreAs policy.callbacks) }
@@ -76,7 +76,7 @@ impl Sim {
     /// One event, with all that it causes. One that isn't accepted changes nothing, and has no notes.
     pub fn step<S: Sink>(&mut self, event: Event, sink: &mut S) -> Result<(), Refused>
         ensures answer { result ≡ answer_of (refusal self.old event) }
-        ensures state { self.new ≡ stepped self.old event }
+        ensures state { self.new ≡ after_event self.old event }
         ensures refused { OnErr result (self.new ≡ self.old) }
         ensures notes { Takes S.takes sink.old (notes_of self.old event) sink.new }
         ensures answered { AreAnswered (calls_of self.old event) }

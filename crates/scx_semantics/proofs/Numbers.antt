@@ -25,7 +25,7 @@ use Rattle.scx_semantics.specs.declared.host_tables.Helper.{Helper}
 use Rattle.scx_semantics.specs.declared.host_tables.Helper.TheVariants.{TaskByPid}
 use Rattle.scx_semantics.specs.Effects.{Call, Load}
 use Rattle.scx_semantics.specs.Runs.{Fits}
-use Rattle.scx_semantics.specs.Arithmetic.{bits, signed, unsigned, immediate, low, operate, compute, negated, extended, low_bytes, reversed_bytes, byte_swapped, wide_immediate}
+use Rattle.scx_semantics.specs.Arithmetic.{bits, signed, unsigned, immediate, low, operate, compute, negative, sign_extension, low_bytes, reversed_bytes, byte_swapped, wide_immediate}
 
 -- ---- signed numbers
 
@@ -122,13 +122,13 @@ pub compute_below : (w : Width) (o : Operation) (a b : ℕ) → a < 2 ^ 64 → b
 compute_below w o a b p q = width_below w (compute w o a b) (operated w o (low w a) (low w b) (low_fits w a p) (low_fits w b q))
 
 -- a negative
-pub negated_below : (w : Width) (n : ℕ) → negated w n < 2 ^ 64
-negated_below w n = let some = positive w in width_below w (negated w n) (omega arith)
+pub negated_below : (w : Width) (n : ℕ) → negative w n < 2 ^ 64
+negated_below w n = let some = positive w in width_below w (negative w n) (omega arith)
 
 -- ---- extensions and byte swaps
 
 -- a number extended with its sign
-pub extended_below : (e : Extension) (n : ℕ) → extended e n < 2 ^ 64
+pub extended_below : (e : Extension) (n : ℕ) → sign_extension e n < 2 ^ 64
 extended_below Low8To32 n = omega (arith, ints)
 extended_below Low16To32 n = omega (arith, ints)
 extended_below Low8To64 n = omega (arith, ints)

@@ -1,6 +1,6 @@
 ghost use Rattle.std.specs.Prelude.{◌≡◌, ◌<◌, IfSome, slice_get};
 ghost use Rattle.scx_semantics.specs.declared.host_tables.TheConstants.{MAX_ARGUMENTS};
-ghost use Rattle.scx_semantics.specs.Arithmetic.{shifted};
+ghost use Rattle.scx_semantics.specs.Arithmetic.{at_distance};
 ghost use Rattle.scx_semantics.specs.Memory.{size_bytes};
 ghost use Rattle.scx_semantics.specs.HostTables.{field_at, is_writable, helper_at, parameters, is_allowed};
 
@@ -59,7 +59,7 @@ impl Field {
     /// The field that an access of that size takes whole, at an offset in bytes from the beginning of
     /// the task's record.
     pub fn at(offset: i16, size: Size) -> Option<Field>
-        ensures { result ≡ field_at (size_bytes size) (shifted 0 offset) }
+        ensures { result ≡ field_at (size_bytes size) (at_distance 0 offset) }
     {
         match (offset, size) {
             (0, Size::Word) => Some(Field::Pid),

@@ -4,7 +4,7 @@ use Rattle.scx_weights.specs.Hierarchy.{idle}
 use Rattle.scx_machine.specs.declared.events.Event.{Event}
 use Rattle.scx_machine.specs.Callbacks.{AreAnswered}
 use Rattle.scx_machine.proofs.Taking.{answered_append}
-use Rattle.scx_sched.specs.Sim.{SimState, stepped, calls_of}
+use Rattle.scx_sched.specs.Sim.{SimState, after_event, calls_of}
 use Rattle.scx_workloads.specs.Workload.{WorkloadState}
 use Rattle.scx_driver.specs.Events.{workload_events}
 use Rattle.scx_headline.specs.Headline.{states_from, calls_of_all, NoneIsLate, EachFollows}
@@ -17,27 +17,27 @@ use Rattle.scx_simulation.specs.Runs.{IsRun, run_of, IsOfHeadline, IsCutOff}
 all_answered : (s : SimState) (events : List Event) → StaysInOrder s events → AreAnswered (calls_of_all s events)
 all_answered s [] h = tt
 all_answered s (e ∷ es) (now, well, more) =
-    answered_append (calls_of s e) (calls_of_all (stepped s e) es) well.0 (all_answered (stepped s e) es more)
+    answered_append (calls_of s e) (calls_of_all (after_event s e) es) well.0 (all_answered (after_event s e) es more)
 
 all_once : (s : SimState) (events : List Event) → StaysInOrder s events → AreOnce (states_from s events)
 all_once s [] h = (h.once, tt)
-all_once s (e ∷ es) (now, well, more) = (now.once, all_once (stepped s e) es more)
+all_once s (e ∷ es) (now, well, more) = (now.once, all_once (after_event s e) es more)
 
 all_counted : (s : SimState) (events : List Event) → StaysInOrder s events → AreCounted (states_from s events)
 all_counted s [] h = (h.counted, tt)
-all_counted s (e ∷ es) (now, well, more) = (now.counted, all_counted (stepped s e) es more)
+all_counted s (e ∷ es) (now, well, more) = (now.counted, all_counted (after_event s e) es more)
 
 all_timely : (s : SimState) (events : List Event) → StaysInOrder s events → AreTimely (states_from s events)
 all_timely s [] h = (h.timely, tt)
-all_timely s (e ∷ es) (now, well, more) = (now.timely, all_timely (stepped s e) es more)
+all_timely s (e ∷ es) (now, well, more) = (now.timely, all_timely (after_event s e) es more)
 
 all_bounded : (s : SimState) (events : List Event) → StaysInOrder s events → AreAllBounded (states_from s events)
 all_bounded s [] h = (h.bounded, tt)
-all_bounded s (e ∷ es) (now, well, more) = (now.bounded, all_bounded (stepped s e) es more)
+all_bounded s (e ∷ es) (now, well, more) = (now.bounded, all_bounded (after_event s e) es more)
 
 all_follow : (s : SimState) (events : List Event) → StaysInOrder s events → EachFollows events (states_from s events)
 all_follow s [] h = tt
-all_follow s (e ∷ es) (now, well, more) = follows_before s e es well.1 (all_follow (stepped s e) es more)
+all_follow s (e ∷ es) (now, well, more) = follows_before s e es well.1 (all_follow (after_event s e) es more)
 
 -- the headline holds of a run through events that leave its machine in order after each
 pub headline_holds : {policy workload : List ℕ} {w : WorkloadState} {s : SimState} (x : IsRun policy workload w s) (events : List Event) → StaysInOrder s events → IsOfHeadline x events

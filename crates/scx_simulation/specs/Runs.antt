@@ -7,8 +7,8 @@ use Rattle.scx_weights.specs.Hierarchy.{Hierarchy, idle}
 use Rattle.scx_machine.specs.declared.events.Event.{Event}
 use Rattle.scx_machine.specs.Policy.{PolicyState}
 use Rattle.scx_machine.specs.Callbacks.{AreAnswered}
-use Rattle.scx_machine.specs.Start.{started, start_calls}
-use Rattle.scx_sched.specs.Sim.{SimState, IsFirst}
+use Rattle.scx_machine.specs.Start.{first_state, start_calls}
+use Rattle.scx_sched.specs.Sim.{SimState, IsFirstState}
 use Rattle.scx_policies.specs.Policies.{PolicyFile}
 use Rattle.scx_policies.specs.Reading.{policy_text}
 use Rattle.scx_policies.specs.declared.building.BuildError.TheVariants as build
@@ -32,7 +32,7 @@ pub record IsRun (policy workload : List ℕ) (w : WorkloadState) (s : SimState)
   pub policy_read : policy_text policy ≡ Ok file
   pub workload_read : workload_of workload ≡ Ok w
   pub built : IsBuilt file machine
-  pub first : IsFirst machine (idle w.groups w.homes) w.cpus s
+  pub first : IsFirstState machine (idle w.groups w.homes) w.cpus s
   pub accepted : AreAccepted s (workload_events w s)
   pub answered : AreAnswered (start_calls machine (idle w.groups w.homes) w.cpus)
 
@@ -94,7 +94,7 @@ IsWorkloadFault workload refusal = ⊥
 
 -- init, or enable of a task, fails
 abbrev pub IsStartFault : PolicyState → Hierarchy → ℕ → Refusal → Type 0
-IsStartFault machine tree cpus (Init answer) = started machine tree cpus ≡ Err answer
+IsStartFault machine tree cpus (Init answer) = first_state machine tree cpus ≡ Err answer
 IsStartFault machine tree cpus NoMemory = ⊤
 IsStartFault machine tree cpus refusal = ⊥
 
@@ -114,7 +114,7 @@ pub record HasBadStart (policy workload : List ℕ) (answer : ℤ) : Type 0 wher
   pub policy_read : policy_text policy ≡ Ok file
   pub workload_read : workload_of workload ≡ Ok w
   pub built : IsBuilt file machine
-  pub failed : started machine (idle w.groups w.homes) w.cpus ≡ Err answer
+  pub failed : first_state machine (idle w.groups w.homes) w.cpus ≡ Err answer
 
 -- the texts are refused for that cause, with nothing wrong before; want of memory says nothing
 abbrev pub IsCause : List ℕ → List ℕ → Refusal → Type 0

@@ -3,7 +3,7 @@ ghost use Rattle.scx_weights.specs.Hierarchy.{idle};
 ghost use Rattle.scx_machine.specs.declared.start.NewError.TheVariants.{BadShape};
 ghost use Rattle.scx_machine.specs.Callbacks.{AreAnswered};
 ghost use Rattle.scx_machine.specs.Start.{is_bad_shape, start_calls};
-ghost use Rattle.scx_sched.specs.Sim.{IsFirst};
+ghost use Rattle.scx_sched.specs.Sim.{IsFirstState};
 ghost use Rattle.scx_policies.specs.Reading.{policy_text};
 ghost use Rattle.scx_workloads.specs.Reading.{workload_of};
 ghost use Rattle.scx_driver.specs.Driver.{remaining};
@@ -60,7 +60,7 @@ pub fn prepare(alloc: Global, policy: &str, workload: &str) -> Result<Run, Refus
 fn begin(alloc: Global, policy: Policy, workload: Workload) -> Result<Run, Refusal>
     ensures workload { IfOk result (λ run. run.workload ≡ workload) }
     ensures first { IfOk result
-        (λ run. IsFirst policy (idle workload.groups workload.homes) workload.cpus run.sim) }
+        (λ run. IsFirstState policy (idle workload.groups workload.homes) workload.cpus run.sim) }
     ensures events { IfOk result
         (λ run. remaining run.driver run.sim ≡ workload_events workload run.sim) }
     ensures accepted { IfOk result (λ run. AreAccepted run.sim (workload_events workload run.sim)) }
@@ -90,7 +90,7 @@ fn begin_at(
     ensures workload { IfOk result (λ run. run.workload ≡ workload) }
     ensures driver { IfOk result (λ run. run.driver ≡ driver) }
     ensures first { IfOk result
-        (λ run. IsFirst policy (idle workload.groups workload.homes) workload.cpus run.sim) }
+        (λ run. IsFirstState policy (idle workload.groups workload.homes) workload.cpus run.sim) }
     ensures answered { OnOk result (AreAnswered
         (start_calls policy (idle workload.groups workload.homes) workload.cpus)) }
     ensures refused { IfErr result
@@ -114,7 +114,7 @@ fn begin_at(
 #[tactic(auto, using(crate::proofs::Shapes::shape_is_right))]
 fn start(alloc: Global, policy: Policy, workload: &Workload) -> Result<Sim, Refusal>
     ensures first { IfOk result
-        (IsFirst policy (idle workload.now.groups workload.now.homes) workload.now.cpus) }
+        (IsFirstState policy (idle workload.now.groups workload.now.homes) workload.now.cpus) }
     ensures answered { OnOk result (AreAnswered
         (start_calls policy (idle workload.now.groups workload.now.homes) workload.now.cpus)) }
     ensures refused { IfErr result
@@ -180,7 +180,7 @@ fn tree_of(alloc: Global, workload: &Workload) -> Result<Tree, Refusal>
 /// The machine of a policy, before the first event.
 fn machine(alloc: Global, policy: Policy, tree: Tree, cpus: u32) -> Result<Sim, Refusal>
     requires { is_bad_shape tree cpus ≡ false }
-    ensures first { IfOk result (IsFirst policy tree cpus) }
+    ensures first { IfOk result (IsFirstState policy tree cpus) }
     ensures answered { OnOk result (AreAnswered (start_calls policy tree cpus)) }
     ensures refused { IfErr result (IsStartFault policy tree cpus) }
 {

@@ -8,11 +8,11 @@ use Rattle.scx_world.specs.declared.notes.What.TheVariants.{Wake, Sleep, Insert,
 use Rattle.scx_world.specs.World.{running}
 use Rattle.scx_machine.specs.declared.events.Event.{Event}
 use Rattle.scx_machine.specs.declared.events.Event.TheVariants as event
-use Rattle.scx_sched.specs.Sim.{SimState, stepped, notes_of}
+use Rattle.scx_sched.specs.Sim.{SimState, after_event, notes_of}
 use Rattle.scx_views.specs.Watching.{noted_all, kept_of_all}
 use Rattle.scx_statistics.specs.declared.tally.CpuFigures.{CpuFigures}
-use Rattle.scx_statistics.specs.Waits.{capped, up}
-use Rattle.scx_statistics.specs.Counting.{Counts, unused_cpu, cpu_at, with_tick, with_begin, cpus_counted, noted, expected}
+use Rattle.scx_statistics.specs.Waits.{at_most_64_bits, up}
+use Rattle.scx_statistics.specs.Counting.{Counts, unused_cpu, cpu_at, with_tick, with_begin, cpus_counted, counts_after_note, counts_after_event}
 use Rattle.scx_statistics.specs.Figures.{is_tick, one_if, busy_in, idle_in}
 use Rattle.scx_statistics.proofs.Places.{at_changed_by, part_stays}
 use Rattle.scx_statistics.proofs.Told.{more_if}
@@ -53,12 +53,12 @@ pub record IsSame (c : ℕ) (k j : Counts) : Type 0 where
   pub busy : (cpu_at j.cpus c).busy ≡ (cpu_at k.cpus c).busy
   pub idle : (cpu_at j.cpus c).idle ≡ (cpu_at k.cpus c).idle
 
-notes_keep : (ns : List Note) (k : Counts) (c : ℕ) → c < length k.cpus → IsSame c k (noted_all noted ns k)
+notes_keep : (ns : List Note) (k : Counts) (c : ℕ) → c < length k.cpus → IsSame c k (noted_all counts_after_note ns k)
 notes_keep [] k c within = record { there = refl; busy = refl; idle = refl }
 notes_keep (n ∷ ns) k c within =
     let one = note_keeps n.what k.cpus c within in
     let same = length_noted n.what k.cpus in
-    let later = notes_keep ns (noted n.clock n.what k) c (subst (λ m. c < m) (sym same) within) in
+    let later = notes_keep ns (counts_after_note n.clock n.what k) c (subst (λ m. c < m) (sym same) within) in
     record { there = later.there ∙ same; busy = later.busy ∙ one.0; idle = later.idle ∙ one.1 }
 
 -- ---- ticks
@@ -71,11 +71,11 @@ tick_said false busy x = (refl, refl)
 
 -- what an event makes of a processor
 pub record IsTicked (c : ℕ) (s : SimState) (e : Event) (k : Counts) : Type 0 where
-  pub there : length (expected s e k).cpus ≡ length k.cpus
-  pub busy : (cpu_at (expected s e k).cpus c).busy ≡ cond (is_tick c e && is_some (running s.state.world c)) (up (cpu_at k.cpus c).busy) (cpu_at k.cpus c).busy
-  pub idle : (cpu_at (expected s e k).cpus c).idle ≡ cond (is_tick c e && not (is_some (running s.state.world c))) (up (cpu_at k.cpus c).idle) (cpu_at k.cpus c).idle
+  pub there : length (counts_after_event s e k).cpus ≡ length k.cpus
+  pub busy : (cpu_at (counts_after_event s e k).cpus c).busy ≡ cond (is_tick c e && is_some (running s.state.world c)) (up (cpu_at k.cpus c).busy) (cpu_at k.cpus c).busy
+  pub idle : (cpu_at (counts_after_event s e k).cpus c).idle ≡ cond (is_tick c e && not (is_some (running s.state.world c))) (up (cpu_at k.cpus c).idle) (cpu_at k.cpus c).idle
 
-untouched : (c : ℕ) (s : SimState) (e : Event) (k : Counts) → expected s e k ≡ k → is_tick c e ≡ false → IsTicked c s e k
+untouched : (c : ℕ) (s : SimState) (e : Event) (k : Counts) → counts_after_event s e k ≡ k → is_tick c e ≡ false → IsTicked c s e k
 untouched c s e k same neither = record {
   there = ap (λ (j : Counts). length j.cpus) same;
   busy = rw neither (ap (λ (j : Counts). (cpu_at j.cpus c).busy) same);
@@ -107,33 +107,33 @@ none a = omega arith
 
 -- a processor's busy and idle ticks in a run are added to those that were counted before
 pub cpu_told : (c : ℕ) (es : List Event) (s : SimState) (k : Counts) (a b : ℕ) → c < length k.cpus
-    → (cpu_at k.cpus c).busy ≡ capped a → (cpu_at k.cpus c).idle ≡ capped b
-    → ((cpu_at (kept_of_all expected noted s es k).cpus c).busy ≡ capped (a + busy_in c s es)) × ((cpu_at (kept_of_all expected noted s es k).cpus c).idle ≡ capped (b + idle_in c s es))
-cpu_told c [] s k a b within busy idle = (busy ∙ ap capped (none a), idle ∙ ap capped (none b))
+    → (cpu_at k.cpus c).busy ≡ at_most_64_bits a → (cpu_at k.cpus c).idle ≡ at_most_64_bits b
+    → ((cpu_at (kept_of_all counts_after_event counts_after_note s es k).cpus c).busy ≡ at_most_64_bits (a + busy_in c s es)) × ((cpu_at (kept_of_all counts_after_event counts_after_note s es k).cpus c).idle ≡ at_most_64_bits (b + idle_in c s es))
+cpu_told c [] s k a b within busy idle = (busy ∙ ap at_most_64_bits (none a), idle ∙ ap at_most_64_bits (none b))
 cpu_told c (e ∷ es) s k a b within busy idle =
     let is_busy = is_some (running s.state.world c) in
     let tick = is_ticked c s e k within in
-    let at_event = expected s e k in
+    let at_event = counts_after_event s e k in
     let notes = notes_keep (notes_of s e) at_event c (subst (λ m. c < m) (sym tick.there) within) in
-    let behind = noted_all noted (notes_of s e) at_event in
+    let behind = noted_all counts_after_note (notes_of s e) at_event in
     let more = more_if (is_tick c e && is_busy) (cpu_at k.cpus c).busy (cpu_at at_event.cpus c).busy a busy tick.busy in
     let more_idle = more_if (is_tick c e && not is_busy) (cpu_at k.cpus c).idle (cpu_at at_event.cpus c).idle b idle tick.idle in
-    let later = cpu_told c es (stepped s e) behind (a + one_if (is_tick c e && is_busy)) (b + one_if (is_tick c e && not is_busy))
+    let later = cpu_told c es (after_event s e) behind (a + one_if (is_tick c e && is_busy)) (b + one_if (is_tick c e && not is_busy))
     (subst (λ m. c < m) (sym (notes.there ∙ tick.there)) within) (notes.busy ∙ more) (notes.idle ∙ more_idle) in (
-      later.0 ∙ ap capped (added a (one_if (is_tick c e && is_busy)) (busy_in c (stepped s e) es)),
-      later.1 ∙ ap capped (added b (one_if (is_tick c e && not is_busy)) (idle_in c (stepped s e) es)),
+      later.0 ∙ ap at_most_64_bits (added a (one_if (is_tick c e && is_busy)) (busy_in c (after_event s e) es)),
+      later.1 ∙ ap at_most_64_bits (added b (one_if (is_tick c e && not is_busy)) (idle_in c (after_event s e) es)),
     )
 
 -- as many processors as before
-pub cpus_stay : (es : List Event) (s : SimState) (k : Counts) → length (kept_of_all expected noted s es k).cpus ≡ length k.cpus
+pub cpus_stay : (es : List Event) (s : SimState) (k : Counts) → length (kept_of_all counts_after_event counts_after_note s es k).cpus ≡ length k.cpus
 cpus_stay [] s k = refl
-cpus_stay (e ∷ es) s k = cpus_stay es (stepped s e) (noted_all noted (notes_of s e) (expected s e k)) ∙ in_notes (notes_of s e) (expected s e k) ∙ at_event e
+cpus_stay (e ∷ es) s k = cpus_stay es (after_event s e) (noted_all counts_after_note (notes_of s e) (counts_after_event s e k)) ∙ in_notes (notes_of s e) (counts_after_event s e k) ∙ at_event e
   where
-    in_notes : (ns : List Note) (j : Counts) → length (noted_all noted ns j).cpus ≡ length j.cpus
+    in_notes : (ns : List Note) (j : Counts) → length (noted_all counts_after_note ns j).cpus ≡ length j.cpus
     in_notes [] j = refl
-    in_notes (n ∷ ns) j = in_notes ns (noted n.clock n.what j) ∙ length_noted n.what j.cpus
+    in_notes (n ∷ ns) j = in_notes ns (counts_after_note n.clock n.what j) ∙ length_noted n.what j.cpus
 
-    at_event : (f : Event) → length (expected s f k).cpus ≡ length k.cpus
+    at_event : (f : Event) → length (counts_after_event s f k).cpus ≡ length k.cpus
     at_event (event.Tick b) = length-set k.cpus b (with_tick (is_some (running s.state.world b)) (cpu_at k.cpus b))
     at_event (event.Wake t) = refl
     at_event (event.Sleep t) = refl

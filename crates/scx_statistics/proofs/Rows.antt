@@ -2,21 +2,21 @@
 use Rattle.std.proofs.Common.{◌≡◌, ℕ, ◌<◌, Bool, true, false, cond, eqb, List, [], ◌∷◌, ◌++◌, length, set, Option, None, Some, refl, sym, ap, subst, ◌∙◌, ◌⊎◌, inl, inr}
 use Rattle.std.proofs.lemmas.Bool.{cases_eq, eq-eqb, ne_eqb}
 use Rattle.std.proofs.lemmas.List.{length-set, get_or-set_same, get_or-set_other}
-use Rattle.scx_world.specs.Ids.{parked}
+use Rattle.scx_world.specs.Ids.{parked_queue}
 use Rattle.scx_world.specs.declared.notes.Note.{Note}
 use Rattle.scx_world.specs.declared.notes.What.{What}
 use Rattle.scx_world.specs.declared.notes.What.TheVariants.{Wake, Sleep, Insert, Move, Run, Stop, Idle, Weight, Stall, Fault}
 use Rattle.scx_machine.specs.declared.events.Event.{Event}
 use Rattle.scx_machine.specs.declared.events.Event.TheVariants as event
-use Rattle.scx_sched.specs.Sim.{SimState, stepped, notes_of}
+use Rattle.scx_sched.specs.Sim.{SimState, after_event, notes_of}
 use Rattle.scx_driver.specs.Runs.{notes_of_all}
 use Rattle.scx_views.specs.declared.pauses.Doing.{Doing}
 use Rattle.scx_views.specs.declared.pauses.Doing.TheVariants.{Sleeps, Waits, Runs, IsParked}
 use Rattle.scx_views.specs.declared.pauses.Pause.{Pause}
-use Rattle.scx_views.specs.Pauses.{sleeps, is_parked, doing_at, of_task, does, pause_of, ended, doing_with, doing_after, ended_with, ended_by}
+use Rattle.scx_views.specs.Pauses.{sleeps, is_parked, doing_at, of_task, does, pause_of, ending_pause, doing_with, doing_after, ended_with, ended_by}
 use Rattle.scx_views.specs.Watching.{noted_all, kept_of_all}
 use Rattle.scx_statistics.specs.declared.tally.TaskFigures.{TaskFigures}
-use Rattle.scx_statistics.specs.Counting.{Counts, unused, figures_at, with_wake, with_stop, with_pause, after_pause, counted_for, cut_off, stop_counted, tasks_counted, noted, expected}
+use Rattle.scx_statistics.specs.Counting.{Counts, no_figures, figures_at, with_wake, with_stop, with_pause, after_pause, counted_for, cut_off, stop_counted, tasks_counted, counts_after_note, counts_after_event}
 use Rattle.scx_statistics.specs.Figures.{is_that, is_of, does_at}
 use Rattle.scx_statistics.proofs.Places.{at_changed}
 
@@ -33,28 +33,28 @@ abbrev pub with_option : Option Pause → TaskFigures → TaskFigures
 with_option None x = x
 with_option (Some p) x = with_pause p x
 
-abbrev pub IsOfTask : ℕ → Option Pause → Type 0
-IsOfTask u None = Unit {0}
-IsOfTask u (Some p) = p.task ≡ u
+abbrev pub IsPauseOfTask : ℕ → Option Pause → Type 0
+IsPauseOfTask u None = Unit {0}
+IsPauseOfTask u (Some p) = p.task ≡ u
 
 -- the pause that is told of what a task does is a pause of this task
-pub of_pause : (now u : ℕ) (d : Doing) → IsOfTask u (pause_of now u d)
+pub of_pause : (now u : ℕ) (d : Doing) → IsPauseOfTask u (pause_of now u d)
 of_pause now u Sleeps = tt
 of_pause now u (Waits since) = refl
 of_pause now u Runs = tt
 of_pause now u (IsParked since) = refl
 
-of_either : (b : Bool) (u : ℕ) (q r : Option Pause) → IsOfTask u q → IsOfTask u r → IsOfTask u (cond b q r)
+of_either : (b : Bool) (u : ℕ) (q r : Option Pause) → IsPauseOfTask u q → IsPauseOfTask u r → IsPauseOfTask u (cond b q r)
 of_either true u q r is_q is_r = is_q
 of_either false u q r is_q is_r = is_r
 
-of_ended : (now u : ℕ) (what : What) (d : Doing) → IsOfTask u (ended now u what d)
+of_ended : (now u : ℕ) (what : What) (d : Doing) → IsPauseOfTask u (ending_pause now u what d)
 of_ended now u (Wake t) d = of_pause now u d
 of_ended now u (Sleep t) d = of_pause now u d
 of_ended now u (Run t c) d = of_pause now u d
 of_ended now u (Stop t c) d = tt
 of_ended now u (Insert t queue) d =
-    of_either (eqb queue parked) u (pause_of now u d) (cond (is_parked d) (pause_of now u d) None) (of_pause now u d)
+    of_either (eqb queue parked_queue) u (pause_of now u d) (cond (is_parked d) (pause_of now u d) None) (of_pause now u d)
     (of_either (is_parked d) u (pause_of now u d) None (of_pause now u d) tt)
 of_ended now u (Move t c) d = tt
 of_ended now u (Idle c) d = tt
@@ -63,30 +63,30 @@ of_ended now u (Stall t) d = tt
 of_ended now u (Fault f) d = tt
 
 -- a pause of a task that is there changes its figures as the pause says
-pub pause_here : (q : Option Pause) (tasks : List TaskFigures) (u : ℕ) → IsOfTask u q → u < length tasks → figures_at (after_pause q tasks) u ≡ with_option q (figures_at tasks u)
+pub pause_here : (q : Option Pause) (tasks : List TaskFigures) (u : ℕ) → IsPauseOfTask u q → u < length tasks → figures_at (after_pause q tasks) u ≡ with_option q (figures_at tasks u)
 pause_here None tasks u is within = refl
 pause_here (Some p) tasks u is within =
     let P : ℕ → Type 0 = λ k. figures_at (set tasks k (with_pause p (figures_at tasks k))) u ≡ with_pause p (figures_at tasks u) in
-    subst P (sym is) (get_or-set_same tasks u (with_pause p (figures_at tasks u)) unused within)
+    subst P (sym is) (get_or-set_same tasks u (with_pause p (figures_at tasks u)) no_figures within)
 
 -- a pause of a task changes the figures of no other
-pub pause_there : (q : Option Pause) (tasks : List TaskFigures) (u t : ℕ) → IsOfTask u q → (t ≡ u → ⊥) → figures_at (after_pause q tasks) t ≡ figures_at tasks t
+pub pause_there : (q : Option Pause) (tasks : List TaskFigures) (u t : ℕ) → IsPauseOfTask u q → (t ≡ u → ⊥) → figures_at (after_pause q tasks) t ≡ figures_at tasks t
 pause_there None tasks u t is other = refl
 pause_there (Some p) tasks u t is other =
     let P : ℕ → Type 0 = λ k. figures_at (set tasks k (with_pause p (figures_at tasks k))) t ≡ figures_at tasks t in
-    subst P (sym is) (get_or-set_other tasks u t (with_pause p (figures_at tasks u)) unused other)
+    subst P (sym is) (get_or-set_other tasks u t (with_pause p (figures_at tasks u)) no_figures other)
 
 pause_one : (o : Option ℕ) (now : ℕ) (what : What) (ds : List Doing) (tasks : List TaskFigures) (t : ℕ) → t < length tasks
-    → figures_at (after_pause (ended_with o now what ds) tasks) t ≡ cond (is_that t o) (with_option (ended now t what (doing_at ds t)) (figures_at tasks t)) (figures_at tasks t)
+    → figures_at (after_pause (ended_with o now what ds) tasks) t ≡ cond (is_that t o) (with_option (ending_pause now t what (doing_at ds t)) (figures_at tasks t)) (figures_at tasks t)
 pause_one None now what ds tasks t within = refl
 pause_one (Some u) now what ds tasks t within = go (cases_eq t u)
   where
-    go : (t ≡ u) ⊎ (t ≡ u → ⊥) → figures_at (after_pause (ended now u what (doing_at ds u)) tasks) t ≡ cond (eqb t u) (with_option (ended now t what (doing_at ds t)) (figures_at tasks t)) (figures_at tasks t)
+    go : (t ≡ u) ⊎ (t ≡ u → ⊥) → figures_at (after_pause (ending_pause now u what (doing_at ds u)) tasks) t ≡ cond (eqb t u) (with_option (ending_pause now t what (doing_at ds t)) (figures_at tasks t)) (figures_at tasks t)
     go (inl e) =
-        let P : ℕ → Type 0 = λ k. figures_at (after_pause (ended now k what (doing_at ds k)) tasks) t ≡ with_option (ended now t what (doing_at ds t)) (figures_at tasks t) in
-        rw (eq-eqb t u e) (subst P e (pause_here (ended now t what (doing_at ds t)) tasks t (of_ended now t what (doing_at ds t)) within))
+        let P : ℕ → Type 0 = λ k. figures_at (after_pause (ending_pause now k what (doing_at ds k)) tasks) t ≡ with_option (ending_pause now t what (doing_at ds t)) (figures_at tasks t) in
+        rw (eq-eqb t u e) (subst P e (pause_here (ending_pause now t what (doing_at ds t)) tasks t (of_ended now t what (doing_at ds t)) within))
     go (inr other) =
-        rw (ne_eqb t u other) (pause_there (ended now u what (doing_at ds u)) tasks u t (of_ended now u what (doing_at ds u)) other)
+        rw (ne_eqb t u other) (pause_there (ending_pause now u what (doing_at ds u)) tasks u t (of_ended now u what (doing_at ds u)) other)
 
 -- ---- wakes and stops
 
@@ -100,11 +100,11 @@ stop_one ds tasks u t within = go (cases_eq t u)
   where
     here : (b : Bool) → figures_at (cond b tasks (cut_off tasks t)) t ≡ cond b (figures_at tasks t) (with_stop (figures_at tasks t))
     here true = refl
-    here false = get_or-set_same tasks t (with_stop (figures_at tasks t)) unused within
+    here false = get_or-set_same tasks t (with_stop (figures_at tasks t)) no_figures within
 
     there : (b : Bool) → (t ≡ u → ⊥) → figures_at (cond b tasks (cut_off tasks u)) t ≡ figures_at tasks t
     there true other = refl
-    there false other = get_or-set_other tasks u t (with_stop (figures_at tasks u)) unused other
+    there false other = get_or-set_other tasks u t (with_stop (figures_at tasks u)) no_figures other
 
     go : (t ≡ u) ⊎ (t ≡ u → ⊥) → figures_at (stop_counted ds tasks u) t ≡ cond (eqb t u) (cond (sleeps (doing_at ds t)) (figures_at tasks t) (with_stop (figures_at tasks t))) (figures_at tasks t)
     go (inl e) =
@@ -114,7 +114,7 @@ stop_one ds tasks u t within = go (cases_eq t u)
 
 count_one : (what : What) (ds : List Doing) (tasks : List TaskFigures) (t : ℕ) → t < length tasks
     → figures_at (tasks_counted what ds tasks) t ≡ cond (is_of t what) (counted_for what (doing_at ds t) (figures_at tasks t)) (figures_at tasks t)
-count_one (Wake u) ds tasks t within = at_changed with_wake tasks u t unused within
+count_one (Wake u) ds tasks t within = at_changed with_wake tasks u t no_figures within
 count_one (Stop u c) ds tasks t within = stop_one ds tasks u t within
 count_one (Sleep u) ds tasks t within = same_either (eqb t u) (figures_at tasks t)
 count_one (Run u c) ds tasks t within = same_either (eqb t u) (figures_at tasks t)
@@ -161,7 +161,7 @@ abbrev pub row : ℕ → Counts → Row
 row t k = record { doing = doing_at k.doing t; figures = figures_at k.tasks t }
 
 abbrev pub figures_noted : Bool → ℕ → ℕ → What → Doing → TaskFigures → TaskFigures
-figures_noted true now t what d x = counted_for what (does now what d) (with_option (ended now t what d) x)
+figures_noted true now t what d x = counted_for what (does now what d) (with_option (ending_pause now t what d) x)
 figures_noted false now t what d x = x
 
 abbrev pub row_noted : ℕ → Note → Row → Row
@@ -177,21 +177,21 @@ pub record IsThere (t : ℕ) (k : Counts) : Type 0 where
   pub doing : t < length k.doing
 
 -- a task that is there is there after a note too
-pub there_noted : (t now : ℕ) (what : What) (k : Counts) → IsThere t k → IsThere t (noted now what k)
+pub there_noted : (t now : ℕ) (what : What) (k : Counts) → IsThere t k → IsThere t (counts_after_note now what k)
 there_noted t now what k there = record {
   tasks = subst (λ n. t < n) (sym (length_counted what (doing_after now what k.doing) (after_pause (ended_by now what k.doing) k.tasks) ∙ length_paused (ended_by now what k.doing) k.tasks)) there.tasks;
   doing = subst (λ n. t < n) (sym (length_doing (of_task what) now what k.doing)) there.doing;
 }
 
 count_joined : (b : Bool) (what : What) (now t : ℕ) (d e : Doing) (x y z : TaskFigures)
-    → e ≡ cond b (does now what d) d → y ≡ cond b (with_option (ended now t what d) x) x → z ≡ cond b (counted_for what e y) y → z ≡ figures_noted b now t what d x
+    → e ≡ cond b (does now what d) d → y ≡ cond b (with_option (ending_pause now t what d) x) x → z ≡ cond b (counted_for what e y) y → z ≡ figures_noted b now t what d x
 count_joined true what now t d e x y z e_is y_is z_is = z_is ∙ ap (λ f. counted_for what f y) e_is ∙ ap (λ w. counted_for what (does now what d) w) y_is
 count_joined false what now t d e x y z e_is y_is z_is = z_is ∙ y_is
 
-figures_one : (t : ℕ) (n : Note) (k : Counts) → IsThere t k → figures_at (noted n.clock n.what k).tasks t ≡ (row_noted t n (row t k)).figures
+figures_one : (t : ℕ) (n : Note) (k : Counts) → IsThere t k → figures_at (counts_after_note n.clock n.what k).tasks t ≡ (row_noted t n (row t k)).figures
 figures_one t n k there =
     let q = ended_by n.clock n.what k.doing in
-    count_joined (is_of t n.what) n.what n.clock t (doing_at k.doing t) (doing_at (doing_after n.clock n.what k.doing) t) (figures_at k.tasks t) (figures_at (after_pause q k.tasks) t) (figures_at (noted n.clock n.what k).tasks t)
+    count_joined (is_of t n.what) n.what n.clock t (doing_at k.doing t) (doing_at (doing_after n.clock n.what k.doing) t) (figures_at k.tasks t) (figures_at (after_pause q k.tasks) t) (figures_at (counts_after_note n.clock n.what k).tasks t)
     (doing_one (of_task n.what) n.clock n.what k.doing t there.doing)
     (pause_one (of_task n.what) n.clock n.what k.doing k.tasks t there.tasks)
     (count_one n.what (doing_after n.clock n.what k.doing) (after_pause q k.tasks) t (subst (λ m. t < m) (sym (length_paused q k.tasks)) there.tasks))
@@ -199,21 +199,21 @@ figures_one t n k there =
 two_parts : (d : Doing) (x : TaskFigures) (r : Row) → d ≡ r.doing → x ≡ r.figures → record { doing = d; figures = x } ≡ r
 two_parts d x r same_doing same_figures = ap (λ e. record { doing = e; figures = x }) same_doing ∙ ap (λ y. record { doing = r.doing; figures = y }) same_figures
 
-row_one : (t : ℕ) (n : Note) (k : Counts) → IsThere t k → row t (noted n.clock n.what k) ≡ row_noted t n (row t k)
+row_one : (t : ℕ) (n : Note) (k : Counts) → IsThere t k → row t (counts_after_note n.clock n.what k) ≡ row_noted t n (row t k)
 row_one t n k there =
-    two_parts (doing_at (noted n.clock n.what k).doing t) (figures_at (noted n.clock n.what k).tasks t) (row_noted t n (row t k))
+    two_parts (doing_at (counts_after_note n.clock n.what k).doing t) (figures_at (counts_after_note n.clock n.what k).tasks t) (row_noted t n (row t k))
     (doing_one (of_task n.what) n.clock n.what k.doing t there.doing) (figures_one t n k there)
 
 -- ---- notes and events
 
 -- a task's row after what is counted of notes is what these notes make of its row alone
-pub row_of_notes : (t : ℕ) (ns : List Note) (k : Counts) → IsThere t k → IsThere t (noted_all noted ns k) × (row t (noted_all noted ns k) ≡ row_all t ns (row t k))
+pub row_of_notes : (t : ℕ) (ns : List Note) (k : Counts) → IsThere t k → IsThere t (noted_all counts_after_note ns k) × (row t (noted_all counts_after_note ns k) ≡ row_all t ns (row t k))
 row_of_notes t [] k there = (there, refl)
 row_of_notes t (n ∷ ns) k there =
-    let later = row_of_notes t ns (noted n.clock n.what k) (there_noted t n.clock n.what k there) in
+    let later = row_of_notes t ns (counts_after_note n.clock n.what k) (there_noted t n.clock n.what k there) in
     (later.0, later.1 ∙ ap (λ r. row_all t ns r) (row_one t n k there))
 
-same_rows : (t : ℕ) (s : SimState) (e : Event) (k : Counts) → IsThere t k → IsThere t (expected s e k) × (row t (expected s e k) ≡ row t k)
+same_rows : (t : ℕ) (s : SimState) (e : Event) (k : Counts) → IsThere t k → IsThere t (counts_after_event s e k) × (row t (counts_after_event s e k) ≡ row t k)
 same_rows t s (event.Wake u) k there = (there, refl)
 same_rows t s (event.Sleep u) k there = (there, refl)
 same_rows t s (event.Tick c) k there = (record { tasks = there.tasks; doing = there.doing }, refl)
@@ -227,25 +227,25 @@ row_all_append t (n ∷ ns) ms r = row_all_append t ns ms (row_noted t n r)
 
 -- a task's row after what is counted of a run is what the notes of the run make of it
 pub row_of_run : (t : ℕ) (es : List Event) (s : SimState) (k : Counts) → IsThere t k
-    → IsThere t (kept_of_all expected noted s es k) × (row t (kept_of_all expected noted s es k) ≡ row_all t (notes_of_all s es) (row t k))
+    → IsThere t (kept_of_all counts_after_event counts_after_note s es k) × (row t (kept_of_all counts_after_event counts_after_note s es k) ≡ row_all t (notes_of_all s es) (row t k))
 row_of_run t [] s k there = (there, refl)
 row_of_run t (e ∷ es) s k there =
     let at_event = same_rows t s e k there in
-    let notes = row_of_notes t (notes_of s e) (expected s e k) at_event.0 in
-    let later = row_of_run t es (stepped s e) (noted_all noted (notes_of s e) (expected s e k)) notes.0 in (
+    let notes = row_of_notes t (notes_of s e) (counts_after_event s e k) at_event.0 in
+    let later = row_of_run t es (after_event s e) (noted_all counts_after_note (notes_of s e) (counts_after_event s e k)) notes.0 in (
       later.0,
-      later.1 ∙ ap (λ r. row_all t (notes_of_all (stepped s e) es) r) (notes.1 ∙ ap (λ r. row_all t (notes_of s e) r) at_event.1)
-          ∙ sym (row_all_append t (notes_of s e) (notes_of_all (stepped s e) es) (row t k)),
+      later.1 ∙ ap (λ r. row_all t (notes_of_all (after_event s e) es) r) (notes.1 ∙ ap (λ r. row_all t (notes_of s e) r) at_event.1)
+          ∙ sym (row_all_append t (notes_of s e) (notes_of_all (after_event s e) es) (row t k)),
     )
 
 -- as many tasks as before
-notes_keep : (ns : List Note) (k : Counts) → length (noted_all noted ns k).tasks ≡ length k.tasks
+notes_keep : (ns : List Note) (k : Counts) → length (noted_all counts_after_note ns k).tasks ≡ length k.tasks
 notes_keep [] k = refl
 notes_keep (n ∷ ns) k =
     let q = ended_by n.clock n.what k.doing in
-    notes_keep ns (noted n.clock n.what k) ∙ length_counted n.what (doing_after n.clock n.what k.doing) (after_pause q k.tasks) ∙ length_paused q k.tasks
+    notes_keep ns (counts_after_note n.clock n.what k) ∙ length_counted n.what (doing_after n.clock n.what k.doing) (after_pause q k.tasks) ∙ length_paused q k.tasks
 
-event_keeps : (s : SimState) (e : Event) (k : Counts) → (expected s e k).tasks ≡ k.tasks
+event_keeps : (s : SimState) (e : Event) (k : Counts) → (counts_after_event s e k).tasks ≡ k.tasks
 event_keeps s (event.Wake u) k = refl
 event_keeps s (event.Sleep u) k = refl
 event_keeps s (event.Tick c) k = refl
@@ -253,7 +253,7 @@ event_keeps s event.Clock k = refl
 event_keeps s (event.SetWeight g x) k = refl
 
 -- what is counted of a run has as many tasks as before it
-pub tasks_kept : (es : List Event) (s : SimState) (k : Counts) → length (kept_of_all expected noted s es k).tasks ≡ length k.tasks
+pub tasks_kept : (es : List Event) (s : SimState) (k : Counts) → length (kept_of_all counts_after_event counts_after_note s es k).tasks ≡ length k.tasks
 tasks_kept [] s k = refl
 tasks_kept (e ∷ es) s k =
-    tasks_kept es (stepped s e) (noted_all noted (notes_of s e) (expected s e k)) ∙ notes_keep (notes_of s e) (expected s e k) ∙ ap (λ xs. length xs) (event_keeps s e k)
+    tasks_kept es (after_event s e) (noted_all counts_after_note (notes_of s e) (counts_after_event s e k)) ∙ notes_keep (notes_of s e) (counts_after_event s e k) ∙ ap (λ xs. length xs) (event_keeps s e k)

@@ -9,10 +9,10 @@ use Rattle.scx_views.specs.declared.pauses.Doing.TheVariants.{Sleeps, Waits, Run
 use Rattle.scx_views.specs.declared.pauses.Pause.{Pause}
 use Rattle.scx_views.specs.declared.pauses.PauseKind.{PauseKind}
 use Rattle.scx_views.specs.declared.pauses.PauseKind.TheVariants as kind
-use Rattle.scx_views.specs.Pauses.{sleeps, does, ended}
+use Rattle.scx_views.specs.Pauses.{sleeps, does, ending_pause}
 use Rattle.scx_statistics.specs.declared.tally.TaskFigures.{TaskFigures}
 use Rattle.scx_statistics.specs.Waits as w
-use Rattle.scx_statistics.specs.Waits.{capped, up, length_of, waited}
+use Rattle.scx_statistics.specs.Waits.{at_most_64_bits, up, length_of, with_wait}
 use Rattle.scx_statistics.specs.Counting.{with_stop, with_pause_of, counted_for}
 use Rattle.scx_statistics.specs.Figures.{is_of, does_at, does_after, to_list, ended_at, pauses_in, is_wait_kind, is_wait, longest_of, is_wake, is_stop, wakes_of, one_if, stops_in}
 use Rattle.scx_statistics.proofs.Rows.{with_option, Row, figures_noted, row_noted, row_all}
@@ -20,16 +20,16 @@ use Rattle.scx_statistics.proofs.Rows.{with_option, Row, figures_noted, row_note
 -- ---- a count that is capped
 
 -- a capped count, counted up by one, is the capped count of one more
-pub one_more : (v a : ℕ) → v ≡ capped a → up v ≡ capped (a + 1)
+pub one_more : (v a : ℕ) → v ≡ at_most_64_bits a → up v ≡ at_most_64_bits (a + 1)
 one_more v a e = rw e (twice_capped a (2 ^ 64 - 1))
   where
     twice_capped : (a m : ℕ) → min (min a m + 1) m ≡ min (a + 1) m
     twice_capped a m = omega arith
 
 -- one more where the test passes
-pub more_if : (b : Bool) (v x a : ℕ) → v ≡ capped a → x ≡ cond b (up v) v → x ≡ capped (a + one_if b)
+pub more_if : (b : Bool) (v x a : ℕ) → v ≡ at_most_64_bits a → x ≡ cond b (up v) v → x ≡ at_most_64_bits (a + one_if b)
 more_if true v x a is more = more ∙ one_more v a is
-more_if false v x a is more = more ∙ is ∙ ap capped (add_none a)
+more_if false v x a is more = more ∙ is ∙ ap at_most_64_bits (add_none a)
   where
     add_none : (a : ℕ) → a ≡ a + 0
     add_none a = omega arith
@@ -48,12 +48,12 @@ pause_keeps (Some p) x = by_kind p.kind
 -- a note that says nothing of wakes, or of stops
 other_wakes : (b : Bool) (now t : ℕ) (what : What) (d : Doing) (x : TaskFigures) → ((e : Doing) (y : TaskFigures) → (counted_for what e y).wakes ≡ y.wakes)
     → (figures_noted b now t what d x).wakes ≡ x.wakes
-other_wakes true now t what d x keeps = keeps (does now what d) (with_option (ended now t what d) x) ∙ (pause_keeps (ended now t what d) x).0
+other_wakes true now t what d x keeps = keeps (does now what d) (with_option (ending_pause now t what d) x) ∙ (pause_keeps (ending_pause now t what d) x).0
 other_wakes false now t what d x keeps = refl
 
 other_stops : (b : Bool) (now t : ℕ) (what : What) (d : Doing) (x : TaskFigures) → ((e : Doing) (y : TaskFigures) → (counted_for what e y).stopped ≡ y.stopped)
     → (figures_noted b now t what d x).stopped ≡ x.stopped
-other_stops true now t what d x keeps = keeps (does now what d) (with_option (ended now t what d) x) ∙ (pause_keeps (ended now t what d) x).1
+other_stops true now t what d x keeps = keeps (does now what d) (with_option (ending_pause now t what d) x) ∙ (pause_keeps (ending_pause now t what d) x).1
 other_stops false now t what d x keeps = refl
 
 stop_keeps_wakes : (b : Bool) (x : TaskFigures) → (cond b x (with_stop x)).wakes ≡ x.wakes
@@ -61,7 +61,7 @@ stop_keeps_wakes true x = refl
 stop_keeps_wakes false x = refl
 
 wake_said : (b : Bool) (now t u : ℕ) (d : Doing) (x : TaskFigures) → (figures_noted b now t (Wake u) d x).wakes ≡ cond b (up x.wakes) x.wakes
-wake_said true now t u d x = ap up (pause_keeps (ended now t (Wake u) d) x).0
+wake_said true now t u d x = ap up (pause_keeps (ending_pause now t (Wake u) d) x).0
 wake_said false now t u d x = refl
 
 wakes_one : (now t : ℕ) (what : What) (d : Doing) (x : TaskFigures) → (figures_noted (is_of t what) now t what d x).wakes ≡ cond (is_wake t what) (up x.wakes) x.wakes
@@ -83,12 +83,12 @@ added : (a m n : ℕ) → (a + m) + n ≡ a + (m + n)
 added a m n = omega arith
 
 -- the wakes of a task in notes are added to those that were counted before
-pub wakes_told : (t : ℕ) (ns : List Note) (r : Row) (a : ℕ) → r.figures.wakes ≡ capped a → (row_all t ns r).figures.wakes ≡ capped (a + wakes_of t ns)
-wakes_told t [] r a is = is ∙ ap capped (none a)
+pub wakes_told : (t : ℕ) (ns : List Note) (r : Row) (a : ℕ) → r.figures.wakes ≡ at_most_64_bits a → (row_all t ns r).figures.wakes ≡ at_most_64_bits (a + wakes_of t ns)
+wakes_told t [] r a is = is ∙ ap at_most_64_bits (none a)
 wakes_told t (n ∷ ns) r a is =
     let b = is_wake t n.what in
     let one = more_if b r.figures.wakes (row_noted t n r).figures.wakes a is (wakes_one n.clock t n.what r.doing r.figures) in
-    wakes_told t ns (row_noted t n r) (a + one_if b) one ∙ ap capped (added a (one_if b) (wakes_of t ns))
+    wakes_told t ns (row_noted t n r) (a + one_if b) one ∙ ap at_most_64_bits (added a (one_if b) (wakes_of t ns))
 
 -- ---- stops
 
@@ -113,12 +113,12 @@ stops_one now t (Stall u) d x = refl
 stops_one now t (Fault f) d x = refl
 
 -- a task's stops in notes, but for those asleep, are added to those that were counted before
-pub stops_told : (t : ℕ) (ns : List Note) (r : Row) (a : ℕ) → r.figures.stopped ≡ capped a → (row_all t ns r).figures.stopped ≡ capped (a + stops_in t r.doing ns)
-stops_told t [] r a is = is ∙ ap capped (none a)
+pub stops_told : (t : ℕ) (ns : List Note) (r : Row) (a : ℕ) → r.figures.stopped ≡ at_most_64_bits a → (row_all t ns r).figures.stopped ≡ at_most_64_bits (a + stops_in t r.doing ns)
+stops_told t [] r a is = is ∙ ap at_most_64_bits (none a)
 stops_told t (n ∷ ns) r a is =
     let b = is_stop t n.what && not (sleeps r.doing) in
     let one = more_if b r.figures.stopped (row_noted t n r).figures.stopped a is (stops_one n.clock t n.what r.doing r.figures) in
-    stops_told t ns (row_noted t n r) (a + one_if b) one ∙ ap capped (added a (one_if b) (stops_in t (does_at t n r.doing) ns))
+    stops_told t ns (row_noted t n r) (a + one_if b) one ∙ ap at_most_64_bits (added a (one_if b) (stops_in t (does_at t n r.doing) ns))
 
 -- ---- pauses
 
@@ -129,7 +129,7 @@ does_told t (n ∷ ns) r = does_told t ns (row_noted t n r)
 
 -- what pauses make of waits
 abbrev pub waited_if : Bool → Pause → w.Waits → w.Waits
-waited_if true p x = waited p x
+waited_if true p x = with_wait p x
 waited_if false p x = x
 
 abbrev pub waited_all : List Pause → w.Waits → w.Waits
@@ -167,8 +167,8 @@ count_keeps_waits (Stall u) d x = refl
 count_keeps_waits (Fault f) d x = refl
 
 waits_one : (b : Bool) (now t : ℕ) (what : What) (d : Doing) (x : TaskFigures)
-    → (figures_noted b now t what d x).waits ≡ waited_all (to_list (cond b (ended now t what d) None)) x.waits
-waits_one true now t what d x = count_keeps_waits what (does now what d) (with_option (ended now t what d) x) ∙ pause_said (ended now t what d) x
+    → (figures_noted b now t what d x).waits ≡ waited_all (to_list (cond b (ending_pause now t what d) None)) x.waits
+waits_one true now t what d x = count_keeps_waits what (does now what d) (with_option (ending_pause now t what d) x) ∙ pause_said (ending_pause now t what d) x
 waits_one false now t what d x = refl
 
 -- a task's waits after notes are those before with the pauses counted that end in the notes
@@ -190,23 +190,23 @@ length_filtered true p ps a = omega arith
 length_filtered false p ps a = omega arith
 
 -- the waits among some pauses are added to as many as were counted before
-pub count_told : (ps : List Pause) (x : w.Waits) (a : ℕ) → x.count ≡ capped a → (waited_all ps x).count ≡ capped (a + length (filter is_wait ps))
-count_told [] x a is = is ∙ ap capped (none a)
+pub count_told : (ps : List Pause) (x : w.Waits) (a : ℕ) → x.count ≡ at_most_64_bits a → (waited_all ps x).count ≡ at_most_64_bits (a + length (filter is_wait ps))
+count_told [] x a is = is ∙ ap at_most_64_bits (none a)
 count_told (p ∷ ps) x a is =
     let one = more_if (is_wait p) x.count (waited_if (is_wait p) p x).count a is (count_one (is_wait p) p x) in
-    count_told ps (waited_if (is_wait p) p x) (a + one_if (is_wait p)) one ∙ ap capped (length_filtered (is_wait p) p ps a)
+    count_told ps (waited_if (is_wait p) p x) (a + one_if (is_wait p)) one ∙ ap at_most_64_bits (length_filtered (is_wait p) p ps a)
 
 -- the longest is at least 0, which it is while there is none
 abbrev pub IsLongest : w.Waits → Type 0
 IsLongest x = x.count ≡ 0 → x.longest ≡ 0
 
-longest_one : (p : Pause) (x : w.Waits) → IsLongest x → (waited p x).longest ≡ max x.longest (length_of p)
+longest_one : (p : Pause) (x : w.Waits) → IsLongest x → (with_wait p x).longest ≡ max x.longest (length_of p)
 longest_one p x first = by_test (x.count) (x.longest) (length_of p) first
   where
     by_test : (n old new : ℕ) → (n ≡ 0 → old ≡ 0) → cond (eqb n 0 || ltb old new) new old ≡ max old new
     by_test n old new first = grind (arith, first)
 
-longest_stays : (p : Pause) (x : w.Waits) → IsLongest (waited p x)
+longest_stays : (p : Pause) (x : w.Waits) → IsLongest (with_wait p x)
 longest_stays p x none = absurd (never x.count none)
   where
     never : (n : ℕ) → min (n + 1) (2 ^ 64 - 1) ≡ 0 → ⊥
@@ -221,9 +221,9 @@ max_shifted a b c = omega arith
 -- the longest wait after some pauses is the longest of those before and of those among them
 pub longest_told : (ps : List Pause) (x : w.Waits) → IsLongest x → (waited_all ps x).longest ≡ max x.longest (longest_of (filter is_wait ps))
 longest_told [] x first = max_none x.longest
-longest_told (p ∷ ps) x first = by_test (is_wait p) (longest_told ps (waited p x) (longest_stays p x)) (longest_told ps x first)
+longest_told (p ∷ ps) x first = by_test (is_wait p) (longest_told ps (with_wait p x) (longest_stays p x)) (longest_told ps x first)
   where
-    by_test : (b : Bool) → (waited_all ps (waited p x)).longest ≡ max (waited p x).longest (longest_of (filter is_wait ps)) → (waited_all ps x).longest ≡ max x.longest (longest_of (filter is_wait ps))
+    by_test : (b : Bool) → (waited_all ps (with_wait p x)).longest ≡ max (with_wait p x).longest (longest_of (filter is_wait ps)) → (waited_all ps x).longest ≡ max x.longest (longest_of (filter is_wait ps))
         → (waited_all ps (waited_if b p x)).longest ≡ max x.longest (longest_of (cond b (p ∷ filter is_wait ps) (filter is_wait ps)))
     by_test true with_it without =
         with_it ∙ ap (λ m. max m (longest_of (filter is_wait ps))) (longest_one p x first) ∙ max_shifted x.longest (length_of p) (longest_of (filter is_wait ps))

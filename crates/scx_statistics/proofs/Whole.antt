@@ -16,15 +16,15 @@ use Rattle.scx_views.specs.declared.pauses.Doing.TheVariants.{Sleeps}
 use Rattle.scx_views.specs.declared.pauses.Pause.{Pause}
 use Rattle.scx_views.specs.declared.pauses.PauseKind.{PauseKind}
 use Rattle.scx_views.specs.declared.pauses.PauseKind.TheVariants as kind
-use Rattle.scx_views.specs.Pauses.{doing_at, pause_of, unfinished}
+use Rattle.scx_views.specs.Pauses.{doing_at, pause_of, open_pause}
 use Rattle.scx_views.specs.Watching.{Watches, kept_of_all, CountsEvent, CountsNote}
 use Rattle.scx_views.proofs.Keeping.{run_is_kept}
 use Rattle.scx_statistics.specs.declared.tally.Tally.{Tally}
 use Rattle.scx_statistics.specs.declared.tally.TaskFigures.{TaskFigures}
 use Rattle.scx_statistics.specs.declared.tally.CpuFigures.{CpuFigures}
 use Rattle.scx_statistics.specs.declared.gathering.Gathered.{Gathered}
-use Rattle.scx_statistics.specs.Waits.{no_waits, capped}
-use Rattle.scx_statistics.specs.Counting.{Counts, counts_of, unused, unused_cpu, nothing, figures_at, cpu_at, with_run, with_pause, with_pause_of, after_pause, has_run, noted, expected, ended_below, ended}
+use Rattle.scx_statistics.specs.Waits.{no_waits, at_most_64_bits}
+use Rattle.scx_statistics.specs.Counting.{Counts, counts_of, no_figures, unused_cpu, nothing, figures_at, cpu_at, with_run, with_pause, with_pause_of, after_pause, has_run, counts_after_note, counts_after_event, ended_below, counts_at_end}
 use Rattle.scx_statistics.specs.Figures.{does_after, to_list, pauses_in, pauses_of, waits_of, is_wait, longest_of, wakes_of, stops_in, busy_in, idle_in, IsOfTask, IsOfCpu, AreOfRun}
 use Rattle.scx_statistics.proofs.Rows.{tasks_kept, with_option, pause_here, pause_there, of_pause, Row, row, row_all, IsThere, row_of_run}
 use Rattle.scx_statistics.proofs.Told.{wakes_told, stops_told, does_told, waits_told, waited_all, waited_append, pause_said, count_told, longest_told}
@@ -39,7 +39,7 @@ length_ended : (n : ℕ) (w : WorldState) (ds : List Doing) (tasks : List TaskFi
 length_ended zero w ds tasks = refl
 length_ended (suc n) w ds tasks =
     let ran = has_run (ended_below n w ds tasks) n (ran_ms (task_at w n)) in
-    length_paused (unfinished w.clock ds n) ran ∙ length-set (ended_below n w ds tasks) n (with_run (ran_ms (task_at w n)) (figures_at (ended_below n w ds tasks) n)) ∙ length_ended n w ds tasks
+    length_paused (open_pause w.clock ds n) ran ∙ length-set (ended_below n w ds tasks) n (with_run (ran_ms (task_at w n)) (figures_at (ended_below n w ds tasks) n)) ∙ length_ended n w ds tasks
   where
     length_paused : (q : Option Pause) (xs : List TaskFigures) → length (after_pause q xs) ≡ length xs
     length_paused None xs = refl
@@ -51,13 +51,13 @@ ended_here : (before : List TaskFigures) (n ms clock : ℕ) (d : Doing) → n < 
 ended_here before n ms clock d within =
     let x = with_run ms (figures_at before n) in
     pause_here (pause_of clock n d) (has_run before n ms) n (of_pause clock n d) (subst (λ m. n < m) (sym (length-set before n x)) within)
-    ∙ ap (λ y. with_option (pause_of clock n d) y) (get_or-set_same before n x unused within)
+    ∙ ap (λ y. with_option (pause_of clock n d) y) (get_or-set_same before n x no_figures within)
 
 ended_there : (before : List TaskFigures) (n t ms clock : ℕ) (d : Doing) → (t ≡ n → ⊥)
     → figures_at (after_pause (pause_of clock n d) (has_run before n ms)) t ≡ figures_at before t
 ended_there before n t ms clock d other =
     pause_there (pause_of clock n d) (has_run before n ms) n t (of_pause clock n d) other
-    ∙ get_or-set_other before n t (with_run ms (figures_at before n)) unused other
+    ∙ get_or-set_other before n t (with_run ms (figures_at before n)) no_figures other
 
 -- a task whose turn hasn't come
 not_ended : (n t : ℕ) (w : WorldState) (ds : List Doing) (tasks : List TaskFigures) → n ≤ t → figures_at (ended_below n w ds tasks) t ≡ figures_at tasks t
@@ -97,10 +97,10 @@ end_keeps (Some p) x = by_kind p.kind
     by_kind kind.Parked = (refl, refl, refl)
 
 abbrev first_row : Row
-first_row = record { doing = Sleeps; figures = unused }
+first_row = record { doing = Sleeps; figures = no_figures }
 
 task_told : (t clock ms : ℕ) (ns : List Note) (r : Row) (x : TaskFigures) → r ≡ row_all t ns first_row → x ≡ with_option (pause_of clock t r.doing) (with_run ms r.figures)
-    → (x.run ≡ ms) × (x.wakes ≡ capped (wakes_of t ns)) × (x.stopped ≡ capped (stops_in t Sleeps ns)) × (x.waits ≡ waited_all (pauses_of t clock ns) no_waits)
+    → (x.run ≡ ms) × (x.wakes ≡ at_most_64_bits (wakes_of t ns)) × (x.stopped ≡ at_most_64_bits (stops_in t Sleeps ns)) × (x.waits ≡ waited_all (pauses_of t clock ns) no_waits)
 task_told t clock ms ns r x all end =
     let q = pause_of clock t r.doing in
     let y = with_run ms r.figures in
@@ -108,8 +108,8 @@ task_told t clock ms ns r x all end =
     let doing : r.doing ≡ does_after t Sleeps ns = ap (λ (z : Row). z.doing) all ∙ does_told t ns first_row in
     let waits : r.figures.waits ≡ waited_all (pauses_in t Sleeps ns) no_waits = ap (λ (z : Row). z.figures.waits) all ∙ waits_told t ns first_row in (
       ap (λ (z : TaskFigures). z.run) end ∙ keeps.0,
-      ap (λ (z : TaskFigures). z.wakes) end ∙ keeps.1 ∙ ap (λ (z : Row). z.figures.wakes) all ∙ wakes_told t ns first_row 0 refl ∙ ap capped (from_0 (wakes_of t ns)),
-      ap (λ (z : TaskFigures). z.stopped) end ∙ keeps.2 ∙ ap (λ (z : Row). z.figures.stopped) all ∙ stops_told t ns first_row 0 refl ∙ ap capped (from_0 (stops_in t Sleeps ns)),
+      ap (λ (z : TaskFigures). z.wakes) end ∙ keeps.1 ∙ ap (λ (z : Row). z.figures.wakes) all ∙ wakes_told t ns first_row 0 refl ∙ ap at_most_64_bits (from_0 (wakes_of t ns)),
+      ap (λ (z : TaskFigures). z.stopped) end ∙ keeps.2 ∙ ap (λ (z : Row). z.figures.stopped) all ∙ stops_told t ns first_row 0 refl ∙ ap at_most_64_bits (from_0 (stops_in t Sleeps ns)),
       ap (λ (z : TaskFigures). z.waits) end ∙ pause_said q y ∙ ap (λ z. waited_all (to_list q) z) waits
           ∙ ap (λ d. waited_all (to_list (pause_of clock t d)) (waited_all (pauses_in t Sleeps ns) no_waits)) doing
           ∙ sym (waited_append (pauses_in t Sleeps ns) (to_list (pause_of clock t (does_after t Sleeps ns))) no_waits),
@@ -117,26 +117,26 @@ task_told t clock ms ns r x all end =
 
 first_is_there : (n m t : ℕ) → t < n → IsThere t (nothing n m)
 first_is_there n m t below = record {
-  tasks = subst (λ k. t < k) (sym (length-replicate n unused)) below;
+  tasks = subst (λ k. t < k) (sym (length-replicate n no_figures)) below;
   doing = subst (λ k. t < k) (sym (length-replicate n Sleeps)) below;
 }
 
 first_is : (n m t : ℕ) → t < n → row t (nothing n m) ≡ first_row
 first_is n m t below =
-    ap (λ d. record { doing = d; figures = figures_at (replicate n unused) t }) (get_or-replicate n t Sleeps Sleeps below)
-    ∙ ap (λ x. record { doing = Sleeps; figures = x }) (get_or-replicate n t unused unused below)
+    ap (λ d. record { doing = d; figures = figures_at (replicate n no_figures) t }) (get_or-replicate n t Sleeps Sleeps below)
+    ∙ ap (λ x. record { doing = Sleeps; figures = x }) (get_or-replicate n t no_figures no_figures below)
 
 -- ---- the run
 
 abbrev pub final : WorkloadState → SimState → List Event → Counts
-final wl s es = ended (stepped_all s es).state.world (kept_of_all expected noted s es (nothing (length wl.homes) wl.cpus))
+final wl s es = counts_at_end (stepped_all s es).state.world (kept_of_all counts_after_event counts_after_note s es (nothing (length wl.homes) wl.cpus))
 
 task_of_run : (wl : WorkloadState) (s : SimState) (es : List Event) (t : ℕ) → t < length wl.homes → t < length (stepped_all s es).state.world.tasks
     → IsOfTask t (stepped_all s es).state.world (notes_of_all s es) (figures_at (final wl s es).tasks t)
 task_of_run wl s es t below in_world =
     let world = (stepped_all s es).state.world in
     let first = nothing (length wl.homes) wl.cpus in
-    let k = kept_of_all expected noted s es first in
+    let k = kept_of_all counts_after_event counts_after_note s es first in
     let ns = notes_of_all s es in
     let run = row_of_run t es s first (first_is_there (length wl.homes) wl.cpus t below) in
     let all : row t k ≡ row_all t ns first_row = run.1 ∙ ap (λ r. row_all t ns r) (first_is (length wl.homes) wl.cpus t below) in
@@ -147,7 +147,7 @@ task_of_run wl s es t below in_world =
       run = told.0;
       wakes = told.1;
       stopped = told.2;
-      waits = ap (λ x. x.count) told.3 ∙ count_told (pauses_of t world.clock ns) no_waits 0 refl ∙ ap capped (from_0 (length (waits_of t world.clock ns)));
+      waits = ap (λ x. x.count) told.3 ∙ count_told (pauses_of t world.clock ns) no_waits 0 refl ∙ ap at_most_64_bits (from_0 (length (waits_of t world.clock ns)));
       longest = ap (λ x. x.longest) told.3 ∙ longest_told (pauses_of t world.clock ns) no_waits (λ e. refl) ∙ from_none (longest_of (filter is_wait (pauses_of t world.clock ns)));
     }
   where
@@ -160,7 +160,7 @@ cpu_of_run wl s es c below =
     let unused_there : cpu_at first.cpus c ≡ unused_cpu = get_or-replicate wl.cpus c unused_cpu unused_cpu below in
     let told = cpu_told c es s first 0 0 (subst (λ m. c < m) (sym (length-replicate wl.cpus unused_cpu)) below)
     (ap (λ (x : CpuFigures). x.busy) unused_there) (ap (λ (x : CpuFigures). x.idle) unused_there) in
-    record { busy = told.0 ∙ ap capped (from_0 (busy_in c s es)); idle = told.1 ∙ ap capped (from_0 (idle_in c s es)) }
+    record { busy = told.0 ∙ ap at_most_64_bits (from_0 (busy_in c s es)); idle = told.1 ∙ ap at_most_64_bits (from_0 (idle_in c s es)) }
 
 -- what is counted in a whole run are the figures of that run
 pub figures_told : (wl : WorkloadState) (s : SimState) (es : List Event) (tasks : List TaskFigures) (cpus : List CpuFigures)
@@ -175,22 +175,22 @@ figures_told wl s es tasks cpus same_tasks same_cpus = record {
     tasks_stay : (wl : WorkloadState) (s : SimState) (es : List Event) → length (final wl s es).tasks ≡ length wl.homes
     tasks_stay wl s es =
         let world = (stepped_all s es).state.world in
-        let k = kept_of_all expected noted s es (nothing (length wl.homes) wl.cpus) in
-        length_ended (length world.tasks) world k.doing k.tasks ∙ tasks_kept es s (nothing (length wl.homes) wl.cpus) ∙ length-replicate (length wl.homes) unused
+        let k = kept_of_all counts_after_event counts_after_note s es (nothing (length wl.homes) wl.cpus) in
+        length_ended (length world.tasks) world k.doing k.tasks ∙ tasks_kept es s (nothing (length wl.homes) wl.cpus) ∙ length-replicate (length wl.homes) no_figures
 
 -- ---- what was gathered
 
 -- a view that was shown a whole run, and had memory to its end, has counted all of the run
 pub gathered : {G : Type 0} (tally : G → Tally) (wl : WorkloadState) (s t : SimState) (es : List Event) (first shown last : G)
     → counts_of (tally first) ≡ nothing (length wl.homes) wl.cpus
-    → Watches (CountsEvent (λ g. is_err (tally g).result) (λ g. counts_of (tally g)) expected) (λ g. is_err (tally g).result) (CountsNote (λ g. is_err (tally g).result) (λ g. counts_of (tally g)) noted) es s first t shown
-    → (is_err (tally last).result ≡ false → (is_err (tally shown).result ≡ false) × (counts_of (tally last) ≡ ended t.state.world (counts_of (tally shown))))
+    → Watches (CountsEvent (λ g. is_err (tally g).result) (λ g. counts_of (tally g)) counts_after_event) (λ g. is_err (tally g).result) (CountsNote (λ g. is_err (tally g).result) (λ g. counts_of (tally g)) counts_after_note) es s first t shown
+    → (is_err (tally last).result ≡ false → (is_err (tally shown).result ≡ false) × (counts_of (tally last) ≡ counts_at_end t.state.world (counts_of (tally shown))))
     → is_err (tally last).result ≡ false → counts_of (tally last) ≡ final wl s es
 gathered tally wl s t es first shown last begins watched ends well =
     let at_end = ends well in
-    let kept = run_is_kept (λ g. is_err (tally g).result) (λ g. counts_of (tally g)) expected noted es s t first shown watched at_end.0 in
-    at_end.1 ∙ ap (λ (x : SimState). ended x.state.world (counts_of (tally shown))) kept.0
-    ∙ ap (λ k. ended (stepped_all s es).state.world k) (kept.1 ∙ ap (λ k. kept_of_all expected noted s es k) begins)
+    let kept = run_is_kept (λ g. is_err (tally g).result) (λ g. counts_of (tally g)) counts_after_event counts_after_note es s t first shown watched at_end.0 in
+    at_end.1 ∙ ap (λ (x : SimState). counts_at_end x.state.world (counts_of (tally shown))) kept.0
+    ∙ ap (λ k. counts_at_end (stepped_all s es).state.world k) (kept.1 ∙ ap (λ k. kept_of_all counts_after_event counts_after_note s es k) begins)
 
 -- an answer with the figures of a tally that counted all of a run has the figures of the run
 pub answered : {E : Type 0} (r : Result Gathered E) (x : Tally) (wl : WorkloadState) (s : SimState) (es : List Event)

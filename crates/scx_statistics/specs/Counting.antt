@@ -12,8 +12,8 @@ use Rattle.scx_views.specs.declared.pauses.Doing.TheVariants.{Sleeps}
 use Rattle.scx_views.specs.declared.pauses.Pause.{Pause}
 use Rattle.scx_views.specs.declared.pauses.PauseKind.{PauseKind}
 use Rattle.scx_views.specs.declared.pauses.PauseKind.TheVariants as kind
-use Rattle.scx_views.specs.Pauses.{sleeps, doing_at, doing_after, unfinished, ended_by}
-use Rattle.scx_statistics.specs.Waits.{no_waits, up, up_by, waited}
+use Rattle.scx_views.specs.Pauses.{sleeps, doing_at, doing_after, open_pause, ended_by}
+use Rattle.scx_statistics.specs.Waits.{no_waits, up, up_by, with_wait}
 use Rattle.scx_statistics.specs.declared.tally.TaskFigures.{TaskFigures}
 use Rattle.scx_statistics.specs.declared.tally.CpuFigures.{CpuFigures}
 use Rattle.scx_statistics.specs.declared.tally.Tally.{Tally}
@@ -29,8 +29,8 @@ abbrev pub counts_of : Tally → Counts
 counts_of t = record { tasks = t.tasks.items; cpus = t.cpus.items; doing = t.pauses }
 
 -- the figures of a task before a run: nothing has been counted of it
-abbrev pub unused : TaskFigures
-unused = record { run = 0; waits = no_waits; wakes = 0; stopped = 0; parked = 0 }
+abbrev pub no_figures : TaskFigures
+no_figures = record { run = 0; waits = no_waits; wakes = 0; stopped = 0; parked = 0 }
 
 -- the figures of a processor before a run: nothing has been counted, and no task has begun on it
 abbrev pub unused_cpu : CpuFigures
@@ -38,11 +38,11 @@ unused_cpu = record { busy = 0; idle = 0; changes = 0; last = None }
 
 -- before the run
 abbrev pub nothing : ℕ → ℕ → Counts
-nothing tasks cpus = record { tasks = replicate tasks unused; cpus = replicate cpus unused_cpu; doing = replicate tasks Sleeps }
+nothing tasks cpus = record { tasks = replicate tasks no_figures; cpus = replicate cpus unused_cpu; doing = replicate tasks Sleeps }
 
 -- the figures of the task of that number; those before a run where there is none
 abbrev pub figures_at : List TaskFigures → ℕ → TaskFigures
-figures_at tasks t = slice_index_or tasks t unused
+figures_at tasks t = slice_index_or tasks t no_figures
 
 -- the figures of the processor of that number; those before a run where there is none
 abbrev pub cpu_at : List CpuFigures → ℕ → CpuFigures
@@ -64,7 +64,7 @@ with_run ms x = record x { run = ms }
 
 -- a task's figures with a pause of that kind more: one more wait, or more parked milliseconds
 abbrev pub with_pause_of : PauseKind → Pause → TaskFigures → TaskFigures
-with_pause_of kind.Wait p x = record x { waits = waited p x.waits }
+with_pause_of kind.Wait p x = record x { waits = with_wait p x.waits }
 with_pause_of kind.Parked p x = record x { parked = up_by (p.until - p.since) x.parked }
 
 -- a task's figures with one pause more, a wait or parked as the pause says
@@ -72,8 +72,8 @@ abbrev pub with_pause : Pause → TaskFigures → TaskFigures
 with_pause p x = with_pause_of p.kind p x
 
 -- one more wake of the task of that number, if it is there
-abbrev pub woken : List TaskFigures → ℕ → List TaskFigures
-woken tasks t = slice_set tasks t (with_wake (figures_at tasks t))
+abbrev pub with_wake_at : List TaskFigures → ℕ → List TaskFigures
+with_wake_at tasks t = slice_set tasks t (with_wake (figures_at tasks t))
 
 -- one more stop, although there was work to do, of the task of that number, if it is there
 abbrev pub cut_off : List TaskFigures → ℕ → List TaskFigures
@@ -84,13 +84,13 @@ abbrev pub has_run : List TaskFigures → ℕ → ℕ → List TaskFigures
 has_run tasks t ms = slice_set tasks t (with_run ms (figures_at tasks t))
 
 -- the pause of a task is counted in the figures of that task, if it is there
-abbrev pub paused : List TaskFigures → Pause → List TaskFigures
-paused tasks p = slice_set tasks p.task (with_pause p (figures_at tasks p.task))
+abbrev pub with_pause_at : List TaskFigures → Pause → List TaskFigures
+with_pause_at tasks p = slice_set tasks p.task (with_pause p (figures_at tasks p.task))
 
 -- the pause, if there is one, is counted in the figures of its task
 abbrev pub after_pause : Option Pause → List TaskFigures → List TaskFigures
 after_pause None tasks = tasks
-after_pause (Some p) tasks = paused tasks p
+after_pause (Some p) tasks = with_pause_at tasks p
 
 -- what a note says of the task that it is of, which does so behind it: a wake is counted, and a stop of one that
 -- doesn't sleep
@@ -112,7 +112,7 @@ stop_counted ds tasks t = if sleeps (doing_at ds t) then tasks else cut_off task
 
 -- tasks' figures with the wake counted that a note tells, or a stop of one that doesn't sleep then
 abbrev pub tasks_counted : What → List Doing → List TaskFigures → List TaskFigures
-tasks_counted (Wake t) ds tasks = woken tasks t
+tasks_counted (Wake t) ds tasks = with_wake_at tasks t
 tasks_counted (Stop t c) ds tasks = stop_counted ds tasks t
 tasks_counted (Sleep t) ds tasks = tasks
 tasks_counted (Run t c) ds tasks = tasks
@@ -131,8 +131,8 @@ with_tick true x = record x { busy = up x.busy }
 with_tick false x = record x { idle = up x.idle }
 
 -- one tick more of the processor of that number; where there is none, nothing changes
-abbrev pub ticked : List CpuFigures → ℕ → Bool → List CpuFigures
-ticked cpus c is_busy = slice_set cpus c (with_tick is_busy (cpu_at cpus c))
+abbrev pub with_tick_at : List CpuFigures → ℕ → Bool → List CpuFigures
+with_tick_at cpus c is_busy = slice_set cpus c (with_tick is_busy (cpu_at cpus c))
 
 -- the count of changes as a task begins to run: one more where the last to begin was another
 abbrev pub changes_after : Option ℕ → ℕ → ℕ → ℕ
@@ -167,27 +167,27 @@ abbrev pub pause_counted : ℕ → What → Counts → Counts
 pause_counted clock what k = record { tasks = after_pause (ended_by clock what k.doing) k.tasks; cpus = k.cpus; doing = doing_after clock what k.doing }
 
 -- what a note counts beside the pause that it ends, of tasks that already do what it says
-abbrev pub counted : What → Counts → Counts
-counted what k = record { tasks = tasks_counted what k.doing k.tasks; cpus = cpus_counted what k.cpus; doing = k.doing }
+abbrev pub counts_after_step : What → Counts → Counts
+counts_after_step what k = record { tasks = tasks_counted what k.doing k.tasks; cpus = cpus_counted what k.cpus; doing = k.doing }
 
 -- a note
-abbrev pub noted : ℕ → What → Counts → Counts
-noted clock what k = counted what (pause_counted clock what k)
+abbrev pub counts_after_note : ℕ → What → Counts → Counts
+counts_after_note clock what k = counts_after_step what (pause_counted clock what k)
 
 -- a tick is of a processor that runs a task, or none, before it
-abbrev pub expected : SimState → Event → Counts → Counts
-expected s (event.Tick c) k = record k { cpus = ticked k.cpus c (is_some (running s.state.world c)) }
-expected s (event.Wake t) k = k
-expected s (event.Sleep t) k = k
-expected s event.Clock k = k
-expected s (event.SetWeight g x) k = k
+abbrev pub counts_after_event : SimState → Event → Counts → Counts
+counts_after_event s (event.Tick c) k = record k { cpus = with_tick_at k.cpus c (is_some (running s.state.world c)) }
+counts_after_event s (event.Wake t) k = k
+counts_after_event s (event.Sleep t) k = k
+counts_after_event s event.Clock k = k
+counts_after_event s (event.SetWeight g x) k = k
 
 -- as the run ends, the pauses that go on end for the tasks below that number, and each has run as long as it has
 abbrev pub ended_below : ℕ → WorldState → List Doing → List TaskFigures → List TaskFigures
 ended_below zero w ds tasks = tasks
 ended_below (suc t) w ds tasks =
-    after_pause (unfinished w.clock ds t) (has_run (ended_below t w ds tasks) t (ran_ms (task_at w t)))
+    after_pause (open_pause w.clock ds t) (has_run (ended_below t w ds tasks) t (ran_ms (task_at w t)))
 
 -- what is counted once the run has ended in that world
-abbrev pub ended : WorldState → Counts → Counts
-ended w k = record k { tasks = ended_below (length w.tasks) w k.doing k.tasks }
+abbrev pub counts_at_end : WorldState → Counts → Counts
+counts_at_end w k = record k { tasks = ended_below (length w.tasks) w k.doing k.tasks }

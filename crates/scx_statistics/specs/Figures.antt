@@ -7,7 +7,7 @@ use Rattle.scx_world.specs.declared.notes.What.TheVariants.{Wake, Sleep, Insert,
 use Rattle.scx_world.specs.World.{WorldState, task_at, running}
 use Rattle.scx_machine.specs.declared.events.Event.{Event}
 use Rattle.scx_machine.specs.declared.events.Event.TheVariants as event
-use Rattle.scx_sched.specs.Sim.{SimState, stepped}
+use Rattle.scx_sched.specs.Sim.{SimState, after_event}
 use Rattle.scx_driver.specs.Runs.{stepped_all, notes_of_all}
 use Rattle.scx_trace.specs.Report.{ran_ms}
 use Rattle.scx_driver.specs.Events.{workload_events}
@@ -18,8 +18,8 @@ use Rattle.scx_views.specs.declared.pauses.Doing.TheVariants.{Sleeps}
 use Rattle.scx_views.specs.declared.pauses.Pause.{Pause}
 use Rattle.scx_views.specs.declared.pauses.PauseKind.{PauseKind}
 use Rattle.scx_views.specs.declared.pauses.PauseKind.TheVariants as kind
-use Rattle.scx_views.specs.Pauses.{sleeps, of_task, does, ended, pause_of}
-use Rattle.scx_statistics.specs.Waits.{capped, length_of}
+use Rattle.scx_views.specs.Pauses.{sleeps, of_task, does, ending_pause, pause_of}
+use Rattle.scx_statistics.specs.Waits.{at_most_64_bits, length_of}
 use Rattle.scx_statistics.specs.Counting.{figures_at, cpu_at}
 use Rattle.scx_statistics.specs.declared.tally.TaskFigures.{TaskFigures}
 use Rattle.scx_statistics.specs.declared.tally.CpuFigures.{CpuFigures}
@@ -60,7 +60,7 @@ to_list (Some p) = p ∷ []
 
 -- the pause of a task that a note ends, by what the task did before; none where it ends none
 abbrev pub ended_at : ℕ → Note → Doing → Option Pause
-ended_at t n d = if is_of t n.what then ended n.clock t n.what d else None
+ended_at t n d = if is_of t n.what then ending_pause n.clock t n.what d else None
 
 -- its pauses that end in these notes
 abbrev pub pauses_in : ℕ → Doing → List Note → List Pause
@@ -145,27 +145,27 @@ is_tick c (event.SetWeight g x) = false
 -- ticks of a processor that runs a task before them, and of one that runs none
 abbrev pub busy_in : ℕ → SimState → List Event → ℕ
 busy_in c s [] = 0
-busy_in c s (e ∷ es) = one_if (is_tick c e && is_some (running s.state.world c)) + busy_in c (stepped s e) es
+busy_in c s (e ∷ es) = one_if (is_tick c e && is_some (running s.state.world c)) + busy_in c (after_event s e) es
 
 -- ticks of a processor that runs no task before them, in these events from that state on
 abbrev pub idle_in : ℕ → SimState → List Event → ℕ
 idle_in c s [] = 0
-idle_in c s (e ∷ es) = one_if (is_tick c e && not (is_some (running s.state.world c))) + idle_in c (stepped s e) es
+idle_in c s (e ∷ es) = one_if (is_tick c e && not (is_some (running s.state.world c))) + idle_in c (after_event s e) es
 
 -- ---- a run
 
 -- of a task in a run with these notes that ends in that world
 pub record IsOfTask (t : ℕ) (w : WorldState) (ns : List Note) (x : TaskFigures) : Type 0 where
   pub run : x.run ≡ ran_ms (task_at w t)
-  pub wakes : x.wakes ≡ capped (wakes_of t ns)
-  pub stopped : x.stopped ≡ capped (stops_in t Sleeps ns)
-  pub waits : x.waits.count ≡ capped (length (waits_of t w.clock ns))
+  pub wakes : x.wakes ≡ at_most_64_bits (wakes_of t ns)
+  pub stopped : x.stopped ≡ at_most_64_bits (stops_in t Sleeps ns)
+  pub waits : x.waits.count ≡ at_most_64_bits (length (waits_of t w.clock ns))
   pub longest : x.waits.longest ≡ longest_of (waits_of t w.clock ns)
 
 -- the figures of a processor in a run from that state through these events: its ticks, busy or idle
 pub record IsOfCpu (c : ℕ) (s : SimState) (es : List Event) (x : CpuFigures) : Type 0 where
-  pub busy : x.busy ≡ capped (busy_in c s es)
-  pub idle : x.idle ≡ capped (idle_in c s es)
+  pub busy : x.busy ≡ at_most_64_bits (busy_in c s es)
+  pub idle : x.idle ≡ at_most_64_bits (idle_in c s es)
 
 -- the figures of tasks and processors of the run from that state through these events
 pub record AreOfRun (w : WorkloadState) (s : SimState) (es : List Event) (tasks : List TaskFigures) (cpus : List CpuFigures) : Type 0 where

@@ -10,12 +10,12 @@ pub record Waits : Type 0 where
   pub longest_since : ℕ  -- when the first of the longest began
 
 -- a count stops at the greatest number of 64 bits
-abbrev pub capped : ℕ → ℕ
-capped n = min n (2 ^ 64 - 1)
+abbrev pub at_most_64_bits : ℕ → ℕ
+at_most_64_bits n = min n (2 ^ 64 - 1)
 
 -- a count with so many more, up to the greatest number of 64 bits
 abbrev pub up_by : ℕ → ℕ → ℕ
-up_by more n = capped (n + more)
+up_by more n = at_most_64_bits (n + more)
 
 -- a count with one more, up to the greatest number of 64 bits
 abbrev pub up : ℕ → ℕ
@@ -34,8 +34,8 @@ abbrev pub is_longest : ℕ → Waits → Bool
 is_longest length w = (w.count == 0) || nat_lt w.longest length
 
 -- what is counted with this pause as one wait more
-abbrev pub waited : Pause → Waits → Waits
-waited p w = record {
+abbrev pub with_wait : Pause → Waits → Waits
+with_wait p w = record {
   count = up w.count;
   total = up_by (length_of p) w.total;
   longest = if is_longest (length_of p) w then length_of p else w.longest;
@@ -44,4 +44,4 @@ waited p w = record {
 
 -- in hundredths, rounded down; of none it is 0
 abbrev pub mean : Waits → ℕ
-mean w = if w.count == 0 then 0 else capped (w.total * 100) / w.count
+mean w = if w.count == 0 then 0 else at_most_64_bits (w.total * 100) / w.count

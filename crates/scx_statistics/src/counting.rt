@@ -1,5 +1,5 @@
 ghost use Rattle.std.specs.Prelude.{◌≡◌, OnOk, IfOk};
-ghost use Rattle.scx_statistics.specs.Waits.{no_waits, is_longest, waited, mean};
+ghost use Rattle.scx_statistics.specs.Waits.{no_waits, is_longest, with_wait, mean};
 
 use scx_views::Pause;
 use std::alloc::{AllocError, Global};
@@ -48,7 +48,7 @@ impl WaitCounts {
     }
 
     pub(crate) fn add(&mut self, wait: Pause) -> Result<(), AllocError>
-        ensures { OnOk result (self.new ≡ waited wait self.old) }
+        ensures { OnOk result (self.new ≡ with_wait wait self.old) }
     {
         let length = wait.length();
         let times = self.lengths.entry(length)?.or_insert(0);

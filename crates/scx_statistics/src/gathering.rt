@@ -3,7 +3,7 @@ ghost use Rattle.scx_world.specs.World.{running};
 ghost use Rattle.scx_driver.specs.Driver.{remaining};
 ghost use Rattle.scx_machine.specs.declared.events.Event.TheVariants.{Tick};
 ghost use Rattle.scx_views.specs.Watching.{CountsEvent, CountsNote};
-ghost use Rattle.scx_statistics.specs.Counting.{counts_of, nothing, expected, noted, ended};
+ghost use Rattle.scx_statistics.specs.Counting.{counts_of, nothing, counts_after_event, counts_after_note, counts_at_end};
 ghost use Rattle.scx_statistics.specs.Figures.{AreOfRun};
 
 use crate::numbers::percent;
@@ -209,7 +209,7 @@ impl<'a> Gathering<'a> {
 
     /// A processor is about to have run for a millisecond, or not to have.
     fn tick(&mut self, sim: &Sim, cpu: u32)
-        ensures { CountsEvent (λ g. is_err g.tally.result) (λ g. counts_of g.tally) expected
+        ensures { CountsEvent (λ g. is_err g.tally.result) (λ g. counts_of g.tally) counts_after_event
             self.old sim.now (Tick cpu) self.new }
     {
         let running = running_on(sim, cpu);
@@ -249,7 +249,7 @@ impl<'a> Gathering<'a> {
     /// Adds what goes on at the end, and periods that aren't over.
     fn end(&mut self, sim: &Sim)
         ensures { is_err self.new.tally.result ≡ false → (is_err self.old.tally.result ≡ false)
-            × (counts_of self.new.tally ≡ ended sim.now.state.world (counts_of self.old.tally)) }
+            × (counts_of self.new.tally ≡ counts_at_end sim.now.state.world (counts_of self.old.tally)) }
     {
         self.tally.end(sim);
         self.dues.quotas.end(sim.clock());
@@ -257,9 +257,9 @@ impl<'a> Gathering<'a> {
 }
 
 impl View for Gathering<'_> {
-    ghost expects = { CountsEvent (λ g. is_err g.tally.result) (λ g. counts_of g.tally) expected };
+    ghost expects = { CountsEvent (λ g. is_err g.tally.result) (λ g. counts_of g.tally) counts_after_event };
 
-    ghost shows = { CountsNote (λ g. is_err g.tally.result) (λ g. counts_of g.tally) noted };
+    ghost shows = { CountsNote (λ g. is_err g.tally.result) (λ g. counts_of g.tally) counts_after_note };
 
     ghost has_failed = { λ g. is_err g.tally.result };
 

@@ -1,6 +1,6 @@
 ghost use Rattle.std.specs.Prelude.{◌≡◌, replicate, false, is_err, IfOk, OnOk};
-ghost use Rattle.scx_views.specs.Pauses.{unfinished};
-ghost use Rattle.scx_statistics.specs.Counting.{counts_of, unused, unused_cpu, nothing, with_tick, with_begin, with_pause, woken, cut_off, has_run, paused, after_pause, stop_counted, ticked, begun_on, pause_counted, counted, noted, ended};
+ghost use Rattle.scx_views.specs.Pauses.{open_pause};
+ghost use Rattle.scx_statistics.specs.Counting.{counts_of, no_figures, unused_cpu, nothing, with_tick, with_begin, with_pause, with_wake_at, cut_off, has_run, with_pause_at, after_pause, stop_counted, with_tick_at, begun_on, pause_counted, counts_after_step, counts_after_note, counts_at_end};
 
 use crate::counting::WaitCounts;
 use scx_sched::{Sim, What};
@@ -25,7 +25,7 @@ pub struct TaskFigures {
 
 impl TaskFigures {
     fn unused(alloc: Global) -> TaskFigures
-        ensures { result ≡ unused }
+        ensures { result ≡ no_figures }
     {
         TaskFigures {
             run: 0,
@@ -84,7 +84,7 @@ impl CpuFigures {
 }
 
 fn unused_tasks(alloc: Global, count: usize) -> Result<Vec<TaskFigures>, AllocError>
-    ensures { IfOk result (λ tasks. tasks.items ≡ replicate count unused) }
+    ensures { IfOk result (λ tasks. tasks.items ≡ replicate count no_figures) }
 {
     let mut tasks = Vec::with_capacity(alloc, count)?;
     for _ in 0..count {
@@ -131,7 +131,7 @@ impl Tally {
     /// A processor is about to have run for a millisecond, or not to have.
     pub(crate) fn tick(&mut self, cpu: u32, is_busy: bool)
         ensures tasks { self.new.tasks ≡ self.old.tasks }
-        ensures cpus { self.new.cpus.items ≡ ticked self.old.cpus.items cpu is_busy }
+        ensures cpus { self.new.cpus.items ≡ with_tick_at self.old.cpus.items cpu is_busy }
         ensures pauses { self.new.pauses ≡ self.old.pauses }
         ensures result { self.new.result ≡ self.old.result }
     {
@@ -141,7 +141,7 @@ impl Tally {
     /// Something happens. Once memory has run out, nothing is counted any more.
     pub(crate) fn show(&mut self, clock: u64, what: What)
         ensures { is_err self.new.result ≡ false
-            → counts_of self.new ≡ noted clock what (counts_of self.old) }
+            → counts_of self.new ≡ counts_after_note clock what (counts_of self.old) }
     {
         self.count_pause(clock, what);
         self.count(what);
@@ -158,7 +158,7 @@ impl Tally {
     }
 
     fn count(&mut self, what: What)
-        ensures counts { counts_of self.new ≡ counted what (counts_of self.old) }
+        ensures counts { counts_of self.new ≡ counts_after_step what (counts_of self.old) }
         ensures result { self.new.result ≡ self.old.result }
     {
         match what {
@@ -191,7 +191,7 @@ impl Tally {
     /// Adds the pauses that go on at the end, and how long each task ran.
     pub(crate) fn end(&mut self, sim: &Sim)
         ensures { is_err self.new.result ≡ false → (is_err self.old.result ≡ false)
-            × (counts_of self.new ≡ ended sim.now.state.world (counts_of self.old)) }
+            × (counts_of self.new ≡ counts_at_end sim.now.state.world (counts_of self.old)) }
     {
         for task in 0..sim.tasks() {
             set_run(&mut self.tasks, task, sim.run_ns(task) / MS);
@@ -202,7 +202,7 @@ impl Tally {
     /// Adds the pause that goes on at the end, if one does.
     fn end_pause(&mut self, task: u16, clock: u64)
         ensures tasks { is_err self.new.result ≡ false → self.new.tasks.items
-            ≡ after_pause (unfinished clock self.old.pauses task) self.old.tasks.items }
+            ≡ after_pause (open_pause clock self.old.pauses task) self.old.tasks.items }
         ensures cpus { self.new.cpus ≡ self.old.cpus }
         ensures pauses { self.new.pauses ≡ self.old.pauses }
         ensures before { is_err self.new.result ≡ false → is_err self.old.result ≡ false }
@@ -216,7 +216,7 @@ impl Tally {
 }
 
 fn tick(cpus: &mut Vec<CpuFigures>, cpu: u32, is_busy: bool)
-    ensures { cpus.new.items ≡ ticked cpus.old.items cpu is_busy }
+    ensures { cpus.new.items ≡ with_tick_at cpus.old.items cpu is_busy }
 {
     if let Some(figures) = cpus.get_mut(cpu as usize) {
         figures.tick(is_busy);
@@ -232,7 +232,7 @@ fn begin(cpus: &mut Vec<CpuFigures>, task: u16, cpu: u32)
 }
 
 fn wake(tasks: &mut Vec<TaskFigures>, task: u16)
-    ensures { tasks.new.items ≡ woken tasks.old.items task }
+    ensures { tasks.new.items ≡ with_wake_at tasks.old.items task }
 {
     if let Some(figures) = tasks.get_mut(task as usize) {
         figures.wakes = figures.wakes.saturating_add(1);
@@ -256,7 +256,7 @@ fn set_run(tasks: &mut Vec<TaskFigures>, task: u16, ms: u64)
 }
 
 fn add_pause(tasks: &mut Vec<TaskFigures>, pause: Pause) -> Result<(), AllocError>
-    ensures { OnOk result (tasks.new.items ≡ paused tasks.old.items pause) }
+    ensures { OnOk result (tasks.new.items ≡ with_pause_at tasks.old.items pause) }
 {
     match tasks.get_mut(pause.task as usize) {
         Some(figures) => figures.add_pause(pause),

@@ -3,7 +3,7 @@ ghost use Rattle.scx_maps.specs.Contents.{lengths_of};
 ghost use Rattle.scx_semantics.specs.Elements.{Maps};
 ghost use Rattle.scx_semantics.specs.Machine.{Machine};
 ghost use Rattle.scx_semantics.specs.Memory.{size_bytes, access_size};
-ghost use Rattle.scx_semantics.specs.Meaning.{loaded, stored};
+ghost use Rattle.scx_semantics.specs.Meaning.{load_effect, store_effect};
 ghost use Rattle.scx_semantics.specs.Locations as locations;
 ghost use Rattle.scx_semantics.specs.Registers.{number};
 ghost use Rattle.scx_semantics.specs.declared.operations.Size as Sizes;
@@ -31,7 +31,7 @@ pub fn load<E: Env>(
 ) -> Effect
     requires { Lies maps.now (size_bytes (access_size access)) location }
     ensures { ComesTo (host E.functions)
-        (loaded (seen core.old maps.now) (number destination) access (location_of location))
+        (load_effect (seen core.old maps.now) (number destination) access (location_of location))
         maps.now env.now result (seen core.new maps.now) env.now }
 {
     match location {
@@ -59,7 +59,7 @@ fn load_field<E: Env>(
 ) -> Effect
     ensures { (maps : Maps)
         → ComesTo (host E.functions)
-        (loaded (seen core.old maps) (number destination) access (locations.InTask task field)) maps
+        (load_effect (seen core.old maps) (number destination) access (locations.InTask task field)) maps
         env.now result (seen core.new maps) env.now }
 {
     if !access.is_plain() || destination == Register::R10 {
@@ -82,7 +82,7 @@ pub fn store<E: Env>(
 ) -> Effect
     requires { Lies maps.old (size_bytes size) location }
     ensures effect { ComesTo (host E.functions)
-        (stored (seen core.old maps.old) size value (location_of location)) maps.old env.old result
+        (store_effect (seen core.old maps.old) size value (location_of location)) maps.old env.old result
         (seen core.new maps.new) env.new }
     ensures shapes { lengths_of maps.new ≡ lengths_of maps.old }
     ensures room { E.room env.old ≤ E.room env.new }
@@ -106,7 +106,7 @@ pub fn store<E: Env>(
 fn store_on_stack(core: &mut Core, size: Size, value: Value, at: u16) -> Effect
     requires { LiesOnStack at (size_bytes size) }
     ensures { (maps : Maps)
-        → stored (seen core.old maps) size value (locations.OnStack at)
+        → store_effect (seen core.old maps) size value (locations.OnStack at)
         ≡ effect_of result (seen core.new maps) }
 {
     match (size, value) {
@@ -123,7 +123,7 @@ fn store_on_stack(core: &mut Core, size: Size, value: Value, at: u16) -> Effect
 /// written.
 fn store_field<E: Env>(env: &mut E, task: TaskId, field: Field, value: Value) -> Effect
     ensures effect { (m : Machine) (size : Sizes.Size)
-        → ComesTo (host E.functions) (stored m size value (locations.InTask task field)) m.maps
+        → ComesTo (host E.functions) (store_effect m size value (locations.InTask task field)) m.maps
         env.old result m env.new }
     ensures room { E.room env.old ≤ E.room env.new }
     ensures spent { E.spent env.new ≤ E.spent env.old }

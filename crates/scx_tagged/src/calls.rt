@@ -1,5 +1,5 @@
 ghost use Rattle.std.specs.Prelude.{◌≡◌, ◌+◌, ◌<◌, ◌≤◌, length, map, slice_get, if◌then◌else◌};
-ghost use Rattle.scx_semantics.specs.Calls.{call, key, takes_all, argument, arguments, called};
+ghost use Rattle.scx_semantics.specs.Calls.{call, key, takes_all, argument, arguments, call_effect};
 ghost use Rattle.scx_semantics.specs.Effects as effects;
 ghost use Rattle.scx_semantics.specs.Elements.{Maps};
 ghost use Rattle.scx_semantics.specs.HostTables.{parameters};
@@ -50,7 +50,7 @@ pub fn call<E: Env>(
 
 /// The look-up of a map's element.
 fn look_up(core: &mut Core, maps: &Maps) -> Effect
-    ensures { (if takes_all (seen core.old maps.now) (parameters MapLookupElem) 1 then called
+    ensures { (if takes_all (seen core.old maps.now) (parameters MapLookupElem) 1 then call_effect
         (seen core.old maps.now) MapLookupElem else effects.Stuck)
         ≡ effect_of result (seen core.new maps.now) }
 {
@@ -94,7 +94,7 @@ fn ask<E: Env>(core: &mut Core, helper: Helper, env: &mut E) -> Effect
     requires is_asked { ¬ (helper ≡ MapLookupElem) }
     ensures effect { (maps : Maps)
         → ComesTo (host E.functions)
-        (if takes_all (seen core.old maps) (parameters helper) 1 then called (seen core.old maps)
+        (if takes_all (seen core.old maps) (parameters helper) 1 then call_effect (seen core.old maps)
         helper else effects.Stuck) maps env.old result (seen core.new maps) env.new }
     ensures room { E.room env.old ≤ E.room env.new + 1 }
     ensures spent { E.spent env.new ≤ E.spent env.old + 1 }

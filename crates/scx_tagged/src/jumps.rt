@@ -1,5 +1,5 @@
 ghost use Rattle.std.specs.Prelude.{◌≡◌};
-ghost use Rattle.scx_semantics.specs.Meaning.{numbers_compared, null_answer, null_compared, compared};
+ghost use Rattle.scx_semantics.specs.Meaning.{numbers_compared, null_answer, null_compared, comparison_answer};
 ghost use Rattle.scx_semantics.specs.Effects.{branch};
 ghost use Rattle.scx_semantics.specs.Elements.{Maps};
 ghost use Rattle.scx_semantics.specs.Machine.{Machine};
@@ -23,7 +23,7 @@ pub fn compared(
 ) -> Option<bool>
     ensures { (maps : Maps)
         → result
-        ≡ compared (seen core.now maps) width comparison
+        ≡ comparison_answer (seen core.now maps) width comparison
         (register_value core.now (number register)) operand }
 {
     match core.read(register) {

@@ -1,5 +1,5 @@
 ghost use Rattle.std.specs.Prelude.{◌≡◌, ◌+◌, ◌%◌, ◌≤◌, IfSome};
-ghost use Rattle.scx_semantics.specs.Arithmetic.{shifted};
+ghost use Rattle.scx_semantics.specs.Arithmetic.{at_distance};
 ghost use Rattle.scx_semantics.specs.Elements.{element, number_at};
 ghost use Rattle.scx_semantics.specs.Memory.{aligned_within, size_bytes, access_size, read_as};
 ghost use Rattle.scx_semantics.specs.Locations.{address};
@@ -54,7 +54,7 @@ pub fn address(maps: &Maps, base: Value, offset: i16, size: Size) -> Location
 /// The offset that far from another, if that many bytes from it on lie in so much memory and it is a
 /// multiple of them.
 fn aligned_within(limit: u16, size: Size, at: u16, offset: i16) -> Option<u16>
-    ensures offset { result ≡ aligned_within limit (size_bytes size) (shifted at offset) }
+    ensures offset { result ≡ aligned_within limit (size_bytes size) (at_distance at offset) }
     ensures within { IfSome result (λ to. to + size_bytes size ≤ limit) }
     ensures aligned { IfSome result (λ to. to % size_bytes size ≡ 0) }
 {

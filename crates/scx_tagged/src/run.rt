@@ -5,7 +5,7 @@ ghost use Rattle.scx_semantics.specs.Code.{instruction_count, instructions_from}
 ghost use Rattle.scx_semantics.specs.Endings.{run_of};
 ghost use Rattle.scx_semantics.specs.Runs.{Runs};
 ghost use Rattle.scx_semantics.specs.Steps.{step};
-ghost use Rattle.scx_vm.specs.Arguments.{given};
+ghost use Rattle.scx_vm.specs.Arguments.{program_arguments};
 ghost use Rattle.scx_vm.specs.Host.{host, answer_to, after_query};
 ghost use Rattle.scx_tagged.specs.Outcome.{answer_of};
 ghost use Rattle.scx_tagged.specs.Run.{StepsTo, LeadsNearer, IfDone, IfStuck, GetsStuckAt};
@@ -56,15 +56,15 @@ pub fn try_run<E: Env>(
     requires flows { Flows program.now }
     requires room { instruction_count program.now ≤ E.room env.old }
     ensures done { IfDone result
-        (λ done. Runs (host E.functions) callback program.now (given arguments) maps.old env.old
+        (λ done. Runs (host E.functions) callback program.now (program_arguments arguments) maps.old env.old
         done.r0 done.steps maps.new env.new) }
     ensures in_bound { IfDone result (λ done. done.steps ≤ instruction_count program.now) }
     ensures stuck { IfStuck result
-        (λ slot. GetsStuckAt (host E.functions) callback program.now (given arguments) maps.old
+        (λ slot. GetsStuckAt (host E.functions) callback program.now (program_arguments arguments) maps.old
         env.old slot maps.new env.new) }
     ensures exact { record { answer = answer_of result; maps = maps.new; outside = env.new }
         ≡ run_of (answer_to E.functions) (after_query E.functions) callback program.now
-        (given arguments) maps.old env.old }
+        (program_arguments arguments) maps.old env.old }
     ensures shapes { lengths_of maps.new ≡ lengths_of maps.old }
     ensures room { E.room env.old ≤ E.room env.new + instruction_count program.now }
     ensures spent { E.spent env.new ≤ E.spent env.old + instruction_count program.now }
@@ -83,11 +83,11 @@ fn walk<E: Env>(
     requires flows { Flows program.now }
     requires room { instruction_count program.now ≤ E.room env.old }
     ensures done { IfDone result
-        (λ done. Runs (host E.functions) callback program.now (given arguments) maps.old env.old
+        (λ done. Runs (host E.functions) callback program.now (program_arguments arguments) maps.old env.old
         done.r0 done.steps maps.new env.new) }
     ensures in_bound { IfDone result (λ done. done.steps ≤ instruction_count program.now) }
     ensures stuck { IfStuck result
-        (λ slot. GetsStuckAt (host E.functions) callback program.now (given arguments) maps.old
+        (λ slot. GetsStuckAt (host E.functions) callback program.now (program_arguments arguments) maps.old
         env.old slot maps.new env.new) }
     ensures shapes { lengths_of maps.new ≡ lengths_of maps.old }
     ensures room { E.room env.old ≤ E.room env.new + instruction_count program.now }

@@ -4,7 +4,7 @@ ghost use Rattle.scx_semantics.specs.Effects.{set_register};
 ghost use Rattle.scx_semantics.specs.Calls.{after_call};
 ghost use Rattle.scx_semantics.specs.Elements.{Maps};
 ghost use Rattle.scx_semantics.specs.Registers.{number};
-ghost use Rattle.scx_vm.specs.Arguments.{given};
+ghost use Rattle.scx_vm.specs.Arguments.{program_arguments};
 ghost use Rattle.scx_tagged.specs.Execute.{effect_of};
 
 use crate::arguments::argument_value;
@@ -25,7 +25,7 @@ impl Core {
 
     /// The state as a program with these arguments starts: r10 points to the top of the stack.
     pub fn start(arguments: Args) -> Core
-        ensures { (maps : Maps) → seen result maps ≡ start (given arguments) maps }
+        ensures { (maps : Maps) → seen result maps ≡ start (program_arguments arguments) maps }
     {
         let mut registers = [Value::Unset; REGISTERS];
         registers[1] = argument_value(arguments.first);

@@ -1,6 +1,6 @@
 ghost use Rattle.std.specs.Prelude.{◌≡◌, Some};
-ghost use Rattle.scx_semantics.specs.Meaning.{operand_value, on_number, binary, moved, combined, arithmetic, advanced, pointer_combined, pointer_moved, map_reference};
-ghost use Rattle.scx_semantics.specs.Arithmetic.{negated, extended, byte_swapped};
+ghost use Rattle.scx_semantics.specs.Meaning.{operand_value, on_number, binary, copy_of, number_arithmetic, arithmetic, pointer_plus_number, pointer_combined, pointer_moved, map_reference};
+ghost use Rattle.scx_semantics.specs.Arithmetic.{negative, sign_extension, byte_swapped};
 ghost use Rattle.scx_semantics.specs.Elements.{Maps};
 ghost use Rattle.scx_semantics.specs.Registers.{number};
 ghost use Rattle.scx_tagged.specs.State.{seen, register_value};
@@ -51,7 +51,7 @@ pub fn binary(
 
 /// What a move copies: a number, and at 64 bits a pointer too.
 fn moved(width: Width, value: Value) -> Option<Value>
-    ensures { result ≡ moved width value }
+    ensures { result ≡ copy_of width value }
 {
     match (width, value) {
         (_, Value::Number(n)) => Some(Value::Number(numbers::low(width, n))),
@@ -82,7 +82,7 @@ fn arithmetic(
 
 /// What arithmetic makes of a number and an operand.
 fn combined(width: Width, operation: Operation, a: u64, operand: Value) -> Option<Value>
-    ensures { result ≡ combined width operation a operand }
+    ensures { result ≡ number_arithmetic width operation a operand }
 {
     match operand {
         Value::Number(b) => Some(Value::Number(numbers::compute(width, operation, a, b))),
@@ -119,7 +119,7 @@ fn pointer_combined(
 
 /// The pointer into an element to which a number is added.
 fn advanced(maps: &Maps, map: u8, index: u32, at: u16, by: Value) -> Option<Value>
-    ensures { result ≡ advanced maps.now map index at by }
+    ensures { result ≡ pointer_plus_number maps.now map index at by }
 {
     match by {
         Value::Number(n) => {
@@ -164,7 +164,7 @@ fn pointer_moved(maps: &Maps, pointer: Pointer, step: i64) -> Option<Value>
 
 /// The two's complement negative of a number.
 pub fn negated(width: Width, value: Value) -> Option<Value>
-    ensures { result ≡ on_number (negated width) value }
+    ensures { result ≡ on_number (negative width) value }
 {
     match value {
         Value::Number(n) => Some(Value::Number(numbers::negated(width, n))),
@@ -174,7 +174,7 @@ pub fn negated(width: Width, value: Value) -> Option<Value>
 
 /// The low bits of a number, extended with their sign.
 pub fn extended(extension: Extension, value: Value) -> Option<Value>
-    ensures { result ≡ on_number (extended extension) value }
+    ensures { result ≡ on_number (sign_extension extension) value }
 {
     match value {
         Value::Number(n) => Some(Value::Number(numbers::extended(extension, n))),

@@ -9,7 +9,7 @@ use Rattle.scx_tasks.specs.declared.task.Task.{Task}
 use Rattle.scx_tasks.specs.declared.watch.Watch.{Watch}
 use Rattle.scx_tasks.specs.Tasks.{no_task, new_task}
 use Rattle.scx_tasks.specs.Waits.{is_late, is_overdue}
-use Rattle.scx_tasks.specs.Kept.{WaitNoLonger, AreWatched, lowered}
+use Rattle.scx_tasks.specs.Kept.{WaitNoLonger, AreWatched, with_earlier}
 
 -- ---- the first watch
 
@@ -70,7 +70,7 @@ never e f = absurd (cc)
 same_some : {o : Option ℕ} {m n : ℕ} → o ≡ Some m → o ≡ Some n → m ≡ n
 same_some e f = cc
 
-watched_since : (w : Watch) (tasks : List Task) (t : ℕ) (x : Task) (o : Option ℕ) → x.since ≡ o → AreWatched w tasks → AreWatched (lowered w t o) (set tasks t x)
+watched_since : (w : Watch) (tasks : List Task) (t : ℕ) (x : Task) (o : Option ℕ) → x.since ≡ o → AreWatched w tasks → AreWatched (with_earlier w t o) (set tasks t x)
 watched_since w tasks t x None e h = record {
   count = h.count;
   least = h.least;
@@ -86,7 +86,7 @@ watched_since w tasks t x (Some m) e h =
     }
 
 -- a task has another record
-pub watched_set : (w : Watch) (tasks : List Task) (t : ℕ) (x : Task) → AreWatched w tasks → AreWatched (lowered w t x.since) (set tasks t x)
+pub watched_set : (w : Watch) (tasks : List Task) (t : ℕ) (x : Task) → AreWatched w tasks → AreWatched (with_earlier w t x.since) (set tasks t x)
 watched_set w tasks t x h = watched_since w tasks t x x.since refl h
 
 -- ---- nobody

@@ -21,9 +21,9 @@ pub record AreWatched (w : Watch) (tasks : List Task) : Type 0 where
   pub each : (b : ℕ) → WaitNoLonger (slice_index_or w.blocks b 0) b tasks
 
 -- a task may wait since then
-abbrev pub lowered : Watch → ℕ → Option ℕ → Watch
-lowered w t None = w
-lowered w t (Some n) = record {
+abbrev pub with_earlier : Watch → ℕ → Option ℕ → Watch
+with_earlier w t None = w
+with_earlier w t (Some n) = record {
   oldest = min w.oldest n;
   blocks = slice_set w.blocks (t / 32) (min (slice_index_or w.blocks (t / 32) 0) n);
 }

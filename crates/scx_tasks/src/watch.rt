@@ -1,6 +1,6 @@
 ghost use Rattle.std.specs.Prelude.{◌≡◌, ℕ, ◌-◌, ◌≤◌, ◌<◌, nat_lt, length, slice_index_or, replicate, Some};
 ghost use Rattle.scx_tasks.specs.Tasks.{no_task, new_task};
-ghost use Rattle.scx_tasks.specs.Kept.{AreWatched, WaitNoLonger, lowered};
+ghost use Rattle.scx_tasks.specs.Kept.{AreWatched, WaitNoLonger, with_earlier};
 
 use crate::task::Task;
 use std::cmp;
@@ -39,7 +39,7 @@ impl Watch {
     pub(crate) fn lower(&mut self, task: u16, facts: Task)
         requires count { length self.old.blocks ≡ 32 }
         requires few { task < 1024 }
-        ensures { self.new ≡ lowered self.old task facts.since }
+        ensures { self.new ≡ with_earlier self.old task facts.since }
     {
         if let Some(since) = facts.since {
             let block = task as usize / BLOCK;

@@ -17,8 +17,8 @@ use Rattle.scx_text.specs.declared.symbols.Symbol.TheVariants.{Assign, Compare, 
 use Rattle.scx_text.specs.declared.lexer.Class.{Class}
 use Rattle.scx_text.specs.declared.lexer.Class.TheVariants as class
 use Rattle.scx_text.specs.Options.{either}
-use Rattle.scx_text.specs.Symbols.{spelled, symbols, symbol_at}
-use Rattle.scx_text.specs.Tokens.{Lexeme, Word, Number, Mark, is_word, is_in, run, bounded, is_hexadecimal, digits_at, number_at, word_at, word_or_number, token_at}
+use Rattle.scx_text.specs.Symbols.{spelling, symbols, symbol_at}
+use Rattle.scx_text.specs.Tokens.{Lexeme, Word, Number, Mark, is_word, is_in, class_length, if_64_bits, is_hexadecimal, digits_at, number_lexeme, word_at, word_or_number, token_at}
 use Rattle.scx_text.specs.Laws.{AllIn, IsWord, IsToken, IsLongest}
 use Rattle.scx_text.proofs.Search.{spelled_positive, found, symbol_within}
 use Rattle.scx_text.proofs.Longest.{longest, no_begin}
@@ -29,7 +29,7 @@ record Front (p : List ℕ) : Type 0 where
   pub digit : is_ascii_digit (slice_index p 0) ≡ false
   pub word : (is_ascii_alphabetic (slice_index p 0) ≡ false) ⊎ ((is_word (slice_index p 1) ≡ false) × (1 < length p))
 
-front_of : (s : Symbol) → Front (spelled s)
+front_of : (s : Symbol) → Front (spelling s)
 front_of (Assign Add) = record { digit = refl; word = inl refl }
 front_of (Assign Subtract) = record { digit = refl; word = inl refl }
 front_of (Assign Multiply) = record { digit = refl; word = inl refl }
@@ -96,53 +96,53 @@ begins_with text p rest e = subst (λ (text : List ℕ). starts_with nat_eq text
 
 -- ---- runs
 
-run_least : (c : Class) (x rest : List ℕ) → AllIn c x → length x ≤ run c (x ++ rest)
-unfolding run
+run_least : (c : Class) (x rest : List ℕ) → AllIn c x → length x ≤ class_length c (x ++ rest)
+unfolding class_length
 run_least c [] rest h = omega arith
 run_least c (b ∷ bs) rest h = rw h.0 (omega (arith, run_least c bs rest h.1))
 
-run_in : (c : Class) (text : List ℕ) → AllIn c (take (run c text) text)
-unfolding run
+run_in : (c : Class) (text : List ℕ) → AllIn c (take (class_length c text) text)
+unfolding class_length
 run_in c [] = tt
 run_in c (b ∷ bs) = go (is_in c b) refl (run_in c bs)
   where
-    go : (t : Bool) → is_in c b ≡ t → AllIn c (take (run c bs) bs) → AllIn c (take (run c (b ∷ bs)) (b ∷ bs))
+    go : (t : Bool) → is_in c b ≡ t → AllIn c (take (class_length c bs) bs) → AllIn c (take (class_length c (b ∷ bs)) (b ∷ bs))
     go true h rest = rw h (h, rest)
     go false h rest = rw h tt
 
-run_most : (c : Class) (text : List ℕ) → run c text ≤ length text
-unfolding run
+run_most : (c : Class) (text : List ℕ) → class_length c text ≤ length text
+unfolding class_length
 run_most c [] = omega arith
 run_most c (b ∷ bs) = go (is_in c b) refl (run_most c bs)
   where
-    go : (t : Bool) → is_in c b ≡ t → run c bs ≤ length bs → run c (b ∷ bs) ≤ length (b ∷ bs)
+    go : (t : Bool) → is_in c b ≡ t → class_length c bs ≤ length bs → class_length c (b ∷ bs) ≤ length (b ∷ bs)
     go true h rest = rw h (omega arith)
     go false h rest = rw h (omega arith)
 
 -- ---- texts that begin with a symbol
 
-marked : (near : Bool) (text : List ℕ) (s : Symbol) → symbol_at text ≡ Some s → IsLongest text (Some (Mark s, length (spelled s)))
+marked : (near : Bool) (text : List ℕ) (s : Symbol) → symbol_at text ≡ Some s → IsLongest text (Some (Mark s, length (spelling s)))
 marked near text s e = (symbol_within text s e, sym same, least)
   where
     n : ℕ
-    n = length (spelled s)
+    n = length (spelling s)
 
-    same : spelled s ≡ take n text
-    same = (bytes_eq-Decides (spelled s) (take n text)).0 (found symbols text s e)
+    same : spelling s ≡ take n text
+    same = (bytes_eq-Decides (spelling s) (take n text)).0 (found symbols text s e)
 
-    split : text ≡ spelled s ++ drop n text
+    split : text ≡ spelling s ++ drop n text
     split = sym (take-append-drop n text) ∙ ap (λ (x : List ℕ). x ++ drop n text) (sym same)
 
     least : (t : Lexeme) (front rest : List ℕ) → text ≡ front ++ rest → IsToken t front → length front ≤ n
     least (Mark u) front rest h is =
-        let e1 : text ≡ spelled u ++ rest = h ∙ ap (λ (x : List ℕ). x ++ rest) is in
-        omega (arith, longest text s u e (begins_with text (spelled u) rest e1), ap length is)
-    least (Word w) front rest h is = no_longer (spelled s) front rest (drop n text) (front_of s) (spelled_positive s) (sym h ∙ split) is.1
+        let e1 : text ≡ spelling u ++ rest = h ∙ ap (λ (x : List ℕ). x ++ rest) is in
+        omega (arith, longest text s u e (begins_with text (spelling u) rest e1), ap length is)
+    least (Word w) front rest h is = no_longer (spelling s) front rest (drop n text) (front_of s) (spelled_positive s) (sym h ∙ split) is.1
     least (Number touches value) [] rest h is = omega arith
-    least (Number touches value) (b ∷ bs) rest h (inl is) = absurd (no_digit (spelled s) (b ∷ bs) rest (drop n text) (front_of s) (spelled_positive s) is.0 (sym h ∙ split) is.1.0)
+    least (Number touches value) (b ∷ bs) rest h (inl is) = absurd (no_digit (spelling s) (b ∷ bs) rest (drop n text) (front_of s) (spelled_positive s) is.0 (sym h ∙ split) is.1.0)
     least (Number touches value) (b ∷ bs) rest h (inr is) =
         let first : b ≡ 48 = cc in
-        absurd (no_digit (spelled s) (b ∷ bs) rest (drop n text) (front_of s) (spelled_positive s) (omega arith) (sym h ∙ split) (ap (λ (c : ℕ). is_ascii_digit c) first))
+        absurd (no_digit (spelling s) (b ∷ bs) rest (drop n text) (front_of s) (spelled_positive s) (omega arith) (sym h ∙ split) (ap (λ (c : ℕ). is_ascii_digit c) first))
 
 -- ---- texts that begin with none
 
@@ -152,8 +152,8 @@ letter_is_word b h = rw h refl
 digit_no_letter : (b : ℕ) → is_ascii_digit b ≡ true → is_ascii_alphabetic b ≡ false
 digit_no_letter b h = grind (arith, nat_tests)
 
-unmarked : (text : List ℕ) (u : Symbol) (front rest : List ℕ) → symbol_at text ≡ None → text ≡ front ++ rest → front ≡ spelled u → ⊥
-unmarked text u front rest none h is = no (sym (begins_with text (spelled u) rest (h ∙ ap (λ (x : List ℕ). x ++ rest) is)) ∙ no_begin text u none)
+unmarked : (text : List ℕ) (u : Symbol) (front rest : List ℕ) → symbol_at text ≡ None → text ≡ front ++ rest → front ≡ spelling u → ⊥
+unmarked text u front rest none h is = no (sym (begins_with text (spelling u) rest (h ∙ ap (λ (x : List ℕ). x ++ rest) is)) ∙ no_begin text u none)
 
 -- a word begins with a letter, and a number with a digit
 word_first : (b : ℕ) (bs front rest : List ℕ) → b ∷ bs ≡ front ++ rest → IsWord front → is_ascii_alphabetic b ≡ true
@@ -173,39 +173,39 @@ all_word : (x : List ℕ) → IsWord x → AllIn class.Word x
 all_word [] h = absurd h
 all_word (b ∷ bs) h = (letter_is_word b h.0, h.1)
 
-run_split : (c : Class) (text front rest : List ℕ) → text ≡ front ++ rest → AllIn c front → length front ≤ run c text
-run_split c text front rest h all = subst (λ (text : List ℕ). length front ≤ run c text) (sym h) (run_least c front rest all)
+run_split : (c : Class) (text front rest : List ℕ) → text ≡ front ++ rest → AllIn c front → length front ≤ class_length c text
+run_split c text front rest h all = subst (λ (text : List ℕ). length front ≤ class_length c text) (sym h) (run_least c front rest all)
 
-word_is : (b : ℕ) (bs : List ℕ) → is_ascii_alphabetic b ≡ true → IsWord (take (run class.Word (b ∷ bs)) (b ∷ bs))
-unfolding run
+word_is : (b : ℕ) (bs : List ℕ) → is_ascii_alphabetic b ≡ true → IsWord (take (class_length class.Word (b ∷ bs)) (b ∷ bs))
+unfolding class_length
 word_is b bs a = rw (letter_is_word b a) (a, run_in class.Word bs)
 
 worded : (b : ℕ) (bs : List ℕ) → symbol_at (b ∷ bs) ≡ None → is_ascii_alphabetic b ≡ true → IsLongest (b ∷ bs) (Some (word_at (b ∷ bs)))
 worded b bs none a = (run_most class.Word (b ∷ bs), (refl, word_is b bs a), least)
   where
-    least : (t : Lexeme) (front rest : List ℕ) → b ∷ bs ≡ front ++ rest → IsToken t front → length front ≤ run class.Word (b ∷ bs)
+    least : (t : Lexeme) (front rest : List ℕ) → b ∷ bs ≡ front ++ rest → IsToken t front → length front ≤ class_length class.Word (b ∷ bs)
     least (Mark u) front rest h is = absurd (unmarked (b ∷ bs) u front rest none h is)
     least (Word w) front rest h is = run_split class.Word (b ∷ bs) front rest h (all_word front is.1)
     least (Number touches value) front rest h is = no (sym a ∙ digit_no_letter b (number_first touches value b bs front rest h is))
 
-run_some : (c : Class) (b : ℕ) (bs : List ℕ) → is_in c b ≡ true → 0 < run c (b ∷ bs)
-unfolding run
+run_some : (c : Class) (b : ℕ) (bs : List ℕ) → is_in c b ≡ true → 0 < class_length c (b ∷ bs)
+unfolding class_length
 run_some c b bs h = rw h (omega arith)
 
-taken_some : (c : Class) (text : List ℕ) → 0 < run c text → 0 < length (take (run c text) text)
-taken_some c text some = omega (arith, length-take (run c text) text, run_most c text)
+taken_some : (c : Class) (text : List ℕ) → 0 < class_length c text → 0 < length (take (class_length c text) text)
+taken_some c text some = omega (arith, length-take (class_length c text) text, run_most c text)
 
-decimal : (near : Bool) (b : ℕ) (bs : List ℕ) (k : ℕ) → k ≡ run class.Decimal (b ∷ bs) → symbol_at (b ∷ bs) ≡ None → is_ascii_digit b ≡ true → is_hexadecimal (b ∷ bs) ≡ false
-    → IsLongest (b ∷ bs) (Some (Number near (bounded (digits_value 10 (take (run class.Decimal (b ∷ bs)) (b ∷ bs)))), k))
+decimal : (near : Bool) (b : ℕ) (bs : List ℕ) (k : ℕ) → k ≡ class_length class.Decimal (b ∷ bs) → symbol_at (b ∷ bs) ≡ None → is_ascii_digit b ≡ true → is_hexadecimal (b ∷ bs) ≡ false
+    → IsLongest (b ∷ bs) (Some (Number near (if_64_bits (digits_value 10 (take (class_length class.Decimal (b ∷ bs)) (b ∷ bs)))), k))
 decimal near b bs k e none d plain = rw e (run_most class.Decimal (b ∷ bs), inl (taken_some class.Decimal (b ∷ bs) (run_some class.Decimal b bs d), run_in class.Decimal (b ∷ bs), refl), least)
   where
-    least : (t : Lexeme) (front rest : List ℕ) → b ∷ bs ≡ front ++ rest → IsToken t front → length front ≤ run class.Decimal (b ∷ bs)
+    least : (t : Lexeme) (front rest : List ℕ) → b ∷ bs ≡ front ++ rest → IsToken t front → length front ≤ class_length class.Decimal (b ∷ bs)
     least (Mark u) front rest h is = absurd (unmarked (b ∷ bs) u front rest none h is)
     least (Word w) front rest h is = no (sym (word_first b bs front rest h is.1) ∙ digit_no_letter b d)
     least (Number touches value) front rest h (inl is) = run_split class.Decimal (b ∷ bs) front rest h is.1
     least (Number touches value) front rest h (inr (digits, same, is)) = hexed digits (h ∙ ap (λ (x : List ℕ). x ++ rest) same) is.0 is.1
       where
-        hexed : (digits : List ℕ) → b ∷ bs ≡ (codes "0x" ++ digits) ++ rest → 0 < length digits → AllIn class.Hexadecimal digits → length front ≤ run class.Decimal (b ∷ bs)
+        hexed : (digits : List ℕ) → b ∷ bs ≡ (codes "0x" ++ digits) ++ rest → 0 < length digits → AllIn class.Hexadecimal digits → length front ≤ class_length class.Decimal (b ∷ bs)
         hexed [] e some all = absurd (omega arith)
         hexed (x ∷ xs) e some all = no (sym (subst (λ (text : List ℕ). is_hexadecimal text ≡ true) (sym e) all.0) ∙ plain)
 
@@ -213,7 +213,7 @@ decimal near b bs k e none d plain = rw e (run_most class.Decimal (b ∷ bs), in
 record Marked (text : List ℕ) : Type 0 where
   pub rest : List ℕ
   pub same : text ≡ 48 ∷ 120 ∷ rest
-  pub some : 0 < run class.Hexadecimal rest
+  pub some : 0 < class_length class.Hexadecimal rest
 
 both : (a b : Bool) → (a && b) ≡ true → (a ≡ true) × (b ≡ true)
 both true b e = (refl, e)
@@ -238,14 +238,14 @@ marked_of text e = go text (eqb-true _ _ q.0) (eqb-true _ _ q.1) p.1
       some = run_some class.Hexadecimal d ds z;
     }
 
-hexadecimal : (near : Bool) (ds : List ℕ) (k : ℕ) → k ≡ suc (suc (run class.Hexadecimal ds)) → symbol_at (48 ∷ 120 ∷ ds) ≡ None → 0 < run class.Hexadecimal ds
-    → IsLongest (48 ∷ 120 ∷ ds) (Some (Number near (bounded (digits_value 16 (take (run class.Hexadecimal ds) ds))), k))
-hexadecimal near ds k e none some = rw e (within, inr (take (run class.Hexadecimal ds) ds, refl, (taken_some class.Hexadecimal ds some, run_in class.Hexadecimal ds, refl)), least)
+hexadecimal : (near : Bool) (ds : List ℕ) (k : ℕ) → k ≡ suc (suc (class_length class.Hexadecimal ds)) → symbol_at (48 ∷ 120 ∷ ds) ≡ None → 0 < class_length class.Hexadecimal ds
+    → IsLongest (48 ∷ 120 ∷ ds) (Some (Number near (if_64_bits (digits_value 16 (take (class_length class.Hexadecimal ds) ds))), k))
+hexadecimal near ds k e none some = rw e (within, inr (take (class_length class.Hexadecimal ds) ds, refl, (taken_some class.Hexadecimal ds some, run_in class.Hexadecimal ds, refl)), least)
   where
-    within : suc (suc (run class.Hexadecimal ds)) ≤ length (48 ∷ 120 ∷ ds)
+    within : suc (suc (class_length class.Hexadecimal ds)) ≤ length (48 ∷ 120 ∷ ds)
     within = omega (arith, run_most class.Hexadecimal ds)
 
-    least : (t : Lexeme) (front rest : List ℕ) → 48 ∷ 120 ∷ ds ≡ front ++ rest → IsToken t front → length front ≤ suc (suc (run class.Hexadecimal ds))
+    least : (t : Lexeme) (front rest : List ℕ) → 48 ∷ 120 ∷ ds ≡ front ++ rest → IsToken t front → length front ≤ suc (suc (class_length class.Hexadecimal ds))
     least (Mark u) front rest h is = absurd (unmarked (48 ∷ 120 ∷ ds) u front rest none h is)
     least (Word w) front rest h is = no (sym (word_first 48 (120 ∷ ds) front rest h is.1))
     least (Number touches value) [] rest h (inl is) = omega arith
@@ -258,17 +258,17 @@ hexadecimal near ds k e none some = rw e (within, inr (take (run class.Hexadecim
         let behind : ds ≡ digits ++ rest = cc in
         omega (arith, ap length same, run_split class.Hexadecimal ds digits rest behind is.1)
 
-numbered : (near : Bool) (b : ℕ) (bs : List ℕ) → symbol_at (b ∷ bs) ≡ None → is_ascii_digit b ≡ true → IsLongest (b ∷ bs) (Some (number_at near (b ∷ bs)))
+numbered : (near : Bool) (b : ℕ) (bs : List ℕ) → symbol_at (b ∷ bs) ≡ None → is_ascii_digit b ≡ true → IsLongest (b ∷ bs) (Some (number_lexeme near (b ∷ bs)))
 numbered near b bs none d = go (is_hexadecimal (b ∷ bs)) refl
   where
-    go : (x : Bool) → is_hexadecimal (b ∷ bs) ≡ x → IsLongest (b ∷ bs) (Some (number_at near (b ∷ bs)))
-    go false x = rw x (decimal near b bs (0 + run class.Decimal (b ∷ bs)) (omega arith) none d x)
+    go : (x : Bool) → is_hexadecimal (b ∷ bs) ≡ x → IsLongest (b ∷ bs) (Some (number_lexeme near (b ∷ bs)))
+    go false x = rw x (decimal near b bs (0 + class_length class.Decimal (b ∷ bs)) (omega arith) none d x)
     go true x = rw x (at (b ∷ bs) (marked_of (b ∷ bs) x) none)
       where
         at : (text : List ℕ) → Marked text → symbol_at text ≡ None → IsLongest text (Some (digits_at near class.Hexadecimal 2 text))
         at text m none =
             let empty : symbol_at (48 ∷ 120 ∷ m.rest) ≡ None = subst (λ (text : List ℕ). symbol_at text ≡ None) m.same none in
-            subst (λ (text : List ℕ). IsLongest text (Some (digits_at near class.Hexadecimal 2 text))) (sym m.same) (hexadecimal near m.rest (2 + run class.Hexadecimal m.rest) (omega arith) empty m.some)
+            subst (λ (text : List ℕ). IsLongest text (Some (digits_at near class.Hexadecimal 2 text))) (sym m.same) (hexadecimal near m.rest (2 + class_length class.Hexadecimal m.rest) (omega arith) empty m.some)
 
 nothing : (b : ℕ) (bs : List ℕ) → symbol_at (b ∷ bs) ≡ None → is_ascii_alphabetic b ≡ false → is_ascii_digit b ≡ false → IsLongest (b ∷ bs) None
 nothing b bs none a d (Mark u) front rest h is = unmarked (b ∷ bs) u front rest none h is
@@ -295,6 +295,6 @@ plain near (b ∷ bs) none = go (is_ascii_alphabetic b) (is_ascii_digit b) refl 
 pub longest_token : (touches : Bool) (text : List ℕ) → IsLongest text (token_at touches text)
 longest_token touches text = go (symbol_at text) refl
   where
-    go : (r : Option Symbol) → symbol_at text ≡ r → IsLongest text (either r (λ s. Some (Mark s, length (spelled s))) (word_or_number touches text))
+    go : (r : Option Symbol) → symbol_at text ≡ r → IsLongest text (either r (λ s. Some (Mark s, length (spelling s))) (word_or_number touches text))
     go (Some s) e = marked touches text s e
     go None e = plain touches text e

@@ -6,13 +6,13 @@ use Rattle.std.specs.Str.Parse.{digits_value}
 use Rattle.std.proofs.lemmas.Int.Digits.{digits_value_more}
 use Rattle.std.proofs.lemmas.Str.Parse.{digits_value-take-le}
 use Rattle.std.proofs.lemmas.List.{take_all}
-use Rattle.scx_text.specs.Tokens.{bounded}
+use Rattle.scx_text.specs.Tokens.{if_64_bits}
 
 abbrev absent : Option ℕ
 absent = None
 
 -- one digit more
-pub one_digit : (radix : ℕ) (ds : List ℕ) (i value next : ℕ) → i < length ds → value ≡ digits_value radix (take i ds) → bounded (value * radix + digit_value (get_or ds i 0)) ≡ Some next → (next ≡ digits_value radix (take (i + 1) ds)) × (next < 2 ^ 64)
+pub one_digit : (radix : ℕ) (ds : List ℕ) (i value next : ℕ) → i < length ds → value ≡ digits_value radix (take i ds) → if_64_bits (value * radix + digit_value (get_or ds i 0)) ≡ Some next → (next ≡ digits_value radix (take (i + 1) ds)) × (next < 2 ^ 64)
 one_digit radix ds i value next lt e h =
     go (nat_lt (value * radix + digit_value (get_or ds i 0)) (2 ^ 64)) refl
   where
@@ -21,10 +21,10 @@ one_digit radix ds i value next lt e h =
     go false t = let bad : absent ≡ Some next = rw t at h in absurd (cc)
 
 -- a number that is too large stays so
-pub too_large : (radix : ℕ) (ds : List ℕ) (i value : ℕ) → 1 ≤ radix → i < length ds → value ≡ digits_value radix (take i ds) → bounded (value * radix + digit_value (get_or ds i 0)) ≡ None → bounded (digits_value radix ds) ≡ None
+pub too_large : (radix : ℕ) (ds : List ℕ) (i value : ℕ) → 1 ≤ radix → i < length ds → value ≡ digits_value radix (take i ds) → if_64_bits (value * radix + digit_value (get_or ds i 0)) ≡ None → if_64_bits (digits_value radix ds) ≡ None
 too_large radix ds i value base lt e h = go (nat_lt (value * radix + digit_value (get_or ds i 0)) (2 ^ 64)) refl
   where
-    go : (b : Bool) → nat_lt (value * radix + digit_value (get_or ds i 0)) (2 ^ 64) ≡ b → bounded (digits_value radix ds) ≡ None
+    go : (b : Bool) → nat_lt (value * radix + digit_value (get_or ds i 0)) (2 ^ 64) ≡ b → if_64_bits (digits_value radix ds) ≡ None
     go true t = let bad : Some (value * radix + digit_value (get_or ds i 0)) ≡ absent = rw t at h in absurd (cc)
     go false t =
         let next : value * radix + digit_value (get_or ds i 0) ≡ digits_value radix (take (i + 1) ds) = rw e (sym (digits_value_more radix ds i lt)) in
@@ -32,7 +32,7 @@ too_large radix ds i value base lt e h = go (nat_lt (value * radix + digit_value
         rw (le-ltb _ _ large) refl
 
 -- all digits are read
-pub all_digits : (radix : ℕ) (ds : List ℕ) (i value : ℕ) → length ds ≤ i → value < 2 ^ 64 → value ≡ digits_value radix (take i ds) → Some value ≡ bounded (digits_value radix ds)
+pub all_digits : (radix : ℕ) (ds : List ℕ) (i value : ℕ) → length ds ≤ i → value < 2 ^ 64 → value ≡ digits_value radix (take i ds) → Some value ≡ if_64_bits (digits_value radix ds)
 all_digits radix ds i value le fits e =
     let whole : value ≡ digits_value radix ds = e ∙ ap (digits_value radix) (take_all i ds le) in
     let small : nat_lt (digits_value radix ds) (2 ^ 64) ≡ true = lt-ltb _ _ (omega arith) in

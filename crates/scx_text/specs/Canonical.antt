@@ -11,7 +11,7 @@ use Rattle.scx_semantics.specs.declared.instructions.Insn.{Insn}
 use Rattle.scx_semantics.specs.declared.instructions.Insn.TheVariants as insn
 use Rattle.scx_semantics.specs.Arithmetic.{wide_immediate, extension_width}
 use Rattle.scx_text.specs.declared.symbols.Symbol.TheVariants.{Assign, Compare}
-use Rattle.scx_text.specs.Symbols.{spelled}
+use Rattle.scx_text.specs.Symbols.{spelling}
 use Rattle.scx_text.specs.Names.{register_text, access_text, stored_access, extension_access, order_text}
 
 -- a decimal number with its sign if it is negative, or a register of the width
@@ -35,7 +35,7 @@ memory_operand_text access r o = codes "*(" ++ access ++ codes " *)(" ++ registe
 
 -- the line of an instruction, without a line feed; a jump's target is written as a distance
 abbrev pub insn_text : Insn → List ℕ
-insn_text (insn.Binary w o d x) = register_text w d ++ codes " " ++ spelled (Assign o) ++ codes " " ++ operand_text w x
+insn_text (insn.Binary w o d x) = register_text w d ++ codes " " ++ spelling (Assign o) ++ codes " " ++ operand_text w x
 insn_text (insn.Negate w d) = register_text w d ++ codes " = -" ++ register_text w d
 insn_text (insn.SignExtend e d r) = register_text (extension_width e) d ++ codes " = (" ++ access_text (extension_access e) ++ codes ")" ++ register_text (extension_width e) r
 insn_text (insn.ByteSwap o w d) = register_text Bits64 d ++ codes " = " ++ order_text (o, w) ++ codes " " ++ register_text Bits64 d
@@ -43,7 +43,7 @@ insn_text (insn.LoadImmediate d low high) = register_text Bits64 d ++ codes " = 
 insn_text (insn.LoadMapReference d k) = register_text Bits64 d ++ codes " = map " ++ signed_decimal k
 insn_text (insn.Load a d r o) = register_text Bits64 d ++ codes " = " ++ memory_operand_text (access_text a) r o
 insn_text (insn.Store s r o x) = memory_operand_text (access_text (stored_access s)) r o ++ codes " = " ++ operand_text Bits64 x
-insn_text (insn.JumpIf w c r x o) = codes "if " ++ register_text w r ++ codes " " ++ spelled (Compare c) ++ codes " " ++ operand_text w x ++ codes " goto " ++ distance_text o
+insn_text (insn.JumpIf w c r x o) = codes "if " ++ register_text w r ++ codes " " ++ spelling (Compare c) ++ codes " " ++ operand_text w x ++ codes " goto " ++ distance_text o
 insn_text (insn.Goto o) = codes "goto " ++ distance_text o
 insn_text (insn.GotoLong o) = codes "gotol " ++ distance_text o
 insn_text (insn.Call k) = codes "call " ++ signed_decimal k

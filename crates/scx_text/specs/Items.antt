@@ -58,25 +58,25 @@ abbrev pub Read : Type 0 → Type 0
 Read A = Option (A × List Lexeme)
 
 -- a number by its sign and its magnitude, which is missing from 2^64 on
-abbrev pub written : Bool → Option ℕ → Literal
-written is_negative magnitude = record { is_negative = is_negative; magnitude = magnitude }
+abbrev pub literal : Bool → Option ℕ → Literal
+literal is_negative magnitude = record { is_negative = is_negative; magnitude = magnitude }
 
 -- a number; its sign stands directly before it
 abbrev pub read_literal : List Lexeme → Read Literal
-read_literal (Mark Minus ∷ Number true n ∷ ts) = Some (written true n, ts)
-read_literal (Number touches n ∷ ts) = Some (written false n, ts)
+read_literal (Mark Minus ∷ Number true n ∷ ts) = Some (literal true n, ts)
+read_literal (Number touches n ∷ ts) = Some (literal false n, ts)
 read_literal ts = None
 
 -- what is added to an address; the sign is a token of its own
 abbrev pub read_offset : List Lexeme → Read Literal
-read_offset (Mark Plus ∷ Number touches n ∷ ts) = Some (written false n, ts)
-read_offset (Mark Minus ∷ Number touches n ∷ ts) = Some (written true n, ts)
+read_offset (Mark Plus ∷ Number touches n ∷ ts) = Some (literal false n, ts)
+read_offset (Mark Minus ∷ Number touches n ∷ ts) = Some (literal true n, ts)
 read_offset ts = None
 
 -- how far a jump goes; the number touches its sign
 abbrev pub read_distance : List Lexeme → Read Literal
-read_distance (Mark Plus ∷ Number true n ∷ ts) = Some (written false n, ts)
-read_distance (Mark Minus ∷ Number true n ∷ ts) = Some (written true n, ts)
+read_distance (Mark Plus ∷ Number true n ∷ ts) = Some (literal false n, ts)
+read_distance (Mark Minus ∷ Number true n ∷ ts) = Some (literal true n, ts)
 read_distance ts = None
 
 -- where a jump goes: a word is a label, and a number behind its sign a distance
@@ -155,18 +155,18 @@ abbrev pub same : Register → Register → Bool
 same r s = nat_eq (number r) (number s)
 
 -- `rD = rS`
-abbrev pub copied : Width → Register → Register → List Lexeme → Option ItemValue
-copied w d r ts = end ts (Says (statement.Binary w Move d (argument.Register r)))
+abbrev pub copy : Width → Register → Register → List Lexeme → Option ItemValue
+copy w d r ts = end ts (Says (statement.Binary w Move d (argument.Register r)))
 
 -- `rD = -rD`
-abbrev pub negated : Width → Register → List ℕ → List Lexeme → Option ItemValue
-negated w d name ts = do
+abbrev pub negation : Width → Register → List ℕ → List Lexeme → Option ItemValue
+negation w d name ts = do
   r ← register_in w name
   if same r d then end ts (Says (statement.Negate w d)) else None
 
 -- `rD = (s8)rS`, behind the parenthesis
-abbrev pub extended : Width → Register → List Lexeme → Option ItemValue
-extended w d ts = do
+abbrev pub sign_extending_move : Width → Register → List Lexeme → Option ItemValue
+sign_extending_move w d ts = do
   a ← read_access ts
   e ← extension_of w a.0
   closed ← closing a.1
@@ -174,9 +174,9 @@ extended w d ts = do
   end r.1 (Says (statement.SignExtend e d r.0))
 
 -- `rD = *(u8 *)(rS + O)`, behind the star
-abbrev pub loaded : Width → Register → List Lexeme → Option ItemValue
-loaded Bits32 d ts = None
-loaded Bits64 d ts = do
+abbrev pub load_line : Width → Register → List Lexeme → Option ItemValue
+load_line Bits32 d ts = None
+load_line Bits64 d ts = do
   p ← read_memory_operand ts
   end p.1 (Says (statement.Load p.0.access d p.0.base p.0.offset))
 
@@ -186,54 +186,54 @@ load_immediate Bits64 d n (Word name ∷ ts) = if bytes_eq name (codes "ll") the
 load_immediate w d n ts = end ts (Says (statement.Binary w Move d (argument.Number n)))
 
 -- `rD = le16 rD`
-abbrev pub byte_swapped : Register → List ℕ → List Lexeme → Option ItemValue
-byte_swapped d name ts = do
+abbrev pub byte_swap : Register → List ℕ → List Lexeme → Option ItemValue
+byte_swap d name ts = do
   o ← order_named name
   r ← read_register Bits64 ts
   if same r.0 d then end r.1 (Says (statement.ByteSwap o.0 o.1 d)) else None
 
 -- `rD = map N`
-abbrev pub mapped : Register → List Lexeme → Option ItemValue
-mapped d ts = read_literal ts >>= λ n. end n.1 (Says (statement.LoadMapReference d n.0))
+abbrev pub map_load : Register → List Lexeme → Option ItemValue
+map_load d ts = read_literal ts >>= λ n. end n.1 (Says (statement.LoadMapReference d n.0))
 
 -- a word behind `rD =` that is no register of that width
 abbrev pub special : Width → Register → List ℕ → List Lexeme → Option ItemValue
 special Bits32 d name ts = None
-special Bits64 d name ts = if bytes_eq name (codes "map") then mapped d ts else byte_swapped d name ts
+special Bits64 d name ts = if bytes_eq name (codes "map") then map_load d ts else byte_swap d name ts
 
 -- what stands behind `rD =`, if it is no word
-abbrev pub computed : Width → Register → List Lexeme → Option ItemValue
-computed w d (Mark Minus ∷ Word name ∷ ts) = negated w d name ts
-computed w d (Mark Opening ∷ ts) = extended w d ts
-computed w d (Mark Star ∷ ts) = loaded w d ts
-computed w d ts = read_literal ts >>= λ n. load_immediate w d n.0 n.1
+abbrev pub behind_equals_no_word : Width → Register → List Lexeme → Option ItemValue
+behind_equals_no_word w d (Mark Minus ∷ Word name ∷ ts) = negation w d name ts
+behind_equals_no_word w d (Mark Opening ∷ ts) = sign_extending_move w d ts
+behind_equals_no_word w d (Mark Star ∷ ts) = load_line w d ts
+behind_equals_no_word w d ts = read_literal ts >>= λ n. load_immediate w d n.0 n.1
 
 -- what stands behind `rD =`
-abbrev pub given : Width → Register → List Lexeme → Option ItemValue
-given w d (Word name ∷ ts) = either (register_in w name) (λ r. copied w d r ts) (special w d name ts)
-given w d ts = computed w d ts
+abbrev pub behind_equals : Width → Register → List Lexeme → Option ItemValue
+behind_equals w d (Word name ∷ ts) = either (register_in w name) (λ r. copy w d r ts) (special w d name ts)
+behind_equals w d ts = behind_equals_no_word w d ts
 
 -- `rD op= rS` and `rD op= N`
-abbrev pub operated : Width → Operation → Register → List Lexeme → Option ItemValue
-operated w o d ts = read_operand w ts >>= λ x. end x.1 (Says (statement.Binary w o d x.0))
+abbrev pub arithmetic : Width → Operation → Register → List Lexeme → Option ItemValue
+arithmetic w o d ts = read_operand w ts >>= λ x. end x.1 (Says (statement.Binary w o d x.0))
 
 -- what stands behind the register that a line begins with
-abbrev pub assigned : Width → Register → List Lexeme → Option ItemValue
-assigned w d (Mark (Assign Move) ∷ ts) = given w d ts
-assigned w d (Mark (Assign o) ∷ ts) = operated w o d ts
-assigned w d ts = None
+abbrev pub behind_register : Width → Register → List Lexeme → Option ItemValue
+behind_register w d (Mark (Assign Move) ∷ ts) = behind_equals w d ts
+behind_register w d (Mark (Assign o) ∷ ts) = arithmetic w o d ts
+behind_register w d ts = None
 
 -- the operand behind `=`
-abbrev pub read_given : List Lexeme → Read WrittenOperand
-read_given (Mark (Assign Move) ∷ ts) = read_operand Bits64 ts
-read_given ts = None
+abbrev pub read_value : List Lexeme → Read WrittenOperand
+read_value (Mark (Assign Move) ∷ ts) = read_operand Bits64 ts
+read_value ts = None
 
 -- `*(u8 *)(rD + O) = rS`, behind the star
-abbrev pub stored : List Lexeme → Option ItemValue
-stored ts = do
+abbrev pub store_line : List Lexeme → Option ItemValue
+store_line ts = do
   p ← read_memory_operand ts
   s ← stored_size p.0.access
-  x ← read_given p.1
+  x ← read_value p.1
   end x.1 (Says (statement.Store s p.0.base p.0.offset x.0))
 
 -- `goto T` behind a condition
@@ -242,8 +242,8 @@ read_goto (Word name ∷ ts) = if bytes_eq name (codes "goto") then read_destina
 read_goto ts = None
 
 -- the comparison of a register, behind its name
-abbrev pub compared : Width → Register → List Lexeme → Read Jump
-compared w r ts = do
+abbrev pub comparison : Width → Register → List Lexeme → Read Jump
+comparison w r ts = do
   c ← read_comparison ts
   x ← read_operand w c.1
   Some (jump.If w c.0 r x.0, x.1)
@@ -253,37 +253,37 @@ abbrev pub condition : List Lexeme → Option ItemValue
 condition ts = do
   name ← read_word ts
   r ← register_named name.0
-  j ← compared r.0 r.1 name.1
+  j ← comparison r.0 r.1 name.1
   t ← read_goto j.1
   end t.1 (Jumps j.0 t.0)
 
 -- a line that is a jump without a condition, behind `goto` or `gotol`
-abbrev pub jumped : Jump → List Lexeme → Option ItemValue
-jumped j ts = read_destination ts >>= λ t. end t.1 (Jumps j t.0)
+abbrev pub jump_to : Jump → List Lexeme → Option ItemValue
+jump_to j ts = read_destination ts >>= λ t. end t.1 (Jumps j t.0)
 
 -- `call N`, behind the `call`
-abbrev pub called : List Lexeme → Option ItemValue
-called ts = read_literal ts >>= λ n. end n.1 (Says (statement.Call n.0))
+abbrev pub helper_call : List Lexeme → Option ItemValue
+helper_call ts = read_literal ts >>= λ n. end n.1 (Says (statement.Call n.0))
 
 -- a line that begins with another word than a register
 abbrev pub keyword : List ℕ → List Lexeme → Option ItemValue
 keyword name ts =
     if bytes_eq name (codes "if") then condition ts
-    else (if bytes_eq name (codes "goto") then jumped jump.Goto ts
-    else (if bytes_eq name (codes "gotol") then jumped jump.GotoLong ts
-    else (if bytes_eq name (codes "call") then called ts
+    else (if bytes_eq name (codes "goto") then jump_to jump.Goto ts
+    else (if bytes_eq name (codes "gotol") then jump_to jump.GotoLong ts
+    else (if bytes_eq name (codes "call") then helper_call ts
     else (if bytes_eq name (codes "exit") then end ts (Says statement.Exit) else None))))
 
 -- a line by its first word: the name of a register, or a word of the language
 abbrev pub statement_of : List ℕ → List Lexeme → Option ItemValue
-statement_of name ts = either (register_named name) (λ r. assigned r.0 r.1 ts) (keyword name ts)
+statement_of name ts = either (register_named name) (λ r. behind_register r.0 r.1 ts) (keyword name ts)
 
 -- what a line's tokens say, a blank line without any; none where the language has no such line
 abbrev pub item_of : List Lexeme → Option ItemValue
 item_of [] = Some Blank
 item_of (Word l ∷ Mark Colon ∷ ts) = end ts (DefinesLabel l)
 item_of (Word name ∷ ts) = statement_of name ts
-item_of (Mark Star ∷ ts) = stored ts
+item_of (Mark Star ∷ ts) = store_line ts
 item_of ts = None
 
 -- what a line says, or nothing where it isn't of the language

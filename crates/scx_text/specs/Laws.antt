@@ -6,8 +6,8 @@ use Rattle.std.specs.List.{AllByRecursion}
 use Rattle.std.specs.Str.Parse.{digits_value}
 use Rattle.scx_text.specs.declared.lexer.Class.{Class}
 use Rattle.scx_text.specs.declared.lexer.Class.TheVariants as class
-use Rattle.scx_text.specs.Symbols.{spelled}
-use Rattle.scx_text.specs.Tokens.{Lexeme, Word, Number, Mark, is_in, radix, bounded, token_at}
+use Rattle.scx_text.specs.Symbols.{spelling}
+use Rattle.scx_text.specs.Tokens.{Lexeme, Word, Number, Mark, is_in, radix, if_64_bits, token_at}
 
 -- each byte is of the class
 abbrev pub AllIn : Class → List ℕ → Type 0
@@ -20,7 +20,7 @@ IsWord (b ∷ bs) = (is_ascii_alphabetic b ≡ true) × AllIn class.Word bs
 
 -- digits, at least one, and their value
 abbrev pub IsNumeral : Class → Option ℕ → List ℕ → Type 0
-IsNumeral c value digits = (0 < length digits) × AllIn c digits × (value ≡ bounded (digits_value (radix c) digits))
+IsNumeral c value digits = (0 < length digits) × AllIn c digits × (value ≡ if_64_bits (digits_value (radix c) digits))
 
 -- what is left of a text behind `0x`
 abbrev pub IsHexadecimal : Option ℕ → List ℕ → Type 0
@@ -28,7 +28,7 @@ IsHexadecimal value text = (digits : List ℕ) × (text ≡ codes "0x" ++ digits
 
 -- the bytes are that token, wherever they stand
 abbrev pub IsToken : Lexeme → List ℕ → Type 0
-IsToken (Mark s) text = text ≡ spelled s
+IsToken (Mark s) text = text ≡ spelling s
 IsToken (Word w) text = (text ≡ w) × IsWord text
 IsToken (Number touches value) text = IsNumeral class.Decimal value text ⊎ IsHexadecimal value text
 

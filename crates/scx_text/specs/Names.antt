@@ -21,9 +21,9 @@ use Rattle.scx_semantics.specs.Registers.{number, register_at}
 use Rattle.scx_text.specs.Options.{◌>>=◌}
 
 -- what has that name in a list
-unfoldable pub named : {A : Type 0} → (A → List ℕ) → List A → List ℕ → Option A
-named text [] name = None
-named text (x ∷ xs) name = if bytes_eq name (text x) then Some x else named text xs name
+unfoldable pub first_with_name : {A : Type 0} → (A → List ℕ) → List A → List ℕ → Option A
+first_with_name text [] name = None
+first_with_name text (x ∷ xs) name = if bytes_eq name (text x) then Some x else first_with_name text xs name
 
 -- ---- registers: r0 to r10, and w0 to w10 for their low halves
 
@@ -77,12 +77,12 @@ access_text access.SignedHalfWord = codes "s16"
 access_text access.SignedWord = codes "s32"
 
 -- all ways in which memory is read, each of which has a name
-abbrev pub accesses : List Access
-accesses = access.Byte ∷ access.HalfWord ∷ access.Word ∷ access.DoubleWord ∷ access.SignedByte ∷ access.SignedHalfWord ∷ access.SignedWord ∷ []
+abbrev pub named_accesses : List Access
+named_accesses = access.Byte ∷ access.HalfWord ∷ access.Word ∷ access.DoubleWord ∷ access.SignedByte ∷ access.SignedHalfWord ∷ access.SignedWord ∷ []
 
 -- how memory of that name is read; none of any other word
 abbrev pub access_named : List ℕ → Option Access
-access_named name = named access_text accesses name
+access_named name = first_with_name access_text named_accesses name
 
 -- a store has no sign
 abbrev pub stored_size : Access → Option Size
@@ -140,4 +140,4 @@ orders =
 
 -- the byte swap for which the word stands; none of any other word
 abbrev pub order_named : List ℕ → Option (ByteOrder × SwapWidth)
-order_named name = named order_text orders name
+order_named name = first_with_name order_text orders name

@@ -9,38 +9,38 @@ use Rattle.scx_text.specs.declared.symbols.Symbol.{Symbol}
 use Rattle.scx_text.specs.declared.symbols.Symbol.TheVariants.{Assign, Compare, Plus, Minus, Star, Opening, Closing, Colon}
 
 -- the bytes that spell a symbol
-abbrev pub spelled : Symbol → List ℕ
-spelled (Assign Add) = codes "+="
-spelled (Assign Subtract) = codes "-="
-spelled (Assign Multiply) = codes "*="
-spelled (Assign Divide) = codes "/="
-spelled (Assign SignedDivide) = codes "s/="
-spelled (Assign Or) = codes "|="
-spelled (Assign And) = codes "&="
-spelled (Assign Xor) = codes "^="
-spelled (Assign ShiftLeft) = codes "<<="
-spelled (Assign ShiftRight) = codes ">>="
-spelled (Assign ShiftRightSigned) = codes "s>>="
-spelled (Assign Modulo) = codes "%="
-spelled (Assign SignedModulo) = codes "s%="
-spelled (Assign Move) = codes "="
-spelled (Compare Equal) = codes "=="
-spelled (Compare Greater) = codes ">"
-spelled (Compare GreaterOrEqual) = codes ">="
-spelled (Compare BitTest) = codes "&"
-spelled (Compare NotEqual) = codes "!="
-spelled (Compare SignedGreater) = codes "s>"
-spelled (Compare SignedGreaterOrEqual) = codes "s>="
-spelled (Compare Less) = codes "<"
-spelled (Compare LessOrEqual) = codes "<="
-spelled (Compare SignedLess) = codes "s<"
-spelled (Compare SignedLessOrEqual) = codes "s<="
-spelled Plus = codes "+"
-spelled Minus = codes "-"
-spelled Star = codes "*"
-spelled Opening = codes "("
-spelled Closing = codes ")"
-spelled Colon = codes ":"
+abbrev pub spelling : Symbol → List ℕ
+spelling (Assign Add) = codes "+="
+spelling (Assign Subtract) = codes "-="
+spelling (Assign Multiply) = codes "*="
+spelling (Assign Divide) = codes "/="
+spelling (Assign SignedDivide) = codes "s/="
+spelling (Assign Or) = codes "|="
+spelling (Assign And) = codes "&="
+spelling (Assign Xor) = codes "^="
+spelling (Assign ShiftLeft) = codes "<<="
+spelling (Assign ShiftRight) = codes ">>="
+spelling (Assign ShiftRightSigned) = codes "s>>="
+spelling (Assign Modulo) = codes "%="
+spelling (Assign SignedModulo) = codes "s%="
+spelling (Assign Move) = codes "="
+spelling (Compare Equal) = codes "=="
+spelling (Compare Greater) = codes ">"
+spelling (Compare GreaterOrEqual) = codes ">="
+spelling (Compare BitTest) = codes "&"
+spelling (Compare NotEqual) = codes "!="
+spelling (Compare SignedGreater) = codes "s>"
+spelling (Compare SignedGreaterOrEqual) = codes "s>="
+spelling (Compare Less) = codes "<"
+spelling (Compare LessOrEqual) = codes "<="
+spelling (Compare SignedLess) = codes "s<"
+spelling (Compare SignedLessOrEqual) = codes "s<="
+spelling Plus = codes "+"
+spelling Minus = codes "-"
+spelling Star = codes "*"
+spelling Opening = codes "("
+spelling Closing = codes ")"
+spelling Colon = codes ":"
 
 -- all symbols, the longer ones first
 abbrev pub symbols : List Symbol
@@ -57,7 +57,7 @@ symbols =
 -- the first symbol of a list with which the text begins
 unfoldable pub first_of : List Symbol → List ℕ → Option Symbol
 first_of [] text = None
-first_of (s ∷ ss) text = if starts_with nat_eq text (spelled s) then Some s else first_of ss text
+first_of (s ∷ ss) text = if starts_with nat_eq text (spelling s) then Some s else first_of ss text
 
 -- the longest symbol with which the text begins
 abbrev pub symbol_at : List ℕ → Option Symbol

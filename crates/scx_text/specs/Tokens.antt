@@ -9,7 +9,7 @@ use Rattle.scx_text.specs.declared.lexer.Class.TheVariants as class
 use Rattle.scx_text.specs.declared.lexer.Token.{Token}
 use Rattle.scx_text.specs.declared.lexer.Token.TheVariants as token
 use Rattle.scx_text.specs.Options.{◌>>=◌, either}
-use Rattle.scx_text.specs.Symbols.{spelled, symbol_at}
+use Rattle.scx_text.specs.Symbols.{spelling, symbol_at}
 
 -- A token, wherever its word lies. A number says whether it touches what stands before it, and has no
 -- value where that is 2^64 or more.
@@ -45,15 +45,15 @@ is_in class.Decimal b = is_ascii_digit b
 is_in class.Hexadecimal b = is_ascii_hexdigit b
 
 -- how many bytes of the class the text begins with
-unfoldable pub run : Class → List ℕ → ℕ
-run c [] = 0
-run c (b ∷ bs) = if is_in c b then suc (run c bs) else 0
+unfoldable pub class_length : Class → List ℕ → ℕ
+class_length c [] = 0
+class_length c (b ∷ bs) = if is_in c b then suc (class_length c bs) else 0
 
 -- ---- one token, and how many bytes it has
 
 -- the number, if it is below 2^64
-abbrev pub bounded : ℕ → Option ℕ
-bounded n = if nat_lt n (2 ^ 64) then Some n else None
+abbrev pub if_64_bits : ℕ → Option ℕ
+if_64_bits n = if nat_lt n (2 ^ 64) then Some n else None
 
 -- the base of numbers with digits of the class
 abbrev pub radix : Class → ℕ
@@ -63,30 +63,30 @@ radix c = 10
 -- the number whose digits stand behind a prefix of so many bytes, and the length with the prefix
 abbrev pub digits_at : Bool → Class → ℕ → List ℕ → Lexeme × ℕ
 digits_at touches c prefix text =
-    let n = run c (drop prefix text) in
-    (Number touches (bounded (digits_value (radix c) (take n (drop prefix text)))), prefix + n)
+    let n = class_length c (drop prefix text) in
+    (Number touches (if_64_bits (digits_value (radix c) (take n (drop prefix text)))), prefix + n)
 
 -- a text begins with the mark of a hexadecimal number and such a digit
 abbrev pub is_hexadecimal : List ℕ → Bool
 is_hexadecimal text = (nat_eq (slice_index text 0) 48 && nat_eq (slice_index text 1) 120) && is_ascii_hexdigit (slice_index text 2)
 
 -- the number with which the text begins, hexadecimal if by `0x` and a digit, and its length
-abbrev pub number_at : Bool → List ℕ → Lexeme × ℕ
-number_at touches text = if is_hexadecimal text then digits_at touches class.Hexadecimal 2 text else digits_at touches class.Decimal 0 text
+abbrev pub number_lexeme : Bool → List ℕ → Lexeme × ℕ
+number_lexeme touches text = if is_hexadecimal text then digits_at touches class.Hexadecimal 2 text else digits_at touches class.Decimal 0 text
 
 -- the word with which the text begins, and its length
 abbrev pub word_at : List ℕ → Lexeme × ℕ
-word_at text = (Word (take (run class.Word text) text), run class.Word text)
+word_at text = (Word (take (class_length class.Word text) text), class_length class.Word text)
 
 -- what a letter or a digit at the front begins, and its length; none of any other byte
 abbrev pub word_or_number : Bool → List ℕ → Option (Lexeme × ℕ)
 word_or_number touches text =
     if is_ascii_alphabetic (slice_index text 0) then Some (word_at text)
-    else (if is_ascii_digit (slice_index text 0) then Some (number_at touches text) else None)
+    else (if is_ascii_digit (slice_index text 0) then Some (number_lexeme touches text) else None)
 
 -- a symbol that begins with a letter is longer than the word there
 abbrev pub token_at : Bool → List ℕ → Option (Lexeme × ℕ)
-token_at touches text = either (symbol_at text) (λ s. Some (Mark s, length (spelled s))) (word_or_number touches text)
+token_at touches text = either (symbol_at text) (λ s. Some (Mark s, length (spelling s))) (word_or_number touches text)
 
 -- ---- the tokens of a line
 

@@ -1,7 +1,7 @@
 ghost use Rattle.std.specs.Prelude.{◌≡◌, ◌≤◌, ◌<◌, ◌+◌, ◌*◌, Some, None, if◌then◌else◌, length, option_map, IfOk, IfSome, IsTrue};
 ghost use Rattle.std.specs.Char.{digit_value};
 ghost use Rattle.std.specs.Str.Parse.{digits_value};
-ghost use Rattle.scx_text.specs.Tokens.{lexeme, lexemes, is_blank, is_in, radix, run, bounded, digits_at, is_hexadecimal, number_at, word_at, word_or_number, token_at, tokens};
+ghost use Rattle.scx_text.specs.Tokens.{lexeme, lexemes, is_blank, is_in, radix, class_length, if_64_bits, digits_at, is_hexadecimal, number_lexeme, word_at, word_or_number, token_at, tokens};
 
 use crate::symbols::{Symbol, symbol_at};
 use std::alloc::AllocError;
@@ -51,7 +51,7 @@ impl Class {
 /// How many bytes of the class the text begins with.
 #[tactic(auto, using(crate::proofs::Runs::run_next, crate::proofs::Runs::run_stop, crate::proofs::Runs::run_end))]
 fn run_of(class: Class, text: &[u8]) -> usize
-    ensures run { result ≡ run class text.now }
+    ensures run { result ≡ class_length class text.now }
     ensures within { result ≤ length text.now }
 {
     let mut count = 0;
@@ -76,7 +76,7 @@ fn digit_value_of(byte: u8) -> u64
 
 /// The number with one more digit behind it, if it is below 2^64.
 fn with_digit(value: u64, radix: u64, digit: u64) -> Option<u64>
-    ensures { result ≡ bounded (value * radix + digit) }
+    ensures { result ≡ if_64_bits (value * radix + digit) }
 {
     value.checked_mul(radix)?.checked_add(digit)
 }
@@ -85,7 +85,7 @@ fn with_digit(value: u64, radix: u64, digit: u64) -> Option<u64>
 #[tactic(auto, using(crate::proofs::Numerals::too_large))]
 fn numeral_of(radix: u64, digits: &[u8]) -> Option<u64>
     requires { 1 ≤ radix }
-    ensures { result ≡ bounded (digits_value radix digits.now) }
+    ensures { result ≡ if_64_bits (digits_value radix digits.now) }
 {
     let mut value: u64 = 0;
     for &digit in digits {
@@ -95,7 +95,7 @@ fn numeral_of(radix: u64, digits: &[u8]) -> Option<u64>
 }
 
 /// The number whose digits, of that class, begin behind a prefix, and where it ends.
-#[tactic(auto, unfolding(crate::specs::Tokens::run))]
+#[tactic(auto, unfolding(crate::specs::Tokens::class_length))]
 fn digits_token(text: &[u8], touches: bool, class: Class, prefix: usize) -> (Token<'_>, usize)
     requires { prefix ≤ length text.now }
     ensures token { (lexeme result.0, result.1) ≡ digits_at touches class prefix text.now }
@@ -119,7 +119,7 @@ fn is_hexadecimal_at(text: &[u8]) -> bool
 }
 
 fn number_token(text: &[u8], touches: bool) -> (Token<'_>, usize)
-    ensures token { (lexeme result.0, result.1) ≡ number_at touches text.now }
+    ensures token { (lexeme result.0, result.1) ≡ number_lexeme touches text.now }
     ensures within { result.1 ≤ length text.now }
 {
     if is_hexadecimal_at(text) {

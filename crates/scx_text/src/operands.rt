@@ -1,6 +1,6 @@
 ghost use Rattle.std.specs.Prelude.{◌≡◌, option_map};
 ghost use Rattle.scx_text.specs.Tokens.{lexemes};
-ghost use Rattle.scx_text.specs.Items.{destination_of, written, read_literal, read_offset, read_distance, read_destination, read_word, read_register, read_operand, read_comparison, star, opening, closing, read_access, read_address, read_memory_operand, read_given, read_goto};
+ghost use Rattle.scx_text.specs.Items.{destination_of, literal, read_literal, read_offset, read_distance, read_destination, read_word, read_register, read_operand, read_comparison, star, opening, closing, read_access, read_address, read_memory_operand, read_value, read_goto};
 
 use crate::items::{Literal, MemoryOperand, Target, WrittenOperand};
 use crate::lexer::Token;
@@ -12,7 +12,7 @@ use scx_semantics::{Access, Comparison, Operation, Register, Width};
 pub(crate) type Read<'t, 'a, T> = Option<(T, &'t [Token<'a>])>;
 
 fn written(is_negative: bool, magnitude: Option<u64>) -> Literal
-    ensures { result ≡ written is_negative magnitude }
+    ensures { result ≡ literal is_negative magnitude }
 {
     Literal {
         is_negative,
@@ -196,7 +196,7 @@ pub(crate) fn read_memory_operand<'t, 'a>(tokens: &'t [Token<'a>]) -> Read<'t, '
 
 /// The operand behind `=`.
 pub(crate) fn read_given<'t, 'a>(tokens: &'t [Token<'a>]) -> Read<'t, 'a, WrittenOperand>
-    ensures { option_map (λ x. (x.0, lexemes x.1.now)) result ≡ read_given (lexemes tokens.now) }
+    ensures { option_map (λ x. (x.0, lexemes x.1.now)) result ≡ read_value (lexemes tokens.now) }
 {
     match tokens {
         [Token::Mark(Symbol::Assign(Operation::Move)), rest @ ..] => {

@@ -4,7 +4,7 @@ ghost use Rattle.scx_text.specs.Options.{either};
 ghost use Rattle.scx_text.specs.Names.{register_in};
 ghost use Rattle.scx_text.specs.declared.items.Statement.TheVariants.{Binary};
 ghost use Rattle.scx_semantics.specs.declared.operations.Operation.TheVariants.{Move};
-ghost use Rattle.scx_text.specs.Items.{Says, item_value, copied, negated, extended, loaded, load_immediate, byte_swapped, mapped, special, computed, given, operated, assigned, stored, compared, condition, jumped, called, keyword, statement_of, item_of, end, same};
+ghost use Rattle.scx_text.specs.Items.{Says, item_value, copy, negation, sign_extending_move, load_line, load_immediate, byte_swap, map_load, special, behind_equals_no_word, behind_equals, arithmetic, behind_register, store_line, comparison, condition, jump_to, helper_call, keyword, statement_of, item_of, end, same};
 
 use crate::items::{Item, Jump, Literal, Statement, WrittenOperand};
 use crate::lexer::Token;
@@ -45,7 +45,7 @@ fn negated<'a>(
     name: &[u8],
     tokens: &[Token<'a>],
 ) -> Option<Item<'a>>
-    ensures { option_map item_value result ≡ negated width register name.now (lexemes tokens.now) }
+    ensures { option_map item_value result ≡ negation width register name.now (lexemes tokens.now) }
 {
     if same(register_in(width, name)?, register) {
         says(Statement::Negate(width, register), tokens)
@@ -56,7 +56,7 @@ fn negated<'a>(
 
 /// `rD = (s8)rS`, behind the parenthesis.
 fn extended<'a>(width: Width, register: Register, tokens: &[Token<'a>]) -> Option<Item<'a>>
-    ensures { option_map item_value result ≡ extended width register (lexemes tokens.now) }
+    ensures { option_map item_value result ≡ sign_extending_move width register (lexemes tokens.now) }
 {
     let (access, rest) = read_access(tokens)?;
     let extension = extension_of(width, access)?;
@@ -66,7 +66,7 @@ fn extended<'a>(width: Width, register: Register, tokens: &[Token<'a>]) -> Optio
 
 /// `rD = *(u8 *)(rS + O)`, behind the star.
 fn loaded<'a>(width: Width, register: Register, tokens: &[Token<'a>]) -> Option<Item<'a>>
-    ensures { option_map item_value result ≡ loaded width register (lexemes tokens.now) }
+    ensures { option_map item_value result ≡ load_line width register (lexemes tokens.now) }
 {
     match width {
         Width::Bits32 => None,
@@ -115,7 +115,7 @@ fn moved<'a>(
 
 /// `rD = le16 rD`.
 fn byte_swapped<'a>(register: Register, name: &[u8], tokens: &[Token<'a>]) -> Option<Item<'a>>
-    ensures { option_map item_value result ≡ byte_swapped register name.now (lexemes tokens.now) }
+    ensures { option_map item_value result ≡ byte_swap register name.now (lexemes tokens.now) }
 {
     let (order, width) = order_named(name)?;
     let (source, rest) = read_register(Width::Bits64, tokens)?;
@@ -128,7 +128,7 @@ fn byte_swapped<'a>(register: Register, name: &[u8], tokens: &[Token<'a>]) -> Op
 
 /// `rD = map N`.
 fn mapped<'a>(register: Register, tokens: &[Token<'a>]) -> Option<Item<'a>>
-    ensures { option_map item_value result ≡ mapped register (lexemes tokens.now) }
+    ensures { option_map item_value result ≡ map_load register (lexemes tokens.now) }
 {
     let (map, rest) = read_literal(tokens)?;
     says(Statement::LoadMapReference(register, map), rest)
@@ -163,7 +163,7 @@ fn named<'a>(
     tokens: &[Token<'a>],
 ) -> Option<Item<'a>>
     ensures { option_map item_value result
-        ≡ either (register_in width name.now) (λ r. copied width register r (lexemes tokens.now))
+        ≡ either (register_in width name.now) (λ r. copy width register r (lexemes tokens.now))
         (special width register name.now (lexemes tokens.now)) }
 {
     match register_in(width, name) {
@@ -174,7 +174,7 @@ fn named<'a>(
 
 /// What stands behind `rD =`.
 fn given<'a>(width: Width, register: Register, tokens: &[Token<'a>]) -> Option<Item<'a>>
-    ensures { option_map item_value result ≡ given width register (lexemes tokens.now) }
+    ensures { option_map item_value result ≡ behind_equals width register (lexemes tokens.now) }
 {
     match tokens {
         [Token::Word(name), rest @ ..] => named(width, register, name, rest),
@@ -184,7 +184,7 @@ fn given<'a>(width: Width, register: Register, tokens: &[Token<'a>]) -> Option<I
 
 /// What stands behind `rD =`, if it is no word.
 fn computed<'a>(width: Width, register: Register, tokens: &[Token<'a>]) -> Option<Item<'a>>
-    ensures { option_map item_value result ≡ computed width register (lexemes tokens.now) }
+    ensures { option_map item_value result ≡ behind_equals_no_word width register (lexemes tokens.now) }
 {
     match tokens {
         [Token::Mark(Symbol::Minus), Token::Word(name), rest @ ..] => negated(
@@ -206,7 +206,7 @@ fn operated<'a>(
     tokens: &[Token<'a>],
 ) -> Option<Item<'a>>
     ensures { option_map item_value result
-        ≡ operated width operation register (lexemes tokens.now) }
+        ≡ arithmetic width operation register (lexemes tokens.now) }
 {
     let (argument, rest) = read_operand(width, tokens)?;
     says(
@@ -217,7 +217,7 @@ fn operated<'a>(
 
 /// What stands behind the register that a line begins with.
 fn assigned<'a>(width: Width, register: Register, tokens: &[Token<'a>]) -> Option<Item<'a>>
-    ensures { option_map item_value result ≡ assigned width register (lexemes tokens.now) }
+    ensures { option_map item_value result ≡ behind_register width register (lexemes tokens.now) }
 {
     match tokens {
         [Token::Mark(Symbol::Assign(Operation::Move)), rest @ ..] => given(width, register, rest),
@@ -230,7 +230,7 @@ fn assigned<'a>(width: Width, register: Register, tokens: &[Token<'a>]) -> Optio
 
 /// `*(u8 *)(rD + O) = rS`, behind the star.
 fn stored<'a>(tokens: &[Token<'a>]) -> Option<Item<'a>>
-    ensures { option_map item_value result ≡ stored (lexemes tokens.now) }
+    ensures { option_map item_value result ≡ store_line (lexemes tokens.now) }
 {
     let (memory, rest) = read_memory_operand(tokens)?;
     let size = stored_size(memory.access)?;
@@ -242,7 +242,7 @@ fn stored<'a>(tokens: &[Token<'a>]) -> Option<Item<'a>>
 /// The comparison of a register, behind its name.
 fn compared<'t, 'a>(width: Width, register: Register, tokens: &'t [Token<'a>]) -> Read<'t, 'a, Jump>
     ensures { option_map (λ x. (x.0, lexemes x.1.now)) result
-        ≡ compared width register (lexemes tokens.now) }
+        ≡ comparison width register (lexemes tokens.now) }
 {
     let (comparison, rest) = read_comparison(tokens)?;
     let (argument, rest) = read_operand(width, rest)?;
@@ -261,14 +261,14 @@ fn condition<'a>(tokens: &[Token<'a>]) -> Option<Item<'a>>
 }
 
 fn jumped<'a>(jump: Jump, tokens: &[Token<'a>]) -> Option<Item<'a>>
-    ensures { option_map item_value result ≡ jumped jump (lexemes tokens.now) }
+    ensures { option_map item_value result ≡ jump_to jump (lexemes tokens.now) }
 {
     let (target, rest) = read_target(tokens)?;
     end(rest, Item::Jump(jump, target))
 }
 
 fn called<'a>(tokens: &[Token<'a>]) -> Option<Item<'a>>
-    ensures { option_map item_value result ≡ called (lexemes tokens.now) }
+    ensures { option_map item_value result ≡ helper_call (lexemes tokens.now) }
 {
     let (helper, rest) = read_literal(tokens)?;
     says(Statement::Call(helper), rest)

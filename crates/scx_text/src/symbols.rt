@@ -1,6 +1,6 @@
 ghost use Rattle.std.specs.Prelude.{◌≡◌};
 ghost use Rattle.scx_text.specs.declared.symbols.Symbol.TheVariants.{Assign, Compare};
-ghost use Rattle.scx_text.specs.Symbols.{spelled, first_of, symbol_at};
+ghost use Rattle.scx_text.specs.Symbols.{spelling, first_of, symbol_at};
 
 use scx_semantics::{Comparison, Operation};
 
@@ -67,7 +67,7 @@ const AND: [Symbol; 2] = [
 impl Symbol {
     /// How it is written.
     pub fn text(self) -> &'static str
-        ensures { result.now ≡ spelled self }
+        ensures { result.now ≡ spelling self }
     {
         match self {
             Symbol::Assign(operation) => assignment_text(operation),
@@ -83,7 +83,7 @@ impl Symbol {
 }
 
 fn assignment_text(operation: Operation) -> &'static str
-    ensures { result.now ≡ spelled (Assign operation) }
+    ensures { result.now ≡ spelling (Assign operation) }
 {
     match operation {
         Operation::Add => "+=",
@@ -104,7 +104,7 @@ fn assignment_text(operation: Operation) -> &'static str
 }
 
 fn comparison_text(comparison: Comparison) -> &'static str
-    ensures { result.now ≡ spelled (Compare comparison) }
+    ensures { result.now ≡ spelling (Compare comparison) }
 {
     match comparison {
         Comparison::Equal => "==",

@@ -1,6 +1,6 @@
 ghost use Rattle.std.specs.Prelude.{◌≡◌};
 ghost use Rattle.std.specs.Str.{bytes_eq};
-ghost use Rattle.scx_text.specs.Names.{access_text, accesses, access_named, width_named, register_numbered, register_named, register_in, stored_size, stored_access, extension_of, extension_access, order_text, orders, order_named};
+ghost use Rattle.scx_text.specs.Names.{access_text, named_accesses, access_named, width_named, register_numbered, register_named, register_in, stored_size, stored_access, extension_of, extension_access, order_text, orders, order_named};
 
 use scx_semantics::{Access, ByteOrder, Extension, Register, Size, SwapWidth, Width};
 

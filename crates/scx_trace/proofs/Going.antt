@@ -4,7 +4,7 @@ use Rattle.std.proofs.lemmas.List.{append-nil}
 use Rattle.scx_world.specs.declared.notes.Note.{Note}
 use Rattle.scx_machine.specs.declared.events.Event.{Event}
 use Rattle.scx_machine.specs.Notes.{Takes}
-use Rattle.scx_sched.specs.Sim.{SimState, stepped, notes_of}
+use Rattle.scx_sched.specs.Sim.{SimState, after_event, notes_of}
 use Rattle.scx_sched.specs.Once.{IsOnce}
 use Rattle.scx_sched.specs.Waits.{IsTimely, HasWaits}
 use Rattle.scx_sched.specs.Usages.{AreBounded}
@@ -15,7 +15,7 @@ use Rattle.scx_trace.specs.Runs.{IsInOrder, GoesWell, StaysInOrder, GoesThrough}
 pub notes_of_all-append : (s : SimState) (es fs : List Event) → notes_of_all s (es ++ fs) ≡ notes_of_all s es ++ notes_of_all (stepped_all s es) fs
 notes_of_all-append s [] fs = refl
 notes_of_all-append s (e ∷ es) fs =
-    ap (λ ns. notes_of s e ++ ns) (notes_of_all-append (stepped s e) es fs) ∙ sym (append_assoc (notes_of s e) (notes_of_all (stepped s e) es) (notes_of_all (stepped_all (stepped s e) es) fs))
+    ap (λ ns. notes_of s e ++ ns) (notes_of_all-append (after_event s e) es fs) ∙ sym (append_assoc (notes_of s e) (notes_of_all (after_event s e) es) (notes_of_all (stepped_all (after_event s e) es) fs))
 
 -- notes, and then more of them
 pub takes_both : {S : Type 0} (takes : S → Note → S → Type 0) (ns ms : List Note) (a b c : S) → Takes takes a ns b → Takes takes b ms c → Takes takes a (ns ++ ms) c
@@ -40,22 +40,22 @@ differ false x y = absurd (cc)
 
 -- one event, behind which the sink hasn't failed
 pub gone_further : {S : Type 0} (takes : S → Note → S → Type 0) (has_failed : S → Bool) (events rest : List Event) (later : SimState → List Event) (s t u : SimState) (a b c : S) (e : Event)
-    → HasGone takes has_failed events s a rest t b → IsInOrder t → rest ≡ e ∷ later (stepped t e) → u ≡ stepped t e → Takes takes b (notes_of t e) c → GoesWell t e → has_failed c ≡ false
+    → HasGone takes has_failed events s a rest t b → IsInOrder t → rest ≡ e ∷ later (after_event t e) → u ≡ after_event t e → Takes takes b (notes_of t e) c → GoesWell t e → has_failed c ≡ false
     → HasGone takes has_failed events s a (later u) u c
 gone_further {S} takes has_failed events rest later s t u a b c e gone now next state notes well going v d more =
     let P : SimState → Type 0 = λ x. GoesThrough takes has_failed (later x) x c v d in
     let Q : List Event → Type 0 = λ es. GoesThrough takes has_failed es t b v d in
-    let failed : has_failed c ≡ true → (v ≡ stepped t e) × (d ≡ c) × IsInOrder (stepped t e) = λ f. absurd (differ (has_failed c) f going) in
+    let failed : has_failed c ≡ true → (v ≡ after_event t e) × (d ≡ c) × IsInOrder (after_event t e) = λ f. absurd (differ (has_failed c) f going) in
     gone v d (subst Q (sym next) (c, notes, now, well, failed, λ _. subst P state more))
 
 -- one event, behind which the sink has failed
 pub gone_until : {S : Type 0} (takes : S → Note → S → Type 0) (has_failed : S → Bool) (events rest later : List Event) (s t u : SimState) (a b c : S) (e : Event)
-    → HasGone takes has_failed events s a rest t b → IsInOrder t → rest ≡ e ∷ later → u ≡ stepped t e → Takes takes b (notes_of t e) c → GoesWell t e → IsInOrder u → has_failed c ≡ true
+    → HasGone takes has_failed events s a rest t b → IsInOrder t → rest ≡ e ∷ later → u ≡ after_event t e → Takes takes b (notes_of t e) c → GoesWell t e → IsInOrder u → has_failed c ≡ true
     → GoesThrough takes has_failed events s a u c
 gone_until {S} takes has_failed events rest later s t u a b c e gone now next state notes well behind failed =
     let P : SimState → Type 0 = λ x. IsInOrder x in
     let Q : List Event → Type 0 = λ es. GoesThrough takes has_failed es t b u c in
-    let going : has_failed c ≡ false → GoesThrough takes has_failed later (stepped t e) c u c = λ f. absurd (differ (has_failed c) failed f) in
+    let going : has_failed c ≡ false → GoesThrough takes has_failed later (after_event t e) c u c = λ f. absurd (differ (has_failed c) failed f) in
     gone u c (subst Q (sym next) (c, notes, now, well, (λ _. (state, refl, subst P state behind)), going))
 
 -- no event is left
@@ -82,9 +82,9 @@ pub what_is_done : {S : Type 0} (takes : S → Note → S → Type 0) (has_faile
     → GoesThrough takes has_failed events s a t b → HasDone takes has_failed events s a t b
 what_is_done takes has_failed [] s a t b (state, sink, now) =
     record { done = []; rest = []; whole = refl; state = state; in_order = now; notes = sink; all = λ _. refl }
-what_is_done {S} takes has_failed (e ∷ es) s a t b (c, notes, now, well, ends, goes) = by_failure (has_failed c) refl (λ x. what_is_done takes has_failed es (stepped s e) c t b (goes x))
+what_is_done {S} takes has_failed (e ∷ es) s a t b (c, notes, now, well, ends, goes) = by_failure (has_failed c) refl (λ x. what_is_done takes has_failed es (after_event s e) c t b (goes x))
   where
-    by_failure : (f : Bool) → has_failed c ≡ f → (has_failed c ≡ false → HasDone takes has_failed es (stepped s e) c t b) → HasDone takes has_failed (e ∷ es) s a t b
+    by_failure : (f : Bool) → has_failed c ≡ f → (has_failed c ≡ false → HasDone takes has_failed es (after_event s e) c t b) → HasDone takes has_failed (e ∷ es) s a t b
     by_failure true x further =
         let end = ends x in
         let sink = end.1 in
@@ -99,7 +99,7 @@ what_is_done {S} takes has_failed (e ∷ es) s a t b (c, notes, now, well, ends,
           whole = ap (λ fs. e ∷ fs) more.whole;
           state = more.state;
           in_order = (now, well, more.in_order);
-          notes = takes_both takes (notes_of s e) (notes_of_all (stepped s e) more.done) a c b notes more.notes;
+          notes = takes_both takes (notes_of s e) (notes_of_all (after_event s e) more.done) a c b notes more.notes;
           all = more.all;
         }
 

@@ -10,7 +10,7 @@ use Rattle.scx_machine.specs.Notes.{Takes}
 use Rattle.scx_trace.specs.Lines.{NameLists, note_line, note_lines}
 use Rattle.scx_trace.specs.Writing.{Seen, Written, WrittenAfter, WrittenUpTo}
 use Rattle.scx_machine.specs.declared.events.Event.{Event}
-use Rattle.scx_sched.specs.Sim.{SimState, stepped, notes_of}
+use Rattle.scx_sched.specs.Sim.{SimState, after_event, notes_of}
 use Rattle.scx_driver.specs.Runs.{stepped_all, notes_of_all}
 use Rattle.scx_trace.specs.Runs.{IsInOrder, GoesWell, StaysInOrder, GoesThrough, StopsAtFailure}
 use Rattle.scx_trace.specs.Tracing.{TakesLine}
@@ -109,13 +109,13 @@ run_is_done output names seen events s t a b fine went =
 
 -- one event in front of others
 with_event : (x : NameLists) (e : Event) (es : List Event) (s t : SimState) (old between new : Option (List ℕ))
-    → IsInOrder s → GoesWell s e → Appends old between (note_lines x (notes_of s e)) → StopsAtFailure x es (stepped s e) t between new
+    → IsInOrder s → GoesWell s e → Appends old between (note_lines x (notes_of s e)) → StopsAtFailure x es (after_event s e) t between new
     → StopsAtFailure x (e ∷ es) s t old new
 with_event x e es s t old between new now well line h =
     let P : List ℕ → Type 0 = λ text. Appends old h.lines.between text in
     let first = note_lines x (notes_of s e) in
-    let behind = note_lines x (notes_of_all (stepped s e) h.done) in
-    let text : note_lines x (notes_of s e ++ notes_of_all (stepped s e) h.done) ≡ first ++ behind = note_lines-append x (notes_of s e) (notes_of_all (stepped s e) h.done) in
+    let behind = note_lines x (notes_of_all (after_event s e) h.done) in
+    let text : note_lines x (notes_of s e ++ notes_of_all (after_event s e) h.done) ≡ first ++ behind = note_lines-append x (notes_of s e) (notes_of_all (after_event s e) h.done) in
     record {
       done = e ∷ h.done;
       event = h.event;
@@ -137,7 +137,7 @@ pub run_stops : {S G : Type 0} (output : S → G) (names : S → NameLists) (see
 run_stops output names seen [] s t a b fresh failed (state, same, now) =
     absurd (differ (seen b).failed failed (ap (λ x. (seen x).failed) same ∙ fresh))
 run_stops {S} output names seen (e ∷ es) s t a b fresh failed (c, notes, now, well, ends, goes) =
-    by_failure (seen c).failed refl (λ x. run_stops output names seen es (stepped s e) t c b x failed (goes x))
+    by_failure (seen c).failed refl (λ x. run_stops output names seen es (after_event s e) t c b x failed (goes x))
   where
     text : List ℕ
     text = note_lines (names a) (notes_of s e)
@@ -151,7 +151,7 @@ run_stops {S} output names seen (e ∷ es) s t a b fresh failed (c, notes, now, 
         let Q : Bool → Type 0 = λ g. WrittenUpTo g (seen a) text (seen c) in
         subst Q is (subst P fresh lines.2)
 
-    by_failure : (f : Bool) → (seen c).failed ≡ f → ((seen c).failed ≡ false → StopsAtFailure (names c) es (stepped s e) t (seen c).contents (seen b).contents)
+    by_failure : (f : Bool) → (seen c).failed ≡ f → ((seen c).failed ≡ false → StopsAtFailure (names c) es (after_event s e) t (seen c).contents (seen b).contents)
         → StopsAtFailure (names a) (e ∷ es) s t (seen a).contents (seen b).contents
     by_failure true is further =
         let end = ends is in
@@ -166,5 +166,5 @@ run_stops {S} output names seen (e ∷ es) s t a b fresh failed (c, notes, now, 
           lines = record { between = (seen a).contents; whole = grows_by_none (seen a).contents []; cut = subst P (sym end.1) (written true is).0 };
         }
     by_failure false is further =
-        let P : NameLists → Type 0 = λ x. StopsAtFailure x es (stepped s e) t (seen c).contents (seen b).contents in
+        let P : NameLists → Type 0 = λ x. StopsAtFailure x es (after_event s e) t (seen c).contents (seen b).contents in
         with_event (names a) e es s t (seen a).contents (seen c).contents (seen b).contents now well (written false is).0 (subst P lines.1 (further is))

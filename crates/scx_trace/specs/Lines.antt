@@ -2,7 +2,7 @@
 -- of what they name.
 use Rattle.std.specs.Prelude.{ℕ, ◌==◌, ◌%◌, ◌^◌, nat_lt, if◌then◌else◌, List, [], ◌∷◌, ◌++◌, codes, decimal, slice_index_or}
 use Rattle.scx_world.specs.Faults.{code_of}
-use Rattle.scx_world.specs.Ids.{policy_end, global, held, builtin, parked}
+use Rattle.scx_world.specs.Ids.{policy_end, global, held_queue, builtin_queue, parked_queue}
 use Rattle.scx_world.specs.declared.notes.Note.{Note}
 use Rattle.scx_world.specs.declared.notes.What.{What}
 use Rattle.scx_world.specs.declared.notes.What.TheVariants.{Wake, Sleep, Insert, Move, Run, Stop, Idle, Weight, Stall, Fault}
@@ -34,9 +34,9 @@ abbrev pub queue_text : ℕ → List ℕ
 queue_text q =
     if nat_lt q policy_end then codes "queue " ++ decimal q
     else (if q == global then codes "global"
-    else (if q == held then codes "held"
-    else (if q == builtin then codes "builtin"
-    else (if q == parked then codes "parked" else codes "local " ++ decimal (q % 2 ^ 32)))))
+    else (if q == held_queue then codes "held"
+    else (if q == builtin_queue then codes "builtin"
+    else (if q == parked_queue then codes "parked" else codes "local " ++ decimal (q % 2 ^ 32)))))
 
 -- the words for what happened, with a space behind them
 abbrev pub verb : What → List ℕ

@@ -6,7 +6,7 @@ use Rattle.scx_world.specs.declared.notes.Note.{Note}
 use Rattle.scx_machine.specs.declared.events.Event.{Event}
 use Rattle.scx_machine.specs.Notes.{Takes}
 use Rattle.scx_machine.specs.Callbacks.{AreAnswered}
-use Rattle.scx_sched.specs.Sim.{SimState, refusal, stepped, notes_of, calls_of}
+use Rattle.scx_sched.specs.Sim.{SimState, refusal, after_event, notes_of, calls_of}
 use Rattle.scx_sched.specs.Decided.{Follows}
 use Rattle.scx_sched.specs.Once.{IsOnce}
 use Rattle.scx_sched.specs.Waits.{IsTimely, HasWaits}
@@ -27,12 +27,12 @@ pub record IsInOrder (s : SimState) : Type 0 where
 -- an event does what it alone decides, or is refused and changes nothing, and each callback that is called comes to an
 -- answer
 abbrev pub GoesWell : SimState → Event → Type 0
-GoesWell s e = AreAnswered (calls_of s e) × Follows (refusal s e) s e (stepped s e)
+GoesWell s e = AreAnswered (calls_of s e) × Follows (refusal s e) s e (after_event s e)
 
 -- so it is at first and behind each event, and each event goes well
 abbrev pub StaysInOrder : SimState → List Event → Type 0
 StaysInOrder s [] = IsInOrder s
-StaysInOrder s (e ∷ es) = IsInOrder s × GoesWell s e × StaysInOrder (stepped s e) es
+StaysInOrder s (e ∷ es) = IsInOrder s × GoesWell s e × StaysInOrder (after_event s e) es
 
 -- ---- up to a failure
 
@@ -42,8 +42,8 @@ abbrev pub GoesThrough : {S : Type 0} → (S → Note → S → Type 0) → (S �
 GoesThrough takes has_failed [] s a t b = (t ≡ s) × (b ≡ a) × IsInOrder s
 GoesThrough {S} takes has_failed (e ∷ es) s a t b =
     (c : S) × Takes takes a (notes_of s e) c × IsInOrder s × GoesWell s e
-    × (has_failed c ≡ true → (t ≡ stepped s e) × (b ≡ c) × IsInOrder (stepped s e))
-    × (has_failed c ≡ false → GoesThrough takes has_failed es (stepped s e) c t b)
+    × (has_failed c ≡ true → (t ≡ after_event s e) × (b ≡ c) × IsInOrder (after_event s e))
+    × (has_failed c ≡ false → GoesThrough takes has_failed es (after_event s e) c t b)
 
 -- The lines of these events are written whole, and of those of the next one a beginning.
 pub record IsCutIn (names : NameLists) (s : SimState) (done : List Event) (e : Event) (old new : Option (List ℕ)) : Type 0 where

@@ -1,6 +1,6 @@
 ghost use Rattle.std.specs.Prelude.{◌≡◌, [], ◌∷◌, List, IfSome, IfNone};
 ghost use Rattle.scx_machine.specs.declared.events.Event.{Event};
-ghost use Rattle.scx_sched.specs.Sim.{SimState, stepped};
+ghost use Rattle.scx_sched.specs.Sim.{SimState, after_event};
 ghost use Rattle.scx_driver.specs.Driver as driver;
 
 use scx_driver::Driver;
@@ -14,7 +14,7 @@ pub trait Events {
     /// The event that comes next, for a machine that took exactly the events before it; none at the end.
     fn next(&mut self, sim: &Sim) -> Option<Event>
         ensures next { IfSome result (λ event. remaining self.old sim.now
-            ≡ event ∷ remaining self.new (stepped sim.now event)) }
+            ≡ event ∷ remaining self.new (after_event sim.now event)) }
         ensures end { IfNone result (remaining self.old sim.now ≡ []) };
 }
 

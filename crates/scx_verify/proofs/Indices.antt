@@ -4,7 +4,7 @@ use Rattle.std.proofs.lemmas.Bool.{cases_eq}
 use Rattle.std.proofs.lemmas.List.{get_or-set_same, get_or-set_other, length-set, length-map, length-append}
 use Rattle.std.proofs.lemmas.Option.{slice_get_within, slice_get-get_or}
 use Rattle.scx_abs.specs.declared.states.AbsState.{AbsState}
-use Rattle.scx_verify.specs.Indices.{index_at, state_of, known_of, IsApart, IsKept}
+use Rattle.scx_verify.specs.Indices.{index_at, state_of, known_of, IsApart, IsPlacedAt}
 use Rattle.scx_verify.specs.Pass.{states_of}
 
 -- ---- lists
@@ -213,7 +213,7 @@ pub free_small : (indices : List (Option ℕ)) (free : List ℕ) (count : ℕ) �
 free_small indices free count h k d lt = h.free_within k (slice_index_or free k d) (slice_get-get_or free k d lt)
 
 module _ (indices : List (Option ℕ)) (slot : ℕ) (states : List AbsState) (free : List ℕ) (i : ℕ) (a : AbsState) (after : List AbsState) (left : List ℕ) (lt : slot < length indices) (h : IsApart indices free (length states)) where
-  pub kept_apart : IsKept states free i a after left → IsApart (set indices slot (Some i)) left (length after)
+  pub kept_apart : IsPlacedAt states free i a after left → IsApart (set indices slot (Some i)) left (length after)
   kept_apart (inl k) =
       let old : IsApart indices (left ++ i ∷ []) (length states) = subst (λ l. IsApart indices l (length states)) k.0 h in
       let small : i < length states = old.free_within (length left) i (get_last left i) in
@@ -229,17 +229,17 @@ module _ (indices : List (Option ℕ)) (slot : ℕ) (states : List AbsState) (fr
       (apart_taken indices free (length after) slot i (apart_grown indices free (length states) (length after) h (omega (arith, long, more))) lt fresh (omega (arith, long, more, at)))
 
   -- at its slot
-  kept_state : IsKept states free i a after left → slice_get after i ≡ Some a
+  kept_state : IsPlacedAt states free i a after left → slice_get after i ≡ Some a
   kept_state (inl k) =
       let old : IsApart indices (left ++ i ∷ []) (length states) = subst (λ l. IsApart indices l (length states)) k.0 h in
       ap (λ l. slice_get l i) k.1 ∙ get_set_same states i a (old.free_within (length left) i (get_last left i))
   kept_state (inr k) = ap (λ l. slice_get l i) k.2 ∙ ap (slice_get (states ++ a ∷ [])) k.1 ∙ get_last states a
 
-  pub kept_there : IsKept states free i a after left → states_of (known_of (set indices slot (Some i)) after) slot ≡ Some a
+  pub kept_there : IsPlacedAt states free i a after left → states_of (known_of (set indices slot (Some i)) after) slot ≡ Some a
   kept_there k = known_at (set indices slot (Some i)) after slot ∙ ap (λ o. state_of after o) (get_or-set_same indices slot (Some i) None lt) ∙ kept_state k
 
   -- the others stay
-  kept_same : IsKept states free i a after left → (t : ℕ) (o : Option ℕ) → index_at indices t ≡ o → state_of after o ≡ state_of states o
+  kept_same : IsPlacedAt states free i a after left → (t : ℕ) (o : Option ℕ) → index_at indices t ≡ o → state_of after o ≡ state_of states o
   kept_same k t None e = refl
   kept_same (inl k) t (Some j) e =
       let old : IsApart indices (left ++ i ∷ []) (length states) = subst (λ l. IsApart indices l (length states)) k.0 h in
@@ -247,7 +247,7 @@ module _ (indices : List (Option ℕ)) (slot : ℕ) (states : List AbsState) (fr
       ap (λ l. slice_get l j) k.1 ∙ get_set_other states i j a (λ same. fresh.no_slot t (e ∙ ap Some same))
   kept_same (inr k) t (Some j) e = ap (λ l. slice_get l j) k.2 ∙ get_earlier states a j (h.within t j e)
 
-  pub kept_others : IsKept states free i a after left → (now : List (Option AbsState)) → known_of indices states ≡ now → (t : ℕ) → (t ≡ slot → ⊥) → states_of (known_of (set indices slot (Some i)) after) t ≡ states_of now t
+  pub kept_others : IsPlacedAt states free i a after left → (now : List (Option AbsState)) → known_of indices states ≡ now → (t : ℕ) → (t ≡ slot → ⊥) → states_of (known_of (set indices slot (Some i)) after) t ≡ states_of now t
   kept_others k now view t n =
       known_at (set indices slot (Some i)) after t ∙ ap (λ o. state_of after o) (get_or-set_other indices slot t (Some i) None n) ∙ kept_same k t (index_at indices t) refl ∙ sym (known_at indices states t) ∙ ap (λ l. states_of l t) view
 

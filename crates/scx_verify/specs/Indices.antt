@@ -25,7 +25,7 @@ pub record IsApart (indices : List (Option ℕ)) (free : List ℕ) (count : ℕ)
   pub free_apart : (j t i : ℕ) → slice_get free j ≡ Some i → index_at indices t ≡ Some i → ⊥
 
 -- a state was kept at a free index, or behind the others
-abbrev pub IsKept : List AbsState → List ℕ → ℕ → AbsState → List AbsState → List ℕ → Type 0
-IsKept states free i a after left =
+abbrev pub IsPlacedAt : List AbsState → List ℕ → ℕ → AbsState → List AbsState → List ℕ → Type 0
+IsPlacedAt states free i a after left =
     ((free ≡ left ++ i ∷ []) × (after ≡ set states i a))
     ⊎ ((left ≡ free) × (i ≡ length states) × (after ≡ states ++ a ∷ []))

@@ -4,7 +4,7 @@
 use Rattle.std.specs.Prelude.{ℕ, ◌+◌, ◌<◌, ◌≤◌, ◌≡◌, ◌⊎◌, List, [], length, map, set, slice_index, slice_index_or, Option, Some, None, Result, Ok, Err, if◌then◌else◌}
 use Rattle.scx_semantics.specs.declared.instructions.Insn.{Insn}
 use Rattle.scx_semantics.specs.Code.{at}
-use Rattle.scx_plain.specs.Packed.{unpacked}
+use Rattle.scx_plain.specs.Packed.{op_of_packed}
 use Rattle.scx_abs.specs.declared.faults.Why.{Why}
 use Rattle.scx_abs.specs.declared.rules.Next.{Next}
 use Rattle.scx_abs.specs.Rules.{rule}
@@ -72,7 +72,7 @@ IsAdded o None after = after ≡ o
 IsAdded o (Some a) after = (x : AbsState) × IsMerged o a x × (after ≡ Some x)
 
 -- before the first slot
-pub record IsFirst (slots : ℕ) (a : AbsState) (walk : Walk) : Type 0 where
+pub record IsBeforeFirst (slots : ℕ) (a : AbsState) (walk : Walk) : Type 0 where
   pub here : is_here walk ≡ Some a
   pub ahead : (t : ℕ) → states_of walk.ahead t ≡ None
   pub long : length walk.ahead ≡ slots + 1
@@ -88,10 +88,10 @@ pub record IsWalked (c : Context) (code : Code) (n : ℕ) (walk : Walk) : Type 0
   pub here : states_of states n ≡ is_here walk
   pub ahead : (t : ℕ) → n < t → states_of states t ≡ states_of walk.ahead t
   pub long : length walk.ahead ≡ length code + 1
-  pub built : IsBuilt c code (states_of states) n (map unpacked walk.ops.items)
+  pub built : IsBuilt c code (states_of states) n (map op_of_packed walk.ops.items)
 
 -- what flows on is there, and what a jump sends is kept
-pub record IsSent (next : Next) (to : ℕ) (before after : Walk) : Type 0 where
+pub record IsPassedOn (next : Next) (to : ℕ) (before after : Walk) : Type 0 where
   pub on : is_here after ≡ next.on
   pub jump : IsAdded (states_of before.ahead to) next.jump (states_of after.ahead to)
   pub apart : (t : ℕ) → (t ≡ to → ⊥) → states_of after.ahead t ≡ states_of before.ahead t
@@ -100,7 +100,7 @@ pub record IsSent (next : Next) (to : ℕ) (before after : Walk) : Type 0 where
 
 -- what flows on, as the rule says, is there
 abbrev pub IsFollowed : Result Next Why → ℕ → Walk → Walk → Type 0
-IsFollowed r to before after = (next : Next) × (r ≡ Ok next) × IsSent next to before after
+IsFollowed r to before after = (next : Next) × (r ≡ Ok next) × IsPassedOn next to before after
 
 -- an instruction was done in the state, if there is one
 abbrev pub IsStep : Context → Insn → ℕ → Option AbsState → Walk → Walk → Type 0

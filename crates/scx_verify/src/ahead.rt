@@ -1,8 +1,8 @@
 ghost use Rattle.std.specs.Prelude.{◌≡◌, ℕ, ◌+◌, ◌<◌, ◌≤◌, ◌++◌, ◌∷◌, [], All, length, Some, None, if◌then◌else◌, IfOk, OnOk, OnErr};
-ghost use Rattle.scx_abs.specs.Changes.{changed};
+ghost use Rattle.scx_abs.specs.Changes.{after_change};
 ghost use Rattle.scx_abs.specs.Kinds.{IsLeastCover};
 ghost use Rattle.scx_abs.specs.States.{CoversState, IsProper};
-ghost use Rattle.scx_verify.specs.Indices.{IsKept};
+ghost use Rattle.scx_verify.specs.Indices.{IsPlacedAt};
 ghost use Rattle.scx_verify.specs.Pass.{IsAdded, states_of};
 
 use scx_abs::{Change, Known};
@@ -64,7 +64,7 @@ impl Ahead {
     ) -> Result<(), AllocError>
         requires { slot < length self.old }
         ensures sent { OnOk result
-            (IsAdded (states_of self.old slot) (Some (changed state.now change.now))
+            (IsAdded (states_of self.old slot) (Some (after_change state.now change.now))
             (states_of self.new slot)) }
         ensures apart { OnOk result
             ((t : ℕ) → (t ≡ slot → ⊥) → states_of self.new t ≡ states_of self.old t) }
@@ -163,7 +163,7 @@ fn keep(
 ) -> Result<u16, AllocError>
     requires { All (λ i. i < length states.old.items) free.old.items }
     ensures kept { IfOk result (λ index.
-        IsKept states.old.items free.old.items index (changed state.now change.now)
+        IsPlacedAt states.old.items free.old.items index (after_change state.now change.now)
         states.new.items free.new.items) }
     ensures states { OnErr result (states.new.items ≡ states.old.items) }
     ensures free { OnErr result (free.new.items ≡ free.old.items) }
@@ -186,7 +186,7 @@ fn give(
 ) -> Result<u16, AllocError>
     requires { All (λ i. i < length states.old.items) free.old.items }
     ensures kept { IfOk result (λ index.
-        IsKept states.old.items free.old.items index state.old
+        IsPlacedAt states.old.items free.old.items index state.old
         states.new.items free.new.items) }
     ensures states { OnErr result (states.new.items ≡ states.old.items) }
     ensures free { OnErr result (free.new.items ≡ free.old.items) }
@@ -202,7 +202,7 @@ fn give(
 
 /// Becomes a state, changed.
 fn write_over(kept: &mut Known, state: &Known, change: &Change)
-    ensures { kept.new ≡ changed state.now change.now }
+    ensures { kept.new ≡ after_change state.now change.now }
 {
     kept.copy_from(state);
     kept.change(change);
@@ -217,7 +217,7 @@ fn add(
 ) -> Result<u16, AllocError>
     ensures index { IfOk result (λ index. index ≡ length states.old.items) }
     ensures added { OnOk result
-        (states.new.items ≡ states.old.items ++ changed state.now change.now ∷ []) }
+        (states.new.items ≡ states.old.items ++ after_change state.now change.now ∷ []) }
     ensures left { OnErr result (states.new.items ≡ states.old.items) }
 {
     let Ok(index) = u16::try_from(states.len()) else {

@@ -5,7 +5,7 @@ use Rattle.scx_world.specs.declared.notes.Note.{Note}
 use Rattle.scx_world.specs.declared.notes.What.{What}
 use Rattle.scx_machine.specs.declared.events.Event.{Event}
 use Rattle.scx_machine.specs.Notes.{Takes}
-use Rattle.scx_sched.specs.Sim.{SimState, stepped, notes_of}
+use Rattle.scx_sched.specs.Sim.{SimState, after_event, notes_of}
 use Rattle.scx_driver.specs.Runs.{stepped_all}
 use Rattle.scx_views.specs.Watching.{is_at_end, IsShown, AreWatched, Watches, noted_all, kept_of_all, CountsEvent, CountsNote}
 
@@ -31,10 +31,10 @@ pub all_kept : {V K : Type 0} (has_failed : V → Bool) (kept : V → K) (expect
     → (has_failed v ≡ false) × (kept w ≡ kept_of_all expected noted s es (kept v))
 all_kept has_failed kept expected noted [] s v w same well = (sym (ap has_failed same) ∙ well, ap kept same)
 all_kept {V} {K} has_failed kept expected noted (e ∷ es) s v w (u, (x, (stays, at_event), shown), rest) well =
-    let behind = all_kept has_failed kept expected noted es (stepped s e) u w rest well in
+    let behind = all_kept has_failed kept expected noted es (after_event s e) u w rest well in
     let notes = all_noted has_failed kept noted (is_at_end e) (notes_of s e) x u shown behind.0 in (
       sym stays ∙ notes.0,
-      behind.1 ∙ ap (λ k. kept_of_all expected noted (stepped s e) es k) (notes.1 ∙ ap (λ k. noted_all noted (notes_of s e) k) at_event),
+      behind.1 ∙ ap (λ k. kept_of_all expected noted (after_event s e) es k) (notes.1 ∙ ap (λ k. noted_all noted (notes_of s e) k) at_event),
     )
 
 append_nil : {A : Type 0} (xs : List A) → xs ++ [] ≡ xs

@@ -4,7 +4,7 @@ use Rattle.scx_world.specs.declared.notes.Note.{Note}
 use Rattle.scx_world.specs.declared.notes.What.{What}
 use Rattle.scx_machine.specs.declared.events.Event.{Event}
 use Rattle.scx_machine.specs.Notes.{Takes}
-use Rattle.scx_sched.specs.Sim.{SimState, stepped}
+use Rattle.scx_sched.specs.Sim.{SimState, after_event}
 use Rattle.scx_driver.specs.Runs.{stepped_all}
 use Rattle.scx_driver.proofs.Accepting.{stepped_behind}
 use Rattle.scx_views.specs.Watching.{IsShown, IsWatched, AreWatched, Watches, HandsOn}
@@ -26,7 +26,7 @@ watched_one_more {V} expects has_failed shows [] e s v u w same one =
     let P : V → Type 0 = λ x. IsWatched expects has_failed shows s e x w in
     (w, subst P same one, refl)
 watched_one_more expects has_failed shows (f ∷ es) e s v u w (x, first, rest) one =
-    (x, first, watched_one_more expects has_failed shows es e (stepped s f) x u w rest one)
+    (x, first, watched_one_more expects has_failed shows es e (after_event s f) x u w rest one)
 
 -- how far a run has come: what was done, what is left, the machine and the view
 pub record HasCome {V : Type 0} (expects : V → SimState → Event → V → Type 0) (has_failed : V → Bool) (shows : V → ℕ → ℕ → What → V → Type 0) (events : List Event) (s : SimState) (v : V) (rest : List Event) (t : SimState) (w : V) : Type 0 where
@@ -37,14 +37,14 @@ pub record HasCome {V : Type 0} (expects : V → SimState → Event → V → Ty
 
 -- one event more
 pub come_further : {V : Type 0} (expects : V → SimState → Event → V → Type 0) (has_failed : V → Bool) (shows : V → ℕ → ℕ → What → V → Type 0) (events rest : List Event) (later : SimState → List Event) (s t u : SimState) (v w x : V) (e : Event)
-    → HasCome expects has_failed shows events s v rest t w → rest ≡ e ∷ later (stepped t e) → u ≡ stepped t e → IsWatched expects has_failed shows t e w x → HasCome expects has_failed shows events s v (later u) u x
+    → HasCome expects has_failed shows events s v rest t w → rest ≡ e ∷ later (after_event t e) → u ≡ after_event t e → IsWatched expects has_failed shows t e w x → HasCome expects has_failed shows events s v (later u) u x
 come_further expects has_failed shows events rest later s t u v w x e come next state shown =
     let done = come.done ++ e ∷ [] in
     let P : SimState → Type 0 = λ y. IsWatched expects has_failed shows y e w x in
     record {
       done = done;
       whole = come.whole ∙ ap (λ y. come.done ++ y) (next ∙ ap (λ y. e ∷ later y) (sym state)) ∙ sym (append_assoc come.done (e ∷ []) (later u));
-      state = state ∙ ap (λ y. stepped y e) come.state ∙ sym (stepped_behind come.done (e ∷ []) s);
+      state = state ∙ ap (λ y. after_event y e) come.state ∙ sym (stepped_behind come.done (e ∷ []) s);
       shown = watched_one_more expects has_failed shows come.done e s v w x come.shown (subst P come.state shown);
     }
 

@@ -6,7 +6,7 @@ use Rattle.scx_output.proofs.Growth.{grows_twice}
 use Rattle.scx_world.specs.declared.notes.Note.{Note}
 use Rattle.scx_machine.specs.declared.events.Event.{Event}
 use Rattle.scx_machine.specs.Notes.{Takes}
-use Rattle.scx_sched.specs.Sim.{SimState, stepped, notes_of}
+use Rattle.scx_sched.specs.Sim.{SimState, after_event, notes_of}
 use Rattle.scx_trace.specs.Writing.{Seen}
 use Rattle.scx_views.specs.Watching.{is_at_end, IsShown, AreWatched, Watches}
 use Rattle.scx_views.specs.Sketching.{Grows, IsWholeOr, IsWholeUnless, WritesPage}
@@ -79,7 +79,7 @@ writes_watched output seen page [] m s t same = writes_none output seen s t same
 writes_watched output seen page (e ∷ es) m s t (u, (v, expected, shown), rest) =
     writes_twice output seen s u t
     (writes_twice output seen s v u (writes_none output seen s v expected) (writes_all_shown output seen page (is_at_end e) (notes_of m e) v u shown))
-    (writes_watched output seen page es (stepped m e) u t rest)
+    (writes_watched output seen page es (after_event m e) u t rest)
 
 -- ---- a whole run
 

@@ -1,6 +1,6 @@
 -- What tasks do as the notes of a run come, and the pauses that end: when a task had work to do and didn't run.
 use Rattle.std.specs.Prelude.{ℕ, ◌==◌, if◌then◌else◌, Bool, true, false, List, Option, Some, None, slice_index_or, slice_set}
-use Rattle.scx_world.specs.Ids.{parked}
+use Rattle.scx_world.specs.Ids.{parked_queue}
 use Rattle.scx_world.specs.declared.notes.What.{What}
 use Rattle.scx_world.specs.declared.notes.What.TheVariants.{Wake, Sleep, Insert, Move, Run, Stop, Idle, Weight, Stall, Fault}
 use Rattle.scx_views.specs.declared.pauses.Doing.{Doing}
@@ -49,20 +49,20 @@ of_task (Stall t) = None
 of_task (Fault f) = None
 
 -- one that runs waits from now on; one that sleeps, which is noted first, goes on sleeping
-abbrev pub stopped : ℕ → Doing → Doing
-stopped now d = if runs d then Waits now else d
+abbrev pub doing_after_stop : ℕ → Doing → Doing
+doing_after_stop now d = if runs d then Waits now else d
 
 -- in the queue of parked tasks it is parked, and one that was parked waits from now on; in others it waits as before
-abbrev pub inserted : ℕ → ℕ → Doing → Doing
-inserted now queue d = if queue == parked then IsParked now else if is_parked d then Waits now else d
+abbrev pub doing_after_insert : ℕ → ℕ → Doing → Doing
+doing_after_insert now queue d = if queue == parked_queue then IsParked now else if is_parked d then Waits now else d
 
 -- what the task does then
 abbrev pub does : ℕ → What → Doing → Doing
 does now (Wake t) d = Waits now
 does now (Sleep t) d = Sleeps
 does now (Run t c) d = Runs
-does now (Stop t c) d = stopped now d
-does now (Insert t queue) d = inserted now queue d
+does now (Stop t c) d = doing_after_stop now d
+does now (Insert t queue) d = doing_after_insert now queue d
 does now (Move t c) d = d
 does now (Idle c) d = d
 does now (Weight g x) d = d
@@ -78,20 +78,20 @@ pause_of now t (IsParked since) = Some (record { task = t; kind = kind.Parked; s
 
 -- the pause that ends as a task comes into a queue: a wait where it is parked, parking always
 abbrev pub ended_by_insert : ℕ → ℕ → ℕ → Doing → Option Pause
-ended_by_insert now t queue d = if queue == parked then pause_of now t d else if is_parked d then pause_of now t d else None
+ended_by_insert now t queue d = if queue == parked_queue then pause_of now t d else if is_parked d then pause_of now t d else None
 
 -- the pause of the task that ends then
-abbrev pub ended : ℕ → ℕ → What → Doing → Option Pause
-ended now t (Wake u) d = pause_of now t d
-ended now t (Sleep u) d = pause_of now t d
-ended now t (Run u c) d = pause_of now t d
-ended now t (Stop u c) d = None
-ended now t (Insert u queue) d = ended_by_insert now t queue d
-ended now t (Move u c) d = None
-ended now t (Idle c) d = None
-ended now t (Weight g x) d = None
-ended now t (Stall u) d = None
-ended now t (Fault f) d = None
+abbrev pub ending_pause : ℕ → ℕ → What → Doing → Option Pause
+ending_pause now t (Wake u) d = pause_of now t d
+ending_pause now t (Sleep u) d = pause_of now t d
+ending_pause now t (Run u c) d = pause_of now t d
+ending_pause now t (Stop u c) d = None
+ending_pause now t (Insert u queue) d = ended_by_insert now t queue d
+ending_pause now t (Move u c) d = None
+ending_pause now t (Idle c) d = None
+ending_pause now t (Weight g x) d = None
+ending_pause now t (Stall u) d = None
+ending_pause now t (Fault f) d = None
 
 -- ---- all tasks
 
@@ -107,12 +107,12 @@ doing_after now what ds = doing_with (of_task what) now what ds
 -- the pause that is ended by a note of that task, or of none
 abbrev pub ended_with : Option ℕ → ℕ → What → List Doing → Option Pause
 ended_with None now what ds = None
-ended_with (Some t) now what ds = ended now t what (doing_at ds t)
+ended_with (Some t) now what ds = ending_pause now t what (doing_at ds t)
 
 -- the pause that a note ends
 abbrev pub ended_by : ℕ → What → List Doing → Option Pause
 ended_by now what ds = ended_with (of_task what) now what ds
 
 -- the pause that goes on
-abbrev pub unfinished : ℕ → List Doing → ℕ → Option Pause
-unfinished now ds t = pause_of now t (doing_at ds t)
+abbrev pub open_pause : ℕ → List Doing → ℕ → Option Pause
+open_pause now ds t = pause_of now t (doing_at ds t)

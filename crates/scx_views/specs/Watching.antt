@@ -5,7 +5,7 @@ use Rattle.scx_world.specs.declared.notes.What.{What}
 use Rattle.scx_machine.specs.declared.events.Event.{Event}
 use Rattle.scx_machine.specs.declared.events.Event.TheVariants.{Wake, Sleep, Tick, Clock, SetWeight}
 use Rattle.scx_machine.specs.Notes.{Takes}
-use Rattle.scx_sched.specs.Sim.{SimState, stepped, notes_of}
+use Rattle.scx_sched.specs.Sim.{SimState, after_event, notes_of}
 use Rattle.scx_driver.specs.Runs.{stepped_all}
 
 -- whether an event comes as its millisecond ends
@@ -35,7 +35,7 @@ IsWatched {V} expects has_failed shows s e v w =
 abbrev pub AreWatched : {V : Type 0} → (V → SimState → Event → V → Type 0) → (V → Bool) → (V → ℕ → ℕ → What → V → Type 0) → SimState → List Event → V → V → Type 0
 AreWatched expects has_failed shows s [] v w = w ≡ v
 AreWatched {V} expects has_failed shows s (e ∷ es) v w =
-    (u : V) × IsWatched expects has_failed shows s e v u × AreWatched expects has_failed shows (stepped s e) es u w
+    (u : V) × IsWatched expects has_failed shows s e v u × AreWatched expects has_failed shows (after_event s e) es u w
 
 -- the machine takes these events, and the view is shown them, up to the end or until the view has failed
 pub record Watches {V : Type 0} (expects : V → SimState → Event → V → Type 0) (has_failed : V → Bool) (shows : V → ℕ → ℕ → What → V → Type 0) (events : List Event) (s : SimState) (v : V) (t : SimState) (w : V) : Type 0 where
@@ -56,7 +56,7 @@ noted_all noted (n ∷ ns) k = noted_all noted ns (noted n.clock n.what k)
 -- events, one after another: each changes what is kept before the machine takes it, and then its notes do
 abbrev pub kept_of_all : {K : Type 0} → (SimState → Event → K → K) → (ℕ → What → K → K) → SimState → List Event → K → K
 kept_of_all expected noted s [] k = k
-kept_of_all expected noted s (e ∷ es) k = kept_of_all expected noted (stepped s e) es (noted_all noted (notes_of s e) (expected s e k))
+kept_of_all expected noted s (e ∷ es) k = kept_of_all expected noted (after_event s e) es (noted_all noted (notes_of s e) (expected s e k))
 
 -- a view that counts changes what it keeps at an event, and fails at none
 abbrev pub CountsEvent : {V K : Type 0} → (V → Bool) → (V → K) → (SimState → Event → K → K) → V → SimState → Event → V → Type 0

@@ -1,6 +1,6 @@
 ghost use Rattle.std.specs.Prelude.{◌≡◌, ◌-◌, replicate, slice_set, None, IfOk};
 ghost use Rattle.scx_views.specs.declared.pauses.Doing.TheVariants.{Sleeps};
-ghost use Rattle.scx_views.specs.Pauses.{sleeps, runs, is_parked, doing_at, stopped, inserted, ended_by_insert, doing_after, unfinished, ended_by};
+ghost use Rattle.scx_views.specs.Pauses.{sleeps, runs, is_parked, doing_at, doing_after_stop, doing_after_insert, ended_by_insert, doing_after, open_pause, ended_by};
 
 use scx_sched::What;
 use scx_world::PARKED;
@@ -124,7 +124,7 @@ impl Pauses {
 
     /// The pause of that task, if it waits or is parked now.
     pub fn unfinished(&self, task: u16, now: u64) -> Option<Pause>
-        ensures { result ≡ unfinished now self.now task }
+        ensures { result ≡ open_pause now self.now task }
     {
         match self.doing_at(task) {
             Doing::Waits(since) => Some(Pause {
@@ -161,7 +161,7 @@ impl Pauses {
 
     fn change(&mut self, task: u16, doing: Doing, now: u64) -> Option<Pause>
         ensures doing { self.new ≡ slice_set self.old task doing }
-        ensures ended { result ≡ unfinished now self.old task }
+        ensures ended { result ≡ open_pause now self.old task }
     {
         let pause = self.unfinished(task, now);
         if let Some(place) = self.doing.get_mut(task as usize) {
@@ -175,7 +175,7 @@ impl Pauses {
     #[tactic(auto, using(crate::proofs::Pausing::set_as_it_is))]
     fn insert(&mut self, task: u16, queue: u64, now: u64) -> Option<Pause>
         ensures doing { self.new
-            ≡ slice_set self.old task (inserted now queue (doing_at self.old task)) }
+            ≡ slice_set self.old task (doing_after_insert now queue (doing_at self.old task)) }
         ensures ended { result ≡ ended_by_insert now task queue (doing_at self.old task) }
     {
         if queue == PARKED {
@@ -190,7 +190,7 @@ impl Pauses {
     /// A task that stops running waits from now on, unless it sleeps, which is noted first.
     #[tactic(auto, using(crate::proofs::Pausing::set_as_it_is))]
     fn stop(&mut self, task: u16, now: u64)
-        ensures { self.new ≡ slice_set self.old task (stopped now (doing_at self.old task)) }
+        ensures { self.new ≡ slice_set self.old task (doing_after_stop now (doing_at self.old task)) }
     {
         if self.doing_at(task).runs() {
             self.change(task, Doing::Waits(now), now);

@@ -1,7 +1,7 @@
 ghost use Rattle.std.specs.Prelude.{◌≡◌, ℕ, ⊤, Bool};
 ghost use Rattle.scx_world.specs.declared.notes.What.{What};
 ghost use Rattle.scx_machine.specs.declared.events.Event.{Event};
-ghost use Rattle.scx_sched.specs.Sim.{SimState, stepped};
+ghost use Rattle.scx_sched.specs.Sim.{SimState, after_event};
 ghost use Rattle.scx_views.specs.Watching.{is_at_end, IsWatched, Watches, HandsOn};
 
 use scx_sched::{Event, Note, Sim, Sink, What};
@@ -81,7 +81,7 @@ pub fn watch<E: Events, V: View>(sim: &mut Sim, events: &mut E, view: &mut V)
 
 /// Gives one event to the machine, and shows it and its notes to the view.
 fn show_event<V: View>(sim: &mut Sim, event: Event, view: &mut V)
-    ensures state { sim.new ≡ stepped sim.old event }
+    ensures state { sim.new ≡ after_event sim.old event }
     ensures shown { IsWatched V.expects V.has_failed V.shows sim.old event view.old view.new }
 {
     view.expect(sim, event);

@@ -6,7 +6,7 @@ use Rattle.std.proofs.lemmas.List.FromFn.{get_or-map-range_with_len, length-map-
 use Rattle.scx_weights.specs.declared.group.Group.{Group}
 use Rattle.scx_weights.specs.Hierarchy.{Hierarchy, parent_of, quota_at, period_at, upward, lies_in, home_of}
 use Rattle.scx_weights.specs.Limits.{is_used_up, for_each_group, usage_of, with_use, with_turn}
-use Rattle.scx_weights.specs.RunningSums.{IsKept}
+use Rattle.scx_weights.specs.RunningSums.{HasRunningSums}
 use Rattle.scx_weights.proofs.Paths.{among, touch, upward-none, upward_step, count_more}
 
 -- a list that holds those numbers is that list
@@ -19,8 +19,8 @@ numbers_are t f us same each =
     each i within ∙ sym (get_or-map-range_with_len f 0 (length t.groups) i i 0 within (omega arith)))
 
 -- what is kept doesn't depend on what was used
-pub kept_used : (t : Hierarchy) (counts weights us : List ℕ) → IsKept t counts weights → length us ≡ length t.groups
-    → IsKept (record t { usages = us }) counts weights
+pub kept_used : (t : Hierarchy) (counts weights us : List ℕ) → HasRunningSums t counts weights → length us ≡ length t.groups
+    → HasRunningSums (record t { usages = us }) counts weights
 kept_used t counts weights us kept same = record {
   forest = kept.forest;
   some_groups = kept.some_groups;

@@ -24,14 +24,14 @@ pub struct Tree {
 
 impl Model for Tree {
     ghost use Rattle.scx_weights.specs.Hierarchy.{Hierarchy};
-    ghost use Rattle.scx_weights.specs.RunningSums.{IsKept, KnowsLimits};
+    ghost use Rattle.scx_weights.specs.RunningSums.{HasRunningSums, KnowsLimits};
 
     ghost Value = { Hierarchy };
 
     ghost view = { λ t. record { groups = t.groups.items; homes = t.homes.items; active = t.active.items; usages = t.usages.used.items } };
 
     ghost invariant = { λ t.
-        IsKept
+        HasRunningSums
         (record { groups = t.groups.items; homes = t.homes.items; active = t.active.items; usages = t.usages.used.items })
         t.sums.tasks.items t.sums.weights.items × KnowsLimits t.groups.items t.usages.beat t.usages.limited };
 }

@@ -8,7 +8,7 @@ use Rattle.scx_dsq.specs.declared.entries.Rank.TheVariants.{Fifo, Vtime}
 use Rattle.scx_dsq.specs.Entries.{is_before}
 use Rattle.scx_dsq.specs.Queues.{QueueState, entry_of, queue_of, is_first, front_of, is_right_behind, next_by, right_behind, behind_of}
 use Rattle.scx_dsq.proofs.Orders.{before-asym}
-use Rattle.scx_world.specs.Ids.{parked}
+use Rattle.scx_world.specs.Ids.{parked_queue}
 
 -- the front of a queue stands there
 pub front_in : (s : QueueState) (q t : ℕ) → front_of s q ≡ Some t → queue_of s t ≡ Some q
@@ -59,14 +59,14 @@ behind_in s q t u here e = go (entry_of s t) refl here e
 -- whoever is looked at next is parked
 abbrev pub AtParked : QueueState → Option ℕ → Type 0
 AtParked s None = Unit {0}
-AtParked s (Some t) = queue_of s t ≡ Some parked
+AtParked s (Some t) = queue_of s t ≡ Some parked_queue
 
 -- the front of the queue of parked tasks, if there is one, is parked
-pub at_front : (s : QueueState) (o : Option ℕ) → front_of s parked ≡ o → AtParked s o
+pub at_front : (s : QueueState) (o : Option ℕ) → front_of s parked_queue ≡ o → AtParked s o
 at_front s None e = tt
-at_front s (Some t) e = front_in s parked t e
+at_front s (Some t) e = front_in s parked_queue t e
 
 -- whoever is right behind a parked task, if anyone, is parked
-pub at_behind : (s : QueueState) (t : ℕ) (o : Option ℕ) → queue_of s t ≡ Some parked → behind_of s t ≡ o → AtParked s o
+pub at_behind : (s : QueueState) (t : ℕ) (o : Option ℕ) → queue_of s t ≡ Some parked_queue → behind_of s t ≡ o → AtParked s o
 at_behind s t None here e = tt
-at_behind s t (Some u) here e = (behind_in s parked t u here e).there
+at_behind s t (Some u) here e = (behind_in s parked_queue t u here e).there

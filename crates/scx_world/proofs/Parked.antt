@@ -6,11 +6,11 @@ use Rattle.scx_dsq.specs.declared.entries.Entry.{Entry}
 use Rattle.scx_dsq.specs.declared.entries.Rank.{Rank}
 use Rattle.scx_dsq.specs.declared.entries.Rank.TheVariants.{Fifo}
 use Rattle.scx_dsq.specs.Queues.{QueueState, task_count, entry_of, queue_of, front_of}
-use Rattle.scx_dsq.specs.Calls.{create_refusal, with_queue, created, push_refusal, next_entry, with_task as with_place, pushed, without_task, removed, without, popped}
+use Rattle.scx_dsq.specs.Calls.{create_refusal, with_queue, after_create, push_refusal, next_entry, with_task as with_place, after_push, without_task, after_remove, without, after_pop}
 use Rattle.scx_weights.specs.Hierarchy.{Hierarchy, with_task}
 use Rattle.scx_weights.specs.Limits.{is_throttled_group, is_throttled, begins_period, with_use, with_turn}
 use Rattle.scx_limits.proofs.Throttled.{there, uses_keep_throttled, clocks_keep_throttled}
-use Rattle.scx_world.specs.Ids.{parked}
+use Rattle.scx_world.specs.Ids.{parked_queue}
 use Rattle.scx_world.specs.World as world
 use Rattle.scx_world.specs.World.{WorldState}
 use Rattle.scx_world.specs.Kept.{AreThrottled, StaysParked, NobodyIsFree}
@@ -30,26 +30,26 @@ same_some : (a b : ℕ) → Some a ≡ Some b → a ≡ b
 same_some a b e = cc
 
 -- who is parked after a push to another queue was before
-parked_pushed : (s : QueueState) (q t u : ℕ) (r : Rank) → (q ≡ parked → ⊥) → queue_of (pushed s q t r) u ≡ Some parked → queue_of s u ≡ Some parked
+parked_pushed : (s : QueueState) (q t u : ℕ) (r : Rank) → (q ≡ parked_queue → ⊥) → queue_of (after_push s q t r) u ≡ Some parked_queue → queue_of s u ≡ Some parked_queue
 parked_pushed s q t u r apart e = go (is_none (push_refusal s q t r)) e
   where
     new : Option Entry
     new = Some (next_entry s q r)
 
-    either : (get_or (set s.entries t new) u None ≡ new) ⊎ (get_or (set s.entries t new) u None ≡ get_or s.entries u None) → queue_of (with_place s q t r) u ≡ Some parked → queue_of s u ≡ Some parked
-    either (inl x) y = absurd (apart (same_some q parked (sym (ap (λ (o : Option Entry). option_map (λ p. p.queue) o) x) ∙ y)))
+    either : (get_or (set s.entries t new) u None ≡ new) ⊎ (get_or (set s.entries t new) u None ≡ get_or s.entries u None) → queue_of (with_place s q t r) u ≡ Some parked_queue → queue_of s u ≡ Some parked_queue
+    either (inl x) y = absurd (apart (same_some q parked_queue (sym (ap (λ (o : Option Entry). option_map (λ p. p.queue) o) x) ∙ y)))
     either (inr x) y = sym (ap (λ (o : Option Entry). option_map (λ p. p.queue) o) x) ∙ y
 
-    go : (b : Bool) → queue_of (cond b (with_place s q t r) s) u ≡ Some parked → queue_of s u ≡ Some parked
+    go : (b : Bool) → queue_of (cond b (with_place s q t r) s) u ≡ Some parked_queue → queue_of s u ≡ Some parked_queue
     go true y = either (set_either s.entries t u new) y
     go false y = y
 
 -- after a task has left
-parked_without : (s : QueueState) (t u : ℕ) → queue_of (without_task s t) u ≡ Some parked → queue_of s u ≡ Some parked
+parked_without : (s : QueueState) (t u : ℕ) → queue_of (without_task s t) u ≡ Some parked_queue → queue_of s u ≡ Some parked_queue
 parked_without s t u e = go (set_either s.entries t u None) e
   where
-    go : (get_or (set s.entries t None) u None ≡ None) ⊎ (get_or (set s.entries t None) u None ≡ get_or s.entries u None) → queue_of (without_task s t) u ≡ Some parked → queue_of s u ≡ Some parked
-    go (inl x) y = let bad : None ≡ Some parked = sym (ap (λ (o : Option Entry). option_map (λ p. p.queue) o) x) ∙ y in absurd (cc)
+    go : (get_or (set s.entries t None) u None ≡ None) ⊎ (get_or (set s.entries t None) u None ≡ get_or s.entries u None) → queue_of (without_task s t) u ≡ Some parked_queue → queue_of s u ≡ Some parked_queue
+    go (inl x) y = let bad : None ≡ Some parked_queue = sym (ap (λ (o : Option Entry). option_map (λ p. p.queue) o) x) ∙ y in absurd (cc)
     go (inr x) y = sym (ap (λ (o : Option Entry). option_map (λ p. p.queue) o) x) ∙ y
 
 -- ---- that who is parked is throttled, if it is known
@@ -58,42 +58,42 @@ abbrev IsKnown : Bool → QueueState → Hierarchy → Type 0
 IsKnown known queues tree = known ≡ true → AreThrottled queues tree
 
 -- if it is known that the parked are throttled, it stays so after a push to another queue
-pub known_pushed : (known : Bool) (s : QueueState) (tree : Hierarchy) (q t : ℕ) (r : Rank) → (q ≡ parked → ⊥) → (known ≡ true → AreThrottled s tree) → known ≡ true → AreThrottled (pushed s q t r) tree
+pub known_pushed : (known : Bool) (s : QueueState) (tree : Hierarchy) (q t : ℕ) (r : Rank) → (q ≡ parked_queue → ⊥) → (known ≡ true → AreThrottled s tree) → known ≡ true → AreThrottled (after_push s q t r) tree
 known_pushed known s tree q t r apart h k u e = h k u (parked_pushed s q t u r apart e)
 
 -- a task that is parked is throttled
-pub known_parked : (known : Bool) (s : QueueState) (tree : Hierarchy) (t : ℕ) → is_throttled tree t ≡ true → (known ≡ true → AreThrottled s tree) → known ≡ true → AreThrottled (pushed s parked t Fifo) tree
+pub known_parked : (known : Bool) (s : QueueState) (tree : Hierarchy) (t : ℕ) → is_throttled tree t ≡ true → (known ≡ true → AreThrottled s tree) → known ≡ true → AreThrottled (after_push s parked_queue t Fifo) tree
 known_parked known s tree t now h k u e = go (cases_eq u t)
   where
-    other : (b : Bool) → (u ≡ t → ⊥) → queue_of (cond b (with_place s parked t Fifo) s) u ≡ Some parked → queue_of s u ≡ Some parked
-    other true d y = sym (ap (λ (o : Option Entry). option_map (λ p. p.queue) o) (get_or-set_other s.entries t u (Some (next_entry s parked Fifo)) None d)) ∙ y
+    other : (b : Bool) → (u ≡ t → ⊥) → queue_of (cond b (with_place s parked_queue t Fifo) s) u ≡ Some parked_queue → queue_of s u ≡ Some parked_queue
+    other true d y = sym (ap (λ (o : Option Entry). option_map (λ p. p.queue) o) (get_or-set_other s.entries t u (Some (next_entry s parked_queue Fifo)) None d)) ∙ y
     other false d y = y
 
     go : (u ≡ t) ⊎ (u ≡ t → ⊥) → is_throttled tree u ≡ true
     go (inl x) = ap (λ j. is_throttled tree j) x ∙ now
-    go (inr d) = h k u (other (is_none (push_refusal s parked t Fifo)) d e)
+    go (inr d) = h k u (other (is_none (push_refusal s parked_queue t Fifo)) d e)
 
 -- if it is known that the parked are throttled, it stays so after a task has left its queue
-pub known_removed : (known : Bool) (s : QueueState) (tree : Hierarchy) (t : ℕ) → (known ≡ true → AreThrottled s tree) → known ≡ true → AreThrottled (removed s t) tree
+pub known_removed : (known : Bool) (s : QueueState) (tree : Hierarchy) (t : ℕ) → (known ≡ true → AreThrottled s tree) → known ≡ true → AreThrottled (after_remove s t) tree
 known_removed known s tree t h k u e = h k u (go (is_some (entry_of s t)) e)
   where
-    go : (b : Bool) → queue_of (cond b (without_task s t) s) u ≡ Some parked → queue_of s u ≡ Some parked
+    go : (b : Bool) → queue_of (cond b (without_task s t) s) u ≡ Some parked_queue → queue_of s u ≡ Some parked_queue
     go true y = parked_without s t u y
     go false y = y
 
 -- if it is known that the parked are throttled, it stays so after a front has left its queue
-pub known_popped : (known : Bool) (s : QueueState) (tree : Hierarchy) (q : ℕ) → (known ≡ true → AreThrottled s tree) → known ≡ true → AreThrottled (popped s q) tree
+pub known_popped : (known : Bool) (s : QueueState) (tree : Hierarchy) (q : ℕ) → (known ≡ true → AreThrottled s tree) → known ≡ true → AreThrottled (after_pop s q) tree
 known_popped known s tree q h k u e = h k u (go (front_of s q) e)
   where
-    go : (o : Option ℕ) → queue_of (without s o) u ≡ Some parked → queue_of s u ≡ Some parked
+    go : (o : Option ℕ) → queue_of (without s o) u ≡ Some parked_queue → queue_of s u ≡ Some parked_queue
     go None y = y
     go (Some t) y = parked_without s t u y
 
 -- if it is known that the parked are throttled, it stays so after a queue was created
-pub known_created : (known : Bool) (s : QueueState) (tree : Hierarchy) (q : ℕ) → (known ≡ true → AreThrottled s tree) → known ≡ true → AreThrottled (created s q) tree
+pub known_created : (known : Bool) (s : QueueState) (tree : Hierarchy) (q : ℕ) → (known ≡ true → AreThrottled s tree) → known ≡ true → AreThrottled (after_create s q) tree
 known_created known s tree q h k u e = h k u (go (is_none (create_refusal s q)) e)
   where
-    go : (b : Bool) → queue_of (cond b (with_queue s q) s) u ≡ Some parked → queue_of s u ≡ Some parked
+    go : (b : Bool) → queue_of (cond b (with_queue s q) s) u ≡ Some parked_queue → queue_of s u ≡ Some parked_queue
     go true y = y
     go false y = y
 
@@ -116,8 +116,8 @@ known_turned known s tree clock none h k u e = clocks_keep_throttled tree u cloc
 -- ---- what is known of each task
 
 -- who is no task isn't parked
-none_past : (s : QueueState) (t : ℕ) → task_count s ≤ t → queue_of s t ≡ Some parked → ⊥
-none_past s t past e = let none : None ≡ Some parked = sym (ap (λ (o : Option Entry). option_map (λ p. p.queue) o) (get_or_past s.entries t None past)) ∙ e in absurd (cc)
+none_past : (s : QueueState) (t : ℕ) → task_count s ≤ t → queue_of s t ≡ Some parked_queue → ⊥
+none_past s t past e = let none : None ≡ Some parked_queue = sym (ap (λ (o : Option Entry). option_map (λ p. p.queue) o) (get_or_past s.entries t None past)) ∙ e in absurd (cc)
 
 -- where all who are parked are throttled, nobody who is parked may run
 pub none_free : (w : WorldState) → task_count w.queues ≡ length w.tasks → AreThrottled w.queues w.tree → NobodyIsFree w

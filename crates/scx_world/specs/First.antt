@@ -1,20 +1,20 @@
 -- The first world: nobody runs or waits, and the machine's own queues are there.
 use Rattle.std.specs.Prelude.{ℕ, zero, suc, ◌+◌, [], length, replicate, None}
 use Rattle.scx_dsq.specs.Queues.{QueueState}
-use Rattle.scx_dsq.specs.Calls.{created, empty}
+use Rattle.scx_dsq.specs.Calls.{after_create, empty}
 use Rattle.scx_weights.specs.Hierarchy.{Hierarchy}
 use Rattle.scx_tasks.specs.Tasks.{new_task}
-use Rattle.scx_world.specs.Ids.{global, held, builtin, parked, local_on}
+use Rattle.scx_world.specs.Ids.{global, held_queue, builtin_queue, parked_queue, local_on}
 use Rattle.scx_world.specs.World.{WorldState, no_call}
 
 -- a local queue for each processor
 abbrev pub with_locals : ℕ → QueueState → QueueState
 with_locals zero s = s
-with_locals (suc n) s = created (with_locals n s) (local_on n)
+with_locals (suc n) s = after_create (with_locals n s) (local_on n)
 
 -- there is room for 16 queues of the policy
 abbrev pub own_queues : ℕ → ℕ → QueueState
-own_queues cpus tasks = created (created (created (created (empty (20 + cpus) tasks) global) held) builtin) parked
+own_queues cpus tasks = after_create (after_create (after_create (after_create (empty (20 + cpus) tasks) global) held_queue) builtin_queue) parked_queue
 
 -- the queues at the start, for so many processors and tasks: the machine's own alone, all empty
 abbrev pub first_queues : ℕ → ℕ → QueueState

@@ -3,7 +3,7 @@
 use Rattle.std.specs.Prelude.{ℕ, Bool, true, false, ◌&&◌, ◌==◌, nat_lt, nat_le, ◌+◌, ◌-◌, ◌*◌, ◌^◌, min, List, length, if◌then◌else◌, Option, Some, None, is_none, slice_index_or}
 use Rattle.std.specs.List.{list_any}
 use Rattle.scx_dsq.specs.Queues.{exists, entry_of, is_in, front_of, len_of}
-use Rattle.scx_dsq.specs.Calls.{create_refusal, created, clashes, pushed, popped}
+use Rattle.scx_dsq.specs.Calls.{create_refusal, after_create, clashes, after_push, after_pop}
 use Rattle.scx_dsq.specs.Laws.{one_if}
 use Rattle.scx_dsq.specs.declared.entries.Rank.{Rank}
 use Rattle.scx_dsq.specs.declared.entries.Rank.TheVariants.{Fifo, Vtime}
@@ -26,9 +26,9 @@ use Rattle.scx_world.specs.declared.faults.Fault.{Fault}
 use Rattle.scx_world.specs.declared.faults.Fault.TheVariants.{NoSuchQueue, CannotInsert, NoSuchCpu, UnknownFlag, CannotCreate, BuiltinVtime, Mixed}
 use Rattle.scx_world.specs.declared.call.Insert.{Insert}
 use Rattle.scx_world.specs.declared.notes.What.TheVariants as notes
-use Rattle.scx_world.specs.Ids.{policy_end, global, local, held, local_on}
-use Rattle.scx_world.specs.World.{WorldState, with_queues, with_call, task_at, with_task, is_idle, default_choice, noted}
-use Rattle.scx_world.specs.Tasks.{with_slice, with_vtime, gone, entered, for_cpu}
+use Rattle.scx_world.specs.Ids.{policy_end, global, local, held_queue, local_on}
+use Rattle.scx_world.specs.World.{WorldState, with_queues, with_call, task_at, with_task, is_idle, default_choice, with_note}
+use Rattle.scx_world.specs.Tasks.{with_slice, with_vtime, after_leave, after_enter, for_cpu}
 
 -- -22 as a number of 64 bits
 abbrev pub invalid : ℕ
@@ -57,8 +57,8 @@ abbrev pub given_task : List Arg → ℕ → Option ℕ
 given_task a i = task_of (slice_index_or a i argument.Unset)
 
 -- a task as a program is given it
-abbrev pub pointed : ℕ → Arg
-pointed t = argument.Task (record { 0 = t })
+abbrev pub task_argument : ℕ → Arg
+task_argument t = argument.Task (record { 0 = t })
 
 -- ---- faults
 
@@ -68,8 +68,8 @@ first_fault None f = Some f
 first_fault (Some first) f = Some first
 
 -- the callback at hand has that fault, unless it had one before; nothing else is changed
-abbrev pub faulted : WorldState → Fault → WorldState
-faulted w f = with_call w (record w.call { fault = first_fault w.call.fault f })
+abbrev pub with_fault : WorldState → Fault → WorldState
+with_fault w f = with_call w (record w.call { fault = first_fault w.call.fault f })
 
 -- what a call answers that only does something: -22 where it has a fault, else 0
 abbrev pub invalid_if : Option Fault → ℕ
@@ -87,8 +87,8 @@ abbrev pub can_create : WorldState → ℕ → Bool
 can_create w q = nat_lt q policy_end && is_none (create_refusal w.queues q)
 
 -- what creating a queue makes of the world: the queue is there, or the callback has a fault
-abbrev pub after_create : WorldState → ℕ → WorldState
-after_create w q = if can_create w q then with_queues w (created w.queues q) else faulted w CannotCreate
+abbrev pub after_create_dsq : WorldState → ℕ → WorldState
+after_create_dsq w q = if can_create w q then with_queues w (after_create w.queues q) else with_fault w CannotCreate
 
 -- what creating a queue answers: 0, or -22 where it can't be created
 abbrev pub create_answer : WorldState → ℕ → ℕ
@@ -96,7 +96,7 @@ create_answer w q = if can_create w q then 0 else invalid
 
 -- asking how long a queue is changes nothing; it is a fault where the policy has no such queue
 abbrev pub after_queued : WorldState → ℕ → WorldState
-after_queued w q = if is_there w q then w else faulted w NoSuchQueue
+after_queued w q = if is_there w q then w else with_fault w NoSuchQueue
 
 -- how many tasks wait in a queue of the policy; -22 where it has no such queue
 abbrev pub queued_answer : WorldState → ℕ → ℕ
@@ -117,7 +117,7 @@ is_dispatch b = false
 -- the machine holds the task
 abbrev pub is_held : WorldState → Option ℕ → Bool
 is_held w None = false
-is_held w (Some t) = is_in held (entry_of w.queues t)
+is_held w (Some t) = is_in held_queue (entry_of w.queues t)
 
 -- in select_cpu and enqueue the task at hand, and once; in dispatch a task that is held
 abbrev pub may_insert_in : Callback → WorldState → Option ℕ → Bool
@@ -172,30 +172,30 @@ abbrev pub with_move : WorldState → WorldState
 with_move w = with_call w (record w.call { has_moved = true })
 
 -- a held task goes at once to where the insert wants it
-abbrev pub released : WorldState → Option ℕ → Insert → WorldState
-released w None i = w
-released w (Some t) i = noted (with_move (entered (gone w t) t i)) (notes.Insert t i.queue)
+abbrev pub after_release : WorldState → Option ℕ → Insert → WorldState
+after_release w None i = w
+after_release w (Some t) i = with_note (with_move (after_enter (after_leave w t) t i)) (notes.Insert t i.queue)
 
 -- what an insert makes of the world: its fault is kept, or it takes effect, in dispatch at once
-abbrev pub inserted : WorldState → Option Fault → Option ℕ → Insert → WorldState
-inserted w None t i = if is_dispatch w.call.callback then released w t (for_cpu w.call.cpu i) else with_insert w i
-inserted w (Some f) t i = faulted w f
+abbrev pub insert_or_fault : WorldState → Option Fault → Option ℕ → Insert → WorldState
+insert_or_fault w None t i = if is_dispatch w.call.callback then after_release w t (for_cpu w.call.cpu i) else with_insert w i
+insert_or_fault w (Some f) t i = with_fault w f
 
 -- the world after a helper call that inserts a task
 abbrev pub after_insert : WorldState → Option ℕ → Insert → ℕ → WorldState
-after_insert w t i flags = inserted w (insert_fault w t i flags) t i
+after_insert w t i flags = insert_or_fault w (insert_fault w t i flags) t i
 
 -- what a helper call answers that inserts a task: 0, or -22 where it has a fault
 abbrev pub insert_answer : WorldState → Option ℕ → Insert → ℕ → ℕ
 insert_answer w t i flags = invalid_if (insert_fault w t i flags)
 
 -- what a call asks for: a queue, a slice, and by virtual time a key
-abbrev pub asked : List Arg → Insert
-asked a = record { queue = given_number a 1; slice = given_number a 2; rank = Fifo }
+abbrev pub insert_of : List Arg → Insert
+insert_of a = record { queue = given_number a 1; slice = given_number a 2; rank = Fifo }
 
 -- what a call asks for that inserts by virtual time: a queue, a slice, and the key
-abbrev pub asked_by_vtime : List Arg → Insert
-asked_by_vtime a = record { queue = given_number a 1; slice = given_number a 2; rank = Vtime (given_number a 3) }
+abbrev pub insert_of_vtime : List Arg → Insert
+insert_of_vtime a = record { queue = given_number a 1; slice = given_number a 2; rank = Vtime (given_number a 3) }
 
 -- ---- moves
 
@@ -209,14 +209,14 @@ abbrev pub can_move : WorldState → ℕ → Bool
 can_move w q = is_dispatch w.call.callback && is_there w q
 
 -- the front of a queue goes to the local queue of the processor at hand
-abbrev pub moved : WorldState → Option ℕ → ℕ → WorldState
-moved w None q = w
-moved w (Some t) q =
-    noted (with_move (with_queues w (pushed (popped w.queues q) (local_on w.call.cpu) t Fifo))) (notes.Move t w.call.cpu)
+abbrev pub front_moved_to_local : WorldState → Option ℕ → ℕ → WorldState
+front_moved_to_local w None q = w
+front_moved_to_local w (Some t) q =
+    with_note (with_move (with_queues w (after_push (after_pop w.queues q) (local_on w.call.cpu) t Fifo))) (notes.Move t w.call.cpu)
 
 -- what a move to the local queue makes of the world; where none may be moved, it is a fault
 abbrev pub after_move : WorldState → ℕ → WorldState
-after_move w q = if can_move w q then moved w (front_of w.queues q) q else faulted w NoSuchQueue
+after_move w q = if can_move w q then front_moved_to_local w (front_of w.queues q) q else with_fault w NoSuchQueue
 
 -- what a move answers: 1, 0 where the queue is empty, or -22 where none may be moved
 abbrev pub move_answer : WorldState → ℕ → ℕ
@@ -231,7 +231,7 @@ choice_answer w (Some t) = default_choice w t
 
 -- asking whether a processor is idle changes nothing; it is a fault where there is none
 abbrev pub after_idle : WorldState → ℕ → WorldState
-after_idle w c = if nat_lt c (length w.cpus) then w else faulted w NoSuchCpu
+after_idle w c = if nat_lt c (length w.cpus) then w else with_fault w NoSuchCpu
 
 -- 1 where a processor is idle and 0 where it isn't; -22 where there is no such processor
 abbrev pub idle_answer : WorldState → ℕ → ℕ
@@ -251,8 +251,8 @@ pid_answer w n = if is_pid w n then answer.Task (record { 0 = n - 1 }) else answ
 abbrev pub helper_answer : WorldState → Helper → List Arg → Answer
 helper_answer w KtimeGetNs a = answer.Num (w.clock * 1000000)
 helper_answer w CreateDsq a = answer.Num (create_answer w (given_number a 0))
-helper_answer w DsqInsert a = answer.Num (insert_answer w (given_task a 0) (asked a) (given_number a 3))
-helper_answer w DsqInsertVtime a = answer.Num (insert_answer w (given_task a 0) (asked_by_vtime a) (given_number a 4))
+helper_answer w DsqInsert a = answer.Num (insert_answer w (given_task a 0) (insert_of a) (given_number a 3))
+helper_answer w DsqInsertVtime a = answer.Num (insert_answer w (given_task a 0) (insert_of_vtime a) (given_number a 4))
 helper_answer w DsqMoveToLocal a = answer.Num (move_answer w (given_number a 0))
 helper_answer w SelectCpuDfl a = answer.Num (choice_answer w (given_task a 0))
 helper_answer w CpuIdle a = answer.Num (idle_answer w (given_number a 0))
@@ -262,9 +262,9 @@ helper_answer w MapLookupElem a = answer.Num 0
 
 -- the world that a helper call with these arguments leaves
 abbrev pub helper_after : WorldState → Helper → List Arg → WorldState
-helper_after w CreateDsq a = after_create w (given_number a 0)
-helper_after w DsqInsert a = after_insert w (given_task a 0) (asked a) (given_number a 3)
-helper_after w DsqInsertVtime a = after_insert w (given_task a 0) (asked_by_vtime a) (given_number a 4)
+helper_after w CreateDsq a = after_create_dsq w (given_number a 0)
+helper_after w DsqInsert a = after_insert w (given_task a 0) (insert_of a) (given_number a 3)
+helper_after w DsqInsertVtime a = after_insert w (given_task a 0) (insert_of_vtime a) (given_number a 4)
 helper_after w DsqMoveToLocal a = after_move w (given_number a 0)
 helper_after w CpuIdle a = after_idle w (given_number a 0)
 helper_after w DsqNrQueued a = after_queued w (given_number a 0)

@@ -14,16 +14,16 @@ abbrev pub local : ℕ
 local = 0x8000_0000_0000_0002
 
 -- the machine's own: of tasks that a policy put nowhere, and of the built-in scheduler
-abbrev pub held : ℕ
-held = 0x8000_0000_0000_0003
+abbrev pub held_queue : ℕ
+held_queue = 0x8000_0000_0000_0003
 
 -- the machine's own: of the tasks that wait for the built-in scheduler, by virtual time
-abbrev pub builtin : ℕ
-builtin = 0x8000_0000_0000_0004
+abbrev pub builtin_queue : ℕ
+builtin_queue = 0x8000_0000_0000_0004
 
 -- the machine's own: of runnable tasks that may not run, as their groups have used what they may
-abbrev pub parked : ℕ
-parked = 0x8000_0000_0000_0005
+abbrev pub parked_queue : ℕ
+parked_queue = 0x8000_0000_0000_0005
 
 -- the local queue of a processor
 abbrev pub local_on : ℕ → ℕ

@@ -5,7 +5,7 @@ use Rattle.scx_dsq.specs.Laws.{one_if}
 use Rattle.scx_dsq.specs.Queues.{QueueState, task_count, queue_of}
 use Rattle.scx_weights.specs.Hierarchy.{Hierarchy}
 use Rattle.scx_weights.specs.Limits as limits
-use Rattle.scx_world.specs.Ids.{parked}
+use Rattle.scx_world.specs.Ids.{parked_queue}
 use Rattle.scx_world.specs.declared.world.World.TheInside.{Inside}
 use Rattle.scx_world.specs.World.{WorldState, is_idle, is_throttled}
 
@@ -23,11 +23,11 @@ AreTaken bits w = (c : ℕ) → c < length w.cpus → bit_at bits c ≡ one_if (
 
 -- who is parked is throttled
 abbrev pub AreThrottled : QueueState → Hierarchy → Type 0
-AreThrottled queues tree = (t : ℕ) → queue_of queues t ≡ Some parked → limits.is_throttled tree t ≡ true
+AreThrottled queues tree = (t : ℕ) → queue_of queues t ≡ Some parked_queue → limits.is_throttled tree t ≡ true
 
 -- the task may not run, if it is parked
 abbrev pub StaysParked : WorldState → ℕ → Type 0
-StaysParked w t = queue_of w.queues t ≡ Some parked → is_throttled w t ≡ true
+StaysParked w t = queue_of w.queues t ≡ Some parked_queue → is_throttled w t ≡ true
 
 -- who is parked may not run
 abbrev pub NobodyIsFree : WorldState → Type 0

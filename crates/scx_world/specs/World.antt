@@ -5,7 +5,7 @@ use Rattle.scx_weights.specs.Hierarchy.{Hierarchy, is_active_task}
 use Rattle.scx_weights.specs.Limits as limits
 use Rattle.scx_semantics.specs.declared.callbacks.Callback.{Callback}
 use Rattle.scx_semantics.specs.declared.callbacks.Callback.TheVariants as callback
-use Rattle.scx_world.specs.Ids.{parked}
+use Rattle.scx_world.specs.Ids.{parked_queue}
 use Rattle.scx_world.specs.declared.notes.Note.{Note}
 use Rattle.scx_world.specs.declared.notes.What.{What}
 use Rattle.scx_tasks.specs.declared.task.Task.{Task}
@@ -90,7 +90,7 @@ is_throttled w t = nat_lt t (length w.tasks) && limits.is_throttled w.tree t
 -- in the queue of parked tasks nobody waits
 abbrev pub waits_in : Option ℕ → Bool
 waits_in None = false
-waits_in (Some q) = not (q == parked)
+waits_in (Some q) = not (q == parked_queue)
 
 -- the task waits in a queue
 abbrev pub waits : WorldState → ℕ → Bool
@@ -162,13 +162,13 @@ abbrev pub quiet : WorldState → WorldState
 quiet w = with_notes w []
 
 -- a callback begins, with that task and processor at hand
-abbrev pub begun : WorldState → Callback → ℕ → ℕ → WorldState
-begun w b t c = with_call (quiet w) (record { callback = b; task = t; cpu = c; insert = None; has_moved = false; fault = None })
+abbrev pub at_callback : WorldState → Callback → ℕ → ℕ → WorldState
+at_callback w b t c = with_call (quiet w) (record { callback = b; task = t; cpu = c; insert = None; has_moved = false; fault = None })
 
 -- what is noted now
-abbrev pub said : WorldState → What → Note
-said w x = record { clock = w.clock; what = x }
+abbrev pub note_now : WorldState → What → Note
+note_now w x = record { clock = w.clock; what = x }
 
 -- the callback at hand has noted one thing more, at this clock
-abbrev pub noted : WorldState → What → WorldState
-noted w x = with_notes w (w.notes ++ said w x ∷ [])
+abbrev pub with_note : WorldState → What → WorldState
+with_note w x = with_notes w (w.notes ++ note_now w x ∷ [])

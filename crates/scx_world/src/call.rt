@@ -1,5 +1,5 @@
 ghost use Rattle.std.specs.Prelude.{◌≡◌};
-ghost use Rattle.scx_world.specs.Tasks.{resolved, for_cpu, to_held, to_global};
+ghost use Rattle.scx_world.specs.Tasks.{queue_for, for_cpu, to_held, to_global};
 
 use crate::faults::Fault;
 use crate::ids::{GLOBAL, HELD, LOCAL, LOCAL_ON};
@@ -53,7 +53,7 @@ impl Insert {
 }
 
 fn resolved(cpu: u32, queue: u64) -> u64
-    ensures { result ≡ resolved cpu queue }
+    ensures { result ≡ queue_for cpu queue }
 {
     if queue == LOCAL {
         LOCAL_ON + u64::from(cpu)

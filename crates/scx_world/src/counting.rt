@@ -1,7 +1,7 @@
 ghost use Rattle.std.specs.Prelude.{◌≡◌, ◌+◌, ◌^◌, ◌<◌, ◌≤◌, is_some, IfSome};
 ghost use Rattle.scx_dsq.specs.Queues.{task_count, entry_of, front_of};
 ghost use Rattle.scx_dsq.specs.declared.entries.Rank.TheVariants.{Vtime};
-ghost use Rattle.scx_dsq.specs.Calls.{pushed, popped, removed};
+ghost use Rattle.scx_dsq.specs.Calls.{after_push, after_pop, after_remove};
 
 use scx_dsq::{Queues, Rank, Steps};
 use std::marker::Brand;
@@ -11,7 +11,7 @@ use std::sync::ledger::{Blank, Ledger};
 pub fn push(queues: &mut Queues, id: u64, task: u32, rank: Rank)
     requires task { task < task_count queues.old.state }
     requires few { queues.old.state.pushes < 2 ^ 63 }
-    ensures state { queues.new.state ≡ pushed queues.old.state id task rank }
+    ensures state { queues.new.state ≡ after_push queues.old.state id task rank }
     ensures tasks { task_count queues.new.state ≡ task_count queues.old.state }
     ensures pushes { queues.new.state.pushes ≤ queues.old.state.pushes + 1 }
 {
@@ -29,7 +29,7 @@ fn push_counted<L: Ledger>(queues: &mut Queues, id: u64, task: u32, key: u64, bl
     requires name { blank.name ≡ L.name }
     requires parts { blank.parts ≡ L.parts }
     requires some { 0 < blank.parts }
-    ensures state { queues.new.state ≡ pushed queues.old.state id task (Vtime key) }
+    ensures state { queues.new.state ≡ after_push queues.old.state id task (Vtime key) }
     ensures tasks { task_count queues.new.state ≡ task_count queues.old.state }
     ensures pushes { queues.new.state.pushes ≤ queues.old.state.pushes + 1 }
 {
@@ -42,7 +42,7 @@ fn push_counted<L: Ledger>(queues: &mut Queues, id: u64, task: u32, key: u64, bl
 pub fn pop(queues: &mut Queues, id: u64) -> Option<u32>
     ensures answer { result ≡ front_of queues.old.state id }
     ensures known { IfSome result (λ t. t < task_count queues.old.state) }
-    ensures state { queues.new.state ≡ popped queues.old.state id }
+    ensures state { queues.new.state ≡ after_pop queues.old.state id }
     ensures tasks { task_count queues.new.state ≡ task_count queues.old.state }
     ensures pushes { queues.new.state.pushes ≡ queues.old.state.pushes }
 {
@@ -55,7 +55,7 @@ fn pop_counted<L: Ledger>(queues: &mut Queues, id: u64, blank: Blank) -> Option<
     requires some { 0 < blank.parts }
     ensures answer { result ≡ front_of queues.old.state id }
     ensures known { IfSome result (λ t. t < task_count queues.old.state) }
-    ensures state { queues.new.state ≡ popped queues.old.state id }
+    ensures state { queues.new.state ≡ after_pop queues.old.state id }
     ensures tasks { task_count queues.new.state ≡ task_count queues.old.state }
     ensures pushes { queues.new.state.pushes ≡ queues.old.state.pushes }
 {
@@ -69,7 +69,7 @@ fn pop_counted<L: Ledger>(queues: &mut Queues, id: u64, blank: Blank) -> Option<
 pub fn remove(queues: &mut Queues, task: u32) -> bool
     requires { task < task_count queues.old.state }
     ensures answer { result ≡ is_some (entry_of queues.old.state task) }
-    ensures state { queues.new.state ≡ removed queues.old.state task }
+    ensures state { queues.new.state ≡ after_remove queues.old.state task }
     ensures tasks { task_count queues.new.state ≡ task_count queues.old.state }
     ensures pushes { queues.new.state.pushes ≡ queues.old.state.pushes }
 {
@@ -82,7 +82,7 @@ fn remove_counted<L: Ledger>(queues: &mut Queues, task: u32, blank: Blank) -> bo
     requires parts { blank.parts ≡ L.parts }
     requires some { 0 < blank.parts }
     ensures answer { result ≡ is_some (entry_of queues.old.state task) }
-    ensures state { queues.new.state ≡ removed queues.old.state task }
+    ensures state { queues.new.state ≡ after_remove queues.old.state task }
     ensures tasks { task_count queues.new.state ≡ task_count queues.old.state }
     ensures pushes { queues.new.state.pushes ≡ queues.old.state.pushes }
 {

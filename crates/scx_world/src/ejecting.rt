@@ -1,6 +1,6 @@
 ghost use Rattle.std.specs.Prelude.{◌≡◌, ◌+◌, ◌^◌, ◌<◌, ◌≤◌, length, is_some};
 ghost use Rattle.scx_world.specs.World.{running};
-ghost use Rattle.scx_world.specs.Ejecting.{put_builtin, overtaken, used, charged, put_out, evict, cut_task, cut};
+ghost use Rattle.scx_world.specs.Ejecting.{put_builtin, after_catch_up, used_vtime, after_charge, put_out, evict, cut_task, after_cut};
 
 use crate::eject::Eject;
 use crate::ids::BUILTIN;
@@ -49,7 +49,7 @@ impl World {
 
     /// The tasks that run keep no more of their slices than the built-in scheduler gives.
     pub fn cut(&mut self)
-        ensures world { self.new ≡ cut (length self.old.cpus) self.old }
+        ensures world { self.new ≡ after_cut (length self.old.cpus) self.old }
         ensures few { self.new.queues.pushes ≡ self.old.queues.pushes }
     {
         for cpu in 0..self.cpus() {
@@ -87,7 +87,7 @@ impl World {
 
     /// The task runs under the built-in scheduler, whose clock is no earlier from now on.
     pub fn overtake(&mut self, task: u16)
-        ensures world { self.new ≡ overtaken self.old task }
+        ensures world { self.new ≡ after_catch_up self.old task }
         ensures few { self.new.queues.pushes ≡ self.old.queues.pushes }
     {
         self.builtin_clock = cmp::max(self.builtin_clock, self.task(task).builtin);
@@ -95,7 +95,7 @@ impl World {
 
     /// The task stops under the built-in scheduler, and has used what is gone of its slice.
     pub fn charge(&mut self, task: u16)
-        ensures world { self.new ≡ charged self.old task }
+        ensures world { self.new ≡ after_charge self.old task }
         ensures few { self.new.queues.pushes ≡ self.old.queues.pushes }
     {
         let mut facts = self.task(task);
@@ -105,7 +105,7 @@ impl World {
 
     /// What the task used of its slice, the more the less it weighs.
     fn used(&self, task: u16) -> u64
-        ensures number { result ≡ used self.now task }
+        ensures number { result ≡ used_vtime self.now task }
         ensures most { result ≤ 2_000_000_000 }
     {
         let gone = DEFAULT_SLICE.saturating_sub(self.task(task).slice);

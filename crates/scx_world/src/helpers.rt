@@ -1,6 +1,6 @@
 ghost use Rattle.std.specs.Prelude.{◌≡◌, ◌+◌, ◌*◌, ◌^◌, ◌<◌, ◌≤◌, length};
 ghost use Rattle.scx_semantics.specs.HostTables.{field_width};
-ghost use Rattle.scx_world.specs.Helpers.{invalid, faulted, is_there, create_answer, after_create, queued_answer, after_queued, is_held, may_insert, queue_fault, rank_fault, insert_fault, insert_answer, after_insert, released, choice_answer, idle_answer, after_idle, pid_answer, move_answer, after_move, weight_at, group_at, field_of};
+ghost use Rattle.scx_world.specs.Helpers.{invalid, with_fault, is_there, create_answer, after_create_dsq, queued_answer, after_queued, is_held, may_insert, queue_fault, rank_fault, insert_fault, insert_answer, after_insert, after_release, choice_answer, idle_answer, after_idle, pid_answer, move_answer, after_move, weight_at, group_at, field_of};
 
 use crate::call::Insert;
 use crate::faults::Fault;
@@ -16,7 +16,7 @@ impl World {
     /// Keeps the fault, if it is the first one of the callback.
     fn fault(&mut self, fault: Fault) -> u64
         ensures answer { result ≡ invalid }
-        ensures world { self.new ≡ faulted self.old fault }
+        ensures world { self.new ≡ with_fault self.old fault }
     {
         if self.call.fault.is_none() {
             self.call.fault = Some(fault);
@@ -34,7 +34,7 @@ impl World {
     #[tactic(auto, using(crate::proofs::Parked::known_created))]
     pub(crate) fn create(&mut self, queue: u64) -> u64
         ensures answer { result ≡ create_answer self.old queue }
-        ensures world { self.new ≡ after_create self.old queue }
+        ensures world { self.new ≡ after_create_dsq self.old queue }
         ensures few { self.new.queues.pushes ≡ self.old.queues.pushes }
     {
         if queue >= POLICY_END {
@@ -162,7 +162,7 @@ impl World {
     fn release(&mut self, task: Option<u16>, insert: Insert)
         requires notes { length self.old.notes < 4096 }
         requires few { self.old.queues.pushes < 2 ^ 63 }
-        ensures world { self.new ≡ released self.old task insert }
+        ensures world { self.new ≡ after_release self.old task insert }
         ensures notes { length self.new.notes ≤ length self.old.notes + 1 }
         ensures few { self.new.queues.pushes ≤ self.old.queues.pushes + 1 }
     {

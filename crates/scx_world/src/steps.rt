@@ -1,10 +1,10 @@
 ghost use Rattle.std.specs.Prelude.{◌≡◌, ℕ, ◌+◌, ◌^◌, ◌<◌, ◌≤◌, length, IfSome};
-ghost use Rattle.scx_dsq.specs.Calls.{pushed};
+ghost use Rattle.scx_dsq.specs.Calls.{after_push};
 ghost use Rattle.scx_dsq.specs.Queues.{front_of, len_of, behind_of};
 ghost use Rattle.scx_weights.specs.Limits.{usage_of};
 ghost use Rattle.scx_world.specs.Ids.{local_on};
 ghost use Rattle.scx_world.specs.World.{task_at, with_queues};
-ghost use Rattle.scx_world.specs.Tasks.{woken, asleep, gone, given, entered, local_len, fill_front, filled, stopped, started, kept, put_parked, taken, let_go, ticked, later, used_ms, begun_periods, reweighed};
+ghost use Rattle.scx_world.specs.Tasks.{after_wake, after_sleep, after_leave, task_after_insert, after_enter, local_len, fill_front, after_fill, after_stop, after_start, after_keep, put_parked, after_take, let_go, after_tick, later, used_ms, begun_periods, after_reweigh};
 
 use crate::call::Insert;
 use crate::counting;
@@ -19,7 +19,7 @@ impl World {
     #[tactic(auto, using(crate::proofs::Parked::known_active))]
     pub fn wake(&mut self, task: u16)
         requires { task < length self.old.tasks }
-        ensures world { self.new ≡ woken self.old task }
+        ensures world { self.new ≡ after_wake self.old task }
         ensures few { self.new.queues.pushes ≡ self.old.queues.pushes }
     {
         let mut facts = self.task(task);
@@ -31,7 +31,7 @@ impl World {
     /// The task isn't runnable, and waits no more.
     #[tactic(auto, using(crate::proofs::Parked::known_active))]
     pub fn sleep(&mut self, task: u16)
-        ensures world { self.new ≡ asleep self.old task }
+        ensures world { self.new ≡ after_sleep self.old task }
         ensures few { self.new.queues.pushes ≡ self.old.queues.pushes }
     {
         if (task as usize) < self.tasks.len() {
@@ -48,7 +48,7 @@ impl World {
     pub(crate) fn push(&mut self, queue: u64, task: u16, rank: Rank)
         requires task { task < length self.old.tasks }
         requires few { self.old.queues.pushes < 2 ^ 63 }
-        ensures world { self.new ≡ with_queues self.old (pushed self.old.queues queue task rank) }
+        ensures world { self.new ≡ with_queues self.old (after_push self.old.queues queue task rank) }
         ensures few { self.new.queues.pushes ≤ self.old.queues.pushes + 1 }
     {
         if queue == PARKED {
@@ -63,7 +63,7 @@ impl World {
     pub(crate) fn pop(&mut self, queue: u64) -> Option<u16>
         ensures answer { result ≡ front_of self.old.queues queue }
         ensures known { IfSome result (λ t. t < length self.old.tasks) }
-        ensures world { self.new ≡ taken self.old queue }
+        ensures world { self.new ≡ after_take self.old queue }
         ensures few { self.new.queues.pushes ≡ self.old.queues.pushes }
     {
         let task = counting::pop(&mut self.queues, queue)?;
@@ -73,7 +73,7 @@ impl World {
     /// The task leaves the queue in which it waits.
     #[tactic(auto, using(crate::proofs::Parked::known_removed))]
     pub fn leave_queue(&mut self, task: u16)
-        ensures world { self.new ≡ gone self.old task }
+        ensures world { self.new ≡ after_leave self.old task }
         ensures few { self.new.queues.pushes ≡ self.old.queues.pushes }
     {
         if (task as usize) < self.queues.tasks() {
@@ -84,7 +84,7 @@ impl World {
     /// The task goes into a queue, as the insert wants it to.
     pub fn enter(&mut self, task: u16, insert: Insert)
         requires few { self.old.queues.pushes < 2 ^ 63 }
-        ensures world { self.new ≡ entered self.old task insert }
+        ensures world { self.new ≡ after_enter self.old task insert }
         ensures few { self.new.queues.pushes ≤ self.old.queues.pushes + 1 }
     {
         if (task as usize) < self.tasks.len() {
@@ -105,7 +105,7 @@ impl World {
     pub fn fill(&mut self, queue: u64, cpu: u32) -> Option<u16>
         requires few { self.old.queues.pushes < 2 ^ 63 }
         ensures answer { result ≡ fill_front self.old queue cpu }
-        ensures world { self.new ≡ filled self.old queue cpu }
+        ensures world { self.new ≡ after_fill self.old queue cpu }
         ensures few { self.new.queues.pushes ≤ self.old.queues.pushes + 1 }
     {
         if self.local_len(cpu) > 0 {
@@ -118,7 +118,7 @@ impl World {
 
     /// The task leaves its processor, and waits from now on.
     pub fn stop(&mut self, cpu: u32, task: u16)
-        ensures world { self.new ≡ stopped self.old cpu task }
+        ensures world { self.new ≡ after_stop self.old cpu task }
         ensures few { self.new.queues.pushes ≡ self.old.queues.pushes }
     {
         let mut facts = self.task(task);
@@ -130,7 +130,7 @@ impl World {
     /// The front of the local queue runs, waits no more, and is answered.
     pub fn start(&mut self, cpu: u32) -> Option<u16>
         ensures answer { result ≡ front_of self.old.queues (local_on cpu) }
-        ensures world { self.new ≡ started self.old cpu }
+        ensures world { self.new ≡ after_start self.old cpu }
         ensures few { self.new.queues.pushes ≡ self.old.queues.pushes }
     {
         let task = self.pop(LOCAL_ON + u64::from(cpu))?;
@@ -144,7 +144,7 @@ impl World {
 
     /// The task before, if there is one, keeps the processor, and where it has no slice gets one.
     pub fn keep(&mut self, before: Option<u16>)
-        ensures world { self.new ≡ kept self.old before }
+        ensures world { self.new ≡ after_keep self.old before }
         ensures few { self.new.queues.pushes ≡ self.old.queues.pushes }
     {
         if let Some(task) = before {
@@ -177,7 +177,7 @@ impl World {
     /// The front of the queue leaves it, and is answered.
     pub fn take(&mut self, queue: u64) -> Option<u16>
         ensures answer { result ≡ front_of self.old.queues queue }
-        ensures world { self.new ≡ taken self.old queue }
+        ensures world { self.new ≡ after_take self.old queue }
         ensures few { self.new.queues.pushes ≡ self.old.queues.pushes }
     {
         self.pop(queue)
@@ -228,7 +228,7 @@ impl World {
     /// The task has run for a millisecond.
     pub fn run_tick(&mut self, task: u16)
         requires { (task_at self.old task).run_ns < 2 ^ 63 }
-        ensures world { self.new ≡ ticked self.old task }
+        ensures world { self.new ≡ after_tick self.old task }
         ensures few { self.new.queues.pushes ≡ self.old.queues.pushes }
     {
         let mut facts = self.task(task);
@@ -272,7 +272,7 @@ impl World {
 
     /// Sets the weight of a group, if there is such a group and weight.
     pub fn set_weight(&mut self, group: u32, weight: u32)
-        ensures { self.new ≡ reweighed self.old group weight }
+        ensures { self.new ≡ after_reweigh self.old group weight }
     {
         self.parked_throttled = false;
         let _refused = self.tree.set_weight(group, weight);
@@ -281,7 +281,7 @@ impl World {
 
 /// What an insert makes of the record of its task.
 fn given(task: Task, insert: Insert) -> Task
-    ensures { result ≡ given task insert }
+    ensures { result ≡ task_after_insert task insert }
 {
     let mut given = task;
     if insert.slice != 0 {

@@ -4,11 +4,11 @@ ghost use Rattle.scx_dsq.specs.Laws.{one_if};
 ghost use Rattle.scx_dsq.specs.Queues.{queue_of, task_count};
 ghost use Rattle.scx_weights.specs.Limits.{has_quota};
 ghost use Rattle.scx_world.specs.First.{with_locals, first_queues, first_world};
-ghost use Rattle.scx_world.specs.Helpers.{pointed};
+ghost use Rattle.scx_world.specs.Helpers.{task_argument};
 ghost use Rattle.scx_world.specs.Kept.{AreTaken, StaysParked, NobodyIsFree};
 ghost use Rattle.scx_world.specs.Waits.{first_overdue};
 ghost use Rattle.scx_weights.specs.Limits.{usage_of};
-ghost use Rattle.scx_world.specs.World.{task_at, wait, with_task, is_runnable, is_throttled, waits, running, with_cpu, with_cycling, is_this, cpu_of, is_idle, first_idle, default_choice, begun, quiet, said};
+ghost use Rattle.scx_world.specs.World.{task_at, wait, with_task, is_runnable, is_throttled, waits, running, with_cpu, with_cycling, is_this, cpu_of, is_idle, first_idle, default_choice, at_callback, quiet, note_now};
 
 use crate::call::{Call, Insert};
 use crate::eject::Eject;
@@ -180,7 +180,7 @@ impl World {
 
     /// A task as a program is given it.
     pub fn pointer(task: u16) -> Arg
-        ensures { result ≡ pointed task }
+        ensures { result ≡ task_argument task }
     {
         Arg::Task(TaskId(task))
     }
@@ -359,7 +359,7 @@ impl World {
 
     /// A callback begins, with that task and processor at hand.
     pub fn begin(&mut self, callback: Callback, task: u16, cpu: u32)
-        ensures { self.new ≡ begun self.old callback task cpu }
+        ensures { self.new ≡ at_callback self.old callback task cpu }
     {
         self.notes.clear();
         self.call = Call {
@@ -388,7 +388,7 @@ impl World {
 
     /// That, at this clock.
     pub fn note(&self, what: What) -> Note
-        ensures { result ≡ said self.now what }
+        ensures { result ≡ note_now self.now what }
     {
         Note {
             clock: self.clock,

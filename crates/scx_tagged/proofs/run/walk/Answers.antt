@@ -2,7 +2,7 @@ use Rattle.std.proofs.Common.{◌≡◌, ◌≤◌, add-one, refl, ◌∙◌, ar
 use Rattle.scx_semantics.specs.Code.{instruction_count, instructions_from}
 use Rattle.scx_semantics.specs.Machine.{start}
 use Rattle.scx_isa.proofs.Counts.{instruction_count-length, none_left}
-use Rattle.scx_vm.specs.Arguments.{given}
+use Rattle.scx_vm.specs.Arguments.{program_arguments}
 use Rattle.scx_tagged.specs.State.{seen}
 use Rattle.scx_tagged.proofs.RunSteps.{Leads-more, one_left_at_end, run_done, run_stuck}
 use Rattle.scx_tagged.proofs.run.walk.Goals as goal
@@ -23,7 +23,7 @@ pub loop-steps-preserved : goal.loop-steps-preserved
 loop-steps-preserved g c =
     let at = c.loop-steps in
     record {
-      leads = rw add-one (Leads-more _ c.args.callback c.args.program.now at.steps 0 (start (given c.args.arguments) c.args.maps.now) c.args.env.now at.slot (seen at.core at.maps) at.env c.in-At.next (seen c.step.new.core c.step.new.maps) c.step.new.env at.invariant.leads c.in-At.ensures.step);
+      leads = rw add-one (Leads-more _ c.args.callback c.args.program.now at.steps 0 (start (program_arguments c.args.arguments) c.args.maps.now) c.args.env.now at.slot (seen at.core at.maps) at.env c.in-At.next (seen c.step.new.core c.step.new.maps) c.step.new.env at.invariant.leads c.in-At.ensures.step);
       left = omega (arith, at.invariant.left, c.in-At.ensures.nearer);
       shapes = c.step.ensures.shapes ∙ at.invariant.shapes;
       room = omega (arith, c.step.ensures.room, at.invariant.room);
@@ -33,7 +33,7 @@ loop-steps-preserved g c =
 pub returns-in-Ended-clause-done : goal.returns-in-Ended-clause-done
 returns-in-Ended-clause-done g c =
     let at = c.loop-steps in
-    run_done _ c.args.callback c.args.program.now (given c.args.arguments) c.args.maps.now c.args.env.now at.steps at.slot (seen at.core at.maps) at.env c.in-Ended.r0 c.step.new.maps c.step.new.env at.invariant.leads c.in-Ended.ensures.step.0 c.in-Ended.ensures.step.1 c.in-Ended.ensures.step.2
+    run_done _ c.args.callback c.args.program.now (program_arguments c.args.arguments) c.args.maps.now c.args.env.now at.steps at.slot (seen at.core at.maps) at.env c.in-Ended.r0 c.step.new.maps c.step.new.env at.invariant.leads c.in-Ended.ensures.step.0 c.in-Ended.ensures.step.1 c.in-Ended.ensures.step.2
 
 pub returns-in-Ended-clause-in_bound : goal.returns-in-Ended-clause-in_bound
 returns-in-Ended-clause-in_bound g c =
@@ -45,7 +45,7 @@ pub returns-in-Stuck-clause-stuck : goal.returns-in-Stuck-clause-stuck
 returns-in-Stuck-clause-stuck g c =
     let at = c.loop-steps in
     let bound : at.steps ≤ instruction_count c.args.program.now = omega (arith, at.invariant.left) in
-    run_stuck _ c.args.callback c.args.program.now (given c.args.arguments) c.args.maps.now c.args.env.now at.steps at.slot (seen at.core at.maps) at.env c.step.new.maps c.step.new.env at.invariant.leads c.in-Stuck.ensures.step.0 c.in-Stuck.ensures.step.1 c.in-Stuck.ensures.step.2 bound
+    run_stuck _ c.args.callback c.args.program.now (program_arguments c.args.arguments) c.args.maps.now c.args.env.now at.steps at.slot (seen at.core at.maps) at.env c.step.new.maps c.step.new.env at.invariant.leads c.in-Stuck.ensures.step.0 c.in-Stuck.ensures.step.1 c.in-Stuck.ensures.step.2 bound
 
 pub returns-clause-stuck : goal.returns-clause-stuck
 returns-clause-stuck g c =
@@ -53,4 +53,4 @@ returns-clause-stuck g c =
     let at = c.loop-steps in
     let none : instructions_from code at.slot ≡ 0 = omega (arith, instruction_count-length code, at.invariant.left) in
     let bound : at.steps ≤ instruction_count code = omega (arith, at.invariant.left) in
-    run_stuck _ c.args.callback code (given c.args.arguments) c.args.maps.now c.args.env.now at.steps at.slot (seen at.core at.maps) at.env at.maps at.env at.invariant.leads (rw (none_left code at.slot none) refl) refl refl bound
+    run_stuck _ c.args.callback code (program_arguments c.args.arguments) c.args.maps.now c.args.env.now at.steps at.slot (seen at.core at.maps) at.env at.maps at.env at.invariant.leads (rw (none_left code at.slot none) refl) refl refl bound

@@ -4,7 +4,7 @@ use Rattle.std.proofs.lemmas.List.{get_or_read}
 use Rattle.scx_dsq.specs.declared.links.Link.{Link}
 use Rattle.scx_dsq.specs.Queues.{exists, task_count, entry_of}
 use Rattle.scx_dsq.specs.Links.{no_link, link_at}
-use Rattle.scx_dsq.specs.Kept.{Stands, state_of}
+use Rattle.scx_dsq.specs.Kept.{IsQueueAt, state_of}
 use Rattle.scx_dsq.proofs.QueueReads.{stands_at}
 use Rattle.scx_dsq.proofs.Removals.{waiting}
 use Rattle.scx_dsq.proofs.Behind.{behind_at}
@@ -20,7 +20,7 @@ pub returns : goal.returns
 returns c =
     let within : c.args.task < task_count (state_of c.self.inside) = rw (← c.self.view_is) at c.requires.task in
     let waits : entry_of (state_of c.self.inside) c.args.task ≡ Some c.args.entry = rw (← c.self.view_is) at c.requires.waits in
-    let at : Stands (state_of c.self.inside) c.in-Some.index c.args.entry.queue = stands_at c.self.inside _ c.in-Some.index c.args.entry.queue c.deref.ensures.value c.in-Some.ensures.at in
+    let at : IsQueueAt (state_of c.self.inside) c.in-Some.index c.args.entry.queue = stands_at c.self.inside _ c.in-Some.index c.args.entry.queue c.deref.ensures.value c.in-Some.ensures.at in
     let w = waiting c.self.inside c.in-Some.index c.args.task c.args.entry c.index-queue.result.now at waits c.index-queue.ensures in
     let read : c.index.result.now ≡ link_at c.self.inside.links.items c.args.task = get_or_read c.self.inside.links.items c.args.task c.index.result.now (omega (arith, c.self.invariant.links, within)) c.index.ensures no_link in
     rw (← c.self.view_is)

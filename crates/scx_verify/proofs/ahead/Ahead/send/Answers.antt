@@ -1,5 +1,5 @@
 use Rattle.std.proofs.Common.{◌≡◌, length, Some, refl, ◌∙◌, ap, sym, subst, arith}
-use Rattle.scx_abs.specs.Changes.{changed}
+use Rattle.scx_abs.specs.Changes.{after_change}
 use Rattle.scx_verify.specs.Pass.{IsMerged}
 use Rattle.scx_verify.proofs.Indices.{within, read_there, free_small, kept_apart, kept_there, kept_others, none_there, found, some_there, joined_there, joined_others}
 use Rattle.scx_verify.proofs.ahead.Ahead.send.Goals as goal
@@ -15,7 +15,7 @@ keep-requires c = free_small c.self.inside.indices.items c.self.inside.free.item
 pub invariant_of-self-in-None : goal.invariant_of-self-in-None
 invariant_of-self-in-None c =
     let lt = within c.self.inside.indices.items c.self.inside.states.items c.args.self.now c.args.slot c.self.view_is c.requires in
-    kept_apart c.self.inside.indices.items c.args.slot c.self.inside.states.items c.self.inside.free.items c.in_ok-index-in-None.index (changed c.args.state.now c.args.change.now)
+    kept_apart c.self.inside.indices.items c.args.slot c.self.inside.states.items c.self.inside.free.items c.in_ok-index-in-None.index (after_change c.args.state.now c.args.change.now)
     c.keep.new.states.items c.keep.new.free.items lt c.self.invariant c.in_ok-index-in-None.ensures.kept
 
 pub returns-in-Some-clause-sent : goal.returns-in-Some-clause-sent
@@ -26,7 +26,7 @@ returns-in-Some-clause-sent c =
     let x = c.join_in.new.self in
     let at = found indices states c.self.inside.free.items now c.args.slot c.from.result _ _ c.self.invariant c.self.view_is c.requires c.index.ensures (c.in-Some.is ∙ ap Some (sym c.from.ensures)) in
     let some = some_there indices states now c.args.slot c.from.result c.self.view_is at.0 c.index_mut.result.now _ at.1 c.index_mut.ensures.value in
-    let a = changed c.args.state.now c.args.change.now in
+    let a = after_change c.args.state.now c.args.change.now in
     let sent : c.write_over.new.kept ≡ a = c.write_over.ensures in
     (x, subst (λ o. IsMerged o a x) (sym some) (subst (λ a. IsMerged (Some c.index_mut.result.now) a x) sent (c.join_in.ensures.least, c.join_in.ensures.proper)), joined_there indices states now c.args.slot c.from.result c.self.view_is at.0 x at.1)
 
@@ -43,7 +43,7 @@ returns-in_ok-index-in-None-clause-sent c =
     let indices = c.self.inside.indices.items in
     let states = c.self.inside.states.items in
     let now = c.args.self.now in
-    let a = changed c.args.state.now c.args.change.now in
+    let a = after_change c.args.state.now c.args.change.now in
     let lt = within indices states now c.args.slot c.self.view_is c.requires in
     let none = none_there indices states now c.args.slot c.self.view_is (read_there indices states now c.args.slot _ _ c.self.view_is c.requires c.index.ensures ∙ c.in-None.is) in
     let same : a ≡ a = refl in
@@ -52,5 +52,5 @@ returns-in_ok-index-in-None-clause-sent c =
 pub returns-in_ok-index-in-None-clause-apart : goal.returns-in_ok-index-in-None-clause-apart
 returns-in_ok-index-in-None-clause-apart c =
     let lt = within c.self.inside.indices.items c.self.inside.states.items c.args.self.now c.args.slot c.self.view_is c.requires in
-    kept_others c.self.inside.indices.items c.args.slot c.self.inside.states.items c.self.inside.free.items c.in_ok-index-in-None.index (changed c.args.state.now c.args.change.now)
+    kept_others c.self.inside.indices.items c.args.slot c.self.inside.states.items c.self.inside.free.items c.in_ok-index-in-None.index (after_change c.args.state.now c.args.change.now)
     c.keep.new.states.items c.keep.new.free.items lt c.self.invariant c.in_ok-index-in-None.ensures.kept c.args.self.now c.self.view_is
