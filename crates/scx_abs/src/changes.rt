@@ -58,7 +58,7 @@ impl AbsState {
     }
 
     /// The state, changed.
-    fn changed(&self, change: &Change) -> AbsState
+    fn after_change(&self, change: &Change) -> AbsState
         ensures { result ≡ after_change self.now change.now }
     {
         let mut state = *self;
@@ -77,16 +77,16 @@ pub(crate) fn next_of(state: &AbsState, flow: &Flow) -> Next
             jump: None,
         },
         Flow::On(change) => Next {
-            on: Some(state.changed(&change)),
+            on: Some(state.after_change(&change)),
             jump: None,
         },
         Flow::Jump(change) => Next {
             on: None,
-            jump: Some(state.changed(&change)),
+            jump: Some(state.after_change(&change)),
         },
         Flow::Both(on, jump) => Next {
-            on: Some(state.changed(&on)),
-            jump: Some(state.changed(&jump)),
+            on: Some(state.after_change(&on)),
+            jump: Some(state.after_change(&jump)),
         },
     }
 }

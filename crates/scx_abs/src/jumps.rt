@@ -55,7 +55,7 @@ pub fn flow_of_jump(
     let other = operand_kind(state, width, operand)?;
     match kind {
         Kind::Num(numbers) => numbers_compared(state, width, comparison, register, numbers, other),
-        _ => tested(state, register, kind, null_test(width, comparison, operand)),
+        _ => null_test_rule(state, register, kind, null_test(width, comparison, operand)),
     }
 }
 
@@ -157,7 +157,12 @@ fn side(
 
 /// What flows on from a test for 0 of a pointer of that kind.
 #[inline(always)]
-fn tested(state: &AbsState, register: Register, kind: Kind, test: Option<bool>) -> Result<Flow, Why>
+fn null_test_rule(
+    state: &AbsState,
+    register: Register,
+    kind: Kind,
+    test: Option<bool>,
+) -> Result<Flow, Why>
     ensures { next_states state.now result ≡ null_test_rule state.now (number register) kind test }
 {
     match test {

@@ -83,12 +83,12 @@ const SLEEPS: [Shown; 6] = [
 fn parked_tasks_do_not_wait(rt: HostRuntime) {
     let mut pauses = Pauses::new(rt.alloc(), 3).expect(&rt, "memory is ample");
     expect(&rt, &mut pauses, 0, &LET_GO);
-    expect_same(&rt, pauses.unfinished(0, 9), None, "it runs");
+    expect_same(&rt, pauses.open_pause(0, 9), None, "it runs");
     expect(&rt, &mut pauses, 1, &BESIDE);
-    expect_same(&rt, pauses.unfinished(1, 4), was_parked(1, 3, 4), "parked");
-    expect_same(&rt, pauses.unfinished(2, 4), waited(2, 1, 4), "waits");
+    expect_same(&rt, pauses.open_pause(1, 4), was_parked(1, 3, 4), "parked");
+    expect_same(&rt, pauses.open_pause(2, 4), waited(2, 1, 4), "waits");
     expect_same(&rt, pauses.is_asleep(1), false, "parked");
     expect(&rt, &mut pauses, 1, &SLEEPS);
-    expect_same(&rt, pauses.unfinished(1, 10), None, "it runs");
+    expect_same(&rt, pauses.open_pause(1, 10), None, "it runs");
     drop(pauses);
 }

@@ -71,7 +71,7 @@ pub(crate) fn second_read(insn: Insn) -> Option<Register>
 }
 
 /// The register that an instruction writes; `None` of a call.
-pub(crate) fn written(insn: Insn) -> Option<Register>
+pub(crate) fn written_register(insn: Insn) -> Option<Register>
     ensures { result ≡ written_register insn }
 {
     match insn {
@@ -87,7 +87,7 @@ pub(crate) fn written(insn: Insn) -> Option<Register>
 }
 
 /// The register that an instruction stores.
-pub(crate) fn stored(insn: Insn) -> Option<Register>
+pub(crate) fn stored_register(insn: Insn) -> Option<Register>
     ensures { result ≡ stored_register insn }
 {
     match insn {

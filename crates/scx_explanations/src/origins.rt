@@ -1,5 +1,5 @@
 use crate::listing::{Arrival, Listing, byte_kind, cell_of, is_pointer, plain};
-use crate::named::written;
+use crate::named::written_register;
 use scx_abs::{AbsState, Area, Kind, area_of};
 use scx_isa::{Access, Insn, Operand, Operation, Register, Size, Width};
 
@@ -194,7 +194,7 @@ fn is_within(byte: u16, at: u16, size: Size) -> bool {
 
 /// Whether the instruction, which is no call, writes the register.
 fn writes(insn: Insn, register: Register) -> bool {
-    match written(insn) {
+    match written_register(insn) {
         Some(destination) => destination == register,
         None => false,
     }

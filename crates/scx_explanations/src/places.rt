@@ -68,7 +68,7 @@ impl Place {
     }
 
     /// The place that far on.
-    pub(crate) fn moved(self, distances: Distances) -> Place
+    pub(crate) fn place_at_distances(self, distances: Distances) -> Place
         requires near { IsNear self }
         requires short { AreShort distances }
         ensures { result ≡ place_at_distances self distances }
@@ -142,7 +142,7 @@ pub(crate) fn reach_of(state: &AbsState, address: Address, defs: &MapDefs) -> Op
     let distances = Distances::one(i64::from(address.offset));
     match place_of(state.kind(address.base), defs) {
         Some(place) => Some(Reach {
-            place: place.moved(distances),
+            place: place.place_at_distances(distances),
             count: address.size.bytes(),
         }),
         None => None,

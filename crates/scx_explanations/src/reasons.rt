@@ -15,8 +15,8 @@ ghost use Rattle.scx_explanations.specs.Said.{IsSaid};
 
 use crate::listing::{Listing, byte_kind, is_pointer};
 use crate::named::{
-    Address, address_of, argument_of, called_in, distance_of, first_read, second_read, stored,
-    written,
+    Address, address_of, argument_of, called_in, distance_of, first_read, second_read,
+    stored_register, written_register,
 };
 use crate::origins::Subject;
 use crate::places::{Place, Reach, distances_of, place_of, reach_of, stack_bytes};
@@ -293,7 +293,7 @@ fn bad_value(state: &AbsState, why: Why, insn: Insn, callback: Callback) -> Opti
             Some(BadValue::Comparison(register, state.kind(register)))
         }
         Why::PointerStore => {
-            let register = one_that_is(Sort::Pointer, state, stored(insn))?;
+            let register = one_that_is(Sort::Pointer, state, stored_register(insn))?;
             Some(BadValue::Stored(register, state.kind(register)))
         }
         Why::BadReturn => bad_answer(state, insn, callback),
@@ -304,7 +304,7 @@ fn bad_value(state: &AbsState, why: Why, insn: Insn, callback: Callback) -> Opti
 fn writes_frame(insn: Insn) -> bool
     ensures { result ≡ true → written_register insn ≡ Some Register.R10 }
 {
-    match written(insn) {
+    match written_register(insn) {
         Some(Register::R10) => true,
         _ => false,
     }
@@ -494,7 +494,7 @@ fn out_of_bounds(state: &AbsState, insn: Insn, defs: &MapDefs) -> Option<BadAcce
     match insn {
         Insn::Binary(width, operation, register, operand) => {
             let distances = distances_of(state, width, operation, operand)?;
-            let place = place_of(state.kind(register), defs)?.moved(distances);
+            let place = place_of(state.kind(register), defs)?.place_at_distances(distances);
             Some(BadAccess::MovedOut { register, place })
         }
         _ => access_outside(state, insn, defs),

@@ -15,7 +15,7 @@ pub(crate) fn shown_path(alloc: Global, path: &str, key: &str) -> Result<String,
     if !has_control(key.as_bytes()) {
         return key_path(alloc, path, key);
     }
-    let text = quoted(alloc, key)?;
+    let text = basic_string(alloc, key)?;
     key_path(alloc, path, &text)
 }
 
@@ -31,17 +31,17 @@ fn is_control(byte: u8) -> bool
     byte < 32 || byte == 127
 }
 
-fn quoted(alloc: Global, text: &str) -> Result<String, AllocError>
+fn basic_string(alloc: Global, text: &str) -> Result<String, AllocError>
     ensures { IfOk result (λ found. string_bytes found ≡ basic_string text.now) }
 {
-    let content = escaped(alloc, text)?;
+    let content = basic_content(alloc, text)?;
     let mut found = String::from_str(alloc, "\"")?;
     found.push_str(&content)?;
     found.push_str("\"")?;
     Ok(found)
 }
 
-fn escaped(alloc: Global, text: &str) -> Result<String, AllocError>
+fn basic_content(alloc: Global, text: &str) -> Result<String, AllocError>
     ensures { IfOk result (λ found. string_bytes found ≡ basic_content text.now) }
 {
     let mut found = String::new(alloc);

@@ -22,7 +22,7 @@ impl Machine {
     }
 
     /// Where enqueue wanted the task at hand to wait, for that processor.
-    fn wanted(&self, cpu: u32) -> Insert
+    fn enqueue_choice(&self, cpu: u32) -> Insert
         ensures { result ≡ enqueue_choice self.now.policy.callbacks.enqueue cpu self.now.world.call.insert }
     {
         if self.policy.program(Callback::Enqueue).is_none() {
@@ -55,7 +55,7 @@ impl Machine {
         if self.is_ejected() {
             self.enter_builtin(task, sink);
         } else {
-            self.enter(task, self.wanted(cpu), sink);
+            self.enter(task, self.enqueue_choice(cpu), sink);
         }
     }
 

@@ -162,7 +162,7 @@ impl Sketch for Chart {
 
     fn end_task(&mut self, moment: u64, task: u16) {
         self.page.clear();
-        self.page.first = parked(self.pauses.unfinished(task, moment));
+        self.page.first = parked(self.pauses.open_pause(task, moment));
     }
 
     fn end(&mut self, _moment: u64) {

@@ -170,7 +170,7 @@ impl Sketch for Drawing {
 
     fn end_task(&mut self, moment: u64, task: u16) {
         self.page.clear();
-        let pause = self.pauses.unfinished(task, moment);
+        let pause = self.pauses.open_pause(task, moment);
         self.put_pause(pause);
     }
 

@@ -207,7 +207,7 @@ impl Tally {
         ensures pauses { self.new.pauses ≡ self.old.pauses }
         ensures before { is_err self.new.result ≡ false → is_err self.old.result ≡ false }
     {
-        if let Some(pause) = self.pauses.unfinished(task, clock) {
+        if let Some(pause) = self.pauses.open_pause(task, clock) {
             if self.result.is_ok() {
                 self.result = add_pause(&mut self.tasks, pause);
             }

@@ -14,7 +14,7 @@ use scx_arithmetic as numbers;
 use scx_isa::{Comparison, Operand, Register, Value, Width};
 
 /// What a comparison finds; `None` where it has no meaning.
-pub fn compared(
+pub fn comparison_answer(
     core: &Core,
     width: Width,
     comparison: Comparison,

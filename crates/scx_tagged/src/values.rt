@@ -37,7 +37,7 @@ pub fn binary(
         (register_value core.now (number destination)) operand }
 {
     match operation {
-        Operation::Move => moved(width, operand_value(core, width, operand)),
+        Operation::Move => copy_of(width, operand_value(core, width, operand)),
         _ => arithmetic(
             core,
             maps,
@@ -50,7 +50,7 @@ pub fn binary(
 }
 
 /// What a move copies: a number, and at 64 bits a pointer too.
-fn moved(width: Width, value: Value) -> Option<Value>
+fn copy_of(width: Width, value: Value) -> Option<Value>
     ensures { result ≡ copy_of width value }
 {
     match (width, value) {
@@ -72,7 +72,12 @@ fn arithmetic(
     ensures { result ≡ arithmetic (seen core.now maps.now) width operation old operand }
 {
     match old {
-        Value::Number(a) => combined(width, operation, a, operand_value(core, width, operand)),
+        Value::Number(a) => number_arithmetic(
+            width,
+            operation,
+            a,
+            operand_value(core, width, operand),
+        ),
         Value::Pointer(pointer) => {
             pointer_combined(core, maps, width, operation, pointer, operand)
         }
@@ -81,7 +86,7 @@ fn arithmetic(
 }
 
 /// What arithmetic makes of a number and an operand.
-fn combined(width: Width, operation: Operation, a: u64, operand: Value) -> Option<Value>
+fn number_arithmetic(width: Width, operation: Operation, a: u64, operand: Value) -> Option<Value>
     ensures { result ≡ number_arithmetic width operation a operand }
 {
     match operand {
@@ -108,7 +113,7 @@ fn pointer_combined(
             Operation::Add,
             Pointer::Element { map, index, offset },
             Operand::Register(register),
-        ) => advanced(maps, map, index, offset, core.read(register)),
+        ) => pointer_plus_number(maps, map, index, offset, core.read(register)),
         _ => pointer_moved(
             maps,
             pointer,
@@ -118,7 +123,7 @@ fn pointer_combined(
 }
 
 /// The pointer into an element to which a number is added.
-fn advanced(maps: &Maps, map: u8, index: u32, at: u16, by: Value) -> Option<Value>
+fn pointer_plus_number(maps: &Maps, map: u8, index: u32, at: u16, by: Value) -> Option<Value>
     ensures { result ≡ pointer_plus_number maps.now map index at by }
 {
     match by {

@@ -11,7 +11,7 @@ use scx_semantics::{Access, Comparison, Operation, Register, Width};
 /// What the front of a line says, and the tokens behind it.
 pub(crate) type Read<'t, 'a, T> = Option<(T, &'t [Token<'a>])>;
 
-fn written(is_negative: bool, magnitude: Option<u64>) -> Literal
+fn literal(is_negative: bool, magnitude: Option<u64>) -> Literal
     ensures { result ≡ literal is_negative magnitude }
 {
     Literal {
@@ -29,8 +29,8 @@ pub(crate) fn read_literal<'t, 'a>(tokens: &'t [Token<'a>]) -> Read<'t, 'a, Lite
             Token::Mark(Symbol::Minus),
             Token::Number(true, magnitude),
             rest @ ..,
-        ] => Some((written(true, *magnitude), rest)),
-        [Token::Number(_, magnitude), rest @ ..] => Some((written(false, *magnitude), rest)),
+        ] => Some((literal(true, *magnitude), rest)),
+        [Token::Number(_, magnitude), rest @ ..] => Some((literal(false, *magnitude), rest)),
         _ => None,
     }
 }
@@ -44,12 +44,12 @@ pub(crate) fn read_offset<'t, 'a>(tokens: &'t [Token<'a>]) -> Read<'t, 'a, Liter
             Token::Mark(Symbol::Plus),
             Token::Number(_, magnitude),
             rest @ ..,
-        ] => Some((written(false, *magnitude), rest)),
+        ] => Some((literal(false, *magnitude), rest)),
         [
             Token::Mark(Symbol::Minus),
             Token::Number(_, magnitude),
             rest @ ..,
-        ] => Some((written(true, *magnitude), rest)),
+        ] => Some((literal(true, *magnitude), rest)),
         _ => None,
     }
 }
@@ -63,12 +63,12 @@ fn read_distance<'t, 'a>(tokens: &'t [Token<'a>]) -> Read<'t, 'a, Literal>
             Token::Mark(Symbol::Plus),
             Token::Number(true, magnitude),
             rest @ ..,
-        ] => Some((written(false, *magnitude), rest)),
+        ] => Some((literal(false, *magnitude), rest)),
         [
             Token::Mark(Symbol::Minus),
             Token::Number(true, magnitude),
             rest @ ..,
-        ] => Some((written(true, *magnitude), rest)),
+        ] => Some((literal(true, *magnitude), rest)),
         _ => None,
     }
 }

@@ -39,7 +39,7 @@ fn same(left: Register, right: Register) -> bool
 }
 
 /// `rD = -rD`.
-fn negated<'a>(
+fn negation<'a>(
     width: Width,
     register: Register,
     name: &[u8],
@@ -55,7 +55,11 @@ fn negated<'a>(
 }
 
 /// `rD = (s8)rS`, behind the parenthesis.
-fn extended<'a>(width: Width, register: Register, tokens: &[Token<'a>]) -> Option<Item<'a>>
+fn sign_extending_move<'a>(
+    width: Width,
+    register: Register,
+    tokens: &[Token<'a>],
+) -> Option<Item<'a>>
     ensures { option_map item_value result ≡ sign_extending_move width register (lexemes tokens.now) }
 {
     let (access, rest) = read_access(tokens)?;
@@ -65,7 +69,7 @@ fn extended<'a>(width: Width, register: Register, tokens: &[Token<'a>]) -> Optio
 }
 
 /// `rD = *(u8 *)(rS + O)`, behind the star.
-fn loaded<'a>(width: Width, register: Register, tokens: &[Token<'a>]) -> Option<Item<'a>>
+fn load_line<'a>(width: Width, register: Register, tokens: &[Token<'a>]) -> Option<Item<'a>>
     ensures { option_map item_value result ≡ load_line width register (lexemes tokens.now) }
 {
     match width {
@@ -127,7 +131,7 @@ fn byte_swapped<'a>(register: Register, name: &[u8], tokens: &[Token<'a>]) -> Op
 }
 
 /// `rD = map N`.
-fn mapped<'a>(register: Register, tokens: &[Token<'a>]) -> Option<Item<'a>>
+fn map_load<'a>(register: Register, tokens: &[Token<'a>]) -> Option<Item<'a>>
     ensures { option_map item_value result ≡ map_load register (lexemes tokens.now) }
 {
     let (map, rest) = read_literal(tokens)?;
@@ -147,7 +151,7 @@ fn special<'a>(
         Width::Bits32 => None,
         Width::Bits64 => {
             if is_word(name, "map") {
-                mapped(register, tokens)
+                map_load(register, tokens)
             } else {
                 byte_swapped(register, name, tokens)
             }
@@ -173,25 +177,29 @@ fn named<'a>(
 }
 
 /// What stands behind `rD =`.
-fn given<'a>(width: Width, register: Register, tokens: &[Token<'a>]) -> Option<Item<'a>>
+fn behind_equals<'a>(width: Width, register: Register, tokens: &[Token<'a>]) -> Option<Item<'a>>
     ensures { option_map item_value result ≡ behind_equals width register (lexemes tokens.now) }
 {
     match tokens {
         [Token::Word(name), rest @ ..] => named(width, register, name, rest),
-        _ => computed(width, register, tokens),
+        _ => behind_equals_no_word(width, register, tokens),
     }
 }
 
 /// What stands behind `rD =`, if it is no word.
-fn computed<'a>(width: Width, register: Register, tokens: &[Token<'a>]) -> Option<Item<'a>>
+fn behind_equals_no_word<'a>(
+    width: Width,
+    register: Register,
+    tokens: &[Token<'a>],
+) -> Option<Item<'a>>
     ensures { option_map item_value result ≡ behind_equals_no_word width register (lexemes tokens.now) }
 {
     match tokens {
-        [Token::Mark(Symbol::Minus), Token::Word(name), rest @ ..] => negated(
+        [Token::Mark(Symbol::Minus), Token::Word(name), rest @ ..] => negation(
             width, register, name, rest,
         ),
-        [Token::Mark(Symbol::Opening), rest @ ..] => extended(width, register, rest),
-        [Token::Mark(Symbol::Star), rest @ ..] => loaded(width, register, rest),
+        [Token::Mark(Symbol::Opening), rest @ ..] => sign_extending_move(width, register, rest),
+        [Token::Mark(Symbol::Star), rest @ ..] => load_line(width, register, rest),
         _ => {
             let (number, rest) = read_literal(tokens)?;
             load_immediate(width, register, number, rest)
@@ -199,7 +207,7 @@ fn computed<'a>(width: Width, register: Register, tokens: &[Token<'a>]) -> Optio
     }
 }
 
-fn operated<'a>(
+fn arithmetic<'a>(
     width: Width,
     operation: Operation,
     register: Register,
@@ -216,20 +224,22 @@ fn operated<'a>(
 }
 
 /// What stands behind the register that a line begins with.
-fn assigned<'a>(width: Width, register: Register, tokens: &[Token<'a>]) -> Option<Item<'a>>
+fn behind_register<'a>(width: Width, register: Register, tokens: &[Token<'a>]) -> Option<Item<'a>>
     ensures { option_map item_value result ≡ behind_register width register (lexemes tokens.now) }
 {
     match tokens {
-        [Token::Mark(Symbol::Assign(Operation::Move)), rest @ ..] => given(width, register, rest),
+        [Token::Mark(Symbol::Assign(Operation::Move)), rest @ ..] => behind_equals(
+            width, register, rest,
+        ),
         [Token::Mark(Symbol::Assign(operation)), rest @ ..] => {
-            operated(width, *operation, register, rest)
+            arithmetic(width, *operation, register, rest)
         }
         _ => None,
     }
 }
 
 /// `*(u8 *)(rD + O) = rS`, behind the star.
-fn stored<'a>(tokens: &[Token<'a>]) -> Option<Item<'a>>
+fn store_line<'a>(tokens: &[Token<'a>]) -> Option<Item<'a>>
     ensures { option_map item_value result ≡ store_line (lexemes tokens.now) }
 {
     let (memory, rest) = read_memory_operand(tokens)?;
@@ -240,7 +250,11 @@ fn stored<'a>(tokens: &[Token<'a>]) -> Option<Item<'a>>
 }
 
 /// The comparison of a register, behind its name.
-fn compared<'t, 'a>(width: Width, register: Register, tokens: &'t [Token<'a>]) -> Read<'t, 'a, Jump>
+fn comparison<'t, 'a>(
+    width: Width,
+    register: Register,
+    tokens: &'t [Token<'a>],
+) -> Read<'t, 'a, Jump>
     ensures { option_map (λ x. (x.0, lexemes x.1.now)) result
         ≡ comparison width register (lexemes tokens.now) }
 {
@@ -255,19 +269,19 @@ fn condition<'a>(tokens: &[Token<'a>]) -> Option<Item<'a>>
 {
     let (name, rest) = read_word(tokens)?;
     let (width, register) = register_named(name)?;
-    let (jump, rest) = compared(width, register, rest)?;
+    let (jump, rest) = comparison(width, register, rest)?;
     let (target, rest) = read_goto(rest)?;
     end(rest, Item::Jump(jump, target))
 }
 
-fn jumped<'a>(jump: Jump, tokens: &[Token<'a>]) -> Option<Item<'a>>
+fn jump_to<'a>(jump: Jump, tokens: &[Token<'a>]) -> Option<Item<'a>>
     ensures { option_map item_value result ≡ jump_to jump (lexemes tokens.now) }
 {
     let (target, rest) = read_target(tokens)?;
     end(rest, Item::Jump(jump, target))
 }
 
-fn called<'a>(tokens: &[Token<'a>]) -> Option<Item<'a>>
+fn helper_call<'a>(tokens: &[Token<'a>]) -> Option<Item<'a>>
     ensures { option_map item_value result ≡ helper_call (lexemes tokens.now) }
 {
     let (helper, rest) = read_literal(tokens)?;
@@ -281,11 +295,11 @@ fn keyword<'a>(name: &[u8], tokens: &[Token<'a>]) -> Option<Item<'a>>
     if is_word(name, "if") {
         condition(tokens)
     } else if is_word(name, "goto") {
-        jumped(Jump::Goto, tokens)
+        jump_to(Jump::Goto, tokens)
     } else if is_word(name, "gotol") {
-        jumped(Jump::GotoLong, tokens)
+        jump_to(Jump::GotoLong, tokens)
     } else if is_word(name, "call") {
-        called(tokens)
+        helper_call(tokens)
     } else if is_word(name, "exit") {
         says(Statement::Exit, tokens)
     } else {
@@ -297,7 +311,7 @@ fn statement_of<'a>(name: &[u8], tokens: &[Token<'a>]) -> Option<Item<'a>>
     ensures { option_map item_value result ≡ statement_of name.now (lexemes tokens.now) }
 {
     match register_named(name) {
-        Some((width, register)) => assigned(width, register, tokens),
+        Some((width, register)) => behind_register(width, register, tokens),
         None => keyword(name, tokens),
     }
 }
@@ -313,7 +327,7 @@ pub fn item_of<'a>(tokens: &[Token<'a>]) -> Option<Item<'a>>
             Item::Label(label),
         ),
         [Token::Word(name), rest @ ..] => statement_of(name, rest),
-        [Token::Mark(Symbol::Star), rest @ ..] => stored(rest),
+        [Token::Mark(Symbol::Star), rest @ ..] => store_line(rest),
         _ => None,
     }
 }

@@ -123,7 +123,7 @@ impl Pauses {
     }
 
     /// The pause of that task, if it waits or is parked now.
-    pub fn unfinished(&self, task: u16, now: u64) -> Option<Pause>
+    pub fn open_pause(&self, task: u16, now: u64) -> Option<Pause>
         ensures { result ≡ open_pause now self.now task }
     {
         match self.doing_at(task) {
@@ -163,7 +163,7 @@ impl Pauses {
         ensures doing { self.new ≡ slice_set self.old task doing }
         ensures ended { result ≡ open_pause now self.old task }
     {
-        let pause = self.unfinished(task, now);
+        let pause = self.open_pause(task, now);
         if let Some(place) = self.doing.get_mut(task as usize) {
             *place = doing;
         }

@@ -45,14 +45,14 @@ impl Insert {
         ensures { result ≡ for_cpu cpu self }
     {
         Insert {
-            queue: resolved(cpu, self.queue),
+            queue: queue_for(cpu, self.queue),
             slice: self.slice,
             rank: self.rank,
         }
     }
 }
 
-fn resolved(cpu: u32, queue: u64) -> u64
+fn queue_for(cpu: u32, queue: u64) -> u64
     ensures { result ≡ queue_for cpu queue }
 {
     if queue == LOCAL {

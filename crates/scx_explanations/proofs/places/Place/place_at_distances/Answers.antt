@@ -2,7 +2,7 @@ use Rattle.std.proofs.Common.{rules, arith, ◌≡◌, min}
 use Rattle.std.proofs.lemmas.Int.{ints}
 use Rattle.std.proofs.lemmas.Grind.{common_steps}
 use Rattle.scx_explanations.proofs.Sums.{added, same_place}
-use Rattle.scx_explanations.proofs.places.Place.moved.Goals as goal
+use Rattle.scx_explanations.proofs.places.Place.place_at_distances.Goals as goal
 
 pub returns : goal.returns
 returns c =

@@ -2,7 +2,7 @@ use Rattle.std.proofs.Common.{flat_map, sym, ap, ◌∙◌, map-id}
 use Rattle.std.proofs.lemmas.Iterator.{YieldsList-from_chars}
 use Rattle.std.proofs.lemmas.Iterator.Consumers.{YieldsList-end}
 use Rattle.scx_files.specs.Keys.{escape}
-use Rattle.scx_files.proofs.keys.escaped.Goals as goal
+use Rattle.scx_files.proofs.keys.basic_content.Goals as goal
 
 pub returns : goal.returns
 returns c =
