@@ -1,5 +1,6 @@
--- The rule of helper calls: the helper is there, then it may be called in this callback, then each
--- argument from r1 on is what it takes. After a call r0 has the answer's kind, and r1 to r5 are unusable.
+-- The rule of helper calls: the helper is there, then it may be called in this callback,
+-- then each argument from r1 on is what it takes. After a call r0 has the answer's kind, and
+-- r1 to r5 are unusable.
 use Rattle.std.specs.Prelude.{ℕ, ◌+◌, ◌/◌, ◌%◌, pos, List, [], ◌∷◌, Option, Some, None, Result, Ok, Err, if◌then◌else◌}
 use Rattle.scx_semantics.specs.declared.callbacks.Callback.{Callback}
 use Rattle.scx_semantics.specs.declared.host_tables.Helper.{Helper}
@@ -77,7 +78,9 @@ arguments_check shapes a (p ∷ ps) r = do
 -- the state with r1 to r5 unusable
 abbrev pub without_arguments : AbsState → AbsState
 without_arguments a =
-    with_kind (with_kind (with_kind (with_kind (with_kind a 1 Unusable) 2 Unusable) 3 Unusable) 4 Unusable) 5 Unusable
+    with_kind
+    (with_kind (with_kind (with_kind (with_kind a 1 Unusable) 2 Unusable) 3 Unusable) 4 Unusable)
+    5 Unusable
 
 -- the state after a helper was called: its answer's kind in r0, r1 to r5 unusable, the stack kept
 abbrev pub after_call : AbsState → Kind → AbsState
@@ -105,4 +108,5 @@ call_allowed shapes h a = do
 -- the rule of a call of that helper, if there is one and the callback allows it
 abbrev pub call_rule : List Shape → Callback → Option Helper → AbsState → Result Next Why
 call_rule shapes c None a = Err UnknownHelper
-call_rule shapes c (Some h) a = if is_allowed h c then call_allowed shapes h a else Err HelperNotHere
+call_rule shapes c (Some h) a =
+    if is_allowed h c then call_allowed shapes h a else Err HelperNotHere

@@ -1,6 +1,6 @@
--- What a cell of the stack keeps, and the order on cells. A cell that knows more written bytes is covered
--- by one that knows fewer; a stored pointer by one of a kind that covers its kind, and by a cell that
--- knows nothing.
+-- What a cell of the stack keeps, and the order on cells. A cell that knows more written bytes is
+-- covered by one that knows fewer; a stored pointer by one of a kind that covers its kind, and by
+-- a cell that knows nothing.
 use Rattle.std.specs.Prelude.{◌≡◌, ℕ, zero, suc, ◌+◌, ◌<◌, Bool, true, false, ◌&&◌, ◌||◌, nat_le, nat_lt, List, [], ◌∷◌, length, slice_index_or, Option, Some, None, IsTrue}
 use Rattle.scx_abs.specs.declared.kinds.Kind.{Kind}
 use Rattle.scx_abs.specs.declared.kinds.Kind.TheVariants.{Unusable, Num, Stack, Elem, ElemOrNull, Task, TaskOrNull, MapRef}
@@ -52,7 +52,8 @@ common a b = each_byte (λ j. is_written a j && is_written b j)
 
 -- the set with so many bytes from one on
 abbrev pub with_bytes : List Bool → ℕ → ℕ → List Bool
-with_bytes set first count = each_byte (λ j. is_written set j || (nat_le first j && nat_lt j (first + count)))
+with_bytes set first count =
+    each_byte (λ j. is_written set j || (nat_le first j && nat_lt j (first + count)))
 
 -- so many bytes from one on are known to be written
 abbrev pub all_written : List Bool → ℕ → ℕ → Bool
@@ -79,8 +80,8 @@ CoversCell (Pointer j) (Bytes a) = ⊥
 
 -- ---- proper cells
 
--- it holds a pointer of a proper kind, or it says of each of the eight bytes whether it is known to be
--- written
+-- it holds a pointer of a proper kind, or it says of each of the eight bytes whether it is
+-- known to be written
 abbrev pub IsProperCell : Cell → Type 0
 IsProperCell (Bytes set) = length set ≡ 8
 IsProperCell (Pointer k) = IsProperKind (kind_of k)

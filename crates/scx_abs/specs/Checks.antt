@@ -1,4 +1,5 @@
--- Checks, one behind another: the first that fails is the refusal, and those behind it aren't looked at.
+-- Checks, one behind another: the first that fails is the refusal, and those behind it
+-- aren't looked at.
 use Rattle.std.specs.Prelude.{ℕ, ◌+◌, ◌%◌, nat_eq, nat_le, ℤ, List, Option, Some, None, slice_get, Result, Ok, Err, ok_or, if◌then◌else◌}
 use Rattle.scx_semantics.specs.declared.instructions.Operand.{Operand}
 use Rattle.scx_semantics.specs.declared.instructions.Operand.TheVariants as operand
@@ -75,10 +76,12 @@ offset_within size at = ok_or (within size at) OutOfBounds
 abbrev pub offset_for : ℕ → ℕ → Option ℕ → Result ℕ Why
 offset_for size n None = Err OutOfBounds
 offset_for size n (Some at) =
-    if nat_le (at + n) size then if nat_eq (at % n) 0 then Ok at else Err Misaligned else Err OutOfBounds
+    if nat_le (at + n) size then if nat_eq (at % n) 0 then Ok at else Err Misaligned
+    else Err OutOfBounds
 
--- whether, that distance on from each of the offsets in an element of so many bytes, n bytes lie in it
--- and the place is a multiple of n
+-- whether, that distance on from each of the offsets in an element of so many bytes, n bytes lie in
+-- it and the place is a multiple of n
 abbrev pub offsets_for : ℕ → ℕ → Range → ℤ → Result (Unit {0}) Why
 offsets_for size n r k =
-    if are_inside size n r k then if are_aligned n r k then Ok tt else Err Misaligned else Err OutOfBounds
+    if are_inside size n r k then if are_aligned n r k then Ok tt else Err Misaligned
+    else Err OutOfBounds

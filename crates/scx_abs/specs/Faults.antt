@@ -1,5 +1,5 @@
--- The numbers and names of the checks that may fail at an instruction, as a refusal prints them. They
--- are this project's own, and go on from those of a program's flow.
+-- The numbers and names of the checks that may fail at an instruction, as a refusal prints them.
+-- They are this project's own, and go on from those of a program's flow.
 use Rattle.std.specs.Prelude.{ℕ, List, codes}
 use Rattle.scx_abs.specs.declared.faults.Why.{Why}
 use Rattle.scx_abs.specs.declared.faults.Why.TheVariants.{UnusableRegister, WritesFrame, UnwrittenStack, OutOfBounds, Misaligned, NullNotTested, PointerArithmetic, PointerCompare, PointerStore, TaskField, UnknownHelper, HelperNotHere, BadArgument, BadReturn, UnknownMap}

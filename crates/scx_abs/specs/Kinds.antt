@@ -1,14 +1,15 @@
--- The order on kinds: what covers a kind says no more than it. A kind is covered by itself and by
--- Unusable, which says nothing; a pointer that isn't null, also by the kind that may be null. The join
--- of two kinds is the least that covers both, which is Unusable where nothing else does. Numbers, and
--- pointers into elements of one map, are ordered by their ranges.
+-- The order on kinds: what covers a kind says no more than it. A kind is covered by itself and
+-- by Unusable, which says nothing; a pointer that isn't null, also by the kind that may be null.
+-- The join of two kinds is the least that covers both, which is Unusable where nothing else does.
+-- Numbers, and pointers into elements of one map, are ordered by their ranges.
 use Rattle.std.specs.Prelude.{◌≡◌, Bool, ◌&&◌, nat_eq, if◌then◌else◌}
 use Rattle.scx_ranges.specs.Ranges.{IsWellFormed, IsRange, CoversRange, join_ranges}
 use Rattle.scx_abs.specs.declared.kinds.Kind.{Kind}
 use Rattle.scx_abs.specs.declared.kinds.Kind.TheVariants.{Unusable, Num, Stack, Elem, ElemOrNull, Task, TaskOrNull, MapRef}
 
 -- in an order, the first covers the other two, and whatever covers both covers it
-pub record IsLeastCover {A : Type 0} (Covers : A → A → Type 0) (joined first second : A) : Type 0 where
+pub record IsLeastCover {A : Type 0} (Covers : A → A → Type 0) (joined first second : A)
+    : Type 0 where
   pub covers_first : Covers joined first
   pub covers_second : Covers joined second
   pub least : (x : A) → Covers x first → Covers x second → Covers x joined

@@ -41,13 +41,14 @@ abbrev pub IsSoundFor : List Shape → Result Next Why → Effect → Type 0
 IsSoundFor shapes (Err why) e = Unit {0}
 IsSoundFor shapes (Ok next) e = FlowsIn shapes next e
 
--- Where the checks of an instruction pass, no state that is stood for is stuck, and what it leads to is
--- stood for by what flows on, whatever the host answers, as long as it fits. The instruction's numbers
--- fit their fields, and the state is proper.
+-- Where the checks of an instruction pass, no state that is stood for is stuck, and what it
+-- leads to is stood for by what flows on, whatever the host answers, as long as it fits. The
+-- instruction's numbers fit their fields, and the state is proper.
 abbrev pub RulesAreSound : Type 0
 RulesAreSound =
     (shapes : List Shape) (c : Callback) (i : Insn) (a : AbsState) (m : Machine)
-    → IsInsn i → IsProper a → IsMember shapes a m → IsSoundFor shapes (rule shapes c i a) (act c i m)
+    → IsInsn i → IsProper a → IsMember shapes a m
+    → IsSoundFor shapes (rule shapes c i a) (act c i m)
 
 -- whether it is a call of a helper, or a jump that tests a register for 0
 abbrev pub is_call_or_null_test : Insn → Bool
@@ -59,13 +60,15 @@ is_call_or_null_test i = false
 abbrev pub PlainRulesAreSound : Type 0
 PlainRulesAreSound =
     (shapes : List Shape) (c : Callback) (i : Insn) (a : AbsState) (m : Machine)
-    → IsFalse (is_call_or_null_test i) → IsInsn i → IsProper a → IsMember shapes a m → IsSoundFor shapes (rule shapes c i a) (act c i m)
+    → IsFalse (is_call_or_null_test i) → IsInsn i → IsProper a → IsMember shapes a m
+    → IsSoundFor shapes (rule shapes c i a) (act c i m)
 
 -- The rule is sound for calls of helpers and for jumps that test a register for 0.
 abbrev pub CallsAndNullTestsAreSound : Type 0
 CallsAndNullTestsAreSound =
     (shapes : List Shape) (c : Callback) (i : Insn) (a : AbsState) (m : Machine)
-    → IsTrue (is_call_or_null_test i) → IsInsn i → IsProper a → IsMember shapes a m → IsSoundFor shapes (rule shapes c i a) (act c i m)
+    → IsTrue (is_call_or_null_test i) → IsInsn i → IsProper a → IsMember shapes a m
+    → IsSoundFor shapes (rule shapes c i a) (act c i m)
 
 -- A callback's start state stands for all states in which it may begin.
 abbrev pub StartIsSound : Type 0
@@ -75,7 +78,9 @@ StartIsSound =
 
 -- What covers an abstract state stands for all that it stands for.
 abbrev pub CoversMore : Type 0
-CoversMore = (shapes : List Shape) (b a : AbsState) (m : Machine) → CoversState b a → IsMember shapes a m → IsMember shapes b m
+CoversMore =
+    (shapes : List Shape) (b a : AbsState) (m : Machine)
+    → CoversState b a → IsMember shapes a m → IsMember shapes b m
 
 -- The order is one: each state covers itself, and what covers a cover covers.
 abbrev pub CoversItself : Type 0
@@ -87,7 +92,8 @@ CoversThrough = (c b a : AbsState) → CoversState c b → CoversState b a → C
 
 -- Proper states that cover each other are one.
 abbrev pub CoversBothWays : Type 0
-CoversBothWays = (a b : AbsState) → IsProper a → IsProper b → CoversState a b → CoversState b a → a ≡ b
+CoversBothWays =
+    (a b : AbsState) → IsProper a → IsProper b → CoversState a b → CoversState b a → a ≡ b
 
 -- ---- proper states
 
@@ -99,7 +105,8 @@ StartIsProper = (c : Callback) → IsProper (start_of c)
 abbrev pub FlowsProper : Next → Type 0
 FlowsProper next = IfSome next.on IsProper × IfSome next.jump IsProper
 
--- What flows on from an instruction in a proper state is proper. The instruction's numbers fit their fields.
+-- What flows on from an instruction in a proper state is proper. The instruction's numbers
+-- fit their fields.
 abbrev pub RulesKeepProper : Type 0
 RulesKeepProper =
     (shapes : List Shape) (c : Callback) (i : Insn) (a : AbsState)

@@ -1,6 +1,6 @@
--- The laws of rules and joins against the order. Rules are monotone: what passes in a state passes in
--- each state that it covers, and what flows on is covered too; so no check is stronger where more is
--- known. A join is the least that covers both, and grows with each.
+-- The laws of rules and joins against the order. Rules are monotone: what passes in a state passes
+-- in each state that it covers, and what flows on is covered too; so no check is stronger where
+-- more is known. A join is the least that covers both, and grows with each.
 use Rattle.std.specs.Prelude.{List, Option, Result, Ok, Err, IfSome}
 use Rattle.scx_semantics.specs.declared.instructions.Insn.{Insn}
 use Rattle.scx_semantics.specs.declared.callbacks.Callback.{Callback}
@@ -38,7 +38,8 @@ pub record CoversFlows (next other : Next) : Type 0 where
 abbrev pub RulesAreMonotone : Type 0
 RulesAreMonotone =
     (shapes : List Shape) (c : Callback) (i : Insn) (b a : AbsState)
-    → IsInsn i → IsProper b → IsProper a → CoversState b a → PassesToo CoversFlows (rule shapes c i b) (rule shapes c i a)
+    → IsInsn i → IsProper b → IsProper a → CoversState b a
+    → PassesToo CoversFlows (rule shapes c i b) (rule shapes c i a)
 
 -- ---- joins
 
@@ -54,4 +55,5 @@ JoinOfCellsIsLeast = (x y : Cell) → IsLeastCover CoversCell (join_cell x y) x 
 abbrev pub JoinsAreMonotone : Type 0
 JoinsAreMonotone =
     (x y a b c d : AbsState)
-    → IsLeastCover CoversState x a b → IsLeastCover CoversState y c d → CoversState a c → CoversState b d → CoversState x y
+    → IsLeastCover CoversState x a b → IsLeastCover CoversState y c d → CoversState a c
+    → CoversState b d → CoversState x y

@@ -43,4 +43,5 @@ kind_stored shapes a s base offset k = area_of shapes base offset (size_bytes s)
 
 -- and of an operand
 abbrev pub operand_stored : List Shape → AbsState → Size → Kind → ℤ → Operand → Result Next Why
-operand_stored shapes a s base offset x = operand_kind a Bits64 x >>= kind_stored shapes a s base offset
+operand_stored shapes a s base offset x =
+    operand_kind a Bits64 x >>= kind_stored shapes a s base offset

@@ -1,7 +1,7 @@
--- The rule of each instruction: what it needs of the abstract state before it, check by check, and what
--- flows on from it. A check that fails gives its refusal, and the checks behind it aren't looked at. A
--- register that is written is looked at first, then the registers that are read, the destination before
--- the source, then the address, and then the value that is stored.
+-- The rule of each instruction: what it needs of the abstract state before it, check by check,
+-- and what flows on from it. A check that fails gives its refusal, and the checks behind it aren't
+-- looked at. A register that is written is looked at first, then the registers that are read, the
+-- destination before the source, then the address, and then the value that is stored.
 use Rattle.std.specs.Prelude.{ℕ, ◌/◌, ◌%◌, ℤ, pos, unsigned_abs, Bool, true, false, nat_eq, nat_lt, List, length, Option, Some, None, option_map, Result, Ok, Err, if◌then◌else◌}
 use Rattle.scx_semantics.specs.declared.instructions.Insn.{Insn}
 use Rattle.scx_semantics.specs.declared.instructions.Insn.TheVariants as insn
@@ -60,7 +60,8 @@ abbrev pub moved_by : List Shape → Kind → Option ℤ → Result Kind Why
 moved_by shapes (Stack o) (Some k) = do
   to ← offset_within stack_size (at_distance o k)
   Ok (Stack to)
-moved_by shapes (Elem m r) (Some k) = in_element m (offsets_plus_constant (element_size shapes m) r k)
+moved_by shapes (Elem m r) (Some k) =
+    in_element m (offsets_plus_constant (element_size shapes m) r k)
 moved_by shapes k distance = Err PointerArithmetic
 
 -- a move copies a number, and one of 64 bits a pointer too
@@ -79,27 +80,31 @@ abbrev pub advanced_by : List Shape → ℕ → Range → Kind → Result Kind W
 advanced_by shapes m r (Num s) = in_element m (offsets_plus_range (element_size shapes m) r s)
 advanced_by shapes m r k = Err PointerArithmetic
 
--- A 64-bit sum with a register takes a pointer into an element that far on. Other arithmetic moves it
--- as it moves a pointer to the stack.
-abbrev pub element_kind : List Shape → Width → Operation → Operand → ℕ → Range → Kind → Result Kind Why
+-- A 64-bit sum with a register takes a pointer into an element that far on. Other arithmetic moves
+-- it as it moves a pointer to the stack.
+abbrev pub element_kind :
+    List Shape → Width → Operation → Operand → ℕ → Range → Kind → Result Kind Why
 element_kind shapes Bits64 Add (operand.Register d) m r k = advanced_by shapes m r k
 element_kind shapes w o x m r k = moved_by shapes (Elem m r) (pointer_step w o x)
 
 -- what it makes of the destination's kind and the operand's
-abbrev pub arithmetic_kind : List Shape → Width → Operation → Operand → Kind → Kind → Result Kind Why
+abbrev pub arithmetic_kind :
+    List Shape → Width → Operation → Operand → Kind → Kind → Result Kind Why
 arithmetic_kind shapes w o x (Num r) k = computed_kind w o r k
 arithmetic_kind shapes w o x (Elem m r) k = element_kind shapes w o x m r k
 arithmetic_kind shapes w o x j k = moved_by shapes j (pointer_step w o x)
 
 -- what arithmetic leaves that reads its destination before the operand: all but a move
-abbrev pub combined_kind : List Shape → AbsState → Width → Operation → Register → Operand → Result Kind Why
+abbrev pub combined_kind :
+    List Shape → AbsState → Width → Operation → Register → Operand → Result Kind Why
 combined_kind shapes a w o d x = do
   j ← usable (kind_at a (number d))
   k ← operand_kind a w x
   arithmetic_kind shapes w o x j k
 
 -- what arithmetic leaves in its destination; a move reads the operand alone
-abbrev pub binary_kind : List Shape → AbsState → Width → Operation → Register → Operand → Result Kind Why
+abbrev pub binary_kind :
+    List Shape → AbsState → Width → Operation → Register → Operand → Result Kind Why
 binary_kind shapes a w Move d x = do
   k ← operand_kind a w x
   moved_kind w k
@@ -146,7 +151,9 @@ area_of shapes Unusable offset n = Err UnusableRegister
 
 -- what a load gives that begins at that byte of the cell
 abbrev pub loaded_kind : Cell → Access → ℕ → Result Kind Why
-loaded_kind (Bytes set) a j = if all_written set j (size_bytes (access_size a)) then Ok (Num (loaded_range a)) else Err UnwrittenStack
+loaded_kind (Bytes set) a j =
+    if all_written set j (size_bytes (access_size a)) then Ok (Num (loaded_range a))
+    else Err UnwrittenStack
 loaded_kind (Pointer k) access.DoubleWord j = Ok (kind_of k)
 loaded_kind (Pointer k) a j = Err UnwrittenStack
 
@@ -154,7 +161,8 @@ loaded_kind (Pointer k) a j = Err UnwrittenStack
 abbrev pub kind_in : AbsState → Access → Area → Result Kind Why
 kind_in a access (OnStack at) = loaded_kind (cell_at a (at / 8)) access (at % 8)
 kind_in a access InElement = Ok (Num (loaded_range access))
-kind_in a access (InTask f) = if is_plain access then Ok (Num (loaded_range access)) else Err TaskField
+kind_in a access (InTask f) =
+    if is_plain access then Ok (Num (loaded_range access)) else Err TaskField
 
 -- what a load leaves, from the address in a register with an offset added
 abbrev pub load_kind : List Shape → AbsState → Access → Register → ℤ → Result Kind Why
@@ -200,7 +208,8 @@ store_rule shapes a s r offset x = do
 -- whether a comparison is a test for 0, and whether it jumps where it finds 0
 abbrev pub null_test : Width → Comparison → Operand → Option Bool
 null_test Bits64 Equal (operand.Immediate k) = if nat_eq (unsigned_abs k) 0 then Some true else None
-null_test Bits64 NotEqual (operand.Immediate k) = if nat_eq (unsigned_abs k) 0 then Some false else None
+null_test Bits64 NotEqual (operand.Immediate k) =
+    if nat_eq (unsigned_abs k) 0 then Some false else None
 null_test w c x = None
 
 -- the state where a register of that kind was found to be 0; a pointer that isn't null never is
@@ -222,15 +231,17 @@ null_test_rule a r k None = Err PointerCompare
 null_test_rule a r k (Some true) = Ok (flows (Some (if_not_null a r k)) (if_null a r k))
 null_test_rule a r k (Some false) = Ok (flows (if_null a r k) (Some (if_not_null a r k)))
 
--- the state where a comparison of the register's numbers with c has that answer; there is none where no
--- number is left
+-- the state where a comparison of the register's numbers with c has that answer; there is none
+-- where no number is left
 abbrev pub side : AbsState → ℕ → Comparison → Bool → ℕ → Range → Option AbsState
 side a r o b c s = option_map (λ t. with_kind a r (Num t)) (cut o b c s)
 
--- Two numbers are followed both ways. A comparison of 64 bits with a single number tells on each side
--- which the register's are; the other register's, or the same in a copy, stay as they are.
+-- Two numbers are followed both ways. A comparison of 64 bits with a single number tells on each
+-- side which the register's are; the other register's, or the same in a copy, stay as they are.
 abbrev pub sides : AbsState → ℕ → Width → Comparison → Range → Range → Next
-sides a r Bits64 o s t = if is_single t then flows (side a r o false t.low s) (side a r o true t.low s) else flows (Some a) (Some a)
+sides a r Bits64 o s t =
+    if is_single t then flows (side a r o false t.low s) (side a r o true t.low s)
+    else flows (Some a) (Some a)
 sides a r Bits32 o s t = flows (Some a) (Some a)
 
 -- a number is compared with a number
@@ -239,7 +250,8 @@ numbers_compared a r w o s (Num t) = Ok (sides a r w o s t)
 numbers_compared a r w o s k = Err PointerCompare
 
 -- a pointer is only tested for 0
-abbrev pub comparison_rule : AbsState → ℕ → Width → Comparison → Option Bool → Kind → Kind → Result Next Why
+abbrev pub comparison_rule :
+    AbsState → ℕ → Width → Comparison → Option Bool → Kind → Kind → Result Next Why
 comparison_rule a r w o test (Num s) k = numbers_compared a r w o s k
 comparison_rule a r w o test j k = null_test_rule a r j test
 
@@ -262,12 +274,17 @@ end_rule k = Err BadReturn
 -- the rule of an instruction in a callback, with maps of these shapes: what flows on, or a refusal
 abbrev pub rule : List Shape → Callback → Insn → AbsState → Result Next Why
 rule shapes c (insn.Binary w o d x) a = sets a (number d) (binary_kind shapes a w o d x)
-rule shapes c (insn.Negate w d) a = sets a (number d) (number_kind (negated_range w) (kind_at a (number d)))
-rule shapes c (insn.SignExtend e d r) a = sets a (number d) (number_kind (extended_range e) (kind_at a (number r)))
-rule shapes c (insn.ByteSwap o w d) a = sets a (number d) (number_kind (swapped_range o w) (kind_at a (number d)))
-rule shapes c (insn.LoadImmediate d low_half high_half) a = sets a (number d) (Ok (Num (single (wide_immediate low_half high_half))))
+rule shapes c (insn.Negate w d) a =
+    sets a (number d) (number_kind (negated_range w) (kind_at a (number d)))
+rule shapes c (insn.SignExtend e d r) a =
+    sets a (number d) (number_kind (extended_range e) (kind_at a (number r)))
+rule shapes c (insn.ByteSwap o w d) a =
+    sets a (number d) (number_kind (swapped_range o w) (kind_at a (number d)))
+rule shapes c (insn.LoadImmediate d low_half high_half) a =
+    sets a (number d) (Ok (Num (single (wide_immediate low_half high_half))))
 rule shapes c (insn.LoadMapReference d k) a = sets a (number d) (map_kind shapes k)
-rule shapes c (insn.Load access d r offset) a = sets a (number d) (load_kind shapes a access r offset)
+rule shapes c (insn.Load access d r offset) a =
+    sets a (number d) (load_kind shapes a access r offset)
 rule shapes c (insn.Store s r offset x) a = store_rule shapes a s r offset x
 rule shapes c (insn.JumpIf w k r x offset) a = jump_rule a w k r x
 rule shapes c (insn.Goto offset) a = Ok (flows None (Some a))

@@ -1,6 +1,6 @@
--- What an abstract state stands for: the states of a running program whose registers and stack fit it.
--- A number in a register is a member of its range, and so is the offset of a pointer into an element;
--- bytes are below 256.
+-- What an abstract state stands for: the states of a running program whose registers and stack fit
+-- it. A number in a register is a member of its range, and so is the offset of a pointer into an
+-- element; bytes are below 256.
 use Rattle.std.specs.Prelude.{ℕ, ◌+◌, ◌*◌, ◌≡◌, ◌<◌, List, Some, length, IsTrue}
 use Rattle.scx_semantics.specs.declared.values.Value.{Value}
 use Rattle.scx_semantics.specs.declared.values.Value.TheVariants as value
@@ -32,9 +32,11 @@ abbrev pub Stands : Maps → Kind → Value → Type 0
 Stands maps Unusable v = Unit {0}
 Stands maps (Num r) (value.Number n) = IsIn n r
 Stands maps (Stack o) (value.Pointer (pointer.Stack p)) = o ≡ p
-Stands maps (Elem m r) (value.Pointer (pointer.Element n i p)) = (m ≡ n) × IsIn p r × HasElement maps n i
+Stands maps (Elem m r) (value.Pointer (pointer.Element n i p)) =
+    (m ≡ n) × IsIn p r × HasElement maps n i
 Stands maps (ElemOrNull m) (value.Number n) = n ≡ 0
-Stands maps (ElemOrNull m) (value.Pointer (pointer.Element n i p)) = (m ≡ n) × (0 ≡ p) × HasElement maps n i
+Stands maps (ElemOrNull m) (value.Pointer (pointer.Element n i p)) =
+    (m ≡ n) × (0 ≡ p) × HasElement maps n i
 Stands maps Task (value.Pointer (pointer.Task t)) = Unit {0}
 Stands maps TaskOrNull (value.Number n) = n ≡ 0
 Stands maps TaskOrNull (value.Pointer (pointer.Task t)) = Unit {0}
@@ -47,11 +49,14 @@ IsByte (byte.Byte b) = b < 256
 IsByte byte.Unwritten = ⊥
 IsByte (byte.Part p j) = ⊥
 
--- The cell stands for the eight bytes from an offset on: those of its set hold numbers, or all eight are
--- those of a value that its kind stands for. Null is stored as eight zero bytes.
+-- The cell stands for the eight bytes from an offset on: those of its set hold numbers, or all
+-- eight are those of a value that its kind stands for. Null is stored as eight zero bytes.
 abbrev pub CellStands : Maps → Cell → memory.Stack → ℕ → Type 0
-CellStands maps (Bytes set) stack at = (j : ℕ) → j < 8 → IsTrue (is_written set j) → IsByte (stack (at + j))
-CellStands maps (Pointer k) stack at = (v : Value) × Stands maps (kind_of k) v × (value_bytes DoubleWord v ≡ Some (bytes_at stack at 8))
+CellStands maps (Bytes set) stack at =
+    (j : ℕ) → j < 8 → IsTrue (is_written set j) → IsByte (stack (at + j))
+CellStands maps (Pointer k) stack at =
+    (v : Value) × Stands maps (kind_of k) v
+    × (value_bytes DoubleWord v ≡ Some (bytes_at stack at 8))
 
 -- the abstract state stands for the state of a program with maps of these shapes
 pub record IsMember (shapes : List Shape) (a : AbsState) (m : Machine) : Type 0 where

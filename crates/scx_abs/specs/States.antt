@@ -46,10 +46,10 @@ pub record IsWhole (a : AbsState) : Type 0 where
   pub registers : length a.registers ≡ 11
   pub cells : length a.cells ≡ 64
 
--- A state as rules and joins make them, whole and of proper kinds and cells. Lists in a definition may
--- have any length, and a state with too few cells would forget every store; numbers there may be any
--- three, and results of what is no range mean nothing. So what is said of least states is said of proper
--- ones.
+-- A state as rules and joins make them, whole and of proper kinds and cells. Lists in a definition
+-- may have any length, and a state with too few cells would forget every store; numbers there
+-- may be any three, and results of what is no range mean nothing. So what is said of least states
+-- is said of proper ones.
 pub record IsProper (a : AbsState) : Type 0 where
   pub whole : IsWhole a
   pub kinds : All IsProperKind a.registers
@@ -78,7 +78,9 @@ argument_kinds callback.Stopping = record { first = Task; second = Num all; thir
 -- nothing else.
 abbrev pub start_kinds : ArgumentKinds → AbsState
 start_kinds a = record {
-  registers = set (set (set (set (replicate 11 Unusable) 1 a.first) 2 a.second) 3 a.third) 10 (Stack stack_size);
+  registers =
+      set (set (set (set (replicate 11 Unusable) 1 a.first) 2 a.second) 3 a.third) 10
+      (Stack stack_size);
   cells = replicate 64 (Bytes no_bytes);
 }
 

@@ -1,4 +1,5 @@
--- The numbers and names of the faults of texts, as a refusal prints them. They are this project's own.
+-- The numbers and names of the faults of texts, as a refusal prints them. They are this
+-- project's own.
 use Rattle.std.specs.Prelude.{ℕ, List, codes}
 use Rattle.scx_asm.specs.declared.faults.AsmFault.{AsmFault}
 use Rattle.scx_asm.specs.declared.faults.AsmFault.TheVariants.{Syntax, UnknownLabel, TwiceLabel, OutOfRange, TooLong}

@@ -1,6 +1,6 @@
--- The first fault of a text that stands for no program, without saying how it is found: a line that is
--- faulty by itself or behind those before it; where none is, a text without an instruction; and then a jump
--- that has no instruction. Lines count from 1.
+-- The first fault of a text that stands for no program, without saying how it is found: a line that
+-- is faulty by itself or behind those before it; where none is, a text without an instruction; and
+-- then a jump that has no instruction. Lines count from 1.
 use Rattle.std.specs.Prelude.{◌≡◌, ℕ, suc, ◌+◌, ◌<◌, ◌≤◌, true, false, List, [], ◌∷◌, ◌++◌, map, length, Option, Some, None, Result, Ok, Err}
 use Rattle.std.specs.List.{Contains, IsDistinct, AllByRecursion}
 use Rattle.std.specs.Str.{bytes_eq}
@@ -31,7 +31,8 @@ pub record AreFine (ls : List ItemValue) : Type 0 where
 -- the fault of what a line says, if it is of the language, behind lines that are fine
 abbrev pub IsWrong : List ItemValue → Option ItemValue → AsmFault → Type 0
 IsWrong earlier None Syntax = Unit {0}
-IsWrong earlier (Some (DefinesLabel l)) TwiceLabel = (s : ℕ) × Contains (definitions 0 earlier) (l, s)
+IsWrong earlier (Some (DefinesLabel l)) TwiceLabel =
+    (s : ℕ) × Contains (definitions 0 earlier) (l, s)
 IsWrong earlier (Some l) OutOfRange = fits l ≡ false
 IsWrong earlier (Some l) TooLong = (fits l ≡ true) × (MAX_SLOTS < slots_of earlier + slots l)
 IsWrong earlier l fault = ⊥
@@ -51,7 +52,8 @@ pub record FailsAt (texts : List (List ℕ)) (fault : AsmFault) (n : ℕ) : Type
 -- the fault of a jump to a label, at a slot, where labels stand for slots
 abbrev pub IsLost : Labels → ℕ → ItemValue → AsmFault → Type 0
 IsLost labels s (Jumps j (Label l)) UnknownLabel = (t : ℕ) → Contains labels (l, t) → ⊥
-IsLost labels s (Jumps j (Label l)) OutOfRange = (t : ℕ) × Contains labels (l, t) × ((i : Insn) → IsJump j i → target s i ≡ Some t → ⊥)
+IsLost labels s (Jumps j (Label l)) OutOfRange =
+    (t : ℕ) × Contains labels (l, t) × ((i : Insn) → IsJump j i → target s i ≡ Some t → ⊥)
 IsLost labels s l fault = ⊥
 
 -- all lines are fine, those before the n-th say instructions, and it is a jump with the fault
@@ -79,9 +81,10 @@ pub data IsFirstFault (text : List ℕ) : AsmFault → ℕ → Type 0 where
   NoInsn : IsEmpty (lines text) → IsFirstFault text Syntax 1
   AtJump : (fault : AsmFault) (n : ℕ) → LosesAt (lines text) fault n → IsFirstFault text fault n
 
--- What an answer says of the text: that it stands for the program, or that it has the fault first and
--- stands for no program.
+-- What an answer says of the text: that it stands for the program, or that it has the fault first
+-- and stands for no program.
 abbrev pub Answers : List ℕ → Result Code AsmError → Type 0
 Answers text (Ok code) = StandsFor text code
-Answers text (Err (Refused fault line)) = IsFirstFault text fault line × ((code : Code) → StandsFor text code → ⊥)
+Answers text (Err (Refused fault line)) =
+    IsFirstFault text fault line × ((code : Code) → StandsFor text code → ⊥)
 Answers text (Err OutOfMemory) = Unit {0}

@@ -1,5 +1,6 @@
--- The first pass over a text: line by line the instructions get their slots and the labels theirs, up to
--- the first faulty line. Of several faults of one line the one with the least number is reported.
+-- The first pass over a text: line by line the instructions get their slots and the labels
+-- theirs, up to the first faulty line. Of several faults of one line the one with the least
+-- number is reported.
 use Rattle.std.specs.Prelude.{◌≡◌, ℕ, suc, ◌+◌, nat_lt, is_some, List, [], ◌∷◌, ◌++◌, Result, Ok, Err, if◌then◌else◌}
 use Rattle.scx_semantics.specs.Results.{◌>>=◌}
 use Rattle.scx_isa.specs.declared.program.TheConstants.{MAX_SLOTS}
@@ -46,8 +47,13 @@ with_label p l =
 -- the first pass with a line's instruction more; a fault if a number doesn't fit or no slot is left
 abbrev pub with_unresolved : ℕ → FirstPassState → ItemValue → Result FirstPassState AsmFault
 with_unresolved n p l =
-    if fits l then (if nat_lt MAX_SLOTS (p.slots + slots l) then Err TooLong
-    else Ok (record { slots = p.slots + slots l; labels = p.labels; unresolved = p.unresolved ++ record { line = n; slot = p.slots; says = l } ∷ [] }))
+    if fits l
+    then (if nat_lt MAX_SLOTS (p.slots + slots l) then Err TooLong
+    else Ok (record {
+      slots = p.slots + slots l;
+      labels = p.labels;
+      unresolved = p.unresolved ++ record { line = n; slot = p.slots; says = l } ∷ [];
+    }))
     else Err OutOfRange
 
 -- the first pass with one line more
@@ -61,7 +67,8 @@ abbrev pub with_text : ℕ → FirstPassState → List ℕ → Result FirstPassS
 with_text n p text = either (read_line text) (with_line n p) (Err Syntax)
 
 -- the first pass with the lines from the n-th on
-unfoldable pub first_pass : ℕ → FirstPassState → List (List ℕ) → Result FirstPassState (AsmFault × ℕ)
+unfoldable pub first_pass :
+    ℕ → FirstPassState → List (List ℕ) → Result FirstPassState (AsmFault × ℕ)
 first_pass n p [] = Ok p
 first_pass n p (text ∷ texts) = at_line n (with_text n p text) >>= λ q. first_pass (suc n) q texts
 

@@ -16,7 +16,9 @@ ReadsBack = (code : Code) → IsProgram code → read_text (program_text code) �
 -- So what is assembled from a program's canonical text is that program, unless memory ran out.
 abbrev pub AssemblesBack : Type 0
 AssemblesBack =
-    (code : Code) (answer : Result Code AsmError) → IsProgram code → Gives (λ program. program) answer (read_text (program_text code)) → (answer ≡ Ok code) ⊎ (answer ≡ Err OutOfMemory)
+    (code : Code) (answer : Result Code AsmError)
+    → IsProgram code → Gives (λ program. program) answer (read_text (program_text code))
+    → (answer ≡ Ok code) ⊎ (answer ≡ Err OutOfMemory)
 
 -- The program that a text stands for is read, so it stands for no other.
 abbrev pub ReadsWhatStands : Type 0

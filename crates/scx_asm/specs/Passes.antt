@@ -11,4 +11,8 @@ table es = map (λ e. (e.0.now, e.1)) es
 
 -- the slots, labels and unresolved lines that the code keeps of a first pass
 abbrev pub first_pass_of : FirstPass → FirstPassState
-first_pass_of l = record { slots = l.slots; labels = table l.labels.entries; unresolved = map unresolved_of l.unresolved.items }
+first_pass_of l = record {
+  slots = l.slots;
+  labels = table l.labels.entries;
+  unresolved = map unresolved_of l.unresolved.items;
+}

@@ -1,5 +1,6 @@
--- The program that a text stands for, or its first fault: the first pass lays the text out, and the second
--- one resolves instruction by instruction. A text without an instruction is faulty at its first line.
+-- The program that a text stands for, or its first fault: the first pass lays the text out,
+-- and the second one resolves instruction by instruction. A text without an instruction is
+-- faulty at its first line.
 use Rattle.std.specs.Prelude.{ℕ, nat_eq, List, [], ◌∷◌, Some, None, Result, Ok, Err, if◌then◌else◌}
 use Rattle.std.specs.List.{flat_map}
 use Rattle.std.specs.Str.Lines.{lines}

@@ -1,5 +1,5 @@
--- The instruction that a line stands for: its numbers have to fit their fields (RFC 9669, section 3), and
--- a label stands for the distance to its slot from the slot behind the jump.
+-- The instruction that a line stands for: its numbers have to fit their fields (RFC 9669, section
+-- 3), and a label stands for the distance to its slot from the slot behind the jump.
 use Rattle.std.specs.Prelude.{ℕ, ◌+◌, ◌-◌, ◌/◌, ◌%◌, ◌^◌, ℤ, pos, negsuc, neg_ℤ, ◌-ℤ◌, Bool, true, nat_lt, is_some, List, [], ◌∷◌, Option, Some, None, Result, Err, ok_or, if◌then◌else◌}
 use Rattle.std.specs.Str.{bytes_eq}
 use Rattle.std.specs.Int.{w32, cast_signed}
@@ -25,7 +25,8 @@ use Rattle.scx_asm.specs.declared.faults.AsmFault.TheVariants.{UnknownLabel, Out
 abbrev pub immediate : Literal → Option ℤ
 immediate n = do
   m ← n.magnitude
-  if n.is_negative then (if nat_lt (2 ^ 31) m then None else Some (neg_ℤ (pos m))) else (if nat_lt m (2 ^ 31) then Some (pos m) else None)
+  if n.is_negative then (if nat_lt (2 ^ 31) m then None else Some (neg_ℤ (pos m)))
+      else (if nat_lt m (2 ^ 31) then Some (pos m) else None)
 
 -- a distance or an offset in 16 bits, signed
 abbrev pub short : ℤ → Option ℤ
@@ -41,7 +42,8 @@ wide (negsuc n) = if nat_lt n (2 ^ 31) then Some (negsuc n) else None
 abbrev pub long : Literal → Option ℕ
 long n = do
   m ← n.magnitude
-  if n.is_negative then (if nat_lt (2 ^ 63) m then None else Some ((2 ^ 64 - m) % 2 ^ 64)) else (if nat_lt m (2 ^ 64) then Some m else None)
+  if n.is_negative then (if nat_lt (2 ^ 63) m then None else Some ((2 ^ 64 - m) % 2 ^ 64))
+      else (if nat_lt m (2 ^ 64) then Some m else None)
 
 -- ---- lines without a label
 
@@ -56,7 +58,10 @@ insn_of (statement.Binary w o d x) = operand_of x >>= λ y. Some (insn.Binary w 
 insn_of (statement.Negate w d) = Some (insn.Negate w d)
 insn_of (statement.SignExtend e d r) = Some (insn.SignExtend e d r)
 insn_of (statement.ByteSwap o w d) = Some (insn.ByteSwap o w d)
-insn_of (statement.LoadImmediate d n) = long n >>= λ b. Some (insn.LoadImmediate d (cast_signed w32 (b % 2 ^ 32)) (cast_signed w32 (b / 2 ^ 32)))
+insn_of (statement.LoadImmediate d n) =
+    long n
+    >>= λ b. Some
+    (insn.LoadImmediate d (cast_signed w32 (b % 2 ^ 32)) (cast_signed w32 (b / 2 ^ 32)))
 insn_of (statement.LoadMapReference d n) = immediate n >>= λ k. Some (insn.LoadMapReference d k)
 insn_of (statement.Load a d r n) = do
   k ← immediate n
@@ -119,7 +124,9 @@ or_out_of_range i = ok_or i OutOfRange
 
 -- a jump at a slot to the label's slot; a fault without such a label, or where a number doesn't fit
 abbrev pub to_label : Labels → ℕ → Jump → List ℕ → Result Insn AsmFault
-to_label labels slot j l = either (find l labels) (λ target. or_out_of_range (jump_of j (distance slot target))) (Err UnknownLabel)
+to_label labels slot j l =
+    either (find l labels) (λ target. or_out_of_range (jump_of j (distance slot target)))
+    (Err UnknownLabel)
 
 -- the instruction that the line stands for at a slot; a line without one is out of range
 abbrev pub insn_for : Labels → ℕ → ItemValue → Result Insn AsmFault

@@ -1,6 +1,6 @@
--- What it means that a text stands for a program, whatever reads it: each of its lines is of the language,
--- no label is defined twice, each instruction is the one that its line says, and a jump to a label has the
--- label's slot as its target.
+-- What it means that a text stands for a program, whatever reads it: each of its lines is of the
+-- language, no label is defined twice, each instruction is the one that its line says, and a jump
+-- to a label has the label's slot as its target.
 use Rattle.std.specs.Prelude.{◌≡◌, ℕ, ◌+◌, ◌<◌, ◌≤◌, ℤ, List, [], ◌∷◌, ◌++◌, map, length, Some}
 use Rattle.std.specs.List.{Contains, IsDistinct}
 use Rattle.std.specs.Str.{bytes_eq}
@@ -32,12 +32,13 @@ names labels = map (λ e. e.0) labels
 abbrev pub IsJump : Jump → Insn → Type 0
 IsJump j i = (z : ℤ) × (jump_of j z ≡ Some i)
 
--- the instruction is the one that the line says at a slot; one that goes to a label has the label's slot as
--- its target
+-- the instruction is the one that the line says at a slot; one that goes to a label has the
+-- label's slot as its target
 abbrev pub IsSaid : Labels → ℕ → ItemValue → Insn → Type 0
 IsSaid labels s (Says x) i = insn_of x ≡ Some i
 IsSaid labels s (Jumps j (Distance n)) i = distant j n ≡ Some i
-IsSaid labels s (Jumps j (Label l)) i = (t : ℕ) × Contains labels (l, t) × (target s i ≡ Some t) × IsJump j i
+IsSaid labels s (Jumps j (Label l)) i =
+    (t : ℕ) × Contains labels (l, t) × (target s i ≡ Some t) × IsJump j i
 IsSaid labels s l i = ⊥
 
 -- the lines from a slot on say the instructions in order, and nothing else

@@ -1,4 +1,5 @@
--- What `asm` finds in the bytes of a text: the program that it stands for, or why the bytes are refused.
+-- What `asm` finds in the bytes of a text: the program that it stands for, or why the
+-- bytes are refused.
 use Rattle.std.specs.Prelude.{◌≡◌, ℕ, ◌<◌, ◌≤◌, List, length, IsUtf8, Ok, Err}
 use Rattle.scx_semantics.specs.Code.{Code}
 use Rattle.scx_isa.specs.Spelling.{Spells}

@@ -1,5 +1,5 @@
--- What `check` finds in the bytes of a file: verdicts on the programs of the policy that they are, or why
--- they are refused.
+-- What `check` finds in the bytes of a file: verdicts on the programs of the policy that they
+-- are, or why they are refused.
 use Rattle.std.specs.Prelude.{◌≡◌, ℕ, ◌<◌, ◌≤◌, List, length, IsUtf8, Ok, string_bytes}
 use Rattle.scx_files.specs.Faults.{refusal}
 use Rattle.scx_policies.specs.Policies.{PolicyFile}
@@ -22,5 +22,6 @@ abbrev pub IsCheckCause : List ℕ → Refusal → Type 0
 IsCheckCause bytes TooLarge = FILE_LIMIT < length bytes
 IsCheckCause bytes NotUtf8 = (length bytes ≤ FILE_LIMIT) × ¬ IsUtf8 bytes
 IsCheckCause bytes NoMemory = IsText bytes
-IsCheckCause bytes (Policy path cause) = IsText bytes × (policy_text bytes ≡ refusal (string_bytes path) cause)
+IsCheckCause bytes (Policy path cause) =
+    IsText bytes × (policy_text bytes ≡ refusal (string_bytes path) cause)
 IsCheckCause bytes r = ⊥

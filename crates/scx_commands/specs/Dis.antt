@@ -14,8 +14,8 @@ pub record IsDisassembled (bytes text : List ℕ) : Type 0 where
   pub spelled : Spells bytes code
   pub canonical : text ≡ program_text code
 
--- The bytes of a program are refused for that cause. Memory is asked for only where they are as many as a
--- program has.
+-- The bytes of a program are refused for that cause. Memory is asked for only where they are
+-- as many as a program has.
 abbrev pub IsDisCause : List ℕ → Refusal → Type 0
 IsDisCause bytes TooLarge = FILE_LIMIT < length bytes
 IsDisCause bytes NoMemory = HasProgramLength bytes

@@ -35,7 +35,8 @@ pub record HasFault (bytes : List ℕ) (fault : verifier.Fault) (slot : ℕ) : T
   pub reason : IsReason alone code fault slot
   pub known : fault ≢ faults.NoMemory
 
--- The bytes are refused for that cause. Memory is asked for only where they are as many as a program has.
+-- The bytes are refused for that cause. Memory is asked for only where they are as many
+-- as a program has.
 abbrev pub IsExecCause : List ℕ → Refusal → Type 0
 IsExecCause bytes TooLarge = FILE_LIMIT < length bytes
 IsExecCause bytes NoMemory = HasProgramLength bytes

@@ -1,10 +1,11 @@
--- The lines of a run and of a file that can't be read, each with the line feed that ends it, and how a fault is
--- said in a line.
+-- The lines of a run and of a file that can't be read, each with the line feed that ends it, and
+-- how a fault is said in a line.
 use Rattle.std.specs.Prelude.{ℕ, List, ◌++◌, codes, decimal}
 
 -- the line of a run that ended by `exit`
 abbrev pub done_line : ℕ → ℕ → List ℕ
-done_line r0 steps = codes "r0 = " ++ decimal r0 ++ codes " in " ++ decimal steps ++ codes " steps\n"
+done_line r0 steps =
+    codes "r0 = " ++ decimal r0 ++ codes " in " ++ decimal steps ++ codes " steps\n"
 
 -- the line of a file that could not be read
 abbrev pub unread_line : List ℕ → List ℕ

@@ -25,8 +25,10 @@ cause_text causes.NoSuchGroup = codes "no such group"
 cause_text causes.NotALeaf = codes "not a leaf"
 cause_text causes.TooDeep = codes "too deep"
 cause_text causes.BadHex = codes "bad hex"
-cause_text (causes.Asm fault line) = codes "asm " ++ fault_text (asm_number fault) (asm_name fault) line
-cause_text (causes.Decode fault slot) = codes "decode " ++ fault_text (decode_number fault) (decode_name fault) slot
+cause_text (causes.Asm fault line) =
+    codes "asm " ++ fault_text (asm_number fault) (asm_name fault) line
+cause_text (causes.Decode fault slot) =
+    codes "decode " ++ fault_text (decode_number fault) (decode_name fault) slot
 
 -- an `init` that failed with that answer
 abbrev pub init_line : ℤ → List ℕ
@@ -37,15 +39,25 @@ abbrev pub refusal_line : Refusal → List ℕ
 refusal_line TooLarge = codes "refused: too large\n"
 refusal_line NotUtf8 = codes "refused: not UTF-8\n"
 refusal_line NoMemory = codes "refused: no memory\n"
-refusal_line (Decode fault slot) = codes "refused: decode " ++ fault_text (decode_number fault) (decode_name fault) slot ++ codes "\n"
-refusal_line (Verify fault slot) = codes "refused: verify " ++ fault_text (fault_number fault) (fault_name fault) slot ++ codes "\n"
-refusal_line (Assemble fault line) = codes "refused: asm " ++ fault_text (asm_number fault) (asm_name fault) line ++ codes "\n"
-refusal_line (Callback callback fault slot) = codes "refused: verify " ++ callback_name callback ++ codes " " ++ fault_text (fault_number fault) (fault_name fault) slot ++ codes "\n"
-refusal_line (Policy path cause) = codes "refused: policy " ++ string_bytes path ++ codes ": " ++ cause_text cause ++ codes "\n"
-refusal_line (Workload path cause) = codes "refused: workload " ++ string_bytes path ++ codes ": " ++ cause_text cause ++ codes "\n"
+refusal_line (Decode fault slot) =
+    codes "refused: decode "
+    ++ fault_text (decode_number fault) (decode_name fault) slot ++ codes "\n"
+refusal_line (Verify fault slot) =
+    codes "refused: verify "
+    ++ fault_text (fault_number fault) (fault_name fault) slot ++ codes "\n"
+refusal_line (Assemble fault line) =
+    codes "refused: asm " ++ fault_text (asm_number fault) (asm_name fault) line ++ codes "\n"
+refusal_line (Callback callback fault slot) =
+    codes "refused: verify " ++ callback_name callback ++ codes " "
+    ++ fault_text (fault_number fault) (fault_name fault) slot ++ codes "\n"
+refusal_line (Policy path cause) =
+    codes "refused: policy " ++ string_bytes path ++ codes ": " ++ cause_text cause ++ codes "\n"
+refusal_line (Workload path cause) =
+    codes "refused: workload " ++ string_bytes path ++ codes ": " ++ cause_text cause ++ codes "\n"
 refusal_line (Init answer) = init_line answer
 
--- ---- the same in three parts: what stands before the path of a key, the path, and what stands behind it
+-- ---- the same in three parts: what stands before the path of a key, the path, and what
+-- stands behind it
 
 -- what stands before the path of a key; the whole line of a refusal that has no path
 abbrev pub start : Refusal → List ℕ

@@ -1,5 +1,5 @@
--- The refusals that the errors of decoding, of verifying, of assembling, of reading files and of building
--- policies stand for.
+-- The refusals that the errors of decoding, of verifying, of assembling, of reading files and of
+-- building policies stand for.
 use Rattle.std.specs.Prelude.{ℕ}
 use Rattle.scx_isa.specs.declared.faults.DecodeError.{DecodeError}
 use Rattle.scx_isa.specs.declared.faults.DecodeError.TheVariants as errors

@@ -12,7 +12,9 @@ use Rattle.scx_commands.specs.Verdicts.{Verdicts}
 -- a callback and `ok` with the number of instructions, or `refused` with the fault and its slot
 abbrev pub verdict_line : Callback → Verdict → List ℕ
 verdict_line b (Accepted count) = callback_name b ++ codes " ok " ++ decimal count ++ codes "\n"
-verdict_line b (Refused fault slot) = callback_name b ++ codes " refused " ++ fault_text (fault_number fault) (fault_name fault) slot ++ codes "\n"
+verdict_line b (Refused fault slot) =
+    callback_name b ++ codes " refused "
+    ++ fault_text (fault_number fault) (fault_name fault) slot ++ codes "\n"
 
 -- the line of a callback that has a verdict; nothing where it has none
 abbrev pub line_of : Callback → Option Verdict → List ℕ

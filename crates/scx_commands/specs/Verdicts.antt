@@ -1,5 +1,5 @@
--- Verdicts on the programs of a policy: each is accepted, and then has a typing, or refused for its first
--- fault.
+-- Verdicts on the programs of a policy: each is accepted, and then has a typing, or refused
+-- for its first fault.
 use Rattle.std.specs.Prelude.{◌≡◌, ◌≢◌, ℕ, Bool, true, false, ◌&&◌, ⊤, List, [], ◌∷◌, Option, Some, None}
 use Rattle.scx_semantics.specs.declared.callbacks.Callback.{Callback}
 use Rattle.scx_semantics.specs.declared.per_callback.PerCallback.{PerCallback}
@@ -16,7 +16,8 @@ use Rattle.scx_commands.specs.declared.verdict.Verdict.TheVariants.{Accepted, Re
 
 -- the verdict on a program as that callback, with maps of these shapes
 abbrev pub IsVerdict : List Shape → Callback → Code → Verdict → Type 0
-IsVerdict shapes b code (Accepted count) = IsTyped (context b shapes) code × (count ≡ instruction_count code)
+IsVerdict shapes b code (Accepted count) =
+    IsTyped (context b shapes) code × (count ≡ instruction_count code)
 IsVerdict shapes b code (Refused fault slot) =
     IsRefusal (context b shapes) code (record { fault = fault; slot = slot }) × (fault ≢ NoMemory)
 

@@ -38,7 +38,8 @@ events_below (suc n) test event = events_below n test event ++ (if test n then e
 -- a list with new values at the numbers below a bound that pass the test
 abbrev pub set_below : ℕ → (ℕ → Bool) → (ℕ → ℕ) → List ℕ → List ℕ
 set_below zero test value xs = xs
-set_below (suc n) test value xs = if test n then slice_set (set_below n test value xs) n (value n) else set_below n test value xs
+set_below (suc n) test value xs =
+    if test n then slice_set (set_below n test value xs) n (value n) else set_below n test value xs
 
 -- ---- tests
 
@@ -50,16 +51,21 @@ is_at changes m i = (change_at changes i).at == m
 abbrev pub is_due : List ℕ → ℕ → WorldState → ℕ → Bool
 is_due due m w t = not (is_runnable w t) && (slice_index due t == m)
 
--- the task is runnable, and has run as long as it runs at once; one that runs 0 at once never sleeps
+-- the task is runnable, and has run as long as it runs at once; one that runs 0 at
+-- once never sleeps
 abbrev pub has_run_enough : List Timing → List ℕ → WorldState → ℕ → Bool
 has_run_enough timings ran w t =
-    is_runnable w t && (nat_lt 0 (timing_at timings t).run && nat_le (tick_ns * (timing_at timings t).run) ((task_at w t).run_ns - slice_index ran t))
+    is_runnable w t
+    && (nat_lt 0 (timing_at timings t).run
+    && nat_le (tick_ns * (timing_at timings t).run) ((task_at w t).run_ns - slice_index ran t))
 
 -- ---- blocks
 
 -- the changes of weights of that millisecond, in the order of the file
 abbrev pub changes_at : List Change → ℕ → List Event
-changes_at changes m = events_below (length changes) (is_at changes m) (λ i. event.SetWeight (change_at changes i).group (change_at changes i).weight)
+changes_at changes m =
+    events_below (length changes) (is_at changes m)
+    (λ i. event.SetWeight (change_at changes i).group (change_at changes i).weight)
 
 -- the tasks that sleep and are due in that millisecond wake, by number
 abbrev pub wakes_at : List ℕ → ℕ → WorldState → List Event
@@ -87,7 +93,9 @@ ran_after due ran m w = set_below (length due) (is_due due m w) (λ t. (task_at 
 
 -- a task that goes to sleep at m wakes once its sleep is over
 abbrev pub due_after : List Timing → List ℕ → List ℕ → ℕ → WorldState → List ℕ
-due_after timings due ran m w = set_below (length timings) (has_run_enough timings ran w) (λ t. m + 1 + (timing_at timings t).sleep) due
+due_after timings due ran m w =
+    set_below (length timings) (has_run_enough timings ran w)
+    (λ t. m + 1 + (timing_at timings t).sleep) due
 
 -- what is remembered after a block that begins in that state
 abbrev pub memory_after : Plan → Block → Memory → WorldState → Memory

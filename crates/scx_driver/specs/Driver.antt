@@ -33,7 +33,12 @@ with_pending d es = record d { pending = es }
 -- the next block begins
 abbrev pub at_next_block_with : Plan → List Event → List Block → Memory → SimState → DriverState
 at_next_block_with p es [] k s = record { plan = p; pending = es; blocks = []; memory = k }
-at_next_block_with p es (b ∷ bs) k s = record { plan = p; pending = block_events p b k s.state.world; blocks = bs; memory = memory_after p b k s.state.world }
+at_next_block_with p es (b ∷ bs) k s = record {
+  plan = p;
+  pending = block_events p b k s.state.world;
+  blocks = bs;
+  memory = memory_after p b k s.state.world;
+}
 
 -- the driver as its next block begins; it stays as it is where no block is left
 abbrev pub at_next_block : DriverState → SimState → DriverState

@@ -1,5 +1,5 @@
--- The events of a workload: for each millisecond the changes of weights, the tasks that wake, a tick of
--- each processor, the tasks that go to sleep, and the clock.
+-- The events of a workload: for each millisecond the changes of weights, the tasks that wake, a
+-- tick of each processor, the tasks that go to sleep, and the clock.
 use Rattle.std.specs.Prelude.{ℕ, zero, suc, ◌+◌, List, [], ◌∷◌, ◌++◌, length, map, replicate}
 use Rattle.scx_machine.specs.declared.events.Event.{Event}
 use Rattle.scx_sched.specs.Sim.{SimState}
@@ -17,7 +17,9 @@ blocks_from (suc n) m = Changes m ∷ Wakes m ∷ Ticks ∷ Sleeps m ∷ Clock �
 abbrev pub events_from : Plan → List Block → Memory → SimState → List Event
 events_from p [] k s = []
 events_from p (b ∷ bs) k s =
-    block_events p b k s.state.world ++ events_from p bs (memory_after p b k s.state.world) (stepped_all s (block_events p b k s.state.world))
+    block_events p b k s.state.world
+    ++ events_from p bs (memory_after p b k s.state.world)
+    (stepped_all s (block_events p b k s.state.world))
 
 -- what a workload plans: its processors, when each task runs and sleeps, and changes of weights
 abbrev pub plan_of : WorkloadState → Plan
@@ -25,7 +27,10 @@ plan_of w = record { cpus = w.cpus; timings = w.timings; changes = w.changes }
 
 -- no task has run, and each wakes at its start
 abbrev pub first_memory : List Timing → Memory
-first_memory timings = record { due = map (λ (t : Timing). t.start) timings; ran = replicate (length timings) 0 }
+first_memory timings = record {
+  due = map (λ (t : Timing). t.start) timings;
+  ran = replicate (length timings) 0;
+}
 
 -- the events of a workload, from a first state on
 abbrev pub workload_events : WorkloadState → SimState → List Event

@@ -9,4 +9,6 @@ use Rattle.scx_driver.specs.Events.{workload_events}
 -- in a machine that was made of the workload's processors, groups and tasks, with any policy
 abbrev pub NoEventIsRefused : Type 0
 NoEventIsRefused =
-    (w : WorkloadState) (p : PolicyState) (s : SimState) → IsWorkload w → IsFirstState p (idle w.groups w.homes) w.cpus s → AreAccepted s (workload_events w s)
+    (w : WorkloadState) (p : PolicyState) (s : SimState)
+    → IsWorkload w → IsFirstState p (idle w.groups w.homes) w.cpus s
+    → AreAccepted s (workload_events w s)

@@ -1,5 +1,5 @@
--- The arrays of queues by virtual time, and what a call on a queue costs. Who waits where doesn't depend on
--- them.
+-- The arrays of queues by virtual time, and what a call on a queue costs. Who waits where
+-- doesn't depend on them.
 use Rattle.std.specs.Prelude.{◌≡◌, ◌≢◌, ℕ, ◌==◌, List, [], slice_index_or}
 use Rattle.std.specs.List.{position_or_len}
 use Rattle.scx_dsq.specs.declared.entries.Rank.TheVariants.{Fifo}
@@ -17,8 +17,9 @@ pub record QueuesValue : Type 0 where
 abbrev pub array_of : QueuesValue → ℕ → List Item
 array_of v id = slice_index_or v.arrays (position_or_len (λ other. other == id) v.state.ids) []
 
--- a call on that queue that made so many comparisons. `IsCheap` bounds them and the positions of the queue's
--- array that have changed; a queue in FIFO order needs none, and the arrays of others stay as they were
+-- a call on that queue that made so many comparisons. `IsCheap` bounds them and the positions
+-- of the queue's array that have changed; a queue in FIFO order needs none, and the arrays of
+-- others stay as they were
 pub record IsPaid (old new : QueuesValue) (id steps : ℕ) : Type 0 where
   pub cheap : IsCheap (array_of old id) (array_of new id) steps
   pub fifo : (t : ℕ) (p : Entry) → Waits old.state id t p → p.rank ≡ Fifo → steps ≡ 0

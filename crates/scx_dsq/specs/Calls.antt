@@ -1,5 +1,5 @@
--- What each call answers and what it leaves: refusals with the least number first, and a push, a pop
--- or a removal as a change of one task's entry.
+-- What each call answers and what it leaves: refusals with the least number first, and a push, a
+-- pop or a removal as a change of one task's entry.
 use Rattle.std.specs.Prelude.{ℕ, Bool, false, not, ◌+◌, [], ◌∷◌, ◌++◌, ◌&&◌, replicate, length, slice_set, nat_le, Option, Some, None, is_some, is_none, Result, Ok, Err, if◌then◌else◌}
 use Rattle.std.specs.List.{list_any}
 use Rattle.scx_dsq.specs.declared.entries.Rank.{Rank}
@@ -19,7 +19,8 @@ refused_or_done (Some e) = Err e
 -- why a queue isn't created: it is there already, or else there is no room for another
 abbrev pub create_refusal : QueueState → ℕ → Option QueueError
 create_refusal s id =
-    if exists s id then Some AlreadyThere else (if nat_le s.room (length s.ids) then Some TooManyQueues else None)
+    if exists s id then Some AlreadyThere
+    else (if nat_le s.room (length s.ids) then Some TooManyQueues else None)
 
 -- the state with another queue, the last of the ids
 abbrev pub with_queue : QueueState → ℕ → QueueState
@@ -49,8 +50,10 @@ next_entry s id rank = record { queue = id; rank = rank; stamp = s.pushes }
 
 -- the task waits by the next entry, and all others as they did
 abbrev pub with_task : QueueState → ℕ → ℕ → Rank → QueueState
-with_task s id t rank =
-    record s { entries = slice_set s.entries t (Some (next_entry s id rank)); pushes = s.pushes + 1 }
+with_task s id t rank = record s {
+  entries = slice_set s.entries t (Some (next_entry s id rank));
+  pushes = s.pushes + 1;
+}
 
 -- the state after the push of a task; as it was where that is refused
 abbrev pub after_push : QueueState → ℕ → ℕ → Rank → QueueState

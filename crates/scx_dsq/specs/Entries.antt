@@ -20,4 +20,6 @@ same_sort (Vtime k) (Vtime l) = true
 
 -- whether an entry comes before another: by key, then by stamp
 abbrev pub is_before : Entry → Entry → Bool
-is_before p q = nat_lt (key_of p.rank) (key_of q.rank) || (key_of p.rank == key_of q.rank && nat_lt p.stamp q.stamp)
+is_before p q =
+    nat_lt (key_of p.rank) (key_of q.rank)
+    || (key_of p.rank == key_of q.rank && nat_lt p.stamp q.stamp)

@@ -1,5 +1,5 @@
--- Queues by virtual time as heaps in an array (Williams, Algorithm 232): no task leaves before the one at
--- its parent's position.
+-- Queues by virtual time as heaps in an array (Williams, Algorithm 232): no task leaves before the
+-- one at its parent's position.
 use Rattle.std.specs.Prelude.{◌≡◌, ◌≢◌, ℕ, ◌+◌, ◌-◌, ◌*◌, ◌/◌, ◌^◌, ◌<◌, ◌≤◌, Bool, false, ◌==◌, ◌&&◌, ◌||◌, true, nat_lt, List, [], ◌∷◌, length, slice_index_or, slice_set, Option, Some, None}
 use Rattle.std.specs.List.{list_any}
 use Rattle.scx_dsq.specs.declared.priority.Priority.{Priority}
@@ -25,11 +25,15 @@ parent k = (k - 1) / 2
 
 -- the task at the first position doesn't leave before the one at the second
 abbrev pub IsBehind : List Item → ℕ → ℕ → Type 0
-IsBehind items k j = (d e : Item) → comes_before (slice_index_or items k d).priority (slice_index_or items j e).priority ≡ false
+IsBehind items k j =
+    (d e : Item)
+    → comes_before (slice_index_or items k d).priority (slice_index_or items j e).priority ≡ false
 
 -- and here it does
 abbrev pub Leads : List Item → ℕ → ℕ → Type 0
-Leads items k j = (d e : Item) → comes_before (slice_index_or items k d).priority (slice_index_or items j e).priority ≡ true
+Leads items k j =
+    (d e : Item)
+    → comes_before (slice_index_or items k d).priority (slice_index_or items j e).priority ≡ true
 
 -- no item but the first leaves before the one at its parent's position
 abbrev pub IsHeap : List Item → Type 0
@@ -38,18 +42,23 @@ IsHeap items = (k : ℕ) → 0 < k → k < length items → IsBehind items k (pa
 -- a heap but for one position, which may leave before its parent, but not before those behind it
 pub record IsHeapBut (items : List Item) (at : ℕ) : Type 0 where
   pub others : (k : ℕ) → 0 < k → k < length items → k ≢ at → IsBehind items k (parent k)
-  pub behind : (k : ℕ) → 0 < k → k < length items → parent k ≡ at → 0 < at → IsBehind items k (parent at)
+  pub behind : (k : ℕ)
+      → 0 < k → k < length items → parent k ≡ at → 0 < at → IsBehind items k (parent at)
 
--- a heap but for those right behind one position, which may leave before it, but not before its parent
+-- a heap but for those right behind one position, which may leave before it, but not
+-- before its parent
 pub record IsHeapAbove (items : List Item) (at : ℕ) : Type 0 where
   pub others : (k : ℕ) → 0 < k → k < length items → parent k ≢ at → IsBehind items k (parent k)
-  pub above : (k : ℕ) → 0 < k → k < length items → parent k ≡ at → 0 < at → IsBehind items k (parent at)
+  pub above : (k : ℕ)
+      → 0 < k → k < length items → parent k ≡ at → 0 < at → IsBehind items k (parent at)
 
--- a heap but for one position, which may leave before its parent, or after those right behind it; these don't
--- leave before that parent
+-- a heap but for one position, which may leave before its parent, or after those right behind it;
+-- these don't leave before that parent
 pub record IsHeapAround (items : List Item) (at : ℕ) : Type 0 where
-  pub others : (k : ℕ) → 0 < k → k < length items → k ≢ at → parent k ≢ at → IsBehind items k (parent k)
-  pub above : (k : ℕ) → 0 < k → k < length items → parent k ≡ at → 0 < at → IsBehind items k (parent at)
+  pub others : (k : ℕ)
+      → 0 < k → k < length items → k ≢ at → parent k ≢ at → IsBehind items k (parent k)
+  pub above : (k : ℕ)
+      → 0 < k → k < length items → parent k ≡ at → 0 < at → IsBehind items k (parent at)
 
 -- a child before which the other child of its parent doesn't leave
 pub record IsFirstChild (items : List Item) (at child : ℕ) : Type 0 where
@@ -61,7 +70,10 @@ pub record IsFirstChild (items : List Item) (at child : ℕ) : Type 0 where
 -- at each task's number stands its position in the array
 abbrev pub HasSpots : List Item → List ℕ → Type 0
 HasSpots items spots =
-    (k : ℕ) (d : Item) (e : ℕ) → k < length items → ((slice_index_or items k d).task < length spots) × (slice_index_or spots (slice_index_or items k d).task e ≡ k)
+    (k : ℕ) (d : Item) (e : ℕ)
+    → k < length items
+    → ((slice_index_or items k d).task < length spots)
+    × (slice_index_or spots (slice_index_or items k d).task e ≡ k)
 
 -- an item of the array is of that task
 pub record IsIn (items : List Item) (t : ℕ) : Type 0 where
@@ -90,10 +102,12 @@ with_spot spots x k = slice_set spots x.task k
 
 -- only these positions hold other items
 abbrev pub DiffersAt : List ℕ → List Item → List Item → Type 0
-DiffersAt positions old new = (k : ℕ) (d : Item) → list_any (λ p. p == k) positions ≡ false → slice_index_or new k d ≡ slice_index_or old k d
+DiffersAt positions old new =
+    (k : ℕ) (d : Item)
+    → list_any (λ p. p == k) positions ≡ false → slice_index_or new k d ≡ slice_index_or old k d
 
--- down so many levels from a position to one within the array: two comparisons a level at most, and one
--- position more than levels has changed
+-- down so many levels from a position to one within the array: two comparisons a level at most, and
+-- one position more than levels has changed
 pub record Sank (old new : List Item) (start within steps : ℕ) : Type 0 where
   pub levels : ℕ
   pub depth : 2 ^ levels * (start + 1) ≤ within
@@ -102,8 +116,8 @@ pub record Sank (old new : List Item) (start within steps : ℕ) : Type 0 where
   pub few : length positions ≤ levels + 1
   pub differs : DiffersAt positions old new
 
--- up so many levels from a position: one comparison a level at most, and one position more than levels has
--- changed
+-- up so many levels from a position: one comparison a level at most, and one position more
+-- than levels has changed
 pub record Rose (old new : List Item) (start steps : ℕ) : Type 0 where
   pub levels : ℕ
   pub depth : 2 ^ levels ≤ start + 1
@@ -127,8 +141,8 @@ pub record DiffersAtMost (old new : List Item) (most : ℕ) : Type 0 where
   pub few : length positions ≤ most
   pub differs : DiffersAt positions old new
 
--- where the number of items that there were and one more has so many binary digits at most, twice as many
--- comparisons and changed positions at most
+-- where the number of items that there were and one more has so many binary digits at most, twice
+-- as many comparisons and changed positions at most
 pub record IsCheap (old new : List Item) (steps : ℕ) : Type 0 where
   pub comparisons : (digits : ℕ) → length old + 1 < 2 ^ digits → steps ≤ 2 * digits
   pub changes : (digits : ℕ) → length old + 1 < 2 ^ digits → DiffersAtMost old new (2 * digits)

@@ -1,5 +1,5 @@
--- How the queues are kept: a queue in FIFO order by links from task to task, one by virtual time as a heap;
--- and empty heaps for queues to come. No public clause cites it.
+-- How the queues are kept: a queue in FIFO order by links from task to task, one by virtual time as
+-- a heap; and empty heaps for queues to come. No public clause cites it.
 use Rattle.std.specs.Prelude.{◌≡◌, ℕ, ◌+◌, ◌<◌, ◌≤◌, List, [], ◌∷◌, ◌++◌, map, length, Option, None, is_some, MatchOption, All, HoldsAt, vec_capacity, if◌then◌else◌, Bool, true, false, ◌==◌}
 use Rattle.std.specs.List.{list_any}
 use Rattle.std.specs.List.Sorted.{IsPermutation}
@@ -61,7 +61,8 @@ mixes (Vtime k) q = is_some q.ends.first
 -- ---- whether a task may go into a queue
 
 -- one stands at the position, takes tasks of that rank, and the task waits nowhere
-pub record IsAdmitted (live : List Queue) (entries : Entries) (k id t : ℕ) (rank : Rank) : Type 0 where
+pub record IsAdmitted (live : List Queue) (entries : Entries) (k id t : ℕ) (rank : Rank)
+    : Type 0 where
   pub inside : k < length live
   pub is : HoldsAt (λ q. q.id ≡ id) live k
   pub there : list_any (λ other. other == id) (ids_of live) ≡ true
@@ -78,8 +79,11 @@ pub record IsMixed (live : List Queue) (id : ℕ) (rank : Rank) : Type 0 where
 -- a push is refused for that reason, which is never want of room for a queue
 abbrev pub IsRefused : List Queue → Entries → ℕ → ℕ → Rank → QueueError → Type 0
 IsRefused live entries id t rank NoSuchQueue = list_any (λ other. other == id) (ids_of live) ≡ false
-IsRefused live entries id t rank AlreadyThere = (list_any (λ other. other == id) (ids_of live) ≡ true) × (is_some (entry_at entries t) ≡ true)
-IsRefused live entries id t rank Mixed = (list_any (λ other. other == id) (ids_of live) ≡ true) × (entry_at entries t ≡ None) × IsMixed live id rank
+IsRefused live entries id t rank AlreadyThere =
+    (list_any (λ other. other == id) (ids_of live) ≡ true) × (is_some (entry_at entries t) ≡ true)
+IsRefused live entries id t rank Mixed =
+    (list_any (λ other. other == id) (ids_of live) ≡ true) × (entry_at entries t ≡ None)
+    × IsMixed live id rank
 IsRefused live entries id t rank TooManyQueues = ⊥
 
 -- ---- a task that enters
@@ -103,7 +107,8 @@ pub record CanInsert (spots : List ℕ) (q : Queue) (x : Item) : Type 0 where
   pub heap : IsHeap q.heap.items
 
 -- the queue with that item in its heap
-pub record Inserted (spots : List ℕ) (q : Queue) (x : Item) (stood : List ℕ) (new : Queue) : Type 0 where
+pub record Inserted (spots : List ℕ) (q : Queue) (x : Item) (stood : List ℕ) (new : Queue)
+    : Type 0 where
   pub id : new.id ≡ q.id
   pub ends : new.ends ≡ q.ends
   pub room : new.heap.room ≡ q.heap.room
@@ -137,13 +142,15 @@ CanLeave Fifo links spots q t = CanUnlink links q t
 CanLeave (Vtime k) links spots q t = CanTakeOut spots q t
 
 -- the task was taken out of the queue's links, and no spot has changed
-pub record Unlinked (links : List Link) (spots : List ℕ) (q : Queue) (t : ℕ) (linked : List Link) (stood : List ℕ) (new : Queue) : Type 0 where
+pub record Unlinked (links : List Link) (spots : List ℕ) (q : Queue) (t : ℕ) (linked : List Link)
+    (stood : List ℕ) (new : Queue) : Type 0 where
   pub queue : new ≡ without_linked links q t
   pub threads : linked ≡ links_unlinked links t
   pub stays : stood ≡ spots
 
 -- the item of that task was taken out of the heap
-pub record TakenOut (spots : List ℕ) (q : Queue) (t : ℕ) (stood : List ℕ) (new : Queue) : Type 0 where
+pub record TakenOut (spots : List ℕ) (q : Queue) (t : ℕ) (stood : List ℕ) (new : Queue)
+    : Type 0 where
   pub item : Item
   pub task : item.task ≡ t
   pub id : new.id ≡ q.id

@@ -1,6 +1,6 @@
 -- What holds of the queues after any calls: a task waits in a queue that was created, those in one
--- queue are of one sort, and no two entries have the same stamp. Then in how many queues a task waits,
--- and how calls change that.
+-- queue are of one sort, and no two entries have the same stamp. Then in how many queues a task
+-- waits, and how calls change that.
 use Rattle.std.specs.Prelude.{◌≡◌, ◌≢◌, ℕ, ◌+◌, ◌<◌, ◌≤◌, Bool, ◌==◌, length, Some, None, is_some, IsSome, IsTrue, AllPairs, count_by, if◌then◌else◌}
 use Rattle.scx_dsq.specs.declared.entries.Rank.{Rank}
 use Rattle.scx_dsq.specs.declared.entries.Entry.{Entry}
@@ -20,7 +20,9 @@ WaitsInAQueue s = (t : ℕ) (p : Entry) → entry_of s t ≡ Some p → IsTrue (
 -- the tasks in one queue are of one sort
 abbrev pub HasOneSort : QueueState → Type 0
 HasOneSort s =
-    (t u : ℕ) (p q : Entry) → entry_of s t ≡ Some p → entry_of s u ≡ Some q → p.queue ≡ q.queue → IsTrue (same_sort p.rank q.rank)
+    (t u : ℕ) (p q : Entry)
+    → entry_of s t ≡ Some p → entry_of s u ≡ Some q → p.queue ≡ q.queue
+    → IsTrue (same_sort p.rank q.rank)
 
 -- a stamp is the number of an accepted push
 abbrev pub IsStamped : QueueState → Type 0
@@ -29,7 +31,8 @@ IsStamped s = (t : ℕ) (p : Entry) → entry_of s t ≡ Some p → p.stamp < s.
 -- and each push has its own
 abbrev pub HasOwnStamps : QueueState → Type 0
 HasOwnStamps s =
-    (t u : ℕ) (p q : Entry) → t ≢ u → entry_of s t ≡ Some p → entry_of s u ≡ Some q → p.stamp ≢ q.stamp
+    (t u : ℕ) (p q : Entry)
+    → t ≢ u → entry_of s t ≡ Some p → entry_of s u ≡ Some q → p.stamp ≢ q.stamp
 
 -- all that holds of the queues after any calls
 pub record IsSound (s : QueueState) : Type 0 where
@@ -62,17 +65,20 @@ PushAddsOne =
 -- a pop takes one of the front, and none of others
 abbrev pub PopTakesOne : Type 0
 PopTakesOne =
-    (s : QueueState) (id t u : ℕ) → front_of s id ≡ Some t → standing (after_pop s id) u + one_if (u == t) ≡ standing s u
+    (s : QueueState) (id t u : ℕ)
+    → front_of s id ≡ Some t → standing (after_pop s id) u + one_if (u == t) ≡ standing s u
 
 -- the removal of a task that waits takes one of it, and none of others
 abbrev pub RemovalTakesOne : Type 0
 RemovalTakesOne =
-    (s : QueueState) (t u : ℕ) → IsSome (entry_of s t) → standing (after_remove s t) u + one_if (u == t) ≡ standing s u
+    (s : QueueState) (t u : ℕ)
+    → IsSome (entry_of s t) → standing (after_remove s t) u + one_if (u == t) ≡ standing s u
 
 -- what is refused, a pop of nobody and the removal of a task that doesn't wait change nothing, nor
 -- does a new queue change where tasks wait
 pub record OthersChangeNone : Type 0 where
-  pub refused : (s : QueueState) (id t : ℕ) (rank : Rank) → IsSome (push_refusal s id t rank) → after_push s id t rank ≡ s
+  pub refused : (s : QueueState) (id t : ℕ) (rank : Rank)
+      → IsSome (push_refusal s id t rank) → after_push s id t rank ≡ s
   pub nobody : (s : QueueState) (id : ℕ) → front_of s id ≡ None → after_pop s id ≡ s
   pub absent : (s : QueueState) (t : ℕ) → entry_of s t ≡ None → after_remove s t ≡ s
   pub queue : (s : QueueState) (id t : ℕ) → standing (after_create s id) t ≡ standing s t

@@ -1,5 +1,5 @@
--- FIFO queues as lists threaded through one array, which has at a task's number whom the task waits right
--- behind, and who waits right behind it. No public clause cites it.
+-- FIFO queues as lists threaded through one array, which has at a task's number whom the task waits
+-- right behind, and who waits right behind it. No public clause cites it.
 use Rattle.std.specs.Prelude.{◌≡◌, ℕ, ◌+◌, ◌-◌, ◌<◌, ◌≤◌, ◌⊎◌, List, slice_index_or, slice_set, Option, Some, None, MatchOption, count_by}
 use Rattle.scx_dsq.specs.declared.entries.Rank.TheVariants.{Fifo}
 use Rattle.scx_dsq.specs.declared.entries.Entry.{Entry}
@@ -24,12 +24,18 @@ link_at links t = slice_index_or links t no_link
 -- the links with another task ahead of one, if there is one
 abbrev pub with_ahead : List Link → Option ℕ → Option ℕ → List Link
 with_ahead links None ahead = links
-with_ahead links (Some t) ahead = slice_set links t (record { ahead = ahead; behind = (link_at links t).behind })
+with_ahead links (Some t) ahead = slice_set links t (record {
+  ahead = ahead;
+  behind = (link_at links t).behind;
+})
 
 -- the links with another task behind one, if there is one
 abbrev pub with_behind : List Link → Option ℕ → Option ℕ → List Link
 with_behind links None behind = links
-with_behind links (Some t) behind = slice_set links t (record { ahead = (link_at links t).ahead; behind = behind })
+with_behind links (Some t) behind = slice_set links t (record {
+  ahead = (link_at links t).ahead;
+  behind = behind;
+})
 
 -- the first task, or the second where there is no first
 abbrev pub or_else : Option ℕ → Option ℕ → Option ℕ
@@ -43,16 +49,22 @@ instead (Some t) if_not if_so = if_so
 
 -- a task put at the end
 abbrev pub links_appended : List Link → Ends → ℕ → List Link
-links_appended links ends t = with_behind (slice_set links t (record { ahead = ends.last; behind = None })) ends.last (Some t)
+links_appended links ends t =
+    with_behind (slice_set links t (record { ahead = ends.last; behind = None })) ends.last (Some t)
 
 -- the ends of a queue with that task put at its end
 abbrev pub ends_appended : Ends → ℕ → Ends
-ends_appended ends t = record { first = instead ends.last (Some t) ends.first; last = Some t; count = ends.count + 1 }
+ends_appended ends t = record {
+  first = instead ends.last (Some t) ends.first;
+  last = Some t;
+  count = ends.count + 1;
+}
 
 -- a task taken out: those beside it are linked to each other
 abbrev pub links_unlinked : List Link → ℕ → List Link
 links_unlinked links t =
-    with_behind (with_ahead links (link_at links t).behind (link_at links t).ahead) (link_at links t).ahead (link_at links t).behind
+    with_behind (with_ahead links (link_at links t).behind (link_at links t).ahead)
+    (link_at links t).ahead (link_at links t).behind
 
 -- the ends of a queue with that task taken out
 abbrev pub ends_unlinked : List Link → Ends → ℕ → Ends
@@ -91,13 +103,19 @@ pub record IsNext (entries : Entries) (id t u : ℕ) : Type 0 where
   pub waits : In entries id t entry
   pub waits_behind : In entries id u entry_behind
   pub before : entry.stamp < entry_behind.stamp
-  pub none_between : (v : ℕ) (q : Entry) → In entries id v q → (q.stamp ≤ entry.stamp) ⊎ (entry_behind.stamp ≤ q.stamp)
+  pub none_between : (v : ℕ) (q : Entry)
+      → In entries id v q → (q.stamp ≤ entry.stamp) ⊎ (entry_behind.stamp ≤ q.stamp)
 
 -- links and ends of a queue lead through the tasks that wait there, all of them in FIFO order
 pub record IsThreaded (entries : Entries) (links : List Link) (id : ℕ) (ends : Ends) : Type 0 where
   pub first : MatchOption ends.first (NobodyIsIn entries id) (HasLeastStamp entries id)
   pub last : MatchOption ends.last (NobodyIsIn entries id) (IsLast entries id)
-  pub ahead : (t : ℕ) (p : Entry) → In entries id t p → MatchOption (link_at links t).ahead (HasLeastStamp entries id t) (λ u. IsNext entries id u t)
-  pub behind : (t : ℕ) (p : Entry) → In entries id t p → MatchOption (link_at links t).behind (IsLast entries id t) (IsNext entries id t)
+  pub ahead : (t : ℕ) (p : Entry)
+      → In entries id t p
+      → MatchOption (link_at links t).ahead (HasLeastStamp entries id t)
+      (λ u. IsNext entries id u t)
+  pub behind : (t : ℕ) (p : Entry)
+      → In entries id t p
+      → MatchOption (link_at links t).behind (IsLast entries id t) (IsNext entries id t)
   pub count : ends.count ≡ count_by (is_in id) entries
   pub sort : (t : ℕ) (p : Entry) → In entries id t p → p.rank ≡ Fifo

@@ -11,4 +11,5 @@ pub record IsOrder (ids order : List ℕ) : Type 0 where
 pub record IsGap (ids order : List ℕ) (id gap : ℕ) : Type 0 where
   pub within : gap ≤ length order
   pub below : (k d : ℕ) → k < gap → slice_index_or ids (slice_index_or order k d) 0 < id
-  pub above : (k d : ℕ) → gap ≤ k → k < length order → id < slice_index_or ids (slice_index_or order k d) 0
+  pub above : (k d : ℕ)
+      → gap ≤ k → k < length order → id < slice_index_or ids (slice_index_or order k d) 0

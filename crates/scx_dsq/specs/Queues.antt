@@ -1,6 +1,6 @@
 -- Dispatch queues as sets (sched-ext.rst, "Dispatch Queues"). They are described by where each task
--- waits: a task has one entry or none, so it is in at most one queue. A queue is the set of the tasks
--- that wait in it, and its front is the one whose entry comes before every other there.
+-- waits: a task has one entry or none, so it is in at most one queue. A queue is the set of the
+-- tasks that wait in it, and its front is the one whose entry comes before every other there.
 use Rattle.std.specs.Prelude.{◌≡◌, ◌≢◌, ℕ, Bool, false, ◌==◌, ◌&&◌, not, List, length, slice_index_or, Option, Some, None, IsTrue, count_by, position, option_map}
 use Rattle.std.specs.List.{list_any, list_all}
 use Rattle.scx_dsq.specs.declared.entries.Rank.{Rank}
@@ -66,7 +66,8 @@ is_ahead id p (Some q) = q.queue == id && is_before q p
 -- whether an entry is one in the queue, with none there before it
 abbrev pub is_first : Entries → ℕ → Option Entry → Bool
 is_first entries id None = false
-is_first entries id (Some p) = p.queue == id && list_all (λ other. not (is_ahead id p other)) entries
+is_first entries id (Some p) =
+    p.queue == id && list_all (λ other. not (is_ahead id p other)) entries
 
 -- the front of a queue; `IsFront` says what it is
 unfoldable pub front_of : QueueState → ℕ → Option ℕ
@@ -80,7 +81,9 @@ is_behind p (Some q) = q.queue == p.queue && is_before p q
 -- whether an entry is the first of those
 abbrev pub is_right_behind : Entries → Entry → Option Entry → Bool
 is_right_behind entries p None = false
-is_right_behind entries p (Some q) = is_behind p (Some q) && list_all (λ other. not (is_behind p other && is_ahead p.queue q other)) entries
+is_right_behind entries p (Some q) =
+    is_behind p (Some q)
+    && list_all (λ other. not (is_behind p other && is_ahead p.queue q other)) entries
 
 -- which task has that one; behind an entry by virtual time nobody is looked for
 abbrev pub next_by : Rank → Entries → Entry → Option ℕ

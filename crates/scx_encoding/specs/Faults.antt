@@ -1,5 +1,5 @@
--- The numbers and names of the faults of bytes, as a refusal prints them. RFC 9669 says which encodings are
--- wrong; numbers and names are this project's own.
+-- The numbers and names of the faults of bytes, as a refusal prints them. RFC 9669 says which
+-- encodings are wrong; numbers and names are this project's own.
 use Rattle.std.specs.Prelude.{ℕ, List, codes}
 use Rattle.scx_encoding.specs.declared.faults.Exclusion.{Exclusion}
 use Rattle.scx_encoding.specs.declared.faults.Exclusion.TheVariants.{Atomic32, Atomic64, Packet, LocalCall, BtfCall, MapByFd, MapValueByFd, VariableAddress, CodeAddress, MapValueByIndex}

@@ -1,7 +1,7 @@
 -- Opcodes (RFC 9669, sections 3.1, 4 and 5): a form is an instruction without its operands, and
--- `opcode` gives each form its code. An opcode is read by the same tables. What isn't in the profile,
--- which is the conformance groups base32, base64, divmul32 and divmul64 (section 2.4), is refused by a
--- name of its own, and every other opcode as unknown.
+-- `opcode` gives each form its code. An opcode is read by the same tables. What isn't in the
+-- profile, which is the conformance groups base32, base64, divmul32 and divmul64 (section 2.4), is
+-- refused by a name of its own, and every other opcode as unknown.
 use Rattle.std.specs.Prelude.{ℕ, ◌+◌, ◌-◌, ◌*◌, ◌/◌, ◌%◌, Bool, nat_eq, List, [], ◌∷◌, Option, Some, None, Result, Ok, Err, ok_or, option_map, if◌then◌else◌}
 use Rattle.std.specs.List.{list_any}
 use Rattle.scx_semantics.specs.declared.instructions.Insn.{Insn}
@@ -155,7 +155,9 @@ form insn.Exit = Exit
 
 -- the operations of arithmetic that an opcode tells apart: all but the signed divisions
 abbrev pub base_operations : List Operation
-base_operations = Add ∷ Subtract ∷ Multiply ∷ Divide ∷ Or ∷ And ∷ ShiftLeft ∷ ShiftRight ∷ Modulo ∷ Xor ∷ Move ∷ ShiftRightSigned ∷ []
+base_operations =
+    Add ∷ Subtract ∷ Multiply ∷ Divide ∷ Or ∷ And ∷ ShiftLeft ∷ ShiftRight ∷ Modulo ∷ Xor ∷ Move
+    ∷ ShiftRightSigned ∷ []
 
 -- all comparisons of conditional jumps
 abbrev pub comparisons : List Comparison
@@ -175,7 +177,9 @@ accesses =
 
 -- the forms of which each has a code of its own
 abbrev pub lone_forms : List Form
-lone_forms = Negate Bits32 ∷ Negate Bits64 ∷ ByteSwap Little ∷ ByteSwap Big ∷ ByteSwap Swapped ∷ Goto ∷ GotoLong ∷ Exit ∷ []
+lone_forms =
+    Negate Bits32 ∷ Negate Bits64 ∷ ByteSwap Little ∷ ByteSwap Big ∷ ByteSwap Swapped ∷ Goto
+    ∷ GotoLong ∷ Exit ∷ []
 
 -- what an opcode has as its operand, by its source bit: an immediate or a register
 abbrev pub source_at : ℕ → Source
@@ -183,11 +187,15 @@ source_at n = if nat_eq (n / 8 % 2) 0 then Immediate else Register
 
 -- arithmetic, by the operation in the high four bits
 abbrev pub binary_form : Width → ℕ → Option Form
-binary_form w n = option_map (λ o. Binary w o (source_at n)) (first_with_code operation_code base_operations (n / 16))
+binary_form w n =
+    option_map (λ o. Binary w o (source_at n))
+    (first_with_code operation_code base_operations (n / 16))
 
 -- a conditional jump by the comparison that the high four bits stand for, if they do
 abbrev pub jump_form : Width → ℕ → Option Form
-jump_form w n = option_map (λ c. JumpIf w c (source_at n)) (first_with_code comparison_code comparisons (n / 16))
+jump_form w n =
+    option_map (λ c. JumpIf w c (source_at n))
+    (first_with_code comparison_code comparisons (n / 16))
 
 -- an access by the opcode without its class
 abbrev pub load_form : ℕ → Option Form
@@ -220,13 +228,15 @@ among ns n = list_any (λ m. nat_eq n m) ns
 -- why an opcode has no form
 abbrev pub opcode_fault : ℕ → DecodeFault
 opcode_fault n =
-    if nat_eq n 0xc3 then NotInProfile Atomic32 else (
-    if nat_eq n 0xdb then NotInProfile Atomic64 else (
-    if among (0x20 ∷ 0x28 ∷ 0x30 ∷ 0x40 ∷ 0x48 ∷ 0x50 ∷ []) n then NotInProfile Packet else UnknownOpcode))
+    if nat_eq n 0xc3 then NotInProfile Atomic32
+    else (if nat_eq n 0xdb then NotInProfile Atomic64
+    else (if among (0x20 ∷ 0x28 ∷ 0x30 ∷ 0x40 ∷ 0x48 ∷ 0x50 ∷ []) n then NotInProfile Packet
+    else UnknownOpcode))
 
 -- the form of an opcode, or why it has none, where the source field tells no forms apart
 abbrev pub plain_form : ℕ → Result Form DecodeFault
-plain_form n = ok_or (first_some (first_with_code opcode lone_forms n) (class_form (n % 8) n)) (opcode_fault n)
+plain_form n =
+    ok_or (first_some (first_with_code opcode lone_forms n) (class_form (n % 8) n)) (opcode_fault n)
 
 -- what stands in a table's row for the number
 abbrev pub look_up : {A : Type 0} → A → List (ℕ × A) → ℕ → A
@@ -250,8 +260,11 @@ wide_form s = look_up (no_form UnknownOpcode) ((0, Ok LoadImmediate)
 
 -- a call, by its source field
 abbrev pub call_form : ℕ → Result Form DecodeFault
-call_form s = look_up (no_form UnknownOpcode) ((0, Ok Call) ∷ (1, Err (NotInProfile LocalCall)) ∷ (2, Err (NotInProfile BtfCall)) ∷ []) s
+call_form s =
+    look_up (no_form UnknownOpcode)
+    ((0, Ok Call) ∷ (1, Err (NotInProfile LocalCall)) ∷ (2, Err (NotInProfile BtfCall)) ∷ []) s
 
 -- the form of an opcode with that source field, or why it has none
 abbrev pub form_of : ℕ → ℕ → Result Form DecodeFault
-form_of n s = if nat_eq n 0x18 then wide_form s else (if nat_eq n 0x85 then call_form s else plain_form n)
+form_of n s =
+    if nat_eq n 0x18 then wide_form s else (if nat_eq n 0x85 then call_form s else plain_form n)

@@ -1,7 +1,7 @@
--- Reading an instruction from its slots, or its first fault. The opcode is looked at first, then the
--- registers, then the offset where the form lists its values, then the width of a byte swap; then the
--- slot has to be the one that spells the instruction, or a field that it doesn't use isn't 0; then a wide
--- one needs a second slot.
+-- Reading an instruction from its slots, or its first fault. The opcode is looked at first, then
+-- the registers, then the offset where the form lists its values, then the width of a byte swap;
+-- then the slot has to be the one that spells the instruction, or a field that it doesn't use isn't
+-- 0; then a wide one needs a second slot.
 use Rattle.std.specs.Prelude.{ℕ, ℤ, ◌&&◌, nat_eq, is_none, List, [], ◌∷◌, Option, Some, None, Result, Ok, Err, ok_or, option_map, if◌then◌else◌}
 use Rattle.std.specs.Int.{w16, w32, cast_signed}
 use Rattle.scx_encoding.specs.declared.slots.Slot.{Slot}
@@ -51,12 +51,17 @@ extensions Bits64 = Low8To64 ∷ Low16To64 ∷ Low32To64 ∷ []
 -- the sign-extending move that the offset chooses, of a register alone
 abbrev pub extension_at : Width → Register → Operand → ℕ → Option Insn
 extension_at w d (operand.Immediate k) n = None
-extension_at w d (operand.Register r) n = option_map (λ e. insn.SignExtend e d r) (first_with_code extension_offset (extensions w) n)
+extension_at w d (operand.Register r) n =
+    option_map (λ e. insn.SignExtend e d r) (first_with_code extension_offset (extensions w) n)
 
 -- the arithmetic that the offset chooses; none where the form doesn't list the offset
 abbrev pub binary_at : Width → Operation → Register → Operand → ℕ → Option Insn
-binary_at w Divide d x n = if nat_eq n 0 then Some (insn.Binary w Divide d x) else (if nat_eq n 1 then Some (insn.Binary w SignedDivide d x) else None)
-binary_at w Modulo d x n = if nat_eq n 0 then Some (insn.Binary w Modulo d x) else (if nat_eq n 1 then Some (insn.Binary w SignedModulo d x) else None)
+binary_at w Divide d x n =
+    if nat_eq n 0 then Some (insn.Binary w Divide d x)
+    else (if nat_eq n 1 then Some (insn.Binary w SignedDivide d x) else None)
+binary_at w Modulo d x n =
+    if nat_eq n 0 then Some (insn.Binary w Modulo d x)
+    else (if nat_eq n 1 then Some (insn.Binary w SignedModulo d x) else None)
 binary_at w Move d x n = if nat_eq n 0 then Some (insn.Binary w Move d x) else extension_at w d x n
 binary_at w o d x n = Some (insn.Binary w o d x)
 
@@ -115,7 +120,9 @@ insn_of_form Exit s next = Ok insn.Exit
 
 -- what the slot and the one behind it, if any, make of an instruction
 abbrev pub whole : Slot → Option Slot → Insn → Result Insn DecodeFault
-whole s next i = if same_slot s (first_slot i) then (if is_wide i && is_none next then Err HalfWide else Ok i) else Err UnusedField
+whole s next i =
+    if same_slot s (first_slot i) then (if is_wide i && is_none next then Err HalfWide else Ok i)
+    else Err UnusedField
 
 -- the instruction that begins at a slot, with the slot behind it, if any
 abbrev pub insn_at : Slot → Option Slot → Result Insn DecodeFault

@@ -6,7 +6,9 @@ use Rattle.scx_encoding.specs.declared.slots.Slot.{Slot}
 
 -- the eight bytes that spell a slot
 abbrev pub slot_bytes : Slot → List ℕ
-slot_bytes s = s.opcode ∷ (s.destination + 16 * s.source) ∷ (little_bytes 2 s.offset ++ little_bytes 4 s.immediate)
+slot_bytes s =
+    s.opcode ∷ (s.destination + 16 * s.source)
+    ∷ (little_bytes 2 s.offset ++ little_bytes 4 s.immediate)
 
 -- the slot that the first eight bytes spell
 abbrev pub slot_at : List ℕ → Slot
@@ -37,4 +39,6 @@ pub record IsSlot (s : Slot) : Type 0 where
 
 -- whether two slots have the same fields
 abbrev pub same_slot : Slot → Slot → Bool
-same_slot s t = (((nat_eq s.opcode t.opcode && nat_eq s.destination t.destination) && nat_eq s.source t.source) && nat_eq s.offset t.offset) && nat_eq s.immediate t.immediate
+same_slot s t =
+    (((nat_eq s.opcode t.opcode && nat_eq s.destination t.destination) && nat_eq s.source t.source)
+    && nat_eq s.offset t.offset) && nat_eq s.immediate t.immediate

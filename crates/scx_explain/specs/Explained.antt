@@ -11,11 +11,12 @@ use Rattle.scx_explain.specs.declared.explained.Explained.{Explained}
 use Rattle.scx_explain.specs.declared.explained.ExplainedPolicy.{ExplainedPolicy}
 use Rattle.scx_explain.specs.Listed.{first_lines}
 
--- An accepted program has no explanation. That of a refused one, if there is one, is of the fault and the
--- slot of the verdict.
+-- An accepted program has no explanation. That of a refused one, if there is one, is of the fault
+-- and the slot of the verdict.
 abbrev pub IsExplanation : Verdict → Option Explanation → Type 0
 IsExplanation (Accepted count) explanation = explanation ≡ None
-IsExplanation (Refused fault slot) explanation = IfSome explanation (λ e. (e.slot ≡ slot) × (fault_of e.reason ≡ fault))
+IsExplanation (Refused fault slot) explanation =
+    IfSome explanation (λ e. (e.slot ≡ slot) × (fault_of e.reason ≡ fault))
 
 -- a program's explanation is of its verdict: none of an accepted one
 abbrev pub IsExplained : Explained → Type 0

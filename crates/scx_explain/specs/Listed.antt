@@ -25,7 +25,8 @@ first_lines_of v (b ∷ bs) = line_on b (at v b) ++ first_lines_of v bs
 abbrev pub first_lines : Verdicts → List (List ℕ)
 first_lines v = first_lines_of v callbacks
 
--- a text of programs with these first lines: each behind an empty line, and with a listing below its first
+-- a text of programs with these first lines: each behind an empty line, and with a listing
+-- below its first
 abbrev pub IsListedBehind : List (List ℕ) → List ℕ → Type 0
 IsListedBehind [] text = text ≡ []
 IsListedBehind (line ∷ lines) text =

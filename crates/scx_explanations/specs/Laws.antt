@@ -15,7 +15,8 @@ use Rattle.scx_explanations.specs.Listings.{IsListing}
 abbrev pub ListingsEndAtRefusals : Type 0
 ListingsEndAtRefusals =
     (c : Context) (program : Code) (listing : Listing) (why : Why) (slot : ℕ)
-    → IsProgram program → IsListing c program listing → IsReason c program (Rule why) slot → listing.pass.slots ≡ slot + 1
+    → IsProgram program → IsListing c program listing → IsReason c program (Rule why) slot
+    → listing.pass.slots ≡ slot + 1
 
 -- Where the flow is refused, no slot is looked at.
 abbrev pub ListingsNeedFlow : Type 0
@@ -27,4 +28,5 @@ ListingsNeedFlow =
 abbrev pub ListingsAreWhole : Type 0
 ListingsAreWhole =
     (c : Context) (program : Code) (listing : Listing)
-    → IsProgram program → IsListing c program listing → IsTyped c program → listing.pass.slots ≡ length program
+    → IsProgram program → IsListing c program listing → IsTyped c program
+    → listing.pass.slots ≡ length program

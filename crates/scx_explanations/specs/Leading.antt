@@ -32,7 +32,8 @@ apart next goes_on (Some t) = if goes_on && nat_eq t next then None else Some t
 -- where control jumps from an instruction, by what flows on from it
 abbrev pub sent_by_jump : ℕ → Insn → Result Next Why → Option ℕ
 sent_by_jump s i (Err why) = None
-sent_by_jump s i (Ok next) = if is_some next.jump then apart (s + size i) (is_some next.on) (target_of s i) else None
+sent_by_jump s i (Ok next) =
+    if is_some next.jump then apart (s + size i) (is_some next.on) (target_of s i) else None
 
 -- where control jumps from that instruction in that state; nowhere where either isn't there
 abbrev pub jump_of : Context → ℕ → Option Insn → Option AbsState → Option ℕ
@@ -40,15 +41,16 @@ jump_of c s None a = None
 jump_of c s (Some i) None = None
 jump_of c s (Some i) (Some a) = sent_by_jump s i (rule c.defs c.callback i a)
 
--- Where control jumps from the instruction at a slot, as far as is known what it may do there. Where it
--- goes on to the same slot too, it needn't jump to get there.
+-- Where control jumps from the instruction at a slot, as far as is known what it may do there.
+-- Where it goes on to the same slot too, it needn't jump to get there.
 abbrev pub jump_from : Listing → ℕ → Option ℕ
 jump_from l s = jump_of l.context s (at l.code.items s) (known_at l s)
 
 -- the first slot from the n-th on from which control jumps to that one
 abbrev pub IsFirstFrom : (ℕ → Option ℕ) → ℕ → ℕ → Option ℕ → Type 0
 IsFirstFrom jumps n t None = (s : ℕ) → n ≤ s → jumps s ≡ Some t → ⊥
-IsFirstFrom jumps n t (Some s) = (n ≤ s) × (jumps s ≡ Some t) × ((r : ℕ) → n ≤ r → r < s → jumps r ≡ Some t → ⊥)
+IsFirstFrom jumps n t (Some s) =
+    (n ≤ s) × (jumps s ≡ Some t) × ((r : ℕ) → n ≤ r → r < s → jumps r ≡ Some t → ⊥)
 
 -- what `Jumps::first` and `Jumps::next` answer
 abbrev pub first_at : Jumps → ℕ → Option ℕ
@@ -60,11 +62,14 @@ next_at j s = slice_index_or j.next.items s None
 
 -- The jumps from the n-th slot on, to one of so many slots: to each slot the first, and behind each
 -- jump the next one that leads to the same slot.
-pub record AreFrom (jumps : ℕ → Option ℕ) (n slots : ℕ) (heads links : List (Option ℕ)) : Type 0 where
+pub record AreFrom (jumps : ℕ → Option ℕ) (n slots : ℕ) (heads links : List (Option ℕ))
+    : Type 0 where
   pub heads_long : length heads ≡ slots
   pub links_long : length links ≡ slots
   pub first : (t : ℕ) → t < slots → IsFirstFrom jumps n t (slice_index_or heads t None)
-  pub next : (s t : ℕ) → n ≤ s → t < slots → jumps s ≡ Some t → IsFirstFrom jumps (s + 1) t (slice_index_or links s None)
+  pub next : (s t : ℕ)
+      → n ≤ s → t < slots → jumps s ≡ Some t
+      → IsFirstFrom jumps (s + 1) t (slice_index_or links s None)
 
 -- these are the jumps of a listing from the n-th slot on
 abbrev pub AreJumpsFrom : Listing → ℕ → Jumps → Type 0

@@ -12,13 +12,15 @@ use Rattle.scx_verify.specs.Forward.{Arrives, IsLeast, IsFirstRefusal}
 use Rattle.scx_verify.specs.Pass.{states_of}
 use Rattle.scx_explanations.specs.declared.listing.Listing.{Listing}
 
--- the pass came to the end, and the states are a typing, or the last slot that it came to is refused
+-- the pass came to the end, and the states are a typing, or the last slot that it came
+-- to is refused
 abbrev pub IsEnd : Context → Code → States → ℕ → Type 0
 IsEnd c code states slots =
     ((slots ≡ length code) × IsTyping c code states)
     ⊎ ((why : Why) × (slot : ℕ) × (slots ≡ slot + 1) × IsFirstRefusal c code why slot)
 
--- These are the forward states of so many slots, which are all, or those up to the first that is refused.
+-- These are the forward states of so many slots, which are all, or those up to the first
+-- that is refused.
 pub record IsPass (c : Context) (code : Code) (states : States) (slots : ℕ) : Type 0 where
   pub forward : (t : ℕ) → t < slots → IsLeast (states t) (Arrives c code states t t)
   pub ends : IsEnd c code states slots
@@ -37,4 +39,5 @@ pub record IsListing (c : Context) (program : Code) (listing : Listing) : Type 0
 
 -- what is known at a slot, as far as the pass came
 abbrev pub known_at : Listing → ℕ → Option AbsState
-known_at listing slot = if nat_lt slot listing.pass.slots then states_of listing.pass.states.items slot else None
+known_at listing slot =
+    if nat_lt slot listing.pass.slots then states_of listing.pass.states.items slot else None

@@ -1,4 +1,5 @@
--- What an instruction names: registers that it reads, writes and stores, and the address that it is given.
+-- What an instruction names: registers that it reads, writes and stores, and the address
+-- that it is given.
 use Rattle.std.specs.Prelude.{◌≡◌, ℕ, ◌+◌, ◌⊎◌, ℤ, pos, Option, Some, None, slice_get}
 use Rattle.scx_semantics.specs.declared.instructions.Insn.{Insn}
 use Rattle.scx_semantics.specs.declared.instructions.Insn.TheVariants as insn
@@ -97,7 +98,11 @@ LoadsMap i n = ⊥
 
 -- the address that an instruction reads or writes; of a call it is that of the key
 abbrev pub address_of : Insn → Option Address
-address_of (insn.Load access d r offset) = Some (record { base = r; offset = offset; size = access_size access })
+address_of (insn.Load access d r offset) = Some (record {
+  base = r;
+  offset = offset;
+  size = access_size access;
+})
 address_of (insn.Store s r offset x) = Some (record { base = r; offset = offset; size = s })
 address_of (insn.Call k) = Some (record { base = R2; offset = pos 0; size = Word })
 address_of i = None

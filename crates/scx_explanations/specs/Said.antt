@@ -1,5 +1,5 @@
--- What a reason says is so: it names registers that the instruction reads, writes or stores, with the kinds
--- and bytes that are known before it, and its numbers.
+-- What a reason says is so: it names registers that the instruction reads, writes or stores, with
+-- the kinds and bytes that are known before it, and its numbers.
 use Rattle.std.specs.Prelude.{◌≡◌, ℕ, ◌+◌, ◌<◌, ◌≤◌, ◌/◌, ◌%◌, ℤ, pos, ◌+ℤ◌, Bool, true, false, IsTrue, IsFalse, List, length, Option, Some, None, Ok, Err, if◌then◌else◌}
 use Rattle.scx_semantics.specs.declared.instructions.Insn.{Insn}
 use Rattle.scx_semantics.specs.declared.instructions.Insn.TheVariants as insn
@@ -116,10 +116,13 @@ pub record HasByte (a : AbsState) (first n byte : ℕ) (k : Kind) : Type 0 where
   pub before_end : byte < first + n
   pub known : byte_kind a byte ≡ k
 
--- what is said of so many bytes of the stack from that one on: one isn't written, or is a part of a pointer
+-- what is said of so many bytes of the stack from that one on: one isn't written, or is
+-- a part of a pointer
 abbrev pub IsUnwritten : AbsState → ℕ → ℕ → BadAccess → Type 0
-IsUnwritten a first n (access.Unwritten reach byte) = (reach ≡ stack_bytes first n) × HasByte a first n byte Unusable
-IsUnwritten a first n (access.PartOfPointer reach k) = (reach ≡ stack_bytes first n) × ((byte : ℕ) × HasByte a first n byte k) × IsTrue (is_pointer k)
+IsUnwritten a first n (access.Unwritten reach byte) =
+    (reach ≡ stack_bytes first n) × HasByte a first n byte Unusable
+IsUnwritten a first n (access.PartOfPointer reach k) =
+    (reach ≡ stack_bytes first n) × ((byte : ℕ) × HasByte a first n byte k) × IsTrue (is_pointer k)
 IsUnwritten a first n said = ⊥
 
 -- ---- of each sort of reason
@@ -127,7 +130,8 @@ IsUnwritten a first n said = ⊥
 -- what is said of the target of a jump is so; falling off the end says nothing more
 abbrev pub IsFlowSaid : Code → ℕ → Insn → BadFlow → Type 0
 IsFlowSaid code s i (flow.Back to) = to ≡ pos (s + size i) +ℤ distance i
-IsFlowSaid code s i (flow.OutOfProgram to slots) = (to ≡ pos (s + size i) +ℤ distance i) × (slots ≡ length code)
+IsFlowSaid code s i (flow.OutOfProgram to slots) =
+    (to ≡ pos (s + size i) +ℤ distance i) × (slots ≡ length code)
 IsFlowSaid code s i (flow.IntoWide to) = to ≡ pos (s + size i) +ℤ distance i
 IsFlowSaid code s i flow.FallsOff = Unit {0}
 
@@ -144,15 +148,18 @@ IsValueSaid c i a value.Frame = written_register i ≡ Some R10
 IsValueSaid c i a (value.MayBeNull r) = Reads i r × IsTrue (may_be_null (kind_at a (number r)))
 IsValueSaid c i a (value.Arithmetic r k) = ReadsPointer i a r k
 IsValueSaid c i a (value.Comparison r k) = ReadsPointer i a r k
-IsValueSaid c i a (value.Stored r k) = (stored_register i ≡ Some r) × (kind_at a (number r) ≡ k) × IsTrue (is_pointer k)
-IsValueSaid c i a (value.Answer k b) = (i ≡ insn.Exit) × (kind_at a 0 ≡ k) × IsFalse (is_number k) × (b ≡ c)
+IsValueSaid c i a (value.Stored r k) =
+    (stored_register i ≡ Some r) × (kind_at a (number r) ≡ k) × IsTrue (is_pointer k)
+IsValueSaid c i a (value.Answer k b) =
+    (i ≡ insn.Exit) × (kind_at a 0 ≡ k) × IsFalse (is_number k) × (b ≡ c)
 
 -- the instruction is given an address in the stack, from that byte on
 pub record IsOnStack (shapes : List Shape) (i : Insn) (a : AbsState) (b : BadAccess) : Type 0 where
   pub address : Address
   pub first : ℕ
   pub given : address_of i ≡ Some address
-  pub area : area_of shapes (kind_at a (number address.base)) address.offset (size_bytes address.size) ≡ Ok (OnStack first)
+  pub area : area_of shapes (kind_at a (number address.base)) address.offset
+      (size_bytes address.size) ≡ Ok (OnStack first)
   pub said : IsUnwritten a first (size_bytes address.size) b
 
 -- the instruction is given an address that means these bytes
@@ -170,7 +177,8 @@ pub record HasNoPointer (i : Insn) (a : AbsState) (r : Register) (k : Kind) : Ty
   pub pointer : IsFalse (is_in_memory k)
 
 -- the instruction would move the pointer in the register to that place
-pub record MovesTo (shapes : List Shape) (i : Insn) (a : AbsState) (r : Register) (to : Place) : Type 0 where
+pub record MovesTo (shapes : List Shape) (i : Insn) (a : AbsState) (r : Register) (to : Place)
+    : Type 0 where
   pub width : Width
   pub operation : Operation
   pub operand : Operand
@@ -183,8 +191,10 @@ pub record MovesTo (shapes : List Shape) (i : Insn) (a : AbsState) (r : Register
 
 -- what is said of the bytes that an instruction accesses or moves a pointer to is so
 abbrev pub IsAccessSaid : List Shape → Insn → AbsState → BadAccess → Type 0
-IsAccessSaid shapes i a (access.Unwritten reach byte) = IsOnStack shapes i a (access.Unwritten reach byte)
-IsAccessSaid shapes i a (access.PartOfPointer reach k) = IsOnStack shapes i a (access.PartOfPointer reach k)
+IsAccessSaid shapes i a (access.Unwritten reach byte) =
+    IsOnStack shapes i a (access.Unwritten reach byte)
+IsAccessSaid shapes i a (access.PartOfPointer reach k) =
+    IsOnStack shapes i a (access.PartOfPointer reach k)
 IsAccessSaid shapes i a (access.NoPointer r k) = HasNoPointer i a r k
 IsAccessSaid shapes i a (access.Outside reach) = Reaches shapes i a reach
 IsAccessSaid shapes i a (access.MovedOut r place) = MovesTo shapes i a r place
@@ -215,15 +225,19 @@ is_store i = false
 
 -- what is said of the field of a task that an instruction accesses is so
 abbrev pub IsFieldSaid : Insn → AbsState → BadField → Type 0
-IsFieldSaid i a (field.Missing offset s) = AccessesTask i a offset s × (field_at (size_bytes s) (at_distance 0 offset) ≡ None)
+IsFieldSaid i a (field.Missing offset s) =
+    AccessesTask i a offset s × (field_at (size_bytes s) (at_distance 0 offset) ≡ None)
 IsFieldSaid i a (field.Signed f) = AccessesField i a f × IsTrue (has_sign i)
-IsFieldSaid i a (field.ReadOnly f) = AccessesField i a f × IsTrue (is_store i) × IsFalse (is_writable f)
+IsFieldSaid i a (field.ReadOnly f) =
+    AccessesField i a f × IsTrue (is_store i) × IsFalse (is_writable f)
 
 -- of a call of that number
 abbrev pub IsCallSaid : Callback → ℤ → AbsState → BadCall → Type 0
 IsCallSaid c n a (call.Unknown k) = (k ≡ n) × (helper_at n ≡ None)
-IsCallSaid c n a (call.NotHere k b) = (k ≡ n) × (b ≡ c) × ((h : Helper) × (helper_at n ≡ Some h) × IsFalse (is_allowed h c))
-IsCallSaid c n a (call.Argument k r kind p) = (k ≡ n) × Takes n r p × (kind_at a (number r) ≡ kind) × IsFalse (is_taken p kind)
+IsCallSaid c n a (call.NotHere k b) =
+    (k ≡ n) × (b ≡ c) × ((h : Helper) × (helper_at n ≡ Some h) × IsFalse (is_allowed h c))
+IsCallSaid c n a (call.Argument k r kind p) =
+    (k ≡ n) × Takes n r p × (kind_at a (number r) ≡ kind) × IsFalse (is_taken p kind)
 
 -- what is said of an instruction that fails a check in a state
 abbrev pub IsRuleSaid : Context → Insn → AbsState → Reason → Type 0

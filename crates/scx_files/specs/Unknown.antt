@@ -24,7 +24,8 @@ is_known (k ∷ known) key = bytes_eq k key || is_known known key
 abbrev pub unknown : List (List ℕ) → List ℕ → Members → List (List ℕ)
 unknown known path no_members = []
 unknown known path (member key d ms) =
-    if is_known known key then unknown known path ms else below path (key_text key) ∷ unknown known path ms
+    if is_known known key then unknown known path ms
+    else below path (key_text key) ∷ unknown known path ms
 
 -- of a value at a path, if it is a table
 abbrev pub unknown_of : List (List ℕ) → List ℕ → Data → List (List ℕ)
@@ -34,7 +35,8 @@ unknown_of known path _ = []
 -- of the elements from the n-th on of an array at a path
 abbrev pub unknown_from : List (List ℕ) → List ℕ → ℕ → Items → List (List ℕ)
 unknown_from known path n no_items = []
-unknown_from known path n (item d ds) = unknown_of known (element path n) d ++ unknown_from known path (n + 1) ds
+unknown_from known path n (item d ds) =
+    unknown_of known (element path n) d ++ unknown_from known path (n + 1) ds
 
 -- of a value at a path, if it is an array
 abbrev pub unknown_of_each : List (List ℕ) → List ℕ → Data → List (List ℕ)
@@ -47,7 +49,8 @@ unknown_in known path key ms = found_or (unknown_of known (below path key)) [] (
 
 -- the paths of the unknown keys of the tables in the array at a key; none without an array
 abbrev pub unknown_in_each : List (List ℕ) → List ℕ → List ℕ → Members → List (List ℕ)
-unknown_in_each known path key ms = found_or (unknown_of_each known (below path key)) [] (get_member key ms)
+unknown_in_each known path key ms =
+    found_or (unknown_of_each known (below path key)) [] (get_member key ms)
 
 -- ---- the least of some paths, by their bytes
 

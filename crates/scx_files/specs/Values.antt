@@ -55,7 +55,8 @@ item_count (item d ds) = suc (item_count ds)
 
 -- the elements of an array of at most so many
 abbrev pub elements_of : ℕ → List ℕ → Data → Reading Items
-elements_of most path (array ds) = if nat_le (item_count ds) most then Ok ds else refusal path cause.TooMany
+elements_of most path (array ds) =
+    if nat_le (item_count ds) most then Ok ds else refusal path cause.TooMany
 elements_of most path _ = refusal path cause.WrongType
 
 -- the elements from the n-th on, read one after the other
@@ -66,9 +67,12 @@ each_from read n (item d ds) = read n d >>= λ x. each_from read (n + 1) ds >>= 
 -- ---- what stands at a key of the table at a path
 
 -- a key that has to be there
-abbrev pub required : {A : Type 0} → (List ℕ → Data → Reading A) → List ℕ → List ℕ → Members → Reading A
-required of path key ms = found_or (of (below path key)) (refusal (below path key) cause.Missing) (get_member key ms)
+abbrev pub required :
+    {A : Type 0} → (List ℕ → Data → Reading A) → List ℕ → List ℕ → Members → Reading A
+required of path key ms =
+    found_or (of (below path key)) (refusal (below path key) cause.Missing) (get_member key ms)
 
 -- a key that may be absent
-abbrev pub optional : {A : Type 0} → (List ℕ → Data → Reading A) → A → List ℕ → List ℕ → Members → Reading A
+abbrev pub optional :
+    {A : Type 0} → (List ℕ → Data → Reading A) → A → List ℕ → List ℕ → Members → Reading A
 optional of default path key ms = found_or (of (below path key)) (Ok default) (get_member key ms)

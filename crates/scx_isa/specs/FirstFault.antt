@@ -1,6 +1,6 @@
--- The first fault of bytes that spell no program, without saying how it is found: either their length
--- is wrong, or the slots in front of the faulty instruction spell instructions, and it is wrong itself or
--- its second half is. The faults of a slot are those of `Reading`.
+-- The first fault of bytes that spell no program, without saying how it is found: either their
+-- length is wrong, or the slots in front of the faulty instruction spell instructions, and it is
+-- wrong itself or its second half is. The faults of a slot are those of `Reading`.
 use Rattle.std.specs.Prelude.{ℕ, suc, ◌/◌, ◌%◌, ◌≡◌, ◌≢◌, ◌<◌, false, List, ◌∷◌, ◌++◌, length, Some, Ok, Err}
 use Rattle.scx_encoding.specs.declared.slots.Slot.{Slot}
 use Rattle.scx_semantics.specs.declared.instructions.Insn.{Insn}
@@ -46,9 +46,14 @@ pub record FailsInHalf (slots : List Slot) (k : ℕ) : Type 0 where
 pub data IsFirstFault (bytes : List ℕ) : DecodeFault → ℕ → Type 0 where
   NoByte : length bytes ≡ 0 → IsFirstFault bytes Empty 0
   CutSlot : 0 < length bytes % 8 → IsFirstFault bytes NotWholeSlots (length bytes / 8)
-  PastLimit : length bytes % 8 ≡ 0 → MAX_SLOTS < length bytes / 8 → IsFirstFault bytes TooLong MAX_SLOTS
-  AtInsn : (fault : DecodeFault) (k : ℕ) → HasProgramLength bytes → FailsAtInsn (slots_in (length bytes / 8) bytes) fault k → IsFirstFault bytes fault k
-  InHalf : (k : ℕ) → HasProgramLength bytes → FailsInHalf (slots_in (length bytes / 8) bytes) k → IsFirstFault bytes UnusedField (suc k)
+  PastLimit : length bytes % 8 ≡ 0 → MAX_SLOTS < length bytes / 8
+      → IsFirstFault bytes TooLong MAX_SLOTS
+  AtInsn : (fault : DecodeFault) (k : ℕ)
+      → HasProgramLength bytes → FailsAtInsn (slots_in (length bytes / 8) bytes) fault k
+      → IsFirstFault bytes fault k
+  InHalf : (k : ℕ)
+      → HasProgramLength bytes → FailsInHalf (slots_in (length bytes / 8) bytes) k
+      → IsFirstFault bytes UnusedField (suc k)
 
 -- what a refusal says of the bytes; memory is asked for only where they have a program's length
 abbrev pub IsRefusal : List ℕ → DecodeError → Type 0

@@ -14,7 +14,8 @@ use Rattle.scx_semantics.specs.Runs.{Leads, any_answer}
 -- the fault of a jump whose target is that slot
 abbrev pub target_fault : Code → ℕ → Option FlowFault
 target_fault code t =
-    if nat_le (length code) t then Some OutOfProgram else (if is_none (at code t) then Some IntoWide else None)
+    if nat_le (length code) t then Some OutOfProgram
+    else (if is_none (at code t) then Some IntoWide else None)
 
 -- the fault of a jump of that distance, counted from the slot behind it
 abbrev pub jump_fault : Code → ℕ → ℤ → Option FlowFault
@@ -32,7 +33,8 @@ first_fault (Some f) g = Some f
 
 -- the first fault of an instruction that has that slot behind it
 abbrev pub insn_fault : Code → ℕ → Insn → Option FlowFault
-insn_fault code s (JumpIf w c r x offset) = first_fault (jump_fault code s offset) (end_fault code s)
+insn_fault code s (JumpIf w c r x offset) =
+    first_fault (jump_fault code s offset) (end_fault code s)
 insn_fault code s (Goto offset) = jump_fault code s offset
 insn_fault code s (GotoLong offset) = jump_fault code s offset
 insn_fault code s Exit = None
@@ -58,9 +60,9 @@ pub record IsFirstFlowFault (code : Code) (fault : FlowFault) (slot : ℕ) : Typ
   pub fails : flow_fault code slot insn ≡ Some fault
   pub earlier : (s : ℕ) (i : Insn) → s < slot → at code s ≡ Some i → flow_fault code s i ≡ None
 
--- What the conditions are for: wherever a run of the program stands, whatever its first state and the
--- answers that it gets, an instruction begins there, and it has taken fewer steps than the program
--- has instructions.
+-- What the conditions are for: wherever a run of the program stands, whatever its first state and
+-- the answers that it gets, an instruction begins there, and it has taken fewer steps than the
+-- program has instructions.
 abbrev pub StaysInControl : Code → Type 0
 StaysInControl code =
     (c : Callback) (m : Machine) (steps slot : ℕ) (k : Machine)

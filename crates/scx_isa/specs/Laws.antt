@@ -1,5 +1,5 @@
--- The laws of spelling and of faults, which are the contracts of public functions without a body of their
--- own.
+-- The laws of spelling and of faults, which are the contracts of public functions without
+-- a body of their own.
 use Rattle.std.specs.Prelude.{ℕ, ◌≡◌, List, Ok}
 use Rattle.scx_encoding.specs.declared.faults.DecodeFault.{DecodeFault}
 use Rattle.scx_semantics.specs.Code.{Code}
@@ -13,16 +13,23 @@ ReadsBack = (code : Code) → IsProgram code → read_program (spelling code) �
 
 -- two different byte lists never spell one program
 abbrev pub OneSpelling : Type 0
-OneSpelling = (bytes others : List ℕ) (code : Code) → Spells bytes code → Spells others code → bytes ≡ others
+OneSpelling =
+    (bytes others : List ℕ) (code : Code) → Spells bytes code → Spells others code → bytes ≡ others
 
 -- no bytes spell two programs
 abbrev pub OneProgram : Type 0
-OneProgram = (bytes : List ℕ) (code other : Code) → Spells bytes code → Spells bytes other → code ≡ other
+OneProgram =
+    (bytes : List ℕ) (code other : Code) → Spells bytes code → Spells bytes other → code ≡ other
 
 -- no bytes have two first faults, nor one at two slots
 abbrev pub OneFirstFault : Type 0
-OneFirstFault = (bytes : List ℕ) (fault other : DecodeFault) (slot place : ℕ) → IsFirstFault bytes fault slot → IsFirstFault bytes other place → (fault ≡ other) × (slot ≡ place)
+OneFirstFault =
+    (bytes : List ℕ) (fault other : DecodeFault) (slot place : ℕ)
+    → IsFirstFault bytes fault slot → IsFirstFault bytes other place
+    → (fault ≡ other) × (slot ≡ place)
 
 -- bytes with a first fault spell no program
 abbrev pub FaultyBytesSpellNothing : Type 0
-FaultyBytesSpellNothing = (bytes : List ℕ) (fault : DecodeFault) (slot : ℕ) (code : Code) → IsFirstFault bytes fault slot → ¬ Spells bytes code
+FaultyBytesSpellNothing =
+    (bytes : List ℕ) (fault : DecodeFault) (slot : ℕ) (code : Code)
+    → IsFirstFault bytes fault slot → ¬ Spells bytes code

@@ -44,6 +44,7 @@ Fails (errors.Refused fault slot) read = read ≡ Err (fault, slot)
 Fails errors.OutOfMemory read = Unit {0}
 
 -- a function's answer, seen by view, is what reading gives; want of memory says nothing of it
-abbrev pub Gives : {X Y : Type 0} → (X → Y) → Result X DecodeError → Result Y (DecodeFault × ℕ) → Type 0
+abbrev pub Gives :
+    {X Y : Type 0} → (X → Y) → Result X DecodeError → Result Y (DecodeFault × ℕ) → Type 0
 Gives view (Ok x) read = read ≡ Ok (view x)
 Gives view (Err e) read = Fails e read

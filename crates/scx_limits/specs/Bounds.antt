@@ -1,5 +1,5 @@
--- What is kept so that no usage passes its bound: with a group's usage the processors that run its tasks are
--- counted.
+-- What is kept so that no usage passes its bound: with a group's usage the processors that run
+-- its tasks are counted.
 use Rattle.std.specs.Prelude.{ℕ, ◌+◌, ◌<◌, Bool, false, List, length, Option, None, Some}
 use Rattle.std.specs.List.{count_by}
 use Rattle.scx_weights.specs.Hierarchy.{Hierarchy, lies_in, home_of}

@@ -14,27 +14,33 @@ UsagesCountRuns =
 -- a usage that was 0 stays below the group's quota plus the number of processors, idle at first
 abbrev pub UsagesAreBounded : Type 0
 UsagesAreBounded =
-    (t : Hierarchy) (cpus : ℕ) (past : List Step) (g quota : ℕ) → g < length t.groups → quota_at t.groups g ≡ Some quota → 0 < quota
-    → usage_of t g ≡ 0 → are_allowed (idle_machine t cpus) past ≡ true
+    (t : Hierarchy) (cpus : ℕ) (past : List Step) (g quota : ℕ)
+    → g < length t.groups → quota_at t.groups g ≡ Some quota → 0 < quota → usage_of t g ≡ 0
+    → are_allowed (idle_machine t cpus) past ≡ true
     → usage_of (run_of (idle_machine t cpus) past).tree g < quota + cpus
 
 -- what a group's tasks, and those below, run in a period stays below its quota plus the processors
 abbrev pub RunsAreBounded : Type 0
 RunsAreBounded =
-    (t : Hierarchy) (cpus : ℕ) (past : List Step) (g quota : ℕ) → g < length t.groups → quota_at t.groups g ≡ Some quota → 0 < quota
-    → usage_of t g ≡ 0 → are_allowed (idle_machine t cpus) past ≡ true
+    (t : Hierarchy) (cpus : ℕ) (past : List Step) (g quota : ℕ)
+    → g < length t.groups → quota_at t.groups g ≡ Some quota → 0 < quota → usage_of t g ≡ 0
+    → are_allowed (idle_machine t cpus) past ≡ true
     → runs_in_period t g (uses_of (idle_machine t cpus) past) < quota + cpus
 
 -- a throttled task stays so, whoever runs for a ms
 abbrev pub UsesKeepThrottled : Type 0
-UsesKeepThrottled = (t : Hierarchy) (k j : ℕ) → is_throttled t k ≡ true → is_throttled (with_use t j) k ≡ true
+UsesKeepThrottled =
+    (t : Hierarchy) (k j : ℕ) → is_throttled t k ≡ true → is_throttled (with_use t j) k ≡ true
 
 -- where no period of a throttled group begins
 abbrev pub ClocksKeepThrottled : Type 0
 ClocksKeepThrottled =
-    (t : Hierarchy) (k clock : ℕ) → ((g : ℕ) → is_throttled_group t g ≡ true → begins_period t g clock ≡ false)
+    (t : Hierarchy) (k clock : ℕ)
+    → ((g : ℕ) → is_throttled_group t g ≡ true → begins_period t g clock ≡ false)
     → is_throttled t k ≡ true → is_throttled (with_turn t clock) k ≡ true
 
 -- a task that isn't throttled stays so, whatever the clock comes to show
 abbrev pub ClocksThrottleNobody : Type 0
-ClocksThrottleNobody = (t : Hierarchy) (k clock : ℕ) → is_throttled t k ≡ false → is_throttled (with_turn t clock) k ≡ false
+ClocksThrottleNobody =
+    (t : Hierarchy) (k clock : ℕ)
+    → is_throttled t k ≡ false → is_throttled (with_turn t clock) k ≡ false

@@ -31,7 +31,10 @@ without_throttled t k cpus c = if is_throttled t k then slice_set cpus c None el
 -- that task, where there is one, has run for a ms there
 abbrev pub after_ms : Option ℕ → QuotaMachine → ℕ → QuotaMachine
 after_ms None m c = m
-after_ms (Some k) m c = record { tree = with_use m.tree k; cpus = without_throttled (with_use m.tree k) k m.cpus c }
+after_ms (Some k) m c = record {
+  tree = with_use m.tree k;
+  cpus = without_throttled (with_use m.tree k) k m.cpus c;
+}
 
 -- the machine after a step
 abbrev pub after_step : QuotaMachine → Step → QuotaMachine
@@ -42,7 +45,8 @@ after_step m (Turn clock) = record { tree = with_turn m.tree clock; cpus = m.cpu
 
 -- none begins to run who is throttled, or where another runs
 abbrev pub is_allowed : QuotaMachine → Step → Bool
-is_allowed m (Begin c k) = (nat_lt c (length m.cpus) && is_none (running m c)) && not (is_throttled m.tree k)
+is_allowed m (Begin c k) =
+    (nat_lt c (length m.cpus) && is_none (running m c)) && not (is_throttled m.tree k)
 is_allowed m (End c) = nat_lt c (length m.cpus)
 is_allowed m (Tick c) = true
 is_allowed m (Turn clock) = true

@@ -22,9 +22,12 @@ use Rattle.scx_machine.specs.Steps.{State, CallMade, Stepped, one_after_other}
 use Rattle.scx_machine.specs.Ejecting.{ejected_for}
 
 -- the program is run with the world as its outside; one that is absent does nothing, and answers 0
-unfoldable pub call_ending : Option VerifiedProgram → Callback → Args → Maps → WorldState → Ending WorldState
+unfoldable pub call_ending :
+    Option VerifiedProgram → Callback → Args → Maps → WorldState → Ending WorldState
 call_ending None b a maps w = record { answer = Some 0; maps = maps; outside = w }
-call_ending (Some p) b a maps w = run_of (answer_to world_functions) (after_query world_functions) b p.code (program_arguments a) maps w
+call_ending (Some p) b a maps w =
+    run_of (answer_to world_functions) (after_query world_functions) b p.code (program_arguments a)
+    maps w
 
 -- what a callback leaves, when its notes are handed on
 abbrev pub after_callback : PolicyState → Ending WorldState → State
@@ -33,7 +36,8 @@ after_callback p e = record { policy = p; maps = e.maps; world = quiet e.outside
 -- a program that is absent isn't called
 abbrev pub calls_of : Option VerifiedProgram → Callback → Args → Maps → WorldState → List CallMade
 calls_of None b a maps w = []
-calls_of (Some p) b a maps w = record { callback = b; program = p; arguments = a; maps = maps; world = w } ∷ []
+calls_of (Some p) b a maps w =
+    record { callback = b; program = p; arguments = a; maps = maps; world = w } ∷ []
 
 -- ---- what is wrong with a callback
 
@@ -74,23 +78,30 @@ call_back s b a t c =
     let p = acting s b in
     let w = at_callback s.world b t c in
     let e = call_ending p b a s.maps w in
-    one_after_other (record { state = after_callback s.policy e; notes = e.outside.notes; calls = calls_of p b a s.maps w }) (ejected_for (fault_of b e) (after_callback s.policy e))
+    one_after_other (record {
+      state = after_callback s.policy e;
+      notes = e.outside.notes;
+      calls = calls_of p b a s.maps w;
+    })
+    (ejected_for (fault_of b e) (after_callback s.policy e))
 
 -- what it answers, if it comes to an answer
 unfoldable pub answered_by : State → Callback → Args → ℕ → ℕ → Option ℕ
 answered_by s b a t c = (call_ending (acting s b) b a s.maps (at_callback s.world b t c)).answer
 
--- a callback that is called is never stuck: it comes to an answer, in no more steps than its program has
--- instructions
+-- a callback that is called is never stuck: it comes to an answer, in no more steps than its
+-- program has instructions
 pub record IsAnswered (c : CallMade) : Type 0 where
   pub answer : ℕ
   pub steps : ℕ
   pub maps : Maps
   pub world : WorldState
-  pub run : Runs (host world_functions) c.callback c.program.code (program_arguments c.arguments) c.maps c.world answer steps maps world
+  pub run : Runs (host world_functions) c.callback c.program.code (program_arguments c.arguments)
+      c.maps c.world answer steps maps world
   pub in_bound : steps ≤ instruction_count c.program.code
 
--- each callback that is called comes to an answer, in no more steps than its program has instructions
+-- each callback that is called comes to an answer, in no more steps than its program
+-- has instructions
 abbrev pub AreAnswered : List CallMade → Type 0
 AreAnswered [] = ⊤
 AreAnswered (c ∷ cs) = IsAnswered c × AreAnswered cs

@@ -1,5 +1,5 @@
--- The scheduling cycle (sched-ext.rst, "Scheduling Cycle"): a processor looks for the task that it runs
--- next.
+-- The scheduling cycle (sched-ext.rst, "Scheduling Cycle"): a processor looks for the task
+-- that it runs next.
 use Rattle.std.specs.Prelude.{ℕ, zero, suc, Bool, true, false, ◌&&◌, ◌==◌, not, List, [], ◌∷◌, if◌then◌else◌, Option, Some, None}
 use Rattle.scx_dsq.specs.Queues.{front_of, len_of}
 use Rattle.scx_semantics.specs.declared.callbacks.Callback.TheVariants as callback
@@ -31,8 +31,8 @@ after_dispatch s c p =
 abbrev pub asks_again : State → ℕ → Bool
 asks_again s c = (local_len s.world c == 0) && s.world.call.has_moved
 
--- at most so many calls, as long as the local queue is empty and the last one moved something; an ejection
--- forgets what was moved
+-- at most so many calls, as long as the local queue is empty and the last one moved something; an
+-- ejection forgets what was moved
 unfoldable pub tries : ℕ → State → ℕ → Option ℕ → Stepped
 tries zero s c p = stays s
 tries (suc n) s c p =
@@ -43,11 +43,15 @@ tries (suc n) s c p =
 
 -- once a task has left its processor; the number says whether it stays runnable
 unfoldable pub stopping : State → ℕ → ℕ → ℕ → Stepped
-stopping s c t n = if is_ejected s then stays (with_world s (after_charge s.world t)) else call_back s callback.Stopping (task_and_number t n) t c
+stopping s c t n =
+    if is_ejected s then stays (with_world s (after_charge s.world t))
+    else call_back s callback.Stopping (task_and_number t n) t c
 
 -- once a task has come to its processor
 unfoldable pub running_on : State → ℕ → ℕ → Stepped
-running_on s c t = if is_ejected s then stays (with_world s (after_catch_up s.world t)) else call_back s callback.Running (one_task t) t c
+running_on s c t =
+    if is_ejected s then stays (with_world s (after_catch_up s.world t))
+    else call_back s callback.Running (one_task t) t c
 
 -- the task before leaves the processor, and is put
 unfoldable pub leave : State → ℕ → Option ℕ → Stepped
@@ -59,7 +63,9 @@ leave s c (Some t) =
 -- that task, the front of the local queue, leaves it and runs; without one nothing is done
 abbrev pub started_if : Option ℕ → State → ℕ → Stepped
 started_if None s c = stays s
-started_if (Some t) s c = after (note_now s.world (Run t c) ∷ []) (running_on (with_world s (started_at (Some t) s.world c)) c t)
+started_if (Some t) s c =
+    after (note_now s.world (Run t c) ∷ [])
+    (running_on (with_world s (started_at (Some t) s.world c)) c t)
 
 -- the front of the local queue runs
 unfoldable pub start : State → ℕ → Stepped
@@ -75,7 +81,11 @@ idle_note w (Some t) ran c = []
 
 -- nobody comes: the task before stays, or the processor is idle
 unfoldable pub rest : State → ℕ → Option ℕ → Bool → Stepped
-rest s c p ran = record { state = with_world s (after_keep s.world p); notes = idle_note s.world p ran c; calls = [] }
+rest s c p ran = record {
+  state = with_world s (after_keep s.world p);
+  notes = idle_note s.world p ran c;
+  calls = [];
+}
 
 -- ---- the built-in scheduler
 
@@ -87,7 +97,8 @@ swap s c p = let l = leave s c p in one_after_other l (start l.state c)
 unfoldable pub swap_or_rest : State → ℕ → Option ℕ → Bool → Stepped
 swap_or_rest s c p ran = if has_local s c then swap s c p else rest s c p ran
 
--- its dispatch: the front of its queue comes to the local queue, once those that may not run are parked
+-- its dispatch: the front of its queue comes to the local queue, once those that may
+-- not run are parked
 unfoldable pub builtin_dispatch : State → ℕ → Stepped
 builtin_dispatch s c =
     let p = park_fronts (len_of s.world.queues builtin_queue) s builtin_queue in
@@ -111,8 +122,8 @@ builtin_cycle s c p ran = let f = supply s c in one_after_other f (builtin_ask f
 unfoldable pub start_or_cycle : State → ℕ → Bool → Stepped
 start_or_cycle s c ran = if has_local s c then start s c else builtin_cycle s c None ran
 
--- the front of the local queue runs in the place of the task before, of which a callback may eject the
--- policy
+-- the front of the local queue runs in the place of the task before, of which a callback
+-- may eject the policy
 unfoldable pub pick : State → ℕ → Option ℕ → Bool → Stepped
 pick s c p ran = let l = leave s c p in one_after_other l (start_or_cycle l.state c ran)
 
@@ -128,8 +139,8 @@ conclude s c p ran = if is_ejected s then builtin_cycle s c p ran else pick_or_r
 unfoldable pub ask : State → ℕ → Option ℕ → Bool → Stepped
 ask s c p ran = let d = tries 32 s c p in one_after_other d (conclude d.state c p ran)
 
--- of a processor on which that task ran and may stay, or none; `ran` says whether any ran there as the
--- event began
+-- of a processor on which that task ran and may stay, or none; `ran` says whether any ran
+-- there as the event began
 unfoldable pub seek : State → ℕ → Option ℕ → Bool → Stepped
 seek s c p ran =
     let f = supply s c in

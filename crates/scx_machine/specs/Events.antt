@@ -24,11 +24,20 @@ use Rattle.scx_machine.specs.Cycle.{stopping, cycle}
 
 -- why an event is refused; none where it is accepted
 abbrev pub refusal : State → Event → Option Refused
-refusal s (Wake t) = if nat_lt t (length s.world.tasks) then (if is_runnable s.world t then Some AlreadyRunnable else None) else Some UnknownTask
-refusal s (Sleep t) = if nat_lt t (length s.world.tasks) then (if is_runnable s.world t then None else Some NotRunnable) else Some UnknownTask
+refusal s (Wake t) =
+    if nat_lt t (length s.world.tasks)
+    then (if is_runnable s.world t then Some AlreadyRunnable else None)
+    else Some UnknownTask
+refusal s (Sleep t) =
+    if nat_lt t (length s.world.tasks)
+    then (if is_runnable s.world t then None else Some NotRunnable)
+    else Some UnknownTask
 refusal s (Tick c) = if nat_lt c (length s.world.cpus) then None else Some UnknownCpu
 refusal s Clock = None
-refusal s (SetWeight g x) = if nat_lt g (length s.world.tree.groups) then (if is_outside max_weight x then Some BadWeight else None) else Some UnknownGroup
+refusal s (SetWeight g x) =
+    if nat_lt g (length s.world.tree.groups)
+    then (if is_outside max_weight x then Some BadWeight else None)
+    else Some UnknownGroup
 
 -- ---- what each event does
 
@@ -37,8 +46,8 @@ abbrev pub answered_cpu : WorldState → ℕ → Option ℕ → ℕ
 answered_cpu w t None = default_choice w t
 answered_cpu w t (Some n) = if nat_lt n (length w.cpus) then n else default_choice w t
 
--- the processor for which a task that wakes is put; the default choice where no program answered, or no
--- policy is in force
+-- the processor for which a task that wakes is put; the default choice where no program answered,
+-- or no policy is in force
 abbrev pub target : Option VerifiedProgram → WorldState → ℕ → Option ℕ → ℕ
 target None w t a = default_choice w t
 target (Some p) w t a = answered_cpu w t a
@@ -59,17 +68,20 @@ unfoldable pub select : State → ℕ → Stepped
 select s t =
     let c = (task_at s.world t).prev_cpu in
     let r = call_back s callback.SelectCpu (task_cpu_and_0 t c) t c in
-    one_after_other r (settle r.state t (target (acting r.state callback.SelectCpu) r.state.world t (answered_by s callback.SelectCpu (task_cpu_and_0 t c) t c)))
+    one_after_other r (settle r.state t (target (acting r.state callback.SelectCpu) r.state.world t
+    (answered_by s callback.SelectCpu (task_cpu_and_0 t c) t c)))
 
 -- a task wakes: it is noted, the task waits from now on, and select_cpu is asked
 unfoldable pub wake : State → ℕ → Stepped
-wake s t = after (note_now s.world (note.Wake t) ∷ []) (select (with_world s (after_wake s.world t)) t)
+wake s t =
+    after (note_now s.world (note.Wake t) ∷ []) (select (with_world s (after_wake s.world t)) t)
 
 -- a task that runs leaves its processor, which looks for another
 unfoldable pub sleep_from_cpu : State → ℕ → ℕ → Stepped
 sleep_from_cpu s t c =
     let r = stopping (with_world s (after_stop s.world c t)) c t 0 in
-    after (note_now s.world (note.Stop t c) ∷ []) (one_after_other r (cycle (with_world r.state (after_sleep r.state.world t)) c None true))
+    after (note_now s.world (note.Stop t c) ∷ [])
+    (one_after_other r (cycle (with_world r.state (after_sleep r.state.world t)) c None true))
 
 -- a task goes to sleep from that processor, or, where it runs on none, from its queue
 abbrev pub sleep_from : Option ℕ → State → ℕ → Stepped
@@ -80,12 +92,14 @@ sleep_from (Some c) s t = sleep_from_cpu s t c
 unfoldable pub sleep : State → ℕ → Stepped
 sleep s t = after (note_now s.world (note.Sleep t) ∷ []) (sleep_from (cpu_of s.world t) s t)
 
--- a task that may not run any more leaves its processor and is parked, and the processor looks for another
+-- a task that may not run any more leaves its processor and is parked, and the processor
+-- looks for another
 unfoldable pub throttle : State → ℕ → ℕ → Stepped
 throttle s c t =
     let r = stopping (with_world s (after_stop s.world c t)) c t 1 in
     let p = park r.state t in
-    after (note_now s.world (note.Stop t c) ∷ []) (one_after_other r (one_after_other p (cycle p.state c None true)))
+    after (note_now s.world (note.Stop t c) ∷ [])
+    (one_after_other r (one_after_other p (cycle p.state c None true)))
 
 -- a task whose slice has run out may be replaced
 unfoldable pub expire : State → ℕ → ℕ → Stepped
@@ -129,4 +143,8 @@ event_step s (Wake t) = wake s t
 event_step s (Sleep t) = sleep s t
 event_step s (Tick c) = tick s c
 event_step s Clock = clock s
-event_step s (SetWeight g x) = record { state = with_world s (after_reweigh s.world g x); notes = note_now s.world (note.Weight g x) ∷ []; calls = [] }
+event_step s (SetWeight g x) = record {
+  state = with_world s (after_reweigh s.world g x);
+  notes = note_now s.world (note.Weight g x) ∷ [];
+  calls = [];
+}

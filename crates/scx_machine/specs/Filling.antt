@@ -13,4 +13,8 @@ move_note w (Some t) c = note_now w (Move t c) ∷ []
 
 -- where the local queue is empty, the front of another comes to it
 unfoldable pub fill : State → ℕ → ℕ → Stepped
-fill s q c = record { state = with_world s (after_fill s.world q c); notes = move_note s.world (fill_front s.world q c) c; calls = [] }
+fill s q c = record {
+  state = with_world s (after_fill s.world q c);
+  notes = move_note s.world (fill_front s.world q c) c;
+  calls = [];
+}

@@ -1,5 +1,5 @@
--- Tasks whose groups have used what they may are parked: they go to a queue of the machine's own, until a
--- period begins (`cpu.max` of Linux Documentation/admin-guide/cgroup-v2.rst).
+-- Tasks whose groups have used what they may are parked: they go to a queue of the machine's own,
+-- until a period begins (`cpu.max` of Linux Documentation/admin-guide/cgroup-v2.rst).
 use Rattle.std.specs.Prelude.{ℕ, zero, suc, ◌+◌, [], ◌∷◌, if◌then◌else◌, Option, Some, None, ◌≡◌, false}
 use Rattle.scx_dsq.specs.Queues.{front_of, len_of, behind_of}
 use Rattle.scx_world.specs.declared.notes.What.TheVariants as note
@@ -12,7 +12,11 @@ use Rattle.scx_machine.specs.Put.{put}
 
 -- the task at hand is parked
 unfoldable pub park : State → ℕ → Stepped
-park s t = record { state = with_world s (put_parked s.world t); notes = note_now s.world (note.Insert t parked_queue) ∷ []; calls = [] }
+park s t = record {
+  state = with_world s (put_parked s.world t);
+  notes = note_now s.world (note.Insert t parked_queue) ∷ [];
+  calls = [];
+}
 
 -- the front of a queue leaves it, and is parked
 unfoldable pub park_front : State → ℕ → ℕ → Stepped
@@ -39,13 +43,14 @@ unfoldable pub park_fronts : ℕ → State → ℕ → Stepped
 park_fronts zero s q = stays s
 park_fronts (suc n) s q = park_then (λ r. park_fronts n r q) s q (throttled_front s q)
 
--- wherever the local queue is empty it is filled from that of all processors, and as long as its front may
--- not run, that is parked, at most so often
+-- wherever the local queue is empty it is filled from that of all processors, and as long as its
+-- front may not run, that is parked, at most so often
 unfoldable pub clear : ℕ → State → ℕ → Stepped
 clear zero s c = stays s
 clear (suc n) s c =
     let f = fill s global c in
-    one_after_other f (park_then (λ r. clear n r c) f.state (local_on c) (throttled_front f.state (local_on c)))
+    one_after_other f
+    (park_then (λ r. clear n r c) f.state (local_on c) (throttled_front f.state (local_on c)))
 
 -- how many tasks wait in the two queues
 abbrev pub in_reach : State → ℕ → ℕ
@@ -57,12 +62,13 @@ supply s c = clear (in_reach s c) s c
 
 -- ---- once the clock has grown
 
--- the task is parked no more, waits from now on, and is put as for the processor on which it ran last
+-- the task is parked no more, waits from now on, and is put as for the processor on
+-- which it ran last
 unfoldable pub let_go_one : State → ℕ → Stepped
 let_go_one s t = put (with_world s (let_go s.world t)) t (task_at s.world t).prev_cpu 0
 
--- of the parked those that may run again are let go, in their order from that one on; at most so many are
--- looked at
+-- of the parked those that may run again are let go, in their order from that one on; at most
+-- so many are looked at
 unfoldable pub let_go_from : ℕ → State → Option ℕ → Stepped
 let_go_from zero s at = stays s
 let_go_from (suc n) s None = stays s
@@ -73,7 +79,8 @@ let_go_from (suc n) s (Some t) =
 
 -- all who may run again
 unfoldable pub let_all_go : State → Stepped
-let_all_go s = let_go_from (len_of s.world.queues parked_queue) s (front_of s.world.queues parked_queue)
+let_all_go s =
+    let_go_from (len_of s.world.queues parked_queue) s (front_of s.world.queues parked_queue)
 
 -- the front of that queue, if there is one, may run
 abbrev pub FrontMayRun : State → ℕ → Type 0

@@ -13,10 +13,14 @@ use Rattle.scx_machine.specs.Callbacks.{call_back, task_and_number}
 
 -- the task comes to wait as an insert wants it to
 unfoldable pub enters : State → ℕ → Insert → Stepped
-enters s t i = record { state = with_world s (after_enter s.world t i); notes = note_now s.world (note.Insert t i.queue) ∷ []; calls = [] }
+enters s t i = record {
+  state = with_world s (after_enter s.world t i);
+  notes = note_now s.world (note.Insert t i.queue) ∷ [];
+  calls = [];
+}
 
--- where enqueue wants the task to wait; where it says nothing the task is held, and where there is no such
--- callback it waits for any processor
+-- where enqueue wants the task to wait; where it says nothing the task is held, and where there is
+-- no such callback it waits for any processor
 abbrev pub enqueue_choice : Option VerifiedProgram → ℕ → Option Insert → Insert
 enqueue_choice None c i = to_global
 enqueue_choice (Some p) c None = to_held
@@ -24,11 +28,17 @@ enqueue_choice (Some p) c (Some i) = for_cpu c i
 
 -- the task comes to wait for the built-in scheduler
 unfoldable pub enters_builtin : State → ℕ → Stepped
-enters_builtin s t = record { state = with_world s (put_builtin s.world t); notes = note_now s.world (note.Insert t builtin_queue) ∷ []; calls = [] }
+enters_builtin s t = record {
+  state = with_world s (put_builtin s.world t);
+  notes = note_now s.world (note.Insert t builtin_queue) ∷ [];
+  calls = [];
+}
 
 -- after enqueue, which may have ejected the policy
 unfoldable pub comes_in : State → ℕ → ℕ → Stepped
-comes_in s t c = if is_ejected s then enters_builtin s t else enters s t (enqueue_choice s.policy.callbacks.enqueue c s.world.call.insert)
+comes_in s t c =
+    if is_ejected s then enters_builtin s t
+    else enters s t (enqueue_choice s.policy.callbacks.enqueue c s.world.call.insert)
 
 -- enqueue is called, with these flags and that processor at hand, and then the task comes to wait
 unfoldable pub put : State → ℕ → ℕ → ℕ → Stepped

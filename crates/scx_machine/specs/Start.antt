@@ -18,11 +18,16 @@ use Rattle.scx_machine.specs.Callbacks.{acting, call_ending, calls_of, after_cal
 
 -- the number of processors is out of range, or a task is active
 abbrev pub is_bad_shape : Hierarchy → ℕ → Bool
-is_bad_shape tree cpus = nat_lt cpus 1 || (nat_lt 64 cpus || any_below (length tree.homes) (λ t. is_active_task tree t))
+is_bad_shape tree cpus =
+    nat_lt cpus 1 || (nat_lt 64 cpus || any_below (length tree.homes) (λ t. is_active_task tree t))
 
 -- before any callback; periods of all groups begin
 abbrev pub blank : PolicyState → Hierarchy → ℕ → State
-blank p tree cpus = record { policy = p; maps = zeros p.shapes; world = begun_periods (first_world tree cpus) }
+blank p tree cpus = record {
+  policy = p;
+  maps = zeros p.shapes;
+  world = begun_periods (first_world tree cpus);
+}
 
 -- ---- init
 
@@ -32,7 +37,9 @@ fault_answer = negsuc 21
 
 -- how init ends, called in that state
 abbrev pub init_ending : State → Ending WorldState
-init_ending s = call_ending (acting s callback.Init) callback.Init no_arguments s.maps (at_callback s.world callback.Init 0 0)
+init_ending s =
+    call_ending (acting s callback.Init) callback.Init no_arguments s.maps
+    (at_callback s.world callback.Init 0 0)
 
 -- the answer with which the machine can't begin; a fault goes before an answer
 abbrev pub bad_answer : Option Fault → Option ℕ → Option ℤ
@@ -47,13 +54,17 @@ ok_unless (Some n) s = Err n
 
 -- after init
 unfoldable pub after_init : State → Result State ℤ
-after_init s = ok_unless (bad_answer (init_ending s).outside.call.fault (init_ending s).answer) (after_callback s.policy (init_ending s))
+after_init s =
+    ok_unless (bad_answer (init_ending s).outside.call.fault (init_ending s).answer)
+    (after_callback s.policy (init_ending s))
 
 -- ---- enable of each task
 
 -- how enable of that task ends, called in that state
 abbrev pub enable_ending : State → ℕ → Ending WorldState
-enable_ending s t = call_ending (acting s callback.Enable) callback.Enable (one_task t) s.maps (at_callback s.world callback.Enable t 0)
+enable_ending s t =
+    call_ending (acting s callback.Enable) callback.Enable (one_task t) s.maps
+    (at_callback s.world callback.Enable t 0)
 
 -- a fault, or a callback that got stuck
 abbrev pub has_failed : Ending WorldState → Bool
@@ -61,7 +72,9 @@ has_failed e = is_some e.outside.call.fault || is_none e.answer
 
 -- after enable of that task; none where it had a fault or got stuck
 unfoldable pub enable : State → ℕ → Option State
-enable s t = if has_failed (enable_ending s t) then None else Some (after_callback s.policy (enable_ending s t))
+enable s t =
+    if has_failed (enable_ending s t) then None
+    else Some (after_callback s.policy (enable_ending s t))
 
 -- after enable of one more task; none where one before it has failed, or it does
 abbrev pub then_enable : Option State → ℕ → Option State
@@ -93,18 +106,23 @@ first_state p tree cpus = all_enabled (after_init (blank p tree cpus))
 abbrev pub IsRefusal : PolicyState → Hierarchy → ℕ → NewError → Type 0
 IsRefusal p tree cpus BadShape = is_bad_shape tree cpus ≡ true
 IsRefusal p tree cpus OutOfMemory = is_bad_shape tree cpus ≡ false
-IsRefusal p tree cpus (InitFailed n) = (is_bad_shape tree cpus ≡ false) × (first_state p tree cpus ≡ Err n)
+IsRefusal p tree cpus (InitFailed n) =
+    (is_bad_shape tree cpus ≡ false) × (first_state p tree cpus ≡ Err n)
 
 -- ---- the callbacks that are called: none after one that fails
 
 -- the call of init, if the policy has one
 abbrev pub init_calls : State → List CallMade
-init_calls s = calls_of (acting s callback.Init) callback.Init no_arguments s.maps (at_callback s.world callback.Init 0 0)
+init_calls s =
+    calls_of (acting s callback.Init) callback.Init no_arguments s.maps
+    (at_callback s.world callback.Init 0 0)
 
 -- the call of enable of that task, if the policy has one; none where something failed before
 abbrev pub enable_calls : Option State → ℕ → List CallMade
 enable_calls None t = []
-enable_calls (Some s) t = calls_of (acting s callback.Enable) callback.Enable (one_task t) s.maps (at_callback s.world callback.Enable t 0)
+enable_calls (Some s) t =
+    calls_of (acting s callback.Enable) callback.Enable (one_task t) s.maps
+    (at_callback s.world callback.Enable t 0)
 
 -- of the first tasks
 abbrev pub calls_below : ℕ → State → List CallMade
@@ -118,7 +136,8 @@ calls_after_init (Ok s) = calls_below (length s.world.tasks) s
 
 -- the callbacks that are called as a machine begins: init, and then enable of each task
 abbrev pub start_calls : PolicyState → Hierarchy → ℕ → List CallMade
-start_calls p tree cpus = init_calls (blank p tree cpus) ++ calls_after_init (after_init (blank p tree cpus))
+start_calls p tree cpus =
+    init_calls (blank p tree cpus) ++ calls_after_init (after_init (blank p tree cpus))
 
 -- before a callback runs nothing is said
 abbrev pub AreAnsweredBefore : PolicyState → Hierarchy → ℕ → NewError → Type 0

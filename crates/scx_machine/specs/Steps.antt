@@ -14,7 +14,8 @@ pub record State : Type 0 where
   pub maps : Maps
   pub world : WorldState
 
--- a callback that is called: which one, its program, what it is given, and the maps and the world as it begins
+-- a callback that is called: which one, its program, what it is given, and the maps and
+-- the world as it begins
 pub record CallMade : Type 0 where
   pub callback : Callback
   pub program : VerifiedProgram
@@ -46,4 +47,8 @@ after ns r = record r { notes = ns ++ r.notes }
 
 -- one step after another, the second one from where the first one leads
 abbrev pub one_after_other : Stepped → Stepped → Stepped
-one_after_other a r = record { state = r.state; notes = a.notes ++ r.notes; calls = a.calls ++ r.calls }
+one_after_other a r = record {
+  state = r.state;
+  notes = a.notes ++ r.notes;
+  calls = a.calls ++ r.calls;
+}

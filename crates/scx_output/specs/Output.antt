@@ -1,4 +1,5 @@
--- What a write answers: which answers are failures, how failures are counted, and how the bytes grow.
+-- What a write answers: which answers are failures, how failures are counted, and how
+-- the bytes grow.
 use Rattle.std.specs.Prelude.{◌≡◌, ℕ, ◌+◌, ◌-◌, ◌^◌, ◌<◌, min, List, length, take, ⊤, Option, Result, MatchResult}
 use Rattle.std.specs.Io.KnownBytes.{Appends}
 
@@ -12,4 +13,5 @@ HasFailed old new = new ≡ min (old + 1) (2 ^ 64 - 1)
 
 -- known bytes grow by some bytes from the front of these, but not by all
 abbrev pub AppendsBeginning : Option (List ℕ) → Option (List ℕ) → List ℕ → Type 0
-AppendsBeginning old new bytes = (count : ℕ) × (count < length bytes) × Appends old new (take count bytes)
+AppendsBeginning old new bytes =
+    (count : ℕ) × (count < length bytes) × Appends old new (take count bytes)

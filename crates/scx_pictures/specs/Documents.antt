@@ -3,7 +3,8 @@ use Rattle.std.specs.Prelude.{ℕ, List, ◌++◌, codes}
 
 -- a document of the Chrome trace format with these objects, from its first byte to its last
 abbrev pub document : List ℕ → List ℕ
-document objects = codes "{\"displayTimeUnit\":\"ms\",\"traceEvents\":[\n" ++ objects ++ codes "\n]}\n"
+document objects =
+    codes "{\"displayTimeUnit\":\"ms\",\"traceEvents\":[\n" ++ objects ++ codes "\n]}\n"
 
 -- a document of SVG in which that is drawn, from its first byte to its last
 abbrev pub svg : List ℕ → List ℕ

@@ -1,5 +1,5 @@
--- What `build` makes of a policy file: the policy of its programs, each verified as its callback, or the
--- first callback, in their order, whose program is refused.
+-- What `build` makes of a policy file: the policy of its programs, each verified as its callback,
+-- or the first callback, in their order, whose program is refused.
 use Rattle.std.specs.Prelude.{◌≡◌, ◌≢◌, ℕ, ⊤, List, [], ◌∷◌, Option, Some, None, option_map, All}
 use Rattle.scx_maps.specs.declared.shape.Shape.{Shape}
 use Rattle.scx_semantics.specs.Code.{Code}
@@ -23,7 +23,8 @@ IsAccepted shapes None b = ⊤
 IsAccepted shapes (Some code) b = IsTyped (context b shapes) code
 
 -- the program of a callback is refused for this fault, at this slot
-pub record IsRefusedFor (shapes : List Shape) (program : Option Code) (b : Callback) (fault : Fault) (slot : ℕ) : Type 0 where
+pub record IsRefusedFor (shapes : List Shape) (program : Option Code) (b : Callback) (fault : Fault)
+    (slot : ℕ) : Type 0 where
   pub code : Code
   pub there : program ≡ Some code
   pub refused : IsRefusal (context b shapes) code (record { fault = fault; slot = slot })
@@ -48,15 +49,16 @@ pub record IsStarved (text : PolicyFile) : Type 0 where
 
 -- the first callback whose program is refused, or one for which there is no memory
 abbrev pub IsFirstRefused : PolicyFile → BuildError → Type 0
-IsFirstRefused text (errors.Refused b fault slot) = AreAccepted text (earlier b) × IsRefusedFor text.shapes (program_of text b) b fault slot
+IsFirstRefused text (errors.Refused b fault slot) =
+    AreAccepted text (earlier b) × IsRefusedFor text.shapes (program_of text b) b fault slot
 IsFirstRefused text errors.NoMemory = IsStarved text
 
 -- the code of a verified program
 abbrev pub code_of : Option VerifiedProgram → Option Code
 code_of v = option_map (λ p. p.code) v
 
--- the policy of these programs, which has them all, each verified as its callback and for these maps,
--- with this timeout
+-- the policy of these programs, which has them all, each verified as its callback and for these
+-- maps, with this timeout
 pub record IsBuilt (text : PolicyFile) (policy : PolicyState) : Type 0 where
   pub shapes : policy.shapes ≡ text.shapes
   pub timeout : policy.timeout_ms ≡ text.timeout_ms
@@ -68,7 +70,8 @@ pub record IsBuilt (text : PolicyFile) (policy : PolicyState) : Type 0 where
 -- ---- one callback
 
 -- what `verify` makes of the program of a callback
-pub record IsVerified (shapes : List Shape) (program : Option Code) (b : Callback) (v : Option VerifiedProgram) : Type 0 where
+pub record IsVerified (shapes : List Shape) (program : Option Code) (b : Callback)
+    (v : Option VerifiedProgram) : Type 0 where
   pub code : code_of v ≡ program
   pub as_callback : machine.IsAs b v
   pub for_maps : machine.HasMaps shapes v
@@ -76,7 +79,8 @@ pub record IsVerified (shapes : List Shape) (program : Option Code) (b : Callbac
 
 -- `build` ends so at this callback: its program is refused, or verifying it asks for memory
 abbrev pub IsRefusedAs : List Shape → Option Code → Callback → BuildError → Type 0
-IsRefusedAs shapes program b (errors.Refused a fault slot) = (a ≡ b) × IsRefusedFor shapes program b fault slot
+IsRefusedAs shapes program b (errors.Refused a fault slot) =
+    (a ≡ b) × IsRefusedFor shapes program b fault slot
 IsRefusedAs shapes program b errors.NoMemory = AsksForMemory program
 
 -- ---- all callbacks

@@ -34,7 +34,9 @@ map_at n d = table_of (element (codes "map") n) d >>= shape_in (element (codes "
 
 -- the shapes, if they are not too large together
 abbrev pub fitting : List Shape → Reading (List Shape)
-fitting shapes = if nat_le (total_bytes shapes) MAX_BYTES then Ok shapes else refusal (codes "map") cause.OutOfRange
+fitting shapes =
+    if nat_le (total_bytes shapes) MAX_BYTES then Ok shapes
+    else refusal (codes "map") cause.OutOfRange
 
 -- the shapes of the maps that a file says, in the order of its array `map`, which may be absent
 abbrev pub maps : Members → Reading (List Shape)

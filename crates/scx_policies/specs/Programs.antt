@@ -1,5 +1,5 @@
--- The programs of a policy file: assembler texts in the table `code`, and pairs of hexadecimal digits in
--- the table `slots`.
+-- The programs of a policy file: assembler texts in the table `code`, and pairs of hexadecimal
+-- digits in the table `slots`.
 use Rattle.std.specs.Prelude.{ℕ, Bool, ◌||◌, ◌==◌, List, [], ◌∷◌, Option, Some, None, Result, Ok, Err, codes, if◌then◌else◌}
 use Rattle.toml.specs.Data.{Data, Members}
 use Rattle.hex.specs.declared.error.FromHexError.{FromHexError}
@@ -18,7 +18,8 @@ use Rattle.scx_files.specs.Values.{optional, text_of}
 use Rattle.scx_policies.specs.Policies.{Programs, callback_name}
 
 -- the programs, of each of these callbacks in turn the one that is read there
-abbrev pub with_each : (Callback → Programs → Reading (Option Code)) → List Callback → Programs → Reading Programs
+abbrev pub with_each :
+    (Callback → Programs → Reading (Option Code)) → List Callback → Programs → Reading Programs
 with_each read [] p = Ok p
 with_each read (b ∷ bs) p = read b p >>= λ code. with_each read bs (with_at p b code)
 
@@ -64,7 +65,9 @@ from_hex path (Err e) = refusal path cause.BadHex
 
 -- the program whose slots the text at a path spells
 abbrev pub program_of_hex : List ℕ → List ℕ → Reading (Option Code)
-program_of_hex path text = from_hex path (decode_of (without_blanks text)) >>= λ bytes. from_slots path (read_program bytes)
+program_of_hex path text =
+    from_hex path (decode_of (without_blanks text))
+    >>= λ bytes. from_slots path (read_program bytes)
 
 -- the program whose slots the value at a path spells, where the callback has no program yet
 abbrev pub slots_of : Option Code → List ℕ → Data → Reading (Option Code)

@@ -8,11 +8,15 @@ use Rattle.scx_ranges.specs.Ranges.{floor, between, single, contains}
 
 -- the members above a number
 abbrev pub above : ℕ → Range → Option Range
-above c r = if nat_lt c r.high then Some (between (max r.low (floor c r.shift + 2 ^ r.shift)) r.high r.shift) else None
+above c r =
+    if nat_lt c r.high
+    then Some (between (max r.low (floor c r.shift + 2 ^ r.shift)) r.high r.shift)
+    else None
 
 -- the members that aren't above it
 abbrev pub up_to : ℕ → Range → Option Range
-up_to c r = if nat_le r.low c then Some (between r.low (min r.high (floor c r.shift)) r.shift) else None
+up_to c r =
+    if nat_le r.low c then Some (between r.low (min r.high (floor c r.shift)) r.shift) else None
 
 -- the members that aren't below it
 abbrev pub from : ℕ → Range → Option Range
@@ -29,7 +33,8 @@ equal c r = if contains c r then Some (single c) else None
 -- the members but the number, where it is an end: a range has no hole
 abbrev pub unequal : ℕ → Range → Option Range
 unequal c r =
-    if nat_eq c r.low then (if nat_eq c r.high then None else Some (between (r.low + 2 ^ r.shift) r.high r.shift))
+    if nat_eq c r.low
+    then (if nat_eq c r.high then None else Some (between (r.low + 2 ^ r.shift) r.high r.shift))
     else (if nat_eq c r.high then Some (between r.low (r.high - 2 ^ r.shift) r.shift) else Some r)
 
 -- by a comparison and its answer; signed comparisons and bit tests cut nothing

@@ -1,5 +1,5 @@
--- What ranges and cuts are for: the order is inclusion of sets, the join the least cover; a cut keeps
--- the members that take its side, and more is kept where more was.
+-- What ranges and cuts are for: the order is inclusion of sets, the join the least cover; a cut
+-- keeps the members that take its side, and more is kept where more was.
 use Rattle.std.specs.Prelude.{ℕ, ◌≡◌, ◌<◌, Bool, true, false, not, Option, Some, None}
 use Rattle.scx_semantics.specs.declared.operations.Width.TheVariants.{Bits64}
 use Rattle.scx_semantics.specs.declared.operations.Comparison.{Comparison}
@@ -14,8 +14,10 @@ use Rattle.scx_ranges.specs.Cuts.{unequal, cut}
 -- one range covers another exactly where it has all of its members
 abbrev pub OrderIsInclusion : Type 0
 OrderIsInclusion =
-    (b a : Range) → IsRange b → IsRange a
-    → (CoversRange b a → (n : ℕ) → IsIn n a → IsIn n b) × (((n : ℕ) → IsIn n a → IsIn n b) → CoversRange b a)
+    (b a : Range)
+    → IsRange b → IsRange a
+    → (CoversRange b a → (n : ℕ) → IsIn n a → IsIn n b)
+    × (((n : ℕ) → IsIn n a → IsIn n b) → CoversRange b a)
 
 -- it covers two, and whatever covers both covers it
 pub record IsLeast (j a b : Range) : Type 0 where
@@ -49,10 +51,11 @@ CoversCut (Some b) (Some a) = CoversRange b a
 -- members for which the comparison has the answer are kept
 abbrev pub CutsKeep : Type 0
 CutsKeep =
-    (o : Comparison) (b : Bool) (c n : ℕ) (r : Range) → IsRange r → IsIn n r → compares Bits64 o n c ≡ b → IsInCut n (cut o b c r)
+    (o : Comparison) (b : Bool) (c n : ℕ) (r : Range)
+    → IsRange r → IsIn n r → compares Bits64 o n c ≡ b → IsInCut n (cut o b c r)
 
--- whether a cut takes all members that don't take its side: an inequality takes only an end away, signed
--- comparisons and bit tests nothing
+-- whether a cut takes all members that don't take its side: an inequality takes only an end away,
+-- signed comparisons and bit tests nothing
 abbrev pub takes_the_rest : Comparison → Bool → Bool
 takes_the_rest Equal b = b
 takes_the_rest NotEqual b = not b
@@ -70,17 +73,21 @@ CutsAreExact =
 
 -- an inequality leaves its number only inside
 abbrev pub InequalitiesTakeEnds : Type 0
-InequalitiesTakeEnds = (c : ℕ) (r : Range) → IsRange r → IsInCut c (unequal c r) → (r.low < c) × (c < r.high)
+InequalitiesTakeEnds =
+    (c : ℕ) (r : Range) → IsRange r → IsInCut c (unequal c r) → (r.low < c) × (c < r.high)
 
 -- what is left is a range
 abbrev pub CutsAreRanges : Type 0
-CutsAreRanges = (o : Comparison) (b : Bool) (c : ℕ) (r : Range) → IsRange r → IsCutRange (cut o b c r)
+CutsAreRanges =
+    (o : Comparison) (b : Bool) (c : ℕ) (r : Range) → IsRange r → IsCutRange (cut o b c r)
 
 -- of more, more is left
 abbrev pub CutsGrow : Type 0
 CutsGrow =
-    (o : Comparison) (b : Bool) (c : ℕ) (s r : Range) → IsRange s → IsRange r → CoversRange s r → CoversCut (cut o b c s) (cut o b c r)
+    (o : Comparison) (b : Bool) (c : ℕ) (s r : Range)
+    → IsRange s → IsRange r → CoversRange s r → CoversCut (cut o b c s) (cut o b c r)
 
 -- no more is left than there was
 abbrev pub CutsNarrow : Type 0
-CutsNarrow = (o : Comparison) (b : Bool) (c : ℕ) (r : Range) → IsRange r → CoversCut (Some r) (cut o b c r)
+CutsNarrow =
+    (o : Comparison) (b : Bool) (c : ℕ) (r : Range) → IsRange r → CoversCut (Some r) (cut o b c r)

@@ -36,12 +36,15 @@ MovesAreSound =
 -- there is a range where each offset stays in the element
 abbrev pub MovesAreExact : Type 0
 MovesAreExact =
-    (size : ℕ) (r : Range) (k : ℤ) → IsWellFormed r
-    → ((n : ℕ) → IsIn n r → (to : ℕ) × (within size (at_distance n k) ≡ Some to)) → is_some (offsets_plus_constant size r k) ≡ true
+    (size : ℕ) (r : Range) (k : ℤ)
+    → IsWellFormed r → ((n : ℕ) → IsIn n r → (to : ℕ) × (within size (at_distance n k) ≡ Some to))
+    → is_some (offsets_plus_constant size r k) ≡ true
 
 -- offsets that were moved by a constant are a range in the element, or up to its end
 abbrev pub MovesStayWithin : Type 0
-MovesStayWithin = (size : ℕ) (r : Range) (k : ℤ) → IsWellFormed r → IsInElement size (offsets_plus_constant size r k)
+MovesStayWithin =
+    (size : ℕ) (r : Range) (k : ℤ)
+    → IsWellFormed r → IsInElement size (offsets_plus_constant size r k)
 
 -- where offsets may be moved by a constant, fewer may too, and what they give is covered
 abbrev pub MovesAreMonotone : Type 0
@@ -65,19 +68,22 @@ AdvancesAreSound =
 -- there is a range where each sum stays in the element
 abbrev pub AdvancesAreExact : Type 0
 AdvancesAreExact =
-    (size : ℕ) (r s : Range) → IsWellFormed r → IsWellFormed s
-    → ((n m : ℕ) → IsIn n r → IsIn m s → n + m ≤ size) → is_some (offsets_plus_range size r s) ≡ true
+    (size : ℕ) (r s : Range)
+    → IsWellFormed r → IsWellFormed s → ((n m : ℕ) → IsIn n r → IsIn m s → n + m ≤ size)
+    → is_some (offsets_plus_range size r s) ≡ true
 
 -- offsets that were moved by a range of numbers are a range in the element, or up to its end
 abbrev pub AdvancesStayWithin : Type 0
 AdvancesStayWithin =
-    (size : ℕ) (r s : Range) → IsWellFormed r → IsWellFormed s → IsInElement size (offsets_plus_range size r s)
+    (size : ℕ) (r s : Range)
+    → IsWellFormed r → IsWellFormed s → IsInElement size (offsets_plus_range size r s)
 
 -- where offsets may be moved by a range of numbers, fewer may by fewer; what they give is covered
 abbrev pub AdvancesAreMonotone : Type 0
 AdvancesAreMonotone =
-    (size : ℕ) (b d a c : Range) → IsWellFormed b → IsWellFormed d → IsWellFormed a → IsWellFormed c
-    → CoversRange b a → CoversRange d c → PassesMove (offsets_plus_range size b d) (offsets_plus_range size a c)
+    (size : ℕ) (b d a c : Range)
+    → IsWellFormed b → IsWellFormed d → IsWellFormed a → IsWellFormed c → CoversRange b a
+    → CoversRange d c → PassesMove (offsets_plus_range size b d) (offsets_plus_range size a c)
 
 -- ---- accesses
 
@@ -97,14 +103,18 @@ AllAligned n r k = (at : ℕ) → IsIn at r → (to : ℕ) × (at_distance at k 
 -- what is tested is that of each offset
 abbrev pub InsideIsExact : Type 0
 InsideIsExact =
-    (size n : ℕ) (r : Range) (k : ℤ) → IsWellFormed r
-    → (are_inside size n r k ≡ true → AllInside size n r k) × (AllInside size n r k → are_inside size n r k ≡ true)
+    (size n : ℕ) (r : Range) (k : ℤ)
+    → IsWellFormed r
+    → (are_inside size n r k ≡ true → AllInside size n r k)
+    × (AllInside size n r k → are_inside size n r k ≡ true)
 
 -- the test of alignment passes exactly where each of the offsets is a multiple of an access's bytes
 abbrev pub AlignedIsExact : Type 0
 AlignedIsExact =
-    (s : Size) (r : Range) (k : ℤ) → IsWellFormed r
-    → (are_aligned (size_bytes s) r k ≡ true → AllAligned (size_bytes s) r k) × (AllAligned (size_bytes s) r k → are_aligned (size_bytes s) r k ≡ true)
+    (s : Size) (r : Range) (k : ℤ)
+    → IsWellFormed r
+    → (are_aligned (size_bytes s) r k ≡ true → AllAligned (size_bytes s) r k)
+    × (AllAligned (size_bytes s) r k → are_aligned (size_bytes s) r k ≡ true)
 
 -- what passes for a range passes for each that it covers
 abbrev pub AccessesAreMonotone : Type 0

@@ -1,6 +1,6 @@
--- Ranges of offsets in an element of a map. A pointer may stand at the end of its element, so an offset
--- is at most the element's size; it is moved by a constant or by a range of numbers, and an access is
--- checked at each offset of the range.
+-- Ranges of offsets in an element of a map. A pointer may stand at the end of its element, so an
+-- offset is at most the element's size; it is moved by a constant or by a range of numbers, and an
+-- access is checked at each offset of the range.
 use Rattle.std.specs.Prelude.{ℕ, ◌+◌, ◌%◌, ◌^◌, ℤ, unsigned_abs, min, Bool, false, ◌&&◌, ◌||◌, nat_eq, nat_le, Option, Some, None, is_some, if◌then◌else◌}
 use Rattle.scx_semantics.specs.Arithmetic.{at_distance}
 use Rattle.scx_semantics.specs.Memory.{within}
@@ -17,11 +17,16 @@ between_some (Some low) (Some high) shift = Some (between low high shift)
 
 -- the offsets moved by a constant, where all of them stay in the element
 abbrev pub offsets_plus_constant : ℕ → Range → ℤ → Option Range
-offsets_plus_constant size r k = between_some (at_distance r.low k) (within size (at_distance r.high k)) (min r.shift (trailing (unsigned_abs k)))
+offsets_plus_constant size r k =
+    between_some (at_distance r.low k) (within size (at_distance r.high k))
+    (min r.shift (trailing (unsigned_abs k)))
 
 -- the offsets moved by a range of numbers, where all of them stay in it
 abbrev pub offsets_plus_range : ℕ → Range → Range → Option Range
-offsets_plus_range size r s = if nat_le (r.high + s.high) size then Some (between (r.low + s.low) (r.high + s.high) (min r.shift s.shift)) else None
+offsets_plus_range size r s =
+    if nat_le (r.high + s.high) size
+    then Some (between (r.low + s.low) (r.high + s.high) (min r.shift s.shift))
+    else None
 
 -- ---- accesses
 
@@ -41,4 +46,5 @@ is_multiple n (Some at) = nat_eq (at % n) 0
 
 -- whether each of the offsets is a multiple, that distance on: the first is, and so is each step
 abbrev pub are_aligned : ℕ → Range → ℤ → Bool
-are_aligned n r k = is_multiple n (at_distance r.low k) && (is_single r || nat_eq (2 ^ r.shift % n) 0)
+are_aligned n r k =
+    is_multiple n (at_distance r.low k) && (is_single r || nat_eq (2 ^ r.shift % n) 0)

@@ -1,12 +1,15 @@
--- Ranges of 64-bit numbers. A range is the set of multiples of two to the power of shift from low to
--- high. Both ends are such multiples, and a single number has the greatest shift, up to 3, that fits:
--- so one set has one range.
+-- Ranges of 64-bit numbers. A range is the set of multiples of two to the power of shift from low
+-- to high. Both ends are such multiples, and a single number has the greatest shift, up to 3, that
+-- fits: so one set has one range.
 use Rattle.std.specs.Prelude.{ℕ, ◌-◌, ◌%◌, ◌^◌, ◌≡◌, ◌≤◌, ◌<◌, min, max, Bool, ◌&&◌, nat_eq, nat_le, if◌then◌else◌}
 use Rattle.scx_ranges.specs.declared.ranges.Range.{Range}
 
 -- how many of the three lowest bits are 0, from the lowest on
 abbrev pub trailing : ℕ → ℕ
-trailing n = if nat_eq (n % 8) 0 then 3 else if nat_eq (n % 4) 0 then 2 else if nat_eq (n % 2) 0 then 1 else 0
+trailing n =
+    if nat_eq (n % 8) 0 then 3
+    else if nat_eq (n % 4) 0 then 2
+    else if nat_eq (n % 2) 0 then 1 else 0
 
 -- the number is in the range
 pub record IsIn (n : ℕ) (r : Range) : Type 0 where
@@ -39,7 +42,11 @@ floor n shift = n - n % 2 ^ shift
 
 -- the range between two multiples
 abbrev pub between : ℕ → ℕ → ℕ → Range
-between low high shift = record { low = low; high = high; shift = if nat_eq low high then trailing low else shift }
+between low high shift = record {
+  low = low;
+  high = high;
+  shift = if nat_eq low high then trailing low else shift;
+}
 
 -- one number
 abbrev pub single : ℕ → Range
@@ -59,4 +66,8 @@ contains n r = nat_le r.low n && nat_le n r.high && nat_eq (n % 2 ^ r.shift) 0
 
 -- the least range that covers both
 abbrev pub join_ranges : Range → Range → Range
-join_ranges a b = record { low = min a.low b.low; high = max a.high b.high; shift = min a.shift b.shift }
+join_ranges a b = record {
+  low = min a.low b.low;
+  high = max a.high b.high;
+  shift = min a.shift b.shift;
+}

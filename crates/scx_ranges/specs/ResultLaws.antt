@@ -1,5 +1,6 @@
--- What results are for: a result holds every number that the instruction computes of members, is a range,
--- and grows with the ranges that it is made of. Numbers are below 2^64, as members of ranges are.
+-- What results are for: a result holds every number that the instruction computes of members,
+-- is a range, and grows with the ranges that it is made of. Numbers are below 2^64, as
+-- members of ranges are.
 use Rattle.std.specs.Prelude.{ℕ, ◌^◌, ◌<◌}
 use Rattle.scx_semantics.specs.declared.operations.Width.{Width}
 use Rattle.scx_semantics.specs.declared.operations.Operation.{Operation}
@@ -15,7 +16,8 @@ use Rattle.scx_ranges.specs.Results.{computed_at, move_range, negated_range, ext
 
 -- what is known of an operation on two numbers: it holds its results, is a range and grows
 pub record AreResults (f : ℕ → ℕ → ℕ) (known : Range → Range → Range) : Type 0 where
-  pub kept : (r s : Range) (n m : ℕ) → IsRange r → IsRange s → IsIn n r → IsIn m s → IsIn (f n m) (known r s)
+  pub kept : (r s : Range) (n m : ℕ)
+      → IsRange r → IsRange s → IsIn n r → IsIn m s → IsIn (f n m) (known r s)
   pub ranges : (r s : Range) → IsRange r → IsRange s → IsRange (known r s)
   pub grow :
       (r' s' r s : Range) → IsRange r' → IsRange s' → IsRange r → IsRange s
@@ -25,7 +27,8 @@ pub record AreResults (f : ℕ → ℕ → ℕ) (known : Range → Range → Ran
 pub record AreImages (f : ℕ → ℕ) (known : Range → Range) : Type 0 where
   pub kept : (r : Range) (n : ℕ) → IsRange r → IsIn n r → IsIn (f n) (known r)
   pub ranges : (r : Range) → IsRange r → IsRange (known r)
-  pub grow : (r' r : Range) → IsRange r' → IsRange r → CoversRange r' r → CoversRange (known r') (known r)
+  pub grow : (r' r : Range)
+      → IsRange r' → IsRange r → CoversRange r' r → CoversRange (known r') (known r)
 
 -- what is known of arithmetic, of either width, holds its results, is a range and grows
 abbrev pub ArithmeticIsSound : Type 0

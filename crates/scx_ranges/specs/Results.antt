@@ -1,6 +1,6 @@
--- What is known of the number that an instruction leaves (RFC 9669, sections 4.1, 4.2 and 5). Of single
--- numbers it is the single number that the instruction computes. Of others some 64-bit arithmetic keeps
--- bounds and multiples; the rest leaves no more than the width.
+-- What is known of the number that an instruction leaves (RFC 9669, sections 4.1, 4.2 and 5).
+-- Of single numbers it is the single number that the instruction computes. Of others some 64-bit
+-- arithmetic keeps bounds and multiples; the rest leaves no more than the width.
 use Rattle.std.specs.Prelude.{ℕ, ◌+◌, ◌-◌, ◌*◌, ◌/◌, ◌%◌, ◌^◌, min, max, ◌&&◌, nat_eq, nat_lt, if◌then◌else◌}
 use Rattle.scx_semantics.specs.declared.operations.Width.{Width}
 use Rattle.scx_semantics.specs.declared.operations.Width.TheVariants.{Bits32, Bits64}
@@ -19,11 +19,17 @@ use Rattle.scx_ranges.specs.Ranges.{trailing, floor, between, single, all, is_si
 
 -- the sums, where none wraps
 abbrev pub sum_range : Range → Range → Range
-sum_range r s = if nat_lt (r.high + s.high) (2 ^ 64) then between (r.low + s.low) (r.high + s.high) (min r.shift s.shift) else all
+sum_range r s =
+    if nat_lt (r.high + s.high) (2 ^ 64)
+    then between (r.low + s.low) (r.high + s.high) (min r.shift s.shift)
+    else all
 
 -- the products with a number, where none wraps
 abbrev pub multiple_range : ℕ → Range → Range
-multiple_range c r = if nat_lt (r.high * c) (2 ^ 64) then between (r.low * c) (r.high * c) (min 3 (r.shift + trailing c)) else all
+multiple_range c r =
+    if nat_lt (r.high * c) (2 ^ 64)
+    then between (r.low * c) (r.high * c) (min 3 (r.shift + trailing c))
+    else all
 
 -- the quotients by two to the power of a number
 abbrev pub shifted_right : ℕ → Range → Range
@@ -31,11 +37,15 @@ shifted_right c r = between (r.low / 2 ^ (c % 64)) (r.high / 2 ^ (c % 64)) 0
 
 -- the bits that are set in a number too
 abbrev pub mask_range : ℕ → Range → Range
-mask_range c r = between 0 (floor (min r.high c) (max r.shift (trailing c))) (max r.shift (trailing c))
+mask_range c r =
+    between 0 (floor (min r.high c) (max r.shift (trailing c))) (max r.shift (trailing c))
 
 -- the remainders by a number; by 0 they are what was divided
 abbrev pub remainder : ℕ → Range → Range
-remainder c r = if nat_eq c 0 then all else between 0 (floor (min r.high (c - 1)) (min r.shift (trailing c))) (min r.shift (trailing c))
+remainder c r =
+    if nat_eq c 0 then all
+    else between 0 (floor (min r.high (c - 1)) (min r.shift (trailing c)))
+    (min r.shift (trailing c))
 
 -- an operation with a single number as operand
 abbrev pub by_constant : Operation → ℕ → Range → Range
@@ -54,7 +64,8 @@ spread o r s = if is_single s then by_constant o s.low r else all
 
 -- a 64-bit operation on a destination and an operand
 abbrev pub operation_range : Operation → Range → Range → Range
-operation_range o r s = if is_single r && is_single s then single (compute Bits64 o r.low s.low) else spread o r s
+operation_range o r s =
+    if is_single r && is_single s then single (compute Bits64 o r.low s.low) else spread o r s
 
 -- ---- both widths
 

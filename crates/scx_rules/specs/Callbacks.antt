@@ -1,5 +1,5 @@
--- What a callback of the policy may leave, by the run of its program: the world answers what the program
--- asks, and changes by it.
+-- What a callback of the policy may leave, by the run of its program: the world answers what the
+-- program asks, and changes by it.
 use Rattle.std.specs.Prelude.{◌≡◌, ℕ, ◌≤◌, Option, Some, None}
 use Rattle.scx_semantics.specs.declared.callbacks.Callback.{Callback}
 use Rattle.scx_semantics.specs.Code.{instruction_count}
@@ -22,20 +22,33 @@ abbrev pub answering : Outside WorldState
 answering = host world_functions
 
 -- how a callback ends that begins in that world; one that the policy hasn't answers 0
-pub data EndsAs (program : Option VerifiedProgram) (b : Callback) (a : Args) (maps : Maps) (w : WorldState) (e : Ending WorldState) : Type 0 where
-  Absent : program ≡ None → e ≡ record { answer = Some 0; maps = maps; outside = w } → EndsAs program b a maps w e
-  Exits : (p : VerifiedProgram) (answer steps : ℕ) (left : Maps) (v : WorldState) → program ≡ Some p → steps ≤ instruction_count p.code
-      → Runs answering b p.code (program_arguments a) maps w answer steps left v → e ≡ record { answer = Some answer; maps = left; outside = v } → EndsAs program b a maps w e
-  Sticks : (p : VerifiedProgram) (slot steps : ℕ) (left : Maps) (v : WorldState) → program ≡ Some p → steps ≤ instruction_count p.code
-      → GetsStuck answering b p.code (program_arguments a) maps w slot steps left v → e ≡ record { answer = None; maps = left; outside = v } → EndsAs program b a maps w e
+pub data EndsAs (program : Option VerifiedProgram) (b : Callback) (a : Args) (maps : Maps)
+    (w : WorldState) (e : Ending WorldState) : Type 0 where
+  Absent : program ≡ None → e ≡ record { answer = Some 0; maps = maps; outside = w }
+      → EndsAs program b a maps w e
+  Exits : (p : VerifiedProgram) (answer steps : ℕ) (left : Maps) (v : WorldState)
+      → program ≡ Some p → steps ≤ instruction_count p.code
+      → Runs answering b p.code (program_arguments a) maps w answer steps left v
+      → e ≡ record { answer = Some answer; maps = left; outside = v }
+      → EndsAs program b a maps w e
+  Sticks : (p : VerifiedProgram) (slot steps : ℕ) (left : Maps) (v : WorldState)
+      → program ≡ Some p → steps ≤ instruction_count p.code
+      → GetsStuck answering b p.code (program_arguments a) maps w slot steps left v
+      → e ≡ record { answer = None; maps = left; outside = v }
+      → EndsAs program b a maps w e
 
 -- what the machine goes on from; what the world noted is handed on
 abbrev pub leaving : State → Callback → Args → WorldState → Ending WorldState → Stepped
-leaving s b a w e = record { state = after_callback s.policy e; notes = e.outside.notes; calls = calls_of (acting s b) b a s.maps w }
+leaving s b a w e = record {
+  state = after_callback s.policy e;
+  notes = e.outside.notes;
+  calls = calls_of (acting s b) b a s.maps w;
+}
 
--- with that task and processor at hand, it answers so, if it comes to an answer, and ejects the policy where
--- it has a fault; none is called once the policy is ejected
-pub record CallsBack (s : State) (b : Callback) (a : Args) (t c : ℕ) (answer : Option ℕ) (r : Stepped) : Type 0 where
+-- with that task and processor at hand, it answers so, if it comes to an answer, and ejects the
+-- policy where it has a fault; none is called once the policy is ejected
+pub record CallsBack (s : State) (b : Callback) (a : Args) (t c : ℕ) (answer : Option ℕ)
+    (r : Stepped) : Type 0 where
   pub ending : Ending WorldState
   pub ends : EndsAs (acting s b) b a s.maps (at_callback s.world b t c) ending
   pub answers : answer ≡ ending.answer

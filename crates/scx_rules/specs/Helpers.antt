@@ -1,6 +1,6 @@
--- What a helper call may do, by cases: what is wrong with it, and what it does where nothing is wrong.
--- The definitions that compute answers and worlds stand in `scx_world`; a law says that they are allowed
--- here, and that nothing else is.
+-- What a helper call may do, by cases: what is wrong with it, and what it does where nothing is
+-- wrong. The definitions that compute answers and worlds stand in `scx_world`; a law says that they
+-- are allowed here, and that nothing else is.
 use Rattle.std.specs.Prelude.{◌≡◌, ℕ, ◌+◌, ◌<◌, ◌≤◌, ◌^◌, ◌*◌, true, false, List, length, Option, Some, None}
 use Rattle.scx_dsq.specs.Queues.{exists, queue_of, front_of, len_of, Waits}
 use Rattle.scx_dsq.specs.Calls.{with_queue, after_push, after_pop}
@@ -53,9 +53,13 @@ pub record CanCreate (w : WorldState) (q : ℕ) : Type 0 where
 
 -- in select_cpu and enqueue the task at hand, and once; in dispatch a task that is held
 pub data MayInsert (w : WorldState) (t : Option ℕ) : Type 0 where
-  InSelectCpu : w.call.callback ≡ SelectCpu → w.call.insert ≡ None → t ≡ Some w.call.task → MayInsert w t
-  InEnqueue : w.call.callback ≡ Enqueue → w.call.insert ≡ None → t ≡ Some w.call.task → MayInsert w t
-  InDispatch : (u : ℕ) → w.call.callback ≡ Dispatch → t ≡ Some u → queue_of w.queues u ≡ Some held_queue → MayInsert w t
+  InSelectCpu : w.call.callback ≡ SelectCpu → w.call.insert ≡ None → t ≡ Some w.call.task
+      → MayInsert w t
+  InEnqueue : w.call.callback ≡ Enqueue → w.call.insert ≡ None → t ≡ Some w.call.task
+      → MayInsert w t
+  InDispatch : (u : ℕ)
+      → w.call.callback ≡ Dispatch → t ≡ Some u → queue_of w.queues u ≡ Some held_queue
+      → MayInsert w t
 
 -- by virtual time into one of the machine's own queues
 pub record IsBuiltinVtime (q : ℕ) (r : Rank) : Type 0 where
@@ -79,11 +83,17 @@ pub record MayMove (w : WorldState) (q : ℕ) : Type 0 where
 abbrev pub JudgesInsert : WorldState → Option ℕ → Insert → ℕ → Option Fault → Type 0
 JudgesInsert w t i flags (Some CannotInsert) = ¬ MayInsert w t
 JudgesInsert w t i flags (Some UnknownFlag) = MayInsert w t × (1 < flags)
-JudgesInsert w t i flags (Some NoSuchQueue) = MayInsert w t × (flags ≤ 1) × (¬ IsDestination w i.queue) × (¬ NamesNoCpu w i.queue)
+JudgesInsert w t i flags (Some NoSuchQueue) =
+    MayInsert w t × (flags ≤ 1) × (¬ IsDestination w i.queue) × (¬ NamesNoCpu w i.queue)
 JudgesInsert w t i flags (Some NoSuchCpu) = MayInsert w t × (flags ≤ 1) × NamesNoCpu w i.queue
-JudgesInsert w t i flags (Some BuiltinVtime) = MayInsert w t × (flags ≤ 1) × IsDestination w i.queue × IsBuiltinVtime i.queue i.rank
-JudgesInsert w t i flags (Some Mixed) = MayInsert w t × (flags ≤ 1) × IsDestination w i.queue × (¬ IsBuiltinVtime i.queue i.rank) × IsMixed w i.queue i.rank
-JudgesInsert w t i flags None = MayInsert w t × (flags ≤ 1) × IsDestination w i.queue × (¬ IsBuiltinVtime i.queue i.rank) × (¬ IsMixed w i.queue i.rank)
+JudgesInsert w t i flags (Some BuiltinVtime) =
+    MayInsert w t × (flags ≤ 1) × IsDestination w i.queue × IsBuiltinVtime i.queue i.rank
+JudgesInsert w t i flags (Some Mixed) =
+    MayInsert w t × (flags ≤ 1) × IsDestination w i.queue × (¬ IsBuiltinVtime i.queue i.rank)
+    × IsMixed w i.queue i.rank
+JudgesInsert w t i flags None =
+    MayInsert w t × (flags ≤ 1) × IsDestination w i.queue × (¬ IsBuiltinVtime i.queue i.rank)
+    × (¬ IsMixed w i.queue i.rank)
 JudgesInsert w t i flags (Some CannotCreate) = ⊥
 JudgesInsert w t i flags (Some Stuck) = ⊥
 
@@ -123,13 +133,14 @@ JudgesCpu w c (Some BuiltinVtime) = ⊥
 JudgesCpu w c (Some Mixed) = ⊥
 JudgesCpu w c (Some Stuck) = ⊥
 
--- the fault of a call, or that it has none; of the look-up of an element, which a run does itself, nothing is
--- allowed
+-- the fault of a call, or that it has none; of the look-up of an element, which a run does
+-- itself, nothing is allowed
 abbrev pub Judges : WorldState → Helper → List Arg → Option Fault → Type 0
 Judges w KtimeGetNs a o = o ≡ None
 Judges w CreateDsq a o = JudgesCreate w (given_number a 0) o
 Judges w DsqInsert a o = JudgesInsert w (given_task a 0) (insert_of a) (given_number a 3) o
-Judges w DsqInsertVtime a o = JudgesInsert w (given_task a 0) (insert_of_vtime a) (given_number a 4) o
+Judges w DsqInsertVtime a o =
+    JudgesInsert w (given_task a 0) (insert_of_vtime a) (given_number a 4) o
 Judges w DsqMoveToLocal a o = JudgesQueue (MayMove w (given_number a 0)) o
 Judges w SelectCpuDfl a o = o ≡ None
 Judges w CpuIdle a o = JudgesCpu w (given_number a 0) o
@@ -139,23 +150,33 @@ Judges w MapLookupElem a o = ⊥
 
 -- ---- what a call does where nothing is wrong: its answer, and the world that it leaves
 
--- the insert is kept until the callback ends; in dispatch the held task goes at once to where it wants it, and
--- that is noted
+-- the insert is kept until the callback ends; in dispatch the held task goes at once to where it
+-- wants it, and that is noted
 pub data Inserts (w : WorldState) (t : Option ℕ) (i : Insert) (v : WorldState) : Type 0 where
   Keeps : ¬ (w.call.callback ≡ Dispatch) → v ≡ with_insert w i → Inserts w t i v
-  Releases : (u : ℕ) → w.call.callback ≡ Dispatch → t ≡ Some u → v ≡ with_note (with_move (after_enter (after_leave w u) u (for_cpu w.call.cpu i))) (notes.Insert u (queue_for w.call.cpu i.queue)) → Inserts w t i v
+  Releases : (u : ℕ)
+      → w.call.callback ≡ Dispatch → t ≡ Some u
+      → v ≡ with_note (with_move (after_enter (after_leave w u) u (for_cpu w.call.cpu i)))
+      (notes.Insert u (queue_for w.call.cpu i.queue))
+      → Inserts w t i v
 
--- the front of the queue goes to the local queue of the processor at hand, and that is noted; an empty
--- queue stays
+-- the front of the queue goes to the local queue of the processor at hand, and that is noted;
+-- an empty queue stays
 pub data Moves (w : WorldState) (q n : ℕ) (v : WorldState) : Type 0 where
-  Front : (t : ℕ) → front_of w.queues q ≡ Some t → n ≡ 1 → v ≡ with_note (with_move (with_queues w (after_push (after_pop w.queues q) (local_on w.call.cpu) t Fifo))) (notes.Move t w.call.cpu) → Moves w q n v
+  Front : (t : ℕ)
+      → front_of w.queues q ≡ Some t → n ≡ 1
+      → v ≡ with_note
+      (with_move (with_queues w (after_push (after_pop w.queues q) (local_on w.call.cpu) t Fifo)))
+      (notes.Move t w.call.cpu)
+      → Moves w q n v
   Empty : front_of w.queues q ≡ None → n ≡ 0 → v ≡ w → Moves w q n v
 
--- the processor for which a task is put: where it ran last if that is idle, else the lowest idle one, else
--- where it ran last
+-- the processor for which a task is put: where it ran last if that is idle, else the lowest idle
+-- one, else where it ran last
 pub data IsChoice (w : WorldState) (t c : ℕ) : Type 0 where
   LastRan : is_idle w (task_at w t).prev_cpu ≡ true → c ≡ (task_at w t).prev_cpu → IsChoice w t c
-  Lowest : is_idle w (task_at w t).prev_cpu ≡ false → is_idle w c ≡ true → ((d : ℕ) → d < c → is_idle w d ≡ false) → IsChoice w t c
+  Lowest : is_idle w (task_at w t).prev_cpu ≡ false → is_idle w c ≡ true
+      → ((d : ℕ) → d < c → is_idle w d ≡ false) → IsChoice w t c
   NoneIdle : ((d : ℕ) → is_idle w d ≡ false) → c ≡ (task_at w t).prev_cpu → IsChoice w t c
 
 -- of a task; what isn't one has no choice
@@ -187,7 +208,9 @@ Does w TaskByPid a n v = ⊥
 Does w MapLookupElem a n v = ⊥
 
 -- ---- both together: a call with a fault is invalid, and leaves the fault alone
-pub data IsEffect (w : WorldState) (h : Helper) (a : List Arg) (x : Answer) (v : WorldState) : Type 0 where
+pub data IsEffect (w : WorldState) (h : Helper) (a : List Arg) (x : Answer) (v : WorldState)
+    : Type 0 where
   Done : (n : ℕ) → Judges w h a None → Does w h a n v → x ≡ Num n → IsEffect w h a x v
   FindsTask : h ≡ TaskByPid → Finds w (given_number a 0) x → v ≡ w → IsEffect w h a x v
-  Wrong : (f : Fault) → Judges w h a (Some f) → x ≡ Num invalid → v ≡ with_fault w f → IsEffect w h a x v
+  Wrong : (f : Fault)
+      → Judges w h a (Some f) → x ≡ Num invalid → v ≡ with_fault w f → IsEffect w h a x v

@@ -26,7 +26,9 @@ use Rattle.scx_rules.specs.Starts.{HasBadShape, Begins}
 
 -- what a helper answers and leaves; elements of maps are looked up by the run itself
 abbrev pub RulesAllowHelpers : Type 0
-RulesAllowHelpers = (w : WorldState) (h : Helper) (a : List Arg) → ¬ (h ≡ MapLookupElem) → IsEffect w h a (helper_answer w h a) (helper_after w h a)
+RulesAllowHelpers =
+    (w : WorldState) (h : Helper) (a : List Arg)
+    → ¬ (h ≡ MapLookupElem) → IsEffect w h a (helper_answer w h a) (helper_after w h a)
 
 -- of a helper call the rules allow no other answer, and no other world, than are computed
 abbrev pub RulesAllowHelpersOnly : Type 0
@@ -37,20 +39,26 @@ RulesAllowHelpersOnly =
 -- a callback that comes to an answer, as each does that an event calls
 abbrev pub RulesAllowCallbacks : Type 0
 RulesAllowCallbacks =
-    (s : State) (b : Callback) (a : Args) (t c : ℕ) → AreAnswered (call_back s b a t c).calls → CallsBack s b a t c (answered_by s b a t c) (call_back s b a t c)
+    (s : State) (b : Callback) (a : Args) (t c : ℕ)
+    → AreAnswered (call_back s b a t c).calls
+    → CallsBack s b a t c (answered_by s b a t c) (call_back s b a t c)
 
 -- of a callback the rules allow no other answer, and no other step, than are computed
 abbrev pub RulesAllowCallbacksOnly : Type 0
 RulesAllowCallbacksOnly =
-    (s : State) (b : Callback) (a : Args) (t c : ℕ) (answer : Option ℕ) (r : Stepped) → CallsBack s b a t c answer r → (answer ≡ answered_by s b a t c) × (r ≡ call_back s b a t c)
+    (s : State) (b : Callback) (a : Args) (t c : ℕ) (answer : Option ℕ) (r : Stepped)
+    → CallsBack s b a t c answer r → (answer ≡ answered_by s b a t c) × (r ≡ call_back s b a t c)
 
 -- a cycle
 abbrev pub RulesAllowCycles : Type 0
-RulesAllowCycles = (s : State) (c : ℕ) (p : Option ℕ) (ran : Bool) → Cycles s c p ran (cycle s c p ran)
+RulesAllowCycles =
+    (s : State) (c : ℕ) (p : Option ℕ) (ran : Bool) → Cycles s c p ran (cycle s c p ran)
 
 -- of a cycle the rules allow no other step than the one that is computed
 abbrev pub RulesAllowCyclesOnly : Type 0
-RulesAllowCyclesOnly = (s : State) (c : ℕ) (p : Option ℕ) (ran : Bool) (r : Stepped) → Cycles s c p ran r → r ≡ cycle s c p ran
+RulesAllowCyclesOnly =
+    (s : State) (c : ℕ) (p : Option ℕ) (ran : Bool) (r : Stepped)
+    → Cycles s c p ran r → r ≡ cycle s c p ran
 
 -- an accepted event
 abbrev pub RulesAllowEvents : Type 0
@@ -58,7 +66,8 @@ RulesAllowEvents = (s : State) (v : Event) → refusal s v ≡ None → Happens 
 
 -- of an accepted event the rules allow no other step than the one that is computed
 abbrev pub RulesAllowEventsOnly : Type 0
-RulesAllowEventsOnly = (s : State) (v : Event) (r : Stepped) → refusal s v ≡ None → Happens s v r → r ≡ event_step s v
+RulesAllowEventsOnly =
+    (s : State) (v : Event) (r : Stepped) → refusal s v ≡ None → Happens s v r → r ≡ event_step s v
 
 -- a refusal
 abbrev pub RulesRefuseEvents : Type 0
@@ -70,16 +79,22 @@ RulesRefuseEventsOnly = (s : State) (v : Event) (r : Refused) → Refuses s v r 
 
 -- a start, of a policy of which each program that is called comes to an answer, as each does
 abbrev pub RulesAllowStarts : Type 0
-RulesAllowStarts = (p : PolicyState) (tree : Hierarchy) (cpus : ℕ) → AreAnswered (start_calls p tree cpus) → Begins p tree cpus (first_state p tree cpus)
+RulesAllowStarts =
+    (p : PolicyState) (tree : Hierarchy) (cpus : ℕ)
+    → AreAnswered (start_calls p tree cpus) → Begins p tree cpus (first_state p tree cpus)
 
 -- of a start the rules allow no other state or failure than the one that is computed
 abbrev pub RulesAllowStartsOnly : Type 0
-RulesAllowStartsOnly = (p : PolicyState) (tree : Hierarchy) (cpus : ℕ) (r : Result State ℤ) → Begins p tree cpus r → r ≡ first_state p tree cpus
+RulesAllowStartsOnly =
+    (p : PolicyState) (tree : Hierarchy) (cpus : ℕ) (r : Result State ℤ)
+    → Begins p tree cpus r → r ≡ first_state p tree cpus
 
 -- and of what no machine is made
 abbrev pub RulesRefuseShapes : Type 0
-RulesRefuseShapes = (tree : Hierarchy) (cpus : ℕ) → is_bad_shape tree cpus ≡ true → HasBadShape tree cpus
+RulesRefuseShapes =
+    (tree : Hierarchy) (cpus : ℕ) → is_bad_shape tree cpus ≡ true → HasBadShape tree cpus
 
 -- the rules call no other shape bad than those that are computed as bad
 abbrev pub RulesRefuseShapesOnly : Type 0
-RulesRefuseShapesOnly = (tree : Hierarchy) (cpus : ℕ) → HasBadShape tree cpus → is_bad_shape tree cpus ≡ true
+RulesRefuseShapesOnly =
+    (tree : Hierarchy) (cpus : ℕ) → HasBadShape tree cpus → is_bad_shape tree cpus ≡ true

@@ -10,7 +10,8 @@ use Rattle.scx_machine.specs.Steps.{State}
 -- a task that isn't there, or that is already as the event would make it
 pub data RefusesTask (s : State) (t : ℕ) (already : Bool) (why r : Refused) : Type 0 where
   NoTask : length s.world.tasks ≤ t → r ≡ UnknownTask → RefusesTask s t already why r
-  Already : t < length s.world.tasks → is_runnable s.world t ≡ already → r ≡ why → RefusesTask s t already why r
+  Already : t < length s.world.tasks → is_runnable s.world t ≡ already → r ≡ why
+      → RefusesTask s t already why r
 
 -- as cgroup-v2.rst, "Weights", has them
 abbrev pub IsWeight : ℕ → Type 0

@@ -1,5 +1,5 @@
--- No push of the machine is refused: in a world that is as it should be each queue takes the task that the
--- machine gives it.
+-- No push of the machine is refused: in a world that is as it should be each queue takes the task
+-- that the machine gives it.
 use Rattle.std.specs.Prelude.{◌≡◌, ℕ, ◌<◌, true, List, length, Option, Some, None}
 use Rattle.scx_dsq.specs.Queues.{front_of}
 use Rattle.scx_dsq.specs.Calls.{push_refusal, after_pop, after_remove}
@@ -16,20 +16,31 @@ use Rattle.scx_sched.specs.Ranges.{IsFine}
 -- with so many tasks, events and charges, each push is accepted that is made where all is fine
 pub record IsPushAccepted (n e m : ℕ) : Type 0 where
   -- of a task that is put
-  pub put : (on : List (Option ℕ)) (w : WorldState) (t : ℕ) (i : Insert) → t < n → IsWanted (length on) w i → IsFine n e m (Some t) on w
+  pub put : (on : List (Option ℕ)) (w : WorldState) (t : ℕ) (i : Insert)
+      → t < n → IsWanted (length on) w i → IsFine n e m (Some t) on w
       → push_refusal w.queues i.queue t i.rank ≡ None
   -- of a task that is put under the built-in scheduler
-  pub put_builtin : (on : List (Option ℕ)) (w : WorldState) (t : ℕ) → t < n → IsFine n e m (Some t) on w → push_refusal w.queues builtin_queue t (Vtime (builtin_vtime w t)) ≡ None
+  pub put_builtin : (on : List (Option ℕ)) (w : WorldState) (t : ℕ)
+      → t < n → IsFine n e m (Some t) on w
+      → push_refusal w.queues builtin_queue t (Vtime (builtin_vtime w t)) ≡ None
   -- of a task that is parked
-  pub park : (on : List (Option ℕ)) (w : WorldState) (t : ℕ) → t < n → IsFine n e m (Some t) on w → push_refusal w.queues parked_queue t Fifo ≡ None
+  pub park : (on : List (Option ℕ)) (w : WorldState) (t : ℕ)
+      → t < n → IsFine n e m (Some t) on w → push_refusal w.queues parked_queue t Fifo ≡ None
   -- of a task that goes over
-  pub evict : (hand : Option ℕ) (on : List (Option ℕ)) (w : WorldState) (t : ℕ) → waits w t ≡ true → IsFine n e m hand on w → push_refusal (after_remove w.queues t) builtin_queue t (Vtime (builtin_vtime w t)) ≡ None
+  pub evict : (hand : Option ℕ) (on : List (Option ℕ)) (w : WorldState) (t : ℕ)
+      → waits w t ≡ true → IsFine n e m hand on w
+      → push_refusal (after_remove w.queues t) builtin_queue t (Vtime (builtin_vtime w t)) ≡ None
   -- of the front of a queue, to the local queue of a processor
-  pub fill : (on : List (Option ℕ)) (w : WorldState) (q c t : ℕ) → c < length on → front_of w.queues q ≡ Some t → IsFine n e m None on w
+  pub fill : (on : List (Option ℕ)) (w : WorldState) (q c t : ℕ)
+      → c < length on → front_of w.queues q ≡ Some t → IsFine n e m None on w
       → push_refusal (after_pop w.queues q) (local_on c) t Fifo ≡ None
   -- of the front of a queue, to the local queue of the processor at hand, while a callback runs
-  pub move : (hand : Option ℕ) (on : List (Option ℕ)) (w : WorldState) (q t : ℕ) → front_of w.queues q ≡ Some t → IsFine n e m hand on w
+  pub move : (hand : Option ℕ) (on : List (Option ℕ)) (w : WorldState) (q t : ℕ)
+      → front_of w.queues q ≡ Some t → IsFine n e m hand on w
       → push_refusal (after_pop w.queues q) (local_on w.call.cpu) t Fifo ≡ None
   -- of a held task, while dispatch runs
-  pub release : (hand : Option ℕ) (on : List (Option ℕ)) (w : WorldState) (t : ℕ) (i : Insert) (flags : ℕ) → is_dispatch w.call.callback ≡ true → insert_fault w (Some t) i flags ≡ None → IsFine n e m hand on w
+  pub release : (hand : Option ℕ) (on : List (Option ℕ)) (w : WorldState) (t : ℕ)
+      (i : Insert) (flags : ℕ)
+      → is_dispatch w.call.callback ≡ true → insert_fault w (Some t) i flags ≡ None
+      → IsFine n e m hand on w
       → push_refusal (after_remove w.queues t) (queue_for w.call.cpu i.queue) t i.rank ≡ None

@@ -1,5 +1,6 @@
--- Ejected for a cause: a policy is put out of force because a task waited too long, or because a callback
--- that really ran had a fault; once, and for good. And wherever a callback has a fault, it is.
+-- Ejected for a cause: a policy is put out of force because a task waited too long, or
+-- because a callback that really ran had a fault; once, and for good. And wherever a callback
+-- has a fault, it is.
 use Rattle.std.specs.Prelude.{◌≡◌, ℕ, ◌+◌, ◌≤◌, List, [], ◌∷◌, ◌++◌, length, Some, None}
 use Rattle.scx_semantics.specs.declared.callbacks.Callback.TheVariants.{SelectCpu}
 use Rattle.scx_semantics.specs.Code.{instruction_count}
@@ -24,13 +25,17 @@ use Rattle.scx_sched.specs.Sim.{SimState, calls_of}
 pub record EndsIn (m : CallMade) (answer : ℕ) (w : WorldState) : Type 0 where
   pub steps : ℕ
   pub maps : Maps
-  pub run : Runs (host world_functions) m.callback m.program.code (program_arguments m.arguments) m.maps m.world answer steps maps w
+  pub run : Runs (host world_functions) m.callback m.program.code (program_arguments m.arguments)
+      m.maps m.world answer steps maps w
   pub in_bound : steps ≤ instruction_count m.program.code
 
 -- a callback with that fault: of its first helper call that has one, or else of its answer
 pub data HasFault (m : CallMade) (f : Fault) : Type 0 where
-  Of_helper : (answer : ℕ) (w : WorldState) → EndsIn m answer w → w.call.fault ≡ Some f → HasFault m f
-  Of_answer : (answer : ℕ) (w : WorldState) → EndsIn m answer w → w.call.fault ≡ None → m.callback ≡ SelectCpu → length w.cpus ≤ answer → f ≡ NoSuchCpu → HasFault m f
+  Of_helper : (answer : ℕ) (w : WorldState)
+      → EndsIn m answer w → w.call.fault ≡ Some f → HasFault m f
+  Of_answer : (answer : ℕ) (w : WorldState)
+      → EndsIn m answer w → w.call.fault ≡ None → m.callback ≡ SelectCpu → length w.cpus ≤ answer
+      → f ≡ NoSuchCpu → HasFault m f
 
 -- the call is the last one of these
 abbrev pub IsLast : CallMade → List CallMade → Type 0
@@ -50,15 +55,20 @@ clock_in s (SetWeight g x) = s.state.world.clock
 
 -- what put a policy out of force in an event
 pub data IsCause (s : SimState) (e : Event) : Eject → Type 0 where
-  Waited : (t : ℕ) → e ≡ Clock → IsFirstOverdue (later s.state.world) s.state.policy.timeout_ms t → IsCause s e (cause.Stall t (s.state.world.clock + 1))
-  Went_wrong : (m : CallMade) (f : Fault) → IsLast m (calls_of s e) → HasFault m f → IsCause s e (cause.Fault f (clock_in s e))
+  Waited : (t : ℕ)
+      → e ≡ Clock → IsFirstOverdue (later s.state.world) s.state.policy.timeout_ms t
+      → IsCause s e (cause.Stall t (s.state.world.clock + 1))
+  Went_wrong : (m : CallMade) (f : Fault)
+      → IsLast m (calls_of s e) → HasFault m f → IsCause s e (cause.Fault f (clock_in s e))
 
 -- from before an event to after it
 pub record EjectsOnce (s : SimState) (e : Event) (t : SimState) : Type 0 where
   pub stays : (x : Eject) → s.state.world.ejected ≡ Some x → t.state.world.ejected ≡ Some x
-  pub cause : (x : Eject) → s.state.world.ejected ≡ None → t.state.world.ejected ≡ Some x → IsCause s e x
+  pub cause : (x : Eject)
+      → s.state.world.ejected ≡ None → t.state.world.ejected ≡ Some x → IsCause s e x
   -- no callback has a fault after which the policy is in force
-  pub heard : t.state.world.ejected ≡ None → (m : CallMade) (f : Fault) → IsAmong m (calls_of s e) → HasFault m f → ⊥
+  pub heard : t.state.world.ejected ≡ None → (m : CallMade) (f : Fault) → IsAmong m (calls_of s e)
+      → HasFault m f → ⊥
 
 -- no policy is out of force for a callback that was stuck
 abbrev pub IsNeverStuck : WorldState → Type 0

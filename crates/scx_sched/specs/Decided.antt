@@ -1,5 +1,6 @@
--- What events alone decide, whatever callbacks do: the clock, who is runnable, the weights of groups and what they have
--- used of their quotas. The policy stays the one that it was, and once it is ejected none of it is called.
+-- What events alone decide, whatever callbacks do: the clock, who is runnable, the weights of
+-- groups and what they have used of their quotas. The policy stays the one that it was, and once it
+-- is ejected none of it is called.
 use Rattle.std.specs.Prelude.{◌≡◌, ℕ, ◌+◌, true, false, [], Option, Some, None, if◌then◌else◌}
 use Rattle.scx_weights.specs.Hierarchy.{Hierarchy, with_task, with_weight}
 use Rattle.scx_weights.specs.Limits.{with_use, with_turn}
@@ -45,10 +46,13 @@ pub record EventsDecide (s : SimState) (e : Event) (t : SimState) : Type 0 where
   pub tree : t.state.world.tree ≡ tree_after e s.state.world
   pub policy : t.state.policy ≡ s.state.policy
   pub silent : (x : Eject) → s.state.world.ejected ≡ Some x → calls_of s e ≡ []
-  pub ran : (u : ℕ) → (task_at t.state.world u).run_ns ≡ (task_at s.state.world u).run_ns + ran_in e s.state.world u
+  pub ran : (u : ℕ)
+      → (task_at t.state.world u).run_ns
+      ≡ (task_at s.state.world u).run_ns + ran_in e s.state.world u
   pub counted : t.events ≡ s.events + 1
 
 -- from before any event to after it: one that is refused changes nothing
 abbrev pub Follows : Option Refused → SimState → Event → SimState → Type 0
-Follows None s e t = EventsDecide s e t × EjectsOnce s e t × IsNeverStuck t.state.world × AreInQueues t.state.world
+Follows None s e t =
+    EventsDecide s e t × EjectsOnce s e t × IsNeverStuck t.state.world × AreInQueues t.state.world
 Follows (Some r) s e t = t ≡ s

@@ -1,5 +1,5 @@
--- What each small step of a world keeps, so that whole events keep it. The fact is one of the task that
--- is in no place, of who runs where, and of the world.
+-- What each small step of a world keeps, so that whole events keep it. The fact is one of the task
+-- that is in no place, of who runs where, and of the world.
 use Rattle.std.specs.Prelude.{◌≡◌, ℕ, ◌+◌, ◌==◌, ◌<◌, true, false, List, length, Option, Some, None, is_some, slice_index_or, slice_set}
 use Rattle.scx_dsq.specs.Queues.{front_of}
 use Rattle.scx_weights.specs.Limits.{is_throttled}
@@ -18,29 +18,56 @@ use Rattle.scx_world.specs.Ejecting.{put_out, evict, cut_task, put_builtin, afte
 pub data IsWanted (cpus : ℕ) (w : WorldState) (i : Insert) : Type 0 where
   ForAny : i ≡ to_global → IsWanted cpus w i
   Nowhere : i ≡ to_held → IsWanted cpus w i
-  Inserted : (c : ℕ) (said : Insert) → c < cpus → w.call.insert ≡ Some said → i ≡ for_cpu c said → IsWanted cpus w i
+  Inserted : (c : ℕ) (said : Insert)
+      → c < cpus → w.call.insert ≡ Some said → i ≡ for_cpu c said → IsWanted cpus w i
 
--- The fact has a number, which grows by one as a task is charged, and may be said too high: an event charges
--- one task at most.
-pub record IsKeptBySteps (n : ℕ) (I : ℕ → Option ℕ → List (Option ℕ) → WorldState → Type 0) : Type 0 where
-  pub more : (m : ℕ) (hand : Option ℕ) (on : List (Option ℕ)) (w : WorldState) → I m hand on w → I (m + 1) hand on w
-  pub known : (m : ℕ) (hand : Option ℕ) (on : List (Option ℕ)) (w : WorldState) → I m hand on w → length w.tasks ≡ n
-  pub query : (m : ℕ) (hand : Option ℕ) (on : List (Option ℕ)) (w : WorldState) (q : Query) → I m hand on w → I m hand on (after_query world_functions w q)
-  pub begun : (m : ℕ) (hand : Option ℕ) (on : List (Option ℕ)) (w : WorldState) (b : Callback) (t c : ℕ) → c < length on → I m hand on w → I m hand on (begun w b t c)
-  pub quiet : (m : ℕ) (hand : Option ℕ) (on : List (Option ℕ)) (w : WorldState) → I m hand on w → I m hand on (quiet w)
-  pub cycling : (m : ℕ) (hand : Option ℕ) (on : List (Option ℕ)) (w : WorldState) (o : Option ℕ) → I m hand on w → I m hand on (with_cycling w o)
-  pub entered : (m : ℕ) (on : List (Option ℕ)) (w : WorldState) (t : ℕ) (i : Insert) → t < n → IsWanted (length on) w i → I m (Some t) on w → I m None on (entered w t i)
-  pub filled : (m : ℕ) (on : List (Option ℕ)) (w : WorldState) (q c : ℕ) → (q == parked_queue) ≡ false → c < length on → I m None on w → I m None on (filled w q c)
-  pub stopped : (m : ℕ) (on : List (Option ℕ)) (w : WorldState) (c t : ℕ) → c < length on → t < n → slice_index_or on c None ≡ Some t → I m None on w → I m (Some t) (slice_set on c None) (stopped w c t)
-  pub started : (m : ℕ) (on : List (Option ℕ)) (w : WorldState) (c t : ℕ) → c < length on → slice_index_or on c None ≡ None → front_of w.queues (local_on c) ≡ Some t → is_throttled w.tree t ≡ false → I m None on w → I m None (slice_set on c (Some t)) (started_at (Some t) w c)
-  pub put_parked : (m : ℕ) (on : List (Option ℕ)) (w : WorldState) (t : ℕ) → t < n → is_throttled w.tree t ≡ true → I m (Some t) on w → I m None on (put_parked w t)
-  pub taken : (m : ℕ) (on : List (Option ℕ)) (w : WorldState) (q t : ℕ) → (q == parked_queue) ≡ false → front_of w.queues q ≡ Some t → I m None on w → I m (Some t) on (taken w q)
-  pub kept : (m : ℕ) (on : List (Option ℕ)) (w : WorldState) (t : ℕ) → I m None on w → I m None on (kept w (Some t))
-  pub asleep : (m : ℕ) (on : List (Option ℕ)) (w : WorldState) (t : ℕ) → t < n → I m (Some t) on w → I m None on (asleep w t)
+-- The fact has a number, which grows by one as a task is charged, and may be said too high: an
+-- event charges one task at most.
+pub record IsKeptBySteps (n : ℕ) (I : ℕ → Option ℕ → List (Option ℕ) → WorldState → Type 0)
+    : Type 0 where
+  pub more : (m : ℕ) (hand : Option ℕ) (on : List (Option ℕ)) (w : WorldState)
+      → I m hand on w → I (m + 1) hand on w
+  pub known : (m : ℕ) (hand : Option ℕ) (on : List (Option ℕ)) (w : WorldState)
+      → I m hand on w → length w.tasks ≡ n
+  pub query : (m : ℕ) (hand : Option ℕ) (on : List (Option ℕ)) (w : WorldState) (q : Query)
+      → I m hand on w → I m hand on (after_query world_functions w q)
+  pub begun : (m : ℕ) (hand : Option ℕ) (on : List (Option ℕ)) (w : WorldState)
+      (b : Callback) (t c : ℕ)
+      → c < length on → I m hand on w → I m hand on (begun w b t c)
+  pub quiet : (m : ℕ) (hand : Option ℕ) (on : List (Option ℕ)) (w : WorldState)
+      → I m hand on w → I m hand on (quiet w)
+  pub cycling : (m : ℕ) (hand : Option ℕ) (on : List (Option ℕ)) (w : WorldState) (o : Option ℕ)
+      → I m hand on w → I m hand on (with_cycling w o)
+  pub entered : (m : ℕ) (on : List (Option ℕ)) (w : WorldState) (t : ℕ) (i : Insert)
+      → t < n → IsWanted (length on) w i → I m (Some t) on w → I m None on (entered w t i)
+  pub filled : (m : ℕ) (on : List (Option ℕ)) (w : WorldState) (q c : ℕ)
+      → (q == parked_queue) ≡ false → c < length on → I m None on w → I m None on (filled w q c)
+  pub stopped : (m : ℕ) (on : List (Option ℕ)) (w : WorldState) (c t : ℕ)
+      → c < length on → t < n → slice_index_or on c None ≡ Some t → I m None on w
+      → I m (Some t) (slice_set on c None) (stopped w c t)
+  pub started : (m : ℕ) (on : List (Option ℕ)) (w : WorldState) (c t : ℕ)
+      → c < length on → slice_index_or on c None ≡ None → front_of w.queues (local_on c) ≡ Some t
+      → is_throttled w.tree t ≡ false → I m None on w
+      → I m None (slice_set on c (Some t)) (started_at (Some t) w c)
+  pub put_parked : (m : ℕ) (on : List (Option ℕ)) (w : WorldState) (t : ℕ)
+      → t < n → is_throttled w.tree t ≡ true → I m (Some t) on w → I m None on (put_parked w t)
+  pub taken : (m : ℕ) (on : List (Option ℕ)) (w : WorldState) (q t : ℕ)
+      → (q == parked_queue) ≡ false → front_of w.queues q ≡ Some t → I m None on w
+      → I m (Some t) on (taken w q)
+  pub kept : (m : ℕ) (on : List (Option ℕ)) (w : WorldState) (t : ℕ)
+      → I m None on w → I m None on (kept w (Some t))
+  pub asleep : (m : ℕ) (on : List (Option ℕ)) (w : WorldState) (t : ℕ)
+      → t < n → I m (Some t) on w → I m None on (asleep w t)
   -- an ejection, and the built-in scheduler
-  pub put_out : (m : ℕ) (hand : Option ℕ) (on : List (Option ℕ)) (w : WorldState) (x : Eject) → I m hand on w → I m hand on (put_out w x)
-  pub evict : (m : ℕ) (hand : Option ℕ) (on : List (Option ℕ)) (w : WorldState) (t : ℕ) → t < n → I m hand on w → I m hand on (evict w t)
-  pub cut : (m : ℕ) (hand : Option ℕ) (on : List (Option ℕ)) (w : WorldState) (t : ℕ) → I m hand on w → I m hand on (cut_task (Some t) w)
-  pub put_builtin : (m : ℕ) (on : List (Option ℕ)) (w : WorldState) (t : ℕ) → t < n → I m (Some t) on w → I m None on (put_builtin w t)
-  pub overtaken : (m : ℕ) (hand : Option ℕ) (on : List (Option ℕ)) (w : WorldState) (t : ℕ) → I m hand on w → I m hand on (overtaken w t)
-  pub charged : (m : ℕ) (hand : Option ℕ) (on : List (Option ℕ)) (w : WorldState) (t : ℕ) → is_some w.ejected ≡ true → I m hand on w → I (m + 1) hand on (charged w t)
+  pub put_out : (m : ℕ) (hand : Option ℕ) (on : List (Option ℕ)) (w : WorldState) (x : Eject)
+      → I m hand on w → I m hand on (put_out w x)
+  pub evict : (m : ℕ) (hand : Option ℕ) (on : List (Option ℕ)) (w : WorldState) (t : ℕ)
+      → t < n → I m hand on w → I m hand on (evict w t)
+  pub cut : (m : ℕ) (hand : Option ℕ) (on : List (Option ℕ)) (w : WorldState) (t : ℕ)
+      → I m hand on w → I m hand on (cut_task (Some t) w)
+  pub put_builtin : (m : ℕ) (on : List (Option ℕ)) (w : WorldState) (t : ℕ)
+      → t < n → I m (Some t) on w → I m None on (put_builtin w t)
+  pub overtaken : (m : ℕ) (hand : Option ℕ) (on : List (Option ℕ)) (w : WorldState) (t : ℕ)
+      → I m hand on w → I m hand on (overtaken w t)
+  pub charged : (m : ℕ) (hand : Option ℕ) (on : List (Option ℕ)) (w : WorldState) (t : ℕ)
+      → is_some w.ejected ≡ true → I m hand on w → I (m + 1) hand on (charged w t)

@@ -15,7 +15,8 @@ use Rattle.scx_sched.specs.Accepted.{IsPushAccepted}
 -- an accepted event keeps each task in its place, and lets numbers grow no more than one event may
 abbrev pub StepKeepsFine : Type 0
 StepKeepsFine =
-    (n e : ℕ) (s : State) (v : Event) → length s.world.tasks ≡ n → refusal s v ≡ None → IsFine n e e None s.world.cpus s.world
+    (n e : ℕ) (s : State) (v : Event)
+    → length s.world.tasks ≡ n → refusal s v ≡ None → IsFine n e e None s.world.cpus s.world
     → IsFine n (e + 1) (e + 1) None (event_step s v).state.world.cpus (event_step s v).state.world
 
 -- after a tick that leaves its processor idle, no task is left behind for it
@@ -30,7 +31,9 @@ StepsKeepFine = (n e : ℕ) → IsKeptBySteps n (IsFine n e)
 
 -- an ejection loses no task, and stops none
 abbrev pub EjectionLosesNobody : Type 0
-EjectionLosesNobody = (n e m : ℕ) (hand : Option ℕ) (s : State) (x : Eject) → IsFine n e m hand s.world.cpus s.world → GoesOver s.world (eject s x).state.world
+EjectionLosesNobody =
+    (n e m : ℕ) (hand : Option ℕ) (s : State) (x : Eject)
+    → IsFine n e m hand s.world.cpus s.world → GoesOver s.world (eject s x).state.world
 
 -- and where that holds, no push is refused
 abbrev pub NoPushIsRefused : Type 0

@@ -1,5 +1,6 @@
--- In how many places a task appears: on processors and in queues. Between two events a runnable task
--- appears once, and a sleeping one nowhere; inside an event the task at hand may be in neither place.
+-- In how many places a task appears: on processors and in queues. Between two events a
+-- runnable task appears once, and a sleeping one nowhere; inside an event the task at hand
+-- may be in neither place.
 use Rattle.std.specs.Prelude.{◌≡◌, ℕ, ◌+◌, ◌<◌, Bool, true, false, ◌==◌, ◌||◌, nat_lt, List, length, Option, Some, None, sum_by, if◌then◌else◌}
 use Rattle.scx_dsq.specs.Queues.{QueueState, exists, task_count, entry_of, queue_of}
 use Rattle.scx_dsq.specs.Calls.{clashes}
@@ -66,10 +67,14 @@ pub record IsOpen (s : QueueState) (q : ℕ) (r : Rank) : Type 0 where
   pub fits : fits_queue q r ≡ true
   pub alike : IsAlike s q r
 
--- where the callback wants its task to go, for each processor that LOCAL may mean; to no parked ones
+-- where the callback wants its task to go, for each processor that LOCAL may mean; to
+-- no parked ones
 abbrev pub GoesSomewhere : QueueState → ℕ → Option Insert → Type 0
 GoesSomewhere s cpus None = Unit {0}
-GoesSomewhere s cpus (Some i) = (c : ℕ) → c < cpus → IsOpen s (queue_for c i.queue) i.rank × ((queue_for c i.queue == parked_queue) ≡ false)
+GoesSomewhere s cpus (Some i) =
+    (c : ℕ)
+    → c < cpus
+    → IsOpen s (queue_for c i.queue) i.rank × ((queue_for c i.queue == parked_queue) ≡ false)
 
 -- what holds of a world of so many tasks with these on its processors, and that task in no place
 pub record IsSound (hand : Option ℕ) (on : List (Option ℕ)) (n : ℕ) (w : WorldState) : Type 0 where

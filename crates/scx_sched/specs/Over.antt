@@ -1,5 +1,5 @@
--- What an ejection does to tasks: who waits in any queue, also in those of the machine, waits for the
--- built-in scheduler from then on, and who runs stays where it runs. No task comes or goes.
+-- What an ejection does to tasks: who waits in any queue, also in those of the machine, waits for
+-- the built-in scheduler from then on, and who runs stays where it runs. No task comes or goes.
 use Rattle.std.specs.Prelude.{◌≡◌, ℕ, true, false, Some}
 use Rattle.scx_dsq.specs.Queues.{queue_of}
 use Rattle.scx_world.specs.Ids.{builtin_queue, parked_queue}

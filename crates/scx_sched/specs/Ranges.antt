@@ -1,5 +1,5 @@
--- Between two events: each task is where it should be, no number has grown past what so many events can make of
--- it, and no usage past what its quota lets it.
+-- Between two events: each task is where it should be, no number has grown past what so many events
+-- can make of it, and no usage past what its quota lets it.
 use Rattle.std.specs.Prelude.{◌≡◌, ℕ, ◌*◌, ◌≤◌, List, Option, None}
 use Rattle.scx_world.specs.World.{WorldState, task_at}
 use Rattle.scx_weights.specs.Limits.{usage_of}
@@ -11,7 +11,8 @@ abbrev pub IsFresh : WorldState → Type 0
 IsFresh w = (w.builtin_clock ≡ 0) × ((t : ℕ) → (task_at w t).builtin ≡ 0)
 
 -- An event counts once among the events, and charges one task at most.
-pub record IsFine (n events charges : ℕ) (hand : Option ℕ) (on : List (Option ℕ)) (w : WorldState) : Type 0 where
+pub record IsFine (n events charges : ℕ) (hand : Option ℕ) (on : List (Option ℕ)) (w : WorldState)
+    : Type 0 where
   pub sound : IsSound hand on n w
   pub clock : w.clock ≤ events
   pub runs : (t : ℕ) → (task_at w t).run_ns ≤ 1000000 * events

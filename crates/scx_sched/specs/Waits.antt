@@ -1,4 +1,5 @@
--- Bounded wait: while its policy is in force, no task has waited longer than the policy may let one wait.
+-- Bounded wait: while its policy is in force, no task has waited longer than the policy
+-- may let one wait.
 use Rattle.std.specs.Prelude.{◌≡◌, ℕ, ◌≤◌, ◌||◌, Option, None, is_some}
 use Rattle.scx_world.specs.World.{WorldState, task_at, is_this, waits, wait}
 use Rattle.scx_machine.specs.Steps.{State}

@@ -9,7 +9,9 @@ use Rattle.scx_semantics.specs.declared.per_callback.PerCallback.{PerCallback}
 
 -- the callbacks of a policy, in the order in which its programs are read and verified
 abbrev pub callbacks : List Callback
-callbacks = callback.Init ∷ callback.Enable ∷ callback.SelectCpu ∷ callback.Enqueue ∷ callback.Dispatch ∷ callback.Running ∷ callback.Stopping ∷ []
+callbacks =
+    callback.Init ∷ callback.Enable ∷ callback.SelectCpu ∷ callback.Enqueue ∷ callback.Dispatch
+    ∷ callback.Running ∷ callback.Stopping ∷ []
 
 -- those before this one
 abbrev pub earlier : Callback → List Callback
@@ -18,9 +20,13 @@ earlier callback.Init = []
 earlier callback.Enable = callback.Init ∷ []
 earlier callback.SelectCpu = callback.Init ∷ callback.Enable ∷ []
 earlier callback.Enqueue = callback.Init ∷ callback.Enable ∷ callback.SelectCpu ∷ []
-earlier callback.Dispatch = callback.Init ∷ callback.Enable ∷ callback.SelectCpu ∷ callback.Enqueue ∷ []
-earlier callback.Running = callback.Init ∷ callback.Enable ∷ callback.SelectCpu ∷ callback.Enqueue ∷ callback.Dispatch ∷ []
-earlier callback.Stopping = callback.Init ∷ callback.Enable ∷ callback.SelectCpu ∷ callback.Enqueue ∷ callback.Dispatch ∷ callback.Running ∷ []
+earlier callback.Dispatch =
+    callback.Init ∷ callback.Enable ∷ callback.SelectCpu ∷ callback.Enqueue ∷ []
+earlier callback.Running =
+    callback.Init ∷ callback.Enable ∷ callback.SelectCpu ∷ callback.Enqueue ∷ callback.Dispatch ∷ []
+earlier callback.Stopping =
+    callback.Init ∷ callback.Enable ∷ callback.SelectCpu ∷ callback.Enqueue ∷ callback.Dispatch
+    ∷ callback.Running ∷ []
 
 -- the value of one callback, if there is one; a plain program has none
 abbrev pub at : {T : Type 0} → PerCallback (Option T) → Callback → Option T
@@ -46,7 +52,15 @@ with_at p callback.Stopping x = record p { stopping = x }
 
 -- no value for any callback
 abbrev pub none : {T : Type 0} → PerCallback (Option T)
-none = record { init = None; enable = None; select_cpu = None; enqueue = None; dispatch = None; running = None; stopping = None }
+none = record {
+  init = None;
+  enable = None;
+  select_cpu = None;
+  enqueue = None;
+  dispatch = None;
+  running = None;
+  stopping = None;
+}
 
 -- ---- tests
 
@@ -64,7 +78,9 @@ module _ {F T : Type 0} (g : Shared F (Callback × (Bor T × Unit {0})) Bool) (f
 
   -- whether each value that is there passes
   abbrev pub Answers : PerCallback (Option T) → Bool → Type 0
-  Answers p r = MatchBool r ((b : Callback) → Answer b (at p b) true) ((b : Callback) × Answer b (at p b) false)
+  Answers p r =
+      MatchBool r ((b : Callback) → Answer b (at p b) true)
+      ((b : Callback) × Answer b (at p b) false)
 
 -- ---- what is made of each
 

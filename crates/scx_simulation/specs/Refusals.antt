@@ -1,5 +1,5 @@
--- How an error of another call is passed on: each as the refusal that it stands for, so that a fault that
--- was found is never told as want of memory.
+-- How an error of another call is passed on: each as the refusal that it stands for, so that a
+-- fault that was found is never told as want of memory.
 use Rattle.std.specs.Prelude.{◌≡◌, Result, Ok, Err}
 use Rattle.scx_machine.specs.declared.start.NewError.{NewError}
 use Rattle.scx_machine.specs.declared.start.NewError.TheVariants.{InitFailed, BadShape, OutOfMemory}

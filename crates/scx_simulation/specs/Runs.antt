@@ -1,5 +1,5 @@
--- What the texts of a policy file and of a workload file say together: a run, with its trace and its
--- report, or why they are refused.
+-- What the texts of a policy file and of a workload file say together: a run, with its trace and
+-- its report, or why they are refused.
 use Rattle.std.specs.Prelude.{◌≡◌, ℕ, ℤ, List, [], ◌∷◌, ◌++◌, Option, ⊤, Ok, Err, IsOk, string_bytes}
 use Rattle.scx_semantics.specs.declared.callbacks.Callback as callbacks
 use Rattle.scx_verify.specs.declared.faults.Fault.{Fault}
@@ -24,8 +24,8 @@ use Rattle.scx_trace.specs.Report as reports
 use Rattle.scx_commands.specs.declared.refusal.Refusal.{Refusal}
 use Rattle.scx_commands.specs.declared.refusal.Refusal.TheVariants.{NoMemory, Policy, Workload, Callback, Init}
 
--- the texts stand for the run of that workload from that first state on; none of its events is refused, and
--- no callback got stuck before the first one
+-- the texts stand for the run of that workload from that first state on; none of its events is
+-- refused, and no callback got stuck before the first one
 pub record IsRun (policy workload : List ℕ) (w : WorkloadState) (s : SimState) : Type 0 where
   pub file : PolicyFile
   pub machine : PolicyState
@@ -46,20 +46,27 @@ last_of w s = stepped_all s (workload_events w s)
 
 -- how long each task has run then, and whether the policy is in force
 abbrev pub report_text : WorkloadState → SimState → List ℕ
-report_text w s = reports.report (names_of w) (reports.times (last_of w s).state.world) (last_of w s).state.world.ejected
+report_text w s =
+    reports.report (names_of w) (reports.times (last_of w s).state.world)
+    (last_of w s).state.world.ejected
 
 -- ---- the headline, of such a run
 
 -- the run of its machine through these events
-abbrev pub run_of : {policy workload : List ℕ} {w : WorkloadState} {s : SimState} → IsRun policy workload w s → List Event → Run
-run_of {policy} {workload} {w} {s} x events = machine_run x.machine (idle w.groups w.homes) w.cpus events
+abbrev pub run_of :
+    {policy workload : List ℕ} {w : WorkloadState} {s : SimState}
+    → IsRun policy workload w s → List Event → Run
+run_of {policy} {workload} {w} {s} x events =
+    machine_run x.machine (idle w.groups w.homes) w.cpus events
 
--- Through these events it is that run: it has these notes, and ends in that state. In it no callback is ever
--- stuck or takes more steps than it has instructions, every runnable task appears exactly once on a processor
--- or in a queue, each wait is counted, while the policy is in force no task has waited longer than the limit
--- in the policy's text, and in no period does a group with a quota use as much as its quota and one millisecond
--- for each processor. Each event does what it alone decides.
-pub record IsOfHeadline {policy workload : List ℕ} {w : WorkloadState} {s : SimState} (x : IsRun policy workload w s) (events : List Event) : Type 0 where
+-- Through these events it is that run: it has these notes, and ends in that state. In it no
+-- callback is ever stuck or takes more steps than it has instructions, every runnable task appears
+-- exactly once on a processor or in a queue, each wait is counted, while the policy is in force
+-- no task has waited longer than the limit in the policy's text, and in no period does a group
+-- with a quota use as much as its quota and one millisecond for each processor. Each event does
+-- what it alone decides.
+pub record IsOfHeadline {policy workload : List ℕ} {w : WorkloadState} {s : SimState}
+    (x : IsRun policy workload w s) (events : List Event) : Type 0 where
   pub notes : (run_of x events).notes ≡ notes_of_all s events
   pub last : IsLast (stepped_all s events) (run_of x events).states
   pub never_stuck : NoneIsStuck (run_of x events)
@@ -69,8 +76,10 @@ pub record IsOfHeadline {policy workload : List ℕ} {w : WorkloadState} {s : Si
   pub bounded : EachUsageIsBounded (run_of x events)
   pub follows : EachFollows events (run_of x events).states
 
--- The machine took the events up to the first one of which a line wasn't written whole, and none behind it.
-pub record IsCutOff {policy workload : List ℕ} {w : WorkloadState} {s : SimState} (x : IsRun policy workload w s) (old new : Option (List ℕ)) : Type 0 where
+-- The machine took the events up to the first one of which a line wasn't written whole,
+-- and none behind it.
+pub record IsCutOff {policy workload : List ℕ} {w : WorkloadState} {s : SimState}
+    (x : IsRun policy workload w s) (old new : Option (List ℕ)) : Type 0 where
   pub done : List Event
   pub event : Event
   pub rest : List Event
@@ -82,13 +91,15 @@ pub record IsCutOff {policy workload : List ℕ} {w : WorkloadState} {s : SimSta
 
 -- the policy's text isn't a policy file
 abbrev pub IsPolicyFault : List ℕ → Refusal → Type 0
-IsPolicyFault policy (Policy path cause) = policy_text policy ≡ Err (record { path = string_bytes path; cause = cause })
+IsPolicyFault policy (Policy path cause) =
+    policy_text policy ≡ Err (record { path = string_bytes path; cause = cause })
 IsPolicyFault policy NoMemory = ⊤
 IsPolicyFault policy refusal = ⊥
 
 -- the workload's text isn't a workload file
 abbrev pub IsWorkloadFault : List ℕ → Refusal → Type 0
-IsWorkloadFault workload (Workload path cause) = workload_of workload ≡ Err (record { path = string_bytes path; cause = cause })
+IsWorkloadFault workload (Workload path cause) =
+    workload_of workload ≡ Err (record { path = string_bytes path; cause = cause })
 IsWorkloadFault workload NoMemory = ⊤
 IsWorkloadFault workload refusal = ⊥
 
@@ -99,7 +110,8 @@ IsStartFault machine tree cpus NoMemory = ⊤
 IsStartFault machine tree cpus refusal = ⊥
 
 -- both files are read, and a callback is refused
-pub record HasBadCallback (policy workload : List ℕ) (b : callbacks.Callback) (fault : Fault) (slot : ℕ) : Type 0 where
+pub record HasBadCallback (policy workload : List ℕ) (b : callbacks.Callback) (fault : Fault)
+    (slot : ℕ) : Type 0 where
   pub file : PolicyFile
   pub w : WorkloadState
   pub policy_read : policy_text policy ≡ Ok file
@@ -119,7 +131,8 @@ pub record HasBadStart (policy workload : List ℕ) (answer : ℤ) : Type 0 wher
 -- the texts are refused for that cause, with nothing wrong before; want of memory says nothing
 abbrev pub IsCause : List ℕ → List ℕ → Refusal → Type 0
 IsCause policy workload (Policy path cause) = IsPolicyFault policy (Policy path cause)
-IsCause policy workload (Workload path cause) = IsOk (policy_text policy) × IsWorkloadFault workload (Workload path cause)
+IsCause policy workload (Workload path cause) =
+    IsOk (policy_text policy) × IsWorkloadFault workload (Workload path cause)
 IsCause policy workload (Callback b fault slot) = HasBadCallback policy workload b fault slot
 IsCause policy workload NoMemory = ⊤
 IsCause policy workload (Init answer) = HasBadStart policy workload answer

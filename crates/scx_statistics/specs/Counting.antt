@@ -1,4 +1,5 @@
--- What is counted as the notes of a run come: of each task and of each processor, one note and one tick after another.
+-- What is counted as the notes of a run come: of each task and of each processor, one note and
+-- one tick after another.
 use Rattle.std.specs.Prelude.{ℕ, zero, suc, ◌-◌, ◌==◌, if◌then◌else◌, Bool, true, false, List, length, replicate, Option, Some, None, is_some, slice_index_or, slice_set}
 use Rattle.scx_world.specs.declared.notes.What.{What}
 use Rattle.scx_world.specs.declared.notes.What.TheVariants.{Wake, Sleep, Insert, Move, Run, Stop, Idle, Weight, Stall, Fault}
@@ -38,7 +39,11 @@ unused_cpu = record { busy = 0; idle = 0; changes = 0; last = None }
 
 -- before the run
 abbrev pub nothing : ℕ → ℕ → Counts
-nothing tasks cpus = record { tasks = replicate tasks no_figures; cpus = replicate cpus unused_cpu; doing = replicate tasks Sleeps }
+nothing tasks cpus = record {
+  tasks = replicate tasks no_figures;
+  cpus = replicate cpus unused_cpu;
+  doing = replicate tasks Sleeps;
+}
 
 -- the figures of the task of that number; those before a run where there is none
 abbrev pub figures_at : List TaskFigures → ℕ → TaskFigures
@@ -92,8 +97,8 @@ abbrev pub after_pause : Option Pause → List TaskFigures → List TaskFigures
 after_pause None tasks = tasks
 after_pause (Some p) tasks = with_pause_at tasks p
 
--- what a note says of the task that it is of, which does so behind it: a wake is counted, and a stop of one that
--- doesn't sleep
+-- what a note says of the task that it is of, which does so behind it: a wake is counted, and a
+-- stop of one that doesn't sleep
 abbrev pub counted_for : What → Doing → TaskFigures → TaskFigures
 counted_for (Wake t) d x = with_wake x
 counted_for (Stop t c) d x = if sleeps d then x else with_stop x
@@ -164,11 +169,19 @@ cpus_counted (Fault f) cpus = cpus
 
 -- the pause that a note ends
 abbrev pub pause_counted : ℕ → What → Counts → Counts
-pause_counted clock what k = record { tasks = after_pause (ended_by clock what k.doing) k.tasks; cpus = k.cpus; doing = doing_after clock what k.doing }
+pause_counted clock what k = record {
+  tasks = after_pause (ended_by clock what k.doing) k.tasks;
+  cpus = k.cpus;
+  doing = doing_after clock what k.doing;
+}
 
 -- what a note counts beside the pause that it ends, of tasks that already do what it says
 abbrev pub counts_after_step : What → Counts → Counts
-counts_after_step what k = record { tasks = tasks_counted what k.doing k.tasks; cpus = cpus_counted what k.cpus; doing = k.doing }
+counts_after_step what k = record {
+  tasks = tasks_counted what k.doing k.tasks;
+  cpus = cpus_counted what k.cpus;
+  doing = k.doing;
+}
 
 -- a note
 abbrev pub counts_after_note : ℕ → What → Counts → Counts
@@ -176,17 +189,21 @@ counts_after_note clock what k = counts_after_step what (pause_counted clock wha
 
 -- a tick is of a processor that runs a task, or none, before it
 abbrev pub counts_after_event : SimState → Event → Counts → Counts
-counts_after_event s (event.Tick c) k = record k { cpus = with_tick_at k.cpus c (is_some (running s.state.world c)) }
+counts_after_event s (event.Tick c) k = record k {
+  cpus = with_tick_at k.cpus c (is_some (running s.state.world c));
+}
 counts_after_event s (event.Wake t) k = k
 counts_after_event s (event.Sleep t) k = k
 counts_after_event s event.Clock k = k
 counts_after_event s (event.SetWeight g x) k = k
 
--- as the run ends, the pauses that go on end for the tasks below that number, and each has run as long as it has
+-- as the run ends, the pauses that go on end for the tasks below that number, and each has
+-- run as long as it has
 abbrev pub ended_below : ℕ → WorldState → List Doing → List TaskFigures → List TaskFigures
 ended_below zero w ds tasks = tasks
 ended_below (suc t) w ds tasks =
-    after_pause (open_pause w.clock ds t) (has_run (ended_below t w ds tasks) t (ran_ms (task_at w t)))
+    after_pause (open_pause w.clock ds t)
+    (has_run (ended_below t w ds tasks) t (ran_ms (task_at w t)))
 
 -- what is counted once the run has ended in that world
 abbrev pub counts_at_end : WorldState → Counts → Counts

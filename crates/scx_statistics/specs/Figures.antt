@@ -1,5 +1,5 @@
--- What `stats` and `stats-csv` write: a line that says what stands below it, and then the figures; and what the
--- figures say of the notes of a run.
+-- What `stats` and `stats-csv` write: a line that says what stands below it, and then the figures;
+-- and what the figures say of the notes of a run.
 use Rattle.std.specs.Prelude.{◌≡◌, ℕ, ◌+◌, ◌<◌, ◌==◌, ◌&&◌, max, Bool, true, false, not, List, [], ◌∷◌, ◌++◌, length, codes, Option, Some, None, is_some, if◌then◌else◌, filter}
 use Rattle.scx_world.specs.declared.notes.Note.{Note}
 use Rattle.scx_world.specs.declared.notes.What.{What}
@@ -27,7 +27,10 @@ use Rattle.scx_statistics.specs.declared.gathering.Figures.{Figures}
 
 -- what `stats` writes: the heads of columns above the tasks' figures, and then all the rest
 abbrev pub tables : List ℕ → List ℕ
-tables rows = codes "task                  run    waits        mean      99%  longest    since    wakes  stopped" ++ rows
+tables rows =
+    codes
+    "task                  run    waits        mean      99%  longest    since    wakes  stopped"
+    ++ rows
 
 -- what `stats-csv` writes: the line that names the columns, and then the lines of values
 abbrev pub values : List ℕ → List ℕ
@@ -145,12 +148,14 @@ is_tick c (event.SetWeight g x) = false
 -- ticks of a processor that runs a task before them, and of one that runs none
 abbrev pub busy_in : ℕ → SimState → List Event → ℕ
 busy_in c s [] = 0
-busy_in c s (e ∷ es) = one_if (is_tick c e && is_some (running s.state.world c)) + busy_in c (after_event s e) es
+busy_in c s (e ∷ es) =
+    one_if (is_tick c e && is_some (running s.state.world c)) + busy_in c (after_event s e) es
 
 -- ticks of a processor that runs no task before them, in these events from that state on
 abbrev pub idle_in : ℕ → SimState → List Event → ℕ
 idle_in c s [] = 0
-idle_in c s (e ∷ es) = one_if (is_tick c e && not (is_some (running s.state.world c))) + idle_in c (after_event s e) es
+idle_in c s (e ∷ es) =
+    one_if (is_tick c e && not (is_some (running s.state.world c))) + idle_in c (after_event s e) es
 
 -- ---- a run
 
@@ -168,7 +173,8 @@ pub record IsOfCpu (c : ℕ) (s : SimState) (es : List Event) (x : CpuFigures) :
   pub idle : x.idle ≡ at_most_64_bits (idle_in c s es)
 
 -- the figures of tasks and processors of the run from that state through these events
-pub record AreOfRun (w : WorkloadState) (s : SimState) (es : List Event) (tasks : List TaskFigures) (cpus : List CpuFigures) : Type 0 where
+pub record AreOfRun (w : WorkloadState) (s : SimState) (es : List Event) (tasks : List TaskFigures)
+    (cpus : List CpuFigures) : Type 0 where
   pub all_tasks : length tasks ≡ length w.homes
   pub all_cpus : length cpus ≡ w.cpus
   pub of_task : (t : ℕ) → t < length w.homes → t < length (stepped_all s es).state.world.tasks
@@ -180,4 +186,5 @@ pub record AreOfTexts (policy workload : List ℕ) (f : Figures) : Type 0 where
   pub first : SimState
   pub run : IsRun policy workload f.workload first
   pub all_there : length (last_of f.workload first).state.world.tasks ≡ length f.workload.homes
-  pub of_run : AreOfRun f.workload first (workload_events f.workload first) f.tasks.items f.cpus.items
+  pub of_run :
+      AreOfRun f.workload first (workload_events f.workload first) f.tasks.items f.cpus.items

@@ -1,5 +1,5 @@
--- The interpreter's locations as the locations of the definitions, and what it knows of one that an address
--- means: its bytes are there, and on the stack it is a multiple of their number.
+-- The interpreter's locations as the locations of the definitions, and what it knows of one that an
+-- address means: its bytes are there, and on the stack it is a multiple of their number.
 use Rattle.std.specs.Prelude.{◌≡◌, ℕ, ◌+◌, ◌%◌, ◌<◌, ◌≤◌, ⊤, length}
 use Rattle.scx_semantics.specs.Elements.{Maps, elements, element}
 use Rattle.scx_semantics.specs.Memory.{stack_size}

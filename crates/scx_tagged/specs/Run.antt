@@ -1,5 +1,5 @@
--- How a step and a run of the interpreter end. Control goes from an instruction to the next one, or to
--- a jump's target (RFC 9669, section 4.3).
+-- How a step and a run of the interpreter end. Control goes from an instruction to the next one, or
+-- to a jump's target (RFC 9669, section 4.3).
 use Rattle.std.specs.Prelude.{◌≡◌, ℕ, ⊤, ◌<◌, ◌≤◌}
 use Rattle.scx_semantics.specs.declared.callbacks.Callback.{Callback}
 use Rattle.scx_semantics.specs.Code.{Code, instruction_count, instructions_from}
@@ -14,10 +14,12 @@ use Rattle.scx_tagged.specs.declared.run.Ran.{Ran}
 use Rattle.scx_tagged.specs.declared.run.Ran.TheVariants as ran
 
 -- a step with these maps and this outside comes to what the interpreter says
-abbrev pub StepsTo : {W : Type 0} → Outside W → steps.Outcome → Maps → W → Outcome → Machine → W → Type 0
+abbrev pub StepsTo :
+    {W : Type 0} → Outside W → steps.Outcome → Maps → W → Outcome → Machine → W → Type 0
 StepsTo O e maps w outcome.Stuck m w' = (e ≡ steps.Stuck) × (m.maps ≡ maps) × (w' ≡ w)
 StepsTo O e maps w (outcome.At slot) m w' = LeadsTo O e w slot m w'
-StepsTo O e maps w (outcome.Ended answer) m w' = (e ≡ steps.Ends answer) × (m.maps ≡ maps) × (w' ≡ w)
+StepsTo O e maps w (outcome.Ended answer) m w' =
+    (e ≡ steps.Ends answer) × (m.maps ≡ maps) × (w' ≡ w)
 
 -- the step from that slot leads to where fewer are left
 abbrev pub LeadsNearer : Code → ℕ → Outcome → Type 0
@@ -36,7 +38,8 @@ IfStuck (ran.Done done) P = ⊤
 IfStuck (ran.Stuck slot) P = P slot
 
 -- a run gets stuck at the slot, after no more steps than the program has instructions
-pub record GetsStuckAt {W : Type 0} (O : Outside W) (c : Callback) (code : Code) (a : Arguments) (maps : Maps) (w : W) (slot : ℕ) (maps' : Maps) (w' : W) : Type 0 where
+pub record GetsStuckAt {W : Type 0} (O : Outside W) (c : Callback) (code : Code) (a : Arguments)
+    (maps : Maps) (w : W) (slot : ℕ) (maps' : Maps) (w' : W) : Type 0 where
   pub steps : ℕ
   pub stuck : GetsStuck O c code a maps w slot steps maps' w'
   pub in_bound : steps ≤ instruction_count code

@@ -11,10 +11,11 @@ records_of x = x.records.items
 
 -- nobody of that block of 32 tasks waits since before then
 abbrev pub WaitNoLonger : ℕ → ℕ → List Task → Type 0
-WaitNoLonger since b tasks = (t n : ℕ) → t / 32 ≡ b → (slice_index_or tasks t no_task).since ≡ Some n → since ≤ n
+WaitNoLonger since b tasks =
+    (t n : ℕ) → t / 32 ≡ b → (slice_index_or tasks t no_task).since ≡ Some n → since ≤ n
 
--- Nobody of a block waits since before the clock that is kept for it, and nobody at all since before the one
--- that is kept for all. A task that waited since then may wait no more.
+-- Nobody of a block waits since before the clock that is kept for it, and nobody at all since
+-- before the one that is kept for all. A task that waited since then may wait no more.
 pub record AreWatched (w : Watch) (tasks : List Task) : Type 0 where
   pub count : length w.blocks ≡ 32
   pub least : (b : ℕ) → b < 32 → w.oldest ≤ slice_index_or w.blocks b 0

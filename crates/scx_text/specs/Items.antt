@@ -1,5 +1,5 @@
--- What a line says: an instruction, a label, or nothing. Numbers stand as they are written, so that a
--- line's form is judged before any number's range.
+-- What a line says: an instruction, a label, or nothing. Numbers stand as they are written, so that
+-- a line's form is judged before any number's range.
 use Rattle.std.specs.Prelude.{ℕ, nat_eq, Bool, true, false, List, [], ◌∷◌, codes, Option, Some, None, if◌then◌else◌}
 use Rattle.std.specs.Str.{bytes_eq}
 use Rattle.scx_semantics.specs.declared.operations.Width.{Width}
@@ -182,7 +182,8 @@ load_line Bits64 d ts = do
 
 -- `rD = N` and `rD = N ll`
 abbrev pub load_immediate : Width → Register → Literal → List Lexeme → Option ItemValue
-load_immediate Bits64 d n (Word name ∷ ts) = if bytes_eq name (codes "ll") then end ts (Says (statement.LoadImmediate d n)) else None
+load_immediate Bits64 d n (Word name ∷ ts) =
+    if bytes_eq name (codes "ll") then end ts (Says (statement.LoadImmediate d n)) else None
 load_immediate w d n ts = end ts (Says (statement.Binary w Move d (argument.Number n)))
 
 -- `rD = le16 rD`
@@ -199,7 +200,8 @@ map_load d ts = read_literal ts >>= λ n. end n.1 (Says (statement.LoadMapRefere
 -- a word behind `rD =` that is no register of that width
 abbrev pub special : Width → Register → List ℕ → List Lexeme → Option ItemValue
 special Bits32 d name ts = None
-special Bits64 d name ts = if bytes_eq name (codes "map") then map_load d ts else byte_swap d name ts
+special Bits64 d name ts =
+    if bytes_eq name (codes "map") then map_load d ts else byte_swap d name ts
 
 -- what stands behind `rD =`, if it is no word
 abbrev pub behind_equals_no_word : Width → Register → List Lexeme → Option ItemValue
@@ -210,7 +212,8 @@ behind_equals_no_word w d ts = read_literal ts >>= λ n. load_immediate w d n.0 
 
 -- what stands behind `rD =`
 abbrev pub behind_equals : Width → Register → List Lexeme → Option ItemValue
-behind_equals w d (Word name ∷ ts) = either (register_in w name) (λ r. copy w d r ts) (special w d name ts)
+behind_equals w d (Word name ∷ ts) =
+    either (register_in w name) (λ r. copy w d r ts) (special w d name ts)
 behind_equals w d ts = behind_equals_no_word w d ts
 
 -- `rD op= rS` and `rD op= N`
@@ -276,7 +279,8 @@ keyword name ts =
 
 -- a line by its first word: the name of a register, or a word of the language
 abbrev pub statement_of : List ℕ → List Lexeme → Option ItemValue
-statement_of name ts = either (register_named name) (λ r. behind_register r.0 r.1 ts) (keyword name ts)
+statement_of name ts =
+    either (register_named name) (λ r. behind_register r.0 r.1 ts) (keyword name ts)
 
 -- what a line's tokens say, a blank line without any; none where the language has no such line
 abbrev pub item_of : List Lexeme → Option ItemValue

@@ -23,7 +23,8 @@ use Rattle.scx_text.specs.Options.{◌>>=◌}
 -- what has that name in a list
 unfoldable pub first_with_name : {A : Type 0} → (A → List ℕ) → List A → List ℕ → Option A
 first_with_name text [] name = None
-first_with_name text (x ∷ xs) name = if bytes_eq name (text x) then Some x else first_with_name text xs name
+first_with_name text (x ∷ xs) name =
+    if bytes_eq name (text x) then Some x else first_with_name text xs name
 
 -- ---- registers: r0 to r10, and w0 to w10 for their low halves
 
@@ -78,7 +79,9 @@ access_text access.SignedWord = codes "s32"
 
 -- all ways in which memory is read, each of which has a name
 abbrev pub named_accesses : List Access
-named_accesses = access.Byte ∷ access.HalfWord ∷ access.Word ∷ access.DoubleWord ∷ access.SignedByte ∷ access.SignedHalfWord ∷ access.SignedWord ∷ []
+named_accesses =
+    access.Byte ∷ access.HalfWord ∷ access.Word ∷ access.DoubleWord ∷ access.SignedByte
+    ∷ access.SignedHalfWord ∷ access.SignedWord ∷ []
 
 -- how memory of that name is read; none of any other word
 abbrev pub access_named : List ℕ → Option Access

@@ -1,6 +1,6 @@
--- The symbols of the assembly language and their spellings: the operators and comparisons that clang and
--- llvm-objdump print for BPF, and punctuation. This is the one table of them, which reading and printing
--- share.
+-- The symbols of the assembly language and their spellings: the operators and comparisons that
+-- clang and llvm-objdump print for BPF, and punctuation. This is the one table of them, which
+-- reading and printing share.
 use Rattle.std.specs.Prelude.{ℕ, nat_eq, List, [], ◌∷◌, codes, Option, Some, None, if◌then◌else◌}
 use Rattle.std.specs.List.{starts_with}
 use Rattle.scx_semantics.specs.declared.operations.Operation.TheVariants.{Add, Subtract, Multiply, Divide, SignedDivide, Or, And, Xor, ShiftLeft, ShiftRight, ShiftRightSigned, Modulo, SignedModulo, Move}
@@ -45,14 +45,13 @@ spelling Colon = codes ":"
 -- all symbols, the longer ones first
 abbrev pub symbols : List Symbol
 symbols =
-    Assign ShiftRightSigned
-    ∷ Assign SignedDivide ∷ Assign SignedModulo ∷ Assign ShiftLeft ∷ Assign ShiftRight
-    ∷ Compare SignedGreaterOrEqual ∷ Compare SignedLessOrEqual
-    ∷ Assign Add ∷ Assign Subtract ∷ Assign Multiply ∷ Assign Divide ∷ Assign Or ∷ Assign And ∷ Assign Xor ∷ Assign Modulo
-    ∷ Compare Equal ∷ Compare NotEqual ∷ Compare GreaterOrEqual ∷ Compare LessOrEqual ∷ Compare SignedGreater ∷ Compare SignedLess
-    ∷ Assign Move ∷ Compare Greater ∷ Compare Less ∷ Compare BitTest
-    ∷ Plus ∷ Minus ∷ Star ∷ Opening ∷ Closing ∷ Colon
-    ∷ []
+    Assign ShiftRightSigned ∷ Assign SignedDivide ∷ Assign SignedModulo ∷ Assign ShiftLeft
+    ∷ Assign ShiftRight ∷ Compare SignedGreaterOrEqual ∷ Compare SignedLessOrEqual ∷ Assign Add
+    ∷ Assign Subtract ∷ Assign Multiply ∷ Assign Divide ∷ Assign Or ∷ Assign And ∷ Assign Xor
+    ∷ Assign Modulo ∷ Compare Equal ∷ Compare NotEqual ∷ Compare GreaterOrEqual
+    ∷ Compare LessOrEqual ∷ Compare SignedGreater ∷ Compare SignedLess ∷ Assign Move
+    ∷ Compare Greater ∷ Compare Less ∷ Compare BitTest ∷ Plus ∷ Minus ∷ Star ∷ Opening
+    ∷ Closing ∷ Colon ∷ []
 
 -- the first symbol of a list with which the text begins
 unfoldable pub first_of : List Symbol → List ℕ → Option Symbol

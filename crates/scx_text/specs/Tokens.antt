@@ -1,5 +1,5 @@
--- The tokens of a line: words, numbers and symbols, each as long as can be, with spaces and tabs between
--- them as one likes, up to a comment.
+-- The tokens of a line: words, numbers and symbols, each as long as can be, with spaces and tabs
+-- between them as one likes, up to a comment.
 use Rattle.std.specs.Prelude.{ℕ, zero, suc, ◌+◌, ◌-◌, ◌^◌, nat_eq, nat_lt, Bool, true, false, ◌&&◌, ◌||◌, List, [], ◌∷◌, length, take, drop, map, slice_index, Option, Some, None, if◌then◌else◌}
 use Rattle.std.specs.Char.{is_ascii_digit, is_ascii_alphabetic, is_ascii_hexdigit}
 use Rattle.std.specs.Str.Parse.{digits_value}
@@ -11,8 +11,8 @@ use Rattle.scx_text.specs.declared.lexer.Token.TheVariants as token
 use Rattle.scx_text.specs.Options.{◌>>=◌, either}
 use Rattle.scx_text.specs.Symbols.{spelling, symbol_at}
 
--- A token, wherever its word lies. A number says whether it touches what stands before it, and has no
--- value where that is 2^64 or more.
+-- A token, wherever its word lies. A number says whether it touches what stands before it, and has
+-- no value where that is 2^64 or more.
 pub data Lexeme : Type 0 where
   Word : List ℕ → Lexeme
   Number : Bool → Option ℕ → Lexeme
@@ -68,11 +68,15 @@ digits_at touches c prefix text =
 
 -- a text begins with the mark of a hexadecimal number and such a digit
 abbrev pub is_hexadecimal : List ℕ → Bool
-is_hexadecimal text = (nat_eq (slice_index text 0) 48 && nat_eq (slice_index text 1) 120) && is_ascii_hexdigit (slice_index text 2)
+is_hexadecimal text =
+    (nat_eq (slice_index text 0) 48 && nat_eq (slice_index text 1) 120)
+    && is_ascii_hexdigit (slice_index text 2)
 
 -- the number with which the text begins, hexadecimal if by `0x` and a digit, and its length
 abbrev pub number_lexeme : Bool → List ℕ → Lexeme × ℕ
-number_lexeme touches text = if is_hexadecimal text then digits_at touches class.Hexadecimal 2 text else digits_at touches class.Decimal 0 text
+number_lexeme touches text =
+    if is_hexadecimal text then digits_at touches class.Hexadecimal 2 text
+    else digits_at touches class.Decimal 0 text
 
 -- the word with which the text begins, and its length
 abbrev pub word_at : List ℕ → Lexeme × ℕ
@@ -86,7 +90,8 @@ word_or_number touches text =
 
 -- a symbol that begins with a letter is longer than the word there
 abbrev pub token_at : Bool → List ℕ → Option (Lexeme × ℕ)
-token_at touches text = either (symbol_at text) (λ s. Some (Mark s, length (spelling s))) (word_or_number touches text)
+token_at touches text =
+    either (symbol_at text) (λ s. Some (Mark s, length (spelling s))) (word_or_number touches text)
 
 -- ---- the tokens of a line
 

@@ -1,5 +1,5 @@
--- The text of notes: a line each, with the names of tasks and groups. Names stand in lists, by the numbers
--- of what they name.
+-- The text of notes: a line each, with the names of tasks and groups. Names stand in lists, by the
+-- numbers of what they name.
 use Rattle.std.specs.Prelude.{ℕ, ◌==◌, ◌%◌, ◌^◌, nat_lt, if◌then◌else◌, List, [], ◌∷◌, ◌++◌, codes, decimal, slice_index_or}
 use Rattle.scx_world.specs.Faults.{code_of}
 use Rattle.scx_world.specs.Ids.{policy_end, global, held_queue, builtin_queue, parked_queue}

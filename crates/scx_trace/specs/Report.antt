@@ -1,5 +1,5 @@
--- The text of a report: how long each task ran, which part of all running that is, and whose scheduling
--- it was.
+-- The text of a report: how long each task ran, which part of all running that is, and whose
+-- scheduling it was.
 use Rattle.std.specs.Prelude.{ℕ, ◌==◌, ◌+◌, ◌*◌, ◌/◌, if◌then◌else◌, List, [], ◌∷◌, ◌++◌, codes, decimal, map, sum, Option, Some, None}
 use Rattle.scx_tasks.specs.declared.task.Task.{Task}
 use Rattle.scx_world.specs.declared.eject.Eject.{Eject}
@@ -23,12 +23,14 @@ share ms total = if total == 0 then 0 else 10000 * ms / total
 -- the line of a task: its name, the milliseconds that it ran, and its part of all running
 abbrev pub task_line : List ℕ → ℕ → ℕ → List ℕ
 task_line name ms total =
-    codes "task " ++ name ++ (codes " run " ++ decimal ms ++ codes " share " ++ decimal (share ms total) ++ codes "\n")
+    codes "task " ++ name
+    ++ (codes " run " ++ decimal ms ++ codes " share " ++ decimal (share ms total) ++ codes "\n")
 
 -- the lines of tasks from that number on, by the milliseconds of each
 abbrev pub task_lines : NameLists → ℕ → ℕ → List ℕ → List ℕ
 task_lines x total t [] = []
-task_lines x total t (ms ∷ later) = task_line (task_name x t) ms total ++ task_lines x total (t + 1) later
+task_lines x total t (ms ∷ later) =
+    task_line (task_name x t) ms total ++ task_lines x total (t + 1) later
 
 -- the line that says for how many milliseconds all tasks together ran
 abbrev pub total_line : ℕ → List ℕ

@@ -1,5 +1,5 @@
--- The laws of typings and of refusals, which are the contracts of public functions without bodies of
--- their own.
+-- The laws of typings and of refusals, which are the contracts of public functions without
+-- bodies of their own.
 use Rattle.std.specs.Prelude.{◌≡◌, ◌≢◌, ◌≤◌, ℕ, List, Some, Ok}
 use Rattle.scx_semantics.specs.declared.callbacks.Callback.{Callback}
 use Rattle.scx_semantics.specs.declared.instructions.Insn.{Insn}
@@ -52,9 +52,11 @@ RefusalsAreJustified =
     (c : Context) (code : Code) (f : Fault) (s : ℕ)
     → IsProgram code → f ≢ NoMemory → IsReason c code f s → IsTyped c code → ⊥
 
--- Where the checks of an instruction pass, its operation is the one that every state calls for that the
--- abstract state stands for, if that is proper.
+-- Where the checks of an instruction pass, its operation is the one that every state calls for that
+-- the abstract state stands for, if that is proper.
 abbrev pub TypingChooses : Type 0
 TypingChooses =
-    (shapes : List Shape) (c : Callback) (t : ℕ) (i : Insn) (a : AbsState) (m : Machine) (next : Next)
-    → IsProper a → IsMember shapes a m → rule shapes c i a ≡ Ok next → op_of shapes c t i a ≡ chosen c m t i
+    (shapes : List Shape) (c : Callback) (t : ℕ) (i : Insn) (a : AbsState)
+    (m : Machine) (next : Next)
+    → IsProper a → IsMember shapes a m → rule shapes c i a ≡ Ok next
+    → op_of shapes c t i a ≡ chosen c m t i

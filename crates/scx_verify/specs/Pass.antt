@@ -1,6 +1,6 @@
--- One pass over the slots in order, as far as it has come: the states that it finds are the least that
--- cover all that flows there from the slots that it has visited. It holds one in place, and those that
--- jumps sent further ahead.
+-- One pass over the slots in order, as far as it has come: the states that it finds are the least
+-- that cover all that flows there from the slots that it has visited. It holds one in place, and
+-- those that jumps sent further ahead.
 use Rattle.std.specs.Prelude.{ℕ, ◌+◌, ◌<◌, ◌≤◌, ◌≡◌, ◌⊎◌, List, [], length, map, set, slice_index, slice_index_or, Option, Some, None, Result, Ok, Err, if◌then◌else◌}
 use Rattle.scx_semantics.specs.declared.instructions.Insn.{Insn}
 use Rattle.scx_semantics.specs.Code.{at}
@@ -29,7 +29,8 @@ abbrev pub states_of : List (Option AbsState) → States
 states_of states s = slice_index_or states s None
 
 -- the slots before the n-th were visited
-pub record IsVisited (c : Context) (code : Code) (n : ℕ) (states : List (Option AbsState)) : Type 0 where
+pub record IsVisited (c : Context) (code : Code) (n : ℕ) (states : List (Option AbsState))
+    : Type 0 where
   pub long : length states ≡ length code
   pub least : (t : ℕ) → IsLeast (states_of states t) (Arrives c code (states_of states) n t)
   pub passes : PassesBefore c code (states_of states) n
@@ -42,7 +43,8 @@ IsMerged (Some b) a x = IsLeastCover CoversState x b a × (IsProper b → IsProp
 -- a state, if there is one, came to the slot
 abbrev pub IsGiven : List (Option AbsState) → ℕ → Option AbsState → List (Option AbsState) → Type 0
 IsGiven states t None after = after ≡ states
-IsGiven states t (Some a) after = (x : AbsState) × IsMerged (states_of states t) a x × (after ≡ set states t (Some x))
+IsGiven states t (Some a) after =
+    (x : AbsState) × IsMerged (states_of states t) a x × (after ≡ set states t (Some x))
 
 -- ---- where the pass is
 
@@ -50,10 +52,11 @@ IsGiven states t (Some a) after = (x : AbsState) × IsMerged (states_of states t
 abbrev pub ArePositions : Code → Positions → Type 0
 ArePositions code Slots = (t : ℕ) → t ≤ length code → t ≡ position code t
 ArePositions code (Counted ps) =
-    (length ps.items ≡ length code + 1) × ((t : ℕ) → t ≤ length code → slice_index ps.items t ≡ position code t)
+    (length ps.items ≡ length code + 1)
+    × ((t : ℕ) → t ≤ length code → slice_index ps.items t ≡ position code t)
 
--- An instruction begins at the slot, in a program whose control goes forward, and these are the positions
--- of its slots and of its end.
+-- An instruction begins at the slot, in a program whose control goes forward, and these are the
+-- positions of its slots and of its end.
 pub record IsPlace (code : Code) (ps : Positions) (s : ℕ) (i : Insn) : Type 0 where
   pub flows : Flows code
   pub program : IsProgram code
@@ -78,8 +81,8 @@ pub record IsBeforeFirst (slots : ℕ) (a : AbsState) (walk : Walk) : Type 0 whe
   pub long : length walk.ahead ≡ slots + 1
   pub ops : walk.ops.items ≡ []
 
--- An instruction begins at the slot, or the program ends. The state there and those that are kept ahead
--- are the ones of a list of all states, and the operations so far are chosen by it.
+-- An instruction begins at the slot, or the program ends. The state there and those that are kept
+-- ahead are the ones of a list of all states, and the operations so far are chosen by it.
 pub record IsWalked (c : Context) (code : Code) (n : ℕ) (walk : Walk) : Type 0 where
   pub states : List (Option AbsState)
   pub visited : IsVisited c code n states

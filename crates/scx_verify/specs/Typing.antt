@@ -1,6 +1,6 @@
--- Typings of a program: a proper abstract state, or none, for each slot, such that the first one covers
--- the state in which the callback begins, each instruction with a state passes all of its checks, and what
--- flows on from it is covered where it goes.
+-- Typings of a program: a proper abstract state, or none, for each slot, such that the first one
+-- covers the state in which the callback begins, each instruction with a state passes all of its
+-- checks, and what flows on from it is covered where it goes.
 use Rattle.std.specs.Prelude.{ℕ, ◌+◌, ◌≡◌, Option, Some, None, Ok}
 use Rattle.scx_semantics.specs.declared.instructions.Insn.{Insn}
 use Rattle.scx_safety.specs.declared.context.Context.{Context}
@@ -36,7 +36,8 @@ pub record Passes (c : Context) (states : States) (s : ℕ) (i : Insn) (a : AbsS
 pub record IsTyping (c : Context) (code : Code) (states : States) : Type 0 where
   pub proper : (s : ℕ) (a : AbsState) → states s ≡ Some a → IsProper a
   pub start : CoversSome (states 0) (start_of c.callback)
-  pub insns : (s : ℕ) (i : Insn) (a : AbsState) → at code s ≡ Some i → states s ≡ Some a → Passes c states s i a
+  pub insns : (s : ℕ) (i : Insn) (a : AbsState)
+      → at code s ≡ Some i → states s ≡ Some a → Passes c states s i a
 
 -- the program's flow has no fault, and it has a typing
 pub record IsTyped (c : Context) (code : Code) : Type 0 where

@@ -20,4 +20,6 @@ place_text x (Some line) = line_text x line
 
 -- the text of a page: its lines, in the order of their places
 abbrev pub page_text : NameLists → Page → List ℕ
-page_text x page = place_text x page.first ++ place_text x page.second ++ place_text x page.third ++ place_text x page.fourth
+page_text x page =
+    place_text x page.first ++ place_text x page.second ++ place_text x page.third
+    ++ place_text x page.fourth

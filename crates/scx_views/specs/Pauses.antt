@@ -1,4 +1,5 @@
--- What tasks do as the notes of a run come, and the pauses that end: when a task had work to do and didn't run.
+-- What tasks do as the notes of a run come, and the pauses that end: when a task had work
+-- to do and didn't run.
 use Rattle.std.specs.Prelude.{ℕ, ◌==◌, if◌then◌else◌, Bool, true, false, List, Option, Some, None, slice_index_or, slice_set}
 use Rattle.scx_world.specs.Ids.{parked_queue}
 use Rattle.scx_world.specs.declared.notes.What.{What}
@@ -52,9 +53,11 @@ of_task (Fault f) = None
 abbrev pub doing_after_stop : ℕ → Doing → Doing
 doing_after_stop now d = if runs d then Waits now else d
 
--- in the queue of parked tasks it is parked, and one that was parked waits from now on; in others it waits as before
+-- in the queue of parked tasks it is parked, and one that was parked waits from now on; in
+-- others it waits as before
 abbrev pub doing_after_insert : ℕ → ℕ → Doing → Doing
-doing_after_insert now queue d = if queue == parked_queue then IsParked now else if is_parked d then Waits now else d
+doing_after_insert now queue d =
+    if queue == parked_queue then IsParked now else if is_parked d then Waits now else d
 
 -- what the task does then
 abbrev pub does : ℕ → What → Doing → Doing
@@ -72,13 +75,25 @@ does now (Fault f) d = d
 -- the pause of a task that does so, if it waits or is parked
 abbrev pub pause_of : ℕ → ℕ → Doing → Option Pause
 pause_of now t Sleeps = None
-pause_of now t (Waits since) = Some (record { task = t; kind = kind.Wait; since = since; until = now })
+pause_of now t (Waits since) = Some (record {
+  task = t;
+  kind = kind.Wait;
+  since = since;
+  until = now;
+})
 pause_of now t Runs = None
-pause_of now t (IsParked since) = Some (record { task = t; kind = kind.Parked; since = since; until = now })
+pause_of now t (IsParked since) = Some (record {
+  task = t;
+  kind = kind.Parked;
+  since = since;
+  until = now;
+})
 
 -- the pause that ends as a task comes into a queue: a wait where it is parked, parking always
 abbrev pub ended_by_insert : ℕ → ℕ → ℕ → Doing → Option Pause
-ended_by_insert now t queue d = if queue == parked_queue then pause_of now t d else if is_parked d then pause_of now t d else None
+ended_by_insert now t queue d =
+    if queue == parked_queue then pause_of now t d
+    else if is_parked d then pause_of now t d else None
 
 -- the pause of the task that ends then
 abbrev pub ending_pause : ℕ → ℕ → What → Doing → Option Pause

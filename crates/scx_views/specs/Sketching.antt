@@ -1,5 +1,5 @@
--- What is written of a run by a view that writes. Its states are of any type: what is said of them is said of
--- which output they write to, and of what is seen of the output.
+-- What is written of a run by a view that writes. Its states are of any type: what is said of them
+-- is said of which output they write to, and of what is seen of the output.
 use Rattle.std.specs.Prelude.{◌≡◌, ℕ, Bool, true, false, List, Option}
 use Rattle.std.specs.Io.KnownBytes.{Appends}
 use Rattle.scx_output.specs.Output.{HasFailed}
@@ -21,4 +21,5 @@ IsWholeUnless false s text t = IsWholeOr t.failed s text t
 
 -- what stands on the page is written whole, or a write fails
 abbrev pub WritesPage : {S G : Type 0} → (S → G) → (S → Seen) → (S → List ℕ) → S → S → Type 0
-WritesPage output seen page s t = (output t ≡ output s) × IsWholeUnless (seen s).failed (seen s) (page t) (seen t)
+WritesPage output seen page s t =
+    (output t ≡ output s) × IsWholeUnless (seen s).failed (seen s) (page t) (seen t)

@@ -1,6 +1,6 @@
--- Limits of processor time: `cpu.max` of Linux Documentation/admin-guide/cgroup-v2.rst, in whole milliseconds. A
--- group with a quota may use that much in each of its periods, which begin where the clock is a multiple
--- of their length. What its tasks use, and those below it, counts together.
+-- Limits of processor time: `cpu.max` of Linux Documentation/admin-guide/cgroup-v2.rst, in whole
+-- milliseconds. A group with a quota may use that much in each of its periods, which begin where
+-- the clock is a multiple of their length. What its tasks use, and those below it, counts together.
 use Rattle.std.specs.Prelude.{ℕ, ◌+◌, ◌%◌, Bool, false, ◌==◌, nat_le, List, length, map, slice_index, Option, None, Some, is_some, if◌then◌else◌}
 use Rattle.std.specs.List.{list_any, range_with_len}
 use Rattle.scx_weights.specs.declared.group.Group.{Group}
@@ -33,8 +33,10 @@ for_each_group t f = map f (range_with_len 0 (length t.groups))
 
 -- the task ran for a millisecond
 abbrev pub with_use : Hierarchy → ℕ → Hierarchy
-with_use t k =
-    record t { usages = for_each_group t (λ g. usage_of t g + (if lies_in t.groups (home_of t k) g then 1 else 0)) }
+with_use t k = record t {
+  usages =
+      for_each_group t (λ g. usage_of t g + (if lies_in t.groups (home_of t k) g then 1 else 0));
+}
 
 -- a period of the group begins at that clock
 abbrev pub begins_period : Hierarchy → ℕ → ℕ → Bool
@@ -42,5 +44,6 @@ begins_period t g clock = (clock % period_at t.groups g) == 0
 
 -- the clock shows so many ms, and periods begin
 abbrev pub with_turn : Hierarchy → ℕ → Hierarchy
-with_turn t clock =
-    record t { usages = for_each_group t (λ g. if begins_period t g clock then 0 else usage_of t g) }
+with_turn t clock = record t {
+  usages = for_each_group t (λ g. if begins_period t g clock then 0 else usage_of t g);
+}

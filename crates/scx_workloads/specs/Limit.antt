@@ -30,9 +30,12 @@ abbrev pub IsQuota : List ℕ → Option ℕ → Type 0
 IsQuota text None = text ≡ codes "max"
 IsQuota text (Some ms) = IsTime max_quota text ms
 
--- a limit stands in a text as a quota and a period, with one space between them, or as a quota alone
+-- a limit stands in a text as a quota and a period, with one space between them, or
+-- as a quota alone
 pub data Says (limit : Limit) : List ℕ → Type 0 where
-  both : (quota period : List ℕ) → IsQuota quota limit.quota_ms → IsTime max_period period limit.period_ms → Says limit (quota ++ 32 ∷ period)
+  both : (quota period : List ℕ)
+      → IsQuota quota limit.quota_ms → IsTime max_period period limit.period_ms
+      → Says limit (quota ++ 32 ∷ period)
   alone : (quota : List ℕ) → IsQuota quota limit.quota_ms → limit.period_ms ≡ 100 → Says limit quota
 
 -- ---- how it is read
@@ -51,7 +54,8 @@ ms_in most text = if is_numeral text then whole_ms most (digits_value 10 text) e
 
 -- a quota, or that there is none
 abbrev pub quota_in : List ℕ → Option (Option ℕ)
-quota_in text = if bytes_eq text (codes "max") then Some None else option_map Some (ms_in max_quota text)
+quota_in text =
+    if bytes_eq text (codes "max") then Some None else option_map Some (ms_in max_quota text)
 
 -- the quota and the period that two texts say
 abbrev pub limit_of : Option (Option ℕ) → Option ℕ → Option Limit
@@ -62,7 +66,8 @@ limit_of (Some quota) (Some period) = Some (record { quota_ms = quota; period_ms
 -- what a text says whose first space stands there
 abbrev pub limit_at : List ℕ → Option ℕ → Option Limit
 limit_at text None = limit_of (quota_in text) (Some 100)
-limit_at text (Some space) = limit_of (quota_in (take space text)) (ms_in max_period (drop (space + 1) text))
+limit_at text (Some space) =
+    limit_of (quota_in (take space text)) (ms_in max_period (drop (space + 1) text))
 
 -- the limit that a text says
 abbrev pub limit_in : List ℕ → Option Limit

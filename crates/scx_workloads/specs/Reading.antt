@@ -70,11 +70,13 @@ if_new names path name = if is_some (index_of names name) then refusal path caus
 
 -- the name of an element, which no element before it has
 abbrev pub new_name : List (List ℕ) → List ℕ → Members → Reading (List ℕ)
-new_name names path ms = required name_of path (codes "name") ms >>= if_new names (below path (codes "name"))
+new_name names path ms =
+    required name_of path (codes "name") ms >>= if_new names (below path (codes "name"))
 
 -- the number of the group of that name
 abbrev pub group_named : List (List ℕ) → List ℕ → Data → Reading ℕ
-group_named names path d = text_of path d >>= λ text. found_or Ok (refusal path cause.NoSuchGroup) (index_of names text)
+group_named names path d =
+    text_of path d >>= λ text. found_or Ok (refusal path cause.NoSuchGroup) (index_of names text)
 
 -- ---- groups
 
@@ -93,7 +95,8 @@ is_deep groups parent = is_some (above groups 2 (Some parent))
 
 -- that group as a parent; it is refused where a group below it would be too deep
 abbrev pub if_shallow : List Group → List ℕ → ℕ → Reading (Option ℕ)
-if_shallow groups path parent = if is_deep groups parent then refusal path cause.TooDeep else Ok (Some parent)
+if_shallow groups path parent =
+    if is_deep groups parent then refusal path cause.TooDeep else Ok (Some parent)
 
 -- the parent that a value names: a group read before, below which one more isn't too deep
 abbrev pub parent_named : GroupList → List ℕ → Data → Reading (Option ℕ)
@@ -101,7 +104,8 @@ parent_named g path d = group_named g.names path d >>= if_shallow g.groups path
 
 -- the limit that a text says
 abbrev pub limit_read : List ℕ → Data → Reading Limit
-limit_read path d = text_of path d >>= λ text. found_or Ok (refusal path cause.OutOfRange) (limit_in text)
+limit_read path d =
+    text_of path d >>= λ text. found_or Ok (refusal path cause.OutOfRange) (limit_in text)
 
 -- with one more group, which the table at a path says
 abbrev pub with_group : GroupList → List ℕ → Members → Reading GroupList
@@ -110,7 +114,16 @@ with_group g path ms = do
   weight ← optional (integer_of weight_limits) 100 path (codes "weight") ms
   parent ← optional (parent_named g) None path (codes "parent") ms
   limit ← optional limit_read no_limit path (codes "cpu_max") ms
-  Ok (record { names = g.names ++ name ∷ []; groups = g.groups ++ (record { parent = parent; weight = weight; quota_ms = limit.quota_ms; period_ms = limit.period_ms }) ∷ [] })
+  Ok (record {
+    names = g.names ++ name ∷ [];
+    groups =
+        g.groups ++ (record {
+          parent = parent;
+          weight = weight;
+          quota_ms = limit.quota_ms;
+          period_ms = limit.period_ms;
+        }) ∷ [];
+  })
 
 -- with one more group, which the element of that number in the array `group` says
 abbrev pub group_at : GroupList → ℕ → Data → Reading GroupList
@@ -158,7 +171,11 @@ with_task g t path ms = do
   name ← new_name t.names path ms
   home ← required (leaf_named g) path (codes "group") ms
   timing ← timing_in path ms
-  Ok (record { names = t.names ++ name ∷ []; homes = t.homes ++ home ∷ []; timings = t.timings ++ timing ∷ [] })
+  Ok (record {
+    names = t.names ++ name ∷ [];
+    homes = t.homes ++ home ∷ [];
+    timings = t.timings ++ timing ∷ [];
+  })
 
 -- with one more task, which the element of that number in the array `task` says
 abbrev pub task_at : GroupList → TaskList → ℕ → Data → Reading TaskList
@@ -180,7 +197,8 @@ change_in g path ms = do
 
 -- the change of a weight that the element of that number in the array `change` says
 abbrev pub change_from : GroupList → ℕ → Data → Reading Change
-change_from g n d = table_of (element (codes "change") n) d >>= change_in g (element (codes "change") n)
+change_from g n d =
+    table_of (element (codes "change") n) d >>= change_in g (element (codes "change") n)
 
 -- with one more change, which the element of that number in the array `change` says
 abbrev pub with_change : GroupList → List Change → ℕ → Data → Reading (List Change)
@@ -188,7 +206,8 @@ with_change g cs n d = change_from g n d >>= λ c. Ok (cs ++ c ∷ [])
 
 -- the changes of weights that the table of a file says, 1024 at most; it may have none
 abbrev pub changes_in : GroupList → Members → Reading (List Change)
-changes_in g ms = optional (elements_of 1024) no_items [] (codes "change") ms >>= fold_from (with_change g) [] 0
+changes_in g ms =
+    optional (elements_of 1024) no_items [] (codes "change") ms >>= fold_from (with_change g) [] 0
 
 -- ---- the file
 
@@ -224,7 +243,16 @@ workload_in ms = do
   g ← groups_in ms
   t ← tasks_in g ms
   changes ← changes_in g ms
-  Ok (record { cpus = cpus; ms = length; groups = g.groups; group_names = g.names; homes = t.homes; task_names = t.names; timings = t.timings; changes = changes })
+  Ok (record {
+    cpus = cpus;
+    ms = length;
+    groups = g.groups;
+    group_names = g.names;
+    homes = t.homes;
+    task_names = t.names;
+    timings = t.timings;
+    changes = changes;
+  })
 
 -- what the table of a file says; an unknown key is refused before any other fault
 abbrev pub workload_file : Members → Reading WorkloadState

@@ -1,5 +1,5 @@
--- A policy is put out of force, and what the scheduler does that takes its place: the virtual time rules of
--- Linux's example scx_simple, over numbers of its own.
+-- A policy is put out of force, and what the scheduler does that takes its place: the virtual time
+-- rules of Linux's example scx_simple, over numbers of its own.
 use Rattle.std.specs.Prelude.{ℕ, zero, suc, ◌+◌, ◌-◌, ◌*◌, ◌/◌, min, max, false, nat_lt, List, [], ◌∷◌, ◌++◌, length, if◌then◌else◌, Option, Some, None}
 use Rattle.scx_dsq.specs.Calls.{after_push}
 use Rattle.scx_dsq.specs.declared.entries.Rank.TheVariants.{Vtime}
@@ -25,7 +25,9 @@ builtin_vtime w t = max (task_at w t).builtin (w.builtin_clock - default_slice)
 abbrev pub put_builtin : WorldState → ℕ → WorldState
 put_builtin w t =
     if nat_lt t (length w.tasks)
-    then with_queues (with_task w t (with_builtin (with_slice (task_at w t) default_slice) (builtin_vtime w t))) (after_push w.queues builtin_queue t (Vtime (builtin_vtime w t)))
+    then with_queues
+    (with_task w t (with_builtin (with_slice (task_at w t) default_slice) (builtin_vtime w t)))
+    (after_push w.queues builtin_queue t (Vtime (builtin_vtime w t)))
     else w
 
 -- the clock is at least as late as the task that runs
@@ -42,7 +44,9 @@ at_most_64_bits n = min n 0xffff_ffff_ffff_ffff
 
 -- a task that stops has used what is gone of its slice
 abbrev pub after_charge : WorldState → ℕ → WorldState
-after_charge w t = with_task w t (with_builtin (task_at w t) (at_most_64_bits ((task_at w t).builtin + used_vtime w t)))
+after_charge w t =
+    with_task w t
+    (with_builtin (task_at w t) (at_most_64_bits ((task_at w t).builtin + used_vtime w t)))
 
 -- ---- ejection
 
@@ -75,7 +79,8 @@ evict_notes (suc n) w = evict_notes n w ++ evict_note (after_evictions n w) n
 -- a task that runs stays, with a slice of the built-in scheduler at most
 abbrev pub cut_task : Option ℕ → WorldState → WorldState
 cut_task None w = w
-cut_task (Some t) w = with_task w t (with_slice (task_at w t) (min (task_at w t).slice default_slice))
+cut_task (Some t) w =
+    with_task w t (with_slice (task_at w t) (min (task_at w t).slice default_slice))
 
 -- on the first so many processors
 abbrev pub after_cut : ℕ → WorldState → WorldState

@@ -14,7 +14,10 @@ with_locals (suc n) s = after_create (with_locals n s) (local_on n)
 
 -- there is room for 16 queues of the policy
 abbrev pub own_queues : ℕ → ℕ → QueueState
-own_queues cpus tasks = after_create (after_create (after_create (after_create (empty (20 + cpus) tasks) global) held_queue) builtin_queue) parked_queue
+own_queues cpus tasks =
+    after_create (after_create
+    (after_create (after_create (empty (20 + cpus) tasks) global) held_queue) builtin_queue)
+    parked_queue
 
 -- the queues at the start, for so many processors and tasks: the machine's own alone, all empty
 abbrev pub first_queues : ℕ → ℕ → QueueState

@@ -88,7 +88,8 @@ can_create w q = nat_lt q policy_end && is_none (create_refusal w.queues q)
 
 -- what creating a queue makes of the world: the queue is there, or the callback has a fault
 abbrev pub after_create_dsq : WorldState → ℕ → WorldState
-after_create_dsq w q = if can_create w q then with_queues w (after_create w.queues q) else with_fault w CannotCreate
+after_create_dsq w q =
+    if can_create w q then with_queues w (after_create w.queues q) else with_fault w CannotCreate
 
 -- what creating a queue answers: 0, or -22 where it can't be created
 abbrev pub create_answer : WorldState → ℕ → ℕ
@@ -130,8 +131,8 @@ may_insert_in b w t = false
 abbrev pub may_insert : WorldState → Option ℕ → Bool
 may_insert w t = may_insert_in w.call.callback w t
 
--- Where a task may be put: GLOBAL, LOCAL, the local queue of a processor, a queue of the policy. In the low
--- 32 bits of the id of a local queue stands the processor.
+-- Where a task may be put: GLOBAL, LOCAL, the local queue of a processor, a queue of the policy. In
+-- the low 32 bits of the id of a local queue stands the processor.
 abbrev pub queue_fault : WorldState → ℕ → Option Fault
 queue_fault w q =
     if nat_lt q policy_end then (if exists w.queues q then None else Some NoSuchQueue)
@@ -146,8 +147,8 @@ abbrev pub is_vtime : Rank → Bool
 is_vtime Fifo = false
 is_vtime (Vtime n) = true
 
--- Into the machine's own queues tasks go in order of arrival alone, and into a queue of the policy as those
--- went that wait there.
+-- Into the machine's own queues tasks go in order of arrival alone, and into a queue of the policy
+-- as those went that wait there.
 abbrev pub rank_fault : WorldState → ℕ → Rank → Option Fault
 rank_fault w q r =
     if is_vtime r && nat_le policy_end q then Some BuiltinVtime
@@ -161,7 +162,10 @@ or_fault (Some f) o = Some f
 -- what is wrong with an insert: first with its task, then its flags, its queue and its rank
 abbrev pub insert_fault : WorldState → Option ℕ → Insert → ℕ → Option Fault
 insert_fault w t i flags =
-    if may_insert w t then (if nat_lt 1 flags then Some UnknownFlag else or_fault (queue_fault w i.queue) (rank_fault w i.queue i.rank)) else Some CannotInsert
+    if may_insert w t
+    then (if nat_lt 1 flags then Some UnknownFlag
+    else or_fault (queue_fault w i.queue) (rank_fault w i.queue i.rank))
+    else Some CannotInsert
 
 -- the insert is kept until the callback ends
 abbrev pub with_insert : WorldState → Insert → WorldState
@@ -174,11 +178,14 @@ with_move w = with_call w (record w.call { has_moved = true })
 -- a held task goes at once to where the insert wants it
 abbrev pub after_release : WorldState → Option ℕ → Insert → WorldState
 after_release w None i = w
-after_release w (Some t) i = with_note (with_move (after_enter (after_leave w t) t i)) (notes.Insert t i.queue)
+after_release w (Some t) i =
+    with_note (with_move (after_enter (after_leave w t) t i)) (notes.Insert t i.queue)
 
 -- what an insert makes of the world: its fault is kept, or it takes effect, in dispatch at once
 abbrev pub insert_or_fault : WorldState → Option Fault → Option ℕ → Insert → WorldState
-insert_or_fault w None t i = if is_dispatch w.call.callback then after_release w t (for_cpu w.call.cpu i) else with_insert w i
+insert_or_fault w None t i =
+    if is_dispatch w.call.callback then after_release w t (for_cpu w.call.cpu i)
+    else with_insert w i
 insert_or_fault w (Some f) t i = with_fault w f
 
 -- the world after a helper call that inserts a task
@@ -195,7 +202,11 @@ insert_of a = record { queue = given_number a 1; slice = given_number a 2; rank 
 
 -- what a call asks for that inserts by virtual time: a queue, a slice, and the key
 abbrev pub insert_of_vtime : List Arg → Insert
-insert_of_vtime a = record { queue = given_number a 1; slice = given_number a 2; rank = Vtime (given_number a 3) }
+insert_of_vtime a = record {
+  queue = given_number a 1;
+  slice = given_number a 2;
+  rank = Vtime (given_number a 3);
+}
 
 -- ---- moves
 
@@ -212,11 +223,15 @@ can_move w q = is_dispatch w.call.callback && is_there w q
 abbrev pub front_moved_to_local : WorldState → Option ℕ → ℕ → WorldState
 front_moved_to_local w None q = w
 front_moved_to_local w (Some t) q =
-    with_note (with_move (with_queues w (after_push (after_pop w.queues q) (local_on w.call.cpu) t Fifo))) (notes.Move t w.call.cpu)
+    with_note
+    (with_move (with_queues w (after_push (after_pop w.queues q) (local_on w.call.cpu) t Fifo)))
+    (notes.Move t w.call.cpu)
 
 -- what a move to the local queue makes of the world; where none may be moved, it is a fault
 abbrev pub after_move : WorldState → ℕ → WorldState
-after_move w q = if can_move w q then front_moved_to_local w (front_of w.queues q) q else with_fault w NoSuchQueue
+after_move w q =
+    if can_move w q then front_moved_to_local w (front_of w.queues q) q
+    else with_fault w NoSuchQueue
 
 -- what a move answers: 1, 0 where the queue is empty, or -22 where none may be moved
 abbrev pub move_answer : WorldState → ℕ → ℕ
@@ -251,8 +266,10 @@ pid_answer w n = if is_pid w n then answer.Task (record { 0 = n - 1 }) else answ
 abbrev pub helper_answer : WorldState → Helper → List Arg → Answer
 helper_answer w KtimeGetNs a = answer.Num (w.clock * 1000000)
 helper_answer w CreateDsq a = answer.Num (create_answer w (given_number a 0))
-helper_answer w DsqInsert a = answer.Num (insert_answer w (given_task a 0) (insert_of a) (given_number a 3))
-helper_answer w DsqInsertVtime a = answer.Num (insert_answer w (given_task a 0) (insert_of_vtime a) (given_number a 4))
+helper_answer w DsqInsert a =
+    answer.Num (insert_answer w (given_task a 0) (insert_of a) (given_number a 3))
+helper_answer w DsqInsertVtime a =
+    answer.Num (insert_answer w (given_task a 0) (insert_of_vtime a) (given_number a 4))
 helper_answer w DsqMoveToLocal a = answer.Num (move_answer w (given_number a 0))
 helper_answer w SelectCpuDfl a = answer.Num (choice_answer w (given_task a 0))
 helper_answer w CpuIdle a = answer.Num (idle_answer w (given_number a 0))
@@ -264,7 +281,8 @@ helper_answer w MapLookupElem a = answer.Num 0
 abbrev pub helper_after : WorldState → Helper → List Arg → WorldState
 helper_after w CreateDsq a = after_create_dsq w (given_number a 0)
 helper_after w DsqInsert a = after_insert w (given_task a 0) (insert_of a) (given_number a 3)
-helper_after w DsqInsertVtime a = after_insert w (given_task a 0) (insert_of_vtime a) (given_number a 4)
+helper_after w DsqInsertVtime a =
+    after_insert w (given_task a 0) (insert_of_vtime a) (given_number a 4)
 helper_after w DsqMoveToLocal a = after_move w (given_number a 0)
 helper_after w CpuIdle a = after_idle w (given_number a 0)
 helper_after w DsqNrQueued a = after_queued w (given_number a 0)
@@ -313,7 +331,12 @@ world_stored w t f n = with_task w t.0 (stored_in (task_at w t.0) f n)
 
 -- the world as a host
 abbrev pub world_functions : Functions WorldState
-world_functions = record { answer = helper_answer; after_call = helper_after; number = world_number; after_store = world_stored }
+world_functions = record {
+  answer = helper_answer;
+  after_call = helper_after;
+  number = world_number;
+  after_store = world_stored;
+}
 
 -- ---- budgets: for how many calls there is room, and what they may spend
 

@@ -9,7 +9,8 @@ policy_end = 0x8000_0000_0000_0000
 abbrev pub global : ℕ
 global = 0x8000_0000_0000_0001
 
--- a name for a local queue, and no queue: of the processor that select_cpu answers, else of the one at hand
+-- a name for a local queue, and no queue: of the processor that select_cpu answers, else
+-- of the one at hand
 abbrev pub local : ℕ
 local = 0x8000_0000_0000_0002
 

@@ -11,11 +11,23 @@ use Rattle.scx_world.specs.World.{WorldState, is_idle, is_throttled}
 
 -- the state for which a world's fields stand, without what is kept beside to find answers sooner
 abbrev pub state_of : Inside → WorldState
-state_of w = record { clock = w.clock; tasks = w.tasks; cpus = w.cpus.items; cycling = w.cycling; queues = w.queues.state; tree = w.tree; call = w.call; builtin_clock = w.builtin_clock; ejected = w.ejected; notes = w.notes.items }
+state_of w = record {
+  clock = w.clock;
+  tasks = w.tasks;
+  cpus = w.cpus.items;
+  cycling = w.cycling;
+  queues = w.queues.state;
+  tree = w.tree;
+  call = w.call;
+  builtin_clock = w.builtin_clock;
+  ejected = w.ejected;
+  notes = w.notes.items;
+}
 
 -- these bits are set where a task runs, one bit a processor
 abbrev pub AreBusy : ℕ → List (Option ℕ) → Type 0
-AreBusy bits cpus = (c : ℕ) → c < length cpus → bit_at bits c ≡ one_if (is_some (slice_index_or cpus c None))
+AreBusy bits cpus =
+    (c : ℕ) → c < length cpus → bit_at bits c ≡ one_if (is_some (slice_index_or cpus c None))
 
 -- these bits are set where a processor isn't idle
 abbrev pub AreTaken : ℕ → WorldState → Type 0
@@ -23,7 +35,8 @@ AreTaken bits w = (c : ℕ) → c < length w.cpus → bit_at bits c ≡ one_if (
 
 -- who is parked is throttled
 abbrev pub AreThrottled : QueueState → Hierarchy → Type 0
-AreThrottled queues tree = (t : ℕ) → queue_of queues t ≡ Some parked_queue → limits.is_throttled tree t ≡ true
+AreThrottled queues tree =
+    (t : ℕ) → queue_of queues t ≡ Some parked_queue → limits.is_throttled tree t ≡ true
 
 -- the task may not run, if it is parked
 abbrev pub StaysParked : WorldState → ℕ → Type 0
@@ -33,8 +46,8 @@ StaysParked w t = queue_of w.queues t ≡ Some parked_queue → is_throttled w t
 abbrev pub NobodyIsFree : WorldState → Type 0
 NobodyIsFree w = (t : ℕ) → StaysParked w t
 
--- there is room for the notes of a callback, each part knows of as many tasks, the clock in nanoseconds
--- is a number of 64 bits, and who is parked is throttled where that is known
+-- there is room for the notes of a callback, each part knows of as many tasks, the clock in
+-- nanoseconds is a number of 64 bits, and who is parked is throttled where that is known
 pub record IsKept (w : Inside) : Type 0 where
   pub notes : 4096 ≤ vec_capacity w.notes
   pub few_notes : length w.notes.items ≤ 4096

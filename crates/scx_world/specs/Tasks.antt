@@ -39,11 +39,16 @@ with_builtin x n = record x { builtin = n }
 
 -- a task that wakes waits from now on
 abbrev pub after_wake : WorldState → ℕ → WorldState
-after_wake w t = with_tree (with_task w t (with_since (task_at w t) (Some w.clock))) (tree.with_task w.tree t true)
+after_wake w t =
+    with_tree (with_task w t (with_since (task_at w t) (Some w.clock)))
+    (tree.with_task w.tree t true)
 
 -- a task that sleeps waits no more
 abbrev pub after_sleep : WorldState → ℕ → WorldState
-after_sleep w t = if nat_lt t (length w.tasks) then with_tree (with_task w t (with_since (task_at w t) None)) (tree.with_task w.tree t false) else w
+after_sleep w t =
+    if nat_lt t (length w.tasks)
+    then with_tree (with_task w t (with_since (task_at w t) None)) (tree.with_task w.tree t false)
+    else w
 
 -- the task leaves the queue in which it waits
 abbrev pub after_leave : WorldState → ℕ → WorldState
@@ -64,7 +69,11 @@ task_after_insert x i = given_vtime (given_slice x i.slice) i.rank
 
 -- a task goes into a queue, as an insert wants it to
 abbrev pub after_enter : WorldState → ℕ → Insert → WorldState
-after_enter w t i = if nat_lt t (length w.tasks) then with_queues (with_task w t (task_after_insert (task_at w t) i)) (after_push w.queues i.queue t i.rank) else w
+after_enter w t i =
+    if nat_lt t (length w.tasks)
+    then with_queues (with_task w t (task_after_insert (task_at w t) i))
+    (after_push w.queues i.queue t i.rank)
+    else w
 
 -- ---- inserts
 
@@ -116,7 +125,10 @@ on_cpu x c = with_since (with_prev_cpu x c) None
 -- that task, the front of the local queue, leaves it and runs on the processor; or none does
 abbrev pub started_at : Option ℕ → WorldState → ℕ → WorldState
 started_at None w c = w
-started_at (Some t) w c = with_cpu (with_task (with_queues w (after_pop w.queues (local_on c))) t (on_cpu (task_at w t) c)) c (Some t)
+started_at (Some t) w c =
+    with_cpu
+    (with_task (with_queues w (after_pop w.queues (local_on c))) t (on_cpu (task_at w t) c))
+    c (Some t)
 
 -- the front of the local queue runs
 abbrev pub after_start : WorldState → ℕ → WorldState
@@ -135,7 +147,11 @@ after_keep w (Some t) = with_task w t (with_new_slice (task_at w t))
 
 -- the task at hand may not run, and is parked: it waits no more
 abbrev pub put_parked : WorldState → ℕ → WorldState
-put_parked w t = if nat_lt t (length w.tasks) then with_queues (with_task w t (with_since (task_at w t) None)) (after_push w.queues parked_queue t Fifo) else w
+put_parked w t =
+    if nat_lt t (length w.tasks)
+    then with_queues (with_task w t (with_since (task_at w t) None))
+    (after_push w.queues parked_queue t Fifo)
+    else w
 
 -- the front of a queue leaves it
 abbrev pub after_take : WorldState → ℕ → WorldState
@@ -177,4 +193,5 @@ begun_periods w = with_tree w (limits.with_turn w.tree w.clock)
 
 -- a weight that can't be set changes nothing
 abbrev pub after_reweigh : WorldState → ℕ → ℕ → WorldState
-after_reweigh w g x = if is_none (weight_fault w.tree g x) then with_tree w (tree.with_weight w.tree g x) else w
+after_reweigh w g x =
+    if is_none (weight_fault w.tree g x) then with_tree w (tree.with_weight w.tree g x) else w

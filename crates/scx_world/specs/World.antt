@@ -96,8 +96,8 @@ waits_in (Some q) = not (q == parked_queue)
 abbrev pub waits : WorldState → ℕ → Bool
 waits w t = waits_in (queue_of w.queues t)
 
--- How long a task has waited: the clock less the clock at which it woke or was stopped last, or was let go
--- since. A task that runs, sleeps or is parked doesn't wait.
+-- How long a task has waited: the clock less the clock at which it woke or was stopped last, or was
+-- let go since. A task that runs, sleeps or is parked doesn't wait.
 abbrev pub wait : WorldState → ℕ → ℕ
 wait w t = time_since w.clock (task_at w t).since
 
@@ -155,7 +155,14 @@ default_choice w t =
 
 -- what is at hand before the first callback
 abbrev pub no_call : Call
-no_call = record { callback = callback.Plain; task = 0; cpu = 0; insert = None; has_moved = false; fault = None }
+no_call = record {
+  callback = callback.Plain;
+  task = 0;
+  cpu = 0;
+  insert = None;
+  has_moved = false;
+  fault = None;
+}
 
 -- no notes of a callback are left
 abbrev pub quiet : WorldState → WorldState
@@ -163,7 +170,14 @@ quiet w = with_notes w []
 
 -- a callback begins, with that task and processor at hand
 abbrev pub at_callback : WorldState → Callback → ℕ → ℕ → WorldState
-at_callback w b t c = with_call (quiet w) (record { callback = b; task = t; cpu = c; insert = None; has_moved = false; fault = None })
+at_callback w b t c = with_call (quiet w) (record {
+  callback = b;
+  task = t;
+  cpu = c;
+  insert = None;
+  has_moved = false;
+  fault = None;
+})
 
 -- what is noted now
 abbrev pub note_now : WorldState → What → Note
