@@ -4,7 +4,7 @@ are verified, how many lines of a trace are written, and how many instructions a
 run take, beside plain Rust that does the same work.
 
 Straight-line, branching and stack-heavy programs of 40, 400 and 4000 slots are worked on by the program of
-crates/scx_bench and by bench/plain.rs, in turn; for `asm` their text, in which jumps go to labels.
+crates/scx_tests_bench and by bench/plain.rs, in turn; for `asm` their text, in which jumps go to labels.
 Verified are programs of 4096 slots, once, 10 and 100 times: straight-line code, a ladder of 1023 diamonds
 (two sides of one slot each that meet again), and stores all over the stack. A figure is of the processor
 time of the best of some runs, of which the start of the process is taken off; from a verification also the
@@ -30,7 +30,7 @@ that is verified.
 
   bench/figures.py [--only WORK] [--scxsim PATH] [--bench PATH]
 
-Without --only all work is done. --scxsim is bin/scxsim where none is named; scx_bench is built where none is
+Without --only all work is done. --scxsim is bin/scxsim where none is named; scx_tests_bench is built where none is
 named and one is needed. Wants rustc, and valgrind for what is counted.
 """
 import argparse
@@ -174,9 +174,9 @@ def build():
     with tempfile.NamedTemporaryFile() as file:
         file.write(bytes.fromhex(EXIT[0][0]))
         file.flush()
-        folder = os.path.join(TOP, "crates", "scx_bench")
+        folder = os.path.join(TOP, "crates", "scx_tests_bench")
         subprocess.run(["rt", "run", "--", "decode", file.name, "1"], cwd=folder, check=True, capture_output=True)
-        return os.path.join(folder, "out", "scx_bench")
+        return os.path.join(folder, "out", "scx_tests_bench")
 
 
 def compare(binaries, path, work, before, runs):
@@ -312,7 +312,7 @@ def measure_counts(binaries, path):
 
 def callbacks_of_simple():
     """The texts of scx_simple's callbacks, without select_cpu, by the keys of a policy file."""
-    with open(os.path.join(TOP, "crates", "scx_examples", "src", "simple.rt")) as file:
+    with open(os.path.join(TOP, "crates", "scx_tests_examples", "src", "simple.rt")) as file:
         texts = re.findall(r'pub const (\w+): &str = "([^"]*)"', file.read())
     return {name.lower(): text for name, text in texts if name not in ("SELECT_CPU", "ENQUEUE_BY_VTIME")}
 
@@ -420,7 +420,7 @@ def compiled_plain(folder):
     return plain
 
 
-# Works of scx_bench, by what does them with it and plain Rust, and a path for a program.
+# Works of scx_tests_bench, by what does them with it and plain Rust, and a path for a program.
 OF_BENCH = {work: functools.partial(measure, work) for work in UNITS} | {
     "verify": measure_verify,
     "maps": measure_maps,

@@ -7,7 +7,7 @@ use std::hint::black_box;
 /// The texts of the callbacks, and that of the program that counts, each as `pub const NAME: &str =
 /// "TEXT";`.
 const TEXTS: &str =
-    concat!(include_str!("../crates/scx_examples/src/simple.rt"), include_str!("../crates/scx_bench/src/callbacks.rt"));
+    concat!(include_str!("../crates/scx_tests_examples/src/simple.rt"), include_str!("../crates/scx_tests_bench/src/callbacks.rt"));
 
 #[derive(Clone, Copy, PartialEq)]
 pub enum Callback {

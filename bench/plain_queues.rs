@@ -232,7 +232,7 @@ fn push(queues: &mut Queues, order: Order, task: u32, number: u64) -> Option<()>
     }
 }
 
-/// The number of `scx_bench queues_fifo TASKS TIMES`, or of `queues_vtime`.
+/// The number of `scx_tests_bench queues_fifo TASKS TIMES`, or of `queues_vtime`.
 pub fn go_round(order: Order, tasks: u32, times: u64) -> Option<u64> {
     let mut queues = Queues::new(1, tasks as usize);
     queues.create(0).ok()?;

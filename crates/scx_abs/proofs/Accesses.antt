@@ -1,41 +1,41 @@
 -- Loads and stores: the location that an address means, and what is read and written there.
 use Rattle.std.proofs.Common.{◌≡◌, ℕ, ◌+◌, ◌*◌, ◌/◌, ◌%◌, ◌<◌, ◌≤◌, ℤ, Bool, true, false, ◌&&◌, nat_eq, List, [], ◌∷◌, length, Option, Some, None, Result, Ok, Err, if◌then◌else◌, refl, sym, ap, ◌∙◌, arith}
 use Rattle.std.proofs.lemmas.Bool.{eqb-true, and_parts}
-use Rattle.scx_semantics.specs.declared.instructions.Operand.{Operand}
-use Rattle.scx_semantics.specs.declared.operations.Width.TheVariants.{Bits64}
-use Rattle.scx_semantics.specs.declared.operations.Size.{Size}
-use Rattle.scx_semantics.specs.declared.operations.Size.TheVariants as size
-use Rattle.scx_semantics.specs.declared.operations.Access.{Access}
-use Rattle.scx_semantics.specs.declared.operations.Access.TheVariants as access
-use Rattle.scx_semantics.specs.declared.host_tables.Field.{Field}
-use Rattle.scx_semantics.specs.declared.host_tables.Field.TheVariants.{Pid, Weight, Slice, DsqVtime, PrevCpu, Group, RunNs}
-use Rattle.scx_semantics.specs.declared.host_tables.TaskId.{TaskId}
-use Rattle.scx_semantics.specs.declared.values.Value.{Value}
-use Rattle.scx_semantics.specs.declared.values.Value.TheVariants as value
-use Rattle.scx_semantics.specs.declared.values.Pointer.TheVariants as pointer
-use Rattle.scx_semantics.specs.declared.values.StackByte.{StackByte}
-use Rattle.scx_semantics.specs.declared.registers.Register.{Register}
-use Rattle.scx_semantics.specs.Registers.{number}
-use Rattle.scx_semantics.specs.Arithmetic.{at_distance}
-use Rattle.scx_semantics.specs.Memory.{Stack, stack_size, aligned_within, bytes_at, write, number_bytes, parts, value_in, value_bytes, load, read_as, size_bytes, access_size}
-use Rattle.scx_semantics.specs.HostTables.{field_width, field_offset, found_field, field_at, is_writable}
-use Rattle.scx_semantics.specs.Elements.{Maps, element, number_at, with_element, with_number}
-use Rattle.scx_semantics.specs.Locations as location
-use Rattle.scx_semantics.specs.Locations.{Location, on_stack, in_element, in_task, address}
-use Rattle.scx_semantics.specs.Machine.{Machine, with_stack}
-use Rattle.scx_semantics.specs.Effects as effect
-use Rattle.scx_semantics.specs.Effects.{set_register, set_register_by_answer}
-use Rattle.scx_semantics.specs.Meaning.{operand_value, is_plain, load_effect, store_effect}
-use Rattle.scx_semantics.proofs.Bytes.{with_number_bytes, with_element_bytes}
-use Rattle.scx_encoding.specs.Spelling.{IsOperand}
+use Rattle.scx_isa_semantics.specs.declared.instructions.Operand.{Operand}
+use Rattle.scx_isa_semantics.specs.declared.operations.Width.TheVariants.{Bits64}
+use Rattle.scx_isa_semantics.specs.declared.operations.Size.{Size}
+use Rattle.scx_isa_semantics.specs.declared.operations.Size.TheVariants as size
+use Rattle.scx_isa_semantics.specs.declared.operations.Access.{Access}
+use Rattle.scx_isa_semantics.specs.declared.operations.Access.TheVariants as access
+use Rattle.scx_isa_semantics.specs.declared.host_tables.Field.{Field}
+use Rattle.scx_isa_semantics.specs.declared.host_tables.Field.TheVariants.{Pid, Weight, Slice, DsqVtime, PrevCpu, Group, RunNs}
+use Rattle.scx_isa_semantics.specs.declared.host_tables.TaskId.{TaskId}
+use Rattle.scx_isa_semantics.specs.declared.values.Value.{Value}
+use Rattle.scx_isa_semantics.specs.declared.values.Value.TheVariants as value
+use Rattle.scx_isa_semantics.specs.declared.values.Pointer.TheVariants as pointer
+use Rattle.scx_isa_semantics.specs.declared.values.StackByte.{StackByte}
+use Rattle.scx_isa_semantics.specs.declared.registers.Register.{Register}
+use Rattle.scx_isa_semantics.specs.Registers.{number}
+use Rattle.scx_isa_semantics.specs.Arithmetic.{at_distance}
+use Rattle.scx_isa_semantics.specs.Memory.{Stack, stack_size, aligned_within, bytes_at, write, number_bytes, parts, value_in, value_bytes, load, read_as, size_bytes, access_size}
+use Rattle.scx_isa_semantics.specs.HostTables.{field_width, field_offset, found_field, field_at, is_writable}
+use Rattle.scx_isa_semantics.specs.Elements.{Maps, element, number_at, with_element, with_number}
+use Rattle.scx_isa_semantics.specs.Locations as location
+use Rattle.scx_isa_semantics.specs.Locations.{Location, on_stack, in_element, in_task, address}
+use Rattle.scx_isa_semantics.specs.Machine.{Machine, with_stack}
+use Rattle.scx_isa_semantics.specs.Effects as effect
+use Rattle.scx_isa_semantics.specs.Effects.{set_register, set_register_by_answer}
+use Rattle.scx_isa_semantics.specs.Meaning.{operand_value, is_plain, load_effect, store_effect}
+use Rattle.scx_isa_semantics.proofs.Bytes.{with_number_bytes, with_element_bytes}
+use Rattle.scx_isa_encoding.specs.Spelling.{IsOperand}
 use Rattle.scx_maps.specs.declared.shape.Shape.{Shape}
 use Rattle.scx_maps.specs.Contents.{HasShapes}
 use Rattle.scx_abs.specs.declared.faults.Why.{Why}
 use Rattle.scx_abs.specs.declared.faults.Why.TheVariants.{UnwrittenStack, TaskField}
-use Rattle.scx_ranges.specs.declared.ranges.Range.{Range}
-use Rattle.scx_ranges.specs.Ranges.{IsIn, IsWellFormed}
-use Rattle.scx_ranges.specs.Results as results
-use Rattle.scx_ranges.proofs.AllWidths.{loads_are_sound}
+use Rattle.scx_abs_ranges.specs.declared.ranges.Range.{Range}
+use Rattle.scx_abs_ranges.specs.Ranges.{IsIn, IsWellFormed}
+use Rattle.scx_abs_ranges.specs.Results as results
+use Rattle.scx_abs_ranges.proofs.AllWidths.{loads_are_sound}
 use Rattle.scx_abs.specs.declared.kinds.Kind.{Kind}
 use Rattle.scx_abs.specs.declared.kinds.Kind.TheVariants as kind
 use Rattle.scx_abs.specs.declared.kinds.Kind.TheVariants.{Unusable, Num, Elem, Task}
@@ -50,7 +50,7 @@ use Rattle.scx_abs.specs.Kinds.{IsProperKind, IsUsable}
 use Rattle.scx_abs.specs.Cells.{kind_of, held_of, with_bytes, all_written, written_in}
 use Rattle.scx_abs.specs.States.{kind_at, cell_at, with_cell, IsProper}
 use Rattle.scx_abs.specs.Stands.{HasElement, Stands, IsByte, CellStands, IsMember}
-use Rattle.scx_semantics.specs.Results.{◌>>=◌}
+use Rattle.scx_isa_semantics.specs.Results.{◌>>=◌}
 use Rattle.scx_abs.specs.Checks.{goes_on, usable, operand_kind, sets, offset_for, offsets_for}
 use Rattle.scx_abs.specs.Rules.{area_of, field_area, loaded_kind, kind_in, load_kind, pointer_cell, number_stored, stored_in, store_rule}
 use Rattle.scx_abs.specs.Laws.{IsSoundFor}

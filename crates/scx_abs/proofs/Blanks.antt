@@ -2,7 +2,7 @@
 use Rattle.std.proofs.Common.{◌≡◌, ℕ, zero, suc, ◌<◌, ◌≤◌, List, [], ◌++◌, ◌-◌, length, take, drop, replicate, slice_index_or, refl, sym, ap, ◌∙◌, arith}
 use Rattle.std.proofs.lemmas.List.{get_or-set_other, get_or-take, length-take-le, length-drop, take_all, drop_all, take-append-drop, append-nil, ext_get_or}
 use borrow.Rule.Slice.PartMut.{put_mid, mid_of}
-use Rattle.scx_semantics.specs.declared.callbacks.Callback.{Callback}
+use Rattle.scx_isa_semantics.specs.declared.callbacks.Callback.{Callback}
 use Rattle.scx_abs.specs.declared.kinds.Cell.{Cell}
 use Rattle.scx_abs.specs.declared.kinds.Cell.TheVariants.{Bytes}
 use Rattle.scx_abs.specs.declared.states.AbsState.{AbsState}

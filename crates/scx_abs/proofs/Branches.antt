@@ -2,38 +2,38 @@
 -- each side what a pointer is.
 use Rattle.std.proofs.Common.{◌≡◌, ℕ, ◌≤◌, ℤ, pos, negsuc, unsigned_abs, Bool, true, false, not, nat_eq, List, Option, Some, None, option_map, Ok, if◌then◌else◌, refl, sym, ap, ◌∙◌, subst, arith}
 use Rattle.std.proofs.lemmas.Bool.{eqb-true, eq-eqb}
-use Rattle.scx_semantics.specs.declared.instructions.Operand.{Operand}
-use Rattle.scx_semantics.specs.declared.instructions.Operand.TheVariants as operand
-use Rattle.scx_semantics.specs.declared.operations.Width.{Width}
-use Rattle.scx_semantics.specs.declared.operations.Width.TheVariants.{Bits32, Bits64}
-use Rattle.scx_semantics.specs.declared.operations.Comparison.{Comparison}
-use Rattle.scx_semantics.specs.declared.operations.Comparison.TheVariants.{Equal, NotEqual}
-use Rattle.scx_semantics.specs.declared.values.Value.{Value}
-use Rattle.scx_semantics.specs.declared.values.Value.TheVariants as value
-use Rattle.scx_semantics.specs.declared.values.Pointer as pointers
-use Rattle.scx_semantics.specs.declared.values.Pointer.TheVariants as pointer
-use Rattle.scx_semantics.specs.declared.registers.Register.{Register}
-use Rattle.scx_semantics.specs.Registers.{number}
-use Rattle.scx_semantics.specs.Arithmetic.{immediate, compares}
-use Rattle.scx_semantics.specs.Elements.{Maps}
-use Rattle.scx_semantics.specs.Machine.{Machine}
-use Rattle.scx_semantics.specs.Effects.{branch}
-use Rattle.scx_semantics.specs.Meaning.{operand_value, numbers_compared, comparison_answer}
-use Rattle.scx_encoding.specs.Spelling.{IsOperand}
+use Rattle.scx_isa_semantics.specs.declared.instructions.Operand.{Operand}
+use Rattle.scx_isa_semantics.specs.declared.instructions.Operand.TheVariants as operand
+use Rattle.scx_isa_semantics.specs.declared.operations.Width.{Width}
+use Rattle.scx_isa_semantics.specs.declared.operations.Width.TheVariants.{Bits32, Bits64}
+use Rattle.scx_isa_semantics.specs.declared.operations.Comparison.{Comparison}
+use Rattle.scx_isa_semantics.specs.declared.operations.Comparison.TheVariants.{Equal, NotEqual}
+use Rattle.scx_isa_semantics.specs.declared.values.Value.{Value}
+use Rattle.scx_isa_semantics.specs.declared.values.Value.TheVariants as value
+use Rattle.scx_isa_semantics.specs.declared.values.Pointer as pointers
+use Rattle.scx_isa_semantics.specs.declared.values.Pointer.TheVariants as pointer
+use Rattle.scx_isa_semantics.specs.declared.registers.Register.{Register}
+use Rattle.scx_isa_semantics.specs.Registers.{number}
+use Rattle.scx_isa_semantics.specs.Arithmetic.{immediate, compares}
+use Rattle.scx_isa_semantics.specs.Elements.{Maps}
+use Rattle.scx_isa_semantics.specs.Machine.{Machine}
+use Rattle.scx_isa_semantics.specs.Effects.{branch}
+use Rattle.scx_isa_semantics.specs.Meaning.{operand_value, numbers_compared, comparison_answer}
+use Rattle.scx_isa_encoding.specs.Spelling.{IsOperand}
 use Rattle.scx_maps.specs.declared.shape.Shape.{Shape}
-use Rattle.scx_ranges.specs.declared.ranges.Range.{Range}
-use Rattle.scx_ranges.specs.Ranges.{IsIn, IsRange, single, is_single}
-use Rattle.scx_ranges.specs.Cuts.{cut}
-use Rattle.scx_ranges.specs.Laws.{IsInCut}
-use Rattle.scx_ranges.proofs.Multiples.{in_single}
-use Rattle.scx_ranges.proofs.KeptByCuts.{cuts_keep}
+use Rattle.scx_abs_ranges.specs.declared.ranges.Range.{Range}
+use Rattle.scx_abs_ranges.specs.Ranges.{IsIn, IsRange, single, is_single}
+use Rattle.scx_abs_ranges.specs.Cuts.{cut}
+use Rattle.scx_abs_ranges.specs.Laws.{IsInCut}
+use Rattle.scx_abs_ranges.proofs.Multiples.{in_single}
+use Rattle.scx_abs_ranges.proofs.KeptByCuts.{cuts_keep}
 use Rattle.scx_abs.specs.declared.kinds.Kind.{Kind}
 use Rattle.scx_abs.specs.declared.kinds.Kind.TheVariants.{Unusable, Num, Elem, ElemOrNull, Task, TaskOrNull}
 use Rattle.scx_abs.specs.declared.states.AbsState.{AbsState}
 use Rattle.scx_abs.specs.Kinds.{IsProperKind, IsUsable}
 use Rattle.scx_abs.specs.States.{kind_at, with_kind, IsProper}
 use Rattle.scx_abs.specs.Stands.{Stands, IsMember}
-use Rattle.scx_semantics.specs.Results.{◌>>=◌}
+use Rattle.scx_isa_semantics.specs.Results.{◌>>=◌}
 use Rattle.scx_abs.specs.Checks.{flows, usable, operand_kind}
 use Rattle.scx_abs.specs.Rules as rules
 use Rattle.scx_abs.specs.Rules.{null_test, if_null, if_not_null, null_test_rule, side, sides, jump_rule}

@@ -3,19 +3,19 @@
 use Rattle.std.proofs.Common.{◌≡◌, ℕ, zero, suc, ◌+◌, ◌*◌, ◌/◌, ◌%◌, ◌^◌, ◌<◌, ◌≤◌, Bool, true, false, ◌&&◌, ◌||◌, nat_eq, nat_le, nat_lt, List, [], ◌∷◌, length, drop, slice_index, Option, Some, option_map, if◌then◌else◌, ◌⊎◌, inl, inr, refl, sym, ap, ◌∙◌, arith}
 use Rattle.std.proofs.lemmas.Bool.{eqb-false, eq-eqb, ne_eqb, and_parts, or_cases, leb-true, ltb-true}
 use Rattle.std.proofs.lemmas.List.Elements.{All-drop}
-use Rattle.scx_semantics.specs.declared.values.Value.{Value}
-use Rattle.scx_semantics.specs.declared.values.Value.TheVariants as value
-use Rattle.scx_semantics.specs.declared.values.Pointer as pointers
-use Rattle.scx_semantics.specs.declared.values.Pointer.TheVariants as pointer
-use Rattle.scx_semantics.specs.declared.values.StackByte.{StackByte}
-use Rattle.scx_semantics.specs.declared.values.StackByte.TheVariants as byte
-use Rattle.scx_semantics.specs.declared.operations.Size.{Size}
-use Rattle.scx_semantics.specs.declared.operations.Size.TheVariants as size
-use Rattle.scx_semantics.specs.declared.operations.Access.TheVariants as access
+use Rattle.scx_isa_semantics.specs.declared.values.Value.{Value}
+use Rattle.scx_isa_semantics.specs.declared.values.Value.TheVariants as value
+use Rattle.scx_isa_semantics.specs.declared.values.Pointer as pointers
+use Rattle.scx_isa_semantics.specs.declared.values.Pointer.TheVariants as pointer
+use Rattle.scx_isa_semantics.specs.declared.values.StackByte.{StackByte}
+use Rattle.scx_isa_semantics.specs.declared.values.StackByte.TheVariants as byte
+use Rattle.scx_isa_semantics.specs.declared.operations.Size.{Size}
+use Rattle.scx_isa_semantics.specs.declared.operations.Size.TheVariants as size
+use Rattle.scx_isa_semantics.specs.declared.operations.Access.TheVariants as access
 use Rattle.byteorder.specs.Endian.{little_from}
-use Rattle.scx_semantics.specs.Elements.{Maps, AreBytes, number_at}
-use Rattle.scx_semantics.specs.Memory.{Stack, bytes_at, write, number_bytes, number_in, pointer_in, same_pointer, parts, value_in, number_or_pointer, value_bytes, size_bytes}
-use Rattle.scx_semantics.proofs.Bytes.{IsSmall, bytes_at_small, number_in_below}
+use Rattle.scx_isa_semantics.specs.Elements.{Maps, AreBytes, number_at}
+use Rattle.scx_isa_semantics.specs.Memory.{Stack, bytes_at, write, number_bytes, number_in, pointer_in, same_pointer, parts, value_in, number_or_pointer, value_bytes, size_bytes}
+use Rattle.scx_isa_semantics.proofs.Bytes.{IsSmall, bytes_at_small, number_in_below}
 use Rattle.scx_abs.specs.declared.kinds.Kind.{Kind}
 use Rattle.scx_abs.specs.declared.kinds.Held.{Held}
 use Rattle.scx_abs.specs.declared.kinds.Held.TheVariants as held

@@ -4,22 +4,22 @@ use Rattle.std.proofs.Common.{◌≡◌, ℕ, zero, suc, ◌+◌, ◌*◌, ◌%�
 use Rattle.std.proofs.lemmas.Bool.{eqb-true, eq-eqb, leb-true, le-leb, and_from}
 use Rattle.std.proofs.lemmas.Option.{slice_get_cases}
 use Rattle.std.proofs.lemmas.List.{length-map}
-use Rattle.scx_semantics.specs.declared.operations.Size.{Size}
-use Rattle.scx_semantics.specs.declared.values.Value.{Value}
-use Rattle.scx_semantics.specs.declared.values.Value.TheVariants as value
-use Rattle.scx_semantics.specs.declared.values.Pointer.TheVariants as pointer
-use Rattle.scx_semantics.specs.Arithmetic.{at_distance}
-use Rattle.scx_semantics.specs.Memory.{Stack, within, aligned_within, size_bytes}
-use Rattle.scx_semantics.specs.Elements.{Maps, elements, element, with_element, with_number, HoldBytes}
-use Rattle.scx_semantics.specs.Machine.{Machine, with_maps}
+use Rattle.scx_isa_semantics.specs.declared.operations.Size.{Size}
+use Rattle.scx_isa_semantics.specs.declared.values.Value.{Value}
+use Rattle.scx_isa_semantics.specs.declared.values.Value.TheVariants as value
+use Rattle.scx_isa_semantics.specs.declared.values.Pointer.TheVariants as pointer
+use Rattle.scx_isa_semantics.specs.Arithmetic.{at_distance}
+use Rattle.scx_isa_semantics.specs.Memory.{Stack, within, aligned_within, size_bytes}
+use Rattle.scx_isa_semantics.specs.Elements.{Maps, elements, element, with_element, with_number, HoldBytes}
+use Rattle.scx_isa_semantics.specs.Machine.{Machine, with_maps}
 use Rattle.scx_maps.specs.declared.shape.Shape.{Shape}
 use Rattle.scx_maps.specs.Contents.{lengths, lengths_of, HasShapes}
-use Rattle.scx_semantics.proofs.Bytes.{length-with_number}
+use Rattle.scx_isa_semantics.proofs.Bytes.{length-with_number}
 use Rattle.scx_maps.proofs.Shaped.{length-entries-shaped, length-value-shaped, length-shaped, lengths_of-with_value}
-use Rattle.scx_ranges.specs.declared.ranges.Range.{Range}
-use Rattle.scx_ranges.specs.Ranges.{IsIn, IsWellFormed}
-use Rattle.scx_ranges.specs.Offsets.{are_inside, are_aligned}
-use Rattle.scx_ranges.proofs.ElementOffsets.{inside_is_exact, aligned_is_exact}
+use Rattle.scx_abs_ranges.specs.declared.ranges.Range.{Range}
+use Rattle.scx_abs_ranges.specs.Ranges.{IsIn, IsWellFormed}
+use Rattle.scx_abs_ranges.specs.Offsets.{are_inside, are_aligned}
+use Rattle.scx_abs_ranges.proofs.ElementOffsets.{inside_is_exact, aligned_is_exact}
 use Rattle.scx_abs.specs.declared.faults.Why.{Why}
 use Rattle.scx_abs.specs.declared.faults.Why.TheVariants.{OutOfBounds, Misaligned}
 use Rattle.scx_abs.specs.declared.kinds.Kind.{Kind}

@@ -1,31 +1,31 @@
 -- Helper calls: what the checks pass the helper takes, and the state after a call.
 use Rattle.std.proofs.Common.{◌≡◌, ℕ, ◌+◌, ◌*◌, ◌/◌, ◌%◌, ◌≤◌, Bool, true, false, ◌&&◌, nat_lt, pos, List, [], ◌∷◌, length, Option, Some, None, is_some, Result, Ok, Err, if◌then◌else◌, refl, ◌∙◌, arith}
 use Rattle.std.proofs.lemmas.Bool.{and_parts, and_from, lt-ltb, ltb-true}
-use Rattle.scx_semantics.specs.declared.operations.Access.TheVariants as access
-use Rattle.scx_semantics.specs.declared.operations.Size.TheVariants as sizes
-use Rattle.scx_semantics.specs.declared.callbacks.Callback.{Callback}
-use Rattle.scx_semantics.specs.declared.host_tables.Helper.{Helper}
-use Rattle.scx_semantics.specs.declared.host_tables.Helper.TheVariants as helper
-use Rattle.scx_semantics.specs.declared.host_tables.Parameter.{Parameter}
-use Rattle.scx_semantics.specs.declared.host_tables.Parameter.TheVariants as parameter
-use Rattle.scx_semantics.specs.declared.values.Value.{Value}
-use Rattle.scx_semantics.specs.declared.values.Value.TheVariants as value
-use Rattle.scx_semantics.specs.declared.values.Pointer.TheVariants as pointer
-use Rattle.scx_semantics.specs.Arithmetic.{at_distance}
-use Rattle.scx_semantics.specs.Memory.{Stack, stack_size, aligned_within, load}
-use Rattle.scx_semantics.specs.HostTables.{parameters, is_allowed}
-use Rattle.scx_semantics.specs.Elements.{Maps, elements, element}
-use Rattle.scx_semantics.specs.Locations as location
-use Rattle.scx_semantics.specs.Locations.{on_stack, in_element, address}
-use Rattle.scx_semantics.specs.Machine.{Machine, with_register}
-use Rattle.scx_semantics.specs.Effects as effect
-use Rattle.scx_semantics.specs.Calls as meaning
-use Rattle.scx_semantics.specs.Calls.{number_of, key_at, key, takes_all, arguments, element_or_0, looked_up, call_effect, call_helper}
+use Rattle.scx_isa_semantics.specs.declared.operations.Access.TheVariants as access
+use Rattle.scx_isa_semantics.specs.declared.operations.Size.TheVariants as sizes
+use Rattle.scx_isa_semantics.specs.declared.callbacks.Callback.{Callback}
+use Rattle.scx_isa_semantics.specs.declared.host_tables.Helper.{Helper}
+use Rattle.scx_isa_semantics.specs.declared.host_tables.Helper.TheVariants as helper
+use Rattle.scx_isa_semantics.specs.declared.host_tables.Parameter.{Parameter}
+use Rattle.scx_isa_semantics.specs.declared.host_tables.Parameter.TheVariants as parameter
+use Rattle.scx_isa_semantics.specs.declared.values.Value.{Value}
+use Rattle.scx_isa_semantics.specs.declared.values.Value.TheVariants as value
+use Rattle.scx_isa_semantics.specs.declared.values.Pointer.TheVariants as pointer
+use Rattle.scx_isa_semantics.specs.Arithmetic.{at_distance}
+use Rattle.scx_isa_semantics.specs.Memory.{Stack, stack_size, aligned_within, load}
+use Rattle.scx_isa_semantics.specs.HostTables.{parameters, is_allowed}
+use Rattle.scx_isa_semantics.specs.Elements.{Maps, elements, element}
+use Rattle.scx_isa_semantics.specs.Locations as location
+use Rattle.scx_isa_semantics.specs.Locations.{on_stack, in_element, address}
+use Rattle.scx_isa_semantics.specs.Machine.{Machine, with_register}
+use Rattle.scx_isa_semantics.specs.Effects as effect
+use Rattle.scx_isa_semantics.specs.Calls as meaning
+use Rattle.scx_isa_semantics.specs.Calls.{number_of, key_at, key, takes_all, arguments, element_or_0, looked_up, call_effect, call_helper}
 use Rattle.scx_maps.specs.declared.shape.Shape.{Shape}
 use Rattle.scx_abs.specs.declared.faults.Why.{Why}
 use Rattle.scx_abs.specs.declared.faults.Why.TheVariants.{UnwrittenStack, HelperNotHere}
-use Rattle.scx_ranges.specs.declared.ranges.Range.{Range}
-use Rattle.scx_ranges.specs.Ranges.{IsIn, IsWellFormed, all}
+use Rattle.scx_abs_ranges.specs.declared.ranges.Range.{Range}
+use Rattle.scx_abs_ranges.specs.Ranges.{IsIn, IsWellFormed, all}
 use Rattle.scx_abs.specs.declared.kinds.Kind.{Kind}
 use Rattle.scx_abs.specs.declared.kinds.Kind.TheVariants as kind
 use Rattle.scx_abs.specs.declared.kinds.Kind.TheVariants.{Unusable, Num, Elem, ElemOrNull, Task, TaskOrNull, MapRef}
@@ -36,7 +36,7 @@ use Rattle.scx_abs.specs.Cells.{no_bytes, all_written, written_in}
 use Rattle.scx_abs.specs.Kinds.{IsProperKind}
 use Rattle.scx_abs.specs.States.{kind_at, cell_at, with_kind, IsProper}
 use Rattle.scx_abs.specs.Stands.{Stands, CellStands, IsMember}
-use Rattle.scx_semantics.specs.Results.{◌>>=◌}
+use Rattle.scx_isa_semantics.specs.Results.{◌>>=◌}
 use Rattle.scx_abs.specs.Checks.{goes_on, offsets_for}
 use Rattle.scx_abs.specs.Calls as rules
 use Rattle.scx_abs.specs.Calls.{key_in, key_check, argument_check, arguments_check, element_of, answer_kind, call_allowed, call_rule}

@@ -1,28 +1,28 @@
 -- Loads and stores in a state and in one that it covers.
 use Rattle.std.proofs.Common.{◌≡◌, ℕ, zero, suc, ◌+◌, ◌/◌, ◌%◌, ◌<◌, ◌≤◌, ◌⊎◌, inl, inr, ℤ, Bool, true, false, ◌&&◌, ◌||◌, nat_le, nat_lt, List, Option, Some, None, Result, Ok, Err, if◌then◌else◌, refl, sym, ap, subst, ◌∙◌, arith}
 use Rattle.std.proofs.lemmas.Bool.{and_parts, and_from, or_cases, or_right}
-use Rattle.scx_semantics.specs.declared.instructions.Operand.{Operand}
-use Rattle.scx_semantics.specs.declared.operations.Width.TheVariants.{Bits64}
-use Rattle.scx_semantics.specs.declared.operations.Size.{Size}
-use Rattle.scx_semantics.specs.declared.operations.Size.TheVariants as size
-use Rattle.scx_semantics.specs.declared.operations.Access.{Access}
-use Rattle.scx_semantics.specs.declared.operations.Access.TheVariants as access
-use Rattle.scx_semantics.specs.declared.registers.Register.{Register}
-use Rattle.scx_semantics.specs.Registers.{number}
-use Rattle.scx_semantics.specs.Arithmetic.{at_distance}
-use Rattle.scx_semantics.specs.Memory.{size_bytes, access_size, stack_size}
-use Rattle.scx_semantics.specs.declared.host_tables.Field.{Field}
-use Rattle.scx_semantics.specs.HostTables.{is_writable, field_at}
-use Rattle.scx_semantics.specs.Meaning.{is_plain}
-use Rattle.scx_encoding.specs.Spelling.{IsOperand}
+use Rattle.scx_isa_semantics.specs.declared.instructions.Operand.{Operand}
+use Rattle.scx_isa_semantics.specs.declared.operations.Width.TheVariants.{Bits64}
+use Rattle.scx_isa_semantics.specs.declared.operations.Size.{Size}
+use Rattle.scx_isa_semantics.specs.declared.operations.Size.TheVariants as size
+use Rattle.scx_isa_semantics.specs.declared.operations.Access.{Access}
+use Rattle.scx_isa_semantics.specs.declared.operations.Access.TheVariants as access
+use Rattle.scx_isa_semantics.specs.declared.registers.Register.{Register}
+use Rattle.scx_isa_semantics.specs.Registers.{number}
+use Rattle.scx_isa_semantics.specs.Arithmetic.{at_distance}
+use Rattle.scx_isa_semantics.specs.Memory.{size_bytes, access_size, stack_size}
+use Rattle.scx_isa_semantics.specs.declared.host_tables.Field.{Field}
+use Rattle.scx_isa_semantics.specs.HostTables.{is_writable, field_at}
+use Rattle.scx_isa_semantics.specs.Meaning.{is_plain}
+use Rattle.scx_isa_encoding.specs.Spelling.{IsOperand}
 use Rattle.scx_maps.specs.declared.shape.Shape.{Shape}
 use Rattle.scx_abs.specs.declared.faults.Why.{Why}
 use Rattle.scx_abs.specs.declared.faults.Why.TheVariants.{UnwrittenStack, OutOfBounds, Misaligned, TaskField}
-use Rattle.scx_ranges.specs.declared.ranges.Range.{Range}
-use Rattle.scx_ranges.specs.Ranges.{IsWellFormed, CoversRange}
-use Rattle.scx_ranges.specs.Offsets.{are_inside, are_aligned}
-use Rattle.scx_ranges.proofs.ElementOffsets.{accesses_are_monotone}
-use Rattle.scx_ranges.specs.Results.{loaded_range}
+use Rattle.scx_abs_ranges.specs.declared.ranges.Range.{Range}
+use Rattle.scx_abs_ranges.specs.Ranges.{IsWellFormed, CoversRange}
+use Rattle.scx_abs_ranges.specs.Offsets.{are_inside, are_aligned}
+use Rattle.scx_abs_ranges.proofs.ElementOffsets.{accesses_are_monotone}
+use Rattle.scx_abs_ranges.specs.Results.{loaded_range}
 use Rattle.scx_abs.specs.declared.kinds.Kind.{Kind}
 use Rattle.scx_abs.specs.declared.kinds.Kind.TheVariants as kind
 use Rattle.scx_abs.specs.declared.kinds.Kind.TheVariants.{Unusable, Num, Elem, Task}
@@ -35,7 +35,7 @@ use Rattle.scx_abs.specs.Kinds.{CoversKind}
 use Rattle.scx_abs.specs.Cells.{is_written, no_bytes, with_bytes, all_written, written_in, IsPartOf, CoversCell}
 use Rattle.scx_abs.specs.States.{CoversState, IsProper, kind_at, cell_at, with_cell}
 use Rattle.scx_abs.specs.Areas.{IsAlignedWithin, IsAlignedOnStack}
-use Rattle.scx_semantics.specs.Results.{◌>>=◌}
+use Rattle.scx_isa_semantics.specs.Results.{◌>>=◌}
 use Rattle.scx_abs.specs.Checks.{goes_on, usable, operand_kind, element_size, offset_for, offsets_for}
 use Rattle.scx_abs.specs.Rules.{field_area, area_of, loaded_kind, kind_in, load_kind, stored_cell, number_stored, stored_in, store_rule}
 use Rattle.scx_abs.specs.Monotone.{PassesToo, CoversFlows}

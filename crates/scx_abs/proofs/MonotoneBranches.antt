@@ -1,24 +1,24 @@
 -- Comparisons in a state and in one that it covers.
 use Rattle.std.proofs.Common.{◌≡◌, ℕ, ◌≤◌, Bool, true, false, Option, Some, None, option_map, if◌then◌else◌, refl, sym, ap, ◌∙◌, arith}
 use Rattle.std.proofs.lemmas.Bool.{eqb-true, eq-eqb, both_ways}
-use Rattle.scx_semantics.specs.declared.instructions.Operand.{Operand}
-use Rattle.scx_semantics.specs.declared.operations.Width.{Width}
-use Rattle.scx_semantics.specs.declared.operations.Width.TheVariants.{Bits32, Bits64}
-use Rattle.scx_semantics.specs.declared.operations.Comparison.{Comparison}
-use Rattle.scx_semantics.specs.declared.registers.Register.{Register}
-use Rattle.scx_semantics.specs.Registers.{number}
-use Rattle.scx_ranges.specs.declared.ranges.Range.{Range}
-use Rattle.scx_ranges.specs.Ranges.{IsWellFormed, IsRange, CoversRange, trailing, single, is_single}
-use Rattle.scx_ranges.specs.Cuts.{cut}
-use Rattle.scx_ranges.specs.Laws.{CoversCut}
-use Rattle.scx_ranges.proofs.GrowingCuts.{cuts_grow, cuts_narrow}
+use Rattle.scx_isa_semantics.specs.declared.instructions.Operand.{Operand}
+use Rattle.scx_isa_semantics.specs.declared.operations.Width.{Width}
+use Rattle.scx_isa_semantics.specs.declared.operations.Width.TheVariants.{Bits32, Bits64}
+use Rattle.scx_isa_semantics.specs.declared.operations.Comparison.{Comparison}
+use Rattle.scx_isa_semantics.specs.declared.registers.Register.{Register}
+use Rattle.scx_isa_semantics.specs.Registers.{number}
+use Rattle.scx_abs_ranges.specs.declared.ranges.Range.{Range}
+use Rattle.scx_abs_ranges.specs.Ranges.{IsWellFormed, IsRange, CoversRange, trailing, single, is_single}
+use Rattle.scx_abs_ranges.specs.Cuts.{cut}
+use Rattle.scx_abs_ranges.specs.Laws.{CoversCut}
+use Rattle.scx_abs_ranges.proofs.GrowingCuts.{cuts_grow, cuts_narrow}
 use Rattle.scx_abs.specs.declared.kinds.Kind.{Kind}
 use Rattle.scx_abs.specs.declared.kinds.Kind.TheVariants.{Unusable, Num, Elem, ElemOrNull, Task, TaskOrNull}
 use Rattle.scx_abs.specs.declared.states.AbsState.{AbsState}
-use Rattle.scx_encoding.specs.Spelling.{IsOperand}
+use Rattle.scx_isa_encoding.specs.Spelling.{IsOperand}
 use Rattle.scx_abs.specs.Kinds.{CoversKind, IsProperKind}
 use Rattle.scx_abs.specs.States.{CoversState, IsProper, kind_at, with_kind}
-use Rattle.scx_semantics.specs.Results.{◌>>=◌}
+use Rattle.scx_isa_semantics.specs.Results.{◌>>=◌}
 use Rattle.scx_abs.specs.Checks.{flows, usable, operand_kind}
 use Rattle.scx_abs.specs.Rules.{null_test, if_null, if_not_null, null_test_rule, side, sides, numbers_compared, comparison_rule, jump_rule}
 use Rattle.scx_abs.specs.Monotone.{PassesToo, CoversIfAny, CoversFlows}

@@ -1,16 +1,16 @@
 -- Helper calls in a state and in one that it covers.
 use Rattle.std.proofs.Common.{ℕ, pos, ◌+◌, ◌/◌, ◌%◌, true, false, List, [], ◌∷◌, Option, Some, None, Err, if◌then◌else◌, arith}
-use Rattle.scx_semantics.specs.declared.operations.Size.TheVariants as size
-use Rattle.scx_semantics.specs.declared.callbacks.Callback.{Callback}
-use Rattle.scx_semantics.specs.Memory.{stack_size}
-use Rattle.scx_semantics.specs.declared.host_tables.Helper.{Helper}
-use Rattle.scx_semantics.specs.declared.host_tables.Helper.TheVariants as helper
-use Rattle.scx_semantics.specs.declared.host_tables.Parameter.{Parameter}
-use Rattle.scx_semantics.specs.declared.host_tables.Parameter.TheVariants as parameter
-use Rattle.scx_semantics.specs.HostTables.{parameters, is_allowed}
+use Rattle.scx_isa_semantics.specs.declared.operations.Size.TheVariants as size
+use Rattle.scx_isa_semantics.specs.declared.callbacks.Callback.{Callback}
+use Rattle.scx_isa_semantics.specs.Memory.{stack_size}
+use Rattle.scx_isa_semantics.specs.declared.host_tables.Helper.{Helper}
+use Rattle.scx_isa_semantics.specs.declared.host_tables.Helper.TheVariants as helper
+use Rattle.scx_isa_semantics.specs.declared.host_tables.Parameter.{Parameter}
+use Rattle.scx_isa_semantics.specs.declared.host_tables.Parameter.TheVariants as parameter
+use Rattle.scx_isa_semantics.specs.HostTables.{parameters, is_allowed}
 use Rattle.scx_maps.specs.declared.shape.Shape.{Shape}
 use Rattle.scx_abs.specs.declared.faults.Why.TheVariants.{HelperNotHere}
-use Rattle.scx_ranges.specs.Ranges.{all}
+use Rattle.scx_abs_ranges.specs.Ranges.{all}
 use Rattle.scx_abs.specs.declared.kinds.Kind.{Kind}
 use Rattle.scx_abs.specs.declared.kinds.Kind.TheVariants as kind
 use Rattle.scx_abs.specs.declared.kinds.Kind.TheVariants.{Unusable, Num, Elem, Task, MapRef}

@@ -1,29 +1,29 @@
 -- Arithmetic on kinds and on kinds that they cover.
 use Rattle.std.proofs.Common.{◌≡◌, ℕ, ℤ, List, Option, Some, None, refl}
-use Rattle.scx_semantics.specs.declared.instructions.Operand.{Operand}
-use Rattle.scx_semantics.specs.declared.instructions.Operand.TheVariants as operand
-use Rattle.scx_semantics.specs.declared.operations.Width.{Width}
-use Rattle.scx_semantics.specs.declared.operations.Width.TheVariants.{Bits32, Bits64}
-use Rattle.scx_semantics.specs.declared.operations.Operation.{Operation}
-use Rattle.scx_semantics.specs.declared.operations.Operation.TheVariants.{Add, Move}
-use Rattle.scx_semantics.specs.declared.registers.Register.{Register}
-use Rattle.scx_semantics.specs.Registers.{number}
-use Rattle.scx_semantics.specs.Meaning.{pointer_step}
-use Rattle.scx_encoding.specs.Spelling.{IsOperand}
+use Rattle.scx_isa_semantics.specs.declared.instructions.Operand.{Operand}
+use Rattle.scx_isa_semantics.specs.declared.instructions.Operand.TheVariants as operand
+use Rattle.scx_isa_semantics.specs.declared.operations.Width.{Width}
+use Rattle.scx_isa_semantics.specs.declared.operations.Width.TheVariants.{Bits32, Bits64}
+use Rattle.scx_isa_semantics.specs.declared.operations.Operation.{Operation}
+use Rattle.scx_isa_semantics.specs.declared.operations.Operation.TheVariants.{Add, Move}
+use Rattle.scx_isa_semantics.specs.declared.registers.Register.{Register}
+use Rattle.scx_isa_semantics.specs.Registers.{number}
+use Rattle.scx_isa_semantics.specs.Meaning.{pointer_step}
+use Rattle.scx_isa_encoding.specs.Spelling.{IsOperand}
 use Rattle.scx_maps.specs.declared.shape.Shape.{Shape}
-use Rattle.scx_ranges.specs.declared.ranges.Range.{Range}
-use Rattle.scx_ranges.specs.Ranges.{IsWellFormed, IsRange, CoversRange}
-use Rattle.scx_ranges.specs.Offsets as offsets
-use Rattle.scx_ranges.specs.OffsetLaws.{PassesMove}
-use Rattle.scx_ranges.specs.ResultLaws.{AreImages}
-use Rattle.scx_ranges.proofs.AllWidths.{arithmetic_is_sound, copies_are_sound}
-use Rattle.scx_ranges.proofs.ElementOffsets.{moves_are_monotone, advances_are_monotone}
+use Rattle.scx_abs_ranges.specs.declared.ranges.Range.{Range}
+use Rattle.scx_abs_ranges.specs.Ranges.{IsWellFormed, IsRange, CoversRange}
+use Rattle.scx_abs_ranges.specs.Offsets as offsets
+use Rattle.scx_abs_ranges.specs.OffsetLaws.{PassesMove}
+use Rattle.scx_abs_ranges.specs.ResultLaws.{AreImages}
+use Rattle.scx_abs_ranges.proofs.AllWidths.{arithmetic_is_sound, copies_are_sound}
+use Rattle.scx_abs_ranges.proofs.ElementOffsets.{moves_are_monotone, advances_are_monotone}
 use Rattle.scx_abs.specs.declared.kinds.Kind.{Kind}
 use Rattle.scx_abs.specs.declared.kinds.Kind.TheVariants.{Num, Stack, Elem}
 use Rattle.scx_abs.specs.declared.states.AbsState.{AbsState}
 use Rattle.scx_abs.specs.Kinds.{CoversKind, IsProperKind}
 use Rattle.scx_abs.specs.States.{CoversState, IsProper, kind_at}
-use Rattle.scx_semantics.specs.Results.{◌>>=◌}
+use Rattle.scx_isa_semantics.specs.Results.{◌>>=◌}
 use Rattle.scx_abs.specs.Checks.{usable, operand_kind, element_size}
 use Rattle.scx_abs.specs.Rules.{in_element, moved_by, moved_kind, computed_kind, advanced_by, element_kind, arithmetic_kind, binary_kind, number_kind}
 use Rattle.scx_abs.specs.Monotone.{PassesToo}

@@ -1,12 +1,12 @@
 -- Each rule in a state and in one that it covers.
 use Rattle.std.proofs.Common.{true, false, None, Ok, if◌then◌else◌}
-use Rattle.scx_semantics.specs.declared.instructions.Insn.TheVariants as insn
-use Rattle.scx_semantics.specs.Registers.{number}
-use Rattle.scx_semantics.specs.HostTables.{helper_at, answers}
-use Rattle.scx_semantics.specs.Arithmetic.{negative, sign_extension, byte_swapped, wide_immediate}
-use Rattle.scx_ranges.specs.Ranges.{single}
-use Rattle.scx_ranges.specs.Results.{negated_range, extended_range, swapped_range}
-use Rattle.scx_ranges.proofs.AllWidths.{negatives_are_sound, extensions_are_sound, swaps_are_sound}
+use Rattle.scx_isa_semantics.specs.declared.instructions.Insn.TheVariants as insn
+use Rattle.scx_isa_semantics.specs.Registers.{number}
+use Rattle.scx_isa_semantics.specs.HostTables.{helper_at, answers}
+use Rattle.scx_isa_semantics.specs.Arithmetic.{negative, sign_extension, byte_swapped, wide_immediate}
+use Rattle.scx_abs_ranges.specs.Ranges.{single}
+use Rattle.scx_abs_ranges.specs.Results.{negated_range, extended_range, swapped_range}
+use Rattle.scx_abs_ranges.proofs.AllWidths.{negatives_are_sound, extensions_are_sound, swaps_are_sound}
 use Rattle.scx_abs.specs.declared.kinds.Kind.{Kind}
 use Rattle.scx_abs.specs.declared.kinds.Kind.TheVariants.{Num}
 use Rattle.scx_abs.specs.Kinds.{CoversKind}

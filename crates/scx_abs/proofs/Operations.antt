@@ -1,36 +1,36 @@
 -- Arithmetic on kinds against arithmetic on values that they stand for.
 use Rattle.std.proofs.Common.{◌≡◌, ℕ, ◌+◌, ℤ, pos, negsuc, Bool, true, false, nat_lt, List, length, Option, Some, None, Ok, Err, option_map, if◌then◌else◌, refl, sym, subst}
 use Rattle.std.proofs.lemmas.Bool.{ltb-true, le-leb}
-use Rattle.scx_semantics.specs.declared.instructions.Operand.{Operand}
-use Rattle.scx_semantics.specs.declared.instructions.Operand.TheVariants as operand
-use Rattle.scx_semantics.specs.declared.operations.Width.{Width}
-use Rattle.scx_semantics.specs.declared.operations.Width.TheVariants.{Bits32, Bits64}
-use Rattle.scx_semantics.specs.declared.operations.Operation.{Operation}
-use Rattle.scx_semantics.specs.declared.operations.Operation.TheVariants.{Add, Move}
-use Rattle.scx_semantics.specs.declared.values.Value.{Value}
-use Rattle.scx_semantics.specs.declared.values.Value.TheVariants as value
-use Rattle.scx_semantics.specs.declared.values.Pointer as pointers
-use Rattle.scx_semantics.specs.declared.values.Pointer.TheVariants as pointer
-use Rattle.scx_semantics.specs.declared.registers.Register.{Register}
-use Rattle.scx_semantics.specs.Registers.{number}
-use Rattle.scx_semantics.specs.Arithmetic.{at_distance}
-use Rattle.scx_semantics.specs.Memory.{stack_size, within}
-use Rattle.scx_semantics.specs.Elements.{Maps, element}
-use Rattle.scx_semantics.specs.Machine.{Machine}
-use Rattle.scx_semantics.specs.Meaning as meaning
-use Rattle.scx_semantics.specs.Meaning.{operand_value, copy_of, number_arithmetic, arithmetic, binary, pointer_step, pointer_moved, pointer_combined, on_number, map_reference}
-use Rattle.scx_encoding.specs.Spelling.{IsOperand}
+use Rattle.scx_isa_semantics.specs.declared.instructions.Operand.{Operand}
+use Rattle.scx_isa_semantics.specs.declared.instructions.Operand.TheVariants as operand
+use Rattle.scx_isa_semantics.specs.declared.operations.Width.{Width}
+use Rattle.scx_isa_semantics.specs.declared.operations.Width.TheVariants.{Bits32, Bits64}
+use Rattle.scx_isa_semantics.specs.declared.operations.Operation.{Operation}
+use Rattle.scx_isa_semantics.specs.declared.operations.Operation.TheVariants.{Add, Move}
+use Rattle.scx_isa_semantics.specs.declared.values.Value.{Value}
+use Rattle.scx_isa_semantics.specs.declared.values.Value.TheVariants as value
+use Rattle.scx_isa_semantics.specs.declared.values.Pointer as pointers
+use Rattle.scx_isa_semantics.specs.declared.values.Pointer.TheVariants as pointer
+use Rattle.scx_isa_semantics.specs.declared.registers.Register.{Register}
+use Rattle.scx_isa_semantics.specs.Registers.{number}
+use Rattle.scx_isa_semantics.specs.Arithmetic.{at_distance}
+use Rattle.scx_isa_semantics.specs.Memory.{stack_size, within}
+use Rattle.scx_isa_semantics.specs.Elements.{Maps, element}
+use Rattle.scx_isa_semantics.specs.Machine.{Machine}
+use Rattle.scx_isa_semantics.specs.Meaning as meaning
+use Rattle.scx_isa_semantics.specs.Meaning.{operand_value, copy_of, number_arithmetic, arithmetic, binary, pointer_step, pointer_moved, pointer_combined, on_number, map_reference}
+use Rattle.scx_isa_encoding.specs.Spelling.{IsOperand}
 use Rattle.scx_maps.specs.declared.shape.Shape.{Shape}
 use Rattle.scx_maps.specs.Contents.{HasShapes}
 use Rattle.scx_maps.proofs.Shaped.{length-shaped}
 use Rattle.scx_abs.specs.declared.faults.Why.TheVariants.{UnknownMap}
-use Rattle.scx_ranges.specs.declared.ranges.Range.{Range}
-use Rattle.scx_ranges.specs.Ranges.{IsWellFormed, IsRange, IsIn}
-use Rattle.scx_ranges.specs.Offsets as offsets
-use Rattle.scx_ranges.specs.OffsetLaws.{IsMoved, IsAdvanced}
-use Rattle.scx_ranges.specs.ResultLaws.{AreImages}
-use Rattle.scx_ranges.proofs.AllWidths.{arithmetic_is_sound, copies_are_sound}
-use Rattle.scx_ranges.proofs.ElementOffsets.{moves_are_sound, advances_are_sound}
+use Rattle.scx_abs_ranges.specs.declared.ranges.Range.{Range}
+use Rattle.scx_abs_ranges.specs.Ranges.{IsWellFormed, IsRange, IsIn}
+use Rattle.scx_abs_ranges.specs.Offsets as offsets
+use Rattle.scx_abs_ranges.specs.OffsetLaws.{IsMoved, IsAdvanced}
+use Rattle.scx_abs_ranges.specs.ResultLaws.{AreImages}
+use Rattle.scx_abs_ranges.proofs.AllWidths.{arithmetic_is_sound, copies_are_sound}
+use Rattle.scx_abs_ranges.proofs.ElementOffsets.{moves_are_sound, advances_are_sound}
 use Rattle.scx_abs.specs.declared.kinds.Kind.{Kind}
 use Rattle.scx_abs.specs.declared.kinds.Kind.TheVariants as kind
 use Rattle.scx_abs.specs.declared.kinds.Kind.TheVariants.{Unusable, Num, Elem, MapRef}
@@ -38,7 +38,7 @@ use Rattle.scx_abs.specs.declared.states.AbsState.{AbsState}
 use Rattle.scx_abs.specs.Kinds.{IsProperKind, IsUsable}
 use Rattle.scx_abs.specs.States.{kind_at, IsProper}
 use Rattle.scx_abs.specs.Stands.{HasElement, Stands, IsMember}
-use Rattle.scx_semantics.specs.Results.{◌>>=◌}
+use Rattle.scx_isa_semantics.specs.Results.{◌>>=◌}
 use Rattle.scx_abs.specs.Checks.{usable, operand_kind, offset_within}
 use Rattle.scx_abs.specs.Rules.{in_element, moved_by, moved_kind, computed_kind, advanced_by, element_kind, arithmetic_kind, combined_kind, binary_kind, number_kind, map_kind}
 use Rattle.scx_abs.proofs.Registers.{Gives, register_allows, operand_allows, checked}

@@ -4,43 +4,43 @@ use Rattle.std.proofs.Common.{◌≡◌, ℕ, ◌/◌, ◌%◌, ◌<◌, ◌≤�
 use Rattle.std.proofs.lemmas.Bool.{cases_lt}
 use Rattle.std.proofs.lemmas.List.{ext_get_or, length-set, get_or_past}
 use Rattle.std.proofs.lemmas.List.Elements.{All-get_or, All-from_get_or, All-replicate, All-set}
-use Rattle.scx_semantics.specs.declared.instructions.Insn.TheVariants as insn
-use Rattle.scx_semantics.specs.declared.instructions.Operand.{Operand}
-use Rattle.scx_semantics.specs.declared.instructions.Operand.TheVariants as operand
-use Rattle.scx_semantics.specs.declared.operations.Width.{Width}
-use Rattle.scx_semantics.specs.declared.operations.Width.TheVariants.{Bits32, Bits64}
-use Rattle.scx_semantics.specs.declared.operations.Operation.{Operation}
-use Rattle.scx_semantics.specs.declared.operations.Operation.TheVariants.{Add, Move}
-use Rattle.scx_semantics.specs.declared.operations.Comparison.{Comparison}
-use Rattle.scx_semantics.specs.declared.operations.Access.{Access}
-use Rattle.scx_semantics.specs.declared.operations.Access.TheVariants as access
-use Rattle.scx_semantics.specs.declared.registers.Register.{Register}
-use Rattle.scx_semantics.specs.declared.operations.Size.{Size}
-use Rattle.scx_semantics.specs.declared.operations.Size.TheVariants as size
-use Rattle.scx_semantics.specs.declared.callbacks.Callback.{Callback}
-use Rattle.scx_semantics.specs.declared.callbacks.Callback.TheVariants as callback
-use Rattle.scx_semantics.specs.declared.host_tables.Helper.{Helper}
-use Rattle.scx_semantics.specs.declared.host_tables.Helper.TheVariants as helper
-use Rattle.scx_semantics.specs.Registers.{number}
-use Rattle.scx_semantics.specs.Arithmetic.{immediate, wide_immediate, at_distance}
-use Rattle.scx_semantics.specs.Memory.{size_bytes, access_size, stack_size}
-use Rattle.scx_semantics.specs.Meaning.{pointer_step, is_plain}
-use Rattle.scx_semantics.proofs.Numbers.{immediate_below, wide_immediate_below}
-use Rattle.scx_encoding.specs.Spelling.{IsOperand}
-use Rattle.scx_semantics.specs.HostTables.{is_writable, helper_at, answers, parameters, is_allowed}
+use Rattle.scx_isa_semantics.specs.declared.instructions.Insn.TheVariants as insn
+use Rattle.scx_isa_semantics.specs.declared.instructions.Operand.{Operand}
+use Rattle.scx_isa_semantics.specs.declared.instructions.Operand.TheVariants as operand
+use Rattle.scx_isa_semantics.specs.declared.operations.Width.{Width}
+use Rattle.scx_isa_semantics.specs.declared.operations.Width.TheVariants.{Bits32, Bits64}
+use Rattle.scx_isa_semantics.specs.declared.operations.Operation.{Operation}
+use Rattle.scx_isa_semantics.specs.declared.operations.Operation.TheVariants.{Add, Move}
+use Rattle.scx_isa_semantics.specs.declared.operations.Comparison.{Comparison}
+use Rattle.scx_isa_semantics.specs.declared.operations.Access.{Access}
+use Rattle.scx_isa_semantics.specs.declared.operations.Access.TheVariants as access
+use Rattle.scx_isa_semantics.specs.declared.registers.Register.{Register}
+use Rattle.scx_isa_semantics.specs.declared.operations.Size.{Size}
+use Rattle.scx_isa_semantics.specs.declared.operations.Size.TheVariants as size
+use Rattle.scx_isa_semantics.specs.declared.callbacks.Callback.{Callback}
+use Rattle.scx_isa_semantics.specs.declared.callbacks.Callback.TheVariants as callback
+use Rattle.scx_isa_semantics.specs.declared.host_tables.Helper.{Helper}
+use Rattle.scx_isa_semantics.specs.declared.host_tables.Helper.TheVariants as helper
+use Rattle.scx_isa_semantics.specs.Registers.{number}
+use Rattle.scx_isa_semantics.specs.Arithmetic.{immediate, wide_immediate, at_distance}
+use Rattle.scx_isa_semantics.specs.Memory.{size_bytes, access_size, stack_size}
+use Rattle.scx_isa_semantics.specs.Meaning.{pointer_step, is_plain}
+use Rattle.scx_isa_semantics.proofs.Numbers.{immediate_below, wide_immediate_below}
+use Rattle.scx_isa_encoding.specs.Spelling.{IsOperand}
+use Rattle.scx_isa_semantics.specs.HostTables.{is_writable, helper_at, answers, parameters, is_allowed}
 use Rattle.scx_maps.specs.declared.shape.Shape.{Shape}
-use Rattle.scx_ranges.specs.declared.ranges.Range.{Range}
-use Rattle.scx_ranges.specs.Ranges.{IsWellFormed, IsRange, CoversRange, join_ranges, single, is_single}
-use Rattle.scx_ranges.specs.Offsets as offsets
-use Rattle.scx_ranges.specs.OffsetLaws.{IsInElement}
-use Rattle.scx_ranges.proofs.Order.{join_formed}
-use Rattle.scx_ranges.proofs.ElementOffsets.{moves_stay_within, advances_stay_within}
-use Rattle.scx_ranges.specs.Cuts.{cut}
-use Rattle.scx_ranges.specs.Laws.{IsCutRange}
-use Rattle.scx_ranges.proofs.KeptByCuts.{cuts_are_ranges}
-use Rattle.scx_ranges.specs.Results.{negated_range, extended_range, swapped_range, loaded_range}
-use Rattle.scx_ranges.proofs.Multiples.{single_range, all_range}
-use Rattle.scx_ranges.proofs.BuiltRanges.{joined_range, computed_range, copied_range, negative_range, extension_range, swap_range, load_range}
+use Rattle.scx_abs_ranges.specs.declared.ranges.Range.{Range}
+use Rattle.scx_abs_ranges.specs.Ranges.{IsWellFormed, IsRange, CoversRange, join_ranges, single, is_single}
+use Rattle.scx_abs_ranges.specs.Offsets as offsets
+use Rattle.scx_abs_ranges.specs.OffsetLaws.{IsInElement}
+use Rattle.scx_abs_ranges.proofs.Order.{join_formed}
+use Rattle.scx_abs_ranges.proofs.ElementOffsets.{moves_stay_within, advances_stay_within}
+use Rattle.scx_abs_ranges.specs.Cuts.{cut}
+use Rattle.scx_abs_ranges.specs.Laws.{IsCutRange}
+use Rattle.scx_abs_ranges.proofs.KeptByCuts.{cuts_are_ranges}
+use Rattle.scx_abs_ranges.specs.Results.{negated_range, extended_range, swapped_range, loaded_range}
+use Rattle.scx_abs_ranges.proofs.Multiples.{single_range, all_range}
+use Rattle.scx_abs_ranges.proofs.BuiltRanges.{joined_range, computed_range, copied_range, negative_range, extension_range, swap_range, load_range}
 use Rattle.scx_abs.specs.declared.faults.Why.{Why}
 use Rattle.scx_abs.specs.declared.faults.Why.TheVariants.{WritesFrame, UnwrittenStack, TaskField, HelperNotHere, UnknownMap}
 use Rattle.scx_abs.specs.declared.kinds.Kind.{Kind}
@@ -56,7 +56,7 @@ use Rattle.scx_abs.specs.declared.memory.Area.TheVariants.{OnStack, InElement, I
 use Rattle.scx_abs.specs.Kinds.{CoversKind, IsProperKind, kind_if, join_kind}
 use Rattle.scx_abs.specs.Cells.{kind_of, held_of, is_written, no_bytes, with_bytes, all_written, written_in, IsPartOf, CoversCell, IsProperCell, cell_of, join_cell}
 use Rattle.scx_abs.specs.States.{kind_at, cell_at, with_kind, with_cell, IsWhole, IsProper, ArgumentKinds, argument_kinds, start_kinds}
-use Rattle.scx_semantics.specs.Results.{◌>>=◌}
+use Rattle.scx_isa_semantics.specs.Results.{◌>>=◌}
 use Rattle.scx_abs.specs.Checks.{flows, goes_on, usable, operand_kind, sets, element_size, offset_within}
 use Rattle.scx_abs.specs.Calls.{arguments_check, after_call, element_of, answer_kind, call_allowed, call_rule}
 use Rattle.scx_abs.specs.Rules.{in_element, moved_by, moved_kind, computed_kind, advanced_by, element_kind, arithmetic_kind, combined_kind, binary_kind, number_kind, map_kind, area_of, loaded_kind, kind_in, load_kind, pointer_cell, stored_cell, number_stored, stored_in, null_test, if_null, if_not_null, null_test_rule, side, sides, numbers_compared, comparison_rule, end_rule}

@@ -1,46 +1,46 @@
 -- Registers: what a check of one gives against its value, and the state after a register is written.
 use Rattle.std.proofs.Common.{◌≡◌, ℕ, ◌*◌, ◌^◌, ◌<◌, true, false, nat_eq, List, Option, Some, None, Result, Ok, Err, if◌then◌else◌, refl, subst, arith}
 use Rattle.std.proofs.lemmas.Bool.{eq-eqb, ne_eqb}
-use Rattle.scx_semantics.specs.declared.instructions.Operand.{Operand}
-use Rattle.scx_semantics.specs.declared.instructions.Operand.TheVariants as operand
-use Rattle.scx_semantics.specs.declared.operations.Width.{Width}
-use Rattle.scx_semantics.specs.declared.values.Value.{Value}
-use Rattle.scx_semantics.specs.declared.values.Value.TheVariants as value
-use Rattle.scx_semantics.specs.declared.values.Pointer.TheVariants as pointer
-use Rattle.scx_semantics.specs.declared.host_tables.Field.{Field}
-use Rattle.scx_semantics.specs.declared.host_tables.TaskId.{TaskId}
+use Rattle.scx_isa_semantics.specs.declared.instructions.Operand.{Operand}
+use Rattle.scx_isa_semantics.specs.declared.instructions.Operand.TheVariants as operand
+use Rattle.scx_isa_semantics.specs.declared.operations.Width.{Width}
+use Rattle.scx_isa_semantics.specs.declared.values.Value.{Value}
+use Rattle.scx_isa_semantics.specs.declared.values.Value.TheVariants as value
+use Rattle.scx_isa_semantics.specs.declared.values.Pointer.TheVariants as pointer
+use Rattle.scx_isa_semantics.specs.declared.host_tables.Field.{Field}
+use Rattle.scx_isa_semantics.specs.declared.host_tables.TaskId.{TaskId}
 use denote.Enum.Bare.{sameb}
-use Rattle.scx_semantics.specs.contracts.registers.Register.{the_type}
-use Rattle.scx_semantics.specs.declared.registers.Register.{Register}
-use Rattle.scx_semantics.specs.declared.registers.Register.TheVariants.{R10}
-use Rattle.scx_semantics.specs.Registers.{number}
-use Rattle.scx_semantics.specs.Elements.{Maps}
-use Rattle.scx_semantics.specs.Machine.{Machine, with_value_at, with_register}
-use Rattle.scx_semantics.specs.Effects as effect
-use Rattle.scx_semantics.specs.Effects.{Query, Load, Effect, set_register, set_register_by_answer}
-use Rattle.scx_semantics.specs.Meaning.{operand_value, is_plain}
-use Rattle.scx_semantics.specs.Runs.{IsNumberBelow, IsTaskOrNull, Fits}
-use Rattle.scx_semantics.specs.declared.operations.Access.{Access}
-use Rattle.scx_semantics.specs.declared.operations.Access.TheVariants as access
-use Rattle.scx_semantics.specs.Memory.{size_bytes, access_size}
-use Rattle.scx_semantics.specs.HostTables.{field_width}
-use Rattle.scx_semantics.specs.Arithmetic.{immediate}
-use Rattle.scx_semantics.proofs.Numbers.{immediate_below}
-use Rattle.scx_encoding.specs.Spelling.{IsOperand}
+use Rattle.scx_isa_semantics.specs.contracts.registers.Register.{the_type}
+use Rattle.scx_isa_semantics.specs.declared.registers.Register.{Register}
+use Rattle.scx_isa_semantics.specs.declared.registers.Register.TheVariants.{R10}
+use Rattle.scx_isa_semantics.specs.Registers.{number}
+use Rattle.scx_isa_semantics.specs.Elements.{Maps}
+use Rattle.scx_isa_semantics.specs.Machine.{Machine, with_value_at, with_register}
+use Rattle.scx_isa_semantics.specs.Effects as effect
+use Rattle.scx_isa_semantics.specs.Effects.{Query, Load, Effect, set_register, set_register_by_answer}
+use Rattle.scx_isa_semantics.specs.Meaning.{operand_value, is_plain}
+use Rattle.scx_isa_semantics.specs.Runs.{IsNumberBelow, IsTaskOrNull, Fits}
+use Rattle.scx_isa_semantics.specs.declared.operations.Access.{Access}
+use Rattle.scx_isa_semantics.specs.declared.operations.Access.TheVariants as access
+use Rattle.scx_isa_semantics.specs.Memory.{size_bytes, access_size}
+use Rattle.scx_isa_semantics.specs.HostTables.{field_width}
+use Rattle.scx_isa_semantics.specs.Arithmetic.{immediate}
+use Rattle.scx_isa_semantics.proofs.Numbers.{immediate_below}
+use Rattle.scx_isa_encoding.specs.Spelling.{IsOperand}
 use Rattle.scx_maps.specs.declared.shape.Shape.{Shape}
 use Rattle.scx_abs.specs.declared.faults.Why.{Why}
 use Rattle.scx_abs.specs.declared.faults.Why.TheVariants.{WritesFrame}
-use Rattle.scx_ranges.specs.Ranges.{IsIn, all}
-use Rattle.scx_ranges.specs.Results.{loaded_range}
-use Rattle.scx_ranges.proofs.Multiples.{single_range, in_single, in_all}
-use Rattle.scx_ranges.proofs.AllWidths.{loads_are_sound}
+use Rattle.scx_abs_ranges.specs.Ranges.{IsIn, all}
+use Rattle.scx_abs_ranges.specs.Results.{loaded_range}
+use Rattle.scx_abs_ranges.proofs.Multiples.{single_range, in_single, in_all}
+use Rattle.scx_abs_ranges.proofs.AllWidths.{loads_are_sound}
 use Rattle.scx_abs.specs.declared.kinds.Kind.{Kind}
 use Rattle.scx_abs.specs.declared.kinds.Kind.TheVariants.{Unusable, Num, TaskOrNull}
 use Rattle.scx_abs.specs.declared.states.AbsState.{AbsState}
 use Rattle.scx_abs.specs.Kinds.{IsProperKind, IsUsable}
 use Rattle.scx_abs.specs.States.{kind_at, with_kind, IsProper}
 use Rattle.scx_abs.specs.Stands.{Stands, IsMember}
-use Rattle.scx_semantics.specs.Results.{◌>>=◌}
+use Rattle.scx_isa_semantics.specs.Results.{◌>>=◌}
 use Rattle.scx_abs.specs.Checks.{goes_on, usable, operand_kind, sets, gets}
 use Rattle.scx_abs.specs.Laws.{IsSoundFor}
 use Rattle.scx_abs.proofs.Lists.{set_each}

@@ -1,19 +1,19 @@
 -- Each rule against what its instruction means, and the state in which a callback begins.
 use Rattle.std.proofs.Common.{true, false, List, Some, None, Ok, if◌then◌else◌}
-use Rattle.scx_semantics.specs.declared.instructions.Insn.TheVariants as insn
-use Rattle.scx_semantics.specs.declared.values.Value.{Value}
-use Rattle.scx_semantics.specs.declared.values.Value.TheVariants as value
-use Rattle.scx_semantics.specs.Registers.{number}
-use Rattle.scx_semantics.specs.Arithmetic.{negative, sign_extension, byte_swapped, wide_immediate}
-use Rattle.scx_semantics.specs.HostTables.{helper_at, answers}
-use Rattle.scx_semantics.specs.Elements.{Maps}
-use Rattle.scx_semantics.specs.Effects as effect
-use Rattle.scx_semantics.specs.Meaning.{binary, on_number, map_reference, end_with}
+use Rattle.scx_isa_semantics.specs.declared.instructions.Insn.TheVariants as insn
+use Rattle.scx_isa_semantics.specs.declared.values.Value.{Value}
+use Rattle.scx_isa_semantics.specs.declared.values.Value.TheVariants as value
+use Rattle.scx_isa_semantics.specs.Registers.{number}
+use Rattle.scx_isa_semantics.specs.Arithmetic.{negative, sign_extension, byte_swapped, wide_immediate}
+use Rattle.scx_isa_semantics.specs.HostTables.{helper_at, answers}
+use Rattle.scx_isa_semantics.specs.Elements.{Maps}
+use Rattle.scx_isa_semantics.specs.Effects as effect
+use Rattle.scx_isa_semantics.specs.Meaning.{binary, on_number, map_reference, end_with}
 use Rattle.scx_maps.specs.declared.shape.Shape.{Shape}
-use Rattle.scx_ranges.specs.Ranges.{single}
-use Rattle.scx_ranges.specs.Results.{negated_range, extended_range, swapped_range}
-use Rattle.scx_ranges.proofs.Multiples.{in_single}
-use Rattle.scx_ranges.proofs.AllWidths.{negatives_are_sound, extensions_are_sound, swaps_are_sound}
+use Rattle.scx_abs_ranges.specs.Ranges.{single}
+use Rattle.scx_abs_ranges.specs.Results.{negated_range, extended_range, swapped_range}
+use Rattle.scx_abs_ranges.proofs.Multiples.{in_single}
+use Rattle.scx_abs_ranges.proofs.AllWidths.{negatives_are_sound, extensions_are_sound, swaps_are_sound}
 use Rattle.scx_abs.specs.declared.kinds.Kind.{Kind}
 use Rattle.scx_abs.specs.declared.kinds.Kind.TheVariants.{Num}
 use Rattle.scx_abs.specs.States.{kind_at}

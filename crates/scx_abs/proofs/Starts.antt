@@ -1,18 +1,18 @@
 -- The state in which a callback begins stands for all in which it may begin.
 use Rattle.std.proofs.Common.{ℕ, zero, suc, ◌*◌, [], replicate, slice_index_or, refl}
-use Rattle.scx_semantics.specs.declared.callbacks.Callback.{Callback}
-use Rattle.scx_semantics.specs.declared.callbacks.Callback.TheVariants as callback
-use Rattle.scx_semantics.specs.declared.values.Value.{Value}
-use Rattle.scx_semantics.specs.declared.values.Value.TheVariants as value
-use Rattle.scx_semantics.specs.declared.values.Pointer.TheVariants as pointer
-use Rattle.scx_semantics.specs.Memory.{Stack}
-use Rattle.scx_semantics.specs.Elements.{Maps}
-use Rattle.scx_semantics.specs.Machine.{Arguments, start, start_registers}
+use Rattle.scx_isa_semantics.specs.declared.callbacks.Callback.{Callback}
+use Rattle.scx_isa_semantics.specs.declared.callbacks.Callback.TheVariants as callback
+use Rattle.scx_isa_semantics.specs.declared.values.Value.{Value}
+use Rattle.scx_isa_semantics.specs.declared.values.Value.TheVariants as value
+use Rattle.scx_isa_semantics.specs.declared.values.Pointer.TheVariants as pointer
+use Rattle.scx_isa_semantics.specs.Memory.{Stack}
+use Rattle.scx_isa_semantics.specs.Elements.{Maps}
+use Rattle.scx_isa_semantics.specs.Machine.{Arguments, start, start_registers}
 use Rattle.scx_abs.specs.declared.kinds.Kind.TheVariants.{Task}
 use Rattle.scx_abs.specs.declared.kinds.Cell.TheVariants.{Bytes}
 use Rattle.scx_abs.specs.Cells.{no_bytes}
 use Rattle.scx_abs.specs.States.{kind_at, ArgumentKinds, argument_kinds, start_kinds}
-use Rattle.scx_semantics.specs.Arguments.{FitsCallback, IsTask}
+use Rattle.scx_isa_semantics.specs.Arguments.{FitsCallback, IsTask}
 use Rattle.scx_abs.specs.Stands.{Stands, CellStands}
 use Rattle.scx_abs.specs.Laws.{StartIsSound}
 use Rattle.scx_abs.proofs.Orders.{none_written}

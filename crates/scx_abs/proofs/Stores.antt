@@ -1,9 +1,9 @@
 -- Stores, piece by piece.
 use Rattle.std.proofs.Common.{◌≡◌, ℤ, List, Result, Ok, sym, ap, ◌∙◌}
-use Rattle.scx_semantics.specs.declared.instructions.Operand.{Operand}
-use Rattle.scx_semantics.specs.declared.operations.Width.TheVariants.{Bits64}
-use Rattle.scx_semantics.specs.declared.operations.Size.{Size}
-use Rattle.scx_semantics.specs.Results.{◌>>=◌}
+use Rattle.scx_isa_semantics.specs.declared.instructions.Operand.{Operand}
+use Rattle.scx_isa_semantics.specs.declared.operations.Width.TheVariants.{Bits64}
+use Rattle.scx_isa_semantics.specs.declared.operations.Size.{Size}
+use Rattle.scx_isa_semantics.specs.Results.{◌>>=◌}
 use Rattle.scx_maps.specs.declared.shape.Shape.{Shape}
 use Rattle.scx_abs.specs.declared.faults.Why.{Why}
 use Rattle.scx_abs.specs.declared.kinds.Kind.{Kind}

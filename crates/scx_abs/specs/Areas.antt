@@ -1,7 +1,7 @@
 -- The memory that an address means for an access: an offset on the stack lies in it with so many
 -- bytes, and is a multiple of them, so that they are bytes of one cell.
 use Rattle.std.specs.Prelude.{ℕ, ◌+◌, ◌%◌, ◌≡◌, ◌≤◌}
-use Rattle.scx_semantics.specs.Memory.{stack_size}
+use Rattle.scx_isa_semantics.specs.Memory.{stack_size}
 use Rattle.scx_abs.specs.declared.memory.Area.{Area}
 use Rattle.scx_abs.specs.declared.memory.Area.TheVariants.{OnStack, InElement, InTask}
 

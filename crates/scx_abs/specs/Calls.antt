@@ -2,15 +2,15 @@
 -- then each argument from r1 on is what it takes. After a call r0 has the answer's kind, and
 -- r1 to r5 are unusable.
 use Rattle.std.specs.Prelude.{ℕ, ◌+◌, ◌/◌, ◌%◌, pos, List, [], ◌∷◌, Option, Some, None, Result, Ok, Err, if◌then◌else◌}
-use Rattle.scx_semantics.specs.declared.callbacks.Callback.{Callback}
-use Rattle.scx_semantics.specs.declared.host_tables.Helper.{Helper}
-use Rattle.scx_semantics.specs.declared.host_tables.Helper.TheVariants as helper
-use Rattle.scx_semantics.specs.declared.host_tables.Parameter.{Parameter}
-use Rattle.scx_semantics.specs.declared.host_tables.Parameter.TheVariants as parameter
-use Rattle.scx_semantics.specs.HostTables.{parameters, is_allowed}
-use Rattle.scx_semantics.specs.Memory.{stack_size}
+use Rattle.scx_isa_semantics.specs.declared.callbacks.Callback.{Callback}
+use Rattle.scx_isa_semantics.specs.declared.host_tables.Helper.{Helper}
+use Rattle.scx_isa_semantics.specs.declared.host_tables.Helper.TheVariants as helper
+use Rattle.scx_isa_semantics.specs.declared.host_tables.Parameter.{Parameter}
+use Rattle.scx_isa_semantics.specs.declared.host_tables.Parameter.TheVariants as parameter
+use Rattle.scx_isa_semantics.specs.HostTables.{parameters, is_allowed}
+use Rattle.scx_isa_semantics.specs.Memory.{stack_size}
 use Rattle.scx_maps.specs.declared.shape.Shape.{Shape}
-use Rattle.scx_ranges.specs.Ranges.{all}
+use Rattle.scx_abs_ranges.specs.Ranges.{all}
 use Rattle.scx_abs.specs.declared.faults.Why.{Why}
 use Rattle.scx_abs.specs.declared.faults.Why.TheVariants.{UnusableRegister, UnwrittenStack, NullNotTested, UnknownHelper, HelperNotHere, BadArgument}
 use Rattle.scx_abs.specs.declared.kinds.Kind.{Kind}
@@ -20,7 +20,7 @@ use Rattle.scx_abs.specs.declared.states.AbsState.{AbsState}
 use Rattle.scx_abs.specs.declared.rules.Next.{Next}
 use Rattle.scx_abs.specs.Cells.{all_written, written_in}
 use Rattle.scx_abs.specs.States.{kind_at, cell_at, with_kind}
-use Rattle.scx_semantics.specs.Results.{◌>>=◌}
+use Rattle.scx_isa_semantics.specs.Results.{◌>>=◌}
 use Rattle.scx_abs.specs.Checks.{goes_on, element_size, offset_for, offsets_for}
 
 -- ---- arguments

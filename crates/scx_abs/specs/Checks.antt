@@ -1,17 +1,17 @@
 -- Checks, one behind another: the first that fails is the refusal, and those behind it
 -- aren't looked at.
 use Rattle.std.specs.Prelude.{ℕ, ◌+◌, ◌%◌, nat_eq, nat_le, ℤ, List, Option, Some, None, slice_get, Result, Ok, Err, ok_or, if◌then◌else◌}
-use Rattle.scx_semantics.specs.declared.instructions.Operand.{Operand}
-use Rattle.scx_semantics.specs.declared.instructions.Operand.TheVariants as operand
-use Rattle.scx_semantics.specs.declared.operations.Width.{Width}
-use Rattle.scx_semantics.specs.declared.operations.Width.TheVariants.{Bits64}
-use Rattle.scx_semantics.specs.Arithmetic.{immediate}
-use Rattle.scx_semantics.specs.Registers.{number}
-use Rattle.scx_semantics.specs.Memory.{within}
+use Rattle.scx_isa_semantics.specs.declared.instructions.Operand.{Operand}
+use Rattle.scx_isa_semantics.specs.declared.instructions.Operand.TheVariants as operand
+use Rattle.scx_isa_semantics.specs.declared.operations.Width.{Width}
+use Rattle.scx_isa_semantics.specs.declared.operations.Width.TheVariants.{Bits64}
+use Rattle.scx_isa_semantics.specs.Arithmetic.{immediate}
+use Rattle.scx_isa_semantics.specs.Registers.{number}
+use Rattle.scx_isa_semantics.specs.Memory.{within}
 use Rattle.scx_maps.specs.declared.shape.Shape.{Shape}
-use Rattle.scx_ranges.specs.declared.ranges.Range.{Range}
-use Rattle.scx_ranges.specs.Ranges.{single}
-use Rattle.scx_ranges.specs.Offsets.{are_inside, are_aligned}
+use Rattle.scx_abs_ranges.specs.declared.ranges.Range.{Range}
+use Rattle.scx_abs_ranges.specs.Ranges.{single}
+use Rattle.scx_abs_ranges.specs.Offsets.{are_inside, are_aligned}
 use Rattle.scx_abs.specs.declared.faults.Why.{Why}
 use Rattle.scx_abs.specs.declared.faults.Why.TheVariants.{UnusableRegister, WritesFrame, OutOfBounds, Misaligned}
 use Rattle.scx_abs.specs.declared.kinds.Kind.{Kind}

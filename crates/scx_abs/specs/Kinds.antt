@@ -3,7 +3,7 @@
 -- The join of two kinds is the least that covers both, which is Unusable where nothing else does.
 -- Numbers, and pointers into elements of one map, are ordered by their ranges.
 use Rattle.std.specs.Prelude.{◌≡◌, Bool, ◌&&◌, nat_eq, if◌then◌else◌}
-use Rattle.scx_ranges.specs.Ranges.{IsWellFormed, IsRange, CoversRange, join_ranges}
+use Rattle.scx_abs_ranges.specs.Ranges.{IsWellFormed, IsRange, CoversRange, join_ranges}
 use Rattle.scx_abs.specs.declared.kinds.Kind.{Kind}
 use Rattle.scx_abs.specs.declared.kinds.Kind.TheVariants.{Unusable, Num, Stack, Elem, ElemOrNull, Task, TaskOrNull, MapRef}
 

@@ -2,24 +2,24 @@
 -- their own: the rule of an instruction against its meaning, and that states stay proper.
 use Rattle.std.specs.Prelude.{◌≡◌, Bool, true, false, IsTrue, List, Option, Some, None, is_some, Result, Ok, Err, IfSome, IfOk}
 use Rattle.std.specs.Bool.{IsFalse}
-use Rattle.scx_semantics.specs.declared.instructions.Insn.{Insn}
-use Rattle.scx_semantics.specs.declared.instructions.Insn.TheVariants as insn
-use Rattle.scx_semantics.specs.declared.values.Value.{Value}
-use Rattle.scx_semantics.specs.declared.callbacks.Callback.{Callback}
-use Rattle.scx_semantics.specs.Elements.{Maps}
-use Rattle.scx_semantics.specs.Machine.{Machine, Arguments, start}
-use Rattle.scx_semantics.specs.Effects as effect
-use Rattle.scx_semantics.specs.Effects.{Effect}
-use Rattle.scx_semantics.specs.Meaning.{act}
-use Rattle.scx_semantics.specs.Runs.{Fits}
-use Rattle.scx_encoding.specs.Spelling.{IsInsn}
+use Rattle.scx_isa_semantics.specs.declared.instructions.Insn.{Insn}
+use Rattle.scx_isa_semantics.specs.declared.instructions.Insn.TheVariants as insn
+use Rattle.scx_isa_semantics.specs.declared.values.Value.{Value}
+use Rattle.scx_isa_semantics.specs.declared.callbacks.Callback.{Callback}
+use Rattle.scx_isa_semantics.specs.Elements.{Maps}
+use Rattle.scx_isa_semantics.specs.Machine.{Machine, Arguments, start}
+use Rattle.scx_isa_semantics.specs.Effects as effect
+use Rattle.scx_isa_semantics.specs.Effects.{Effect}
+use Rattle.scx_isa_semantics.specs.Meaning.{act}
+use Rattle.scx_isa_semantics.specs.Runs.{Fits}
+use Rattle.scx_isa_encoding.specs.Spelling.{IsInsn}
 use Rattle.scx_maps.specs.declared.shape.Shape.{Shape}
 use Rattle.scx_maps.specs.Contents.{HasShapes}
 use Rattle.scx_abs.specs.declared.faults.Why.{Why}
 use Rattle.scx_abs.specs.declared.states.AbsState.{AbsState}
 use Rattle.scx_abs.specs.declared.rules.Next.{Next}
 use Rattle.scx_abs.specs.States.{CoversState, IsProper, start_of}
-use Rattle.scx_semantics.specs.Arguments.{FitsCallback}
+use Rattle.scx_isa_semantics.specs.Arguments.{FitsCallback}
 use Rattle.scx_abs.specs.Stands.{IsMember}
 use Rattle.scx_abs.specs.Rules.{null_test, rule}
 

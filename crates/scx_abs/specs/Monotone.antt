@@ -2,9 +2,9 @@
 -- in each state that it covers, and what flows on is covered too; so no check is stronger where
 -- more is known. A join is the least that covers both, and grows with each.
 use Rattle.std.specs.Prelude.{List, Option, Result, Ok, Err, IfSome}
-use Rattle.scx_semantics.specs.declared.instructions.Insn.{Insn}
-use Rattle.scx_semantics.specs.declared.callbacks.Callback.{Callback}
-use Rattle.scx_encoding.specs.Spelling.{IsInsn}
+use Rattle.scx_isa_semantics.specs.declared.instructions.Insn.{Insn}
+use Rattle.scx_isa_semantics.specs.declared.callbacks.Callback.{Callback}
+use Rattle.scx_isa_encoding.specs.Spelling.{IsInsn}
 use Rattle.scx_maps.specs.declared.shape.Shape.{Shape}
 use Rattle.scx_abs.specs.declared.faults.Why.{Why}
 use Rattle.scx_abs.specs.declared.kinds.Kind.{Kind}

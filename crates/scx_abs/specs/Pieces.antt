@@ -1,22 +1,22 @@
 -- Rules in pieces, as they are done in place.
 use Rattle.std.specs.Prelude.{ℕ, ℤ, List, Result, Ok}
-use Rattle.scx_semantics.specs.declared.instructions.Operand.{Operand}
-use Rattle.scx_semantics.specs.declared.operations.Width.{Width}
-use Rattle.scx_semantics.specs.declared.operations.Width.TheVariants.{Bits64}
-use Rattle.scx_semantics.specs.declared.operations.Operation.{Operation}
-use Rattle.scx_semantics.specs.declared.operations.Size.{Size}
-use Rattle.scx_semantics.specs.Memory.{size_bytes}
-use Rattle.scx_semantics.specs.Results.{◌>>=◌}
+use Rattle.scx_isa_semantics.specs.declared.instructions.Operand.{Operand}
+use Rattle.scx_isa_semantics.specs.declared.operations.Width.{Width}
+use Rattle.scx_isa_semantics.specs.declared.operations.Width.TheVariants.{Bits64}
+use Rattle.scx_isa_semantics.specs.declared.operations.Operation.{Operation}
+use Rattle.scx_isa_semantics.specs.declared.operations.Size.{Size}
+use Rattle.scx_isa_semantics.specs.Memory.{size_bytes}
+use Rattle.scx_isa_semantics.specs.Results.{◌>>=◌}
 use Rattle.scx_maps.specs.declared.shape.Shape.{Shape}
-use Rattle.scx_ranges.specs.declared.ranges.Range.{Range}
-use Rattle.scx_ranges.specs.Results.{computed_at}
+use Rattle.scx_abs_ranges.specs.declared.ranges.Range.{Range}
+use Rattle.scx_abs_ranges.specs.Results.{computed_at}
 use Rattle.scx_abs.specs.declared.faults.Why.{Why}
 use Rattle.scx_abs.specs.declared.kinds.Kind.{Kind}
 use Rattle.scx_abs.specs.declared.kinds.Kind.TheVariants.{Num}
 use Rattle.scx_abs.specs.declared.states.AbsState.{AbsState}
 use Rattle.scx_abs.specs.declared.rules.Next.{Next}
-use Rattle.scx_semantics.specs.declared.registers.Register.{Register}
-use Rattle.scx_semantics.specs.Registers.{number}
+use Rattle.scx_isa_semantics.specs.declared.registers.Register.{Register}
+use Rattle.scx_isa_semantics.specs.Registers.{number}
 use Rattle.scx_abs.specs.States.{kind_at}
 use Rattle.scx_abs.specs.Checks.{usable, operand_kind}
 use Rattle.scx_abs.specs.Rules.{advanced_by, area_of, computed_kind, moved_kind, stored_in}

@@ -3,34 +3,34 @@
 -- looked at. A register that is written is looked at first, then the registers that are read, the
 -- destination before the source, then the address, and then the value that is stored.
 use Rattle.std.specs.Prelude.{ℕ, ◌/◌, ◌%◌, ℤ, pos, unsigned_abs, Bool, true, false, nat_eq, nat_lt, List, length, Option, Some, None, option_map, Result, Ok, Err, if◌then◌else◌}
-use Rattle.scx_semantics.specs.declared.instructions.Insn.{Insn}
-use Rattle.scx_semantics.specs.declared.instructions.Insn.TheVariants as insn
-use Rattle.scx_semantics.specs.declared.instructions.Operand.{Operand}
-use Rattle.scx_semantics.specs.declared.instructions.Operand.TheVariants as operand
-use Rattle.scx_semantics.specs.declared.operations.Width.{Width}
-use Rattle.scx_semantics.specs.declared.operations.Width.TheVariants.{Bits32, Bits64}
-use Rattle.scx_semantics.specs.declared.operations.Operation.{Operation}
-use Rattle.scx_semantics.specs.declared.operations.Operation.TheVariants.{Add, Move}
-use Rattle.scx_semantics.specs.declared.operations.Comparison.{Comparison}
-use Rattle.scx_semantics.specs.declared.operations.Comparison.TheVariants.{Equal, NotEqual}
-use Rattle.scx_semantics.specs.declared.operations.Size.{Size}
-use Rattle.scx_semantics.specs.declared.operations.Size.TheVariants as size
-use Rattle.scx_semantics.specs.declared.operations.Access.{Access}
-use Rattle.scx_semantics.specs.declared.operations.Access.TheVariants as access
-use Rattle.scx_semantics.specs.declared.callbacks.Callback.{Callback}
-use Rattle.scx_semantics.specs.declared.registers.Register.{Register}
-use Rattle.scx_semantics.specs.Registers.{number}
-use Rattle.scx_semantics.specs.Arithmetic.{at_distance, wide_immediate}
-use Rattle.scx_semantics.specs.Memory.{size_bytes, access_size, stack_size}
-use Rattle.scx_semantics.specs.declared.host_tables.Field.{Field}
-use Rattle.scx_semantics.specs.HostTables.{field_at, is_writable, helper_at, answers}
-use Rattle.scx_semantics.specs.Meaning.{pointer_step, is_plain}
+use Rattle.scx_isa_semantics.specs.declared.instructions.Insn.{Insn}
+use Rattle.scx_isa_semantics.specs.declared.instructions.Insn.TheVariants as insn
+use Rattle.scx_isa_semantics.specs.declared.instructions.Operand.{Operand}
+use Rattle.scx_isa_semantics.specs.declared.instructions.Operand.TheVariants as operand
+use Rattle.scx_isa_semantics.specs.declared.operations.Width.{Width}
+use Rattle.scx_isa_semantics.specs.declared.operations.Width.TheVariants.{Bits32, Bits64}
+use Rattle.scx_isa_semantics.specs.declared.operations.Operation.{Operation}
+use Rattle.scx_isa_semantics.specs.declared.operations.Operation.TheVariants.{Add, Move}
+use Rattle.scx_isa_semantics.specs.declared.operations.Comparison.{Comparison}
+use Rattle.scx_isa_semantics.specs.declared.operations.Comparison.TheVariants.{Equal, NotEqual}
+use Rattle.scx_isa_semantics.specs.declared.operations.Size.{Size}
+use Rattle.scx_isa_semantics.specs.declared.operations.Size.TheVariants as size
+use Rattle.scx_isa_semantics.specs.declared.operations.Access.{Access}
+use Rattle.scx_isa_semantics.specs.declared.operations.Access.TheVariants as access
+use Rattle.scx_isa_semantics.specs.declared.callbacks.Callback.{Callback}
+use Rattle.scx_isa_semantics.specs.declared.registers.Register.{Register}
+use Rattle.scx_isa_semantics.specs.Registers.{number}
+use Rattle.scx_isa_semantics.specs.Arithmetic.{at_distance, wide_immediate}
+use Rattle.scx_isa_semantics.specs.Memory.{size_bytes, access_size, stack_size}
+use Rattle.scx_isa_semantics.specs.declared.host_tables.Field.{Field}
+use Rattle.scx_isa_semantics.specs.HostTables.{field_at, is_writable, helper_at, answers}
+use Rattle.scx_isa_semantics.specs.Meaning.{pointer_step, is_plain}
 use Rattle.scx_maps.specs.declared.shape.Shape.{Shape}
-use Rattle.scx_ranges.specs.declared.ranges.Range.{Range}
-use Rattle.scx_ranges.specs.Ranges.{single, is_single}
-use Rattle.scx_ranges.specs.Cuts.{cut}
-use Rattle.scx_ranges.specs.Offsets.{offsets_plus_constant, offsets_plus_range}
-use Rattle.scx_ranges.specs.Results.{computed_at, move_range, negated_range, extended_range, swapped_range, loaded_range}
+use Rattle.scx_abs_ranges.specs.declared.ranges.Range.{Range}
+use Rattle.scx_abs_ranges.specs.Ranges.{single, is_single}
+use Rattle.scx_abs_ranges.specs.Cuts.{cut}
+use Rattle.scx_abs_ranges.specs.Offsets.{offsets_plus_constant, offsets_plus_range}
+use Rattle.scx_abs_ranges.specs.Results.{computed_at, move_range, negated_range, extended_range, swapped_range, loaded_range}
 use Rattle.scx_abs.specs.declared.faults.Why.{Why}
 use Rattle.scx_abs.specs.declared.faults.Why.TheVariants.{UnusableRegister, UnwrittenStack, OutOfBounds, NullNotTested, PointerArithmetic, PointerCompare, PointerStore, TaskField, BadReturn, UnknownMap}
 use Rattle.scx_abs.specs.declared.kinds.Kind.{Kind}
@@ -44,7 +44,7 @@ use Rattle.scx_abs.specs.declared.memory.Area.{Area}
 use Rattle.scx_abs.specs.declared.memory.Area.TheVariants.{OnStack, InElement, InTask}
 use Rattle.scx_abs.specs.Cells.{kind_of, held_of, with_bytes, all_written, written_in}
 use Rattle.scx_abs.specs.States.{kind_at, cell_at, with_kind, with_cell}
-use Rattle.scx_semantics.specs.Results.{◌>>=◌}
+use Rattle.scx_isa_semantics.specs.Results.{◌>>=◌}
 use Rattle.scx_abs.specs.Checks.{flows, goes_on, usable, operand_kind, sets, element_size, offset_within, offset_for, offsets_for}
 use Rattle.scx_abs.specs.Calls.{call_rule}
 

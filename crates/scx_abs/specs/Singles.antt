@@ -1,12 +1,12 @@
 -- Which operations read single numbers alone.
 use Rattle.std.specs.Prelude.{Bool, true, false, ◌&&◌}
-use Rattle.scx_semantics.specs.declared.instructions.Operand.{Operand}
-use Rattle.scx_semantics.specs.declared.instructions.Operand.TheVariants as operand
-use Rattle.scx_semantics.specs.declared.operations.Operation.{Operation}
-use Rattle.scx_semantics.specs.declared.operations.Operation.TheVariants.{Move}
-use Rattle.scx_semantics.specs.declared.registers.Register.{Register}
-use Rattle.scx_semantics.specs.Registers.{number}
-use Rattle.scx_ranges.specs.Ranges.{is_single}
+use Rattle.scx_isa_semantics.specs.declared.instructions.Operand.{Operand}
+use Rattle.scx_isa_semantics.specs.declared.instructions.Operand.TheVariants as operand
+use Rattle.scx_isa_semantics.specs.declared.operations.Operation.{Operation}
+use Rattle.scx_isa_semantics.specs.declared.operations.Operation.TheVariants.{Move}
+use Rattle.scx_isa_semantics.specs.declared.registers.Register.{Register}
+use Rattle.scx_isa_semantics.specs.Registers.{number}
+use Rattle.scx_abs_ranges.specs.Ranges.{is_single}
 use Rattle.scx_abs.specs.declared.kinds.Kind.{Kind}
 use Rattle.scx_abs.specs.declared.kinds.Kind.TheVariants.{Num}
 use Rattle.scx_abs.specs.declared.states.AbsState.{AbsState}

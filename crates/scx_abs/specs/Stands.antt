@@ -2,18 +2,18 @@
 -- it. A number in a register is a member of its range, and so is the offset of a pointer into an
 -- element; bytes are below 256.
 use Rattle.std.specs.Prelude.{ℕ, ◌+◌, ◌*◌, ◌≡◌, ◌<◌, List, Some, length, IsTrue}
-use Rattle.scx_semantics.specs.declared.values.Value.{Value}
-use Rattle.scx_semantics.specs.declared.values.Value.TheVariants as value
-use Rattle.scx_semantics.specs.declared.values.Pointer.TheVariants as pointer
-use Rattle.scx_semantics.specs.declared.values.StackByte.{StackByte}
-use Rattle.scx_semantics.specs.declared.values.StackByte.TheVariants as byte
-use Rattle.scx_semantics.specs.declared.operations.Size.TheVariants.{DoubleWord}
-use Rattle.scx_semantics.specs.Elements.{Maps, elements}
-use Rattle.scx_semantics.specs.Machine.{Machine}
-use Rattle.scx_semantics.specs.Memory as memory
-use Rattle.scx_semantics.specs.Memory.{bytes_at, value_bytes}
+use Rattle.scx_isa_semantics.specs.declared.values.Value.{Value}
+use Rattle.scx_isa_semantics.specs.declared.values.Value.TheVariants as value
+use Rattle.scx_isa_semantics.specs.declared.values.Pointer.TheVariants as pointer
+use Rattle.scx_isa_semantics.specs.declared.values.StackByte.{StackByte}
+use Rattle.scx_isa_semantics.specs.declared.values.StackByte.TheVariants as byte
+use Rattle.scx_isa_semantics.specs.declared.operations.Size.TheVariants.{DoubleWord}
+use Rattle.scx_isa_semantics.specs.Elements.{Maps, elements}
+use Rattle.scx_isa_semantics.specs.Machine.{Machine}
+use Rattle.scx_isa_semantics.specs.Memory as memory
+use Rattle.scx_isa_semantics.specs.Memory.{bytes_at, value_bytes}
 use Rattle.scx_maps.specs.declared.shape.Shape.{Shape}
-use Rattle.scx_ranges.specs.Ranges.{IsIn}
+use Rattle.scx_abs_ranges.specs.Ranges.{IsIn}
 use Rattle.scx_maps.specs.Contents.{HasShapes}
 use Rattle.scx_abs.specs.declared.kinds.Kind.{Kind}
 use Rattle.scx_abs.specs.declared.kinds.Kind.TheVariants.{Unusable, Num, Stack, Elem, ElemOrNull, Task, TaskOrNull, MapRef}

@@ -1,10 +1,10 @@
 -- Abstract states: a kind for each register and a cell for each eight bytes of the stack. They are
 -- ordered register by register and cell by cell.
 use Rattle.std.specs.Prelude.{◌≡◌, ℕ, [], length, set, replicate, slice_index_or, Option, Some, None, All}
-use Rattle.scx_semantics.specs.declared.callbacks.Callback.{Callback}
-use Rattle.scx_semantics.specs.declared.callbacks.Callback.TheVariants as callback
-use Rattle.scx_semantics.specs.Memory.{stack_size}
-use Rattle.scx_ranges.specs.Ranges.{all}
+use Rattle.scx_isa_semantics.specs.declared.callbacks.Callback.{Callback}
+use Rattle.scx_isa_semantics.specs.declared.callbacks.Callback.TheVariants as callback
+use Rattle.scx_isa_semantics.specs.Memory.{stack_size}
+use Rattle.scx_abs_ranges.specs.Ranges.{all}
 use Rattle.scx_abs.specs.declared.kinds.Kind.{Kind}
 use Rattle.scx_abs.specs.declared.kinds.Kind.TheVariants.{Unusable, Num, Stack, Task, TaskOrNull}
 use Rattle.scx_abs.specs.declared.kinds.Cell.{Cell}

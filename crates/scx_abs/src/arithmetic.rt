@@ -1,13 +1,13 @@
 ghost use Rattle.std.specs.Prelude.{◌≡◌, ◌&&◌, false, List, Ok, Some, None, IfSome};
-ghost use Rattle.scx_semantics.specs.Registers.{number};
+ghost use Rattle.scx_isa_semantics.specs.Registers.{number};
 ghost use Rattle.scx_abs.specs.Changes.{done_on};
 ghost use Rattle.scx_abs.specs.Checks.{gets, sets, usable, operand_kind};
 ghost use Rattle.scx_abs.specs.declared.kinds.Kind.TheVariants as Kind;
 ghost use Rattle.scx_maps.specs.declared.shape.Shape.{Shape};
-ghost use Rattle.scx_ranges.specs.Ranges.{single};
-ghost use Rattle.scx_semantics.specs.declared.operations.Operation.{Operation};
-ghost use Rattle.scx_ranges.specs.declared.ranges.Range.{Range};
-ghost use Rattle.scx_ranges.specs.Results.{computed_at, negated_range, extended_range, swapped_range};
+ghost use Rattle.scx_abs_ranges.specs.Ranges.{single};
+ghost use Rattle.scx_isa_semantics.specs.declared.operations.Operation.{Operation};
+ghost use Rattle.scx_abs_ranges.specs.declared.ranges.Range.{Range};
+ghost use Rattle.scx_abs_ranges.specs.Results.{computed_at, negated_range, extended_range, swapped_range};
 ghost use Rattle.scx_abs.specs.Pieces.{advanced_kind, copied_kind, combined_numbers, combined_with};
 ghost use Rattle.scx_abs.specs.Rules.{in_element, moved_by, moved_kind, computed_kind, advanced_by, element_kind, arithmetic_kind, combined_kind, binary_kind, numbers_of, number_kind, map_kind};
 ghost use Rattle.scx_abs.specs.Singles.{is_single_number, is_single_operand, reads_singles};
@@ -17,10 +17,10 @@ use crate::faults::Why;
 use crate::kinds::Kind;
 use crate::offsets::{element_size, offset_within};
 use crate::states::AbsState;
-use scx_arithmetic::{compute, immediate, low, pointer_step, shifted};
+use scx_abs_ranges::{Numbers, Offsets};
 use scx_isa::{ByteOrder, Extension, Operand, Operation, Register, STACK_SIZE, SwapWidth, Width};
+use scx_isa_arithmetic::{compute, immediate, low, pointer_step, shifted};
 use scx_maps::MapDefs;
-use scx_ranges::{Numbers, Offsets};
 
 /// The kind of a register that is read.
 #[inline(always)]

@@ -1,5 +1,5 @@
 ghost use Rattle.std.specs.Prelude.{◌≡◌, ◌+◌, ◌≤◌, drop};
-ghost use Rattle.scx_semantics.specs.HostTables.{parameters, helper_at};
+ghost use Rattle.scx_isa_semantics.specs.HostTables.{parameters, helper_at};
 ghost use Rattle.scx_abs.specs.Changes.{went_on};
 ghost use Rattle.scx_abs.specs.Calls.{key_in, key_check, task_check, map_check, number_check, takes, argument_check, arguments_check, element_of, answer_kind, call_allowed, call_rule};
 ghost use Rattle.scx_abs.specs.States.{kind_at};
@@ -9,10 +9,10 @@ use crate::faults::Why;
 use crate::kinds::{CELL_BYTES, Cell, Kind, all_written};
 use crate::offsets::{check_offsets, element_size, offset_for};
 use crate::states::AbsState;
+use scx_abs_ranges::Numbers;
 use scx_isa::{Helper, Parameter, Register, STACK_SIZE, Size};
 use scx_maps::MapDefs;
-use scx_ranges::Numbers;
-use scx_safety::Context;
+use scx_vm_safety::Context;
 
 /// What a call changes: the helper is there, then it may be called here, then each argument is
 /// what it takes.

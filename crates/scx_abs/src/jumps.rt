@@ -1,6 +1,6 @@
 ghost use Rattle.std.specs.Prelude.{◌≡◌, Ok, Some, IfSome, true, false, option_map};
-ghost use Rattle.scx_semantics.specs.Registers.{number};
-ghost use Rattle.scx_ranges.specs.Ranges.{single};
+ghost use Rattle.scx_isa_semantics.specs.Registers.{number};
+ghost use Rattle.scx_abs_ranges.specs.Ranges.{single};
 ghost use Rattle.scx_abs.specs.declared.changes.Change.TheVariants as Change;
 ghost use Rattle.scx_abs.specs.declared.kinds.Kind.TheVariants.{Elem, Num, Task};
 ghost use Rattle.scx_abs.specs.Changes.{after_change, next_of, next_states};
@@ -13,9 +13,9 @@ use crate::changes::{Change, Flow};
 use crate::faults::Why;
 use crate::kinds::Kind;
 use crate::states::AbsState;
-use scx_arithmetic::immediate;
+use scx_abs_ranges::{Numbers, Offsets};
 use scx_isa::{Comparison, Operand, Register, Width};
-use scx_ranges::{Numbers, Offsets};
+use scx_isa_arithmetic::immediate;
 
 /// The constant that a jump compares all 64 bits of a register's number with, if it does: each side has
 /// then the numbers that `Numbers::cut` leaves.

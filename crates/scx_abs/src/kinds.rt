@@ -1,12 +1,12 @@
 ghost use Rattle.std.specs.Prelude.{◌≡◌, ◌+◌, ◌≤◌, true, false, None, IfSome};
-ghost use Rattle.scx_ranges.specs.Ranges.{single};
+ghost use Rattle.scx_abs_ranges.specs.Ranges.{single};
 ghost use Rattle.scx_abs.specs.Kinds.{join_kind};
 ghost use Rattle.scx_abs.specs.declared.kinds.Kind.TheVariants as Kind;
 ghost use Rattle.scx_abs.specs.Cells.{kind_of, held_of, cell_of, common, with_bytes, join_pointers, join_cell};
 ghost use Rattle.scx_abs.specs.Cells.{all_written, written_in};
 ghost use Rattle.scx_abs.specs.Singles.{is_single_number};
 
-use scx_ranges::{Numbers, Offsets};
+use scx_abs_ranges::{Numbers, Offsets};
 
 /// How many bytes a cell stands for.
 pub const CELL_BYTES: usize = 8;

@@ -1,6 +1,6 @@
 ghost use Rattle.std.specs.Prelude.{◌≡◌, Ok, IfOk};
-ghost use Rattle.scx_semantics.specs.Memory.{access_size, size_bytes};
-ghost use Rattle.scx_semantics.specs.Registers.{number};
+ghost use Rattle.scx_isa_semantics.specs.Memory.{access_size, size_bytes};
+ghost use Rattle.scx_isa_semantics.specs.Registers.{number};
 ghost use Rattle.scx_abs.specs.Changes.{after_change, done_on, lowest_in};
 ghost use Rattle.scx_abs.specs.Checks.{sets};
 ghost use Rattle.scx_abs.specs.Kinds.{IsLeastCover};

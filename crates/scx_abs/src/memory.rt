@@ -1,7 +1,7 @@
 ghost use Rattle.std.specs.Prelude.{◌≡◌, ◌+◌, ◌<◌, ◌≤◌, Ok, IfOk, IfErr};
-ghost use Rattle.scx_semantics.specs.Registers.{number};
-ghost use Rattle.scx_semantics.specs.Memory.{size_bytes, access_size};
-ghost use Rattle.scx_ranges.specs.declared.ranges.Range.{Range};
+ghost use Rattle.scx_isa_semantics.specs.Registers.{number};
+ghost use Rattle.scx_isa_semantics.specs.Memory.{size_bytes, access_size};
+ghost use Rattle.scx_abs_ranges.specs.declared.ranges.Range.{Range};
 ghost use Rattle.scx_abs.specs.declared.kinds.Kind.TheVariants as Kind;
 ghost use Rattle.scx_abs.specs.declared.kinds.Cell.TheVariants as Cell;
 ghost use Rattle.scx_abs.specs.declared.states.AbsState.{AbsState};
@@ -18,10 +18,10 @@ use crate::faults::Why;
 use crate::kinds::{CELL_BYTES, Cell, Held, Kind, all_written, marked};
 use crate::offsets::{check_offsets, element_size, offset_for};
 use crate::states::{AbsState, CELLS};
-use scx_arithmetic::{immediate, shifted};
+use scx_abs_ranges::Numbers;
 use scx_isa::{Access, Field, Operand, Register, STACK_SIZE, Size, Width};
+use scx_isa_arithmetic::{immediate, shifted};
 use scx_maps::MapDefs;
-use scx_ranges::Numbers;
 
 /// The memory that an address means.
 #[derive(Clone, Copy)]

@@ -1,13 +1,13 @@
 ghost use Rattle.std.specs.Prelude.{◌≡◌, ◌≤◌, IfOk};
-ghost use Rattle.scx_semantics.specs.Memory.{size_bytes};
+ghost use Rattle.scx_isa_semantics.specs.Memory.{size_bytes};
 ghost use Rattle.scx_abs.specs.Areas.{IsAlignedWithin};
 ghost use Rattle.scx_abs.specs.Checks.{element_size, offset_within, offset_for, offsets_for};
 
 use crate::faults::Why;
-use scx_arithmetic::within;
+use scx_abs_ranges::Offsets;
 use scx_isa::Size;
+use scx_isa_arithmetic::within;
 use scx_maps::MapDefs;
-use scx_ranges::Offsets;
 
 /// How many bytes the elements of a map have; none where the map isn't there.
 pub(crate) fn element_size(defs: &MapDefs, map: u8) -> u16

@@ -1,5 +1,5 @@
 ghost use Rattle.std.specs.Prelude.{◌≡◌, Some, None};
-ghost use Rattle.scx_semantics.specs.Registers.{number};
+ghost use Rattle.scx_isa_semantics.specs.Registers.{number};
 ghost use Rattle.scx_abs.specs.Changes.{ended_on, next_states, went_on};
 ghost use Rattle.scx_abs.specs.Checks.{flows, sets};
 ghost use Rattle.scx_abs.specs.Rules.{binary_kind, end_rule, load_kind, rule, store_rule};
@@ -11,11 +11,11 @@ use crate::faults::Why;
 use crate::jumps::flow_of_jump;
 use crate::kinds::Kind;
 use crate::states::AbsState;
-use scx_arithmetic::wide_immediate;
+use scx_abs_ranges::Numbers;
 use scx_isa::{Access, Insn, Operand, Operation, Register, Size, Width};
+use scx_isa_arithmetic::wide_immediate;
 use scx_maps::MapDefs;
-use scx_ranges::Numbers;
-use scx_safety::Context;
+use scx_vm_safety::Context;
 
 /// What flows on from an instruction.
 #[derive(Clone, Copy)]

@@ -1,5 +1,5 @@
 ghost use Rattle.std.specs.Prelude.{◌≡◌, ◌<◌, ◌≤◌, ℕ, length, set, slice_index_or, []};
-ghost use Rattle.scx_semantics.specs.Registers.{number};
+ghost use Rattle.scx_isa_semantics.specs.Registers.{number};
 ghost use Rattle.scx_abs.specs.declared.kinds.Kind.TheVariants.{Unusable};
 ghost use Rattle.scx_abs.specs.declared.kinds.Cell.TheVariants.{Bytes};
 ghost use Rattle.scx_abs.specs.Kinds.{IsLeastCover, join_kind};
@@ -8,8 +8,8 @@ ghost use Rattle.scx_abs.specs.Changes.{AreBlank};
 ghost use Rattle.scx_abs.specs.States.{CoversState, IsProper, argument_kinds, start_of};
 
 use crate::kinds::{CELL_BYTES, Cell, Kind};
+use scx_abs_ranges::Numbers;
 use scx_isa::{Callback, REGISTERS, Register, STACK_SIZE};
-use scx_ranges::Numbers;
 
 /// How many cells of eight bytes the stack has.
 pub const CELLS: usize = 64;

@@ -7,26 +7,26 @@ use Rattle.std.proofs.Math.Facts.{sfits_to_z}
 use Rattle.std.specs.Int.{w16, w32, cast_signed}
 use Rattle.std.specs.List.{AllByRecursion}
 use Rattle.std.specs.Str.Lines.{lines}
-use Rattle.scx_semantics.specs.declared.instructions.Insn.{Insn}
-use Rattle.scx_semantics.specs.declared.instructions.Operand.{Operand}
-use Rattle.scx_semantics.specs.declared.instructions.Operand.TheVariants as operand
-use Rattle.scx_semantics.specs.Code.{is_wide, size}
-use Rattle.scx_encoding.specs.Spelling.{IsOperand, IsInsn}
+use Rattle.scx_isa_semantics.specs.declared.instructions.Insn.{Insn}
+use Rattle.scx_isa_semantics.specs.declared.instructions.Operand.{Operand}
+use Rattle.scx_isa_semantics.specs.declared.instructions.Operand.TheVariants as operand
+use Rattle.scx_isa_semantics.specs.Code.{is_wide, size}
+use Rattle.scx_isa_encoding.specs.Spelling.{IsOperand, IsInsn}
 use Rattle.scx_isa.specs.Spelling.{IsCode, IsProgram}
 use Rattle.scx_isa.specs.declared.program.TheConstants.{MAX_SLOTS}
-use Rattle.scx_text.specs.declared.items.Literal.{Literal}
-use Rattle.scx_text.specs.declared.items.WrittenOperand.{WrittenOperand}
-use Rattle.scx_text.specs.declared.items.WrittenOperand.TheVariants as argument
-use Rattle.scx_text.specs.declared.items.Statement.{Statement}
-use Rattle.scx_text.specs.declared.items.Statement.TheVariants as statement
-use Rattle.scx_text.specs.declared.items.Jump.{Jump}
-use Rattle.scx_text.specs.declared.items.Jump.TheVariants as jump
-use Rattle.scx_text.specs.Options.{either, ◌>>=◌ as ◌>>-◌}
-use Rattle.scx_text.specs.Items.{Label, Distance, ItemValue, Blank, DefinesLabel, Says, Jumps, read_line}
+use Rattle.scx_asm_text.specs.declared.items.Literal.{Literal}
+use Rattle.scx_asm_text.specs.declared.items.WrittenOperand.{WrittenOperand}
+use Rattle.scx_asm_text.specs.declared.items.WrittenOperand.TheVariants as argument
+use Rattle.scx_asm_text.specs.declared.items.Statement.{Statement}
+use Rattle.scx_asm_text.specs.declared.items.Statement.TheVariants as statement
+use Rattle.scx_asm_text.specs.declared.items.Jump.{Jump}
+use Rattle.scx_asm_text.specs.declared.items.Jump.TheVariants as jump
+use Rattle.scx_asm_text.specs.Options.{either, ◌>>=◌ as ◌>>-◌}
+use Rattle.scx_asm_text.specs.Items.{Label, Distance, ItemValue, Blank, DefinesLabel, Says, Jumps, read_line}
 use Rattle.scx_asm.specs.declared.faults.AsmFault.{AsmFault}
 use Rattle.scx_asm.specs.declared.faults.AsmFault.TheVariants.{Syntax, UnknownLabel, TwiceLabel, OutOfRange, TooLong}
 use Rattle.scx_asm.specs.Resolving.{immediate, short, wide, long, operand_of, insn_of, jump_of, distant, fits, slots, Labels, find, distance, or_out_of_range, insn_for}
-use Rattle.scx_semantics.specs.Results.{◌>>=◌}
+use Rattle.scx_isa_semantics.specs.Results.{◌>>=◌}
 use Rattle.scx_asm.specs.FirstPass.{UnresolvedLine, FirstPassState, nothing_read, at_line, with_label, with_unresolved, with_line, with_text, first_pass}
 use Rattle.scx_asm.specs.Reading.{second_pass, insns_of, read_insns, code_of}
 

@@ -5,22 +5,22 @@ use Rattle.std.proofs.lemmas.Int.{ints}
 use Rattle.std.proofs.Math.Facts.{Fits-of_z}
 use Rattle.std.specs.Fmt.{decimal, signed_decimal}
 use Rattle.std.specs.Int.{w16, w32, cast_unsigned}
-use Rattle.scx_semantics.specs.declared.operations.Width.{Width}
-use Rattle.scx_semantics.specs.declared.operations.Width.TheVariants.{Bits64}
-use Rattle.scx_semantics.specs.declared.registers.Register.{Register}
-use Rattle.scx_semantics.specs.declared.instructions.Operand.{Operand}
-use Rattle.scx_semantics.specs.declared.instructions.Operand.TheVariants as operand
-use Rattle.scx_semantics.specs.declared.instructions.Insn.{Insn}
-use Rattle.scx_semantics.specs.declared.instructions.Insn.TheVariants as insn
-use Rattle.scx_semantics.specs.Arithmetic.{wide_immediate, extension_width}
-use Rattle.scx_encoding.specs.Spelling.{IsOperand, IsInsn}
-use Rattle.scx_text.specs.declared.symbols.Symbol.{Symbol}
-use Rattle.scx_text.specs.declared.symbols.Symbol.TheVariants.{Assign, Compare, Plus, Minus, Star, Opening, Closing}
-use Rattle.scx_semantics.specs.declared.operations.Operation.TheVariants.{Move}
-use Rattle.scx_text.specs.Symbols.{spelling}
-use Rattle.scx_text.specs.Names.{register_text, access_text, stored_access, extension_access, order_text}
-use Rattle.scx_text.specs.Tokens.{Lexeme, Word, Number, Mark, followed_by, tokens_from, tokens}
-use Rattle.scx_text.specs.Canonical.{operand_text, offset_text, distance_text, memory_operand_text, insn_text}
+use Rattle.scx_isa_semantics.specs.declared.operations.Width.{Width}
+use Rattle.scx_isa_semantics.specs.declared.operations.Width.TheVariants.{Bits64}
+use Rattle.scx_isa_semantics.specs.declared.registers.Register.{Register}
+use Rattle.scx_isa_semantics.specs.declared.instructions.Operand.{Operand}
+use Rattle.scx_isa_semantics.specs.declared.instructions.Operand.TheVariants as operand
+use Rattle.scx_isa_semantics.specs.declared.instructions.Insn.{Insn}
+use Rattle.scx_isa_semantics.specs.declared.instructions.Insn.TheVariants as insn
+use Rattle.scx_isa_semantics.specs.Arithmetic.{wide_immediate, extension_width}
+use Rattle.scx_isa_encoding.specs.Spelling.{IsOperand, IsInsn}
+use Rattle.scx_asm_text.specs.declared.symbols.Symbol.{Symbol}
+use Rattle.scx_asm_text.specs.declared.symbols.Symbol.TheVariants.{Assign, Compare, Plus, Minus, Star, Opening, Closing}
+use Rattle.scx_isa_semantics.specs.declared.operations.Operation.TheVariants.{Move}
+use Rattle.scx_asm_text.specs.Symbols.{spelling}
+use Rattle.scx_asm_text.specs.Names.{register_text, access_text, stored_access, extension_access, order_text}
+use Rattle.scx_asm_text.specs.Tokens.{Lexeme, Word, Number, Mark, followed_by, tokens_from, tokens}
+use Rattle.scx_asm_text.specs.Canonical.{operand_text, offset_text, distance_text, memory_operand_text, insn_text}
 use Rattle.scx_asm.proofs.TokensBack.{ends_symbol, ends_word, symbol_read, number_read, name_read, digits_end_symbol, IsName}
 use Rattle.scx_asm.proofs.NamesBack.{name_if, name_goto, name_gotol, name_call, name_exit, name_map, name_ll, name_register, name_access, name_order}
 

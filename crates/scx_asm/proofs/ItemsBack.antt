@@ -1,37 +1,37 @@
 -- What the tokens of the canonical text say: the instruction with its numbers written out.
 use Rattle.std.proofs.Common.{◌≡◌, suc, ℤ, pos, negsuc, Bool, true, false, codes, List, [], ◌∷◌, Some, refl, ◌∙◌}
-use Rattle.scx_semantics.specs.declared.operations.Width.{Width}
-use Rattle.scx_semantics.specs.declared.operations.Width.TheVariants.{Bits32, Bits64}
-use Rattle.scx_semantics.specs.declared.operations.Operation.{Operation}
-use Rattle.scx_semantics.specs.declared.operations.Operation.TheVariants.{Add, Subtract, Multiply, Divide, SignedDivide, Or, And, Xor, ShiftLeft, ShiftRight, ShiftRightSigned, Modulo, SignedModulo, Move}
-use Rattle.scx_semantics.specs.declared.operations.Extension.{Extension}
-use Rattle.scx_semantics.specs.declared.operations.Extension.TheVariants.{Low8To32, Low16To32, Low8To64, Low16To64, Low32To64}
-use Rattle.scx_semantics.specs.declared.operations.Size.{Size}
-use Rattle.scx_semantics.specs.declared.operations.Size.TheVariants as size
-use Rattle.scx_semantics.specs.declared.operations.Access.{Access}
-use Rattle.scx_semantics.specs.declared.operations.ByteOrder.{ByteOrder}
-use Rattle.scx_semantics.specs.declared.operations.ByteOrder.TheVariants.{Little, Big, Swapped}
-use Rattle.scx_semantics.specs.declared.operations.SwapWidth.{SwapWidth}
-use Rattle.scx_semantics.specs.declared.operations.SwapWidth.TheVariants as order
-use Rattle.scx_encoding.specs.Spelling.{IsInsn}
-use Rattle.scx_text.specs.Canonical.{insn_text}
-use Rattle.scx_semantics.specs.declared.registers.Register.{Register}
-use Rattle.scx_semantics.specs.declared.registers.Register.TheVariants.{R0, R1, R2, R3, R4, R5, R6, R7, R8, R9, R10}
-use Rattle.scx_semantics.specs.declared.instructions.Operand.{Operand}
-use Rattle.scx_semantics.specs.declared.instructions.Operand.TheVariants as operand
-use Rattle.scx_semantics.specs.declared.instructions.Insn.{Insn}
-use Rattle.scx_semantics.specs.declared.instructions.Insn.TheVariants as insn
-use Rattle.scx_semantics.specs.Arithmetic as arithmetic
-use Rattle.scx_semantics.specs.Arithmetic.{extension_width}
-use Rattle.scx_text.specs.declared.items.Literal.{Literal}
-use Rattle.scx_text.specs.declared.items.WrittenOperand.{WrittenOperand}
-use Rattle.scx_text.specs.declared.items.WrittenOperand.TheVariants as argument
-use Rattle.scx_text.specs.declared.items.Statement.TheVariants as statement
-use Rattle.scx_text.specs.declared.items.Jump.TheVariants as jump
-use Rattle.scx_text.specs.declared.symbols.Symbol.TheVariants.{Assign, Minus, Star, Opening, Closing}
-use Rattle.scx_text.specs.Names.{first_with_name, register_text, register_in, access_text, stored_access, stored_size, extension_of, extension_access, order_text}
-use Rattle.scx_text.specs.Tokens.{Lexeme, Word, Number, Mark}
-use Rattle.scx_text.specs.Items.{Distance, ItemValue, Says, Jumps, literal, read_literal, read_offset, read_destination, read_operand, read_memory_operand, same, behind_register, item_of, read_line}
+use Rattle.scx_isa_semantics.specs.declared.operations.Width.{Width}
+use Rattle.scx_isa_semantics.specs.declared.operations.Width.TheVariants.{Bits32, Bits64}
+use Rattle.scx_isa_semantics.specs.declared.operations.Operation.{Operation}
+use Rattle.scx_isa_semantics.specs.declared.operations.Operation.TheVariants.{Add, Subtract, Multiply, Divide, SignedDivide, Or, And, Xor, ShiftLeft, ShiftRight, ShiftRightSigned, Modulo, SignedModulo, Move}
+use Rattle.scx_isa_semantics.specs.declared.operations.Extension.{Extension}
+use Rattle.scx_isa_semantics.specs.declared.operations.Extension.TheVariants.{Low8To32, Low16To32, Low8To64, Low16To64, Low32To64}
+use Rattle.scx_isa_semantics.specs.declared.operations.Size.{Size}
+use Rattle.scx_isa_semantics.specs.declared.operations.Size.TheVariants as size
+use Rattle.scx_isa_semantics.specs.declared.operations.Access.{Access}
+use Rattle.scx_isa_semantics.specs.declared.operations.ByteOrder.{ByteOrder}
+use Rattle.scx_isa_semantics.specs.declared.operations.ByteOrder.TheVariants.{Little, Big, Swapped}
+use Rattle.scx_isa_semantics.specs.declared.operations.SwapWidth.{SwapWidth}
+use Rattle.scx_isa_semantics.specs.declared.operations.SwapWidth.TheVariants as order
+use Rattle.scx_isa_encoding.specs.Spelling.{IsInsn}
+use Rattle.scx_asm_text.specs.Canonical.{insn_text}
+use Rattle.scx_isa_semantics.specs.declared.registers.Register.{Register}
+use Rattle.scx_isa_semantics.specs.declared.registers.Register.TheVariants.{R0, R1, R2, R3, R4, R5, R6, R7, R8, R9, R10}
+use Rattle.scx_isa_semantics.specs.declared.instructions.Operand.{Operand}
+use Rattle.scx_isa_semantics.specs.declared.instructions.Operand.TheVariants as operand
+use Rattle.scx_isa_semantics.specs.declared.instructions.Insn.{Insn}
+use Rattle.scx_isa_semantics.specs.declared.instructions.Insn.TheVariants as insn
+use Rattle.scx_isa_semantics.specs.Arithmetic as arithmetic
+use Rattle.scx_isa_semantics.specs.Arithmetic.{extension_width}
+use Rattle.scx_asm_text.specs.declared.items.Literal.{Literal}
+use Rattle.scx_asm_text.specs.declared.items.WrittenOperand.{WrittenOperand}
+use Rattle.scx_asm_text.specs.declared.items.WrittenOperand.TheVariants as argument
+use Rattle.scx_asm_text.specs.declared.items.Statement.TheVariants as statement
+use Rattle.scx_asm_text.specs.declared.items.Jump.TheVariants as jump
+use Rattle.scx_asm_text.specs.declared.symbols.Symbol.TheVariants.{Assign, Minus, Star, Opening, Closing}
+use Rattle.scx_asm_text.specs.Names.{first_with_name, register_text, register_in, access_text, stored_access, stored_size, extension_of, extension_access, order_text}
+use Rattle.scx_asm_text.specs.Tokens.{Lexeme, Word, Number, Mark}
+use Rattle.scx_asm_text.specs.Items.{Distance, ItemValue, Says, Jumps, literal, read_literal, read_offset, read_destination, read_operand, read_memory_operand, same, behind_register, item_of, read_line}
 use Rattle.scx_asm.proofs.NamesBack.{register_again, access_again}
 use Rattle.scx_asm.proofs.InsnsBack.{signed_tokens, distance_tokens, offset_tokens, operand_tokens, memory_operand_tokens, insn_tokens, insn_read}
 

@@ -7,31 +7,31 @@ use Rattle.std.specs.Fmt.{decimal, signed_decimal}
 use Rattle.std.specs.List.{flat_map, slice_split, AllByRecursion}
 use Rattle.std.specs.Str.Lines.{lines, lines_of_parts, strip_carriage_return}
 use Rattle.std.specs.Str.Parse.{AllDigits}
-use Rattle.scx_semantics.specs.declared.operations.Width.{Width}
-use Rattle.scx_semantics.specs.declared.operations.Width.TheVariants.{Bits32, Bits64}
-use Rattle.scx_semantics.specs.declared.operations.Operation.TheVariants.{Add, Subtract, Multiply, Divide, SignedDivide, Or, And, Xor, ShiftLeft, ShiftRight, ShiftRightSigned, Modulo, SignedModulo, Move}
-use Rattle.scx_semantics.specs.declared.operations.Comparison.TheVariants.{Equal, Greater, GreaterOrEqual, BitTest, NotEqual, SignedGreater, SignedGreaterOrEqual, Less, LessOrEqual, SignedLess, SignedLessOrEqual}
-use Rattle.scx_semantics.specs.declared.operations.Access.{Access}
-use Rattle.scx_semantics.specs.declared.operations.Access.TheVariants as access
-use Rattle.scx_semantics.specs.declared.operations.ByteOrder.{ByteOrder}
-use Rattle.scx_semantics.specs.declared.operations.ByteOrder.TheVariants.{Little, Big, Swapped}
-use Rattle.scx_semantics.specs.declared.operations.SwapWidth.{SwapWidth}
-use Rattle.scx_semantics.specs.declared.operations.SwapWidth.TheVariants as order
-use Rattle.scx_semantics.specs.declared.registers.Register.{Register}
-use Rattle.scx_semantics.specs.declared.registers.Register.TheVariants.{R0, R1, R2, R3, R4, R5, R6, R7, R8, R9, R10}
-use Rattle.scx_semantics.specs.Registers.{number}
-use Rattle.scx_semantics.specs.declared.instructions.Operand.{Operand}
-use Rattle.scx_semantics.specs.declared.instructions.Operand.TheVariants as operand
-use Rattle.scx_semantics.specs.declared.instructions.Insn.{Insn}
-use Rattle.scx_semantics.specs.declared.instructions.Insn.TheVariants as insn
-use Rattle.scx_semantics.specs.Arithmetic as arithmetic
-use Rattle.scx_semantics.specs.Arithmetic.{extension_width}
-use Rattle.scx_encoding.specs.Spelling.{IsOperand, IsInsn}
-use Rattle.scx_text.specs.declared.symbols.Symbol.{Symbol}
-use Rattle.scx_text.specs.declared.symbols.Symbol.TheVariants.{Assign, Compare, Plus, Minus, Star, Opening, Closing, Colon}
-use Rattle.scx_text.specs.Symbols.{spelling}
-use Rattle.scx_text.specs.Names.{width_text, register_text, access_text, stored_access, extension_access, order_text}
-use Rattle.scx_text.specs.Canonical.{operand_text, offset_text, distance_text, memory_operand_text, insn_text}
+use Rattle.scx_isa_semantics.specs.declared.operations.Width.{Width}
+use Rattle.scx_isa_semantics.specs.declared.operations.Width.TheVariants.{Bits32, Bits64}
+use Rattle.scx_isa_semantics.specs.declared.operations.Operation.TheVariants.{Add, Subtract, Multiply, Divide, SignedDivide, Or, And, Xor, ShiftLeft, ShiftRight, ShiftRightSigned, Modulo, SignedModulo, Move}
+use Rattle.scx_isa_semantics.specs.declared.operations.Comparison.TheVariants.{Equal, Greater, GreaterOrEqual, BitTest, NotEqual, SignedGreater, SignedGreaterOrEqual, Less, LessOrEqual, SignedLess, SignedLessOrEqual}
+use Rattle.scx_isa_semantics.specs.declared.operations.Access.{Access}
+use Rattle.scx_isa_semantics.specs.declared.operations.Access.TheVariants as access
+use Rattle.scx_isa_semantics.specs.declared.operations.ByteOrder.{ByteOrder}
+use Rattle.scx_isa_semantics.specs.declared.operations.ByteOrder.TheVariants.{Little, Big, Swapped}
+use Rattle.scx_isa_semantics.specs.declared.operations.SwapWidth.{SwapWidth}
+use Rattle.scx_isa_semantics.specs.declared.operations.SwapWidth.TheVariants as order
+use Rattle.scx_isa_semantics.specs.declared.registers.Register.{Register}
+use Rattle.scx_isa_semantics.specs.declared.registers.Register.TheVariants.{R0, R1, R2, R3, R4, R5, R6, R7, R8, R9, R10}
+use Rattle.scx_isa_semantics.specs.Registers.{number}
+use Rattle.scx_isa_semantics.specs.declared.instructions.Operand.{Operand}
+use Rattle.scx_isa_semantics.specs.declared.instructions.Operand.TheVariants as operand
+use Rattle.scx_isa_semantics.specs.declared.instructions.Insn.{Insn}
+use Rattle.scx_isa_semantics.specs.declared.instructions.Insn.TheVariants as insn
+use Rattle.scx_isa_semantics.specs.Arithmetic as arithmetic
+use Rattle.scx_isa_semantics.specs.Arithmetic.{extension_width}
+use Rattle.scx_isa_encoding.specs.Spelling.{IsOperand, IsInsn}
+use Rattle.scx_asm_text.specs.declared.symbols.Symbol.{Symbol}
+use Rattle.scx_asm_text.specs.declared.symbols.Symbol.TheVariants.{Assign, Compare, Plus, Minus, Star, Opening, Closing, Colon}
+use Rattle.scx_asm_text.specs.Symbols.{spelling}
+use Rattle.scx_asm_text.specs.Names.{width_text, register_text, access_text, stored_access, extension_access, order_text}
+use Rattle.scx_asm_text.specs.Canonical.{operand_text, offset_text, distance_text, memory_operand_text, insn_text}
 use Rattle.scx_asm.proofs.TokensBack.{and_true}
 use Rattle.scx_asm.proofs.InsnsBack.{Small, small32, small16, wide_immediate_small}
 

@@ -5,17 +5,17 @@ use Rattle.std.proofs.lemmas.Int.{ints}
 use Rattle.std.proofs.Math.Facts.{Fits-of_z, to_z-of_z}
 use Rattle.std.specs.Int.{w16, w32, cast_signed, cast_unsigned}
 use Rattle.std.specs.List.{AllByRecursion}
-use Rattle.scx_semantics.specs.declared.instructions.Operand.{Operand}
-use Rattle.scx_semantics.specs.declared.instructions.Operand.TheVariants as operand
-use Rattle.scx_semantics.specs.declared.instructions.Insn.{Insn}
-use Rattle.scx_semantics.specs.declared.instructions.Insn.TheVariants as insn
-use Rattle.scx_semantics.specs.Arithmetic as arithmetic
-use Rattle.scx_encoding.specs.Spelling.{IsOperand, IsInsn}
-use Rattle.scx_text.specs.declared.items.Literal.{Literal}
-use Rattle.scx_text.specs.declared.items.Statement.{Statement}
-use Rattle.scx_text.specs.declared.items.Jump.{Jump}
-use Rattle.scx_text.specs.Canonical.{insn_text}
-use Rattle.scx_text.specs.Items.{Distance, ItemValue, Says, Jumps, read_line}
+use Rattle.scx_isa_semantics.specs.declared.instructions.Operand.{Operand}
+use Rattle.scx_isa_semantics.specs.declared.instructions.Operand.TheVariants as operand
+use Rattle.scx_isa_semantics.specs.declared.instructions.Insn.{Insn}
+use Rattle.scx_isa_semantics.specs.declared.instructions.Insn.TheVariants as insn
+use Rattle.scx_isa_semantics.specs.Arithmetic as arithmetic
+use Rattle.scx_isa_encoding.specs.Spelling.{IsOperand, IsInsn}
+use Rattle.scx_asm_text.specs.declared.items.Literal.{Literal}
+use Rattle.scx_asm_text.specs.declared.items.Statement.{Statement}
+use Rattle.scx_asm_text.specs.declared.items.Jump.{Jump}
+use Rattle.scx_asm_text.specs.Canonical.{insn_text}
+use Rattle.scx_asm_text.specs.Items.{Distance, ItemValue, Says, Jumps, read_line}
 use Rattle.scx_asm.specs.Resolving.{immediate, short, operand_of, insn_of, distant, slots, Labels}
 use Rattle.scx_asm.specs.Standing.{label_at, definitions, AreSaid}
 use Rattle.scx_asm.proofs.Fitting.{wide_is}

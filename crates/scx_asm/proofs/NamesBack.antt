@@ -2,20 +2,20 @@
 use Rattle.std.proofs.Common.{◌≡◌, ℕ, codes, List, [], ◌∷◌, ◌++◌, Some, refl, sym, ap, subst, ◌∙◌, lit<, lit≤}
 use Rattle.std.proofs.lemmas.Fmt.{decimal_digit, decimal_step}
 use Rattle.std.specs.Fmt.{decimal}
-use Rattle.scx_semantics.specs.declared.operations.Width.{Width}
-use Rattle.scx_semantics.specs.declared.operations.Width.TheVariants.{Bits32, Bits64}
-use Rattle.scx_semantics.specs.declared.operations.Access.{Access}
-use Rattle.scx_semantics.specs.declared.operations.Access.TheVariants as access
-use Rattle.scx_semantics.specs.declared.operations.ByteOrder.{ByteOrder}
-use Rattle.scx_semantics.specs.declared.operations.ByteOrder.TheVariants.{Little, Big, Swapped}
-use Rattle.scx_semantics.specs.declared.operations.SwapWidth.{SwapWidth}
-use Rattle.scx_semantics.specs.declared.operations.SwapWidth.TheVariants as order
-use Rattle.scx_semantics.specs.declared.registers.Register.{Register}
-use Rattle.scx_semantics.specs.declared.registers.Register.TheVariants.{R0, R1, R2, R3, R4, R5, R6, R7, R8, R9, R10}
-use Rattle.scx_semantics.specs.Registers.{number}
-use Rattle.scx_text.specs.Symbols.{first_of}
-use Rattle.scx_text.specs.Tokens.{class_length}
-use Rattle.scx_text.specs.Names.{first_with_name, width_text, register_text, register_named, access_text, access_named, order_text, order_named}
+use Rattle.scx_isa_semantics.specs.declared.operations.Width.{Width}
+use Rattle.scx_isa_semantics.specs.declared.operations.Width.TheVariants.{Bits32, Bits64}
+use Rattle.scx_isa_semantics.specs.declared.operations.Access.{Access}
+use Rattle.scx_isa_semantics.specs.declared.operations.Access.TheVariants as access
+use Rattle.scx_isa_semantics.specs.declared.operations.ByteOrder.{ByteOrder}
+use Rattle.scx_isa_semantics.specs.declared.operations.ByteOrder.TheVariants.{Little, Big, Swapped}
+use Rattle.scx_isa_semantics.specs.declared.operations.SwapWidth.{SwapWidth}
+use Rattle.scx_isa_semantics.specs.declared.operations.SwapWidth.TheVariants as order
+use Rattle.scx_isa_semantics.specs.declared.registers.Register.{Register}
+use Rattle.scx_isa_semantics.specs.declared.registers.Register.TheVariants.{R0, R1, R2, R3, R4, R5, R6, R7, R8, R9, R10}
+use Rattle.scx_isa_semantics.specs.Registers.{number}
+use Rattle.scx_asm_text.specs.Symbols.{first_of}
+use Rattle.scx_asm_text.specs.Tokens.{class_length}
+use Rattle.scx_asm_text.specs.Names.{first_with_name, width_text, register_text, register_named, access_text, access_named, order_text, order_named}
 use Rattle.scx_asm.proofs.TokensBack.{IsName}
 
 -- the word if

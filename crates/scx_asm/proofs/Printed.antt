@@ -2,7 +2,7 @@
 use Rattle.std.proofs.Common.{◌≡◌, ℕ, ◌+◌, ◌<◌, [], ◌∷◌, ◌++◌, length, take, get_or, None, refl, sym}
 use Rattle.std.proofs.lemmas.List.{take_more, append-nil}
 use Rattle.std.proofs.lemmas.Grind.{flat_map-append}
-use Rattle.scx_semantics.specs.Code.{Code, at}
+use Rattle.scx_isa_semantics.specs.Code.{Code, at}
 use Rattle.scx_asm.specs.Printing.{occupant_text, program_text}
 
 -- one slot more

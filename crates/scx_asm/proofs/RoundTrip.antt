@@ -2,11 +2,11 @@
 use Rattle.std.proofs.Common.{◌≡◌, ◌⊎◌, inl, inr, ℕ, Bool, true, false, List, [], ◌∷◌, ◌++◌, map, Some, None, Result, Ok, Err, refl, sym, ap, subst, ◌∙◌}
 use Rattle.std.specs.List.{AllByRecursion, IsDistinct}
 use Rattle.std.specs.Str.{bytes_eq}
-use Rattle.scx_semantics.specs.declared.instructions.Insn.{Insn}
-use Rattle.scx_semantics.specs.Code.{Code, is_wide}
-use Rattle.scx_encoding.specs.Spelling.{IsInsn}
+use Rattle.scx_isa_semantics.specs.declared.instructions.Insn.{Insn}
+use Rattle.scx_isa_semantics.specs.Code.{Code, is_wide}
+use Rattle.scx_isa_encoding.specs.Spelling.{IsInsn}
 use Rattle.scx_isa.specs.Spelling.{IsCode, IsProgram}
-use Rattle.scx_text.specs.Items.{read_line}
+use Rattle.scx_asm_text.specs.Items.{read_line}
 use Rattle.scx_asm.specs.Resolving.{Labels}
 use Rattle.scx_asm.specs.Standing.{definitions, names, StandsFor}
 use Rattle.scx_asm.specs.declared.faults.AsmFault.{AsmFault}

@@ -1,12 +1,12 @@
 -- The second pass, as a loop goes from line to line.
 use Rattle.std.proofs.Common.{◌≡◌, ℕ, ◌+◌, ◌<◌, ◌≤◌, List, [], ◌∷◌, ◌++◌, length, map, drop, get_or, Result, Ok, Err, refl, sym, ap, ◌∙◌, append_assoc}
 use Rattle.std.proofs.lemmas.List.{drop_more, drop_all, append-nil}
-use Rattle.scx_semantics.specs.declared.instructions.Insn.{Insn}
+use Rattle.scx_isa_semantics.specs.declared.instructions.Insn.{Insn}
 use Rattle.scx_asm.specs.declared.faults.AsmFault.{AsmFault}
 use Rattle.scx_asm.specs.declared.scanning.Unresolved.{Unresolved}
-use Rattle.scx_text.specs.Items.{item_value}
+use Rattle.scx_asm_text.specs.Items.{item_value}
 use Rattle.scx_asm.specs.Resolving.{Labels, insn_for}
-use Rattle.scx_semantics.specs.Results.{◌>>=◌}
+use Rattle.scx_isa_semantics.specs.Results.{◌>>=◌}
 use Rattle.scx_asm.specs.FirstPass.{unresolved_of}
 use Rattle.scx_asm.specs.Reading.{second_pass}
 

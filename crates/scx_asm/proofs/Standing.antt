@@ -8,20 +8,20 @@ use Rattle.std.proofs.lemmas.Slice.Eq.{bytes_eq-Decides}
 use Rattle.std.specs.List.{Contains, IsDistinct, AllByRecursion}
 use Rattle.std.specs.Str.{bytes_eq}
 use Rattle.std.specs.Str.Lines.{lines}
-use Rattle.scx_semantics.specs.declared.instructions.Insn.{Insn}
-use Rattle.scx_semantics.specs.declared.instructions.Insn.TheVariants as insn
-use Rattle.scx_semantics.specs.Arithmetic.{at_distance}
-use Rattle.scx_semantics.specs.Code.{Code, is_wide, size}
-use Rattle.scx_semantics.specs.Steps.{target}
+use Rattle.scx_isa_semantics.specs.declared.instructions.Insn.{Insn}
+use Rattle.scx_isa_semantics.specs.declared.instructions.Insn.TheVariants as insn
+use Rattle.scx_isa_semantics.specs.Arithmetic.{at_distance}
+use Rattle.scx_isa_semantics.specs.Code.{Code, is_wide, size}
+use Rattle.scx_isa_semantics.specs.Steps.{target}
 use Rattle.scx_isa.specs.declared.program.TheConstants.{MAX_SLOTS}
-use Rattle.scx_text.specs.declared.items.Jump.{Jump}
-use Rattle.scx_text.specs.declared.items.Jump.TheVariants as jump
-use Rattle.scx_text.specs.Options.{either}
-use Rattle.scx_text.specs.Items.{Label, Distance, ItemValue, Blank, DefinesLabel, Says, Jumps, read_line}
+use Rattle.scx_asm_text.specs.declared.items.Jump.{Jump}
+use Rattle.scx_asm_text.specs.declared.items.Jump.TheVariants as jump
+use Rattle.scx_asm_text.specs.Options.{either}
+use Rattle.scx_asm_text.specs.Items.{Label, Distance, ItemValue, Blank, DefinesLabel, Says, Jumps, read_line}
 use Rattle.scx_asm.specs.declared.faults.AsmFault.{AsmFault}
 use Rattle.scx_asm.specs.declared.faults.AsmFault.TheVariants.{Syntax, UnknownLabel, TwiceLabel, OutOfRange, TooLong}
 use Rattle.scx_asm.specs.Resolving.{operand_of, short, wide, jump_of, distant, distance, fits, slots, or_out_of_range, Labels, find, insn_for}
-use Rattle.scx_semantics.specs.Results.{◌>>=◌}
+use Rattle.scx_isa_semantics.specs.Results.{◌>>=◌}
 use Rattle.scx_asm.specs.FirstPass.{UnresolvedLine, FirstPassState, nothing_read, at_line, with_label, with_unresolved, with_line, with_text, first_pass}
 use Rattle.scx_asm.specs.Reading.{second_pass, insns_of, read_insns, read_text, code_of}
 use Rattle.scx_asm.specs.FirstFault.{slots_of}

@@ -10,15 +10,15 @@ use Rattle.std.specs.Char.{is_ascii_digit, is_ascii_alphabetic}
 use Rattle.std.specs.Fmt.{decimal}
 use Rattle.std.specs.Int.{IsInRange}
 use Rattle.std.specs.Str.Parse.{AllDigits, digits_value}
-use Rattle.scx_semantics.specs.declared.operations.Operation.TheVariants.{Add, Subtract, Multiply, Divide, SignedDivide, Or, And, Xor, ShiftLeft, ShiftRight, ShiftRightSigned, Modulo, SignedModulo, Move}
-use Rattle.scx_semantics.specs.declared.operations.Comparison.TheVariants.{Equal, Greater, GreaterOrEqual, BitTest, NotEqual, SignedGreater, SignedGreaterOrEqual, Less, LessOrEqual, SignedLess, SignedLessOrEqual}
-use Rattle.scx_text.specs.declared.symbols.Symbol.{Symbol}
-use Rattle.scx_text.specs.declared.symbols.Symbol.TheVariants.{Assign, Compare, Plus, Minus, Star, Opening, Closing, Colon}
-use Rattle.scx_text.specs.declared.lexer.Class.TheVariants as class
-use Rattle.scx_text.specs.Symbols.{spelling, first_of, symbol_at}
-use Rattle.scx_text.specs.Tokens.{Lexeme, Word, Number, Mark, is_blank, is_word, class_length, if_64_bits, is_hexadecimal, number_lexeme, token_at, followed_by, tokens_from}
-use Rattle.scx_text.proofs.Search.{spelled_positive}
-use Rattle.scx_text.proofs.Lexing.{passed}
+use Rattle.scx_isa_semantics.specs.declared.operations.Operation.TheVariants.{Add, Subtract, Multiply, Divide, SignedDivide, Or, And, Xor, ShiftLeft, ShiftRight, ShiftRightSigned, Modulo, SignedModulo, Move}
+use Rattle.scx_isa_semantics.specs.declared.operations.Comparison.TheVariants.{Equal, Greater, GreaterOrEqual, BitTest, NotEqual, SignedGreater, SignedGreaterOrEqual, Less, LessOrEqual, SignedLess, SignedLessOrEqual}
+use Rattle.scx_asm_text.specs.declared.symbols.Symbol.{Symbol}
+use Rattle.scx_asm_text.specs.declared.symbols.Symbol.TheVariants.{Assign, Compare, Plus, Minus, Star, Opening, Closing, Colon}
+use Rattle.scx_asm_text.specs.declared.lexer.Class.TheVariants as class
+use Rattle.scx_asm_text.specs.Symbols.{spelling, first_of, symbol_at}
+use Rattle.scx_asm_text.specs.Tokens.{Lexeme, Word, Number, Mark, is_blank, is_word, class_length, if_64_bits, is_hexadecimal, number_lexeme, token_at, followed_by, tokens_from}
+use Rattle.scx_asm_text.proofs.Search.{spelled_positive}
+use Rattle.scx_asm_text.proofs.Lexing.{passed}
 
 -- ---- what can stand behind a symbol, and behind a word or number
 

@@ -3,21 +3,21 @@ use Rattle.std.proofs.Common.{◌≡◌, ℕ, ◌+◌, ◌<◌, Bool, true, fals
 use Rattle.std.specs.List.{flat_map, AllByRecursion}
 use Rattle.std.proofs.lemmas.List.{take_more, append-nil}
 use Rattle.std.proofs.lemmas.Grind.{flat_map-append}
-use Rattle.scx_semantics.specs.declared.instructions.Insn.{Insn}
-use Rattle.scx_semantics.specs.Code.{Code, is_wide}
-use Rattle.scx_encoding.specs.declared.slots.Slot.{Slot}
-use Rattle.scx_encoding.specs.Slots.{slot_bytes}
-use Rattle.scx_encoding.specs.Spelling.{insn_slots, IsInsn}
+use Rattle.scx_isa_semantics.specs.declared.instructions.Insn.{Insn}
+use Rattle.scx_isa_semantics.specs.Code.{Code, is_wide}
+use Rattle.scx_isa_encoding.specs.declared.slots.Slot.{Slot}
+use Rattle.scx_isa_encoding.specs.Slots.{slot_bytes}
+use Rattle.scx_isa_encoding.specs.Spelling.{insn_slots, IsInsn}
 use Rattle.scx_isa.specs.Spelling.{occupant_slots, code_slots, spelling, IsProgram, Spells}
 use Rattle.scx_asm.specs.Reading.{insn_occupants, code_of, insns_of}
 use Rattle.scx_isa.specs.Reading as isa
-use Rattle.scx_encoding.specs.declared.faults.DecodeFault.{DecodeFault}
+use Rattle.scx_isa_encoding.specs.declared.faults.DecodeFault.{DecodeFault}
 use Rattle.scx_isa.specs.declared.faults.DecodeError.{DecodeError}
 use Rattle.scx_isa.specs.declared.faults.DecodeError.TheVariants as decode
 use Rattle.scx_asm.specs.declared.faults.AsmFault.{AsmFault}
 use Rattle.scx_asm.specs.declared.faults.AsmError.{AsmError}
 use Rattle.scx_asm.specs.declared.faults.AsmError.TheVariants as errors
-use Rattle.scx_semantics.specs.Results.{◌>>=◌}
+use Rattle.scx_isa_semantics.specs.Results.{◌>>=◌}
 use Rattle.scx_asm.specs.FirstPass.{FirstPassState, Fails}
 
 abbrev done : Code → Result Code (AsmFault × ℕ)

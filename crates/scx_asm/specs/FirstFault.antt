@@ -5,11 +5,11 @@ use Rattle.std.specs.Prelude.{◌≡◌, ℕ, suc, ◌+◌, ◌<◌, ◌≤◌, 
 use Rattle.std.specs.List.{Contains, IsDistinct, AllByRecursion}
 use Rattle.std.specs.Str.{bytes_eq}
 use Rattle.std.specs.Str.Lines.{lines}
-use Rattle.scx_semantics.specs.declared.instructions.Insn.{Insn}
+use Rattle.scx_isa_semantics.specs.declared.instructions.Insn.{Insn}
 use Rattle.scx_isa.specs.declared.program.TheConstants.{MAX_SLOTS}
-use Rattle.scx_semantics.specs.Code.{Code}
-use Rattle.scx_semantics.specs.Steps.{target}
-use Rattle.scx_text.specs.Items.{Label, ItemValue, DefinesLabel, Jumps, read_line}
+use Rattle.scx_isa_semantics.specs.Code.{Code}
+use Rattle.scx_isa_semantics.specs.Steps.{target}
+use Rattle.scx_asm_text.specs.Items.{Label, ItemValue, DefinesLabel, Jumps, read_line}
 use Rattle.scx_asm.specs.declared.faults.AsmFault.{AsmFault}
 use Rattle.scx_asm.specs.declared.faults.AsmFault.TheVariants.{Syntax, UnknownLabel, TwiceLabel, OutOfRange, TooLong}
 use Rattle.scx_asm.specs.declared.faults.AsmError.{AsmError}

@@ -2,10 +2,10 @@
 -- theirs, up to the first faulty line. Of several faults of one line the one with the least
 -- number is reported.
 use Rattle.std.specs.Prelude.{◌≡◌, ℕ, suc, ◌+◌, nat_lt, is_some, List, [], ◌∷◌, ◌++◌, Result, Ok, Err, if◌then◌else◌}
-use Rattle.scx_semantics.specs.Results.{◌>>=◌}
+use Rattle.scx_isa_semantics.specs.Results.{◌>>=◌}
 use Rattle.scx_isa.specs.declared.program.TheConstants.{MAX_SLOTS}
-use Rattle.scx_text.specs.Options.{either}
-use Rattle.scx_text.specs.Items.{ItemValue, Blank, DefinesLabel, item_value, read_line}
+use Rattle.scx_asm_text.specs.Options.{either}
+use Rattle.scx_asm_text.specs.Items.{ItemValue, Blank, DefinesLabel, item_value, read_line}
 use Rattle.scx_asm.specs.declared.faults.AsmFault.{AsmFault}
 use Rattle.scx_asm.specs.declared.faults.AsmFault.TheVariants.{Syntax, TwiceLabel, OutOfRange, TooLong}
 use Rattle.scx_asm.specs.declared.faults.AsmError.{AsmError}

@@ -2,9 +2,9 @@
 -- feed behind it.
 use Rattle.std.specs.Prelude.{ℕ, List, [], ◌++◌, codes, Option, Some, None}
 use Rattle.std.specs.List.{flat_map}
-use Rattle.scx_semantics.specs.declared.instructions.Insn.{Insn}
-use Rattle.scx_semantics.specs.Code.{Code}
-use Rattle.scx_text.specs.Canonical.{insn_text}
+use Rattle.scx_isa_semantics.specs.declared.instructions.Insn.{Insn}
+use Rattle.scx_isa_semantics.specs.Code.{Code}
+use Rattle.scx_asm_text.specs.Canonical.{insn_text}
 
 -- the line of the instruction that begins at a slot, with its line feed; none in a second half
 abbrev pub occupant_text : Option Insn → List ℕ

@@ -3,19 +3,19 @@
 use Rattle.std.specs.Prelude.{ℕ, ◌+◌, ◌-◌, ◌/◌, ◌%◌, ◌^◌, ℤ, pos, negsuc, neg_ℤ, ◌-ℤ◌, Bool, true, nat_lt, is_some, List, [], ◌∷◌, Option, Some, None, Result, Err, ok_or, if◌then◌else◌}
 use Rattle.std.specs.Str.{bytes_eq}
 use Rattle.std.specs.Int.{w32, cast_signed}
-use Rattle.scx_semantics.specs.declared.instructions.Insn.{Insn}
-use Rattle.scx_semantics.specs.declared.instructions.Insn.TheVariants as insn
-use Rattle.scx_semantics.specs.declared.instructions.Operand.{Operand}
-use Rattle.scx_semantics.specs.declared.instructions.Operand.TheVariants as operand
-use Rattle.scx_text.specs.declared.items.Literal.{Literal}
-use Rattle.scx_text.specs.declared.items.WrittenOperand.{WrittenOperand}
-use Rattle.scx_text.specs.declared.items.WrittenOperand.TheVariants as argument
-use Rattle.scx_text.specs.declared.items.Statement.{Statement}
-use Rattle.scx_text.specs.declared.items.Statement.TheVariants as statement
-use Rattle.scx_text.specs.declared.items.Jump.{Jump}
-use Rattle.scx_text.specs.declared.items.Jump.TheVariants as jump
-use Rattle.scx_text.specs.Options.{◌>>=◌, either}
-use Rattle.scx_text.specs.Items.{Label, Distance, ItemValue, Blank, DefinesLabel, Says, Jumps}
+use Rattle.scx_isa_semantics.specs.declared.instructions.Insn.{Insn}
+use Rattle.scx_isa_semantics.specs.declared.instructions.Insn.TheVariants as insn
+use Rattle.scx_isa_semantics.specs.declared.instructions.Operand.{Operand}
+use Rattle.scx_isa_semantics.specs.declared.instructions.Operand.TheVariants as operand
+use Rattle.scx_asm_text.specs.declared.items.Literal.{Literal}
+use Rattle.scx_asm_text.specs.declared.items.WrittenOperand.{WrittenOperand}
+use Rattle.scx_asm_text.specs.declared.items.WrittenOperand.TheVariants as argument
+use Rattle.scx_asm_text.specs.declared.items.Statement.{Statement}
+use Rattle.scx_asm_text.specs.declared.items.Statement.TheVariants as statement
+use Rattle.scx_asm_text.specs.declared.items.Jump.{Jump}
+use Rattle.scx_asm_text.specs.declared.items.Jump.TheVariants as jump
+use Rattle.scx_asm_text.specs.Options.{◌>>=◌, either}
+use Rattle.scx_asm_text.specs.Items.{Label, Distance, ItemValue, Blank, DefinesLabel, Says, Jumps}
 use Rattle.scx_asm.specs.declared.faults.AsmFault.{AsmFault}
 use Rattle.scx_asm.specs.declared.faults.AsmFault.TheVariants.{UnknownLabel, OutOfRange}
 

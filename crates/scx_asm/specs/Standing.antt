@@ -5,12 +5,12 @@ use Rattle.std.specs.Prelude.{◌≡◌, ℕ, ◌+◌, ◌<◌, ◌≤◌, ℤ, 
 use Rattle.std.specs.List.{Contains, IsDistinct}
 use Rattle.std.specs.Str.{bytes_eq}
 use Rattle.std.specs.Str.Lines.{lines}
-use Rattle.scx_semantics.specs.declared.instructions.Insn.{Insn}
-use Rattle.scx_semantics.specs.Code.{Code}
-use Rattle.scx_semantics.specs.Steps.{target}
+use Rattle.scx_isa_semantics.specs.declared.instructions.Insn.{Insn}
+use Rattle.scx_isa_semantics.specs.Code.{Code}
+use Rattle.scx_isa_semantics.specs.Steps.{target}
 use Rattle.scx_isa.specs.declared.program.TheConstants.{MAX_SLOTS}
-use Rattle.scx_text.specs.declared.items.Jump.{Jump}
-use Rattle.scx_text.specs.Items.{Label, Distance, ItemValue, Blank, DefinesLabel, Says, Jumps, read_line}
+use Rattle.scx_asm_text.specs.declared.items.Jump.{Jump}
+use Rattle.scx_asm_text.specs.Items.{Label, Distance, ItemValue, Blank, DefinesLabel, Says, Jumps, read_line}
 use Rattle.scx_asm.specs.Resolving.{insn_of, jump_of, distant, slots, Labels}
 use Rattle.scx_asm.specs.Reading.{code_of}
 

@@ -1,8 +1,8 @@
 ghost use Rattle.std.specs.Prelude.{◌≡◌, ◌<◌, map, length, IfOk, get_or};
 ghost use Rattle.std.specs.Str.Lines.{lines};
-ghost use Rattle.scx_encoding.specs.Spelling.{IsInsn};
+ghost use Rattle.scx_isa_encoding.specs.Spelling.{IsInsn};
 ghost use Rattle.scx_isa.specs.Spelling.{IsProgram, spelling};
-ghost use Rattle.scx_text.specs.Items.{item_value};
+ghost use Rattle.scx_asm_text.specs.Items.{item_value};
 ghost use Rattle.scx_asm.specs.Resolving.{insn_for, to_label};
 ghost use Rattle.scx_asm.specs.FirstPass.{Gives, unresolved_of};
 ghost use Rattle.scx_asm.specs.Passes.{table, first_pass_of};
@@ -14,9 +14,9 @@ use crate::faults::{AsmError, AsmFault};
 use crate::resolving::{jumped_so_far, jumped_to, said};
 use crate::scanning::{FirstPass, Unresolved, refused, scan, slot_of};
 use indexmap::IndexMap;
-use scx_encoding::push_insn;
+use scx_asm_text::{Item, Jump, Target};
 use scx_isa::{DecodeError, Insn, Program, decode};
-use scx_text::{Item, Jump, Target};
+use scx_isa_encoding::push_insn;
 use std::alloc::{AllocError, Global};
 
 /// The jump to a label, or its fault.

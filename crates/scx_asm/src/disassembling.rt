@@ -2,8 +2,8 @@ ghost use Rattle.std.specs.Prelude.{◌≡◌, IfOk};
 ghost use Rattle.std.specs.String.{string_bytes};
 ghost use Rattle.scx_asm.specs.Printing.{program_text};
 
+use scx_asm_text::Canonical;
 use scx_isa::Program;
-use scx_text::Canonical;
 use std::alloc::{AllocError, Global};
 use std::fmt::Write;
 

@@ -5,7 +5,7 @@
 //! and decoded.
 //! `disassemble` gives the canonical text, which `assemble` reads as the same program.
 //!
-//! A text is made into slots, in `crates/scx_program_tests/src/malicious.rt`:
+//! A text is made into slots, in `crates/scx_tests_programs/src/malicious.rt`:
 //!
 //! ```rust
 //! /// The bytes of a callback.

@@ -1,11 +1,11 @@
 ghost use Rattle.std.specs.Prelude.{◌≡◌, ◌+◌, ◌<◌, ◌≤◌, ◌^◌, ok_or};
-ghost use Rattle.scx_text.specs.Items.{item_value};
-ghost use Rattle.scx_text.specs.declared.items.Statement.TheVariants.{Binary, LoadImmediate, LoadMapReference, Load, Store, Call};
+ghost use Rattle.scx_asm_text.specs.Items.{item_value};
+ghost use Rattle.scx_asm_text.specs.declared.items.Statement.TheVariants.{Binary, LoadImmediate, LoadMapReference, Load, Store, Call};
 ghost use Rattle.scx_asm.specs.Resolving.{immediate, short, long, operand_of, insn_of, jump_of, distant, fits, slots, distance, or_out_of_range};
 
 use crate::faults::AsmFault;
+use scx_asm_text::{Item, Jump, Literal, Statement, Target, WrittenOperand};
 use scx_isa::{Access, Insn, Operand, Operation, Register, Size, Width};
-use scx_text::{Item, Jump, Literal, Statement, Target, WrittenOperand};
 
 /// The number, if it fits 32 bits with its sign.
 fn immediate_of(number: Literal) -> Option<i32>

@@ -1,6 +1,6 @@
 ghost use Rattle.std.specs.Prelude.{◌≡◌, option_map, length, map, IfOk, Err};
 ghost use Rattle.std.specs.Str.Lines.{lines};
-ghost use Rattle.scx_text.specs.Items.{item_value, read_line};
+ghost use Rattle.scx_asm_text.specs.Items.{item_value, read_line};
 ghost use Rattle.scx_asm.specs.declared.faults.AsmError.TheVariants.{Refused};
 ghost use Rattle.scx_asm.specs.FirstPass.{Gives, at_line, nothing_read, with_label, with_unresolved, with_line, with_text, first_pass};
 ghost use Rattle.scx_asm.specs.Passes.{table, first_pass_of};
@@ -9,8 +9,8 @@ ghost use Rattle.scx_asm.specs.Resolving.{find};
 use crate::faults::{AsmError, AsmFault};
 use crate::resolving::{fits, slots_of};
 use indexmap::IndexMap;
+use scx_asm_text::{Item, Token, item_of, tokens};
 use scx_isa::MAX_SLOTS;
-use scx_text::{Item, Token, item_of, tokens};
 use std::alloc::{AllocError, Global};
 
 /// An instruction with its numbers as they are written.

@@ -4,7 +4,7 @@
 //! A queue has an id and is either FIFO or ordered by virtual time. `Queues` holds all of them, and
 //! each task waits in at most one. All memory is taken by `Queues::new`: no later call takes any.
 //!
-//! A task is put into queue 0, if there is room and it is one of the tasks, in `crates/scx_bench/src/queues.rt`:
+//! A task is put into queue 0, if there is room and it is one of the tasks, in `crates/scx_tests_bench/src/queues.rt`:
 //!
 //! ```rust
 //! if task as usize >= queues.tasks() || queues.pushes() >= 1 << 62 {

@@ -7,19 +7,19 @@ use Rattle.std.specs.List.{flat_map}
 use Rattle.std.proofs.lemmas.List.{take_more, append-nil}
 use Rattle.std.proofs.lemmas.Grind.{flat_map-append}
 use Rattle.std.proofs.Common.{get_or, take}
-use Rattle.scx_encoding.specs.declared.slots.Slot.{Slot}
-use Rattle.scx_semantics.specs.declared.instructions.Insn.{Insn}
-use Rattle.scx_semantics.specs.declared.instructions.Insn.TheVariants as insn
-use Rattle.scx_encoding.specs.declared.faults.DecodeFault.{DecodeFault}
-use Rattle.scx_encoding.specs.declared.faults.DecodeFault.TheVariants.{UnusedField}
-use Rattle.scx_encoding.specs.Slots.{IsSlot, same_slot, slot_bytes}
+use Rattle.scx_isa_encoding.specs.declared.slots.Slot.{Slot}
+use Rattle.scx_isa_semantics.specs.declared.instructions.Insn.{Insn}
+use Rattle.scx_isa_semantics.specs.declared.instructions.Insn.TheVariants as insn
+use Rattle.scx_isa_encoding.specs.declared.faults.DecodeFault.{DecodeFault}
+use Rattle.scx_isa_encoding.specs.declared.faults.DecodeFault.TheVariants.{UnusedField}
+use Rattle.scx_isa_encoding.specs.Slots.{IsSlot, same_slot, slot_bytes}
 use Rattle.std.proofs.lemmas.List.Recursion.{is_count_by}
-use Rattle.scx_semantics.specs.Code.{Code, is_wide, instruction_count}
-use Rattle.scx_encoding.specs.Spelling.{first_slot, second_slot, insn_slots, IsInsn}
+use Rattle.scx_isa_semantics.specs.Code.{Code, is_wide, instruction_count}
+use Rattle.scx_isa_encoding.specs.Spelling.{first_slot, second_slot, insn_slots, IsInsn}
 use Rattle.scx_isa.specs.Spelling.{occupant_slots, code_slots, spelling, IsCode}
-use Rattle.scx_encoding.specs.Reading.{insn_at, half_at, occupant_at, due_after}
+use Rattle.scx_isa_encoding.specs.Reading.{insn_at, half_at, occupant_at, due_after}
 use Rattle.scx_isa.specs.Reading.{slot_in_front, at_slot, read_slots}
-use Rattle.scx_encoding.proofs.Insns.{bind_ok, done, ok_is, is_same, same_is, HalfFits, Reads, insn_is_spelled, Follows, insn_is_read, first_is_slot, second_is_slot}
+use Rattle.scx_isa_encoding.proofs.Insns.{bind_ok, done, ok_is, is_same, same_is, HalfFits, Reads, insn_is_spelled, Follows, insn_is_read, first_is_slot, second_is_slot}
 
 -- wide instructions are those with a second slot
 pub wide_is : (i : Insn) → is_wide i ≡ is_some (second_slot i)

@@ -3,23 +3,23 @@ use Rattle.std.proofs.Common.{◌≡◌, ◌≢◌, ℕ, suc, ◌+◌, ◌/◌, 
 use Rattle.std.specs.Option.{option_to_list}
 use Rattle.std.specs.List.{AllByRecursion}
 use Rattle.std.proofs.lemmas.Bool.{eqb-true, eqb-false, ltb-true, ltb-false, lt-ltb, ne_eqb}
-use Rattle.scx_encoding.specs.declared.slots.Slot.{Slot}
-use Rattle.scx_semantics.specs.declared.instructions.Insn.{Insn}
-use Rattle.scx_encoding.specs.declared.faults.DecodeFault.{DecodeFault}
-use Rattle.scx_encoding.specs.declared.faults.DecodeFault.TheVariants.{Empty, TooLong, NotWholeSlots, UnusedField}
+use Rattle.scx_isa_encoding.specs.declared.slots.Slot.{Slot}
+use Rattle.scx_isa_semantics.specs.declared.instructions.Insn.{Insn}
+use Rattle.scx_isa_encoding.specs.declared.faults.DecodeFault.{DecodeFault}
+use Rattle.scx_isa_encoding.specs.declared.faults.DecodeFault.TheVariants.{Empty, TooLong, NotWholeSlots, UnusedField}
 use Rattle.scx_isa.specs.declared.faults.DecodeError.{DecodeError}
 use Rattle.scx_isa.specs.declared.faults.DecodeError.TheVariants as errors
-use Rattle.scx_semantics.specs.Code.{Code}
-use Rattle.scx_encoding.specs.Slots.{slots_in, same_slot, IsSlot}
-use Rattle.scx_encoding.specs.Spelling.{first_slot, second_slot, IsInsn}
+use Rattle.scx_isa_semantics.specs.Code.{Code}
+use Rattle.scx_isa_encoding.specs.Slots.{slots_in, same_slot, IsSlot}
+use Rattle.scx_isa_encoding.specs.Spelling.{first_slot, second_slot, IsInsn}
 use Rattle.scx_isa.specs.Spelling.{code_slots, IsCode, HasProgramLength, Spells}
 use Rattle.scx_isa.specs.declared.program.TheConstants.{MAX_SLOTS}
-use Rattle.scx_semantics.specs.Results.{◌>>=◌}
-use Rattle.scx_encoding.specs.Reading.{insn_at}
+use Rattle.scx_isa_semantics.specs.Results.{◌>>=◌}
+use Rattle.scx_isa_encoding.specs.Reading.{insn_at}
 use Rattle.scx_isa.specs.Reading.{Gives, slot_in_front, read_slots, read_program}
 use Rattle.scx_isa.specs.FirstFault.{IsRest, FailsAtInsn, FailsInHalf, IsFirstFault, NoByte, CutSlot, PastLimit, AtInsn, InHalf, IsRefusal}
-use Rattle.scx_encoding.proofs.Bytes.{IsBytes, slots_fit}
-use Rattle.scx_encoding.proofs.Insns.{insn_is_spelled, insn_is_read, is_same, same_is}
+use Rattle.scx_isa_encoding.proofs.Bytes.{IsBytes, slots_fit}
+use Rattle.scx_isa_encoding.proofs.Insns.{insn_is_spelled, insn_is_read, is_same, same_is}
 use Rattle.scx_isa.proofs.Codes.{wide_is, follows_first}
 use Rattle.scx_isa.proofs.Programs.{slots_are_read, program_is_read}
 

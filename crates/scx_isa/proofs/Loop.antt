@@ -1,15 +1,15 @@
 -- Reading slots one after the other, as a loop does.
 use Rattle.std.proofs.Common.{◌≡◌, ℕ, suc, ◌+◌, ◌*◌, ◌-◌, ◌≤◌, ◌<◌, List, [], ◌∷◌, ◌++◌, length, drop, Option, Result, Ok, Err, refl, sym, ap, ◌∙◌, append_assoc, arith, nat_lt, le-ltb, zero, length-drop, true, false}
 use Rattle.std.proofs.lemmas.List.{append-nil}
-use Rattle.scx_encoding.specs.declared.slots.Slot.{Slot}
-use Rattle.scx_semantics.specs.declared.instructions.Insn.{Insn}
-use Rattle.scx_encoding.specs.declared.faults.DecodeFault.{DecodeFault}
+use Rattle.scx_isa_encoding.specs.declared.slots.Slot.{Slot}
+use Rattle.scx_isa_semantics.specs.declared.instructions.Insn.{Insn}
+use Rattle.scx_isa_encoding.specs.declared.faults.DecodeFault.{DecodeFault}
 use Rattle.scx_isa.specs.declared.faults.DecodeError.{DecodeError}
 use Rattle.scx_isa.specs.declared.faults.DecodeError.TheVariants as errors
-use Rattle.scx_semantics.specs.Code.{Code}
-use Rattle.scx_encoding.specs.Slots.{slot_at, slots_in, front_slot}
-use Rattle.scx_semantics.specs.Results.{◌>>=◌}
-use Rattle.scx_encoding.specs.Reading.{occupant_at, due_after}
+use Rattle.scx_isa_semantics.specs.Code.{Code}
+use Rattle.scx_isa_encoding.specs.Slots.{slot_at, slots_in, front_slot}
+use Rattle.scx_isa_semantics.specs.Results.{◌>>=◌}
+use Rattle.scx_isa_encoding.specs.Reading.{occupant_at, due_after}
 use Rattle.scx_isa.specs.Reading.{Fails, slot_in_front, at_slot, read_slots}
 
 -- what was read before, and what is still read

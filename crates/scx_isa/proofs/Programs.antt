@@ -2,17 +2,17 @@
 use Rattle.std.proofs.Common.{◌≡◌, ℕ, zero, suc, ◌*◌, ◌/◌, ◌%◌, ◌<◌, ◌≤◌, Bool, true, false, nat_eq, nat_lt, List, length, None, Result, Ok, Err, refl, sym, ap, subst, ◌∙◌, arith}
 use Rattle.std.proofs.lemmas.Bool.{eqb-false, ltb-false, le-ltb, ne_eqb}
 use Rattle.std.specs.List.{flat_map}
-use Rattle.scx_encoding.specs.declared.slots.Slot.{Slot}
+use Rattle.scx_isa_encoding.specs.declared.slots.Slot.{Slot}
 use Rattle.std.proofs.Common.{IfOk}
 use Rattle.scx_isa.specs.declared.faults.DecodeError.{DecodeError}
-use Rattle.scx_encoding.specs.declared.faults.DecodeFault.{DecodeFault}
-use Rattle.scx_encoding.specs.declared.faults.DecodeFault.TheVariants.{Empty, TooLong, NotWholeSlots}
-use Rattle.scx_encoding.specs.Slots.{slot_bytes, slots_in}
-use Rattle.scx_semantics.specs.Code.{Code}
+use Rattle.scx_isa_encoding.specs.declared.faults.DecodeFault.{DecodeFault}
+use Rattle.scx_isa_encoding.specs.declared.faults.DecodeFault.TheVariants.{Empty, TooLong, NotWholeSlots}
+use Rattle.scx_isa_encoding.specs.Slots.{slot_bytes, slots_in}
+use Rattle.scx_isa_semantics.specs.Code.{Code}
 use Rattle.scx_isa.specs.Spelling.{code_slots, spelling, IsProgram, HasProgramLength, Spells}
 use Rattle.scx_isa.specs.declared.program.TheConstants.{MAX_SLOTS}
 use Rattle.scx_isa.specs.Reading.{Gives, read_slots, read_program}
-use Rattle.scx_encoding.proofs.Bytes.{IsBytes, slots_spelled, slots_fit, slots_again, length-slots}
+use Rattle.scx_isa_encoding.proofs.Bytes.{IsBytes, slots_spelled, slots_fit, slots_again, length-slots}
 use Rattle.scx_isa.proofs.Codes.{code_is_spelled, code_slots_fit, code_is_read, length-code_slots}
 
 length-slots_in : (n : ℕ) (bytes : List ℕ) → length (slots_in n bytes) ≡ n

@@ -2,18 +2,18 @@
 -- length is wrong, or the slots in front of the faulty instruction spell instructions, and it is
 -- wrong itself or its second half is. The faults of a slot are those of `Reading`.
 use Rattle.std.specs.Prelude.{ℕ, suc, ◌/◌, ◌%◌, ◌≡◌, ◌≢◌, ◌<◌, false, List, ◌∷◌, ◌++◌, length, Some, Ok, Err}
-use Rattle.scx_encoding.specs.declared.slots.Slot.{Slot}
-use Rattle.scx_semantics.specs.declared.instructions.Insn.{Insn}
-use Rattle.scx_encoding.specs.declared.faults.DecodeFault.{DecodeFault}
-use Rattle.scx_encoding.specs.declared.faults.DecodeFault.TheVariants.{Empty, TooLong, NotWholeSlots, UnusedField}
+use Rattle.scx_isa_encoding.specs.declared.slots.Slot.{Slot}
+use Rattle.scx_isa_semantics.specs.declared.instructions.Insn.{Insn}
+use Rattle.scx_isa_encoding.specs.declared.faults.DecodeFault.{DecodeFault}
+use Rattle.scx_isa_encoding.specs.declared.faults.DecodeFault.TheVariants.{Empty, TooLong, NotWholeSlots, UnusedField}
 use Rattle.scx_isa.specs.declared.faults.DecodeError.{DecodeError}
 use Rattle.scx_isa.specs.declared.faults.DecodeError.TheVariants as errors
-use Rattle.scx_semantics.specs.Code.{Code}
-use Rattle.scx_encoding.specs.Slots.{slots_in}
-use Rattle.scx_encoding.specs.Spelling.{second_slot}
+use Rattle.scx_isa_semantics.specs.Code.{Code}
+use Rattle.scx_isa_encoding.specs.Slots.{slots_in}
+use Rattle.scx_isa_encoding.specs.Spelling.{second_slot}
 use Rattle.scx_isa.specs.Spelling.{IsCode, code_slots, HasProgramLength}
 use Rattle.scx_isa.specs.declared.program.TheConstants.{MAX_SLOTS}
-use Rattle.scx_encoding.specs.Reading.{insn_at}
+use Rattle.scx_isa_encoding.specs.Reading.{insn_at}
 use Rattle.scx_isa.specs.Reading.{slot_in_front}
 
 -- the slots from the k-th on, where those in front of it spell whole instructions

@@ -2,14 +2,14 @@
 -- jump goes forward, stays in the program and leads to where an instruction begins, and control
 -- doesn't fall off the end. They are looked for in that order, over all instructions.
 use Rattle.std.specs.Prelude.{ℕ, ◌+◌, ◌≡◌, ◌<◌, ℤ, pos, negsuc, nat_eq, nat_le, is_none, length, Option, Some, None, IsSome, if◌then◌else◌}
-use Rattle.scx_semantics.specs.declared.instructions.Insn.{Insn}
-use Rattle.scx_semantics.specs.declared.instructions.Insn.TheVariants.{JumpIf, Goto, GotoLong, Exit}
+use Rattle.scx_isa_semantics.specs.declared.instructions.Insn.{Insn}
+use Rattle.scx_isa_semantics.specs.declared.instructions.Insn.TheVariants.{JumpIf, Goto, GotoLong, Exit}
 use Rattle.scx_isa.specs.declared.faults.FlowFault.{FlowFault}
 use Rattle.scx_isa.specs.declared.faults.FlowFault.TheVariants.{BackJump, OutOfProgram, IntoWide, FallsOff}
-use Rattle.scx_semantics.specs.Code.{Code, at, size, instruction_count}
-use Rattle.scx_semantics.specs.declared.callbacks.Callback.{Callback}
-use Rattle.scx_semantics.specs.Machine.{Machine}
-use Rattle.scx_semantics.specs.Runs.{Leads, any_answer}
+use Rattle.scx_isa_semantics.specs.Code.{Code, at, size, instruction_count}
+use Rattle.scx_isa_semantics.specs.declared.callbacks.Callback.{Callback}
+use Rattle.scx_isa_semantics.specs.Machine.{Machine}
+use Rattle.scx_isa_semantics.specs.Runs.{Leads, any_answer}
 
 -- the fault of a jump whose target is that slot
 abbrev pub target_fault : Code → ℕ → Option FlowFault

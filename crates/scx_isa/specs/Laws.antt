@@ -1,8 +1,8 @@
 -- The laws of spelling and of faults, which are the contracts of public functions without
 -- a body of their own.
 use Rattle.std.specs.Prelude.{ℕ, ◌≡◌, List, Ok}
-use Rattle.scx_encoding.specs.declared.faults.DecodeFault.{DecodeFault}
-use Rattle.scx_semantics.specs.Code.{Code}
+use Rattle.scx_isa_encoding.specs.declared.faults.DecodeFault.{DecodeFault}
+use Rattle.scx_isa_semantics.specs.Code.{Code}
 use Rattle.scx_isa.specs.Spelling.{spelling, IsProgram, Spells}
 use Rattle.scx_isa.specs.Reading.{read_program}
 use Rattle.scx_isa.specs.FirstFault.{IsFirstFault}

@@ -1,15 +1,15 @@
 -- Reading a program from bytes, slot by slot, with the first fault that is met and its slot. The
 -- lengths are looked at first.
 use Rattle.std.specs.Prelude.{ℕ, suc, ◌/◌, ◌%◌, ◌≡◌, nat_eq, nat_lt, List, [], ◌∷◌, length, Option, Some, None, Result, Ok, Err, if◌then◌else◌}
-use Rattle.scx_encoding.specs.declared.slots.Slot.{Slot}
-use Rattle.scx_encoding.specs.declared.faults.DecodeFault.{DecodeFault}
-use Rattle.scx_encoding.specs.declared.faults.DecodeFault.TheVariants.{Empty, TooLong, NotWholeSlots}
+use Rattle.scx_isa_encoding.specs.declared.slots.Slot.{Slot}
+use Rattle.scx_isa_encoding.specs.declared.faults.DecodeFault.{DecodeFault}
+use Rattle.scx_isa_encoding.specs.declared.faults.DecodeFault.TheVariants.{Empty, TooLong, NotWholeSlots}
 use Rattle.scx_isa.specs.declared.faults.DecodeError.{DecodeError}
 use Rattle.scx_isa.specs.declared.faults.DecodeError.TheVariants as errors
-use Rattle.scx_encoding.specs.Slots.{slots_in}
-use Rattle.scx_semantics.specs.Results.{◌>>=◌}
-use Rattle.scx_encoding.specs.Reading.{occupant_at, due_after}
-use Rattle.scx_semantics.specs.Code.{Code}
+use Rattle.scx_isa_encoding.specs.Slots.{slots_in}
+use Rattle.scx_isa_semantics.specs.Results.{◌>>=◌}
+use Rattle.scx_isa_encoding.specs.Reading.{occupant_at, due_after}
+use Rattle.scx_isa_semantics.specs.Code.{Code}
 use Rattle.scx_isa.specs.declared.program.TheConstants.{MAX_SLOTS}
 
 -- a fault, at a slot

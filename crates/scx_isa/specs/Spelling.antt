@@ -2,11 +2,11 @@
 -- instructions in order, and its bytes are those of its slots.
 use Rattle.std.specs.Prelude.{ℕ, ◌/◌, ◌%◌, ◌≡◌, ◌<◌, ◌≤◌, Bool, true, false, List, [], ◌∷◌, length, Option, Some, None}
 use Rattle.std.specs.List.{flat_map}
-use Rattle.scx_encoding.specs.declared.slots.Slot.{Slot}
-use Rattle.scx_semantics.specs.declared.instructions.Insn.{Insn}
-use Rattle.scx_encoding.specs.Slots.{slot_bytes}
-use Rattle.scx_encoding.specs.Spelling.{insn_slots, IsInsn}
-use Rattle.scx_semantics.specs.Code.{Code, is_wide}
+use Rattle.scx_isa_encoding.specs.declared.slots.Slot.{Slot}
+use Rattle.scx_isa_semantics.specs.declared.instructions.Insn.{Insn}
+use Rattle.scx_isa_encoding.specs.Slots.{slot_bytes}
+use Rattle.scx_isa_encoding.specs.Spelling.{insn_slots, IsInsn}
+use Rattle.scx_isa_semantics.specs.Code.{Code, is_wide}
 use Rattle.scx_isa.specs.declared.program.TheConstants.{MAX_SLOTS}
 
 -- a second half is spelled with its first

@@ -1,15 +1,15 @@
 ghost use Rattle.std.specs.Prelude.{◌≡◌, None, ◌*◌, ◌/◌, ◌%◌, length, IfOk, IfErr, Ok};
-ghost use Rattle.scx_encoding.specs.Slots.{slots_in, front_slot};
-ghost use Rattle.scx_semantics.specs.Code.{Code};
+ghost use Rattle.scx_isa_encoding.specs.Slots.{slots_in, front_slot};
+ghost use Rattle.scx_isa_semantics.specs.Code.{Code};
 ghost use Rattle.scx_isa.specs.Spelling.{Spells, HasProgramLength};
 ghost use Rattle.scx_isa.specs.FirstFault.{IsRefusal};
-ghost use Rattle.scx_encoding.specs.Reading.{occupant_at};
+ghost use Rattle.scx_isa_encoding.specs.Reading.{occupant_at};
 ghost use Rattle.scx_isa.specs.Reading.{Gives, at_slot, read_slots, read_program};
 
 use crate::faults::DecodeError;
 use crate::program::{MAX_SLOTS, Program};
-use scx_encoding::{DecodeFault, SLOT_BYTES, Slot, due_behind, occupant_of, slot_of};
-use scx_semantics::Insn;
+use scx_isa_encoding::{DecodeFault, SLOT_BYTES, Slot, due_behind, occupant_of, slot_of};
+use scx_isa_semantics::Insn;
 use std::alloc::Global;
 
 /// What stands at the slot numbered `number`, or its fault with that number.

@@ -1,13 +1,13 @@
 ghost use Rattle.std.specs.Prelude.{◌≡◌, ◌++◌, ◌≤◌, false, length, IfOk, OnOk};
 ghost use Rattle.std.specs.List.{flat_map};
 ghost use Rattle.std.specs.Option.{ForSome};
-ghost use Rattle.scx_encoding.specs.Slots.{slot_bytes};
-ghost use Rattle.scx_encoding.specs.Spelling.{IsInsn};
+ghost use Rattle.scx_isa_encoding.specs.Slots.{slot_bytes};
+ghost use Rattle.scx_isa_encoding.specs.Spelling.{IsInsn};
 ghost use Rattle.scx_isa.specs.Spelling.{IsProgram, Spells, occupant_slots, spelling};
 
 use crate::program::Program;
-use scx_encoding::{SLOT_BYTES, push_insn};
-use scx_semantics::Insn;
+use scx_isa_encoding::{SLOT_BYTES, push_insn};
+use scx_isa_semantics::Insn;
 use std::alloc::{AllocError, Global};
 
 /// Writes the slots of what stands at a slot; a second half is written with its first.

@@ -2,7 +2,7 @@ ghost use Rattle.std.specs.Prelude.{◌≡◌};
 ghost use Rattle.scx_isa.specs.declared.faults.DecodeError.TheVariants.{OutOfMemory};
 ghost use Rattle.scx_isa.specs.Faults.{flow_number, flow_name};
 
-use scx_encoding::DecodeFault;
+use scx_isa_encoding::DecodeFault;
 use std::alloc::{AllocError, AllocFailed};
 use thiserror::Error;
 

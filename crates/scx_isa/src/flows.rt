@@ -1,11 +1,11 @@
 ghost use Rattle.std.specs.Prelude.{◌≡◌, ◌<◌, ◌≤◌, ◌≤ℤ◌, pos, Some, OnOk, IfErr};
-ghost use Rattle.scx_semantics.specs.Code.{at};
-ghost use Rattle.scx_semantics.specs.Steps.{distance, target};
+ghost use Rattle.scx_isa_semantics.specs.Code.{at};
+ghost use Rattle.scx_isa_semantics.specs.Steps.{distance, target};
 ghost use Rattle.scx_isa.specs.Flow.{jump_fault, end_fault, occupant_fault, Flows, IsFirstFlowFault, StaysInControl};
 
 use crate::faults::{FlowError, FlowFault};
 use crate::program::{MAX_SLOTS, Program};
-use scx_semantics::Insn;
+use scx_isa_semantics::Insn;
 
 /// Asks whether every jump goes forward to an instruction of the program, and whether control can't
 /// fall off its end. All instructions are looked at, also those that nothing leads to; the first

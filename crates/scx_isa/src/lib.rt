@@ -4,10 +4,10 @@
 //! a `Program`. `encode` gives back the one list of bytes that spells it. `flow` asks whether its
 //! jumps go forward, to instructions, and whether control can't fall off its end.
 //!
-//! The types of instructions and what programs mean stand in `scx_semantics`, and the encoding of one
-//! instruction in `scx_encoding`; their types are passed on here.
+//! The types of instructions and what programs mean stand in `scx_isa_semantics`, and the encoding of one
+//! instruction in `scx_isa_encoding`; their types are passed on here.
 //!
-//! Bytes are read as a program, and written back, in `crates/scx_program_tests/src/programs.rt`:
+//! Bytes are read as a program, and written back, in `crates/scx_tests_programs/src/programs.rt`:
 //!
 //! ```rust
 //! let program = decode(rt.alloc(), &PROGRAM)?;
@@ -34,8 +34,8 @@ pub use faults::{DecodeError, FlowError, FlowFault};
 pub use flows::{flow, target};
 pub use laws::{first_fault_is_unique, spelling_is_one_to_one};
 pub use program::{MAX_SLOTS, Program};
-pub use scx_encoding::{DecodeFault, Exclusion};
-pub use scx_semantics::{
+pub use scx_isa_encoding::{DecodeFault, Exclusion};
+pub use scx_isa_semantics::{
     Access, ByteOrder, CALLBACKS, Callback, Comparison, Extension, Field, Helper, Insn, Operand,
     Operation, Parameter, PerCallback, Pointer, REGISTERS, Register, STACK_SIZE, Size, StackByte,
     SwapWidth, TaskId, Value, Width,

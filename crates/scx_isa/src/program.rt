@@ -1,8 +1,8 @@
 ghost use Rattle.std.specs.Prelude.{◌≡◌, ◌≤◌, length, count_by, is_some};
-ghost use Rattle.scx_semantics.specs.Code.{at, instruction_count};
+ghost use Rattle.scx_isa_semantics.specs.Code.{at, instruction_count};
 ghost use Rattle.scx_isa.specs.Spelling.{IsProgram};
 
-use scx_semantics::Insn;
+use scx_isa_semantics::Insn;
 use std::marker::Model;
 
 /// The most slots that a program may have.
@@ -20,7 +20,7 @@ pub struct Program {
 
 impl Model for Program {
     ghost use Rattle.std.specs.Prelude.{◌≡◌};
-    ghost use Rattle.scx_semantics.specs.Code.{Code, instruction_count};
+    ghost use Rattle.scx_isa_semantics.specs.Code.{Code, instruction_count};
     ghost use Rattle.scx_isa.specs.Spelling.{IsProgram};
 
     ghost Value = { Code };

@@ -4,7 +4,7 @@
 //! `read_policy` and `build` make a policy of a text, `read_workload` a workload, and a `Driver` gives the
 //! workload's events to a machine, one after another.
 //!
-//! A workload is read, and its driver gives its events, in `crates/scx_machine_tests/src/driving.rt`:
+//! A workload is read, and its driver gives its events, in `crates/scx_tests_machine/src/driving.rt`:
 //!
 //! ```rust
 //! let workload = read_workload(rt.alloc(), text).expect(rt, "a workload");
@@ -14,7 +14,7 @@
 //! ```
 #![tactic(auto)]
 
-pub use scx_driver::Driver;
-pub use scx_files::{Cause, LoadError};
-pub use scx_policies::{BuildError, PolicyText, build, read_policy};
-pub use scx_workloads::{Change, Group, Timing, Workload, read_workload};
+pub use scx_load_driver::Driver;
+pub use scx_load_files::{Cause, LoadError};
+pub use scx_load_policies::{BuildError, PolicyText, build, read_policy};
+pub use scx_load_workloads::{Change, Group, Timing, Workload, read_workload};

@@ -3,7 +3,7 @@ use Rattle.std.proofs.Common.{◌≡◌, ℕ, List, ap, sym, ◌∙◌, arith}
 use Rattle.std.proofs.lemmas.List.{take_all}
 use Rattle.scx_maps.specs.declared.shape.Shape.{Shape}
 use Rattle.scx_maps.specs.Limits.{total_bytes}
-use Rattle.scx_semantics.specs.Elements.{Maps}
+use Rattle.scx_isa_semantics.specs.Elements.{Maps}
 use Rattle.scx_maps.specs.Layout.{contents_in, IsBlockOf}
 use Rattle.scx_maps.specs.Lending.{shapes_of, all_bytes}
 use Rattle.scx_maps.proofs.Blocks.{all_bytes-contents_in, shapes_of-contents_in}

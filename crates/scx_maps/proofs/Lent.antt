@@ -5,7 +5,7 @@ use Rattle.std.proofs.lemmas.Bool.{eqb-true}
 use Rattle.std.proofs.lemmas.List.{take-append-le, take_all}
 use Rattle.scx_maps.specs.declared.shape.Shape.{Shape}
 use Rattle.scx_maps.specs.Limits.{total_bytes}
-use Rattle.scx_semantics.specs.Elements.{Maps, elements, element, with_element}
+use Rattle.scx_isa_semantics.specs.Elements.{Maps, elements, element, with_element}
 use Rattle.scx_maps.specs.Layout.{contents_in, shape_at, offset_of, IsBlockOf}
 use Rattle.scx_maps.specs.Lending.{written_over, with_bytes_from, given_back}
 use Rattle.scx_maps.proofs.Over.{over}

@@ -6,7 +6,7 @@ use Rattle.std.proofs.lemmas.List.Elements.{All-nil, All-replicate}
 use Rattle.scx_maps.specs.declared.shape.Shape.{Shape}
 use Rattle.scx_maps.specs.declared.defs.TheConstants.{MAX_MAPS}
 use Rattle.scx_maps.specs.Limits.{AreWithinLimits}
-use Rattle.scx_semantics.specs.Elements.{HoldBytes}
+use Rattle.scx_isa_semantics.specs.Elements.{HoldBytes}
 use Rattle.scx_maps.specs.Contents.{zeros, lengths_of, HasShapes}
 use Rattle.scx_maps.specs.Unused.{IsFilledUp, filled_up, unused_shape}
 

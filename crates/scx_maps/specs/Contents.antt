@@ -1,7 +1,7 @@
 -- Which maps have the shapes of array maps (Linux, Documentation/bpf/map_array.rst): so many
 -- elements, each of so many bytes.
 use Rattle.std.specs.Prelude.{◌≡◌, ℕ, List, length, map, replicate}
-use Rattle.scx_semantics.specs.Elements.{Maps, HoldBytes}
+use Rattle.scx_isa_semantics.specs.Elements.{Maps, HoldBytes}
 use Rattle.scx_maps.specs.declared.shape.Shape.{Shape}
 
 -- maps of these shapes, all bytes 0

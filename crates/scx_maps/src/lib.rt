@@ -6,7 +6,7 @@
 //! its bytes; a call reads or changes one element. All values stand in one block, which
 //! `Maps::new` alone takes; each other call takes constant time.
 //!
-//! A number in an element of map 0 grows by 1, if its bytes are there, in `crates/scx_bench/src/maps.rt`:
+//! A number in an element of map 0 grows by 1, if its bytes are there, in `crates/scx_tests_bench/src/maps.rt`:
 //!
 //! ```rust
 //! if maps.count() == 0 || !maps.lookup(0, index) || maps.value(0, index).len() < 16 {
@@ -27,5 +27,5 @@ mod shape;
 pub use bad_shape::BadShape;
 pub use defs::{MAX_BYTES, MAX_MAPS, MapDefs};
 pub use maps::Maps;
-pub use scx_semantics::Size;
+pub use scx_isa_semantics::Size;
 pub use shape::{MAX_ENTRIES, MAX_VALUE_SIZE, Shape};

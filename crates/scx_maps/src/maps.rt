@@ -1,15 +1,15 @@
 ghost use Rattle.std.specs.Prelude.{◌≡◌, ℕ, ◌≤◌, ◌<◌, ◌+◌, ◌↔◌, List, [], length, IsTrue, IfOk};
 ghost use Rattle.std.specs.Borrow.{sem};
-ghost use Rattle.scx_semantics.specs.Elements.{elements, element, with_element, number_at, with_number};
+ghost use Rattle.scx_isa_semantics.specs.Elements.{elements, element, with_element, number_at, with_number};
 ghost use Rattle.scx_maps.specs.Contents.{zeros, lengths_of, HasShapes};
-ghost use Rattle.scx_semantics.specs.Memory.{size_bytes};
+ghost use Rattle.scx_isa_semantics.specs.Memory.{size_bytes};
 ghost use Rattle.scx_maps.specs.Lending.{LendsValue, given_back, shapes_of, all_bytes};
 ghost use Rattle.scx_maps.specs.Layout.{contents_in, offset_of};
 
 use crate::defs::{MAX_BYTES, MAX_MAPS, MapDefs};
 use crate::layout::Layout;
-use scx_arithmetic::{read_number, write_number};
-use scx_semantics::Size;
+use scx_isa_arithmetic::{read_number, write_number};
+use scx_isa_semantics::Size;
 use std::alloc::{AllocError, Global};
 use std::marker::Model;
 

@@ -1,14 +1,14 @@
 -- What holds before any callback, and each callback keeps, holds once a machine is made.
 use Rattle.std.proofs.Common.{◌≡◌, ℕ, zero, suc, Bool, true, false, if◌then◌else◌, length, Option, Some, None, Result, Ok, Err, ℤ, subst, refl}
-use Rattle.scx_semantics.specs.declared.callbacks.Callback.{Callback}
-use Rattle.scx_semantics.specs.declared.callbacks.Callback.TheVariants as callback
+use Rattle.scx_isa_semantics.specs.declared.callbacks.Callback.{Callback}
+use Rattle.scx_isa_semantics.specs.declared.callbacks.Callback.TheVariants as callback
 use Rattle.scx_vm.specs.declared.arguments.Args.{Args}
 use Rattle.scx_weights.specs.Hierarchy.{Hierarchy}
-use Rattle.scx_world.specs.World.{at_callback}
-use Rattle.scx_machine.specs.Policy.{PolicyState}
-use Rattle.scx_machine.specs.Steps.{State}
-use Rattle.scx_machine.specs.Callbacks.{call_ending, acting, after_callback, no_arguments, one_task}
-use Rattle.scx_machine.specs.Start.{blank, init_ending, bad_answer, ok_unless, after_init, enable_ending, has_failed, enable, then_enable, after_enables, ok_if, all_enabled, first_state}
+use Rattle.scx_sched_world.specs.World.{at_callback}
+use Rattle.scx_sched_machine.specs.Policy.{PolicyState}
+use Rattle.scx_sched_machine.specs.Steps.{State}
+use Rattle.scx_sched_machine.specs.Callbacks.{call_ending, acting, after_callback, no_arguments, one_task}
+use Rattle.scx_sched_machine.specs.Start.{blank, init_ending, bad_answer, ok_unless, after_init, enable_ending, has_failed, enable, then_enable, after_enables, ok_if, all_enabled, first_state}
 
 -- what a callback leaves, with that task at hand
 abbrev pub left_by : State → Callback → Args → ℕ → State

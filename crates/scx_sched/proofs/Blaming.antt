@@ -5,35 +5,35 @@ use Rattle.std.proofs.Common.{◌≡◌, ℕ, zero, suc, ◌<◌, Bool, true, fa
 use Rattle.std.proofs.lemmas.Bool.Decides.{nat_tests}
 use Rattle.std.proofs.lemmas.List.{append-nil, length-set}
 use Rattle.scx_dsq.specs.Queues.{len_of, front_of, behind_of}
-use Rattle.scx_semantics.specs.declared.callbacks.Callback.{Callback}
-use Rattle.scx_semantics.specs.declared.callbacks.Callback.TheVariants as callback
-use Rattle.scx_semantics.specs.Endings.{Ending}
-use Rattle.scx_safety.specs.Programs.{VerifiedProgram}
+use Rattle.scx_isa_semantics.specs.declared.callbacks.Callback.{Callback}
+use Rattle.scx_isa_semantics.specs.declared.callbacks.Callback.TheVariants as callback
+use Rattle.scx_isa_semantics.specs.Endings.{Ending}
+use Rattle.scx_vm_safety.specs.Programs.{VerifiedProgram}
 use Rattle.scx_vm.specs.declared.arguments.Args.{Args}
 use Rattle.scx_weights.specs.Hierarchy.{Hierarchy, with_task, with_weight}
 use Rattle.scx_weights.specs.Limits.{with_use}
 use Rattle.scx_weights.specs.declared.error.TreeError.{TreeError}
 use Rattle.scx_weights.specs.Refusals.{weight_fault}
-use Rattle.scx_world.specs.declared.call.Insert.{Insert}
-use Rattle.scx_world.specs.declared.eject.Eject.{Eject}
-use Rattle.scx_world.specs.declared.eject.Eject.TheVariants as cause
-use Rattle.scx_world.specs.declared.faults.Fault.{Fault}
-use Rattle.scx_world.specs.declared.notes.Note.{Note}
-use Rattle.scx_world.specs.declared.notes.What.TheVariants as note
-use Rattle.scx_world.specs.Ids.{global, builtin_queue, parked_queue, local_on}
-use Rattle.scx_world.specs.World.{WorldState, with_tree, with_task as set_task, task_at, is_throttled, running, cpu_of, is_idle, at_callback, quiet, note_now}
-use Rattle.scx_world.specs.Tasks.{with_since, after_wake, after_sleep, after_leave, after_enter, for_cpu, fill_front, after_fill, after_stop, started_at, after_keep, put_parked, after_take, let_go, ran_a_tick, after_tick, used_ms, after_reweigh}
-use Rattle.scx_world.specs.Ejecting.{put_builtin, after_charge, after_catch_up}
-use Rattle.scx_machine.specs.Policy.{PolicyState, program_of}
-use Rattle.scx_machine.specs.Steps.{State, CallMade, Stepped, with_world, stays, after, one_after_other, is_ejected}
-use Rattle.scx_machine.specs.Ejecting.{moves_over, eject, ejected_for}
-use Rattle.scx_machine.specs.Callbacks.{call_ending, after_callback, answer_fault, fault_of, unless_ejected, acting, call_back, answered_by, one_task, task_cpu_and_0, task_and_number, cpu_and_task}
-use Rattle.scx_machine.specs.Put.{enters, enqueue_choice, enters_builtin, comes_in, put}
-use Rattle.scx_machine.specs.Filling.{fill}
-use Rattle.scx_machine.specs.Parking.{park, park_front, throttled_front, park_fronts, clear, in_reach, supply, let_go_one, let_go_from, let_all_go}
-use Rattle.scx_machine.specs.Cycle.{has_local, after_dispatch, asks_again, tries, stopping, running_on, leave, started_if, start, rest, swap, swap_or_rest, builtin_dispatch, builtin_fill, builtin_ask, builtin_cycle, start_or_cycle, pick, pick_or_rest, conclude, ask, seek, look, cycling, cycle}
-use Rattle.scx_machine.specs.Events.{target, insert_or_put, settle, select, wake, sleep_from_cpu, sleep_from, sleep, throttle, expire, count_down, tick_of, tick}
-use Rattle.scx_machine.proofs.Unchanged.{keeps_if}
+use Rattle.scx_sched_world.specs.declared.call.Insert.{Insert}
+use Rattle.scx_sched_world.specs.declared.eject.Eject.{Eject}
+use Rattle.scx_sched_world.specs.declared.eject.Eject.TheVariants as cause
+use Rattle.scx_sched_world.specs.declared.faults.Fault.{Fault}
+use Rattle.scx_sched_world.specs.declared.notes.Note.{Note}
+use Rattle.scx_sched_world.specs.declared.notes.What.TheVariants as note
+use Rattle.scx_sched_world.specs.Ids.{global, builtin_queue, parked_queue, local_on}
+use Rattle.scx_sched_world.specs.World.{WorldState, with_tree, with_task as set_task, task_at, is_throttled, running, cpu_of, is_idle, at_callback, quiet, note_now}
+use Rattle.scx_sched_world.specs.Tasks.{with_since, after_wake, after_sleep, after_leave, after_enter, for_cpu, fill_front, after_fill, after_stop, started_at, after_keep, put_parked, after_take, let_go, ran_a_tick, after_tick, used_ms, after_reweigh}
+use Rattle.scx_sched_world.specs.Ejecting.{put_builtin, after_charge, after_catch_up}
+use Rattle.scx_sched_machine.specs.Policy.{PolicyState, program_of}
+use Rattle.scx_sched_machine.specs.Steps.{State, CallMade, Stepped, with_world, stays, after, one_after_other, is_ejected}
+use Rattle.scx_sched_machine.specs.Ejecting.{moves_over, eject, ejected_for}
+use Rattle.scx_sched_machine.specs.Callbacks.{call_ending, after_callback, answer_fault, fault_of, unless_ejected, acting, call_back, answered_by, one_task, task_cpu_and_0, task_and_number, cpu_and_task}
+use Rattle.scx_sched_machine.specs.Put.{enters, enqueue_choice, enters_builtin, comes_in, put}
+use Rattle.scx_sched_machine.specs.Filling.{fill}
+use Rattle.scx_sched_machine.specs.Parking.{park, park_front, throttled_front, park_fronts, clear, in_reach, supply, let_go_one, let_go_from, let_all_go}
+use Rattle.scx_sched_machine.specs.Cycle.{has_local, after_dispatch, asks_again, tries, stopping, running_on, leave, started_if, start, rest, swap, swap_or_rest, builtin_dispatch, builtin_fill, builtin_ask, builtin_cycle, start_or_cycle, pick, pick_or_rest, conclude, ask, seek, look, cycling, cycle}
+use Rattle.scx_sched_machine.specs.Events.{target, insert_or_put, settle, select, wake, sleep_from_cpu, sleep_from, sleep, throttle, expire, count_down, tick_of, tick}
+use Rattle.scx_sched_machine.proofs.Unchanged.{keeps_if}
 use Rattle.scx_sched.specs.Causes.{IsLast}
 use Rattle.scx_sched.specs.Decided.{used_at_tick}
 use Rattle.scx_sched.proofs.Unchanged.{IsAsBefore, same_entered, same_put_builtin, same_put_parked, same_called, eject_sets, same_brought, same_kept}

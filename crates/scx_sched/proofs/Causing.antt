@@ -3,32 +3,32 @@ use Rattle.std.proofs.Common.{◌≡◌, ℕ, ◌+◌, ◌<◌, ◌≤◌, Bool,
 use Rattle.std.proofs.lemmas.Bool.Decides.{nat_tests}
 use Rattle.std.proofs.lemmas.List.{append-nil}
 use Rattle.std.proofs.lemmas.List.Quantifiers.{position-Some}
-use Rattle.scx_semantics.specs.declared.callbacks.Callback.{Callback}
-use Rattle.scx_semantics.specs.declared.callbacks.Callback.TheVariants as callback
-use Rattle.scx_semantics.specs.Endings.{Ending, run_of}
-use Rattle.scx_semantics.proofs.EndedRuns.{run_is}
-use Rattle.scx_safety.specs.Programs.{VerifiedProgram}
+use Rattle.scx_isa_semantics.specs.declared.callbacks.Callback.{Callback}
+use Rattle.scx_isa_semantics.specs.declared.callbacks.Callback.TheVariants as callback
+use Rattle.scx_isa_semantics.specs.Endings.{Ending, run_of}
+use Rattle.scx_isa_semantics.proofs.EndedRuns.{run_is}
+use Rattle.scx_vm_safety.specs.Programs.{VerifiedProgram}
 use Rattle.scx_vm.specs.Arguments.{program_arguments}
 use Rattle.scx_vm.specs.Host.{answer_to, after_query}
-use Rattle.scx_tasks.specs.Tasks.{no_task}
-use Rattle.scx_tasks.specs.Waits.{is_late, is_overdue}
-use Rattle.scx_world.specs.declared.eject.Eject.{Eject}
-use Rattle.scx_world.specs.declared.eject.Eject.TheVariants as cause
-use Rattle.scx_world.specs.declared.faults.Fault.{Fault}
-use Rattle.scx_world.specs.declared.faults.Fault.TheVariants.{NoSuchCpu}
-use Rattle.scx_world.specs.World.{WorldState, task_at}
-use Rattle.scx_world.specs.Tasks.{later, begun_periods}
-use Rattle.scx_world.specs.Waits.{first_overdue, IsFirstOverdue}
-use Rattle.scx_world.specs.Helpers.{or_fault, world_functions}
-use Rattle.scx_tasks.specs.Waits.{time_since}
-use Rattle.scx_machine.specs.Policy.{PolicyState}
-use Rattle.scx_machine.specs.Steps.{State, CallMade, Stepped, with_world, one_after_other}
-use Rattle.scx_machine.specs.Ejecting.{eject}
-use Rattle.scx_machine.specs.Callbacks.{call_ending, answer_fault, fault_of, IsAnswered, AreAnswered}
-use Rattle.scx_machine.specs.declared.events.Event.{Event}
-use Rattle.scx_machine.specs.declared.events.Event.TheVariants.{Wake, Sleep, Tick, Clock, SetWeight}
-use Rattle.scx_machine.specs.Parking.{let_all_go}
-use Rattle.scx_machine.specs.Events.{overdue, eject_if_stalled, clock, event_step}
+use Rattle.scx_sched_tasks.specs.Tasks.{no_task}
+use Rattle.scx_sched_tasks.specs.Waits.{is_late, is_overdue}
+use Rattle.scx_sched_world.specs.declared.eject.Eject.{Eject}
+use Rattle.scx_sched_world.specs.declared.eject.Eject.TheVariants as cause
+use Rattle.scx_sched_world.specs.declared.faults.Fault.{Fault}
+use Rattle.scx_sched_world.specs.declared.faults.Fault.TheVariants.{NoSuchCpu}
+use Rattle.scx_sched_world.specs.World.{WorldState, task_at}
+use Rattle.scx_sched_world.specs.Tasks.{later, begun_periods}
+use Rattle.scx_sched_world.specs.Waits.{first_overdue, IsFirstOverdue}
+use Rattle.scx_sched_world.specs.Helpers.{or_fault, world_functions}
+use Rattle.scx_sched_tasks.specs.Waits.{time_since}
+use Rattle.scx_sched_machine.specs.Policy.{PolicyState}
+use Rattle.scx_sched_machine.specs.Steps.{State, CallMade, Stepped, with_world, one_after_other}
+use Rattle.scx_sched_machine.specs.Ejecting.{eject}
+use Rattle.scx_sched_machine.specs.Callbacks.{call_ending, answer_fault, fault_of, IsAnswered, AreAnswered}
+use Rattle.scx_sched_machine.specs.declared.events.Event.{Event}
+use Rattle.scx_sched_machine.specs.declared.events.Event.TheVariants.{Wake, Sleep, Tick, Clock, SetWeight}
+use Rattle.scx_sched_machine.specs.Parking.{let_all_go}
+use Rattle.scx_sched_machine.specs.Events.{overdue, eject_if_stalled, clock, event_step}
 use Rattle.scx_sched.specs.Causes.{EndsIn, HasFault, Of_helper, Of_answer, IsLast, IsAmong, IsCause, Waited, Went_wrong, EjectsOnce, clock_in}
 use Rattle.scx_sched.specs.Sim.{SimState, refusal, calls_if, calls_of, IsValid}
 use Rattle.scx_sched.proofs.Unchanged.{eject_sets}

@@ -11,20 +11,20 @@ use Rattle.scx_dsq.specs.Laws.{one_if}
 use Rattle.scx_dsq.specs.Queues.{Entries, QueueState, entry_of, is_in, len_of, front_of}
 use Rattle.scx_dsq.specs.Calls.{next_entry, after_push}
 use Rattle.scx_weights.specs.Limits.{is_throttled}
-use Rattle.scx_tasks.specs.Tasks.{default_slice}
-use Rattle.scx_world.specs.declared.call.Insert.{Insert}
-use Rattle.scx_world.specs.Ids.{builtin_queue, parked_queue, local_on}
-use Rattle.scx_world.specs.World.{WorldState, with_queues, with_task, task_at, waits_in, waits}
-use Rattle.scx_world.specs.World as world
+use Rattle.scx_sched_tasks.specs.Tasks.{default_slice}
+use Rattle.scx_sched_world.specs.declared.call.Insert.{Insert}
+use Rattle.scx_sched_world.specs.Ids.{builtin_queue, parked_queue, local_on}
+use Rattle.scx_sched_world.specs.World.{WorldState, with_queues, with_task, task_at, waits_in, waits}
+use Rattle.scx_sched_world.specs.World as world
 use Rattle.scx_dsq.proofs.Facts.{front_is_known}
-use Rattle.scx_world.specs.Tasks.{local_len, with_builtin, with_slice, task_after_insert, after_enter}
-use Rattle.scx_world.specs.Ejecting.{builtin_vtime, put_builtin}
-use Rattle.scx_machine.proofs.Unchanged.{keeps_if}
+use Rattle.scx_sched_world.specs.Tasks.{local_len, with_builtin, with_slice, task_after_insert, after_enter}
+use Rattle.scx_sched_world.specs.Ejecting.{builtin_vtime, put_builtin}
+use Rattle.scx_sched_machine.proofs.Unchanged.{keeps_if}
 use Rattle.scx_sched.specs.Once.{IsSound, sort_of, fits_queue, fits_sort}
 use Rattle.scx_sched.specs.Kept.{IsWanted}
 use Rattle.scx_sched.specs.Over.{GoesOver}
 use Rattle.scx_sched.proofs.Entering.{low_or}
-use Rattle.scx_world.proofs.Fronts.{front_in}
+use Rattle.scx_sched_world.proofs.Fronts.{front_in}
 use Rattle.scx_sched.proofs.Sound.{wanted_open}
 use Rattle.scx_sched.proofs.Firsts.{no_front_is_empty}
 use Rattle.scx_sched.proofs.Fronts.{AreSame, Equal, Outside, IsSameIn, front_same, same_here, same_pushed, front_pushed}

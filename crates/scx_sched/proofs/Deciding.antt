@@ -6,17 +6,17 @@ use Rattle.std.proofs.lemmas.List.{length-set}
 use Rattle.std.proofs.lemmas.List.Quantifiers.{position-Some}
 use Rattle.scx_weights.specs.Hierarchy.{Hierarchy}
 use Rattle.scx_weights.specs.Refusals.{max_weight, is_outside, weight_fault}
-use Rattle.scx_world.specs.declared.eject.Eject.{Eject}
-use Rattle.scx_world.specs.declared.eject.Eject.TheVariants as cause
-use Rattle.scx_world.specs.World.{is_this, cpu_of}
-use Rattle.scx_world.specs.Tasks.{after_stop, later, begun_periods}
-use Rattle.scx_machine.specs.declared.events.Event.{Event}
-use Rattle.scx_machine.specs.declared.events.Event.TheVariants.{Wake, Sleep, Tick, Clock, SetWeight}
-use Rattle.scx_machine.specs.declared.events.Refused.TheVariants.{UnknownGroup, BadWeight, RunOver}
-use Rattle.scx_machine.specs.Steps.{State, Stepped, with_world, one_after_other}
-use Rattle.scx_machine.specs.Parking.{let_all_go}
-use Rattle.scx_machine.specs.Events.{overdue, eject_if_stalled, clock, event_step}
-use Rattle.scx_machine.specs.Events as machine
+use Rattle.scx_sched_world.specs.declared.eject.Eject.{Eject}
+use Rattle.scx_sched_world.specs.declared.eject.Eject.TheVariants as cause
+use Rattle.scx_sched_world.specs.World.{is_this, cpu_of}
+use Rattle.scx_sched_world.specs.Tasks.{after_stop, later, begun_periods}
+use Rattle.scx_sched_machine.specs.declared.events.Event.{Event}
+use Rattle.scx_sched_machine.specs.declared.events.Event.TheVariants.{Wake, Sleep, Tick, Clock, SetWeight}
+use Rattle.scx_sched_machine.specs.declared.events.Refused.TheVariants.{UnknownGroup, BadWeight, RunOver}
+use Rattle.scx_sched_machine.specs.Steps.{State, Stepped, with_world, one_after_other}
+use Rattle.scx_sched_machine.specs.Parking.{let_all_go}
+use Rattle.scx_sched_machine.specs.Events.{overdue, eject_if_stalled, clock, event_step}
+use Rattle.scx_sched_machine.specs.Events as machine
 use Rattle.scx_sched.specs.Sim.{SimState, max_events, refusal, calls_if, IsValid}
 use Rattle.scx_sched.specs.Ranges.{IsFine}
 use Rattle.scx_sched.specs.Decided.{clock_after, tree_after, EventsDecide}

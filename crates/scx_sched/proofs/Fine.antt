@@ -6,26 +6,26 @@ use Rattle.scx_dsq.specs.Queues.{front_of}
 use Rattle.scx_dsq.specs.Calls.{after_create}
 use Rattle.scx_dsq.specs.declared.entries.Rank.{Rank}
 use Rattle.scx_dsq.specs.declared.entries.Rank.TheVariants.{Fifo, Vtime}
-use Rattle.scx_semantics.specs.declared.host_tables.Field.{Field}
-use Rattle.scx_semantics.specs.declared.host_tables.Field.TheVariants.{Pid, Weight, Slice, DsqVtime, PrevCpu, Group, RunNs}
-use Rattle.scx_semantics.specs.declared.host_tables.Helper.{Helper}
-use Rattle.scx_semantics.specs.declared.host_tables.Helper.TheVariants.{MapLookupElem, KtimeGetNs, CreateDsq, DsqInsert, DsqInsertVtime, DsqMoveToLocal, SelectCpuDfl, CpuIdle, TaskByPid, DsqNrQueued}
-use Rattle.scx_semantics.specs.Effects.{Query, Call, Load, Store}
+use Rattle.scx_isa_semantics.specs.declared.host_tables.Field.{Field}
+use Rattle.scx_isa_semantics.specs.declared.host_tables.Field.TheVariants.{Pid, Weight, Slice, DsqVtime, PrevCpu, Group, RunNs}
+use Rattle.scx_isa_semantics.specs.declared.host_tables.Helper.{Helper}
+use Rattle.scx_isa_semantics.specs.declared.host_tables.Helper.TheVariants.{MapLookupElem, KtimeGetNs, CreateDsq, DsqInsert, DsqInsertVtime, DsqMoveToLocal, SelectCpuDfl, CpuIdle, TaskByPid, DsqNrQueued}
+use Rattle.scx_isa_semantics.specs.Effects.{Query, Call, Load, Store}
 use Rattle.scx_vm.specs.Arguments.{argument_of}
 use Rattle.scx_vm.specs.Host.{after_query}
 use Rattle.scx_vm.specs.declared.arguments.Arg.{Arg}
-use Rattle.scx_tasks.specs.declared.task.Task.{Task}
-use Rattle.scx_tasks.specs.Tasks.{no_task}
+use Rattle.scx_sched_tasks.specs.declared.task.Task.{Task}
+use Rattle.scx_sched_tasks.specs.Tasks.{no_task}
 use Rattle.scx_weights.specs.Limits.{usage_of}
-use Rattle.scx_world.specs.declared.call.Insert.{Insert}
-use Rattle.scx_world.specs.declared.faults.Fault.{Fault}
-use Rattle.scx_world.specs.declared.faults.Fault.TheVariants.{NoSuchQueue, NoSuchCpu, CannotCreate}
-use Rattle.scx_world.specs.World.{WorldState, with_queues, with_task, task_at, waits}
-use Rattle.scx_world.specs.Tasks.{given_slice, given_vtime, task_after_insert, after_leave, after_enter, for_cpu, brought, fill_front, with_new_slice}
-use Rattle.scx_world.specs.Helpers.{is_there, can_create, with_fault, is_dispatch, insert_fault, with_insert, after_release, insert_or_fault, insert_of, insert_of_vtime, can_move, front_moved_to_local, given_number, given_task, helper_after, stored_in, world_functions}
-use Rattle.scx_machine.proofs.Unchanged.{keeps_if}
+use Rattle.scx_sched_world.specs.declared.call.Insert.{Insert}
+use Rattle.scx_sched_world.specs.declared.faults.Fault.{Fault}
+use Rattle.scx_sched_world.specs.declared.faults.Fault.TheVariants.{NoSuchQueue, NoSuchCpu, CannotCreate}
+use Rattle.scx_sched_world.specs.World.{WorldState, with_queues, with_task, task_at, waits}
+use Rattle.scx_sched_world.specs.Tasks.{given_slice, given_vtime, task_after_insert, after_leave, after_enter, for_cpu, brought, fill_front, with_new_slice}
+use Rattle.scx_sched_world.specs.Helpers.{is_there, can_create, with_fault, is_dispatch, insert_fault, with_insert, after_release, insert_or_fault, insert_of, insert_of_vtime, can_move, front_moved_to_local, given_number, given_task, helper_after, stored_in, world_functions}
+use Rattle.scx_sched_machine.proofs.Unchanged.{keeps_if}
 use Rattle.scx_sched.specs.Once.{IsSound}
-use Rattle.scx_world.specs.Ejecting.{put_builtin, used_vtime, after_charge}
+use Rattle.scx_sched_world.specs.Ejecting.{put_builtin, used_vtime, after_charge}
 use Rattle.scx_sched.specs.Ranges.{IsFresh, IsFine}
 use Rattle.scx_sched.specs.Kept.{IsKeptBySteps}
 use Rattle.scx_sched.specs.Usages.{AreWithin}

@@ -5,25 +5,25 @@ use Rattle.std.proofs.lemmas.Bool.Decides.{nat_tests}
 use Rattle.std.proofs.lemmas.List.Folds.{list_any-append}
 use Rattle.scx_dsq.specs.Queues.{QueueState, exists}
 use Rattle.scx_dsq.specs.Calls.{after_create, create_refusal, with_queue, empty}
-use Rattle.scx_world.specs.Ids.{global, held_queue, builtin_queue, parked_queue, local_on}
+use Rattle.scx_sched_world.specs.Ids.{global, held_queue, builtin_queue, parked_queue, local_on}
 use Rattle.std.proofs.lemmas.List.{length-replicate, get_or-replicate, get_or_past}
 use Rattle.std.proofs.lemmas.List.Folds.{sum_by-replicate}
 use Rattle.scx_dsq.specs.Queues.{entry_at, entry_of}
 use Rattle.scx_dsq.specs.declared.entries.Entry.{Entry}
 use Rattle.scx_dsq.specs.Laws.{one_if}
-use Rattle.scx_semantics.specs.declared.callbacks.Callback.{Callback}
+use Rattle.scx_isa_semantics.specs.declared.callbacks.Callback.{Callback}
 use Rattle.scx_vm.specs.declared.arguments.Args.{Args}
 use Rattle.scx_weights.specs.Hierarchy.{Hierarchy, is_active_task}
 use Rattle.scx_weights.specs.Counting.{any_below}
-use Rattle.scx_world.specs.World.{WorldState, is_this, at_callback}
-use Rattle.scx_tasks.specs.declared.task.Task.{Task}
-use Rattle.scx_tasks.specs.Tasks.{no_task, new_task}
-use Rattle.scx_world.specs.First.{first_world}
-use Rattle.scx_machine.specs.Policy.{PolicyState}
-use Rattle.scx_machine.specs.Steps.{State}
-use Rattle.scx_machine.specs.Callbacks.{call_ending, acting}
-use Rattle.scx_machine.specs.Start.{is_bad_shape, first_state}
-use Rattle.scx_machine.proofs.Unchanged.{keeps_if}
+use Rattle.scx_sched_world.specs.World.{WorldState, is_this, at_callback}
+use Rattle.scx_sched_tasks.specs.declared.task.Task.{Task}
+use Rattle.scx_sched_tasks.specs.Tasks.{no_task, new_task}
+use Rattle.scx_sched_world.specs.First.{first_world}
+use Rattle.scx_sched_machine.specs.Policy.{PolicyState}
+use Rattle.scx_sched_machine.specs.Steps.{State}
+use Rattle.scx_sched_machine.specs.Callbacks.{call_ending, acting}
+use Rattle.scx_sched_machine.specs.Start.{is_bad_shape, first_state}
+use Rattle.scx_sched_machine.proofs.Unchanged.{keeps_if}
 use Rattle.scx_sched.specs.Once.{runs, HasQueues}
 use Rattle.scx_sched.specs.Ranges.{IsFine}
 use Rattle.scx_sched.specs.Kept.{IsKeptBySteps}
@@ -32,8 +32,8 @@ use Rattle.scx_sched.proofs.Begins.{left_by, keeps_started}
 use Rattle.scx_sched.proofs.Skeleton.{keeps_called}
 use Rattle.scx_sched.proofs.Fine.{fine_steps}
 use Rattle.scx_sched.proofs.Timely.{IsInTime, AreInTime, time_steps}
-use Rattle.scx_world.specs.First.{with_locals, own_queues, first_queues}
-use Rattle.scx_world.specs.Tasks.{begun_periods}
+use Rattle.scx_sched_world.specs.First.{with_locals, own_queues, first_queues}
+use Rattle.scx_sched_world.specs.Tasks.{begun_periods}
 use Rattle.scx_sched.proofs.Bounded.{most_first, within_first}
 
 or_false : (b : Bool) → (b || false) ≡ b

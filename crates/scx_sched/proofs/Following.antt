@@ -1,7 +1,7 @@
 -- What a step says of each event, accepted or not.
 use Rattle.std.proofs.Common.{◌≡◌, Option, Some, None, Result, OnOk, subst}
-use Rattle.scx_machine.specs.declared.events.Event.{Event}
-use Rattle.scx_machine.specs.declared.events.Refused.{Refused}
+use Rattle.scx_sched_machine.specs.declared.events.Event.{Event}
+use Rattle.scx_sched_machine.specs.declared.events.Refused.{Refused}
 use Rattle.scx_sched.specs.Sim.{SimState, refusal, after_event, stepped_if, answer_of}
 use Rattle.scx_sched.specs.Causes.{EjectsOnce, IsNeverStuck}
 use Rattle.scx_sched.specs.Once.{AreInQueues}

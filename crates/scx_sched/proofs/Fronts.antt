@@ -13,7 +13,7 @@ use Rattle.scx_dsq.specs.Queues.{Entries, entry_at, QueueState, entry_of, is_in,
 use Rattle.scx_dsq.specs.Calls.{push_refusal, next_entry, with_task as with_place, after_push, without_task, without, after_pop}
 use Rattle.scx_dsq.proofs.Facts.{free_from}
 use Rattle.scx_dsq.proofs.Orders.{before-asym}
-use Rattle.scx_world.proofs.Fronts.{front_in}
+use Rattle.scx_sched_world.proofs.Fronts.{front_in}
 use Rattle.scx_sched.proofs.Firsts.{out_is_not_ahead}
 
 same_some : (a b : Entry) → Some a ≡ Some b → a ≡ b

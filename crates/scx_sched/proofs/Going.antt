@@ -7,13 +7,13 @@ use Rattle.scx_dsq.specs.declared.entries.Rank.TheVariants.{Vtime}
 use Rattle.scx_dsq.specs.Queues.{QueueState, task_count, entry_of, queue_of}
 use Rattle.scx_dsq.specs.Calls.{push_refusal, after_push, after_remove}
 use Rattle.scx_dsq.proofs.Facts.{tasks_removed}
-use Rattle.scx_world.specs.Ids.{builtin_queue, parked_queue}
-use Rattle.scx_world.specs.World.{WorldState, waits_in, waits, running}
-use Rattle.scx_world.specs.Tasks.{after_leave}
-use Rattle.scx_world.specs.Ejecting.{builtin_vtime, put_builtin, put_out, evict, after_evictions, after_cut, cut_task}
-use Rattle.scx_world.specs.declared.eject.Eject.{Eject}
-use Rattle.scx_machine.specs.Steps.{State}
-use Rattle.scx_machine.specs.Ejecting.{moves_over, eject}
+use Rattle.scx_sched_world.specs.Ids.{builtin_queue, parked_queue}
+use Rattle.scx_sched_world.specs.World.{WorldState, waits_in, waits, running}
+use Rattle.scx_sched_world.specs.Tasks.{after_leave}
+use Rattle.scx_sched_world.specs.Ejecting.{builtin_vtime, put_builtin, put_out, evict, after_evictions, after_cut, cut_task}
+use Rattle.scx_sched_world.specs.declared.eject.Eject.{Eject}
+use Rattle.scx_sched_machine.specs.Steps.{State}
+use Rattle.scx_sched_machine.specs.Ejecting.{moves_over, eject}
 use Rattle.scx_sched.specs.Laws.{EjectionLosesNobody}
 use Rattle.scx_sched.specs.Once.{IsSound}
 use Rattle.scx_sched.specs.Over.{GoesOver}

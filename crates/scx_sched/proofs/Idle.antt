@@ -9,22 +9,22 @@ use Rattle.scx_dsq.specs.Queues.{QueueState, task_count, entry_of, is_in, len_of
 use Rattle.scx_dsq.specs.Calls.{push_refusal, next_entry, after_push, after_pop}
 use Rattle.scx_dsq.specs.Laws.{one_if}
 use Rattle.scx_dsq.proofs.Facts.{free_from, front_is_known, tasks_without}
-use Rattle.scx_semantics.specs.declared.callbacks.Callback.TheVariants as callback
+use Rattle.scx_isa_semantics.specs.declared.callbacks.Callback.TheVariants as callback
 use Rattle.scx_weights.specs.Limits as limits
-use Rattle.scx_world.specs.declared.eject.Eject.{Eject}
-use Rattle.scx_world.specs.Ids.{global, builtin_queue, parked_queue, local_on}
-use Rattle.scx_world.specs.World.{WorldState, task_at, is_throttled, running}
-use Rattle.scx_world.specs.Tasks.{local_len, brought, after_stop, started_at, after_tick, used_ms}
-use Rattle.scx_machine.specs.Steps.{State, Stepped, with_world, stays, one_after_other, is_ejected}
-use Rattle.scx_machine.specs.Callbacks.{call_back, cpu_and_task}
-use Rattle.scx_machine.specs.Filling.{fill}
-use Rattle.scx_machine.specs.Parking.{park, park_front, throttled_front, park_fronts, clear, in_reach, supply}
-use Rattle.scx_machine.specs.Cycle.{has_local, after_dispatch, asks_again, tries, stopping, leave, started_if, start as run_front, rest, swap, swap_or_rest, builtin_dispatch, builtin_fill, builtin_ask, builtin_cycle, start_or_cycle, pick, pick_or_rest, conclude, ask, seek, look, cycling, cycle}
-use Rattle.scx_machine.specs.declared.events.Event.{Event}
-use Rattle.scx_machine.specs.declared.events.Event.TheVariants.{Wake, Sleep, Tick, Clock, SetWeight}
-use Rattle.scx_machine.specs.declared.events.Refused.TheVariants.{UnknownCpu}
-use Rattle.scx_machine.specs.Events.{throttle, expire, count_down, tick_of, tick, event_step}
-use Rattle.scx_machine.proofs.Unchanged.{keeps_if}
+use Rattle.scx_sched_world.specs.declared.eject.Eject.{Eject}
+use Rattle.scx_sched_world.specs.Ids.{global, builtin_queue, parked_queue, local_on}
+use Rattle.scx_sched_world.specs.World.{WorldState, task_at, is_throttled, running}
+use Rattle.scx_sched_world.specs.Tasks.{local_len, brought, after_stop, started_at, after_tick, used_ms}
+use Rattle.scx_sched_machine.specs.Steps.{State, Stepped, with_world, stays, one_after_other, is_ejected}
+use Rattle.scx_sched_machine.specs.Callbacks.{call_back, cpu_and_task}
+use Rattle.scx_sched_machine.specs.Filling.{fill}
+use Rattle.scx_sched_machine.specs.Parking.{park, park_front, throttled_front, park_fronts, clear, in_reach, supply}
+use Rattle.scx_sched_machine.specs.Cycle.{has_local, after_dispatch, asks_again, tries, stopping, leave, started_if, start as run_front, rest, swap, swap_or_rest, builtin_dispatch, builtin_fill, builtin_ask, builtin_cycle, start_or_cycle, pick, pick_or_rest, conclude, ask, seek, look, cycling, cycle}
+use Rattle.scx_sched_machine.specs.declared.events.Event.{Event}
+use Rattle.scx_sched_machine.specs.declared.events.Event.TheVariants.{Wake, Sleep, Tick, Clock, SetWeight}
+use Rattle.scx_sched_machine.specs.declared.events.Refused.TheVariants.{UnknownCpu}
+use Rattle.scx_sched_machine.specs.Events.{throttle, expire, count_down, tick_of, tick, event_step}
+use Rattle.scx_sched_machine.proofs.Unchanged.{keeps_if}
 use Rattle.scx_sched.specs.Ranges.{IsFine}
 use Rattle.scx_sched.specs.Left.{LeavesNothing, LeavesNothingIdle}
 use Rattle.scx_sched.specs.Sim.{refusal, IsValid}

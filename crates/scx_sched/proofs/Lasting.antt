@@ -4,37 +4,37 @@ use Rattle.std.proofs.lemmas.Bool.{cases_eq, cases_lt}
 use Rattle.std.proofs.lemmas.List.{length-set, get_or-set_same, get_or-set_other, set_past}
 use Rattle.scx_dsq.specs.Queues.{front_of}
 use Rattle.scx_dsq.specs.Calls.{after_create}
-use Rattle.scx_semantics.specs.declared.callbacks.Callback.{Callback}
-use Rattle.scx_semantics.specs.declared.callbacks.Callback.TheVariants as callback
-use Rattle.scx_semantics.specs.declared.host_tables.Helper.{Helper}
-use Rattle.scx_semantics.specs.declared.host_tables.Helper.TheVariants.{MapLookupElem, KtimeGetNs, CreateDsq, DsqInsert, DsqInsertVtime, DsqMoveToLocal, SelectCpuDfl, CpuIdle, TaskByPid, DsqNrQueued}
-use Rattle.scx_semantics.specs.Code.{instruction_count}
-use Rattle.scx_semantics.specs.Effects.{Query, Call, Load, Store}
-use Rattle.scx_semantics.specs.Elements.{Maps}
-use Rattle.scx_semantics.specs.Endings.{run_of}
-use Rattle.scx_semantics.proofs.EndedRuns.{run_keeps}
-use Rattle.scx_semantics.specs.Machine as start
-use Rattle.scx_safety.specs.Programs.{VerifiedProgram}
+use Rattle.scx_isa_semantics.specs.declared.callbacks.Callback.{Callback}
+use Rattle.scx_isa_semantics.specs.declared.callbacks.Callback.TheVariants as callback
+use Rattle.scx_isa_semantics.specs.declared.host_tables.Helper.{Helper}
+use Rattle.scx_isa_semantics.specs.declared.host_tables.Helper.TheVariants.{MapLookupElem, KtimeGetNs, CreateDsq, DsqInsert, DsqInsertVtime, DsqMoveToLocal, SelectCpuDfl, CpuIdle, TaskByPid, DsqNrQueued}
+use Rattle.scx_isa_semantics.specs.Code.{instruction_count}
+use Rattle.scx_isa_semantics.specs.Effects.{Query, Call, Load, Store}
+use Rattle.scx_isa_semantics.specs.Elements.{Maps}
+use Rattle.scx_isa_semantics.specs.Endings.{run_of}
+use Rattle.scx_isa_semantics.proofs.EndedRuns.{run_keeps}
+use Rattle.scx_isa_semantics.specs.Machine as start
+use Rattle.scx_vm_safety.specs.Programs.{VerifiedProgram}
 use Rattle.scx_vm.specs.Arguments.{program_arguments as registers, argument_of}
 use Rattle.scx_vm.specs.declared.arguments.Arg.{Arg}
 use Rattle.scx_vm.specs.declared.arguments.Args.{Args}
 use Rattle.scx_vm.specs.Host.{answer_to, after_query}
-use Rattle.scx_tasks.specs.declared.task.Task.{Task}
-use Rattle.scx_tasks.specs.Tasks.{no_task}
-use Rattle.scx_tasks.specs.Waits.{time_since}
-use Rattle.scx_world.specs.declared.call.Insert.{Insert}
-use Rattle.scx_world.specs.declared.eject.Eject.{Eject}
-use Rattle.scx_world.specs.declared.faults.Fault.{Fault}
-use Rattle.scx_world.specs.declared.faults.Fault.TheVariants.{NoSuchQueue, NoSuchCpu, CannotCreate}
-use Rattle.scx_world.specs.World.{WorldState, with_queues, with_task, task_at, running, waits, wait, at_callback}
-use Rattle.scx_world.specs.Tasks.{with_since, let_go, task_after_insert, after_leave, after_enter, for_cpu}
-use Rattle.scx_world.specs.Helpers.{is_there, can_create, with_fault, is_dispatch, insert_fault, with_insert, after_release, insert_or_fault, insert_of, insert_of_vtime, can_move, front_moved_to_local, given_number, given_task, helper_after, stored_in, world_functions}
-use Rattle.scx_world.specs.Ejecting.{put_out, put_builtin, after_evictions, after_cut, cut_task}
-use Rattle.scx_machine.specs.Steps.{State, is_ejected}
-use Rattle.scx_machine.specs.Ejecting.{moves_over, eject, ejected_for}
-use Rattle.scx_machine.specs.Callbacks.{call_ending, acting, after_callback, fault_of, call_back, task_and_number}
-use Rattle.scx_machine.specs.Put.{enters, enqueue_choice, enters_builtin, comes_in, put}
-use Rattle.scx_machine.proofs.Unchanged.{keeps_if}
+use Rattle.scx_sched_tasks.specs.declared.task.Task.{Task}
+use Rattle.scx_sched_tasks.specs.Tasks.{no_task}
+use Rattle.scx_sched_tasks.specs.Waits.{time_since}
+use Rattle.scx_sched_world.specs.declared.call.Insert.{Insert}
+use Rattle.scx_sched_world.specs.declared.eject.Eject.{Eject}
+use Rattle.scx_sched_world.specs.declared.faults.Fault.{Fault}
+use Rattle.scx_sched_world.specs.declared.faults.Fault.TheVariants.{NoSuchQueue, NoSuchCpu, CannotCreate}
+use Rattle.scx_sched_world.specs.World.{WorldState, with_queues, with_task, task_at, running, waits, wait, at_callback}
+use Rattle.scx_sched_world.specs.Tasks.{with_since, let_go, task_after_insert, after_leave, after_enter, for_cpu}
+use Rattle.scx_sched_world.specs.Helpers.{is_there, can_create, with_fault, is_dispatch, insert_fault, with_insert, after_release, insert_or_fault, insert_of, insert_of_vtime, can_move, front_moved_to_local, given_number, given_task, helper_after, stored_in, world_functions}
+use Rattle.scx_sched_world.specs.Ejecting.{put_out, put_builtin, after_evictions, after_cut, cut_task}
+use Rattle.scx_sched_machine.specs.Steps.{State, is_ejected}
+use Rattle.scx_sched_machine.specs.Ejecting.{moves_over, eject, ejected_for}
+use Rattle.scx_sched_machine.specs.Callbacks.{call_ending, acting, after_callback, fault_of, call_back, task_and_number}
+use Rattle.scx_sched_machine.specs.Put.{enters, enqueue_choice, enters_builtin, comes_in, put}
+use Rattle.scx_sched_machine.proofs.Unchanged.{keeps_if}
 use Rattle.scx_sched.proofs.Waiting.{since_set, stored_since, given_since}
 
 -- from the first world to the second: the clock, how many tasks there are, and how long each has waited

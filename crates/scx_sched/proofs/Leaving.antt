@@ -2,22 +2,22 @@
 -- of a local queue.
 use Rattle.std.proofs.Common.{◌≡◌, ℕ, ◌<◌, Bool, true, false, nat_lt, if◌then◌else◌, length, Option, Some, None, is_some, refl, sym, subst, arith}
 use Rattle.scx_dsq.specs.declared.entries.Rank.TheVariants.{Vtime}
-use Rattle.scx_semantics.specs.declared.callbacks.Callback.{Callback}
-use Rattle.scx_semantics.specs.declared.callbacks.Callback.TheVariants as callback
-use Rattle.scx_safety.specs.Programs.{VerifiedProgram}
+use Rattle.scx_isa_semantics.specs.declared.callbacks.Callback.{Callback}
+use Rattle.scx_isa_semantics.specs.declared.callbacks.Callback.TheVariants as callback
+use Rattle.scx_vm_safety.specs.Programs.{VerifiedProgram}
 use Rattle.scx_vm.specs.declared.arguments.Args.{Args}
-use Rattle.scx_world.specs.declared.eject.Eject.{Eject}
-use Rattle.scx_world.specs.Ids.{builtin_queue, local_on}
-use Rattle.scx_world.specs.World.{WorldState, at_callback, quiet}
-use Rattle.scx_world.specs.Tasks.{local_len, after_stop}
-use Rattle.scx_world.specs.Ejecting.{builtin_vtime, put_builtin, after_charge}
-use Rattle.scx_machine.specs.Policy.{program_of}
-use Rattle.scx_machine.specs.Steps.{State, Stepped, with_world, stays, one_after_other, is_ejected}
-use Rattle.scx_machine.specs.Ejecting.{ejected_for}
-use Rattle.scx_machine.specs.Callbacks.{call_ending, calls_of, after_callback, fault_of, unless_ejected, acting, call_back, task_and_number}
-use Rattle.scx_machine.specs.Put.{enters, enqueue_choice, enters_builtin, comes_in, put}
-use Rattle.scx_machine.specs.Cycle.{stopping, leave}
-use Rattle.scx_machine.proofs.Unchanged.{keeps_if}
+use Rattle.scx_sched_world.specs.declared.eject.Eject.{Eject}
+use Rattle.scx_sched_world.specs.Ids.{builtin_queue, local_on}
+use Rattle.scx_sched_world.specs.World.{WorldState, at_callback, quiet}
+use Rattle.scx_sched_world.specs.Tasks.{local_len, after_stop}
+use Rattle.scx_sched_world.specs.Ejecting.{builtin_vtime, put_builtin, after_charge}
+use Rattle.scx_sched_machine.specs.Policy.{program_of}
+use Rattle.scx_sched_machine.specs.Steps.{State, Stepped, with_world, stays, one_after_other, is_ejected}
+use Rattle.scx_sched_machine.specs.Ejecting.{ejected_for}
+use Rattle.scx_sched_machine.specs.Callbacks.{call_ending, calls_of, after_callback, fault_of, unless_ejected, acting, call_back, task_and_number}
+use Rattle.scx_sched_machine.specs.Put.{enters, enqueue_choice, enters_builtin, comes_in, put}
+use Rattle.scx_sched_machine.specs.Cycle.{stopping, leave}
+use Rattle.scx_sched_machine.proofs.Unchanged.{keeps_if}
 use Rattle.scx_sched.proofs.Lengths.{len_pushed}
 
 -- ---- no callback runs

@@ -2,14 +2,14 @@
 use Rattle.std.proofs.Common.{◌≡◌, ℕ, zero, suc, ◌<◌, true, false, ◌||◌, List, Option, Some, None, is_some, option_map, refl, ap, ◌∙◌, arith}
 use Rattle.scx_dsq.specs.declared.entries.Entry.{Entry}
 use Rattle.scx_dsq.specs.Queues.{QueueState, task_count, entry_of, queue_of, len_of, front_of, behind_of}
-use Rattle.scx_world.specs.Ids.{parked_queue}
-use Rattle.scx_world.proofs.Fronts.{AtParked, at_front, at_behind, behind_in}
-use Rattle.scx_tasks.specs.Waits.{time_since}
-use Rattle.scx_world.specs.World.{WorldState, task_at, waits_in, wait, is_throttled}
-use Rattle.scx_world.specs.Tasks.{let_go}
-use Rattle.scx_machine.specs.Steps.{State, Stepped, with_world, one_after_other}
-use Rattle.scx_machine.specs.Parking.{let_go_one, let_go_from, let_all_go}
-use Rattle.scx_machine.proofs.Unchanged.{keeps_if}
+use Rattle.scx_sched_world.specs.Ids.{parked_queue}
+use Rattle.scx_sched_world.proofs.Fronts.{AtParked, at_front, at_behind, behind_in}
+use Rattle.scx_sched_tasks.specs.Waits.{time_since}
+use Rattle.scx_sched_world.specs.World.{WorldState, task_at, waits_in, wait, is_throttled}
+use Rattle.scx_sched_world.specs.Tasks.{let_go}
+use Rattle.scx_sched_machine.specs.Steps.{State, Stepped, with_world, one_after_other}
+use Rattle.scx_sched_machine.specs.Parking.{let_go_one, let_go_from, let_all_go}
+use Rattle.scx_sched_machine.proofs.Unchanged.{keeps_if}
 use Rattle.scx_sched.proofs.Waiting.{removed_other}
 use Rattle.scx_sched.proofs.Sound.{waits_known}
 use Rattle.scx_sched.proofs.Staying.{stay_put}

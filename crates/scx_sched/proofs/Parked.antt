@@ -10,27 +10,27 @@ use Rattle.scx_dsq.specs.declared.entries.Rank.TheVariants.{Fifo, Vtime}
 use Rattle.scx_dsq.specs.Queues.{QueueState, exists, entry_of, queue_of, front_of, is_in}
 use Rattle.scx_dsq.specs.Calls.{create_refusal, with_queue, after_create, push_refusal, next_entry, with_task as with_place, after_push, without_task, after_remove, without, after_pop}
 use Rattle.scx_dsq.proofs.Facts.{free_from}
-use Rattle.scx_semantics.specs.declared.host_tables.Helper.{Helper}
-use Rattle.scx_semantics.specs.declared.host_tables.Helper.TheVariants.{MapLookupElem, KtimeGetNs, CreateDsq, DsqInsert, DsqInsertVtime, DsqMoveToLocal, SelectCpuDfl, CpuIdle, TaskByPid, DsqNrQueued}
-use Rattle.scx_semantics.specs.Effects.{Query, Call, Load, Store}
+use Rattle.scx_isa_semantics.specs.declared.host_tables.Helper.{Helper}
+use Rattle.scx_isa_semantics.specs.declared.host_tables.Helper.TheVariants.{MapLookupElem, KtimeGetNs, CreateDsq, DsqInsert, DsqInsertVtime, DsqMoveToLocal, SelectCpuDfl, CpuIdle, TaskByPid, DsqNrQueued}
+use Rattle.scx_isa_semantics.specs.Effects.{Query, Call, Load, Store}
 use Rattle.scx_vm.specs.Arguments.{argument_of}
 use Rattle.scx_vm.specs.Host.{after_query}
 use Rattle.scx_vm.specs.declared.arguments.Arg.{Arg}
 use Rattle.scx_weights.specs.Limits.{is_throttled, with_use}
-use Rattle.scx_limits.proofs.Throttled.{uses_keep_throttled}
-use Rattle.scx_world.specs.declared.call.Insert.{Insert}
-use Rattle.scx_world.specs.declared.faults.Fault.{Fault}
-use Rattle.scx_world.specs.declared.faults.Fault.TheVariants.{NoSuchQueue, NoSuchCpu, CannotCreate}
-use Rattle.scx_world.specs.Ids.{held_queue, builtin_queue, parked_queue, local_on, policy_end}
-use Rattle.scx_world.specs.World.{WorldState, with_queues, with_tree, waits_in, waits}
-use Rattle.scx_world.specs.Tasks.{after_leave, after_enter, for_cpu, brought, put_parked}
-use Rattle.scx_world.specs.Helpers.{is_there, can_create, with_fault, is_dispatch, is_held, insert_fault, with_insert, after_release, insert_or_fault, insert_of, insert_of_vtime, front_moved_to_local, given_number, given_task, helper_after, world_functions}
-use Rattle.scx_world.specs.Ejecting.{builtin_vtime, put_builtin, evict}
-use Rattle.scx_machine.proofs.Unchanged.{keeps_if}
+use Rattle.scx_weights_limits.proofs.Throttled.{uses_keep_throttled}
+use Rattle.scx_sched_world.specs.declared.call.Insert.{Insert}
+use Rattle.scx_sched_world.specs.declared.faults.Fault.{Fault}
+use Rattle.scx_sched_world.specs.declared.faults.Fault.TheVariants.{NoSuchQueue, NoSuchCpu, CannotCreate}
+use Rattle.scx_sched_world.specs.Ids.{held_queue, builtin_queue, parked_queue, local_on, policy_end}
+use Rattle.scx_sched_world.specs.World.{WorldState, with_queues, with_tree, waits_in, waits}
+use Rattle.scx_sched_world.specs.Tasks.{after_leave, after_enter, for_cpu, brought, put_parked}
+use Rattle.scx_sched_world.specs.Helpers.{is_there, can_create, with_fault, is_dispatch, is_held, insert_fault, with_insert, after_release, insert_or_fault, insert_of, insert_of_vtime, front_moved_to_local, given_number, given_task, helper_after, world_functions}
+use Rattle.scx_sched_world.specs.Ejecting.{builtin_vtime, put_builtin, evict}
+use Rattle.scx_sched_machine.proofs.Unchanged.{keeps_if}
 use Rattle.scx_sched.specs.Once.{IsSound, GoesSomewhere}
 use Rattle.scx_sched.specs.Kept.{IsWanted, ForAny, Nowhere, Inserted}
 use Rattle.scx_sched.specs.Parked.{AreThrottled}
-use Rattle.scx_world.proofs.Fronts.{front_in}
+use Rattle.scx_sched_world.proofs.Fronts.{front_in}
 use Rattle.scx_sched.proofs.Waiting.{pushed_other, without_other}
 use Rattle.scx_sched.proofs.Sound.{IsFit, is_fit, fit_apart, held_in_dispatch, said_apart}
 

@@ -8,10 +8,10 @@ use Rattle.scx_dsq.specs.Queues.{QueueState, task_count, entry_of, queue_of, fro
 use Rattle.scx_dsq.specs.Calls.{push_refusal, after_push, after_pop, after_remove}
 use Rattle.scx_dsq.proofs.Facts.{standing_popped, standing_removed, tasks_pushed, tasks_without, tasks_removed}
 use Rattle.scx_weights.specs.Limits.{with_use}
-use Rattle.scx_world.specs.Ids.{parked_queue}
-use Rattle.scx_world.specs.World.{WorldState, with_tree, waits_in}
-use Rattle.scx_world.specs.Tasks.{put_parked, after_take, let_go, used_ms, begun_periods}
-use Rattle.scx_machine.proofs.Unchanged.{keeps_if}
+use Rattle.scx_sched_world.specs.Ids.{parked_queue}
+use Rattle.scx_sched_world.specs.World.{WorldState, with_tree, waits_in}
+use Rattle.scx_sched_world.specs.Tasks.{put_parked, after_take, let_go, used_ms, begun_periods}
+use Rattle.scx_sched_machine.proofs.Unchanged.{keeps_if}
 use Rattle.scx_sched.specs.Once.{IsSound}
 use Rattle.scx_sched.proofs.Entering.{nowhere, own_open, is_accepted, sorted_pushed, sorted_popped, sorted_removed, stamped_pushed, stamped_popped, stamped_removed, stay_pushed, stay_without, stay_removed, queues_stay, goes_on, open_own, open_without, open_removed}
 use Rattle.scx_sched.proofs.Waiting.{pushed_here, pushed_other, removed_other, waiting_left, front_waits_here, set_since, waits_sum, waits_by_sum}

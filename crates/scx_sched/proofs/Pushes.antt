@@ -4,13 +4,13 @@ use Rattle.scx_dsq.specs.Queues.{QueueState, exists, entry_of, front_of}
 use Rattle.scx_dsq.proofs.Facts.{ids_removed}
 use Rattle.scx_dsq.specs.Calls.{push_refusal, after_pop, after_remove}
 use Rattle.scx_dsq.specs.declared.entries.Rank.TheVariants.{Fifo, Vtime}
-use Rattle.scx_world.specs.Ids.{builtin_queue, parked_queue, local_on}
-use Rattle.scx_world.specs.World.{WorldState, waits}
-use Rattle.scx_world.specs.declared.call.Insert.{Insert}
-use Rattle.scx_world.specs.Tasks.{queue_for}
-use Rattle.scx_world.specs.Helpers.{is_dispatch, insert_fault}
+use Rattle.scx_sched_world.specs.Ids.{builtin_queue, parked_queue, local_on}
+use Rattle.scx_sched_world.specs.World.{WorldState, waits}
+use Rattle.scx_sched_world.specs.declared.call.Insert.{Insert}
+use Rattle.scx_sched_world.specs.Tasks.{queue_for}
+use Rattle.scx_sched_world.specs.Helpers.{is_dispatch, insert_fault}
 use Rattle.scx_sched.specs.Accepted.{IsPushAccepted}
-use Rattle.scx_world.specs.Ejecting.{builtin_vtime}
+use Rattle.scx_sched_world.specs.Ejecting.{builtin_vtime}
 use Rattle.scx_sched.specs.Once.{IsSorted, IsSound}
 use Rattle.scx_sched.proofs.Entering.{nowhere, own_open, is_accepted, sorted_popped, sorted_removed, stay_without, open_removed, local_sort}
 use Rattle.scx_sched.proofs.Waiting.{waits_there}

@@ -2,28 +2,28 @@
 -- and nobody is there.
 use Rattle.std.proofs.Common.{◌≡◌, ℕ, suc, ◌+◌, ◌<◌, Bool, true, false, List, length, set, get_or, Option, Some, None, is_some, refl, ◌∙◌, ap, if◌then◌else◌}
 use Rattle.std.proofs.lemmas.List.{length-set}
-use Rattle.scx_semantics.specs.declared.callbacks.Callback.{Callback}
-use Rattle.scx_semantics.specs.declared.callbacks.Callback.TheVariants as callback
-use Rattle.scx_semantics.specs.Code.{instruction_count}
-use Rattle.scx_semantics.specs.Elements.{Maps}
-use Rattle.scx_semantics.specs.Endings.{run_of}
-use Rattle.scx_semantics.proofs.EndedRuns.{run_keeps}
-use Rattle.scx_semantics.specs.Machine as start
-use Rattle.scx_safety.specs.Programs.{VerifiedProgram}
+use Rattle.scx_isa_semantics.specs.declared.callbacks.Callback.{Callback}
+use Rattle.scx_isa_semantics.specs.declared.callbacks.Callback.TheVariants as callback
+use Rattle.scx_isa_semantics.specs.Code.{instruction_count}
+use Rattle.scx_isa_semantics.specs.Elements.{Maps}
+use Rattle.scx_isa_semantics.specs.Endings.{run_of}
+use Rattle.scx_isa_semantics.proofs.EndedRuns.{run_keeps}
+use Rattle.scx_isa_semantics.specs.Machine as start
+use Rattle.scx_vm_safety.specs.Programs.{VerifiedProgram}
 use Rattle.scx_vm.specs.Arguments.{program_arguments}
 use Rattle.scx_vm.specs.declared.arguments.Args.{Args}
 use Rattle.scx_vm.specs.Host.{answer_to, after_query}
-use Rattle.scx_world.specs.declared.eject.Eject.{Eject}
-use Rattle.scx_world.specs.declared.faults.Fault.{Fault}
-use Rattle.scx_world.specs.World.{WorldState, at_callback, quiet}
-use Rattle.scx_world.specs.Tasks.{after_stop}
-use Rattle.scx_world.specs.Ejecting.{after_charge}
-use Rattle.scx_world.specs.Helpers.{is_dispatch, world_functions}
-use Rattle.scx_machine.specs.Steps.{State, with_world, stays, is_ejected}
-use Rattle.scx_machine.specs.Ejecting.{eject, ejected_for}
-use Rattle.scx_machine.specs.Callbacks.{call_ending, acting, after_callback, fault_of, call_back, task_and_number}
-use Rattle.scx_machine.specs.Put.{enters, enqueue_choice, enters_builtin, comes_in, put}
-use Rattle.scx_machine.specs.Cycle.{stopping, leave}
+use Rattle.scx_sched_world.specs.declared.eject.Eject.{Eject}
+use Rattle.scx_sched_world.specs.declared.faults.Fault.{Fault}
+use Rattle.scx_sched_world.specs.World.{WorldState, at_callback, quiet}
+use Rattle.scx_sched_world.specs.Tasks.{after_stop}
+use Rattle.scx_sched_world.specs.Ejecting.{after_charge}
+use Rattle.scx_sched_world.specs.Helpers.{is_dispatch, world_functions}
+use Rattle.scx_sched_machine.specs.Steps.{State, with_world, stays, is_ejected}
+use Rattle.scx_sched_machine.specs.Ejecting.{eject, ejected_for}
+use Rattle.scx_sched_machine.specs.Callbacks.{call_ending, acting, after_callback, fault_of, call_back, task_and_number}
+use Rattle.scx_sched_machine.specs.Put.{enters, enqueue_choice, enters_builtin, comes_in, put}
+use Rattle.scx_sched_machine.specs.Cycle.{stopping, leave}
 use Rattle.scx_sched.specs.Kept.{IsKeptBySteps}
 use Rattle.scx_sched.specs.Once.{IsSound}
 use Rattle.scx_sched.proofs.Unchanged.{eject_sets}

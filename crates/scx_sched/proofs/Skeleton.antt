@@ -1,30 +1,30 @@
 -- What each small step of a world keeps, callbacks and ejections keep, and a task that is put.
 use Rattle.std.proofs.Common.{◌≡◌, ℕ, zero, suc, ◌+◌, ◌<◌, ◌≤◌, Bool, true, false, if◌then◌else◌, List, length, Option, Some, None, refl, arith}
-use Rattle.scx_semantics.specs.declared.callbacks.Callback.{Callback}
-use Rattle.scx_semantics.specs.declared.callbacks.Callback.TheVariants as callback
-use Rattle.scx_semantics.specs.Code.{instruction_count}
-use Rattle.scx_semantics.specs.Elements.{Maps}
-use Rattle.scx_semantics.specs.Endings.{run_of}
-use Rattle.scx_semantics.proofs.EndedRuns.{run_keeps}
-use Rattle.scx_semantics.specs.Machine as start
-use Rattle.scx_safety.specs.Programs.{VerifiedProgram}
+use Rattle.scx_isa_semantics.specs.declared.callbacks.Callback.{Callback}
+use Rattle.scx_isa_semantics.specs.declared.callbacks.Callback.TheVariants as callback
+use Rattle.scx_isa_semantics.specs.Code.{instruction_count}
+use Rattle.scx_isa_semantics.specs.Elements.{Maps}
+use Rattle.scx_isa_semantics.specs.Endings.{run_of}
+use Rattle.scx_isa_semantics.proofs.EndedRuns.{run_keeps}
+use Rattle.scx_isa_semantics.specs.Machine as start
+use Rattle.scx_vm_safety.specs.Programs.{VerifiedProgram}
 use Rattle.scx_vm.specs.Arguments.{program_arguments}
 use Rattle.scx_vm.specs.declared.arguments.Args.{Args}
 use Rattle.scx_vm.specs.Host.{answer_to, after_query}
-use Rattle.scx_world.specs.declared.eject.Eject.{Eject}
-use Rattle.scx_world.specs.declared.faults.Fault.{Fault}
-use Rattle.scx_world.specs.World.{WorldState, running, at_callback}
-use Rattle.scx_world.specs.Tasks.{for_cpu}
-use Rattle.scx_world.specs.Ejecting.{put_out, after_evictions, after_cut, cut_task, after_charge, after_catch_up}
-use Rattle.scx_world.specs.Helpers.{world_functions}
-use Rattle.scx_machine.specs.Steps.{State, Stepped, stays, with_world, is_ejected}
-use Rattle.scx_machine.specs.Ejecting.{moves_over, eject, ejected_for}
-use Rattle.scx_machine.specs.Callbacks.{call_ending, acting, after_callback, fault_of, call_back, one_task, task_and_number}
-use Rattle.scx_world.specs.declared.call.Insert.{Insert}
-use Rattle.scx_machine.specs.Put.{enters, enqueue_choice, enters_builtin, comes_in, put}
-use Rattle.scx_machine.specs.Cycle.{stopping, running_on}
-use Rattle.scx_machine.specs.Events.{insert_or_put}
-use Rattle.scx_machine.proofs.Unchanged.{keeps_if}
+use Rattle.scx_sched_world.specs.declared.eject.Eject.{Eject}
+use Rattle.scx_sched_world.specs.declared.faults.Fault.{Fault}
+use Rattle.scx_sched_world.specs.World.{WorldState, running, at_callback}
+use Rattle.scx_sched_world.specs.Tasks.{for_cpu}
+use Rattle.scx_sched_world.specs.Ejecting.{put_out, after_evictions, after_cut, cut_task, after_charge, after_catch_up}
+use Rattle.scx_sched_world.specs.Helpers.{world_functions}
+use Rattle.scx_sched_machine.specs.Steps.{State, Stepped, stays, with_world, is_ejected}
+use Rattle.scx_sched_machine.specs.Ejecting.{moves_over, eject, ejected_for}
+use Rattle.scx_sched_machine.specs.Callbacks.{call_ending, acting, after_callback, fault_of, call_back, one_task, task_and_number}
+use Rattle.scx_sched_world.specs.declared.call.Insert.{Insert}
+use Rattle.scx_sched_machine.specs.Put.{enters, enqueue_choice, enters_builtin, comes_in, put}
+use Rattle.scx_sched_machine.specs.Cycle.{stopping, running_on}
+use Rattle.scx_sched_machine.specs.Events.{insert_or_put}
+use Rattle.scx_sched_machine.proofs.Unchanged.{keeps_if}
 use Rattle.scx_sched.specs.Kept.{IsKeptBySteps, IsWanted, ForAny, Nowhere, Inserted}
 
 -- the task before, if there is one, is a task that there is

@@ -1,33 +1,33 @@
 -- Between two events no cycle is under way.
 use Rattle.std.proofs.Common.{◌≡◌, ℕ, zero, suc, Bool, ◌==◌, true, false, nat_lt, length, Option, Some, None, is_none, Ok, refl, ◌∙◌}
 use Rattle.scx_dsq.specs.Queues.{len_of, front_of, behind_of}
-use Rattle.scx_semantics.specs.declared.callbacks.Callback.{Callback}
-use Rattle.scx_semantics.specs.declared.callbacks.Callback.TheVariants as callback
-use Rattle.scx_semantics.specs.Elements.{Maps}
-use Rattle.scx_safety.specs.Programs.{VerifiedProgram}
+use Rattle.scx_isa_semantics.specs.declared.callbacks.Callback.{Callback}
+use Rattle.scx_isa_semantics.specs.declared.callbacks.Callback.TheVariants as callback
+use Rattle.scx_isa_semantics.specs.Elements.{Maps}
+use Rattle.scx_vm_safety.specs.Programs.{VerifiedProgram}
 use Rattle.scx_vm.specs.declared.arguments.Args.{Args}
 use Rattle.scx_weights.specs.Hierarchy.{Hierarchy, with_weight}
 use Rattle.scx_weights.specs.Limits.{with_use}
 use Rattle.scx_weights.specs.Refusals.{weight_fault}
-use Rattle.scx_world.specs.declared.call.Insert.{Insert}
-use Rattle.scx_world.specs.declared.faults.Fault.{Fault}
-use Rattle.scx_world.specs.declared.eject.Eject.{Eject}
-use Rattle.scx_world.specs.Ids.{parked_queue}
-use Rattle.scx_world.specs.World.{WorldState, with_tree, task_at, is_throttled, running, cpu_of, is_idle, at_callback}
-use Rattle.scx_world.specs.Tasks.{after_wake, after_leave, after_enter, for_cpu, let_go, after_tick, used_ms, later, begun_periods}
-use Rattle.scx_world.specs.Ejecting.{put_builtin}
-use Rattle.scx_machine.specs.declared.events.Event.{Event}
-use Rattle.scx_machine.specs.declared.events.Event.TheVariants.{Wake, Sleep, Tick, Clock, SetWeight}
-use Rattle.scx_machine.specs.Policy.{PolicyState}
-use Rattle.scx_machine.specs.Steps.{State, Stepped, one_after_other, stays, with_world, is_ejected}
-use Rattle.scx_machine.specs.Ejecting.{eject, ejected_for}
-use Rattle.scx_machine.specs.Callbacks.{call_ending, acting, fault_of, call_back, answered_by, after_callback, task_cpu_and_0, task_and_number}
-use Rattle.scx_machine.specs.Put.{enters, enqueue_choice, enters_builtin, comes_in, put}
-use Rattle.scx_machine.specs.Parking.{let_go_one, let_go_from, let_all_go}
-use Rattle.scx_machine.specs.Cycle.{cycle}
-use Rattle.scx_machine.specs.Events.{target, insert_or_put, settle, select, wake, sleep_from_cpu, sleep_from, sleep, throttle, expire, count_down, tick_of, tick, overdue, eject_if_stalled, clock, event_step}
-use Rattle.scx_machine.specs.Start.{first_state}
-use Rattle.scx_machine.proofs.Unchanged.{keeps_if}
+use Rattle.scx_sched_world.specs.declared.call.Insert.{Insert}
+use Rattle.scx_sched_world.specs.declared.faults.Fault.{Fault}
+use Rattle.scx_sched_world.specs.declared.eject.Eject.{Eject}
+use Rattle.scx_sched_world.specs.Ids.{parked_queue}
+use Rattle.scx_sched_world.specs.World.{WorldState, with_tree, task_at, is_throttled, running, cpu_of, is_idle, at_callback}
+use Rattle.scx_sched_world.specs.Tasks.{after_wake, after_leave, after_enter, for_cpu, let_go, after_tick, used_ms, later, begun_periods}
+use Rattle.scx_sched_world.specs.Ejecting.{put_builtin}
+use Rattle.scx_sched_machine.specs.declared.events.Event.{Event}
+use Rattle.scx_sched_machine.specs.declared.events.Event.TheVariants.{Wake, Sleep, Tick, Clock, SetWeight}
+use Rattle.scx_sched_machine.specs.Policy.{PolicyState}
+use Rattle.scx_sched_machine.specs.Steps.{State, Stepped, one_after_other, stays, with_world, is_ejected}
+use Rattle.scx_sched_machine.specs.Ejecting.{eject, ejected_for}
+use Rattle.scx_sched_machine.specs.Callbacks.{call_ending, acting, fault_of, call_back, answered_by, after_callback, task_cpu_and_0, task_and_number}
+use Rattle.scx_sched_machine.specs.Put.{enters, enqueue_choice, enters_builtin, comes_in, put}
+use Rattle.scx_sched_machine.specs.Parking.{let_go_one, let_go_from, let_all_go}
+use Rattle.scx_sched_machine.specs.Cycle.{cycle}
+use Rattle.scx_sched_machine.specs.Events.{target, insert_or_put, settle, select, wake, sleep_from_cpu, sleep_from, sleep, throttle, expire, count_down, tick_of, tick, overdue, eject_if_stalled, clock, event_step}
+use Rattle.scx_sched_machine.specs.Start.{first_state}
+use Rattle.scx_sched_machine.proofs.Unchanged.{keeps_if}
 use Rattle.scx_sched.proofs.Unchanged.{same_called, eject_sets}
 use Rattle.scx_sched.proofs.Begins.{keeps_started}
 

@@ -10,15 +10,15 @@ use Rattle.scx_dsq.specs.Laws.{one_if}
 use Rattle.scx_dsq.specs.Queues.{QueueState, entry_of, queue_of, is_in, len_of, front_of}
 use Rattle.scx_dsq.specs.Calls.{push_refusal, next_entry, with_task as with_place, after_push, after_pop}
 use Rattle.scx_dsq.proofs.Facts.{front_is_known}
-use Rattle.scx_world.specs.Ids.{global, builtin_queue, parked_queue, local_on}
-use Rattle.scx_world.specs.World.{WorldState, is_throttled}
-use Rattle.scx_world.specs.Tasks.{local_len, brought, put_parked, after_take}
-use Rattle.scx_machine.specs.Steps.{State, Stepped, stays, one_after_other}
-use Rattle.scx_machine.specs.Filling.{fill}
-use Rattle.scx_machine.specs.Parking.{park, park_front, if_throttled, throttled_front, park_then, park_fronts, clear, in_reach, supply, FrontMayRun}
-use Rattle.scx_machine.specs.Cycle.{has_local, builtin_dispatch, builtin_fill}
-use Rattle.scx_machine.proofs.Unchanged.{keeps_if}
-use Rattle.scx_world.proofs.Fronts.{front_in}
+use Rattle.scx_sched_world.specs.Ids.{global, builtin_queue, parked_queue, local_on}
+use Rattle.scx_sched_world.specs.World.{WorldState, is_throttled}
+use Rattle.scx_sched_world.specs.Tasks.{local_len, brought, put_parked, after_take}
+use Rattle.scx_sched_machine.specs.Steps.{State, Stepped, stays, one_after_other}
+use Rattle.scx_sched_machine.specs.Filling.{fill}
+use Rattle.scx_sched_machine.specs.Parking.{park, park_front, if_throttled, throttled_front, park_then, park_fronts, clear, in_reach, supply, FrontMayRun}
+use Rattle.scx_sched_machine.specs.Cycle.{has_local, builtin_dispatch, builtin_fill}
+use Rattle.scx_sched_machine.proofs.Unchanged.{keeps_if}
+use Rattle.scx_sched_world.proofs.Fronts.{front_in}
 use Rattle.scx_sched.proofs.Waiting.{pushed_other}
 use Rattle.scx_sched.proofs.Lengths.{len_set}
 use Rattle.scx_sched.proofs.Fronts.{IsSameIn, same_here, same_then, same_pushed, same_popped}

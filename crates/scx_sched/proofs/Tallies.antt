@@ -12,34 +12,34 @@ use Rattle.scx_dsq.specs.declared.errors.QueueError.{QueueError}
 use Rattle.scx_dsq.specs.declared.errors.QueueError.TheVariants.{NoSuchQueue, AlreadyThere, Mixed}
 use Rattle.scx_dsq.specs.Queues.{QueueState, exists, entry_of, front_of}
 use Rattle.scx_dsq.specs.Calls.{clashes, create_refusal, with_queue, after_create, push_refusal, after_push, after_pop, after_remove, without, without_task, next_entry, with_task as with_place}
-use Rattle.scx_semantics.specs.declared.host_tables.Helper.{Helper}
-use Rattle.scx_semantics.specs.declared.host_tables.Helper.TheVariants.{MapLookupElem, KtimeGetNs, CreateDsq, DsqInsert, DsqInsertVtime, DsqMoveToLocal, SelectCpuDfl, CpuIdle, TaskByPid, DsqNrQueued}
-use Rattle.scx_semantics.specs.Effects.{Query, Call, Load, Store}
+use Rattle.scx_isa_semantics.specs.declared.host_tables.Helper.{Helper}
+use Rattle.scx_isa_semantics.specs.declared.host_tables.Helper.TheVariants.{MapLookupElem, KtimeGetNs, CreateDsq, DsqInsert, DsqInsertVtime, DsqMoveToLocal, SelectCpuDfl, CpuIdle, TaskByPid, DsqNrQueued}
+use Rattle.scx_isa_semantics.specs.Effects.{Query, Call, Load, Store}
 use Rattle.scx_vm.specs.Arguments.{argument_of}
 use Rattle.scx_vm.specs.Host.{after_query}
 use Rattle.scx_vm.specs.declared.arguments.Arg.{Arg}
 use Rattle.scx_weights.specs.Hierarchy.{Hierarchy, with_weight}
 use Rattle.scx_weights.specs.Limits.{with_use}
 use Rattle.scx_weights.specs.Refusals.{weight_fault}
-use Rattle.scx_tasks.specs.declared.task.Task.{Task}
-use Rattle.scx_tasks.specs.Tasks.{no_task, new_task, default_slice}
-use Rattle.scx_world.specs.declared.call.Insert.{Insert}
-use Rattle.scx_world.specs.declared.faults.Fault.{Fault}
-use Rattle.scx_world.specs.declared.faults.Fault.TheVariants.{NoSuchQueue as NoQueue, NoSuchCpu, CannotCreate}
-use Rattle.scx_world.specs.First.{first_queues, first_world}
-use Rattle.scx_world.specs.Ids.{builtin_queue, parked_queue, local_on}
-use Rattle.scx_world.specs.World.{WorldState, with_queues, with_tree, with_task, task_at, waits, is_this, running}
-use Rattle.scx_world.specs.Tasks.{with_since, with_slice, with_builtin, task_after_insert, after_leave, after_enter, for_cpu, brought, fill_front, on_cpu, started_at, with_new_slice, put_parked, let_go, tick_ns, ran_a_tick, after_tick, used_ms, begun_periods}
-use Rattle.scx_world.specs.Helpers.{is_there, can_create, with_fault, is_dispatch, insert_fault, with_insert, after_release, insert_or_fault, insert_of, insert_of_vtime, can_move, front_moved_to_local, given_number, given_task, helper_after, stored_in, world_functions}
-use Rattle.scx_world.specs.Ejecting.{builtin_vtime, put_builtin}
-use Rattle.scx_machine.specs.declared.events.Event.{Event}
-use Rattle.scx_machine.specs.declared.events.Event.TheVariants.{Wake, Sleep, Tick, Clock, SetWeight}
-use Rattle.scx_machine.specs.Policy.{PolicyState}
-use Rattle.scx_machine.specs.Start.{is_bad_shape, first_state}
-use Rattle.scx_machine.specs.Steps.{State}
-use Rattle.scx_machine.specs.Cycle.{cycle}
-use Rattle.scx_machine.specs.Events.{refusal, tick_of, tick, event_step}
-use Rattle.scx_machine.proofs.Unchanged.{keeps_if}
+use Rattle.scx_sched_tasks.specs.declared.task.Task.{Task}
+use Rattle.scx_sched_tasks.specs.Tasks.{no_task, new_task, default_slice}
+use Rattle.scx_sched_world.specs.declared.call.Insert.{Insert}
+use Rattle.scx_sched_world.specs.declared.faults.Fault.{Fault}
+use Rattle.scx_sched_world.specs.declared.faults.Fault.TheVariants.{NoSuchQueue as NoQueue, NoSuchCpu, CannotCreate}
+use Rattle.scx_sched_world.specs.First.{first_queues, first_world}
+use Rattle.scx_sched_world.specs.Ids.{builtin_queue, parked_queue, local_on}
+use Rattle.scx_sched_world.specs.World.{WorldState, with_queues, with_tree, with_task, task_at, waits, is_this, running}
+use Rattle.scx_sched_world.specs.Tasks.{with_since, with_slice, with_builtin, task_after_insert, after_leave, after_enter, for_cpu, brought, fill_front, on_cpu, started_at, with_new_slice, put_parked, let_go, tick_ns, ran_a_tick, after_tick, used_ms, begun_periods}
+use Rattle.scx_sched_world.specs.Helpers.{is_there, can_create, with_fault, is_dispatch, insert_fault, with_insert, after_release, insert_or_fault, insert_of, insert_of_vtime, can_move, front_moved_to_local, given_number, given_task, helper_after, stored_in, world_functions}
+use Rattle.scx_sched_world.specs.Ejecting.{builtin_vtime, put_builtin}
+use Rattle.scx_sched_machine.specs.declared.events.Event.{Event}
+use Rattle.scx_sched_machine.specs.declared.events.Event.TheVariants.{Wake, Sleep, Tick, Clock, SetWeight}
+use Rattle.scx_sched_machine.specs.Policy.{PolicyState}
+use Rattle.scx_sched_machine.specs.Start.{is_bad_shape, first_state}
+use Rattle.scx_sched_machine.specs.Steps.{State}
+use Rattle.scx_sched_machine.specs.Cycle.{cycle}
+use Rattle.scx_sched_machine.specs.Events.{refusal, tick_of, tick, event_step}
+use Rattle.scx_sched_machine.proofs.Unchanged.{keeps_if}
 use Rattle.scx_sched.specs.Once.{AreInQueues}
 use Rattle.scx_sched.specs.Kept.{IsKeptBySteps}
 use Rattle.scx_sched.specs.Ranges.{IsFine}

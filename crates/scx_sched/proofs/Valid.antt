@@ -2,16 +2,16 @@
 use Rattle.std.proofs.Common.{◌≡◌, ℕ, ◌+◌, ◌≤◌, ◌^◌, false, length, None, Ok, refl, sym, subst, arith}
 use Rattle.std.proofs.lemmas.Bool.Decides.{nat_tests}
 use Rattle.scx_weights.specs.Hierarchy.{Hierarchy}
-use Rattle.scx_world.specs.declared.eject.Eject.TheVariants as cause
-use Rattle.scx_world.specs.declared.faults.Fault.TheVariants.{Stuck}
-use Rattle.scx_world.specs.World.{WorldState}
-use Rattle.scx_machine.specs.declared.events.Event.{Event}
-use Rattle.scx_machine.specs.Policy.{PolicyState, IsTimeout, AreAs}
-use Rattle.scx_machine.specs.Steps.{State}
-use Rattle.scx_machine.specs.Callbacks.{AreAnswered}
-use Rattle.scx_machine.specs.Events as machine
-use Rattle.scx_machine.specs.Start.{is_bad_shape, first_state}
-use Rattle.scx_machine.specs.Budgets.{start_pushes, event_pushes}
+use Rattle.scx_sched_world.specs.declared.eject.Eject.TheVariants as cause
+use Rattle.scx_sched_world.specs.declared.faults.Fault.TheVariants.{Stuck}
+use Rattle.scx_sched_world.specs.World.{WorldState}
+use Rattle.scx_sched_machine.specs.declared.events.Event.{Event}
+use Rattle.scx_sched_machine.specs.Policy.{PolicyState, IsTimeout, AreAs}
+use Rattle.scx_sched_machine.specs.Steps.{State}
+use Rattle.scx_sched_machine.specs.Callbacks.{AreAnswered}
+use Rattle.scx_sched_machine.specs.Events as machine
+use Rattle.scx_sched_machine.specs.Start.{is_bad_shape, first_state}
+use Rattle.scx_sched_machine.specs.Budgets.{start_pushes, event_pushes}
 use Rattle.scx_sched.specs.Ranges.{IsFine}
 use Rattle.scx_sched.specs.Usages.{AreBounded}
 use Rattle.scx_sched.specs.Sim.{refusal, IsValid}

@@ -8,17 +8,17 @@ use Rattle.scx_dsq.specs.declared.entries.Entry.{Entry}
 use Rattle.scx_dsq.specs.Laws.{one_if, standing}
 use Rattle.scx_dsq.specs.declared.entries.Rank.{Rank}
 use Rattle.scx_dsq.specs.declared.entries.Rank.TheVariants.{Fifo, Vtime}
-use Rattle.scx_semantics.specs.declared.host_tables.Field.{Field}
-use Rattle.scx_semantics.specs.declared.host_tables.Field.TheVariants.{Pid, Weight, Slice, DsqVtime, PrevCpu, Group, RunNs}
-use Rattle.scx_tasks.specs.declared.task.Task.{Task}
-use Rattle.scx_tasks.specs.Tasks.{no_task}
-use Rattle.scx_world.specs.declared.call.Insert.{Insert}
-use Rattle.scx_world.proofs.Fronts.{front_in}
-use Rattle.scx_world.specs.Ids.{parked_queue}
-use Rattle.scx_world.specs.World.{WorldState, waits_in, with_queues, with_task, task_at, waits, is_this, is_runnable}
-use Rattle.scx_world.specs.Tasks.{given_slice, given_vtime, task_after_insert, with_new_slice}
-use Rattle.scx_world.specs.Helpers.{stored_in}
-use Rattle.scx_machine.proofs.Unchanged.{keeps_if}
+use Rattle.scx_isa_semantics.specs.declared.host_tables.Field.{Field}
+use Rattle.scx_isa_semantics.specs.declared.host_tables.Field.TheVariants.{Pid, Weight, Slice, DsqVtime, PrevCpu, Group, RunNs}
+use Rattle.scx_sched_tasks.specs.declared.task.Task.{Task}
+use Rattle.scx_sched_tasks.specs.Tasks.{no_task}
+use Rattle.scx_sched_world.specs.declared.call.Insert.{Insert}
+use Rattle.scx_sched_world.proofs.Fronts.{front_in}
+use Rattle.scx_sched_world.specs.Ids.{parked_queue}
+use Rattle.scx_sched_world.specs.World.{WorldState, waits_in, with_queues, with_task, task_at, waits, is_this, is_runnable}
+use Rattle.scx_sched_world.specs.Tasks.{given_slice, given_vtime, task_after_insert, with_new_slice}
+use Rattle.scx_sched_world.specs.Helpers.{stored_in}
+use Rattle.scx_sched_machine.proofs.Unchanged.{keeps_if}
 use Rattle.scx_sched.specs.Waits.{HasWaits}
 use Rattle.scx_sched.specs.Once.{IsOnce}
 use Rattle.scx_sched.proofs.Entering.{one_le, nowhere}

@@ -3,18 +3,18 @@ use Rattle.std.proofs.Common.{◌≡◌, ℕ, ◌+◌, ◌<◌, ◌≤◌, List,
 use Rattle.scx_weights.specs.Hierarchy.{with_weight}
 use Rattle.scx_weights.specs.Limits.{with_use}
 use Rattle.scx_weights.specs.Refusals.{weight_fault}
-use Rattle.scx_world.specs.declared.eject.Eject.{Eject}
-use Rattle.scx_world.specs.declared.eject.Eject.TheVariants as cause
-use Rattle.scx_world.specs.World.{WorldState, with_tree, wait}
-use Rattle.scx_world.specs.Tasks.{after_leave, after_tick, used_ms, later, begun_periods}
-use Rattle.scx_world.specs.Waits.{first_overdue}
-use Rattle.scx_machine.specs.declared.events.Event.{Event}
-use Rattle.scx_machine.specs.Policy.{PolicyState}
-use Rattle.scx_machine.specs.Steps.{State, with_world}
-use Rattle.scx_machine.specs.Parking.{let_all_go}
-use Rattle.scx_machine.specs.Ejecting.{eject}
-use Rattle.scx_machine.specs.Events.{refusal, overdue, eject_if_stalled, clock, event_step}
-use Rattle.scx_machine.proofs.Unchanged.{keeps_if}
+use Rattle.scx_sched_world.specs.declared.eject.Eject.{Eject}
+use Rattle.scx_sched_world.specs.declared.eject.Eject.TheVariants as cause
+use Rattle.scx_sched_world.specs.World.{WorldState, with_tree, wait}
+use Rattle.scx_sched_world.specs.Tasks.{after_leave, after_tick, used_ms, later, begun_periods}
+use Rattle.scx_sched_world.specs.Waits.{first_overdue}
+use Rattle.scx_sched_machine.specs.declared.events.Event.{Event}
+use Rattle.scx_sched_machine.specs.Policy.{PolicyState}
+use Rattle.scx_sched_machine.specs.Steps.{State, with_world}
+use Rattle.scx_sched_machine.specs.Parking.{let_all_go}
+use Rattle.scx_sched_machine.specs.Ejecting.{eject}
+use Rattle.scx_sched_machine.specs.Events.{refusal, overdue, eject_if_stalled, clock, event_step}
+use Rattle.scx_sched_machine.proofs.Unchanged.{keeps_if}
 use Rattle.scx_sched.specs.Kept.{IsKeptBySteps}
 use Rattle.scx_sched.specs.Ranges.{IsFine}
 use Rattle.scx_sched.proofs.Unchanged.{eject_sets}

@@ -4,12 +4,12 @@ use Rattle.std.specs.Prelude.{◌≡◌, ℕ, ◌<◌, true, List, length, Optio
 use Rattle.scx_dsq.specs.Queues.{front_of}
 use Rattle.scx_dsq.specs.Calls.{push_refusal, after_pop, after_remove}
 use Rattle.scx_dsq.specs.declared.entries.Rank.TheVariants.{Fifo, Vtime}
-use Rattle.scx_world.specs.declared.call.Insert.{Insert}
-use Rattle.scx_world.specs.Ids.{local_on, builtin_queue, parked_queue}
-use Rattle.scx_world.specs.World.{WorldState, waits}
-use Rattle.scx_world.specs.Tasks.{queue_for}
-use Rattle.scx_world.specs.Helpers.{is_dispatch, insert_fault}
-use Rattle.scx_world.specs.Ejecting.{builtin_vtime}
+use Rattle.scx_sched_world.specs.declared.call.Insert.{Insert}
+use Rattle.scx_sched_world.specs.Ids.{local_on, builtin_queue, parked_queue}
+use Rattle.scx_sched_world.specs.World.{WorldState, waits}
+use Rattle.scx_sched_world.specs.Tasks.{queue_for}
+use Rattle.scx_sched_world.specs.Helpers.{is_dispatch, insert_fault}
+use Rattle.scx_sched_world.specs.Ejecting.{builtin_vtime}
 use Rattle.scx_sched.specs.Kept.{IsWanted}
 use Rattle.scx_sched.specs.Ranges.{IsFine}
 

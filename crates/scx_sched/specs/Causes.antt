@@ -2,23 +2,23 @@
 -- because a callback that really ran had a fault; once, and for good. And wherever a callback
 -- has a fault, it is.
 use Rattle.std.specs.Prelude.{◌≡◌, ℕ, ◌+◌, ◌≤◌, List, [], ◌∷◌, ◌++◌, length, Some, None}
-use Rattle.scx_semantics.specs.declared.callbacks.Callback.TheVariants.{SelectCpu}
-use Rattle.scx_semantics.specs.Code.{instruction_count}
-use Rattle.scx_semantics.specs.Elements.{Maps}
-use Rattle.scx_semantics.specs.Runs.{Runs}
+use Rattle.scx_isa_semantics.specs.declared.callbacks.Callback.TheVariants.{SelectCpu}
+use Rattle.scx_isa_semantics.specs.Code.{instruction_count}
+use Rattle.scx_isa_semantics.specs.Elements.{Maps}
+use Rattle.scx_isa_semantics.specs.Runs.{Runs}
 use Rattle.scx_vm.specs.Arguments.{program_arguments}
 use Rattle.scx_vm.specs.Host.{host}
-use Rattle.scx_world.specs.declared.eject.Eject.{Eject}
-use Rattle.scx_world.specs.declared.eject.Eject.TheVariants as cause
-use Rattle.scx_world.specs.declared.faults.Fault.{Fault}
-use Rattle.scx_world.specs.declared.faults.Fault.TheVariants.{Stuck, NoSuchCpu}
-use Rattle.scx_world.specs.World.{WorldState}
-use Rattle.scx_world.specs.Tasks.{later}
-use Rattle.scx_world.specs.Waits.{IsFirstOverdue}
-use Rattle.scx_world.specs.Helpers.{world_functions}
-use Rattle.scx_machine.specs.declared.events.Event.{Event}
-use Rattle.scx_machine.specs.declared.events.Event.TheVariants.{Wake, Sleep, Tick, Clock, SetWeight}
-use Rattle.scx_machine.specs.Steps.{CallMade}
+use Rattle.scx_sched_world.specs.declared.eject.Eject.{Eject}
+use Rattle.scx_sched_world.specs.declared.eject.Eject.TheVariants as cause
+use Rattle.scx_sched_world.specs.declared.faults.Fault.{Fault}
+use Rattle.scx_sched_world.specs.declared.faults.Fault.TheVariants.{Stuck, NoSuchCpu}
+use Rattle.scx_sched_world.specs.World.{WorldState}
+use Rattle.scx_sched_world.specs.Tasks.{later}
+use Rattle.scx_sched_world.specs.Waits.{IsFirstOverdue}
+use Rattle.scx_sched_world.specs.Helpers.{world_functions}
+use Rattle.scx_sched_machine.specs.declared.events.Event.{Event}
+use Rattle.scx_sched_machine.specs.declared.events.Event.TheVariants.{Wake, Sleep, Tick, Clock, SetWeight}
+use Rattle.scx_sched_machine.specs.Steps.{CallMade}
 use Rattle.scx_sched.specs.Sim.{SimState, calls_of}
 
 -- the program comes to that answer and to that world, in no more steps than it has instructions

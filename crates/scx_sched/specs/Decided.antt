@@ -4,12 +4,12 @@
 use Rattle.std.specs.Prelude.{◌≡◌, ℕ, ◌+◌, true, false, [], Option, Some, None, if◌then◌else◌}
 use Rattle.scx_weights.specs.Hierarchy.{Hierarchy, with_task, with_weight}
 use Rattle.scx_weights.specs.Limits.{with_use, with_turn}
-use Rattle.scx_world.specs.declared.eject.Eject.{Eject}
-use Rattle.scx_world.specs.World.{WorldState, task_at, is_this, running}
-use Rattle.scx_world.specs.Tasks.{tick_ns}
-use Rattle.scx_machine.specs.declared.events.Event.{Event}
-use Rattle.scx_machine.specs.declared.events.Event.TheVariants.{Wake, Sleep, Tick, Clock, SetWeight}
-use Rattle.scx_machine.specs.declared.events.Refused.{Refused}
+use Rattle.scx_sched_world.specs.declared.eject.Eject.{Eject}
+use Rattle.scx_sched_world.specs.World.{WorldState, task_at, is_this, running}
+use Rattle.scx_sched_world.specs.Tasks.{tick_ns}
+use Rattle.scx_sched_machine.specs.declared.events.Event.{Event}
+use Rattle.scx_sched_machine.specs.declared.events.Event.TheVariants.{Wake, Sleep, Tick, Clock, SetWeight}
+use Rattle.scx_sched_machine.specs.declared.events.Refused.{Refused}
 use Rattle.scx_sched.specs.Causes.{EjectsOnce, IsNeverStuck}
 use Rattle.scx_sched.specs.Once.{AreInQueues}
 use Rattle.scx_sched.specs.Sim.{SimState, calls_of}

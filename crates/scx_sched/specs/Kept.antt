@@ -3,16 +3,16 @@
 use Rattle.std.specs.Prelude.{◌≡◌, ℕ, ◌+◌, ◌==◌, ◌<◌, true, false, List, length, Option, Some, None, is_some, slice_index_or, slice_set}
 use Rattle.scx_dsq.specs.Queues.{front_of}
 use Rattle.scx_weights.specs.Limits.{is_throttled}
-use Rattle.scx_semantics.specs.declared.callbacks.Callback.{Callback}
-use Rattle.scx_semantics.specs.Effects.{Query}
+use Rattle.scx_isa_semantics.specs.declared.callbacks.Callback.{Callback}
+use Rattle.scx_isa_semantics.specs.Effects.{Query}
 use Rattle.scx_vm.specs.Host.{after_query}
-use Rattle.scx_world.specs.declared.call.Insert.{Insert}
-use Rattle.scx_world.specs.declared.eject.Eject.{Eject}
-use Rattle.scx_world.specs.Ids.{parked_queue, local_on}
-use Rattle.scx_world.specs.World.{WorldState, with_cycling, at_callback, quiet}
-use Rattle.scx_world.specs.Tasks.{for_cpu, to_held, to_global, after_sleep, after_enter, after_fill, after_stop, started_at, after_keep, put_parked, after_take}
-use Rattle.scx_world.specs.Helpers.{world_functions}
-use Rattle.scx_world.specs.Ejecting.{put_out, evict, cut_task, put_builtin, after_catch_up, after_charge}
+use Rattle.scx_sched_world.specs.declared.call.Insert.{Insert}
+use Rattle.scx_sched_world.specs.declared.eject.Eject.{Eject}
+use Rattle.scx_sched_world.specs.Ids.{parked_queue, local_on}
+use Rattle.scx_sched_world.specs.World.{WorldState, with_cycling, at_callback, quiet}
+use Rattle.scx_sched_world.specs.Tasks.{for_cpu, to_held, to_global, after_sleep, after_enter, after_fill, after_stop, started_at, after_keep, put_parked, after_take}
+use Rattle.scx_sched_world.specs.Helpers.{world_functions}
+use Rattle.scx_sched_world.specs.Ejecting.{put_out, evict, cut_task, put_builtin, after_catch_up, after_charge}
 
 -- where the task at hand may come to wait: for any processor, held, or where a callback inserted it
 pub data IsWanted (cpus : ℕ) (w : WorldState) (i : Insert) : Type 0 where

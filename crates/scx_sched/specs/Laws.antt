@@ -1,11 +1,11 @@
 -- Laws of the machine.
 use Rattle.std.specs.Prelude.{◌≡◌, ℕ, ◌+◌, ◌<◌, length, Option, None}
-use Rattle.scx_machine.specs.declared.events.Event.{Event}
-use Rattle.scx_machine.specs.Steps.{State}
-use Rattle.scx_world.specs.World.{running}
-use Rattle.scx_machine.specs.Events.{refusal, event_step, tick}
-use Rattle.scx_world.specs.declared.eject.Eject.{Eject}
-use Rattle.scx_machine.specs.Ejecting.{eject}
+use Rattle.scx_sched_machine.specs.declared.events.Event.{Event}
+use Rattle.scx_sched_machine.specs.Steps.{State}
+use Rattle.scx_sched_world.specs.World.{running}
+use Rattle.scx_sched_machine.specs.Events.{refusal, event_step, tick}
+use Rattle.scx_sched_world.specs.declared.eject.Eject.{Eject}
+use Rattle.scx_sched_machine.specs.Ejecting.{eject}
 use Rattle.scx_sched.specs.Over.{GoesOver}
 use Rattle.scx_sched.specs.Left.{LeavesNothing}
 use Rattle.scx_sched.specs.Ranges.{IsFine}

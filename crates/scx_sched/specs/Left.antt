@@ -2,11 +2,11 @@
 -- processors has a task for it, nor, once the policy is ejected, that of the built-in scheduler.
 use Rattle.std.specs.Prelude.{◌≡◌, ℕ, ⊤, true, None, is_some}
 use Rattle.scx_dsq.specs.Queues.{front_of}
-use Rattle.scx_world.specs.Ids.{global, builtin_queue}
-use Rattle.scx_world.specs.World.{WorldState, running}
-use Rattle.scx_world.specs.Tasks.{local_len}
-use Rattle.scx_machine.specs.declared.events.Event.{Event}
-use Rattle.scx_machine.specs.declared.events.Event.TheVariants.{Wake, Sleep, Tick, Clock, SetWeight}
+use Rattle.scx_sched_world.specs.Ids.{global, builtin_queue}
+use Rattle.scx_sched_world.specs.World.{WorldState, running}
+use Rattle.scx_sched_world.specs.Tasks.{local_len}
+use Rattle.scx_sched_machine.specs.declared.events.Event.{Event}
+use Rattle.scx_sched_machine.specs.declared.events.Event.TheVariants.{Wake, Sleep, Tick, Clock, SetWeight}
 
 -- nobody is in the local queue, the global one, or, once the policy is ejected, the built-in one
 pub record LeavesNothing (w : WorldState) (c : ℕ) : Type 0 where

@@ -9,11 +9,11 @@ use Rattle.scx_dsq.specs.declared.entries.Entry.{Entry}
 use Rattle.scx_dsq.specs.declared.entries.Rank.{Rank}
 use Rattle.scx_dsq.specs.declared.entries.Rank.TheVariants.{Fifo, Vtime}
 use Rattle.scx_dsq.specs.Laws.{one_if, standing, IsStamped}
-use Rattle.scx_world.specs.declared.call.Insert.{Insert}
-use Rattle.scx_world.specs.Ids.{policy_end, global, held_queue, builtin_queue, parked_queue, local_on}
-use Rattle.scx_world.specs.World.{WorldState, task_at, is_this, is_runnable}
-use Rattle.scx_world.specs.Tasks.{queue_for}
-use Rattle.scx_world.specs.Helpers.{is_dispatch}
+use Rattle.scx_sched_world.specs.declared.call.Insert.{Insert}
+use Rattle.scx_sched_world.specs.Ids.{policy_end, global, held_queue, builtin_queue, parked_queue, local_on}
+use Rattle.scx_sched_world.specs.World.{WorldState, task_at, is_this, is_runnable}
+use Rattle.scx_sched_world.specs.Tasks.{queue_for}
+use Rattle.scx_sched_world.specs.Helpers.{is_dispatch}
 use Rattle.scx_sched.specs.Waits.{HasWaits}
 
 -- on how many processors it runs

@@ -2,8 +2,8 @@
 -- the built-in scheduler from then on, and who runs stays where it runs. No task comes or goes.
 use Rattle.std.specs.Prelude.{◌≡◌, ℕ, true, false, Some}
 use Rattle.scx_dsq.specs.Queues.{queue_of}
-use Rattle.scx_world.specs.Ids.{builtin_queue, parked_queue}
-use Rattle.scx_world.specs.World.{WorldState, waits}
+use Rattle.scx_sched_world.specs.Ids.{builtin_queue, parked_queue}
+use Rattle.scx_sched_world.specs.World.{WorldState, waits}
 
 -- from world to world: all who wait go over, no other comes to wait, who runs or is parked stays so
 pub record GoesOver (w v : WorldState) : Type 0 where

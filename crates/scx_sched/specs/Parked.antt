@@ -2,8 +2,8 @@
 use Rattle.std.specs.Prelude.{◌≡◌, ℕ, true, Some}
 use Rattle.scx_dsq.specs.Queues.{queue_of}
 use Rattle.scx_weights.specs.Limits.{is_throttled}
-use Rattle.scx_world.specs.Ids.{parked_queue}
-use Rattle.scx_world.specs.World.{WorldState}
+use Rattle.scx_sched_world.specs.Ids.{parked_queue}
+use Rattle.scx_sched_world.specs.World.{WorldState}
 
 -- who is parked is throttled
 abbrev pub AreThrottled : WorldState → Type 0

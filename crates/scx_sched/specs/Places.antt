@@ -1,8 +1,8 @@
 -- What the accessors of the machine answer.
 use Rattle.std.specs.Prelude.{ℕ, ◌==◌, ◌%◌, ◌^◌, nat_lt, if◌then◌else◌, Option, Some, None}
 use Rattle.scx_dsq.specs.Queues.{queue_of}
-use Rattle.scx_world.specs.Ids.{policy_end, global, held_queue, builtin_queue, parked_queue}
-use Rattle.scx_world.specs.World.{WorldState, cpu_of}
+use Rattle.scx_sched_world.specs.Ids.{policy_end, global, held_queue, builtin_queue, parked_queue}
+use Rattle.scx_sched_world.specs.World.{WorldState, cpu_of}
 use Rattle.scx_sched.specs.declared.places.Place.{Place}
 use Rattle.scx_sched.specs.declared.places.Place.TheVariants.{Asleep, Cpu, Policy, Global, Local, Held, Builtin, Parked}
 

@@ -1,7 +1,7 @@
 -- Between two events: each task is where it should be, no number has grown past what so many events
 -- can make of it, and no usage past what its quota lets it.
 use Rattle.std.specs.Prelude.{◌≡◌, ℕ, ◌*◌, ◌≤◌, List, Option, None}
-use Rattle.scx_world.specs.World.{WorldState, task_at}
+use Rattle.scx_sched_world.specs.World.{WorldState, task_at}
 use Rattle.scx_weights.specs.Limits.{usage_of}
 use Rattle.scx_sched.specs.Once.{IsSound}
 use Rattle.scx_sched.specs.Usages.{AreWithin}

@@ -1,17 +1,17 @@
 -- The machine between two events, with the number of those that it accepted.
 use Rattle.std.specs.Prelude.{◌≡◌, ℕ, ◌==◌, ◌+◌, ◌*◌, ◌≤◌, ◌^◌, List, [], length, Option, Some, None, Result, Ok, Err, if◌then◌else◌}
-use Rattle.scx_world.specs.declared.eject.Eject.TheVariants as cause
-use Rattle.scx_world.specs.declared.faults.Fault.TheVariants.{Stuck}
-use Rattle.scx_world.specs.declared.notes.Note.{Note}
-use Rattle.scx_machine.specs.declared.events.Event.{Event}
-use Rattle.scx_machine.specs.declared.events.Refused.{Refused}
-use Rattle.scx_machine.specs.declared.events.Refused.TheVariants.{RunOver}
+use Rattle.scx_sched_world.specs.declared.eject.Eject.TheVariants as cause
+use Rattle.scx_sched_world.specs.declared.faults.Fault.TheVariants.{Stuck}
+use Rattle.scx_sched_world.specs.declared.notes.Note.{Note}
+use Rattle.scx_sched_machine.specs.declared.events.Event.{Event}
+use Rattle.scx_sched_machine.specs.declared.events.Refused.{Refused}
+use Rattle.scx_sched_machine.specs.declared.events.Refused.TheVariants.{RunOver}
 use Rattle.scx_weights.specs.Hierarchy.{Hierarchy}
-use Rattle.scx_machine.specs.Policy.{PolicyState, IsTimeout, AreAs}
-use Rattle.scx_machine.specs.Steps.{State, CallMade}
-use Rattle.scx_machine.specs.Start.{first_state}
-use Rattle.scx_machine.specs.Budgets.{start_pushes, event_pushes}
-use Rattle.scx_machine.specs.Events as machine
+use Rattle.scx_sched_machine.specs.Policy.{PolicyState, IsTimeout, AreAs}
+use Rattle.scx_sched_machine.specs.Steps.{State, CallMade}
+use Rattle.scx_sched_machine.specs.Start.{first_state}
+use Rattle.scx_sched_machine.specs.Budgets.{start_pushes, event_pushes}
+use Rattle.scx_sched_machine.specs.Events as machine
 use Rattle.scx_sched.specs.Once.{AreInQueues}
 use Rattle.scx_sched.specs.Waits.{IsTimely}
 use Rattle.scx_sched.specs.Ranges.{IsFine}

@@ -3,8 +3,8 @@
 use Rattle.std.specs.Prelude.{◌≡◌, ℕ, ◌+◌, ◌<◌, List, length, Option, Some}
 use Rattle.scx_weights.specs.Hierarchy.{Hierarchy, quota_at}
 use Rattle.scx_weights.specs.Limits.{usage_of}
-use Rattle.scx_limits.specs.Bounds.{StaysBelowQuota}
-use Rattle.scx_world.specs.World.{WorldState}
+use Rattle.scx_weights_limits.specs.Bounds.{StaysBelowQuota}
+use Rattle.scx_sched_world.specs.World.{WorldState}
 
 -- of each group
 abbrev pub AreWithin : Hierarchy → List (Option ℕ) → Type 0

@@ -1,8 +1,8 @@
 -- Bounded wait: while its policy is in force, no task has waited longer than the policy
 -- may let one wait.
 use Rattle.std.specs.Prelude.{◌≡◌, ℕ, ◌≤◌, ◌||◌, Option, None, is_some}
-use Rattle.scx_world.specs.World.{WorldState, task_at, is_this, waits, wait}
-use Rattle.scx_machine.specs.Steps.{State}
+use Rattle.scx_sched_world.specs.World.{WorldState, task_at, is_this, waits, wait}
+use Rattle.scx_sched_machine.specs.Steps.{State}
 
 -- while the policy is in force, no task has waited for longer than its timeout
 abbrev pub IsTimely : State → Type 0

@@ -5,7 +5,7 @@
 //! Between two events each runnable task is in one place, on a processor or in a queue. A policy that has a
 //! fault, or lets a task wait too long, is ejected, and a scheduler of the machine's own goes on.
 //!
-//! A machine is given one event after another, in `crates/scx_machine_tests/src/session.rt`:
+//! A machine is given one event after another, in `crates/scx_tests_machine/src/session.rt`:
 //!
 //! ```rust
 //! for &event in events {
@@ -23,6 +23,6 @@ pub use laws::{
     ejections_lose_nobody, events_keep_places, no_push_is_refused, nothing_is_left_behind,
 };
 pub use places::Place;
-pub use scx_machine::{BadPolicy, Callbacks, Event, NewError, Policy, Refused, Sink};
-pub use scx_world::{Eject, Fault, Note, What};
+pub use scx_sched_machine::{BadPolicy, Callbacks, Event, NewError, Policy, Refused, Sink};
+pub use scx_sched_world::{Eject, Fault, Note, What};
 pub use sim::{MAX_EVENTS, Sim};

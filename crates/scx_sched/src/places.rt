@@ -1,7 +1,7 @@
 ghost use Rattle.std.specs.Prelude.{◌≡◌};
 ghost use Rattle.scx_sched.specs.Places.{queue_place, place_in};
 
-use scx_world::{BUILTIN, GLOBAL, HELD, PARKED, POLICY_END};
+use scx_sched_world::{BUILTIN, GLOBAL, HELD, PARKED, POLICY_END};
 
 /// Where a task is.
 #[derive(Clone, Copy, Debug, PartialEq, Eq)]

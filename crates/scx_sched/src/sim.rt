@@ -1,10 +1,10 @@
 ghost use Rattle.std.specs.Prelude.{◌≡◌, ℕ, ◌<◌, ◌≤◌, ◌^◌, false, length, None, IfOk, IfErr, OnOk, OnErr};
 ghost use Rattle.scx_weights.specs.Limits.{usage_of};
-ghost use Rattle.scx_world.specs.World.{task_at, is_runnable, running, wait};
-ghost use Rattle.scx_machine.specs.Notes.{Takes};
-ghost use Rattle.scx_machine.specs.Callbacks.{AreAnswered};
-ghost use Rattle.scx_machine.specs.Policy.{IsTimeout, AreAs};
-ghost use Rattle.scx_machine.specs.Start.{is_bad_shape, IsRefusal, start_calls, AreAnsweredBefore};
+ghost use Rattle.scx_sched_world.specs.World.{task_at, is_runnable, running, wait};
+ghost use Rattle.scx_sched_machine.specs.Notes.{Takes};
+ghost use Rattle.scx_sched_machine.specs.Callbacks.{AreAnswered};
+ghost use Rattle.scx_sched_machine.specs.Policy.{IsTimeout, AreAs};
+ghost use Rattle.scx_sched_machine.specs.Start.{is_bad_shape, IsRefusal, start_calls, AreAnsweredBefore};
 ghost use Rattle.scx_sched.specs.Causes.{EjectsOnce, IsNeverStuck};
 ghost use Rattle.scx_sched.specs.Decided.{EventsDecide};
 ghost use Rattle.scx_sched.specs.Left.{LeavesNothingIdle};
@@ -16,9 +16,9 @@ ghost use Rattle.scx_sched.specs.Places.{place};
 ghost use Rattle.scx_sched.specs.Sim.{max_events, refusal, answer_of, after_event, notes_of, calls_of, IsFirstState};
 
 use crate::places::{Place, place_in};
-use scx_machine::{Event, Machine, NewError, Policy, Refused, Sink};
+use scx_sched_machine::{Event, Machine, NewError, Policy, Refused, Sink};
+use scx_sched_world::Eject;
 use scx_weights::Tree;
-use scx_world::Eject;
 use std::alloc::Global;
 use std::marker::Model;
 

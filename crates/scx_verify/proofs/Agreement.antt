@@ -2,11 +2,11 @@
 -- slot at which a check fails.
 use Rattle.std.proofs.Common.{◌≡◌, ℕ, zero, suc, ◌<◌, ◌≤◌, ◌⊎◌, inl, inr, Option, Some, None, Result, Ok, Err, refl, sym, ap, ◌∙◌, subst, arith}
 use Rattle.std.proofs.lemmas.Bool.{cases_lt}
-use Rattle.scx_semantics.specs.declared.instructions.Insn.{Insn}
-use Rattle.scx_semantics.specs.Code.{Code}
+use Rattle.scx_isa_semantics.specs.declared.instructions.Insn.{Insn}
+use Rattle.scx_isa_semantics.specs.Code.{Code}
 use Rattle.scx_isa.specs.declared.faults.FlowFault.{FlowFault}
 use Rattle.scx_isa.specs.Flow.{flow_fault, Flows, IsFirstFlowFault}
-use Rattle.scx_safety.specs.declared.context.Context.{Context}
+use Rattle.scx_vm_safety.specs.declared.context.Context.{Context}
 use Rattle.scx_abs.specs.declared.faults.Why.{Why}
 use Rattle.scx_abs.specs.declared.states.AbsState.{AbsState}
 use Rattle.scx_abs.specs.declared.rules.Next.{Next}

@@ -1,26 +1,26 @@
 -- The operation that kinds give against the one that a state calls for.
 use Rattle.std.proofs.Common.{◌≡◌, ℕ, ℤ, pos, Bool, true, false, nat_eq, List, [], ◌∷◌, Option, Some, None, Result, Ok, Err, if◌then◌else◌, refl, ap, ◌∙◌, subst, add-zero, ◌/◌, ◌%◌}
-use Rattle.scx_semantics.specs.declared.callbacks.Callback.{Callback}
-use Rattle.scx_semantics.specs.declared.instructions.Insn.TheVariants as insn
-use Rattle.scx_semantics.specs.declared.instructions.Operand.{Operand}
-use Rattle.scx_semantics.specs.declared.operations.Access.{Access}
-use Rattle.scx_semantics.specs.declared.operations.Size.{Size}
-use Rattle.scx_semantics.specs.declared.operations.Size.TheVariants as size
-use Rattle.scx_semantics.specs.declared.operations.Width.TheVariants.{Bits64}
-use Rattle.scx_semantics.specs.declared.registers.Register.{Register}
-use Rattle.scx_semantics.specs.declared.host_tables.Helper.{Helper}
-use Rattle.scx_semantics.specs.declared.host_tables.Helper.TheVariants.{MapLookupElem}
-use Rattle.scx_semantics.specs.declared.host_tables.Parameter.TheVariants as parameter
-use Rattle.scx_semantics.specs.declared.values.Value.{Value}
-use Rattle.scx_semantics.specs.declared.values.Value.TheVariants as value
-use Rattle.scx_semantics.specs.declared.values.Pointer.TheVariants as pointer
-use Rattle.scx_semantics.specs.Registers.{number}
-use Rattle.scx_semantics.specs.Memory.{size_bytes, access_size, stack_size}
-use Rattle.scx_semantics.specs.HostTables.{helper_at, is_allowed}
-use Rattle.scx_semantics.specs.Elements.{Maps}
-use Rattle.scx_semantics.specs.Locations as location
-use Rattle.scx_semantics.specs.Locations.{Location, address}
-use Rattle.scx_semantics.specs.Machine.{Machine}
+use Rattle.scx_isa_semantics.specs.declared.callbacks.Callback.{Callback}
+use Rattle.scx_isa_semantics.specs.declared.instructions.Insn.TheVariants as insn
+use Rattle.scx_isa_semantics.specs.declared.instructions.Operand.{Operand}
+use Rattle.scx_isa_semantics.specs.declared.operations.Access.{Access}
+use Rattle.scx_isa_semantics.specs.declared.operations.Size.{Size}
+use Rattle.scx_isa_semantics.specs.declared.operations.Size.TheVariants as size
+use Rattle.scx_isa_semantics.specs.declared.operations.Width.TheVariants.{Bits64}
+use Rattle.scx_isa_semantics.specs.declared.registers.Register.{Register}
+use Rattle.scx_isa_semantics.specs.declared.host_tables.Helper.{Helper}
+use Rattle.scx_isa_semantics.specs.declared.host_tables.Helper.TheVariants.{MapLookupElem}
+use Rattle.scx_isa_semantics.specs.declared.host_tables.Parameter.TheVariants as parameter
+use Rattle.scx_isa_semantics.specs.declared.values.Value.{Value}
+use Rattle.scx_isa_semantics.specs.declared.values.Value.TheVariants as value
+use Rattle.scx_isa_semantics.specs.declared.values.Pointer.TheVariants as pointer
+use Rattle.scx_isa_semantics.specs.Registers.{number}
+use Rattle.scx_isa_semantics.specs.Memory.{size_bytes, access_size, stack_size}
+use Rattle.scx_isa_semantics.specs.HostTables.{helper_at, is_allowed}
+use Rattle.scx_isa_semantics.specs.Elements.{Maps}
+use Rattle.scx_isa_semantics.specs.Locations as location
+use Rattle.scx_isa_semantics.specs.Locations.{Location, address}
+use Rattle.scx_isa_semantics.specs.Machine.{Machine}
 use Rattle.scx_maps.specs.declared.shape.Shape.{Shape}
 use Rattle.scx_abs.specs.declared.faults.Why.{Why}
 use Rattle.scx_abs.specs.declared.faults.Why.TheVariants.{WritesFrame, HelperNotHere}
@@ -32,13 +32,13 @@ use Rattle.scx_abs.specs.declared.states.AbsState.{AbsState}
 use Rattle.scx_abs.specs.declared.rules.Next.{Next}
 use Rattle.scx_abs.specs.States.{kind_at, cell_at, IsProper}
 use Rattle.scx_abs.specs.Stands.{Stands, IsMember}
-use Rattle.scx_semantics.specs.Results.{◌>>=◌}
+use Rattle.scx_isa_semantics.specs.Results.{◌>>=◌}
 use Rattle.scx_abs.specs.Checks.{usable, operand_kind, sets, offset_for}
 use Rattle.scx_abs.specs.Calls.{key_in, argument_check, arguments_check, call_allowed, call_rule}
 use Rattle.scx_abs.specs.Rules.{area_of, kind_in, load_kind, stored_in, store_rule}
 use Rattle.scx_abs.proofs.Accesses.{Means, area_found}
 use Rattle.scx_abs.proofs.Proper.{kind_is_proper}
-use Rattle.scx_plain.specs.Chosen.{load_op, store_op, look_up_op, call_op}
+use Rattle.scx_vm_ops.specs.Chosen.{load_op, store_op, look_up_op, call_op}
 use Rattle.scx_verify.specs.Translation.{load_from, store_to, look_up_in, call_of}
 use Rattle.scx_verify.specs.Laws.{TypingChooses}
 

@@ -1,13 +1,13 @@
 -- Refusals are justified: every typing covers the forward states, so where one of these fails a check,
 -- so does the state of a typing there.
 use Rattle.std.proofs.Common.{◌≡◌, false, ℕ, zero, suc, ◌+◌, ◌<◌, ◌≤◌, inl, inr, Option, Some, None, Result, Ok, refl, sym, subst, arith}
-use Rattle.scx_semantics.specs.declared.instructions.Insn.{Insn}
-use Rattle.scx_semantics.specs.Code.{Code, size}
-use Rattle.scx_semantics.specs.Steps.{target}
-use Rattle.scx_encoding.specs.Spelling.{IsInsn}
+use Rattle.scx_isa_semantics.specs.declared.instructions.Insn.{Insn}
+use Rattle.scx_isa_semantics.specs.Code.{Code, size}
+use Rattle.scx_isa_semantics.specs.Steps.{target}
+use Rattle.scx_isa_encoding.specs.Spelling.{IsInsn}
 use Rattle.scx_isa.specs.Spelling.{IsProgram}
 use Rattle.scx_isa.proofs.Codes.{occupant_fits}
-use Rattle.scx_safety.specs.declared.context.Context.{Context}
+use Rattle.scx_vm_safety.specs.declared.context.Context.{Context}
 use Rattle.scx_abs.specs.declared.rules.Next.{Next}
 use Rattle.scx_abs.specs.declared.faults.Why.{Why}
 use Rattle.scx_abs.specs.declared.states.AbsState.{AbsState}

@@ -1,16 +1,16 @@
 -- A program with a typing is safe: wherever a run of it stands, the slot's abstract state stands for the
 -- state that the run has come to, and so an instruction there is never stuck.
 use Rattle.std.proofs.Common.{◌≡◌, ℕ, zero, suc, ◌+◌, List, Option, Some, None, IsSome, Ok, refl, true, false}
-use Rattle.scx_semantics.specs.declared.instructions.Insn.{Insn}
-use Rattle.scx_safety.specs.declared.context.Context.{Context}
-use Rattle.scx_semantics.specs.Code.{Code, at, size}
-use Rattle.scx_semantics.specs.Elements.{Maps}
-use Rattle.scx_semantics.specs.Machine.{Machine, Arguments, start}
-use Rattle.scx_semantics.specs.Effects as effect
-use Rattle.scx_semantics.specs.Effects.{Effect}
-use Rattle.scx_semantics.specs.Meaning.{act}
-use Rattle.scx_semantics.specs.Steps.{Stuck, Goes, outcome_at, goes, step, target}
-use Rattle.scx_semantics.specs.Runs.{LeadsTo, Leads, any_answer}
+use Rattle.scx_isa_semantics.specs.declared.instructions.Insn.{Insn}
+use Rattle.scx_vm_safety.specs.declared.context.Context.{Context}
+use Rattle.scx_isa_semantics.specs.Code.{Code, at, size}
+use Rattle.scx_isa_semantics.specs.Elements.{Maps}
+use Rattle.scx_isa_semantics.specs.Machine.{Machine, Arguments, start}
+use Rattle.scx_isa_semantics.specs.Effects as effect
+use Rattle.scx_isa_semantics.specs.Effects.{Effect}
+use Rattle.scx_isa_semantics.specs.Meaning.{act}
+use Rattle.scx_isa_semantics.specs.Steps.{Stuck, Goes, outcome_at, goes, step, target}
+use Rattle.scx_isa_semantics.specs.Runs.{LeadsTo, Leads, any_answer}
 use Rattle.scx_isa.specs.Spelling.{IsProgram}
 use Rattle.scx_isa.specs.Flow.{Flows}
 use Rattle.scx_isa.proofs.Codes.{occupant_fits}
@@ -20,7 +20,7 @@ use Rattle.scx_maps.specs.Contents.{HasShapes}
 use Rattle.scx_abs.specs.declared.states.AbsState.{AbsState}
 use Rattle.scx_abs.specs.declared.rules.Next.{Next}
 use Rattle.scx_abs.specs.States.{CoversSome, IsProper, start_of}
-use Rattle.scx_semantics.specs.Arguments.{FitsCallback}
+use Rattle.scx_isa_semantics.specs.Arguments.{FitsCallback}
 use Rattle.scx_abs.specs.Stands.{IsMember}
 use Rattle.scx_abs.specs.Rules.{rule}
 use Rattle.scx_abs.specs.Laws.{Receives, FlowsIn}

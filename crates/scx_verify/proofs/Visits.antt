@@ -2,11 +2,11 @@
 use Rattle.std.proofs.Common.{◌≡◌, false, ℕ, zero, suc, ◌+◌, ◌<◌, ◌≤◌, ◌⊎◌, inl, inr, List, length, set, replicate, slice_index_or, Option, Some, None, Result, Ok, Err, IfOk, refl, sym, ap, ◌∙◌, subst, arith}
 use Rattle.std.proofs.lemmas.Bool.{cases_eq}
 use Rattle.std.proofs.lemmas.List.{length-set, length-replicate, get_or-set_same, get_or-set_other}
-use Rattle.scx_semantics.specs.declared.instructions.Insn.{Insn}
-use Rattle.scx_safety.specs.declared.context.Context.{Context}
-use Rattle.scx_semantics.specs.Code.{Code, at, size}
-use Rattle.scx_semantics.specs.Steps.{target}
-use Rattle.scx_encoding.specs.Spelling.{IsInsn}
+use Rattle.scx_isa_semantics.specs.declared.instructions.Insn.{Insn}
+use Rattle.scx_vm_safety.specs.declared.context.Context.{Context}
+use Rattle.scx_isa_semantics.specs.Code.{Code, at, size}
+use Rattle.scx_isa_semantics.specs.Steps.{target}
+use Rattle.scx_isa_encoding.specs.Spelling.{IsInsn}
 use Rattle.scx_isa.specs.Flow.{Flows}
 use Rattle.scx_isa.specs.Spelling.{IsProgram}
 use Rattle.scx_isa.proofs.Codes.{occupant_fits}

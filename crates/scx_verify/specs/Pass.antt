@@ -2,9 +2,9 @@
 -- that cover all that flows there from the slots that it has visited. It holds one in place, and
 -- those that jumps sent further ahead.
 use Rattle.std.specs.Prelude.{ℕ, ◌+◌, ◌<◌, ◌≤◌, ◌≡◌, ◌⊎◌, List, [], length, map, set, slice_index, slice_index_or, Option, Some, None, Result, Ok, Err, if◌then◌else◌}
-use Rattle.scx_semantics.specs.declared.instructions.Insn.{Insn}
-use Rattle.scx_semantics.specs.Code.{at}
-use Rattle.scx_plain.specs.Packed.{op_of_packed}
+use Rattle.scx_isa_semantics.specs.declared.instructions.Insn.{Insn}
+use Rattle.scx_isa_semantics.specs.Code.{at}
+use Rattle.scx_vm_ops.specs.Packed.{op_of_packed}
 use Rattle.scx_abs.specs.declared.faults.Why.{Why}
 use Rattle.scx_abs.specs.declared.rules.Next.{Next}
 use Rattle.scx_abs.specs.Rules.{rule}
@@ -16,8 +16,8 @@ use Rattle.scx_verify.specs.declared.position_table.Positions.TheVariants.{Slots
 use Rattle.scx_isa.specs.Flow.{Flows}
 use Rattle.scx_isa.specs.Spelling.{IsProgram}
 use Rattle.scx_verify.specs.Operations.{position, IsBuilt}
-use Rattle.scx_safety.specs.declared.context.Context.{Context}
-use Rattle.scx_semantics.specs.Code.{Code}
+use Rattle.scx_vm_safety.specs.declared.context.Context.{Context}
+use Rattle.scx_isa_semantics.specs.Code.{Code}
 use Rattle.scx_abs.specs.declared.states.AbsState.{AbsState}
 use Rattle.scx_abs.specs.Kinds.{IsLeastCover}
 use Rattle.scx_abs.specs.States.{CoversState, IsProper}

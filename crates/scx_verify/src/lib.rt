@@ -4,7 +4,7 @@
 //! least abstract state that covers all that flows to it, and refuses the program at the first slot
 //! where a check fails. What it accepts is a `Verified`, which no run can get stuck in.
 //!
-//! A program is judged as a callback, for maps of these shapes, in `crates/scx_bench/src/programs.rt`:
+//! A program is judged as a callback, for maps of these shapes, in `crates/scx_tests_bench/src/programs.rt`:
 //!
 //! ```rust
 //! match verify(alloc, program, callback, defs) {

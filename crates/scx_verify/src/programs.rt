@@ -1,8 +1,8 @@
 ghost use Rattle.std.specs.Prelude.{◌≡◌, ◌≤◌, IfOk, OnOk, IfErr};
-ghost use Rattle.scx_semantics.specs.Code.{instruction_count};
-ghost use Rattle.scx_safety.specs.Programs.{context};
+ghost use Rattle.scx_isa_semantics.specs.Code.{instruction_count};
+ghost use Rattle.scx_vm_safety.specs.Programs.{context};
 ghost use Rattle.scx_verify.specs.Typing.{IsTyped};
-ghost use Rattle.scx_safety.specs.Safe.{IsSafe};
+ghost use Rattle.scx_vm_safety.specs.Safe.{IsSafe};
 ghost use Rattle.scx_maps.specs.Limits.{AreWithinLimits};
 ghost use Rattle.scx_verify.specs.Operations.{IsReady};
 ghost use Rattle.scx_verify.specs.Faults.{IsRefusal, IsJustified};
@@ -12,7 +12,7 @@ use crate::pass::pass;
 use scx_abs::Context;
 use scx_isa::{Callback, MAX_SLOTS, Program, flow};
 use scx_maps::MapDefs;
-use scx_plain::Packed;
+use scx_vm_ops::Packed;
 use std::alloc::Global;
 use std::marker::Model;
 
@@ -28,9 +28,9 @@ pub struct Verified {
 }
 
 impl Model for Verified {
-    ghost use Rattle.scx_safety.specs.Programs.{VerifiedProgram};
+    ghost use Rattle.scx_vm_safety.specs.Programs.{VerifiedProgram};
     ghost use Rattle.scx_verify.specs.Operations.{IsReady};
-    ghost use Rattle.scx_safety.specs.Safe.{IsSafe};
+    ghost use Rattle.scx_vm_safety.specs.Safe.{IsSafe};
 
     ghost Value = { VerifiedProgram };
 

@@ -1,6 +1,6 @@
 ghost use Rattle.std.specs.Prelude.{◌≡◌, ℕ, ◌+◌, ◌*◌, ◌^◌, ◌<◌, ◌≤◌, IsTrue};
-ghost use Rattle.scx_semantics.specs.declared.host_tables.Helper.TheVariants.{MapLookupElem};
-ghost use Rattle.scx_semantics.specs.HostTables.{field_width, is_writable};
+ghost use Rattle.scx_isa_semantics.specs.declared.host_tables.Helper.TheVariants.{MapLookupElem};
+ghost use Rattle.scx_isa_semantics.specs.HostTables.{field_width, is_writable};
 ghost use Rattle.scx_vm.specs.Host.{Functions, AreTaken, AnswerFits};
 
 use crate::arguments::{Answer, Arg};

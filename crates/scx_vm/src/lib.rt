@@ -1,8 +1,8 @@
 //! What passes between a BPF program and its host: what a callback is given (`Args`), what a helper
-//! is given and answers, how a run ends (`Done`), and what a host is (`Env`). `scx_run` runs programs over
+//! is given and answers, how a run ends (`Done`), and what a host is (`Env`). `scx_vm_run` runs programs over
 //! a host.
 //!
-//! A host answers a helper call, in `crates/scx_examples/src/one_task.rt`:
+//! A host answers a helper call, in `crates/scx_tests_examples/src/one_task.rt`:
 //!
 //! ```rust
 //! fn call(&mut self, helper: Helper, arguments: &[Arg; 5]) -> Answer {

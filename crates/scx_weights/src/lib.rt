@@ -5,7 +5,7 @@
 //! along the way to the top make every call but `new` cost at most three levels, however many groups
 //! and tasks there are.
 //!
-//! A tree is made, in `crates/scx_host_tests/src/weights.rt`:
+//! A tree is made, in `crates/scx_tests_host/src/weights.rt`:
 //!
 //! ```rust
 //! /// A tree all of whose tasks are asleep.
@@ -14,7 +14,7 @@
 //! }
 //! ```
 //!
-//! Its tasks begin to have work, or sleep, in `crates/scx_host_tests/src/weights.rt`:
+//! Its tasks begin to have work, or sleep, in `crates/scx_tests_host/src/weights.rt`:
 //!
 //! ```rust
 //! assert!(rt; task < tree.tasks());

@@ -1,12 +1,12 @@
 use crate::console::Console;
 use crate::ending::{Ending, end};
 use crate::files::{RunFiles, Unread, files_of, hint_of_files};
-use scx_commands::{Fault, Out, text};
-use scx_pictures::{picture, timeline};
-use scx_progress::Progress;
-use scx_simulation::{Listener, report, simulate};
-use scx_statistics::{stats, stats_csv};
-use scx_words::{Account, Course, Summary};
+use scxsim_commands::{Fault, Out, text};
+use scxsim_pictures::{picture, timeline};
+use scxsim_progress::Progress;
+use scxsim_simulation::{Listener, report, simulate};
+use scxsim_statistics::{stats, stats_csv};
+use scxsim_words::{Account, Course, Summary};
 use std::alloc::Global;
 
 /// The texts of the files of a run.

@@ -14,7 +14,7 @@ use crate::cases::stage::{Stage, StagedFile};
 use crate::cases::texts::bytes_of;
 use crate::console::Console;
 use crate::ending::{Ending, end_without_memory, without_hint};
-use scx_commands::{DONE, FAILED, Out, REFUSED, write_unread};
+use scxsim_commands::{DONE, FAILED, Out, REFUSED, write_unread};
 use std::io;
 use std::io::ErrorKind;
 

@@ -1,4 +1,4 @@
-use scx_commands::read_file;
+use scxsim_commands::read_file;
 use std::io;
 use std::io::IsTerminal;
 use std::rt::Clock;

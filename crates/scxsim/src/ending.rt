@@ -1,4 +1,4 @@
-use scx_commands::{Fault, Hint, Out, Refusal, finish};
+use scxsim_commands::{Fault, Hint, Out, Refusal, finish};
 
 /// How the program ends: its status, and what a refused file seems to be.
 #[derive(Clone, Copy)]

@@ -1,5 +1,5 @@
 use crate::console::Console;
-use scx_commands::{Hint, hint_of_text};
+use scxsim_commands::{Hint, hint_of_text};
 use std::io::ErrorKind;
 
 /// The bytes of the files of a run.

@@ -1,6 +1,6 @@
 //! The program `scxsim`, which verifies policies and runs workloads under them, and runs, assembles and
-//! disassembles BPF programs. Its words are read by `scx_words`; what the commands do stands in
-//! `scx_commands`, `scx_explain`, `scx_simulation` and those above it, whose calls are passed on here. All that it
+//! disassembles BPF programs. Its words are read by `scxsim_words`; what the commands do stands in
+//! `scxsim_commands`, `scxsim_explain`, `scxsim_simulation` and those above it, whose calls are passed on here. All that it
 //! reaches outside is a `Console`, so a command can be run whole in memory, as those of files of cases are.
 //!
 //! A policy is verified, in `crates/scxsim/data/verdicts.txt`:
@@ -26,12 +26,14 @@ mod usage;
 
 use crate::ending::{end_without_memory, give_hint};
 use crate::process::run;
-use scx_commands::FAILED;
-pub use scx_commands::{Counted, Failed, Fault, Out, Refusal, asm, check, dis, exec, finish, text};
-pub use scx_explain::explain;
-pub use scx_pictures::{picture, timeline};
-pub use scx_simulation::{Listener, report, simulate};
-pub use scx_statistics::{stats, stats_csv};
+use scxsim_commands::FAILED;
+pub use scxsim_commands::{
+    Counted, Failed, Fault, Out, Refusal, asm, check, dis, exec, finish, text,
+};
+pub use scxsim_explain::explain;
+pub use scxsim_pictures::{picture, timeline};
+pub use scxsim_simulation::{Listener, report, simulate};
+pub use scxsim_statistics::{stats, stats_csv};
 use std::io;
 use std::io::BufWriter;
 use std::process::ExitCode;

@@ -3,11 +3,11 @@ use crate::console::Console;
 use crate::ending::{Ending, end, end_without_memory, without_hint};
 use crate::files::{Unread, bytes_of};
 use crate::usage::write_usage;
-use scx_commands::{
+use scxsim_commands::{
     FAILED, Fault, Out, asm, check, dis, exec, hint_of_slots, hint_of_text, write_unread,
 };
-use scx_explain::explain;
-use scx_words::{PolicyCommand, ProgramCommand, Request};
+use scxsim_explain::explain;
+use scxsim_words::{PolicyCommand, ProgramCommand, Request};
 use std::alloc::Global;
 
 pub(crate) fn run_request<R: AllocGlobal + Console, W: Out>(

@@ -1,9 +1,9 @@
 ghost use Rattle.std.specs.Prelude.{◌≡◌, ◌⊎◌};
 ghost use Rattle.std.specs.Io.KnownBytes.{Appends};
-ghost use Rattle.scx_output.specs.Output.{HasFailed};
+ghost use Rattle.scxsim_output.specs.Output.{HasFailed};
 
 use crate::ending::end_without_memory;
-use scx_commands::{FAILED, Out, USAGE, write_all};
+use scxsim_commands::{FAILED, Out, USAGE, write_all};
 use std::alloc::Global;
 
 /// Writes why `clap` refused the words, or the help that they ask for.

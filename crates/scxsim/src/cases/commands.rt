@@ -3,7 +3,7 @@ use crate::cases::stage::Stage;
 use crate::cases::texts::is_as_wanted;
 use crate::ending::Ending;
 use crate::process::run_words;
-use scx_commands::Counted;
+use scxsim_commands::Counted;
 use std::alloc::{AllocError, Global};
 
 /// What a command did.

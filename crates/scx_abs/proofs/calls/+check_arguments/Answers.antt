@@ -1,6 +1,6 @@
 use Rattle.std.proofs.Common.{sym, ◌∙◌}
 use Rattle.std.proofs.lemmas.Result.{err_from_is_err_and}
-use Rattle.scx_semantics.specs.HostTables.{parameters}
+use Rattle.scx_isa_semantics.specs.HostTables.{parameters}
 use Rattle.scx_abs.proofs.Parameters.{argument_passed, argument_refused}
 use Rattle.scx_abs.proofs.calls.+check_arguments.Goals as goal
 

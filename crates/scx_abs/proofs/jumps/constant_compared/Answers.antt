@@ -1,6 +1,6 @@
 use Rattle.std.proofs.Common.{◌≡◌, rules}
-use Rattle.scx_semantics.specs.Arithmetic.{immediate}
-use Rattle.scx_semantics.specs.declared.operations.Width.TheVariants.{Bits64}
+use Rattle.scx_isa_semantics.specs.Arithmetic.{immediate}
+use Rattle.scx_isa_semantics.specs.declared.operations.Width.TheVariants.{Bits64}
 use Rattle.scx_abs.proofs.Branches.{constant_compared}
 use Rattle.scx_abs.proofs.jumps.constant_compared.Goals as goal
 

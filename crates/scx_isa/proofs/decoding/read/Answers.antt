@@ -1,6 +1,6 @@
 use Rattle.std.proofs.Common.{None, ◌/◌, length, arith}
 use Rattle.std.proofs.lemmas.Result.{err_from_is_err_and}
-use Rattle.scx_encoding.specs.Slots.{slots_in}
+use Rattle.scx_isa_encoding.specs.Slots.{slots_in}
 use Rattle.scx_isa.specs.Reading.{read_slots}
 use Rattle.scx_isa.proofs.Loop.{goes_on, ends, is_done}
 use Rattle.scx_isa.proofs.decoding.read.Goals as goal

@@ -1,5 +1,5 @@
 use Rattle.std.proofs.Common.{◌≡◌, None, ◌*◌, ◌-◌, length}
-use Rattle.scx_encoding.specs.Slots.{slots_in}
+use Rattle.scx_isa_encoding.specs.Slots.{slots_in}
 use Rattle.scx_isa.specs.Reading.{read_slots}
 use Rattle.scx_isa.proofs.Loop.{with_front, rest_of}
 use Rattle.scx_isa.proofs.decoding.read.Given as goal

@@ -1,6 +1,6 @@
 use Rattle.std.proofs.Common.{◌≡◌, ◌<◌, ℕ, Some, None}
-use Rattle.scx_semantics.specs.Code.{at}
-use Rattle.scx_semantics.specs.declared.instructions.Insn.{Insn}
+use Rattle.scx_isa_semantics.specs.Code.{at}
+use Rattle.scx_isa_semantics.specs.declared.instructions.Insn.{Insn}
 use Rattle.scx_isa.specs.Flow.{flow_fault}
 use Rattle.scx_isa.proofs.flows.flow.Given as goal
 

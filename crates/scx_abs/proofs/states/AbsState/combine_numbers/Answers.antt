@@ -1,5 +1,5 @@
 use Rattle.std.proofs.Common.{sym, ap, ◌∙◌}
-use Rattle.scx_semantics.specs.Registers.{number}
+use Rattle.scx_isa_semantics.specs.Registers.{number}
 use Rattle.scx_abs.specs.Checks.{gets}
 use Rattle.scx_abs.specs.Pieces.{combined_numbers}
 use Rattle.scx_abs.proofs.states.AbsState.combine_numbers.Goals as goal

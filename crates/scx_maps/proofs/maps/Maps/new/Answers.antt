@@ -1,7 +1,7 @@
 use Rattle.std.proofs.Common.{◌≡◌, ◌≤◌, ap, sym, ◌∙◌, subst, arith, rules}
 use Rattle.std.specs.Prelude.{replicate}
 use Rattle.scx_maps.specs.Limits.{total_bytes}
-use Rattle.scx_semantics.specs.Elements.{Maps}
+use Rattle.scx_isa_semantics.specs.Elements.{Maps}
 use Rattle.scx_maps.specs.Contents.{zeros, HasShapes}
 use Rattle.scx_maps.specs.Layout.{contents_in}
 use Rattle.scx_maps.proofs.Blocks.{contents_in-zeros}

@@ -1,7 +1,7 @@
 use Rattle.std.proofs.Common.{length, ap, ◌∙◌}
 use Rattle.scx_maps.specs.Contents.{lengths_of}
-use Rattle.scx_semantics.specs.Memory.{size_bytes}
-use Rattle.scx_semantics.proofs.Bytes.{length-with_number}
+use Rattle.scx_isa_semantics.specs.Memory.{size_bytes}
+use Rattle.scx_isa_semantics.proofs.Bytes.{length-with_number}
 use Rattle.scx_maps.proofs.maps.Maps.store.Goals as goal
 
 pub returns-clause-shapes : goal.returns-clause-shapes

@@ -1,8 +1,8 @@
 use Rattle.std.proofs.Common.{◌≡◌, length, sym, ap, ◌∙◌, arith}
 use Rattle.std.proofs.lemmas.List.{take_at}
-use Rattle.scx_semantics.specs.Elements.{with_number}
-use Rattle.scx_semantics.specs.Memory.{size_bytes}
-use Rattle.scx_semantics.proofs.Bytes.{length-with_number}
+use Rattle.scx_isa_semantics.specs.Elements.{with_number}
+use Rattle.scx_isa_semantics.specs.Memory.{size_bytes}
+use Rattle.scx_isa_semantics.proofs.Bytes.{length-with_number}
 use Rattle.scx_maps.specs.Layout.{contents_in}
 use Rattle.scx_maps.specs.Lending.{all_bytes}
 use Rattle.scx_maps.proofs.ByPlace.{all_shown, shapes_shown}

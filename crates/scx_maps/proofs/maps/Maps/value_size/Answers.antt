@@ -1,5 +1,5 @@
 use Rattle.std.proofs.Common.{◌<◌, length, refl, sym, ◌∙◌, arith}
-use Rattle.scx_semantics.specs.Elements.{elements}
+use Rattle.scx_isa_semantics.specs.Elements.{elements}
 use Rattle.scx_maps.proofs.Blocks.{map_there, length-value_of}
 use Rattle.scx_maps.proofs.maps.Maps.value_size.Goals as goal
 

@@ -1,5 +1,5 @@
 use Rattle.std.proofs.Common.{◌≡◌, ◌≤◌, ◌+◌, ◌^◌, None, sym, ap, ◌∙◌, subst}
-use Rattle.scx_machine.specs.Steps.{State}
+use Rattle.scx_sched_machine.specs.Steps.{State}
 use Rattle.scx_sched.specs.Usages.{AreBounded}
 use Rattle.scx_sched.specs.Left.{LeavesNothingIdle}
 use Rattle.scx_sched.specs.Causes.{EjectsOnce}

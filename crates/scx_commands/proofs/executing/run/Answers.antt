@@ -1,6 +1,0 @@
-use Rattle.std.proofs.Common.{rules}
-use Rattle.scx_commands.proofs.Causes.{verify_cause}
-use Rattle.scx_commands.proofs.executing.run.Goals as goal
-
-pub returns-in_err-verified-clause-refused : goal.returns-in_err-verified-clause-refused
-returns-in_err-verified-clause-refused c = search (rules, verify_cause)

@@ -1,8 +1,0 @@
-use Rattle.std.proofs.Common.{◌≡◌, drop}
-use Rattle.scx_semantics.specs.Callbacks.{callbacks}
-use Rattle.scx_commands.specs.Verdicts.{accepted_each, are_accepted}
-use Rattle.scx_commands.proofs.verdict.are_accepted.Given as goal
-
--- no callback before is refused
-abbrev pub invariant-loop-callback : goal.invariant-loop-callback
-invariant-loop-callback l = accepted_each l.verdicts (drop l.callback-index callbacks) ≡ are_accepted l.verdicts

@@ -1,0 +1,21 @@
+use Rattle.std.proofs.lemmas.Result.{err_from_is_err_and}
+use Rattle.scx_isa_semantics.specs.declared.callbacks.Callback.TheVariants as callback
+use Rattle.scx_isa_semantics.proofs.per_callback.PerCallback+Option+T.try_map.Goals as goal
+
+pub returns-in_err-made-6-clause-failed : goal.returns-in_err-made-6-clause-failed
+returns-in_err-made-6-clause-failed g c =
+    let p = err_from_is_err_and c.from_residual-in_err-made-6.result c.from_residual-in_err-made-6.ensures.1 in
+    rw (p.1, p.2) record {
+      callback = callback.Running;
+      before = ((c.in_ok-made.field-0, c.in_ok-made.ensures.made), ((c.in_ok-made-2.field-0, c.in_ok-made-2.ensures.made), ((c.in_ok-made-3.field-0, c.in_ok-made-3.ensures.made), ((c.in_ok-made-4.field-0, c.in_ok-made-4.ensures.made), ((c.in_ok-made-5.field-0, c.in_ok-made-5.ensures.made), tt)))));
+      failed = c.in_err-made-6.ensures.failed;
+    }
+
+pub returns-in_err-made-7-clause-failed : goal.returns-in_err-made-7-clause-failed
+returns-in_err-made-7-clause-failed g c =
+    let p = err_from_is_err_and c.from_residual-in_err-made-7.result c.from_residual-in_err-made-7.ensures.1 in
+    rw (p.1, p.2) record {
+      callback = callback.Stopping;
+      before = ((c.in_ok-made.field-0, c.in_ok-made.ensures.made), ((c.in_ok-made-2.field-0, c.in_ok-made-2.ensures.made), ((c.in_ok-made-3.field-0, c.in_ok-made-3.ensures.made), ((c.in_ok-made-4.field-0, c.in_ok-made-4.ensures.made), ((c.in_ok-made-5.field-0, c.in_ok-made-5.ensures.made), ((c.in_ok-made-6.field-0, c.in_ok-made-6.ensures.made), tt))))));
+      failed = c.in_err-made-7.ensures.failed;
+    }

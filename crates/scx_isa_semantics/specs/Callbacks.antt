@@ -1,0 +1,109 @@
+-- The callbacks of a policy, and one value for each.
+use Rattle.std.specs.Prelude.{◌≡◌, Bool, true, false, ⊤, List, [], ◌∷◌, Option, Some, None, Result, Ok, Err, MatchBool}
+use denote.Ref.{Bor}
+use denote.Param.Members.{Shared}
+use Rattle.std.specs.Fn.{FnReturns}
+use Rattle.scx_isa_semantics.specs.declared.callbacks.Callback.{Callback}
+use Rattle.scx_isa_semantics.specs.declared.callbacks.Callback.TheVariants as callback
+use Rattle.scx_isa_semantics.specs.declared.per_callback.PerCallback.{PerCallback}
+
+-- the callbacks of a policy, in the order in which its programs are read and verified
+abbrev pub callbacks : List Callback
+callbacks =
+    callback.Init ∷ callback.Enable ∷ callback.SelectCpu ∷ callback.Enqueue ∷ callback.Dispatch
+    ∷ callback.Running ∷ callback.Stopping ∷ []
+
+-- those before this one
+abbrev pub earlier : Callback → List Callback
+earlier callback.Plain = []
+earlier callback.Init = []
+earlier callback.Enable = callback.Init ∷ []
+earlier callback.SelectCpu = callback.Init ∷ callback.Enable ∷ []
+earlier callback.Enqueue = callback.Init ∷ callback.Enable ∷ callback.SelectCpu ∷ []
+earlier callback.Dispatch =
+    callback.Init ∷ callback.Enable ∷ callback.SelectCpu ∷ callback.Enqueue ∷ []
+earlier callback.Running =
+    callback.Init ∷ callback.Enable ∷ callback.SelectCpu ∷ callback.Enqueue ∷ callback.Dispatch ∷ []
+earlier callback.Stopping =
+    callback.Init ∷ callback.Enable ∷ callback.SelectCpu ∷ callback.Enqueue ∷ callback.Dispatch
+    ∷ callback.Running ∷ []
+
+-- the value of one callback, if there is one; a plain program has none
+abbrev pub at : {T : Type 0} → PerCallback (Option T) → Callback → Option T
+at p callback.Plain = None
+at p callback.Init = p.init
+at p callback.Enable = p.enable
+at p callback.SelectCpu = p.select_cpu
+at p callback.Enqueue = p.enqueue
+at p callback.Dispatch = p.dispatch
+at p callback.Running = p.running
+at p callback.Stopping = p.stopping
+
+-- all values, with that of one callback set
+abbrev pub with_at : {T : Type 0} → PerCallback T → Callback → T → PerCallback T
+with_at p callback.Plain x = p
+with_at p callback.Init x = record p { init = x }
+with_at p callback.Enable x = record p { enable = x }
+with_at p callback.SelectCpu x = record p { select_cpu = x }
+with_at p callback.Enqueue x = record p { enqueue = x }
+with_at p callback.Dispatch x = record p { dispatch = x }
+with_at p callback.Running x = record p { running = x }
+with_at p callback.Stopping x = record p { stopping = x }
+
+-- no value for any callback
+abbrev pub none : {T : Type 0} → PerCallback (Option T)
+none = record {
+  init = None;
+  enable = None;
+  select_cpu = None;
+  enqueue = None;
+  dispatch = None;
+  running = None;
+  stopping = None;
+}
+
+-- ---- tests
+
+module _ {F T : Type 0} (g : Shared F (Callback × (Bor T × Unit {0})) Bool) (f : F) where
+  -- what a test answers of a value
+  pub record Says (b : Callback) (x : T) (r : Bool) : Type 0 where
+    pub shown : Bor T
+    pub shows : shown.now ≡ x
+    pub says : FnReturns g f (b, (shown, tt)) r
+
+  -- what a test answers of a value that may be absent, which passes then
+  abbrev pub Answer : Callback → Option T → Bool → Type 0
+  Answer b None r = r ≡ true
+  Answer b (Some x) r = Says b x r
+
+  -- whether each value that is there passes
+  abbrev pub Answers : PerCallback (Option T) → Bool → Type 0
+  Answers p r =
+      MatchBool r ((b : Callback) → Answer b (at p b) true)
+      ((b : Callback) × Answer b (at p b) false)
+
+-- ---- what is made of each
+
+module _ {F T U E : Type 0} (g : Shared F (Callback × (T × Unit {0})) (Result U E)) (f : F) where
+  -- what the function makes of a value; of none it makes none
+  abbrev pub Made : Callback → Option T → Option U → Type 0
+  Made b None None = ⊤
+  Made b None (Some y) = ⊥
+  Made b (Some x) None = ⊥
+  Made b (Some x) (Some y) = FnReturns g f (b, (x, tt)) (Ok y)
+
+  -- the function makes something of the value of each of these callbacks
+  abbrev pub MadeEach : PerCallback (Option T) → List Callback → Type 0
+  MadeEach p [] = ⊤
+  MadeEach p (b ∷ bs) = ((y : Option U) × Made b (at p b) y) × MadeEach p bs
+
+  -- the function fails at a value
+  abbrev pub Failed : Callback → Option T → E → Type 0
+  Failed b None e = ⊥
+  Failed b (Some x) e = FnReturns g f (b, (x, tt)) (Err e)
+
+  -- it fails at the value of a callback, and not at those before
+  pub record FirstFailed (p : PerCallback (Option T)) (e : E) : Type 0 where
+    pub callback : Callback
+    pub before : MadeEach p (earlier callback)
+    pub failed : Failed callback (at p callback) e

@@ -1,0 +1,50 @@
+ghost use Rattle.std.specs.Prelude.{◌≡◌};
+ghost use Rattle.scx_isa_semantics.specs.HostTables.{answers};
+
+/// What a program is run as: a callback of a scheduling policy (sched-ext.rst), or a plain program
+/// with no policy around it. Each line says when a callback is called, what it is given in r1 to r3 (of
+/// the registers that aren't named a program may read none but r10), and what its answer means.
+#[derive(Clone, Copy, PartialEq, Eq)]
+pub enum Callback {
+    /// No callback: a program that is run alone, is given nothing and calls no helper. It answers a number.
+    Plain,
+    /// Once, before anything else, and is given nothing. It answers 0, or the policy can't begin.
+    Init,
+    /// For each task, by pid, after `init`. r1: the task. It answers nothing.
+    Enable,
+    /// As a task wakes. r1: the task; r2: the processor where it ran last; r3: 0. It answers the processor
+    /// for which the task is meant.
+    SelectCpu,
+    /// For a task that has to wait and that `select_cpu` didn't insert. r1: the task; r2: 1 after a wake, 0
+    /// after a stop or as it is let go. It answers nothing.
+    Enqueue,
+    /// For a processor that has nothing in its own queue, nor in GLOBAL. r1: the processor; r2: the task
+    /// before, or 0. It answers nothing.
+    Dispatch,
+    /// As a task begins to run. r1: the task. It answers nothing.
+    Running,
+    /// As a task leaves its processor. r1: the task; r2: 1 where it stays runnable, else 0. It answers
+    /// nothing.
+    Stopping,
+}
+
+/// The callbacks of a policy, in the order in which its programs are read and verified. A plain program
+/// isn't one.
+pub const CALLBACKS: [Callback; 7] = [
+    Callback::Init,
+    Callback::Enable,
+    Callback::SelectCpu,
+    Callback::Enqueue,
+    Callback::Dispatch,
+    Callback::Running,
+    Callback::Stopping,
+];
+
+impl Callback {
+    /// Whether its run answers a number, in r0.
+    pub fn answers(self) -> bool
+        ensures { result ≡ answers self }
+    {
+        matches!(self, Callback::Plain | Callback::Init | Callback::SelectCpu)
+    }
+}

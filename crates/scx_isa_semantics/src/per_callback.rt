@@ -1,0 +1,148 @@
+ghost use Rattle.std.specs.Prelude.{◌≡◌, option_map, IfOk, IfErr};
+ghost use Rattle.scx_isa_semantics.specs.Callbacks.{at, with_at, none, Answer, Answers, Made, Failed, FirstFailed};
+
+use crate::callbacks::{CALLBACKS, Callback};
+
+/// One value for each callback of a policy.
+#[derive(Drop)]
+pub struct PerCallback<T> {
+    pub init: T,
+    pub enable: T,
+    pub select_cpu: T,
+    pub enqueue: T,
+    pub dispatch: T,
+    pub running: T,
+    pub stopping: T,
+}
+
+impl<T> PerCallback<Option<T>> {
+    /// No value for any callback.
+    pub fn none() -> PerCallback<Option<T>>
+        ensures { result ≡ none }
+    {
+        PerCallback {
+            init: None,
+            enable: None,
+            select_cpu: None,
+            enqueue: None,
+            dispatch: None,
+            running: None,
+            stopping: None,
+        }
+    }
+
+    /// That of one callback, if there is one. A plain program has none.
+    pub fn get(&self, callback: Callback) -> Option<&T>
+        ensures { option_map (λ x. x.now) result ≡ at self.now callback }
+    {
+        match callback {
+            Callback::Plain => None,
+            Callback::Init => self.init.as_ref(),
+            Callback::Enable => self.enable.as_ref(),
+            Callback::SelectCpu => self.select_cpu.as_ref(),
+            Callback::Enqueue => self.enqueue.as_ref(),
+            Callback::Dispatch => self.dispatch.as_ref(),
+            Callback::Running => self.running.as_ref(),
+            Callback::Stopping => self.stopping.as_ref(),
+        }
+    }
+
+    /// Whether each that is there passes the test.
+    pub fn all<F: Fn(Callback, &T) -> bool>(&self, test: F) -> bool
+        requires { F.IsAlwaysCallable test }
+        ensures { Answers F.Fn test self.now result }
+    {
+        for callback in CALLBACKS {
+            if !self.passes(callback, &test) {
+                return false;
+            }
+        }
+        true
+    }
+
+    /// Whether that of one callback passes the test, if it is there.
+    fn passes<F: Fn(Callback, &T) -> bool>(&self, callback: Callback, test: &F) -> bool
+        requires { F.IsAlwaysCallable test.now }
+        ensures { Answer F.Fn test.now callback (at self.now callback) result }
+    {
+        match self.get(callback) {
+            Some(value) => test(callback, value),
+            None => true,
+        }
+    }
+}
+
+impl<T: Drop> PerCallback<Option<T>> {
+    /// Takes that of one callback out.
+    pub fn take(&mut self, callback: Callback) -> Option<T>
+        ensures taken { result ≡ at self.old callback }
+        ensures rest { self.new ≡ with_at self.old callback None }
+    {
+        match callback {
+            Callback::Plain => None,
+            Callback::Init => self.init.take(),
+            Callback::Enable => self.enable.take(),
+            Callback::SelectCpu => self.select_cpu.take(),
+            Callback::Enqueue => self.enqueue.take(),
+            Callback::Dispatch => self.dispatch.take(),
+            Callback::Running => self.running.take(),
+            Callback::Stopping => self.stopping.take(),
+        }
+    }
+
+    /// Sets that of one callback. A plain program has none, and nothing is set.
+    pub fn set(&mut self, callback: Callback, value: Option<T>)
+        ensures { self.new ≡ with_at self.old callback value }
+    {
+        match callback {
+            Callback::Plain => drop(value),
+            Callback::Init => self.init = value,
+            Callback::Enable => self.enable = value,
+            Callback::SelectCpu => self.select_cpu = value,
+            Callback::Enqueue => self.enqueue = value,
+            Callback::Dispatch => self.dispatch = value,
+            Callback::Running => self.running = value,
+            Callback::Stopping => self.stopping = value,
+        }
+    }
+
+    /// What the function makes of each that is there, in their order, up to the first at which it fails.
+    pub fn try_map<U: Drop, E, F: Fn(Callback, T) -> Result<U, E>>(
+        self,
+        f: &F,
+    ) -> Result<PerCallback<Option<U>>, E>
+        requires { F.IsAlwaysCallable f.now }
+        ensures made { IfOk result
+            (λ made. (b : _) → Made F.Fn f.now b (at self b) (at made b)) }
+        ensures failed { IfErr result (FirstFailed F.Fn f.now self) }
+    {
+        Ok(PerCallback {
+            init: made(Callback::Init, self.init, f)?,
+            enable: made(Callback::Enable, self.enable, f)?,
+            select_cpu: made(Callback::SelectCpu, self.select_cpu, f)?,
+            enqueue: made(Callback::Enqueue, self.enqueue, f)?,
+            dispatch: made(Callback::Dispatch, self.dispatch, f)?,
+            running: made(Callback::Running, self.running, f)?,
+            stopping: made(Callback::Stopping, self.stopping, f)?,
+        })
+    }
+}
+
+/// What the function makes of the value of a callback, if it is there.
+fn made<T: Drop, U: Drop, E, F: Fn(Callback, T) -> Result<U, E>>(
+    callback: Callback,
+    value: Option<T>,
+    f: &F,
+) -> Result<Option<U>, E>
+    requires { F.IsAlwaysCallable f.now }
+    ensures made { IfOk result (Made F.Fn f.now callback value) }
+    ensures failed { IfErr result (Failed F.Fn f.now callback value) }
+{
+    match value {
+        Some(value) => match f(callback, value) {
+            Ok(made) => Ok(Some(made)),
+            Err(error) => Err(error),
+        },
+        None => Ok(None),
+    }
+}

@@ -1,0 +1,381 @@
+-- A scheduling cycle leaves the groups and tasks, who is active, and how many tasks and processors there are.
+use Rattle.std.proofs.Common.{◌≡◌, ℕ, zero, suc, Bool, true, false, nat_lt, cond, List, length, map, Option, Some, None, Result, Ok, Err, ℤ, refl, ◌∙◌, subst}
+use Rattle.std.proofs.lemmas.List.{length-set, length-replicate}
+use Rattle.scx_dsq.specs.Queues.{len_of, front_of, behind_of}
+use Rattle.scx_dsq.specs.Calls.{after_create}
+use Rattle.scx_isa_semantics.specs.declared.callbacks.Callback.{Callback}
+use Rattle.scx_isa_semantics.specs.declared.callbacks.Callback.TheVariants as callback
+use Rattle.scx_isa_semantics.specs.declared.host_tables.Helper.{Helper}
+use Rattle.scx_isa_semantics.specs.declared.host_tables.Helper.TheVariants.{MapLookupElem, KtimeGetNs, CreateDsq, DsqInsert, DsqInsertVtime, DsqMoveToLocal, SelectCpuDfl, CpuIdle, TaskByPid, DsqNrQueued}
+use Rattle.scx_isa_semantics.specs.Code.{instruction_count}
+use Rattle.scx_isa_semantics.specs.Effects.{Query, Call, Load, Store}
+use Rattle.scx_isa_semantics.specs.Elements.{Maps}
+use Rattle.scx_isa_semantics.specs.Endings.{run_of}
+use Rattle.scx_isa_semantics.proofs.EndedRuns.{run_keeps}
+use Rattle.scx_isa_semantics.specs.Machine as start
+use Rattle.scx_vm_safety.specs.Programs.{VerifiedProgram}
+use Rattle.scx_vm.specs.Arguments.{program_arguments, argument_of}
+use Rattle.scx_vm.specs.declared.arguments.Arg.{Arg}
+use Rattle.scx_vm.specs.declared.arguments.Args.{Args}
+use Rattle.scx_vm.specs.Host.{answer_to, after_query}
+use Rattle.scx_weights.specs.Hierarchy.{Hierarchy}
+use Rattle.scx_sched_world.specs.declared.call.Insert.{Insert}
+use Rattle.scx_sched_tasks.specs.declared.task.Task.{Task}
+use Rattle.scx_sched_world.specs.declared.faults.Fault.{Fault}
+use Rattle.scx_sched_world.specs.declared.faults.Fault.TheVariants.{NoSuchQueue, NoSuchCpu, CannotCreate}
+use Rattle.scx_sched_world.specs.Ids.{global, builtin_queue, parked_queue, local_on}
+use Rattle.scx_sched_world.specs.World.{WorldState, with_queues, with_task, task_at, is_throttled, waits, running, at_callback}
+use Rattle.scx_sched_world.specs.Tasks.{after_leave, after_enter, for_cpu, brought, fill_front, after_stop, started_at, put_parked, after_take, let_go}
+use Rattle.scx_sched_world.specs.Helpers.{is_there, can_create, with_fault, is_dispatch, insert_fault, with_insert, after_release, insert_or_fault, insert_of, insert_of_vtime, can_move, front_moved_to_local, given_number, given_task, helper_after, stored_in, world_functions}
+use Rattle.scx_sched_machine.specs.Policy.{PolicyState}
+use Rattle.scx_sched_world.specs.declared.eject.Eject.{Eject}
+use Rattle.scx_sched_world.specs.Ejecting.{put_out, put_builtin, after_evictions, after_cut, cut_task, after_charge, after_catch_up}
+use Rattle.scx_sched_machine.specs.Steps.{State, Stepped, one_after_other, stays, with_world, is_ejected}
+use Rattle.scx_sched_machine.specs.Ejecting.{moves_over, eject, ejected_for}
+use Rattle.scx_sched_machine.specs.Callbacks.{call_ending, acting, fault_of, call_back, after_callback, no_arguments, one_task, task_and_number, cpu_and_task}
+use Rattle.scx_sched_machine.specs.Put.{enters, enqueue_choice, enters_builtin, comes_in, put}
+use Rattle.scx_sched_machine.specs.Events.{insert_or_put}
+use Rattle.scx_sched_machine.specs.Filling.{fill}
+use Rattle.scx_sched_machine.specs.Parking.{park, park_front, throttled_front, park_then, park_fronts, clear, in_reach, supply, let_go_one, let_go_from, let_all_go}
+use Rattle.scx_sched_machine.specs.Cycle.{has_local, after_dispatch, asks_again, tries, stopping, running_on, leave, started_if, start as run_front, rest, swap, swap_or_rest, builtin_dispatch, builtin_fill, builtin_ask, builtin_cycle, start_or_cycle, pick, pick_or_rest, conclude, ask, seek, look, cycling, cycle}
+use Rattle.scx_sched_machine.specs.Start.{blank, init_ending, bad_answer, ok_unless, after_init, enable_ending, has_failed, enable, then_enable, after_enables, ok_if, all_enabled, first_state}
+use Rattle.scx_sched_machine.proofs.Unchanged.{keeps_if}
+
+-- the same groups and tasks, of which the same are active
+abbrev pub IsTreeLike : Hierarchy → Hierarchy → Type 0
+IsTreeLike h t = (t.groups ≡ h.groups) × (t.homes ≡ h.homes) × (t.active ≡ h.active)
+
+-- a tree like that one, and so many tasks and processors
+abbrev pub IsLike : Hierarchy → ℕ → ℕ → WorldState → Type 0
+IsLike tree n c w = IsTreeLike tree w.tree × (length w.tasks ≡ n) × (length w.cpus ≡ c)
+
+-- a world like a tree has its groups
+pub like_groups : (h : Hierarchy) (n c : ℕ) (w : WorldState) → IsLike h n c w → w.tree.groups ≡ h.groups
+like_groups h n c w i = let t : IsTreeLike h w.tree = i.0 in t.0
+
+-- in a world like a tree the same tasks are active
+pub like_active : (h : Hierarchy) (n c : ℕ) (w : WorldState) → IsLike h n c w → w.tree.active ≡ h.active
+like_active h n c w i = let t : IsTreeLike h w.tree = i.0 in t.2
+
+module _ (h : Hierarchy) (n c : ℕ) where
+  -- ---- small steps
+
+  like_task : (w : WorldState) (t : ℕ) (x : Task) → IsLike h n c w → IsLike h n c (with_task w t x)
+  like_task w t x i = (i.0, length-set w.tasks t x ∙ i.1, i.2)
+
+  like_entered : (w : WorldState) (t : ℕ) (k : Insert) → IsLike h n c w → IsLike h n c (after_enter w t k)
+  like_entered w t k i = keeps_if (IsLike h n c) (nat_lt t (length w.tasks)) _ w (like_task w t _ i) i
+
+  like_released : (w : WorldState) (t : Option ℕ) (k : Insert) → IsLike h n c w → IsLike h n c (after_release w t k)
+  like_released w None k i = i
+  like_released w (Some t) k i = let x = like_entered (after_leave w t) t k i in (x.0, x.1, x.2)
+
+  like_inserted : (w : WorldState) (o : Option Fault) (t : Option ℕ) (k : Insert) → IsLike h n c w → IsLike h n c (insert_or_fault w o t k)
+  like_inserted w None t k i = keeps_if (IsLike h n c) (is_dispatch w.call.callback) (after_release w t (for_cpu w.call.cpu k)) (with_insert w k) (like_released w t (for_cpu w.call.cpu k) i) i
+  like_inserted w (Some f) t k i = i
+
+  like_moved : (w : WorldState) (o : Option ℕ) (q : ℕ) → IsLike h n c w → IsLike h n c (front_moved_to_local w o q)
+  like_moved w None q i = i
+  like_moved w (Some t) q i = i
+
+  like_brought : (o : Option ℕ) (w : WorldState) (q d : ℕ) → IsLike h n c w → IsLike h n c (brought o w q d)
+  like_brought None w q d i = i
+  like_brought (Some t) w q d i = i
+
+  like_helper : (w : WorldState) (f : Helper) (a : List Arg) → IsLike h n c w → IsLike h n c (helper_after w f a)
+  like_helper w CreateDsq a i = keeps_if (IsLike h n c) (can_create w (given_number a 0)) (with_queues w (after_create w.queues (given_number a 0))) (with_fault w CannotCreate) i i
+  like_helper w DsqInsert a i = like_inserted w (insert_fault w (given_task a 0) (insert_of a) (given_number a 3)) (given_task a 0) (insert_of a) i
+  like_helper w DsqInsertVtime a i = like_inserted w (insert_fault w (given_task a 0) (insert_of_vtime a) (given_number a 4)) (given_task a 0) (insert_of_vtime a) i
+  like_helper w DsqMoveToLocal a i = keeps_if (IsLike h n c) (can_move w (given_number a 0)) (front_moved_to_local w (front_of w.queues (given_number a 0)) (given_number a 0)) (with_fault w NoSuchQueue) (like_moved w (front_of w.queues (given_number a 0)) (given_number a 0) i) i
+  like_helper w CpuIdle a i = keeps_if (IsLike h n c) (nat_lt (given_number a 0) (length w.cpus)) w (with_fault w NoSuchCpu) i i
+  like_helper w DsqNrQueued a i = keeps_if (IsLike h n c) (is_there w (given_number a 0)) w (with_fault w NoSuchQueue) i i
+  like_helper w KtimeGetNs a i = i
+  like_helper w MapLookupElem a i = i
+  like_helper w SelectCpuDfl a i = i
+  like_helper w TaskByPid a i = i
+
+  like_query : (w : WorldState) (q : Query) → IsLike h n c w → IsLike h n c (after_query world_functions w q)
+  like_query w (Call f a) i = like_helper w f (map argument_of a) i
+  like_query w (Load t f) i = i
+  like_query w (Store t f k) i = like_task w t.0 (stored_in (task_at w t.0) f k) i
+
+  like_stopped : (w : WorldState) (d t : ℕ) → IsLike h n c w → IsLike h n c (after_stop w d t)
+  like_stopped w d t i = (i.0, length-set w.tasks t _ ∙ i.1, length-set w.cpus d None ∙ i.2)
+
+  like_started : (w : WorldState) (d t : ℕ) → IsLike h n c w → IsLike h n c (started_at (Some t) w d)
+  like_started w d t i = (i.0, length-set w.tasks t _ ∙ i.1, length-set w.cpus d (Some t) ∙ i.2)
+
+  -- ---- an ejection
+
+  like_put_builtin : (w : WorldState) (t : ℕ) → IsLike h n c w → IsLike h n c (put_builtin w t)
+  like_put_builtin w t i = keeps_if (IsLike h n c) (nat_lt t (length w.tasks)) _ w (like_task w t _ i) i
+
+  like_evicted : (j : ℕ) (w : WorldState) → IsLike h n c w → IsLike h n c (after_evictions j w)
+  like_evicted zero w i = i
+  like_evicted (suc j) w i =
+      let v = after_evictions j w in
+      let x = like_evicted j w i in
+      keeps_if (IsLike h n c) (waits v j) (put_builtin (after_leave v j) j) v (like_put_builtin (after_leave v j) j x) x
+
+  like_cut_task : (o : Option ℕ) (w : WorldState) → IsLike h n c w → IsLike h n c (cut_task o w)
+  like_cut_task None w i = i
+  like_cut_task (Some t) w i = like_task w t _ i
+
+  like_cut : (j : ℕ) (w : WorldState) → IsLike h n c w → IsLike h n c (after_cut j w)
+  like_cut zero w i = i
+  like_cut (suc j) w i = like_cut_task (running (after_cut j w) j) (after_cut j w) (like_cut j w i)
+
+  pub like_eject : (s : State) (x : Eject) → IsLike h n c s.world → IsLike h n c (eject s x).state.world
+  unfolding eject moves_over
+  like_eject s x i =
+      let w = put_out s.world x in
+      let v = after_evictions (length w.tasks) w in
+      like_cut (length v.cpus) v (like_evicted (length w.tasks) w (i.0, i.1, i.2))
+
+  like_ejected_for : (o : Option Fault) (s : State) → IsLike h n c s.world → IsLike h n c (ejected_for o s).state.world
+  like_ejected_for None s i = i
+  like_ejected_for (Some f) s i = like_eject s _ i
+
+  -- ---- callbacks
+
+  like_called : (p : Option VerifiedProgram) (b : Callback) (a : Args) (maps : Maps) (w : WorldState) → IsLike h n c w → IsLike h n c (call_ending p b a maps w).outside
+  unfolding call_ending run_of
+  like_called None b a maps w i = i
+  like_called (Some p) b a maps w i =
+      run_keeps (answer_to world_functions) (after_query world_functions) (IsLike h n c) like_query b p.code (suc (instruction_count p.code)) 0 (start.start (program_arguments a) maps) w i
+
+  -- a callback
+  pub like_call_back : (s : State) (b : Callback) (a : Args) (t d : ℕ) → IsLike h n c s.world → IsLike h n c (call_back s b a t d).state.world
+  unfolding call_back
+  like_call_back s b a t d i =
+      let e = call_ending (acting s b) b a s.maps (at_callback s.world b t d) in
+      like_ejected_for (fault_of b e) (after_callback s.policy e) (like_called (acting s b) b a s.maps (at_callback s.world b t d) i)
+
+  -- ---- a cycle
+
+  pub like_stopping : (s : State) (d t x : ℕ) → IsLike h n c s.world → IsLike h n c (stopping s d t x).state.world
+  unfolding stopping
+  like_stopping s d t x i =
+      keeps_if (λ (r : Stepped). IsLike h n c r.state.world) (is_ejected s) (stays (with_world s (after_charge s.world t))) (call_back s callback.Stopping (task_and_number t x) t d) (like_task s.world t _ i) (like_call_back s callback.Stopping (task_and_number t x) t d i)
+
+  like_running_on : (s : State) (d t : ℕ) → IsLike h n c s.world → IsLike h n c (running_on s d t).state.world
+  unfolding running_on
+  like_running_on s d t i =
+      keeps_if (λ (r : Stepped). IsLike h n c r.state.world) (is_ejected s) (stays (with_world s (after_catch_up s.world t))) (call_back s callback.Running (one_task t) t d) i (like_call_back s callback.Running (one_task t) t d i)
+
+  like_comes_in : (s : State) (t d : ℕ) → IsLike h n c s.world → IsLike h n c (comes_in s t d).state.world
+  unfolding comes_in enters enters_builtin
+  like_comes_in s t d i =
+      let k = enqueue_choice s.policy.callbacks.enqueue d s.world.call.insert in
+      keeps_if (λ (r : Stepped). IsLike h n c r.state.world) (is_ejected s) (enters_builtin s t) (enters s t k) (like_put_builtin s.world t i) (like_entered s.world t k i)
+
+  pub like_put : (s : State) (t d flags : ℕ) → IsLike h n c s.world → IsLike h n c (put s t d flags).state.world
+  unfolding put
+  like_put s t d flags i =
+      let r = call_back s callback.Enqueue (task_and_number t flags) t d in
+      like_comes_in r.state t d (like_call_back s callback.Enqueue (task_and_number t flags) t d i)
+
+  -- an insert of select_cpu
+  pub like_settled : (o : Option Insert) (s : State) (t d : ℕ) → IsLike h n c s.world → IsLike h n c (insert_or_put o s t d).state.world
+  unfolding enters
+  like_settled None s t d i = like_put s t d 1 i
+  like_settled (Some k) s t d i = like_entered s.world t (for_cpu d k) i
+
+  like_fill : (s : State) (q d : ℕ) → IsLike h n c s.world → IsLike h n c (fill s q d).state.world
+  unfolding fill
+  like_fill s q d i = like_brought (fill_front s.world q d) s.world q d i
+
+  -- ---- parking
+
+  like_put_parked : (w : WorldState) (t : ℕ) → IsLike h n c w → IsLike h n c (put_parked w t)
+  like_put_parked w t i = keeps_if (IsLike h n c) (nat_lt t (length w.tasks)) _ w (like_task w t _ i) i
+
+  pub like_park : (s : State) (t : ℕ) → IsLike h n c s.world → IsLike h n c (park s t).state.world
+  unfolding park
+  like_park s t i = like_put_parked s.world t i
+
+  like_park_front : (s : State) (q t : ℕ) → IsLike h n c s.world → IsLike h n c (park_front s q t).state.world
+  unfolding park_front
+  like_park_front s q t i = like_park (with_world s (after_take s.world q)) t i
+
+  -- the front that may not run, and then more
+  like_park_then : (more : State → Stepped) (s : State) (q : ℕ) (o : Option ℕ) → IsLike h n c s.world → ((v : State) → IsLike h n c v.world → IsLike h n c (more v).state.world) → IsLike h n c (park_then more s q o).state.world
+  like_park_then more s q None i f = i
+  like_park_then more s q (Some t) i f = f (park_front s q t).state (like_park_front s q t i)
+
+  like_park_fronts : (m : ℕ) (s : State) (q : ℕ) → IsLike h n c s.world → IsLike h n c (park_fronts m s q).state.world
+  unfolding park_fronts
+  like_park_fronts zero s q i = i
+  like_park_fronts (suc m) s q i = like_park_then (λ v. park_fronts m v q) s q (throttled_front s q) i (λ v x. like_park_fronts m v q x)
+
+  like_clear : (m : ℕ) (s : State) (d : ℕ) → IsLike h n c s.world → IsLike h n c (clear m s d).state.world
+  unfolding clear
+  like_clear zero s d i = i
+  like_clear (suc m) s d i =
+      let f = (fill s global d).state in
+      like_park_then (λ v. clear m v d) f (local_on d) (throttled_front f (local_on d)) (like_fill s global d i) (λ v x. like_clear m v d x)
+
+  like_supply : (s : State) (d : ℕ) → IsLike h n c s.world → IsLike h n c (supply s d).state.world
+  unfolding supply
+  like_supply s d i = like_clear (in_reach s d) s d i
+
+  like_let_go_one : (s : State) (t : ℕ) → IsLike h n c s.world → IsLike h n c (let_go_one s t).state.world
+  unfolding let_go_one
+  like_let_go_one s t i = like_put (with_world s (let_go s.world t)) t (task_at s.world t).prev_cpu 0 (like_task s.world t _ i)
+
+  like_let_go_from : (m : ℕ) (s : State) (at : Option ℕ) → IsLike h n c s.world → IsLike h n c (let_go_from m s at).state.world
+  unfolding let_go_from
+  like_let_go_from zero s at i = i
+  like_let_go_from (suc m) s None i = i
+  like_let_go_from (suc m) s (Some t) i =
+      let next = behind_of s.world.queues t in
+      let r = let_go_one s t in
+      keeps_if (λ (x : Stepped). IsLike h n c x.state.world) (is_throttled s.world t) (let_go_from m s next) (one_after_other r (let_go_from m r.state next)) (like_let_go_from m s next i) (like_let_go_from m r.state next (like_let_go_one s t i))
+
+  -- all who may run again
+  pub like_let_all_go : (s : State) → IsLike h n c s.world → IsLike h n c (let_all_go s).state.world
+  unfolding let_all_go
+  like_let_all_go s i = like_let_go_from (len_of s.world.queues parked_queue) s (front_of s.world.queues parked_queue) i
+
+  -- ---- dispatch
+
+  like_dispatched : (s : State) (d : ℕ) (p : Option ℕ) → IsLike h n c s.world → IsLike h n c (after_dispatch s d p).state.world
+  unfolding after_dispatch
+  like_dispatched s d p i = like_supply (call_back s callback.Dispatch (cpu_and_task d p) 0 d).state d (like_call_back s callback.Dispatch (cpu_and_task d p) 0 d i)
+
+  like_tries : (m : ℕ) (s : State) (d : ℕ) (p : Option ℕ) → IsLike h n c s.world → IsLike h n c (tries m s d p).state.world
+  unfolding tries
+  like_tries zero s d p i = i
+  like_tries (suc m) s d p i =
+      let r = after_dispatch s d p in
+      let x = like_dispatched s d p i in
+      keeps_if (λ (r : Stepped). IsLike h n c r.state.world) (asks_again r.state d) (one_after_other r (tries m r.state d p)) r (like_tries m r.state d p x) x
+
+  like_start : (s : State) (d : ℕ) → IsLike h n c s.world → IsLike h n c (run_front s d).state.world
+  unfolding run_front
+  like_start s d i = go (front_of s.world.queues (local_on d))
+    where
+      go : (o : Option ℕ) → IsLike h n c (started_if o s d).state.world
+      go None = i
+      go (Some t) = like_running_on (with_world s (started_at (Some t) s.world d)) d t (like_started s.world d t i)
+
+  like_rest : (s : State) (d : ℕ) (p : Option ℕ) (ran : Bool) → IsLike h n c s.world → IsLike h n c (rest s d p ran).state.world
+  unfolding rest
+  like_rest s d None ran i = i
+  like_rest s d (Some t) ran i = like_task s.world t _ i
+
+  like_leave : (s : State) (d : ℕ) (p : Option ℕ) → IsLike h n c s.world → IsLike h n c (leave s d p).state.world
+  unfolding leave
+  like_leave s d None i = i
+  like_leave s d (Some t) i =
+      let off = with_world s (after_stop s.world d t) in
+      like_put (stopping off d t 1).state t d 0 (like_stopping off d t 1 (like_stopped s.world d t i))
+
+  like_swap : (s : State) (d : ℕ) (p : Option ℕ) → IsLike h n c s.world → IsLike h n c (swap s d p).state.world
+  unfolding swap
+  like_swap s d p i = like_start (leave s d p).state d (like_leave s d p i)
+
+  like_builtin_fill : (s : State) (d : ℕ) → IsLike h n c s.world → IsLike h n c (builtin_fill s d).state.world
+  unfolding builtin_fill builtin_dispatch
+  like_builtin_fill s d i =
+      let p = park_fronts (len_of s.world.queues builtin_queue) s builtin_queue in
+      keeps_if (λ (r : Stepped). IsLike h n c r.state.world) (has_local s d) (stays s) (one_after_other p (fill p.state builtin_queue d)) i (like_fill p.state builtin_queue d (like_park_fronts (len_of s.world.queues builtin_queue) s builtin_queue i))
+
+  like_builtin_cycle : (s : State) (d : ℕ) (p : Option ℕ) (ran : Bool) → IsLike h n c s.world → IsLike h n c (builtin_cycle s d p ran).state.world
+  unfolding builtin_cycle builtin_ask swap_or_rest
+  like_builtin_cycle s d p ran i =
+      let f = supply s d in
+      let g = builtin_fill f.state d in
+      let x : IsLike h n c g.state.world = like_builtin_fill f.state d (like_supply s d i) in
+      keeps_if (λ (r : Stepped). IsLike h n c r.state.world) (has_local g.state d) (swap g.state d p) (rest g.state d p ran) (like_swap g.state d p x) (like_rest g.state d p ran x)
+
+  like_start_or_cycle : (s : State) (d : ℕ) (ran : Bool) → IsLike h n c s.world → IsLike h n c (start_or_cycle s d ran).state.world
+  unfolding start_or_cycle
+  like_start_or_cycle s d ran i =
+      keeps_if (λ (r : Stepped). IsLike h n c r.state.world) (has_local s d) (run_front s d) (builtin_cycle s d None ran) (like_start s d i) (like_builtin_cycle s d None ran i)
+
+  like_pick : (s : State) (d : ℕ) (p : Option ℕ) (ran : Bool) → IsLike h n c s.world → IsLike h n c (pick s d p ran).state.world
+  unfolding pick
+  like_pick s d p ran i = like_start_or_cycle (leave s d p).state d ran (like_leave s d p i)
+
+  like_pick_or_rest : (s : State) (d : ℕ) (p : Option ℕ) (ran : Bool) → IsLike h n c s.world → IsLike h n c (pick_or_rest s d p ran).state.world
+  unfolding pick_or_rest
+  like_pick_or_rest s d p ran i = keeps_if (λ (r : Stepped). IsLike h n c r.state.world) (has_local s d) (pick s d p ran) (rest s d p ran) (like_pick s d p ran i) (like_rest s d p ran i)
+
+  like_conclude : (s : State) (d : ℕ) (p : Option ℕ) (ran : Bool) → IsLike h n c s.world → IsLike h n c (conclude s d p ran).state.world
+  unfolding conclude
+  like_conclude s d p ran i =
+      keeps_if (λ (r : Stepped). IsLike h n c r.state.world) (is_ejected s) (builtin_cycle s d p ran) (pick_or_rest s d p ran) (like_builtin_cycle s d p ran i) (like_pick_or_rest s d p ran i)
+
+  like_ask : (s : State) (d : ℕ) (p : Option ℕ) (ran : Bool) → IsLike h n c s.world → IsLike h n c (ask s d p ran).state.world
+  unfolding ask
+  like_ask s d p ran i = like_conclude (tries 32 s d p).state d p ran (like_tries 32 s d p i)
+
+  like_seek : (s : State) (d : ℕ) (p : Option ℕ) (ran : Bool) → IsLike h n c s.world → IsLike h n c (seek s d p ran).state.world
+  unfolding seek
+  like_seek s d p ran i =
+      let f = supply s d in
+      let x : IsLike h n c f.state.world = like_supply s d i in
+      keeps_if (λ (r : Stepped). IsLike h n c r.state.world) (has_local f.state d) (pick f.state d p ran) (ask f.state d p ran) (like_pick f.state d p ran x) (like_ask f.state d p ran x)
+
+  like_look : (s : State) (d : ℕ) (p : Option ℕ) (ran : Bool) → IsLike h n c s.world → IsLike h n c (look s d p ran).state.world
+  unfolding look
+  like_look s d p ran i =
+      keeps_if (λ (r : Stepped). IsLike h n c r.state.world) (is_ejected s) (builtin_cycle s d p ran) (seek s d p ran) (like_builtin_cycle s d p ran i) (like_seek s d p ran i)
+
+  -- a whole cycle
+  pub like_cycle : (s : State) (d : ℕ) (p : Option ℕ) (ran : Bool) → IsLike h n c s.world → IsLike h n c (cycle s d p ran).state.world
+  unfolding cycle
+  like_cycle s d p ran i = let x = like_look (cycling s (Some d)) d p ran (i.0, i.1, i.2) in (x.0, x.1, x.2)
+
+  -- ---- init and enable
+
+  same_ok : (a b : State) → ◌≡◌ {A = Result State ℤ} (Ok a) (Ok b) → a ≡ b
+  same_ok a b e = cc
+
+  same_some : (a b : State) → Some a ≡ Some b → a ≡ b
+  same_some a b e = cc
+
+  like_initialized : (s t : State) → after_init s ≡ Ok t → IsLike h n c s.world → IsLike h n c t.world
+  unfolding after_init
+  like_initialized s t e i = go (bad_answer (init_ending s).outside.call.fault (init_ending s).answer) e
+    where
+      after : IsLike h n c (after_callback s.policy (init_ending s)).world
+      after = like_called (acting s callback.Init) callback.Init no_arguments s.maps (at_callback s.world callback.Init 0 0) i
+
+      go : (o : Option ℤ) → ok_unless o (after_callback s.policy (init_ending s)) ≡ Ok t → IsLike h n c t.world
+      go None e = subst (λ (x : State). IsLike h n c x.world) (same_ok _ _ e) after
+      go (Some k) e = absurd (cc)
+
+  like_enabled_one : (s t : State) (k : ℕ) → enable s k ≡ Some t → IsLike h n c s.world → IsLike h n c t.world
+  unfolding enable
+  like_enabled_one s t k e i = go (has_failed (enable_ending s k)) e
+    where
+      after : IsLike h n c (after_callback s.policy (enable_ending s k)).world
+      after = like_called (acting s callback.Enable) callback.Enable (one_task k) s.maps (at_callback s.world callback.Enable k 0) i
+
+      go : (b : Bool) → cond b None (Some (after_callback s.policy (enable_ending s k))) ≡ Some t → IsLike h n c t.world
+      go true e = absurd (cc)
+      go false e = subst (λ (x : State). IsLike h n c x.world) (same_some _ _ e) after
+
+  like_enabled : (m : ℕ) (s t : State) → after_enables m s ≡ Some t → IsLike h n c s.world → IsLike h n c t.world
+  like_enabled zero s t e i = subst (λ (x : State). IsLike h n c x.world) (same_some _ _ e) i
+  like_enabled (suc m) s t e i = go (after_enables m s) (λ u x. like_enabled m s u x i) e
+    where
+      go : (o : Option State) → ((u : State) → o ≡ Some u → IsLike h n c u.world) → then_enable o m ≡ Some t → IsLike h n c t.world
+      go None f e = absurd (cc)
+      go (Some u) f e = like_enabled_one u t m e (f u refl)
+
+  like_all : (r : Result State ℤ) (t : State) → all_enabled r ≡ Ok t → ((s : State) → r ≡ Ok s → IsLike h n c s.world) → IsLike h n c t.world
+  like_all (Err k) t e f = absurd (cc)
+  like_all (Ok s) t e f = go (after_enables (length s.world.tasks) s) refl e
+    where
+      go : (o : Option State) → after_enables (length s.world.tasks) s ≡ o → ok_if o ≡ Ok t → IsLike h n c t.world
+      go None x e = absurd (cc)
+      go (Some u) x e = subst (λ (y : State). IsLike h n c y.world) (same_ok _ _ e) (like_enabled (length s.world.tasks) s u x (f s refl))
+
+-- the first world has such a tree, and a task and a processor for each
+pub like_first : (p : PolicyState) (h : Hierarchy) (cpus : ℕ) (t : State) → first_state p h cpus ≡ Ok t → IsLike h (length h.homes) cpus t.world
+like_first p h cpus t e =
+    like_all h (length h.homes) cpus (after_init (blank p h cpus)) t e
+    (λ s x. like_initialized h (length h.homes) cpus (blank p h cpus) s x ((refl, refl, refl), length-replicate (length h.homes) _, length-replicate {A = Option ℕ} cpus None))

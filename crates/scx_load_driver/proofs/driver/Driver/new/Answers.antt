@@ -1,0 +1,23 @@
+use Rattle.std.proofs.Common.{◌≡◌, ◌≤◌, length, sym, ap, ◌∙◌, subst, arith}
+use Rattle.std.proofs.lemmas.List.{length-map}
+use Rattle.scx_load_workloads.specs.declared.workload.Timing.{Timing}
+use Rattle.scx_load_workloads.specs.Workload.{max_ms, timing_at}
+use Rattle.scx_load_driver.proofs.driver.Driver.new.Goals as goal
+
+pub invariant_of-result : goal.invariant_of-result
+invariant_of-result c =
+    let w = c.args.workload.now in
+    let whole = c.is_whole.ensures in
+    let timings : c.in_ok-timings.timings.items ≡ w.timings = c.in_ok-timings.ensures.items ∙ c.timings.ensures in
+    let changes : c.in_ok-from_slice.field-0.items ≡ w.changes = c.in_ok-from_slice.ensures.items ∙ c.changes.ensures in
+    record {
+      room = omega (arith, c.in_ok-with_capacity.ensures.exact);
+      taken = omega arith;
+      few_cpus = omega (arith, c.cpus.ensures, whole.few_cpus);
+      few_tasks = omega (arith, ap length timings, whole.timed, whole.few_tasks);
+      few_changes = omega (arith, ap length changes, whole.few_changes);
+      due = ap length c.in_ok-due.ensures ∙ length-map c.timings-2.result.now (λ (t : Timing). t.start) ∙ ap length (c.timings-2.ensures ∙ sym timings);
+      ran = omega (arith, c.in_ok-ran.ran.ok.0, c.in_ok-ran.ensures.len, c.len.ensures, c.in_ok-timings.timings.ok.0);
+      times = omega (arith, c.ms.ensures, whole.few_ms);
+      sleeps = λ t l. subst (λ xs. (timing_at xs t).sleep ≤ max_ms) (sym timings) (whole.timings t (omega (arith, l, ap length timings))).sleep;
+    }

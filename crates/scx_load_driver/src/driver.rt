@@ -1,0 +1,216 @@
+ghost use Rattle.std.specs.Prelude.{◌≡◌, ◌≤◌, ◌<◌, ◌∷◌, [], not, map, true, false, IfOk, IfSome, IfNone};
+ghost use Rattle.scx_sched.specs.Sim.{SimState, after_event};
+ghost use Rattle.scx_load_workloads.specs.declared.workload.Timing.{Timing};
+ghost use Rattle.scx_load_driver.specs.Events.{workload_events};
+
+use crate::blocks::{add_changes, add_sleeps, add_ticks, add_wakes};
+use scx_load_workloads::{Change, Timing, Workload};
+use scx_sched::{Event, Sim};
+use std::alloc::{AllocError, Global};
+use std::marker::Model;
+
+/// A block of the events of a millisecond.
+#[derive(Clone, Copy, PartialEq, Eq)]
+pub enum Phase {
+    Changes,
+    Wakes,
+    Ticks,
+    Sleeps,
+    Clock,
+}
+
+/// How many events a block has at most.
+const MAX_BLOCK: usize = 1024;
+
+/// The events of a workload, one after another.
+///
+/// In a contract it is the events of the block at hand that are still to come, the blocks behind it, and
+/// what is remembered of tasks.
+#[derive(Drop)]
+pub struct Driver {
+    cpus: u32,
+    timings: Vec<Timing>,
+    changes: Vec<Change>,
+    /// The block that comes next, in the millisecond `clock`.
+    phase: Phase,
+    clock: u32,
+    /// How many milliseconds haven't begun.
+    left: u32,
+    /// When each task wakes.
+    due: Vec<u32>,
+    /// How long each task had run when it woke last, in nanoseconds.
+    ran: Vec<u64>,
+    /// The events of the block at hand.
+    events: Vec<Event>,
+    /// How many of them were answered.
+    taken: usize,
+}
+
+impl Model for Driver {
+    ghost use Rattle.scx_load_driver.specs.Driver.{DriverState, state_of, IsKept};
+
+    ghost Value = { DriverState };
+
+    ghost view = { state_of };
+
+    ghost invariant = { IsKept };
+}
+
+impl Driver {
+    ghost use Rattle.scx_load_driver.specs.Driver.{remaining, is_empty, with_pending, at_next_block, phase_number, next_number};
+
+    /// All events of the workload are still to come, for a machine in any state. All memory is taken
+    /// here.
+    pub fn new(alloc: Global, workload: &Workload) -> Result<Driver, AllocError>
+        ensures { IfOk result
+            (λ driver. (s : SimState) → remaining driver s ≡ workload_events workload.now s) }
+    {
+        workload.is_whole();
+        let timings = Vec::from_slice(alloc, workload.timings())?;
+        let due = starts(alloc, workload.timings())?;
+        let ran = vec![in alloc; 0; timings.len()]?;
+        Ok(Driver {
+            cpus: workload.cpus(),
+            timings,
+            changes: Vec::from_slice(alloc, workload.changes())?,
+            phase: Phase::Changes,
+            clock: 0,
+            left: workload.ms(),
+            due,
+            ran,
+            events: Vec::with_capacity(alloc, MAX_BLOCK)?,
+            taken: 0,
+        })
+    }
+
+    /// The event that comes next, for a machine that took exactly the events before it; none at the end.
+    #[tactic(auto, using(crate::proofs::Remaining::remaining_taken, crate::proofs::Remaining::remaining_end))]
+    pub fn next(&mut self, sim: &Sim) -> Option<Event>
+        ensures next { IfSome result
+            (λ event. remaining self.old sim.now
+            ≡ event ∷ remaining self.new (after_event sim.now event)) }
+        ensures end { IfNone result (remaining self.old sim.now ≡ []) }
+        ensures over { IfNone result (remaining self.new sim.now ≡ []) }
+    {
+        self.begin(sim);
+        if self.is_spent() {
+            None
+        } else {
+            Some(self.take())
+        }
+    }
+
+    /// Whether all events of the block at hand were answered.
+    fn is_spent(&self) -> bool
+        ensures { result ≡ is_empty self.now.pending }
+    {
+        self.taken == self.events.len()
+    }
+
+    /// The next event of the block at hand.
+    fn take(&mut self) -> Event
+        requires { is_empty self.old.pending ≡ false }
+        ensures { self.old ≡ with_pending self.new (result ∷ self.new.pending) }
+    {
+        let event = self.events[self.taken];
+        self.taken += 1;
+        event
+    }
+
+    /// Whether a block comes next.
+    #[tactic(auto, using(crate::proofs::Remaining::some_blocks))]
+    fn has_block(&self) -> bool
+        ensures { result ≡ not (is_empty self.now.blocks) }
+    {
+        match self.phase {
+            Phase::Changes => 0 < self.left,
+            Phase::Wakes | Phase::Ticks | Phase::Sleeps | Phase::Clock => true,
+        }
+    }
+
+    /// Blocks begin, one after another, until there is an event to answer.
+    fn begin(&mut self, sim: &Sim)
+        ensures same { remaining self.new sim.now ≡ remaining self.old sim.now }
+        ensures over { is_empty self.new.pending ≡ true → is_empty self.new.blocks ≡ true }
+    {
+        if self.is_spent() {
+            self.begin_blocks(sim);
+        }
+    }
+
+    /// Each block has its turn once.
+    #[tactic(auto, using(crate::proofs::Remaining::past_last))]
+    fn begin_blocks(&mut self, sim: &Sim)
+        ensures same { remaining self.new sim.now ≡ remaining self.old sim.now }
+        ensures over { is_empty self.new.pending ≡ true → is_empty self.new.blocks ≡ true }
+    {
+        self.begin_at(Phase::Changes, sim);
+        self.begin_at(Phase::Wakes, sim);
+        self.begin_at(Phase::Ticks, sim);
+        self.begin_at(Phase::Sleeps, sim);
+        self.begin_at(Phase::Clock, sim);
+    }
+
+    /// That block begins, if it comes next and all events before it were answered.
+    #[inline(always)]
+    #[tactic(auto, using(crate::proofs::Remaining::remaining_begun))]
+    fn begin_at(&mut self, phase: Phase, sim: &Sim)
+        requires turn { is_empty self.old.pending ≡ true
+            → phase_number phase ≤ next_number self.old.blocks }
+        ensures same { remaining self.new sim.now ≡ remaining self.old sim.now }
+        ensures past { is_empty self.new.pending ≡ true
+            → phase_number phase < next_number self.new.blocks }
+    {
+        if self.phase == phase && self.is_spent() && self.has_block() {
+            self.begin_block(sim);
+        }
+    }
+
+    /// The next block begins.
+    #[inline(always)]
+    #[tactic(auto, using(crate::proofs::Remaining::begun_changes))]
+    fn begin_block(&mut self, sim: &Sim)
+        requires { not (is_empty self.old.blocks) ≡ true }
+        ensures { self.new ≡ at_next_block self.old sim.now }
+    {
+        let now = self.clock;
+        self.events.clear();
+        self.taken = 0;
+        let events = &mut self.events;
+        match self.phase {
+            Phase::Changes => {
+                add_changes(&self.changes, now, events);
+                self.left -= 1;
+                self.phase = Phase::Wakes;
+            }
+            Phase::Wakes => {
+                add_wakes(&self.due, &mut self.ran, now, sim, events);
+                self.phase = Phase::Ticks;
+            }
+            Phase::Ticks => {
+                add_ticks(self.cpus, events);
+                self.phase = Phase::Sleeps;
+            }
+            Phase::Sleeps => {
+                add_sleeps(&self.timings, &mut self.due, &self.ran, now, sim, events);
+                self.phase = Phase::Clock;
+            }
+            Phase::Clock => {
+                events.push_reserved(Event::Clock);
+                self.clock += 1;
+                self.phase = Phase::Changes;
+            }
+        }
+    }
+}
+
+/// When each task wakes first.
+fn starts(alloc: Global, timings: &[Timing]) -> Result<Vec<u32>, AllocError>
+    ensures { IfOk result (λ due. due.items ≡ map (λ (t : Timing). t.start) timings.now) }
+{
+    let mut due = Vec::with_capacity(alloc, timings.len())?;
+    for timing in timings {
+        due.push_reserved(timing.start);
+    }
+    Ok(due)
+}

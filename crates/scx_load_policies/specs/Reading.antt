@@ -1,0 +1,73 @@
+-- The reading of a policy file: unknown keys first, wherever they stand; then the name, the
+-- timeout, the maps, the programs in `code` and those in `slots`.
+use Rattle.std.specs.Prelude.{ℕ, ⊤, List, [], ◌∷◌, ◌++◌, codes, Ok}
+use Rattle.toml.specs.Data.{Members, no_members}
+use Rattle.scx_load_files.specs.declared.section.Limits.{Limits}
+use Rattle.scx_isa_semantics.specs.Results.{◌>>=◌}
+use Rattle.scx_load_files.specs.Faults.{Reading}
+use Rattle.scx_load_files.specs.Values.{document, optional, table_of, name_of, integer_of}
+use Rattle.scx_load_files.specs.Unknown.{known_alone, unknown, unknown_in, unknown_in_each}
+use Rattle.scx_isa_semantics.specs.Callbacks.{none}
+use Rattle.scx_load_policies.specs.Policies.{PolicyFile, Programs, callback_keys}
+use Rattle.scx_load_policies.specs.Maps.{maps}
+use Rattle.scx_load_policies.specs.Programs.{with_code, with_slots}
+
+-- the keys that the table of a whole file may have
+abbrev pub file_keys : List (List ℕ)
+file_keys = codes "name" ∷ codes "timeout_ms" ∷ codes "map" ∷ codes "code" ∷ codes "slots" ∷ []
+
+-- the keys that an element of the array `map` may have
+abbrev pub map_keys : List (List ℕ)
+map_keys = codes "entries" ∷ codes "value_size" ∷ []
+
+-- the paths of all unknown keys of a file
+abbrev pub unknown_keys : Members → List (List ℕ)
+unknown_keys ms =
+    unknown file_keys [] ms
+    ++ unknown_in_each map_keys [] (codes "map") ms
+    ++ unknown_in callback_keys [] (codes "code") ms
+    ++ unknown_in callback_keys [] (codes "slots") ms
+
+-- how many milliseconds a task may wait at most, 1 to 30000
+abbrev pub timeout_limits : Limits
+timeout_limits = record { least = 1; most = 30000 }
+
+-- the name, which may be absent and has no use
+abbrev pub checked_name : Members → Reading ⊤
+checked_name ms = optional name_of [] [] (codes "name") ms >>= λ name. Ok tt
+
+-- the table at a key; where it is absent, one without keys
+abbrev pub table_in : List ℕ → Members → Reading Members
+table_in key ms = optional table_of no_members [] key ms
+
+-- these programs, and those of the table `slots`
+abbrev pub with_slots_in : Members → Programs → Reading Programs
+with_slots_in ms programs = table_in (codes "slots") ms >>= λ slots. with_slots slots programs
+
+-- these programs, and those of both tables
+abbrev pub programs_with : Members → Programs → Reading Programs
+programs_with ms before = do
+  code ← table_in (codes "code") ms
+  programs ← with_code code before
+  with_slots_in ms programs
+
+-- the programs of both tables
+abbrev pub programs_in : Members → Reading Programs
+programs_in ms = programs_with ms none
+
+-- what the known keys of a file say
+abbrev pub policy_in : Members → Reading PolicyFile
+policy_in ms = do
+  name ← checked_name ms
+  timeout ← optional (integer_of timeout_limits) 30000 [] (codes "timeout_ms") ms
+  shapes ← maps ms
+  programs ← programs_in ms
+  Ok (record { shapes = shapes; timeout_ms = timeout; programs = programs })
+
+-- what the table of a file says; an unknown key is refused before any other fault
+abbrev pub policy_file : Members → Reading PolicyFile
+policy_file ms = known_alone (unknown_keys ms) >>= λ known. policy_in ms
+
+-- the policy file that a text is
+abbrev pub policy_text : List ℕ → Reading PolicyFile
+policy_text text = document text >>= policy_file

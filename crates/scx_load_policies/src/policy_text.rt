@@ -1,0 +1,84 @@
+ghost use Rattle.std.specs.Prelude.{◌≡◌, map};
+ghost use Rattle.scx_sched_machine.specs.Policy.{IsTimeout};
+ghost use Rattle.scx_load_policies.specs.Policies.{callback_name, callback_keys, program_of, without};
+
+use scx_isa::{CALLBACKS, Callback, PerCallback, Program};
+use scx_maps::MapDefs;
+use std::marker::Model;
+
+/// The programs of a policy file. Each may be absent.
+pub type Programs = PerCallback<Option<Program>>;
+
+/// What a policy file says, which `read_policy` alone makes.
+#[derive(Drop)]
+pub struct PolicyText {
+    pub(crate) defs: MapDefs,
+    pub(crate) timeout_ms: u32,
+    pub(crate) programs: Programs,
+}
+
+impl Model for PolicyText {
+    ghost use Rattle.scx_sched_machine.specs.Policy.{IsTimeout};
+    ghost use Rattle.scx_load_policies.specs.Policies.{PolicyFile};
+
+    ghost Value = { PolicyFile };
+
+    ghost view = { λ p. record { shapes = p.defs; timeout_ms = p.timeout_ms; programs = p.programs } };
+
+    ghost invariant = { λ p. IsTimeout p.timeout_ms };
+}
+
+impl PolicyText {
+    /// The shapes of its maps.
+    pub fn defs(&self) -> &MapDefs
+        ensures { result.now ≡ self.now.shapes }
+    {
+        &self.defs
+    }
+
+    /// How long a task may wait, in milliseconds.
+    pub fn timeout_ms(&self) -> u32
+        ensures value { result ≡ self.now.timeout_ms }
+        ensures limits { IsTimeout result }
+    {
+        self.timeout_ms
+    }
+
+    /// Its programs.
+    pub fn into_programs(self) -> Programs
+        ensures { result ≡ self.programs }
+    {
+        self.programs
+    }
+
+    /// Takes the program of a callback out; `None` where there is none, or no more.
+    pub fn take(&mut self, callback: Callback) -> Option<Program>
+        ensures program { result ≡ program_of self.old callback }
+        ensures rest { self.new ≡ without self.old callback }
+    {
+        self.programs.take(callback)
+    }
+}
+
+/// The key of a callback in a policy file, which also names it in a refusal.
+pub fn callback_name(callback: Callback) -> &'static str
+    ensures { result.now ≡ callback_name callback }
+{
+    match callback {
+        Callback::Plain => "plain",
+        Callback::Init => "init",
+        Callback::Enable => "enable",
+        Callback::SelectCpu => "select_cpu",
+        Callback::Enqueue => "enqueue",
+        Callback::Dispatch => "dispatch",
+        Callback::Running => "running",
+        Callback::Stopping => "stopping",
+    }
+}
+
+/// The keys of all callbacks.
+pub(crate) fn callback_keys() -> [&'static str; 7]
+    ensures { map (λ key. key.now) result ≡ callback_keys }
+{
+    CALLBACKS.map(callback_name)
+}

@@ -1,0 +1,10 @@
+use Rattle.std.proofs.Common.{◌≡◌, drop, length}
+use Rattle.toml.specs.View.{items_view}
+use Rattle.scx_load_workloads.specs.Reading.{fold_from, task_at, no_tasks}
+use Rattle.scx_load_workloads.proofs.tasks.Tasks.push_all.Given as goal
+
+abbrev pub invariant-loop-number : goal.invariant-loop-number
+invariant-loop-number l = record {
+  tasks : fold_from (task_at l.fn.groups) l.self l.number (items_view (drop l.number l.values)) ≡ fold_from (task_at l.fn.groups) no_tasks 0 (items_view l.values);
+  count : length l.self.homes ≡ l.number;
+}

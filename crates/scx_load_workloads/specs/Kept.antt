@@ -1,0 +1,50 @@
+-- What the fields of a workload, and of its parts as they are read, mean.
+use Rattle.std.specs.Prelude.{◌≡◌, ℕ, ◌<◌, ◌≤◌, List, String, length, map, string_bytes}
+use Rattle.std.specs.declared.alloc.Global.{Global}
+use Rattle.scx_load_workloads.specs.declared.workload.Workload.TheInside.{Inside}
+use Rattle.scx_load_workloads.specs.declared.groups.Groups.TheInside.{Inside as InsideGroups}
+use Rattle.scx_load_workloads.specs.declared.tasks.Tasks.TheInside.{Inside as InsideTasks}
+use Rattle.scx_load_workloads.specs.Workload.{WorkloadState, IsTiming, timing_at}
+use Rattle.scx_load_workloads.specs.Reading.{GroupList, TaskList}
+
+-- the bytes of each of some names
+abbrev pub texts : List (String Global) → List (List ℕ)
+texts names = map (λ name. string_bytes name) names
+
+-- the workload that the fields of a `Workload` stand for
+abbrev pub state_of : Inside → WorkloadState
+state_of w = record {
+  cpus = w.cpus;
+  ms = w.ms;
+  groups = w.groups.items;
+  group_names = texts w.group_names.items;
+  homes = w.homes.items;
+  task_names = texts w.task_names.items;
+  timings = w.timings.items;
+  changes = w.changes.items;
+}
+
+-- ---- as they are read
+
+-- the groups, with their names, that the fields of a `Groups` stand for
+abbrev pub groups_of : InsideGroups → GroupList
+groups_of g = record { names = texts g.names.items; groups = g.groups.items }
+
+-- what holds of groups as they are read: each has a name, and there are 256 at most
+pub record AreGroups (g : InsideGroups) : Type 0 where
+  pub even : length g.names.items ≡ length g.groups.items
+  pub few : length g.groups.items ≤ 256
+
+-- the tasks, with their names, that the fields of a `Tasks` stand for
+abbrev pub tasks_of : InsideTasks → TaskList
+tasks_of t = record {
+  names = texts t.names.items;
+  homes = t.homes.items;
+  timings = t.timings.items;
+}
+
+-- what holds of tasks as they are read: each has a name, and times that are in their limits
+pub record AreTasks (t : InsideTasks) : Type 0 where
+  pub named : length t.names.items ≡ length t.homes.items
+  pub timed : length t.timings.items ≡ length t.homes.items
+  pub times : (k : ℕ) → k < length t.timings.items → IsTiming (timing_at t.timings.items k)

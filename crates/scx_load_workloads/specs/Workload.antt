@@ -1,0 +1,57 @@
+-- A workload: its groups and tasks, and what happens to them as time goes.
+use Rattle.std.specs.Prelude.{◌≡◌, ℕ, ◌<◌, ◌≤◌, List, length, None, slice_index_or}
+use Rattle.scx_weights.specs.declared.group.Group.{Group}
+use Rattle.scx_weights.specs.Refusals.{first_fault}
+use Rattle.scx_load_workloads.specs.declared.workload.Timing.{Timing}
+use Rattle.scx_load_workloads.specs.declared.workload.Change.{Change}
+
+-- the most milliseconds of a workload, and of each time of a task
+abbrev pub max_ms : ℕ
+max_ms = 1000000
+
+-- what a workload file says: processors, milliseconds, groups, tasks, and changes of weights
+pub record WorkloadState : Type 0 where
+  pub cpus : ℕ
+  pub ms : ℕ
+  pub groups : List Group
+  pub group_names : List (List ℕ)
+  pub homes : List ℕ  -- the group of each task
+  pub task_names : List (List ℕ)
+  pub timings : List Timing  -- of each task
+  pub changes : List Change
+
+-- when the task of that number works; all times are 0 where there is none
+abbrev pub timing_at : List Timing → ℕ → Timing
+timing_at timings t = slice_index_or timings t (record { start = 0; run = 0; sleep = 0 })
+
+-- the change of that number in the order of the file; all of it is 0 where there is none
+abbrev pub change_at : List Change → ℕ → Change
+change_at changes i = slice_index_or changes i (record { at = 0; group = 0; weight = 0 })
+
+-- no time of a task exceeds the most milliseconds of a workload
+pub record IsTiming (t : Timing) : Type 0 where
+  pub start : t.start ≤ max_ms
+  pub run : t.run ≤ max_ms
+  pub sleep : t.sleep ≤ max_ms
+
+-- a change of a weight of one of so many groups
+pub record IsChange (groups : ℕ) (c : Change) : Type 0 where
+  pub group : c.group < groups
+  pub least : 1 ≤ c.weight
+  pub greatest : c.weight ≤ 10000
+
+-- what holds of every workload: its numbers and lists are in their limits, its groups make a tree
+pub record IsWorkload (w : WorkloadState) : Type 0 where
+  pub some_cpus : 1 ≤ w.cpus
+  pub few_cpus : w.cpus ≤ 64
+  pub some_ms : 1 ≤ w.ms
+  pub few_ms : w.ms ≤ max_ms
+  pub tree : first_fault w.groups w.homes ≡ None
+  pub some_tasks : 1 ≤ length w.homes
+  pub few_tasks : length w.homes ≤ 1024
+  pub named_groups : length w.group_names ≡ length w.groups
+  pub named_tasks : length w.task_names ≡ length w.homes
+  pub timed : length w.timings ≡ length w.homes
+  pub few_changes : length w.changes ≤ 1024
+  pub timings : (t : ℕ) → t < length w.timings → IsTiming (timing_at w.timings t)
+  pub changes : (i : ℕ) → i < length w.changes → IsChange (length w.groups) (change_at w.changes i)

@@ -1,0 +1,156 @@
+ghost use Rattle.std.specs.Prelude.{◌≡◌, ℕ, ◌<◌, ◌≤◌, [], length, IfOk};
+ghost use Rattle.toml.specs.View.{view, table_view, items_view};
+ghost use Rattle.scx_load_files.specs.Faults.{Gives};
+ghost use Rattle.scx_load_files.specs.Unknown.{known_alone};
+ghost use Rattle.scx_load_workloads.specs.Workload.{IsChange, change_at};
+ghost use Rattle.scx_load_workloads.specs.Reading.{unknown_keys, workload_in, workload_file, workload_of, changes_in, change_from, with_change, fold_from};
+
+use crate::elements::{elements, integer};
+use crate::groups::{Groups, WEIGHT};
+use crate::tasks::{TIME, Tasks};
+use crate::workload::{Change, MAX_CHANGES, MAX_CPUS, MAX_MS, Workload};
+use scx_load_files::{Limits, LoadError, Section, Unknown, element_path, read_document};
+use std::alloc::Global;
+use toml::Value;
+
+const CPUS: Limits = Limits {
+    least: 1,
+    most: MAX_CPUS,
+};
+
+const LENGTH: Limits = Limits {
+    least: 1,
+    most: MAX_MS,
+};
+
+/// Reads a workload file, or names its first fault.
+///
+/// Unknown keys are faults before all others, the least path by bytes first. Then the order is `cpus`,
+/// `ms`, the groups, the tasks, the changes; of each array its type and count, then its elements one by
+/// one.
+pub fn read_workload(alloc: Global, text: &str) -> Result<Workload, LoadError>
+    ensures { Gives (λ workload. workload) result (workload_of text.now) }
+{
+    let table = read_document(alloc, text)?;
+    let workload = read_table(alloc, Section::whole(&table));
+    drop(table);
+    workload
+}
+
+/// Reads the table of a file.
+fn read_table(alloc: Global, file: Section<'_>) -> Result<Workload, LoadError>
+    requires { file.path.now ≡ [] }
+    ensures { Gives (λ workload. workload) result
+        (workload_file (table_view file.entry.table.now)) }
+{
+    check_keys(alloc, file)?;
+    read_file(alloc, file)
+}
+
+/// Refuses the unknown key of the least path.
+fn check_keys(alloc: Global, file: Section<'_>) -> Result<(), LoadError>
+    requires { file.path.now ≡ [] }
+    ensures { Gives (λ t. t) result (known_alone (unknown_keys (table_view file.entry.table.now))) }
+{
+    let unknown = Unknown::none()
+        .in_section(alloc, file, &["cpus", "ms", "group", "task", "change"])?
+        .below_each(
+            alloc,
+            file,
+            "group",
+            &["name", "weight", "parent", "cpu_max"],
+        )?
+        .below_each(
+            alloc,
+            file,
+            "task",
+            &["name", "group", "start", "run", "sleep"],
+        )?
+        .below_each(alloc, file, "change", &["at", "group", "weight"])?;
+    unknown.refuse()
+}
+
+/// What the known keys of a file say.
+#[tactic(auto, using(crate::proofs::Forest::tree_is_right))]
+fn read_file(alloc: Global, file: Section<'_>) -> Result<Workload, LoadError>
+    requires { file.path.now ≡ [] }
+    ensures { Gives (λ workload. workload) result (workload_in (table_view file.entry.table.now)) }
+{
+    let cpus = integer(alloc, file, "cpus", CPUS)?;
+    let ms = integer(alloc, file, "ms", LENGTH)?;
+    let groups = Groups::read(alloc, file)?;
+    match Tasks::read(alloc, file, &groups) {
+        Ok(tasks) => match read_changes(alloc, file, &groups) {
+            Ok(changes) => {
+                let (groups, group_names) = groups.into_parts();
+                let (homes, task_names, timings) = tasks.into_parts();
+                Ok(Workload {
+                    cpus,
+                    ms,
+                    groups,
+                    group_names,
+                    homes,
+                    task_names,
+                    timings,
+                    changes,
+                })
+            }
+            Err(error) => {
+                drop(groups);
+                drop(tasks);
+                Err(error)
+            }
+        },
+        Err(error) => {
+            drop(groups);
+            Err(error)
+        }
+    }
+}
+
+fn read_changes(alloc: Global, file: Section<'_>, groups: &Groups) -> Result<Vec<Change>, LoadError>
+    requires { file.path.now ≡ [] }
+    ensures changes { Gives (λ changes. changes.items) result
+        (changes_in groups.now (table_view file.entry.table.now)) }
+    ensures few { IfOk result (λ changes. length changes.items ≤ MAX_CHANGES) }
+    ensures valid { IfOk result
+        (λ changes. (i : ℕ) → i < length changes.items
+        → IsChange (length groups.now.groups) (change_at changes.items i)) }
+{
+    let values = elements(alloc, file, "change", MAX_CHANGES)?;
+    read_all(alloc, values, groups)
+}
+
+#[tactic(auto, using(crate::proofs::Each::goes_on, crate::proofs::Each::ends, crate::proofs::Each::is_done, crate::proofs::Values::changes_more))]
+fn read_all(alloc: Global, values: &[Value], groups: &Groups) -> Result<Vec<Change>, LoadError>
+    ensures changes { Gives (λ changes. changes.items) result
+        (fold_from (with_change groups.now) [] 0 (items_view values.now)) }
+    ensures count { IfOk result (λ changes. length changes.items ≡ length values.now) }
+    ensures valid { IfOk result
+        (λ changes. (i : ℕ) → i < length changes.items
+        → IsChange (length groups.now.groups) (change_at changes.items i)) }
+{
+    let mut changes = Vec::with_capacity(alloc, values.len())?;
+    for (number, value) in values.iter().enumerate() {
+        changes.push(read_change(alloc, groups, number, value)?)?;
+    }
+    Ok(changes)
+}
+
+fn read_change(
+    alloc: Global,
+    groups: &Groups,
+    number: usize,
+    value: &Value,
+) -> Result<Change, LoadError>
+    ensures change { Gives (λ change. change) result
+        (change_from groups.now number (view value.now)) }
+    ensures valid { IfOk result (IsChange (length groups.now.groups)) }
+{
+    let path = element_path(alloc, "change", number)?;
+    let section = Section::of(alloc, &path, value)?;
+    let at = integer(alloc, section, "at", TIME)?;
+    let group = groups.named(alloc, section)?;
+    let weight = integer(alloc, section, "weight", WEIGHT)?;
+    Ok(Change { at, group, weight })
+}

@@ -1,0 +1,183 @@
+//! The tasks of a workload file.
+ghost use Rattle.std.specs.Prelude.{◌≡◌, ℕ, ◌+◌, ◌<◌, ◌≤◌, ◌++◌, ◌∷◌, [], length, IfOk, OnOk, IfErr};
+ghost use Rattle.toml.specs.View.{view, table_view, items_view};
+ghost use Rattle.scx_load_files.specs.declared.fault.LoadError.TheVariants.{NoMemory};
+ghost use Rattle.scx_load_files.specs.Faults.{Gives};
+ghost use Rattle.scx_load_workloads.specs.Workload.{IsTiming, timing_at};
+ghost use Rattle.scx_load_workloads.specs.Reading.{timing_in, fold_from};
+ghost use Rattle.scx_load_workloads.specs.Kept.{texts};
+
+use crate::elements::{integer_or, some_elements};
+use crate::groups::{Groups, new_name};
+use crate::workload::{MAX_MS, Timing};
+use scx_load_files::{Limits, LoadError, Section, element_path};
+use scx_weights::MAX_TASKS;
+use std::alloc::Global;
+use std::marker::Model;
+use toml::Value;
+
+/// Times, in milliseconds.
+pub(crate) const TIME: Limits = Limits {
+    least: 0,
+    most: MAX_MS,
+};
+
+/// The tasks that were read so far.
+#[derive(Drop)]
+pub struct Tasks {
+    pub(crate) names: Vec<String>,
+    pub(crate) homes: Vec<u32>,
+    pub(crate) timings: Vec<Timing>,
+}
+
+impl Model for Tasks {
+    ghost use Rattle.scx_load_workloads.specs.Reading.{TaskList};
+    ghost use Rattle.scx_load_workloads.specs.Kept.{tasks_of, AreTasks};
+
+    ghost Value = { TaskList };
+
+    ghost view = { tasks_of };
+
+    ghost invariant = { AreTasks };
+}
+
+impl Tasks {
+    ghost use Rattle.scx_load_workloads.specs.Reading.{no_tasks, tasks_in, task_at, with_task};
+
+    /// The tasks of a file.
+    pub(crate) fn read(
+        alloc: Global,
+        file: Section<'_>,
+        groups: &Groups,
+    ) -> Result<Tasks, LoadError>
+        requires { file.path.now ≡ [] }
+        ensures tasks { Gives (λ t. t) result
+            (tasks_in groups.now (table_view file.entry.table.now)) }
+        ensures some { IfOk result (λ t. 1 ≤ length t.homes) }
+        ensures few { IfOk result (λ t. length t.homes ≤ 1024) }
+    {
+        let values = some_elements(alloc, file, "task", MAX_TASKS)?;
+        let mut tasks = Tasks::none(alloc);
+        match tasks.push_all(alloc, values, groups) {
+            Ok(()) => Ok(tasks),
+            Err(error) => {
+                drop(tasks);
+                Err(error)
+            }
+        }
+    }
+
+    /// Adds the tasks that elements say, behind none.
+    #[tactic(auto, using(crate::proofs::Each::goes_on, crate::proofs::Each::ends, crate::proofs::Each::is_done))]
+    fn push_all(
+        &mut self,
+        alloc: Global,
+        values: &[Value],
+        groups: &Groups,
+    ) -> Result<(), LoadError>
+        requires { self.old ≡ no_tasks }
+        ensures tasks { Gives (λ _. self.new) result
+            (fold_from (task_at groups.now) no_tasks 0 (items_view values.now)) }
+        ensures count { OnOk result (length self.new.homes ≡ length values.now) }
+    {
+        for (number, value) in values.iter().enumerate() {
+            self.push_element(alloc, groups, number, value)?;
+        }
+        Ok(())
+    }
+
+    fn none(alloc: Global) -> Tasks
+        ensures { result ≡ no_tasks }
+    {
+        Tasks {
+            names: Vec::new(alloc),
+            homes: Vec::new(alloc),
+            timings: Vec::new(alloc),
+        }
+    }
+
+    /// Adds the task that an element says.
+    fn push_element(
+        &mut self,
+        alloc: Global,
+        groups: &Groups,
+        number: usize,
+        value: &Value,
+    ) -> Result<(), LoadError>
+        ensures tasks { Gives (λ _. self.new) result
+            (task_at groups.now self.old number (view value.now)) }
+        ensures count { OnOk result (length self.new.homes ≡ length self.old.homes + 1) }
+    {
+        let path = element_path(alloc, "task", number)?;
+        let section = Section::of(alloc, &path, value)?;
+        self.push_section(alloc, groups, section)
+    }
+
+    fn push_section(
+        &mut self,
+        alloc: Global,
+        groups: &Groups,
+        section: Section<'_>,
+    ) -> Result<(), LoadError>
+        ensures tasks { Gives (λ _. self.new) result
+            (with_task groups.now self.old section.entry.path.now
+            (table_view section.entry.table.now)) }
+        ensures count { OnOk result (length self.new.homes ≡ length self.old.homes + 1) }
+    {
+        let name = new_name(alloc, &self.names, section)?;
+        let home = groups.leaf(alloc, section)?;
+        let timing = read_timing(alloc, section)?;
+        self.push(alloc, name, home, timing)
+    }
+
+    #[tactic(auto, using(crate::proofs::Values::timings_more))]
+    fn push(
+        &mut self,
+        alloc: Global,
+        name: &str,
+        home: u32,
+        timing: Timing,
+    ) -> Result<(), LoadError>
+        requires { IsTiming timing }
+        ensures tasks { OnOk result
+            (self.new
+            ≡ (record {
+              names = self.old.names ++ name.now ∷ [];
+              homes = self.old.homes ++ home
+                  ∷ [];
+              timings = self.old.timings ++ timing ∷ [];
+            })) }
+        ensures memory { IfErr result (λ e. e ≡ NoMemory) }
+    {
+        let name = String::from_str(alloc, name)?;
+        self.names.reserve(1)?;
+        self.homes.reserve(1)?;
+        self.timings.reserve(1)?;
+        self.names.push_reserved(name);
+        self.homes.push_reserved(home);
+        self.timings.push_reserved(timing);
+        Ok(())
+    }
+
+    pub(crate) fn into_parts(self) -> (Vec<u32>, Vec<String>, Vec<Timing>)
+        ensures homes { result.0.items ≡ self.homes }
+        ensures names { texts result.1.items ≡ self.names }
+        ensures timings { result.2.items ≡ self.timings }
+        ensures named { length self.names ≡ length self.homes }
+        ensures timed { length self.timings ≡ length self.homes }
+        ensures times { (t : ℕ) → t < length self.timings → IsTiming (timing_at self.timings t) }
+    {
+        (self.homes, self.names, self.timings)
+    }
+}
+
+fn read_timing(alloc: Global, section: Section<'_>) -> Result<Timing, LoadError>
+    ensures timing { Gives (λ t. t) result
+        (timing_in section.entry.path.now (table_view section.entry.table.now)) }
+    ensures times { IfOk result IsTiming }
+{
+    let start = integer_or(alloc, section, "start", TIME, 0)?;
+    let run = integer_or(alloc, section, "run", TIME, 0)?;
+    let sleep = integer_or(alloc, section, "sleep", TIME, 0)?;
+    Ok(Timing { start, run, sleep })
+}

@@ -1,0 +1,130 @@
+ghost use Rattle.std.specs.Prelude.{◌≡◌, ◌<◌, length, slice_index_or, []};
+
+use scx_weights::Group;
+use std::marker::Model;
+
+/// The most processors of a workload; the least is 1.
+pub const MAX_CPUS: u32 = 64;
+
+/// The most milliseconds, of a whole workload and of each time in it.
+pub const MAX_MS: u32 = 1_000_000;
+
+/// The most changes of weights in a workload.
+pub const MAX_CHANGES: usize = 1024;
+
+/// When a task works, in milliseconds, each at most `MAX_MS`.
+#[derive(Clone, Copy)]
+pub struct Timing {
+    /// When it wakes first.
+    pub start: u32,
+    /// How long it runs before it sleeps; 0 where it never does.
+    pub run: u32,
+    /// How long it sleeps.
+    pub sleep: u32,
+}
+
+/// A group has another weight from some millisecond on.
+#[derive(Clone, Copy)]
+pub struct Change {
+    pub at: u32,
+    pub group: u32,
+    pub weight: u32,
+}
+
+/// Groups, tasks in them, and what happens to them.
+///
+/// Groups and tasks go by their numbers in the file. In a contract a workload is its lists: names are
+/// lists of bytes.
+#[derive(Drop)]
+pub struct Workload {
+    pub(crate) cpus: u32,
+    pub(crate) ms: u32,
+    pub(crate) groups: Vec<Group>,
+    pub(crate) group_names: Vec<String>,
+    pub(crate) homes: Vec<u32>,
+    pub(crate) task_names: Vec<String>,
+    pub(crate) timings: Vec<Timing>,
+    pub(crate) changes: Vec<Change>,
+}
+
+impl Model for Workload {
+    ghost use Rattle.scx_load_workloads.specs.Workload.{WorkloadState, IsWorkload};
+    ghost use Rattle.scx_load_workloads.specs.Kept.{state_of};
+
+    ghost Value = { WorkloadState };
+
+    ghost view = { state_of };
+
+    ghost invariant = { λ w. IsWorkload (state_of w) };
+}
+
+impl Workload {
+    ghost use Rattle.scx_load_workloads.specs.Workload.{IsWorkload};
+
+    /// What holds of every workload. The function does nothing: its contract is the law.
+    pub fn is_whole(&self)
+        ensures { IsWorkload self.now }
+    {
+        let _cpus = self.cpus;
+    }
+
+    /// How many processors there are, 1 to 64.
+    pub fn cpus(&self) -> u32
+        ensures { result ≡ self.now.cpus }
+    {
+        let cpus = self.cpus;
+        cpus
+    }
+
+    /// How many milliseconds it lasts, 1 to 1,000,000.
+    pub fn ms(&self) -> u32
+        ensures { result ≡ self.now.ms }
+    {
+        let ms = self.ms;
+        ms
+    }
+
+    /// The groups, each with its weight at the start.
+    pub fn groups(&self) -> &[Group]
+        ensures { result.now ≡ self.now.groups }
+    {
+        &self.groups
+    }
+
+    /// The number of each task's group.
+    pub fn tasks(&self) -> &[u32]
+        ensures { result.now ≡ self.now.homes }
+    {
+        &self.homes
+    }
+
+    /// When each task runs and sleeps.
+    pub fn timings(&self) -> &[Timing]
+        ensures { result.now ≡ self.now.timings }
+    {
+        &self.timings
+    }
+
+    /// The changes of weights, in the order of the file.
+    pub fn changes(&self) -> &[Change]
+        ensures { result.now ≡ self.now.changes }
+    {
+        &self.changes
+    }
+
+    /// The name of a group.
+    pub fn group_name(&self, group: u32) -> &str
+        requires { group < length self.now.groups }
+        ensures { result.now ≡ slice_index_or self.now.group_names group [] }
+    {
+        self.group_names[group as usize].as_str()
+    }
+
+    /// The name of a task.
+    pub fn task_name(&self, task: u16) -> &str
+        requires { task < length self.now.homes }
+        ensures { result.now ≡ slice_index_or self.now.task_names task [] }
+    {
+        self.task_names[task as usize].as_str()
+    }
+}

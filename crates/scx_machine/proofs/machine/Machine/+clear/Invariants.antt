@@ -1,4 +1,0 @@
-use Rattle.scx_machine.proofs.machine.Machine.+clear.Given as goal
-
-abbrev pub decreases-clear : goal.decreases-clear
-decreases-clear g l = l.left

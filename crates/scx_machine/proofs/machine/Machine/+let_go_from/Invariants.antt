@@ -1,4 +1,0 @@
-use Rattle.scx_machine.proofs.machine.Machine.+let_go_from.Given as goal
-
-abbrev pub decreases-let_go_from : goal.decreases-let_go_from
-decreases-let_go_from g l = l.left

@@ -1,4 +1,0 @@
-use Rattle.scx_machine.proofs.machine.Machine.+tries.Given as goal
-
-abbrev pub decreases-tries : goal.decreases-tries
-decreases-tries g l = l.left

@@ -1,8 +1,0 @@
-use Rattle.scx_rules.proofs.Cycling.{cycles, only_cycles}
-use Rattle.scx_rules.proofs.laws.rules_allow_cycles.Goals as goal
-
-pub returns-clause-allowed : goal.returns-clause-allowed
-returns-clause-allowed c = cycles
-
-pub returns-clause-only : goal.returns-clause-only
-returns-clause-only c = only_cycles

@@ -1,0 +1,47 @@
+-- Tasks are enabled one after another.
+use Rattle.std.proofs.Common.{◌≡◌, ℕ, zero, suc, ◌+◌, ◌<◌, ◌≤◌, ◌⊎◌, ◌∙◌, inl, inr, ◌++◌, Some, None, refl, sym, arith, add-one, subst}
+use Rattle.std.proofs.lemmas.Bool.{cases_eq}
+use Rattle.scx_sched_machine.specs.Steps.{State}
+use Rattle.scx_sched_machine.specs.Callbacks.{AreAnswered}
+use Rattle.scx_sched_machine.specs.Start.{enable, then_enable, after_enables, enable_calls, calls_below}
+use Rattle.scx_sched_machine.proofs.Taking.{answered_append}
+
+-- one task more
+pub enabled_next : (n : ℕ) (s : State) → after_enables (n + 1) s ≡ then_enable (after_enables n s) n
+enabled_next n s = rw add-one refl
+
+-- where one has failed no more are enabled
+pub enabled_none : (n k : ℕ) (s : State) → k ≤ n → after_enables k s ≡ None → after_enables n s ≡ None
+enabled_none zero zero s l e = e
+enabled_none zero (suc k) s l e = absurd (omega (arith, l))
+enabled_none (suc n) k s l e = go (cases_eq k (suc n)) (λ d. enabled_none n k s (omega (arith, l, d)) e)
+  where
+    go : (k ≡ suc n) ⊎ (k ≡ suc n → ⊥) → ((k ≡ suc n → ⊥) → after_enables n s ≡ None) → then_enable (after_enables n s) n ≡ None
+    go (inl is) f = subst (λ m. after_enables m s ≡ None) is e
+    go (inr d) f = rw (f d) refl
+
+-- the next one fails
+pub enabled_fails : (n k : ℕ) (s t : State) → k < n → after_enables k s ≡ Some t → enable t k ≡ None → after_enables n s ≡ None
+enabled_fails n k s t l e f = enabled_none n (k + 1) s (omega (arith, l)) (enabled_next k s ∙ rw e f)
+
+-- ---- their callbacks are answered
+
+-- its call is answered where it is enabled
+pub answered_next : (n : ℕ) (s t : State) → after_enables n s ≡ Some t → AreAnswered (calls_below n s) → AreAnswered (enable_calls (Some t) n) → AreAnswered (calls_below (n + 1) s)
+answered_next n s t e before next = rw add-one (answered_append (calls_below n s) (enable_calls (after_enables n s) n) before (subst (λ o. AreAnswered (enable_calls o n)) (sym e) next))
+
+-- after one that failed no more are called
+pub answered_none : (n k : ℕ) (s : State) → k ≤ n → after_enables k s ≡ None → AreAnswered (calls_below k s) → AreAnswered (calls_below n s)
+answered_none zero zero s l e h = h
+answered_none zero (suc k) s l e h = absurd (omega (arith, l))
+answered_none (suc n) k s l e h = go (cases_eq k (suc n)) (λ d. answered_none n k s (omega (arith, l, d)) e h)
+  where
+    go : (k ≡ suc n) ⊎ (k ≡ suc n → ⊥) → ((k ≡ suc n → ⊥) → AreAnswered (calls_below n s)) → AreAnswered (calls_below n s ++ enable_calls (after_enables n s) n)
+    go (inl is) f = subst (λ m. AreAnswered (calls_below m s)) is h
+    go (inr d) f =
+        let none = enabled_none n k s (omega (arith, l, d)) e in
+        answered_append (calls_below n s) (enable_calls (after_enables n s) n) (f d) (subst (λ o. AreAnswered (enable_calls o n)) (sym none) tt)
+
+-- and where it isn't, so are all up to it
+pub answered_fails : (n k : ℕ) (s t : State) → k < n → after_enables k s ≡ Some t → enable t k ≡ None → AreAnswered (calls_below k s) → AreAnswered (enable_calls (Some t) k) → AreAnswered (calls_below n s)
+answered_fails n k s t l e f before next = answered_none n (k + 1) s (omega (arith, l)) (enabled_next k s ∙ rw e f) (answered_next k s t e before next)

@@ -1,0 +1,81 @@
+-- Where no group has a quota nobody is parked.
+use Rattle.std.proofs.Common.{arith, ◌≡◌, ℕ, zero, suc, ◌<◌, ◌&&◌, Bool, true, false, cond, ltb, [], ◌∷◌, ◌++◌, length, get_or, Option, Some, None, refl, sym, ap, ◌∙◌}
+use Rattle.std.specs.List.{count_by}
+use Rattle.std.proofs.lemmas.List.Sums.{sum_by-cons}
+use Rattle.scx_dsq.specs.Queues.{Entries, QueueState, is_in, len_of, is_first, front_of}
+use Rattle.scx_dsq.specs.declared.entries.Entry.{Entry}
+use Rattle.scx_dsq.proofs.Positions.{no_position}
+use Rattle.scx_weights.specs.Limits as limits
+use Rattle.scx_weights.specs.Limits.{has_quota}
+use Rattle.scx_weights.proofs.KnownLimits.{none_throttled}
+use Rattle.scx_sched_world.specs.Ids.{global, local_on}
+use Rattle.scx_sched_world.specs.World.{WorldState, is_throttled}
+use Rattle.scx_sched_world.specs.Tasks.{local_len, brought, fill_front, after_fill}
+use Rattle.scx_sched_machine.specs.Steps.{State, stays}
+use Rattle.scx_sched_machine.specs.Filling.{move_note, fill}
+use Rattle.scx_sched_machine.specs.Parking.{if_throttled, clear, in_reach, supply}
+
+-- ---- an empty queue has no front
+
+one_or_none : (b : Bool) → cond {A = ℕ} b 1 0 ≡ 0 → b ≡ false
+one_or_none true e = absurd (omega (arith, e))
+one_or_none false e = refl
+
+none_in : (test : Option Entry → Bool) (xs : Entries) (k : ℕ) (d : Option Entry) → count_by test xs ≡ 0 → k < length xs → test (get_or xs k d) ≡ false
+none_in test [] k d none lt = absurd (omega (arith, lt))
+none_in test (x ∷ xs) zero d none lt = let parts = sum_by-cons (λ y. cond {A = ℕ} (test y) 1 0) x xs in one_or_none (test x) (omega (arith, parts, none))
+none_in test (x ∷ xs) (suc k) d none lt = let parts = sum_by-cons (λ y. cond {A = ℕ} (test y) 1 0) x xs in none_in test xs k d (omega (arith, parts, none)) (omega (arith, lt))
+
+first_in : (id : ℕ) (xs : Entries) (o : Option Entry) → is_in id o ≡ false → is_first xs id o ≡ false
+first_in id xs None e = refl
+first_in id xs (Some p) e = rw e refl
+
+empty_front : (s : QueueState) (id : ℕ) → len_of s id ≡ 0 → front_of s id ≡ None
+unfolding front_of
+empty_front s id none = no_position (is_first s.entries id) s.entries (λ k d lt. first_in id s.entries (get_or s.entries k d) (none_in (is_in id) s.entries k d none lt))
+
+-- ---- a local queue is filled, and no more
+
+free_front : (w : WorldState) (o : Option ℕ) → ((t : ℕ) → is_throttled w t ≡ false) → if_throttled w o ≡ None
+free_front w None free = refl
+free_front w (Some t) free = rw (free t) refl
+
+throttled_brought : (o : Option ℕ) (w : WorldState) (q c t : ℕ) → is_throttled (brought o w q c) t ≡ is_throttled w t
+throttled_brought None w q c t = refl
+throttled_brought (Some x) w q c t = refl
+
+no_more : (o : Option ℕ) (w : WorldState) (c : ℕ) → move_note w o c ++ [] ≡ move_note w o c
+no_more None w c = refl
+no_more (Some t) w c = refl
+
+nobody_comes : (b : Bool) (o : Option ℕ) → o ≡ None → cond b None o ≡ None
+nobody_comes true o e = refl
+nobody_comes false o e = e
+
+fill_nobody : (s : State) (c : ℕ) → fill_front s.world global c ≡ None → fill s global c ≡ stays s
+unfolding fill
+fill_nobody s c e = rw e refl
+
+-- nobody is throttled
+free_tasks : (w : WorldState) → has_quota w.tree.groups ≡ false → (t : ℕ) → is_throttled w t ≡ false
+free_tasks w none t = go (ltb t (length w.tasks))
+  where
+    go : (b : Bool) → (b && limits.is_throttled w.tree t) ≡ false
+    go true = none_throttled w.tree t none
+    go false = refl
+
+-- where no group has a quota, a local queue is supplied by one fill from the global queue
+pub supply_free : (s : State) (c : ℕ) → has_quota s.world.tree.groups ≡ false → supply s c ≡ fill s global c
+unfolding supply clear fill
+supply_free s c none = go (in_reach s c) refl
+  where
+    free : (t : ℕ) → is_throttled (after_fill s.world global c) t ≡ false
+    free t = throttled_brought (fill_front s.world global c) s.world global c t ∙ free_tasks s.world none t
+
+    go : (n : ℕ) → in_reach s c ≡ n → clear n s c ≡ fill s global c
+    go zero e =
+        let empty : len_of s.world.queues global ≡ 0 = omega (arith, e) in
+        sym (fill_nobody s c (nobody_comes (ltb 0 (local_len s.world c)) (front_of s.world.queues global) (empty_front s.world.queues global empty)))
+    go (suc n) e =
+        rw (free_front (after_fill s.world global c) (front_of (after_fill s.world global c).queues (local_on c)) free)
+        (ap (λ notes. record { state = (fill s global c).state; notes = notes; calls = [] }) (no_more (fill_front s.world global c) s.world c))

@@ -1,0 +1,236 @@
+-- What a callback that isn't dispatch leaves as it was: it moves nobody, and so no more is pushed than an
+-- ejection pushes.
+use Rattle.std.proofs.Common.{◌≡◌, ℕ, zero, suc, ◌+◌, ◌≤◌, ◌&&◌, Bool, true, false, cond, nat_lt, List, length, map, Option, Some, None, is_some, is_none, refl, ap, ◌∙◌, subst, arith}
+use Rattle.scx_dsq.specs.Queues.{QueueState}
+use Rattle.scx_dsq.specs.Calls.{create_refusal, with_queue, after_create}
+use Rattle.scx_isa_semantics.specs.declared.callbacks.Callback.{Callback}
+use Rattle.scx_isa_semantics.specs.declared.callbacks.Callback.TheVariants as callback
+use Rattle.scx_isa_semantics.specs.declared.host_tables.Helper.{Helper}
+use Rattle.scx_isa_semantics.specs.declared.host_tables.Helper.TheVariants.{MapLookupElem, KtimeGetNs, CreateDsq, DsqInsert, DsqInsertVtime, DsqMoveToLocal, SelectCpuDfl, CpuIdle, TaskByPid, DsqNrQueued}
+use Rattle.scx_isa_semantics.specs.Code.{instruction_count}
+use Rattle.scx_isa_semantics.specs.Effects.{Query, Call, Load, Store}
+use Rattle.scx_isa_semantics.specs.Elements.{Maps}
+use Rattle.scx_isa_semantics.specs.Endings.{Ending, run_of}
+use Rattle.scx_isa_semantics.proofs.EndedRuns.{run_keeps}
+use Rattle.scx_isa_semantics.specs.Machine as start
+use Rattle.scx_vm_safety.specs.Programs.{VerifiedProgram}
+use Rattle.scx_vm.specs.Arguments.{program_arguments, argument_of}
+use Rattle.scx_vm.specs.declared.arguments.Arg.{Arg}
+use Rattle.scx_vm.specs.declared.arguments.Args.{Args}
+use Rattle.scx_vm.specs.Host.{answer_to, after_query}
+use Rattle.scx_sched_world.specs.declared.call.Insert.{Insert}
+use Rattle.scx_sched_world.specs.declared.eject.Eject.{Eject}
+use Rattle.scx_sched_world.specs.declared.eject.Eject.TheVariants as cause
+use Rattle.scx_sched_world.specs.declared.faults.Fault.{Fault}
+use Rattle.scx_sched_world.specs.declared.faults.Fault.TheVariants.{NoSuchQueue, NoSuchCpu, CannotCreate}
+use Rattle.scx_sched_world.specs.World.{WorldState, with_queues, with_task, task_at, waits, running, at_callback}
+use Rattle.scx_sched_world.specs.Tasks.{after_leave, after_enter}
+use Rattle.scx_sched_world.specs.Ejecting.{put_out, put_builtin, after_evictions, after_cut, cut_task}
+use Rattle.scx_sched_world.specs.Helpers.{is_there, can_create, with_fault, is_dispatch, insert_fault, with_insert, insert_or_fault, insert_of, insert_of_vtime, given_number, given_task, helper_after, stored_in, world_functions}
+use Rattle.scx_sched_machine.specs.Steps.{State, Stepped, is_ejected}
+use Rattle.scx_sched_machine.specs.Ejecting.{moves_over, eject, ejected_for}
+use Rattle.scx_sched_machine.specs.Budgets.{eject_pushes, enter_pushes, eject_left, pushes_due}
+use Rattle.scx_sched_machine.specs.Callbacks.{call_ending, call_back, acting, unless_ejected, fault_of, after_callback, is_calm}
+use Rattle.scx_sched_machine.specs.Put.{enters, enters_builtin, comes_in, enqueue_choice}
+
+-- what both keep, a choice of them keeps
+pub keeps_if : {A : Type 0} (P : A → Type 0) (b : Bool) (x y : A) → P x → P y → P (cond b x y)
+keeps_if P true x y p q = p
+keeps_if P false x y p q = q
+
+-- ---- why the policy was put out of force, if it was
+
+force_entered : (w : WorldState) (t : ℕ) (i : Insert) → (after_enter w t i).ejected ≡ w.ejected
+force_entered w t i = keeps_if (λ (u : WorldState). u.ejected ≡ w.ejected) (nat_lt t (length w.tasks)) _ w refl refl
+
+force_put_builtin : (w : WorldState) (t : ℕ) → (put_builtin w t).ejected ≡ w.ejected
+force_put_builtin w t = keeps_if (λ (u : WorldState). u.ejected ≡ w.ejected) (nat_lt t (length w.tasks)) _ w refl refl
+
+-- a task that comes to wait leaves it as it is
+force_comes_in : (s : State) (t c : ℕ) → (comes_in s t c).state.world.ejected ≡ s.world.ejected
+unfolding comes_in enters enters_builtin
+force_comes_in s t c =
+    let i = enqueue_choice s.policy.callbacks.enqueue c s.world.call.insert in
+    keeps_if (λ (r : Stepped). r.state.world.ejected ≡ s.world.ejected) (is_ejected s) (enters_builtin s t) (enters s t i) (force_put_builtin s.world t) (force_entered s.world t i)
+
+force_evicted : (j : ℕ) (w : WorldState) → (after_evictions j w).ejected ≡ w.ejected
+force_evicted zero w = refl
+force_evicted (suc j) w =
+    let v = after_evictions j w in
+    let same : v.ejected ≡ w.ejected = force_evicted j w in
+    keeps_if (λ (u : WorldState). u.ejected ≡ w.ejected) (waits v j) (put_builtin (after_leave v j) j) v (force_put_builtin (after_leave v j) j ∙ same) same
+
+force_cut_task : (o : Option ℕ) (w : WorldState) → (cut_task o w).ejected ≡ w.ejected
+force_cut_task None w = refl
+force_cut_task (Some t) w = refl
+
+force_cut : (j : ℕ) (w : WorldState) → (after_cut j w).ejected ≡ w.ejected
+force_cut zero w = refl
+force_cut (suc j) w = force_cut_task (running (after_cut j w) j) (after_cut j w) ∙ force_cut j w
+
+-- an ejection is for its cause
+force_eject : (s : State) (x : Eject) → (eject s x).state.world.ejected ≡ Some x
+unfolding eject moves_over
+force_eject s x =
+    let w = put_out s.world x in
+    let v = after_evictions (length w.tasks) w in
+    force_cut (length v.cpus) v ∙ force_evicted (length w.tasks) w
+
+-- ---- a callback that isn't dispatch
+
+-- it changes no entry and pushes nothing, it stays the callback at hand, and the policy stays in force
+pub record IsCalm (v w : WorldState) : Type 0 where
+  pub entries : w.queues.entries ≡ v.queues.entries
+  pub pushes : w.queues.pushes ≡ v.queues.pushes
+  pub ejected : w.ejected ≡ v.ejected
+  pub callback : is_dispatch w.call.callback ≡ false
+
+module _ (v : WorldState) where
+  -- what leaves those parts as they are
+  calm_as : (w u : WorldState) → u.queues.entries ≡ w.queues.entries → u.queues.pushes ≡ w.queues.pushes → u.ejected ≡ w.ejected → is_dispatch u.call.callback ≡ is_dispatch w.call.callback → IsCalm v w → IsCalm v u
+  calm_as w u a b c d h = record {
+    entries = a ∙ h.entries;
+    pushes = b ∙ h.pushes;
+    ejected = c ∙ h.ejected;
+    callback = d ∙ h.callback;
+  }
+
+  calm_created : (w : WorldState) (q : ℕ) → IsCalm v w → IsCalm v (with_queues w (after_create w.queues q))
+  calm_created w q h =
+      keeps_if (λ (s : QueueState). IsCalm v (with_queues w s)) (is_none (create_refusal w.queues q)) (with_queue w.queues q) w.queues (calm_as w (with_queues w (with_queue w.queues q)) refl refl refl refl h) h
+
+  calm_inserted : (w : WorldState) (o : Option Fault) (t : Option ℕ) (i : Insert) → IsCalm v w → IsCalm v (insert_or_fault w o t i)
+  calm_inserted w None t i h = rw h.callback (calm_as w (with_insert w i) refl refl refl refl h)
+  calm_inserted w (Some f) t i h = calm_as w (with_fault w f) refl refl refl refl h
+
+  calm_faulted : (w : WorldState) (f : Fault) → IsCalm v w → IsCalm v (with_fault w f)
+  calm_faulted w f h = calm_as w (with_fault w f) refl refl refl refl h
+
+  cannot_move : (b c : Bool) → b ≡ false → (b && c) ≡ false
+  cannot_move true c e = absurd (cc)
+  cannot_move false c e = refl
+
+  calm_helper : (w : WorldState) (f : Helper) (a : List Arg) → IsCalm v w → IsCalm v (helper_after w f a)
+  calm_helper w CreateDsq a h = keeps_if (IsCalm v) (can_create w (given_number a 0)) (with_queues w (after_create w.queues (given_number a 0))) (with_fault w CannotCreate) (calm_created w (given_number a 0) h) (calm_faulted w CannotCreate h)
+  calm_helper w DsqInsert a h = calm_inserted w (insert_fault w (given_task a 0) (insert_of a) (given_number a 3)) (given_task a 0) (insert_of a) h
+  calm_helper w DsqInsertVtime a h = calm_inserted w (insert_fault w (given_task a 0) (insert_of_vtime a) (given_number a 4)) (given_task a 0) (insert_of_vtime a) h
+  calm_helper w DsqMoveToLocal a h = rw (cannot_move (is_dispatch w.call.callback) (is_there w (given_number a 0)) h.callback) (calm_faulted w NoSuchQueue h)
+  calm_helper w CpuIdle a h = keeps_if (IsCalm v) (nat_lt (given_number a 0) (length w.cpus)) w (with_fault w NoSuchCpu) h (calm_faulted w NoSuchCpu h)
+  calm_helper w DsqNrQueued a h = keeps_if (IsCalm v) (is_there w (given_number a 0)) w (with_fault w NoSuchQueue) h (calm_faulted w NoSuchQueue h)
+  calm_helper w KtimeGetNs a h = h
+  calm_helper w SelectCpuDfl a h = h
+  calm_helper w TaskByPid a h = h
+  calm_helper w MapLookupElem a h = h
+
+  calm_query : (w : WorldState) (q : Query) → IsCalm v w → IsCalm v (after_query world_functions w q)
+  calm_query w (Call f a) h = calm_helper w f (map argument_of a) h
+  calm_query w (Load t f) h = h
+  calm_query w (Store t f k) h = calm_as w (with_task w t.0 (stored_in (task_at w t.0) f k)) refl refl refl refl h
+
+  calm_run : (p : Option VerifiedProgram) (b : Callback) (a : Args) (maps : Maps) (w : WorldState) → IsCalm v w → IsCalm v (call_ending p b a maps w).outside
+  unfolding call_ending run_of
+  calm_run None b a maps w h = h
+  calm_run (Some p) b a maps w h =
+      run_keeps (answer_to world_functions) (after_query world_functions) (IsCalm v) calm_query b p.code (suc (instruction_count p.code)) 0 (start.start (program_arguments a) maps) w h
+
+-- a callback that isn't dispatch changes no entry and pushes nothing
+pub calm_called : (p : Option VerifiedProgram) (b : Callback) (a : Args) (maps : Maps) (w : WorldState) (t c : ℕ) → is_dispatch b ≡ false → IsCalm w (call_ending p b a maps (at_callback w b t c)).outside
+calm_called p b a maps w t c e =
+    calm_run w p b a maps (at_callback w b t c) (record { entries = refl; pushes = refl; ejected = refl; callback = e })
+
+-- ---- pushes that are left for an ejection
+
+left_as : (s u : State) → u.world.ejected ≡ s.world.ejected → eject_left u ≡ eject_left s
+unfolding eject_left
+left_as s u e = ap (λ (o : Option Eject). cond (is_some o) 0 eject_pushes) e
+
+-- the pushes that an ejection may still make are no more than one for each task there can be
+pub left_few : (s : State) → eject_left s ≤ eject_pushes
+unfolding eject_left
+left_few s = go (is_ejected s)
+  where
+    go : (b : Bool) → cond b 0 eject_pushes ≤ eject_pushes
+    go true = omega arith
+    go false = omega arith
+
+left_out : (s : State) (x : Eject) → s.world.ejected ≡ Some x → eject_left s ≡ 0
+unfolding eject_left
+left_out s x e = ap (λ (o : Option Eject). cond (is_some o) 0 eject_pushes) e
+
+left_in_force : (s : State) → s.world.ejected ≡ None → eject_left s ≡ eject_pushes
+unfolding eject_left
+left_in_force s e = ap (λ (o : Option Eject). cond (is_some o) 0 eject_pushes) e
+
+in_force : (o : Option Eject) (q : Option VerifiedProgram) (p : VerifiedProgram) → unless_ejected o q ≡ Some p → o ≡ None
+in_force None q p e = refl
+in_force (Some x) q p e = absurd (cc)
+
+calm_plain : (b : Callback) → is_calm b ≡ true → is_dispatch b ≡ false
+calm_plain callback.Dispatch e = absurd (cc)
+calm_plain callback.SelectCpu e = refl
+calm_plain callback.Plain e = refl
+calm_plain callback.Init e = refl
+calm_plain callback.Enable e = refl
+calm_plain callback.Enqueue e = refl
+calm_plain callback.Running e = refl
+calm_plain callback.Stopping e = refl
+
+-- one that isn't called has no fault
+faultless : (b : Callback) (a : Args) (maps : Maps) (v : WorldState) (t c : ℕ) (f : Fault) → is_calm b ≡ true → fault_of b (call_ending None b a maps (at_callback v b t c)) ≡ Some f → ⊥
+unfolding call_ending
+faultless callback.SelectCpu a maps v t c f e x = absurd (cc)
+faultless callback.Plain a maps v t c f e x = absurd (cc)
+faultless callback.Init a maps v t c f e x = absurd (cc)
+faultless callback.Enable a maps v t c f e x = absurd (cc)
+faultless callback.Enqueue a maps v t c f e x = absurd (cc)
+faultless callback.Dispatch a maps v t c f e x = absurd (cc)
+faultless callback.Running a maps v t c f e x = absurd (cc)
+faultless callback.Stopping a maps v t c f e x = absurd (cc)
+
+-- a callback that isn't dispatch pushes no more than an ejection does; of select_cpu this is so while the policy
+-- is in force
+pub calm_call : (s new : State) (b : Callback) (a : Args) (t c : ℕ) → is_calm b ≡ true → new ≡ (call_back s b a t c).state → new.world.queues.pushes ≤ s.world.queues.pushes + eject_pushes → pushes_due new ≤ pushes_due s
+unfolding call_back
+calm_call s new b a t c calm is few = go (fault_of b e) refl
+  where
+    w : WorldState
+    w = at_callback s.world b t c
+
+    e : Ending WorldState
+    e = call_ending (acting s b) b a s.maps w
+
+    same : IsCalm s.world e.outside
+    same = calm_called (acting s b) b a s.maps s.world t c (calm_plain b calm)
+
+    go : (o : Option Fault) → fault_of b e ≡ o → pushes_due new ≤ pushes_due s
+    go None x =
+        let at : new ≡ after_callback s.policy e = is ∙ ap (λ (o : Option Fault). (ejected_for o (after_callback s.policy e)).state) x in
+        let pushes : new.world.queues.pushes ≡ s.world.queues.pushes = ap (λ (u : State). u.world.queues.pushes) at ∙ same.pushes in
+        let left : eject_left new ≡ eject_left s = left_as s new (ap (λ (u : State). u.world.ejected) at ∙ same.ejected) in
+        omega (arith, pushes, left)
+    go (Some f) x = by (acting s b) refl
+      where
+        by : (p : Option VerifiedProgram) → acting s b ≡ p → pushes_due new ≤ pushes_due s
+        by None y = absurd (faultless b a s.maps s.world t c f calm (subst (λ (p : Option VerifiedProgram). fault_of b (call_ending p b a s.maps w) ≡ Some f) y x))
+        by (Some p) y =
+            let at : new ≡ (ejected_for (Some f) (after_callback s.policy e)).state = is ∙ ap (λ (o : Option Fault). (ejected_for o (after_callback s.policy e)).state) x in
+            let u : State = after_callback s.policy e in
+            let why : Eject = cause.Fault f u.world.clock in
+            let none : eject_left new ≡ 0 = left_out new why (ap (λ (v : State). v.world.ejected) at ∙ force_eject u why) in
+            let all : eject_left s ≡ eject_pushes = left_in_force s (in_force s.world.ejected _ p y) in
+            omega (arith, few, none, all)
+
+-- the same of what was run
+pub calm_end : (p : Option VerifiedProgram) (b : Callback) (a : Args) (maps left : Maps) (w v u : WorldState) (t c n : ℕ) → is_calm b ≡ true → v ≡ at_callback w b t c → record { answer = Some n; maps = left; outside = u } ≡ call_ending p b a maps v → u.queues.pushes ≡ w.queues.pushes
+calm_end p b a maps left w v u t c n calm begins is =
+    ap (λ (e : Ending WorldState). e.outside.queues.pushes) (is ∙ ap (λ (x : WorldState). call_ending p b a maps x) begins) ∙ (calm_called p b a maps w t c (calm_plain b calm)).pushes
+
+-- a task that comes to wait is one push more
+pub comes_in_committed : (s new : State) (t c : ℕ) → new ≡ (comes_in s t c).state → new.world.queues.pushes ≤ s.world.queues.pushes + enter_pushes → pushes_due new ≤ pushes_due s + enter_pushes
+comes_in_committed s new t c is few =
+    let left : eject_left new ≡ eject_left s = left_as s new (ap (λ (u : State). u.world.ejected) is ∙ force_comes_in s t c) in
+    omega (arith, few, left)
+
+-- where the policy stays in force or out of it
+pub committed_as : (s u : State) → u.world.queues.pushes ≡ s.world.queues.pushes → u.world.ejected ≡ s.world.ejected → pushes_due u ≡ pushes_due s
+committed_as s u p e = let left = left_as s u e in omega (arith, p, left)

@@ -1,0 +1,12 @@
+use Rattle.std.proofs.Common.{◌≡◌, ◌+◌, ◌*◌, ◌≤◌, Some}
+use Rattle.scx_sched_machine.specs.Callbacks.{AreAnswered}
+use Rattle.scx_sched_machine.specs.Start.{after_enables, calls_below}
+use Rattle.scx_sched_machine.proofs.machine.Machine.enable_all.Given as goal
+
+-- those so far are enabled
+abbrev pub invariant-loop-task : goal.invariant-loop-task
+invariant-loop-task l = record {
+  state : after_enables l.task l.fn.self ≡ Some l.self;
+  few : l.self.world.queues.pushes ≤ l.fn.self.world.queues.pushes + 4096 * l.task;
+  answered : AreAnswered (calls_below l.task l.fn.self);
+}

@@ -1,0 +1,146 @@
+-- How many pushes each step of the machine makes at most: of all that it may do, one after another.
+use Rattle.std.specs.Prelude.{ℕ, ◌+◌, ◌*◌, ◌≤◌, ◌^◌, if◌then◌else◌}
+use Rattle.scx_sched_world.specs.World.{WorldState}
+use Rattle.scx_sched_machine.specs.Steps.{State, is_ejected}
+
+-- so many pushes are counted at most
+abbrev pub most_pushes : ℕ
+most_pushes = 2 ^ 63
+
+-- so many pushes more can be counted in that world
+abbrev pub CanPush : ℕ → WorldState → Type 0
+CanPush n w = w.queues.pushes + n ≤ most_pushes
+
+-- so many pushes more can be counted in that state
+abbrev pub HasRoom : ℕ → State → Type 0
+HasRoom n s = CanPush n s.world
+
+-- ---- parts of a step
+
+-- a task comes to wait
+abbrev pub enter_pushes : ℕ
+enter_pushes = 1
+
+-- a task moves to a local queue
+abbrev pub fill_pushes : ℕ
+fill_pushes = 1
+
+-- so many tasks there are at most
+abbrev pub most_tasks : ℕ
+most_tasks = 1024
+
+-- all tasks go over to the built-in scheduler
+abbrev pub eject_pushes : ℕ
+eject_pushes = most_tasks
+
+-- a program runs: it has 4096 instructions at most, each of which pushes once at most
+abbrev pub program_pushes : ℕ
+program_pushes = 4096
+
+-- enable is called for each task
+abbrev pub enable_pushes : ℕ
+enable_pushes = program_pushes * most_tasks
+
+-- init is called, and then enable for each task
+abbrev pub start_pushes : ℕ
+start_pushes = program_pushes + enable_pushes
+
+-- a program runs, and the policy is ejected
+abbrev pub callback_pushes : ℕ
+callback_pushes = program_pushes + eject_pushes
+
+-- enqueue is called, and the task comes to wait
+abbrev pub put_pushes : ℕ
+put_pushes = callback_pushes + enter_pushes
+
+-- ---- parking
+
+-- a local queue is filled, and its front parked
+abbrev pub clear_pushes : ℕ
+clear_pushes = fill_pushes + enter_pushes
+
+-- so for each task of two queues
+abbrev pub supply_pushes : ℕ
+supply_pushes = clear_pushes * (most_tasks + most_tasks)
+
+-- all tasks of a queue are parked, and a local queue is filled
+abbrev pub builtin_dispatch_pushes : ℕ
+builtin_dispatch_pushes = enter_pushes * most_tasks + fill_pushes
+
+-- ---- a cycle
+
+-- dispatch is called once, and the local queue supplied
+abbrev pub dispatch_pushes : ℕ
+dispatch_pushes = callback_pushes + supply_pushes
+
+-- stopping is called, and the task that left is put
+abbrev pub leave_pushes : ℕ
+leave_pushes = callback_pushes + put_pushes
+
+-- a task leaves, and running is called for the one that comes
+abbrev pub swap_pushes : ℕ
+swap_pushes = leave_pushes + callback_pushes
+
+-- the one that comes is from the queue of the built-in scheduler
+abbrev pub builtin_ask_pushes : ℕ
+builtin_ask_pushes = builtin_dispatch_pushes + swap_pushes
+
+-- or from the queue of all processors, from which the local queue is supplied before
+abbrev pub builtin_cycle_pushes : ℕ
+builtin_cycle_pushes = supply_pushes + builtin_ask_pushes
+
+-- a task leaves, and where that ejects the policy the cycle begins anew
+abbrev pub pick_pushes : ℕ
+pick_pushes = leave_pushes + builtin_cycle_pushes
+
+-- dispatch is called 32 times at most, and a task picked
+abbrev pub ask_pushes : ℕ
+ask_pushes = dispatch_pushes * 32 + pick_pushes
+
+-- the local queue is supplied before dispatch is called
+abbrev pub cycle_pushes : ℕ
+cycle_pushes = supply_pushes + ask_pushes
+
+-- ---- events
+
+-- a task is put, and its processor begins a cycle
+abbrev pub settle_pushes : ℕ
+settle_pushes = put_pushes + cycle_pushes
+
+-- select_cpu is called before
+abbrev pub wake_pushes : ℕ
+wake_pushes = callback_pushes + settle_pushes
+
+-- stopping is called, and the processor begins a cycle
+abbrev pub sleep_pushes : ℕ
+sleep_pushes = callback_pushes + cycle_pushes
+
+-- stopping is called, the task is parked, and the processor begins a cycle
+abbrev pub throttle_pushes : ℕ
+throttle_pushes = callback_pushes + enter_pushes + cycle_pushes
+
+-- ---- letting go
+
+-- so many pushes an ejection may still make
+unfoldable pub eject_left : State → ℕ
+eject_left s = if is_ejected s then 0 else eject_pushes
+
+-- pushes that were made, or that an ejection may make
+abbrev pub pushes_due : State → ℕ
+pushes_due s = s.world.queues.pushes + eject_left s
+
+-- that so many tasks are let go, each of which is put
+abbrev pub CanLetGo : ℕ → State → Type 0
+CanLetGo n s = pushes_due s + enter_pushes * n + put_pushes ≤ most_pushes
+
+-- all parked tasks are let go, and the policy is ejected once
+abbrev pub let_go_pushes : ℕ
+let_go_pushes = eject_pushes + enter_pushes * most_tasks
+
+-- and the watchdog may eject it
+abbrev pub clock_pushes : ℕ
+clock_pushes = let_go_pushes + eject_pushes
+
+-- whatever the event
+abbrev pub event_pushes : ℕ
+event_pushes = 2 ^ 19

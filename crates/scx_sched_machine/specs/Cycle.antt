@@ -1,0 +1,163 @@
+-- The scheduling cycle (sched-ext.rst, "Scheduling Cycle"): a processor looks for the task
+-- that it runs next.
+use Rattle.std.specs.Prelude.{ℕ, zero, suc, Bool, true, false, ◌&&◌, ◌==◌, not, List, [], ◌∷◌, if◌then◌else◌, Option, Some, None}
+use Rattle.scx_dsq.specs.Queues.{front_of, len_of}
+use Rattle.scx_isa_semantics.specs.declared.callbacks.Callback.TheVariants as callback
+use Rattle.scx_sched_world.specs.declared.notes.Note.{Note}
+use Rattle.scx_sched_world.specs.declared.notes.What.TheVariants.{Stop, Run, Idle}
+use Rattle.scx_sched_world.specs.Ids.{builtin_queue, local_on}
+use Rattle.scx_sched_world.specs.World.{WorldState, with_cycling, note_now}
+use Rattle.scx_sched_world.specs.Tasks.{local_len, after_stop, started_at, after_keep}
+use Rattle.scx_sched_world.specs.Ejecting.{after_catch_up, after_charge}
+use Rattle.scx_sched_machine.specs.Steps.{State, Stepped, with_world, stays, after, one_after_other, is_ejected}
+use Rattle.scx_sched_machine.specs.Callbacks.{call_back, one_task, task_and_number, cpu_and_task}
+use Rattle.scx_sched_machine.specs.Put.{put}
+use Rattle.scx_sched_machine.specs.Filling.{fill}
+use Rattle.scx_sched_machine.specs.Parking.{park_fronts, supply}
+
+-- whether a task waits in the local queue of the processor
+abbrev pub has_local : State → ℕ → Bool
+has_local s c = not (local_len s.world c == 0)
+
+-- ---- dispatch
+
+-- one call of dispatch, and then the local queue is supplied
+unfoldable pub after_dispatch : State → ℕ → Option ℕ → Stepped
+after_dispatch s c p =
+    let r = call_back s callback.Dispatch (cpu_and_task c p) 0 c in
+    one_after_other r (supply r.state c)
+
+-- whether dispatch is asked again: it moved or inserted a task, and the local queue is empty still
+abbrev pub asks_again : State → ℕ → Bool
+asks_again s c = (local_len s.world c == 0) && s.world.call.has_moved
+
+-- at most so many calls, as long as the local queue is empty and the last one moved something; an
+-- ejection forgets what was moved
+unfoldable pub tries : ℕ → State → ℕ → Option ℕ → Stepped
+tries zero s c p = stays s
+tries (suc n) s c p =
+    let d = after_dispatch s c p in
+    if asks_again d.state c then one_after_other d (tries n d.state c p) else d
+
+-- ---- on and off a processor
+
+-- once a task has left its processor; the number says whether it stays runnable
+unfoldable pub stopping : State → ℕ → ℕ → ℕ → Stepped
+stopping s c t n =
+    if is_ejected s then stays (with_world s (after_charge s.world t))
+    else call_back s callback.Stopping (task_and_number t n) t c
+
+-- once a task has come to its processor
+unfoldable pub running_on : State → ℕ → ℕ → Stepped
+running_on s c t =
+    if is_ejected s then stays (with_world s (after_catch_up s.world t))
+    else call_back s callback.Running (one_task t) t c
+
+-- the task before leaves the processor, and is put
+unfoldable pub leave : State → ℕ → Option ℕ → Stepped
+leave s c None = stays s
+leave s c (Some t) =
+    let r = stopping (with_world s (after_stop s.world c t)) c t 1 in
+    after (note_now s.world (Stop t c) ∷ []) (one_after_other r (put r.state t c 0))
+
+-- that task, the front of the local queue, leaves it and runs; without one nothing is done
+abbrev pub started_if : Option ℕ → State → ℕ → Stepped
+started_if None s c = stays s
+started_if (Some t) s c =
+    after (note_now s.world (Run t c) ∷ [])
+    (running_on (with_world s (started_at (Some t) s.world c)) c t)
+
+-- the front of the local queue runs
+unfoldable pub start : State → ℕ → Stepped
+start s c = started_if (front_of s.world.queues (local_on c)) s c
+
+-- ---- rest
+
+-- what is noted where nobody comes: idle, if none may stay and one ran as the event began
+abbrev pub idle_note : WorldState → Option ℕ → Bool → ℕ → List Note
+idle_note w None true c = note_now w (Idle c) ∷ []
+idle_note w None false c = []
+idle_note w (Some t) ran c = []
+
+-- nobody comes: the task before stays, or the processor is idle
+unfoldable pub rest : State → ℕ → Option ℕ → Bool → Stepped
+rest s c p ran = record {
+  state = with_world s (after_keep s.world p);
+  notes = idle_note s.world p ran c;
+  calls = [];
+}
+
+-- ---- the built-in scheduler
+
+-- the front of the local queue runs in the place of the task before
+unfoldable pub swap : State → ℕ → Option ℕ → Stepped
+swap s c p = let l = leave s c p in one_after_other l (start l.state c)
+
+-- the front of the local queue runs; where there is none, the task before stays or nobody runs
+unfoldable pub swap_or_rest : State → ℕ → Option ℕ → Bool → Stepped
+swap_or_rest s c p ran = if has_local s c then swap s c p else rest s c p ran
+
+-- its dispatch: the front of its queue comes to the local queue, once those that may
+-- not run are parked
+unfoldable pub builtin_dispatch : State → ℕ → Stepped
+builtin_dispatch s c =
+    let p = park_fronts (len_of s.world.queues builtin_queue) s builtin_queue in
+    one_after_other p (fill p.state builtin_queue c)
+
+-- it is asked where the local queue is empty
+unfoldable pub builtin_fill : State → ℕ → Stepped
+builtin_fill s c = if has_local s c then stays s else builtin_dispatch s c
+
+-- a local queue that is empty is filled from the built-in one, and then its front runs, if any
+unfoldable pub builtin_ask : State → ℕ → Option ℕ → Bool → Stepped
+builtin_ask s c p ran = let f = builtin_fill s c in one_after_other f (swap_or_rest f.state c p ran)
+
+-- a cycle of the built-in scheduler: the local queue and the global one go before its own
+unfoldable pub builtin_cycle : State → ℕ → Option ℕ → Bool → Stepped
+builtin_cycle s c p ran = let f = supply s c in one_after_other f (builtin_ask f.state c p ran)
+
+-- ---- the policy
+
+-- the local queue is empty only where an ejection emptied it; then the cycle begins anew
+unfoldable pub start_or_cycle : State → ℕ → Bool → Stepped
+start_or_cycle s c ran = if has_local s c then start s c else builtin_cycle s c None ran
+
+-- the front of the local queue runs in the place of the task before, of which a callback
+-- may eject the policy
+unfoldable pub pick : State → ℕ → Option ℕ → Bool → Stepped
+pick s c p ran = let l = leave s c p in one_after_other l (start_or_cycle l.state c ran)
+
+-- under a policy, the front of the local queue is picked; where there is none, nobody comes
+unfoldable pub pick_or_rest : State → ℕ → Option ℕ → Bool → Stepped
+pick_or_rest s c p ran = if has_local s c then pick s c p ran else rest s c p ran
+
+-- once dispatch was asked; where it ejected the policy, the cycle begins anew
+unfoldable pub conclude : State → ℕ → Option ℕ → Bool → Stepped
+conclude s c p ran = if is_ejected s then builtin_cycle s c p ran else pick_or_rest s c p ran
+
+-- where neither the local queue nor that of all processors has a task, dispatch is asked
+unfoldable pub ask : State → ℕ → Option ℕ → Bool → Stepped
+ask s c p ran = let d = tries 32 s c p in one_after_other d (conclude d.state c p ran)
+
+-- of a processor on which that task ran and may stay, or none; `ran` says whether any ran
+-- there as the event began
+unfoldable pub seek : State → ℕ → Option ℕ → Bool → Stepped
+seek s c p ran =
+    let f = supply s c in
+    one_after_other f (if has_local f.state c then pick f.state c p ran else ask f.state c p ran)
+
+-- ---- whichever is in force
+
+-- the cycle of the policy, or that of the built-in scheduler once the policy is ejected
+unfoldable pub look : State → ℕ → Option ℕ → Bool → Stepped
+look s c p ran = if is_ejected s then builtin_cycle s c p ran else seek s c p ran
+
+-- the cycle begins or ends
+abbrev pub cycling : State → Option ℕ → State
+cycling s o = with_world s (with_cycling s.world o)
+
+-- all the while the cycle is under way
+unfoldable pub cycle : State → ℕ → Option ℕ → Bool → Stepped
+cycle s c p ran =
+    let r = look (cycling s (Some c)) c p ran in
+    record r { state = cycling r.state None }

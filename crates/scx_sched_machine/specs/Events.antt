@@ -1,0 +1,150 @@
+-- Events: which are accepted, and what each one does.
+use Rattle.std.specs.Prelude.{ℕ, true, false, ◌==◌, nat_lt, [], ◌∷◌, length, if◌then◌else◌, Option, Some, None}
+use Rattle.scx_weights.specs.Refusals.{max_weight, is_outside}
+use Rattle.scx_isa_semantics.specs.declared.callbacks.Callback.TheVariants as callback
+use Rattle.scx_sched_world.specs.declared.notes.What.TheVariants as note
+use Rattle.scx_vm_safety.specs.Programs.{VerifiedProgram}
+use Rattle.scx_sched_world.specs.declared.call.Insert.{Insert}
+use Rattle.scx_sched_world.specs.World.{WorldState, task_at, is_runnable, is_throttled, running, cpu_of, is_idle, default_choice, note_now}
+use Rattle.scx_sched_world.specs.declared.eject.Eject.TheVariants as cause
+use Rattle.scx_sched_world.specs.Tasks.{for_cpu, after_wake, after_sleep, after_leave, after_stop, after_tick, used_ms, later, begun_periods, after_reweigh}
+use Rattle.scx_sched_world.specs.Waits.{first_overdue}
+use Rattle.scx_sched_machine.specs.declared.events.Event.{Event}
+use Rattle.scx_sched_machine.specs.declared.events.Event.TheVariants.{Wake, Sleep, Tick, Clock, SetWeight}
+use Rattle.scx_sched_machine.specs.declared.events.Refused.{Refused}
+use Rattle.scx_sched_machine.specs.declared.events.Refused.TheVariants.{AlreadyRunnable, NotRunnable, UnknownTask, UnknownCpu, UnknownGroup, BadWeight}
+use Rattle.scx_sched_machine.specs.Steps.{State, Stepped, with_world, stays, after, one_after_other, is_ejected}
+use Rattle.scx_sched_machine.specs.Ejecting.{eject}
+use Rattle.scx_sched_machine.specs.Callbacks.{acting, call_back, answered_by, task_cpu_and_0}
+use Rattle.scx_sched_machine.specs.Put.{enters, put}
+use Rattle.scx_sched_machine.specs.Parking.{park, let_all_go}
+use Rattle.scx_sched_machine.specs.Cycle.{stopping, cycle}
+
+-- ---- refusals
+
+-- why an event is refused; none where it is accepted
+abbrev pub refusal : State → Event → Option Refused
+refusal s (Wake t) =
+    if nat_lt t (length s.world.tasks)
+    then (if is_runnable s.world t then Some AlreadyRunnable else None)
+    else Some UnknownTask
+refusal s (Sleep t) =
+    if nat_lt t (length s.world.tasks)
+    then (if is_runnable s.world t then None else Some NotRunnable)
+    else Some UnknownTask
+refusal s (Tick c) = if nat_lt c (length s.world.cpus) then None else Some UnknownCpu
+refusal s Clock = None
+refusal s (SetWeight g x) =
+    if nat_lt g (length s.world.tree.groups)
+    then (if is_outside max_weight x then Some BadWeight else None)
+    else Some UnknownGroup
+
+-- ---- what each event does
+
+-- the processor that select_cpu answers; one that isn't there has ejected the policy
+abbrev pub answered_cpu : WorldState → ℕ → Option ℕ → ℕ
+answered_cpu w t None = default_choice w t
+answered_cpu w t (Some n) = if nat_lt n (length w.cpus) then n else default_choice w t
+
+-- the processor for which a task that wakes is put; the default choice where no program answered,
+-- or no policy is in force
+abbrev pub target : Option VerifiedProgram → WorldState → ℕ → Option ℕ → ℕ
+target None w t a = default_choice w t
+target (Some p) w t a = answered_cpu w t a
+
+-- what select_cpu inserted is applied, where LOCAL is of the target; else the task is put
+abbrev pub insert_or_put : Option Insert → State → ℕ → ℕ → Stepped
+insert_or_put None s t c = put s t c 1
+insert_or_put (Some i) s t c = enters s t (for_cpu c i)
+
+-- and a target that is idle looks for a task
+unfoldable pub settle : State → ℕ → ℕ → Stepped
+settle s t c =
+    let r = insert_or_put s.world.call.insert s t c in
+    if is_idle r.state.world c then one_after_other r (cycle r.state c None false) else r
+
+-- select_cpu is asked, with the processor at hand on which the task ran last
+unfoldable pub select : State → ℕ → Stepped
+select s t =
+    let c = (task_at s.world t).prev_cpu in
+    let r = call_back s callback.SelectCpu (task_cpu_and_0 t c) t c in
+    one_after_other r (settle r.state t (target (acting r.state callback.SelectCpu) r.state.world t
+    (answered_by s callback.SelectCpu (task_cpu_and_0 t c) t c)))
+
+-- a task wakes: it is noted, the task waits from now on, and select_cpu is asked
+unfoldable pub wake : State → ℕ → Stepped
+wake s t =
+    after (note_now s.world (note.Wake t) ∷ []) (select (with_world s (after_wake s.world t)) t)
+
+-- a task that runs leaves its processor, which looks for another
+unfoldable pub sleep_from_cpu : State → ℕ → ℕ → Stepped
+sleep_from_cpu s t c =
+    let r = stopping (with_world s (after_stop s.world c t)) c t 0 in
+    after (note_now s.world (note.Stop t c) ∷ [])
+    (one_after_other r (cycle (with_world r.state (after_sleep r.state.world t)) c None true))
+
+-- a task goes to sleep from that processor, or, where it runs on none, from its queue
+abbrev pub sleep_from : Option ℕ → State → ℕ → Stepped
+sleep_from None s t = stays (with_world s (after_sleep (after_leave s.world t) t))
+sleep_from (Some c) s t = sleep_from_cpu s t c
+
+-- a task goes to sleep, from where it is, and that is noted first
+unfoldable pub sleep : State → ℕ → Stepped
+sleep s t = after (note_now s.world (note.Sleep t) ∷ []) (sleep_from (cpu_of s.world t) s t)
+
+-- a task that may not run any more leaves its processor and is parked, and the processor
+-- looks for another
+unfoldable pub throttle : State → ℕ → ℕ → Stepped
+throttle s c t =
+    let r = stopping (with_world s (after_stop s.world c t)) c t 1 in
+    let p = park r.state t in
+    after (note_now s.world (note.Stop t c) ∷ [])
+    (one_after_other r (one_after_other p (cycle p.state c None true)))
+
+-- a task whose slice has run out may be replaced
+unfoldable pub expire : State → ℕ → ℕ → Stepped
+expire s c t = if (task_at s.world t).slice == 0 then cycle s c (Some t) true else stays s
+
+-- a task has run for a millisecond, which its groups have used
+unfoldable pub count_down : State → ℕ → ℕ → Stepped
+count_down s c t =
+    let v = with_world s (used_ms (after_tick s.world t) t) in
+    if is_throttled v.world t then throttle v c t else expire v c t
+
+-- a processor ran that task for a millisecond; where it ran none, it looks for one
+abbrev pub tick_of : Option ℕ → State → ℕ → Stepped
+tick_of None s c = cycle s c None false
+tick_of (Some t) s c = count_down s c t
+
+-- a processor ran for a millisecond, whether a task runs on it or none does
+unfoldable pub tick : State → ℕ → Stepped
+tick s c = tick_of (running s.world c) s c
+
+-- ---- the clock
+
+-- who has waited too long, while the policy is in force
+abbrev pub overdue : State → Option ℕ
+overdue s = if is_ejected s then None else first_overdue s.world s.policy.timeout_ms
+
+-- the policy is ejected for that task, which waited too long; without one nothing is done
+abbrev pub eject_if_stalled : Option ℕ → State → Stepped
+eject_if_stalled None s = stays s
+eject_if_stalled (Some t) s = eject s (cause.Stall t s.world.clock)
+
+-- periods begin, who may run again is let go, and then the watchdog looks
+unfoldable pub clock : State → Stepped
+clock s =
+    let r = let_all_go (with_world s (begun_periods (later s.world))) in
+    one_after_other r (eject_if_stalled (overdue r.state) r.state)
+
+-- what an accepted event does
+abbrev pub event_step : State → Event → Stepped
+event_step s (Wake t) = wake s t
+event_step s (Sleep t) = sleep s t
+event_step s (Tick c) = tick s c
+event_step s Clock = clock s
+event_step s (SetWeight g x) = record {
+  state = with_world s (after_reweigh s.world g x);
+  notes = note_now s.world (note.Weight g x) ∷ [];
+  calls = [];
+}

@@ -1,0 +1,87 @@
+-- Tasks whose groups have used what they may are parked: they go to a queue of the machine's own,
+-- until a period begins (`cpu.max` of Linux Documentation/admin-guide/cgroup-v2.rst).
+use Rattle.std.specs.Prelude.{ℕ, zero, suc, ◌+◌, [], ◌∷◌, if◌then◌else◌, Option, Some, None, ◌≡◌, false}
+use Rattle.scx_dsq.specs.Queues.{front_of, len_of, behind_of}
+use Rattle.scx_sched_world.specs.declared.notes.What.TheVariants as note
+use Rattle.scx_sched_world.specs.Ids.{global, parked_queue, local_on}
+use Rattle.scx_sched_world.specs.World.{WorldState, task_at, is_throttled, note_now}
+use Rattle.scx_sched_world.specs.Tasks.{put_parked, after_take, let_go}
+use Rattle.scx_sched_machine.specs.Steps.{State, Stepped, with_world, stays, one_after_other}
+use Rattle.scx_sched_machine.specs.Filling.{fill}
+use Rattle.scx_sched_machine.specs.Put.{put}
+
+-- the task at hand is parked
+unfoldable pub park : State → ℕ → Stepped
+park s t = record {
+  state = with_world s (put_parked s.world t);
+  notes = note_now s.world (note.Insert t parked_queue) ∷ [];
+  calls = [];
+}
+
+-- the front of a queue leaves it, and is parked
+unfoldable pub park_front : State → ℕ → ℕ → Stepped
+park_front s q t = park (with_world s (after_take s.world q)) t
+
+-- that task, if it may not run
+abbrev pub if_throttled : WorldState → Option ℕ → Option ℕ
+if_throttled w None = None
+if_throttled w (Some t) = if is_throttled w t then Some t else None
+
+-- the front of a queue, if it may not run
+abbrev pub throttled_front : State → ℕ → Option ℕ
+throttled_front s q = if_throttled s.world (front_of s.world.queues q)
+
+-- ---- before a front is picked
+
+-- the front of a queue is parked, if it may not run, and what follows that
+abbrev pub park_then : (State → Stepped) → State → ℕ → Option ℕ → Stepped
+park_then next s q None = stays s
+park_then next s q (Some t) = let p = park_front s q t in one_after_other p (next p.state)
+
+-- as long as the front of a queue may not run, it is parked, at most so often
+unfoldable pub park_fronts : ℕ → State → ℕ → Stepped
+park_fronts zero s q = stays s
+park_fronts (suc n) s q = park_then (λ r. park_fronts n r q) s q (throttled_front s q)
+
+-- wherever the local queue is empty it is filled from that of all processors, and as long as its
+-- front may not run, that is parked, at most so often
+unfoldable pub clear : ℕ → State → ℕ → Stepped
+clear zero s c = stays s
+clear (suc n) s c =
+    let f = fill s global c in
+    one_after_other f
+    (park_then (λ r. clear n r c) f.state (local_on c) (throttled_front f.state (local_on c)))
+
+-- how many tasks wait in the two queues
+abbrev pub in_reach : State → ℕ → ℕ
+in_reach s c = len_of s.world.queues (local_on c) + len_of s.world.queues global
+
+-- the local queue comes to have a front that may run, if one of the two has such a task
+unfoldable pub supply : State → ℕ → Stepped
+supply s c = clear (in_reach s c) s c
+
+-- ---- once the clock has grown
+
+-- the task is parked no more, waits from now on, and is put as for the processor on
+-- which it ran last
+unfoldable pub let_go_one : State → ℕ → Stepped
+let_go_one s t = put (with_world s (let_go s.world t)) t (task_at s.world t).prev_cpu 0
+
+-- of the parked those that may run again are let go, in their order from that one on; at most
+-- so many are looked at
+unfoldable pub let_go_from : ℕ → State → Option ℕ → Stepped
+let_go_from zero s at = stays s
+let_go_from (suc n) s None = stays s
+let_go_from (suc n) s (Some t) =
+    let next = behind_of s.world.queues t in
+    if is_throttled s.world t then let_go_from n s next
+    else (let r = let_go_one s t in one_after_other r (let_go_from n r.state next))
+
+-- all who may run again
+unfoldable pub let_all_go : State → Stepped
+let_all_go s =
+    let_go_from (len_of s.world.queues parked_queue) s (front_of s.world.queues parked_queue)
+
+-- the front of that queue, if there is one, may run
+abbrev pub FrontMayRun : State → ℕ → Type 0
+FrontMayRun s q = (t : ℕ) → front_of s.world.queues q ≡ Some t → is_throttled s.world t ≡ false

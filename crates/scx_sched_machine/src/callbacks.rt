@@ -1,0 +1,235 @@
+ghost use Rattle.std.specs.Prelude.{◌≡◌, ◌+◌, ◌≤◌, ◌^◌, [], true, Some, option_map};
+ghost use Rattle.scx_maps.specs.Contents.{HasShapes};
+ghost use Rattle.scx_isa_semantics.specs.Arguments.{FitsCallback};
+ghost use Rattle.scx_isa_semantics.specs.declared.callbacks.Callback.TheVariants.{Enable, SelectCpu, Enqueue, Dispatch, Running, Stopping};
+ghost use Rattle.scx_isa_semantics.specs.Endings.{run_of};
+ghost use Rattle.scx_vm.specs.Arguments.{program_arguments};
+ghost use Rattle.scx_vm.specs.Host.{answer_to, after_query};
+ghost use Rattle.scx_sched_world.specs.World.{quiet};
+ghost use Rattle.scx_sched_world.specs.Helpers.{world_functions};
+ghost use Rattle.scx_sched_machine.specs.Budgets.{CanPush, HasRoom, callback_pushes, pushes_due, eject_pushes, program_pushes};
+ghost use Rattle.scx_sched_machine.specs.Does.{Does};
+ghost use Rattle.scx_sched_machine.specs.Notes.{Takes};
+ghost use Rattle.scx_sched_world.specs.Helpers.{or_fault};
+ghost use Rattle.scx_sched_machine.specs.Policy.{IsAs, HasMaps, program_of};
+ghost use Rattle.scx_sched_machine.specs.Ejecting.{ejected_for};
+ghost use Rattle.scx_sched_machine.specs.Callbacks.{call_ending, call_back, end_fault, unless_ejected, answered_by, calls_of, IsAnswered, AreAnswered, is_calm, one_task, task_cpu_and_0, task_and_number, task_or_0, cpu_and_task};
+
+use crate::machine::Machine;
+use crate::policy::Policy;
+use crate::sink::Sink;
+use scx_isa::Callback;
+use scx_maps::Maps;
+use scx_sched_world::{Eject, Fault, World};
+use scx_verify::Verified;
+use scx_vm::{Arg, Args};
+use scx_vm_run::{Core, run_on};
+
+/// The program of a callback, while the policy is in force.
+fn acting<'a>(policy: &'a Policy, world: &World, callback: Callback) -> Option<&'a Verified>
+    ensures program { option_map (λ p. p.now) result
+        ≡ unless_ejected world.now.ejected (program_of policy.now callback) }
+    ensures callback { IsAs callback
+        (unless_ejected world.now.ejected (program_of policy.now callback)) }
+    ensures maps { HasMaps policy.now.shapes
+        (unless_ejected world.now.ejected (program_of policy.now callback)) }
+{
+    if world.is_ejected() {
+        None
+    } else {
+        policy.program(callback)
+    }
+}
+
+/// Runs a callback of the policy, and answers what its program does. One that is absent, or of a policy that
+/// is ejected, answers 0.
+#[tactic(auto, unfolding(crate::specs::Callbacks::call_ending))]
+pub(crate) fn run_callback(
+    core: &mut Core,
+    policy: &Policy,
+    callback: Callback,
+    arguments: Args,
+    maps: &mut Maps,
+    world: &mut World,
+) -> u64
+    requires shapes { HasShapes policy.now.shapes maps.old }
+    requires arguments { FitsCallback callback (program_arguments arguments) }
+    requires quiet { world.old.notes ≡ [] }
+    requires room { CanPush program_pushes world.old }
+    ensures ended { record { answer = Some result; maps = maps.new; outside = world.new }
+        ≡ call_ending (unless_ejected world.old.ejected (program_of policy.now callback)) callback
+        arguments maps.old world.old }
+    ensures answered { AreAnswered
+        (calls_of (unless_ejected world.old.ejected (program_of policy.now callback)) callback
+        arguments maps.old world.old) }
+    ensures shapes { HasShapes policy.now.shapes maps.new }
+    ensures few { world.new.queues.pushes ≤ world.old.queues.pushes + program_pushes }
+{
+    match acting(policy, world, callback) {
+        Some(program) => run_program(core, program, arguments, maps, world),
+        None => 0,
+    }
+}
+
+/// Runs a program as the callback that it was verified for.
+fn run_program(
+    core: &mut Core,
+    program: &Verified,
+    arguments: Args,
+    maps: &mut Maps,
+    world: &mut World,
+) -> u64
+    requires shapes { HasShapes program.now.context.defs maps.old }
+    requires arguments { FitsCallback program.now.context.callback (program_arguments arguments) }
+    requires quiet { world.old.notes ≡ [] }
+    requires room { CanPush program_pushes world.old }
+    ensures ended { record { answer = Some result; maps = maps.new; outside = world.new }
+        ≡ run_of (answer_to world_functions) (after_query world_functions)
+        program.now.context.callback program.now.code (program_arguments arguments) maps.old world.old }
+    ensures answered { IsAnswered
+        (record {
+          callback = program.now.context.callback;
+          program = program.now;
+          arguments = arguments;
+          maps = maps.old;
+          world = world.old;
+        }) }
+    ensures shapes { HasShapes program.now.context.defs maps.new }
+    ensures few { world.new.queues.pushes ≤ world.old.queues.pushes + program_pushes }
+{
+    let _short = program.instructions();
+    run_on(core, program, arguments, maps, world).r0
+}
+
+/// Hands the notes that wait to the sink.
+#[tactic(auto, using(crate::proofs::Taking::takings))]
+fn flush<S: Sink>(world: &mut World, sink: &mut S)
+    ensures world { world.new ≡ quiet world.old }
+    ensures notes { Takes S.takes sink.old world.old.notes sink.new }
+{
+    for note in world.notes() {
+        sink.take(*note);
+    }
+    world.quiet();
+}
+
+/// A task, for a callback that takes no more.
+pub(crate) fn one_task(task: u16) -> Args
+    ensures task { result ≡ one_task task }
+    ensures enable { FitsCallback Enable (program_arguments result) }
+    ensures running { FitsCallback Running (program_arguments result) }
+{
+    Args {
+        first: World::pointer(task),
+        second: Arg::Unset,
+        third: Arg::Unset,
+    }
+}
+
+/// A task, the processor on which it ran last, and 0.
+pub(crate) fn task_cpu_and_0(task: u16, cpu: u32) -> Args
+    ensures all { result ≡ task_cpu_and_0 task cpu }
+    ensures select_cpu { FitsCallback SelectCpu (program_arguments result) }
+{
+    Args {
+        first: World::pointer(task),
+        second: Arg::Num(u64::from(cpu)),
+        third: Arg::Num(0),
+    }
+}
+
+/// A task and a number.
+pub(crate) fn task_and_number(task: u16, number: u64) -> Args
+    ensures both { result ≡ task_and_number task number }
+    ensures enqueue { FitsCallback Enqueue (program_arguments result) }
+    ensures stopping { FitsCallback Stopping (program_arguments result) }
+{
+    Args {
+        first: World::pointer(task),
+        second: Arg::Num(number),
+        third: Arg::Unset,
+    }
+}
+
+fn task_or_0(task: Option<u16>) -> Arg
+    ensures { result ≡ task_or_0 task }
+{
+    match task {
+        Some(task) => World::pointer(task),
+        None => Arg::Num(0),
+    }
+}
+
+/// A processor, and the task before or 0.
+pub(crate) fn cpu_and_task(cpu: u32, before: Option<u16>) -> Args
+    ensures both { result ≡ cpu_and_task cpu before }
+    ensures dispatch { FitsCallback Dispatch (program_arguments result) }
+{
+    Args {
+        first: Arg::Num(u64::from(cpu)),
+        second: task_or_0(before),
+        third: Arg::Unset,
+    }
+}
+
+impl Machine {
+    /// What is wrong with the callback that has just ended with that answer.
+    fn fault(&self, callback: Callback, answer: u64) -> Option<Fault>
+        ensures { result
+            ≡ or_fault self.now.world.call.fault (end_fault callback self.now.world (Some answer)) }
+    {
+        if let Some(fault) = self.world.first_fault() {
+            return Some(fault);
+        }
+        if callback == Callback::SelectCpu && answer >= u64::from(self.world.cpus()) {
+            return Some(Fault::NoSuchCpu);
+        }
+        None
+    }
+
+    /// Ejects the policy where there was a fault.
+    #[tactic(auto, using(crate::proofs::Taking::takings))]
+    fn eject_for<S: Sink>(&mut self, fault: Option<Fault>, sink: &mut S)
+        requires { HasRoom eject_pushes self.old }
+        ensures { Does S.takes eject_pushes (ejected_for fault self.old)
+            self.old sink.old self.new sink.new }
+    {
+        if let Some(fault) = fault {
+            let clock = self.world.clock();
+            self.eject(Eject::Fault(fault, clock), sink);
+        }
+    }
+
+    /// Runs a callback of the policy, with that task and processor at hand, and answers what its program
+    /// does. Where it has a fault the policy is ejected. Once it is ejected, none runs, and the answer is 0.
+    #[tactic(auto, unfolding(crate::specs::Callbacks::call_back, crate::specs::Callbacks::answered_by), using(crate::proofs::Taking::takings))]
+    pub(crate) fn call_back<S: Sink>(
+        &mut self,
+        callback: Callback,
+        arguments: Args,
+        task: u16,
+        cpu: u32,
+        sink: &mut S,
+    ) -> u64
+        requires arguments { FitsCallback callback (program_arguments arguments) }
+        requires room { HasRoom callback_pushes self.old }
+        ensures answer { Some result ≡ answered_by self.old callback arguments task cpu }
+        ensures does { Does S.takes callback_pushes (call_back self.old callback arguments task cpu)
+            self.old sink.old self.new sink.new }
+        ensures calm { is_calm callback ≡ true → pushes_due self.new ≤ pushes_due self.old }
+    {
+        self.world.begin(callback, task, cpu);
+        let answer = run_callback(
+            &mut self.core,
+            &self.policy,
+            callback,
+            arguments,
+            &mut self.maps,
+            &mut self.world,
+        );
+        flush(&mut self.world, sink);
+        let fault = self.fault(callback, answer);
+        self.eject_for(fault, sink);
+        answer
+    }
+}

@@ -1,0 +1,341 @@
+ghost use Rattle.std.specs.Prelude.{◌≡◌, ℕ, ◌+◌, ◌<◌, ◌≤◌, ◌^◌, length, Some, None};
+ghost use Rattle.scx_weights.specs.Limits.{usage_of};
+ghost use Rattle.scx_weights.specs.Refusals.{max_weight, is_outside};
+ghost use Rattle.scx_sched_world.specs.World.{task_at};
+ghost use Rattle.scx_sched_machine.specs.Budgets.{HasRoom, clock_pushes, cycle_pushes, eject_pushes, event_pushes, put_pushes, settle_pushes, sleep_pushes, throttle_pushes, wake_pushes};
+ghost use Rattle.scx_sched_machine.specs.Does.{Does};
+ghost use Rattle.scx_sched_machine.specs.Notes.{Takes};
+ghost use Rattle.scx_isa_semantics.specs.declared.callbacks.Callback.TheVariants.{SelectCpu};
+ghost use Rattle.scx_sched_machine.specs.Callbacks.{acting, AreAnswered};
+ghost use Rattle.scx_sched_machine.specs.declared.events.Event.TheVariants.{Wake, Sleep, SetWeight};
+ghost use Rattle.scx_sched_machine.specs.Events.{refusal, target, insert_or_put, settle, select, wake, sleep_from_cpu, sleep, throttle, expire, count_down, tick, overdue, eject_if_stalled, clock, event_step};
+
+use crate::callbacks::task_cpu_and_0;
+use crate::machine::Machine;
+use crate::sink::Sink;
+use scx_isa::Callback;
+use scx_sched_world::{Eject, What};
+use scx_weights::MAX_WEIGHT;
+use thiserror::Error;
+
+/// What happens to the machine. Tasks, processors and groups go by their numbers.
+#[derive(Clone, Copy, Debug, PartialEq, Eq)]
+pub enum Event {
+    /// A task has work to do.
+    Wake(u16),
+    /// A task has none left.
+    Sleep(u16),
+    /// A processor ran for a millisecond.
+    Tick(u32),
+    /// The clock grows by a millisecond.
+    Clock,
+    /// A group has that weight from now on.
+    SetWeight(u32, u32),
+}
+
+/// Why an event isn't accepted. Nothing has changed, and nothing was noted.
+#[derive(Clone, Copy, Debug, PartialEq, Eq, Error)]
+pub enum Refused {
+    /// A task is to wake that has not gone to sleep since it woke last.
+    #[error("the task is runnable already")]
+    AlreadyRunnable,
+    /// A task is to go to sleep that sleeps.
+    #[error("the task isn't runnable")]
+    NotRunnable,
+    /// A wake or a sleep is of a task that isn't there.
+    #[error("there is no such task")]
+    UnknownTask,
+    /// A tick is of a processor that isn't there.
+    #[error("there is no such processor")]
+    UnknownCpu,
+    /// A weight is for a group that isn't there.
+    #[error("there is no such group")]
+    UnknownGroup,
+    /// A group that is there is to have a weight that is out of range.
+    #[error("a weight is one of 1 to 10000")]
+    BadWeight,
+    /// A machine has accepted 2^32 events: this goes before any other cause.
+    #[error("as many events were accepted as may be")]
+    RunOver,
+}
+
+fn is_bad_weight(weight: u32) -> bool
+    ensures { result ≡ is_outside max_weight weight }
+{
+    weight < 1 || weight > MAX_WEIGHT
+}
+
+impl Machine {
+    /// Why the event isn't accepted.
+    pub fn refusal(&self, event: Event) -> Option<Refused>
+        ensures { result ≡ refusal self.now event }
+    {
+        match event {
+            Event::Wake(task) => self.wake_refusal(task),
+            Event::Sleep(task) => self.sleep_refusal(task),
+            Event::Tick(cpu) => {
+                if cpu < self.world.cpus() {
+                    None
+                } else {
+                    Some(Refused::UnknownCpu)
+                }
+            }
+            Event::Clock => None,
+            Event::SetWeight(group, weight) => self.weight_refusal(group, weight),
+        }
+    }
+
+    fn wake_refusal(&self, task: u16) -> Option<Refused>
+        ensures { result ≡ refusal self.now (Wake task) }
+    {
+        if !self.world.has_task(task) {
+            Some(Refused::UnknownTask)
+        } else if self.world.is_runnable(task) {
+            Some(Refused::AlreadyRunnable)
+        } else {
+            None
+        }
+    }
+
+    fn sleep_refusal(&self, task: u16) -> Option<Refused>
+        ensures { result ≡ refusal self.now (Sleep task) }
+    {
+        if !self.world.has_task(task) {
+            Some(Refused::UnknownTask)
+        } else if self.world.is_runnable(task) {
+            None
+        } else {
+            Some(Refused::NotRunnable)
+        }
+    }
+
+    fn weight_refusal(&self, group: u32, weight: u32) -> Option<Refused>
+        ensures { result ≡ refusal self.now (SetWeight group weight) }
+    {
+        if group >= self.world.groups() {
+            Some(Refused::UnknownGroup)
+        } else if is_bad_weight(weight) {
+            Some(Refused::BadWeight)
+        } else {
+            None
+        }
+    }
+
+    /// The processor for which a task that wakes is put, where select_cpu answered so.
+    fn target(&self, task: u16, answer: u64) -> u32
+        ensures { result ≡ target (acting self.now SelectCpu) self.now.world task (Some answer) }
+    {
+        if self.is_ejected() || self.policy.program(Callback::SelectCpu).is_none() {
+            return self.world.default_choice(task);
+        }
+        if answer < u64::from(self.world.cpus()) {
+            answer as u32
+        } else {
+            self.world.default_choice(task)
+        }
+    }
+
+    /// Applies what select_cpu inserted, or puts the task.
+    #[tactic(auto, using(crate::proofs::Taking::takings))]
+    fn apply_or_put<S: Sink>(&mut self, task: u16, cpu: u32, sink: &mut S)
+        requires { HasRoom put_pushes self.old }
+        ensures { Does S.takes put_pushes (insert_or_put self.old.world.call.insert self.old task cpu)
+            self.old sink.old self.new sink.new }
+    {
+        match self.world.insert() {
+            Some(insert) => self.enter(task, insert.for_cpu(cpu), sink),
+            None => self.put(task, cpu, 1, sink),
+        }
+    }
+
+    /// A task that woke comes to wait, and a target that is idle looks for a task.
+    #[tactic(auto, unfolding(crate::specs::Events::settle), using(crate::proofs::Taking::takings))]
+    fn settle<S: Sink>(&mut self, task: u16, cpu: u32, sink: &mut S)
+        requires { HasRoom settle_pushes self.old }
+        ensures { Does S.takes settle_pushes (settle self.old task cpu)
+            self.old sink.old self.new sink.new }
+    {
+        self.apply_or_put(task, cpu, sink);
+        if self.world.is_idle(cpu) {
+            self.cycle(cpu, None, false, sink);
+        }
+    }
+
+    /// Asks select_cpu for which processor the task is to be put.
+    #[tactic(auto, unfolding(crate::specs::Events::select), using(crate::proofs::Taking::takings))]
+    fn select<S: Sink>(&mut self, task: u16, sink: &mut S)
+        requires { HasRoom wake_pushes self.old }
+        ensures { Does S.takes wake_pushes (select self.old task)
+            self.old sink.old self.new sink.new }
+    {
+        let prev = self.world.task(task).prev_cpu;
+        let arguments = task_cpu_and_0(task, prev);
+        let answer = self.call_back(Callback::SelectCpu, arguments, task, prev, sink);
+        let cpu = self.target(task, answer);
+        self.settle(task, cpu, sink);
+    }
+
+    /// A task wakes.
+    #[tactic(auto, unfolding(crate::specs::Events::wake), using(crate::proofs::Taking::takings))]
+    fn wake<S: Sink>(&mut self, task: u16, sink: &mut S)
+        requires known { task < length self.old.world.tasks }
+        requires room { HasRoom wake_pushes self.old }
+        ensures { Does S.takes wake_pushes (wake self.old task)
+            self.old sink.old self.new sink.new }
+    {
+        sink.take(self.world.note(What::Wake(task)));
+        self.world.wake(task);
+        self.select(task, sink);
+    }
+
+    /// A task that runs goes to sleep.
+    #[tactic(auto, unfolding(crate::specs::Events::sleep_from_cpu), using(crate::proofs::Taking::takings))]
+    fn sleep_from_cpu<S: Sink>(&mut self, task: u16, cpu: u32, sink: &mut S)
+        requires { HasRoom sleep_pushes self.old }
+        ensures { Does S.takes sleep_pushes (sleep_from_cpu self.old task cpu)
+            self.old sink.old self.new sink.new }
+    {
+        sink.take(self.world.note(What::Stop(task, cpu)));
+        self.world.stop(cpu, task);
+        self.stopping(cpu, task, 0, sink);
+        self.world.sleep(task);
+        self.cycle(cpu, None, true, sink);
+    }
+
+    /// A task goes to sleep.
+    #[tactic(auto, unfolding(crate::specs::Events::sleep), using(crate::proofs::Taking::takings))]
+    fn sleep<S: Sink>(&mut self, task: u16, sink: &mut S)
+        requires { HasRoom sleep_pushes self.old }
+        ensures { Does S.takes sleep_pushes (sleep self.old task)
+            self.old sink.old self.new sink.new }
+    {
+        sink.take(self.world.note(What::Sleep(task)));
+        match self.world.cpu_of(task) {
+            Some(cpu) => self.sleep_from_cpu(task, cpu, sink),
+            None => {
+                self.world.leave_queue(task);
+                self.world.sleep(task);
+            }
+        }
+    }
+
+    /// A task that may not run any more leaves its processor and is parked.
+    #[tactic(auto, unfolding(crate::specs::Events::throttle), using(crate::proofs::Taking::takings))]
+    fn throttle<S: Sink>(&mut self, cpu: u32, task: u16, sink: &mut S)
+        requires { HasRoom throttle_pushes self.old }
+        ensures { Does S.takes throttle_pushes (throttle self.old cpu task)
+            self.old sink.old self.new sink.new }
+    {
+        sink.take(self.world.note(What::Stop(task, cpu)));
+        self.world.stop(cpu, task);
+        self.stopping(cpu, task, 1, sink);
+        self.park(task, sink);
+        self.cycle(cpu, None, true, sink);
+    }
+
+    /// A task whose slice has run out may be replaced.
+    #[tactic(auto, unfolding(crate::specs::Events::expire), using(crate::proofs::Taking::takings))]
+    fn expire<S: Sink>(&mut self, cpu: u32, task: u16, sink: &mut S)
+        requires { HasRoom cycle_pushes self.old }
+        ensures { Does S.takes cycle_pushes (expire self.old cpu task)
+            self.old sink.old self.new sink.new }
+    {
+        if self.world.task(task).slice == 0 {
+            self.cycle(cpu, Some(task), true, sink);
+        }
+    }
+
+    /// A task has run for a millisecond, which its groups have used.
+    #[tactic(auto, unfolding(crate::specs::Events::count_down), using(crate::proofs::Taking::takings))]
+    fn count_down<S: Sink>(&mut self, cpu: u32, task: u16, sink: &mut S)
+        requires early { (task_at self.old.world task).run_ns < 2 ^ 63 }
+        requires used { (g : ℕ) → usage_of self.old.world.tree g < 2 ^ 63 }
+        requires room { HasRoom throttle_pushes self.old }
+        ensures { Does S.takes throttle_pushes (count_down self.old cpu task)
+            self.old sink.old self.new sink.new }
+    {
+        self.world.run_tick(task);
+        self.world.use_ms(task);
+        if self.world.is_throttled(task) {
+            self.throttle(cpu, task, sink);
+        } else {
+            self.expire(cpu, task, sink);
+        }
+    }
+
+    /// A processor ran for a millisecond.
+    #[tactic(auto, unfolding(crate::specs::Events::tick), using(crate::proofs::Taking::takings))]
+    fn tick<S: Sink>(&mut self, cpu: u32, sink: &mut S)
+        requires early { (t : ℕ) → (task_at self.old.world t).run_ns < 2 ^ 63 }
+        requires used { (g : ℕ) → usage_of self.old.world.tree g < 2 ^ 63 }
+        requires room { HasRoom throttle_pushes self.old }
+        ensures { Does S.takes throttle_pushes (tick self.old cpu)
+            self.old sink.old self.new sink.new }
+    {
+        match self.world.running(cpu) {
+            Some(task) => self.count_down(cpu, task, sink),
+            None => self.cycle(cpu, None, false, sink),
+        }
+    }
+
+    /// Who has waited too long, while the policy is in force.
+    fn overdue(&mut self) -> Option<u16>
+        ensures answer { result ≡ overdue self.old }
+        ensures same { self.new ≡ self.old }
+    {
+        if self.is_ejected() {
+            return None;
+        }
+        self.world.first_overdue(self.policy.timeout_ms())
+    }
+
+    /// A policy that let a task wait too long is ejected.
+    #[tactic(auto, using(crate::proofs::Taking::takings))]
+    fn watch<S: Sink>(&mut self, sink: &mut S)
+        requires { HasRoom eject_pushes self.old }
+        ensures { Does S.takes eject_pushes (eject_if_stalled (overdue self.old) self.old)
+            self.old sink.old self.new sink.new }
+    {
+        if let Some(task) = self.overdue() {
+            let clock = self.world.clock();
+            self.eject(Eject::Stall(task, clock), sink);
+        }
+    }
+
+    /// The clock grows by a millisecond, and periods begin: who may run again is let go.
+    #[tactic(auto, unfolding(crate::specs::Events::clock), using(crate::proofs::Taking::takings))]
+    fn clock<S: Sink>(&mut self, sink: &mut S)
+        requires early { self.old.world.clock < 2 ^ 32 }
+        requires room { HasRoom event_pushes self.old }
+        ensures { Does S.takes clock_pushes (clock self.old)
+            self.old sink.old self.new sink.new }
+    {
+        self.world.advance();
+        self.world.begin_periods();
+        self.let_all_go(sink);
+        self.watch(sink);
+    }
+
+    /// Does what an event does that is accepted.
+    #[tactic(auto, using(crate::proofs::Taking::takings))]
+    pub fn event<S: Sink>(&mut self, event: Event, sink: &mut S)
+        requires accepted { refusal self.old event ≡ None }
+        requires early { self.old.world.clock < 2 ^ 32 }
+        requires runs { (t : ℕ) → (task_at self.old.world t).run_ns < 2 ^ 63 }
+        requires used { (g : ℕ) → usage_of self.old.world.tree g < 2 ^ 63 }
+        requires room { HasRoom event_pushes self.old }
+        ensures { Does S.takes event_pushes (event_step self.old event)
+            self.old sink.old self.new sink.new }
+    {
+        match event {
+            Event::Wake(task) => self.wake(task, sink),
+            Event::Sleep(task) => self.sleep(task, sink),
+            Event::Tick(cpu) => self.tick(cpu, sink),
+            Event::Clock => self.clock(sink),
+            Event::SetWeight(group, weight) => {
+                self.world.set_weight(group, weight);
+                sink.take(self.world.note(What::Weight(group, weight)));
+            }
+        }
+    }
+}

@@ -1,0 +1,58 @@
+ghost use Rattle.std.specs.Prelude.{◌≡◌};
+ghost use Rattle.scx_sched_machine.specs.Cycle.{has_local, asks_again};
+
+use crate::policy::Policy;
+use scx_maps::Maps;
+use scx_sched_world::World;
+use scx_vm_run::Core;
+use std::marker::Model;
+
+/// A policy, its maps, and the world that its programs see.
+#[derive(Drop)]
+pub struct Machine {
+    pub(crate) policy: Policy,
+    pub(crate) maps: Maps,
+    pub(crate) world: World,
+    /// What programs run on, one after another.
+    pub(crate) core: Core,
+}
+
+impl Model for Machine {
+    ghost use Rattle.scx_maps.specs.Contents.{HasShapes};
+    ghost use Rattle.scx_sched_machine.specs.Steps.{State};
+
+    ghost Value = { State };
+
+    ghost view = { λ m. record { policy = m.policy; maps = m.maps; world = m.world } };
+
+    // The maps keep the shapes that the policy's programs were verified for.
+    ghost invariant = { λ m. HasShapes m.policy.shapes m.maps };
+}
+
+impl Machine {
+    pub fn policy(&self) -> &Policy
+        ensures { result.now ≡ self.now.policy }
+    {
+        &self.policy
+    }
+
+    pub fn world(&self) -> &World
+        ensures { result.now ≡ self.now.world }
+    {
+        &self.world
+    }
+
+    /// Whether a task waits in the local queue of the processor.
+    pub(crate) fn has_local(&self, cpu: u32) -> bool
+        ensures { result ≡ has_local self.now cpu }
+    {
+        self.world.local_len(cpu) != 0
+    }
+
+    /// Whether dispatch is asked again: it moved something, and the local queue is empty still.
+    pub(crate) fn asks_again(&self, cpu: u32) -> bool
+        ensures { result ≡ asks_again self.now cpu }
+    {
+        self.world.local_len(cpu) == 0 && self.world.has_moved()
+    }
+}

@@ -1,0 +1,79 @@
+ghost use Rattle.std.specs.Prelude.{◌≡◌, ◌+◌, ◌≤◌};
+ghost use Rattle.scx_sched_machine.specs.Budgets.{HasRoom, pushes_due, enter_pushes, put_pushes};
+ghost use Rattle.scx_sched_machine.specs.Does.{Does};
+ghost use Rattle.scx_sched_machine.specs.Put.{enters, enqueue_choice, enters_builtin, comes_in, put};
+
+use crate::callbacks::task_and_number;
+use crate::machine::Machine;
+use crate::sink::Sink;
+use scx_isa::Callback;
+use scx_sched_world::{BUILTIN, Insert, What};
+
+impl Machine {
+    /// The task comes to wait as the insert wants it to.
+    #[tactic(auto, unfolding(crate::specs::Put::enters), using(crate::proofs::Taking::takings))]
+    pub(crate) fn enter<S: Sink>(&mut self, task: u16, insert: Insert, sink: &mut S)
+        requires { HasRoom enter_pushes self.old }
+        ensures { Does S.takes enter_pushes (enters self.old task insert)
+            self.old sink.old self.new sink.new }
+    {
+        sink.take(self.world.note(What::Insert(task, insert.queue)));
+        self.world.enter(task, insert);
+    }
+
+    /// Where enqueue wanted the task at hand to wait, for that processor.
+    fn enqueue_choice(&self, cpu: u32) -> Insert
+        ensures { result ≡ enqueue_choice self.now.policy.callbacks.enqueue cpu self.now.world.call.insert }
+    {
+        if self.policy.program(Callback::Enqueue).is_none() {
+            return Insert::global();
+        }
+        match self.world.insert() {
+            Some(insert) => insert.for_cpu(cpu),
+            None => Insert::held(),
+        }
+    }
+
+    /// The task comes to wait for the built-in scheduler.
+    #[tactic(auto, unfolding(crate::specs::Put::enters_builtin), using(crate::proofs::Taking::takings))]
+    fn enter_builtin<S: Sink>(&mut self, task: u16, sink: &mut S)
+        requires { HasRoom enter_pushes self.old }
+        ensures { Does S.takes enter_pushes (enters_builtin self.old task)
+            self.old sink.old self.new sink.new }
+    {
+        sink.take(self.world.note(What::Insert(task, BUILTIN)));
+        self.world.put_builtin(task);
+    }
+
+    /// The task comes to wait where enqueue wanted it to, or for the built-in scheduler.
+    #[tactic(auto, unfolding(crate::specs::Put::comes_in), using(crate::proofs::Taking::takings))]
+    fn come_in<S: Sink>(&mut self, task: u16, cpu: u32, sink: &mut S)
+        requires { HasRoom enter_pushes self.old }
+        ensures { Does S.takes enter_pushes (comes_in self.old task cpu)
+            self.old sink.old self.new sink.new }
+    {
+        if self.is_ejected() {
+            self.enter_builtin(task, sink);
+        } else {
+            self.enter(task, self.enqueue_choice(cpu), sink);
+        }
+    }
+
+    /// Asks enqueue where the task is to wait, and puts it there.
+    #[tactic(auto, unfolding(crate::specs::Put::put), using(crate::proofs::Taking::takings))]
+    pub(crate) fn put<S: Sink>(&mut self, task: u16, cpu: u32, flags: u64, sink: &mut S)
+        requires { HasRoom put_pushes self.old }
+        ensures does { Does S.takes put_pushes (put self.old task cpu flags)
+            self.old sink.old self.new sink.new }
+        ensures committed { pushes_due self.new ≤ pushes_due self.old + enter_pushes }
+    {
+        self.call_back(
+            Callback::Enqueue,
+            task_and_number(task, flags),
+            task,
+            cpu,
+            sink,
+        );
+        self.come_in(task, cpu, sink);
+    }
+}

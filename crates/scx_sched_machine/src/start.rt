@@ -1,0 +1,213 @@
+ghost use Rattle.std.specs.Prelude.{◌≡◌, ◌+◌, ◌≤◌, ◌<◌, ◌^◌, ◌++◌, true, false, Some, None, Ok, Err, length, IfOk, IfErr, OnOk, OnErr};
+ghost use Rattle.scx_weights.specs.Counting.{any_below};
+ghost use Rattle.scx_weights.specs.Hierarchy.{is_active_task};
+ghost use Rattle.scx_sched_machine.specs.declared.start.NewError.TheVariants.{OutOfMemory};
+ghost use Rattle.scx_sched_machine.specs.Policy.{IsTimeout, AreAs};
+ghost use Rattle.scx_sched_machine.specs.Budgets.{HasRoom, enable_pushes, program_pushes, start_pushes};
+ghost use Rattle.scx_sched_machine.specs.Callbacks.{AreAnswered};
+ghost use Rattle.scx_sched_machine.specs.Start.{is_bad_shape, blank, fault_answer, after_init, enable, after_enables, all_enabled, first_state, IsRefusal, init_calls, enable_calls, calls_below, calls_after_init, start_calls, AreAnsweredBefore};
+
+use crate::callbacks::{one_task, run_callback};
+use crate::machine::Machine;
+use crate::policy::Policy;
+use scx_isa::Callback;
+use scx_maps::Maps;
+use scx_sched_world::World;
+use scx_vm::Args;
+use scx_vm_run::Core;
+use scx_weights::Tree;
+use std::alloc::{AllocError, Global};
+use thiserror::Error;
+
+/// Why a machine isn't made.
+#[derive(Clone, Copy, Debug, PartialEq, Eq, Error)]
+pub enum NewError {
+    /// init answered that number, or init or enable had a fault: -22.
+    #[error("init answered {0}")]
+    InitFailed(i64),
+    /// The number of processors is out of range, or a task is active before anything has happened.
+    #[error("there must be 1 to 64 processors, and no task may be active")]
+    BadShape,
+    /// Memory ran out, after the shape was looked at and before any callback ran.
+    #[error("out of memory")]
+    OutOfMemory,
+}
+
+impl From<AllocError> for NewError {
+    ghost from_gives = { λ _ e. e ≡ OutOfMemory };
+
+    fn from(_error: AllocError) -> NewError {
+        NewError::OutOfMemory
+    }
+}
+
+/// What stands for a fault in init or enable: Linux's EINVAL.
+const FAULT_ANSWER: i64 = -22;
+
+impl Machine {
+    /// The machine of a policy, after its init and its enable of each task.
+    ///
+    /// The shape is looked at first: 1 to 64 processors, and no active task. Then all memory is taken, and
+    /// then init runs.
+    pub fn new(alloc: Global, policy: Policy, tree: Tree, cpus: usize) -> Result<Machine, NewError>
+        ensures shape { OnOk result (is_bad_shape tree cpus ≡ false) }
+        ensures made { IfOk result (λ machine. first_state policy tree cpus ≡ Ok machine) }
+        ensures few { IfOk result (λ machine. machine.world.queues.pushes ≤ start_pushes) }
+        ensures flags { OnOk result (length tree.active ≡ length tree.homes) }
+        ensures timeout { OnOk result (IsTimeout policy.timeout_ms) }
+        ensures programs { OnOk result (AreAs policy.callbacks) }
+        ensures refused { IfErr result (IsRefusal policy tree cpus) }
+        ensures answered { OnOk result (AreAnswered (start_calls policy tree cpus)) }
+        ensures answered_before { IfErr result (AreAnsweredBefore policy tree cpus) }
+    {
+        if is_bad_shape(&tree, cpus) {
+            drop(policy);
+            drop(tree);
+            return Err(NewError::BadShape);
+        }
+        let mut machine = Machine::blank(alloc, policy, tree, cpus)?;
+        match machine.begin() {
+            Ok(()) => Ok(machine),
+            Err(answer) => {
+                drop(machine);
+                Err(NewError::InitFailed(answer))
+            }
+        }
+    }
+
+    /// Before any callback. All memory is taken here.
+    fn blank(alloc: Global, policy: Policy, tree: Tree, cpus: usize) -> Result<Machine, AllocError>
+        requires { cpus ≤ 64 }
+        ensures blank { IfOk result (λ machine. machine ≡ blank policy tree cpus) }
+        ensures few { IfOk result (λ machine. machine.world.queues.pushes ≡ 0) }
+        ensures flags { OnOk result (length tree.active ≡ length tree.homes) }
+        ensures timeout { OnOk result (IsTimeout policy.timeout_ms) }
+        ensures programs { OnOk result (AreAs policy.callbacks) }
+    {
+        let maps = Maps::new(alloc, policy.defs());
+        match (maps, World::new(alloc, tree, cpus)) {
+            (Ok(maps), Ok(mut world)) => {
+                world.begin_periods();
+                Ok(Machine {
+                    policy,
+                    maps,
+                    world,
+                    core: Core::new(),
+                })
+            }
+            (maps, world) => {
+                drop(policy);
+                drop(maps);
+                drop(world);
+                Err(AllocError)
+            }
+        }
+    }
+
+    /// Runs init, and enable of each task; where one fails, answers the number that stands for it.
+    #[tactic(auto, using(crate::proofs::Taking::answered_append))]
+    fn begin(&mut self) -> Result<(), i64>
+        requires { self.old.world.queues.pushes ≡ 0 }
+        ensures done { OnOk result (all_enabled (after_init self.old) ≡ Ok self.new) }
+        ensures failed { IfErr result (λ answer. all_enabled (after_init self.old) ≡ Err answer) }
+        ensures few { self.new.world.queues.pushes ≤ start_pushes }
+        ensures answered { AreAnswered
+            (init_calls self.old ++ calls_after_init (after_init self.old)) }
+    {
+        self.initialize()?;
+        self.enable_all()
+    }
+
+    /// Runs init. Where it fails, answers the number that stands for it.
+    #[tactic(auto, unfolding(crate::specs::Start::after_init))]
+    fn initialize(&mut self) -> Result<(), i64>
+        requires { HasRoom program_pushes self.old }
+        ensures done { OnOk result (after_init self.old ≡ Ok self.new) }
+        ensures failed { IfErr result (λ answer. after_init self.old ≡ Err answer) }
+        ensures few { self.new.world.queues.pushes ≤ self.old.world.queues.pushes + program_pushes }
+        ensures answered { AreAnswered (init_calls self.old) }
+    {
+        self.world.begin(Callback::Init, 0, 0);
+        let answer = run_callback(
+            &mut self.core,
+            &self.policy,
+            Callback::Init,
+            Args::NONE,
+            &mut self.maps,
+            &mut self.world,
+        );
+        if self.world.first_fault().is_some() {
+            return Err(FAULT_ANSWER);
+        }
+        if answer != 0 {
+            return Err(answer.cast_signed());
+        }
+        self.world.quiet();
+        Ok(())
+    }
+
+    /// Runs enable of each task, by number.
+    #[tactic(auto, using(crate::proofs::Enabling::answered_next))]
+    fn enable_all(&mut self) -> Result<(), i64>
+        requires { HasRoom enable_pushes self.old }
+        ensures done { OnOk result
+            (after_enables (length self.old.world.tasks) self.old ≡ Some self.new) }
+        ensures failed { OnErr result (after_enables (length self.old.world.tasks) self.old ≡ None) }
+        ensures answer { IfErr result (λ answer. answer ≡ fault_answer) }
+        ensures few { self.new.world.queues.pushes ≤ self.old.world.queues.pushes + enable_pushes }
+        ensures answered { AreAnswered (calls_below (length self.old.world.tasks) self.old) }
+    {
+        for task in 0..self.world.tasks() {
+            if let Err(answer) = self.enable(task) {
+                return Err(answer);
+            }
+        }
+        Ok(())
+    }
+
+    /// Runs enable of a task.
+    #[tactic(auto, unfolding(crate::specs::Start::enable))]
+    fn enable(&mut self, task: u16) -> Result<(), i64>
+        requires { HasRoom program_pushes self.old }
+        ensures done { OnOk result (enable self.old task ≡ Some self.new) }
+        ensures failed { OnErr result (enable self.old task ≡ None) }
+        ensures answer { IfErr result (λ answer. answer ≡ fault_answer) }
+        ensures few { self.new.world.queues.pushes ≤ self.old.world.queues.pushes + program_pushes }
+        ensures answered { AreAnswered (enable_calls (Some self.old) task) }
+    {
+        self.world.begin(Callback::Enable, task, 0);
+        run_callback(
+            &mut self.core,
+            &self.policy,
+            Callback::Enable,
+            one_task(task),
+            &mut self.maps,
+            &mut self.world,
+        );
+        if self.world.first_fault().is_some() {
+            return Err(FAULT_ANSWER);
+        }
+        self.world.quiet();
+        Ok(())
+    }
+}
+
+/// Whether a machine can't be made of these.
+fn is_bad_shape(tree: &Tree, cpus: usize) -> bool
+    ensures { result ≡ is_bad_shape tree.now cpus }
+{
+    cpus < 1 || cpus > 64 || has_active(tree)
+}
+
+/// Whether a task is active.
+#[tactic(auto, using(crate::proofs::Active::none_below_next))]
+fn has_active(tree: &Tree) -> bool
+    ensures { result ≡ any_below (length tree.now.homes) (λ t. is_active_task tree.now t) }
+{
+    for task in 0..tree.tasks() {
+        if tree.is_active(task) {
+            return true;
+        }
+    }
+    false
+}

@@ -1,0 +1,537 @@
+-- A cycle as it is computed is allowed, and no other is.
+use Rattle.std.proofs.Common.{◌≡◌, ℕ, zero, suc, ◌+◌, ◌<◌, ◌≤◌, cond, Bool, true, false, not, ◌==◌, ◌&&◌, nat_lt, ◌⊎◌, inl, inr, if◌then◌else◌, [], ◌∷◌, Option, Some, None, is_some, refl, sym, ◌∙◌, ap, subst, arith}
+use Rattle.std.proofs.lemmas.Bool.Decides.{nat_tests}
+use Rattle.std.proofs.lemmas.Bool.{cases_eq, cases_lt, eq-eqb, ne_eqb}
+use Rattle.scx_dsq.specs.Queues.{len_of, front_of}
+use Rattle.scx_vm_safety.specs.Programs.{VerifiedProgram}
+use Rattle.scx_isa_semantics.specs.declared.callbacks.Callback.TheVariants as callback
+use Rattle.scx_sched_world.specs.declared.call.Insert.{Insert}
+use Rattle.scx_sched_world.specs.declared.eject.Eject.{Eject}
+use Rattle.scx_sched_world.specs.declared.notes.What.TheVariants as note
+use Rattle.scx_sched_world.specs.Ids.{global, builtin_queue, parked_queue, local_on}
+use Rattle.scx_sched_world.specs.World.{note_now}
+use Rattle.scx_sched_world.specs.Tasks.{local_len, brought}
+use Rattle.scx_sched_world.specs.Ejecting.{put_builtin, after_catch_up, after_charge}
+use Rattle.scx_sched_machine.specs.Steps.{State, Stepped, with_world, stays, after, one_after_other}
+use Rattle.scx_sched_machine.specs.Callbacks.{call_back, one_task, task_and_number}
+use Rattle.scx_sched_machine.specs.Put.{enters, enqueue_choice, enters_builtin, comes_in, put}
+use Rattle.scx_sched_machine.specs.Filling.{move_note, fill}
+use Rattle.scx_sched_machine.specs.Parking.{park, park_front, if_throttled, throttled_front, park_fronts, clear, in_reach, supply, FrontMayRun}
+use Rattle.scx_sched.proofs.Supplying.{park_fronts_from, clear_from, empty_no_front, throttled_is, front_is_free, len_park_front, reach_fill, reach_park_front}
+use Rattle.scx_sched_machine.specs.Cycle.{after_dispatch, tries, stopping, running_on, leave, started_if, start, rest, swap, swap_or_rest, builtin_dispatch, builtin_fill, builtin_ask, builtin_cycle, start_or_cycle, pick, pick_or_rest, conclude, ask, seek, look, cycling, cycle}
+use Rattle.scx_sched_rules.specs.Cycles.{noting, silent, entering, enqueue_called, dispatch_called, gone_off, gone_on, HasStopped, Policy_hears, Is_charged, HasStarted, Policy_learns, Catches_up, Enters, For_builtin, Default, Held, Inserted, Puts, Fills, HasLocal, NoOther, Moves, Parks, ParksFronts, NoneLeft, OneMore, Supplies, Supplied, ParkedOne, FillsBuiltin, HasOne, Looked, Dispatches, Asks, Enough, Came, NothingMoved, Again, Leaves, Nobody, Stops, Starts, Empty, Front, Rests, Keeps, Idles, WasIdle, Swaps, SwapsOrRests, Swapped, Kept, CyclesBuiltin, Picks, Runs_front, Emptied, Ends, Anew, Picked, Rested, Seeks, Filled, Asked, Looks, Of_policy, Of_builtin, Cycles}
+
+-- ---- put
+
+abbrev placed_as : State → ℕ → ℕ → Option Eject → Option VerifiedProgram → Option Insert → Stepped
+placed_as s t c x p i = if is_some x then noting s (put_builtin s.world t) (note.Insert t builtin_queue) else entering s t (enqueue_choice p c i)
+
+comes : (s : State) (t c : ℕ) → Enters s t c (comes_in s t c)
+unfolding comes_in enters enters_builtin
+comes s t c = go s.world.ejected refl s.policy.callbacks.enqueue refl s.world.call.insert refl
+  where
+    go : (x : Option Eject) → s.world.ejected ≡ x → (p : Option VerifiedProgram) → s.policy.callbacks.enqueue ≡ p → (i : Option Insert) → s.world.call.insert ≡ i → Enters s t c (placed_as s t c x p i)
+    go (Some x) d p e i y = For_builtin x d refl
+    go None d None e i y = Default d e refl
+    go None d (Some p) e None y = Held p d e y refl
+    go None d (Some p) e (Some i) y = Inserted p i d e y refl
+
+placed_is : (s : State) (t c : ℕ) (x : Option Eject) (p : Option VerifiedProgram) (i : Option Insert) → s.world.ejected ≡ x → s.policy.callbacks.enqueue ≡ p → s.world.call.insert ≡ i
+    → placed_as s t c x p i ≡ comes_in s t c
+unfolding comes_in enters enters_builtin
+placed_is s t c x p i d e y =
+    ap (λ o. placed_as s t c x p o) (sym y) ∙ ap (λ o. placed_as s t c x o s.world.call.insert) (sym e) ∙ ap (λ o. placed_as s t c o s.policy.callbacks.enqueue s.world.call.insert) (sym d)
+
+only_comes : (s : State) (t c : ℕ) (r : Stepped) → Enters s t c r → r ≡ comes_in s t c
+only_comes s t c r (For_builtin x d k) = k ∙ placed_is s t c (Some x) s.policy.callbacks.enqueue s.world.call.insert d refl refl
+only_comes s t c r (Default d e k) = k ∙ placed_is s t c None None s.world.call.insert d e refl
+only_comes s t c r (Held p d e y k) = k ∙ placed_is s t c None (Some p) None d e y
+only_comes s t c r (Inserted p i d e y k) = k ∙ placed_is s t c None (Some p) (Some i) d e y
+
+-- a task is put as it is computed
+pub puts : (s : State) (t c flags : ℕ) → Puts s t c flags (put s t c flags)
+unfolding put
+puts s t c flags = record { put = comes_in (enqueue_called s t c flags).state t c; enters = comes (enqueue_called s t c flags).state t c; all = refl }
+
+-- and in no other way
+pub only_puts : (s : State) (t c flags : ℕ) (r : Stepped) → Puts s t c flags r → r ≡ put s t c flags
+unfolding put
+only_puts s t c flags r h = h.all ∙ ap (λ x. one_after_other (enqueue_called s t c flags) x) (only_comes (enqueue_called s t c flags).state t c h.put h.enters)
+
+-- ---- on and off a processor
+
+abbrev stopped_as : State → ℕ → ℕ → ℕ → Option Eject → Stepped
+stopped_as s c t n x = if is_some x then silent s (after_charge s.world t) else call_back s callback.Stopping (task_and_number t n) t c
+
+-- a task leaves its processor as it is computed
+pub stops : (s : State) (c t n : ℕ) → HasStopped s c t n (stopping s c t n)
+unfolding stopping
+stops s c t n = go s.world.ejected refl
+  where
+    go : (x : Option Eject) → s.world.ejected ≡ x → HasStopped s c t n (stopped_as s c t n x)
+    go None e = Policy_hears e refl
+    go (Some x) e = Is_charged x e refl
+
+-- and in no other way
+pub only_stops : (s : State) (c t n : ℕ) (r : Stepped) → HasStopped s c t n r → r ≡ stopping s c t n
+unfolding stopping
+only_stops s c t n r (Policy_hears e k) = k ∙ ap (λ o. stopped_as s c t n o) (sym e)
+only_stops s c t n r (Is_charged x e k) = k ∙ ap (λ o. stopped_as s c t n o) (sym e)
+
+abbrev started_as : State → ℕ → ℕ → Option Eject → Stepped
+started_as s c t x = if is_some x then silent s (after_catch_up s.world t) else call_back s callback.Running (one_task t) t c
+
+runs : (s : State) (c t : ℕ) → HasStarted s c t (running_on s c t)
+unfolding running_on
+runs s c t = go s.world.ejected refl
+  where
+    go : (x : Option Eject) → s.world.ejected ≡ x → HasStarted s c t (started_as s c t x)
+    go None e = Policy_learns e refl
+    go (Some x) e = Catches_up x e refl
+
+only_runs : (s : State) (c t : ℕ) (r : Stepped) → HasStarted s c t r → r ≡ running_on s c t
+unfolding running_on
+only_runs s c t r (Policy_learns e k) = k ∙ ap (λ o. started_as s c t o) (sym e)
+only_runs s c t r (Catches_up x e k) = k ∙ ap (λ o. started_as s c t o) (sym e)
+
+-- ---- fill
+
+some_is : (k : ℕ) → 0 < k → nat_lt 0 k ≡ true
+some_is k l = grind (arith, nat_tests, l)
+
+none_is : (k : ℕ) → k ≡ 0 → nat_lt 0 k ≡ false
+none_is k e = grind (arith, nat_tests, e)
+
+fills : (s : State) (q c : ℕ) → Fills s q c (fill s q c)
+unfolding fill
+fills s q c = go (cases_lt 0 (local_len s.world c)) (front_of s.world.queues q) refl
+  where
+    go : (0 < local_len s.world c) ⊎ (local_len s.world c ≤ 0) → (o : Option ℕ) → front_of s.world.queues q ≡ o
+        → Fills s q c (record { state = with_world s (brought (if nat_lt 0 (local_len s.world c) then None else o) s.world q c); notes = move_note s.world (if nat_lt 0 (local_len s.world c) then None else o) c; calls = [] })
+    go (inl l) o e = rw (some_is (local_len s.world c) l) (HasLocal l refl)
+    go (inr l) None e = let z : local_len s.world c ≡ 0 = omega (arith, l) in rw (none_is (local_len s.world c) z) (NoOther z e refl)
+    go (inr l) (Some t) e = let z : local_len s.world c ≡ 0 = omega (arith, l) in rw (none_is (local_len s.world c) z) (Moves t z e refl)
+
+only_fills : (s : State) (q c : ℕ) (r : Stepped) → Fills s q c r → r ≡ fill s q c
+unfolding fill
+only_fills s q c r (HasLocal l k) = rw (some_is (local_len s.world c) l) k
+only_fills s q c r (NoOther z e k) = rw (none_is (local_len s.world c) z, e) k
+only_fills s q c r (Moves t z e k) = rw (none_is (local_len s.world c) z, e) k
+
+-- ---- supply
+
+parks : (s : State) (q t : ℕ) → throttled_front s q ≡ Some t → Parks s q t (park_front s q t)
+unfolding park_front park
+parks s q t e = let x = throttled_is s q t e in record { front = x.front; throttled = x.throttled; all = refl }
+
+only_parks : (s : State) (q t : ℕ) (r : Stepped) → Parks s q t r → r ≡ park_front s q t
+unfolding park_front park
+only_parks s q t r h = h.all
+
+-- that front is the one that is looked for
+is_throttled_front : (s : State) (q t : ℕ) (r : Stepped) → Parks s q t r → throttled_front s q ≡ Some t
+is_throttled_front s q t r h = ap (λ o. if_throttled s.world o) h.front ∙ ap (λ b. cond b (Some t) None) h.throttled
+
+no_throttled_front : (s : State) (q : ℕ) → FrontMayRun s q → throttled_front s q ≡ None
+no_throttled_front s q h = go (front_of s.world.queues q) refl
+  where
+    go : (o : Option ℕ) → front_of s.world.queues q ≡ o → if_throttled s.world o ≡ None
+    go None e = refl
+    go (Some t) e = ap (λ b. cond b (Some t) None) (h t e)
+
+-- ---- fronts of a queue are parked
+
+parks_fronts : (j : ℕ) (s : State) (q : ℕ) → (parked_queue == q) ≡ false → len_of s.world.queues q ≤ j → ParksFronts q s (park_fronts j s q)
+unfolding park_fronts
+parks_fronts zero s q apart few = NoneLeft q s _ (λ t e. let bad : None ≡ Some t = sym (empty_no_front s.world.queues q (omega (arith, few))) ∙ e in absurd (cc)) refl
+parks_fronts (suc j) s q apart few = go (throttled_front s q) refl (λ t l. parks_fronts j (park_front s q t).state q apart l)
+  where
+    go : (o : Option ℕ) → throttled_front s q ≡ o → ((t : ℕ) → len_of (park_front s q t).state.world.queues q ≤ j → ParksFronts q (park_front s q t).state (park_fronts j (park_front s q t).state q)) → ParksFronts q s (park_fronts_from j s q o)
+    go None e more = NoneLeft q s _ (front_is_free s q e) refl
+    go (Some t) e more = OneMore q s t (park_front s q t) _ _ (parks s q t e) (more t (omega (arith, few, len_park_front s q t apart (throttled_is s q t e).front))) refl
+
+only_parks_fronts : (j : ℕ) (s : State) (q : ℕ) (r : Stepped) → (parked_queue == q) ≡ false → len_of s.world.queues q ≤ j → ParksFronts q s r → r ≡ park_fronts j s q
+unfolding park_fronts
+only_parks_fronts zero s q r apart few (NoneLeft _ _ _ h k) = k
+only_parks_fronts (suc j) s q r apart few (NoneLeft _ _ _ h k) = k ∙ ap (λ o. park_fronts_from j s q o) (sym (no_throttled_front s q h))
+only_parks_fronts zero s q r apart few (OneMore _ _ t gone more _ h y k) = let bad : None ≡ Some t = sym (empty_no_front s.world.queues q (omega (arith, few))) ∙ h.front in absurd (cc)
+only_parks_fronts (suc j) s q r apart few (OneMore _ _ t gone more _ h y k) =
+    let e = only_parks s q t gone h in
+    let l : len_of gone.state.world.queues q ≤ j = subst (λ (x : Stepped). len_of x.state.world.queues q ≤ j) (sym e) (omega (arith, few, len_park_front s q t apart h.front)) in
+    k ∙ ap (λ x. one_after_other gone x) (only_parks_fronts j gone.state q more apart l y) ∙ ap (λ (x : Stepped). one_after_other x (park_fronts j x.state q)) e ∙ ap (λ o. park_fronts_from j s q o) (sym (is_throttled_front s q t gone h))
+
+-- ---- a local queue
+
+nobody_front : (s : State) (c : ℕ) → in_reach s c ≤ 0 → FrontMayRun s (local_on c)
+nobody_front s c few t e = let bad : None ≡ Some t = sym (empty_no_front s.world.queues (local_on c) (omega (arith, few))) ∙ e in absurd (cc)
+
+fills_none : (s : State) (c : ℕ) → in_reach s c ≤ 0 → Fills s global c (stays s)
+fills_none s c few = NoOther (omega (arith, few)) (empty_no_front s.world.queues global (omega (arith, few))) refl
+
+clears : (j : ℕ) (s : State) (c : ℕ) → in_reach s c ≤ j → Supplies c s (clear j s c)
+unfolding clear
+clears zero s c few = Supplied c s (stays s) _ (fills_none s c few) (nobody_front s c few) refl
+clears (suc j) s c few = go (throttled_front (fill s global c).state (local_on c)) refl (λ t l. clears j (park_front (fill s global c).state (local_on c) t).state c l)
+  where
+    f : Stepped
+    f = fill s global c
+
+    go : (o : Option ℕ) → throttled_front f.state (local_on c) ≡ o → ((t : ℕ) → in_reach (park_front f.state (local_on c) t).state c ≤ j → Supplies c (park_front f.state (local_on c) t).state (clear j (park_front f.state (local_on c) t).state c))
+        → Supplies c s (one_after_other f (clear_from j f.state c o))
+    go None e more = Supplied c s f _ (fills s global c) (front_is_free f.state (local_on c) e) refl
+    go (Some t) e more =
+        ParkedOne c s t f (park_front f.state (local_on c) t) _ _ (fills s global c) (parks f.state (local_on c) t e) (more t (omega (arith, few, reach_fill s c, reach_park_front f.state c t (throttled_is f.state (local_on c) t e).front))) refl
+
+-- how a local queue is supplied is as the rules allow
+pub supplies : (s : State) (c : ℕ) → Supplies c s (supply s c)
+unfolding supply
+supplies s c = clears (in_reach s c) s c (omega arith)
+
+only_clears : (j : ℕ) (s : State) (c : ℕ) (r : Stepped) → in_reach s c ≤ j → Supplies c s r → r ≡ clear j s c
+unfolding clear
+only_clears zero s c r few (Supplied _ _ f _ h x k) =
+    let e : f ≡ stays s = only_fills s global c f h ∙ sym (only_fills s global c (stays s) (fills_none s c few)) in
+    k ∙ ap (λ (y : Stepped). one_after_other y (stays y.state)) e
+only_clears (suc j) s c r few (Supplied _ _ f _ h x k) =
+    k ∙ ap (λ o. one_after_other f (clear_from j f.state c o)) (sym (no_throttled_front f.state (local_on c) x)) ∙ ap (λ (y : Stepped). one_after_other y (clear_from j y.state c (throttled_front y.state (local_on c)))) (only_fills s global c f h)
+only_clears zero s c r few (ParkedOne _ _ t f gone more _ h y z k) =
+    let e = only_fills s global c f h in
+    let less : in_reach f.state c ≤ in_reach s c = subst (λ (x : Stepped). in_reach x.state c ≤ in_reach s c) (sym e) (reach_fill s c) in
+    absurd (omega (arith, few, less, reach_park_front f.state c t y.front))
+only_clears (suc j) s c r few (ParkedOne _ _ t f gone more _ h y z k) =
+    let e = only_fills s global c f h in
+    let less : in_reach f.state c ≤ in_reach s c = subst (λ (x : Stepped). in_reach x.state c ≤ in_reach s c) (sym e) (reach_fill s c) in
+    let d = only_parks f.state (local_on c) t gone y in
+    let l : in_reach gone.state c ≤ j = subst (λ (x : Stepped). in_reach x.state c ≤ j) (sym d) (omega (arith, few, less, reach_park_front f.state c t y.front)) in
+    k ∙ ap (λ x. one_after_other f (one_after_other gone x)) (only_clears j gone.state c more l z) ∙ ap (λ (x : Stepped). one_after_other f (one_after_other x (clear j x.state c))) d
+    ∙ ap (λ o. one_after_other f (clear_from j f.state c o)) (sym (is_throttled_front f.state (local_on c) t gone y)) ∙ ap (λ (x : Stepped). one_after_other x (clear_from j x.state c (throttled_front x.state (local_on c)))) e
+
+only_supplies : (s : State) (c : ℕ) (r : Stepped) → Supplies c s r → r ≡ supply s c
+unfolding supply
+only_supplies s c r h = only_clears (in_reach s c) s c r (omega arith) h
+
+-- ---- dispatch
+
+dispatches : (s : State) (c : ℕ) (p : Option ℕ) → Dispatches s c p (after_dispatch s c p)
+unfolding after_dispatch
+dispatches s c p = record { supplied = supply (dispatch_called s c p).state c; supplies = supplies (dispatch_called s c p).state c; all = refl }
+
+only_dispatches : (s : State) (c : ℕ) (p : Option ℕ) (r : Stepped) → Dispatches s c p r → r ≡ after_dispatch s c p
+unfolding after_dispatch
+only_dispatches s c p r h = h.all ∙ ap (λ x. one_after_other (dispatch_called s c p) x) (only_supplies (dispatch_called s c p).state c h.supplied h.supplies)
+
+asks : (n : ℕ) (s : State) (c : ℕ) (p : Option ℕ) → Asks n s c p (tries n s c p)
+unfolding tries
+asks zero s c p = Enough s c p _ refl
+asks (suc n) s c p = go (asks n d.state c p) (cases_eq (local_len d.state.world c) 0) d.state.world.call.has_moved refl
+  where
+    d : Stepped
+    d = after_dispatch s c p
+
+    go : Asks n d.state c p (tries n d.state c p) → (local_len d.state.world c ≡ 0) ⊎ (local_len d.state.world c ≡ 0 → ⊥) → (b : Bool) → d.state.world.call.has_moved ≡ b
+        → Asks (suc n) s c p (if (local_len d.state.world c == 0) && b then one_after_other d (tries n d.state c p) else d)
+    go more (inl z) true e = rw (eq-eqb (local_len d.state.world c) 0 z) (Again n s c p d (tries n d.state c p) _ (dispatches s c p) z e more refl)
+    go more (inl z) false e = rw (eq-eqb (local_len d.state.world c) 0 z) (NothingMoved n s c p d (dispatches s c p) z e)
+    go more (inr x) b e = rw (ne_eqb (local_len d.state.world c) 0 x) (Came n s c p d (dispatches s c p) (omega (arith, x)))
+
+-- ---- pick
+
+leaves : (s : State) (c : ℕ) (p : Option ℕ) → Leaves s c p (leave s c p)
+unfolding leave
+leaves s c None = Nobody refl refl
+leaves s c (Some t) =
+    let l = stopping (gone_off s c t) c t 1 in
+    Stops t l (put l.state t c 0) refl (stops (gone_off s c t) c t 1) (puts l.state t c 0) refl
+
+abbrev left_as : State → ℕ → ℕ → Stepped → Stepped → Stepped
+left_as s c t l x = after (note_now s.world (note.Stop t c) ∷ []) (one_after_other l x)
+
+only_leaves : (s : State) (c : ℕ) (p : Option ℕ) (r : Stepped) → Leaves s c p r → r ≡ leave s c p
+unfolding leave
+only_leaves s c p r (Nobody e k) = rw e k
+only_leaves s c p r (Stops t l x e h y k) =
+    rw e (k ∙ ap (λ z. left_as s c t l z) (only_puts l.state t c 0 x y) ∙ ap (λ (z : Stepped). left_as s c t z (put z.state t c 0)) (only_stops (gone_off s c t) c t 1 l h))
+
+starts : (s : State) (c : ℕ) → Starts s c (start s c)
+unfolding start
+starts s c = go (front_of s.world.queues (local_on c)) refl
+  where
+    go : (o : Option ℕ) → front_of s.world.queues (local_on c) ≡ o → Starts s c (started_if o s c)
+    go None e = Empty e refl
+    go (Some t) e = Front t (running_on (gone_on s c t) c t) e (runs (gone_on s c t) c t) refl
+
+abbrev run_note : State → ℕ → ℕ → Stepped → Stepped
+run_note s c t x = after (note_now s.world (note.Run t c) ∷ []) x
+
+only_starts : (s : State) (c : ℕ) (r : Stepped) → Starts s c r → r ≡ start s c
+unfolding start
+only_starts s c r (Empty e k) = k ∙ ap (λ o. started_if o s c) (sym e)
+only_starts s c r (Front t x e h k) = k ∙ ap (λ y. run_note s c t y) (only_runs (gone_on s c t) c t x h) ∙ ap (λ o. started_if o s c) (sym e)
+
+-- ---- the local queue is empty, or isn't
+
+is_empty : (s : State) (c : ℕ) → local_len s.world c ≡ 0 → not (local_len s.world c == 0) ≡ false
+is_empty s c z = rw (eq-eqb (local_len s.world c) 0 z) refl
+
+has_some : (s : State) (c : ℕ) → 0 < local_len s.world c → not (local_len s.world c == 0) ≡ true
+has_some s c l = rw (ne_eqb (local_len s.world c) 0 (λ e. omega (arith, e, l))) refl
+
+abbrev HasAny : State → ℕ → Type 0
+HasAny s c = (0 < local_len s.world c) ⊎ (local_len s.world c ≡ 0)
+
+any_here : (s : State) (c : ℕ) → HasAny s c
+any_here s c = go (cases_eq (local_len s.world c) 0)
+  where
+    go : (local_len s.world c ≡ 0) ⊎ (local_len s.world c ≡ 0 → ⊥) → HasAny s c
+    go (inl z) = inr z
+    go (inr x) = inl (omega (arith, x))
+
+-- ---- rest
+
+rests : (s : State) (c : ℕ) (p : Option ℕ) (ran : Bool) → Rests s c p ran (rest s c p ran)
+unfolding rest
+rests s c (Some t) ran = Keeps t ran _ refl
+rests s c None true = Idles _ refl
+rests s c None false = WasIdle _ refl
+
+only_rests : (s : State) (c : ℕ) (p : Option ℕ) (ran : Bool) (r : Stepped) → Rests s c p ran r → r ≡ rest s c p ran
+unfolding rest
+only_rests s c (Some t) ran r (Keeps _ _ _ k) = k
+only_rests s c None true r (Idles _ k) = k
+only_rests s c None false r (WasIdle _ k) = k
+
+-- ---- the built-in scheduler's cycle
+
+swaps : (s : State) (c : ℕ) (p : Option ℕ) → Swaps s c p (swap s c p)
+unfolding swap
+swaps s c p = record { left = leave s c p; leaves = leaves s c p; started = start (leave s c p).state c; starts = starts (leave s c p).state c; all = refl }
+
+only_swaps : (s : State) (c : ℕ) (p : Option ℕ) (r : Stepped) → Swaps s c p r → r ≡ swap s c p
+unfolding swap
+only_swaps s c p r h =
+    h.all ∙ ap (λ x. one_after_other h.left x) (only_starts h.left.state c h.started h.starts) ∙ ap (λ (x : Stepped). one_after_other x (start x.state c)) (only_leaves s c p h.left h.leaves)
+
+abbrev swap_if : State → ℕ → Option ℕ → Bool → Bool → Stepped
+swap_if s c p ran b = if b then swap s c p else rest s c p ran
+
+swaps_or_rests : (s : State) (c : ℕ) (p : Option ℕ) (ran : Bool) → SwapsOrRests s c p ran (swap_or_rest s c p ran)
+unfolding swap_or_rest
+swaps_or_rests s c p ran = go (any_here s c)
+  where
+    go : HasAny s c → SwapsOrRests s c p ran (swap_if s c p ran (not (local_len s.world c == 0)))
+    go (inl l) = rw (has_some s c l) (Swapped l (swaps s c p))
+    go (inr z) = rw (is_empty s c z) (Kept z (rests s c p ran))
+
+only_swaps_or_rests : (s : State) (c : ℕ) (p : Option ℕ) (ran : Bool) (r : Stepped) → SwapsOrRests s c p ran r → r ≡ swap_or_rest s c p ran
+unfolding swap_or_rest
+only_swaps_or_rests s c p ran r (Swapped l h) = only_swaps s c p r h ∙ ap (λ b. swap_if s c p ran b) (sym (has_some s c l))
+only_swaps_or_rests s c p ran r (Kept z h) = only_rests s c p ran r h ∙ ap (λ b. swap_if s c p ran b) (sym (is_empty s c z))
+
+fills_builtin : (s : State) (c : ℕ) → FillsBuiltin s c (builtin_fill s c)
+unfolding builtin_fill builtin_dispatch
+fills_builtin s c = go (any_here s c)
+  where
+    p : Stepped
+    p = park_fronts (len_of s.world.queues builtin_queue) s builtin_queue
+
+    go : HasAny s c → FillsBuiltin s c (if not (local_len s.world c == 0) then stays s else one_after_other p (fill p.state builtin_queue c))
+    go (inl l) = rw (has_some s c l) (HasOne l refl)
+    go (inr z) = rw (is_empty s c z) (Looked p (fill p.state builtin_queue c) z (parks_fronts (len_of s.world.queues builtin_queue) s builtin_queue refl (omega arith)) (fills p.state builtin_queue c) refl)
+
+abbrev builtin_if : State → ℕ → Bool → Stepped → Stepped
+builtin_if s c b p = if b then stays s else one_after_other p (fill p.state builtin_queue c)
+
+only_fills_builtin : (s : State) (c : ℕ) (r : Stepped) → FillsBuiltin s c r → r ≡ builtin_fill s c
+unfolding builtin_fill builtin_dispatch
+only_fills_builtin s c r (HasOne l k) = k ∙ ap (λ b. builtin_if s c b (park_fronts (len_of s.world.queues builtin_queue) s builtin_queue)) (sym (has_some s c l))
+only_fills_builtin s c r (Looked gone filled z h y k) =
+    let d = only_parks_fronts (len_of s.world.queues builtin_queue) s builtin_queue gone refl (omega arith) h in
+    k ∙ ap (λ x. one_after_other gone x) (only_fills gone.state builtin_queue c filled y) ∙ ap (λ (x : Stepped). one_after_other x (fill x.state builtin_queue c)) d
+    ∙ ap (λ b. builtin_if s c b (park_fronts (len_of s.world.queues builtin_queue) s builtin_queue)) (sym (is_empty s c z))
+
+cycles_builtin : (s : State) (c : ℕ) (p : Option ℕ) (ran : Bool) → CyclesBuiltin s c p ran (builtin_cycle s c p ran)
+unfolding builtin_cycle builtin_ask
+cycles_builtin s c p ran = record {
+  supplied = f;
+  supplies = supplies s c;
+  asked = a;
+  asks = fills_builtin f.state c;
+  ended = swap_or_rest a.state c p ran;
+  ends = swaps_or_rests a.state c p ran;
+  all = refl;
+}
+  where
+    f : Stepped
+    f = supply s c
+
+    a : Stepped
+    a = builtin_fill f.state c
+
+abbrev asked_builtin : Stepped → ℕ → Option ℕ → Bool → Stepped → Stepped
+asked_builtin f c p ran a = one_after_other f (one_after_other a (swap_or_rest a.state c p ran))
+
+only_cycles_builtin : (s : State) (c : ℕ) (p : Option ℕ) (ran : Bool) (r : Stepped) → CyclesBuiltin s c p ran r → r ≡ builtin_cycle s c p ran
+unfolding builtin_cycle builtin_ask
+only_cycles_builtin s c p ran r h =
+    h.all ∙ ap (λ x. one_after_other h.supplied (one_after_other h.asked x)) (only_swaps_or_rests h.asked.state c p ran h.ended h.ends)
+    ∙ ap (λ (a : Stepped). asked_builtin h.supplied c p ran a) (only_fills_builtin h.supplied.state c h.asked h.asks)
+    ∙ ap (λ (f : Stepped). asked_builtin f c p ran (builtin_fill f.state c)) (only_supplies s c h.supplied h.supplies)
+
+-- ---- the policy's cycle
+
+abbrev start_if : State → ℕ → Bool → Bool → Stepped
+start_if s c ran b = if b then start s c else builtin_cycle s c None ran
+
+picks : (s : State) (c : ℕ) (p : Option ℕ) (ran : Bool) → Picks s c p ran (pick s c p ran)
+unfolding pick start_or_cycle
+picks s c p ran = go (any_here l.state c)
+  where
+    l : Stepped
+    l = leave s c p
+
+    go : HasAny l.state c → Picks s c p ran (one_after_other l (start_if l.state c ran (not (local_len l.state.world c == 0))))
+    go (inl x) = rw (has_some l.state c x) (Runs_front l (start l.state c) (leaves s c p) x (starts l.state c) refl)
+    go (inr z) = rw (is_empty l.state c z) (Emptied l (builtin_cycle l.state c None ran) (leaves s c p) z (cycles_builtin l.state c None ran) refl)
+
+start_is : (s : State) (c : ℕ) (ran : Bool) → 0 < local_len s.world c → start s c ≡ start_or_cycle s c ran
+unfolding start_or_cycle
+start_is s c ran l = ap (λ b. start_if s c ran b) (sym (has_some s c l))
+
+anew_is : (s : State) (c : ℕ) (ran : Bool) → local_len s.world c ≡ 0 → builtin_cycle s c None ran ≡ start_or_cycle s c ran
+unfolding start_or_cycle
+anew_is s c ran z = ap (λ b. start_if s c ran b) (sym (is_empty s c z))
+
+only_picks : (s : State) (c : ℕ) (p : Option ℕ) (ran : Bool) (r : Stepped) → Picks s c p ran r → r ≡ pick s c p ran
+unfolding pick
+only_picks s c p ran r (Runs_front l x h n y k) =
+    k ∙ ap (λ z. one_after_other l z) (only_starts l.state c x y ∙ start_is l.state c ran n) ∙ ap (λ (z : Stepped). one_after_other z (start_or_cycle z.state c ran)) (only_leaves s c p l h)
+only_picks s c p ran r (Emptied l x h n y k) =
+    k ∙ ap (λ z. one_after_other l z) (only_cycles_builtin l.state c None ran x y ∙ anew_is l.state c ran n) ∙ ap (λ (z : Stepped). one_after_other z (start_or_cycle z.state c ran)) (only_leaves s c p l h)
+
+abbrev pick_if : State → ℕ → Option ℕ → Bool → Bool → Stepped
+pick_if s c p ran b = if b then pick s c p ran else rest s c p ran
+
+abbrev concluded_as : State → ℕ → Option ℕ → Bool → Option Eject → Stepped
+concluded_as s c p ran x = if is_some x then builtin_cycle s c p ran else pick_or_rest s c p ran
+
+ends : (s : State) (c : ℕ) (p : Option ℕ) (ran : Bool) → Ends s c p ran (conclude s c p ran)
+unfolding conclude pick_or_rest
+ends s c p ran = go s.world.ejected refl (any_here s c)
+  where
+    go : (x : Option Eject) → s.world.ejected ≡ x → HasAny s c → Ends s c p ran (if is_some x then builtin_cycle s c p ran else pick_if s c p ran (not (local_len s.world c == 0)))
+    go (Some x) e any = Anew x e (cycles_builtin s c p ran)
+    go None e (inl l) = rw (has_some s c l) (Picked e l (picks s c p ran))
+    go None e (inr z) = rw (is_empty s c z) (Rested e z (rests s c p ran))
+
+pick_is : (s : State) (c : ℕ) (p : Option ℕ) (ran : Bool) → 0 < local_len s.world c → pick s c p ran ≡ pick_or_rest s c p ran
+unfolding pick_or_rest
+pick_is s c p ran l = ap (λ b. pick_if s c p ran b) (sym (has_some s c l))
+
+rest_is : (s : State) (c : ℕ) (p : Option ℕ) (ran : Bool) → local_len s.world c ≡ 0 → rest s c p ran ≡ pick_or_rest s c p ran
+unfolding pick_or_rest
+rest_is s c p ran z = ap (λ b. pick_if s c p ran b) (sym (is_empty s c z))
+
+only_ends : (s : State) (c : ℕ) (p : Option ℕ) (ran : Bool) (r : Stepped) → Ends s c p ran r → r ≡ conclude s c p ran
+unfolding conclude
+only_ends s c p ran r (Anew x e h) = only_cycles_builtin s c p ran r h ∙ ap (λ o. concluded_as s c p ran o) (sym e)
+only_ends s c p ran r (Picked e l h) = only_picks s c p ran r h ∙ pick_is s c p ran l ∙ ap (λ o. concluded_as s c p ran o) (sym e)
+only_ends s c p ran r (Rested e z h) = only_rests s c p ran r h ∙ rest_is s c p ran z ∙ ap (λ o. concluded_as s c p ran o) (sym e)
+
+abbrev seek_if : Stepped → ℕ → Option ℕ → Bool → Bool → Stepped
+seek_if f c p ran b = one_after_other f (if b then pick f.state c p ran else ask f.state c p ran)
+
+seeks : (s : State) (c : ℕ) (p : Option ℕ) (ran : Bool) → Seeks s c p ran (seek s c p ran)
+unfolding seek ask
+seeks s c p ran = go (any_here f.state c)
+  where
+    f : Stepped
+    f = supply s c
+
+    a : Stepped
+    a = tries 32 f.state c p
+
+    go : HasAny f.state c → Seeks s c p ran (seek_if f c p ran (not (local_len f.state.world c == 0)))
+    go (inl l) = rw (has_some f.state c l) (Filled f (pick f.state c p ran) (supplies s c) l (picks f.state c p ran) refl)
+    go (inr z) = rw (is_empty f.state c z) (Asked f a (conclude a.state c p ran) (supplies s c) z (asks 32 f.state c p) (ends a.state c p ran) refl)
+
+-- ---- and nothing else
+
+tries_came : (n : ℕ) (s : State) (c : ℕ) (p : Option ℕ) → 0 < local_len (after_dispatch s c p).state.world c → tries (suc n) s c p ≡ after_dispatch s c p
+unfolding tries
+tries_came n s c p l = rw (ne_eqb (local_len (after_dispatch s c p).state.world c) 0 (λ e. omega (arith, e, l))) refl
+
+tries_moved_none : (n : ℕ) (s : State) (c : ℕ) (p : Option ℕ) → local_len (after_dispatch s c p).state.world c ≡ 0 → (after_dispatch s c p).state.world.call.has_moved ≡ false → tries (suc n) s c p ≡ after_dispatch s c p
+unfolding tries
+tries_moved_none n s c p z e = rw (eq-eqb (local_len (after_dispatch s c p).state.world c) 0 z, e) refl
+
+tries_again : (n : ℕ) (s : State) (c : ℕ) (p : Option ℕ) → local_len (after_dispatch s c p).state.world c ≡ 0 → (after_dispatch s c p).state.world.call.has_moved ≡ true
+    → tries (suc n) s c p ≡ one_after_other (after_dispatch s c p) (tries n (after_dispatch s c p).state c p)
+unfolding tries
+tries_again n s c p z e = rw (eq-eqb (local_len (after_dispatch s c p).state.world c) 0 z, e) refl
+
+tries_none : (s : State) (c : ℕ) (p : Option ℕ) → tries 0 s c p ≡ stays s
+unfolding tries
+tries_none s c p = refl
+
+only_asks : (n : ℕ) (s : State) (c : ℕ) (p : Option ℕ) (r : Stepped) → Asks n s c p r → r ≡ tries n s c p
+only_asks zero s c p r (Enough _ _ _ _ k) = k ∙ sym (tries_none s c p)
+only_asks (suc n) s c p r (Came _ _ _ _ _ h l) =
+    let e = only_dispatches s c p r h in
+    e ∙ sym (tries_came n s c p (subst (λ (x : Stepped). 0 < local_len x.state.world c) e l))
+only_asks (suc n) s c p r (NothingMoved _ _ _ _ _ h z f) =
+    let e = only_dispatches s c p r h in
+    e ∙ sym (tries_moved_none n s c p (subst (λ (x : Stepped). local_len x.state.world c ≡ 0) e z) (subst (λ (x : Stepped). x.state.world.call.has_moved ≡ false) e f))
+only_asks (suc n) s c p r (Again _ _ _ _ d more _ h z f a k) =
+    let e = only_dispatches s c p d h in
+    k ∙ ap (λ x. one_after_other d x) (only_asks n d.state c p more a) ∙ ap (λ (x : Stepped). one_after_other x (tries n x.state c p)) e
+    ∙ sym (tries_again n s c p (subst (λ (x : Stepped). local_len x.state.world c ≡ 0) e z) (subst (λ (x : Stepped). x.state.world.call.has_moved ≡ true) e f))
+
+abbrev sought : Stepped → ℕ → Option ℕ → Bool → Stepped
+sought f c p ran = seek_if f c p ran (not (local_len f.state.world c == 0))
+
+sought_is : (s : State) (c : ℕ) (p : Option ℕ) (ran : Bool) (f : Stepped) → f ≡ supply s c → sought f c p ran ≡ seek s c p ran
+unfolding seek
+sought_is s c p ran f e = ap (λ (g : Stepped). sought g c p ran) e
+
+-- the rest of a cycle, once dispatch is asked
+abbrev asked_from : Stepped → ℕ → Option ℕ → Bool → Stepped → Stepped
+asked_from f c p ran a = one_after_other f (one_after_other a (conclude a.state c p ran))
+
+asked_is : (f : Stepped) (c : ℕ) (p : Option ℕ) (ran : Bool) → asked_from f c p ran (tries 32 f.state c p) ≡ one_after_other f (ask f.state c p ran)
+unfolding ask
+asked_is f c p ran = refl
+
+only_seeks : (s : State) (c : ℕ) (p : Option ℕ) (ran : Bool) (r : Stepped) → Seeks s c p ran r → r ≡ seek s c p ran
+only_seeks s c p ran r (Filled f x h l y k) =
+    k ∙ ap (λ z. one_after_other f z) (only_picks f.state c p ran x y) ∙ ap (λ b. seek_if f c p ran b) (sym (has_some f.state c l)) ∙ sought_is s c p ran f (only_supplies s c f h)
+only_seeks s c p ran r (Asked f a x h z b y k) =
+    k ∙ ap (λ u. one_after_other f (one_after_other a u)) (only_ends a.state c p ran x y) ∙ ap (λ (u : Stepped). asked_from f c p ran u) (only_asks 32 f.state c p a b) ∙ asked_is f c p ran
+    ∙ ap (λ e. seek_if f c p ran e) (sym (is_empty f.state c z)) ∙ sought_is s c p ran f (only_supplies s c f h)
+
+-- ---- whichever is in force
+
+abbrev looked_as : State → ℕ → Option ℕ → Bool → Option Eject → Stepped
+looked_as s c p ran x = if is_some x then builtin_cycle s c p ran else seek s c p ran
+
+looks : (s : State) (c : ℕ) (p : Option ℕ) (ran : Bool) → Looks s c p ran (look s c p ran)
+unfolding look
+looks s c p ran = go s.world.ejected refl
+  where
+    go : (x : Option Eject) → s.world.ejected ≡ x → Looks s c p ran (looked_as s c p ran x)
+    go None e = Of_policy e (seeks s c p ran)
+    go (Some x) e = Of_builtin x e (cycles_builtin s c p ran)
+
+only_looks : (s : State) (c : ℕ) (p : Option ℕ) (ran : Bool) (r : Stepped) → Looks s c p ran r → r ≡ look s c p ran
+unfolding look
+only_looks s c p ran r (Of_policy e h) = only_seeks s c p ran r h ∙ ap (λ o. looked_as s c p ran o) (sym e)
+only_looks s c p ran r (Of_builtin x e h) = only_cycles_builtin s c p ran r h ∙ ap (λ o. looked_as s c p ran o) (sym e)
+
+-- a cycle goes as it is computed
+pub cycles : (s : State) (c : ℕ) (p : Option ℕ) (ran : Bool) → Cycles s c p ran (cycle s c p ran)
+unfolding cycle
+cycles s c p ran = record { found = look (cycling s (Some c)) c p ran; looks = looks (cycling s (Some c)) c p ran; all = refl }
+
+-- and in no other way
+pub only_cycles : (s : State) (c : ℕ) (p : Option ℕ) (ran : Bool) (r : Stepped) → Cycles s c p ran r → r ≡ cycle s c p ran
+unfolding cycle
+only_cycles s c p ran r h = h.all ∙ ap (λ (x : Stepped). record { state = cycling x.state None; notes = x.notes; calls = x.calls }) (only_looks (cycling s (Some c)) c p ran h.found h.looks)

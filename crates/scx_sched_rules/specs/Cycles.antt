@@ -1,0 +1,258 @@
+-- The scheduling cycle, by cases and with its steps named (sched-ext.rst, "Scheduling Cycle"): a
+-- task is put, the local queue is filled, the front of it is picked, dispatch is asked. A callback
+-- of the policy is given by the run of its program; once the policy is ejected, the built-in
+-- scheduler does its work.
+use Rattle.std.specs.Prelude.{◌≡◌, ℕ, suc, ◌<◌, Bool, true, false, [], ◌∷◌, Option, Some, None}
+use Rattle.scx_dsq.specs.Queues.{front_of}
+use Rattle.scx_dsq.specs.Calls.{after_push, after_pop}
+use Rattle.scx_dsq.specs.declared.entries.Rank.TheVariants.{Fifo}
+use Rattle.scx_isa_semantics.specs.declared.callbacks.Callback.TheVariants as callback
+use Rattle.scx_vm_safety.specs.Programs.{VerifiedProgram}
+use Rattle.scx_sched_world.specs.declared.call.Insert.{Insert}
+use Rattle.scx_sched_world.specs.declared.notes.What.{What}
+use Rattle.scx_sched_world.specs.declared.notes.What.TheVariants as note
+use Rattle.scx_sched_world.specs.declared.eject.Eject.{Eject}
+use Rattle.scx_sched_world.specs.Ids.{global, builtin_queue, parked_queue, local_on}
+use Rattle.scx_sched_world.specs.World.{is_throttled, WorldState, with_queues, note_now}
+use Rattle.scx_sched_world.specs.Tasks.{local_len, after_enter, for_cpu, to_held, to_global, after_stop, started_at, after_keep, put_parked, after_take}
+use Rattle.scx_sched_world.specs.Ejecting.{put_builtin, after_catch_up, after_charge}
+use Rattle.scx_sched_machine.specs.Steps.{State, Stepped, with_world, stays, after, one_after_other}
+use Rattle.scx_sched_machine.specs.Callbacks.{call_back, one_task, task_and_number, cpu_and_task}
+use Rattle.scx_sched_machine.specs.Cycle.{cycling}
+use Rattle.scx_sched_machine.specs.Parking.{FrontMayRun}
+
+-- to that world, with one note of it
+abbrev pub noting : State → WorldState → What → Stepped
+noting s w x = record { state = with_world s w; notes = note_now s.world x ∷ []; calls = [] }
+
+-- to that world, with no note
+abbrev pub silent : State → WorldState → Stepped
+silent s w = record { state = with_world s w; notes = []; calls = [] }
+
+-- ---- callbacks of a cycle
+
+-- enqueue is called for a task, with these flags and that processor at hand
+abbrev pub enqueue_called : State → ℕ → ℕ → ℕ → Stepped
+enqueue_called s t c flags = call_back s callback.Enqueue (task_and_number t flags) t c
+
+-- dispatch is called for a processor, and given the task before or 0
+abbrev pub dispatch_called : State → ℕ → Option ℕ → Stepped
+dispatch_called s c p = call_back s callback.Dispatch (cpu_and_task c p) 0 c
+
+-- the task has left its processor; the number says whether it stays runnable
+pub data HasStopped (s : State) (c t runnable : ℕ) (r : Stepped) : Type 0 where
+  Policy_hears : s.world.ejected ≡ None
+      → r ≡ call_back s callback.Stopping (task_and_number t runnable) t c
+      → HasStopped s c t runnable r
+  Is_charged : (x : Eject)
+      → s.world.ejected ≡ Some x → r ≡ silent s (after_charge s.world t)
+      → HasStopped s c t runnable r
+
+-- the task has come to its processor
+pub data HasStarted (s : State) (c t : ℕ) (r : Stepped) : Type 0 where
+  Policy_learns : s.world.ejected ≡ None → r ≡ call_back s callback.Running (one_task t) t c
+      → HasStarted s c t r
+  Catches_up : (x : Eject)
+      → s.world.ejected ≡ Some x → r ≡ silent s (after_catch_up s.world t) → HasStarted s c t r
+
+-- the state in which a task is off its processor, and waits from now on
+abbrev pub gone_off : State → ℕ → ℕ → State
+gone_off s c t = with_world s (after_stop s.world c t)
+
+-- the state in which a task, the front of the local queue, is on that processor
+abbrev pub gone_on : State → ℕ → ℕ → State
+gone_on s c t = with_world s (started_at (Some t) s.world c)
+
+-- ---- put
+
+-- a task comes to wait as an insert wants it to, and that is noted
+abbrev pub entering : State → ℕ → Insert → Stepped
+entering s t i = noting s (after_enter s.world t i) (note.Insert t i.queue)
+
+-- after enqueue the task comes to wait: where the callback said, LOCAL being of that processor,
+-- held where it said nothing, and for any processor where there is no such callback; and for the
+-- built-in scheduler where the policy is ejected
+pub data Enters (s : State) (t c : ℕ) (r : Stepped) : Type 0 where
+  For_builtin : (x : Eject)
+      → s.world.ejected ≡ Some x
+      → r ≡ noting s (put_builtin s.world t) (note.Insert t builtin_queue) → Enters s t c r
+  Default : s.world.ejected ≡ None → s.policy.callbacks.enqueue ≡ None → r ≡ entering s t to_global
+      → Enters s t c r
+  Held : (p : VerifiedProgram)
+      → s.world.ejected ≡ None → s.policy.callbacks.enqueue ≡ Some p → s.world.call.insert ≡ None
+      → r ≡ entering s t to_held → Enters s t c r
+  Inserted : (p : VerifiedProgram) (i : Insert)
+      → s.world.ejected ≡ None → s.policy.callbacks.enqueue ≡ Some p → s.world.call.insert ≡ Some i
+      → r ≡ entering s t (for_cpu c i) → Enters s t c r
+
+-- enqueue is called for a task, and then the task comes to wait
+pub record Puts (s : State) (t c flags : ℕ) (r : Stepped) : Type 0 where
+  pub put : Stepped
+  pub enters : Enters (enqueue_called s t c flags).state t c put
+  pub all : r ≡ one_after_other (enqueue_called s t c flags) put
+
+-- ---- fill
+
+-- where the local queue is empty, the front of another comes to it
+pub data Fills (s : State) (q c : ℕ) (r : Stepped) : Type 0 where
+  HasLocal : 0 < local_len s.world c → r ≡ stays s → Fills s q c r
+  NoOther : local_len s.world c ≡ 0 → front_of s.world.queues q ≡ None → r ≡ stays s → Fills s q c r
+  Moves : (t : ℕ)
+      → local_len s.world c ≡ 0 → front_of s.world.queues q ≡ Some t
+      → r ≡ noting s
+      (with_queues s.world (after_push (after_pop s.world.queues q) (local_on c) t Fifo))
+      (note.Move t c)
+      → Fills s q c r
+
+-- ---- supply
+
+-- a task that is at hand is parked
+abbrev pub parking : State → ℕ → Stepped
+parking s t = noting s (put_parked s.world t) (note.Insert t parked_queue)
+
+-- the front of that queue may not run, leaves the queue and is parked
+pub record Parks (s : State) (q t : ℕ) (r : Stepped) : Type 0 where
+  pub front : front_of s.world.queues q ≡ Some t
+  pub throttled : is_throttled s.world t ≡ true
+  pub all : r ≡ parking (with_world s (after_take s.world q)) t
+
+-- one front after another, until one may run or nobody is there
+pub data ParksFronts : ℕ → State → Stepped → Type 0 where
+  NoneLeft : (q : ℕ) (s : State) (r : Stepped) → FrontMayRun s q → r ≡ stays s → ParksFronts q s r
+  OneMore : (q : ℕ) (s : State) (t : ℕ) (gone more r : Stepped)
+      → Parks s q t gone → ParksFronts q gone.state more → r ≡ one_after_other gone more
+      → ParksFronts q s r
+
+-- a local queue comes to have a front that may run, if it or the queue of all processors has such a
+-- task: it is filled wherever it is empty, and each front that may not run is parked
+pub data Supplies : ℕ → State → Stepped → Type 0 where
+  Supplied : (c : ℕ) (s : State) (filled r : Stepped)
+      → Fills s global c filled → FrontMayRun filled.state (local_on c)
+      → r ≡ one_after_other filled (stays filled.state) → Supplies c s r
+  ParkedOne : (c : ℕ) (s : State) (t : ℕ) (filled gone more r : Stepped)
+      → Fills s global c filled → Parks filled.state (local_on c) t gone
+      → Supplies c gone.state more → r ≡ one_after_other filled (one_after_other gone more)
+      → Supplies c s r
+
+-- dispatch of the built-in scheduler, where the local queue is empty: the front of its queue, once
+-- those that may not run are parked
+pub data FillsBuiltin (s : State) (c : ℕ) (r : Stepped) : Type 0 where
+  HasOne : 0 < local_len s.world c → r ≡ stays s → FillsBuiltin s c r
+  Looked : (gone filled : Stepped)
+      → local_len s.world c ≡ 0 → ParksFronts builtin_queue s gone
+      → Fills gone.state builtin_queue c filled → r ≡ one_after_other gone filled
+      → FillsBuiltin s c r
+
+-- ---- dispatch
+
+-- a call of dispatch, and then the local queue is supplied
+pub record Dispatches (s : State) (c : ℕ) (p : Option ℕ) (r : Stepped) : Type 0 where
+  pub supplied : Stepped
+  pub supplies : Supplies c (dispatch_called s c p).state supplied
+  pub all : r ≡ one_after_other (dispatch_called s c p) supplied
+
+-- so many calls at most: one more where the local queue is still empty and the last
+-- call moved a task
+pub data Asks : ℕ → State → ℕ → Option ℕ → Stepped → Type 0 where
+  Enough : (s : State) (c : ℕ) (p : Option ℕ) (r : Stepped) → r ≡ stays s → Asks 0 s c p r
+  Came : (n : ℕ) (s : State) (c : ℕ) (p : Option ℕ) (r : Stepped)
+      → Dispatches s c p r → 0 < local_len r.state.world c → Asks (suc n) s c p r
+  NothingMoved : (n : ℕ) (s : State) (c : ℕ) (p : Option ℕ) (r : Stepped)
+      → Dispatches s c p r → local_len r.state.world c ≡ 0 → r.state.world.call.has_moved ≡ false
+      → Asks (suc n) s c p r
+  Again : (n : ℕ) (s : State) (c : ℕ) (p : Option ℕ) (d more r : Stepped)
+      → Dispatches s c p d → local_len d.state.world c ≡ 0 → d.state.world.call.has_moved ≡ true
+      → Asks n d.state c p more → r ≡ one_after_other d more → Asks (suc n) s c p r
+
+-- ---- pick
+
+-- the task before leaves the processor, and is put
+pub data Leaves (s : State) (c : ℕ) (p : Option ℕ) (r : Stepped) : Type 0 where
+  Nobody : p ≡ None → r ≡ stays s → Leaves s c p r
+  Stops : (t : ℕ) (left put : Stepped)
+      → p ≡ Some t → HasStopped (gone_off s c t) c t 1 left → Puts left.state t c 0 put
+      → r ≡ after (note_now s.world (note.Stop t c) ∷ []) (one_after_other left put)
+      → Leaves s c p r
+
+-- the front of the local queue runs
+pub data Starts (s : State) (c : ℕ) (r : Stepped) : Type 0 where
+  Empty : front_of s.world.queues (local_on c) ≡ None → r ≡ stays s → Starts s c r
+  Front : (t : ℕ) (begun : Stepped)
+      → front_of s.world.queues (local_on c) ≡ Some t → HasStarted (gone_on s c t) c t begun
+      → r ≡ after (note_now s.world (note.Run t c) ∷ []) begun → Starts s c r
+
+-- ---- rest
+
+-- nobody came: the task before keeps the processor, or it is idle, which is noted where a task
+-- ran there as the event began
+pub data Rests (s : State) (c : ℕ) : Option ℕ → Bool → Stepped → Type 0 where
+  Keeps : (t : ℕ) (ran : Bool) (r : Stepped)
+      → r ≡ silent s (after_keep s.world (Some t)) → Rests s c (Some t) ran r
+  Idles : (r : Stepped) → r ≡ noting s s.world (note.Idle c) → Rests s c None true r
+  WasIdle : (r : Stepped) → r ≡ stays s → Rests s c None false r
+
+-- ---- the built-in scheduler's cycle
+
+-- the front of the local queue runs in the place of the task before
+pub record Swaps (s : State) (c : ℕ) (p : Option ℕ) (r : Stepped) : Type 0 where
+  pub left : Stepped
+  pub leaves : Leaves s c p left
+  pub started : Stepped
+  pub starts : Starts left.state c started
+  pub all : r ≡ one_after_other left started
+
+-- the front of the local queue runs; where there is none, nobody comes
+pub data SwapsOrRests (s : State) (c : ℕ) (p : Option ℕ) (ran : Bool) (r : Stepped) : Type 0 where
+  Swapped : 0 < local_len s.world c → Swaps s c p r → SwapsOrRests s c p ran r
+  Kept : local_len s.world c ≡ 0 → Rests s c p ran r → SwapsOrRests s c p ran r
+
+-- the local queue is supplied from GLOBAL, or else filled from the built-in scheduler's queue
+pub record CyclesBuiltin (s : State) (c : ℕ) (p : Option ℕ) (ran : Bool) (r : Stepped)
+    : Type 0 where
+  pub supplied : Stepped
+  pub supplies : Supplies c s supplied
+  pub asked : Stepped
+  pub asks : FillsBuiltin supplied.state c asked
+  pub ended : Stepped
+  pub ends : SwapsOrRests asked.state c p ran ended
+  pub all : r ≡ one_after_other supplied (one_after_other asked ended)
+
+-- ---- the policy's cycle
+
+-- the front of the local queue runs in the place of the task before; where an ejection as that left
+-- has emptied the local queue, the cycle begins anew
+pub data Picks (s : State) (c : ℕ) (p : Option ℕ) (ran : Bool) (r : Stepped) : Type 0 where
+  Runs_front : (left started : Stepped)
+      → Leaves s c p left → 0 < local_len left.state.world c → Starts left.state c started
+      → r ≡ one_after_other left started → Picks s c p ran r
+  Emptied : (left anew : Stepped)
+      → Leaves s c p left → local_len left.state.world c ≡ 0
+      → CyclesBuiltin left.state c None ran anew → r ≡ one_after_other left anew → Picks s c p ran r
+
+-- once dispatch was asked
+pub data Ends (s : State) (c : ℕ) (p : Option ℕ) (ran : Bool) (r : Stepped) : Type 0 where
+  Anew : (x : Eject) → s.world.ejected ≡ Some x → CyclesBuiltin s c p ran r → Ends s c p ran r
+  Picked : s.world.ejected ≡ None → 0 < local_len s.world c → Picks s c p ran r → Ends s c p ran r
+  Rested : s.world.ejected ≡ None → local_len s.world c ≡ 0 → Rests s c p ran r → Ends s c p ran r
+
+-- of a processor on which that task ran and may stay, or none
+pub data Seeks (s : State) (c : ℕ) (p : Option ℕ) (ran : Bool) (r : Stepped) : Type 0 where
+  Filled : (filled picked : Stepped)
+      → Supplies c s filled → 0 < local_len filled.state.world c → Picks filled.state c p ran picked
+      → r ≡ one_after_other filled picked → Seeks s c p ran r
+  Asked : (filled asked ended : Stepped)
+      → Supplies c s filled → local_len filled.state.world c ≡ 0 → Asks 32 filled.state c p asked
+      → Ends asked.state c p ran ended → r ≡ one_after_other filled (one_after_other asked ended)
+      → Seeks s c p ran r
+
+-- of whichever scheduler is in force
+pub data Looks (s : State) (c : ℕ) (p : Option ℕ) (ran : Bool) (r : Stepped) : Type 0 where
+  Of_policy : s.world.ejected ≡ None → Seeks s c p ran r → Looks s c p ran r
+  Of_builtin : (x : Eject)
+      → s.world.ejected ≡ Some x → CyclesBuiltin s c p ran r → Looks s c p ran r
+
+-- a cycle is under way from the first step to the last
+pub record Cycles (s : State) (c : ℕ) (p : Option ℕ) (ran : Bool) (r : Stepped) : Type 0 where
+  pub found : Stepped
+  pub looks : Looks (cycling s (Some c)) c p ran found
+  pub all : r ≡ record found { state = cycling found.state None }

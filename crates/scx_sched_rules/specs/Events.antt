@@ -1,0 +1,162 @@
+-- What an accepted event does, by cases, over the steps of a cycle.
+use Rattle.std.specs.Prelude.{◌≡◌, ℕ, suc, ◌<◌, ◌≤◌, true, false, [], ◌∷◌, length, Option, Some, None}
+use Rattle.scx_dsq.specs.Queues.{len_of, front_of, behind_of}
+use Rattle.scx_weights.specs.Hierarchy.{with_weight}
+use Rattle.scx_isa_semantics.specs.declared.callbacks.Callback.TheVariants as callback
+use Rattle.scx_vm_safety.specs.Programs.{VerifiedProgram}
+use Rattle.scx_sched_world.specs.declared.call.Insert.{Insert}
+use Rattle.scx_sched_world.specs.declared.notes.What.TheVariants as note
+use Rattle.scx_sched_world.specs.Ids.{parked_queue}
+use Rattle.scx_sched_world.specs.World.{is_throttled, with_tree, task_at, wait, running, cpu_of, is_idle, note_now}
+use Rattle.scx_sched_world.specs.declared.eject.Eject.{Eject}
+use Rattle.scx_sched_world.specs.declared.eject.Eject.TheVariants as cause
+use Rattle.scx_sched_world.specs.Tasks.{for_cpu, after_wake, after_sleep, after_leave, let_go, after_tick, used_ms, later, begun_periods}
+use Rattle.scx_sched_world.specs.Waits.{IsFirstOverdue}
+use Rattle.scx_sched_machine.specs.declared.events.Event.{Event}
+use Rattle.scx_sched_machine.specs.declared.events.Event.TheVariants.{Wake, Sleep, Tick, Clock, SetWeight}
+use Rattle.scx_sched_machine.specs.Steps.{State, Stepped, with_world, stays, after, one_after_other}
+use Rattle.scx_sched_machine.specs.Callbacks.{call_back, answered_by, task_cpu_and_0}
+use Rattle.scx_sched_rules.specs.Helpers.{IsChoice}
+use Rattle.scx_sched_rules.specs.Ejections.{Ejects}
+use Rattle.scx_sched_rules.specs.Cycles.{noting, silent, entering, gone_off, HasStopped, Puts, parking, Cycles}
+
+-- the state in which a task has become runnable, and waits from now on
+abbrev pub after_waking : State → ℕ → State
+after_waking s t = with_world s (after_wake s.world t)
+
+-- once the task is runnable; it is given the processor on which it ran last
+abbrev pub select_called : State → ℕ → Stepped
+select_called s t =
+    call_back s callback.SelectCpu (task_cpu_and_0 t (task_at s.world t).prev_cpu) t
+    (task_at s.world t).prev_cpu
+
+-- what select_cpu answers once the task is runnable, if it comes to an answer
+abbrev pub select_answered : State → ℕ → Option ℕ
+select_answered s t =
+    answered_by s callback.SelectCpu (task_cpu_and_0 t (task_at s.world t).prev_cpu) t
+    (task_at s.world t).prev_cpu
+
+-- after select_cpu, which answered so: the processor that it names; the default choice where there
+-- is no such callback, or the policy is ejected, as it is by an answer that is no processor
+pub data IsTarget (s : State) (t : ℕ) (answer : Option ℕ) (c : ℕ) : Type 0 where
+  Is_ejected : (x : Eject) → s.world.ejected ≡ Some x → IsChoice s.world t c → IsTarget s t answer c
+  NoCallback : s.world.ejected ≡ None → s.policy.callbacks.select_cpu ≡ None → IsChoice s.world t c
+      → IsTarget s t answer c
+  Named : (p : VerifiedProgram)
+      → s.world.ejected ≡ None → s.policy.callbacks.select_cpu ≡ Some p → answer ≡ Some c
+      → c < length s.world.cpus → IsTarget s t answer c
+
+-- what select_cpu inserted is applied, LOCAL being of the target; else the task is put. An ejection
+-- has dropped what was inserted
+pub data Settles (s : State) (t c : ℕ) (r : Stepped) : Type 0 where
+  WasInserted : (i : Insert)
+      → s.world.call.insert ≡ Some i → r ≡ entering s t (for_cpu c i) → Settles s t c r
+  WasPut : s.world.call.insert ≡ None → Puts s t c 1 r → Settles s t c r
+
+-- the task is runnable, and comes to wait for its target, which looks for a task if it is idle
+pub data Wakes (s : State) (t : ℕ) (r : Stepped) : Type 0 where
+  IdleTarget : (c : ℕ) (settled found : Stepped)
+      → IsTarget (select_called (after_waking s t) t).state t
+      (select_answered (after_waking s t) t) c
+      → Settles (select_called (after_waking s t) t).state t c settled
+      → is_idle settled.state.world c ≡ true → Cycles settled.state c None false found
+      → r ≡ after (note_now s.world (note.Wake t) ∷ [])
+      (one_after_other (select_called (after_waking s t) t) (one_after_other settled found))
+      → Wakes s t r
+  BusyTarget : (c : ℕ) (settled : Stepped)
+      → IsTarget (select_called (after_waking s t) t).state t
+      (select_answered (after_waking s t) t) c
+      → Settles (select_called (after_waking s t) t).state t c settled
+      → is_idle settled.state.world c ≡ false
+      → r ≡ after (note_now s.world (note.Wake t) ∷ [])
+      (one_after_other (select_called (after_waking s t) t) settled)
+      → Wakes s t r
+
+-- the task leaves its queue, or its processor, which looks for another task
+pub data Sleeps (s : State) (t : ℕ) (r : Stepped) : Type 0 where
+  FromQueue : cpu_of s.world t ≡ None
+      → r ≡ after (note_now s.world (note.Sleep t) ∷ [])
+      (silent s (after_sleep (after_leave s.world t) t))
+      → Sleeps s t r
+  FromCpu : (c : ℕ) (left found : Stepped)
+      → cpu_of s.world t ≡ Some c → HasStopped (gone_off s c t) c t 0 left
+      → Cycles (with_world left.state (after_sleep left.state.world t)) c None true found
+      → r ≡ after (note_now s.world (note.Sleep t) ∷ note_now s.world (note.Stop t c) ∷ [])
+      (one_after_other left found)
+      → Sleeps s t r
+
+-- the task has run for a millisecond, which its groups have used
+abbrev pub ran_on : State → ℕ → State
+ran_on s t = with_world s (used_ms (after_tick s.world t) t)
+
+-- a task that may not run any more leaves its processor and is parked, and the processor looks for
+-- another; else it runs on while its slice lasts, and then the processor looks for a task
+pub data Ticks (s : State) (c : ℕ) (r : Stepped) : Type 0 where
+  NobodyRuns : running s.world c ≡ None → Cycles s c None false r → Ticks s c r
+  IsThrottled : (t : ℕ) (left found : Stepped)
+      → running s.world c ≡ Some t → is_throttled (ran_on s t).world t ≡ true
+      → HasStopped (gone_off (ran_on s t) c t) c t 1 left
+      → Cycles (parking left.state t).state c None true found
+      → r ≡ after (note_now (ran_on s t).world (note.Stop t c) ∷ [])
+      (one_after_other left (one_after_other (parking left.state t) found))
+      → Ticks s c r
+  RunsOn : (t : ℕ)
+      → running s.world c ≡ Some t → is_throttled (ran_on s t).world t ≡ false
+      → 0 < (task_at (ran_on s t).world t).slice → r ≡ stays (ran_on s t) → Ticks s c r
+  RunsOut : (t : ℕ)
+      → running s.world c ≡ Some t → is_throttled (ran_on s t).world t ≡ false
+      → (task_at (ran_on s t).world t).slice ≡ 0 → Cycles (ran_on s t) c (Some t) true r
+      → Ticks s c r
+
+-- of the parked, from that one on in their order, so many are looked at: who may run again is
+-- parked no more, waits from now on, and is put as for the processor on which it ran last
+pub data LetsGo : ℕ → State → Option ℕ → Stepped → Type 0 where
+  Enough : (s : State) (at : Option ℕ) (r : Stepped) → r ≡ stays s → LetsGo 0 s at r
+  NoMore : (n : ℕ) (s : State) (r : Stepped) → r ≡ stays s → LetsGo (suc n) s None r
+  StaysParked : (n : ℕ) (s : State) (t : ℕ) (r : Stepped)
+      → is_throttled s.world t ≡ true → LetsGo n s (behind_of s.world.queues t) r
+      → LetsGo (suc n) s (Some t) r
+  IsLetGo : (n : ℕ) (s : State) (t : ℕ) (put more r : Stepped)
+      → is_throttled s.world t ≡ false
+      → Puts (with_world s (let_go s.world t)) t (task_at s.world t).prev_cpu 0 put
+      → LetsGo n put.state (behind_of s.world.queues t) more → r ≡ one_after_other put more
+      → LetsGo (suc n) s (Some t) r
+
+-- the clock has grown, and periods have begun
+abbrev pub after_clock : State → State
+after_clock s = with_world s (begun_periods (later s.world))
+
+-- all who may run again are let go
+abbrev pub LetsAllGo : State → Stepped → Type 0
+LetsAllGo s r =
+    LetsGo (len_of s.world.queues parked_queue) s (front_of s.world.queues parked_queue) r
+
+-- no task has waited for longer than the policy's timeout
+abbrev pub NobodyIsOverdue : State → Type 0
+NobodyIsOverdue s = (t : ℕ) → t < length s.world.tasks → wait s.world t ≤ s.policy.timeout_ms
+
+-- then, where a task has waited longer than a policy in force may let it, the policy is ejected,
+-- and the task of the least number is named
+pub data Watches (s : State) (r : Stepped) : Type 0 where
+  Is_out : (x : Eject) → s.world.ejected ≡ Some x → r ≡ stays s → Watches s r
+  In_time : s.world.ejected ≡ None → NobodyIsOverdue s → r ≡ stays s → Watches s r
+  Too_late : (t : ℕ)
+      → s.world.ejected ≡ None → IsFirstOverdue s.world s.policy.timeout_ms t
+      → Ejects s (cause.Stall t s.world.clock) r → Watches s r
+
+-- the clock grows, who may run again is let go, and the watchdog looks
+pub record Ages (s : State) (r : Stepped) : Type 0 where
+  pub gone : Stepped
+  pub lets_go : LetsAllGo (after_clock s) gone
+  pub watched : Stepped
+  pub watches : Watches gone.state watched
+  pub all : r ≡ one_after_other gone watched
+
+-- what an accepted event does, each kind by its own cases
+abbrev pub Happens : State → Event → Stepped → Type 0
+Happens s (Wake t) r = Wakes s t r
+Happens s (Sleep t) r = Sleeps s t r
+Happens s (Tick c) r = Ticks s c r
+Happens s Clock r = Ages s r
+Happens s (SetWeight g x) r =
+    r ≡ noting s (with_tree s.world (with_weight s.world.tree g x)) (note.Weight g x)

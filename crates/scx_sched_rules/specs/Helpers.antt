@@ -1,0 +1,216 @@
+-- What a helper call may do, by cases: what is wrong with it, and what it does where nothing is
+-- wrong. The definitions that compute answers and worlds stand in `scx_sched_world`; a law says
+-- that they are allowed here, and that nothing else is.
+use Rattle.std.specs.Prelude.{◌≡◌, ℕ, ◌+◌, ◌<◌, ◌≤◌, ◌^◌, ◌*◌, true, false, List, length, Option, Some, None}
+use Rattle.scx_dsq.specs.Queues.{exists, queue_of, front_of, len_of, Waits}
+use Rattle.scx_dsq.specs.Calls.{with_queue, after_push, after_pop}
+use Rattle.scx_dsq.specs.Entries.{same_sort}
+use Rattle.scx_dsq.specs.declared.entries.Entry.{Entry}
+use Rattle.scx_dsq.specs.declared.entries.Rank.{Rank}
+use Rattle.scx_dsq.specs.declared.entries.Rank.TheVariants.{Fifo, Vtime}
+use Rattle.scx_isa_semantics.specs.declared.callbacks.Callback.TheVariants.{SelectCpu, Enqueue, Dispatch}
+use Rattle.scx_isa_semantics.specs.declared.host_tables.Helper.{Helper}
+use Rattle.scx_isa_semantics.specs.declared.host_tables.Helper.TheVariants.{MapLookupElem, KtimeGetNs, CreateDsq, DsqInsert, DsqInsertVtime, DsqMoveToLocal, SelectCpuDfl, CpuIdle, TaskByPid, DsqNrQueued}
+use Rattle.scx_vm.specs.declared.arguments.Arg.{Arg}
+use Rattle.scx_vm.specs.declared.arguments.Answer.{Answer}
+use Rattle.scx_vm.specs.declared.arguments.Answer.TheVariants.{Num, Task}
+use Rattle.scx_sched_world.specs.declared.call.Insert.{Insert}
+use Rattle.scx_sched_world.specs.declared.faults.Fault.{Fault}
+use Rattle.scx_sched_world.specs.declared.faults.Fault.TheVariants.{Stuck, NoSuchQueue, CannotInsert, NoSuchCpu, UnknownFlag, CannotCreate, BuiltinVtime, Mixed}
+use Rattle.scx_sched_world.specs.declared.notes.What.TheVariants as notes
+use Rattle.scx_sched_world.specs.Ids.{policy_end, global, local, held_queue, local_on}
+use Rattle.scx_sched_world.specs.World.{WorldState, with_queues, task_at, is_idle, with_note}
+use Rattle.scx_sched_world.specs.Tasks.{after_leave, after_enter, queue_for, for_cpu}
+use Rattle.scx_sched_world.specs.Helpers.{invalid, with_fault, with_insert, with_move, given_number, given_task, insert_of, insert_of_vtime}
+
+-- ---- queues that a call names
+
+-- a queue that the policy created
+abbrev pub IsPolicyQueue : WorldState → ℕ → Type 0
+IsPolicyQueue w q = (q < policy_end) × (exists w.queues q ≡ true)
+
+-- where a task may be put
+pub data IsDestination (w : WorldState) (q : ℕ) : Type 0 where
+  Own : IsPolicyQueue w q → IsDestination w q
+  Global : q ≡ global → IsDestination w q
+  Local : q ≡ local → IsDestination w q
+  LocalOn : (c : ℕ) → c < length w.cpus → q ≡ local_on c → IsDestination w q
+
+-- the local queue of a processor that there isn't; its number would have 32 bits
+pub record NamesNoCpu (w : WorldState) (q : ℕ) : Type 0 where
+  pub cpu : ℕ
+  pub past : length w.cpus ≤ cpu
+  pub small : cpu < 2 ^ 32
+  pub named : q ≡ local_on cpu
+
+-- ---- what is wrong with a call
+
+-- a policy creates a queue below the end that isn't there, while there is room
+pub record CanCreate (w : WorldState) (q : ℕ) : Type 0 where
+  pub below : q < policy_end
+  pub free : exists w.queues q ≡ false
+  pub room : length w.queues.ids < w.queues.room
+
+-- in select_cpu and enqueue the task at hand, and once; in dispatch a task that is held
+pub data MayInsert (w : WorldState) (t : Option ℕ) : Type 0 where
+  InSelectCpu : w.call.callback ≡ SelectCpu → w.call.insert ≡ None → t ≡ Some w.call.task
+      → MayInsert w t
+  InEnqueue : w.call.callback ≡ Enqueue → w.call.insert ≡ None → t ≡ Some w.call.task
+      → MayInsert w t
+  InDispatch : (u : ℕ)
+      → w.call.callback ≡ Dispatch → t ≡ Some u → queue_of w.queues u ≡ Some held_queue
+      → MayInsert w t
+
+-- by virtual time into one of the machine's own queues
+pub record IsBuiltinVtime (q : ℕ) (r : Rank) : Type 0 where
+  pub key : ℕ
+  pub by_vtime : r ≡ Vtime key
+  pub own : policy_end ≤ q
+
+-- somebody waits in the queue who was put there in the other way
+pub record IsMixed (w : WorldState) (q : ℕ) (r : Rank) : Type 0 where
+  pub task : ℕ
+  pub entry : Entry
+  pub waits : Waits w.queues q task entry
+  pub other : same_sort entry.rank r ≡ false
+
+-- from a queue of the policy, in dispatch
+pub record MayMove (w : WorldState) (q : ℕ) : Type 0 where
+  pub here : w.call.callback ≡ Dispatch
+  pub there : IsPolicyQueue w q
+
+-- of several faults of an insert the first one here
+abbrev pub JudgesInsert : WorldState → Option ℕ → Insert → ℕ → Option Fault → Type 0
+JudgesInsert w t i flags (Some CannotInsert) = ¬ MayInsert w t
+JudgesInsert w t i flags (Some UnknownFlag) = MayInsert w t × (1 < flags)
+JudgesInsert w t i flags (Some NoSuchQueue) =
+    MayInsert w t × (flags ≤ 1) × (¬ IsDestination w i.queue) × (¬ NamesNoCpu w i.queue)
+JudgesInsert w t i flags (Some NoSuchCpu) = MayInsert w t × (flags ≤ 1) × NamesNoCpu w i.queue
+JudgesInsert w t i flags (Some BuiltinVtime) =
+    MayInsert w t × (flags ≤ 1) × IsDestination w i.queue × IsBuiltinVtime i.queue i.rank
+JudgesInsert w t i flags (Some Mixed) =
+    MayInsert w t × (flags ≤ 1) × IsDestination w i.queue × (¬ IsBuiltinVtime i.queue i.rank)
+    × IsMixed w i.queue i.rank
+JudgesInsert w t i flags None =
+    MayInsert w t × (flags ≤ 1) × IsDestination w i.queue × (¬ IsBuiltinVtime i.queue i.rank)
+    × (¬ IsMixed w i.queue i.rank)
+JudgesInsert w t i flags (Some CannotCreate) = ⊥
+JudgesInsert w t i flags (Some Stuck) = ⊥
+
+-- a call that wants to create a queue: it can, or CannotCreate is the fault
+abbrev pub JudgesCreate : WorldState → ℕ → Option Fault → Type 0
+JudgesCreate w q None = CanCreate w q
+JudgesCreate w q (Some CannotCreate) = ¬ CanCreate w q
+JudgesCreate w q (Some CannotInsert) = ⊥
+JudgesCreate w q (Some UnknownFlag) = ⊥
+JudgesCreate w q (Some NoSuchQueue) = ⊥
+JudgesCreate w q (Some NoSuchCpu) = ⊥
+JudgesCreate w q (Some BuiltinVtime) = ⊥
+JudgesCreate w q (Some Mixed) = ⊥
+JudgesCreate w q (Some Stuck) = ⊥
+
+-- a call that wants such a queue
+abbrev pub JudgesQueue : Type 0 → Option Fault → Type 0
+JudgesQueue fits None = fits
+JudgesQueue fits (Some NoSuchQueue) = ¬ fits
+JudgesQueue fits (Some CannotCreate) = ⊥
+JudgesQueue fits (Some CannotInsert) = ⊥
+JudgesQueue fits (Some UnknownFlag) = ⊥
+JudgesQueue fits (Some NoSuchCpu) = ⊥
+JudgesQueue fits (Some BuiltinVtime) = ⊥
+JudgesQueue fits (Some Mixed) = ⊥
+JudgesQueue fits (Some Stuck) = ⊥
+
+-- a call that wants a processor
+abbrev pub JudgesCpu : WorldState → ℕ → Option Fault → Type 0
+JudgesCpu w c None = c < length w.cpus
+JudgesCpu w c (Some NoSuchCpu) = length w.cpus ≤ c
+JudgesCpu w c (Some NoSuchQueue) = ⊥
+JudgesCpu w c (Some CannotCreate) = ⊥
+JudgesCpu w c (Some CannotInsert) = ⊥
+JudgesCpu w c (Some UnknownFlag) = ⊥
+JudgesCpu w c (Some BuiltinVtime) = ⊥
+JudgesCpu w c (Some Mixed) = ⊥
+JudgesCpu w c (Some Stuck) = ⊥
+
+-- the fault of a call, or that it has none; of the look-up of an element, which a run does
+-- itself, nothing is allowed
+abbrev pub Judges : WorldState → Helper → List Arg → Option Fault → Type 0
+Judges w KtimeGetNs a o = o ≡ None
+Judges w CreateDsq a o = JudgesCreate w (given_number a 0) o
+Judges w DsqInsert a o = JudgesInsert w (given_task a 0) (insert_of a) (given_number a 3) o
+Judges w DsqInsertVtime a o =
+    JudgesInsert w (given_task a 0) (insert_of_vtime a) (given_number a 4) o
+Judges w DsqMoveToLocal a o = JudgesQueue (MayMove w (given_number a 0)) o
+Judges w SelectCpuDfl a o = o ≡ None
+Judges w CpuIdle a o = JudgesCpu w (given_number a 0) o
+Judges w TaskByPid a o = o ≡ None
+Judges w DsqNrQueued a o = JudgesQueue (IsPolicyQueue w (given_number a 0)) o
+Judges w MapLookupElem a o = ⊥
+
+-- ---- what a call does where nothing is wrong: its answer, and the world that it leaves
+
+-- the insert is kept until the callback ends; in dispatch the held task goes at once to where it
+-- wants it, and that is noted
+pub data Inserts (w : WorldState) (t : Option ℕ) (i : Insert) (v : WorldState) : Type 0 where
+  Keeps : ¬ (w.call.callback ≡ Dispatch) → v ≡ with_insert w i → Inserts w t i v
+  Releases : (u : ℕ)
+      → w.call.callback ≡ Dispatch → t ≡ Some u
+      → v ≡ with_note (with_move (after_enter (after_leave w u) u (for_cpu w.call.cpu i)))
+      (notes.Insert u (queue_for w.call.cpu i.queue))
+      → Inserts w t i v
+
+-- the front of the queue goes to the local queue of the processor at hand, and that is noted;
+-- an empty queue stays
+pub data Moves (w : WorldState) (q n : ℕ) (v : WorldState) : Type 0 where
+  Front : (t : ℕ)
+      → front_of w.queues q ≡ Some t → n ≡ 1
+      → v ≡ with_note
+      (with_move (with_queues w (after_push (after_pop w.queues q) (local_on w.call.cpu) t Fifo)))
+      (notes.Move t w.call.cpu)
+      → Moves w q n v
+  Empty : front_of w.queues q ≡ None → n ≡ 0 → v ≡ w → Moves w q n v
+
+-- the processor for which a task is put: where it ran last if that is idle, else the lowest idle
+-- one, else where it ran last
+pub data IsChoice (w : WorldState) (t c : ℕ) : Type 0 where
+  LastRan : is_idle w (task_at w t).prev_cpu ≡ true → c ≡ (task_at w t).prev_cpu → IsChoice w t c
+  Lowest : is_idle w (task_at w t).prev_cpu ≡ false → is_idle w c ≡ true
+      → ((d : ℕ) → d < c → is_idle w d ≡ false) → IsChoice w t c
+  NoneIdle : ((d : ℕ) → is_idle w d ≡ false) → c ≡ (task_at w t).prev_cpu → IsChoice w t c
+
+-- of a task; what isn't one has no choice
+pub data Chooses (w : WorldState) (n : ℕ) : Option ℕ → Type 0 where
+  OfTask : (t : ℕ) → IsChoice w t n → Chooses w n (Some t)
+  OfNobody : n ≡ 0 → Chooses w n None
+
+-- whether a processor is idle, as 1 or 0; one that isn't there is not idle
+pub data Tells (w : WorldState) (c n : ℕ) : Type 0 where
+  TellsIdle : is_idle w c ≡ true → n ≡ 1 → Tells w c n
+  TellsBusy : is_idle w c ≡ false → n ≡ 0 → Tells w c n
+
+-- the task of that pid, which is its number and 1
+pub data Finds (w : WorldState) (n : ℕ) (x : Answer) : Type 0 where
+  Found : (t : ℕ) → t < length w.tasks → n ≡ t + 1 → x ≡ Task (record { 0 = t }) → Finds w n x
+  Nobody : ((t : ℕ) → t < length w.tasks → n ≡ t + 1 → ⊥) → x ≡ Num 0 → Finds w n x
+
+-- what a call that answers a number does without a fault: the answer, and the world after it
+abbrev pub Does : WorldState → Helper → List Arg → ℕ → WorldState → Type 0
+Does w KtimeGetNs a n v = (n ≡ w.clock * 1000000) × (v ≡ w)
+Does w CreateDsq a n v = (n ≡ 0) × (v ≡ with_queues w (with_queue w.queues (given_number a 0)))
+Does w DsqInsert a n v = (n ≡ 0) × Inserts w (given_task a 0) (insert_of a) v
+Does w DsqInsertVtime a n v = (n ≡ 0) × Inserts w (given_task a 0) (insert_of_vtime a) v
+Does w DsqMoveToLocal a n v = Moves w (given_number a 0) n v
+Does w SelectCpuDfl a n v = Chooses w n (given_task a 0) × (v ≡ w)
+Does w CpuIdle a n v = Tells w (given_number a 0) n × (v ≡ w)
+Does w DsqNrQueued a n v = (n ≡ len_of w.queues (given_number a 0)) × (v ≡ w)
+Does w TaskByPid a n v = ⊥
+Does w MapLookupElem a n v = ⊥
+
+-- ---- both together: a call with a fault is invalid, and leaves the fault alone
+pub data IsEffect (w : WorldState) (h : Helper) (a : List Arg) (x : Answer) (v : WorldState)
+    : Type 0 where
+  Done : (n : ℕ) → Judges w h a None → Does w h a n v → x ≡ Num n → IsEffect w h a x v
+  FindsTask : h ≡ TaskByPid → Finds w (given_number a 0) x → v ≡ w → IsEffect w h a x v
+  Wrong : (f : Fault)
+      → Judges w h a (Some f) → x ≡ Num invalid → v ≡ with_fault w f → IsEffect w h a x v

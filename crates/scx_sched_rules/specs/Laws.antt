@@ -1,0 +1,100 @@
+-- What the machine computes is what the rules allow, and the only thing that they allow.
+use Rattle.std.specs.Prelude.{◌≡◌, ℕ, ℤ, Bool, true, List, Option, Some, None, Result}
+use Rattle.scx_isa_semantics.specs.declared.callbacks.Callback.{Callback}
+use Rattle.scx_isa_semantics.specs.declared.host_tables.Helper.{Helper}
+use Rattle.scx_isa_semantics.specs.declared.host_tables.Helper.TheVariants.{MapLookupElem}
+use Rattle.scx_vm.specs.declared.arguments.Arg.{Arg}
+use Rattle.scx_vm.specs.declared.arguments.Answer.{Answer}
+use Rattle.scx_vm.specs.declared.arguments.Args.{Args}
+use Rattle.scx_weights.specs.Hierarchy.{Hierarchy}
+use Rattle.scx_sched_world.specs.World.{WorldState}
+use Rattle.scx_sched_world.specs.Helpers.{helper_answer, helper_after}
+use Rattle.scx_sched_machine.specs.declared.events.Event.{Event}
+use Rattle.scx_sched_machine.specs.declared.events.Refused.{Refused}
+use Rattle.scx_sched_machine.specs.Steps.{State, Stepped}
+use Rattle.scx_sched_machine.specs.Policy.{PolicyState}
+use Rattle.scx_sched_machine.specs.Callbacks.{call_back, answered_by, AreAnswered}
+use Rattle.scx_sched_machine.specs.Cycle.{cycle}
+use Rattle.scx_sched_machine.specs.Events.{refusal, event_step}
+use Rattle.scx_sched_machine.specs.Start.{is_bad_shape, first_state, start_calls}
+use Rattle.scx_sched_rules.specs.Helpers.{IsEffect}
+use Rattle.scx_sched_rules.specs.Callbacks.{CallsBack}
+use Rattle.scx_sched_rules.specs.Cycles.{Cycles}
+use Rattle.scx_sched_rules.specs.Events.{Happens}
+use Rattle.scx_sched_rules.specs.Refusals.{Refuses}
+use Rattle.scx_sched_rules.specs.Starts.{HasBadShape, Begins}
+
+-- what a helper answers and leaves; elements of maps are looked up by the run itself
+abbrev pub RulesAllowHelpers : Type 0
+RulesAllowHelpers =
+    (w : WorldState) (h : Helper) (a : List Arg)
+    → ¬ (h ≡ MapLookupElem) → IsEffect w h a (helper_answer w h a) (helper_after w h a)
+
+-- of a helper call the rules allow no other answer, and no other world, than are computed
+abbrev pub RulesAllowHelpersOnly : Type 0
+RulesAllowHelpersOnly =
+    (w : WorldState) (h : Helper) (a : List Arg) (x : Answer) (v : WorldState) → IsEffect w h a x v
+    → (x ≡ helper_answer w h a) × (v ≡ helper_after w h a)
+
+-- a callback that comes to an answer, as each does that an event calls
+abbrev pub RulesAllowCallbacks : Type 0
+RulesAllowCallbacks =
+    (s : State) (b : Callback) (a : Args) (t c : ℕ)
+    → AreAnswered (call_back s b a t c).calls
+    → CallsBack s b a t c (answered_by s b a t c) (call_back s b a t c)
+
+-- of a callback the rules allow no other answer, and no other step, than are computed
+abbrev pub RulesAllowCallbacksOnly : Type 0
+RulesAllowCallbacksOnly =
+    (s : State) (b : Callback) (a : Args) (t c : ℕ) (answer : Option ℕ) (r : Stepped)
+    → CallsBack s b a t c answer r → (answer ≡ answered_by s b a t c) × (r ≡ call_back s b a t c)
+
+-- a cycle
+abbrev pub RulesAllowCycles : Type 0
+RulesAllowCycles =
+    (s : State) (c : ℕ) (p : Option ℕ) (ran : Bool) → Cycles s c p ran (cycle s c p ran)
+
+-- of a cycle the rules allow no other step than the one that is computed
+abbrev pub RulesAllowCyclesOnly : Type 0
+RulesAllowCyclesOnly =
+    (s : State) (c : ℕ) (p : Option ℕ) (ran : Bool) (r : Stepped)
+    → Cycles s c p ran r → r ≡ cycle s c p ran
+
+-- an accepted event
+abbrev pub RulesAllowEvents : Type 0
+RulesAllowEvents = (s : State) (v : Event) → refusal s v ≡ None → Happens s v (event_step s v)
+
+-- of an accepted event the rules allow no other step than the one that is computed
+abbrev pub RulesAllowEventsOnly : Type 0
+RulesAllowEventsOnly =
+    (s : State) (v : Event) (r : Stepped) → refusal s v ≡ None → Happens s v r → r ≡ event_step s v
+
+-- a refusal
+abbrev pub RulesRefuseEvents : Type 0
+RulesRefuseEvents = (s : State) (v : Event) (r : Refused) → refusal s v ≡ Some r → Refuses s v r
+
+-- the rules refuse no event that isn't refused, and none for another cause
+abbrev pub RulesRefuseEventsOnly : Type 0
+RulesRefuseEventsOnly = (s : State) (v : Event) (r : Refused) → Refuses s v r → refusal s v ≡ Some r
+
+-- a start, of a policy of which each program that is called comes to an answer, as each does
+abbrev pub RulesAllowStarts : Type 0
+RulesAllowStarts =
+    (p : PolicyState) (tree : Hierarchy) (cpus : ℕ)
+    → AreAnswered (start_calls p tree cpus) → Begins p tree cpus (first_state p tree cpus)
+
+-- of a start the rules allow no other state or failure than the one that is computed
+abbrev pub RulesAllowStartsOnly : Type 0
+RulesAllowStartsOnly =
+    (p : PolicyState) (tree : Hierarchy) (cpus : ℕ) (r : Result State ℤ)
+    → Begins p tree cpus r → r ≡ first_state p tree cpus
+
+-- and of what no machine is made
+abbrev pub RulesRefuseShapes : Type 0
+RulesRefuseShapes =
+    (tree : Hierarchy) (cpus : ℕ) → is_bad_shape tree cpus ≡ true → HasBadShape tree cpus
+
+-- the rules call no other shape bad than those that are computed as bad
+abbrev pub RulesRefuseShapesOnly : Type 0
+RulesRefuseShapesOnly =
+    (tree : Hierarchy) (cpus : ℕ) → HasBadShape tree cpus → is_bad_shape tree cpus ≡ true

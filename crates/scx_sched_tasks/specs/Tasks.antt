@@ -1,0 +1,22 @@
+-- The records of tasks.
+use Rattle.std.specs.Prelude.{ℕ, None}
+use Rattle.scx_sched_tasks.specs.declared.task.Task.{Task}
+
+-- where there is no task all is 0, and nobody waits
+abbrev pub no_task : Task
+no_task = record { since = None; slice = 0; vtime = 0; prev_cpu = 0; run_ns = 0; builtin = 0 }
+
+-- the slice that a task has at the start, in ns: 20 ms
+abbrev pub default_slice : ℕ
+default_slice = 20000000
+
+-- at the start nobody waits
+abbrev pub new_task : Task
+new_task = record {
+  since = None;
+  slice = default_slice;
+  vtime = 0;
+  prev_cpu = 0;
+  run_ns = 0;
+  builtin = 0;
+}

@@ -1,0 +1,107 @@
+ghost use Rattle.std.specs.Prelude.{◌≡◌, ◌<◌, ◌≤◌, length, replicate, slice_index_or, slice_set, position, IfSome, IfOk};
+ghost use Rattle.scx_sched_tasks.specs.Tasks.{no_task, new_task};
+ghost use Rattle.scx_sched_tasks.specs.Waits.{is_overdue};
+
+use crate::task::Task;
+use crate::watch::{Watch, is_over};
+use std::alloc::{AllocError, Global};
+use std::marker::Model;
+
+/// The records of tasks, by number.
+#[derive(Drop)]
+pub struct Tasks {
+    records: Vec<Task>,
+    watch: Watch,
+}
+
+impl Model for Tasks {
+    ghost use Rattle.std.specs.Prelude.{List};
+    ghost use Rattle.scx_sched_tasks.specs.declared.task.Task.{Task};
+
+    ghost Value = { List Task };
+
+    ghost use Rattle.scx_sched_tasks.specs.Kept.{records_of, IsKept};
+
+    ghost view = { records_of };
+
+    ghost invariant = { IsKept };
+}
+
+impl Tasks {
+    /// Nobody waits.
+    pub fn new(alloc: Global, count: usize) -> Result<Tasks, AllocError>
+        requires { count ≤ 1024 }
+        ensures { IfOk result (λ tasks. tasks ≡ replicate count new_task) }
+    {
+        Ok(Tasks {
+            records: vec![in alloc; Task::NEW; count]?,
+            watch: Watch::new(),
+        })
+    }
+
+    /// How many tasks there are.
+    pub fn len(&self) -> usize
+        ensures tasks { result ≡ length self.now }
+        ensures few { result ≤ 1024 }
+    {
+        self.records.len()
+    }
+
+    /// The record of a task; all is 0 where there is none.
+    pub fn get(&self, task: u16) -> Task
+        ensures { result ≡ slice_index_or self.now task no_task }
+    {
+        if (task as usize) < self.records.len() {
+            self.records[task as usize]
+        } else {
+            Task::NONE
+        }
+    }
+
+    /// Where there is no such task nothing is changed.
+    #[tactic(auto, using(crate::proofs::Watching::watched_set))]
+    pub fn set(&mut self, task: u16, facts: Task)
+        ensures { self.new ≡ slice_set self.old task facts }
+    {
+        if (task as usize) < self.records.len() {
+            self.watch.lower(task, facts);
+            self.records[task as usize] = facts;
+        }
+    }
+
+    /// Of the tasks that have waited longer than that the one of the least number.
+    #[tactic(auto, using(crate::proofs::Watching::nobody_late))]
+    pub fn first_overdue(&mut self, clock: u64, limit: u64) -> Option<u16>
+        ensures answer { result ≡ position (is_overdue clock limit) self.old }
+        ensures tasks { self.new ≡ self.old }
+    {
+        self.refresh(clock, limit);
+        if is_over(clock, self.watch.oldest, limit) {
+            match position_overdue(&self.records, clock, limit) {
+                Some(task) => Some(task as u16),
+                None => None,
+            }
+        } else {
+            None
+        }
+    }
+
+    /// Brings the watch up to date where somebody may have waited longer than that.
+    fn refresh(&mut self, clock: u64, limit: u64)
+        ensures { self.new ≡ self.old }
+    {
+        if is_over(clock, self.watch.oldest, limit) {
+            self.watch.refresh(&self.records, clock, limit);
+        }
+    }
+}
+
+fn position_overdue(records: &[Task], clock: u64, limit: u64) -> Option<usize>
+    ensures at { result ≡ position (is_overdue clock limit) records.now }
+    ensures within { IfSome result (λ i. i < length records.now) }
+{
+    records.iter().position(|facts| match facts.since {
+        Some(since) => clock.saturating_sub(since) > limit,
+        None => false,
+    })
+}

@@ -1,0 +1,349 @@
+-- What each helper answers, and what it makes of the world. A call with a fault answers that it is
+-- invalid, and changes nothing but that the fault is kept, if it is the first one of the callback.
+use Rattle.std.specs.Prelude.{ℕ, Bool, true, false, ◌&&◌, ◌==◌, nat_lt, nat_le, ◌+◌, ◌-◌, ◌*◌, ◌^◌, min, List, length, if◌then◌else◌, Option, Some, None, is_none, slice_index_or}
+use Rattle.std.specs.List.{list_any}
+use Rattle.scx_dsq.specs.Queues.{exists, entry_of, is_in, front_of, len_of}
+use Rattle.scx_dsq.specs.Calls.{create_refusal, after_create, clashes, after_push, after_pop}
+use Rattle.scx_dsq.specs.Laws.{one_if}
+use Rattle.scx_dsq.specs.declared.entries.Rank.{Rank}
+use Rattle.scx_dsq.specs.declared.entries.Rank.TheVariants.{Fifo, Vtime}
+use Rattle.scx_weights.specs.Hierarchy.{home_of}
+use Rattle.scx_weights.specs.Weights.{task_weight}
+use Rattle.scx_isa_semantics.specs.declared.callbacks.Callback.{Callback}
+use Rattle.scx_isa_semantics.specs.declared.callbacks.Callback.TheVariants as callback
+use Rattle.scx_isa_semantics.specs.declared.host_tables.Helper.{Helper}
+use Rattle.scx_isa_semantics.specs.declared.host_tables.Helper.TheVariants.{MapLookupElem, KtimeGetNs, CreateDsq, DsqInsert, DsqInsertVtime, DsqMoveToLocal, SelectCpuDfl, CpuIdle, TaskByPid, DsqNrQueued}
+use Rattle.scx_isa_semantics.specs.declared.host_tables.TaskId.{TaskId}
+use Rattle.scx_isa_semantics.specs.declared.host_tables.Field.{Field}
+use Rattle.scx_isa_semantics.specs.declared.host_tables.Field.TheVariants.{Pid, Weight, Slice, DsqVtime, PrevCpu, Group, RunNs}
+use Rattle.scx_vm.specs.declared.arguments.Arg.{Arg}
+use Rattle.scx_vm.specs.declared.arguments.Arg.TheVariants as argument
+use Rattle.scx_vm.specs.declared.arguments.Answer.{Answer}
+use Rattle.scx_vm.specs.declared.arguments.Answer.TheVariants as answer
+use Rattle.scx_vm.specs.Host.{Functions}
+use Rattle.scx_sched_tasks.specs.declared.task.Task.{Task}
+use Rattle.scx_sched_world.specs.declared.faults.Fault.{Fault}
+use Rattle.scx_sched_world.specs.declared.faults.Fault.TheVariants.{NoSuchQueue, CannotInsert, NoSuchCpu, UnknownFlag, CannotCreate, BuiltinVtime, Mixed}
+use Rattle.scx_sched_world.specs.declared.call.Insert.{Insert}
+use Rattle.scx_sched_world.specs.declared.notes.What.TheVariants as notes
+use Rattle.scx_sched_world.specs.Ids.{policy_end, global, local, held_queue, local_on}
+use Rattle.scx_sched_world.specs.World.{WorldState, with_queues, with_call, task_at, with_task, is_idle, default_choice, with_note}
+use Rattle.scx_sched_world.specs.Tasks.{with_slice, with_vtime, after_leave, after_enter, for_cpu}
+
+-- -22 as a number of 64 bits
+abbrev pub invalid : ℕ
+invalid = 0xffff_ffff_ffff_ffea
+
+-- ---- arguments
+
+-- the number that an argument is; 0 where it is a task or not set
+abbrev pub number_of : Arg → ℕ
+number_of argument.Unset = 0
+number_of (argument.Num n) = n
+number_of (argument.Task t) = 0
+
+-- the task that an argument points to; none where it is a number or not set
+abbrev pub task_of : Arg → Option ℕ
+task_of argument.Unset = None
+task_of (argument.Num n) = None
+task_of (argument.Task t) = Some t.0
+
+-- the number in the argument at that index, from 0; 0 where no number is given there
+abbrev pub given_number : List Arg → ℕ → ℕ
+given_number a i = number_of (slice_index_or a i argument.Unset)
+
+-- the task in the argument at that index, from 0, if one is given there
+abbrev pub given_task : List Arg → ℕ → Option ℕ
+given_task a i = task_of (slice_index_or a i argument.Unset)
+
+-- a task as a program is given it
+abbrev pub task_argument : ℕ → Arg
+task_argument t = argument.Task (record { 0 = t })
+
+-- ---- faults
+
+-- the first fault of a callback counts
+abbrev pub first_fault : Option Fault → Fault → Option Fault
+first_fault None f = Some f
+first_fault (Some first) f = Some first
+
+-- the callback at hand has that fault, unless it had one before; nothing else is changed
+abbrev pub with_fault : WorldState → Fault → WorldState
+with_fault w f = with_call w (record w.call { fault = first_fault w.call.fault f })
+
+-- what a call answers that only does something: -22 where it has a fault, else 0
+abbrev pub invalid_if : Option Fault → ℕ
+invalid_if None = 0
+invalid_if (Some f) = invalid
+
+-- ---- queues
+
+-- a queue of the policy
+abbrev pub is_there : WorldState → ℕ → Bool
+is_there w q = nat_lt q policy_end && exists w.queues q
+
+-- whether the policy may create a queue of that id: below the end, not there yet, with room left
+abbrev pub can_create : WorldState → ℕ → Bool
+can_create w q = nat_lt q policy_end && is_none (create_refusal w.queues q)
+
+-- what creating a queue makes of the world: the queue is there, or the callback has a fault
+abbrev pub after_create_dsq : WorldState → ℕ → WorldState
+after_create_dsq w q =
+    if can_create w q then with_queues w (after_create w.queues q) else with_fault w CannotCreate
+
+-- what creating a queue answers: 0, or -22 where it can't be created
+abbrev pub create_answer : WorldState → ℕ → ℕ
+create_answer w q = if can_create w q then 0 else invalid
+
+-- asking how long a queue is changes nothing; it is a fault where the policy has no such queue
+abbrev pub after_queued : WorldState → ℕ → WorldState
+after_queued w q = if is_there w q then w else with_fault w NoSuchQueue
+
+-- how many tasks wait in a queue of the policy; -22 where it has no such queue
+abbrev pub queued_answer : WorldState → ℕ → ℕ
+queued_answer w q = if is_there w q then len_of w.queues q else invalid
+
+-- ---- inserts
+
+-- whether a helper was given the task at hand; false where it was given no task
+abbrev pub is_at_hand : WorldState → Option ℕ → Bool
+is_at_hand w None = false
+is_at_hand w (Some t) = t == w.call.task
+
+-- whether a callback is dispatch, in which an insert takes effect at once
+abbrev pub is_dispatch : Callback → Bool
+is_dispatch callback.Dispatch = true
+is_dispatch b = false
+
+-- the machine holds the task
+abbrev pub is_held : WorldState → Option ℕ → Bool
+is_held w None = false
+is_held w (Some t) = is_in held_queue (entry_of w.queues t)
+
+-- in select_cpu and enqueue the task at hand, and once; in dispatch a task that is held
+abbrev pub may_insert_in : Callback → WorldState → Option ℕ → Bool
+may_insert_in callback.SelectCpu w t = is_none w.call.insert && is_at_hand w t
+may_insert_in callback.Enqueue w t = is_none w.call.insert && is_at_hand w t
+may_insert_in callback.Dispatch w t = is_held w t
+may_insert_in b w t = false
+
+-- whether the callback at hand may insert that task, into whichever queue
+abbrev pub may_insert : WorldState → Option ℕ → Bool
+may_insert w t = may_insert_in w.call.callback w t
+
+-- Where a task may be put: GLOBAL, LOCAL, the local queue of a processor, a queue of the policy. In
+-- the low 32 bits of the id of a local queue stands the processor.
+abbrev pub queue_fault : WorldState → ℕ → Option Fault
+queue_fault w q =
+    if nat_lt q policy_end then (if exists w.queues q then None else Some NoSuchQueue)
+    else (if (q == global) then None
+    else (if (q == local) then None
+    else (if nat_lt q (local_on 0) then Some NoSuchQueue
+    else (if nat_lt q (local_on (length w.cpus)) then None
+    else (if nat_lt q (local_on 0x1_0000_0000) then Some NoSuchCpu else Some NoSuchQueue)))))
+
+-- whether a task goes in by virtual time, and not in order of arrival
+abbrev pub is_vtime : Rank → Bool
+is_vtime Fifo = false
+is_vtime (Vtime n) = true
+
+-- Into the machine's own queues tasks go in order of arrival alone, and into a queue of the policy
+-- as those went that wait there.
+abbrev pub rank_fault : WorldState → ℕ → Rank → Option Fault
+rank_fault w q r =
+    if is_vtime r && nat_le policy_end q then Some BuiltinVtime
+    else (if list_any (clashes q r) w.queues.entries then Some Mixed else None)
+
+-- the first fault, if there is one, else the second one, if there is one
+abbrev pub or_fault : Option Fault → Option Fault → Option Fault
+or_fault None o = o
+or_fault (Some f) o = Some f
+
+-- what is wrong with an insert: first with its task, then its flags, its queue and its rank
+abbrev pub insert_fault : WorldState → Option ℕ → Insert → ℕ → Option Fault
+insert_fault w t i flags =
+    if may_insert w t
+    then (if nat_lt 1 flags then Some UnknownFlag
+    else or_fault (queue_fault w i.queue) (rank_fault w i.queue i.rank))
+    else Some CannotInsert
+
+-- the insert is kept until the callback ends
+abbrev pub with_insert : WorldState → Insert → WorldState
+with_insert w i = with_call w (record w.call { insert = Some i })
+
+-- the callback brought a task to a queue
+abbrev pub with_move : WorldState → WorldState
+with_move w = with_call w (record w.call { has_moved = true })
+
+-- a held task goes at once to where the insert wants it
+abbrev pub after_release : WorldState → Option ℕ → Insert → WorldState
+after_release w None i = w
+after_release w (Some t) i =
+    with_note (with_move (after_enter (after_leave w t) t i)) (notes.Insert t i.queue)
+
+-- what an insert makes of the world: its fault is kept, or it takes effect, in dispatch at once
+abbrev pub insert_or_fault : WorldState → Option Fault → Option ℕ → Insert → WorldState
+insert_or_fault w None t i =
+    if is_dispatch w.call.callback then after_release w t (for_cpu w.call.cpu i)
+    else with_insert w i
+insert_or_fault w (Some f) t i = with_fault w f
+
+-- the world after a helper call that inserts a task
+abbrev pub after_insert : WorldState → Option ℕ → Insert → ℕ → WorldState
+after_insert w t i flags = insert_or_fault w (insert_fault w t i flags) t i
+
+-- what a helper call answers that inserts a task: 0, or -22 where it has a fault
+abbrev pub insert_answer : WorldState → Option ℕ → Insert → ℕ → ℕ
+insert_answer w t i flags = invalid_if (insert_fault w t i flags)
+
+-- what a call asks for: a queue, a slice, and by virtual time a key
+abbrev pub insert_of : List Arg → Insert
+insert_of a = record { queue = given_number a 1; slice = given_number a 2; rank = Fifo }
+
+-- what a call asks for that inserts by virtual time: a queue, a slice, and the key
+abbrev pub insert_of_vtime : List Arg → Insert
+insert_of_vtime a = record {
+  queue = given_number a 1;
+  slice = given_number a 2;
+  rank = Vtime (given_number a 3);
+}
+
+-- ---- moves
+
+-- how many tasks these are: 1 where there is one, else 0
+abbrev pub one_if_some : Option ℕ → ℕ
+one_if_some None = 0
+one_if_some (Some t) = 1
+
+-- whether tasks may be moved from that queue: in dispatch, from one of the policy's own
+abbrev pub can_move : WorldState → ℕ → Bool
+can_move w q = is_dispatch w.call.callback && is_there w q
+
+-- the front of a queue goes to the local queue of the processor at hand
+abbrev pub front_moved_to_local : WorldState → Option ℕ → ℕ → WorldState
+front_moved_to_local w None q = w
+front_moved_to_local w (Some t) q =
+    with_note
+    (with_move (with_queues w (after_push (after_pop w.queues q) (local_on w.call.cpu) t Fifo)))
+    (notes.Move t w.call.cpu)
+
+-- what a move to the local queue makes of the world; where none may be moved, it is a fault
+abbrev pub after_move : WorldState → ℕ → WorldState
+after_move w q =
+    if can_move w q then front_moved_to_local w (front_of w.queues q) q
+    else with_fault w NoSuchQueue
+
+-- what a move answers: 1, 0 where the queue is empty, or -22 where none may be moved
+abbrev pub move_answer : WorldState → ℕ → ℕ
+move_answer w q = if can_move w q then one_if_some (front_of w.queues q) else invalid
+
+-- ---- processors and tasks
+
+-- which processor is chosen by default for a task; 0 where a helper was given no task
+abbrev pub choice_answer : WorldState → Option ℕ → ℕ
+choice_answer w None = 0
+choice_answer w (Some t) = default_choice w t
+
+-- asking whether a processor is idle changes nothing; it is a fault where there is none
+abbrev pub after_idle : WorldState → ℕ → WorldState
+after_idle w c = if nat_lt c (length w.cpus) then w else with_fault w NoSuchCpu
+
+-- 1 where a processor is idle and 0 where it isn't; -22 where there is no such processor
+abbrev pub idle_answer : WorldState → ℕ → ℕ
+idle_answer w c = if nat_lt c (length w.cpus) then one_if (is_idle w c) else invalid
+
+-- pids count from 1
+abbrev pub is_pid : WorldState → ℕ → Bool
+is_pid w n = nat_lt 0 n && nat_le n (length w.tasks)
+
+-- the task of that pid, or the number 0 where there is none
+abbrev pub pid_answer : WorldState → ℕ → Answer
+pid_answer w n = if is_pid w n then answer.Task (record { 0 = n - 1 }) else answer.Num 0
+
+-- ---- all helpers; elements of maps are looked up by the run itself
+
+-- what a helper call with these arguments answers
+abbrev pub helper_answer : WorldState → Helper → List Arg → Answer
+helper_answer w KtimeGetNs a = answer.Num (w.clock * 1000000)
+helper_answer w CreateDsq a = answer.Num (create_answer w (given_number a 0))
+helper_answer w DsqInsert a =
+    answer.Num (insert_answer w (given_task a 0) (insert_of a) (given_number a 3))
+helper_answer w DsqInsertVtime a =
+    answer.Num (insert_answer w (given_task a 0) (insert_of_vtime a) (given_number a 4))
+helper_answer w DsqMoveToLocal a = answer.Num (move_answer w (given_number a 0))
+helper_answer w SelectCpuDfl a = answer.Num (choice_answer w (given_task a 0))
+helper_answer w CpuIdle a = answer.Num (idle_answer w (given_number a 0))
+helper_answer w TaskByPid a = pid_answer w (given_number a 0)
+helper_answer w DsqNrQueued a = answer.Num (queued_answer w (given_number a 0))
+helper_answer w MapLookupElem a = answer.Num 0
+
+-- the world that a helper call with these arguments leaves
+abbrev pub helper_after : WorldState → Helper → List Arg → WorldState
+helper_after w CreateDsq a = after_create_dsq w (given_number a 0)
+helper_after w DsqInsert a = after_insert w (given_task a 0) (insert_of a) (given_number a 3)
+helper_after w DsqInsertVtime a =
+    after_insert w (given_task a 0) (insert_of_vtime a) (given_number a 4)
+helper_after w DsqMoveToLocal a = after_move w (given_number a 0)
+helper_after w CpuIdle a = after_idle w (given_number a 0)
+helper_after w DsqNrQueued a = after_queued w (given_number a 0)
+helper_after w KtimeGetNs a = w
+helper_after w SelectCpuDfl a = w
+helper_after w TaskByPid a = w
+helper_after w MapLookupElem a = w
+
+-- ---- the record of a task
+
+-- the weight of a task, in parts of 10000 and at least 1; 0 where there is no such task
+abbrev pub weight_at : WorldState → ℕ → ℕ
+weight_at w t = if nat_lt t (length w.tasks) then task_weight w.tree t else 0
+
+-- the group in which a task lies; 0 where there is no such task
+abbrev pub group_at : WorldState → ℕ → ℕ
+group_at w t = if nat_lt t (length w.tasks) then home_of w.tree t else 0
+
+-- what stands in a field of a task's record; where there is no such task, 0 in all but the pid
+abbrev pub field_of : WorldState → ℕ → Field → ℕ
+field_of w t Pid = t + 1
+field_of w t Weight = weight_at w t
+field_of w t Slice = (task_at w t).slice
+field_of w t DsqVtime = (task_at w t).vtime
+field_of w t PrevCpu = (task_at w t).prev_cpu
+field_of w t Group = group_at w t
+field_of w t RunNs = (task_at w t).run_ns
+
+-- the record of a task, stored to at a field; only its slice and its virtual time change so
+abbrev pub stored_in : Task → Field → ℕ → Task
+stored_in x Slice n = with_slice x n
+stored_in x DsqVtime n = with_vtime x n
+stored_in x Pid n = x
+stored_in x Weight n = x
+stored_in x PrevCpu n = x
+stored_in x Group n = x
+stored_in x RunNs n = x
+
+-- what a load of a field of a task reads
+abbrev pub world_number : WorldState → TaskId → Field → ℕ
+world_number w t f = field_of w t.0 f
+
+-- the world after a store to a field of a task; it changes where that field may be stored to
+abbrev pub world_stored : WorldState → TaskId → Field → ℕ → WorldState
+world_stored w t f n = with_task w t.0 (stored_in (task_at w t.0) f n)
+
+-- the world as a host
+abbrev pub world_functions : Functions WorldState
+world_functions = record {
+  answer = helper_answer;
+  after_call = helper_after;
+  number = world_number;
+  after_store = world_stored;
+}
+
+-- ---- budgets: for how many calls there is room, and what they may spend
+
+-- for how many helper calls there is room: each takes a note and a push at most
+abbrev pub room_of : WorldState → ℕ
+room_of w = min (4096 - length w.notes) (2 ^ 63 - w.queues.pushes)
+
+-- how many pushes were accepted so far, to which a helper call adds one at most
+abbrev pub spent_of : WorldState → ℕ
+spent_of w = w.queues.pushes

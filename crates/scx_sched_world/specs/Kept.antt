@@ -1,0 +1,60 @@
+-- What the fields of a world mean, and what always holds of them.
+use Rattle.std.specs.Prelude.{◌≡◌, ℕ, true, ◌^◌, ◌<◌, ◌≤◌, not, List, length, Option, Some, None, is_some, slice_index_or, vec_capacity}
+use Rattle.std.specs.Int.{bit_at}
+use Rattle.scx_dsq.specs.Laws.{one_if}
+use Rattle.scx_dsq.specs.Queues.{QueueState, task_count, queue_of}
+use Rattle.scx_weights.specs.Hierarchy.{Hierarchy}
+use Rattle.scx_weights.specs.Limits as limits
+use Rattle.scx_sched_world.specs.Ids.{parked_queue}
+use Rattle.scx_sched_world.specs.declared.world.World.TheInside.{Inside}
+use Rattle.scx_sched_world.specs.World.{WorldState, is_idle, is_throttled}
+
+-- the state for which a world's fields stand, without what is kept beside to find answers sooner
+abbrev pub state_of : Inside → WorldState
+state_of w = record {
+  clock = w.clock;
+  tasks = w.tasks;
+  cpus = w.cpus.items;
+  cycling = w.cycling;
+  queues = w.queues.state;
+  tree = w.tree;
+  call = w.call;
+  builtin_clock = w.builtin_clock;
+  ejected = w.ejected;
+  notes = w.notes.items;
+}
+
+-- these bits are set where a task runs, one bit a processor
+abbrev pub AreBusy : ℕ → List (Option ℕ) → Type 0
+AreBusy bits cpus =
+    (c : ℕ) → c < length cpus → bit_at bits c ≡ one_if (is_some (slice_index_or cpus c None))
+
+-- these bits are set where a processor isn't idle
+abbrev pub AreTaken : ℕ → WorldState → Type 0
+AreTaken bits w = (c : ℕ) → c < length w.cpus → bit_at bits c ≡ one_if (not (is_idle w c))
+
+-- who is parked is throttled
+abbrev pub AreThrottled : QueueState → Hierarchy → Type 0
+AreThrottled queues tree =
+    (t : ℕ) → queue_of queues t ≡ Some parked_queue → limits.is_throttled tree t ≡ true
+
+-- the task may not run, if it is parked
+abbrev pub StaysParked : WorldState → ℕ → Type 0
+StaysParked w t = queue_of w.queues t ≡ Some parked_queue → is_throttled w t ≡ true
+
+-- who is parked may not run
+abbrev pub NobodyIsFree : WorldState → Type 0
+NobodyIsFree w = (t : ℕ) → StaysParked w t
+
+-- there is room for the notes of a callback, each part knows of as many tasks, the clock in
+-- nanoseconds is a number of 64 bits, and who is parked is throttled where that is known
+pub record IsKept (w : Inside) : Type 0 where
+  pub notes : 4096 ≤ vec_capacity w.notes
+  pub few_notes : length w.notes.items ≤ 4096
+  pub queued : task_count w.queues.state ≡ length w.tasks
+  pub weighed : length w.tree.homes ≡ length w.tasks
+  pub few_tasks : length w.tasks ≤ 1024
+  pub few_cpus : length w.cpus.items ≤ 64
+  pub busy : AreBusy w.busy w.cpus.items
+  pub early : w.clock ≤ 2 ^ 32
+  pub parked : w.parked_throttled ≡ true → AreThrottled w.queues.state w.tree

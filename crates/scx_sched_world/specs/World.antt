@@ -1,0 +1,188 @@
+-- The world that a policy's programs see and change, and its parts.
+use Rattle.std.specs.Prelude.{ℕ, zero, suc, Bool, false, ◌==◌, ◌&&◌, not, nat_lt, List, [], ◌∷◌, ◌++◌, length, if◌then◌else◌, Option, Some, None, is_none, slice_index_or, slice_set, position}
+use Rattle.scx_dsq.specs.Queues.{QueueState, queue_of}
+use Rattle.scx_weights.specs.Hierarchy.{Hierarchy, is_active_task}
+use Rattle.scx_weights.specs.Limits as limits
+use Rattle.scx_isa_semantics.specs.declared.callbacks.Callback.{Callback}
+use Rattle.scx_isa_semantics.specs.declared.callbacks.Callback.TheVariants as callback
+use Rattle.scx_sched_world.specs.Ids.{parked_queue}
+use Rattle.scx_sched_world.specs.declared.notes.Note.{Note}
+use Rattle.scx_sched_world.specs.declared.notes.What.{What}
+use Rattle.scx_sched_tasks.specs.declared.task.Task.{Task}
+use Rattle.scx_sched_tasks.specs.Tasks.{no_task}
+use Rattle.scx_sched_tasks.specs.Waits.{time_since}
+use Rattle.scx_sched_world.specs.declared.call.Call.{Call}
+use Rattle.scx_sched_world.specs.declared.eject.Eject.{Eject}
+
+-- what a world is at one time, with tasks and processors by number and the clock in milliseconds
+pub record WorldState : Type 0 where
+  pub clock : ℕ
+  pub tasks : List Task
+  pub cpus : List (Option ℕ)  -- the task that runs on each processor
+  pub cycling : Option ℕ  -- the processor on which a scheduling cycle is under way
+  pub queues : QueueState
+  pub tree : Hierarchy
+  pub call : Call  -- the callback at hand, or the last one
+  pub builtin_clock : ℕ  -- the virtual time of the built-in scheduler
+  pub ejected : Option Eject  -- why and when the policy was put out of force, if it was
+  pub notes : List Note  -- what was noted and not handed on yet
+
+-- ---- one part changed
+
+-- the world at that clock, in milliseconds
+abbrev pub with_clock : WorldState → ℕ → WorldState
+with_clock w x = record w { clock = x }
+
+-- the world with these records of tasks
+abbrev pub with_tasks : WorldState → List Task → WorldState
+with_tasks w x = record w { tasks = x }
+
+-- the world with these tasks, or none, on its processors
+abbrev pub with_cpus : WorldState → List (Option ℕ) → WorldState
+with_cpus w x = record w { cpus = x }
+
+-- the world with a scheduling cycle under way on that processor, or with none
+abbrev pub with_cycling : WorldState → Option ℕ → WorldState
+with_cycling w x = record w { cycling = x }
+
+-- the world with these dispatch queues
+abbrev pub with_queues : WorldState → QueueState → WorldState
+with_queues w x = record w { queues = x }
+
+-- the world with these groups, weights and active tasks
+abbrev pub with_tree : WorldState → Hierarchy → WorldState
+with_tree w x = record w { tree = x }
+
+-- the world with that callback at hand, and what it did so far
+abbrev pub with_call : WorldState → Call → WorldState
+with_call w x = record w { call = x }
+
+-- the world with these notes of the callback at hand
+abbrev pub with_notes : WorldState → List Note → WorldState
+with_notes w x = record w { notes = x }
+
+-- the world with that virtual time of the built-in scheduler
+abbrev pub with_builtin_clock : WorldState → ℕ → WorldState
+with_builtin_clock w x = record w { builtin_clock = x }
+
+-- the world with that ejection of its policy, or with the policy in force
+abbrev pub with_ejected : WorldState → Option Eject → WorldState
+with_ejected w x = record w { ejected = x }
+
+-- ---- tasks and processors
+
+-- the record of a task; where there is no such task all is 0, and it doesn't wait
+abbrev pub task_at : WorldState → ℕ → Task
+task_at w t = slice_index_or w.tasks t no_task
+
+-- past the end nothing is changed
+abbrev pub with_task : WorldState → ℕ → Task → WorldState
+with_task w t x = with_tasks w (slice_set w.tasks t x)
+
+-- whether a task is runnable, as from a wake until it sleeps; false where there is no such task
+abbrev pub is_runnable : WorldState → ℕ → Bool
+is_runnable w t = is_active_task w.tree t
+
+-- the group of the task has used all that it may, or one that this lies below
+abbrev pub is_throttled : WorldState → ℕ → Bool
+is_throttled w t = nat_lt t (length w.tasks) && limits.is_throttled w.tree t
+
+-- in the queue of parked tasks nobody waits
+abbrev pub waits_in : Option ℕ → Bool
+waits_in None = false
+waits_in (Some q) = not (q == parked_queue)
+
+-- the task waits in a queue
+abbrev pub waits : WorldState → ℕ → Bool
+waits w t = waits_in (queue_of w.queues t)
+
+-- How long a task has waited: the clock less the clock at which it woke or was stopped last, or was
+-- let go since. A task that runs, sleeps or is parked doesn't wait.
+abbrev pub wait : WorldState → ℕ → ℕ
+wait w t = time_since w.clock (task_at w t).since
+
+-- the task that runs on a processor
+abbrev pub running : WorldState → ℕ → Option ℕ
+running w c = slice_index_or w.cpus c None
+
+-- a processor runs that task, or none; where there is no such processor nothing is changed
+abbrev pub with_cpu : WorldState → ℕ → Option ℕ → WorldState
+with_cpu w c o = with_cpus w (slice_set w.cpus c o)
+
+-- whether a task or a processor is the given one; false where none is given
+abbrev pub is_this : ℕ → Option ℕ → Bool
+is_this t None = false
+is_this t (Some u) = t == u
+
+-- the processor on which the task runs
+abbrev pub cpu_of : WorldState → ℕ → Option ℕ
+cpu_of w t = position (is_this t) w.cpus
+
+-- a processor is idle where no task runs and no cycle is under way
+abbrev pub is_idle : WorldState → ℕ → Bool
+is_idle w c = nat_lt c (length w.cpus) && is_none (running w c) && not (is_this c w.cycling)
+
+-- a processor where the test holds, else none
+abbrev pub this_if : Bool → ℕ → Option ℕ
+this_if b c = if b then Some c else None
+
+-- the first processor, if there is one, else the second one, if there is one
+abbrev pub or_this : Option ℕ → Option ℕ → Option ℕ
+or_this None o = o
+or_this (Some c) o = Some c
+
+-- the lowest idle one of the first so many processors
+abbrev pub idle_below : ℕ → WorldState → Option ℕ
+idle_below zero w = None
+idle_below (suc n) w = or_this (idle_below n w) (this_if (is_idle w n) n)
+
+-- the lowest processor that is idle, if one is
+abbrev pub first_idle : WorldState → Option ℕ
+first_idle w = idle_below (length w.cpus) w
+
+-- a processor, and where it is missing that other one
+abbrev pub or_else : Option ℕ → ℕ → ℕ
+or_else None d = d
+or_else (Some c) d = c
+
+-- the processor on which the task ran last if it is idle, else the lowest idle one, else that one
+abbrev pub default_choice : WorldState → ℕ → ℕ
+default_choice w t =
+    let prev = (task_at w t).prev_cpu in
+    if is_idle w prev then prev else or_else (first_idle w) prev
+
+-- ---- the callback at hand
+
+-- what is at hand before the first callback
+abbrev pub no_call : Call
+no_call = record {
+  callback = callback.Plain;
+  task = 0;
+  cpu = 0;
+  insert = None;
+  has_moved = false;
+  fault = None;
+}
+
+-- no notes of a callback are left
+abbrev pub quiet : WorldState → WorldState
+quiet w = with_notes w []
+
+-- a callback begins, with that task and processor at hand
+abbrev pub at_callback : WorldState → Callback → ℕ → ℕ → WorldState
+at_callback w b t c = with_call (quiet w) (record {
+  callback = b;
+  task = t;
+  cpu = c;
+  insert = None;
+  has_moved = false;
+  fault = None;
+})
+
+-- what is noted now
+abbrev pub note_now : WorldState → What → Note
+note_now w x = record { clock = w.clock; what = x }
+
+-- the callback at hand has noted one thing more, at this clock
+abbrev pub with_note : WorldState → What → WorldState
+with_note w x = with_notes w (w.notes ++ note_now w x ∷ [])

@@ -1,0 +1,276 @@
+ghost use Rattle.std.specs.Prelude.{◌≡◌, ◌+◌, ◌*◌, ◌^◌, ◌<◌, ◌≤◌, length};
+ghost use Rattle.scx_isa_semantics.specs.HostTables.{field_width};
+ghost use Rattle.scx_sched_world.specs.Helpers.{invalid, with_fault, is_there, create_answer, after_create_dsq, queued_answer, after_queued, is_held, may_insert, queue_fault, rank_fault, insert_fault, insert_answer, after_insert, after_release, choice_answer, idle_answer, after_idle, pid_answer, move_answer, after_move, weight_at, group_at, field_of};
+
+use crate::call::Insert;
+use crate::faults::Fault;
+use crate::ids::{GLOBAL, HELD, INVALID, LOCAL, LOCAL_IDS, LOCAL_ON, POLICY_END};
+use crate::notes::{Note, What};
+use crate::world::World;
+use scx_dsq::Rank;
+use scx_isa::{Callback, Field, TaskId};
+use scx_vm::Answer;
+
+/// What each helper answers, and what it makes of the world.
+impl World {
+    /// Keeps the fault, if it is the first one of the callback.
+    fn fault(&mut self, fault: Fault) -> u64
+        ensures answer { result ≡ invalid }
+        ensures world { self.new ≡ with_fault self.old fault }
+    {
+        if self.call.fault.is_none() {
+            self.call.fault = Some(fault);
+        }
+        INVALID
+    }
+
+    /// Whether the policy has that queue.
+    fn is_there(&self, queue: u64) -> bool
+        ensures { result ≡ is_there self.now queue }
+    {
+        queue < POLICY_END && self.queues.has(queue)
+    }
+
+    #[tactic(auto, using(crate::proofs::Parked::known_created))]
+    pub(crate) fn create(&mut self, queue: u64) -> u64
+        ensures answer { result ≡ create_answer self.old queue }
+        ensures world { self.new ≡ after_create_dsq self.old queue }
+        ensures few { self.new.queues.pushes ≡ self.old.queues.pushes }
+    {
+        if queue >= POLICY_END {
+            return self.fault(Fault::CannotCreate);
+        }
+        match self.queues.create(queue) {
+            Ok(()) => 0,
+            Err(_) => self.fault(Fault::CannotCreate),
+        }
+    }
+
+    pub(crate) fn queued(&mut self, queue: u64) -> u64
+        ensures answer { result ≡ queued_answer self.old queue }
+        ensures world { self.new ≡ after_queued self.old queue }
+        ensures few { self.new.queues.pushes ≡ self.old.queues.pushes }
+    {
+        if self.is_there(queue) {
+            self.queues.len(queue) as u64
+        } else {
+            self.fault(Fault::NoSuchQueue)
+        }
+    }
+
+    /// Whether the machine holds the task.
+    fn is_held(&self, task: Option<u16>) -> bool
+        ensures { result ≡ is_held self.now task }
+    {
+        match task {
+            Some(task) => self.queue_of(task) == Some(HELD),
+            None => false,
+        }
+    }
+
+    /// Whether it is the task at hand, and not inserted yet; in dispatch whether it is held.
+    fn may_insert(&self, task: Option<u16>) -> bool
+        ensures { result ≡ may_insert self.now task }
+    {
+        match self.call.callback {
+            Callback::SelectCpu | Callback::Enqueue => {
+                self.call.insert.is_none() && task == Some(self.call.task)
+            }
+            Callback::Dispatch => self.is_held(task),
+            Callback::Plain
+            | Callback::Init
+            | Callback::Enable
+            | Callback::Running
+            | Callback::Stopping => false,
+        }
+    }
+
+    /// Why no task may be put into that queue.
+    fn queue_fault(&self, queue: u64) -> Option<Fault>
+        ensures { result ≡ queue_fault self.now queue }
+    {
+        if queue < POLICY_END {
+            return if self.queues.has(queue) {
+                None
+            } else {
+                Some(Fault::NoSuchQueue)
+            };
+        }
+        if queue == GLOBAL || queue == LOCAL {
+            return None;
+        }
+        if queue < LOCAL_ON {
+            Some(Fault::NoSuchQueue)
+        } else if queue < LOCAL_ON + self.cpus.len() as u64 {
+            None
+        } else if queue < LOCAL_ON + LOCAL_IDS {
+            Some(Fault::NoSuchCpu)
+        } else {
+            Some(Fault::NoSuchQueue)
+        }
+    }
+
+    /// Why no task may be put into that queue by that rank.
+    fn rank_fault(&self, queue: u64, rank: Rank) -> Option<Fault>
+        ensures { result ≡ rank_fault self.now queue rank }
+    {
+        if rank != Rank::Fifo && queue >= POLICY_END {
+            Some(Fault::BuiltinVtime)
+        } else if self.queues.would_mix(queue, rank) {
+            Some(Fault::Mixed)
+        } else {
+            None
+        }
+    }
+
+    fn insert_fault(&self, task: Option<u16>, insert: Insert, flags: u64) -> Option<Fault>
+        ensures { result ≡ insert_fault self.now task insert flags }
+    {
+        if !self.may_insert(task) {
+            return Some(Fault::CannotInsert);
+        }
+        if flags > 1 {
+            return Some(Fault::UnknownFlag);
+        }
+        match self.queue_fault(insert.queue) {
+            Some(fault) => Some(fault),
+            None => self.rank_fault(insert.queue, insert.rank),
+        }
+    }
+
+    /// Keeps the insert of the task at hand until the callback ends. In dispatch a held task goes at once.
+    pub(crate) fn insert_here(&mut self, task: Option<u16>, insert: Insert, flags: u64) -> u64
+        requires notes { length self.old.notes < 4096 }
+        requires few { self.old.queues.pushes < 2 ^ 63 }
+        ensures answer { result ≡ insert_answer self.old task insert flags }
+        ensures world { self.new ≡ after_insert self.old task insert flags }
+        ensures notes { length self.new.notes ≤ length self.old.notes + 1 }
+        ensures few { self.new.queues.pushes ≤ self.old.queues.pushes + 1 }
+    {
+        if let Some(fault) = self.insert_fault(task, insert, flags) {
+            return self.fault(fault);
+        }
+        if self.call.callback == Callback::Dispatch {
+            self.release(task, insert.for_cpu(self.call.cpu));
+        } else {
+            self.call.insert = Some(insert);
+        }
+        0
+    }
+
+    /// A held task goes to where the insert wants it.
+    fn release(&mut self, task: Option<u16>, insert: Insert)
+        requires notes { length self.old.notes < 4096 }
+        requires few { self.old.queues.pushes < 2 ^ 63 }
+        ensures world { self.new ≡ after_release self.old task insert }
+        ensures notes { length self.new.notes ≤ length self.old.notes + 1 }
+        ensures few { self.new.queues.pushes ≤ self.old.queues.pushes + 1 }
+    {
+        let Some(task) = task else {
+            return;
+        };
+        self.leave_queue(task);
+        self.enter(task, insert);
+        self.call.has_moved = true;
+        self.notes.push_reserved(Note {
+            clock: self.clock,
+            what: What::Insert(task, insert.queue),
+        });
+    }
+
+    pub(crate) fn move_to_local(&mut self, queue: u64) -> u64
+        requires notes { length self.old.notes < 4096 }
+        requires few { self.old.queues.pushes < 2 ^ 63 }
+        ensures answer { result ≡ move_answer self.old queue }
+        ensures world { self.new ≡ after_move self.old queue }
+        ensures notes { length self.new.notes ≤ length self.old.notes + 1 }
+        ensures few { self.new.queues.pushes ≤ self.old.queues.pushes + 1 }
+    {
+        if self.call.callback != Callback::Dispatch || !self.is_there(queue) {
+            return self.fault(Fault::NoSuchQueue);
+        }
+        let Some(task) = self.pop(queue) else {
+            return 0;
+        };
+        let cpu = self.call.cpu;
+        self.push(LOCAL_ON + u64::from(cpu), task, Rank::Fifo);
+        self.call.has_moved = true;
+        self.notes.push_reserved(Note {
+            clock: self.clock,
+            what: What::Move(task, cpu),
+        });
+        1
+    }
+
+    // ---- processors and tasks
+
+    pub(crate) fn choose(&self, task: Option<u16>) -> u64
+        ensures { result ≡ choice_answer self.now task }
+    {
+        match task {
+            Some(task) => u64::from(self.default_choice(task)),
+            None => 0,
+        }
+    }
+
+    pub(crate) fn ask_idle(&mut self, cpu: u64) -> u64
+        ensures answer { result ≡ idle_answer self.old cpu }
+        ensures world { self.new ≡ after_idle self.old cpu }
+        ensures few { self.new.queues.pushes ≡ self.old.queues.pushes }
+    {
+        if cpu >= self.cpus.len() as u64 {
+            return self.fault(Fault::NoSuchCpu);
+        }
+        u64::from(self.is_idle(cpu as u32))
+    }
+
+    pub(crate) fn task_by_pid(&self, pid: u64) -> Answer
+        ensures { result ≡ pid_answer self.now pid }
+    {
+        if pid > 0 && pid <= self.tasks.len() as u64 {
+            Answer::Task(TaskId((pid - 1) as u16))
+        } else {
+            Answer::Num(0)
+        }
+    }
+
+    // ---- the record of a task
+
+    pub(crate) fn field(&self, task: u16, field: Field) -> u64
+        ensures number { result ≡ field_of self.now task field }
+        ensures fits { result < 2 ^ (8 * field_width field) }
+    {
+        let facts = self.task(task);
+        match field {
+            Field::Pid => u64::from(task) + 1,
+            Field::Weight => self.weight(task),
+            Field::Slice => facts.slice,
+            Field::DsqVtime => facts.vtime,
+            Field::PrevCpu => u64::from(facts.prev_cpu),
+            Field::Group => self.group(task),
+            Field::RunNs => facts.run_ns,
+        }
+    }
+
+    pub(crate) fn weight(&self, task: u16) -> u64
+        ensures weight { result ≡ weight_at self.now task }
+        ensures fits { result < 2 ^ 32 }
+    {
+        if (task as usize) < self.tasks.len() {
+            u64::from(self.tree.weight_of(u32::from(task)))
+        } else {
+            0
+        }
+    }
+
+    fn group(&self, task: u16) -> u64
+        ensures group { result ≡ group_at self.now task }
+        ensures fits { result < 2 ^ 32 }
+    {
+        if (task as usize) < self.tasks.len() {
+            u64::from(self.tree.group_of(u32::from(task)))
+        } else {
+            0
+        }
+    }
+}

@@ -1,0 +1,81 @@
+ghost use Rattle.std.specs.Prelude.{◌≡◌};
+ghost use Rattle.scx_sched_world.specs.Helpers.{number_of, task_of, world_functions, room_of, spent_of};
+
+use crate::call::Insert;
+use crate::world::World;
+use scx_dsq::Rank;
+use scx_isa::{Field, Helper, TaskId};
+use scx_vm::{Answer, Arg, Env};
+
+impl Env for World {
+    ghost functions = { world_functions };
+
+    ghost room = { room_of };
+
+    ghost spent = { spent_of };
+
+    fn call(&mut self, helper: Helper, arguments: &[Arg; 5]) -> Answer {
+        let first = given_number(arguments[0]);
+        match helper {
+            Helper::KtimeGetNs => Answer::Num(self.clock * 1_000_000),
+            Helper::CreateDsq => Answer::Num(self.create(first)),
+            Helper::DsqInsert => Answer::Num(self.insert_here(
+                given_task(arguments[0]),
+                Insert {
+                    queue: given_number(arguments[1]),
+                    slice: given_number(arguments[2]),
+                    rank: Rank::Fifo,
+                },
+                given_number(arguments[3]),
+            )),
+            Helper::DsqInsertVtime => Answer::Num(self.insert_here(
+                given_task(arguments[0]),
+                Insert {
+                    queue: given_number(arguments[1]),
+                    slice: given_number(arguments[2]),
+                    rank: Rank::Vtime(given_number(arguments[3])),
+                },
+                given_number(arguments[4]),
+            )),
+            Helper::DsqMoveToLocal => Answer::Num(self.move_to_local(first)),
+            Helper::SelectCpuDfl => Answer::Num(self.choose(given_task(arguments[0]))),
+            Helper::CpuIdle => Answer::Num(self.ask_idle(first)),
+            Helper::TaskByPid => self.task_by_pid(first),
+            Helper::DsqNrQueued => Answer::Num(self.queued(first)),
+            // A run looks up elements itself.
+            Helper::MapLookupElem => Answer::Num(0),
+        }
+    }
+
+    fn load(&self, task: TaskId, field: Field) -> u64 {
+        self.field(task.0, field)
+    }
+
+    fn store(&mut self, task: TaskId, field: Field, value: u64) {
+        let mut facts = self.task(task.0);
+        match field {
+            Field::Slice => facts.slice = value,
+            Field::DsqVtime => facts.vtime = value,
+            Field::Pid | Field::Weight | Field::PrevCpu | Field::Group | Field::RunNs => {}
+        }
+        self.set_task(task.0, facts);
+    }
+}
+
+fn given_number(argument: Arg) -> u64
+    ensures { result ≡ number_of argument }
+{
+    match argument {
+        Arg::Num(n) => n,
+        Arg::Unset | Arg::Task(_) => 0,
+    }
+}
+
+fn given_task(argument: Arg) -> Option<u16>
+    ensures { result ≡ task_of argument }
+{
+    match argument {
+        Arg::Task(task) => Some(task.0),
+        Arg::Unset | Arg::Num(_) => None,
+    }
+}

@@ -1,0 +1,26 @@
+//! The world that a policy's programs see and change: the clock, tasks, processors, queues and weights,
+//! with the callback at hand. It answers their helpers, as `Env` asks.
+//!
+//! Each step of a world is a function of what it was, and the machine above is made of such steps.
+#![tactic(auto)]
+
+mod call;
+mod counting;
+mod eject;
+mod ejecting;
+mod faults;
+mod helpers;
+mod host;
+mod ids;
+mod notes;
+mod steps;
+mod world;
+
+pub use call::{Call, Insert};
+pub use eject::Eject;
+pub use faults::Fault;
+pub use ids::{BUILTIN, GLOBAL, HELD, LOCAL, LOCAL_ON, PARKED, POLICY_END};
+pub use notes::{Note, What};
+pub use scx_dsq::Rank;
+pub use scx_sched_tasks::{DEFAULT_SLICE, Task};
+pub use world::World;

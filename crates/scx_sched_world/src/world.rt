@@ -1,0 +1,480 @@
+ghost use Rattle.std.specs.Prelude.{◌≡◌, ◌≢◌, ℕ, true, ◌+◌, ◌≤◌, ◌<◌, nat_lt, length, position, IfSome, IfOk, OnOk};
+ghost use Rattle.std.specs.Int.{bit_at};
+ghost use Rattle.scx_dsq.specs.Laws.{one_if};
+ghost use Rattle.scx_dsq.specs.Queues.{queue_of, task_count};
+ghost use Rattle.scx_weights.specs.Limits.{has_quota};
+ghost use Rattle.scx_sched_world.specs.First.{with_locals, first_queues, first_world};
+ghost use Rattle.scx_sched_world.specs.Helpers.{task_argument};
+ghost use Rattle.scx_sched_world.specs.Kept.{AreTaken, StaysParked, NobodyIsFree};
+ghost use Rattle.scx_sched_world.specs.Waits.{first_overdue};
+ghost use Rattle.scx_weights.specs.Limits.{usage_of};
+ghost use Rattle.scx_sched_world.specs.World.{task_at, wait, with_task, is_runnable, is_throttled, waits, running, with_cpu, with_cycling, is_this, cpu_of, is_idle, first_idle, default_choice, at_callback, quiet, note_now};
+
+use crate::call::{Call, Insert};
+use crate::eject::Eject;
+use crate::faults::Fault;
+use crate::ids::{BUILTIN, GLOBAL, HELD, LOCAL_ON, PARKED};
+use crate::notes::{Note, What};
+use scx_dsq::Queues;
+use scx_isa::{Callback, TaskId};
+use scx_sched_tasks::{Task, Tasks};
+use scx_vm::Arg;
+use scx_weights::Tree;
+use std::alloc::{AllocError, Global};
+use std::marker::Model;
+
+/// The clock, tasks, processors, queues and weights, with the callback at hand and what it noted.
+///
+/// Tasks, processors and groups are numbered from 0.
+#[derive(Drop)]
+pub struct World {
+    pub(crate) clock: u64,
+    pub(crate) tasks: Tasks,
+    /// The task that runs on each processor.
+    pub(crate) cpus: Vec<Option<u16>>,
+    /// The processors on which a task runs, one bit each.
+    pub(crate) busy: u64,
+    /// The processor on which a scheduling cycle is under way.
+    pub(crate) cycling: Option<u32>,
+    pub(crate) queues: Queues,
+    pub(crate) tree: Tree,
+    pub(crate) call: Call,
+    /// The virtual time of the built-in scheduler.
+    pub(crate) builtin_clock: u64,
+    /// Why and when the policy was put out of force.
+    pub(crate) ejected: Option<Eject>,
+    pub(crate) notes: Vec<Note>,
+    /// Whether it is known that who is parked is throttled.
+    pub(crate) parked_throttled: bool,
+}
+
+impl Model for World {
+    ghost use Rattle.scx_sched_world.specs.World.{WorldState};
+    ghost use Rattle.scx_sched_world.specs.Kept.{state_of, IsKept};
+
+    ghost Value = { WorldState };
+
+    ghost view = { state_of };
+
+    ghost invariant = { IsKept };
+}
+
+impl World {
+    /// Nobody runs, and nobody waits. All memory is taken here.
+    #[tactic(auto, using(crate::proofs::Busy::none_busy))]
+    pub fn new(alloc: Global, tree: Tree, cpus: usize) -> Result<World, AllocError>
+        requires { cpus ≤ 64 }
+        ensures world { IfOk result (λ world. world ≡ first_world tree cpus) }
+        ensures few { IfOk result (λ world. world.queues.pushes ≡ 0) }
+        ensures flags { OnOk result (length tree.active ≡ length tree.homes) }
+    {
+        let count = tree.tasks() as usize;
+        let tasks = Tasks::new(alloc, count);
+        let running = vec![in alloc; None; cpus];
+        let queues = own_queues(alloc, cpus, count);
+        let notes = Vec::with_capacity(alloc, 4096);
+        match (tasks, running, queues, notes) {
+            (Ok(tasks), Ok(cpus), Ok(queues), Ok(notes)) => Ok(World {
+                clock: 0,
+                tasks,
+                cpus,
+                busy: 0,
+                cycling: None,
+                queues,
+                tree,
+                call: Call::NONE,
+                builtin_clock: 0,
+                ejected: None,
+                notes,
+                parked_throttled: false,
+            }),
+            (tasks, cpus, queues, notes) => {
+                drop(tasks);
+                drop(cpus);
+                drop(queues);
+                drop(notes);
+                drop(tree);
+                Err(AllocError)
+            }
+        }
+    }
+
+    pub fn clock(&self) -> u64
+        ensures { result ≡ self.now.clock }
+    {
+        let clock = self.clock;
+        clock
+    }
+
+    // ---- tasks
+
+    /// How many tasks there are.
+    pub fn tasks(&self) -> u16
+        ensures tasks { result ≡ length self.now.tasks }
+        ensures few { result ≤ 1024 }
+    {
+        self.tasks.len() as u16
+    }
+
+    pub fn has_task(&self, task: u16) -> bool
+        ensures { result ≡ nat_lt task (length self.now.tasks) }
+    {
+        (task as usize) < self.tasks.len()
+    }
+
+    /// The record of a task; all is 0 where there is none.
+    pub fn task(&self, task: u16) -> Task
+        ensures { result ≡ task_at self.now task }
+    {
+        self.tasks.get(task)
+    }
+
+    /// How long the task has waited, in milliseconds; 0 where it isn't waiting.
+    pub fn wait(&self, task: u16) -> u64
+        ensures { result ≡ wait self.now task }
+    {
+        self.task(task).wait(self.clock)
+    }
+
+    /// Of the tasks that have waited longer than that the one of the least number.
+    pub fn first_overdue(&mut self, limit: u64) -> Option<u16>
+        ensures answer { result ≡ first_overdue self.old limit }
+        ensures world { self.new ≡ self.old }
+    {
+        self.tasks.first_overdue(self.clock, limit)
+    }
+
+    pub(crate) fn set_task(&mut self, task: u16, facts: Task)
+        ensures { self.new ≡ with_task self.old task facts }
+    {
+        self.tasks.set(task, facts);
+    }
+
+    pub fn is_runnable(&self, task: u16) -> bool
+        requires { task < length self.now.tasks }
+        ensures { result ≡ is_runnable self.now task }
+    {
+        self.tree.is_active(u32::from(task))
+    }
+
+    /// The queue in which the task waits or is parked.
+    pub fn queue_of(&self, task: u16) -> Option<u64>
+        ensures { result ≡ queue_of self.now.queues task }
+    {
+        if (task as usize) < self.queues.tasks() {
+            self.queues.queue_of(u32::from(task))
+        } else {
+            None
+        }
+    }
+
+    /// Whether the task waits in a queue, and isn't parked.
+    pub fn waits(&self, task: u16) -> bool
+        ensures { result ≡ waits self.now task }
+    {
+        match self.queue_of(task) {
+            Some(queue) => queue != PARKED,
+            None => false,
+        }
+    }
+
+    /// A task as a program is given it.
+    pub fn pointer(task: u16) -> Arg
+        ensures { result ≡ task_argument task }
+    {
+        Arg::Task(TaskId(task))
+    }
+
+    // ---- processors
+
+    /// How many processors there are.
+    pub fn cpus(&self) -> u32
+        ensures cpus { result ≡ length self.now.cpus }
+        ensures few { result ≤ 64 }
+    {
+        self.cpus.len() as u32
+    }
+
+    /// The task that runs on the processor.
+    pub fn running(&self, cpu: u32) -> Option<u16>
+        ensures { result ≡ running self.now cpu }
+    {
+        if (cpu as usize) < self.cpus.len() {
+            self.cpus[cpu as usize]
+        } else {
+            None
+        }
+    }
+
+    #[tactic(auto, using(crate::proofs::Busy::busy_set))]
+    pub(crate) fn set_cpu(&mut self, cpu: u32, task: Option<u16>)
+        ensures { self.new ≡ with_cpu self.old cpu task }
+    {
+        if (cpu as usize) < self.cpus.len() {
+            self.cpus[cpu as usize] = task;
+            self.busy = with_bit(self.busy, cpu, task.is_some());
+        }
+    }
+
+    /// The processor on which the task runs.
+    pub fn cpu_of(&self, task: u16) -> Option<u32>
+        ensures { result ≡ cpu_of self.now task }
+    {
+        match cpu_of(&self.cpus, task) {
+            Some(cpu) => Some(cpu as u32),
+            None => None,
+        }
+    }
+
+    /// A scheduling cycle begins on the processor; with none the one that is under way ends.
+    pub fn set_cycling(&mut self, cpu: Option<u32>)
+        ensures world { self.new ≡ with_cycling self.old cpu }
+        ensures few { self.new.queues.pushes ≡ self.old.queues.pushes }
+    {
+        self.cycling = cpu;
+    }
+
+    /// Whether no task runs on the processor, and no cycle is under way there.
+    pub fn is_idle(&self, cpu: u32) -> bool
+        ensures { result ≡ is_idle self.now cpu }
+    {
+        (cpu as usize) < self.cpus.len()
+            && self.cpus[cpu as usize].is_none()
+            && self.cycling != Some(cpu)
+    }
+
+    /// The processor on which the task ran last if it is idle, else the lowest idle one, else that one.
+    pub fn default_choice(&self, task: u16) -> u32
+        ensures { result ≡ default_choice self.now task }
+    {
+        let prev = self.task(task).prev_cpu;
+        if self.is_idle(prev) {
+            return prev;
+        }
+        match self.first_idle() {
+            Some(cpu) => cpu,
+            None => prev,
+        }
+    }
+
+    /// The lowest processor that is idle.
+    #[tactic(auto, using(crate::proofs::Busy::lowest_idle, crate::proofs::Busy::none_idle))]
+    fn first_idle(&self) -> Option<u32>
+        ensures { result ≡ first_idle self.now }
+    {
+        let cpu = (!self.taken()).trailing_zeros();
+        if (cpu as usize) < self.cpus.len() {
+            Some(cpu)
+        } else {
+            None
+        }
+    }
+
+    /// The processors that aren't idle, one bit each.
+    #[tactic(auto, using(crate::proofs::Busy::taken_none, crate::proofs::Busy::taken_past, crate::proofs::Busy::taken_set))]
+    fn taken(&self) -> u64
+        ensures { AreTaken result self.now }
+    {
+        match self.cycling {
+            Some(cpu) => {
+                if (cpu as usize) < self.cpus.len() {
+                    with_bit(self.busy, cpu, true)
+                } else {
+                    self.busy
+                }
+            }
+            None => self.busy,
+        }
+    }
+
+    // ---- weights
+
+    /// Whether a group has a quota. Where none has, no task is ever throttled.
+    pub fn is_limited(&self) -> bool
+        ensures { result ≡ has_quota self.now.tree.groups }
+    {
+        self.tree.is_limited()
+    }
+
+    /// Whether the task's group has used all of its quota, or one that this lies below.
+    pub fn is_throttled(&self, task: u16) -> bool
+        ensures { result ≡ is_throttled self.now task }
+    {
+        self.has_task(task) && self.tree.throttled(u32::from(task))
+    }
+
+    /// Whether all of the parked are throttled. They are looked at only where that isn't known: since a period of a
+    /// throttled group has begun.
+    #[tactic(auto, using(crate::proofs::Parked::all_looked_at, crate::proofs::Parked::none_free))]
+    pub fn are_parked_throttled(&mut self) -> bool
+        ensures throttled { result ≡ true → NobodyIsFree self.old }
+        ensures all { NobodyIsFree self.old → result ≡ true }
+        ensures world { self.new ≡ self.old }
+        ensures few { self.new.queues.pushes ≡ self.old.queues.pushes }
+    {
+        if !self.parked_throttled {
+            self.parked_throttled = self.is_nobody_free();
+        }
+        self.parked_throttled
+    }
+
+    /// Whether none of the parked may run again.
+    fn is_nobody_free(&self) -> bool
+        ensures throttled { result ≡ true
+            → (t : ℕ) → t < length self.now.tasks → StaysParked self.now t }
+        ensures all { NobodyIsFree self.now → result ≡ true }
+    {
+        for task in 0..self.tasks() {
+            if !self.stays_parked(task) {
+                return false;
+            }
+        }
+        true
+    }
+
+    /// Whether the task may not run, if it is parked.
+    fn stays_parked(&self, task: u16) -> bool
+        ensures throttled { result ≡ true → StaysParked self.now task }
+        ensures all { StaysParked self.now task → result ≡ true }
+    {
+        self.queue_of(task) != Some(PARKED) || self.is_throttled(task)
+    }
+
+    /// How many milliseconds the tasks of the group and those below it have run since its period began.
+    pub fn usage(&self, group: u32) -> u64
+        requires { group < length self.now.tree.groups }
+        ensures { result ≡ usage_of self.now.tree group }
+    {
+        self.tree.usage(group)
+    }
+
+    /// How many groups there are.
+    pub fn groups(&self) -> u32
+        ensures { result ≡ length self.now.tree.groups }
+    {
+        self.tree.groups()
+    }
+
+    // ---- the callback at hand
+
+    /// A callback begins, with that task and processor at hand.
+    pub fn begin(&mut self, callback: Callback, task: u16, cpu: u32)
+        ensures { self.new ≡ at_callback self.old callback task cpu }
+    {
+        self.notes.clear();
+        self.call = Call {
+            callback,
+            task,
+            cpu,
+            insert: None,
+            has_moved: false,
+            fault: None,
+        };
+    }
+
+    /// Forgets the notes.
+    pub fn quiet(&mut self)
+        ensures { self.new ≡ quiet self.old }
+    {
+        self.notes.clear();
+    }
+
+    /// What the callback at hand noted.
+    pub fn notes(&self) -> &[Note]
+        ensures { result.now ≡ self.now.notes }
+    {
+        &self.notes
+    }
+
+    /// That, at this clock.
+    pub fn note(&self, what: What) -> Note
+        ensures { result ≡ note_now self.now what }
+    {
+        Note {
+            clock: self.clock,
+            what,
+        }
+    }
+
+    /// The processor of the callback at hand.
+    pub fn cpu_at_hand(&self) -> u32
+        ensures { result ≡ self.now.call.cpu }
+    {
+        let cpu = self.call.cpu;
+        cpu
+    }
+
+    /// Where the callback wants the task at hand to wait.
+    pub fn insert(&self) -> Option<Insert>
+        ensures { result ≡ self.now.call.insert }
+    {
+        self.call.insert
+    }
+
+    /// Whether the callback moved a task to a local queue.
+    pub fn has_moved(&self) -> bool
+        ensures { result ≡ self.now.call.has_moved }
+    {
+        self.call.has_moved
+    }
+
+    /// The first fault of the callback.
+    pub fn first_fault(&self) -> Option<Fault>
+        ensures { result ≡ self.now.call.fault }
+    {
+        self.call.fault
+    }
+}
+
+/// The machine's own queues.
+fn own_queues(alloc: Global, cpus: usize, tasks: usize) -> Result<Queues, AllocError>
+    requires { cpus ≤ 64 }
+    ensures queues { IfOk result (λ queues. queues.state ≡ first_queues cpus tasks) }
+    ensures tasks { IfOk result (λ queues. task_count queues.state ≡ tasks) }
+    ensures few { IfOk result (λ queues. queues.state.pushes ≡ 0) }
+{
+    let mut queues = Queues::new(alloc, 20 + cpus, tasks)?;
+    let _global = queues.create(GLOBAL);
+    let _held = queues.create(HELD);
+    let _builtin = queues.create(BUILTIN);
+    let _parked = queues.create(PARKED);
+    add_locals(&mut queues, cpus);
+    Ok(queues)
+}
+
+/// A local queue for each processor.
+fn add_locals(queues: &mut Queues, cpus: usize)
+    requires { cpus ≤ 64 }
+    ensures queues { queues.new.state ≡ with_locals cpus queues.old.state }
+    ensures tasks { task_count queues.new.state ≡ task_count queues.old.state }
+    ensures few { queues.new.state.pushes ≡ queues.old.state.pushes }
+{
+    for cpu in 0..cpus {
+        let _made = queues.create(LOCAL_ON + cpu as u64);
+    }
+}
+
+/// The bits with that one set or cleared.
+#[tactic(auto, using(crate::proofs::Busy::set_here, crate::proofs::Busy::set_others, crate::proofs::Busy::cleared_here, crate::proofs::Busy::cleared_others))]
+fn with_bit(bits: u64, at: u32, set: bool) -> u64
+    requires { at < 64 }
+    ensures here { bit_at result at ≡ one_if set }
+    ensures others { (i : ℕ) → i < 64 → i ≢ at → bit_at result i ≡ bit_at bits i }
+{
+    if set {
+        bits | 1 << at
+    } else {
+        bits & !(1 << at)
+    }
+}
+
+/// The lowest processor on which the task runs.
+fn cpu_of(cpus: &[Option<u16>], task: u16) -> Option<usize>
+    ensures at { result ≡ position (is_this task) cpus.now }
+    ensures within { IfSome result (λ i. i < length cpus.now) }
+{
+    cpus.iter().position(|on| match on {
+        Some(other) => task == *other,
+        None => false,
+    })
+}

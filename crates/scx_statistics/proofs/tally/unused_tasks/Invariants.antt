@@ -1,6 +1,0 @@
-use Rattle.std.proofs.Common.{◌≡◌, replicate}
-use Rattle.scx_statistics.specs.Counting.{no_figures}
-use Rattle.scx_statistics.proofs.tally.unused_tasks.Given as goal
-
-abbrev pub invariant-loop : goal.invariant-loop
-invariant-loop l = l.tasks.items ≡ replicate l.counter no_figures

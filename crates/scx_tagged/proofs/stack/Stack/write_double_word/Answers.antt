@@ -1,8 +1,0 @@
-use Rattle.std.proofs.Common.{◌-◌, arith}
-use Rattle.scx_tagged.proofs.StackWrites.{number_written}
-use Rattle.scx_tagged.proofs.stack.Stack.write_double_word.Goals as goal
-
-pub returns : goal.returns
-returns c =
-    let s = c.args.self.now in
-    number_written s.marks s.bytes s.pointers c.args.at (512 - c.args.at) 8 c.args.n _ _ (omega arith) (omega arith) (omega arith) c.write_u64.ensures c.write_u64-2.ensures

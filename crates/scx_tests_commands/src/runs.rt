@@ -1,0 +1,83 @@
+//! The commands that run a workload.
+
+use scxsim_commands::Fault;
+use scxsim_output::Out;
+use scxsim_pictures::{picture, timeline};
+use scxsim_simulation::{Listener, report, simulate};
+use scxsim_statistics::{stats, stats_csv};
+use std::alloc::Global;
+
+#[derive(Clone, Copy)]
+pub(crate) enum Account {
+    Course(Course),
+    Summary(Summary),
+}
+
+/// What is written as the run goes.
+#[derive(Clone, Copy)]
+pub(crate) enum Course {
+    Trace,
+    Timeline,
+    Picture,
+}
+
+/// What is written at its end.
+#[derive(Clone, Copy)]
+pub(crate) enum Summary {
+    Report,
+    Stats,
+    StatsCsv,
+}
+
+pub(crate) const ACCOUNTS: [Account; 6] = [
+    Account::Course(Course::Trace),
+    Account::Summary(Summary::Report),
+    Account::Summary(Summary::Stats),
+    Account::Summary(Summary::StatsCsv),
+    Account::Course(Course::Timeline),
+    Account::Course(Course::Picture),
+];
+
+pub(crate) fn execute<L: Listener, W: Out>(
+    account: Account,
+    alloc: Global,
+    policy: &str,
+    workload: &str,
+    listener: &mut L,
+    out: &mut W,
+) -> Result<bool, Fault> {
+    match account {
+        Account::Course(course) => write_course(course, alloc, policy, workload, listener, out),
+        Account::Summary(summary) => write_summary(summary, alloc, policy, workload, listener, out),
+    }
+}
+
+fn write_course<L: Listener, W: Out>(
+    course: Course,
+    alloc: Global,
+    policy: &str,
+    workload: &str,
+    listener: &mut L,
+    out: &mut W,
+) -> Result<bool, Fault> {
+    match course {
+        Course::Trace => simulate(alloc, policy, workload, listener, out),
+        Course::Timeline => timeline(alloc, policy, workload, listener, out),
+        Course::Picture => picture(alloc, policy, workload, listener, out),
+    }
+}
+
+fn write_summary<L: Listener, W: Out>(
+    summary: Summary,
+    alloc: Global,
+    policy: &str,
+    workload: &str,
+    listener: &mut L,
+    out: &mut W,
+) -> Result<bool, Fault> {
+    match summary {
+        Summary::Report => report(alloc, policy, workload, listener, out),
+        Summary::Stats => stats(alloc, policy, workload, listener, out),
+        Summary::StatsCsv => stats_csv(alloc, policy, workload, listener, out),
+    }
+}

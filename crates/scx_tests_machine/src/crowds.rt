@@ -1,0 +1,149 @@
+//! As many processors and tasks as there may be, under policies that let tasks wait or run without end: after
+//! each event runnable tasks are at one place each, and nobody has waited too long for a policy in force.
+
+use crate::policies::{policy_within, tree};
+use crate::session::Session;
+use scx_isa::Callback;
+use scx_sched::{Event, Place, Sim};
+use scx_tests_examples::{DISPATCH, INIT};
+use std::process::Abort;
+
+/// How many milliseconds a task may wait.
+const LIMIT: u32 = 2;
+
+/// Inserts into queue 0, with a slice of 2^64 - 1 ns.
+const ENDLESS: &str = "r4 = r2\nr2 = 0\nr3 = -1\ncall 1002\nexit";
+
+/// No task comes to a queue.
+const HOLD_ALL: [(Callback, &str); 1] = [(Callback::Enqueue, "exit")];
+
+/// All wait in queue 0, and nobody takes them from there.
+const NEVER_DISPATCH: [(Callback, &str); 3] = [
+    (Callback::Init, INIT),
+    (Callback::Enqueue, ENDLESS),
+    (Callback::Dispatch, "exit"),
+];
+
+/// Who runs first runs on.
+const RUN_ON: [(Callback, &str); 3] = [
+    (Callback::Init, INIT),
+    (Callback::Enqueue, ENDLESS),
+    (Callback::Dispatch, DISPATCH),
+];
+
+/// Whether the task is where its place says, and hasn't waited too long.
+fn is_placed(sim: &Sim, task: u16) -> bool {
+    if task >= sim.tasks() {
+        return false;
+    }
+    let is_there = match sim.place(task) {
+        Place::Asleep => !sim.is_runnable(task),
+        Place::Cpu(cpu) => cpu < sim.cpus()
+            && sim.running(cpu) == Some(task)
+            && sim.is_runnable(task),
+        _ => sim.is_runnable(task),
+    };
+    is_there && (sim.ejected().is_some() || sim.wait(task) <= u64::from(LIMIT))
+}
+
+/// Whether who runs there has that place.
+fn is_run(sim: &Sim, cpu: u32) -> bool {
+    if cpu >= sim.cpus() {
+        return false;
+    }
+    match sim.running(cpu) {
+        Some(task) => task < sim.tasks() && sim.place(task) == Place::Cpu(cpu),
+        None => true,
+    }
+}
+
+/// Whether all processors, and every sixteenth task from that one on, are as they say.
+fn agree(sim: &Sim, first: u16) -> bool {
+    for cpu in 0..64_u32 {
+        if !is_run(sim, cpu) {
+            return false;
+        }
+    }
+    for row in 0..64_u16 {
+        if !is_placed(sim, first.saturating_add(16 * row)) {
+            return false;
+        }
+    }
+    true
+}
+
+/// Looks after the event, at other tasks each time.
+fn give(rt: &impl Abort, session: &mut Session, event: Event) {
+    session.run(rt, &[event]);
+    let first = session.sim.events() % 16;
+    assert!(rt; agree(&session.sim, first as u16));
+}
+
+/// Looks at all tasks.
+fn look(rt: &impl Abort, session: &Session) {
+    for first in 0..16_u16 {
+        assert!(rt; agree(&session.sim, first));
+    }
+}
+
+/// All wake, five milliseconds go by, and some go to sleep.
+fn go_through(rt: &impl Abort, session: &mut Session) {
+    for task in 0..1024_u16 {
+        give(rt, session, Event::Wake(task));
+    }
+    for tick in 0..320_u32 {
+        give(rt, session, Event::Tick(tick % 64));
+        if tick % 64 == 63 {
+            give(rt, session, Event::Clock);
+            look(rt, session);
+        }
+    }
+    for part in 0..50_u16 {
+        give(rt, session, Event::Sleep(20 * part));
+    }
+    look(rt, session);
+}
+
+fn crowd<R: AllocGlobal + Abort>(rt: &R, texts: &[(Callback, &str)]) -> Session {
+    let homes = vec![in rt.alloc(); 0_u32; 1024].expect(rt, "memory is ample");
+    let policy = policy_within(rt, LIMIT, texts);
+    Session::of(rt, policy, tree(rt, &homes), 64, 0)
+}
+
+/// So many run in the end.
+fn expect_running(rt: &impl Abort, session: &Session, wanted: u32) {
+    let mut running = 0_u32;
+    for cpu in 0..session.sim.cpus() {
+        if session.sim.running(cpu).is_some() {
+            running = running.saturating_add(1);
+        }
+    }
+    assert_eq!(rt; running, wanted);
+}
+
+#[test]
+fn all_are_held(rt: HostRuntime) {
+    let mut session = crowd(&rt, &HOLD_ALL);
+    go_through(&rt, &mut session);
+    assert!(rt; session.sim.ejected().is_some());
+    expect_running(&rt, &session, 64);
+    drop(session);
+}
+
+#[test]
+fn nobody_is_dispatched(rt: HostRuntime) {
+    let mut session = crowd(&rt, &NEVER_DISPATCH);
+    go_through(&rt, &mut session);
+    assert!(rt; session.sim.ejected().is_some());
+    expect_running(&rt, &session, 64);
+    drop(session);
+}
+
+#[test]
+fn slices_have_no_end(rt: HostRuntime) {
+    let mut session = crowd(&rt, &RUN_ON);
+    go_through(&rt, &mut session);
+    assert!(rt; session.sim.ejected().is_some());
+    expect_running(&rt, &session, 64);
+    drop(session);
+}

@@ -1,0 +1,163 @@
+ghost use Rattle.std.specs.Prelude.{◌≡◌, ◌+◌, ◌≤◌, ℤ, IfSome};
+ghost use Rattle.scx_isa_semantics.specs.declared.instructions.Insn.TheVariants as Insn;
+ghost use Rattle.scx_isa_semantics.specs.Registers.{number};
+ghost use Rattle.scx_isa_semantics.specs.Steps.{distance};
+ghost use Rattle.scx_verify_explain.specs.Named.{register_in, first_of, second_of, first_read, second_read};
+ghost use Rattle.scx_verify_explain.specs.Named.{Takes, written_register, stored_register, address_of};
+
+use scx_isa::{Helper, Insn, Operand, Operation, Parameter, Register, Size};
+
+/// An address that an instruction or a helper is given, and how many bytes it reads or writes there.
+#[derive(Clone, Copy)]
+pub(crate) struct Address {
+    pub(crate) base: Register,
+    pub(crate) offset: i16,
+    pub(crate) size: Size,
+}
+
+fn register_in(operand: Operand) -> Option<Register>
+    ensures { result ≡ register_in operand }
+{
+    match operand {
+        Operand::Immediate(_) => None,
+        Operand::Register(register) => Some(register),
+    }
+}
+
+fn first_of(operation: Operation, register: Register, operand: Operand) -> Option<Register>
+    ensures { result ≡ first_of operation register operand }
+{
+    match operation {
+        Operation::Move => register_in(operand),
+        _ => Some(register),
+    }
+}
+
+fn second_of(operation: Operation, operand: Operand) -> Option<Register>
+    ensures { result ≡ second_of operation operand }
+{
+    match operation {
+        Operation::Move => None,
+        _ => register_in(operand),
+    }
+}
+
+/// The register that an instruction reads first; `None` of a call.
+pub(crate) fn first_read(insn: Insn) -> Option<Register>
+    ensures { result ≡ first_read insn }
+{
+    match insn {
+        Insn::Binary(_, operation, register, operand) => first_of(operation, register, operand),
+        Insn::Negate(_, register) => Some(register),
+        Insn::SignExtend(_, _, register) => Some(register),
+        Insn::ByteSwap(_, _, register) => Some(register),
+        Insn::Load(_, _, register, _) => Some(register),
+        Insn::Store(_, register, _, _) => Some(register),
+        Insn::JumpIf { register, .. } => Some(register),
+        _ => None,
+    }
+}
+
+/// The register that an instruction reads behind the first; `None` of a call.
+pub(crate) fn second_read(insn: Insn) -> Option<Register>
+    ensures { result ≡ second_read insn }
+{
+    match insn {
+        Insn::Binary(_, operation, _, operand) => second_of(operation, operand),
+        Insn::Store(_, _, _, operand) => register_in(operand),
+        Insn::JumpIf { operand, .. } => register_in(operand),
+        _ => None,
+    }
+}
+
+/// The register that an instruction writes; `None` of a call.
+pub(crate) fn written_register(insn: Insn) -> Option<Register>
+    ensures { result ≡ written_register insn }
+{
+    match insn {
+        Insn::Binary(_, _, register, _) => Some(register),
+        Insn::Negate(_, register) => Some(register),
+        Insn::SignExtend(_, register, _) => Some(register),
+        Insn::ByteSwap(_, _, register) => Some(register),
+        Insn::LoadImmediate(register, _, _) => Some(register),
+        Insn::LoadMapReference(register, _) => Some(register),
+        Insn::Load(_, register, _, _) => Some(register),
+        _ => None,
+    }
+}
+
+/// The register that an instruction stores.
+pub(crate) fn stored_register(insn: Insn) -> Option<Register>
+    ensures { result ≡ stored_register insn }
+{
+    match insn {
+        Insn::Store(_, _, _, operand) => register_in(operand),
+        _ => None,
+    }
+}
+
+/// The address that an instruction reads or writes. Of a call it is that of the key.
+pub(crate) fn address_of(insn: Insn) -> Option<Address>
+    ensures { result ≡ address_of insn }
+{
+    match insn {
+        Insn::Load(access, _, base, offset) => Some(Address {
+            base,
+            offset,
+            size: access.size(),
+        }),
+        Insn::Store(size, base, offset, _) => Some(Address { base, offset, size }),
+        Insn::Call(_) => Some(Address {
+            base: Register::R2,
+            offset: 0,
+            size: Size::Word,
+        }),
+        _ => None,
+    }
+}
+
+/// The number of the helper that an instruction calls.
+pub(crate) fn called_in(insn: Insn) -> Option<i32>
+    ensures { IfSome result (λ number. insn ≡ Insn.Call number) }
+{
+    match insn {
+        Insn::Call(number) => Some(number),
+        _ => None,
+    }
+}
+
+/// The register of an argument, from 0 for r1 on.
+fn register_of_argument(argument: usize) -> Option<Register>
+    ensures { IfSome result (λ register. number register ≡ argument + 1) }
+{
+    match argument {
+        0 => Some(Register::R1),
+        1 => Some(Register::R2),
+        2 => Some(Register::R3),
+        3 => Some(Register::R4),
+        4 => Some(Register::R5),
+        _ => None,
+    }
+}
+
+/// The register of an argument of the helper of a number, and what the helper takes there.
+pub(crate) fn argument_of(called: i32, argument: usize) -> Option<(Register, Parameter)>
+    ensures { IfSome result (λ taken. Takes called taken.0 taken.1) }
+{
+    let helper = Helper::new(called)?;
+    let parameter = helper.parameter(argument)?;
+    let register = register_of_argument(argument)?;
+    Some((register, parameter))
+}
+
+/// How far a jump goes; 0 of other instructions.
+pub(crate) fn distance_of(insn: Insn) -> i32
+    ensures { result ≡ distance insn }
+{
+    match insn {
+        Insn::JumpIf { distance, .. } => i32::from(distance),
+        Insn::Goto(distance) => i32::from(distance),
+        Insn::GotoLong(distance) => distance,
+        _ => 0,
+    }
+}

@@ -1,0 +1,164 @@
+ghost use Rattle.std.specs.Prelude.{◌≡◌, ◌+◌, ◌<◌, ◌≤◌, length, map, slice_get, if◌then◌else◌};
+ghost use Rattle.scx_isa_semantics.specs.Calls.{call, key, takes_all, argument, arguments, call_effect};
+ghost use Rattle.scx_isa_semantics.specs.Effects as effects;
+ghost use Rattle.scx_isa_semantics.specs.Elements.{Maps};
+ghost use Rattle.scx_isa_semantics.specs.HostTables.{parameters};
+ghost use Rattle.scx_isa_semantics.specs.Registers.{number};
+ghost use Rattle.scx_isa_semantics.specs.declared.host_tables.Helper.TheVariants.{MapLookupElem};
+ghost use Rattle.scx_vm_tagged.specs.State.{seen, register_value};
+ghost use Rattle.scx_vm.specs.Host.{host};
+ghost use Rattle.scx_vm.specs.Arguments.{argument_of};
+ghost use Rattle.scx_vm_tagged.specs.Arguments.{finds};
+ghost use Rattle.scx_vm_tagged.specs.Execute.{ComesTo, effect_of};
+
+use crate::arguments::{answer_value, argument_of};
+use crate::effect::Effect;
+use crate::memory::{Location, address};
+use crate::state::Core;
+use byteorder::{ByteOrder, LittleEndian};
+use scx_isa::{Callback, Helper, Parameter, Pointer, Register, Size, Value};
+use scx_maps::Maps;
+use scx_vm::{Arg, Env};
+
+/// Calls the helper of that number (RFC 9669, section 4.3.1).
+#[inline(never)]
+#[tactic(auto, using(crate::proofs::Effects::comes_to))]
+pub fn call<E: Env>(
+    core: &mut Core,
+    number: i32,
+    callback: Callback,
+    maps: &Maps,
+    env: &mut E,
+) -> Effect
+    requires { 0 < E.room env.old }
+    ensures effect { ComesTo (host E.functions) (call callback (seen core.old maps.now) number)
+        maps.now env.old result (seen core.new maps.now) env.new }
+    ensures room { E.room env.old ≤ E.room env.new + 1 }
+    ensures spent { E.spent env.new ≤ E.spent env.old + 1 }
+{
+    let Some(helper) = Helper::new(number) else {
+        return Effect::Stuck;
+    };
+    if !helper.is_allowed(callback) {
+        return Effect::Stuck;
+    }
+    match helper {
+        Helper::MapLookupElem => look_up(core, maps),
+        _ => ask(core, helper, env),
+    }
+}
+
+/// The look-up of a map's element.
+fn look_up(core: &mut Core, maps: &Maps) -> Effect
+    ensures { (if takes_all (seen core.old maps.now) (parameters MapLookupElem) 1 then call_effect
+        (seen core.old maps.now) MapLookupElem else effects.Stuck)
+        ≡ effect_of result (seen core.new maps.now) }
+{
+    let Value::Pointer(Pointer::Map(map)) = core.read(Register::R1) else {
+        return Effect::Stuck;
+    };
+    if usize::from(map) >= maps.count() {
+        return Effect::Stuck;
+    }
+    let Some(key) = key(core, maps, core.read(Register::R2)) else {
+        return Effect::Stuck;
+    };
+    if maps.lookup(map, key) {
+        core.end_call(Value::Pointer(Pointer::Element {
+            map,
+            index: key,
+            offset: 0,
+        }));
+    } else {
+        core.end_call(Value::Number(0));
+    }
+    Effect::Next
+}
+
+/// The key of a map, to which a value points.
+fn key(core: &Core, maps: &Maps, value: Value) -> Option<u32>
+    ensures { result ≡ key (seen core.now maps.now) value }
+{
+    match address(maps, value, 0, Size::Word) {
+        Location::OnStack(at) => core.stack.word(usize::from(at)),
+        Location::InElement(map, index, at) => Some(LittleEndian::read_u32(
+            &maps.value(map, index)[usize::from(at)..],
+        )),
+        Location::Nowhere | Location::InTask(..) => None,
+    }
+}
+
+/// Asks the host, if the helper finds what it takes.
+fn ask<E: Env>(core: &mut Core, helper: Helper, env: &mut E) -> Effect
+    requires room { 0 < E.room env.old }
+    requires is_asked { ¬ (helper ≡ MapLookupElem) }
+    ensures effect { (maps : Maps)
+        → ComesTo (host E.functions)
+        (if takes_all (seen core.old maps) (parameters helper) 1 then call_effect (seen core.old maps)
+        helper else effects.Stuck) maps env.old result (seen core.new maps) env.new }
+    ensures room { E.room env.old ≤ E.room env.new + 1 }
+    ensures spent { E.spent env.new ≤ E.spent env.old + 1 }
+{
+    if !takes_all(core, helper) {
+        return Effect::Stuck;
+    }
+    let answer = env.call(helper, &arguments(core, helper));
+    core.end_call(answer_value(answer));
+    Effect::Next
+}
+
+/// What the helper takes, from r1 on.
+fn arguments(core: &Core, helper: Helper) -> [Arg; 5]
+    ensures { (maps : Maps) → result ≡ map argument_of (arguments (seen core.now maps) helper) }
+{
+    [
+        argument(core, helper, 0, Register::R1),
+        argument(core, helper, 1, Register::R2),
+        argument(core, helper, 2, Register::R3),
+        argument(core, helper, 3, Register::R4),
+        argument(core, helper, 4, Register::R5),
+    ]
+}
+
+/// What the register holds, if the helper takes an argument of that number.
+fn argument(core: &Core, helper: Helper, index: usize, register: Register) -> Arg
+    requires { number register ≡ index + 1 }
+    ensures { (maps : Maps)
+        → result
+        ≡ argument_of
+        (argument (seen core.now maps) (length (parameters helper)) (number register)) }
+{
+    if helper.parameter(index).is_some() {
+        argument_of(core.read(register))
+    } else {
+        Arg::Unset
+    }
+}
+
+/// Whether a helper that asks the host finds what it takes, from r1 on.
+fn takes_all(core: &Core, helper: Helper) -> bool
+    requires { ¬ (helper ≡ MapLookupElem) }
+    ensures { (maps : Maps) → result ≡ takes_all (seen core.now maps) (parameters helper) 1 }
+{
+    takes(core, helper, 0, Register::R1)
+        & (takes(core, helper, 1, Register::R2)
+            & (takes(core, helper, 2, Register::R3)
+                & (takes(core, helper, 3, Register::R4) & takes(core, helper, 4, Register::R5))))
+}
+
+/// Whether the register holds what the helper takes as its argument of that number: a task or a
+/// number.
+fn takes(core: &Core, helper: Helper, index: usize, register: Register) -> bool
+    ensures { (maps : Maps)
+        → result
+        ≡ finds (seen core.now maps) (slice_get (parameters helper) index)
+        (register_value core.now (number register)) }
+{
+    let value = core.read(register);
+    match helper.parameter(index) {
+        None => true,
+        Some(Parameter::Task) => matches!(value, Value::Pointer(Pointer::Task(_))),
+        Some(Parameter::Number) => matches!(value, Value::Number(_)),
+        Some(Parameter::Map | Parameter::Key) => false,
+    }
+}

@@ -1,0 +1,29 @@
+//! The machine of the definitions as they stand, which the tests compare `scx_vm_run` with: each register
+//! holds a value with its tag, and each byte of the stack a mark.
+//!
+//! `try_run` runs a program that `flow` accepts as a callback of a policy, from its first slot, over
+//! the policy's maps and a host, an `Env`, which answers its helpers and holds the records of tasks.
+//! It says how the run ended: with an answer at an `exit`, or stuck at an instruction that has no
+//! meaning in the state there, as one that reads an unset register. Its contract says that the run is
+//! the one that the definitions of `scx_isa_semantics` give the program, and that it takes no more steps
+//! than there are instructions.
+//!
+//! The layers, from below: the 512 bytes of stack (`stack`), values that pass to the host and back
+//! (`arguments`), registers and stack (`state`), operands and pointers (`values`), comparisons
+//! (`jumps`), addresses (`memory`), loads and stores (`access`), helper calls (`calls`), one
+//! instruction (`execute`), slots and the run (`run`).
+#![tactic(auto)]
+
+mod access;
+mod arguments;
+mod calls;
+mod effect;
+mod execute;
+mod jumps;
+mod memory;
+mod run;
+mod stack;
+mod state;
+mod values;
+
+pub use run::{Ran, try_run};

@@ -1,0 +1,141 @@
+ghost use Rattle.std.specs.Prelude.{◌≡◌, ◌+◌, ◌≤◌, length};
+ghost use Rattle.scx_isa.specs.Flow.{Flows};
+ghost use Rattle.scx_maps.specs.Contents.{lengths_of};
+ghost use Rattle.scx_isa_semantics.specs.Code.{instruction_count, instructions_from};
+ghost use Rattle.scx_isa_semantics.specs.Endings.{run_of};
+ghost use Rattle.scx_isa_semantics.specs.Runs.{Runs};
+ghost use Rattle.scx_isa_semantics.specs.Steps.{step};
+ghost use Rattle.scx_vm.specs.Arguments.{program_arguments};
+ghost use Rattle.scx_vm.specs.Host.{host, answer_to, after_query};
+ghost use Rattle.scx_vm_tagged.specs.Outcome.{answer_of};
+ghost use Rattle.scx_vm_tagged.specs.Run.{StepsTo, LeadsNearer, IfDone, IfStuck, GetsStuckAt};
+ghost use Rattle.scx_vm_tagged.specs.State.{seen};
+
+use crate::effect::Effect;
+use crate::execute::execute;
+use crate::state::Core;
+use scx_isa::{Callback, MAX_SLOTS, Program, target};
+use scx_maps::Maps;
+use scx_vm::{Args, Done, Env};
+
+/// How a run ended.
+#[derive(Clone, Copy, Debug, PartialEq, Eq)]
+pub enum Ran {
+    /// It came to an `exit`, with a number in r0 where the callback answers one.
+    Done(Done),
+    /// It came to this slot, counted from 0, where no instruction begins or the one there has no
+    /// meaning in the state that the run had come to. It reads an unset register or bytes of the
+    /// stack that hold neither a number nor one pointer, writes r10, computes with or compares a
+    /// pointer in a way that has no meaning, loads or stores out of bounds or out of line or what
+    /// is not a field of a task, names a map that isn't there, calls a helper that isn't there, may
+    /// not be called or doesn't find what it takes, or exits with no number in r0.
+    Stuck(usize),
+}
+
+/// Where a step led.
+#[derive(Clone, Copy)]
+enum Outcome {
+    /// No instruction begins at the slot, or it has no meaning in this state.
+    Stuck,
+    /// To the instruction at this slot.
+    At(usize),
+    /// To the end of the run, with this answer.
+    Ended(u64),
+}
+
+/// Runs a program that `flow` accepts, as that callback (RFC 9669).
+///
+/// Its jumps go forward, so it does each instruction at most once.
+pub fn try_run<E: Env>(
+    program: &Program,
+    callback: Callback,
+    arguments: Args,
+    maps: &mut Maps,
+    env: &mut E,
+) -> Ran
+    requires flows { Flows program.now }
+    requires room { instruction_count program.now ≤ E.room env.old }
+    ensures done { IfDone result
+        (λ done. Runs (host E.functions) callback program.now (program_arguments arguments) maps.old env.old
+        done.r0 done.steps maps.new env.new) }
+    ensures in_bound { IfDone result (λ done. done.steps ≤ instruction_count program.now) }
+    ensures stuck { IfStuck result
+        (λ slot. GetsStuckAt (host E.functions) callback program.now (program_arguments arguments) maps.old
+        env.old slot maps.new env.new) }
+    ensures exact { record { answer = answer_of result; maps = maps.new; outside = env.new }
+        ≡ run_of (answer_to E.functions) (after_query E.functions) callback program.now
+        (program_arguments arguments) maps.old env.old }
+    ensures shapes { lengths_of maps.new ≡ lengths_of maps.old }
+    ensures room { E.room env.old ≤ E.room env.new + instruction_count program.now }
+    ensures spent { E.spent env.new ≤ E.spent env.old + instruction_count program.now }
+{
+    walk(program, callback, arguments, maps, env)
+}
+
+/// Does its steps, one after another.
+fn walk<E: Env>(
+    program: &Program,
+    callback: Callback,
+    arguments: Args,
+    maps: &mut Maps,
+    env: &mut E,
+) -> Ran
+    requires flows { Flows program.now }
+    requires room { instruction_count program.now ≤ E.room env.old }
+    ensures done { IfDone result
+        (λ done. Runs (host E.functions) callback program.now (program_arguments arguments) maps.old env.old
+        done.r0 done.steps maps.new env.new) }
+    ensures in_bound { IfDone result (λ done. done.steps ≤ instruction_count program.now) }
+    ensures stuck { IfStuck result
+        (λ slot. GetsStuckAt (host E.functions) callback program.now (program_arguments arguments) maps.old
+        env.old slot maps.new env.new) }
+    ensures shapes { lengths_of maps.new ≡ lengths_of maps.old }
+    ensures room { E.room env.old ≤ E.room env.new + instruction_count program.now }
+    ensures spent { E.spent env.new ≤ E.spent env.old + instruction_count program.now }
+{
+    let mut core = Core::start(arguments);
+    let mut slot = 0;
+    for steps in 0..program.slots() {
+        match step(program, slot, callback, &mut core, maps, env) {
+            Outcome::Stuck => return Ran::Stuck(slot),
+            Outcome::At(next) => slot = next,
+            Outcome::Ended(r0) => return Ran::Done(Done {
+                r0,
+                steps: steps + 1,
+            }),
+        }
+    }
+    // As many steps as there are slots leave no instruction from this slot on.
+    Ran::Stuck(slot)
+}
+
+/// Does the instruction at the slot, if one begins there.
+fn step<E: Env>(
+    program: &Program,
+    slot: usize,
+    callback: Callback,
+    core: &mut Core,
+    maps: &mut Maps,
+    env: &mut E,
+) -> Outcome
+    requires flows { Flows program.now }
+    requires short { length program.now ≤ MAX_SLOTS }
+    requires room { instructions_from program.now slot ≤ E.room env.old }
+    ensures step { StepsTo (host E.functions)
+        (step callback program.now slot (seen core.old maps.old)) maps.old env.old result
+        (seen core.new maps.new) env.new }
+    ensures nearer { LeadsNearer program.now slot result }
+    ensures shapes { lengths_of maps.new ≡ lengths_of maps.old }
+    ensures room { E.room env.old ≤ E.room env.new + 1 }
+    ensures spent { E.spent env.new ≤ E.spent env.old + 1 }
+{
+    let Some(insn) = program.at(slot) else {
+        return Outcome::Stuck;
+    };
+    match execute(core, insn, callback, maps, env) {
+        Effect::Stuck => Outcome::Stuck,
+        Effect::Next => Outcome::At(slot + insn.size()),
+        Effect::Jumped => Outcome::At(target(slot, insn)),
+        Effect::Ended(answer) => Outcome::Ended(answer),
+    }
+}

@@ -1,7 +1,0 @@
-use Rattle.std.proofs.Common.{◌≡◌, drop}
-use Rattle.scx_workloads.specs.Kept.{texts}
-use Rattle.scx_workloads.specs.Reading.{index_from, index_of}
-use Rattle.scx_workloads.proofs.elements.index_of.Given as goal
-
-abbrev pub invariant-loop-number : goal.invariant-loop-number
-invariant-loop-number l = index_from l.number (texts (drop l.number l.names)) l.name ≡ index_of (texts l.names) l.name

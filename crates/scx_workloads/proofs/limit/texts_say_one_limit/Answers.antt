@@ -1,5 +1,0 @@
-use Rattle.scx_workloads.proofs.Limits.{texts_say_one_limit_lem}
-use Rattle.scx_workloads.proofs.limit.texts_say_one_limit.Goals as goal
-
-pub returns : goal.returns
-returns c = texts_say_one_limit_lem

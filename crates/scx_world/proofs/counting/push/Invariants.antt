@@ -1,4 +1,0 @@
-use Rattle.scx_world.proofs.counting.push.Given as goal
-
-abbrev pub ghosts-push_counted : goal.ghosts-push_counted
-ghosts-push_counted a = record { name = a.blank.name; parts = a.blank.parts }

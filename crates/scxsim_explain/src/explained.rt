@@ -1,0 +1,171 @@
+ghost use Rattle.std.specs.Prelude.{◌≡◌, [], ◌∷◌, ◌++◌, map, IfOk, IfErr, OnOk};
+ghost use Rattle.scxsim_commands.specs.declared.refusal.Refusal.TheVariants.{NoMemory};
+ghost use Rattle.scx_load_policies.specs.Policies.{program_of, without};
+ghost use Rattle.scx_vm_safety.specs.Programs.{context};
+ghost use Rattle.scx_verify_explain.specs.Listings.{IsListing};
+ghost use Rattle.scxsim_commands.specs.Verdicts.{IsVerdict, IsVerdictOf, HasVerdicts};
+ghost use Rattle.scxsim_explain.specs.Explained.{IsExplained, IsSo, HasJumps, ArePrograms};
+ghost use Rattle.scxsim_explain.specs.Explained.{first_line};
+ghost use Rattle.scxsim_explain.specs.Listed.{line_on, first_lines};
+
+use crate::writing::room_for_line;
+use scx_isa::{Callback, PerCallback, Program};
+use scx_load_policies::PolicyText;
+use scx_maps::MapDefs;
+use scx_verify_explain::{Explanation, Jumps, Listing, explanation_of};
+use scx_vm_safety::Context;
+use scxsim_commands::{Refusal, Verdict, Verdicts, judge};
+use std::alloc::{AllocError, Global};
+
+/// A program, the verdict on it, and why it is refused, if it is.
+#[derive(Drop)]
+pub(crate) struct Explained {
+    pub(crate) verdict: Verdict,
+    pub(crate) listing: Listing,
+    pub(crate) jumps: Jumps,
+    pub(crate) explanation: Option<Explanation>,
+}
+
+/// The verdicts on the programs of a policy, and the programs in the order of its callbacks, each
+/// explained.
+#[derive(Drop)]
+pub(crate) struct ExplainedPolicy {
+    pub(crate) verdicts: Verdicts,
+    pub(crate) programs: Vec<Explained>,
+    /// Room for a line of them.
+    pub(crate) line: String,
+}
+
+/// Explains the programs of a policy.
+///
+/// # Errors
+///
+/// Memory ran out.
+pub(crate) fn explain_policy(alloc: Global, policy: PolicyText) -> Result<ExplainedPolicy, Refusal>
+    ensures verdicts { IfOk result (λ explained. HasVerdicts policy explained.verdicts) }
+    ensures programs { IfOk result ArePrograms }
+    ensures memory { IfErr result (λ refusal. refusal ≡ NoMemory) }
+{
+    let mut policy = policy;
+    let explained = explain_all(alloc, &mut policy);
+    drop(policy);
+    explained
+}
+
+/// Takes the programs of a policy out, and explains them.
+fn explain_all(alloc: Global, policy: &mut PolicyText) -> Result<ExplainedPolicy, Refusal>
+    ensures verdicts { IfOk result (λ explained. HasVerdicts policy.old explained.verdicts) }
+    ensures programs { IfOk result ArePrograms }
+    ensures memory { IfErr result (λ refusal. refusal ≡ NoMemory) }
+{
+    let line = room_for_line(alloc)?;
+    let mut programs = Vec::new(alloc);
+    let verdicts = explain_programs(alloc, policy, &mut programs)?;
+    Ok(ExplainedPolicy {
+        verdicts,
+        programs,
+        line,
+    })
+}
+
+/// Explains the programs one after another, and answers the verdicts on them.
+fn explain_programs(
+    alloc: Global,
+    policy: &mut PolicyText,
+    programs: &mut Vec<Explained>,
+) -> Result<Verdicts, Refusal>
+    ensures verdicts { IfOk result (HasVerdicts policy.old) }
+    ensures programs { IfOk result (λ verdicts. map first_line programs.new.items
+        ≡ map first_line programs.old.items ++ first_lines verdicts) }
+    ensures memory { IfErr result (λ refusal. refusal ≡ NoMemory) }
+{
+    Ok(PerCallback {
+        init: explain_callback(alloc, policy, Callback::Init, programs)?,
+        enable: explain_callback(alloc, policy, Callback::Enable, programs)?,
+        select_cpu: explain_callback(alloc, policy, Callback::SelectCpu, programs)?,
+        enqueue: explain_callback(alloc, policy, Callback::Enqueue, programs)?,
+        dispatch: explain_callback(alloc, policy, Callback::Dispatch, programs)?,
+        running: explain_callback(alloc, policy, Callback::Running, programs)?,
+        stopping: explain_callback(alloc, policy, Callback::Stopping, programs)?,
+    })
+}
+
+/// Takes the program of a callback out, if there is one, and explains it. The answer is the verdict on it.
+fn explain_callback(
+    alloc: Global,
+    policy: &mut PolicyText,
+    callback: Callback,
+    programs: &mut Vec<Explained>,
+) -> Result<Option<Verdict>, Refusal>
+    ensures verdict { IfOk result
+        (IsVerdictOf policy.old.shapes callback (program_of policy.old callback)) }
+    ensures programs { IfOk result (λ verdict. map first_line programs.new.items
+        ≡ map first_line programs.old.items ++ line_on callback verdict) }
+    ensures memory { IfErr result (λ refusal. refusal ≡ NoMemory) }
+    ensures rest { policy.new ≡ without policy.old callback }
+{
+    match policy.take(callback) {
+        Some(program) => {
+            let defs = *policy.defs();
+            let explained = explain_program(alloc, program, callback, &defs)?;
+            let verdict = explained.verdict;
+            keep(programs, explained)?;
+            Ok(Some(verdict))
+        }
+        None => Ok(None),
+    }
+}
+
+fn keep(programs: &mut Vec<Explained>, explained: Explained) -> Result<(), AllocError>
+    ensures { OnOk result (map first_line programs.new.items
+        ≡ map first_line programs.old.items ++ first_line explained ∷ []) }
+{
+    Ok(programs.push(explained)?)
+}
+
+/// Explains a program.
+fn explain_program(
+    alloc: Global,
+    program: Program,
+    callback: Callback,
+    defs: &MapDefs,
+) -> Result<Explained, Refusal>
+    ensures verdict { IfOk result
+        (λ explained. IsVerdict defs.now callback program explained.verdict) }
+    ensures listing { IfOk result
+        (λ explained. IsListing (context callback defs.now) program explained.listing) }
+    ensures explanation { IfOk result IsExplained }
+    ensures so { IfOk result IsSo }
+    ensures jumps { IfOk result HasJumps }
+    ensures memory { IfErr result (λ refusal. refusal ≡ NoMemory) }
+{
+    let context = Context {
+        callback,
+        defs: *defs,
+    };
+    let listing = Listing::new(alloc, &program, context)?;
+    let verdict = judge(alloc, program, callback, defs)?;
+    explain_verdict(alloc, listing, verdict)
+}
+
+/// Explains the verdict on a program that is listed.
+fn explain_verdict(alloc: Global, listing: Listing, verdict: Verdict) -> Result<Explained, Refusal>
+    ensures verdict { IfOk result (λ explained. explained.verdict ≡ verdict) }
+    ensures listing { IfOk result (λ explained. explained.listing ≡ listing) }
+    ensures explanation { IfOk result IsExplained }
+    ensures so { IfOk result IsSo }
+    ensures jumps { IfOk result HasJumps }
+    ensures memory { IfErr result (λ refusal. refusal ≡ NoMemory) }
+{
+    let jumps = Jumps::new(alloc, &listing)?;
+    let explanation = match verdict {
+        Verdict::Accepted(_) => None,
+        Verdict::Refused(fault, slot) => explanation_of(alloc, &listing, fault, slot)?,
+    };
+    Ok(Explained {
+        verdict,
+        listing,
+        jumps,
+        explanation,
+    })
+}

@@ -1,0 +1,96 @@
+ghost use Rattle.std.specs.Prelude.{◌≡◌, ◌++◌, List, ℕ, map, OnOk, OnErr};
+ghost use Rattle.std.specs.Io.KnownBytes.{Appends};
+ghost use Rattle.scxsim_output.specs.Output.{HasFailed};
+ghost use Rattle.scxsim_explain.specs.Explained.{first_line};
+ghost use Rattle.scxsim_explain.specs.Listed.{Grows, IsListed, IsListedBehind};
+
+use crate::explained::Explained;
+use crate::lines::{push_slot, width_of};
+use scxsim_commands::verdict_line;
+use scxsim_output::{Failed, Out, write_all};
+use std::alloc::{AllocError, Global};
+
+/// How many bytes a line takes at most, and many more.
+const LINE_CAPACITY: usize = 0x40000;
+
+/// Room for a line, so that none takes memory once another was written.
+pub(crate) fn room_for_line(alloc: Global) -> Result<String, AllocError> {
+    String::with_capacity(alloc, LINE_CAPACITY)
+}
+
+/// Writes the programs in their order, with an empty line between two.
+pub(crate) fn write_programs<W: Out>(
+    programs: &[Explained],
+    line: &mut String,
+    out: &mut W,
+) -> Result<(), Failed>
+    ensures ok { OnOk result ((text : List ℕ) × IsListed (map first_line programs.now) text
+        × Appends (W.contents out.old) (W.contents out.new) text) }
+    ensures ok_failures { OnOk result (W.failure_count out.new ≡ W.failure_count out.old) }
+    ensures err_failures { OnErr result
+        (HasFailed (W.failure_count out.old) (W.failure_count out.new)) }
+{
+    let Some((first, rest)) = programs.split_first() else {
+        return Ok(());
+    };
+    write_program(first, line, out)?;
+    write_rest(rest, line, out)
+}
+
+/// Writes the programs behind the first one, each behind an empty line.
+fn write_rest<W: Out>(programs: &[Explained], line: &mut String, out: &mut W) -> Result<(), Failed>
+    ensures ok { OnOk result ((text : List ℕ) × IsListedBehind (map first_line programs.now) text
+        × Appends (W.contents out.old) (W.contents out.new) text) }
+    ensures ok_failures { OnOk result (W.failure_count out.new ≡ W.failure_count out.old) }
+    ensures err_failures { OnErr result
+        (HasFailed (W.failure_count out.old) (W.failure_count out.new)) }
+{
+    for explained in programs {
+        write_all(out, b"\n")?;
+        write_program(explained, line, out)?;
+    }
+    Ok(())
+}
+
+/// Writes the verdict on a program and its listing.
+fn write_program<W: Out>(
+    explained: &Explained,
+    line: &mut String,
+    out: &mut W,
+) -> Result<(), Failed>
+    ensures ok { OnOk result ((listing : List ℕ)
+        × Appends (W.contents out.old) (W.contents out.new)
+        (first_line explained.now ++ listing)) }
+    ensures ok_failures { OnOk result (W.failure_count out.new ≡ W.failure_count out.old) }
+    ensures err_failures { OnErr result
+        (HasFailed (W.failure_count out.old) (W.failure_count out.new)) }
+{
+    let first = verdict_line(explained.listing.context().callback, explained.verdict);
+    write_all(out, first.as_str().as_bytes())?;
+    write_listing(explained, line, out)
+}
+
+/// Writes the lines of a program's slots.
+fn write_listing<W: Out>(
+    explained: &Explained,
+    line: &mut String,
+    out: &mut W,
+) -> Result<(), Failed>
+    ensures ok { OnOk result (Grows (W.contents out.old) (W.contents out.new)) }
+    ensures ok_failures { OnOk result (W.failure_count out.new ≡ W.failure_count out.old) }
+    ensures err_failures { OnErr result
+        (HasFailed (W.failure_count out.old) (W.failure_count out.new)) }
+{
+    let width = width_of(&explained.listing);
+    for slot in 0..explained.listing.slots() {
+        make_line(line, explained, slot, width);
+        write_all(out, line.as_bytes())?;
+    }
+    Ok(())
+}
+
+/// Makes the line of a slot, for which there is room.
+fn make_line(line: &mut String, explained: &Explained, slot: usize, width: usize) {
+    line.clear();
+    let _ = push_slot(line, explained, slot, width);
+}

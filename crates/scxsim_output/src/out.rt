@@ -1,0 +1,72 @@
+ghost use Rattle.std.specs.Prelude.{◌≡◌, ℕ, ◌-◌, ◌^◌, ◌<◌, ◌≤◌, ◌++◌, List, length, Option, None, IsErr, IfOk, OnOk, OnErr};
+ghost use Rattle.std.specs.Io.KnownBytes.{Appends, WriteAppends};
+ghost use Rattle.scxsim_output.specs.Output.{IsFailure, HasFailed, AppendsBeginning};
+
+use thiserror::Error;
+
+/// An output that took no more bytes.
+#[derive(Clone, Copy, Debug, PartialEq, Eq, Error)]
+#[error("writing failed")]
+pub struct Failed;
+
+/// Where a program's output goes, with a count of the writes that failed.
+pub trait Out {
+    // The bytes that the output holds, where they are known.
+    ghost contents: { Self → Option (List ℕ) } = { λ _. None };
+
+    ghost failure_count: { Self → ℕ };
+
+    /// Takes bytes from the front of `bytes`, and answers how many it took.
+    ///
+    /// An error, and an answer of 0 for bytes that are there, each count as one failure. An output
+    /// whose count stands at its greatest answers an error, and the count stays.
+    fn write(&mut self, bytes: &[u8]) -> Result<usize, Failed>
+        ensures bound { IfOk result (λ count. count ≤ length bytes.now) }
+        ensures grows { WriteAppends (contents self.old) (contents self.new) result bytes.now }
+        ensures failed { IsFailure result bytes.now
+            → HasFailed (failure_count self.old) (failure_count self.new) }
+        ensures worked { ¬ IsFailure result bytes.now
+            → failure_count self.new ≡ failure_count self.old }
+        ensures at_limit { failure_count self.old ≡ 2 ^ 64 - 1 → IsErr result };
+
+    /// How many writes failed so far.
+    fn failures(&self) -> u64
+        ensures { result ≡ failure_count self.now };
+}
+
+/// Writes all of `bytes`, in as many writes as it takes, up to the first one that fails.
+pub fn write_all<W: Out>(out: &mut W, bytes: &[u8]) -> Result<(), Failed>
+    ensures ok { OnOk result (Appends (W.contents out.old) (W.contents out.new) bytes.now) }
+    ensures ok_failures { OnOk result (W.failure_count out.new ≡ W.failure_count out.old) }
+    ensures err { OnErr result
+        (AppendsBeginning (W.contents out.old) (W.contents out.new) bytes.now) }
+    ensures err_failures { OnErr result
+        (HasFailed (W.failure_count out.old) (W.failure_count out.new)) }
+{
+    let mut done = 0;
+    while done < bytes.len() {
+        let count = out.write(&bytes[done..])?;
+        if count == 0 {
+            return Err(Failed);
+        }
+        done += count;
+    }
+    Ok(())
+}
+
+/// Writes a name between two texts, up to the first write that fails.
+pub fn write_named<W: Out>(out: &mut W, start: &str, name: &str, end: &str) -> Result<(), Failed>
+    ensures ok { OnOk result
+        (Appends (W.contents out.old) (W.contents out.new) (start.now ++ name.now ++ end.now)) }
+    ensures ok_failures { OnOk result (W.failure_count out.new ≡ W.failure_count out.old) }
+    ensures err { OnErr result
+        (AppendsBeginning (W.contents out.old) (W.contents out.new)
+        (start.now ++ name.now ++ end.now)) }
+    ensures err_failures { OnErr result
+        (HasFailed (W.failure_count out.old) (W.failure_count out.new)) }
+{
+    write_all(out, start.as_bytes())?;
+    write_all(out, name.as_bytes())?;
+    write_all(out, end.as_bytes())?;
+    Ok(())
+}

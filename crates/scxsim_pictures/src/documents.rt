@@ -1,0 +1,83 @@
+use crate::tracks::{CPUS, EJECTIONS, INSERTS, MOVES, PARKED, QUEUES, TASKS, WAKES};
+use arrayvec::ArrayString;
+use scx_load_workloads::Workload;
+use scxsim_trace::Names;
+use std::alloc::{AllocError, Global};
+use std::fmt::Write;
+
+/// What stands in a document of the Chrome trace format before its first object, and behind the last one.
+pub(crate) const HEAD: &str = "{\"displayTimeUnit\":\"ms\",\"traceEvents\":[\n";
+
+pub(crate) const END: &str = "\n]}\n";
+
+/// The titles of all tracks, which are the first objects of a document.
+pub(crate) fn titles(alloc: Global, workload: &Workload) -> Result<String, AllocError> {
+    let mut text = String::new(alloc);
+    push_cpus(&mut text, workload.cpus())?;
+    push_tasks(&mut text)?;
+    push_title(&mut text, "process_name", QUEUES, 0, "queues")?;
+    if has_quotas(workload) {
+        push_parked(&mut text, workload)?;
+    }
+    Ok(text)
+}
+
+/// Whether a group of the workload has a quota.
+fn has_quotas(workload: &Workload) -> bool {
+    workload
+        .groups()
+        .iter()
+        .any(|group| group.quota_ms.is_some())
+}
+
+fn push_cpus(text: &mut String, cpus: u32) -> Result<(), AllocError> {
+    push_title(text, "process_name", CPUS, 0, "processors")?;
+    for cpu in 0..cpus {
+        push_title(text, "thread_name", CPUS, cpu, cpu_name(cpu).as_str())?;
+    }
+    Ok(())
+}
+
+fn cpu_name(cpu: u32) -> ArrayString<16> {
+    let mut name = ArrayString::new();
+    let _ = write!(name, "cpu {cpu}");
+    name
+}
+
+fn push_tasks(text: &mut String) -> Result<(), AllocError> {
+    push_title(text, "process_name", TASKS, 0, "tasks")?;
+    push_title(text, "thread_name", TASKS, WAKES, "wakes")?;
+    push_title(text, "thread_name", TASKS, INSERTS, "inserts")?;
+    push_title(text, "thread_name", TASKS, MOVES, "moves")?;
+    push_title(text, "thread_name", TASKS, EJECTIONS, "ejections")
+}
+
+/// Each task has a track for when it is parked.
+fn push_parked(text: &mut String, workload: &Workload) -> Result<(), AllocError> {
+    push_title(text, "process_name", PARKED, 0, "parked")?;
+    let mut task = 0u16;
+    for _group in workload.tasks() {
+        let name = workload.task(task);
+        push_title(text, "thread_name", PARKED, u32::from(task), name)?;
+        task = task.saturating_add(1);
+    }
+    Ok(())
+}
+
+/// Appends that a group of tracks, or a track, as `what` says, has that title. No title has a character that
+/// would have to be quoted.
+fn push_title(
+    text: &mut String,
+    what: &str,
+    pid: u32,
+    tid: u32,
+    title: &str,
+) -> Result<(), AllocError> {
+    if !text.is_empty() {
+        text.push_str(",\n")?;
+    }
+    write!(
+        text,
+        "{{\"ph\":\"M\",\"pid\":{pid},\"tid\":{tid},\"name\":\"{what}\",\"args\":{{\"name\":\"{title}\"}}}}"
+    )
+}

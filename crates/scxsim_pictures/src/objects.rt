@@ -1,0 +1,118 @@
+//! The objects of the Chrome trace format: each is an event, and `ph` says of which kind. Times are in
+//! microseconds. Each stands in a line of its own, behind the end of the one before it. No name has a
+//! character that would have to be quoted.
+
+ghost use Rattle.std.specs.Prelude.{◌+◌, ◌≤◌, length};
+ghost use Rattle.arrayvec.specs.ArrayString.{array_string_len};
+
+use crate::lengths::Length;
+use crate::tracks::{EJECTIONS, QUEUES, TASKS, WAKES};
+use scx_sched_world::{BUILTIN, GLOBAL, HELD, PARKED, POLICY_END};
+use scxsim_views::{Line, Part, push_number};
+
+/// A millisecond in microseconds.
+const MS: u64 = 1000;
+
+/// From one moment to another a task ran on a processor, or was parked.
+pub(crate) fn slice(pid: u32, tid: u32, task: u16, since: u64, until: u64) -> Line {
+    let mut start = Part::new();
+    push_number(&mut start, ",\n{\"ph\":\"X\",\"pid\":", u64::from(pid));
+    push_number(&mut start, ",\"tid\":", u64::from(tid));
+    push_number(&mut start, ",\"ts\":", since.saturating_mul(MS));
+    let length = until.saturating_sub(since);
+    push_number(&mut start, ",\"dur\":", length.saturating_mul(MS));
+    start.push_str(",\"name\":\"");
+    named(start, task, name_end())
+}
+
+/// A task wakes.
+pub(crate) fn wake(moment: u64, task: u16) -> Line {
+    named(instant(moment, WAKES, "t"), task, name_end())
+}
+
+/// A task comes to a queue.
+pub(crate) fn entry(moment: u64, track: u32, task: u16, queue: u64) -> Line {
+    let mut end = Part::new();
+    end.push_str(" to ");
+    push_queue(&mut end, queue);
+    end.push_str("\"}");
+    named(instant(moment, track, "t"), task, end)
+}
+
+/// The policy is ejected because a task waited too long.
+pub(crate) fn stall(moment: u64, task: u16) -> Line {
+    let mut start = instant(moment, EJECTIONS, "g");
+    start.push_str("eject stall ");
+    named(start, task, name_end())
+}
+
+/// The policy is ejected because of the fault of that number.
+pub(crate) fn fault(moment: u64, code: u8) -> Line {
+    let mut text = instant(moment, EJECTIONS, "g");
+    push_number(&mut text, "eject fault ", u64::from(code));
+    text.push_str("\"}");
+    Line::nameless(text)
+}
+
+/// So many tasks wait in a queue from now on.
+pub(crate) fn count(moment: u64, length: Length) -> Line {
+    let mut text = Part::new();
+    push_number(&mut text, ",\n{\"ph\":\"C\",\"pid\":", u64::from(QUEUES));
+    push_number(&mut text, ",\"ts\":", moment.saturating_mul(MS));
+    text.push_str(",\"name\":\"");
+    push_queue(&mut text, length.queue);
+    push_number(&mut text, "\",\"args\":{\"tasks\":", length.tasks);
+    text.push_str("}}");
+    Line::nameless(text)
+}
+
+/// What stands before the name of something that happens; `scope` says whether it is of one track (`t`) or of
+/// all (`g`).
+fn instant(moment: u64, track: u32, scope: &str) -> Part
+    requires { length scope.now ≤ 1 }
+    ensures { array_string_len result ≤ 150 }
+{
+    let mut start = Part::new();
+    push_number(&mut start, ",\n{\"ph\":\"i\",\"pid\":", u64::from(TASKS));
+    push_number(&mut start, ",\"tid\":", u64::from(track));
+    push_number(&mut start, ",\"ts\":", moment.saturating_mul(MS));
+    start.push_str(",\"s\":\"");
+    start.push_str(scope);
+    start.push_str("\",\"name\":\"");
+    start
+}
+
+/// The end of an object behind its name.
+fn name_end() -> Part {
+    let mut end = Part::new();
+    end.push_str("\"}");
+    end
+}
+
+fn named(start: Part, task: u16, end: Part) -> Line {
+    Line {
+        start,
+        task: Some(task),
+        end,
+    }
+}
+
+/// Appends what a queue is called, as in a trace.
+fn push_queue(text: &mut Part, queue: u64)
+    requires { array_string_len text.old ≤ 200 }
+    ensures { array_string_len text.new ≤ array_string_len text.old + 26 }
+{
+    if queue < POLICY_END {
+        push_number(text, "queue ", queue);
+    } else if queue == GLOBAL {
+        text.push_str("global");
+    } else if queue == HELD {
+        text.push_str("held");
+    } else if queue == BUILTIN {
+        text.push_str("builtin");
+    } else if queue == PARKED {
+        text.push_str("parked");
+    } else {
+        push_number(text, "local ", queue % 0x1_0000_0000);
+    }
+}

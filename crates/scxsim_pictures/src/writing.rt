@@ -1,0 +1,71 @@
+ghost use Rattle.std.specs.Prelude.{◌≡◌, ◌++◌, ℕ, List, true, Err, IfOk, OnOk};
+ghost use Rattle.std.specs.Io.KnownBytes.{Appends};
+ghost use Rattle.scxsim_output.specs.Output.{HasFailed};
+ghost use Rattle.scxsim_commands.specs.Outcome.{IfRefused, IsRefused};
+ghost use Rattle.scxsim_commands.specs.declared.refusal.Refusal.TheVariants.{NoMemory};
+
+use scx_load_workloads::Workload;
+use scx_sched::Sim;
+use scxsim_commands::{Fault, Refusal};
+use scxsim_output::Out;
+use scxsim_simulation::{Heard, Listener, Run, give_back};
+use scxsim_trace::Events;
+use scxsim_views::{Sketch, write_sketch};
+use std::alloc::AllocError;
+
+/// Goes through the run, and writes the sketch of it between a head and an end, if there was memory for a
+/// sketch. The answer is true.
+pub(crate) fn write_document<S: Sketch + Drop, L: Listener, W: Out>(
+    run: Run,
+    sketch: Result<S, AllocError>,
+    head: &str,
+    end: &str,
+    listener: &mut L,
+    out: &mut W,
+) -> Result<bool, Fault>
+    ensures done { IfOk result (λ answer. (answer ≡ true) × (made : List ℕ)
+        × Appends (W.contents out.old) (W.contents out.new) (head.now ++ made ++ end.now)) }
+    ensures unfailed { OnOk result (W.failure_count out.new ≡ W.failure_count out.old) }
+    ensures refused { IfRefused result (λ refusal. refusal ≡ NoMemory) }
+    ensures quiet { IsRefused result → out.new ≡ out.old }
+    ensures counted { result ≡ Err Fault.WriteFailed
+        → HasFailed (W.failure_count out.old) (W.failure_count out.new) }
+{
+    let Run {
+        workload,
+        driver,
+        mut sim,
+    } = run;
+    let mut events = Heard::new(driver, workload.ms(), listener);
+    let written = write_events(&mut sim, &mut events, sketch, &workload, head, end, out);
+    give_back(events, sim);
+    drop(workload);
+    written
+}
+
+/// The same of a run that is lent.
+fn write_events<E: Events, S: Sketch + Drop, W: Out>(
+    sim: &mut Sim,
+    events: &mut E,
+    sketch: Result<S, AllocError>,
+    workload: &Workload,
+    head: &str,
+    end: &str,
+    out: &mut W,
+) -> Result<bool, Fault>
+    ensures done { IfOk result (λ answer. (answer ≡ true) × (made : List ℕ)
+        × Appends (W.contents out.old) (W.contents out.new) (head.now ++ made ++ end.now)) }
+    ensures unfailed { OnOk result (W.failure_count out.new ≡ W.failure_count out.old) }
+    ensures refused { IfRefused result (λ refusal. refusal ≡ NoMemory) }
+    ensures quiet { IsRefused result → out.new ≡ out.old }
+    ensures counted { result ≡ Err Fault.WriteFailed
+        → HasFailed (W.failure_count out.old) (W.failure_count out.new) }
+{
+    let Ok(mut sketch) = sketch else {
+        return Err(Fault::Refused(Refusal::NoMemory));
+    };
+    let written = write_sketch(sim, events, &mut sketch, workload, head, end, out);
+    drop(sketch);
+    written?;
+    Ok(true)
+}

@@ -1,0 +1,74 @@
+-- The headline holds of the run that two texts stand for, through the events that its machine took.
+use Rattle.std.proofs.Common.{ℕ, List, [], ◌∷◌, ◌++◌, Option, Result, Ok, Err, OnErr, sym, subst}
+use Rattle.scx_weights.specs.Hierarchy.{idle}
+use Rattle.scx_sched_machine.specs.declared.events.Event.{Event}
+use Rattle.scx_sched_machine.specs.Callbacks.{AreAnswered}
+use Rattle.scx_sched_machine.proofs.Taking.{answered_append}
+use Rattle.scx_sched.specs.Sim.{SimState, after_event, calls_of}
+use Rattle.scx_load_workloads.specs.Workload.{WorkloadState}
+use Rattle.scx_load_driver.specs.Events.{workload_events}
+use Rattle.scxsim_headline.specs.Headline.{states_from, calls_of_all, NoneIsLate, EachFollows}
+use Rattle.scxsim_headline.proofs.Going.{AreOnce, AreCounted, AreTimely, AreAllBounded, follows_before}
+use Rattle.scxsim_headline.proofs.Whole.{run_notes, run_last, run_never_stuck, run_once, run_counted, run_timely, run_bounded, run_follows}
+use Rattle.scxsim_trace.specs.Lines.{NameLists, names_of}
+use Rattle.scxsim_trace.specs.Runs.{StaysInOrder, StopsAtFailure}
+use Rattle.scxsim_simulation.specs.Runs.{IsRun, run_of, IsOfHeadline, IsCutOff}
+
+all_answered : (s : SimState) (events : List Event) → StaysInOrder s events → AreAnswered (calls_of_all s events)
+all_answered s [] h = tt
+all_answered s (e ∷ es) (now, well, more) =
+    answered_append (calls_of s e) (calls_of_all (after_event s e) es) well.0 (all_answered (after_event s e) es more)
+
+all_once : (s : SimState) (events : List Event) → StaysInOrder s events → AreOnce (states_from s events)
+all_once s [] h = (h.once, tt)
+all_once s (e ∷ es) (now, well, more) = (now.once, all_once (after_event s e) es more)
+
+all_counted : (s : SimState) (events : List Event) → StaysInOrder s events → AreCounted (states_from s events)
+all_counted s [] h = (h.counted, tt)
+all_counted s (e ∷ es) (now, well, more) = (now.counted, all_counted (after_event s e) es more)
+
+all_timely : (s : SimState) (events : List Event) → StaysInOrder s events → AreTimely (states_from s events)
+all_timely s [] h = (h.timely, tt)
+all_timely s (e ∷ es) (now, well, more) = (now.timely, all_timely (after_event s e) es more)
+
+all_bounded : (s : SimState) (events : List Event) → StaysInOrder s events → AreAllBounded (states_from s events)
+all_bounded s [] h = (h.bounded, tt)
+all_bounded s (e ∷ es) (now, well, more) = (now.bounded, all_bounded (after_event s e) es more)
+
+all_follow : (s : SimState) (events : List Event) → StaysInOrder s events → EachFollows events (states_from s events)
+all_follow s [] h = tt
+all_follow s (e ∷ es) (now, well, more) = follows_before s e es well.1 (all_follow (after_event s e) es more)
+
+-- the headline holds of a run through events that leave its machine in order after each
+pub headline_holds : {policy workload : List ℕ} {w : WorkloadState} {s : SimState} (x : IsRun policy workload w s) (events : List Event) → StaysInOrder s events → IsOfHeadline x events
+headline_holds {policy} {workload} {w} {s} x events h =
+    let tree = idle w.groups w.homes in
+    let limit : ℕ → Type 0 = λ n. NoneIsLate n (run_of x events) in
+    record {
+      notes = sym (run_notes x.machine tree w.cpus events s x.first);
+      last = run_last x.machine tree w.cpus events s x.first;
+      never_stuck = run_never_stuck x.machine tree w.cpus events s x.first x.answered (all_answered s events h);
+      once = run_once x.machine tree w.cpus events s x.first (all_once s events h);
+      counted = run_counted x.machine tree w.cpus events s x.first (all_counted s events h);
+      timely = subst limit x.built.timeout (run_timely x.machine tree w.cpus events s x.first (all_follow s events h) (all_timely s events h));
+      bounded = run_bounded x.machine tree w.cpus events s x.first (all_bounded s events h);
+      follows = run_follows x.machine tree w.cpus events s x.first (all_follow s events h);
+    }
+
+-- up to where writing failed
+pub headline_cut : {policy workload : List ℕ} {w : WorkloadState} {s : SimState} (x : IsRun policy workload w s) (t : SimState) (old new : Option (List ℕ))
+    → StopsAtFailure (names_of w) (workload_events w s) s t old new → IsCutOff x old new
+headline_cut x t old new h = record {
+  done = h.done;
+  event = h.event;
+  rest = h.rest;
+  whole = h.whole;
+  headline = headline_holds x (h.done ++ h.event ∷ []) h.in_order;
+  lines = h.lines;
+}
+
+-- in some state
+pub stops_somewhere : {A E : Type 0} (r : Result A E) (names : NameLists) (events : List Event) (s t : SimState) (old new : Option (List ℕ))
+    → OnErr r (StopsAtFailure names events s t old new) → OnErr r ((end : SimState) × StopsAtFailure names events s end old new)
+stops_somewhere (Ok done) names events s t old new h = tt
+stops_somewhere (Err e) names events s t old new h = (t, h)

@@ -1,0 +1,7 @@
+use Rattle.scx_load_policies.specs.Reading.{policy_text}
+use Rattle.scxsim_commands.specs.Refusals.{policy_refusal}
+use Rattle.scxsim_simulation.proofs.Passing.{read_is}
+use Rattle.scxsim_simulation.proofs.preparing.policy_in.Goals as goal
+
+pub returns-clause-read : goal.returns-clause-read
+returns-clause-read c = read_is policy_refusal c.read_policy.result c.policy_or_refusal.result (policy_text c.args.text.now) c.read_policy.ensures c.policy_or_refusal.ensures

@@ -1,0 +1,139 @@
+-- What the texts of a policy file and of a workload file say together: a run, with its trace and
+-- its report, or why they are refused.
+use Rattle.std.specs.Prelude.{◌≡◌, ℕ, ℤ, List, [], ◌∷◌, ◌++◌, Option, ⊤, Ok, Err, IsOk, string_bytes}
+use Rattle.scx_isa_semantics.specs.declared.callbacks.Callback as callbacks
+use Rattle.scx_verify.specs.declared.faults.Fault.{Fault}
+use Rattle.scx_weights.specs.Hierarchy.{Hierarchy, idle}
+use Rattle.scx_sched_machine.specs.declared.events.Event.{Event}
+use Rattle.scx_sched_machine.specs.Policy.{PolicyState}
+use Rattle.scx_sched_machine.specs.Callbacks.{AreAnswered}
+use Rattle.scx_sched_machine.specs.Start.{first_state, start_calls}
+use Rattle.scx_sched.specs.Sim.{SimState, IsFirstState}
+use Rattle.scx_load_policies.specs.Policies.{PolicyFile}
+use Rattle.scx_load_policies.specs.Reading.{policy_text}
+use Rattle.scx_load_policies.specs.declared.building.BuildError.TheVariants as build
+use Rattle.scx_load_policies.specs.Building.{IsBuilt, IsFirstRefused}
+use Rattle.scx_load_workloads.specs.Workload.{WorkloadState}
+use Rattle.scx_load_workloads.specs.Reading.{workload_of}
+use Rattle.scx_load_driver.specs.Runs.{stepped_all, notes_of_all, AreAccepted}
+use Rattle.scx_load_driver.specs.Events.{workload_events}
+use Rattle.scxsim_headline.specs.Headline.{Run, machine_run, IsLast, NoneIsStuck, EachIsOnce, EachWaitIsCounted, NoneIsLate, EachUsageIsBounded, EachFollows}
+use Rattle.scxsim_trace.specs.Lines.{names_of, note_lines}
+use Rattle.scxsim_trace.specs.Runs.{IsCutIn}
+use Rattle.scxsim_trace.specs.Report as reports
+use Rattle.scxsim_commands.specs.declared.refusal.Refusal.{Refusal}
+use Rattle.scxsim_commands.specs.declared.refusal.Refusal.TheVariants.{NoMemory, Policy, Workload, Callback, Init}
+
+-- the texts stand for the run of that workload from that first state on; none of its events is
+-- refused, and no callback got stuck before the first one
+pub record IsRun (policy workload : List ℕ) (w : WorkloadState) (s : SimState) : Type 0 where
+  pub file : PolicyFile
+  pub machine : PolicyState
+  pub policy_read : policy_text policy ≡ Ok file
+  pub workload_read : workload_of workload ≡ Ok w
+  pub built : IsBuilt file machine
+  pub first : IsFirstState machine (idle w.groups w.homes) w.cpus s
+  pub accepted : AreAccepted s (workload_events w s)
+  pub answered : AreAnswered (start_calls machine (idle w.groups w.homes) w.cpus)
+
+-- a line for each note of its events
+abbrev pub trace_text : WorkloadState → SimState → List ℕ
+trace_text w s = note_lines (names_of w) (notes_of_all s (workload_events w s))
+
+-- the machine after all events
+abbrev pub last_of : WorkloadState → SimState → SimState
+last_of w s = stepped_all s (workload_events w s)
+
+-- how long each task has run then, and whether the policy is in force
+abbrev pub report_text : WorkloadState → SimState → List ℕ
+report_text w s =
+    reports.report (names_of w) (reports.times (last_of w s).state.world)
+    (last_of w s).state.world.ejected
+
+-- ---- the headline, of such a run
+
+-- the run of its machine through these events
+abbrev pub run_of :
+    {policy workload : List ℕ} {w : WorkloadState} {s : SimState}
+    → IsRun policy workload w s → List Event → Run
+run_of {policy} {workload} {w} {s} x events =
+    machine_run x.machine (idle w.groups w.homes) w.cpus events
+
+-- Through these events it is that run: it has these notes, and ends in that state. In it no
+-- callback is ever stuck or takes more steps than it has instructions, every runnable task appears
+-- exactly once on a processor or in a queue, each wait is counted, while the policy is in force
+-- no task has waited longer than the limit in the policy's text, and in no period does a group
+-- with a quota use as much as its quota and one millisecond for each processor. Each event does
+-- what it alone decides.
+pub record IsOfHeadline {policy workload : List ℕ} {w : WorkloadState} {s : SimState}
+    (x : IsRun policy workload w s) (events : List Event) : Type 0 where
+  pub notes : (run_of x events).notes ≡ notes_of_all s events
+  pub last : IsLast (stepped_all s events) (run_of x events).states
+  pub never_stuck : NoneIsStuck (run_of x events)
+  pub once : EachIsOnce (run_of x events)
+  pub counted : EachWaitIsCounted (run_of x events)
+  pub timely : NoneIsLate x.file.timeout_ms (run_of x events)
+  pub bounded : EachUsageIsBounded (run_of x events)
+  pub follows : EachFollows events (run_of x events).states
+
+-- The machine took the events up to the first one of which a line wasn't written whole,
+-- and none behind it.
+pub record IsCutOff {policy workload : List ℕ} {w : WorkloadState} {s : SimState}
+    (x : IsRun policy workload w s) (old new : Option (List ℕ)) : Type 0 where
+  pub done : List Event
+  pub event : Event
+  pub rest : List Event
+  pub whole : workload_events w s ≡ done ++ event ∷ rest
+  pub headline : IsOfHeadline x (done ++ event ∷ [])
+  pub lines : IsCutIn (names_of w) s done event old new
+
+-- ---- refusals: of several the first, in this order; want of memory says nothing
+
+-- the policy's text isn't a policy file
+abbrev pub IsPolicyFault : List ℕ → Refusal → Type 0
+IsPolicyFault policy (Policy path cause) =
+    policy_text policy ≡ Err (record { path = string_bytes path; cause = cause })
+IsPolicyFault policy NoMemory = ⊤
+IsPolicyFault policy refusal = ⊥
+
+-- the workload's text isn't a workload file
+abbrev pub IsWorkloadFault : List ℕ → Refusal → Type 0
+IsWorkloadFault workload (Workload path cause) =
+    workload_of workload ≡ Err (record { path = string_bytes path; cause = cause })
+IsWorkloadFault workload NoMemory = ⊤
+IsWorkloadFault workload refusal = ⊥
+
+-- init, or enable of a task, fails
+abbrev pub IsStartFault : PolicyState → Hierarchy → ℕ → Refusal → Type 0
+IsStartFault machine tree cpus (Init answer) = first_state machine tree cpus ≡ Err answer
+IsStartFault machine tree cpus NoMemory = ⊤
+IsStartFault machine tree cpus refusal = ⊥
+
+-- both files are read, and a callback is refused
+pub record HasBadCallback (policy workload : List ℕ) (b : callbacks.Callback) (fault : Fault)
+    (slot : ℕ) : Type 0 where
+  pub file : PolicyFile
+  pub w : WorkloadState
+  pub policy_read : policy_text policy ≡ Ok file
+  pub workload_read : workload_of workload ≡ Ok w
+  pub refused : IsFirstRefused file (build.Refused b fault slot)
+
+-- the policy is built, and its machine can't begin
+pub record HasBadStart (policy workload : List ℕ) (answer : ℤ) : Type 0 where
+  pub file : PolicyFile
+  pub w : WorkloadState
+  pub machine : PolicyState
+  pub policy_read : policy_text policy ≡ Ok file
+  pub workload_read : workload_of workload ≡ Ok w
+  pub built : IsBuilt file machine
+  pub failed : first_state machine (idle w.groups w.homes) w.cpus ≡ Err answer
+
+-- the texts are refused for that cause, with nothing wrong before; want of memory says nothing
+abbrev pub IsCause : List ℕ → List ℕ → Refusal → Type 0
+IsCause policy workload (Policy path cause) = IsPolicyFault policy (Policy path cause)
+IsCause policy workload (Workload path cause) =
+    IsOk (policy_text policy) × IsWorkloadFault workload (Workload path cause)
+IsCause policy workload (Callback b fault slot) = HasBadCallback policy workload b fault slot
+IsCause policy workload NoMemory = ⊤
+IsCause policy workload (Init answer) = HasBadStart policy workload answer
+IsCause policy workload refusal = ⊥

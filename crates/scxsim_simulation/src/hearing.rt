@@ -1,0 +1,55 @@
+ghost use Rattle.std.specs.Prelude.{◌≡◌};
+
+use scx_sched::{Event, Sim};
+use scxsim_trace::Events;
+
+/// Is told how far a run is.
+pub trait Listener {
+    /// So many of all milliseconds are over. Whatever is made of it, the run is the same.
+    fn hear(&mut self, over: u64, total: u32);
+}
+
+/// A listener that does nothing.
+#[derive(Drop)]
+pub struct Nobody;
+
+impl Listener for Nobody {
+    fn hear(&mut self, _over: u64, _total: u32) {}
+}
+
+/// The events of a run, of which each millisecond that is over is told to a listener.
+#[derive(Drop)]
+pub struct Heard<'a, E, L> {
+    events: E,
+    /// How many milliseconds the run has.
+    total: u32,
+    listener: &'a mut L,
+}
+
+impl<'a, E: Events, L: Listener> Heard<'a, E, L> {
+    pub fn new(events: E, total: u32, listener: &'a mut L) -> Self
+        ensures events { result.events ≡ events }
+        ensures total { result.total ≡ total }
+        ensures same_listener { result.listener.ghost_name ≡ listener.entry.ghost_name }
+        ensures listener { result.listener.now ≡ listener.old }
+    {
+        Heard {
+            events,
+            total,
+            listener,
+        }
+    }
+}
+
+impl<E: Events, L: Listener> Events for Heard<'_, E, L> {
+    ghost remaining = { λ heard s. E.remaining heard.events s };
+
+    fn next(&mut self, sim: &Sim) -> Option<Event> {
+        let event = self.events.next(sim)?;
+        if event == Event::Clock {
+            self.listener
+                .hear(sim.clock().saturating_add(1), self.total);
+        }
+        Some(event)
+    }
+}

@@ -1,0 +1,204 @@
+-- The figures of a whole run.
+use Rattle.std.proofs.Common.{◌≡◌, ℕ, zero, suc, ◌+◌, ◌<◌, ◌≤◌, max, false, List, length, replicate, Option, None, Some, Result, Ok, Err, refl, sym, ap, subst, ◌∙◌, arith, ◌⊎◌, inl, inr}
+use Rattle.std.proofs.lemmas.Bool.{cases_eq}
+use Rattle.std.proofs.lemmas.List.{length-set, length-replicate, get_or-replicate, get_or-set_same, get_or-set_other}
+use Rattle.std.specs.List.{filter}
+use Rattle.std.specs.Prelude.{is_err, IfOk, OnOk}
+use Rattle.scx_sched_world.specs.declared.notes.Note.{Note}
+use Rattle.scx_sched_world.specs.World.{WorldState, task_at}
+use Rattle.scx_sched_machine.specs.declared.events.Event.{Event}
+use Rattle.scx_sched.specs.Sim.{SimState}
+use Rattle.scx_load_driver.specs.Runs.{stepped_all, notes_of_all}
+use Rattle.scxsim_trace.specs.Report.{ran_ms}
+use Rattle.scx_load_workloads.specs.Workload.{WorkloadState}
+use Rattle.scxsim_views.specs.declared.pauses.Doing.{Doing}
+use Rattle.scxsim_views.specs.declared.pauses.Doing.TheVariants.{Sleeps}
+use Rattle.scxsim_views.specs.declared.pauses.Pause.{Pause}
+use Rattle.scxsim_views.specs.declared.pauses.PauseKind.{PauseKind}
+use Rattle.scxsim_views.specs.declared.pauses.PauseKind.TheVariants as kind
+use Rattle.scxsim_views.specs.Pauses.{doing_at, pause_of, open_pause}
+use Rattle.scxsim_views.specs.Watching.{Watches, kept_of_all, CountsEvent, CountsNote}
+use Rattle.scxsim_views.proofs.Keeping.{run_is_kept}
+use Rattle.scxsim_statistics.specs.declared.tally.Tally.{Tally}
+use Rattle.scxsim_statistics.specs.declared.tally.TaskFigures.{TaskFigures}
+use Rattle.scxsim_statistics.specs.declared.tally.CpuFigures.{CpuFigures}
+use Rattle.scxsim_statistics.specs.declared.gathering.Gathered.{Gathered}
+use Rattle.scxsim_statistics.specs.Waits.{no_waits, at_most_64_bits}
+use Rattle.scxsim_statistics.specs.Counting.{Counts, counts_of, no_figures, unused_cpu, nothing, figures_at, cpu_at, with_run, with_pause, with_pause_of, after_pause, has_run, counts_after_note, counts_after_event, ended_below, counts_at_end}
+use Rattle.scxsim_statistics.specs.Figures.{does_after, to_list, pauses_in, pauses_of, waits_of, is_wait, longest_of, wakes_of, stops_in, busy_in, idle_in, IsOfTask, IsOfCpu, AreOfRun}
+use Rattle.scxsim_statistics.proofs.Rows.{tasks_kept, with_option, pause_here, pause_there, of_pause, Row, row, row_all, IsThere, row_of_run}
+use Rattle.scxsim_statistics.proofs.Told.{wakes_told, stops_told, does_told, waits_told, waited_all, waited_append, pause_said, count_told, longest_told}
+use Rattle.scxsim_statistics.proofs.Processors.{cpu_told, cpus_stay}
+
+from_0 : (n : ℕ) → 0 + n ≡ n
+from_0 n = omega arith
+
+-- ---- the end
+
+length_ended : (n : ℕ) (w : WorldState) (ds : List Doing) (tasks : List TaskFigures) → length (ended_below n w ds tasks) ≡ length tasks
+length_ended zero w ds tasks = refl
+length_ended (suc n) w ds tasks =
+    let ran = has_run (ended_below n w ds tasks) n (ran_ms (task_at w n)) in
+    length_paused (open_pause w.clock ds n) ran ∙ length-set (ended_below n w ds tasks) n (with_run (ran_ms (task_at w n)) (figures_at (ended_below n w ds tasks) n)) ∙ length_ended n w ds tasks
+  where
+    length_paused : (q : Option Pause) (xs : List TaskFigures) → length (after_pause q xs) ≡ length xs
+    length_paused None xs = refl
+    length_paused (Some p) xs = length-set xs p.task (with_pause p (figures_at xs p.task))
+
+-- one step: that task, and another
+ended_here : (before : List TaskFigures) (n ms clock : ℕ) (d : Doing) → n < length before
+    → figures_at (after_pause (pause_of clock n d) (has_run before n ms)) n ≡ with_option (pause_of clock n d) (with_run ms (figures_at before n))
+ended_here before n ms clock d within =
+    let x = with_run ms (figures_at before n) in
+    pause_here (pause_of clock n d) (has_run before n ms) n (of_pause clock n d) (subst (λ m. n < m) (sym (length-set before n x)) within)
+    ∙ ap (λ y. with_option (pause_of clock n d) y) (get_or-set_same before n x no_figures within)
+
+ended_there : (before : List TaskFigures) (n t ms clock : ℕ) (d : Doing) → (t ≡ n → ⊥)
+    → figures_at (after_pause (pause_of clock n d) (has_run before n ms)) t ≡ figures_at before t
+ended_there before n t ms clock d other =
+    pause_there (pause_of clock n d) (has_run before n ms) n t (of_pause clock n d) other
+    ∙ get_or-set_other before n t (with_run ms (figures_at before n)) no_figures other
+
+-- a task whose turn hasn't come
+not_ended : (n t : ℕ) (w : WorldState) (ds : List Doing) (tasks : List TaskFigures) → n ≤ t → figures_at (ended_below n w ds tasks) t ≡ figures_at tasks t
+not_ended zero t w ds tasks le = refl
+not_ended (suc n) t w ds tasks le =
+    ended_there (ended_below n w ds tasks) n t (ran_ms (task_at w n)) w.clock (doing_at ds n) (λ e. omega (arith, e, le))
+    ∙ not_ended n t w ds tasks (omega (arith, le))
+
+-- as a run ends, a task's figures get how long it ran and then the pause that goes on
+pub is_ended : (n t : ℕ) (w : WorldState) (ds : List Doing) (tasks : List TaskFigures) → t < n → t < length tasks
+    → figures_at (ended_below n w ds tasks) t ≡ with_option (pause_of w.clock t (doing_at ds t)) (with_run (ran_ms (task_at w t)) (figures_at tasks t))
+is_ended zero t w ds tasks below within = absurd (omega (arith, below))
+is_ended (suc n) t w ds tasks below within = go (cases_eq t n) (λ less. is_ended n t w ds tasks less within)
+  where
+    here : n < length tasks → figures_at (ended_below (suc n) w ds tasks) n ≡ with_option (pause_of w.clock n (doing_at ds n)) (with_run (ran_ms (task_at w n)) (figures_at tasks n))
+    here in' =
+        ended_here (ended_below n w ds tasks) n (ran_ms (task_at w n)) w.clock (doing_at ds n) (subst (λ m. n < m) (sym (length_ended n w ds tasks)) in')
+        ∙ ap (λ y. with_option (pause_of w.clock n (doing_at ds n)) (with_run (ran_ms (task_at w n)) y)) (not_ended n n w ds tasks (omega arith))
+
+    go : (t ≡ n) ⊎ (t ≡ n → ⊥) → (t < n → figures_at (ended_below n w ds tasks) t ≡ with_option (pause_of w.clock t (doing_at ds t)) (with_run (ran_ms (task_at w t)) (figures_at tasks t)))
+        → figures_at (ended_below (suc n) w ds tasks) t ≡ with_option (pause_of w.clock t (doing_at ds t)) (with_run (ran_ms (task_at w t)) (figures_at tasks t))
+    go (inl e) before =
+        let P : ℕ → Type 0 = λ k. figures_at (ended_below (suc n) w ds tasks) k ≡ with_option (pause_of w.clock k (doing_at ds k)) (with_run (ran_ms (task_at w k)) (figures_at tasks k)) in
+        subst P (sym e) (here (subst (λ k. k < length tasks) e within))
+    go (inr other) before =
+        ended_there (ended_below n w ds tasks) n t (ran_ms (task_at w n)) w.clock (doing_at ds n) other
+        ∙ before (omega (arith, below, other))
+
+-- ---- a task
+
+end_keeps : (q : Option Pause) (x : TaskFigures) → ((with_option q x).run ≡ x.run) × ((with_option q x).wakes ≡ x.wakes) × ((with_option q x).stopped ≡ x.stopped)
+end_keeps None x = (refl, refl, refl)
+end_keeps (Some p) x = by_kind p.kind
+  where
+    by_kind : (k : PauseKind) → ((with_pause_of k p x).run ≡ x.run) × ((with_pause_of k p x).wakes ≡ x.wakes) × ((with_pause_of k p x).stopped ≡ x.stopped)
+    by_kind kind.Wait = (refl, refl, refl)
+    by_kind kind.Parked = (refl, refl, refl)
+
+abbrev first_row : Row
+first_row = record { doing = Sleeps; figures = no_figures }
+
+task_told : (t clock ms : ℕ) (ns : List Note) (r : Row) (x : TaskFigures) → r ≡ row_all t ns first_row → x ≡ with_option (pause_of clock t r.doing) (with_run ms r.figures)
+    → (x.run ≡ ms) × (x.wakes ≡ at_most_64_bits (wakes_of t ns)) × (x.stopped ≡ at_most_64_bits (stops_in t Sleeps ns)) × (x.waits ≡ waited_all (pauses_of t clock ns) no_waits)
+task_told t clock ms ns r x all end =
+    let q = pause_of clock t r.doing in
+    let y = with_run ms r.figures in
+    let keeps = end_keeps q y in
+    let doing : r.doing ≡ does_after t Sleeps ns = ap (λ (z : Row). z.doing) all ∙ does_told t ns first_row in
+    let waits : r.figures.waits ≡ waited_all (pauses_in t Sleeps ns) no_waits = ap (λ (z : Row). z.figures.waits) all ∙ waits_told t ns first_row in (
+      ap (λ (z : TaskFigures). z.run) end ∙ keeps.0,
+      ap (λ (z : TaskFigures). z.wakes) end ∙ keeps.1 ∙ ap (λ (z : Row). z.figures.wakes) all ∙ wakes_told t ns first_row 0 refl ∙ ap at_most_64_bits (from_0 (wakes_of t ns)),
+      ap (λ (z : TaskFigures). z.stopped) end ∙ keeps.2 ∙ ap (λ (z : Row). z.figures.stopped) all ∙ stops_told t ns first_row 0 refl ∙ ap at_most_64_bits (from_0 (stops_in t Sleeps ns)),
+      ap (λ (z : TaskFigures). z.waits) end ∙ pause_said q y ∙ ap (λ z. waited_all (to_list q) z) waits
+          ∙ ap (λ d. waited_all (to_list (pause_of clock t d)) (waited_all (pauses_in t Sleeps ns) no_waits)) doing
+          ∙ sym (waited_append (pauses_in t Sleeps ns) (to_list (pause_of clock t (does_after t Sleeps ns))) no_waits),
+    )
+
+first_is_there : (n m t : ℕ) → t < n → IsThere t (nothing n m)
+first_is_there n m t below = record {
+  tasks = subst (λ k. t < k) (sym (length-replicate n no_figures)) below;
+  doing = subst (λ k. t < k) (sym (length-replicate n Sleeps)) below;
+}
+
+first_is : (n m t : ℕ) → t < n → row t (nothing n m) ≡ first_row
+first_is n m t below =
+    ap (λ d. record { doing = d; figures = figures_at (replicate n no_figures) t }) (get_or-replicate n t Sleeps Sleeps below)
+    ∙ ap (λ x. record { doing = Sleeps; figures = x }) (get_or-replicate n t no_figures no_figures below)
+
+-- ---- the run
+
+abbrev pub final : WorkloadState → SimState → List Event → Counts
+final wl s es = counts_at_end (stepped_all s es).state.world (kept_of_all counts_after_event counts_after_note s es (nothing (length wl.homes) wl.cpus))
+
+task_of_run : (wl : WorkloadState) (s : SimState) (es : List Event) (t : ℕ) → t < length wl.homes → t < length (stepped_all s es).state.world.tasks
+    → IsOfTask t (stepped_all s es).state.world (notes_of_all s es) (figures_at (final wl s es).tasks t)
+task_of_run wl s es t below in_world =
+    let world = (stepped_all s es).state.world in
+    let first = nothing (length wl.homes) wl.cpus in
+    let k = kept_of_all counts_after_event counts_after_note s es first in
+    let ns = notes_of_all s es in
+    let run = row_of_run t es s first (first_is_there (length wl.homes) wl.cpus t below) in
+    let all : row t k ≡ row_all t ns first_row = run.1 ∙ ap (λ r. row_all t ns r) (first_is (length wl.homes) wl.cpus t below) in
+    let there : IsThere t k = run.0 in
+    let told = task_told t world.clock (ran_ms (task_at world t)) ns (row t k) (figures_at (final wl s es).tasks t) all
+    (is_ended (length world.tasks) t world k.doing k.tasks in_world there.tasks) in
+    record {
+      run = told.0;
+      wakes = told.1;
+      stopped = told.2;
+      waits = ap (λ x. x.count) told.3 ∙ count_told (pauses_of t world.clock ns) no_waits 0 refl ∙ ap at_most_64_bits (from_0 (length (waits_of t world.clock ns)));
+      longest = ap (λ x. x.longest) told.3 ∙ longest_told (pauses_of t world.clock ns) no_waits (λ e. refl) ∙ from_none (longest_of (filter is_wait (pauses_of t world.clock ns)));
+    }
+  where
+    from_none : (a : ℕ) → max 0 a ≡ a
+    from_none a = omega arith
+
+cpu_of_run : (wl : WorkloadState) (s : SimState) (es : List Event) (c : ℕ) → c < wl.cpus → IsOfCpu c s es (cpu_at (final wl s es).cpus c)
+cpu_of_run wl s es c below =
+    let first = nothing (length wl.homes) wl.cpus in
+    let unused_there : cpu_at first.cpus c ≡ unused_cpu = get_or-replicate wl.cpus c unused_cpu unused_cpu below in
+    let told = cpu_told c es s first 0 0 (subst (λ m. c < m) (sym (length-replicate wl.cpus unused_cpu)) below)
+    (ap (λ (x : CpuFigures). x.busy) unused_there) (ap (λ (x : CpuFigures). x.idle) unused_there) in
+    record { busy = told.0 ∙ ap at_most_64_bits (from_0 (busy_in c s es)); idle = told.1 ∙ ap at_most_64_bits (from_0 (idle_in c s es)) }
+
+-- what is counted in a whole run are the figures of that run
+pub figures_told : (wl : WorkloadState) (s : SimState) (es : List Event) (tasks : List TaskFigures) (cpus : List CpuFigures)
+    → tasks ≡ (final wl s es).tasks → cpus ≡ (final wl s es).cpus → AreOfRun wl s es tasks cpus
+figures_told wl s es tasks cpus same_tasks same_cpus = record {
+  all_tasks = ap (λ xs. length xs) same_tasks ∙ tasks_stay wl s es;
+  all_cpus = ap (λ xs. length xs) same_cpus ∙ cpus_stay es s (nothing (length wl.homes) wl.cpus) ∙ length-replicate wl.cpus unused_cpu;
+  of_task = λ t below in_world. subst (λ xs. IsOfTask t (stepped_all s es).state.world (notes_of_all s es) (figures_at xs t)) (sym same_tasks) (task_of_run wl s es t below in_world);
+  of_cpu = λ c below. subst (λ xs. IsOfCpu c s es (cpu_at xs c)) (sym same_cpus) (cpu_of_run wl s es c below);
+}
+  where
+    tasks_stay : (wl : WorkloadState) (s : SimState) (es : List Event) → length (final wl s es).tasks ≡ length wl.homes
+    tasks_stay wl s es =
+        let world = (stepped_all s es).state.world in
+        let k = kept_of_all counts_after_event counts_after_note s es (nothing (length wl.homes) wl.cpus) in
+        length_ended (length world.tasks) world k.doing k.tasks ∙ tasks_kept es s (nothing (length wl.homes) wl.cpus) ∙ length-replicate (length wl.homes) no_figures
+
+-- ---- what was gathered
+
+-- a view that was shown a whole run, and had memory to its end, has counted all of the run
+pub gathered : {G : Type 0} (tally : G → Tally) (wl : WorkloadState) (s t : SimState) (es : List Event) (first shown last : G)
+    → counts_of (tally first) ≡ nothing (length wl.homes) wl.cpus
+    → Watches (CountsEvent (λ g. is_err (tally g).result) (λ g. counts_of (tally g)) counts_after_event) (λ g. is_err (tally g).result) (CountsNote (λ g. is_err (tally g).result) (λ g. counts_of (tally g)) counts_after_note) es s first t shown
+    → (is_err (tally last).result ≡ false → (is_err (tally shown).result ≡ false) × (counts_of (tally last) ≡ counts_at_end t.state.world (counts_of (tally shown))))
+    → is_err (tally last).result ≡ false → counts_of (tally last) ≡ final wl s es
+gathered tally wl s t es first shown last begins watched ends well =
+    let at_end = ends well in
+    let kept = run_is_kept (λ g. is_err (tally g).result) (λ g. counts_of (tally g)) counts_after_event counts_after_note es s t first shown watched at_end.0 in
+    at_end.1 ∙ ap (λ (x : SimState). counts_at_end x.state.world (counts_of (tally shown))) kept.0
+    ∙ ap (λ k. counts_at_end (stepped_all s es).state.world k) (kept.1 ∙ ap (λ k. kept_of_all counts_after_event counts_after_note s es k) begins)
+
+-- an answer with the figures of a tally that counted all of a run has the figures of the run
+pub answered : {E : Type 0} (r : Result Gathered E) (x : Tally) (wl : WorkloadState) (s : SimState) (es : List Event)
+    → IfOk r (λ f. f.tasks ≡ x.tasks) → IfOk r (λ f. f.cpus ≡ x.cpus) → OnOk r (is_err x.result ≡ false)
+    → (is_err x.result ≡ false → counts_of x ≡ final wl s es) → IfOk r (λ f. AreOfRun wl s es f.tasks.items f.cpus.items)
+answered (Ok f) x wl s es tasks cpus well counts =
+    let same = counts well in
+    figures_told wl s es f.tasks.items f.cpus.items
+    (ap (λ v. v.items) tasks ∙ ap (λ (k : Counts). k.tasks) same)
+    (ap (λ v. v.items) cpus ∙ ap (λ (k : Counts). k.cpus) same)
+answered (Err e) x wl s es tasks cpus well counts = tt

@@ -1,0 +1,8 @@
+use Rattle.scxsim_statistics.proofs.Whole.{gathered, answered}
+use Rattle.scxsim_statistics.proofs.gathering.gather_from.Goals as goal
+
+pub returns : goal.returns
+returns g c =
+    let events = g.E.Events.remaining c.args.events.now c.args.sim.now in
+    let counts = gathered (λ x. x.tally) c.args.workload.now c.args.sim.now _ events _ _ c.end.new.self c.in_ok-gathering.ensures.counts c.watch.ensures c.end.ensures in
+    answered c.gathered.result _ c.args.workload.now c.args.sim.now events c.gathered.ensures.tasks c.gathered.ensures.cpus c.gathered.ensures.well counts

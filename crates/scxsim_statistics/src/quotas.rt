@@ -1,0 +1,129 @@
+use scx_load_workloads::Workload;
+use scx_weights::MAX_DEPTH;
+use std::alloc::{AllocError, Global};
+
+/// What became of the quota of a group, if it has one.
+#[derive(Clone, Copy)]
+pub struct QuotaFigures {
+    parent: Option<u32>,
+    pub quota_ms: Option<u32>,
+    pub period_ms: u32,
+    /// For how many milliseconds tasks in it ran in the period at hand, also in groups within it.
+    used: u64,
+    /// The most that they ran in a period.
+    pub most: u64,
+    /// How many periods there were, and in how many of them the quota was used up.
+    pub periods: u64,
+    pub throttled_periods: u64,
+    /// For how many milliseconds of the clock it was used up.
+    pub throttled: u64,
+}
+
+impl QuotaFigures {
+    /// A millisecond has passed, and the clock comes to this.
+    fn pass(&mut self, clock: u64) {
+        if self.is_used_up() {
+            self.throttled = self.throttled.saturating_add(1);
+        }
+        if self.begins_period(clock) {
+            self.end_period();
+        }
+    }
+
+    /// The run ends at this clock, and a period that has begun ends with it.
+    fn end(&mut self, clock: u64) {
+        if !self.begins_period(clock) {
+            self.end_period();
+        }
+    }
+
+    fn is_used_up(&self) -> bool {
+        match self.quota_ms {
+            Some(quota) => u64::from(quota) <= self.used,
+            None => false,
+        }
+    }
+
+    fn begins_period(&self, clock: u64) -> bool {
+        clock % u64::from(self.period_ms.max(1)) == 0
+    }
+
+    fn end_period(&mut self) {
+        self.periods = self.periods.saturating_add(1);
+        self.most = self.most.max(self.used);
+        if self.is_used_up() {
+            self.throttled_periods = self.throttled_periods.saturating_add(1);
+        }
+        self.used = 0;
+    }
+}
+
+/// What became of the quotas of all groups.
+#[derive(Drop)]
+pub struct Quotas {
+    pub groups: Vec<QuotaFigures>,
+    /// Whether a group has a quota; where none has, nothing is counted.
+    are_some: bool,
+}
+
+impl Quotas {
+    /// Nobody has run yet.
+    pub(crate) fn new(alloc: Global, workload: &Workload) -> Result<Quotas, AllocError> {
+        let mut groups = Vec::with_capacity(alloc, workload.groups().len())?;
+        for group in workload.groups() {
+            groups.push(QuotaFigures {
+                parent: group.parent,
+                quota_ms: group.quota_ms,
+                period_ms: group.period_ms,
+                used: 0,
+                most: 0,
+                periods: 0,
+                throttled_periods: 0,
+                throttled: 0,
+            })?;
+        }
+        let are_some = groups.iter().any(|group| group.quota_ms.is_some());
+        Ok(Quotas { groups, are_some })
+    }
+
+    /// Whether a group has a quota.
+    pub fn are_some(&self) -> bool {
+        let are_some = self.are_some;
+        are_some
+    }
+
+    /// A task of the group ran for a millisecond.
+    pub(crate) fn charge(&mut self, group: u32) {
+        if !self.are_some {
+            return;
+        }
+        let mut at = Some(group);
+        for _ in 0..MAX_DEPTH {
+            at = self.charge_one(at);
+        }
+    }
+
+    /// Charges a group. The answer is its parent.
+    fn charge_one(&mut self, group: Option<u32>) -> Option<u32> {
+        let group = self.groups.get_mut(group? as usize)?;
+        group.used = group.used.saturating_add(1);
+        group.parent
+    }
+
+    /// A millisecond has passed, and the clock comes to this.
+    pub(crate) fn pass(&mut self, clock: u64) {
+        if !self.are_some {
+            return;
+        }
+        for group in self.groups.iter_mut() {
+            group.pass(clock);
+        }
+    }
+
+    /// The run ends at this clock.
+    pub(crate) fn end(&mut self, clock: u64) {
+        for group in self.groups.iter_mut() {
+            group.end(clock);
+        }
+    }
+}

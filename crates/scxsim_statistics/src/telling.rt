@@ -1,0 +1,148 @@
+ghost use Rattle.std.specs.Prelude.{◌≡◌, ◌++◌, ℕ, List, true, Err, IfOk, IfErr, OnOk, OnErr};
+ghost use Rattle.std.specs.Io.KnownBytes.{Appends};
+ghost use Rattle.scxsim_output.specs.Output.{HasFailed};
+ghost use Rattle.scxsim_commands.specs.Outcome.{IfRefused, IsRefused};
+ghost use Rattle.scxsim_simulation.specs.Runs.{IsCause};
+ghost use Rattle.scxsim_statistics.specs.Figures.{tables, values, AreOfTexts};
+
+use crate::gathering::{Figures, gather};
+use crate::listing::{COLUMNS, write_list};
+use crate::tables::{TASKS, write_tables};
+use scxsim_commands::{Fault, Refusal};
+use scxsim_output::{Failed, Out, write_all};
+use scxsim_simulation::{Listener, prepare};
+use scxsim_trace::Names;
+use std::alloc::{AllocError, Global};
+
+impl Figures {
+    pub(crate) fn task_name(&self, task: u16) -> &str {
+        self.workload.task(task)
+    }
+
+    pub(crate) fn group_name(&self, group: u32) -> &str {
+        self.workload.group(group)
+    }
+}
+
+/// Writes tables of the figures of the run that the texts of a policy file and of a workload file stand for.
+/// The answer is true.
+///
+/// # Errors
+///
+/// The texts are refused, or memory runs out, and then nothing is written, or writing the tables fails.
+pub fn stats<L: Listener, W: Out>(
+    alloc: Global,
+    policy: &str,
+    workload: &str,
+    listener: &mut L,
+    out: &mut W,
+) -> Result<bool, Fault>
+    ensures done { IfOk result (λ answer. (answer ≡ true) × (rows : List ℕ)
+        × Appends (W.contents out.old) (W.contents out.new) (tables rows)) }
+    ensures unfailed { OnOk result (W.failure_count out.new ≡ W.failure_count out.old) }
+
+    // A refusal has its cause in the texts, and comes before any byte is written.
+    ensures refused { IfRefused result (IsCause policy.now workload.now) }
+    ensures quiet { IsRefused result → out.new ≡ out.old }
+    ensures counted { result ≡ Err Fault.WriteFailed
+        → HasFailed (W.failure_count out.old) (W.failure_count out.new) }
+{
+    let rows = tables_of(alloc, policy, workload, listener)?;
+    write_rows(TASKS, rows.as_str(), out)?;
+    Ok(true)
+}
+
+/// Writes the same figures as comma-separated values. The answer is true.
+///
+/// # Errors
+///
+/// The texts are refused, or memory runs out, and then nothing is written, or writing the values fails.
+pub fn stats_csv<L: Listener, W: Out>(
+    alloc: Global,
+    policy: &str,
+    workload: &str,
+    listener: &mut L,
+    out: &mut W,
+) -> Result<bool, Fault>
+    ensures done { IfOk result (λ answer. (answer ≡ true) × (rows : List ℕ)
+        × Appends (W.contents out.old) (W.contents out.new) (values rows)) }
+    ensures unfailed { OnOk result (W.failure_count out.new ≡ W.failure_count out.old) }
+
+    // A refusal has its cause in the texts, and comes before any byte is written.
+    ensures refused { IfRefused result (IsCause policy.now workload.now) }
+    ensures quiet { IsRefused result → out.new ≡ out.old }
+    ensures counted { result ≡ Err Fault.WriteFailed
+        → HasFailed (W.failure_count out.old) (W.failure_count out.new) }
+{
+    let rows = values_of(alloc, policy, workload, listener)?;
+    write_rows(COLUMNS, rows.as_str(), out)?;
+    Ok(true)
+}
+
+/// Writes what stands above rows, and then the rows.
+fn write_rows<W: Out>(head: &str, rows: &str, out: &mut W) -> Result<(), Failed>
+    ensures ok { OnOk result
+        (Appends (W.contents out.old) (W.contents out.new) (head.now ++ rows.now)) }
+    ensures ok_failures { OnOk result (W.failure_count out.new ≡ W.failure_count out.old) }
+    ensures err_failures { OnErr result
+        (HasFailed (W.failure_count out.old) (W.failure_count out.new)) }
+{
+    write_all(out, head.as_bytes())?;
+    write_all(out, rows.as_bytes())
+}
+
+/// The rows of the tables. All memory is taken before the first byte is written.
+fn tables_of<L: Listener>(
+    alloc: Global,
+    policy: &str,
+    workload: &str,
+    listener: &mut L,
+) -> Result<String, Refusal>
+    ensures { IfErr result (IsCause policy.now workload.now) }
+{
+    let all = figures(alloc, policy, workload, listener)?;
+    Ok(table_rows(alloc, &all)?)
+}
+
+fn table_rows(alloc: Global, figures: &Figures) -> Result<String, AllocError> {
+    let mut rows = String::new(alloc);
+    write_tables(figures, &mut rows)?;
+    Ok(rows)
+}
+
+/// The rows of the values.
+fn values_of<L: Listener>(
+    alloc: Global,
+    policy: &str,
+    workload: &str,
+    listener: &mut L,
+) -> Result<String, Refusal>
+    ensures { IfErr result (IsCause policy.now workload.now) }
+{
+    let all = figures(alloc, policy, workload, listener)?;
+    Ok(value_rows(alloc, &all)?)
+}
+
+fn value_rows(alloc: Global, figures: &Figures) -> Result<String, AllocError> {
+    let mut rows = String::new(alloc);
+    write_list(figures, &mut rows)?;
+    Ok(rows)
+}
+
+/// The figures of the run that the texts of a policy file and of a workload file stand for.
+///
+/// # Errors
+///
+/// The texts are refused, or memory runs out.
+pub fn figures<L: Listener>(
+    alloc: Global,
+    policy: &str,
+    workload: &str,
+    listener: &mut L,
+) -> Result<Figures, Refusal>
+    ensures of_texts { IfOk result (AreOfTexts policy.now workload.now) }
+    ensures refused { IfErr result (IsCause policy.now workload.now) }
+{
+    let run = prepare(alloc, policy, workload)?;
+    Ok(gather(alloc, run, listener)?)
+}

@@ -1,0 +1,113 @@
+-- How far a run has come, one event after another.
+use Rattle.std.proofs.Common.{◌≡◌, Bool, true, false, List, [], ◌∷◌, ◌++◌, None, refl, sym, ap, subst, ◌∙◌, append_assoc}
+use Rattle.std.proofs.lemmas.List.{append-nil}
+use Rattle.scx_sched_world.specs.declared.notes.Note.{Note}
+use Rattle.scx_sched_machine.specs.declared.events.Event.{Event}
+use Rattle.scx_sched_machine.specs.Notes.{Takes}
+use Rattle.scx_sched.specs.Sim.{SimState, after_event, notes_of}
+use Rattle.scx_sched.specs.Once.{IsOnce}
+use Rattle.scx_sched.specs.Waits.{IsTimely, HasWaits}
+use Rattle.scx_sched.specs.Usages.{AreBounded}
+use Rattle.scx_load_driver.specs.Runs.{stepped_all, notes_of_all}
+use Rattle.scxsim_trace.specs.Runs.{IsInOrder, GoesWell, StaysInOrder, GoesThrough}
+
+-- the notes of two lists of events, one behind the other
+pub notes_of_all-append : (s : SimState) (es fs : List Event) → notes_of_all s (es ++ fs) ≡ notes_of_all s es ++ notes_of_all (stepped_all s es) fs
+notes_of_all-append s [] fs = refl
+notes_of_all-append s (e ∷ es) fs =
+    ap (λ ns. notes_of s e ++ ns) (notes_of_all-append (after_event s e) es fs) ∙ sym (append_assoc (notes_of s e) (notes_of_all (after_event s e) es) (notes_of_all (stepped_all (after_event s e) es) fs))
+
+-- notes, and then more of them
+pub takes_both : {S : Type 0} (takes : S → Note → S → Type 0) (ns ms : List Note) (a b c : S) → Takes takes a ns b → Takes takes b ms c → Takes takes a (ns ++ ms) c
+takes_both {S} takes [] ms a b c first next = let P : S → Type 0 = λ x. Takes takes x ms c in subst P first next
+takes_both takes (n ∷ ns) ms a b c (u, one, rest) next = (u, one, takes_both takes ns ms u b c rest next)
+
+-- what a machine says of itself
+pub in_order : (s : SimState) → IsOnce None s.state.world → HasWaits None s.state.world → IsTimely s.state → AreBounded s.state.world → IsInOrder s
+in_order s once counted timely bounded = record { once = once; counted = counted; timely = timely; bounded = bounded }
+
+-- ---- up to some event
+
+-- what is left leads on to an end of the whole run
+abbrev pub HasGone : {S : Type 0} → (S → Note → S → Type 0) → (S → Bool) → List Event → SimState → S → List Event → SimState → S → Type 0
+HasGone {S} takes has_failed events s a rest t b =
+    (u : SimState) (c : S) → GoesThrough takes has_failed rest t b u c → GoesThrough takes has_failed events s a u c
+
+-- a test doesn't both hold and fail
+pub differ : (f : Bool) → f ≡ true → f ≡ false → ⊥
+differ true x y = absurd (cc)
+differ false x y = absurd (cc)
+
+-- one event, behind which the sink hasn't failed
+pub gone_further : {S : Type 0} (takes : S → Note → S → Type 0) (has_failed : S → Bool) (events rest : List Event) (later : SimState → List Event) (s t u : SimState) (a b c : S) (e : Event)
+    → HasGone takes has_failed events s a rest t b → IsInOrder t → rest ≡ e ∷ later (after_event t e) → u ≡ after_event t e → Takes takes b (notes_of t e) c → GoesWell t e → has_failed c ≡ false
+    → HasGone takes has_failed events s a (later u) u c
+gone_further {S} takes has_failed events rest later s t u a b c e gone now next state notes well going v d more =
+    let P : SimState → Type 0 = λ x. GoesThrough takes has_failed (later x) x c v d in
+    let Q : List Event → Type 0 = λ es. GoesThrough takes has_failed es t b v d in
+    let failed : has_failed c ≡ true → (v ≡ after_event t e) × (d ≡ c) × IsInOrder (after_event t e) = λ f. absurd (differ (has_failed c) f going) in
+    gone v d (subst Q (sym next) (c, notes, now, well, failed, λ _. subst P state more))
+
+-- one event, behind which the sink has failed
+pub gone_until : {S : Type 0} (takes : S → Note → S → Type 0) (has_failed : S → Bool) (events rest later : List Event) (s t u : SimState) (a b c : S) (e : Event)
+    → HasGone takes has_failed events s a rest t b → IsInOrder t → rest ≡ e ∷ later → u ≡ after_event t e → Takes takes b (notes_of t e) c → GoesWell t e → IsInOrder u → has_failed c ≡ true
+    → GoesThrough takes has_failed events s a u c
+gone_until {S} takes has_failed events rest later s t u a b c e gone now next state notes well behind failed =
+    let P : SimState → Type 0 = λ x. IsInOrder x in
+    let Q : List Event → Type 0 = λ es. GoesThrough takes has_failed es t b u c in
+    let going : has_failed c ≡ false → GoesThrough takes has_failed later (after_event t e) c u c = λ f. absurd (differ (has_failed c) failed f) in
+    gone u c (subst Q (sym next) (c, notes, now, well, (λ _. (state, refl, subst P state behind)), going))
+
+-- no event is left
+pub gone_to_end : {S : Type 0} (takes : S → Note → S → Type 0) (has_failed : S → Bool) (events rest : List Event) (s t : SimState) (a b : S)
+    → HasGone takes has_failed events s a rest t b → IsInOrder t → rest ≡ [] → GoesThrough takes has_failed events s a t b
+gone_to_end takes has_failed events rest s t a b gone now none =
+    let Q : List Event → Type 0 = λ es. GoesThrough takes has_failed es t b t b in
+    gone t b (subst Q (sym none) (refl, refl, now))
+
+-- ---- what it comes to
+
+-- the events that were done, and those behind a failure
+pub record HasDone {S : Type 0} (takes : S → Note → S → Type 0) (has_failed : S → Bool) (events : List Event) (s : SimState) (a : S) (t : SimState) (b : S) : Type 0 where
+  pub done : List Event
+  pub rest : List Event
+  pub whole : events ≡ done ++ rest
+  pub state : t ≡ stepped_all s done
+  pub in_order : StaysInOrder s done
+  pub notes : Takes takes a (notes_of_all s done) b
+  pub all : has_failed b ≡ false → rest ≡ []
+
+-- of events that are gone through the first ones were taken, and all unless the sink has failed
+pub what_is_done : {S : Type 0} (takes : S → Note → S → Type 0) (has_failed : S → Bool) (events : List Event) (s : SimState) (a : S) (t : SimState) (b : S)
+    → GoesThrough takes has_failed events s a t b → HasDone takes has_failed events s a t b
+what_is_done takes has_failed [] s a t b (state, sink, now) =
+    record { done = []; rest = []; whole = refl; state = state; in_order = now; notes = sink; all = λ _. refl }
+what_is_done {S} takes has_failed (e ∷ es) s a t b (c, notes, now, well, ends, goes) = by_failure (has_failed c) refl (λ x. what_is_done takes has_failed es (after_event s e) c t b (goes x))
+  where
+    by_failure : (f : Bool) → has_failed c ≡ f → (has_failed c ≡ false → HasDone takes has_failed es (after_event s e) c t b) → HasDone takes has_failed (e ∷ es) s a t b
+    by_failure true x further =
+        let end = ends x in
+        let sink = end.1 in
+        let P : S → Type 0 = λ y. Takes takes a (notes_of s e ++ []) y in
+        let none : has_failed b ≡ false → es ≡ [] = λ y. absurd (differ (has_failed c) x (sym (ap has_failed sink) ∙ y)) in
+        record { done = e ∷ []; rest = es; whole = refl; state = end.0; in_order = (now, well, end.2); notes = subst P (sym sink) (takes_both takes (notes_of s e) [] a c c notes refl); all = none }
+    by_failure false x further =
+        let more = further x in
+        record {
+          done = e ∷ more.done;
+          rest = more.rest;
+          whole = ap (λ fs. e ∷ fs) more.whole;
+          state = more.state;
+          in_order = (now, well, more.in_order);
+          notes = takes_both takes (notes_of s e) (notes_of_all (after_event s e) more.done) a c b notes more.notes;
+          all = more.all;
+        }
+
+-- where the sink hasn't failed, all events
+pub done_all : {S : Type 0} (takes : S → Note → S → Type 0) (has_failed : S → Bool) (events : List Event) (s : SimState) (a : S) (t : SimState) (b : S)
+    → GoesThrough takes has_failed events s a t b → has_failed b ≡ false → (t ≡ stepped_all s events) × StaysInOrder s events
+done_all takes has_failed events s a t b ran fine =
+    let h = what_is_done takes has_failed events s a t b ran in
+    let all : h.done ≡ events = sym (h.whole ∙ ap (λ es. h.done ++ es) (h.all fine) ∙ append-nil h.done) in
+    let P : List Event → Type 0 = λ es. StaysInOrder s es in
+    (h.state ∙ ap (stepped_all s) all, subst P all h.in_order)

@@ -1,0 +1,67 @@
+-- What becomes of a list of events and of a sink: up to where the sink fails.
+use Rattle.std.specs.Prelude.{◌≡◌, Bool, true, false, List, [], ◌∷◌, ◌++◌, None, Option, ℕ}
+use Rattle.std.specs.Io.KnownBytes.{Appends}
+use Rattle.scxsim_output.specs.Output.{AppendsBeginning}
+use Rattle.scx_sched_world.specs.declared.notes.Note.{Note}
+use Rattle.scx_sched_machine.specs.declared.events.Event.{Event}
+use Rattle.scx_sched_machine.specs.Notes.{Takes}
+use Rattle.scx_sched_machine.specs.Callbacks.{AreAnswered}
+use Rattle.scx_sched.specs.Sim.{SimState, refusal, after_event, notes_of, calls_of}
+use Rattle.scx_sched.specs.Decided.{Follows}
+use Rattle.scx_sched.specs.Once.{IsOnce}
+use Rattle.scx_sched.specs.Waits.{IsTimely, HasWaits}
+use Rattle.scx_sched.specs.Usages.{AreBounded}
+use Rattle.scx_load_driver.specs.Runs.{stepped_all, notes_of_all}
+use Rattle.scxsim_trace.specs.Lines.{NameLists, note_lines}
+
+-- ---- what holds of a machine all along
+
+-- between two events each runnable task is in one place, each wait is counted, none is late, and no
+-- group with a quota has used much more than that
+pub record IsInOrder (s : SimState) : Type 0 where
+  pub once : IsOnce None s.state.world
+  pub counted : HasWaits None s.state.world
+  pub timely : IsTimely s.state
+  pub bounded : AreBounded s.state.world
+
+-- an event does what it alone decides, or is refused and changes nothing, and each callback that
+-- is called comes to an answer
+abbrev pub GoesWell : SimState → Event → Type 0
+GoesWell s e = AreAnswered (calls_of s e) × Follows (refusal s e) s e (after_event s e)
+
+-- so it is at first and behind each event, and each event goes well
+abbrev pub StaysInOrder : SimState → List Event → Type 0
+StaysInOrder s [] = IsInOrder s
+StaysInOrder s (e ∷ es) = IsInOrder s × GoesWell s e × StaysInOrder (after_event s e) es
+
+-- ---- up to a failure
+
+-- The machine takes these events and the sink their notes, one event after another, up to the end
+-- or to the first event behind which the sink has failed.
+abbrev pub GoesThrough :
+    {S : Type 0}
+    → (S → Note → S → Type 0) → (S → Bool) → List Event → SimState → S → SimState → S → Type 0
+GoesThrough takes has_failed [] s a t b = (t ≡ s) × (b ≡ a) × IsInOrder s
+GoesThrough {S} takes has_failed (e ∷ es) s a t b =
+    (c : S) × Takes takes a (notes_of s e) c × IsInOrder s × GoesWell s e
+    × (has_failed c ≡ true → (t ≡ after_event s e) × (b ≡ c) × IsInOrder (after_event s e))
+    × (has_failed c ≡ false → GoesThrough takes has_failed es (after_event s e) c t b)
+
+-- The lines of these events are written whole, and of those of the next one a beginning.
+pub record IsCutIn (names : NameLists) (s : SimState) (done : List Event) (e : Event)
+    (old new : Option (List ℕ)) : Type 0 where
+  pub between : Option (List ℕ)
+  pub whole : Appends old between (note_lines names (notes_of_all s done))
+  pub cut : AppendsBeginning between new (note_lines names (notes_of (stepped_all s done) e))
+
+-- The machine takes events up to the first one of which a line isn't written whole, and
+-- none behind it.
+pub record StopsAtFailure (names : NameLists) (events : List Event) (s t : SimState)
+    (old new : Option (List ℕ)) : Type 0 where
+  pub done : List Event
+  pub event : Event
+  pub rest : List Event
+  pub whole : events ≡ done ++ event ∷ rest
+  pub state : t ≡ stepped_all s (done ++ event ∷ [])
+  pub in_order : StaysInOrder s (done ++ event ∷ [])
+  pub lines : IsCutIn names s done event old new

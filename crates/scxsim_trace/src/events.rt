@@ -1,0 +1,27 @@
+ghost use Rattle.std.specs.Prelude.{◌≡◌, [], ◌∷◌, List, IfSome, IfNone};
+ghost use Rattle.scx_sched_machine.specs.declared.events.Event.{Event};
+ghost use Rattle.scx_sched.specs.Sim.{SimState, after_event};
+ghost use Rattle.scx_load_driver.specs.Driver as driver;
+
+use scx_load_driver::Driver;
+use scx_sched::{Event, Sim};
+
+/// Events for a machine, one after another.
+pub trait Events {
+    // What is still to come, for a machine in that state.
+    ghost remaining: { Self → SimState → List Event };
+
+    /// The event that comes next, for a machine that took exactly the events before it; none at the end.
+    fn next(&mut self, sim: &Sim) -> Option<Event>
+        ensures next { IfSome result (λ event. remaining self.old sim.now
+            ≡ event ∷ remaining self.new (after_event sim.now event)) }
+        ensures end { IfNone result (remaining self.old sim.now ≡ []) };
+}
+
+impl Events for Driver {
+    ghost remaining = { driver.remaining };
+
+    fn next(&mut self, sim: &Sim) -> Option<Event> {
+        Driver::next(self, sim)
+    }
+}
