@@ -37,7 +37,7 @@ use Rattle.scx_sched_machine.specs.Put.{enters, enqueue_choice, enters_builtin, 
 use Rattle.scx_sched_machine.specs.Events.{insert_or_put}
 use Rattle.scx_sched_machine.specs.Filling.{fill}
 use Rattle.scx_sched_machine.specs.Parking.{park, park_front, throttled_front, park_then, park_fronts, clear, in_reach, supply, let_go_one, let_go_from, let_all_go}
-use Rattle.scx_sched_machine.specs.Cycle.{has_local, after_dispatch, asks_again, tries, stopping, running_on, leave, started_if, start as run_front, rest, swap, swap_or_rest, builtin_dispatch, builtin_fill, builtin_ask, builtin_cycle, start_or_cycle, pick, pick_or_rest, conclude, ask, seek, look, cycling, cycle}
+use Rattle.scx_sched_machine.specs.Cycle.{has_local, after_dispatch, asks_again, tries, after_stopping, after_running, leave, started_if, start as run_front, rest, swap, swap_or_rest, builtin_dispatch, builtin_fill, builtin_ask, builtin_cycle, start_or_cycle, pick, pick_or_rest, conclude, ask, seek, look, cycling, cycle}
 use Rattle.scx_sched_machine.specs.Start.{blank, init_ending, bad_answer, ok_unless, after_init, enable_ending, has_failed, enable, then_enable, after_enables, ok_if, all_enabled, first_state}
 use Rattle.scx_sched_machine.proofs.Unchanged.{keeps_if}
 
@@ -153,13 +153,13 @@ module _ (h : Hierarchy) (n c : ℕ) where
 
   -- ---- a cycle
 
-  pub like_stopping : (s : State) (d t x : ℕ) → IsLike h n c s.world → IsLike h n c (stopping s d t x).state.world
-  unfolding stopping
+  pub like_stopping : (s : State) (d t x : ℕ) → IsLike h n c s.world → IsLike h n c (after_stopping s d t x).state.world
+  unfolding after_stopping
   like_stopping s d t x i =
       keeps_if (λ (r : Stepped). IsLike h n c r.state.world) (is_ejected s) (stays (with_world s (after_charge s.world t))) (call_back s callback.Stopping (task_and_number t x) t d) (like_task s.world t _ i) (like_call_back s callback.Stopping (task_and_number t x) t d i)
 
-  like_running_on : (s : State) (d t : ℕ) → IsLike h n c s.world → IsLike h n c (running_on s d t).state.world
-  unfolding running_on
+  like_running_on : (s : State) (d t : ℕ) → IsLike h n c s.world → IsLike h n c (after_running s d t).state.world
+  unfolding after_running
   like_running_on s d t i =
       keeps_if (λ (r : Stepped). IsLike h n c r.state.world) (is_ejected s) (stays (with_world s (after_catch_up s.world t))) (call_back s callback.Running (one_task t) t d) i (like_call_back s callback.Running (one_task t) t d i)
 
@@ -269,7 +269,7 @@ module _ (h : Hierarchy) (n c : ℕ) where
   like_leave s d None i = i
   like_leave s d (Some t) i =
       let off = with_world s (after_stop s.world d t) in
-      like_put (stopping off d t 1).state t d 0 (like_stopping off d t 1 (like_stopped s.world d t i))
+      like_put (after_stopping off d t 1).state t d 0 (like_stopping off d t 1 (like_stopped s.world d t i))
 
   like_swap : (s : State) (d : ℕ) (p : Option ℕ) → IsLike h n c s.world → IsLike h n c (swap s d p).state.world
   unfolding swap

@@ -11,7 +11,7 @@ use Rattle.scx_sched_world.specs.Tasks.{after_wake, after_sleep, after_leave, af
 use Rattle.scx_sched_machine.specs.Steps.{State, Stepped, with_world, stays, one_after_other}
 use Rattle.scx_sched_machine.specs.Callbacks.{acting, call_back, answered_by, task_cpu_and_0}
 use Rattle.scx_sched_machine.specs.Parking.{park, let_all_go}
-use Rattle.scx_sched_machine.specs.Cycle.{stopping, cycle}
+use Rattle.scx_sched_machine.specs.Cycle.{after_stopping, cycle}
 use Rattle.scx_sched_machine.specs.Events.{target, insert_or_put, settle, select, wake, sleep_from_cpu, sleep_from, sleep, throttle, expire, count_down, tick_of, tick, overdue, eject_if_stalled, clock}
 use Rattle.scx_sched_machine.proofs.Unchanged.{keeps_if}
 use Rattle.scx_load_driver.proofs.Alike.{IsTreeLike, IsLike, like_eject, like_call_back, like_stopping, like_settled, like_park, like_let_all_go, like_cycle}
@@ -39,7 +39,7 @@ module _ (h : Hierarchy) (n c : ℕ) where
   unfolding throttle
   like_throttle s d t i =
       let off = with_world s (after_stop s.world d t) in
-      let r = (stopping off d t 1).state in
+      let r = (after_stopping off d t 1).state in
       let away : IsLike h n c off.world = (i.0, length-set s.world.tasks t _ ∙ i.1, length-set s.world.cpus d None ∙ i.2) in
       like_cycle h n c (park r t).state d None true (like_park h n c r t (like_stopping h n c off d t 1 away))
 
@@ -82,7 +82,7 @@ module _ (h : Hierarchy) (n c : ℕ) where
   unfolding sleep_from_cpu
   like_sleep_from_cpu s t d l i =
       let off = with_world s (after_stop s.world d t) in
-      let r = stopping off d t 0 in
+      let r = after_stopping off d t 0 in
       let x : IsLike h n c r.state.world = like_stopping h n c off d t 0 (i.0, length-set s.world.tasks t _ ∙ i.1, length-set s.world.cpus d None ∙ i.2) in
       like_cycle (tree.with_task h t false) n c (with_world r.state (after_sleep r.state.world t)) d None true (like_asleep r.state.world t l x)
 

@@ -31,7 +31,7 @@ use Rattle.scx_sched_machine.specs.Callbacks.{call_ending, after_callback, answe
 use Rattle.scx_sched_machine.specs.Put.{enters, enqueue_choice, enters_builtin, comes_in, put}
 use Rattle.scx_sched_machine.specs.Filling.{fill}
 use Rattle.scx_sched_machine.specs.Parking.{park, park_front, throttled_front, park_fronts, clear, in_reach, supply, let_go_one, let_go_from, let_all_go}
-use Rattle.scx_sched_machine.specs.Cycle.{has_local, after_dispatch, asks_again, tries, stopping, running_on, leave, started_if, start, rest, swap, swap_or_rest, builtin_dispatch, builtin_fill, builtin_ask, builtin_cycle, start_or_cycle, pick, pick_or_rest, conclude, ask, seek, look, cycling, cycle}
+use Rattle.scx_sched_machine.specs.Cycle.{has_local, after_dispatch, asks_again, tries, after_stopping, after_running, leave, started_if, start, rest, swap, swap_or_rest, builtin_dispatch, builtin_fill, builtin_ask, builtin_cycle, start_or_cycle, pick, pick_or_rest, conclude, ask, seek, look, cycling, cycle}
 use Rattle.scx_sched_machine.specs.Events.{target, insert_or_put, settle, select, wake, sleep_from_cpu, sleep_from, sleep, throttle, expire, count_down, tick_of, tick}
 use Rattle.scx_sched_machine.proofs.Unchanged.{keeps_if}
 use Rattle.scx_sched.specs.Causes.{IsLast}
@@ -336,14 +336,14 @@ honest_tries (suc j) s c p =
 
 -- ---- on and off a processor
 
-honest_stopping : (s : State) (c t n : ℕ) → IsHonest s (stopping s c t n)
-unfolding stopping
+honest_stopping : (s : State) (c t n : ℕ) → IsHonest s (after_stopping s c t n)
+unfolding after_stopping
 honest_stopping s c t n =
     keeps_if (IsHonest s) (is_ejected s) (stays (with_world s (after_charge s.world t))) (call_back s callback.Stopping (task_and_number t n) t c)
     (honest_plain s (after_charge s.world t) [] (refl, refl, refl, refl)) (honest_call_back s callback.Stopping (task_and_number t n) t c (λ e. absurd (cc)))
 
-honest_running_on : (s : State) (c t : ℕ) → IsHonest s (running_on s c t)
-unfolding running_on
+honest_running_on : (s : State) (c t : ℕ) → IsHonest s (after_running s c t)
+unfolding after_running
 honest_running_on s c t =
     keeps_if (IsHonest s) (is_ejected s) (stays (with_world s (after_catch_up s.world t))) (call_back s callback.Running (one_task t) t c)
     (honest_plain s (after_catch_up s.world t) [] (refl, refl, refl, refl)) (honest_call_back s callback.Running (one_task t) t c (λ e. absurd (cc)))
@@ -354,7 +354,7 @@ honest_leave s c None = honest_stays s
 honest_leave s c (Some t) =
     let w = after_stop s.world c t in
     let off = with_world s w in
-    let r = stopping off c t 1 in
+    let r = after_stopping off c t 1 in
     let ns = note_now s.world (note.Stop t c) ∷ [] in
     honest_from s w (after ns (one_after_other r (put r.state t c 0))) (refl, refl, refl, refl) (honest_after off ns (one_after_other r (put r.state t c 0)) (honest_joined off r (put r.state t c 0) (honest_stopping off c t 1) (honest_put r.state t c 0)))
 
@@ -367,7 +367,7 @@ honest_start s c = go (front_of s.world.queues (local_on c))
     go (Some t) =
         let w = started_at (Some t) s.world c in
         let ns = note_now s.world (note.Run t c) ∷ [] in
-        honest_from s w (after ns (running_on (with_world s w) c t)) (refl, refl, refl, refl) (honest_after (with_world s w) ns (running_on (with_world s w) c t) (honest_running_on (with_world s w) c t))
+        honest_from s w (after ns (after_running (with_world s w) c t)) (refl, refl, refl, refl) (honest_after (with_world s w) ns (after_running (with_world s w) c t) (honest_running_on (with_world s w) c t))
 
 honest_rest : (s : State) (c : ℕ) (p : Option ℕ) (ran : Bool) → IsHonest s (rest s c p ran)
 unfolding rest
@@ -478,7 +478,7 @@ now_asleep w t known = go (nat_lt t (length w.tasks)) refl
 
 -- once it has left its processor
 abbrev pub stopped_for_sleep : State → ℕ → ℕ → Stepped
-stopped_for_sleep s t c = stopping (with_world s (after_stop s.world c t)) c t 0
+stopped_for_sleep s t c = after_stopping (with_world s (after_stop s.world c t)) c t 0
 
 honest_sleep_from_cpu : (s : State) (t c : ℕ) → t < length (stopped_for_sleep s t c).state.world.tasks → IsHonest (state_with_tree s (with_task s.world.tree t false)) (sleep_from_cpu s t c)
 unfolding sleep_from_cpu
@@ -493,7 +493,7 @@ honest_sleep_from_cpu s t c known =
     off = with_world s (after_stop s.world c t)
 
     r : Stepped
-    r = stopping off c t 0
+    r = after_stopping off c t 0
 
     u : WorldState
     u = after_sleep r.state.world t
@@ -527,7 +527,7 @@ unfolding throttle
 honest_throttle s c t =
     let w = after_stop s.world c t in
     let off = with_world s w in
-    let r = stopping off c t 1 in
+    let r = after_stopping off c t 1 in
     let p = park r.state t in
     let y = cycle p.state c None true in
     let ns = note_now s.world (note.Stop t c) ∷ [] in

@@ -15,7 +15,7 @@ use Rattle.scx_sched_machine.specs.Steps.{State, Stepped, one_after_other, stays
 use Rattle.scx_sched_machine.specs.Callbacks.{call_back, cpu_and_task}
 use Rattle.scx_sched_machine.specs.Filling.{fill}
 use Rattle.scx_sched_machine.specs.Parking.{park, park_front, throttled_front, park_fronts, clear, in_reach, supply}
-use Rattle.scx_sched_machine.specs.Cycle.{has_local, after_dispatch, asks_again, tries, stopping, leave, started_if, start as run_front, rest, swap, swap_or_rest, builtin_dispatch, builtin_fill, builtin_ask, builtin_cycle, start_or_cycle, pick, pick_or_rest, conclude, ask, seek, look, cycling, cycle}
+use Rattle.scx_sched_machine.specs.Cycle.{has_local, after_dispatch, asks_again, tries, after_stopping, leave, started_if, start as run_front, rest, swap, swap_or_rest, builtin_dispatch, builtin_fill, builtin_ask, builtin_cycle, start_or_cycle, pick, pick_or_rest, conclude, ask, seek, look, cycling, cycle}
 use Rattle.scx_sched_machine.proofs.Unchanged.{keeps_if}
 use Rattle.scx_sched.specs.Kept.{IsKeptBySteps}
 use Rattle.scx_sched.specs.Once.{IsSound}
@@ -142,7 +142,7 @@ module _ (n : ℕ) (I : ℕ → Option ℕ → List (Option ℕ) → WorldState 
   keeps_leave m on s c (Some t) l known runs h =
       let off = with_world s (after_stop s.world c t) in
       let l' : c < length (set on c None) = rw (length-set on c None) l in
-      let r = stopping off c t 1 in
+      let r = after_stopping off c t 1 in
       let x : I (m + 1) (Some t) (set on c None) r.state.world = keeps_stopping n I k.steps m (Some t) (set on c None) off c t 1 l' (k.steps.stopped m on s.world c t l known runs h) in
       (set on c None, keeps_put n I k.steps (m + 1) (set on c None) r.state t c 0 known l' x, l', get_or-set_same on c None None l)
 

@@ -20,7 +20,7 @@ use Rattle.scx_sched_machine.specs.declared.events.Refused.TheVariants.{AlreadyR
 use Rattle.scx_sched_machine.specs.Steps.{State, Stepped, with_world, stays, one_after_other}
 use Rattle.scx_sched_machine.specs.Callbacks.{acting, call_back, answered_by, task_cpu_and_0}
 use Rattle.scx_sched_machine.specs.Parking.{park, let_all_go}
-use Rattle.scx_sched_machine.specs.Cycle.{stopping, cycle}
+use Rattle.scx_sched_machine.specs.Cycle.{after_stopping, cycle}
 use Rattle.scx_sched_machine.specs.Events.{refusal, target, insert_or_put, settle, select, wake, sleep_from_cpu, sleep_from, sleep, throttle, expire, count_down, tick_of, tick, overdue, eject_if_stalled, clock, event_step}
 use Rattle.scx_sched_machine.proofs.Unchanged.{keeps_if}
 use Rattle.scx_sched.specs.Once.{runs, IsSound}
@@ -173,7 +173,7 @@ module _ (n : ℕ) (I : ℕ → Option ℕ → List (Option ℕ) → WorldState 
       l' = rw (length-set s.world.cpus c None) l
 
       r : Stepped
-      r = stopping (with_world s (after_stop s.world c t)) c t 0
+      r = after_stopping (with_world s (after_stop s.world c t)) c t 0
 
       d : State
       d = with_world r.state (after_sleep r.state.world t)
@@ -216,7 +216,7 @@ module _ (n : ℕ) (I : ℕ → Option ℕ → List (Option ℕ) → WorldState 
       off = with_world s (after_stop s.world c t)
 
       r : State
-      r = (stopping off c t 1).state
+      r = (after_stopping off c t 1).state
 
       down : I (m + 1) (Some t) on r.world
       down = keeps_stopping n I k.steps m (Some t) on off c t 1 l' h

@@ -19,7 +19,7 @@ use Rattle.scx_sched_machine.specs.Steps.{State, Stepped, with_world, stays, one
 use Rattle.scx_sched_machine.specs.Callbacks.{call_back, cpu_and_task}
 use Rattle.scx_sched_machine.specs.Filling.{fill}
 use Rattle.scx_sched_machine.specs.Parking.{park, park_front, throttled_front, park_fronts, clear, in_reach, supply}
-use Rattle.scx_sched_machine.specs.Cycle.{has_local, after_dispatch, asks_again, tries, stopping, leave, started_if, start as run_front, rest, swap, swap_or_rest, builtin_dispatch, builtin_fill, builtin_ask, builtin_cycle, start_or_cycle, pick, pick_or_rest, conclude, ask, seek, look, cycling, cycle}
+use Rattle.scx_sched_machine.specs.Cycle.{has_local, after_dispatch, asks_again, tries, after_stopping, leave, started_if, start as run_front, rest, swap, swap_or_rest, builtin_dispatch, builtin_fill, builtin_ask, builtin_cycle, start_or_cycle, pick, pick_or_rest, conclude, ask, seek, look, cycling, cycle}
 use Rattle.scx_sched_machine.specs.declared.events.Event.{Event}
 use Rattle.scx_sched_machine.specs.declared.events.Event.TheVariants.{Wake, Sleep, Tick, Clock, SetWeight}
 use Rattle.scx_sched_machine.specs.declared.events.Refused.TheVariants.{UnknownCpu}
@@ -301,7 +301,7 @@ tick_leaves n e s c l h idle = go (running s.world c) refl (ap (λ o. is_none o)
         let on = set v.world.cpus c None in
         let l' : c < length on = rw (length-set v.world.cpus c None) m in
         let off = with_world v (after_stop v.world c t) in
-        let r = (stopping off c t 1).state in
+        let r = (after_stopping off c t 1).state in
         let tree = tree_stopping n (IsFine n (e + 1)) (fine_steps n (e + 1)) (fine_inside n (e + 1)).sound c e (Some t) on off c t 1 l' x in
         cycle_leaves n (e + 1) c (e + 1) on (park r t).state None true l' tt (get_or-set_same v.world.cpus c None None m)
         (keeps_park n (IsFine n (e + 1)) (fine_inside n (e + 1)) (e + 1) on r t within (ap (λ k. limits.is_throttled k t) tree ∙ up) (keeps_stopping n (IsFine n (e + 1)) (fine_steps n (e + 1)) e (Some t) on off c t 1 l' x))

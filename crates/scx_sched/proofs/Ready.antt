@@ -23,7 +23,7 @@ use Rattle.scx_sched_machine.specs.Steps.{State, with_world, stays, is_ejected}
 use Rattle.scx_sched_machine.specs.Ejecting.{eject, ejected_for}
 use Rattle.scx_sched_machine.specs.Callbacks.{call_ending, acting, after_callback, fault_of, call_back, task_and_number}
 use Rattle.scx_sched_machine.specs.Put.{enters, enqueue_choice, enters_builtin, comes_in, put}
-use Rattle.scx_sched_machine.specs.Cycle.{stopping, leave}
+use Rattle.scx_sched_machine.specs.Cycle.{after_stopping, leave}
 use Rattle.scx_sched.specs.Kept.{IsKeptBySteps}
 use Rattle.scx_sched.specs.Once.{IsSound}
 use Rattle.scx_sched.proofs.Unchanged.{eject_sets}
@@ -62,8 +62,8 @@ module _ (n : ℕ) (I : ℕ → Option ℕ → List (Option ℕ) → WorldState 
       ready_ejected_for m hand on (fault_of b e) (after_callback s.policy e) (k.quiet m hand on e.outside (keeps_called n I k m hand on (acting s b) b a s.maps (at_callback s.world b t d) (k.begun m hand on s.world b t d l h)))
       (ready_calm c s.world (quiet e.outside) (calm_quiet s.world e.outside (calm_called (acting s b) b a s.maps s.world t d calm)) r)
 
-  ready_stopping : (m : ℕ) (hand : Option ℕ) (on : List (Option ℕ)) (s : State) (d t x : ℕ) → d < length on → I m hand on s.world → IsReady c s.world → IsReady c (stopping s d t x).state.world
-  unfolding stopping
+  ready_stopping : (m : ℕ) (hand : Option ℕ) (on : List (Option ℕ)) (s : State) (d t x : ℕ) → d < length on → I m hand on s.world → IsReady c s.world → IsReady c (after_stopping s d t x).state.world
+  unfolding after_stopping
   ready_stopping m hand on s d t x l h r = go (is_ejected s)
     where
       go : (b : Bool) → IsReady c (if b then stays (with_world s (after_charge s.world t)) else call_back s callback.Stopping (task_and_number t x) t d).state.world
@@ -94,7 +94,7 @@ module _ (n : ℕ) (I : ℕ → Option ℕ → List (Option ℕ) → WorldState 
       let l' : d < length (set on d None) = rw (length-set on d None) l in
       let away : I m (Some t) (set on d None) off.world = k.stopped m on s.world d t l known runs h in
       let first : IsReady c off.world = ready_same c s.world off.world (same_here _ s.world.queues s.world.queues refl) refl refl r in
-      ready_put (m + 1) (set on d None) (stopping off d t 1).state t d 0 l' (keeps_stopping n I k m (Some t) (set on d None) off d t 1 l' away) (ready_stopping m (Some t) (set on d None) off d t 1 l' away first)
+      ready_put (m + 1) (set on d None) (after_stopping off d t 1).state t d 0 l' (keeps_stopping n I k m (Some t) (set on d None) off d t 1 l' away) (ready_stopping m (Some t) (set on d None) off d t 1 l' away first)
 
   -- ---- the tree
 
@@ -110,8 +110,8 @@ module _ (n : ℕ) (I : ℕ → Option ℕ → List (Option ℕ) → WorldState 
       tree_ejected_for m hand on (fault_of b e) (after_callback s.policy e) (k.quiet m hand on e.outside (keeps_called n I k m hand on (acting s b) b a s.maps (at_callback s.world b t d) (k.begun m hand on s.world b t d l h)))
       ∙ (calm_called (acting s b) b a s.maps s.world t d calm).tree
 
-  pub tree_stopping : (m : ℕ) (hand : Option ℕ) (on : List (Option ℕ)) (s : State) (d t x : ℕ) → d < length on → I m hand on s.world → (stopping s d t x).state.world.tree ≡ s.world.tree
-  unfolding stopping
+  pub tree_stopping : (m : ℕ) (hand : Option ℕ) (on : List (Option ℕ)) (s : State) (d t x : ℕ) → d < length on → I m hand on s.world → (after_stopping s d t x).state.world.tree ≡ s.world.tree
+  unfolding after_stopping
   tree_stopping m hand on s d t x l h = go (is_ejected s)
     where
       go : (b : Bool) → (if b then stays (with_world s (after_charge s.world t)) else call_back s callback.Stopping (task_and_number t x) t d).state.world.tree ≡ s.world.tree

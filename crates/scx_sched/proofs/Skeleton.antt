@@ -22,7 +22,7 @@ use Rattle.scx_sched_machine.specs.Ejecting.{moves_over, eject, ejected_for}
 use Rattle.scx_sched_machine.specs.Callbacks.{call_ending, acting, after_callback, fault_of, call_back, one_task, task_and_number}
 use Rattle.scx_sched_world.specs.declared.call.Insert.{Insert}
 use Rattle.scx_sched_machine.specs.Put.{enters, enqueue_choice, enters_builtin, comes_in, put}
-use Rattle.scx_sched_machine.specs.Cycle.{stopping, running_on}
+use Rattle.scx_sched_machine.specs.Cycle.{after_stopping, after_running}
 use Rattle.scx_sched_machine.specs.Events.{insert_or_put}
 use Rattle.scx_sched_machine.proofs.Unchanged.{keeps_if}
 use Rattle.scx_sched.specs.Kept.{IsKeptBySteps, IsWanted, ForAny, Nowhere, Inserted}
@@ -84,8 +84,8 @@ module _ (n : ℕ) (I : ℕ → Option ℕ → List (Option ℕ) → WorldState 
         let e = call_ending (acting s b) b a s.maps (at_callback s.world b t c) in
         keeps_ejected_for (fault_of b e) (after_callback s.policy e) (k.quiet m hand on e.outside (keeps_called (acting s b) b a s.maps (at_callback s.world b t c) (k.begun m hand on s.world b t c l h)))
 
-    pub keeps_stopping : (s : State) (c t x : ℕ) → c < length on → I m hand on s.world → I (m + 1) hand on (stopping s c t x).state.world
-    unfolding stopping
+    pub keeps_stopping : (s : State) (c t x : ℕ) → c < length on → I m hand on s.world → I (m + 1) hand on (after_stopping s c t x).state.world
+    unfolding after_stopping
     keeps_stopping s c t x l h = go (is_ejected s) refl
       where
         r : Stepped
@@ -95,8 +95,8 @@ module _ (n : ℕ) (I : ℕ → Option ℕ → List (Option ℕ) → WorldState 
         go true out = k.charged m hand on s.world t out h
         go false force = k.more m hand on r.state.world (keeps_call_back s callback.Stopping (task_and_number t x) t c l h)
 
-    pub keeps_running_on : (s : State) (c t : ℕ) → c < length on → I m hand on s.world → I m hand on (running_on s c t).state.world
-    unfolding running_on
+    pub keeps_running_on : (s : State) (c t : ℕ) → c < length on → I m hand on s.world → I m hand on (after_running s c t).state.world
+    unfolding after_running
     keeps_running_on s c t l h =
         keeps_if (λ (r : Stepped). I m hand on r.state.world) (is_ejected s) (stays (with_world s (after_catch_up s.world t))) (call_back s callback.Running (one_task t) t c) (k.overtaken m hand on s.world t h) (keeps_call_back s callback.Running (one_task t) t c l h)
 

@@ -42,14 +42,14 @@ tries (suc n) s c p =
 -- ---- on and off a processor
 
 -- once a task has left its processor; the number says whether it stays runnable
-unfoldable pub stopping : State → ℕ → ℕ → ℕ → Stepped
-stopping s c t n =
+unfoldable pub after_stopping : State → ℕ → ℕ → ℕ → Stepped
+after_stopping s c t n =
     if is_ejected s then stays (with_world s (after_charge s.world t))
     else call_back s callback.Stopping (task_and_number t n) t c
 
 -- once a task has come to its processor
-unfoldable pub running_on : State → ℕ → ℕ → Stepped
-running_on s c t =
+unfoldable pub after_running : State → ℕ → ℕ → Stepped
+after_running s c t =
     if is_ejected s then stays (with_world s (after_catch_up s.world t))
     else call_back s callback.Running (one_task t) t c
 
@@ -57,7 +57,7 @@ running_on s c t =
 unfoldable pub leave : State → ℕ → Option ℕ → Stepped
 leave s c None = stays s
 leave s c (Some t) =
-    let r = stopping (with_world s (after_stop s.world c t)) c t 1 in
+    let r = after_stopping (with_world s (after_stop s.world c t)) c t 1 in
     after (note_now s.world (Stop t c) ∷ []) (one_after_other r (put r.state t c 0))
 
 -- that task, the front of the local queue, leaves it and runs; without one nothing is done
@@ -65,7 +65,7 @@ abbrev pub started_if : Option ℕ → State → ℕ → Stepped
 started_if None s c = stays s
 started_if (Some t) s c =
     after (note_now s.world (Run t c) ∷ [])
-    (running_on (with_world s (started_at (Some t) s.world c)) c t)
+    (after_running (with_world s (started_at (Some t) s.world c)) c t)
 
 -- the front of the local queue runs
 unfoldable pub start : State → ℕ → Stepped

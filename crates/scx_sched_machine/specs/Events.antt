@@ -18,7 +18,7 @@ use Rattle.scx_sched_machine.specs.Ejecting.{eject}
 use Rattle.scx_sched_machine.specs.Callbacks.{acting, call_back, answered_by, task_cpu_and_0}
 use Rattle.scx_sched_machine.specs.Put.{enters, put}
 use Rattle.scx_sched_machine.specs.Parking.{park, let_all_go}
-use Rattle.scx_sched_machine.specs.Cycle.{stopping, cycle}
+use Rattle.scx_sched_machine.specs.Cycle.{after_stopping, cycle}
 
 -- ---- refusals
 
@@ -79,7 +79,7 @@ wake s t =
 -- a task that runs leaves its processor, which looks for another
 unfoldable pub sleep_from_cpu : State → ℕ → ℕ → Stepped
 sleep_from_cpu s t c =
-    let r = stopping (with_world s (after_stop s.world c t)) c t 0 in
+    let r = after_stopping (with_world s (after_stop s.world c t)) c t 0 in
     after (note_now s.world (note.Stop t c) ∷ [])
     (one_after_other r (cycle (with_world r.state (after_sleep r.state.world t)) c None true))
 
@@ -96,7 +96,7 @@ sleep s t = after (note_now s.world (note.Sleep t) ∷ []) (sleep_from (cpu_of s
 -- looks for another
 unfoldable pub throttle : State → ℕ → ℕ → Stepped
 throttle s c t =
-    let r = stopping (with_world s (after_stop s.world c t)) c t 1 in
+    let r = after_stopping (with_world s (after_stop s.world c t)) c t 1 in
     let p = park r.state t in
     after (note_now s.world (note.Stop t c) ∷ [])
     (one_after_other r (one_after_other p (cycle p.state c None true)))

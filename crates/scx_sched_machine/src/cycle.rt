@@ -2,7 +2,7 @@ ghost use Rattle.std.specs.Prelude.{◌*◌};
 ghost use Rattle.scx_sched_machine.specs.Budgets.{HasRoom, ask_pushes, builtin_ask_pushes, builtin_cycle_pushes, builtin_dispatch_pushes, callback_pushes, cycle_pushes, dispatch_pushes, fill_pushes, leave_pushes, pick_pushes, swap_pushes};
 ghost use Rattle.scx_sched_machine.specs.Does.{Does};
 ghost use Rattle.scx_sched_machine.specs.Filling.{fill};
-ghost use Rattle.scx_sched_machine.specs.Cycle.{after_dispatch, tries, stopping, running_on, leave, start, rest, swap, swap_or_rest, builtin_dispatch, builtin_fill, builtin_ask, builtin_cycle, start_or_cycle, pick, pick_or_rest, conclude, ask, seek, look, cycle};
+ghost use Rattle.scx_sched_machine.specs.Cycle.{after_dispatch, tries, after_stopping, after_running, leave, start, rest, swap, swap_or_rest, builtin_dispatch, builtin_fill, builtin_ask, builtin_cycle, start_or_cycle, pick, pick_or_rest, conclude, ask, seek, look, cycle};
 
 use crate::callbacks::{cpu_and_task, one_task, task_and_number};
 use crate::machine::Machine;
@@ -25,7 +25,7 @@ impl Machine {
 
     /// Asks dispatch once, and then supplies the local queue.
     #[tactic(auto, unfolding(crate::specs::Cycle::after_dispatch), using(crate::proofs::Taking::takings))]
-    fn dispatch<S: Sink>(&mut self, cpu: u32, before: Option<u16>, sink: &mut S)
+    fn call_dispatch<S: Sink>(&mut self, cpu: u32, before: Option<u16>, sink: &mut S)
         requires { HasRoom dispatch_pushes self.old }
         ensures { Does S.takes dispatch_pushes (after_dispatch self.old cpu before)
             self.old sink.old self.new sink.new }
@@ -44,17 +44,23 @@ impl Machine {
         if left == 0 {
             return;
         }
-        self.dispatch(cpu, before, sink);
+        self.call_dispatch(cpu, before, sink);
         if self.asks_again(cpu) {
             self.tries(left - 1, cpu, before, sink);
         }
     }
 
     /// A task has left its processor. The number says whether it stays runnable.
-    #[tactic(auto, unfolding(crate::specs::Cycle::stopping), using(crate::proofs::Taking::takings))]
-    pub(crate) fn stopping<S: Sink>(&mut self, cpu: u32, task: u16, runnable: u64, sink: &mut S)
+    #[tactic(auto, unfolding(crate::specs::Cycle::after_stopping), using(crate::proofs::Taking::takings))]
+    pub(crate) fn call_stopping<S: Sink>(
+        &mut self,
+        cpu: u32,
+        task: u16,
+        runnable: u64,
+        sink: &mut S,
+    )
         requires { HasRoom callback_pushes self.old }
-        ensures { Does S.takes callback_pushes (stopping self.old cpu task runnable)
+        ensures { Does S.takes callback_pushes (after_stopping self.old cpu task runnable)
             self.old sink.old self.new sink.new }
     {
         if self.is_ejected() {
@@ -66,10 +72,10 @@ impl Machine {
     }
 
     /// A task has come to its processor.
-    #[tactic(auto, unfolding(crate::specs::Cycle::running_on), using(crate::proofs::Taking::takings))]
-    fn running_on<S: Sink>(&mut self, cpu: u32, task: u16, sink: &mut S)
+    #[tactic(auto, unfolding(crate::specs::Cycle::after_running), using(crate::proofs::Taking::takings))]
+    fn call_running<S: Sink>(&mut self, cpu: u32, task: u16, sink: &mut S)
         requires { HasRoom callback_pushes self.old }
-        ensures { Does S.takes callback_pushes (running_on self.old cpu task)
+        ensures { Does S.takes callback_pushes (after_running self.old cpu task)
             self.old sink.old self.new sink.new }
     {
         if self.is_ejected() {
@@ -89,7 +95,7 @@ impl Machine {
         if let Some(task) = before {
             sink.take(self.world.note(What::Stop(task, cpu)));
             self.world.stop(cpu, task);
-            self.stopping(cpu, task, 1, sink);
+            self.call_stopping(cpu, task, 1, sink);
             self.put(task, cpu, 0, sink);
         }
     }
@@ -103,7 +109,7 @@ impl Machine {
     {
         if let Some(task) = self.world.start(cpu) {
             sink.take(self.world.note(What::Run(task, cpu)));
-            self.running_on(cpu, task, sink);
+            self.call_running(cpu, task, sink);
         }
     }
 

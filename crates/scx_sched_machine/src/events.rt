@@ -197,7 +197,7 @@ impl Machine {
     {
         sink.take(self.world.note(What::Stop(task, cpu)));
         self.world.stop(cpu, task);
-        self.stopping(cpu, task, 0, sink);
+        self.call_stopping(cpu, task, 0, sink);
         self.world.sleep(task);
         self.cycle(cpu, None, true, sink);
     }
@@ -228,7 +228,7 @@ impl Machine {
     {
         sink.take(self.world.note(What::Stop(task, cpu)));
         self.world.stop(cpu, task);
-        self.stopping(cpu, task, 1, sink);
+        self.call_stopping(cpu, task, 1, sink);
         self.park(task, sink);
         self.cycle(cpu, None, true, sink);
     }

@@ -18,7 +18,7 @@ use Rattle.scx_sched_machine.specs.Put.{enters, enqueue_choice, enters_builtin, 
 use Rattle.scx_sched_machine.specs.Filling.{move_note, fill}
 use Rattle.scx_sched_machine.specs.Parking.{park, park_front, if_throttled, throttled_front, park_fronts, clear, in_reach, supply, FrontMayRun}
 use Rattle.scx_sched.proofs.Supplying.{park_fronts_from, clear_from, empty_no_front, throttled_is, front_is_free, len_park_front, reach_fill, reach_park_front}
-use Rattle.scx_sched_machine.specs.Cycle.{after_dispatch, tries, stopping, running_on, leave, started_if, start, rest, swap, swap_or_rest, builtin_dispatch, builtin_fill, builtin_ask, builtin_cycle, start_or_cycle, pick, pick_or_rest, conclude, ask, seek, look, cycling, cycle}
+use Rattle.scx_sched_machine.specs.Cycle.{after_dispatch, tries, after_stopping, after_running, leave, started_if, start, rest, swap, swap_or_rest, builtin_dispatch, builtin_fill, builtin_ask, builtin_cycle, start_or_cycle, pick, pick_or_rest, conclude, ask, seek, look, cycling, cycle}
 use Rattle.scx_sched_rules.specs.Cycles.{noting, silent, entering, enqueue_called, dispatch_called, gone_off, gone_on, HasStopped, Policy_hears, Is_charged, HasStarted, Policy_learns, Catches_up, Enters, For_builtin, Default, Held, Inserted, Puts, Fills, HasLocal, NoOther, Moves, Parks, ParksFronts, NoneLeft, OneMore, Supplies, Supplied, ParkedOne, FillsBuiltin, HasOne, Looked, Dispatches, Asks, Enough, Came, NothingMoved, Again, Leaves, Nobody, Stops, Starts, Empty, Front, Rests, Keeps, Idles, WasIdle, Swaps, SwapsOrRests, Swapped, Kept, CyclesBuiltin, Picks, Runs_front, Emptied, Ends, Anew, Picked, Rested, Seeks, Filled, Asked, Looks, Of_policy, Of_builtin, Cycles}
 
 -- ---- put
@@ -64,8 +64,8 @@ abbrev stopped_as : State → ℕ → ℕ → ℕ → Option Eject → Stepped
 stopped_as s c t n x = if is_some x then silent s (after_charge s.world t) else call_back s callback.Stopping (task_and_number t n) t c
 
 -- a task leaves its processor as it is computed
-pub stops : (s : State) (c t n : ℕ) → HasStopped s c t n (stopping s c t n)
-unfolding stopping
+pub stops : (s : State) (c t n : ℕ) → HasStopped s c t n (after_stopping s c t n)
+unfolding after_stopping
 stops s c t n = go s.world.ejected refl
   where
     go : (x : Option Eject) → s.world.ejected ≡ x → HasStopped s c t n (stopped_as s c t n x)
@@ -73,24 +73,24 @@ stops s c t n = go s.world.ejected refl
     go (Some x) e = Is_charged x e refl
 
 -- and in no other way
-pub only_stops : (s : State) (c t n : ℕ) (r : Stepped) → HasStopped s c t n r → r ≡ stopping s c t n
-unfolding stopping
+pub only_stops : (s : State) (c t n : ℕ) (r : Stepped) → HasStopped s c t n r → r ≡ after_stopping s c t n
+unfolding after_stopping
 only_stops s c t n r (Policy_hears e k) = k ∙ ap (λ o. stopped_as s c t n o) (sym e)
 only_stops s c t n r (Is_charged x e k) = k ∙ ap (λ o. stopped_as s c t n o) (sym e)
 
 abbrev started_as : State → ℕ → ℕ → Option Eject → Stepped
 started_as s c t x = if is_some x then silent s (after_catch_up s.world t) else call_back s callback.Running (one_task t) t c
 
-runs : (s : State) (c t : ℕ) → HasStarted s c t (running_on s c t)
-unfolding running_on
+runs : (s : State) (c t : ℕ) → HasStarted s c t (after_running s c t)
+unfolding after_running
 runs s c t = go s.world.ejected refl
   where
     go : (x : Option Eject) → s.world.ejected ≡ x → HasStarted s c t (started_as s c t x)
     go None e = Policy_learns e refl
     go (Some x) e = Catches_up x e refl
 
-only_runs : (s : State) (c t : ℕ) (r : Stepped) → HasStarted s c t r → r ≡ running_on s c t
-unfolding running_on
+only_runs : (s : State) (c t : ℕ) (r : Stepped) → HasStarted s c t r → r ≡ after_running s c t
+unfolding after_running
 only_runs s c t r (Policy_learns e k) = k ∙ ap (λ o. started_as s c t o) (sym e)
 only_runs s c t r (Catches_up x e k) = k ∙ ap (λ o. started_as s c t o) (sym e)
 
@@ -240,7 +240,7 @@ leaves : (s : State) (c : ℕ) (p : Option ℕ) → Leaves s c p (leave s c p)
 unfolding leave
 leaves s c None = Nobody refl refl
 leaves s c (Some t) =
-    let l = stopping (gone_off s c t) c t 1 in
+    let l = after_stopping (gone_off s c t) c t 1 in
     Stops t l (put l.state t c 0) refl (stops (gone_off s c t) c t 1) (puts l.state t c 0) refl
 
 abbrev left_as : State → ℕ → ℕ → Stepped → Stepped → Stepped
@@ -258,7 +258,7 @@ starts s c = go (front_of s.world.queues (local_on c)) refl
   where
     go : (o : Option ℕ) → front_of s.world.queues (local_on c) ≡ o → Starts s c (started_if o s c)
     go None e = Empty e refl
-    go (Some t) e = Front t (running_on (gone_on s c t) c t) e (runs (gone_on s c t) c t) refl
+    go (Some t) e = Front t (after_running (gone_on s c t) c t) e (runs (gone_on s c t) c t) refl
 
 abbrev run_note : State → ℕ → ℕ → Stepped → Stepped
 run_note s c t x = after (note_now s.world (note.Run t c) ∷ []) x

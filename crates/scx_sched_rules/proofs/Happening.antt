@@ -20,7 +20,7 @@ use Rattle.scx_sched_machine.specs.Ejecting.{ejected_for}
 use Rattle.scx_sched_machine.specs.Callbacks.{call_ending, after_callback, fault_of, unless_ejected, acting, call_back, answered_by, task_cpu_and_0}
 use Rattle.scx_sched_machine.specs.Put.{enters, put}
 use Rattle.scx_sched_machine.specs.Parking.{park, let_go_one, let_go_from, let_all_go}
-use Rattle.scx_sched_machine.specs.Cycle.{stopping, cycle}
+use Rattle.scx_sched_machine.specs.Cycle.{after_stopping, cycle}
 use Rattle.scx_sched_machine.specs.declared.events.Refused.TheVariants.{UnknownGroup, BadWeight}
 use Rattle.scx_sched_machine.specs.Events.{refusal, answered_cpu, target, insert_or_put, settle, select, wake, sleep_from_cpu, sleep_from, sleep, throttle, expire, count_down, tick_of, tick, overdue, eject_if_stalled, clock}
 use Rattle.scx_sched_rules.specs.Cycles.{noting, silent, gone_off, parking}
@@ -151,7 +151,7 @@ sleeps s t = go (cpu_of s.world t) refl
     go : (o : Option ℕ) → cpu_of s.world t ≡ o → Sleeps s t (after (note_now s.world (note.Sleep t) ∷ []) (sleep_from o s t))
     go None e = FromQueue e refl
     go (Some c) e =
-        let l = stopping (gone_off s c t) c t 0 in
+        let l = after_stopping (gone_off s c t) c t 0 in
         FromCpu c l (cycle (asleep_after l t) c None true) e (stops (gone_off s c t) c t 0) (cycles (asleep_after l t) c None true) refl
 
 only_sleeps : (s : State) (t : ℕ) (r : Stepped) → Sleeps s t r → r ≡ sleep s t
@@ -187,7 +187,7 @@ ticks s c = go (running s.world c) refl
 
     up : (t : ℕ) → running s.world c ≡ Some t → is_throttled (ran_on s t).world t ≡ true → Ticks s c (throttle (ran_on s t) c t)
     up t e over =
-        let l = stopping (gone_off (ran_on s t) c t) c t 1 in
+        let l = after_stopping (gone_off (ran_on s t) c t) c t 1 in
         IsThrottled t l (cycle (parking l.state t).state c None true) e over (stops (gone_off (ran_on s t) c t) c t 1) (cycles (parking l.state t).state c None true) refl
 
     by : (t : ℕ) → running s.world c ≡ Some t → (b : Bool) → is_throttled (ran_on s t).world t ≡ b → Ticks s c (counted_as (ran_on s t) c t b)
