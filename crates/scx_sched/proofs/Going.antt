@@ -31,7 +31,7 @@ home_of o = option_map (λ p. p.queue) o
 record IsOver (old new : Option Entry) : Type 0 where
   over : waits_in (home_of old) ≡ true → home_of new ≡ Some builtin_queue
   still : waits_in (home_of old) ≡ false → waits_in (home_of new) ≡ false
-  parked_queue : home_of old ≡ Some parked_queue → home_of new ≡ Some parked_queue
+  parked : home_of old ≡ Some parked_queue → home_of new ≡ Some parked_queue
 
 over_as : (old new new' : Option Entry) → new' ≡ new → IsOver old new → IsOver old new'
 over_as old new new' e h = record { over = λ x. ap home_of e ∙ h.over x; still = λ x. ap (λ o. waits_in (home_of o)) e ∙ h.still x; parked = λ x. ap home_of e ∙ h.parked x }

@@ -12,7 +12,7 @@ use Rattle.scx_sched_machine.specs.declared.events.Event.TheVariants.{Wake, Slee
 pub record LeavesNothing (w : WorldState) (c : ℕ) : Type 0 where
   pub local : local_len w c ≡ 0
   pub global : front_of w.queues global ≡ None
-  pub builtin : is_some w.ejected ≡ true → front_of w.queues builtin ≡ None
+  pub builtin : is_some w.ejected ≡ true → front_of w.queues builtin_queue ≡ None
 
 -- in the world after a tick; of other events nothing is said
 abbrev pub LeavesNothingIdle : Event → WorldState → Type 0

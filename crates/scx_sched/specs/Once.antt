@@ -35,9 +35,9 @@ IsOnce hand w = (t : ℕ) → appearances w t + one_if (is_this t hand) ≡ one_
 -- the machine's own queues are there
 pub record HasQueues (s : QueueState) (cpus : ℕ) : Type 0 where
   pub global : exists s global ≡ true
-  pub held : exists s held ≡ true
-  pub builtin : exists s builtin ≡ true
-  pub parked : exists s parked ≡ true
+  pub held : exists s held_queue ≡ true
+  pub builtin : exists s builtin_queue ≡ true
+  pub parked : exists s parked_queue ≡ true
   pub locals : (c : ℕ) → c < cpus → exists s (local_on c) ≡ true
 
 -- of the machine's own queues the built-in one is by time, the others in order of arrival
