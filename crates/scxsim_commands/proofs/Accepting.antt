@@ -12,7 +12,3 @@ module _ (v : Verdicts) (i : ℕ) (b : Callback) (lt : i < length callbacks) (so
   -- one that is accepted leaves it to those behind
   pub goes_on : is_accepted (at v (get_or callbacks i b)) ≡ true → accepted_each v (drop (i + 1) callbacks) ≡ are_accepted v
   goes_on e = sym (step ∙ ap (λ x. x && accepted_each v (drop (i + 1) callbacks)) e)
-
-  -- one that is refused decides it
-  pub ends : is_accepted (at v (get_or callbacks i b)) ≡ false → are_accepted v ≡ false
-  ends e = step ∙ ap (λ x. x && accepted_each v (drop (i + 1) callbacks)) e

@@ -2,3 +2,4 @@ mod Parts
 mod Accepting
 pub mod Causes
 mod Judging
+mod Lining
