@@ -167,25 +167,13 @@ in_force (Some x) q p e = absurd (cc)
 
 calm_plain : (b : Callback) → is_calm b ≡ true → is_dispatch b ≡ false
 calm_plain callback.Dispatch e = absurd (cc)
-calm_plain callback.SelectCpu e = refl
-calm_plain callback.Plain e = refl
-calm_plain callback.Init e = refl
-calm_plain callback.Enable e = refl
-calm_plain callback.Enqueue e = refl
-calm_plain callback.Running e = refl
-calm_plain callback.Stopping e = refl
+calm_plain b e = refl
 
 -- one that isn't called has no fault
 faultless : (b : Callback) (a : Args) (maps : Maps) (v : WorldState) (t c : ℕ) (f : Fault) → is_calm b ≡ true → fault_of b (call_ending None b a maps (at_callback v b t c)) ≡ Some f → ⊥
 unfolding call_ending
 faultless callback.SelectCpu a maps v t c f e x = absurd (cc)
-faultless callback.Plain a maps v t c f e x = absurd (cc)
-faultless callback.Init a maps v t c f e x = absurd (cc)
-faultless callback.Enable a maps v t c f e x = absurd (cc)
-faultless callback.Enqueue a maps v t c f e x = absurd (cc)
-faultless callback.Dispatch a maps v t c f e x = absurd (cc)
-faultless callback.Running a maps v t c f e x = absurd (cc)
-faultless callback.Stopping a maps v t c f e x = absurd (cc)
+faultless b a maps v t c f e x = absurd (cc)
 
 -- a callback that isn't dispatch pushes no more than an ejection does; of select_cpu this is so while the policy
 -- is in force

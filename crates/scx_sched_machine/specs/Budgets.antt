@@ -73,7 +73,7 @@ builtin_dispatch_pushes = enter_pushes * most_tasks + fill_pushes
 abbrev pub dispatch_pushes : ℕ
 dispatch_pushes = callback_pushes + supply_pushes
 
--- stopping is called, and the task that left is put
+-- the policy hears that a task left, and the task is put
 abbrev pub leave_pushes : ℕ
 leave_pushes = callback_pushes + put_pushes
 
@@ -111,11 +111,11 @@ settle_pushes = put_pushes + cycle_pushes
 abbrev pub wake_pushes : ℕ
 wake_pushes = callback_pushes + settle_pushes
 
--- stopping is called, and the processor begins a cycle
+-- the policy hears that the task left, and the processor begins a cycle
 abbrev pub sleep_pushes : ℕ
 sleep_pushes = callback_pushes + cycle_pushes
 
--- stopping is called, the task is parked, and the processor begins a cycle
+-- the policy hears it, the task is parked, and the processor begins a cycle
 abbrev pub throttle_pushes : ℕ
 throttle_pushes = callback_pushes + enter_pushes + cycle_pushes
 

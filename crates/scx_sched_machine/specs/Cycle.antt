@@ -41,11 +41,15 @@ tries (suc n) s c p =
 
 -- ---- on and off a processor
 
+-- stopping is called for a task that left its processor; the number says whether it stays runnable
+abbrev pub stopping_called : State → ℕ → ℕ → ℕ → Stepped
+stopping_called s c t n = call_back s callback.Stopping (task_and_number t n) t c
+
 -- once a task has left its processor; the number says whether it stays runnable
 unfoldable pub after_stopping : State → ℕ → ℕ → ℕ → Stepped
 after_stopping s c t n =
     if is_ejected s then stays (with_world s (after_charge s.world t))
-    else call_back s callback.Stopping (task_and_number t n) t c
+    else stopping_called s c t n
 
 -- once a task has come to its processor
 unfoldable pub after_running : State → ℕ → ℕ → Stepped
