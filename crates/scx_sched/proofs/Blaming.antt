@@ -31,7 +31,7 @@ use Rattle.scx_sched_machine.specs.Callbacks.{call_ending, after_callback, answe
 use Rattle.scx_sched_machine.specs.Put.{enters, enqueue_choice, enters_builtin, comes_in, put}
 use Rattle.scx_sched_machine.specs.Filling.{fill}
 use Rattle.scx_sched_machine.specs.Parking.{park, park_front, throttled_front, park_fronts, clear, in_reach, supply, let_go_one, let_go_from, let_all_go}
-use Rattle.scx_sched_machine.specs.Cycle.{has_local, after_dispatch, asks_again, tries, after_stopping, after_running, leave, started_if, start, rest, swap, swap_or_rest, builtin_dispatch, builtin_fill, builtin_ask, builtin_cycle, start_or_cycle, pick, pick_or_rest, conclude, ask, seek, look, cycling, cycle}
+use Rattle.scx_sched_machine.specs.Cycle.{has_local, after_dispatch, asks_again, tries, stopping_called, after_stopping, after_running, leave, started_if, start, rest, swap, swap_or_rest, builtin_dispatch, builtin_fill, builtin_ask, builtin_cycle, start_or_cycle, pick, pick_or_rest, conclude, ask, seek, look, cycling, cycle}
 use Rattle.scx_sched_machine.specs.Events.{target, insert_or_put, settle, select, wake, sleep_from_cpu, sleep_from, sleep, throttle, expire, count_down, tick_of, tick}
 use Rattle.scx_sched_machine.proofs.Unchanged.{keeps_if}
 use Rattle.scx_sched.specs.Causes.{IsLast}
@@ -177,13 +177,7 @@ no_answer callback.SelectCpu w some =
     let l : 0 < length w.cpus = some refl in
     let there : nat_lt 0 (length w.cpus) ≡ true = grind (arith, nat_tests, l) in
     rw there refl
-no_answer callback.Plain w some = refl
-no_answer callback.Init w some = refl
-no_answer callback.Enable w some = refl
-no_answer callback.Enqueue w some = refl
-no_answer callback.Dispatch w some = refl
-no_answer callback.Running w some = refl
-no_answer callback.Stopping w some = refl
+no_answer b w some = refl
 
 -- a policy of which a program is called is in force
 in_force : (s : State) (b : Callback) (p : VerifiedProgram) → acting s b ≡ Some p → s.world.ejected ≡ None
@@ -339,8 +333,8 @@ honest_tries (suc j) s c p =
 honest_stopping : (s : State) (c t n : ℕ) → IsHonest s (after_stopping s c t n)
 unfolding after_stopping
 honest_stopping s c t n =
-    keeps_if (IsHonest s) (is_ejected s) (stays (with_world s (after_charge s.world t))) (call_back s callback.Stopping (task_and_number t n) t c)
-    (honest_plain s (after_charge s.world t) [] (refl, refl, refl, refl)) (honest_call_back s callback.Stopping (task_and_number t n) t c (λ e. absurd (cc)))
+    keeps_if (IsHonest s) (is_ejected s) (stays (with_world s (after_charge s.world t))) (stopping_called s c t n)
+    (honest_plain s (after_charge s.world t) [] (refl, refl, refl, refl)) (honest_call_back s _ (task_and_number t n) t c (λ e. absurd (cc)))
 
 honest_running_on : (s : State) (c t : ℕ) → IsHonest s (after_running s c t)
 unfolding after_running

@@ -65,13 +65,7 @@ module _ (m : CallMade) (f : Fault) (i : IsAnswered m) where
       go : (b : Bool) → nat_lt i.answer (length i.world.cpus) ≡ b → (if b then None else Some NoSuchCpu) ≡ Some f → HasFault m f
       go true x e = absurd (cc)
       go false x e = let over : length i.world.cpus ≤ i.answer = grind (arith, nat_tests, x) in Of_answer i.answer i.world ends none same over (wrong e)
-  of_answer callback.Plain same none e = absurd (cc)
-  of_answer callback.Init same none e = absurd (cc)
-  of_answer callback.Enable same none e = absurd (cc)
-  of_answer callback.Enqueue same none e = absurd (cc)
-  of_answer callback.Dispatch same none e = absurd (cc)
-  of_answer callback.Running same none e = absurd (cc)
-  of_answer callback.Stopping same none e = absurd (cc)
+  of_answer b same none e = absurd (cc)
 
   of_end : (b : Callback) → m.callback ≡ b → or_fault i.world.call.fault (answer_fault b i.world i.answer) ≡ Some f → HasFault m f
   of_end b same e = go i.world.call.fault refl e

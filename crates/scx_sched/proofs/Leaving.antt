@@ -16,7 +16,7 @@ use Rattle.scx_sched_machine.specs.Steps.{State, Stepped, with_world, stays, one
 use Rattle.scx_sched_machine.specs.Ejecting.{ejected_for}
 use Rattle.scx_sched_machine.specs.Callbacks.{call_ending, calls_of, after_callback, fault_of, unless_ejected, acting, call_back, task_and_number}
 use Rattle.scx_sched_machine.specs.Put.{enters, enqueue_choice, enters_builtin, comes_in, put}
-use Rattle.scx_sched_machine.specs.Cycle.{after_stopping, leave}
+use Rattle.scx_sched_machine.specs.Cycle.{stopping_called, after_stopping, leave}
 use Rattle.scx_sched_machine.proofs.Unchanged.{keeps_if}
 use Rattle.scx_sched.proofs.Lengths.{len_pushed}
 
@@ -49,7 +49,7 @@ stopping_out : (s : State) (c t x : ℕ) → is_ejected s ≡ true → after_sto
 unfolding after_stopping
 stopping_out s c t x out = go (is_ejected s) out
   where
-    go : (b : Bool) → b ≡ true → (if b then stays (with_world s (after_charge s.world t)) else call_back s callback.Stopping (task_and_number t x) t c) ≡ stays (with_world s (after_charge s.world t))
+    go : (b : Bool) → b ≡ true → (if b then stays (with_world s (after_charge s.world t)) else stopping_called s c t x) ≡ stays (with_world s (after_charge s.world t))
     go true e = refl
     go false e = absurd (cc)
 

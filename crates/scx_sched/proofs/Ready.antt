@@ -23,7 +23,7 @@ use Rattle.scx_sched_machine.specs.Steps.{State, with_world, stays, is_ejected}
 use Rattle.scx_sched_machine.specs.Ejecting.{eject, ejected_for}
 use Rattle.scx_sched_machine.specs.Callbacks.{call_ending, acting, after_callback, fault_of, call_back, task_and_number}
 use Rattle.scx_sched_machine.specs.Put.{enters, enqueue_choice, enters_builtin, comes_in, put}
-use Rattle.scx_sched_machine.specs.Cycle.{after_stopping, leave}
+use Rattle.scx_sched_machine.specs.Cycle.{stopping_called, after_stopping, leave}
 use Rattle.scx_sched.specs.Kept.{IsKeptBySteps}
 use Rattle.scx_sched.specs.Once.{IsSound}
 use Rattle.scx_sched.proofs.Unchanged.{eject_sets}
@@ -66,9 +66,9 @@ module _ (n : ℕ) (I : ℕ → Option ℕ → List (Option ℕ) → WorldState 
   unfolding after_stopping
   ready_stopping m hand on s d t x l h r = go (is_ejected s)
     where
-      go : (b : Bool) → IsReady c (if b then stays (with_world s (after_charge s.world t)) else call_back s callback.Stopping (task_and_number t x) t d).state.world
+      go : (b : Bool) → IsReady c (if b then stays (with_world s (after_charge s.world t)) else stopping_called s d t x).state.world
       go true = ready_same c s.world (after_charge s.world t) (same_here _ s.world.queues s.world.queues refl) refl refl r
-      go false = ready_call_back m hand on s callback.Stopping (task_and_number t x) t d refl l h r
+      go false = ready_call_back m hand on s _ (task_and_number t x) t d refl l h r
 
   ready_comes_in : (m : ℕ) (on : List (Option ℕ)) (s : State) (t d : ℕ) → d < length on → I m (Some t) on s.world → IsReady c s.world → IsReady c (comes_in s t d).state.world
   unfolding comes_in enters enters_builtin
@@ -114,6 +114,6 @@ module _ (n : ℕ) (I : ℕ → Option ℕ → List (Option ℕ) → WorldState 
   unfolding after_stopping
   tree_stopping m hand on s d t x l h = go (is_ejected s)
     where
-      go : (b : Bool) → (if b then stays (with_world s (after_charge s.world t)) else call_back s callback.Stopping (task_and_number t x) t d).state.world.tree ≡ s.world.tree
+      go : (b : Bool) → (if b then stays (with_world s (after_charge s.world t)) else stopping_called s d t x).state.world.tree ≡ s.world.tree
       go true = refl
-      go false = tree_call_back m hand on s callback.Stopping (task_and_number t x) t d refl l h
+      go false = tree_call_back m hand on s _ (task_and_number t x) t d refl l h

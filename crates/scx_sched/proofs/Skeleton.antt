@@ -22,7 +22,7 @@ use Rattle.scx_sched_machine.specs.Ejecting.{moves_over, eject, ejected_for}
 use Rattle.scx_sched_machine.specs.Callbacks.{call_ending, acting, after_callback, fault_of, call_back, one_task, task_and_number}
 use Rattle.scx_sched_world.specs.declared.call.Insert.{Insert}
 use Rattle.scx_sched_machine.specs.Put.{enters, enqueue_choice, enters_builtin, comes_in, put}
-use Rattle.scx_sched_machine.specs.Cycle.{after_stopping, after_running}
+use Rattle.scx_sched_machine.specs.Cycle.{stopping_called, after_stopping, after_running}
 use Rattle.scx_sched_machine.specs.Events.{insert_or_put}
 use Rattle.scx_sched_machine.proofs.Unchanged.{keeps_if}
 use Rattle.scx_sched.specs.Kept.{IsKeptBySteps, IsWanted, ForAny, Nowhere, Inserted}
@@ -89,11 +89,11 @@ module _ (n : ℕ) (I : ℕ → Option ℕ → List (Option ℕ) → WorldState 
     keeps_stopping s c t x l h = go (is_ejected s) refl
       where
         r : Stepped
-        r = call_back s callback.Stopping (task_and_number t x) t c
+        r = stopping_called s c t x
 
         go : (b : Bool) → is_ejected s ≡ b → I (m + 1) hand on (if b then stays (with_world s (after_charge s.world t)) else r).state.world
         go true out = k.charged m hand on s.world t out h
-        go false force = k.more m hand on r.state.world (keeps_call_back s callback.Stopping (task_and_number t x) t c l h)
+        go false force = k.more m hand on r.state.world (keeps_call_back s _ (task_and_number t x) t c l h)
 
     pub keeps_running_on : (s : State) (c t : ℕ) → c < length on → I m hand on s.world → I m hand on (after_running s c t).state.world
     unfolding after_running

@@ -234,13 +234,7 @@ held_in_dispatch w t = go w.call.callback
   where
     go : (b : Callback) → is_dispatch b ≡ true → may_insert_in b w t ≡ true → is_held w t ≡ true
     go callback.Dispatch x y = y
-    go callback.SelectCpu x y = absurd (cc)
-    go callback.Enqueue x y = absurd (cc)
-    go callback.Plain x y = absurd (cc)
-    go callback.Init x y = absurd (cc)
-    go callback.Enable x y = absurd (cc)
-    go callback.Running x y = absurd (cc)
-    go callback.Stopping x y = absurd (cc)
+    go b x y = absurd (cc)
 
 given_home : (x : Task) (i : Insert) → (task_after_insert x i).prev_cpu ≡ x.prev_cpu
 given_home x i = vtime i.rank ∙ keeps_if (λ (y : Task). y.prev_cpu ≡ x.prev_cpu) (i.slice == 0) x _ refl refl
